@@ -1,0 +1,12 @@
+pub mod Table
+pub mod Rows
+pub mod Leaves
+pub mod Reader
+pub mod Skipping
+pub mod Hold
+pub mod Within
+pub mod Sound
+pub mod Complete
+pub mod Limit
+pub mod Deep
+pub mod Look

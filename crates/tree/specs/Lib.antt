@@ -1,0 +1,9 @@
+pub mod Tree
+pub mod Grammar
+pub mod Read
+pub mod WellFormed
+pub mod Deep
+pub mod Look
+pub mod Rows
+pub mod Answer
+pub mod Examples
