@@ -1,0 +1,226 @@
+-- Patterns seen through views: once its objects with rest are replaced, none is left to be found.
+-- Assumes nothing.
+use mathlib.Core.Path.{_≡_, refl, sym, ap, ap₂, _∙_, subst}
+use mathlib.Core.Bool.{Bool, true, false, cond, _||_}
+use Prim.Native.Nat.{ℕ, zero, suc}
+use lib.Dec.{eqb}
+use Rattle.tree.specs.Tree.{Node, Fields, Piece, Items}
+use Rattle.tree.specs.Tree.Node.{node}
+use Rattle.tree.specs.Tree.Fields.{done, absent, field}
+use Rattle.tree.specs.Tree.Piece.{one, list, text, byte, mark, number}
+use Rattle.tree.specs.Tree.Items.{none, hole, item}
+use Rattle.lowering.specs.Parts.{nothing, position, pieceIn, standsIn, changeIn, change, onNode, onItems, changeNode, changeItems, asNode, asItems, nodeAt, itemsAt, stands, is, kind, only, each, gather, any, _+++_}
+use Rattle.lowering.specs.Made.{Context, reference}
+use Rattle.lowering.specs.Patterns.{Shape, shape, properties, itemsOf, rest, hasRest, leftOf, value, withLeft, withItems, withValues, replaced, objectsWithRest}
+use Rattle.lowering.specs.Patterns.Shape.{objectPattern, arrayPattern, default, leaf}
+use Rattle.lowering.specs.Assignments.{restsThroughObjects}
+use Rattle.lowering.proofs.Cases.{by-test, by-shape}
+use Rattle.lowering.proofs.WeightKeys.{rest-changed}
+
+shape-changed : (i : ℕ) (f : Piece → Piece) (n : Node) → shape (change i f n) ≡ shape n
+unfolding shape change
+shape-changed i f (node at k fs) = refl
+
+-- a function that finds nothing in what f gives, nor in nothing
+module _ (find : Node → Items) (f : Node → Node) (empty : find nothing ≡ none) (finds : (v : Node) → find (f v) ≡ none) where
+  piece-finds : (p : Piece) → find (asNode (onNode f p)) ≡ none
+  unfolding onNode
+  piece-finds (one n) = finds n
+  piece-finds (list is) = empty
+  piece-finds (text bs) = empty
+  piece-finds (byte b) = empty
+  piece-finds (mark b) = empty
+  piece-finds (number b) = empty
+
+  changed-in : (fs : Fields) (i : ℕ) → find (asNode (pieceIn (changeIn fs i (onNode f)) i)) ≡ none
+  unfolding pieceIn changeIn
+  changed-in done i = empty
+  changed-in (absent fs) zero = empty
+  changed-in (absent fs) (suc i) = changed-in fs i
+  changed-in (field p fs) zero = piece-finds p
+  changed-in (field p fs) (suc i) = changed-in fs i
+
+  node-finds : (i : ℕ) (n : Node) → find (nodeAt i (changeNode i f n)) ≡ none
+  unfolding nodeAt change
+  node-finds i (node at k fs) = changed-in fs i
+
+module _ (find : Node → Items) (f : Node → Node) (finds : (v : Node) → find (f v) ≡ none) where
+  each-finds : (is : Items) → gather find (each f is) ≡ none
+  unfolding gather each _+++_
+  each-finds none = refl
+  each-finds (hole is) = each-finds is
+  each-finds (item n is) = rw (finds n) (each-finds is)
+
+  items-find : (p : Piece) → gather find (asItems (onItems (each f) p)) ≡ none
+  unfolding onItems gather
+  items-find (one n) = refl
+  items-find (list is) = each-finds is
+  items-find (text bs) = refl
+  items-find (byte b) = refl
+  items-find (mark b) = refl
+  items-find (number b) = refl
+
+  list-in : (fs : Fields) (i : ℕ) → gather find (asItems (pieceIn (changeIn fs i (onItems (each f))) i)) ≡ none
+  unfolding pieceIn changeIn gather
+  list-in done i = refl
+  list-in (absent fs) zero = refl
+  list-in (absent fs) (suc i) = list-in fs i
+  list-in (field p fs) zero = items-find p
+  list-in (field p fs) (suc i) = list-in fs i
+
+  list-finds : (i : ℕ) (n : Node) → gather find (itemsAt i (changeItems i (each f) n)) ≡ none
+  unfolding itemsAt change
+  list-finds i (node at k fs) = list-in fs i
+
+-- ---- clauses as equations
+
+rests-object : (d : ℕ) (p : Node) → shape p ≡ objectPattern → hasRest p ≡ false → restsThroughObjects (suc d) p ≡ gather (λ q. restsThroughObjects d (value q)) (properties p) +++ none
+unfolding restsThroughObjects
+rests-object d p e r = rw (e, restsThroughObjects, r)
+
+rests-default : (d : ℕ) (p : Node) → shape p ≡ default → restsThroughObjects (suc d) p ≡ restsThroughObjects d (leftOf p)
+unfolding restsThroughObjects
+rests-default d p e = rw (e, restsThroughObjects)
+
+rests-leaf : (d : ℕ) (p : Node) → shape p ≡ leaf → restsThroughObjects (suc d) p ≡ none
+unfolding restsThroughObjects
+rests-leaf d p e = rw (e, restsThroughObjects)
+
+rests-array : (d : ℕ) (p : Node) → shape p ≡ arrayPattern → restsThroughObjects (suc d) p ≡ none
+unfolding restsThroughObjects
+rests-array d p e = rw (e, restsThroughObjects)
+
+nothing-added : none +++ none ≡ none
+unfolding _+++_
+nothing-added = refl
+
+-- ---- an inner object, its own objects replaced: in its assignment the rule for the top finds its rest and no other
+
+rests-nothing : (d : ℕ) → restsThroughObjects d nothing ≡ none
+unfolding restsThroughObjects shape
+rests-nothing zero = refl
+rests-nothing (suc d) = refl
+
+only-added : (n : Node) → none +++ only n ≡ only n
+unfolding _+++_
+only-added n = refl
+
+module _ (c : Context) where
+  objects-nothing : (d : ℕ) → objectsWithRest c d nothing ≡ none
+  unfolding objectsWithRest shape
+  objects-nothing zero = refl
+  objects-nothing (suc d) = refl
+
+  objects-reference : (d : ℕ) (p : Node) → objectsWithRest c d (reference c p) ≡ none
+  unfolding objectsWithRest shape
+  objects-reference zero p = refl
+  objects-reference (suc d) p = refl
+
+  -- the values of an object, replaced
+  values-replaced : (d : ℕ) → ((p : Node) → objectsWithRest c d (replaced c d p) ≡ none) → (p : Node)
+      → gather (λ q. objectsWithRest c d (value q)) (properties (withValues (λ v. replaced c d v) p)) ≡ none
+  values-replaced d found p =
+      list-finds (λ q. objectsWithRest c d (value q)) (λ q. changeNode 1 (λ v. replaced c d v) q)
+      (λ q. node-finds (λ m. objectsWithRest c d m) (λ v. replaced c d v) (objects-nothing d) found 1 q) 0 p
+
+  replaced-object : (d : ℕ) (p : Node) → shape p ≡ objectPattern → hasRest p ≡ false → replaced c (suc d) p ≡ withValues (λ v. replaced c d v) p
+  unfolding replaced
+  replaced-object d p e r = rw (e, replaced, r)
+
+  replaced-top : (d : ℕ) (p : Node) → shape p ≡ objectPattern → hasRest p ≡ true → replaced c (suc d) p ≡ reference c p
+  unfolding replaced
+  replaced-top d p e r = rw (e, replaced, r)
+
+  replaced-array : (d : ℕ) (p : Node) → shape p ≡ arrayPattern → replaced c (suc d) p ≡ withItems (λ v. replaced c d v) p
+  unfolding replaced
+  replaced-array d p e = rw (e, replaced)
+
+  replaced-default : (d : ℕ) (p : Node) → shape p ≡ default → replaced c (suc d) p ≡ withLeft (λ v. replaced c d v) p
+  unfolding replaced
+  replaced-default d p e = rw (e, replaced)
+
+  replaced-leaf : (d : ℕ) (p : Node) → shape p ≡ leaf → replaced c (suc d) p ≡ p
+  unfolding replaced
+  replaced-leaf d p e = rw (e, replaced)
+
+  objects-object : (d : ℕ) (p : Node) → shape p ≡ objectPattern → hasRest p ≡ false → objectsWithRest c (suc d) p ≡ gather (λ q. objectsWithRest c d (value q)) (properties p) +++ none
+  unfolding objectsWithRest
+  objects-object d p e r = rw (e, objectsWithRest, r)
+
+  objects-default : (d : ℕ) (p : Node) → shape p ≡ default → objectsWithRest c (suc d) p ≡ objectsWithRest c d (leftOf p)
+  unfolding objectsWithRest
+  objects-default d p e = rw (e, objectsWithRest)
+
+  objects-leaf : (d : ℕ) (p : Node) → shape p ≡ leaf → objectsWithRest c (suc d) p ≡ none
+  unfolding objectsWithRest
+  objects-leaf d p e = rw (e, objectsWithRest)
+
+  objects-array : (d : ℕ) (p : Node) → shape p ≡ arrayPattern → objectsWithRest c (suc d) p ≡ gather (λ x. objectsWithRest c d x) (itemsOf p)
+  unfolding objectsWithRest
+  objects-array d p e = rw (e, objectsWithRest)
+
+  pub replaced-found : (d : ℕ) (p : Node) → objectsWithRest c d (replaced c d p) ≡ none
+  unfolding objectsWithRest
+  replaced-found zero p = refl
+  replaced-found (suc d) p =
+      let f : Node → Node = λ v. replaced c d v in
+      by-shape (shape p)
+      (λ e.
+      by-test (hasRest p)
+      (λ r. ap (objectsWithRest c (suc d)) (replaced-top d p e r) ∙ objects-reference (suc d) p)
+      (λ r.
+      let g : Piece → Piece = onItems (each (λ q. changeNode 1 f q)) in
+      ap (objectsWithRest c (suc d)) (replaced-object d p e r)
+      ∙ (objects-object d (withValues f p) (shape-changed 0 g p ∙ e) (rest-changed 0 g p ∙ r)
+      ∙ (ap (λ (is : Items). is +++ none) (values-replaced d (replaced-found d) p) ∙ nothing-added))))
+      (λ e.
+      ap (objectsWithRest c (suc d)) (replaced-array d p e)
+      ∙ (objects-array d (withItems f p) (shape-changed 0 (onItems (each f)) p ∙ e) ∙ list-finds (λ m. objectsWithRest c d m) f (replaced-found d) 0 p))
+      (λ e.
+      ap (objectsWithRest c (suc d)) (replaced-default d p e)
+      ∙ (objects-default d (withLeft f p) (shape-changed 0 (onNode f) p ∙ e)
+      ∙ node-finds (λ m. objectsWithRest c d m) f (objects-nothing d) (replaced-found d) 0 p))
+      (λ e. ap (objectsWithRest c (suc d)) (replaced-leaf d p e) ∙ objects-leaf d p e)
+
+  rests-reference : (d : ℕ) (p : Node) → restsThroughObjects d (reference c p) ≡ none
+  unfolding restsThroughObjects shape
+  rests-reference zero p = refl
+  rests-reference (suc d) p = refl
+
+  values-rests : (d : ℕ) → ((p : Node) → restsThroughObjects d (replaced c d p) ≡ none) → (p : Node)
+      → gather (λ q. restsThroughObjects d (value q)) (properties (withValues (λ v. replaced c d v) p)) ≡ none
+  values-rests d found p =
+      list-finds (λ q. restsThroughObjects d (value q)) (λ q. changeNode 1 (λ v. replaced c d v) q)
+      (λ q. node-finds (λ m. restsThroughObjects d m) (λ v. replaced c d v) (rests-nothing d) found 1 q) 0 p
+
+  pub replaced-rests : (d : ℕ) (p : Node) → restsThroughObjects d (replaced c d p) ≡ none
+  unfolding restsThroughObjects
+  replaced-rests zero p = refl
+  replaced-rests (suc d) p =
+      let f : Node → Node = λ v. replaced c d v in
+      by-shape (shape p)
+      (λ e.
+      by-test (hasRest p)
+      (λ r. ap (restsThroughObjects (suc d)) (replaced-top d p e r) ∙ rests-reference (suc d) p)
+      (λ r.
+      let g : Piece → Piece = onItems (each (λ q. changeNode 1 f q)) in
+      ap (restsThroughObjects (suc d)) (replaced-object d p e r)
+      ∙ (rests-object d (withValues f p) (shape-changed 0 g p ∙ e) (rest-changed 0 g p ∙ r)
+      ∙ (ap (λ (is : Items). is +++ none) (values-rests d (replaced-rests d) p) ∙ nothing-added))))
+      (λ e.
+      ap (restsThroughObjects (suc d)) (replaced-array d p e)
+      ∙ rests-array d (withItems f p) (shape-changed 0 (onItems (each f)) p ∙ e))
+      (λ e.
+      ap (restsThroughObjects (suc d)) (replaced-default d p e)
+      ∙ (rests-default d (withLeft f p) (shape-changed 0 (onNode f) p ∙ e)
+      ∙ node-finds (λ m. restsThroughObjects d m) f (rests-nothing d) (replaced-rests d) 0 p))
+      (λ e. ap (restsThroughObjects (suc d)) (replaced-leaf d p e) ∙ rests-leaf d p e)
+
+  pub inner-rests : (d : ℕ) (p : Node) → shape p ≡ objectPattern → hasRest p ≡ true
+      → restsThroughObjects (suc d) (withValues (λ v. replaced c d v) p) ≡ only (withValues (λ v. replaced c d v) p)
+  unfolding restsThroughObjects
+  inner-rests d p e r =
+      let g : Piece → Piece = onItems (each (λ q. changeNode 1 (λ v. replaced c d v) q)) in
+      let s : shape (withValues (λ v. replaced c d v) p) ≡ objectPattern = shape-changed 0 g p ∙ e in
+      let t : hasRest (withValues (λ v. replaced c d v) p) ≡ true = rest-changed 0 g p ∙ r in
+      rw (s, restsThroughObjects, t, values-rests d (replaced-rests d) p) (only-added (withValues (λ v. replaced c d v) p))

@@ -1,0 +1,136 @@
+-- What a call hands back: the answer, and every byte that was lent (document 01, 'What the lowering hands back').
+use Prim.Native.Nat.{ℕ, zero, suc, _-_, min}
+use mathlib.Core.Bool.{Bool, true, false, cond, _||_}
+use mathlib.Core.List.{List, [], _∷_, _++_}
+use lib.Dec.{eqb, ltb}
+use lib.ListN.{length, replicate}
+use Rattle.tree.specs.Tree.{Node, Items, encode}
+use Rattle.tree.specs.Grammar.Stage.{input}
+use Rattle.tree.specs.Read.{Got, numberOf, readTree}
+use Rattle.tree.specs.Read.Got.{got, refused}
+use Rattle.lowering.specs.Made.{Context}
+use Rattle.lowering.specs.Walk.{Walked}
+use Rattle.lowering.specs.Weight.{walked}
+use Rattle.lowering.specs.Collect.{Entry, bare, visits, firstRefusal, entries, excludedIn, helperMask, namesOf, numbered, listBytes}
+
+-- the slices that are lent, by their lengths
+pub record Lent : Type 0 where
+  pub treeSlice : ℕ
+  pub listSlice : ℕ
+  pub workSlice : ℕ
+
+pub data Result : Type 0 where
+  refusal : ℕ → Result
+  lowered : ℕ → ℕ → List ℕ → List ℕ → Result  -- helper mask, options mask, tree, list
+
+-- ---- the table's numbers that are not the reader's or the walk's
+
+-- options above 15
+abbrev pub unknownOptions : ℕ
+unknownOptions = 1
+
+-- work below 65,536 bytes
+abbrev pub smallWork : ℕ
+smallWork = 2
+
+-- tree or list over its limit or longer than its slice
+abbrev pub tooLong : ℕ
+tooLong = 7
+
+-- ---- from the walked tree to the result
+
+-- tree and list fit their limits and their slices
+unfoldable pub fits : Lent → List ℕ → List ℕ → Bool
+fits s t l = cond (ltb (min 32768 (s .treeSlice)) (length t) || ltb (min 16384 (s .listSlice)) (length l)) false true
+
+-- the result, if it fits
+unfoldable pub fitted : Lent → ℕ → ℕ → List ℕ → List ℕ → Result
+fitted s helpers options t l = cond (fits s t l) (lowered helpers options t l) (refusal tooLong)
+
+-- the tree with its marks, and what the walk handed out
+unfoldable pub collected : ℕ → Lent → Node → List Entry → Items → Result
+collected options s n es excluded =
+    let ns = namesOf n es excluded in
+    fitted s (helperMask n) options (encode (numbered ns n)) (listBytes ns es excluded)
+
+-- the walked tree w, where the next mark is `next`. What it measures is measured last, after the whole walk
+unfoldable pub afterWalk : ℕ → Lent → ℕ → Walked → Result
+afterWalk options s next w =
+    let vs = visits next 0 w in
+    elim (firstRefusal vs) [
+      | zero ↦ collected options s (bare next w) (entries vs) (excludedIn vs)
+      | suc r ↦ refusal (suc r)
+    ]
+
+-- ---- from the bytes to the result
+
+-- where the Program stands
+abbrev pub top : Context
+top = record { path = []; root = true; statement = false }
+
+-- 3 and 4 are the reader's: the first that is met in byte order
+unfoldable pub afterReading : ℕ → Lent → Got Node → Result
+afterReading options s (got n q next) = afterWalk options s next (walked top n)
+afterReading options s (refused r) = refusal (numberOf r)
+
+-- the order of the refusals: options, work, the tree, the walk, lengths. A tree has at most `limit` levels
+unfoldable pub lowering : ℕ → ℕ → List ℕ → Lent → Result
+lowering limit options tree s =
+    elim (ltb 15 options) [
+      | true ↦ refusal unknownOptions
+      | false ↦
+          elim (ltb (s .workSlice) 65536) [
+            | true ↦ refusal smallWork
+            | false ↦ afterReading options s (readTree input limit tree)
+          ]
+    ]
+
+-- ---- the call
+
+-- what is returned, and the lent slices after the call
+pub record Outcome : Type 0 where
+  pub answer : ℕ
+  pub helpers : ℕ
+  pub options : ℕ
+  pub treeLength : ℕ
+  pub listLength : ℕ
+  pub treeOut : List ℕ
+  pub listOut : List ℕ
+  pub work : List ℕ
+
+-- a slice of n bytes that begins with bs, then zeros
+unfoldable pub filled : ℕ → List ℕ → List ℕ
+filled n bs = bs ++ replicate (n - length bs) 0
+
+-- a refusal returns its number and nothing else; a lowering returns 0, the masks, and both lengths. Work is zero after either
+unfoldable pub outcomeOf : Lent → Result → Outcome
+outcomeOf s (refusal n) =
+    record {
+      answer = n;
+      helpers = 0;
+      options = 0;
+      treeLength = 0;
+      listLength = 0;
+      treeOut = filled (s .treeSlice) [];
+      listOut = filled (s .listSlice) [];
+      work = filled (s .workSlice) [];
+    }
+outcomeOf s (lowered helpers options t l) =
+    record {
+      answer = 0;
+      helpers = helpers;
+      options = options;
+      treeLength = length t;
+      listLength = length l;
+      treeOut = filled (s .treeSlice) t;
+      listOut = filled (s .listSlice) l;
+      work = filled (s .workSlice) [];
+    }
+
+-- the one number of levels that a tree may have: the Program is at depth 1, a node at depth 65 is refused
+abbrev pub levels : ℕ
+levels = 64
+
+-- what `rest_spread_lower` gives for options, tree bytes and the lengths of its three slices
+unfoldable pub outcome : ℕ → List ℕ → Lent → Outcome
+outcome options tree s = outcomeOf s (lowering levels options tree s)

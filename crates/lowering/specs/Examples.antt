@@ -1,0 +1,241 @@
+-- Examples, by computation: document 01's table, its listing, the small inputs of its refusal table, and others that it names.
+use mathlib.Core.Path.{_≡_, refl}
+use mathlib.Core.List.{List, [], _∷_}
+use Prim.Native.Nat.{ℕ, zero, suc}
+use lib.ListN.{replicate}
+use Rattle.tree.specs.Tree.{Node, Fields, Piece, Items, encode}
+use Rattle.tree.specs.Tree.Node.{node}
+use Rattle.tree.specs.Tree.Fields.{done, absent, field}
+use Rattle.tree.specs.Tree.Piece.{one, list, text, byte, mark, number}
+use Rattle.tree.specs.Tree.Items.{none, hole, item}
+use Rattle.lowering.specs.Parts.{only}
+use Rattle.lowering.specs.Made.{call, S, X, E, W, object, array, sequence, assign, string, declares, declared}
+use Rattle.lowering.specs.Answer.{Lent, Result, lowering, levels}
+use Rattle.lowering.specs.Answer.Result.{refusal, lowered}
+
+-- ---- small trees
+
+-- names of one letter
+abbrev ref : ℕ → Node
+ref letter = node 0 18 (field (text (letter ∷ [])) (absent done))
+
+abbrev bind : ℕ → Node
+bind letter = node 0 19 (field (text (letter ∷ [])) (absent done))
+
+-- a temporary with its number
+abbrev temp : ℕ → Node
+temp n = node 0 20 (field (number n) done)
+
+abbrev name : ℕ → Node
+name letter = node 0 38 (field (text (letter ∷ [])) done)
+
+-- the number 1
+abbrev num : Node
+num = node 0 22 (field (byte 2) (field (text (49 ∷ [])) (field (text (49 ∷ [])) done)))
+
+-- `letter: value` in a literal, `...e`
+abbrev prop : ℕ → Node → Node
+prop letter value = node 0 25 (field (one (name letter)) (field (one value) (field (byte 0) done)))
+
+abbrev spread : Node → Node
+spread e = node 0 26 (field (one e) done)
+
+-- patterns: `key: value`, with its flags; `{properties}`, `{properties, ...rest}`; `[items]`, `[...rest]`
+abbrev part : Node → Node → ℕ → Node
+part key value flags = node 0 35 (field (one key) (field (one value) (field (byte flags) done)))
+
+abbrev taking : Items → Node
+taking ps = node 0 34 (field (list ps) (absent done))
+
+abbrev takingRest : Items → Node → Node
+takingRest ps rest = node 0 34 (field (list ps) (field (one rest) done))
+
+abbrev items : Items → Node
+items is = node 0 36 (field (list is) (absent done))
+
+abbrev itemsRest : Node → Node
+itemsRest rest = node 0 36 (field (list none) (field (one rest) done))
+
+abbrev parens : Node → Node
+parens e = node 0 31 (field (one e) done)
+
+-- statements with their marks; kind 1 var, 2 let
+abbrev says : ℕ → Node → Node
+says m e = node 0 3 (field (mark m) (field (one e) done))
+
+abbrev declaring : ℕ → ℕ → Items → Node
+declaring m kind ds = node 0 4 (field (mark m) (field (byte kind) (field (list ds) done)))
+
+abbrev blockOf : ℕ → Items → Node
+blockOf m ss = node 0 2 (field (mark m) (field (list ss) done))
+
+-- blocks each in the last, their marks from m on
+abbrev blocks : ℕ → ℕ → Items
+blocks m zero = none
+blocks m (suc d) = only (blockOf m (blocks (suc m) d))
+
+abbrev program : Items → List ℕ
+program ss = encode (node 0 1 (field (list ss) done))
+
+-- ---- slices that are long enough, and what is asked of an example
+
+abbrev plenty : Lent
+plenty = record { treeSlice = 32768; listSlice = 16384; workSlice = 65536 }
+
+abbrev empty : List ℕ
+empty = 0 ∷ 0 ∷ 0 ∷ 0 ∷ []
+
+-- one statement becomes another with these helpers, and an empty list
+abbrev Becomes : Node → ℕ → Node → Type 0
+Becomes before helpers after = lowering levels 0 (program (only before)) plenty ≡ lowered helpers 0 (program (only after)) empty
+
+abbrev Refused : Node → ℕ → Type 0
+Refused n r = lowering levels 0 (program (only n)) plenty ≡ refusal r
+
+-- document 01's listing
+abbrev listing : List ℕ
+listing = 1 ∷ 1 ∷ 1 ∷ 0 ∷ 3 ∷ 3 ∷ 1 ∷ 0 ∷ 24 ∷ 1 ∷ 1 ∷ 0 ∷ 26 ∷ 1 ∷ 18 ∷ 1 ∷ 1 ∷ 0 ∷ 97 ∷ []
+
+abbrev listed : List ℕ
+listed = 1 ∷ 1 ∷ 1 ∷ 0 ∷ 3 ∷ 3 ∷ 1 ∷ 0 ∷ 29 ∷ 3 ∷ 21 ∷ 1 ∷ 1 ∷ 2 ∷ 0 ∷ 24 ∷ 1 ∷ 0 ∷ 0 ∷ 18 ∷ 1 ∷ 1 ∷ 0 ∷ 97 ∷ []
+
+-- letters: a 97, b 98, c 99, d 100, f 102, r 114, s 115, x 120
+
+pub record Examples : Type 0 where
+  -- ---- document 01, 'Literals and declarations, to be proved'
+
+  -- `{}`
+  empty-literal : Becomes (says 1 (object none)) 0 (says 1 (object none))
+  -- `{a: 1}`
+  plain-literal : Becomes (says 1 (object (only (prop 97 num)))) 0 (says 1 (object (only (prop 97 num))))
+  -- `{...a, ...b}`: S(S({}, a), b)
+  two-spreads : Becomes (says 1 (object (item (spread (ref 97)) (only (spread (ref 98)))))) 1 (says 1 (S (item (S (item (object none) (only (ref 97)))) (only (ref 98)))))
+  -- `{x: 1, ...a}`: S({x: 1}, a)
+  spread-last : Becomes (says 1 (object (item (prop 120 num) (only (spread (ref 97)))))) 1 (says 1 (S (item (object (only (prop 120 num))) (only (ref 97)))))
+  -- `{...a, x: 1}`: S(S({}, a), {}, {x: 1})
+  spread-first : Becomes (says 1 (object (item (spread (ref 97)) (only (prop 120 num))))) 1 (says 1 (S (item (S (item (object none) (only (ref 97)))) (item (object none) (only (object (only (prop 120 num))))))))
+  -- `{...a, x: 1, ...b}`: S(S({}, a), {}, {x: 1}, b)
+  spread-around : Becomes (says 1 (object (item (spread (ref 97)) (item (prop 120 num) (only (spread (ref 98))))))) 1 (says 1 (S (item (S (item (object none) (only (ref 97)))) (item (object none) (item (object (only (prop 120 num))) (only (ref 98)))))))
+  -- `let {a, ...r} = s` at root: {a} = s, r = W(s, ["a"])
+  rest : Becomes (declaring 1 2 (only (declares (takingRest (only (part (name 97) (bind 97) 2)) (bind 114)) (ref 115)))) 8 (declaring 1 2 (item (declares (taking (only (part (name 97) (bind 97) 2))) (ref 115)) (only (declares (bind 114) (W (ref 115) (array (only (string (97 ∷ [])))))))))
+  -- `let {...r} = f()`: t = f(), r = X({}, (E(t), t))
+  rest-only : Becomes (declaring 1 2 (only (declares (takingRest none (bind 114)) (call (ref 102) none)))) 6 (declaring 1 2 (item (declares (temp 1) (call (ref 102) none)) (only (declares (bind 114) (X (object none) (sequence (item (E (temp 1)) (only (temp 1)))))))))
+  -- ---- the listing
+
+  the-listing : lowering levels 0 listing plenty ≡ lowered 1 0 listed empty
+  -- options go into the mask, and lowering goes on
+  all-options : lowering levels 15 listing plenty ≡ lowered 1 15 listed empty
+  -- ---- the small inputs of the refusal table
+
+  one-options : lowering levels 16 listing plenty ≡ refusal 1
+  two-work : lowering levels 0 listing (record { treeSlice = 32768; listSlice = 16384; workSlice = 65535 }) ≡ refusal 2
+  three-empty : lowering levels 0 [] plenty ≡ refusal 3
+  -- Program, 64 blocks each in the last; with 63 it is a tree
+  four-deep : lowering levels 0 (program (blocks 1 64)) plenty ≡ refusal 4
+  not-so-deep : lowering levels 0 (program (blocks 1 63)) plenty ≡ lowered 0 0 (program (blocks 1 63)) empty
+  -- `[...[{...a}]] = b`
+  five-array-rest : Refused (says 1 (assign (itemsRest (items (only (takingRest none (ref 97))))) (ref 98))) 5
+  -- `var {[/q/]: a, ...r} = s`
+  six-no-form : Refused (declaring 1 1 (only (declares (takingRest (only (part (node 0 22 (field (byte 6) (field (text (47 ∷ 113 ∷ 47 ∷ [])) (absent done)))) (bind 97) 1)) (bind 114)) (ref 115)))) 6
+  -- the listing with a tree slice of 23; with 24, and a list slice of 4, it fits
+  seven-short : lowering levels 0 listing (record { treeSlice = 23; listSlice = 16384; workSlice = 65536 }) ≡ refusal 7
+  just-fits : lowering levels 0 listing (record { treeSlice = 24; listSlice = 4; workSlice = 65536 }) ≡ lowered 1 0 listed empty
+  -- ---- others that document 01 names
+
+  -- `var [...[{...a}]] = b` keeps its rest
+  array-rest-stays : Becomes (declaring 1 1 (only (declares (itemsRest (items (only (takingRest none (bind 97))))) (ref 98)))) 0 (declaring 1 1 (only (declares (itemsRest (items (only (takingRest none (bind 97))))) (ref 98))))
+  -- `({a: {...b}, ...c} = d)`: b is copied from d's temporary. (t = d, {a: {}} = t, b = X({}, (E(t), t)), c = W(t, ["a"])); before statement 1: t
+  nested-rest : lowering levels 0 (program (only (says 1 (parens (assign (takingRest (only (part (name 97) (takingRest none (ref 98)) 0)) (ref 99)) (ref 100)))))) plenty
+      ≡ lowered 14 0 (program (only (says 1 (parens (sequence (item (assign (temp 1) (ref 100)) (item (assign (taking (only (part (name 97) (taking none) 0))) (temp 1)) (item (assign (ref 98) (X (object none) (sequence (item (E (temp 1)) (only (temp 1)))))) (only (assign (ref 99) (W (temp 1) (array (only (string (97 ∷ [])))))))))))))))
+      (1 ∷ 0 ∷ 1 ∷ 0 ∷ 1 ∷ 0 ∷ 5 ∷ 1 ∷ 20 ∷ 1 ∷ 1 ∷ 0 ∷ 0 ∷ 0 ∷ [])
+  -- `{ let {a, ...r} = s; }`: not at root the keys go to the list, t = ["a"]
+  hoisted-keys : lowering levels 0 (program (only (blockOf 1 (only (declaring 2 2 (only (declares (takingRest (only (part (name 97) (bind 97) 2)) (bind 114)) (ref 115)))))))) plenty
+      ≡ lowered 8 0 (program (only (blockOf 1 (only (declaring 2 2 (item (declares (taking (only (part (name 97) (bind 97) 2))) (ref 115)) (only (declares (bind 114) (W (ref 115) (temp 1))))))))))
+      (0 ∷ 0 ∷ 1 ∷ 0 ∷ 5 ∷ 3 ∷ 20 ∷ 1 ∷ 1 ∷ 0 ∷ 32 ∷ 1 ∷ 1 ∷ 0 ∷ 22 ∷ 7 ∷ 1 ∷ 0 ∷ 0 ∷ 1 ∷ 0 ∷ 97 ∷ [])
+
+pub examples : Examples
+unfolding
+    Rattle.tree.specs.Tree.mapOf Rattle.tree.specs.Tree.count Rattle.tree.specs.Tree.encode Rattle.tree.specs.Tree.placed
+    Rattle.tree.specs.Tree.depth Rattle.tree.specs.Tree.marks Rattle.tree.specs.Grammar.places Rattle.tree.specs.Grammar.kindOf
+    Rattle.tree.specs.Grammar.among Rattle.tree.specs.Grammar.also Rattle.tree.specs.Grammar.allowed Rattle.tree.specs.Grammar.formIn
+    Rattle.tree.specs.Grammar.formAt Rattle.tree.specs.Grammar.kinds Rattle.tree.specs.Grammar.variants
+    Rattle.tree.specs.Grammar.fieldsOf Rattle.tree.specs.Grammar.mapOk Rattle.tree.specs.Read.byteAt Rattle.tree.specs.Read.wideAt
+    Rattle.tree.specs.Read.readText Rattle.tree.specs.Read.readByte Rattle.tree.specs.Read.readMark Rattle.tree.specs.Read.readNumber
+    Rattle.tree.specs.Read.chosenPlace Rattle.tree.specs.Read.readItem Rattle.tree.specs.Read.readItems
+    Rattle.tree.specs.Read.readList Rattle.tree.specs.Read.readField Rattle.tree.specs.Read.readSlot Rattle.tree.specs.Read.readFields
+    Rattle.tree.specs.Read.readNode Rattle.tree.specs.Read.readTree Rattle.lowering.specs.Parts.is
+    Rattle.lowering.specs.Parts.pieceIn Rattle.lowering.specs.Parts.standsIn
+    Rattle.lowering.specs.Parts.changeIn Rattle.lowering.specs.Parts.dropIn
+    Rattle.lowering.specs.Parts.nodeAt Rattle.lowering.specs.Parts.itemsAt
+    Rattle.lowering.specs.Parts.textAt Rattle.lowering.specs.Parts.numberAt
+    Rattle.lowering.specs.Parts.stands Rattle.lowering.specs.Parts.change
+    Rattle.lowering.specs.Parts.onNode Rattle.lowering.specs.Parts.onItems
+    Rattle.lowering.specs.Parts.without Rattle.lowering.specs.Parts._+++_ Rattle.lowering.specs.Parts.each
+    Rattle.lowering.specs.Parts.gather Rattle.lowering.specs.Parts.any Rattle.lowering.specs.Parts.isEmpty
+    Rattle.lowering.specs.Patterns.shape Rattle.lowering.specs.Patterns.hasNestedObjectRest
+    Rattle.lowering.specs.Patterns.hasNestedArrayRest Rattle.lowering.specs.Patterns.replaced
+    Rattle.lowering.specs.Patterns.objectsWithRest Rattle.lowering.specs.Keys.keySort
+    Rattle.lowering.specs.Keys.isPrimitive Rattle.lowering.specs.Keys.lacksForm
+    Rattle.lowering.specs.Keys.excludedKey Rattle.lowering.specs.Keys.keptKey
+    Rattle.lowering.specs.Keys.keyTemporary Rattle.lowering.specs.Keys.allPrimitive
+    Rattle.lowering.specs.Keys.anyLacksForm Rattle.lowering.specs.Keys.excludedKeys
+    Rattle.lowering.specs.Keys.keyTemporaries Rattle.lowering.specs.Keys.taken
+    Rattle.lowering.specs.Rests.mapped Rattle.lowering.specs.Rests.isHoisted
+    Rattle.lowering.specs.Rests.keysRead Rattle.lowering.specs.Rests.restValue
+    Rattle.lowering.specs.Rests.excludedFor Rattle.lowering.specs.Rests.restMakes
+    Rattle.lowering.specs.Literals.opened Rattle.lowering.specs.Literals.closed
+    Rattle.lowering.specs.Literals.scan Rattle.lowering.specs.Literals.literal
+    Rattle.lowering.specs.Declarations.isName Rattle.lowering.specs.Declarations.source
+    Rattle.lowering.specs.Declarations.sourceDeclarator Rattle.lowering.specs.Declarations.keysBefore
+    Rattle.lowering.specs.Declarations.patternDeclarator Rattle.lowering.specs.Declarations.restDeclarator
+    Rattle.lowering.specs.Declarations.own Rattle.lowering.specs.Declarations.nested
+    Rattle.lowering.specs.Declarations.objectDeclarators Rattle.lowering.specs.Declarations.patternDeclarators
+    Rattle.lowering.specs.Declarations.lowerDeclarator Rattle.lowering.specs.Declarations.innerObjects
+    Rattle.lowering.specs.Declarations.declaratorMakes Rattle.lowering.specs.Declarations.isLowered
+    Rattle.lowering.specs.Declarations.declarators Rattle.lowering.specs.Declarations.loweredIn
+    Rattle.lowering.specs.Declarations.declaration Rattle.lowering.specs.Declarations.declarationMakes
+    Rattle.lowering.specs.Declarations.declarationExcludes Rattle.lowering.specs.Declarations.declarationLacksForm
+    Rattle.lowering.specs.Assignments.isTop Rattle.lowering.specs.Assignments.restsThroughObjects
+    Rattle.lowering.specs.Assignments.topLacksForm Rattle.lowering.specs.Assignments.withoutRests
+    Rattle.lowering.specs.Assignments.topSequence Rattle.lowering.specs.Assignments.topEntry
+    Rattle.lowering.specs.Assignments.topExcludes Rattle.lowering.specs.Assignments.topMakes
+    Rattle.lowering.specs.Assignments.nestedSequence Rattle.lowering.specs.Assignments.nestedEntry
+    Rattle.lowering.specs.Assignments.nestedMakes Rattle.lowering.specs.Heads.moved
+    Rattle.lowering.specs.Heads.movedPattern Rattle.lowering.specs.Heads.isMoved
+    Rattle.lowering.specs.Heads.movedFrom Rattle.lowering.specs.Heads.movedOut
+    Rattle.lowering.specs.Heads.leftBehind Rattle.lowering.specs.Heads.inFront
+    Rattle.lowering.specs.Heads.inBody Rattle.lowering.specs.Heads.asFunctionBody
+    Rattle.lowering.specs.Heads.asBlock Rattle.lowering.specs.Heads.function
+    Rattle.lowering.specs.Heads.functionMakes Rattle.lowering.specs.Heads.arrow
+    Rattle.lowering.specs.Heads.arrowMakes Rattle.lowering.specs.Heads.catch
+    Rattle.lowering.specs.Heads.catchMakes Rattle.lowering.specs.Heads.declaringHead
+    Rattle.lowering.specs.Heads.declaringMakes Rattle.lowering.specs.Heads.assigningHead
+    Rattle.lowering.specs.Heads.assigningMakes Rattle.lowering.specs.Walk.stepDeclaration
+    Rattle.lowering.specs.Walk.stepTop Rattle.lowering.specs.Walk.stepAssignment
+    Rattle.lowering.specs.Walk.stepFor Rattle.lowering.specs.Walk.ruleOf Rattle.lowering.specs.Walk.rewrite
+    Rattle.lowering.specs.Walk.opensScope Rattle.lowering.specs.Walk.within
+    Rattle.lowering.specs.Walk.eachItem Rattle.lowering.specs.Walk.eachPiece
+    Rattle.lowering.specs.Walk.eachField Rattle.lowering.specs.Walk.inside Rattle.lowering.specs.Walk.walk
+    Rattle.lowering.specs.Weight.isHead Rattle.lowering.specs.Weight.extra
+    Rattle.lowering.specs.Weight.factor Rattle.lowering.specs.Weight.walked
+    Rattle.lowering.specs.Weight.weight Rattle.lowering.specs.Collect.over
+    Rattle.lowering.specs.Collect.isContainer Rattle.lowering.specs.Collect.markIn
+    Rattle.lowering.specs.Collect.firstRefusal Rattle.lowering.specs.Collect.entryAt
+    Rattle.lowering.specs.Collect.entries Rattle.lowering.specs.Collect.excludedIn
+    Rattle.lowering.specs.Collect.madeIn Rattle.lowering.specs.Collect.listNodes
+    Rattle.lowering.specs.Collect.uses Rattle.lowering.specs.Collect.maskFrom
+    Rattle.lowering.specs.Collect.helperMask Rattle.lowering.specs.Collect.nameOf
+    Rattle.lowering.specs.Collect.samePath Rattle.lowering.specs.Collect.same
+    Rattle.lowering.specs.Collect.nameAt Rattle.lowering.specs.Collect.except
+    Rattle.lowering.specs.Collect.distinct Rattle.lowering.specs.Collect.numberIn
+    Rattle.lowering.specs.Collect.namesOf Rattle.lowering.specs.Collect.withNumber
+    Rattle.lowering.specs.Collect.declaratorBytes Rattle.lowering.specs.Collect.entryBytes
+    Rattle.lowering.specs.Collect.listBytes Rattle.lowering.specs.Collect.newIn
+    Rattle.lowering.specs.Collect.bare Rattle.lowering.specs.Collect.visits
+    Rattle.lowering.specs.Collect.nodes Rattle.lowering.specs.Collect.numbered
+    Rattle.lowering.specs.Answer.fits Rattle.lowering.specs.Answer.fitted
+    Rattle.lowering.specs.Answer.collected Rattle.lowering.specs.Answer.afterWalk
+    Rattle.lowering.specs.Answer.afterReading Rattle.lowering.specs.Answer.lowering
+    Rattle.lowering.specs.Answer.filled Rattle.lowering.specs.Answer.outcomeOf
+    Rattle.lowering.specs.Answer.outcome
+examples = record { empty-literal = refl; plain-literal = refl; two-spreads = refl; spread-last = refl; spread-first = refl; spread-around = refl; rest = refl; rest-only = refl; the-listing = refl; all-options = refl; one-options = refl; two-work = refl; three-empty = refl; four-deep = refl; not-so-deep = refl; five-array-rest = refl; six-no-form = refl; seven-short = refl; just-fits = refl; array-rest-stays = refl; nested-rest = refl; hoisted-keys = refl }

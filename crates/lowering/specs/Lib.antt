@@ -1,0 +1,14 @@
+pub mod Parts
+pub mod Made
+pub mod Patterns
+pub mod Keys
+pub mod Rests
+pub mod Literals
+pub mod Declarations
+pub mod Assignments
+pub mod Heads
+pub mod Walk
+pub mod Weight
+pub mod Collect
+pub mod Answer
+pub mod Examples

@@ -1,0 +1,1 @@
+// The definition of the lowering is in specs/, its laws in proofs/.
