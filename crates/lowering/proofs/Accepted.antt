@@ -1,7 +1,7 @@
 -- What the reader gives: a tree in which no two nodes are at one position, names have no parts, properties are no patterns, only arrays
 -- have holes, and no mark is 0. So a position is a site once at most.
 -- Assumes nothing.
-use mathlib.Core.Path.{_≡_, refl, sym, ap, ap₂, _∙_, subst}
+use mathlib.Core.Path.{_≡_, refl, sym, ap, _∙_, subst}
 use mathlib.Core.Bool.{Bool, true, false, cond, _||_, _&&_, false≢true, true≢false}
 use mathlib.Core.List.{List, [], _∷_}
 use mathlib.Core.Logic.{_⊎_, ⊎-elim}
@@ -11,10 +11,10 @@ use native.Mathlib.Omega.{arith}
 use native.Mathlib.Decide.{decLt}
 use lib.Dec.{eqb, ltb, leb}
 use lib.ListN.{length, getD, take, drop}
-use borrow.Author.Tests.{eqb-true, ltb-true, lt-ltb, le-ltb, le-leb, lt-leb, eq-eqb, leb-true}
+use borrow.Author.Tests.{eqb-true, ltb-true, lt-ltb, le-ltb, le-leb, leb-true}
 use Rattle.tree.specs.Tree.{Node, Fields, Piece, Items}
 use Rattle.tree.specs.Tree.Node.{node}
-use Rattle.tree.specs.Grammar.{Sort, Field, Stage, root, places, allowed, kindOf, formIn, formAt, fieldsOf, kinds, variants, mapOk}
+use Rattle.tree.specs.Grammar.{Sort, Field, root, places, allowed, kindOf, formIn, formAt, fieldsOf, kinds, variants, mapOk}
 use Rattle.tree.specs.Grammar.Stage.{input}
 use Rattle.tree.specs.Read.{Got, mapped, joined, accepted, sortIn, byteAt, wideAt, readText, readByte, readMark, readNumber, chosenPlace, readItem, readItems, readList, readField, readSlot, readFields, readNode, whole, readTree}
 use Rattle.tree.specs.Read.Got.{got, refused}

@@ -1,16 +1,16 @@
--- Small facts about the answer.
+-- Facts about the answer: what it can be, what a refusal leaves, what options change, and that there is one for each input.
 -- Assumes nothing.
 use mathlib.Core.Path.{_≡_, refl, sym, ap, _∙_}
 use mathlib.Core.Bool.{Bool, true, false, cond}
-use mathlib.Core.List.{List, [], _∷_, _++_}
-use Prim.Native.Nat.{ℕ, zero, suc, _+_, _-_, _≤_, _<_}
+use mathlib.Core.List.{List, [], _∷_}
+use Prim.Native.Nat.{ℕ, zero, suc, _-_, _≤_, _<_}
 use native.Mathlib.Omega.{arith}
 use lib.Dec.{eqb, ltb}
-use lib.ListN.{length, replicate}
-use borrow.Author.Tests.{le-ltb, lt-ltb}
-use Rattle.tree.specs.Tree.{Node, Items}
+use lib.ListN.{replicate}
+use borrow.Author.Tests.{le-ltb}
+use Rattle.tree.specs.Tree.{Node}
 use Rattle.tree.specs.Grammar.Stage.{input}
-use Rattle.tree.specs.Read.{Got, Refusal, numberOf, readTree}
+use Rattle.tree.specs.Read.{Got, readTree}
 use Rattle.tree.specs.Read.Got.{got, refused}
 use Rattle.tree.specs.Read.Refusal.{notATree, tooDeep}
 use Rattle.lowering.specs.Made.{Context}
@@ -18,12 +18,13 @@ use Rattle.lowering.specs.Parts.{kind, is, nodeAt}
 use Rattle.lowering.specs.Patterns.{hasObjectRest, hasArrayRestOverObjectRest}
 use Rattle.lowering.specs.Declarations.{declarationLacksForm}
 use Rattle.lowering.specs.Assignments.{isTop, target, topLacksForm}
-use Rattle.lowering.specs.Walk.{Note, Walked, ruleOf, rewrite, stepDeclaration, stepTop, stepAssignment, stepFor}
-use Rattle.lowering.specs.Weight.{walked}
-use Rattle.lowering.specs.Collect.{Visit, Entry, bare, visits, firstRefusal, entries, excludedIn}
+use Rattle.lowering.specs.Walk.{Note, Walked, ruleOf, rewrite, within, inside, walk, stepDeclaration, stepTop, stepAssignment, stepFor}
+use Rattle.lowering.specs.Weight.{weight, walked}
+use Rattle.lowering.specs.Collect.{Visit, bare, visits, firstRefusal, entries, excludedIn}
 use Rattle.lowering.specs.Answer.{Lent, Result, Outcome, fits, fitted, collected, afterWalk, top, afterReading, lowering, filled, outcomeOf, outcome, levels}
 use Rattle.lowering.specs.Answer.Result.{refusal, lowered}
 use Rattle.lowering.proofs.Cases.{by-test, by-rule}
+use Rattle.lowering.proofs.Falls.{walk-more, walked-only}
 use Rattle.lowering.proofs.Notes.{AllNotes, in-walked}
 
 -- ---- the walk refuses by 5 or 6 and by nothing else
@@ -226,3 +227,15 @@ options-after limit o p tree s = go (ltb (s .workSlice) 65536)
 pub options-only : (limit o p : ℕ) (tree : List ℕ) (s : Lent) → o ≤ 15 → p ≤ 15 → withOptions p (lowering limit o tree s) ≡ lowering limit p tree s
 options-only limit o p tree s h k =
     ap (withOptions p) (options-known limit o tree s h) ∙ (options-after limit o p tree s ∙ sym (options-known limit p tree s k))
+
+-- ---- there is one answer for each input
+
+-- it does not depend on how far down the walk may go, as long as that is enough
+pub any-fuel : (o : ℕ) (s : Lent) (next f : ℕ) (n : Node) → weight n ≤ f → afterWalk o s next (walk f top n) ≡ afterWalk o s next (walked top n)
+any-fuel o s next f n h = ap (afterWalk o s next) (walk-more f top n h)
+
+-- and whatever walks as the rules say, node by node, gives the same
+pub one-answer : (w : Context → Node → Walked)
+    → ((c : Context) (n : Node) → w c n ≡ inside (rewrite c n .note) (λ i j m. w (within c (rewrite c n .result) i j) m) (rewrite c n .result))
+    → (o : ℕ) (s : Lent) (next : ℕ) (n : Node) → afterWalk o s next (w top n) ≡ afterWalk o s next (walked top n)
+one-answer w is-walk o s next n = ap (afterWalk o s next) (walked-only w is-walk top n)

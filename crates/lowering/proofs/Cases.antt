@@ -73,7 +73,7 @@ pub or-first : (a b : Bool) → b ≡ false → a || b ≡ true → a ≡ true
 or-first true b h k = refl
 or-first false b h k = absurd (true≢false (sym k ∙ h))
 
--- a pattern weighs 5 more than its parts
+-- the kind of a pattern, by its shape
 pub object-is : (p : Node) → shape p ≡ objectPattern → is 34 p ≡ true
 unfolding shape is
 object-is p e = go (eqb (kind p) 34) (eqb (kind p) 36) (eqb (kind p) 37) e

@@ -1,18 +1,17 @@
--- More fuel changes nothing: the weight falls at each step of the walk.
+-- The weight falls at each step of the walk. So more fuel changes nothing, and there is one walk.
 -- Assumes nothing.
-use mathlib.Core.Path.{_≡_, refl, sym, ap, _∙_}
+use mathlib.Core.Path.{_≡_, refl, _∙_}
 use mathlib.Core.Bool.{Bool, true, false, cond, _||_}
-use Prim.Native.Nat.{ℕ, zero, suc, _+_, _≤_, _<_}
+use Prim.Native.Nat.{ℕ, zero, suc, _≤_, _<_}
 use native.Mathlib.Omega.{arith}
 use lib.Dec.{eqb}
 use Rattle.tree.specs.Tree.{Node}
-use Rattle.tree.specs.Tree.Node.{node}
-use Rattle.lowering.specs.Parts.{nothing, kind, is, nodeAt}
+use Rattle.lowering.specs.Parts.{kind, is, nodeAt}
 use Rattle.lowering.specs.Made.{Context}
 use Rattle.lowering.specs.Patterns.{hasObjectRest, hasArrayRestOverObjectRest}
 use Rattle.lowering.specs.Declarations.{declarationLacksForm}
 use Rattle.lowering.specs.Assignments.{isTop, target, topLacksForm}
-use Rattle.lowering.specs.Walk.{Step, Walked, Rule, ruleOf, stepDeclaration, stepTop, stepAssignment, stepFor, rewrite, within, inside, walk}
+use Rattle.lowering.specs.Walk.{Walked, Rule, ruleOf, stepDeclaration, stepTop, stepAssignment, stepFor, rewrite, within, inside, walk}
 use Rattle.lowering.specs.Walk.Rule.{literals, declarations, assignments, functions, arrows, catches, fors, nowhere}
 use Rattle.lowering.specs.Weight.{isHead, weight, walked}
 use Rattle.lowering.proofs.All.{Each, weaker-each, inside-same}

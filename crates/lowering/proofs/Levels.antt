@@ -2,8 +2,8 @@
 -- accepted, and the code may search with as many as it has left.
 -- Assumes nothing.
 use mathlib.Core.Path.{_≡_, refl, sym, ap, ap₂, _∙_}
-use mathlib.Core.Bool.{Bool, true, false, cond, _||_}
-use Prim.Native.Nat.{ℕ, zero, suc, _+_, _≤_, _<_, max}
+use mathlib.Core.Bool.{Bool, false, cond, _||_}
+use Prim.Native.Nat.{ℕ, zero, suc, _+_, _≤_, _<_}
 use native.Mathlib.Omega.{arith}
 use Rattle.tree.specs.Tree.{Node, Fields, Piece, Items, depth, depthFields, depthPiece, depthItems}
 use Rattle.tree.specs.Tree.Node.{node}
@@ -12,8 +12,7 @@ use Rattle.tree.specs.Tree.Piece.{one, list, text, byte, mark, number}
 use Rattle.tree.specs.Tree.Items.{none, hole, item}
 use Rattle.lowering.specs.Parts.{nothing, pieceIn, changeIn, change, onNode, onItems, changeNode, changeItems, asNode, asItems, nodeAt, itemsAt, only, each, gather, any, _+++_}
 use Rattle.lowering.specs.Made.{Context, reference}
-use Rattle.lowering.specs.Patterns.{Shape, shape, properties, itemsOf, rest, hasRest, leftOf, value, withLeft, withItems, withRest, withValues, hasNestedObjectRest, hasNestedArrayRest, replaced, objectsWithRest}
-use Rattle.lowering.specs.Patterns.Shape.{objectPattern, arrayPattern, default, leaf}
+use Rattle.lowering.specs.Patterns.{shape, properties, itemsOf, hasRest, value, withItems, withRest, withValues, hasNestedObjectRest, hasNestedArrayRest, replaced, objectsWithRest}
 use Rattle.lowering.specs.Keys.{taken}
 use Rattle.lowering.specs.Declarations.{own, nested}
 use Rattle.lowering.specs.Assignments.{restsThroughObjects, withoutRests}

@@ -1,5 +1,6 @@
 pub mod All
 pub mod Cases
+pub mod Clauses
 pub mod Weights
 pub mod WeightChange
 pub mod WeightLiterals
@@ -26,3 +27,4 @@ pub mod Occurs
 pub mod Sound
 pub mod SoundRules
 pub mod SoundSteps
+pub mod Used

@@ -1,23 +1,22 @@
--- What one rewriting makes: each temporary has the path of the rewriting in its name, and no name comes more often than its position is a
--- site of the node.
+-- What one rewriting makes: no name comes more often than its position is a site of the node.
 -- Assumes nothing.
-use mathlib.Core.Path.{_≡_, refl, sym, ap, ap₂, _∙_, subst}
-use mathlib.Core.Bool.{Bool, true, false, cond, _&&_, _||_, false≢true}
-use mathlib.Core.List.{List, [], _∷_}
-use Prim.Native.Nat.{ℕ, zero, suc, _+_, _≤_, _<_}
+use mathlib.Core.Path.{_≡_, refl, ap, _∙_}
+use mathlib.Core.Bool.{Bool, true, false, cond, _&&_}
+use mathlib.Core.List.{List}
+use Prim.Native.Nat.{ℕ, _+_, _≤_}
 use native.Mathlib.Omega.{arith}
 use lib.Dec.{eqb}
 use borrow.Author.Tests.{eqb-true}
 use Rattle.tree.specs.Tree.{Node, Items, depth}
 use Rattle.tree.specs.Tree.Items.{none, hole, item}
-use Rattle.lowering.specs.Parts.{position, kind, is, nodeAt, itemsAt, stands, textAt, numberAt, pieceIn, only, each, gather, any, _+++_}
-use Rattle.lowering.specs.Made.{Context, temporary, reference, valueOf, keyOf, excludedOf, declares, declared, array, idOf}
-use Rattle.lowering.specs.Patterns.{shape, properties, key, value, hasObjectRest, hasArrayRestOverObjectRest, objectsWithRest, objectsBelow, hasRest}
-use Rattle.lowering.specs.Keys.{keySort, keyTemporary, keyTemporaries, excludedKeys}
+use Rattle.lowering.specs.Parts.{position, kind, is, nodeAt, itemsAt, stands, textAt, numberAt, pieceIn, only, each, gather, _+++_}
+use Rattle.lowering.specs.Made.{Context, temporary, reference, valueOf, keyOf, excludedOf, declared, idOf}
+use Rattle.lowering.specs.Patterns.{shape, properties, key, value, hasObjectRest, hasArrayRestOverObjectRest, objectsBelow, hasRest}
+use Rattle.lowering.specs.Keys.{keySort, keyTemporary, keyTemporaries}
 use Rattle.lowering.specs.Rests.{isHoisted, excludedFor, restMakes}
 use Rattle.lowering.specs.Declarations.{isName, sourceDeclarator, innerObjects, declaratorMakes, isLowered, declarationMakes, declarationLacksForm}
 use Rattle.lowering.specs.Assignments.{isTop, target, restsOf, topLacksForm, topEntry, topExcludes, topMakes, nestedEntry, nestedMakes}
-use Rattle.lowering.specs.Heads.{moved, isMoved, movedFrom, references, functionMakes, arrowMakes, catchMakes, declaringMakes, assigningMakes}
+use Rattle.lowering.specs.Heads.{isMoved, movedFrom, references, functionMakes, arrowMakes, catchMakes, declaringMakes, assigningMakes}
 use Rattle.lowering.specs.Walk.{ruleOf, rewrite, stepDeclaration, stepTop, stepAssignment, stepFor}
 use Rattle.lowering.specs.Collect.{Name, nameOf, samePath, same}
 use Rattle.lowering.proofs.Cases.{by-test, by-shape, by-key, by-rule, and-left, and-right}

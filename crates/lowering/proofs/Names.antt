@@ -1,8 +1,8 @@
 -- No two temporaries that the walk makes have one name, wherever they are made: not in one rewriting, where the positions in the names
 -- differ, nor in two, where the paths do. So it is also where one key is copied and both copies are walked.
 -- Assumes nothing.
-use mathlib.Core.Path.{_≡_, refl, sym, ap, ap₂, _∙_, subst}
-use mathlib.Core.Bool.{Bool, true, false, cond, _&&_}
+use mathlib.Core.Path.{_≡_, refl, sym, ap, _∙_, subst}
+use mathlib.Core.Bool.{Bool, cond}
 use mathlib.Core.List.{List, [], _∷_, _++_}
 use Prim.Native.Nat.{ℕ, zero, suc, _+_, _≤_, _<_}
 use native.Mathlib.Omega.{arith}
@@ -11,7 +11,7 @@ use Rattle.tree.specs.Tree.{Node, Fields, Piece, Items}
 use Rattle.tree.specs.Tree.Node.{node}
 use Rattle.lowering.specs.Parts.{_+++_}
 use Rattle.lowering.specs.Made.{Context}
-use Rattle.lowering.specs.Walk.{Note, Walked, WalkedFields, WalkedPiece, WalkedItems, eachItem, eachPiece, eachField, inside, rewrite, within, walk}
+use Rattle.lowering.specs.Walk.{Note, Walked, eachItem, eachPiece, eachField, inside, rewrite, within, walk}
 use Rattle.lowering.specs.Weight.{weight, walked}
 use Rattle.lowering.specs.Collect.{Visit, newIn, newInPiece, isContainer, markOf, marked, visits, visitsFields, visitsPiece, visitsItems, madeIn, Name, samePath}
 use Rattle.lowering.specs.Answer.{top}
@@ -97,7 +97,7 @@ once-as {A} s t e o = subst (λ (m : ℕ). Once m A) (sym e) o
 
 module _ (a : Name) where
   -- how often the name is made in visits
-  abbrev total : List Visit → ℕ
+  abbrev pub total : List Visit → ℕ
   total vs = times a (madeIn vs)
 
   made-append : (us vs : List Visit) → madeIn (us ++ vs) ≡ madeIn us +++ madeIn vs
@@ -105,7 +105,7 @@ module _ (a : Name) where
   made-append [] vs = refl
   made-append (u ∷ us) vs = ap (λ (x : Items). u .note .made +++ x) (made-append us vs) ∙ sym (append-assoc (u .note .made) (madeIn us) (madeIn vs))
 
-  total-append : (us vs : List Visit) → total (us ++ vs) ≡ total us + total vs
+  pub total-append : (us vs : List Visit) → total (us ++ vs) ≡ total us + total vs
   total-append us vs = ap (times a) (made-append us vs) ∙ times-append a (madeIn us) (madeIn vs)
 
   module _ (p : List ℕ) where

@@ -1,27 +1,26 @@
 -- How often a name stands in a tree. What the views of a pattern put there are temporaries that are made with them.
 -- Assumes nothing.
-use mathlib.Core.Path.{_≡_, refl, sym, ap, ap₂, _∙_, subst}
-use mathlib.Core.Bool.{Bool, true, false, cond, _&&_, _||_, not, false≢true}
-use mathlib.Core.List.{List, [], _∷_}
-use Prim.Native.Nat.{ℕ, zero, suc, _+_, _*_, _≤_, _<_}
+use mathlib.Core.Path.{_≡_, refl, sym, ap, _∙_}
+use mathlib.Core.Bool.{cond, _&&_}
+use mathlib.Core.List.{List}
+use Prim.Native.Nat.{ℕ, zero, suc, _+_, _≤_, _<_}
 use native.Mathlib.Omega.{arith}
 use lib.Dec.{eqb}
-use borrow.Author.Tests.{eqb-true}
-use Rattle.tree.specs.Tree.{Node, Fields, Piece, Items, depth}
+use Rattle.tree.specs.Tree.{Node, Fields, Piece, Items}
 use Rattle.tree.specs.Tree.Node.{node}
 use Rattle.tree.specs.Tree.Fields.{done, absent, field}
 use Rattle.tree.specs.Tree.Piece.{one, list, text, byte, mark, number}
 use Rattle.tree.specs.Tree.Items.{none, hole, item}
-use Rattle.lowering.specs.Parts.{nothing, position, kind, is, pieceIn, changeIn, dropIn, asNode, asItems, asText, asNumber, nodeAt, itemsAt, textAt, numberAt, stands, change, onNode, onItems, changeNode, changeItems, without, only, each, gather, _+++_}
-use Rattle.lowering.specs.Made.{Context, temporary, reference, keyOf, string, idOf}
-use Rattle.lowering.specs.Patterns.{shape, properties, itemsOf, rest, hasRest, leftOf, key, value, withLeft, withItems, withRest, withProperties, withValues, replaced, objectsWithRest}
+use Rattle.lowering.specs.Parts.{nothing, position, is, pieceIn, changeIn, asNode, asItems, asText, asNumber, nodeAt, itemsAt, textAt, numberAt, change, onNode, onItems, changeNode, changeItems, only, each, gather, _+++_}
+use Rattle.lowering.specs.Made.{Context, temporary, reference}
+use Rattle.lowering.specs.Patterns.{shape, properties, itemsOf, rest, hasRest, leftOf, value, withLeft, withItems, withRest, withValues, replaced, objectsWithRest}
 use Rattle.lowering.specs.Patterns.Shape.{objectPattern, arrayPattern, default, leaf}
-use Rattle.lowering.specs.Keys.{keySort, keyTemporary, keyTemporaries, excludedKey, excludedKeys, keptKey, taken}
 use Rattle.lowering.specs.Heads.{moved, movedPattern, movedOut}
 use Rattle.lowering.specs.Collect.{Name, nameOf, same}
 use Rattle.lowering.proofs.All.{AllItems, AllPiece, AllFields, Each}
-use Rattle.lowering.proofs.Cases.{by-test, by-shape, by-key, object-is}
-use Rattle.lowering.proofs.Made.{times, times-append, each-append, only-times, none-times}
+use Rattle.lowering.proofs.Cases.{by-test, by-shape}
+use Rattle.lowering.proofs.Clauses.{objects-object, objects-array, objects-default, objects-leaf, replaced-object, replaced-array, replaced-default, replaced-leaf}
+use Rattle.lowering.proofs.Made.{times, times-append, each-append, only-times}
 
 -- ---- changes of a field that leave texts and numbers alone
 
@@ -380,39 +379,6 @@ module _ (a : Name) where
     objects-nothing zero = refl
     objects-nothing (suc d) = refl
 
-    pub objects-object : (d : ℕ) (p : Node) → shape p ≡ objectPattern
-        → objectsWithRest c (suc d) p ≡ gather (λ q. objectsWithRest c d (value q)) (properties p) +++ cond (hasRest p) (only (withValues (λ v. replaced c d v) p)) none
-    unfolding objectsWithRest
-    objects-object d p e = rw (e, objectsWithRest)
-
-    pub objects-array : (d : ℕ) (p : Node) → shape p ≡ arrayPattern → objectsWithRest c (suc d) p ≡ gather (λ m. objectsWithRest c d m) (itemsOf p)
-    unfolding objectsWithRest
-    objects-array d p e = rw (e, objectsWithRest)
-
-    pub objects-default : (d : ℕ) (p : Node) → shape p ≡ default → objectsWithRest c (suc d) p ≡ objectsWithRest c d (leftOf p)
-    unfolding objectsWithRest
-    objects-default d p e = rw (e, objectsWithRest)
-
-    objects-leaf : (d : ℕ) (p : Node) → shape p ≡ leaf → objectsWithRest c (suc d) p ≡ none
-    unfolding objectsWithRest
-    objects-leaf d p e = rw (e, objectsWithRest)
-
-    replaced-object : (d : ℕ) (p : Node) → shape p ≡ objectPattern → replaced c (suc d) p ≡ cond (hasRest p) (reference c p) (withValues (λ v. replaced c d v) p)
-    unfolding replaced
-    replaced-object d p e = rw (e, replaced)
-
-    replaced-array : (d : ℕ) (p : Node) → shape p ≡ arrayPattern → replaced c (suc d) p ≡ withItems (λ v. replaced c d v) p
-    unfolding replaced
-    replaced-array d p e = rw (e, replaced)
-
-    replaced-default : (d : ℕ) (p : Node) → shape p ≡ default → replaced c (suc d) p ≡ withLeft (λ v. replaced c d v) p
-    unfolding replaced
-    replaced-default d p e = rw (e, replaced)
-
-    replaced-leaf : (d : ℕ) (p : Node) → shape p ≡ leaf → replaced c (suc d) p ≡ p
-    unfolding replaced
-    replaced-leaf d p e = rw (e, replaced)
-
     pub objects-sum : (d : ℕ) (p : Node) → occursItems (objectsWithRest c d p) + occurs (replaced c d p) ≤ occurs p + times a (refs (objectsWithRest c d p))
     unfolding objectsWithRest replaced
     objects-sum zero p = let z = none-occurs in omega arith
@@ -427,9 +393,9 @@ module _ (a : Name) where
         let u = items-sum (λ q. h (value q)) (λ q. changeNode 1 f q) (λ q. refs (h (value q)))
         (λ q. node-sum h f (λ v. refs (h v)) (objects-sum d) (objects-nothing d) 1 q) 0 p in
         let g = gathered (λ q. reference c q) (λ q. h (value q)) (properties p) in
-        let i = ap (occursItems) (objects-object d p e) in
-        let t = ap (λ (is : Items). times a (refs is)) (objects-object d p e) in
-        let j = ap (occurs) (replaced-object d p e) in
+        let i = ap (occursItems) (objects-object c d p e) in
+        let t = ap (λ (is : Items). times a (refs is)) (objects-object c d p e) in
+        let j = ap (occurs) (replaced-object c d p e) in
         by-test (hasRest p)
         (λ r.
         let i′ : occursItems (objectsWithRest c (suc d) p) ≡ occursItems (inner +++ only own) = rw r at i in
@@ -453,19 +419,19 @@ module _ (a : Name) where
         (λ e.
         let u = items-sum h f (λ v. refs (h v)) (objects-sum d) 0 p in
         let g = gathered (λ q. reference c q) h (itemsOf p) in
-        let i = ap (occursItems) (objects-array d p e) in
-        let t = ap (λ (is : Items). times a (refs is)) (objects-array d p e) in
-        let j = ap (occurs) (replaced-array d p e) in
+        let i = ap (occursItems) (objects-array c d p e) in
+        let t = ap (λ (is : Items). times a (refs is)) (objects-array c d p e) in
+        let j = ap (occurs) (replaced-array c d p e) in
         omega arith)
         (λ e.
         let u = node-sum h f (λ v. refs (h v)) (objects-sum d) (objects-nothing d) 0 p in
-        let i = ap (occursItems) (objects-default d p e) in
-        let t = ap (λ (is : Items). times a (refs is)) (objects-default d p e) in
-        let j = ap (occurs) (replaced-default d p e) in
+        let i = ap (occursItems) (objects-default c d p e) in
+        let t = ap (λ (is : Items). times a (refs is)) (objects-default c d p e) in
+        let j = ap (occurs) (replaced-default c d p e) in
         omega arith)
         (λ e.
-        let i = ap (occursItems) (objects-leaf d p e) in
-        let j = ap (occurs) (replaced-leaf d p e) in
+        let i = ap (occursItems) (objects-leaf c d p e) in
+        let j = ap (occurs) (replaced-leaf c d p e) in
         omega arith)
 
     pub replaced-more : (d : ℕ) (p : Node) → occurs (replaced c d p) ≤ occurs p + times a (refs (objectsWithRest c d p))

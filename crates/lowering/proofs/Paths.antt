@@ -1,21 +1,21 @@
 -- Each temporary that a rewriting makes has the path of that rewriting in its name.
 -- Assumes nothing.
-use mathlib.Core.Path.{_≡_, refl, sym, ap, _∙_, subst}
+use mathlib.Core.Path.{_≡_, refl, sym, subst}
 use mathlib.Core.Bool.{Bool, true, false, cond, _&&_}
 use mathlib.Core.List.{List}
-use Prim.Native.Nat.{ℕ, zero, suc, _+_, _≤_}
+use Prim.Native.Nat.{ℕ, _+_}
 use native.Mathlib.Omega.{arith}
 use lib.Dec.{eqb}
-use Rattle.tree.specs.Tree.{Node, Items, depth}
+use Rattle.tree.specs.Tree.{Node, Items}
 use Rattle.tree.specs.Tree.Items.{none, hole, item}
-use Rattle.lowering.specs.Parts.{position, kind, is, nodeAt, itemsAt, stands, pieceIn, only, each, gather, _+++_}
-use Rattle.lowering.specs.Made.{Context, temporary, reference, declared, idOf}
+use Rattle.lowering.specs.Parts.{kind, is, nodeAt, itemsAt, stands, pieceIn, each, gather, _+++_}
+use Rattle.lowering.specs.Made.{Context, temporary, reference, idOf}
 use Rattle.lowering.specs.Patterns.{properties, key, hasObjectRest, hasArrayRestOverObjectRest, objectsBelow}
 use Rattle.lowering.specs.Keys.{keySort, keyTemporary, keyTemporaries}
 use Rattle.lowering.specs.Rests.{isHoisted, excludedFor, restMakes}
 use Rattle.lowering.specs.Declarations.{isName, sourceDeclarator, innerObjects, declaratorMakes, isLowered, declarationMakes, declarationLacksForm}
 use Rattle.lowering.specs.Assignments.{isTop, target, restsOf, topLacksForm, topEntry, topExcludes, topMakes, nestedEntry, nestedMakes}
-use Rattle.lowering.specs.Heads.{movedFrom, references, functionMakes, arrowMakes, catchMakes, declaringMakes, assigningMakes}
+use Rattle.lowering.specs.Heads.{movedFrom, functionMakes, arrowMakes, catchMakes, declaringMakes, assigningMakes}
 use Rattle.lowering.specs.Walk.{ruleOf, rewrite, stepDeclaration, stepTop, stepAssignment, stepFor}
 use Rattle.lowering.specs.Collect.{Name, nameOf, samePath, same}
 use Rattle.lowering.proofs.All.{AllItems, all-append, all-gather, all-each, all-unit}

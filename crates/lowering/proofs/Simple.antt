@@ -1,32 +1,32 @@
 -- A tree without object rest and spread is its own result, with an empty list and no helper.
 -- Assumes nothing.
 use mathlib.Core.Path.{_≡_, refl, sym, ap, ap₂, _∙_, subst}
-use mathlib.Core.Bool.{Bool, true, false, cond, _||_, _&&_, not, false≢true, true≢false}
+use mathlib.Core.Bool.{Bool, true, false, cond, _||_, _&&_}
 use mathlib.Core.List.{List, [], _∷_, _++_}
-use Prim.Native.Nat.{ℕ, zero, suc, _+_, _*_, _≤_, _<_}
+use Prim.Native.Nat.{ℕ, zero, suc, _+_, _≤_, _<_}
 use native.Mathlib.Omega.{arith}
-use lib.Dec.{eqb, ltb}
-use lib.ListN.{length}
-use borrow.Author.Tests.{eqb-true, le-ltb}
-use Rattle.tree.specs.Tree.{Node, Fields, Piece, Items, depth, encode, wideBytes}
+use lib.Dec.{eqb}
+use borrow.Author.Tests.{le-ltb}
+use Rattle.tree.specs.Tree.{Node, Fields, Piece, Items, depth, encode}
 use Rattle.tree.specs.Tree.Node.{node}
 use Rattle.tree.specs.Grammar.Stage.{input}
 use Rattle.tree.specs.Read.{readTree}
 use Rattle.tree.specs.Read.Got.{got}
-use Rattle.lowering.specs.Parts.{nothing, position, kind, is, pieceIn, standsIn, changeIn, asNode, asItems, nodeAt, itemsAt, numberAt, stands, change, onItems, changeItems, only, each, gather, any, isEmpty, _+++_}
-use Rattle.lowering.specs.Made.{Context, reference}
-use Rattle.lowering.specs.Patterns.{shape, properties, itemsOf, rest, hasRest, leftOf, value, hasNestedObjectRest, hasNestedArrayRest, hasObjectRest, hasArrayRestOverObjectRest}
+use Rattle.tree.specs.WellFormed.{Bytes}
+use Rattle.tree.proofs.Sound.{sound}
+use Rattle.lowering.specs.Parts.{nothing, kind, is, pieceIn, standsIn, changeIn, asNode, asItems, nodeAt, itemsAt, numberAt, stands, change, onItems, only, each, gather, any, isEmpty, _+++_}
+use Rattle.lowering.specs.Made.{Context}
+use Rattle.lowering.specs.Patterns.{shape, properties, itemsOf, rest, hasRest, leftOf, value, hasNestedObjectRest, hasNestedArrayRest, hasObjectRest}
 use Rattle.lowering.specs.Literals.{literal}
 use Rattle.lowering.specs.Rests.{excludedFor}
 use Rattle.lowering.specs.Keys.{anyLacksForm}
 use Rattle.lowering.specs.Declarations.{isLowered, declaratorMakes, declarators, loweredIn, declaration, declarationMakes, declarationExcludes, declarationLacksForm}
 use Rattle.lowering.specs.Assignments.{isTop, target}
 use Rattle.lowering.specs.Heads.{isMoved, movedFrom, references, function, functionMakes, arrow, arrowMakes, catch, catchMakes, declaringHead, declaringMakes, assigningHead, assigningMakes}
-use Rattle.lowering.specs.Walk.{Note, Step, Walked, WalkedFields, WalkedPiece, WalkedItems, eachItem, eachPiece, eachField, inside, rewritten, unchanged, ruleOf, rewrite, stepDeclaration, stepAssignment, stepFor, within}
-use Rattle.lowering.specs.Walk.Rule.{literals, declarations, assignments, functions, arrows, catches, fors, nowhere}
+use Rattle.lowering.specs.Walk.{Note, Step, Walked, eachItem, eachPiece, eachField, inside, rewritten, unchanged, ruleOf, rewrite, stepDeclaration, stepAssignment, stepFor, within}
 use Rattle.lowering.specs.Weight.{walked}
-use Rattle.lowering.specs.Collect.{Visit, Entry, Name, over, newIn, newInPiece, marked, markOf, bare, bareFields, barePiece, bareItems, isContainer, visits, visitsFields, visitsPiece, visitsItems, firstRefusal, entryAt, entries, excludedIn, nodes, nodesFields, nodesPiece, nodesItems, uses, maskFrom, helperMask, namesOf, numbered, numberedFields, numberedPiece, numberedItems, declaratorBytes, listBytes}
-use Rattle.lowering.specs.Answer.{Lent, Result, fitted, collected, afterWalk, top, afterReading, lowering}
+use Rattle.lowering.specs.Collect.{Visit, Name, over, newIn, newInPiece, marked, markOf, bare, bareFields, barePiece, bareItems, isContainer, visits, visitsFields, visitsPiece, visitsItems, firstRefusal, entryAt, entries, excludedIn, nodes, nodesFields, nodesPiece, nodesItems, uses, maskFrom, helperMask, namesOf, numbered, numberedFields, numberedPiece, numberedItems, declaratorBytes, listBytes}
+use Rattle.lowering.specs.Answer.{Lent, fitted, collected, afterWalk, top, afterReading, lowering}
 use Rattle.lowering.proofs.Cases.{by-test, by-shape, object-is, by-rule, and-none, literals-24, declarations-4}
 use Rattle.lowering.proofs.Falls.{walked-is}
 use Rattle.lowering.proofs.Notes.{AllNotes, both}
@@ -511,3 +511,9 @@ unfolding lowering afterReading
 simple-result limit o tree s n q next e z h w =
     rw (le-ltb 15 o h, lowering, le-ltb (s .workSlice) 65536 w, e)
     (walk-result o s next n z (accepted-good limit tree n q next e .fine))
+
+-- byte for byte, for the reader's trees encode to what was read
+pub simple-bytes : (limit o : ℕ) (tree : List ℕ) (s : Lent) (n : Node) (q next : ℕ) → Bytes tree → readTree input limit tree ≡ got n q next → Simple n → o ≤ 15 → 65536 ≤ s .workSlice
+    → lowering limit o tree s ≡ fitted s 0 o tree (0 ∷ 0 ∷ 0 ∷ 0 ∷ [])
+simple-bytes limit o tree s n q next b e z h w =
+    simple-result limit o tree s n q next e z h w ∙ ap (λ (bs : List ℕ). fitted s 0 o bs (0 ∷ 0 ∷ 0 ∷ 0 ∷ [])) (sound input limit tree n q next b e .bytes)

@@ -1,9 +1,8 @@
 -- The rules keep sites apart: if a position is a site of a node once at most, so it is of each part of what the node's rewriting leaves.
 -- Assumes nothing.
-use mathlib.Core.Path.{_≡_, refl, sym, ap, ap₂, _∙_, subst}
-use mathlib.Core.Bool.{Bool, true, false, cond, _||_, _&&_, false≢true}
-use mathlib.Core.List.{List, [], _∷_}
-use Prim.Native.Nat.{ℕ, zero, suc, _+_, _*_, _≤_, _<_}
+use mathlib.Core.Path.{_≡_, refl, sym, ap, _∙_, subst}
+use mathlib.Core.Bool.{true, cond, _&&_}
+use Prim.Native.Nat.{ℕ, zero, suc, _+_, _*_, _≤_}
 use native.Mathlib.Omega.{arith}
 use lib.Dec.{eqb}
 use borrow.Author.Tests.{eqb-true}
@@ -12,18 +11,17 @@ use Rattle.tree.specs.Tree.Node.{node}
 use Rattle.tree.specs.Tree.Fields.{done, absent, field}
 use Rattle.tree.specs.Tree.Piece.{one, list, text, byte, mark, number}
 use Rattle.tree.specs.Tree.Items.{none, hole, item}
-use Rattle.lowering.specs.Parts.{nothing, position, kind, is, pieceIn, changeIn, asNode, asItems, nodeAt, itemsAt, stands, change, onNode, onItems, changeNode, changeItems, only, each, gather, any, _+++_}
-use Rattle.lowering.specs.Made.{Context, temporary, reference, valueOf, keyOf, excludedOf, call, S, X, E, W, object, array, sequence, assign, declares, letOf, varOf, assigning, returning, block, functionBody}
+use Rattle.lowering.specs.Parts.{position, kind, is, pieceIn, changeIn, asNode, asItems, nodeAt, itemsAt, stands, change, onNode, onItems, changeNode, changeItems, only, each, gather, any, _+++_}
+use Rattle.lowering.specs.Made.{Context, reference, valueOf, keyOf, call, S, X, E, W, object, array, sequence, assign, declares, letOf, varOf, assigning, returning, block, functionBody}
 use Rattle.lowering.specs.Patterns.{shape, properties, itemsOf, rest, hasRest, leftOf, key, value, withValues, hasObjectRest, hasArrayRestOverObjectRest, replaced, replacedBelow, objectsBelow}
-use Rattle.lowering.specs.Patterns.Shape.{objectPattern, arrayPattern, default, leaf}
 use Rattle.lowering.specs.Keys.{keySort, keyTemporary, keyTemporaries, excludedKeys, allPrimitive, taken}
 use Rattle.lowering.specs.Rests.{hasNoProperties, mapped, isHoisted, keysRead, restValue}
 use Rattle.lowering.specs.Literals.{Call, opened, closed, scan, literal}
 use Rattle.lowering.specs.Literals.Call.{no-call}
 use Rattle.lowering.specs.Declarations.{isName, source, sourceDeclarator, keysBefore, patternDeclarator, restDeclarator, own, nested, nestedBelow, objectDeclarators, patternDeclarators, lowerDeclarator, isLowered, declarators, declaration, declarationLacksForm}
-use Rattle.lowering.specs.Assignments.{isTop, target, assigned, restsThroughObjects, restsOf, withoutRests, targetLeft, topSequence, topLacksForm, nestedSequence}
-use Rattle.lowering.specs.Heads.{moved, movedPattern, movedOut, isMoved, leftBehind, movedFrom, inFront, inBody, asFunctionBody, asBlock, function, arrow, catch, declaringHead, assigningHead}
-use Rattle.lowering.specs.Walk.{Rule, ruleOf, rewrite, stepDeclaration, stepTop, stepAssignment, stepFor}
+use Rattle.lowering.specs.Assignments.{isTop, target, assigned, restsOf, targetLeft, topSequence, topLacksForm, nestedSequence}
+use Rattle.lowering.specs.Heads.{movedPattern, movedOut, isMoved, leftBehind, movedFrom, inFront, inBody, asFunctionBody, asBlock, function, arrow, catch, declaringHead, assigningHead}
+use Rattle.lowering.specs.Walk.{ruleOf, rewrite, stepDeclaration, stepTop, stepAssignment, stepFor}
 use Rattle.lowering.proofs.All.{AllItems, AllPiece, AllFields, Each, all-append, all-gather, all-each, all-changed, other-changed}
 use Rattle.lowering.proofs.Cases.{by-test, by-shape, by-key, by-rule, functionBody-is, block-is}
 use Rattle.lowering.proofs.Sites.{isNameKind, own as ownSites, sites, sitesFields, sitesPiece, sitesItems, fields-in, piece-in, two-pieces, as-node, as-items, node-in, items-in, node-and-node, items-and-node, AtMost, each-item, each-piece, each-field, each-part, sites-append, gather-light, Light, on-items, changeNode-light, changeEach-light, temporary-sites}

@@ -1,22 +1,22 @@
 -- The views of patterns have at most as many sites as the patterns, and what is found below them no more than there is.
 -- Assumes nothing.
-use mathlib.Core.Path.{_≡_, refl, sym, ap, ap₂, _∙_, subst}
-use mathlib.Core.Bool.{Bool, true, false, cond, _||_, false≢true}
-use mathlib.Core.List.{List, [], _∷_}
-use Prim.Native.Nat.{ℕ, zero, suc, _+_, _*_, _≤_, _<_}
+use mathlib.Core.Path.{_≡_, refl, ap, _∙_}
+use mathlib.Core.Bool.{true, false, cond, false≢true}
+use mathlib.Core.List.{List}
+use Prim.Native.Nat.{ℕ, zero, suc, _+_, _≤_}
 use native.Mathlib.Omega.{arith}
-use lib.Dec.{eqb}
 use Rattle.tree.specs.Tree.{Node, Fields, Piece, Items, depth}
 use Rattle.tree.specs.Tree.Node.{node}
-use Rattle.tree.specs.Tree.Items.{none, hole, item}
-use Rattle.lowering.specs.Parts.{nothing, position, kind, is, pieceIn, changeIn, asNode, asItems, nodeAt, itemsAt, textAt, stands, change, onNode, onItems, changeNode, changeItems, without, only, each, gather, _+++_}
-use Rattle.lowering.specs.Made.{Context, temporary, reference, keyOf, string}
-use Rattle.lowering.specs.Patterns.{Shape, shape, properties, itemsOf, rest, hasRest, leftOf, key, value, withLeft, withItems, withRest, withProperties, withValues, hasNestedObjectRest, replaced, objectsWithRest}
+use Rattle.tree.specs.Tree.Items.{none}
+use Rattle.lowering.specs.Parts.{nothing, position, is, pieceIn, changeIn, asItems, textAt, change, onNode, onItems, changeNode, without, only, each, gather, _+++_}
+use Rattle.lowering.specs.Made.{Context, reference, keyOf, string}
+use Rattle.lowering.specs.Patterns.{shape, properties, itemsOf, rest, hasRest, leftOf, key, value, withLeft, withItems, withProperties, withValues, hasNestedObjectRest, replaced, objectsWithRest}
 use Rattle.lowering.specs.Patterns.Shape.{objectPattern, arrayPattern, default, leaf}
 use Rattle.lowering.specs.Keys.{keySort, excludedKey, keptKey, excludedKeys, taken}
 use Rattle.lowering.specs.Assignments.{restsThroughObjects, withoutRests}
 use Rattle.lowering.specs.Heads.{moved, movedPattern, movedOut}
 use Rattle.lowering.proofs.All.{AllItems, all-append, all-gather, all-unit}
+use Rattle.lowering.proofs.Clauses.{objects-object, objects-array, objects-default, objects-leaf, replaced-object, replaced-array, replaced-default, replaced-leaf}
 use Rattle.lowering.proofs.Cases.{by-test, by-shape, object-is, array-is, default-is, by-key, is-changed}
 use Rattle.lowering.proofs.Sites.{isNameKind, direct, directPiece, own, other-fields, here, hereItems, sites, sitesFields, sitesItems, Light, node-in, items-in, items-and-node, each-item, sites-append, here-append, gather-light, changeNode-light, changeEach-light, without-fewer, temporary-sites, items-sum, node-sum, shell, shells, shells-append, object-whole, array-here, default-here, gather-shells, gather-here, Object}
 
@@ -232,39 +232,6 @@ module _ (x : ℕ) where
     objects-nothing zero = refl
     objects-nothing (suc d) = refl
 
-    objects-object : (d : ℕ) (p : Node) → shape p ≡ objectPattern
-        → objectsWithRest c (suc d) p ≡ gather (λ q. objectsWithRest c d (value q)) (properties p) +++ cond (hasRest p) (only (withValues (λ v. replaced c d v) p)) none
-    unfolding objectsWithRest
-    objects-object d p e = rw (e, objectsWithRest)
-
-    objects-array : (d : ℕ) (p : Node) → shape p ≡ arrayPattern → objectsWithRest c (suc d) p ≡ gather (λ m. objectsWithRest c d m) (itemsOf p)
-    unfolding objectsWithRest
-    objects-array d p e = rw (e, objectsWithRest)
-
-    objects-default : (d : ℕ) (p : Node) → shape p ≡ default → objectsWithRest c (suc d) p ≡ objectsWithRest c d (leftOf p)
-    unfolding objectsWithRest
-    objects-default d p e = rw (e, objectsWithRest)
-
-    objects-leaf : (d : ℕ) (p : Node) → shape p ≡ leaf → objectsWithRest c (suc d) p ≡ none
-    unfolding objectsWithRest
-    objects-leaf d p e = rw (e, objectsWithRest)
-
-    replaced-object : (d : ℕ) (p : Node) → shape p ≡ objectPattern → replaced c (suc d) p ≡ cond (hasRest p) (reference c p) (withValues (λ v. replaced c d v) p)
-    unfolding replaced
-    replaced-object d p e = rw (e, replaced)
-
-    replaced-array : (d : ℕ) (p : Node) → shape p ≡ arrayPattern → replaced c (suc d) p ≡ withItems (λ v. replaced c d v) p
-    unfolding replaced
-    replaced-array d p e = rw (e, replaced)
-
-    replaced-default : (d : ℕ) (p : Node) → shape p ≡ default → replaced c (suc d) p ≡ withLeft (λ v. replaced c d v) p
-    unfolding replaced
-    replaced-default d p e = rw (e, replaced)
-
-    replaced-leaf : (d : ℕ) (p : Node) → shape p ≡ leaf → replaced c (suc d) p ≡ p
-    unfolding replaced
-    replaced-leaf d p e = rw (e, replaced)
-
     pub objects-sum : (d : ℕ) (p : Node) → sitesItems x (objectsWithRest c d p) + sites x (replaced c d p) ≤ sites x p
     unfolding objectsWithRest replaced
     objects-sum zero p = let z = none-sites in omega arith
@@ -278,8 +245,8 @@ module _ (x : ℕ) where
         let own = withValues f p in
         let a = items-sum x (λ q. h (value q)) (λ q. changeNode 1 f q) (changeNode-light x 1 f (replaced-light d))
         (λ q. node-sum x h f (replaced-light d) (objects-sum d) (objects-nothing d) 1 q) 0 p in
-        let i = ap (sitesItems x) (objects-object d p e) in
-        let j = ap (sites x) (replaced-object d p e) in
+        let i = ap (sitesItems x) (objects-object c d p e) in
+        let j = ap (sites x) (replaced-object c d p e) in
         by-test (hasRest p)
         (λ r.
         let i′ : sitesItems x (objectsWithRest c (suc d) p) ≡ sitesItems x (inner +++ only own) = rw r at i in
@@ -295,17 +262,17 @@ module _ (x : ℕ) where
         omega arith))
         (λ e.
         let a = items-sum x h f (replaced-light d) (objects-sum d) 0 p in
-        let i = ap (sitesItems x) (objects-array d p e) in
-        let j = ap (sites x) (replaced-array d p e) in
+        let i = ap (sitesItems x) (objects-array c d p e) in
+        let j = ap (sites x) (replaced-array c d p e) in
         omega arith)
         (λ e.
         let a = node-sum x h f (replaced-light d) (objects-sum d) (objects-nothing d) 0 p in
-        let i = ap (sitesItems x) (objects-default d p e) in
-        let j = ap (sites x) (replaced-default d p e) in
+        let i = ap (sitesItems x) (objects-default c d p e) in
+        let j = ap (sites x) (replaced-default c d p e) in
         omega arith)
         (λ e.
-        let i = ap (sitesItems x) (objects-leaf d p e) in
-        let j = ap (sites x) (replaced-leaf d p e) in
+        let i = ap (sitesItems x) (objects-leaf c d p e) in
+        let j = ap (sites x) (replaced-leaf c d p e) in
         omega arith)
 
     pub objects-are : (d : ℕ) (p : Node) → AllItems (Object x) (objectsWithRest c d p)

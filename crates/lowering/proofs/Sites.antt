@@ -1,7 +1,7 @@
 -- How often a position is that of a pattern, or of a property of an object pattern, in a tree: the positions that name temporaries.
 -- Every view of a pattern has at most as many such sites as the pattern.
 -- Assumes nothing.
-use mathlib.Core.Path.{_≡_, refl, sym, ap, ap₂, _∙_, subst}
+use mathlib.Core.Path.{_≡_, refl, ap, ap₂}
 use mathlib.Core.Bool.{Bool, true, false, cond, _||_}
 use mathlib.Core.List.{List}
 use Prim.Native.Nat.{ℕ, zero, suc, _+_, _*_, _≤_, _<_}
@@ -13,8 +13,8 @@ use Rattle.tree.specs.Tree.Node.{node}
 use Rattle.tree.specs.Tree.Fields.{done, absent, field}
 use Rattle.tree.specs.Tree.Piece.{one, list, text, byte, mark, number}
 use Rattle.tree.specs.Tree.Items.{none, hole, item}
-use Rattle.lowering.specs.Parts.{nothing, position, kind, is, pieceIn, changeIn, dropIn, asNode, asItems, nodeAt, itemsAt, stands, change, onNode, onItems, changeNode, changeItems, without, only, each, gather, _+++_}
-use Rattle.lowering.specs.Made.{Context, temporary}
+use Rattle.lowering.specs.Parts.{nothing, position, is, pieceIn, changeIn, dropIn, asNode, asItems, nodeAt, itemsAt, change, onNode, onItems, changeNode, changeItems, without, each, gather, _+++_}
+use Rattle.lowering.specs.Made.{temporary}
 use Rattle.lowering.proofs.All.{AllItems, AllPiece, AllFields, Each}
 
 -- 18 Reference and 20 Temporary, which have no parts in a tree

@@ -1,29 +1,28 @@
--- Each temporary that stands in the result, in the tree or in the list, was made by the walk.
+-- Keys, rests, and the declarators of one object pattern: no temporary stands in them but those that are made with them.
 -- Assumes nothing.
-use mathlib.Core.Path.{_≡_, refl, sym, ap, ap₂, _∙_, subst}
-use mathlib.Core.Bool.{Bool, true, false, cond, _&&_, _||_, not, false≢true}
-use mathlib.Core.List.{List, [], _∷_}
-use Prim.Native.Nat.{ℕ, zero, suc, _+_, _*_, _≤_, _<_}
+use mathlib.Core.Path.{_≡_, refl, sym, ap, _∙_, subst}
+use mathlib.Core.Bool.{true, cond}
+use mathlib.Core.List.{List}
+use Prim.Native.Nat.{ℕ, zero, suc, _+_, _*_, _≤_}
 use native.Mathlib.Omega.{arith}
 use lib.Dec.{eqb}
 use borrow.Author.Tests.{eqb-true}
-use Rattle.tree.specs.Tree.{Node, Fields, Piece, Items, depth, depthFields}
+use Rattle.tree.specs.Tree.{Node, Fields, Piece, Items}
 use Rattle.tree.specs.Tree.Node.{node}
 use Rattle.tree.specs.Tree.Fields.{done, absent, field}
-use Rattle.tree.specs.Tree.Piece.{one, list, text, byte, mark, number}
 use Rattle.tree.specs.Tree.Items.{none, hole, item}
-use Rattle.lowering.specs.Parts.{nothing, position, kind, is, pieceIn, changeIn, dropIn, asNode, asItems, nodeAt, itemsAt, textAt, stands, change, onNode, onItems, changeNode, changeItems, without, only, each, gather, any, isEmpty, _+++_}
-use Rattle.lowering.specs.Made.{Context, temporary, reference, valueOf, keyOf, excludedOf, call, S, X, E, W, object, array, sequence, assign, string, declares, declared, idOf, letOf, varOf, assigning, returning, block, functionBody}
-use Rattle.lowering.specs.Patterns.{shape, properties, itemsOf, rest, hasRest, leftOf, key, value, withLeft, withItems, withProperties, withValues, hasObjectRest, hasArrayRestOverObjectRest, replaced, objectsWithRest, replacedBelow, objectsBelow}
-use Rattle.lowering.specs.Patterns.Shape.{objectPattern, arrayPattern, default, leaf}
-use Rattle.lowering.specs.Keys.{keySort, isPrimitive, keyTemporary, keyTemporaries, excludedKey, excludedKeys, allPrimitive, keptKey, taken}
+use Rattle.lowering.specs.Parts.{position, is, pieceIn, changeIn, dropIn, asNode, nodeAt, textAt, change, onNode, onItems, changeNode, without, only, each, gather, _+++_}
+use Rattle.lowering.specs.Made.{Context, temporary, reference, keyOf, excludedOf, call, S, X, E, W, object, array, sequence, assign, string, declares, declared, idOf, letOf, varOf, assigning, returning, block, functionBody}
+use Rattle.lowering.specs.Patterns.{shape, properties, itemsOf, rest, hasRest, leftOf, key, value, withProperties, withValues, replaced, objectsWithRest}
+use Rattle.lowering.specs.Keys.{keySort, keyTemporary, keyTemporaries, excludedKey, excludedKeys, allPrimitive, keptKey, taken}
 use Rattle.lowering.specs.Rests.{hasNoProperties, mapped, isHoisted, keysRead, restValue, excludedFor, restMakes}
-use Rattle.lowering.specs.Declarations.{isName, source, sourceDeclarator, keysBefore, patternDeclarator, restDeclarator, own, nested, nestedBelow, objectDeclarators, patternDeclarators, lowerDeclarator, innerObjects, declaratorMakes, isLowered, declarators, loweredIn, declaration, declarationMakes, declarationExcludes, declarationLacksForm}
-use Rattle.lowering.specs.Collect.{Name, nameOf, same}
-use Rattle.lowering.proofs.All.{AllItems, AllPiece, AllFields, Each, all-append, all-gather, all-each}
+use Rattle.lowering.specs.Declarations.{keysBefore, patternDeclarator, restDeclarator, own, nested}
+use Rattle.lowering.specs.Collect.{Name}
+use Rattle.lowering.proofs.All.{AllItems, all-append, all-gather}
 use Rattle.lowering.proofs.Cases.{by-test, by-shape, by-key, object-is, is-changed}
+use Rattle.lowering.proofs.Clauses.{objects-object, objects-array, objects-default}
 use Rattle.lowering.proofs.Made.{times, times-append, each-append, only-times, none-times}
-use Rattle.lowering.proofs.Occurs.{position-kept, occurs, occursFields, occursPiece, occursItems, fields-in, piece-in, node-in, items-in, items-and-node, Free, each-item, each-part, occurs-append, only-occurs, none-occurs, temporary-occurs, gather-sum, each-more, items-more, node-more, put-more, gathered, refs, ref-times, replaced-more, objects-object, objects-array, objects-default}
+use Rattle.lowering.proofs.Occurs.{position-kept, occurs, occursFields, occursItems, node-in, items-in, Free, each-item, occurs-append, only-occurs, none-occurs, temporary-occurs, items-more, node-more, put-more, gathered, refs, ref-times, replaced-more}
 use Rattle.lowering.proofs.Names.{append-assoc}
 
 -- ---- the keys of a pattern do not depend on its values
@@ -392,7 +391,7 @@ module _ (a : Name) where
         let f : Node → Node = λ v. replaced c d v in
         by-shape (shape p)
         (λ e. rw (e, nested, AllItems)
-        (let u′ = subst Unmade (objects-object a c d p e) u in
+        (let u′ = subst Unmade (objects-object c d p e) u in
         let s = unmade-split (gather (λ q. objectsWithRest c d (value q)) (properties p)) (cond (hasRest p) (only (withValues f p)) none) u′ in
         all-append (Free a) (cond (hasRest p) (own c (withValues f p) (reference c p)) none) (gather (λ q. nested c d (value q)) (properties p))
         (by-test (hasRest p)
@@ -406,7 +405,7 @@ module _ (a : Name) where
         (λ e. rw (e, nested, AllItems)
         (all-gather (λ q. (occurs a q ≡ 0) × Unmade (objectsWithRest c d q)) (Free a) (λ q. nested c d q)
         (λ q g. nested-free d q (g .0) (g .1)) (itemsOf p)
-        (unmade-each (λ q. objectsWithRest c d q) (itemsOf p) (omega arith) (subst Unmade (objects-array a c d p e) u))))
+        (unmade-each (λ q. objectsWithRest c d q) (itemsOf p) (omega arith) (subst Unmade (objects-array c d p e) u))))
         (λ e. rw (e, nested, AllItems)
-        (let n = node-in a 0 p in nested-free d (leftOf p) (omega arith) (subst Unmade (objects-default a c d p e) u)))
+        (let n = node-in a 0 p in nested-free d (leftOf p) (omega arith) (subst Unmade (objects-default c d p e) u)))
         (λ e. rw (e, nested, AllItems) tt)

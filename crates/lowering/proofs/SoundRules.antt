@@ -1,38 +1,28 @@
 -- A rewriting puts no temporary into the tree, the entries or the excluded keys but those that it makes.
 -- Assumes nothing.
-use mathlib.Core.Path.{_≡_, refl, sym, ap, ap₂, _∙_, subst}
-use mathlib.Core.Bool.{Bool, true, false, cond, _&&_, _||_, not, false≢true}
-use mathlib.Core.List.{List, [], _∷_}
-use Prim.Native.Nat.{ℕ, zero, suc, _+_, _*_, _≤_, _<_}
+use mathlib.Core.Path.{_≡_, refl, sym, ap, ap₂, _∙_}
+use mathlib.Core.Bool.{true}
+use mathlib.Core.List.{[]}
+use Prim.Native.Nat.{ℕ, zero, suc, _+_, _≤_}
 use native.Mathlib.Omega.{arith}
-use lib.Dec.{eqb}
-use Rattle.tree.specs.Tree.{Node, Fields, Piece, Items, depth, depthFields, depthItems}
+use Rattle.tree.specs.Tree.{Node, Fields, Piece, Items, depth}
 use Rattle.tree.specs.Tree.Node.{node}
 use Rattle.tree.specs.Tree.Fields.{done, absent, field}
 use Rattle.tree.specs.Tree.Piece.{one, list, text, byte, mark, number}
 use Rattle.tree.specs.Tree.Items.{none, hole, item}
-use Rattle.lowering.specs.Parts.{nothing, position, kind, is, pieceIn, changeIn, asNode, asItems, nodeAt, itemsAt, stands, change, onNode, onItems, changeNode, changeItems, only, each, gather, any, _+++_}
-use Rattle.lowering.specs.Made.{Context, temporary, reference, valueOf, keyOf, S, object, sequence, assign, declares, declared, idOf, letOf, varOf, assigning, returning, block, functionBody}
-use Rattle.lowering.specs.Patterns.{shape, properties, itemsOf, rest, hasRest, leftOf, key, value, withLeft, withItems, withValues, hasObjectRest, hasArrayRestOverObjectRest, replaced, objectsWithRest, replacedBelow, objectsBelow}
-use Rattle.lowering.specs.Patterns.Shape.{objectPattern, arrayPattern, default, leaf}
-use Rattle.lowering.specs.Keys.{Key, keySort, keyTemporary, keyTemporaries, taken}
+use Rattle.lowering.specs.Parts.{position, is, pieceIn, changeIn, asNode, asItems, nodeAt, itemsAt, stands, change, onNode, onItems, changeNode, changeItems, only, each, gather, any, _+++_}
+use Rattle.lowering.specs.Made.{Context, temporary, reference, S, declares, letOf, varOf, assigning}
+use Rattle.lowering.specs.Patterns.{properties, key, withValues, hasObjectRest}
+use Rattle.lowering.specs.Keys.{keySort, keyTemporary, keyTemporaries}
 use Rattle.lowering.specs.Keys.Key.{name, literal, template, private, again, other}
-use Rattle.lowering.specs.Rests.{hasNoProperties, restValue, excludedFor, restMakes}
 use Rattle.lowering.specs.Literals.{Call, opened, closed, scan}
 use Rattle.lowering.specs.Literals.Call.{no-call}
-use Rattle.lowering.specs.Declarations.{isName, source, sourceDeclarator, keysBefore, patternDeclarator, restDeclarator, nested, nestedBelow, objectDeclarators, patternDeclarators, lowerDeclarator, innerObjects, declaratorMakes, isLowered, declarators, loweredIn, declaration, declarationMakes, declarationExcludes, declarationLacksForm}
-use Rattle.lowering.specs.Assignments.{isTop, target, assigned, restsThroughObjects, restsOf, withoutRests, targetLeft, topSequence, topEntry, topExcludes, topMakes, topLacksForm, nestedSequence, nestedEntry, nestedMakes}
-use Rattle.lowering.specs.Heads.{moved, movedPattern, movedOut, isMoved, movedFrom, leftBehind, inFront, inBody, asFunctionBody, asBlock, references, function, functionMakes, arrow, arrowMakes, catch, catchMakes, declaringHead, declaringMakes, assigningHead, assigningMakes}
-use Rattle.lowering.specs.Walk.{Step, ruleOf, rewrite, stepDeclaration, stepTop, stepAssignment, stepFor}
+use Rattle.lowering.specs.Heads.{moved, movedPattern, movedOut, isMoved, movedFrom, leftBehind, inFront, inBody, asFunctionBody, asBlock, function, functionMakes, arrow, arrowMakes, catch, catchMakes, declaringHead, declaringMakes, assigningHead, assigningMakes}
 use Rattle.lowering.specs.Collect.{Name}
-use Rattle.lowering.proofs.All.{AllItems, all-append, all-gather, all-each, weaker-items}
-use Rattle.lowering.proofs.Cases.{by-test, by-shape, by-rule, object-is, is-changed}
-use Rattle.lowering.proofs.WeightKeys.{rest-changed}
-use Rattle.lowering.proofs.Levels.{items-depth, gather-agrees, values-agree, objects-levels, replaced-levels, objects-nothing}
-use Rattle.lowering.proofs.Levels.{node-in as levels-node-in}
-use Rattle.lowering.proofs.Made.{times, times-append, each-append, only-times, none-times, entry-refs, entry-times}
-use Rattle.lowering.proofs.Occurs.{position-kept, occurs, occursFields, occursPiece, occursItems, fields-in, piece-in, node-in, items-in, Free, each-item, occurs-append, only-occurs, none-occurs, nothing-occurs, temporary-occurs, change-more, on-node, on-items, each-more, items-more, node-more, gathered, refs, ref-times, objects-sum, replaced-more, objects-object, gather-less, moved-occurs, movedPattern-occurs, movedOut-more}
-use Rattle.lowering.proofs.Sound.{key-kept, gather-append, S-occurs, object-occurs, assign-occurs, declares-occurs, declared-occurs, let-occurs, var-occurs, assigning-occurs, block-occurs, returned-occurs, all-free, gather-zero, keys-free, taken-more, rest-split, rest-free, excluded-free, keysBefore-free, pattern-free, restDeclarator-free, Unmade, unmade-split, unmade-each, one-made, shell-free, nested-free}
+use Rattle.lowering.proofs.Cases.{by-test}
+use Rattle.lowering.proofs.Made.{times, only-times}
+use Rattle.lowering.proofs.Occurs.{position-kept, occurs, occursFields, occursPiece, occursItems, node-in, items-in, Free, occurs-append, only-occurs, none-occurs, temporary-occurs, change-more, on-node, on-items, each-more, node-more, gathered, refs, gather-less, moved-occurs, movedPattern-occurs, movedOut-more}
+use Rattle.lowering.proofs.Sound.{key-kept, gather-append, S-occurs, object-occurs, let-occurs, var-occurs, assigning-occurs, block-occurs, returned-occurs}
 
 -- ---- the keys of a pattern do not depend on its values
 

@@ -1,34 +1,33 @@
 -- Declarations and assignments put no temporary into the tree, the entries or the excluded keys but those that they make; and so no
 -- rewriting does.
 -- Assumes nothing.
-use mathlib.Core.Path.{_≡_, refl, sym, ap, ap₂, _∙_, subst}
-use mathlib.Core.Bool.{Bool, true, false, cond, _&&_, _||_, not, false≢true}
-use mathlib.Core.List.{List, [], _∷_}
-use Prim.Native.Nat.{ℕ, zero, suc, _+_, _*_, _≤_, _<_}
+use mathlib.Core.Path.{_≡_, refl, sym, ap, ap₂, _∙_}
+use mathlib.Core.Bool.{Bool, true, false, cond}
+use Prim.Native.Nat.{ℕ, zero, suc, _+_, _≤_}
 use native.Mathlib.Omega.{arith}
-use lib.Dec.{eqb}
-use Rattle.tree.specs.Tree.{Node, Fields, Piece, Items, depth, depthFields, depthItems}
+use Rattle.tree.specs.Tree.{Node, Piece, Items, depth, depthFields}
 use Rattle.tree.specs.Tree.Node.{node}
 use Rattle.tree.specs.Tree.Items.{none, hole, item}
-use Rattle.lowering.specs.Parts.{nothing, position, kind, is, pieceIn, nodeAt, itemsAt, stands, change, onNode, onItems, changeNode, changeItems, only, each, gather, any, _+++_}
-use Rattle.lowering.specs.Made.{Context, temporary, reference, valueOf, sequence, assign, declares, declared, idOf}
-use Rattle.lowering.specs.Patterns.{shape, properties, itemsOf, rest, hasRest, leftOf, key, value, withLeft, withValues, hasObjectRest, hasArrayRestOverObjectRest, replaced, objectsWithRest, replacedBelow, objectsBelow}
+use Rattle.lowering.specs.Parts.{nothing, position, kind, is, pieceIn, nodeAt, itemsAt, onItems, changeNode, only, each, gather, _+++_}
+use Rattle.lowering.specs.Made.{Context, reference, valueOf, sequence, assign, declares, declared, idOf}
+use Rattle.lowering.specs.Patterns.{shape, properties, rest, hasRest, leftOf, value, withLeft, withValues, hasObjectRest, hasArrayRestOverObjectRest, replaced, objectsWithRest, replacedBelow, objectsBelow}
 use Rattle.lowering.specs.Patterns.Shape.{objectPattern, arrayPattern, default, leaf}
 use Rattle.lowering.specs.Keys.{keyTemporaries, taken}
 use Rattle.lowering.specs.Rests.{hasNoProperties, restValue, excludedFor, restMakes}
-use Rattle.lowering.specs.Declarations.{isName, source, sourceDeclarator, keysBefore, patternDeclarator, restDeclarator, nested, nestedBelow, objectDeclarators, patternDeclarators, lowerDeclarator, innerObjects, declaratorMakes, isLowered, declarators, loweredIn, declaration, declarationMakes, declarationExcludes, declarationLacksForm}
+use Rattle.lowering.specs.Declarations.{isName, source, sourceDeclarator, keysBefore, patternDeclarator, restDeclarator, nestedBelow, objectDeclarators, patternDeclarators, lowerDeclarator, innerObjects, declaratorMakes, isLowered, declarators, loweredIn, declaration, declarationMakes, declarationExcludes, declarationLacksForm}
 use Rattle.lowering.specs.Assignments.{isTop, target, assigned, restsThroughObjects, restsOf, withoutRests, targetLeft, topSequence, topEntry, topExcludes, topMakes, topLacksForm, nestedSequence, nestedEntry, nestedMakes}
 use Rattle.lowering.specs.Heads.{function, functionMakes, arrow, arrowMakes, catch, catchMakes, declaringHead, declaringMakes, assigningHead, assigningMakes}
-use Rattle.lowering.specs.Walk.{Note, Step, rewritten, ruleOf, rewrite, stepDeclaration, stepTop, stepAssignment, stepFor}
+use Rattle.lowering.specs.Walk.{Step, rewritten, ruleOf, rewrite, stepDeclaration, stepTop, stepAssignment, stepFor}
 use Rattle.lowering.specs.Collect.{Name}
-use Rattle.lowering.proofs.All.{AllItems, all-append, all-gather, all-each, weaker-items}
+use Rattle.lowering.proofs.All.{AllItems, all-gather}
 use Rattle.lowering.proofs.Cases.{by-test, by-shape, by-rule, object-is, is-changed}
 use Rattle.lowering.proofs.WeightKeys.{rest-changed}
 use Rattle.lowering.proofs.Levels.{items-depth, gather-agrees, values-agree, objects-levels, replaced-levels, objects-nothing}
 use Rattle.lowering.proofs.Levels.{node-in as levels-node-in}
-use Rattle.lowering.proofs.Made.{times, times-append, each-append, only-times, none-times, entry-refs, entry-times}
-use Rattle.lowering.proofs.Occurs.{position-kept, occurs, occursItems, node-in, items-in, Free, each-item, occurs-append, only-occurs, none-occurs, nothing-occurs, temporary-occurs, items-more, node-more, gathered, refs, ref-times, objects-sum, replaced-more, objects-object}
-use Rattle.lowering.proofs.Sound.{gather-append, assign-occurs, declares-occurs, declared-occurs, all-free, gather-zero, keys-free, taken-more, rest-split, rest-free, excluded-free, keysBefore-free, pattern-free, restDeclarator-free, Unmade, unmade-split, unmade-each, one-made, nested-free}
+use Rattle.lowering.proofs.Clauses.{objects-object}
+use Rattle.lowering.proofs.Made.{times, times-append, each-append, only-times, entry-refs, entry-times}
+use Rattle.lowering.proofs.Occurs.{occurs, occursItems, node-in, items-in, Free, each-item, occurs-append, only-occurs, none-occurs, nothing-occurs, temporary-occurs, items-more, node-more, gathered, refs, objects-sum, replaced-more}
+use Rattle.lowering.proofs.Sound.{gather-append, assign-occurs, declares-occurs, declared-occurs, all-free, gather-zero, keys-free, taken-more, rest-split, rest-free, excluded-free, keysBefore-free, pattern-free, restDeclarator-free, Unmade, unmade-each, one-made, nested-free}
 use Rattle.lowering.proofs.SoundRules.{gather-gather, keys-value, items-free-at, node-free-at, literal-free, function-free, arrow-free, catch-free, declaring-free, assigning-free}
 
 module _ (a : Name) where
@@ -40,7 +39,19 @@ module _ (a : Name) where
   unfolding occurs
   item-occurs n is = omega arith
 
+  no-ids : times a (each idOf none) ≡ 0
+  unfolding each times
+  no-ids = refl
+
+  last-free : (t : Node) (b : Bool) → Free a t → occursItems a (cond b none (only t)) ≡ 0
+  last-free t true f = none-occurs a
+  last-free t false f = let o = only-occurs a t in omega arith
+
   module _ (c : Context) where
+    taken-none : (p : Node) → hasRest p ≡ false → taken c p ≡ p
+    unfolding taken
+    taken-none p r = rw r
+
     -- ---- the objects below an object pattern: those below its values, and itself
 
     below-object : (p : Node) → shape p ≡ objectPattern
@@ -50,7 +61,7 @@ module _ (a : Name) where
         let p = node at k fs in
         let d = depthFields fs in
         let i = items-depth 0 p in
-        objects-object a c d p e
+        objects-object c d p e
         ∙ ap₂ (λ (x : Items) (y : Node). x +++ cond (hasRest p) (only y) none)
         (gather-agrees (λ q. objectsWithRest c d (value q)) (λ q. objectsBelow c (value q)) d
         (λ q l.
@@ -260,3 +271,338 @@ module _ (a : Name) where
         (λ e. let i = ap (λ (is : Items). times a (refs a c is)) (inner-array p e) in omega arith)
         (λ e. let i = ap (λ (is : Items). times a (refs a c is)) (inner-default p e) in omega arith)
         (λ e. objects-leaf p e)
+
+    -- ---- declarations
+
+    excluded-all : (os : Items) → occursItems a os ≡ 0 → times a (gather (restMakes c) os) ≡ 0 → occursItems a (gather (excludedFor c) os) ≡ 0
+    excluded-all os y z = gather-zero a (excludedFor c) (restMakes c) (λ o u v. excluded-free a c o u v) os y z
+
+    abbrev makesOf : Node → Items
+    makesOf d = cond (isLowered d) (declaratorMakes c (nodeAt 0 d) (nodeAt 1 d)) none
+
+    declarators-free : (d : Node) → Free a d → times a (makesOf d) ≡ 0 → occursItems a (declarators c d) ≡ 0
+    unfolding declarators
+    declarators-free d f z =
+        let n = node-in a 0 d in
+        let m = node-in a 1 d in
+        by-test (isLowered d)
+        (λ e. let z′ : times a (declaratorMakes c (nodeAt 0 d) (nodeAt 1 d)) ≡ 0 = rw e at z in
+        rw e (lowered-free (nodeAt 0 d) (nodeAt 1 d) (omega arith) (omega arith) z′))
+        (λ e. rw e (let o = only-occurs a d in omega arith))
+
+    excludes-free : (d : Node) → Free a d → times a (makesOf d) ≡ 0 → occursItems a (gather (excludedFor c) (loweredIn c d)) ≡ 0
+    unfolding loweredIn gather
+    excludes-free d f z =
+        let n = node-in a 0 d in
+        by-test (isLowered d)
+        (λ e.
+        let z′ : times a (declaratorMakes c (nodeAt 0 d) (nodeAt 1 d)) ≡ 0 = rw e at z in
+        let s = makes-split (nodeAt 0 d) (nodeAt 1 d) in
+        rw e (excluded-all (objectsBelow c (nodeAt 0 d)) (objects-free (nodeAt 0 d) (nodeAt 1 d) (omega arith) z′) (omega arith)))
+        (λ e. rw e (none-occurs a))
+
+    declaration-free : (n : Node) → Free a n → times a (declarationMakes c n) ≡ 0 → Free a (declaration c n)
+    unfolding declaration declarationMakes
+    declaration-free n f z =
+        let i = items-in a 2 n in
+        items-free-at a 2 (gather (declarators c)) n f (gather-zero a (declarators c) makesOf declarators-free (itemsAt 2 n) (omega arith) z)
+
+    declarationExcludes-free : (n : Node) → Free a n → times a (declarationMakes c n) ≡ 0 → occursItems a (declarationExcludes c n) ≡ 0
+    unfolding declarationExcludes declarationMakes
+    declarationExcludes-free n f z =
+        let i = items-in a 2 n in
+        gather-zero a (λ d. gather (excludedFor c) (loweredIn c d)) makesOf excludes-free (itemsAt 2 n) (omega arith) z
+
+    -- ---- assignments to an object with rest
+
+    gather-free : (h : Node → Items) → ((n : Node) → Free a n → occursItems a (h n) ≡ 0) → (is : Items) → occursItems a is ≡ 0 → occursItems a (gather h is) ≡ 0
+    unfolding gather occurs
+    gather-free h free none z = refl
+    gather-free h free (hole is) z = gather-free h free is z
+    gather-free h free (item n is) z =
+        let u = gather-free h free is (omega arith) in
+        let v = free n (omega arith) in
+        let w = occurs-append a (h n) (gather h is) in
+        omega arith
+
+    rests-free : (d : ℕ) (p : Node) → Free a p → occursItems a (restsThroughObjects d p) ≡ 0
+    unfolding restsThroughObjects
+    rests-free zero p f = none-occurs a
+    rests-free (suc d) p f =
+        let i = items-in a 0 p in
+        let o = only-occurs a p in
+        let n = none-occurs a in
+        by-shape (shape p)
+        (λ e. rw (e, restsThroughObjects)
+        (let inner = gather (λ q. restsThroughObjects d (value q)) (properties p) in
+        let u = gather-free (λ q. restsThroughObjects d (value q)) (λ q g. let v = node-in a 1 q in rests-free d (value q) (omega arith)) (properties p) (omega arith) in
+        by-test (hasRest p)
+        (λ r. rw r (let w = occurs-append a inner (only p) in omega arith))
+        (λ r. rw r (let w = occurs-append a inner none in omega arith))))
+        (λ e. rw (e, restsThroughObjects) n)
+        (λ e. rw (e, restsThroughObjects) (let v = node-in a 0 p in rests-free d (leftOf p) (omega arith)))
+        (λ e. rw (e, restsThroughObjects) n)
+
+    -- what is made for rests: keys, and excluded keys
+    rests-split : (ps : Items) → times a (gather (restMakes c) ps) ≡ times a (each idOf (gather (keyTemporaries c) ps)) + times a (each idOf (gather (excludedFor c) ps))
+    unfolding gather each times
+    rests-split none = refl
+    rests-split (hole ps) = rests-split ps
+    rests-split (item p ps) =
+        let h = rests-split ps in
+        let r = rest-split a c p in
+        let g = times-append a (restMakes c p) (gather (restMakes c) ps) in
+        let s = ap (times a) (each-append idOf (keyTemporaries c p) (gather (keyTemporaries c) ps)) in
+        let t = times-append a (each idOf (keyTemporaries c p)) (each idOf (gather (keyTemporaries c) ps)) in
+        let u = ap (times a) (each-append idOf (excludedFor c p) (gather (excludedFor c) ps)) in
+        let v = times-append a (each idOf (excludedFor c p)) (each idOf (gather (excludedFor c) ps)) in
+        omega arith
+
+    -- the keys made for the rests below p
+    abbrev below : ℕ → Node → Items
+    below d p = each idOf (gather (keyTemporaries c) (restsThroughObjects d p))
+
+    rests-object : (d : ℕ) (p : Node) → shape p ≡ objectPattern
+        → restsThroughObjects (suc d) p ≡ gather (λ q. restsThroughObjects d (value q)) (properties p) +++ cond (hasRest p) (only p) none
+    unfolding restsThroughObjects
+    rests-object d p e = rw (e, restsThroughObjects)
+
+    rests-default : (d : ℕ) (p : Node) → shape p ≡ default → restsThroughObjects (suc d) p ≡ restsThroughObjects d (leftOf p)
+    unfolding restsThroughObjects
+    rests-default d p e = rw (e, restsThroughObjects)
+
+    without-object : (d : ℕ) (p : Node) → shape p ≡ objectPattern → withoutRests c (suc d) p ≡ taken c (withValues (λ v. withoutRests c d v) p)
+    unfolding withoutRests
+    without-object d p e = rw (e, withoutRests)
+
+    without-default : (d : ℕ) (p : Node) → shape p ≡ default → withoutRests c (suc d) p ≡ withLeft (λ v. withoutRests c d v) p
+    unfolding withoutRests
+    without-default d p e = rw (e, withoutRests)
+
+    without-other : (d : ℕ) (p : Node) → (shape p ≡ arrayPattern → withoutRests c (suc d) p ≡ p) × (shape p ≡ leaf → withoutRests c (suc d) p ≡ p)
+    unfolding withoutRests
+    without-other d p = ((λ e. rw (e, withoutRests)), (λ e. rw (e, withoutRests)))
+
+    -- keys of the values, and of the object itself
+    below-split : (d : ℕ) (p : Node) (ps : Items) → times a (each idOf (gather (keyTemporaries c) (gather (λ q. restsThroughObjects d (value q)) (properties p) +++ ps)))
+        ≡ times a (gather (λ q. below d (value q)) (properties p)) + times a (each idOf (gather (keyTemporaries c) ps))
+    below-split d p ps =
+        let h : Node → Items = λ q. restsThroughObjects d (value q) in
+        let inner = gather h (properties p) in
+        let g = ap (λ (is : Items). times a (each idOf is)) (gather-append (keyTemporaries c) inner ps) in
+        let s = ap (times a) (each-append idOf (gather (keyTemporaries c) inner) (gather (keyTemporaries c) ps)) in
+        let t = times-append a (each idOf (gather (keyTemporaries c) inner)) (each idOf (gather (keyTemporaries c) ps)) in
+        let k = ap (λ (is : Items). times a (each idOf is)) (gather-gather (keyTemporaries c) h (properties p)) in
+        let m = gathered a idOf (λ q. gather (keyTemporaries c) (h q)) (properties p) in
+        omega arith
+
+    only-keys : (p : Node) → times a (each idOf (gather (keyTemporaries c) (only p))) ≡ times a (each idOf (keyTemporaries c p))
+    unfolding gather
+    only-keys p =
+        let s = ap (times a) (each-append idOf (keyTemporaries c p) none) in
+        let t = times-append a (each idOf (keyTemporaries c p)) (each idOf none) in
+        let z = no-ids in
+        omega arith
+
+    without-more : (d : ℕ) (p : Node) → occurs a (withoutRests c d p) ≤ occurs a p + times a (below d p)
+    unfolding withoutRests
+    without-more zero p = omega arith
+    without-more (suc d) p =
+        let f : Node → Node = λ v. withoutRests c d v in
+        by-shape (shape p)
+        (λ e.
+        let w = withValues f p in
+        let h : Piece → Piece = onItems (each (λ y. changeNode 1 f y)) in
+        let u = items-more a (λ q. changeNode 1 f q) (λ q. below d (value q)) (λ q. node-more a f (λ v. below d v) (without-more d) 1 q) 0 p in
+        let k = ap (λ (is : Items). times a (each idOf is)) (keys-value c f p) in
+        let o = ap (occurs a) (without-object d p e) in
+        let b = ap (λ (is : Items). times a (each idOf (gather (keyTemporaries c) is))) (rests-object d p e) in
+        let s = below-split d p (cond (hasRest p) (only p) none) in
+        by-test (hasRest p)
+        (λ r.
+        let t = taken-more a c w (is-changed 0 h p 34 ∙ object-is p e) in
+        let x = only-keys p in
+        let s′ : times a (each idOf (gather (keyTemporaries c) (gather (λ q. restsThroughObjects d (value q)) (properties p) +++ cond (hasRest p) (only p) none)))
+        ≡ times a (gather (λ q. below d (value q)) (properties p)) + times a (each idOf (gather (keyTemporaries c) (only p))) =
+        s ∙ ap (λ (t : Bool). times a (gather (λ q. below d (value q)) (properties p)) + times a (each idOf (gather (keyTemporaries c) (cond t (only p) none)))) r in
+        omega arith)
+        (λ r.
+        let t = ap (occurs a) (taken-none w (rest-changed 0 h p ∙ r)) in
+        omega arith))
+        (λ e. let o = ap (occurs a) (without-other d p .0 e) in omega arith)
+        (λ e.
+        let u = node-more a f (λ v. below d v) (without-more d) 0 p in
+        let o = ap (occurs a) (without-default d p e) in
+        let b = ap (λ (is : Items). times a (each idOf (gather (keyTemporaries c) is))) (rests-default d p e) in
+        omega arith)
+        (λ e. let o = ap (occurs a) (without-other d p .1 e) in omega arith)
+
+    -- the assignments of the rests
+    assigned-free : (t : Node) → Free a t → (ps : Items) → occursItems a ps ≡ 0 → times a (gather (restMakes c) ps) ≡ 0 → occursItems a (each (λ p. assign (rest p) (restValue c p t)) ps) ≡ 0
+    unfolding gather each occurs
+    assigned-free t f none y z = refl
+    assigned-free t f (hole ps) y z = assigned-free t f ps y z
+    assigned-free t f (item p ps) y z =
+        let g = times-append a (restMakes c p) (gather (restMakes c) ps) in
+        let u = assigned-free t f ps (omega arith) (omega arith) in
+        let v = rest-free a c p t (omega arith) f (omega arith) in
+        let w = assign-occurs a (rest p) (restValue c p t) in
+        let n = node-in a 1 p in
+        omega arith
+
+    top-split : (n : Node) → times a (topMakes c n)
+        ≡ occurs a (valueOf c (target n)) + (times a (each idOf (gather (keyTemporaries c) (restsOf n))) + times a (each idOf (gather (excludedFor c) (restsOf n))))
+    unfolding topMakes topExcludes
+    top-split n =
+        let s = times-append a (each idOf (topEntry c n)) (each idOf (gather (excludedFor c) (restsOf n))) in
+        let t = entry-times a c n in
+        let u = temporary-occurs a (c .path) 3 (position (target n)) in
+        omega arith
+
+    top-free : (n : Node) → Free a n → times a (topMakes c n) ≡ 0 → Free a (topSequence c n)
+    unfolding topSequence
+    top-free n f z =
+        let p = target n in
+        let t = valueOf c p in
+        let s = top-split n in
+        let r = rests-split (restsOf n) in
+        let i = node-in a 1 n in
+        let j = node-in a 2 n in
+        let w = without-more (depth p) p in
+        let y = rests-free (depth p) p (omega arith) in
+        let v = assigned-free t (omega arith) (restsOf n) y (omega arith) in
+        let d = assign-occurs a t (assigned n) in
+        let e = assign-occurs a (targetLeft c n) t in
+        let rs = each (λ q. assign (rest q) (restValue c q t)) (restsOf n) in
+        let last = cond (c .statement) none (only t) in
+        let k = occurs-append a rs last in
+        let l = last-free t (c .statement) (omega arith) in
+        let m = sequence-occurs (item (assign t (assigned n)) (item (assign (targetLeft c n) t) (rs +++ last))) in
+        let o = item-occurs (assign t (assigned n)) (item (assign (targetLeft c n) t) (rs +++ last)) in
+        let q = item-occurs (assign (targetLeft c n) t) (rs +++ last) in
+        omega arith
+
+    topEntry-free : (n : Node) → Free a n → times a (topMakes c n) ≡ 0 → occursItems a (topEntry c n) ≡ 0
+    unfolding topEntry
+    topEntry-free n f z =
+        let s = top-split n in
+        let i = node-in a 1 n in
+        let y = rests-free (depth (target n)) (target n) (omega arith) in
+        let g = gathered a idOf (keyTemporaries c) (restsOf n) in
+        let k = gather-zero a (keyTemporaries c) (λ p. each idOf (keyTemporaries c p)) (λ p u v. keys-free a c p u v) (restsOf n) y (omega arith) in
+        let d = declared-occurs a (valueOf c (target n)) in
+        let o = item-occurs (declared (valueOf c (target n))) (gather (keyTemporaries c) (restsOf n)) in
+        omega arith
+
+    topExcludes-free : (n : Node) → Free a n → times a (topMakes c n) ≡ 0 → occursItems a (topExcludes c n) ≡ 0
+    unfolding topExcludes
+    topExcludes-free n f z =
+        let s = top-split n in
+        let r = rests-split (restsOf n) in
+        let i = node-in a 1 n in
+        excluded-all (restsOf n) (rests-free (depth (target n)) (target n) (omega arith)) (omega arith)
+
+    -- ---- other assignments
+
+    refs-assigned : (ps : Items) → occursItems a ps ≡ 0 → times a (refs a c ps) ≡ 0 → occursItems a (each (λ p. assign p (reference c p)) ps) ≡ 0
+    unfolding each occurs times
+    refs-assigned none y z = refl
+    refs-assigned (hole ps) y z = refs-assigned ps y z
+    refs-assigned (item p ps) y z =
+        let u = refs-assigned ps (omega arith) (omega arith) in
+        let t = temporary-occurs a (c .path) 1 (position p) in
+        let w = assign-occurs a p (reference c p) in
+        omega arith
+
+    refs-declared : (ps : Items) → times a (refs a c ps) ≡ 0 → occursItems a (each (λ p. declared (reference c p)) ps) ≡ 0
+    unfolding each occurs times
+    refs-declared none z = refl
+    refs-declared (hole ps) z = refs-declared ps z
+    refs-declared (item p ps) z =
+        let u = refs-declared ps (omega arith) in
+        let t = temporary-occurs a (c .path) 1 (position p) in
+        let w = declared-occurs a (reference c p) in
+        omega arith
+
+    nested-times : (n : Node) → times a (nestedMakes c n) ≡ times a (refs a c (objectsBelow c (target n)))
+    unfolding nestedMakes nestedEntry
+    nested-times n = ap (times a) (entry-refs a c (objectsBelow c (target n)))
+
+    nestedSequence-free : (n : Node) → Free a n → times a (nestedMakes c n) ≡ 0 → Free a (nestedSequence c n)
+    unfolding nestedSequence
+    nestedSequence-free n f z =
+        let p = target n in
+        let t = nested-times n in
+        let i = node-in a 1 n in
+        let s = objects-sum a c (depth p) p in
+        let u = node-free-at a 1 (λ q. replacedBelow c q) n f (omega arith) in
+        let os = each (λ q. assign q (reference c q)) (objectsBelow c p) in
+        let v = refs-assigned (objectsBelow c p) (omega arith) (omega arith) in
+        let m = sequence-occurs (item (changeNode 1 (λ q. replacedBelow c q) n) os) in
+        let o = item-occurs (changeNode 1 (λ q. replacedBelow c q) n) os in
+        omega arith
+
+    nestedEntry-free : (n : Node) → times a (nestedMakes c n) ≡ 0 → occursItems a (nestedEntry c n) ≡ 0
+    unfolding nestedEntry
+    nestedEntry-free n z = let t = nested-times n in refs-declared (objectsBelow c (target n)) (omega arith)
+
+    -- ---- one rewriting
+
+    abbrev pub Sound : Step → Type 0
+    Sound s = (Free a (s .result)) × (occursItems a (s .note .entry) ≡ 0) × (occursItems a (s .note .excluded) ≡ 0)
+
+    abbrev IfUnmade : Step → Type 0
+    IfUnmade s = times a (s .note .made) ≡ 0 → Sound s
+
+    quiet : (made : Items) (r : Node) → (times a made ≡ 0 → Free a r) → IfUnmade (rewritten made r)
+    quiet made r h z = (h z, none-occurs a, none-occurs a)
+
+    declarations-sound : (n : Node) → Free a n → IfUnmade (stepDeclaration c n)
+    unfolding stepDeclaration
+    declarations-sound n f =
+        by-test (declarationLacksForm c n)
+        (λ e. rw (e, stepDeclaration) (λ z. (nothing-occurs a, none-occurs a, none-occurs a)))
+        (λ e. rw (e, stepDeclaration) (λ z. (declaration-free n f z, none-occurs a, declarationExcludes-free n f z)))
+
+    tops-sound : (n : Node) → Free a n → IfUnmade (stepTop c n)
+    unfolding stepTop
+    tops-sound n f =
+        by-test (topLacksForm n)
+        (λ e. rw (e, stepTop) (λ z. (nothing-occurs a, none-occurs a, none-occurs a)))
+        (λ e. rw (e, stepTop) (λ z. (top-free n f z, topEntry-free n f z, topExcludes-free n f z)))
+
+    assignments-sound : (n : Node) → Free a n → IfUnmade (stepAssignment c n)
+    unfolding stepAssignment
+    assignments-sound n f =
+        by-test (hasArrayRestOverObjectRest (target n))
+        (λ e. rw (e, stepAssignment) (λ z. (nothing-occurs a, none-occurs a, none-occurs a)))
+        (λ e. rw (e, stepAssignment)
+        (by-test (isTop (target n))
+        (λ t. rw t (tops-sound n f))
+        (λ t. rw t
+        (by-test (hasObjectRest (target n))
+        (λ r. rw r (λ z. (nestedSequence-free n f z, nestedEntry-free n z, none-occurs a)))
+        (λ r. rw r (λ z. (f, none-occurs a, none-occurs a)))))))
+
+    fors-sound : (n : Node) → Free a n → IfUnmade (stepFor c n)
+    unfolding stepFor
+    fors-sound n f =
+        by-test (is 4 (nodeAt 1 n))
+        (λ d. rw (d, stepFor) (quiet (declaringMakes c n) (declaringHead c n) (declaring-free a c n f)))
+        (λ d. rw (d, stepFor)
+        (by-test (hasArrayRestOverObjectRest (nodeAt 1 n))
+        (λ e. rw e (λ z. (nothing-occurs a, none-occurs a, none-occurs a)))
+        (λ e. rw e (quiet (assigningMakes c n) (assigningHead c n) (assigning-free a c n f)))))
+
+    pub rewrite-sound : (n : Node) → Free a n → IfUnmade (rewrite c n)
+    unfolding rewrite
+    rewrite-sound n f =
+        by-rule (ruleOf (kind n))
+        (λ e. rw (e, rewrite) (λ z. (literal-free a n f, none-occurs a, none-occurs a)))
+        (λ e. rw (e, rewrite) (declarations-sound n f))
+        (λ e. rw (e, rewrite) (assignments-sound n f))
+        (λ e. rw (e, rewrite) (quiet (functionMakes c n) (function c n) (function-free a c n f)))
+        (λ e. rw (e, rewrite) (quiet (arrowMakes c n) (arrow c n) (arrow-free a c n f)))
+        (λ e. rw (e, rewrite) (quiet (catchMakes c n) (catch c n) (catch-free a c n f)))
+        (λ e. rw (e, rewrite) (fors-sound n f))
+        (λ e. rw (e, rewrite) (λ z. (f, none-occurs a, none-occurs a)))

@@ -1,19 +1,19 @@
 -- Patterns seen through views: once its objects with rest are replaced, none is left to be found.
 -- Assumes nothing.
-use mathlib.Core.Path.{_≡_, refl, sym, ap, ap₂, _∙_, subst}
-use mathlib.Core.Bool.{Bool, true, false, cond, _||_}
+use mathlib.Core.Path.{_≡_, refl, ap, _∙_}
+use mathlib.Core.Bool.{true, false}
 use Prim.Native.Nat.{ℕ, zero, suc}
-use lib.Dec.{eqb}
 use Rattle.tree.specs.Tree.{Node, Fields, Piece, Items}
 use Rattle.tree.specs.Tree.Node.{node}
 use Rattle.tree.specs.Tree.Fields.{done, absent, field}
 use Rattle.tree.specs.Tree.Piece.{one, list, text, byte, mark, number}
 use Rattle.tree.specs.Tree.Items.{none, hole, item}
-use Rattle.lowering.specs.Parts.{nothing, position, pieceIn, standsIn, changeIn, change, onNode, onItems, changeNode, changeItems, asNode, asItems, nodeAt, itemsAt, stands, is, kind, only, each, gather, any, _+++_}
+use Rattle.lowering.specs.Parts.{nothing, pieceIn, changeIn, change, onNode, onItems, changeNode, changeItems, asNode, asItems, nodeAt, itemsAt, is, only, each, gather, _+++_}
 use Rattle.lowering.specs.Made.{Context, reference}
-use Rattle.lowering.specs.Patterns.{Shape, shape, properties, itemsOf, rest, hasRest, leftOf, value, withLeft, withItems, withValues, replaced, objectsWithRest}
+use Rattle.lowering.specs.Patterns.{shape, properties, itemsOf, hasRest, leftOf, value, withLeft, withItems, withValues, replaced, objectsWithRest}
 use Rattle.lowering.specs.Patterns.Shape.{objectPattern, arrayPattern, default, leaf}
 use Rattle.lowering.specs.Assignments.{restsThroughObjects}
+use Rattle.lowering.proofs.Clauses.{objects-array, objects-default, objects-leaf, replaced-array, replaced-default, replaced-leaf}
 use Rattle.lowering.proofs.Cases.{by-test, by-shape}
 use Rattle.lowering.proofs.WeightKeys.{rest-changed}
 
@@ -131,33 +131,9 @@ module _ (c : Context) where
   unfolding replaced
   replaced-top d p e r = rw (e, replaced, r)
 
-  replaced-array : (d : ℕ) (p : Node) → shape p ≡ arrayPattern → replaced c (suc d) p ≡ withItems (λ v. replaced c d v) p
-  unfolding replaced
-  replaced-array d p e = rw (e, replaced)
-
-  replaced-default : (d : ℕ) (p : Node) → shape p ≡ default → replaced c (suc d) p ≡ withLeft (λ v. replaced c d v) p
-  unfolding replaced
-  replaced-default d p e = rw (e, replaced)
-
-  replaced-leaf : (d : ℕ) (p : Node) → shape p ≡ leaf → replaced c (suc d) p ≡ p
-  unfolding replaced
-  replaced-leaf d p e = rw (e, replaced)
-
   objects-object : (d : ℕ) (p : Node) → shape p ≡ objectPattern → hasRest p ≡ false → objectsWithRest c (suc d) p ≡ gather (λ q. objectsWithRest c d (value q)) (properties p) +++ none
   unfolding objectsWithRest
   objects-object d p e r = rw (e, objectsWithRest, r)
-
-  objects-default : (d : ℕ) (p : Node) → shape p ≡ default → objectsWithRest c (suc d) p ≡ objectsWithRest c d (leftOf p)
-  unfolding objectsWithRest
-  objects-default d p e = rw (e, objectsWithRest)
-
-  objects-leaf : (d : ℕ) (p : Node) → shape p ≡ leaf → objectsWithRest c (suc d) p ≡ none
-  unfolding objectsWithRest
-  objects-leaf d p e = rw (e, objectsWithRest)
-
-  objects-array : (d : ℕ) (p : Node) → shape p ≡ arrayPattern → objectsWithRest c (suc d) p ≡ gather (λ x. objectsWithRest c d x) (itemsOf p)
-  unfolding objectsWithRest
-  objects-array d p e = rw (e, objectsWithRest)
 
   pub replaced-found : (d : ℕ) (p : Node) → objectsWithRest c d (replaced c d p) ≡ none
   unfolding objectsWithRest
@@ -174,13 +150,13 @@ module _ (c : Context) where
       ∙ (objects-object d (withValues f p) (shape-changed 0 g p ∙ e) (rest-changed 0 g p ∙ r)
       ∙ (ap (λ (is : Items). is +++ none) (values-replaced d (replaced-found d) p) ∙ nothing-added))))
       (λ e.
-      ap (objectsWithRest c (suc d)) (replaced-array d p e)
-      ∙ (objects-array d (withItems f p) (shape-changed 0 (onItems (each f)) p ∙ e) ∙ list-finds (λ m. objectsWithRest c d m) f (replaced-found d) 0 p))
+      ap (objectsWithRest c (suc d)) (replaced-array c d p e)
+      ∙ (objects-array c d (withItems f p) (shape-changed 0 (onItems (each f)) p ∙ e) ∙ list-finds (λ m. objectsWithRest c d m) f (replaced-found d) 0 p))
       (λ e.
-      ap (objectsWithRest c (suc d)) (replaced-default d p e)
-      ∙ (objects-default d (withLeft f p) (shape-changed 0 (onNode f) p ∙ e)
+      ap (objectsWithRest c (suc d)) (replaced-default c d p e)
+      ∙ (objects-default c d (withLeft f p) (shape-changed 0 (onNode f) p ∙ e)
       ∙ node-finds (λ m. objectsWithRest c d m) f (objects-nothing d) (replaced-found d) 0 p))
-      (λ e. ap (objectsWithRest c (suc d)) (replaced-leaf d p e) ∙ objects-leaf d p e)
+      (λ e. ap (objectsWithRest c (suc d)) (replaced-leaf c d p e) ∙ objects-leaf c d p e)
 
   rests-reference : (d : ℕ) (p : Node) → restsThroughObjects d (reference c p) ≡ none
   unfolding restsThroughObjects shape
@@ -208,13 +184,13 @@ module _ (c : Context) where
       ∙ (rests-object d (withValues f p) (shape-changed 0 g p ∙ e) (rest-changed 0 g p ∙ r)
       ∙ (ap (λ (is : Items). is +++ none) (values-rests d (replaced-rests d) p) ∙ nothing-added))))
       (λ e.
-      ap (restsThroughObjects (suc d)) (replaced-array d p e)
+      ap (restsThroughObjects (suc d)) (replaced-array c d p e)
       ∙ rests-array d (withItems f p) (shape-changed 0 (onItems (each f)) p ∙ e))
       (λ e.
-      ap (restsThroughObjects (suc d)) (replaced-default d p e)
+      ap (restsThroughObjects (suc d)) (replaced-default c d p e)
       ∙ (rests-default d (withLeft f p) (shape-changed 0 (onNode f) p ∙ e)
       ∙ node-finds (λ m. restsThroughObjects d m) f (rests-nothing d) (replaced-rests d) 0 p))
-      (λ e. ap (restsThroughObjects (suc d)) (replaced-leaf d p e) ∙ rests-leaf d p e)
+      (λ e. ap (restsThroughObjects (suc d)) (replaced-leaf c d p e) ∙ rests-leaf d p e)
 
   pub inner-rests : (d : ℕ) (p : Node) → shape p ≡ objectPattern → hasRest p ≡ true
       → restsThroughObjects (suc d) (withValues (λ v. replaced c d v) p) ≡ only (withValues (λ v. replaced c d v) p)

@@ -1,24 +1,22 @@
 -- Assignments and declarations: each part of what they leave weighs less than the node.
 -- Assumes nothing.
-use mathlib.Core.Path.{_≡_, refl, sym, ap, _∙_, subst}
-use mathlib.Core.Bool.{Bool, true, false, cond, _||_, _&&_, false≢true, true≢false}
+use mathlib.Core.Path.{_≡_, _∙_}
+use mathlib.Core.Bool.{true, false, cond}
 use Prim.Native.Nat.{ℕ, zero, suc, _+_, _*_, _≤_, _<_}
 use native.Mathlib.Omega.{arith}
-use lib.Dec.{eqb}
-use Rattle.tree.specs.Tree.{Node, Fields, Piece, Items, depth, depthFields}
+use Rattle.tree.specs.Tree.{Node, Piece, depth, depthFields}
 use Rattle.tree.specs.Tree.Node.{node}
-use Rattle.tree.specs.Tree.Fields.{done, absent, field}
 use Rattle.tree.specs.Tree.Piece.{one, list, text, byte, mark, number}
-use Rattle.tree.specs.Tree.Items.{none, hole, item}
-use Rattle.lowering.specs.Parts.{nothing, position, pieceIn, changeIn, change, onNode, onItems, changeNode, changeItems, asNode, asItems, nodeAt, itemsAt, stands, is, kind, only, each, gather, any, _+++_}
-use Rattle.lowering.specs.Made.{Context, temporary, reference, valueOf, keyOf, assign, sequence, declares}
-use Rattle.lowering.specs.Patterns.{shape, properties, itemsOf, rest, hasRest, leftOf, value, key, withLeft, withValues, hasNestedObjectRest, hasNestedArrayRest, hasObjectRest, hasArrayRestOverObjectRest, replaced, objectsWithRest, replacedBelow, objectsBelow}
-use Rattle.lowering.specs.Patterns.Shape.{objectPattern, arrayPattern, default, leaf}
+use Rattle.tree.specs.Tree.Items.{none}
+use Rattle.lowering.specs.Parts.{position, pieceIn, change, onItems, changeNode, nodeAt, is, only, each, gather, _+++_}
+use Rattle.lowering.specs.Made.{Context, reference, valueOf, keyOf, assign, declares}
+use Rattle.lowering.specs.Patterns.{shape, properties, itemsOf, rest, hasRest, leftOf, value, key, withValues, hasObjectRest, hasArrayRestOverObjectRest, replaced, replacedBelow, objectsBelow}
+use Rattle.lowering.specs.Patterns.Shape.{objectPattern}
 use Rattle.lowering.specs.Keys.{keySort, keyTemporary, keyTemporaries, taken}
 use Rattle.lowering.specs.Rests.{hasNoProperties, restValue}
 use Rattle.lowering.specs.Assignments.{isTop, target, assigned, withoutRests, restsThroughObjects, restsOf, targetLeft, topSequence, nestedSequence}
 use Rattle.lowering.specs.Declarations.{isName, source, sourceDeclarator, keysBefore, patternDeclarator, restDeclarator, own, nested, nestedBelow, objectDeclarators, patternDeclarators, lowerDeclarator, isLowered, declarators, declaration}
-use Rattle.lowering.specs.Weight.{isHead, extra, factor, weight, weightFields, weightPiece, weightItems}
+use Rattle.lowering.specs.Weight.{isHead, extra, factor, weight, weightPiece, weightItems}
 use Rattle.lowering.proofs.All.{AllItems, AllPiece, Each, weaker-items, all-append, all-gather, all-each, all-changed}
 use Rattle.lowering.proofs.Cases.{by-test, by-shape, object-is, by-key, is-changed, and-left, and-right}
 use Rattle.lowering.proofs.Weights.{weight-pos, weight-of, weight-whole, items-light, parts-fall, node-piece, piece-light-in}

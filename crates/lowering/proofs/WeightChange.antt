@@ -1,7 +1,7 @@
 -- Weights of nodes in which a field was changed.
 -- Assumes nothing.
-use mathlib.Core.Path.{_≡_, refl, sym, ap, _∙_, subst}
-use mathlib.Core.Bool.{Bool, true, false, cond, _||_}
+use mathlib.Core.Path.{_≡_, refl}
+use mathlib.Core.Bool.{Bool, true, false, cond}
 use Prim.Native.Nat.{ℕ, zero, suc, _+_, _*_, _≤_, _<_}
 use native.Mathlib.Omega.{arith}
 use lib.Dec.{eqb}
@@ -10,7 +10,7 @@ use Rattle.tree.specs.Tree.Node.{node}
 use Rattle.tree.specs.Tree.Fields.{done, absent, field}
 use Rattle.tree.specs.Tree.Piece.{one, list, text, byte, mark, number}
 use Rattle.tree.specs.Tree.Items.{none, hole, item}
-use Rattle.lowering.specs.Parts.{nothing, pieceIn, standsIn, changeIn, change, dropIn, without, onNode, onItems, changeNode, changeItems, asNode, asItems, nodeAt, itemsAt, is, kind, only, each, gather, any, _+++_}
+use Rattle.lowering.specs.Parts.{pieceIn, standsIn, changeIn, change, onNode, onItems, changeNode, changeItems, is, each, gather}
 use Rattle.lowering.specs.Weight.{isHead, extra, factor, weight, weightFields, weightPiece, weightItems}
 use Rattle.lowering.proofs.Weights.{weight-append, piece-light-in}
 

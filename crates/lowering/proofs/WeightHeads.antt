@@ -1,19 +1,18 @@
 -- The heads: each part of what they leave weighs less than the node.
 -- Assumes nothing.
-use mathlib.Core.Path.{_≡_, refl, sym, ap, _∙_, subst}
-use mathlib.Core.Bool.{Bool, true, false, cond, _||_, _&&_}
+use mathlib.Core.Path.{_≡_, refl, sym, subst}
+use mathlib.Core.Bool.{true, cond, _&&_}
 use Prim.Native.Nat.{ℕ, zero, suc, _+_, _*_, _≤_, _<_}
 use native.Mathlib.Omega.{arith}
-use lib.Dec.{eqb}
 use Rattle.tree.specs.Tree.{Node, Fields, Piece, Items, depth}
 use Rattle.tree.specs.Tree.Node.{node}
 use Rattle.tree.specs.Tree.Fields.{done, absent, field}
 use Rattle.tree.specs.Tree.Piece.{one, list, text, byte, mark, number}
 use Rattle.tree.specs.Tree.Items.{none, hole, item}
-use Rattle.lowering.specs.Parts.{nothing, position, pieceIn, standsIn, changeIn, change, onNode, onItems, changeNode, changeItems, asNode, asItems, nodeAt, itemsAt, stands, is, kind, only, each, gather, any, _+++_}
-use Rattle.lowering.specs.Made.{Context, reference, letOf, varOf, assigning, returning, block, functionBody}
+use Rattle.lowering.specs.Parts.{pieceIn, changeIn, change, onNode, onItems, changeItems, asNode, asItems, nodeAt, itemsAt, stands, is, kind, only, each, gather, any}
+use Rattle.lowering.specs.Made.{Context, reference, letOf, varOf, assigning, block}
 use Rattle.lowering.specs.Patterns.{shape, hasObjectRest}
-use Rattle.lowering.specs.Heads.{movedOut, moved, movedPattern, inFront, isMoved, leftBehind, movedFrom, inBody, asFunctionBody, asBlock, function, arrow, catch, declaringHead, assigningHead}
+use Rattle.lowering.specs.Heads.{movedOut, movedPattern, inFront, isMoved, leftBehind, movedFrom, inBody, asFunctionBody, asBlock, function, arrow, catch, declaringHead, assigningHead}
 use Rattle.lowering.specs.Weight.{isHead, extra, factor, weight, weightFields, weightPiece, weightItems}
 use Rattle.lowering.proofs.All.{AllPiece, AllFields, Each, other-changed, all-changed}
 use Rattle.lowering.proofs.Cases.{by-test, by-shape, functionBody-is, block-is}

@@ -1,23 +1,21 @@
 -- Weights of keys, of patterns that lose their rest, and of the values of rests.
 -- Assumes nothing.
-use mathlib.Core.Path.{_≡_, refl, sym, ap, ap₂, _∙_, subst}
-use mathlib.Core.Bool.{Bool, true, false, cond, _||_, _&&_, not}
-use mathlib.Core.List.{List, [], _∷_}
-use Prim.Native.Nat.{ℕ, zero, suc, _+_, _*_, _≤_, _<_}
+use mathlib.Core.Path.{_≡_, refl, _∙_}
+use mathlib.Core.Bool.{Bool, true, false, cond, _||_}
+use mathlib.Core.List.{List}
+use Prim.Native.Nat.{ℕ, zero, suc, _+_, _*_, _≤_}
 use native.Mathlib.Omega.{arith}
 use lib.Dec.{eqb}
 use Rattle.tree.specs.Tree.{Node, Fields, Piece, Items}
 use Rattle.tree.specs.Tree.Node.{node}
 use Rattle.tree.specs.Tree.Fields.{done, absent, field}
-use Rattle.tree.specs.Tree.Piece.{one, list, text, byte, mark, number}
-use Rattle.tree.specs.Tree.Items.{none, hole, item}
-use Rattle.lowering.specs.Parts.{position, pieceIn, standsIn, changeIn, change, dropIn, without, onNode, onItems, changeNode, changeItems, asNode, asItems, nodeAt, itemsAt, textAt, stands, is, kind, only, each, gather, any, _+++_}
-use Rattle.lowering.specs.Made.{Context, string, keyOf, excludedOf, call, X, E, W, K, object, array, sequence, member}
+use Rattle.tree.specs.Tree.Items.{none, item}
+use Rattle.lowering.specs.Parts.{position, pieceIn, standsIn, change, dropIn, without, onItems, nodeAt, itemsAt, textAt, stands, is, only, each}
+use Rattle.lowering.specs.Made.{Context, string, keyOf, X, E, W, object, array, sequence}
 use Rattle.lowering.specs.Patterns.{properties, rest, hasRest, key, withProperties}
-use Rattle.lowering.specs.Keys.{Key, keySort, excludedKey, keptKey, excludedKeys, allPrimitive, taken}
-use Rattle.lowering.specs.Keys.Key.{name, literal, template, private, again, other}
+use Rattle.lowering.specs.Keys.{keySort, excludedKey, keptKey, excludedKeys, allPrimitive, taken}
 use Rattle.lowering.specs.Rests.{hasNoProperties, isHoisted, mapped, keysRead, restValue}
-use Rattle.lowering.specs.Weight.{isHead, extra, factor, weight, weightFields, weightPiece, weightItems}
+use Rattle.lowering.specs.Weight.{isHead, extra, factor, weight, weightFields, weightItems}
 use Rattle.lowering.proofs.Cases.{by-test, by-key, is-changed}
 use Rattle.lowering.proofs.Weights.{weight-pos, weight-of, node-piece, items-piece}
 use Rattle.lowering.proofs.WeightChange.{gather-light, stands-changed, changeNode-light, changeEach-light, two-light}

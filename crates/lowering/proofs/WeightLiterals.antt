@@ -1,18 +1,17 @@
 -- The literal rule: each part of what it leaves weighs less than the literal.
 -- Assumes nothing.
-use mathlib.Core.Path.{_≡_, refl, sym, ap, _∙_}
-use mathlib.Core.Bool.{Bool, true, false, cond}
-use Prim.Native.Nat.{ℕ, zero, suc, _+_, _≤_, _<_}
+use mathlib.Core.Path.{_≡_}
+use mathlib.Core.Bool.{true}
+use Prim.Native.Nat.{ℕ, _+_, _≤_, _<_}
 use native.Mathlib.Omega.{arith}
-use lib.Dec.{eqb}
-use Rattle.tree.specs.Tree.{Node, Fields, Piece, Items}
+use Rattle.tree.specs.Tree.{Node, Items}
 use Rattle.tree.specs.Tree.Node.{node}
 use Rattle.tree.specs.Tree.Items.{none, hole, item}
-use Rattle.lowering.specs.Parts.{is, kind, nodeAt, itemsAt, only, any, pieceIn, asNode, asItems, _+++_}
-use Rattle.lowering.specs.Made.{S, object}
+use Rattle.lowering.specs.Parts.{is, nodeAt, itemsAt, only, any, pieceIn, _+++_}
+use Rattle.lowering.specs.Made.{S}
 use Rattle.lowering.specs.Literals.{Call, opened, closed, scan, literal}
 use Rattle.lowering.specs.Literals.Call.{no-call, call}
-use Rattle.lowering.specs.Weight.{isHead, extra, factor, weight, weightFields, weightPiece, weightItems}
+use Rattle.lowering.specs.Weight.{isHead, extra, factor, weight, weightItems}
 use Rattle.lowering.proofs.All.{Each, weaker-each}
 use Rattle.lowering.proofs.Cases.{by-test}
 use Rattle.lowering.proofs.Weights.{weight-pos, weight-append, items-light, parts-fall, weight-of, weight-whole, node-piece, items-piece, piece-light-in}

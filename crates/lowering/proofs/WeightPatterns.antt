@@ -1,20 +1,17 @@
 -- Weights of patterns whose objects are replaced, moved, or lose their rests.
 -- Assumes nothing.
-use mathlib.Core.Path.{_≡_, refl, sym, ap, _∙_, subst}
-use mathlib.Core.Bool.{Bool, true, false, cond, _||_, _&&_, false≢true, true≢false}
+use mathlib.Core.Path.{_≡_, refl}
+use mathlib.Core.Bool.{Bool, true, false, cond, _||_, false≢true}
 use mathlib.Core.List.{List}
-use Prim.Native.Nat.{ℕ, zero, suc, _+_, _*_, _≤_, _<_}
+use Prim.Native.Nat.{ℕ, zero, suc, _+_, _≤_, _<_}
 use native.Mathlib.Omega.{arith}
-use lib.Dec.{eqb}
-use Rattle.tree.specs.Tree.{Node, Fields, Piece, Items}
+use Rattle.tree.specs.Tree.{Node, Piece, Items}
 use Rattle.tree.specs.Tree.Node.{node}
-use Rattle.tree.specs.Tree.Fields.{done, absent, field}
 use Rattle.tree.specs.Tree.Piece.{one, list, text, byte, mark, number}
 use Rattle.tree.specs.Tree.Items.{none, hole, item}
-use Rattle.lowering.specs.Parts.{nothing, position, pieceIn, standsIn, changeIn, change, dropIn, without, onNode, onItems, changeNode, changeItems, asNode, asItems, nodeAt, itemsAt, stands, is, kind, only, each, gather, any, _+++_}
+use Rattle.lowering.specs.Parts.{nothing, position, pieceIn, standsIn, onNode, onItems, changeNode, changeItems, asNode, asItems, nodeAt, itemsAt, is, only, each, gather, any, _+++_}
 use Rattle.lowering.specs.Made.{Context, temporary, reference}
-use Rattle.lowering.specs.Patterns.{Shape, shape, properties, itemsOf, rest, hasRest, leftOf, value, withLeft, withItems, withRest, withValues, hasNestedObjectRest, hasNestedArrayRest, replaced, objectsWithRest}
-use Rattle.lowering.specs.Patterns.Shape.{objectPattern, arrayPattern, default, leaf}
+use Rattle.lowering.specs.Patterns.{shape, properties, itemsOf, rest, hasRest, leftOf, value, withItems, withValues, hasNestedObjectRest, hasNestedArrayRest, replaced, objectsWithRest}
 use Rattle.lowering.specs.Heads.{movedOut, moved}
 use Rattle.lowering.specs.Assignments.{isTop}
 use Rattle.lowering.specs.Weight.{isHead, extra, factor, weight, weightFields, weightPiece, weightItems}
@@ -22,8 +19,6 @@ use Rattle.lowering.proofs.All.{AllItems, weaker-items, all-append, all
 use Rattle.lowering.proofs.Cases.{by-test, by-shape, or-left, or-right, or-other, or-first, object-is, array-is, default-is}
 use Rattle.lowering.proofs.Weights.{weight-pos, weight-of, weight-whole, weight-append, items-light, node-piece, items-piece, piece-light-in}
 use Rattle.lowering.proofs.WeightChange.{each-light, gather-light, change-less, changeNode-light, changeEach-light, two-light}
-
--- ---- cases
 
 cond-light : (b : Bool) (x y : Node) (w : ℕ) → weight x ≤ w → weight y ≤ w → weight (cond b x y) ≤ w
 cond-light true x y w h k = h
@@ -69,8 +64,6 @@ array-weighs (node at k fs) e = let c = weight-of at k 36 fs e in omega arith
 default-weighs : (p : Node) → is 37 p ≡ true → within p + 5 ≤ weight p
 unfolding is extra factor isHead
 default-weighs (node at k fs) e = let c = weight-of at k 37 fs e in omega arith
-
--- ---- replaced
 
 -- ---- moved out of a head
 

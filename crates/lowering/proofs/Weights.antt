@@ -1,25 +1,19 @@
--- What holds of each part of a node, and weights of parts.
+-- Weights of the parts of a node.
 -- Assumes nothing.
-use mathlib.Core.Path.{_≡_, refl, sym, ap, ap₂, _∙_}
-use mathlib.Core.Bool.{Bool, true, false, cond, _||_}
+use mathlib.Core.Path.{_≡_, ap}
+use mathlib.Core.Bool.{Bool, true, false, cond}
 use Prim.Native.Nat.{ℕ, zero, suc, _+_, _*_, _≤_, _<_}
 use native.Mathlib.Omega.{arith}
 use lib.Dec.{eqb}
 use borrow.Author.Tests.{eqb-true}
-use Rattle.tree.specs.Tree.{Node, Fields, Piece, Items, count}
+use Rattle.tree.specs.Tree.{Node, Fields, Piece, Items}
 use Rattle.tree.specs.Tree.Node.{node}
 use Rattle.tree.specs.Tree.Fields.{done, absent, field}
 use Rattle.tree.specs.Tree.Piece.{one, list, text, byte, mark, number}
 use Rattle.tree.specs.Tree.Items.{none, hole, item}
-use Rattle.lowering.specs.Parts.{nothing, pieceIn, standsIn, dropIn, asNode, asItems, nodeAt, itemsAt, without, is, kind, only, each, gather, any, _+++_}
-use Rattle.lowering.specs.Walk.{Note, Walked, WalkedFields, WalkedPiece, WalkedItems, eachItem, eachPiece, eachField, inside}
-use Rattle.lowering.specs.Walk.Walked.{noted}
+use Rattle.lowering.specs.Parts.{pieceIn, asNode, asItems, is, _+++_}
 use Rattle.lowering.specs.Weight.{isHead, extra, factor, weight, weightFields, weightPiece, weightItems}
 use Rattle.lowering.proofs.All.{AllItems, AllPiece, AllFields, Each}
-
--- ---- a property of each part
-
--- ---- weights
 
 pub weight-pos : (n : Node) → 0 < weight n
 unfolding weight

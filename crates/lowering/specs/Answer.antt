@@ -1,8 +1,8 @@
 -- What a call hands back: the answer, and every byte that was lent (document 01, 'What the lowering hands back').
 use Prim.Native.Nat.{ℕ, zero, suc, _-_, min}
-use mathlib.Core.Bool.{Bool, true, false, cond, _||_}
-use mathlib.Core.List.{List, [], _∷_, _++_}
-use lib.Dec.{eqb, ltb}
+use mathlib.Core.Bool.{Bool, true, false, cond, not, _||_}
+use mathlib.Core.List.{List, [], _++_}
+use lib.Dec.{ltb}
 use lib.ListN.{length, replicate}
 use Rattle.tree.specs.Tree.{Node, Items, encode}
 use Rattle.tree.specs.Grammar.Stage.{input}
@@ -19,6 +19,7 @@ pub record Lent : Type 0 where
   pub listSlice : ℕ
   pub workSlice : ℕ
 
+-- a refusal by its number, or a lowering
 pub data Result : Type 0 where
   refusal : ℕ → Result
   lowered : ℕ → ℕ → List ℕ → List ℕ → Result  -- helper mask, options mask, tree, list
@@ -41,19 +42,19 @@ tooLong = 7
 
 -- tree and list fit their limits and their slices
 unfoldable pub fits : Lent → List ℕ → List ℕ → Bool
-fits s t l = cond (ltb (min 32768 (s .treeSlice)) (length t) || ltb (min 16384 (s .listSlice)) (length l)) false true
+fits s t l = not (ltb (min 32768 (s .treeSlice)) (length t) || ltb (min 16384 (s .listSlice)) (length l))
 
 -- the result, if it fits
 unfoldable pub fitted : Lent → ℕ → ℕ → List ℕ → List ℕ → Result
 fitted s helpers options t l = cond (fits s t l) (lowered helpers options t l) (refusal tooLong)
 
--- the tree with its marks, and what the walk handed out
+-- the tree n with its marks, and what the walk handed out: numbers are given, and all is written
 unfoldable pub collected : ℕ → Lent → Node → List Entry → Items → Result
 collected options s n es excluded =
     let ns = namesOf n es excluded in
     fitted s (helperMask n) options (encode (numbered ns n)) (listBytes ns es excluded)
 
--- the walked tree w, where the next mark is `next`. What it measures is measured last, after the whole walk
+-- the walked tree w, where the next mark is `next`. A refusal of the walk comes first; what fits is asked after the whole walk
 unfoldable pub afterWalk : ℕ → Lent → ℕ → Walked → Result
 afterWalk options s next w =
     let vs = visits next 0 w in

@@ -1,6 +1,6 @@
 -- Assignments to a target with an object rest below it (document 01, 'The rewriting', Assignment; transform_assignment_expression).
 use Prim.Native.Nat.{ℕ, zero, suc}
-use mathlib.Core.Bool.{Bool, true, false, cond, not, _&&_}
+use mathlib.Core.Bool.{Bool, cond, _&&_}
 use Rattle.tree.specs.Tree.{Node, Items, depth}
 use Rattle.tree.specs.Tree.Items.{none, item}
 use Rattle.lowering.specs.Parts.{is, nodeAt, changeNode, only, each, gather, any, _+++_}

@@ -1,10 +1,10 @@
 -- From the walked tree to the tree and the list that are written (document 01, the last paragraph of 'Tree bytes').
 use Prim.Native.Nat.{ℕ, zero, suc, _+_, _*_}
-use mathlib.Core.Bool.{Bool, true, false, cond, not, _&&_, _||_}
+use mathlib.Core.Bool.{Bool, true, false, cond, _&&_, _||_}
 use mathlib.Core.List.{List, [], _∷_, _++_}
 use lib.Dec.{eqb}
 use lib.ListN.{length}
-use Rattle.tree.specs.Tree.{Node, Fields, Piece, Items, wideBytes, count, encode, encodeItems}
+use Rattle.tree.specs.Tree.{Node, Fields, Piece, Items, wideBytes, count, encodeItems}
 use Rattle.tree.specs.Tree.Node.{node}
 use Rattle.tree.specs.Tree.Fields.{done, absent, field}
 use Rattle.tree.specs.Tree.Piece.{one, list, text, byte, mark, number}
@@ -13,7 +13,7 @@ use Rattle.lowering.specs.Parts.{position, is, textAt, numberAt, isEmpty
 use Rattle.lowering.specs.Walk.{Note, Walked, WalkedFields, WalkedPiece, WalkedItems}
 use Rattle.lowering.specs.Walk.Walked.{noted}
 
--- the lists of all entries, one after another
+-- what f gives for each entry, one after another
 unfoldable pub over : {A B : Type 0} → (A → List B) → List A → List B
 over f [] = []
 over f (a ∷ rest) = f a ++ over f rest

@@ -1,11 +1,11 @@
 -- Declarations (document 01, 'The rewriting', Declarator; transform_variable_declaration).
 use Prim.Native.Nat.{ℕ, zero, suc}
-use mathlib.Core.Bool.{Bool, true, false, cond, not, _&&_, _||_}
+use mathlib.Core.Bool.{Bool, cond, _&&_, _||_}
 use Rattle.tree.specs.Tree.{Node, Items, depth}
 use Rattle.tree.specs.Tree.Items.{none}
 use Rattle.lowering.specs.Parts.{is, nodeAt, itemsAt, stands, changeItems, only, each, gather, any, _+++_}
 use Rattle.lowering.specs.Made.{Context, declares, idOf, reference, valueOf}
-use Rattle.lowering.specs.Patterns.{shape, properties, itemsOf, rest, hasRest, leftOf, value, withValues, hasObjectRest, replaced, objectsWithRest, replacedBelow, objectsBelow}
+use Rattle.lowering.specs.Patterns.{shape, properties, itemsOf, rest, hasRest, leftOf, value, withValues, hasObjectRest, replaced, replacedBelow, objectsBelow}
 use Rattle.lowering.specs.Patterns.Shape.{objectPattern, arrayPattern, default, leaf}
 use Rattle.lowering.specs.Keys.{keyTemporaries, anyLacksForm, taken}
 use Rattle.lowering.specs.Rests.{hasNoProperties, restValue, excludedFor, restMakes}
@@ -70,7 +70,7 @@ module _ (c : Context) where
       let q = withValues (λ v. replacedBelow c v) p in
       keysBefore q +++ patternDeclarator q s +++ gather (λ r. nestedBelow (value r)) (properties p) +++ restDeclarator q s
 
-  -- an array: pattern, what is found below
+  -- an array: pattern, what is found below. A declarator has no other pattern with an object rest below it
   unfoldable pub patternDeclarators : Node → Node → Items
   patternDeclarators p s =
       elim (shape p) [

@@ -1,6 +1,6 @@
 -- Examples, by computation: document 01's table, its listing, the small inputs of its refusal table, and others that it names.
 use mathlib.Core.Path.{_≡_, refl}
-use mathlib.Core.List.{List, [], _∷_}
+use mathlib.Core.List.{List, [], _∷_, _++_}
 use Prim.Native.Nat.{ℕ, zero, suc}
 use lib.ListN.{replicate}
 use Rattle.tree.specs.Tree.{Node, Fields, Piece, Items, encode}
@@ -10,10 +10,39 @@ use Rattle.tree.specs.Tree.Piece.{one, list, text, byte, mark, number}
 use Rattle.tree.specs.Tree.Items.{none, hole, item}
 use Rattle.lowering.specs.Parts.{only}
 use Rattle.lowering.specs.Made.{call, S, X, E, W, object, array, sequence, assign, string, declares, declared}
-use Rattle.lowering.specs.Answer.{Lent, Result, lowering, levels}
+use Rattle.lowering.specs.Answer.{Lent, Result, Outcome, lowering, levels, outcome}
 use Rattle.lowering.specs.Answer.Result.{refusal, lowered}
 
 -- ---- small trees
+
+-- letters
+abbrev a : ℕ
+a = 97
+
+abbrev b : ℕ
+b = 98
+
+abbrev c : ℕ
+c = 99
+
+abbrev d : ℕ
+d = 100
+
+abbrev f : ℕ
+f = 102
+
+abbrev r : ℕ
+r = 114
+
+abbrev s : ℕ
+s = 115
+
+abbrev x : ℕ
+x = 120
+
+abbrev all : List Node → Items
+all [] = none
+all (n ∷ ns) = item n (all ns)
 
 -- names of one letter
 abbrev ref : ℕ → Node
@@ -32,6 +61,14 @@ name letter = node 0 38 (field (text (letter ∷ [])) done)
 -- the number 1
 abbrev num : Node
 num = node 0 22 (field (byte 2) (field (text (49 ∷ [])) (field (text (49 ∷ [])) done)))
+
+-- `/q/`, without a form
+abbrev regexp : Node
+regexp = node 0 22 (field (byte 6) (field (text (47 ∷ 113 ∷ 47 ∷ [])) (absent done)))
+
+-- X({}, (E(t), t))
+abbrev copied : Node → Node
+copied t = X (object none) (sequence (item (E t) (only t)))
 
 -- `letter: value` in a literal, `...e`
 abbrev prop : ℕ → Node → Node
@@ -79,8 +116,11 @@ program ss = encode (node 0 1 (field (list ss) done))
 
 -- ---- slices that are long enough, and what is asked of an example
 
+abbrev lent : ℕ → ℕ → ℕ → Lent
+lent t l w = record { treeSlice = t; listSlice = l; workSlice = w }
+
 abbrev plenty : Lent
-plenty = record { treeSlice = 32768; listSlice = 16384; workSlice = 65536 }
+plenty = lent 32768 16384 65536
 
 abbrev empty : List ℕ
 empty = 0 ∷ 0 ∷ 0 ∷ 0 ∷ []
@@ -99,27 +139,39 @@ listing = 1 ∷ 1 ∷ 1 ∷ 0 ∷ 3 ∷ 3 ∷ 1 ∷ 0 ∷ 24 ∷ 1 ∷ 1 ∷ 0 �
 abbrev listed : List ℕ
 listed = 1 ∷ 1 ∷ 1 ∷ 0 ∷ 3 ∷ 3 ∷ 1 ∷ 0 ∷ 29 ∷ 3 ∷ 21 ∷ 1 ∷ 1 ∷ 2 ∷ 0 ∷ 24 ∷ 1 ∷ 0 ∷ 0 ∷ 18 ∷ 1 ∷ 1 ∷ 0 ∷ 97 ∷ []
 
--- letters: a 97, b 98, c 99, d 100, f 102, r 114, s 115, x 120
-
-pub record Examples : Type 0 where
-  -- ---- document 01, 'Literals and declarations, to be proved'
-
+-- document 01, 'Literals and declarations, to be proved'
+pub record Table : Type 0 where
   -- `{}`
   empty-literal : Becomes (says 1 (object none)) 0 (says 1 (object none))
   -- `{a: 1}`
-  plain-literal : Becomes (says 1 (object (only (prop 97 num)))) 0 (says 1 (object (only (prop 97 num))))
+  plain-literal : Becomes (says 1 (object (only (prop a num)))) 0 (says 1 (object (only (prop a num))))
   -- `{...a, ...b}`: S(S({}, a), b)
-  two-spreads : Becomes (says 1 (object (item (spread (ref 97)) (only (spread (ref 98)))))) 1 (says 1 (S (item (S (item (object none) (only (ref 97)))) (only (ref 98)))))
+  two-spreads : Becomes
+      (says 1 (object (all (spread (ref a) ∷ spread (ref b) ∷ [])))) 1
+      (says 1 (S (all (S (all (object none ∷ ref a ∷ [])) ∷ ref b ∷ []))))
   -- `{x: 1, ...a}`: S({x: 1}, a)
-  spread-last : Becomes (says 1 (object (item (prop 120 num) (only (spread (ref 97)))))) 1 (says 1 (S (item (object (only (prop 120 num))) (only (ref 97)))))
+  spread-last : Becomes
+      (says 1 (object (all (prop x num ∷ spread (ref a) ∷ [])))) 1
+      (says 1 (S (all (object (only (prop x num)) ∷ ref a ∷ []))))
   -- `{...a, x: 1}`: S(S({}, a), {}, {x: 1})
-  spread-first : Becomes (says 1 (object (item (spread (ref 97)) (only (prop 120 num))))) 1 (says 1 (S (item (S (item (object none) (only (ref 97)))) (item (object none) (only (object (only (prop 120 num))))))))
+  spread-first : Becomes
+      (says 1 (object (all (spread (ref a) ∷ prop x num ∷ [])))) 1
+      (says 1 (S (all (S (all (object none ∷ ref a ∷ [])) ∷ object none ∷ object (only (prop x num)) ∷ []))))
   -- `{...a, x: 1, ...b}`: S(S({}, a), {}, {x: 1}, b)
-  spread-around : Becomes (says 1 (object (item (spread (ref 97)) (item (prop 120 num) (only (spread (ref 98))))))) 1 (says 1 (S (item (S (item (object none) (only (ref 97)))) (item (object none) (item (object (only (prop 120 num))) (only (ref 98)))))))
+  spread-around : Becomes
+      (says 1 (object (all (spread (ref a) ∷ prop x num ∷ spread (ref b) ∷ [])))) 1
+      (says 1 (S (all (S (all (object none ∷ ref a ∷ [])) ∷ object none ∷ object (only (prop x num)) ∷ ref b ∷ []))))
   -- `let {a, ...r} = s` at root: {a} = s, r = W(s, ["a"])
-  rest : Becomes (declaring 1 2 (only (declares (takingRest (only (part (name 97) (bind 97) 2)) (bind 114)) (ref 115)))) 8 (declaring 1 2 (item (declares (taking (only (part (name 97) (bind 97) 2))) (ref 115)) (only (declares (bind 114) (W (ref 115) (array (only (string (97 ∷ [])))))))))
+  rest : Becomes
+      (declaring 1 2 (only (declares (takingRest (only (part (name a) (bind a) 2)) (bind r)) (ref s)))) 8
+      (declaring 1 2 (all (declares (taking (only (part (name a) (bind a) 2))) (ref s) ∷ declares (bind r) (W (ref s) (array (only (string (a ∷ []))))) ∷ [])))
   -- `let {...r} = f()`: t = f(), r = X({}, (E(t), t))
-  rest-only : Becomes (declaring 1 2 (only (declares (takingRest none (bind 114)) (call (ref 102) none)))) 6 (declaring 1 2 (item (declares (temp 1) (call (ref 102) none)) (only (declares (bind 114) (X (object none) (sequence (item (E (temp 1)) (only (temp 1)))))))))
+  rest-only : Becomes
+      (declaring 1 2 (only (declares (takingRest none (bind r)) (call (ref f) none)))) 6
+      (declaring 1 2 (all (declares (temp 1) (call (ref f) none) ∷ declares (bind r) (copied (temp 1)) ∷ [])))
+
+pub record Examples : Type 0 where
+  table : Table
   -- ---- the listing
 
   the-listing : lowering levels 0 listing plenty ≡ lowered 1 0 listed empty
@@ -128,29 +180,45 @@ pub record Examples : Type 0 where
   -- ---- the small inputs of the refusal table
 
   one-options : lowering levels 16 listing plenty ≡ refusal 1
-  two-work : lowering levels 0 listing (record { treeSlice = 32768; listSlice = 16384; workSlice = 65535 }) ≡ refusal 2
+  two-work : lowering levels 0 listing (lent 32768 16384 65535) ≡ refusal 2
   three-empty : lowering levels 0 [] plenty ≡ refusal 3
   -- Program, 64 blocks each in the last; with 63 it is a tree
   four-deep : lowering levels 0 (program (blocks 1 64)) plenty ≡ refusal 4
   not-so-deep : lowering levels 0 (program (blocks 1 63)) plenty ≡ lowered 0 0 (program (blocks 1 63)) empty
   -- `[...[{...a}]] = b`
-  five-array-rest : Refused (says 1 (assign (itemsRest (items (only (takingRest none (ref 97))))) (ref 98))) 5
+  five-array-rest : Refused (says 1 (assign (itemsRest (items (only (takingRest none (ref a))))) (ref b))) 5
   -- `var {[/q/]: a, ...r} = s`
-  six-no-form : Refused (declaring 1 1 (only (declares (takingRest (only (part (node 0 22 (field (byte 6) (field (text (47 ∷ 113 ∷ 47 ∷ [])) (absent done)))) (bind 97) 1)) (bind 114)) (ref 115)))) 6
+  six-no-form : Refused (declaring 1 1 (only (declares (takingRest (only (part regexp (bind a) 1)) (bind r)) (ref s)))) 6
   -- the listing with a tree slice of 23; with 24, and a list slice of 4, it fits
-  seven-short : lowering levels 0 listing (record { treeSlice = 23; listSlice = 16384; workSlice = 65536 }) ≡ refusal 7
-  just-fits : lowering levels 0 listing (record { treeSlice = 24; listSlice = 4; workSlice = 65536 }) ≡ lowered 1 0 listed empty
+  seven-short : lowering levels 0 listing (lent 23 16384 65536) ≡ refusal 7
+  just-fits : lowering levels 0 listing (lent 24 4 65536) ≡ lowered 1 0 listed empty
+  -- ---- every lent byte
+
+  -- the listing with slices of 26 and 6 bytes: the result, then zeros
+  tree-slice : outcome 0 listing (lent 26 6 65536) .treeOut ≡ listed ++ (0 ∷ 0 ∷ [])
+  list-slice : outcome 0 listing (lent 26 6 65536) .listOut ≡ replicate 6 0
+  -- with a tree slice of 23: zeros
+  refused-slice : outcome 0 listing (lent 23 6 65536) .treeOut ≡ replicate 23 0
   -- ---- others that document 01 names
 
   -- `var [...[{...a}]] = b` keeps its rest
-  array-rest-stays : Becomes (declaring 1 1 (only (declares (itemsRest (items (only (takingRest none (bind 97))))) (ref 98)))) 0 (declaring 1 1 (only (declares (itemsRest (items (only (takingRest none (bind 97))))) (ref 98))))
-  -- `({a: {...b}, ...c} = d)`: b is copied from d's temporary. (t = d, {a: {}} = t, b = X({}, (E(t), t)), c = W(t, ["a"])); before statement 1: t
-  nested-rest : lowering levels 0 (program (only (says 1 (parens (assign (takingRest (only (part (name 97) (takingRest none (ref 98)) 0)) (ref 99)) (ref 100)))))) plenty
-      ≡ lowered 14 0 (program (only (says 1 (parens (sequence (item (assign (temp 1) (ref 100)) (item (assign (taking (only (part (name 97) (taking none) 0))) (temp 1)) (item (assign (ref 98) (X (object none) (sequence (item (E (temp 1)) (only (temp 1)))))) (only (assign (ref 99) (W (temp 1) (array (only (string (97 ∷ [])))))))))))))))
+  array-rest-stays : Becomes
+      (declaring 1 1 (only (declares (itemsRest (items (only (takingRest none (bind a))))) (ref b)))) 0
+      (declaring 1 1 (only (declares (itemsRest (items (only (takingRest none (bind a))))) (ref b))))
+  -- `({a: {...b}, ...c} = d)`: (t = d, {a: {}} = t, b = X({}, (E(t), t)), c = W(t, ["a"])), so b is copied from d's temporary; before statement 1: t
+  nested-rest : lowering levels 0 (program (only (says 1 (parens (assign (takingRest (only (part (name a) (takingRest none (ref b)) 0)) (ref c)) (ref d)))))) plenty
+      ≡ lowered 14 0
+      (program (only (says 1 (parens (sequence (all (
+      assign (temp 1) (ref d)
+      ∷ assign (taking (only (part (name a) (taking none) 0))) (temp 1)
+      ∷ assign (ref b) (copied (temp 1))
+      ∷ assign (ref c) (W (temp 1) (array (only (string (a ∷ [])))))
+      ∷ [])))))))
       (1 ∷ 0 ∷ 1 ∷ 0 ∷ 1 ∷ 0 ∷ 5 ∷ 1 ∷ 20 ∷ 1 ∷ 1 ∷ 0 ∷ 0 ∷ 0 ∷ [])
   -- `{ let {a, ...r} = s; }`: not at root the keys go to the list, t = ["a"]
-  hoisted-keys : lowering levels 0 (program (only (blockOf 1 (only (declaring 2 2 (only (declares (takingRest (only (part (name 97) (bind 97) 2)) (bind 114)) (ref 115)))))))) plenty
-      ≡ lowered 8 0 (program (only (blockOf 1 (only (declaring 2 2 (item (declares (taking (only (part (name 97) (bind 97) 2))) (ref 115)) (only (declares (bind 114) (W (ref 115) (temp 1))))))))))
+  hoisted-keys : lowering levels 0 (program (only (blockOf 1 (only (declaring 2 2 (only (declares (takingRest (only (part (name a) (bind a) 2)) (bind r)) (ref s)))))))) plenty
+      ≡ lowered 8 0
+      (program (only (blockOf 1 (only (declaring 2 2 (all (declares (taking (only (part (name a) (bind a) 2))) (ref s) ∷ declares (bind r) (W (ref s) (temp 1)) ∷ [])))))))
       (0 ∷ 0 ∷ 1 ∷ 0 ∷ 5 ∷ 3 ∷ 20 ∷ 1 ∷ 1 ∷ 0 ∷ 32 ∷ 1 ∷ 1 ∷ 0 ∷ 22 ∷ 7 ∷ 1 ∷ 0 ∷ 0 ∷ 1 ∷ 0 ∷ 97 ∷ [])
 
 pub examples : Examples
@@ -238,4 +306,4 @@ unfolding
     Rattle.lowering.specs.Answer.afterReading Rattle.lowering.specs.Answer.lowering
     Rattle.lowering.specs.Answer.filled Rattle.lowering.specs.Answer.outcomeOf
     Rattle.lowering.specs.Answer.outcome
-examples = record { empty-literal = refl; plain-literal = refl; two-spreads = refl; spread-last = refl; spread-first = refl; spread-around = refl; rest = refl; rest-only = refl; the-listing = refl; all-options = refl; one-options = refl; two-work = refl; three-empty = refl; four-deep = refl; not-so-deep = refl; five-array-rest = refl; six-no-form = refl; seven-short = refl; just-fits = refl; array-rest-stays = refl; nested-rest = refl; hoisted-keys = refl }
+examples = record { table = record { empty-literal = refl; plain-literal = refl; two-spreads = refl; spread-last = refl; spread-first = refl; spread-around = refl; rest = refl; rest-only = refl }; the-listing = refl; all-options = refl; one-options = refl; two-work = refl; three-empty = refl; four-deep = refl; not-so-deep = refl; five-array-rest = refl; six-no-form = refl; seven-short = refl; just-fits = refl; tree-slice = refl; list-slice = refl; refused-slice = refl; array-rest-stays = refl; nested-rest = refl; hoisted-keys = refl }

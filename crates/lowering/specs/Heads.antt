@@ -1,6 +1,6 @@
 -- Parameters, catch, and the heads of 7 and 8, with an object rest below (document 01, 'The rewriting', the last two points).
 use Prim.Native.Nat.{ℕ, zero, suc}
-use mathlib.Core.Bool.{Bool, true, false, cond, not, _&&_}
+use mathlib.Core.Bool.{Bool, cond, _&&_}
 use Rattle.tree.specs.Tree.{Node, Items, depth}
 use Rattle.tree.specs.Tree.Items.{none, hole, item}
 use Rattle.lowering.specs.Parts.{is, nodeAt, itemsAt, stands, changeNode, changeItems, only, each, gather, any, _+++_}

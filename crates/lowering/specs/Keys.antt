@@ -1,5 +1,4 @@
 -- Keys of an object pattern whose rest is taken (document 01, 'The rewriting', Keys; transform_property_key).
-use Prim.Native.Nat.{ℕ, zero, suc}
 use mathlib.Core.Bool.{Bool, true, false, cond, not, _&&_, _||_}
 use lib.Dec.{eqb}
 use Rattle.tree.specs.Tree.{Node, Items, count}

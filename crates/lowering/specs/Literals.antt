@@ -1,5 +1,5 @@
 -- Object literals (document 01, 'The rewriting', Literal; transform_object_expression).
-use mathlib.Core.Bool.{Bool, true, false, cond}
+use mathlib.Core.Bool.{true, false, cond}
 use Rattle.tree.specs.Tree.{Node, Items}
 use Rattle.tree.specs.Tree.Items.{none, hole, item}
 use Rattle.lowering.specs.Parts.{is, nodeAt, itemsAt, only, any, _+++_}

@@ -1,12 +1,12 @@
 -- The nodes that the rules make. They have no place in the input, so their position is 0; a temporary has that of what it stands for.
-use Prim.Native.Nat.{ℕ, zero, suc}
+use Prim.Native.Nat.{ℕ}
 use mathlib.Core.Bool.{Bool}
-use mathlib.Core.List.{List, [], _∷_}
-use Rattle.tree.specs.Tree.{Node, Fields, Piece, Items}
+use mathlib.Core.List.{List, []}
+use Rattle.tree.specs.Tree.{Node, Items}
 use Rattle.tree.specs.Tree.Node.{node}
 use Rattle.tree.specs.Tree.Fields.{done, absent, field}
 use Rattle.tree.specs.Tree.Piece.{one, list, text, byte, mark, number}
-use Rattle.tree.specs.Tree.Items.{none, hole, item}
+use Rattle.tree.specs.Tree.Items.{item}
 use Rattle.lowering.specs.Parts.{position, nodeAt, only}
 
 -- ---- where a node stands when the walk gets to it

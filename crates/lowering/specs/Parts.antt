@@ -2,7 +2,7 @@
 -- Everything is total: where a part does not stand, `nothing`, an empty list, no text or 0 is read, and a change changes nothing.
 use Prim.Native.Nat.{ℕ, zero, suc}
 use mathlib.Core.Bool.{Bool, true, false, _||_}
-use mathlib.Core.List.{List, [], _∷_}
+use mathlib.Core.List.{List, []}
 use lib.Dec.{eqb}
 use Rattle.tree.specs.Tree.{Node, Fields, Piece, Items}
 use Rattle.tree.specs.Tree.Node.{node}
@@ -82,13 +82,13 @@ asText (byte b) = []
 asText (mark b) = []
 asText (number b) = []
 
--- a byte, a mark or a number
+-- a byte or a number
 abbrev pub asNumber : Piece → ℕ
 asNumber (one n) = 0
 asNumber (list is) = 0
 asNumber (text bs) = 0
 asNumber (byte b) = b
-asNumber (mark b) = b
+asNumber (mark b) = 0
 asNumber (number b) = b
 
 -- field i of a node: as a node, as a list, as text, as a number; and whether it stands

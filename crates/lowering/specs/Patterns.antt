@@ -1,7 +1,7 @@
 -- Patterns: what they are made of, and the searches below them. A search goes down through patterns with a number of levels that falls;
 -- it is begun with as many levels as the pattern has, and more change nothing (proofs/Levels.antt).
 use Prim.Native.Nat.{ℕ, zero, suc}
-use mathlib.Core.Bool.{Bool, true, false, cond, _||_}
+use mathlib.Core.Bool.{Bool, false, cond, _||_}
 use lib.Dec.{eqb}
 use Rattle.tree.specs.Tree.{Node, Items, depth}
 use Rattle.tree.specs.Tree.Items.{none}

@@ -1,7 +1,6 @@
 -- The value of an object rest (document 01, 'The rewriting', Rest; SpreadPair::get_lhs_rhs).
-use Prim.Native.Nat.{ℕ}
-use mathlib.Core.Bool.{Bool, true, false, cond, not, _&&_}
-use mathlib.Core.List.{List, [], _∷_}
+use mathlib.Core.Bool.{Bool, cond, not, _&&_}
+use mathlib.Core.List.{[], _∷_}
 use Rattle.tree.specs.Tree.{Node, Items}
 use Rattle.tree.specs.Tree.Items.{none, item}
 use Rattle.lowering.specs.Parts.{only, isEmpty, each, _+++_}

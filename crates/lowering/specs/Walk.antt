@@ -1,7 +1,7 @@
 -- The rewriting of one node, and the walk (document 01, 'The rewriting', first paragraph).
 use Prim.Native.Nat.{ℕ, zero, suc}
 use mathlib.Core.Bool.{Bool, true, false, cond, not, _&&_, _||_}
-use mathlib.Core.List.{List, [], _∷_}
+use mathlib.Core.List.{List, _∷_}
 use lib.Dec.{eqb}
 use Rattle.tree.specs.Tree.{Node, Fields, Piece, Items}
 use Rattle.tree.specs.Tree.Node.{node}
@@ -190,7 +190,8 @@ eachField w i (Fields.field p fs) = field (eachPiece (w i) p) (eachField w (suc 
 unfoldable pub inside : Note → (ℕ → ℕ → Node → Walked) → Node → Walked
 inside note w (node at k fs) = noted note at k (eachField w 0 fs)
 
--- top down, in field order: rewrite the node, then walk what that leaves. What is handed out is not walked
+-- top down, in field order: rewrite the node, then walk what that leaves. What is handed out is not walked. The number is how far down
+-- the walk may go; there is always one that is enough (Weight), so the first line is never used
 unfoldable pub walk : ℕ → Context → Node → Walked
 walk zero c n = noted (unchanged n .note) 0 0 done
 walk (suc fuel) c n =

@@ -1,7 +1,7 @@
 -- How far down the walk may have to go. A node weighs more than each part of what its rewriting leaves in its place
 -- (proofs/Falls.antt), so the walk of n ends within `weight n` levels, and more of them change nothing.
-use Prim.Native.Nat.{ℕ, zero, suc, _+_, _*_}
-use mathlib.Core.Bool.{Bool, true, false, cond, _||_}
+use Prim.Native.Nat.{ℕ, suc, _+_, _*_}
+use mathlib.Core.Bool.{Bool, cond, _||_}
 use lib.Dec.{eqb}
 use Rattle.tree.specs.Tree.{Node, Fields, Piece, Items}
 use Rattle.tree.specs.Tree.Node.{node}

@@ -1,0 +1,155 @@
+-- The walk leaves a plain literal lowered at its place of the whole tree.
+-- Assumes nothing.
+use mathlib.Core.Path.{_≡_, refl, sym, ap, subst, _∙_}
+use mathlib.Core.Bool.{false}
+use mathlib.Core.List.{List, []}
+use Prim.Native.Nat.{ℕ, zero, suc, _+_}
+use native.Mathlib.Omega.{arith}
+use lib.Dec.{ltb}
+use Rattle.tree.specs.Tree.{Node, Fields, Piece, Items, encode}
+use Rattle.tree.specs.Grammar.Stage.{input}
+use Rattle.tree.specs.Read.{Got, readTree}
+use Rattle.tree.specs.Read.Got.{got, refused}
+use Rattle.lowering.specs.Parts.{is}
+use Rattle.lowering.specs.Walk.{Note, Walked, rewrite, within, inside, eachItem, eachPiece, eachField}
+use Rattle.lowering.specs.Weight.{walked}
+use Rattle.lowering.specs.Collect.{Name, newIn, newInPiece, bare, bareFields, barePiece, bareItems, numbered, numberedFields, numberedPiece, numberedItems, visits, firstRefusal, entries, excludedIn, namesOf, helperMask, listBytes}
+use Rattle.lowering.specs.Answer.{Lent, Result, lowering, afterReading, afterWalk, collected, fitted, fits, top}
+use Rattle.lowering.proofs.Falls.{walked-is}
+use Rattle.overlay.specs.Plain.{given}
+use Rattle.overlay.specs.Law.{Overlay, Faithful}
+use Rattle.overlay.specs.Whole.{leaves, ItemAt, NodeIn, FieldAt, PartAt, Stands, Visits, lowered, Left, InPlace, Writes}
+use Rattle.overlay.proofs.Objects.{by-test}
+use Rattle.overlay.proofs.Plainly.{Plain, plain-rule}
+use Rattle.overlay.proofs.Lowered.{plain-turns}
+use Rattle.overlay.proofs.Overlay.{faithful, overlays}
+
+pub plus-zero : (n : ℕ) → n ≡ n + 0
+plus-zero n = omega arith
+
+pub zero-plus : (n : ℕ) → 0 + n ≡ n
+zero-plus n = omega arith
+
+pub plus-suc : (m n : ℕ) → suc m + n ≡ m + suc n
+plus-suc m n = omega arith
+
+item-to : {is : Items} {j : ℕ} (f : ℕ → Node) {m n : ℕ} → m ≡ n → ItemAt is j (f m) → ItemAt is j (f n)
+item-to {is} {j} f e a = subst (λ (y : ℕ). ItemAt is j (f y)) e a
+
+field-to : {fs : Fields} {i j : ℕ} (f : ℕ → Node) {m n : ℕ} → m ≡ n → FieldAt fs i j (f m) → FieldAt fs i j (f n)
+field-to {fs} {i} {j} f e a = subst (λ (y : ℕ). FieldAt fs i j (f y)) e a
+
+-- ---- a part of what is rewritten is a part of what is written
+
+module _ (ns : List Name) where
+  abbrev final : ℕ → Walked → Node
+  final next w = numbered ns (bare next w)
+
+  item-left : {is : Items} {j : ℕ} {x : Node} → ItemAt is j x → (w : ℕ → Node → Walked) (next j₀ : ℕ)
+      → (next′ : ℕ) × ItemAt (numberedItems ns (bareItems next (eachItem w j₀ is))) j (final next′ (w (j₀ + j) x))
+  unfolding eachItem bare numbered
+  item-left (ItemAt.first {x = x}) w next j₀ = (next, item-to (λ y. final next (w y x)) (plus-zero j₀) ItemAt.first)
+  item-left (ItemAt.behind {n = n} {x = x} {j = j} a) w next j₀ =
+      let r = item-left a w (next + newIn (w j₀ n)) (suc j₀) in
+      (r .0, item-to (λ y. final (r .0) (w y x)) (plus-suc j₀ j) (ItemAt.behind (r .1)))
+  item-left (ItemAt.behindHole {x = x} {j = j} a) w next j₀ =
+      let r = item-left a w next (suc j₀) in
+      (r .0, item-to (λ y. final (r .0) (w y x)) (plus-suc j₀ j) (ItemAt.behindHole (r .1)))
+
+  piece-left : {p : Piece} {j : ℕ} {x : Node} → NodeIn p j x → (w : ℕ → Node → Walked) (next : ℕ)
+      → (next′ : ℕ) × NodeIn (numberedPiece ns (barePiece next (eachPiece w p))) j (final next′ (w j x))
+  unfolding eachPiece bare numbered
+  piece-left NodeIn.one w next = (next, NodeIn.one)
+  piece-left (NodeIn.list {x = x} {j = j} a) w next = let r = item-left a w next 0 in (r .0, NodeIn.list (item-to (λ y. final (r .0) (w y x)) (zero-plus j) (r .1)))
+
+  field-left : {fs : Fields} {i j : ℕ} {x : Node} → FieldAt fs i j x → (w : ℕ → ℕ → Node → Walked) (next i₀ : ℕ)
+      → (next′ : ℕ) × FieldAt (numberedFields ns (bareFields next (eachField w i₀ fs))) i j (final next′ (w (i₀ + i) j x))
+  unfolding eachField bare numbered
+  field-left (FieldAt.first {j = j} {x = x} a) w next i₀ =
+      let r = piece-left a (w i₀) next in
+      (r .0, field-to (λ y. final (r .0) (w y j x)) (plus-zero i₀) (FieldAt.first (r .1)))
+  field-left (FieldAt.behind {p = p} {i = i} {j = j} {x = x} a) w next i₀ =
+      let r = field-left a w (next + newInPiece (eachPiece (w i₀) p)) (suc i₀) in
+      (r .0, field-to (λ y. final (r .0) (w y j x)) (plus-suc i₀ i) (FieldAt.behind (r .1)))
+  field-left (FieldAt.behindAbsent {i = i} {j = j} {x = x} a) w next i₀ =
+      let r = field-left a w next (suc i₀) in
+      (r .0, field-to (λ y. final (r .0) (w y j x)) (plus-suc i₀ i) (FieldAt.behindAbsent (r .1)))
+
+  part-left : {n x : Node} {i j : ℕ} → PartAt n i j x → is 20 n ≡ false → (note : Note) (w : ℕ → ℕ → Node → Walked) (next : ℕ)
+      → (next′ : ℕ) × PartAt (final next (inside note w n)) i j (final next′ (w i j x))
+  unfolding inside bare numbered is
+  part-left (PartAt.part {i = i} {j = j} {x = x} a) e note w next =
+      let r = field-left a w next 0 in
+      (r .0, rw e (PartAt.part (field-to (λ y. final (r .0) (w y j x)) (zero-plus i) (r .1))))
+
+pub left : Left
+unfolding leaves within
+left ns next c d n m Visits.here = (next, Stands.here)
+left ns next c d n m (Visits.onward {x = x} {i = i} {j = j} e a v) =
+    let r = rewrite c n .result in
+    let p = part-left ns a e (rewrite c n .note) (λ i j m. walked (within c r i j) m) next in
+    let s = left ns (p .0) (within c r i j) d x m v in
+    (s .0, subst (λ (w : Walked). Stands (c .path) (numbered ns (bare next w)) (d .path) (leaves ns (s .0) d m)) (sym (walked-is c n)) (Stands.onward (p .1) (s .1)))
+
+-- ---- the literal at its place
+
+pub in-place : InPlace
+unfolding given
+in-place ns next n m d v g e =
+    let r : Plain m = plain-rule m e g in
+    let s = left ns next top d n m v in
+    subst (λ (x : Node). Stands [] (leaves ns next top n) (d .path) x) (plain-turns r ns (s .0) d ∙ sym (plain-turns r [] 1 top)) (s .1)
+
+pub lowered-overlays : Overlay lowered lowered
+lowered-overlays = overlays [] [] 1 1 top top
+
+pub lowered-faithful : Faithful lowered
+lowered-faithful = faithful [] 1 top
+
+-- ---- the bytes of the result
+
+-- an answer that lowers, by the tests that it passed
+fitted-tree : (s : Lent) (hs os : ℕ) (a b : List ℕ) (helpers mask : ℕ) (t l : List ℕ) → fitted s hs os a b ≡ Result.lowered helpers mask t l → t ≡ a
+unfolding fitted
+fitted-tree s hs os a b helpers mask t l e = by-test (fits s a b) (λ f. tree-of (rw f at e)) (λ f. no-tree (rw f at e))
+  where
+    tree-of : Result.lowered hs os a b ≡ Result.lowered helpers mask t l → t ≡ a
+    tree-of e = cc
+
+    no-tree : Result.refusal 7 ≡ Result.lowered helpers mask t l → t ≡ a
+    no-tree e = cc
+
+by-number : {A : Type 0} (n : ℕ) → (n ≡ 0 → A) → ((m : ℕ) → n ≡ suc m → A) → A
+by-number zero f g = f refl
+by-number (suc m) f g = g m refl
+
+no-refusal : {A : Type 0} (r : ℕ) (helpers mask : ℕ) (t l : List ℕ) → Result.refusal r ≡ Result.lowered helpers mask t l → A
+no-refusal r helpers mask t l e = absurd (let z : _≡_ {A = ℕ} 0 1 = ap sort e in omega arith)
+  where
+    sort : Result → ℕ
+    sort (Result.refusal r) = 0
+    sort (Result.lowered a b c d) = 1
+
+walk-tree : (options : ℕ) (s : Lent) (next : ℕ) (w : Walked) (helpers mask : ℕ) (t l : List ℕ) → afterWalk options s next w ≡ Result.lowered helpers mask t l
+    → (ns : List Name) × (firstRefusal (visits next 0 w) ≡ 0) × (t ≡ encode (numbered ns (bare next w)))
+unfolding afterWalk collected
+walk-tree options s next w helpers mask t l e =
+    let vs = visits next 0 w in
+    let ns = namesOf (bare next w) (entries vs) (excludedIn vs) in
+    by-number (firstRefusal vs)
+    (λ z. (ns, z, fitted-tree s (helperMask (bare next w)) options (encode (numbered ns (bare next w))) (listBytes ns (entries vs) (excludedIn vs)) helpers mask t l (rw (z, afterWalk) at e)))
+    (λ r z. no-refusal (suc r) helpers mask t l (rw (z, afterWalk) at e))
+
+pub writes : Writes
+unfolding lowering afterReading leaves
+writes limit options bytes s helpers mask t l e =
+    by-test (ltb 15 options)
+    (λ a. no-refusal 1 helpers mask t l (rw (a, lowering) at e))
+    (λ a. by-test (ltb (s .workSlice) 65536)
+    (λ b. no-refusal 2 helpers mask t l (rw b at (rw (a, lowering) at e)))
+    (λ b. go (readTree input limit bytes) refl (rw b at (rw (a, lowering) at e))))
+  where
+    go : (g : Got Node) → readTree input limit bytes ≡ g → afterReading options s g ≡ Result.lowered helpers mask t l
+        → (n : Node) × (q next : ℕ) × (ns : List Name) × (readTree input limit bytes ≡ got n q next) × (firstRefusal (visits next 0 (walked top n)) ≡ 0) × (t ≡ encode (leaves ns next top n))
+    go (got n q next) r e = let x = walk-tree options s next (walked top n) helpers mask t l e in (n, q, next, x .0, r, x .1, x .2)
+    go (refused x) r e = no-refusal _ helpers mask t l e

@@ -1,0 +1,105 @@
+-- Literals in a whole tree: where the walk comes to them, and what it leaves there.
+use mathlib.Core.Path.{_≡_}
+use mathlib.Core.List.{List, [], _∷_}
+use mathlib.Core.Bool.{true, false}
+use Prim.Native.Nat.{ℕ, suc}
+use Rattle.tree.specs.Tree.{Node, Fields, Piece, Items, encode}
+use Rattle.tree.specs.Tree.Node.{node}
+use Rattle.tree.specs.Grammar.Stage.{input}
+use Rattle.tree.specs.Read.{readTree}
+use Rattle.tree.specs.Read.Got.{got}
+use Rattle.tree.specs.WellFormed.{WellFormed}
+use Rattle.lowering.specs.Parts.{is}
+use Rattle.lowering.specs.Made.{Context}
+use Rattle.lowering.specs.Walk.{rewrite, within}
+use Rattle.lowering.specs.Weight.{walked}
+use Rattle.lowering.specs.Collect.{Name, bare, numbered, visits, firstRefusal}
+use Rattle.lowering.specs.Answer.{Lent, Result, lowering, top}
+use Rattle.overlay.specs.Plain.{given, plain}
+
+-- what is written where the walk came to n, the next new mark being `next` and ns the names of the temporaries
+unfoldable pub leaves : List Name → ℕ → Context → Node → Node
+leaves ns next c n = numbered ns (bare next (walked c n))
+
+-- ---- places
+
+-- x is item j of the list
+pub data ItemAt : Items → ℕ → Node → Type 0 where
+  first : {x : Node} {is : Items} → ItemAt (Items.item x is) 0 x
+  behind : {n x : Node} {is : Items} {j : ℕ} → ItemAt is j x → ItemAt (Items.item n is) (suc j) x
+  behindHole : {x : Node} {is : Items} {j : ℕ} → ItemAt is j x → ItemAt (Items.hole is) (suc j) x
+
+-- x is node j of the piece: 0 if the piece is no list
+pub data NodeIn : Piece → ℕ → Node → Type 0 where
+  one : {x : Node} → NodeIn (Piece.one x) 0 x
+  list : {x : Node} {is : Items} {j : ℕ} → ItemAt is j x → NodeIn (Piece.list is) j x
+
+-- x is node j of field i
+pub data FieldAt : Fields → ℕ → ℕ → Node → Type 0 where
+  first : {p : Piece} {fs : Fields} {j : ℕ} {x : Node} → NodeIn p j x → FieldAt (Fields.field p fs) 0 j x
+  behind : {p : Piece} {fs : Fields} {i j : ℕ} {x : Node} → FieldAt fs i j x → FieldAt (Fields.field p fs) (suc i) j x
+  behindAbsent : {fs : Fields} {i j : ℕ} {x : Node} → FieldAt fs i j x → FieldAt (Fields.absent fs) (suc i) j x
+
+-- the same of a node's fields
+pub data PartAt : Node → ℕ → ℕ → Node → Type 0 where
+  part : {at k : ℕ} {fs : Fields} {i j : ℕ} {x : Node} → FieldAt fs i j x → PartAt (node at k fs) i j x
+
+-- m stands in n at the path q, where n itself has the path p: a pair of numbers for each node around it, the nearest first
+pub data Stands : List ℕ → Node → List ℕ → Node → Type 0 where
+  here : {p : List ℕ} {n : Node} → Stands p n p n
+  onward : {p q : List ℕ} {n x m : Node} {i j : ℕ} → PartAt n i j x → Stands (j ∷ i ∷ p) x q m → Stands p n q m
+
+-- ---- the walk of n in the context c comes to m in the context d: it rewrites n, and goes on with the parts of the result. A Temporary
+-- has no parts in a tree
+
+pub data Visits : Context → Node → Context → Node → Type 0 where
+  here : {c : Context} {n : Node} → Visits c n c n
+  onward : {c d : Context} {n x m : Node} {i j : ℕ}
+      → is 20 (rewrite c n .result) ≡ false
+      → PartAt (rewrite c n .result) i j x → Visits (within c (rewrite c n .result) i j) x d m → Visits c n d m
+
+-- ---- what is said of them
+
+-- a node lowered by itself
+abbrev pub lowered : Node → Node
+lowered n = leaves [] 1 top n
+
+-- the tree that is written has, at the path of the context in which the walk comes to m, what it leaves of m
+abbrev pub Left : Type 0
+Left = (ns : List Name) (next : ℕ) (c d : Context) (n m : Node) → Visits c n d m
+    → (next′ : ℕ) × Stands (c .path) (leaves ns next c n) (d .path) (leaves ns next′ d m)
+
+-- where the walk comes to a plain literal of an accepted tree, the literal lowered by itself is written. With the laws of `lowered` this
+-- is the law in every tree
+abbrev pub InPlace : Type 0
+InPlace = (ns : List Name) (next : ℕ) (n m : Node) (d : Context) → Visits top n d m → given m ≡ true → plain m ≡ true
+    → Stands [] (leaves ns next top n) (d .path) (lowered m)
+
+-- where a call lowers, nothing is refused, and the bytes that it writes are those of what the walk leaves of the tree that it reads
+abbrev pub Writes : Type 0
+Writes = (limit options : ℕ) (bytes : List ℕ) (s : Lent) (helpers mask : ℕ) (t l : List ℕ) → lowering limit options bytes s ≡ Result.lowered helpers mask t l
+    → (n : Node) × (q next : ℕ) × (ns : List Name) × (readTree input limit bytes ≡ got n q next) × (firstRefusal (visits next 0 (walked top n)) ≡ 0)
+    × (t ≡ encode (leaves ns next top n))
+
+-- ---- every literal is come to
+
+-- the walk of n in the context c comes to m; or m stands in what the rewriting of a node hands out, as a list entry or an excluded key
+pub data Comes (m : Node) (c : Context) (n : Node) : Type 0 where
+  visited : {d : Context} → Visits c n d m → Comes m c n
+  inEntry : {d : Context} {x y : Node} {j : ℕ} {p : List ℕ} → Visits c n d x → ItemAt (rewrite d x .note .entry) j y → Stands [] y p m → Comes m c n
+  inExcluded : {d : Context} {x y : Node} {j : ℕ} {p : List ℕ} → Visits c n d x → ItemAt (rewrite d x .note .excluded) j y → Stands [] y p m → Comes m c n
+
+-- So it is of each literal of an accepted tree. The rules for patterns and heads move literals about; none is changed, and none is lost
+abbrev pub Reached : Type 0
+Reached = (levels next : ℕ) (n : Node) → WellFormed input levels n next → firstRefusal (visits next 0 (walked top n)) ≡ 0
+    → (p : List ℕ) (m : Node) → Stands [] n p m → is 24 m ≡ true → Comes m top n
+
+-- Together: a plain literal of an accepted tree is handed out, or the tree that is written has it lowered by itself at some place
+pub data Lowered (m n written : Node) : Type 0 where
+  inTree : {p : List ℕ} → Stands [] written p (lowered m) → Lowered m n written
+  inList : {d : Context} {x y : Node} {j : ℕ} {p : List ℕ} → Visits top n d x → ItemAt (rewrite d x .note .entry) j y → Stands [] y p m → Lowered m n written
+  inKeys : {d : Context} {x y : Node} {j : ℕ} {p : List ℕ} → Visits top n d x → ItemAt (rewrite d x .note .excluded) j y → Stands [] y p m → Lowered m n written
+
+abbrev pub Everywhere : Type 0
+Everywhere = (levels next : ℕ) (n : Node) → WellFormed input levels n next → firstRefusal (visits next 0 (walked top n)) ≡ 0
+    → (ns : List Name) (p : List ℕ) (m : Node) → Stands [] n p m → is 24 m ≡ true → plain m ≡ true → Lowered m n (leaves ns next top n)

@@ -1,0 +1,11 @@
+pub mod Laws
+pub mod Runs
+pub mod Names
+pub mod Holds
+pub mod Events
+pub mod Lengths
+pub mod Result
+pub mod Joined
+pub mod Indices
+pub mod Firsts
+pub mod Plains

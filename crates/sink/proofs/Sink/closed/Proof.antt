@@ -1,0 +1,38 @@
+use mathlib.Core.Path.{_∙_}
+use Rattle.sink.proofs.Laws as law
+use borrow.Author.Needs.{needs}
+use Rattle.sink.proofs.Sink.closed.Statement.{statement}
+use Rattle.sink.proofs.Sink.closed.Tie as tie
+
+put-wide-requires : tie.Need-put-wide-requires
+put-wide-requires c κs = tt
+
+listed-wide-requires : tie.Need-listed-wide-requires
+listed-wide-requires c κs = tt
+
+add-listed-copy : tie.Need-add-listed-copy
+add-listed-copy c = search needs
+
+listed-copy-requires : tie.Need-listed-copy-requires
+listed-copy-requires c κs = tt
+
+same-length : tie.Need-same-length
+same-length c = c .before .before .listed-copy .kept .1 .0 ∙ c .before .before .before .before .before .before .listed-wide .kept .1 .0 ∙ c .before .before .before .before .before .before .before .before .before .before .put-wide .kept .0
+
+returns : tie.Need-returns
+returns c = λ t. law.closed-in _ _ _ _ (c .before .before .before .before .before .before .before .before .before .before .before .before .if1 .taken) (c .before .before .before .before .before .before .before .before .before .before .put-wide .ensures) (c .before .before .before .before .before .before .listed-wide .ensures t _) (c .before .before .listed-copy .ensures t _)
+
+returns-2 : tie.Need-returns-2
+returns-2 c = λ t. law.closed-over _ (c .if1 .left)
+
+pub closed-spec : {M : Type 1} → statement M
+closed-spec =
+    tie.close
+    (tie.spec
+    put-wide-requires
+    listed-wide-requires
+    add-listed-copy
+    listed-copy-requires
+    same-length
+    returns
+    returns-2)

@@ -1,0 +1,27 @@
+use Rattle.sink.proofs.Laws as law
+use borrow.Author.Needs.{needs}
+use Rattle.sink.proofs.Sink.entry.Statement.{statement}
+use Rattle.sink.proofs.Sink.entry.Tie as tie
+
+one-more-requires : tie.Need-one-more-requires
+one-more-requires c κs = tt
+
+write-entry-at-requires : tie.Need-write-entry-at-requires
+write-entry-at-requires c κs = tt
+
+add-self : tie.Need-add-self
+add-self c = search needs
+
+same-length : tie.Need-same-length
+same-length c = c .before .before .write-entry-at .kept .0
+
+returns : tie.Need-returns
+returns c = λ t w. law.entry-in _ _ _ _ _ (c .before .before .before .before .before .one-more .ensures) (c .before .before .before .before .if1 .taken) (c .before .before .write-entry-at .ensures)
+
+returns-2 : tie.Need-returns-2
+returns-2 c = λ t w. law.entry-over _ _ _ _ (c .before .one-more .ensures) (c .if1 .left)
+
+pub entry-spec : {M : Type 1} → statement M
+entry-spec =
+    tie.close
+    (tie.spec one-more-requires write-entry-at-requires add-self same-length returns returns-2)

@@ -1,0 +1,27 @@
+use mathlib.Core.Path.{_∙_}
+use Rattle.sink.proofs.Laws as law
+use Rattle.sink.proofs.Sink.finish.Statement.{statement}
+use Rattle.sink.proofs.Sink.finish.Tie as tie
+
+closed-requires : tie.Need-closed-requires
+closed-requires c κs = tt
+
+ended-requires : tie.Need-ended-requires
+ended-requires c κs = tt
+
+same-length : tie.Need-same-length
+same-length c = c .before .before .before .before .before .before .ended .kept .1 .0
+
+same-length-2 : tie.Need-same-length-2
+same-length-2 c = c .before .before .before .before .before .before .ended .kept .1 .1 .0 ∙ c .before .before .before .before .before .before .before .before .before .before .before .before .closed .kept .1 .0
+
+same-length-3 : tie.Need-same-length-3
+same-length-3 c = c .before .before .before .before .before .before .ended .kept .1 .1 .1 .0
+
+returns : tie.Need-returns
+returns c = law.finished-is _ _ _ (c .before .before .before .before .before .before .before .before .before .before .before .before .closed .ensures _) (c .before .before .before .before .before .before .ended .ensures)
+
+pub finish-spec : {M : Type 1} → statement M
+finish-spec =
+    tie.close
+    (tie.spec closed-requires ended-requires same-length same-length-2 same-length-3 returns)

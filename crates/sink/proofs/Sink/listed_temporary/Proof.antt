@@ -1,0 +1,32 @@
+use Rattle.sink.proofs.Laws as law
+use Rattle.sink.proofs.Sink.listed_temporary.Statement.{statement}
+use Rattle.sink.proofs.Sink.listed_temporary.Tie as tie
+
+listed-at-requires : tie.Need-listed-at-requires
+listed-at-requires c κs = tt
+
+set-cell-requires : tie.Need-set-cell-requires
+set-cell-requires c κs = tt
+
+listed4-requires : tie.Need-listed4-requires
+listed4-requires c κs = tt
+
+same-length : tie.Need-same-length
+same-length c = c .before .before .listed4 .kept .1 .0
+
+same-length-2 : tie.Need-same-length-2
+same-length-2 c = c .before .before .before .before .before .before .set-cell .kept .0
+
+returns : tie.Need-returns
+returns c = λ t. law.listed-temporary-is _ _ _ _ _ (c .before .before .before .before .before .before .before .listed-at .ensures) (c .before .before .before .before .before .before .set-cell .ensures) (c .before .before .listed4 .ensures _ _)
+
+pub listed-temporary-spec : {M : Type 1} → statement M
+listed-temporary-spec =
+    tie.close
+    (tie.spec
+    listed-at-requires
+    set-cell-requires
+    listed4-requires
+    same-length
+    same-length-2
+    returns)

@@ -1,0 +1,50 @@
+use mathlib.Core.Path.{_∙_}
+use Rattle.sink.proofs.Laws as law
+use borrow.Author.Needs.{needs}
+use Rattle.sink.proofs.Sink.settled.Statement.{statement}
+use Rattle.sink.proofs.Sink.settled.Tie as tie
+
+cell-requires : tie.Need-cell-requires
+cell-requires c κs = tt
+
+known-requires : tie.Need-known-requires
+known-requires c κs = tt
+
+same-length : tie.Need-same-length
+same-length c = search needs
+
+returns : tie.Need-returns
+returns c = λ t. law.settled-known _ _ _ _ (c .before .before .cell .ensures) (c .before .known .ensures) (c .if1 .taken)
+
+patch-requires : tie.Need-patch-requires
+patch-requires c κs = tt
+
+set-cell-requires : tie.Need-set-cell-requires
+set-cell-requires c κs = tt
+
+one-more-requires : tie.Need-one-more-requires
+one-more-requires c κs = tt
+
+same-length-2 : tie.Need-same-length-2
+same-length-2 c = c .before .before .before .before .before .before .before .before .before .patch .kept .0
+
+same-length-3 : tie.Need-same-length-3
+same-length-3 c = c .before .before .before .set-cell .kept .0 ∙ c .before .before .before .before .before .before .before .before .before .patch .kept .1 .0
+
+returns-2 : tie.Need-returns-2
+returns-2 c = λ t. law.settled-new _ _ _ _ _ _ _ _ (c .before .before .before .before .before .before .before .before .before .before .before .before .before .before .cell .ensures) (c .before .before .before .before .before .before .before .before .before .before .before .before .before .known .ensures) (c .before .before .before .before .before .before .before .before .before .before .before .before .if1 .left) (c .before .before .before .before .before .before .before .before .before .patch .ensures) (c .before .before .before .set-cell .ensures) (c .one-more .ensures)
+
+pub settled-spec : {M : Type 1} → statement M
+settled-spec =
+    tie.close
+    (tie.spec
+    cell-requires
+    known-requires
+    same-length
+    returns
+    patch-requires
+    set-cell-requires
+    one-more-requires
+    same-length-2
+    same-length-3
+    returns-2)

@@ -1,0 +1,36 @@
+use Rattle.sink.proofs.Laws as law
+use Rattle.sink.proofs.ends.begin.Statement.{statement}
+use Rattle.sink.proofs.ends.begin.Tie as tie
+
+clear-requires : tie.Need-clear-requires
+clear-requires c κs = tt
+
+clear-requires-2 : tie.Need-clear-requires-2
+clear-requires-2 c κs = tt
+
+clear-requires-3 : tie.Need-clear-requires-3
+clear-requires-3 c κs = tt
+
+same-length : tie.Need-same-length
+same-length c = c .before .before .before .before .before .before .before .before .before .before .clear .kept .0
+
+same-length-2 : tie.Need-same-length-2
+same-length-2 c = c .before .before .before .before .before .before .clear2 .kept .0
+
+same-length-3 : tie.Need-same-length-3
+same-length-3 c = c .before .before .clear3 .kept .0
+
+returns : tie.Need-returns
+returns c = law.started _ _ _ _ _ _ _ (c .before .before .before .before .before .before .before .before .before .before .clear .ensures) (c .before .before .before .before .before .before .clear2 .ensures) (c .before .before .clear3 .ensures)
+
+pub begin-spec : {M : Type 1} → statement M
+begin-spec =
+    tie.close
+    (tie.spec
+    clear-requires
+    clear-requires-2
+    clear-requires-3
+    same-length
+    same-length-2
+    same-length-3
+    returns)

@@ -1,0 +1,92 @@
+// What is written to the tree.
+use crate::Sink;
+use crate::bytes;
+use crate::cells;
+ghost use mathlib.Core.Path.{_≡_};
+ghost use Prim.Native.Nat.{ℕ};
+ghost use lib.Dec.{ltb};
+ghost use mathlib.Core.List.{List, [], _∷_};
+ghost use Rattle.sink.specs.Machine.{treeLimit, stateOf, step, steps, puts, low, high, part};
+ghost use Rattle.sink.specs.Machine.Event.{put, helper, temporary, newMark};
+
+impl Sink {
+    pub fn put(mut self, out: &mut [u8], b: u8) -> Sink
+        ensures { λ r. ⌜ ((l w : List ℕ) → stateOf (now (out .exit)) l w r ≡ step (stateOf (now (out .entry)) l w self) (put b)) ⌝ }
+    {
+        let at = self.tree;
+        if at < 32768 {
+            bytes::put_byte(out, at, b);
+            self.tree = at + 1;
+            return self;
+        }
+        self.tree = 32769;
+        self
+    }
+
+    // Whether the tree is past its limit, so that nothing will be handed back.
+    pub fn full(self) -> bool
+        ensures { λ r. ⌜ r ≡ ltb treeLimit (self .tree) ⌝ }
+    {
+        32768 < self.tree
+    }
+
+    pub fn put2(self, out: &mut [u8], a: u8, b: u8) -> Sink
+        ensures { λ r. ⌜ ((l w : List ℕ) → stateOf (now (out .exit)) l w r ≡ steps (stateOf (now (out .entry)) l w self) (puts (a ∷ b ∷ []))) ⌝ }
+    {
+        self.put(out, a).put(out, b)
+    }
+
+    pub fn put4(self, out: &mut [u8], a: u8, b: u8, c: u8, d: u8) -> Sink
+        ensures { λ r. ⌜ ((l w : List ℕ) → stateOf (now (out .exit)) l w r ≡ steps (stateOf (now (out .entry)) l w self) (puts (a ∷ b ∷ c ∷ d ∷ []))) ⌝ }
+    {
+        self.put2(out, a, b).put2(out, c, d)
+    }
+
+    // A 16-bit number.
+    pub fn put_wide(self, out: &mut [u8], n: usize) -> Sink
+        ensures { λ r. ⌜ ((l w : List ℕ) → stateOf (now (out .exit)) l w r ≡ steps (stateOf (now (out .entry)) l w self) (puts (low n ∷ high n ∷ []))) ⌝ }
+    {
+        self.put2(out, bytes::low(n), bytes::high(n))
+    }
+
+    // The bytes of `from` from a position up to another.
+    pub fn copy(self, out: &mut [u8], from: &[u8], start: usize, end: usize) -> Sink
+        ensures { λ r. ⌜ ((l w : List ℕ) → stateOf (now (out .exit)) l w r ≡ steps (stateOf (now (out .entry)) l w self) (puts (part start end (now (from .entry))))) ⌝ }
+    {
+        let mut k = self;
+        let mut i = start;
+        let stop = bytes::least(end, from.len());
+        while i < stop {
+            k = k.put(out, from[i]);
+            i += 1;
+        }
+        k
+    }
+
+    // The node of helper h.
+    pub fn helper(mut self, out: &mut [u8], h: u8) -> Sink
+        ensures { λ r. ⌜ ((l w : List ℕ) → stateOf (now (out .exit)) l w r ≡ step (stateOf (now (out .entry)) l w self) (helper h)) ⌝ }
+    {
+        let u = self.helpers;
+        self.helpers = u.with(h);
+        self.put2(out, 21, 1).put(out, h)
+    }
+
+    // The next mark, for a new statement.
+    pub fn new_mark(mut self, out: &mut [u8]) -> Sink
+        ensures { λ r. ⌜ ((l w : List ℕ) → stateOf (now (out .exit)) l w r ≡ step (stateOf (now (out .entry)) l w self) newMark) ⌝ }
+    {
+        let m = self.mark;
+        self.mark = bytes::one_more(m, 65535);
+        self.put_wide(out, m)
+    }
+
+    // The node of the temporary that a cell stands for.
+    pub fn temporary(self, out: &mut [u8], list: &mut [u8], work: &mut [u8], c: usize) -> Sink
+        ensures { λ r. ⌜ stateOf (now (out .exit)) (now (list .exit)) (now (work .exit)) r ≡ step (stateOf (now (out .entry)) (now (list .entry)) (now (work .entry)) self) (temporary c) ⌝ }
+    {
+        let n = self.number(work, c);
+        let k = self.settled(list, work, c);
+        k.put4(out, 20, 1, bytes::low(n), bytes::high(n))
+    }
+}
