@@ -1,0 +1,79 @@
+-- Lists one after another.
+-- Assumes nothing.
+use mathlib.Core.Path.{_≡_, refl, sym, ap, ap₂, _∙_}
+use mathlib.Core.Bool.{Bool, true, false, _||_}
+use mathlib.Core.List.{[], _∷_}
+use Prim.Native.Nat.{_+_}
+use native.Mathlib.Omega.{arith}
+use Rattle.tree.specs.Tree.{Node, Items, count}
+use Rattle.lowering.specs.Parts.{each, gather, any, _+++_}
+use Rattle.lowering.proofs.Accepted.{NoHoles}
+use Rattle.sink.specs.Machine.{Event}
+use Rattle.direct.specs.Events.{Place, Emit}
+use Rattle.direct.specs.Events.Deed.{does}
+use Rattle.direct.specs.Emit.{say, _▷_, emitsItem, emitsItems, inTurn}
+use Rattle.direct.proofs.Threads.{then-assoc, say-nothing}
+
+pub items-append : (l : Bool) (c : Place) (ns ms : Items) → emitsItems l c (ns +++ ms) ≡ emitsItems l c ns ▷ emitsItems l c ms
+unfolding emitsItems _+++_
+items-append l c Items.none ms = sym (say-nothing (emitsItems l c ms))
+items-append l c (Items.hole ns) ms =
+    let z = say (does (Event.put 0) ∷ []) in
+    ap (λ (x : Emit). z ▷ x) (items-append l c ns ms) ∙ sym (then-assoc z (emitsItems l c ns) (emitsItems l c ms))
+items-append l c (Items.item n ns) ms =
+    ap (λ (x : Emit). emitsItem l c n ▷ x) (items-append l c ns ms) ∙ sym (then-assoc (emitsItem l c n) (emitsItems l c ns) (emitsItems l c ms))
+
+-- the lists of all items
+pub items-gather : (l : Bool) (c : Place) (f : Node → Items) (ns : Items) → emitsItems l c (gather f ns) ≡ inTurn (λ n. emitsItems l c (f n)) ns
+unfolding emitsItems gather inTurn
+items-gather l c f Items.none = refl
+items-gather l c f (Items.hole ns) = items-gather l c f ns
+items-gather l c f (Items.item n ns) =
+    items-append l c (f n) (gather f ns) ∙ ap (λ (x : Emit). emitsItems l c (f n) ▷ x) (items-gather l c f ns)
+
+-- items that are changed, or made, one for one
+pub items-each : (l : Bool) (c : Place) (f : Node → Node) (ns : Items) → NoHoles ns → emitsItems l c (each f ns) ≡ inTurn (λ n. emitsItem l c (f n)) ns
+unfolding emitsItems each inTurn NoHoles
+items-each l c f Items.none w = refl
+items-each l c f (Items.hole ns) w = absurd w
+items-each l c f (Items.item n ns) w = ap (λ (x : Emit). emitsItem l c (f n) ▷ x) (items-each l c f ns w)
+
+pub turn-append : (f : Node → Emit) (ns ms : Items) → inTurn f (ns +++ ms) ≡ inTurn f ns ▷ inTurn f ms
+unfolding inTurn _+++_
+turn-append f Items.none ms = sym (say-nothing (inTurn f ms))
+turn-append f (Items.hole ns) ms = turn-append f ns ms
+turn-append f (Items.item n ns) ms = ap (λ (x : Emit). f n ▷ x) (turn-append f ns ms) ∙ sym (then-assoc (f n) (inTurn f ns) (inTurn f ms))
+
+pub turn-gather : (f : Node → Emit) (g : Node → Items) (ns : Items) → inTurn f (gather g ns) ≡ inTurn (λ n. inTurn f (g n)) ns
+unfolding inTurn gather
+turn-gather f g Items.none = refl
+turn-gather f g (Items.hole ns) = turn-gather f g ns
+turn-gather f g (Items.item n ns) = turn-append f (g n) (gather g ns) ∙ ap (λ (x : Emit). inTurn f (g n) ▷ x) (turn-gather f g ns)
+
+pub turn-same : (f g : Node → Emit) → ((n : Node) → f n ≡ g n) → (ns : Items) → inTurn f ns ≡ inTurn g ns
+unfolding inTurn
+turn-same f g h Items.none = refl
+turn-same f g h (Items.hole ns) = turn-same f g h ns
+turn-same f g h (Items.item n ns) = ap₂ (λ (x y : Emit). x ▷ y) (h n) (turn-same f g h ns)
+
+pub count-append : (ns ms : Items) → count (ns +++ ms) ≡ count ns + count ms
+unfolding count _+++_
+count-append Items.none ms = omega arith
+count-append (Items.hole ns) ms = let e = count-append ns ms in omega arith
+count-append (Items.item n ns) ms = let e = count-append ns ms in omega arith
+
+or-assoc : (a b c : Bool) → (a || b) || c ≡ a || (b || c)
+or-assoc true b c = refl
+or-assoc false b c = refl
+
+pub any-append : (f : Node → Bool) (ns ms : Items) → any f (ns +++ ms) ≡ any f ns || any f ms
+unfolding any _+++_
+any-append f Items.none ms = refl
+any-append f (Items.hole ns) ms = any-append f ns ms
+any-append f (Items.item n ns) ms = ap (λ (x : Bool). f n || x) (any-append f ns ms) ∙ sym (or-assoc (f n) (any f ns) (any f ms))
+
+pub holes-append : (ns ms : Items) → NoHoles ns → NoHoles ms → NoHoles (ns +++ ms)
+unfolding NoHoles _+++_
+holes-append Items.none ms a b = b
+holes-append (Items.hole ns) ms a b = absurd a
+holes-append (Items.item n ns) ms a b = holes-append ns ms a b

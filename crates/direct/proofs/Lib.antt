@@ -1,0 +1,16 @@
+pub mod Threads
+pub mod Alike
+pub mod AlikePatterns
+pub mod AlikeRests
+pub mod AlikeRules
+pub mod Places
+pub mod Tidy
+pub mod Stays
+pub mod Kept
+pub mod Steps
+pub mod Marks
+pub mod Makes
+pub mod Items
+pub mod Changes
+pub mod Literals
+pub mod Copies

@@ -1,0 +1,12 @@
+pub mod Fields
+pub mod Places
+pub mod Below
+pub mod Searches
+pub mod Adding
+pub mod KeyCases
+pub mod Objects
+pub mod Counting
+pub mod Moving
+pub mod Reading
+pub mod Declaring
+pub mod Sizes

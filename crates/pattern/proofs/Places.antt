@@ -1,0 +1,352 @@
+-- The parts of a node that stands at a position are what its fields' positions say: for callers of the functions in parts.
+-- Assumes nothing.
+use mathlib.Core.Path.{_≡_, refl, sym, ap, _∙_}
+use mathlib.Core.Bool.{Bool, true, false, cond, _&&_, false≢true}
+use mathlib.Core.List.{List, []}
+use mathlib.Core.Option.{Option, some, Option·map}
+use Prim.Native.Nat.{ℕ, zero, suc, _+_, _-_, _<_, _≤_}
+use native.Mathlib.Omega.{arith}
+use native.Mathlib.Decide.{decLt}
+use lib.Dec.{eqb}
+use lib.ListN.{length, take, drop, length-drop, drop-of-length-le}
+use lib.Seq.{take-all, take-nil}
+use borrow.Author.Tests.{le-leb, lt-leb}
+use Rattle.tree.specs.Tree.{Node, Fields, Piece, Items}
+use Rattle.tree.specs.Tree.Node.{node}
+use Rattle.tree.specs.Tree.Fields.{done, absent, field}
+use Rattle.tree.specs.Tree.Items.{none}
+use Rattle.tree.specs.Grammar.{Sort, Field, fieldsOf, kinds}
+use Rattle.tree.specs.Grammar.Sort.{child, chosen, many, gaps, text, byte, mark, number}
+use Rattle.tree.specs.Read.{byteAt, wideAt}
+use Rattle.tree.specs.Look as look
+use Rattle.tree.specs.Look.{onward, lookItems, lookField, lookNode, seekFields}
+use Rattle.tree.proofs.Look.{piece-law}
+use Rattle.lowering.specs.Parts.{nothing, position, kind, pieceIn, standsIn, asNode, asItems, asText, nodeAt, itemsAt, textAt, stands}
+use Rattle.pattern.specs.declared.parts.Part.{Part}
+use Rattle.pattern.specs.declared.parts.Part.the-variants.{One, Many, Text, Number, Missing}
+use Rattle.pattern.specs.declared.parts.Place.{Place}
+use Rattle.pattern.specs.declared.parts.Run.{Run}
+use Rattle.pattern.specs.Parts.{sortAt, textOf, partOf, partIn, partAt, itemPlace, placeOf, runOf, nodeHere, itemsHere}
+
+-- ---- fields with and without a default
+
+abbrev orNone : Option Piece → Piece
+orNone Option.none = Piece.number 0
+orNone (some p) = p
+
+piece-or : (fs : Fields) (i : ℕ) → pieceIn fs i ≡ orNone (look.pieceIn fs i)
+unfolding pieceIn look.pieceIn
+piece-or done i = refl
+piece-or (absent fs) zero = refl
+piece-or (absent fs) (suc i) = piece-or fs i
+piece-or (field p fs) zero = refl
+piece-or (field p fs) (suc i) = piece-or fs i
+
+abbrev isThere : Option Piece → Bool
+isThere Option.none = false
+isThere (some p) = true
+
+piece-there : (fs : Fields) (i : ℕ) → standsIn fs i ≡ isThere (look.pieceIn fs i)
+unfolding standsIn look.pieceIn
+piece-there done i = refl
+piece-there (absent fs) zero = refl
+piece-there (absent fs) (suc i) = piece-there fs i
+piece-there (field p fs) zero = refl
+piece-there (field p fs) (suc i) = piece-there fs i
+
+-- ---- what is read of a part
+
+-- a node without levels is as good as nothing
+abbrev pub Blank : {A : Type 0} → (Node → A) → Type 0
+Blank F = (at : ℕ) → F (node at 0 done) ≡ F nothing
+
+module _ (l : List ℕ) where
+  abbrev nodeIn : ℕ → Part → Node
+  nodeIn d (One q) = lookNode l d q .value
+  nodeIn d (Many h n p) = nothing
+  nodeIn d (Text p n) = nothing
+  nodeIn d Number = nothing
+  nodeIn d Missing = nothing
+
+  abbrev itemsIn : ℕ → Part → Items
+  itemsIn d (One q) = none
+  itemsIn d (Many h n p) = lookItems l (lookNode l d) h n p .value
+  itemsIn d (Text p n) = none
+  itemsIn d Number = none
+  itemsIn d Missing = none
+
+  node-of : (d : ℕ) (s : Sort) (q : ℕ) → asNode (lookField l (lookNode l d) s q .value) ≡ nodeIn d (partOf l s q)
+  unfolding lookField partOf textOf
+  node-of d (child p) q = refl
+  node-of d (chosen p r) q = refl
+  node-of d (many p) q = refl
+  node-of d (gaps p) q = refl
+  node-of d text q = refl
+  node-of d (byte a b) q = refl
+  node-of d mark q = refl
+  node-of d number q = refl
+
+  items-of : (d : ℕ) (s : Sort) (q : ℕ) → asItems (lookField l (lookNode l d) s q .value) ≡ itemsIn d (partOf l s q)
+  unfolding lookField partOf textOf
+  items-of d (child p) q = refl
+  items-of d (chosen p r) q = refl
+  items-of d (many p) q = refl
+  items-of d (gaps p) q = refl
+  items-of d text q = refl
+  items-of d (byte a b) q = refl
+  items-of d mark q = refl
+  items-of d number q = refl
+
+  node-opt : (d : ℕ) (s : Sort) (o : Option ℕ) → asNode (orNone (Option·map (λ q. lookField l (lookNode l d) s q .value) o)) ≡ nodeIn d (partIn l s o)
+  node-opt d s Option.none = refl
+  node-opt d s (some q) = node-of d s q
+
+  items-opt : (d : ℕ) (s : Sort) (o : Option ℕ) → asItems (orNone (Option·map (λ q. lookField l (lookNode l d) s q .value) o)) ≡ itemsIn d (partIn l s o)
+  items-opt d s Option.none = refl
+  items-opt d s (some q) = items-of d s q
+
+  node-part : (d at i : ℕ) → nodeAt i (lookNode l d at .value) ≡ nodeIn (d - 1) (partAt l d at i)
+  unfolding nodeAt lookNode partAt pieceIn
+  node-part zero at i = refl
+  node-part (suc d) at i =
+      let o : suc d - 1 ≡ d = omega arith in
+      let fs : List Field = fieldsOf (byteAt l at) in
+      let m : ℕ = byteAt l (onward l at 1) in
+      ap asNode (piece-or _ i ∙ ap orNone (piece-law l (λ q. lookNode l d q) fs m (onward l at 2) i))
+      ∙ node-opt d (sortAt fs i) (seekFields l (λ q. lookNode l d q) fs m (onward l at 2) i) ∙ rw o
+
+  items-part : (d at i : ℕ) → itemsAt i (lookNode l d at .value) ≡ itemsIn (d - 1) (partAt l d at i)
+  unfolding itemsAt lookNode partAt pieceIn
+  items-part zero at i = refl
+  items-part (suc d) at i =
+      let o : suc d - 1 ≡ d = omega arith in
+      let fs : List Field = fieldsOf (byteAt l at) in
+      let m : ℕ = byteAt l (onward l at 1) in
+      ap asItems (piece-or _ i ∙ ap orNone (piece-law l (λ q. lookNode l d q) fs m (onward l at 2) i))
+      ∙ items-opt d (sortAt fs i) (seekFields l (λ q. lookNode l d q) fs m (onward l at 2) i) ∙ rw o
+
+  here : (d at i : ℕ) → partAt l (suc d) at i ≡ partIn l (sortAt (fieldsOf (byteAt l at)) i) (seekFields l (lookNode l d) (fieldsOf (byteAt l at)) (byteAt l (onward l at 1)) (onward l at 2) i)
+  unfolding partAt
+  here d at i = refl
+
+  -- ---- the text in a field, and whether a field stands
+
+  -- past the end there is nothing to take
+  abbrev pub textIn : Part → List ℕ
+  textIn (One q) = []
+  textIn (Many h n p) = []
+  textIn (Text p n) = take n (drop p l)
+  textIn Number = []
+  textIn Missing = []
+
+  clamped : (q w : ℕ) → take w (drop (q + 2) l) ≡ take (onward l q (2 + w) - onward l q 2) (drop (onward l q 2) l)
+  unfolding onward
+  clamped q w = elim (decLt (length l) (q + 2)) [
+    | yes h ↦
+        let z : length l - length l ≡ 0 = omega arith in
+        rw (lt-leb (q + 2) (length l) h, lt-leb (q + (2 + w)) (length l) (omega arith), z, drop-of-length-le l {i = q + 2} (omega arith)) (take-nil w)
+    | no h ↦ elim (decLt (length l) (q + (2 + w))) [
+      | yes g ↦
+          rw (lt-leb (q + (2 + w)) (length l) g, le-leb (q + 2) (length l) (omega arith))
+          (take-all w (drop (q + 2) l) (simp length-drop (omega arith)) ∙ sym (take-all (length l - (q + 2)) (drop (q + 2) l) (simp length-drop (omega arith))))
+      | no g ↦
+          let z : q + (2 + w) - (q + 2) ≡ w = omega arith in
+          rw (le-leb (q + (2 + w)) (length l) (omega arith), le-leb (q + 2) (length l) (omega arith), z)
+    ]
+  ]
+
+  text-of : (d : ℕ) (s : Sort) (q : ℕ) → asText (lookField l (lookNode l d) s q .value) ≡ textIn (partOf l s q)
+  unfolding lookField partOf textOf
+  text-of d (child p) q = refl
+  text-of d (chosen p r) q = refl
+  text-of d (many p) q = refl
+  text-of d (gaps p) q = refl
+  text-of d text q = clamped q (wideAt l q)
+  text-of d (byte a b) q = refl
+  text-of d mark q = refl
+  text-of d number q = refl
+
+  text-opt : (d : ℕ) (s : Sort) (o : Option ℕ) → asText (orNone (Option·map (λ q. lookField l (lookNode l d) s q .value) o)) ≡ textIn (partIn l s o)
+  text-opt d s Option.none = refl
+  text-opt d s (some q) = text-of d s q
+
+  pub text-part : (d at i : ℕ) → textAt i (lookNode l d at .value) ≡ textIn (partAt l d at i)
+  unfolding textAt lookNode partAt pieceIn
+  text-part zero at i = refl
+  text-part (suc d) at i =
+      let fs : List Field = fieldsOf (byteAt l at) in
+      let m : ℕ = byteAt l (onward l at 1) in
+      ap asText (piece-or _ i ∙ ap orNone (piece-law l (λ q. lookNode l d q) fs m (onward l at 2) i))
+      ∙ text-opt d (sortAt fs i) (seekFields l (λ q. lookNode l d q) fs m (onward l at 2) i)
+
+  abbrev pub standing : Part → Bool
+  standing (One q) = true
+  standing (Many h n p) = true
+  standing (Text p n) = true
+  standing Number = true
+  standing Missing = false
+
+  stands-of : (s : Sort) (q : ℕ) → true ≡ standing (partOf l s q)
+  unfolding partOf textOf
+  stands-of (child p) q = refl
+  stands-of (chosen p r) q = refl
+  stands-of (many p) q = refl
+  stands-of (gaps p) q = refl
+  stands-of text q = refl
+  stands-of (byte a b) q = refl
+  stands-of mark q = refl
+  stands-of number q = refl
+
+  stands-opt : (d : ℕ) (s : Sort) (o : Option ℕ) → isThere (Option·map (λ q. lookField l (lookNode l d) s q .value) o) ≡ standing (partIn l s o)
+  stands-opt d s Option.none = refl
+  stands-opt d s (some q) = stands-of s q
+
+  pub stands-part : (d at i : ℕ) → stands i (lookNode l d at .value) ≡ standing (partAt l d at i)
+  unfolding stands lookNode partAt standsIn
+  stands-part zero at i = refl
+  stands-part (suc d) at i =
+      let fs : List Field = fieldsOf (byteAt l at) in
+      let m : ℕ = byteAt l (onward l at 1) in
+      piece-there _ i ∙ ap isThere (piece-law l (λ q. lookNode l d q) fs m (onward l at 2) i)
+      ∙ stands-opt d (sortAt fs i) (seekFields l (λ q. lookNode l d q) fs m (onward l at 2) i)
+
+  -- ---- the node in a field
+
+  module _ {A : Type 0} (F : Node → A) (blank : Blank F) where
+    here-is : (d at : ℕ) (p : Part) → F (nodeHere l (placeOf d at p)) ≡ F (nodeIn (d - 1) p)
+    unfolding placeOf lookNode
+    here-is d at (One q) = refl
+    here-is d at (Many h n p) = blank at
+    here-is d at (Text p n) = blank at
+    here-is d at Number = blank at
+    here-is d at Missing = blank at
+
+    -- what is asked of the node in a field may be asked of the node at its place
+    pub child-is : (d at i : ℕ) (s : Place) → s ≡ placeOf d at (partAt l d at i) → F (nodeHere l s) ≡ F (nodeAt i (lookNode l d at .value))
+    child-is d at i s e = ap (λ (x : Place). F (nodeHere l x)) e ∙ here-is d at (partAt l d at i) ∙ ap F (sym (node-part d at i))
+
+  -- its place has fewer levels
+  place-falls : (d at : ℕ) (p : Part) → (d ≡ 0 → ⊥) → placeOf d at p .left < d
+  unfolding placeOf
+  place-falls d at (One q) z = omega arith
+  place-falls d at (Many h n p) z = omega arith
+  place-falls d at (Text p n) z = omega arith
+  place-falls d at Number z = omega arith
+  place-falls d at Missing z = omega arith
+
+  pub child-falls : (d at i : ℕ) (s : Place) → (d ≡ 0 → ⊥) → s ≡ placeOf d at (partAt l d at i) → s .left < d
+  child-falls d at i s z e = rw e (place-falls d at (partAt l d at i) z)
+
+  -- that of a node in a node below has, too
+  place-le : (d at : ℕ) (p : Part) → placeOf d at p .left ≤ d
+  unfolding placeOf
+  place-le d at (One q) = omega arith
+  place-le d at (Many h n p) = omega arith
+  place-le d at (Text p n) = omega arith
+  place-le d at Number = omega arith
+  place-le d at Missing = omega arith
+
+  pub child-below : (d e at i : ℕ) (s : Place) → (d ≡ 0 → ⊥) → s ≡ placeOf (d - 1) at (partAt l e at i) → s .left < d
+  child-below d e at i s z w = let h : placeOf (d - 1) at (partAt l e at i) .left ≤ d - 1 = place-le (d - 1) at (partAt l e at i) in rw w (omega arith)
+
+  pub item-below : (d at : ℕ) (h : Bool) (s : Place) → (d ≡ 0 → ⊥) → s ≡ itemPlace l h (d - 1) at → s .left < d
+  unfolding itemPlace
+  item-below d at h s z e = rw e (go (h && eqb (byteAt l at) 0))
+    where
+      go : (b : Bool) → cond b 0 (d - 1) < d
+      go true = omega arith
+      go false = omega arith
+
+  -- ---- the list in a field
+
+  run-is : (d at : ℕ) (p : Part) → itemsHere l d (runOf at p) ≡ itemsIn d p
+  unfolding runOf lookItems
+  run-is d at (One q) = refl
+  run-is d at (Many h n p) = refl
+  run-is d at (Text p n) = refl
+  run-is d at Number = refl
+  run-is d at Missing = refl
+
+  pub list-is : (d at i : ℕ) (r : Run) → r ≡ runOf at (partAt l d at i) → itemsHere l (d - 1) r ≡ itemsAt i (lookNode l d at .value)
+  list-is d at i r e = ap (itemsHere l (d - 1)) e ∙ run-is (d - 1) at (partAt l d at i) ∙ sym (items-part d at i)
+
+  -- a kind's list of one sort: with the holes that the sort says
+  abbrev Holed : Bool → Part → Type 0
+  Holed b (One q) = Unit {0}
+  Holed b (Many h n p) = h ≡ b
+  Holed b (Text p n) = Unit {0}
+  Holed b Number = Unit {0}
+  Holed b Missing = Unit {0}
+
+  many-holes : (p : ℕ) (o : Option ℕ) → Holed false (partIn l (many p) o)
+  unfolding partOf
+  many-holes p Option.none = tt
+  many-holes p (some q) = refl
+
+  gaps-holes : (p : ℕ) (o : Option ℕ) → Holed true (partIn l (gaps p) o)
+  unfolding partOf
+  gaps-holes p Option.none = tt
+  gaps-holes p (some q) = refl
+
+  run-holes : (b : Bool) (d at : ℕ) (p : Part) → Holed b p → lookItems l (lookNode l d) b (runOf at p .count) (runOf at p .from) .value ≡ itemsHere l d (runOf at p)
+  unfolding runOf lookItems
+  run-holes b d at (One q) h = refl
+  run-holes b d at (Many c n p) h = rw h
+  run-holes b d at (Text p n) h = refl
+  run-holes b d at Number h = refl
+  run-holes b d at Missing h = refl
+
+  object-holes : (d at : ℕ) → byteAt l at ≡ 34 → Holed false (partAt l d at 0)
+  unfolding partAt fieldsOf kinds
+  object-holes zero at e = tt
+  object-holes (suc d) at e = rw e (many-holes 17 (seekFields l (lookNode l d) (fieldsOf 34) (byteAt l (onward l at 1)) (onward l at 2) 0))
+
+  array-holes : (d at : ℕ) → byteAt l at ≡ 36 → Holed true (partAt l d at 0)
+  unfolding partAt fieldsOf kinds
+  array-holes zero at e = tt
+  array-holes (suc d) at e = rw e (gaps-holes 18 (seekFields l (lookNode l d) (fieldsOf 36) (byteAt l (onward l at 1)) (onward l at 2) 0))
+
+  pub object-list : (d at : ℕ) (r : Run) → byteAt l at ≡ 34 → r ≡ runOf at (partAt l d at 0) → lookItems l (lookNode l (d - 1)) false (r .count) (r .from) .value ≡ itemsAt 0 (lookNode l d at .value)
+  object-list d at r k e =
+      ap (λ (x : Run). lookItems l (lookNode l (d - 1)) false (x .count) (x .from) .value) e
+      ∙ run-holes false (d - 1) at (partAt l d at 0) (object-holes d at k) ∙ run-is (d - 1) at (partAt l d at 0) ∙ sym (items-part d at 0)
+
+  pub array-list : (d at : ℕ) (r : Run) → byteAt l at ≡ 36 → r ≡ runOf at (partAt l d at 0) → lookItems l (lookNode l (d - 1)) true (r .count) (r .from) .value ≡ itemsAt 0 (lookNode l d at .value)
+  array-list d at r k e =
+      ap (λ (x : Run). lookItems l (lookNode l (d - 1)) true (x .count) (x .from) .value) e
+      ∙ run-holes true (d - 1) at (partAt l d at 0) (array-holes d at k) ∙ run-is (d - 1) at (partAt l d at 0) ∙ sym (items-part d at 0)
+
+  -- ---- the kind
+
+  pub kind-is : (d at k : ℕ) → (d ≡ 0 → ⊥) → k ≡ byteAt l at → kind (lookNode l d at .value) ≡ k
+  unfolding lookNode
+  kind-is zero at k z e = absurd (z refl)
+  kind-is (suc d) at k z e = sym e
+
+  pub no-levels : (d at : ℕ) → d ≡ 0 → lookNode l d at .value ≡ node at 0 done
+  unfolding lookNode
+  no-levels d at z = rw z
+
+  -- ---- a field that stands, exactly
+
+  -- a node has its position
+  pub position-is : (d at : ℕ) → position (lookNode l d at .value) ≡ at
+  unfolding lookNode
+  position-is zero at = refl
+  position-is (suc d) at = refl
+
+  one-stands : (d p : ℕ) (at : ℕ) (o : Option ℕ) → standing (partIn l (child p) o) ≡ true → nodeHere l (placeOf (suc d) at (partIn l (child p) o)) ≡ nodeIn d (partIn l (child p) o)
+  unfolding partOf placeOf
+  one-stands d p at Option.none h = absurd (false≢true h)
+  one-stands d p at (some q) h = let o : suc d - 1 ≡ d = omega arith in rw o
+
+  -- where a field of a child's sort stands, the node at its place is the node in it
+  pub child-stands : (d at i p : ℕ) (s : Place) → sortAt (fieldsOf (byteAt l at)) i ≡ child p → stands i (lookNode l d at .value) ≡ true → s ≡ placeOf d at (partAt l d at i) → nodeHere l s ≡ nodeAt i (lookNode l d at .value)
+  unfolding partAt
+  child-stands zero at i p s w h e = absurd (false≢true (sym (stands-part zero at i) ∙ h))
+  child-stands (suc d) at i p s w h e =
+      let o : Option ℕ = seekFields l (lookNode l d) (fieldsOf (byteAt l at)) (byteAt l (onward l at 1)) (onward l at 2) i in
+      let k : suc d - 1 ≡ d = omega arith in
+      let f : partAt l (suc d) at i ≡ partIn l (child p) o = here d at i ∙ ap (λ (t : Sort). partIn l t o) w in
+      ap (nodeHere l) (e ∙ ap (placeOf (suc d) at) f) ∙ one-stands d p at o (ap standing (sym f) ∙ sym (stands-part (suc d) at i) ∙ h)
+      ∙ ap (nodeIn d) (sym f) ∙ ap (λ (x : ℕ). nodeIn x (partAt l (suc d) at i)) (sym k) ∙ sym (node-part (suc d) at i)

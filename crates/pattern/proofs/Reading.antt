@@ -1,0 +1,137 @@
+-- The source of a pattern: what the builder's reads give.
+-- Assumes nothing.
+use mathlib.Core.Path.{_≡_, refl, sym, ap, ap₂, _∙_}
+use mathlib.Core.Bool.{Bool, true, false, cond, not, _&&_, _||_}
+use mathlib.Core.List.{List}
+use Prim.Native.Nat.{ℕ}
+use borrow.Author.Tests.{ne-eqb}
+use Rattle.tree.specs.Tree.{Node}
+use Rattle.tree.specs.Tree.Items.{none}
+use Rattle.tree.specs.Read.{byteAt}
+use Rattle.tree.specs.Look.{lookNode}
+use Rattle.lowering.specs.Parts.{kind, is, only}
+use Rattle.lowering.specs.Made.{Context, valueOf, declares}
+use Rattle.lowering.specs.Declarations.{isName, source, sourceDeclarator}
+use Rattle.pattern.specs.declared.source.Read.the-variants.{Expression, Temporary}
+use Rattle.pattern.specs.declared.source.ReferenceBuilder.{ReferenceBuilder}
+use Rattle.pattern.specs.Source.{builderOf, readOf, afterRead, nodeRead}
+use Rattle.pattern.proofs.Places.{Blank, kind-is, no-levels}
+
+-- ---- names
+
+module _ (e : Node) where
+  name-18 : kind e ≡ 18 → isName e ≡ true
+  unfolding isName is
+  name-18 k = rw k
+
+  name-20 : kind e ≡ 20 → isName e ≡ true
+  unfolding isName is
+  name-20 k = rw k
+
+  name-not : (kind e ≡ 18 → ⊥) → (kind e ≡ 20 → ⊥) → isName e ≡ false
+  unfolding isName is
+  name-not a b = rw (ne-eqb (kind e) 18 a, ne-eqb (kind e) 20 b)
+
+pub name-blank : Blank isName
+unfolding isName is
+name-blank at = refl
+
+module _ (l : List ℕ) where
+  pub name-none : (d at : ℕ) → d ≡ 0 → false ≡ isName (lookNode l d at .value)
+  unfolding isName is
+  name-none d at z = rw (no-levels l d at z)
+
+  module _ (d at k : ℕ) (z : d ≡ 0 → ⊥) (e : k ≡ byteAt l at) where
+    pub name-reference : k ≡ 18 → true ≡ isName (lookNode l d at .value)
+    name-reference t = sym (name-18 (lookNode l d at .value) (kind-is l d at k z e ∙ t))
+
+    pub name-temporary : k ≡ 20 → true ≡ isName (lookNode l d at .value)
+    name-temporary t = sym (name-20 (lookNode l d at .value) (kind-is l d at k z e ∙ t))
+
+    pub name-other : (k ≡ 18 → ⊥) → (k ≡ 20 → ⊥) → false ≡ isName (lookNode l d at .value)
+    name-other a b = sym (name-not (lookNode l d at .value) (λ w. a (sym (kind-is l d at k z e) ∙ w)) (λ w. b (sym (kind-is l d at k z e) ∙ w)))
+
+  -- ---- the builder
+
+  module _ (d at cell : ℕ) (force : Bool) where
+    built : (w : Bool) → w ≡ force || not (isName (lookNode l d at .value)) → _≡_ {A = ReferenceBuilder} (record { left = d; at = at; cell = cell; wanted = w; fresh = true }) (builderOf l d at cell force)
+    unfolding builderOf
+    built w e = λ j. record { left = d; at = at; cell = cell; wanted = (e) j; fresh = true }
+
+    pub built-forced : force ≡ true → _≡_ {A = ReferenceBuilder} (record { left = d; at = at; cell = cell; wanted = true; fresh = true }) (builderOf l d at cell force)
+    built-forced e = built true (ap (λ (b : Bool). b || not (isName (lookNode l d at .value))) (sym e))
+
+    pub built-name : (b : Bool) → force ≡ false → b ≡ isName (lookNode l d at .value) → b ≡ true → _≡_ {A = ReferenceBuilder} (record { left = d; at = at; cell = cell; wanted = false; fresh = true }) (builderOf l d at cell force)
+    built-name b e n t = built false (ap₂ (λ (x y : Bool). x || not y) (sym e) (sym t ∙ n))
+
+    pub built-other : (b : Bool) → force ≡ false → b ≡ isName (lookNode l d at .value) → b ≡ false → _≡_ {A = ReferenceBuilder} (record { left = d; at = at; cell = cell; wanted = true; fresh = true }) (builderOf l d at cell force)
+    built-other b e n t = built true (ap₂ (λ (x y : Bool). x || not y) (sym e) (sym t ∙ n))
+
+-- ---- a read
+
+module _ (b : ReferenceBuilder) where
+  abbrev spent : Bool → ReferenceBuilder
+  spent w = record { left = b .left; at = b .at; cell = b .cell; wanted = w; fresh = false }
+
+  after-is : (w : Bool) → b .wanted ≡ w → spent w ≡ afterRead b
+  unfolding afterRead
+  after-is w e = ap spent (sym e)
+
+  pub read-first : b .wanted ≡ true → b .fresh ≡ true → (Expression (b .left) (b .at) ≡ readOf b) × (spent true ≡ afterRead b)
+  unfolding readOf
+  read-first w f = (rw (w, f), after-is true w)
+
+  pub read-later : b .wanted ≡ true → b .fresh ≡ false → (Temporary (b .cell) ≡ readOf b) × (spent true ≡ afterRead b)
+  unfolding readOf
+  read-later w f = (rw (w, f), after-is true w)
+
+  pub read-name : b .wanted ≡ false → (Expression (b .left) (b .at) ≡ readOf b) × (spent false ≡ afterRead b)
+  unfolding readOf
+  read-name w = (rw w, after-is false w)
+
+-- ---- what the reads of a value at a place give, for the pattern p
+
+module _ (l : List ℕ) (c : Context) (p : Node) (d at cell : ℕ) where
+  abbrev val : Node
+  val = lookNode l d at .value
+
+  and-false : (b : Bool) → b && false ≡ false
+  and-false true = refl
+  and-false false = refl
+
+  and-true : (b : Bool) → b && true ≡ b
+  and-true true = refl
+  and-true false = refl
+
+  -- the first read gives the expression
+  pub first-read : (force : Bool) → nodeRead l c p (readOf (builderOf l d at cell force)) ≡ val
+  unfolding readOf builderOf
+  first-read force = ap (λ (x : Bool). nodeRead l c p (cond x (Temporary cell) (Expression d at))) (and-false (force || not (isName val)))
+
+  -- later ones give the source's name or its temporary
+  pub later-read : nodeRead l c p (readOf (afterRead (builderOf l d at cell false))) ≡ source c p val
+  unfolding readOf builderOf afterRead source
+  later-read = ap (λ (x : Bool). nodeRead l c p (cond x (Temporary cell) (Expression d at))) (and-true (not (isName val))) ∙ go (isName val)
+    where
+      go : (b : Bool) → nodeRead l c p (cond (not b) (Temporary cell) (Expression d at)) ≡ cond b val (valueOf c p)
+      go true = refl
+      go false = refl
+
+  -- where a temporary is forced, that one
+  pub later-forced : nodeRead l c p (readOf (afterRead (builderOf l d at cell true))) ≡ valueOf c p
+  unfolding readOf builderOf afterRead
+  later-forced = refl
+
+  -- no read after the second one is another
+  pub read-settles : (b : ReferenceBuilder) → afterRead (afterRead b) ≡ afterRead b
+  unfolding afterRead
+  read-settles b = refl
+
+  -- where a temporary is wanted, the first read is its value
+  pub source-declared : sourceDeclarator c p val ≡ cond (builderOf l d at cell false .wanted) (only (declares (valueOf c p) (nodeRead l c p (readOf (builderOf l d at cell false))))) none
+  unfolding sourceDeclarator builderOf
+  source-declared = go (isName val) ∙ ap (λ (x : Node). cond (not (isName val)) (only (declares (valueOf c p) x)) none) (sym (first-read false))
+    where
+      go : (b : Bool) → cond b none (only (declares (valueOf c p) val)) ≡ cond (not b) (only (declares (valueOf c p) val)) none
+      go true = refl
+      go false = refl

@@ -1,0 +1,61 @@
+use native.Mathlib.Omega.{arith}
+use Rattle.pattern.proofs.Declaring as law
+use Rattle.pattern.proofs.declarators.declaration_becomes.Statement.{statement}
+use Rattle.pattern.proofs.declarators.declaration_becomes.Tie as tie
+
+abbrev Inv-loop : tie.InvT-loop
+Inv-loop tree left at below holes n₀ p₀ t₀ n p t = law.Becoming tree left at below holes n p t
+
+abbrev μ-loop : tie.MeasureT-loop
+μ-loop tree left at below holes n₀ p₀ t₀ n p t = n
+
+returns : tie.Need-returns Inv-loop μ-loop
+returns c = law.all-none _ _ _ (c .if1 .taken)
+
+sub-below : tie.Need-sub-below Inv-loop μ-loop
+sub-below c = omega arith
+
+list-requires : tie.Need-list-requires Inv-loop μ-loop
+list-requires c κs = tt
+
+loop-holds : tie.Need-loop-holds Inv-loop μ-loop
+loop-holds c = law.all-start _ _ _ _ (c .list .ensures)
+
+item-becomes-requires : tie.Need-item-becomes-requires Inv-loop μ-loop
+item-becomes-requires c κs = tt
+
+plus-requires : tie.Need-plus-requires Inv-loop μ-loop
+plus-requires c κs = tt
+
+skip-item-requires : tie.Need-skip-item-requires Inv-loop μ-loop
+skip-item-requires c κs = tt
+
+sub-n : tie.Need-sub-n Inv-loop μ-loop
+sub-n c = omega arith
+
+loop-less : tie.Need-loop-less Inv-loop μ-loop
+loop-less c = omega arith
+
+loop-again : tie.Need-loop-again Inv-loop μ-loop
+loop-again c = law.all-more _ _ _ _ _ _ _ _ _ _ _ (c .before .before .before .loop-test .taken) (c .before .before .item-becomes .ensures) (c .skip-item .ensures) (c .before .plus .ensures) (c .before .before .before .before .loop .inv)
+
+returns-2 : tie.Need-returns-2 Inv-loop μ-loop
+returns-2 c = law.all-end _ _ _ _ _ _ _ _ (c .loop-test .left) (c .before .loop .inv)
+
+pub declaration-becomes-spec : {M : Type 1} → statement M
+declaration-becomes-spec =
+    tie.close
+    (tie.spec
+    Inv-loop
+    μ-loop
+    returns
+    sub-below
+    list-requires
+    loop-holds
+    item-becomes-requires
+    plus-requires
+    skip-item-requires
+    sub-n
+    loop-less
+    loop-again
+    returns-2)

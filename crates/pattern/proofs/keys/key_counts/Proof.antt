@@ -1,0 +1,101 @@
+use mathlib.Core.Path.{sym, ap, _∙_}
+use Rattle.pattern.specs.Keys.{keyCounts}
+use borrow.Author.Needs.{needs}
+use Rattle.pattern.proofs.keys.key_counts.Statement.{statement}
+use Rattle.pattern.proofs.keys.key_counts.Tie as tie
+
+enum-told : tie.Need-enum-told
+enum-told c = search needs
+
+counted-requires : tie.Need-counted-requires
+counted-requires c κs = tt
+
+enum-told-2 : tie.Need-enum-told-2
+enum-told-2 c = search needs
+
+counted-requires-2 : tie.Need-counted-requires-2
+counted-requires-2 c κs = tt
+
+enum-told-3 : tie.Need-enum-told-3
+enum-told-3 c = search needs
+
+counted-requires-3 : tie.Need-counted-requires-3
+counted-requires-3 c κs = tt
+
+enum-told-4 : tie.Need-enum-told-4
+enum-told-4 c = search needs
+
+counted-requires-4 : tie.Need-counted-requires-4
+counted-requires-4 c κs = tt
+
+enum-told-5 : tie.Need-enum-told-5
+enum-told-5 c = search needs
+
+counted-requires-5 : tie.Need-counted-requires-5
+counted-requires-5 c κs = tt
+
+enum-told-6 : tie.Need-enum-told-6
+enum-told-6 c = search needs
+
+counted-requires-6 : tie.Need-counted-requires-6
+counted-requires-6 c κs = tt
+
+enum-told-7 : tie.Need-enum-told-7
+enum-told-7 c = search needs
+
+counted-requires-7 : tie.Need-counted-requires-7
+counted-requires-7 c κs = tt
+
+returns : tie.Need-returns
+unfolding keyCounts
+returns c = c .counted .ensures ∙ ap keyCounts (sym (c .before .enum-told .given .1))
+
+returns-2 : tie.Need-returns-2
+unfolding keyCounts
+returns-2 c = c .counted2 .ensures ∙ ap keyCounts (sym (c .before .enum-told2 .given .1))
+
+returns-3 : tie.Need-returns-3
+unfolding keyCounts
+returns-3 c = c .counted3 .ensures ∙ ap keyCounts (sym (c .before .enum-told3 .given .1))
+
+returns-4 : tie.Need-returns-4
+unfolding keyCounts
+returns-4 c = c .counted4 .ensures ∙ ap keyCounts (sym (c .before .enum-told4 .given .1))
+
+returns-5 : tie.Need-returns-5
+unfolding keyCounts
+returns-5 c = c .counted5 .ensures ∙ ap keyCounts (sym (c .before .enum-told5 .given .1))
+
+returns-6 : tie.Need-returns-6
+unfolding keyCounts
+returns-6 c = c .counted6 .ensures ∙ ap keyCounts (sym (c .before .enum-told6 .given .1))
+
+returns-7 : tie.Need-returns-7
+unfolding keyCounts
+returns-7 c = c .counted7 .ensures ∙ ap keyCounts (sym (c .before .enum-told7 .given .1))
+
+pub key-counts-spec : {M : Type 1} → statement M
+key-counts-spec =
+    tie.close
+    (tie.spec
+    enum-told
+    counted-requires
+    enum-told-2
+    counted-requires-2
+    enum-told-3
+    counted-requires-3
+    enum-told-4
+    counted-requires-4
+    enum-told-5
+    counted-requires-5
+    enum-told-6
+    counted-requires-6
+    enum-told-7
+    counted-requires-7
+    returns
+    returns-2
+    returns-3
+    returns-4
+    returns-5
+    returns-6
+    returns-7)

@@ -1,0 +1,55 @@
+use mathlib.Core.Path.{sym, ap}
+use Rattle.pattern.specs.Keys.{nameIn}
+use borrow.Author.Needs.{needs}
+use Rattle.pattern.proofs.keys.named.Statement.{statement}
+use Rattle.pattern.proofs.keys.named.Tie as tie
+
+enum-known-p : tie.Need-enum-known-p
+enum-known-p c = search needs
+
+enum-told : tie.Need-enum-told
+enum-told c = search needs
+
+enum-told-2 : tie.Need-enum-told-2
+enum-told-2 c = search needs
+
+enum-told-3 : tie.Need-enum-told-3
+enum-told-3 c = search needs
+
+enum-told-4 : tie.Need-enum-told-4
+enum-told-4 c = search needs
+
+returns : tie.Need-returns
+unfolding nameIn
+returns c = ap nameIn (sym (c .before .p .given .1))
+
+returns-2 : tie.Need-returns-2
+unfolding nameIn
+returns-2 c = ap nameIn (sym (c .enum-told .given .1))
+
+returns-3 : tie.Need-returns-3
+unfolding nameIn
+returns-3 c = ap nameIn (sym (c .enum-told2 .given .1))
+
+returns-4 : tie.Need-returns-4
+unfolding nameIn
+returns-4 c = ap nameIn (sym (c .enum-told3 .given .1))
+
+returns-5 : tie.Need-returns-5
+unfolding nameIn
+returns-5 c = ap nameIn (sym (c .enum-told4 .given .1))
+
+pub named-spec : {M : Type 1} → statement M
+named-spec =
+    tie.close
+    (tie.spec
+    enum-known-p
+    enum-told
+    enum-told-2
+    enum-told-3
+    enum-told-4
+    returns
+    returns-2
+    returns-3
+    returns-4
+    returns-5)

@@ -1,0 +1,76 @@
+use Rattle.pattern.proofs.KeyCases as law
+use Rattle.pattern.proofs.keys.transform_property_key.Statement.{statement}
+use Rattle.pattern.proofs.keys.transform_property_key.Tie as tie
+
+returns : tie.Need-returns
+returns c = law.becomes _ _ _ _ (law.key-none _ _ _ (c .if1 .taken))
+
+peek-requires : tie.Need-peek-requires
+peek-requires c κs = tt
+
+stands-requires : tie.Need-stands-requires
+stands-requires c κs = tt
+
+returns-2 : tie.Need-returns-2
+returns-2 c = law.becomes _ _ _ _ (law.key-bound _ _ _ _ (c .before .before .before .before .if1 .left) (c .before .before .before .peek .ensures .value) _ (c .before .before .match .keys1) (c .before .stands .ensures) (c .if2 .taken))
+
+field-requires : tie.Need-field-requires
+field-requires c κs = tt
+
+formed-requires : tie.Need-formed-requires
+formed-requires c κs = tt
+
+list-requires : tie.Need-list-requires
+list-requires c κs = tt
+
+returns-3 : tie.Need-returns-3
+returns-3 c = law.becomes _ _ _ _ (law.key-template _ _ _ _ (c .before .before .before .before .before .if1 .left) (c .before .before .before .before .peek .ensures .value) _ (c .before .before .before .match .keys4) (c .before .before .list .ensures) (c .if3 .taken))
+
+field-requires-2 : tie.Need-field-requires-2
+field-requires-2 c κs = tt
+
+named-requires : tie.Need-named-requires
+named-requires c κs = tt
+
+returns-4 : tie.Need-returns-4
+returns-4 c = law.becomes _ _ _ _ (law.key-free _ _ _ _ (c .before .before .before .before .if1 .left) (c .before .before .before .peek .ensures .value) _ (c .before .before .match .keys1) (c .before .stands .ensures) (c .if2 .left))
+
+returns-5 : tie.Need-returns-5
+returns-5 c = law.becomes _ _ _ _ (law.key-temporary _ _ _ _ (c .before .before .if1 .left) (c .before .peek .ensures .value) (c .match .keys2))
+
+returns-6 : tie.Need-returns-6
+returns-6 c = law.becomes _ _ _ _ (law.key-literal _ _ _ _ (c .before .before .before .before .if1 .left) (c .before .before .before .peek .ensures .value) _ _ (c .before .before .match .keys3) (c .before .field .ensures) (c .formed .ensures))
+
+returns-7 : tie.Need-returns-7
+returns-7 c = law.becomes _ _ _ _ (law.key-several _ _ _ _ (c .before .before .before .before .before .if1 .left) (c .before .before .before .before .peek .ensures .value) _ (c .before .before .before .match .keys4) (c .before .before .list .ensures) (c .if3 .left))
+
+returns-8 : tie.Need-returns-8
+returns-8 c = law.becomes _ _ _ _ (law.key-name _ _ _ _ (c .before .before .before .before .if1 .left) (c .before .before .before .peek .ensures .value) _ _ (c .before .before .match .keys5) (c .before .field2 .ensures) (c .named .ensures))
+
+returns-9 : tie.Need-returns-9
+returns-9 c = law.becomes _ _ _ _ (law.key-private _ _ _ _ (c .before .before .if1 .left) (c .before .peek .ensures .value) (c .match .keys6))
+
+returns-10 : tie.Need-returns-10
+returns-10 c = law.becomes _ _ _ _ (law.key-other _ _ _ _ (c .before .before .if1 .left) (c .before .peek .ensures .value) (c .match .rest .0 .0 .0 .0 .0 .1) (c .match .rest .0 .0 .0 .0 .1) (c .match .rest .0 .0 .0 .1) (c .match .rest .0 .0 .1) (c .match .rest .0 .1) (c .match .rest .1))
+
+pub transform-property-key-spec : {M : Type 1} → statement M
+transform-property-key-spec =
+    tie.close
+    (tie.spec
+    returns
+    peek-requires
+    stands-requires
+    returns-2
+    field-requires
+    formed-requires
+    list-requires
+    returns-3
+    field-requires-2
+    named-requires
+    returns-4
+    returns-5
+    returns-6
+    returns-7
+    returns-8
+    returns-9
+    returns-10)

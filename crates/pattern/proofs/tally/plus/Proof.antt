@@ -1,0 +1,22 @@
+use native.Mathlib.Omega.{arith}
+use Rattle.pattern.proofs.Adding as law
+use Rattle.pattern.proofs.tally.plus.Statement.{statement}
+use Rattle.pattern.proofs.tally.plus.Tie as tie
+
+sub-if2 : tie.Need-sub-if2
+sub-if2 c = omega arith
+
+add-result : tie.Need-add-result
+add-result c = omega arith
+
+returns : tie.Need-returns
+returns c = law.plus-fits _ _ (c .before .if1 .taken) (c .if2 .taken)
+
+returns-2 : tie.Need-returns-2
+returns-2 c = law.plus-past _ _ (c .before .if1 .taken) (c .if2 .left)
+
+returns-3 : tie.Need-returns-3
+returns-3 c = law.plus-over _ _ (c .if1 .left)
+
+pub plus-spec : {M : Type 1} → statement M
+plus-spec = tie.close (tie.spec sub-if2 add-result returns returns-2 returns-3)

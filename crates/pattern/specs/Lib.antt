@@ -1,0 +1,7 @@
+pub mod Parts
+pub mod Tally
+pub mod Keys
+pub mod Objects
+pub mod Moves
+pub mod Declarators
+pub mod Source

@@ -1,0 +1,39 @@
+-- Counts over the objects with rest that are found below a pattern.
+use mathlib.Core.Bool.{Bool, true, false, cond}
+use Rattle.tree.specs.Tree.{Node, Items, depth}
+use Rattle.lowering.specs.Made.{Context}
+use Rattle.lowering.specs.Patterns.{hasRest, objectsBelow}
+use Rattle.lowering.specs.Rests.{hasNoProperties}
+use Rattle.lowering.specs.Assignments.{restsThroughObjects}
+use Rattle.pattern.specs.declared.tally.Tally.{Tally}
+use Rattle.pattern.specs.Tally.{zero, both, sum}
+use Rattle.pattern.specs.Keys.{keysOf}
+
+-- an object itself, by whether it has no properties
+unfoldable pub objectItself : Bool → Tally
+objectItself empty =
+    record { excluded = 0; temporaries = 0; computed = 0; lacking = 0; objects = 1; patterns = cond empty 0 1 }
+
+-- an object with rest: its keys and itself
+unfoldable pub objectTally : Node → Tally
+objectTally p = both (keysOf p) (objectItself (hasNoProperties p))
+
+-- what an object pattern adds itself
+unfoldable pub ownTally : Node → Tally
+ownTally p = cond (hasRest p) (objectTally p) zero
+
+-- all objects of a list
+abbrev pub objectsTally : Items → Tally
+objectsTally is = sum zero both objectTally is
+
+-- the rests that are reached through objects alone
+abbrev pub throughObjects : Node → Items
+throughObjects p = restsThroughObjects (depth p) p
+
+-- those that are found, through arrays too or through objects alone
+unfoldable pub found : Context → Bool → Node → Items
+found c true p = objectsBelow c p
+found c false p = throughObjects p
+
+unfoldable pub restsTally : Context → Bool → Node → Tally
+restsTally c arrays p = objectsTally (found c arrays p)

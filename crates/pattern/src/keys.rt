@@ -1,0 +1,195 @@
+// Keys of an object pattern whose rest is taken.
+use crate::parts;
+use crate::parts::Part;
+use crate::tally;
+use crate::tally::Tally;
+use tree::bytes;
+use tree::skip;
+ghost use mathlib.Core.Path.{_≡_};
+ghost use Rattle.tree.specs.Look.{lookNode};
+ghost use Rattle.tree.specs.Tree.{count};
+ghost use Rattle.lowering.specs.Made.{Context};
+ghost use Rattle.lowering.specs.Keys.{allPrimitive, anyLacksForm, excludedKeys, keyTemporaries};
+ghost use Rattle.pattern.specs.Tally.{limited};
+ghost use Rattle.lowering.specs.Rests.{hasNoProperties};
+ghost use Rattle.pattern.specs.Keys.{nameIn, formIn, Becomes, counts, keyCounts, keysOf, itemKeys};
+
+// What a key becomes among the excluded keys: a string of the bytes of a name or of a literal's form; that template; the
+// name or temporary read again; a temporary that gets its value. A private key adds nothing. A literal without a form is
+// refusal 6.
+pub enum Key {
+    Name { from: usize, len: usize },
+    Literal { from: usize, len: usize },
+    NoForm,
+    Template,
+    Private,
+    Again,
+    Other,
+}
+
+fn named(p: Part) -> Key
+    ensures { λ r. ⌜ r ≡ nameIn p ⌝ }
+{
+    match p {
+        Part::Text { from, len } => Key::Name {
+            from: from,
+            len: len,
+        },
+        Part::One(_) => Key::Name { from: 0, len: 0 },
+        Part::Many {
+            holes: _,
+            count: _,
+            from: _,
+        } => Key::Name { from: 0, len: 0 },
+        Part::Number => Key::Name { from: 0, len: 0 },
+        Part::Missing => Key::Name { from: 0, len: 0 },
+    }
+}
+
+fn formed(p: Part) -> Key
+    ensures { λ r. ⌜ r ≡ formIn p ⌝ }
+{
+    match p {
+        Part::Text { from, len } => Key::Literal {
+            from: from,
+            len: len,
+        },
+        Part::One(_) => Key::Literal { from: 0, len: 0 },
+        Part::Many {
+            holes: _,
+            count: _,
+            from: _,
+        } => Key::Literal { from: 0, len: 0 },
+        Part::Number => Key::Literal { from: 0, len: 0 },
+        Part::Missing => Key::NoForm,
+    }
+}
+
+// The key that stands at a position.
+pub fn transform_property_key(tree: &[u8], left: usize, at: usize) -> Key
+    ensures { λ r. ⌜ Becomes (now (tree .entry)) left at r ⌝ }
+{
+    if left == 0 {
+        return Key::Other;
+    }
+    let kind = bytes::peek(tree, at);
+    match kind {
+        18 => {
+            if parts::stands(tree, left, at, 1) {
+                return Key::Again;
+            }
+            Key::Other
+        }
+        20 => Key::Again,
+        22 => formed(parts::field(tree, left, at, 2)),
+        23 => {
+            let quasis = parts::list(tree, left, at, 0);
+            if quasis.count == 1 {
+                return Key::Template;
+            }
+            Key::Other
+        }
+        38 => named(parts::field(tree, left, at, 0)),
+        39 => Key::Private,
+        _ => Key::Other,
+    }
+}
+
+fn counted(excluded: usize, temporaries: usize, computed: usize, lacking: usize) -> Tally
+    ensures { λ r. ⌜ r ≡ counts excluded temporaries computed lacking ⌝ }
+{
+    Tally {
+        excluded: excluded,
+        temporaries: temporaries,
+        computed: computed,
+        lacking: lacking,
+        objects: 0,
+        patterns: 0,
+    }
+}
+
+// What a key adds to the counts.
+pub fn key_counts(k: Key) -> Tally
+    ensures { λ r. ⌜ r ≡ keyCounts k ⌝ }
+{
+    match k {
+        Key::Name { from: _, len: _ } => counted(1, 0, 0, 0),
+        Key::Literal { from: _, len: _ } => counted(1, 0, 0, 0),
+        Key::NoForm => counted(1, 0, 0, 1),
+        Key::Template => counted(1, 0, 0, 0),
+        Key::Private => counted(0, 0, 0, 0),
+        Key::Again => counted(1, 0, 1, 0),
+        Key::Other => counted(1, 1, 1, 0),
+    }
+}
+
+// What the key of a property adds; a hole adds nothing.
+pub fn item_keys(tree: &[u8], holes: bool, left: usize, at: usize) -> Tally
+    ensures { λ r. ⌜ r ≡ itemKeys (now (tree .entry)) holes left at ⌝ }
+{
+    if holes {
+        if bytes::peek(tree, at) == 0 {
+            return tally::none();
+        }
+    }
+    let k = parts::child(tree, left, at, 0);
+    key_counts(transform_property_key(tree, k.left, k.at))
+}
+
+// The counts of all keys of the object pattern at a position.
+pub fn keys(tree: &[u8], left: usize, at: usize) -> Tally
+    ensures { λ r. ⌜ r ≡ keysOf (lookNode (now (tree .entry)) left at .value) ⌝ }
+{
+    if left == 0 {
+        return tally::none();
+    }
+    let below = left - 1;
+    let run = parts::list(tree, left, at, 0);
+    let holes = run.holes;
+    let mut n = run.count;
+    let mut p = run.from;
+    let mut t = tally::none();
+    while 0 < n {
+        t = tally::both(t, item_keys(tree, holes, below, p));
+        p = skip::skip_item(tree, holes, below, p);
+        n -= 1;
+    }
+    t
+}
+
+pub fn all_primitive(tree: &[u8], left: usize, at: usize) -> bool
+    ensures { λ r. ⌜ r ≡ allPrimitive (lookNode (now (tree .entry)) left at .value) ⌝ }
+{
+    let t = keys(tree, left, at);
+    t.computed == 0
+}
+
+pub fn lacks_form(tree: &[u8], left: usize, at: usize) -> bool
+    ensures { λ r. ⌜ r ≡ anyLacksForm (lookNode (now (tree .entry)) left at .value) ⌝ }
+{
+    let t = keys(tree, left, at);
+    0 < t.lacking
+}
+
+pub fn has_no_properties(tree: &[u8], left: usize, at: usize) -> bool
+    ensures { λ r. ⌜ r ≡ hasNoProperties (lookNode (now (tree .entry)) left at .value) ⌝ }
+{
+    let run = parts::list(tree, left, at, 0);
+    run.count == 0
+}
+
+// How many excluded keys the object pattern has.
+pub fn excluded_keys(tree: &[u8], left: usize, at: usize) -> usize
+    ensures { λ r. ⌜ ((c : Context) → r ≡ limited (count (excludedKeys c (lookNode (now (tree .entry)) left at .value)))) ⌝ }
+{
+    let t = keys(tree, left, at);
+    t.excluded
+}
+
+// How many key temporaries it has.
+pub fn key_temporaries(tree: &[u8], left: usize, at: usize) -> usize
+    ensures { λ r. ⌜ ((c : Context) → r ≡ limited (count (keyTemporaries c (lookNode (now (tree .entry)) left at .value)))) ⌝ }
+{
+    let t = keys(tree, left, at);
+    t.temporaries
+}

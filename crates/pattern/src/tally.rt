@@ -1,0 +1,57 @@
+// Counts. None goes past 65536, so that adding is total; a tree that is accepted has fewer of anything.
+ghost use mathlib.Core.Path.{_≡_};
+ghost use Prim.Native.Nat.{_+_};
+ghost use Rattle.pattern.specs.Tally.{limited, zero, both};
+
+// What is counted of keys, and of objects with rest.
+pub struct Tally {
+    // Entries among the excluded keys.
+    pub excluded: usize,
+    // Key temporaries.
+    pub temporaries: usize,
+    // Keys that are not primitive.
+    pub computed: usize,
+    // Literals without a form.
+    pub lacking: usize,
+    // Objects with rest.
+    pub objects: usize,
+    // Those of them that have properties.
+    pub patterns: usize,
+}
+
+pub fn plus(a: usize, b: usize) -> usize
+    ensures { λ r. ⌜ r ≡ limited (a + b) ⌝ }
+{
+    if a < 65536 {
+        if b < 65536 - a {
+            return a + b;
+        }
+    }
+    65536
+}
+
+pub fn none() -> Tally
+    ensures { λ r. ⌜ r ≡ zero ⌝ }
+{
+    Tally {
+        excluded: 0,
+        temporaries: 0,
+        computed: 0,
+        lacking: 0,
+        objects: 0,
+        patterns: 0,
+    }
+}
+
+pub fn both(a: Tally, b: Tally) -> Tally
+    ensures { λ r. ⌜ r ≡ both a b ⌝ }
+{
+    Tally {
+        excluded: plus(a.excluded, b.excluded),
+        temporaries: plus(a.temporaries, b.temporaries),
+        computed: plus(a.computed, b.computed),
+        lacking: plus(a.lacking, b.lacking),
+        objects: plus(a.objects, b.objects),
+        patterns: plus(a.patterns, b.patterns),
+    }
+}
