@@ -20,6 +20,7 @@ use Rattle.lowering.specs.Walk.{Step, rewritten, unchanged, ruleOf, rewrite, st
 use Rattle.lowering.specs.Walk.Rule.{literals, declarations, assignments, functions, arrows, catches, fors}
 use Rattle.lowering.proofs.Cases.{by-test, by-shape, or-left, or-right}
 use Rattle.lowering.proofs.Accepted.{NoHoles}
+use Rattle.lowering.proofs.Simple.{change-same, list-same}
 
 -- ---- rules by kind
 
@@ -121,23 +122,6 @@ step-kept m e r n p q s = λ j. record { note = record { refusal = 0; made = (p)
 
 rewritten-kept : (m : Items) (r n : Node) → m ≡ Items.none → r ≡ n → rewritten m r ≡ unchanged n
 rewritten-kept m r n p s = step-kept m Items.none r n p refl s
-
-change-same : (fs : Fields) (i : ℕ) (f : Piece → Piece) → f (pieceIn fs i) ≡ pieceIn fs i → changeIn fs i f ≡ fs
-unfolding pieceIn changeIn
-change-same Fields.done i f h = refl
-change-same (Fields.absent fs) zero f h = refl
-change-same (Fields.absent fs) (suc i) f h = ap Fields.absent (change-same fs i f h)
-change-same (Fields.field p fs) zero f h = ap (λ (q : Piece). Fields.field q fs) h
-change-same (Fields.field p fs) (suc i) f h = ap (Fields.field p) (change-same fs i f h)
-
-list-same : (f : Items → Items) (p : Piece) → f (asItems p) ≡ asItems p → onItems f p ≡ p
-unfolding onItems
-list-same f (Piece.one n) h = refl
-list-same f (Piece.list ns) h = ap Piece.list h
-list-same f (Piece.text bs) h = refl
-list-same f (Piece.byte b) h = refl
-list-same f (Piece.mark b) h = refl
-list-same f (Piece.number b) h = refl
 
 pub changeItems-same : (i : ℕ) (f : Items → Items) (n : Node) → f (itemsAt i n) ≡ itemsAt i n → changeItems i f n ≡ n
 unfolding change itemsAt

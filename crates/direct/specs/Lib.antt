@@ -1,3 +1,10 @@
 pub mod Events
 pub mod Emit
 pub mod Literals
+pub mod Views
+pub mod Keys
+pub mod Objects
+pub mod Handed
+pub mod Declared
+pub mod Assigned
+pub mod Moved

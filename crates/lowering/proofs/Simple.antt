@@ -156,7 +156,7 @@ gather-same f h Items.none SimpleItems.none w = refl
 gather-same f h (Items.hole is) (SimpleItems.hole s) w = absurd w
 gather-same f h (Items.item n is) (SimpleItems.item q s) w = rw (h n q) (ap (Items.item n) (gather-same f h is s w))
 
-change-same : (fs : Fields) (i : ℕ) (f : Piece → Piece) → f (pieceIn fs i) ≡ pieceIn fs i → changeIn fs i f ≡ fs
+pub change-same : (fs : Fields) (i : ℕ) (f : Piece → Piece) → f (pieceIn fs i) ≡ pieceIn fs i → changeIn fs i f ≡ fs
 unfolding pieceIn changeIn
 change-same Fields.done i f h = refl
 change-same (Fields.absent fs) zero f h = refl
@@ -164,7 +164,7 @@ change-same (Fields.absent fs) (suc i) f h = ap Fields.absent (change-same fs i 
 change-same (Fields.field p fs) zero f h = ap (λ (q : Piece). Fields.field q fs) h
 change-same (Fields.field p fs) (suc i) f h = ap (Fields.field p) (change-same fs i f h)
 
-list-same : (f : Items → Items) (p : Piece) → f (asItems p) ≡ asItems p → onItems f p ≡ p
+pub list-same : (f : Items → Items) (p : Piece) → f (asItems p) ≡ asItems p → onItems f p ≡ p
 unfolding onItems
 list-same f (Piece.one n) h = refl
 list-same f (Piece.list is) h = ap Piece.list h

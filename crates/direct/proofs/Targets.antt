@@ -1,0 +1,473 @@
+-- Targets seen through views: where nothing is left to be replaced or taken.
+-- Assumes nothing.
+use mathlib.Core.Path.{_≡_, refl, sym, ap, ap₂, _∙_, fun-ext}
+use mathlib.Core.Bool.{Bool, true, false, cond, not, _&&_, _||_, true≢false, false≢true}
+use mathlib.Core.List.{List, [], _∷_}
+use Prim.Native.Nat.{ℕ, zero, suc, _+_, _≤_, max}
+use native.Mathlib.Omega.{arith}
+use lib.Dec.{eqb}
+use Rattle.tree.specs.Tree.{Node, Fields, Piece, Items, depth, depthFields, depthItems}
+use Rattle.tree.specs.Tree.Node.{node}
+use Rattle.tree.specs.Tree.Fields.{done, absent, field}
+use Rattle.tree.specs.Tree.Piece.{one, list, text, byte, mark, number}
+use Rattle.lowering.specs.Parts.{nothing, position, kind, is, asNode, asItems, pieceIn, standsIn, changeIn, dropIn, nodeAt, itemsAt, stands, isEmpty, change, onNode, onItems, changeNode, changeItems, without, only, each, gather, any, _+++_}
+use Rattle.lowering.specs.Made.{Context, reference, temporary}
+use Rattle.lowering.specs.Patterns.{Shape, shape, properties, itemsOf, rest, hasRest, leftOf, value, withLeft, withItems, withValues, withProperties, hasNestedObjectRest, hasNestedArrayRest, hasObjectRest, hasArrayRestOverObjectRest, replaced, replacedBelow, objectsWithRest, objectsBelow}
+use Rattle.lowering.specs.Patterns.Shape.{objectPattern, arrayPattern, default, leaf}
+use Rattle.lowering.specs.Keys.{keptKey, taken}
+use Rattle.lowering.specs.Assignments.{withoutRests, restsThroughObjects}
+use Rattle.lowering.proofs.Cases.{by-test, by-shape, or-left, or-right}
+use Rattle.lowering.proofs.WeightKeys.{rest-changed}
+use Rattle.lowering.proofs.Levels.{has-levels, array-levels, replaced-levels, without-levels, objects-levels, rests-levels}
+use Rattle.lowering.proofs.Views.{replaced-rests}
+use Rattle.direct.specs.Views.{withoutRestsBelow}
+use Rattle.direct.specs.Objects.{restsIn}
+use Rattle.direct.proofs.Kept.{over-none, changeItems-same}
+use Rattle.direct.proofs.Lists.{each-each, each-same}
+use Rattle.direct.proofs.PatternViews.{value-twice}
+use Rattle.direct.proofs.Objects.{value-changed, value-kept}
+use Rattle.direct.proofs.Declared.{properties-changed, rest-beside}
+
+-- ---- lists and fields
+
+shape-changed : (i : ℕ) (f : Piece → Piece) (n : Node) → shape (change i f n) ≡ shape n
+unfolding shape change
+shape-changed i f (node at k fs) = refl
+
+any-each : (t : Node → Bool) (g : Node → Node) (is : Items) → any t (each g is) ≡ any (λ n. t (g n)) is
+unfolding any each
+any-each t g Items.none = refl
+any-each t g (Items.hole is) = any-each t g is
+any-each t g (Items.item n is) = ap (λ (b : Bool). t (g n) || b) (any-each t g is)
+
+any-none : (u t : Node → Bool) → ((n : Node) → u n ≡ false → t n ≡ false) → (is : Items) → any u is ≡ false → any t is ≡ false
+unfolding any
+any-none u t h Items.none e = refl
+any-none u t h (Items.hole is) e = any-none u t h is e
+any-none u t h (Items.item n is) e = rw (h n (or-left (u n) (any u is) e)) (any-none u t h is (or-right (u n) (any u is) e))
+
+each-kept : (u : Node → Bool) (g : Node → Node) → ((n : Node) → u n ≡ false → g n ≡ n) → (is : Items) → any u is ≡ false → each g is ≡ is
+unfolding any each
+each-kept u g h Items.none e = refl
+each-kept u g h (Items.hole is) e = ap Items.hole (each-kept u g h is e)
+each-kept u g h (Items.item n is) e = ap₂ Items.item (h n (or-left (u n) (any u is) e)) (each-kept u g h is (or-right (u n) (any u is) e))
+
+piece-same : (f : Node → Node) (p : Piece) → f (asNode p) ≡ asNode p → onNode f p ≡ p
+unfolding onNode
+piece-same f (one n) h = ap one h
+piece-same f (list is) h = refl
+piece-same f (text bs) h = refl
+piece-same f (byte b) h = refl
+piece-same f (mark b) h = refl
+piece-same f (number b) h = refl
+
+field-same : (f : Node → Node) (fs : Fields) (i : ℕ) → f (asNode (pieceIn fs i)) ≡ asNode (pieceIn fs i) → changeIn fs i (onNode f) ≡ fs
+unfolding changeIn pieceIn
+field-same f done i h = refl
+field-same f (absent fs) zero h = refl
+field-same f (absent fs) (suc i) h = ap absent (field-same f fs i h)
+field-same f (field p fs) zero h = ap (λ (q : Piece). field q fs) (piece-same f p h)
+field-same f (field p fs) (suc i) h = ap (field p) (field-same f fs i h)
+
+node-same : (f : Node → Node) (i : ℕ) (n : Node) → f (nodeAt i n) ≡ nodeAt i n → changeNode i f n ≡ n
+unfolding change nodeAt
+node-same f i (node at k fs) h = ap (node at k) (field-same f fs i h)
+
+piece-changed : (f : Node → Node) → f nothing ≡ nothing → (p : Piece) → asNode (onNode f p) ≡ f (asNode p)
+unfolding onNode
+piece-changed f h (one n) = refl
+piece-changed f h (list is) = sym h
+piece-changed f h (text bs) = sym h
+piece-changed f h (byte b) = sym h
+piece-changed f h (mark b) = sym h
+piece-changed f h (number b) = sym h
+
+first-changed : (f : Node → Node) → f nothing ≡ nothing → (p : Node) → nodeAt 0 (changeNode 0 f p) ≡ f (nodeAt 0 p)
+unfolding nodeAt change changeIn pieceIn
+first-changed f h (node at k done) = sym h
+first-changed f h (node at k (absent fs)) = sym h
+first-changed f h (node at k (field p fs)) = piece-changed f h p
+
+piece-twice : (f g : Node → Node) (p : Piece) → onNode f (onNode g p) ≡ onNode (λ n. f (g n)) p
+unfolding onNode
+piece-twice f g (one n) = refl
+piece-twice f g (list is) = refl
+piece-twice f g (text bs) = refl
+piece-twice f g (byte b) = refl
+piece-twice f g (mark b) = refl
+piece-twice f g (number b) = refl
+
+left-twice : (f g : Node → Node) (p : Node) → withLeft f (withLeft g p) ≡ withLeft (λ n. f (g n)) p
+unfolding change changeIn
+left-twice f g (node at k done) = refl
+left-twice f g (node at k (absent fs)) = refl
+left-twice f g (node at k (field p fs)) = ap (λ (x : Piece). node at k (field x fs)) (piece-twice f g p)
+
+list-twice : (f g : Node → Node) (p : Piece) → onItems (each f) (onItems (each g) p) ≡ onItems (each (λ n. f (g n))) p
+unfolding onItems
+list-twice f g (one n) = refl
+list-twice f g (list is) = ap list (each-each f g is)
+list-twice f g (text bs) = refl
+list-twice f g (byte b) = refl
+list-twice f g (mark b) = refl
+list-twice f g (number b) = refl
+
+items-twice : (f g : Node → Node) (p : Node) → changeItems 0 (each f) (changeItems 0 (each g) p) ≡ changeItems 0 (each (λ n. f (g n))) p
+unfolding change changeIn
+items-twice f g (node at k done) = refl
+items-twice f g (node at k (absent fs)) = refl
+items-twice f g (node at k (field p fs)) = ap (λ (x : Piece). node at k (field x fs)) (list-twice f g p)
+
+values-twice : (f g : Node → Node) (p : Node) → withValues f (withValues g p) ≡ withValues (λ v. f (g v)) p
+values-twice f g p =
+    items-twice (λ q. changeNode 1 f q) (λ q. changeNode 1 g q) p
+    ∙ ap (λ (h : Node → Node). changeItems 0 (each h) p) (fun-ext (λ q. value-twice f g q))
+
+taken-none : (κ : Context) (p : Node) → hasRest p ≡ false → taken κ p ≡ p
+unfolding taken
+taken-none κ p e = rw e refl
+
+-- ---- clauses as equations
+
+module _ (d : ℕ) (p : Node) where
+  has-object : shape p ≡ objectPattern → hasNestedObjectRest (suc d) p ≡ hasRest p || any (λ q. hasNestedObjectRest d (value q)) (properties p)
+  unfolding hasNestedObjectRest
+  has-object e = rw (e, hasNestedObjectRest) refl
+
+  has-array : shape p ≡ arrayPattern → hasNestedObjectRest (suc d) p ≡ any (λ x. hasNestedObjectRest d x) (itemsOf p) || hasNestedObjectRest d (rest p)
+  unfolding hasNestedObjectRest
+  has-array e = rw (e, hasNestedObjectRest) refl
+
+  has-default : shape p ≡ default → hasNestedObjectRest (suc d) p ≡ hasNestedObjectRest d (leftOf p)
+  unfolding hasNestedObjectRest
+  has-default e = rw (e, hasNestedObjectRest) refl
+
+  has-leaf : shape p ≡ leaf → hasNestedObjectRest (suc d) p ≡ false
+  unfolding hasNestedObjectRest
+  has-leaf e = rw (e, hasNestedObjectRest) refl
+
+  over-object : shape p ≡ objectPattern → hasNestedArrayRest (suc d) p ≡ any (λ q. hasNestedArrayRest d (value q)) (properties p)
+  unfolding hasNestedArrayRest
+  over-object e = rw (e, hasNestedArrayRest) refl
+
+  over-array : shape p ≡ arrayPattern → hasNestedArrayRest (suc d) p ≡ any (λ x. hasNestedArrayRest d x) (itemsOf p) || hasNestedObjectRest d (rest p)
+  unfolding hasNestedArrayRest
+  over-array e = rw (e, hasNestedArrayRest) refl
+
+  over-default : shape p ≡ default → hasNestedArrayRest (suc d) p ≡ hasNestedArrayRest d (leftOf p)
+  unfolding hasNestedArrayRest
+  over-default e = rw (e, hasNestedArrayRest) refl
+
+  module _ (κ : Context) where
+    rep-object : shape p ≡ objectPattern → hasRest p ≡ false → replaced κ (suc d) p ≡ withValues (λ v. replaced κ d v) p
+    unfolding replaced
+    rep-object e r = rw (e, replaced, r)
+
+    rep-top : shape p ≡ objectPattern → hasRest p ≡ true → replaced κ (suc d) p ≡ reference κ p
+    unfolding replaced
+    rep-top e r = rw (e, replaced, r)
+
+    rep-array : shape p ≡ arrayPattern → replaced κ (suc d) p ≡ withItems (λ v. replaced κ d v) p
+    unfolding replaced
+    rep-array e = rw (e, replaced)
+
+    rep-default : shape p ≡ default → replaced κ (suc d) p ≡ withLeft (λ v. replaced κ d v) p
+    unfolding replaced
+    rep-default e = rw (e, replaced)
+
+    rep-leaf : shape p ≡ leaf → replaced κ (suc d) p ≡ p
+    unfolding replaced
+    rep-leaf e = rw (e, replaced)
+
+    left-object : shape p ≡ objectPattern → withoutRests κ (suc d) p ≡ taken κ (withValues (λ v. withoutRests κ d v) p)
+    unfolding withoutRests
+    left-object e = rw (e, withoutRests)
+
+    left-array : shape p ≡ arrayPattern → withoutRests κ (suc d) p ≡ p
+    unfolding withoutRests
+    left-array e = rw (e, withoutRests)
+
+    left-default : shape p ≡ default → withoutRests κ (suc d) p ≡ withLeft (λ v. withoutRests κ d v) p
+    unfolding withoutRests
+    left-default e = rw (e, withoutRests)
+
+    left-leaf : shape p ≡ leaf → withoutRests κ (suc d) p ≡ p
+    unfolding withoutRests
+    left-leaf e = rw (e, withoutRests)
+
+module _ (κ : Context) where
+  rep-nothing : (d : ℕ) → replaced κ d nothing ≡ nothing
+  unfolding replaced shape
+  rep-nothing zero = refl
+  rep-nothing (suc d) = refl
+
+  left-nothing : (d : ℕ) → withoutRests κ d nothing ≡ nothing
+  unfolding withoutRests shape
+  left-nothing zero = refl
+  left-nothing (suc d) = refl
+
+  reference-has : (d : ℕ) (p : Node) → hasNestedObjectRest d (reference κ p) ≡ false
+  unfolding hasNestedObjectRest shape
+  reference-has zero p = refl
+  reference-has (suc d) p = refl
+
+  reference-left : (μ : Context) (d : ℕ) (p : Node) → withoutRests μ d (reference κ p) ≡ reference κ p
+  unfolding withoutRests shape
+  reference-left μ zero p = refl
+  reference-left μ (suc d) p = refl
+
+  -- ---- no object rest below: nothing is replaced
+
+  replaced-none : (d : ℕ) (p : Node) → hasNestedObjectRest d p ≡ false → replaced κ d p ≡ p
+  unfolding replaced
+  replaced-none zero p h = refl
+  replaced-none (suc d) p h =
+      by-shape (shape p)
+      (λ e.
+      let z = sym (has-object d p e) ∙ h in
+      let t : Node → Bool = λ q. hasNestedObjectRest d (value q) in
+      rep-object d p κ e (or-left (hasRest p) (any t (properties p)) z)
+      ∙ changeItems-same 0 (each (λ q. changeNode 1 (λ v. replaced κ d v) q)) p
+      (each-kept t (λ q. changeNode 1 (λ v. replaced κ d v) q) (λ q y. node-same (λ v. replaced κ d v) 1 q (replaced-none d (value q) y)) (properties p) (or-right (hasRest p) (any t (properties p)) z)))
+      (λ e.
+      let z = sym (has-array d p e) ∙ h in
+      let t : Node → Bool = λ x. hasNestedObjectRest d x in
+      rep-array d p κ e
+      ∙ changeItems-same 0 (each (λ v. replaced κ d v)) p
+      (each-kept t (λ v. replaced κ d v) (λ x y. replaced-none d x y) (itemsOf p) (or-left (any t (itemsOf p)) (hasNestedObjectRest d (rest p)) z)))
+      (λ e. rep-default d p κ e ∙ node-same (λ v. replaced κ d v) 0 p (replaced-none d (leftOf p) (sym (has-default d p e) ∙ h)))
+      (λ e. rep-leaf d p κ e)
+
+  pub replaced-nothing : (p : Node) → hasObjectRest p ≡ false → replacedBelow κ p ≡ p
+  replaced-nothing p h = replaced-none (depth p) p h
+
+  -- ---- once objects are replaced no object rest is left, if none is below an array rest
+
+  values-changed : (t : Node → Bool) (f : Node → Node) → f nothing ≡ nothing → (p : Node)
+      → any (λ q. t (value q)) (properties (withValues f p)) ≡ any (λ q. t (f (value q))) (properties p)
+  values-changed t f z p =
+      ap (any (λ q. t (value q))) (properties-changed (λ q. changeNode 1 f q) p)
+      ∙ any-each (λ q. t (value q)) (λ q. changeNode 1 f q) (properties p)
+      ∙ ap (λ (g : Node → Bool). any g (properties p)) (fun-ext (λ q. ap t (value-changed f z q)))
+
+  left-changed : (f : Node → Node) → f nothing ≡ nothing → (p : Node) → leftOf (withLeft f p) ≡ f (leftOf p)
+  left-changed f z p = first-changed f z p
+
+  has-replaced : (d : ℕ) (p : Node) → hasNestedArrayRest d p ≡ false → hasNestedObjectRest d (replaced κ d p) ≡ false
+  unfolding hasNestedObjectRest
+  has-replaced zero p h = refl
+  has-replaced (suc d) p h =
+      let f : Node → Node = λ v. replaced κ d v in
+      let t : Node → Bool = λ v. hasNestedObjectRest d v in
+      by-shape (shape p)
+      (λ e.
+      by-test (hasRest p)
+      (λ r. ap (hasNestedObjectRest (suc d)) (rep-top d p κ e r) ∙ reference-has (suc d) p)
+      (λ r.
+      let g : Piece → Piece = onItems (each (λ q. changeNode 1 f q)) in
+      ap (hasNestedObjectRest (suc d)) (rep-object d p κ e r)
+      ∙ has-object d (withValues f p) (shape-changed 0 g p ∙ e)
+      ∙ ap₂ (λ (a b : Bool). a || b) (rest-changed 0 g p ∙ r)
+      (values-changed t f (rep-nothing d) p
+      ∙ any-none (λ q. hasNestedArrayRest d (value q)) (λ q. t (f (value q))) (λ q y. has-replaced d (value q) y) (properties p) (sym (over-object d p e) ∙ h))))
+      (λ e.
+      let z = sym (over-array d p e) ∙ h in
+      let u : Node → Bool = λ x. hasNestedArrayRest d x in
+      ap (hasNestedObjectRest (suc d)) (rep-array d p κ e)
+      ∙ has-array d (withItems f p) (shape-changed 0 (onItems (each f)) p ∙ e)
+      ∙ ap₂ (λ (a b : Bool). a || b)
+      (ap (any t) (properties-changed f p) ∙ any-each t f (itemsOf p) ∙ any-none u (λ x. t (f x)) (λ x y. has-replaced d x y) (itemsOf p) (or-left (any u (itemsOf p)) (t (rest p)) z))
+      (ap t (rest-beside (onItems (each f)) p) ∙ or-right (any u (itemsOf p)) (t (rest p)) z))
+      (λ e.
+      ap (hasNestedObjectRest (suc d)) (rep-default d p κ e)
+      ∙ has-default d (withLeft f p) (shape-changed 0 (onNode f) p ∙ e)
+      ∙ ap t (left-changed f (rep-nothing d) p)
+      ∙ has-replaced d (leftOf p) (sym (over-default d p e) ∙ h))
+      (λ e. ap (hasNestedObjectRest (suc d)) (rep-leaf d p κ e) ∙ has-leaf d p e)
+
+  pub replaced-clear : (p : Node) → hasArrayRestOverObjectRest p ≡ false → hasObjectRest (replacedBelow κ p) ≡ false
+  replaced-clear p h =
+      let x = replacedBelow κ p in
+      let b = depth p + depth x in
+      sym (has-levels b x (omega arith))
+      ∙ ap (hasNestedObjectRest b) (sym (replaced-levels b p (omega arith) κ))
+      ∙ has-replaced b p (array-levels b p (omega arith) ∙ h)
+
+  -- ---- rests taken of what is replaced: nothing
+
+  left-replaced : (μ : Context) (d : ℕ) (p : Node) → withoutRests μ d (replaced κ d p) ≡ replaced κ d p
+  unfolding withoutRests
+  left-replaced μ zero p = refl
+  left-replaced μ (suc d) p =
+      let f : Node → Node = λ v. replaced κ d v in
+      let w : Node → Node = λ v. withoutRests μ d v in
+      by-shape (shape p)
+      (λ e.
+      by-test (hasRest p)
+      (λ r. ap (withoutRests μ (suc d)) (rep-top d p κ e r) ∙ reference-left μ (suc d) p ∙ sym (rep-top d p κ e r))
+      (λ r.
+      let g : Piece → Piece = onItems (each (λ q. changeNode 1 f q)) in
+      ap (withoutRests μ (suc d)) (rep-object d p κ e r)
+      ∙ left-object d (withValues f p) μ (shape-changed 0 g p ∙ e)
+      ∙ ap (taken μ) (values-twice w f p ∙ ap (λ (h : Node → Node). withValues h p) (fun-ext (λ v. left-replaced μ d v)))
+      ∙ taken-none μ (withValues f p) (rest-changed 0 g p ∙ r)
+      ∙ sym (rep-object d p κ e r)))
+      (λ e. ap (withoutRests μ (suc d)) (rep-array d p κ e) ∙ left-array d (withItems f p) μ (shape-changed 0 (onItems (each f)) p ∙ e) ∙ sym (rep-array d p κ e))
+      (λ e.
+      ap (withoutRests μ (suc d)) (rep-default d p κ e)
+      ∙ left-default d (withLeft f p) μ (shape-changed 0 (onNode f) p ∙ e)
+      ∙ left-twice w f p
+      ∙ ap (λ (h : Node → Node). withLeft h p) (fun-ext (λ v. left-replaced μ d v))
+      ∙ sym (rep-default d p κ e))
+      (λ e. ap (withoutRests μ (suc d)) (rep-leaf d p κ e) ∙ left-leaf d p μ e ∙ sym (rep-leaf d p κ e))
+
+  pub without-replaced : (μ : Context) (p : Node) → withoutRestsBelow μ (replacedBelow κ p) ≡ replacedBelow κ p
+  without-replaced μ p =
+      let x = replacedBelow κ p in
+      let b = depth p + depth x in
+      sym (without-levels b x (omega arith) μ)
+      ∙ ap (withoutRests μ b) (sym (replaced-levels b p (omega arith) κ))
+      ∙ left-replaced μ b p
+      ∙ replaced-levels b p (omega arith) κ
+
+  pub rests-replaced : (p : Node) → restsIn (replacedBelow κ p) ≡ Items.none
+  rests-replaced p =
+      let x = replacedBelow κ p in
+      let b = depth p + depth x in
+      sym (rests-levels b x (omega arith))
+      ∙ ap (restsThroughObjects b) (sym (replaced-levels b p (omega arith) κ))
+      ∙ replaced-rests κ b p
+
+-- ---- rests taken: what stands below arrays stays
+
+items-left : (n : Node) → itemsAt 0 (without 1 n) ≡ itemsAt 0 n
+unfolding itemsAt without dropIn pieceIn
+items-left (node at k done) = refl
+items-left (node at k (absent fs)) = refl
+items-left (node at k (field p fs)) = refl
+
+shape-left : (n : Node) → shape (without 1 n) ≡ shape n
+unfolding shape without
+shape-left (node at k fs) = refl
+
+module _ (κ : Context) where
+  shape-taken : (p : Node) → shape (taken κ p) ≡ shape p
+  unfolding taken
+  shape-taken p =
+      by-test (hasRest p) (λ r. rw r (shape-left (withProperties (keptKey κ) p) ∙ shape-changed 0 (onItems (each (keptKey κ))) p)) (λ r. rw r refl)
+
+  any-taken : (t : Node → Bool) (p : Node) → any (λ q. t (value q)) (properties (taken κ p)) ≡ any (λ q. t (value q)) (properties p)
+  unfolding taken
+  any-taken t p =
+      by-test (hasRest p)
+      (λ r. rw r
+      (ap (any (λ q. t (value q))) (items-left (withProperties (keptKey κ) p) ∙ properties-changed (keptKey κ) p)
+      ∙ any-each (λ q. t (value q)) (keptKey κ) (properties p)
+      ∙ ap (λ (g : Node → Bool). any g (properties p)) (fun-ext (λ q. ap t (value-kept κ q)))))
+      (λ r. rw r refl)
+
+  over-left : (d : ℕ) (p : Node) → hasNestedArrayRest d p ≡ false → hasNestedArrayRest d (withoutRests κ d p) ≡ false
+  unfolding hasNestedArrayRest
+  over-left zero p h = refl
+  over-left (suc d) p h =
+      let w : Node → Node = λ v. withoutRests κ d v in
+      let t : Node → Bool = λ v. hasNestedArrayRest d v in
+      by-shape (shape p)
+      (λ e.
+      let g : Piece → Piece = onItems (each (λ q. changeNode 1 w q)) in
+      ap (hasNestedArrayRest (suc d)) (left-object d p κ e)
+      ∙ over-object d (taken κ (withValues w p)) (shape-taken (withValues w p) ∙ shape-changed 0 g p ∙ e)
+      ∙ any-taken t (withValues w p)
+      ∙ values-changed κ t w (left-nothing κ d) p
+      ∙ any-none (λ q. t (value q)) (λ q. t (w (value q))) (λ q y. over-left d (value q) y) (properties p) (sym (over-object d p e) ∙ h))
+      (λ e. ap (hasNestedArrayRest (suc d)) (left-array d p κ e) ∙ h)
+      (λ e.
+      ap (hasNestedArrayRest (suc d)) (left-default d p κ e)
+      ∙ over-default d (withLeft w p) (shape-changed 0 (onNode w) p ∙ e)
+      ∙ ap t (left-changed κ w (left-nothing κ d) p)
+      ∙ over-left d (leftOf p) (sym (over-default d p e) ∙ h))
+      (λ e. ap (hasNestedArrayRest (suc d)) (left-leaf d p κ e) ∙ h)
+
+  pub over-without : (p : Node) → hasArrayRestOverObjectRest p ≡ false → hasArrayRestOverObjectRest (withoutRestsBelow κ p) ≡ false
+  over-without p h =
+      let x = withoutRestsBelow κ p in
+      let b = depth p + depth x in
+      sym (array-levels b x (omega arith))
+      ∙ ap (hasNestedArrayRest b) (sym (without-levels b p (omega arith) κ))
+      ∙ over-left b p (array-levels b p (omega arith) ∙ h)
+
+  -- ---- an object is found where an object rest is, if none is below an array rest
+
+  empty-append : (is js : Items) → isEmpty (is +++ js) ≡ isEmpty is && isEmpty js
+  unfolding isEmpty _+++_
+  empty-append Items.none js = refl
+  empty-append (Items.hole is) js = refl
+  empty-append (Items.item n is) js = refl
+
+  and-not : (a b : Bool) → not a && not b ≡ not (a || b)
+  and-not true b = refl
+  and-not false b = refl
+
+  empty-gather : (u t : Node → Bool) (f : Node → Items) → ((n : Node) → u n ≡ false → isEmpty (f n) ≡ not (t n)) → (is : Items) → any u is ≡ false
+      → isEmpty (gather f is) ≡ not (any t is)
+  unfolding gather any isEmpty
+  empty-gather u t f h Items.none e = refl
+  empty-gather u t f h (Items.hole is) e = empty-gather u t f h is e
+  empty-gather u t f h (Items.item n is) e =
+      empty-append (f n) (gather f is)
+      ∙ ap₂ (λ (x y : Bool). x && y) (h n (or-left (u n) (any u is) e)) (empty-gather u t f h is (or-right (u n) (any u is) e))
+      ∙ and-not (t n) (any t is)
+
+  own-found : (r x : Bool) (o : Node) → not x && isEmpty (cond r (only o) Items.none) ≡ not (r || x)
+  unfolding isEmpty
+  own-found true true o = refl
+  own-found true false o = refl
+  own-found false true o = refl
+  own-found false false o = refl
+
+  or-false : (a : Bool) → a ≡ a || false
+  or-false true = refl
+  or-false false = refl
+
+  obj-object : (d : ℕ) (p : Node) → shape p ≡ objectPattern → objectsWithRest κ (suc d) p ≡ gather (λ q. objectsWithRest κ d (value q)) (properties p) +++ cond (hasRest p) (only (withValues (λ v. replaced κ d v) p)) Items.none
+  unfolding objectsWithRest
+  obj-object d p e = rw (e, objectsWithRest) refl
+
+  obj-array : (d : ℕ) (p : Node) → shape p ≡ arrayPattern → objectsWithRest κ (suc d) p ≡ gather (λ x. objectsWithRest κ d x) (itemsOf p)
+  unfolding objectsWithRest
+  obj-array d p e = rw (e, objectsWithRest) refl
+
+  obj-default : (d : ℕ) (p : Node) → shape p ≡ default → objectsWithRest κ (suc d) p ≡ objectsWithRest κ d (leftOf p)
+  unfolding objectsWithRest
+  obj-default d p e = rw (e, objectsWithRest) refl
+
+  obj-leaf : (d : ℕ) (p : Node) → shape p ≡ leaf → objectsWithRest κ (suc d) p ≡ Items.none
+  unfolding objectsWithRest
+  obj-leaf d p e = rw (e, objectsWithRest) refl
+
+  found-iff : (d : ℕ) (p : Node) → hasNestedArrayRest d p ≡ false → isEmpty (objectsWithRest κ d p) ≡ not (hasNestedObjectRest d p)
+  unfolding hasNestedObjectRest objectsWithRest isEmpty
+  found-iff zero p h = refl
+  found-iff (suc d) p h =
+      let f : Node → Items = λ v. objectsWithRest κ d v in
+      let t : Node → Bool = λ v. hasNestedObjectRest d v in
+      let u : Node → Bool = λ v. hasNestedArrayRest d v in
+      by-shape (shape p)
+      (λ e.
+      let o = withValues (λ v. replaced κ d v) p in
+      ap isEmpty (obj-object d p e)
+      ∙ empty-append (gather (λ q. f (value q)) (properties p)) (cond (hasRest p) (only o) Items.none)
+      ∙ ap (λ (b : Bool). b && isEmpty (cond (hasRest p) (only o) Items.none))
+      (empty-gather (λ q. u (value q)) (λ q. t (value q)) (λ q. f (value q)) (λ q y. found-iff d (value q) y) (properties p) (sym (over-object d p e) ∙ h))
+      ∙ own-found (hasRest p) (any (λ q. t (value q)) (properties p)) o
+      ∙ ap not (sym (has-object d p e)))
+      (λ e.
+      let z = sym (over-array d p e) ∙ h in
+      ap isEmpty (obj-array d p e)
+      ∙ empty-gather u t f (λ x y. found-iff d x y) (itemsOf p) (or-left (any u (itemsOf p)) (t (rest p)) z)
+      ∙ ap not (or-false (any t (itemsOf p)) ∙ ap (λ (b : Bool). any t (itemsOf p) || b) (sym (or-right (any u (itemsOf p)) (t (rest p)) z)) ∙ sym (has-array d p e)))
+      (λ e. ap isEmpty (obj-default d p e) ∙ found-iff d (leftOf p) (sym (over-default d p e) ∙ h) ∙ ap not (sym (has-default d p e)))
+      (λ e. ap isEmpty (obj-leaf d p e) ∙ ap not (sym (has-leaf d p e)))
+
+  pub found-some : (p : Node) → hasArrayRestOverObjectRest p ≡ false → hasObjectRest p ≡ true → isEmpty (objectsBelow κ p) ≡ false
+  found-some p h k = found-iff (depth p) p h ∙ ap not k

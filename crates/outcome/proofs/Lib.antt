@@ -1,0 +1,13 @@
+pub mod Refusals
+pub mod Same
+pub mod Tokens
+pub mod Listed
+pub mod Makes
+pub mod Scope
+pub mod Good
+pub mod GoodRules
+pub mod Forms
+pub mod Handed
+pub mod Numbers
+pub mod Nodes
+pub mod Lists

@@ -1,0 +1,2 @@
+// The lowering of object rest and spread.
+pub mod target;
