@@ -1,39 +1,38 @@
 -- Assignments with an object rest below the target, part by part.
 -- Assumes nothing.
-use mathlib.Core.Path.{_≡_, refl, sym, ap, ap₂, _∙_, fun-ext}
-use mathlib.Core.Bool.{Bool, true, false, cond, not, _&&_, _||_, true≢false, false≢true}
+use mathlib.Core.Path.{_≡_, refl, sym, ap, ap₂, _∙_}
+use mathlib.Core.Bool.{Bool, true, false, cond}
 use mathlib.Core.List.{List, [], _∷_, _++_}
-use Prim.Native.Nat.{ℕ, zero, suc, _+_, _≤_, max}
+use Prim.Native.Nat.{ℕ, zero, suc, _+_}
 use native.Mathlib.Omega.{arith}
-use lib.Dec.{eqb}
-use Rattle.tree.specs.Tree.{Node, Fields, Piece, Items, wideBytes, mapOf, count, depth}
+use Rattle.tree.specs.Tree.{Node, Items, wideBytes, mapOf, count, depth}
 use Rattle.tree.specs.Tree.Node.{node}
-use Rattle.tree.specs.Tree.Fields.{done, absent, field}
-use Rattle.tree.specs.Tree.Piece.{one, list, text, byte, mark, number}
-use Rattle.lowering.specs.Parts.{nothing, position, kind, is, pieceIn, standsIn, changeIn, nodeAt, itemsAt, stands, isEmpty, change, onNode, onItems, changeNode, changeItems, only, each, gather, any, _+++_}
+use Rattle.tree.specs.Tree.Fields.{done, field}
+use Rattle.tree.specs.Tree.Piece.{one, byte, mark}
+use Rattle.lowering.specs.Parts.{position, is, pieceIn, standsIn, changeIn, nodeAt, itemsAt, stands, isEmpty, change, onNode, changeNode, only, each, gather, _+++_}
 use Rattle.lowering.specs.Made.{Context, temporary, assign, sequence, reference, valueOf}
-use Rattle.lowering.specs.Patterns.{Shape, shape, properties, key, value, rest, hasRest, withValues, hasNestedObjectRest, hasNestedArrayRest, hasObjectRest, hasArrayRestOverObjectRest, replaced, replacedBelow, objectsWithRest, objectsBelow}
-use Rattle.lowering.specs.Patterns.Shape.{objectPattern, arrayPattern, default, leaf}
-use Rattle.lowering.specs.Keys.{keyTemporary, keyTemporaries, anyLacksForm, lacksForm, taken, keptKey}
+use Rattle.lowering.specs.Patterns.{shape, properties, value, rest, hasRest, withValues, hasNestedObjectRest, hasObjectRest, hasArrayRestOverObjectRest, replaced, replacedBelow, objectsWithRest, objectsBelow}
+use Rattle.lowering.specs.Patterns.Shape.{leaf}
+use Rattle.lowering.specs.Keys.{taken, keptKey}
 use Rattle.lowering.specs.Rests.{restValue}
-use Rattle.lowering.specs.Assignments.{target, assigned, isTop, restsThroughObjects, restsOf, topLacksForm, withoutRests, targetLeft, topSequence, topEntry, topExcludes, topMakes, nestedSequence, nestedEntry, nestedMakes}
-use Rattle.lowering.specs.Walk.{Step, rewrite, refuse, ruleOf, opensScope, stepAssignment, stepTop}
+use Rattle.lowering.specs.Assignments.{target, isTop, restsThroughObjects, topLacksForm, topSequence, topEntry, topExcludes, topMakes, nestedSequence, nestedEntry, nestedMakes}
+use Rattle.lowering.specs.Walk.{rewrite, refuse, ruleOf, opensScope, stepAssignment, stepTop}
 use Rattle.lowering.specs.Collect.{isContainer}
 use Rattle.lowering.proofs.Cases.{by-test, by-shape}
 use Rattle.lowering.proofs.Accepted.{NoHoles}
-use Rattle.direct.specs.Events.{Deed, Place, Emit, puts, cell, lists, refused, handsOut, contextOf, emits}
+use Rattle.direct.specs.Events.{Place, Emit, puts, refused, contextOf, emits}
 use Rattle.direct.specs.Emit.{say, _▷_, below, inner, emitsItems, emitsPiece, stays, inTurn}
-use Rattle.direct.specs.Views.{View, objectAt, objectRestAt, withoutRestsBelow, nameless, viewed, eachDoes, saysCell, emitsView, isOther}
-use Rattle.direct.specs.Views.View.{replacing, taking, leaving}
+use Rattle.direct.specs.Views.{View, objectAt, objectRestAt, withoutRestsBelow, nameless, viewed, eachDoes, saysCell, emitsView}
+use Rattle.direct.specs.Views.View.{replacing, leaving}
 use Rattle.direct.specs.Keys.{emitsRest}
 use Rattle.direct.specs.Objects.{objectsIn, restsIn, overObjects, overRests}
-use Rattle.direct.specs.Handed.{placesIn, handsTop, handsNested}
+use Rattle.direct.specs.Handed.{placesIn}
 use Rattle.direct.specs.Assigned.{assignmentAt, assignHead, restInArrays, emitsRestOf, emitsInner, emitsNest, emitsTarget, topCount, emitsTop}
-use Rattle.direct.proofs.Threads.{then-assoc, say-nothing, then-nothing, say-say}
+use Rattle.direct.proofs.Threads.{then-assoc}
 use Rattle.direct.proofs.Stays.{emits-as, emits-refused, emits-unchanged, emits-nowhere}
 use Rattle.direct.proofs.Kept.{rule-27, assignment-kept}
-use Rattle.direct.proofs.Makes.{say-then, below-inner, three-fields, only-item, no-items, more-items, emits-sequence, emits-assign}
-use Rattle.direct.proofs.Items.{count-append, items-append, turn-same}
+use Rattle.direct.proofs.Makes.{say-then, below-inner, three-fields, only-item, no-items, more-items, emits-sequence}
+use Rattle.direct.proofs.Items.{count-append, items-append}
 use Rattle.direct.proofs.Lists.{count-each, items-each}
 use Rattle.direct.proofs.PatternViews.{emits-viewed, says-cell, without-object, taken-rest, values-rest}
 use Rattle.direct.proofs.RestValues.{rest-value}

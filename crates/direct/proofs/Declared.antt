@@ -1,40 +1,38 @@
 -- Declarations, declarator by declarator.
 -- Assumes nothing.
-use mathlib.Core.Path.{_≡_, refl, sym, ap, ap₂, _∙_, fun-ext}
-use mathlib.Core.Bool.{Bool, true, false, cond, not, _&&_, _||_, true≢false, false≢true}
-use mathlib.Core.List.{List, [], _∷_, _++_}
+use mathlib.Core.Path.{_≡_, refl, sym, ap, ap₂, _∙_}
+use mathlib.Core.Bool.{Bool, true, false, cond}
+use mathlib.Core.List.{[], _∷_, _++_}
 use Prim.Native.Nat.{ℕ, zero, suc, _+_, _≤_, max}
 use native.Mathlib.Omega.{arith}
-use lib.Dec.{eqb}
 use Rattle.tree.specs.Tree.{Node, Fields, Piece, Items, wideBytes, count, depth, depthFields, depthItems}
 use Rattle.tree.specs.Tree.Node.{node}
 use Rattle.tree.specs.Tree.Fields.{done, absent, field}
 use Rattle.tree.specs.Tree.Piece.{one, list, text, byte, mark, number}
-use Rattle.lowering.specs.Parts.{nothing, position, kind, is, asItems, pieceIn, standsIn, changeIn, nodeAt, itemsAt, stands, isEmpty, change, onNode, onItems, changeNode, changeItems, only, each, gather, _+++_}
-use Rattle.lowering.specs.Made.{Context, temporary, declares, reference, valueOf, keyOf}
-use Rattle.lowering.specs.Patterns.{Shape, shape, properties, itemsOf, key, value, rest, hasRest, withValues, replaced, replacedBelow}
-use Rattle.lowering.specs.Patterns.Shape.{objectPattern, arrayPattern, default, leaf}
+use Rattle.lowering.specs.Parts.{nothing, position, is, asItems, pieceIn, standsIn, changeIn, nodeAt, itemsAt, stands, isEmpty, change, onNode, onItems, changeNode, changeItems, only, each, gather, _+++_}
+use Rattle.lowering.specs.Made.{Context, declares, reference, valueOf, keyOf}
+use Rattle.lowering.specs.Patterns.{shape, properties, key, value, rest, hasRest, withValues, replaced, replacedBelow}
+use Rattle.lowering.specs.Patterns.Shape.{objectPattern, arrayPattern, leaf}
 use Rattle.lowering.specs.Keys.{keyTemporary, keyTemporaries, taken}
-use Rattle.lowering.specs.Rests.{hasNoProperties, restValue}
+use Rattle.lowering.specs.Rests.{restValue}
 use Rattle.lowering.specs.Declarations.{isName, source, sourceDeclarator, keysBefore, patternDeclarator, restDeclarator, own, nested, nestedBelow, objectDeclarators, patternDeclarators, lowerDeclarator, isLowered, declarators, declaration, declarationMakes, declarationExcludes, declarationLacksForm}
-use Rattle.lowering.specs.Walk.{Step, rewrite, refuse, stepDeclaration}
+use Rattle.lowering.specs.Walk.{rewrite, refuse, stepDeclaration}
 use Rattle.lowering.proofs.Cases.{by-test, by-shape, object-is}
 use Rattle.lowering.proofs.Levels.{gather-agrees, node-in, values-agree, replaced-levels, nested-levels}
 use Rattle.lowering.proofs.WeightKeys.{rest-changed}
-use Rattle.direct.specs.Events.{Deed, Place, Emit, puts, marks, refused, handsOut, contextOf, emits}
+use Rattle.direct.specs.Events.{Place, Emit, puts, marks, refused, contextOf, emits}
 use Rattle.direct.specs.Emit.{say, _▷_, inner, emitsItems, stays, inTurn}
-use Rattle.direct.specs.Views.{View, valuesOf, objectAt, objectRestAt, propertyAt, arrayAt, arrayRestAt, defaultAt, viewed, saysCell, emitsView, isOther}
-use Rattle.direct.specs.Views.View.{replacing, taking, leaving}
+use Rattle.direct.specs.Views.{objectAt, objectRestAt, viewed, saysCell, emitsView, isOther}
+use Rattle.direct.specs.Views.View.{replacing, taking}
 use Rattle.direct.specs.Keys.{emitsRest}
 use Rattle.direct.specs.Handed.{declaratorMade, declaratorExcludes}
 use Rattle.direct.specs.Declared.{declarationAt, emitsKeyValue, emitsOwnKeys, emitsOwnPattern, emitsOwnRest, emitsFound, emitsPattern, emitsLowered, emitsDeclarator, declaratorCount}
-use Rattle.direct.proofs.Threads.{then-assoc, say-nothing, then-nothing, say-say}
+use Rattle.direct.proofs.Threads.{then-assoc, say-nothing}
 use Rattle.direct.proofs.Alike.{key-kept}
 use Rattle.direct.proofs.Stays.{emits-as, emits-refused}
 use Rattle.direct.proofs.Kept.{rule-4}
-use Rattle.direct.proofs.Makes.{only-item, no-items, more-items, emits-declares, stays-declaration}
+use Rattle.direct.proofs.Makes.{only-item, no-items, emits-declares, stays-declaration}
 use Rattle.direct.proofs.Items.{turn-same, items-append, items-gather}
-use Rattle.direct.proofs.Lists.{append-none}
 use Rattle.direct.proofs.PatternViews.{emits-viewed, says-cell}
 use Rattle.direct.proofs.RestValues.{does-each, empty-each, rest-value, rest-values}
 use Rattle.direct.proofs.Handed.{keyTemporary-is, declaration-handed}
@@ -169,13 +167,13 @@ module _ (κ : Context) where
       node-in (λ m. nested κ d m) (λ m. nestedBelow κ m) d (λ m h. nested-levels d m h κ)
       (nested-nothing κ d ∙ sym (nested-nothing κ (depth nothing))) 1 q (omega arith)
 
-  nested-object : (at : ℕ) (ps : Items) → nestedBelow κ (objectAt at ps) ≡ gather (λ q. nestedBelow κ (value q)) ps
+  pub nested-object : (at : ℕ) (ps : Items) → nestedBelow κ (objectAt at ps) ≡ gather (λ q. nestedBelow κ (value q)) ps
   unfolding nested shape depth stands standsIn itemsAt pieceIn _+++_
   nested-object at ps =
       let d = max (depthItems ps) 0 in
       gather-agrees (λ q. nested κ d (value q)) (λ q. nestedBelow κ (value q)) d (λ q l. found-value d q l) ps (omega arith)
 
-  nested-rest : (at : ℕ) (ps : Items) (r : Node)
+  pub nested-rest : (at : ℕ) (ps : Items) (r : Node)
       → nestedBelow κ (objectRestAt at ps r)
       ≡ own κ (withValues (λ v. replacedBelow κ v) (objectRestAt at ps r)) (reference κ (objectRestAt at ps r)) +++ gather (λ q. nestedBelow κ (value q)) ps
   unfolding nested shape depth stands standsIn itemsAt pieceIn
@@ -185,17 +183,17 @@ module _ (κ : Context) where
       (values-agree (λ v. replaced κ d v) (λ v. replacedBelow κ v) d (λ m l. replaced-levels d m l κ) (objectRestAt at ps r) (omega arith))
       (gather-agrees (λ q. nested κ d (value q)) (λ q. nestedBelow κ (value q)) d (λ q l. found-value d q l) ps (omega arith))
 
-  nested-array : (at : ℕ) (is : Items) (fs : Fields) → nestedBelow κ (node at 36 (field (list is) fs)) ≡ gather (λ n. nestedBelow κ n) is
+  pub nested-array : (at : ℕ) (is : Items) (fs : Fields) → nestedBelow κ (node at 36 (field (list is) fs)) ≡ gather (λ n. nestedBelow κ n) is
   unfolding nested shape depth itemsAt pieceIn
   nested-array at is fs =
       let d = max (depthItems is) (depthFields fs) in
       gather-agrees (λ n. nested κ d n) (λ n. nestedBelow κ n) d (λ m l. nested-levels d m l κ) is (omega arith)
 
-  nested-default : (at : ℕ) (l : Node) (fs : Fields) → nestedBelow κ (node at 37 (field (one l) fs)) ≡ nestedBelow κ l
+  pub nested-default : (at : ℕ) (l : Node) (fs : Fields) → nestedBelow κ (node at 37 (field (one l) fs)) ≡ nestedBelow κ l
   unfolding nested shape depth nodeAt pieceIn
   nested-default at l fs = nested-levels (max (depth l) (depthFields fs)) l (omega arith) κ
 
-  nested-leaf : (p : Node) → shape p ≡ leaf → nestedBelow κ p ≡ Items.none
+  pub nested-leaf : (p : Node) → shape p ≡ leaf → nestedBelow κ p ≡ Items.none
   unfolding nested depth
   nested-leaf (node at k fs) e = rw (e, nested) refl
 

@@ -3,37 +3,35 @@
 use mathlib.Core.Path.{_≡_, refl, sym, ap, ap₂, _∙_, fun-ext}
 use mathlib.Core.Bool.{Bool, true, false, cond, not, _&&_, _||_, true≢false, false≢true}
 use mathlib.Core.List.{List, [], _∷_, _++_}
-use Prim.Native.Nat.{ℕ, zero, suc, _+_}
-use native.Mathlib.Omega.{arith}
+use Prim.Native.Nat.{ℕ, suc, _+_}
 use lib.Dec.{eqb}
 use lib.ListN.{length}
-use Rattle.tree.specs.Tree.{Node, Fields, Piece, Items, wideBytes, mapOf, count, encode, encodeFields, encodePiece, encodeItems}
+use Rattle.tree.specs.Tree.{Node, Piece, Items, wideBytes, mapOf, count, encode, encodeItems}
 use Rattle.tree.specs.Tree.Node.{node}
-use Rattle.lowering.specs.Parts.{position, kind, is, nodeAt, numberAt, textAt, itemsAt, stands, standsIn, pieceIn, isEmpty, only, each, gather, any, change, onNode, changeNode, _+++_}
+use Rattle.lowering.specs.Parts.{position, is, nodeAt, numberAt, textAt, itemsAt, stands, standsIn, pieceIn, isEmpty, only, each, gather, any, change, onNode, changeNode, _+++_}
 use Rattle.lowering.specs.Made.{Context, array, string, declares, declared, idOf, reference, excludedOf, valueOf, keyOf, temporary}
 use Rattle.lowering.specs.Patterns.{properties, key, objectsBelow}
-use Rattle.lowering.specs.Keys.{Key, keySort, isPrimitive, excludedKey, excludedKeys, keyTemporary, keyTemporaries}
+use Rattle.lowering.specs.Keys.{keySort, isPrimitive, excludedKey, excludedKeys, keyTemporary, keyTemporaries}
 use Rattle.lowering.specs.Keys.Key.{name, literal, template, private, again, other}
 use Rattle.lowering.specs.Rests.{isHoisted, excludedFor, restMakes}
 use Rattle.lowering.specs.Declarations.{isName, isLowered, sourceDeclarator, innerObjects, declaratorMakes, loweredIn, declarationMakes, declarationExcludes}
 use Rattle.lowering.specs.Assignments.{target, restsOf, topEntry, topExcludes, topMakes, nestedEntry, nestedMakes}
-use Rattle.lowering.specs.Walk.{Note}
 use Rattle.lowering.proofs.Cases.{by-test, by-key, and-right, or-left, or-right}
 use Rattle.lowering.proofs.All.{AllItems}
 use Rattle.sink.specs.Machine.{Event}
 use Rattle.direct.specs.Events.{Deed, Emit, cell, cellOf, lists, excludes, made, handed, entered, excludedKeys as excludedDeeds, refused, handsOut}
 use Rattle.direct.specs.Events.Deed.{does}
 use Rattle.direct.specs.Emit.{say, _▷_, inTurn}
-use Rattle.direct.specs.Views.{View, objectRestAt, nameless, isOther}
-use Rattle.direct.specs.Views.View.{replacing, taking, leaving}
-use Rattle.direct.specs.Keys.{stringBytes, isPrivate, entries, primitives, hoists}
+use Rattle.direct.specs.Views.{View, nameless, isOther}
+use Rattle.direct.specs.Views.View.{replacing, taking}
+use Rattle.direct.specs.Keys.{stringBytes, entries, primitives, hoists}
 use Rattle.direct.specs.Objects.{objectsIn, restsIn, overObjects, overRests}
 use Rattle.direct.specs.Handed.{placeMade, keyMade, keysMade, keyBytes, excludesOf, handsKey, handsKeys, handsPlace, keysBelow, placesIn, declaratorMade, declaratorExcludes, handsTop, handsNested}
-use Rattle.direct.proofs.Threads.{then-assoc, say-nothing, then-nothing, say-say}
+use Rattle.direct.proofs.Threads.{then-assoc, then-nothing, say-say}
 use Rattle.direct.proofs.Alike.{key-kept}
 use Rattle.direct.proofs.AlikeRests.{excluded-none, excluded-append}
-use Rattle.direct.proofs.Items.{turn-same, turn-append}
-use Rattle.direct.proofs.Lists.{each-gather, count-each, turn-with}
+use Rattle.direct.proofs.Items.{turn-same}
+use Rattle.direct.proofs.Lists.{each-gather, count-each}
 use Rattle.direct.proofs.RestValues.{empty-each, key-name, key-literal, key-template, key-private, entries-in, hoisted-are, hoists-values, entries-values, does-each}
 use Rattle.direct.proofs.Objects.{Keyed, objects-same-path}
 

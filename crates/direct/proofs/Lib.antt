@@ -22,6 +22,11 @@ pub mod Handed
 pub mod Declared
 pub mod Targets
 pub mod Assigned
+pub mod Inner
+pub mod Tests
+pub mod Counts
+pub mod Ways
+pub mod Shapes
 pub mod MovedOut
 pub mod MovedMade
 pub mod MovedNumber

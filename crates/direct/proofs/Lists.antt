@@ -1,15 +1,15 @@
 -- What is done for lists: item by item, and one list after another.
 -- Assumes nothing.
 use mathlib.Core.Path.{_≡_, refl, sym, ap, ap₂, _∙_, fun-ext}
-use mathlib.Core.Bool.{Bool, true, false}
-use mathlib.Core.List.{List, [], _∷_}
-use Prim.Native.Nat.{ℕ, zero, suc, _+_, _≤_, max}
+use mathlib.Core.Bool.{Bool, false}
+use mathlib.Core.List.{[], _∷_}
+use Prim.Native.Nat.{ℕ, suc, _+_, _≤_}
 use native.Mathlib.Omega.{arith}
 use Rattle.tree.specs.Tree.{Node, Items, count, depth, depthItems}
 use Rattle.lowering.specs.Parts.{only, each, gather, _+++_}
 use Rattle.lowering.proofs.All.{AllItems}
 use Rattle.sink.specs.Machine.Event.{put}
-use Rattle.direct.specs.Events.{Deed, Place, Emit, emits}
+use Rattle.direct.specs.Events.{Place, Emit, emits}
 use Rattle.direct.specs.Events.Deed.{does}
 use Rattle.direct.specs.Emit.{say, _▷_, emitsItem, emitsItems, inTurn}
 use Rattle.direct.specs.Views.{eachDoes}

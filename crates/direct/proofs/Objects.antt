@@ -1,28 +1,25 @@
 -- The objects with rest of a pattern: one level of an input pattern at a time.
 -- Assumes nothing.
 use mathlib.Core.Path.{_≡_, refl, sym, ap, ap₂, _∙_, fun-ext}
-use mathlib.Core.Bool.{Bool, true, false, cond, _&&_, _||_, true≢false, false≢true}
-use mathlib.Core.List.{List, [], _∷_, _++_}
+use mathlib.Core.Bool.{Bool, true, false, cond, false≢true}
+use mathlib.Core.List.{List, [], _++_}
 use Prim.Native.Nat.{ℕ, zero, suc, _≤_, max}
 use native.Mathlib.Omega.{arith}
-use lib.Dec.{eqb}
-use Rattle.tree.specs.Tree.{Node, Fields, Piece, Items, count, depth, depthFields, depthItems}
+use Rattle.tree.specs.Tree.{Node, Fields, Piece, Items, depth, depthFields, depthItems}
 use Rattle.tree.specs.Tree.Node.{node}
 use Rattle.tree.specs.Tree.Fields.{done, absent, field}
 use Rattle.tree.specs.Tree.Piece.{one, list, text, byte, mark, number}
-use Rattle.lowering.specs.Parts.{nothing, position, kind, is, asNode, asItems, pieceIn, standsIn, changeIn, nodeAt, itemsAt, stands, change, onNode, onItems, changeNode, changeItems, without, only, each, gather, _+++_}
-use Rattle.lowering.specs.Made.{Context, temporary, reference, keyOf}
-use Rattle.lowering.specs.Patterns.{Shape, shape, properties, key, value, hasRest, withItems, withLeft, withValues, withProperties, replaced, replacedBelow, objectsWithRest, objectsBelow}
+use Rattle.lowering.specs.Parts.{nothing, position, is, asNode, pieceIn, standsIn, changeIn, nodeAt, itemsAt, stands, change, onNode, onItems, changeNode, without, only, each, gather, _+++_}
+use Rattle.lowering.specs.Made.{Context, temporary, keyOf}
+use Rattle.lowering.specs.Patterns.{shape, properties, key, value, hasRest, withItems, withLeft, withValues, withProperties, replaced, replacedBelow, objectsWithRest, objectsBelow}
 use Rattle.lowering.specs.Patterns.Shape.{objectPattern, arrayPattern, default, leaf}
-use Rattle.lowering.specs.Keys.{Key, keySort, keptKey, taken}
-use Rattle.lowering.specs.Keys.Key.{name, literal, template, private, again, other}
+use Rattle.lowering.specs.Keys.{keptKey, taken}
 use Rattle.lowering.specs.Declarations.{innerObjects}
 use Rattle.lowering.specs.Assignments.{restsThroughObjects, withoutRests}
-use Rattle.lowering.proofs.Cases.{by-test, by-shape}
-use Rattle.lowering.proofs.Levels.{gather-agrees, node-in, values-agree, objects-nothing, replaced-levels, objects-levels, without-levels, rests-levels}
-use Rattle.direct.specs.Events.{Deed, Place, Emit}
+use Rattle.lowering.proofs.Levels.{gather-agrees, node-in, values-agree, objects-nothing, replaced-levels, objects-levels, rests-levels}
+use Rattle.direct.specs.Events.{Emit}
 use Rattle.direct.specs.Emit.{say, _▷_, inTurn}
-use Rattle.direct.specs.Views.{View, valuesOf, takes, objectAt, objectRestAt, propertyAt, arrayAt, arrayRestAt, defaultAt, withoutRestsBelow, nameless, isOther}
+use Rattle.direct.specs.Views.{View, valuesOf, takes, objectAt, objectRestAt, withoutRestsBelow, nameless, isOther}
 use Rattle.direct.specs.Views.View.{replacing, taking, leaving}
 use Rattle.direct.specs.Objects.{objectsIn, restsIn, overObjects, overRests}
 use Rattle.direct.proofs.Items.{turn-append, turn-gather}
@@ -64,7 +61,7 @@ rests-nothing zero = refl
 rests-nothing (suc d) = refl
 
 module _ (κ : Context) where
-  without-nothing : withoutRestsBelow κ nothing ≡ nothing
+  pub without-nothing : withoutRestsBelow κ nothing ≡ nothing
   unfolding withoutRests depth shape
   without-nothing = refl
 

@@ -1,39 +1,38 @@
 -- Patterns through a view: one level of an input pattern at a time.
 -- Assumes nothing.
-use mathlib.Core.Path.{_≡_, refl, sym, ap, ap₂, _∙_, fun-ext}
-use mathlib.Core.Bool.{Bool, true, false, cond, _&&_, _||_, true≢false, false≢true}
-use mathlib.Core.List.{List, [], _∷_, _++_}
-use Prim.Native.Nat.{ℕ, zero, suc, _≤_, max}
+use mathlib.Core.Path.{_≡_, refl, sym, ap, ap₂, _∙_}
+use mathlib.Core.Bool.{Bool, true, false, cond, false≢true}
+use mathlib.Core.List.{List, [], _∷_}
+use Prim.Native.Nat.{ℕ, max}
 use native.Mathlib.Omega.{arith}
 use lib.Dec.{eqb}
 use Rattle.tree.specs.Tree.{Node, Fields, Piece, Items, wideBytes, mapOf, count, depth, depthFields, depthItems}
 use Rattle.tree.specs.Tree.Node.{node}
 use Rattle.tree.specs.Tree.Fields.{done, absent, field}
 use Rattle.tree.specs.Tree.Piece.{one, list, text, byte, mark, number}
-use Rattle.lowering.specs.Parts.{position, kind, is, pieceIn, standsIn, changeIn, dropIn, nodeAt, itemsAt, stands, change, onNode, onItems, changeNode, changeItems, without, each}
-use Rattle.lowering.specs.Made.{Context, temporary, reference, keyOf}
-use Rattle.lowering.specs.Patterns.{Shape, shape, key, withValues, withProperties, replaced, replacedBelow}
+use Rattle.lowering.specs.Parts.{position, kind, is, pieceIn, standsIn, changeIn, dropIn, nodeAt, stands, change, onNode, onItems, changeNode, without, each}
+use Rattle.lowering.specs.Made.{Context, temporary, keyOf}
+use Rattle.lowering.specs.Patterns.{shape, key, withValues, replaced, replacedBelow}
 use Rattle.lowering.specs.Patterns.Shape.{objectPattern, arrayPattern, default, leaf}
-use Rattle.lowering.specs.Keys.{Key, keySort, keptKey, taken}
-use Rattle.lowering.specs.Keys.Key.{name, literal, template, private, again, other}
+use Rattle.lowering.specs.Keys.{keySort, keptKey, taken}
 use Rattle.lowering.specs.Assignments.{withoutRests}
 use Rattle.lowering.specs.Walk.{ruleOf, opensScope}
 use Rattle.lowering.specs.Collect.{isContainer}
 use Rattle.lowering.proofs.Cases.{by-test, by-key}
 use Rattle.lowering.proofs.Levels.{values-agree, replaced-levels, without-levels}
 use Rattle.sink.specs.Machine.{Event}
-use Rattle.direct.specs.Events.{Deed, Place, Emit, puts, cell, contextOf, emits}
+use Rattle.direct.specs.Events.{Place, Emit, puts, cell, emits}
 use Rattle.direct.specs.Events.Deed.{does}
 use Rattle.direct.specs.Emit.{say, _▷_, below, inner, emitsItems, emitsPiece, emitsFields, stays}
 use Rattle.direct.specs.Views.{View, valuesOf, takes, objectAt, objectRestAt, propertyAt, arrayAt, arrayRestAt, defaultAt, withoutRestsBelow, viewed, viewedProperty, nameless, eachDoes, saysCell, emitsView, emitsProperty, isOther, emitsKey}
 use Rattle.direct.specs.Views.View.{replacing, taking, leaving}
-use Rattle.direct.proofs.Threads.{then-assoc, then-nothing, say-say}
+use Rattle.direct.proofs.Threads.{then-assoc, then-nothing}
 use Rattle.direct.proofs.Alike.{Alike, alike-refl, key-kept}
 use Rattle.direct.proofs.AlikePatterns.{replaced-alike, withoutRests-alike, taken-alike, values-alike, shape-values}
 use Rattle.direct.proofs.Places.{names-free}
 use Rattle.direct.proofs.Stays.{emits-nowhere}
-use Rattle.direct.proofs.Makes.{say-then, below-inner, one-field, two-fields, three-fields, emits-temporary}
-use Rattle.direct.proofs.Lists.{count-each, each-each, each-same, each-levels, items-each, each-done}
+use Rattle.direct.proofs.Makes.{say-then, below-inner, two-fields, three-fields, emits-temporary}
+use Rattle.direct.proofs.Lists.{count-each, each-each, each-same, each-levels, items-each}
 
 -- ---- pattern nodes by their bytes and their parts
 

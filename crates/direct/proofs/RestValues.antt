@@ -1,33 +1,31 @@
 -- The value of an object rest, and the keys that it leaves out.
 -- Assumes nothing.
-use mathlib.Core.Path.{_≡_, refl, sym, ap, ap₂, _∙_, fun-ext}
+use mathlib.Core.Path.{_≡_, refl, sym, ap, ap₂, _∙_}
 use mathlib.Core.Bool.{Bool, true, false, cond, not, _&&_, _||_}
 use mathlib.Core.List.{List, [], _∷_, _++_}
-use Prim.Native.Nat.{ℕ, zero, suc, _+_}
-use native.Mathlib.Omega.{arith}
-use lib.Dec.{eqb}
+use Prim.Native.Nat.{ℕ, suc, _+_}
 use lib.ListN.{length}
-use Rattle.tree.specs.Tree.{Node, Fields, Piece, Items, wideBytes, mapOf, count, encode, encodeFields}
+use Rattle.tree.specs.Tree.{Node, Fields, Piece, Items, wideBytes, mapOf, count}
 use Rattle.tree.specs.Tree.Node.{node}
-use Rattle.lowering.specs.Parts.{position, kind, is, textAt, nodeAt, pieceIn, isEmpty, only, each, gather, any, change, onNode, changeNode, _+++_}
+use Rattle.lowering.specs.Parts.{position, is, textAt, isEmpty, only, each, gather, any, change, onNode, changeNode, _+++_}
 use Rattle.lowering.specs.Made.{Context, object, array, sequence, member, string, excludedOf, keyOf, E, X, W, K}
 use Rattle.lowering.specs.Patterns.{properties, key}
-use Rattle.lowering.specs.Keys.{Key, keySort, isPrimitive, excludedKey, excludedKeys, allPrimitive}
+use Rattle.lowering.specs.Keys.{keySort, isPrimitive, excludedKey, excludedKeys, allPrimitive}
 use Rattle.lowering.specs.Keys.Key.{name, literal, template, private, again, other}
-use Rattle.lowering.specs.Rests.{hasNoProperties, mapped, isHoisted, keysRead, restValue}
-use Rattle.lowering.specs.Walk.{ruleOf, opensScope}
+use Rattle.lowering.specs.Rests.{mapped, isHoisted, keysRead, restValue}
+use Rattle.lowering.specs.Walk.{ruleOf}
 use Rattle.lowering.specs.Collect.{isContainer}
-use Rattle.lowering.proofs.Cases.{by-test, by-key}
+use Rattle.lowering.proofs.Cases.{by-key}
 use Rattle.sink.specs.Machine.{Event}
 use Rattle.direct.specs.Events.{Deed, Place, Emit, puts, emits}
 use Rattle.direct.specs.Events.Deed.{does}
 use Rattle.direct.specs.Emit.{say, _▷_, below, inner, emitsItems, emitsPiece, emitsFields, stays, callHead, inTurn}
 use Rattle.direct.specs.Views.{saysCell}
 use Rattle.direct.specs.Keys.{stringBytes, emitsExcluded, isPrivate, entries, primitives, hoists, emitsKeys, emitsKeysRead, emitsRest}
-use Rattle.direct.proofs.Threads.{then-assoc, say-nothing, then-nothing, say-say}
+use Rattle.direct.proofs.Threads.{then-assoc, then-nothing, say-say}
 use Rattle.direct.proofs.Alike.{key-kept}
 use Rattle.direct.proofs.Stays.{emits-nowhere}
-use Rattle.direct.proofs.Makes.{say-then, more-items, only-item, no-items, one-field, two-fields, emits-call, emits-X, emits-E, emits-W, emits-array, emits-object, emits-sequence, emits-member, emits-string, emits-helper}
+use Rattle.direct.proofs.Makes.{say-then, more-items, only-item, no-items, two-fields, emits-call, emits-X, emits-E, emits-W, emits-array, emits-object, emits-sequence, emits-member, emits-string, emits-helper}
 use Rattle.direct.proofs.Items.{items-gather, turn-same}
 use Rattle.direct.proofs.PatternViews.{says-cell}
 

@@ -1,29 +1,27 @@
 -- Targets seen through views: where nothing is left to be replaced or taken.
 -- Assumes nothing.
 use mathlib.Core.Path.{_≡_, refl, sym, ap, ap₂, _∙_, fun-ext}
-use mathlib.Core.Bool.{Bool, true, false, cond, not, _&&_, _||_, true≢false, false≢true}
-use mathlib.Core.List.{List, [], _∷_}
-use Prim.Native.Nat.{ℕ, zero, suc, _+_, _≤_, max}
+use mathlib.Core.Bool.{Bool, true, false, cond, not, _&&_, _||_}
+use Prim.Native.Nat.{ℕ, zero, suc, _+_}
 use native.Mathlib.Omega.{arith}
-use lib.Dec.{eqb}
-use Rattle.tree.specs.Tree.{Node, Fields, Piece, Items, depth, depthFields, depthItems}
+use Rattle.tree.specs.Tree.{Node, Fields, Piece, Items, depth}
 use Rattle.tree.specs.Tree.Node.{node}
 use Rattle.tree.specs.Tree.Fields.{done, absent, field}
 use Rattle.tree.specs.Tree.Piece.{one, list, text, byte, mark, number}
-use Rattle.lowering.specs.Parts.{nothing, position, kind, is, asNode, asItems, pieceIn, standsIn, changeIn, dropIn, nodeAt, itemsAt, stands, isEmpty, change, onNode, onItems, changeNode, changeItems, without, only, each, gather, any, _+++_}
-use Rattle.lowering.specs.Made.{Context, reference, temporary}
-use Rattle.lowering.specs.Patterns.{Shape, shape, properties, itemsOf, rest, hasRest, leftOf, value, withLeft, withItems, withValues, withProperties, hasNestedObjectRest, hasNestedArrayRest, hasObjectRest, hasArrayRestOverObjectRest, replaced, replacedBelow, objectsWithRest, objectsBelow}
+use Rattle.lowering.specs.Parts.{nothing, is, asNode, pieceIn, changeIn, dropIn, nodeAt, itemsAt, isEmpty, change, onNode, onItems, changeNode, changeItems, without, only, each, gather, any, _+++_}
+use Rattle.lowering.specs.Made.{Context, reference}
+use Rattle.lowering.specs.Patterns.{shape, properties, itemsOf, rest, hasRest, leftOf, value, withLeft, withItems, withValues, withProperties, hasNestedObjectRest, hasNestedArrayRest, hasObjectRest, hasArrayRestOverObjectRest, replaced, replacedBelow, objectsWithRest, objectsBelow}
 use Rattle.lowering.specs.Patterns.Shape.{objectPattern, arrayPattern, default, leaf}
 use Rattle.lowering.specs.Keys.{keptKey, taken}
 use Rattle.lowering.specs.Assignments.{withoutRests, restsThroughObjects}
 use Rattle.lowering.proofs.Cases.{by-test, by-shape, or-left, or-right}
 use Rattle.lowering.proofs.WeightKeys.{rest-changed}
-use Rattle.lowering.proofs.Levels.{has-levels, array-levels, replaced-levels, without-levels, objects-levels, rests-levels}
+use Rattle.lowering.proofs.Levels.{has-levels, array-levels, replaced-levels, without-levels, rests-levels}
 use Rattle.lowering.proofs.Views.{replaced-rests}
 use Rattle.direct.specs.Views.{withoutRestsBelow}
 use Rattle.direct.specs.Objects.{restsIn}
-use Rattle.direct.proofs.Kept.{over-none, changeItems-same}
-use Rattle.direct.proofs.Lists.{each-each, each-same}
+use Rattle.direct.proofs.Kept.{changeItems-same}
+use Rattle.direct.proofs.Lists.{each-each}
 use Rattle.direct.proofs.PatternViews.{value-twice}
 use Rattle.direct.proofs.Objects.{value-changed, value-kept}
 use Rattle.direct.proofs.Declared.{properties-changed, rest-beside}
@@ -34,13 +32,13 @@ shape-changed : (i : ℕ) (f : Piece → Piece) (n : Node) → shape (change i f
 unfolding shape change
 shape-changed i f (node at k fs) = refl
 
-any-each : (t : Node → Bool) (g : Node → Node) (is : Items) → any t (each g is) ≡ any (λ n. t (g n)) is
+pub any-each : (t : Node → Bool) (g : Node → Node) (is : Items) → any t (each g is) ≡ any (λ n. t (g n)) is
 unfolding any each
 any-each t g Items.none = refl
 any-each t g (Items.hole is) = any-each t g is
 any-each t g (Items.item n is) = ap (λ (b : Bool). t (g n) || b) (any-each t g is)
 
-any-none : (u t : Node → Bool) → ((n : Node) → u n ≡ false → t n ≡ false) → (is : Items) → any u is ≡ false → any t is ≡ false
+pub any-none : (u t : Node → Bool) → ((n : Node) → u n ≡ false → t n ≡ false) → (is : Items) → any u is ≡ false → any t is ≡ false
 unfolding any
 any-none u t h Items.none e = refl
 any-none u t h (Items.hole is) e = any-none u t h is e
@@ -118,7 +116,7 @@ items-twice f g (node at k done) = refl
 items-twice f g (node at k (absent fs)) = refl
 items-twice f g (node at k (field p fs)) = ap (λ (x : Piece). node at k (field x fs)) (list-twice f g p)
 
-values-twice : (f g : Node → Node) (p : Node) → withValues f (withValues g p) ≡ withValues (λ v. f (g v)) p
+pub values-twice : (f g : Node → Node) (p : Node) → withValues f (withValues g p) ≡ withValues (λ v. f (g v)) p
 values-twice f g p =
     items-twice (λ q. changeNode 1 f q) (λ q. changeNode 1 g q) p
     ∙ ap (λ (h : Node → Node). changeItems 0 (each h) p) (fun-ext (λ q. value-twice f g q))
@@ -130,7 +128,7 @@ taken-none κ p e = rw e refl
 -- ---- clauses as equations
 
 module _ (d : ℕ) (p : Node) where
-  has-object : shape p ≡ objectPattern → hasNestedObjectRest (suc d) p ≡ hasRest p || any (λ q. hasNestedObjectRest d (value q)) (properties p)
+  pub has-object : shape p ≡ objectPattern → hasNestedObjectRest (suc d) p ≡ hasRest p || any (λ q. hasNestedObjectRest d (value q)) (properties p)
   unfolding hasNestedObjectRest
   has-object e = rw (e, hasNestedObjectRest) refl
 
@@ -146,7 +144,7 @@ module _ (d : ℕ) (p : Node) where
   unfolding hasNestedObjectRest
   has-leaf e = rw (e, hasNestedObjectRest) refl
 
-  over-object : shape p ≡ objectPattern → hasNestedArrayRest (suc d) p ≡ any (λ q. hasNestedArrayRest d (value q)) (properties p)
+  pub over-object : shape p ≡ objectPattern → hasNestedArrayRest (suc d) p ≡ any (λ q. hasNestedArrayRest d (value q)) (properties p)
   unfolding hasNestedArrayRest
   over-object e = rw (e, hasNestedArrayRest) refl
 
@@ -196,7 +194,7 @@ module _ (d : ℕ) (p : Node) where
     left-leaf e = rw (e, withoutRests)
 
 module _ (κ : Context) where
-  rep-nothing : (d : ℕ) → replaced κ d nothing ≡ nothing
+  pub rep-nothing : (d : ℕ) → replaced κ d nothing ≡ nothing
   unfolding replaced shape
   rep-nothing zero = refl
   rep-nothing (suc d) = refl
@@ -243,7 +241,7 @@ module _ (κ : Context) where
 
   -- ---- once objects are replaced no object rest is left, if none is below an array rest
 
-  values-changed : (t : Node → Bool) (f : Node → Node) → f nothing ≡ nothing → (p : Node)
+  pub values-changed : (t : Node → Bool) (f : Node → Node) → f nothing ≡ nothing → (p : Node)
       → any (λ q. t (value q)) (properties (withValues f p)) ≡ any (λ q. t (f (value q))) (properties p)
   values-changed t f z p =
       ap (any (λ q. t (value q))) (properties-changed (λ q. changeNode 1 f q) p)
@@ -253,7 +251,7 @@ module _ (κ : Context) where
   left-changed : (f : Node → Node) → f nothing ≡ nothing → (p : Node) → leftOf (withLeft f p) ≡ f (leftOf p)
   left-changed f z p = first-changed f z p
 
-  has-replaced : (d : ℕ) (p : Node) → hasNestedArrayRest d p ≡ false → hasNestedObjectRest d (replaced κ d p) ≡ false
+  pub has-replaced : (d : ℕ) (p : Node) → hasNestedArrayRest d p ≡ false → hasNestedObjectRest d (replaced κ d p) ≡ false
   unfolding hasNestedObjectRest
   has-replaced zero p h = refl
   has-replaced (suc d) p h =
@@ -356,7 +354,7 @@ module _ (κ : Context) where
   shape-taken p =
       by-test (hasRest p) (λ r. rw r (shape-left (withProperties (keptKey κ) p) ∙ shape-changed 0 (onItems (each (keptKey κ))) p)) (λ r. rw r refl)
 
-  any-taken : (t : Node → Bool) (p : Node) → any (λ q. t (value q)) (properties (taken κ p)) ≡ any (λ q. t (value q)) (properties p)
+  pub any-taken : (t : Node → Bool) (p : Node) → any (λ q. t (value q)) (properties (taken κ p)) ≡ any (λ q. t (value q)) (properties p)
   unfolding taken
   any-taken t p =
       by-test (hasRest p)
@@ -445,7 +443,7 @@ module _ (κ : Context) where
   unfolding objectsWithRest
   obj-leaf d p e = rw (e, objectsWithRest) refl
 
-  found-iff : (d : ℕ) (p : Node) → hasNestedArrayRest d p ≡ false → isEmpty (objectsWithRest κ d p) ≡ not (hasNestedObjectRest d p)
+  pub found-iff : (d : ℕ) (p : Node) → hasNestedArrayRest d p ≡ false → isEmpty (objectsWithRest κ d p) ≡ not (hasNestedObjectRest d p)
   unfolding hasNestedObjectRest objectsWithRest isEmpty
   found-iff zero p h = refl
   found-iff (suc d) p h =

@@ -1,18 +1,18 @@
 -- What is done for an assignment with an object rest below its target. c is the place of the assignment.
 use Prim.Native.Nat.{ℕ, suc}
-use mathlib.Core.Bool.{Bool, true, false, cond}
-use mathlib.Core.List.{List, [], _∷_, _++_}
-use Rattle.tree.specs.Tree.{Node, Fields, Piece, Items, wideBytes, count}
+use mathlib.Core.Bool.{Bool, cond}
+use mathlib.Core.List.{[], _∷_}
+use Rattle.tree.specs.Tree.{Node, Piece, wideBytes, count}
 use Rattle.tree.specs.Tree.Node.{node}
 use Rattle.tree.specs.Tree.Fields.{done, field}
 use Rattle.lowering.specs.Parts.{position}
 use Rattle.lowering.specs.Made.{temporary, assign, reference}
 use Rattle.lowering.specs.Patterns.{rest, hasObjectRest}
 use Rattle.lowering.specs.Rests.{restValue}
-use Rattle.direct.specs.Events.{Deed, Place, Emit, puts, contextOf, emits}
+use Rattle.direct.specs.Events.{Place, Emit, puts, contextOf, emits}
 use Rattle.direct.specs.Emit.{say, _▷_, inner}
 use Rattle.direct.specs.Views.{View, nameless, withoutRestsBelow, saysCell, emitsView}
-use Rattle.direct.specs.Views.View.{replacing, taking, leaving}
+use Rattle.direct.specs.Views.View.{leaving}
 use Rattle.direct.specs.Objects.{restsIn, overObjects, overRests}
 use Rattle.direct.specs.Handed.{placesIn, handsTop, handsNested}
 

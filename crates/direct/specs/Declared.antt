@@ -1,17 +1,17 @@
 -- What is done for a declaration, declarator by declarator. c is the place of the declaration.
 use Prim.Native.Nat.{ℕ}
-use mathlib.Core.Bool.{Bool, true, false, cond}
-use mathlib.Core.List.{List, [], _∷_}
-use Rattle.tree.specs.Tree.{Node, Fields, Piece, Items, count}
+use mathlib.Core.Bool.{false, cond}
+use mathlib.Core.List.{[], _∷_}
+use Rattle.tree.specs.Tree.{Node, Piece, Items, count}
 use Rattle.tree.specs.Tree.Node.{node}
-use Rattle.tree.specs.Tree.Fields.{done, absent, field}
+use Rattle.tree.specs.Tree.Fields.{done, field}
 use Rattle.lowering.specs.Parts.{position, nodeAt, isEmpty, gather}
 use Rattle.lowering.specs.Patterns.{shape, properties, key, value, rest, hasRest}
 use Rattle.lowering.specs.Patterns.Shape.{objectPattern, arrayPattern, default, leaf}
 use Rattle.lowering.specs.Declarations.{isName, isLowered, nestedBelow, declarators}
-use Rattle.direct.specs.Events.{Deed, Place, Emit, puts, contextOf, emits}
+use Rattle.direct.specs.Events.{Place, Emit, puts, contextOf, emits}
 use Rattle.direct.specs.Emit.{say, _▷_, inner, emitsItems, inTurn}
-use Rattle.direct.specs.Views.{View, saysCell, emitsView, isOther}
+use Rattle.direct.specs.Views.{saysCell, emitsView, isOther}
 use Rattle.direct.specs.Views.View.{replacing, taking}
 use Rattle.direct.specs.Keys.{emitsRest}
 

@@ -1,15 +1,15 @@
 -- What is handed out for the objects with rest of a pattern.
 use Prim.Native.Nat.{ℕ, suc}
-use mathlib.Core.Bool.{Bool, true, false, cond}
+use mathlib.Core.Bool.{Bool, cond}
 use mathlib.Core.List.{List, [], _∷_, _++_}
-use Rattle.tree.specs.Tree.{Node, Items, wideBytes, count, encode}
+use Rattle.tree.specs.Tree.{Node, wideBytes, count, encode}
 use Rattle.lowering.specs.Parts.{position, nodeAt, textAt, gather}
 use Rattle.lowering.specs.Patterns.{properties, key}
-use Rattle.lowering.specs.Keys.{Key, keySort, keyTemporaries}
+use Rattle.lowering.specs.Keys.{keySort, keyTemporaries}
 use Rattle.lowering.specs.Keys.Key.{name, literal, template, private, again, other}
 use Rattle.lowering.specs.Declarations.{isName, isLowered}
 use Rattle.sink.specs.Machine.Event.{make, listedTemporary, excludedTemporary, declarator, entry}
-use Rattle.direct.specs.Events.{Deed, Emit, cell, lists, excludes}
+use Rattle.direct.specs.Events.{Emit, cell, lists, excludes}
 use Rattle.direct.specs.Events.Deed.{does}
 use Rattle.direct.specs.Emit.{say, _▷_, inTurn}
 use Rattle.direct.specs.Views.{View, nameless, isOther}

@@ -7,10 +7,10 @@ use Rattle.tree.specs.Tree.{Node, Items, wideBytes}
 use Rattle.tree.specs.Tree.Items.{none, hole, item}
 use Rattle.lowering.specs.Parts.{position, textAt, isEmpty, any}
 use Rattle.lowering.specs.Patterns.{key}
-use Rattle.lowering.specs.Keys.{Key, keySort, isPrimitive}
+use Rattle.lowering.specs.Keys.{keySort, isPrimitive}
 use Rattle.lowering.specs.Keys.Key.{name, literal, template, private, again, other}
 use Rattle.sink.specs.Machine.Event.{helper}
-use Rattle.direct.specs.Events.{Deed, Place, Emit, puts, emits}
+use Rattle.direct.specs.Events.{Place, Emit, puts, emits}
 use Rattle.direct.specs.Events.Deed.{does}
 use Rattle.direct.specs.Emit.{say, _▷_, inner, callHead, inTurn}
 use Rattle.direct.specs.Views.{saysCell}

@@ -7,4 +7,6 @@ pub mod Objects
 pub mod Handed
 pub mod Declared
 pub mod Assigned
+pub mod Inner
+pub mod Counts
 pub mod Moved

@@ -1,5 +1,4 @@
 -- The objects with rest of a pattern, and what is done for each of them, inner ones first.
-use Prim.Native.Nat.{ℕ}
 use Rattle.tree.specs.Tree.{Node, Items, depth}
 use Rattle.lowering.specs.Made.{Context}
 use Rattle.lowering.specs.Patterns.{objectsBelow}

@@ -1,20 +1,20 @@
 -- Patterns as the rules write them: an input pattern seen through a view, and what is done for it.
 use Prim.Native.Nat.{ℕ}
 use mathlib.Core.Bool.{Bool, true, false, cond, _&&_}
-use mathlib.Core.List.{List, [], _∷_}
-use Rattle.tree.specs.Tree.{Node, Fields, Piece, Items, depth}
+use mathlib.Core.List.{[], _∷_}
+use Rattle.tree.specs.Tree.{Node, Items, depth}
 use Rattle.tree.specs.Tree.Node.{node}
 use Rattle.tree.specs.Tree.Fields.{done, absent, field}
 use Rattle.tree.specs.Tree.Piece.{one, list, byte}
 use Rattle.tree.specs.Tree.Items.{none, hole, item}
 use Rattle.lowering.specs.Parts.{is, changeNode}
 use Rattle.lowering.specs.Made.{Context}
-use Rattle.lowering.specs.Patterns.{key, replacedBelow, withValues}
-use Rattle.lowering.specs.Keys.{Key, keySort, keptKey, taken}
+use Rattle.lowering.specs.Patterns.{replacedBelow, withValues}
+use Rattle.lowering.specs.Keys.{keySort, keptKey, taken}
 use Rattle.lowering.specs.Keys.Key.{name, literal, template, private, again, other}
 use Rattle.lowering.specs.Assignments.{withoutRests}
 use Rattle.sink.specs.Machine.Event.{put, temporary}
-use Rattle.direct.specs.Events.{Deed, Place, Emit, cell, emits}
+use Rattle.direct.specs.Events.{Place, Emit, cell, emits}
 use Rattle.direct.specs.Events.Deed.{does}
 use Rattle.direct.specs.Emit.{say, _▷_}
 

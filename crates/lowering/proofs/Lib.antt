@@ -13,6 +13,7 @@ pub mod Levels
 pub mod Views
 pub mod Notes
 pub mod Answers
+pub mod Table
 pub mod Written
 pub mod Appearance
 pub mod Sites

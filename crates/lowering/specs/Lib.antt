@@ -11,4 +11,5 @@ pub mod Walk
 pub mod Weight
 pub mod Collect
 pub mod Answer
+pub mod Table
 pub mod Examples

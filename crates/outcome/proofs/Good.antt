@@ -2,7 +2,7 @@
 -- the key of a property is a Temporary, or has none in it and is no pattern; marks are 16-bit numbers. The views of patterns keep this.
 -- Assumes nothing.
 use mathlib.Core.Path.{_≡_, refl, sym, ap, _∙_, subst}
-use mathlib.Core.Bool.{Bool, true, false, cond, _||_, false≢true, true≢false}
+use mathlib.Core.Bool.{Bool, true, false, cond, false≢true, true≢false}
 use mathlib.Core.List.{List, [], _∷_}
 use mathlib.Core.Logic.{_⊎_, ⊎-elim}
 use mathlib.Core.Logic._⊎_.{inl, inr}
@@ -76,10 +76,6 @@ Is35 q = is 35 q ≡ true
 abbrev pub NotDefault : Node → Type 0
 NotDefault p = is 37 p ≡ false
 
--- a Declarator or a Default, whose field 0 is no Default
-abbrev pub heads : ℕ → Bool
-heads k = eqb k 5 || eqb k 37
-
 -- the rest of an object pattern, and its properties
 abbrev pub ObjectOk : Fields → Type 0
 ObjectOk fs = Leaf (asNode (pieceIn fs 1)) × AllItems Is35 (asItems (pieceIn fs 0))
@@ -93,7 +89,7 @@ pub record Local (k : ℕ) (fs : Fields) : Type 0 where
   pub reference : eqb k 18 ≡ true → NoParts fs
   pub object : eqb k 34 ≡ true → ObjectOk fs
   pub property : eqb k 35 ≡ true → KeyOk (asNode (pieceIn fs 0))
-  pub first : heads k ≡ true → NotDefault (asNode (pieceIn fs 0))
+  pub first : NotDefault (asNode (pieceIn fs 0))
 
 abbrev mutual
   pub Good : Node → Type 0
@@ -133,7 +129,7 @@ pub absent-good : {A : Type 0} → false ≡ true → A
 absent-good e = absurd (false≢true e)
 
 -- a kind of which nothing is asked
-pub free : (k : ℕ) (fs : Fields) → eqb k 20 ≡ false → eqb k 21 ≡ false → eqb k 18 ≡ false → eqb k 34 ≡ false → eqb k 35 ≡ false → heads k ≡ false → Local k fs
+pub free : (k : ℕ) (fs : Fields) → eqb k 20 ≡ false → eqb k 21 ≡ false → eqb k 18 ≡ false → eqb k 34 ≡ false → eqb k 35 ≡ false → NotDefault (asNode (pieceIn fs 0)) → Local k fs
 free k fs a b c d e f =
     record {
       temporary = λ z. absurd (false≢true (sym a ∙ z));
@@ -141,10 +137,11 @@ free k fs a b c d e f =
       reference = λ z. absurd (false≢true (sym c ∙ z));
       object = λ z. absurd (false≢true (sym d ∙ z));
       property = λ z. absurd (false≢true (sym e ∙ z));
-      first = λ z. absurd (false≢true (sym f ∙ z));
+      first = f;
     }
 
 pub nothing-good : Good nothing
+unfolding pieceIn is
 nothing-good = (free 0 Fields.done refl refl refl refl refl refl, tt)
 
 fields-all : (fs : Fields) → GoodFields fs → AllFields Good fs
@@ -243,7 +240,7 @@ helping-parts fs h = subst NoParts (sym (h .whole)) (tt, tt)
 
 changed-local : (g : Piece → Piece) → Idle g → (k : ℕ) (fs : Fields) (i : ℕ)
     → (eqb k 34 ≡ true → ObjectOk (changeIn fs i g)) → (eqb k 35 ≡ true → KeyOk (asNode (pieceIn (changeIn fs i g) 0)))
-    → (heads k ≡ true → NotDefault (asNode (pieceIn (changeIn fs i g) 0))) → Local k fs → Local k (changeIn fs i g)
+    → NotDefault (asNode (pieceIn (changeIn fs i g) 0)) → Local k fs → Local k (changeIn fs i g)
 changed-local g f k fs i o p h l =
     record {
       temporary = λ e. let t = l .temporary e in subst IsNamed (sym (idle-same g f fs i (named-parts fs t))) t;
@@ -309,6 +306,15 @@ lists-kept f (Piece.byte b) h = tt
 lists-kept f (Piece.mark b) h = tt
 lists-kept f (Piece.number b) h = tt
 
+first-kept : (f : Node → Node) → ((n : Node) → NotDefault n → NotDefault (f n)) → (p : Piece) → NotDefault (asNode p) → NotDefault (asNode (onNode f p))
+unfolding onNode
+first-kept f s (Piece.one n) h = s n h
+first-kept f s (Piece.list is) h = h
+first-kept f s (Piece.text bs) h = h
+first-kept f s (Piece.byte b) h = h
+first-kept f s (Piece.mark b) h = h
+first-kept f s (Piece.number b) h = h
+
 module _ (f : Node → Node) (v : View f) where
   leaf-kept : (p : Piece) → Leaf (asNode p) → Leaf (asNode (onNode f p))
   unfolding onNode
@@ -328,22 +334,13 @@ module _ (f : Node → Node) (v : View f) where
   key-kept (Piece.mark b) h = h
   key-kept (Piece.number b) h = h
 
-  first-kept : (p : Piece) → NotDefault (asNode p) → NotDefault (asNode (onNode f p))
-  unfolding onNode
-  first-kept (Piece.one n) h = v .simple n h
-  first-kept (Piece.list is) h = h
-  first-kept (Piece.text bs) h = h
-  first-kept (Piece.byte b) h = h
-  first-kept (Piece.mark b) h = h
-  first-kept (Piece.number b) h = h
-
   pub view-node : (i : ℕ) (n : Node) → Good n → Good (changeNode i f n)
   unfolding change
   view-node i (node at k fs) h = (
     changed-local (onNode f) (node-idle f) k fs i
         (λ e. let o = h .0 .object e in (kept-piece (λ p. Leaf (asNode p)) (onNode f) leaf-kept fs i 1 (o .0), kept-piece (λ p. AllItems Is35 (asItems p)) (onNode f) (lists-kept f) fs i 0 (o .1)))
         (λ e. kept-piece (λ p. KeyOk (asNode p)) (onNode f) key-kept fs i 0 (h .0 .property e))
-        (λ e. kept-piece (λ p. NotDefault (asNode p)) (onNode f) first-kept fs i 0 (h .0 .first e)) (h .0),
+        (kept-piece (λ p. NotDefault (asNode p)) (onNode f) (first-kept f (v .simple)) fs i 0 (h .0 .first)) (h .0),
     changed-fields (onNode f) (on-node-good f (v .keeps)) fs i (h .1),
   )
 
@@ -381,7 +378,7 @@ module _ (f : Items → Items) (g : (is : Items) → GoodItems is → GoodItems 
     changed-local (onItems f) (items-idle f) k fs i
         (λ e. (kept-piece (λ p. Leaf (asNode p)) (onItems f) leaf-same fs i 1 (h .0 .object e .0), o e))
         (λ e. kept-piece (λ p. KeyOk (asNode p)) (onItems f) key-same fs i 0 (h .0 .property e))
-        (λ e. kept-piece (λ p. NotDefault (asNode p)) (onItems f) first-same fs i 0 (h .0 .first e)) (h .0),
+        (kept-piece (λ p. NotDefault (asNode p)) (onItems f) first-same fs i 0 (h .0 .first)) (h .0),
     changed-fields (onItems f) (on-items-good f g) fs i (h .1),
   )
 
@@ -411,16 +408,18 @@ pub changed-35 : (i : ℕ) (f : Piece → Piece) (n : Node) → Is35 n → Is35 
 changed-35 i f n h = is-changed i f n 35 ∙ h
 
 -- a node of a kind of which nothing is asked, with a node changed
-pub change-free : (f : Node → Node) → ((n : Node) → Good n → Good (f n)) → (i : ℕ) (n : Node) → eqb (kind n) 34 ≡ false → eqb (kind n) 35 ≡ false → heads (kind n) ≡ false → Good n → Good (changeNode i f n)
+pub change-free : (f : Node → Node) → ((n : Node) → Good n → Good (f n)) → ((n : Node) → NotDefault n → NotDefault (f n)) → (i : ℕ) (n : Node) → eqb (kind n) 34 ≡ false → eqb (kind n) 35 ≡ false → Good n → Good (changeNode i f n)
 unfolding change
-change-free f g i (node at k fs) a b c h = (
-  changed-local (onNode f) (node-idle f) k fs i (λ e. absurd (false≢true (sym a ∙ e))) (λ e. absurd (false≢true (sym b ∙ e))) (λ e. absurd (false≢true (sym c ∙ e))) (h .0),
+change-free f g s i (node at k fs) a b h = (
+  changed-local (onNode f) (node-idle f) k fs i (λ e. absurd (false≢true (sym a ∙ e))) (λ e. absurd (false≢true (sym b ∙ e)))
+      (kept-piece (λ p. NotDefault (asNode p)) (onNode f) (first-kept f s) fs i 0 (h .0 .first)) (h .0),
   changed-fields (onNode f) (on-node-good f g) fs i (h .1),
 )
 
 -- ---- made nodes
 
 pub temporary-good : (path : List ℕ) (stem at : ℕ) → Good (temporary path stem at)
+unfolding pieceIn is
 temporary-good path stem at = (
   record {
     temporary = λ e. record { stem = stem; path = path; whole = refl };
@@ -428,7 +427,7 @@ temporary-good path stem at = (
     reference = λ e. absent-good e;
     object = λ e. absent-good e;
     property = λ e. absent-good e;
-    first = λ e. absent-good e;
+    first = refl;
   },
   (tt, (tt, tt)),
 )
@@ -476,7 +475,7 @@ put-good t e g (node at k fs) h = (
         kept-piece (λ p. AllItems Is35 (asItems p)) (onNode (λ m. t)) (lists-kept (λ m. t)) fs 0 0 (o .1),
       ))
       (λ z. key-put t e fs (h .0 .property z))
-      (λ z. first-put t (temporary-simple t e) fs (h .0 .first z)) (h .0),
+      (first-put t (temporary-simple t e) fs (h .0 .first)) (h .0),
   changed-fields (onNode (λ m. t)) (on-node-good (λ m. t) (λ n k. g)) fs 0 (h .1),
 )
 
@@ -506,8 +505,14 @@ dropped-list Fields.done h = tt
 dropped-list (Fields.absent fs) h = tt
 dropped-list (Fields.field p fs) h = h
 
-object-local : (k : ℕ) (fs : Fields) → eqb k 34 ≡ true → ObjectOk fs → Local k fs
-object-local k fs e l =
+dropped-first : (fs : Fields) → NotDefault (asNode (pieceIn fs 0)) → NotDefault (asNode (pieceIn (dropIn fs 1) 0))
+unfolding dropIn pieceIn
+dropped-first Fields.done h = h
+dropped-first (Fields.absent fs) h = h
+dropped-first (Fields.field p fs) h = h
+
+object-local : (k : ℕ) (fs : Fields) → eqb k 34 ≡ true → ObjectOk fs → NotDefault (asNode (pieceIn fs 0)) → Local k fs
+object-local k fs e l f =
     let z : k ≡ 34 = eqb-true k 34 e in
     record {
       temporary = λ y. absent-good (ap (λ (x : ℕ). eqb x 20) (sym z) ∙ y);
@@ -515,7 +520,7 @@ object-local k fs e l =
       reference = λ y. absent-good (ap (λ (x : ℕ). eqb x 18) (sym z) ∙ y);
       object = λ y. l;
       property = λ y. absent-good (ap (λ (x : ℕ). eqb x 35) (sym z) ∙ y);
-      first = λ y. absent-good (ap (λ (x : ℕ). heads x) (sym z) ∙ y);
+      first = f;
     }
 
 without-kind : (n : Node) (j : ℕ) → is j (without 1 n) ≡ is j n
@@ -524,7 +529,7 @@ without-kind (node at k fs) j = refl
 
 without-good : (n : Node) → is 34 n ≡ true → Good n → Good (without 1 n)
 unfolding without is
-without-good (node at k fs) e h = (object-local k (dropIn fs 1) e (dropped-rest fs, dropped-list fs (h .0 .object e .1)), dropped-fields fs 1 (h .1))
+without-good (node at k fs) e h = (object-local k (dropIn fs 1) e (dropped-rest fs, dropped-list fs (h .0 .object e .1)) (dropped-first fs (h .0 .first)), dropped-fields fs 1 (h .1))
 
 pub rest-leaf : (p : Node) → is 34 p ≡ true → Good p → Leaf (rest p)
 unfolding nodeAt is
@@ -541,12 +546,6 @@ key-ok (node at k fs) e h = h .0 .property e
 array-not : (p : Node) → is 36 p ≡ true → eqb (kind p) 34 ≡ false
 unfolding is
 array-not p e = let z : kind p ≡ 36 = eqb-true (kind p) 36 e in ap (λ (x : ℕ). eqb x 34) z
-
-head-37 : (k : ℕ) → eqb k 37 ≡ true → heads k ≡ true
-head-37 k e = let z : k ≡ 37 = eqb-true k 37 e in ap (λ (x : ℕ). heads x) z
-
-head-5 : (k : ℕ) → eqb k 5 ≡ true → heads k ≡ true
-head-5 k e = let z : k ≡ 5 = eqb-true k 5 e in ap (λ (x : ℕ). heads x) z
 
 -- the kind of a pattern decides
 pub leaf-simple : (p : Node) → Leaf p → NotDefault p
@@ -570,13 +569,9 @@ array-simple p e = let z : kind p ≡ 36 = eqb-true (kind p) 36 e in ap (λ (x :
 not-default : {A : Type 0} (p : Node) → NotDefault p → shape p ≡ default → A
 not-default p h e = absurd (true≢false (sym (default-is p e) ∙ h))
 
-pub left-simple : (p : Node) → is 37 p ≡ true → Good p → NotDefault (leftOf p)
-unfolding nodeAt is
-left-simple (node at k fs) e h = h .0 .first (head-37 k e)
-
-pub id-simple : (d : Node) → is 5 d ≡ true → Good d → NotDefault (nodeAt 0 d)
-unfolding nodeAt is
-id-simple (node at k fs) e h = h .0 .first (head-5 k e)
+pub first-simple : (p : Node) → Good p → NotDefault (nodeAt 0 p)
+unfolding nodeAt
+first-simple (node at k fs) h = h .0 .first
 
 -- ---- the views
 
@@ -782,5 +777,5 @@ movedPattern-simple p h =
     by-shape (shape p)
     (λ e. rw (e, movedPattern) (object-simple p (object-is p e)))
     (λ e. rw (e, movedPattern) (array-simple p (array-is p e)))
-    (λ e. rw (e, movedPattern) (left-simple p (default-is p e) h))
+    (λ e. rw (e, movedPattern) (first-simple p h))
     (λ e. rw (e, movedPattern) (leaf-simple p e))

@@ -24,11 +24,12 @@ use Rattle.lowering.specs.Walk.{Rule, ruleOf, rewrite, stepDeclaration, stepTop
 use Rattle.lowering.specs.Walk.Rule.{literals, declarations, assignments, functions, arrows, catches, fors, nowhere}
 use Rattle.lowering.proofs.All.{AllItems, all-append, all-gather, all-each}
 use Rattle.lowering.proofs.Cases.{by-test, by-shape, by-key, by-rule, object-is, array-is, is-changed, functionBody-is, block-is}
-use Rattle.outcome.proofs.Good.{Local, NotDefault, heads, temporary-20, temporary-simple, leaf-simple, object-simple, array-simple, rest-leaf, taken-simple, replaced-simple, reference-simple, movedPattern-simple, absent-good, Is35, changed-35, Good, GoodFields, GoodPiece, GoodItems, GoodObject, free, nothing-good, to-all, from-all, node-good, items-good, append-good, gather-good, each-good, view-node, change-items, each-items, change-free, temporary-good, reference-good, taken-good, replaced-view, values-good, objects-good, rests-good, withoutRests-good, movedOut-view, moved-good, movedPattern-good}
+use Rattle.outcome.proofs.Good.{NotDefault, temporary-20, temporary-simple, leaf-simple, object-simple, array-simple, rest-leaf, taken-simple, replaced-simple, reference-simple, movedPattern-simple, absent-good, Is35, changed-35, Good, GoodFields, GoodPiece, GoodItems, GoodObject, free, nothing-good, to-all, from-all, node-good, items-good, append-good, gather-good, each-good, view-node, change-items, each-items, change-free, temporary-good, reference-good, taken-good, replaced-view, values-good, objects-good, rests-good, withoutRests-good, movedOut-view, moved-good, movedPattern-good}
 
 -- ---- nodes that the rules make
 
 helper-good : (h : ℕ) → Good (helper h)
+unfolding pieceIn is
 helper-good h = (
   record {
     temporary = λ e. absent-good e;
@@ -36,74 +37,88 @@ helper-good h = (
     reference = λ e. absent-good e;
     object = λ e. absent-good e;
     property = λ e. absent-good e;
-    first = λ e. absent-good e;
+    first = refl;
   },
   (tt, tt),
 )
 
-call-good : (f : Node) (xs : Items) → Good f → GoodItems xs → Good (call f xs)
-call-good f xs h k = (free 29 _ refl refl refl refl refl refl, (h, (k, tt)))
+call-good : (f : Node) (xs : Items) → NotDefault f → Good f → GoodItems xs → Good (call f xs)
+unfolding pieceIn
+call-good f xs s h k = (free 29 _ refl refl refl refl refl s, (h, (k, tt)))
+
+helper-simple : (h : ℕ) → NotDefault (helper h)
+unfolding is
+helper-simple h = refl
 
 object-good : (ps : Items) → GoodItems ps → Good (object ps)
+unfolding pieceIn is
 object-good ps h = (free 24 _ refl refl refl refl refl refl, (h, tt))
 
 array-good : (xs : Items) → GoodItems xs → Good (array xs)
+unfolding pieceIn is
 array-good xs h = (free 32 _ refl refl refl refl refl refl, (h, tt))
 
 sequence-good : (xs : Items) → GoodItems xs → Good (sequence xs)
+unfolding pieceIn is
 sequence-good xs h = (free 28 _ refl refl refl refl refl refl, (h, tt))
 
-member-good : (a : Node) (bs : List ℕ) → Good a → Good (member a bs)
-member-good a bs h = (free 30 _ refl refl refl refl refl refl, (h, (tt, tt)))
+member-good : (a : Node) (bs : List ℕ) → NotDefault a → Good a → Good (member a bs)
+unfolding pieceIn
+member-good a bs s h = (free 30 _ refl refl refl refl refl s, (h, (tt, tt)))
+
+member-simple : (a : Node) (bs : List ℕ) → NotDefault (member a bs)
+unfolding is
+member-simple a bs = refl
+
+array-not : (xs : Items) → NotDefault (array xs)
+unfolding is
+array-not xs = refl
 
 assign-good : (l r : Node) → Good l → Good r → Good (assign l r)
+unfolding pieceIn is
 assign-good l r h k = (free 27 _ refl refl refl refl refl refl, (tt, (h, (k, tt))))
 
 string-good : (bs : List ℕ) → Good (string bs)
+unfolding pieceIn is
 string-good bs = (free 22 _ refl refl refl refl refl refl, (tt, (tt, (tt, tt))))
-
-declarator-local : (fs : Fields) → NotDefault (asNode (pieceIn fs 0)) → Local 5 fs
-declarator-local fs h =
-    record {
-      temporary = λ e. absent-good e;
-      helper = λ e. absent-good e;
-      reference = λ e. absent-good e;
-      object = λ e. absent-good e;
-      property = λ e. absent-good e;
-      first = λ e. h;
-    }
 
 declares-good : (i v : Node) → NotDefault i → Good i → Good v → Good (declares i v)
 unfolding pieceIn
-declares-good i v s h k = (declarator-local (Fields.field (Piece.one i) (Fields.field (Piece.one v) Fields.done)) s, (h, (k, tt)))
+declares-good i v s h k = (free 5 _ refl refl refl refl refl s, (h, (k, tt)))
 
 declared-good : (i : Node) → NotDefault i → Good i → Good (declared i)
 unfolding pieceIn
-declared-good i s h = (declarator-local (Fields.field (Piece.one i) (Fields.absent Fields.done)) s, (h, tt))
+declared-good i s h = (free 5 _ refl refl refl refl refl s, (h, tt))
 
 let-good : (i v : Node) → NotDefault i → Good i → Good v → Good (letOf i v)
+unfolding pieceIn is
 let-good i v s h k = (free 4 _ refl refl refl refl refl refl, (omega arith, (tt, ((declares-good i v s h k, tt), tt))))
 
 var-good : (i : Node) → NotDefault i → Good i → Good (varOf i)
+unfolding pieceIn is
 var-good i s h = (free 4 _ refl refl refl refl refl refl, (omega arith, (tt, ((declared-good i s h, tt), tt))))
 
 assigning-good : (l r : Node) → Good l → Good r → Good (assigning l r)
+unfolding pieceIn is
 assigning-good l r h k = (free 3 _ refl refl refl refl refl refl, (omega arith, (assign-good l r h k, tt)))
 
 returning-good : (e : Node) → Good e → Good (returning e)
+unfolding pieceIn is
 returning-good e h = (free 11 _ refl refl refl refl refl refl, (omega arith, (h, tt)))
 
 block-good : (is : Items) → GoodItems is → Good (block is)
+unfolding pieceIn is
 block-good is h = (free 2 _ refl refl refl refl refl refl, (omega arith, (h, tt)))
 
 body-good : (is : Items) → GoodItems is → Good (functionBody is)
+unfolding pieceIn is
 body-good is h = (free 16 _ refl refl refl refl refl refl, (h, tt))
 
 X-good : (s : Node) → Good s → Good (X (object none) (sequence (item (E s) (only s))))
-X-good s h = call-good (helper 2) (item (object none) (only (sequence (item (E s) (only s))))) (helper-good 2) (object-good none tt, (sequence-good (item (E s) (only s)) (call-good (helper 3) (only s) (helper-good 3) (h, tt), (h, tt)), tt))
+X-good s h = call-good (helper 2) (item (object none) (only (sequence (item (E s) (only s))))) (helper-simple 2) (helper-good 2) (object-good none tt, (sequence-good (item (E s) (only s)) (call-good (helper 3) (only s) (helper-simple 3) (helper-good 3) (h, tt), (h, tt)), tt))
 
 W-good : (a b : Node) → Good a → Good b → Good (W a b)
-W-good a b h k = call-good (helper 4) (item a (only b)) (helper-good 4) (h, (k, tt))
+W-good a b h k = call-good (helper 4) (item a (only b)) (helper-simple 4) (helper-good 4) (h, (k, tt))
 
 -- ---- literals
 
@@ -123,7 +138,7 @@ unfolding closed
 closed-good Call.no-call ps h k = object-good ps k
 closed-good (Call.call c) none h k = h
 closed-good (Call.call c) (hole ps) h k = h
-closed-good (Call.call c) (item p ps) h k = call-good (helper 1) (opened (Call.call c) (item p ps)) (helper-good 1) (opened-good (Call.call c) (item p ps) h k)
+closed-good (Call.call c) (item p ps) h k = call-good (helper 1) (opened (Call.call c) (item p ps)) (helper-simple 1) (helper-good 1) (opened-good (Call.call c) (item p ps) h k)
 
 scan-good : (c : Call) (pending ps : Items) → GoodCall c → GoodItems pending → GoodItems ps → Good (scan c pending ps)
 unfolding scan
@@ -134,7 +149,7 @@ scan-good c pending (item p ps) h k l =
     by-test (is 26 p)
     (λ e. rw (e, Good)
     (scan-good (Call.call (S xs)) none ps
-    (call-good (helper 1) xs (helper-good 1) (append-good (opened c pending) (only (nodeAt 0 p)) (opened-good c pending h k) (node-good 0 p (l .0), tt))) tt (l .1)))
+    (call-good (helper 1) xs (helper-simple 1) (helper-good 1) (append-good (opened c pending) (only (nodeAt 0 p)) (opened-good c pending h k) (node-good 0 p (l .0), tt))) tt (l .1)))
     (λ e. rw (e, Good) (scan-good c (pending +++ only p) ps h (append-good pending (only p) k (l .0, tt)) (l .1)))
 
 literal-good : (n : Node) → Good n → Good (literal n)
@@ -144,45 +159,53 @@ literal-good n h = by-test (any (λ p. is 26 p) (itemsAt 0 n)) (λ e. rw (e, Goo
 -- ---- kinds
 
 abbrev Free : Node → Type 0
-Free n = (eqb (kind n) 34 ≡ false) × (eqb (kind n) 35 ≡ false) × (heads (kind n) ≡ false)
+Free n = (eqb (kind n) 34 ≡ false) × (eqb (kind n) 35 ≡ false)
 
 free-changed : (i : ℕ) (f : Piece → Piece) (n : Node) → Free n → Free (change i f n)
 unfolding change
 free-changed i f (node at k fs) h = h
 
 -- what a rule says of the tests of the kind
-abbrev Kinds : Rule → Bool → Bool → Bool → Type 0
-Kinds literals o p h = Unit {0}
-Kinds declarations o p h = (o ≡ false) × (p ≡ false) × (h ≡ false)
-Kinds assignments o p h = (o ≡ false) × (p ≡ false) × (h ≡ false)
-Kinds functions o p h = (o ≡ false) × (p ≡ false) × (h ≡ false)
-Kinds arrows o p h = (o ≡ false) × (p ≡ false) × (h ≡ false)
-Kinds catches o p h = (o ≡ false) × (p ≡ false) × (h ≡ false)
-Kinds fors o p h = (o ≡ false) × (p ≡ false) × (h ≡ false)
-Kinds nowhere o p h = Unit {0}
+abbrev Kinds : Rule → Bool → Bool → Type 0
+Kinds literals o p = Unit {0}
+Kinds declarations o p = (o ≡ false) × (p ≡ false)
+Kinds assignments o p = (o ≡ false) × (p ≡ false)
+Kinds functions o p = (o ≡ false) × (p ≡ false)
+Kinds arrows o p = (o ≡ false) × (p ≡ false)
+Kinds catches o p = (o ≡ false) × (p ≡ false)
+Kinds fors o p = (o ≡ false) × (p ≡ false)
+Kinds nowhere o p = Unit {0}
 
-not-patterns : (k j : ℕ) → eqb k j ≡ true → eqb j 34 ≡ false → eqb j 35 ≡ false → heads j ≡ false → (eqb k 34 ≡ false) × (eqb k 35 ≡ false) × (heads k ≡ false)
-not-patterns k j e a b c = let z : k ≡ j = eqb-true k j e in (ap (λ (x : ℕ). eqb x 34) z ∙ a, ap (λ (x : ℕ). eqb x 35) z ∙ b, ap (λ (x : ℕ). heads x) z ∙ c)
+not-patterns : (k j : ℕ) → eqb k j ≡ true → eqb j 34 ≡ false → eqb j 35 ≡ false → (eqb k 34 ≡ false) × (eqb k 35 ≡ false)
+not-patterns k j e a b = let z : k ≡ j = eqb-true k j e in (ap (λ (x : ℕ). eqb x 34) z ∙ a, ap (λ (x : ℕ). eqb x 35) z ∙ b)
 
-kinds : (k : ℕ) → Kinds (ruleOf k) (eqb k 34) (eqb k 35) (heads k)
+kinds : (k : ℕ) → Kinds (ruleOf k) (eqb k 34) (eqb k 35)
 unfolding ruleOf
 kinds k =
     go (eqb k 24) (eqb k 4) refl (eqb k 27) refl (eqb k 14) refl (eqb k 17) refl (eqb k 10) refl (eqb k 7) refl (eqb k 8) refl
   where
     go : (l d : Bool) → eqb k 4 ≡ d → (a : Bool) → eqb k 27 ≡ a → (f : Bool) → eqb k 14 ≡ f → (r : Bool) → eqb k 17 ≡ r → (c : Bool) → eqb k 10 ≡ c → (i : Bool) → eqb k 7 ≡ i → (o : Bool) → eqb k 8 ≡ o
-        → Kinds (cond l literals (cond d declarations (cond a assignments (cond f functions (cond r arrows (cond c catches (cond (i || o) fors nowhere))))))) (eqb k 34) (eqb k 35) (heads k)
+        → Kinds (cond l literals (cond d declarations (cond a assignments (cond f functions (cond r arrows (cond c catches (cond (i || o) fors nowhere))))))) (eqb k 34) (eqb k 35)
     go true d e0 a e1 f e2 r e3 c e4 i e5 o e6 = tt
-    go false true e0 a e1 f e2 r e3 c e4 i e5 o e6 = not-patterns k 4 e0 refl refl refl
-    go false false e0 true e1 f e2 r e3 c e4 i e5 o e6 = not-patterns k 27 e1 refl refl refl
-    go false false e0 false e1 true e2 r e3 c e4 i e5 o e6 = not-patterns k 14 e2 refl refl refl
-    go false false e0 false e1 false e2 true e3 c e4 i e5 o e6 = not-patterns k 17 e3 refl refl refl
-    go false false e0 false e1 false e2 false e3 true e4 i e5 o e6 = not-patterns k 10 e4 refl refl refl
-    go false false e0 false e1 false e2 false e3 false e4 true e5 o e6 = not-patterns k 7 e5 refl refl refl
-    go false false e0 false e1 false e2 false e3 false e4 false e5 true e6 = not-patterns k 8 e6 refl refl refl
+    go false true e0 a e1 f e2 r e3 c e4 i e5 o e6 = not-patterns k 4 e0 refl refl
+    go false false e0 true e1 f e2 r e3 c e4 i e5 o e6 = not-patterns k 27 e1 refl refl
+    go false false e0 false e1 true e2 r e3 c e4 i e5 o e6 = not-patterns k 14 e2 refl refl
+    go false false e0 false e1 false e2 true e3 c e4 i e5 o e6 = not-patterns k 17 e3 refl refl
+    go false false e0 false e1 false e2 false e3 true e4 i e5 o e6 = not-patterns k 10 e4 refl refl
+    go false false e0 false e1 false e2 false e3 false e4 true e5 o e6 = not-patterns k 7 e5 refl refl
+    go false false e0 false e1 false e2 false e3 false e4 false e5 true e6 = not-patterns k 8 e6 refl refl
     go false false e0 false e1 false e2 false e3 false e4 false e5 false e6 = tt
 
-kinds-at : (k : ℕ) (r : Rule) → ruleOf k ≡ r → Kinds r (eqb k 34) (eqb k 35) (heads k)
+kinds-at : (k : ℕ) (r : Rule) → ruleOf k ≡ r → Kinds r (eqb k 34) (eqb k 35)
 kinds-at k r e = rw e at (kinds k)
+
+kind-not : (n : Node) (j : ℕ) → is j n ≡ true → eqb j 37 ≡ false → NotDefault n
+unfolding is
+kind-not n j e a = let z : kind n ≡ j = eqb-true (kind n) j e in ap (λ (x : ℕ). eqb x 37) z ∙ a
+
+var-simple : (i : Node) → NotDefault (varOf i)
+unfolding is
+var-simple i = refl
 
 body-16 : (b : Node) → eqb (kind (asFunctionBody b)) 16 ≡ true
 unfolding is
@@ -226,9 +249,9 @@ module _ (c : Context) where
   unfolding keyTemporaries
   keyTemporaries-good p h = gather-good (keyTemporary c) keyTemporary-good (properties p) (items-good 0 p h)
 
-  mapped-good : (n : Node) → Good n → Good (mapped n)
+  mapped-good : (n : Node) → NotDefault n → Good n → Good (mapped n)
   unfolding mapped
-  mapped-good n h = call-good (member n (109 ∷ 97 ∷ 112 ∷ [])) (only K) (member-good n (109 ∷ 97 ∷ 112 ∷ []) h) (helper-good 5, tt)
+  mapped-good n s h = call-good (member n (109 ∷ 97 ∷ 112 ∷ [])) (only K) (member-simple n (109 ∷ 97 ∷ 112 ∷ [])) (member-good n (109 ∷ 97 ∷ 112 ∷ []) s h) (helper-good 5, tt)
 
   keysRead-good : (p : Node) → Good p → Good (keysRead c p)
   unfolding keysRead
@@ -236,7 +259,7 @@ module _ (c : Context) where
       let a = array-good (excludedKeys c p) (excludedKeys-good p h) in
       by-test (isHoisted c p)
       (λ e. rw (e, Good) (temporary-good (c .path) 2 (position p)))
-      (λ e. rw (e, Good) (by-test (allPrimitive p) (λ f. rw (f, Good) a) (λ f. rw (f, Good) (mapped-good (array (excludedKeys c p)) a))))
+      (λ e. rw (e, Good) (by-test (allPrimitive p) (λ f. rw (f, Good) a) (λ f. rw (f, Good) (mapped-good (array (excludedKeys c p)) (array-not (excludedKeys c p)) a))))
 
   restValue-good : (p s : Node) → Good p → Good s → Good (restValue c p s)
   unfolding restValue
@@ -355,7 +378,7 @@ module _ (c : Context) where
   nested-sequence-good n f h =
       let p = node-good 1 n h in
       sequence-good (item (changeNode 1 (λ m. replacedBelow c m) n) (each (λ q. assign q (reference c q)) (objectsBelow c (target n)))) (
-        change-free (λ m. replacedBelow c m) (λ m g. replaced-view c (depth m) .keeps m g) 1 n (f .0) (f .1) (f .2) h,
+        change-free (λ m. replacedBelow c m) (λ m g. replaced-view c (depth m) .keeps m g) (λ m g. replaced-view c (depth m) .simple m g) 1 n (f .0) (f .1) h,
         from-all (each (λ q. assign q (reference c q)) (objectsBelow c (target n)))
             (all-each (GoodObject c) Good (λ q. assign q (reference c q)) (λ q o. assign-good q (reference c q) (o .1) (reference-good c q)) (objectsBelow c (target n)) (objects-good c (depth (target n)) (target n) p)),
       )
@@ -373,6 +396,10 @@ module _ (c : Context) where
   unfolding leftBehind
   leftBehind-35 q h = by-test (isMoved q) (λ e. rw e (changed-35 0 (onNode (λ p. movedOut c (depth p) p)) q h)) (λ e. rw e h)
 
+  leftBehind-simple : (q : Node) → NotDefault q → NotDefault (leftBehind c q)
+  unfolding leftBehind
+  leftBehind-simple q h = by-test (isMoved q) (λ e. rw e (is-changed 0 (onNode (λ p. movedOut c (depth p) p)) q 37 ∙ h)) (λ e. rw e h)
+
   movedFrom-good : (q : Node) → Good q → GoodItems (movedFrom q)
   unfolding movedFrom
   movedFrom-good q h = by-test (isMoved q) (λ e. rw (e, GoodItems) (moved-good (depth (nodeAt 0 q)) (nodeAt 0 q) (node-good 0 q h))) (λ e. rw (e, GoodItems) tt)
@@ -389,10 +416,21 @@ module _ (c : Context) where
   inBody-good ps b a h k = change-items (inFront c ps) (λ is g. inFront-good ps is h g) 1 b a k
 
   body-not : (b : Node) → eqb (kind (asFunctionBody b)) 34 ≡ false
-  body-not b = not-patterns (kind (asFunctionBody b)) 16 (body-16 b) refl refl refl .0
+  body-not b = not-patterns (kind (asFunctionBody b)) 16 (body-16 b) refl refl .0
+
+  body-simple : (ps : Items) (b : Node) → NotDefault (inBody c ps (asFunctionBody b))
+  unfolding inBody
+  body-simple ps b = is-changed 1 (onItems (inFront c ps)) (asFunctionBody b) 37 ∙ kind-not (asFunctionBody b) 16 (functionBody-is b) refl
+
+  block-simple : (f : Items → Items) (b : Node) → NotDefault (changeItems 1 f (asBlock b))
+  block-simple f b = is-changed 1 (onItems f) (asBlock b) 37 ∙ kind-not (asBlock b) 2 (block-is b) refl
+
+  block-body : (ps : Items) (b : Node) → NotDefault (inBody c ps (asBlock b))
+  unfolding inBody
+  block-body ps b = block-simple (inFront c ps) b
 
   block-not : (b : Node) → eqb (kind (asBlock b)) 34 ≡ false
-  block-not b = not-patterns (kind (asBlock b)) 2 (block-2 b) refl refl refl .0
+  block-not b = not-patterns (kind (asBlock b)) 2 (block-2 b) refl refl .0
 
   asFunctionBody-good : (b : Node) → Good b → Good (asFunctionBody b)
   unfolding asFunctionBody
@@ -414,7 +452,7 @@ module _ (c : Context) where
       let f′ = free-changed 3 (onItems (each (leftBehind c))) n f in
       by-test (stands 5 n && any isMoved (itemsAt 3 n))
       (λ e. rw (e, Good)
-      (change-free (λ b. inBody c ps (asFunctionBody b)) (λ b k. inBody-good ps (asFunctionBody b) (body-not b) g (asFunctionBody-good b k)) 5 m (f′ .0) (f′ .1) (f′ .2) (each-items (leftBehind c) leftBehind-good leftBehind-35 3 n h)))
+      (change-free (λ b. inBody c ps (asFunctionBody b)) (λ b k. inBody-good ps (asFunctionBody b) (body-not b) g (asFunctionBody-good b k)) (λ b z. body-simple ps b) 5 m (f′ .0) (f′ .1) (each-items (leftBehind c) leftBehind-good leftBehind-35 3 n h)))
       (λ e. rw (e, Good) h)
 
   arrow-good : (n : Node) → Free n → Good n → Good (arrow c n)
@@ -426,7 +464,7 @@ module _ (c : Context) where
       let f′ = free-changed 0 (onItems (each (leftBehind c))) n f in
       by-test (any isMoved (itemsAt 0 n))
       (λ e. rw (e, Good)
-      (change-free (λ b. inBody c ps (asFunctionBody b)) (λ b k. inBody-good ps (asFunctionBody b) (body-not b) g (asFunctionBody-good b k)) 2 m (f′ .0) (f′ .1) (f′ .2) (each-items (leftBehind c) leftBehind-good leftBehind-35 0 n h)))
+      (change-free (λ b. inBody c ps (asFunctionBody b)) (λ b k. inBody-good ps (asFunctionBody b) (body-not b) g (asFunctionBody-good b k)) (λ b z. body-simple ps b) 2 m (f′ .0) (f′ .1) (each-items (leftBehind c) leftBehind-good leftBehind-35 0 n h)))
       (λ e. rw (e, Good) h)
 
   catch-good : (n : Node) → Free n → Good n → Good (catch c n)
@@ -438,7 +476,7 @@ module _ (c : Context) where
       let f′ = free-changed 0 (onNode (leftBehind c)) n f in
       by-test (isMoved (nodeAt 0 n))
       (λ e. rw (e, Good)
-      (change-free (λ b. inBody c ps (asBlock b)) (λ b k. inBody-good ps (asBlock b) (block-not b) g (asBlock-good b k)) 1 m (f′ .0) (f′ .1) (f′ .2) (change-free (leftBehind c) leftBehind-good 0 n (f .0) (f .1) (f .2) h)))
+      (change-free (λ b. inBody c ps (asBlock b)) (λ b k. inBody-good ps (asBlock b) (block-not b) g (asBlock-good b k)) (λ b z. block-body ps b) 1 m (f′ .0) (f′ .1) (change-free (leftBehind c) leftBehind-good leftBehind-simple 0 n (f .0) (f .1) h)))
       (λ e. rw (e, Good) h)
 
   declaringHead-good : (n : Node) → Free n → Good n → Good (declaringHead c n)
@@ -451,8 +489,8 @@ module _ (c : Context) where
       let f′ = free-changed 1 (onNode left) n f in
       by-test (any isMoved ds)
       (λ e. rw (e, Good)
-      (change-free (λ b. inBody c (gather movedFrom ds) (asBlock b)) (λ b k. inBody-good (gather movedFrom ds) (asBlock b) (block-not b) g (asBlock-good b k)) 3 m (f′ .0) (f′ .1) (f′ .2)
-      (change-free left (λ l k. each-items (leftBehind c) leftBehind-good leftBehind-35 2 l k) 1 n (f .0) (f .1) (f .2) h)))
+      (change-free (λ b. inBody c (gather movedFrom ds) (asBlock b)) (λ b k. inBody-good (gather movedFrom ds) (asBlock b) (block-not b) g (asBlock-good b k)) (λ b z. block-body (gather movedFrom ds) b) 3 m (f′ .0) (f′ .1)
+      (change-free left (λ l k. each-items (leftBehind c) leftBehind-good leftBehind-35 2 l k) (λ l z. is-changed 2 (onItems (each (leftBehind c))) l 37 ∙ z) 1 n (f .0) (f .1) h)))
       (λ e. rw (e, Good) h)
 
   assigningHead-good : (n : Node) → Free n → Good n → Good (assigningHead c n)
@@ -466,8 +504,8 @@ module _ (c : Context) where
       by-test (hasObjectRest p)
       (λ e. rw (e, Good)
       (change-free (λ b. changeItems 1 (item s) (asBlock b))
-      (λ b k. change-items (item s) (λ is g. (assigning-good p (reference c p) (node-good 1 n h) (reference-good c p), g)) 1 (asBlock b) (block-not b) (asBlock-good b k)) 3 m (f′ .0) (f′ .1) (f′ .2)
-      (change-free left (λ l k. var-good (reference c l) (reference-simple c l) (reference-good c l)) 1 n (f .0) (f .1) (f .2) h)))
+      (λ b k. change-items (item s) (λ is g. (assigning-good p (reference c p) (node-good 1 n h) (reference-good c p), g)) 1 (asBlock b) (block-not b) (asBlock-good b k)) (λ b z. block-simple (item s) b) 3 m (f′ .0) (f′ .1)
+      (change-free left (λ l k. var-good (reference c l) (reference-simple c l) (reference-good c l)) (λ l z. var-simple (reference c l)) 1 n (f .0) (f .1) h)))
       (λ e. rw (e, Good) h)
 
   -- ---- the steps

@@ -1,6 +1,7 @@
 pub mod Refusals
 pub mod Same
 pub mod Tokens
+pub mod Tidy
 pub mod Listed
 pub mod Makes
 pub mod Scope
@@ -11,3 +12,8 @@ pub mod Handed
 pub mod Numbers
 pub mod Nodes
 pub mod Lists
+pub mod Stays
+pub mod Uses
+pub mod Cells
+pub mod Apart
+pub mod Whole

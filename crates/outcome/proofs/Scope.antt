@@ -47,12 +47,12 @@ pub self : (a : Name) → same a a ≡ true
 unfolding same
 self a = rw (eq-eqb (a .place) (a .place) refl, eq-eqb (a .stem) (a .stem) refl) (self-path (a .path))
 
-cell-name : (t : Node) → cellOf t ≡ cellAt (nameOf t)
+pub cell-name : (t : Node) → cellOf t ≡ cellAt (nameOf t)
 unfolding cellOf nameOf
 cell-name t = refl
 
 -- a temporary with the name is in the cell of the name
-named-there : (a : Name) (ts : Items) → number (namedCell (cellAt a) a) ts ≡ times a ts
+pub named-there : (a : Name) (ts : Items) → number (namedCell (cellAt a) a) ts ≡ times a ts
 unfolding number times
 named-there a Items.none = refl
 named-there a (Items.hole ts) = named-there a ts
@@ -68,7 +68,7 @@ named-there a (Items.item t ts) =
     go false h = ap (λ (x : ℕ). 0 + x) h
 
 -- what is made with the name is made in its cell
-named-less : (x : ℕ) (a : Name) (ts : Items) → number (namedCell x a) ts ≤ number (inCell x) ts
+pub named-less : (x : ℕ) (a : Name) (ts : Items) → number (namedCell x a) ts ≤ number (inCell x) ts
 unfolding number
 named-less x a Items.none = omega arith
 named-less x a (Items.hole ts) = named-less x a ts
@@ -87,7 +87,7 @@ pub record IsNamed (fs : Fields) : Type 0 where
   pub path : List ℕ
   pub whole : fs ≡ Fields.field (Piece.number stem) (Fields.field (Piece.text path) Fields.done)
 
-occurs-here : (at k : ℕ) (fs : Fields) → eqb k 20 ≡ true → 0 < occurs (nameOf (node at k fs)) (node at k fs)
+pub occurs-here : (at k : ℕ) (fs : Fields) → eqb k 20 ≡ true → 0 < occurs (nameOf (node at k fs)) (node at k fs)
 unfolding occurs
 occurs-here at k fs e = rw (e, self (nameOf (node at k fs))) (omega arith)
 
@@ -96,7 +96,7 @@ unfolding bare eachField eachPiece
 walked-name w at k fs h =
     ap (λ (x : Fields). nameOf (node at k x)) (h .whole) ∙ ap (λ (x : Fields). nameOf (node at k (bareFields 0 (eachField w 0 x)))) (sym (h .whole))
 
-walked-cell : (w : ℕ → ℕ → Node → Walked) (at k : ℕ) (fs : Fields) → IsNamed fs → cell (numberIn (eachField w 0 fs)) at ≡ cellAt (nameOf (node at k fs))
+pub walked-cell : (w : ℕ → ℕ → Node → Walked) (at k : ℕ) (fs : Fields) → IsNamed fs → cell (numberIn (eachField w 0 fs)) at ≡ cellAt (nameOf (node at k fs))
 unfolding eachField eachPiece numberIn nameOf numberAt pieceIn
 walked-cell w at k fs h =
     ap (λ (x : Fields). cell (numberIn (eachField w 0 x)) at) (h .whole) ∙ ap (λ (x : Fields). cellAt (nameOf (node at k x))) (sym (h .whole))
@@ -149,6 +149,15 @@ zero-left n names x =
     ap (λ (s : ℕ → Name). s x) (after-append names (handsOut 0 (unchanged n .note)) (written 0 0 WalkedFields.done []))
     ∙ written-left names′ x 0 0 WalkedFields.done [] (none-after names′ x)
     ∙ ap (λ (s : ℕ → Name). s x) (empty-after n names)
+
+-- what stands in the result stood there before, or is made
+pub origin : (a : Name) (c : Context) (n : Node) → 0 < occurs a (rewrite c n .result) → (0 < occurs a n) ⊎ (0 < times a (rewrite c n .note .made))
+origin a c n h = go (occurs a n) (times a (rewrite c n .note .made)) refl refl
+  where
+    go : (s t : ℕ) → occurs a n ≡ s → times a (rewrite c n .note .made) ≡ t → (0 < s) ⊎ (0 < t)
+    go (suc s) t e f = inl (omega arith)
+    go zero (suc t) e f = inr (omega arith)
+    go zero zero e f = let z = rewrite-sound a c n e f .0 in absurd (omega arith)
 
 -- ---- parts of a node
 
@@ -338,15 +347,6 @@ module _ (Good : Node → Type 0) (pot : ℕ → Node → ℕ) where
       (spent : (x : ℕ) (c : Context) (n : Node) → Good n → pot x n ≤ 1
       → (number (inCell x) (rewrite c n .note .made) ≤ pot x n)
       × Each (λ m. number (inCell x) (rewrite c n .note .made) + pot x m ≤ pot x n) (rewrite c n .result)) where
-    -- what stands in the result stood there before, or is made
-    origin : (a : Name) (c : Context) (n : Node) → 0 < occurs a (rewrite c n .result) → (0 < occurs a n) ⊎ (0 < times a (rewrite c n .note .made))
-    origin a c n h = go (occurs a n) (times a (rewrite c n .note .made)) refl refl
-      where
-        go : (s t : ℕ) → occurs a n ≡ s → times a (rewrite c n .note .made) ≡ t → (0 < s) ⊎ (0 < t)
-        go (suc s) t e f = inl (omega arith)
-        go zero (suc t) e f = inr (omega arith)
-        go zero zero e f = let z = rewrite-sound a c n e f .0 in absurd (omega arith)
-
     module _ (c : Context) (n : Node) (good : Good n) (most : Most n) (names : ℕ → Name) (force : InForce names n) (quiet : Quiet n) where
       once : (x : ℕ) → number (inCell x) (makes (rewrite c n .note)) ≤ 1
       once x = let e = makes-all (inCell x) c n in let s = spent x c n good (most x) .0 in let m = most x in omega arith

@@ -12,7 +12,8 @@ use Rattle.lowering.specs.Made.{idOf}
 use Rattle.lowering.specs.Walk.{Note, Walked, WalkedFields, WalkedPiece, WalkedItems}
 use Rattle.lowering.specs.Walk.Walked.{noted}
 use Rattle.lowering.specs.Collect.{Name, nameOf, newIn, newInPiece, isContainer, marked, markOf}
-use Rattle.sink.specs.Machine.{Event}
+use Rattle.lowering.specs.Answer.{Outcome}
+use Rattle.sink.specs.Machine.{Event, Ended}
 use Rattle.sink.specs.Shown.{Named, Token, namesAfter}
 use Rattle.sink.specs.Shown.Named.{put, helper, temporary, newMark, make, listed, listedTemporary, entry, excluded, excludedTemporary, declarator}
 use Rattle.sink.specs.Shown.Token.{plain, temp}
@@ -144,3 +145,19 @@ unfoldable mutual
 unfoldable pub after : (ℕ → Name) → List Act → ℕ → Name
 after names [] = names
 after names (e ∷ es) = after (namesAfter names e) es
+
+-- ---- what the machine's end says
+
+-- the outcome of a lowering, from what the output machine hands back: 7 where it does not fit
+unfoldable pub outcomeFrom : ℕ → Ended → Outcome
+outcomeFrom options e =
+    record {
+      answer = cond (e .written .fits) 0 7;
+      helpers = e .written .helpers;
+      options = cond (e .written .fits) options 0;
+      treeLength = e .written .tree;
+      listLength = e .written .list;
+      treeOut = e .out;
+      listOut = e .list;
+      work = e .work;
+    }

@@ -1,7 +1,7 @@
 -- Of a tree that was accepted, what the target walk does is what the definition hands out.
 -- Assumes nothing.
 use mathlib.Core.Path.{_≡_, refl, sym, ap, _∙_}
-use mathlib.Core.Bool.{Bool, true, false}
+use mathlib.Core.Bool.{false}
 use mathlib.Core.List.{List}
 use Prim.Native.Nat.{ℕ, _+_, _-_, _≤_}
 use native.Mathlib.Omega.{arith}
@@ -11,7 +11,7 @@ use Rattle.tree.specs.Grammar.Stage.{input}
 use Rattle.tree.specs.Read.{readNode}
 use Rattle.tree.specs.Read.Got.{got}
 use Rattle.tree.specs.WellFormed.{Bytes}
-use Rattle.tree.specs.Look.{Seen, seen, lookNode}
+use Rattle.tree.specs.Look.{Seen, lookNode}
 use Rattle.tree.proofs.Look.{stands-deeper}
 use Rattle.tree.proofs.Sound.{bytes-at}
 use Rattle.lowering.specs.Parts.{any, gather}
@@ -19,9 +19,9 @@ use Rattle.lowering.specs.Made.{Context}
 use Rattle.lowering.specs.Patterns.{objectsBelow}
 use Rattle.lowering.specs.Keys.{anyLacksForm, keyTemporaries}
 use Rattle.lowering.specs.Assignments.{target, topEntry, topLacksForm, nestedEntry}
-use Rattle.direct.specs.Events.{Deed, all, entered}
+use Rattle.direct.specs.Events.{all, entered}
 use Rattle.pattern.specs.Objects.{throughObjects}
-use Rattle.rest_spread.specs.Target.{handsOut, topEvents, nestedEvents}
+use Rattle.rest_spread.specs.Target.{targetHands, topEvents, nestedEvents}
 use Rattle.rest_spread.proofs.Entries.{top-handed}
 use Rattle.rest_spread.proofs.Deeds.{top-deeds, nested-deeds}
 use Rattle.rest_spread.proofs.Copied.{Was, all-copied, fits-in}
@@ -50,7 +50,7 @@ module _ (l : List ℕ) (bytes : Bytes l) (short : length l ≤ 65536) (n : Node
   top-accepted c m =
       let h : count (gather (keyTemporaries c) (throughObjects (target n))) ≤ length (encode (target n)) = keys-small c (target n) in
       let b : length (encode (target n)) ≤ 65536 = small in
-      let e : count (handsOut c false (target n)) ≡ count (gather (keyTemporaries c) (throughObjects (target n))) = ap count (top-handed c (target n)) in
+      let e : count (targetHands c false (target n)) ≡ count (gather (keyTemporaries c) (throughObjects (target n))) = ap count (top-handed c (target n)) in
       ap (λ (x : Node). all (topEvents l left c m x)) stood ∙ top-deeds l left c m n (all-copied l left (bytes-at l bytes) (target n) was) (omega arith)
 
   -- any other assignment

@@ -1,6 +1,6 @@
 -- In a tree that was accepted the bytes that are copied for a key are those that it encodes to.
 -- Assumes nothing.
-use mathlib.Core.Path.{_≡_, refl, sym, ap, ap₂, _∙_, subst}
+use mathlib.Core.Path.{_≡_, refl, sym, ap, _∙_, subst}
 use mathlib.Core.Bool.{Bool, true, false, cond}
 use mathlib.Core.List.{List, [], _∷_, _++_}
 use mathlib.Core.Logic.{_⊎_, ⊎-elim}
@@ -11,29 +11,29 @@ use native.Mathlib.Decide.{decLt}
 use lib.Dec.{eqb, ltb, leb}
 use lib.ListN.{length, getD, take, drop, length-append, length-drop}
 use lib.Seq.{take-add, take-append-seam, drop-append-seam, length-take-le}
-use borrow.Author.Tests.{le-leb, lt-ltb, le-ltb, eqb-true}
-use Rattle.tree.specs.Tree.{Node, Fields, Piece, Items, encode, encodeFields, placed, placedFields, placedPiece, depth}
+use borrow.Author.Tests.{le-leb, lt-ltb, le-ltb}
+use Rattle.tree.specs.Tree.{Node, Fields, Piece, Items, mapOf, encode, encodeFields, placed, depth}
 use Rattle.tree.specs.Tree.Node.{node}
 use Rattle.tree.specs.Tree.Fields.{done, absent, field}
 use Rattle.tree.specs.Tree.Piece.{one, list, text, byte, mark, number}
 use Rattle.tree.specs.Tree.Items.{none, hole, item}
-use Rattle.tree.specs.Grammar.{Sort, Field, Stage, formAt, formIn, allowed, places, fieldsOf, kinds, variants, kindOf, mapOk}
+use Rattle.tree.specs.Grammar.{Sort, Field, formAt, formIn, allowed, places, fieldsOf, kinds, variants, kindOf, mapOk}
 use Rattle.tree.specs.Grammar.Sort.{child, chosen, many, gaps}
 use Rattle.tree.specs.Grammar.Field.{must, may}
 use Rattle.tree.specs.Grammar.Stage.{input}
-use Rattle.tree.specs.Read.{Got, mapped, joined, accepted, sortIn, byteAt, wideAt, chosenPlace, readItem, readItems, readList, readText, readByte, readMark, readNumber, readField, readSlot, readFields, readNode}
+use Rattle.tree.specs.Read.{Got, mapped, accepted, sortIn, byteAt, wideAt, chosenPlace, readItem, readItems, readList, readText, readByte, readMark, readNumber, readField, readSlot, readFields, readNode}
 use Rattle.tree.specs.Read.Got.{got, refused}
 use Rattle.tree.specs.Read.Refusal.{tooDeep}
 use Rattle.tree.specs.WellFormed.{Fits, FitFields, FitPiece, FitItems}
 use Rattle.tree.specs.Look.{Seen, seen, onward, lookNode}
 use Rattle.tree.proofs.Hold.{Holds, holds, of-mapped, of-accepted, of-joined, weaker}
-use Rattle.tree.proofs.Sound.{SoundNode, Stands, node-sound}
+use Rattle.tree.proofs.Sound.{SoundNode, node-sound}
 use Rattle.tree.proofs.Look.{stands-deeper, kind-at}
-use Rattle.lowering.specs.Parts.{nothing, position, kind, pieceIn, asNode, asItems, nodeAt, itemsAt, only, gather, _+++_}
-use Rattle.lowering.specs.Patterns.{shape, properties, hasRest, leftOf, value, key}
-use Rattle.lowering.specs.Patterns.Shape.{objectPattern, arrayPattern, default, leaf}
+use Rattle.lowering.specs.Parts.{nothing, position, kind, pieceIn, asNode, asItems, nodeAt, itemsAt, only, gather}
+use Rattle.lowering.specs.Patterns.{shape, properties, hasRest, value, key}
+use Rattle.lowering.specs.Patterns.Shape.{objectPattern}
 use Rattle.lowering.specs.Assignments.{restsThroughObjects}
-use Rattle.lowering.proofs.All.{AllItems, AllPiece, AllFields, Each, all-append, all-gather, weaker-items}
+use Rattle.lowering.proofs.All.{AllItems, AllPiece, AllFields, Each, all-append, all-gather}
 use Rattle.sink.specs.Machine.{part}
 use Rattle.pattern.specs.Objects.{throughObjects}
 use Rattle.pattern.proofs.Below.{by-shape, object-kind}
@@ -276,7 +276,7 @@ module _ (l : List ℕ) (D : ℕ) where
 
   two-at-least : (n : Node) → 2 ≤ length (encode n)
   unfolding encode
-  two-at-least (node at k fs) = let s : length (k ∷ Rattle.tree.specs.Tree.mapOf fs ∷ encodeFields fs) ≡ suc (suc (length (encodeFields fs))) = refl in omega arith
+  two-at-least (node at k fs) = let s : length (k ∷ mapOf fs ∷ encodeFields fs) ≡ suc (suc (length (encodeFields fs))) = refl in omega arith
 
   module _ (bytes : (i : ℕ) → i < length l → byteAt l i < 256) where
     sound : (n : Node) (w : Was n) → SoundNode l input (w .levels) (w .place) (w .from) (w .before) n (w .end) (w .next)

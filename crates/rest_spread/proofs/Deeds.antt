@@ -1,28 +1,27 @@
 -- The events of the target walk are the deeds of the definition, where the bytes that are copied are what the values encode to.
 -- Assumes nothing.
-use mathlib.Core.Path.{_≡_, refl, sym, ap, ap₂, _∙_}
+use mathlib.Core.Path.{_≡_, refl, ap, ap₂, _∙_}
 use mathlib.Core.Bool.{Bool, true, false, cond}
 use mathlib.Core.List.{List, [], _∷_, _++_}
-use Prim.Native.Nat.{ℕ, zero, suc, _+_, _≤_, min}
+use Prim.Native.Nat.{ℕ, suc, _+_, _≤_}
 use native.Mathlib.Omega.{arith}
-use native.Mathlib.Numerals.{add-one}
-use Rattle.tree.specs.Tree.{Node, Items, count, encode, depth}
+use Rattle.tree.specs.Tree.{Node, Items, count, encode}
 use Rattle.tree.specs.Tree.Items.{none, hole, item}
-use Rattle.lowering.specs.Parts.{position, pieceIn, standsIn, nodeAt, stands, only, each, gather, isEmpty, _+++_}
-use Rattle.lowering.specs.Made.{Context, declares, declared, idOf, keyOf, reference, valueOf}
+use Rattle.lowering.specs.Parts.{position, pieceIn, standsIn, nodeAt, stands, each, gather, isEmpty}
+use Rattle.lowering.specs.Made.{Context, declared, idOf, reference, valueOf}
 use Rattle.lowering.specs.Patterns.{properties, key, objectsBelow}
 use Rattle.lowering.specs.Keys.{keySort, keyTemporary, keyTemporaries}
 use Rattle.lowering.specs.Assignments.{target, topEntry, nestedEntry}
-use Rattle.lowering.proofs.All.{AllItems, all-append, all-gather}
+use Rattle.lowering.proofs.All.{AllItems, all-gather}
 use Rattle.sink.specs.Machine as machine
 use Rattle.sink.specs.Machine.{Event}
 use Rattle.sink.specs.Machine.Event.{listed, listedTemporary, entry}
 use Rattle.direct.specs.Events.{Deed, all, lists, cellOf, handed, entered}
 use Rattle.direct.specs.Events.Deed.{does}
 use Rattle.pattern.specs.Tally.{limited}
-use Rattle.pattern.specs.Objects.{throughObjects, found}
+use Rattle.pattern.specs.Objects.{throughObjects}
 use Rattle.pattern.proofs.KeyCases.{by-sort}
-use Rattle.rest_spread.specs.Target.{keyBytes, handedEvents, handedBy, handsOut, topHands, nestedHands, topEvents, nestedEvents}
+use Rattle.rest_spread.specs.Target.{keyBytes, handedEvents, targetHands, topHands, nestedHands, topEvents, nestedEvents}
 use Rattle.rest_spread.proofs.Entries.{top-handed, count-each}
 
 -- ---- events as deeds
@@ -105,12 +104,12 @@ module _ (l : List ℕ) (d : ℕ) (c : Context) where
   top-is n = ap (λ (x : Items). item (declared (valueOf c (target n))) x) (top-handed c (target n))
 
   -- an assignment to an object with rest: where the keys are copied right, and there are not too many
-  pub top-deeds : (m : ℕ) (n : Node) → AllItems (AllCopied l d) (throughObjects (target n)) → count (handsOut c false (target n)) ≤ 65536 → all (topEvents l d c m (target n)) ≡ entered m (topEntry c n)
+  pub top-deeds : (m : ℕ) (n : Node) → AllItems (AllCopied l d) (throughObjects (target n)) → count (targetHands c false (target n)) ≤ 65536 → all (topEvents l d c m (target n)) ≡ entered m (topEntry c n)
   unfolding topEvents entered topEntry isEmpty count
   top-deeds m n g h =
       let e : topHands c (target n) ≡ topEntry c n = top-is n in
-      let k : 1 + limited (count (handsOut c false (target n))) ≡ suc (count (gather (keyTemporaries c) (throughObjects (target n)))) =
-      ap (λ (x : ℕ). 1 + x) (exact (count (handsOut c false (target n))) h ∙ ap count (top-handed c (target n))) ∙ one-more (count (gather (keyTemporaries c) (throughObjects (target n)))) in
+      let k : 1 + limited (count (targetHands c false (target n))) ≡ suc (count (gather (keyTemporaries c) (throughObjects (target n)))) =
+      ap (λ (x : ℕ). 1 + x) (exact (count (targetHands c false (target n))) h ∙ ap count (top-handed c (target n))) ∙ one-more (count (gather (keyTemporaries c) (throughObjects (target n)))) in
       ap₂ (λ (x : ℕ) (y : List Deed). does (entry m x) ∷ y) k (handed-deeds (keyBytes l d) (topHands c (target n)) (top-given (target n) g) ∙ ap handed e)
     where
       one-more : (x : ℕ) → 1 + x ≡ suc x

@@ -1,24 +1,22 @@
 -- The entries of assignments, case by case: what each way out leaves is what the definition says.
 -- Assumes nothing.
-use mathlib.Core.Path.{_≡_, refl, sym, ap, ap₂, _∙_, fun-ext}
-use mathlib.Core.Bool.{Bool, true, false, cond}
-use mathlib.Core.List.{List, [], _∷_, _++_}
-use Prim.Native.Nat.{ℕ, zero, suc, _+_, _≤_, _<_, min}
+use mathlib.Core.Path.{_≡_, refl, sym, ap, ap₂, _∙_}
+use mathlib.Core.Bool.{true, false}
+use mathlib.Core.List.{List, [], _∷_}
+use Prim.Native.Nat.{ℕ, suc, _+_, _≤_}
 use native.Mathlib.Omega.{arith}
-use lib.Dec.{eqb}
-use borrow.Author.Tests.{ne-eqb}
 use Rattle.tree.specs.Tree.{Node, Items, count}
 use Rattle.tree.specs.Tree.Items.{none, hole, item}
-use Rattle.lowering.specs.Parts.{position, pieceIn, standsIn, nodeAt, numberAt, stands, only, each, gather, isEmpty}
-use Rattle.lowering.specs.Made.{Context, declared, idOf, reference, valueOf}
+use Rattle.lowering.specs.Parts.{position, pieceIn, standsIn, nodeAt, numberAt, stands, each, gather, isEmpty}
+use Rattle.lowering.specs.Made.{Context, declared, reference}
 use Rattle.lowering.specs.Patterns.{objectsBelow}
 use Rattle.lowering.specs.Keys.{keyTemporaries}
-use Rattle.sink.specs.Machine.{Event, State, step, steps, lists}
+use Rattle.sink.specs.Machine.{State, step, steps, lists}
 use Rattle.sink.specs.Machine.Event.{listed, listedTemporary, entry}
 use Rattle.direct.specs.Events.{cell, cellOf}
 use Rattle.pattern.specs.Tally.{limited}
 use Rattle.pattern.specs.Objects.{throughObjects, found}
-use Rattle.rest_spread.specs.Target.{keyBytes, handedEvents, handedBy, handsOut, topHands, nestedHands, targetEvents, topEvents, nestedEvents}
+use Rattle.rest_spread.specs.Target.{keyBytes, handedEvents, handedBy, targetHands, topHands, nestedHands, targetEvents, topEvents, nestedEvents}
 use Rattle.rest_spread.proofs.Handing.{handed-each}
 use Rattle.rest_spread.proofs.Targets.{nothing-done}
 
@@ -59,8 +57,8 @@ empty-some (item n is) e = refl
 
 -- ---- an assignment to an object with rest
 
-pub top-handed : (c : Context) (p : Node) → handsOut c false p ≡ gather (keyTemporaries c) (throughObjects p)
-unfolding handsOut handedBy found
+pub top-handed : (c : Context) (p : Node) → targetHands c false p ≡ gather (keyTemporaries c) (throughObjects p)
+unfolding targetHands handedBy found
 top-handed c p = refl
 
 module _ (l : List ℕ) (d : ℕ) (c : Context) (m : ℕ) (p : Node) where
@@ -71,15 +69,15 @@ module _ (l : List ℕ) (d : ℕ) (c : Context) (m : ℕ) (p : Node) where
   pub top-out : (at n v : ℕ) (s s₁ s₂ s₃ s₄ : State) → position p ≡ at → n ≡ limited (count (gather (keyTemporaries c) (throughObjects p))) → s₁ ≡ step s (entry m (1 + n)) → s₂ ≡ steps s₁ (lists (5 ∷ 1 ∷ [])) → ((x : State) → step x (listedTemporary v) ≡ step x (listedTemporary (cell 3 at))) → s₃ ≡ step s₂ (listedTemporary v) → s₄ ≡ steps s₃ (targetEvents l d c false p) → s₄ ≡ steps s (topEvents l d c m p)
   unfolding topEvents steps lists
   top-out at n v s s₁ s₂ s₃ s₄ i k e f w g h =
-      let b : limited (count (handsOut c false p)) ≡ n = ap (λ (x : Items). limited (count x)) (top-handed c p) ∙ sym k in
+      let b : limited (count (targetHands c false p)) ≡ n = ap (λ (x : Items). limited (count x)) (top-handed c p) ∙ sym k in
       h ∙ ap (λ (x : State). steps x (targetEvents l d c false p))
       (g ∙ w s₂ ∙ ap (λ (x : State). step x (listedTemporary (cell 3 at))) (f ∙ ap (λ (x : State). step (step x (listed 5)) (listed 1)) (e ∙ ap (λ (x : ℕ). step s (entry m (1 + x))) (sym b))))
-      ∙ ap (steps (step s (entry m (1 + limited (count (handsOut c false p)))))) (sym (made-value at i))
+      ∙ ap (steps (step s (entry m (1 + limited (count (targetHands c false p)))))) (sym (made-value at i))
 
   -- ---- any other assignment
 
   nested-is : handedEvents (keyBytes l d) (nestedHands c p) ≡ targetEvents l d c true p
-  unfolding nestedHands targetEvents handsOut handedBy found
+  unfolding nestedHands targetEvents targetHands handedBy found
   nested-is = handed-each (keyBytes l d) (λ q. declared (reference c q)) (objectsBelow c p)
 
   nested-count : count (nestedHands c p) ≡ count (objectsBelow c p)

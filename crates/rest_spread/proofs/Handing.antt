@@ -1,34 +1,30 @@
 -- Declarators that are handed out, as events: one list after another, and what is found below a target by its shape.
 -- Assumes nothing.
 use mathlib.Core.Path.{_≡_, refl, sym, ap, ap₂, _∙_, fun-ext}
-use mathlib.Core.Bool.{Bool, true, false, cond, _&&_}
+use mathlib.Core.Bool.{Bool, true, false, cond}
 use mathlib.Core.List.{List, [], _∷_, _++_, append-assoc, append-nil}
-use Prim.Native.Nat.{ℕ, zero, suc, _+_, _-_, _<_, _≤_}
+use Prim.Native.Nat.{ℕ, zero, suc, _-_, _<_, _≤_}
 use native.Mathlib.Omega.{arith}
-use lib.Dec.{eqb}
-use Rattle.tree.specs.Tree.{Node, Fields, Piece, Items, count, depth, depthFields}
+use Rattle.tree.specs.Tree.{Node, Items, depth, depthFields}
 use Rattle.tree.specs.Tree.Node.{node}
-use Rattle.tree.specs.Tree.Fields.{done, absent, field}
 use Rattle.tree.specs.Tree.Items.{none, hole, item}
-use Rattle.tree.specs.Read.{byteAt}
 use Rattle.tree.specs.Look.{lookItem, lookItems, lookNode}
-use Rattle.lowering.specs.Parts.{nothing, position, kind, change, nodeAt, itemsAt, pieceIn, stands, only, each, gather, _+++_}
-use Rattle.lowering.specs.Made.{Context, declared, reference}
-use Rattle.lowering.specs.Patterns.{shape, properties, itemsOf, hasRest, leftOf, value, withValues, replaced, objectsWithRest, objectsBelow}
+use Rattle.lowering.specs.Parts.{nothing, position, change, stands, only, each, gather, _+++_}
+use Rattle.lowering.specs.Made.{Context, temporary, declared, idOf}
+use Rattle.lowering.specs.Patterns.{shape, properties, itemsOf, hasRest, leftOf, value, withValues, replaced, objectsWithRest}
 use Rattle.lowering.specs.Patterns.Shape.{objectPattern, arrayPattern, default, leaf}
-use Rattle.lowering.specs.Keys.{keyTemporary, keyTemporaries}
 use Rattle.lowering.specs.Assignments.{restsThroughObjects}
 use Rattle.lowering.proofs.Levels.{objects-levels, rests-levels}
-use Rattle.sink.specs.Machine.{Event, State, stateOf, step, steps, lists}
-use Rattle.sink.specs.Machine.Event.{listed, listedTemporary, entry}
+use Rattle.sink.specs.Machine.{Event, State, steps, lists}
+use Rattle.sink.specs.Machine.Event.{listed, listedTemporary}
 use Rattle.sink.proofs.Laws.{steps-append}
 use Rattle.pattern.specs.Tally.{sum}
-use Rattle.pattern.specs.Objects.{throughObjects, found}
+use Rattle.pattern.specs.Objects.{found}
 use Rattle.pattern.proofs.Adding.{Adding, sumOf, itemSum, listSum, sum-append, sum-gather, sum-more}
 use Rattle.pattern.proofs.Below.{node-free, gather-free, gather-values}
 use Rattle.pattern.proofs.Places.{Blank}
 use Rattle.direct.specs.Events.{cellOf}
-use Rattle.rest_spread.specs.Target.{keyBytes, handedEvents, handedBy, handsOut, keyEvents, keysEvents, ownEvents, targetEvents, objectEvents, arrayEvents}
+use Rattle.rest_spread.specs.Target.{keyBytes, handedEvents, handedBy, targetHands, ownEvents, targetEvents, objectEvents, arrayEvents}
 
 -- ---- events one after another
 
@@ -41,9 +37,9 @@ module _ (v : ℕ → List ℕ) where
   handed-append none es = refl
   handed-append (hole ds) es = handed-append ds es
   handed-append (item d ds) es =
-      ap (λ (x : List Event). listed 5 ∷ listed (cond (stands 1 d) 3 1) ∷ listedTemporary (cellOf (Rattle.lowering.specs.Made.idOf d)) ∷ x)
-      (ap (λ (x : List Event). cond (stands 1 d) (lists (v (position (Rattle.lowering.specs.Made.idOf d)))) [] ++ x) (handed-append ds es)
-      ∙ sym (append-assoc (cond (stands 1 d) (lists (v (position (Rattle.lowering.specs.Made.idOf d)))) []) (handedEvents v ds) (handedEvents v es)))
+      ap (λ (x : List Event). listed 5 ∷ listed (cond (stands 1 d) 3 1) ∷ listedTemporary (cellOf (idOf d)) ∷ x)
+      (ap (λ (x : List Event). cond (stands 1 d) (lists (v (position (idOf d)))) [] ++ x) (handed-append ds es)
+      ∙ sym (append-assoc (cond (stands 1 d) (lists (v (position (idOf d)))) []) (handedEvents v ds) (handedEvents v es)))
 
   pub handed-gather : (f : Node → Items) (is : Items) → handedEvents v (gather f is) ≡ sumOf events (λ n. handedEvents v (f n)) is
   unfolding handedEvents gather sum
@@ -57,7 +53,7 @@ module _ (v : ℕ → List ℕ) where
   handed-each f none = refl
   handed-each f (hole is) = handed-each f is
   handed-each f (item n is) =
-      ap (λ (x : List Event). listed 5 ∷ listed (cond (stands 1 (f n)) 3 1) ∷ listedTemporary (cellOf (Rattle.lowering.specs.Made.idOf (f n))) ∷ cond (stands 1 (f n)) (lists (v (position (Rattle.lowering.specs.Made.idOf (f n))))) [] ++ x)
+      ap (λ (x : List Event). listed 5 ∷ listed (cond (stands 1 (f n)) 3 1) ∷ listedTemporary (cellOf (idOf (f n))) ∷ cond (stands 1 (f n)) (lists (v (position (idOf (f n))))) [] ++ x)
       (handed-each f is)
 
 -- ---- steps of the output, one list of events after another
@@ -102,16 +98,16 @@ module _ (l : List ℕ) (d : ℕ) (c : Context) where
   theirs a is = sumOf events (its a) is
 
   pub target-is : (a : Bool) (p : Node) → targetEvents l d c a p ≡ theirs a (found c a p)
-  unfolding targetEvents handsOut
+  unfolding targetEvents targetHands
   target-is a p = handed-gather (keyBytes l d) (handedBy c a) (found c a p)
 
   pub target-blank : (a : Bool) → Blank (targetEvents l d c a)
-  unfolding targetEvents handsOut found gather handedEvents objectsWithRest restsThroughObjects shape depth
+  unfolding targetEvents targetHands found gather handedEvents objectsWithRest restsThroughObjects shape depth
   target-blank true at = refl
   target-blank false at = refl
 
   pub target-nothing : (a : Bool) → targetEvents l d c a nothing ≡ []
-  unfolding targetEvents handsOut found gather handedEvents objectsWithRest restsThroughObjects shape depth
+  unfolding targetEvents targetHands found gather handedEvents objectsWithRest restsThroughObjects shape depth
   target-nothing true = refl
   target-nothing false = refl
 
@@ -123,7 +119,7 @@ module _ (l : List ℕ) (d : ℕ) (c : Context) where
   own-replaced f p = go (hasRest p)
     where
       go : (b : Bool) → theirs true (cond b (only (withValues f p)) none) ≡ cond b (its true p) []
-      go true = append-nil (its true (withValues f p)) ∙ ap (λ (x : ℕ). handedEvents (keyBytes l d) (only (declared (Rattle.lowering.specs.Made.temporary (c .path) 1 x)))) (position-kept f p)
+      go true = append-nil (its true (withValues f p)) ∙ ap (λ (x : ℕ). handedEvents (keyBytes l d) (only (declared (temporary (c .path) 1 x)))) (position-kept f p)
       go false = refl
 
   own-only : (p : Node) → theirs false (cond (hasRest p) (only p) none) ≡ ownEvents l d c false p

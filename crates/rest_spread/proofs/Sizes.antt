@@ -1,20 +1,18 @@
 -- No more is handed out than the target has bytes.
 -- Assumes nothing.
-use mathlib.Core.Path.{_≡_, refl, sym, ap, ap₂, _∙_}
+use mathlib.Core.Path.{_≡_, refl}
 use mathlib.Core.Bool.{Bool, true, false, cond}
-use mathlib.Core.List.{List, [], _∷_, _++_}
 use Prim.Native.Nat.{ℕ, zero, suc, _+_, _≤_}
 use native.Mathlib.Omega.{arith}
 use lib.ListN.{length, length-append}
-use Rattle.tree.specs.Tree.{Node, Fields, Piece, Items, count, encode, encodeFields, encodePiece, encodeItems, mapOf, wideBytes, depth}
+use Rattle.tree.specs.Tree.{Node, Fields, Piece, Items, count, encode, encodeFields, encodePiece, encodeItems, wideBytes, depth}
 use Rattle.tree.specs.Tree.Node.{node}
 use Rattle.tree.specs.Tree.Fields.{done, absent, field}
 use Rattle.tree.specs.Tree.Piece.{one, list, text, byte, mark, number}
 use Rattle.tree.specs.Tree.Items.{none, hole, item}
 use Rattle.lowering.specs.Parts.{nothing, pieceIn, asNode, asItems, nodeAt, itemsAt, only, gather, _+++_}
 use Rattle.lowering.specs.Made.{Context}
-use Rattle.lowering.specs.Patterns.{shape, properties, itemsOf, hasRest, leftOf, value, key, withValues, replaced, objectsWithRest, objectsBelow}
-use Rattle.lowering.specs.Patterns.Shape.{objectPattern, arrayPattern, default, leaf}
+use Rattle.lowering.specs.Patterns.{shape, properties, itemsOf, hasRest, value, key, withValues, replaced, objectsWithRest, objectsBelow}
 use Rattle.lowering.specs.Keys.{keySort, keyTemporary, keyTemporaries}
 use Rattle.lowering.specs.Assignments.{restsThroughObjects}
 use Rattle.pattern.specs.Objects.{throughObjects}

@@ -2,41 +2,37 @@
 -- Assumes nothing.
 use mathlib.Core.Path.{_≡_, refl, sym, ap, ap₂, _∙_}
 use mathlib.Core.Bool.{Bool, true, false, cond, _&&_}
-use mathlib.Core.List.{List, [], _∷_, _++_, append-nil}
-use Prim.Native.Nat.{ℕ, zero, suc, _+_, _-_, _<_, _≤_, min}
+use mathlib.Core.List.{List, [], _∷_, append-nil}
+use Prim.Native.Nat.{ℕ, zero, suc, _+_, _-_, _<_, _≤_}
 use native.Mathlib.Nat.{add-zero}
 use native.Mathlib.Omega.{arith}
-use lib.Dec.{eqb, ltb}
-use borrow.Author.Tests.{le-ltb, eq-eqb, ne-eqb}
-use Rattle.tree.specs.Tree.{Node, Items, count}
+use lib.Dec.{eqb}
+use borrow.Author.Tests.{le-ltb}
+use Rattle.tree.specs.Tree.{Node, count}
 use Rattle.tree.specs.Tree.Node.{node}
 use Rattle.tree.specs.Tree.Fields.{done}
-use Rattle.tree.specs.Tree.Items.{none, hole, item}
 use Rattle.tree.specs.Read.{byteAt}
-use Rattle.tree.specs.Look.{onward, lookItem, lookItems, lookNode}
-use Rattle.lowering.specs.Parts.{nothing, position, pieceIn, standsIn, nodeAt, itemsAt, numberAt, stands, only, each, gather, any, isEmpty, _+++_}
-use Rattle.lowering.specs.Made.{Context, declares, declared, idOf, keyOf, reference, valueOf}
-use Rattle.lowering.specs.Patterns.{shape, properties, itemsOf, hasRest, leftOf, value, key, objectsBelow}
-use Rattle.lowering.specs.Keys.{keySort, keyTemporary, keyTemporaries, anyLacksForm}
-use Rattle.sink.specs.Machine.{Event, State, stateOf, step, steps, lists, part, listedAt, setCell, setCellIn}
-use Rattle.sink.specs.Machine.Event.{listed, listedTemporary, entry}
-use Rattle.sink.proofs.Laws.{steps-append}
-use Rattle.sink.specs.declared.Sink.{Sink}
+use Rattle.tree.specs.Look.{onward, lookItem, lookNode}
+use Rattle.lowering.specs.Parts.{position, pieceIn, standsIn, nodeAt, itemsAt, numberAt, stands, only}
+use Rattle.lowering.specs.Made.{Context, declares, declared, keyOf, reference}
+use Rattle.lowering.specs.Patterns.{properties, value, key}
+use Rattle.lowering.specs.Keys.{keySort, keyTemporary, keyTemporaries}
+use Rattle.sink.specs.Machine.{Event, State, step, steps, lists, part, setCell, setCellIn}
+use Rattle.sink.specs.Machine.Event.{listed, listedTemporary}
 use Rattle.direct.specs.Events.{cell, cellOf}
 use Rattle.pattern.specs.declared.parts.Place.{Place}
 use Rattle.pattern.specs.declared.parts.Run.{Run}
 use Rattle.pattern.specs.declared.tally.Tally.{Tally}
 use Rattle.pattern.specs.Parts.{partAt, itemPlace, placeOf, runOf, nodeHere}
 use Rattle.pattern.specs.Tally as tally
-use Rattle.pattern.specs.Tally.{limited, sum}
+use Rattle.pattern.specs.Tally.{sum}
 use Rattle.pattern.specs.Keys.{keyTally, itemKeys}
-use Rattle.pattern.specs.Objects.{throughObjects, found}
-use Rattle.pattern.proofs.Adding.{Adding, sumOf, itemSum, listSum, item-place}
+use Rattle.pattern.proofs.Adding.{sumOf, listSum, item-place}
 use Rattle.pattern.proofs.Below as below
 use Rattle.pattern.proofs.KeyCases.{by-sort}
-use Rattle.pattern.proofs.Places.{Blank, child-is, child-below, list-is, kind-is, no-levels}
-use Rattle.rest_spread.specs.Target.{keyBytes, handedEvents, handedBy, handsOut, topHands, nestedHands, keyEvents, keysEvents, ownEvents, targetEvents, objectEvents, arrayEvents, topEvents, nestedEvents}
-use Rattle.rest_spread.proofs.Handing.{events, handed-append, handed-gather, handed-each, in-turn, list-more, list-end, target-blank, target-nothing, target-object, target-array, target-unentered, target-default, target-leaf}
+use Rattle.pattern.proofs.Places.{child-is, child-below, list-is, kind-is, no-levels}
+use Rattle.rest_spread.specs.Target.{keyBytes, handedEvents, handedBy, keyEvents, keysEvents, ownEvents, targetEvents, objectEvents, arrayEvents}
+use Rattle.rest_spread.proofs.Handing.{events, handed-gather, in-turn, list-more, list-end, target-blank, target-nothing, target-object, target-array, target-unentered, target-default, target-leaf}
 
 pub nothing-done : (s : State) (es : List Event) → es ≡ [] → s ≡ steps s es
 unfolding steps

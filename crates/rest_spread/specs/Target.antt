@@ -44,12 +44,12 @@ handedBy c true p = only (declared (reference c p))
 handedBy c false p = keyTemporaries c p
 
 -- for all that are found below a target
-unfoldable pub handsOut : Context → Bool → Node → Items
-handsOut c arrays p = gather (handedBy c arrays) (found c arrays p)
+unfoldable pub targetHands : Context → Bool → Node → Items
+targetHands c arrays p = gather (handedBy c arrays) (found c arrays p)
 
 -- an assignment to an object with rest, of the target p: the value's temporary before these
 unfoldable pub topHands : Context → Node → Items
-topHands c p = item (declared (valueOf c p)) (handsOut c false p)
+topHands c p = item (declared (valueOf c p)) (targetHands c false p)
 
 -- an assignment to any other target
 unfoldable pub nestedHands : Context → Node → Items
@@ -72,7 +72,7 @@ module _ (l : List ℕ) (d : ℕ) (c : Context) where
 
   -- a target
   unfoldable pub targetEvents : Bool → Node → List Event
-  targetEvents arrays p = handedEvents (keyBytes l d) (handsOut c arrays p)
+  targetEvents arrays p = handedEvents (keyBytes l d) (targetHands c arrays p)
 
   -- a target as an object, and as an array
   unfoldable pub objectEvents : Bool → Node → List Event
@@ -83,7 +83,7 @@ module _ (l : List ℕ) (d : ℕ) (c : Context) where
 
   -- the entry of an assignment to an object with rest, before the statement with the mark m
   unfoldable pub topEvents : ℕ → Node → List Event
-  topEvents m p = entry m (1 + limited (count (handsOut c false p))) ∷ handedEvents (keyBytes l d) (topHands c p)
+  topEvents m p = entry m (1 + limited (count (targetHands c false p))) ∷ handedEvents (keyBytes l d) (topHands c p)
 
   -- that of an assignment to any other target
   unfoldable pub nestedEvents : ℕ → Node → List Event

@@ -1,0 +1,456 @@
+-- Refusals 5 and 6 are met where document 01's table says so, and nowhere else.
+-- Assumes nothing.
+use mathlib.Core.Path.{_≡_, refl, sym, ap, _∙_}
+use mathlib.Core.Bool.{Bool, true, false, cond, _||_}
+use mathlib.Core.List.{List, [], _∷_, _++_}
+use mathlib.Core.Logic.{_⊎_, ⊎-elim}
+use mathlib.Core.Logic._⊎_.{inl, inr}
+use Prim.Native.Nat.{ℕ, zero, suc, _+_, _≤_, _<_}
+use native.Mathlib.Omega.{arith}
+use lib.Dec.{eqb, ltb}
+use borrow.Author.Tests.{eqb-true, le-ltb}
+use Rattle.tree.specs.Tree.{Node, Fields, Piece, Items}
+use Rattle.tree.specs.Tree.Node.{node}
+use Rattle.tree.specs.Grammar.Stage.{input}
+use Rattle.tree.specs.Read.{Got, readTree}
+use Rattle.tree.specs.Read.Got.{got, refused}
+use Rattle.tree.specs.Read.Refusal.{notATree, tooDeep}
+use Rattle.lowering.specs.Made.{Context}
+use Rattle.lowering.specs.Parts.{kind, is, nodeAt}
+use Rattle.lowering.specs.Patterns.{hasObjectRest, hasArrayRestOverObjectRest}
+use Rattle.lowering.specs.Declarations.{declarationLacksForm}
+use Rattle.lowering.specs.Assignments.{isTop, target, topLacksForm}
+use Rattle.lowering.specs.Walk.{Note, Walked, Rule, ruleOf, rewrite, within, eachItem, eachPiece, eachField, inside, walk, stepDeclaration, stepTop, stepAssignment, stepFor}
+use Rattle.lowering.specs.Walk.Rule.{literals, declarations, assignments, functions, arrows, catches, fors, nowhere}
+use Rattle.lowering.specs.Weight.{weight, walked}
+use Rattle.lowering.specs.Collect.{Visit, newIn, newInPiece, isContainer, markOf, marked, visits, visitsFields, visitsPiece, visitsItems, bare, firstRefusal, entries, excludedIn}
+use Rattle.lowering.specs.Answer.{Lent, Result, fits, fitted, collected, afterWalk, top, afterReading, lowering, outcomeOf, outcome, levels}
+use Rattle.lowering.specs.Answer.Result.{refusal, lowered}
+use Rattle.lowering.specs.Table.{Meets, MeetsIn, MeetsField, MeetsPiece, MeetsItem, TreeMeets, Five, Six}
+use Rattle.lowering.specs.Table.Meets.{here, below}
+use Rattle.lowering.proofs.Cases.{by-test, by-rule, or-other}
+use Rattle.lowering.proofs.Falls.{walked-is}
+use Rattle.lowering.proofs.Answers.{ByWalk, walk-refuses}
+
+-- ---- the first refusal of two lists
+
+-- of a list whose first note has the refusal k, which b says is 0, and whose other notes have the first refusal m
+abbrev choice : Bool → ℕ → ℕ → ℕ
+choice b k m = elim b [ true ↦ m | false ↦ k ]
+
+abbrev firstOf : ℕ → ℕ → ℕ
+firstOf k m = choice (eqb k 0) k m
+
+of-either : (r k m : ℕ) → firstOf k m ≡ r → (k ≡ r) ⊎ (m ≡ r)
+of-either r k m e = go (eqb k 0) e
+  where
+    go : (b : Bool) → choice b k m ≡ r → (k ≡ r) ⊎ (m ≡ r)
+    go true e = inr e
+    go false e = inl e
+
+-- a refusal that is not 0 is the first
+of-first : (k m : ℕ) → 0 < k → 0 < firstOf k m
+of-first k m h = go (eqb k 0) (eqb-true k 0)
+  where
+    go : (b : Bool) → (b ≡ true → k ≡ 0) → 0 < choice b k m
+    go true z = let e = z refl in absurd (omega arith)
+    go false z = h
+
+of-rest : (k m : ℕ) → 0 < m → 0 < firstOf k m
+of-rest zero m h = h
+of-rest (suc k) m h = of-first (suc k) m (omega arith)
+
+first-in : (r : ℕ) (us vs : List Visit) → firstRefusal (us ++ vs) ≡ r → (firstRefusal us ≡ r) ⊎ (firstRefusal vs ≡ r)
+unfolding firstRefusal
+first-in r [] vs e = inr e
+first-in r (u ∷ us) vs e = go (eqb (u .note .refusal) 0) (first-in r us vs) e
+  where
+    k : ℕ
+    k = u .note .refusal
+
+    go : (b : Bool) → (firstRefusal (us ++ vs) ≡ r → (firstRefusal us ≡ r) ⊎ (firstRefusal vs ≡ r))
+        → choice b k (firstRefusal (us ++ vs)) ≡ r → (choice b k (firstRefusal us) ≡ r) ⊎ (firstRefusal vs ≡ r)
+    go true h e = h e
+    go false h e = inl e
+
+first-left : (us vs : List Visit) → 0 < firstRefusal us → 0 < firstRefusal (us ++ vs)
+unfolding firstRefusal
+first-left [] vs h = absurd (omega arith)
+first-left (u ∷ us) vs h = go (eqb (u .note .refusal) 0) (first-left us vs) h
+  where
+    k : ℕ
+    k = u .note .refusal
+
+    go : (b : Bool) → (0 < firstRefusal us → 0 < firstRefusal (us ++ vs)) → 0 < choice b k (firstRefusal us) → 0 < choice b k (firstRefusal (us ++ vs))
+    go true f h = f h
+    go false f h = h
+
+first-right : (us vs : List Visit) → 0 < firstRefusal vs → 0 < firstRefusal (us ++ vs)
+unfolding firstRefusal
+first-right [] vs h = h
+first-right (u ∷ us) vs h = of-rest (u .note .refusal) (firstRefusal (us ++ vs)) (first-right us vs h)
+
+-- ---- the first refusal of a walk is one of a node that it meets
+
+module _ (P : Context → Node → Type 0) (r : ℕ) (refuses : 0 < r) where
+  -- what is refused by r has met a node of which P holds
+  abbrev From : Walked → Context → Node → Type 0
+  From w c n = (next m : ℕ) → firstRefusal (visits next m w) ≡ r → Meets P c n
+
+  from-items : (w : ℕ → Node → Walked) (place : ℕ → Context) → ((j : ℕ) (n : Node) → From (w j n) (place j) n)
+      → (is : Items) (j : ℕ) (l : Bool) (next m : ℕ) → firstRefusal (visitsItems l next m (eachItem w j is)) ≡ r → MeetsItem P place j is
+  unfolding eachItem visits firstRefusal
+  from-items w place h Items.none j l next m e = absurd (omega arith)
+  from-items w place h (Items.hole is) j l next m e = MeetsItem.hole (from-items w place h is (suc j) l next m e)
+  from-items w place h (Items.item n is) j l next m e =
+      let here = cond l (marked next (markOf (w j n))) m in
+      let after = next + newIn (w j n) in
+      ⊎-elim
+      (λ a. MeetsItem.first (h j n next here a))
+      (λ b. MeetsItem.after (from-items w place h is (suc j) l after m b))
+      (first-in r (visits next here (w j n)) (visitsItems l after m (eachItem w (suc j) is)) e)
+
+  from-piece : (w : ℕ → Node → Walked) (place : ℕ → Context) → ((j : ℕ) (n : Node) → From (w j n) (place j) n)
+      → (p : Piece) (l : Bool) (next m : ℕ) → firstRefusal (visitsPiece l next m (eachPiece w p)) ≡ r → MeetsPiece P place p
+  unfolding eachPiece visits firstRefusal
+  from-piece w place h (Piece.one n) l next m e = MeetsPiece.one (h 0 n next m e)
+  from-piece w place h (Piece.list is) l next m e = MeetsPiece.list (from-items w place h is 0 l next m e)
+  from-piece w place h (Piece.text bs) l next m e = absurd (omega arith)
+  from-piece w place h (Piece.byte b) l next m e = absurd (omega arith)
+  from-piece w place h (Piece.mark b) l next m e = absurd (omega arith)
+  from-piece w place h (Piece.number b) l next m e = absurd (omega arith)
+
+  from-fields : (w : ℕ → ℕ → Node → Walked) (place : ℕ → ℕ → Context) → ((i j : ℕ) (n : Node) → From (w i j n) (place i j) n)
+      → (fs : Fields) (i : ℕ) (l : Bool) (next m : ℕ) → firstRefusal (visitsFields l next m (eachField w i fs)) ≡ r → MeetsField P place i fs
+  unfolding eachField visits firstRefusal
+  from-fields w place h Fields.done i l next m e = absurd (omega arith)
+  from-fields w place h (Fields.absent fs) i l next m e = MeetsField.absent (from-fields w place h fs (suc i) l next m e)
+  from-fields w place h (Fields.field p fs) i l next m e =
+      let after = next + newInPiece (eachPiece (w i) p) in
+      ⊎-elim
+      (λ a. MeetsField.this (from-piece (w i) (place i) (h i) p l next m a))
+      (λ b. MeetsField.later (from-fields w place h fs (suc i) l after m b))
+      (first-in r (visitsPiece l next m (eachPiece (w i) p)) (visitsFields l after m (eachField w (suc i) fs)) e)
+
+  from-node : (note : Note) (w : ℕ → ℕ → Node → Walked) (place : ℕ → ℕ → Context) → ((i j : ℕ) (n : Node) → From (w i j n) (place i j) n)
+      → (n : Node) (next m : ℕ) → firstRefusal (visits next m (inside note w n)) ≡ r → (note .refusal ≡ r) ⊎ MeetsIn P place n
+  unfolding inside visits firstRefusal
+  from-node note w place h (node at k fs) next m e =
+      ⊎-elim
+      (λ a. inl a)
+      (λ b. inr (MeetsIn.parts (from-fields w place h fs 0 (isContainer k) next m b)))
+      (of-either r (note .refusal) (firstRefusal (visitsFields (isContainer k) next m (eachField w 0 fs))) e)
+
+  module _ (step : (c : Context) (n : Node) → rewrite c n .note .refusal ≡ r → P c n) where
+    from-walk : (f : ℕ) (c : Context) (n : Node) → From (walk f c n) c n
+    unfolding walk visits firstRefusal
+    from-walk zero c n next m e = absurd (omega arith)
+    from-walk (suc f) c n next m e =
+        let s = rewrite c n in
+        ⊎-elim
+        (λ a. here (step c n a))
+        (λ b. below b)
+        (from-node (s .note) (λ i j k. walk f (within c (s .result) i j) k) (within c (s .result))
+        (λ i j k. from-walk f (within c (s .result) i j) k) (s .result) next m e)
+
+    -- a walk that is refused by r meets a node of which P holds, if P holds of the nodes whose rewriting refuses by r
+    pub refused-where : (c : Context) (n : Node) (next m : ℕ) → firstRefusal (visits next m (walked c n)) ≡ r → Meets P c n
+    unfolding walked
+    refused-where c n next m e = from-walk (weight n) c n next m e
+
+-- ---- a walk that meets a node that is refused is refused
+
+module _ (P : Context → Node → Type 0) (step : (c : Context) (n : Node) → P c n → 0 < rewrite c n .note .refusal) where
+  -- the walk of the parts of a node that stand at these places
+  abbrev at-place : (ℕ → ℕ → Context) → ℕ → ℕ → Node → Walked
+  at-place place i j m = walked (place i j) m
+
+  note-refused : (note : Note) (w : ℕ → ℕ → Node → Walked) (n : Node) → 0 < note .refusal → (next m : ℕ) → 0 < firstRefusal (visits next m (inside note w n))
+  unfolding inside visits firstRefusal
+  note-refused note w (node at k fs) h next m = of-first (note .refusal) (firstRefusal (visitsFields (isContainer k) next m (eachField w 0 fs))) h
+
+  mutual
+    unfolding inside eachField eachPiece eachItem visits firstRefusal
+
+    pub meets-refused : {c : Context} {n : Node} → Meets P c n → (next m : ℕ) → 0 < firstRefusal (visits next m (walked c n))
+    meets-refused {c} {n} (here p) next m =
+        let s = rewrite c n in
+        rw (walked-is c n) (note-refused (s .note) (at-place (within c (s .result))) (s .result) (step c n p) next m)
+    meets-refused {c} {n} (below h) next m = rw (walked-is c n) (in-refused (rewrite c n .note) h next m)
+
+    in-refused : (note : Note) {place : ℕ → ℕ → Context} {n : Node} → MeetsIn P place n → (next m : ℕ) → 0 < firstRefusal (visits next m (inside note (at-place place) n))
+    in-refused note (MeetsIn.parts {place} {at} {k} {fs} h) next m =
+        of-rest (note .refusal) (firstRefusal (visitsFields (isContainer k) next m (eachField (at-place place) 0 fs))) (field-refused h (isContainer k) next m)
+
+    field-refused : {place : ℕ → ℕ → Context} {i : ℕ} {fs : Fields} → MeetsField P place i fs → (l : Bool) (next m : ℕ)
+        → 0 < firstRefusal (visitsFields l next m (eachField (at-place place) i fs))
+    field-refused (MeetsField.absent h) l next m = field-refused h l next m
+    field-refused (MeetsField.this {place} {i} {p} {fs} h) l next m = first-left (visitsPiece l next m (eachPiece (at-place place i) p)) _ (piece-refused h l next m)
+    field-refused (MeetsField.later {place} {i} {p} {fs} h) l next m =
+        first-right (visitsPiece l next m (eachPiece (at-place place i) p)) _ (field-refused h l (next + newInPiece (eachPiece (at-place place i) p)) m)
+
+    piece-refused : {place : ℕ → Context} {p : Piece} → MeetsPiece P place p → (l : Bool) (next m : ℕ)
+        → 0 < firstRefusal (visitsPiece l next m (eachPiece (λ j k. walked (place j) k) p))
+    piece-refused (MeetsPiece.one h) l next m = meets-refused h next m
+    piece-refused (MeetsPiece.list h) l next m = item-refused h l next m
+
+    item-refused : {place : ℕ → Context} {j : ℕ} {is : Items} → MeetsItem P place j is → (l : Bool) (next m : ℕ)
+        → 0 < firstRefusal (visitsItems l next m (eachItem (λ j k. walked (place j) k) j is))
+    item-refused (MeetsItem.hole h) l next m = item-refused h l next m
+    item-refused (MeetsItem.first {place} {j} {n} {is} h) l next m =
+        first-left (visits next (cond l (marked next (markOf (walked (place j) n))) m) (walked (place j) n)) _
+        (meets-refused h next (cond l (marked next (markOf (walked (place j) n))) m))
+    item-refused (MeetsItem.after {place} {j} {n} {is} h) l next m =
+        first-right (visits next (cond l (marked next (markOf (walked (place j) n))) m) (walked (place j) n)) _
+        (item-refused h l (next + newIn (walked (place j) n)) m)
+
+-- ---- the kinds of the rules that refuse
+
+-- what a rule says of the tests of the kind: 4, 27, and 7 or 8
+abbrev Kinds : Rule → Bool → Bool → Bool → Type 0
+Kinds literals d a o = Unit {0}
+Kinds declarations d a o = d ≡ true
+Kinds assignments d a o = a ≡ true
+Kinds functions d a o = Unit {0}
+Kinds arrows d a o = Unit {0}
+Kinds catches d a o = Unit {0}
+Kinds fors d a o = o ≡ true
+Kinds nowhere d a o = Unit {0}
+
+kinds : (k : ℕ) → Kinds (ruleOf k) (eqb k 4) (eqb k 27) (eqb k 7 || eqb k 8)
+unfolding ruleOf
+kinds k = go (eqb k 24) (eqb k 4) (eqb k 27) (eqb k 14) (eqb k 17) (eqb k 10) (eqb k 7 || eqb k 8)
+  where
+    go : (l d a f r c o : Bool)
+        → Kinds (cond l literals (cond d declarations (cond a assignments (cond f functions (cond r arrows (cond c catches (cond o fors nowhere))))))) d a o
+    go true d a f r c o = tt
+    go false true a f r c o = refl
+    go false false true f r c o = refl
+    go false false false true r c o = tt
+    go false false false false true c o = tt
+    go false false false false false true o = tt
+    go false false false false false false true = refl
+    go false false false false false false false = tt
+
+kinds-at : (n : Node) (r : Rule) → ruleOf (kind n) ≡ r → Kinds r (is 4 n) (is 27 n) (is 7 n || is 8 n)
+unfolding is
+kinds-at n r e = rw e at (kinds (kind n))
+
+rule-4 : (n : Node) → is 4 n ≡ true → ruleOf (kind n) ≡ declarations
+unfolding is ruleOf
+rule-4 n e = ap ruleOf (eqb-true (kind n) 4 e)
+
+rule-27 : (n : Node) → is 27 n ≡ true → ruleOf (kind n) ≡ assignments
+unfolding is ruleOf
+rule-27 n e = ap ruleOf (eqb-true (kind n) 27 e)
+
+rule-for : (n : Node) → is 7 n || is 8 n ≡ true → ruleOf (kind n) ≡ fors
+unfolding is ruleOf
+rule-for n h =
+    by-test (eqb (kind n) 7)
+    (λ e. ap ruleOf (eqb-true (kind n) 7 e))
+    (λ e. ap ruleOf (eqb-true (kind n) 8 (or-other (eqb (kind n) 7) (eqb (kind n) 8) e h)))
+
+-- ---- what the refusal of one rewriting says of the node
+
+-- where a rewriting refuses, by the number
+abbrev Says : Context → Node → ℕ → Type 0
+Says c n r = (r ≡ 5 → Five c n) × (r ≡ 6 → Six c n)
+
+module _ (c : Context) (n : Node) where
+  silent : Says c n 0
+  silent = (λ e. absurd (omega arith), λ e. absurd (omega arith))
+
+  says-five : Five c n → Says c n 5
+  says-five h = (λ e. h, λ e. absurd (omega arith))
+
+  says-six : Six c n → Says c n 6
+  says-six h = (λ e. absurd (omega arith), λ e. h)
+
+  declaration-says : is 4 n ≡ true → Says c n (stepDeclaration c n .note .refusal)
+  unfolding stepDeclaration
+  declaration-says k =
+      by-test (declarationLacksForm c n) (λ e. rw (e, stepDeclaration) (says-six (Six.declaration k e))) (λ e. rw (e, stepDeclaration) silent)
+
+  top-says : is 27 n ≡ true → hasArrayRestOverObjectRest (target n) ≡ false → isTop (target n) ≡ true → Says c n (stepTop c n .note .refusal)
+  unfolding stepTop
+  top-says k a t = by-test (topLacksForm n) (λ e. rw (e, stepTop) (says-six (Six.assignment k a t e))) (λ e. rw (e, stepTop) silent)
+
+  assignment-says : is 27 n ≡ true → Says c n (stepAssignment c n .note .refusal)
+  unfolding stepAssignment
+  assignment-says k =
+      by-test (hasArrayRestOverObjectRest (target n))
+      (λ a. rw (a, stepAssignment) (says-five (Five.assignment k a)))
+      (λ a. rw (a, stepAssignment)
+      (by-test (isTop (target n))
+      (λ t. rw t (top-says k a t))
+      (λ t. rw t (by-test (hasObjectRest (target n)) (λ h. rw h silent) (λ h. rw h silent)))))
+
+  for-says : is 7 n || is 8 n ≡ true → Says c n (stepFor c n .note .refusal)
+  unfolding stepFor
+  for-says k =
+      by-test (is 4 (nodeAt 1 n))
+      (λ d. rw (d, stepFor) silent)
+      (λ d. rw (d, stepFor) (by-test (hasArrayRestOverObjectRest (nodeAt 1 n)) (λ a. rw a (says-five (Five.head k d a))) (λ a. rw a silent)))
+
+  rewrite-says : Says c n (rewrite c n .note .refusal)
+  unfolding rewrite
+  rewrite-says =
+      by-rule (ruleOf (kind n))
+      (λ e. rw (e, rewrite) silent)
+      (λ e. rw (e, rewrite) (declaration-says (kinds-at n declarations e)))
+      (λ e. rw (e, rewrite) (assignment-says (kinds-at n assignments e)))
+      (λ e. rw (e, rewrite) silent)
+      (λ e. rw (e, rewrite) silent)
+      (λ e. rw (e, rewrite) silent)
+      (λ e. rw (e, rewrite) (for-says (kinds-at n fors e)))
+      (λ e. rw (e, rewrite) silent)
+
+  -- and what the node says of its rewriting
+  pub five-refuses : Five c n → rewrite c n .note .refusal ≡ 5
+  unfolding rewrite stepAssignment stepFor
+  five-refuses (Five.assignment k a) = rw (rule-27 n k, rewrite, a, stepAssignment) refl
+  five-refuses (Five.head k d a) = rw (rule-for n k, rewrite, d, stepFor, a) refl
+
+  pub six-refuses : Six c n → rewrite c n .note .refusal ≡ 6
+  unfolding rewrite stepDeclaration stepAssignment stepTop
+  six-refuses (Six.declaration k e) = rw (rule-4 n k, rewrite, e, stepDeclaration) refl
+  six-refuses (Six.assignment k a t e) = rw (rule-27 n k, rewrite, a, stepAssignment, t, e, stepTop) refl
+
+-- ---- the table's lines
+
+-- 5 is met only where an array rest with an object rest below it stands in a target
+pub five-where : (c : Context) (n : Node) (next m : ℕ) → firstRefusal (visits next m (walked c n)) ≡ 5 → Meets Five c n
+five-where c n next m e = refused-where Five 5 (omega arith) (λ d k. rewrite-says d k .0) c n next m e
+
+-- 6 is met only where an excluded key is a Literal without form
+pub six-where : (c : Context) (n : Node) (next m : ℕ) → firstRefusal (visits next m (walked c n)) ≡ 6 → Meets Six c n
+six-where c n next m e = refused-where Six 6 (omega arith) (λ d k. rewrite-says d k .1) c n next m e
+
+-- and where one of them stands the walk is refused
+pub refused-if : (c : Context) (n : Node) (next m : ℕ) → Meets Five c n ⊎ Meets Six c n → 0 < firstRefusal (visits next m (walked c n))
+refused-if c n next m h =
+    ⊎-elim
+    (λ f. meets-refused Five (λ d k q. let e = five-refuses d k q in omega arith) f next m)
+    (λ s. meets-refused Six (λ d k q. let e = six-refuses d k q in omega arith) s next m)
+    h
+
+-- 5 or 6 then
+five-or-six : (x : ℕ) → ByWalk x → 0 < x → (x ≡ 5) ⊎ (x ≡ 6)
+five-or-six x ByWalk.no h = absurd (omega arith)
+five-or-six x ByWalk.five h = inl refl
+five-or-six x ByWalk.six h = inr refl
+
+-- and where neither stands it is not
+pub accepted-if : (c : Context) (n : Node) (next m : ℕ) → (Meets Five c n → ⊥) → (Meets Six c n → ⊥) → firstRefusal (visits next m (walked c n)) ≡ 0
+accepted-if c n next m f s = go (firstRefusal (visits next m (walked c n))) (walk-refuses next m c n) (five-where c n next m) (six-where c n next m)
+  where
+    go : (x : ℕ) → ByWalk x → (x ≡ 5 → Meets Five c n) → (x ≡ 6 → Meets Six c n) → x ≡ 0
+    go x ByWalk.no a b = refl
+    go x ByWalk.five a b = absurd (f (a refl))
+    go x ByWalk.six a b = absurd (s (b refl))
+
+-- ---- the answer
+
+-- the answer that a result gives
+abbrev answerOf : Result → ℕ
+answerOf (refusal r) = r
+answerOf (lowered h o t l) = 0
+
+answer-is : (s : Lent) (x : Result) → outcomeOf s x .answer ≡ answerOf x
+unfolding outcomeOf
+answer-is s (refusal r) = refl
+answer-is s (lowered h o t l) = refl
+
+-- a number that is the walk's alone
+module _ (P : Context → Node → Type 0) (r : ℕ) (low : 4 < r) (high : r < 7)
+    (law : (n : Node) (next : ℕ) → firstRefusal (visits next 0 (walked top n)) ≡ r → Meets P top n) where
+  fitted-not : (s : Lent) (h o : ℕ) (t l : List ℕ) → answerOf (fitted s h o t l) ≡ r → ⊥
+  unfolding fitted
+  fitted-not s h o t l e = go (fits s t l) e
+    where
+      go : (b : Bool) → answerOf (cond b (lowered h o t l) (refusal 7)) ≡ r → ⊥
+      go true e = absurd (omega arith)
+      go false e = absurd (omega arith)
+
+  after-walk : (o : ℕ) (s : Lent) (next : ℕ) (n : Node) → answerOf (afterWalk o s next (walked top n)) ≡ r → Meets P top n
+  unfolding afterWalk collected
+  after-walk o s next n e = go (firstRefusal (visits next 0 (walked top n))) (law n next) e
+    where
+      w : Walked
+      w = walked top n
+
+      go : (x : ℕ) → (x ≡ r → Meets P top n) → answerOf (elim x [
+        | zero ↦ collected o s (bare next w) (entries (visits next 0 w)) (excludedIn (visits next 0 w))
+        | suc y ↦ refusal (suc y)
+      ]) ≡ r → Meets P top n
+      go zero h e = absurd (fitted-not s _ o _ _ e)
+      go (suc y) h e = h e
+
+  after-reading : (o : ℕ) (s : Lent) (tree : List ℕ) (g : Got Node) → readTree input levels tree ≡ g → answerOf (afterReading o s g) ≡ r → TreeMeets P tree
+  unfolding afterReading
+  after-reading o s tree (got n q next) h e = TreeMeets.accepted n q next h (after-walk o s next n e)
+  after-reading o s tree (refused notATree) h e = absurd (omega arith)
+  after-reading o s tree (refused tooDeep) h e = absurd (omega arith)
+
+  of-lowering : (o : ℕ) (tree : List ℕ) (s : Lent) → answerOf (lowering levels o tree s) ≡ r → TreeMeets P tree
+  unfolding lowering
+  of-lowering o tree s e = go (ltb 15 o) (ltb (s .workSlice) 65536) e
+    where
+      go : (a b : Bool) → answerOf (elim a [
+        | true ↦ refusal 1
+        | false ↦ elim b [ true ↦ refusal 2 | false ↦ afterReading o s (readTree input levels tree) ]
+      ]) ≡ r → TreeMeets P tree
+      go true b e = absurd (omega arith)
+      go false true e = absurd (omega arith)
+      go false false e = after-reading o s tree (readTree input levels tree) refl e
+
+  of-outcome : (o : ℕ) (tree : List ℕ) (s : Lent) → outcome o tree s .answer ≡ r → TreeMeets P tree
+  unfolding outcome
+  of-outcome o tree s e = of-lowering o tree s (sym (answer-is s (lowering levels o tree s)) ∙ e)
+
+-- 5 and 6 are answered only for a tree that is accepted and has what the table says
+pub answer-five : (o : ℕ) (tree : List ℕ) (s : Lent) → outcome o tree s .answer ≡ 5 → TreeMeets Five tree
+answer-five o tree s e = of-outcome Five 5 (omega arith) (omega arith) (λ n next. five-where top n next 0) o tree s e
+
+pub answer-six : (o : ℕ) (tree : List ℕ) (s : Lent) → outcome o tree s .answer ≡ 6 → TreeMeets Six tree
+answer-six o tree s e = of-outcome Six 6 (omega arith) (omega arith) (λ n next. six-where top n next 0) o tree s e
+
+-- a refusal of the walk is the answer, if options are known and work is long enough
+after-refusal : (o : ℕ) (s : Lent) (next : ℕ) (w : Walked) → 0 < firstRefusal (visits next 0 w) → answerOf (afterWalk o s next w) ≡ firstRefusal (visits next 0 w)
+unfolding afterWalk
+after-refusal o s next w h = go (firstRefusal (visits next 0 w)) h
+  where
+    go : (x : ℕ) → 0 < x → answerOf (elim x [
+      | zero ↦ collected o s (bare next w) (entries (visits next 0 w)) (excludedIn (visits next 0 w))
+      | suc y ↦ refusal (suc y)
+    ]) ≡ x
+    go zero h = absurd (omega arith)
+    go (suc y) h = refl
+
+lowering-is : (o : ℕ) (tree : List ℕ) (s : Lent) → o ≤ 15 → 65536 ≤ s .workSlice → lowering levels o tree s ≡ afterReading o s (readTree input levels tree)
+unfolding lowering
+lowering-is o tree s h k = rw (le-ltb 15 o h, lowering, le-ltb (s .workSlice) 65536 k) refl
+
+answer-of : (o : ℕ) (tree : List ℕ) (s : Lent) (n : Node) (q next : ℕ) → o ≤ 15 → 65536 ≤ s .workSlice → readTree input levels tree ≡ got n q next
+    → 0 < firstRefusal (visits next 0 (walked top n)) → outcome o tree s .answer ≡ firstRefusal (visits next 0 (walked top n))
+unfolding outcome afterReading
+answer-of o tree s n q next h k e p =
+    answer-is s (lowering levels o tree s)
+    ∙ (ap answerOf (lowering-is o tree s h k) ∙ (ap (λ (g : Got Node). answerOf (afterReading o s g)) e ∙ after-refusal o s next (walked top n) p))
+
+-- so for a tree that is accepted and has what the table says at 5 or at 6, one of the two is answered
+pub answer-if : (o : ℕ) (tree : List ℕ) (s : Lent) → o ≤ 15 → 65536 ≤ s .workSlice
+    → TreeMeets Five tree ⊎ TreeMeets Six tree → (outcome o tree s .answer ≡ 5) ⊎ (outcome o tree s .answer ≡ 6)
+answer-if o tree s h k m =
+    ⊎-elim
+    (λ f. go f (λ n p. inl p))
+    (λ x. go x (λ n p. inr p))
+    m
+  where
+    go : {P : Context → Node → Type 0} → TreeMeets P tree → ((n : Node) → Meets P top n → Meets Five top n ⊎ Meets Six top n)
+        → (outcome o tree s .answer ≡ 5) ⊎ (outcome o tree s .answer ≡ 6)
+    go (TreeMeets.accepted n q next e p) f =
+        let r = refused-if top n next 0 (f n p) in
+        let a = answer-of o tree s n q next h k e r in
+        ⊎-elim (λ b. inl (a ∙ b)) (λ b. inr (a ∙ b)) (five-or-six (firstRefusal (visits next 0 (walked top n))) (walk-refuses next 0 top n) r)
