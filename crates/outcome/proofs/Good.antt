@@ -293,7 +293,7 @@ pub record View (f : Node → Node) : Type 0 where
   pub fixes : (n : Node) → Leaf n → f n ≡ n
   pub simple : (n : Node) → NotDefault n → NotDefault (f n)
 
-temporary-leaf : (n : Node) → is 20 n ≡ true → Leaf n
+pub temporary-leaf : (n : Node) → is 20 n ≡ true → Leaf n
 unfolding is shape
 temporary-leaf (node at k fs) e = let z : k ≡ 20 = eqb-true k 20 e in ap (λ (x : ℕ). shape (node at x fs)) z
 

@@ -17,3 +17,5 @@ pub mod Uses
 pub mod Cells
 pub mod Apart
 pub mod Whole
+pub mod Potential
+pub mod PotViews

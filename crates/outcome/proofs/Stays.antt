@@ -155,7 +155,7 @@ no-rule c m e = rw (e, rewrite) refl
 
 -- ---- assignments, rewritten
 
-leaf-34 : (p : Node) → Leaf p → is 34 p ≡ false
+pub leaf-34 : (p : Node) → Leaf p → is 34 p ≡ false
 unfolding shape is
 leaf-34 p e = go (eqb (kind p) 34) (eqb (kind p) 36) (eqb (kind p) 37) e
   where
@@ -251,7 +251,7 @@ gather-none : (f : Node → Items) → gather f Items.none ≡ Items.none
 unfolding gather
 gather-none f = refl
 
-stands-changed : (fs : Fields) (i : ℕ) (g : Piece → Piece) (j : ℕ) → standsIn (changeIn fs i g) j ≡ standsIn fs j
+pub stands-changed : (fs : Fields) (i : ℕ) (g : Piece → Piece) (j : ℕ) → standsIn (changeIn fs i g) j ≡ standsIn fs j
 unfolding standsIn changeIn
 stands-changed Fields.done i g j = refl
 stands-changed (Fields.absent fs) zero g j = refl
@@ -262,7 +262,7 @@ stands-changed (Fields.field p fs) zero g (suc j) = refl
 stands-changed (Fields.field p fs) (suc i) g zero = refl
 stands-changed (Fields.field p fs) (suc i) g (suc j) = stands-changed fs i g j
 
-values-rest : (f : Node → Node) (p : Node) → hasRest (withValues f p) ≡ hasRest p
+pub values-rest : (f : Node → Node) (p : Node) → hasRest (withValues f p) ≡ hasRest p
 unfolding stands change
 values-rest f (node at k fs) = stands-changed fs 0 (onItems (each (λ q. changeNode 1 f q))) 1
 
@@ -293,11 +293,11 @@ unfolding isTop
 values-top f p e r = rw (is-changed 0 (onItems (each (λ q. changeNode 1 f q))) p 34 ∙ e) (values-rest f p ∙ r)
 
 module _ (c : Context) where
-  objects-zero : (p : Node) → objectsWithRest c 0 p ≡ Items.none
+  pub objects-zero : (p : Node) → objectsWithRest c 0 p ≡ Items.none
   unfolding objectsWithRest
   objects-zero p = refl
 
-  objects-leaf : (d : ℕ) (p : Node) → shape p ≡ leaf → objectsWithRest c (suc d) p ≡ Items.none
+  pub objects-leaf : (d : ℕ) (p : Node) → shape p ≡ leaf → objectsWithRest c (suc d) p ≡ Items.none
   unfolding objectsWithRest
   objects-leaf d p e = rw (e, objectsWithRest)
 
@@ -305,7 +305,7 @@ module _ (c : Context) where
   unfolding depth
   below-leaf (node at k fs) e = objects-leaf (depthFields fs) (node at k fs) e
 
-  objects-top : (d : ℕ) (p : Node) → AllItems (λ o. isTop o ≡ true) (objectsWithRest c d p)
+  pub objects-top : (d : ℕ) (p : Node) → AllItems (λ o. isTop o ≡ true) (objectsWithRest c d p)
   unfolding objectsWithRest
   objects-top zero p = tt
   objects-top (suc d) p =
@@ -321,7 +321,7 @@ module _ (c : Context) where
       (λ e. rw (e, objectsWithRest, AllItems) tt)
 
   -- the objects below an object pattern: those below its values, and itself
-  below-object : (p : Node) → shape p ≡ objectPattern
+  pub below-object : (p : Node) → shape p ≡ objectPattern
       → objectsBelow c p ≡ gather (λ q. objectsBelow c (value q)) (properties p) +++ cond (hasRest p) (only (withValues (λ v. replacedBelow c v) p)) Items.none
   unfolding depth objectsWithRest
   below-object (node at k fs) e =

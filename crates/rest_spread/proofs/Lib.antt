@@ -5,3 +5,5 @@ pub mod Deeds
 pub mod Copied
 pub mod Sizes
 pub mod Accepted
+pub mod Marked
+pub mod Running

@@ -1,2 +1,3 @@
 // The lowering of object rest and spread.
 pub mod target;
+pub mod walk;
