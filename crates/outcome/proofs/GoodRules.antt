@@ -310,7 +310,7 @@ module _ (c : Context) where
       (λ e. rw (e, nested, GoodItems) (nested-good d (leftOf p) (node-good 0 p h)))
       (λ e. rw (e, nested, GoodItems) tt)
 
-  below-good : (p : Node) → Good p → Good (withValues (λ v. replacedBelow c v) p)
+  pub below-good : (p : Node) → Good p → Good (withValues (λ v. replacedBelow c v) p)
   below-good p h =
       each-items (λ q. changeNode 1 (λ v. replacedBelow c v) q)
       (view-node (λ v. replacedBelow c v) (record { keeps = λ n g. replaced-view c (depth n) .keeps n g; fixes = λ n l. replaced-view c (depth n) .fixes n l; simple = λ n l. replaced-view c (depth n) .simple n l }) 1)

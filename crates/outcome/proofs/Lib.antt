@@ -19,3 +19,4 @@ pub mod Apart
 pub mod Whole
 pub mod Potential
 pub mod PotViews
+pub mod PotRules

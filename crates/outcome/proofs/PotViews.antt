@@ -67,7 +67,7 @@ node-changed-piece m z f (Piece.byte b) = omega arith
 node-changed-piece m z f (Piece.mark b) = omega arith
 node-changed-piece m z f (Piece.number b) = omega arith
 
-node-changed-in : (m : Node → ℕ) → m nothing ≡ 0 → (f : Node → Node) (fs : Fields) (i : ℕ) → m (asNode (pieceIn (changeIn fs i (onNode f)) i)) ≤ m (f (asNode (pieceIn fs i)))
+pub node-changed-in : (m : Node → ℕ) → m nothing ≡ 0 → (f : Node → Node) (fs : Fields) (i : ℕ) → m (asNode (pieceIn (changeIn fs i (onNode f)) i)) ≤ m (f (asNode (pieceIn fs i)))
 unfolding changeIn pieceIn
 node-changed-in m z f Fields.done i = omega arith
 node-changed-in m z f (Fields.absent fs) zero = omega arith
@@ -96,7 +96,7 @@ gone-piece f v (Piece.byte b) h = h
 gone-piece f v (Piece.mark b) h = h
 gone-piece f v (Piece.number b) h = h
 
-gone-in : (f : Node → Node) → ((n : Node) → Leaf n → f n ≡ n) → (fs : Fields) (i : ℕ) → gone (asNode (pieceIn fs i)) ≡ true → gone (asNode (pieceIn (changeIn fs i (onNode f)) i)) ≡ true
+pub gone-in : (f : Node → Node) → ((n : Node) → Leaf n → f n ≡ n) → (fs : Fields) (i : ℕ) → gone (asNode (pieceIn fs i)) ≡ true → gone (asNode (pieceIn (changeIn fs i (onNode f)) i)) ≡ true
 unfolding changeIn pieceIn
 gone-in f v Fields.done i h = h
 gone-in f v (Fields.absent fs) zero h = h
@@ -174,7 +174,7 @@ pub properties-are : (p : Node) → is 34 p ≡ true → Good p → AllItems Pro
 properties-are p e h = properties-all (properties p) (properties-35 p e h) (items-good 0 p h)
 
 module _ (x : ℕ) where
-  slot-nothing : slot x nothing ≡ 0
+  pub slot-nothing : slot x nothing ≡ 0
   unfolding slot is
   slot-nothing = refl
 

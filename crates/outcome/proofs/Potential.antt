@@ -79,9 +79,9 @@ module _ (x : ℕ) where
   unfoldable pub headCatch : Node → ℕ
   headCatch q = cond (isPattern q) 2 (head q)
 
-  -- the left of a ForIn or ForOf
+  -- the left of a ForIn or ForOf; it is no Default
   unfoldable pub headFor : Node → ℕ
-  headFor l = cond (is 4 l) (heads (itemsAt 2 l)) (slot l + cond (is 36 l) (here x (position l)) 0)
+  headFor l = cond (is 4 l) (heads (itemsAt 2 l)) (slot l + cond (is 36 l) (here x (position l)) (cond (is 37 l) 2 0))
 
   -- what is no Declarator among the declarators of a Declaration would count for more than there may be
   unfoldable pub aliens : Items → ℕ

@@ -301,7 +301,7 @@ module _ (c : Context) where
   unfolding objectsWithRest
   objects-leaf d p e = rw (e, objectsWithRest)
 
-  below-leaf : (p : Node) → shape p ≡ leaf → objectsBelow c p ≡ Items.none
+  pub below-leaf : (p : Node) → shape p ≡ leaf → objectsBelow c p ≡ Items.none
   unfolding depth
   below-leaf (node at k fs) e = objects-leaf (depthFields fs) (node at k fs) e
 
