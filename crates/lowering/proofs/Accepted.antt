@@ -78,7 +78,7 @@ module _ (x : ℕ) where
   unfoldable pub on : ℕ → ℕ
   on at = cond (leb at x) 1 0
 
-  on-later : (at q : ℕ) → at ≤ q → on q ≤ on at
+  pub on-later : (at q : ℕ) → at ≤ q → on q ≤ on at
   unfolding on
   on-later at q h = go (leb q x) refl (leb at x) refl
     where
@@ -89,7 +89,7 @@ module _ (x : ℕ) where
           let l : q ≤ x = leb-true q x e in
           absurd (true≢false (sym (le-leb at x (omega arith)) ∙ f))
 
-  on-most : (at : ℕ) → on at ≤ 1
+  pub on-most : (at : ℕ) → on at ≤ 1
   unfolding on
   on-most at = go (leb at x)
     where
@@ -131,7 +131,7 @@ form-in (f ∷ fs) k h = go (eqb (kindOf f) k) refl (λ z. form-in fs k z) h
     go true e r z = eqb-true (kindOf f) k e
     go false e r z = r z
 
-form-kind : (p k : ℕ) → 0 < formAt input p k → kindOf (formAt input p k) ≡ k
+pub form-kind : (p k : ℕ) → 0 < formAt input p k → kindOf (formAt input p k) ≡ k
 unfolding formAt
 form-kind p k h = go (ltb k 64) h
   where

@@ -248,7 +248,7 @@ module _ (a : Name) where
 mutual
   unfolding occurs
 
-  no-temporary : (a : Name) (n : Node) → Proper n → Free a n
+  pub no-temporary : (a : Name) (n : Node) → Proper n → Free a n
   no-temporary a (node at k fs) (proper names objects holes temporary helper p) = rw temporary (let u = no-fields a fs p in omega arith)
 
   no-fields : (a : Name) (fs : Fields) → ProperFields fs → occursFields a fs ≡ 0

@@ -1,24 +1,21 @@
 -- The walk of a good node: its Temporaries and Helpers are such, and what holds of the note of each rewriting of a good node holds of every note.
 -- Assumes nothing.
-use mathlib.Core.Path.{_≡_, refl, sym, ap, _∙_, subst}
-use mathlib.Core.Bool.{Bool, true, false, cond, false≢true}
-use mathlib.Core.List.{List, [], _∷_, _++_}
+use mathlib.Core.Path.{_≡_, ap}
+use mathlib.Core.Bool.{Bool, cond}
 use Prim.Native.Nat.{ℕ, zero, suc, _+_}
 use native.Mathlib.Omega.{arith}
-use lib.Dec.{eqb}
 use borrow.Author.Tests.{eqb-true}
 use Rattle.tree.specs.Tree.{Node, Fields, Piece, Items}
 use Rattle.tree.specs.Tree.Node.{node}
 use Rattle.lowering.specs.Made.{Context}
-use Rattle.lowering.specs.Walk.{Note, Walked, WalkedFields, WalkedPiece, WalkedItems, eachItem, eachPiece, eachField, inside, rewrite, within, walk, unchanged}
-use Rattle.lowering.specs.Walk.Walked.{noted}
+use Rattle.lowering.specs.Walk.{Note, Walked, eachItem, eachPiece, eachField, inside, rewrite, within, walk, unchanged}
 use Rattle.lowering.specs.Weight.{weight, walked}
-use Rattle.lowering.specs.Collect.{Visit, newIn, newInPiece, isContainer, markOf, marked, visits, visitsFields, visitsPiece, visitsItems}
-use Rattle.lowering.proofs.All.{AllItems, AllPiece, AllFields, Each, weaker-fields}
+use Rattle.lowering.specs.Collect.{newIn, newInPiece, isContainer, markOf, marked, visits, visitsFields, visitsPiece, visitsItems}
+use Rattle.lowering.proofs.All.{AllItems, AllPiece, AllFields, Each}
 use Rattle.lowering.proofs.Notes.{AllNotes, both, Everywhere}
 use Rattle.outcome.proofs.Tokens.{IsTemporary, IsHelper, Formed, FormedFields, FormedPiece, FormedItems}
 use Rattle.outcome.proofs.Scope.{IsNamed, weaker}
-use Rattle.outcome.proofs.Good.{IsHelping, Good, GoodFields, GoodPiece, parts}
+use Rattle.outcome.proofs.Good.{IsHelping, Good, parts}
 use Rattle.outcome.proofs.GoodRules.{rewrite-good}
 
 -- ---- forms
@@ -41,25 +38,25 @@ module _ (w : ℕ → ℕ → Node → Walked) where
   formed-items i (Items.hole is) j h = formed-items i is (suc j) h
   formed-items i (Items.item n is) j h = (h .0 i j, formed-items i is (suc j) (h .1))
 
-  formed-piece : (i : ℕ) (p : Piece) → GoodPiece p → AllPiece Part p → FormedPiece (eachPiece (w i) p)
+  formed-piece : (i : ℕ) (p : Piece) → AllPiece Part p → FormedPiece (eachPiece (w i) p)
   unfolding eachPiece
-  formed-piece i (Piece.one n) g h = h i 0
-  formed-piece i (Piece.list is) g h = formed-items i is 0 h
-  formed-piece i (Piece.text bs) g h = tt
-  formed-piece i (Piece.byte b) g h = tt
-  formed-piece i (Piece.mark b) g h = g
-  formed-piece i (Piece.number b) g h = tt
+  formed-piece i (Piece.one n) h = h i 0
+  formed-piece i (Piece.list is) h = formed-items i is 0 h
+  formed-piece i (Piece.text bs) h = tt
+  formed-piece i (Piece.byte b) h = tt
+  formed-piece i (Piece.mark b) h = tt
+  formed-piece i (Piece.number b) h = tt
 
-  formed-fields : (fs : Fields) (i : ℕ) → GoodFields fs → AllFields Part fs → FormedFields (eachField w i fs)
+  formed-fields : (fs : Fields) (i : ℕ) → AllFields Part fs → FormedFields (eachField w i fs)
   unfolding eachField
-  formed-fields Fields.done i g h = tt
-  formed-fields (Fields.absent fs) i g h = formed-fields fs (suc i) g h
-  formed-fields (Fields.field p fs) i g h = (formed-piece i p (g .0) (h .0), formed-fields fs (suc i) (g .1) (h .1))
+  formed-fields Fields.done i h = tt
+  formed-fields (Fields.absent fs) i h = formed-fields fs (suc i) h
+  formed-fields (Fields.field p fs) i h = (formed-piece i p (h .0), formed-fields fs (suc i) (h .1))
 
   formed-node : (note : Note) (n : Node) → Good n → Each Part n → Formed (inside note w n)
   unfolding inside
   formed-node note (node at k fs) g h =
-      ((λ e. walked-named w fs (g .0 .temporary e)), (λ e. walked-helping w fs (g .0 .helper e)), formed-fields fs 0 (g .1) h)
+      ((λ e. walked-named w fs (g .0 .temporary e)), (λ e. walked-helping w fs (g .0 .helper e)), formed-fields fs 0 h)
 
 pub walk-formed : (f : ℕ) (c : Context) (n : Node) → Good n → Formed (walk f c n)
 unfolding walk

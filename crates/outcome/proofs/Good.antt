@@ -1,25 +1,25 @@
 -- What holds of every node that the walk meets: Temporaries, Helpers and References are such, the rest of an object pattern is no pattern, and
--- the key of a property is a Temporary, or has none in it and is no pattern; marks are 16-bit numbers. The views of patterns keep this.
+-- the key of a property is a Temporary, or has none in it and is no pattern. The views of patterns keep this.
 -- Assumes nothing.
 use mathlib.Core.Path.{_≡_, refl, sym, ap, _∙_, subst}
 use mathlib.Core.Bool.{Bool, true, false, cond, false≢true, true≢false}
-use mathlib.Core.List.{List, [], _∷_}
+use mathlib.Core.List.{List}
 use mathlib.Core.Logic.{_⊎_, ⊎-elim}
-use mathlib.Core.Logic._⊎_.{inl, inr}
-use Prim.Native.Nat.{ℕ, zero, suc, _<_}
+use mathlib.Core.Logic._⊎_.{inl}
+use Prim.Native.Nat.{ℕ, zero, suc}
 use native.Mathlib.Omega.{arith}
 use lib.Dec.{eqb}
 use borrow.Author.Tests.{eqb-true}
 use Rattle.tree.specs.Tree.{Node, Fields, Piece, Items}
 use Rattle.tree.specs.Tree.Node.{node}
-use Rattle.lowering.specs.Parts.{nothing, position, kind, is, pieceIn, changeIn, dropIn, asNode, asItems, nodeAt, itemsAt, stands, change, onNode, onItems, changeNode, changeItems, without, only, each, gather, _+++_}
+use Rattle.lowering.specs.Parts.{nothing, position, kind, is, pieceIn, changeIn, dropIn, asNode, asItems, nodeAt, itemsAt, change, onNode, onItems, changeNode, changeItems, without, only, each, gather, _+++_}
 use Rattle.lowering.specs.Made.{Context, temporary, reference, keyOf}
-use Rattle.lowering.specs.Patterns.{Shape, shape, properties, itemsOf, rest, hasRest, leftOf, key, value, withLeft, withItems, withRest, withProperties, withValues, replaced, objectsWithRest}
+use Rattle.lowering.specs.Patterns.{shape, properties, itemsOf, rest, hasRest, leftOf, key, value, withItems, withProperties, withValues, replaced, objectsWithRest}
 use Rattle.lowering.specs.Patterns.Shape.{objectPattern, arrayPattern, default, leaf}
 use Rattle.lowering.specs.Keys.{keySort, keptKey, taken}
 use Rattle.lowering.specs.Assignments.{restsThroughObjects, withoutRests}
 use Rattle.lowering.specs.Heads.{moved, movedPattern, movedOut}
-use Rattle.lowering.proofs.All.{AllItems, AllPiece, AllFields, Each, all-append, all-gather, all-each, other-changed}
+use Rattle.lowering.proofs.All.{AllItems, AllFields, Each, all-append, all-gather, all-each, other-changed}
 use Rattle.lowering.proofs.Cases.{by-test, by-shape, by-key, object-is, array-is, default-is, is-changed}
 use Rattle.outcome.proofs.Scope.{IsNamed}
 
@@ -105,7 +105,7 @@ abbrev mutual
   GoodPiece (Piece.list is) = GoodItems is
   GoodPiece (Piece.text bs) = Unit {0}
   GoodPiece (Piece.byte b) = Unit {0}
-  GoodPiece (Piece.mark b) = b < 65536
+  GoodPiece (Piece.mark b) = Unit {0}
   GoodPiece (Piece.number b) = Unit {0}
 
   pub GoodItems : Items → Type 0

@@ -1,30 +1,28 @@
 -- Each rewriting keeps what holds of every node (Good).
 -- Assumes nothing.
-use mathlib.Core.Path.{_≡_, refl, sym, ap, _∙_, subst}
+use mathlib.Core.Path.{_≡_, refl, ap, _∙_}
 use mathlib.Core.Bool.{Bool, true, false, cond, _||_, _&&_}
 use mathlib.Core.List.{List, [], _∷_}
 use Prim.Native.Nat.{ℕ, zero, suc}
-use native.Mathlib.Omega.{arith}
 use lib.Dec.{eqb}
 use borrow.Author.Tests.{eqb-true}
-use Rattle.tree.specs.Tree.{Node, Fields, Piece, Items, depth}
+use Rattle.tree.specs.Tree.{Node, Piece, Items, depth}
 use Rattle.tree.specs.Tree.Node.{node}
 use Rattle.tree.specs.Tree.Items.{none, hole, item}
-use Rattle.lowering.specs.Parts.{nothing, position, asNode, pieceIn, kind, is, nodeAt, itemsAt, textAt, stands, change, onNode, onItems, changeNode, changeItems, only, each, gather, any, _+++_}
-use Rattle.lowering.specs.Made.{Context, temporary, reference, valueOf, keyOf, excludedOf, helper, call, S, X, E, W, K, object, array, sequence, member, assign, string, declares, declared, letOf, varOf, assigning, returning, block, functionBody}
+use Rattle.lowering.specs.Parts.{position, pieceIn, kind, is, nodeAt, itemsAt, textAt, stands, change, onNode, onItems, changeNode, changeItems, only, each, gather, any, _+++_}
+use Rattle.lowering.specs.Made.{Context, temporary, reference, valueOf, keyOf, helper, call, S, X, E, W, K, object, array, sequence, member, assign, string, declares, declared, letOf, varOf, assigning, returning, block, functionBody}
 use Rattle.lowering.specs.Patterns.{shape, properties, rest, hasRest, leftOf, key, value, withValues, hasObjectRest, hasArrayRestOverObjectRest, replaced, replacedBelow, objectsBelow}
-use Rattle.lowering.specs.Patterns.Shape.{objectPattern, arrayPattern, default, leaf}
 use Rattle.lowering.specs.Keys.{keySort, excludedKey, excludedKeys, keyTemporary, keyTemporaries, allPrimitive, taken}
 use Rattle.lowering.specs.Rests.{hasNoProperties, mapped, isHoisted, keysRead, restValue}
 use Rattle.lowering.specs.Literals.{Call, opened, closed, scan, literal}
 use Rattle.lowering.specs.Declarations.{isName, source, sourceDeclarator, keysBefore, patternDeclarator, restDeclarator, own, nested, nestedBelow, objectDeclarators, patternDeclarators, lowerDeclarator, isLowered, declarators, declaration, declarationLacksForm}
 use Rattle.lowering.specs.Assignments.{isTop, target, assigned, restsOf, topLacksForm, targetLeft, topSequence, nestedSequence}
-use Rattle.lowering.specs.Heads.{isMoved, moved, movedFrom, movedPattern, movedOut, leftBehind, inFront, inBody, asFunctionBody, asBlock, function, arrow, catch, declaringHead, assigningHead}
+use Rattle.lowering.specs.Heads.{isMoved, movedFrom, movedPattern, movedOut, leftBehind, inFront, inBody, asFunctionBody, asBlock, function, arrow, catch, declaringHead, assigningHead}
 use Rattle.lowering.specs.Walk.{Rule, ruleOf, rewrite, stepDeclaration, stepTop, stepAssignment, stepFor}
 use Rattle.lowering.specs.Walk.Rule.{literals, declarations, assignments, functions, arrows, catches, fors, nowhere}
-use Rattle.lowering.proofs.All.{AllItems, all-append, all-gather, all-each}
+use Rattle.lowering.proofs.All.{all-each}
 use Rattle.lowering.proofs.Cases.{by-test, by-shape, by-key, by-rule, object-is, array-is, is-changed, functionBody-is, block-is}
-use Rattle.outcome.proofs.Good.{NotDefault, temporary-20, temporary-simple, leaf-simple, object-simple, array-simple, rest-leaf, taken-simple, replaced-simple, reference-simple, movedPattern-simple, absent-good, Is35, changed-35, Good, GoodFields, GoodPiece, GoodItems, GoodObject, free, nothing-good, to-all, from-all, node-good, items-good, append-good, gather-good, each-good, view-node, change-items, each-items, change-free, temporary-good, reference-good, taken-good, replaced-view, values-good, objects-good, rests-good, withoutRests-good, movedOut-view, moved-good, movedPattern-good}
+use Rattle.outcome.proofs.Good.{NotDefault, temporary-20, temporary-simple, leaf-simple, object-simple, array-simple, rest-leaf, taken-simple, replaced-simple, reference-simple, movedPattern-simple, absent-good, Is35, changed-35, Good, GoodItems, GoodObject, free, nothing-good, from-all, node-good, items-good, append-good, gather-good, view-node, change-items, each-items, change-free, temporary-good, reference-good, taken-good, replaced-view, values-good, objects-good, rests-good, withoutRests-good, movedOut-view, moved-good, movedPattern-good}
 
 -- ---- nodes that the rules make
 
@@ -92,23 +90,23 @@ declared-good i s h = (free 5 _ refl refl refl refl refl s, (h, tt))
 
 let-good : (i v : Node) → NotDefault i → Good i → Good v → Good (letOf i v)
 unfolding pieceIn is
-let-good i v s h k = (free 4 _ refl refl refl refl refl refl, (omega arith, (tt, ((declares-good i v s h k, tt), tt))))
+let-good i v s h k = (free 4 _ refl refl refl refl refl refl, (tt, (tt, ((declares-good i v s h k, tt), tt))))
 
 var-good : (i : Node) → NotDefault i → Good i → Good (varOf i)
 unfolding pieceIn is
-var-good i s h = (free 4 _ refl refl refl refl refl refl, (omega arith, (tt, ((declared-good i s h, tt), tt))))
+var-good i s h = (free 4 _ refl refl refl refl refl refl, (tt, (tt, ((declared-good i s h, tt), tt))))
 
 assigning-good : (l r : Node) → Good l → Good r → Good (assigning l r)
 unfolding pieceIn is
-assigning-good l r h k = (free 3 _ refl refl refl refl refl refl, (omega arith, (assign-good l r h k, tt)))
+assigning-good l r h k = (free 3 _ refl refl refl refl refl refl, (tt, (assign-good l r h k, tt)))
 
 returning-good : (e : Node) → Good e → Good (returning e)
 unfolding pieceIn is
-returning-good e h = (free 11 _ refl refl refl refl refl refl, (omega arith, (h, tt)))
+returning-good e h = (free 11 _ refl refl refl refl refl refl, (tt, (h, tt)))
 
 block-good : (is : Items) → GoodItems is → Good (block is)
 unfolding pieceIn is
-block-good is h = (free 2 _ refl refl refl refl refl refl, (omega arith, (h, tt)))
+block-good is h = (free 2 _ refl refl refl refl refl refl, (tt, (h, tt)))
 
 body-good : (is : Items) → GoodItems is → Good (functionBody is)
 unfolding pieceIn is

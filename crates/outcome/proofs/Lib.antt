@@ -5,6 +5,7 @@ pub mod Tidy
 pub mod Listed
 pub mod Makes
 pub mod Scope
+pub mod Kept
 pub mod Good
 pub mod GoodRules
 pub mod Forms
@@ -20,3 +21,8 @@ pub mod Whole
 pub mod Potential
 pub mod PotViews
 pub mod PotRules
+pub mod Asked
+pub mod Fitting
+pub mod Room
+pub mod Marks
+pub mod Every

@@ -7,13 +7,13 @@ use Prim.Native.Nat.{ℕ, zero, suc, _+_, _/_, _%_, _≤_, _<_}
 use native.Mathlib.Omega.{arith}
 use lib.Dec.{eqb}
 use lib.ListN.{length, length-append}
-use Rattle.tree.specs.Tree.{Node, Fields, Piece, Items, wideBytes, count, encode, encodeItems}
+use Rattle.tree.specs.Tree.{Node, Items, wideBytes, count, encode}
 use Rattle.tree.specs.Tree.Node.{node}
 use Rattle.lowering.specs.Parts.{nodeAt, numberAt, stands, isEmpty, _+++_}
 use Rattle.lowering.specs.Made.{idOf}
-use Rattle.lowering.specs.Walk.{Note, Walked, WalkedFields, WalkedPiece, WalkedItems}
+use Rattle.lowering.specs.Walk.{Walked, WalkedFields, WalkedPiece, WalkedItems}
 use Rattle.lowering.specs.Walk.Walked.{noted}
-use Rattle.lowering.specs.Collect.{Name, nameOf, Visit, Entry, over, entryAt, entries, excludedIn, numberIn, same, numberedItems, declaratorBytes, entryBytes, listBytes, newIn, newInFields, newInPiece, newInItems, isContainer, marked, markOf, markIn, visits, visitsFields, visitsPiece, visitsItems}
+use Rattle.lowering.specs.Collect.{Name, nameOf, Visit, Entry, over, entryAt, entries, excludedIn, numberIn, same, declaratorBytes, entryBytes, listBytes, newIn, newInFields, newInPiece, newInItems, isContainer, marked, markOf, markIn, visits, visitsFields, visitsPiece, visitsItems}
 use Rattle.lowering.proofs.Notes.{AllNotes}
 use Rattle.lowering.proofs.Cases.{by-test}
 use Rattle.sink.specs.Machine.{low, high}
@@ -22,8 +22,9 @@ use Rattle.sink.specs.Shown.Token.{plain, temp}
 use Rattle.sink.proofs.Names.{size, size-append}
 use Rattle.direct.specs.Events.{cellOf}
 use Rattle.outcome.specs.Named
-use Rattle.outcome.specs.Named.{Act, lists, excludes, handed, entered, excludedKeys, handsOut, plains, tokens, tokensFields, tokensPiece, tokensItems}
-use Rattle.outcome.proofs.Tokens.{append-assoc, append-none, Formed, FormedFields, FormedPiece, FormedItems}
+use Rattle.outcome.specs.Named.{Act, lists, excludes, handed, entered, excludedKeys, handsOut, plains, tokens, tokensItems}
+use Rattle.outcome.proofs.Tokens.{append-assoc, append-none}
+use Rattle.outcome.proofs.Kept.{Walks, WalksFields, WalksPiece, WalksItems}
 use Rattle.outcome.proofs.Listed.{list-append, keys-append, entries-append, declarators-append, over-append, hands}
 use Rattle.outcome.proofs.Handed.{Hands, Declares, Valued, Full, handed-listed, excluded-listed, excluded-counted}
 use Rattle.outcome.proofs.Numbers.{bytes, bytes-append, bytes-plains, encode-items}
@@ -350,7 +351,7 @@ marks-both : (us vs : List Visit) → Marks us → Marks vs → Marks (us ++ vs)
 marks-both [] vs h k = k
 marks-both (u ∷ us) vs h k = (h .0, marks-both us vs (h .1) k)
 
-mark-small : (fs : WalkedFields) → FormedFields fs → markIn fs < 65536
+mark-small : (fs : WalkedFields) → WalksFields (λ (b : ℕ). b < 65536) fs → markIn fs < 65536
 unfolding markIn
 mark-small WalkedFields.done f = omega arith
 mark-small (WalkedFields.absent fs) f = omega arith
@@ -361,8 +362,8 @@ mark-small (WalkedFields.field (WalkedPiece.byte b) fs) f = omega arith
 mark-small (WalkedFields.field (WalkedPiece.mark b) fs) f = f .0
 mark-small (WalkedFields.field (WalkedPiece.number b) fs) f = omega arith
 
-of-small : (w : Walked) → Formed w → markOf w < 65536
-of-small (noted note at k fs) f = mark-small fs (f .2)
+of-small : (w : Walked) → Walks (λ (b : ℕ). b < 65536) w → markOf w < 65536
+of-small (noted note at k fs) f = mark-small fs f
 
 marked-small : (next m : ℕ) → next < 65536 → m < 65536 → marked next m < 65536
 marked-small next zero h k = h
@@ -375,16 +376,16 @@ either-small false a b h k = k
 mutual
   unfolding visits newIn
 
-  pub visits-marks : (w : Walked) → Formed w → (next m : ℕ) → m < 65536 → next + newIn w ≤ 65535 → Marks (visits next m w)
-  visits-marks (noted note at k fs) f next m h b = (h, fields-marks fs (f .2) (isContainer k) next m h b)
+  pub visits-marks : (w : Walked) → Walks (λ (b : ℕ). b < 65536) w → (next m : ℕ) → m < 65536 → next + newIn w ≤ 65535 → Marks (visits next m w)
+  visits-marks (noted note at k fs) f next m h b = (h, fields-marks fs f (isContainer k) next m h b)
 
-  fields-marks : (fs : WalkedFields) → FormedFields fs → (l : Bool) (next m : ℕ) → m < 65536 → next + newInFields fs ≤ 65535 → Marks (visitsFields l next m fs)
+  fields-marks : (fs : WalkedFields) → WalksFields (λ (b : ℕ). b < 65536) fs → (l : Bool) (next m : ℕ) → m < 65536 → next + newInFields fs ≤ 65535 → Marks (visitsFields l next m fs)
   fields-marks WalkedFields.done f l next m h b = tt
   fields-marks (WalkedFields.absent fs) f l next m h b = fields-marks fs f l next m h b
   fields-marks (WalkedFields.field p fs) f l next m h b =
       marks-both (visitsPiece l next m p) (visitsFields l (next + newInPiece p) m fs) (piece-marks p (f .0) l next m h (omega arith)) (fields-marks fs (f .1) l (next + newInPiece p) m h (omega arith))
 
-  piece-marks : (p : WalkedPiece) → FormedPiece p → (l : Bool) (next m : ℕ) → m < 65536 → next + newInPiece p ≤ 65535 → Marks (visitsPiece l next m p)
+  piece-marks : (p : WalkedPiece) → WalksPiece (λ (b : ℕ). b < 65536) p → (l : Bool) (next m : ℕ) → m < 65536 → next + newInPiece p ≤ 65535 → Marks (visitsPiece l next m p)
   piece-marks (WalkedPiece.one w) f l next m h b = visits-marks w f next m h b
   piece-marks (WalkedPiece.list is) f l next m h b = items-marks is f l next m h b
   piece-marks (WalkedPiece.text bs) f l next m h b = tt
@@ -392,7 +393,7 @@ mutual
   piece-marks (WalkedPiece.mark v) f l next m h b = tt
   piece-marks (WalkedPiece.number v) f l next m h b = tt
 
-  items-marks : (is : WalkedItems) → FormedItems is → (l : Bool) (next m : ℕ) → m < 65536 → next + newInItems is ≤ 65535 → Marks (visitsItems l next m is)
+  items-marks : (is : WalkedItems) → WalksItems (λ (b : ℕ). b < 65536) is → (l : Bool) (next m : ℕ) → m < 65536 → next + newInItems is ≤ 65535 → Marks (visitsItems l next m is)
   items-marks WalkedItems.none f l next m h b = tt
   items-marks (WalkedItems.hole is) f l next m h b = items-marks is f l next m h b
   items-marks (WalkedItems.item w is) f l next m h b =

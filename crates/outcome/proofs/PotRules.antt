@@ -38,7 +38,7 @@ use Rattle.outcome.proofs.GoodRules.{below-good}
 use Rattle.outcome.proofs.Scope.{IsNamed}
 use Rattle.outcome.proofs.Stays.{stands-changed, values-rest, objects-top, below-object, below-leaf, leaf-34}
 use Rattle.outcome.proofs.Potential.{isPattern, gone, slot, slotMoved, slotValue, slotTop, slots, slotValues, odd, odds, head, heads, headCatch, headFor, aliens, resting, declaring, own, pot, potFields, potPiece, potItems, inner, pot-34, pot-35, pot-36, pot-37, pot-14, pot-17, pot-10, pot-7, pot-8, pot-27, pot-5, pot-4, inner-in, piece-in, two-pieces, as-node, as-items, node-in, items-in, node-and-node, items-and-node, pot-append, only-pot, none-pot, nothing-pot, temporary-pot, each-item, each-piece, each-field, each-part, node-exchange, items-exchange, node-exchange-in}
-use Rattle.outcome.proofs.PotViews.{items-changed, node-other, items-other, node-changed, node-changed-in, gone-in, slot-nothing, properties-are, slot-temporary, slot-changed, slot-34, whole, wholes, wholes-append, Sum, nil, nil-sum, nil-is, wholes-sum, object-sum, objects-sum, targets-sum, taken-sum, taken-none, excludedKeys-pot, restings, restings-append, restings-none, only-restings, none-wholes, only-wholes, rests-left, rests-pot, rests-beside, Beside, moves, moves-append, moves-none, odds-append, odds-none, moved-sum, resting-same}
+use Rattle.outcome.proofs.PotViews.{items-changed, node-other, items-other, node-changed, node-changed-in, gone-in, slot-nothing, properties-are, slot-temporary, slot-changed, slot-34, whole, wholes, wholes-append, Sum, nil, nil-sum, nil-is, wholes-sum, object-sum, objects-sum, targets-sum, taken-sum, taken-none, excludedKeys-pot, restings, restings-append, restings-none, only-restings, none-wholes, only-wholes, rests-left, rests-pot, rests-beside, Beside, moves, moves-append, moves-none, moved-sum, resting-same}
 
 -- ---- what is made in a cell
 

@@ -1,30 +1,30 @@
 -- The views of patterns: what is found below a pattern and what is left of it have together no more potential than the pattern.
 -- Assumes nothing.
 use mathlib.Core.Path.{_≡_, refl, sym, ap, ap₂, _∙_, subst}
-use mathlib.Core.Bool.{Bool, true, false, cond, not, _&&_, _||_, false≢true, true≢false}
-use mathlib.Core.List.{List, [], _∷_}
-use Prim.Native.Nat.{ℕ, zero, suc, _+_, _*_, _≤_, _<_}
+use mathlib.Core.Bool.{Bool, true, false, cond, _&&_, false≢true}
+use mathlib.Core.List.{List, []}
+use Prim.Native.Nat.{ℕ, zero, suc, _+_, _≤_}
 use native.Mathlib.Omega.{arith}
 use lib.Dec.{eqb}
 use borrow.Author.Tests.{eqb-true}
-use Rattle.tree.specs.Tree.{Node, Fields, Piece, Items, depth, depthFields}
+use Rattle.tree.specs.Tree.{Node, Fields, Piece, Items}
 use Rattle.tree.specs.Tree.Node.{node}
 use Rattle.lowering.specs.Parts.{nothing, position, kind, is, pieceIn, standsIn, changeIn, dropIn, asNode, asItems, nodeAt, itemsAt, textAt, stands, change, onNode, onItems, changeNode, changeItems, without, only, each, gather, _+++_}
 use Rattle.lowering.specs.Made.{Context, temporary, reference, keyOf, string}
-use Rattle.lowering.specs.Patterns.{Shape, shape, properties, itemsOf, rest, hasRest, leftOf, key, value, withLeft, withItems, withRest, withProperties, withValues, replaced, objectsWithRest, replacedBelow, objectsBelow}
+use Rattle.lowering.specs.Patterns.{shape, properties, itemsOf, rest, hasRest, leftOf, key, value, withLeft, withItems, withRest, withProperties, withValues, replaced, objectsWithRest}
 use Rattle.lowering.specs.Patterns.Shape.{objectPattern, arrayPattern, default, leaf}
 use Rattle.lowering.specs.Keys.{keySort, excludedKey, excludedKeys, keptKey, taken}
 use Rattle.lowering.specs.Assignments.{isTop, restsThroughObjects, withoutRests}
 use Rattle.lowering.specs.Heads.{moved, movedPattern, movedOut}
 use Rattle.lowering.specs.Collect.{Name}
-use Rattle.lowering.proofs.All.{AllItems, all-append, all-gather, weaker-items, other-changed}
+use Rattle.lowering.proofs.All.{AllItems, all-append, weaker-items, other-changed}
 use Rattle.lowering.proofs.Cases.{by-test, by-shape, by-key, object-is, array-is, default-is, is-changed}
 use Rattle.lowering.proofs.Sites.{here, hereItems}
 use Rattle.lowering.proofs.Clauses.{objects-object, objects-array, objects-default}
 use Rattle.lowering.proofs.Occurs.{position-kept}
-use Rattle.outcome.proofs.Good.{Leaf, Is35, Good, GoodItems, GoodObject, to-all, node-good, items-good, properties-35, replaced-view, temporary-leaf, withoutRests-good, movedOut-view}
-use Rattle.outcome.proofs.Stays.{stands-changed, values-rest, objects-zero, objects-leaf}
-use Rattle.outcome.proofs.Potential.{gone, slot, slotMoved, slots, slotValues, odd, odds, resting, own, pot, potFields, potPiece, potItems, inner, pot-34, pot-35, pot-36, pot-37, inner-in, node-in, items-in, node-and-node, items-and-node, pot-append, only-pot, none-pot, nothing-pot, temporary-pot, node-exchange, items-exchange, drop-exchange}
+use Rattle.outcome.proofs.Good.{Leaf, Is35, Good, GoodItems, to-all, node-good, items-good, properties-35, replaced-view}
+use Rattle.outcome.proofs.Stays.{values-rest, objects-zero, objects-leaf}
+use Rattle.outcome.proofs.Potential.{gone, slot, slotMoved, slots, slotValues, odd, odds, resting, own, pot, potItems, pot-34, pot-35, pot-36, pot-37, inner-in, node-in, items-in, node-and-node, items-and-node, pot-append, only-pot, none-pot, temporary-pot, node-exchange, items-exchange, drop-exchange, odds-append, odds-none, only-odds, moved-less}
 
 -- ---- accessors of changed nodes
 
@@ -758,25 +758,11 @@ module _ (x : ℕ) where
     unfolding moves
     only-moves m = omega arith
 
-    pub odds-append : (is js : Items) → odds x (is +++ js) ≡ odds x is + odds x js
-    unfolding odds _+++_
-    odds-append Items.none js = omega arith
-    odds-append (Items.hole is) js = odds-append is js
-    odds-append (Items.item n is) js = let h = odds-append is js in omega arith
-
-    pub odds-none : odds x Items.none ≡ 0
-    unfolding odds
-    odds-none = refl
-
-    only-odds : (m : Node) → odds x (only m) ≡ odd x m
-    unfolding odds
-    only-odds m = omega arith
-
     moves-sum : Sum moves
     moves-sum = record { none = moves-none; append = moves-append }
 
     odds-sum : Sum (odds x)
-    odds-sum = record { none = odds-none; append = odds-append }
+    odds-sum = record { none = odds-none x; append = odds-append x }
 
     moved-object : (d : ℕ) (p : Node) → shape p ≡ objectPattern → (moved (suc d) p ≡ only p) × (movedOut c (suc d) p ≡ reference c p) × (movedPattern p ≡ p)
     unfolding moved movedOut movedPattern
@@ -798,14 +784,6 @@ module _ (x : ℕ) where
     slot-object : (p : Node) → is 34 p ≡ true → slotMoved x p ≡ here x (position p)
     unfolding slotMoved
     slot-object p e = rw e refl
-
-    moved-less : (p : Node) → slotMoved x p ≤ slot x p
-    unfolding slotMoved slot
-    moved-less p = go (is 34 p)
-      where
-        go : (b : Bool) → cond b (here x (position p)) 0 ≤ cond b (here x (position p) + here x (position p + 2)) 0
-        go true = omega arith
-        go false = omega arith
 
     odd-37 : (p : Node) → is 37 p ≡ true → odd x p ≡ cond (gone (nodeAt 0 p)) (here x (position p)) 0
     unfolding odd
@@ -844,11 +822,11 @@ module _ (x : ℕ) where
     moved-both : (d : ℕ) (p : Node) → Good p → Moves d p
     unfolding moved movedOut
     moved-both zero p g =
-        let m = moves-none in let o = odds-none in let l = moved-less p in record { head = omega arith; inside = omega arith }
+        let m = moves-none in let o = odds-none x in let l = moved-less x p in record { head = omega arith; inside = omega arith }
     moved-both (suc d) p g =
         let f : Node → Node = λ v. movedOut c d v in
         let h : Node → Items = λ v. moved d v in
-        let l = moved-less p in
+        let l = moved-less x p in
         by-shape (shape p)
         (λ e.
         let k = moved-object d p e in
@@ -867,7 +845,7 @@ module _ (x : ℕ) where
         let p1 = withItems f p in
         let p2 = withRest f p1 in
         let i = ap moves (k .0) ∙ moves-append (gather h (itemsOf p)) (h (rest p)) in
-        let o = ap (odds x) (k .0) ∙ odds-append (gather h (itemsOf p)) (h (rest p)) in
+        let o = ap (odds x) (k .0) ∙ odds-append x (gather h (itemsOf p)) (h (rest p)) in
         let r = ap (pot x) (k .1) in
         let w = ap (slot x) (k .1) ∙ slot-changed 1 (onNode f) p1 ∙ slot-changed 0 (onItems (each f)) p in
         let s = array-sum moves (odds x) moves-sum odds-sum h f (λ v u. moved-both d v u .inside) p (array-is p e) g in
@@ -886,7 +864,7 @@ module _ (x : ℕ) where
         let i = ap moves (k .0) in
         let j = only-moves p in
         let m = ap (pot x) (k .2) in
-        let o = ap (odds x) (k .0) ∙ only-odds p in
+        let o = ap (odds x) (k .0) ∙ only-odds x p in
         let r = ap (pot x) (k .1) in
         let w = ap (slot x) (k .1) ∙ slot-changed 0 (onNode (λ l. reference c p)) p in
         let s = default-moved p (reference c p) (default-is p e) (temporary-gone (c .path) 1 (position p)) (slot-temporary (c .path) 1 (position p)) (temporary-pot x (c .path) 1 (position p)) in
@@ -896,7 +874,7 @@ module _ (x : ℕ) where
         let i = ap moves (k .0) in
         let m = moves-none in
         let o = ap (odds x) (k .0) in
-        let n = odds-none in
+        let n = odds-none x in
         let r = ap (pot x) (k .1) in
         let w = ap (slot x) (k .1) in
         record { head = omega arith; inside = omega arith })

@@ -2,21 +2,21 @@
 -- A pattern may be replaced (stem 1, at its position) where it stands in another pattern or in a head, not where it is what a declarator or an
 -- assignment takes apart; a rest may be taken (stems 2, 4); a value may be wanted of a pattern that is taken apart (stem 3).
 -- Assumes nothing.
-use mathlib.Core.Path.{_≡_, refl, sym, ap, ap₂, _∙_, subst}
-use mathlib.Core.Bool.{Bool, true, false, cond, not, _&&_, _||_, false≢true, true≢false}
-use mathlib.Core.List.{List, [], _∷_}
-use Prim.Native.Nat.{ℕ, zero, suc, _+_, _*_, _≤_, _<_}
+use mathlib.Core.Path.{_≡_, refl, ap}
+use mathlib.Core.Bool.{Bool, true, cond, _||_}
+use mathlib.Core.List.{List}
+use Prim.Native.Nat.{ℕ, zero, suc, _+_, _≤_, _<_}
 use native.Mathlib.Omega.{arith}
 use lib.Dec.{eqb}
 use borrow.Author.Tests.{eqb-true}
-use Rattle.tree.specs.Tree.{Node, Fields, Piece, Items, depth}
+use Rattle.tree.specs.Tree.{Node, Fields, Piece, Items}
 use Rattle.tree.specs.Tree.Node.{node}
-use Rattle.lowering.specs.Parts.{nothing, position, kind, is, pieceIn, standsIn, changeIn, dropIn, asNode, asItems, nodeAt, itemsAt, stands, change, onNode, onItems, changeNode, changeItems, without, only, each, gather, _+++_}
-use Rattle.lowering.specs.Made.{Context, temporary}
+use Rattle.lowering.specs.Parts.{nothing, position, is, pieceIn, standsIn, changeIn, dropIn, asNode, asItems, nodeAt, itemsAt, stands, change, onNode, onItems, changeNode, changeItems, without, only, _+++_}
+use Rattle.lowering.specs.Made.{temporary}
 use Rattle.lowering.specs.Assignments.{isTop}
 use Rattle.lowering.specs.Declarations.{isName}
 use Rattle.lowering.specs.Heads.{movedFrom}
-use Rattle.lowering.proofs.All.{AllItems, AllPiece, AllFields, Each, other-changed}
+use Rattle.lowering.proofs.All.{AllItems, AllPiece, AllFields, Each}
 use Rattle.lowering.proofs.Cases.{by-test}
 use Rattle.lowering.proofs.Sites.{here, hereItems}
 
@@ -38,6 +38,10 @@ module _ (x : ℕ) where
   -- one that is moved out of a head
   unfoldable pub slotMoved : Node → ℕ
   slotMoved p = cond (is 34 p) (here x (position p)) 0
+
+  pub moved-less : (p : Node) → slotMoved p ≤ slot p
+  unfolding slotMoved slot
+  moved-less p = by-test (is 34 p) (λ e. rw e (omega arith)) (λ e. rw e (omega arith))
 
   -- the pattern that a declarator takes apart
   unfoldable pub slotValue : Node → ℕ
@@ -65,6 +69,20 @@ module _ (x : ℕ) where
   odds Items.none = 0
   odds (Items.hole is) = odds is
   odds (Items.item p is) = odd p + odds is
+
+  pub odds-append : (is js : Items) → odds (is +++ js) ≡ odds is + odds js
+  unfolding odds _+++_
+  odds-append Items.none js = omega arith
+  odds-append (Items.hole is) js = odds-append is js
+  odds-append (Items.item n is) js = let h = odds-append is js in omega arith
+
+  pub odds-none : odds Items.none ≡ 0
+  unfolding odds
+  odds-none = refl
+
+  pub only-odds : (p : Node) → odds (only p) ≡ odd p
+  unfolding odds
+  only-odds p = omega arith
 
   -- what is moved out of a parameter or a declarator of a head
   unfoldable pub head : Node → ℕ

@@ -3,15 +3,14 @@
 use mathlib.Core.Path.{_≡_, refl, sym, ap, ap₂, _∙_, subst}
 use mathlib.Core.Bool.{Bool, true, false, cond}
 use mathlib.Core.List.{List, [], _∷_, _++_}
-use Prim.Native.Nat.{ℕ, zero, suc, _+_, _*_, _/_, _%_, _<_}
+use Prim.Native.Nat.{ℕ, zero, suc, _+_}
 use native.Mathlib.Omega.{arith}
 use lib.Dec.{eqb}
 use lib.ListN.{length}
 use borrow.Author.Tests.{eqb-true}
-use Rattle.tree.specs.Tree.{Node, Fields, Piece, Items, wideBytes, mapOf, count, encode}
+use Rattle.tree.specs.Tree.{Fields, Items, wideBytes, mapOf, count, encode}
 use Rattle.tree.specs.Tree.Node.{node}
-use Rattle.lowering.specs.Parts.{nodeAt, numberAt, textAt, pieceIn, stands, isEmpty}
-use Rattle.lowering.specs.Made.{idOf}
+use Rattle.lowering.specs.Parts.{nodeAt, numberAt, stands, isEmpty}
 use Rattle.lowering.specs.Walk.{Note, Walked, WalkedFields, WalkedPiece, WalkedItems}
 use Rattle.lowering.specs.Walk.Walked.{noted}
 use Rattle.lowering.specs.Collect.{Name, nameOf, newIn, newInFields, newInPiece, newInItems, isContainer, marked, markOf, bare, bareFields, barePiece, bareItems}
@@ -293,7 +292,7 @@ abbrev mutual
   FormedPiece (WalkedPiece.list is) = FormedItems is
   FormedPiece (WalkedPiece.text bs) = Unit {0}
   FormedPiece (WalkedPiece.byte b) = Unit {0}
-  FormedPiece (WalkedPiece.mark b) = b < 65536
+  FormedPiece (WalkedPiece.mark b) = Unit {0}
   FormedPiece (WalkedPiece.number b) = Unit {0}
 
   pub FormedItems : WalkedItems → Type 0

@@ -1,23 +1,22 @@
 -- The deeds of a walk, run through the output machine, give the outcome of the definition. Of one rewriting one law is asked for: of the cells
 -- that are still to be made.
 -- Assumes nothing.
-use mathlib.Core.Path.{_≡_, refl, sym, ap, ap₂, _∙_, subst}
-use mathlib.Core.Bool.{Bool, true, false, cond, not, _||_, _&&_, false≢true, true≢false}
+use mathlib.Core.Path.{_≡_, refl, sym, ap, ap₂, _∙_}
+use mathlib.Core.Bool.{true, false}
 use mathlib.Core.List.{List, [], _∷_, _++_}
 use Prim.Native.Nat.{ℕ, zero, suc, _+_, _-_, _*_, _/_, _%_, _≤_, _<_, min}
 use native.Mathlib.Omega.{arith}
 use lib.Dec.{eqb, ltb}
 use lib.ListN.{length, length-append, replicate}
-use borrow.Author.Tests.{ne-eqb, ltb-true, ltb-false, lt-ltb, le-ltb}
-use Rattle.tree.specs.Tree.{Node, Fields, Piece, Items, wideBytes, mapOf, count, encode}
-use Rattle.tree.specs.Tree.Node.{node}
+use borrow.Author.Tests.{ne-eqb, ltb-false}
+use Rattle.tree.specs.Tree.{Node, wideBytes, count, encode}
 use Rattle.lowering.specs.Made.{Context}
-use Rattle.lowering.specs.Walk.{Note, Walked, WalkedFields, WalkedPiece, WalkedItems, rewrite}
+use Rattle.lowering.specs.Walk.{Walked, WalkedFields, WalkedPiece, WalkedItems, rewrite}
 use Rattle.lowering.specs.Walk.Walked.{noted}
 use Rattle.lowering.specs.Weight.{walked}
-use Rattle.lowering.specs.Collect.{Name, nameAt, same, over, distinct, numberIn, Entry, Visit, newIn, newInFields, newInPiece, newInItems, marked, bare, bareFields, barePiece, bareItems, visits, firstRefusal, entries, excludedIn, helperMask, nodes, listNodes, namesOf, numbered, listBytes}
+use Rattle.lowering.specs.Collect.{Name, nameAt, same, over, distinct, numberIn, Visit, newIn, newInFields, newInPiece, newInItems, bare, bareFields, barePiece, bareItems, visits, firstRefusal, entries, excludedIn, helperMask, nodes, listNodes, namesOf, numbered, listBytes}
 use Rattle.lowering.specs.Collect
-use Rattle.lowering.specs.Answer.{Lent, Result, Outcome, top, fits, fitted, collected, afterWalk, outcomeOf}
+use Rattle.lowering.specs.Answer.{Lent, Result, top, fits, fitted, collected, afterWalk, outcomeOf}
 use Rattle.lowering.specs.Answer
 use Rattle.lowering.proofs.All.{Each}
 use Rattle.lowering.proofs.Cases.{by-test}
@@ -25,11 +24,10 @@ use Rattle.lowering.proofs.Notes.{AllNotes}
 use Rattle.lowering.proofs.Appearance.{same-is}
 use Rattle.lowering.proofs.Made.{times}
 use Rattle.lowering.proofs.Occurs.{occurs}
-use Rattle.sink.specs.Machine.{Event, Ended, endOf, nothing, steps, start, finished, maskOf}
+use Rattle.sink.specs.Machine.{Event, endOf, nothing, steps, start, finished, maskOf}
 use Rattle.sink.specs.Machine
-use Rattle.sink.specs.Shown.{Named, Token, eventsOf, treeTokens, listTokens, keysTokens, entriesIn, declaratorsIn, madeIn, helpersIn, Apart, CellsOk, order, orderOf, shown, place, treeBytes, handedBack}
+use Rattle.sink.specs.Shown.{Token, eventsOf, treeTokens, listTokens, keysTokens, entriesIn, declaratorsIn, madeIn, helpersIn, order, orderOf, shown, place, treeBytes, handedBack}
 use Rattle.sink.specs.Shown
-use Rattle.sink.specs.Shown.Token.{plain, temp}
 use Rattle.sink.proofs.Names.{size, size-append, length-shown}
 use Rattle.sink.proofs.Firsts.{namesIn}
 use Rattle.sink.proofs.Result.{handed-back}
@@ -46,7 +44,8 @@ use Rattle.outcome.proofs.Good.{Good, parts}
 use Rattle.outcome.proofs.GoodRules.{rewrite-good}
 use Rattle.outcome.proofs.Forms.{walked-formed, good-notes}
 use Rattle.outcome.proofs.Handed.{Hands, rewrite-hands, unchanged-hands}
-use Rattle.outcome.proofs.Numbers.{bytes, Every, every-append, every-weaker, bytes-same, shown-bytes, encode-tokens, Placed, all-placed, number-agrees, In, in-every}
+use Rattle.outcome.proofs.Kept.{Held, Walks, walked-keeps}
+use Rattle.outcome.proofs.Numbers.{bytes, Every, every-weaker, bytes-same, shown-bytes, encode-tokens, Placed, all-placed, number-agrees, in-every}
 use Rattle.outcome.proofs.Nodes.{tree-names, tree-mask}
 use Rattle.outcome.proofs.Lists.{Says, machineEntry, visits-say, counts-small, list-bytes, list-length, visits-marks, entries-marks, entries-small}
 use Rattle.outcome.proofs.Uses.{calm, used, walked-used, occurs-in, entries-every, excluded-every}
@@ -209,7 +208,7 @@ module _ (pot : ℕ → Node → ℕ)
     (spent : (x : ℕ) (c : Context) (n : Node) → Good n → pot x n ≤ 1
     → (number (inCell x) (rewrite c n .note .made) ≤ pot x n)
     × Each (λ m. number (inCell x) (rewrite c n .note .made) + pot x m ≤ pot x n) (rewrite c n .result))
-    (n : Node) (next : ℕ) (good : Good n) (clean : (a : Name) → occurs a n ≡ 0) (most : (x : ℕ) → pot x n ≤ 1) (bound : (x : ℕ) → 16384 ≤ x → pot x n ≡ 0)
+    (n : Node) (next : ℕ) (good : Good n) (held : Held (λ (b : ℕ). b < 65536) n) (clean : (a : Name) → occurs a n ≡ 0) (most : (x : ℕ) → pot x n ≤ 1) (bound : (x : ℕ) → 16384 ≤ x → pot x n ≡ 0)
     (apart : (a : Name) → times a (Collect.madeIn (visits next 0 (walked top n))) ≤ 1) (small : next ≤ 16385) where
   abbrev w : Walked
   w = walked top n
@@ -228,6 +227,9 @@ module _ (pot : ℕ → Node → ℕ)
 
   formed : Formed w
   formed = walked-formed top n good
+
+  kept : Walks (λ (b : ℕ). b < 65536) w
+  kept = walked-keeps (λ (b : ℕ). b < 65536) (omega arith) top n held
 
   leafy : Leafy w
   leafy = formed-leafy w formed
@@ -344,7 +346,7 @@ module _ (pot : ℕ → Node → ℕ)
           (ap₂ (λ (x : ℕ) (y : List ℕ). wideBytes x ++ y) entries-are first-part)
           (ap₂ (λ (x : ℕ) (y : List ℕ). wideBytes x ++ y) declarators-are second-part)
           ∙ list-bytes ns (entries vs) (excludedIn vs)
-          (entries-small 16384 (entries vs) (omega arith) (entries-marks vs (visits-marks w formed next 0 (omega arith) marks-fit)) (counts-small 16384 (entries vs) (omega arith)))
+          (entries-small 16384 (entries vs) (omega arith) (entries-marks vs (visits-marks w kept next 0 (omega arith) marks-fit)) (counts-small 16384 (entries vs) (omega arith)))
 
   -- ---- the end of the run
 

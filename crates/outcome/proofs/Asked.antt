@@ -1,24 +1,26 @@
 -- What the grammar says of the kinds of the parts of a node, of all forms by one test.
 -- Assumes nothing.
-use mathlib.Core.Path.{_≡_, refl, sym, ap, ap₂, _∙_, subst}
-use mathlib.Core.Bool.{Bool, true, false, cond, not, _&&_, _||_, false≢true, true≢false}
+use mathlib.Core.Path.{_≡_, refl, sym, ap, _∙_, subst}
+use mathlib.Core.Bool.{Bool, true, false, cond, not, _&&_, _||_, false≢true}
 use mathlib.Core.List.{List, [], _∷_}
 use mathlib.Core.Logic.{_⊎_, ⊎-elim}
 use mathlib.Core.Logic._⊎_.{inl, inr}
-use Prim.Native.Nat.{ℕ, zero, suc, _+_, _-_, _≤_, _<_}
+use Prim.Native.Nat.{ℕ, zero, suc, _-_, _<_}
 use native.Mathlib.Omega.{arith}
 use native.Mathlib.Decide.{decLt}
-use lib.Dec.{eqb, ltb}
+use lib.Dec.{T, eqb, ltb}
 use lib.ListN.{getD}
-use borrow.Author.Tests.{eqb-true, eq-eqb, lt-ltb, le-ltb}
+use borrow.Author.Tests.{eqb-true, lt-ltb, le-ltb}
 use Rattle.tree.specs.Tree.{Node, Fields, Piece, Items}
 use Rattle.tree.specs.Tree.Node.{node}
-use Rattle.tree.specs.Grammar.{Sort, Field, Stage, places, allowed, kindOf, formIn, formAt, fieldsOf, kinds, variants}
+use Rattle.tree.specs.Grammar.{Sort, Field, places, allowed, kindOf, formIn, formAt, fieldsOf, kinds, variants}
 use Rattle.tree.specs.Grammar.Stage.{input}
 use Rattle.tree.specs.Read.{sortIn}
 use Rattle.tree.specs.WellFormed.{Fits, FitFields, FitPiece, FitItems}
-use Rattle.lowering.specs.Parts.{nothing, kind, is, pieceIn, asNode, asItems}
+use Rattle.tree.proofs.Table.{below, below-at}
+use Rattle.lowering.specs.Parts.{nothing, kind, pieceIn, asNode, asItems}
 use Rattle.lowering.proofs.All.{AllItems}
+use Rattle.lowering.proofs.Accepted.{form-kind}
 use Rattle.lowering.proofs.Cases.{by-test, and-left, and-right}
 use Rattle.outcome.proofs.Good.{NoPart, NoParts}
 
@@ -123,21 +125,13 @@ asks k ts =
 
 -- ---- all forms
 
-unfoldable below : ℕ → (ℕ → Bool) → Bool
-below zero f = true
-below (suc n) f = f n && below n f
+passed : (b : Bool) → T b → b ≡ true
+passed true t = refl
+passed false t = absurd t
 
-below-at : (f : ℕ → Bool) (n : ℕ) → below n f ≡ true → (i : ℕ) → i < n → f i ≡ true
-unfolding below
-below-at f zero t i h = absurd (omega arith)
-below-at f (suc n) t i h =
-    by-test (eqb i n)
-    (λ e. let z : i ≡ n = eqb-true i n e in ap f z ∙ and-left (f n) (below n f) t)
-    (λ e. below-at f n (and-right (f n) (below n f) t) i (let z : i ≡ n → ⊥ = λ y. true≢false (sym (eq-eqb i n y) ∙ e) in omega arith))
-
-early : below 64 (λ f. asks f (getD kinds f [])) ≡ true
-unfolding below asks nodeKinds itemKinds sortAt plain plains listFirst nodeFirst allAt everyForm places kindOf kinds
-early = refl
+early : T (below 64 (λ f. asks f (getD kinds f [])))
+unfolding asks nodeKinds itemKinds sortAt plain plains listFirst nodeFirst allAt everyForm places kindOf kinds
+early = tt
 
 late : ℕ → ℕ
 late m = getD (14 ∷ 14 ∷ 34 ∷ 35 ∷ 36 ∷ 37 ∷ []) m 0
@@ -156,28 +150,12 @@ form-asks : (f : ℕ) → asks (kindOf f) (fieldsOf f) ≡ true
 unfolding kindOf fieldsOf late
 form-asks f =
     elim (decLt f 64) [
-      | yes h ↦ rw (lt-ltb f 64 h) (below-at (λ g. asks g (getD kinds g [])) 64 early f h)
+      | yes h ↦ rw (lt-ltb f 64 h) (passed (asks f (getD kinds f [])) (below-at (λ g. asks g (getD kinds g [])) 64 early f h))
       | no h ↦ rw (le-ltb f 64 (omega arith)) (lately (f - 64))
     ]
 
--- ---- the form of a node has its kind
+-- ---- the kind of a node at a place
 
-form-in : (fs : List ℕ) (k : ℕ) → 0 < formIn fs k → kindOf (formIn fs k) ≡ k
-unfolding formIn
-form-in [] k h = absurd (omega arith)
-form-in (f ∷ fs) k h =
-    by-test (eqb (kindOf f) k)
-    (λ e. rw e (eqb-true (kindOf f) k e))
-    (λ e. let h′ : 0 < formIn fs k = rw e at h in rw e (form-in fs k h′))
-
-form-kind : (p k : ℕ) → 0 < formAt input p k → kindOf (formAt input p k) ≡ k
-unfolding formAt
-form-kind p k h =
-    by-test (ltb k 64)
-    (λ e. let h′ : 0 < formIn (allowed input p) k = rw e at h in rw e (form-in (allowed input p) k h′))
-    (λ e. let h′ : 0 < 0 = rw e at h in absurd (omega arith))
-
--- the kind of a node at a place
 kinds-in : (t : ℕ → Bool) (fs : List ℕ) (k : ℕ) → everyForm t fs ≡ true → 0 < formIn fs k → t k ≡ true
 unfolding everyForm formIn
 kinds-in t [] k a h = absurd (omega arith)

@@ -1,31 +1,28 @@
 -- A tree that fits the grammar of input is good and has no Temporary, and each Default in it has a node at its left.
 -- Assumes nothing.
-use mathlib.Core.Path.{_≡_, refl, sym, ap, ap₂, _∙_, subst}
-use mathlib.Core.Bool.{Bool, true, false, cond, not, _&&_, _||_, false≢true, true≢false}
-use mathlib.Core.List.{List, [], _∷_}
-use mathlib.Core.Logic.{_⊎_, ⊎-elim}
-use mathlib.Core.Logic._⊎_.{inl, inr}
-use Prim.Native.Nat.{ℕ, zero, suc, _+_, _<_, _≤_}
+use mathlib.Core.Path.{_≡_, refl, sym, _∙_}
+use mathlib.Core.Bool.{Bool, true, false, cond, not, _||_, false≢true}
+use mathlib.Core.List.{List}
+use mathlib.Core.Logic._⊎_.{inr}
+use Prim.Native.Nat.{ℕ, zero, suc}
 use native.Mathlib.Omega.{arith}
 use lib.Dec.{eqb}
 use borrow.Author.Tests.{eqb-true, eq-eqb}
 use Rattle.tree.specs.Tree.{Node, Fields, Piece, Items, depth}
 use Rattle.tree.specs.Tree.Node.{node}
-use Rattle.tree.specs.Grammar.{Sort, Field, Stage, formAt, fieldsOf}
+use Rattle.tree.specs.Grammar.{Sort, Field, formAt, fieldsOf}
 use Rattle.tree.specs.Grammar.Stage.{input}
 use Rattle.tree.specs.Read.{sortIn}
 use Rattle.tree.specs.WellFormed.{Fits, FitFields, FitPiece, FitItems, byteIn}
-use Rattle.lowering.specs.Parts.{nothing, kind, is, pieceIn, asNode, asItems, nodeAt, itemsAt, only, gather, _+++_}
+use Rattle.lowering.specs.Parts.{nothing, kind, is, pieceIn, asNode, asItems, nodeAt, itemsAt, gather}
 use Rattle.lowering.specs.Patterns.{shape, itemsOf, rest}
 use Rattle.lowering.specs.Patterns.Shape.{objectPattern, arrayPattern, default, leaf}
 use Rattle.lowering.specs.Heads.{moved, isMoved, movedFrom}
-use Rattle.lowering.specs.Collect.{Name, nameOf, same}
-use Rattle.lowering.proofs.All.{AllItems, weaker-items}
-use Rattle.lowering.proofs.Cases.{by-test, by-shape, default-is}
-use Rattle.lowering.proofs.Occurs.{occurs, occursFields, occursPiece, occursItems}
+use Rattle.lowering.proofs.All.{weaker-items}
+use Rattle.lowering.proofs.Cases.{by-test, by-shape, or-left, or-right}
 use Rattle.outcome.proofs.Good.{Pure, PureFields, PurePiece, PureItems, Leaf, Is35, Local, Good, GoodFields, GoodPiece, GoodItems}
 use Rattle.outcome.proofs.Asked.{leafKind, notDefault, standing, Known, known}
-use Rattle.outcome.proofs.Potential.{gone, odd, odds}
+use Rattle.outcome.proofs.Potential.{gone, odd, odds, odds-append, odds-none, only-odds}
 
 -- ---- tests and what they say
 
@@ -39,13 +36,9 @@ leaf-of n h = go (eqb (kind n) 34) (eqb (kind n) 36) (eqb (kind n) 37) h
     go false false true e = absurd (false≢true e)
     go false false false e = refl
 
-not-true′ : (b : Bool) → not b ≡ true → b ≡ false
-not-true′ true h = absurd (false≢true h)
-not-true′ false h = refl
-
-or-none : (a b : Bool) → a || b ≡ false → (a ≡ false) × (b ≡ false)
-or-none true b h = absurd (true≢false h)
-or-none false b h = (refl, h)
+not-true : (b : Bool) → not b ≡ true → b ≡ false
+not-true true h = absurd (false≢true h)
+not-true false h = refl
 
 pub same-kind : (j : ℕ) (n : Node) → eqb j (kind n) ≡ true → is j n ≡ true
 unfolding is
@@ -53,11 +46,11 @@ same-kind j n e = let z : j ≡ kind n = eqb-true j (kind n) e in eq-eqb (kind n
 
 pub not-37 : (n : Node) → notDefault (kind n) ≡ true → is 37 n ≡ false
 unfolding is
-not-37 n h = not-true′ (eqb (kind n) 37) h
+not-37 n h = not-true (eqb (kind n) 37) h
 
 not-gone : (n : Node) → standing (kind n) ≡ true → gone n ≡ false
 unfolding gone is
-not-gone n h = not-true′ (eqb (kind n) 20 || eqb (kind n) 0) h
+not-gone n h = not-true (eqb (kind n) 20 || eqb (kind n) 0) h
 
 -- ---- no Default without a left
 
@@ -130,49 +123,35 @@ left-firm (node at k fs) e h = h .0 e
 
 -- so nothing odd is moved
 module _ (x : ℕ) where
-  odds-append : (ks js : Items) → odds x (ks +++ js) ≡ odds x ks + odds x js
-  unfolding odds _+++_
-  odds-append Items.none js = omega arith
-  odds-append (Items.hole ks) js = odds-append ks js
-  odds-append (Items.item n ks) js = let h = odds-append ks js in omega arith
-
-  odds-none : odds x Items.none ≡ 0
-  unfolding odds
-  odds-none = refl
-
-  only-odds : (p : Node) → odds x (only p) ≡ odd x p
-  unfolding odds
-  only-odds p = omega arith
-
   firm-odd : (p : Node) → Firm p → odd x p ≡ 0
   unfolding odd
   firm-odd p h = by-test (is 37 p) (λ e. rw (e, left-firm p e h) refl) (λ e. rw e refl)
 
   gather-odds : (f : Node → Items) → ((n : Node) → Firm n → odds x (f n) ≡ 0) → (ns : Items) → FirmItems ns → odds x (gather f ns) ≡ 0
   unfolding gather
-  gather-odds f g Items.none h = odds-none
+  gather-odds f g Items.none h = odds-none x
   gather-odds f g (Items.hole ns) h = gather-odds f g ns h
-  gather-odds f g (Items.item n ns) h = let a = odds-append (f n) (gather f ns) in let b = g n (h .0) in let c = gather-odds f g ns (h .1) in omega arith
+  gather-odds f g (Items.item n ns) h = let a = odds-append x (f n) (gather f ns) in let b = g n (h .0) in let c = gather-odds f g ns (h .1) in omega arith
 
   moved-odds : (d : ℕ) (p : Node) → Firm p → odds x (moved d p) ≡ 0
   unfolding moved
-  moved-odds zero p h = odds-none
+  moved-odds zero p h = odds-none x
   moved-odds (suc d) p h =
-      let o = only-odds p in
+      let o = only-odds x p in
       let f = firm-odd p h in
       by-shape (shape p)
       (λ e. rw (e, moved) (omega arith))
       (λ e. rw (e, moved)
-      (let a = odds-append (gather (λ m. moved d m) (itemsOf p)) (moved d (rest p)) in
+      (let a = odds-append x (gather (λ m. moved d m) (itemsOf p)) (moved d (rest p)) in
       let b = gather-odds (λ m. moved d m) (moved-odds d) (itemsOf p) (items-firm 0 p h) in
       let c = moved-odds d (rest p) (node-firm 1 p h) in
       omega arith))
       (λ e. rw (e, moved) (omega arith))
-      (λ e. rw (e, moved) odds-none)
+      (λ e. rw (e, moved) (odds-none x))
 
   pub from-odds : (q : Node) → Firm q → odds x (movedFrom q) ≡ 0
   unfolding movedFrom
-  from-odds q h = by-test (isMoved q) (λ e. rw e (moved-odds (depth (nodeAt 0 q)) (nodeAt 0 q) (node-firm 0 q h))) (λ e. rw e odds-none)
+  from-odds q h = by-test (isMoved q) (λ e. rw e (moved-odds (depth (nodeAt 0 q)) (nodeAt 0 q) (node-firm 0 q h))) (λ e. rw e (odds-none x))
 
 -- ---- what fits
 
@@ -194,10 +173,10 @@ pure-node (Piece.number b) h = (refl, tt)
 
 local : (k : ℕ) (fs : Fields) → Known k fs → PureFields fs → Local k fs
 local k fs w p =
-    let m = or-none (eqb k 20) (eqb k 21) (not-true′ (eqb k 20 || eqb k 21) (w .made)) in
+    let m = not-true (eqb k 20 || eqb k 21) (w .made) in
     record {
-      temporary = λ e. absurd (false≢true (sym (m .0) ∙ e));
-      helper = λ e. absurd (false≢true (sym (m .1) ∙ e));
+      temporary = λ e. absurd (false≢true (sym (or-left (eqb k 20) (eqb k 21) m) ∙ e));
+      helper = λ e. absurd (false≢true (sym (or-right (eqb k 20) (eqb k 21) m) ∙ e));
       reference = w .reference;
       object = λ e. (leaf-of (asNode (pieceIn fs 1)) (w .rest e), weaker-items (λ n. eqb 35 (kind n) ≡ true) Is35 (λ n h. same-kind 35 n h) (asItems (pieceIn fs 0)) (w .properties e));
       property = λ e. inr (pure-node (pieceIn fs 0) (pure-piece fs 0 p), leaf-of (asNode (pieceIn fs 0)) (w .key e));
@@ -209,8 +188,8 @@ mutual
   fits-good p (node at k fs) (Fits.fits h r) =
       let w = known p at k fs h r in
       let g = fields-good 0 (fieldsOf (formAt input p k)) fs r in
-      let m = or-none (eqb k 20) (eqb k 21) (not-true′ (eqb k 20 || eqb k 21) (w .made)) in
-      ((local k fs w (g .1), g .0), (m .0, g .1), ((λ e. not-gone (asNode (pieceIn fs 0)) (w .left e)), g .2))
+      let m = not-true (eqb k 20 || eqb k 21) (w .made) in
+      ((local k fs w (g .1), g .0), (or-left (eqb k 20) (eqb k 21) m, g .1), ((λ e. not-gone (asNode (pieceIn fs 0)) (w .left e)), g .2))
 
   fields-good : (b : ℕ) (ts : List Field) (fs : Fields) → FitFields input b ts fs → GoodFields fs × PureFields fs × FirmFields fs
   fields-good b ts Fields.done FitFields.done = (tt, tt, tt)
@@ -227,7 +206,7 @@ mutual
   piece-good b s (Piece.list ns) (FitPiece.gaps {p = q} c r) = items-good q true ns r
   piece-good b s (Piece.text bs) (FitPiece.text l r) = (tt, tt, tt)
   piece-good b s (Piece.byte v) (FitPiece.byte l r m) = (tt, tt, tt)
-  piece-good b s (Piece.mark v) (FitPiece.mark l) = (l, tt, tt)
+  piece-good b s (Piece.mark v) (FitPiece.mark l) = (tt, tt, tt)
   piece-good b s (Piece.number v) (FitPiece.number l) = (tt, tt, tt)
 
   items-good : (p : ℕ) (h : Bool) (ns : Items) → FitItems input p h ns → GoodItems ns × PureItems ns × FirmItems ns
@@ -237,30 +216,3 @@ mutual
       let u = fits-good p n f in
       let v = items-good p h ns r in
       ((u .0, v .0), (u .1, v .1), (u .2, v .2))
-
--- ---- no Temporary, no name
-
-module _ (a : Name) where
-  mutual
-    unfolding occurs
-
-    pub pure-clean : (n : Node) → Pure n → occurs a n ≡ 0
-    pure-clean (node at k fs) h = rw (h .0) (let r = clean-fields fs (h .1) in omega arith)
-
-    clean-fields : (fs : Fields) → PureFields fs → occursFields a fs ≡ 0
-    clean-fields Fields.done h = refl
-    clean-fields (Fields.absent fs) h = clean-fields fs h
-    clean-fields (Fields.field p fs) h = let u = clean-piece p (h .0) in let v = clean-fields fs (h .1) in omega arith
-
-    clean-piece : (p : Piece) → PurePiece p → occursPiece a p ≡ 0
-    clean-piece (Piece.one n) h = pure-clean n h
-    clean-piece (Piece.list ns) h = clean-items ns h
-    clean-piece (Piece.text bs) h = refl
-    clean-piece (Piece.byte b) h = refl
-    clean-piece (Piece.mark b) h = refl
-    clean-piece (Piece.number b) h = refl
-
-    clean-items : (ns : Items) → PureItems ns → occursItems a ns ≡ 0
-    clean-items Items.none h = refl
-    clean-items (Items.hole ns) h = clean-items ns h
-    clean-items (Items.item n ns) h = let u = pure-clean n (h .0) in let v = clean-items ns (h .1) in omega arith
