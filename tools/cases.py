@@ -3,9 +3,13 @@
     tools/cases.py [--list] FOLDER
 
 FOLDER has the vector files, document01.txt, readings.txt, extra.txt and recorded.txt. --list prints each case's number and
-what it is. A case is a byte, the expected answer of reading; two 16-bit numbers, the tree's length and the expected next
-mark (0 on a refusal); then the tree. Expected answers are those recorded in the vector files or given here; read.py has
-to agree with each, and supplies the marks.
+what it is. The cases of reading come first. Such a case is a zero byte; a byte, the expected answer of reading; two 16-bit
+numbers, the tree's length and the expected next mark (0 on a refusal); then the tree. Expected answers are those recorded
+in the vector files or given here; read.py has to agree with each, and supplies the marks.
+
+A case of lowering is a byte 1; the options byte, the expected answer, helper mask and options mask, a byte each; three
+16-bit numbers, the lengths of the tree, of the expected tree and of the expected list; then these three. What is expected
+is recorded in the vector files or given here.
 """
 import os
 import sys
@@ -20,23 +24,41 @@ def wide(number):
 
 
 def encode(number, mark, tree):
-    return bytes([number]) + wide(len(tree)) + wide(mark) + tree
+    return bytes([0, number]) + wide(len(tree)) + wide(mark) + tree
 
 
-def load(folder, name):
-    """The cases of a vector file: what each is, the answer of reading (None where it is not recorded) and the tree."""
+def encode_lowering(options, number, helpers, mask, tree, result, listed):
+    lengths = wide(len(tree)) + wide(len(result)) + wide(len(listed))
+    return bytes([1, options, number, helpers, mask]) + lengths + tree + result + listed
+
+
+def lines_of(folder, name):
+    """The cases of a vector file: what each is, and the words of its line."""
     what = ""
     with open(os.path.join(folder, name + ".txt")) as lines:
         for at, line in enumerate(lines, 1):
             if line.startswith("#"):
                 what = line[1:].strip()
             elif line.strip():
-                given, number = line.split()[:2]
-                # 1 and 2 come before reading, 3 and 4 from it, all else after it
-                reading = {"1": None, "2": None, "3": 3, "4": 4}.get(number, 0)
-                # the first byte is the options
-                yield f"{name}:{at} {what}".strip(), reading, bytes.fromhex(given)[1:]
+                yield f"{name}:{at} {what}".strip(), line.split()
                 what = ""
+
+
+def load(folder, name):
+    """The cases of a vector file: what each is, the answer of reading (None where it is not recorded) and the tree."""
+    for what, (given, number, *_) in lines_of(folder, name):
+        # 1 and 2 come before reading, 3 and 4 from it, all else after it
+        reading = {"1": None, "2": None, "3": 3, "4": 4}.get(number, 0)
+        # the first byte is the options
+        yield what, reading, bytes.fromhex(given)[1:]
+
+
+def load_lowerings(folder, name):
+    """The same as cases of lowering: what each is, and what encode_lowering takes."""
+    for what, (given, number, helpers, mask, *results) in lines_of(folder, name):
+        options, tree = bytes.fromhex(given)[0], bytes.fromhex(given)[1:]
+        result, listed = (b"" if word == "-" else bytes.fromhex(word) for word in results)
+        yield what, (options, int(number), int(helpers), int(mask), tree, result, listed)
 
 
 def blocks(count):
@@ -90,21 +112,123 @@ def made():
     ]
 
 
+def doubled(source, rest):
+    """`let {...r} = s, {...q} = t;` with names of these lengths for s and r; and what it becomes:
+    `let r = X({}, (E(s), s)), q = X({}, (E(t), t));`, where s and t stand twice."""
+
+    def named(kind, name):
+        return bytes([kind, 1]) + wide(len(name)) + name
+
+    tree = result = bytes([1, 1, 1, 0, 4, 7, 1, 0, 2, 2, 0])
+    for name, value in (b"r" * rest, b"s" * source), (b"q", b"t"):
+        empty = bytes([29, 3, 21, 1, 3, 1, 0]) + named(18, value)
+        copy = bytes([29, 3, 21, 1, 2, 2, 0, 24, 1, 0, 0, 28, 1, 2, 0]) + empty + named(18, value)
+        tree += bytes([5, 3, 34, 3, 0, 0]) + named(19, name) + named(18, value)
+        result += bytes([5, 3]) + named(19, name) + copy
+    return tree, result
+
+
+def handed_out(key, count):
+    """`{ ({a, ...r} = s); [{...o}, ...] = b; }` with a key of that many bytes for a and that many objects; and what it
+    becomes: `{ ($1 = s, {a} = $1, r = W($1, $2)); ([$3, ...] = b, ($5 = $3, {} = $5, o = X({}, (E($5), $5)), $5), ...); }`
+    with the list `@2: $1 | @3: $3, ... | @3: $5 | ... | excluded: $2 = ["a"]`."""
+
+    def assigned(target, value):
+        return bytes([27, 7, 1]) + target + value
+
+    def property_of(value):
+        return bytes([35, 7, 38, 1]) + wide(key) + b"k" * key + value + bytes([2])
+
+    def temporary(number):
+        return bytes([20, 1]) + wide(number)
+
+    def declared(*numbers):
+        return wide(len(numbers)) + b"".join(bytes([5, 1]) + temporary(number) for number in numbers)
+
+    def named(letter):
+        return bytes([18, 1, 1, 0]) + letter
+
+    def sequence(*items):
+        return bytes([28, 1]) + wide(len(items)) + b"".join(items)
+
+    def moved(to, source):
+        empty = bytes([29, 3, 21, 1, 3, 1, 0]) + temporary(to)
+        copy = bytes([29, 3, 21, 1, 2, 2, 0, 24, 1, 0, 0]) + sequence(empty, temporary(to))
+        bare = assigned(bytes([34, 1, 0, 0]), temporary(to))
+        return sequence(assigned(temporary(to), temporary(source)), bare, assigned(named(b"o"), copy), temporary(to))
+
+    head, second, third = bytes([1, 1, 1, 0, 2, 3, 1, 0, 2, 0]), bytes([3, 3, 2, 0]), bytes([3, 3, 3, 0])
+    one = property_of(named(b"a"))
+    objects = (bytes([34, 3, 0, 0]) + named(b"o")) * count
+    tree = head + second + assigned(bytes([34, 3, 1, 0]) + one + named(b"r"), named(b"s"))
+    tree += third + assigned(bytes([36, 1]) + wide(count) + objects, named(b"b"))
+    outer, inner = range(3, 3 + count), range(3 + count, 3 + 2 * count)
+    without = bytes([29, 3, 21, 1, 4, 2, 0]) + temporary(1) + temporary(2)
+    kept = assigned(bytes([34, 1, 1, 0]) + one, temporary(1))
+    result = head + second + sequence(assigned(temporary(1), named(b"s")), kept, assigned(named(b"r"), without))
+    array = bytes([36, 1]) + wide(count) + b"".join(map(temporary, outer))
+    result += third + sequence(assigned(array, named(b"b")), *map(moved, inner, outer))
+    listed = wide(2 + count) + wide(2) + declared(1) + wide(3) + declared(*outer)
+    listed += b"".join(wide(3) + declared(number) for number in inner)
+    listed += bytes([1, 0, 5, 3]) + temporary(2) + bytes([32, 1, 1, 0, 22, 7, 1, 0, 0]) + wide(key) + b"k" * key
+    return tree, result, listed
+
+
+def made_lowerings():
+    """Cases at the edges of the refusals that are the entry's own."""
+    listing, long = bytes.fromhex("0101010003030100180101001a011201010061"), sized(16384)
+    fits, over = doubled(16340, 2), doubled(16340, 3)
+    full, past = handed_out(16285, 4), handed_out(16286, 4)
+    return [
+        ("no tree", (0, 3, 0, 0, b"", b"", b"")),
+        ("options 16, no tree", (16, 1, 0, 0, b"", b"", b"")),
+        ("options 255, a tree", (255, 1, 0, 0, listing, b"", b"")),
+        ("options 16, 16,385 bytes", (16, 1, 0, 0, bytes(16385), b"", b"")),
+        ("16,384 bytes, unchanged", (15, 0, 0, 15, long, long, bytes(4))),
+        ("16,385 bytes, else a tree", (0, 3, 0, 0, sized(16385), b"", b"")),
+        ("Program, 64 blocks each in the last", (0, 4, 0, 0, blocks(64), b"", b"")),
+        ("a result of 32,768 bytes", (0, 0, 6, 0, *fits, bytes(4))),
+        ("a result of 32,769 bytes", (0, 7, 0, 0, over[0], b"", b"")),
+        ("a list of 16,384 bytes", (0, 0, 14, 0, *full)),
+        ("a list of 16,385 bytes", (0, 7, 0, 0, past[0], b"", b"")),
+    ]
+
+
 def sample(cases):
     """Of the recorded cases that are not long, the 4, fifty 3 and thirty trees, spread evenly."""
+    return spread(cases, [(4, 2000, 100), (3, 500, 50), (0, 300, 30)], lambda case: case[1], lambda case: len(case[2]))
+
+
+def sample_lowerings(cases):
+    """All recorded 5, 6 and 7, the 4; of the others that are not long twenty 1, forty 3 and two hundred trees, spread evenly."""
+    counts = [(7, 20000, 10), (6, 20000, 100), (5, 20000, 100), (4, 2000, 100), (3, 500, 40), (1, 500, 20), (0, 1000, 200)]
+    return spread(cases, counts, lambda case: case[1][1], lambda case: sum(map(len, case[1][4:])))
+
+
+def spread(cases, counts, answer, size):
     chosen = []
-    for number, most, count in (4, 2000, 100), (3, 500, 50), (0, 300, 30):
-        fit = [case for case in cases if case[1] == number and len(case[2]) <= most]
+    for number, most, count in counts:
+        fit = [case for case in cases if answer(case) == number and size(case) <= most]
         step = max(1, len(fit) // count)
         chosen += fit[::step][:count]
     return chosen
 
 
+FILES = "document01", "readings", "extra"
+
+
 def stored(folder):
     cases = made()
-    for name in "document01", "readings", "extra":
+    for name in FILES:
         cases += load(folder, name)
     return cases + sample(list(load(folder, "recorded")))
+
+
+def stored_lowerings(folder):
+    cases = made_lowerings()
+    for name in FILES:
+        cases += load_lowerings(folder, name)
+    return cases + sample_lowerings(list(load_lowerings(folder, "recorded")))
 
 
 def expected(cases):
@@ -116,10 +240,17 @@ def expected(cases):
         yield found, mark, tree
 
 
-def summary(numbers):
-    """The last two lines of the program vectors where nothing is wrong."""
+def summary(numbers, lowered):
+    """The last lines of the program vectors where nothing is wrong, from the answers of reading and of lowering."""
     counts = [numbers.count(number) for number in (0, 3, 4)]
-    return f"accepted {counts[0]}, refused 3: {counts[1]}, refused 4: {counts[2]}\n{len(numbers)} cases, 0 wrong\n"
+    done = lowered.count(0)
+    # two calls for each case, and three more where a tree is lowered
+    calls = 2 * len(lowered) + 3 * done
+    return (
+        f"reading: accepted {counts[0]}, refused 3: {counts[1]}, refused 4: {counts[2]}\n"
+        f"lowering: lowered {done}, refused {len(lowered) - done}, calls {calls}\n"
+        f"{len(numbers) + len(lowered)} cases, 0 wrong\n"
+    )
 
 
 def main():
@@ -128,17 +259,19 @@ def main():
     folders = [word for word in words if word != "--list"]
     if len(folders) != 1:
         sys.exit(__doc__)
-    cases = stored(folders[0])
+    cases, lowerings = stored(folders[0]), stored_lowerings(folders[0])
     answers = list(expected(cases))
-    stream = b"".join(encode(*case) for case in answers)
-    lines = summary([number for number, _, _ in answers])
+    stream = b"".join(encode(*case) for case in answers) + b"".join(encode_lowering(*case) for _, case in lowerings)
+    lines = summary([number for number, _, _ in answers], [case[1] for _, case in lowerings])
     crate = os.path.join(ROOT, "crates", "vectors")
     with open(os.path.join(crate, "stdin"), "wb") as out:
         out.write(stream)
     with open(os.path.join(crate, "stdout"), "w") as out:
         out.write(lines)
     if listed:
-        for at, ((what, _, tree), (number, _, _)) in enumerate(zip(cases, answers), 1):
+        names = [(what, number, tree) for (what, _, _), (number, _, tree) in zip(cases, answers)]
+        names += [(what, case[1], case[4]) for what, case in lowerings]
+        for at, (what, number, tree) in enumerate(names, 1):
             print(f"{at}: {number}, {len(tree)} bytes, {what}")
     print(f"{len(stream)} bytes\n{lines}", end="")
 

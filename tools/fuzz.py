@@ -2,10 +2,10 @@
 
     tools/fuzz.py [--count N] [--seed N] [--binary FILE]
     tools/fuzz.py --grid [--binary FILE]               on the trees of grid.py, which try each rule of the grammar
-    tools/fuzz.py --vectors FOLDER [--binary FILE]     on all cases of the vector files in FOLDER
+    tools/fuzz.py --vectors FOLDER [--binary FILE]     on all cases of the vector files in FOLDER, of reading and of lowering
 
-The cases go to the program in batches, with the answers of read.py as the expected ones. Prints each difference with its
-tree, then the counts. The status is 1 where anything differs.
+The cases go to the program in batches, with the answers of read.py as the expected ones (for the lowering, those of the
+files). Prints each difference with its tree, then the counts. The status is 1 where anything differs.
 """
 import argparse
 import collections
@@ -204,19 +204,33 @@ def trees(rnd, count):
             yield tree
 
 
+def run(binary, stream, count):
+    """Runs the program on that many cases. Returns its differences, by case, and the lines on reading and lowering."""
+    wrote = subprocess.run([binary], input=stream, stdout=subprocess.PIPE, check=True).stdout.decode()
+    *lines, reading, lowering, total = wrote.splitlines()
+    if total != f"{count} cases, {len(lines)} wrong":
+        sys.exit(f"{binary}: {count} cases were sent, {len(lines)} lines came back, and it says: {total}")
+    differences = [re.fullmatch(r"case (\d+): (.*)", line).groups() for line in lines]
+    return [(int(at) - 1, difference) for at, difference in differences], reading, lowering
+
+
 def replay(binary, batch):
     """Runs the program on expected answers with their trees. Prints the differences; returns how many trees it accepted,
     refused by 3 and by 4, and how many answers differ."""
-    stream = b"".join(cases.encode(*case) for case in batch)
-    wrote = subprocess.run([binary], input=stream, stdout=subprocess.PIPE, check=True).stdout.decode()
-    *lines, answers, total = wrote.splitlines()
-    if total != f"{len(batch)} cases, {len(lines)} wrong":
-        sys.exit(f"{binary}: {len(batch)} cases were sent, {len(lines)} lines came back, and it says: {total}")
-    for line in lines:
-        at, difference = re.fullmatch(r"case (\d+): (.*)", line).groups()
-        print(f"{difference}: {batch[int(at) - 1][2].hex()}")
-    counts = re.fullmatch(r"accepted (\d+), refused 3: (\d+), refused 4: (\d+)", answers)
-    return [*map(int, counts.groups()), len(lines)]
+    differences, reading, _ = run(binary, b"".join(cases.encode(*case) for case in batch), len(batch))
+    for at, difference in differences:
+        print(f"{difference}: {batch[at][2].hex()}")
+    counts = re.fullmatch(r"reading: accepted (\d+), refused 3: (\d+), refused 4: (\d+)", reading)
+    return [*map(int, counts.groups()), len(differences)]
+
+
+def replay_lowerings(binary, batch):
+    """Runs the program on cases of lowering. Prints the differences and what it counted; returns how many calls differ."""
+    differences, _, lowering = run(binary, b"".join(cases.encode_lowering(*case) for _, case in batch), len(batch))
+    for at, difference in differences:
+        print(f"{batch[at][0]}: {difference}")
+    print(f"{lowering}, {len(differences)} different")
+    return len(differences)
 
 
 def batches(source):
@@ -246,6 +260,8 @@ def main():
         print(f"{who}: accepted {counts[0]}, refused 3: {counts[3]}, refused 4: {counts[4]}")
     total = sum(expected.values())
     print(f"{total} cases, {found['different']} different")
+    if given.vectors:
+        found["different"] += replay_lowerings(given.binary, [case for name in names for case in cases.load_lowerings(given.vectors, name)])
     sys.exit(1 if found["different"] or not total else 0)
 
 

@@ -55,7 +55,7 @@ lately : (f : ℕ) → 64 ≤ f → kindOf f ≡ late (f - 64)
 unfolding kindOf
 lately f h = rw (le-ltb f 64 h)
 
-form-is : (f k : ℕ) → kindOf f ≡ k → 0 < k → k < 34 → (k ≡ 14 → ⊥) → f ≡ k
+pub form-is : (f k : ℕ) → kindOf f ≡ k → 0 < k → k < 34 → (k ≡ 14 → ⊥) → f ≡ k
 form-is f k e a b c = elim (decLt f 64) [
   | yes h ↦ sym (early f h) ∙ e
   | no h ↦ absurd (c (late-kind (f - 64) k (sym (lately f (omega arith)) ∙ e) a b .0))

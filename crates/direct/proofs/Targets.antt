@@ -28,7 +28,7 @@ use Rattle.direct.proofs.Declared.{properties-changed, rest-beside}
 
 -- ---- lists and fields
 
-shape-changed : (i : ℕ) (f : Piece → Piece) (n : Node) → shape (change i f n) ≡ shape n
+pub shape-changed : (i : ℕ) (f : Piece → Piece) (n : Node) → shape (change i f n) ≡ shape n
 unfolding shape change
 shape-changed i f (node at k fs) = refl
 
@@ -177,19 +177,19 @@ module _ (d : ℕ) (p : Node) where
     unfolding replaced
     rep-leaf e = rw (e, replaced)
 
-    left-object : shape p ≡ objectPattern → withoutRests κ (suc d) p ≡ taken κ (withValues (λ v. withoutRests κ d v) p)
+    pub left-object : shape p ≡ objectPattern → withoutRests κ (suc d) p ≡ taken κ (withValues (λ v. withoutRests κ d v) p)
     unfolding withoutRests
     left-object e = rw (e, withoutRests)
 
-    left-array : shape p ≡ arrayPattern → withoutRests κ (suc d) p ≡ p
+    pub left-array : shape p ≡ arrayPattern → withoutRests κ (suc d) p ≡ p
     unfolding withoutRests
     left-array e = rw (e, withoutRests)
 
-    left-default : shape p ≡ default → withoutRests κ (suc d) p ≡ withLeft (λ v. withoutRests κ d v) p
+    pub left-default : shape p ≡ default → withoutRests κ (suc d) p ≡ withLeft (λ v. withoutRests κ d v) p
     unfolding withoutRests
     left-default e = rw (e, withoutRests)
 
-    left-leaf : shape p ≡ leaf → withoutRests κ (suc d) p ≡ p
+    pub left-leaf : shape p ≡ leaf → withoutRests κ (suc d) p ≡ p
     unfolding withoutRests
     left-leaf e = rw (e, withoutRests)
 
@@ -199,7 +199,7 @@ module _ (κ : Context) where
   rep-nothing zero = refl
   rep-nothing (suc d) = refl
 
-  left-nothing : (d : ℕ) → withoutRests κ d nothing ≡ nothing
+  pub left-nothing : (d : ℕ) → withoutRests κ d nothing ≡ nothing
   unfolding withoutRests shape
   left-nothing zero = refl
   left-nothing (suc d) = refl
@@ -248,7 +248,7 @@ module _ (κ : Context) where
       ∙ any-each (λ q. t (value q)) (λ q. changeNode 1 f q) (properties p)
       ∙ ap (λ (g : Node → Bool). any g (properties p)) (fun-ext (λ q. ap t (value-changed f z q)))
 
-  left-changed : (f : Node → Node) → f nothing ≡ nothing → (p : Node) → leftOf (withLeft f p) ≡ f (leftOf p)
+  pub left-changed : (f : Node → Node) → f nothing ≡ nothing → (p : Node) → leftOf (withLeft f p) ≡ f (leftOf p)
   left-changed f z p = first-changed f z p
 
   pub has-replaced : (d : ℕ) (p : Node) → hasNestedArrayRest d p ≡ false → hasNestedObjectRest d (replaced κ d p) ≡ false
@@ -338,7 +338,7 @@ module _ (κ : Context) where
 
 -- ---- rests taken: what stands below arrays stays
 
-items-left : (n : Node) → itemsAt 0 (without 1 n) ≡ itemsAt 0 n
+pub items-left : (n : Node) → itemsAt 0 (without 1 n) ≡ itemsAt 0 n
 unfolding itemsAt without dropIn pieceIn
 items-left (node at k done) = refl
 items-left (node at k (absent fs)) = refl
@@ -349,7 +349,7 @@ unfolding shape without
 shape-left (node at k fs) = refl
 
 module _ (κ : Context) where
-  shape-taken : (p : Node) → shape (taken κ p) ≡ shape p
+  pub shape-taken : (p : Node) → shape (taken κ p) ≡ shape p
   unfolding taken
   shape-taken p =
       by-test (hasRest p) (λ r. rw r (shape-left (withProperties (keptKey κ) p) ∙ shape-changed 0 (onItems (each (keptKey κ))) p)) (λ r. rw r refl)

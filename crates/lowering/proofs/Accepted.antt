@@ -676,7 +676,7 @@ module _ (tree : List ℕ) where
       (λ n. declaration-whole fs (subst (λ (g : ℕ). OfSorts (fieldsOf g) fs) (form-4 f (e ∙ eqb-true k 4 n)) s))
       t u p
 
-  node-good : (d p at k : ℕ) → 1 ≤ k → Holds (NodeGood p at k) (readNode tree input d p at k)
+  pub node-good : (d p at k : ℕ) → 1 ≤ k → Holds (NodeGood p at k) (readNode tree input d p at k)
   unfolding readNode
   node-good zero p at k l = of-accepted (NodeGood p at k) (ltb 0 (formAt input p (byteAt tree at))) (refused _) (λ e. tt)
   node-good (suc d) p at k l =

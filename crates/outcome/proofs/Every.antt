@@ -1,5 +1,5 @@
 -- For every tree that is accepted the events of its walk end in the definition's outcome, or the walk refuses as the definition does;
--- and in the result the marks of new statements count up from the next mark of the tree.
+-- each temporary of the list stands in the tree, and the marks of new statements count up from the next mark of the tree.
 -- Assumes nothing.
 use mathlib.Core.Path.{_≡_, refl, sym, ap, _∙_}
 use mathlib.Core.List.{List}
@@ -14,7 +14,7 @@ use Rattle.tree.specs.Read.Got.{got, refused}
 use Rattle.tree.specs.WellFormed.{Bytes, Fits, Counts}
 use Rattle.tree.proofs.Sound.{Accepted, sound}
 use Rattle.lowering.specs.Weight.{walked}
-use Rattle.lowering.specs.Collect.{Name, newIn, bare, numbered}
+use Rattle.lowering.specs.Collect.{Name, newIn, bare, visits, firstRefusal, numbered}
 use Rattle.lowering.specs.Answer.{Lent, Result, top, levels, afterWalk, afterReading, lowering, outcomeOf, outcome}
 use Rattle.lowering.proofs.Occurs.{occurs}
 use Rattle.lowering.proofs.Accepted.{accepted-good}
@@ -30,6 +30,7 @@ use Rattle.outcome.proofs.Whole.{outcome-is, refusal-is}
 use Rattle.outcome.proofs.Fitting.{fits-good}
 use Rattle.outcome.proofs.Room.{pot-most, pot-past}
 use Rattle.outcome.proofs.Forms.{walked-formed}
+use Rattle.outcome.proofs.Uses.{used, calm, walked-used}
 use Rattle.outcome.proofs.Kept.{Held, walked-keeps}
 use Rattle.outcome.proofs.Marks.{counts-long, marks-long, counts-held, from, new-marks, numbered-marks}
 
@@ -77,6 +78,12 @@ module _ (limit : ℕ) (tree : List ℕ) (bytes : Bytes tree) (n : Node) (q next
   pub accepted-refusal : (options : ℕ) (s : Lent) (r : ℕ) → firstRefused (deeds next 0 (walked top n)) ≡ suc r → afterWalk options s next (walked top n) ≡ Result.refusal (suc r)
   accepted-refusal =
       refusal-is pot spent n next accepted-is-good accepted-held clean accepted-most accepted-past (accepted-names-apart limit tree n q next read) accepted-next
+
+  -- ---- the temporaries of the list
+
+  -- each of them stands in the tree, where nothing is refused
+  pub accepted-used : (a : Name) → firstRefusal (visits next 0 (walked top n)) ≡ 0 → 0 < used a (visits next 0 (walked top n)) → 0 < occurs a (bare next (walked top n))
+  accepted-used a h u = walked-used a top n accepted-is-good next 0 next (calm (walked top n) next 0 h) u
 
   -- ---- the marks of the result
 

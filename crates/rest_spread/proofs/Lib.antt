@@ -1,9 +1,1 @@
-pub mod Handing
-pub mod Targets
-pub mod Entries
-pub mod Deeds
-pub mod Copied
-pub mod Sizes
-pub mod Accepted
-pub mod Marked
-pub mod Running
+pub mod Entry

@@ -1,3 +1,114 @@
-// The lowering of object rest and spread.
-pub mod target;
-pub mod walk;
+// The lowering of object rest and spread (ES2018) to ECMAScript 2017, from tree bytes to tree bytes.
+
+use emitters::emit;
+use emitters::emit::Place;
+use emitters::walk::Walk;
+use sink::ends;
+use tree::read;
+use tree::read::Answer;
+ghost use mathlib.Core.Path.{_≡_};
+ghost use mathlib.Core.List.{List};
+ghost use Prim.Native.Nat.{ℕ, _<_, _≤_};
+ghost use lib.ListN.{length};
+ghost use Rattle.tree.specs.Tree.{Node};
+ghost use Rattle.tree.specs.Grammar.Stage.{input};
+ghost use Rattle.tree.specs.Read.{readTree};
+ghost use Rattle.tree.specs.Read.Got.{got};
+ghost use Rattle.tree.specs.WellFormed.{Bytes};
+ghost use Rattle.lowering.specs.Answer.{Result, levels, outcomeOf, outcome};
+ghost use Rattle.rest_spread.specs.Entry.{lentOf, handedBack};
+
+// Document 01's answer (0, or the number of a refusal), the mask of helpers, that of options, and the lengths of tree and list.
+#[repr(C)]
+pub struct Lowered {
+    pub answer: u8,
+    pub helpers: u8,
+    pub options: u8,
+    pub tree_len: usize,
+    pub list_len: usize,
+}
+
+// A refusal: all that was lent is zero.
+fn refuse(answer: u8, out: &mut [u8], list: &mut [u8], work: &mut [u8]) -> Lowered
+    ensures { λ r. ⌜ handedBack r (now (out .exit)) (now (list .exit)) (now (work .exit)) ≡ outcomeOf (lentOf (now (out .entry)) (now (list .entry)) (now (work .entry))) (Result.refusal answer) ⌝ }
+{
+    ends::abandon(out, list, work);
+    Lowered {
+        answer: answer,
+        helpers: 0,
+        options: 0,
+        tree_len: 0,
+        list_len: 0,
+    }
+}
+
+// The walk of an accepted tree, whose next mark is given.
+fn lower(
+    options: u8,
+    tree: &[u8],
+    out: &mut [u8],
+    list: &mut [u8],
+    work: &mut [u8],
+    mark: usize,
+) -> Lowered
+    ensures { λ r. ⌜ ((n : Node) (q : ℕ) → options ≤ 15 → 65536 ≤ length (now (work .entry)) → readTree input levels (now (tree .entry)) ≡ got n q mark → handedBack r (now (out .exit)) (now (list .exit)) (now (work .exit)) ≡ outcome options (now (tree .entry)) (lentOf (now (out .entry)) (now (list .entry)) (now (work .entry)))) ⌝ }
+{
+    let k = ends::begin(out, list, work, mark);
+    let w = Walk {
+        sink: k,
+        at: 0,
+        refusal: 0,
+    };
+    let c = Place {
+        root: true,
+        statement: false,
+        mark: 0,
+        left: 64,
+    };
+    let v = emit::node(w, tree, out, list, work, c);
+    let refusal = v.refusal;
+    if 0 < refusal {
+        return refuse(refusal, out, list, work);
+    }
+    let k = v.sink;
+    let written = k.finish(out, list, work);
+    if written.fits {
+        return Lowered {
+            answer: 0,
+            helpers: written.helpers,
+            options: options,
+            tree_len: written.tree,
+            list_len: written.list,
+        };
+    }
+    Lowered {
+        answer: 7,
+        helpers: written.helpers,
+        options: 0,
+        tree_len: written.tree,
+        list_len: written.list,
+    }
+}
+
+// The lowering: document 01's first section. Any bytes, any options, slices of any lengths.
+#[no_mangle]
+pub extern "C" fn rest_spread_lower(
+    options: u32,
+    tree: &[u8],
+    tree_out: &mut [u8],
+    list_out: &mut [u8],
+    work: &mut [u8],
+) -> Lowered
+    ensures { λ r. ⌜ handedBack r (now («tree_out» .exit)) (now («list_out» .exit)) (now (work .exit)) ≡ outcome options (now (tree .entry)) (lentOf (now («tree_out» .entry)) (now («list_out» .entry)) (now (work .entry))) ⌝ }
+{
+    if 15 < options {
+        return refuse(1, tree_out, list_out, work);
+    }
+    if work.len() < 65536 {
+        return refuse(2, tree_out, list_out, work);
+    }
+    match read::read_tree(tree, 64) {
+        Answer::Refused(n) => refuse(n, tree_out, list_out, work),
+        Answer::Read(_, mark) => lower((options % 16) as u8, tree, tree_out, list_out, work, mark),
+    }
+}

@@ -32,7 +32,7 @@ use Rattle.tree.proofs.Skipping.{step-fits}
 -- ---- forms of one kind are laid out alike
 
 -- what a field is, places and bounds aside
-abbrev layout : Sort → ℕ
+abbrev pub layout : Sort → ℕ
 layout (child p) = 0
 layout (chosen p q) = 0
 layout (many p) = 1
@@ -42,7 +42,7 @@ layout (byte a b) = 4
 layout mark = 5
 layout number = 6
 
-abbrev layouts : List Field → List ℕ
+abbrev pub layouts : List Field → List ℕ
 layouts [] = []
 layouts (f ∷ fs) = layout (sortIn f) ∷ layouts fs
 
@@ -57,7 +57,7 @@ variant-alike (suc (suc (suc (suc (suc zero))))) = refl
 variant-alike (suc (suc (suc (suc (suc (suc n)))))) = refl
 
 -- every form is laid out as its kind
-form-alike : (f : ℕ) → layouts (fieldsOf f) ≡ layouts (fieldsOf (kindOf f))
+pub form-alike : (f : ℕ) → layouts (fieldsOf f) ≡ layouts (fieldsOf (kindOf f))
 unfolding fieldsOf kindOf
 form-alike f = elim (decLt f 64) [
   | yes h ↦ rw (lt-ltb f 64 h, lt-ltb f 64 h)
@@ -84,7 +84,7 @@ kind-at stage p k h = go (ltb k 64) h
 
 -- ---- s is what g gives, where it gives something
 
-abbrev Sees : {A : Type 0} → Seen A → Got A → Type 0
+abbrev pub Sees : {A : Type 0} → Seen A → Got A → Type 0
 Sees s g = Holds (λ a q j. s ≡ seen a q) g
 
 sees-mapped : {A B : Type 0} (f : A → B) (s : Seen A) (g : Got A) → Sees s g → Sees (seenAs f s) (mapped f g)
@@ -99,13 +99,13 @@ sees-accepted : {A : Type 0} (b : Bool) (s : Seen A) (g : Got A) → (b ≡ true
 sees-accepted b s g h = of-accepted (λ a q j. s ≡ seen a q) b g h
 
 module _ (l : List ℕ) where
-  on-fits : (at n : ℕ) → at + n ≤ length l → onward l at n ≡ at + n
+  pub on-fits : (at n : ℕ) → at + n ≤ length l → onward l at n ≡ at + n
   on-fits at n h = sym (step-fits l at n (omega arith) (omega arith))
 
-  on-byte : (at : ℕ) → byteAt l at < 256 → onward l at 1 ≡ at + 1
+  pub on-byte : (at : ℕ) → byteAt l at < 256 → onward l at 1 ≡ at + 1
   on-byte at h = let i : at < length l = there l at h in on-fits at 1 (omega arith)
 
-  on-wide : (at : ℕ) → byteAt l (at + 1) < 256 → onward l at 2 ≡ at + 2
+  pub on-wide : (at : ℕ) → byteAt l (at + 1) < 256 → onward l at 2 ≡ at + 2
   on-wide at h = let i : at + 1 < length l = there l (at + 1) h in on-fits at 2 (omega arith)
 
   -- ---- lists of fields that are laid out alike are read alike
@@ -134,7 +134,7 @@ module _ (l : List ℕ) where
     field-layout mark at = refl
     field-layout number at = refl
 
-    slot-alike : (s t : Sort) (bit at : ℕ) → layout s ≡ layout t → lookSlot l R s bit at ≡ lookSlot l R t bit at
+    pub slot-alike : (s t : Sort) (bit at : ℕ) → layout s ≡ layout t → lookSlot l R s bit at ≡ lookSlot l R t bit at
     unfolding lookSlot
     slot-alike s t zero at e = refl
     slot-alike s t (suc bit) at e = ap (seenAs (λ p fs. field p fs)) (field-layout s at ∙ ap (λ (n : ℕ). by-layout n at) e ∙ sym (field-layout t at))
@@ -195,7 +195,7 @@ module _ (l : List ℕ) where
 
   module _ (stage : Stage) where
     module _ (R : ℕ → Seen Node) (r : ℕ → ℕ → ℕ → Got Node) (good : (p at k : ℕ) → Sees (R at) (r p at k)) where
-      field-looks : (s : Sort) (at k : ℕ) → Sees (lookField l R s at) (readField l stage r s at k)
+      pub field-looks : (s : Sort) (at k : ℕ) → Sees (lookField l R s at) (readField l stage r s at k)
       unfolding readField readText readByte readNumber lookField
       field-looks (child p) at k = sees-mapped one (R at) (r p at k) (good p at k)
       field-looks (chosen p q) at k = sees-mapped one (R at) (r (chosenPlace l p q at) at k) (good (chosenPlace l p q at) at k)

@@ -1,0 +1,124 @@
+// What is printed, and what is counted.
+use libc::STDOUT_FILENO;
+
+// How many cases were begun, and what came of them; how often the entry was called; `more` until the input ends or breaks off.
+pub struct Tally {
+    pub cases: u64,
+    pub wrong: u64,
+    pub accepted: u64,
+    pub threes: u64,
+    pub fours: u64,
+    pub lowered: u64,
+    pub refused: u64,
+    pub calls: u64,
+    pub more: bool,
+}
+
+pub fn say(text: &[u8]) {
+    io::write_all(STDOUT_FILENO, text);
+}
+
+pub fn say_number(n: u64) {
+    io::print_decimal(STDOUT_FILENO, n);
+}
+
+fn one_more(n: u64) -> u64 {
+    std::num::wrapping_add_u64(n, 1)
+}
+
+impl Tally {
+    pub fn none() -> Tally {
+        Tally {
+            cases: 0,
+            wrong: 0,
+            accepted: 0,
+            threes: 0,
+            fours: 0,
+            lowered: 0,
+            refused: 0,
+            calls: 0,
+            more: true,
+        }
+    }
+
+    pub fn begun(mut self) -> Tally {
+        self.cases = one_more(self.cases);
+        self
+    }
+
+    pub fn ended(mut self) -> Tally {
+        self.more = false;
+        self
+    }
+
+    // Counts a disagreement and begins its line.
+    pub fn failed(mut self) -> Tally {
+        self.wrong = one_more(self.wrong);
+        say(b"case ");
+        say_number(self.cases);
+        self
+    }
+
+    // The input makes no case from here on.
+    pub fn broken(self, why: &[u8]) -> Tally {
+        let t = self.failed();
+        say(why);
+        t.ended()
+    }
+
+    // An answer of the reader.
+    pub fn read(mut self, answer: u8) -> Tally {
+        match answer {
+            0 => {
+                self.accepted = one_more(self.accepted);
+            }
+            3 => {
+                self.threes = one_more(self.threes);
+            }
+            4 => {
+                self.fours = one_more(self.fours);
+            }
+            _ => {}
+        }
+        self
+    }
+
+    // An expected answer of the entry.
+    pub fn answered(mut self, answer: u8) -> Tally {
+        if answer == 0 {
+            self.lowered = one_more(self.lowered);
+        } else {
+            self.refused = one_more(self.refused);
+        }
+        self
+    }
+
+    pub fn called(mut self) -> Tally {
+        self.calls = one_more(self.calls);
+        self
+    }
+
+    pub fn report(self) {
+        say(b"reading: accepted ");
+        say_number(self.accepted);
+        say(b", refused 3: ");
+        say_number(self.threes);
+        say(b", refused 4: ");
+        say_number(self.fours);
+        say(b"\nlowering: lowered ");
+        say_number(self.lowered);
+        say(b", refused ");
+        say_number(self.refused);
+        say(b", calls ");
+        say_number(self.calls);
+        say(b"\n");
+        say_number(self.cases);
+        say(b" cases, ");
+        say_number(self.wrong);
+        say(b" wrong\n");
+    }
+}
+
+pub fn wide(low: u8, high: u8) -> usize {
+    low as usize + 256 * (high as usize)
+}

@@ -1,0 +1,65 @@
+//! The archive's one function. All `unsafe` of this crate is here.
+
+#![allow(unsafe_code)]
+
+use std::mem::{offset_of, size_of};
+
+/// What the function returns. The bytes that it writes are in the slices.
+#[repr(C)]
+#[derive(Clone, Copy, Debug, PartialEq, Eq)]
+pub struct Outcome {
+    /// 0, or the number of the refusal. At a refusal all else here is 0.
+    pub answer: u8,
+    /// The helpers that the written tree calls: bit 0 for number 1, and so on.
+    pub helpers: u8,
+    /// The options that were asked for, none of which is implemented.
+    pub options: u8,
+    /// How many bytes of the tree slice are the lowered tree.
+    pub tree_len: usize,
+    /// How many bytes of the list slice are the list.
+    pub list_len: usize,
+}
+
+// The layout that the archive was compiled with.
+const _: () = assert!(size_of::<Outcome>() == 24);
+const _: () = assert!(offset_of!(Outcome, answer) == 0 && offset_of!(Outcome, helpers) == 1);
+const _: () = assert!(offset_of!(Outcome, options) == 2 && offset_of!(Outcome, tree_len) == 8);
+const _: () = assert!(offset_of!(Outcome, list_len) == 16);
+
+extern "C" {
+    // In Rattle each slice is one parameter. It is passed as its address and its length.
+    fn rest_spread_lower(
+        options: u32,
+        tree: *const u8,
+        tree_len: usize,
+        tree_out: *mut u8,
+        tree_out_len: usize,
+        list_out: *mut u8,
+        list_out_len: usize,
+        work: *mut u8,
+        work_len: usize,
+    ) -> Outcome;
+}
+
+/// Lowers `tree` into `tree_out` and `list_out`.
+///
+/// Any options, any bytes and slices of any lengths will do; whatever the slices held before is of no account. After
+/// success both outputs are zero behind their lengths. After a refusal they are zero throughout. `work` is zero after
+/// every call.
+pub fn lower(options: u32, tree: &[u8], tree_out: &mut [u8], list_out: &mut [u8], work: &mut [u8]) -> Outcome {
+    // SAFETY: the function is proved for every input: it reads `tree`, writes the three others, stays inside each of
+    // them and ends. That the four lie apart and live until it returns is seen to by their types.
+    unsafe {
+        rest_spread_lower(
+            options,
+            tree.as_ptr(),
+            tree.len(),
+            tree_out.as_mut_ptr(),
+            tree_out.len(),
+            list_out.as_mut_ptr(),
+            list_out.len(),
+            work.as_mut_ptr(),
+            work.len(),
+        )
+    }
+}

@@ -1,0 +1,84 @@
+//! Every stored case, through both layers.
+
+mod common;
+
+use common::cases::{stored, to_hex, Case};
+use common::rig::Rig;
+use rest_spread::{Field, Lowered, Lowerer, Node, Options, Refusal};
+
+/// One `Lowerer` takes all cases, so what a case leaves in its buffers would show in the next.
+#[test]
+fn the_safe_layer_gives_what_is_stored() {
+    let mut lowerer = Lowerer::new();
+    let cases = stored();
+    for case in &cases {
+        let options = Options::from_bits(case.options.into());
+        match lowerer.lower(options, &case.tree) {
+            Ok(lowered) => gives(case, lowered),
+            Err(refusal) => assert_eq!(refusal.number(), case.answer, "{}", case.name),
+        }
+    }
+    assert!(cases.len() >= 400, "{} cases", cases.len());
+    for refusal in Refusal::ALL.into_iter().filter(|&refusal| refusal != Refusal::ShortWork) {
+        assert!(cases.iter().any(|case| case.answer == refusal.number()), "no case has {refusal}");
+    }
+}
+
+fn gives(case: &Case, lowered: Lowered) {
+    assert_eq!(0, case.answer, "{}", case.name);
+    assert_eq!(lowered.helpers.bits(), case.helpers, "{}", case.name);
+    assert_eq!(lowered.options.bits(), case.reported.into(), "{}", case.name);
+    assert_eq!(to_hex(lowered.tree), to_hex(&case.tree_out), "{}", case.name);
+    assert_eq!(to_hex(lowered.list.bytes()), to_hex(&case.list_out), "{}", case.name);
+}
+
+#[test]
+fn the_entry_gives_what_is_stored_and_zeros() {
+    let mut rig = Rig::whole();
+    for case in stored() {
+        let ran = rig.run(case.options.into(), &case.tree);
+        assert_eq!(ran.outcome.answer, case.answer, "{}", case.name);
+        assert_eq!(to_hex(ran.tree_out()), to_hex(&case.tree_out), "{}", case.name);
+        assert_eq!(to_hex(ran.list_out()), to_hex(&case.list_out), "{}", case.name);
+    }
+}
+
+/// Counts the entries, declarators and excluded keys, and takes the list apart to its last byte.
+#[test]
+fn every_stored_list_is_gone_through() {
+    let mut lowerer = Lowerer::new();
+    let (mut entries, mut declared, mut excluded) = (0, 0, 0);
+    for case in stored() {
+        let Ok(lowered) = lowerer.lower(Options::from_bits(case.options.into()), &case.tree) else { continue };
+        let list = lowered.list;
+        assert!(list.is_whole(), "{}", case.name);
+        let mut bytes = 4;
+        for entry in list.entries() {
+            assert!(entry.mark > 0, "{}", case.name);
+            bytes += 4;
+            entries += 1;
+            for declarator in entry.declarators {
+                bytes += declarator.bytes().len();
+                declared += 1;
+            }
+        }
+        for declarator in list.excluded() {
+            bytes += declarator.bytes().len();
+            excluded += 1;
+            let value = declarator.value().unwrap_or_else(|| panic!("{}: excluded keys have a value", case.name));
+            let Some(Field::List(keys)) = value.field(0) else { panic!("{}: of strings", case.name) };
+            assert!(keys.map(Node::name).all(|name| name == "Literal" || name == "Template"), "{}", case.name);
+        }
+        assert_eq!(bytes, list.bytes().len(), "{}", case.name);
+    }
+    assert!(entries > 100 && declared > entries && excluded > 100, "{entries} {declared} {excluded}");
+}
+
+/// The walker reads by kinds alone. It gets to the end of every tree that was accepted.
+#[test]
+fn every_accepted_tree_is_a_node() {
+    for case in stored().into_iter().filter(|case| case.answer == 0 || case.answer >= 5) {
+        let (program, behind) = Node::read(&case.tree).unwrap_or_else(|| panic!("{}", case.name));
+        assert_eq!((program.name(), behind.len()), ("Program", 0), "{}", case.name);
+    }
+}

@@ -1,0 +1,99 @@
+//! The C header: it says what the Rust side says, and the C example over it works.
+
+mod common;
+
+use common::make::{program, spreads};
+use common::skip;
+use rest_spread::{Helper, Options, Refusal, LIST_OUT, TREE_IN, TREE_OUT, WORK};
+use std::collections::HashMap;
+use std::io::Write;
+use std::path::Path;
+use std::process::{Command, Stdio};
+use std::{env, fs};
+
+const HERE: &str = env!("CARGO_MANIFEST_DIR");
+
+#[test]
+fn the_header_has_the_numbers_of_the_safe_layer() {
+    let text = fs::read_to_string(Path::new(HERE).join("rest_spread.h")).unwrap();
+    let mut numbers: HashMap<&str, usize> = HashMap::new();
+    for line in text.lines().filter_map(|line| line.strip_prefix("#define REST_SPREAD_")) {
+        let mut words = line.split_whitespace();
+        let name = words.next().unwrap();
+        if let Some(number) = words.next() {
+            numbers.insert(name, number.parse().unwrap());
+        }
+    }
+    let mut has = |name: &str, number: usize| assert_eq!(numbers.remove(name), Some(number), "{name}");
+    has("TREE_IN", TREE_IN);
+    has("TREE_OUT", TREE_OUT);
+    has("LIST_OUT", LIST_OUT);
+    has("WORK", WORK);
+    has("LOOSE", Options::LOOSE.bits() as usize);
+    has("USE_BUILT_INS", Options::USE_BUILT_INS.bits() as usize);
+    has("OBJECT_REST_NO_SYMBOLS", Options::OBJECT_REST_NO_SYMBOLS.bits() as usize);
+    has("IGNORE_FUNCTION_LENGTH", Options::IGNORE_FUNCTION_LENGTH.bits() as usize);
+    has("LOWERED", 0);
+    for refusal in Refusal::ALL {
+        has(&upper(&format!("{refusal:?}")), refusal.number().into());
+    }
+    for helper in Helper::ALL {
+        has(&upper(&format!("{helper:?}")), 1 << (helper.number() - 1));
+    }
+    assert!(numbers.is_empty(), "{numbers:?}");
+}
+
+/// `NotATree` is `NOT_A_TREE`, and `ObjectSpread2` is `OBJECT_SPREAD_2`.
+fn upper(name: &str) -> String {
+    let words = name.chars().enumerate().map(|(at, letter)| {
+        let begins = at > 0 && !letter.is_lowercase();
+        format!("{}{}", if begins { "_" } else { "" }, letter.to_ascii_uppercase())
+    });
+    words.collect()
+}
+
+#[test]
+fn the_c_example_works() {
+    let compiler = env::var("CC").unwrap_or("cc".into());
+    let program_file = Path::new(env!("CARGO_TARGET_TMPDIR")).join("lower_in_c");
+    let compiled = Command::new(&compiler)
+        .args(["-std=c99", "-Wall", "-Wextra", "-Werror", "-pedantic", "-I.", "examples/lower.c"])
+        .arg(env!("REST_SPREAD_ARCHIVE"))
+        .arg("-o")
+        .arg(&program_file)
+        .current_dir(HERE)
+        .output();
+    let compiled = match compiled {
+        Ok(compiled) => compiled,
+        Err(why) => return skip(&format!("the C example is not compiled: {compiler}: {why}")),
+    };
+    assert!(compiled.status.success(), "{}", String::from_utf8_lossy(&compiled.stderr));
+
+    let run = |input: &[u8]| {
+        let mut child = Command::new(&program_file)
+            .stdin(Stdio::piped())
+            .stdout(Stdio::piped())
+            .spawn()
+            .expect("what was compiled");
+        child.stdin.take().unwrap().write_all(input).unwrap();
+        let output = child.wait_with_output().unwrap();
+        (output.status.code(), String::from_utf8(output.stdout).unwrap())
+    };
+    let (status, said) = run(&program(&[spreads(1, 1)]));
+    assert_eq!((status, said.as_str()), (Some(0), "answer 0, helpers 1, tree of 24 bytes, list of 4\n"));
+    let (status, said) = run(b"no tree");
+    assert_eq!((status, said.as_str()), (Some(3), "answer 3, helpers 0, tree of 0 bytes, list of 0\n"));
+}
+
+#[test]
+fn the_header_is_taken_by_cpp() {
+    let compiler = env::var("CXX").unwrap_or("c++".into());
+    let checked = Command::new(&compiler)
+        .args(["-fsyntax-only", "-Wall", "-Wextra", "-Werror", "-x", "c++", "rest_spread.h"])
+        .current_dir(HERE)
+        .output();
+    match checked {
+        Ok(checked) => assert!(checked.status.success(), "{}", String::from_utf8_lossy(&checked.stderr)),
+        Err(why) => skip(&format!("the header is not tried in C++: {compiler}: {why}")),
+    }
+}

@@ -1,0 +1,62 @@
+//! Drawn trees against the reference program (docs/DIFFERENCES.md), where `RUST_REFERENCE` names it.
+
+mod common;
+
+use common::cases::to_hex;
+use common::draw::{damage, Chance, Grammar};
+use common::{seeds, skip};
+use rest_spread::{Lowerer, Options};
+use std::env;
+use std::io::Write;
+use std::process::{Command, Stdio};
+use std::thread;
+
+#[test]
+fn drawn_trees_are_lowered_as_the_reference_does() {
+    let Some(program) = env::var_os("RUST_REFERENCE") else {
+        return skip("RUST_REFERENCE names no program, so no tree is compared with the reference's");
+    };
+    let grammar = Grammar::new();
+    let cases: Vec<Vec<u8>> = seeds(20_000).map(|seed| draw(&grammar, seed)).collect();
+    let lines: String = cases.iter().map(|case| to_hex(case) + "\n").collect();
+    // Document 01 copies a template key as it stands, and so does the program if it is told to.
+    let mut child = Command::new(&program)
+        .args(["--batch", "--template-key=node"])
+        .stdin(Stdio::piped())
+        .stdout(Stdio::piped())
+        .spawn()
+        .expect("RUST_REFERENCE names a program");
+    let mut input = child.stdin.take().unwrap();
+    let writer = thread::spawn(move || input.write_all(lines.as_bytes()));
+    let output = child.wait_with_output().unwrap();
+    writer.join().unwrap().unwrap();
+
+    let answers = String::from_utf8(output.stdout).unwrap();
+    assert_eq!(answers.lines().count(), cases.len());
+    let mut lowerer = Lowerer::new();
+    for (case, expected) in cases.iter().zip(answers.lines()) {
+        assert_eq!(answer(&mut lowerer, case), expected, "{}", to_hex(case));
+    }
+}
+
+/// An options byte and a tree; one tree in four is damaged.
+fn draw(grammar: &Grammar, seed: u64) -> Vec<u8> {
+    let mut chance = Chance::new(4_000_000_007 + seed);
+    let room = 20 + chance.below(500);
+    let mut tree = grammar.tree(&mut chance, room);
+    if chance.once_in(4) {
+        damage(&mut chance, &mut tree, &[]);
+    }
+    [&[chance.below(17) as u8][..], &tree].concat()
+}
+
+/// What the reference program prints for a case.
+fn answer(lowerer: &mut Lowerer, case: &[u8]) -> String {
+    match lowerer.lower(Options::from_bits(case[0].into()), &case[1..]) {
+        Ok(lowered) => {
+            let (helpers, options) = (lowered.helpers.bits(), lowered.options.bits());
+            format!("0 {helpers} {options} {} {}", to_hex(lowered.tree), to_hex(lowered.list.bytes()))
+        }
+        Err(refusal) => format!("{} 0 0 - -", refusal.number()),
+    }
+}

@@ -1,0 +1,86 @@
+"""Measures lowering beside clearing and copying the same buffers, and beside the Rust reference, on the same trees in one run.
+
+    tools/bench/run.py --reference FOLDER [--library FILE] [--rounds N] [--seconds S] [TREE..]
+
+Wants cc, cargo and patch, and target/staticlib/librest_spread.a, which `rt staticlib rest_spread` makes (or FILE). The
+reference is copied, given a way to measure itself (reference.patch) and built. TREE are names in trees.py; without any,
+all of them are measured. For each tree the two are run by turns, and the least time of a call in all rounds is taken.
+Prints a table: times in microseconds, then the ratios to clearing and copying and to the reference.
+"""
+import argparse
+import os
+import pathlib
+import subprocess
+import sys
+import tempfile
+
+import trees
+
+HERE = pathlib.Path(__file__).resolve().parent
+ROOT = HERE.parent.parent
+
+
+def run(words, **how):
+    return subprocess.run([str(word) for word in words], check=True, **how)
+
+
+def built_bench(library, folder):
+    run(["cc", "-O2", "-o", folder / "bench", HERE / "bench.c", library])
+    return folder / "bench"
+
+
+def built_reference(source, folder):
+    copy = folder / "reference"
+    run(["cp", "-r", source, copy])
+    run(["chmod", "-R", "u+w", copy])
+    run(["patch", "-s", "-p1", "-d", copy, "-i", HERE / "reference.patch"])
+    sources = pathlib.Path(source).resolve().parent / "docs" / "src" / "src"
+    env = {**os.environ, "CARGO_TARGET_DIR": str(folder / "target"), "OXC_SOURCES": str(sources)}
+    run(["cargo", "build", "--release", "--offline", "-q"], cwd=copy, env=env)
+    return folder / "target" / "release" / "oracle"
+
+
+def measured(bench, reference, tree, rounds, seconds):
+    """Length, answer and lengths of the result; the least times of lowering, of clearing and copying, of the reference."""
+    facts, lower, clear, rust = None, [], [], []
+    for _ in range(rounds):
+        words = run([bench, seconds, tree], stdout=subprocess.PIPE).stdout.decode().split()
+        facts = [int(word) for word in words[1:5]]
+        lower.append(float(words[6]))
+        clear.append(float(words[8]))
+        with open(tree, "rb") as given:
+            command = [reference, "--template-key=node", f"--bench={seconds}"]
+            words = run(command, stdin=given, stdout=subprocess.PIPE).stdout.decode().split()
+        if int(words[0]) != facts[1]:
+            sys.exit(f"{tree}: the answer is {facts[1]}, the reference's {words[0]}")
+        rust.append(float(words[2]))
+    return facts, min(lower), min(clear), min(rust)
+
+
+def main():
+    words = argparse.ArgumentParser(description=__doc__.splitlines()[0])
+    words.add_argument("--reference", required=True)
+    words.add_argument("--library", default=ROOT / "target" / "staticlib" / "librest_spread.a")
+    words.add_argument("--rounds", type=int, default=3)
+    words.add_argument("--seconds", type=float, default=0.2)
+    words.add_argument("--programs", nargs=2, metavar=("BENCH", "REFERENCE"), help="both built already")
+    words.add_argument("names", nargs="*", metavar="TREE")
+    given = words.parse_args()
+    with tempfile.TemporaryDirectory() as name:
+        folder = pathlib.Path(name)
+        if given.programs:
+            bench, reference = given.programs
+        else:
+            bench, reference = built_bench(given.library, folder), built_reference(given.reference, folder)
+        print("| Tree | Bytes | Answer | Tree, list | Lowering | Clear, copy | Rust | to clear, copy | to Rust |")
+        print("|---|--:|--:|--:|--:|--:|--:|--:|--:|")
+        for name in given.names or trees.TREES:
+            tree = folder / name
+            tree.write_bytes(trees.TREES[name]())
+            (length, answer, out, list_), lower, clear, rust = measured(bench, reference, tree, given.rounds, given.seconds)
+            times = f"{lower:,.1f} | {clear:.1f} | {rust:,.1f} | {lower / clear:,.1f} | {lower / rust:.2f}"
+            print(f"| {name} | {length:,} | {answer} | {out:,}, {list_:,} | {times} |", flush=True)
+
+
+if __name__ == "__main__":
+    main()

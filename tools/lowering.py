@@ -1,0 +1,556 @@
+"""Holds a program that lowers to the Rust reference on made trees: valid ones, damaged ones, and ones at the limits.
+
+    tools/lowering.py --reference FILE [--binary FILE] [--stream] [--count N] [--seed N] [--shown N]
+    tools/lowering.py --reference FILE --grid ..             on the trees of grid.py, which try each rule of the grammar
+    tools/lowering.py --reference FILE --vectors FOLDER ..   on the inputs of the vector files in FOLDER
+
+The reference is the Rust module over stand-ins (docs/DIFFERENCES.md); it is run with --batch --template-key=node. The
+program is `lower`, run once for each case; with --stream it is one that takes many cases: options byte, 16-bit length,
+tree, and so on. Compared are the answer, both masks, the tree and the list, byte for byte. Whether an input is a tree
+is asked of read.py: where it says 3 or 4 that is what is expected. Prints the first differences with their inputs, trees
+shrunk; then how many cases of each shape had which answer, and in how many a helper stands. The status is 1 where
+anything differs.
+"""
+import argparse
+import collections
+import concurrent.futures
+import itertools
+import os
+import random
+import subprocess
+import sys
+
+import cases
+import fuzz
+import grid
+import read
+
+BATCH = 2000
+TREE, LIST = 32768, 16384
+NAMES = [b"a", b"b", b"c", b"k", b"s", b"", b"state", b"deadline"]
+
+# How often a form is chosen, by its name and for some places in another way. What is not listed counts 1.
+WEIGHT = {
+    "Reference": 5, "Binding": 3, "Literal": 2, "Object": 5, "Assignment": 6, "Arrow": 3, "FunctionExpression": 2,
+    "FunctionDeclaration": 3, "FunctionEither": 2, "Declaration": 6, "ExpressionStatement": 6, "ForOf": 3, "Try": 2,
+    "Sequence": 0.7, "OtherExpression": 0.7, "OtherStatement": 0.7, "Empty": 0.5, "BindObject": 4, "TargetObject": 4,
+    "BindArray": 1.5, "TargetArray": 1.5, "BindDefault": 2, "TargetDefault": 2, "Member": 0.7, "Parenthesised": 0.7,
+    "Spread": 1.5, "StaticKey": 10, "PrivateKey": 1, "FunctionBody": 10,
+}
+WEIGHT_AT = {
+    ("key", "Literal"): 5, ("key", "Template"): 4, ("key", "Reference"): 5, ("key", "Assignment"): 1, ("key", "Object"): 1,
+    ("key", "Arrow"): 1, ("key", "FunctionExpression"): 1, ("head", "Declaration"): 5, ("init", "Declaration"): 12,
+    ("leaf", "Parenthesised"): 1, ("child", "Spread"): 0.5,
+}
+# Other weights in trees that are to be rich in patterns.
+RICH = {
+    "BindObject": 9, "TargetObject": 9, "BindArray": 4, "TargetArray": 4, "BindDefault": 3, "TargetDefault": 3, "Reference": 8,
+    "Assignment": 12,
+}
+# How often an optional field stands.
+STANDS = {
+    ("BindObject", 1): 0.6, ("TargetObject", 1): 0.6, ("BindArray", 1): 0.3, ("TargetArray", 1): 0.3,
+    ("Declarator", 1): 0.85, ("Param", 1): 0.25, ("Try", 2): 0.9, ("Catch", 0): 0.9, ("FunctionBody", 0): 0.2,
+    ("FunctionDeclaration", 5): 0.9, ("FunctionExpression", 5): 0.9, ("FunctionEither", 5): 0.9, ("Arrow", 1): 0.15,
+    ("FunctionDeclaration", 4): 0.15, ("FunctionExpression", 4): 0.15, ("FunctionEither", 4): 0.15, ("Literal", 2): 0.75,
+}
+# Lists that have another number of items.
+COUNTS = {
+    ("Template", 0): [0, 1, 1, 1, 2], ("Template", 1): [0, 0, 1, 2], ("Declaration", 2): [0, 1, 1, 1, 2],
+    ("Sequence", 0): [0, 1, 2, 2], ("FunctionBody", 0): [0, 1], ("Program", 0): [1, 1, 2, 4], ("Block", 1): [0, 1, 2],
+}
+
+
+class Maker:
+    """Writes a tree without its marks, whose places it notes. `size` bounds its nodes and `flat` its depth, both roughly;
+    `goal` is the depth that one path of it reaches; `refused` says whether what is refused with 5 or 6 may stand in it."""
+
+    def __init__(self, rnd, size, goal=0, refused=True):
+        self.rnd, self.size, self.goal, self.refused = rnd, size, goal, refused
+        self.flat = rnd.choice([8, 12, 16, 24, 40, 70])
+        self.weight = {**WEIGHT, **RICH} if rnd.random() < 0.4 else WEIGHT
+        self.out, self.marks, self.nodes, self.last = bytearray(), [], 0, 0
+
+    def is_done(self, depth):
+        return self.nodes > self.size or depth > self.flat
+
+    def choose(self, place, depth, goes_down):
+        forms = read.PLACES[place].split()
+        if goes_down:
+            forms = [form for form in forms if form in fuzz.DEEP_FORMS]
+        elif self.is_done(depth):
+            least = min(grid.HEIGHT[form] for form in forms)
+            forms = [form for form in forms if grid.HEIGHT[form] == least]
+        weights = [WEIGHT_AT.get((place, form), self.weight.get(form, 1)) for form in forms]
+        return self.rnd.choices(forms, weights)[0]
+
+    def node(self, place, depth=1, on_path=True):
+        self.nodes += 1
+        goes_down = on_path and depth < self.goal and place in fuzz.DEEP_PLACES
+        form = self.choose(place, depth, goes_down)
+        fields = read.FIELDS[form]
+        down = None
+        if goes_down:
+            down = self.rnd.choice([field for field in fields if fuzz.goes_deep(field, fuzz.DEEP_PLACES)])
+        more = 0.2 if self.is_done(depth) else 1
+        stand = [f is down or not f.optional or self.stands(form, i, more) for i, f in enumerate(fields)]
+        self.out += bytes([read.KIND[form], sum(1 << i for i, is_there in enumerate(stand) if is_there)])
+        for i, field in enumerate(fields):
+            if stand[i]:
+                self.field(form, i, field, depth, field is down)
+
+    def stands(self, form, i, more):
+        if not self.refused and form == "Literal":
+            return True
+        likely = STANDS.get((form, i), 0.4)
+        return self.rnd.random() < (likely if form in ("Literal", "Declarator") or form.endswith("Object") else likely * more)
+
+    def field(self, form, i, field, depth, on_path):
+        rnd = self.rnd
+        if field.sort == "node":
+            place = field.place
+            if form == "TargetArray" and not self.refused:
+                place = "leaf"
+            self.node(place, depth + 1, on_path)
+        elif field.sort == "chosen":
+            self.node(field.places[0 if self.last == 1 else 1], depth + 1, on_path)
+        elif field.sort == "list":
+            count = rnd.choice(COUNTS.get((form, i), [0, 1, 1, 2, 3])) if not self.is_done(depth) else 0
+            count = max(count, on_path)
+            self.out += cases.wide(count)
+            path = rnd.randrange(count) if on_path else -1
+            for item in range(count):
+                if field.holes and item != path and rnd.random() < 0.2:
+                    self.out.append(0)
+                else:
+                    self.node(field.place, depth + 1, item == path)
+        elif field.sort == "text":
+            text = rnd.choice(NAMES) if rnd.random() < 0.97 else rnd.randbytes(rnd.randrange(40))
+            self.out += cases.wide(len(text)) + text
+        elif field.sort == "byte":
+            self.last = rnd.randint(field.low, field.high)
+            if form == "Assignment" and rnd.random() < 0.85:
+                self.last = 1
+            self.out.append(self.last)
+        elif field.sort == "mark":
+            self.marks.append(len(self.out))
+            self.out += b"\0\0"
+        else:
+            self.out += cases.wide(rnd.choice([0, 1, 2, 3, 256, rnd.randrange(65536)]))
+
+
+class Piece:
+    """The bytes of a statement, and where its marks stand."""
+
+    def __init__(self, out, marks):
+        self.out, self.marks = bytes(out), list(marks)
+
+
+def numbered(out, marks):
+    out = bytearray(out)
+    for number, at in enumerate(marks, 1):
+        out[at : at + 2] = cases.wide(number % 65536)
+    return bytes(out)
+
+
+def joined(pieces):
+    """A Program of these statements."""
+    out, marks = bytearray(b"\1\1" + cases.wide(len(pieces))), []
+    for piece in pieces:
+        marks += [len(out) + at for at in piece.marks]
+        out += piece.out
+    return numbered(out, marks)
+
+
+def made(rnd, size, goal=0, refused=None):
+    maker = Maker(rnd, size, goal, rnd.random() < 0.4 if refused is None else refused)
+    maker.node("program")
+    return numbered(maker.out, maker.marks)
+
+
+def plain(rnd):
+    return made(rnd, rnd.choice([5, 12, 12, 30, 30, 80, 200]))
+
+
+def deep(rnd):
+    return made(rnd, rnd.choice([0, 20, 60, 150]), rnd.choice([40, 61, 62, 62, 63, 63, 64, 64, 65, 66]))
+
+
+def damaged(rnd):
+    tree = rnd.choice([plain, plain, plain, deep])(rnd)
+    if rnd.random() < 0.5:
+        # a byte alone, which more often leaves a tree
+        tree = bytearray(tree)
+        tree[rnd.randrange(len(tree))] = rnd.choice([0, 1, 2, 3, rnd.randrange(48), rnd.randrange(256)])
+        return bytes(tree)
+    return fuzz.damaged(rnd, tree)
+
+
+def statement(rnd, size, refused=False):
+    maker = Maker(rnd, size, 0, refused)
+    maker.node("statement", 2, False)
+    return Piece(maker.out, maker.marks)
+
+
+def named(length):
+    """A statement of length + 8 bytes that is written as it stands."""
+    return Piece(bytes([12, 7, 0, 0]) + cases.wide(length) + b"n" * length + b"\0\0", [2])
+
+
+def keyed(length):
+    """A statement whose key, a name of that length, goes out to the list."""
+    key = bytes([18, 1]) + cases.wide(length) + b"k" * length
+    name = bytes([18, 1, 1, 0, 97])
+    pattern = bytes([34, 3, 1, 0, 35, 7]) + key + name + b"\1" + name
+    return Piece(bytes([3, 3, 0, 0, 27, 7, 1]) + pattern + name, [2])
+
+
+def long(rnd):
+    """A tree with a length about the limit."""
+    length = read.LONGEST + rnd.choice([-1, 0, 0, 0, 1, rnd.randint(-300, 20)])
+    pool = [statement(rnd, rnd.choice([2, 6, 15, 40]), rnd.random() < 0.02) for _ in range(20)]
+    pieces, used = [], 4
+    while True:
+        piece = rnd.choice(pool)
+        if used + len(piece.out) > length - 8:
+            break
+        pieces.append(piece)
+        used += len(piece.out)
+    pieces.insert(rnd.randrange(len(pieces) + 1), named(length - used - 8))
+    return joined(pieces)
+
+
+class Measured:
+    """A statement, and by how much it makes tree and list longer."""
+
+    def __init__(self, piece, tree, list_):
+        self.piece, self.tree, self.list = piece, tree, list_
+        self.length = len(piece.out)
+
+
+def measured(reference, pieces):
+    """Those of the statements that are lowered. Statements side by side change nothing in each other's lengths."""
+    answers = reference([(0, joined([piece])) for piece in pieces])
+    for piece, (number, _, _, tree, list_) in zip(pieces, answers):
+        if number == 0:
+            yield Measured(piece, len(tree) // 2 - 4, len(list_) // 2 - 4)
+
+
+def full(rnd, pool, name, key):
+    """A tree whose result, or its list, has a length about the limit; None where there is no room for it. `name` and
+    `key` are the statements of named(0) and keyed(0), measured."""
+    slack = rnd.choice([-2, -1, 0, 0, 1, 1, 2, rnd.randint(-200, 200)])
+    by_list = rnd.random() < 0.5
+    if by_list:
+        ratio, most = (lambda m: m.list / m.length), LIST + slack
+        size, rest, filler, make = (lambda m: m.list), key.list, key, keyed
+    else:
+        ratio, most = (lambda m: m.tree / m.length), TREE + slack
+        size, rest, filler, make = (lambda m: m.tree), name.tree, name, named
+    dense = [m for m in pool if ratio(m) > (0.2 if by_list else 2.2)]
+    if not dense:
+        return None
+    chosen, used, length = [], 4, 4 + filler.length
+    stop = most - rnd.choice([300, 3000])
+    while used < stop and length < read.LONGEST - 400:
+        m = rnd.choice(dense)
+        if used + size(m) + rest > most:
+            break
+        chosen.append(m.piece)
+        used += size(m)
+        length += m.length
+    extra = most - used - rest
+    if extra < 0 or length + extra > read.LONGEST:
+        return None
+    chosen.insert(rnd.randrange(len(chosen) + 1), make(extra))
+    return joined(chosen)
+
+
+def fulls(rnd, reference):
+    """Trees with results about the limits, without end."""
+    while True:
+        pieces = [statement(rnd, rnd.choice([2, 4, 8, 15])) for _ in range(600)]
+        (name,), (key,) = measured(reference, [named(0)]), measured(reference, [keyed(0)])
+        pool = list(measured(reference, pieces))
+        for _ in range(200):
+            some = rnd.sample(pool, min(len(pool), rnd.choice([30, 100, 300])))
+            tree = full(rnd, some, name, key)
+            if tree is not None:
+                yield tree
+
+
+def random_options(rnd):
+    return rnd.choices([0, rnd.randrange(16), rnd.choice([16, 128, 255])], [70, 29, 1])[0]
+
+
+def trees(rnd, count, reference):
+    """(shape, options, tree), so many."""
+    about = fulls(rnd, reference)
+    for _ in range(count):
+        shape = rnd.choices(["valid", "deep", "damaged", "long", "full"], [56, 10, 30, 1, 3])[0]
+        maker = {"valid": plain, "deep": deep, "damaged": damaged, "long": long}.get(shape)
+        yield shape, random_options(rnd), maker(rnd) if maker else next(about)
+
+
+class Refused(tuple):
+    """What is printed for a refusal."""
+
+    def __new__(cls, number):
+        return super().__new__(cls, (number, 0, 0, "", ""))
+
+
+def reference_at(path):
+    def run(batch):
+        lines = "".join(f"{options:02x}{tree.hex()}\n" for options, tree in batch)
+        words = [path, "--batch", "--template-key=node"]
+        wrote = subprocess.run(words, input=lines.encode(), stdout=subprocess.PIPE, check=True).stdout.decode().splitlines()
+        if len(wrote) != len(batch):
+            sys.exit(f"{path}: {len(batch)} cases were sent, {len(wrote)} lines came back")
+        for line in wrote:
+            number, helpers, options, tree, list_ = line.split()
+            yield int(number), int(helpers), int(options), tree.strip("-"), list_.strip("-")
+
+    return lambda batch: list(run(batch))
+
+
+def printed(lines):
+    number, helpers, options = map(int, lines[0].split())
+    return number, helpers, options, lines[1], lines[2]
+
+
+def program_at(path, is_stream):
+    def once(case):
+        options, tree = case
+        wrote = subprocess.run([path], input=bytes([options]) + tree, stdout=subprocess.PIPE, check=True).stdout.decode()
+        return printed(wrote.split("\n"))
+
+    def singly(batch):
+        with concurrent.futures.ThreadPoolExecutor(2) as pool:
+            return list(pool.map(once, batch))
+
+    def stream(batch):
+        given = b"".join(bytes([options]) + cases.wide(len(tree)) + tree for options, tree in batch)
+        wrote = subprocess.run([path], input=given, stdout=subprocess.PIPE, check=True).stdout.decode().split("\n")
+        if len(wrote) != 3 * len(batch) + 1:
+            sys.exit(f"{path}: {len(batch)} cases were sent, {len(wrote) - 1} lines came back")
+        return [printed(wrote[3 * i : 3 * i + 3]) for i in range(len(batch))]
+
+    return stream if is_stream else singly
+
+
+def expected(batch, reference):
+    """What should be printed for each case, and how many trees the reference reads otherwise than read.py."""
+    wanted, otherwise = [], 0
+    for (options, tree), answer in zip(batch, reference(batch)):
+        number = 1 if options > 15 else read.answer(tree)[0]
+        otherwise += number != (answer[0] if answer[0] in (1, 3, 4) else 0)
+        wanted.append(Refused(number) if number else answer)
+    return wanted, otherwise
+
+
+# ---- making a tree smaller
+
+
+class Node:
+    """A node: its form, and for each field a Node, a list of Nodes (None is a hole), a text, a number, or None where it is
+    absent. A mark is 0."""
+
+    def __init__(self, form, values):
+        self.form, self.values = form, values
+
+    def below(self):
+        for value in self.values:
+            for node in value if isinstance(value, list) else [value]:
+                if isinstance(node, Node):
+                    yield node
+
+
+class Parser(read.Reader):
+    """Makes a Node of an accepted tree."""
+
+    def node(self, place, depth):
+        form, bits = read.FORM_AT[place][self.byte()], self.byte()
+        fields = read.FIELDS[form]
+        return Node(form, [self.field(field, depth) if bits >> i & 1 else None for i, field in enumerate(fields)])
+
+    def field(self, field, depth):
+        if field.sort == "node":
+            return self.node(field.place, depth)
+        if field.sort == "chosen":
+            return self.node(field.places[0 if self.tree[self.at - 1] == 1 else 1], depth)
+        if field.sort == "list":
+            return [self.item(field, depth) for _ in range(self.number())]
+        if field.sort == "text":
+            length = self.number()
+            self.at += length
+            return self.tree[self.at - length : self.at]
+        if field.sort == "byte":
+            return self.byte()
+        return self.number() * (field.sort == "number")
+
+    def item(self, field, depth):
+        if field.holes and self.tree[self.at] == 0:
+            self.at += 1
+            return None
+        return self.node(field.place, depth)
+
+
+def encoded(root):
+    out, marks = bytearray(), []
+
+    def put(node):
+        bits = sum(1 << i for i, value in enumerate(node.values) if value is not None)
+        out.extend([read.KIND[node.form], bits])
+        for field, value in zip(read.FIELDS[node.form], node.values):
+            if value is None:
+                continue
+            if field.sort in ("node", "chosen"):
+                put(value)
+            elif field.sort == "list":
+                out.extend(cases.wide(len(value)))
+                for item in value:
+                    if item is None:
+                        out.append(0)
+                    else:
+                        put(item)
+            elif field.sort == "text":
+                out.extend(cases.wide(len(value)) + value)
+            elif field.sort == "byte":
+                out.append(value)
+            else:
+                if field.sort == "mark":
+                    marks.append(len(out))
+                out.extend(cases.wide(value))
+
+    put(root)
+    return numbered(out, marks)
+
+
+def instead(place, node):
+    """Smaller nodes that may stand in place of this one."""
+    forms = read.PLACES[place].split()
+    waiting = list(node.below())
+    for inner in waiting:
+        if inner.form in forms:
+            yield inner
+        else:
+            waiting.extend(inner.below())
+    if "Reference" in forms and node.form != "Reference":
+        yield Node("Reference", [b"a", None])
+
+
+def others(field, before, value):
+    """Smaller values of a field; `before` is the value of the field before it."""
+    if field.optional:
+        yield None
+    if field.sort == "list":
+        for some in {max(1, len(value) // 2), 1}:
+            for start in range(0, len(value), some):
+                yield value[:start] + value[start + some :]
+        for at, item in enumerate(value):
+            if item is not None:
+                for other in instead(field.place, item):
+                    yield value[:at] + [other] + value[at + 1 :]
+    elif field.sort == "node":
+        yield from instead(field.place, value)
+    elif field.sort == "chosen":
+        yield from instead(field.places[0 if before == 1 else 1], value)
+    elif field.sort == "text" and len(value) > 1:
+        yield value[:1]
+
+
+def smaller(root):
+    """Trees with one thing less."""
+    waiting = [root]
+    for node in waiting:
+        waiting.extend(node.below())
+        for i, field in enumerate(read.FIELDS[node.form]):
+            value = node.values[i]
+            if value is not None:
+                for other in others(field, node.values[i - 1], value):
+                    node.values[i] = other
+                    yield encoded(root)
+                node.values[i] = value
+
+
+def shrunk(case, differs):
+    """A smaller case that differs too."""
+    options, tree = case
+    while True:
+        tried = sorted({t for t in smaller(Parser(tree, 0).node("program", 0)) if len(t) < len(tree)}, key=len)
+        for start in range(0, len(tried), BATCH):
+            some = [(options, t) for t in tried[start : start + BATCH]]
+            found = next((c for c, is_other in zip(some, differs(some)) if is_other), None)
+            if found:
+                break
+        else:
+            return options, tree
+        tree = found[1]
+
+
+def text_of(answer):
+    return "{} {} {} {} {}".format(*answer[:3], answer[3] or "-", answer[4] or "-")
+
+
+def main():
+    words = argparse.ArgumentParser(description=__doc__.splitlines()[0])
+    words.add_argument("--reference", required=True)
+    words.add_argument("--binary", default=os.path.join(cases.ROOT, "target", "bin", "lower"))
+    words.add_argument("--stream", action="store_true")
+    words.add_argument("--count", type=int, default=10000)
+    words.add_argument("--seed", type=int, default=1)
+    words.add_argument("--shown", type=int, default=5, help="how many differences are printed")
+    words.add_argument("--grid", action="store_true")
+    words.add_argument("--vectors")
+    given = words.parse_args()
+    reference, program = reference_at(given.reference), program_at(given.binary, given.stream)
+
+    def differs(batch):
+        wanted, _ = expected(batch, reference)
+        return [a != b for a, b in zip(wanted, program(batch))]
+
+    if given.vectors:
+        names = sorted(name[:-4] for name in os.listdir(given.vectors) if name.endswith(".txt"))
+        source = (case for name in names for case in recorded(given.vectors, name))
+    elif given.grid:
+        source = (("grid", 0, tree) for tree in grid.grid())
+    else:
+        source = trees(random.Random(given.seed), given.count, reference)
+    counts, total, different, otherwise = collections.defaultdict(collections.Counter), 0, 0, 0
+    while some := list(itertools.islice(source, BATCH)):
+        batch = [(options, tree) for _, options, tree in some]
+        wanted, others = expected(batch, reference)
+        otherwise += others
+        for (shape, *_), case, want, got in zip(some, batch, wanted, program(batch)):
+            total += 1
+            counts[shape][want[0]] += 1
+            counts[shape]["lowered"] += want[1] > 0
+            if want == got:
+                continue
+            different += 1
+            if different <= given.shown:
+                if read.answer(case[1])[0] == 0:
+                    case = shrunk(case, differs)
+                    (want,), _ = expected([case], reference)
+                    (got,) = program([case])
+                print(f"{shape}: {case[0]:02x} {case[1].hex()}\n  expected {text_of(want)}\n  found    {text_of(got)}")
+    counts["all"] = sum(counts.values(), collections.Counter())
+    columns = ["lowered", 0, 1, 3, 4, 5, 6, 7]
+    print("shape".ljust(10), *(f"{name:>8}" for name in columns), "     all")
+    for shape, by in counts.items():
+        print(shape.ljust(10), *(f"{by[name]:8}" for name in columns), f"{sum(by.values()) - by['lowered']:8}")
+    print(f"the reference reads {otherwise} otherwise than read.py")
+    print(f"{total} cases, {different} different")
+    sys.exit(1 if different or not total else 0)
+
+
+def recorded(folder, name):
+    with open(os.path.join(folder, name + ".txt")) as lines:
+        for line in lines:
+            if line.strip() and not line.startswith("#"):
+                case = bytes.fromhex(line.split()[0])
+                yield name, case[0] if case else 0, case[1:]
+
+
+if __name__ == "__main__":
+    main()
