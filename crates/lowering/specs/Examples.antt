@@ -3,7 +3,7 @@ use mathlib.Core.Path.{_≡_, refl}
 use mathlib.Core.List.{List, [], _∷_, _++_}
 use Prim.Native.Nat.{ℕ, zero, suc}
 use lib.ListN.{replicate}
-use Rattle.tree.specs.Tree.{Node, Fields, Piece, Items, encode}
+use Rattle.tree.specs.Tree.{Node, Fields, Piece, Items, encode, marks}
 use Rattle.tree.specs.Tree.Node.{node}
 use Rattle.tree.specs.Tree.Fields.{done, absent, field}
 use Rattle.tree.specs.Tree.Piece.{one, list, text, byte, mark, number}
@@ -132,6 +132,13 @@ Becomes before helpers after = lowering levels 0 (program (only before)) plenty 
 abbrev Refused : Node → ℕ → Type 0
 Refused n r = lowering levels 0 (program (only n)) plenty ≡ refusal r
 
+-- `` `a`[function() { }] ``, the function with mark 2
+abbrev templated : Node
+templated =
+    let empty = node 0 16 (absent (field (list none) done)) in
+    let function = node 0 14 (field (mark 2) (field (byte 2) (absent (field (list none) (absent (field (one empty) done)))))) in
+    node 0 23 (field (list (only (node 0 22 (field (byte 1) (field (text (a ∷ [])) (field (text (a ∷ [])) done)))))) (field (list (only function)) done))
+
 -- document 01's listing
 abbrev listing : List ℕ
 listing = 1 ∷ 1 ∷ 1 ∷ 0 ∷ 3 ∷ 3 ∷ 1 ∷ 0 ∷ 24 ∷ 1 ∷ 1 ∷ 0 ∷ 26 ∷ 1 ∷ 18 ∷ 1 ∷ 1 ∷ 0 ∷ 97 ∷ []
@@ -220,6 +227,15 @@ pub record Examples : Type 0 where
       ≡ lowered 8 0
       (program (only (blockOf 1 (only (declaring 2 2 (all (declares (taking (only (part (name a) (bind a) 2))) (ref s) ∷ declares (bind r) (W (ref s) (temp 1)) ∷ [])))))))
       (0 ∷ 0 ∷ 1 ∷ 0 ∷ 5 ∷ 3 ∷ 20 ∷ 1 ∷ 1 ∷ 0 ∷ 32 ∷ 1 ∷ 1 ∷ 0 ∷ 22 ∷ 7 ∷ 1 ∷ 0 ∷ 0 ∷ 1 ∷ 0 ∷ 97 ∷ [])
+  -- ---- marks of a result need not be distinct
+
+  -- `` let {[`a`[function() { }]]: b, ...c} = d ``: {[`a`[function() { }]]: b} = d, c = W(d, [`a`[function() { }]])
+  template-copied : Becomes
+      (declaring 1 2 (only (declares (takingRest (only (part templated (bind b) 1)) (bind c)) (ref d)))) 8
+      (declaring 1 2 (all (declares (taking (only (part templated (bind b) 1))) (ref d) ∷ declares (bind c) (W (ref d) (array (only templated))) ∷ [])))
+  -- the function's mark stands in it twice
+  mark-twice : marks (declaring 1 2 (all (declares (taking (only (part templated (bind b) 1))) (ref d) ∷ declares (bind c) (W (ref d) (array (only templated))) ∷ [])))
+      ≡ 1 ∷ 2 ∷ 2 ∷ []
 
 pub examples : Examples
 unfolding
@@ -306,4 +322,4 @@ unfolding
     Rattle.lowering.specs.Answer.afterReading Rattle.lowering.specs.Answer.lowering
     Rattle.lowering.specs.Answer.filled Rattle.lowering.specs.Answer.outcomeOf
     Rattle.lowering.specs.Answer.outcome
-examples = record { table = record { empty-literal = refl; plain-literal = refl; two-spreads = refl; spread-last = refl; spread-first = refl; spread-around = refl; rest = refl; rest-only = refl }; the-listing = refl; all-options = refl; one-options = refl; two-work = refl; three-empty = refl; four-deep = refl; not-so-deep = refl; five-array-rest = refl; six-no-form = refl; seven-short = refl; just-fits = refl; tree-slice = refl; list-slice = refl; refused-slice = refl; array-rest-stays = refl; nested-rest = refl; hoisted-keys = refl }
+examples = record { table = record { empty-literal = refl; plain-literal = refl; two-spreads = refl; spread-last = refl; spread-first = refl; spread-around = refl; rest = refl; rest-only = refl }; the-listing = refl; all-options = refl; one-options = refl; two-work = refl; three-empty = refl; four-deep = refl; not-so-deep = refl; five-array-rest = refl; six-no-form = refl; seven-short = refl; just-fits = refl; tree-slice = refl; list-slice = refl; refused-slice = refl; array-rest-stays = refl; nested-rest = refl; hoisted-keys = refl; template-copied = refl; mark-twice = refl }
