@@ -300,7 +300,7 @@ TREES = {
     **{f"arrays-{kind}-{d}": lambda d=d, kind=kind: nested_arrays(d, kind) for kind in ("assignment", "declaration", "parameter") for d in (30, 60)},
     **{f"loops-{d}": lambda d=d: loops(d) for d in (15, 30, 60)},
     **{f"templates-{n}": lambda n=n: template_keys(n) for n in (4, 6, 8, 10, 12, 14)},
-    **{f"templates-{n}-16k": lambda n=n: template_keys(n, LONGEST) for n in (2, 4, 6, 8)},
+    **{f"templates-{n}-16k": lambda n=n: template_keys(n, LONGEST) for n in (2, 4, 6, 8, 10, 12, 14)},
 }
 
 

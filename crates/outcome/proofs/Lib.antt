@@ -26,3 +26,4 @@ pub mod Fitting
 pub mod Room
 pub mod Marks
 pub mod Every
+pub mod Calm

@@ -24,18 +24,18 @@ use Rattle.outcome.specs.Named.{firstRefused}
 -- ---- rows without a refusal
 
 -- the first of two, of which 0 is none
-abbrev first : ℕ → ℕ → ℕ
+abbrev pub first : ℕ → ℕ → ℕ
 first zero s = s
 first (suc r) s = suc r
 
 -- no refusal has the number 0
-abbrev Sound : List Deed → Type 0
+abbrev pub Sound : List Deed → Type 0
 Sound [] = Unit {0}
 Sound (does e ∷ ds) = Sound ds
 Sound (refuses zero ∷ ds) = ⊥
 Sound (refuses (suc r) ∷ ds) = Sound ds
 
-abbrev Silent : List Deed → Type 0
+abbrev pub Silent : List Deed → Type 0
 Silent [] = Unit {0}
 Silent (does e ∷ ds) = Silent ds
 Silent (refuses r ∷ ds) = ⊥
@@ -51,24 +51,24 @@ after-silent [] bs h = refl
 after-silent (does e ∷ ds) bs h = after-silent ds bs h
 after-silent (refuses r ∷ ds) bs h = absurd h
 
-silent-none : (ds : List Deed) → Silent ds → firstRefused ds ≡ 0
+pub silent-none : (ds : List Deed) → Silent ds → firstRefused ds ≡ 0
 unfolding firstRefused
 silent-none [] h = refl
 silent-none (does e ∷ ds) h = silent-none ds h
 silent-none (refuses r ∷ ds) h = absurd h
 
-sound-both : (ds bs : List Deed) → Sound ds → Sound bs → Sound (ds ++ bs)
+pub sound-both : (ds bs : List Deed) → Sound ds → Sound bs → Sound (ds ++ bs)
 sound-both [] bs h k = k
 sound-both (does e ∷ ds) bs h k = sound-both ds bs h k
 sound-both (refuses zero ∷ ds) bs h k = absurd h
 sound-both (refuses (suc r) ∷ ds) bs h k = sound-both ds bs h k
 
-silent-sound : (ds : List Deed) → Silent ds → Sound ds
+pub silent-sound : (ds : List Deed) → Silent ds → Sound ds
 silent-sound [] h = tt
 silent-sound (does e ∷ ds) h = silent-sound ds h
 silent-sound (refuses r ∷ ds) h = absurd h
 
-first-both : (ds bs : List Deed) → Sound ds → firstRefused (ds ++ bs) ≡ first (firstRefused ds) (firstRefused bs)
+pub first-both : (ds bs : List Deed) → Sound ds → firstRefused (ds ++ bs) ≡ first (firstRefused ds) (firstRefused bs)
 unfolding firstRefused
 first-both [] bs h = refl
 first-both (does e ∷ ds) bs h = first-both ds bs h
@@ -77,7 +77,7 @@ first-both (refuses (suc r) ∷ ds) bs h = refl
 
 -- ---- what is handed out
 
-puts-silent : (bs : List ℕ) → Silent (puts bs)
+pub puts-silent : (bs : List ℕ) → Silent (puts bs)
 puts-silent [] = tt
 puts-silent (b ∷ bs) = puts-silent bs
 
@@ -142,7 +142,7 @@ module _ (m : ℕ) (note : Note) where
   one-silent : Silent one
   one-silent = either (isEmpty (note .entry)) (made (note .made)) [] (made-silent (note .made)) tt
 
-  hands-first : firstRefused (handsOut m note) ≡ note .refusal
+  pub hands-first : firstRefused (handsOut m note) ≡ note .refusal
   unfolding handsOut
   hands-first =
       then-silent ((refused (note .refusal) ++ one) ++ entered m (note .entry)) (excludedKeys (note .excluded)) (excluded-silent (note .excluded))
@@ -150,7 +150,7 @@ module _ (m : ℕ) (note : Note) where
       ∙ then-silent (refused (note .refusal)) one one-silent
       ∙ refused-first (note .refusal)
 
-  hands-sound : Sound (handsOut m note)
+  pub hands-sound : Sound (handsOut m note)
   unfolding handsOut
   hands-sound =
       sound-both ((refused (note .refusal) ++ one) ++ entered m (note .entry)) (excludedKeys (note .excluded))
@@ -269,7 +269,7 @@ written-agrees at k fs below vs f g h =
     (λ d. rw d (subst (Agrees (does (Event.helper (numberIn fs)) ∷ [])) (sym (g d)) (none-agrees (does (Event.helper (numberIn fs)) ∷ []) tt)))
     (λ d. rw d (before-agrees (puts (k ∷ mapIn fs ∷ [])) below vs tt h))))
 
-marks-silent : (m : ℕ) → Silent (marks m)
+pub marks-silent : (m : ℕ) → Silent (marks m)
 unfolding marks
 marks-silent zero = tt
 marks-silent (suc m) = tt

@@ -143,8 +143,8 @@ module _ (W : Outside) where
       cond (W .tame n) (cond (W .null n) (ok h o) go) (beyond h n)
 
   -- S at an odd place, after Babel's objectSpread2: `ownKeys(Object(t), true).forEach(k => defineProperty(e, k, t[k]))`. Enumerability
-  -- is asked when the keys are listed. `defineProperty(e, k, v)` is `k in e ? Object.defineProperty(e, k, {value: v, ..}) : e[k] = v`:
-  -- the descriptor inherits a `get` or `set` of Object.prototype, and is refused then (ToPropertyDescriptor, 6.2.5.5)
+  -- is asked when the keys are listed. `defineProperty(e, k, v)` does `Object.defineProperty(e, k, {value: v, ..})` if e has k, else
+  -- `e[k] = v`: the descriptor inherits a `get` or `set` of Object.prototype, and is refused then (ToPropertyDescriptor, 6.2.5.5)
   abbrev pub defineS : Key → Value → Props → History → Out Props
   defineS k v o h = cond (W .meddled h && (owns k o || W .inherits h k)) (threw h (W .typeError)) (ok h (put k v o))
 

@@ -5,11 +5,8 @@ use mathlib.Core.Bool.{Bool, true, false, cond}
 use mathlib.Core.List.{List, [], _∷_, _++_}
 use Prim.Native.Nat.{ℕ, zero, suc, _-_, _%_, _<_, _≤_}
 use native.Mathlib.Omega.{arith}
-use lib.Dec.{eqb}
 use lib.ListN.{length, getD, replicate, length-append}
-use borrow.Author.Tests.{ne-eqb}
-use Rattle.tree.specs.Tree.{Node, Items, wideBytes, count, encode}
-use Rattle.tree.specs.Tree.Items.{none, hole, item}
+use Rattle.tree.specs.Tree.{Node}
 use Rattle.tree.specs.Grammar.Stage.{input}
 use Rattle.tree.specs.Read.{Got, Refusal, numberOf, readTree}
 use Rattle.tree.specs.Read.Got.{got}
@@ -19,151 +16,24 @@ use Rattle.tree.specs.declared.read.Answer.the-variants.{Read, Refused}
 use Rattle.tree.specs.WellFormed.{Bytes}
 use Rattle.tree.specs.Look.{lookNode, Seen}
 use Rattle.tree.proofs.Look as look
-use Rattle.lowering.specs.Parts.{numberAt, nodeAt, stands, isEmpty}
-use Rattle.lowering.specs.Collect.{isContainer, marked, markOf}
-use Rattle.lowering.specs.Walk.{Note, Walked, WalkedFields, WalkedPiece, WalkedItems}
-use Rattle.lowering.specs.Walk.Walked.{noted}
 use Rattle.lowering.specs.Weight.{walked}
 use Rattle.lowering.specs.Answer.{Lent, Result, Outcome, top, levels, filled, lowering, outcomeOf, outcome}
 use Rattle.sink.specs.declared.Sink.{Sink}
 use Rattle.sink.specs.declared.Written.{Written}
 use Rattle.sink.specs.Machine.{Event, State, Ended, stateOf, endOf, nothing, step, steps, start, finished}
-use Rattle.direct.specs.Events.{Deed, Place, contextOf, puts, lists, excludes, made, handed, entered, excludedKeys, refused, handsOut, after, marks, cell, numberIn, mapIn, written, deeds, deedsFields, deedsPiece, deedsItems, emits}
-use Rattle.direct.specs.Events.Deed.{does, refuses}
+use Rattle.direct.specs.Events.{Deed, Place, contextOf, deeds, emits}
 use Rattle.outcome.specs.Named.{firstRefused, eventsIn, outcomeFrom}
 use Rattle.outcome.proofs.Every.{tree-refused, tree-lowered, walk-refused}
-use Rattle.emitters.specs.Run.{Going, act, acts, Does}
-use Rattle.emitters.specs.Whole.{Good}
+use Rattle.outcome.proofs.Calm.{emits-sound}
+use Rattle.outcome.proofs.Tokens.{append-none}
+use Rattle.walk.specs.Run.{Going, met, Full, Way, Does}
+use Rattle.walk.specs.Run.Way.{whole, full}
+use Rattle.walk.proofs.Again.{met-first}
+use Rattle.sink.proofs.Indices.{full-nothing}
+use Rattle.walk.specs.Whole.{Good}
 use Rattle.rest_spread.specs.Entry.{lentOf, handedBack}
 use Rattle.rest_spread.specs.declared.Lowered.{Lowered}
-use Rattle.emitters.proofs.Goodness.{accepted-good}
-
--- ---- the deeds' events and their first refusal
-
--- no refusal is 0
-abbrev Real : List Deed → Type 0
-Real [] = Unit {0}
-Real (does e ∷ ds) = Real ds
-Real (refuses r ∷ ds) = (0 < r) × Real ds
-
-real-append : (ds es : List Deed) → Real ds → Real es → Real (ds ++ es)
-real-append [] es a b = b
-real-append (does e ∷ ds) es a b = real-append ds es a b
-real-append (refuses r ∷ ds) es a b = (a .0, real-append ds es (a .1) b)
-
-puts-real : (bs : List ℕ) → Real (puts bs)
-puts-real [] = tt
-puts-real (b ∷ bs) = puts-real bs
-
-lists-real : (bs : List ℕ) → Real (lists bs)
-lists-real [] = tt
-lists-real (b ∷ bs) = lists-real bs
-
-excludes-real : (bs : List ℕ) → Real (excludes bs)
-excludes-real [] = tt
-excludes-real (b ∷ bs) = excludes-real bs
-
-cond-real : (b : Bool) (ds es : List Deed) → Real ds → Real es → Real (cond b ds es)
-cond-real true ds es a b = a
-cond-real false ds es a b = b
-
-refused-real : (n : ℕ) → Real (refused n)
-unfolding refused
-refused-real zero = tt
-refused-real (suc n) = (omega arith, tt)
-
-made-real : (ts : Items) → Real (made ts)
-unfolding made
-made-real none = tt
-made-real (hole ts) = made-real ts
-made-real (item t ts) = cond-real (eqb (numberAt 0 t) 2) (made ts) _ (made-real ts) (made-real ts)
-
-handed-real : (ds : Items) → Real (handed ds)
-unfolding handed
-handed-real none = tt
-handed-real (hole ds) = handed-real ds
-handed-real (item d ds) =
-    real-append (cond (stands 1 d) (lists (encode (nodeAt 1 d))) []) (handed ds)
-    (cond-real (stands 1 d) (lists (encode (nodeAt 1 d))) [] (lists-real (encode (nodeAt 1 d))) tt)
-    (handed-real ds)
-
-excluded-real : (ds : Items) → Real (excludedKeys ds)
-unfolding excludedKeys
-excluded-real none = tt
-excluded-real (hole ds) = excluded-real ds
-excluded-real (item d ds) = real-append (excludes (encode (nodeAt 1 d))) (excludedKeys ds) (excludes-real (encode (nodeAt 1 d))) (excluded-real ds)
-
-entered-real : (m : ℕ) (ds : Items) → Real (entered m ds)
-unfolding entered
-entered-real m ds = cond-real (isEmpty ds) [] (does (Event.entry m (count ds)) ∷ handed ds) tt (handed-real ds)
-
-hands-real : (m : ℕ) (note : Note) → Real (handsOut m note)
-unfolding handsOut
-hands-real m note =
-    let e = entered m (note .entry) in
-    let x = excludedKeys (note .excluded) in
-    let c = cond (isEmpty (note .entry)) (made (note .made)) [] in
-    let f = refused (note .refusal) in
-    real-append ((f ++ c) ++ e) x
-    (real-append (f ++ c) e
-    (real-append f c (refused-real (note .refusal)) (cond-real (isEmpty (note .entry)) (made (note .made)) [] (made-real (note .made)) tt))
-    (entered-real m (note .entry)))
-    (excluded-real (note .excluded))
-
-marks-real : (m : ℕ) → Real (marks m)
-unfolding marks
-marks-real zero = tt
-marks-real (suc m) = puts-real (wideBytes (suc m))
-
-written-real : (at k : ℕ) (fs : WalkedFields) (below : List Deed) → Real below → Real (written at k fs below)
-unfolding written
-written-real at k fs below h =
-    cond-real (eqb k 20) (does (Event.temporary (cell (numberIn fs) at)) ∷ []) _ tt
-    (cond-real (eqb k 21) (does (Event.helper (numberIn fs)) ∷ []) (puts (k ∷ mapIn fs ∷ []) ++ below) tt h)
-
-mutual
-  unfolding deeds
-
-  deeds-real : (next m : ℕ) (w : Walked) → Real (deeds next m w)
-  deeds-real next m (noted note at k fs) =
-      real-append (handsOut m note) (written at k fs (deedsFields (isContainer k) next m fs)) (hands-real m note)
-      (written-real at k fs (deedsFields (isContainer k) next m fs) (fields-real (isContainer k) next m fs))
-
-  fields-real : (l : Bool) (next m : ℕ) (fs : WalkedFields) → Real (deedsFields l next m fs)
-  fields-real l next m WalkedFields.done = tt
-  fields-real l next m (WalkedFields.absent fs) = fields-real l next m fs
-  fields-real l next m (WalkedFields.field p fs) = real-append (deedsPiece l next m p) _ (piece-real l next m p) (fields-real l (after next (deedsPiece l next m p)) m fs)
-
-  piece-real : (l : Bool) (next m : ℕ) (p : WalkedPiece) → Real (deedsPiece l next m p)
-  piece-real l next m (WalkedPiece.one w) = deeds-real next m w
-  piece-real l next m (WalkedPiece.list is) = items-real l next m is
-  piece-real l next m (WalkedPiece.text bs) = puts-real (wideBytes (length bs) ++ bs)
-  piece-real l next m (WalkedPiece.byte b) = tt
-  piece-real l next m (WalkedPiece.mark b) = marks-real b
-  piece-real l next m (WalkedPiece.number b) = puts-real (wideBytes b)
-
-  items-real : (l : Bool) (next m : ℕ) (is : WalkedItems) → Real (deedsItems l next m is)
-  items-real l next m WalkedItems.none = tt
-  items-real l next m (WalkedItems.hole is) = items-real l next m is
-  items-real l next m (WalkedItems.item w is) =
-      real-append (deeds next (cond l (marked next (markOf w)) m) w) _ (deeds-real next (cond l (marked next (markOf w)) m) w)
-      (items-real l (after next (deeds next (cond l (marked next (markOf w)) m) w)) m is)
-
--- what the deeds come to
-later : (s : State) (r : ℕ) (ds : List Deed) → acts (record { state = s; refusal = suc r }) ds ≡ record { state = steps s (eventsIn ds); refusal = suc r }
-unfolding acts act steps eventsIn
-later s r [] = refl
-later s r (does e ∷ ds) = later (step s e) r ds
-later s r (refuses n ∷ ds) =
-    let z : eqb (suc r) 0 ≡ false = ne-eqb (suc r) 0 (λ e. omega arith) in
-    ap (λ (b : Bool). acts (record { state = s; refusal = cond b n (suc r) }) ds) z ∙ later s r ds
-
-come-to : (s : State) (ds : List Deed) → Real ds → acts (record { state = s; refusal = 0 }) ds ≡ record { state = steps s (eventsIn ds); refusal = firstRefused ds }
-unfolding acts act steps eventsIn firstRefused
-come-to s [] h = refl
-come-to s (does e ∷ ds) h = come-to (step s e) ds h
-come-to s (refuses zero ∷ ds) h = absurd (let z = h .0 in omega arith)
-come-to s (refuses (suc n) ∷ ds) h = later s n ds
+use Rattle.walk.proofs.Goodness.{accepted-good}
 
 -- ---- from the root
 
@@ -175,20 +45,25 @@ unfolding emits
 root-emits c e n next = ap (λ (x : Place). deeds next (x .mark) (walked (contextOf x) n)) e
 
 -- where the walk ends, from a cleared start
-pub walked-to : (a b k next : ℕ) (c : Place) (n : Node) (s s′ : State) (r r′ : ℕ) → c ≡ record { root = true; statement = false; mark = 0 } → s ≡ start a b k next → r ≡ 0
+walked-to : (a b k next : ℕ) (c : Place) (n : Node) (s s′ : State) (r r′ : ℕ) → c ≡ record { root = true; statement = false; mark = 0 } → s ≡ start a b k next → r ≡ 0
     → Does (record { state = s; refusal = r }) (record { state = s′; refusal = r′ }) (emits c n)
-    → (s′ ≡ steps (start a b k next) (eventsIn (deeds next 0 (walked top n)))) × (r′ ≡ firstRefused (deeds next 0 (walked top n)))
+    → Way (start a b k next) s′ (eventsIn (deeds next 0 (walked top n))) × (r′ ≡ firstRefused (deeds next 0 (walked top n)))
 unfolding start
 walked-to a b k next c n s s′ r r′ e f g d =
     let ds = deeds next 0 (walked top n) in
-    let h : Going = record { state = s′; refusal = r′ } in
-    let h₀ : Going = record { state = start a b k next; refusal = 0 } in
-    let x : h ≡ acts h₀ (emits c n next) =
-    d .result ∙ ap₂ (λ (u : State) (v : ℕ). acts (record { state = u; refusal = v }) (emits c n (u .sink .mark))) f g in
-    let h₁ : Going = record { state = steps (start a b k next) (eventsIn ds); refusal = firstRefused ds } in
-    let y : h ≡ h₁ =
-    x ∙ ap (acts h₀) (root-emits c e n next) ∙ come-to (start a b k next) ds (deeds-real next 0 (walked top n)) in
-    (ap (λ (z : Going). z .state) y, ap (λ (z : Going). z .refusal) y)
+    let same : emits c n next ≡ ds = root-emits c e n next in
+    let way : Way (start a b k next) s′ (eventsIn (emits c n next)) = subst (λ (u : State). Way u s′ (eventsIn (emits c n (u .sink .mark)))) f (d .output) in (
+      subst (λ (l : List Deed). Way (start a b k next) s′ (eventsIn l)) same way,
+      d .refusal next ∙ ap (λ (z : ℕ). met z (emits c n next)) g ∙ met-first (emits c n next) (emits-sound c n next) ∙ ap firstRefused same,
+    )
+
+-- nothing is handed back where the tree is full, whatever was done
+way-ends : (a b k next : ℕ) (s′ : State) (es : List Event) → 49152 ≤ k → Way (start a b k next) s′ es → finished s′ ≡ finished (steps (start a b k next) es)
+way-ends a b k next s′ es big (whole p) = ap finished p
+way-ends a b k next s′ es big (full fs p f g) = ap finished p ∙ none fs (subst Full p f) ∙ sym (none es g)
+  where
+    none : (xs : List Event) → Full (steps (start a b k next) xs) → finished (steps (start a b k next) xs) ≡ nothing a b k
+    none xs h = ap (λ (l : List Event). finished (steps (start a b k next) l)) (sym (append-none xs)) ∙ full-nothing a b k next xs [] big h
 
 -- ---- what is lent
 
@@ -244,7 +119,7 @@ module _ (options : ℕ) (tree out list work : List ℕ) (mark : ℕ) (each : (i
     (emits (record { root = true; statement = false; mark = 0 }) (lookNode tree 64 0 .value)))
   where
     module _ (n : Node) (q : ℕ) (read : readTree input levels tree ≡ got n q mark) where
-      ends : (stateOf o′ l′ w′ k′ ≡ steps (start (length out) (length list) (length work) mark) (eventsIn (deeds mark 0 (walked top n)))) × (r′ ≡ firstRefused (deeds mark 0 (walked top n)))
+      ends : Way (start (length out) (length list) (length work) mark) (stateOf o′ l′ w′ k′) (eventsIn (deeds mark 0 (walked top n))) × (r′ ≡ firstRefused (deeds mark 0 (walked top n)))
       ends =
           let c : Place = record { root = true; statement = false; mark = 0 } in
           let d : Does (record { state = stateOf o l w k; refusal = 0 }) (record { state = stateOf o′ l′ w′ k′; refusal = r′ }) (emits c n) =
@@ -273,7 +148,7 @@ module _ (options : ℕ) (tree out list work : List ℕ) (mark : ℕ) (each : (i
         → (n : Node) (q : ℕ) → options ≤ 15 → 65536 ≤ length work → readTree input levels tree ≡ got n q mark
         → x ≡ outcome options tree (lentOf out list work)
     ends-handed x none′ e n q known big read =
-        e ∙ ap (λ (u : State). outcomeFrom options (finished u)) (ends n q read .0)
+        e ∙ ap (outcomeFrom options) (way-ends (length out) (length list) (length work) mark (stateOf o′ l′ w′ k′) _ (omega arith) (ends n q read .0))
         ∙ sym (tree-lowered options known tree (lentOf out list work) big (each-byte tree each) n q mark read (sym (ends n q read .1) ∙ none′))
 
     pub ends-fits : (o″ l″ w″ : List ℕ) (v : Written) → r′ ≡ 0 → endOf o″ l″ w″ v ≡ finished (stateOf o′ l′ w′ k′) → v .fits ≡ true

@@ -1,11 +1,11 @@
 // The lowering of object rest and spread (ES2018) to ECMAScript 2017, from tree bytes to tree bytes.
 
-use emitters::emit;
-use emitters::emit::Place;
-use emitters::walk::Walk;
+use emit::node;
 use sink::ends;
 use tree::read;
 use tree::read::Answer;
+use walk::place::Place;
+use walk::walk::Walk;
 ghost use mathlib.Core.Path.{_≡_};
 ghost use mathlib.Core.List.{List};
 ghost use Prim.Native.Nat.{ℕ, _<_, _≤_};
@@ -65,7 +65,7 @@ fn lower(
         mark: 0,
         left: 64,
     };
-    let v = emit::node(w, tree, out, list, work, c);
+    let v = node(w, tree, out, list, work, c);
     let refusal = v.refusal;
     if 0 < refusal {
         return refuse(refusal, out, list, work);

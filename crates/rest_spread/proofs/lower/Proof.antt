@@ -6,7 +6,7 @@ use Rattle.rest_spread.proofs.lower.Statement.{statement}
 use Rattle.rest_spread.proofs.lower.Tie as tie
 use Rattle.rest_spread.proofs.lower.Reads as reads
 use Rattle.rest_spread.proofs.lower.Lts as lts
-use Rattle.emitters.proofs.emit.node.Reads as node-reads
+use Rattle.emit.proofs.node.Reads as node-reads
 use Rattle.rest_spread.proofs.refuse.Reads as refuse-reads
 use Rattle.sink.proofs.Sink.finish.Reads as finish-reads
 use Rattle.sink.proofs.ends.begin.Reads as begin-reads

@@ -1,0 +1,684 @@
+-- Assignments with an object rest below the target: the ways out of the code that writes them, one law for each.
+-- Assumes nothing.
+use mathlib.Core.Path.{_≡_, refl, sym, ap, ap₂, _∙_, subst}
+use mathlib.Core.Bool.{Bool, true, false, cond, not, _&&_, false≢true}
+use mathlib.Core.List.{List, [], _∷_, _++_}
+use Prim.Native.Nat.{ℕ, zero, suc, _+_, _-_, _/_, _%_, _≤_, _<_}
+use native.Mathlib.Omega.{arith}
+use lib.Dec.{eqb, ltb}
+use borrow.Author.Tests.{ne-eqb, eq-eqb, eqb-true, ltb-true}
+use Rattle.tree.specs.Tree.{Node, Items, wideBytes, depth}
+use Rattle.tree.specs.Read.{byteAt, wideAt}
+use Rattle.tree.specs.Look.{Seen, onward, lookItems, lookNode}
+use Rattle.tree.specs.Answer.{Peeked}
+use Rattle.lowering.specs.Parts.{position, is, pieceIn, standsIn, nodeAt, itemsAt, stands, any}
+use Rattle.lowering.specs.Made as made
+use Rattle.lowering.specs.Patterns.{shape, properties, rest, hasRest, withValues, hasNestedObjectRest, hasObjectRest, hasArrayRestOverObjectRest, replacedBelow}
+use Rattle.lowering.specs.Patterns.Shape.{leaf}
+use Rattle.lowering.specs.Keys.{anyLacksForm, excludedKeys, excludedKey}
+use Rattle.lowering.specs.Rests.{restValue, keysRead, isHoisted}
+use Rattle.lowering.specs.Assignments.{target, isTop}
+use Rattle.lowering.proofs.Cases.{by-test, and-left, and-right}
+use Rattle.sink.specs.Machine.{treeLimit}
+use Rattle.sink.specs.Machine.Event.{temporary, entry, listedTemporary}
+use Rattle.pattern.specs.declared.source.ReferenceBuilder.{ReferenceBuilder}
+use Rattle.pattern.specs.Tally.{limited}
+use Rattle.pattern.specs.Objects.{throughObjects}
+use Rattle.direct.specs.Events.{Place, Emit, puts, cell, lists, refused, emits}
+use Rattle.direct.specs.Events.Deed.{does, refuses}
+use Rattle.direct.specs.Emit.{say, _▷_, inner, stays}
+use Rattle.direct.specs.Views.{View, objectAt, objectRestAt, nameless, saysCell, emitsView}
+use Rattle.direct.specs.Views.View.{replacing, taking, leaving}
+use Rattle.direct.specs.Keys.{emitsRest}
+use Rattle.direct.specs.Objects.{overObjects, overRests}
+use Rattle.direct.specs.Handed.{placesIn, excludesOf, handsKeys, handsTop, handsNested}
+use Rattle.direct.specs.Counts.{restsCount, lacksRests}
+use Rattle.direct.specs.Inner.{otherKeys, emitsInnerTop}
+use Rattle.direct.specs.Assigned.{assignmentAt, assignHead, restInArrays, emitsRestOf, emitsInner, emitsNest, emitsTarget, topCount, emitsTop}
+use Rattle.direct.proofs.Threads.{then-assoc, say-say}
+use Rattle.direct.proofs.PatternViews.{values-rest, says-cell}
+use Rattle.direct.proofs.Tests.{top-lacks-form}
+use Rattle.direct.proofs.Assigned.{assignment-refused-5, assignment-refused-6, assignment-stays, assignment-nested, assignment-top, target-nested, target-kept, rest-done}
+use Rattle.direct.proofs.Inner.{inner-refused, inner-done}
+use Rattle.walk.specs.Run.{Going, Full, Does, Clear}
+use Rattle.walk.specs.Whole.{Good}
+use Rattle.walk.specs.Turns.{restFrom, viewOf, turnOf, deepMode, suits, sourceOf, givenDeeds, givenNode}
+use Rattle.walk.proofs.Sizes.{places-small, rests-count-small}
+use Rattle.walk.proofs.Running.{does-then, does-as, clear-after, clear-still}
+use Rattle.walk.proofs.Again as walked
+use Rattle.walk.proofs.Again.{source-quiet, taking-again, target-again}
+use Rattle.walk.proofs.Args.{does-from}
+use Rattle.emit.proofs.Moving.{does-to, cell-one}
+use Rattle.walk.proofs.Turning.{turn-12, turn-17, turn-18}
+use Rattle.walk.proofs.Opened.{ObjectOpen, AssignmentOpen, object-open, assignment-open, no-good, is-here, position-here, good-short, good-within}
+
+-- ---- the same at another place, level and position
+
+carry : (E : Place → ℕ → ℕ → Type 0) {c c′ : Place} {d d′ p p′ : ℕ} → c′ ≡ c → d′ ≡ d → p′ ≡ p → E c′ d′ p′ → E c d p
+carry E {c = c} {c′ = c′} {d = d} {d′ = d′} {p = p} {p′ = p′} u v w e =
+    subst (λ (x : Place). E x d p) u (subst (λ (x : ℕ). E c′ x p) v (subst (λ (x : ℕ). E c′ d′ x) w e))
+
+-- only the root of a place plays a part in the value of a rest
+rest-inner : (c : Place) (x : ℕ) → emitsRestOf (inner c) x ≡ emitsRestOf c x
+unfolding emitsRestOf inner restValue keysRead isHoisted excludedKeys excludedKey
+rest-inner c x = refl
+
+-- the cell of a temporary as the code finds it
+abbrev CellIs : ℕ → ℕ → ℕ → Type 0
+CellIs z stem at = at < 16384 → 0 < stem → stem < 5 → z ≡ cell stem at
+
+cell-says : {g g′ : Going} (z stem at : ℕ) → z ≡ cell stem at → Does g g′ (say (does (temporary z) ∷ [])) → Does g g′ (saysCell stem at)
+unfolding saysCell
+cell-says z stem at e d = does-as d (ap (λ (x : ℕ). say (does (temporary x) ∷ [])) e)
+
+-- the head of a sequence
+sequence-says : {g g₁ g₂ : Going} (k m : ℕ) → k ≡ m → m < 65536 → Does g g₁ (say (puts (28 ∷ 1 ∷ []))) → (k < 65536 → Does g₁ g₂ (say (puts (wideBytes k)))) → Does g g₂ (say (puts (28 ∷ 1 ∷ wideBytes m)))
+sequence-says k m e h a b =
+    let s : k < 65536 = omega arith in
+    does-as (does-then a (b s)) (say-say (puts (28 ∷ 1 ∷ [])) (puts (wideBytes k)) ∙ ap (λ (x : ℕ). say (puts (28 ∷ 1 ∷ wideBytes x))) e)
+
+-- the read of the value at the end of a sequence
+pub value-read : {g g′ : Going} (z p : ℕ) → CellIs z 3 p → Does g g′ (say (does (temporary z) ∷ [])) → p < 16384 → Does g g′ (saysCell 3 p)
+value-read z p ce d wi = cell-says z 3 p (ce wi (omega arith) (omega arith)) d
+
+pub read-none : (b : Bool) (p : ℕ) → b ≡ true → say [] ≡ cond b (say []) (saysCell 3 p)
+read-none b p e = rw e refl
+
+pub read-some : (b : Bool) (p : ℕ) → b ≡ false → saysCell 3 p ≡ cond b (say []) (saysCell 3 p)
+read-some b p e = rw e refl
+
+module _ (t : List ℕ) where
+  -- ---- an object with rest where it stands
+
+  abbrev listAt : ℕ → ℕ → Seen Items
+  listAt e p = lookItems t (lookNode t e) false (wideAt t (onward t p 2)) (onward t (onward t p 2) 2)
+
+  abbrev restNode : ℕ → ℕ → Node
+  restNode e p = lookNode t e (listAt e p .next) .value
+
+  record RestHere (d e p : ℕ) : Type 0 where
+    within : p < 16384
+    whole : lookNode t d p .value ≡ objectRestAt p (listAt e p .value) (restNode e p)
+    good : Good t e (listAt e p .next)
+    leafy : shape (restNode e p) ≡ leaf
+
+  plain-rest : (at : ℕ) (ps : Items) → hasRest (objectAt at ps) ≡ false
+  unfolding stands standsIn
+  plain-rest at ps = refl
+
+  rest-here : (d p : ℕ) → Good t d p → byteAt t p ≡ 34 → hasRest (lookNode t d p .value) ≡ true → RestHere d (d - 1) p
+  rest-here zero p g k h = no-good t p g
+  rest-here (suc d) p g k h =
+      let o : ObjectOpen t d p = object-open t d p g k in
+      let e : d ≡ suc d - 1 = omega arith in
+      let b : eqb (byteAt t (onward t p 1) / 2 % 2) 1 ≡ true =
+      by-test (eqb (byteAt t (onward t p 1) / 2 % 2) 1) (λ y. y)
+      (λ y. absurd (false≢true (sym (plain-rest p _) ∙ ap (λ (s : Seen Node). hasRest (s .value)) (sym (o .plain y)) ∙ h))) in
+      subst (λ (x : ℕ). RestHere (suc d) x p) e
+      (record {
+        within = omega (arith, o .within);
+        whole = ap (λ (s : Seen Node). s .value) (o .resting b);
+        good = o .rest b;
+        leafy = o .leafy b;
+      })
+
+  second-rest : (d p : ℕ) → Good t d p → byteAt t p ≡ 34 → eqb (byteAt t (onward t p 1) / 2 % 2) 1 ≡ true → hasRest (lookNode t d p .value) ≡ true
+  unfolding stands standsIn
+  second-rest zero p g k b = no-good t p g
+  second-rest (suc d) p g k b = ap (λ (s : Seen Node). hasRest (s .value)) (object-open t d p g k .resting b)
+
+  no-second : (d p : ℕ) → Good t d p → byteAt t p ≡ 34 → eqb (byteAt t (onward t p 1) / 2 % 2) 1 ≡ false → hasRest (lookNode t d p .value) ≡ false
+  unfolding stands standsIn
+  no-second zero p g k b = no-good t p g
+  no-second (suc d) p g k b = ap (λ (s : Seen Node). hasRest (s .value)) (object-open t d p g k .plain b)
+
+  -- ---- what is assigned
+
+  pub giv-node : {g h g′ : Going} (c : Place) (d x q : ℕ) (input : Bool) → input ≡ true → h ≡ g → q ≡ x
+      → (Good t d q → Does h g′ (emits c (lookNode t d q .value))) → (input ≡ true → Good t d x) → Does g g′ (givenDeeds t d c input x)
+  unfolding givenDeeds
+  giv-node {h = h} {g′ = g′} c d x q input b m w n good =
+      let a : Does h g′ (emits c (lookNode t d x .value)) = carry (λ y e z. Good t e z → Does h g′ (emits y (lookNode t e z .value))) refl refl w n (good b) in
+      does-from m (does-as a (ap (λ (y : Bool). cond y (emits c (lookNode t d x .value)) (say (does (temporary x) ∷ []))) (sym b)))
+
+  pub giv-cell : {g g′ : Going} (c : Place) (d x : ℕ) (input : Bool) → input ≡ false → Does g g′ (say (does (temporary x) ∷ [])) → Does g g′ (givenDeeds t d c input x)
+  unfolding givenDeeds
+  giv-cell c d x input b n = does-as n (ap (λ (y : Bool). cond y (emits c (lookNode t d x .value)) (say (does (temporary x) ∷ []))) (sym b))
+
+  given-is : (c : Place) (d x : ℕ) (input : Bool) → emits c (givenNode t d input x) ≡ givenDeeds t d c input x
+  unfolding givenDeeds saysCell
+  given-is c d x true = refl
+  given-is c d x false = says-cell c [] 1 x ∙ ap (λ (z : ℕ). say (does (temporary z) ∷ [])) (cell-one x)
+
+  -- ---- the rest of an object, from a temporary
+
+  -- the value of a rest as the code writes it
+  rest-does : {g g′ : Going} (c c′ : Place) (d d′ p z stem x : ℕ) (b : ReferenceBuilder) → c′ ≡ c → d′ ≡ d → z ≡ cell stem x → ((u : List ℕ) → sourceOf u b ≡ say (does (temporary z) ∷ []))
+      → (Good t d′ p → byteAt t p ≡ 34 → Does g g′ (emitsRest c′ p (properties (lookNode t d′ p .value)) (sourceOf t b))) → Good t d p → byteAt t p ≡ 34
+      → Does g g′ (emitsRest c p (properties (lookNode t d p .value)) (saysCell stem x))
+  unfolding saysCell
+  rest-does {g = g} {g′ = g′} c c′ d d′ p z stem x b u v e s r good k =
+      does-as (carry (λ y f q. Good t f q → byteAt t q ≡ 34 → Does g g′ (emitsRest y q (properties (lookNode t f q .value)) (sourceOf t b))) u v refl r good k)
+      (ap (λ (y : Emit). emitsRest c p (properties (lookNode t d p .value)) y) (s t ∙ ap (λ (y : ℕ). say (does (temporary y) ∷ [])) e))
+
+  node-does : {g h g′ : Going} (c c′ : Place) (d d′ p q : ℕ) → h ≡ g → c′ ≡ c → d′ ≡ d → q ≡ p → (Good t d′ q → Does h g′ (emits c′ (lookNode t d′ q .value))) → Good t d p → Does g g′ (emits c (lookNode t d p .value))
+  node-does {h = h} {g′ = g′} c c′ d d′ p q m u v w n good = does-from m (carry (λ y f z. Good t f z → Does h g′ (emits y (lookNode t f z .value))) u v w n good)
+
+  -- the value is read from a target, or left out
+  from-value : (c : Place) (x : ℕ) → (x ≡ 16383 → ⊥) → restFrom c x ≡ emitsRestOf c x
+  unfolding restFrom
+  from-value c x h = let f : Bool → Node → Emit = λ b o. cond b (emits (inner c) (rest o)) (emitsRestOf c x o) in ap f (ne-eqb x 16383 h)
+
+  from-none : (c : Place) (x : ℕ) → x ≡ 16383 → _≡_ {A = Node → Emit} (restFrom c x) (λ o. emits (inner c) (rest o))
+  unfolding restFrom
+  from-none c x h = let f : Bool → Node → Emit = λ b o. cond b (emits (inner c) (rest o)) (emitsRestOf c x o) in ap f (eq-eqb x 16383 h)
+
+  pub rof-done : {g₀ g₁ h g₂ g₃ : Going} (c c₁ c₂ : Place) (d d₁ d₂ e p r q x z : ℕ) (b : ReferenceBuilder)
+      → (1 < 256 → Does g₀ g₁ (assignHead 1)) → h ≡ g₁ → q ≡ r → e ≡ d - 1 → (c₁ ≡ inner c) × (d₁ ≡ e)
+      → (Good t d₁ q → Does h g₂ (emits c₁ (lookNode t d₁ q .value)))
+      → CellIs z 3 x → ((u : List ℕ) → sourceOf u b ≡ say (does (temporary z) ∷ [])) → (c₂ ≡ inner c) × (d₂ ≡ d)
+      → (Good t d₂ p → byteAt t p ≡ 34 → (false ≡ true → Clear g₂ (emitsRest c₂ p (properties (lookNode t d₂ p .value)) (sourceOf t b))) → Does g₂ g₃ (emitsRest c₂ p (properties (lookNode t d₂ p .value)) (sourceOf t b)))
+      → (x ≡ 16383 → ⊥) → x < 16384 → byteAt t p ≡ 34 → hasRest (lookNode t d p .value) ≡ true → r ≡ listAt (d - 1) p .next → Good t d p
+      → Does g₀ g₃ (restFrom c x (lookNode t d p .value))
+  unfolding itemsAt pieceIn
+  rof-done c c₁ c₂ d d₁ d₂ e p r q x z b a m w le i n ce s j v other lx k h rr good =
+      let o : RestHere d (d - 1) p = rest-here d p good k h in
+      let ps = listAt (d - 1) p .value in
+      let y = restNode (d - 1) p in
+      let N = node-does (inner c) c₁ (d - 1) d₁ (listAt (d - 1) p .next) q m (i .0) (i .1 ∙ le) (w ∙ rr) n (o .good) in
+      let Y = rest-does (inner c) c₂ d d₂ p z 3 x b (j .0) (j .1) (ce lx (omega arith) (omega arith)) s (λ g e. v g e (λ f. absurd (false≢true f))) good k in
+      does-as (does-then (a (omega arith)) (does-then N Y))
+      (ap (λ (n : Node). assignHead 1 ▷ emits (inner c) y ▷ emitsRest (inner c) p (properties n) (saysCell 3 x)) (o .whole)
+      ∙ sym (rest-done c x p ps y (o .leafy)) ∙ ap (emitsRestOf c x) (sym (o .whole)) ∙ ap (λ (f : Node → Emit). f (lookNode t d p .value)) (sym (from-value c x other)))
+
+  rest-at : (at : ℕ) (ps : Items) (r : Node) → rest (objectRestAt at ps r) ≡ r
+  unfolding nodeAt pieceIn
+  rest-at at ps r = refl
+
+  -- only what it is assigned to
+  pub rof-only : {g₀ h g₁ : Going} (c c₁ : Place) (d d₁ e p r q x : ℕ) → x ≡ 16383 → h ≡ g₀ → q ≡ r → e ≡ d - 1 → (c₁ ≡ inner c) × (d₁ ≡ e)
+      → (Good t d₁ q → Does h g₁ (emits c₁ (lookNode t d₁ q .value)))
+      → x < 16384 → byteAt t p ≡ 34 → hasRest (lookNode t d p .value) ≡ true → r ≡ listAt (d - 1) p .next → Good t d p
+      → Does g₀ g₁ (restFrom c x (lookNode t d p .value))
+  rof-only c c₁ d d₁ e p r q x none m w le i n lx k h rr good =
+      let o : RestHere d (d - 1) p = rest-here d p good k h in
+      let N = node-does (inner c) c₁ (d - 1) d₁ (listAt (d - 1) p .next) q m (i .0) (i .1 ∙ le) (w ∙ rr) n (o .good) in
+      does-as N
+      (ap (emits (inner c)) (sym (rest-at p (listAt (d - 1) p .value) (restNode (d - 1) p)) ∙ ap (λ (y : Node). rest y) (sym (o .whole)))
+      ∙ ap (λ (f : Node → Emit). f (lookNode t d p .value)) (sym (from-none c x none)))
+
+  -- ---- objects replaced, then an assignment for each
+
+  view-does : {g h g′ : Going} (v : View) (c c′ : Place) (d d′ p q r : ℕ) → h ≡ g → c′ ≡ c → d′ ≡ d → q ≡ p
+      → (Good t d′ q → (r ≡ lookNode t d′ q .next) × Does h g′ (emitsView c′ v (lookNode t d′ q .value))) → Good t d p → Does g g′ (emitsView c v (lookNode t d p .value))
+  view-does {h = h} {g′ = g′} v c c′ d d′ p q r m u w e n good =
+      does-from m (carry (λ y f z. Good t f z → (r ≡ lookNode t f z .next) × Does h g′ (emitsView y v (lookNode t f z .value))) u w e n good .1)
+
+  given-does : {g g′ : Going} (c c′ : Place) (d d′ x : ℕ) (input : Bool) → c′ ≡ c → d′ ≡ d → ((input ≡ true → Good t d′ x) → Does g g′ (givenDeeds t d′ c′ input x))
+      → (input ≡ true → Good t d x) → Does g g′ (givenDeeds t d c input x)
+  given-does {g = g} {g′ = g′} c c′ d d′ x input u w n good = carry (λ y f z. (input ≡ true → Good t f z) → Does g g′ (givenDeeds t f y input z)) u w refl n good
+
+  deep-does : {g h g′ : Going} (c c′ : Place) (d d′ p q r mode x : ℕ) → h ≡ g → c′ ≡ c → d′ ≡ d → q ≡ p → x < 16384
+      → (x < 16384 → Good t d′ q → deepMode mode ≡ true → suits mode (lookNode t d′ q .value) ≡ true → (r ≡ lookNode t d′ q .next) × Does h g′ (turnOf mode x c′ (lookNode t d′ q .value)))
+      → Good t d p → deepMode mode ≡ true → suits mode (lookNode t d p .value) ≡ true → Does g g′ (turnOf mode x c (lookNode t d p .value))
+  deep-does {h = h} {g′ = g′} c c′ d d′ p q r mode x m u w e l n good dm su =
+      does-from m
+      (carry (λ y f z. Good t f z → deepMode mode ≡ true → suits mode (lookNode t f z .value) ≡ true → (r ≡ lookNode t f z .next) × Does h g′ (turnOf mode x y (lookNode t f z .value))) u w e (n l) good dm su .1)
+
+  mode-deep : (b : Bool) → deepMode (cond b 17 12) ≡ true
+  unfolding deepMode
+  mode-deep true = refl
+  mode-deep false = refl
+
+  mode-suits : (b : Bool) (n : Node) → hasArrayRestOverObjectRest n ≡ false → suits (cond b 17 12) n ≡ true
+  unfolding suits
+  mode-suits true n h = ap not h
+  mode-suits false n h = ap not h
+
+  mode-turn : (b : Bool) (c : Place) (n : Node) → turnOf (cond b 17 12) 0 c n ≡ overObjects (emitsInner c) (cond b leaving replacing) n
+  mode-turn true c n = turn-17 0 c n
+  mode-turn false c n = turn-12 0 c n
+
+  view-is : (v : ℕ) → (v ≡ 2 → ⊥) → viewOf v ≡ cond (eqb v 3) leaving replacing
+  unfolding viewOf
+  view-is v h = rw (ne-eqb v 2 h) refl
+
+  places-fit : (v d p : ℕ) → (v ≡ 2 → ⊥) → Good t d p → placesIn (viewOf v) (lookNode t d p .value) ≤ 16384
+  places-fit v d p h g = omega (arith, places-small v h (lookNode t d p .value), good-short t d p g)
+
+  one-more : (a k m : ℕ) → a ≤ 16384 → k ≡ limited a → m ≡ limited (k + 1) → m ≡ suc a
+  unfolding limited
+  one-more a k m h e f = omega arith
+
+  pub nst-done : {g₀ g₁ g₂ g₃ g₄ h₄ g₅ g₆ h₆ g₇ : Going} (c c₁ c₂ : Place) (d d₁ d₂ v op p q q₂ r₅ r₇ k m x mode : ℕ) (input : Bool)
+      → ((v ≡ 2 → ⊥) → k ≡ limited (placesIn (viewOf v) (lookNode t d p .value)))
+      → ((v ≡ 2 → ⊥) → Good t d p → Does g₀ g₁ (handsNested (viewOf v) (c .mark) (lookNode t d p .value)))
+      → Does g₁ g₂ (say (puts (28 ∷ 1 ∷ []))) → m ≡ limited (k + 1) → (m < 65536 → Does g₂ g₃ (say (puts (wideBytes m)))) → (op < 256 → Does g₃ g₄ (assignHead op))
+      → h₄ ≡ g₄ → q ≡ p → (c₁ ≡ inner c) × (d₁ ≡ d)
+      → (Good t d₁ q → (r₅ ≡ lookNode t d₁ q .next) × Does h₄ g₅ (emitsView c₁ (viewOf v) (lookNode t d₁ q .value)))
+      → (c₂ ≡ inner c) × (d₂ ≡ d) → ((input ≡ true → Good t d₂ x) → Does g₅ g₆ (givenDeeds t d₂ c₂ input x))
+      → h₆ ≡ g₆ → q₂ ≡ p → mode ≡ cond (eqb v 3) 17 12
+      → (0 < 16384 → Good t d q₂ → deepMode mode ≡ true → suits mode (lookNode t d q₂ .value) ≡ true → (r₇ ≡ lookNode t d q₂ .next) × Does h₆ g₇ (turnOf mode 0 c (lookNode t d q₂ .value)))
+      → (v ≡ 2 → ⊥) → Good t d p → (input ≡ true → Good t d x) → hasArrayRestOverObjectRest (lookNode t d p .value) ≡ false → op < 256
+      → Does g₀ g₇ (emitsNest c (viewOf v) op (lookNode t d p .value) (givenDeeds t d (inner c) input x))
+  unfolding emitsNest
+  nst-done {h₆ = h₆} {g₇ = g₇} c c₁ c₂ d d₁ d₂ v op p q q₂ r₅ r₇ k m x mode input pk hands two pm wide ass t₄ w₄ i₁ view i₂ giv t₆ w₆ md deep nv good gx ar lo =
+      let n = lookNode t d p .value in
+      let b = eqb v 3 in
+      let pl : placesIn (viewOf v) n ≤ 16384 = places-fit v d p nv good in
+      let mm : m ≡ suc (placesIn (viewOf v) n) = one-more (placesIn (viewOf v) n) k m pl (pk nv) pm in
+      let dd = subst (λ (z : ℕ). 0 < 16384 → Good t d q₂ → deepMode z ≡ true → suits z (lookNode t d q₂ .value) ≡ true → (r₇ ≡ lookNode t d q₂ .next) × Does h₆ g₇ (turnOf z 0 c (lookNode t d q₂ .value))) md deep in
+      let D = does-as (deep-does c c d d p q₂ r₇ (cond b 17 12) 0 t₆ refl refl w₆ (omega arith) dd good (mode-deep b) (mode-suits b n ar))
+      (mode-turn b c n ∙ ap (λ (y : View). overObjects (emitsInner c) y n) (sym (view-is v nv))) in
+      does-then (hands nv good)
+      (does-then (sequence-says m (suc (placesIn (viewOf v) n)) mm (omega arith) two wide)
+      (does-then (ass lo)
+      (does-then (view-does (viewOf v) (inner c) c₁ d d₁ p q r₅ t₄ (i₁ .0) (i₁ .1) w₄ view good)
+      (does-then (given-does (inner c) c₂ d d₂ x input (i₂ .0) (i₂ .1) giv gx) D))))
+
+  -- ---- the target without its rests
+
+  -- what is assigned to it: the temporary of its value
+  value-given : (c : Place) (d p z : ℕ) → z ≡ cell 3 p → givenDeeds t d c false z ≡ saysCell 3 p
+  unfolding givenDeeds saysCell
+  value-given c d p z e = ap (λ (x : ℕ). say (does (temporary x) ∷ [])) e
+
+  nest-as : {g g′ : Going} (c c′ : Place) (d d′ p z : ℕ) → c′ ≡ c → d′ ≡ d → z ≡ cell 3 p
+      → ((_≡_ {A = ℕ} 3 2 → ⊥) → Good t d′ p → (false ≡ true → Good t d′ z) → hasArrayRestOverObjectRest (lookNode t d′ p .value) ≡ false → 1 < 256
+      → Does g g′ (emitsNest c′ (viewOf 3) 1 (lookNode t d′ p .value) (givenDeeds t d′ (inner c′) false z)))
+      → Good t d p → hasArrayRestOverObjectRest (lookNode t d p .value) ≡ false → Does g g′ (emitsNest c leaving 1 (lookNode t d p .value) (saysCell 3 p))
+  unfolding viewOf
+  nest-as {g = g} {g′ = g′} c c′ d d′ p z u w e n good ar =
+      does-as
+      (carry (λ y f q. (_≡_ {A = ℕ} 3 2 → ⊥) → Good t f q → (false ≡ true → Good t f z) → hasArrayRestOverObjectRest (lookNode t f q .value) ≡ false → 1 < 256
+      → Does g g′ (emitsNest y leaving 1 (lookNode t f q .value) (givenDeeds t f (inner y) false z))) u w refl n
+      (λ x. omega (arith, x)) good (λ x. absurd (false≢true x)) ar (omega arith))
+      (ap (λ (s : Emit). emitsNest c leaving 1 (lookNode t d p .value) s) (value-given (inner c) d p z e))
+
+  object-within : (d p : ℕ) → Good t d p → p < 16384
+  object-within d p g = omega (arith, good-within t d p g)
+
+  pub tgt-nested : {g g′ : Going} (c c₁ : Place) (d d₁ p z : ℕ) (b : Bool) → b ≡ restInArrays (lookNode t d p .value) → b ≡ true → (c₁ ≡ inner c) × (d₁ ≡ d) → CellIs z 3 p
+      → ((_≡_ {A = ℕ} 3 2 → ⊥) → Good t d₁ p → (false ≡ true → Good t d₁ z) → hasArrayRestOverObjectRest (lookNode t d₁ p .value) ≡ false → 1 < 256
+      → Does g g′ (emitsNest c₁ (viewOf 3) 1 (lookNode t d₁ p .value) (givenDeeds t d₁ (inner c₁) false z)))
+      → byteAt t p ≡ 34 → Good t d p → hasArrayRestOverObjectRest (lookNode t d p .value) ≡ false → Does g g′ (emitsTarget c (lookNode t d p .value))
+  tgt-nested c c₁ d d₁ p z b e h i ce n k good ar =
+      let y = lookNode t d p .value in
+      does-as (nest-as (inner c) c₁ d d₁ p z (i .0) (i .1) (ce (object-within d p good) (omega arith) (omega arith)) n good ar)
+      (ap (λ (x : ℕ). emitsNest (inner c) leaving 1 y (saysCell 3 x)) (sym (position-here t d p)) ∙ sym (target-nested c y (sym e ∙ h)))
+
+  pub tgt-kept : {g₀ g₁ h₁ g₂ g₃ : Going} (c c₁ : Place) (d d₁ p q r z : ℕ) (b : Bool) → b ≡ restInArrays (lookNode t d p .value) → b ≡ false → (c₁ ≡ inner c) × (d₁ ≡ d)
+      → (1 < 256 → Does g₀ g₁ (assignHead 1)) → h₁ ≡ g₁ → q ≡ p
+      → (Good t d₁ q → (r ≡ lookNode t d₁ q .next) × Does h₁ g₂ (emitsView c₁ (viewOf 3) (lookNode t d₁ q .value)))
+      → CellIs z 3 p → Does g₂ g₃ (say (does (temporary z) ∷ []))
+      → byteAt t p ≡ 34 → Good t d p → hasArrayRestOverObjectRest (lookNode t d p .value) ≡ false → Does g₀ g₃ (emitsTarget c (lookNode t d p .value))
+  unfolding viewOf
+  tgt-kept c c₁ d d₁ p q r z b e h i ass m w view ce last k good ar =
+      let y = lookNode t d p .value in
+      does-as
+      (does-then (ass (omega arith))
+      (does-then (view-does leaving (inner c) c₁ d d₁ p q r m (i .0) (i .1) w view good)
+      (cell-says z 3 p (ce (object-within d p good) (omega arith) (omega arith)) last)))
+      (ap (λ (x : ℕ). assignHead 1 ▷ emitsView (inner c) leaving y ▷ saysCell 3 x) (sym (position-here t d p)) ∙ sym (target-kept c y (sym e ∙ h)))
+
+  -- ---- the target is an object with rest
+
+  top-way : {g g′ : Going} (c : Place) (n : Node) (s : Emit) (b : Bool) → lacksRests n ≡ b → Does g g′ (cond b (say (refuses 6 ∷ puts (0 ∷ 0 ∷ []))) (emitsTop c n s))
+      → Does g g′ (cond (lacksRests n) (say (refuses 6 ∷ puts (0 ∷ 0 ∷ []))) (emitsTop c n s))
+  top-way c n s b e d = does-as d (ap (λ (x : Bool). cond x (say (refuses 6 ∷ puts (0 ∷ 0 ∷ []))) (emitsTop c n s)) (sym e))
+
+  lacks-is : (n : Node) (b : Bool) → b ≡ any anyLacksForm (throughObjects n) → lacksRests n ≡ b
+  unfolding lacksRests
+  lacks-is n b e = sym e
+
+  pub top-refused : {g g′ : Going} (c : Place) (d p x : ℕ) (input b : Bool) → b ≡ any anyLacksForm (throughObjects (lookNode t d p .value)) → b ≡ true
+      → Does g g′ (say (refuses 6 ∷ puts (0 ∷ 0 ∷ [])))
+      → Does g g′ (cond (lacksRests (lookNode t d p .value)) (say (refuses 6 ∷ puts (0 ∷ 0 ∷ []))) (emitsTop c (lookNode t d p .value) (givenDeeds t d (inner c) input x)))
+  top-refused c d p x input b e h r = let n = lookNode t d p .value in top-way c n (givenDeeds t d (inner c) input x) true (lacks-is n b e ∙ h) r
+
+  count-is : (c : Place) (d p k : ℕ) → Good t d p
+      → (Good t d p → k ≡ suc (suc (cond (c .statement) (restsCount (lookNode t d p .value)) (suc (restsCount (lookNode t d p .value)))))) → (k ≡ topCount c (lookNode t d p .value)) × (topCount c (lookNode t d p .value) < 65536)
+  unfolding topCount restsCount
+  count-is c d p k g h =
+      let n = lookNode t d p .value in
+      let a : restsCount n ≤ 16384 = omega (arith, rests-count-small n, good-short t d p g) in
+      (h g, go (c .statement) (restsCount n) a)
+    where
+      go : (b : Bool) (m : ℕ) → m ≤ 16384 → suc (suc (cond b m (suc m))) < 65536
+      go true m l = omega arith
+      go false m l = omega arith
+
+  suits-18 : (n : Node) → suits 18 n ≡ true
+  unfolding suits
+  suits-18 n = refl
+
+  deep-18 : deepMode 18 ≡ true
+  unfolding deepMode
+  deep-18 = refl
+
+  -- a pattern ends after its start
+  object-early : (d p : ℕ) → Good t d p → p ≡ 16383 → ⊥
+  object-early d p good h = let w = good-within t d p good in omega (arith, w, h)
+
+  twice-inner : (c : Place) → _≡_ {A = Node → Emit} (λ o. emits (inner (inner c)) (rest o)) (λ o. emits (inner c) (rest o))
+  unfolding inner
+  twice-inner c = refl
+
+  -- the rests of the target; once the tree is full, only what they are assigned to
+  rests-does : {g g′ : Going} (c : Place) (d p y : ℕ) (b : Bool) → b ≡ ltb treeLimit (g .state .sink .tree) → y ≡ cond (ltb treeLimit (g .state .sink .tree)) 16383 p → Good t d p → byteAt t p ≡ 34
+      → Clear g (emitsTarget c (lookNode t d p .value)) → (y < 16384 → Does g g′ (overRests (restFrom (inner c) y) (lookNode t d p .value))) → Does g g′ (overRests (emitsRestOf c p) (lookNode t d p .value))
+  rests-does c d p y true e from good k clear done =
+      let v : y ≡ 16383 = from ∙ ap (λ (b : Bool). cond b 16383 p) (sym e) in
+      target-again c (lookNode t d p .value) (walked.object-here t d p good k) p (ltb-true treeLimit _ (sym e)) clear
+      (does-as (done (omega arith)) (ap (λ (f : Node → Emit). overRests f (lookNode t d p .value)) (from-none (inner c) y v ∙ twice-inner c)))
+  rests-does c d p y false e from good k clear done =
+      let v : y ≡ p = from ∙ ap (λ (b : Bool). cond b 16383 p) (sym e) in
+      let w : p < 16384 = object-within d p good in
+      does-as (done (omega arith))
+      (ap (λ (z : ℕ). overRests (restFrom (inner c) z) (lookNode t d p .value)) v
+      ∙ ap (λ (f : Node → Emit). overRests f (lookNode t d p .value)) (from-value (inner c) p (object-early d p good) ∙ rest-inner c p))
+
+  -- whatever is last
+  pub top-does : {g₀ g₁ g₂ g₃ g₄ g₅ g₆ g₇ h₇ g₈ g₉ : Going} (c c₁ c₂ : Place) (d d₁ d₂ p q r x y k z : ℕ) (input b : Bool) (last : Emit)
+      → b ≡ any anyLacksForm (throughObjects (lookNode t d p .value)) → b ≡ false
+      → (Good t d p → byteAt t p ≡ 34 → Does g₀ g₁ (handsTop (c .root) (c .mark) (lookNode t d p .value)))
+      → (Good t d p → k ≡ suc (suc (cond (c .statement) (restsCount (lookNode t d p .value)) (suc (restsCount (lookNode t d p .value))))))
+      → Does g₁ g₂ (say (puts (28 ∷ 1 ∷ []))) → (k < 65536 → Does g₂ g₃ (say (puts (wideBytes k)))) → (1 < 256 → Does g₃ g₄ (assignHead 1))
+      → CellIs z 3 p → Does g₄ g₅ (say (does (temporary z) ∷ []))
+      → (c₁ ≡ inner c) × (d₁ ≡ d) → ((input ≡ true → Good t d₁ x) → Does g₅ g₆ (givenDeeds t d₁ c₁ input x))
+      → (byteAt t p ≡ 34 → Good t d p → hasArrayRestOverObjectRest (lookNode t d p .value) ≡ false → Does g₆ g₇ (emitsTarget c (lookNode t d p .value)))
+      → h₇ ≡ g₇ → q ≡ p → (c₂ ≡ inner c) × (d₂ ≡ d)
+      → y ≡ cond (ltb treeLimit (g₇ .state .sink .tree)) 16383 p
+      → (y < 16384 → Good t d₂ q → deepMode 18 ≡ true → suits 18 (lookNode t d₂ q .value) ≡ true → (r ≡ lookNode t d₂ q .next) × Does h₇ g₈ (turnOf 18 y c₂ (lookNode t d₂ q .value)))
+      → (p < 16384 → Does g₈ g₉ last) → last ≡ cond (c .statement) (say []) (saysCell 3 p)
+      → byteAt t p ≡ 34 → Good t d p → (input ≡ true → Good t d x) → hasArrayRestOverObjectRest (lookNode t d p .value) ≡ false
+      → Does g₀ g₉ (cond (lacksRests (lookNode t d p .value)) (say (refuses 6 ∷ puts (0 ∷ 0 ∷ []))) (emitsTop c (lookNode t d p .value) (givenDeeds t d (inner c) input x)))
+  unfolding emitsTop
+  top-does {g₇ = g₇} {g₈ = g₈} c c₁ c₂ d d₁ d₂ p q r x y k z input b last e h hands kk two wide ass ce temp i₁ giv tgt m w i₂ from deep end ends by good gx ar =
+      let n = lookNode t d p .value in
+      let X = givenDeeds t d (inner c) input x in
+      let wi : p < 16384 = object-within d p good in
+      let co = count-is c d p k good kk in
+      let T = tgt by good ar in
+      let D : Does g₇ g₈ (overRests (emitsRestOf c p) n) =
+      rests-does c d p y (ltb treeLimit (g₇ .state .sink .tree)) refl from good by (clear-after T)
+      (λ v. does-as (deep-does (inner c) c₂ d d₂ p q r 18 y m (i₂ .0) (i₂ .1) w v deep good deep-18 (suits-18 n)) (turn-18 y (inner c) n)) in
+      top-way c n X false (lacks-is n b e ∙ h)
+      (does-as
+      (does-then (hands good by)
+      (does-then (sequence-says k (topCount c n) (co .0) (co .1) two wide)
+      (does-then (ass (omega arith))
+      (does-then (cell-says z 3 p (ce wi (omega arith) (omega arith)) temp)
+      (does-then (given-does (inner c) c₁ d d₁ x input (i₁ .0) (i₁ .1) giv gx)
+      (does-then T
+      (does-then D (does-as (end wi) ends))))))))
+      (ap (λ (y : ℕ). handsTop (c .root) (c .mark) n ▷ say (puts (28 ∷ 1 ∷ wideBytes (topCount c n))) ▷ assignHead 1 ▷ saysCell 3 y ▷ X ▷ emitsTarget c n ▷ overRests (emitsRestOf c y) n ▷ cond (c .statement) (say []) (saysCell 3 y))
+      (sym (position-here t d p))))
+
+  -- ---- an assignment
+
+  rest-top : (at : ℕ) (ps : Items) (r : Node) → isTop (objectRestAt at ps r) ≡ true
+  unfolding isTop is stands standsIn
+  rest-top at ps r = refl
+
+  refused-6 : say (refused 6 ++ puts (0 ∷ 0 ∷ [])) ≡ say (refuses 6 ∷ puts (0 ∷ 0 ∷ []))
+  unfolding refused
+  refused-6 = refl
+
+  refused-5 : say (refused 5 ++ puts (0 ∷ 0 ∷ [])) ≡ say (refuses 5 ∷ puts (0 ∷ 0 ∷ []))
+  unfolding refused
+  refused-5 = refl
+
+  -- wherever it stands: of a target that is an object with rest
+  top-is : (c : Place) (at op pat : ℕ) (ps : Items) (r x : Node) → hasArrayRestOverObjectRest (objectRestAt pat ps r) ≡ false
+      → emits c (assignmentAt at op (objectRestAt pat ps r) x)
+      ≡ cond (lacksRests (objectRestAt pat ps r)) (say (refuses 6 ∷ puts (0 ∷ 0 ∷ []))) (emitsTop c (objectRestAt pat ps r) (emits (inner c) x))
+  unfolding is nodeAt pieceIn
+  top-is c at op pat ps r x h =
+      let p = objectRestAt pat ps r in
+      let n = assignmentAt at op p x in
+      let l = top-lacks-form at op p x in
+      by-test (lacksRests p)
+      (λ b. rw b (assignment-refused-6 c n refl h (rest-top pat ps r) (l ∙ b) ∙ refused-6))
+      (λ b. rw b (assignment-top c at op pat ps r x h (l ∙ b)))
+
+  kind-34 : (d p : ℕ) → Good t d p → is 34 (lookNode t d p .value) ≡ true → byteAt t p ≡ 34
+  kind-34 zero p g h = no-good t p g
+  kind-34 (suc d) p g h = eqb-true (byteAt t p) 34 (sym (is-here t d p 34) ∙ h)
+
+  other-kind : (d p : ℕ) → Good t d p → (byteAt t p ≡ 34 → ⊥) → is 34 (lookNode t d p .value) ≡ false
+  other-kind zero p g h = no-good t p g
+  other-kind (suc d) p g h = is-here t d p 34 ∙ ne-eqb (byteAt t p) 34 h
+
+  no-top : (n : Node) → is 34 n ≡ false → isTop n ≡ false
+  unfolding isTop
+  no-top n h = rw h refl
+
+  no-rest-top : (n : Node) → hasRest n ≡ false → isTop n ≡ false
+  unfolding isTop
+  no-rest-top n h = rw h (go (is 34 n))
+    where
+      go : (b : Bool) → b && false ≡ false
+      go true = refl
+      go false = refl
+
+  top-kind : (n : Node) → isTop n ≡ true → is 34 n ≡ true
+  unfolding isTop
+  top-kind n h = and-left (is 34 n) (hasRest n) h
+
+  top-rest : (n : Node) → isTop n ≡ true → hasRest n ≡ true
+  unfolding isTop
+  top-rest n h = and-right (is 34 n) (hasRest n) h
+
+  -- its position plays no part
+  any-place : (c : Place) (at op d p : ℕ) (x : Node) → Good t d p → hasArrayRestOverObjectRest (lookNode t d p .value) ≡ false → hasObjectRest (lookNode t d p .value) ≡ true
+      → emits c (assignmentAt 0 op (lookNode t d p .value) x) ≡ emits c (assignmentAt at op (lookNode t d p .value) x)
+  any-place c at op d p x g h o =
+      let n = lookNode t d p .value in
+      by-test (isTop n)
+      (λ b.
+      let r : RestHere d (d - 1) p = rest-here d p g (kind-34 d p g (top-kind n b)) (top-rest n b) in
+      let ps = listAt (d - 1) p .value in
+      let y = restNode (d - 1) p in
+      rw (r .whole) (let h′ : hasArrayRestOverObjectRest (objectRestAt p ps y) ≡ false = ap (λ (m : Node). hasArrayRestOverObjectRest m) (sym (r .whole)) ∙ h in top-is c 0 op p ps y x h′ ∙ sym (top-is c at op p ps y x h′)))
+      (λ b. assignment-nested c 0 op n x h b o ∙ sym (assignment-nested c at op n x h b o))
+
+  pub asn-top : {g g′ : Going} (c : Place) (d op p x k : ℕ) (input s : Bool) → Peeked t p k → k ≡ 34 → s ≡ eqb (byteAt t (onward t p 1) / 2 % 2) 1 → s ≡ true
+      → (byteAt t p ≡ 34 → hasRest (lookNode t d p .value) ≡ true → Good t d p → (input ≡ true → Good t d x) → hasArrayRestOverObjectRest (lookNode t d p .value) ≡ false
+      → Does g g′ (cond (lacksRests (lookNode t d p .value)) (say (refuses 6 ∷ puts (0 ∷ 0 ∷ []))) (emitsTop c (lookNode t d p .value) (givenDeeds t d (inner c) input x))))
+      → Good t d p → (input ≡ true → Good t d x) → hasArrayRestOverObjectRest (lookNode t d p .value) ≡ false → hasObjectRest (lookNode t d p .value) ≡ true → op < 256
+      → Does g g′ (emits c (assignmentAt 0 op (lookNode t d p .value) (givenNode t d input x)))
+  asn-top c d op p x k input s pk kk se sh top good gx ar ob lo =
+      let by : byteAt t p ≡ 34 = sym (pk .value) ∙ kk in
+      let hr : hasRest (lookNode t d p .value) ≡ true = second-rest d p good by (sym se ∙ sh) in
+      let r : RestHere d (d - 1) p = rest-here d p good by hr in
+      let ps = listAt (d - 1) p .value in
+      let y = restNode (d - 1) p in
+      let X = givenNode t d input x in
+      let h′ : hasArrayRestOverObjectRest (objectRestAt p ps y) ≡ false = ap (λ (m : Node). hasArrayRestOverObjectRest m) (sym (r .whole)) ∙ ar in
+      does-as (top by hr good gx ar)
+      (ap₂ (λ (m : Node) (s : Emit). cond (lacksRests m) (say (refuses 6 ∷ puts (0 ∷ 0 ∷ []))) (emitsTop c m s)) (r .whole) (sym (given-is (inner c) d x input))
+      ∙ sym (top-is c 0 op p ps y X h′) ∙ ap (λ (m : Node). emits c (assignmentAt 0 op m X)) (sym (r .whole)))
+
+  asn-nest : {g g′ : Going} (c : Place) (d op p x : ℕ) (input : Bool) → isTop (lookNode t d p .value) ≡ false
+      → ((_≡_ {A = ℕ} 1 2 → ⊥) → Good t d p → (input ≡ true → Good t d x) → hasArrayRestOverObjectRest (lookNode t d p .value) ≡ false → op < 256
+      → Does g g′ (emitsNest c (viewOf 1) op (lookNode t d p .value) (givenDeeds t d (inner c) input x)))
+      → Good t d p → (input ≡ true → Good t d x) → hasArrayRestOverObjectRest (lookNode t d p .value) ≡ false → hasObjectRest (lookNode t d p .value) ≡ true → op < 256
+      → Does g g′ (emits c (assignmentAt 0 op (lookNode t d p .value) (givenNode t d input x)))
+  unfolding viewOf
+  asn-nest c d op p x input h n good gx ar ob lo =
+      let m = lookNode t d p .value in
+      does-as (n (λ e. omega (arith, e)) good gx ar lo)
+      (ap (λ (s : Emit). emitsNest c replacing op m s) (sym (given-is (inner c) d x input)) ∙ sym (assignment-nested c 0 op m (givenNode t d input x) ar h ob))
+
+  pub asn-plain : {g g′ : Going} (c : Place) (d op p x k : ℕ) (input s : Bool) → Peeked t p k → k ≡ 34 → s ≡ eqb (byteAt t (onward t p 1) / 2 % 2) 1 → s ≡ false
+      → ((_≡_ {A = ℕ} 1 2 → ⊥) → Good t d p → (input ≡ true → Good t d x) → hasArrayRestOverObjectRest (lookNode t d p .value) ≡ false → op < 256
+      → Does g g′ (emitsNest c (viewOf 1) op (lookNode t d p .value) (givenDeeds t d (inner c) input x)))
+      → Good t d p → (input ≡ true → Good t d x) → hasArrayRestOverObjectRest (lookNode t d p .value) ≡ false → hasObjectRest (lookNode t d p .value) ≡ true → op < 256
+      → Does g g′ (emits c (assignmentAt 0 op (lookNode t d p .value) (givenNode t d input x)))
+  asn-plain c d op p x k input s pk kk se sh n good gx ar ob lo =
+      asn-nest c d op p x input (no-rest-top (lookNode t d p .value) (no-second d p good (sym (pk .value) ∙ kk) (sym se ∙ sh))) n good gx ar ob lo
+
+  pub asn-other : {g g′ : Going} (c : Place) (d op p x k : ℕ) (input : Bool) → Peeked t p k → (k ≡ 34 → ⊥)
+      → ((_≡_ {A = ℕ} 1 2 → ⊥) → Good t d p → (input ≡ true → Good t d x) → hasArrayRestOverObjectRest (lookNode t d p .value) ≡ false → op < 256
+      → Does g g′ (emitsNest c (viewOf 1) op (lookNode t d p .value) (givenDeeds t d (inner c) input x)))
+      → Good t d p → (input ≡ true → Good t d x) → hasArrayRestOverObjectRest (lookNode t d p .value) ≡ false → hasObjectRest (lookNode t d p .value) ≡ true → op < 256
+      → Does g g′ (emits c (assignmentAt 0 op (lookNode t d p .value) (givenNode t d input x)))
+  asn-other c d op p x k input pk kn n good gx ar ob lo =
+      asn-nest c d op p x input (no-top (lookNode t d p .value) (other-kind d p good (λ e. kn (pk .value ∙ e)))) n good gx ar ob lo
+
+  -- ---- where the walk gets to one
+
+  assignment-27 : (at op : ℕ) (p x : Node) → is 27 (assignmentAt at op p x) ≡ true
+  unfolding is
+  assignment-27 at op p x = refl
+
+  target-is : (at op : ℕ) (p x : Node) → target (assignmentAt at op p x) ≡ p
+  unfolding nodeAt pieceIn
+  target-is at op p x = refl
+
+  -- it stands as a whole: its operator, its target at q, its value behind that
+  record AssignmentHere (d e p q : ℕ) : Type 0 where
+    op : byteAt t (onward t p 2) < 256
+    whole : lookNode t d p .value ≡ assignmentAt p (byteAt t (onward t p 2)) (lookNode t e q .value) (lookNode t e (lookNode t e q .next) .value)
+    target : Good t e q
+    value : Good t e (lookNode t e q .next)
+
+  assignment-here : (d e p q : ℕ) → e ≡ d - 1 → q ≡ onward t p 3 → Good t d p → byteAt t p ≡ 27 → AssignmentHere d e p q
+  assignment-here zero e p q u w g k = no-good t p g
+  assignment-here (suc d) e p q u w g k =
+      let o : AssignmentOpen t d p = assignment-open t d p g k in
+      let i : d ≡ e = omega arith in
+      subst (λ (x : ℕ). AssignmentHere (suc d) x p q) i
+      (subst (λ (x : ℕ). AssignmentHere (suc d) d p x) (sym w)
+      (record { op = o .op; whole = ap (λ (s : Seen Node). s .value) (o .whole); target = o .target; value = o .value }))
+
+  -- with an object rest below the target there are levels left
+  nothing-here : (q : ℕ) → hasObjectRest (lookNode t 0 q .value) ≡ false
+  unfolding lookNode hasNestedObjectRest shape depth
+  nothing-here q = refl
+
+  pub asg-falls : (d e q : ℕ) (b : Bool) → e ≡ d - 1 → b ≡ hasObjectRest (lookNode t e q .value) → b ≡ true → e < d
+  asg-falls zero e q b l u h =
+      let z : e ≡ 0 = omega arith in
+      absurd (false≢true (sym (nothing-here q) ∙ ap (λ (x : ℕ). hasObjectRest (lookNode t x q .value)) (sym z) ∙ sym u ∙ h))
+  asg-falls (suc d) e q b l u h = omega arith
+
+  module _ (c : Place) (d e p q : ℕ) (le : e ≡ d - 1) (lq : q ≡ onward t p 3) where
+    abbrev aimed : Node
+    aimed = lookNode t e q .value
+
+    abbrev given : Node
+    given = lookNode t e (lookNode t e q .next) .value
+
+    abbrev opHere : ℕ
+    opHere = byteAt t (onward t p 2)
+
+    at-target : (f : Node → Bool) (b : Bool) → f aimed ≡ b → f (target (assignmentAt p opHere aimed given)) ≡ b
+    at-target f b h = ap f (target-is p opHere aimed given) ∙ h
+
+    pub asg-refused : {g g₁ g′ : Going} (b : Bool) → b ≡ hasArrayRestOverObjectRest (lookNode t e q .value) → b ≡ true
+        → Does g g₁ (say (refuses 5 ∷ puts (0 ∷ 0 ∷ []))) → g′ ≡ g₁ → byteAt t p ≡ 27 → Good t d p → Does g g′ (emits c (lookNode t d p .value))
+    asg-refused b u h r m k good =
+        let o : AssignmentHere d e p q = assignment-here d e p q le lq good k in
+        does-to m (does-as r
+        (sym refused-5
+        ∙ sym (assignment-refused-5 c (assignmentAt p opHere aimed given) (assignment-27 p opHere aimed given) (at-target (λ n. hasArrayRestOverObjectRest n) true (sym u ∙ h)))
+        ∙ ap (emits c) (sym (o .whole))))
+
+    pub asg-plain : {g g′ : Going} (b : Bool) → b ≡ hasObjectRest (lookNode t e q .value) → b ≡ false
+        → (Good t d p → Does g g′ (stays c (lookNode t d p .value))) → byteAt t p ≡ 27 → Good t d p → Does g g′ (emits c (lookNode t d p .value))
+    asg-plain b u h s k good =
+        let o : AssignmentHere d e p q = assignment-here d e p q le lq good k in
+        does-as (s good)
+        (ap (stays c) (o .whole)
+        ∙ sym (assignment-stays c (assignmentAt p opHere aimed given) (assignment-27 p opHere aimed given) (at-target (λ n. hasObjectRest n) false (sym u ∙ h)))
+        ∙ ap (emits c) (sym (o .whole)))
+
+    pub asg-lowered : {g g₁ g′ : Going} (c₁ : Place) (d₁ v i op : ℕ) (a b : Bool) → a ≡ hasArrayRestOverObjectRest (lookNode t e q .value) → a ≡ false → b ≡ hasObjectRest (lookNode t e q .value) → b ≡ true
+        → v ≡ lookNode t e q .next → i ≡ onward t p 2 → Peeked t i op → (c₁ ≡ c) × (d₁ ≡ e)
+        → (Good t d₁ q → (_≡_ {A = Bool} true true → Good t d₁ v) → hasArrayRestOverObjectRest (lookNode t d₁ q .value) ≡ false → hasObjectRest (lookNode t d₁ q .value) ≡ true → op < 256
+        → Does g g₁ (emits c₁ (assignmentAt 0 op (lookNode t d₁ q .value) (givenNode t d₁ true v))))
+        → g′ ≡ g₁ → byteAt t p ≡ 27 → Good t d p → Does g g′ (emits c (lookNode t d p .value))
+    asg-lowered {g = g} {g₁ = g₁} c₁ d₁ v i op a b ua ha ub hb lv li pk under asn m k good =
+        let o : AssignmentHere d e p q = assignment-here d e p q le lq good k in
+        let oo : op ≡ opHere = pk .value ∙ ap (λ (x : ℕ). byteAt t x) li in
+        let lo : op < 256 = omega (arith, o .op) in
+        let D = carry (λ y f z. Good t f q → (_≡_ {A = Bool} true true → Good t f z) → hasArrayRestOverObjectRest (lookNode t f q .value) ≡ false → hasObjectRest (lookNode t f q .value) ≡ true → op < 256
+        → Does g g₁ (emits y (assignmentAt 0 op (lookNode t f q .value) (givenNode t f true z)))) (under .0) (under .1) lv asn
+        (o .target) (λ x. o .value) (sym ua ∙ ha) (sym ub ∙ hb) lo in
+        does-to m (does-as D
+        (any-place c p op e q given (o .target) (sym ua ∙ ha) (sym ub ∙ hb)
+        ∙ ap (λ (x : ℕ). emits c (assignmentAt p x aimed given)) oo ∙ ap (emits c) (sym (o .whole))))
+
+  -- ---- the assignment of an object from the temporary in its place
+
+  abbrev innerHere : ℕ → ℕ → Node
+  innerHere d p = withValues (λ v. replacedBelow nameless v) (lookNode t d p .value)
+
+  inner-is : (d p : ℕ) (ps : Items) (r : Node) → lookNode t d p .value ≡ objectRestAt p ps r → innerHere d p ≡ withValues (λ v. replacedBelow nameless v) (objectRestAt p ps r)
+  inner-is d p ps r e = ap (λ (n : Node). withValues (λ v. replacedBelow nameless v) n) e
+
+  pub itp-refused : {g g′ : Going} (c : Place) (d p r : ℕ) (b : Bool) → b ≡ anyLacksForm (lookNode t d p .value) → b ≡ true → Does g g′ (say (refuses 6 ∷ puts (0 ∷ 0 ∷ [])))
+      → byteAt t p ≡ 34 → hasRest (lookNode t d p .value) ≡ true → r ≡ listAt (d - 1) p .next → Good t d p → hasArrayRestOverObjectRest (lookNode t d p .value) ≡ false
+      → Does g g′ (emitsInner c (innerHere d p))
+  itp-refused c d p r b u h w k hr rr good ar =
+      let o : RestHere d (d - 1) p = rest-here d p good k hr in
+      let ps = listAt (d - 1) p .value in
+      let y = restNode (d - 1) p in
+      does-as w
+      (sym refused-6
+      ∙ sym (inner-refused p ps y c (ap (λ (n : Node). hasArrayRestOverObjectRest n) (sym (o .whole)) ∙ ar) (ap (λ (n : Node). anyLacksForm n) (sym (o .whole)) ∙ sym u ∙ h))
+      ∙ ap (emitsInner c) (sym (inner-is d p ps y (o .whole) ∙ values-rest nameless (λ v. replacedBelow nameless v) p ps y)))
+
+  pub itp-done : {g₀ g₁ g₂ g₃ g₄ g₅ g₆ g₇ h₇ g₈ g₉ i₀ j₀ i₁ i₂ i₃ : Going} (c c₁ c₂ : Place) (d d₁ d₂ e p q r s y z₁ z₂ z₃ z₄ z₅ : ℕ) (b : Bool) (f : ReferenceBuilder)
+      → b ≡ anyLacksForm (lookNode t d p .value) → b ≡ false → (c₁ ≡ inner c) × (d₁ ≡ d)
+      → (Good t d p → byteAt t p ≡ 34
+      → Does g₀ g₁ (say (does (entry (c .mark) (suc (otherKeys (properties (lookNode t d p .value))))) ∷ lists (5 ∷ 1 ∷ []) ++ (does (listedTemporary (cell 3 p)) ∷ [])) ▷ handsKeys (lookNode t d p .value) ▷ excludesOf (c .root) (lookNode t d p .value)))
+      → Does g₁ g₂ (say (puts (28 ∷ 1 ∷ []))) → (4 < 65536 → Does g₂ g₃ (say (puts (wideBytes 4)))) → (1 < 256 → Does g₃ g₄ (assignHead 1))
+      → CellIs z₁ 3 p → Does g₄ g₅ (say (does (temporary z₁) ∷ [])) → CellIs z₂ 1 p → Does g₅ g₆ (say (does (temporary z₂) ∷ [])) → (1 < 256 → Does g₆ g₇ (assignHead 1))
+      → h₇ ≡ g₇ → q ≡ p → (Good t d₁ q → (s ≡ lookNode t d₁ q .next) × Does h₇ g₈ (emitsView c₁ (viewOf 2) (lookNode t d₁ q .value)))
+      → CellIs z₃ 3 p → Does g₈ g₉ (say (does (temporary z₃) ∷ [])) → (1 < 256 → Does g₉ i₀ (assignHead 1)) → j₀ ≡ i₀ → y ≡ r → e ≡ d - 1 → (c₂ ≡ inner c) × (d₂ ≡ e)
+      → (Good t d₂ y → Does j₀ i₁ (emits c₂ (lookNode t d₂ y .value)))
+      → CellIs z₄ 3 p → ((u : List ℕ) → sourceOf u f ≡ say (does (temporary z₄) ∷ []))
+      → (Good t d₁ p → byteAt t p ≡ 34 → (true ≡ true → Clear i₁ (emitsRest c₁ p (properties (lookNode t d₁ p .value)) (sourceOf t f))) → Does i₁ i₂ (emitsRest c₁ p (properties (lookNode t d₁ p .value)) (sourceOf t f)))
+      → CellIs z₅ 3 p → Does i₂ i₃ (say (does (temporary z₅) ∷ []))
+      → byteAt t p ≡ 34 → hasRest (lookNode t d p .value) ≡ true → r ≡ listAt (d - 1) p .next → Good t d p → hasArrayRestOverObjectRest (lookNode t d p .value) ≡ false
+      → Does g₀ i₃ (emitsInner c (innerHere d p))
+  unfolding emitsInnerTop viewOf nodeAt itemsAt pieceIn
+  itp-done {i₁ = i₁} c c₁ c₂ d d₁ d₂ e p q r s y z₁ z₂ z₃ z₄ z₅ b f u h in₁ hands two four as₁ ce₁ te₁ ce₂ te₂ as₂ m₁ w₁ view ce₃ te₃ as₃ m₂ w₂ le in₂ nod ce₄ so res ce₅ te₅ k hr rr good ar =
+      let o : RestHere d (d - 1) p = rest-here d p good k hr in
+      let ps = listAt (d - 1) p .value in
+      let x = restNode (d - 1) p in
+      let a = objectRestAt p ps x in
+      let l : p < 16384 = o .within in
+      let H : Node → Emit = λ m. say (does (entry (c .mark) (suc (otherKeys (properties m)))) ∷ lists (5 ∷ 1 ∷ []) ++ (does (listedTemporary (cell 3 p)) ∷ [])) in
+      let T : Node → Emit =
+      λ m. say (puts (28 ∷ 1 ∷ wideBytes 4)) ▷ assignHead 1 ▷ saysCell 3 p ▷ saysCell 1 p ▷ assignHead 1 ▷ emitsView (inner c) taking m ▷ saysCell 3 p
+      ▷ assignHead 1 ▷ emits (inner c) x ▷ emitsRest (inner c) p (properties m) (saysCell 3 p) ▷ saysCell 3 p in
+      let N = node-does (inner c) c₂ (d - 1) d₂ (listAt (d - 1) p .next) y m₂ (in₂ .0) (in₂ .1 ∙ le) (w₂ ∙ rr) nod (o .good) in
+      let seen = view-does taking (inner c) c₁ d d₁ p q s m₁ (in₁ .0) (in₁ .1) w₁ view good in
+      let again : Clear i₁ (emitsRest (inner c) p (properties (lookNode t d p .value)) (sourceOf t f)) =
+      taking-again c (lookNode t d p .value) (walked.object-here t d p good k) hr (sourceOf t f) (source-quiet t f) p
+      (clear-still (clear-still (clear-still (clear-after seen) te₃) (as₃ (omega arith))) N) in
+      let clear : Clear i₁ (emitsRest c₁ p (properties (lookNode t d₁ p .value)) (sourceOf t f)) =
+      subst (λ (m : Place). Clear i₁ (emitsRest m p (properties (lookNode t d₁ p .value)) (sourceOf t f))) (sym (in₁ .0))
+      (subst (λ (y : ℕ). Clear i₁ (emitsRest (inner c) p (properties (lookNode t y p .value)) (sourceOf t f))) (sym (in₁ .1)) again) in
+      does-as
+      (does-then (hands good k)
+      (does-then (sequence-says 4 4 refl (omega arith) two four)
+      (does-then (as₁ (omega arith))
+      (does-then (cell-says z₁ 3 p (ce₁ l (omega arith) (omega arith)) te₁)
+      (does-then (cell-says z₂ 1 p (ce₂ l (omega arith) (omega arith)) te₂)
+      (does-then (as₂ (omega arith))
+      (does-then seen
+      (does-then (cell-says z₃ 3 p (ce₃ l (omega arith) (omega arith)) te₃)
+      (does-then (as₃ (omega arith))
+      (does-then N
+      (does-then (rest-does (inner c) c₁ d d₁ p z₄ 3 p f (in₁ .0) (in₁ .1) (ce₄ l (omega arith) (omega arith)) so (λ g e. res g e (λ _. clear)) good k)
+      (cell-says z₅ 3 p (ce₅ l (omega arith) (omega arith)) te₅))))))))))))
+      (ap (λ (m : Node). (H m ▷ handsKeys m ▷ excludesOf (c .root) m) ▷ T m) (o .whole)
+      ∙ then-assoc (H a) (handsKeys a ▷ excludesOf (c .root) a) (T a)
+      ∙ ap (λ (w : Emit). H a ▷ w) (then-assoc (handsKeys a) (excludesOf (c .root) a) (T a))
+      ∙ sym (inner-done p ps x c (ap (λ (m : Node). hasArrayRestOverObjectRest m) (sym (o .whole)) ∙ ar) (ap (λ (m : Node). anyLacksForm m) (sym (o .whole)) ∙ sym u ∙ h) (o .leafy))
+      ∙ ap (emitsInner c) (sym (inner-is d p ps x (o .whole) ∙ values-rest nameless (λ v. replacedBelow nameless v) p ps x)))

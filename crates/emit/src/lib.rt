@@ -1,0 +1,1763 @@
+// The lowering: a node of the input is written as it is walked. The functions call one another; their names are short, since the prover
+// puts them together into one.
+use pattern::declarators::declaration_becomes;
+use pattern::declarators::declaration_lacks_form;
+use pattern::declarators::pattern_declarators;
+use pattern::keys::all_primitive;
+use pattern::keys::excluded_keys;
+use pattern::keys::has_no_properties;
+use pattern::keys::lacks_form;
+use pattern::moves::any_moved;
+use pattern::moves::is_moved;
+use pattern::parts::stands;
+use pattern::rests::below_lacks_form;
+use pattern::rests::through_objects_lacks_form;
+use pattern::search::has_nested_object_rest;
+use pattern::search::has_rest_below_array_rest;
+use pattern::source::ReferenceBuilder;
+use pattern::tally::plus;
+use tree::bytes::peek;
+use tree::bytes::wide_at;
+use tree::grammar::row;
+use tree::skip::skip;
+use tree::skip::skip_items;
+use tree::skip::skip_slot;
+use tree::skip::step;
+use walk::hand::declaration_hands;
+use walk::hand::inner_hands;
+use walk::hand::moves_make;
+use walk::hand::nested_hands;
+use walk::hand::pattern_hands;
+use walk::hand::top_count;
+use walk::hand::top_hands;
+use walk::literal::has_first;
+use walk::literal::has_spread;
+use walk::literal::is_spread;
+use walk::literal::opening;
+use walk::literal::pending;
+use walk::literal::run_of;
+use walk::look::Start;
+use walk::look::cell;
+use walk::look::first_bit;
+use walk::look::has_second;
+use walk::look::hoisted;
+use walk::look::inner_mode;
+use walk::look::is_other;
+use walk::look::item_mode;
+use walk::look::key_sort;
+use walk::look::level;
+use walk::look::moved_in;
+use walk::look::places_in;
+use walk::look::property_mode;
+use walk::look::replaces;
+use walk::look::rest_in_arrays;
+use walk::look::second;
+use walk::look::start_of;
+use walk::look::value_mode;
+use walk::look::values_of;
+use walk::pieces::await_of;
+use walk::pieces::cell_source;
+use walk::pieces::hole;
+use walk::pieces::source;
+use walk::pieces::string;
+use walk::place::Place;
+use walk::place::container;
+use walk::place::inside;
+use walk::place::less;
+use walk::place::marked;
+use walk::place::parts_of;
+use walk::place::scoped;
+use walk::place::statement;
+use walk::place::under;
+use walk::walk::Walk;
+ghost use mathlib.Core.Path.{_≡_};
+ghost use mathlib.Core.Bool.{true, false, cond, _||_};
+ghost use mathlib.Core.List.{[], _∷_};
+ghost use lib.Dec.{eqb};
+ghost use Prim.Native.Nat.{_-_, _<_};
+ghost use Rattle.tree.specs.Tree.Node.{node};
+ghost use Rattle.tree.specs.Read.{byteAt, wideAt};
+ghost use Rattle.tree.specs.Rows.{fieldsIn, sortOf};
+ghost use Rattle.tree.specs.Look.{onward, lookItem, lookItems, lookSlot, lookFields, lookNode};
+ghost use Rattle.lowering.specs.Parts.{any, gather, nodeAt, itemsAt};
+ghost use Rattle.lowering.specs.Made as made;
+ghost use Rattle.lowering.specs.Made.{letOf, assigning};
+ghost use Rattle.lowering.specs.Patterns.{withValues, replacedBelow, value, properties, hasRest, hasObjectRest, hasArrayRestOverObjectRest};
+ghost use Rattle.lowering.specs.Heads.{isMoved, movedFrom};
+ghost use Rattle.sink.specs.Machine.Event.{temporary};
+ghost use Rattle.pattern.specs.Source.{builderOf};
+ghost use Rattle.direct.specs.Events as events;
+ghost use Rattle.direct.specs.Events.{puts, emits};
+ghost use Rattle.direct.specs.Events.Deed.{refuses};
+ghost use Rattle.direct.specs.Emit as emit;
+ghost use Rattle.direct.specs.Emit.{say, _▷_, inner, below, stays, emitsStatement, emitsItems, emitsFields};
+ghost use Rattle.direct.specs.Literals as literals;
+ghost use Rattle.direct.specs.Literals.{run};
+ghost use Rattle.direct.specs.Views.{nameless, emitsView, emitsProperty, emitsKey};
+ghost use Rattle.direct.specs.Keys.{emitsExcluded, emitsKeys, emitsKeysRead, emitsRest};
+ghost use Rattle.direct.specs.Counts.{lacksRests};
+ghost use Rattle.direct.specs.Declared.{emitsKeyValue, emitsOwnKeys, emitsOwnPattern, emitsOwnRest, emitsFound, emitsPattern, emitsLowered, emitsDeclarator};
+ghost use Rattle.direct.specs.Assigned.{assignmentAt, emitsInner, emitsNest, emitsTarget, emitsTop};
+ghost use Rattle.direct.specs.Moved.{outOf, movedIn, behind, fronts, bodyIn, blockIn, targetIn};
+ghost use Rattle.walk.specs.Run.{goingOf, Does, Clear};
+ghost use Rattle.walk.specs.Whole.{placeOf, holeAt, itemDeeds, slotDeeds, GoodItem, GoodItems, GoodSlot, GoodFields, Good, Ruled, Emitted, Done};
+ghost use Rattle.walk.specs.Turns.{viewOf, turnOf, deepMode, suits, turnsOf, restFrom, AllSuit, sourceOf, levelOf, spotDeeds, movesOf, AllBind, givenDeeds, givenNode};
+
+pub fn node(w: Walk, t: &[u8], out: &mut [u8], list: &mut [u8], work: &mut [u8], c: Place) -> Walk
+    ensures { λ r. ⌜ (r .at ≡ lookNode (now (t .entry)) (c .left) (w .at) .next) × (Good (now (t .entry)) (c .left) (w .at) → Does (goingOf (now (out .entry)) (now (list .entry)) (now (work .entry)) w) (goingOf (now (out .exit)) (now (list .exit)) (now (work .exit)) r) (emits (placeOf c) (lookNode (now (t .entry)) (c .left) (w .at) .value))) ⌝ }
+{
+    let kind = peek(t, w.at);
+    match kind {
+        4 => decl(w, t, out, list, work, c),
+        7 => head(w, t, out, list, work, c),
+        8 => head(w, t, out, list, work, c),
+        10 => ca(w, t, out, list, work, c),
+        14 => fun(w, t, out, list, work, c),
+        17 => ar(w, t, out, list, work, c),
+        24 => lit(w, t, out, list, work, c),
+        27 => ag(w, t, out, list, work, c),
+        _ => plain(w, t, out, list, work, c),
+    }
+}
+
+// A literal.
+fn lit(w: Walk, t: &[u8], out: &mut [u8], list: &mut [u8], work: &mut [u8], c: Place) -> Walk
+    ensures { λ r. ⌜ (byteAt (now (t .entry)) (w .at) ≡ 24 → (r .at ≡ lookNode (now (t .entry)) (c .left) (w .at) .next) × (Good (now (t .entry)) (c .left) (w .at) → Does (goingOf (now (out .entry)) (now (list .entry)) (now (work .entry)) w) (goingOf (now (out .exit)) (now (list .exit)) (now (work .exit)) r) (emits (placeOf c) (lookNode (now (t .entry)) (c .left) (w .at) .value)))) ⌝ }
+{
+    if has_spread(t, c.left, w.at) {
+        let q = step(t, w.at, 2);
+        let first = step(t, q, 2);
+        let n = wide_at(t, q);
+        let left = less(c.left);
+        let v = opening(w, t, out, left, n, first).to(first);
+        return ps(v, t, out, list, work, inside(c, left), n);
+    }
+    plain(w, t, out, list, work, c)
+}
+
+// The properties of a literal with spreads.
+fn ps(
+    w: Walk,
+    t: &[u8],
+    out: &mut [u8],
+    list: &mut [u8],
+    work: &mut [u8],
+    c: Place,
+    count: usize,
+) -> Walk
+    ensures { λ r. ⌜ (r .at ≡ lookItems (now (t .entry)) (lookNode (now (t .entry)) (c .left)) false count (w .at) .next) × (count < 65536 → GoodItems (now (t .entry)) (lookNode (now (t .entry)) (c .left)) (Good (now (t .entry)) (c .left)) false false count (w .at) → Does (goingOf (now (out .entry)) (now (list .entry)) (now (work .entry)) w) (goingOf (now (out .exit)) (now (list .exit)) (now (work .exit)) r) (literals.parts (placeOf c) (lookItems (now (t .entry)) (lookNode (now (t .entry)) (c .left)) false count (w .at) .value))) ⌝ }
+{
+    let mut v = w;
+    let mut n = count;
+    while 0 < n {
+        v = pt(v, t, out, list, work, c, n - 1);
+        n -= 1;
+    }
+    v
+}
+
+// A property, n of them behind it.
+fn pt(
+    w: Walk,
+    t: &[u8],
+    out: &mut [u8],
+    list: &mut [u8],
+    work: &mut [u8],
+    c: Place,
+    n: usize,
+) -> Walk
+    ensures { λ r. ⌜ (r .at ≡ lookNode (now (t .entry)) (c .left) (w .at) .next) × (n < 65536 → Good (now (t .entry)) (c .left) (w .at) → Does (goingOf (now (out .entry)) (now (list .entry)) (now (work .entry)) w) (goingOf (now (out .exit)) (now (list .exit)) (now (work .exit)) r) (literals.part (placeOf c) (lookNode (now (t .entry)) (c .left) (w .at) .value) (run (lookItems (now (t .entry)) (lookNode (now (t .entry)) (c .left)) false n (lookNode (now (t .entry)) (c .left) (w .at) .next) .value)))) ⌝ }
+{
+    let p = w.at;
+    if is_spread(t, c.left, p) {
+        if has_first(t, p) {
+            let left = less(c.left);
+            let v = node(w.to(step(t, p, 2)), t, out, list, work, under(c, left));
+            let k = run_of(t, c.left, n, v.at);
+            return pending(v, out, k);
+        }
+        return node(w, t, out, list, work, c);
+    }
+    node(w, t, out, list, work, c)
+}
+
+// A node as it stands.
+fn plain(w: Walk, t: &[u8], out: &mut [u8], list: &mut [u8], work: &mut [u8], c: Place) -> Walk
+    ensures { λ r. ⌜ (r .at ≡ lookNode (now (t .entry)) (c .left) (w .at) .next) × (Good (now (t .entry)) (c .left) (w .at) → Does (goingOf (now (out .entry)) (now (list .entry)) (now (work .entry)) w) (goingOf (now (out .exit)) (now (list .exit)) (now (work .exit)) r) (stays (placeOf c) (lookNode (now (t .entry)) (c .left) (w .at) .value))) ⌝ }
+{
+    let left = c.left;
+    if left == 0 {
+        return w;
+    }
+    let start = w.at;
+    let kind = peek(t, start);
+    let map = peek(t, step(t, start, 1));
+    let v = w.copy(t, out, step(t, start, 2));
+    let inner = parts_of(c, kind, left - 1);
+    fs(
+        v,
+        t,
+        out,
+        list,
+        work,
+        inner,
+        row(kind),
+        map,
+        container(kind),
+    )
+}
+
+fn fs(
+    w: Walk,
+    t: &[u8],
+    out: &mut [u8],
+    list: &mut [u8],
+    work: &mut [u8],
+    c: Place,
+    row: usize,
+    map: usize,
+    l: bool,
+) -> Walk
+    ensures { λ r. ⌜ (r .at ≡ lookFields (now (t .entry)) (lookNode (now (t .entry)) (c .left)) (fieldsIn row) map (w .at) .next) × (GoodFields (now (t .entry)) (lookNode (now (t .entry)) (c .left)) (Good (now (t .entry)) (c .left)) l (fieldsIn row) map (w .at) → Does (goingOf (now (out .entry)) (now (list .entry)) (now (work .entry)) w) (goingOf (now (out .exit)) (now (list .exit)) (now (work .exit)) r) (emitsFields l (placeOf c) (lookFields (now (t .entry)) (lookNode (now (t .entry)) (c .left)) (fieldsIn row) map (w .at) .value))) ⌝ }
+{
+    let mut v = w;
+    let mut r = row;
+    let mut m = map;
+    while 0 < r {
+        v = slot(v, t, out, list, work, c, r % 512, m % 2, l);
+        r /= 1024;
+        m /= 2;
+    }
+    v
+}
+
+// A field, if its bit stands.
+fn slot(
+    w: Walk,
+    t: &[u8],
+    out: &mut [u8],
+    list: &mut [u8],
+    work: &mut [u8],
+    c: Place,
+    code: usize,
+    bit: usize,
+    l: bool,
+) -> Walk
+    ensures { λ r. ⌜ (r .at ≡ lookSlot (now (t .entry)) (lookNode (now (t .entry)) (c .left)) (sortOf code) bit (w .at) .next) × (GoodSlot (now (t .entry)) (lookNode (now (t .entry)) (c .left)) (Good (now (t .entry)) (c .left)) l (sortOf code) bit (w .at) → Does (goingOf (now (out .entry)) (now (list .entry)) (now (work .entry)) w) (goingOf (now (out .exit)) (now (list .exit)) (now (work .exit)) r) (slotDeeds (now (t .entry)) (lookNode (now (t .entry)) (c .left)) l (placeOf c) (sortOf code) bit (w .at))) ⌝ }
+{
+    if bit == 0 {
+        return w;
+    }
+    let class = code / 32;
+    let p = w.at;
+    match class {
+        1 => node(w, t, out, list, work, c),
+        2 => node(w, t, out, list, work, c),
+        3 => items(
+            w.copy(t, out, step(t, p, 2)),
+            t,
+            out,
+            list,
+            work,
+            c,
+            wide_at(t, p),
+            false,
+            l,
+        ),
+        4 => items(
+            w.copy(t, out, step(t, p, 2)),
+            t,
+            out,
+            list,
+            work,
+            c,
+            wide_at(t, p),
+            true,
+            l,
+        ),
+        _ => w.copy(t, out, skip_slot(t, code, bit, c.left, p)),
+    }
+}
+
+// Items; l says whether they are containing statements.
+fn items(
+    w: Walk,
+    t: &[u8],
+    out: &mut [u8],
+    list: &mut [u8],
+    work: &mut [u8],
+    c: Place,
+    count: usize,
+    holes: bool,
+    l: bool,
+) -> Walk
+    ensures { λ r. ⌜ (r .at ≡ lookItems (now (t .entry)) (lookNode (now (t .entry)) (c .left)) holes count (w .at) .next) × (GoodItems (now (t .entry)) (lookNode (now (t .entry)) (c .left)) (Good (now (t .entry)) (c .left)) l holes count (w .at) → Does (goingOf (now (out .entry)) (now (list .entry)) (now (work .entry)) w) (goingOf (now (out .exit)) (now (list .exit)) (now (work .exit)) r) (emitsItems l (placeOf c) (lookItems (now (t .entry)) (lookNode (now (t .entry)) (c .left)) holes count (w .at) .value))) ⌝ }
+{
+    let mut v = w;
+    let mut n = count;
+    while 0 < n {
+        v = item(v, t, out, list, work, c, holes, l);
+        n -= 1;
+    }
+    v
+}
+
+fn item(
+    w: Walk,
+    t: &[u8],
+    out: &mut [u8],
+    list: &mut [u8],
+    work: &mut [u8],
+    c: Place,
+    holes: bool,
+    l: bool,
+) -> Walk
+    ensures { λ r. ⌜ (r .at ≡ lookItem (now (t .entry)) (lookNode (now (t .entry)) (c .left)) holes (w .at) .next) × (GoodItem (now (t .entry)) (lookNode (now (t .entry)) (c .left)) (Good (now (t .entry)) (c .left)) l holes (w .at) → Does (goingOf (now (out .entry)) (now (list .entry)) (now (work .entry)) w) (goingOf (now (out .exit)) (now (list .exit)) (now (work .exit)) r) (itemDeeds (now (t .entry)) (lookNode (now (t .entry)) (c .left)) l (placeOf c) holes (w .at))) ⌝ }
+{
+    let p = w.at;
+    if holes {
+        if peek(t, p) == 0 {
+            return w.copy(t, out, step(t, p, 1));
+        }
+    }
+    if l {
+        return node(w, t, out, list, work, marked(c, wide_at(t, step(t, p, 2))));
+    }
+    node(w, t, out, list, work, c)
+}
+
+// ---- lists by a mode
+
+// The items of a list.
+fn seq(
+    w: Walk,
+    t: &[u8],
+    out: &mut [u8],
+    list: &mut [u8],
+    work: &mut [u8],
+    c: Place,
+    mode: usize,
+    x: usize,
+    holes: bool,
+    count: usize,
+) -> Walk
+    ensures { λ r. ⌜ (x < 16384 → GoodItems (now (t .entry)) (lookNode (now (t .entry)) (c .left)) (Good (now (t .entry)) (c .left)) false holes count (w .at) → AllSuit mode (lookItems (now (t .entry)) (lookNode (now (t .entry)) (c .left)) holes count (w .at) .value) → (r .at ≡ lookItems (now (t .entry)) (lookNode (now (t .entry)) (c .left)) holes count (w .at) .next) × Does (goingOf (now (out .entry)) (now (list .entry)) (now (work .entry)) w) (goingOf (now (out .exit)) (now (list .exit)) (now (work .exit)) r) (turnsOf mode x (placeOf c) (lookItems (now (t .entry)) (lookNode (now (t .entry)) (c .left)) holes count (w .at) .value))) ⌝ }
+{
+    let mut v = w;
+    let mut n = count;
+    while 0 < n {
+        v = turn(v, t, out, list, work, c, mode, x, holes);
+        n -= 1;
+    }
+    v
+}
+
+// One of them, or a hole.
+fn turn(
+    w: Walk,
+    t: &[u8],
+    out: &mut [u8],
+    list: &mut [u8],
+    work: &mut [u8],
+    c: Place,
+    mode: usize,
+    x: usize,
+    holes: bool,
+) -> Walk
+    ensures { λ r. ⌜ (x < 16384 → GoodItem (now (t .entry)) (lookNode (now (t .entry)) (c .left)) (Good (now (t .entry)) (c .left)) false holes (w .at) → (holeAt (now (t .entry)) holes (w .at) ≡ false → suits mode (lookNode (now (t .entry)) (c .left) (w .at) .value) ≡ true) → (r .at ≡ lookItem (now (t .entry)) (lookNode (now (t .entry)) (c .left)) holes (w .at) .next) × Does (goingOf (now (out .entry)) (now (list .entry)) (now (work .entry)) w) (goingOf (now (out .exit)) (now (list .exit)) (now (work .exit)) r) (spotDeeds (now (t .entry)) (lookNode (now (t .entry)) (c .left)) mode x (placeOf c) holes (w .at))) ⌝ }
+{
+    if holes {
+        if peek(t, w.at) == 0 {
+            return hole(w, t, out, mode);
+        }
+    }
+    match mode {
+        1 => view(w, t, out, list, work, c, 1),
+        2 => prop(w, t, out, list, work, c, false, 1),
+        3 => prop(w, t, out, list, work, c, false, 3),
+        4 => prop(w, t, out, list, work, c, true, 1),
+        5 => prop(w, t, out, list, work, c, true, 3),
+        6 => ek(w, t, out, list, work, c),
+        7 => kv(w, t, out, list, work, c),
+        9 => vl(w, t, out, list, work, c, 8, x),
+        10 => dr(w, t, out, list, work, c),
+        11 => bi(w, t, out, list, work, c),
+        13 => vl(w, t, out, list, work, c, 12, x),
+        14 => vl(w, t, out, list, work, c, 17, x),
+        15 => vl(w, t, out, list, work, c, 18, x),
+        16 => go(w, t, out, list, work, c),
+        _ => deep(w, t, out, list, work, c, mode, x),
+    }
+}
+
+// ---- patterns in a view: 1 replacing, 2 taking, 3 leaving
+
+fn view(
+    w: Walk,
+    t: &[u8],
+    out: &mut [u8],
+    list: &mut [u8],
+    work: &mut [u8],
+    c: Place,
+    v: usize,
+) -> Walk
+    ensures { λ r. ⌜ Emitted (now (t .entry)) (c .left) (w .at) (r .at) (goingOf (now (out .entry)) (now (list .entry)) (now (work .entry)) w) (goingOf (now (out .exit)) (now (list .exit)) (now (work .exit)) r) (emitsView (placeOf c) (viewOf v)) ⌝ }
+{
+    if c.left == 0 {
+        return w;
+    }
+    let kind = peek(t, w.at);
+    match kind {
+        34 => vo(w, t, out, list, work, c, v),
+        36 => va(w, t, out, list, work, c, v),
+        37 => {
+            let left = less(c.left);
+            let u = w.copy(t, out, step(t, w.at, 2));
+            let u = view(u, t, out, list, work, inside(c, left), values_of(v));
+            node(u, t, out, list, work, inside(c, left))
+        }
+        _ => node(w, t, out, list, work, c),
+    }
+}
+
+// An object pattern: replaced, or without its rest.
+fn vo(
+    w: Walk,
+    t: &[u8],
+    out: &mut [u8],
+    list: &mut [u8],
+    work: &mut [u8],
+    c: Place,
+    v: usize,
+) -> Walk
+    ensures { λ r. ⌜ (byteAt (now (t .entry)) (w .at) ≡ 34 → Emitted (now (t .entry)) (c .left) (w .at) (r .at) (goingOf (now (out .entry)) (now (list .entry)) (now (work .entry)) w) (goingOf (now (out .exit)) (now (list .exit)) (now (work .exit)) r) (emitsView (placeOf c) (viewOf v))) ⌝ }
+{
+    if c.left == 0 {
+        return w;
+    }
+    let p = w.at;
+    let left = less(c.left);
+    let rest = has_second(t, p);
+    if rest {
+        if replaces(v) {
+            return w.temporary(out, list, work, p).to(skip(t, c.left, p));
+        }
+    }
+    let q = step(t, p, 2);
+    let n = wide_at(t, q);
+    let u = w.put2(out, 34, 1).wide(out, n).to(step(t, q, 2));
+    let u = seq(
+        u,
+        t,
+        out,
+        list,
+        work,
+        inside(c, left),
+        property_mode(rest, v),
+        0,
+        false,
+        n,
+    );
+    if rest {
+        return u.to(skip(t, left, u.at));
+    }
+    u
+}
+
+// An array pattern; its rest as it stands.
+fn va(
+    w: Walk,
+    t: &[u8],
+    out: &mut [u8],
+    list: &mut [u8],
+    work: &mut [u8],
+    c: Place,
+    v: usize,
+) -> Walk
+    ensures { λ r. ⌜ (byteAt (now (t .entry)) (w .at) ≡ 36 → Emitted (now (t .entry)) (c .left) (w .at) (r .at) (goingOf (now (out .entry)) (now (list .entry)) (now (work .entry)) w) (goingOf (now (out .exit)) (now (list .exit)) (now (work .exit)) r) (emitsView (placeOf c) (viewOf v))) ⌝ }
+{
+    if c.left == 0 {
+        return w;
+    }
+    let p = w.at;
+    let left = less(c.left);
+    let q = step(t, p, 2);
+    let n = wide_at(t, q);
+    let u = w.copy(t, out, step(t, q, 2));
+    let u = seq(u, t, out, list, work, inside(c, left), 1, 0, true, n);
+    if has_second(t, p) {
+        return node(u, t, out, list, work, inside(c, left));
+    }
+    u
+}
+
+// A property: its key, its value, its flags.
+fn prop(
+    w: Walk,
+    t: &[u8],
+    out: &mut [u8],
+    list: &mut [u8],
+    work: &mut [u8],
+    c: Place,
+    taken: bool,
+    v: usize,
+) -> Walk
+    ensures { λ r. ⌜ (byteAt (now (t .entry)) (w .at) ≡ 35 → Emitted (now (t .entry)) (c .left) (w .at) (r .at) (goingOf (now (out .entry)) (now (list .entry)) (now (work .entry)) w) (goingOf (now (out .exit)) (now (list .exit)) (now (work .exit)) r) (emitsProperty (placeOf c) taken (viewOf v))) ⌝ }
+{
+    let p = w.at;
+    let left = less(c.left);
+    let u = key(
+        w.copy(t, out, step(t, p, 2)),
+        t,
+        out,
+        list,
+        work,
+        inside(c, left),
+        taken,
+        p,
+    );
+    let u = view(u, t, out, list, work, inside(c, left), v);
+    u.copy(t, out, step(t, u.at, 1))
+}
+
+// A key; where the rest is taken it may become a temporary.
+fn key(
+    w: Walk,
+    t: &[u8],
+    out: &mut [u8],
+    list: &mut [u8],
+    work: &mut [u8],
+    c: Place,
+    taken: bool,
+    property: usize,
+) -> Walk
+    ensures { λ r. ⌜ Emitted (now (t .entry)) (c .left) (w .at) (r .at) (goingOf (now (out .entry)) (now (list .entry)) (now (work .entry)) w) (goingOf (now (out .exit)) (now (list .exit)) (now (work .exit)) r) (emitsKey (placeOf c) taken property) ⌝ }
+{
+    if taken {
+        if is_other(t, c.left, w.at) {
+            return w.temporary(out, list, work, property)
+                .to(skip(t, c.left, w.at));
+        }
+    }
+    node(w, t, out, list, work, c)
+}
+
+// ---- the value of a rest
+
+// That of the object pattern at p, read from b. `again` says that the pattern was written before: once the tree is full its keys are not
+// written again.
+fn rest(
+    w: Walk,
+    t: &[u8],
+    out: &mut [u8],
+    list: &mut [u8],
+    work: &mut [u8],
+    c: Place,
+    p: usize,
+    b: ReferenceBuilder,
+    again: bool,
+) -> Walk
+    ensures { λ r. ⌜ (r .at ≡ w .at) × (Good (now (t .entry)) (c .left) p → byteAt (now (t .entry)) p ≡ 34 → (again ≡ true → Clear (goingOf (now (out .entry)) (now (list .entry)) (now (work .entry)) w) (emitsRest (placeOf c) p (properties (lookNode (now (t .entry)) (c .left) p .value)) (sourceOf (now (t .entry)) b))) → Does (goingOf (now (out .entry)) (now (list .entry)) (now (work .entry)) w) (goingOf (now (out .exit)) (now (list .exit)) (now (work .exit)) r) (emitsRest (placeOf c) p (properties (lookNode (now (t .entry)) (c .left) p .value)) (sourceOf (now (t .entry)) b))) ⌝ }
+{
+    if w.passes(again) {
+        return w;
+    }
+    if has_no_properties(t, c.left, p) {
+        let u = source(w.empty_rest(out), t, out, list, work, b);
+        return source(u, t, out, list, work, b);
+    }
+    let u = source(w.call(out, 4, 2), t, out, list, work, b);
+    read(u, t, out, list, work, inside(c, c.left), p)
+}
+
+// The keys that are left out: a temporary, their array, or that array mapped by the helper.
+fn read(
+    w: Walk,
+    t: &[u8],
+    out: &mut [u8],
+    list: &mut [u8],
+    work: &mut [u8],
+    c: Place,
+    p: usize,
+) -> Walk
+    ensures { λ r. ⌜ (r .at ≡ w .at) × (Good (now (t .entry)) (c .left) p → byteAt (now (t .entry)) p ≡ 34 → Does (goingOf (now (out .entry)) (now (list .entry)) (now (work .entry)) w) (goingOf (now (out .exit)) (now (list .exit)) (now (work .exit)) r) (emitsKeysRead (placeOf c) p (properties (lookNode (now (t .entry)) (c .left) p .value)))) ⌝ }
+{
+    if hoisted(t, c.left, c.root, p) {
+        return w.temporary(out, list, work, cell(2, p));
+    }
+    if all_primitive(t, c.left, p) {
+        return keys(w, t, out, list, work, c, p);
+    }
+    let u = w.put2(out, 29, 3).put2(out, 30, 3);
+    keys(u, t, out, list, work, c, p).mapped(out)
+}
+
+fn keys(
+    w: Walk,
+    t: &[u8],
+    out: &mut [u8],
+    list: &mut [u8],
+    work: &mut [u8],
+    c: Place,
+    p: usize,
+) -> Walk
+    ensures { λ r. ⌜ (r .at ≡ w .at) × (Good (now (t .entry)) (c .left) p → byteAt (now (t .entry)) p ≡ 34 → Does (goingOf (now (out .entry)) (now (list .entry)) (now (work .entry)) w) (goingOf (now (out .exit)) (now (list .exit)) (now (work .exit)) r) (emitsKeys (placeOf c) (properties (lookNode (now (t .entry)) (c .left) p .value)))) ⌝ }
+{
+    if c.left == 0 {
+        return w;
+    }
+    let at = w.at;
+    let q = step(t, p, 2);
+    let n = wide_at(t, q);
+    let k = excluded_keys(t, c.left, p);
+    let u = w.put2(out, 32, 1).wide(out, k).to(step(t, q, 2));
+    seq(
+        u,
+        t,
+        out,
+        list,
+        work,
+        under(c, less(c.left)),
+        6,
+        0,
+        false,
+        n,
+    ).to(at)
+}
+
+// The key of a property among them.
+fn ek(w: Walk, t: &[u8], out: &mut [u8], list: &mut [u8], work: &mut [u8], c: Place) -> Walk
+    ensures { λ r. ⌜ (byteAt (now (t .entry)) (w .at) ≡ 35 → Emitted (now (t .entry)) (c .left) (w .at) (r .at) (goingOf (now (out .entry)) (now (list .entry)) (now (work .entry)) w) (goingOf (now (out .exit)) (now (list .exit)) (now (work .exit)) r) (emitsExcluded (placeOf c))) ⌝ }
+{
+    let p = w.at;
+    let left = less(c.left);
+    let end = skip(t, c.left, p);
+    let k = step(t, p, 2);
+    let sort = key_sort(t, left, k);
+    match sort {
+        1 => string(w, t, out, left, k).to(end),
+        2 => node(w.to(k), t, out, list, work, under(c, left)).to(end),
+        3 => w.to(end),
+        _ => w.temporary(out, list, work, p).to(end),
+    }
+}
+
+// The declarator of the temporary for a key.
+fn kv(w: Walk, t: &[u8], out: &mut [u8], list: &mut [u8], work: &mut [u8], c: Place) -> Walk
+    ensures { λ r. ⌜ (byteAt (now (t .entry)) (w .at) ≡ 35 → Emitted (now (t .entry)) (c .left) (w .at) (r .at) (goingOf (now (out .entry)) (now (list .entry)) (now (work .entry)) w) (goingOf (now (out .exit)) (now (list .exit)) (now (work .exit)) r) (emitsKeyValue (placeOf c))) ⌝ }
+{
+    let p = w.at;
+    let left = less(c.left);
+    let end = skip(t, c.left, p);
+    let k = step(t, p, 2);
+    if is_other(t, left, k) {
+        let u = w.put2(out, 5, 3).temporary(out, list, work, p).to(k);
+        return node(u, t, out, list, work, inside(c, left)).to(end);
+    }
+    w.to(end)
+}
+
+// ---- what is below a pattern, by a mode: 8 the declarators that are found, 12 and 17 inner assignments, 18 the rests of the target at x
+
+fn deep(
+    w: Walk,
+    t: &[u8],
+    out: &mut [u8],
+    list: &mut [u8],
+    work: &mut [u8],
+    c: Place,
+    mode: usize,
+    x: usize,
+) -> Walk
+    ensures { λ r. ⌜ (x < 16384 → Good (now (t .entry)) (c .left) (w .at) → deepMode mode ≡ true → suits mode (lookNode (now (t .entry)) (c .left) (w .at) .value) ≡ true → (r .at ≡ lookNode (now (t .entry)) (c .left) (w .at) .next) × Does (goingOf (now (out .entry)) (now (list .entry)) (now (work .entry)) w) (goingOf (now (out .exit)) (now (list .exit)) (now (work .exit)) r) (turnOf mode x (placeOf c) (lookNode (now (t .entry)) (c .left) (w .at) .value))) ⌝ }
+{
+    if c.left == 0 {
+        return w;
+    }
+    let kind = peek(t, w.at);
+    match kind {
+        34 => db(w, t, out, list, work, c, mode, x),
+        36 => da(w, t, out, list, work, c, mode, x),
+        37 => {
+            let left = less(c.left);
+            let u = w.to(step(t, w.at, 2));
+            let u = deep(u, t, out, list, work, under(c, left), mode, x);
+            u.to(skip(t, left, u.at))
+        }
+        _ => w.to(skip(t, c.left, w.at)),
+    }
+}
+
+// Its values, then the object itself.
+fn db(
+    w: Walk,
+    t: &[u8],
+    out: &mut [u8],
+    list: &mut [u8],
+    work: &mut [u8],
+    c: Place,
+    mode: usize,
+    x: usize,
+) -> Walk
+    ensures { λ r. ⌜ (byteAt (now (t .entry)) (w .at) ≡ 34 → (x < 16384 → Good (now (t .entry)) (c .left) (w .at) → deepMode mode ≡ true → suits mode (lookNode (now (t .entry)) (c .left) (w .at) .value) ≡ true → (r .at ≡ lookNode (now (t .entry)) (c .left) (w .at) .next) × Does (goingOf (now (out .entry)) (now (list .entry)) (now (work .entry)) w) (goingOf (now (out .exit)) (now (list .exit)) (now (work .exit)) r) (turnOf mode x (placeOf c) (lookNode (now (t .entry)) (c .left) (w .at) .value)))) ⌝ }
+{
+    if c.left == 0 {
+        return w;
+    }
+    if mode == 8 {
+        return fb(w, t, out, list, work, c);
+    }
+    let p = w.at;
+    let left = less(c.left);
+    let q = step(t, p, 2);
+    let n = wide_at(t, q);
+    let u = seq(
+        w.to(step(t, q, 2)),
+        t,
+        out,
+        list,
+        work,
+        under(c, left),
+        value_mode(mode),
+        x,
+        false,
+        n,
+    );
+    let r = u.at;
+    if has_second(t, p) {
+        let end = skip(t, left, r);
+        if mode == 12 {
+            return ip(u, t, out, list, work, c, p, r).to(end);
+        }
+        if mode == 18 {
+            return ro(u, t, out, list, work, c, p, r, x).to(end);
+        }
+        return u.to(end);
+    }
+    u
+}
+
+// The declarators of an object with rest, then those of its values.
+fn fb(w: Walk, t: &[u8], out: &mut [u8], list: &mut [u8], work: &mut [u8], c: Place) -> Walk
+    ensures { λ r. ⌜ (byteAt (now (t .entry)) (w .at) ≡ 34 → Emitted (now (t .entry)) (c .left) (w .at) (r .at) (goingOf (now (out .entry)) (now (list .entry)) (now (work .entry)) w) (goingOf (now (out .exit)) (now (list .exit)) (now (work .exit)) r) (emitsFound (placeOf c))) ⌝ }
+{
+    if c.left == 0 {
+        return w;
+    }
+    let p = w.at;
+    let left = less(c.left);
+    let q = step(t, p, 2);
+    let n = wide_at(t, q);
+    let first = step(t, q, 2);
+    if has_second(t, p) {
+        let u = own(w, t, out, list, work, c, cell_source(cell(1, p)));
+        let u = os(u, t, out, list, work, c, cell_source(cell(1, p)));
+        let u = seq(
+            u.to(first),
+            t,
+            out,
+            list,
+            work,
+            under(c, left),
+            9,
+            0,
+            false,
+            n,
+        );
+        return u.to(skip(t, left, u.at));
+    }
+    seq(
+        w.to(first),
+        t,
+        out,
+        list,
+        work,
+        under(c, left),
+        9,
+        0,
+        false,
+        n,
+    )
+}
+
+fn da(
+    w: Walk,
+    t: &[u8],
+    out: &mut [u8],
+    list: &mut [u8],
+    work: &mut [u8],
+    c: Place,
+    mode: usize,
+    x: usize,
+) -> Walk
+    ensures { λ r. ⌜ (byteAt (now (t .entry)) (w .at) ≡ 36 → (Good (now (t .entry)) (c .left) (w .at) → deepMode mode ≡ true → suits mode (lookNode (now (t .entry)) (c .left) (w .at) .value) ≡ true → (r .at ≡ lookNode (now (t .entry)) (c .left) (w .at) .next) × Does (goingOf (now (out .entry)) (now (list .entry)) (now (work .entry)) w) (goingOf (now (out .exit)) (now (list .exit)) (now (work .exit)) r) (turnOf mode x (placeOf c) (lookNode (now (t .entry)) (c .left) (w .at) .value)))) ⌝ }
+{
+    if c.left == 0 {
+        return w;
+    }
+    let end = skip(t, c.left, w.at);
+    if mode == 18 {
+        return w.to(end);
+    }
+    let q = step(t, w.at, 2);
+    let n = wide_at(t, q);
+    seq(
+        w.to(step(t, q, 2)),
+        t,
+        out,
+        list,
+        work,
+        under(c, less(c.left)),
+        item_mode(mode),
+        0,
+        true,
+        n,
+    ).to(end)
+}
+
+// The same for the value of a property.
+fn vl(
+    w: Walk,
+    t: &[u8],
+    out: &mut [u8],
+    list: &mut [u8],
+    work: &mut [u8],
+    c: Place,
+    mode: usize,
+    x: usize,
+) -> Walk
+    ensures { λ r. ⌜ (byteAt (now (t .entry)) (w .at) ≡ 35 → x < 16384 → Good (now (t .entry)) (c .left) (w .at) → deepMode mode ≡ true → suits mode (value (lookNode (now (t .entry)) (c .left) (w .at) .value)) ≡ true → (r .at ≡ lookNode (now (t .entry)) (c .left) (w .at) .next) × Does (goingOf (now (out .entry)) (now (list .entry)) (now (work .entry)) w) (goingOf (now (out .exit)) (now (list .exit)) (now (work .exit)) r) (turnOf mode x (placeOf c) (value (lookNode (now (t .entry)) (c .left) (w .at) .value)))) ⌝ }
+{
+    let left = less(c.left);
+    let v = skip(t, left, step(t, w.at, 2));
+    let u = deep(w.to(v), t, out, list, work, under(c, left), mode, x);
+    u.to(step(t, u.at, 1))
+}
+
+// ---- declarations
+
+// A declaration: what it hands out, its declarators.
+fn decl(w: Walk, t: &[u8], out: &mut [u8], list: &mut [u8], work: &mut [u8], c: Place) -> Walk
+    ensures { λ r. ⌜ (byteAt (now (t .entry)) (w .at) ≡ 4 → Ruled (now (t .entry)) (c .left) (w .at) (r .at) (goingOf (now (out .entry)) (now (list .entry)) (now (work .entry)) w) (goingOf (now (out .exit)) (now (list .exit)) (now (work .exit)) r) (emits (placeOf c))) ⌝ }
+{
+    if c.left == 0 {
+        return w;
+    }
+    let p = w.at;
+    if declaration_lacks_form(t, c.left, p) {
+        return w.refuse(out, 6).to(skip(t, c.left, p));
+    }
+    let u = declaration_hands(w, t, list, work, c.left, p, c.root);
+    let q = step(t, p, 5);
+    let k = declaration_becomes(t, c.left, p);
+    let u = u.copy(t, out, q).wide(out, k).to(step(t, q, 2));
+    let end = skip(t, c.left, p);
+    seq(
+        u,
+        t,
+        out,
+        list,
+        work,
+        under(c, less(c.left)),
+        10,
+        0,
+        false,
+        wide_at(t, q),
+    ).to(end)
+}
+
+// A declarator: as it stands without a starting value or an object rest.
+fn dr(w: Walk, t: &[u8], out: &mut [u8], list: &mut [u8], work: &mut [u8], c: Place) -> Walk
+    ensures { λ r. ⌜ (byteAt (now (t .entry)) (w .at) ≡ 5 → Emitted (now (t .entry)) (c .left) (w .at) (r .at) (goingOf (now (out .entry)) (now (list .entry)) (now (work .entry)) w) (goingOf (now (out .exit)) (now (list .exit)) (now (work .exit)) r) (emitsDeclarator (placeOf c))) ⌝ }
+{
+    let p = w.at;
+    let left = less(c.left);
+    let id = step(t, p, 2);
+    let Start::Value(init) = start_of(t, c.left, p) else {
+        return node(w, t, out, list, work, inside(c, c.left));
+    };
+    if has_nested_object_rest(t, left, id) {
+        let end = skip(t, left, init);
+        let b = ReferenceBuilder::new(t, left, init, cell(3, id), false);
+        return lo(w, t, out, list, work, under(c, left), id, init, b).to(end);
+    }
+    node(w, t, out, list, work, inside(c, c.left))
+}
+
+// A value that is no name goes into a temporary first.
+fn lo(
+    w: Walk,
+    t: &[u8],
+    out: &mut [u8],
+    list: &mut [u8],
+    work: &mut [u8],
+    c: Place,
+    id: usize,
+    init: usize,
+    b: ReferenceBuilder,
+) -> Walk
+    ensures { λ r. ⌜ (b ≡ builderOf (now (t .entry)) (c .left) init (events.cell 3 id) false → Good (now (t .entry)) (c .left) id → Good (now (t .entry)) (c .left) init → Does (goingOf (now (out .entry)) (now (list .entry)) (now (work .entry)) w) (goingOf (now (out .exit)) (now (list .exit)) (now (work .exit)) r) (emitsLowered (placeOf c) (lookNode (now (t .entry)) (c .left) id .value) (lookNode (now (t .entry)) (c .left) init .value))) ⌝ }
+{
+    if b.wanted {
+        let u = w.put2(out, 5, 3)
+            .temporary(out, list, work, b.cell)
+            .to(init);
+        let u = node(u, t, out, list, work, inside(c, c.left));
+        let taken = b.create_read_expression();
+        return pa(u.to(id), t, out, list, work, c, taken.next);
+    }
+    pa(w.to(id), t, out, list, work, c, b)
+}
+
+// The declarators of a pattern, read from b.
+fn pa(
+    w: Walk,
+    t: &[u8],
+    out: &mut [u8],
+    list: &mut [u8],
+    work: &mut [u8],
+    c: Place,
+    b: ReferenceBuilder,
+) -> Walk
+    ensures { λ r. ⌜ Done (now (t .entry)) (c .left) (w .at) (goingOf (now (out .entry)) (now (list .entry)) (now (work .entry)) w) (goingOf (now (out .exit)) (now (list .exit)) (now (work .exit)) r) (λ n. emitsPattern (placeOf c) n (sourceOf (now (t .entry)) b)) ⌝ }
+{
+    if c.left == 0 {
+        return w;
+    }
+    let kind = peek(t, w.at);
+    match kind {
+        34 => {
+            let p = w.at;
+            let q = step(t, p, 2);
+            let n = wide_at(t, q);
+            let u = own(w, t, out, list, work, c, b).to(step(t, q, 2));
+            let u = seq(
+                u,
+                t,
+                out,
+                list,
+                work,
+                under(c, less(c.left)),
+                9,
+                0,
+                false,
+                n,
+            ).to(p);
+            os(u, t, out, list, work, c, b)
+        }
+        36 => {
+            let p = w.at;
+            let u = view(w.put2(out, 5, 3), t, out, list, work, inside(c, c.left), 1);
+            let u = source(u, t, out, list, work, b).to(p);
+            deep(u, t, out, list, work, c, 8, 0)
+        }
+        _ => w,
+    }
+}
+
+// An object's keys, if its rest is taken, and its pattern.
+fn own(
+    w: Walk,
+    t: &[u8],
+    out: &mut [u8],
+    list: &mut [u8],
+    work: &mut [u8],
+    c: Place,
+    b: ReferenceBuilder,
+) -> Walk
+    ensures { λ r. ⌜ (r .at ≡ w .at) × (byteAt (now (t .entry)) (w .at) ≡ 34 → Good (now (t .entry)) (c .left) (w .at) → Does (goingOf (now (out .entry)) (now (list .entry)) (now (work .entry)) w) (goingOf (now (out .exit)) (now (list .exit)) (now (work .exit)) r) (emitsOwnKeys (placeOf c) (lookNode (now (t .entry)) (c .left) (w .at) .value) ▷ emitsOwnPattern (placeOf c) (lookNode (now (t .entry)) (c .left) (w .at) .value) (sourceOf (now (t .entry)) b))) ⌝ }
+{
+    if c.left == 0 {
+        return w;
+    }
+    let p = w.at;
+    if has_second(t, p) {
+        let q = step(t, p, 2);
+        let n = wide_at(t, q);
+        let u = seq(
+            w.to(step(t, q, 2)),
+            t,
+            out,
+            list,
+            work,
+            inside(c, less(c.left)),
+            7,
+            0,
+            false,
+            n,
+        );
+        return oa(u.to(p), t, out, list, work, c, b);
+    }
+    oa(w, t, out, list, work, c, b)
+}
+
+fn oa(
+    w: Walk,
+    t: &[u8],
+    out: &mut [u8],
+    list: &mut [u8],
+    work: &mut [u8],
+    c: Place,
+    b: ReferenceBuilder,
+) -> Walk
+    ensures { λ r. ⌜ (r .at ≡ w .at) × (byteAt (now (t .entry)) (w .at) ≡ 34 → Good (now (t .entry)) (c .left) (w .at) → Does (goingOf (now (out .entry)) (now (list .entry)) (now (work .entry)) w) (goingOf (now (out .exit)) (now (list .exit)) (now (work .exit)) r) (emitsOwnPattern (placeOf c) (lookNode (now (t .entry)) (c .left) (w .at) .value) (sourceOf (now (t .entry)) b))) ⌝ }
+{
+    let p = w.at;
+    if has_no_properties(t, c.left, p) {
+        return w;
+    }
+    let u = view(w.put2(out, 5, 3), t, out, list, work, inside(c, c.left), 2);
+    source(u, t, out, list, work, b).to(p)
+}
+
+// Its rest.
+fn os(
+    w: Walk,
+    t: &[u8],
+    out: &mut [u8],
+    list: &mut [u8],
+    work: &mut [u8],
+    c: Place,
+    b: ReferenceBuilder,
+) -> Walk
+    ensures { λ r. ⌜ (r .at ≡ w .at) × (byteAt (now (t .entry)) (w .at) ≡ 34 → Good (now (t .entry)) (c .left) (w .at) → Clear (goingOf (now (out .entry)) (now (list .entry)) (now (work .entry)) w) (emitsOwnKeys (placeOf c) (lookNode (now (t .entry)) (c .left) (w .at) .value) ▷ emitsOwnPattern (placeOf c) (lookNode (now (t .entry)) (c .left) (w .at) .value) (sourceOf (now (t .entry)) b)) → Does (goingOf (now (out .entry)) (now (list .entry)) (now (work .entry)) w) (goingOf (now (out .exit)) (now (list .exit)) (now (work .exit)) r) (emitsOwnRest (placeOf c) (lookNode (now (t .entry)) (c .left) (w .at) .value) (sourceOf (now (t .entry)) b))) ⌝ }
+{
+    let p = w.at;
+    if has_second(t, p) {
+        let left = less(c.left);
+        let q = step(t, p, 2);
+        let r = skip_items(t, false, wide_at(t, q), left, step(t, q, 2));
+        let u = node(w.put2(out, 5, 3).to(r), t, out, list, work, inside(c, left));
+        return rest(u, t, out, list, work, inside(c, c.left), p, b, true).to(p);
+    }
+    w
+}
+
+// ---- assignments
+
+// An assignment.
+fn ag(w: Walk, t: &[u8], out: &mut [u8], list: &mut [u8], work: &mut [u8], c: Place) -> Walk
+    ensures { λ r. ⌜ (byteAt (now (t .entry)) (w .at) ≡ 27 → Ruled (now (t .entry)) (c .left) (w .at) (r .at) (goingOf (now (out .entry)) (now (list .entry)) (now (work .entry)) w) (goingOf (now (out .exit)) (now (list .exit)) (now (work .exit)) r) (emits (placeOf c))) ⌝ }
+{
+    let p = w.at;
+    let left = less(c.left);
+    let q = step(t, p, 3);
+    if has_rest_below_array_rest(t, left, q) {
+        return w.refuse(out, 5).to(skip(t, c.left, p));
+    }
+    if has_nested_object_rest(t, left, q) {
+        let v = skip(t, left, q);
+        let op = peek(t, step(t, p, 2));
+        return an(w, t, out, list, work, under(c, left), op, q, true, v).to(skip(t, c.left, p));
+    }
+    plain(w, t, out, list, work, c)
+}
+
+// The assignment to the target at p, which has an object rest below it: of the expression at x, or of the temporary of the cell x.
+fn an(
+    w: Walk,
+    t: &[u8],
+    out: &mut [u8],
+    list: &mut [u8],
+    work: &mut [u8],
+    c: Place,
+    op: usize,
+    p: usize,
+    input: bool,
+    x: usize,
+) -> Walk
+    ensures { λ r. ⌜ (Good (now (t .entry)) (c .left) p → (input ≡ true → Good (now (t .entry)) (c .left) x) → hasArrayRestOverObjectRest (lookNode (now (t .entry)) (c .left) p .value) ≡ false → hasObjectRest (lookNode (now (t .entry)) (c .left) p .value) ≡ true → op < 256 → Does (goingOf (now (out .entry)) (now (list .entry)) (now (work .entry)) w) (goingOf (now (out .exit)) (now (list .exit)) (now (work .exit)) r) (emits (placeOf c) (assignmentAt 0 op (lookNode (now (t .entry)) (c .left) p .value) (givenNode (now (t .entry)) (c .left) input x)))) ⌝ }
+{
+    if peek(t, p) == 34 {
+        if has_second(t, p) {
+            return top(w, t, out, list, work, c, p, input, x);
+        }
+    }
+    ns(w, t, out, list, work, c, 1, op, p, input, x)
+}
+
+// The target is an object with rest.
+fn top(
+    w: Walk,
+    t: &[u8],
+    out: &mut [u8],
+    list: &mut [u8],
+    work: &mut [u8],
+    c: Place,
+    p: usize,
+    input: bool,
+    x: usize,
+) -> Walk
+    ensures { λ r. ⌜ (byteAt (now (t .entry)) p ≡ 34 → hasRest (lookNode (now (t .entry)) (c .left) p .value) ≡ true → Good (now (t .entry)) (c .left) p → (input ≡ true → Good (now (t .entry)) (c .left) x) → hasArrayRestOverObjectRest (lookNode (now (t .entry)) (c .left) p .value) ≡ false → Does (goingOf (now (out .entry)) (now (list .entry)) (now (work .entry)) w) (goingOf (now (out .exit)) (now (list .exit)) (now (work .exit)) r) (cond (lacksRests (lookNode (now (t .entry)) (c .left) p .value)) (say (refuses 6 ∷ puts (0 ∷ 0 ∷ []))) (emitsTop (placeOf c) (lookNode (now (t .entry)) (c .left) p .value) (givenDeeds (now (t .entry)) (c .left) (inner (placeOf c)) input x)))) ⌝ }
+{
+    if through_objects_lacks_form(t, c.left, p) {
+        return w.refuse(out, 6);
+    }
+    let u = top_hands(w, t, list, work, c.left, p, c.root, c.mark);
+    let k = top_count(t, c.left, p, c.statement);
+    let u = u.put2(out, 28, 1)
+        .wide(out, k)
+        .assign(out, 1)
+        .temporary(out, list, work, cell(3, p));
+    let u = gv(u, t, out, list, work, inside(c, c.left), input, x);
+    let u = tg(u, t, out, list, work, c, p);
+    let u = deep(
+        u.to(p),
+        t,
+        out,
+        list,
+        work,
+        inside(c, c.left),
+        18,
+        u.target(p),
+    );
+    if c.statement {
+        return u;
+    }
+    u.temporary(out, list, work, cell(3, p))
+}
+
+// What is assigned.
+fn gv(
+    w: Walk,
+    t: &[u8],
+    out: &mut [u8],
+    list: &mut [u8],
+    work: &mut [u8],
+    c: Place,
+    input: bool,
+    x: usize,
+) -> Walk
+    ensures { λ r. ⌜ ((input ≡ true → Good (now (t .entry)) (c .left) x) → Does (goingOf (now (out .entry)) (now (list .entry)) (now (work .entry)) w) (goingOf (now (out .exit)) (now (list .exit)) (now (work .exit)) r) (givenDeeds (now (t .entry)) (c .left) (placeOf c) input x)) ⌝ }
+{
+    if input {
+        return node(w.to(x), t, out, list, work, c);
+    }
+    w.temporary(out, list, work, x)
+}
+
+// The target without its rests.
+fn tg(
+    w: Walk,
+    t: &[u8],
+    out: &mut [u8],
+    list: &mut [u8],
+    work: &mut [u8],
+    c: Place,
+    p: usize,
+) -> Walk
+    ensures { λ r. ⌜ (byteAt (now (t .entry)) p ≡ 34 → Good (now (t .entry)) (c .left) p → hasArrayRestOverObjectRest (lookNode (now (t .entry)) (c .left) p .value) ≡ false → Does (goingOf (now (out .entry)) (now (list .entry)) (now (work .entry)) w) (goingOf (now (out .exit)) (now (list .exit)) (now (work .exit)) r) (emitsTarget (placeOf c) (lookNode (now (t .entry)) (c .left) p .value))) ⌝ }
+{
+    let d = inside(c, c.left);
+    if rest_in_arrays(t, c.left, p) {
+        return ns(w, t, out, list, work, d, 3, 1, p, false, cell(3, p));
+    }
+    let u = view(w.assign(out, 1).to(p), t, out, list, work, d, 3);
+    u.temporary(out, list, work, cell(3, p))
+}
+
+// Objects with rest replaced, then an assignment for each.
+fn ns(
+    w: Walk,
+    t: &[u8],
+    out: &mut [u8],
+    list: &mut [u8],
+    work: &mut [u8],
+    c: Place,
+    v: usize,
+    op: usize,
+    p: usize,
+    input: bool,
+    x: usize,
+) -> Walk
+    ensures { λ r. ⌜ ((v ≡ 2 → ⊥) → Good (now (t .entry)) (c .left) p → (input ≡ true → Good (now (t .entry)) (c .left) x) → hasArrayRestOverObjectRest (lookNode (now (t .entry)) (c .left) p .value) ≡ false → op < 256 → Does (goingOf (now (out .entry)) (now (list .entry)) (now (work .entry)) w) (goingOf (now (out .exit)) (now (list .exit)) (now (work .exit)) r) (emitsNest (placeOf c) (viewOf v) op (lookNode (now (t .entry)) (c .left) p .value) (givenDeeds (now (t .entry)) (c .left) (inner (placeOf c)) input x))) ⌝ }
+{
+    let k = places_in(t, c.left, p, v);
+    let u = nested_hands(w, t, list, work, c.left, p, v, c.mark);
+    let u = u.put2(out, 28, 1)
+        .wide(out, plus(k, 1))
+        .assign(out, op)
+        .to(p);
+    let u = view(u, t, out, list, work, inside(c, c.left), v);
+    let u = gv(u, t, out, list, work, inside(c, c.left), input, x);
+    deep(u.to(p), t, out, list, work, c, inner_mode(v), 0)
+}
+
+// The assignment of the object at p, whose rest stands at r, from the temporary in its place.
+fn ip(
+    w: Walk,
+    t: &[u8],
+    out: &mut [u8],
+    list: &mut [u8],
+    work: &mut [u8],
+    c: Place,
+    p: usize,
+    r: usize,
+) -> Walk
+    ensures { λ z. ⌜ (byteAt (now (t .entry)) p ≡ 34 → hasRest (lookNode (now (t .entry)) (c .left) p .value) ≡ true → r ≡ lookItems (now (t .entry)) (lookNode (now (t .entry)) (c .left - 1)) false (wideAt (now (t .entry)) (onward (now (t .entry)) p 2)) (onward (now (t .entry)) (onward (now (t .entry)) p 2) 2) .next → Good (now (t .entry)) (c .left) p → hasArrayRestOverObjectRest (lookNode (now (t .entry)) (c .left) p .value) ≡ false → Does (goingOf (now (out .entry)) (now (list .entry)) (now (work .entry)) w) (goingOf (now (out .exit)) (now (list .exit)) (now (work .exit)) z) (emitsInner (placeOf c) (withValues (λ v. replacedBelow nameless v) (lookNode (now (t .entry)) (c .left) p .value)))) ⌝ }
+{
+    if lacks_form(t, c.left, p) {
+        return w.refuse(out, 6);
+    }
+    let d = inside(c, c.left);
+    let u = inner_hands(w, t, list, work, c.left, p, c.root, c.mark);
+    let u = u.put2(out, 28, 1)
+        .wide(out, 4)
+        .assign(out, 1)
+        .temporary(out, list, work, cell(3, p));
+    let u = u.temporary(out, list, work, cell(1, p))
+        .assign(out, 1)
+        .to(p);
+    let u = view(u, t, out, list, work, d, 2).temporary(out, list, work, cell(3, p));
+    let u = node(
+        u.assign(out, 1).to(r),
+        t,
+        out,
+        list,
+        work,
+        inside(c, less(c.left)),
+    );
+    let u = rest(u, t, out, list, work, d, p, cell_source(cell(3, p)), true);
+    u.temporary(out, list, work, cell(3, p))
+}
+
+// The rest of the object at p, which stands at r, from the value of the target at x; where no target starts there, only what it
+// is assigned to.
+fn ro(
+    w: Walk,
+    t: &[u8],
+    out: &mut [u8],
+    list: &mut [u8],
+    work: &mut [u8],
+    c: Place,
+    p: usize,
+    r: usize,
+    x: usize,
+) -> Walk
+    ensures { λ z. ⌜ (x < 16384 → byteAt (now (t .entry)) p ≡ 34 → hasRest (lookNode (now (t .entry)) (c .left) p .value) ≡ true → r ≡ lookItems (now (t .entry)) (lookNode (now (t .entry)) (c .left - 1)) false (wideAt (now (t .entry)) (onward (now (t .entry)) p 2)) (onward (now (t .entry)) (onward (now (t .entry)) p 2) 2) .next → Good (now (t .entry)) (c .left) p → Does (goingOf (now (out .entry)) (now (list .entry)) (now (work .entry)) w) (goingOf (now (out .exit)) (now (list .exit)) (now (work .exit)) z) (restFrom (placeOf c) x (lookNode (now (t .entry)) (c .left) p .value))) ⌝ }
+{
+    if x == 16383 {
+        return node(w.to(r), t, out, list, work, inside(c, less(c.left)));
+    }
+    let u = node(
+        w.assign(out, 1).to(r),
+        t,
+        out,
+        list,
+        work,
+        inside(c, less(c.left)),
+    );
+    rest(
+        u,
+        t,
+        out,
+        list,
+        work,
+        inside(c, c.left),
+        p,
+        cell_source(cell(3, x)),
+        false,
+    )
+}
+
+// ---- parameters, catch, for heads: patterns moved out
+
+// A parameter or a declarator.
+fn bi(w: Walk, t: &[u8], out: &mut [u8], list: &mut [u8], work: &mut [u8], c: Place) -> Walk
+    ensures { λ r. ⌜ (eqb (byteAt (now (t .entry)) (w .at)) 15 || eqb (byteAt (now (t .entry)) (w .at)) 5 ≡ true → Emitted (now (t .entry)) (c .left) (w .at) (r .at) (goingOf (now (out .entry)) (now (list .entry)) (now (work .entry)) w) (goingOf (now (out .exit)) (now (list .exit)) (now (work .exit)) r) (λ q. emits (placeOf c) (behind q))) ⌝ }
+{
+    let p = w.at;
+    let left = less(c.left);
+    let q = step(t, p, 2);
+    if has_nested_object_rest(t, left, q) {
+        let u = go(w.copy(t, out, q), t, out, list, work, inside(c, left));
+        return slot(
+            u,
+            t,
+            out,
+            list,
+            work,
+            inside(c, left),
+            32,
+            second(t, p),
+            false,
+        );
+    }
+    node(w, t, out, list, work, c)
+}
+
+// A pattern without the parts that are moved out.
+fn go(w: Walk, t: &[u8], out: &mut [u8], list: &mut [u8], work: &mut [u8], c: Place) -> Walk
+    ensures { λ r. ⌜ Emitted (now (t .entry)) (c .left) (w .at) (r .at) (goingOf (now (out .entry)) (now (list .entry)) (now (work .entry)) w) (goingOf (now (out .exit)) (now (list .exit)) (now (work .exit)) r) (λ p. emits (placeOf c) (outOf p)) ⌝ }
+{
+    if c.left == 0 {
+        return w;
+    }
+    let p = w.at;
+    let left = less(c.left);
+    let kind = peek(t, p);
+    match kind {
+        34 => w.temporary(out, list, work, p).to(skip(t, c.left, p)),
+        36 => {
+            let q = step(t, p, 2);
+            let n = wide_at(t, q);
+            let u = w.copy(t, out, step(t, q, 2));
+            let u = seq(u, t, out, list, work, inside(c, left), 16, 0, true, n);
+            if has_second(t, p) {
+                return go(u, t, out, list, work, inside(c, left));
+            }
+            u
+        }
+        37 => {
+            let u = w.put2(out, 37, 3).temporary(out, list, work, p);
+            let u = u.to(skip(t, left, step(t, p, 2)));
+            node(u, t, out, list, work, inside(c, left))
+        }
+        _ => node(w, t, out, list, work, c),
+    }
+}
+
+// `let pattern = temporary` for each pattern that is moved out of a list, later ones first, by halves.
+fn ba(
+    w: Walk,
+    t: &[u8],
+    out: &mut [u8],
+    list: &mut [u8],
+    work: &mut [u8],
+    c: Place,
+    arrays: bool,
+    first: usize,
+    n: usize,
+) -> Walk
+    ensures { λ r. ⌜ (placeOf c ≡ emit.scoped (placeOf c) → GoodItems (now (t .entry)) (lookNode (now (t .entry)) (c .left)) (Good (now (t .entry)) (c .left)) false arrays n first → AllBind arrays (lookItems (now (t .entry)) (lookNode (now (t .entry)) (c .left)) arrays n first .value) → Does (goingOf (now (out .entry)) (now (list .entry)) (now (work .entry)) w) (goingOf (now (out .exit)) (now (list .exit)) (now (work .exit)) r) (fronts (placeOf c) (gather (movesOf arrays) (lookItems (now (t .entry)) (lookNode (now (t .entry)) (c .left)) arrays n first .value)))) ⌝ }
+{
+    if n == 0 {
+        return w;
+    }
+    if n == 1 {
+        if arrays {
+            if peek(t, first) == 0 {
+                return w;
+            }
+            return mv(w, t, out, list, work, c, first);
+        }
+        let left = less(c.left);
+        let q = step(t, first, 2);
+        if has_nested_object_rest(t, left, q) {
+            return mv(w, t, out, list, work, under(c, left), q);
+        }
+        return w;
+    }
+    let half = n / 2;
+    let mid = skip_items(t, arrays, half, c.left, first);
+    let u = ba(w, t, out, list, work, c, arrays, mid, n - half);
+    ba(u, t, out, list, work, c, arrays, first, half)
+}
+
+// The same for the patterns that are moved out of the one at p.
+fn mv(
+    w: Walk,
+    t: &[u8],
+    out: &mut [u8],
+    list: &mut [u8],
+    work: &mut [u8],
+    c: Place,
+    p: usize,
+) -> Walk
+    ensures { λ r. ⌜ (placeOf c ≡ emit.scoped (placeOf c) → Good (now (t .entry)) (c .left) p → Does (goingOf (now (out .entry)) (now (list .entry)) (now (work .entry)) w) (goingOf (now (out .exit)) (now (list .exit)) (now (work .exit)) r) (fronts (placeOf c) (movedIn (lookNode (now (t .entry)) (c .left) p .value)))) ⌝ }
+{
+    if c.left == 0 {
+        return w;
+    }
+    let left = less(c.left);
+    let kind = peek(t, p);
+    match kind {
+        34 => add(w, t, out, list, work, c, p, p),
+        36 => {
+            let q = step(t, p, 2);
+            let n = wide_at(t, q);
+            let first = step(t, q, 2);
+            if has_second(t, p) {
+                let r = skip_items(t, true, n, left, first);
+                let u = mv(w, t, out, list, work, under(c, left), r);
+                return ba(u, t, out, list, work, under(c, left), true, first, n);
+            }
+            ba(w, t, out, list, work, under(c, left), true, first, n)
+        }
+        37 => add(w, t, out, list, work, under(c, left), step(t, p, 2), p),
+        _ => w,
+    }
+}
+
+// A new statement: let the pattern at p be the temporary in the place of o.
+fn add(
+    w: Walk,
+    t: &[u8],
+    out: &mut [u8],
+    list: &mut [u8],
+    work: &mut [u8],
+    c: Place,
+    p: usize,
+    o: usize,
+) -> Walk
+    ensures { λ r. ⌜ (placeOf c ≡ emit.scoped (placeOf c) → Good (now (t .entry)) (c .left) p → o < 16384 → Does (goingOf (now (out .entry)) (now (list .entry)) (now (work .entry)) w) (goingOf (now (out .exit)) (now (list .exit)) (now (work .exit)) r) (emitsStatement (placeOf c) (letOf (lookNode (now (t .entry)) (c .left) p .value) (made.temporary [] 1 o)))) ⌝ }
+{
+    let d = marked(inside(c, c.left), w.mark());
+    if has_nested_object_rest(t, c.left, p) {
+        if below_lacks_form(t, c.left, p) {
+            return w.refuse(out, 6);
+        }
+        let u = pattern_hands(w, t, list, work, c.left, p, c.root);
+        let k = pattern_declarators(t, c.left, p);
+        let u = u.declaration(out, 2, k).to(p);
+        return pa(u, t, out, list, work, d, cell_source(o));
+    }
+    let u = w.declaration(out, 2, 1).put2(out, 5, 3).to(p);
+    node(u, t, out, list, work, d).temporary(out, list, work, o)
+}
+
+// A function body with new statements in front.
+fn body(
+    w: Walk,
+    t: &[u8],
+    out: &mut [u8],
+    list: &mut [u8],
+    work: &mut [u8],
+    c: Place,
+    first: usize,
+    n: usize,
+) -> Walk
+    ensures { λ r. ⌜ (byteAt (now (t .entry)) (w .at) ≡ 16 → (placeOf c ≡ emit.scoped (placeOf c) → Good (now (t .entry)) (c .left) (w .at) → GoodItems (now (t .entry)) (lookNode (now (t .entry)) (c .left)) (Good (now (t .entry)) (c .left)) false false n first → AllBind false (lookItems (now (t .entry)) (lookNode (now (t .entry)) (c .left)) false n first .value) → (r .at ≡ lookNode (now (t .entry)) (c .left) (w .at) .next) × Does (goingOf (now (out .entry)) (now (list .entry)) (now (work .entry)) w) (goingOf (now (out .exit)) (now (list .exit)) (now (work .exit)) r) (emits (placeOf c) (bodyIn (gather movedFrom (lookItems (now (t .entry)) (lookNode (now (t .entry)) (c .left)) false n first .value)) (lookNode (now (t .entry)) (c .left) (w .at) .value))))) ⌝ }
+{
+    if c.left == 0 {
+        return w;
+    }
+    let left = less(c.left);
+    let p = w.at;
+    let more = moved_in(t, c.left, first, n);
+    let d = scoped(c, left);
+    let u = slot(
+        w.copy(t, out, step(t, p, 2)),
+        t,
+        out,
+        list,
+        work,
+        d,
+        96,
+        first_bit(t, p),
+        true,
+    );
+    let q = u.at;
+    let k = wide_at(t, q);
+    let u = ba(
+        u.wide(out, k + more),
+        t,
+        out,
+        list,
+        work,
+        c,
+        false,
+        first,
+        n,
+    );
+    items(u.to(step(t, q, 2)), t, out, list, work, d, k, false, true)
+}
+
+// The block of a catch or a loop, or the statement that becomes one, with new statements in front.
+fn bl(
+    w: Walk,
+    t: &[u8],
+    out: &mut [u8],
+    list: &mut [u8],
+    work: &mut [u8],
+    c: Place,
+    inner: bool,
+    first: usize,
+    n: usize,
+) -> Walk
+    ensures { λ r. ⌜ (GoodItem (now (t .entry)) (lookNode (now (t .entry)) (c .left)) (Good (now (t .entry)) (c .left)) true false (w .at) → GoodItems (now (t .entry)) (lookNode (now (t .entry)) (levelOf inner (c .left))) (Good (now (t .entry)) (levelOf inner (c .left))) false false n first → AllBind false (lookItems (now (t .entry)) (lookNode (now (t .entry)) (levelOf inner (c .left))) false n first .value) → (r .at ≡ lookNode (now (t .entry)) (c .left) (w .at) .next) × Does (goingOf (now (out .entry)) (now (list .entry)) (now (work .entry)) w) (goingOf (now (out .exit)) (now (list .exit)) (now (work .exit)) r) (emits (placeOf c) (blockIn (gather movedFrom (lookItems (now (t .entry)) (lookNode (now (t .entry)) (levelOf inner (c .left))) false n first .value)) (lookNode (now (t .entry)) (c .left) (w .at) .value)))) ⌝ }
+{
+    let p = w.at;
+    let left = less(c.left);
+    let under = level(c.left, inner);
+    let more = moved_in(t, under, first, n);
+    let kind = peek(t, p);
+    match kind {
+        2 => {
+            let q = step(t, p, 4);
+            let k = wide_at(t, q);
+            let u = ba(
+                w.copy(t, out, q).wide(out, k + more),
+                t,
+                out,
+                list,
+                work,
+                scoped(c, under),
+                false,
+                first,
+                n,
+            );
+            items(
+                u.to(step(t, q, 2)),
+                t,
+                out,
+                list,
+                work,
+                scoped(c, left),
+                k,
+                false,
+                true,
+            )
+        }
+        13 => {
+            let u = ba(
+                w.block(out, more),
+                t,
+                out,
+                list,
+                work,
+                scoped(c, under),
+                false,
+                first,
+                n,
+            );
+            u.to(skip(t, c.left, p))
+        }
+        _ => {
+            let u = ba(
+                w.block(out, more + 1),
+                t,
+                out,
+                list,
+                work,
+                scoped(c, under),
+                false,
+                first,
+                n,
+            );
+            item(u.to(p), t, out, list, work, scoped(c, c.left), false, true)
+        }
+    }
+}
+
+// A function.
+fn fun(w: Walk, t: &[u8], out: &mut [u8], list: &mut [u8], work: &mut [u8], c: Place) -> Walk
+    ensures { λ r. ⌜ (byteAt (now (t .entry)) (w .at) ≡ 14 → Ruled (now (t .entry)) (c .left) (w .at) (r .at) (goingOf (now (out .entry)) (now (list .entry)) (now (work .entry)) w) (goingOf (now (out .exit)) (now (list .exit)) (now (work .exit)) r) (emits (placeOf c))) ⌝ }
+{
+    let p = w.at;
+    let left = less(c.left);
+    let d = scoped(c, left);
+    if any_moved(t, c.left, p, 3) {
+        if stands(t, c.left, p, 5) {
+            let q = step(t, p, 5);
+            let bits = peek(t, step(t, p, 1));
+            let s = skip_slot(t, 32, bits / 4 % 2, left, q);
+            let n = wide_at(t, s);
+            let first = step(t, s, 2);
+            let u = moves_make(w, t, work, left, first, n).copy(t, out, q);
+            let u = slot(u, t, out, list, work, d, 32, bits / 4 % 2, false).copy(t, out, first);
+            let u = seq(u, t, out, list, work, d, 11, 0, false, n);
+            let u = slot(u, t, out, list, work, d, 32, bits / 16 % 2, false);
+            return body(u, t, out, list, work, d, first, n).to(skip(t, c.left, p));
+        }
+    }
+    plain(w, t, out, list, work, c)
+}
+
+// An arrow function.
+fn ar(w: Walk, t: &[u8], out: &mut [u8], list: &mut [u8], work: &mut [u8], c: Place) -> Walk
+    ensures { λ r. ⌜ (byteAt (now (t .entry)) (w .at) ≡ 17 → Ruled (now (t .entry)) (c .left) (w .at) (r .at) (goingOf (now (out .entry)) (now (list .entry)) (now (work .entry)) w) (goingOf (now (out .exit)) (now (list .exit)) (now (work .exit)) r) (emits (placeOf c))) ⌝ }
+{
+    let p = w.at;
+    let left = less(c.left);
+    let d = scoped(c, left);
+    if any_moved(t, c.left, p, 0) {
+        let q = step(t, p, 2);
+        let n = wide_at(t, q);
+        let first = step(t, q, 2);
+        let u = moves_make(w, t, work, left, first, n).copy(t, out, first);
+        let u = seq(u, t, out, list, work, d, 11, 0, false, n);
+        let u = slot(u, t, out, list, work, d, 32, second(t, p), false);
+        return eb(u, t, out, list, work, d, first, n).to(skip(t, c.left, p));
+    }
+    plain(w, t, out, list, work, c)
+}
+
+// Its body; an expression is returned.
+fn eb(
+    w: Walk,
+    t: &[u8],
+    out: &mut [u8],
+    list: &mut [u8],
+    work: &mut [u8],
+    c: Place,
+    first: usize,
+    n: usize,
+) -> Walk
+    ensures { λ r. ⌜ (placeOf c ≡ emit.scoped (placeOf c) → Good (now (t .entry)) (c .left) (w .at) → GoodItems (now (t .entry)) (lookNode (now (t .entry)) (c .left)) (Good (now (t .entry)) (c .left)) false false n first → AllBind false (lookItems (now (t .entry)) (lookNode (now (t .entry)) (c .left)) false n first .value) → (r .at ≡ lookNode (now (t .entry)) (c .left) (w .at) .next) × Does (goingOf (now (out .entry)) (now (list .entry)) (now (work .entry)) w) (goingOf (now (out .exit)) (now (list .exit)) (now (work .exit)) r) (emits (placeOf c) (bodyIn (gather movedFrom (lookItems (now (t .entry)) (lookNode (now (t .entry)) (c .left)) false n first .value)) (lookNode (now (t .entry)) (c .left) (w .at) .value)))) ⌝ }
+{
+    let p = w.at;
+    if peek(t, p) == 16 {
+        return body(w, t, out, list, work, c, first, n);
+    }
+    let more = moved_in(t, c.left, first, n);
+    let u = ba(
+        w.put2(out, 16, 2).wide(out, more + 1),
+        t,
+        out,
+        list,
+        work,
+        c,
+        false,
+        first,
+        n,
+    );
+    let d = marked(c, u.mark());
+    let u = u.put2(out, 11, 3).new_mark(out).to(p);
+    node(u, t, out, list, work, d)
+}
+
+// A catch.
+fn ca(w: Walk, t: &[u8], out: &mut [u8], list: &mut [u8], work: &mut [u8], c: Place) -> Walk
+    ensures { λ r. ⌜ (byteAt (now (t .entry)) (w .at) ≡ 10 → Ruled (now (t .entry)) (c .left) (w .at) (r .at) (goingOf (now (out .entry)) (now (list .entry)) (now (work .entry)) w) (goingOf (now (out .exit)) (now (list .exit)) (now (work .exit)) r) (emits (placeOf c))) ⌝ }
+{
+    let p = w.at;
+    let left = less(c.left);
+    let q = step(t, p, 2);
+    if has_first(t, p) {
+        if is_moved(t, left, q) {
+            let d = scoped(c, left);
+            let u = moves_make(w, t, work, left, q, 1).copy(t, out, q);
+            let u = seq(u, t, out, list, work, d, 11, 0, false, 1);
+            return bl(u, t, out, list, work, d, false, q, 1).to(skip(t, c.left, p));
+        }
+        return plain(w, t, out, list, work, c);
+    }
+    plain(w, t, out, list, work, c)
+}
+
+// The head of a for-in or for-of loop.
+fn head(w: Walk, t: &[u8], out: &mut [u8], list: &mut [u8], work: &mut [u8], c: Place) -> Walk
+    ensures { λ r. ⌜ (eqb (byteAt (now (t .entry)) (w .at)) 7 || eqb (byteAt (now (t .entry)) (w .at)) 8 ≡ true → Ruled (now (t .entry)) (c .left) (w .at) (r .at) (goingOf (now (out .entry)) (now (list .entry)) (now (work .entry)) w) (goingOf (now (out .exit)) (now (list .exit)) (now (work .exit)) r) (emits (placeOf c))) ⌝ }
+{
+    let p = w.at;
+    let left = less(c.left);
+    let q = step(t, p, 4);
+    if peek(t, q) == 4 {
+        if any_moved(t, left, q, 2) {
+            return dh(w, t, out, list, work, c).to(skip(t, c.left, p));
+        }
+        return plain(w, t, out, list, work, c);
+    }
+    if has_rest_below_array_rest(t, left, q) {
+        return w.refuse(out, 5).to(skip(t, c.left, p));
+    }
+    if has_nested_object_rest(t, left, q) {
+        return th(w, t, out, list, work, c).to(skip(t, c.left, p));
+    }
+    plain(w, t, out, list, work, c)
+}
+
+// One that declares.
+fn dh(w: Walk, t: &[u8], out: &mut [u8], list: &mut [u8], work: &mut [u8], c: Place) -> Walk
+    ensures { λ r. ⌜ (eqb (byteAt (now (t .entry)) (w .at)) 7 || eqb (byteAt (now (t .entry)) (w .at)) 8 ≡ true → byteAt (now (t .entry)) (onward (now (t .entry)) (w .at) 4) ≡ 4 → any isMoved (itemsAt 2 (nodeAt 1 (lookNode (now (t .entry)) (c .left) (w .at) .value))) ≡ true → Done (now (t .entry)) (c .left) (w .at) (goingOf (now (out .entry)) (now (list .entry)) (now (work .entry)) w) (goingOf (now (out .exit)) (now (list .exit)) (now (work .exit)) r) (emits (placeOf c))) ⌝ }
+{
+    if c.left == 0 {
+        return w;
+    }
+    let p = w.at;
+    let left = less(c.left);
+    let under = less(left);
+    let s = step(t, step(t, p, 4), 5);
+    let n = wide_at(t, s);
+    let first = step(t, s, 2);
+    let u = moves_make(w, t, work, under, first, n).copy(t, out, first);
+    let u = seq(u, t, out, list, work, scoped(c, under), 11, 0, false, n);
+    let u = node(u, t, out, list, work, scoped(c, left));
+    let u = bl(u, t, out, list, work, scoped(c, left), true, first, n);
+    await_of(u, t, out, p)
+}
+
+// One that assigns.
+fn th(w: Walk, t: &[u8], out: &mut [u8], list: &mut [u8], work: &mut [u8], c: Place) -> Walk
+    ensures { λ r. ⌜ (eqb (byteAt (now (t .entry)) (w .at)) 7 || eqb (byteAt (now (t .entry)) (w .at)) 8 ≡ true → (byteAt (now (t .entry)) (onward (now (t .entry)) (w .at) 4) ≡ 4 → ⊥) → hasArrayRestOverObjectRest (nodeAt 1 (lookNode (now (t .entry)) (c .left) (w .at) .value)) ≡ false → hasObjectRest (nodeAt 1 (lookNode (now (t .entry)) (c .left) (w .at) .value)) ≡ true → Done (now (t .entry)) (c .left) (w .at) (goingOf (now (out .entry)) (now (list .entry)) (now (work .entry)) w) (goingOf (now (out .exit)) (now (list .exit)) (now (work .exit)) r) (emits (placeOf c))) ⌝ }
+{
+    if c.left == 0 {
+        return w;
+    }
+    let p = w.at;
+    let left = less(c.left);
+    let q = step(t, p, 4);
+    let d = scoped(c, left);
+    let u = w.make(work, q).copy(t, out, q);
+    let u = u.declaration(out, 1, 1)
+        .put2(out, 5, 1)
+        .temporary(out, list, work, q);
+    let u = node(u.to(skip(t, left, q)), t, out, list, work, d);
+    let u = tb(u, t, out, list, work, d, q);
+    await_of(u, t, out, p)
+}
+
+// The body of such a loop, with the assignment to the target at p in front.
+fn tb(
+    w: Walk,
+    t: &[u8],
+    out: &mut [u8],
+    list: &mut [u8],
+    work: &mut [u8],
+    c: Place,
+    p: usize,
+) -> Walk
+    ensures { λ r. ⌜ (GoodItem (now (t .entry)) (lookNode (now (t .entry)) (c .left)) (Good (now (t .entry)) (c .left)) true false (w .at) → Good (now (t .entry)) (c .left) p → hasArrayRestOverObjectRest (lookNode (now (t .entry)) (c .left) p .value) ≡ false → hasObjectRest (lookNode (now (t .entry)) (c .left) p .value) ≡ true → (r .at ≡ lookNode (now (t .entry)) (c .left) (w .at) .next) × Does (goingOf (now (out .entry)) (now (list .entry)) (now (work .entry)) w) (goingOf (now (out .exit)) (now (list .exit)) (now (work .exit)) r) (emits (placeOf c) (targetIn (lookNode (now (t .entry)) (c .left) p .value) (lookNode (now (t .entry)) (c .left) (w .at) .value)))) ⌝ }
+{
+    let b = w.at;
+    let kind = peek(t, b);
+    match kind {
+        2 => {
+            let q = step(t, b, 4);
+            let k = wide_at(t, q);
+            let u = ta(
+                w.copy(t, out, q).wide(out, k + 1),
+                t,
+                out,
+                list,
+                work,
+                scoped(c, c.left),
+                p,
+            );
+            items(
+                u.to(step(t, q, 2)),
+                t,
+                out,
+                list,
+                work,
+                scoped(c, less(c.left)),
+                k,
+                false,
+                true,
+            )
+        }
+        13 => ta(w.block(out, 1), t, out, list, work, scoped(c, c.left), p).to(skip(t, c.left, b)),
+        _ => {
+            let u = ta(w.block(out, 2), t, out, list, work, scoped(c, c.left), p);
+            item(u.to(b), t, out, list, work, scoped(c, c.left), false, true)
+        }
+    }
+}
+
+// A new statement: the target at p takes the temporary in its place.
+fn ta(
+    w: Walk,
+    t: &[u8],
+    out: &mut [u8],
+    list: &mut [u8],
+    work: &mut [u8],
+    c: Place,
+    p: usize,
+) -> Walk
+    ensures { λ r. ⌜ (Good (now (t .entry)) (c .left) p → hasArrayRestOverObjectRest (lookNode (now (t .entry)) (c .left) p .value) ≡ false → hasObjectRest (lookNode (now (t .entry)) (c .left) p .value) ≡ true → Does (goingOf (now (out .entry)) (now (list .entry)) (now (work .entry)) w) (goingOf (now (out .exit)) (now (list .exit)) (now (work .exit)) r) (emitsStatement (placeOf c) (assigning (lookNode (now (t .entry)) (c .left) p .value) (made.temporary [] 1 p)))) ⌝ }
+{
+    let d = statement(c, w.mark());
+    let u = w.put2(out, 3, 3).new_mark(out);
+    an(u, t, out, list, work, d, 1, p, false, p)
+}

@@ -1,0 +1,382 @@
+-- The emitters' ways out: what each part of a node does is what its code does, one law for each.
+-- Assumes nothing.
+use mathlib.Core.Path.{_≡_, refl, sym, ap, _∙_, subst}
+use mathlib.Core.Bool.{Bool, true, false, cond, _&&_, _||_, not}
+use mathlib.Core.List.{List, [], _∷_, _++_}
+use Prim.Native.Nat.{ℕ, zero, suc, _+_, _-_, _/_, _%_, _≤_, _<_}
+use native.Mathlib.Omega.{arith}
+use lib.Dec.{eqb}
+use borrow.Author.Tests.{eq-eqb, ne-eqb}
+use Rattle.tree.specs.Tree.{Node, Fields, Piece, Items, wideBytes, mapOf, count, encodePiece}
+use Rattle.tree.specs.Tree.Node.{node}
+use Rattle.tree.specs.Grammar.{Sort, Field, fieldsOf}
+use Rattle.tree.specs.Read.{byteAt, wideAt, sortIn}
+use Rattle.tree.specs.Rows.{fieldsIn, fieldOf, sortOf, sortFrom}
+use Rattle.tree.specs.Look.{Seen, onward, lookItem, lookItems, lookField, lookSlot, lookFields, lookNode}
+use Rattle.tree.specs.Answer.{Peeked, Wide}
+use Rattle.tree.proofs.Rows.{NoKey, no-key, row-done, row-first, first-sort}
+use Rattle.tree.specs.Look as Look
+use Rattle.tree.proofs.Skipping as skipping
+use Rattle.lowering.specs.Collect.{isContainer}
+use Rattle.lowering.specs.Parts.{kind, is}
+use Rattle.lowering.specs.Walk.{ruleOf, opensScope}
+use Rattle.lowering.specs.Walk.Rule.{nowhere}
+use Rattle.sink.specs.Machine.{part}
+use Rattle.direct.specs.Events.{Place, Emit, Deed, puts, marks, emits}
+use Rattle.direct.specs.Emit.{say, _▷_, below, marking, stays, emitsItem, emitsItems, emitsPiece, emitsFields}
+use Rattle.direct.proofs.Threads.{say-nothing, then-nothing}
+use Rattle.direct.proofs.Stays.{emits-nowhere}
+use Rattle.direct.proofs.Marks.{emits-item}
+use Rattle.walk.specs.Run.{Going, Does}
+use Rattle.walk.specs.Whole.{Leaf, holeAt, itemDeeds, slotDeeds, GoodItem, GoodItems, GoodList, GoodField, GoodSlot, GoodFields, GoodHere, Good}
+use Rattle.walk.proofs.Running.{does-then, does-nothing, does-as}
+
+-- ---- a loop: what is left to do from g′ makes the whole from g
+
+pub record Onto (g g′ : Going) (rest whole : Emit) : Type 0 where
+  pub then : (g″ : Going) → Does g′ g″ rest → Does g g″ whole
+
+pub onto-start : (g : Going) (e : Emit) → Onto g g e e
+onto-start g e = record { then = λ g″ d. d }
+
+pub onto-more : {g g′ g″ : Going} {e f r whole : Emit} → Onto g g′ r whole → r ≡ e ▷ f → Does g′ g″ e → Onto g g″ f whole
+onto-more o h d = record { then = λ x k. o .then x (does-as (does-then d k) (sym h)) }
+
+pub onto-end : {g g′ : Going} {r whole : Emit} → Onto g g′ r whole → r ≡ say [] → Does g g′ whole
+onto-end {g′ = g′} o h = o .then g′ (does-as (does-nothing g′) (sym h))
+
+-- the kinds of loops
+pub loop-in : (k : ℕ) → k ≡ 7 → eqb k 7 || eqb k 8 ≡ true
+loop-in k e = rw e refl
+
+pub loop-of : (k : ℕ) → k ≡ 8 → eqb k 7 || eqb k 8 ≡ true
+loop-of k e = rw e refl
+
+-- a kind without a rule
+pub nowhere-else : (k : ℕ) → (k ≡ 4 → ⊥) → (k ≡ 7 → ⊥) → (k ≡ 8 → ⊥) → (k ≡ 10 → ⊥) → (k ≡ 14 → ⊥) → (k ≡ 17 → ⊥) → (k ≡ 24 → ⊥) → (k ≡ 27 → ⊥) → ruleOf k ≡ nowhere
+unfolding ruleOf
+nowhere-else k a b c d e f g h = rw (ne-eqb k 24 g, ne-eqb k 4 a, ne-eqb k 27 h, ne-eqb k 14 e, ne-eqb k 17 f, ne-eqb k 10 d, ne-eqb k 7 b, ne-eqb k 8 c) refl
+
+module _ (t : List ℕ) where
+  -- ---- tests and marks
+
+  pub is-hole : (h : Bool) (at n : ℕ) → h ≡ true → Peeked t at n → n ≡ 0 → holeAt t h at ≡ true
+  unfolding holeAt
+  is-hole h at n e p z = rw (e, eq-eqb (byteAt t at) 0 (sym (p .value) ∙ z)) refl
+
+  pub no-hole : (h : Bool) (at n : ℕ) → h ≡ true → Peeked t at n → (n ≡ 0 → ⊥) → holeAt t h at ≡ false
+  unfolding holeAt
+  no-hole h at n e p z = rw (e, ne-eqb (byteAt t at) 0 (λ x. z (p .value ∙ x))) refl
+
+  pub full : (h : Bool) (at : ℕ) → h ≡ false → holeAt t h at ≡ false
+  unfolding holeAt
+  full h at e = rw e refl
+
+  marks-are : (m : ℕ) → 0 < m → say (marks m) ≡ say (puts (wideBytes m))
+  unfolding marks
+  marks-are zero h = absurd (omega arith)
+  marks-are (suc m) h = refl
+
+  -- ---- what the parts do, one before the rest
+
+  module _ (R : ℕ → Seen Node) where
+    slot-first : (l : Bool) (c : Place) (s : Sort) (bit at : ℕ) (fs : Fields)
+        → emitsFields l c (lookSlot t R s bit at .value fs) ≡ slotDeeds t R l c s bit at ▷ emitsFields l c fs
+    unfolding lookSlot slotDeeds emitsFields
+    slot-first l c s zero at fs = sym (say-nothing (emitsFields l c fs))
+    slot-first l c s (suc b) at fs = refl
+
+    pub fields-first : (l : Bool) (c : Place) (row m at q : ℕ) → 0 < row → q ≡ lookSlot t R (sortOf (row % 512)) (m % 2) at .next
+        → emitsFields l c (lookFields t R (fieldsIn row) m at .value)
+        ≡ slotDeeds t R l c (sortOf (row % 512)) (m % 2) at ▷ emitsFields l c (lookFields t R (fieldsIn (row / 1024)) (m / 2) q .value)
+    unfolding lookFields
+    fields-first l c row m at q h e = rw (row-first row h, first-sort row, e) (slot-first l c (sortOf (row % 512)) (m % 2) at _)
+
+    pub fields-none : (l : Bool) (c : Place) (row m at : ℕ) → row ≤ 0 → emitsFields l c (lookFields t R (fieldsIn row) m at .value) ≡ say []
+    unfolding lookFields emitsFields
+    fields-none l c row m at h = rw (row-done row (omega arith)) refl
+
+    hole-first : (l : Bool) (c : Place) (h : Bool) (at : ℕ) (is : Items)
+        → emitsItems l c (lookItem t R h at .value is) ≡ itemDeeds t R l c h at ▷ emitsItems l c is
+    unfolding lookItem itemDeeds holeAt emitsItems
+    hole-first l c true at is = go (eqb (byteAt t at) 0)
+      where
+        go : (b : Bool) → emitsItems l c (cond b (Look.seen Items.hole (onward t at 1)) (Look.seenAs (λ n is. Items.item n is) (R at)) .value is)
+            ≡ cond b (say (puts (0 ∷ []))) (emitsItem l c (R at .value)) ▷ emitsItems l c is
+        go true = refl
+        go false = refl
+    hole-first l c false at is = refl
+
+    pub items-first : (l : Bool) (c : Place) (h : Bool) (n at q : ℕ) → 0 < n → q ≡ lookItem t R h at .next
+        → emitsItems l c (lookItems t R h n at .value) ≡ itemDeeds t R l c h at ▷ emitsItems l c (lookItems t R h (n - 1) q .value)
+    unfolding lookItems
+    items-first l c h zero at q z e = absurd (omega arith)
+    items-first l c h (suc n) at q z e =
+        let s : suc n - 1 ≡ n = omega arith in
+        rw (s, e) (hole-first l c h at _)
+
+    pub items-none : (l : Bool) (c : Place) (h : Bool) (n at : ℕ) → n ≤ 0 → emitsItems l c (lookItems t R h n at .value) ≡ say []
+    unfolding lookItems emitsItems
+    items-none l c h zero at z = refl
+    items-none l c h (suc n) at z = absurd (omega arith)
+
+    pub item-next : (h : Bool) (at : ℕ) → holeAt t h at ≡ false → R at .next ≡ lookItem t R h at .next
+    unfolding holeAt lookItem
+    item-next true at e = rw e refl
+    item-next false at e = refl
+
+    pub slot-none : {g : Going} (l : Bool) (c : Place) (s : Sort) (bit at : ℕ) → bit ≡ 0 → Does g g (slotDeeds t R l c s bit at)
+    unfolding slotDeeds
+    slot-none {g = g} l c s bit at z = does-as (does-nothing g) (ap (λ (b : ℕ). slotDeeds t R l c s b at) (sym z))
+
+    stands-deeds : (l : Bool) (c : Place) (s : Sort) (bit at : ℕ) → (bit ≡ 0 → ⊥) → emitsPiece l c (lookField t R s at .value) ≡ slotDeeds t R l c s bit at
+    unfolding slotDeeds
+    stands-deeds l c s zero at n = absurd (n refl)
+    stands-deeds l c s (suc b) at n = refl
+
+    stands-next : (s : Sort) (bit at : ℕ) → (bit ≡ 0 → ⊥) → lookSlot t R s bit at .next ≡ lookField t R s at .next
+    unfolding lookSlot
+    stands-next s zero at n = absurd (n refl)
+    stands-next s (suc b) at n = refl
+
+  -- ---- what is known of the parts, and what each way out does
+
+  module _ (R : ℕ → Seen Node) (G : ℕ → Type 0) where
+    pub good-slot : (l : Bool) (row m at : ℕ) → 0 < row → GoodFields t R G l (fieldsIn row) m at → GoodSlot t R G l (sortOf (row % 512)) (m % 2) at
+    unfolding GoodFields
+    good-slot l row m at h g =
+        let x : GoodFields t R G l (fieldOf (row % 1024) ∷ fieldsIn (row / 1024)) m at = subst (λ (fs : List Field). GoodFields t R G l fs m at) (row-first row h) g in
+        subst (λ (s : Sort). GoodSlot t R G l s (m % 2) at) (first-sort row) (x .0)
+
+    pub good-rest : (l : Bool) (row m at q : ℕ) → 0 < row → q ≡ lookSlot t R (sortOf (row % 512)) (m % 2) at .next → GoodFields t R G l (fieldsIn row) m at
+        → GoodFields t R G l (fieldsIn (row / 1024)) (m / 2) q
+    unfolding GoodFields
+    good-rest l row m at q h e g =
+        let x : GoodFields t R G l (fieldOf (row % 1024) ∷ fieldsIn (row / 1024)) m at = subst (λ (fs : List Field). GoodFields t R G l fs m at) (row-first row h) g in
+        subst (λ (p : ℕ). GoodFields t R G l (fieldsIn (row / 1024)) (m / 2) p) (ap (λ (s : Sort). lookSlot t R s (m % 2) at .next) (first-sort row) ∙ sym e) (x .1)
+
+    pub good-item : (l h : Bool) (n at : ℕ) → 0 < n → GoodItems t R G l h n at → GoodItem t R G l h at
+    unfolding GoodItems
+    good-item l h zero at z g = absurd (omega arith)
+    good-item l h (suc n) at z g = g .0
+
+    pub good-items : (l h : Bool) (n at q : ℕ) → 0 < n → q ≡ lookItem t R h at .next → GoodItems t R G l h n at → GoodItems t R G l h (n - 1) q
+    unfolding GoodItems
+    good-items l h zero at q z e g = absurd (omega arith)
+    good-items l h (suc n) at q z e g =
+        let s : suc n - 1 ≡ n = omega arith in
+        rw (s, e) (g .1)
+
+    pub hole-does : {g g′ : Going} (l : Bool) (c : Place) (h : Bool) (at q : ℕ) → holeAt t h at ≡ true → q ≡ onward t at 1
+        → Does g g′ (say (puts (part at q t))) → GoodItem t R G l h at → Does g g′ (itemDeeds t R l c h at)
+    unfolding itemDeeds
+    hole-does l c h at q b w d good =
+        does-as d (ap (λ (x : ℕ). say (puts (part at x t))) w ∙ ap (λ (bs : List ℕ). say (puts bs)) (good .hole b) ∙ ap (λ (x : Bool). cond x (say (puts (0 ∷ []))) (emitsItem l c (R at .value))) (sym b))
+
+    pub node-does : {g g′ : Going} (l : Bool) (c : Place) (h : Bool) (at : ℕ) → holeAt t h at ≡ false → l ≡ false
+        → (G at → Does g g′ (emits c (R at .value))) → GoodItem t R G l h at → Does g g′ (itemDeeds t R l c h at)
+    unfolding itemDeeds
+    node-does l c h at b e d good =
+        does-as (d (good .node b))
+        (sym (emits-item c (R at .value)) ∙ ap (λ (x : Bool). emitsItem x c (R at .value)) (sym e) ∙ ap (λ (x : Bool). cond x (say (puts (0 ∷ []))) (emitsItem l c (R at .value))) (sym b))
+
+    pub statement-does : {g g′ : Going} (l : Bool) (c c′ : Place) (h : Bool) (at q m : ℕ) → holeAt t h at ≡ false → l ≡ true → q ≡ onward t at 2 → Wide t q m → c′ ≡ marking c m
+        → (G at → Does g g′ (emits c′ (R at .value))) → GoodItem t R G l h at → Does g g′ (itemDeeds t R l c h at)
+    unfolding itemDeeds
+    statement-does l c c′ h at q m b e k w v d good =
+        let n : Node = R at .value in
+        let i : m ≡ wideAt t (onward t at 2) = w .value ∙ ap (λ (x : ℕ). wideAt t x) k in
+        does-as (d (good .node b))
+        (ap (λ (x : Place). emits x n) v ∙ ap (λ (x : ℕ). emits (marking c x) n) i ∙ sym (good .begins b e c)
+        ∙ ap (λ (x : Bool). emitsItem x c n) (sym e) ∙ ap (λ (x : Bool). cond x (say (puts (0 ∷ []))) (emitsItem l c n)) (sym b))
+
+    stands-good : (l : Bool) (s : Sort) (bit at : ℕ) → (bit ≡ 0 → ⊥) → GoodSlot t R G l s bit at → GoodField t R G l s at
+    unfolding GoodSlot
+    stands-good l s zero at n g = absurd (n refl)
+    stands-good l s (suc b) at n g = g
+
+    module _ (l : Bool) (c : Place) (code bit at : ℕ) (stands : bit ≡ 0 → ⊥) where
+      -- by the class of the code
+      class-does : {g g′ : Going} (n : ℕ) → code / 32 ≡ n → (GoodField t R G l (sortFrom n (code % 32)) at → Does g g′ (emitsPiece l c (lookField t R (sortFrom n (code % 32)) at .value)))
+          → GoodSlot t R G l (sortOf code) bit at → Does g g′ (slotDeeds t R l c (sortOf code) bit at)
+      class-does n e d good =
+          does-as (d (subst (λ (k : ℕ). GoodField t R G l (sortFrom k (code % 32)) at) e (stands-good l (sortOf code) bit at stands good)))
+          (ap (λ (k : ℕ). emitsPiece l c (lookField t R (sortFrom k (code % 32)) at .value)) (sym e) ∙ stands-deeds R l c (sortOf code) bit at stands)
+
+      pub child-does : {g g′ : Going} → code / 32 ≡ 1 → (G at → Does g g′ (emits c (R at .value))) → GoodSlot t R G l (sortOf code) bit at → Does g g′ (slotDeeds t R l c (sortOf code) bit at)
+      unfolding GoodField lookField emitsPiece
+      child-does e d good = class-does 1 e d good
+
+      pub chosen-does : {g g′ : Going} → code / 32 ≡ 2 → (G at → Does g g′ (emits c (R at .value))) → GoodSlot t R G l (sortOf code) bit at → Does g g′ (slotDeeds t R l c (sortOf code) bit at)
+      unfolding GoodField lookField emitsPiece
+      chosen-does e d good = class-does 2 e d good
+
+      -- the count, then the items
+      list-does : {g g₁ g′ : Going} (h : Bool) (n q x : ℕ) → Wide t at n → q ≡ onward t at 2 → x ≡ q → Does g g₁ (say (puts (part at q t)))
+          → (GoodItems t R G l h n x → Does g₁ g′ (emitsItems l c (lookItems t R h n x .value))) → GoodList t R G l h at
+          → Does g g′ (say (puts (wideBytes (count (lookItems t R h (wideAt t at) (onward t at 2) .value)))) ▷ emitsItems l c (lookItems t R h (wideAt t at) (onward t at 2) .value))
+      list-does h n q x w e f d k good =
+          let y : x ≡ onward t at 2 = f ∙ e in
+          let i : GoodItems t R G l h n x = rw (w .value, y) (good .items) in
+          does-as (does-then d (k i))
+          (ap (λ (z : ℕ). say (puts (part at z t)) ▷ emitsItems l c (lookItems t R h n x .value)) e
+          ∙ ap (λ (bs : List ℕ). say (puts bs) ▷ emitsItems l c (lookItems t R h n x .value)) (good .head)
+          ∙ ap (λ (m : ℕ). say (puts (wideBytes (count (lookItems t R h (wideAt t at) (onward t at 2) .value)))) ▷ emitsItems l c (lookItems t R h m x .value)) (w .value)
+          ∙ ap (λ (z : ℕ). say (puts (wideBytes (count (lookItems t R h (wideAt t at) (onward t at 2) .value)))) ▷ emitsItems l c (lookItems t R h (wideAt t at) z .value)) y)
+
+      pub many-does : {g g₁ g′ : Going} (n q x : ℕ) → code / 32 ≡ 3 → Wide t at n → q ≡ onward t at 2 → x ≡ q → Does g g₁ (say (puts (part at q t)))
+          → (GoodItems t R G l false n x → Does g₁ g′ (emitsItems l c (lookItems t R false n x .value)))
+          → GoodSlot t R G l (sortOf code) bit at → Does g g′ (slotDeeds t R l c (sortOf code) bit at)
+      unfolding GoodField lookField emitsPiece
+      many-does n q x e w f i d k good = class-does 3 e (λ z. list-does false n q x w f i d k z) good
+
+      pub gaps-does : {g g₁ g′ : Going} (n q x : ℕ) → code / 32 ≡ 4 → Wide t at n → q ≡ onward t at 2 → x ≡ q → Does g g₁ (say (puts (part at q t)))
+          → (GoodItems t R G l true n x → Does g₁ g′ (emitsItems l c (lookItems t R true n x .value)))
+          → GoodSlot t R G l (sortOf code) bit at → Does g g′ (slotDeeds t R l c (sortOf code) bit at)
+      unfolding GoodField lookField emitsPiece
+      gaps-does n q x e w f i d k good = class-does 4 e (λ z. list-does true n q x w f i d k z) good
+
+    -- a piece without nodes is copied
+    leaf-piece : (l : Bool) (c : Place) (class a at : ℕ) → NoKey Unit 1 4 class → GoodField t R G l (sortFrom class a) at
+        → say (puts (part at (lookField t R (sortFrom class a) at .next) t)) ≡ emitsPiece l c (lookField t R (sortFrom class a) at .value)
+    unfolding GoodField lookField emitsPiece encodePiece
+    leaf-piece l c zero a at h g = ap (λ (bs : List ℕ). say (puts bs)) (g .bytes)
+    leaf-piece l c (suc zero) a at h g = absurd (omega (arith, no-key Unit 1 4 1 h (omega arith)))
+    leaf-piece l c (suc (suc zero)) a at h g = absurd (omega (arith, no-key Unit 1 4 2 h (omega arith)))
+    leaf-piece l c (suc (suc (suc zero))) a at h g = absurd (omega (arith, no-key Unit 1 4 3 h (omega arith)))
+    leaf-piece l c (suc (suc (suc (suc zero)))) a at h g = absurd (omega (arith, no-key Unit 1 4 4 h (omega arith)))
+    leaf-piece l c (suc (suc (suc (suc (suc zero))))) a at h g = ap (λ (bs : List ℕ). say (puts bs)) (g .bytes)
+    leaf-piece l c (suc (suc (suc (suc (suc (suc zero)))))) a at h g = ap (λ (bs : List ℕ). say (puts bs)) (g .bytes) ∙ sym (marks-are (wideAt t at) (g .positive (wideAt t at) refl))
+    leaf-piece l c (suc (suc (suc (suc (suc (suc (suc zero))))))) a at h g = ap (λ (bs : List ℕ). say (puts bs)) (g .bytes)
+    leaf-piece l c (suc (suc (suc (suc (suc (suc (suc (suc zero)))))))) a at h g = ap (λ (bs : List ℕ). say (puts bs)) (g .bytes)
+    leaf-piece l c (suc (suc (suc (suc (suc (suc (suc (suc (suc zero))))))))) a at h g = ap (λ (bs : List ℕ). say (puts bs)) (g .bytes)
+    leaf-piece l c (suc (suc (suc (suc (suc (suc (suc (suc (suc (suc n)))))))))) a at h g = ap (λ (bs : List ℕ). say (puts bs)) (g .bytes)
+
+    pub leaf-does : {g g′ : Going} (l : Bool) (c : Place) (code bit at q : ℕ) → (bit ≡ 0 → ⊥) → NoKey Unit 1 4 (code / 32) → q ≡ lookSlot t R (sortOf code) bit at .next
+        → Does g g′ (say (puts (part at q t))) → GoodSlot t R G l (sortOf code) bit at → Does g g′ (slotDeeds t R l c (sortOf code) bit at)
+    leaf-does l c code bit at q n k e d good =
+        does-as d
+        (ap (λ (z : ℕ). say (puts (part at z t))) (e ∙ stands-next R (sortOf code) bit at n)
+        ∙ leaf-piece l c (code / 32) (code % 32) at k (stands-good l (sortOf code) bit at n good)
+        ∙ stands-deeds R l c (sortOf code) bit at n)
+
+  -- ---- a node
+
+  pub good-none : {A : Type 0} (d at : ℕ) → d ≡ 0 → Good t d at → A
+  unfolding Good
+  good-none zero at z g = absurd g
+  good-none (suc d) at z g = absurd (omega arith)
+
+  -- the same with the levels written in another way
+  pub deeper : {g g′ : Going} (c : Place) (d e at : ℕ) → e ≡ d → (Good t e at → Does g g′ (emits c (lookNode t e at .value))) → Good t d at → Does g g′ (emits c (lookNode t d at .value))
+  deeper {g = g} {g′ = g′} c d e at h k = subst (λ (z : ℕ). Good t z at → Does g g′ (emits c (lookNode t z at .value))) h k
+
+  pub deeper-next : (d e at s : ℕ) → e ≡ d → s ≡ lookNode t e at .next → s ≡ lookNode t d at .next
+  deeper-next d e at s h k = k ∙ ap (λ (z : ℕ). lookNode t z at .next) h
+
+  stays-is : (c : Place) (at k : ℕ) (fs : Fields) → eqb k 20 ≡ false → eqb k 21 ≡ false
+      → stays c (node at k fs) ≡ say (puts (k ∷ mapOf fs ∷ [])) ▷ emitsFields (isContainer k) (below c (node at k fs)) fs
+  unfolding stays
+  stays-is c at k fs e f = rw (e, f) refl
+
+  kind-there : (d at k : ℕ) → Peeked t at k → Good t d at → kind (lookNode t d at .value) ≡ k
+  unfolding Good lookNode
+  kind-there zero at k p g = absurd g
+  kind-there (suc d) at k p g = sym (p .value)
+
+  pub emits-does : {g g′ : Going} (c : Place) (d at k : ℕ) → Peeked t at k → ruleOf k ≡ nowhere → (Good t d at → Does g g′ (stays c (lookNode t d at .value))) → Good t d at → Does g g′ (emits c (lookNode t d at .value))
+  emits-does c d at k p z f good = does-as (f good) (sym (emits-nowhere c (lookNode t d at .value) (ap ruleOf (kind-there d at k p good) ∙ z)))
+
+  module _ (c c′ : Place) (d at k m row p q e x : ℕ) (l : Bool) (kinds : k ≡ byteAt t at) (second : p ≡ onward t at 1) (map : m ≡ byteAt t p)
+      (rows : fieldsIn row ≡ fieldsOf k) (third : q ≡ onward t at 2) (moved : x ≡ q) (containers : l ≡ isContainer k) (places : (at : ℕ) (fs : Fields) → c′ ≡ below c (node at k fs)) where
+    fields-here : e ≡ d → GoodHere t (λ z. lookNode t d z) (λ l fs m z. GoodFields t (λ z. lookNode t d z) (λ z. Good t d z) l fs m z) at
+        → GoodFields t (lookNode t e) (Good t e) l (fieldsIn row) m x
+    fields-here u g = rw (u, moved, third, containers, rows, map, second, kinds) (g .below)
+
+    deeds-here : e ≡ d → (g : GoodHere t (λ z. lookNode t d z) (λ l fs m z. GoodFields t (λ z. lookNode t d z) (λ z. Good t d z) l fs m z) at)
+        → say (puts (part at q t)) ▷ emitsFields l c′ (lookFields t (lookNode t e) (fieldsIn row) m x .value) ≡ stays c (lookNode t (suc d) at .value)
+    unfolding lookNode
+    deeds-here u g =
+        let fs : Fields = lookFields t (λ z. lookNode t d z) (fieldsOf (byteAt t at)) (byteAt t (onward t at 1)) (onward t at 2) .value in
+        let a : say (puts (part at q t)) ≡ say (puts (byteAt t at ∷ mapOf fs ∷ [])) = ap (λ (z : ℕ). say (puts (part at z t))) third ∙ ap (λ (bs : List ℕ). say (puts bs)) (g .head) in
+        let b : lookFields t (lookNode t e) (fieldsIn row) m x .value ≡ fs = rw (u, moved, third, rows, map, second, kinds) refl in
+        let v : c′ ≡ below c (node at (byteAt t at) fs) = places at fs ∙ ap (λ (z : ℕ). below c (node at z fs)) kinds in
+        let w : l ≡ isContainer (byteAt t at) = containers ∙ ap (λ (z : ℕ). isContainer z) kinds in
+        ap (λ (z : Emit). z ▷ emitsFields l c′ (lookFields t (lookNode t e) (fieldsIn row) m x .value)) a
+        ∙ ap (λ (z : Fields). say (puts (byteAt t at ∷ mapOf fs ∷ [])) ▷ emitsFields l c′ z) b
+        ∙ ap (λ (z : Place). say (puts (byteAt t at ∷ mapOf fs ∷ [])) ▷ emitsFields l z fs) v
+        ∙ ap (λ (z : Bool). say (puts (byteAt t at ∷ mapOf fs ∷ [])) ▷ emitsFields z (below c (node at (byteAt t at) fs)) fs) w
+        ∙ sym (stays-is c at (byteAt t at) fs (g .temporary) (g .helper))
+
+    pub plain-here : {g g₁ g′ : Going} → e ≡ d → Does g g₁ (say (puts (part at q t)))
+        → (GoodFields t (lookNode t e) (Good t e) l (fieldsIn row) m x → Does g₁ g′ (emitsFields l c′ (lookFields t (lookNode t e) (fieldsIn row) m x .value)))
+        → Good t (suc d) at → Does g g′ (stays c (lookNode t (suc d) at .value))
+    unfolding Good
+    plain-here u a b good = does-as (does-then a (b (fields-here u good))) (deeds-here u good)
+
+  pub plain-does : {g g₁ g′ : Going} (c c′ : Place) (d at k m row p q e x : ℕ) (l : Bool) → (d ≡ 0 → ⊥) → k ≡ byteAt t at → p ≡ onward t at 1 → m ≡ byteAt t p
+      → fieldsIn row ≡ fieldsOf k → q ≡ onward t at 2 → x ≡ q → l ≡ isContainer k → ((at : ℕ) (fs : Fields) → c′ ≡ below c (node at k fs)) → e ≡ d - 1
+      → Does g g₁ (say (puts (part at q t)))
+      → (GoodFields t (lookNode t e) (Good t e) l (fieldsIn row) m x → Does g₁ g′ (emitsFields l c′ (lookFields t (lookNode t e) (fieldsIn row) m x .value)))
+      → Good t d at → Does g g′ (stays c (lookNode t d at .value))
+  plain-does c c′ zero at k m row p q e x l z a b f r h i j v u = absurd (z refl)
+  plain-does c c′ (suc d) at k m row p q e x l z a b f r h i j v u = plain-here c c′ d at k m row p q e x l a b f r h i j v (omega arith)
+
+  pub plain-next : (d at k m row p q e x s : ℕ) → (d ≡ 0 → ⊥) → k ≡ byteAt t at → p ≡ onward t at 1 → m ≡ byteAt t p
+      → fieldsIn row ≡ fieldsOf k → q ≡ onward t at 2 → x ≡ q → e ≡ d - 1 → s ≡ lookFields t (lookNode t e) (fieldsIn row) m x .next → s ≡ lookNode t d at .next
+  plain-next d at k m row p q e x s z a b f r h i u v =
+      skipping.node-fields t d at k m row p x s z a b f r (i ∙ h) (v ∙ ap (λ (y : ℕ). lookFields t (lookNode t y) (fieldsIn row) m x .next) u)
+
+-- ---- tests of the code
+
+pub and-no : (a b : Bool) → b ≡ true → false ≡ a && not b
+and-no true b e = rw e refl
+and-no false b e = refl
+
+pub and-yes : (a b : Bool) → b ≡ false → a ≡ a && not b
+and-yes true b e = rw e refl
+and-yes false b e = refl
+
+pub or-third : (k : ℕ) (b : Bool) → k ≡ 3 → true ≡ eqb k 3 || (eqb k 31 && b)
+or-third k b e = rw e refl
+
+pub or-given : (k : ℕ) (b : Bool) → k ≡ 31 → b ≡ eqb k 3 || (eqb k 31 && b)
+or-given k b e = rw e refl
+
+pub or-none : (k : ℕ) (b : Bool) → (k ≡ 3 → ⊥) → (k ≡ 31 → ⊥) → false ≡ eqb k 3 || (eqb k 31 && b)
+or-none k b e f = rw (ne-eqb k 3 e, ne-eqb k 31 f) refl
+
+pub below-is : (c : Place) (at k : ℕ) (fs : Fields) (r s i : Bool) → i ≡ opensScope k → r ≡ c .root && not i → s ≡ eqb k 3 || (eqb k 31 && c .statement)
+    → record { root = r; statement = s; mark = c .mark } ≡ below c (node at k fs)
+unfolding below is
+below-is c at k fs r s i e f g =
+    let h : r ≡ c .root && not (opensScope k) = f ∙ ap (λ (x : Bool). c .root && not x) e in
+    λ j. record { root = (h) j; statement = (g) j; mark = c .mark }
+
+pub or-taken : (k n : ℕ) (x : Bool) → k ≡ n → eqb k n ≡ eqb k n || x
+or-taken k n x e = rw (eq-eqb k n e) refl
+
+pub or-left : (k n : ℕ) (x y : Bool) → (k ≡ n → ⊥) → y ≡ x → y ≡ eqb k n || x
+or-left k n x y e h = rw (ne-eqb k n e) h
+
+seven : (a b c d e f g : Bool) → a || (b || (c || (d || (e || (f || g))))) ≡ a || b || c || d || e || f || g
+seven true b c d e f g = refl
+seven false true c d e f g = refl
+seven false false true d e f g = refl
+seven false false false true e f g = refl
+seven false false false false true f g = refl
+seven false false false false false true g = refl
+seven false false false false false false g = refl
+
+pub scope-is : (k : ℕ) → eqb k 2 || (eqb k 6 || (eqb k 7 || (eqb k 8 || (eqb k 10 || (eqb k 14 || eqb k 17))))) ≡ opensScope k
+unfolding opensScope
+scope-is k = seven (eqb k 2) (eqb k 6) (eqb k 7) (eqb k 8) (eqb k 10) (eqb k 14) (eqb k 17)
+
+three : (a b c : Bool) → a || (b || c) ≡ a || b || c
+three true b c = refl
+three false true c = refl
+three false false c = refl
+
+pub container-is : (k : ℕ) → eqb k 1 || (eqb k 2 || eqb k 16) ≡ isContainer k
+unfolding isContainer
+container-is k = three (eqb k 1) (eqb k 2) (eqb k 16)

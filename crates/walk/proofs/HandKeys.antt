@@ -1,0 +1,440 @@
+-- What is handed out for the keys of an object, and for an object by its mode.
+-- Assumes nothing.
+use mathlib.Core.Path.{_≡_, refl, sym, ap, ap₂, _∙_, subst}
+use mathlib.Core.Bool.{Bool, true, false, true≢false}
+use mathlib.Core.List.{List, [], _∷_, _++_}
+use mathlib.Core.Option.{Option, some}
+use Prim.Native.Nat.{ℕ, zero, suc, _+_, _-_, _/_, _%_, _≤_, _<_, min}
+use native.Mathlib.Omega.{arith}
+use lib.Dec.{eqb, leb}
+use lib.ListN.{length, take, drop, length-append, length-take, length-drop}
+use lib.Seq.{take-nil}
+use borrow.Author.Tests.{eqb-true, eq-eqb, ne-eqb, leb-true}
+use Rattle.tree.specs.Tree.{Node, Fields, Piece, wideBytes, count, encode, encodeFields, encodePiece}
+use Rattle.tree.specs.Tree.Node.{node}
+use Rattle.tree.specs.Tree.Fields.{done, absent, field}
+use Rattle.tree.specs.Tree.Piece.{one, list, text, byte, mark, number}
+use Rattle.tree.specs.Grammar.{Sort, fieldsOf}
+use Rattle.tree.specs.Read.{byteAt, wideAt}
+use Rattle.tree.specs.Answer.{Wide}
+use Rattle.tree.specs.Look.{Seen, onward, lookItems, lookNode, seekFields}
+use Rattle.lowering.specs.Parts.{position, is, nodeAt, itemsAt, textAt, pieceIn, asText}
+use Rattle.lowering.specs.Made.{Context}
+use Rattle.lowering.specs.Patterns.{properties, key}
+use Rattle.lowering.specs.Keys.{keySort, excludedKeys}
+use Rattle.lowering.proofs.All.{AllItems}
+use Rattle.lowering.proofs.Cases.{by-test}
+use Rattle.sink.specs.Machine.{part}
+use Rattle.sink.specs.Machine.Event.{make, listedTemporary, excludedTemporary, declarator}
+use Rattle.pattern.specs.declared.parts.Part.{Part}
+use Rattle.pattern.specs.declared.parts.Part.the-variants.{One, Many, Text, Number, Missing}
+use Rattle.pattern.specs.declared.keys.Key.{Key}
+use Rattle.pattern.specs.declared.keys.Key.the-variants.{Name, Literal, NoForm, Template, Private, Again, Other}
+use Rattle.pattern.specs.Tally.{limited}
+use Rattle.pattern.specs.Parts.{sortAt, textOf, partOf, partIn, partAt}
+use Rattle.pattern.specs.Keys.{nameIn, formIn, keyAt}
+use Rattle.pattern.proofs.KeyCases.{by-sort}
+use Rattle.pattern.proofs.Places.{textIn, text-part}
+use Rattle.pattern.proofs.Sizes.{counted-whole, excluded-fit}
+use Rattle.direct.specs.Events as events
+use Rattle.direct.specs.Events.{Emit, Deed, lists, excludes}
+use Rattle.direct.specs.Events.Deed.{does}
+use Rattle.direct.specs.Emit.{say, _▷_, inTurn}
+use Rattle.direct.specs.Views.{nameless, isOther}
+use Rattle.direct.specs.Keys.{stringBytes, entries, hoists}
+use Rattle.direct.specs.Handed.{placeMade, keyMade, keysMade, keyBytes, excludesOf, handsKey, handsKeys, handsPlace}
+use Rattle.direct.proofs.Threads.{say-say}
+use Rattle.direct.proofs.RestValues.{entries-are}
+use Rattle.walk.specs.Run.{Going, Does}
+use Rattle.walk.specs.Whole.{GoodItems, Good}
+use Rattle.walk.specs.Turns.{ownOf, keyOf, keyBytesOf}
+use Rattle.walk.proofs.Running.{does-then, does-nothing, does-as}
+use Rattle.walk.proofs.Opened.{position-here, good-copied, good-short, good-within, object-open, property-open}
+use Rattle.walk.proofs.Hands.{at-level, list-from}
+
+-- ---- cells
+
+pub cell-1 : (at : ℕ) → at ≡ events.cell 1 at
+unfolding events.cell
+cell-1 at = omega arith
+
+pub cell-4 : (at : ℕ) → at ≡ events.cell 4 at
+unfolding events.cell
+cell-4 at = omega arith
+
+-- ---- one property, by a mode
+
+module _ (q : Node) where
+  key-3 : say (excludes (keyBytesOf (key q))) ≡ keyOf 3 q
+  unfolding keyOf keyBytes keyBytesOf
+  key-3 = refl
+
+  key-1 : keyMade q ≡ keyOf 1 q
+  unfolding keyOf
+  key-1 = refl
+
+  key-else : (mode : ℕ) → (mode ≡ 3 → ⊥) → (mode ≡ 1 → ⊥) → handsKey q ≡ keyOf mode q
+  unfolding keyOf
+  key-else mode a b = rw (ne-eqb mode 3 a, ne-eqb mode 1 b) refl
+
+  made-yes : isOther (key q) ≡ true → say (does (make (events.cell 4 (position q))) ∷ []) ≡ keyMade q
+  unfolding keyMade
+  made-yes e = rw e refl
+
+  made-no : isOther (key q) ≡ false → say [] ≡ keyMade q
+  unfolding keyMade
+  made-no e = rw e refl
+
+  hands-yes : isOther (key q) ≡ true → say (lists (5 ∷ 3 ∷ []) ++ (does (listedTemporary (events.cell 4 (position q))) ∷ lists (encode (key q)))) ≡ handsKey q
+  unfolding handsKey
+  hands-yes e = rw e refl
+
+  hands-no : isOther (key q) ≡ false → say [] ≡ handsKey q
+  unfolding handsKey
+  hands-no e = rw e refl
+
+pub three-say : (a b c : List Deed) → say a ▷ say b ▷ say c ≡ say (a ++ (b ++ c))
+three-say a b c = ap (λ (x : Emit). say a ▷ x) (say-say b c) ∙ say-say a (b ++ c)
+
+module _ (t : List ℕ) (left d at k mode : ℕ) (e : d ≡ left - 1) (a : k ≡ onward t at 2) where
+  -- the key of the property
+  key-here : Good t (suc d) at → byteAt t at ≡ 35 → lookNode t d k .value ≡ key (lookNode t (suc d) at .value)
+  unfolding nodeAt pieceIn
+  key-here g kind = ap (λ (x : ℕ). lookNode t d x .value) a ∙ ap (λ (s : Seen Node). key (s .value)) (sym (property-open t d at g kind .whole))
+
+  key-good : Good t (suc d) at → byteAt t at ≡ 35 → Good t d k
+  key-good g kind = subst (λ (x : ℕ). Good t d x) (sym a) (property-open t d at g kind .key)
+
+  pub key-excluded : {g g′ : Going} → mode ≡ 3 → (Good t d k → Does g g′ (say (excludes (keyBytesOf (lookNode t d k .value)))))
+      → Good t left at → byteAt t at ≡ 35 → Does g g′ (keyOf mode (lookNode t left at .value))
+  key-excluded {g = g} {g′ = g′} m f good kind =
+      at-level t (λ (x : ℕ). Does g g′ (keyOf mode (lookNode t x at .value))) left d at e good
+      (λ here.
+      let n = lookNode t (suc d) at .value in
+      does-as (f (key-good here kind)) (ap (λ (x : Node). say (excludes (keyBytesOf x))) (key-here here kind) ∙ key-3 n ∙ ap (λ (x : ℕ). keyOf x n) (sym m)))
+
+  pub key-made : {g g′ : Going} (b : Bool) → b ≡ isOther (lookNode t d k .value) → b ≡ true → mode ≡ 1 → Does g g′ (say (does (make at) ∷ []))
+      → Good t left at → byteAt t at ≡ 35 → Does g g′ (keyOf mode (lookNode t left at .value))
+  key-made {g = g} {g′ = g′} b f y m h good kind =
+      at-level t (λ (x : ℕ). Does g g′ (keyOf mode (lookNode t x at .value))) left d at e good
+      (λ here.
+      let n = lookNode t (suc d) at .value in
+      let o : isOther (key n) ≡ true = ap isOther (sym (key-here here kind)) ∙ sym f ∙ y in
+      let c : at ≡ events.cell 4 (position n) = cell-4 at ∙ ap (events.cell 4) (sym (position-here t (suc d) at)) in
+      does-as h (ap (λ (x : ℕ). say (does (make x) ∷ [])) c ∙ made-yes n o ∙ key-1 n ∙ ap (λ (x : ℕ). keyOf x n) (sym m)))
+
+  pub key-listed : {g g₁ g₂ g′ : Going} (b : Bool) (end : ℕ) → b ≡ isOther (lookNode t d k .value) → b ≡ true → (mode ≡ 3 → ⊥) → (mode ≡ 1 → ⊥) → end ≡ lookNode t d k .next
+      → Does g g₁ (say (lists (5 ∷ 3 ∷ []))) → Does g₁ g₂ (say (does (listedTemporary at) ∷ [])) → Does g₂ g′ (say (lists (part k end t)))
+      → Good t left at → byteAt t at ≡ 35 → Does g g′ (keyOf mode (lookNode t left at .value))
+  key-listed {g = g} {g′ = g′} b end f y m m′ w h i j good kind =
+      at-level t (λ (x : ℕ). Does g g′ (keyOf mode (lookNode t x at .value))) left d at e good
+      (λ here.
+      let n = lookNode t (suc d) at .value in
+      let o : isOther (key n) ≡ true = ap isOther (sym (key-here here kind)) ∙ sym f ∙ y in
+      let c : at ≡ events.cell 4 (position n) = cell-4 at ∙ ap (events.cell 4) (sym (position-here t (suc d) at)) in
+      let bytes : part k end t ≡ encode (key n) = ap (λ (x : ℕ). part k x t) w ∙ good-copied t d k (key-good here kind) ∙ ap encode (key-here here kind) in
+      does-as (does-then h (does-then i j))
+      (three-say (lists (5 ∷ 3 ∷ [])) (does (listedTemporary at) ∷ []) (lists (part k end t))
+      ∙ ap₂ (λ (x : ℕ) (bs : List ℕ). say (lists (5 ∷ 3 ∷ []) ++ (does (listedTemporary x) ∷ lists bs))) c bytes
+      ∙ hands-yes n o ∙ key-else n mode m m′))
+
+  pub key-none : {g : Going} (b : Bool) → b ≡ isOther (lookNode t d k .value) → b ≡ false → (mode ≡ 3 → ⊥)
+      → Good t left at → byteAt t at ≡ 35 → Does g g (keyOf mode (lookNode t left at .value))
+  key-none {g = g} b f y m good kind =
+      at-level t (λ (x : ℕ). Does g g (keyOf mode (lookNode t x at .value))) left d at e good
+      (λ here.
+      let n = lookNode t (suc d) at .value in
+      let o : isOther (key n) ≡ false = ap isOther (sym (key-here here kind)) ∙ sym f ∙ y in
+      does-as (does-nothing g)
+      (by-test (eqb mode 1)
+      (λ x. made-no n o ∙ key-1 n ∙ ap (λ (z : ℕ). keyOf z n) (sym (eqb-true mode 1 x)))
+      (λ x. hands-no n o ∙ key-else n mode m (λ z. true≢false (sym (eq-eqb mode 1 z) ∙ x)))))
+
+-- all properties of an object
+module _ (t : List ℕ) (left d at q p n : ℕ) (e : d ≡ left - 1) (a : q ≡ onward t at 2) (b : p ≡ onward t q 2) (w : Wide t q n) where
+  pub keys-do : {g g₁ : Going} (mode : ℕ)
+      → (GoodItems t (lookNode t d) (Good t d) false false n p → AllItems (λ q. is 35 q ≡ true) (lookItems t (lookNode t d) false n p .value)
+      → Does g g₁ (inTurn (keyOf mode) (lookItems t (lookNode t d) false n p .value)))
+      → Good t left at → byteAt t at ≡ 34 → Does g g₁ (inTurn (keyOf mode) (properties (lookNode t left at .value)))
+  unfolding itemsAt pieceIn
+  keys-do {g = g} {g₁ = g₁} mode k good kind =
+      at-level t (λ (m : ℕ). Does g g₁ (inTurn (keyOf mode) (properties (lookNode t m at .value)))) left d at e good
+      (λ here.
+      let u = object-open t d at here kind in
+      let done = list-from t left d at q p n e a b w (λ (m y : ℕ). GoodItems t (lookNode t d) (Good t d) false false m y → AllItems (λ q. is 35 q ≡ true) (lookItems t (lookNode t d) false m y .value) → Does g g₁ (inTurn (keyOf mode) (lookItems t (lookNode t d) false m y .value))) k (u .list .good) (u .properties) in
+      by-test (eqb (byteAt t (onward t at 1) / 2 % 2) 1)
+      (λ bit. does-as done (ap (λ (s : Seen Node). inTurn (keyOf mode) (properties (s .value))) (sym (u .resting bit))))
+      (λ bit. does-as done (ap (λ (s : Seen Node). inTurn (keyOf mode) (properties (s .value))) (sym (u .plain bit)))))
+
+-- ---- the bytes of a key
+
+cut-list : (p n : ℕ) (l : List ℕ) → drop p (take (p + n) l) ≡ take n (drop p l)
+cut-list zero n l = let e : 0 + n ≡ n = omega arith in rw e refl
+cut-list (suc p) n [] = let e : suc p + n ≡ suc (p + n) = omega arith in rw e (sym (take-nil n))
+cut-list (suc p) n (x ∷ l) = let e : suc p + n ≡ suc (p + n) = omega arith in rw e (cut-list p n l)
+
+-- a text has no more bytes than its node
+text-piece : (p : Piece) → length (asText p) ≤ length (encodePiece p)
+unfolding encodePiece
+text-piece (one n) = omega arith
+text-piece (list is) = omega arith
+text-piece (text bs) = let a = length-append (wideBytes (length bs)) bs in omega arith
+text-piece (byte b) = omega arith
+text-piece (mark b) = omega arith
+text-piece (number b) = omega arith
+
+text-fields : (fs : Fields) (i : ℕ) → length (asText (pieceIn fs i)) ≤ length (encodeFields fs)
+unfolding pieceIn encodeFields
+text-fields done i = omega arith
+text-fields (absent fs) zero = omega arith
+text-fields (absent fs) (suc i) = text-fields fs i
+text-fields (field p fs) zero = let a = length-append (encodePiece p) (encodeFields fs) in let b = text-piece p in omega arith
+text-fields (field p fs) (suc i) = let a = length-append (encodePiece p) (encodeFields fs) in let b = text-fields fs i in omega arith
+
+text-size : (i : ℕ) (n : Node) → length (textAt i n) ≤ length (encode n)
+unfolding textAt encode
+text-size i (node at k fs) = let a = text-fields fs i in omega arith
+
+module _ (t : List ℕ) where
+  -- where a text stands
+  abbrev PartFits : Part → Type 0
+  PartFits (One q) = Unit {0}
+  PartFits (Many h n p) = Unit {0}
+  PartFits (Text p n) = p + n ≤ length t
+  PartFits Number = Unit {0}
+  PartFits Missing = Unit {0}
+
+  on-below : (at n : ℕ) → onward t at n ≤ length t
+  unfolding onward
+  on-below at n = by-test (leb (at + n) (length t)) (λ e. rw e (leb-true (at + n) (length t) e)) (λ e. rw e (omega arith))
+
+  part-of : (s : Sort) (q : ℕ) → PartFits (partOf t s q)
+  unfolding partOf textOf
+  part-of (Sort.child p) q = tt
+  part-of (Sort.chosen p r) q = tt
+  part-of (Sort.many p) q = tt
+  part-of (Sort.gaps p) q = tt
+  part-of Sort.text q = let a = on-below q 2 in let b = on-below q (2 + wideAt t q) in omega arith
+  part-of (Sort.byte a b) q = tt
+  part-of Sort.mark q = tt
+  part-of Sort.number q = tt
+
+  part-in : (s : Sort) (o : Option ℕ) → PartFits (partIn t s o)
+  part-in s Option.none = tt
+  part-in s (some q) = part-of s q
+
+  part-at : (d at i : ℕ) → PartFits (partAt t d at i)
+  unfolding partAt
+  part-at zero at i = tt
+  part-at (suc d) at i =
+      part-in (sortAt (fieldsOf (byteAt t at)) i) (seekFields t (lookNode t d) (fieldsOf (byteAt t at)) (byteAt t (onward t at 1)) (onward t at 2) i)
+
+  -- a key as the code has it: where its bytes stand, and what they are
+  pub record KeyAs (k : Node) (p n : ℕ) : Type 0 where
+    pub small : n < 65536
+    pub room : p + n ≤ length t
+    pub bytes : stringBytes (part p (p + n) t) ≡ keyBytesOf k
+
+  abbrev KeyIs : Node → Key → Type 0
+  KeyIs k (Name p n) = KeyAs k p n
+  KeyIs k (Literal p n) = KeyAs k p n
+  KeyIs k NoForm = KeyAs k 0 0
+  KeyIs k Template = encode k ≡ keyBytesOf k
+  KeyIs k Private = [] ≡ keyBytesOf k
+  KeyIs k Again = [] ≡ keyBytesOf k
+  KeyIs k Other = [] ≡ keyBytesOf k
+
+  cut-is : (p n : ℕ) → part p (p + n) t ≡ take n (drop p t)
+  unfolding part
+  cut-is p n = cut-list p n t
+
+  module _ (k : Node) (bs : List ℕ) (short : length bs ≤ 16384) (is-bytes : stringBytes bs ≡ keyBytesOf k) where
+    text-as : (p n : ℕ) → p + n ≤ length t → bs ≡ take n (drop p t) → KeyAs k p n
+    text-as p n h e =
+        let m : length bs ≡ min n (length t - p) = ap length e ∙ length-take n (drop p t) ∙ ap (min n) (length-drop p t) in
+        record { small = omega arith; room = h; bytes = ap (λ (x : List ℕ). stringBytes x) (cut-is p n ∙ sym e) ∙ is-bytes }
+
+    none-as : bs ≡ [] → KeyAs k 0 0
+    none-as e = text-as 0 0 (omega arith) e
+
+    name-as : (x : Part) → PartFits x → bs ≡ textIn t x → KeyIs k (nameIn x)
+    unfolding nameIn
+    name-as (One q) f e = none-as e
+    name-as (Many h n p) f e = none-as e
+    name-as (Text p n) f e = text-as p n f e
+    name-as Number f e = none-as e
+    name-as Missing f e = none-as e
+
+    form-as : (x : Part) → PartFits x → bs ≡ textIn t x → KeyIs k (formIn x)
+    unfolding formIn
+    form-as (One q) f e = none-as e
+    form-as (Many h n p) f e = none-as e
+    form-as (Text p n) f e = text-as p n f e
+    form-as Number f e = none-as e
+    form-as Missing f e = none-as e
+
+  module _ (d at : ℕ) (good : Good t d at) where
+    abbrev this : Node
+    this = lookNode t d at .value
+
+    short-text : (i : ℕ) → length (textAt i this) ≤ 16384
+    short-text i = let a = text-size i this in let b = good-short t d at good in omega arith
+
+    key-is : KeyIs this (keyAt t d at)
+    unfolding keyAt keyBytesOf
+    key-is =
+        by-sort (keySort this)
+        (λ s. rw s (name-as this (textAt 0 this) (short-text 0) (rw (s, keyBytesOf) refl) (partAt t d at 0) (part-at d at 0) (text-part t d at 0)))
+        (λ s. rw s (form-as this (textAt 2 this) (short-text 2) (rw (s, keyBytesOf) refl) (partAt t d at 2) (part-at d at 2) (text-part t d at 2)))
+        (λ s. rw s (rw (s, keyBytesOf) refl))
+        (λ s. rw s (rw (s, keyBytesOf) refl))
+        (λ s. rw s (rw (s, keyBytesOf) refl))
+        (λ s. rw s (rw (s, keyBytesOf) refl))
+
+    key-as : (r x : Key) → r ≡ keyAt t d at → r ≡ x → KeyIs this x
+    key-as r x e f = subst (KeyIs this) (sym e ∙ f) key-is
+
+  -- the ways out of `exclude_key`
+  module _ (d at : ℕ) (r : Key) (e : r ≡ keyAt t d at) where
+    abbrev that : Node
+    that = lookNode t d at .value
+
+    string-does : {g g′ : Going} (p n : ℕ) → (n < 65536 → p + n ≤ length t → Does g g′ (say (excludes (stringBytes (part p (p + n) t))))) → KeyAs that p n → Does g g′ (say (excludes (keyBytesOf that)))
+    string-does p n k a = does-as (k (a .small) (a .room)) (ap (λ (bs : List ℕ). say (excludes bs)) (a .bytes))
+
+    pub name-does : {g g′ : Going} (p n : ℕ) → r ≡ Name p n → (n < 65536 → p + n ≤ length t → Does g g′ (say (excludes (stringBytes (part p (p + n) t)))))
+        → Good t d at → Does g g′ (say (excludes (keyBytesOf that)))
+    name-does p n f k good = string-does p n k (key-as d at good r (Name p n) e f)
+
+    pub literal-does : {g g′ : Going} (p n : ℕ) → r ≡ Literal p n → (n < 65536 → p + n ≤ length t → Does g g′ (say (excludes (stringBytes (part p (p + n) t)))))
+        → Good t d at → Does g g′ (say (excludes (keyBytesOf that)))
+    literal-does p n f k good = string-does p n k (key-as d at good r (Literal p n) e f)
+
+    pub formless-does : {g g′ : Going} → r ≡ NoForm → (0 < 65536 → 0 + 0 ≤ length t → Does g g′ (say (excludes (stringBytes (part 0 (0 + 0) t)))))
+        → Good t d at → Does g g′ (say (excludes (keyBytesOf that)))
+    formless-does f k good = string-does 0 0 k (key-as d at good r NoForm e f)
+
+    pub template-does : {g g′ : Going} (end : ℕ) → r ≡ Template → end ≡ lookNode t d at .next → Does g g′ (say (excludes (part at end t)))
+        → Good t d at → Does g g′ (say (excludes (keyBytesOf that)))
+    template-does end f w k good =
+        does-as k (ap (λ (bs : List ℕ). say (excludes bs)) (ap (λ (x : ℕ). part at x t) w ∙ good-copied t d at good ∙ key-as d at good r Template e f))
+
+    nothing-does : {g : Going} → [] ≡ keyBytesOf that → Does g g (say (excludes (keyBytesOf that)))
+    nothing-does {g = g} h = does-as (does-nothing g) (ap (λ (bs : List ℕ). say (excludes bs)) h)
+
+    pub private-does : {g : Going} → r ≡ Private → Good t d at → Does g g (say (excludes (keyBytesOf that)))
+    private-does f good = nothing-does (key-as d at good r Private e f)
+
+    pub again-does : {g : Going} → r ≡ Again → Good t d at → Does g g (say (excludes (keyBytesOf that)))
+    again-does f good = nothing-does (key-as d at good r Again e f)
+
+    pub other-does : {g : Going} → r ≡ Other → Good t d at → Does g g (say (excludes (keyBytesOf that)))
+    other-does f good = nothing-does (key-as d at good r Other e f)
+
+-- ---- excluded keys
+
+module _ (root : Bool) (o : Node) where
+  excludes-yes : hoists root (properties o) ≡ true
+      → say (does declarator ∷ does (excludedTemporary (events.cell 2 (position o))) ∷ excludes (32 ∷ 1 ∷ wideBytes (entries (properties o)))) ▷ inTurn (keyOf 3) (properties o) ≡ excludesOf root o
+  unfolding excludesOf keyOf
+  excludes-yes e = rw e refl
+
+  excludes-no : hoists root (properties o) ≡ false → say [] ≡ excludesOf root o
+  unfolding excludesOf
+  excludes-no e = rw e refl
+
+module _ (t : List ℕ) (left at : ℕ) (root b : Bool) (e : b ≡ hoists root (properties (lookNode t left at .value))) where
+  abbrev object : Node
+  object = lookNode t left at .value
+
+  pub exclude-none : {g : Going} → b ≡ false → Does g g (excludesOf root object)
+  exclude-none {g = g} z = does-as (does-nothing g) (excludes-no root object (sym e ∙ z))
+
+  -- their number
+  number-is : Good t left at → (k : ℕ) → ((c : Context) → k ≡ limited (count (excludedKeys c object))) → (k ≡ entries (properties object)) × (k < 65536)
+  number-is good k h =
+      let a : count (excludedKeys nameless object) ≤ 16384 = let x = excluded-fit nameless object in let y = good-short t left at good in omega arith in
+      let m : k ≡ count (excludedKeys nameless object) = h nameless ∙ counted-whole (count (excludedKeys nameless object)) 16384 a (omega arith) in
+      (m ∙ entries-are nameless object, omega arith)
+
+  pub exclude-does : {g g₁ g₂ : Going} (k x : ℕ) → b ≡ true → ((c : Context) → k ≡ limited (count (excludedKeys c object))) → (at < 16384 → 0 < 2 → 2 < 5 → x ≡ events.cell 2 at)
+      → (k < 65536 → Does g g₁ (say (does declarator ∷ does (excludedTemporary x) ∷ excludes (32 ∷ 1 ∷ wideBytes k))))
+      → (Good t left at → byteAt t at ≡ 34 → Does g₁ g₂ (inTurn (keyOf 3) (properties object)))
+      → Good t left at → byteAt t at ≡ 34 → Does g g₂ (excludesOf root object)
+  exclude-does k x z h c f i good kind =
+      let n = number-is good k h in
+      let y : x ≡ events.cell 2 (position object) = c (omega (arith, good-within t left at good)) (omega arith) (omega arith) ∙ ap (events.cell 2) (sym (position-here t left at)) in
+      does-as (does-then (f (n .1)) (i good kind))
+      (ap₂ (λ (a m : ℕ). say (does declarator ∷ does (excludedTemporary a) ∷ excludes (32 ∷ 1 ∷ wideBytes m)) ▷ inTurn (keyOf 3) (properties object)) y (n .0)
+      ∙ excludes-yes root object (sym e ∙ z))
+
+-- ---- an object, by the mode
+
+module _ (o : Node) where
+  own-1 : placeMade o ≡ ownOf 1 o
+  unfolding ownOf
+  own-1 = refl
+
+  own-2 : inTurn (keyOf 1) (properties o) ≡ ownOf 2 o
+  unfolding ownOf keysMade keyOf
+  own-2 = refl
+
+  own-3 : excludesOf false o ≡ ownOf 3 o
+  unfolding ownOf
+  own-3 = refl
+
+  own-4 : excludesOf true o ≡ ownOf 4 o
+  unfolding ownOf
+  own-4 = refl
+
+  own-5 : handsPlace o ≡ ownOf 5 o
+  unfolding ownOf
+  own-5 = refl
+
+  pub hands-turn : inTurn (keyOf 2) (properties o) ≡ handsKeys o
+  unfolding handsKeys keyOf
+  hands-turn = refl
+
+  own-else : (mode : ℕ) → (mode ≡ 1 → ⊥) → (mode ≡ 2 → ⊥) → (mode ≡ 3 → ⊥) → (mode ≡ 4 → ⊥) → (mode ≡ 5 → ⊥) → handsKeys o ≡ ownOf mode o
+  unfolding ownOf
+  own-else mode a b c d e = rw (ne-eqb mode 1 a, ne-eqb mode 2 b, ne-eqb mode 3 c, ne-eqb mode 4 d, ne-eqb mode 5 e) refl
+
+  place-made : say (does (make (events.cell 1 (position o))) ∷ []) ≡ placeMade o
+  unfolding placeMade
+  place-made = refl
+
+  place-handed : say (lists (5 ∷ 1 ∷ []) ++ (does (listedTemporary (events.cell 1 (position o))) ∷ [])) ≡ handsPlace o
+  unfolding handsPlace
+  place-handed = refl
+
+module _ (t : List ℕ) (left at mode : ℕ) where
+  abbrev object-at : Node
+  object-at = lookNode t left at .value
+
+  place : at ≡ events.cell 1 (position object-at)
+  place = cell-1 at ∙ ap (events.cell 1) (sym (position-here t left at))
+
+  by-mode : {g g′ : Going} (m : ℕ) → mode ≡ m → Does g g′ (ownOf m object-at) → Does g g′ (ownOf mode object-at)
+  by-mode m e k = does-as k (ap (λ (x : ℕ). ownOf x object-at) (sym e))
+
+  pub object-made : {g g′ : Going} → mode ≡ 1 → Does g g′ (say (does (make at) ∷ [])) → Does g g′ (ownOf mode object-at)
+  object-made e k = by-mode 1 e (does-as k (ap (λ (x : ℕ). say (does (make x) ∷ [])) place ∙ place-made object-at ∙ own-1 object-at))
+
+  pub object-keys : {g g′ : Going} → mode ≡ 2 → Does g g′ (inTurn (keyOf 1) (properties object-at)) → Does g g′ (ownOf mode object-at)
+  object-keys e k = by-mode 2 e (does-as k (own-2 object-at))
+
+  pub object-excludes : {g g′ : Going} → mode ≡ 3 → Does g g′ (excludesOf false object-at) → Does g g′ (ownOf mode object-at)
+  object-excludes e k = by-mode 3 e (does-as k (own-3 object-at))
+
+  pub object-excludes-root : {g g′ : Going} → mode ≡ 4 → Does g g′ (excludesOf true object-at) → Does g g′ (ownOf mode object-at)
+  object-excludes-root e k = by-mode 4 e (does-as k (own-4 object-at))
+
+  pub object-listed : {g g₁ g′ : Going} → mode ≡ 5 → Does g g₁ (say (lists (5 ∷ 1 ∷ []))) → Does g₁ g′ (say (does (listedTemporary at) ∷ [])) → Does g g′ (ownOf mode object-at)
+  object-listed e k l =
+      by-mode 5 e
+      (does-as (does-then k l)
+      (say-say (lists (5 ∷ 1 ∷ [])) (does (listedTemporary at) ∷ [])
+      ∙ ap (λ (x : ℕ). say (lists (5 ∷ 1 ∷ []) ++ (does (listedTemporary x) ∷ []))) place ∙ place-handed object-at ∙ own-5 object-at))
+
+  pub object-hands : {g g′ : Going} → (mode ≡ 1 → ⊥) → (mode ≡ 2 → ⊥) → (mode ≡ 3 → ⊥) → (mode ≡ 4 → ⊥) → (mode ≡ 5 → ⊥) → Does g g′ (inTurn (keyOf 2) (properties object-at)) → Does g g′ (ownOf mode object-at)
+  object-hands a b c d e k = does-as k (hands-turn object-at ∙ own-else object-at mode a b c d e)

@@ -1,0 +1,414 @@
+-- What a rule hands out: the ways out of the code for patterns, declarators, declarations and assignments.
+-- Assumes nothing.
+use mathlib.Core.Path.{_≡_, refl, sym, ap, ap₂, _∙_, subst}
+use mathlib.Core.Bool.{Bool, true, false, cond, true≢false}
+use mathlib.Core.List.{List, [], _∷_, _++_}
+use Prim.Native.Nat.{ℕ, zero, suc, _+_, _-_, _/_, _%_, _≤_, _<_}
+use native.Mathlib.Omega.{arith}
+use lib.Dec.{eqb}
+use lib.ListN.{length, length-append}
+use borrow.Author.Tests.{eqb-true, eqb-false, ne-eqb}
+use Rattle.tree.specs.Tree.{Node, Fields, Items, count, encode, encodeItems}
+use Rattle.tree.specs.Tree.Node.{node}
+use Rattle.tree.specs.Tree.Fields.{done, absent, field}
+use Rattle.tree.specs.Tree.Piece.{one, list}
+use Rattle.tree.specs.Read.{byteAt, wideAt}
+use Rattle.tree.specs.Answer.{Wide}
+use Rattle.tree.specs.Look.{Seen, onward, lookItem, lookItems, lookNode}
+use Rattle.lowering.specs.Parts.{position, is, nodeAt, itemsAt, stands, standsIn, pieceIn, gather}
+use Rattle.lowering.specs.Made.{Context}
+use Rattle.lowering.specs.Patterns.{properties, value}
+use Rattle.lowering.specs.Keys.{keyTemporaries}
+use Rattle.lowering.specs.Declarations.{isName, isLowered}
+use Rattle.lowering.proofs.All.{AllItems}
+use Rattle.lowering.proofs.Cases.{by-test}
+use Rattle.sink.specs.Machine.Event.{make, listedTemporary, entry}
+use Rattle.pattern.specs.Tally.{limited}
+use Rattle.pattern.specs.Objects.{throughObjects}
+use Rattle.pattern.proofs.KeyCases.{count-append}
+use Rattle.pattern.proofs.Sizes.{counted-whole, node-size, temporaries-fit, objects-fit, through-fit, rests-fit}
+use Rattle.direct.specs.Events as events
+use Rattle.direct.specs.Events.{Emit, lists}
+use Rattle.direct.specs.Events.Deed.{does}
+use Rattle.direct.specs.Emit.{say, _▷_, inTurn}
+use Rattle.direct.specs.Views.{View, nameless, objectAt, objectRestAt, defaultAt}
+use Rattle.direct.specs.Views.View.{replacing, taking, leaving}
+use Rattle.direct.specs.Objects.{objectsIn, overObjects, overRests}
+use Rattle.direct.specs.Inner.{otherKeys}
+use Rattle.direct.specs.Counts.{restsCount}
+use Rattle.direct.specs.Handed.{placeMade, keysMade, excludesOf, handsKeys, handsPlace, keysBelow, placesIn, declaratorMade, declaratorExcludes, handsTop, handsNested}
+use Rattle.direct.proofs.Threads.{then-assoc, say-nothing}
+use Rattle.direct.proofs.Objects.{objects-object, objects-taken, objects-array, objects-default, objects-leaf}
+use Rattle.direct.proofs.Inner.{keys-counted}
+use Rattle.walk.specs.Run.{Going, Does}
+use Rattle.walk.specs.Whole.{holeAt, GoodItems, Good}
+use Rattle.walk.specs.Turns.{viewOf, ownOf, overAll, keyOf}
+use Rattle.walk.proofs.Running.{does-then, does-nothing, does-as}
+use Rattle.walk.proofs.Sizes.{list-part}
+use Rattle.walk.proofs.Opened.{no-good, position-here, good-short, good-within, object-open, array-open, property-open, default-open, declarator-open, declaration-open}
+use Rattle.walk.proofs.Hands.{at-level, kind-byte, leaf-here}
+use Rattle.walk.proofs.HandKeys.{three-say, hands-turn}
+
+-- ---- a pattern by mode and view
+
+module _ (p : Node) where
+  over-places : overAll 1 2 p ≡ overObjects placeMade taking p
+  unfolding overAll ownOf viewOf
+  over-places = refl
+
+  over-keys : overAll 2 1 p ≡ overObjects keysMade replacing p
+  unfolding overAll ownOf viewOf
+  over-keys = refl
+
+  over-excludes : (root : Bool) → overAll (cond root 4 3) 1 p ≡ overObjects (excludesOf root) replacing p
+  unfolding overAll ownOf viewOf
+  over-excludes true = refl
+  over-excludes false = refl
+
+  rests-keys : overAll 6 4 p ≡ overRests handsKeys p
+  unfolding overAll ownOf viewOf
+  rests-keys = refl
+
+  rests-excludes : (root : Bool) → overAll (cond root 4 3) 4 p ≡ overRests (excludesOf root) p
+  unfolding overAll ownOf viewOf
+  rests-excludes true = refl
+  rests-excludes false = refl
+
+  over-listed : (v : ℕ) → (v ≡ 2 → ⊥) → overAll 5 (cond (eqb v 3) 3 1) p ≡ overObjects handsPlace (viewOf v) p
+  unfolding overAll ownOf viewOf
+  over-listed v z = rw (ne-eqb v 2 z) (go (eqb v 3))
+    where
+      go : (b : Bool) → overAll 5 (cond b 3 1) p ≡ overObjects handsPlace (cond b leaving replacing) p
+      go true = refl
+      go false = refl
+
+  -- ---- the ways out of `pattern_makes` and `pattern_hands`
+
+  pub makes-do : {g g₁ g₂ : Going} → Does g g₁ (overAll 1 2 p) → Does g₁ g₂ (overAll 2 1 p) → Does g g₂ (overObjects placeMade taking p ▷ overObjects keysMade replacing p)
+  makes-do a b = does-then (does-as a over-places) (does-as b over-keys)
+
+  pub hands-do : {g g₁ g₂ : Going} (root : Bool) (m : ℕ) → m ≡ cond root 4 3 → Does g g₁ (overObjects placeMade taking p ▷ overObjects keysMade replacing p) → Does g₁ g₂ (overAll m 1 p)
+      → Does g g₂ (overObjects placeMade taking p ▷ overObjects keysMade replacing p ▷ overObjects (excludesOf root) replacing p)
+  hands-do root m e a b =
+      does-as (does-then a (does-as b (ap (λ (x : ℕ). overAll x 1 p) e ∙ over-excludes root)))
+      (then-assoc (overObjects placeMade taking p) (overObjects keysMade replacing p) (overObjects (excludesOf root) replacing p))
+
+-- ---- declarators
+
+abbrev patternMade : Node → Emit
+patternMade p = overObjects placeMade taking p ▷ overObjects keysMade replacing p
+
+module _ (q : Node) where
+  made-name : isLowered q ≡ true → isName (nodeAt 1 q) ≡ true → patternMade (nodeAt 0 q) ≡ declaratorMade q
+  unfolding declaratorMade
+  made-name a b = rw (a, b) (sym (say-nothing (patternMade (nodeAt 0 q))))
+
+  made-other : isLowered q ≡ true → isName (nodeAt 1 q) ≡ false → say (does (make (events.cell 3 (position (nodeAt 0 q)))) ∷ []) ▷ patternMade (nodeAt 0 q) ≡ declaratorMade q
+  unfolding declaratorMade
+  made-other a b = rw (a, b) refl
+
+  made-none : isLowered q ≡ false → say [] ≡ declaratorMade q
+  unfolding declaratorMade
+  made-none a = rw a refl
+
+  excluded-some : (root : Bool) → isLowered q ≡ true → overObjects (excludesOf root) replacing (nodeAt 0 q) ≡ declaratorExcludes root q
+  unfolding declaratorExcludes
+  excluded-some root a = rw a refl
+
+  excluded-none : (root : Bool) → isLowered q ≡ false → say [] ≡ declaratorExcludes root q
+  unfolding declaratorExcludes
+  excluded-none root a = rw a refl
+
+bare-kept : (at : ℕ) (p : Node) → isLowered (node at 5 (field (one p) (absent done))) ≡ false
+unfolding isLowered stands standsIn
+bare-kept at p = refl
+
+module _ (t : List ℕ) (left at : ℕ) (b : Bool) (w : b ≡ isLowered (lookNode t left at .value)) where
+  pub declarator-kept : {g : Going} → b ≡ false → Does g g (declaratorMade (lookNode t left at .value))
+  declarator-kept {g = g} z = does-as (does-nothing g) (made-none (lookNode t left at .value) (sym w ∙ z))
+
+  pub declarator-unexcluded : {g : Going} (root : Bool) → b ≡ false → Does g g (declaratorExcludes root (lookNode t left at .value))
+  declarator-unexcluded {g = g} root z = does-as (does-nothing g) (excluded-none (lookNode t left at .value) root (sym w ∙ z))
+
+  module _ (d p : ℕ) (e : d ≡ left - 1) (a : p ≡ onward t at 2) (z : b ≡ true) where
+    -- the parts of a declarator that is lowered
+    record Parts (n : Node) : Type 0 where
+      lowered : isLowered n ≡ true
+      pattern : nodeAt 0 n ≡ lookNode t d p .value
+      init : nodeAt 1 n ≡ lookNode t d (lookNode t d p .next) .value
+      good : Good t d p
+
+    parts-here : isLowered (lookNode t (suc d) at .value) ≡ true → Good t (suc d) at → byteAt t at ≡ 5 → Parts (lookNode t (suc d) at .value)
+    unfolding nodeAt pieceIn
+    parts-here l g kind =
+        let u = declarator-open t d at g kind in
+        by-test (eqb (byteAt t (onward t at 1) / 2 % 2) 1)
+        (λ bit. record {
+          lowered = l;
+          pattern = ap (λ (s : Seen Node). nodeAt 0 (s .value)) (u .valued bit) ∙ ap (λ (x : ℕ). lookNode t d x .value) (sym a);
+          init = ap (λ (s : Seen Node). nodeAt 1 (s .value)) (u .valued bit) ∙ ap (λ (x : ℕ). lookNode t d (lookNode t d x .next) .value) (sym a);
+          good = subst (λ (x : ℕ). Good t d x) (sym a) (u .pattern);
+        })
+        (λ bit. absurd (true≢false (sym l ∙ ap (λ (s : Seen Node). isLowered (s .value)) (u .bare bit) ∙ bare-kept at _)))
+
+    parts : Good t left at → byteAt t at ≡ 5 → Parts (lookNode t left at .value)
+    parts good kind =
+        at-level t (λ (m : ℕ). isLowered (lookNode t m at .value) ≡ true → Parts (lookNode t m at .value)) left d at e good (λ here l. parts-here l here kind) (sym w ∙ z)
+
+    pub declarator-named : {g g′ : Going} (x : ℕ) (n : Bool) → x ≡ lookNode t d p .next → n ≡ isName (lookNode t d x .value) → n ≡ true → (Good t d p → Does g g′ (overObjects placeMade taking (lookNode t d p .value) ▷ overObjects keysMade replacing (lookNode t d p .value)))
+        → Good t left at → byteAt t at ≡ 5 → Does g g′ (declaratorMade (lookNode t left at .value))
+    declarator-named x n h i j k good kind =
+        let u = parts good kind in
+        let name : isName (nodeAt 1 (lookNode t left at .value)) ≡ true = ap isName (u .init ∙ ap (λ (y : ℕ). lookNode t d y .value) (sym h)) ∙ sym i ∙ j in
+        does-as (k (u .good)) (ap (λ (y : Node). patternMade y) (sym (u .pattern)) ∙ made-name (lookNode t left at .value) (u .lowered) name)
+
+    pub declarator-valued : {g g₁ g₂ : Going} (x c : ℕ) (n : Bool) → x ≡ lookNode t d p .next → n ≡ isName (lookNode t d x .value) → n ≡ false → (p < 16384 → 0 < 3 → 3 < 5 → c ≡ events.cell 3 p)
+        → Does g g₁ (say (does (make c) ∷ [])) → (Good t d p → Does g₁ g₂ (overObjects placeMade taking (lookNode t d p .value) ▷ overObjects keysMade replacing (lookNode t d p .value)))
+        → Good t left at → byteAt t at ≡ 5 → Does g g₂ (declaratorMade (lookNode t left at .value))
+    declarator-valued x c n h i j f m k good kind =
+        let u = parts good kind in
+        let D = lookNode t left at .value in
+        let name : isName (nodeAt 1 D) ≡ false = ap isName (u .init ∙ ap (λ (y : ℕ). lookNode t d y .value) (sym h)) ∙ sym i ∙ j in
+        let y : c ≡ events.cell 3 (position (nodeAt 0 D)) =
+        f (omega (arith, good-within t d p (u .good))) (omega arith) (omega arith) ∙ ap (events.cell 3) (sym (ap position (u .pattern) ∙ position-here t d p)) in
+        does-as (does-then m (k (u .good)))
+        (ap₂ (λ (a : ℕ) (o : Node). say (does (make a) ∷ []) ▷ patternMade o) y (sym (u .pattern)) ∙ made-other D (u .lowered) name)
+
+    pub declarator-excluded : {g g′ : Going} (root : Bool) (m : ℕ) → m ≡ cond root 4 3 → (Good t d p → Does g g′ (overAll m 1 (lookNode t d p .value)))
+        → Good t left at → byteAt t at ≡ 5 → Does g g′ (declaratorExcludes root (lookNode t left at .value))
+    declarator-excluded root m h k good kind =
+        let u = parts good kind in
+        does-as (k (u .good))
+        (ap (λ (x : ℕ). overAll x 1 (lookNode t d p .value)) h ∙ over-excludes (lookNode t d p .value) root
+        ∙ ap (overObjects (excludesOf root) replacing) (sym (u .pattern)) ∙ excluded-some (lookNode t left at .value) root (u .lowered))
+
+-- ---- a declaration
+
+module _ (t : List ℕ) (left d at q p n : ℕ) (e : d ≡ left - 1) (a : q ≡ onward t at 5) (b : p ≡ onward t q 2) (w : Wide t q n) where
+  from-list : (F : ℕ → ℕ → Type 0) → F n p → F (wideAt t (onward t at 5)) (onward t (onward t at 5) 2)
+  from-list F x = subst (λ (m : ℕ). F m (onward t (onward t at 5) 2)) (w .value ∙ ap (λ (y : ℕ). wideAt t y) a) (subst (λ (y : ℕ). F n y) (b ∙ ap (λ (y : ℕ). onward t y 2) a) x)
+
+  pub declaration-does : {g g₁ g₂ : Going} (root : Bool)
+      → (GoodItems t (lookNode t d) (Good t d) false false n p → AllItems (λ q. is 5 q ≡ true) (lookItems t (lookNode t d) false n p .value) → Does g g₁ (inTurn declaratorMade (lookItems t (lookNode t d) false n p .value)))
+      → (GoodItems t (lookNode t d) (Good t d) false false n p → AllItems (λ q. is 5 q ≡ true) (lookItems t (lookNode t d) false n p .value) → Does g₁ g₂ (inTurn (declaratorExcludes root) (lookItems t (lookNode t d) false n p .value)))
+      → Good t left at → byteAt t at ≡ 4
+      → Does g g₂ (inTurn declaratorMade (itemsAt 2 (lookNode t left at .value)) ▷ inTurn (declaratorExcludes root) (itemsAt 2 (lookNode t left at .value)))
+  unfolding itemsAt pieceIn
+  declaration-does {g = g} {g₁ = g₁} {g₂ = g₂} root f h good kind =
+      at-level t (λ (m : ℕ). Does g g₂ (inTurn declaratorMade (itemsAt 2 (lookNode t m at .value)) ▷ inTurn (declaratorExcludes root) (itemsAt 2 (lookNode t m at .value)))) left d at e good
+      (λ here.
+      let u = declaration-open t d at here kind in
+      let f′ = from-list (λ (m y : ℕ). GoodItems t (lookNode t d) (Good t d) false false m y → AllItems (λ q. is 5 q ≡ true) (lookItems t (lookNode t d) false m y .value) → Does g g₁ (inTurn declaratorMade (lookItems t (lookNode t d) false m y .value))) f in
+      let h′ = from-list (λ (m y : ℕ). GoodItems t (lookNode t d) (Good t d) false false m y → AllItems (λ q. is 5 q ≡ true) (lookItems t (lookNode t d) false m y .value) → Does g₁ g₂ (inTurn (declaratorExcludes root) (lookItems t (lookNode t d) false m y .value))) h in
+      does-as (does-then (f′ (u .list .good) (u .declarators)) (h′ (u .list .good) (u .declarators)))
+      (ap (λ (s : Seen Node). inTurn declaratorMade (itemsAt 2 (s .value)) ▷ inTurn (declaratorExcludes root) (itemsAt 2 (s .value))) (sym (u .whole))))
+
+-- ---- counts
+
+pub limited-below : (m n : ℕ) → m ≡ limited n → m ≤ 65536
+unfolding limited
+limited-below m n e = omega arith
+
+pub any-place : Context
+any-place = nameless
+
+-- no more objects are left below arrays than the target has bytes
+items-size : (n : Node) → length (encodeItems (itemsAt 0 n)) ≤ length (encode n)
+unfolding encodeItems
+items-size n = let a = list-part (λ is. length (encodeItems is)) refl (λ is. omega arith) 0 n in omega arith
+
+module _ (t : List ℕ) where
+  abbrev Small : ℕ → ℕ → Type 0
+  Small d at = count (objectsIn nameless leaving (lookNode t d at .value)) ≤ length (encode (lookNode t d at .value))
+
+  abbrev SmallValue : ℕ → ℕ → Type 0
+  SmallValue d at = count (objectsIn nameless leaving (value (lookNode t d at .value))) ≤ length (encode (lookNode t d at .value))
+
+  module _ (d : ℕ) (small : (at : ℕ) → Good t d at → Small d at) (smallValue : (at : ℕ) → Good t d at → byteAt t at ≡ 35 → SmallValue d at) where
+    values-small : (n p : ℕ) → GoodItems t (lookNode t d) (Good t d) false false n p → AllItems (λ q. is 35 q ≡ true) (lookItems t (lookNode t d) false n p .value)
+        → count (gather (λ q. objectsIn nameless leaving (value q)) (lookItems t (lookNode t d) false n p .value)) ≤ length (encodeItems (lookItems t (lookNode t d) false n p .value))
+    unfolding GoodItems lookItems lookItem gather count encodeItems holeAt
+    values-small zero p g a = omega arith
+    values-small (suc n) p g a =
+        let here : Good t d p = g .0 .node refl in
+        let ns = lookItems t (lookNode t d) false n (lookNode t d p .next) .value in
+        let q = lookNode t d p .value in
+        let x = smallValue p here (kind-byte t d p 35 here (a .0)) in
+        let y = values-small n (lookNode t d p .next) (g .1) (a .1) in
+        let z = count-append (objectsIn nameless leaving (value q)) (gather (λ q. objectsIn nameless leaving (value q)) ns) in
+        let w = length-append (encode q) (encodeItems ns) in
+        omega arith
+
+    abbrev ps : ℕ → Items
+    ps at = lookItems t (lookNode t d) false (wideAt t (onward t at 2)) (onward t (onward t at 2) 2) .value
+
+    object-small : (at : ℕ) → Good t (suc d) at → byteAt t at ≡ 34 → Small (suc d) at
+    unfolding itemsAt pieceIn
+    object-small at g kind =
+        let u = object-open t d at g kind in
+        let x = values-small (wideAt t (onward t at 2)) (onward t (onward t at 2) 2) (u .list .good) (u .properties) in
+        by-test (eqb (byteAt t (onward t at 1) / 2 % 2) 1)
+        (λ bit.
+        let r = lookNode t d (lookItems t (lookNode t d) false (wideAt t (onward t at 2)) (onward t (onward t at 2) 2) .next) .value in
+        let o = objectRestAt at (ps at) r in
+        let whole : lookNode t (suc d) at .value ≡ o = ap (λ (s : Seen Node). s .value) (u .resting bit) in
+        let y : count (objectsIn nameless leaving o) ≡ count (gather (λ q. objectsIn nameless leaving (value q)) (ps at)) = ap count (objects-taken nameless leaving refl at (ps at) r) in
+        let z : length (encodeItems (ps at)) ≤ length (encode o) = items-size o in
+        rw whole (omega arith))
+        (λ bit.
+        let o = objectAt at (ps at) in
+        let whole : lookNode t (suc d) at .value ≡ o = ap (λ (s : Seen Node). s .value) (u .plain bit) in
+        let y : count (objectsIn nameless leaving o) ≡ count (gather (λ q. objectsIn nameless leaving (value q)) (ps at)) = ap count (objects-object nameless leaving at (ps at)) in
+        let z : length (encodeItems (ps at)) ≤ length (encode o) = items-size o in
+        rw whole (omega arith))
+
+    array-is : (at : ℕ) (ns : Items) (fs : Fields) → count (objectsIn nameless leaving (node at 36 (field (list ns) fs))) ≤ length (encode (node at 36 (field (list ns) fs)))
+    unfolding objectsIn
+    array-is at ns fs =
+        let o = node at 36 (field (list ns) fs) in
+        let x : count (objectsIn nameless leaving o) ≡ count (objectsIn nameless replacing o) = ap count (objects-array nameless leaving at ns fs ∙ sym (objects-array nameless replacing at ns fs)) in
+        let y = objects-fit nameless o in
+        omega arith
+
+    array-small : (at : ℕ) → Good t (suc d) at → byteAt t at ≡ 36 → Small (suc d) at
+    array-small at g kind =
+        let u = array-open t d at g kind in
+        by-test (eqb (byteAt t (onward t at 1) / 2 % 2) 1) (λ bit. rw (u .resting bit) (array-is at _ _)) (λ bit. rw (u .plain bit) (array-is at _ _))
+
+    default-small : (at : ℕ) → Good t (suc d) at → byteAt t at ≡ 37 → Small (suc d) at
+    unfolding nodeAt pieceIn
+    default-small at g kind =
+        let u = default-open t d at g kind in
+        let l = lookNode t d (onward t at 2) .value in
+        let o = defaultAt at l (lookNode t d (lookNode t d (onward t at 2) .next) .value) in
+        let whole : lookNode t (suc d) at .value ≡ o = ap (λ (s : Seen Node). s .value) (u .whole) in
+        let y : count (objectsIn nameless leaving o) ≡ count (objectsIn nameless leaving l) = ap count (objects-default nameless leaving at l _) in
+        let x = small (onward t at 2) (u .left) in
+        let z : length (encode l) ≤ length (encode o) = node-size 0 o in
+        rw whole (omega arith)
+
+    node-small : (at : ℕ) → Good t (suc d) at → Small (suc d) at
+    unfolding count
+    node-small at g =
+        by-test (eqb (byteAt t at) 34) (λ e. object-small at g (eqb-true (byteAt t at) 34 e))
+        (λ a.
+        by-test (eqb (byteAt t at) 36) (λ e. array-small at g (eqb-true (byteAt t at) 36 e))
+        (λ b.
+        by-test (eqb (byteAt t at) 37) (λ e. default-small at g (eqb-true (byteAt t at) 37 e))
+        (λ c.
+        let s = leaf-here t d at (byteAt t at) refl (eqb-false (byteAt t at) 34 a) (eqb-false (byteAt t at) 36 b) (eqb-false (byteAt t at) 37 c) in
+        let x : count (objectsIn nameless leaving (lookNode t (suc d) at .value)) ≡ 0 = ap count (objects-leaf nameless leaving (lookNode t (suc d) at .value) s) in
+        omega arith)))
+
+  mutual
+    unfolding nodeAt pieceIn
+
+    left-small : (d at : ℕ) → Good t d at → Small d at
+    left-small zero at g = no-good t at g
+    left-small (suc d) at g = node-small d (λ x y. left-small d x y) (λ x y z. value-small d x y z) at g
+
+    value-small : (d at : ℕ) → Good t d at → byteAt t at ≡ 35 → SmallValue d at
+    value-small zero at g kind = no-good t at g
+    value-small (suc d) at g kind =
+        let u = property-open t d at g kind in
+        let q = lookNode t (suc d) at .value in
+        let v = lookNode t d (lookNode t d (onward t at 2) .next) .value in
+        let whole : value q ≡ v = ap (λ (s : Seen Node). value (s .value)) (u .whole) in
+        let x = left-small d (lookNode t d (onward t at 2) .next) (u .value) in
+        let y = node-size 1 q in
+        let z : length (encode (value q)) ≡ length (encode v) = ap (λ (n : Node). length (encode n)) whole in
+        let w : count (objectsIn nameless leaving (value q)) ≡ count (objectsIn nameless leaving v) = ap (λ (n : Node). count (objectsIn nameless leaving n)) whole in
+        omega arith
+
+  -- in any view but `taking`
+  pub places-small : (v d at : ℕ) → (v ≡ 2 → ⊥) → Good t d at → placesIn (viewOf v) (lookNode t d at .value) ≤ 16384
+  unfolding placesIn viewOf objectsIn
+  places-small v d at z g =
+      let s = good-short t d at g in
+      rw (ne-eqb v 2 z)
+      (by-test (eqb v 3)
+      (λ e. rw e (let x = left-small d at g in omega arith))
+      (λ e. rw e (let x = objects-fit nameless (lookNode t d at .value) in omega arith)))
+
+-- ---- assignments
+
+module _ (p : Node) where
+  top-is : (root : Bool) (m k : ℕ) → k ≡ suc (keysBelow p)
+      → say (does (entry m k) ∷ lists (5 ∷ 1 ∷ []) ++ (does (listedTemporary (events.cell 3 (position p))) ∷ [])) ▷ overRests handsKeys p ▷ overRests (excludesOf root) p ≡ handsTop root m p
+  unfolding handsTop
+  top-is root m k e = ap (λ (x : ℕ). say (does (entry m x) ∷ lists (5 ∷ 1 ∷ []) ++ (does (listedTemporary (events.cell 3 (position p))) ∷ [])) ▷ overRests handsKeys p ▷ overRests (excludesOf root) p) e
+
+  below-is : count (gather (keyTemporaries nameless) (throughObjects p)) ≡ keysBelow p
+  unfolding keysBelow
+  below-is = refl
+
+  nested-is : (v : View) (m k : ℕ) → k ≡ placesIn v p → say (does (entry m k) ∷ []) ▷ overObjects handsPlace v p ≡ handsNested v m p
+  unfolding handsNested
+  nested-is v m k e = ap (λ (x : ℕ). say (does (entry m x) ∷ []) ▷ overObjects handsPlace v p) e
+
+  rests-are : count (throughObjects p) ≡ restsCount p
+  unfolding restsCount
+  rests-are = refl
+
+module _ (t : List ℕ) (left at : ℕ) where
+  abbrev target : Node
+  target = lookNode t left at .value
+
+  -- the entry, and the value's temporary
+  head-does : {g g₁ g₂ g₃ : Going} (m k x : ℕ) → Good t left at → (at < 16384 → 0 < 3 → 3 < 5 → x ≡ events.cell 3 at)
+      → Does g g₁ (say (does (entry m k) ∷ [])) → Does g₁ g₂ (say (lists (5 ∷ 1 ∷ []))) → Does g₂ g₃ (say (does (listedTemporary x) ∷ []))
+      → Does g g₃ (say (does (entry m k) ∷ lists (5 ∷ 1 ∷ []) ++ (does (listedTemporary (events.cell 3 at)) ∷ [])))
+  head-does m k x good f a b c =
+      let y : x ≡ events.cell 3 at = f (omega (arith, good-within t left at good)) (omega arith) (omega arith) in
+      does-as (does-then a (does-then b c))
+      (three-say (does (entry m k) ∷ []) (lists (5 ∷ 1 ∷ [])) (does (listedTemporary x) ∷ [])
+      ∙ ap (λ (z : ℕ). say (does (entry m k) ∷ lists (5 ∷ 1 ∷ []) ++ (does (listedTemporary z) ∷ []))) y)
+
+  pub top-does : {g g₁ g₂ g₃ g₄ g₅ : Going} (root : Bool) (m n x y : ℕ) → ((c : Context) → n ≡ limited (count (gather (keyTemporaries c) (throughObjects target)))) → y ≡ cond root 4 3
+      → (at < 16384 → 0 < 3 → 3 < 5 → x ≡ events.cell 3 at)
+      → Does g g₁ (say (does (entry m (1 + n)) ∷ [])) → Does g₁ g₂ (say (lists (5 ∷ 1 ∷ []))) → Does g₂ g₃ (say (does (listedTemporary x) ∷ []))
+      → (Good t left at → Does g₃ g₄ (overAll 6 4 target)) → (Good t left at → Does g₄ g₅ (overAll y 4 target))
+      → Good t left at → Does g g₅ (handsTop root m target)
+  top-does root m n x y h j f a b c k l good =
+      let s = good-short t left at good in
+      let z = through-fit nameless target in
+      let w : n ≡ keysBelow target = h nameless ∙ counted-whole (count (gather (keyTemporaries nameless) (throughObjects target))) 16384 (omega arith) (omega arith) ∙ below-is target in
+      let v : 1 + n ≡ suc (keysBelow target) = omega arith in
+      does-as
+      (does-then (head-does m (1 + n) x good f a b c)
+      (does-then (does-as (k good) (rests-keys target)) (does-as (l good) (ap (λ (i : ℕ). overAll i 4 target) j ∙ rests-excludes target root))))
+      (ap (λ (i : ℕ). say (does (entry m (1 + n)) ∷ lists (5 ∷ 1 ∷ []) ++ (does (listedTemporary (events.cell 3 i)) ∷ [])) ▷ overRests handsKeys target ▷ overRests (excludesOf root) target) (sym (position-here t left at))
+      ∙ top-is target root m (1 + n) v)
+
+  pub nested-does : {g g₁ g₂ : Going} (m n v v′ : ℕ) → ((v ≡ 2 → ⊥) → n ≡ limited (placesIn (viewOf v) target)) → v′ ≡ cond (eqb v 3) 3 1
+      → Does g g₁ (say (does (entry m n) ∷ [])) → (Good t left at → Does g₁ g₂ (overAll 5 v′ target)) → (v ≡ 2 → ⊥) → Good t left at → Does g g₂ (handsNested (viewOf v) m target)
+  nested-does m n v v′ h j a k z good =
+      let w : n ≡ placesIn (viewOf v) target = h z ∙ counted-whole (placesIn (viewOf v) target) 16384 (places-small t v left at z good) (omega arith) in
+      does-as (does-then a (does-as (k good) (ap (λ (i : ℕ). overAll 5 i target) j ∙ over-listed target v z))) (nested-is target (viewOf v) m n w)
+
+  pub inner-does : {g g₁ g₂ g₃ g₄ g₅ : Going} (root : Bool) (m n x : ℕ) → ((c : Context) → n ≡ limited (count (keyTemporaries c target)))
+      → (at < 16384 → 0 < 3 → 3 < 5 → x ≡ events.cell 3 at)
+      → Does g g₁ (say (does (entry m (1 + n)) ∷ [])) → Does g₁ g₂ (say (lists (5 ∷ 1 ∷ []))) → Does g₂ g₃ (say (does (listedTemporary x) ∷ []))
+      → (Good t left at → byteAt t at ≡ 34 → Does g₃ g₄ (inTurn (keyOf 2) (properties target))) → (Good t left at → byteAt t at ≡ 34 → Does g₄ g₅ (excludesOf root target))
+      → Good t left at → byteAt t at ≡ 34
+      → Does g g₅ (say (does (entry m (suc (otherKeys (properties target)))) ∷ lists (5 ∷ 1 ∷ []) ++ (does (listedTemporary (events.cell 3 at)) ∷ [])) ▷ handsKeys target ▷ excludesOf root target)
+  inner-does root m n x h f a b c k l good kind =
+      let s = good-short t left at good in
+      let z = temporaries-fit nameless target in
+      let w : n ≡ otherKeys (properties target) = h nameless ∙ counted-whole (count (keyTemporaries nameless target)) 16384 (omega arith) (omega arith) ∙ keys-counted nameless target in
+      let v : 1 + n ≡ suc (otherKeys (properties target)) = omega arith in
+      does-as (does-then (head-does m (1 + n) x good f a b c) (does-then (does-as (k good kind) (hands-turn target)) (l good kind)))
+      (ap (λ (i : ℕ). say (does (entry m i) ∷ lists (5 ∷ 1 ∷ []) ++ (does (listedTemporary (events.cell 3 at)) ∷ [])) ▷ handsKeys target ▷ excludesOf root target) v)
+
+  -- the parts of a sequence
+  rests-counted : (n : ℕ) → n ≡ limited (count (throughObjects target)) → Good t left at → n ≡ restsCount target
+  rests-counted n h good =
+      let s = good-short t left at good in
+      let z = rests-fit target in
+      h ∙ counted-whole (count (throughObjects target)) 16384 (omega arith) (omega arith) ∙ rests-are target
+
+  pub count-statement : (statement : Bool) (n : ℕ) → n ≡ limited (count (throughObjects target)) → statement ≡ true → Good t left at → 2 + n ≡ suc (suc (cond statement (restsCount target) (suc (restsCount target))))
+  count-statement statement n h e good = let w = rests-counted n h good in rw e (omega arith)
+
+  pub count-read : (statement : Bool) (n : ℕ) → n ≡ limited (count (throughObjects target)) → statement ≡ false → Good t left at → 3 + n ≡ suc (suc (cond statement (restsCount target) (suc (restsCount target))))
+  count-read statement n h e good = let w = rests-counted n h good in rw e (omega arith)

@@ -1,0 +1,392 @@
+-- What is done for the objects of a pattern, level by level, and for a list, item by item: the ways out of the code that goes over them.
+-- Assumes nothing.
+use mathlib.Core.Path.{_≡_, refl, sym, ap, _∙_, subst, fun-ext}
+use mathlib.Core.Bool.{Bool, true, false, cond, true≢false, false≢true}
+use mathlib.Core.List.{List, []}
+use Prim.Native.Nat.{ℕ, zero, suc, _-_, _/_, _%_, _≤_, _<_}
+use native.Mathlib.Omega.{arith}
+use lib.Dec.{eqb}
+use borrow.Author.Tests.{eqb-true, eq-eqb, ne-eqb}
+use Rattle.tree.specs.Tree.{Node, Fields, Items}
+use Rattle.tree.specs.Tree.Node.{node}
+use Rattle.tree.specs.Tree.Fields.{field}
+use Rattle.tree.specs.Tree.Piece.{one, list}
+use Rattle.tree.specs.Grammar.{fieldsOf}
+use Rattle.tree.specs.Read.{byteAt, wideAt}
+use Rattle.tree.specs.Answer.{Peeked, Wide}
+use Rattle.tree.specs.Look.{Seen, seen, seenAs, onward, lookItem, lookItems, lookFields, lookNode}
+use Rattle.lowering.specs.Parts.{is, nodeAt, pieceIn}
+use Rattle.lowering.specs.Patterns.{shape, properties, value}
+use Rattle.lowering.specs.Patterns.Shape.{leaf}
+use Rattle.lowering.proofs.All.{AllItems, all-unit}
+use Rattle.lowering.proofs.Cases.{by-test}
+use Rattle.direct.specs.Events.{Emit}
+use Rattle.direct.specs.Emit.{say, _▷_, inTurn}
+use Rattle.direct.specs.Views.{View, valuesOf, takes, objectAt, objectRestAt, defaultAt}
+use Rattle.direct.specs.Views.View.{replacing, taking, leaving}
+use Rattle.direct.specs.Objects.{overObjects, overRests}
+use Rattle.direct.proofs.Threads.{say-nothing}
+use Rattle.direct.proofs.Objects.{Keyed, over-object, over-keyed, over-taken, over-array, over-default, over-leaf, through-object, through-rest, through-array, through-default, through-leaf}
+use Rattle.direct.proofs.Handed.{place-keyed, hands-keyed, keys-keyed, excludes-keyed}
+use Rattle.direct.proofs.Inner.{handsKeys-keyed}
+use Rattle.direct.proofs.MovedOut.{shape-leaf}
+use Rattle.walk.specs.Run.{Going, Does}
+use Rattle.walk.specs.Whole.{holeAt, GoodItem, GoodItems, Good}
+use Rattle.walk.specs.Turns.{viewOf, ownOf, overAll}
+use Rattle.walk.proofs.Running.{does-then, does-nothing, does-as}
+use Rattle.walk.proofs.Emits.{Onto, onto-start, onto-more, onto-end, good-item, good-items, item-next, full, is-hole, no-hole}
+use Rattle.walk.proofs.Opened.{no-good, is-here, object-open, array-open, property-open, default-open}
+
+-- ---- lists, item by item
+
+module _ (t : List ℕ) (R : ℕ → Seen Node) (f : Node → Emit) where
+  hole-first : (h : Bool) (at : ℕ) (ns : Items) → inTurn f (lookItem t R h at .value ns) ≡ cond (holeAt t h at) (say []) (f (R at .value)) ▷ inTurn f ns
+  unfolding lookItem holeAt inTurn
+  hole-first true at ns = go (eqb (byteAt t at) 0)
+    where
+      go : (b : Bool) → inTurn f (cond b (seen Items.hole (onward t at 1)) (seenAs (λ n is. Items.item n is) (R at)) .value ns) ≡ cond b (say []) (f (R at .value)) ▷ inTurn f ns
+      go true = sym (say-nothing (inTurn f ns))
+      go false = refl
+  hole-first false at ns = refl
+
+  turn-first : (h : Bool) (n at q : ℕ) → 0 < n → q ≡ lookItem t R h at .next
+      → inTurn f (lookItems t R h n at .value) ≡ cond (holeAt t h at) (say []) (f (R at .value)) ▷ inTurn f (lookItems t R h (n - 1) q .value)
+  unfolding lookItems
+  turn-first h zero at q z e = absurd (omega arith)
+  turn-first h (suc n) at q z e =
+      let s : suc n - 1 ≡ n = omega arith in
+      rw (s, e) (hole-first h at _)
+
+  turn-none : (h : Bool) (n at : ℕ) → n ≤ 0 → inTurn f (lookItems t R h n at .value) ≡ say []
+  unfolding lookItems inTurn
+  turn-none h zero at z = refl
+  turn-none h (suc n) at z = absurd (omega arith)
+
+module _ (t : List ℕ) (R : ℕ → Seen Node) (P : Node → Type 0) where
+  hole-all : (h : Bool) (at : ℕ) (ns : Items) → AllItems P (lookItem t R h at .value ns) → (holeAt t h at ≡ false → P (R at .value)) × AllItems P ns
+  unfolding lookItem holeAt
+  hole-all true at ns a = go (eqb (byteAt t at) 0) a
+    where
+      go : (b : Bool) → AllItems P (cond b (seen Items.hole (onward t at 1)) (seenAs (λ n is. Items.item n is) (R at)) .value ns) → (b ≡ false → P (R at .value)) × AllItems P ns
+      go true a = (λ e. absurd (true≢false e), a)
+      go false a = (λ e. a .0, a .1)
+  hole-all false at ns a = (λ e. a .0, a .1)
+
+  all-first : (h : Bool) (n at : ℕ) → 0 < n → AllItems P (lookItems t R h n at .value) → holeAt t h at ≡ false → P (R at .value)
+  unfolding lookItems
+  all-first h zero at z a = absurd (omega arith)
+  all-first h (suc n) at z a = hole-all h at _ a .0
+
+  all-more : (h : Bool) (n at q : ℕ) → 0 < n → q ≡ lookItem t R h at .next → AllItems P (lookItems t R h n at .value) → AllItems P (lookItems t R h (n - 1) q .value)
+  unfolding lookItems
+  all-more h zero at q z e a = absurd (omega arith)
+  all-more h (suc n) at q z e a =
+      let s : suc n - 1 ≡ n = omega arith in
+      rw (s, e) (hole-all h at _ a .1)
+
+module _ (t : List ℕ) (d : ℕ) (h : Bool) (P : Node → Type 0) (f : Node → Emit) where
+  -- what is left of a list, n items from p on, all good: what is done for them from g makes the whole from g₀
+  pub record Left (g₀ : Going) (n₀ p₀ : ℕ) (g : Going) (n p : ℕ) : Type 0 where
+    pub good : GoodItems t (lookNode t d) (Good t d) false h n p
+    pub all : AllItems P (lookItems t (lookNode t d) h n p .value)
+    pub onto : Onto g₀ g (inTurn f (lookItems t (lookNode t d) h n p .value)) (inTurn f (lookItems t (lookNode t d) h n₀ p₀ .value))
+
+  pub left-start : (g : Going) (n p : ℕ) → GoodItems t (lookNode t d) (Good t d) false h n p → AllItems P (lookItems t (lookNode t d) h n p .value) → Left g n p g n p
+  left-start g n p x a = record { good = x; all = a; onto = onto-start g (inTurn f (lookItems t (lookNode t d) h n p .value)) }
+
+  pub left-end : {g₀ g : Going} (n₀ p₀ n p : ℕ) → n ≤ 0 → Left g₀ n₀ p₀ g n p → Does g₀ g (inTurn f (lookItems t (lookNode t d) h n₀ p₀ .value))
+  left-end n₀ p₀ n p z l = onto-end (l .onto) (turn-none t (lookNode t d) f h n p z)
+
+  pub left-more : {g₀ g g′ : Going} (n₀ p₀ n p q : ℕ) → 0 < n → q ≡ lookItem t (lookNode t d) h p .next → Left g₀ n₀ p₀ g n p
+      → ((holeAt t h p ≡ false → Good t d p) → (holeAt t h p ≡ false → P (lookNode t d p .value)) → Does g g′ (cond (holeAt t h p) (say []) (f (lookNode t d p .value))))
+      → Left g₀ n₀ p₀ g′ (n - 1) q
+  left-more n₀ p₀ n p q z e l k =
+      let i : GoodItem t (lookNode t d) (Good t d) false h p = good-item t (lookNode t d) (Good t d) false h n p z (l .good) in
+      record {
+        good = good-items t (lookNode t d) (Good t d) false h n p q z e (l .good);
+        all = all-more t (lookNode t d) P h n p q z e (l .all);
+        onto = onto-more (l .onto) (turn-first t (lookNode t d) f h n p q z e) (k (i .node) (all-first t (lookNode t d) P h n p z (l .all)));
+      }
+
+-- items of any kind
+abbrev pub Any : Node → Type 0
+Any n = Unit {0}
+
+pub any-start : (t : List ℕ) (d : ℕ) (h : Bool) (f : Node → Emit) (g : Going) (n p : ℕ) → GoodItems t (lookNode t d) (Good t d) false h n p → Left t d h Any f g n p g n p
+any-start t d h f g n p x = left-start t d h Any f g n p x (all-unit (lookItems t (lookNode t d) h n p .value))
+
+-- a list without holes
+pub solid-more : (t : List ℕ) (d : ℕ) (P : Node → Type 0) (f : Node → Emit) {g₀ g g′ : Going} (n₀ p₀ n p q : ℕ) → 0 < n → q ≡ lookNode t d p .next → Left t d false P f g₀ n₀ p₀ g n p
+    → (Good t d p → P (lookNode t d p .value) → Does g g′ (f (lookNode t d p .value)))
+    → Left t d false P f g₀ n₀ p₀ g′ (n - 1) q
+solid-more t d P f {g = g} {g′ = g′} n₀ p₀ n p q z e l k =
+    let b : holeAt t false p ≡ false = full t false p refl in
+    left-more t d false P f n₀ p₀ n p q z (e ∙ item-next t (lookNode t d) false p b) l
+    (λ x a. does-as (k (x b) (a b)) (ap (λ (c : Bool). cond c (say []) (f (lookNode t d p .value))) (sym b)))
+
+-- ---- the objects of a pattern, one level
+
+-- what is done for an object does not look at its values
+own-keyed : (mode : ℕ) → Keyed (ownOf mode)
+unfolding ownOf
+own-keyed mode g at ps r = λ i.
+    cond (eqb mode 1) ((place-keyed g at ps r) i)
+    (cond (eqb mode 2) ((keys-keyed g at ps r) i)
+    (cond (eqb mode 3) ((excludes-keyed false g at ps r) i) (cond (eqb mode 4) ((excludes-keyed true g at ps r) i) (cond (eqb mode 5) ((hands-keyed g at ps r) i) ((handsKeys-keyed g at ps r) i)))))
+
+-- views by number
+abbrev valuesIn : ℕ → ℕ
+valuesIn v = cond (eqb v 2) 1 v
+
+view-values : (v : ℕ) → viewOf (valuesIn v) ≡ valuesOf (viewOf v)
+unfolding viewOf
+view-values v = by-test (eqb v 2) (λ e. rw e refl) (λ e. rw (e, e) (go (eqb v 3)))
+  where
+    go : (b : Bool) → cond b leaving replacing ≡ valuesOf (cond b leaving replacing)
+    go true = refl
+    go false = refl
+
+values-4 : (v : ℕ) → eqb v 4 ≡ false → eqb (valuesIn v) 4 ≡ false
+values-4 v e = go (eqb v 2)
+  where
+    go : (b : Bool) → eqb (cond b 1 v) 4 ≡ false
+    go true = refl
+    go false = e
+
+replaced-view : (v : ℕ) → cond (eqb v 2) false (cond (eqb v 3) false true) ≡ true → viewOf v ≡ replacing
+unfolding viewOf
+replaced-view v = go (eqb v 2) (eqb v 3)
+  where
+    go : (a b : Bool) → cond a false (cond b false true) ≡ true → cond a taking (cond b leaving replacing) ≡ replacing
+    go true b h = absurd (false≢true h)
+    go false true h = absurd (false≢true h)
+    go false false h = refl
+
+taken-view : (v : ℕ) → cond (eqb v 2) false (cond (eqb v 3) false true) ≡ false → takes (viewOf v) ≡ true
+unfolding viewOf
+taken-view v = go (eqb v 2) (eqb v 3)
+  where
+    go : (a b : Bool) → cond a false (cond b false true) ≡ false → takes (cond a taking (cond b leaving replacing)) ≡ true
+    go true b h = refl
+    go false true h = refl
+    go false false h = absurd (true≢false h)
+
+module _ (mode v : ℕ) where
+  all-view : eqb v 4 ≡ false → overAll mode v ≡ overObjects (ownOf mode) (viewOf v)
+  unfolding overAll
+  all-view e = fun-ext (λ p. rw e refl)
+
+  all-rests : eqb v 4 ≡ true → overAll mode v ≡ overRests (ownOf mode)
+  unfolding overAll
+  all-rests e = fun-ext (λ p. rw e refl)
+
+-- the view of the values
+module _ (mode v : ℕ) where
+  values-view : eqb v 4 ≡ false → overAll mode (valuesIn v) ≡ overObjects (ownOf mode) (valuesOf (viewOf v))
+  values-view e = all-view mode (valuesIn v) (values-4 v e) ∙ ap (overObjects (ownOf mode)) (view-values v)
+
+  values-rests : eqb v 4 ≡ true → overAll mode (valuesIn v) ≡ overRests (ownOf mode)
+  values-rests e = ap (λ (x : ℕ). overAll mode (valuesIn x)) (eqb-true v 4 e) ∙ all-rests mode 4 refl
+
+  in-values : (F : Node → Emit) → overAll mode (valuesIn v) ≡ F → (ps : Items) → inTurn (λ q. F (value q)) ps ≡ inTurn (λ q. overAll mode (valuesIn v) (value q)) ps
+  in-values F e ps = ap (λ (x : Node → Emit). inTurn (λ q. x (value q)) ps) (sym e)
+
+  all-object : (at : ℕ) (ps : Items) → overAll mode v (objectAt at ps) ≡ inTurn (λ q. overAll mode (valuesIn v) (value q)) ps
+  all-object at ps =
+      by-test (eqb v 4)
+      (λ e. ap (λ (x : Node → Emit). x (objectAt at ps)) (all-rests mode v e) ∙ through-object (ownOf mode) at ps ∙ in-values (overRests (ownOf mode)) (values-rests e) ps)
+      (λ e. ap (λ (x : Node → Emit). x (objectAt at ps)) (all-view mode v e) ∙ over-object (ownOf mode) (viewOf v) at ps ∙ in-values (overObjects (ownOf mode) (valuesOf (viewOf v))) (values-view e) ps)
+
+  all-rest : cond (eqb v 2) false (cond (eqb v 3) false true) ≡ true → (at : ℕ) (ps : Items) (r : Node)
+      → overAll mode v (objectRestAt at ps r) ≡ inTurn (λ q. overAll mode (valuesIn v) (value q)) ps ▷ ownOf mode (objectRestAt at ps r)
+  all-rest h at ps r =
+      let o = objectRestAt at ps r in
+      by-test (eqb v 4)
+      (λ e. ap (λ (x : Node → Emit). x o) (all-rests mode v e) ∙ through-rest (ownOf mode) at ps r ∙ ap (λ (x : Emit). x ▷ ownOf mode o) (in-values (overRests (ownOf mode)) (values-rests e) ps))
+      (λ e.
+      let w : overAll mode (valuesIn v) ≡ overObjects (ownOf mode) replacing = values-view e ∙ ap (λ (x : View). overObjects (ownOf mode) (valuesOf x)) (replaced-view v h) in
+      ap (λ (x : Node → Emit). x o) (all-view mode v e)
+      ∙ ap (λ (x : View). overObjects (ownOf mode) x o) (replaced-view v h)
+      ∙ over-keyed (ownOf mode) (own-keyed mode) at ps r
+      ∙ ap (λ (x : Emit). x ▷ ownOf mode o) (in-values (overObjects (ownOf mode) replacing) w ps))
+
+  all-taken : cond (eqb v 2) false (cond (eqb v 3) false true) ≡ false → (at : ℕ) (ps : Items) (r : Node)
+      → overAll mode v (objectRestAt at ps r) ≡ inTurn (λ q. overAll mode (valuesIn v) (value q)) ps
+  all-taken h at ps r =
+      by-test (eqb v 4)
+      (λ e. let z : cond (eqb v 2) false (cond (eqb v 3) false true) ≡ true = rw (eqb-true v 4 e) refl in absurd (true≢false (sym z ∙ h)))
+      (λ e. ap (λ (x : Node → Emit). x (objectRestAt at ps r)) (all-view mode v e) ∙ over-taken (ownOf mode) (viewOf v) (taken-view v h) at ps r ∙ in-values (overObjects (ownOf mode) (valuesOf (viewOf v))) (values-view e) ps)
+
+  all-array : eqb v 4 ≡ false → (at : ℕ) (ns : Items) (fs : Fields) → overAll mode v (node at 36 (field (list ns) fs)) ≡ inTurn (overAll mode 1) ns
+  all-array e at ns fs =
+      ap (λ (x : Node → Emit). x (node at 36 (field (list ns) fs))) (all-view mode v e)
+      ∙ over-array (ownOf mode) (viewOf v) at ns fs
+      ∙ ap (λ (x : Node → Emit). inTurn x ns) (sym (all-view mode 1 refl ∙ one-view))
+    where
+      one-view : overObjects (ownOf mode) (viewOf 1) ≡ overObjects (ownOf mode) replacing
+      one-view = ap (overObjects (ownOf mode)) (replaced-view 1 refl)
+
+  all-arrays : eqb v 4 ≡ true → (at : ℕ) (fs : Fields) → overAll mode v (node at 36 fs) ≡ say []
+  all-arrays e at fs = ap (λ (x : Node → Emit). x (node at 36 fs)) (all-rests mode v e) ∙ through-array (ownOf mode) at fs
+
+  all-default : (at : ℕ) (l r : Node) → overAll mode v (defaultAt at l r) ≡ overAll mode (valuesIn v) l
+  all-default at l r =
+      let p = defaultAt at l r in
+      by-test (eqb v 4)
+      (λ e. ap (λ (x : Node → Emit). x p) (all-rests mode v e) ∙ through-default (ownOf mode) at l _ ∙ ap (λ (x : Node → Emit). x l) (sym (values-rests e)))
+      (λ e. ap (λ (x : Node → Emit). x p) (all-view mode v e) ∙ over-default (ownOf mode) (viewOf v) at l _ ∙ ap (λ (x : Node → Emit). x l) (sym (values-view e)))
+
+  all-leaf : (p : Node) → shape p ≡ leaf → overAll mode v p ≡ say []
+  all-leaf p s =
+      by-test (eqb v 4)
+      (λ e. ap (λ (x : Node → Emit). x p) (all-rests mode v e) ∙ through-leaf (ownOf mode) p s)
+      (λ e. ap (λ (x : Node → Emit). x p) (all-view mode v e) ∙ over-leaf (ownOf mode) (viewOf v) p s)
+
+-- ---- the ways out of `over`
+
+bit-of : (a b c : Bool) → cond a false (cond b false c) ≡ true → c ≡ true
+bit-of true b c h = absurd (false≢true h)
+bit-of false true c h = absurd (false≢true h)
+bit-of false false c h = h
+
+module _ (t : List ℕ) where
+  -- a good node has a level
+  pub at-level : (F : ℕ → Type 0) (left d at : ℕ) → d ≡ left - 1 → Good t left at → (Good t (suc d) at → F (suc d)) → F left
+  at-level F zero d at e g k = no-good t at g
+  at-level F (suc m) d at e g k = let z : suc d ≡ suc m = omega arith in subst F z (k (subst (λ (x : ℕ). Good t x at) (sym z) g))
+
+  pub good-none : {A : Type 0} (left at : ℕ) → left ≡ 0 → Good t left at → A
+  good-none left at z g = no-good t at (subst (λ (x : ℕ). Good t x at) z g)
+
+  pub kind-byte : (d at k : ℕ) → Good t d at → is k (lookNode t d at .value) ≡ true → byteAt t at ≡ k
+  kind-byte zero at k g e = no-good t at g
+  kind-byte (suc d) at k g e = eqb-true (byteAt t at) k (sym (is-here t d at k) ∙ e)
+
+  is-not : (d at k b : ℕ) → b ≡ byteAt t at → (b ≡ k → ⊥) → is k (lookNode t (suc d) at .value) ≡ false
+  is-not d at k b e n = is-here t d at k ∙ ne-eqb (byteAt t at) k (λ x. n (e ∙ x))
+
+  pub leaf-here : (d at b : ℕ) → b ≡ byteAt t at → (b ≡ 34 → ⊥) → (b ≡ 36 → ⊥) → (b ≡ 37 → ⊥) → shape (lookNode t (suc d) at .value) ≡ leaf
+  leaf-here d at b e x y z = shape-leaf (lookNode t (suc d) at .value) (is-not d at 34 b e x) (is-not d at 36 b e y) (is-not d at 37 b e z)
+
+  pub leaf-does : {g : Going} (left at b v mode : ℕ) → b ≡ byteAt t at → (b ≡ 34 → ⊥) → (b ≡ 36 → ⊥) → (b ≡ 37 → ⊥) → Good t left at → Does g g (overAll mode v (lookNode t left at .value))
+  leaf-does zero at b v mode e x y z good = no-good t at good
+  leaf-does {g = g} (suc d) at b v mode e x y z good = does-as (does-nothing g) (sym (all-leaf mode v (lookNode t (suc d) at .value) (leaf-here d at b e x y z)))
+
+  pub default-does : {g g′ : Going} (left d at p v v′ mode : ℕ) → d ≡ left - 1 → p ≡ onward t at 2 → v′ ≡ cond (eqb v 2) 1 v → (Good t d p → Does g g′ (overAll mode v′ (lookNode t d p .value)))
+      → byteAt t at ≡ 37 → Good t left at → Does g g′ (overAll mode v (lookNode t left at .value))
+  default-does {g = g} {g′ = g′} left d at p v v′ mode e a b k kind good =
+      at-level (λ (m : ℕ). Does g g′ (overAll mode v (lookNode t m at .value))) left d at e good
+      (λ here.
+      let u = default-open t d at here kind in
+      let whole = ap (λ (s : Seen Node). s .value) (u .whole) in
+      let k′ : Good t d (onward t at 2) → Does g g′ (overAll mode v′ (lookNode t d (onward t at 2) .value)) = subst (λ (x : ℕ). Good t d x → Does g g′ (overAll mode v′ (lookNode t d x .value))) a k in
+      does-as (k′ (u .left)) (ap (λ (x : ℕ). overAll mode x (lookNode t d (onward t at 2) .value)) b ∙ sym (all-default mode v at _ _) ∙ ap (overAll mode v) (sym whole)))
+
+  pub value-does : {g g′ : Going} (left d at s x v mode : ℕ) → d ≡ left - 1 → s ≡ onward t at 2 → x ≡ lookNode t d s .next → (Good t d x → Does g g′ (overAll mode v (lookNode t d x .value)))
+      → Good t left at → byteAt t at ≡ 35 → Does g g′ (overAll mode v (value (lookNode t left at .value)))
+  unfolding nodeAt pieceIn
+  value-does {g = g} {g′ = g′} left d at s x v mode e a b k good kind =
+      at-level (λ (m : ℕ). Does g g′ (overAll mode v (value (lookNode t m at .value)))) left d at e good
+      (λ here.
+      let u = property-open t d at here kind in
+      let place : x ≡ lookNode t d (onward t at 2) .next = b ∙ ap (λ (y : ℕ). lookNode t d y .next) a in
+      let k′ = subst (λ (y : ℕ). Good t d y → Does g g′ (overAll mode v (lookNode t d y .value))) place k in
+      does-as (k′ (u .value)) (ap (λ (y : Seen Node). overAll mode v (value (y .value))) (sym (u .whole))))
+
+  pub array-left : {g : Going} (left at v mode : ℕ) → v ≡ 4 → Good t left at → byteAt t at ≡ 36 → Does g g (overAll mode v (lookNode t left at .value))
+  unfolding lookNode
+  array-left zero at v mode z good kind = no-good t at good
+  array-left {g = g} (suc d) at v mode z good kind =
+      let fs : Fields = lookFields t (λ q. lookNode t d q) (fieldsOf (byteAt t at)) (byteAt t (onward t at 1)) (onward t at 2) .value in
+      does-as (does-nothing g) (sym (all-arrays mode v (eq-eqb v 4 z) at fs) ∙ ap (λ (k : ℕ). overAll mode v (node at k fs)) (sym kind))
+
+  -- the list of a node stands behind its head
+  module _ (left d at q p n : ℕ) (e : d ≡ left - 1) (a : q ≡ onward t at 2) (b : p ≡ onward t q 2) (w : Wide t q n) where
+    pub list-from : (F : ℕ → ℕ → Type 0) → F n p → F (wideAt t (onward t at 2)) (onward t (onward t at 2) 2)
+    list-from F x = subst (λ (m : ℕ). F m (onward t (onward t at 2) 2)) (w .value ∙ ap (λ (y : ℕ). wideAt t y) a) (subst (λ (y : ℕ). F n y) (b ∙ ap (λ (y : ℕ). onward t y 2) a) x)
+
+    module _ {g g₁ : Going} (v v′ mode : ℕ) (r : Bool) (c : v′ ≡ cond (eqb v 2) 1 v) (f : r ≡ cond (eqb v 2) false (cond (eqb v 3) false (eqb (byteAt t (onward t at 1) / 2 % 2) 1)))
+        (k : GoodItems t (lookNode t d) (Good t d) false false n p → AllItems (λ q. is 35 q ≡ true) (lookItems t (lookNode t d) false n p .value)
+        → Does g g₁ (inTurn (λ q. overAll mode v′ (value q)) (lookItems t (lookNode t d) false n p .value))) where
+      abbrev N : ℕ
+      N = wideAt t (onward t at 2)
+
+      abbrev Q : ℕ
+      Q = onward t (onward t at 2) 2
+
+      abbrev ps : Items
+      ps = lookItems t (lookNode t d) false N Q .value
+
+      values : GoodItems t (lookNode t d) (Good t d) false false N Q → AllItems (λ q. is 35 q ≡ true) ps → Does g g₁ (inTurn (λ q. overAll mode (valuesIn v) (value q)) ps)
+      values x y =
+          does-as
+          (list-from (λ (m z : ℕ). GoodItems t (lookNode t d) (Good t d) false false m z → AllItems (λ q. is 35 q ≡ true) (lookItems t (lookNode t d) false m z .value) → Does g g₁ (inTurn (λ q. overAll mode v′ (value q)) (lookItems t (lookNode t d) false m z .value))) k x y)
+          (ap (λ (m : ℕ). inTurn (λ q. overAll mode m (value q)) ps) c)
+
+      -- the object itself behind its values
+      pub own-does : {g₂ : Going} → r ≡ true → (Good t left at → byteAt t at ≡ 34 → Does g₁ g₂ (ownOf mode (lookNode t left at .value)))
+          → Good t left at → byteAt t at ≡ 34 → Does g g₂ (overAll mode v (lookNode t left at .value))
+      own-does {g₂ = g₂} z o good kind =
+          let h = sym f ∙ z in
+          let bit : eqb (byteAt t (onward t at 1) / 2 % 2) 1 ≡ true = bit-of (eqb v 2) (eqb v 3) (eqb (byteAt t (onward t at 1) / 2 % 2) 1) h in
+          let h′ : cond (eqb v 2) false (cond (eqb v 3) false true) ≡ true = ap (λ (x : Bool). cond (eqb v 2) false (cond (eqb v 3) false x)) (sym bit) ∙ h in
+          at-level (λ (m : ℕ). Does g₁ g₂ (ownOf mode (lookNode t m at .value)) → Does g g₂ (overAll mode v (lookNode t m at .value))) left d at e good
+          (λ here own.
+          let u = object-open t d at here kind in
+          let whole = ap (λ (s : Seen Node). s .value) (u .resting bit) in
+          does-as (does-then (values (u .list .good) (u .properties)) own)
+          (ap (λ (x : Node). inTurn (λ q. overAll mode (valuesIn v) (value q)) ps ▷ ownOf mode x) whole ∙ sym (all-rest mode v h′ at ps _) ∙ ap (overAll mode v) (sym whole)))
+          (o good kind)
+
+      -- its values alone
+      pub values-do : r ≡ false → Good t left at → byteAt t at ≡ 34 → Does g g₁ (overAll mode v (lookNode t left at .value))
+      values-do z good kind =
+          at-level (λ (m : ℕ). Does g g₁ (overAll mode v (lookNode t m at .value))) left d at e good
+          (λ here.
+          let u = object-open t d at here kind in
+          let done = values (u .list .good) (u .properties) in
+          by-test (eqb (byteAt t (onward t at 1) / 2 % 2) 1)
+          (λ bit.
+          let h : cond (eqb v 2) false (cond (eqb v 3) false true) ≡ false = ap (λ (x : Bool). cond (eqb v 2) false (cond (eqb v 3) false x)) (sym bit) ∙ sym f ∙ z in
+          does-as done (sym (all-taken mode v h at ps _) ∙ ap (λ (s : Seen Node). overAll mode v (s .value)) (sym (u .resting bit))))
+          (λ bit. does-as done (sym (all-object mode v at ps) ∙ ap (λ (s : Seen Node). overAll mode v (s .value)) (sym (u .plain bit)))))
+
+    pub array-does : {g g₁ : Going} (v mode : ℕ) → (v ≡ 4 → ⊥)
+        → (GoodItems t (lookNode t d) (Good t d) false true n p → Does g g₁ (inTurn (overAll mode 1) (lookItems t (lookNode t d) true n p .value)))
+        → Good t left at → byteAt t at ≡ 36 → Does g g₁ (overAll mode v (lookNode t left at .value))
+    array-does {g = g} {g₁ = g₁} v mode z k good kind =
+        let h : eqb v 4 ≡ false = ne-eqb v 4 z in
+        at-level (λ (m : ℕ). Does g g₁ (overAll mode v (lookNode t m at .value))) left d at e good
+        (λ here.
+        let u = array-open t d at here kind in
+        let ns = lookItems t (lookNode t d) true (wideAt t (onward t at 2)) (onward t (onward t at 2) 2) .value in
+        let done : Does g g₁ (inTurn (overAll mode 1) ns) = list-from (λ (m y : ℕ). GoodItems t (lookNode t d) (Good t d) false true m y → Does g g₁ (inTurn (overAll mode 1) (lookItems t (lookNode t d) true m y .value))) k (u .list .good) in
+        by-test (eqb (byteAt t (onward t at 1) / 2 % 2) 1)
+        (λ bit. does-as done (sym (all-array mode v h at ns _) ∙ ap (λ (s : Seen Node). overAll mode v (s .value)) (sym (u .resting bit))))
+        (λ bit. does-as done (sym (all-array mode v h at ns _) ∙ ap (λ (s : Seen Node). overAll mode v (s .value)) (sym (u .plain bit)))))
+
+  -- an item of a list with holes
+  pub hole-does : {g : Going} (at n : ℕ) (e : Emit) → Peeked t at n → n ≡ 0 → Does g g (cond (holeAt t true at) (say []) e)
+  hole-does {g = g} at n e p z = does-as (does-nothing g) (ap (λ (b : Bool). cond b (say []) e) (sym (is-hole t true at n refl p z)))
+
+  pub item-does : {g g′ : Going} (d at n : ℕ) (e : Emit) → Peeked t at n → (n ≡ 0 → ⊥) → (Good t d at → Does g g′ e) → (holeAt t true at ≡ false → Good t d at) → Does g g′ (cond (holeAt t true at) (say []) e)
+  item-does d at n e p z k good =
+      let b : holeAt t true at ≡ false = no-hole t true at n refl p z in
+      does-as (k (good b)) (ap (λ (x : Bool). cond x (say []) e) (sym b))
+
+-- ---- tests of the view
+
+pub values-taking : (v : ℕ) → v ≡ 2 → 1 ≡ cond (eqb v 2) 1 v
+values-taking v e = rw (eq-eqb v 2 e) refl
+
+pub values-same : (v : ℕ) → (v ≡ 2 → ⊥) → v ≡ cond (eqb v 2) 1 v
+values-same v e = rw (ne-eqb v 2 e) refl
+
+pub replaces-taking : (v : ℕ) (b : Bool) → v ≡ 2 → false ≡ cond (eqb v 2) false (cond (eqb v 3) false b)
+replaces-taking v b e = rw (eq-eqb v 2 e) refl
+
+pub replaces-leaving : (v : ℕ) (b : Bool) → (v ≡ 2 → ⊥) → v ≡ 3 → false ≡ cond (eqb v 2) false (cond (eqb v 3) false b)
+replaces-leaving v b x e = rw (ne-eqb v 2 x, eq-eqb v 3 e) refl
+
+pub replaces-rest : (v : ℕ) (r b : Bool) → (v ≡ 2 → ⊥) → (v ≡ 3 → ⊥) → r ≡ b → r ≡ cond (eqb v 2) false (cond (eqb v 3) false b)
+replaces-rest v r b x y e = rw (ne-eqb v 2 x, ne-eqb v 3 y) e

@@ -1,0 +1,242 @@
+-- What is looked up before something is written: one law for each way out.
+-- Assumes nothing.
+use mathlib.Core.Path.{_≡_, refl, sym, ap, _∙_}
+use mathlib.Core.Bool.{Bool, true, false, cond}
+use mathlib.Core.List.{List}
+use Prim.Native.Nat.{ℕ, zero, suc, _+_, _-_, _/_, _%_, _<_, _≤_}
+use native.Mathlib.Omega.{arith}
+use lib.Dec.{eqb}
+use borrow.Author.Tests.{eq-eqb, ne-eqb}
+use Rattle.tree.specs.Tree.{Node, Items, count, depth}
+use Rattle.tree.specs.Tree.Items.{none, hole, item}
+use Rattle.tree.specs.Read.{byteAt}
+use Rattle.tree.specs.Answer.{Peeked}
+use Rattle.tree.specs.Look.{onward, lookItem, lookItems, lookNode}
+use Rattle.lowering.specs.Parts.{nodeAt, isEmpty, gather}
+use Rattle.lowering.specs.Patterns.{properties, itemsOf, rest, shape}
+use Rattle.lowering.specs.Heads.{moved, isMoved, movedFrom}
+use Rattle.lowering.specs.Keys.{allPrimitive, keySort}
+use Rattle.lowering.specs.Keys as lowering
+use Rattle.pattern.specs.declared.parts.Part.{Part}
+use Rattle.pattern.specs.declared.parts.Part.the-variants.{One, Many, Text, Number, Missing}
+use Rattle.pattern.specs.declared.keys.Key.{Key}
+use Rattle.pattern.specs.declared.keys.Key.the-variants.{Name, Literal, NoForm, Template, Private, Again, Other}
+use Rattle.pattern.specs.Parts.{partAt}
+use Rattle.pattern.specs.Keys.{nameIn, formIn, keyBy, keyAt, Becomes}
+use Rattle.pattern.specs.Tally.{limited}
+use Rattle.pattern.proofs.KeyCases.{count-append}
+use Rattle.pattern.proofs.Below.{by-shape}
+use Rattle.pattern.proofs.Adding.{numbers, Adds, listSum, sum-start, sum-more, sum-end}
+use Rattle.pattern.proofs.Moving.{count-sum}
+use Rattle.direct.specs.Events.{cell}
+use Rattle.direct.specs.Views.{isOther}
+use Rattle.direct.specs.Keys.{primitives, hoists}
+use Rattle.direct.specs.Moved.{number}
+use Rattle.direct.proofs.MovedMade.{number-join}
+use Rattle.walk.specs.declared.look.Start.the-variants as start
+use Rattle.walk.specs.Turns.{keyClass, startOf}
+
+-- ---- tests
+
+module _ {A : Type 0} (x a b : A) where
+  pub if-yes : (v n : ℕ) → v ≡ n → x ≡ a → x ≡ cond (eqb v n) a b
+  if-yes v n e h = rw (eq-eqb v n e) h
+
+  pub if-no : (v n : ℕ) → (v ≡ n → ⊥) → x ≡ b → x ≡ cond (eqb v n) a b
+  if-no v n e h = rw (ne-eqb v n e) h
+
+  pub when-yes : (t : Bool) → t ≡ true → x ≡ a → x ≡ cond t a b
+  when-yes t e h = rw e h
+
+  pub when-no : (t : Bool) → t ≡ false → x ≡ b → x ≡ cond t a b
+  when-no t e h = rw e h
+
+-- ---- bits of a bit map
+
+pub first-of : (t : List ℕ) (at p m : ℕ) → p ≡ onward t at 1 → Peeked t p m → m % 2 ≡ byteAt t (onward t at 1) % 2
+first-of t at p m e w = ap (λ (x : ℕ). x % 2) (w .value ∙ ap (λ (x : ℕ). byteAt t x) e)
+
+pub second-of : (t : List ℕ) (at p m : ℕ) → p ≡ onward t at 1 → Peeked t p m → m / 2 % 2 ≡ byteAt t (onward t at 1) / 2 % 2
+second-of t at p m e w = ap (λ (x : ℕ). x / 2 % 2) (w .value ∙ ap (λ (x : ℕ). byteAt t x) e)
+
+-- ---- levels
+
+pub level-none : (left : ℕ) (i : Bool) → i ≡ true → left ≡ 0 → (0 ≡ cond i (left - 1) left) × (0 ≤ left)
+level-none left i e z = (rw (e, z) refl, omega arith)
+
+pub level-below : (left : ℕ) (i : Bool) → i ≡ true → (left - 1 ≡ cond i (left - 1) left) × (left - 1 ≤ left)
+level-below left i e = (rw e refl, omega arith)
+
+-- ---- cells
+
+pub cell-one : (s at : ℕ) → s ≡ 2 → at + 1 ≡ cell s at
+unfolding cell
+cell-one s at e = rw e refl
+
+pub cell-two : (s at : ℕ) → s ≡ 3 → at + 2 ≡ cell s at
+unfolding cell
+cell-two s at e = rw e refl
+
+pub cell-here : (s at : ℕ) → (s ≡ 2 → ⊥) → (s ≡ 3 → ⊥) → s < 5 → at ≡ cell s at
+unfolding cell
+cell-here zero at a b h = omega arith
+cell-here (suc zero) at a b h = omega arith
+cell-here (suc (suc zero)) at a b h = absurd (a refl)
+cell-here (suc (suc (suc zero))) at a b h = absurd (b refl)
+cell-here (suc (suc (suc (suc zero)))) at a b h = omega arith
+cell-here (suc (suc (suc (suc (suc s))))) at a b h = absurd (omega arith)
+
+-- ---- keys
+
+-- the class of a key that was read
+abbrev pub classOf : Key → ℕ
+classOf (Name p n) = 1
+classOf (Literal p n) = 1
+classOf NoForm = 1
+classOf Template = 2
+classOf Private = 3
+classOf Again = 2
+classOf Other = 4
+
+class-name : (p : Part) → classOf (nameIn p) ≡ 1
+unfolding nameIn
+class-name (One q) = refl
+class-name (Many h n p) = refl
+class-name (Text p n) = refl
+class-name Number = refl
+class-name Missing = refl
+
+class-form : (p : Part) → classOf (formIn p) ≡ 1
+unfolding formIn
+class-form (One q) = refl
+class-form (Many h n p) = refl
+class-form (Text p n) = refl
+class-form Number = refl
+class-form Missing = refl
+
+abbrev sortClass : lowering.Key → ℕ
+sortClass lowering.Key.name = 1
+sortClass lowering.Key.literal = 1
+sortClass lowering.Key.template = 2
+sortClass lowering.Key.private = 3
+sortClass lowering.Key.again = 2
+sortClass lowering.Key.other = 4
+
+class-by : (s : lowering.Key) (p q : Part) → classOf (keyBy s p q) ≡ sortClass s
+class-by lowering.Key.name p q = class-name p
+class-by lowering.Key.literal p q = class-form q
+class-by lowering.Key.template p q = refl
+class-by lowering.Key.private p q = refl
+class-by lowering.Key.again p q = refl
+class-by lowering.Key.other p q = refl
+
+class-is : (k : Node) → sortClass (keySort k) ≡ keyClass k
+unfolding keyClass
+class-is k = refl
+
+pub key-class : (l : List ℕ) (d at : ℕ) (r k : Key) → Becomes l d at r → r ≡ k → classOf k ≡ keyClass (lookNode l d at .value)
+unfolding keyAt
+key-class l d at r k b e =
+    ap classOf (sym e ∙ b .variant) ∙ class-by (keySort (lookNode l d at .value)) (partAt l d at 0) (partAt l d at 2) ∙ class-is (lookNode l d at .value)
+
+pub other-is : (k : Node) (n : ℕ) → n ≡ keyClass k → eqb n 4 ≡ isOther k
+unfolding keyClass isOther
+other-is k n e = ap (λ (x : ℕ). eqb x 4) e ∙ go (keySort k)
+  where
+    go : (s : lowering.Key) → eqb (sortClass s) 4 ≡ elim s [ lowering.Key.name ↦ false | lowering.Key.literal ↦ false | lowering.Key.template ↦ false | lowering.Key.private ↦ false | lowering.Key.again ↦ false | lowering.Key.other ↦ true ]
+    go lowering.Key.name = refl
+    go lowering.Key.literal = refl
+    go lowering.Key.template = refl
+    go lowering.Key.private = refl
+    go lowering.Key.again = refl
+    go lowering.Key.other = refl
+
+-- ---- excluded keys that go out
+
+pub hoisted-root : (r : Bool) (ps : Items) → r ≡ true → false ≡ hoists r ps
+unfolding hoists
+hoisted-root r ps e = rw e refl
+
+pub hoisted-none : (r b : Bool) (ps : Items) → r ≡ false → b ≡ isEmpty ps → b ≡ true → false ≡ hoists r ps
+unfolding hoists
+hoisted-none r b ps e f h = rw (e, sym f ∙ h) refl
+
+pub hoisted-all : (r b a : Bool) (p : Node) → r ≡ false → b ≡ isEmpty (properties p) → b ≡ false → a ≡ allPrimitive p → a ≡ hoists r (properties p)
+unfolding hoists primitives allPrimitive
+hoisted-all r b a p e f h w = rw (e, sym f ∙ h) w
+
+-- ---- starting values
+
+module _ (t : List ℕ) where
+  pub start-none : (d at : ℕ) → d ≡ 0 → start.Missing ≡ startOf t d at
+  unfolding startOf
+  start-none d at e = rw e refl
+
+  pub start-value : (d at q r : ℕ) (b : Bool) → (d ≡ 0 → ⊥) → b ≡ eqb (byteAt t (onward t at 1) / 2 % 2) 1 → b ≡ true → q ≡ onward t at 2 → r ≡ lookNode t (d - 1) q .next → start.Value r ≡ startOf t d at
+  unfolding startOf
+  start-value zero at q r b z e h f g = absurd (z refl)
+  start-value (suc d) at q r b z e h f g =
+      let k : suc d - 1 ≡ d = omega arith in
+      ap start.Value (g ∙ rw (k, f) refl) ∙ when-yes (start.Value (lookNode t d (onward t at 2) .next)) _ _ _ (sym e ∙ h) refl
+
+  pub start-missing : (d at : ℕ) (b : Bool) → (d ≡ 0 → ⊥) → b ≡ eqb (byteAt t (onward t at 1) / 2 % 2) 1 → b ≡ false → start.Missing ≡ startOf t d at
+  unfolding startOf
+  start-missing zero at b z e h = absurd (z refl)
+  start-missing (suc d) at b z e h = when-no start.Missing _ _ _ (sym e ∙ h) refl
+
+-- ---- patterns that are moved out: none is a hole
+
+number-gather : (f : Node → Items) → ((n : Node) → number (f n) ≡ count (f n)) → (is : Items) → number (gather f is) ≡ count (gather f is)
+unfolding gather number count
+number-gather f h none = refl
+number-gather f h (hole is) = number-gather f h is
+number-gather f h (item n is) =
+    let a = number-join (f n) (gather f is) in
+    let b = count-append (f n) (gather f is) in
+    let x = h n in
+    let y = number-gather f h is in
+    omega arith
+
+number-moved : (d : ℕ) (p : Node) → number (moved d p) ≡ count (moved d p)
+unfolding moved number count
+number-moved zero p = refl
+number-moved (suc d) p =
+    by-shape (shape p)
+    (λ s. rw (s, moved) refl)
+    (λ s. rw (s, moved)
+    (let a = number-join (gather (λ e. moved d e) (itemsOf p)) (moved d (rest p)) in
+    let b = count-append (gather (λ e. moved d e) (itemsOf p)) (moved d (rest p)) in
+    let x = number-gather (λ e. moved d e) (λ e. number-moved d e) (itemsOf p) in
+    let y = number-moved d (rest p) in
+    omega arith))
+    (λ s. rw (s, moved) refl)
+    (λ s. rw (s, moved) refl)
+
+number-from : (q : Node) → number (movedFrom q) ≡ count (movedFrom q)
+unfolding movedFrom number count
+number-from q = go (isMoved q)
+  where
+    go : (b : Bool) → number (cond b (moved (depth (nodeAt 0 q)) (nodeAt 0 q)) none) ≡ count (cond b (moved (depth (nodeAt 0 q)) (nodeAt 0 q)) none)
+    go true = number-moved (depth (nodeAt 0 q)) (nodeAt 0 q)
+    go false = refl
+
+-- of a list of Params or Declarators, counted one by one
+module _ (l : List ℕ) where
+  abbrev pub from : Node → ℕ
+  from q = limited (count (movedFrom q))
+
+  abbrev pub MovedLeft : ℕ → ℕ → ℕ → ℕ → ℕ → ℕ → Type 0
+  MovedLeft d n₀ p₀ n p t = Adds numbers t (listSum numbers l from d false n p) (limited (number (gather movedFrom (lookItems l (lookNode l d) false n₀ p₀ .value))))
+
+  pub moved-start : (d n p : ℕ) → MovedLeft d n p n p 0
+  moved-start d n p =
+      sum-start numbers l from d false n p 0 _ refl
+      (count-sum movedFrom (lookItems l (lookNode l d) false n p .value)
+      ∙ ap limited (sym (number-gather movedFrom number-from (lookItems l (lookNode l d) false n p .value))))
+
+  pub moved-more : (d n₀ p₀ n p q t x u : ℕ) → 0 < n → x ≡ from (lookNode l d p .value) → q ≡ lookNode l d p .next → u ≡ limited (t + x) → MovedLeft d n₀ p₀ n p t → MovedLeft d n₀ p₀ (n - 1) q u
+  unfolding lookItem
+  moved-more d n₀ p₀ n p q t x u z e g v w = sum-more numbers l from d false n p q t x u _ z e g v w
+
+  pub moved-end : (d n₀ p₀ n p t : ℕ) → n ≤ 0 → MovedLeft d n₀ p₀ n p t → t ≡ limited (number (gather movedFrom (lookItems l (lookNode l d) false n₀ p₀ .value)))
+  moved-end d n₀ p₀ n p t z w = sum-end numbers l from d false n p t _ z w

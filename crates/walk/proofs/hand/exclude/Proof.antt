@@ -1,0 +1,46 @@
+use mathlib.Core.Path.{refl, _∙_}
+use Rattle.walk.proofs.HandKeys as law
+use borrow.Author.Needs.{needs}
+use Rattle.walk.proofs.hand.exclude.Statement.{statement}
+use Rattle.walk.proofs.hand.exclude.Tie as tie
+
+hoisted-requires : tie.Need-hoisted-requires
+hoisted-requires c κs = search needs
+
+excluded-keys-requires : tie.Need-excluded-keys-requires
+excluded-keys-requires c κs = search needs
+
+cell-requires : tie.Need-cell-requires
+cell-requires c κs = search needs
+
+excluded-head-requires : tie.Need-excluded-head-requires
+excluded-head-requires c κs = search needs
+
+each-key-requires : tie.Need-each-key-requires
+each-key-requires c κs = search needs
+
+same-length : tie.Need-same-length
+same-length c = search needs
+
+same-length-2 : tie.Need-same-length-2
+same-length-2 c = search needs
+
+returns : tie.Need-returns
+returns c = (c .before .before .before .before .each-key .ensures .0 ∙ c .before .before .before .before .before .before .before .before .before .excluded-head .ensures .1, λ o. law.exclude-does _ _ _ _ _ (c .before .before .before .before .before .before .before .before .before .before .before .before .before .before .hoisted .ensures) _ _ (c .before .before .before .before .before .before .before .before .before .before .before .before .before .if1 .taken) (c .before .before .before .before .before .before .before .before .before .before .before .before .excluded-keys .ensures) (c .before .before .before .before .before .before .before .before .before .before .cell .ensures) (c .before .before .before .before .before .before .before .before .before .excluded-head .ensures .0 o _) (c .before .before .before .before .each-key .ensures .1 o))
+
+returns-2 : tie.Need-returns-2
+returns-2 c = (refl, λ o g k. law.exclude-none _ _ _ _ _ (c .before .hoisted .ensures) (c .if1 .left))
+
+pub exclude-spec : {M : Type 1} → statement M
+exclude-spec =
+    tie.close
+    (tie.spec
+    hoisted-requires
+    excluded-keys-requires
+    cell-requires
+    excluded-head-requires
+    each-key-requires
+    same-length
+    same-length-2
+    returns
+    returns-2)

@@ -1,0 +1,72 @@
+use Prim.Native.Nat.{_+_}
+use mathlib.Core.Bool.{false}
+use Rattle.direct.specs.Literals.{run}
+use borrow.Author.Needs.{needs}
+use Rattle.tree.specs.Look.{lookItems, lookNode}
+use native.Mathlib.Omega.{arith}
+use mathlib.Core.Path.{_≡_, refl, _∙_, sym}
+use Rattle.walk.proofs.Heads as law
+use Rattle.walk.proofs.literal.run_of.Statement.{statement}
+use Rattle.walk.proofs.literal.run_of.Tie as tie
+use Rattle.walk.proofs.literal.run_of.Reads as reads
+use Rattle.walk.proofs.literal.run_of.Lts as lts
+use Rattle.walk.proofs.literal.is_spread.Reads as is-spread-reads
+use Rattle.tree.proofs.skip.skip.Reads as skip-reads
+
+abbrev Inv-loop : tie.InvT-loop
+Inv-loop t left count at k₀ n₀ p₀ k n p = (k + n ≡ count) × (k + run (lookItems t (lookNode t left) false n p .value) ≡ run (lookItems t (lookNode t left) false count at .value))
+
+abbrev μ-loop : tie.MeasureT-loop
+μ-loop t left count at k₀ n₀ p₀ k n p = n
+
+-- src/literal.rt:32:5
+loop-holds : tie.Need-loop-holds Inv-loop μ-loop
+loop-holds c = (omega arith, omega arith)
+
+-- src/literal.rt:33:12
+is-spread-requires : tie.Need-is-spread-requires Inv-loop μ-loop
+is-spread-requires c κs = tt
+
+-- src/literal.rt:34:13
+returns : tie.Need-returns Inv-loop μ-loop
+returns c = law.run-stops _ (lookNode _ _) _ _ _ _ (c .before .before .loop-test .taken) (c .before .is-spread .ensures) (c .if1 .taken) ∙ c .before .before .before .loop .inv .1
+
+-- src/literal.rt:36:9
+skip-requires : tie.Need-skip-requires Inv-loop μ-loop
+skip-requires c κs = tt
+
+-- src/literal.rt:37:9
+sub-n : tie.Need-sub-n Inv-loop μ-loop
+sub-n c = omega (arith, c .before .before .before .loop-test .taken)
+
+-- src/literal.rt:38:9
+add-k : tie.Need-add-k Inv-loop μ-loop
+add-k c = search needs
+
+-- src/literal.rt:32:5
+loop-less : tie.Need-loop-less Inv-loop μ-loop
+loop-less c = omega (arith, c .before .before .before .loop-test .taken)
+
+-- src/literal.rt:32:5
+loop-again : tie.Need-loop-again Inv-loop μ-loop
+loop-again c = (omega (arith, c .before .before .before .before .loop .inv .0, c .before .before .before .loop-test .taken), law.run-more _ (lookNode _ _) _ _ _ _ _ (c .before .before .before .loop-test .taken) (c .before .before .is-spread .ensures) (c .before .if1 .left) (c .skip .ensures) ∙ c .before .before .before .before .loop .inv .1)
+
+-- src/literal.rt:26:1
+returns-2 : tie.Need-returns-2 Inv-loop μ-loop
+returns-2 c = law.run-end _ (lookNode _ _) _ _ _ (c .loop-test .left) ∙ c .before .loop .inv .1
+
+pub run-of-spec : {M : Type 1} → statement M
+run-of-spec =
+    tie.close
+    (tie.spec
+    Inv-loop
+    μ-loop
+    loop-holds
+    is-spread-requires
+    returns
+    skip-requires
+    sub-n
+    add-k
+    loop-less
+    loop-again
+    returns-2)

@@ -1,0 +1,12 @@
+use Rattle.walk.proofs.Sources as law
+use Rattle.walk.proofs.pieces.cell_source.Statement.{statement}
+use Rattle.walk.proofs.pieces.cell_source.Tie as tie
+use Rattle.walk.proofs.pieces.cell_source.Reads as reads
+use Rattle.walk.proofs.pieces.cell_source.Lts as lts
+
+-- src/emit.rt:72:1
+returns : tie.Need-returns
+returns c = λ t. law.cell-read t _ _ _
+
+pub cell-source-spec : {M : Type 1} → statement M
+cell-source-spec = tie.close (tie.spec returns)

@@ -1,0 +1,14 @@
+use mathlib.Core.Path.{refl}
+use Rattle.direct.specs.Emit.{inner}
+use Rattle.walk.proofs.place.inside.Statement.{statement}
+use Rattle.walk.proofs.place.inside.Tie as tie
+use Rattle.walk.proofs.place.inside.Reads as reads
+use Rattle.walk.proofs.place.inside.Lts as lts
+
+-- src/emit.rt:108:1
+returns : tie.Need-returns
+unfolding inner
+returns c = (refl, refl)
+
+pub inside-spec : {M : Type 1} → statement M
+inside-spec = tie.close (tie.spec returns)

@@ -1,0 +1,14 @@
+use Rattle.direct.specs.Emit.{unused, marking}
+use mathlib.Core.Path.{refl}
+use Rattle.walk.proofs.place.statement.Statement.{statement}
+use Rattle.walk.proofs.place.statement.Tie as tie
+use Rattle.walk.proofs.place.statement.Reads as reads
+use Rattle.walk.proofs.place.statement.Lts as lts
+
+-- src/emit.rt:46:1
+returns : tie.Need-returns
+unfolding unused marking
+returns c = (refl, refl)
+
+pub statement-spec : {M : Type 1} → statement M
+statement-spec = tie.close (tie.spec returns)

@@ -1,0 +1,193 @@
+-- What is done for each item of a list, by the mode of a turn, and how a source is read.
+use Prim.Native.Nat.{ℕ, zero, suc, _+_, _-_, _/_, _%_}
+use mathlib.Core.Path.{_≡_}
+use mathlib.Core.Bool.{Bool, true, false, cond, not, _&&_, _||_}
+use mathlib.Core.List.{List, [], _∷_, _++_}
+use lib.Dec.{eqb, leb}
+use Rattle.tree.specs.Tree.{Node, Items, wideBytes, encode}
+use Rattle.tree.specs.Tree.Items.{none, hole, item}
+use Rattle.tree.specs.Read.{byteAt}
+use Rattle.tree.specs.Look.{Seen, onward, lookNode}
+use Rattle.lowering.specs.Parts.{is, textAt}
+use Rattle.lowering.specs.Made as made
+use Rattle.lowering.specs.Patterns.{value, rest, hasArrayRestOverObjectRest}
+use Rattle.lowering.specs.Heads.{movedFrom}
+use Rattle.lowering.specs.Keys.{keySort}
+use Rattle.lowering.specs.Keys.Key.{name, literal, template, private, again, other}
+use Rattle.lowering.proofs.All.{AllItems}
+use Rattle.sink.specs.Machine.{part}
+use Rattle.sink.specs.Machine.Event.{put, temporary, newMark}
+use Rattle.pattern.specs.declared.source.Read.{Read}
+use Rattle.pattern.specs.declared.source.Read.the-variants.{Expression, Temporary}
+use Rattle.pattern.specs.declared.source.ReferenceBuilder.{ReferenceBuilder}
+use Rattle.pattern.specs.Source.{readOf}
+use Rattle.direct.specs.Events.{Deed, Place, Emit, puts, excludes, emits}
+use Rattle.direct.specs.Events.Deed.{does}
+use Rattle.direct.specs.Emit.{say, _▷_, inner}
+use Rattle.direct.specs.Views.{View, emitsView, emitsProperty}
+use Rattle.direct.specs.Views.View.{replacing, taking, leaving}
+use Rattle.direct.specs.Keys.{stringBytes, emitsExcluded}
+use Rattle.direct.specs.Objects.{overObjects, overRests}
+use Rattle.direct.specs.Handed.{placeMade, keyMade, keysMade, keyBytes, excludesOf, handsKey, handsKeys, handsPlace}
+use Rattle.direct.specs.Declared.{emitsKeyValue, emitsFound, emitsDeclarator}
+use Rattle.direct.specs.Assigned.{emitsRestOf, emitsInner}
+use Rattle.direct.specs.Moved.{outOf, movedIn, behind}
+use Rattle.walk.specs.declared.look.Start.{Start}
+use Rattle.walk.specs.declared.look.Start.the-variants.{Value, Missing}
+use Rattle.walk.specs.Whole.{holeAt}
+
+-- a view by its number
+unfoldable pub viewOf : ℕ → View
+viewOf v = cond (eqb v 2) taking (cond (eqb v 3) leaving replacing)
+
+-- the rest of an object, from the value of the target at x; where x is 16383, no start of a pattern, only what it is assigned to
+unfoldable pub restFrom : Place → ℕ → Node → Emit
+restFrom c x o = cond (eqb x 16383) (emits (inner c) (rest o)) (emitsRestOf c x o)
+
+-- ---- modes
+
+-- patterns: 1 in the view that replaces, 8 what is found below, 12 and 17 the assignments of objects that were replaced, 16 moved out,
+-- 18 the rests of the target at x. Properties: 2 to 5 in a view, 6 an excluded key, 7 a key's value, 9, 13, 14, 15 as 8, 12, 17, 18 for the
+-- property's value. 10 a declarator, 11 a parameter or a declarator whose pattern is moved out
+unfoldable pub turnOf : ℕ → ℕ → Place → Node → Emit
+turnOf mode x c n =
+    cond (eqb mode 1) (emitsView c replacing n)
+    (cond (eqb mode 2) (emitsProperty c false replacing n)
+    (cond (eqb mode 3) (emitsProperty c false leaving n)
+    (cond (eqb mode 4) (emitsProperty c true replacing n)
+    (cond (eqb mode 5) (emitsProperty c true leaving n)
+    (cond (eqb mode 6) (emitsExcluded c n)
+    (cond (eqb mode 7) (emitsKeyValue c n)
+    (cond (eqb mode 8) (emitsFound c n)
+    (cond (eqb mode 9) (emitsFound c (value n))
+    (cond (eqb mode 10) (emitsDeclarator c n)
+    (cond (eqb mode 11) (emits c (behind n))
+    (cond (eqb mode 12) (overObjects (emitsInner c) replacing n)
+    (cond (eqb mode 13) (overObjects (emitsInner c) replacing (value n))
+    (cond (eqb mode 14) (overObjects (emitsInner c) leaving (value n))
+    (cond (eqb mode 15) (overRests (restFrom c x) (value n))
+    (cond (eqb mode 16) (emits c (outOf n))
+    (cond (eqb mode 17) (overObjects (emitsInner c) leaving n)
+    (cond (eqb mode 18) (overRests (restFrom c x) n)
+    (say []))))))))))))))))))
+
+-- those that go below a pattern
+unfoldable pub deepMode : ℕ → Bool
+deepMode mode = eqb mode 8 || (eqb mode 12 || (eqb mode 17 || eqb mode 18))
+
+-- what may stand in the list: patterns, those without an object rest below an array rest, properties, declarators, parameters or declarators
+unfoldable pub suits : ℕ → Node → Bool
+suits mode n =
+    cond (eqb mode 1 || (eqb mode 8 || (eqb mode 16 || eqb mode 18))) true
+    (cond (eqb mode 12 || eqb mode 17) (not (hasArrayRestOverObjectRest n))
+    (cond (leb 2 mode && leb mode 7 || (eqb mode 9 || eqb mode 15)) (is 35 n)
+    (cond (eqb mode 13 || eqb mode 14) (is 35 n && not (hasArrayRestOverObjectRest (value n)))
+    (cond (eqb mode 10) (is 5 n) (cond (eqb mode 11) (is 15 n || is 5 n) false)))))
+
+-- a hole is written where the list is
+unfoldable pub holeOf : ℕ → Emit
+holeOf mode = cond (eqb mode 1 || eqb mode 16) (say (does (put 0) ∷ [])) (say [])
+
+unfoldable pub turnsOf : ℕ → ℕ → Place → Items → Emit
+turnsOf mode x c none = say []
+turnsOf mode x c (hole ns) = holeOf mode ▷ turnsOf mode x c ns
+turnsOf mode x c (item n ns) = turnOf mode x c n ▷ turnsOf mode x c ns
+
+abbrev pub AllSuit : ℕ → Items → Type 0
+AllSuit mode ns = AllItems (λ n. suits mode n ≡ true) ns
+
+-- ---- sources: an expression is copied, a temporary is written
+unfoldable pub reads : List ℕ → Read → Emit
+reads tree (Expression left at) = say (puts (part at (lookNode tree left at .next) tree))
+reads tree (Temporary c) = say (does (temporary c) ∷ [])
+
+abbrev pub sourceOf : List ℕ → ReferenceBuilder → Emit
+sourceOf tree b = reads tree (readOf b)
+
+-- ---- what is looked up
+
+-- how a key is written among the excluded keys: 1 as a string, 2 as it stands, 3 not at all, 4 as a temporary
+unfoldable pub keyClass : Node → ℕ
+keyClass k = elim (keySort k) [ name ↦ 1 | literal ↦ 1 | template ↦ 2 | private ↦ 3 | again ↦ 2 | other ↦ 4 ]
+
+unfoldable pub keyString : Node → List ℕ
+keyString k =
+    elim (keySort k) [
+      | name ↦ stringBytes (textAt 0 k)
+      | literal ↦ stringBytes (textAt 2 k)
+      | template ↦ []
+      | private ↦ []
+      | again ↦ []
+      | other ↦ []
+    ]
+
+-- the level of parameters or declarators
+abbrev pub levelOf : Bool → ℕ → ℕ
+levelOf inner left = cond inner (left - 1) left
+
+-- where the starting value of the declarator at a position is
+unfoldable pub startOf : List ℕ → ℕ → ℕ → Start
+startOf tree zero at = Missing
+startOf tree (suc d) at = cond (eqb (byteAt tree (onward tree at 1) / 2 % 2) 1) (Value (lookNode tree d (onward tree at 2) .next)) Missing
+
+-- whether the loop at a position awaits
+unfoldable pub awaits : List ℕ → ℕ → Bool
+awaits tree at = eqb (byteAt tree at) 8 && eqb (byteAt tree (onward tree at 1) / 16) 1
+
+-- ---- items and what is given
+
+-- an item of a list, or a hole
+unfoldable pub spotDeeds : List ℕ → (ℕ → Seen Node) → ℕ → ℕ → Place → Bool → ℕ → Emit
+spotDeeds tree R mode x c h at = cond (holeAt tree h at) (holeOf mode) (turnOf mode x c (R at .value))
+
+-- the patterns that are moved out of an item of an array, of a parameter or a declarator
+abbrev pub movesOf : Bool → Node → Items
+movesOf true n = movedIn n
+movesOf false n = movedFrom n
+
+abbrev pub AllBind : Bool → Items → Type 0
+AllBind arrays ns = arrays ≡ false → AllSuit 11 ns
+
+-- what is assigned: the expression at x, or the temporary of the cell x
+unfoldable pub givenDeeds : List ℕ → ℕ → Place → Bool → ℕ → Emit
+givenDeeds tree d c input x = cond input (emits c (lookNode tree d x .value)) (say (does (temporary x) ∷ []))
+
+abbrev pub givenNode : List ℕ → ℕ → Bool → ℕ → Node
+givenNode tree d input x = cond input (lookNode tree d x .value) (made.temporary [] 1 x)
+
+-- ---- heads of new statements
+
+abbrev pub declarationHead : ℕ → ℕ → List Deed
+declarationHead sort n = puts (4 ∷ 7 ∷ []) ++ (does newMark ∷ puts (sort ∷ wideBytes n))
+
+abbrev pub blockHead : ℕ → List Deed
+blockHead n = puts (2 ∷ 3 ∷ []) ++ (does newMark ∷ puts (wideBytes n))
+
+-- ---- what is handed out for an object, by a mode
+
+-- 1 its place is made, 2 its keys are made, 3 its excluded keys go out, 4 the same at root, 5 its place is listed, 6 its keys are listed
+unfoldable pub ownOf : ℕ → Node → Emit
+ownOf mode o =
+    cond (eqb mode 1) (placeMade o)
+    (cond (eqb mode 2) (keysMade o)
+    (cond (eqb mode 3) (excludesOf false o) (cond (eqb mode 4) (excludesOf true o) (cond (eqb mode 5) (handsPlace o) (handsKeys o)))))
+
+-- for all objects that the view replaces; 4 for those with a rest that are reached through objects
+unfoldable pub overAll : ℕ → ℕ → Node → Emit
+overAll mode v p = cond (eqb v 4) (overRests (ownOf mode) p) (overObjects (ownOf mode) (viewOf v) p)
+
+-- for a property: 1 its key is made, 3 it is excluded, else it is listed
+unfoldable pub keyOf : ℕ → Node → Emit
+keyOf mode q = cond (eqb mode 3) (say (excludes (keyBytes q))) (cond (eqb mode 1) (keyMade q) (handsKey q))
+
+-- the bytes of a key that may be taken as a string
+unfoldable pub keyBytesOf : Node → List ℕ
+keyBytesOf k =
+    elim (keySort k) [
+      | name ↦ stringBytes (textAt 0 k)
+      | literal ↦ stringBytes (textAt 2 k)
+      | template ↦ encode k
+      | private ↦ []
+      | again ↦ []
+      | other ↦ []
+    ]

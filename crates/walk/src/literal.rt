@@ -1,0 +1,179 @@
+// Object literals with spreads: how many properties come before a spread, and the heads of the calls.
+use crate::walk::Walk;
+use tree::bytes::peek;
+use tree::bytes::wide_at;
+use tree::skip::skip;
+use tree::skip::skip_items;
+use tree::skip::step;
+ghost use mathlib.Core.Path.{_≡_};
+ghost use mathlib.Core.Bool.{true, false};
+ghost use mathlib.Core.List.{List, [], _∷_};
+ghost use Rattle.tree.specs.Tree.{wideBytes};
+ghost use Rattle.lowering.specs.Parts.{any, itemsAt};
+ghost use Rattle.direct.specs.Events.{puts};
+ghost use Prim.Native.Nat.{ℕ, _%_, _<_};
+ghost use lib.Dec.{eqb};
+ghost use Rattle.tree.specs.Read.{byteAt};
+ghost use Rattle.tree.specs.Look.{onward, lookItems, lookNode};
+ghost use Rattle.direct.specs.Emit.{say, _▷_};
+ghost use Rattle.direct.specs.Literals.{isSpread, modeNext, modeAfter, headAt, innerHeads, lastHead, heads, run, pendingHead};
+ghost use Rattle.walk.specs.Run.{goingOf, Does};
+
+pub fn is_spread(t: &[u8], left: usize, at: usize) -> bool
+    ensures { λ r. ⌜ r ≡ isSpread (lookNode (now (t .entry)) left at .value) ⌝ }
+{
+    if left == 0 {
+        return false;
+    }
+    let kind = peek(t, at);
+    kind == 26
+}
+
+// How many properties there are up to the first spread.
+pub fn run_of(t: &[u8], left: usize, count: usize, at: usize) -> usize
+    ensures { λ r. ⌜ r ≡ run (lookItems (now (t .entry)) (lookNode (now (t .entry)) left) false count at .value) ⌝ }
+{
+    let mut k = 0usize;
+    let mut n = count;
+    let mut p = at;
+    while 0 < n {
+        if is_spread(t, left, p) {
+            return k;
+        }
+        p = skip(t, left, p);
+        n -= 1;
+        k += 1;
+    }
+    k
+}
+
+// The call so far, after one more property.
+pub fn mode_next(t: &[u8], left: usize, at: usize, mode: usize) -> usize
+    ensures { λ r. ⌜ r ≡ modeNext mode (lookNode (now (t .entry)) left at .value) ⌝ }
+{
+    if is_spread(t, left, at) {
+        return 1;
+    }
+    if mode == 0 {
+        return 0;
+    }
+    2
+}
+
+pub fn mode_after(t: &[u8], left: usize, count: usize, at: usize, mode: usize) -> usize
+    ensures { λ r. ⌜ r ≡ modeAfter mode (lookItems (now (t .entry)) (lookNode (now (t .entry)) left) false count at .value) ⌝ }
+{
+    let mut n = count;
+    let mut p = at;
+    let mut m = mode;
+    while 0 < n {
+        m = mode_next(t, left, p, m);
+        p = skip(t, left, p);
+        n -= 1;
+    }
+    m
+}
+
+// The head of the call that a spread ends.
+pub fn head_at(w: Walk, t: &[u8], out: &mut [u8], left: usize, at: usize, mode: usize) -> Walk
+    ensures { λ r. ⌜ ((l k : List ℕ) → Does (goingOf (now (out .entry)) l k w) (goingOf (now (out .exit)) l k r) (say (headAt mode (lookNode (now (t .entry)) left at .value)))) × (r .at ≡ w .at) ⌝ }
+{
+    if is_spread(t, left, at) {
+        if mode == 2 {
+            return w.call(out, 1, 4);
+        }
+        return w.call(out, 1, 2);
+    }
+    w
+}
+
+// The heads of the calls but the last, the outermost first, by halves.
+pub fn inner_heads(
+    w: Walk,
+    t: &[u8],
+    out: &mut [u8],
+    left: usize,
+    n: usize,
+    at: usize,
+    mode: usize,
+) -> Walk
+    ensures { λ r. ⌜ ((l k : List ℕ) → Does (goingOf (now (out .entry)) l k w) (goingOf (now (out .exit)) l k r) (say (innerHeads mode (lookItems (now (t .entry)) (lookNode (now (t .entry)) left) false n at .value)))) × (r .at ≡ w .at) ⌝ }
+{
+    if n == 0 {
+        return w;
+    }
+    if n == 1 {
+        return head_at(w, t, out, left, at, mode);
+    }
+    let half = n / 2;
+    let mid = skip_items(t, false, half, left, at);
+    let m = mode_after(t, left, half, at, mode);
+    let v = inner_heads(w, t, out, left, n - half, mid, m);
+    inner_heads(v, t, out, left, half, at, mode)
+}
+
+// All heads.
+pub fn all_heads(
+    w: Walk,
+    t: &[u8],
+    out: &mut [u8],
+    left: usize,
+    n: usize,
+    at: usize,
+    mode: usize,
+) -> Walk
+    ensures { λ r. ⌜ ((l k : List ℕ) → Does (goingOf (now (out .entry)) l k w) (goingOf (now (out .exit)) l k r) (say (heads mode (lookItems (now (t .entry)) (lookNode (now (t .entry)) left) false n at .value)))) × (r .at ≡ w .at) ⌝ }
+{
+    let m = mode_after(t, left, n, at, mode);
+    if m == 2 {
+        return inner_heads(w.call(out, 1, 3), t, out, left, n, at, mode);
+    }
+    inner_heads(w, t, out, left, n, at, mode)
+}
+
+// Two objects, the second of r properties, if there are any.
+pub fn pending(w: Walk, out: &mut [u8], n: usize) -> Walk
+    ensures { λ r. ⌜ ((l k : List ℕ) → n < 65536 → Does (goingOf (now (out .entry)) l k w) (goingOf (now (out .exit)) l k r) (say (pendingHead n))) × (r .at ≡ w .at) ⌝ }
+{
+    if n == 0 {
+        return w;
+    }
+    w.put2(out, 24, 1)
+        .put2(out, 0, 0)
+        .put2(out, 24, 1)
+        .wide(out, n)
+}
+
+// Whether the bit map of the node at a position has its first bit.
+pub fn has_first(t: &[u8], at: usize) -> bool
+    ensures { λ r. ⌜ r ≡ eqb (byteAt (now (t .entry)) (onward (now (t .entry)) at 1) % 2) 1 ⌝ }
+{
+    let map = peek(t, step(t, at, 1));
+    map % 2 == 1
+}
+
+// The heads of the calls, and the head of the object that they begin with.
+pub fn opening(w: Walk, t: &[u8], out: &mut [u8], left: usize, n: usize, at: usize) -> Walk
+    ensures { λ r. ⌜ ((l k : List ℕ) → n < 65536 → Does (goingOf (now (out .entry)) l k w) (goingOf (now (out .exit)) l k r) (say (heads 0 (lookItems (now (t .entry)) (lookNode (now (t .entry)) left) false n at .value)) ▷ say (puts (24 ∷ 1 ∷ wideBytes (run (lookItems (now (t .entry)) (lookNode (now (t .entry)) left) false n at .value)))))) × (r .at ≡ w .at) ⌝ }
+{
+    let k = run_of(t, left, n, at);
+    all_heads(w, t, out, left, n, at, 0)
+        .put2(out, 24, 1)
+        .wide(out, k)
+}
+
+// Whether the literal at a position has a spread.
+pub fn has_spread(t: &[u8], left: usize, at: usize) -> bool
+    ensures { λ r. ⌜ (r ≡ true → 0 < left) × (byteAt (now (t .entry)) at ≡ 24 → r ≡ any isSpread (itemsAt 0 (lookNode (now (t .entry)) left at .value))) ⌝ }
+{
+    if left == 0 {
+        return false;
+    }
+    if has_first(t, at) {
+        let q = step(t, at, 2);
+        let n = wide_at(t, q);
+        let k = run_of(t, left - 1, n, step(t, q, 2));
+        return k < n;
+    }
+    false
+}

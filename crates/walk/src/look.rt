@@ -1,0 +1,288 @@
+// What the emitters look up before they write.
+use pattern::keys::Key;
+use pattern::keys::all_primitive;
+use pattern::keys::has_no_properties;
+use pattern::keys::transform_property_key;
+use pattern::moves::moved_from;
+use pattern::parts;
+use pattern::rests;
+use pattern::search::has_nested_object_rest;
+use pattern::tally::plus;
+use tree::bytes::peek;
+use tree::skip::skip;
+use tree::skip::step;
+ghost use mathlib.Core.Path.{_≡_};
+ghost use mathlib.Core.Bool.{Bool, true, false, cond, not};
+ghost use Prim.Native.Nat.{ℕ, _/_, _%_, _<_, _≤_};
+ghost use lib.Dec.{eqb};
+ghost use Rattle.tree.specs.Read.{byteAt};
+ghost use Rattle.tree.specs.Look.{onward, lookItems, lookNode};
+ghost use Rattle.lowering.specs.Parts.{gather};
+ghost use Rattle.lowering.specs.Patterns.{properties};
+ghost use Rattle.lowering.specs.Heads.{movedFrom};
+ghost use Rattle.pattern.specs.Tally.{limited};
+ghost use Rattle.direct.specs.Events as events;
+ghost use Rattle.direct.specs.Views.{isOther, takes};
+ghost use Rattle.direct.specs.Keys.{hoists};
+ghost use Rattle.direct.specs.Handed.{placesIn};
+ghost use Rattle.direct.specs.Moved.{number};
+ghost use Rattle.direct.specs.Assigned.{restInArrays};
+ghost use Rattle.walk.specs.Turns.{viewOf, keyClass, levelOf, startOf};
+
+// The first bit of the bit map of the node at a position, and the second.
+pub fn first_bit(t: &[u8], at: usize) -> usize
+    ensures { λ r. ⌜ r ≡ byteAt (now (t .entry)) (onward (now (t .entry)) at 1) % 2 ⌝ }
+{
+    peek(t, step(t, at, 1)) % 2
+}
+
+pub fn second(t: &[u8], at: usize) -> usize
+    ensures { λ r. ⌜ r ≡ byteAt (now (t .entry)) (onward (now (t .entry)) at 1) / 2 % 2 ⌝ }
+{
+    peek(t, step(t, at, 1)) / 2 % 2
+}
+
+pub fn has_second(t: &[u8], at: usize) -> bool
+    ensures { λ r. ⌜ r ≡ eqb (byteAt (now (t .entry)) (onward (now (t .entry)) at 1) / 2 % 2) 1 ⌝ }
+{
+    second(t, at) == 1
+}
+
+// The modes that go with a view and with a mode.
+pub fn property_mode(rest: bool, v: usize) -> usize
+    ensures { λ r. ⌜ r ≡ cond (eqb v 3) (cond rest 5 3) (cond rest 4 2) ⌝ }
+{
+    if v == 3 {
+        if rest {
+            return 5;
+        }
+        return 3;
+    }
+    if rest {
+        return 4;
+    }
+    2
+}
+
+// Whether a view puts a temporary in the place of an object with rest.
+pub fn replaces(v: usize) -> bool
+    ensures { λ r. ⌜ r ≡ not (takes (viewOf v)) ⌝ }
+{
+    if v == 2 {
+        return false;
+    }
+    if v == 3 {
+        return false;
+    }
+    true
+}
+
+pub fn values_of(v: usize) -> usize
+    ensures { λ r. ⌜ r ≡ cond (eqb v 3) 3 1 ⌝ }
+{
+    if v == 3 {
+        return 3;
+    }
+    1
+}
+
+pub fn value_mode(mode: usize) -> usize
+    ensures { λ r. ⌜ r ≡ cond (eqb mode 12) 13 (cond (eqb mode 17) 14 15) ⌝ }
+{
+    if mode == 12 {
+        return 13;
+    }
+    if mode == 17 {
+        return 14;
+    }
+    15
+}
+
+pub fn item_mode(mode: usize) -> usize
+    ensures { λ r. ⌜ r ≡ cond (eqb mode 8) 8 12 ⌝ }
+{
+    if mode == 8 {
+        return 8;
+    }
+    12
+}
+
+pub fn inner_mode(v: usize) -> usize
+    ensures { λ r. ⌜ r ≡ cond (eqb v 3) 17 12 ⌝ }
+{
+    if v == 3 {
+        return 17;
+    }
+    12
+}
+
+// The level of the parameters or declarators of a head: that of its body, or one below.
+pub fn level(left: usize, inner: bool) -> usize
+    ensures { λ r. ⌜ (r ≡ levelOf inner left) × (r ≤ left) ⌝ }
+{
+    if inner {
+        if left == 0 {
+            return 0;
+        }
+        return left - 1;
+    }
+    left
+}
+
+// The cell of a temporary.
+pub fn cell(stem: usize, at: usize) -> usize
+    ensures { λ r. ⌜ (at < 16384 → 0 < stem → stem < 5 → r ≡ events.cell stem at) ⌝ }
+{
+    if at < 16384 {
+        if stem == 2 {
+            return at + 1;
+        }
+        if stem == 3 {
+            return at + 2;
+        }
+        return at;
+    }
+    at
+}
+
+// How a key is written among the excluded keys: 1 as a string, 2 as it stands, 3 not at all, 4 as a temporary.
+pub fn key_sort(t: &[u8], left: usize, at: usize) -> usize
+    ensures { λ r. ⌜ r ≡ keyClass (lookNode (now (t .entry)) left at .value) ⌝ }
+{
+    match transform_property_key(t, left, at) {
+        Key::Name { from: _, len: _ } => 1,
+        Key::Literal { from: _, len: _ } => 1,
+        Key::NoForm => 1,
+        Key::Template => 2,
+        Key::Private => 3,
+        Key::Again => 2,
+        Key::Other => 4,
+    }
+}
+
+pub fn is_other(t: &[u8], left: usize, at: usize) -> bool
+    ensures { λ r. ⌜ r ≡ isOther (lookNode (now (t .entry)) left at .value) ⌝ }
+{
+    key_sort(t, left, at) == 4
+}
+
+// Whether the excluded keys of the object pattern at a position go out to the list.
+pub fn hoisted(t: &[u8], left: usize, root: bool, at: usize) -> bool
+    ensures { λ r. ⌜ r ≡ hoists root (properties (lookNode (now (t .entry)) left at .value)) ⌝ }
+{
+    if root {
+        return false;
+    }
+    if has_no_properties(t, left, at) {
+        return false;
+    }
+    all_primitive(t, left, at)
+}
+
+// Where the starting value of a declarator is.
+pub enum Start {
+    Value(usize),
+    Missing,
+}
+
+pub fn start_of(t: &[u8], left: usize, at: usize) -> Start
+    ensures { λ r. ⌜ r ≡ startOf (now (t .entry)) left at ⌝ }
+{
+    if left == 0 {
+        return Start::Missing;
+    }
+    if has_second(t, at) {
+        return Start::Value(skip(t, left - 1, step(t, at, 2)));
+    }
+    Start::Missing
+}
+
+// Whether an object rest is left when those reached through objects are taken.
+pub fn rest_in_arrays(t: &[u8], left: usize, at: usize) -> bool
+    ensures { λ r. ⌜ r ≡ restInArrays (lookNode (now (t .entry)) left at .value) ⌝ }
+{
+    if left == 0 {
+        return false;
+    }
+    let below = left - 1;
+    let kind = peek(t, at);
+    match kind {
+        34 => {
+            let run = parts::list(t, left, at, 0);
+            let mut n = run.count;
+            let mut p = run.from;
+            while 0 < n {
+                let v = parts::child(t, below, p, 1);
+                if rest_in_arrays(t, v.left, v.at) {
+                    return true;
+                }
+                p = skip(t, below, p);
+                n -= 1;
+            }
+            false
+        }
+        36 => has_nested_object_rest(t, left, at),
+        37 => {
+            let l = parts::child(t, left, at, 0);
+            rest_in_arrays(t, l.left, l.at)
+        }
+        _ => false,
+    }
+}
+
+// How many objects a view replaces.
+pub fn places_in(t: &[u8], left: usize, at: usize, v: usize) -> usize
+    ensures { λ r. ⌜ ((v ≡ 2 → ⊥) → r ≡ limited (placesIn (viewOf v) (lookNode (now (t .entry)) left at .value))) ⌝ }
+{
+    if v == 3 {
+        return places_left(t, left, at);
+    }
+    rests::objects_below(t, left, at)
+}
+
+// Those below arrays.
+fn places_left(t: &[u8], left: usize, at: usize) -> usize
+    ensures { λ r. ⌜ r ≡ limited (placesIn (viewOf 3) (lookNode (now (t .entry)) left at .value)) ⌝ }
+{
+    if left == 0 {
+        return 0;
+    }
+    let below = left - 1;
+    let kind = peek(t, at);
+    match kind {
+        34 => {
+            let run = parts::list(t, left, at, 0);
+            let mut n = run.count;
+            let mut p = run.from;
+            let mut k = 0;
+            while 0 < n {
+                let v = parts::child(t, below, p, 1);
+                k = plus(k, places_left(t, v.left, v.at));
+                p = skip(t, below, p);
+                n -= 1;
+            }
+            k
+        }
+        36 => rests::objects_below(t, left, at),
+        37 => {
+            let l = parts::child(t, left, at, 0);
+            places_left(t, l.left, l.at)
+        }
+        _ => 0,
+    }
+}
+
+// How many patterns are moved out of parameters or declarators.
+pub fn moved_in(t: &[u8], left: usize, first: usize, count: usize) -> usize
+    ensures { λ r. ⌜ r ≡ limited (number (gather movedFrom (lookItems (now (t .entry)) (lookNode (now (t .entry)) left) false count first .value))) ⌝ }
+{
+    let mut n = count;
+    let mut p = first;
+    let mut k = 0;
+    while 0 < n {
+        k = plus(k, moved_from(t, left, p));
+        p = skip(t, left, p);
+        n -= 1;
+    }
+    k
+}

@@ -1,0 +1,97 @@
+// Pieces that are written without a walk: holes, sources, keys as strings.
+use crate::walk::Walk;
+use pattern::keys::Key;
+use pattern::keys::transform_property_key;
+use pattern::source::Read;
+use pattern::source::ReferenceBuilder;
+use tree::bytes::peek;
+use tree::skip::skip;
+use tree::skip::step;
+ghost use mathlib.Core.Path.{_≡_};
+ghost use mathlib.Core.Bool.{true, false, cond};
+ghost use mathlib.Core.List.{List, [], _∷_};
+ghost use Prim.Native.Nat.{ℕ, _-_};
+ghost use Rattle.tree.specs.Look.{onward, lookNode};
+ghost use Rattle.sink.specs.Machine.{part};
+ghost use Rattle.sink.specs.Machine.Event.{temporary};
+ghost use Rattle.direct.specs.Events.{puts};
+ghost use Rattle.direct.specs.Events.Deed.{does};
+ghost use Rattle.direct.specs.Emit.{say};
+ghost use Rattle.walk.specs.Run.{goingOf, Does};
+ghost use Rattle.walk.specs.Whole.{Good};
+ghost use Rattle.walk.specs.Turns.{holeOf, sourceOf, keyClass, keyString, awaits};
+
+// A hole of a list, written where the list is.
+pub fn hole(w: Walk, t: &[u8], out: &mut [u8], mode: usize) -> Walk
+    ensures { λ r. ⌜ (r .at ≡ onward (now (t .entry)) (w .at) 1) × ((l k : List ℕ) → part (w .at) (onward (now (t .entry)) (w .at) 1) (now (t .entry)) ≡ 0 ∷ [] → Does (goingOf (now (out .entry)) l k w) (goingOf (now (out .exit)) l k r) (holeOf mode)) ⌝ }
+{
+    let q = step(t, w.at, 1);
+    if mode == 1 {
+        return w.copy(t, out, q);
+    }
+    if mode == 16 {
+        return w.copy(t, out, q);
+    }
+    w.to(q)
+}
+
+// A source that is a temporary.
+pub fn cell_source(cell: usize) -> ReferenceBuilder
+    ensures { λ r. ⌜ ((t : List ℕ) → sourceOf t r ≡ say (does (temporary cell) ∷ [])) ⌝ }
+{
+    ReferenceBuilder {
+        left: 0,
+        at: 0,
+        cell: cell,
+        wanted: true,
+        fresh: false,
+    }
+}
+
+// A read of a source.
+pub fn source(
+    w: Walk,
+    t: &[u8],
+    out: &mut [u8],
+    list: &mut [u8],
+    work: &mut [u8],
+    b: ReferenceBuilder,
+) -> Walk
+    ensures { λ r. ⌜ (r .at ≡ w .at) × Does (goingOf (now (out .entry)) (now (list .entry)) (now (work .entry)) w) (goingOf (now (out .exit)) (now (list .exit)) (now (work .exit)) r) (sourceOf (now (t .entry)) b) ⌝ }
+{
+    let at = w.at;
+    let taken = b.create_read_expression();
+    let read = taken.read;
+    match read {
+        Read::Expression { left, at: p } => w.to(p).copy(t, out, skip(t, left, p)).to(at),
+        Read::Temporary(cell) => w.temporary(out, list, work, cell),
+    }
+}
+
+// A key as a string of its form.
+pub fn string(w: Walk, t: &[u8], out: &mut [u8], left: usize, at: usize) -> Walk
+    ensures { λ r. ⌜ (r .at ≡ w .at) × ((l k : List ℕ) → Good (now (t .entry)) left at → keyClass (lookNode (now (t .entry)) left at .value) ≡ 1 → Does (goingOf (now (out .entry)) l k w) (goingOf (now (out .exit)) l k r) (say (puts (keyString (lookNode (now (t .entry)) left at .value))))) ⌝ }
+{
+    match transform_property_key(t, left, at) {
+        Key::Name { from, len } => w.string(t, out, from, len),
+        Key::Literal { from, len } => w.string(t, out, from, len),
+        Key::NoForm => w.string(t, out, 0, 0),
+        Key::Template => w,
+        Key::Private => w,
+        Key::Again => w,
+        Key::Other => w,
+    }
+}
+
+// The byte behind the body of a for-of loop that awaits.
+pub fn await_of(w: Walk, t: &[u8], out: &mut [u8], at: usize) -> Walk
+    ensures { λ r. ⌜ ((l k : List ℕ) → Does (goingOf (now (out .entry)) l k w) (goingOf (now (out .exit)) l k r) (say (puts (cond (awaits (now (t .entry)) at) (part (w .at) (onward (now (t .entry)) (w .at) 1) (now (t .entry))) [])))) ⌝ }
+{
+    let q = w.at;
+    if peek(t, at) == 8 {
+        if peek(t, step(t, at, 1)) / 16 == 1 {
+            return w.copy(t, out, step(t, q, 1));
+        }
+    }
+    w
+}

@@ -1,0 +1,336 @@
+// What the walk hands on, and the small steps that emitters are made of.
+use sink::Sink;
+ghost use mathlib.Core.Path.{_≡_};
+ghost use mathlib.Core.Bool.{cond, _&&_};
+ghost use mathlib.Core.List.{List, [], _∷_, _++_};
+ghost use lib.Dec.{ltb};
+ghost use Prim.Native.Nat.{ℕ, _+_, _<_, _≤_};
+ghost use lib.ListN.{length};
+ghost use Rattle.tree.specs.Tree.{wideBytes};
+ghost use Rattle.sink.specs.Machine.{part, treeLimit};
+ghost use Rattle.sink.specs.Machine.Event.{helper, temporary, newMark, make, listedTemporary, entry, excludedTemporary, declarator};
+ghost use Rattle.direct.specs.Events.{puts, lists, excludes};
+ghost use Rattle.direct.specs.Events.Deed.{does, refuses};
+ghost use Rattle.direct.specs.Emit.{say, callHead};
+ghost use Rattle.direct.specs.Keys.{stringBytes};
+ghost use Rattle.direct.specs.Assigned.{assignHead};
+ghost use Rattle.walk.specs.Run.{goingOf, Does};
+ghost use Rattle.walk.specs.Turns.{declarationHead, blockHead};
+
+// The output, the position in the input, the first refusal (0 for none).
+pub struct Walk {
+    pub sink: Sink,
+    pub at: usize,
+    pub refusal: u8,
+}
+
+impl Walk {
+    // The same output at another position.
+    pub fn to(self, at: usize) -> Walk
+        ensures { λ r. ⌜ ((o l w : List ℕ) → goingOf o l w r ≡ goingOf o l w self) × (r .at ≡ at) ⌝ }
+    {
+        let k = self.sink;
+        Walk {
+            sink: k,
+            at: at,
+            refusal: self.refusal,
+        }
+    }
+
+    // Whether what was written before need not be written again: the tree is full, and nothing of it will be handed back.
+    pub fn passes(self, again: bool) -> bool
+        ensures { λ r. ⌜ r ≡ again && ltb treeLimit (self .sink .tree) ⌝ }
+    {
+        if again {
+            let k = self.sink;
+            return k.full();
+        }
+        false
+    }
+
+    // The start of a target whose value is to be read; 16383, where no pattern starts, once the tree is full.
+    pub fn target(self, p: usize) -> usize
+        ensures { λ r. ⌜ r ≡ cond (ltb treeLimit (self .sink .tree)) 16383 p ⌝ }
+    {
+        let k = self.sink;
+        if k.full() {
+            return 16383;
+        }
+        p
+    }
+
+    pub fn put2(self, out: &mut [u8], a: u8, b: u8) -> Walk
+        ensures { λ r. ⌜ ((l w : List ℕ) → Does (goingOf (now (out .entry)) l w self) (goingOf (now (out .exit)) l w r) (say (puts (a ∷ b ∷ [])))) × (r .at ≡ self .at) ⌝ }
+    {
+        let k = self.sink;
+        Walk {
+            sink: k.put2(out, a, b),
+            at: self.at,
+            refusal: self.refusal,
+        }
+    }
+
+    // A 16-bit number.
+    pub fn wide(self, out: &mut [u8], n: usize) -> Walk
+        ensures { λ r. ⌜ ((l w : List ℕ) → n < 65536 → Does (goingOf (now (out .entry)) l w self) (goingOf (now (out .exit)) l w r) (say (puts (wideBytes n)))) × (r .at ≡ self .at) ⌝ }
+    {
+        let k = self.sink;
+        Walk {
+            sink: k.put_wide(out, n),
+            at: self.at,
+            refusal: self.refusal,
+        }
+    }
+
+    // The bytes of the input up to a position.
+    pub fn copy(self, t: &[u8], out: &mut [u8], end: usize) -> Walk
+        ensures { λ r. ⌜ ((l w : List ℕ) → Does (goingOf (now (out .entry)) l w self) (goingOf (now (out .exit)) l w r) (say (puts (part (self .at) end (now (t .entry)))))) × (r .at ≡ end) ⌝ }
+    {
+        let k = self.sink;
+        Walk {
+            sink: k.copy(out, t, self.at, end),
+            at: end,
+            refusal: self.refusal,
+        }
+    }
+
+    // The head of a call of helper h.
+    pub fn call(self, out: &mut [u8], h: u8, args: usize) -> Walk
+        ensures { λ r. ⌜ ((l w : List ℕ) → args < 65536 → Does (goingOf (now (out .entry)) l w self) (goingOf (now (out .exit)) l w r) (say (callHead h args))) × (r .at ≡ self .at) ⌝ }
+    {
+        let k = self.sink;
+        Walk {
+            sink: k.put2(out, 29, 3).helper(out, h).put_wide(out, args),
+            at: self.at,
+            refusal: self.refusal,
+        }
+    }
+
+    // The node of the temporary that a cell stands for.
+    pub fn temporary(self, out: &mut [u8], list: &mut [u8], work: &mut [u8], c: usize) -> Walk
+        ensures { λ r. ⌜ Does (goingOf (now (out .entry)) (now (list .entry)) (now (work .entry)) self) (goingOf (now (out .exit)) (now (list .exit)) (now (work .exit)) r) (say (does (temporary c) ∷ [])) × (r .at ≡ self .at) ⌝ }
+    {
+        let k = self.sink;
+        Walk {
+            sink: k.temporary(out, list, work, c),
+            at: self.at,
+            refusal: self.refusal,
+        }
+    }
+
+    // A refusal, and the two bytes that stand for what is refused.
+    pub fn refuse(self, out: &mut [u8], n: u8) -> Walk
+        ensures { λ r. ⌜ ((l w : List ℕ) → Does (goingOf (now (out .entry)) l w self) (goingOf (now (out .exit)) l w r) (say (refuses n ∷ puts (0 ∷ 0 ∷ [])))) × (r .at ≡ self .at) ⌝ }
+    {
+        let k = self.sink;
+        let first = self.refusal;
+        if first == 0 {
+            return Walk {
+                sink: k.put2(out, 0, 0),
+                at: self.at,
+                refusal: n,
+            };
+        }
+        Walk {
+            sink: k.put2(out, 0, 0),
+            at: self.at,
+            refusal: first,
+        }
+    }
+
+    // The mark of the next new statement.
+    pub fn mark(self) -> usize
+        ensures { λ r. ⌜ r ≡ self .sink .mark ⌝ }
+    {
+        let k = self.sink;
+        k.mark
+    }
+
+    pub fn new_mark(self, out: &mut [u8]) -> Walk
+        ensures { λ r. ⌜ ((l w : List ℕ) → Does (goingOf (now (out .entry)) l w self) (goingOf (now (out .exit)) l w r) (say (does newMark ∷ []))) × (r .at ≡ self .at) ⌝ }
+    {
+        let k = self.sink;
+        Walk {
+            sink: k.new_mark(out),
+            at: self.at,
+            refusal: self.refusal,
+        }
+    }
+
+    // A temporary is made in a cell.
+    pub fn make(self, work: &mut [u8], c: usize) -> Walk
+        ensures { λ r. ⌜ ((o l : List ℕ) → Does (goingOf o l (now (work .entry)) self) (goingOf o l (now (work .exit)) r) (say (does (make c) ∷ []))) × (r .at ≡ self .at) ⌝ }
+    {
+        sink::cells::make(work, c);
+        self
+    }
+
+    // An assignment's head.
+    pub fn assign(self, out: &mut [u8], op: usize) -> Walk
+        ensures { λ r. ⌜ ((l w : List ℕ) → op < 256 → Does (goingOf (now (out .entry)) l w self) (goingOf (now (out .exit)) l w r) (assignHead op)) × (r .at ≡ self .at) ⌝ }
+    {
+        let k = self.sink;
+        Walk {
+            sink: k.put2(out, 27, 7).put(out, sink::bytes::low(op)),
+            at: self.at,
+            refusal: self.refusal,
+        }
+    }
+
+    // The head of a new declaration of n declarators.
+    pub fn declaration(self, out: &mut [u8], sort: u8, n: usize) -> Walk
+        ensures { λ r. ⌜ ((l w : List ℕ) → n < 65536 → Does (goingOf (now (out .entry)) l w self) (goingOf (now (out .exit)) l w r) (say (declarationHead sort n))) × (r .at ≡ self .at) ⌝ }
+    {
+        let k = self.sink;
+        Walk {
+            sink: k.put2(out, 4, 7)
+                .new_mark(out)
+                .put(out, sort)
+                .put_wide(out, n),
+            at: self.at,
+            refusal: self.refusal,
+        }
+    }
+
+    // The head of a new block of n statements.
+    pub fn block(self, out: &mut [u8], n: usize) -> Walk
+        ensures { λ r. ⌜ ((l w : List ℕ) → n < 65536 → Does (goingOf (now (out .entry)) l w self) (goingOf (now (out .exit)) l w r) (say (blockHead n))) × (r .at ≡ self .at) ⌝ }
+    {
+        let k = self.sink;
+        Walk {
+            sink: k.put2(out, 2, 3).new_mark(out).put_wide(out, n),
+            at: self.at,
+            refusal: self.refusal,
+        }
+    }
+
+    // What stands before the source where all properties are wanted: an assignment of a copy, and a check of the source.
+    pub fn empty_rest(self, out: &mut [u8]) -> Walk
+        ensures { λ r. ⌜ ((l w : List ℕ) → Does (goingOf (now (out .entry)) l w self) (goingOf (now (out .exit)) l w r) (say (callHead 2 2 ++ (puts (24 ∷ 1 ∷ 0 ∷ 0 ∷ 28 ∷ 1 ∷ 2 ∷ 0 ∷ []) ++ callHead 3 1)))) × (r .at ≡ self .at) ⌝ }
+    {
+        self.call(out, 2, 2)
+            .put2(out, 24, 1)
+            .put2(out, 0, 0)
+            .put2(out, 28, 1)
+            .put2(out, 2, 0)
+            .call(out, 3, 1)
+    }
+
+    // What stands behind keys that are mapped: `.map`, and the helper.
+    pub fn mapped(self, out: &mut [u8]) -> Walk
+        ensures { λ r. ⌜ ((l w : List ℕ) → Does (goingOf (now (out .entry)) l w self) (goingOf (now (out .exit)) l w r) (say (puts (3 ∷ 0 ∷ 109 ∷ 97 ∷ 112 ∷ 1 ∷ 0 ∷ []) ++ (does (helper 5) ∷ [])))) × (r .at ≡ self .at) ⌝ }
+    {
+        let k = self.sink;
+        Walk {
+            sink: k.put4(out, 3, 0, 109, 97)
+                .put(out, 112)
+                .put2(out, 1, 0)
+                .helper(out, 5),
+            at: self.at,
+            refusal: self.refusal,
+        }
+    }
+
+    // A string of n bytes of the input.
+    pub fn string(self, t: &[u8], out: &mut [u8], from: usize, n: usize) -> Walk
+        ensures { λ r. ⌜ ((l w : List ℕ) → n < 65536 → from + n ≤ length (now (t .entry)) → Does (goingOf (now (out .entry)) l w self) (goingOf (now (out .exit)) l w r) (say (puts (stringBytes (part from (from + n) (now (t .entry))))))) × (r .at ≡ self .at) ⌝ }
+    {
+        let k = self.sink;
+        let end = tree::skip::step(t, from, n);
+        Walk {
+            sink: k.put4(out, 22, 7, 1, 0)
+                .put(out, 0)
+                .put_wide(out, n)
+                .copy(out, t, from, end),
+            at: self.at,
+            refusal: self.refusal,
+        }
+    }
+
+    // ---- the list and the excluded keys
+
+    pub fn entry(self, list: &mut [u8], mark: usize, n: usize) -> Walk
+        ensures { λ r. ⌜ ((o w : List ℕ) → Does (goingOf o (now (list .entry)) w self) (goingOf o (now (list .exit)) w r) (say (does (entry mark n) ∷ []))) × (r .at ≡ self .at) ⌝ }
+    {
+        let k = self.sink;
+        Walk {
+            sink: k.entry(list, mark, n),
+            at: self.at,
+            refusal: self.refusal,
+        }
+    }
+
+    pub fn listed2(self, list: &mut [u8], a: u8, b: u8) -> Walk
+        ensures { λ r. ⌜ ((o w : List ℕ) → Does (goingOf o (now (list .entry)) w self) (goingOf o (now (list .exit)) w r) (say (lists (a ∷ b ∷ [])))) × (r .at ≡ self .at) ⌝ }
+    {
+        let k = self.sink;
+        Walk {
+            sink: k.listed2(list, a, b),
+            at: self.at,
+            refusal: self.refusal,
+        }
+    }
+
+    pub fn listed_temporary(self, list: &mut [u8], work: &mut [u8], c: usize) -> Walk
+        ensures { λ r. ⌜ ((o : List ℕ) → Does (goingOf o (now (list .entry)) (now (work .entry)) self) (goingOf o (now (list .exit)) (now (work .exit)) r) (say (does (listedTemporary c) ∷ []))) × (r .at ≡ self .at) ⌝ }
+    {
+        let k = self.sink;
+        Walk {
+            sink: k.listed_temporary(list, work, c),
+            at: self.at,
+            refusal: self.refusal,
+        }
+    }
+
+    pub fn listed_copy(self, list: &mut [u8], t: &[u8], from: usize, to: usize) -> Walk
+        ensures { λ r. ⌜ ((o w : List ℕ) → Does (goingOf o (now (list .entry)) w self) (goingOf o (now (list .exit)) w r) (say (lists (part from to (now (t .entry)))))) × (r .at ≡ self .at) ⌝ }
+    {
+        let k = self.sink;
+        Walk {
+            sink: k.listed_copy(list, t, from, to),
+            at: self.at,
+            refusal: self.refusal,
+        }
+    }
+
+    pub fn excluded_copy(self, work: &mut [u8], t: &[u8], from: usize, to: usize) -> Walk
+        ensures { λ r. ⌜ ((o l : List ℕ) → Does (goingOf o l (now (work .entry)) self) (goingOf o l (now (work .exit)) r) (say (excludes (part from to (now (t .entry)))))) × (r .at ≡ self .at) ⌝ }
+    {
+        let k = self.sink;
+        Walk {
+            sink: k.excluded_copy(work, t, from, to),
+            at: self.at,
+            refusal: self.refusal,
+        }
+    }
+
+    // The declarator of excluded keys: its temporary, and the head of an array of n.
+    pub fn excluded_head(self, work: &mut [u8], c: usize, n: usize) -> Walk
+        ensures { λ r. ⌜ ((o l : List ℕ) → n < 65536 → Does (goingOf o l (now (work .entry)) self) (goingOf o l (now (work .exit)) r) (say (does declarator ∷ does (excludedTemporary c) ∷ excludes (32 ∷ 1 ∷ wideBytes n)))) × (r .at ≡ self .at) ⌝ }
+    {
+        let k = self.sink;
+        Walk {
+            sink: k.declarator(work)
+                .excluded_temporary(work, c)
+                .excluded2(work, 32, 1)
+                .excluded_wide(work, n),
+            at: self.at,
+            refusal: self.refusal,
+        }
+    }
+
+    pub fn excluded_string(self, work: &mut [u8], t: &[u8], from: usize, n: usize) -> Walk
+        ensures { λ r. ⌜ ((o l : List ℕ) → n < 65536 → from + n ≤ length (now (t .entry)) → Does (goingOf o l (now (work .entry)) self) (goingOf o l (now (work .exit)) r) (say (excludes (stringBytes (part from (from + n) (now (t .entry))))))) × (r .at ≡ self .at) ⌝ }
+    {
+        let k = self.sink;
+        let end = tree::skip::step(t, from, n);
+        Walk {
+            sink: k.excluded4(work, 22, 7, 1, 0)
+                .excluded(work, 0)
+                .excluded_wide(work, n)
+                .excluded_copy(work, t, from, end),
+            at: self.at,
+            refusal: self.refusal,
+        }
+    }
+}
