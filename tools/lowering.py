@@ -139,6 +139,56 @@ class Maker:
             self.out += cases.wide(rnd.choice([0, 1, 2, 3, 256, rnd.randrange(65536)]))
 
 
+class Copies(Maker):
+    """A Maker of object patterns with rest that have a Template of one quasi as a key, with another such pattern in it, and
+    so on. What stands in a key is written again for the rest, so that in the end the result is past its limit."""
+
+    def __init__(self, rnd):
+        super().__init__(rnd, rnd.choice([20, 60, 200]), 0, rnd.random() < 0.5)
+        self.flat = 6
+        self.likely = rnd.choice([0.02, 0.1, 0.3])
+
+    def some(self, place):
+        """A node, a small one more often than not."""
+        self.node(place, 4 if self.rnd.random() < self.likely else 9, False)
+
+    def key(self, levels):
+        """`[`a`[..]]: ` and in it the next pattern; at the end spreads, so that the result gets long."""
+        self.out += bytes([23, 3, 1, 0, 22, 7, 1, 0, 0, 0, 0, 1, 0])
+        if levels == 0:
+            count = self.rnd.choice([1, 1, 5, 50, 300])
+            self.out += bytes([24, 1]) + cases.wide(count) + bytes([26, 1, 18, 1, 0, 0]) * count
+        elif self.rnd.random() < 0.15:
+            # an arrow function with a declaration
+            self.out += bytes([17, 5, 0, 0, 16, 2, 1, 0, 4, 7])
+            self.marks.append(len(self.out))
+            self.out += bytes([0, 0, 2, 1, 0, 5, 3])
+            self.pattern(levels - 1, "bind_property", "bind_item", "name")
+            self.some("expression")
+        else:
+            self.assignment(levels - 1)
+
+    def pattern(self, levels, part, item, rest):
+        before, after = self.rnd.choice([(0, 0), (0, 0), (0, 1), (1, 0), (1, 1)])
+        self.out += bytes([34, 3]) + cases.wide(before + 1 + after)
+        for _ in range(before):
+            self.some(part)
+        self.out += bytes([35, 7])
+        self.key(levels)
+        self.some(item)
+        self.out.append(1)
+        for _ in range(after):
+            self.some(part)
+        self.some(rest)
+
+    def assignment(self, levels):
+        self.out += bytes([27, 7, 1])
+        if self.rnd.random() < 0.2:
+            self.out += bytes([36, 1, 1, 0])
+        self.pattern(levels, "target_property", "target_item", "leaf")
+        self.some("expression")
+
+
 class Piece:
     """The bytes of a statement, and where its marks stand."""
 
@@ -184,6 +234,20 @@ def damaged(rnd):
         tree[rnd.randrange(len(tree))] = rnd.choice([0, 1, 2, 3, rnd.randrange(48), rnd.randrange(256)])
         return bytes(tree)
     return fuzz.damaged(rnd, tree)
+
+
+def copied(rnd):
+    """A tree with keys in keys, which are written again and again; at times something is refused behind them."""
+    maker = Copies(rnd)
+    behind = rnd.random() < 0.2
+    maker.out += bytes([1, 1, 1 + behind, 0, 3, 3])
+    maker.marks.append(len(maker.out))
+    maker.out += b"\0\0"
+    maker.assignment(rnd.randrange(13))
+    if behind:
+        maker.refused = True
+        maker.node("statement", 2, False)
+    return numbered(maker.out, maker.marks)
 
 
 def statement(rnd, size, refused=False):
@@ -287,8 +351,8 @@ def trees(rnd, count, reference):
     """(shape, options, tree), so many."""
     about = fulls(rnd, reference)
     for _ in range(count):
-        shape = rnd.choices(["valid", "deep", "damaged", "long", "full"], [56, 10, 30, 1, 3])[0]
-        maker = {"valid": plain, "deep": deep, "damaged": damaged, "long": long}.get(shape)
+        shape = rnd.choices(["valid", "deep", "damaged", "copied", "long", "full"], [52, 10, 30, 4, 1, 3])[0]
+        maker = {"valid": plain, "deep": deep, "damaged": damaged, "copied": copied, "long": long}.get(shape)
         yield shape, random_options(rnd), maker(rnd) if maker else next(about)
 
 

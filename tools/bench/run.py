@@ -41,20 +41,22 @@ def built_reference(source, folder):
 
 
 def measured(bench, reference, tree, rounds, seconds):
-    """Length, answer and lengths of the result; the least times of lowering, of clearing and copying, of the reference."""
+    """Length, answer and lengths of the result; the least times of lowering, of clearing and copying, of the reference if it is run."""
     facts, lower, clear, rust = None, [], [], []
     for _ in range(rounds):
         words = run([bench, seconds, tree], stdout=subprocess.PIPE).stdout.decode().split()
         facts = [int(word) for word in words[1:5]]
         lower.append(float(words[6]))
         clear.append(float(words[8]))
+        if reference is None:
+            continue
         with open(tree, "rb") as given:
             command = [reference, "--template-key=node", f"--bench={seconds}"]
             words = run(command, stdin=given, stdout=subprocess.PIPE).stdout.decode().split()
         if int(words[0]) != facts[1]:
             sys.exit(f"{tree}: the answer is {facts[1]}, the reference's {words[0]}")
         rust.append(float(words[2]))
-    return facts, min(lower), min(clear), min(rust)
+    return facts, min(lower), min(clear), min(rust, default=None)
 
 
 def main():
@@ -77,8 +79,10 @@ def main():
         for name in given.names or trees.TREES:
             tree = folder / name
             tree.write_bytes(trees.TREES[name]())
-            (length, answer, out, list_), lower, clear, rust = measured(bench, reference, tree, given.rounds, given.seconds)
-            times = f"{lower:,.1f} | {clear:.1f} | {rust:,.1f} | {lower / clear:,.1f} | {lower / rust:.2f}"
+            beside = None if name in trees.ALONE else reference
+            (length, answer, out, list_), lower, clear, rust = measured(bench, beside, tree, given.rounds, given.seconds)
+            of_rust, to_rust = ("", "") if rust is None else (f"{rust:,.1f}", f"{lower / rust:.2f}")
+            times = f"{lower:,.1f} | {clear:.1f} | {of_rust} | {lower / clear:,.1f} | {to_rust}"
             print(f"| {name} | {length:,} | {answer} | {out:,}, {list_:,} | {times} |", flush=True)
 
 

@@ -267,16 +267,22 @@ def loops(depth):
     return program([inner])
 
 
-def template_keys(levels, length=0):
+def template_keys(levels, length=0, declared=False):
     """At root a key that is a template of one quasi is written twice, with an assignment in it that has such a key, and so
-    on. The innermost fills the tree up to the length."""
+    on; or, declared, a function with such a declaration. The innermost fills the tree up to the length."""
 
     def whole(n):
         inner = literal(*[spread(ref(""))] * n)
         for _ in range(levels):
-            key = node(23, listed([node(22, byte(1), text(""), text(""))]), listed([inner]))
-            inner = assign(pattern([node(35, key, ref(""), byte(1))], ref("")), ref(""))
+            if declared:
+                made = declare(2, (pattern([templated(inner, binding("")), node(35, ref(""), binding(""), byte(1))], binding("")), ref("")))
+                inner = node(17, listed([]), None, node(16, None, listed([made])))
+            else:
+                inner = assign(pattern([templated(inner, ref(""))], ref("")), ref(""))
         return program([statement(inner)])
+
+    def templated(inner, value):
+        return node(35, node(23, listed([node(22, byte(1), text(""), text(""))]), listed([inner])), value, byte(1))
 
     n = 1
     while len(whole(n + 1)) <= length:
@@ -300,8 +306,12 @@ TREES = {
     **{f"arrays-{kind}-{d}": lambda d=d, kind=kind: nested_arrays(d, kind) for kind in ("assignment", "declaration", "parameter") for d in (30, 60)},
     **{f"loops-{d}": lambda d=d: loops(d) for d in (15, 30, 60)},
     **{f"templates-{n}": lambda n=n: template_keys(n) for n in (4, 6, 8, 10, 12, 14)},
-    **{f"templates-{n}-16k": lambda n=n: template_keys(n, LONGEST) for n in (2, 4, 6, 8, 10, 12, 14)},
+    **{f"templates-{n}-16k": lambda n=n: template_keys(n, LONGEST) for n in (4, 6, 8, 10, 12, 14)},
+    **{f"templates-declared-{n}-16k": lambda n=n: template_keys(n, LONGEST, True) for n in (2, 4, 6, 8)},
 }
+
+# the reference would take seconds or minutes for one call
+ALONE = {"templates-10-16k", "templates-12-16k", "templates-14-16k"}
 
 
 def main():

@@ -11,12 +11,10 @@ use Rattle.tree.specs.Tree.{Node, Items, wideBytes, depth}
 use Rattle.tree.specs.Read.{byteAt, wideAt}
 use Rattle.tree.specs.Look.{Seen, onward, lookItems, lookNode}
 use Rattle.tree.specs.Answer.{Peeked}
-use Rattle.lowering.specs.Parts.{position, is, pieceIn, standsIn, nodeAt, itemsAt, stands, any}
-use Rattle.lowering.specs.Made as made
+use Rattle.lowering.specs.Parts.{is, pieceIn, standsIn, nodeAt, itemsAt, stands, any}
 use Rattle.lowering.specs.Patterns.{shape, properties, rest, hasRest, withValues, hasNestedObjectRest, hasObjectRest, hasArrayRestOverObjectRest, replacedBelow}
 use Rattle.lowering.specs.Patterns.Shape.{leaf}
-use Rattle.lowering.specs.Keys.{anyLacksForm, excludedKeys, excludedKey}
-use Rattle.lowering.specs.Rests.{restValue, keysRead, isHoisted}
+use Rattle.lowering.specs.Keys.{anyLacksForm}
 use Rattle.lowering.specs.Assignments.{target, isTop}
 use Rattle.lowering.proofs.Cases.{by-test, and-left, and-right}
 use Rattle.sink.specs.Machine.{treeLimit}
@@ -40,15 +38,17 @@ use Rattle.direct.proofs.PatternViews.{values-rest, says-cell}
 use Rattle.direct.proofs.Tests.{top-lacks-form}
 use Rattle.direct.proofs.Assigned.{assignment-refused-5, assignment-refused-6, assignment-stays, assignment-nested, assignment-top, target-nested, target-kept, rest-done}
 use Rattle.direct.proofs.Inner.{inner-refused, inner-done}
-use Rattle.walk.specs.Run.{Going, Full, Does, Clear}
+use Rattle.walk.specs.Run.{Going, Does, Clear}
 use Rattle.walk.specs.Whole.{Good}
 use Rattle.walk.specs.Turns.{restFrom, viewOf, turnOf, deepMode, suits, sourceOf, givenDeeds, givenNode}
-use Rattle.walk.proofs.Sizes.{places-small, rests-count-small}
-use Rattle.walk.proofs.Running.{does-then, does-as, clear-after, clear-still}
+use Rattle.walk.proofs.Sizes.{rests-count-small}
+use Rattle.walk.proofs.HandRules.{places-within}
+use Rattle.walk.proofs.Running.{does-then, does-as, does-to, clear-after, clear-still}
+use Rattle.outcome.proofs.Calm.{rest-inner}
 use Rattle.walk.proofs.Again as walked
 use Rattle.walk.proofs.Again.{source-quiet, taking-again, target-again}
 use Rattle.walk.proofs.Args.{does-from}
-use Rattle.emit.proofs.Moving.{does-to, cell-one}
+use Rattle.emit.proofs.Moving.{cell-one}
 use Rattle.walk.proofs.Turning.{turn-12, turn-17, turn-18}
 use Rattle.walk.proofs.Opened.{ObjectOpen, AssignmentOpen, object-open, assignment-open, no-good, is-here, position-here, good-short, good-within}
 
@@ -59,10 +59,6 @@ carry E {c = c} {c′ = c′} {d = d} {d′ = d′} {p = p} {p′ = p′} u v w 
     subst (λ (x : Place). E x d p) u (subst (λ (x : ℕ). E c′ x p) v (subst (λ (x : ℕ). E c′ d′ x) w e))
 
 -- only the root of a place plays a part in the value of a rest
-rest-inner : (c : Place) (x : ℕ) → emitsRestOf (inner c) x ≡ emitsRestOf c x
-unfolding emitsRestOf inner restValue keysRead isHoisted excludedKeys excludedKey
-rest-inner c x = refl
-
 -- the cell of a temporary as the code finds it
 abbrev CellIs : ℕ → ℕ → ℕ → Type 0
 CellIs z stem at = at < 16384 → 0 < stem → stem < 5 → z ≡ cell stem at
@@ -243,9 +239,6 @@ module _ (t : List ℕ) where
   unfolding viewOf
   view-is v h = rw (ne-eqb v 2 h) refl
 
-  places-fit : (v d p : ℕ) → (v ≡ 2 → ⊥) → Good t d p → placesIn (viewOf v) (lookNode t d p .value) ≤ 16384
-  places-fit v d p h g = omega (arith, places-small v h (lookNode t d p .value), good-short t d p g)
-
   one-more : (a k m : ℕ) → a ≤ 16384 → k ≡ limited a → m ≡ limited (k + 1) → m ≡ suc a
   unfolding limited
   one-more a k m h e f = omega arith
@@ -265,7 +258,7 @@ module _ (t : List ℕ) where
   nst-done {h₆ = h₆} {g₇ = g₇} c c₁ c₂ d d₁ d₂ v op p q q₂ r₅ r₇ k m x mode input pk hands two pm wide ass t₄ w₄ i₁ view i₂ giv t₆ w₆ md deep nv good gx ar lo =
       let n = lookNode t d p .value in
       let b = eqb v 3 in
-      let pl : placesIn (viewOf v) n ≤ 16384 = places-fit v d p nv good in
+      let pl : placesIn (viewOf v) n ≤ 16384 = places-within t v d p nv good in
       let mm : m ≡ suc (placesIn (viewOf v) n) = one-more (placesIn (viewOf v) n) k m pl (pk nv) pm in
       let dd = subst (λ (z : ℕ). 0 < 16384 → Good t d q₂ → deepMode z ≡ true → suits z (lookNode t d q₂ .value) ≡ true → (r₇ ≡ lookNode t d q₂ .next) × Does h₆ g₇ (turnOf z 0 c (lookNode t d q₂ .value))) md deep in
       let D = does-as (deep-does c c d d p q₂ r₇ (cond b 17 12) 0 t₆ refl refl w₆ (omega arith) dd good (mode-deep b) (mode-suits b n ar))

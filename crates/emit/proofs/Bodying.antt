@@ -33,13 +33,13 @@ use Rattle.direct.proofs.HeadRules.{emits-function, emits-arrow}
 use Rattle.walk.specs.Run.{Going, Does}
 use Rattle.walk.specs.Whole.{slotDeeds, GoodItems, GoodList, GoodField, GoodSlot, Good, Ruled}
 use Rattle.walk.specs.Turns.{turnsOf, AllSuit, AllBind}
-use Rattle.walk.proofs.Running.{does-then, does-as, does-fresh}
+use Rattle.walk.proofs.Running.{does-then, does-as, does-to, does-fresh}
 use Rattle.walk.proofs.Agreeing.{agree-say, agree-then, agree-marked}
 use Rattle.walk.proofs.Args.{does-from}
 use Rattle.walk.proofs.Opened.{ListOpen, BodyOpen, FunctionOpen, ArrowOpen, body-open, function-open, arrow-open, no-good, is-here, good-two}
 use Rattle.walk.proofs.Turning.{turns-11, suit-11, look-solid}
 use Rattle.emit.proofs.MovedSizes.{part-join, on-inside, on-more, moves-within, moves-whole, count-within}
-use Rattle.emit.proofs.Moving.{does-to, inner-place, scoped-place, kind-not, look-as, good-as, node-as, stands-as, slot-on, slot-off, Through, Slotted, Backed}
+use Rattle.emit.proofs.Moving.{marks-own, inner-place, scoped-place, kind-not, look-as, good-as, node-as, stands-as, slot-on, slot-off, Through, Slotted, Backed}
 
 module _ (t : List ℕ) where
   -- ---- the directives of a body: a list by its bit
@@ -211,11 +211,6 @@ module _ (t : List ℕ) where
       (λ e. slot-on t (lookNode t d) (Good t d) false c bit at e .2 ∙ ap (λ (b : Bool). emitsGiven (emits c) (givenIf d b at)) (sym e))
       (λ e. slot-off t (lookNode t d) (Good t d) false c bit at h e .2 ∙ ap (λ (b : Bool). emitsGiven (emits c) (givenIf d b at)) (sym e))
 
-  marks-put : (m : ℕ) → 0 < m → marks m ≡ puts (wideBytes m)
-  unfolding marks
-  marks-put zero h = absurd (omega arith)
-  marks-put (suc m) h = refl
-
   -- ---- functions
 
   -- what stands of the fields that are looked at
@@ -299,7 +294,7 @@ module _ (t : List ℕ) where
         let some : any isMoved qs ≡ true = ap (λ (x : Items). any isMoved x) (sym (function-params at m sort name qs rest b) ∙ ap (itemsAt 3) (sym value)) ∙ h in
         let map : byteAt t (onward t at 1) ≡ mapOf fs = op .map in
         let head : puts (part at (onward t at 5) t) ≡ puts (14 ∷ mapOf fs ∷ []) ++ (marks m ++ puts (sort ∷ [])) =
-        ap puts (op .head ∙ ap (λ (x : ℕ). 14 ∷ x ∷ wideBytes m ++ (sort ∷ [])) map) ∙ ap (λ (x : List Deed). puts (14 ∷ mapOf fs ∷ []) ++ (x ++ puts (sort ∷ []))) (sym (marks-put m (op .marked))) in
+        ap puts (op .head ∙ ap (λ (x : ℕ). 14 ∷ x ∷ wideBytes m ++ (sort ∷ [])) map) ∙ ap (λ (x : List Deed). puts (14 ∷ mapOf fs ∷ []) ++ (x ++ puts (sort ∷ []))) (sym (marks-own m (op .marked))) in
         let body : Emit = emits (scoped c) (bodyIn (gather movedFrom qs) b) in
         ap₂ (λ (x : List Deed) (y : Emit). say (makes (gather movedFrom qs)) ▷ say x ▷ y ▷ say (puts (part params (onward t params 2) t)) ▷ turnsOf 11 0 (scoped c) qs ▷ slotDeeds t (lookNode t d) false (scoped c) (sortOf 32) (byteAt t (onward t at 1) / 16 % 2) (bound .next) ▷ body)
         head (given-deeds (scoped c) d (byteAt t (onward t at 1) / 4 % 2) (onward t at 5) (omega arith))

@@ -50,13 +50,13 @@ use Rattle.walk.specs.Whole.{GoodItems, Good}
 use Rattle.walk.specs.Turns.{viewOf, deepMode, suits, turnOf, turnsOf, sourceOf, reads, startOf}
 use Rattle.walk.specs.declared.look.Start.{Start}
 use Rattle.walk.specs.declared.look.Start.the-variants.{Value, Missing}
-use Rattle.walk.proofs.Running.{does-then, does-nothing, does-as, clear-after, clear-still}
+use Rattle.walk.proofs.Running.{does-then, does-nothing, does-as, does-to, clear-after, clear-still}
 use Rattle.walk.proofs.Again as walked
 use Rattle.walk.proofs.Again.{Quiet, own-again}
 use Rattle.walk.proofs.Args.{does-from}
 use Rattle.walk.proofs.Opened.{BinderOpen, DeclarationOpen, no-good, kind-here, is-here, position-here, good-copied, good-short, good-two, declarator-open, declaration-open}
 use Rattle.walk.proofs.Turning.{turn-8, turns-7, turns-9, turns-10, suit-7, suit-9, suit-10}
-use Rattle.emit.proofs.Finding.{not-true, object-as, level-up, lifted, does-upto, rest-stands, Turned, Deep}
+use Rattle.emit.proofs.Finding.{not-true, object-as, level-up, lifted, rest-stands, Turned, Deep}
 
 -- ---- places
 
@@ -148,7 +148,7 @@ module _ (t : List ℕ) where
         let there = last .1 (subst (λ (y : ℕ). Good t y at) (sym same-level) good) k
         (λ _. subst (λ (m : Place). Clear g₃ (emitsRest m at (properties (lookNode t h at .value)) src)) (sym place₂)
         (subst (λ (y : ℕ). Clear g₃ (emitsRest (inner c) at (properties (lookNode t y at .value)) src)) (sym same-level) again)) in
-        does-upto upto (does-as (does-then head (does-then target there))
+        does-to upto (does-as (does-then head (does-then target there))
         (ap₂ (λ (m : Place) (y : ℕ). say (puts (5 ∷ 3 ∷ [])) ▷ emits m (lookNode t e y .value) ▷ emitsRest c₂ at (properties (lookNode t h at .value)) src) place₁ ii
         ∙ ap₂ (λ (m : Place) (y : Node). say (puts (5 ∷ 3 ∷ [])) ▷ emits (inner c) (lookNode t e x .value) ▷ emitsRest m at (properties y) src) place₂ (ap (λ (y : ℕ). lookNode t y at .value) same-level ∙ value-is)
         ∙ own-resting c at ps (lookNode t e x .value) src
@@ -173,7 +173,7 @@ module _ (t : List ℕ) where
         let n : Node = lookNode t d at .value in
         let node-as : lookNode t h i .value ≡ n = ap₂ (λ (x y : ℕ). lookNode t x y .value) same-level move in
         let v = view (subst (λ (y : ℕ). Good t h y) (sym move) (subst (λ (y : ℕ). Good t y at) (sym same-level) good)) in
-        does-upto upto (does-as (does-then head (does-then (v .1) (read .1)))
+        does-to upto (does-as (does-then head (does-then (v .1) (read .1)))
         (ap₂ (λ (m : Place) (y : Node). say (puts (5 ∷ 3 ∷ [])) ▷ emitsView m taking y ▷ src) place node-as ∙ sym (own-pattern-some c n src (sym test ∙ some)))),
   )
 
@@ -460,7 +460,7 @@ module _ (t : List ℕ) where
       ap (λ (y : Seen Node). isLowered (y .value)) whole ∙ valued-lowered at 5 p x ∙ ap₂ (λ (y z : ℕ). hasObjectRest (lookNode t y z .value)) level (sym second) ∙ sym test ∙ yes-rest in
       let does-it = lowers (built ∙ ap₂ (λ (y z : ℕ). builderOf t y init z false) (sym level) (cell-is small (omega arith) (omega arith))) (subst (λ (y : ℕ). Good t e y) (sym second) (o .pattern)) (subst (λ (y : ℕ). Good t e y) (sym (v .1)) (o .value (v .0))) in (
         moved ∙ next ∙ ap₂ (λ (y z : ℕ). lookNode t y z .next) (sym level) (v .1) ∙ ap (λ (y : Seen Node). y .next) (sym whole),
-        does-upto upto (does-as does-it
+        does-to upto (does-as does-it
             (ap₂ (λ (y z : Node). emitsLowered c′ y z) id-as init-as
             ∙ ap (λ (m : Place). emitsLowered m p x) place
             ∙ ap₂ (λ (y z : Node). emitsLowered c y z) (sym (ap (λ (y : Seen Node). nodeAt 0 (y .value)) whole ∙ first-part at 5 p x)) (sym (ap (λ (y : Seen Node). nodeAt 1 (y .value)) whole ∙ second-part at 5 p x))
@@ -477,7 +477,7 @@ module _ (t : List ℕ) where
     where
       go : (d : ℕ) → ((κ : Context) → b ≡ declarationLacksForm κ (lookNode t d at .value)) → Good t d at → Does g g′ (emits c (lookNode t d at .value))
       go zero test good = no-good t at good
-      go (suc d) test good = does-upto upto (does-as said (sym (declaration-refused c (lookNode t (suc d) at .value) (is-here t d at 4 ∙ eq-eqb (byteAt t at) 4 k) (sym (test (contextOf c)) ∙ lacks))))
+      go (suc d) test good = does-to upto (does-as said (sym (declaration-refused c (lookNode t (suc d) at .value) (is-here t d at 4 ∙ eq-eqb (byteAt t at) 4 k) (sym (test (contextOf c)) ∙ lacks))))
 
   pub declaration-writes : {g g₁ g₂ g₃ g₄ g₅ g′ : Going} (c c′ : Place) (d left e at i q k n p f u z s : ℕ) (b : Bool) → ((κ : Context) → b ≡ declarationLacksForm κ (lookNode t d at .value)) → b ≡ false
       → i ≡ at → (Good t d at → byteAt t at ≡ 4 → Does g g₁ (inTurn declaratorMade (itemsAt 2 (lookNode t d at .value)) ▷ inTurn (declaratorExcludes (c .root)) (itemsAt 2 (lookNode t d at .value))))
@@ -512,7 +512,7 @@ module _ (t : List ℕ) where
         let bytes : part i q t ≡ 4 ∷ 7 ∷ wideBytes m ++ (x ∷ []) = ap₂ (λ (y v : ℕ). part y v t) same fifth ∙ o .head in
         let head : say (puts (part i q t)) ▷ say (puts (wideBytes k)) ≡ say (puts (4 ∷ 7 ∷ []) ++ (marks m ++ puts (x ∷ wideBytes (declaratorCount c ds)))) =
         ap₂ (λ (bs : List ℕ) (y : ℕ). say (puts bs) ▷ say (puts (wideBytes y))) bytes k-as ∙ say-say (puts (4 ∷ 7 ∷ wideBytes m ++ (x ∷ []))) (puts (wideBytes (declaratorCount c ds))) ∙ ap say (head-is m x (declaratorCount c ds) (o .marked)) in
-        does-upto upto (does-as (does-then (hands good kk) (does-then (does-then copied (wide small)) (does-from from (r .1))))
+        does-to upto (does-as (does-then (hands good kk) (does-then (does-then copied (wide small)) (does-from from (r .1))))
         (ap₂ (λ (y : Items) (v : Emit). (inTurn declaratorMade y ▷ inTurn (declaratorExcludes (c .root)) y) ▷ v ▷ turnsOf 10 0 c′ ds) ds-are head
         ∙ ap (λ (v : Emit). (M ▷ X) ▷ say (puts (4 ∷ 7 ∷ []) ++ (marks m ++ puts (x ∷ wideBytes (declaratorCount c ds)))) ▷ v) (ap (λ (y : Place). turnsOf 10 0 y ds) place ∙ turns-10 0 c ds)
         ∙ then-assoc M X (say (puts (4 ∷ 7 ∷ []) ++ (marks m ++ puts (x ∷ wideBytes (declaratorCount c ds)))) ▷ D)

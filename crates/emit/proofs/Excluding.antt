@@ -30,11 +30,11 @@ use Rattle.direct.proofs.RestValues.{excluded-name, excluded-literal, excluded-
 use Rattle.walk.specs.Run.{Going, Does}
 use Rattle.walk.specs.Whole.{Good, Ruled, Emitted}
 use Rattle.walk.specs.Turns.{keyClass, keyString}
-use Rattle.walk.proofs.Running.{does-then, does-as, does-nothing}
+use Rattle.walk.proofs.Running.{does-then, does-as, does-to, does-nothing}
 use Rattle.walk.proofs.Args.{does-from}
 use Rattle.walk.proofs.Opened.{no-good, position-here, good-within, object-open, property-open}
 use Rattle.walk.proofs.Turning.{Sequenced, sequenced-as, turns-6, suit-6}
-use Rattle.walk.proofs.Viewing.{cell-4, does-to, ruled-as}
+use Rattle.walk.proofs.Viewing.{cell-4, ruled-as}
 
 -- ---- the value
 

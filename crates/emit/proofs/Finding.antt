@@ -6,7 +6,7 @@ use mathlib.Core.List.{List, [], _∷_}
 use Prim.Native.Nat.{ℕ, zero, suc, _+_, _-_, _/_, _%_, _≤_, _<_}
 use native.Mathlib.Omega.{arith}
 use lib.Dec.{eqb}
-use borrow.Author.Tests.{eqb-true, ne-eqb}
+use borrow.Author.Tests.{eqb-true}
 use Rattle.tree.specs.Tree.{Node, Fields, Items}
 use Rattle.tree.specs.Tree.Node.{node}
 use Rattle.tree.specs.Tree.Fields.{done, absent, field}
@@ -14,7 +14,7 @@ use Rattle.tree.specs.Tree.Piece.{one, list}
 use Rattle.tree.specs.Read.{byteAt, wideAt}
 use Rattle.tree.specs.Look.{Seen, seen, onward, lookItems, lookNode}
 use Rattle.tree.specs.Answer.{Wide}
-use Rattle.lowering.specs.Parts.{is, kind, standsIn, stands, nodeAt, pieceIn, any}
+use Rattle.lowering.specs.Parts.{is, standsIn, stands, nodeAt, pieceIn, any}
 use Rattle.lowering.specs.Patterns.{shape, value, hasRest, withValues, replacedBelow, hasArrayRestOverObjectRest}
 use Rattle.lowering.specs.Patterns.Shape.{leaf}
 use Rattle.lowering.proofs.All.{AllItems}
@@ -35,9 +35,9 @@ use Rattle.direct.proofs.Tests.{over-object-at, over-array-at, over-array-rest-
 use Rattle.walk.specs.Run.{Going, Does, Clear}
 use Rattle.walk.specs.Whole.{GoodItems, Good}
 use Rattle.walk.specs.Turns.{restFrom, turnOf, deepMode, suits, turnsOf, AllSuit}
-use Rattle.walk.proofs.Running.{does-then, does-nothing, does-as, clear-after}
+use Rattle.walk.proofs.Running.{does-then, does-nothing, does-as, does-to, clear-after}
 use Rattle.walk.proofs.Args.{does-from}
-use Rattle.walk.proofs.Opened.{ObjectOpen, ArrayOpen, PropertyOpen, DefaultOpen, no-good, kind-here, object-open, array-open, property-open, default-open}
+use Rattle.walk.proofs.Opened.{ObjectOpen, ArrayOpen, PropertyOpen, DefaultOpen, leaf-here, no-good, object-open, array-open, property-open, default-open}
 use Rattle.walk.proofs.Turning.{turn-8, turn-12, turn-17, turn-18, turns-8, turns-9, turns-12, turns-13, turns-14, turns-15, suit-8, suit-9, suit-12, suit-13, suit-14, suit-15}
 
 -- ---- the modes that go below a pattern
@@ -166,11 +166,6 @@ pub rest-stands : (at : ℕ) (ps : Items) (r : Node) → hasRest (objectRestAt a
 unfolding stands standsIn
 rest-stands at ps r = refl
 
--- ---- states
-
-pub does-upto : {g g′ h : Going} {e : Emit} → h ≡ g′ → Does g g′ e → Does g h e
-does-upto {g = g} {e = e} k d = subst (λ (x : Going). Does g x e) (sym k) d
-
 module _ (t : List ℕ) where
   -- ---- what stands at a position, in the code's terms
 
@@ -218,17 +213,11 @@ module _ (t : List ℕ) where
 
   -- ---- deep: below any pattern
 
-  leaf-here : (d at k : ℕ) → k ≡ byteAt t at → (k ≡ 34 → ⊥) → (k ≡ 36 → ⊥) → (k ≡ 37 → ⊥) → shape (lookNode t (suc d) at .value) ≡ leaf
-  unfolding shape
-  leaf-here d at k h a b c =
-      let u : kind (lookNode t (suc d) at .value) ≡ k = kind-here t d at ∙ sym h in
-      rw (u, ne-eqb k 34 a, ne-eqb k 36 b, ne-eqb k 37 c) refl
-
   pub deep-leaf : {g g′ : Going} (c : Place) (d at k q s mode x : ℕ) → k ≡ byteAt t at → (k ≡ 34 → ⊥) → (k ≡ 36 → ⊥) → (k ≡ 37 → ⊥)
       → q ≡ lookNode t d at .next → s ≡ q → g′ ≡ g → x < 16384 → Deep d at s mode x c g g′
   deep-leaf c zero at k q s mode x kk a b e next moved same small good deep suit = no-good t at good
   deep-leaf {g = g} c (suc d) at k q s mode x kk a b e next moved same small good deep suit =
-      (moved ∙ next, does-upto same (does-as (does-nothing g) (sym (turn-leaf mode x c deep (lookNode t (suc d) at .value) (leaf-here d at k kk a b e)))))
+      (moved ∙ next, does-to same (does-as (does-nothing g) (sym (turn-leaf mode x c deep (lookNode t (suc d) at .value) (leaf-here t d at k kk a b e)))))
 
   pub deep-default : {g g₁ g₂ g′ : Going} (c c′ : Place) (d left e at k p q u z s mode x : ℕ) → k ≡ byteAt t at → k ≡ 37 → left ≡ d - 1 → e ≡ left → c′ ≡ c
       → p ≡ onward t at 2 → q ≡ p → g₁ ≡ g → (x < 16384 → Deep e q u mode x c′ g₁ g₂) → z ≡ lookNode t left u .next → s ≡ z → g′ ≡ g₂
@@ -244,7 +233,7 @@ module _ (t : List ℕ) where
       ap (suits mode) l-as ∙ sym (suit-default mode x c deep at l _) ∙ ap (λ (n : Seen Node). suits mode (n .value)) (sym (whole ∙ o .whole)) ∙ suit in
       let r : (u ≡ lookNode t e q .next) × Does _ g₂ (turnOf mode x c′ (lookNode t e q .value)) = below small (subst (λ (n : ℕ). Good t e n) (sym j) (o .left)) deep suit-l in (
         moved ∙ next ∙ ap₂ (λ (m n : ℕ). lookNode t m n .next) (sym b) (r .0 ∙ ap (λ (n : ℕ). lookNode t e n .next) j) ∙ ap (λ (n : Seen Node). n .next) (sym (whole ∙ o .whole)),
-        does-upto upto (does-from from (does-as (r .1)
+        does-to upto (does-from from (does-as (r .1)
             (ap₂ (λ (m : Place) (n : Node). turnOf mode x m n) place l-as ∙ sym (turn-default mode x c deep at l _) ∙ ap (λ (n : Seen Node). turnOf mode x c (n .value)) (sym (whole ∙ o .whole))))),
       )
 
@@ -306,7 +295,7 @@ module _ (t : List ℕ) where
           let r = values-done (field (one (lookNode t e (lookItems t (lookNode t e) false n f .next) .value)) done) (ap (λ (y : Seen Node). y .value) whole) o small deep suit in
           let m : mode ≡ 17 = by-deep mode deep (λ i. absurd (other i)) (λ i. absurd (no-12 i)) (λ i. i) (λ i. absurd (no-18 i)) in (
             rest-next o (r .0),
-            does-upto upto (does-as (r .1)
+            does-to upto (does-as (r .1)
                 (ap (λ (y : ℕ). turnsOf (valueMode y) x c ps) m ∙ sym (turn-rest-17 x c at ps _) ∙ ap₂ (λ (i : ℕ) (y : Seen Node). turnOf i x c (y .value)) (sym m) (sym whole))),
           )
 
@@ -325,7 +314,7 @@ module _ (t : List ℕ) where
           let clear : hasArrayRestOverObjectRest p ≡ false = clear-12 p (subst (λ (y : ℕ). suits y p ≡ true) m suit) in
           let i = inner k (ap (λ (y : Node). hasRest y) value-is ∙ rest-stands at ps _) (r .0 ∙ ends) good clear in (
             rest-next o (r .0),
-            does-upto upto (does-as (does-then (r .1) i)
+            does-to upto (does-as (does-then (r .1) i)
                 (ap₂ (λ (y : ℕ) (w : Node). turnsOf (valueMode y) x c ps ▷ emitsInner c (withValues (λ v. replacedBelow nameless v) w)) m value-is
                 ∙ sym (turn-rest-12 x c at ps _) ∙ ap₂ (λ (y : ℕ) (w : Node). turnOf y x c w) (sym m) (sym value-is))),
           )
@@ -344,7 +333,7 @@ module _ (t : List ℕ) where
           let r = values-done (field (one (lookNode t e (lookItems t (lookNode t e) false n f .next) .value)) done) value-is o small deep suit in
           let i = taken small k (ap (λ (y : Node). hasRest y) value-is ∙ rest-stands at ps _) (r .0 ∙ ends) good in (
             rest-next o (r .0),
-            does-upto upto (does-as (does-then (r .1) i)
+            does-to upto (does-as (does-then (r .1) i)
                 (ap₂ (λ (y : ℕ) (w : Node). turnsOf (valueMode y) x c ps ▷ restFrom c x w) m value-is
                 ∙ sym (turn-rest-18 x c at ps _) ∙ ap₂ (λ (y : ℕ) (w : Node). turnOf y x c w) (sym m) (sym value-is))),
           )
@@ -391,7 +380,7 @@ module _ (t : List ℕ) where
       let r = values (omega arith) (o .goods) (suit-9 ps (o .kinds)) in
       let found : turnsOf 9 0 c′ ps ≡ inTurn (λ y. emitsFound c (value y)) ps = ap (λ (y : Place). turnsOf 9 0 y ps) place ∙ turns-9 0 c ps in (
         moved ∙ next ∙ ap₂ (λ (m y : ℕ). lookNode t m y .next) (sym level) (r .0) ∙ ap (λ (y : Seen Node). y .next) (sym whole),
-        does-upto upto (does-as (does-then (own .1 k good) (does-then rest (does-from from (r .1))))
+        does-to upto (does-as (does-then (own .1 k good) (does-then rest (does-from from (r .1))))
             (ap₂ (λ (x y : Emit). (emitsOwnKeys c w ▷ emitsOwnPattern c w x) ▷ y) s₁ (ap₂ (λ (x y : Emit). x ▷ y) rest-as found)
             ∙ then-assoc (emitsOwnKeys c w) (emitsOwnPattern c w (saysCell 1 at)) _
             ∙ ap (λ (y : Node). emitsOwnKeys c y ▷ emitsOwnPattern c y (saysCell 1 at) ▷ emitsOwnRest c y (saysCell 1 at) ▷ inTurn (λ v. emitsFound c (value v)) ps) value-is
@@ -408,7 +397,7 @@ module _ (t : List ℕ) where
   pub array-taken : {g g′ : Going} (c : Place) (d at q s mode x : ℕ) → q ≡ lookNode t d at .next → mode ≡ 18 → s ≡ q → g′ ≡ g → byteAt t at ≡ 36 → Deep d at s mode x c g g′
   array-taken c zero at q s mode x next m moved upto k good deep suit = no-good t at good
   array-taken {g = g} c (suc d) at q s mode x next m moved upto k good deep suit =
-      (moved ∙ next, does-upto upto (does-as (does-nothing g) (sym (array-here x c d at k) ∙ ap (λ (y : ℕ). turnOf y x c (lookNode t (suc d) at .value)) (sym m))))
+      (moved ∙ next, does-to upto (does-as (does-nothing g) (sym (array-here x c d at k) ∙ ap (λ (y : ℕ). turnOf y x c (lookNode t (suc d) at .value)) (sym m))))
 
   pub array-items : {g g₁ g₂ g′ : Going} (c c′ : Place) (d left e at q n p f u z s im mode x : ℕ) → z ≡ lookNode t d at .next → (mode ≡ 18 → ⊥) → q ≡ onward t at 2 → Wide t q n → p ≡ onward t q 2 → f ≡ p → g₁ ≡ g
       → left ≡ d - 1 → e ≡ left → c′ ≡ c → im ≡ itemMode mode → Turned e true n f u im 0 c′ g₁ g₂ → s ≡ z → g′ ≡ g₂ → byteAt t at ≡ 36 → Deep d at s mode x c g g′
@@ -426,7 +415,7 @@ module _ (t : List ℕ) where
       items (omega arith) goods (rw ims (suit-items mode deep (node at 36 (field (list is) fs)) is fit (ap (suits mode) (sym whole) ∙ suit) other)) in
       does-as (does-from from (r .1)) (ap₂ (λ (m : ℕ) (y : Place). turnsOf m 0 y is) ims place ∙ sym (turn-array mode x c deep other at is fs) ∙ ap (turnOf mode x c) (sym whole)) in (
         moved ∙ next,
-        does-upto upto (by-test (eqb (byteAt t (onward t at 1) / 2 % 2) 1)
+        does-to upto (by-test (eqb (byteAt t (onward t at 1) / 2 % 2) 1)
             (λ b. done (field (one (lookNode t e (lookItems t (lookNode t e) true n f .next) .value)) Fields.done) (rw (h, nn, ff) (ap (λ (y : Seen Node). y .value) (o .resting b))) (suit-array-rest at is _))
             (λ b. done (absent Fields.done) (rw (h, nn, ff) (ap (λ (y : Seen Node). y .value) (o .plain b))) (suit-array at is))),
       )
@@ -449,5 +438,5 @@ module _ (t : List ℕ) where
       let value-is : value (lookNode t d at .value) ≡ lookNode t e y .value = ap (λ (q : Seen Node). value (q .value)) whole ∙ property-value at _ _ _ in
       let r = below small (subst (λ (q : ℕ). Good t e q) (sym yy) (o .value)) deep (ap (suits mode) (sym value-is) ∙ suit) in (
         moved ∙ next ∙ ap (λ (q : ℕ). onward t q 1) (r .0) ∙ ap (λ (q : Seen Node). q .next) (sym whole),
-        does-upto upto (does-from from (does-as (r .1) (ap₂ (λ (m : Place) (q : Node). turnOf mode x m q) place (sym value-is)))),
+        does-to upto (does-from from (does-as (r .1) (ap₂ (λ (m : Place) (q : Node). turnOf mode x m q) place (sym value-is)))),
       )

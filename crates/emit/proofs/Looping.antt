@@ -45,10 +45,10 @@ use Rattle.direct.proofs.Bodies.{emits-assigned, emits-block-in, emits-empty-in
 use Rattle.walk.specs.Run.{Going, Does}
 use Rattle.walk.specs.Whole.{holeAt, itemDeeds, GoodItem, GoodItems, GoodField, GoodSlot, GoodFields, Good}
 use Rattle.walk.specs.Turns.{turnsOf, AllSuit, AllBind, movesOf, awaits, givenNode, blockHead, declarationHead}
-use Rattle.walk.proofs.Running.{does-then, does-as, does-fresh}
+use Rattle.walk.proofs.Running.{does-then, does-as, does-to, does-fresh}
 use Rattle.walk.proofs.Agreeing.{agree-say, agree-then, agree-unused}
 use Rattle.walk.proofs.Args.{does-from}
-use Rattle.emit.proofs.Moving.{does-to, scoped-place, cell-one}
+use Rattle.emit.proofs.Moving.{marks-own, scoped-place, cell-one}
 use Rattle.walk.proofs.Opened.{CatchOpen, LoopOpen, no-good, is-here, position-here, good-fits, good-room, declaration-open, block-open, catch-open, for-in-open, for-of-open}
 use Rattle.emit.proofs.MovedSizes.{moves-within, moves-whole, count-within, part-join, on-inside, on-more}
 use Rattle.walk.proofs.Turning.{look-solid, turns-11, suit-11, suit-11-declarators}
@@ -72,11 +72,6 @@ module _ (t : List ℕ) where
       (sym (emits-assigned c v (temporary [] 1 p)))
 
 -- ---- heads of blocks
-
-pub marks-own : (m : ℕ) → 0 < m → marks m ≡ puts (wideBytes m)
-unfolding marks
-marks-own zero h = absurd (omega arith)
-marks-own (suc m) h = refl
 
 -- that of a Block as it stands, with a new count behind it
 head-counted : (m n k : ℕ) (bs : List ℕ) → bs ≡ 2 ∷ 3 ∷ wideBytes m → 0 < m → n ≡ k → puts bs ++ puts (wideBytes n) ≡ puts (2 ∷ 3 ∷ []) ++ (marks m ++ puts (wideBytes k))

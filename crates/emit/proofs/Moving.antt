@@ -13,7 +13,7 @@ use Rattle.tree.specs.Tree.Node.{node}
 use Rattle.tree.specs.Tree.Items.{none, hole, item}
 use Rattle.tree.specs.Read.{byteAt, wideAt}
 use Rattle.tree.specs.Rows.{sortOf}
-use Rattle.tree.specs.Look.{Seen, seen, seenAs, onward, lookItem, lookItems, lookField, lookSlot, lookNode}
+use Rattle.tree.specs.Look.{Seen, onward, lookItem, lookItems, lookField, lookSlot, lookNode}
 use Rattle.tree.specs.Answer.{Peeked, Wide}
 use Rattle.lowering.specs.Parts.{is, pieceIn, standsIn, nodeAt, itemsAt, stands, only, gather, any, _+++_}
 use Rattle.lowering.specs.Made.{Context, declares, letOf}
@@ -38,7 +38,7 @@ use Rattle.direct.specs.Objects.{overObjects}
 use Rattle.direct.specs.Handed.{placeMade, keysMade, excludesOf, declaratorMade, declaratorExcludes}
 use Rattle.direct.specs.Declared.{emitsPattern, emitsLowered, emitsDeclarator, declaratorCount}
 use Rattle.direct.specs.Counts.{sumOf, declaratorsOf}
-use Rattle.direct.specs.Moved.{stand, outOf, movedIn, behind, Binder, fronts, fresh}
+use Rattle.direct.specs.Moved.{stand, outOf, movedIn, behind, Binder, fronts}
 use Rattle.direct.proofs.Makes.{newDeclaration, emits-temporary}
 use Rattle.direct.proofs.Lists.{turn-only}
 use Rattle.direct.proofs.Tests.{has-leaf-at}
@@ -51,7 +51,8 @@ use Rattle.direct.proofs.Threads.{then-assoc, say-nothing, then-nothing, say-sa
 use Rattle.walk.specs.Run.{Going, Does}
 use Rattle.walk.specs.Whole.{holeAt, slotDeeds, GoodItems, GoodField, GoodSlot, Good, Ruled, Emitted}
 use Rattle.walk.specs.Turns.{suits, turnsOf, AllSuit, movesOf, AllBind, declarationHead}
-use Rattle.walk.proofs.Running.{does-then, does-nothing, does-as, does-fresh}
+use Rattle.walk.proofs.Heads.{halves}
+use Rattle.walk.proofs.Running.{does-then, does-nothing, does-as, does-to, does-fresh}
 use Rattle.walk.proofs.Agreeing.{agree-say, agree-then, agree-marked}
 use Rattle.walk.proofs.Args.{does-from}
 use Rattle.walk.proofs.Emits.{is-hole, no-hole, full, good-item}
@@ -60,9 +61,11 @@ use Rattle.walk.proofs.Turning.{turns-16, suit-16}
 
 -- ---- states and places
 
--- the same state at the end
-pub does-to : {g g₁ g′ : Going} {e : Emit} → g′ ≡ g₁ → Does g g₁ e → Does g g′ e
-does-to {g = g} {e = e} k d = subst (λ (x : Going). Does g x e) (sym k) d
+-- a mark that stands
+pub marks-own : (m : ℕ) → 0 < m → marks m ≡ puts (wideBytes m)
+unfolding marks
+marks-own zero h = absurd (omega arith)
+marks-own (suc m) h = refl
 
 -- a scope's place
 pub scoped-place : (c c′ : Place) → c′ ≡ scoped c → c′ ≡ scoped c′
@@ -98,23 +101,6 @@ all-right P (item n is) js a = all-right P is js (a .1)
 
 module _ (t : List ℕ) where
   module _ (R : ℕ → Seen Node) where
-    add-join : (h : Bool) (at : ℕ) (is js : Items) → lookItem t R h at .value (is +++ js) ≡ lookItem t R h at .value is +++ js
-    unfolding lookItem _+++_
-    add-join true at is js = go (eqb (byteAt t at) 0)
-      where
-        go : (b : Bool) → cond b (seen hole (onward t at 1)) (seenAs (λ n is. item n is) (R at)) .value (is +++ js) ≡ cond b (seen hole (onward t at 1)) (seenAs (λ n is. item n is) (R at)) .value is +++ js
-        go true = refl
-        go false = refl
-    add-join false at is js = refl
-
-    halves : (h : Bool) (a b n at : ℕ) → n ≡ a + b → lookItems t R h n at .value ≡ lookItems t R h a at .value +++ lookItems t R h b (lookItems t R h a at .next) .value
-    unfolding lookItems _+++_
-    halves h zero b n at e = let s : n ≡ b = omega arith in rw s refl
-    halves h (suc a) b zero at e = absurd (omega arith)
-    halves h (suc a) b (suc n) at e =
-        ap (λ (is : Items). lookItem t R h at .value is) (halves h a b n (lookItem t R h at .next) (omega arith))
-        ∙ add-join h at (lookItems t R h a (lookItem t R h at .next) .value) (lookItems t R h b (lookItems t R h a (lookItem t R h at .next) .next) .value)
-
     good-halves : (G : ℕ → Type 0) (l h : Bool) (a b n at : ℕ) → n ≡ a + b → GoodItems t R G l h n at → GoodItems t R G l h a at × GoodItems t R G l h b (lookItems t R h a at .next)
     unfolding lookItems GoodItems
     good-halves G l h zero b n at e g = let s : n ≡ b = omega arith in (tt, subst (λ (x : ℕ). GoodItems t R G l h x at) s g)
@@ -479,7 +465,7 @@ module _ (t : List ℕ) where
       let ps : Items = lookItems t (lookNode t d) arrays half at .value in
       let end : ℕ = lookItems t (lookNode t d) arrays half at .next in
       let qs : Items = lookItems t (lookNode t d) arrays (n - half) end .value in
-      let cut : lookItems t (lookNode t d) arrays n at .value ≡ ps +++ qs = halves (lookNode t d) arrays half (n - half) n at w in
+      let cut : lookItems t (lookNode t d) arrays n at .value ≡ ps +++ qs = halves t (lookNode t d) arrays half (n - half) n at w in
       let two = good-halves (lookNode t d) (Good t d) false arrays half (n - half) n at w good in
       let some : arrays ≡ false → AllSuit 11 (ps +++ qs) = λ x. subst (λ (is : Items). AllSuit 11 is) cut (binds x) in
       let later : AllBind arrays (lookItems t (lookNode t d) arrays (n - half) mid .value) = λ x. subst (λ (y : ℕ). AllSuit 11 (lookItems t (lookNode t d) arrays (n - half) y .value)) (sym e) (all-right (λ n. suits 11 n ≡ true) ps qs (some x)) in

@@ -1,5 +1,18 @@
-// The lowering: a node of the input is written as it is walked. The functions call one another; their names are short, since the prover
-// puts them together into one.
+// The lowering: a node of the input is written as it is walked. The functions call one another, and the prover puts the names of all of
+// them into one, so they are short:
+//
+// node                       a node, by its kind
+// plain fs slot items item   as it stands: its fields, one of them, a list, an item of it
+// lit ps pt                  a literal with spreads: its properties, one of them
+// seq turn                   a list by a mode, one of its items
+// view vo va prop key        a pattern in a view: object, array, property, key
+// rest read keys ek kv       the value of a rest: the keys that are left out, their array, one of them; the value of a key's temporary
+// deep db fb da vl           what is below a pattern: in an object, the declarators found there, in an array, in a property's value
+// decl dr lo pa own oa os    a declaration: declarator, value, pattern; an object's keys with its pattern, its pattern, its rest
+// ag an top gv tg ns ip ro   an assignment: to a target; to an object with rest: value, target, nested ones, one of them, a rest
+// bi go ba mv add            a parameter or declarator whose pattern is moved out, what stays of it, new statements in front
+// fun ar eb ca body bl       function, arrow and its body, catch; a body or a block with new statements in front
+// head dh th tb ta           a for head: one that declares, one that assigns; its body, the statement in front
 use pattern::declarators::declaration_becomes;
 use pattern::declarators::declaration_lacks_form;
 use pattern::declarators::pattern_declarators;

@@ -11,7 +11,7 @@ use native.Mathlib.Omega.{arith}
 use native.Mathlib.Decide.{decLt}
 use lib.Dec.{eqb}
 use lib.ListN.{length, getD}
-use borrow.Author.Tests.{ne-eqb, eqb-true, lt-ltb, le-ltb}
+use borrow.Author.Tests.{eqb-true, lt-ltb, le-ltb}
 use Rattle.tree.specs.Tree.{Node, Fields, Piece, Items, wideBytes, count, depth, depthFields, depthItems}
 use Rattle.tree.specs.Tree.Node.{node}
 use Rattle.tree.specs.Grammar.{Sort, Field, kindOf, formAt, fieldsOf, kinds, variants}
@@ -32,7 +32,7 @@ use Rattle.lowering.specs.Collect.{isContainer, marked, markOf}
 use Rattle.lowering.proofs.All.{AllItems}
 use Rattle.lowering.proofs.Cases.{by-test, by-shape, by-key, object-is, array-is, default-is}
 use Rattle.sink.specs.Machine.{Event}
-use Rattle.direct.specs.Events.{Deed, Place, Emit, all, puts, lists, cell, numberIn, handsOut, after, marks, countIn, mapIn, written, deeds, deedsFields, deedsPiece, deedsItems, contextOf, emits}
+use Rattle.direct.specs.Events.{Deed, Place, Emit, puts, lists, cell, numberIn, handsOut, after, marks, countIn, mapIn, written, deeds, deedsFields, deedsPiece, deedsItems, contextOf, emits}
 use Rattle.direct.specs.Events.Deed.{does, refuses}
 use Rattle.direct.specs.Emit.{say, _▷_, inner, inTurn, callHead}
 use Rattle.direct.specs.Views.{View, valuesOf, takes, objectAt, objectRestAt, propertyAt, defaultAt, viewed, viewedProperty, nameless, eachDoes, saysCell, emitsView, emitsProperty, isOther, emitsKey}

@@ -8,10 +8,9 @@ use native.Mathlib.Omega.{arith}
 use lib.Dec.{eqb}
 use lib.ListN.{length}
 use borrow.Author.Tests.{ne-eqb}
-use Rattle.tree.specs.Tree.{Node, Items, wideBytes, count, encode}
+use Rattle.tree.specs.Tree.{Items, wideBytes, count, encode}
 use Rattle.tree.specs.Tree.Items.{none, hole, item}
 use Rattle.lowering.specs.Parts.{nodeAt, numberAt, stands, isEmpty}
-use Rattle.lowering.specs.Made.{idOf}
 use Rattle.lowering.specs.Walk.{Note, Walked, WalkedFields, WalkedPiece, WalkedItems}
 use Rattle.lowering.specs.Walk.Walked.{noted}
 use Rattle.lowering.specs.Collect.{Visit, newIn, newInPiece, isContainer, marked, markOf, visits, visitsFields, visitsPiece, visitsItems, firstRefusal}

@@ -1,8 +1,8 @@
 -- The walk of an accepted tree from its root, begun on cleared slices and ended, gives the definition's outcome.
 -- Assumes nothing.
-use mathlib.Core.Path.{_≡_, refl, sym, ap, ap₂, _∙_, subst}
+use mathlib.Core.Path.{_≡_, refl, sym, ap, _∙_, subst}
 use mathlib.Core.Bool.{Bool, true, false, cond}
-use mathlib.Core.List.{List, [], _∷_, _++_}
+use mathlib.Core.List.{List, [], _∷_}
 use Prim.Native.Nat.{ℕ, zero, suc, _-_, _%_, _<_, _≤_}
 use native.Mathlib.Omega.{arith}
 use lib.ListN.{length, getD, replicate, length-append}
@@ -20,13 +20,13 @@ use Rattle.lowering.specs.Weight.{walked}
 use Rattle.lowering.specs.Answer.{Lent, Result, Outcome, top, levels, filled, lowering, outcomeOf, outcome}
 use Rattle.sink.specs.declared.Sink.{Sink}
 use Rattle.sink.specs.declared.Written.{Written}
-use Rattle.sink.specs.Machine.{Event, State, Ended, stateOf, endOf, nothing, step, steps, start, finished}
+use Rattle.sink.specs.Machine.{Event, State, Ended, stateOf, endOf, nothing, steps, start, finished}
 use Rattle.direct.specs.Events.{Deed, Place, contextOf, deeds, emits}
 use Rattle.outcome.specs.Named.{firstRefused, eventsIn, outcomeFrom}
 use Rattle.outcome.proofs.Every.{tree-refused, tree-lowered, walk-refused}
 use Rattle.outcome.proofs.Calm.{emits-sound}
 use Rattle.outcome.proofs.Tokens.{append-none}
-use Rattle.walk.specs.Run.{Going, met, Full, Way, Does}
+use Rattle.walk.specs.Run.{met, Full, Way, Does}
 use Rattle.walk.specs.Run.Way.{whole, full}
 use Rattle.walk.proofs.Again.{met-first}
 use Rattle.sink.proofs.Indices.{full-nothing}

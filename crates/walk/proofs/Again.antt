@@ -1,11 +1,11 @@
 -- Once the tree is full the copies of keys need not be written: they refuse nothing that the pattern has not refused.
 -- Assumes nothing.
-use mathlib.Core.Path.{_≡_, refl, sym, ap, _∙_}
-use mathlib.Core.Bool.{Bool, true, false, cond, _&&_, false≢true}
-use mathlib.Core.List.{List, [], _∷_, _++_}
-use Prim.Native.Nat.{ℕ, zero, suc, _<_}
+use mathlib.Core.Path.{_≡_, refl, sym, _∙_}
+use mathlib.Core.Bool.{Bool, true, false, _&&_, false≢true}
+use mathlib.Core.List.{List, [], _∷_}
+use Prim.Native.Nat.{ℕ, zero, suc}
 use native.Mathlib.Omega.{arith}
-use lib.Dec.{eqb, ltb}
+use lib.Dec.{ltb}
 use borrow.Author.Tests.{ltb-true, eq-eqb}
 use Rattle.sink.specs.Machine.{treeLimit, part}
 use Rattle.sink.specs.Machine.Event.{temporary}
@@ -23,7 +23,7 @@ use Rattle.pattern.specs.declared.source.Read.the-variants.{Expression, Tempora
 use Rattle.pattern.specs.declared.source.ReferenceBuilder.{ReferenceBuilder}
 use Rattle.pattern.specs.Source.{readOf}
 use Rattle.direct.specs.Emit.{say, _▷_, inner}
-use Rattle.direct.specs.Views.{emitsView, saysCell}
+use Rattle.direct.specs.Views.{emitsView}
 use Rattle.direct.specs.Views.View.{taking}
 use Rattle.direct.specs.Keys.{emitsRest}
 use Rattle.direct.specs.Objects.{overRests}
@@ -31,7 +31,7 @@ use Rattle.direct.specs.Declared.{emitsOwnKeys, emitsOwnPattern}
 use Rattle.direct.specs.Assigned.{emitsRestOf, emitsTarget}
 use Rattle.outcome.specs.Named.{firstRefused}
 use Rattle.outcome.proofs.Refusals.{Sound, silent-none, puts-silent}
-use Rattle.outcome.proofs.Calm.{Sounds, say-sounds, cell-sounds, rest-sounds, of-sounds, over-sounds, node-sounds, taking-calm, own-calm, target-calm}
+use Rattle.outcome.proofs.Calm.{Sounds, say-sounds, rest-sounds, of-sounds, over-sounds, node-sounds, taking-calm, own-calm, target-calm}
 use Rattle.walk.specs.Run.{Going, met, Full, Does, Clear}
 use Rattle.walk.specs.Whole.{Good}
 use Rattle.walk.specs.Turns.{reads, sourceOf}
@@ -72,10 +72,6 @@ passed {g = g} b p h k c =
 pub record Quiet (e : Emit) : Type 0 where
   sound : Sounds e
   calm : (m : ℕ) → firstRefused (e m) ≡ 0
-
-pub cell-quiet : (stem at : ℕ) → Quiet (saysCell stem at)
-unfolding saysCell say firstRefused
-cell-quiet stem at = record { sound = cell-sounds stem at; calm = λ m. refl }
 
 pub source-quiet : (tree : List ℕ) (b : ReferenceBuilder) → Quiet (sourceOf tree b)
 unfolding reads say firstRefused

@@ -5,7 +5,6 @@ use mathlib.Core.Bool.{Bool, true, false, cond}
 use mathlib.Core.List.{List, [], _∷_, _++_}
 use Prim.Native.Nat.{ℕ, zero, suc}
 use lib.Dec.{eqb}
-use lib.ListN.{length}
 use Rattle.tree.specs.Tree.{Node, Items, wideBytes, count, encode}
 use Rattle.tree.specs.Tree.Items.{none, hole, item}
 use Rattle.lowering.specs.Made.{Context}
@@ -16,7 +15,7 @@ use Rattle.lowering.specs.Walk.Walked.{noted}
 use Rattle.lowering.specs.Weight.{walked}
 use Rattle.sink.specs.Machine.{Event}
 use Rattle.direct.specs.Events.{Deed, Place, Emit, contextOf, puts, lists, excludes, made, handed, entered, excludedKeys, refused, handsOut, after, marks, cell, numberIn, mapIn, countIn, written, deeds, deedsFields, deedsPiece, deedsItems, emits}
-use Rattle.direct.specs.Events.Deed.{does, refuses}
+use Rattle.direct.specs.Events.Deed.{does}
 use Rattle.direct.specs.Emit.{say, _▷_, marking, unused}
 use Rattle.walk.specs.Run.{met}
 use Rattle.walk.proofs.Running.{met-append, Agree}

@@ -2,8 +2,8 @@
 -- Assumes nothing.
 use mathlib.Core.Path.{_≡_, refl, sym, ap, _∙_, subst}
 use mathlib.Core.Bool.{Bool, true, false, cond, false≢true}
-use mathlib.Core.List.{List, [], _∷_, _++_}
-use Prim.Native.Nat.{ℕ, zero, suc, _+_, _-_, _/_, _%_, _≤_, _<_}
+use mathlib.Core.List.{List, [], _∷_}
+use Prim.Native.Nat.{ℕ, zero, suc, _-_, _%_, _≤_, _<_}
 use native.Mathlib.Omega.{arith}
 use lib.Dec.{eqb}
 use borrow.Author.Tests.{eqb-true, eqb-false, eq-eqb}
@@ -18,7 +18,7 @@ use Rattle.direct.specs.Emit.{say, _▷_, inner, stays}
 use Rattle.direct.proofs.Threads.{then-assoc}
 use Rattle.direct.proofs.Literals.{emits-spreads, emits-literal}
 use Rattle.lowering.specs.Collect.{isContainer}
-use Rattle.tree.specs.Answer.{Peeked, Wide}
+use Rattle.tree.specs.Answer.{Wide}
 use Rattle.walk.proofs.Heads.{run-bound, object-fields, no-object-fields, literal-none}
 use Rattle.walk.proofs.Emits.{good-none}
 use Rattle.direct.specs.Literals.{isSpread, run, part, parts, pendingHead, heads, spreads}

@@ -2,15 +2,15 @@
 -- Assumes nothing.
 use mathlib.Core.Path.{_≡_, refl, sym, ap, _∙_, subst}
 use mathlib.Core.Bool.{Bool, true, false, cond, _&&_, _||_, not}
-use mathlib.Core.List.{List, [], _∷_, _++_}
-use Prim.Native.Nat.{ℕ, zero, suc, _+_, _-_, _/_, _%_, _≤_, _<_}
+use mathlib.Core.List.{List, [], _∷_}
+use Prim.Native.Nat.{ℕ, zero, suc, _-_, _/_, _%_, _≤_, _<_}
 use native.Mathlib.Omega.{arith}
 use lib.Dec.{eqb}
 use borrow.Author.Tests.{eq-eqb, ne-eqb}
-use Rattle.tree.specs.Tree.{Node, Fields, Piece, Items, wideBytes, mapOf, count, encodePiece}
+use Rattle.tree.specs.Tree.{Node, Fields, Items, wideBytes, mapOf, count, encodePiece}
 use Rattle.tree.specs.Tree.Node.{node}
 use Rattle.tree.specs.Grammar.{Sort, Field, fieldsOf}
-use Rattle.tree.specs.Read.{byteAt, wideAt, sortIn}
+use Rattle.tree.specs.Read.{byteAt, wideAt}
 use Rattle.tree.specs.Rows.{fieldsIn, fieldOf, sortOf, sortFrom}
 use Rattle.tree.specs.Look.{Seen, onward, lookItem, lookItems, lookField, lookSlot, lookFields, lookNode}
 use Rattle.tree.specs.Answer.{Peeked, Wide}
@@ -22,13 +22,13 @@ use Rattle.lowering.specs.Parts.{kind, is}
 use Rattle.lowering.specs.Walk.{ruleOf, opensScope}
 use Rattle.lowering.specs.Walk.Rule.{nowhere}
 use Rattle.sink.specs.Machine.{part}
-use Rattle.direct.specs.Events.{Place, Emit, Deed, puts, marks, emits}
+use Rattle.direct.specs.Events.{Place, Emit, puts, marks, emits}
 use Rattle.direct.specs.Emit.{say, _▷_, below, marking, stays, emitsItem, emitsItems, emitsPiece, emitsFields}
-use Rattle.direct.proofs.Threads.{say-nothing, then-nothing}
+use Rattle.direct.proofs.Threads.{say-nothing}
 use Rattle.direct.proofs.Stays.{emits-nowhere}
 use Rattle.direct.proofs.Marks.{emits-item}
 use Rattle.walk.specs.Run.{Going, Does}
-use Rattle.walk.specs.Whole.{Leaf, holeAt, itemDeeds, slotDeeds, GoodItem, GoodItems, GoodList, GoodField, GoodSlot, GoodFields, GoodHere, Good}
+use Rattle.walk.specs.Whole.{holeAt, itemDeeds, slotDeeds, GoodItem, GoodItems, GoodList, GoodField, GoodSlot, GoodFields, GoodHere, Good}
 use Rattle.walk.proofs.Running.{does-then, does-nothing, does-as}
 
 -- ---- a loop: what is left to do from g′ makes the whole from g

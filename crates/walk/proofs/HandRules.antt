@@ -3,18 +3,17 @@
 use mathlib.Core.Path.{_≡_, refl, sym, ap, ap₂, _∙_, subst}
 use mathlib.Core.Bool.{Bool, true, false, cond, true≢false}
 use mathlib.Core.List.{List, [], _∷_, _++_}
-use Prim.Native.Nat.{ℕ, zero, suc, _+_, _-_, _/_, _%_, _≤_, _<_}
+use Prim.Native.Nat.{ℕ, suc, _+_, _-_, _/_, _%_, _≤_, _<_}
 use native.Mathlib.Omega.{arith}
 use lib.Dec.{eqb}
-use lib.ListN.{length, length-append}
-use borrow.Author.Tests.{eqb-true, eqb-false, ne-eqb}
-use Rattle.tree.specs.Tree.{Node, Fields, Items, count, encode, encodeItems}
+use borrow.Author.Tests.{ne-eqb}
+use Rattle.tree.specs.Tree.{Node, count}
 use Rattle.tree.specs.Tree.Node.{node}
 use Rattle.tree.specs.Tree.Fields.{done, absent, field}
 use Rattle.tree.specs.Tree.Piece.{one, list}
 use Rattle.tree.specs.Read.{byteAt, wideAt}
 use Rattle.tree.specs.Answer.{Wide}
-use Rattle.tree.specs.Look.{Seen, onward, lookItem, lookItems, lookNode}
+use Rattle.tree.specs.Look.{Seen, onward, lookItems, lookNode}
 use Rattle.lowering.specs.Parts.{position, is, nodeAt, itemsAt, stands, standsIn, pieceIn, gather}
 use Rattle.lowering.specs.Made.{Context}
 use Rattle.lowering.specs.Patterns.{properties, value}
@@ -25,28 +24,26 @@ use Rattle.lowering.proofs.Cases.{by-test}
 use Rattle.sink.specs.Machine.Event.{make, listedTemporary, entry}
 use Rattle.pattern.specs.Tally.{limited}
 use Rattle.pattern.specs.Objects.{throughObjects}
-use Rattle.pattern.proofs.KeyCases.{count-append}
-use Rattle.pattern.proofs.Sizes.{counted-whole, node-size, temporaries-fit, objects-fit, through-fit, rests-fit}
+use Rattle.pattern.proofs.Sizes.{counted-whole, temporaries-fit, through-fit, rests-fit}
 use Rattle.direct.specs.Events as events
 use Rattle.direct.specs.Events.{Emit, lists}
 use Rattle.direct.specs.Events.Deed.{does}
 use Rattle.direct.specs.Emit.{say, _▷_, inTurn}
-use Rattle.direct.specs.Views.{View, nameless, objectAt, objectRestAt, defaultAt}
+use Rattle.direct.specs.Views.{View, nameless}
 use Rattle.direct.specs.Views.View.{replacing, taking, leaving}
-use Rattle.direct.specs.Objects.{objectsIn, overObjects, overRests}
+use Rattle.direct.specs.Objects.{overObjects, overRests}
 use Rattle.direct.specs.Inner.{otherKeys}
 use Rattle.direct.specs.Counts.{restsCount}
 use Rattle.direct.specs.Handed.{placeMade, keysMade, excludesOf, handsKeys, handsPlace, keysBelow, placesIn, declaratorMade, declaratorExcludes, handsTop, handsNested}
 use Rattle.direct.proofs.Threads.{then-assoc, say-nothing}
-use Rattle.direct.proofs.Objects.{objects-object, objects-taken, objects-array, objects-default, objects-leaf}
 use Rattle.direct.proofs.Inner.{keys-counted}
 use Rattle.walk.specs.Run.{Going, Does}
-use Rattle.walk.specs.Whole.{holeAt, GoodItems, Good}
+use Rattle.walk.specs.Whole.{GoodItems, Good}
 use Rattle.walk.specs.Turns.{viewOf, ownOf, overAll, keyOf}
 use Rattle.walk.proofs.Running.{does-then, does-nothing, does-as}
-use Rattle.walk.proofs.Sizes.{list-part}
-use Rattle.walk.proofs.Opened.{no-good, position-here, good-short, good-within, object-open, array-open, property-open, default-open, declarator-open, declaration-open}
-use Rattle.walk.proofs.Hands.{at-level, kind-byte, leaf-here}
+use Rattle.walk.proofs.Sizes.{places-small}
+use Rattle.walk.proofs.Opened.{position-here, good-short, good-within, declarator-open, declaration-open}
+use Rattle.walk.proofs.Hands.{at-level}
 use Rattle.walk.proofs.HandKeys.{three-say, hands-turn}
 
 -- ---- a pattern by mode and view
@@ -212,123 +209,10 @@ limited-below m n e = omega arith
 pub any-place : Context
 any-place = nameless
 
--- no more objects are left below arrays than the target has bytes
-items-size : (n : Node) → length (encodeItems (itemsAt 0 n)) ≤ length (encode n)
-unfolding encodeItems
-items-size n = let a = list-part (λ is. length (encodeItems is)) refl (λ is. omega arith) 0 n in omega arith
-
 module _ (t : List ℕ) where
-  abbrev Small : ℕ → ℕ → Type 0
-  Small d at = count (objectsIn nameless leaving (lookNode t d at .value)) ≤ length (encode (lookNode t d at .value))
-
-  abbrev SmallValue : ℕ → ℕ → Type 0
-  SmallValue d at = count (objectsIn nameless leaving (value (lookNode t d at .value))) ≤ length (encode (lookNode t d at .value))
-
-  module _ (d : ℕ) (small : (at : ℕ) → Good t d at → Small d at) (smallValue : (at : ℕ) → Good t d at → byteAt t at ≡ 35 → SmallValue d at) where
-    values-small : (n p : ℕ) → GoodItems t (lookNode t d) (Good t d) false false n p → AllItems (λ q. is 35 q ≡ true) (lookItems t (lookNode t d) false n p .value)
-        → count (gather (λ q. objectsIn nameless leaving (value q)) (lookItems t (lookNode t d) false n p .value)) ≤ length (encodeItems (lookItems t (lookNode t d) false n p .value))
-    unfolding GoodItems lookItems lookItem gather count encodeItems holeAt
-    values-small zero p g a = omega arith
-    values-small (suc n) p g a =
-        let here : Good t d p = g .0 .node refl in
-        let ns = lookItems t (lookNode t d) false n (lookNode t d p .next) .value in
-        let q = lookNode t d p .value in
-        let x = smallValue p here (kind-byte t d p 35 here (a .0)) in
-        let y = values-small n (lookNode t d p .next) (g .1) (a .1) in
-        let z = count-append (objectsIn nameless leaving (value q)) (gather (λ q. objectsIn nameless leaving (value q)) ns) in
-        let w = length-append (encode q) (encodeItems ns) in
-        omega arith
-
-    abbrev ps : ℕ → Items
-    ps at = lookItems t (lookNode t d) false (wideAt t (onward t at 2)) (onward t (onward t at 2) 2) .value
-
-    object-small : (at : ℕ) → Good t (suc d) at → byteAt t at ≡ 34 → Small (suc d) at
-    unfolding itemsAt pieceIn
-    object-small at g kind =
-        let u = object-open t d at g kind in
-        let x = values-small (wideAt t (onward t at 2)) (onward t (onward t at 2) 2) (u .list .good) (u .properties) in
-        by-test (eqb (byteAt t (onward t at 1) / 2 % 2) 1)
-        (λ bit.
-        let r = lookNode t d (lookItems t (lookNode t d) false (wideAt t (onward t at 2)) (onward t (onward t at 2) 2) .next) .value in
-        let o = objectRestAt at (ps at) r in
-        let whole : lookNode t (suc d) at .value ≡ o = ap (λ (s : Seen Node). s .value) (u .resting bit) in
-        let y : count (objectsIn nameless leaving o) ≡ count (gather (λ q. objectsIn nameless leaving (value q)) (ps at)) = ap count (objects-taken nameless leaving refl at (ps at) r) in
-        let z : length (encodeItems (ps at)) ≤ length (encode o) = items-size o in
-        rw whole (omega arith))
-        (λ bit.
-        let o = objectAt at (ps at) in
-        let whole : lookNode t (suc d) at .value ≡ o = ap (λ (s : Seen Node). s .value) (u .plain bit) in
-        let y : count (objectsIn nameless leaving o) ≡ count (gather (λ q. objectsIn nameless leaving (value q)) (ps at)) = ap count (objects-object nameless leaving at (ps at)) in
-        let z : length (encodeItems (ps at)) ≤ length (encode o) = items-size o in
-        rw whole (omega arith))
-
-    array-is : (at : ℕ) (ns : Items) (fs : Fields) → count (objectsIn nameless leaving (node at 36 (field (list ns) fs))) ≤ length (encode (node at 36 (field (list ns) fs)))
-    unfolding objectsIn
-    array-is at ns fs =
-        let o = node at 36 (field (list ns) fs) in
-        let x : count (objectsIn nameless leaving o) ≡ count (objectsIn nameless replacing o) = ap count (objects-array nameless leaving at ns fs ∙ sym (objects-array nameless replacing at ns fs)) in
-        let y = objects-fit nameless o in
-        omega arith
-
-    array-small : (at : ℕ) → Good t (suc d) at → byteAt t at ≡ 36 → Small (suc d) at
-    array-small at g kind =
-        let u = array-open t d at g kind in
-        by-test (eqb (byteAt t (onward t at 1) / 2 % 2) 1) (λ bit. rw (u .resting bit) (array-is at _ _)) (λ bit. rw (u .plain bit) (array-is at _ _))
-
-    default-small : (at : ℕ) → Good t (suc d) at → byteAt t at ≡ 37 → Small (suc d) at
-    unfolding nodeAt pieceIn
-    default-small at g kind =
-        let u = default-open t d at g kind in
-        let l = lookNode t d (onward t at 2) .value in
-        let o = defaultAt at l (lookNode t d (lookNode t d (onward t at 2) .next) .value) in
-        let whole : lookNode t (suc d) at .value ≡ o = ap (λ (s : Seen Node). s .value) (u .whole) in
-        let y : count (objectsIn nameless leaving o) ≡ count (objectsIn nameless leaving l) = ap count (objects-default nameless leaving at l _) in
-        let x = small (onward t at 2) (u .left) in
-        let z : length (encode l) ≤ length (encode o) = node-size 0 o in
-        rw whole (omega arith)
-
-    node-small : (at : ℕ) → Good t (suc d) at → Small (suc d) at
-    unfolding count
-    node-small at g =
-        by-test (eqb (byteAt t at) 34) (λ e. object-small at g (eqb-true (byteAt t at) 34 e))
-        (λ a.
-        by-test (eqb (byteAt t at) 36) (λ e. array-small at g (eqb-true (byteAt t at) 36 e))
-        (λ b.
-        by-test (eqb (byteAt t at) 37) (λ e. default-small at g (eqb-true (byteAt t at) 37 e))
-        (λ c.
-        let s = leaf-here t d at (byteAt t at) refl (eqb-false (byteAt t at) 34 a) (eqb-false (byteAt t at) 36 b) (eqb-false (byteAt t at) 37 c) in
-        let x : count (objectsIn nameless leaving (lookNode t (suc d) at .value)) ≡ 0 = ap count (objects-leaf nameless leaving (lookNode t (suc d) at .value) s) in
-        omega arith)))
-
-  mutual
-    unfolding nodeAt pieceIn
-
-    left-small : (d at : ℕ) → Good t d at → Small d at
-    left-small zero at g = no-good t at g
-    left-small (suc d) at g = node-small d (λ x y. left-small d x y) (λ x y z. value-small d x y z) at g
-
-    value-small : (d at : ℕ) → Good t d at → byteAt t at ≡ 35 → SmallValue d at
-    value-small zero at g kind = no-good t at g
-    value-small (suc d) at g kind =
-        let u = property-open t d at g kind in
-        let q = lookNode t (suc d) at .value in
-        let v = lookNode t d (lookNode t d (onward t at 2) .next) .value in
-        let whole : value q ≡ v = ap (λ (s : Seen Node). value (s .value)) (u .whole) in
-        let x = left-small d (lookNode t d (onward t at 2) .next) (u .value) in
-        let y = node-size 1 q in
-        let z : length (encode (value q)) ≡ length (encode v) = ap (λ (n : Node). length (encode n)) whole in
-        let w : count (objectsIn nameless leaving (value q)) ≡ count (objectsIn nameless leaving v) = ap (λ (n : Node). count (objectsIn nameless leaving n)) whole in
-        omega arith
-
   -- in any view but `taking`
-  pub places-small : (v d at : ℕ) → (v ≡ 2 → ⊥) → Good t d at → placesIn (viewOf v) (lookNode t d at .value) ≤ 16384
-  unfolding placesIn viewOf objectsIn
-  places-small v d at z g =
-      let s = good-short t d at g in
-      rw (ne-eqb v 2 z)
-      (by-test (eqb v 3)
-      (λ e. rw e (let x = left-small d at g in omega arith))
-      (λ e. rw e (let x = objects-fit nameless (lookNode t d at .value) in omega arith)))
+  pub places-within : (v d at : ℕ) → (v ≡ 2 → ⊥) → Good t d at → placesIn (viewOf v) (lookNode t d at .value) ≤ 16384
+  places-within v d at z g = omega (arith, places-small v z (lookNode t d at .value), good-short t d at g)
 
 -- ---- assignments
 
@@ -383,7 +267,7 @@ module _ (t : List ℕ) (left at : ℕ) where
   pub nested-does : {g g₁ g₂ : Going} (m n v v′ : ℕ) → ((v ≡ 2 → ⊥) → n ≡ limited (placesIn (viewOf v) target)) → v′ ≡ cond (eqb v 3) 3 1
       → Does g g₁ (say (does (entry m n) ∷ [])) → (Good t left at → Does g₁ g₂ (overAll 5 v′ target)) → (v ≡ 2 → ⊥) → Good t left at → Does g g₂ (handsNested (viewOf v) m target)
   nested-does m n v v′ h j a k z good =
-      let w : n ≡ placesIn (viewOf v) target = h z ∙ counted-whole (placesIn (viewOf v) target) 16384 (places-small t v left at z good) (omega arith) in
+      let w : n ≡ placesIn (viewOf v) target = h z ∙ counted-whole (placesIn (viewOf v) target) 16384 (places-within t v left at z good) (omega arith) in
       does-as (does-then a (does-as (k good) (ap (λ (i : ℕ). overAll 5 i target) j ∙ over-listed target v z))) (nested-is target (viewOf v) m n w)
 
   pub inner-does : {g g₁ g₂ g₃ g₄ g₅ : Going} (root : Bool) (m n x : ℕ) → ((c : Context) → n ≡ limited (count (keyTemporaries c target)))

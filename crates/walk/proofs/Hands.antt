@@ -10,7 +10,7 @@ use borrow.Author.Tests.{eqb-true, eq-eqb, ne-eqb}
 use Rattle.tree.specs.Tree.{Node, Fields, Items}
 use Rattle.tree.specs.Tree.Node.{node}
 use Rattle.tree.specs.Tree.Fields.{field}
-use Rattle.tree.specs.Tree.Piece.{one, list}
+use Rattle.tree.specs.Tree.Piece.{list}
 use Rattle.tree.specs.Grammar.{fieldsOf}
 use Rattle.tree.specs.Read.{byteAt, wideAt}
 use Rattle.tree.specs.Answer.{Peeked, Wide}
@@ -29,13 +29,12 @@ use Rattle.direct.proofs.Threads.{say-nothing}
 use Rattle.direct.proofs.Objects.{Keyed, over-object, over-keyed, over-taken, over-array, over-default, over-leaf, through-object, through-rest, through-array, through-default, through-leaf}
 use Rattle.direct.proofs.Handed.{place-keyed, hands-keyed, keys-keyed, excludes-keyed}
 use Rattle.direct.proofs.Inner.{handsKeys-keyed}
-use Rattle.direct.proofs.MovedOut.{shape-leaf}
 use Rattle.walk.specs.Run.{Going, Does}
 use Rattle.walk.specs.Whole.{holeAt, GoodItem, GoodItems, Good}
 use Rattle.walk.specs.Turns.{viewOf, ownOf, overAll}
 use Rattle.walk.proofs.Running.{does-then, does-nothing, does-as}
 use Rattle.walk.proofs.Emits.{Onto, onto-start, onto-more, onto-end, good-item, good-items, item-next, full, is-hole, no-hole}
-use Rattle.walk.proofs.Opened.{no-good, is-here, object-open, array-open, property-open, default-open}
+use Rattle.walk.proofs.Opened.{leaf-here, no-good, is-here, object-open, array-open, property-open, default-open}
 
 -- ---- lists, item by item
 
@@ -262,15 +261,9 @@ module _ (t : List ℕ) where
   kind-byte zero at k g e = no-good t at g
   kind-byte (suc d) at k g e = eqb-true (byteAt t at) k (sym (is-here t d at k) ∙ e)
 
-  is-not : (d at k b : ℕ) → b ≡ byteAt t at → (b ≡ k → ⊥) → is k (lookNode t (suc d) at .value) ≡ false
-  is-not d at k b e n = is-here t d at k ∙ ne-eqb (byteAt t at) k (λ x. n (e ∙ x))
-
-  pub leaf-here : (d at b : ℕ) → b ≡ byteAt t at → (b ≡ 34 → ⊥) → (b ≡ 36 → ⊥) → (b ≡ 37 → ⊥) → shape (lookNode t (suc d) at .value) ≡ leaf
-  leaf-here d at b e x y z = shape-leaf (lookNode t (suc d) at .value) (is-not d at 34 b e x) (is-not d at 36 b e y) (is-not d at 37 b e z)
-
   pub leaf-does : {g : Going} (left at b v mode : ℕ) → b ≡ byteAt t at → (b ≡ 34 → ⊥) → (b ≡ 36 → ⊥) → (b ≡ 37 → ⊥) → Good t left at → Does g g (overAll mode v (lookNode t left at .value))
   leaf-does zero at b v mode e x y z good = no-good t at good
-  leaf-does {g = g} (suc d) at b v mode e x y z good = does-as (does-nothing g) (sym (all-leaf mode v (lookNode t (suc d) at .value) (leaf-here d at b e x y z)))
+  leaf-does {g = g} (suc d) at b v mode e x y z good = does-as (does-nothing g) (sym (all-leaf mode v (lookNode t (suc d) at .value) (leaf-here t d at b e x y z)))
 
   pub default-does : {g g′ : Going} (left d at p v v′ mode : ℕ) → d ≡ left - 1 → p ≡ onward t at 2 → v′ ≡ cond (eqb v 2) 1 v → (Good t d p → Does g g′ (overAll mode v′ (lookNode t d p .value)))
       → byteAt t at ≡ 37 → Good t left at → Does g g′ (overAll mode v (lookNode t left at .value))

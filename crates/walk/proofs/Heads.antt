@@ -1,25 +1,25 @@
 -- Object literals with spreads: counts, modes and heads as the code finds them.
 -- Assumes nothing.
-use mathlib.Core.Path.{_≡_, refl, sym, ap, _∙_, subst, fun-ext}
+use mathlib.Core.Path.{_≡_, refl, sym, ap, _∙_, fun-ext}
 use mathlib.Core.Bool.{Bool, true, false, cond}
 use mathlib.Core.List.{List, [], _∷_, _++_}
-use Prim.Native.Nat.{ℕ, zero, suc, _+_, _-_, _/_, _%_, _≤_, _<_}
+use Prim.Native.Nat.{ℕ, zero, suc, _+_, _-_, _%_, _≤_, _<_}
 use native.Mathlib.Omega.{arith}
 use lib.Dec.{eqb, ltb}
-use borrow.Author.Tests.{eq-eqb, ne-eqb, eqb-true, eqb-false, lt-ltb, le-ltb}
+use borrow.Author.Tests.{ne-eqb, eqb-true, eqb-false, lt-ltb, le-ltb}
 use Rattle.tree.specs.Tree.{Node, Fields, Piece, Items, wideBytes, count}
-use Rattle.tree.specs.Tree.Items.{none, item}
+use Rattle.tree.specs.Tree.Items.{none, hole, item}
 use Rattle.tree.specs.Read.{byteAt, wideAt}
-use Rattle.tree.specs.Look.{Seen, seen, onward, lookItem, lookItems, lookField, lookSlot, lookFields, lookNode}
+use Rattle.tree.specs.Look.{Seen, seen, seenAs, onward, lookItem, lookItems, lookField, lookSlot, lookFields, lookNode}
 use Rattle.tree.specs.Answer.{Peeked, Wide}
 use Rattle.tree.specs.Tree.Node.{node}
 use Rattle.tree.specs.Grammar.{fieldsOf, kinds}
 use Rattle.lowering.specs.Parts.{is, _+++_, any, itemsAt, pieceIn}
 use Rattle.lowering.proofs.Accepted.{NoHoles}
-use Rattle.direct.specs.Events.{Deed, Emit, puts}
+use Rattle.direct.specs.Events.{Deed, puts}
 use Rattle.direct.specs.Emit.{say, _▷_, callHead}
 use Rattle.direct.specs.Literals.{isSpread, modeNext, modeAfter, headAt, innerHeads, lastHead, heads, run, pendingHead}
-use Rattle.direct.proofs.Literals.{mode-append, heads-append, run-all, run-some}
+use Rattle.direct.proofs.Literals.{heads-append, run-all, run-some}
 use Rattle.direct.proofs.Threads.{say-say}
 use Rattle.walk.specs.Run.{Going, Does}
 use Rattle.walk.proofs.Running.{does-then, does-nothing, does-as}
@@ -130,11 +130,22 @@ module _ (t : List ℕ) where
         let o : n - 1 ≤ 0 = omega arith in
         rw (first n at (R at .next) (omega arith) refl, last (n - 1) (R at .next) o) d
 
-    halves : (a b n at : ℕ) → n ≡ a + b → lookItems t R false n at .value ≡ lookItems t R false a at .value +++ lookItems t R false b (lookItems t R false a at .next) .value
-    unfolding lookItems lookItem _+++_
-    halves zero b n at e = let s : n ≡ b = omega arith in rw s refl
-    halves (suc a) b zero at e = absurd (omega arith)
-    halves (suc a) b (suc n) at e = ap (λ (is : Items). item (R at .value) is) (halves a b n (R at .next) (omega arith))
+    add-join : (h : Bool) (at : ℕ) (is js : Items) → lookItem t R h at .value (is +++ js) ≡ lookItem t R h at .value is +++ js
+    unfolding lookItem _+++_
+    add-join true at is js = go (eqb (byteAt t at) 0)
+      where
+        go : (b : Bool) → cond b (seen hole (onward t at 1)) (seenAs (λ n is. item n is) (R at)) .value (is +++ js) ≡ cond b (seen hole (onward t at 1)) (seenAs (λ n is. item n is) (R at)) .value is +++ js
+        go true = refl
+        go false = refl
+    add-join false at is js = refl
+
+    pub halves : (h : Bool) (a b n at : ℕ) → n ≡ a + b → lookItems t R h n at .value ≡ lookItems t R h a at .value +++ lookItems t R h b (lookItems t R h a at .next) .value
+    unfolding lookItems _+++_
+    halves h zero b n at e = let s : n ≡ b = omega arith in rw s refl
+    halves h (suc a) b zero at e = absurd (omega arith)
+    halves h (suc a) b (suc n) at e =
+        ap (λ (is : Items). lookItem t R h at .value is) (halves h a b n (lookItem t R h at .next) (omega arith))
+        ∙ add-join h at (lookItems t R h a (lookItem t R h at .next) .value) (lookItems t R h b (lookItems t R h a (lookItem t R h at .next) .next) .value)
 
     pub inner-halves : {g g₁ g′ : Going} (m n h q k : ℕ) (at : ℕ) → h ≤ n → q ≡ lookItems t R false h at .next → k ≡ modeAfter m (lookItems t R false h at .value)
         → Does g g₁ (say (innerHeads k (lookItems t R false (n - h) q .value))) → Does g₁ g′ (say (innerHeads m (lookItems t R false h at .value)))
@@ -148,7 +159,7 @@ module _ (t : List ℕ) where
         (say-say (innerHeads k (lookItems t R false (n - h) q .value)) (innerHeads m ps)
         ∙ ap (λ (ds : List Deed). say (ds ++ innerHeads m ps)) u
         ∙ ap say (sym (heads-append m ps qs))
-        ∙ ap (λ (is : Items). say (innerHeads m is)) (sym (halves h (n - h) n at w)))
+        ∙ ap (λ (is : Items). say (innerHeads m is)) (sym (halves false h (n - h) n at w)))
 
     pub heads-last : {g g₁ g′ : Going} (m k n at : ℕ) → k ≡ modeAfter m (lookItems t R false n at .value) → k ≡ 2 → Does g g₁ (say (callHead 1 3))
         → Does g₁ g′ (say (innerHeads m (lookItems t R false n at .value))) → Does g g′ (say (heads m (lookItems t R false n at .value)))

@@ -1,15 +1,15 @@
 -- The sink's next mark after deeds: it is what `after` says, whatever it was before.
 -- Assumes nothing.
-use mathlib.Core.Path.{_≡_, refl, sym, ap, _∙_}
+use mathlib.Core.Path.{_≡_, refl, ap, _∙_}
 use mathlib.Core.Bool.{Bool, true, false, cond}
-use mathlib.Core.List.{List, [], _∷_, _++_}
-use Prim.Native.Nat.{ℕ, zero, suc, _+_, min}
+use mathlib.Core.List.{List, [], _∷_}
+use Prim.Native.Nat.{ℕ, _+_}
 use native.Mathlib.Omega.{arith}
 use native.Mathlib.Decide.{decLt}
-use lib.Dec.{eqb, ltb}
-use Rattle.sink.specs.Machine.{Event, State, stateOf, step, steps, putTree, putList, putKeys, putEntry, settle, setCellIn, useHelper, nextMark, countEntry, countDeclarator, allTree, allList, allKeys, oneMore, known, numberOf, cellOf}
+use lib.Dec.{ltb}
+use Rattle.sink.specs.Machine.{Event, State, step, steps, putTree, putList, putKeys, putEntry, settle, setCellIn, useHelper, nextMark, countEntry, countDeclarator, allTree, allList, allKeys, oneMore, known, cellOf}
 use Rattle.sink.specs.Machine.Event.{put, helper, temporary, newMark, make, listed, listedTemporary, entry, excluded, excludedTemporary, declarator}
-use Rattle.direct.specs.Events.{Deed, Emit, puts, all, later, after, counted, newMarks}
+use Rattle.direct.specs.Events.{Deed, later, after, counted, newMarks}
 use Rattle.direct.specs.Events.Deed.{does, refuses}
 use Rattle.direct.proofs.Threads.{later-later}
 use Rattle.sink.proofs.Laws.{more-below, more-at}

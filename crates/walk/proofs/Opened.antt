@@ -10,7 +10,7 @@ use native.Mathlib.Decide.{decLt}
 use lib.Dec.{eqb, leb}
 use lib.ListN.{length, getD, take, drop, length-drop, length-append, take-append-drop}
 use lib.Seq.{getD-drop, take-nil, length-slice}
-use borrow.Author.Tests.{eqb-true, eqb-false, eq-eqb, leb-true, leb-false, lt-leb, lt-ltb, le-ltb}
+use borrow.Author.Tests.{eqb-true, eqb-false, eq-eqb, ne-eqb, leb-true, leb-false, lt-leb, lt-ltb, le-ltb}
 use Rattle.tree.specs.Tree.{Node, Fields, Piece, Items, wideBytes, mapOf, count, encode, encodeFields, encodePiece}
 use Rattle.tree.specs.Tree.Node.{node}
 use Rattle.tree.specs.Grammar.{Sort, Field, statement, expression, forLeft, param, functionBody, binding, bindingName, kindOf, formAt, fieldsOf, kinds, variants}
@@ -1438,3 +1438,13 @@ module _ (t : List ℕ) (d at : ℕ) where
         flag = w .flag;
         ends = ap (λ (s : Seen Node). s .next) n;
       }
+
+-- ---- a pattern that is no object, no array and no default
+
+pub leaf-here : (t : List ℕ) (d at k : ℕ) → k ≡ byteAt t at → (k ≡ 34 → ⊥) → (k ≡ 36 → ⊥) → (k ≡ 37 → ⊥) → shape (lookNode t (suc d) at .value) ≡ leaf
+unfolding shape lookNode
+leaf-here t d at k h a b e =
+    let x : eqb (byteAt t at) 34 ≡ false = ne-eqb (byteAt t at) 34 (λ z. a (h ∙ z)) in
+    let y : eqb (byteAt t at) 36 ≡ false = ne-eqb (byteAt t at) 36 (λ z. b (h ∙ z)) in
+    let w : eqb (byteAt t at) 37 ≡ false = ne-eqb (byteAt t at) 37 (λ z. e (h ∙ z)) in
+    rw (x, y, w) refl

@@ -1,12 +1,12 @@
 -- Deeds one after another: what two emitters do in turn is what their emissions do, the first before the second.
 -- Assumes nothing.
 use mathlib.Core.Path.{_≡_, refl, sym, ap, _∙_, subst}
-use mathlib.Core.Bool.{Bool, true, false, cond}
+use mathlib.Core.Bool.{Bool, cond}
 use mathlib.Core.List.{List, [], _∷_, _++_}
-use Prim.Native.Nat.{ℕ, zero, suc, _+_, _≤_, _<_, min}
+use Prim.Native.Nat.{ℕ, zero, suc, _+_, _<_}
 use native.Mathlib.Omega.{arith}
-use lib.Dec.{eqb, ltb}
-use Rattle.sink.specs.Machine.{Event, State, stateOf, step, steps, low, high}
+use lib.Dec.{eqb}
+use Rattle.sink.specs.Machine.{Event, State, step, steps, low, high}
 use Rattle.sink.specs.Machine as machine
 use Rattle.sink.specs.Machine.Event.{put, helper}
 use Rattle.sink.proofs.Laws.{one-step, wide-is, steps-append, chain}
@@ -156,6 +156,10 @@ clear-still k d = record { calm = λ z. k .calm (clear-before d z) }
 -- the same deeds, said in another way
 pub does-as : {g g′ : Going} {e f : Emit} → Does g g′ e → e ≡ f → Does g g′ f
 does-as {g = g} {g′ = g′} d h = subst (λ (x : Emit). Does g g′ x) h d
+
+-- the same at the end
+pub does-to : {g g₁ g′ : Going} {e : Emit} → g′ ≡ g₁ → Does g g₁ e → Does g g′ e
+does-to {g = g} {e = e} k d = subst (λ (x : Going). Does g x e) (sym k) d
 
 -- ---- a step of the sink
 

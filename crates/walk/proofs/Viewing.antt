@@ -11,8 +11,6 @@ use Rattle.tree.specs.Tree.{Node, Items, wideBytes, count}
 use Rattle.tree.specs.Read.{byteAt, wideAt}
 use Rattle.tree.specs.Look.{Seen, onward, lookItems, lookNode}
 use Rattle.tree.specs.Answer.{Peeked, Wide}
-use Rattle.lowering.specs.Patterns.{shape}
-use Rattle.lowering.specs.Patterns.Shape.{leaf}
 use Rattle.lowering.proofs.Cases.{by-test}
 use Rattle.sink.specs.Machine.{part}
 use Rattle.sink.specs.Machine.Event.{temporary}
@@ -26,9 +24,9 @@ use Rattle.direct.proofs.PatternViews.{view-object, view-replaced, view-rest, v
 use Rattle.walk.specs.Run.{Going, Does}
 use Rattle.walk.specs.Whole.{Ruled, Emitted}
 use Rattle.walk.specs.Turns.{viewOf}
-use Rattle.walk.proofs.Running.{does-then, does-as}
+use Rattle.walk.proofs.Running.{does-then, does-as, does-to}
 use Rattle.walk.proofs.Args.{does-from}
-use Rattle.walk.proofs.Opened.{ObjectOpen, ArrayOpen, no-good, object-open, array-open, property-open, default-open}
+use Rattle.walk.proofs.Opened.{ObjectOpen, ArrayOpen, leaf-here, no-good, object-open, array-open, property-open, default-open}
 use Rattle.walk.proofs.Turning.{Sequenced, sequenced-as, look-solid, turns-1, turns-properties, values-of, suit-1, suit-properties}
 
 -- ---- views by number
@@ -76,9 +74,6 @@ cell-4 at = let e : at ≡ at + 0 = omega arith in ap (λ (x : ℕ). say (does (
 
 -- ---- the same of what is equal
 
-pub does-to : {g g₁ g′ : Going} {e : Emit} → g′ ≡ g₁ → Does g g₁ e → Does g g′ e
-does-to {g = g} {e = e} k d = subst (λ (x : Going). Does g x e) (sym k) d
-
 module _ (t : List ℕ) where
   emitted-as : {g g′ : Going} (F : Place → Node → Emit) (c c₁ : Place) (d d₁ at at₁ q : ℕ) → c₁ ≡ c → d₁ ≡ d → at₁ ≡ at
       → Emitted t d₁ at₁ q g g′ (F c₁) → Emitted t d at q g g′ (F c)
@@ -90,19 +85,11 @@ module _ (t : List ℕ) where
 
   -- ---- a pattern by its kind
 
-  leaf-here : (d at k : ℕ) → Peeked t at k → (k ≡ 34 → ⊥) → (k ≡ 36 → ⊥) → (k ≡ 37 → ⊥) → shape (lookNode t (suc d) at .value) ≡ leaf
-  unfolding shape lookNode
-  leaf-here d at k p a b e =
-      let x : eqb (byteAt t at) 34 ≡ false = ne-eqb (byteAt t at) 34 (λ z. a (p .value ∙ z)) in
-      let y : eqb (byteAt t at) 36 ≡ false = ne-eqb (byteAt t at) 36 (λ z. b (p .value ∙ z)) in
-      let w : eqb (byteAt t at) 37 ≡ false = ne-eqb (byteAt t at) 37 (λ z. e (p .value ∙ z)) in
-      rw (x, y, w) refl
-
   -- neither an object, an array nor a default: as it stands
   pub view-other : {g g′ : Going} (c : Place) (d at k q v : ℕ) → Peeked t at k → (k ≡ 34 → ⊥) → (k ≡ 36 → ⊥) → (k ≡ 37 → ⊥)
       → Ruled t d at q g g′ (emits c) → Emitted t d at q g g′ (emitsView c (viewOf v))
   view-other c zero at k q v p a b e r good = no-good t at good
-  view-other c (suc d) at k q v p a b e r good = (r .0, does-as (r .1 good) (sym (view-leaf c (viewOf v) (lookNode t (suc d) at .value) (leaf-here d at k p a b e))))
+  view-other c (suc d) at k q v p a b e r good = (r .0, does-as (r .1 good) (sym (view-leaf c (viewOf v) (lookNode t (suc d) at .value) (leaf-here t d at k (p .value) a b e))))
 
   -- a default: its head, its pattern, its value
   pub view-37 : {g g₁ g₂ g₃ : Going} (c c₁ c₂ : Place) (d d₁ d₂ at k s u w r v vv : ℕ) → Peeked t at k → k ≡ 37 → s ≡ onward t at 2 → u ≡ s

@@ -1,8 +1,8 @@
 -- What an emitter does to the output: deeds, one after the other.
-use Prim.Native.Nat.{ℕ, zero, suc, _<_}
+use Prim.Native.Nat.{ℕ, _<_}
 use mathlib.Core.Path.{_≡_}
-use mathlib.Core.Bool.{Bool, cond}
-use mathlib.Core.List.{List, [], _∷_, _++_}
+use mathlib.Core.Bool.{cond}
+use mathlib.Core.List.{List, [], _∷_}
 use lib.Dec.{eqb}
 use Rattle.sink.specs.Machine.{Event, State, stateOf, steps, treeLimit}
 use Rattle.direct.specs.Events.{Deed, Emit}

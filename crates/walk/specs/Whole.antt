@@ -1,13 +1,13 @@
 -- What the emitters ask of the bytes of a node: the node fits the grammar of input, each part's bytes are those of its encoding, and no mark is 0.
-use Prim.Native.Nat.{ℕ, zero, suc, _+_, _/_, _%_, _<_, _≤_}
+use Prim.Native.Nat.{ℕ, zero, suc, _/_, _%_, _<_, _≤_}
 use mathlib.Core.Path.{_≡_}
 use mathlib.Core.Bool.{Bool, true, false, cond, _&&_}
-use mathlib.Core.List.{List, [], _∷_, _++_}
+use mathlib.Core.List.{List, [], _∷_}
 use lib.Dec.{eqb}
 use lib.ListN.{length}
-use Rattle.tree.specs.Tree.{Node, Fields, Piece, Items, wideBytes, mapOf, count, encode, encodePiece}
+use Rattle.tree.specs.Tree.{Node, Piece, wideBytes, mapOf, count, encode, encodePiece}
 use Rattle.tree.specs.Tree.Node.{node}
-use Rattle.tree.specs.Grammar.{Sort, Field, Stage, fieldsOf}
+use Rattle.tree.specs.Grammar.{Sort, Field, fieldsOf}
 use Rattle.tree.specs.Grammar.Stage.{input}
 use Rattle.tree.specs.WellFormed.{Fits}
 use Rattle.tree.specs.Grammar.Sort.{child, chosen, many, gaps, text, byte, mark, number}

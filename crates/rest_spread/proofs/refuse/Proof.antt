@@ -6,23 +6,18 @@ use Rattle.rest_spread.proofs.refuse.Reads as reads
 use Rattle.rest_spread.proofs.refuse.Lts as lts
 use Rattle.sink.proofs.ends.abandon.Reads as abandon-reads
 
--- src/lib.rt:38:5
 abandon-requires : tie.Need-abandon-requires
 abandon-requires c κs = search needs
 
--- src/lib.rt:35:1
 same-length : tie.Need-same-length
 same-length c = search needs
 
--- src/lib.rt:35:1
 same-length-2 : tie.Need-same-length-2
 same-length-2 c = search needs
 
--- src/lib.rt:35:1
 same-length-3 : tie.Need-same-length-3
 same-length-3 c = search needs
 
--- src/lib.rt:35:1
 returns : tie.Need-returns
 returns c = law.refused-all _ _ _ _ _ _ _ _ (c .before .before .before .before .before .before .abandon .ensures)
 

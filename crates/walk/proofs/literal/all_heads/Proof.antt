@@ -10,35 +10,27 @@ use Rattle.walk.proofs.literal.inner_heads.Reads as inner-heads-reads
 use Rattle.walk.proofs.literal.mode_after.Reads as mode-after-reads
 use Rattle.walk.proofs.walk.Walk.call.Reads as call-reads
 
--- src/literal.rt:104:9
 mode-after-requires : tie.Need-mode-after-requires
 mode-after-requires c κs = search needs
 
--- src/literal.rt:106:28
 call-requires : tie.Need-call-requires
 call-requires c κs = search needs
 
--- src/literal.rt:106:9
 inner-heads-requires : tie.Need-inner-heads-requires
 inner-heads-requires c κs = search needs
 
--- src/literal.rt:106:9
 same-length : tie.Need-same-length
 same-length c = search needs
 
--- src/literal.rt:106:9
 returns : tie.Need-returns
 returns c = ((λ l k. law.heads-last _ _ _ _ _ _ (c .before .before .before .before .before .before .before .before .before .mode-after .ensures) (c .before .before .before .before .before .before .before .before .if1 .taken) (c .before .before .before .before .before .before .call .ensures .0 l k (omega arith)) (c .before .before .inner-heads .ensures .0 l k)), c .before .before .inner-heads .ensures .1 ∙ c .before .before .before .before .before .before .call .ensures .1)
 
--- src/literal.rt:108:5
 inner-heads-requires-2 : tie.Need-inner-heads-requires-2
 inner-heads-requires-2 c κs = search needs
 
--- src/literal.rt:101:1
 same-length-2 : tie.Need-same-length-2
 same-length-2 c = search needs
 
--- src/literal.rt:101:1
 returns-2 : tie.Need-returns-2
 returns-2 c = ((λ l k. law.heads-inner _ _ _ _ _ _ (c .before .before .before .before .before .mode-after .ensures) (c .before .before .before .before .if1 .left) (c .before .before .inner-heads2 .ensures .0 l k)), c .before .before .inner-heads2 .ensures .1)
 

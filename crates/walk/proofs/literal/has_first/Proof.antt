@@ -9,15 +9,12 @@ use Rattle.walk.proofs.literal.has_first.Lts as lts
 use Rattle.tree.proofs.bytes.peek.Reads as peek-reads
 use Rattle.tree.proofs.skip.step.Reads as step-reads
 
--- src/literal.rt:128:23
 step-requires : tie.Need-step-requires
 step-requires c κs = search needs
 
--- src/literal.rt:128:9
 peek-requires : tie.Need-peek-requires
 peek-requires c κs = search needs
 
--- src/literal.rt:125:1
 returns : tie.Need-returns
 returns c = law.first-bit _ _ _ _ (c .before .step .ensures) (c .peek .ensures)
 

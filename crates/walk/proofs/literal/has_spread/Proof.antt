@@ -12,39 +12,30 @@ use Rattle.walk.proofs.literal.run_of.Reads as run-of-reads
 use Rattle.tree.proofs.bytes.wide_at.Reads as wide-at-reads
 use Rattle.tree.proofs.skip.step.Reads as step-reads
 
--- src/literal.rt:149:9
 returns : tie.Need-returns
 returns c = ((λ e. absurd (false≢true e)), λ h. law.literal-none _ _ _ (c .if1 .taken))
 
--- src/literal.rt:151:8
 has-first-requires : tie.Need-has-first-requires
 has-first-requires c κs = search needs
 
--- src/literal.rt:152:13
 step-requires : tie.Need-step-requires
 step-requires c κs = search needs
 
--- src/literal.rt:153:13
 wide-at-requires : tie.Need-wide-at-requires
 wide-at-requires c κs = search needs
 
--- src/literal.rt:154:27
 sub-run-of : tie.Need-sub-run-of
 sub-run-of c = search needs
 
--- src/literal.rt:154:40
 step-requires-2 : tie.Need-step-requires-2
 step-requires-2 c κs = search needs
 
--- src/literal.rt:154:13
 run-of-requires : tie.Need-run-of-requires
 run-of-requires c κs = search needs
 
--- src/literal.rt:155:9
 returns-2 : tie.Need-returns-2
 returns-2 c = ((λ e. omega (arith, c .before .before .before .before .before .before .if1 .left)), λ h. law.literal-runs _ _ _ _ _ _ _ _ (c .before .before .before .before .before .before .if1 .left) _ (c .before .before .before .before .before .has-first .ensures) (c .before .before .before .before .if2 .taken) (c .before .before .before .step .ensures) (c .before .step2 .ensures) (c .before .before .wide-at .ensures) refl (c .run-of .ensures) h)
 
--- src/literal.rt:145:1
 returns-3 : tie.Need-returns-3
 returns-3 c = ((λ e. absurd (false≢true e)), λ h. law.literal-bare _ _ _ (c .before .before .if1 .left) h _ (c .before .has-first .ensures) (c .if2 .left))
 

@@ -10,35 +10,27 @@ use Rattle.walk.proofs.literal.head_at.Lts as lts
 use Rattle.walk.proofs.literal.is_spread.Reads as is-spread-reads
 use Rattle.walk.proofs.walk.Walk.call.Reads as call-reads
 
--- src/literal.rt:74:8
 is-spread-requires : tie.Need-is-spread-requires
 is-spread-requires c κs = search needs
 
--- src/literal.rt:76:13
 call-requires : tie.Need-call-requires
 call-requires c κs = search needs
 
--- src/literal.rt:76:13
 same-length : tie.Need-same-length
 same-length c = search needs
 
--- src/literal.rt:76:13
 returns : tie.Need-returns
 returns c = ((λ l k. law.head-four _ _ _ (c .before .before .before .before .before .before .is-spread .ensures) (c .before .before .before .before .before .if1 .taken) (c .before .before .before .before .if2 .taken) (c .before .before .call .ensures .0 l k (omega arith))), c .before .before .call .ensures .1)
 
--- src/literal.rt:78:9
 call-requires-2 : tie.Need-call-requires-2
 call-requires-2 c κs = search needs
 
--- src/literal.rt:78:9
 same-length-2 : tie.Need-same-length-2
 same-length-2 c = search needs
 
--- src/literal.rt:78:9
 returns-2 : tie.Need-returns-2
 returns-2 c = ((λ l k. law.head-two _ _ _ (c .before .before .before .before .before .before .is-spread .ensures) (c .before .before .before .before .before .if1 .taken) (c .before .before .before .before .if2 .left) (c .before .before .call2 .ensures .0 l k (omega arith))), c .before .before .call2 .ensures .1)
 
--- src/literal.rt:71:1
 returns-3 : tie.Need-returns-3
 returns-3 c = ((λ l k. law.head-none _ _ _ (c .before .is-spread .ensures) (c .if1 .left)), refl)
 

@@ -9,15 +9,12 @@ use Rattle.walk.proofs.literal.is_spread.Reads as reads
 use Rattle.walk.proofs.literal.is_spread.Lts as lts
 use Rattle.tree.proofs.bytes.peek.Reads as peek-reads
 
--- src/literal.rt:19:9
 returns : tie.Need-returns
 returns c = law.spread-none _ _ _ (c .if1 .taken)
 
--- src/literal.rt:21:9
 peek-requires : tie.Need-peek-requires
 peek-requires c κs = search needs
 
--- src/literal.rt:15:1
 returns-2 : tie.Need-returns-2
 returns-2 c = law.spread-byte _ _ _ _ (c .before .if1 .left) (c .peek .ensures)
 

@@ -18,31 +18,24 @@ Inv-loop t left count at mode n₀ p₀ m₀ n p m = modeAfter m (lookItems t (l
 abbrev μ-loop : tie.MeasureT-loop
 μ-loop t left count at mode n₀ p₀ m₀ n p m = n
 
--- src/literal.rt:62:5
 loop-holds : tie.Need-loop-holds Inv-loop μ-loop
 loop-holds c = refl
 
--- src/literal.rt:63:9
 mode-next-requires : tie.Need-mode-next-requires Inv-loop μ-loop
 mode-next-requires c κs = tt
 
--- src/literal.rt:64:9
 skip-requires : tie.Need-skip-requires Inv-loop μ-loop
 skip-requires c κs = tt
 
--- src/literal.rt:65:9
 sub-n : tie.Need-sub-n Inv-loop μ-loop
 sub-n c = omega (arith, c .before .before .loop-test .taken)
 
--- src/literal.rt:62:5
 loop-less : tie.Need-loop-less Inv-loop μ-loop
 loop-less c = omega (arith, c .before .before .loop-test .taken)
 
--- src/literal.rt:62:5
 loop-again : tie.Need-loop-again Inv-loop μ-loop
 loop-again c = law.mode-more _ (lookNode _ _) _ _ _ _ _ (c .before .before .loop-test .taken) (c .before .mode-next .ensures) (c .skip .ensures) ∙ c .before .before .before .loop .inv
 
--- src/literal.rt:56:1
 returns : tie.Need-returns Inv-loop μ-loop
 returns c = law.mode-end _ (lookNode _ _) _ _ _ (c .loop-test .left) ∙ c .before .loop .inv
 

@@ -9,19 +9,15 @@ use Rattle.walk.proofs.literal.mode_next.Reads as reads
 use Rattle.walk.proofs.literal.mode_next.Lts as lts
 use Rattle.walk.proofs.literal.is_spread.Reads as is-spread-reads
 
--- src/literal.rt:47:8
 is-spread-requires : tie.Need-is-spread-requires
 is-spread-requires c κs = search needs
 
--- src/literal.rt:48:9
 returns : tie.Need-returns
 returns c = law.mode-spread _ _ _ (c .before .is-spread .ensures) (c .if1 .taken)
 
--- src/literal.rt:51:9
 returns-2 : tie.Need-returns-2
 returns-2 c = law.mode-none _ _ _ (c .before .before .is-spread .ensures) (c .before .if1 .left) (c .if2 .taken)
 
--- src/literal.rt:44:1
 returns-3 : tie.Need-returns-3
 returns-3 c = law.mode-other _ _ _ (c .before .before .is-spread .ensures) (c .before .if1 .left) (c .if2 .left)
 

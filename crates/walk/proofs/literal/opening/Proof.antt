@@ -11,27 +11,21 @@ use Rattle.walk.proofs.literal.run_of.Reads as run-of-reads
 use Rattle.walk.proofs.walk.Walk.put2.Reads as put2-reads
 use Rattle.walk.proofs.walk.Walk.wide.Reads as wide-reads
 
--- src/literal.rt:140:9
 run-of-requires : tie.Need-run-of-requires
 run-of-requires c κs = search needs
 
--- src/literal.rt:141:5
 all-heads-requires : tie.Need-all-heads-requires
 all-heads-requires c κs = search needs
 
--- src/literal.rt:141:5
 put2-requires : tie.Need-put2-requires
 put2-requires c κs = search needs
 
--- src/literal.rt:141:5
 wide-requires : tie.Need-wide-requires
 wide-requires c κs = search needs
 
--- src/literal.rt:137:1
 same-length : tie.Need-same-length
 same-length c = search needs
 
--- src/literal.rt:137:1
 returns : tie.Need-returns
 returns c = ((λ l k h. law.opens _ _ _ _ _ h (c .before .before .before .before .before .before .before .before .before .before .before .before .run-of .ensures) (c .before .before .before .before .before .before .before .before .before .before .all-heads .ensures .0 l k) (c .before .before .before .before .before .before .put2 .ensures .0 l k) (λ z. c .before .before .wide .ensures .0 l k z)), c .before .before .wide .ensures .1 ∙ c .before .before .before .before .before .before .put2 .ensures .1 ∙ c .before .before .before .before .before .before .before .before .before .before .all-heads .ensures .1)
 

@@ -9,31 +9,24 @@ use Rattle.walk.proofs.literal.pending.Lts as lts
 use Rattle.walk.proofs.walk.Walk.put2.Reads as put2-reads
 use Rattle.walk.proofs.walk.Walk.wide.Reads as wide-reads
 
--- src/literal.rt:119:9
 returns : tie.Need-returns
 returns c = ((λ l k h. law.pending-none _ (c .if1 .taken)), refl)
 
--- src/literal.rt:121:5
 put2-requires : tie.Need-put2-requires
 put2-requires c κs = search needs
 
--- src/literal.rt:121:5
 put2-requires-2 : tie.Need-put2-requires-2
 put2-requires-2 c κs = search needs
 
--- src/literal.rt:121:5
 put2-requires-3 : tie.Need-put2-requires-3
 put2-requires-3 c κs = search needs
 
--- src/literal.rt:121:5
 wide-requires : tie.Need-wide-requires
 wide-requires c κs = search needs
 
--- src/literal.rt:115:1
 same-length : tie.Need-same-length
 same-length c = search needs
 
--- src/literal.rt:115:1
 returns-2 : tie.Need-returns-2
 returns-2 c = ((λ l k h. law.pending-some _ (c .before .before .before .before .before .before .before .before .before .before .before .before .before .before .before .before .if1 .left) (c .before .before .before .before .before .before .before .before .before .before .before .before .before .before .put2 .ensures .0 l k) (c .before .before .before .before .before .before .before .before .before .before .put22 .ensures .0 l k) (c .before .before .before .before .before .before .put23 .ensures .0 l k) (c .before .before .wide .ensures .0 l k h)), c .before .before .wide .ensures .1 ∙ c .before .before .before .before .before .before .put23 .ensures .1 ∙ c .before .before .before .before .before .before .before .before .before .before .put22 .ensures .1 ∙ c .before .before .before .before .before .before .before .before .before .before .before .before .before .before .put2 .ensures .1)
 

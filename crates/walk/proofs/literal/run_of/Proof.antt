@@ -19,39 +19,30 @@ Inv-loop t left count at k₀ n₀ p₀ k n p = (k + n ≡ count) × (k + run (l
 abbrev μ-loop : tie.MeasureT-loop
 μ-loop t left count at k₀ n₀ p₀ k n p = n
 
--- src/literal.rt:32:5
 loop-holds : tie.Need-loop-holds Inv-loop μ-loop
 loop-holds c = (omega arith, omega arith)
 
--- src/literal.rt:33:12
 is-spread-requires : tie.Need-is-spread-requires Inv-loop μ-loop
 is-spread-requires c κs = tt
 
--- src/literal.rt:34:13
 returns : tie.Need-returns Inv-loop μ-loop
 returns c = law.run-stops _ (lookNode _ _) _ _ _ _ (c .before .before .loop-test .taken) (c .before .is-spread .ensures) (c .if1 .taken) ∙ c .before .before .before .loop .inv .1
 
--- src/literal.rt:36:9
 skip-requires : tie.Need-skip-requires Inv-loop μ-loop
 skip-requires c κs = tt
 
--- src/literal.rt:37:9
 sub-n : tie.Need-sub-n Inv-loop μ-loop
 sub-n c = omega (arith, c .before .before .before .loop-test .taken)
 
--- src/literal.rt:38:9
 add-k : tie.Need-add-k Inv-loop μ-loop
 add-k c = search needs
 
--- src/literal.rt:32:5
 loop-less : tie.Need-loop-less Inv-loop μ-loop
 loop-less c = omega (arith, c .before .before .before .loop-test .taken)
 
--- src/literal.rt:32:5
 loop-again : tie.Need-loop-again Inv-loop μ-loop
 loop-again c = (omega (arith, c .before .before .before .before .loop .inv .0, c .before .before .before .loop-test .taken), law.run-more _ (lookNode _ _) _ _ _ _ _ (c .before .before .before .loop-test .taken) (c .before .before .is-spread .ensures) (c .before .if1 .left) (c .skip .ensures) ∙ c .before .before .before .before .loop .inv .1)
 
--- src/literal.rt:26:1
 returns-2 : tie.Need-returns-2 Inv-loop μ-loop
 returns-2 c = law.run-end _ (lookNode _ _) _ _ _ (c .loop-test .left) ∙ c .before .loop .inv .1
 

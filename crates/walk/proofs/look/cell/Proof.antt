@@ -5,27 +5,21 @@ use Rattle.walk.proofs.look.cell.Tie as tie
 use Rattle.walk.proofs.look.cell.Reads as reads
 use Rattle.walk.proofs.look.cell.Lts as lts
 
--- src/look.rt:126:20
 add-result : tie.Need-add-result
 add-result c = search needs
 
--- src/look.rt:126:13
 returns : tie.Need-returns
 returns c = λ a b d. law.cell-one _ _ (c .if2 .taken)
 
--- src/look.rt:129:20
 add-result-2 : tie.Need-add-result-2
 add-result-2 c = search needs
 
--- src/look.rt:129:13
 returns-2 : tie.Need-returns-2
 returns-2 c = λ a b d. law.cell-two _ _ (c .if3 .taken)
 
--- src/look.rt:131:9
 returns-3 : tie.Need-returns-3
 returns-3 c = λ a b d. law.cell-here _ _ (c .before .if2 .left) (c .if3 .left) d
 
--- src/look.rt:121:1
 returns-4 : tie.Need-returns-4
 returns-4 c = search needs
 

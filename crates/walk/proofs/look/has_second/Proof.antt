@@ -8,11 +8,9 @@ use Rattle.walk.proofs.look.has_second.Reads as reads
 use Rattle.walk.proofs.look.has_second.Lts as lts
 use Rattle.walk.proofs.look.second.Reads as second-reads
 
--- src/look.rt:49:5
 second-requires : tie.Need-second-requires
 second-requires c κs = search needs
 
--- src/look.rt:46:1
 returns : tie.Need-returns
 returns c = ap (λ (x : ℕ). eqb x 1) (c .second .ensures)
 

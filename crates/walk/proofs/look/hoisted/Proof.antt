@@ -7,23 +7,18 @@ use Rattle.walk.proofs.look.hoisted.Lts as lts
 use Rattle.pattern.proofs.keys.all_primitive.Reads as all-primitive-reads
 use Rattle.pattern.proofs.keys.has_no_properties.Reads as has-no-properties-reads
 
--- src/look.rt:162:9
 returns : tie.Need-returns
 returns c = law.hoisted-root _ _ (c .if1 .taken)
 
--- src/look.rt:164:8
 has-no-properties-requires : tie.Need-has-no-properties-requires
 has-no-properties-requires c κs = search needs
 
--- src/look.rt:165:9
 returns-2 : tie.Need-returns-2
 returns-2 c = law.hoisted-none _ _ _ (c .before .before .if1 .left) (c .before .has-no-properties .ensures) (c .if2 .taken)
 
--- src/look.rt:167:5
 all-primitive-requires : tie.Need-all-primitive-requires
 all-primitive-requires c κs = search needs
 
--- src/look.rt:158:1
 returns-3 : tie.Need-returns-3
 returns-3 c = law.hoisted-all _ _ _ _ (c .before .before .before .if1 .left) (c .before .before .has-no-properties .ensures) (c .before .if2 .left) (c .all-primitive .ensures)
 

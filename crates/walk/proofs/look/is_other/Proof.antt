@@ -6,11 +6,9 @@ use Rattle.walk.proofs.look.is_other.Reads as reads
 use Rattle.walk.proofs.look.is_other.Lts as lts
 use Rattle.walk.proofs.look.key_sort.Reads as key-sort-reads
 
--- src/look.rt:154:5
 key-sort-requires : tie.Need-key-sort-requires
 key-sort-requires c κs = search needs
 
--- src/look.rt:151:1
 returns : tie.Need-returns
 returns c = law.other-is _ _ (c .key-sort .ensures)
 

@@ -5,11 +5,9 @@ use Rattle.walk.proofs.look.item_mode.Tie as tie
 use Rattle.walk.proofs.look.item_mode.Reads as reads
 use Rattle.walk.proofs.look.item_mode.Lts as lts
 
--- src/look.rt:93:9
 returns : tie.Need-returns
 returns c = law.if-yes _ _ _ _ _ (c .if1 .taken) refl
 
--- src/look.rt:89:1
 returns-2 : tie.Need-returns-2
 returns-2 c = law.if-no _ _ _ _ _ (c .if1 .left) refl
 

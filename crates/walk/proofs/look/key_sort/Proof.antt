@@ -6,63 +6,48 @@ use Rattle.walk.proofs.look.key_sort.Reads as reads
 use Rattle.walk.proofs.look.key_sort.Lts as lts
 use Rattle.pattern.proofs.keys.transform_property_key.Reads as transform-property-key-reads
 
--- src/look.rt:140:11
 transform-property-key-requires : tie.Need-transform-property-key-requires
 transform-property-key-requires c κs = search needs
 
--- src/look.rt:141:42
 enum-told : tie.Need-enum-told
 enum-told c = search needs
 
--- src/look.rt:142:45
 enum-told-2 : tie.Need-enum-told-2
 enum-told-2 c = search needs
 
--- src/look.rt:143:24
 enum-told-3 : tie.Need-enum-told-3
 enum-told-3 c = search needs
 
--- src/look.rt:144:26
 enum-told-4 : tie.Need-enum-told-4
 enum-told-4 c = search needs
 
--- src/look.rt:145:25
 enum-told-5 : tie.Need-enum-told-5
 enum-told-5 c = search needs
 
--- src/look.rt:146:23
 enum-told-6 : tie.Need-enum-told-6
 enum-told-6 c = search needs
 
--- src/look.rt:147:23
 enum-told-7 : tie.Need-enum-told-7
 enum-told-7 c = search needs
 
--- src/look.rt:137:1
 returns : tie.Need-returns
 returns c = law.key-class _ _ _ _ _ (c .before .before .transform-property-key .ensures) (c .enum-told .given .1)
 
--- src/look.rt:137:1
 returns-2 : tie.Need-returns-2
 returns-2 c = law.key-class _ _ _ _ _ (c .before .before .transform-property-key .ensures) (c .enum-told2 .given .1)
 
--- src/look.rt:137:1
 returns-3 : tie.Need-returns-3
 returns-3 c = law.key-class _ _ _ _ _ (c .before .before .transform-property-key .ensures) (c .enum-told3 .given .1)
 
--- src/look.rt:137:1
 returns-4 : tie.Need-returns-4
 returns-4 c = law.key-class _ _ _ _ _ (c .before .before .transform-property-key .ensures) (c .enum-told4 .given .1)
 
--- src/look.rt:137:1
 returns-5 : tie.Need-returns-5
 returns-5 c = law.key-class _ _ _ _ _ (c .before .before .transform-property-key .ensures) (c .enum-told5 .given .1)
 
--- src/look.rt:137:1
 returns-6 : tie.Need-returns-6
 returns-6 c = law.key-class _ _ _ _ _ (c .before .before .transform-property-key .ensures) (c .enum-told6 .given .1)
 
--- src/look.rt:137:1
 returns-7 : tie.Need-returns-7
 returns-7 c = law.key-class _ _ _ _ _ (c .before .before .transform-property-key .ensures) (c .enum-told7 .given .1)
 

@@ -5,19 +5,15 @@ use Rattle.walk.proofs.look.level.Tie as tie
 use Rattle.walk.proofs.look.level.Reads as reads
 use Rattle.walk.proofs.look.level.Lts as lts
 
--- src/look.rt:113:13
 returns : tie.Need-returns
 returns c = law.level-none _ _ (c .before .if1 .taken) (c .if2 .taken)
 
--- src/look.rt:115:16
 sub-result : tie.Need-sub-result
 sub-result c = search needs
 
--- src/look.rt:115:9
 returns-2 : tie.Need-returns-2
 returns-2 c = law.level-below _ _ (c .before .if1 .taken)
 
--- src/look.rt:108:1
 returns-3 : tie.Need-returns-3
 returns-3 c = search needs
 

@@ -14,35 +14,27 @@ Inv-loop t left first count n₀ p₀ k₀ n p k = law.MovedLeft t left count fi
 abbrev μ-loop : tie.MeasureT-loop
 μ-loop t left first count n₀ p₀ k₀ n p k = n
 
--- src/look.rt:274:5
 loop-holds : tie.Need-loop-holds Inv-loop μ-loop
 loop-holds c = law.moved-start _ _ _ _
 
--- src/look.rt:275:21
 moved-from-requires : tie.Need-moved-from-requires Inv-loop μ-loop
 moved-from-requires c κs = tt
 
--- src/look.rt:275:9
 plus-requires : tie.Need-plus-requires Inv-loop μ-loop
 plus-requires c κs = tt
 
--- src/look.rt:276:9
 skip-requires : tie.Need-skip-requires Inv-loop μ-loop
 skip-requires c κs = tt
 
--- src/look.rt:277:9
 sub-n : tie.Need-sub-n Inv-loop μ-loop
 sub-n c = omega arith
 
--- src/look.rt:274:5
 loop-less : tie.Need-loop-less Inv-loop μ-loop
 loop-less c = omega arith
 
--- src/look.rt:274:5
 loop-again : tie.Need-loop-again Inv-loop μ-loop
 loop-again c = law.moved-more _ _ _ _ _ _ _ _ _ _ (c .before .before .before .loop-test .taken) (c .before .before .moved-from .ensures) (c .skip .ensures) (c .before .plus .ensures) (c .before .before .before .before .loop .inv)
 
--- src/look.rt:268:1
 returns : tie.Need-returns Inv-loop μ-loop
 returns c = law.moved-end _ _ _ _ _ _ _ (c .loop-test .left) (c .before .loop .inv)
 

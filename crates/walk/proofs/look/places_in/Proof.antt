@@ -7,19 +7,15 @@ use Rattle.walk.proofs.look.places_in.Lts as lts
 use Rattle.pattern.proofs.rests.objects_below.Reads as objects-below-reads
 use Rattle.walk.proofs.look.places_left.Reads as places-left-reads
 
--- src/look.rt:225:9
 places-left-requires : tie.Need-places-left-requires
 places-left-requires c κs = search needs
 
--- src/look.rt:225:9
 returns : tie.Need-returns
 returns c = λ z. leaving.places-view _ _ _ (c .before .if1 .taken) (c .places-left .ensures)
 
--- src/look.rt:227:5
 objects-below-requires : tie.Need-objects-below-requires
 objects-below-requires c κs = search needs
 
--- src/look.rt:221:1
 returns-2 : tie.Need-returns-2
 returns-2 c = λ z. leaving.places-replaced _ _ _ (c .before .if1 .left) (c .objects-below .ensures) z
 

@@ -5,19 +5,15 @@ use Rattle.walk.proofs.look.property_mode.Tie as tie
 use Rattle.walk.proofs.look.property_mode.Reads as reads
 use Rattle.walk.proofs.look.property_mode.Lts as lts
 
--- src/look.rt:58:13
 returns : tie.Need-returns
 returns c = law.if-yes _ _ _ _ _ (c .before .if1 .taken) (law.when-yes _ _ _ _ (c .if2 .taken) refl)
 
--- src/look.rt:60:9
 returns-2 : tie.Need-returns-2
 returns-2 c = law.if-yes _ _ _ _ _ (c .before .if1 .taken) (law.when-no _ _ _ _ (c .if2 .left) refl)
 
--- src/look.rt:63:9
 returns-3 : tie.Need-returns-3
 returns-3 c = law.if-no _ _ _ _ _ (c .before .if1 .left) (law.when-yes _ _ _ _ (c .if3 .taken) refl)
 
--- src/look.rt:53:1
 returns-4 : tie.Need-returns-4
 returns-4 c = law.if-no _ _ _ _ _ (c .before .if1 .left) (law.when-no _ _ _ _ (c .if3 .left) refl)
 

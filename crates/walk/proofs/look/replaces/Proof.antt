@@ -4,15 +4,12 @@ use Rattle.walk.proofs.look.replaces.Reads as reads
 use Rattle.walk.proofs.look.replaces.Lts as lts
 use Rattle.walk.proofs.Viewing.{replaces-2, replaces-3, replaces-else}
 
--- src/look.rt:16:9
 returns : tie.Need-returns
 returns c = replaces-2 _ (c .if1 .taken)
 
--- src/look.rt:19:9
 returns-2 : tie.Need-returns-2
 returns-2 c = replaces-3 _ (c .if2 .taken)
 
--- src/look.rt:12:1
 returns-3 : tie.Need-returns-3
 returns-3 c = replaces-else _ (c .before .if1 .left) (c .if2 .left)
 

@@ -7,15 +7,12 @@ use Rattle.walk.proofs.look.second.Lts as lts
 use Rattle.tree.proofs.bytes.peek.Reads as peek-reads
 use Rattle.tree.proofs.skip.step.Reads as step-reads
 
--- src/look.rt:43:13
 step-requires : tie.Need-step-requires
 step-requires c κs = search needs
 
--- src/look.rt:43:5
 peek-requires : tie.Need-peek-requires
 peek-requires c κs = search needs
 
--- src/look.rt:40:1
 returns : tie.Need-returns
 returns c = law.second-of _ _ _ _ (c .before .step .ensures) (c .peek .ensures)
 

@@ -8,31 +8,24 @@ use Rattle.walk.proofs.look.has_second.Reads as has-second-reads
 use Rattle.tree.proofs.skip.skip.Reads as skip-reads
 use Rattle.tree.proofs.skip.step.Reads as step-reads
 
--- src/look.rt:180:9
 returns : tie.Need-returns
 returns c = law.start-none _ _ _ (c .if1 .taken)
 
--- src/look.rt:182:8
 has-second-requires : tie.Need-has-second-requires
 has-second-requires c κs = search needs
 
--- src/look.rt:183:37
 sub-skip : tie.Need-sub-skip
 sub-skip c = search needs
 
--- src/look.rt:183:47
 step-requires : tie.Need-step-requires
 step-requires c κs = search needs
 
--- src/look.rt:183:29
 skip-requires : tie.Need-skip-requires
 skip-requires c κs = search needs
 
--- src/look.rt:183:9
 returns-2 : tie.Need-returns-2
 returns-2 c = law.start-value _ _ _ _ _ _ (c .before .before .before .before .if1 .left) (c .before .before .before .has-second .ensures) (c .before .before .if2 .taken) (c .before .step .ensures) (c .skip .ensures)
 
--- src/look.rt:176:1
 returns-3 : tie.Need-returns-3
 returns-3 c = law.start-missing _ _ _ _ (c .before .before .if1 .left) (c .before .has-second .ensures) (c .if2 .left)
 

@@ -5,15 +5,12 @@ use Rattle.walk.proofs.look.value_mode.Tie as tie
 use Rattle.walk.proofs.look.value_mode.Reads as reads
 use Rattle.walk.proofs.look.value_mode.Lts as lts
 
--- src/look.rt:81:9
 returns : tie.Need-returns
 returns c = law.if-yes _ _ _ _ _ (c .if1 .taken) refl
 
--- src/look.rt:84:9
 returns-2 : tie.Need-returns-2
 returns-2 c = law.if-no _ _ _ _ _ (c .before .if1 .left) (law.if-yes _ _ _ _ _ (c .if2 .taken) refl)
 
--- src/look.rt:77:1
 returns-3 : tie.Need-returns-3
 returns-3 c = law.if-no _ _ _ _ _ (c .before .if1 .left) (law.if-no _ _ _ _ _ (c .if2 .left) refl)
 

@@ -4,7 +4,6 @@ use Rattle.walk.proofs.pieces.cell_source.Tie as tie
 use Rattle.walk.proofs.pieces.cell_source.Reads as reads
 use Rattle.walk.proofs.pieces.cell_source.Lts as lts
 
--- src/emit.rt:72:1
 returns : tie.Need-returns
 returns c = λ t. law.cell-read t _ _ _
 

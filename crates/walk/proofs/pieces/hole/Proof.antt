@@ -9,39 +9,30 @@ use Rattle.walk.proofs.walk.Walk.copy.Reads as copy-reads
 use Rattle.walk.proofs.walk.Walk.to.Reads as to-reads
 use Rattle.tree.proofs.skip.step.Reads as step-reads
 
--- src/emit.rt:61:9
 step-requires : tie.Need-step-requires
 step-requires c κs = search needs
 
--- src/emit.rt:63:9
 copy-requires : tie.Need-copy-requires
 copy-requires c κs = search needs
 
--- src/emit.rt:63:9
 same-length : tie.Need-same-length
 same-length c = search needs
 
--- src/emit.rt:63:9
 returns : tie.Need-returns
 returns c = (c .before .before .copy .ensures .1 ∙ c .before .before .before .before .before .step .ensures, λ l k h. law.hole-written _ _ _ _ (law.hole-first _ (c .before .before .before .before .if1 .taken)) (c .before .before .before .before .before .step .ensures) h (c .before .before .copy .ensures .0 l k))
 
--- src/emit.rt:66:9
 copy-requires-2 : tie.Need-copy-requires-2
 copy-requires-2 c κs = search needs
 
--- src/emit.rt:66:9
 same-length-2 : tie.Need-same-length-2
 same-length-2 c = search needs
 
--- src/emit.rt:66:9
 returns-2 : tie.Need-returns-2
 returns-2 c = (c .before .before .copy2 .ensures .1 ∙ c .before .before .before .before .before .before .step .ensures, λ l k h. law.hole-written _ _ _ _ (law.hole-second _ (c .before .before .before .before .if2 .taken)) (c .before .before .before .before .before .before .step .ensures) h (c .before .before .copy2 .ensures .0 l k))
 
--- src/emit.rt:68:5
 to-requires : tie.Need-to-requires
 to-requires c κs = search needs
 
--- src/emit.rt:58:1
 returns-3 : tie.Need-returns-3
 returns-3 c = (c .to .ensures .1 ∙ c .before .before .before .step .ensures, λ l k h. law.hole-passed _ (c .before .before .if1 .left) (c .before .if2 .left) (c .to .ensures .0 _ l k))
 

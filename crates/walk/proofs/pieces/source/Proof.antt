@@ -11,59 +11,45 @@ use Rattle.walk.proofs.walk.Walk.temporary.Reads as temporary-reads
 use Rattle.walk.proofs.walk.Walk.to.Reads as to-reads
 use Rattle.tree.proofs.skip.skip.Reads as skip-reads
 
--- src/emit.rt:89:9
 create-read-expression-requires : tie.Need-create-read-expression-requires
 create-read-expression-requires c κs = search needs
 
--- src/emit.rt:92:28
 enum-known-read : tie.Need-enum-known-read
 enum-known-read c = search needs
 
--- src/emit.rt:92:45
 to-requires : tie.Need-to-requires
 to-requires c κs = search needs
 
--- src/emit.rt:92:66
 skip-requires : tie.Need-skip-requires
 skip-requires c κs = search needs
 
--- src/emit.rt:92:45
 copy-requires : tie.Need-copy-requires
 copy-requires c κs = search needs
 
--- src/emit.rt:92:45
 to-requires-2 : tie.Need-to-requires-2
 to-requires-2 c κs = search needs
 
--- src/emit.rt:93:25
 enum-known-read-2 : tie.Need-enum-known-read-2
 enum-known-read-2 c = search needs
 
--- src/emit.rt:93:34
 temporary-requires : tie.Need-temporary-requires
 temporary-requires c κs = search needs
 
--- src/emit.rt:85:1
 same-length : tie.Need-same-length
 same-length c = search needs
 
--- src/emit.rt:85:1
 returns : tie.Need-returns
 returns c = (c .to2 .ensures .1, law.source-copied _ _ _ _ _ _ _ (c .before .before .before .before .before .before .before .before .before .before .create-read-expression .ensures .0) (c .before .before .before .before .before .before .before .before .read .given .1) (c .before .before .before .before .before .before .to .ensures .0 _ _ _) (c .before .before .before .before .before .before .to .ensures .1) (c .before .before .before .before .skip .ensures) (c .before .before .before .copy .ensures .0 _ _) (c .to2 .ensures .0 _ _ _))
 
--- src/emit.rt:85:1
 same-length-2 : tie.Need-same-length-2
 same-length-2 c = search needs
 
--- src/emit.rt:85:1
 same-length-3 : tie.Need-same-length-3
 same-length-3 c = search needs
 
--- src/emit.rt:85:1
 same-length-4 : tie.Need-same-length-4
 same-length-4 c = search needs
 
--- src/emit.rt:85:1
 returns-2 : tie.Need-returns-2
 returns-2 c = (c .before .before .before .before .before .before .temporary .ensures .1, law.source-written _ _ _ _ (c .before .before .before .before .before .before .before .before .before .before .before .before .before .create-read-expression .ensures .0) (c .before .before .before .before .before .before .before .before .before .before .before .read2 .given .1) (c .before .before .before .before .before .before .temporary .ensures .0))
 

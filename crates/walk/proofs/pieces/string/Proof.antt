@@ -9,87 +9,66 @@ use Rattle.walk.proofs.pieces.string.Lts as lts
 use Rattle.pattern.proofs.keys.transform_property_key.Reads as transform-property-key-reads
 use Rattle.walk.proofs.walk.Walk.string.Reads as string-reads
 
--- src/emit.rt:100:11
 transform-property-key-requires : tie.Need-transform-property-key-requires
 transform-property-key-requires c κs = search needs
 
--- src/emit.rt:101:21
 enum-known-from : tie.Need-enum-known-from
 enum-known-from c = search needs
 
--- src/emit.rt:101:36
 string-requires : tie.Need-string-requires
 string-requires c κs = search needs
 
--- src/emit.rt:102:24
 enum-known-from-2 : tie.Need-enum-known-from-2
 enum-known-from-2 c = search needs
 
--- src/emit.rt:102:39
 string-requires-2 : tie.Need-string-requires-2
 string-requires-2 c κs = search needs
 
--- src/emit.rt:103:36
 enum-told : tie.Need-enum-told
 enum-told c = search needs
 
--- src/emit.rt:103:24
 string-requires-3 : tie.Need-string-requires-3
 string-requires-3 c κs = search needs
 
--- src/emit.rt:104:26
 enum-told-2 : tie.Need-enum-told-2
 enum-told-2 c = search needs
 
--- src/emit.rt:105:25
 enum-told-3 : tie.Need-enum-told-3
 enum-told-3 c = search needs
 
--- src/emit.rt:106:23
 enum-told-4 : tie.Need-enum-told-4
 enum-told-4 c = search needs
 
--- src/emit.rt:107:23
 enum-told-5 : tie.Need-enum-told-5
 enum-told-5 c = search needs
 
--- src/emit.rt:97:1
 same-length : tie.Need-same-length
 same-length c = search needs
 
--- src/emit.rt:97:1
 returns : tie.Need-returns
 returns c = (c .before .before .string .ensures .1, λ l k g h. law.string-written _ _ _ _ (law.name-spelt _ _ _ _ (c .before .before .before .before .before .before .before .transform-property-key .ensures) g _ _ (c .before .before .before .before .before .from .given .1)) (c .before .before .string .ensures .0 l k))
 
--- src/emit.rt:97:1
 same-length-2 : tie.Need-same-length-2
 same-length-2 c = search needs
 
--- src/emit.rt:97:1
 returns-2 : tie.Need-returns-2
 returns-2 c = (c .before .before .string2 .ensures .1, λ l k g h. law.string-written _ _ _ _ (law.form-spelt _ _ _ _ (c .before .before .before .before .before .before .before .transform-property-key .ensures) g _ _ (c .before .before .before .before .before .from2 .given .1)) (c .before .before .string2 .ensures .0 l k))
 
--- src/emit.rt:97:1
 same-length-3 : tie.Need-same-length-3
 same-length-3 c = search needs
 
--- src/emit.rt:97:1
 returns-3 : tie.Need-returns-3
 returns-3 c = (c .before .before .string3 .ensures .1, λ l k g h. law.string-written _ _ _ _ (law.bare-spelt _ _ _ _ (c .before .before .before .before .before .before .transform-property-key .ensures) g (c .before .before .before .before .enum-told .given .1)) (c .before .before .string3 .ensures .0 l k))
 
--- src/emit.rt:97:1
 returns-4 : tie.Need-returns-4
 returns-4 c = (refl, λ l k g h. law.no-string _ _ _ _ _ (c .before .before .transform-property-key .ensures) (c .enum-told2 .given .1) h (λ z. omega arith))
 
--- src/emit.rt:97:1
 returns-5 : tie.Need-returns-5
 returns-5 c = (refl, λ l k g h. law.no-string _ _ _ _ _ (c .before .before .transform-property-key .ensures) (c .enum-told3 .given .1) h (λ z. omega arith))
 
--- src/emit.rt:97:1
 returns-6 : tie.Need-returns-6
 returns-6 c = (refl, λ l k g h. law.no-string _ _ _ _ _ (c .before .before .transform-property-key .ensures) (c .enum-told4 .given .1) h (λ z. omega arith))
 
--- src/emit.rt:97:1
 returns-7 : tie.Need-returns-7
 returns-7 c = (refl, λ l k g h. law.no-string _ _ _ _ _ (c .before .before .transform-property-key .ensures) (c .enum-told5 .given .1) h (λ z. omega arith))
 

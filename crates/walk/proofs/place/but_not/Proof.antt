@@ -5,11 +5,9 @@ use Rattle.walk.proofs.place.but_not.Tie as tie
 use Rattle.walk.proofs.place.but_not.Reads as reads
 use Rattle.walk.proofs.place.but_not.Lts as lts
 
--- src/emit.rt:47:9
 returns : tie.Need-returns
 returns c = law.and-no (c .before .args .a) _ (c .if1 .taken)
 
--- src/emit.rt:43:1
 returns-2 : tie.Need-returns-2
 returns-2 c = law.and-yes (c .before .args .a) _ (c .if1 .left)
 

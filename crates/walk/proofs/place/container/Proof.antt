@@ -6,15 +6,12 @@ use Rattle.walk.proofs.place.container.Tie as tie
 use Rattle.walk.proofs.place.container.Reads as reads
 use Rattle.walk.proofs.place.container.Lts as lts
 
--- src/emit.rt:36:1
 returns : tie.Need-returns
 returns c = law.or-taken _ 1 _ (c .if1 .taken) ∙ law.container-is _
 
--- src/emit.rt:36:1
 returns-2 : tie.Need-returns-2
 returns-2 c = law.or-left _ 1 _ _ (c .before .if1 .left) (law.or-taken _ 2 _ (c .if2 .taken)) ∙ law.container-is _
 
--- src/emit.rt:36:1
 returns-3 : tie.Need-returns-3
 returns-3 c = law.or-left _ 1 _ _ (c .before .if1 .left) (law.or-left _ 2 _ _ (c .if2 .left) refl) ∙ law.container-is _
 

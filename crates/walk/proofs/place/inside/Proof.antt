@@ -5,7 +5,6 @@ use Rattle.walk.proofs.place.inside.Tie as tie
 use Rattle.walk.proofs.place.inside.Reads as reads
 use Rattle.walk.proofs.place.inside.Lts as lts
 
--- src/emit.rt:108:1
 returns : tie.Need-returns
 unfolding inner
 returns c = (refl, refl)

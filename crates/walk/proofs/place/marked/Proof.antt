@@ -5,7 +5,6 @@ use Rattle.walk.proofs.place.marked.Tie as tie
 use Rattle.walk.proofs.place.marked.Reads as reads
 use Rattle.walk.proofs.place.marked.Lts as lts
 
--- src/emit.rt:56:1
 returns : tie.Need-returns
 unfolding marking
 returns c = (refl, refl)

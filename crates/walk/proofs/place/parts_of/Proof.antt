@@ -9,19 +9,15 @@ use Rattle.walk.proofs.place.but_not.Reads as but-not-reads
 use Rattle.walk.proofs.place.opens_scope.Reads as opens-scope-reads
 use Rattle.walk.proofs.place.whole.Reads as whole-reads
 
--- src/emit.rt:70:31
 opens-scope-requires : tie.Need-opens-scope-requires
 opens-scope-requires c κs = search needs
 
--- src/emit.rt:70:15
 but-not-requires : tie.Need-but-not-requires
 but-not-requires c κs = search needs
 
--- src/emit.rt:71:20
 whole-requires : tie.Need-whole-requires
 whole-requires c κs = search needs
 
--- src/emit.rt:66:1
 returns : tie.Need-returns
 returns c = ((λ at fs. law.below-is _ at _ fs _ _ _ (c .before .before .opens-scope .ensures) (c .before .but-not .ensures) (c .whole .ensures)), refl)
 

@@ -5,7 +5,6 @@ use Rattle.walk.proofs.place.scoped.Tie as tie
 use Rattle.walk.proofs.place.scoped.Reads as reads
 use Rattle.walk.proofs.place.scoped.Lts as lts
 
--- src/emit.rt:35:1
 returns : tie.Need-returns
 unfolding scoped
 returns c = (refl, refl)

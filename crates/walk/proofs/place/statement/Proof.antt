@@ -5,7 +5,6 @@ use Rattle.walk.proofs.place.statement.Tie as tie
 use Rattle.walk.proofs.place.statement.Reads as reads
 use Rattle.walk.proofs.place.statement.Lts as lts
 
--- src/emit.rt:46:1
 returns : tie.Need-returns
 unfolding unused marking
 returns c = (refl, refl)

@@ -5,15 +5,12 @@ use Rattle.walk.proofs.place.whole.Tie as tie
 use Rattle.walk.proofs.place.whole.Reads as reads
 use Rattle.walk.proofs.place.whole.Lts as lts
 
--- src/emit.rt:57:9
 returns : tie.Need-returns
 returns c = law.or-third _ _ (c .if1 .taken)
 
--- src/emit.rt:60:9
 returns-2 : tie.Need-returns-2
 returns-2 c = law.or-given _ _ (c .if2 .taken)
 
--- src/emit.rt:53:1
 returns-3 : tie.Need-returns-3
 returns-3 c = law.or-none _ _ (c .before .if1 .left) (c .if2 .left)
 

@@ -9,23 +9,18 @@ use Rattle.sink.proofs.Sink.put.Reads as put-reads
 use Rattle.sink.proofs.Sink.put2.Reads as put2-reads
 use Rattle.sink.proofs.bytes.low.Reads as low-reads
 
--- src/walk.rt:150:19
 put2-requires : tie.Need-put2-requires
 put2-requires c κs = search needs
 
--- src/walk.rt:150:47
 low-requires : tie.Need-low-requires
 low-requires c κs = search needs
 
--- src/walk.rt:150:19
 put-requires : tie.Need-put-requires
 put-requires c κs = search needs
 
--- src/walk.rt:145:5
 same-length : tie.Need-same-length
 same-length c = search needs
 
--- src/walk.rt:145:5
 returns : tie.Need-returns
 returns c = ((λ l w h. steps.by-assign _ _ _ _ _ _ h (c .before .before .before .before .before .before .before .put2 .ensures l w) (c .before .before .before .low .ensures) (c .before .before .put .ensures l w)), refl)
 

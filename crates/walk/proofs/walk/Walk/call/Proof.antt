@@ -10,23 +10,18 @@ use Rattle.sink.proofs.Sink.helper.Reads as helper-reads
 use Rattle.sink.proofs.Sink.put2.Reads as put2-reads
 use Rattle.sink.proofs.Sink.put_wide.Reads as put-wide-reads
 
--- src/walk.rt:75:19
 put2-requires : tie.Need-put2-requires
 put2-requires c κs = search needs
 
--- src/walk.rt:75:19
 helper-requires : tie.Need-helper-requires
 helper-requires c κs = search needs
 
--- src/walk.rt:75:19
 put-wide-requires : tie.Need-put-wide-requires
 put-wide-requires c κs = search needs
 
--- src/walk.rt:70:5
 same-length : tie.Need-same-length
 same-length c = search needs
 
--- src/walk.rt:70:5
 returns : tie.Need-returns
 returns c = (((λ l w h. law.by-call _ _ _ _ _ _ _ h (c .before .before .before .before .before .before .before .before .before .before .put2 .ensures l w) (c .before .before .before .before .before .before .helper .ensures l w) (c .before .before .put-wide .ensures l w))), refl)
 

@@ -8,15 +8,12 @@ use Rattle.walk.proofs.walk.Walk.copy.Reads as reads
 use Rattle.walk.proofs.walk.Walk.copy.Lts as lts
 use Rattle.sink.proofs.Sink.copy.Reads as copy-reads
 
--- src/walk.rt:63:19
 copy-requires : tie.Need-copy-requires
 copy-requires c κs = search needs
 
--- src/walk.rt:58:5
 same-length : tie.Need-same-length
 same-length c = search needs
 
--- src/walk.rt:58:5
 returns : tie.Need-returns
 returns c = (((λ l w. law.by-puts _ _ _ _ (c .before .before .copy .ensures l w))), refl)
 

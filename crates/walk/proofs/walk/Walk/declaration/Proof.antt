@@ -10,27 +10,21 @@ use Rattle.sink.proofs.Sink.put.Reads as put-reads
 use Rattle.sink.proofs.Sink.put2.Reads as put2-reads
 use Rattle.sink.proofs.Sink.put_wide.Reads as put-wide-reads
 
--- src/walk.rt:162:19
 put2-requires : tie.Need-put2-requires
 put2-requires c κs = search needs
 
--- src/walk.rt:162:19
 new-mark-requires : tie.Need-new-mark-requires
 new-mark-requires c κs = search needs
 
--- src/walk.rt:162:19
 put-requires : tie.Need-put-requires
 put-requires c κs = search needs
 
--- src/walk.rt:162:19
 put-wide-requires : tie.Need-put-wide-requires
 put-wide-requires c κs = search needs
 
--- src/walk.rt:157:5
 same-length : tie.Need-same-length
 same-length c = search needs
 
--- src/walk.rt:157:5
 returns : tie.Need-returns
 returns c = ((λ l w h. steps.by-declaration _ _ _ _ _ _ _ _ h (c .before .before .before .before .before .before .before .before .before .before .before .before .before .before .put2 .ensures l w) (c .before .before .before .before .before .before .before .before .before .before .new-mark .ensures l w) (c .before .before .before .before .before .before .put .ensures l w) (c .before .before .put-wide .ensures l w)), refl)
 

@@ -9,35 +9,27 @@ use Rattle.walk.proofs.walk.Walk.empty_rest.Lts as lts
 use Rattle.walk.proofs.walk.Walk.call.Reads as call-reads
 use Rattle.walk.proofs.walk.Walk.put2.Reads as put2-reads
 
--- src/walk.rt:184:9
 call-requires : tie.Need-call-requires
 call-requires c κs = search needs
 
--- src/walk.rt:184:9
 put2-requires : tie.Need-put2-requires
 put2-requires c κs = search needs
 
--- src/walk.rt:184:9
 put2-requires-2 : tie.Need-put2-requires-2
 put2-requires-2 c κs = search needs
 
--- src/walk.rt:184:9
 put2-requires-3 : tie.Need-put2-requires-3
 put2-requires-3 c κs = search needs
 
--- src/walk.rt:184:9
 put2-requires-4 : tie.Need-put2-requires-4
 put2-requires-4 c κs = search needs
 
--- src/walk.rt:184:9
 call-requires-2 : tie.Need-call-requires-2
 call-requires-2 c κs = search needs
 
--- src/walk.rt:181:5
 same-length : tie.Need-same-length
 same-length c = omega (arith, c .before .before .call2 .kept, c .before .before .before .before .before .before .put24 .kept, c .before .before .before .before .before .before .before .before .before .before .put23 .kept, c .before .before .before .before .before .before .before .before .before .before .before .before .before .before .put22 .kept, c .before .before .before .before .before .before .before .before .before .before .before .before .before .before .before .before .before .before .put2 .kept, c .before .before .before .before .before .before .before .before .before .before .before .before .before .before .before .before .before .before .before .before .before .before .call .kept)
 
--- src/walk.rt:181:5
 returns : tie.Need-returns
 returns c = ((λ l w. steps.empty-rest (c .before .before .before .before .before .before .before .before .before .before .before .before .before .before .before .before .before .before .before .before .before .before .call .ensures .0 l w (omega arith)) (c .before .before .before .before .before .before .before .before .before .before .before .before .before .before .before .before .before .before .put2 .ensures .0 l w) (c .before .before .before .before .before .before .before .before .before .before .before .before .before .before .put22 .ensures .0 l w) (c .before .before .before .before .before .before .before .before .before .before .put23 .ensures .0 l w) (c .before .before .before .before .before .before .put24 .ensures .0 l w) (c .before .before .call2 .ensures .0 l w (omega arith))), c .before .before .call2 .ensures .1 ∙ c .before .before .before .before .before .before .put24 .ensures .1 ∙ c .before .before .before .before .before .before .before .before .before .before .put23 .ensures .1 ∙ c .before .before .before .before .before .before .before .before .before .before .before .before .before .before .put22 .ensures .1 ∙ c .before .before .before .before .before .before .before .before .before .before .before .before .before .before .before .before .before .before .put2 .ensures .1 ∙ c .before .before .before .before .before .before .before .before .before .before .before .before .before .before .before .before .before .before .before .before .before .before .call .ensures .1)
 

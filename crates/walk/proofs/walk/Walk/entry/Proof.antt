@@ -7,15 +7,12 @@ use Rattle.walk.proofs.walk.Walk.entry.Reads as reads
 use Rattle.walk.proofs.walk.Walk.entry.Lts as lts
 use Rattle.sink.proofs.Sink.entry.Reads as entry-reads
 
--- src/walk.rt:224:19
 entry-requires : tie.Need-entry-requires
 entry-requires c κs = search needs
 
--- src/walk.rt:219:5
 same-length : tie.Need-same-length
 same-length c = search needs
 
--- src/walk.rt:219:5
 returns : tie.Need-returns
 returns c = ((λ o w. law.by-event _ _ _ _ (c .before .before .entry .ensures o w)), refl)
 

@@ -7,15 +7,12 @@ use Rattle.walk.proofs.walk.Walk.excluded_copy.Reads as reads
 use Rattle.walk.proofs.walk.Walk.excluded_copy.Lts as lts
 use Rattle.sink.proofs.Sink.excluded_copy.Reads as excluded-copy-reads
 
--- src/walk.rt:268:19
 excluded-copy-requires : tie.Need-excluded-copy-requires
 excluded-copy-requires c κs = search needs
 
--- src/walk.rt:263:5
 same-length : tie.Need-same-length
 same-length c = search needs
 
--- src/walk.rt:263:5
 returns : tie.Need-returns
 returns c = ((λ o l. steps.by-excludes _ _ _ _ (c .before .before .excluded-copy .ensures o l)), refl)
 

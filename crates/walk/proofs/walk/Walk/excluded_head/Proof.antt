@@ -10,27 +10,21 @@ use Rattle.sink.proofs.Sink.excluded2.Reads as excluded2-reads
 use Rattle.sink.proofs.Sink.excluded_temporary.Reads as excluded-temporary-reads
 use Rattle.sink.proofs.Sink.excluded_wide.Reads as excluded-wide-reads
 
--- src/walk.rt:280:19
 declarator-requires : tie.Need-declarator-requires
 declarator-requires c κs = search needs
 
--- src/walk.rt:280:19
 excluded-temporary-requires : tie.Need-excluded-temporary-requires
 excluded-temporary-requires c κs = search needs
 
--- src/walk.rt:280:19
 excluded2-requires : tie.Need-excluded2-requires
 excluded2-requires c κs = search needs
 
--- src/walk.rt:280:19
 excluded-wide-requires : tie.Need-excluded-wide-requires
 excluded-wide-requires c κs = search needs
 
--- src/walk.rt:275:5
 same-length : tie.Need-same-length
 same-length c = search needs
 
--- src/walk.rt:275:5
 returns : tie.Need-returns
 returns c = ((λ o l h. steps.by-excluded-head _ _ _ _ _ _ _ _ h (c .before .before .before .before .before .before .before .before .before .before .before .before .before .before .declarator .ensures o l) (c .before .before .before .before .before .before .before .before .before .before .excluded-temporary .ensures o l) (c .before .before .before .before .before .before .excluded2 .ensures o l) (c .before .before .excluded-wide .ensures o l)), refl)
 

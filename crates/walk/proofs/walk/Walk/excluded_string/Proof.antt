@@ -11,31 +11,24 @@ use Rattle.sink.proofs.Sink.excluded_copy.Reads as excluded-copy-reads
 use Rattle.sink.proofs.Sink.excluded_wide.Reads as excluded-wide-reads
 use Rattle.tree.proofs.skip.step.Reads as step-reads
 
--- src/walk.rt:290:13
 step-requires : tie.Need-step-requires
 step-requires c κs = search needs
 
--- src/walk.rt:292:19
 excluded4-requires : tie.Need-excluded4-requires
 excluded4-requires c κs = search needs
 
--- src/walk.rt:292:19
 excluded-requires : tie.Need-excluded-requires
 excluded-requires c κs = search needs
 
--- src/walk.rt:292:19
 excluded-wide-requires : tie.Need-excluded-wide-requires
 excluded-wide-requires c κs = search needs
 
--- src/walk.rt:292:19
 excluded-copy-requires : tie.Need-excluded-copy-requires
 excluded-copy-requires c κs = search needs
 
--- src/walk.rt:286:5
 same-length : tie.Need-same-length
 same-length c = search needs
 
--- src/walk.rt:286:5
 returns : tie.Need-returns
 returns c = ((λ o l h f. steps.by-excluded-string _ _ _ _ _ _ _ _ _ _ h f (c .before .before .before .before .before .before .before .before .before .before .before .before .before .before .before .before .step .ensures) (c .before .before .before .before .before .before .before .before .before .before .before .before .before .before .excluded4 .ensures o l) (c .before .before .before .before .before .before .before .before .before .before .excluded .ensures o l) (c .before .before .before .before .before .before .excluded-wide .ensures o l) (c .before .before .excluded-copy .ensures o l)), refl)
 

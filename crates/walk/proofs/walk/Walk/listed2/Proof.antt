@@ -8,15 +8,12 @@ use Rattle.walk.proofs.walk.Walk.listed2.Reads as reads
 use Rattle.walk.proofs.walk.Walk.listed2.Lts as lts
 use Rattle.sink.proofs.Sink.listed2.Reads as listed2-reads
 
--- src/walk.rt:235:19
 listed2-requires : tie.Need-listed2-requires
 listed2-requires c κs = search needs
 
--- src/walk.rt:230:5
 same-length : tie.Need-same-length
 same-length c = search needs
 
--- src/walk.rt:230:5
 returns : tie.Need-returns
 returns c = ((λ o w. steps.by-lists _ _ _ (_ ∷ _ ∷ []) (c .before .before .listed2 .ensures o w)), refl)
 

@@ -7,15 +7,12 @@ use Rattle.walk.proofs.walk.Walk.listed_copy.Reads as reads
 use Rattle.walk.proofs.walk.Walk.listed_copy.Lts as lts
 use Rattle.sink.proofs.Sink.listed_copy.Reads as listed-copy-reads
 
--- src/walk.rt:257:19
 listed-copy-requires : tie.Need-listed-copy-requires
 listed-copy-requires c κs = search needs
 
--- src/walk.rt:252:5
 same-length : tie.Need-same-length
 same-length c = search needs
 
--- src/walk.rt:252:5
 returns : tie.Need-returns
 returns c = ((λ o w. steps.by-lists _ _ _ _ (c .before .before .listed-copy .ensures o w)), refl)
 

@@ -7,19 +7,15 @@ use Rattle.walk.proofs.walk.Walk.listed_temporary.Reads as reads
 use Rattle.walk.proofs.walk.Walk.listed_temporary.Lts as lts
 use Rattle.sink.proofs.Sink.listed_temporary.Reads as listed-temporary-reads
 
--- src/walk.rt:246:19
 listed-temporary-requires : tie.Need-listed-temporary-requires
 listed-temporary-requires c κs = search needs
 
--- src/walk.rt:241:5
 same-length : tie.Need-same-length
 same-length c = search needs
 
--- src/walk.rt:241:5
 same-length-2 : tie.Need-same-length-2
 same-length-2 c = search needs
 
--- src/walk.rt:241:5
 returns : tie.Need-returns
 returns c = ((λ o. law.by-event _ _ _ _ (c .before .before .before .before .listed-temporary .ensures o)), refl)
 

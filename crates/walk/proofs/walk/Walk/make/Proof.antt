@@ -7,15 +7,12 @@ use Rattle.walk.proofs.walk.Walk.make.Reads as reads
 use Rattle.walk.proofs.walk.Walk.make.Lts as lts
 use Rattle.sink.proofs.cells.make.Reads as make-reads
 
--- src/walk.rt:140:9
 make-requires : tie.Need-make-requires
 make-requires c κs = search needs
 
--- src/walk.rt:137:5
 same-length : tie.Need-same-length
 same-length c = search needs
 
--- src/walk.rt:137:5
 returns : tie.Need-returns
 returns c = ((λ o l. law.by-event _ _ _ _ (c .before .before .make .ensures o l _)), refl)
 

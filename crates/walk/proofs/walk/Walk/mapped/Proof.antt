@@ -10,27 +10,21 @@ use Rattle.sink.proofs.Sink.put.Reads as put-reads
 use Rattle.sink.proofs.Sink.put2.Reads as put2-reads
 use Rattle.sink.proofs.Sink.put4.Reads as put4-reads
 
--- src/walk.rt:198:19
 put4-requires : tie.Need-put4-requires
 put4-requires c κs = search needs
 
--- src/walk.rt:198:19
 put-requires : tie.Need-put-requires
 put-requires c κs = search needs
 
--- src/walk.rt:198:19
 put2-requires : tie.Need-put2-requires
 put2-requires c κs = search needs
 
--- src/walk.rt:198:19
 helper-requires : tie.Need-helper-requires
 helper-requires c κs = search needs
 
--- src/walk.rt:193:5
 same-length : tie.Need-same-length
 same-length c = search needs
 
--- src/walk.rt:193:5
 returns : tie.Need-returns
 returns c = ((λ l w. steps.by-mapped _ _ _ _ _ _ (c .before .before .before .before .before .before .before .before .before .before .before .before .before .before .put4 .ensures l w) (c .before .before .before .before .before .before .before .before .before .before .put .ensures l w) (c .before .before .before .before .before .before .put2 .ensures l w) (c .before .before .helper .ensures l w)), refl)
 

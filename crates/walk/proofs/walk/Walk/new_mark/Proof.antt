@@ -7,15 +7,12 @@ use Rattle.walk.proofs.walk.Walk.new_mark.Reads as reads
 use Rattle.walk.proofs.walk.Walk.new_mark.Lts as lts
 use Rattle.sink.proofs.Sink.new_mark.Reads as new-mark-reads
 
--- src/walk.rt:130:19
 new-mark-requires : tie.Need-new-mark-requires
 new-mark-requires c κs = search needs
 
--- src/walk.rt:125:5
 same-length : tie.Need-same-length
 same-length c = search needs
 
--- src/walk.rt:125:5
 returns : tie.Need-returns
 returns c = ((λ l w. law.by-event _ _ _ _ (c .before .before .new-mark .ensures l w)), refl)
 

@@ -9,15 +9,12 @@ use Rattle.walk.proofs.walk.Walk.passes.Reads as reads
 use Rattle.walk.proofs.walk.Walk.passes.Lts as lts
 use Rattle.sink.proofs.Sink.full.Reads as full-reads
 
--- src/walk.rt:46:13
 full-requires : tie.Need-full-requires
 full-requires c κs = search needs
 
--- src/walk.rt:46:13
 returns : tie.Need-returns
 returns c = c .full .ensures ∙ ap (λ (b : Bool). b && ltb treeLimit (c .before .before .before .args .self .sink .tree)) (sym (c .before .before .if1 .taken))
 
--- src/walk.rt:41:5
 returns-2 : tie.Need-returns-2
 returns-2 c = search needs
 

@@ -8,15 +8,12 @@ use Rattle.walk.proofs.walk.Walk.put2.Reads as reads
 use Rattle.walk.proofs.walk.Walk.put2.Lts as lts
 use Rattle.sink.proofs.Sink.put2.Reads as put2-reads
 
--- src/walk.rt:37:19
 put2-requires : tie.Need-put2-requires
 put2-requires c κs = search needs
 
--- src/walk.rt:32:5
 same-length : tie.Need-same-length
 same-length c = search needs
 
--- src/walk.rt:32:5
 returns : tie.Need-returns
 returns c = (((λ l w. law.by-puts _ _ _ (_ ∷ _ ∷ []) (c .before .before .put2 .ensures l w))), refl)
 

@@ -8,27 +8,21 @@ use Rattle.walk.proofs.walk.Walk.refuse.Reads as reads
 use Rattle.walk.proofs.walk.Walk.refuse.Lts as lts
 use Rattle.sink.proofs.Sink.put2.Reads as put2-reads
 
--- src/walk.rt:101:23
 put2-requires : tie.Need-put2-requires
 put2-requires c κs = search needs
 
--- src/walk.rt:100:13
 same-length : tie.Need-same-length
 same-length c = search needs
 
--- src/walk.rt:100:13
 returns : tie.Need-returns
 returns c = (((λ l w. law.by-refusal _ _ _ _ _ (law.first-refusal _ _ (c .before .before .before .before .if1 .taken)) (c .before .before .put2 .ensures l w))), refl)
 
--- src/walk.rt:107:19
 put2-requires-2 : tie.Need-put2-requires-2
 put2-requires-2 c κs = search needs
 
--- src/walk.rt:94:5
 same-length-2 : tie.Need-same-length-2
 same-length-2 c = search needs
 
--- src/walk.rt:94:5
 returns-2 : tie.Need-returns-2
 returns-2 c = (((λ l w. law.by-refusal _ _ _ _ _ (law.later-refusal _ _ (c .before .before .before .before .if1 .left)) (c .before .before .put22 .ensures l w))), refl)
 

@@ -11,31 +11,24 @@ use Rattle.sink.proofs.Sink.put4.Reads as put4-reads
 use Rattle.sink.proofs.Sink.put_wide.Reads as put-wide-reads
 use Rattle.tree.proofs.skip.step.Reads as step-reads
 
--- src/walk.rt:209:13
 step-requires : tie.Need-step-requires
 step-requires c κs = search needs
 
--- src/walk.rt:211:19
 put4-requires : tie.Need-put4-requires
 put4-requires c κs = search needs
 
--- src/walk.rt:211:19
 put-requires : tie.Need-put-requires
 put-requires c κs = search needs
 
--- src/walk.rt:211:19
 put-wide-requires : tie.Need-put-wide-requires
 put-wide-requires c κs = search needs
 
--- src/walk.rt:211:19
 copy-requires : tie.Need-copy-requires
 copy-requires c κs = search needs
 
--- src/walk.rt:205:5
 same-length : tie.Need-same-length
 same-length c = search needs
 
--- src/walk.rt:205:5
 returns : tie.Need-returns
 returns c = ((λ l w h f. steps.by-string _ _ _ _ _ _ _ _ _ _ h f (c .before .before .before .before .before .before .before .before .before .before .before .before .before .before .before .before .step .ensures) (c .before .before .before .before .before .before .before .before .before .before .before .before .before .before .put4 .ensures l w) (c .before .before .before .before .before .before .before .before .before .before .put .ensures l w) (c .before .before .before .before .before .before .put-wide .ensures l w) (c .before .before .copy .ensures l w)), refl)
 

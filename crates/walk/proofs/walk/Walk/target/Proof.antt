@@ -8,15 +8,12 @@ use Rattle.walk.proofs.walk.Walk.target.Reads as reads
 use Rattle.walk.proofs.walk.Walk.target.Lts as lts
 use Rattle.sink.proofs.Sink.full.Reads as full-reads
 
--- src/walk.rt:53:12
 full-requires : tie.Need-full-requires
 full-requires c κs = search needs
 
--- src/walk.rt:54:13
 returns : tie.Need-returns
 returns c = ap (λ (b : Bool). cond b 16383 (c .before .before .before .args .p)) (sym (sym (c .before .full .ensures) ∙ c .if1 .taken))
 
--- src/walk.rt:49:5
 returns-2 : tie.Need-returns-2
 returns-2 c = ap (λ (b : Bool). cond b 16383 (c .before .before .before .args .p)) (sym (sym (c .before .full .ensures) ∙ c .if1 .left))
 

@@ -8,23 +8,18 @@ use Rattle.walk.proofs.walk.Walk.temporary.Reads as reads
 use Rattle.walk.proofs.walk.Walk.temporary.Lts as lts
 use Rattle.sink.proofs.Sink.temporary.Reads as temporary-reads
 
--- src/walk.rt:48:19
 temporary-requires : tie.Need-temporary-requires
 temporary-requires c κs = search needs
 
--- src/walk.rt:43:5
 same-length : tie.Need-same-length
 same-length c = search needs
 
--- src/walk.rt:43:5
 same-length-2 : tie.Need-same-length-2
 same-length-2 c = search needs
 
--- src/walk.rt:43:5
 same-length-3 : tie.Need-same-length-3
 same-length-3 c = search needs
 
--- src/walk.rt:43:5
 returns : tie.Need-returns
 returns c = ((law.by-event _ _ _ _ (c .before .before .before .before .before .before .temporary .ensures)), refl)
 

@@ -8,15 +8,12 @@ use Rattle.walk.proofs.walk.Walk.wide.Reads as reads
 use Rattle.walk.proofs.walk.Walk.wide.Lts as lts
 use Rattle.sink.proofs.Sink.put_wide.Reads as put-wide-reads
 
--- src/walk.rt:51:19
 put-wide-requires : tie.Need-put-wide-requires
 put-wide-requires c κs = search needs
 
--- src/walk.rt:46:5
 same-length : tie.Need-same-length
 same-length c = search needs
 
--- src/walk.rt:46:5
 returns : tie.Need-returns
 returns c = (((λ l w h. law.by-wide _ _ _ _ h (c .before .before .put-wide .ensures l w))), refl)
 
