@@ -8,13 +8,13 @@ use native.Mathlib.Omega.{arith}
 use lib.Dec.{eqb}
 use lib.ListN.{length}
 use borrow.Author.Tests.{eqb-true, eq-eqb}
-use Rattle.tree.specs.Tree.{Node, Fields, Items, wideBytes, count, mapOf, encode, encodeFields, encodePiece}
+use Rattle.tree.specs.Tree.{Node, Items, wideBytes, count, encode}
 use Rattle.tree.specs.Tree.Node.{node}
 use Rattle.tree.specs.Tree.Fields.{done, absent, field}
 use Rattle.tree.specs.Tree.Piece.{one, list}
-use Rattle.tree.specs.Grammar.{Sort, fieldsOf, kinds}
+use Rattle.tree.specs.Grammar.{fieldsOf, kinds}
 use Rattle.tree.specs.Read.{byteAt, wideAt}
-use Rattle.tree.specs.Look.{Seen, seen, onward, lookItems, lookField, lookSlot, lookFields, lookNode}
+use Rattle.tree.specs.Look.{Seen, seen, onward, lookItems, lookFields, lookNode}
 use Rattle.tree.specs.Answer.{Wide}
 use Rattle.lowering.specs.Parts.{position, kind, is, standsIn, stands, nodeAt, itemsAt, pieceIn, gather}
 use Rattle.lowering.specs.Made.{Context}
@@ -22,7 +22,6 @@ use Rattle.lowering.specs.Patterns.{shape, properties, value, rest, hasRest, ha
 use Rattle.lowering.specs.Patterns.Shape.{objectPattern, arrayPattern}
 use Rattle.lowering.specs.Rests.{hasNoProperties}
 use Rattle.lowering.specs.Declarations.{isName, isLowered, declarators, declarationLacksForm}
-use Rattle.lowering.specs.Collect.{isContainer}
 use Rattle.lowering.specs.Walk.{ruleOf}
 use Rattle.lowering.proofs.All.{AllItems}
 use Rattle.lowering.proofs.Cases.{by-test, by-shape, object-is, array-is, or-first}
@@ -34,20 +33,20 @@ use Rattle.pattern.specs.Source.{builderOf, readOf, afterRead}
 use Rattle.pattern.proofs.Sizes.{counted-whole, declarations-fit}
 use Rattle.direct.specs.Events.{Place, Emit, puts, cell, marks, refused, contextOf, emits}
 use Rattle.direct.specs.Events.Deed.{does, refuses}
-use Rattle.direct.specs.Emit.{say, _▷_, inner, below, stays, emitsPiece, emitsFields, inTurn}
+use Rattle.direct.specs.Emit.{say, _▷_, inner, inTurn}
 use Rattle.direct.specs.Views.{objectAt, objectRestAt, saysCell, emitsView}
 use Rattle.direct.specs.Views.View.{replacing, taking}
 use Rattle.direct.specs.Keys.{emitsRest}
 use Rattle.direct.specs.Handed.{declaratorMade, declaratorExcludes}
 use Rattle.direct.specs.Declared.{declarationAt, emitsKeyValue, emitsOwnKeys, emitsOwnPattern, emitsOwnRest, emitsFound, emitsPattern, emitsLowered, emitsDeclarator, declaratorCount}
-use Rattle.direct.proofs.Threads.{then-assoc, say-nothing, say-say, say-puts}
+use Rattle.direct.proofs.Threads.{then-assoc, say-nothing, say-say}
 use Rattle.direct.proofs.Stays.{emits-nowhere}
 use Rattle.direct.proofs.Items.{turn-same}
 use Rattle.direct.proofs.Declared.{pattern-object, pattern-array, declaration-refused, declaration-done}
 use Rattle.direct.proofs.Ways.{declarator-lowered, declarator-left, lowered-name, lowered-value, own-keys-none, own-keys-some, own-pattern-none, own-pattern-some, own-rest-none, own-rest-some}
 use Rattle.walk.specs.Run.{Going, Does, Clear}
 use Rattle.walk.specs.Whole.{GoodItems, Good}
-use Rattle.walk.specs.Turns.{viewOf, deepMode, suits, turnOf, turnsOf, sourceOf, reads, startOf}
+use Rattle.walk.specs.Turns.{leafKind, viewOf, deepMode, suits, turnOf, turnsOf, sourceOf, reads, startOf}
 use Rattle.walk.specs.declared.look.Start.{Start}
 use Rattle.walk.specs.declared.look.Start.the-variants.{Value, Missing}
 use Rattle.walk.proofs.Running.{does-then, does-nothing, does-as, does-to, clear-after, clear-still}
@@ -56,6 +55,7 @@ use Rattle.walk.proofs.Again.{Quiet, own-again}
 use Rattle.walk.proofs.Args.{does-from}
 use Rattle.walk.proofs.Opened.{BinderOpen, DeclarationOpen, no-good, kind-here, is-here, position-here, good-copied, good-short, good-two, declarator-open, declaration-open}
 use Rattle.walk.proofs.Turning.{turn-8, turns-7, turns-9, turns-10, suit-7, suit-9, suit-10}
+use Rattle.emit.proofs.Leaves.{leaf-stays}
 use Rattle.emit.proofs.Finding.{not-true, object-as, level-up, lifted, rest-stands, Turned, Deep}
 
 -- ---- places
@@ -289,28 +289,6 @@ module _ (t : List ℕ) where
 
   -- ---- low: a starting value that is a name is read again and again; anything else goes into a temporary first
 
-  text-written : (R : ℕ → Seen Node) (l : Bool) (c : Place) (bit q : ℕ) (fs : Fields) → emitsFields l c fs ≡ say (puts (encodeFields fs))
-      → emitsFields l c (lookSlot t R Sort.text bit q .value fs) ≡ say (puts (encodeFields (lookSlot t R Sort.text bit q .value fs)))
-  unfolding lookSlot lookField emitsFields emitsPiece encodeFields encodePiece
-  text-written R l c zero q fs h = h
-  text-written R l c (suc bit) q fs h = ap (λ (e : Emit). emitsPiece l c (lookField t R Sort.text q .value) ▷ e) h ∙ say-puts (encodePiece (lookField t R Sort.text q .value)) (encodeFields fs)
-
-  number-written : (R : ℕ → Seen Node) (l : Bool) (c : Place) (bit q : ℕ) (fs : Fields) → emitsFields l c fs ≡ say (puts (encodeFields fs))
-      → emitsFields l c (lookSlot t R Sort.number bit q .value fs) ≡ say (puts (encodeFields (lookSlot t R Sort.number bit q .value fs)))
-  unfolding lookSlot lookField emitsFields emitsPiece encodeFields encodePiece
-  number-written R l c zero q fs h = h
-  number-written R l c (suc bit) q fs h = ap (λ (e : Emit). emitsPiece l c (lookField t R Sort.number q .value) ▷ e) h ∙ say-puts (encodePiece (lookField t R Sort.number q .value)) (encodeFields fs)
-
-  name-fields : (R : ℕ → Seen Node) (l : Bool) (c : Place) (m q : ℕ) → emitsFields l c (lookFields t R (fieldsOf 18) m q .value) ≡ say (puts (encodeFields (lookFields t R (fieldsOf 18) m q .value)))
-  unfolding lookFields fieldsOf kinds emitsFields encodeFields
-  name-fields R l c m q = text-written R l c (m % 2) q _ (number-written R l c (m / 2 % 2) _ done refl)
-
-  name-stays : (R : ℕ → Seen Node) (c : Place) (at m q : ℕ) → stays c (node at 18 (lookFields t R (fieldsOf 18) m q .value)) ≡ say (puts (encode (node at 18 (lookFields t R (fieldsOf 18) m q .value))))
-  unfolding stays encode
-  name-stays R c at m q =
-      let fs : Fields = lookFields t R (fieldsOf 18) m q .value in
-      ap (λ (e : Emit). say (puts (18 ∷ mapOf fs ∷ [])) ▷ e) (name-fields R (isContainer 18) (below c (node at 18 fs)) m q) ∙ say-puts (18 ∷ mapOf fs ∷ []) (encodeFields fs)
-
   name-kind : (d at : ℕ) → Good t (suc d) at → isName (lookNode t (suc d) at .value) ≡ true → byteAt t at ≡ 18
   unfolding isName Good
   name-kind d at good h =
@@ -318,9 +296,9 @@ module _ (t : List ℕ) where
       eqb-true (byteAt t at) 18 (sym (is-here t d at 18) ∙ or-first (is 18 n) (is 20 n) (is-here t d at 20 ∙ good .temporary) h)
 
   name-emits : (c : Place) (d at : ℕ) → byteAt t at ≡ 18 → emits c (lookNode t (suc d) at .value) ≡ say (puts (encode (lookNode t (suc d) at .value)))
-  unfolding lookNode ruleOf
+  unfolding lookNode ruleOf leafKind
   name-emits c d at k =
-      rw k (emits-nowhere c (node at 18 (lookFields t (λ q. lookNode t d q) (fieldsOf 18) (byteAt t (onward t at 1)) (onward t at 2) .value)) refl ∙ name-stays (λ q. lookNode t d q) c at (byteAt t (onward t at 1)) (onward t at 2))
+      rw k (emits-nowhere c (node at 18 (lookFields t (λ q. lookNode t d q) (fieldsOf 18) (byteAt t (onward t at 1)) (onward t at 2) .value)) refl ∙ leaf-stays t (λ q. lookNode t d q) c 18 at (byteAt t (onward t at 1)) (onward t at 2) refl)
 
   -- a name is copied
   pub name-copied : (c : Place) (d at : ℕ) → Good t d at → isName (lookNode t d at .value) ≡ true → say (puts (part at (lookNode t d at .next) t)) ≡ emits c (lookNode t d at .value)

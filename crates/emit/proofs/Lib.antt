@@ -1,3 +1,4 @@
+pub mod Leaves
 pub mod MovedSizes
 pub mod Excluding
 pub mod Finding

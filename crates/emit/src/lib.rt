@@ -76,6 +76,7 @@ use walk::pieces::string;
 use walk::place::Place;
 use walk::place::container;
 use walk::place::inside;
+use walk::place::is_leaf;
 use walk::place::less;
 use walk::place::marked;
 use walk::place::parts_of;
@@ -194,7 +195,7 @@ fn pt(
     node(w, t, out, list, work, c)
 }
 
-// A node as it stands.
+// A node as it stands; one without nodes in it is copied whole.
 fn plain(w: Walk, t: &[u8], out: &mut [u8], list: &mut [u8], work: &mut [u8], c: Place) -> Walk
     ensures { λ r. ⌜ (r .at ≡ lookNode (now (t .entry)) (c .left) (w .at) .next) × (Good (now (t .entry)) (c .left) (w .at) → Does (goingOf (now (out .entry)) (now (list .entry)) (now (work .entry)) w) (goingOf (now (out .exit)) (now (list .exit)) (now (work .exit)) r) (stays (placeOf c) (lookNode (now (t .entry)) (c .left) (w .at) .value))) ⌝ }
 {
@@ -204,6 +205,9 @@ fn plain(w: Walk, t: &[u8], out: &mut [u8], list: &mut [u8], work: &mut [u8], c:
     }
     let start = w.at;
     let kind = peek(t, start);
+    if is_leaf(kind) {
+        return w.copy(t, out, skip(t, left, start));
+    }
     let map = peek(t, step(t, start, 1));
     let v = w.copy(t, out, step(t, start, 2));
     let inner = parts_of(c, kind, left - 1);

@@ -6,20 +6,26 @@ ghost use mathlib.Core.Path.{_≡_};
 ghost use Prim.Native.Nat.{ℕ};
 ghost use lib.Dec.{ltb};
 ghost use mathlib.Core.List.{List, [], _∷_};
-ghost use Rattle.sink.specs.Machine.{treeLimit, stateOf, step, steps, puts, low, high, part};
+ghost use Rattle.sink.specs.declared.Sink.{Sink};
+ghost use Rattle.sink.specs.Machine.{treeLimit, withTree, stateOf, step, steps, puts, low, high, part};
 ghost use Rattle.sink.specs.Machine.Event.{put, helper, temporary, newMark};
+
+// A byte of the tree at a position; the next position. Past the limit nothing is written.
+fn put_at(out: &mut [u8], at: usize, b: u8) -> usize
+    ensures { λ r. ⌜ ((k : Sink) (l w : List ℕ) → stateOf (now (out .exit)) l w (withTree k r) ≡ step (stateOf (now (out .entry)) l w (withTree k at)) (put b)) ⌝ }
+{
+    if at < 32768 {
+        bytes::put_byte(out, at, b);
+        return at + 1;
+    }
+    32769
+}
 
 impl Sink {
     pub fn put(mut self, out: &mut [u8], b: u8) -> Sink
         ensures { λ r. ⌜ ((l w : List ℕ) → stateOf (now (out .exit)) l w r ≡ step (stateOf (now (out .entry)) l w self) (put b)) ⌝ }
     {
-        let at = self.tree;
-        if at < 32768 {
-            bytes::put_byte(out, at, b);
-            self.tree = at + 1;
-            return self;
-        }
-        self.tree = 32769;
+        self.tree = put_at(out, self.tree, b);
         self
     }
 
@@ -50,17 +56,18 @@ impl Sink {
     }
 
     // The bytes of `from` from a position up to another.
-    pub fn copy(self, out: &mut [u8], from: &[u8], start: usize, end: usize) -> Sink
+    pub fn copy(mut self, out: &mut [u8], from: &[u8], start: usize, end: usize) -> Sink
         ensures { λ r. ⌜ ((l w : List ℕ) → stateOf (now (out .exit)) l w r ≡ steps (stateOf (now (out .entry)) l w self) (puts (part start end (now (from .entry))))) ⌝ }
     {
-        let mut k = self;
+        let mut at = self.tree;
         let mut i = start;
         let stop = bytes::least(end, from.len());
         while i < stop {
-            k = k.put(out, from[i]);
+            at = put_at(out, at, from[i]);
             i += 1;
         }
-        k
+        self.tree = at;
+        self
     }
 
     // The node of helper h.

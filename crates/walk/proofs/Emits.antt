@@ -28,6 +28,7 @@ use Rattle.direct.proofs.Threads.{say-nothing}
 use Rattle.direct.proofs.Stays.{emits-nowhere}
 use Rattle.direct.proofs.Marks.{emits-item}
 use Rattle.walk.specs.Run.{Going, Does}
+use Rattle.walk.specs.Turns.{leafKind}
 use Rattle.walk.specs.Whole.{holeAt, itemDeeds, slotDeeds, GoodItem, GoodItems, GoodList, GoodField, GoodSlot, GoodFields, GoodHere, Good}
 use Rattle.walk.proofs.Running.{does-then, does-nothing, does-as}
 
@@ -380,3 +381,7 @@ three false false c = refl
 pub container-is : (k : ℕ) → eqb k 1 || (eqb k 2 || eqb k 16) ≡ isContainer k
 unfolding isContainer
 container-is k = three (eqb k 1) (eqb k 2) (eqb k 16)
+
+pub leaf-is : (k : ℕ) → eqb k 18 || (eqb k 38 || (eqb k 22 || eqb k 19)) ≡ leafKind k
+unfolding leafKind
+leaf-is k = refl

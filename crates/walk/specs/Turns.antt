@@ -121,6 +121,10 @@ keyString k =
       | other ↦ []
     ]
 
+-- a kind without nodes and marks in it: names, literals, keys
+unfoldable pub leafKind : ℕ → Bool
+leafKind k = eqb k 18 || (eqb k 38 || (eqb k 22 || eqb k 19))
+
 -- the level of parameters or declarators
 abbrev pub levelOf : Bool → ℕ → ℕ
 levelOf inner left = cond inner (left - 1) left

@@ -10,6 +10,7 @@ ghost use Rattle.lowering.specs.Walk.{opensScope};
 ghost use Rattle.direct.specs.Emit as emit;
 ghost use Rattle.direct.specs.Emit.{inner, unused, below, marking};
 ghost use Rattle.walk.specs.Whole.{placeOf};
+ghost use Rattle.walk.specs.Turns.{leafKind};
 
 // Where a node stands: at root, all of an expression statement, the mark of the containing statement, levels left.
 pub struct Place {
@@ -30,6 +31,13 @@ pub fn container(kind: usize) -> bool
     ensures { λ r. ⌜ r ≡ isContainer kind ⌝ }
 {
     kind == 1 || (kind == 2 || kind == 16)
+}
+
+// Whether a kind has no nodes in it.
+pub fn is_leaf(kind: usize) -> bool
+    ensures { λ r. ⌜ r ≡ leafKind kind ⌝ }
+{
+    kind == 18 || (kind == 38 || (kind == 22 || kind == 19))
 }
 
 fn but_not(a: bool, b: bool) -> bool

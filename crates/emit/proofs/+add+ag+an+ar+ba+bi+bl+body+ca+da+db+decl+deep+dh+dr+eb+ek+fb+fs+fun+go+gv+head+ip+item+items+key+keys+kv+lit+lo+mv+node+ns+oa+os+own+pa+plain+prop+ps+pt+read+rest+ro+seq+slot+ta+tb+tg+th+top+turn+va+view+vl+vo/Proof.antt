@@ -22,6 +22,8 @@ use Rattle.tree.proofs.Skipping as skipping
 use Rattle.walk.proofs.Emits as law
 use Rattle.walk.proofs.place.container.Reads as container-reads
 use Rattle.walk.proofs.place.inside.Reads as inside-reads
+use Rattle.walk.proofs.place.is_leaf.Reads as is-leaf-reads
+use Rattle.emit.proofs.Leaves as leaves
 use Rattle.walk.proofs.place.less.Reads as less-reads
 use Rattle.walk.proofs.place.marked.Reads as marked-reads
 use Rattle.walk.proofs.place.parts_of.Reads as parts-of-reads
@@ -925,7 +927,7 @@ abbrev pa-claims : ℕ → pa-lts.Claims
 pa-claims t = (peek-reads.Asked, peek-reads.Learnt, step-reads.Asked, step-reads.Learnt, wide-at-reads.Asked, wide-at-reads.Learnt, own-below t, own.Post, to-reads.Asked, to-reads.Learnt, less-reads.Asked, less-reads.Learnt, under-reads.Asked, under-reads.Learnt, seq-below t, seq.Post, os-below t, os.Post, put2-reads.Asked, put2-reads.Learnt, inside-reads.Asked, inside-reads.Learnt, view-below t, view.Post, source-reads.Asked, source-reads.Learnt, deep-below t, deep.Post)
 
 abbrev plain-claims : ℕ → plain-lts.Claims
-plain-claims t = (peek-reads.Asked, peek-reads.Learnt, step-reads.Asked, step-reads.Learnt, copy-reads.Asked, copy-reads.Learnt, parts-of-reads.Asked, parts-of-reads.Learnt, row-reads.Asked, row-reads.Learnt, container-reads.Asked, container-reads.Learnt, fs-below t, fs.Post)
+plain-claims t = (peek-reads.Asked, peek-reads.Learnt, is-leaf-reads.Asked, is-leaf-reads.Learnt, skip-reads.Asked, skip-reads.Learnt, copy-reads.Asked, copy-reads.Learnt, step-reads.Asked, step-reads.Learnt, parts-of-reads.Asked, parts-of-reads.Learnt, row-reads.Asked, row-reads.Learnt, container-reads.Asked, container-reads.Learnt, fs-below t, fs.Post)
 
 abbrev prop-claims : ℕ → prop-lts.Claims
 prop-claims t = (less-reads.Asked, less-reads.Learnt, step-reads.Asked, step-reads.Learnt, copy-reads.Asked, copy-reads.Learnt, inside-reads.Asked, inside-reads.Learnt, key-below t, key.Post, view-below t, view.Post)
@@ -3695,6 +3697,21 @@ plain-returns t c = (skipping.node-none _ _ _ (c .if1 .taken), law.good-none _ _
 plain-peek-requires : (t : ℕ) → plain-lts.Need-peek-requires (plain-claims t) (plain-at t) plain.Post
 plain-peek-requires t c κs = tt
 
+plain-is-leaf-requires : (t : ℕ) → plain-lts.Need-is-leaf-requires (plain-claims t) (plain-at t) plain.Post
+plain-is-leaf-requires t c κs = tt
+
+plain-skip-requires : (t : ℕ) → plain-lts.Need-skip-requires (plain-claims t) (plain-at t) plain.Post
+plain-skip-requires t c κs = tt
+
+plain-copy-requires : (t : ℕ) → plain-lts.Need-copy-requires (plain-claims t) (plain-at t) plain.Post
+plain-copy-requires t c κs = tt
+
+plain-same-length : (t : ℕ) → plain-lts.Need-same-length (plain-claims t) (plain-at t) plain.Post
+plain-same-length t c = search needs
+
+plain-returns-2 : (t : ℕ) → plain-lts.Need-returns-2 (plain-claims t) (plain-at t) plain.Post
+plain-returns-2 t c = (c .before .before .copy .ensures .1 ∙ c .before .before .before .skip .ensures, leaves.leaf-does _ _ _ _ _ _ _ (c .before .before .before .before .before .before .before .peek .ensures .value) (c .before .before .before .before .before .before .is-leaf .ensures) (c .before .before .before .before .before .if2 .taken) (c .before .before .before .skip .ensures) (c .before .before .copy .ensures .0 _ _))
+
 plain-step-requires : (t : ℕ) → plain-lts.Need-step-requires (plain-claims t) (plain-at t) plain.Post
 plain-step-requires t c κs = tt
 
@@ -3704,11 +3721,11 @@ plain-peek-requires-2 t c κs = tt
 plain-step-requires-2 : (t : ℕ) → plain-lts.Need-step-requires-2 (plain-claims t) (plain-at t) plain.Post
 plain-step-requires-2 t c κs = tt
 
-plain-copy-requires : (t : ℕ) → plain-lts.Need-copy-requires (plain-claims t) (plain-at t) plain.Post
-plain-copy-requires t c κs = tt
+plain-copy-requires-2 : (t : ℕ) → plain-lts.Need-copy-requires-2 (plain-claims t) (plain-at t) plain.Post
+plain-copy-requires-2 t c κs = tt
 
 plain-sub-parts-of : (t : ℕ) → plain-lts.Need-sub-parts-of (plain-claims t) (plain-at t) plain.Post
-plain-sub-parts-of t c = omega (arith, c .before .before .before .before .before .before .before .before .if1 .left)
+plain-sub-parts-of t c = omega (arith, c .before .before .before .before .before .before .before .before .before .before .if1 .left)
 
 plain-parts-of-requires : (t : ℕ) → plain-lts.Need-parts-of-requires (plain-claims t) (plain-at t) plain.Post
 plain-parts-of-requires t c κs = tt
@@ -3720,10 +3737,7 @@ plain-container-requires : (t : ℕ) → plain-lts.Need-container-requires (plai
 plain-container-requires t c κs = tt
 
 plain-fs-requires : (t : ℕ) → plain-lts.Need-fs-requires (plain-claims t) (plain-at t) plain.Post
-plain-fs-requires t c κs = (omega (arith, c .before .before .before .before .before .before .before .before .before .before .before .before .before .before .before .before .before .before .before .pre .0, c .before .before .before .before .before .parts-of .ensures .1, c .before .before .before .before .before .before .before .before .before .before .before .before .before .before .if1 .left), tt)
-
-plain-same-length : (t : ℕ) → plain-lts.Need-same-length (plain-claims t) (plain-at t) plain.Post
-plain-same-length t c = search needs
+plain-fs-requires t c κs = (omega (arith, c .before .before .before .before .before .before .before .before .before .before .before .before .before .before .before .before .before .before .before .before .before .pre .0, c .before .before .before .before .before .parts-of .ensures .1, c .before .before .before .before .before .before .before .before .before .before .before .before .before .before .before .before .if1 .left), tt)
 
 plain-same-length-2 : (t : ℕ) → plain-lts.Need-same-length-2 (plain-claims t) (plain-at t) plain.Post
 plain-same-length-2 t c = search needs
@@ -3731,8 +3745,11 @@ plain-same-length-2 t c = search needs
 plain-same-length-3 : (t : ℕ) → plain-lts.Need-same-length-3 (plain-claims t) (plain-at t) plain.Post
 plain-same-length-3 t c = search needs
 
-plain-returns-2 : (t : ℕ) → plain-lts.Need-returns-2 (plain-claims t) (plain-at t) plain.Post
-plain-returns-2 t c = (law.plain-next _ _ _ _ _ _ _ _ _ _ _ (c .before .before .before .before .before .before .before .before .before .before .before .before .before .before .before .before .before .before .before .before .before .if1 .left) (c .before .before .before .before .before .before .before .before .before .before .before .before .before .before .before .before .before .before .before .before .peek .ensures .value) (c .before .before .before .before .before .before .before .before .before .before .before .before .before .before .before .before .before .before .before .step .ensures) (c .before .before .before .before .before .before .before .before .before .before .before .before .before .before .before .before .before .before .peek2 .ensures .value) (c .before .before .before .before .before .before .before .before .row .ensures) (c .before .before .before .before .before .before .before .before .before .before .before .before .before .before .before .before .step2 .ensures) (c .before .before .before .before .before .before .before .before .before .before .before .before .before .before .before .copy .ensures .1) (c .before .before .before .before .before .before .before .before .before .before .before .before .parts-of .ensures .1) (c .before .before .before .before .before .before .fs .ensures .0), law.plain-does _ _ _ _ _ _ _ _ _ _ _ _ _ (c .before .before .before .before .before .before .before .before .before .before .before .before .before .before .before .before .before .before .before .before .before .if1 .left) (c .before .before .before .before .before .before .before .before .before .before .before .before .before .before .before .before .before .before .before .before .peek .ensures .value) (c .before .before .before .before .before .before .before .before .before .before .before .before .before .before .before .before .before .before .before .step .ensures) (c .before .before .before .before .before .before .before .before .before .before .before .before .before .before .before .before .before .before .peek2 .ensures .value) (c .before .before .before .before .before .before .before .before .row .ensures) (c .before .before .before .before .before .before .before .before .before .before .before .before .before .before .before .before .step2 .ensures) (c .before .before .before .before .before .before .before .before .before .before .before .before .before .before .before .copy .ensures .1) (c .before .before .before .before .before .before .before .container .ensures) (c .before .before .before .before .before .before .before .before .before .before .before .before .parts-of .ensures .0) (c .before .before .before .before .before .before .before .before .before .before .before .before .parts-of .ensures .1) (c .before .before .before .before .before .before .before .before .before .before .before .before .before .before .before .copy .ensures .0 _ _) (c .before .before .before .before .before .before .fs .ensures .1))
+plain-same-length-4 : (t : ℕ) → plain-lts.Need-same-length-4 (plain-claims t) (plain-at t) plain.Post
+plain-same-length-4 t c = search needs
+
+plain-returns-3 : (t : ℕ) → plain-lts.Need-returns-3 (plain-claims t) (plain-at t) plain.Post
+plain-returns-3 t c = (law.plain-next _ _ _ _ _ _ _ _ _ _ _ (c .before .before .before .before .before .before .before .before .before .before .before .before .before .before .before .before .before .before .before .before .before .before .before .if1 .left) (c .before .before .before .before .before .before .before .before .before .before .before .before .before .before .before .before .before .before .before .before .before .before .peek .ensures .value) (c .before .before .before .before .before .before .before .before .before .before .before .before .before .before .before .before .before .before .before .step .ensures) (c .before .before .before .before .before .before .before .before .before .before .before .before .before .before .before .before .before .before .peek2 .ensures .value) (c .before .before .before .before .before .before .before .before .row .ensures) (c .before .before .before .before .before .before .before .before .before .before .before .before .before .before .before .before .step2 .ensures) (c .before .before .before .before .before .before .before .before .before .before .before .before .before .before .before .copy2 .ensures .1) (c .before .before .before .before .before .before .before .before .before .before .before .before .parts-of .ensures .1) (c .before .before .before .before .before .before .fs .ensures .0), law.plain-does _ _ _ _ _ _ _ _ _ _ _ _ _ (c .before .before .before .before .before .before .before .before .before .before .before .before .before .before .before .before .before .before .before .before .before .before .before .if1 .left) (c .before .before .before .before .before .before .before .before .before .before .before .before .before .before .before .before .before .before .before .before .before .before .peek .ensures .value) (c .before .before .before .before .before .before .before .before .before .before .before .before .before .before .before .before .before .before .before .step .ensures) (c .before .before .before .before .before .before .before .before .before .before .before .before .before .before .before .before .before .before .peek2 .ensures .value) (c .before .before .before .before .before .before .before .before .row .ensures) (c .before .before .before .before .before .before .before .before .before .before .before .before .before .before .before .before .step2 .ensures) (c .before .before .before .before .before .before .before .before .before .before .before .before .before .before .before .copy2 .ensures .1) (c .before .before .before .before .before .before .before .container .ensures) (c .before .before .before .before .before .before .before .before .before .before .before .before .parts-of .ensures .0) (c .before .before .before .before .before .before .before .before .before .before .before .before .parts-of .ensures .1) (c .before .before .before .before .before .before .before .before .before .before .before .before .before .before .before .copy2 .ensures .0 _ _) (c .before .before .before .before .before .before .fs .ensures .1))
 
 prop-less-requires : (t : ℕ) → prop-lts.Need-less-requires (prop-claims t) (prop-at t) prop.Post
 prop-less-requires t c κs = tt
@@ -6018,19 +6035,24 @@ pub +add+ag+an+ar+ba+bi+bl+body+ca+da+db+decl+deep+dh+dr+eb+ek+fb+fs+fun+go+gv+h
     (λ t. plain-lts.spec (plain-claims t) (plain-at t) plain.Post
     (plain-returns t)
     (plain-peek-requires t)
+    (plain-is-leaf-requires t)
+    (plain-skip-requires t)
+    (plain-copy-requires t)
+    (plain-same-length t)
+    (plain-returns-2 t)
     (plain-step-requires t)
     (plain-peek-requires-2 t)
     (plain-step-requires-2 t)
-    (plain-copy-requires t)
+    (plain-copy-requires-2 t)
     (plain-sub-parts-of t)
     (plain-parts-of-requires t)
     (plain-row-requires t)
     (plain-container-requires t)
     (plain-fs-requires t)
-    (plain-same-length t)
     (plain-same-length-2 t)
     (plain-same-length-3 t)
-    (plain-returns-2 t))
+    (plain-same-length-4 t)
+    (plain-returns-3 t))
     (λ t. prop-lts.spec (prop-claims t) (prop-at t) prop.Post
     (prop-less-requires t)
     (prop-step-requires t)
