@@ -11,8 +11,6 @@ use lib.Dec.{eqb}
 use lib.ListN.{length}
 use borrow.Author.Tests.{eq-eqb, ne-eqb, le-leb, lt-leb}
 use Rattle.tree.specs.Tree.{Node, Fields}
-use Rattle.tree.specs.Tree.Node.{node}
-use Rattle.tree.specs.Tree.Fields.{field}
 use Rattle.tree.specs.Grammar.{Sort, Field, fieldsOf}
 use Rattle.tree.specs.Rows.{sortFrom, sortOf, fieldsIn}
 use Rattle.tree.specs.Read.{byteAt, wideAt, sortIn}

@@ -12,7 +12,7 @@ use Rattle.tree.specs.Tree.Items.{none, hole, item}
 use Rattle.tree.specs.Read.{byteAt}
 use Rattle.tree.specs.Answer.{Peeked}
 use Rattle.tree.specs.Look.{seen, seenAs, onward, lookItem, lookItems, lookNode}
-use Rattle.lowering.specs.Parts.{nothing, kind, is, itemsAt, textAt, stands, only, gather, any, isEmpty, pieceIn, _+++_}
+use Rattle.lowering.specs.Parts.{kind, is, itemsAt, textAt, stands, only, gather, any, isEmpty, pieceIn, _+++_}
 use Rattle.lowering.specs.Made.{Context, string}
 use Rattle.lowering.specs.Patterns.{key, properties}
 use Rattle.lowering.specs.Keys as keys

@@ -1,9 +1,9 @@
 -- Runs of bytes as events: they add those bytes to their row, and nothing else.
 -- Assumes nothing.
-use mathlib.Core.Path.{_≡_, refl, sym, ap, _∙_}
+use mathlib.Core.Path.{_≡_, refl, ap}
 use mathlib.Core.Bool.{Bool, false}
-use mathlib.Core.List.{List, [], _∷_, _++_}
-use Prim.Native.Nat.{ℕ, _+_}
+use mathlib.Core.List.{List, [], _∷_}
+use Prim.Native.Nat.{ℕ}
 use native.Mathlib.Omega.{arith}
 use Rattle.sink.specs.Machine.{Event, puts, lists, excludes}
 use Rattle.sink.specs.Shown.{Named, Token, CellsOk, eventOf, eventsOf, namesAfter, markAfter, namesOver, marksOver, treeOf, listOf, keysOf, treeTokens, listTokens, keysTokens, entryIn, entriesIn, declaratorIn, declaratorsIn, isHelper, usesHelper, madeBy, madeIn, namedPuts, namedLists, namedExcludes, plains, shown}

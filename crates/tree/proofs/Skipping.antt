@@ -3,21 +3,18 @@
 use mathlib.Core.Path.{_≡_, refl, sym, ap, _∙_}
 use mathlib.Core.Bool.{Bool, true, false}
 use mathlib.Core.List.{List, [], _∷_}
-use mathlib.Core.Option.{Option}
 use Prim.Native.Nat.{ℕ, zero, suc, _+_, _-_, _/_, _%_, _<_, _≤_}
 use native.Mathlib.Omega.{arith}
 use native.Mathlib.Decide.{decLt}
-use lib.Dec.{leb, eqb}
 use lib.ListN.{length, List·getD-eq-default}
 use borrow.Author.Tests.{le-leb, lt-leb, eq-eqb, ne-eqb}
-use Rattle.tree.specs.Tree.{Node, Items}
+use Rattle.tree.specs.Tree.{Node}
 use Rattle.tree.specs.Grammar.{Sort, Field, fieldsOf}
 use Rattle.tree.specs.Grammar.Sort.{child, chosen, many, gaps, text, byte, mark, number}
 use Rattle.tree.specs.Rows.{sortFrom, sortOf, fieldOf, fieldsIn}
-use Rattle.tree.specs.Read.{byteAt, wideAt, sortIn}
+use Rattle.tree.specs.Read.{byteAt, wideAt}
 use Rattle.tree.specs.Answer.{Peeked, found}
-use Rattle.tree.specs.Look.{Seen, seen, seenAs, onward, lookItem, lookItems, lookField, lookSlot, lookFields, lookNode, seekFields, ifStands}
-use Rattle.tree.specs.declared.skip.Found.{Found}
+use Rattle.tree.specs.Look.{Seen, onward, lookItem, lookItems, lookField, lookSlot, lookFields, lookNode, seekFields}
 use Rattle.tree.specs.declared.skip.Found.the-variants.{At, Missing}
 use Rattle.tree.proofs.Rows.{NoKey, no-key, before-keys, row-done, row-first, first-sort}
 

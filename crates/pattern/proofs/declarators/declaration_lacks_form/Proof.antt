@@ -12,32 +12,11 @@ abbrev μ-loop : tie.MeasureT-loop
 returns : tie.Need-returns Inv-loop μ-loop
 returns c = law.lacks-none _ _ _ (c .if1 .taken)
 
-sub-below : tie.Need-sub-below Inv-loop μ-loop
-sub-below c = omega arith
-
-list-requires : tie.Need-list-requires Inv-loop μ-loop
-list-requires c κs = tt
-
 loop-holds : tie.Need-loop-holds Inv-loop μ-loop
 loop-holds c = law.lacks-start _ _ _ _ (c .list .ensures)
 
-item-requires : tie.Need-item-requires Inv-loop μ-loop
-item-requires c κs = tt
-
-lacks-form-requires : tie.Need-lacks-form-requires Inv-loop μ-loop
-lacks-form-requires c κs = tt
-
 returns-2 : tie.Need-returns-2 Inv-loop μ-loop
 returns-2 c = law.lacks-found _ _ _ _ _ _ _ _ _ (c .before .before .before .loop-test .taken) (c .before .before .item .ensures) (c .before .lacks-form .ensures) (c .before .before .before .before .loop .inv) (c .if2 .taken)
-
-skip-item-requires : tie.Need-skip-item-requires Inv-loop μ-loop
-skip-item-requires c κs = tt
-
-sub-n : tie.Need-sub-n Inv-loop μ-loop
-sub-n c = omega arith
-
-loop-less : tie.Need-loop-less Inv-loop μ-loop
-loop-less c = omega arith
 
 loop-again : tie.Need-loop-again Inv-loop μ-loop
 loop-again c = law.lacks-next _ _ _ _ _ _ _ _ _ (c .before .before .before .before .loop-test .taken) (c .before .before .before .item .ensures) (c .before .before .lacks-form .ensures) (c .before .before .before .before .before .loop .inv) _ (c .before .if2 .left) (c .skip-item .ensures)
@@ -52,14 +31,14 @@ declaration-lacks-form-spec =
     Inv-loop
     μ-loop
     returns
-    sub-below
-    list-requires
+    (λ c. omega arith)
+    (λ c κs. tt)
     loop-holds
-    item-requires
-    lacks-form-requires
+    (λ c κs. tt)
+    (λ c κs. tt)
     returns-2
-    skip-item-requires
-    sub-n
-    loop-less
+    (λ c κs. tt)
+    (λ c. omega arith)
+    (λ c. omega arith)
     loop-again
     returns-3)

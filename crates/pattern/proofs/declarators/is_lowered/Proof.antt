@@ -2,15 +2,6 @@ use Rattle.pattern.proofs.Declaring as law
 use Rattle.pattern.proofs.declarators.is_lowered.Statement.{statement}
 use Rattle.pattern.proofs.declarators.is_lowered.Tie as tie
 
-stands-requires : tie.Need-stands-requires
-stands-requires c κs = tt
-
-child-requires : tie.Need-child-requires
-child-requires c κs = tt
-
-has-nested-object-rest-requires : tie.Need-has-nested-object-rest-requires
-has-nested-object-rest-requires c κs = tt
-
 returns : tie.Need-returns
 returns c = law.lowered-yes _ _ _ _ _ _ (c .before .before .before .stands .ensures) (c .before .before .if1 .taken) (c .before .child .ensures) (c .has-nested-object-rest .ensures)
 
@@ -20,4 +11,4 @@ returns-2 c = law.lowered-no _ _ _ _ (c .before .stands .ensures) (c .if1 .left)
 pub is-lowered-spec : {M : Type 1} → statement M
 is-lowered-spec =
     tie.close
-    (tie.spec stands-requires child-requires has-nested-object-rest-requires returns returns-2)
+    (tie.spec (λ c κs. tt) (λ c κs. tt) (λ c κs. tt) returns returns-2)

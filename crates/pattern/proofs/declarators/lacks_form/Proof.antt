@@ -2,15 +2,6 @@ use Rattle.pattern.proofs.Declaring as law
 use Rattle.pattern.proofs.declarators.lacks_form.Statement.{statement}
 use Rattle.pattern.proofs.declarators.lacks_form.Tie as tie
 
-is-lowered-requires : tie.Need-is-lowered-requires
-is-lowered-requires c κs = tt
-
-child-requires : tie.Need-child-requires
-child-requires c κs = tt
-
-below-lacks-form-requires : tie.Need-below-lacks-form-requires
-below-lacks-form-requires c κs = tt
-
 returns : tie.Need-returns
 returns c = law.lacks-yes _ _ _ _ (c .before .before .before .is-lowered .ensures) (c .before .before .if1 .taken) _ _ (c .before .child .ensures) (c .below-lacks-form .ensures)
 
@@ -20,4 +11,4 @@ returns-2 c = law.lacks-no _ _ _ _ (c .before .is-lowered .ensures) (c .if1 .lef
 pub lacks-form-spec : {M : Type 1} → statement M
 lacks-form-spec =
     tie.close
-    (tie.spec is-lowered-requires child-requires below-lacks-form-requires returns returns-2)
+    (tie.spec (λ c κs. tt) (λ c κs. tt) (λ c κs. tt) returns returns-2)

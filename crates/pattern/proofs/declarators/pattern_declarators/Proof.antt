@@ -5,38 +5,11 @@ use Rattle.pattern.proofs.declarators.pattern_declarators.Tie as tie
 returns : tie.Need-returns
 returns c = law.pattern-none _ _ _ (c .if1 .taken)
 
-peek-requires : tie.Need-peek-requires
-peek-requires c κs = tt
-
-rests-requires : tie.Need-rests-requires
-rests-requires c κs = tt
-
-made-requires : tie.Need-made-requires
-made-requires c κs = tt
-
-stands-requires : tie.Need-stands-requires
-stands-requires c κs = tt
-
 returns-2 : tie.Need-returns-2
 returns-2 c = law.object-rest _ _ _ _ (c .before .before .before .before .before .before .if1 .left) (c .before .before .before .before .before .peek .ensures .value) _ _ _ (c .before .before .before .before .match .keys1) (c .before .before .before .rests .ensures) (c .before .before .made .ensures) (c .before .stands .ensures) (c .if2 .taken)
 
-has-no-properties-requires : tie.Need-has-no-properties-requires
-has-no-properties-requires c κs = tt
-
 returns-3 : tie.Need-returns-3
 returns-3 c = law.object-empty _ _ _ _ (c .before .before .before .before .before .before .before .before .if1 .left) (c .before .before .before .before .before .before .before .peek .ensures .value) _ _ _ _ (c .before .before .before .before .before .before .match .keys1) (c .before .before .before .before .before .rests .ensures) (c .before .before .before .before .made .ensures) (c .before .before .before .stands .ensures) (c .before .before .if2 .left) (c .before .has-no-properties .ensures) (c .if3 .taken)
-
-plus-requires : tie.Need-plus-requires
-plus-requires c κs = tt
-
-rests-requires-2 : tie.Need-rests-requires-2
-rests-requires-2 c κs = tt
-
-made-requires-2 : tie.Need-made-requires-2
-made-requires-2 c κs = tt
-
-plus-requires-2 : tie.Need-plus-requires-2
-plus-requires-2 c κs = tt
 
 returns-4 : tie.Need-returns-4
 returns-4 c = law.object-filled _ _ _ _ (c .before .before .before .before .before .before .before .before .before .if1 .left) (c .before .before .before .before .before .before .before .before .peek .ensures .value) _ _ _ _ _ (c .before .before .before .before .before .before .before .match .keys1) (c .before .before .before .before .before .before .rests .ensures) (c .before .before .before .before .before .made .ensures) (c .before .before .before .before .stands .ensures) (c .before .before .before .if2 .left) (c .before .before .has-no-properties .ensures) (c .before .if3 .left) (c .plus .ensures)
@@ -52,17 +25,17 @@ pattern-declarators-spec =
     tie.close
     (tie.spec
     returns
-    peek-requires
-    rests-requires
-    made-requires
-    stands-requires
+    (λ c κs. tt)
+    (λ c κs. tt)
+    (λ c κs. tt)
+    (λ c κs. tt)
     returns-2
-    has-no-properties-requires
+    (λ c κs. tt)
     returns-3
-    plus-requires
-    rests-requires-2
-    made-requires-2
-    plus-requires-2
+    (λ c κs. tt)
+    (λ c κs. tt)
+    (λ c κs. tt)
+    (λ c κs. tt)
     returns-4
     returns-5
     returns-6)

@@ -7,45 +7,6 @@ use Rattle.pattern.proofs.keys.key_counts.Tie as tie
 enum-told : tie.Need-enum-told
 enum-told c = search needs
 
-counted-requires : tie.Need-counted-requires
-counted-requires c κs = tt
-
-enum-told-2 : tie.Need-enum-told-2
-enum-told-2 c = search needs
-
-counted-requires-2 : tie.Need-counted-requires-2
-counted-requires-2 c κs = tt
-
-enum-told-3 : tie.Need-enum-told-3
-enum-told-3 c = search needs
-
-counted-requires-3 : tie.Need-counted-requires-3
-counted-requires-3 c κs = tt
-
-enum-told-4 : tie.Need-enum-told-4
-enum-told-4 c = search needs
-
-counted-requires-4 : tie.Need-counted-requires-4
-counted-requires-4 c κs = tt
-
-enum-told-5 : tie.Need-enum-told-5
-enum-told-5 c = search needs
-
-counted-requires-5 : tie.Need-counted-requires-5
-counted-requires-5 c κs = tt
-
-enum-told-6 : tie.Need-enum-told-6
-enum-told-6 c = search needs
-
-counted-requires-6 : tie.Need-counted-requires-6
-counted-requires-6 c κs = tt
-
-enum-told-7 : tie.Need-enum-told-7
-enum-told-7 c = search needs
-
-counted-requires-7 : tie.Need-counted-requires-7
-counted-requires-7 c κs = tt
-
 returns : tie.Need-returns
 unfolding keyCounts
 returns c = c .counted .ensures ∙ ap keyCounts (sym (c .before .enum-told .given .1))
@@ -79,19 +40,19 @@ key-counts-spec =
     tie.close
     (tie.spec
     enum-told
-    counted-requires
-    enum-told-2
-    counted-requires-2
-    enum-told-3
-    counted-requires-3
-    enum-told-4
-    counted-requires-4
-    enum-told-5
-    counted-requires-5
-    enum-told-6
-    counted-requires-6
-    enum-told-7
-    counted-requires-7
+    (λ c κs. tt)
+    (λ c. search needs)
+    (λ c κs. tt)
+    (λ c. search needs)
+    (λ c κs. tt)
+    (λ c. search needs)
+    (λ c κs. tt)
+    (λ c. search needs)
+    (λ c κs. tt)
+    (λ c. search needs)
+    (λ c κs. tt)
+    (λ c. search needs)
+    (λ c κs. tt)
     returns
     returns-2
     returns-3

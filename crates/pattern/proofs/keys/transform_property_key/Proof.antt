@@ -5,32 +5,11 @@ use Rattle.pattern.proofs.keys.transform_property_key.Tie as tie
 returns : tie.Need-returns
 returns c = law.becomes _ _ _ _ (law.key-none _ _ _ (c .if1 .taken))
 
-peek-requires : tie.Need-peek-requires
-peek-requires c κs = tt
-
-stands-requires : tie.Need-stands-requires
-stands-requires c κs = tt
-
 returns-2 : tie.Need-returns-2
 returns-2 c = law.becomes _ _ _ _ (law.key-bound _ _ _ _ (c .before .before .before .before .if1 .left) (c .before .before .before .peek .ensures .value) _ (c .before .before .match .keys1) (c .before .stands .ensures) (c .if2 .taken))
 
-field-requires : tie.Need-field-requires
-field-requires c κs = tt
-
-formed-requires : tie.Need-formed-requires
-formed-requires c κs = tt
-
-list-requires : tie.Need-list-requires
-list-requires c κs = tt
-
 returns-3 : tie.Need-returns-3
 returns-3 c = law.becomes _ _ _ _ (law.key-template _ _ _ _ (c .before .before .before .before .before .if1 .left) (c .before .before .before .before .peek .ensures .value) _ (c .before .before .before .match .keys4) (c .before .before .list .ensures) (c .if3 .taken))
-
-field-requires-2 : tie.Need-field-requires-2
-field-requires-2 c κs = tt
-
-named-requires : tie.Need-named-requires
-named-requires c κs = tt
 
 returns-4 : tie.Need-returns-4
 returns-4 c = law.becomes _ _ _ _ (law.key-free _ _ _ _ (c .before .before .before .before .if1 .left) (c .before .before .before .peek .ensures .value) _ (c .before .before .match .keys1) (c .before .stands .ensures) (c .if2 .left))
@@ -58,15 +37,15 @@ transform-property-key-spec =
     tie.close
     (tie.spec
     returns
-    peek-requires
-    stands-requires
+    (λ c κs. tt)
+    (λ c κs. tt)
     returns-2
-    field-requires
-    formed-requires
-    list-requires
+    (λ c κs. tt)
+    (λ c κs. tt)
+    (λ c κs. tt)
     returns-3
-    field-requires-2
-    named-requires
+    (λ c κs. tt)
+    (λ c κs. tt)
     returns-4
     returns-5
     returns-6

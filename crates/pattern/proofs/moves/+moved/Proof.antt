@@ -38,47 +38,17 @@ moved-μ-loop tree left at below kind n₀ p₀ t₀ n p t = n
 moved-returns : (t : ℕ) → moved-lts.Need-returns (moved-claims t) (moved-at t) moved.Post moved-Inv-loop moved-μ-loop
 moved-returns t c = law.moved-none _ _ _ (c .if1 .taken)
 
-moved-sub-below : (t : ℕ) → moved-lts.Need-sub-below (moved-claims t) (moved-at t) moved.Post moved-Inv-loop moved-μ-loop
-moved-sub-below t c = omega arith
-
-moved-peek-requires : (t : ℕ) → moved-lts.Need-peek-requires (moved-claims t) (moved-at t) moved.Post moved-Inv-loop moved-μ-loop
-moved-peek-requires t c κs = tt
-
-moved-list-requires : (t : ℕ) → moved-lts.Need-list-requires (moved-claims t) (moved-at t) moved.Post moved-Inv-loop moved-μ-loop
-moved-list-requires t c κs = tt
-
 moved-loop-holds : (t : ℕ) → moved-lts.Need-loop-holds (moved-claims t) (moved-at t) moved.Post moved-Inv-loop moved-μ-loop
 moved-loop-holds t c = law.items-start _ _ _ _ (c .before .before .before .if1 .left) (c .before .before .peek .ensures .value) _ (c .before .match .keys2) (c .list .ensures)
-
-moved-item-requires : (t : ℕ) → moved-lts.Need-item-requires (moved-claims t) (moved-at t) moved.Post moved-Inv-loop moved-μ-loop
-moved-item-requires t c κs = tt
 
 moved-moved-requires : (t : ℕ) → moved-lts.Need-moved-requires (moved-claims t) (moved-at t) moved.Post moved-Inv-loop moved-μ-loop
 moved-moved-requires t c κs = (let h = search.item-falls _ _ _ true _ (c .before .before .before .before .before .before .if1 .left) (c .item .ensures) in omega (arith, c .before .before .before .before .before .before .before .before .pre .0), tt)
 
-moved-plus-requires : (t : ℕ) → moved-lts.Need-plus-requires (moved-claims t) (moved-at t) moved.Post moved-Inv-loop moved-μ-loop
-moved-plus-requires t c κs = tt
-
-moved-skip-item-requires : (t : ℕ) → moved-lts.Need-skip-item-requires (moved-claims t) (moved-at t) moved.Post moved-Inv-loop moved-μ-loop
-moved-skip-item-requires t c κs = tt
-
-moved-sub-n : (t : ℕ) → moved-lts.Need-sub-n (moved-claims t) (moved-at t) moved.Post moved-Inv-loop moved-μ-loop
-moved-sub-n t c = omega arith
-
-moved-loop-less : (t : ℕ) → moved-lts.Need-loop-less (moved-claims t) (moved-at t) moved.Post moved-Inv-loop moved-μ-loop
-moved-loop-less t c = omega arith
-
 moved-loop-again : (t : ℕ) → moved-lts.Need-loop-again (moved-claims t) (moved-at t) moved.Post moved-Inv-loop moved-μ-loop
 moved-loop-again t c = law.item-more _ _ _ _ _ _ _ _ _ _ _ (c .before .before .before .before .loop-test .taken) (c .before .before .before .item .ensures) (c .before .before .moved .ensures) (c .skip-item .ensures) (c .before .plus .ensures) (c .before .before .before .before .before .loop .inv)
 
-moved-child-requires : (t : ℕ) → moved-lts.Need-child-requires (moved-claims t) (moved-at t) moved.Post moved-Inv-loop moved-μ-loop
-moved-child-requires t c κs = tt
-
 moved-moved-requires-2 : (t : ℕ) → moved-lts.Need-moved-requires-2 (moved-claims t) (moved-at t) moved.Post moved-Inv-loop moved-μ-loop
 moved-moved-requires-2 t c κs = (let h = search.part-falls _ _ _ 1 _ (c .before .before .before .before .before .before .if1 .left) (c .child .ensures) in omega (arith, c .before .before .before .before .before .before .before .before .pre .0), tt)
-
-moved-plus-requires-2 : (t : ℕ) → moved-lts.Need-plus-requires-2 (moved-claims t) (moved-at t) moved.Post moved-Inv-loop moved-μ-loop
-moved-plus-requires-2 t c κs = tt
 
 moved-returns-2 : (t : ℕ) → moved-lts.Need-returns-2 (moved-claims t) (moved-at t) moved.Post moved-Inv-loop moved-μ-loop
 moved-returns-2 t c = law.moved-object _ _ _ _ (c .before .before .if1 .left) (c .before .peek .ensures .value) (c .match .keys1)
@@ -97,20 +67,20 @@ pub +moved-spec : {M : Type 1} → statement M
     moved-Inv-loop
     moved-μ-loop
     (moved-returns t)
-    (moved-sub-below t)
-    (moved-peek-requires t)
-    (moved-list-requires t)
+    (λ c. omega arith)
+    (λ c κs. tt)
+    (λ c κs. tt)
     (moved-loop-holds t)
-    (moved-item-requires t)
+    (λ c κs. tt)
     (moved-moved-requires t)
-    (moved-plus-requires t)
-    (moved-skip-item-requires t)
-    (moved-sub-n t)
-    (moved-loop-less t)
+    (λ c κs. tt)
+    (λ c κs. tt)
+    (λ c. omega arith)
+    (λ c. omega arith)
     (moved-loop-again t)
-    (moved-child-requires t)
+    (λ c κs. tt)
     (moved-moved-requires-2 t)
-    (moved-plus-requires-2 t)
+    (λ c κs. tt)
     (moved-returns-2 t)
     (moved-returns-3 t)
     (moved-returns-4 t)

@@ -17,32 +17,11 @@ abbrev μ-loop : tie.MeasureT-loop
 returns : tie.Need-returns Inv-loop μ-loop
 returns c = law.any-none _ _ _ _ (c .if1 .taken)
 
-sub-below : tie.Need-sub-below Inv-loop μ-loop
-sub-below c = omega arith
-
-list-requires : tie.Need-list-requires Inv-loop μ-loop
-list-requires c κs = tt
-
 loop-holds : tie.Need-loop-holds Inv-loop μ-loop
 loop-holds c = law.any-start _ _ _ _ _ (c .list .ensures)
 
-item-requires : tie.Need-item-requires Inv-loop μ-loop
-item-requires c κs = tt
-
-is-moved-requires : tie.Need-is-moved-requires Inv-loop μ-loop
-is-moved-requires c κs = tt
-
 returns-2 : tie.Need-returns-2 Inv-loop μ-loop
 returns-2 c = search.item-found _ isMoved (law.moved-empty (c .before .before .before .before .before .before .before .before .args .tree .now)) _ _ _ _ _ _ (c .before .before .before .loop-test .taken) (c .before .before .item .ensures) (c .before .is-moved .ensures) (c .if2 .taken) ∙ c .before .before .before .before .loop .inv
-
-skip-item-requires : tie.Need-skip-item-requires Inv-loop μ-loop
-skip-item-requires c κs = tt
-
-sub-n : tie.Need-sub-n Inv-loop μ-loop
-sub-n c = omega arith
-
-loop-less : tie.Need-loop-less Inv-loop μ-loop
-loop-less c = omega arith
 
 loop-again : tie.Need-loop-again Inv-loop μ-loop
 loop-again c = search.item-next _ isMoved (law.moved-empty (c .before .before .before .before .before .before .before .before .before .args .tree .now)) _ _ _ _ _ _ (c .before .before .before .before .loop-test .taken) (c .before .before .before .item .ensures) (c .before .before .is-moved .ensures) _ (c .before .if2 .left) (c .skip-item .ensures) ∙ c .before .before .before .before .before .loop .inv
@@ -57,14 +36,14 @@ any-moved-spec =
     Inv-loop
     μ-loop
     returns
-    sub-below
-    list-requires
+    (λ c. omega arith)
+    (λ c κs. tt)
     loop-holds
-    item-requires
-    is-moved-requires
+    (λ c κs. tt)
+    (λ c κs. tt)
     returns-2
-    skip-item-requires
-    sub-n
-    loop-less
+    (λ c κs. tt)
+    (λ c. omega arith)
+    (λ c. omega arith)
     loop-again
     returns-3)

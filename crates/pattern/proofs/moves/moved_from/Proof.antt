@@ -2,15 +2,6 @@ use Rattle.pattern.proofs.Moving as law
 use Rattle.pattern.proofs.moves.moved_from.Statement.{statement}
 use Rattle.pattern.proofs.moves.moved_from.Tie as tie
 
-is-moved-requires : tie.Need-is-moved-requires
-is-moved-requires c κs = tt
-
-child-requires : tie.Need-child-requires
-child-requires c κs = tt
-
-moved-requires : tie.Need-moved-requires
-moved-requires c κs = tt
-
 returns : tie.Need-returns
 returns c = law.from-yes _ _ _ _ _ _ (c .before .before .before .is-moved .ensures) (c .before .before .if1 .taken) (c .before .child .ensures) (c .moved .ensures)
 
@@ -19,4 +10,4 @@ returns-2 c = law.from-no _ _ _ _ (c .before .is-moved .ensures) (c .if1 .left)
 
 pub moved-from-spec : {M : Type 1} → statement M
 moved-from-spec =
-    tie.close (tie.spec is-moved-requires child-requires moved-requires returns returns-2)
+    tie.close (tie.spec (λ c κs. tt) (λ c κs. tt) (λ c κs. tt) returns returns-2)

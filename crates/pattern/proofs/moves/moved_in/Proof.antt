@@ -12,32 +12,8 @@ abbrev μ-loop : tie.MeasureT-loop
 returns : tie.Need-returns Inv-loop μ-loop
 returns c = law.in-none _ _ _ _ (c .if1 .taken)
 
-sub-below : tie.Need-sub-below Inv-loop μ-loop
-sub-below c = omega arith
-
-list-requires : tie.Need-list-requires Inv-loop μ-loop
-list-requires c κs = tt
-
 loop-holds : tie.Need-loop-holds Inv-loop μ-loop
 loop-holds c = law.in-start _ _ _ _ _ (c .list .ensures)
-
-item-requires : tie.Need-item-requires Inv-loop μ-loop
-item-requires c κs = tt
-
-moved-from-requires : tie.Need-moved-from-requires Inv-loop μ-loop
-moved-from-requires c κs = tt
-
-plus-requires : tie.Need-plus-requires Inv-loop μ-loop
-plus-requires c κs = tt
-
-skip-item-requires : tie.Need-skip-item-requires Inv-loop μ-loop
-skip-item-requires c κs = tt
-
-sub-n : tie.Need-sub-n Inv-loop μ-loop
-sub-n c = omega arith
-
-loop-less : tie.Need-loop-less Inv-loop μ-loop
-loop-less c = omega arith
 
 loop-again : tie.Need-loop-again Inv-loop μ-loop
 loop-again c = law.in-more _ _ _ _ _ _ _ _ _ _ _ _ _ (c .before .before .before .before .loop-test .taken) (c .before .before .before .item .ensures) (c .before .before .moved-from .ensures) (c .skip-item .ensures) (c .before .plus .ensures) (c .before .before .before .before .before .loop .inv)
@@ -52,14 +28,14 @@ moved-in-spec =
     Inv-loop
     μ-loop
     returns
-    sub-below
-    list-requires
+    (λ c. omega arith)
+    (λ c κs. tt)
     loop-holds
-    item-requires
-    moved-from-requires
-    plus-requires
-    skip-item-requires
-    sub-n
-    loop-less
+    (λ c κs. tt)
+    (λ c κs. tt)
+    (λ c κs. tt)
+    (λ c κs. tt)
+    (λ c. omega arith)
+    (λ c. omega arith)
     loop-again
     returns-2)

@@ -12,15 +12,6 @@ Inv-loop row i r₀ n₀ r n = sortAt (fieldsIn r) n ≡ sortAt (fieldsIn row) i
 abbrev μ-loop : tie.MeasureT-loop
 μ-loop row i r₀ n₀ r n = n
 
-loop-holds : tie.Need-loop-holds Inv-loop μ-loop
-loop-holds c = refl
-
-sub-n : tie.Need-sub-n Inv-loop μ-loop
-sub-n c = omega arith
-
-loop-less : tie.Need-loop-less Inv-loop μ-loop
-loop-less c = omega arith
-
 loop-again : tie.Need-loop-again Inv-loop μ-loop
 loop-again c = law.code-more _ _ (c .loop-test .taken) ∙ c .before .loop .inv
 
@@ -28,4 +19,4 @@ returns : tie.Need-returns Inv-loop μ-loop
 returns c = law.code-end _ _ (c .loop-test .left) ∙ c .before .loop .inv
 
 pub code-at-spec : {M : Type 1} → statement M
-code-at-spec = tie.close (tie.spec Inv-loop μ-loop loop-holds sub-n loop-less loop-again returns)
+code-at-spec = tie.close (tie.spec Inv-loop μ-loop (λ c. refl) (λ c. omega arith) (λ c. omega arith) loop-again returns)

@@ -7,36 +7,6 @@ use Rattle.pattern.proofs.parts.field.Tie as tie
 returns : tie.Need-returns
 returns c = law.field-none _ _ _ _ (c .if1 .taken)
 
-peek-requires : tie.Need-peek-requires
-peek-requires c κs = tt
-
-row-requires : tie.Need-row-requires
-row-requires c κs = tt
-
-step-requires : tie.Need-step-requires
-step-requires c κs = tt
-
-peek-requires-2 : tie.Need-peek-requires-2
-peek-requires-2 c κs = tt
-
-sub-seek : tie.Need-sub-seek
-sub-seek c = omega arith
-
-step-requires-2 : tie.Need-step-requires-2
-step-requires-2 c κs = tt
-
-seek-requires : tie.Need-seek-requires
-seek-requires c κs = tt
-
-enum-known-f : tie.Need-enum-known-f
-enum-known-f c = search needs
-
-code-at-requires : tie.Need-code-at-requires
-code-at-requires c κs = tt
-
-held-requires : tie.Need-held-requires
-held-requires c κs = tt
-
 enum-told : tie.Need-enum-told
 enum-told c = search needs
 
@@ -51,16 +21,16 @@ field-spec =
     tie.close
     (tie.spec
     returns
-    peek-requires
-    row-requires
-    step-requires
-    peek-requires-2
-    sub-seek
-    step-requires-2
-    seek-requires
-    enum-known-f
-    code-at-requires
-    held-requires
+    (λ c κs. tt)
+    (λ c κs. tt)
+    (λ c κs. tt)
+    (λ c κs. tt)
+    (λ c. omega arith)
+    (λ c κs. tt)
+    (λ c κs. tt)
+    (λ c. search needs)
+    (λ c κs. tt)
+    (λ c κs. tt)
     enum-told
     returns-2
     returns-3)

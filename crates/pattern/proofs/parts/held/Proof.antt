@@ -2,21 +2,6 @@ use Rattle.pattern.proofs.Fields as law
 use Rattle.pattern.proofs.parts.held.Statement.{statement}
 use Rattle.pattern.proofs.parts.held.Tie as tie
 
-wide-at-requires : tie.Need-wide-at-requires
-wide-at-requires c κs = tt
-
-step-requires : tie.Need-step-requires
-step-requires c κs = tt
-
-wide-at-requires-2 : tie.Need-wide-at-requires-2
-wide-at-requires-2 c κs = tt
-
-step-requires-2 : tie.Need-step-requires-2
-step-requires-2 c κs = tt
-
-text-requires : tie.Need-text-requires
-text-requires c κs = tt
-
 returns : tie.Need-returns
 returns c = law.held-child _ _ _ (c .match .keys1)
 
@@ -39,11 +24,11 @@ pub held-spec : {M : Type 1} → statement M
 held-spec =
     tie.close
     (tie.spec
-    wide-at-requires
-    step-requires
-    wide-at-requires-2
-    step-requires-2
-    text-requires
+    (λ c κs. tt)
+    (λ c κs. tt)
+    (λ c κs. tt)
+    (λ c κs. tt)
+    (λ c κs. tt)
     returns
     returns-2
     returns-3

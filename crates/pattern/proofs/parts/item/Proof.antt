@@ -2,9 +2,6 @@ use Rattle.pattern.proofs.Fields as law
 use Rattle.pattern.proofs.parts.item.Statement.{statement}
 use Rattle.pattern.proofs.parts.item.Tie as tie
 
-peek-requires : tie.Need-peek-requires
-peek-requires c κs = tt
-
 returns : tie.Need-returns
 returns c = law.item-hole _ _ _ _ _ (c .before .before .if1 .taken) (c .before .peek .ensures) (c .if2 .taken)
 
@@ -15,4 +12,4 @@ returns-3 : tie.Need-returns-3
 returns-3 c = law.item-node _ _ _ _ (c .if1 .left)
 
 pub item-spec : {M : Type 1} → statement M
-item-spec = tie.close (tie.spec peek-requires returns returns-2 returns-3)
+item-spec = tie.close (tie.spec (λ c κs. tt) returns returns-2 returns-3)

@@ -4,23 +4,8 @@ use borrow.Author.Needs.{needs}
 use Rattle.pattern.proofs.parts.list.Statement.{statement}
 use Rattle.pattern.proofs.parts.list.Tie as tie
 
-field-requires : tie.Need-field-requires
-field-requires c κs = tt
-
-enum-known-p : tie.Need-enum-known-p
-enum-known-p c = search needs
-
 enum-told : tie.Need-enum-told
 enum-told c = search needs
-
-enum-told-2 : tie.Need-enum-told-2
-enum-told-2 c = search needs
-
-enum-told-3 : tie.Need-enum-told-3
-enum-told-3 c = search needs
-
-enum-told-4 : tie.Need-enum-told-4
-enum-told-4 c = search needs
 
 returns : tie.Need-returns
 unfolding runOf
@@ -46,12 +31,12 @@ pub list-spec : {M : Type 1} → statement M
 list-spec =
     tie.close
     (tie.spec
-    field-requires
-    enum-known-p
+    (λ c κs. tt)
+    (λ c. search needs)
     enum-told
-    enum-told-2
-    enum-told-3
-    enum-told-4
+    (λ c. search needs)
+    (λ c. search needs)
+    (λ c. search needs)
     returns
     returns-2
     returns-3

@@ -16,26 +16,8 @@ abbrev μ-loop : tie.MeasureT-loop
 returns : tie.Need-returns Inv-loop μ-loop
 returns c = law.stands-none _ _ _ _ (c .if1 .taken)
 
-peek-requires : tie.Need-peek-requires Inv-loop μ-loop
-peek-requires c κs = tt
-
-row-requires : tie.Need-row-requires Inv-loop μ-loop
-row-requires c κs = tt
-
-step-requires : tie.Need-step-requires Inv-loop μ-loop
-step-requires c κs = tt
-
-peek-requires-2 : tie.Need-peek-requires-2 Inv-loop μ-loop
-peek-requires-2 c κs = tt
-
 loop-holds : tie.Need-loop-holds Inv-loop μ-loop
 loop-holds c = law.stands-start _ _ _ _ _ _ _ _ (c .before .before .before .before .if1 .left) (c .before .before .before .peek .ensures .value) (c .before .step .ensures) (c .peek2 .ensures .value) (c .before .before .row .ensures)
-
-sub-n : tie.Need-sub-n Inv-loop μ-loop
-sub-n c = omega arith
-
-loop-less : tie.Need-loop-less Inv-loop μ-loop
-loop-less c = omega arith
 
 loop-again : tie.Need-loop-again Inv-loop μ-loop
 loop-again c = law.stands-more _ _ _ _ (c .loop-test .taken) ∙ c .before .loop .inv
@@ -53,13 +35,13 @@ stands-spec =
     Inv-loop
     μ-loop
     returns
-    peek-requires
-    row-requires
-    step-requires
-    peek-requires-2
+    (λ c κs. tt)
+    (λ c κs. tt)
+    (λ c κs. tt)
+    (λ c κs. tt)
     loop-holds
-    sub-n
-    loop-less
+    (λ c. omega arith)
+    (λ c. omega arith)
     loop-again
     returns-2
     returns-3)

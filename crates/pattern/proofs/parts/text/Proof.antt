@@ -3,17 +3,8 @@ use Rattle.pattern.proofs.Fields as law
 use Rattle.pattern.proofs.parts.text.Statement.{statement}
 use Rattle.pattern.proofs.parts.text.Tie as tie
 
-step-requires : tie.Need-step-requires
-step-requires c κs = tt
-
-wide-at-requires : tie.Need-wide-at-requires
-wide-at-requires c κs = tt
-
 add-step : tie.Need-add-step
 add-step c = omega (arith, c .wide-at .ensures .bound)
-
-step-requires-2 : tie.Need-step-requires-2
-step-requires-2 c κs = tt
 
 sub-t5 : tie.Need-sub-t5
 sub-t5 c = law.text-ends _ _ _ _ _ (c .before .before .step .ensures) (c .step2 .ensures)
@@ -23,4 +14,4 @@ returns c = law.text-held _ _ _ _ _ (c .before .wide-at .ensures .value) (c .bef
 
 pub text-spec : {M : Type 1} → statement M
 text-spec =
-    tie.close (tie.spec step-requires wide-at-requires add-step step-requires-2 sub-t5 returns)
+    tie.close (tie.spec (λ c κs. tt) (λ c κs. tt) add-step (λ c κs. tt) sub-t5 returns)

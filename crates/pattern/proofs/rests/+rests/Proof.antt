@@ -44,80 +44,23 @@ rests-Inv-loop2 tree arrays left at below kind n₀ p₀ t₀ n p t = law.ItemsL
 abbrev rests-μ-loop2 : rests-lts.MeasureT-loop2
 rests-μ-loop2 tree arrays left at below kind n₀ p₀ t₀ n p t = n
 
-rests-none-requires : (t : ℕ) → rests-lts.Need-none-requires (rests-claims t) (rests-at t) rests.Post rests-Inv-loop rests-μ-loop rests-Inv-loop2 rests-μ-loop2
-rests-none-requires t c κs = tt
-
 rests-returns : (t : ℕ) → rests-lts.Need-returns (rests-claims t) (rests-at t) rests.Post rests-Inv-loop rests-μ-loop rests-Inv-loop2 rests-μ-loop2
 rests-returns t c = λ k. law.rests-none _ k _ _ _ _ (c .before .if1 .taken) (c .none .ensures)
-
-rests-sub-below : (t : ℕ) → rests-lts.Need-sub-below (rests-claims t) (rests-at t) rests.Post rests-Inv-loop rests-μ-loop rests-Inv-loop2 rests-μ-loop2
-rests-sub-below t c = omega arith
-
-rests-peek-requires : (t : ℕ) → rests-lts.Need-peek-requires (rests-claims t) (rests-at t) rests.Post rests-Inv-loop rests-μ-loop rests-Inv-loop2 rests-μ-loop2
-rests-peek-requires t c κs = tt
-
-rests-list-requires : (t : ℕ) → rests-lts.Need-list-requires (rests-claims t) (rests-at t) rests.Post rests-Inv-loop rests-μ-loop rests-Inv-loop2 rests-μ-loop2
-rests-list-requires t c κs = tt
-
-rests-none-requires-2 : (t : ℕ) → rests-lts.Need-none-requires-2 (rests-claims t) (rests-at t) rests.Post rests-Inv-loop rests-μ-loop rests-Inv-loop2 rests-μ-loop2
-rests-none-requires-2 t c κs = tt
 
 rests-loop-holds : (t : ℕ) → rests-lts.Need-loop-holds (rests-claims t) (rests-at t) rests.Post rests-Inv-loop rests-μ-loop rests-Inv-loop2 rests-μ-loop2
 rests-loop-holds t c = law.values-start _ _ _ _ (c .before .before .before .before .if1 .left) (c .before .before .before .peek .ensures .value) _ _ _ (c .before .before .match .keys1) (c .before .list .ensures) (c .none2 .ensures)
 
-rests-child-requires : (t : ℕ) → rests-lts.Need-child-requires (rests-claims t) (rests-at t) rests.Post rests-Inv-loop rests-μ-loop rests-Inv-loop2 rests-μ-loop2
-rests-child-requires t c κs = tt
-
 rests-rests-requires : (t : ℕ) → rests-lts.Need-rests-requires (rests-claims t) (rests-at t) rests.Post rests-Inv-loop rests-μ-loop rests-Inv-loop2 rests-μ-loop2
 rests-rests-requires t c κs = (let h = search.value-falls _ _ _ _ (c .before .before .before .before .before .before .before .if1 .left) (c .child .ensures) in omega (arith, c .before .before .before .before .before .before .before .before .before .pre .0), tt)
-
-rests-both-requires : (t : ℕ) → rests-lts.Need-both-requires (rests-claims t) (rests-at t) rests.Post rests-Inv-loop rests-μ-loop rests-Inv-loop2 rests-μ-loop2
-rests-both-requires t c κs = tt
-
-rests-skip-requires : (t : ℕ) → rests-lts.Need-skip-requires (rests-claims t) (rests-at t) rests.Post rests-Inv-loop rests-μ-loop rests-Inv-loop2 rests-μ-loop2
-rests-skip-requires t c κs = tt
-
-rests-sub-n : (t : ℕ) → rests-lts.Need-sub-n (rests-claims t) (rests-at t) rests.Post rests-Inv-loop rests-μ-loop rests-Inv-loop2 rests-μ-loop2
-rests-sub-n t c = omega arith
-
-rests-loop-less : (t : ℕ) → rests-lts.Need-loop-less (rests-claims t) (rests-at t) rests.Post rests-Inv-loop rests-μ-loop rests-Inv-loop2 rests-μ-loop2
-rests-loop-less t c = omega arith
 
 rests-loop-again : (t : ℕ) → rests-lts.Need-loop-again (rests-claims t) (rests-at t) rests.Post rests-Inv-loop rests-μ-loop rests-Inv-loop2 rests-μ-loop2
 rests-loop-again t c = law.value-more _ _ _ _ _ _ _ _ _ _ _ _ (c .before .before .before .before .loop-test .taken) (c .before .before .before .child .ensures) (c .before .before .rests .ensures) (c .skip .ensures) (c .before .both .ensures) (c .before .before .before .before .before .loop .inv)
 
-rests-own-requires : (t : ℕ) → rests-lts.Need-own-requires (rests-claims t) (rests-at t) rests.Post rests-Inv-loop rests-μ-loop rests-Inv-loop2 rests-μ-loop2
-rests-own-requires t c κs = tt
-
-rests-both-requires-2 : (t : ℕ) → rests-lts.Need-both-requires-2 (rests-claims t) (rests-at t) rests.Post rests-Inv-loop rests-μ-loop rests-Inv-loop2 rests-μ-loop2
-rests-both-requires-2 t c κs = tt
-
-rests-list-requires-2 : (t : ℕ) → rests-lts.Need-list-requires-2 (rests-claims t) (rests-at t) rests.Post rests-Inv-loop rests-μ-loop rests-Inv-loop2 rests-μ-loop2
-rests-list-requires-2 t c κs = tt
-
-rests-none-requires-3 : (t : ℕ) → rests-lts.Need-none-requires-3 (rests-claims t) (rests-at t) rests.Post rests-Inv-loop rests-μ-loop rests-Inv-loop2 rests-μ-loop2
-rests-none-requires-3 t c κs = tt
-
 rests-loop2-holds : (t : ℕ) → rests-lts.Need-loop2-holds (rests-claims t) (rests-at t) rests.Post rests-Inv-loop rests-μ-loop rests-Inv-loop2 rests-μ-loop2
 rests-loop2-holds t c = law.items-start _ _ _ _ (c .before .before .before .before .before .if1 .left) (c .before .before .before .before .peek .ensures .value) _ _ _ (c .before .before .before .match .keys2) (c .before .list2 .ensures) (c .none3 .ensures)
 
-rests-item-requires : (t : ℕ) → rests-lts.Need-item-requires (rests-claims t) (rests-at t) rests.Post rests-Inv-loop rests-μ-loop rests-Inv-loop2 rests-μ-loop2
-rests-item-requires t c κs = tt
-
 rests-rests-requires-2 : (t : ℕ) → rests-lts.Need-rests-requires-2 (rests-claims t) (rests-at t) rests.Post rests-Inv-loop rests-μ-loop rests-Inv-loop2 rests-μ-loop2
 rests-rests-requires-2 t c κs = (let h = search.item-falls _ _ _ true _ (c .before .before .before .before .before .before .before .before .if1 .left) (c .item .ensures) in omega (arith, c .before .before .before .before .before .before .before .before .before .before .pre .0), tt)
-
-rests-both-requires-3 : (t : ℕ) → rests-lts.Need-both-requires-3 (rests-claims t) (rests-at t) rests.Post rests-Inv-loop rests-μ-loop rests-Inv-loop2 rests-μ-loop2
-rests-both-requires-3 t c κs = tt
-
-rests-skip-item-requires : (t : ℕ) → rests-lts.Need-skip-item-requires (rests-claims t) (rests-at t) rests.Post rests-Inv-loop rests-μ-loop rests-Inv-loop2 rests-μ-loop2
-rests-skip-item-requires t c κs = tt
-
-rests-sub-n-2 : (t : ℕ) → rests-lts.Need-sub-n-2 (rests-claims t) (rests-at t) rests.Post rests-Inv-loop rests-μ-loop rests-Inv-loop2 rests-μ-loop2
-rests-sub-n-2 t c = omega arith
-
-rests-loop2-less : (t : ℕ) → rests-lts.Need-loop2-less (rests-claims t) (rests-at t) rests.Post rests-Inv-loop rests-μ-loop rests-Inv-loop2 rests-μ-loop2
-rests-loop2-less t c = omega arith
 
 rests-loop2-again : (t : ℕ) → rests-lts.Need-loop2-again (rests-claims t) (rests-at t) rests.Post rests-Inv-loop rests-μ-loop rests-Inv-loop2 rests-μ-loop2
 rests-loop2-again t c = law.item-more _ _ _ _ _ _ _ _ _ _ _ _ (c .before .before .before .before .loop2-test .taken) (c .before .before .before .item .ensures) (c .before .before .rests2 .ensures) (c .skip-item .ensures) (c .before .both3 .ensures) (c .before .before .before .before .before .loop2 .inv)
@@ -125,17 +68,8 @@ rests-loop2-again t c = law.item-more _ _ _ _ _ _ _ _ _ _ _ _ (c .before .before
 rests-returns-2 : (t : ℕ) → rests-lts.Need-returns-2 (rests-claims t) (rests-at t) rests.Post rests-Inv-loop rests-μ-loop rests-Inv-loop2 rests-μ-loop2
 rests-returns-2 t c = λ k. law.array-end _ _ _ _ (c .before .before .before .before .before .before .before .if1 .left) (c .before .before .before .before .before .before .peek .ensures .value) k _ _ _ _ _ (c .before .before .before .before .before .match .keys2) (c .before .before .before .before .if2 .taken) (c .loop2-test .left) (c .before .loop2 .inv)
 
-rests-none-requires-4 : (t : ℕ) → rests-lts.Need-none-requires-4 (rests-claims t) (rests-at t) rests.Post rests-Inv-loop rests-μ-loop rests-Inv-loop2 rests-μ-loop2
-rests-none-requires-4 t c κs = tt
-
-rests-child-requires-2 : (t : ℕ) → rests-lts.Need-child-requires-2 (rests-claims t) (rests-at t) rests.Post rests-Inv-loop rests-μ-loop rests-Inv-loop2 rests-μ-loop2
-rests-child-requires-2 t c κs = tt
-
 rests-rests-requires-3 : (t : ℕ) → rests-lts.Need-rests-requires-3 (rests-claims t) (rests-at t) rests.Post rests-Inv-loop rests-μ-loop rests-Inv-loop2 rests-μ-loop2
 rests-rests-requires-3 t c κs = (let h = search.part-falls _ _ _ 0 _ (c .before .before .before .if1 .left) (c .child2 .ensures) in omega (arith, c .before .before .before .before .before .pre .0), tt)
-
-rests-none-requires-5 : (t : ℕ) → rests-lts.Need-none-requires-5 (rests-claims t) (rests-at t) rests.Post rests-Inv-loop rests-μ-loop rests-Inv-loop2 rests-μ-loop2
-rests-none-requires-5 t c κs = tt
 
 rests-returns-3 : (t : ℕ) → rests-lts.Need-returns-3 (rests-claims t) (rests-at t) rests.Post rests-Inv-loop rests-μ-loop rests-Inv-loop2 rests-μ-loop2
 rests-returns-3 t c = λ k. law.object-end _ _ _ _ (c .before .before .before .before .before .before .before .before .if1 .left) (c .before .before .before .before .before .before .before .peek .ensures .value) k _ _ _ _ _ _ _ (c .before .before .before .before .before .before .match .keys1) (c .before .before .loop-test .left) (c .before .before .before .loop .inv) (c .before .own .ensures) (c .both2 .ensures)
@@ -155,37 +89,37 @@ pub +rests-spec : {M : Type 1} → statement M
     rests-μ-loop
     rests-Inv-loop2
     rests-μ-loop2
-    (rests-none-requires t)
+    (λ c κs. tt)
     (rests-returns t)
-    (rests-sub-below t)
-    (rests-peek-requires t)
-    (rests-list-requires t)
-    (rests-none-requires-2 t)
+    (λ c. omega arith)
+    (λ c κs. tt)
+    (λ c κs. tt)
+    (λ c κs. tt)
     (rests-loop-holds t)
-    (rests-child-requires t)
+    (λ c κs. tt)
     (rests-rests-requires t)
-    (rests-both-requires t)
-    (rests-skip-requires t)
-    (rests-sub-n t)
-    (rests-loop-less t)
+    (λ c κs. tt)
+    (λ c κs. tt)
+    (λ c. omega arith)
+    (λ c. omega arith)
     (rests-loop-again t)
-    (rests-own-requires t)
-    (rests-both-requires-2 t)
-    (rests-list-requires-2 t)
-    (rests-none-requires-3 t)
+    (λ c κs. tt)
+    (λ c κs. tt)
+    (λ c κs. tt)
+    (λ c κs. tt)
     (rests-loop2-holds t)
-    (rests-item-requires t)
+    (λ c κs. tt)
     (rests-rests-requires-2 t)
-    (rests-both-requires-3 t)
-    (rests-skip-item-requires t)
-    (rests-sub-n-2 t)
-    (rests-loop2-less t)
+    (λ c κs. tt)
+    (λ c κs. tt)
+    (λ c. omega arith)
+    (λ c. omega arith)
     (rests-loop2-again t)
     (rests-returns-2 t)
-    (rests-none-requires-4 t)
-    (rests-child-requires-2 t)
+    (λ c κs. tt)
+    (λ c κs. tt)
     (rests-rests-requires-3 t)
-    (rests-none-requires-5 t)
+    (λ c κs. tt)
     (rests-returns-3 t)
     (rests-returns-4 t)
     (rests-returns-5 t)

@@ -3,12 +3,6 @@ use Rattle.pattern.proofs.Adding as law
 use Rattle.pattern.proofs.tally.plus.Statement.{statement}
 use Rattle.pattern.proofs.tally.plus.Tie as tie
 
-sub-if2 : tie.Need-sub-if2
-sub-if2 c = omega arith
-
-add-result : tie.Need-add-result
-add-result c = omega arith
-
 returns : tie.Need-returns
 returns c = law.plus-fits _ _ (c .before .if1 .taken) (c .if2 .taken)
 
@@ -19,4 +13,4 @@ returns-3 : tie.Need-returns-3
 returns-3 c = law.plus-over _ _ (c .if1 .left)
 
 pub plus-spec : {M : Type 1} → statement M
-plus-spec = tie.close (tie.spec sub-if2 add-result returns returns-2 returns-3)
+plus-spec = tie.close (tie.spec (λ c. omega arith) (λ c. omega arith) returns returns-2 returns-3)

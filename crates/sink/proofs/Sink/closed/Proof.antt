@@ -4,18 +4,6 @@ use borrow.Author.Needs.{needs}
 use Rattle.sink.proofs.Sink.closed.Statement.{statement}
 use Rattle.sink.proofs.Sink.closed.Tie as tie
 
-put-wide-requires : tie.Need-put-wide-requires
-put-wide-requires c κs = tt
-
-listed-wide-requires : tie.Need-listed-wide-requires
-listed-wide-requires c κs = tt
-
-add-listed-copy : tie.Need-add-listed-copy
-add-listed-copy c = search needs
-
-listed-copy-requires : tie.Need-listed-copy-requires
-listed-copy-requires c κs = tt
-
 same-length : tie.Need-same-length
 same-length c = c .before .before .listed-copy .kept .1 .0 ∙ c .before .before .before .before .before .before .listed-wide .kept .1 .0 ∙ c .before .before .before .before .before .before .before .before .before .before .put-wide .kept .0
 
@@ -29,10 +17,10 @@ pub closed-spec : {M : Type 1} → statement M
 closed-spec =
     tie.close
     (tie.spec
-    put-wide-requires
-    listed-wide-requires
-    add-listed-copy
-    listed-copy-requires
+    (λ c κs. tt)
+    (λ c κs. tt)
+    (λ c. search needs)
+    (λ c κs. tt)
     same-length
     returns
     returns-2)

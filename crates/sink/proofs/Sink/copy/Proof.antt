@@ -14,23 +14,11 @@ Inv-loop self out₀ from start end at₀ i₀ stop out at i = (length out ≡ l
 abbrev μ-loop : tie.MeasureT-loop
 μ-loop self out₀ from start end at₀ i₀ stop out at i = stop - i
 
-least-requires : tie.Need-least-requires Inv-loop μ-loop
-least-requires c κs = tt
-
 loop-holds : tie.Need-loop-holds Inv-loop μ-loop
 loop-holds c = (refl, λ l w. law.copy-start (c .before .before .before .args .from .now) _ (c .before .before .before .args .start) _ _ (c .least .ensures))
 
 shared-slice-read-put-at : tie.Need-shared-slice-read-put-at Inv-loop μ-loop
 shared-slice-read-put-at c = omega (arith, c .before .before .before .before .least .ensures)
-
-put-at-requires : tie.Need-put-at-requires Inv-loop μ-loop
-put-at-requires c κs = tt
-
-add-i : tie.Need-add-i Inv-loop μ-loop
-add-i c = omega arith
-
-loop-less : tie.Need-loop-less Inv-loop μ-loop
-loop-less c = omega arith
 
 loop-again : tie.Need-loop-again Inv-loop μ-loop
 loop-again c = (c .before .before .put-at .kept .0 ∙ c .before .before .before .before .before .before .loop .inv .0, λ l w. law.copy-more _ _ _ _ _ _ (c .before .before .before .before .before .loop-test .taken) (omega (arith, c .before .before .before .before .before .before .before .least .ensures)) (c .before .before .put-at .ensures (c .before .before .before .before .before .before .before .before .before .before .args .self) l w) (c .before .before .before .before .before .before .loop .inv .1 l w))
@@ -47,12 +35,12 @@ copy-spec =
     (tie.spec
     Inv-loop
     μ-loop
-    least-requires
+    (λ c κs. tt)
     loop-holds
     shared-slice-read-put-at
-    put-at-requires
-    add-i
-    loop-less
+    (λ c κs. tt)
+    (λ c. omega arith)
+    (λ c. omega arith)
     loop-again
     same-length
     returns)

@@ -2,12 +2,6 @@ use Rattle.sink.proofs.Laws as law
 use Rattle.sink.proofs.Sink.declarator.Statement.{statement}
 use Rattle.sink.proofs.Sink.declarator.Tie as tie
 
-one-more-requires : tie.Need-one-more-requires
-one-more-requires c κs = tt
-
-excluded2-requires : tie.Need-excluded2-requires
-excluded2-requires c κs = tt
-
 same-length : tie.Need-same-length
 same-length c = c .before .before .excluded2 .kept .1 .0
 
@@ -15,4 +9,4 @@ returns : tie.Need-returns
 returns c = λ t l. law.declarator-is _ _ _ (c .before .before .before .before .one-more .ensures) (c .before .before .excluded2 .ensures t l)
 
 pub declarator-spec : {M : Type 1} → statement M
-declarator-spec = tie.close (tie.spec one-more-requires excluded2-requires same-length returns)
+declarator-spec = tie.close (tie.spec (λ c κs. tt) (λ c κs. tt) same-length returns)

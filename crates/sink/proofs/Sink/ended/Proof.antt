@@ -2,12 +2,6 @@ use Rattle.sink.proofs.Laws as law
 use Rattle.sink.proofs.Sink.ended.Statement.{statement}
 use Rattle.sink.proofs.Sink.ended.Tie as tie
 
-over-requires : tie.Need-over-requires
-over-requires c κs = tt
-
-abandon-requires : tie.Need-abandon-requires
-abandon-requires c κs = tt
-
 same-length : tie.Need-same-length
 same-length c = c .before .before .before .before .before .before .abandon .kept .0
 
@@ -19,12 +13,6 @@ same-length-3 c = c .before .before .before .before .before .before .abandon .ke
 
 returns : tie.Need-returns
 returns c = law.ended-tree _ _ _ (c .before .before .before .before .before .before .before .before .before .before .before .over .ensures) (c .before .before .before .before .before .before .before .before .before .before .if1 .taken) (c .before .before .before .before .before .before .abandon .ensures)
-
-over-requires-2 : tie.Need-over-requires-2
-over-requires-2 c κs = tt
-
-abandon-requires-2 : tie.Need-abandon-requires-2
-abandon-requires-2 c κs = tt
 
 same-length-4 : tie.Need-same-length-4
 same-length-4 c = c .before .before .before .before .before .before .abandon2 .kept .0
@@ -38,12 +26,6 @@ same-length-6 c = c .before .before .before .before .before .before .abandon2 .k
 returns-2 : tie.Need-returns-2
 returns-2 c = law.ended-list _ _ _ _ (c .before .before .before .before .before .before .before .before .before .before .before .before .before .over .ensures) (c .before .before .before .before .before .before .before .before .before .before .before .before .if1 .left) (c .before .before .before .before .before .before .before .before .before .before .before .over2 .ensures) (c .before .before .before .before .before .before .before .before .before .before .if2 .taken) (c .before .before .before .before .before .before .abandon2 .ensures)
 
-clear-requires : tie.Need-clear-requires
-clear-requires c κs = tt
-
-mask-requires : tie.Need-mask-requires
-mask-requires c κs = tt
-
 same-length-7 : tie.Need-same-length-7
 same-length-7 c = c .before .before .before .before .clear .kept .0
 
@@ -54,19 +36,19 @@ pub ended-spec : {M : Type 1} → statement M
 ended-spec =
     tie.close
     (tie.spec
-    over-requires
-    abandon-requires
+    (λ c κs. tt)
+    (λ c κs. tt)
     same-length
     same-length-2
     same-length-3
     returns
-    over-requires-2
-    abandon-requires-2
+    (λ c κs. tt)
+    (λ c κs. tt)
     same-length-4
     same-length-5
     same-length-6
     returns-2
-    clear-requires
-    mask-requires
+    (λ c κs. tt)
+    (λ c κs. tt)
     same-length-7
     returns-3)

@@ -3,15 +3,6 @@ use borrow.Author.Needs.{needs}
 use Rattle.sink.proofs.Sink.entry.Statement.{statement}
 use Rattle.sink.proofs.Sink.entry.Tie as tie
 
-one-more-requires : tie.Need-one-more-requires
-one-more-requires c κs = tt
-
-write-entry-at-requires : tie.Need-write-entry-at-requires
-write-entry-at-requires c κs = tt
-
-add-self : tie.Need-add-self
-add-self c = search needs
-
 same-length : tie.Need-same-length
 same-length c = c .before .before .write-entry-at .kept .0
 
@@ -24,4 +15,4 @@ returns-2 c = λ t w. law.entry-over _ _ _ _ (c .before .one-more .ensures) (c .
 pub entry-spec : {M : Type 1} → statement M
 entry-spec =
     tie.close
-    (tie.spec one-more-requires write-entry-at-requires add-self same-length returns returns-2)
+    (tie.spec (λ c κs. tt) (λ c κs. tt) (λ c. search needs) same-length returns returns-2)

@@ -3,15 +3,6 @@ use borrow.Author.Needs.{needs}
 use Rattle.sink.proofs.Sink.excluded.Statement.{statement}
 use Rattle.sink.proofs.Sink.excluded.Tie as tie
 
-add-put-byte : tie.Need-add-put-byte
-add-put-byte c = search needs
-
-put-byte-requires : tie.Need-put-byte-requires
-put-byte-requires c κs = tt
-
-add-self : tie.Need-add-self
-add-self c = search needs
-
 same-length : tie.Need-same-length
 same-length c = c .before .before .put-byte .kept .0
 
@@ -23,4 +14,4 @@ returns-2 c = λ t l. law.excluded-over _ _ (c .if1 .left)
 
 pub excluded-spec : {M : Type 1} → statement M
 excluded-spec =
-    tie.close (tie.spec add-put-byte put-byte-requires add-self same-length returns returns-2)
+    tie.close (tie.spec (λ c. search needs) (λ c κs. tt) (λ c. search needs) same-length returns returns-2)

@@ -4,12 +4,6 @@ use mathlib.Core.List.{_∷_, []}
 use Rattle.sink.proofs.Sink.excluded4.Statement.{statement}
 use Rattle.sink.proofs.Sink.excluded4.Tie as tie
 
-excluded2-requires : tie.Need-excluded2-requires
-excluded2-requires c κs = tt
-
-excluded2-requires-2 : tie.Need-excluded2-requires-2
-excluded2-requires-2 c κs = tt
-
 same-length : tie.Need-same-length
 same-length c = c .before .before .excluded22 .kept .1 .0 ∙ c .before .before .before .before .before .before .excluded2 .kept .1 .0
 
@@ -17,4 +11,4 @@ returns : tie.Need-returns
 returns c = λ t l. law.excluded-more _ _ _ (_ ∷ _ ∷ []) (_ ∷ _ ∷ []) (c .before .before .before .before .before .before .excluded2 .ensures t l) (c .before .before .excluded22 .ensures t l)
 
 pub excluded4-spec : {M : Type 1} → statement M
-excluded4-spec = tie.close (tie.spec excluded2-requires excluded2-requires-2 same-length returns)
+excluded4-spec = tie.close (tie.spec (λ c κs. tt) (λ c κs. tt) same-length returns)

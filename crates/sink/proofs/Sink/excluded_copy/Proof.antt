@@ -2,7 +2,6 @@ use mathlib.Core.Path.{refl, _∙_, _≡_}
 use Rattle.sink.specs.Machine.{stateOf, steps, excludes, part}
 use Rattle.sink.proofs.Laws as law
 use native.Mathlib.Omega.{arith}
-use Rattle.sink.specs.Machine.{stateOf, steps, excludes}
 use lib.ListN.{length}
 use mathlib.Core.List.{List}
 use Prim.Native.Nat.{ℕ, _-_}
@@ -15,23 +14,11 @@ Inv-loop work₀ from start end k₀ i₀ stop work k i = (length work ≡ lengt
 abbrev μ-loop : tie.MeasureT-loop
 μ-loop work₀ from start end k₀ i₀ stop work k i = stop - i
 
-least-requires : tie.Need-least-requires Inv-loop μ-loop
-least-requires c κs = tt
-
 loop-holds : tie.Need-loop-holds Inv-loop μ-loop
 loop-holds c = (refl, λ t l. law.excluded-copy-start (c .before .before .before .args .from .now) _ (c .before .before .before .args .start) _ _ (c .least .ensures))
 
 shared-slice-read-excluded : tie.Need-shared-slice-read-excluded Inv-loop μ-loop
 shared-slice-read-excluded c = omega (arith, c .before .before .before .before .least .ensures)
-
-excluded-requires : tie.Need-excluded-requires Inv-loop μ-loop
-excluded-requires c κs = tt
-
-add-i : tie.Need-add-i Inv-loop μ-loop
-add-i c = omega arith
-
-loop-less : tie.Need-loop-less Inv-loop μ-loop
-loop-less c = omega arith
 
 loop-again : tie.Need-loop-again Inv-loop μ-loop
 loop-again c = (c .before .before .excluded .kept .1 .0 ∙ c .before .before .before .before .before .before .loop .inv .0, λ t l. law.excluded-copy-more _ _ _ _ _ _ (c .before .before .before .before .before .loop-test .taken) (omega (arith, c .before .before .before .before .before .before .before .least .ensures)) (c .before .before .excluded .ensures t l) (c .before .before .before .before .before .before .loop .inv .1 t l))
@@ -48,12 +35,12 @@ excluded-copy-spec =
     (tie.spec
     Inv-loop
     μ-loop
-    least-requires
+    (λ c κs. tt)
     loop-holds
     shared-slice-read-excluded
-    excluded-requires
-    add-i
-    loop-less
+    (λ c κs. tt)
+    (λ c. omega arith)
+    (λ c. omega arith)
     loop-again
     same-length
     returns)

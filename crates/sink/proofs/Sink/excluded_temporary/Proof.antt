@@ -3,15 +3,6 @@ use Rattle.sink.proofs.Laws as law
 use Rattle.sink.proofs.Sink.excluded_temporary.Statement.{statement}
 use Rattle.sink.proofs.Sink.excluded_temporary.Tie as tie
 
-excluded-at-requires : tie.Need-excluded-at-requires
-excluded-at-requires c κs = tt
-
-set-cell-requires : tie.Need-set-cell-requires
-set-cell-requires c κs = tt
-
-excluded4-requires : tie.Need-excluded4-requires
-excluded4-requires c κs = tt
-
 same-length : tie.Need-same-length
 same-length c = c .before .before .excluded4 .kept .1 .0 ∙ c .before .before .before .before .before .before .set-cell .kept .0
 
@@ -21,4 +12,4 @@ returns c = λ t l. law.excluded-temporary-is _ _ _ _ _ (c .before .before .befo
 pub excluded-temporary-spec : {M : Type 1} → statement M
 excluded-temporary-spec =
     tie.close
-    (tie.spec excluded-at-requires set-cell-requires excluded4-requires same-length returns)
+    (tie.spec (λ c κs. tt) (λ c κs. tt) (λ c κs. tt) same-length returns)

@@ -3,12 +3,6 @@ use Rattle.sink.proofs.Laws as law
 use Rattle.sink.proofs.Sink.finish.Statement.{statement}
 use Rattle.sink.proofs.Sink.finish.Tie as tie
 
-closed-requires : tie.Need-closed-requires
-closed-requires c κs = tt
-
-ended-requires : tie.Need-ended-requires
-ended-requires c κs = tt
-
 same-length : tie.Need-same-length
 same-length c = c .before .before .before .before .before .before .ended .kept .1 .0
 
@@ -24,4 +18,4 @@ returns c = law.finished-is _ _ _ (c .before .before .before .before .before .be
 pub finish-spec : {M : Type 1} → statement M
 finish-spec =
     tie.close
-    (tie.spec closed-requires ended-requires same-length same-length-2 same-length-3 returns)
+    (tie.spec (λ c κs. tt) (λ c κs. tt) same-length same-length-2 same-length-3 returns)

@@ -3,12 +3,6 @@ use borrow.Author.Needs.{needs}
 use Rattle.sink.proofs.Sink.listed.Statement.{statement}
 use Rattle.sink.proofs.Sink.listed.Tie as tie
 
-write-at-requires : tie.Need-write-at-requires
-write-at-requires c κs = tt
-
-add-self : tie.Need-add-self
-add-self c = search needs
-
 same-length : tie.Need-same-length
 same-length c = c .before .before .write-at .kept .0
 
@@ -19,4 +13,4 @@ returns-2 : tie.Need-returns-2
 returns-2 c = λ t w. law.listed-over _ _ (c .if1 .left)
 
 pub listed-spec : {M : Type 1} → statement M
-listed-spec = tie.close (tie.spec write-at-requires add-self same-length returns returns-2)
+listed-spec = tie.close (tie.spec (λ c κs. tt) (λ c. search needs) same-length returns returns-2)

@@ -4,12 +4,6 @@ use mathlib.Core.List.{_∷_, []}
 use Rattle.sink.proofs.Sink.listed4.Statement.{statement}
 use Rattle.sink.proofs.Sink.listed4.Tie as tie
 
-listed2-requires : tie.Need-listed2-requires
-listed2-requires c κs = tt
-
-listed2-requires-2 : tie.Need-listed2-requires-2
-listed2-requires-2 c κs = tt
-
 same-length : tie.Need-same-length
 same-length c = c .before .before .listed22 .kept .1 .0 ∙ c .before .before .before .before .before .before .listed2 .kept .1 .0
 
@@ -17,4 +11,4 @@ returns : tie.Need-returns
 returns c = λ t w. law.listed-more _ _ _ (_ ∷ _ ∷ []) (_ ∷ _ ∷ []) (c .before .before .before .before .before .before .listed2 .ensures t w) (c .before .before .listed22 .ensures t w)
 
 pub listed4-spec : {M : Type 1} → statement M
-listed4-spec = tie.close (tie.spec listed2-requires listed2-requires-2 same-length returns)
+listed4-spec = tie.close (tie.spec (λ c κs. tt) (λ c κs. tt) same-length returns)

@@ -2,7 +2,6 @@ use mathlib.Core.Path.{refl, _∙_, _≡_}
 use Rattle.sink.specs.Machine.{stateOf, steps, lists, part}
 use Rattle.sink.proofs.Laws as law
 use native.Mathlib.Omega.{arith}
-use Rattle.sink.specs.Machine.{stateOf, steps, lists}
 use lib.ListN.{length}
 use mathlib.Core.List.{List}
 use Prim.Native.Nat.{ℕ, _-_}
@@ -15,23 +14,11 @@ Inv-loop list₀ from start end k₀ i₀ stop list k i = (length list ≡ lengt
 abbrev μ-loop : tie.MeasureT-loop
 μ-loop list₀ from start end k₀ i₀ stop list k i = stop - i
 
-least-requires : tie.Need-least-requires Inv-loop μ-loop
-least-requires c κs = tt
-
 loop-holds : tie.Need-loop-holds Inv-loop μ-loop
 loop-holds c = (refl, λ t w. law.listed-copy-start (c .before .before .before .args .from .now) _ (c .before .before .before .args .start) _ _ (c .least .ensures))
 
 shared-slice-read-listed : tie.Need-shared-slice-read-listed Inv-loop μ-loop
 shared-slice-read-listed c = omega (arith, c .before .before .before .before .least .ensures)
-
-listed-requires : tie.Need-listed-requires Inv-loop μ-loop
-listed-requires c κs = tt
-
-add-i : tie.Need-add-i Inv-loop μ-loop
-add-i c = omega arith
-
-loop-less : tie.Need-loop-less Inv-loop μ-loop
-loop-less c = omega arith
 
 loop-again : tie.Need-loop-again Inv-loop μ-loop
 loop-again c = (c .before .before .listed .kept .1 .0 ∙ c .before .before .before .before .before .before .loop .inv .0, λ t w. law.listed-copy-more _ _ _ _ _ _ (c .before .before .before .before .before .loop-test .taken) (omega (arith, c .before .before .before .before .before .before .before .least .ensures)) (c .before .before .listed .ensures t w) (c .before .before .before .before .before .before .loop .inv .1 t w))
@@ -48,12 +35,12 @@ listed-copy-spec =
     (tie.spec
     Inv-loop
     μ-loop
-    least-requires
+    (λ c κs. tt)
     loop-holds
     shared-slice-read-listed
-    listed-requires
-    add-i
-    loop-less
+    (λ c κs. tt)
+    (λ c. omega arith)
+    (λ c. omega arith)
     loop-again
     same-length
     returns)

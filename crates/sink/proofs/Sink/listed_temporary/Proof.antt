@@ -2,15 +2,6 @@ use Rattle.sink.proofs.Laws as law
 use Rattle.sink.proofs.Sink.listed_temporary.Statement.{statement}
 use Rattle.sink.proofs.Sink.listed_temporary.Tie as tie
 
-listed-at-requires : tie.Need-listed-at-requires
-listed-at-requires c κs = tt
-
-set-cell-requires : tie.Need-set-cell-requires
-set-cell-requires c κs = tt
-
-listed4-requires : tie.Need-listed4-requires
-listed4-requires c κs = tt
-
 same-length : tie.Need-same-length
 same-length c = c .before .before .listed4 .kept .1 .0
 
@@ -24,9 +15,9 @@ pub listed-temporary-spec : {M : Type 1} → statement M
 listed-temporary-spec =
     tie.close
     (tie.spec
-    listed-at-requires
-    set-cell-requires
-    listed4-requires
+    (λ c κs. tt)
+    (λ c κs. tt)
+    (λ c κs. tt)
     same-length
     same-length-2
     returns)

@@ -4,26 +4,8 @@ use borrow.Author.Needs.{needs}
 use Rattle.sink.proofs.Sink.settled.Statement.{statement}
 use Rattle.sink.proofs.Sink.settled.Tie as tie
 
-cell-requires : tie.Need-cell-requires
-cell-requires c κs = tt
-
-known-requires : tie.Need-known-requires
-known-requires c κs = tt
-
-same-length : tie.Need-same-length
-same-length c = search needs
-
 returns : tie.Need-returns
 returns c = λ t. law.settled-known _ _ _ _ (c .before .before .cell .ensures) (c .before .known .ensures) (c .if1 .taken)
-
-patch-requires : tie.Need-patch-requires
-patch-requires c κs = tt
-
-set-cell-requires : tie.Need-set-cell-requires
-set-cell-requires c κs = tt
-
-one-more-requires : tie.Need-one-more-requires
-one-more-requires c κs = tt
 
 same-length-2 : tie.Need-same-length-2
 same-length-2 c = c .before .before .before .before .before .before .before .before .before .patch .kept .0
@@ -38,13 +20,13 @@ pub settled-spec : {M : Type 1} → statement M
 settled-spec =
     tie.close
     (tie.spec
-    cell-requires
-    known-requires
-    same-length
+    (λ c κs. tt)
+    (λ c κs. tt)
+    (λ c. search needs)
     returns
-    patch-requires
-    set-cell-requires
-    one-more-requires
+    (λ c κs. tt)
+    (λ c κs. tt)
+    (λ c κs. tt)
     same-length-2
     same-length-3
     returns-2)

@@ -2,21 +2,6 @@ use Rattle.sink.proofs.Laws as law
 use Rattle.sink.proofs.Sink.temporary.Statement.{statement}
 use Rattle.sink.proofs.Sink.temporary.Tie as tie
 
-number-requires : tie.Need-number-requires
-number-requires c κs = tt
-
-settled-requires : tie.Need-settled-requires
-settled-requires c κs = tt
-
-low-requires : tie.Need-low-requires
-low-requires c κs = tt
-
-high-requires : tie.Need-high-requires
-high-requires c κs = tt
-
-put4-requires : tie.Need-put4-requires
-put4-requires c κs = tt
-
 same-length : tie.Need-same-length
 same-length c = c .before .before .put4 .kept .1 .0
 
@@ -33,11 +18,11 @@ pub temporary-spec : {M : Type 1} → statement M
 temporary-spec =
     tie.close
     (tie.spec
-    number-requires
-    settled-requires
-    low-requires
-    high-requires
-    put4-requires
+    (λ c κs. tt)
+    (λ c κs. tt)
+    (λ c κs. tt)
+    (λ c κs. tt)
+    (λ c κs. tt)
     same-length
     same-length-2
     same-length-3

@@ -4,12 +4,9 @@ use borrow.Author.Needs.{needs}
 use Rattle.sink.proofs.bytes.high.Statement.{statement}
 use Rattle.sink.proofs.bytes.high.Tie as tie
 
-cast-result : tie.Need-cast-result
-cast-result c = search needs
-
 returns : tie.Need-returns
 unfolding high
 returns c = refl
 
 pub high-spec : {M : Type 1} → statement M
-high-spec = tie.close (tie.spec cast-result returns)
+high-spec = tie.close (tie.spec (λ c. search needs) returns)

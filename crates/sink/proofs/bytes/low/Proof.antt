@@ -4,12 +4,9 @@ use borrow.Author.Needs.{needs}
 use Rattle.sink.proofs.bytes.low.Statement.{statement}
 use Rattle.sink.proofs.bytes.low.Tie as tie
 
-cast-result : tie.Need-cast-result
-cast-result c = search needs
-
 returns : tie.Need-returns
 unfolding low
 returns c = refl
 
 pub low-spec : {M : Type 1} → statement M
-low-spec = tie.close (tie.spec cast-result returns)
+low-spec = tie.close (tie.spec (λ c. search needs) returns)

@@ -3,27 +3,6 @@ use borrow.Author.Needs.{needs}
 use Rattle.sink.proofs.bytes.wide.Statement.{statement}
 use Rattle.sink.proofs.bytes.wide.Tie as tie
 
-byte-requires : tie.Need-byte-requires
-byte-requires c κs = tt
-
-cast-result : tie.Need-cast-result
-cast-result c = search needs
-
-add-byte : tie.Need-add-byte
-add-byte c = search needs
-
-byte-requires-2 : tie.Need-byte-requires-2
-byte-requires-2 c κs = tt
-
-cast-result-2 : tie.Need-cast-result-2
-cast-result-2 c = search needs
-
-mul-result : tie.Need-mul-result
-mul-result c = search needs
-
-add-result : tie.Need-add-result
-add-result c = search needs
-
 returns : tie.Need-returns
 returns c = law.wide-in _ _ _ _ (c .before .byte .ensures) (c .byte2 .ensures)
 
@@ -34,12 +13,12 @@ pub wide-spec : {M : Type 1} → statement M
 wide-spec =
     tie.close
     (tie.spec
-    byte-requires
-    cast-result
-    add-byte
-    byte-requires-2
-    cast-result-2
-    mul-result
-    add-result
+    (λ c κs. tt)
+    (λ c. search needs)
+    (λ c. search needs)
+    (λ c κs. tt)
+    (λ c. search needs)
+    (λ c. search needs)
+    (λ c. search needs)
     returns
     returns-2)

@@ -3,12 +3,6 @@ use borrow.Author.Needs.{needs}
 use Rattle.sink.proofs.cells.cell.Statement.{statement}
 use Rattle.sink.proofs.cells.cell.Tie as tie
 
-mul-wide : tie.Need-mul-wide
-mul-wide c = search needs
-
-wide-requires : tie.Need-wide-requires
-wide-requires c κs = tt
-
 returns : tie.Need-returns
 returns c = law.cell-in _ _ _ (c .before .if1 .taken) (c .wide .ensures)
 
@@ -16,4 +10,4 @@ returns-2 : tie.Need-returns-2
 returns-2 c = law.cell-out _ _ (c .if1 .left)
 
 pub cell-spec : {M : Type 1} → statement M
-cell-spec = tie.close (tie.spec mul-wide wide-requires returns returns-2)
+cell-spec = tie.close (tie.spec (λ c. search needs) (λ c κs. tt) returns returns-2)

@@ -5,17 +5,11 @@ use Rattle.sink.proofs.cells.patch.Tie as tie
 returns : tie.Need-returns
 returns c = law.patch-none _ _ _ _ (c .if1 .taken)
 
-put-wide-requires : tie.Need-put-wide-requires
-put-wide-requires c κs = tt
-
 same-length : tie.Need-same-length
 same-length c = c .before .before .put-wide .kept .0
 
 returns-2 : tie.Need-returns-2
 returns-2 c = law.patch-list _ _ _ _ _ (c .before .before .before .before .before .if1 .left) (c .before .before .before .before .if2 .taken) (c .before .before .put-wide .ensures)
-
-put-wide-requires-2 : tie.Need-put-wide-requires-2
-put-wide-requires-2 c κs = tt
 
 same-length-2 : tie.Need-same-length-2
 same-length-2 c = c .before .before .put-wide2 .kept .0
@@ -28,9 +22,9 @@ patch-spec =
     tie.close
     (tie.spec
     returns
-    put-wide-requires
+    (λ c κs. tt)
     same-length
     returns-2
-    put-wide-requires-2
+    (λ c κs. tt)
     same-length-2
     returns-3)

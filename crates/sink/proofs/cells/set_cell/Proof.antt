@@ -3,12 +3,6 @@ use borrow.Author.Needs.{needs}
 use Rattle.sink.proofs.cells.set_cell.Statement.{statement}
 use Rattle.sink.proofs.cells.set_cell.Tie as tie
 
-mul-put-wide : tie.Need-mul-put-wide
-mul-put-wide c = search needs
-
-put-wide-requires : tie.Need-put-wide-requires
-put-wide-requires c κs = tt
-
 same-length : tie.Need-same-length
 same-length c = c .before .before .put-wide .kept .0
 
@@ -19,4 +13,4 @@ returns-2 : tie.Need-returns-2
 returns-2 c = law.set-cell-out _ _ _ (c .if1 .left)
 
 pub set-cell-spec : {M : Type 1} → statement M
-set-cell-spec = tie.close (tie.spec mul-put-wide put-wide-requires same-length returns returns-2)
+set-cell-spec = tie.close (tie.spec (λ c. search needs) (λ c κs. tt) same-length returns returns-2)

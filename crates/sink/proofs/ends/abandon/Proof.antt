@@ -2,15 +2,6 @@ use Rattle.sink.proofs.Laws as law
 use Rattle.sink.proofs.ends.abandon.Statement.{statement}
 use Rattle.sink.proofs.ends.abandon.Tie as tie
 
-clear-requires : tie.Need-clear-requires
-clear-requires c κs = tt
-
-clear-requires-2 : tie.Need-clear-requires-2
-clear-requires-2 c κs = tt
-
-clear-requires-3 : tie.Need-clear-requires-3
-clear-requires-3 c κs = tt
-
 same-length : tie.Need-same-length
 same-length c = c .before .before .before .before .before .before .before .before .before .before .clear .kept .0
 
@@ -27,9 +18,9 @@ pub abandon-spec : {M : Type 1} → statement M
 abandon-spec =
     tie.close
     (tie.spec
-    clear-requires
-    clear-requires-2
-    clear-requires-3
+    (λ c κs. tt)
+    (λ c κs. tt)
+    (λ c κs. tt)
     same-length
     same-length-2
     same-length-3

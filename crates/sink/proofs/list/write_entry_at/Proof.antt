@@ -3,21 +3,6 @@ use borrow.Author.Needs.{needs}
 use Rattle.sink.proofs.list.write_entry_at.Statement.{statement}
 use Rattle.sink.proofs.list.write_entry_at.Tie as tie
 
-sub-write-entry : tie.Need-sub-write-entry
-sub-write-entry c = search needs
-
-part-write-entry-start : tie.Need-part-write-entry-start
-part-write-entry-start c = search needs
-
-part-write-entry-end : tie.Need-part-write-entry-end
-part-write-entry-end c = search needs
-
-write-entry-requires : tie.Need-write-entry-requires
-write-entry-requires c κs = tt
-
-same-length : tie.Need-same-length
-same-length c = search needs
-
 returns : tie.Need-returns
 returns c = law.part-entry _ _ _ _ _ (c .before .before .before .before .if1 .taken) (c .before .before .write-entry .ensures)
 
@@ -28,10 +13,10 @@ pub write-entry-at-spec : {M : Type 1} → statement M
 write-entry-at-spec =
     tie.close
     (tie.spec
-    sub-write-entry
-    part-write-entry-start
-    part-write-entry-end
-    write-entry-requires
-    same-length
+    (λ c. search needs)
+    (λ c. search needs)
+    (λ c. search needs)
+    (λ c κs. tt)
+    (λ c. search needs)
     returns
     returns-2)

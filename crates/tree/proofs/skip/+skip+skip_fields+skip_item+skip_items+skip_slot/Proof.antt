@@ -1,11 +1,8 @@
-use mathlib.Core.Path.{_≡_, refl, sym, ap, _∙_}
-use mathlib.Core.Bool.{true, false}
+use mathlib.Core.Path.{_≡_, refl, _∙_}
 use mathlib.Core.Logic.{⊎-elim}
 use native.Mathlib.Omega.{arith}
-use borrow.Author.Needs.{needs}
-use Rattle.tree.specs.Read.{byteAt}
 use Rattle.tree.specs.Rows.{fieldsIn}
-use Rattle.tree.specs.Look.{Seen, onward, lookItems, lookFields, lookNode}
+use Rattle.tree.specs.Look.{lookItems, lookFields, lookNode}
 use Rattle.tree.proofs.Skipping as law
 use Prim.Native.Nat.{ℕ, _+_, _*_, _<_}
 use borrow.Fn.Kinds.{In}
@@ -101,24 +98,6 @@ skip-claims t = (peek-reads.Asked, peek-reads.Learnt, row-reads.Asked, row-reads
 skip-returns : (t : ℕ) → skip-lts.Need-returns (skip-claims t) (skip-at t) skip.Post
 skip-returns t c = law.node-none _ _ _ (c .if1 .taken)
 
-skip-peek-requires : (t : ℕ) → skip-lts.Need-peek-requires (skip-claims t) (skip-at t) skip.Post
-skip-peek-requires t c κs = tt
-
-skip-row-requires : (t : ℕ) → skip-lts.Need-row-requires (skip-claims t) (skip-at t) skip.Post
-skip-row-requires t c κs = tt
-
-skip-step-requires : (t : ℕ) → skip-lts.Need-step-requires (skip-claims t) (skip-at t) skip.Post
-skip-step-requires t c κs = tt
-
-skip-peek-requires-2 : (t : ℕ) → skip-lts.Need-peek-requires-2 (skip-claims t) (skip-at t) skip.Post
-skip-peek-requires-2 t c κs = tt
-
-skip-sub-skip-fields : (t : ℕ) → skip-lts.Need-sub-skip-fields (skip-claims t) (skip-at t) skip.Post
-skip-sub-skip-fields t c = omega arith
-
-skip-step-requires-2 : (t : ℕ) → skip-lts.Need-step-requires-2 (skip-claims t) (skip-at t) skip.Post
-skip-step-requires-2 t c κs = tt
-
 skip-skip-fields-requires : (t : ℕ) → skip-lts.Need-skip-fields-requires (skip-claims t) (skip-at t) skip.Post
 skip-skip-fields-requires t c κs = (omega (arith, c .before .before .before .before .before .before .before .pre .0), tt)
 
@@ -131,26 +110,14 @@ skip-fields-Inv-loop tree row map left at r₀ m₀ p₀ r m p = lookFields tree
 abbrev skip-fields-μ-loop : skip-fields-lts.MeasureT-loop
 skip-fields-μ-loop tree row map left at r₀ m₀ p₀ r m p = r
 
-skip-fields-loop-holds : (t : ℕ) → skip-fields-lts.Need-loop-holds (skip-fields-claims t) (skip-fields-at t) skip-fields.Post skip-fields-Inv-loop skip-fields-μ-loop
-skip-fields-loop-holds t c = refl
-
 skip-fields-skip-slot-requires : (t : ℕ) → skip-fields-lts.Need-skip-slot-requires (skip-fields-claims t) (skip-fields-at t) skip-fields.Post skip-fields-Inv-loop skip-fields-μ-loop
 skip-fields-skip-slot-requires t c κs = (omega (arith, c .before .before .before .pre .0), tt)
-
-skip-fields-loop-less : (t : ℕ) → skip-fields-lts.Need-loop-less (skip-fields-claims t) (skip-fields-at t) skip-fields.Post skip-fields-Inv-loop skip-fields-μ-loop
-skip-fields-loop-less t c = omega arith
 
 skip-fields-loop-again : (t : ℕ) → skip-fields-lts.Need-loop-again (skip-fields-claims t) (skip-fields-at t) skip-fields.Post skip-fields-Inv-loop skip-fields-μ-loop
 skip-fields-loop-again t c = law.fields-more _ _ _ _ _ _ (c .before .loop-test .taken) (c .skip-slot .ensures) ∙ c .before .before .loop .inv
 
 skip-fields-returns : (t : ℕ) → skip-fields-lts.Need-returns (skip-fields-claims t) (skip-fields-at t) skip-fields.Post skip-fields-Inv-loop skip-fields-μ-loop
 skip-fields-returns t c = law.fields-end _ _ _ _ _ (c .loop-test .left) ∙ c .before .loop .inv
-
-skip-item-peek-requires : (t : ℕ) → skip-item-lts.Need-peek-requires (skip-item-claims t) (skip-item-at t) skip-item.Post
-skip-item-peek-requires t c κs = tt
-
-skip-item-step-requires : (t : ℕ) → skip-item-lts.Need-step-requires (skip-item-claims t) (skip-item-at t) skip-item.Post
-skip-item-step-requires t c κs = tt
 
 skip-item-returns : (t : ℕ) → skip-item-lts.Need-returns (skip-item-claims t) (skip-item-at t) skip-item.Post
 skip-item-returns t c = c .step .ensures ∙ law.item-hole _ _ _ _ _ (c .before .before .before .if1 .taken) (c .before .before .peek .ensures) (c .before .if2 .taken)
@@ -167,17 +134,8 @@ skip-items-Inv-loop tree holes count left at n₀ p₀ n p = lookItems tree (loo
 abbrev skip-items-μ-loop : skip-items-lts.MeasureT-loop
 skip-items-μ-loop tree holes count left at n₀ p₀ n p = n
 
-skip-items-loop-holds : (t : ℕ) → skip-items-lts.Need-loop-holds (skip-items-claims t) (skip-items-at t) skip-items.Post skip-items-Inv-loop skip-items-μ-loop
-skip-items-loop-holds t c = refl
-
 skip-items-skip-item-requires : (t : ℕ) → skip-items-lts.Need-skip-item-requires (skip-items-claims t) (skip-items-at t) skip-items.Post skip-items-Inv-loop skip-items-μ-loop
 skip-items-skip-item-requires t c κs = (omega (arith, c .before .before .before .pre .0), tt)
-
-skip-items-sub-n : (t : ℕ) → skip-items-lts.Need-sub-n (skip-items-claims t) (skip-items-at t) skip-items.Post skip-items-Inv-loop skip-items-μ-loop
-skip-items-sub-n t c = omega arith
-
-skip-items-loop-less : (t : ℕ) → skip-items-lts.Need-loop-less (skip-items-claims t) (skip-items-at t) skip-items.Post skip-items-Inv-loop skip-items-μ-loop
-skip-items-loop-less t c = omega arith
 
 skip-items-loop-again : (t : ℕ) → skip-items-lts.Need-loop-again (skip-items-claims t) (skip-items-at t) skip-items.Post skip-items-Inv-loop skip-items-μ-loop
 skip-items-loop-again t c = law.items-more _ _ _ _ _ _ (c .before .loop-test .taken) (c .skip-item .ensures) ∙ c .before .before .loop .inv
@@ -194,44 +152,14 @@ skip-slot-skip-requires t c κs = (omega (arith, c .before .before .before .pre 
 skip-slot-skip-requires-2 : (t : ℕ) → skip-slot-lts.Need-skip-requires-2 (skip-slot-claims t) (skip-slot-at t) skip-slot.Post
 skip-slot-skip-requires-2 t c κs = (omega (arith, c .before .before .before .pre .0), tt)
 
-skip-slot-wide-at-requires : (t : ℕ) → skip-slot-lts.Need-wide-at-requires (skip-slot-claims t) (skip-slot-at t) skip-slot.Post
-skip-slot-wide-at-requires t c κs = tt
-
-skip-slot-step-requires : (t : ℕ) → skip-slot-lts.Need-step-requires (skip-slot-claims t) (skip-slot-at t) skip-slot.Post
-skip-slot-step-requires t c κs = tt
-
 skip-slot-skip-items-requires : (t : ℕ) → skip-slot-lts.Need-skip-items-requires (skip-slot-claims t) (skip-slot-at t) skip-slot.Post
 skip-slot-skip-items-requires t c κs = (omega (arith, c .before .before .before .before .before .pre .0), tt)
-
-skip-slot-wide-at-requires-2 : (t : ℕ) → skip-slot-lts.Need-wide-at-requires-2 (skip-slot-claims t) (skip-slot-at t) skip-slot.Post
-skip-slot-wide-at-requires-2 t c κs = tt
-
-skip-slot-step-requires-2 : (t : ℕ) → skip-slot-lts.Need-step-requires-2 (skip-slot-claims t) (skip-slot-at t) skip-slot.Post
-skip-slot-step-requires-2 t c κs = tt
 
 skip-slot-skip-items-requires-2 : (t : ℕ) → skip-slot-lts.Need-skip-items-requires-2 (skip-slot-claims t) (skip-slot-at t) skip-slot.Post
 skip-slot-skip-items-requires-2 t c κs = (omega (arith, c .before .before .before .before .before .pre .0), tt)
 
-skip-slot-wide-at-requires-3 : (t : ℕ) → skip-slot-lts.Need-wide-at-requires-3 (skip-slot-claims t) (skip-slot-at t) skip-slot.Post
-skip-slot-wide-at-requires-3 t c κs = tt
-
 skip-slot-add-step : (t : ℕ) → skip-slot-lts.Need-add-step (skip-slot-claims t) (skip-slot-at t) skip-slot.Post
 skip-slot-add-step t c = omega (arith, c .wide-at3 .ensures .bound)
-
-skip-slot-step-requires-3 : (t : ℕ) → skip-slot-lts.Need-step-requires-3 (skip-slot-claims t) (skip-slot-at t) skip-slot.Post
-skip-slot-step-requires-3 t c κs = tt
-
-skip-slot-step-requires-4 : (t : ℕ) → skip-slot-lts.Need-step-requires-4 (skip-slot-claims t) (skip-slot-at t) skip-slot.Post
-skip-slot-step-requires-4 t c κs = tt
-
-skip-slot-step-requires-5 : (t : ℕ) → skip-slot-lts.Need-step-requires-5 (skip-slot-claims t) (skip-slot-at t) skip-slot.Post
-skip-slot-step-requires-5 t c κs = tt
-
-skip-slot-step-requires-6 : (t : ℕ) → skip-slot-lts.Need-step-requires-6 (skip-slot-claims t) (skip-slot-at t) skip-slot.Post
-skip-slot-step-requires-6 t c κs = tt
-
-skip-slot-step-requires-7 : (t : ℕ) → skip-slot-lts.Need-step-requires-7 (skip-slot-claims t) (skip-slot-at t) skip-slot.Post
-skip-slot-step-requires-7 t c κs = tt
 
 skip-slot-returns-2 : (t : ℕ) → skip-slot-lts.Need-returns-2 (skip-slot-claims t) (skip-slot-at t) skip-slot.Post
 skip-slot-returns-2 t c = c .skip .ensures ∙ law.slot-class _ _ _ _ _ (c .before .before .if1 .left) 1 (c .before .match .keys1)
@@ -264,54 +192,54 @@ pub +skip+skip-fields+skip-item+skip-items+skip-slot-spec : {M : Type 1} → sta
 +skip+skip-fields+skip-item+skip-items+skip-slot-spec =
     close μ-skip μ-skip-fields μ-skip-item μ-skip-items μ-skip-slot (λ t. skip-lts.spec (skip-claims t) (skip-at t) skip.Post
     (skip-returns t)
-    (skip-peek-requires t)
-    (skip-row-requires t)
-    (skip-step-requires t)
-    (skip-peek-requires-2 t)
-    (skip-sub-skip-fields t)
-    (skip-step-requires-2 t)
+    (λ c κs. tt)
+    (λ c κs. tt)
+    (λ c κs. tt)
+    (λ c κs. tt)
+    (λ c. omega arith)
+    (λ c κs. tt)
     (skip-skip-fields-requires t)
     (skip-returns-2 t))
     (λ t. skip-fields-lts.spec (skip-fields-claims t) (skip-fields-at t) skip-fields.Post
     skip-fields-Inv-loop
     skip-fields-μ-loop
-    (skip-fields-loop-holds t)
+    (λ c. refl)
     (skip-fields-skip-slot-requires t)
-    (skip-fields-loop-less t)
+    (λ c. omega arith)
     (skip-fields-loop-again t)
     (skip-fields-returns t))
     (λ t. skip-item-lts.spec (skip-item-claims t) (skip-item-at t) skip-item.Post
-    (skip-item-peek-requires t)
-    (skip-item-step-requires t)
+    (λ c κs. tt)
+    (λ c κs. tt)
     (skip-item-returns t)
     (skip-item-skip-requires t)
     (skip-item-returns-2 t))
     (λ t. skip-items-lts.spec (skip-items-claims t) (skip-items-at t) skip-items.Post
     skip-items-Inv-loop
     skip-items-μ-loop
-    (skip-items-loop-holds t)
+    (λ c. refl)
     (skip-items-skip-item-requires t)
-    (skip-items-sub-n t)
-    (skip-items-loop-less t)
+    (λ c. omega arith)
+    (λ c. omega arith)
     (skip-items-loop-again t)
     (skip-items-returns t))
     λ t. skip-slot-lts.spec (skip-slot-claims t) (skip-slot-at t) skip-slot.Post
     (skip-slot-returns t)
     (skip-slot-skip-requires t)
     (skip-slot-skip-requires-2 t)
-    (skip-slot-wide-at-requires t)
-    (skip-slot-step-requires t)
+    (λ c κs. tt)
+    (λ c κs. tt)
     (skip-slot-skip-items-requires t)
-    (skip-slot-wide-at-requires-2 t)
-    (skip-slot-step-requires-2 t)
+    (λ c κs. tt)
+    (λ c κs. tt)
     (skip-slot-skip-items-requires-2 t)
-    (skip-slot-wide-at-requires-3 t)
+    (λ c κs. tt)
     (skip-slot-add-step t)
-    (skip-slot-step-requires-3 t)
-    (skip-slot-step-requires-4 t)
-    (skip-slot-step-requires-5 t)
-    (skip-slot-step-requires-6 t)
-    (skip-slot-step-requires-7 t)
+    (λ c κs. tt)
+    (λ c κs. tt)
+    (λ c κs. tt)
+    (λ c κs. tt)
+    (λ c κs. tt)
     (skip-slot-returns-2 t)
     (skip-slot-returns-3 t)
     (skip-slot-returns-4 t)
