@@ -11,14 +11,14 @@ use borrow.Author.Tests.{eqb-true, eq-eqb}
 use Rattle.tree.specs.Tree.{Node, Items, wideBytes, count, encode}
 use Rattle.tree.specs.Tree.Node.{node}
 use Rattle.tree.specs.Tree.Fields.{done, absent, field}
-use Rattle.tree.specs.Tree.Piece.{one, list}
-use Rattle.tree.specs.Grammar.{fieldsOf, kinds}
+use Rattle.tree.specs.Tree.Piece.{one}
+use Rattle.tree.specs.Grammar.{fieldsOf}
 use Rattle.tree.specs.Read.{byteAt, wideAt}
 use Rattle.tree.specs.Look.{Seen, seen, onward, lookItems, lookFields, lookNode}
 use Rattle.tree.specs.Answer.{Wide}
 use Rattle.lowering.specs.Parts.{position, kind, is, standsIn, stands, nodeAt, itemsAt, pieceIn, gather}
 use Rattle.lowering.specs.Made.{Context}
-use Rattle.lowering.specs.Patterns.{shape, properties, value, rest, hasRest, hasObjectRest}
+use Rattle.lowering.specs.Patterns.{shape, properties, value, hasRest, hasObjectRest}
 use Rattle.lowering.specs.Patterns.Shape.{objectPattern, arrayPattern}
 use Rattle.lowering.specs.Rests.{hasNoProperties}
 use Rattle.lowering.specs.Declarations.{isName, isLowered, declarators, declarationLacksForm}

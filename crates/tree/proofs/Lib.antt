@@ -1,3 +1,4 @@
+pub mod Cycle
 pub mod Table
 pub mod Rows
 pub mod Leaves

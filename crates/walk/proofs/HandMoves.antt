@@ -9,7 +9,7 @@ use borrow.Author.Tests.{eq-eqb}
 use Rattle.tree.specs.Tree.{Node, Fields, Items}
 use Rattle.tree.specs.Tree.Node.{node}
 use Rattle.tree.specs.Tree.Fields.{done, absent, field}
-use Rattle.tree.specs.Tree.Piece.{one, list}
+use Rattle.tree.specs.Tree.Piece.{one}
 use Rattle.tree.specs.Read.{byteAt, wideAt}
 use Rattle.tree.specs.Answer.{Wide}
 use Rattle.tree.specs.Look.{Seen, onward, lookItems, lookNode}

@@ -10,13 +10,13 @@ use borrow.Author.Tests.{ne-eqb}
 use Rattle.tree.specs.Tree.{Node, count}
 use Rattle.tree.specs.Tree.Node.{node}
 use Rattle.tree.specs.Tree.Fields.{done, absent, field}
-use Rattle.tree.specs.Tree.Piece.{one, list}
+use Rattle.tree.specs.Tree.Piece.{one}
 use Rattle.tree.specs.Read.{byteAt, wideAt}
 use Rattle.tree.specs.Answer.{Wide}
 use Rattle.tree.specs.Look.{Seen, onward, lookItems, lookNode}
 use Rattle.lowering.specs.Parts.{position, is, nodeAt, itemsAt, stands, standsIn, pieceIn, gather}
 use Rattle.lowering.specs.Made.{Context}
-use Rattle.lowering.specs.Patterns.{properties, value}
+use Rattle.lowering.specs.Patterns.{properties}
 use Rattle.lowering.specs.Keys.{keyTemporaries}
 use Rattle.lowering.specs.Declarations.{isName, isLowered}
 use Rattle.lowering.proofs.All.{AllItems}

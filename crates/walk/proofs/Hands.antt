@@ -16,7 +16,7 @@ use Rattle.tree.specs.Read.{byteAt, wideAt}
 use Rattle.tree.specs.Answer.{Peeked, Wide}
 use Rattle.tree.specs.Look.{Seen, seen, seenAs, onward, lookItem, lookItems, lookFields, lookNode}
 use Rattle.lowering.specs.Parts.{is, nodeAt, pieceIn}
-use Rattle.lowering.specs.Patterns.{shape, properties, value}
+use Rattle.lowering.specs.Patterns.{shape, value}
 use Rattle.lowering.specs.Patterns.Shape.{leaf}
 use Rattle.lowering.proofs.All.{AllItems, all-unit}
 use Rattle.lowering.proofs.Cases.{by-test}

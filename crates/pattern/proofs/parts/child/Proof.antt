@@ -4,9 +4,6 @@ use borrow.Author.Needs.{needs}
 use Rattle.pattern.proofs.parts.child.Statement.{statement}
 use Rattle.pattern.proofs.parts.child.Tie as tie
 
-sub-t8 : tie.Need-sub-t8
-sub-t8 c = law.one-levels _ _ _ _ _ _ (c .before .p .given .1) (c .before .before .before .field .ensures)
-
 enum-told : tie.Need-enum-told
 enum-told c = search needs
 
@@ -36,7 +33,7 @@ child-spec =
     (tie.spec
     (λ c κs. tt)
     (λ c. search needs)
-    sub-t8
+    (λ c. law.one-levels _ _ _ _ _ _ (c .before .p .given .1) (c .before .before .before .field .ensures))
     enum-told
     (λ c. search needs)
     (λ c. search needs)

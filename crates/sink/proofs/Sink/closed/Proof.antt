@@ -4,9 +4,6 @@ use borrow.Author.Needs.{needs}
 use Rattle.sink.proofs.Sink.closed.Statement.{statement}
 use Rattle.sink.proofs.Sink.closed.Tie as tie
 
-same-length : tie.Need-same-length
-same-length c = c .before .before .listed-copy .kept .1 .0 ∙ c .before .before .before .before .before .before .listed-wide .kept .1 .0 ∙ c .before .before .before .before .before .before .before .before .before .before .put-wide .kept .0
-
 returns : tie.Need-returns
 returns c = λ t. law.closed-in _ _ _ _ (c .before .before .before .before .before .before .before .before .before .before .before .before .if1 .taken) (c .before .before .before .before .before .before .before .before .before .before .put-wide .ensures) (c .before .before .before .before .before .before .listed-wide .ensures t _) (c .before .before .listed-copy .ensures t _)
 
@@ -21,6 +18,6 @@ closed-spec =
     (λ c κs. tt)
     (λ c. search needs)
     (λ c κs. tt)
-    same-length
+    (λ c. c .before .before .listed-copy .kept .1 .0 ∙ c .before .before .before .before .before .before .listed-wide .kept .1 .0 ∙ c .before .before .before .before .before .before .before .before .before .before .put-wide .kept .0)
     returns
     returns-2)

@@ -3,9 +3,6 @@ use borrow.Author.Needs.{needs}
 use Rattle.sink.proofs.Sink.entry.Statement.{statement}
 use Rattle.sink.proofs.Sink.entry.Tie as tie
 
-same-length : tie.Need-same-length
-same-length c = c .before .before .write-entry-at .kept .0
-
 returns : tie.Need-returns
 returns c = λ t w. law.entry-in _ _ _ _ _ (c .before .before .before .before .before .one-more .ensures) (c .before .before .before .before .if1 .taken) (c .before .before .write-entry-at .ensures)
 
@@ -15,4 +12,4 @@ returns-2 c = λ t w. law.entry-over _ _ _ _ (c .before .one-more .ensures) (c .
 pub entry-spec : {M : Type 1} → statement M
 entry-spec =
     tie.close
-    (tie.spec (λ c κs. tt) (λ c κs. tt) (λ c. search needs) same-length returns returns-2)
+    (tie.spec (λ c κs. tt) (λ c κs. tt) (λ c. search needs) (λ c. c .before .before .write-entry-at .kept .0) returns returns-2)

@@ -3,9 +3,6 @@ use borrow.Author.Needs.{needs}
 use Rattle.sink.proofs.Sink.excluded.Statement.{statement}
 use Rattle.sink.proofs.Sink.excluded.Tie as tie
 
-same-length : tie.Need-same-length
-same-length c = c .before .before .put-byte .kept .0
-
 returns : tie.Need-returns
 returns c = λ t l. law.excluded-in _ _ _ (c .before .before .before .before .if1 .taken) (c .before .before .put-byte .ensures)
 
@@ -14,4 +11,4 @@ returns-2 c = λ t l. law.excluded-over _ _ (c .if1 .left)
 
 pub excluded-spec : {M : Type 1} → statement M
 excluded-spec =
-    tie.close (tie.spec (λ c. search needs) (λ c κs. tt) (λ c. search needs) same-length returns returns-2)
+    tie.close (tie.spec (λ c. search needs) (λ c κs. tt) (λ c. search needs) (λ c. c .before .before .put-byte .kept .0) returns returns-2)

@@ -4,11 +4,8 @@ use mathlib.Core.List.{_∷_, []}
 use Rattle.sink.proofs.Sink.excluded4.Statement.{statement}
 use Rattle.sink.proofs.Sink.excluded4.Tie as tie
 
-same-length : tie.Need-same-length
-same-length c = c .before .before .excluded22 .kept .1 .0 ∙ c .before .before .before .before .before .before .excluded2 .kept .1 .0
-
 returns : tie.Need-returns
 returns c = λ t l. law.excluded-more _ _ _ (_ ∷ _ ∷ []) (_ ∷ _ ∷ []) (c .before .before .before .before .before .before .excluded2 .ensures t l) (c .before .before .excluded22 .ensures t l)
 
 pub excluded4-spec : {M : Type 1} → statement M
-excluded4-spec = tie.close (tie.spec (λ c κs. tt) (λ c κs. tt) same-length returns)
+excluded4-spec = tie.close (tie.spec (λ c κs. tt) (λ c κs. tt) (λ c. c .before .before .excluded22 .kept .1 .0 ∙ c .before .before .before .before .before .before .excluded2 .kept .1 .0) returns)

@@ -3,19 +3,10 @@ use Rattle.sink.proofs.Laws as law
 use Rattle.sink.proofs.Sink.finish.Statement.{statement}
 use Rattle.sink.proofs.Sink.finish.Tie as tie
 
-same-length : tie.Need-same-length
-same-length c = c .before .before .before .before .before .before .ended .kept .1 .0
-
-same-length-2 : tie.Need-same-length-2
-same-length-2 c = c .before .before .before .before .before .before .ended .kept .1 .1 .0 ∙ c .before .before .before .before .before .before .before .before .before .before .before .before .closed .kept .1 .0
-
-same-length-3 : tie.Need-same-length-3
-same-length-3 c = c .before .before .before .before .before .before .ended .kept .1 .1 .1 .0
-
 returns : tie.Need-returns
 returns c = law.finished-is _ _ _ (c .before .before .before .before .before .before .before .before .before .before .before .before .closed .ensures _) (c .before .before .before .before .before .before .ended .ensures)
 
 pub finish-spec : {M : Type 1} → statement M
 finish-spec =
     tie.close
-    (tie.spec (λ c κs. tt) (λ c κs. tt) same-length same-length-2 same-length-3 returns)
+    (tie.spec (λ c κs. tt) (λ c κs. tt) (λ c. c .before .before .before .before .before .before .ended .kept .1 .0) (λ c. c .before .before .before .before .before .before .ended .kept .1 .1 .0 ∙ c .before .before .before .before .before .before .before .before .before .before .before .before .closed .kept .1 .0) (λ c. c .before .before .before .before .before .before .ended .kept .1 .1 .1 .0) returns)

@@ -17,14 +17,8 @@ abbrev μ-loop : tie.MeasureT-loop
 loop-holds : tie.Need-loop-holds Inv-loop μ-loop
 loop-holds c = (refl, λ t w. law.listed-copy-start (c .before .before .before .args .from .now) _ (c .before .before .before .args .start) _ _ (c .least .ensures))
 
-shared-slice-read-listed : tie.Need-shared-slice-read-listed Inv-loop μ-loop
-shared-slice-read-listed c = omega (arith, c .before .before .before .before .least .ensures)
-
 loop-again : tie.Need-loop-again Inv-loop μ-loop
 loop-again c = (c .before .before .listed .kept .1 .0 ∙ c .before .before .before .before .before .before .loop .inv .0, λ t w. law.listed-copy-more _ _ _ _ _ _ (c .before .before .before .before .before .loop-test .taken) (omega (arith, c .before .before .before .before .before .before .before .least .ensures)) (c .before .before .listed .ensures t w) (c .before .before .before .before .before .before .loop .inv .1 t w))
-
-same-length : tie.Need-same-length Inv-loop μ-loop
-same-length c = c .before .loop .inv .0
 
 returns : tie.Need-returns Inv-loop μ-loop
 returns c = λ t w. law.listed-copy-end _ _ _ _ _ (c .loop-test .left) (c .before .loop .inv .1 t w)
@@ -37,10 +31,10 @@ listed-copy-spec =
     μ-loop
     (λ c κs. tt)
     loop-holds
-    shared-slice-read-listed
+    (λ c. omega (arith, c .before .before .before .before .least .ensures))
     (λ c κs. tt)
     (λ c. omega arith)
     (λ c. omega arith)
     loop-again
-    same-length
+    (λ c. c .before .loop .inv .0)
     returns)

@@ -2,12 +2,6 @@ use Rattle.sink.proofs.Laws as law
 use Rattle.sink.proofs.Sink.listed_temporary.Statement.{statement}
 use Rattle.sink.proofs.Sink.listed_temporary.Tie as tie
 
-same-length : tie.Need-same-length
-same-length c = c .before .before .listed4 .kept .1 .0
-
-same-length-2 : tie.Need-same-length-2
-same-length-2 c = c .before .before .before .before .before .before .set-cell .kept .0
-
 returns : tie.Need-returns
 returns c = λ t. law.listed-temporary-is _ _ _ _ _ (c .before .before .before .before .before .before .before .listed-at .ensures) (c .before .before .before .before .before .before .set-cell .ensures) (c .before .before .listed4 .ensures _ _)
 
@@ -18,6 +12,6 @@ listed-temporary-spec =
     (λ c κs. tt)
     (λ c κs. tt)
     (λ c κs. tt)
-    same-length
-    same-length-2
+    (λ c. c .before .before .listed4 .kept .1 .0)
+    (λ c. c .before .before .before .before .before .before .set-cell .kept .0)
     returns)

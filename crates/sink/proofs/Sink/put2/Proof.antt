@@ -3,11 +3,8 @@ use Rattle.sink.proofs.Laws as law
 use Rattle.sink.proofs.Sink.put2.Statement.{statement}
 use Rattle.sink.proofs.Sink.put2.Tie as tie
 
-same-length : tie.Need-same-length
-same-length c = c .before .before .put2 .kept .1 .0 ∙ c .before .before .before .before .before .before .put .kept .1 .0
-
 returns : tie.Need-returns
 returns c = λ l w. law.put-two _ _ _ _ _ (c .before .before .before .before .before .before .put .ensures l w) (c .before .before .put2 .ensures l w)
 
 pub put2-spec : {M : Type 1} → statement M
-put2-spec = tie.close (tie.spec (λ c κs. tt) (λ c κs. tt) same-length returns)
+put2-spec = tie.close (tie.spec (λ c κs. tt) (λ c κs. tt) (λ c. c .before .before .put2 .kept .1 .0 ∙ c .before .before .before .before .before .before .put .kept .1 .0) returns)

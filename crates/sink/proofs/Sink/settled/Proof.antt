@@ -7,12 +7,6 @@ use Rattle.sink.proofs.Sink.settled.Tie as tie
 returns : tie.Need-returns
 returns c = λ t. law.settled-known _ _ _ _ (c .before .before .cell .ensures) (c .before .known .ensures) (c .if1 .taken)
 
-same-length-2 : tie.Need-same-length-2
-same-length-2 c = c .before .before .before .before .before .before .before .before .before .patch .kept .0
-
-same-length-3 : tie.Need-same-length-3
-same-length-3 c = c .before .before .before .set-cell .kept .0 ∙ c .before .before .before .before .before .before .before .before .before .patch .kept .1 .0
-
 returns-2 : tie.Need-returns-2
 returns-2 c = λ t. law.settled-new _ _ _ _ _ _ _ _ (c .before .before .before .before .before .before .before .before .before .before .before .before .before .before .cell .ensures) (c .before .before .before .before .before .before .before .before .before .before .before .before .before .known .ensures) (c .before .before .before .before .before .before .before .before .before .before .before .before .if1 .left) (c .before .before .before .before .before .before .before .before .before .patch .ensures) (c .before .before .before .set-cell .ensures) (c .one-more .ensures)
 
@@ -27,6 +21,6 @@ settled-spec =
     (λ c κs. tt)
     (λ c κs. tt)
     (λ c κs. tt)
-    same-length-2
-    same-length-3
+    (λ c. c .before .before .before .before .before .before .before .before .before .patch .kept .0)
+    (λ c. c .before .before .before .set-cell .kept .0 ∙ c .before .before .before .before .before .before .before .before .before .patch .kept .1 .0)
     returns-2)

@@ -4,9 +4,6 @@ use borrow.Author.Needs.{needs}
 use Rattle.sink.proofs.bytes.put_wide.Statement.{statement}
 use Rattle.sink.proofs.bytes.put_wide.Tie as tie
 
-same-length : tie.Need-same-length
-same-length c = c .before .before .put-byte2 .kept .0 ∙ c .before .before .before .before .before .before .before .put-byte .kept .0
-
 returns : tie.Need-returns
 returns c = law.set-wide-in _ _ _ _ _ _ _ (c .before .before .before .before .before .before .before .before .low .ensures) (c .before .before .before .before .before .before .before .put-byte .ensures) (c .before .before .before .high .ensures) (c .before .before .put-byte2 .ensures)
 
@@ -22,6 +19,6 @@ put-wide-spec =
     (λ c. search needs)
     (λ c κs. tt)
     (λ c κs. tt)
-    same-length
+    (λ c. c .before .before .put-byte2 .kept .0 ∙ c .before .before .before .before .before .before .before .put-byte .kept .0)
     returns
     returns-2)

@@ -3,9 +3,6 @@ use borrow.Author.Needs.{needs}
 use Rattle.sink.proofs.cells.set_cell.Statement.{statement}
 use Rattle.sink.proofs.cells.set_cell.Tie as tie
 
-same-length : tie.Need-same-length
-same-length c = c .before .before .put-wide .kept .0
-
 returns : tie.Need-returns
 returns c = law.set-cell-in _ _ _ _ (c .before .before .before .before .if1 .taken) (c .before .before .put-wide .ensures)
 
@@ -13,4 +10,4 @@ returns-2 : tie.Need-returns-2
 returns-2 c = law.set-cell-out _ _ _ (c .if1 .left)
 
 pub set-cell-spec : {M : Type 1} → statement M
-set-cell-spec = tie.close (tie.spec (λ c. search needs) (λ c κs. tt) same-length returns returns-2)
+set-cell-spec = tie.close (tie.spec (λ c. search needs) (λ c κs. tt) (λ c. c .before .before .put-wide .kept .0) returns returns-2)

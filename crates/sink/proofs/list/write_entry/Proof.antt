@@ -3,11 +3,8 @@ use Rattle.sink.proofs.Laws as law
 use Rattle.sink.proofs.list.write_entry.Statement.{statement}
 use Rattle.sink.proofs.list.write_entry.Tie as tie
 
-same-length : tie.Need-same-length
-same-length c = c .before .before .put-wide2 .kept .0 ∙ c .before .before .before .before .before .before .put-wide .kept .0
-
 returns : tie.Need-returns
 returns c = law.entry-written _ _ _ _ _ (c .before .before .before .before .before .before .put-wide .ensures) (c .before .before .put-wide2 .ensures)
 
 pub write-entry-spec : {M : Type 1} → statement M
-write-entry-spec = tie.close (tie.spec (λ c κs. tt) (λ c κs. tt) same-length returns)
+write-entry-spec = tie.close (tie.spec (λ c κs. tt) (λ c κs. tt) (λ c. c .before .before .put-wide2 .kept .0 ∙ c .before .before .before .before .before .before .put-wide .kept .0) returns)

@@ -4,30 +4,6 @@ use borrow.Author.Needs.{needs}
 use Rattle.walk.proofs.hand.declaration_hands.Statement.{statement}
 use Rattle.walk.proofs.hand.declaration_hands.Tie as tie
 
-less-requires : tie.Need-less-requires
-less-requires c κs = search needs
-
-step-requires : tie.Need-step-requires
-step-requires c κs = search needs
-
-wide-at-requires : tie.Need-wide-at-requires
-wide-at-requires c κs = search needs
-
-step-requires-2 : tie.Need-step-requires-2
-step-requires-2 c κs = search needs
-
-declarators-make-requires : tie.Need-declarators-make-requires
-declarators-make-requires c κs = search needs
-
-declarators-exclude-requires : tie.Need-declarators-exclude-requires
-declarators-exclude-requires c κs = search needs
-
-same-length : tie.Need-same-length
-same-length c = search needs
-
-same-length-2 : tie.Need-same-length-2
-same-length-2 c = search needs
-
 returns : tie.Need-returns
 returns c = (
   c .before .before .before .before .declarators-exclude .ensures .0 ∙ c .before .before .before .before .before .before .before .before .before .before .before .declarators-make .ensures .0,
@@ -38,12 +14,12 @@ pub declaration-hands-spec : {M : Type 1} → statement M
 declaration-hands-spec =
     tie.close
     (tie.spec
-    less-requires
-    step-requires
-    wide-at-requires
-    step-requires-2
-    declarators-make-requires
-    declarators-exclude-requires
-    same-length
-    same-length-2
+    (λ c κs. search needs)
+    (λ c κs. search needs)
+    (λ c κs. search needs)
+    (λ c κs. search needs)
+    (λ c κs. search needs)
+    (λ c κs. search needs)
+    (λ c. search needs)
+    (λ c. search needs)
     returns)

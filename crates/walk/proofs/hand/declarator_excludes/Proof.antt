@@ -4,27 +4,6 @@ use borrow.Author.Needs.{needs}
 use Rattle.walk.proofs.hand.declarator_excludes.Statement.{statement}
 use Rattle.walk.proofs.hand.declarator_excludes.Tie as tie
 
-is-lowered-requires : tie.Need-is-lowered-requires
-is-lowered-requires c κs = search needs
-
-less-requires : tie.Need-less-requires
-less-requires c κs = search needs
-
-step-requires : tie.Need-step-requires
-step-requires c κs = search needs
-
-exclude-mode-requires : tie.Need-exclude-mode-requires
-exclude-mode-requires c κs = search needs
-
-over-requires : tie.Need-over-requires
-over-requires c κs = search needs
-
-same-length : tie.Need-same-length
-same-length c = search needs
-
-same-length-2 : tie.Need-same-length-2
-same-length-2 c = search needs
-
 returns : tie.Need-returns
 returns c = (c .before .before .before .before .over .ensures .0, λ o. law.declarator-excluded _ _ _ _ (c .before .before .before .before .before .before .before .before .before .before .before .is-lowered .ensures) _ _ (c .before .before .before .before .before .before .before .less .ensures) (c .before .before .before .before .before .before .step .ensures) (c .before .before .before .before .before .before .before .before .before .before .if1 .taken) _ _ (c .before .before .before .before .before .exclude-mode .ensures) (c .before .before .before .before .over .ensures .1 o))
 
@@ -35,12 +14,12 @@ pub declarator-excludes-spec : {M : Type 1} → statement M
 declarator-excludes-spec =
     tie.close
     (tie.spec
-    is-lowered-requires
-    less-requires
-    step-requires
-    exclude-mode-requires
-    over-requires
-    same-length
-    same-length-2
+    (λ c κs. search needs)
+    (λ c κs. search needs)
+    (λ c κs. search needs)
+    (λ c κs. search needs)
+    (λ c κs. search needs)
+    (λ c. search needs)
+    (λ c. search needs)
     returns
     returns-2)

@@ -4,27 +4,6 @@ use borrow.Author.Needs.{needs}
 use Rattle.walk.proofs.hand.exclude.Statement.{statement}
 use Rattle.walk.proofs.hand.exclude.Tie as tie
 
-hoisted-requires : tie.Need-hoisted-requires
-hoisted-requires c κs = search needs
-
-excluded-keys-requires : tie.Need-excluded-keys-requires
-excluded-keys-requires c κs = search needs
-
-cell-requires : tie.Need-cell-requires
-cell-requires c κs = search needs
-
-excluded-head-requires : tie.Need-excluded-head-requires
-excluded-head-requires c κs = search needs
-
-each-key-requires : tie.Need-each-key-requires
-each-key-requires c κs = search needs
-
-same-length : tie.Need-same-length
-same-length c = search needs
-
-same-length-2 : tie.Need-same-length-2
-same-length-2 c = search needs
-
 returns : tie.Need-returns
 returns c = (c .before .before .before .before .each-key .ensures .0 ∙ c .before .before .before .before .before .before .before .before .before .excluded-head .ensures .1, λ o. law.exclude-does _ _ _ _ _ (c .before .before .before .before .before .before .before .before .before .before .before .before .before .before .hoisted .ensures) _ _ (c .before .before .before .before .before .before .before .before .before .before .before .before .before .if1 .taken) (c .before .before .before .before .before .before .before .before .before .before .before .before .excluded-keys .ensures) (c .before .before .before .before .before .before .before .before .before .before .cell .ensures) (c .before .before .before .before .before .before .before .before .before .excluded-head .ensures .0 o _) (c .before .before .before .before .each-key .ensures .1 o))
 
@@ -35,12 +14,12 @@ pub exclude-spec : {M : Type 1} → statement M
 exclude-spec =
     tie.close
     (tie.spec
-    hoisted-requires
-    excluded-keys-requires
-    cell-requires
-    excluded-head-requires
-    each-key-requires
-    same-length
-    same-length-2
+    (λ c κs. search needs)
+    (λ c κs. search needs)
+    (λ c κs. search needs)
+    (λ c κs. search needs)
+    (λ c κs. search needs)
+    (λ c. search needs)
+    (λ c. search needs)
     returns
     returns-2)

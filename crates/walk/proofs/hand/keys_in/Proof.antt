@@ -26,18 +26,6 @@ abbrev μ-loop : tie.MeasureT-loop
 loop-holds : tie.Need-loop-holds Inv-loop μ-loop
 loop-holds c = (refl, refl, refl, λ o g a. law.left-start _ _ _ _ _ _ _ _ g a)
 
-one-key-requires : tie.Need-one-key-requires Inv-loop μ-loop
-one-key-requires c κs = tt
-
-skip-requires : tie.Need-skip-requires Inv-loop μ-loop
-skip-requires c κs = tt
-
-sub-n : tie.Need-sub-n Inv-loop μ-loop
-sub-n c = omega (arith, c .before .before .before .before .before .before .before .before .loop-test .taken)
-
-loop-less : tie.Need-loop-less Inv-loop μ-loop
-loop-less c = omega (arith, c .before .before .before .before .before .before .before .before .loop-test .taken)
-
 loop-again : tie.Need-loop-again Inv-loop μ-loop
 loop-again c = (
   omega (arith, c .before .before .before .before .before .before .before .before .before .loop .inv .0, c .before .before .before .before .before .one-key .kept),
@@ -45,12 +33,6 @@ loop-again c = (
   c .before .before .before .before .before .one-key .ensures .0 ∙ c .before .before .before .before .before .before .before .before .before .loop .inv .2,
   λ o g a. law.solid-more _ _ _ _ _ _ _ _ _ (c .before .before .before .before .before .before .before .before .loop-test .taken) (c .skip .ensures) (c .before .before .before .before .before .before .before .before .before .loop .inv .3 o g a) (λ x y. c .before .before .before .before .before .one-key .ensures .1 o x (law.kind-byte _ _ _ _ x y)),
 )
-
-same-length : tie.Need-same-length Inv-loop μ-loop
-same-length c = c .before .loop .inv .0
-
-same-length-2 : tie.Need-same-length-2 Inv-loop μ-loop
-same-length-2 c = c .before .loop .inv .1
 
 returns : tie.Need-returns Inv-loop μ-loop
 returns c = (c .before .loop .inv .2, λ o g a. law.left-end _ _ _ _ _ _ _ _ _ (c .loop-test .left) (c .before .loop .inv .3 o g a))
@@ -62,11 +44,11 @@ keys-in-spec =
     Inv-loop
     μ-loop
     loop-holds
-    one-key-requires
-    skip-requires
-    sub-n
-    loop-less
+    (λ c κs. tt)
+    (λ c κs. tt)
+    (λ c. omega (arith, c .before .before .before .before .before .before .before .before .loop-test .taken))
+    (λ c. omega (arith, c .before .before .before .before .before .before .before .before .loop-test .taken))
     loop-again
-    same-length
-    same-length-2
+    (λ c. c .before .loop .inv .0)
+    (λ c. c .before .loop .inv .1)
     returns)

@@ -8,21 +8,6 @@ use Rattle.walk.proofs.hand.move_makes.Tie as tie
 returns : tie.Need-returns
 returns c = (refl, λ o l g s. hands.good-none _ _ _ (c .if1 .taken) g)
 
-less-requires : tie.Need-less-requires
-less-requires c κs = search needs
-
-step-requires : tie.Need-step-requires
-step-requires c κs = search needs
-
-has-nested-object-rest-requires : tie.Need-has-nested-object-rest-requires
-has-nested-object-rest-requires c κs = search needs
-
-makes-requires : tie.Need-makes-requires
-makes-requires c κs = search needs
-
-same-length : tie.Need-same-length
-same-length c = search needs
-
 returns-2 : tie.Need-returns-2
 returns-2 c = (c .before .before .makes .ensures .0, λ o l. law.moves-some _ _ _ _ _ (c .before .before .before .before .before .before .before .less .ensures) (c .before .before .before .before .before .before .step .ensures) _ (c .before .before .before .before .before .has-nested-object-rest .ensures) (c .before .before .before .before .if2 .taken) (c .before .before .makes .ensures .1 o l))
 
@@ -34,10 +19,10 @@ move-makes-spec =
     tie.close
     (tie.spec
     returns
-    less-requires
-    step-requires
-    has-nested-object-rest-requires
-    makes-requires
-    same-length
+    (λ c κs. search needs)
+    (λ c κs. search needs)
+    (λ c κs. search needs)
+    (λ c κs. search needs)
+    (λ c. search needs)
     returns-2
     returns-3)

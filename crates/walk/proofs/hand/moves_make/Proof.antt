@@ -29,27 +29,12 @@ abbrev μ-loop : tie.MeasureT-loop
 loop-holds : tie.Need-loop-holds Inv-loop μ-loop
 loop-holds c = (refl, refl, λ o l g a. hands.left-start _ _ _ _ _ _ _ _ g a)
 
-move-makes-requires : tie.Need-move-makes-requires Inv-loop μ-loop
-move-makes-requires c κs = tt
-
-skip-requires : tie.Need-skip-requires Inv-loop μ-loop
-skip-requires c κs = tt
-
-sub-n : tie.Need-sub-n Inv-loop μ-loop
-sub-n c = omega (arith, c .before .before .before .before .before .loop-test .taken)
-
-loop-less : tie.Need-loop-less Inv-loop μ-loop
-loop-less c = omega (arith, c .before .before .before .before .before .loop-test .taken)
-
 loop-again : tie.Need-loop-again Inv-loop μ-loop
 loop-again c = (
   omega (arith, c .before .before .before .before .before .before .loop .inv .0, c .before .before .before .move-makes .kept),
   c .before .before .before .move-makes .ensures .0 ∙ c .before .before .before .before .before .before .loop .inv .1,
   λ o l g a. hands.solid-more _ _ _ _ _ _ _ _ _ (c .before .before .before .before .before .loop-test .taken) (c .skip .ensures) (c .before .before .before .before .before .before .loop .inv .2 o l g a) (λ x y. c .before .before .before .move-makes .ensures .1 o l x y),
 )
-
-same-length : tie.Need-same-length Inv-loop μ-loop
-same-length c = c .before .loop .inv .0
 
 returns : tie.Need-returns Inv-loop μ-loop
 returns c = (c .before .loop .inv .1, λ o l g a. does-as (hands.left-end _ _ _ _ _ _ _ _ _ (c .loop-test .left) (c .before .loop .inv .2 o l g a)) (law.makes-turn _ _))
@@ -61,10 +46,10 @@ moves-make-spec =
     Inv-loop
     μ-loop
     loop-holds
-    move-makes-requires
-    skip-requires
-    sub-n
-    loop-less
+    (λ c κs. tt)
+    (λ c κs. tt)
+    (λ c. omega (arith, c .before .before .before .before .before .loop-test .taken))
+    (λ c. omega (arith, c .before .before .before .before .before .loop-test .taken))
     loop-again
-    same-length
+    (λ c. c .before .loop .inv .0)
     returns)

@@ -4,21 +4,9 @@ use borrow.Author.Needs.{needs}
 use Rattle.walk.proofs.hand.pattern_makes.Statement.{statement}
 use Rattle.walk.proofs.hand.pattern_makes.Tie as tie
 
-over-requires : tie.Need-over-requires
-over-requires c κs = search needs
-
-over-requires-2 : tie.Need-over-requires-2
-over-requires-2 c κs = search needs
-
-same-length : tie.Need-same-length
-same-length c = search needs
-
-same-length-2 : tie.Need-same-length-2
-same-length-2 c = search needs
-
 returns : tie.Need-returns
 returns c = (c .before .before .before .before .over2 .ensures .0 ∙ c .before .before .before .before .before .before .before .before .before .before .before .over .ensures .0, λ o g. law.makes-do _ (c .before .before .before .before .before .before .before .before .before .before .before .over .ensures .1 o g) (c .before .before .before .before .over2 .ensures .1 o g))
 
 pub pattern-makes-spec : {M : Type 1} → statement M
 pattern-makes-spec =
-    tie.close (tie.spec over-requires over-requires-2 same-length same-length-2 returns)
+    tie.close (tie.spec (λ c κs. search needs) (λ c κs. search needs) (λ c. search needs) (λ c. search needs) returns)

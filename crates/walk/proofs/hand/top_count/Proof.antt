@@ -4,21 +4,12 @@ use borrow.Author.Needs.{needs}
 use Rattle.walk.proofs.hand.top_count.Statement.{statement}
 use Rattle.walk.proofs.hand.top_count.Tie as tie
 
-rests-through-objects-requires : tie.Need-rests-through-objects-requires
-rests-through-objects-requires c κs = search needs
-
-add-result : tie.Need-add-result
-add-result c = let h = law.limited-below _ _ (c .before .rests-through-objects .ensures) in omega arith
-
 returns : tie.Need-returns
 returns c = (λ g. law.count-statement _ _ _ _ _ (c .before .rests-through-objects .ensures) (c .if1 .taken) g, let h = law.limited-below _ _ (c .before .rests-through-objects .ensures) in omega arith)
-
-add-result-2 : tie.Need-add-result-2
-add-result-2 c = let h = law.limited-below _ _ (c .before .rests-through-objects .ensures) in omega arith
 
 returns-2 : tie.Need-returns-2
 returns-2 c = (λ g. law.count-read _ _ _ _ _ (c .before .rests-through-objects .ensures) (c .if1 .left) g, let h = law.limited-below _ _ (c .before .rests-through-objects .ensures) in omega arith)
 
 pub top-count-spec : {M : Type 1} → statement M
 top-count-spec =
-    tie.close (tie.spec rests-through-objects-requires add-result returns add-result-2 returns-2)
+    tie.close (tie.spec (λ c κs. search needs) (λ c. let h = law.limited-below _ _ (c .before .rests-through-objects .ensures) in omega arith) returns (λ c. let h = law.limited-below _ _ (c .before .rests-through-objects .ensures) in omega arith) returns-2)

@@ -5,38 +5,11 @@ use borrow.Author.Needs.{needs}
 use Rattle.walk.proofs.hand.top_hands.Statement.{statement}
 use Rattle.walk.proofs.hand.top_hands.Tie as tie
 
-temporaries-through-objects-requires : tie.Need-temporaries-through-objects-requires
-temporaries-through-objects-requires c κs = search needs
-
 add-entry : tie.Need-add-entry
 add-entry c = let h = law.limited-below _ _ (c .before .temporaries-through-objects .ensures law.any-place) in omega arith
 
-entry-requires : tie.Need-entry-requires
-entry-requires c κs = search needs
-
-listed2-requires : tie.Need-listed2-requires
-listed2-requires c κs = search needs
-
-cell-requires : tie.Need-cell-requires
-cell-requires c κs = search needs
-
-listed-temporary-requires : tie.Need-listed-temporary-requires
-listed-temporary-requires c κs = search needs
-
-over-requires : tie.Need-over-requires
-over-requires c κs = search needs
-
-exclude-mode-requires : tie.Need-exclude-mode-requires
-exclude-mode-requires c κs = search needs
-
-over-requires-2 : tie.Need-over-requires-2
-over-requires-2 c κs = search needs
-
 same-length : tie.Need-same-length
 same-length c = omega (arith, c .before .before .before .before .over2 .kept, c .before .before .before .before .before .before .before .before .before .before .before .before .over .kept, c .before .before .before .before .before .before .before .before .before .before .before .before .before .before .before .before .before .before .before .listed-temporary .kept, c .before .before .before .before .before .before .before .before .before .before .before .before .before .before .before .before .before .before .before .before .before .before .before .before .before .listed2 .kept, c .before .before .before .before .before .before .before .before .before .before .before .before .before .before .before .before .before .before .before .before .before .before .before .before .before .before .before .before .before .entry .kept)
-
-same-length-2 : tie.Need-same-length-2
-same-length-2 c = search needs
 
 returns : tie.Need-returns
 returns c = (
@@ -48,15 +21,15 @@ pub top-hands-spec : {M : Type 1} → statement M
 top-hands-spec =
     tie.close
     (tie.spec
-    temporaries-through-objects-requires
+    (λ c κs. search needs)
     add-entry
-    entry-requires
-    listed2-requires
-    cell-requires
-    listed-temporary-requires
-    over-requires
-    exclude-mode-requires
-    over-requires-2
+    (λ c κs. search needs)
+    (λ c κs. search needs)
+    (λ c κs. search needs)
+    (λ c κs. search needs)
+    (λ c κs. search needs)
+    (λ c κs. search needs)
+    (λ c κs. search needs)
     same-length
-    same-length-2
+    (λ c. search needs)
     returns)

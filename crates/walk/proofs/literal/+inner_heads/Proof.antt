@@ -1,10 +1,10 @@
 use borrow.Author.Needs.{needs}
 use native.Mathlib.Omega.{arith}
-use mathlib.Core.Path.{_≡_, refl, _∙_, sym}
+use mathlib.Core.Path.{refl, _∙_}
 use Rattle.walk.proofs.Heads as law
-use Prim.Native.Nat.{ℕ, _<_}
-use borrow.Fn.Kinds.{In}
-use borrow.Fn.PlainCycle.{Measures, is, falls, and}
+use Prim.Native.Nat.{ℕ}
+use borrow.Fn.PlainCycle.{Measures}
+use Rattle.tree.proofs.Cycle.{at-measure, below-measure}
 use Rattle.walk.proofs.literal.inner_heads.Reads as inner-heads
 use Rattle.walk.proofs.literal.inner_heads.Kinds as inner-heads-kinds
 use Rattle.walk.proofs.literal.+inner_heads.Lts-inner_heads as inner-heads-lts
@@ -17,60 +17,28 @@ use Rattle.walk.proofs.literal.+inner_heads.Tie.{close}
 abbrev μ-inner-heads : Measures 2 inner-heads-kinds.ps ℕ
 μ-inner-heads κs a = a .1 .1 .1 .1 .0
 
-abbrev inner-heads-at : ℕ → In 2 inner-heads-kinds.ps
-inner-heads-at t =
-    and 2 inner-heads-kinds.ps (is 2 inner-heads-kinds.ps μ-inner-heads t) inner-heads.Pre
-
-abbrev inner-heads-below : ℕ → In 2 inner-heads-kinds.ps
-inner-heads-below t =
-    and 2 inner-heads-kinds.ps (falls 2 inner-heads-kinds.ps _<_ μ-inner-heads t) inner-heads.Pre
-
 abbrev inner-heads-claims : ℕ → inner-heads-lts.Claims
-inner-heads-claims t = (head-at-reads.Asked, head-at-reads.Learnt, skip-items-reads.Asked, skip-items-reads.Learnt, mode-after-reads.Asked, mode-after-reads.Learnt, inner-heads-below t, inner-heads.Post)
+inner-heads-claims t = (head-at-reads.Asked, head-at-reads.Learnt, skip-items-reads.Asked, skip-items-reads.Learnt, mode-after-reads.Asked, mode-after-reads.Learnt, below-measure inner-heads-kinds.ps μ-inner-heads inner-heads.Pre t, inner-heads.Post)
 
-inner-heads-returns : (t : ℕ) → inner-heads-lts.Need-returns (inner-heads-claims t) (inner-heads-at t) inner-heads.Post
+inner-heads-returns : (t : ℕ) → inner-heads-lts.Need-returns (inner-heads-claims t) (at-measure inner-heads-kinds.ps μ-inner-heads inner-heads.Pre t) inner-heads.Post
 inner-heads-returns t c = ((λ l k. law.inner-none _ _ _ _ _ (c .if1 .taken)), refl)
 
-inner-heads-head-at-requires : (t : ℕ) → inner-heads-lts.Need-head-at-requires (inner-heads-claims t) (inner-heads-at t) inner-heads.Post
-inner-heads-head-at-requires t c κs = tt
-
-inner-heads-same-length : (t : ℕ) → inner-heads-lts.Need-same-length (inner-heads-claims t) (inner-heads-at t) inner-heads.Post
-inner-heads-same-length t c = search needs
-
-inner-heads-returns-2 : (t : ℕ) → inner-heads-lts.Need-returns-2 (inner-heads-claims t) (inner-heads-at t) inner-heads.Post
+inner-heads-returns-2 : (t : ℕ) → inner-heads-lts.Need-returns-2 (inner-heads-claims t) (at-measure inner-heads-kinds.ps μ-inner-heads inner-heads.Pre t) inner-heads.Post
 inner-heads-returns-2 t c = ((λ l k. law.inner-one _ _ _ _ _ (c .before .before .before .before .if2 .taken) (c .before .before .head-at .ensures .0 l k)), c .before .before .head-at .ensures .1)
 
-inner-heads-skip-items-requires : (t : ℕ) → inner-heads-lts.Need-skip-items-requires (inner-heads-claims t) (inner-heads-at t) inner-heads.Post
-inner-heads-skip-items-requires t c κs = tt
-
-inner-heads-mode-after-requires : (t : ℕ) → inner-heads-lts.Need-mode-after-requires (inner-heads-claims t) (inner-heads-at t) inner-heads.Post
-inner-heads-mode-after-requires t c κs = tt
-
-inner-heads-sub-inner-heads : (t : ℕ) → inner-heads-lts.Need-sub-inner-heads (inner-heads-claims t) (inner-heads-at t) inner-heads.Post
-inner-heads-sub-inner-heads t c = omega arith
-
-inner-heads-inner-heads-requires : (t : ℕ) → inner-heads-lts.Need-inner-heads-requires (inner-heads-claims t) (inner-heads-at t) inner-heads.Post
-inner-heads-inner-heads-requires t c κs = (omega (arith, c .before .before .before .before .before .before .before .pre .0, c .before .before .before .if2 .left, c .before .before .before .before .if1 .left), tt)
-
-inner-heads-inner-heads-requires-2 : (t : ℕ) → inner-heads-lts.Need-inner-heads-requires-2 (inner-heads-claims t) (inner-heads-at t) inner-heads.Post
-inner-heads-inner-heads-requires-2 t c κs = (omega (arith, c .before .before .before .before .before .before .before .before .before .before .before .pre .0, c .before .before .before .before .before .before .before .if2 .left, c .before .before .before .before .before .before .before .before .if1 .left), tt)
-
-inner-heads-same-length-2 : (t : ℕ) → inner-heads-lts.Need-same-length-2 (inner-heads-claims t) (inner-heads-at t) inner-heads.Post
-inner-heads-same-length-2 t c = omega (arith, c .before .before .inner-heads2 .kept, c .before .before .before .before .before .before .inner-heads .kept)
-
-inner-heads-returns-3 : (t : ℕ) → inner-heads-lts.Need-returns-3 (inner-heads-claims t) (inner-heads-at t) inner-heads.Post
+inner-heads-returns-3 : (t : ℕ) → inner-heads-lts.Need-returns-3 (inner-heads-claims t) (at-measure inner-heads-kinds.ps μ-inner-heads inner-heads.Pre t) inner-heads.Post
 inner-heads-returns-3 t c = ((λ l k. law.inner-halves _ _ _ _ _ _ _ _ (omega arith) (c .before .before .before .before .before .before .before .before .before .skip-items .ensures) (c .before .before .before .before .before .before .before .before .mode-after .ensures) (c .before .before .before .before .before .before .inner-heads .ensures .0 l k) (c .before .before .inner-heads2 .ensures .0 l k)), c .before .before .inner-heads2 .ensures .1 ∙ c .before .before .before .before .before .before .inner-heads .ensures .1)
 
 pub +inner-heads-spec : {M : Type 1} → statement M
-+inner-heads-spec = close μ-inner-heads λ t. inner-heads-lts.spec (inner-heads-claims t) (inner-heads-at t) inner-heads.Post
++inner-heads-spec = close μ-inner-heads λ t. inner-heads-lts.spec (inner-heads-claims t) (at-measure inner-heads-kinds.ps μ-inner-heads inner-heads.Pre t) inner-heads.Post
     (inner-heads-returns t)
-    (inner-heads-head-at-requires t)
-    (inner-heads-same-length t)
+    (λ c κs. tt)
+    (λ c. search needs)
     (inner-heads-returns-2 t)
-    (inner-heads-skip-items-requires t)
-    (inner-heads-mode-after-requires t)
-    (inner-heads-sub-inner-heads t)
-    (inner-heads-inner-heads-requires t)
-    (inner-heads-inner-heads-requires-2 t)
-    (inner-heads-same-length-2 t)
+    (λ c κs. tt)
+    (λ c κs. tt)
+    (λ c. omega arith)
+    (λ c κs. (omega (arith, c .before .before .before .before .before .before .before .pre .0, c .before .before .before .if2 .left, c .before .before .before .before .if1 .left), tt))
+    (λ c κs. (omega (arith, c .before .before .before .before .before .before .before .before .before .before .before .pre .0, c .before .before .before .before .before .before .before .if2 .left, c .before .before .before .before .before .before .before .before .if1 .left), tt))
+    (λ c. omega (arith, c .before .before .inner-heads2 .kept, c .before .before .before .before .before .before .inner-heads .kept))
     (inner-heads-returns-3 t)

@@ -1,37 +1,17 @@
 use mathlib.Core.Bool.{false}
 use Rattle.direct.specs.Literals.{modeAfter}
-use borrow.Author.Needs.{needs}
 use Rattle.tree.specs.Look.{lookItems, lookNode}
 use native.Mathlib.Omega.{arith}
-use mathlib.Core.Path.{_≡_, refl, _∙_, sym}
+use mathlib.Core.Path.{_≡_, refl, _∙_}
 use Rattle.walk.proofs.Heads as law
 use Rattle.walk.proofs.literal.mode_after.Statement.{statement}
 use Rattle.walk.proofs.literal.mode_after.Tie as tie
-use Rattle.walk.proofs.literal.mode_after.Reads as reads
-use Rattle.walk.proofs.literal.mode_after.Lts as lts
-use Rattle.walk.proofs.literal.mode_next.Reads as mode-next-reads
-use Rattle.tree.proofs.skip.skip.Reads as skip-reads
 
 abbrev Inv-loop : tie.InvT-loop
 Inv-loop t left count at mode n₀ p₀ m₀ n p m = modeAfter m (lookItems t (lookNode t left) false n p .value) ≡ modeAfter mode (lookItems t (lookNode t left) false count at .value)
 
 abbrev μ-loop : tie.MeasureT-loop
 μ-loop t left count at mode n₀ p₀ m₀ n p m = n
-
-loop-holds : tie.Need-loop-holds Inv-loop μ-loop
-loop-holds c = refl
-
-mode-next-requires : tie.Need-mode-next-requires Inv-loop μ-loop
-mode-next-requires c κs = tt
-
-skip-requires : tie.Need-skip-requires Inv-loop μ-loop
-skip-requires c κs = tt
-
-sub-n : tie.Need-sub-n Inv-loop μ-loop
-sub-n c = omega (arith, c .before .before .loop-test .taken)
-
-loop-less : tie.Need-loop-less Inv-loop μ-loop
-loop-less c = omega (arith, c .before .before .loop-test .taken)
 
 loop-again : tie.Need-loop-again Inv-loop μ-loop
 loop-again c = law.mode-more _ (lookNode _ _) _ _ _ _ _ (c .before .before .loop-test .taken) (c .before .mode-next .ensures) (c .skip .ensures) ∙ c .before .before .before .loop .inv
@@ -45,10 +25,10 @@ mode-after-spec =
     (tie.spec
     Inv-loop
     μ-loop
-    loop-holds
-    mode-next-requires
-    skip-requires
-    sub-n
-    loop-less
+    (λ c. refl)
+    (λ c κs. tt)
+    (λ c κs. tt)
+    (λ c. omega (arith, c .before .before .loop-test .taken))
+    (λ c. omega (arith, c .before .before .loop-test .taken))
     loop-again
     returns)

@@ -4,14 +4,10 @@ use Rattle.direct.specs.Literals.{run}
 use borrow.Author.Needs.{needs}
 use Rattle.tree.specs.Look.{lookItems, lookNode}
 use native.Mathlib.Omega.{arith}
-use mathlib.Core.Path.{_≡_, refl, _∙_, sym}
+use mathlib.Core.Path.{_≡_, _∙_}
 use Rattle.walk.proofs.Heads as law
 use Rattle.walk.proofs.literal.run_of.Statement.{statement}
 use Rattle.walk.proofs.literal.run_of.Tie as tie
-use Rattle.walk.proofs.literal.run_of.Reads as reads
-use Rattle.walk.proofs.literal.run_of.Lts as lts
-use Rattle.walk.proofs.literal.is_spread.Reads as is-spread-reads
-use Rattle.tree.proofs.skip.skip.Reads as skip-reads
 
 abbrev Inv-loop : tie.InvT-loop
 Inv-loop t left count at k₀ n₀ p₀ k n p = (k + n ≡ count) × (k + run (lookItems t (lookNode t left) false n p .value) ≡ run (lookItems t (lookNode t left) false count at .value))
@@ -22,23 +18,8 @@ abbrev μ-loop : tie.MeasureT-loop
 loop-holds : tie.Need-loop-holds Inv-loop μ-loop
 loop-holds c = (omega arith, omega arith)
 
-is-spread-requires : tie.Need-is-spread-requires Inv-loop μ-loop
-is-spread-requires c κs = tt
-
 returns : tie.Need-returns Inv-loop μ-loop
 returns c = law.run-stops _ (lookNode _ _) _ _ _ _ (c .before .before .loop-test .taken) (c .before .is-spread .ensures) (c .if1 .taken) ∙ c .before .before .before .loop .inv .1
-
-skip-requires : tie.Need-skip-requires Inv-loop μ-loop
-skip-requires c κs = tt
-
-sub-n : tie.Need-sub-n Inv-loop μ-loop
-sub-n c = omega (arith, c .before .before .before .loop-test .taken)
-
-add-k : tie.Need-add-k Inv-loop μ-loop
-add-k c = search needs
-
-loop-less : tie.Need-loop-less Inv-loop μ-loop
-loop-less c = omega (arith, c .before .before .before .loop-test .taken)
 
 loop-again : tie.Need-loop-again Inv-loop μ-loop
 loop-again c = (omega (arith, c .before .before .before .before .loop .inv .0, c .before .before .before .loop-test .taken), law.run-more _ (lookNode _ _) _ _ _ _ _ (c .before .before .before .loop-test .taken) (c .before .before .is-spread .ensures) (c .before .if1 .left) (c .skip .ensures) ∙ c .before .before .before .before .loop .inv .1)
@@ -53,11 +34,11 @@ run-of-spec =
     Inv-loop
     μ-loop
     loop-holds
-    is-spread-requires
+    (λ c κs. tt)
     returns
-    skip-requires
-    sub-n
-    add-k
-    loop-less
+    (λ c κs. tt)
+    (λ c. omega (arith, c .before .before .before .loop-test .taken))
+    (λ c. search needs)
+    (λ c. omega (arith, c .before .before .before .loop-test .taken))
     loop-again
     returns-2)

@@ -2,8 +2,6 @@ use mathlib.Core.Path.{refl}
 use Rattle.walk.proofs.Lookups as law
 use Rattle.walk.proofs.look.inner_mode.Statement.{statement}
 use Rattle.walk.proofs.look.inner_mode.Tie as tie
-use Rattle.walk.proofs.look.inner_mode.Reads as reads
-use Rattle.walk.proofs.look.inner_mode.Lts as lts
 
 returns : tie.Need-returns
 returns c = law.if-yes _ _ _ _ _ (c .if1 .taken) refl

@@ -2,33 +2,9 @@ use Rattle.walk.proofs.Lookups as law
 use borrow.Author.Needs.{needs}
 use Rattle.walk.proofs.look.key_sort.Statement.{statement}
 use Rattle.walk.proofs.look.key_sort.Tie as tie
-use Rattle.walk.proofs.look.key_sort.Reads as reads
-use Rattle.walk.proofs.look.key_sort.Lts as lts
-use Rattle.pattern.proofs.keys.transform_property_key.Reads as transform-property-key-reads
-
-transform-property-key-requires : tie.Need-transform-property-key-requires
-transform-property-key-requires c κs = search needs
 
 enum-told : tie.Need-enum-told
 enum-told c = search needs
-
-enum-told-2 : tie.Need-enum-told-2
-enum-told-2 c = search needs
-
-enum-told-3 : tie.Need-enum-told-3
-enum-told-3 c = search needs
-
-enum-told-4 : tie.Need-enum-told-4
-enum-told-4 c = search needs
-
-enum-told-5 : tie.Need-enum-told-5
-enum-told-5 c = search needs
-
-enum-told-6 : tie.Need-enum-told-6
-enum-told-6 c = search needs
-
-enum-told-7 : tie.Need-enum-told-7
-enum-told-7 c = search needs
 
 returns : tie.Need-returns
 returns c = law.key-class _ _ _ _ _ (c .before .before .transform-property-key .ensures) (c .enum-told .given .1)
@@ -55,14 +31,14 @@ pub key-sort-spec : {M : Type 1} → statement M
 key-sort-spec =
     tie.close
     (tie.spec
-    transform-property-key-requires
+    (λ c κs. search needs)
     enum-told
-    enum-told-2
-    enum-told-3
-    enum-told-4
-    enum-told-5
-    enum-told-6
-    enum-told-7
+    (λ c. search needs)
+    (λ c. search needs)
+    (λ c. search needs)
+    (λ c. search needs)
+    (λ c. search needs)
+    (λ c. search needs)
     returns
     returns-2
     returns-3

@@ -2,11 +2,6 @@ use native.Mathlib.Omega.{arith}
 use Rattle.walk.proofs.Lookups as law
 use Rattle.walk.proofs.look.moved_in.Statement.{statement}
 use Rattle.walk.proofs.look.moved_in.Tie as tie
-use Rattle.walk.proofs.look.moved_in.Reads as reads
-use Rattle.walk.proofs.look.moved_in.Lts as lts
-use Rattle.pattern.proofs.moves.moved_from.Reads as moved-from-reads
-use Rattle.pattern.proofs.tally.plus.Reads as plus-reads
-use Rattle.tree.proofs.skip.skip.Reads as skip-reads
 
 abbrev Inv-loop : tie.InvT-loop
 Inv-loop t left first count n₀ p₀ k₀ n p k = law.MovedLeft t left count first n p k
@@ -16,21 +11,6 @@ abbrev μ-loop : tie.MeasureT-loop
 
 loop-holds : tie.Need-loop-holds Inv-loop μ-loop
 loop-holds c = law.moved-start _ _ _ _
-
-moved-from-requires : tie.Need-moved-from-requires Inv-loop μ-loop
-moved-from-requires c κs = tt
-
-plus-requires : tie.Need-plus-requires Inv-loop μ-loop
-plus-requires c κs = tt
-
-skip-requires : tie.Need-skip-requires Inv-loop μ-loop
-skip-requires c κs = tt
-
-sub-n : tie.Need-sub-n Inv-loop μ-loop
-sub-n c = omega arith
-
-loop-less : tie.Need-loop-less Inv-loop μ-loop
-loop-less c = omega arith
 
 loop-again : tie.Need-loop-again Inv-loop μ-loop
 loop-again c = law.moved-more _ _ _ _ _ _ _ _ _ _ (c .before .before .before .loop-test .taken) (c .before .before .moved-from .ensures) (c .skip .ensures) (c .before .plus .ensures) (c .before .before .before .before .loop .inv)
@@ -45,10 +25,10 @@ moved-in-spec =
     Inv-loop
     μ-loop
     loop-holds
-    moved-from-requires
-    plus-requires
-    skip-requires
-    sub-n
-    loop-less
+    (λ c κs. tt)
+    (λ c κs. tt)
+    (λ c κs. tt)
+    (λ c. omega arith)
+    (λ c. omega arith)
     loop-again
     returns)

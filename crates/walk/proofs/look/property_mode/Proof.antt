@@ -2,8 +2,6 @@ use mathlib.Core.Path.{refl}
 use Rattle.walk.proofs.Lookups as law
 use Rattle.walk.proofs.look.property_mode.Statement.{statement}
 use Rattle.walk.proofs.look.property_mode.Tie as tie
-use Rattle.walk.proofs.look.property_mode.Reads as reads
-use Rattle.walk.proofs.look.property_mode.Lts as lts
 
 returns : tie.Need-returns
 returns c = law.if-yes _ _ _ _ _ (c .before .if1 .taken) (law.when-yes _ _ _ _ (c .if2 .taken) refl)

@@ -1,7 +1,5 @@
 use Rattle.walk.proofs.look.replaces.Statement.{statement}
 use Rattle.walk.proofs.look.replaces.Tie as tie
-use Rattle.walk.proofs.look.replaces.Reads as reads
-use Rattle.walk.proofs.look.replaces.Lts as lts
 use Rattle.walk.proofs.Viewing.{replaces-2, replaces-3, replaces-else}
 
 returns : tie.Need-returns

@@ -2,8 +2,6 @@ use mathlib.Core.Path.{refl}
 use Rattle.walk.proofs.Lookups as law
 use Rattle.walk.proofs.look.values_of.Statement.{statement}
 use Rattle.walk.proofs.look.values_of.Tie as tie
-use Rattle.walk.proofs.look.values_of.Reads as reads
-use Rattle.walk.proofs.look.values_of.Lts as lts
 
 returns : tie.Need-returns
 returns c = law.if-yes _ _ _ _ _ (c .if1 .taken) refl

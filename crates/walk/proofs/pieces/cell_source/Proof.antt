@@ -1,8 +1,6 @@
 use Rattle.walk.proofs.Sources as law
 use Rattle.walk.proofs.pieces.cell_source.Statement.{statement}
 use Rattle.walk.proofs.pieces.cell_source.Tie as tie
-use Rattle.walk.proofs.pieces.cell_source.Reads as reads
-use Rattle.walk.proofs.pieces.cell_source.Lts as lts
 
 returns : tie.Need-returns
 returns c = λ t. law.cell-read t _ _ _

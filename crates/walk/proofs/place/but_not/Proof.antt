@@ -1,9 +1,6 @@
-use mathlib.Core.Path.{refl}
 use Rattle.walk.proofs.Emits as law
 use Rattle.walk.proofs.place.but_not.Statement.{statement}
 use Rattle.walk.proofs.place.but_not.Tie as tie
-use Rattle.walk.proofs.place.but_not.Reads as reads
-use Rattle.walk.proofs.place.but_not.Lts as lts
 
 returns : tie.Need-returns
 returns c = law.and-no (c .before .args .a) _ (c .if1 .taken)

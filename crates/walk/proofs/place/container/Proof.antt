@@ -1,10 +1,7 @@
 use mathlib.Core.Path.{refl, _∙_}
-use Rattle.lowering.specs.Collect.{isContainer}
 use Rattle.walk.proofs.Emits as law
 use Rattle.walk.proofs.place.container.Statement.{statement}
 use Rattle.walk.proofs.place.container.Tie as tie
-use Rattle.walk.proofs.place.container.Reads as reads
-use Rattle.walk.proofs.place.container.Lts as lts
 
 returns : tie.Need-returns
 returns c = law.or-taken _ 1 _ (c .if1 .taken) ∙ law.container-is _

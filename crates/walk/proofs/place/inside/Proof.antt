@@ -2,8 +2,6 @@ use mathlib.Core.Path.{refl}
 use Rattle.direct.specs.Emit.{inner}
 use Rattle.walk.proofs.place.inside.Statement.{statement}
 use Rattle.walk.proofs.place.inside.Tie as tie
-use Rattle.walk.proofs.place.inside.Reads as reads
-use Rattle.walk.proofs.place.inside.Lts as lts
 
 returns : tie.Need-returns
 unfolding inner

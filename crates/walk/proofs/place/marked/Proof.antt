@@ -2,8 +2,6 @@ use mathlib.Core.Path.{refl}
 use Rattle.direct.specs.Emit.{marking}
 use Rattle.walk.proofs.place.marked.Statement.{statement}
 use Rattle.walk.proofs.place.marked.Tie as tie
-use Rattle.walk.proofs.place.marked.Reads as reads
-use Rattle.walk.proofs.place.marked.Lts as lts
 
 returns : tie.Need-returns
 unfolding marking

@@ -1,10 +1,7 @@
 use mathlib.Core.Path.{refl, _∙_}
-use Rattle.lowering.specs.Walk.{opensScope}
 use Rattle.walk.proofs.Emits as law
 use Rattle.walk.proofs.place.opens_scope.Statement.{statement}
 use Rattle.walk.proofs.place.opens_scope.Tie as tie
-use Rattle.walk.proofs.place.opens_scope.Reads as reads
-use Rattle.walk.proofs.place.opens_scope.Lts as lts
 
 returns : tie.Need-returns
 returns c = law.or-taken _ 2 _ (c .if1 .taken) ∙ law.scope-is _

@@ -2,8 +2,6 @@ use Rattle.direct.specs.Emit.{unused, marking}
 use mathlib.Core.Path.{refl}
 use Rattle.walk.proofs.place.statement.Statement.{statement}
 use Rattle.walk.proofs.place.statement.Tie as tie
-use Rattle.walk.proofs.place.statement.Reads as reads
-use Rattle.walk.proofs.place.statement.Lts as lts
 
 returns : tie.Need-returns
 unfolding unused marking

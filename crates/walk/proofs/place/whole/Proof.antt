@@ -1,9 +1,6 @@
-use mathlib.Core.Path.{refl}
 use Rattle.walk.proofs.Emits as law
 use Rattle.walk.proofs.place.whole.Statement.{statement}
 use Rattle.walk.proofs.place.whole.Tie as tie
-use Rattle.walk.proofs.place.whole.Reads as reads
-use Rattle.walk.proofs.place.whole.Lts as lts
 
 returns : tie.Need-returns
 returns c = law.or-third _ _ (c .if1 .taken)

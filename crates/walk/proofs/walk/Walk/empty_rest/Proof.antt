@@ -4,28 +4,6 @@ use mathlib.Core.Path.{_∙_}
 use borrow.Author.Needs.{needs}
 use Rattle.walk.proofs.walk.Walk.empty_rest.Statement.{statement}
 use Rattle.walk.proofs.walk.Walk.empty_rest.Tie as tie
-use Rattle.walk.proofs.walk.Walk.empty_rest.Reads as reads
-use Rattle.walk.proofs.walk.Walk.empty_rest.Lts as lts
-use Rattle.walk.proofs.walk.Walk.call.Reads as call-reads
-use Rattle.walk.proofs.walk.Walk.put2.Reads as put2-reads
-
-call-requires : tie.Need-call-requires
-call-requires c κs = search needs
-
-put2-requires : tie.Need-put2-requires
-put2-requires c κs = search needs
-
-put2-requires-2 : tie.Need-put2-requires-2
-put2-requires-2 c κs = search needs
-
-put2-requires-3 : tie.Need-put2-requires-3
-put2-requires-3 c κs = search needs
-
-put2-requires-4 : tie.Need-put2-requires-4
-put2-requires-4 c κs = search needs
-
-call-requires-2 : tie.Need-call-requires-2
-call-requires-2 c κs = search needs
 
 same-length : tie.Need-same-length
 same-length c = omega (arith, c .before .before .call2 .kept, c .before .before .before .before .before .before .put24 .kept, c .before .before .before .before .before .before .before .before .before .before .put23 .kept, c .before .before .before .before .before .before .before .before .before .before .before .before .before .before .put22 .kept, c .before .before .before .before .before .before .before .before .before .before .before .before .before .before .before .before .before .before .put2 .kept, c .before .before .before .before .before .before .before .before .before .before .before .before .before .before .before .before .before .before .before .before .before .before .call .kept)
@@ -37,11 +15,11 @@ pub empty-rest-spec : {M : Type 1} → statement M
 empty-rest-spec =
     tie.close
     (tie.spec
-    call-requires
-    put2-requires
-    put2-requires-2
-    put2-requires-3
-    put2-requires-4
-    call-requires-2
+    (λ c κs. search needs)
+    (λ c κs. search needs)
+    (λ c κs. search needs)
+    (λ c κs. search needs)
+    (λ c κs. search needs)
+    (λ c κs. search needs)
     same-length
     returns)
