@@ -42,9 +42,8 @@ module _ (a b : ℕ) where
   unfolding limited
   plus-right = omega arith
 
-pub limited-once : (a : ℕ) → limited (limited a) ≡ limited a
-unfolding limited
-limited-once a = omega arith
+pub plus-both : (a b : ℕ) → limited (limited a + limited b) ≡ limited (a + b)
+plus-both a b = plus-limited a (limited b) ∙ plus-right a b
 
 pub plus-assoc : (a b c : ℕ) → limited (limited (a + b) + c) ≡ limited (a + limited (b + c))
 plus-assoc a b c =

@@ -26,7 +26,7 @@ use Rattle.pattern.specs.Tally.{limited, both, sum}
 use Rattle.pattern.specs.Keys.{keyTally, keysOf, countsBy}
 use Rattle.pattern.specs.Objects.{objectItself, objectTally, ownTally, objectsTally, throughObjects, found, restsTally}
 use Rattle.pattern.specs.Declarators.{made}
-use Rattle.pattern.proofs.Adding.{tallies, sumOf, sum-append, sum-gather, plus-limited, plus-right}
+use Rattle.pattern.proofs.Adding.{tallies, sumOf, sum-append, sum-gather, plus-limited, plus-right, plus-both}
 use Rattle.pattern.proofs.KeyCases.{some-not, more-than, count-append, temporaries-law, lacking-law}
 use Rattle.pattern.proofs.Below.{by-shape}
 use Rattle.pattern.proofs.Objects.{no-properties-kept, tally-kept, only-tally, rests-object}
@@ -196,9 +196,6 @@ rest-kept f (node at k done) = refl
 rest-kept f (node at k (absent fs)) = refl
 rest-kept f (node at k (field p fs)) = refl
 
-two : (a b : ℕ) → limited (limited a + limited b) ≡ limited (a + b)
-two a b = plus-limited a (limited b) ∙ plus-right a b
-
 made-is : (t : Tally) → made t ≡ limited (t .temporaries + t .patterns + t .objects)
 unfolding made
 made-is t = plus-limited (t .temporaries + t .patterns) (t .objects)
@@ -235,13 +232,13 @@ nothing-made = limited-nothing ∙ sym made-none
 -- one list after another
 append-made : (a b x y : Items) → limited (count a) ≡ made (objectsTally x) → limited (count b) ≡ made (objectsTally y) → limited (count (a +++ b)) ≡ made (objectsTally (x +++ y))
 append-made a b x y e f =
-    ap limited (count-append a b) ∙ sym (two (count a) (count b)) ∙ ap₂ (λ (m n : ℕ). limited (m + n)) e f
+    ap limited (count-append a b) ∙ sym (plus-both (count a) (count b)) ∙ ap₂ (λ (m n : ℕ). limited (m + n)) e f
     ∙ sym (ap made (sum-append tallies objectTally x y) ∙ made-both (objectsTally x) (objectsTally y))
 
 append-swapped : (a b x y : Items) → limited (count a) ≡ made (objectsTally y) → limited (count b) ≡ made (objectsTally x) → limited (count (a +++ b)) ≡ made (objectsTally (x +++ y))
 append-swapped a b x y e f =
     let s : count a + count b ≡ count b + count a = omega arith in
-    ap limited (count-append a b ∙ s) ∙ sym (two (count b) (count a)) ∙ ap₂ (λ (m n : ℕ). limited (m + n)) f e
+    ap limited (count-append a b ∙ s) ∙ sym (plus-both (count b) (count a)) ∙ ap₂ (λ (m n : ℕ). limited (m + n)) f e
     ∙ sym (ap made (sum-append tallies objectTally x y) ∙ made-both (objectsTally x) (objectsTally y))
 
 -- those of one object with rest

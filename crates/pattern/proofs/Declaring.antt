@@ -16,7 +16,6 @@ use Rattle.tree.specs.Look.{lookItem, lookItems, lookNode}
 use Rattle.lowering.specs.Parts.{nothing, pieceIn, standsIn, nodeAt, itemsAt, stands, only, gather, any}
 use Rattle.lowering.specs.Made.{Context, declares, valueOf}
 use Rattle.lowering.specs.Patterns.{shape, objectsWithRest, objectsBelow}
-use Rattle.lowering.specs.Patterns.Shape.{objectPattern, arrayPattern}
 use Rattle.lowering.specs.Keys.{anyLacksForm}
 use Rattle.lowering.specs.Rests.{hasNoProperties}
 use Rattle.lowering.specs.Declarations.{isName, source, sourceDeclarator, patternDeclarators, lowerDeclarator, isLowered, declarators, loweredIn, declarationLacksForm}
@@ -76,24 +75,18 @@ module _ (l : List ℕ) where
     abbrev here : Node
     here = lookNode l d at .value
 
-    object-shape : k ≡ 34 → shape here ≡ objectPattern
-    object-shape y = below.is-object here (kind-is l d at k z e ∙ y)
-
-    array-shape : k ≡ 36 → shape here ≡ arrayPattern
-    array-shape y = below.is-array here (kind-is l d at k z e ∙ y)
-
     pub object-rest : (t : Tally) (n : ℕ) (b : Bool) → k ≡ 34 → ((c : Context) → t ≡ restsTally c true here) → n ≡ made t → b ≡ stands 1 here → b ≡ true → (c : Context) (s : Node) → n ≡ patternCount c s here
-    object-rest t n b y w v r i c s = v ∙ ap made (w c) ∙ counting.object-with-rest c here s (object-shape y) (sym r ∙ i)
+    object-rest t n b y w v r i c s = v ∙ ap made (w c) ∙ counting.object-with-rest c here s (search.object-shape l d at k z e y) (sym r ∙ i)
 
     pub object-empty : (t : Tally) (n : ℕ) (b f : Bool) → k ≡ 34 → ((c : Context) → t ≡ restsTally c true here) → n ≡ made t → b ≡ stands 1 here → b ≡ false → f ≡ hasNoProperties here → f ≡ true → (c : Context) (s : Node) → n ≡ patternCount c s here
-    object-empty t n b f y w v r i g h c s = v ∙ ap made (w c) ∙ counting.object-bare c here s (object-shape y) (sym r ∙ i) (sym g ∙ h)
+    object-empty t n b f y w v r i g h c s = v ∙ ap made (w c) ∙ counting.object-bare c here s (search.object-shape l d at k z e y) (sym r ∙ i) (sym g ∙ h)
 
     pub object-filled : (t : Tally) (n u : ℕ) (b f : Bool) → k ≡ 34 → ((c : Context) → t ≡ restsTally c true here) → n ≡ made t → b ≡ stands 1 here → b ≡ false → f ≡ hasNoProperties here → f ≡ false → u ≡ limited (n + 1) → (c : Context) (s : Node) → u ≡ patternCount c s here
     object-filled t n u b f y w v r i g h o c s =
-        o ∙ ap (λ (x : ℕ). limited (x + 1)) (v ∙ ap made (w c)) ∙ counting.object-pattern c here s (object-shape y) (sym r ∙ i) (sym g ∙ h)
+        o ∙ ap (λ (x : ℕ). limited (x + 1)) (v ∙ ap made (w c)) ∙ counting.object-pattern c here s (search.object-shape l d at k z e y) (sym r ∙ i) (sym g ∙ h)
 
     pub array-one : (t : Tally) (n u : ℕ) → k ≡ 36 → ((c : Context) → t ≡ restsTally c true here) → n ≡ made t → u ≡ limited (n + 1) → (c : Context) (s : Node) → u ≡ patternCount c s here
-    array-one t n u y w v o c s = o ∙ ap (λ (x : ℕ). limited (x + 1)) (v ∙ ap made (w c)) ∙ counting.array-declarators c here s (array-shape y)
+    array-one t n u y w v o c s = o ∙ ap (λ (x : ℕ). limited (x + 1)) (v ∙ ap made (w c)) ∙ counting.array-declarators c here s (search.array-shape l d at k z e y)
 
     pub other-none : (k ≡ 34 → ⊥) → (k ≡ 36 → ⊥) → (c : Context) (s : Node) → 0 ≡ patternCount c s here
     other-none a b c s =

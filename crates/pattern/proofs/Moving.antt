@@ -24,13 +24,10 @@ use Rattle.pattern.specs.Moves.{movedBelow}
 use Rattle.pattern.proofs.Places.{Blank, child-is, list-is, array-list, kind-is, no-levels}
 use Rattle.pattern.proofs.Below as below
 use Rattle.pattern.proofs.Below.{node-free, gather-free}
-use Rattle.pattern.proofs.Adding.{numbers, Adds, sumOf, listSum, sum-start, sum-more, sum-end, item-place, plus-limited, plus-right}
+use Rattle.pattern.proofs.Adding.{numbers, Adds, sumOf, listSum, sum-start, sum-more, sum-end, item-place, plus-both}
 use Rattle.pattern.proofs.KeyCases.{count-append}
 
 -- ---- counts of what is gathered
-
-two : (a b : ℕ) → limited (limited a + limited b) ≡ limited (a + b)
-two a b = plus-limited a (limited b) ∙ plus-right a b
 
 pub count-sum : (g : Node → Items) (is : Items) → sumOf numbers (λ n. limited (count (g n))) is ≡ limited (count (gather g is))
 unfolding sum gather count limited
@@ -69,7 +66,7 @@ amount-array (node at k fs) s =
     let m : Items = gather (λ e. movedBelow e) (itemsOf (node at k fs)) in
     let r : Items = movedBelow (rest (node at k fs)) in
     ap (λ (x : ℕ). limited (x + limited (count r))) (count-sum (λ e. movedBelow e) (itemsOf (node at k fs)))
-    ∙ two (count m) (count r) ∙ ap limited (sym (count-append m r))
+    ∙ plus-both (count m) (count r) ∙ ap limited (sym (count-append m r))
     ∙ rw (s, moved) (ap₂ (λ (x y : Items). limited (count (x +++ y))) (sym (gather-free (λ d p. moved d p) moved-levels moved-bare 0 at k fs)) (sym (node-free (λ d p. moved d p) none moved-levels moved-bare (depthFields fs) 1 at k fs (omega arith))))
 
 amount-default : (p : Node) → shape p ≡ default → 1 ≡ amount p
@@ -127,14 +124,7 @@ module _ (l : List ℕ) where
   unfolding movedFrom count limited
   from-no d at b y t = rw (sym y ∙ t)
 
-  -- ---- out of a list of them
-
-  abbrev pub from : Node → ℕ
-  from q = limited (count (movedFrom q))
-
-  from-empty : (at : ℕ) → from (node at 0 done) ≡ 0
-  unfolding movedFrom isMoved nodeAt pieceIn hasNestedObjectRest shape depth count limited
-  from-empty at = refl
+  -- ---- in a list of them
 
   pub moved-empty : (at : ℕ) → isMoved (node at 0 done) ≡ false
   unfolding isMoved nodeAt pieceIn hasNestedObjectRest shape depth
@@ -142,22 +132,6 @@ module _ (l : List ℕ) where
 
   abbrev pub all : ℕ → ℕ → ℕ → Items
   all left at i = itemsAt i (lookNode l left at .value)
-
-  abbrev pub FromLeft : ℕ → ℕ → ℕ → ℕ → Bool → ℕ → ℕ → ℕ → Type 0
-  FromLeft left at i below h n p t = Adds numbers t (listSum numbers l from below h n p) (limited (count (gather movedFrom (all left at i))))
-
-  pub in-none : (d at i : ℕ) → d ≡ 0 → 0 ≡ limited (count (gather movedFrom (all d at i)))
-  unfolding itemsAt pieceIn gather count limited
-  in-none d at i z = rw (no-levels l d at z)
-
-  pub in-start : (d at i : ℕ) (r : Run) → r ≡ runOf at (partAt l d at i) → FromLeft d at i (d - 1) (r .holes) (r .count) (r .from) 0
-  in-start d at i r e = sum-start numbers l from (d - 1) (r .holes) (r .count) (r .from) 0 _ refl (ap (sumOf numbers from) (list-is l d at i r e) ∙ count-sum movedFrom (all d at i))
-
-  pub in-more : (left at i d : ℕ) (h : Bool) (n p q : ℕ) (s : Place) (t x u : ℕ) → 0 < n → s ≡ itemPlace l h d p → x ≡ from (nodeHere l s) → q ≡ lookItem l (lookNode l d) h p .next → u ≡ limited (t + x) → FromLeft left at i d h n p t → FromLeft left at i d h (n - 1) q u
-  in-more left at i d h n p q s t x u z e y g v w = sum-more numbers l from d h n p q t x u _ z (item-place numbers l from from-empty d h p s x e y) g v w
-
-  pub in-end : (left at i d : ℕ) (h : Bool) (n p t : ℕ) → n ≤ 0 → FromLeft left at i d h n p t → t ≡ limited (count (gather movedFrom (all left at i)))
-  in-end left at i d h n p t z w = sum-end numbers l from d h n p t _ z w
 
   pub any-none : (d at i : ℕ) → d ≡ 0 → false ≡ any isMoved (all d at i)
   unfolding itemsAt pieceIn any

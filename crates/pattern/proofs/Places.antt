@@ -1,7 +1,7 @@
 -- The parts of a node that stands at a position are what its fields' positions say: for callers of the functions in parts.
 -- Assumes nothing.
 use mathlib.Core.Path.{_≡_, refl, sym, ap, _∙_}
-use mathlib.Core.Bool.{Bool, true, false, cond, _&&_, false≢true}
+use mathlib.Core.Bool.{Bool, true, false, cond, _&&_}
 use mathlib.Core.List.{List, []}
 use mathlib.Core.Option.{Option, some, Option·map}
 use Prim.Native.Nat.{ℕ, zero, suc, _+_, _-_, _<_, _≤_}
@@ -21,7 +21,7 @@ use Rattle.tree.specs.Read.{byteAt, wideAt}
 use Rattle.tree.specs.Look as look
 use Rattle.tree.specs.Look.{onward, lookItems, lookField, lookNode, seekFields}
 use Rattle.tree.proofs.Look.{piece-law}
-use Rattle.lowering.specs.Parts.{nothing, position, kind, pieceIn, standsIn, asNode, asItems, asText, nodeAt, itemsAt, textAt, stands}
+use Rattle.lowering.specs.Parts.{nothing, kind, pieceIn, standsIn, asNode, asItems, asText, nodeAt, itemsAt, textAt, stands}
 use Rattle.pattern.specs.declared.parts.Part.{Part}
 use Rattle.pattern.specs.declared.parts.Part.the-variants.{One, Many, Text, Number, Missing}
 use Rattle.pattern.specs.declared.parts.Place.{Place}
@@ -326,27 +326,4 @@ module _ (l : List ℕ) where
   pub no-levels : (d at : ℕ) → d ≡ 0 → lookNode l d at .value ≡ node at 0 done
   unfolding lookNode
   no-levels d at z = rw z
-
   -- ---- a field that stands, exactly
-
-  -- a node has its position
-  pub position-is : (d at : ℕ) → position (lookNode l d at .value) ≡ at
-  unfolding lookNode
-  position-is zero at = refl
-  position-is (suc d) at = refl
-
-  one-stands : (d p : ℕ) (at : ℕ) (o : Option ℕ) → standing (partIn l (child p) o) ≡ true → nodeHere l (placeOf (suc d) at (partIn l (child p) o)) ≡ nodeIn d (partIn l (child p) o)
-  unfolding partOf placeOf
-  one-stands d p at Option.none h = absurd (false≢true h)
-  one-stands d p at (some q) h = let o : suc d - 1 ≡ d = omega arith in rw o
-
-  -- where a field of a child's sort stands, the node at its place is the node in it
-  pub child-stands : (d at i p : ℕ) (s : Place) → sortAt (fieldsOf (byteAt l at)) i ≡ child p → stands i (lookNode l d at .value) ≡ true → s ≡ placeOf d at (partAt l d at i) → nodeHere l s ≡ nodeAt i (lookNode l d at .value)
-  unfolding partAt
-  child-stands zero at i p s w h e = absurd (false≢true (sym (stands-part zero at i) ∙ h))
-  child-stands (suc d) at i p s w h e =
-      let o : Option ℕ = seekFields l (lookNode l d) (fieldsOf (byteAt l at)) (byteAt l (onward l at 1)) (onward l at 2) i in
-      let k : suc d - 1 ≡ d = omega arith in
-      let f : partAt l (suc d) at i ≡ partIn l (child p) o = here d at i ∙ ap (λ (t : Sort). partIn l t o) w in
-      ap (nodeHere l) (e ∙ ap (placeOf (suc d) at) f) ∙ one-stands d p at o (ap standing (sym f) ∙ sym (stands-part (suc d) at i) ∙ h)
-      ∙ ap (nodeIn d) (sym f) ∙ ap (λ (x : ℕ). nodeIn x (partAt l (suc d) at i)) (sym k) ∙ sym (node-part (suc d) at i)

@@ -1,20 +1,18 @@
 -- The source of a pattern: what the builder's reads give.
 -- Assumes nothing.
 use mathlib.Core.Path.{_≡_, refl, sym, ap, ap₂, _∙_}
-use mathlib.Core.Bool.{Bool, true, false, cond, not, _&&_, _||_}
+use mathlib.Core.Bool.{Bool, true, false, not, _||_}
 use mathlib.Core.List.{List}
 use Prim.Native.Nat.{ℕ}
 use borrow.Author.Tests.{ne-eqb}
 use Rattle.tree.specs.Tree.{Node}
-use Rattle.tree.specs.Tree.Items.{none}
 use Rattle.tree.specs.Read.{byteAt}
 use Rattle.tree.specs.Look.{lookNode}
-use Rattle.lowering.specs.Parts.{kind, is, only}
-use Rattle.lowering.specs.Made.{Context, valueOf, declares}
-use Rattle.lowering.specs.Declarations.{isName, source, sourceDeclarator}
+use Rattle.lowering.specs.Parts.{kind, is}
+use Rattle.lowering.specs.Declarations.{isName}
 use Rattle.pattern.specs.declared.source.Read.the-variants.{Expression, Temporary}
 use Rattle.pattern.specs.declared.source.ReferenceBuilder.{ReferenceBuilder}
-use Rattle.pattern.specs.Source.{builderOf, readOf, afterRead, nodeRead}
+use Rattle.pattern.specs.Source.{builderOf, readOf, afterRead}
 use Rattle.pattern.proofs.Places.{Blank, kind-is, no-levels}
 
 -- ---- names
@@ -88,50 +86,3 @@ module _ (b : ReferenceBuilder) where
   pub read-name : b .wanted ≡ false → (Expression (b .left) (b .at) ≡ readOf b) × (spent false ≡ afterRead b)
   unfolding readOf
   read-name w = (rw w, after-is false w)
-
--- ---- what the reads of a value at a place give, for the pattern p
-
-module _ (l : List ℕ) (c : Context) (p : Node) (d at cell : ℕ) where
-  abbrev val : Node
-  val = lookNode l d at .value
-
-  and-false : (b : Bool) → b && false ≡ false
-  and-false true = refl
-  and-false false = refl
-
-  and-true : (b : Bool) → b && true ≡ b
-  and-true true = refl
-  and-true false = refl
-
-  -- the first read gives the expression
-  pub first-read : (force : Bool) → nodeRead l c p (readOf (builderOf l d at cell force)) ≡ val
-  unfolding readOf builderOf
-  first-read force = ap (λ (x : Bool). nodeRead l c p (cond x (Temporary cell) (Expression d at))) (and-false (force || not (isName val)))
-
-  -- later ones give the source's name or its temporary
-  pub later-read : nodeRead l c p (readOf (afterRead (builderOf l d at cell false))) ≡ source c p val
-  unfolding readOf builderOf afterRead source
-  later-read = ap (λ (x : Bool). nodeRead l c p (cond x (Temporary cell) (Expression d at))) (and-true (not (isName val))) ∙ go (isName val)
-    where
-      go : (b : Bool) → nodeRead l c p (cond (not b) (Temporary cell) (Expression d at)) ≡ cond b val (valueOf c p)
-      go true = refl
-      go false = refl
-
-  -- where a temporary is forced, that one
-  pub later-forced : nodeRead l c p (readOf (afterRead (builderOf l d at cell true))) ≡ valueOf c p
-  unfolding readOf builderOf afterRead
-  later-forced = refl
-
-  -- no read after the second one is another
-  pub read-settles : (b : ReferenceBuilder) → afterRead (afterRead b) ≡ afterRead b
-  unfolding afterRead
-  read-settles b = refl
-
-  -- where a temporary is wanted, the first read is its value
-  pub source-declared : sourceDeclarator c p val ≡ cond (builderOf l d at cell false .wanted) (only (declares (valueOf c p) (nodeRead l c p (readOf (builderOf l d at cell false))))) none
-  unfolding sourceDeclarator builderOf
-  source-declared = go (isName val) ∙ ap (λ (x : Node). cond (not (isName val)) (only (declares (valueOf c p) x)) none) (sym (first-read false))
-    where
-      go : (b : Bool) → cond b none (only (declares (valueOf c p) val)) ≡ cond (not b) (only (declares (valueOf c p) val)) none
-      go true = refl
-      go false = refl

@@ -86,9 +86,6 @@ module _ (l : List ℕ) where
   -- ---- whether the value of a property has it
 
   module _ (F : Node → Bool) (blank : Blank F) (bare : F nothing ≡ false) where
-    of-value : Node → Bool
-    of-value q = F (value q)
-
     blank-value : (at : ℕ) → F (value (node at 0 done)) ≡ false
     unfolding nodeAt Rattle.lowering.specs.Parts.pieceIn
     blank-value at = bare
@@ -128,16 +125,16 @@ module _ (l : List ℕ) where
     abbrev here : Node
     here = lookNode l d at .value
 
-    object-shape : k ≡ 34 → shape here ≡ objectPattern
+    pub object-shape : k ≡ 34 → shape here ≡ objectPattern
     object-shape t = below.is-object here (kind-is l d at k z e ∙ t)
 
-    array-shape : k ≡ 36 → shape here ≡ arrayPattern
+    pub array-shape : k ≡ 36 → shape here ≡ arrayPattern
     array-shape t = below.is-array here (kind-is l d at k z e ∙ t)
 
     default-shape : k ≡ 37 → shape here ≡ default
     default-shape t = below.is-default here (kind-is l d at k z e ∙ t)
 
-    leaf-shape : (k ≡ 34 → ⊥) → (k ≡ 36 → ⊥) → (k ≡ 37 → ⊥) → shape here ≡ leaf
+    pub leaf-shape : (k ≡ 34 → ⊥) → (k ≡ 36 → ⊥) → (k ≡ 37 → ⊥) → shape here ≡ leaf
     leaf-shape a b c =
         below.is-leaf here (λ w. a (sym (kind-is l d at k z e) ∙ w)) (λ w. b (sym (kind-is l d at k z e) ∙ w)) (λ w. c (sym (kind-is l d at k z e) ∙ w))
 

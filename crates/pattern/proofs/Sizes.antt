@@ -13,7 +13,7 @@ use Rattle.tree.specs.Tree.Items.{none, hole, item}
 use Rattle.lowering.specs.Parts.{nothing, pieceIn, asNode, asItems, nodeAt, itemsAt, only, each, gather, changeNode, _+++_}
 use Rattle.lowering.specs.Made.{Context, reference, declares}
 use Rattle.lowering.specs.Patterns.Shape.{arrayPattern}
-use Rattle.lowering.specs.Patterns.{shape, properties, itemsOf, rest, hasRest, value, key, withValues, replaced, replacedBelow, objectsWithRest, objectsBelow}
+use Rattle.lowering.specs.Patterns.{shape, properties, itemsOf, rest, hasRest, leftOf, value, key, withValues, replaced, replacedBelow, objectsWithRest, objectsBelow}
 use Rattle.lowering.specs.Keys.{keySort, excludedKey, keyTemporary, excludedKeys, keyTemporaries, taken}
 use Rattle.lowering.specs.Rests.{hasNoProperties, restValue}
 use Rattle.lowering.specs.Assignments.{restsThroughObjects}
@@ -30,6 +30,10 @@ use Rattle.pattern.proofs.Objects.{values-changed}
 pub limited-is : (n : ℕ) → n ≤ 65536 → limited n ≡ n
 unfolding limited
 limited-is n h = omega arith
+
+pub limited-below : (m n : ℕ) → m ≡ limited n → m ≤ 65536
+unfolding limited
+limited-below m n e = omega arith
 
 -- of an accepted tree (tree's proofs/Sound.antt: its encoding is the input, of at most 16384 bytes)
 pub counted-whole : (m b : ℕ) → m ≤ b → b ≤ 16384 → limited m ≡ m
@@ -105,11 +109,6 @@ fields-size (absent fs) zero = omega arith
 fields-size (absent fs) (suc i) = fields-size fs i
 fields-size (field p fs) zero = let h = piece-size p in let g = size-field p fs in omega arith
 fields-size (field p fs) (suc i) = let h = fields-size fs i in let g = size-field p fs in omega arith
-
--- the parts of a node have no more bytes than the node
-pub node-size : (i : ℕ) (n : Node) → size (nodeAt i n) ≤ size n
-unfolding nodeAt
-node-size i (node at k fs) = let h = fields-size fs i in let g = size-node at k fs in omega arith
 
 abbrev pub EachWithin : ℕ → Items → Type 0
 EachWithin b none = Unit {0}
@@ -241,6 +240,20 @@ none-counted : count none ≡ 0
 unfolding count
 none-counted = refl
 
+module _ (f : Node → Items) (small : Small f) where
+  -- of the values of an object's properties, and one more
+  pub object-small : (p m : Node) (b : Bool) → count (gather (λ q. f (value q)) (properties p) +++ cond b (only m) none) ≤ size p
+  object-small p m b =
+      let i = items-small 0 p in
+      let a = gather-small (λ q. f (value q)) (λ q. (let x = node-small f small 1 q in omega arith)) (properties p) in
+      let o = one-if b m in
+      let e = count-append (gather (λ q. f (value q)) (properties p)) (cond b (only m) none) in
+      omega arith
+
+  -- of the left of a default
+  pub left-small : (p : Node) → count (f (leftOf p)) ≤ size p
+  left-small p = let a = node-small f small 0 p in omega arith
+
 -- ---- keys
 
 module _ (c : Context) where
@@ -284,16 +297,12 @@ module _ (c : Context) where
   objects-step d small p =
       let i = items-small 0 p in
       by-shape (shape p)
-      (λ s. rw (s, objectsWithRest)
-      (let a = gather-small (λ q. objectsWithRest c d (value q)) (λ q. (let x = node-small (λ p. objectsWithRest c d p) small 1 q in omega arith)) (properties p) in
-      let b = one-if (hasRest p) (withValues (λ v. replaced c d v) p) in
-      let e = count-append (gather (λ q. objectsWithRest c d (value q)) (properties p)) (cond (hasRest p) (only (withValues (λ v. replaced c d v) p)) none) in
-      omega arith))
+      (λ s. rw (s, objectsWithRest) (object-small (λ p. objectsWithRest c d p) small p (withValues (λ v. replaced c d v) p) (hasRest p)))
       (λ s. rw (s, objectsWithRest) (let a = gather-small (λ e. objectsWithRest c d e) (small .fits) (itemsOf p) in omega arith))
-      (λ s. rw (s, objectsWithRest) (let a = node-small (λ p. objectsWithRest c d p) small 0 p in omega arith))
+      (λ s. rw (s, objectsWithRest) (left-small (λ p. objectsWithRest c d p) small p))
       (λ s. rw (s, objectsWithRest) (nothing-counted p))
 
-  small-objects : (d : ℕ) → Small (λ p. objectsWithRest c d p)
+  pub small-objects : (d : ℕ) → Small (λ p. objectsWithRest c d p)
   unfolding objectsWithRest
   small-objects zero = record { fits = λ p. nothing-counted p; bare = none-counted }
   small-objects (suc d) = record { fits = objects-step d (small-objects d); bare = objects-bare (suc d) }
@@ -468,15 +477,10 @@ rests-bare (suc d) = refl
 rests-step : (d : ℕ) → Small (λ p. restsThroughObjects d p) → (p : Node) → count (restsThroughObjects (suc d) p) ≤ size p
 unfolding restsThroughObjects
 rests-step d small p =
-    let i = items-small 0 p in
     by-shape (shape p)
-    (λ s. rw (s, restsThroughObjects)
-    (let a = gather-small (λ q. restsThroughObjects d (value q)) (λ q. (let x = node-small (λ p. restsThroughObjects d p) small 1 q in omega arith)) (properties p) in
-    let b = one-if (hasRest p) p in
-    let e = count-append (gather (λ q. restsThroughObjects d (value q)) (properties p)) (cond (hasRest p) (only p) none) in
-    omega arith))
+    (λ s. rw (s, restsThroughObjects) (object-small (λ p. restsThroughObjects d p) small p p (hasRest p)))
     (λ s. rw (s, restsThroughObjects) (nothing-counted p))
-    (λ s. rw (s, restsThroughObjects) (let a = node-small (λ p. restsThroughObjects d p) small 0 p in omega arith))
+    (λ s. rw (s, restsThroughObjects) (left-small (λ p. restsThroughObjects d p) small p))
     (λ s. rw (s, restsThroughObjects) (nothing-counted p))
 
 small-rests : (d : ℕ) → Small (λ p. restsThroughObjects d p)

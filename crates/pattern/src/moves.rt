@@ -7,7 +7,7 @@ use tree::skip;
 ghost use mathlib.Core.Path.{_≡_};
 ghost use Rattle.tree.specs.Tree.{count};
 ghost use Rattle.tree.specs.Look.{lookNode};
-ghost use Rattle.lowering.specs.Parts.{any, gather, itemsAt};
+ghost use Rattle.lowering.specs.Parts.{any, itemsAt};
 ghost use Rattle.lowering.specs.Heads.{isMoved, movedFrom};
 ghost use Rattle.pattern.specs.Tally.{limited};
 ghost use Rattle.pattern.specs.Moves.{movedBelow};
@@ -59,28 +59,6 @@ pub fn moved_from(tree: &[u8], left: usize, at: usize) -> usize
         return moved(tree, p.left, p.at);
     }
     0
-}
-
-// Out of all of those in field i of a node.
-pub fn moved_in(tree: &[u8], left: usize, at: usize, i: usize) -> usize
-    ensures { λ r. ⌜ r ≡ limited (count (gather movedFrom (itemsAt i (lookNode (now (tree .entry)) left at .value)))) ⌝ }
-{
-    if left == 0 {
-        return 0;
-    }
-    let below = left - 1;
-    let run = parts::list(tree, left, at, i);
-    let holes = run.holes;
-    let mut n = run.count;
-    let mut p = run.from;
-    let mut t = 0;
-    while 0 < n {
-        let e = parts::item(tree, holes, below, p);
-        t = tally::plus(t, moved_from(tree, e.left, e.at));
-        p = skip::skip_item(tree, holes, below, p);
-        n -= 1;
-    }
-    t
 }
 
 // Whether one of those in field i of a node has an object rest below its pattern.

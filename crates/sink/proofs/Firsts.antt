@@ -2,14 +2,14 @@
 -- Names of the list that come after those of the tree change no number.
 -- Assumes nothing.
 use mathlib.Core.Path.{_≡_, refl, sym, ap, _∙_}
-use mathlib.Core.Bool.{Bool, true, false, cond}
+use mathlib.Core.Bool.{Bool, true, cond}
 use mathlib.Core.List.{List, [], _∷_, _++_, append-assoc, append-nil}
 use Prim.Native.Nat.{ℕ, zero, suc, _+_}
 use lib.ListN.{length}
 use native.Mathlib.Omega.{arith}
 use Rattle.sink.specs.Shown.{Token, oneUp, place, noted, order}
 use Rattle.sink.specs.Shown.Token.{plain, temp}
-use Rattle.sink.proofs.Runs.{by-test}
+use Rattle.sink.proofs.Runs.{by-test, unlike-sym}
 use Rattle.sink.proofs.Names.{place-other, place-new, order-append, order-adds}
 
 -- the names of a row
@@ -106,12 +106,6 @@ module _ {A : Type 0} (alike : A → A → Bool) where
     pub order-distinct : (ts : List (Token A)) → order alike [] ts ≡ distinct (namesIn ts)
     order-distinct ts = order-is ts [] ∙ without-none (distinct (namesIn ts))
 
-    unlike-sym : (a b : A) → alike a b ≡ false → alike b a ≡ false
-    unlike-sym a b h =
-        by-test (alike b a)
-        (λ t. absurd (let e : alike a b ≡ true = ap (λ (x : A). alike x b) (sym (same b a t)) ∙ self b in let z : _≡_ {A = Bool} true false = sym e ∙ h in let y : _≡_ {A = ℕ} 0 1 = cc in omega arith))
-        (λ t. t)
-
     further : (l more : List A) (a : A) (from k p : ℕ) → place alike a l ≡ p → oneUp p ≡ suc k → ((j : ℕ) → place alike a l ≡ suc j → numberIn (suc from) (l ++ more) a ≡ suc from + j)
         → numberIn (suc from) (l ++ more) a ≡ from + k
     unfolding oneUp
@@ -126,7 +120,7 @@ module _ {A : Type 0} (alike : A → A → Bool) where
         (λ t. let z : _≡_ {A = ℕ} 1 (suc k) = rw t at e in
         let y : alike a b ≡ true = ap (λ (x : A). alike a x) (same b a t) ∙ self a in
         rw y (omega arith))
-        (λ t. rw (unlike-sym b a t) (further l more a from k (place alike a l) refl (rw t at e) (λ j q. number-from l more a (suc from) j q)))
+        (λ t. rw (unlike-sym alike same self b a t) (further l more a from k (place alike a l) refl (rw t at e) (λ j q. number-from l more a (suc from) j q)))
 
     -- and the number is the place in it, whatever names come after
     pub number-is : (ts : List (Token A)) (more : List A) (a : A) (k : ℕ) → place alike a (order alike [] ts) ≡ suc k → numberIn 1 (distinct (namesIn ts ++ more)) a ≡ suc k

@@ -11,7 +11,7 @@ use borrow.Author.Tests.{lt-ltb, le-ltb, eq-eqb, ne-eqb, eqb-true, eqb-false}
 use Rattle.sink.specs.declared.Helpers.{Helpers}
 use Rattle.sink.specs.Machine.{State, stateOf, oneMore, wideIn, setWide, cellOf, setCell, known, patchList, patchWork, numberOf, settle}
 use Rattle.sink.specs.Shown.{Token, Every, Apart, renamed, place, shown, filled}
-use Rattle.sink.proofs.Runs.{by-test, filled-wide, wide-right, wide-left, read-left, length-wide, read-same, read-other}
+use Rattle.sink.proofs.Runs.{by-test, unlike-sym, filled-wide, wide-right, wide-left, read-left, length-wide, read-same, read-other}
 use Rattle.sink.proofs.Names.{wide-cons, size, count, spot, length-shown, count-append, place-le, place-other, place-new, spot-kept, spot-within, shown-other, shown-patch}
 
 -- what a cell says of a name: its place, or where it stands among the list's tokens or the excluded ones
@@ -52,12 +52,6 @@ module _ {A : Type 0} (alike : A → A → Bool) (same : (a b : A) → alike a b
     pub once : (a : A) → count alike a L + count alike a X ≤ 1
     pub free : Every (λ a. Free names o L X a) later
     pub apart : Apart alike later
-
-  unlike-sym : (a b : A) → alike a b ≡ false → alike b a ≡ false
-  unlike-sym a b h =
-      by-test (alike b a)
-      (λ t. absurd (let e : alike a b ≡ true = ap (λ (x : A). alike x b) (sym (same b a t)) ∙ self b in let z : _≡_ {A = Bool} true false = sym e ∙ h in let y : _≡_ {A = ℕ} 0 1 = cc in omega arith))
-      (λ t. t)
 
   -- ---- a cell that is made anew
 
@@ -100,7 +94,7 @@ module _ {A : Type 0} (alike : A → A → Bool) (same : (a b : A) → alike a b
         ap (λ (x : ℕ). wideIn (setWide cs (2 * c) v) (2 * x)) z ∙ read-same cs (2 * c) v small (omega (arith, h .long)) ∙ new
         ∙ ap (codeOf o (L ++ M) (X ++ Y)) (sym (renamed-same names c a) ∙ ap (renamed names c a) (sym z)))
         (λ t. let z : d ≡ c → ⊥ = eqb-false d c t in
-        read-other cs c d v z ∙ h .each d e ∙ says-other (names d) (unlike-sym a (names d) (h .free .0 .other d e))
+        read-other cs c d v z ∙ h .each d e ∙ says-other (names d) (unlike-sym alike same self a (names d) (h .free .0 .other d e))
         ∙ ap (codeOf o (L ++ M) (X ++ Y)) (sym (renamed-other names c a d z)))
 
     still-differ : (d e : ℕ) → d < 16384 → e < 16384 → alike (renamed names c a d) (renamed names c a e) ≡ true → d ≡ e
@@ -114,7 +108,7 @@ module _ {A : Type 0} (alike : A → A → Bool) (same : (a b : A) → alike a b
         (λ t. let z : d ≡ c → ⊥ = eqb-false d c t in
         by-test (eqb e c)
         (λ u. absurd (let f : alike (names d) a ≡ true = sym (ap (λ (x : A). alike x (renamed names c a e)) (renamed-other names c a d z) ∙ ap (alike (names d)) (ap (renamed names c a) (eqb-true e c u) ∙ renamed-same names c a)) ∙ r in
-        let y : _≡_ {A = Bool} true false = sym f ∙ unlike-sym a (names d) (h .free .0 .other d p) in let w : _≡_ {A = ℕ} 0 1 = cc in omega arith))
+        let y : _≡_ {A = Bool} true false = sym f ∙ unlike-sym alike same self a (names d) (h .free .0 .other d p) in let w : _≡_ {A = ℕ} 0 1 = cc in omega arith))
         (λ u. h .differ d e p q (sym (ap (λ (x : A). alike x (renamed names c a e)) (renamed-other names c a d z) ∙ ap (alike (names d)) (renamed-other names c a e (eqb-false e c u))) ∙ r)))
 
     still-once : (b : A) → count alike b (L ++ M) + count alike b (X ++ Y) ≤ 1
@@ -129,10 +123,10 @@ module _ {A : Type 0} (alike : A → A → Bool) (same : (a b : A) → alike a b
     still-free b f e =
         record {
           numberless = f .numberless;
-          unlisted = none-L b (unlike-sym a b e) ∙ f .unlisted;
-          kept = none-X b (unlike-sym a b e) ∙ f .kept;
+          unlisted = none-L b (unlike-sym alike same self a b e) ∙ f .unlisted;
+          kept = none-X b (unlike-sym alike same self a b e) ∙ f .kept;
           other = λ d q. by-test (eqb d c)
-              (λ t. ap (alike b) (ap (renamed names c a) (eqb-true d c t) ∙ renamed-same names c a) ∙ unlike-sym a b e)
+              (λ t. ap (alike b) (ap (renamed names c a) (eqb-true d c t) ∙ renamed-same names c a) ∙ unlike-sym alike same self a b e)
               (λ t. ap (alike b) (renamed-other names c a d (eqb-false d c t)) ∙ f .other d q);
         }
 
@@ -181,7 +175,7 @@ module _ {A : Type 0} (alike : A → A → Bool) (same : (a b : A) → alike a b
             differ = h .differ;
             once = h .once;
             free = every-map later
-                (λ b f. record { numberless = place-other alike b (names c) o (unlike-sym b (names c) (f .other c k)) ∙ f .numberless; unlisted = f .unlisted; kept = f .kept; other = f .other })
+                (λ b f. record { numberless = place-other alike b (names c) o (unlike-sym alike same self b (names c) (f .other c k)) ∙ f .numberless; unlisted = f .unlisted; kept = f .kept; other = f .other })
                 (h .free);
             apart = h .apart;
           }

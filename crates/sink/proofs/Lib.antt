@@ -8,4 +8,3 @@ pub mod Result
 pub mod Joined
 pub mod Indices
 pub mod Firsts
-pub mod Plains

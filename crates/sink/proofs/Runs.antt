@@ -17,6 +17,13 @@ pub by-test : {A : Type 0} (b : Bool) → (b ≡ true → A) → (b ≡ false �
 by-test true f g = f refl
 by-test false f g = g refl
 
+-- names that are not alike are not so either way round
+pub unlike-sym : {A : Type 0} (alike : A → A → Bool) → ((a b : A) → alike a b ≡ true → a ≡ b) → ((a : A) → alike a a ≡ true) → (a b : A) → alike a b ≡ false → alike b a ≡ false
+unlike-sym {A} alike same self a b h =
+    by-test (alike b a)
+    (λ t. absurd (let e : alike a b ≡ true = ap (λ (x : A). alike x b) (sym (same b a t)) ∙ self b in let z : _≡_ {A = Bool} true false = sym e ∙ h in let y : _≡_ {A = ℕ} 0 1 = cc in omega arith))
+    (λ t. t)
+
 -- ---- a slice that begins with some bytes, then zeros
 
 pub filled-none : (n : ℕ) → replicate n 0 ≡ filled n []

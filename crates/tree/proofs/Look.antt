@@ -10,7 +10,7 @@ use native.Mathlib.Omega.{arith}
 use native.Mathlib.Decide.{decLt}
 use lib.Dec.{leb, ltb, eqb}
 use lib.ListN.{length, getD, take, drop}
-use borrow.Author.Tests.{lt-ltb, le-ltb, ltb-true, leb-true, eqb-true}
+use borrow.Author.Tests.{lt-ltb, le-ltb, lt-leb, le-leb, ltb-true, leb-true, eqb-true}
 use Rattle.tree.specs.Tree.{Node, Fields, Piece, Items}
 use Rattle.tree.specs.Tree.Node.{node}
 use Rattle.tree.specs.Tree.Fields.{field}
@@ -101,6 +101,14 @@ sees-accepted b s g h = of-accepted (λ a q j. s ≡ seen a q) b g h
 module _ (l : List ℕ) where
   pub on-fits : (at n : ℕ) → at + n ≤ length l → onward l at n ≡ at + n
   on-fits at n h = sym (step-fits l at n (omega arith) (omega arith))
+
+  -- no position that is computed is behind the bytes
+  pub on-within : (at n : ℕ) → onward l at n ≤ length l
+  unfolding onward
+  on-within at n = elim (decLt (length l) (at + n)) [
+    | yes h ↦ rw (lt-leb (at + n) (length l) h) (omega arith)
+    | no h ↦ rw (le-leb (at + n) (length l) (omega arith)) (omega arith)
+  ]
 
   pub on-byte : (at : ℕ) → byteAt l at < 256 → onward l at 1 ≡ at + 1
   on-byte at h = let i : at < length l = there l at h in on-fits at 1 (omega arith)

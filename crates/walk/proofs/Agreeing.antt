@@ -3,7 +3,7 @@
 use mathlib.Core.Path.{_≡_, refl, sym, ap, _∙_}
 use mathlib.Core.Bool.{Bool, true, false, cond}
 use mathlib.Core.List.{List, [], _∷_, _++_}
-use Prim.Native.Nat.{ℕ, zero, suc}
+use Prim.Native.Nat.{ℕ}
 use lib.Dec.{eqb}
 use Rattle.tree.specs.Tree.{Node, Items, wideBytes, count, encode}
 use Rattle.tree.specs.Tree.Items.{none, hole, item}
@@ -14,7 +14,7 @@ use Rattle.lowering.specs.Walk.{Note, Walked, WalkedFields, WalkedPiece, Walked
 use Rattle.lowering.specs.Walk.Walked.{noted}
 use Rattle.lowering.specs.Weight.{walked}
 use Rattle.sink.specs.Machine.{Event}
-use Rattle.direct.specs.Events.{Deed, Place, Emit, contextOf, puts, lists, excludes, made, handed, entered, excludedKeys, refused, handsOut, after, marks, cell, numberIn, mapIn, countIn, written, deeds, deedsFields, deedsPiece, deedsItems, emits}
+use Rattle.direct.specs.Events.{Deed, Place, Emit, contextOf, puts, lists, excludes, made, handed, entered, excludedKeys, refused, handsOut, after, cell, numberIn, mapIn, countIn, written, deeds, deedsFields, deedsPiece, deedsItems, emits}
 use Rattle.direct.specs.Events.Deed.{does}
 use Rattle.direct.specs.Emit.{say, _▷_, marking, unused}
 use Rattle.walk.specs.Run.{met}
@@ -72,11 +72,6 @@ excluded-met r (item d ds) = then-met r (excludes (encode (nodeAt 1 d))) (exclud
 entered-met : (r m : ℕ) (ds : Items) → met r (entered m ds) ≡ r
 unfolding entered met
 entered-met r m ds = cond-met r r (isEmpty ds) [] (does (Event.entry m (count ds)) ∷ handed ds) refl (handed-met r ds)
-
-marks-met : (r m : ℕ) → met r (marks m) ≡ r
-unfolding marks met
-marks-met r zero = refl
-marks-met r (suc m) = puts-met r (wideBytes (suc m))
 
 -- ---- the deeds of a walked tree
 

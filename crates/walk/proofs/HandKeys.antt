@@ -6,19 +6,18 @@ use mathlib.Core.List.{List, [], _∷_, _++_}
 use mathlib.Core.Option.{Option, some}
 use Prim.Native.Nat.{ℕ, zero, suc, _+_, _-_, _/_, _%_, _≤_, _<_, min}
 use native.Mathlib.Omega.{arith}
-use lib.Dec.{eqb, leb}
-use lib.ListN.{length, take, drop, length-append, length-take, length-drop}
+use lib.Dec.{eqb}
+use lib.ListN.{length, take, drop, length-take, length-drop}
 use lib.Seq.{take-nil}
-use borrow.Author.Tests.{eqb-true, eq-eqb, ne-eqb, leb-true}
-use Rattle.tree.specs.Tree.{Node, Fields, Piece, wideBytes, count, encode, encodeFields, encodePiece}
-use Rattle.tree.specs.Tree.Node.{node}
-use Rattle.tree.specs.Tree.Fields.{done, absent, field}
-use Rattle.tree.specs.Tree.Piece.{one, list, text, byte, mark, number}
+use borrow.Author.Tests.{eqb-true, eq-eqb, ne-eqb}
+use Rattle.tree.specs.Tree.{Node, wideBytes, count, encode}
+use Rattle.tree.specs.Tree.Fields.{done}
 use Rattle.tree.specs.Grammar.{Sort, fieldsOf}
 use Rattle.tree.specs.Read.{byteAt, wideAt}
 use Rattle.tree.specs.Answer.{Wide}
 use Rattle.tree.specs.Look.{Seen, onward, lookItems, lookNode, seekFields}
-use Rattle.lowering.specs.Parts.{position, is, nodeAt, itemsAt, textAt, pieceIn, asText}
+use Rattle.tree.proofs.Look.{on-within}
+use Rattle.lowering.specs.Parts.{position, is, itemsAt, textAt, pieceIn}
 use Rattle.lowering.specs.Made.{Context}
 use Rattle.lowering.specs.Patterns.{properties, key}
 use Rattle.lowering.specs.Keys.{keySort, excludedKeys}
@@ -49,8 +48,9 @@ use Rattle.walk.specs.Run.{Going, Does}
 use Rattle.walk.specs.Whole.{GoodItems, Good}
 use Rattle.walk.specs.Turns.{ownOf, keyOf, keyBytesOf}
 use Rattle.walk.proofs.Running.{does-then, does-nothing, does-as}
-use Rattle.walk.proofs.Opened.{position-here, good-copied, good-short, good-within, object-open, property-open}
+use Rattle.walk.proofs.Opened.{position-here, good-copied, good-short, good-within, object-open, property-key}
 use Rattle.walk.proofs.Hands.{at-level, list-from}
+use Rattle.walk.proofs.Sources.{text-short}
 
 -- ---- cells
 
@@ -97,21 +97,13 @@ pub three-say : (a b c : List Deed) → say a ▷ say b ▷ say c ≡ say (a ++ 
 three-say a b c = ap (λ (x : Emit). say a ▷ x) (say-say b c) ∙ say-say a (b ++ c)
 
 module _ (t : List ℕ) (left d at k mode : ℕ) (e : d ≡ left - 1) (a : k ≡ onward t at 2) where
-  -- the key of the property
-  key-here : Good t (suc d) at → byteAt t at ≡ 35 → lookNode t d k .value ≡ key (lookNode t (suc d) at .value)
-  unfolding nodeAt pieceIn
-  key-here g kind = ap (λ (x : ℕ). lookNode t d x .value) a ∙ ap (λ (s : Seen Node). key (s .value)) (sym (property-open t d at g kind .whole))
-
-  key-good : Good t (suc d) at → byteAt t at ≡ 35 → Good t d k
-  key-good g kind = subst (λ (x : ℕ). Good t d x) (sym a) (property-open t d at g kind .key)
-
   pub key-excluded : {g g′ : Going} → mode ≡ 3 → (Good t d k → Does g g′ (say (excludes (keyBytesOf (lookNode t d k .value)))))
       → Good t left at → byteAt t at ≡ 35 → Does g g′ (keyOf mode (lookNode t left at .value))
   key-excluded {g = g} {g′ = g′} m f good kind =
       at-level t (λ (x : ℕ). Does g g′ (keyOf mode (lookNode t x at .value))) left d at e good
       (λ here.
       let n = lookNode t (suc d) at .value in
-      does-as (f (key-good here kind)) (ap (λ (x : Node). say (excludes (keyBytesOf x))) (key-here here kind) ∙ key-3 n ∙ ap (λ (x : ℕ). keyOf x n) (sym m)))
+      does-as (f (property-key t d at here kind k a .1)) (ap (λ (x : Node). say (excludes (keyBytesOf x))) (property-key t d at here kind k a .0) ∙ key-3 n ∙ ap (λ (x : ℕ). keyOf x n) (sym m)))
 
   pub key-made : {g g′ : Going} (b : Bool) → b ≡ isOther (lookNode t d k .value) → b ≡ true → mode ≡ 1 → Does g g′ (say (does (make at) ∷ []))
       → Good t left at → byteAt t at ≡ 35 → Does g g′ (keyOf mode (lookNode t left at .value))
@@ -119,7 +111,7 @@ module _ (t : List ℕ) (left d at k mode : ℕ) (e : d ≡ left - 1) (a : k ≡
       at-level t (λ (x : ℕ). Does g g′ (keyOf mode (lookNode t x at .value))) left d at e good
       (λ here.
       let n = lookNode t (suc d) at .value in
-      let o : isOther (key n) ≡ true = ap isOther (sym (key-here here kind)) ∙ sym f ∙ y in
+      let o : isOther (key n) ≡ true = ap isOther (sym (property-key t d at here kind k a .0)) ∙ sym f ∙ y in
       let c : at ≡ events.cell 4 (position n) = cell-4 at ∙ ap (events.cell 4) (sym (position-here t (suc d) at)) in
       does-as h (ap (λ (x : ℕ). say (does (make x) ∷ [])) c ∙ made-yes n o ∙ key-1 n ∙ ap (λ (x : ℕ). keyOf x n) (sym m)))
 
@@ -130,9 +122,9 @@ module _ (t : List ℕ) (left d at k mode : ℕ) (e : d ≡ left - 1) (a : k ≡
       at-level t (λ (x : ℕ). Does g g′ (keyOf mode (lookNode t x at .value))) left d at e good
       (λ here.
       let n = lookNode t (suc d) at .value in
-      let o : isOther (key n) ≡ true = ap isOther (sym (key-here here kind)) ∙ sym f ∙ y in
+      let o : isOther (key n) ≡ true = ap isOther (sym (property-key t d at here kind k a .0)) ∙ sym f ∙ y in
       let c : at ≡ events.cell 4 (position n) = cell-4 at ∙ ap (events.cell 4) (sym (position-here t (suc d) at)) in
-      let bytes : part k end t ≡ encode (key n) = ap (λ (x : ℕ). part k x t) w ∙ good-copied t d k (key-good here kind) ∙ ap encode (key-here here kind) in
+      let bytes : part k end t ≡ encode (key n) = ap (λ (x : ℕ). part k x t) w ∙ good-copied t d k (property-key t d at here kind k a .1) ∙ ap encode (property-key t d at here kind k a .0) in
       does-as (does-then h (does-then i j))
       (three-say (lists (5 ∷ 3 ∷ [])) (does (listedTemporary at) ∷ []) (lists (part k end t))
       ∙ ap₂ (λ (x : ℕ) (bs : List ℕ). say (lists (5 ∷ 3 ∷ []) ++ (does (listedTemporary x) ∷ lists bs))) c bytes
@@ -144,7 +136,7 @@ module _ (t : List ℕ) (left d at k mode : ℕ) (e : d ≡ left - 1) (a : k ≡
       at-level t (λ (x : ℕ). Does g g (keyOf mode (lookNode t x at .value))) left d at e good
       (λ here.
       let n = lookNode t (suc d) at .value in
-      let o : isOther (key n) ≡ false = ap isOther (sym (key-here here kind)) ∙ sym f ∙ y in
+      let o : isOther (key n) ≡ false = ap isOther (sym (property-key t d at here kind k a .0)) ∙ sym f ∙ y in
       does-as (does-nothing g)
       (by-test (eqb mode 1)
       (λ x. made-no n o ∙ key-1 n ∙ ap (λ (z : ℕ). keyOf z n) (sym (eqb-true mode 1 x)))
@@ -173,28 +165,6 @@ cut-list zero n l = let e : 0 + n ≡ n = omega arith in rw e refl
 cut-list (suc p) n [] = let e : suc p + n ≡ suc (p + n) = omega arith in rw e (sym (take-nil n))
 cut-list (suc p) n (x ∷ l) = let e : suc p + n ≡ suc (p + n) = omega arith in rw e (cut-list p n l)
 
--- a text has no more bytes than its node
-text-piece : (p : Piece) → length (asText p) ≤ length (encodePiece p)
-unfolding encodePiece
-text-piece (one n) = omega arith
-text-piece (list is) = omega arith
-text-piece (text bs) = let a = length-append (wideBytes (length bs)) bs in omega arith
-text-piece (byte b) = omega arith
-text-piece (mark b) = omega arith
-text-piece (number b) = omega arith
-
-text-fields : (fs : Fields) (i : ℕ) → length (asText (pieceIn fs i)) ≤ length (encodeFields fs)
-unfolding pieceIn encodeFields
-text-fields done i = omega arith
-text-fields (absent fs) zero = omega arith
-text-fields (absent fs) (suc i) = text-fields fs i
-text-fields (field p fs) zero = let a = length-append (encodePiece p) (encodeFields fs) in let b = text-piece p in omega arith
-text-fields (field p fs) (suc i) = let a = length-append (encodePiece p) (encodeFields fs) in let b = text-fields fs i in omega arith
-
-text-size : (i : ℕ) (n : Node) → length (textAt i n) ≤ length (encode n)
-unfolding textAt encode
-text-size i (node at k fs) = let a = text-fields fs i in omega arith
-
 module _ (t : List ℕ) where
   -- where a text stands
   abbrev PartFits : Part → Type 0
@@ -204,17 +174,13 @@ module _ (t : List ℕ) where
   PartFits Number = Unit {0}
   PartFits Missing = Unit {0}
 
-  on-below : (at n : ℕ) → onward t at n ≤ length t
-  unfolding onward
-  on-below at n = by-test (leb (at + n) (length t)) (λ e. rw e (leb-true (at + n) (length t) e)) (λ e. rw e (omega arith))
-
   part-of : (s : Sort) (q : ℕ) → PartFits (partOf t s q)
   unfolding partOf textOf
   part-of (Sort.child p) q = tt
   part-of (Sort.chosen p r) q = tt
   part-of (Sort.many p) q = tt
   part-of (Sort.gaps p) q = tt
-  part-of Sort.text q = let a = on-below q 2 in let b = on-below q (2 + wideAt t q) in omega arith
+  part-of Sort.text q = let a = on-within t q 2 in let b = on-within t q (2 + wideAt t q) in omega arith
   part-of (Sort.byte a b) q = tt
   part-of Sort.mark q = tt
   part-of Sort.number q = tt
@@ -278,7 +244,7 @@ module _ (t : List ℕ) where
     this = lookNode t d at .value
 
     short-text : (i : ℕ) → length (textAt i this) ≤ 16384
-    short-text i = let a = text-size i this in let b = good-short t d at good in omega arith
+    short-text i = let a = text-short i this in let b = good-short t d at good in omega arith
 
     key-is : KeyIs this (keyAt t d at)
     unfolding keyAt keyBytesOf

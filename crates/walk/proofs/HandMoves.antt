@@ -30,8 +30,8 @@ use Rattle.walk.specs.Run.{Going, Does}
 use Rattle.walk.specs.Whole.{GoodItems, Good}
 use Rattle.walk.specs.Turns.{suits}
 use Rattle.walk.proofs.Running.{does-then, does-nothing, does-as}
-use Rattle.walk.proofs.Opened.{leaf-here, no-good, is-here, position-here, array-open, declarator-open, param-open}
-use Rattle.walk.proofs.Hands.{at-level, list-from, kind-byte}
+use Rattle.walk.proofs.Opened.{kind-byte, leaf-here, no-good, is-here, position-here, array-open, declarator-open, param-open}
+use Rattle.walk.proofs.Hands.{at-level, list-from}
 use Rattle.walk.proofs.HandKeys.{cell-1}
 
 -- ---- lists

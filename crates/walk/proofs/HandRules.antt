@@ -202,10 +202,6 @@ module _ (t : List ℕ) (left d at q p n : ℕ) (e : d ≡ left - 1) (a : q ≡ 
 
 -- ---- counts
 
-pub limited-below : (m n : ℕ) → m ≡ limited n → m ≤ 65536
-unfolding limited
-limited-below m n e = omega arith
-
 pub any-place : Context
 any-place = nameless
 

@@ -34,7 +34,7 @@ use Rattle.walk.specs.Whole.{holeAt, GoodItem, GoodItems, Good}
 use Rattle.walk.specs.Turns.{viewOf, ownOf, overAll}
 use Rattle.walk.proofs.Running.{does-then, does-nothing, does-as}
 use Rattle.walk.proofs.Emits.{Onto, onto-start, onto-more, onto-end, good-item, good-items, item-next, full, is-hole, no-hole}
-use Rattle.walk.proofs.Opened.{leaf-here, no-good, is-here, object-open, array-open, property-open, default-open}
+use Rattle.walk.proofs.Opened.{leaf-here, no-good, object-open, array-open, property-open, default-open}
 
 -- ---- lists, item by item
 
@@ -253,13 +253,6 @@ module _ (t : List ℕ) where
   pub at-level : (F : ℕ → Type 0) (left d at : ℕ) → d ≡ left - 1 → Good t left at → (Good t (suc d) at → F (suc d)) → F left
   at-level F zero d at e g k = no-good t at g
   at-level F (suc m) d at e g k = let z : suc d ≡ suc m = omega arith in subst F z (k (subst (λ (x : ℕ). Good t x at) (sym z) g))
-
-  pub good-none : {A : Type 0} (left at : ℕ) → left ≡ 0 → Good t left at → A
-  good-none left at z g = no-good t at (subst (λ (x : ℕ). Good t x at) z g)
-
-  pub kind-byte : (d at k : ℕ) → Good t d at → is k (lookNode t d at .value) ≡ true → byteAt t at ≡ k
-  kind-byte zero at k g e = no-good t at g
-  kind-byte (suc d) at k g e = eqb-true (byteAt t at) k (sym (is-here t d at k) ∙ e)
 
   pub leaf-does : {g : Going} (left at b v mode : ℕ) → b ≡ byteAt t at → (b ≡ 34 → ⊥) → (b ≡ 36 → ⊥) → (b ≡ 37 → ⊥) → Good t left at → Does g g (overAll mode v (lookNode t left at .value))
   leaf-does zero at b v mode e x y z good = no-good t at good

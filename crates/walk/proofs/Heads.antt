@@ -15,7 +15,6 @@ use Rattle.tree.specs.Answer.{Peeked, Wide}
 use Rattle.tree.specs.Tree.Node.{node}
 use Rattle.tree.specs.Grammar.{fieldsOf, kinds}
 use Rattle.lowering.specs.Parts.{is, _+++_, any, itemsAt, pieceIn}
-use Rattle.lowering.proofs.Accepted.{NoHoles}
 use Rattle.direct.specs.Events.{Deed, puts}
 use Rattle.direct.specs.Emit.{say, _▷_, callHead}
 use Rattle.direct.specs.Literals.{isSpread, modeNext, modeAfter, headAt, innerHeads, lastHead, heads, run, pendingHead}
@@ -23,6 +22,7 @@ use Rattle.direct.proofs.Literals.{heads-append, run-all, run-some}
 use Rattle.direct.proofs.Threads.{say-say}
 use Rattle.walk.specs.Run.{Going, Does}
 use Rattle.walk.proofs.Running.{does-then, does-nothing, does-as}
+use Rattle.walk.proofs.Opened.{look-solid}
 
 -- ---- one property
 
@@ -191,11 +191,6 @@ module _ (t : List ℕ) where
 
     -- ---- a list without holes
 
-    no-holes : (n at : ℕ) → NoHoles (lookItems t R false n at .value)
-    unfolding lookItems lookItem NoHoles
-    no-holes zero at = tt
-    no-holes (suc n) at = no-holes n (R at .next)
-
     count-is : (n at : ℕ) → count (lookItems t R false n at .value) ≡ n
     unfolding lookItems lookItem count
     count-is zero at = refl
@@ -206,7 +201,7 @@ module _ (t : List ℕ) where
       where
         go : (b : Bool) → any isSpread (lookItems t R false n at .value) ≡ b → ltb k n ≡ b
         go true h = lt-ltb k n (omega (arith, e, run-some (lookItems t R false n at .value) h, count-is n at))
-        go false h = le-ltb k n (omega (arith, e, run-all (lookItems t R false n at .value) (no-holes n at) h, count-is n at))
+        go false h = le-ltb k n (omega (arith, e, run-all (lookItems t R false n at .value) (look-solid t R n at) h, count-is n at))
 
     -- the fields of an Object: its list, if the bit stands
     pub object-fields : (b m q : ℕ) → b ≡ 24 → m % 2 ≡ 1

@@ -26,6 +26,7 @@ use Rattle.pattern.specs.Tally.{limited}
 use Rattle.pattern.proofs.Places.{Blank, child-is, object-list, kind-is, no-levels}
 use Rattle.pattern.proofs.Below as below
 use Rattle.pattern.proofs.Below.{gather-values, node-free}
+use Rattle.pattern.proofs.Searches.{leaf-shape}
 use Rattle.pattern.proofs.Objects.{values-changed}
 use Rattle.pattern.proofs.Adding.{numbers, Adds, sumOf, listSum, sum-start, sum-more, sum-end}
 use Rattle.pattern.proofs.Moving.{count-sum}
@@ -109,7 +110,7 @@ module _ (κ : Context) where
           ∙ ap (λ (f : Node → Bool). any f (properties p)) (fun-ext (λ q. ap F (value-kept κ q)))
       go false = refl
 
-  taken-gather : (F : Node → Items) (p : Node) → gather (λ q. F (value q)) (properties (taken κ p)) ≡ gather (λ q. F (value q)) (properties p)
+  pub taken-gather : (F : Node → Items) (p : Node) → gather (λ q. F (value q)) (properties (taken κ p)) ≡ gather (λ q. F (value q)) (properties p)
   unfolding taken
   taken-gather F p = go (hasRest p)
     where
@@ -306,10 +307,6 @@ module _ (l : List ℕ) where
     abbrev here : Node
     here = lookNode l d at .value
 
-    leaf-here : (k ≡ 34 → ⊥) → (k ≡ 36 → ⊥) → (k ≡ 37 → ⊥) → shape here ≡ leaf
-    leaf-here a b c =
-        below.is-leaf here (λ w. a (sym (kind-is l d at k z e) ∙ w)) (λ w. b (sym (kind-is l d at k z e) ∙ w)) (λ w. c (sym (kind-is l d at k z e) ∙ w))
-
     pub arrays-values : (r : Run) → k ≡ 34 → r ≡ runOf at (partAt l d at 0) → any (λ q. restInArrays (value q)) (lookItems l (lookNode l (d - 1)) false (r .count) (r .from) .value) ≡ restInArrays here
     arrays-values r t w =
         ap (any (λ q. restInArrays (value q))) (object-list l d at r (sym e ∙ t) w) ∙ sym (arrays-object here (below.is-object here (kind-is l d at k z e ∙ t)))
@@ -321,7 +318,7 @@ module _ (l : List ℕ) where
     arrays-left b s t w a = a ∙ child-is l restInArrays arrays-blank d at 0 s w ∙ sym (arrays-default here (below.is-default here (kind-is l d at k z e ∙ t)))
 
     pub arrays-other : (k ≡ 34 → ⊥) → (k ≡ 36 → ⊥) → (k ≡ 37 → ⊥) → false ≡ restInArrays here
-    arrays-other a b c = sym (arrays-leaf here (leaf-here a b c))
+    arrays-other a b c = sym (arrays-leaf here (leaf-shape l d at k z e a b c))
 
     pub places-start : (r : Run) → k ≡ 34 → r ≡ runOf at (partAt l d at 0) → PlacesLeft d at (d - 1) (r .count) (r .from) 0
     places-start r t w =
@@ -335,7 +332,7 @@ module _ (l : List ℕ) where
     places-left n s t w a = a ∙ child-is l (λ n. places n) places-blank d at 0 s w ∙ sym (places-default here (below.is-default here (kind-is l d at k z e ∙ t)))
 
     pub places-other : (k ≡ 34 → ⊥) → (k ≡ 36 → ⊥) → (k ≡ 37 → ⊥) → 0 ≡ places here
-    places-other a b c = sym (places-leaf here (leaf-here a b c))
+    places-other a b c = sym (places-leaf here (leaf-shape l d at k z e a b c))
 
 -- ---- of any view but the one that takes
 

@@ -9,7 +9,7 @@ use native.Mathlib.Omega.{arith}
 use native.Mathlib.Decide.{decLt}
 use lib.Dec.{eqb, leb}
 use lib.ListN.{length, getD, take, drop, length-drop, length-append, take-append-drop}
-use lib.Seq.{getD-drop, take-nil, length-slice}
+use lib.Seq.{getD-drop, take-nil}
 use borrow.Author.Tests.{eqb-true, eqb-false, eq-eqb, ne-eqb, leb-true, leb-false, lt-leb, lt-ltb, le-ltb}
 use Rattle.tree.specs.Tree.{Node, Fields, Piece, Items, wideBytes, mapOf, count, encode, encodeFields, encodePiece}
 use Rattle.tree.specs.Tree.Node.{node}
@@ -19,11 +19,13 @@ use Rattle.tree.specs.Grammar.Stage.{input}
 use Rattle.tree.specs.WellFormed.{Fits, FitFields, FitPiece}
 use Rattle.tree.specs.Read.{sortIn, byteAt, wideAt}
 use Rattle.tree.specs.Look.{Seen, seen, seenAs, onward, lookItem, lookItems, lookField, lookSlot, lookFields, lookNode}
-use Rattle.tree.proofs.Look.{kind-at, on-fits}
-use Rattle.lowering.specs.Parts.{is, kind, position, pieceIn, asNode}
+use Rattle.tree.proofs.Look.{kind-at, on-fits, on-within}
+use Rattle.lowering.specs.Parts.{is, kind, position, nodeAt, pieceIn, asNode}
 use Rattle.lowering.specs.Patterns.{Shape, shape}
+use Rattle.lowering.specs.Patterns as patterns
 use Rattle.lowering.specs.Patterns.Shape.{leaf}
 use Rattle.lowering.specs.Collect.{isContainer}
+use Rattle.lowering.proofs.Accepted.{NoHoles}
 use Rattle.lowering.proofs.All.{AllItems, weaker-items}
 use Rattle.lowering.proofs.Cases.{by-test}
 use Rattle.pattern.proofs.KeyCases.{items-count}
@@ -36,6 +38,12 @@ use Rattle.direct.specs.Moved.{given, functionFields, arrowFields, catchFields,
 use Rattle.direct.proofs.HeadShapes.{form-is, FitGiven, function-fits, catch-fits, functionBody-kind, param-kind, catchBody-kind}
 use Rattle.walk.specs.Whole.{GoodItems, GoodList, GoodField, GoodSlot, GoodFields, Good}
 use Rattle.walk.proofs.Copied.{part-cut}
+
+-- what is read without holes has none
+pub look-solid : (t : List ℕ) (R : ℕ → Seen Node) (n at : ℕ) → NoHoles (lookItems t R false n at .value)
+unfolding lookItems lookItem NoHoles
+look-solid t R zero at = tt
+look-solid t R (suc n) at = look-solid t R n (R at .next)
 
 -- ---- bytes that stand from a position on
 
@@ -254,18 +262,11 @@ module _ (t : List ℕ) where
       (λ b. let z : length t + n ≤ length t = leb-true (length t + n) (length t) b in rw b (omega arith))
       (λ b. rw b refl)))
 
-  on-end : (at n : ℕ) → onward t at n ≤ length t
-  unfolding onward
-  on-end at n =
-      by-test (leb (at + n) (length t))
-      (λ e. rw e (leb-true (at + n) (length t) e))
-      (λ e. rw e (omega arith))
-
   -- nothing that is seen ends past the end
   module _ (R : ℕ → Seen Node) (ends : (q : ℕ) → q ≤ length t → R q .next ≤ length t) where
     item-end : (h : Bool) (q : ℕ) → q ≤ length t → lookItem t R h q .next ≤ length t
     unfolding lookItem
-    item-end true q l = by-test (eqb (byteAt t q) 0) (λ e. rw e (on-end q 1)) (λ e. rw e (ends q l))
+    item-end true q l = by-test (eqb (byteAt t q) 0) (λ e. rw e (on-within t q 1)) (λ e. rw e (ends q l))
     item-end false q l = ends q l
 
     items-end : (h : Bool) (n q : ℕ) → q ≤ length t → lookItems t R h n q .next ≤ length t
@@ -277,12 +278,12 @@ module _ (t : List ℕ) where
     unfolding lookField
     field-end (Sort.child p) q l = ends q l
     field-end (Sort.chosen p o) q l = ends q l
-    field-end (Sort.many p) q l = items-end false (wideAt t q) (onward t q 2) (on-end q 2)
-    field-end (Sort.gaps p) q l = items-end true (wideAt t q) (onward t q 2) (on-end q 2)
-    field-end Sort.text q l = on-end q (2 + wideAt t q)
-    field-end (Sort.byte a b) q l = on-end q 1
-    field-end Sort.mark q l = on-end q 2
-    field-end Sort.number q l = on-end q 2
+    field-end (Sort.many p) q l = items-end false (wideAt t q) (onward t q 2) (on-within t q 2)
+    field-end (Sort.gaps p) q l = items-end true (wideAt t q) (onward t q 2) (on-within t q 2)
+    field-end Sort.text q l = on-within t q (2 + wideAt t q)
+    field-end (Sort.byte a b) q l = on-within t q 1
+    field-end Sort.mark q l = on-within t q 2
+    field-end Sort.number q l = on-within t q 2
 
     slot-end : (s : Sort) (b q : ℕ) → q ≤ length t → lookSlot t R s b q .next ≤ length t
     unfolding lookSlot
@@ -293,11 +294,6 @@ module _ (t : List ℕ) where
     unfolding lookFields
     fields-end [] m q l = l
     fields-end (f ∷ ts) m q l = fields-end ts (m / 2) (lookSlot t R (sortIn f) (m % 2) q .next) (slot-end (sortIn f) (m % 2) q l)
-
-  pub look-end : (d at : ℕ) → at ≤ length t → lookNode t d at .next ≤ length t
-  unfolding lookNode
-  look-end zero at l = l
-  look-end (suc d) at l = fields-end (λ q. lookNode t d q) (λ q h. look-end d q h) (fieldsOf (byteAt t at)) (byteAt t (onward t at 1)) (onward t at 2) (on-end at 2)
 
   -- bytes that stand from a position on, with others behind them
   pub record Front (at : ℕ) (bs : List ℕ) : Type 0 where
@@ -332,6 +328,10 @@ module _ (t : List ℕ) where
   pub is-here : (d at k : ℕ) → is k (lookNode t (suc d) at .value) ≡ eqb (byteAt t at) k
   unfolding lookNode is
   is-here d at k = refl
+
+  pub kind-byte : (d at k : ℕ) → Good t d at → is k (lookNode t d at .value) ≡ true → byteAt t at ≡ k
+  kind-byte zero at k g e = no-good at g
+  kind-byte (suc d) at k g e = eqb-true (byteAt t at) k (sym (is-here d at k) ∙ e)
 
   pub position-here : (d at : ℕ) → position (lookNode t d at .value) ≡ at
   unfolding lookNode
@@ -368,15 +368,6 @@ module _ (t : List ℕ) where
       let f : Front at (encode (lookNode t d at .value)) = good-front d at g in
       let n : 2 ≤ length (encode (lookNode t d at .value)) = encode-two (lookNode t d at .value) in
       front-room at (encode (lookNode t d at .value)) (f .more) (f .cut) (omega arith)
-
-  -- and ends where its bytes do
-  pub good-next : (d at : ℕ) → Good t d at → lookNode t d at .next ≡ at + length (encode (lookNode t d at .value))
-  unfolding part
-  good-next d at g =
-      let r : at + length (encode (lookNode t d at .value)) ≤ length t = good-room d at g in
-      let e : lookNode t d at .next ≤ length t = look-end d at (omega arith) in
-      let n : length (encode (lookNode t d at .value)) ≡ lookNode t d at .next - at = ap length (sym (good-copied d at g)) ∙ length-slice at (lookNode t d at .next) t e in
-      omega (arith, encode-two (lookNode t d at .value))
 
   pub good-end : (d at : ℕ) → Good t d at → at + length (encode (lookNode t d at .value)) ≤ 16384
   good-end d at g = omega (arith, good-room d at g, good-limit d at g)
@@ -850,6 +841,13 @@ module _ (t : List ℕ) (d at : ℕ) where
         key = w .0;
         value = w .1 .0;
       }
+
+  -- its key, which stands at q and is good
+  pub property-key : Good t (suc d) at → byteAt t at ≡ 35 → (q : ℕ) → q ≡ onward t at 2 → (lookNode t d q .value ≡ patterns.key (lookNode t (suc d) at .value)) × Good t d q
+  unfolding nodeAt pieceIn
+  property-key g k q e =
+      let p = property-open g k in
+      (ap (λ (x : ℕ). lookNode t d x .value) e ∙ ap (λ (s : Seen Node). patterns.key (s .value)) (sym (p .whole)), subst (λ (x : ℕ). Good t d x) (sym e) (p .key))
 
   -- ---- 37 Default(left right)
 

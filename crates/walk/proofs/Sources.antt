@@ -6,11 +6,10 @@ use mathlib.Core.List.{List, [], _∷_}
 use mathlib.Core.Option.{Option, some}
 use Prim.Native.Nat.{ℕ, zero, suc, _+_, _/_, _≤_, _<_}
 use native.Mathlib.Omega.{arith}
-use native.Mathlib.Decide.{decLt}
 use lib.Dec.{eqb}
 use lib.ListN.{length, take, drop, length-append, length-drop}
 use lib.Seq.{take-nil, length-take-le}
-use borrow.Author.Tests.{eq-eqb, ne-eqb, le-leb, lt-leb}
+use borrow.Author.Tests.{eq-eqb, ne-eqb}
 use Rattle.tree.specs.Tree.{Node, Fields, Piece, encode, encodeFields}
 use Rattle.tree.specs.Tree.Node.{node}
 use Rattle.tree.specs.Tree.Fields.{done, absent, field}
@@ -19,6 +18,7 @@ use Rattle.tree.specs.Grammar.Sort.{child, chosen, many, gaps, text, byte, mark
 use Rattle.tree.specs.Read.{byteAt, wideAt}
 use Rattle.tree.specs.Answer.{Peeked}
 use Rattle.tree.specs.Look.{onward, lookNode, seekFields}
+use Rattle.tree.proofs.Look.{on-within}
 use Rattle.lowering.specs.Parts.{pieceIn, asText, textAt}
 use Rattle.lowering.specs.Keys.{keySort, lacksForm}
 use Rattle.lowering.specs.Keys as lowering
@@ -43,6 +43,7 @@ use Rattle.walk.specs.Run.{Going, Does}
 use Rattle.walk.specs.Whole.{Good}
 use Rattle.walk.specs.Turns.{holeOf, reads, sourceOf, keyClass, keyString, awaits}
 use Rattle.walk.proofs.Running.{does-as, does-nothing}
+use Rattle.walk.proofs.Opened.{good-short}
 use Rattle.walk.proofs.Lookups.{when-yes, classOf, key-class}
 
 -- the same from the same
@@ -135,16 +136,9 @@ text-fits (field (Piece.mark b) fs) zero = omega arith
 text-fits (field (Piece.number b) fs) zero = omega arith
 text-fits (field p fs) (suc i) = let h = text-fits fs i in simp length-append (omega arith)
 
-text-short : (i : ℕ) (n : Node) → length (textAt i n) ≤ length (encode n)
+pub text-short : (i : ℕ) (n : Node) → length (textAt i n) ≤ length (encode n)
 unfolding textAt encode
 text-short i (node at k fs) = let h = text-fits fs i in omega arith
-
-onward-within : (t : List ℕ) (at n : ℕ) → onward t at n ≤ length t
-unfolding onward
-onward-within t at n = elim (decLt (length t) (at + n)) [
-  | yes h ↦ rw (lt-leb (at + n) (length t) h) (omega arith)
-  | no h ↦ rw (le-leb (at + n) (length t) (omega arith)) (omega arith)
-]
 
 abbrev Within : List ℕ → Part → Type 0
 Within t (One q) = Unit {0}
@@ -160,7 +154,7 @@ sort-within t (child p) (some q) = tt
 sort-within t (chosen p r) (some q) = tt
 sort-within t (many p) (some q) = tt
 sort-within t (gaps p) (some q) = tt
-sort-within t text (some q) = let a = onward-within t q 2 in let b = onward-within t q (2 + wideAt t q) in omega arith
+sort-within t text (some q) = let a = on-within t q 2 in let b = on-within t q (2 + wideAt t q) in omega arith
 sort-within t (byte a b) (some q) = tt
 sort-within t mark (some q) = tt
 sort-within t number (some q) = tt
@@ -229,11 +223,6 @@ pub record Spelt (t : List ℕ) (k : Node) (from n : ℕ) : Type 0 where
   pub small : n < 65536
   pub within : from + n ≤ length t
   pub string : stringBytes (part from (from + n) t) ≡ keyString k
-
-good-short : (t : List ℕ) (d at : ℕ) → Good t d at → length (encode (lookNode t d at .value)) ≤ 16384
-unfolding Good lookNode
-good-short t zero at g = absurd g
-good-short t (suc d) at g = g .short
 
 module _ (t : List ℕ) (d at : ℕ) where
   abbrev here : Node

@@ -6,9 +6,9 @@ use Prim.Native.Nat.{ℕ, _+_, _-_, _≤_, _<_}
 use native.Mathlib.Omega.{arith}
 use lib.ListN.{length}
 use lib.Seq.{length-slice}
-use borrow.Author.Tests.{le-leb}
 use Rattle.tree.specs.Tree.{wideBytes}
 use Rattle.tree.specs.Look.{onward}
+use Rattle.tree.proofs.Look.{on-fits}
 use Rattle.sink.specs.Machine.{State, step, steps, low, high, part}
 use Rattle.sink.specs.Machine as machine
 use Rattle.sink.specs.Machine.Event.{put, helper, newMark, listed, excluded, excludedTemporary, declarator}
@@ -93,10 +93,6 @@ by-mapped s s₁ s₂ s₃ s₄ r a b d e =
 
 -- ---- strings
 
-onward-in : (t : List ℕ) (at n : ℕ) → at + n ≤ length t → onward t at n ≡ at + n
-unfolding onward
-onward-in t at n h = rw (le-leb (at + n) (length t) h) refl
-
 part-length : (t : List ℕ) (at n : ℕ) → at + n ≤ length t → length (part at (at + n) t) ≡ n
 unfolding part
 part-length t at n h = let e : at + n - at ≡ n = omega arith in length-slice at (at + n) t h ∙ e
@@ -106,7 +102,7 @@ string-is t at n h = ap (λ (k : ℕ). 22 ∷ 7 ∷ 1 ∷ 0 ∷ 0 ∷ wideBytes 
 
 module _ (t : List ℕ) (s s₁ s₂ s₃ s₄ : State) (r at n q : ℕ) (small : n < 65536) (fits : at + n ≤ length t) (ends : q ≡ onward t at n) where
   here : part at q t ≡ part at (at + n) t
-  here = ap (λ (x : ℕ). part at x t) (ends ∙ onward-in t at n fits)
+  here = ap (λ (x : ℕ). part at x t) (ends ∙ on-fits t at n fits)
 
   pub by-string : s₁ ≡ steps s (machine.puts (22 ∷ 7 ∷ 1 ∷ 0 ∷ [])) → s₂ ≡ step s₁ (put 0) → s₃ ≡ steps s₂ (machine.puts (low n ∷ high n ∷ []))
       → s₄ ≡ steps s₃ (machine.puts (part at q t)) → Does (record { state = s; refusal = r }) (record { state = s₄; refusal = r }) (say (puts (stringBytes (part at (at + n) t))))

@@ -10,7 +10,7 @@ use lib.Dec.{eqb, leb}
 use borrow.Author.Tests.{eqb-true, ne-eqb, lt-leb}
 use Rattle.tree.specs.Tree.{Node, Items}
 use Rattle.tree.specs.Read.{byteAt}
-use Rattle.tree.specs.Look.{Seen, seen, seenAs, onward, lookItem, lookItems, lookNode}
+use Rattle.tree.specs.Look.{seen, seenAs, onward, lookItem, lookItems, lookNode}
 use Rattle.tree.specs.Answer.{Peeked}
 use Rattle.tree.proofs.Rows.{NoKey, no-key, before-keys}
 use Rattle.tree.proofs.Skipping as skipping
@@ -37,22 +37,10 @@ use Rattle.walk.specs.Run.{Going, Does}
 use Rattle.walk.specs.Whole.{holeAt, GoodItem, GoodItems, Good, Emitted}
 use Rattle.walk.specs.Turns.{restFrom, viewOf, turnOf, deepMode, suits, holeOf, turnsOf, AllSuit, spotDeeds}
 use Rattle.walk.proofs.Running.{does-as}
-use Rattle.walk.proofs.Opened.{no-good, is-here}
+use Rattle.walk.proofs.Opened.{kind-byte}
 use Rattle.walk.proofs.Emits.{Onto, onto-start, onto-more, onto-end, is-hole, item-next, good-item, good-items}
 
 -- ---- lists without holes
-
--- those that are read without holes
-pub look-solid : (t : List ℕ) (R : ℕ → Seen Node) (n at : ℕ) → NoHoles (lookItems t R false n at .value)
-unfolding lookItems lookItem NoHoles
-look-solid t R zero at = tt
-look-solid t R (suc n) at = look-solid t R n (R at .next)
-
-pub each-turn : (f : Node → Emit) (ns : Items) → NoHoles ns → inTurn f ns ≡ eachDoes f ns
-unfolding NoHoles eachDoes inTurn
-each-turn f Items.none h = refl
-each-turn f (Items.hole ns) h = absurd h
-each-turn f (Items.item n ns) h = ap (λ (e : Emit). f n ▷ e) (each-turn f ns h)
 
 -- ---- what a turn does for one item
 
@@ -259,10 +247,6 @@ module _ (ns : Items) where
   unfolding suits
   suit-16 = suit-all 16 (λ n. refl) ns
 
-  pub suit-18 : AllSuit 18 ns
-  unfolding suits
-  suit-18 = suit-all 18 (λ n. refl) ns
-
   module _ (a : AllItems (λ q. is 35 q ≡ true) ns) where
     pub suit-2 : AllSuit 2 ns
     unfolding suits
@@ -383,11 +367,6 @@ deep-left mode n k s =
         none false = refl
 
 module _ (t : List ℕ) where
-  -- the kind that is asked for is the first byte
-  pub kind-known : (d at k : ℕ) → Good t d at → is k (lookNode t d at .value) ≡ true → byteAt t at ≡ k
-  kind-known zero at k g e = no-good t at g
-  kind-known (suc d) at k g e = eqb-true (byteAt t at) k (sym (is-here t d at k) ∙ e)
-
   binds : (d at : ℕ) → Good t d at → suits 11 (lookNode t d at .value) ≡ true → eqb (byteAt t at) 15 || eqb (byteAt t at) 5 ≡ true
   unfolding suits lookNode is
   binds zero at good s = no-good t at good
@@ -446,36 +425,36 @@ module _ (t : List ℕ) where
 
       pub turned-2 : mode ≡ 2 → (byteAt t at ≡ 35 → Emitted t d at q g g′ (emitsProperty c false (viewOf 1))) → Turned mode x c d h at q g g′
       unfolding viewOf suits
-      turned-2 e k = turned-by mode 2 q _ b e (sym (turn-2 x c _)) (λ small good s. k (kind-known d at 35 good s) good)
+      turned-2 e k = turned-by mode 2 q _ b e (sym (turn-2 x c _)) (λ small good s. k (kind-byte t d at 35 good s) good)
 
       pub turned-3 : mode ≡ 3 → (byteAt t at ≡ 35 → Emitted t d at q g g′ (emitsProperty c false (viewOf 3))) → Turned mode x c d h at q g g′
       unfolding viewOf suits
-      turned-3 e k = turned-by mode 3 q _ b e (sym (turn-3 x c _)) (λ small good s. k (kind-known d at 35 good s) good)
+      turned-3 e k = turned-by mode 3 q _ b e (sym (turn-3 x c _)) (λ small good s. k (kind-byte t d at 35 good s) good)
 
       pub turned-4 : mode ≡ 4 → (byteAt t at ≡ 35 → Emitted t d at q g g′ (emitsProperty c true (viewOf 1))) → Turned mode x c d h at q g g′
       unfolding viewOf suits
-      turned-4 e k = turned-by mode 4 q _ b e (sym (turn-4 x c _)) (λ small good s. k (kind-known d at 35 good s) good)
+      turned-4 e k = turned-by mode 4 q _ b e (sym (turn-4 x c _)) (λ small good s. k (kind-byte t d at 35 good s) good)
 
       pub turned-5 : mode ≡ 5 → (byteAt t at ≡ 35 → Emitted t d at q g g′ (emitsProperty c true (viewOf 3))) → Turned mode x c d h at q g g′
       unfolding viewOf suits
-      turned-5 e k = turned-by mode 5 q _ b e (sym (turn-5 x c _)) (λ small good s. k (kind-known d at 35 good s) good)
+      turned-5 e k = turned-by mode 5 q _ b e (sym (turn-5 x c _)) (λ small good s. k (kind-byte t d at 35 good s) good)
 
       pub turned-6 : mode ≡ 6 → (byteAt t at ≡ 35 → Emitted t d at q g g′ (emitsExcluded c)) → Turned mode x c d h at q g g′
       unfolding suits
-      turned-6 e k = turned-by mode 6 q _ b e (sym (turn-6 x c _)) (λ small good s. k (kind-known d at 35 good s) good)
+      turned-6 e k = turned-by mode 6 q _ b e (sym (turn-6 x c _)) (λ small good s. k (kind-byte t d at 35 good s) good)
 
       pub turned-7 : mode ≡ 7 → (byteAt t at ≡ 35 → Emitted t d at q g g′ (emitsKeyValue c)) → Turned mode x c d h at q g g′
       unfolding suits
-      turned-7 e k = turned-by mode 7 q _ b e (sym (turn-7 x c _)) (λ small good s. k (kind-known d at 35 good s) good)
+      turned-7 e k = turned-by mode 7 q _ b e (sym (turn-7 x c _)) (λ small good s. k (kind-byte t d at 35 good s) good)
 
       pub turned-9 : mode ≡ 9 → Valued 8 q g g′ → Turned mode x c d h at q g g′
       unfolding suits deepMode
       turned-9 e k =
-          turned-by mode 9 q _ b e (turn-8 x c _ ∙ sym (turn-9 x c _)) (λ small good s. k (kind-known d at 35 good s) small good refl refl)
+          turned-by mode 9 q _ b e (turn-8 x c _ ∙ sym (turn-9 x c _)) (λ small good s. k (kind-byte t d at 35 good s) small good refl refl)
 
       pub turned-10 : mode ≡ 10 → (byteAt t at ≡ 5 → Emitted t d at q g g′ (emitsDeclarator c)) → Turned mode x c d h at q g g′
       unfolding suits
-      turned-10 e k = turned-by mode 10 q _ b e (sym (turn-10 x c _)) (λ small good s. k (kind-known d at 5 good s) good)
+      turned-10 e k = turned-by mode 10 q _ b e (sym (turn-10 x c _)) (λ small good s. k (kind-byte t d at 5 good s) good)
 
       pub turned-11 : mode ≡ 11 → (eqb (byteAt t at) 15 || eqb (byteAt t at) 5 ≡ true → Emitted t d at q g g′ (λ n. emits c (behind n))) → Turned mode x c d h at q g g′
       turned-11 e k = turned-by mode 11 q _ b e (sym (turn-11 x c _)) (λ small good s. k (binds d at good s) good)
@@ -486,7 +465,7 @@ module _ (t : List ℕ) where
           turned-by mode 13 q _ b e (turn-12 x c _ ∙ sym (turn-13 x c _))
           (λ small good s.
           let n : Node = lookNode t d at .value in
-          k (kind-known d at 35 good (and-left (is 35 n) (not (hasArrayRestOverObjectRest (value n))) s)) small good refl (and-right (is 35 n) (not (hasArrayRestOverObjectRest (value n))) s))
+          k (kind-byte t d at 35 good (and-left (is 35 n) (not (hasArrayRestOverObjectRest (value n))) s)) small good refl (and-right (is 35 n) (not (hasArrayRestOverObjectRest (value n))) s))
 
       pub turned-14 : mode ≡ 14 → Valued 17 q g g′ → Turned mode x c d h at q g g′
       unfolding suits deepMode
@@ -494,12 +473,12 @@ module _ (t : List ℕ) where
           turned-by mode 14 q _ b e (turn-17 x c _ ∙ sym (turn-14 x c _))
           (λ small good s.
           let n : Node = lookNode t d at .value in
-          k (kind-known d at 35 good (and-left (is 35 n) (not (hasArrayRestOverObjectRest (value n))) s)) small good refl (and-right (is 35 n) (not (hasArrayRestOverObjectRest (value n))) s))
+          k (kind-byte t d at 35 good (and-left (is 35 n) (not (hasArrayRestOverObjectRest (value n))) s)) small good refl (and-right (is 35 n) (not (hasArrayRestOverObjectRest (value n))) s))
 
       pub turned-15 : mode ≡ 15 → Valued 18 q g g′ → Turned mode x c d h at q g g′
       unfolding suits deepMode
       turned-15 e k =
-          turned-by mode 15 q _ b e (turn-18 x c _ ∙ sym (turn-15 x c _)) (λ small good s. k (kind-known d at 35 good s) small good refl refl)
+          turned-by mode 15 q _ b e (turn-18 x c _ ∙ sym (turn-15 x c _)) (λ small good s. k (kind-byte t d at 35 good s) small good refl refl)
 
       pub turned-16 : mode ≡ 16 → Emitted t d at q g g′ (λ p. emits c (outOf p)) → Turned mode x c d h at q g g′
       turned-16 e k = turned-by mode 16 q _ b e (sym (turn-16 x c _)) (λ small good s. k good)

@@ -26,8 +26,8 @@ use Rattle.walk.specs.Whole.{Ruled, Emitted}
 use Rattle.walk.specs.Turns.{viewOf}
 use Rattle.walk.proofs.Running.{does-then, does-as, does-to}
 use Rattle.walk.proofs.Args.{does-from}
-use Rattle.walk.proofs.Opened.{ObjectOpen, ArrayOpen, leaf-here, no-good, object-open, array-open, property-open, default-open}
-use Rattle.walk.proofs.Turning.{Sequenced, sequenced-as, look-solid, turns-1, turns-properties, values-of, suit-1, suit-properties}
+use Rattle.walk.proofs.Opened.{look-solid, ObjectOpen, ArrayOpen, leaf-here, no-good, object-open, array-open, property-open, default-open}
+use Rattle.walk.proofs.Turning.{Sequenced, sequenced-as, turns-1, turns-properties, values-of, suit-1, suit-properties}
 
 -- ---- views by number
 

@@ -12,6 +12,7 @@ use Rattle.walk.specs.Whole.{GoodItems, Good}
 use Rattle.walk.specs.Run.{goingOf}
 use Rattle.walk.proofs.Running.{does-as}
 use Rattle.walk.proofs.HandMoves as law
+use Rattle.walk.proofs.Emits.{good-none}
 use Rattle.walk.proofs.Hands as hands
 use Prim.Native.Nat.{ℕ}
 use borrow.Fn.PlainCycle.{Measures}
@@ -55,7 +56,7 @@ abbrev makes-claims : ℕ → cycle.Lts-makes.Claims
 makes-claims t = (peek-reads.Asked, peek-reads.Learnt, make-reads.Asked, make-reads.Learnt, below-measure makes-array.Kinds.ps μ-makes-array makes-array.Reads.Pre t, makes-array.Reads.Post)
 
 makes-returns : (t : ℕ) → cycle.Lts-makes.Need-returns (makes-claims t) (at-measure makes.Kinds.ps μ-makes makes.Reads.Pre t) makes.Reads.Post
-makes-returns t c = (refl, λ o l g. hands.good-none _ _ _ (c .if1 .taken) g)
+makes-returns t c = (refl, λ o l g. good-none _ _ _ (c .if1 .taken) g)
 
 makes-returns-2 : (t : ℕ) → cycle.Lts-makes.Need-returns-2 (makes-claims t) (at-measure makes.Kinds.ps μ-makes makes.Reads.Pre t) makes.Reads.Post
 makes-returns-2 t c = (c .before .before .make .ensures .1, λ o l g. law.makes-34 _ _ _ _ (c .before .before .before .before .before .peek .ensures .value) (c .before .before .before .before .match .keys1) (c .before .before .make .ensures .0 o l) g)
@@ -70,7 +71,7 @@ makes-returns-5 : (t : ℕ) → cycle.Lts-makes.Need-returns-5 (makes-claims t) 
 makes-returns-5 t c = (refl, λ o l g. law.makes-nothing _ _ _ _ (c .before .peek .ensures .value) (c .match .rest .0 .0 .1) (c .match .rest .0 .1) (c .match .rest .1) g)
 
 makes-array-returns : (t : ℕ) → cycle.Lts-makes_array.Need-returns (makes-array-claims t) (at-measure makes-array.Kinds.ps μ-makes-array makes-array.Reads.Pre t) makes-array.Reads.Post
-makes-array-returns t c = (refl, λ o l g k. hands.good-none _ _ _ (c .if1 .taken) g)
+makes-array-returns t c = (refl, λ o l g k. good-none _ _ _ (c .if1 .taken) g)
 
 makes-array-returns-2 : (t : ℕ) → cycle.Lts-makes_array.Need-returns-2 (makes-array-claims t) (at-measure makes-array.Kinds.ps μ-makes-array makes-array.Reads.Pre t) makes-array.Reads.Post
 makes-array-returns-2 t c = (

@@ -12,6 +12,8 @@ use Rattle.lowering.specs.Parts as parts
 use Rattle.walk.specs.Whole.{GoodItems, Good}
 use Rattle.walk.specs.Run.{goingOf}
 use Rattle.walk.specs.Turns.{overAll}
+use Rattle.walk.proofs.Opened.{kind-byte}
+use Rattle.walk.proofs.Emits.{good-none}
 use Rattle.walk.proofs.Hands as law
 use Prim.Native.Nat.{ℕ}
 use borrow.Fn.PlainCycle.{Measures}
@@ -77,7 +79,7 @@ abbrev over-claims : ℕ → cycle.Lts-over.Claims
 over-claims t = (peek-reads.Asked, peek-reads.Learnt, below-measure over-object.Kinds.ps μ-over-object over-object.Reads.Pre t, over-object.Reads.Post, below-measure over-array.Kinds.ps μ-over-array over-array.Reads.Pre t, over-array.Reads.Post, less-reads.Asked, less-reads.Learnt, step-reads.Asked, step-reads.Learnt, values-reads.Asked, values-reads.Learnt, below-measure over.Kinds.ps μ-over over.Reads.Pre t, over.Reads.Post)
 
 over-returns : (t : ℕ) → cycle.Lts-over.Need-returns (over-claims t) (at-measure over.Kinds.ps μ-over over.Reads.Pre t) over.Reads.Post
-over-returns t c = (refl, λ o g. law.good-none _ _ _ (c .if1 .taken) g)
+over-returns t c = (refl, λ o g. good-none _ _ _ (c .if1 .taken) g)
 
 over-returns-2 : (t : ℕ) → cycle.Lts-over.Need-returns-2 (over-claims t) (at-measure over.Kinds.ps μ-over over.Reads.Pre t) over.Reads.Post
 over-returns-2 t c = (c .before .before .before .before .over-object .ensures .0, λ o g. c .before .before .before .before .over-object .ensures .1 o g (sym (c .before .before .before .before .before .before .before .before .peek .ensures .value) ∙ c .before .before .before .before .before .before .before .match .keys1))
@@ -92,7 +94,7 @@ over-returns-5 : (t : ℕ) → cycle.Lts-over.Need-returns-5 (over-claims t) (at
 over-returns-5 t c = (refl, λ o g. law.leaf-does _ _ _ _ _ _ (c .before .peek .ensures .value) (c .match .rest .0 .0 .1) (c .match .rest .0 .1) (c .match .rest .1) g)
 
 over-array-returns : (t : ℕ) → cycle.Lts-over_array.Need-returns (over-array-claims t) (at-measure over-array.Kinds.ps μ-over-array over-array.Reads.Pre t) over-array.Reads.Post
-over-array-returns t c = (refl, λ o g k. law.good-none _ _ _ (c .if1 .taken) g)
+over-array-returns t c = (refl, λ o g k. good-none _ _ _ (c .if1 .taken) g)
 
 over-array-returns-2 : (t : ℕ) → cycle.Lts-over_array.Need-returns-2 (over-array-claims t) (at-measure over-array.Kinds.ps μ-over-array over-array.Reads.Pre t) over-array.Reads.Post
 over-array-returns-2 t c = (refl, λ o g k. law.array-left _ _ _ _ _ (c .if2 .taken) g k)
@@ -142,7 +144,7 @@ over-object-returns-2 t c = (
 )
 
 over-value-returns : (t : ℕ) → cycle.Lts-over_value.Need-returns (over-value-claims t) (at-measure over-value.Kinds.ps μ-over-value over-value.Reads.Pre t) over-value.Reads.Post
-over-value-returns t c = (refl, λ o g k. law.good-none _ _ _ (c .if1 .taken) g)
+over-value-returns t c = (refl, λ o g k. good-none _ _ _ (c .if1 .taken) g)
 
 over-value-returns-2 : (t : ℕ) → cycle.Lts-over_value.Need-returns-2 (over-value-claims t) (at-measure over-value.Kinds.ps μ-over-value over-value.Reads.Pre t) over-value.Reads.Post
 over-value-returns-2 t c = (c .before .before .before .before .over .ensures .0, λ o g k. law.value-does _ _ _ _ _ _ _ _ (c .before .before .before .before .before .before .before .before .before .less .ensures) (c .before .before .before .before .before .before .before .before .step .ensures) (c .before .before .before .before .before .before .before .skip .ensures) (c .before .before .before .before .over .ensures .1 o) g k)
@@ -164,7 +166,7 @@ over-values-loop-again t c = (
   omega (arith, c .before .before .before .before .before .before .before .before .before .loop .inv .0, c .before .before .before .before .before .over-value .kept),
   omega (arith, c .before .before .before .before .before .before .before .before .before .loop .inv .1, c .before .before .before .before .before .over-value .kept),
   c .before .before .before .before .before .over-value .ensures .0 ∙ c .before .before .before .before .before .before .before .before .before .loop .inv .2,
-  λ o g a. law.solid-more _ _ _ _ _ _ _ _ _ (c .before .before .before .before .before .before .before .before .loop-test .taken) (c .skip .ensures) (c .before .before .before .before .before .before .before .before .before .loop .inv .3 o g a) (λ x y. c .before .before .before .before .before .over-value .ensures .1 o x (law.kind-byte _ _ _ _ x y)),
+  λ o g a. law.solid-more _ _ _ _ _ _ _ _ _ (c .before .before .before .before .before .before .before .before .loop-test .taken) (c .skip .ensures) (c .before .before .before .before .before .before .before .before .before .loop .inv .3 o g a) (λ x y. c .before .before .before .before .before .over-value .ensures .1 o x (kind-byte _ _ _ _ x y)),
 )
 
 over-values-returns : (t : ℕ) → cycle.Lts-over_values.Need-returns (over-values-claims t) (at-measure over-values.Kinds.ps μ-over-values over-values.Reads.Pre t) over-values.Reads.Post over-values-Inv-loop over-values-μ-loop

@@ -1,5 +1,6 @@
 use mathlib.Core.Path.{_∙_}
 use native.Mathlib.Omega.{arith}
+use Rattle.pattern.proofs.Sizes.{limited-below}
 use Rattle.walk.proofs.HandRules as law
 use borrow.Author.Needs.{needs}
 use Rattle.walk.proofs.hand.inner_hands.Statement.{statement}
@@ -19,7 +20,7 @@ inner-hands-spec =
     tie.close
     (tie.spec
     (λ c κs. search needs)
-    (λ c. let h = law.limited-below _ _ (c .before .key-temporaries .ensures law.any-place) in omega arith)
+    (λ c. let h = limited-below _ _ (c .before .key-temporaries .ensures law.any-place) in omega arith)
     (λ c κs. search needs)
     (λ c κs. search needs)
     (λ c κs. search needs)

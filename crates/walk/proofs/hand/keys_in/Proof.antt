@@ -10,6 +10,7 @@ use Rattle.lowering.specs.Parts.{is}
 use Rattle.walk.specs.Whole.{GoodItems, Good}
 use Rattle.walk.specs.Run.{goingOf}
 use Rattle.walk.specs.Turns.{keyOf}
+use Rattle.walk.proofs.Opened.{kind-byte}
 use Rattle.walk.proofs.Hands as law
 use Rattle.walk.proofs.hand.keys_in.Statement.{statement}
 use Rattle.walk.proofs.hand.keys_in.Tie as tie
@@ -31,7 +32,7 @@ loop-again c = (
   omega (arith, c .before .before .before .before .before .before .before .before .before .loop .inv .0, c .before .before .before .before .before .one-key .kept),
   omega (arith, c .before .before .before .before .before .before .before .before .before .loop .inv .1, c .before .before .before .before .before .one-key .kept),
   c .before .before .before .before .before .one-key .ensures .0 ∙ c .before .before .before .before .before .before .before .before .before .loop .inv .2,
-  λ o g a. law.solid-more _ _ _ _ _ _ _ _ _ (c .before .before .before .before .before .before .before .before .loop-test .taken) (c .skip .ensures) (c .before .before .before .before .before .before .before .before .before .loop .inv .3 o g a) (λ x y. c .before .before .before .before .before .one-key .ensures .1 o x (law.kind-byte _ _ _ _ x y)),
+  λ o g a. law.solid-more _ _ _ _ _ _ _ _ _ (c .before .before .before .before .before .before .before .before .loop-test .taken) (c .skip .ensures) (c .before .before .before .before .before .before .before .before .before .loop .inv .3 o g a) (λ x y. c .before .before .before .before .before .one-key .ensures .1 o x (kind-byte _ _ _ _ x y)),
 )
 
 returns : tie.Need-returns Inv-loop μ-loop

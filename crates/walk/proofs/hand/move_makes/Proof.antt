@@ -1,12 +1,12 @@
 use mathlib.Core.Path.{refl}
 use Rattle.walk.proofs.HandMoves as law
-use Rattle.walk.proofs.Hands as hands
+use Rattle.walk.proofs.Emits.{good-none}
 use borrow.Author.Needs.{needs}
 use Rattle.walk.proofs.hand.move_makes.Statement.{statement}
 use Rattle.walk.proofs.hand.move_makes.Tie as tie
 
 returns : tie.Need-returns
-returns c = (refl, λ o l g s. hands.good-none _ _ _ (c .if1 .taken) g)
+returns c = (refl, λ o l g s. good-none _ _ _ (c .if1 .taken) g)
 
 returns-2 : tie.Need-returns-2
 returns-2 c = (c .before .before .makes .ensures .0, λ o l. law.moves-some _ _ _ _ _ (c .before .before .before .before .before .before .before .less .ensures) (c .before .before .before .before .before .before .step .ensures) _ (c .before .before .before .before .before .has-nested-object-rest .ensures) (c .before .before .before .before .if2 .taken) (c .before .before .makes .ensures .1 o l))

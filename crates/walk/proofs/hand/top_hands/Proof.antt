@@ -1,12 +1,13 @@
 use mathlib.Core.Path.{_∙_}
 use native.Mathlib.Omega.{arith}
+use Rattle.pattern.proofs.Sizes.{limited-below}
 use Rattle.walk.proofs.HandRules as law
 use borrow.Author.Needs.{needs}
 use Rattle.walk.proofs.hand.top_hands.Statement.{statement}
 use Rattle.walk.proofs.hand.top_hands.Tie as tie
 
 add-entry : tie.Need-add-entry
-add-entry c = let h = law.limited-below _ _ (c .before .temporaries-through-objects .ensures law.any-place) in omega arith
+add-entry c = let h = limited-below _ _ (c .before .temporaries-through-objects .ensures law.any-place) in omega arith
 
 same-length : tie.Need-same-length
 same-length c = omega (arith, c .before .before .before .before .over2 .kept, c .before .before .before .before .before .before .before .before .before .before .before .before .over .kept, c .before .before .before .before .before .before .before .before .before .before .before .before .before .before .before .before .before .before .before .listed-temporary .kept, c .before .before .before .before .before .before .before .before .before .before .before .before .before .before .before .before .before .before .before .before .before .before .before .before .before .listed2 .kept, c .before .before .before .before .before .before .before .before .before .before .before .before .before .before .before .before .before .before .before .before .before .before .before .before .before .before .before .before .before .entry .kept)
