@@ -8,7 +8,7 @@ use native.Mathlib.Omega.{arith}
 use Rattle.tree.specs.Tree.{Node, Items, wideBytes, mapOf, count, depth}
 use Rattle.tree.specs.Tree.Node.{node}
 use Rattle.tree.specs.Tree.Fields.{done, field}
-use Rattle.tree.specs.Tree.Piece.{one, byte, mark}
+use Rattle.tree.specs.Tree.Piece.{one, byte}
 use Rattle.lowering.specs.Parts.{position, is, pieceIn, standsIn, changeIn, nodeAt, itemsAt, stands, isEmpty, change, onNode, changeNode, only, each, gather, _+++_}
 use Rattle.lowering.specs.Made.{Context, temporary, assign, sequence, reference, valueOf}
 use Rattle.lowering.specs.Patterns.{shape, properties, value, rest, hasRest, withValues, hasNestedObjectRest, hasObjectRest, hasArrayRestOverObjectRest, replaced, replacedBelow, objectsWithRest, objectsBelow}

@@ -6,7 +6,7 @@ use mathlib.Core.List.{[], _∷_}
 use Prim.Native.Nat.{_+_}
 use native.Mathlib.Omega.{arith}
 use Rattle.tree.specs.Tree.{Node, Items, count}
-use Rattle.lowering.specs.Parts.{each, gather, any, _+++_}
+use Rattle.lowering.specs.Parts.{gather, any, _+++_}
 use Rattle.lowering.proofs.Accepted.{NoHoles}
 use Rattle.sink.specs.Machine.{Event}
 use Rattle.direct.specs.Events.{Place, Emit}
@@ -30,13 +30,6 @@ items-gather l c f Items.none = refl
 items-gather l c f (Items.hole ns) = items-gather l c f ns
 items-gather l c f (Items.item n ns) =
     items-append l c (f n) (gather f ns) ∙ ap (λ (x : Emit). emitsItems l c (f n) ▷ x) (items-gather l c f ns)
-
--- items that are changed, or made, one for one
-pub items-each : (l : Bool) (c : Place) (f : Node → Node) (ns : Items) → NoHoles ns → emitsItems l c (each f ns) ≡ inTurn (λ n. emitsItem l c (f n)) ns
-unfolding emitsItems each inTurn NoHoles
-items-each l c f Items.none w = refl
-items-each l c f (Items.hole ns) w = absurd w
-items-each l c f (Items.item n ns) w = ap (λ (x : Emit). emitsItem l c (f n) ▷ x) (items-each l c f ns w)
 
 pub turn-append : (f : Node → Emit) (ns ms : Items) → inTurn f (ns +++ ms) ≡ inTurn f ns ▷ inTurn f ms
 unfolding inTurn _+++_

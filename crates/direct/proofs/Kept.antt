@@ -4,9 +4,9 @@ use mathlib.Core.Path.{_≡_, refl, ap, _∙_}
 use mathlib.Core.Bool.{Bool, true, false, cond, _||_, _&&_}
 use Prim.Native.Nat.{ℕ, zero, suc}
 use borrow.Author.Tests.{eqb-true}
-use Rattle.tree.specs.Tree.{Node, Fields, Piece, Items, depth, depthFields}
+use Rattle.tree.specs.Tree.{Node, Items, depth, depthFields}
 use Rattle.tree.specs.Tree.Node.{node}
-use Rattle.lowering.specs.Parts.{kind, is, pieceIn, changeIn, asItems, nodeAt, itemsAt, stands, change, onItems, changeItems, only, each, gather, any, _+++_}
+use Rattle.lowering.specs.Parts.{kind, is, pieceIn, nodeAt, itemsAt, stands, change, onItems, changeItems, only, each, gather, any, _+++_}
 use Rattle.lowering.specs.Made.{Context}
 use Rattle.lowering.specs.Patterns.{shape, properties, itemsOf, rest, hasRest, leftOf, value, hasNestedObjectRest, hasNestedArrayRest, hasObjectRest}
 use Rattle.lowering.specs.Patterns.Shape.{objectPattern}
@@ -47,14 +47,6 @@ rule-17 (node at k fs) e = rw (eqb-true k 17 e) refl
 pub rule-10 : (n : Node) → is 10 n ≡ true → ruleOf (kind n) ≡ catches
 unfolding is ruleOf
 rule-10 (node at k fs) e = rw (eqb-true k 10 e) refl
-
-pub rule-7 : (n : Node) → is 7 n ≡ true → ruleOf (kind n) ≡ fors
-unfolding is ruleOf
-rule-7 (node at k fs) e = rw (eqb-true k 7 e) refl
-
-pub rule-8 : (n : Node) → is 8 n ≡ true → ruleOf (kind n) ≡ fors
-unfolding is ruleOf
-rule-8 (node at k fs) e = rw (eqb-true k 8 e) refl
 
 -- ---- searches that find nothing
 

@@ -1,21 +1,19 @@
 -- What is done for lists: item by item, and one list after another.
 -- Assumes nothing.
-use mathlib.Core.Path.{_≡_, refl, sym, ap, ap₂, _∙_, fun-ext}
-use mathlib.Core.Bool.{Bool, false}
+use mathlib.Core.Path.{_≡_, refl, ap, ap₂, _∙_, fun-ext}
+use mathlib.Core.Bool.{false}
 use mathlib.Core.List.{[], _∷_}
 use Prim.Native.Nat.{ℕ, suc, _+_, _≤_}
 use native.Mathlib.Omega.{arith}
 use Rattle.tree.specs.Tree.{Node, Items, count, depth, depthItems}
 use Rattle.lowering.specs.Parts.{only, each, gather, _+++_}
-use Rattle.lowering.proofs.All.{AllItems}
 use Rattle.sink.specs.Machine.Event.{put}
 use Rattle.direct.specs.Events.{Place, Emit, emits}
 use Rattle.direct.specs.Events.Deed.{does}
-use Rattle.direct.specs.Emit.{say, _▷_, emitsItem, emitsItems, inTurn}
+use Rattle.direct.specs.Emit.{say, _▷_, emitsItems, inTurn}
 use Rattle.direct.specs.Views.{eachDoes}
 use Rattle.lowering.proofs.Made.{each-append}
-use Rattle.lowering.proofs.Sound.{gather-append}
-use Rattle.direct.proofs.Threads.{then-assoc, say-nothing, then-nothing}
+use Rattle.direct.proofs.Threads.{then-nothing}
 use Rattle.direct.proofs.Marks.{emits-item}
 
 -- ---- lists of nodes
@@ -57,18 +55,6 @@ append-none Items.none = refl
 append-none (Items.hole is) = ap Items.hole (append-none is)
 append-none (Items.item n is) = ap (Items.item n) (append-none is)
 
-pub append-assoc : (is js ks : Items) → (is +++ js) +++ ks ≡ is +++ js +++ ks
-unfolding _+++_
-append-assoc Items.none js ks = refl
-append-assoc (Items.hole is) js ks = ap Items.hole (append-assoc is js ks)
-append-assoc (Items.item n is) js ks = ap (Items.item n) (append-assoc is js ks)
-
-pub gather-gather : (f g : Node → Items) (is : Items) → gather f (gather g is) ≡ gather (λ n. gather f (g n)) is
-unfolding gather
-gather-gather f g Items.none = refl
-gather-gather f g (Items.hole is) = gather-gather f g is
-gather-gather f g (Items.item n is) = gather-append f (g n) (gather g is) ∙ ap (λ (x : Items). gather f (g n) +++ x) (gather-gather f g is)
-
 pub each-gather : (f : Node → Node) (g : Node → Items) (is : Items) → each f (gather g is) ≡ gather (λ n. each f (g n)) is
 unfolding gather each
 each-gather f g Items.none = refl
@@ -86,16 +72,6 @@ unfolding emitsItems each eachDoes
 items-each c g Items.none = refl
 items-each c g (Items.hole is) = ap (λ (e : Emit). say (does (put 0) ∷ []) ▷ e) (items-each c g is)
 items-each c g (Items.item n is) = ap₂ (λ (e f : Emit). e ▷ f) (emits-item c (g n)) (items-each c g is)
-
-pub each-done : (f g : Node → Emit) → ((n : Node) → f n ≡ g n) → (is : Items) → eachDoes f is ≡ eachDoes g is
-each-done f g h is = ap (λ (k : Node → Emit). eachDoes k is) (fun-ext h)
-
--- the same where only the items agree
-pub turn-with : (P : Node → Type 0) (f g : Node → Emit) → ((n : Node) → P n → f n ≡ g n) → (is : Items) → AllItems P is → inTurn f is ≡ inTurn g is
-unfolding inTurn
-turn-with P f g h Items.none a = refl
-turn-with P f g h (Items.hole is) a = turn-with P f g h is a
-turn-with P f g h (Items.item n is) a = ap₂ (λ (e d : Emit). e ▷ d) (h n (a .0)) (turn-with P f g h is (a .1))
 
 pub turn-only : (f : Node → Emit) (n : Node) → inTurn f (only n) ≡ f n
 unfolding inTurn

@@ -111,26 +111,12 @@ pub number-none : number Items.none ≡ 0
 unfolding number
 number-none = refl
 
-pub number-only : (p : Node) → number (only p) ≡ 1
-unfolding number
-number-only p = refl
-
 -- of items, or of Params or Declarators
 pub number-item : (f : Node → Items) (n : Node) (is : Items) → number (gather f (Items.item n is)) ≡ number (f n) + number (gather f is)
 number-item f n ns = ap number (gather-item f n ns) ∙ number-join (f n) (gather f ns)
 
 pub number-empty : (f : Node → Items) → number (gather f Items.none) ≡ 0
 number-empty f = ap number (gather-none f) ∙ number-none
-
-pub number-one : (f : Node → Items) (n : Node) → number (gather f (only n)) ≡ number (f n)
-number-one f n = ap number (gather-only f n)
-
-pub number-cut : (f : Node → Items) (is js : Items) → number (gather f (is +++ js)) ≡ number (gather f is) + number (gather f js)
-number-cut f ns js = ap number (gather-join f ns js) ∙ number-join (gather f ns) (gather f js)
-
-pub number-array-rest : (at : ℕ) (is : Items) (r : Node)
-    → number (movedIn (node at 36 (Fields.field (Piece.list is) (Fields.field (Piece.one r) Fields.done)))) ≡ number (gather movedIn is) + number (movedIn r)
-number-array-rest at ns r = ap number (moved-array-rest at ns r) ∙ number-join (gather movedIn ns) (movedIn r)
 
 -- ---- what is made for them
 
@@ -147,22 +133,6 @@ makes-none = refl
 pub makes-only : (p : Node) → makes (only p) ≡ does (Event.make (cell 1 (position p))) ∷ []
 unfolding makes
 makes-only p = refl
-
--- of items, or of Params or Declarators
-pub makes-hole : (f : Node → Items) (is : Items) → makes (gather f (Items.hole is)) ≡ makes (gather f is)
-makes-hole f ns = ap makes (gather-hole f ns)
-
-pub makes-item : (f : Node → Items) (n : Node) (is : Items) → makes (gather f (Items.item n is)) ≡ makes (f n) ++ makes (gather f is)
-makes-item f n ns = ap makes (gather-item f n ns) ∙ makes-join (f n) (gather f ns)
-
-pub makes-empty : (f : Node → Items) → makes (gather f Items.none) ≡ []
-makes-empty f = ap makes (gather-none f) ∙ makes-none
-
-pub makes-one : (f : Node → Items) (n : Node) → makes (gather f (only n)) ≡ makes (f n)
-makes-one f n = ap makes (gather-only f n)
-
-pub makes-cut : (f : Node → Items) (is js : Items) → makes (gather f (is +++ js)) ≡ makes (gather f is) ++ makes (gather f js)
-makes-cut f ns js = ap makes (gather-join f ns js) ∙ makes-join (gather f ns) (gather f js)
 
 pub makes-kept : (q : Node) → isMoved q ≡ false → makes (movedFrom q) ≡ []
 makes-kept q h = ap makes (from-kept q h) ∙ makes-none

@@ -10,19 +10,18 @@ use Rattle.tree.specs.Tree.{Node, Fields, Piece, Items, wideBytes, mapOf, count
 use Rattle.tree.specs.Tree.Node.{node}
 use Rattle.lowering.specs.Parts.{position, is, pieceIn, nodeAt, change, changeIn, onNode, onItems, each}
 use Rattle.lowering.specs.Patterns.{shape, withItems, withRest, hasObjectRest}
-use Rattle.lowering.specs.Patterns.Shape.{objectPattern, arrayPattern, default, leaf}
+use Rattle.lowering.specs.Patterns.Shape.{objectPattern, default, leaf}
 use Rattle.lowering.specs.Heads.{movedOut, isMoved, leftBehind}
 use Rattle.lowering.specs.Walk.{ruleOf, opensScope}
 use Rattle.lowering.specs.Collect.{isContainer}
 use Rattle.lowering.proofs.Cases.{by-shape}
 use Rattle.lowering.proofs.Levels.{movedOut-levels}
 use Rattle.direct.specs.Events.{Place, Emit, puts, contextOf, emits}
-use Rattle.direct.specs.Events.Deed.{does}
 use Rattle.direct.specs.Emit.{say, _▷_, below, inner, emitsItems, emitsPiece, emitsFields, stays}
 use Rattle.direct.specs.Moved.{here, standIn, stand, outOf, behind, Binder}
 use Rattle.direct.proofs.Threads.{then-assoc, then-nothing}
 use Rattle.direct.proofs.Stays.{emits-nowhere}
-use Rattle.direct.proofs.Makes.{say-then, below-inner, two-fields, more-items, no-items, emits-temporary}
+use Rattle.direct.proofs.Makes.{say-then, below-inner, two-fields, emits-temporary}
 
 -- ---- the context plays no part
 
@@ -35,11 +34,6 @@ out-here c (suc d) p =
     (λ e. rw (e, movedOut) (ap (λ (f : Node → Node). withRest f (withItems f p)) (fun-ext (λ r. out-here c d r))))
     (λ e. rw (e, movedOut) refl)
     (λ e. rw (e, movedOut) refl)
-
--- nor do levels beyond those of the pattern
-pub out-levels : (c : Place) (d : ℕ) (p : Node) → depth p ≤ d → movedOut (contextOf c) d p ≡ outOf p
-unfolding outOf
-out-levels c d p h = out-here c d p ∙ movedOut-levels d p h here
 
 pub behind-here : (c : Place) → leftBehind (contextOf c) ≡ leftBehind here
 unfolding leftBehind
@@ -54,27 +48,11 @@ each-count f Items.none = refl
 each-count f (Items.hole ns) = ap suc (each-count f ns)
 each-count f (Items.item n ns) = ap suc (each-count f ns)
 
-pub each-none : (c : Place) (f : Node → Node) → emitsItems false c (each f Items.none) ≡ say []
-unfolding each
-each-none c f = no-items false c
-
-pub each-hole : (c : Place) (f : Node → Node) (is : Items) → emitsItems false c (each f (Items.hole is)) ≡ say (puts (0 ∷ [])) ▷ emitsItems false c (each f is)
-unfolding each emitsItems
-each-hole c f ns = refl
-
-pub each-item : (c : Place) (f : Node → Node) (n : Node) (is : Items) → emitsItems false c (each f (Items.item n is)) ≡ emits c (f n) ▷ emitsItems false c (each f is)
-unfolding each
-each-item c f n ns = more-items c (f n) (each f ns)
-
 -- ---- shapes by kind
 
 pub shape-34 : (p : Node) → is 34 p ≡ true → shape p ≡ objectPattern
 unfolding is shape
 shape-34 p e = rw e refl
-
-pub shape-36 : (p : Node) → is 36 p ≡ true → shape p ≡ arrayPattern
-unfolding is shape
-shape-36 (node at k fs) e = rw (eqb-true k 36 e) refl
 
 pub shape-37 : (p : Node) → is 37 p ≡ true → shape p ≡ default
 unfolding is shape

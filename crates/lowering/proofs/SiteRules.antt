@@ -12,7 +12,7 @@ use Rattle.tree.specs.Tree.Fields.{done, absent, field}
 use Rattle.tree.specs.Tree.Piece.{one, list, text, byte, mark, number}
 use Rattle.tree.specs.Tree.Items.{none, hole, item}
 use Rattle.lowering.specs.Parts.{position, kind, is, pieceIn, changeIn, asNode, asItems, nodeAt, itemsAt, stands, change, onNode, onItems, changeNode, changeItems, only, each, gather, any, _+++_}
-use Rattle.lowering.specs.Made.{Context, reference, valueOf, keyOf, call, S, X, E, W, object, array, sequence, assign, declares, letOf, varOf, assigning, returning, block, functionBody}
+use Rattle.lowering.specs.Made.{Context, reference, valueOf, keyOf, S, X, E, W, object, array, sequence, assign, declares, letOf, varOf, assigning, returning, block, functionBody}
 use Rattle.lowering.specs.Patterns.{shape, properties, itemsOf, rest, hasRest, leftOf, key, value, withValues, hasObjectRest, hasArrayRestOverObjectRest, replaced, replacedBelow, objectsBelow}
 use Rattle.lowering.specs.Keys.{keySort, keyTemporary, keyTemporaries, excludedKeys, allPrimitive, taken}
 use Rattle.lowering.specs.Rests.{hasNoProperties, mapped, isHoisted, keysRead, restValue}
@@ -45,10 +45,6 @@ module _ (x : ℕ) where
   array-sites : (xs : Items) → sites x (array xs) ≡ sitesItems x xs
   unfolding sites ownSites isNameKind
   array-sites xs = omega arith
-
-  sequence-sites : (xs : Items) → sites x (sequence xs) ≡ sitesItems x xs
-  unfolding sites ownSites isNameKind
-  sequence-sites xs = omega arith
 
   mapped-sites : (n : Node) → sites x (mapped n) ≡ sites x n
   unfolding mapped sites ownSites isNameKind

@@ -10,8 +10,7 @@ use Rattle.tree.specs.Tree.Node.{node}
 use Rattle.tree.specs.Tree.Items.{none}
 use Rattle.lowering.specs.Parts.{nothing, position, is, pieceIn, changeIn, asItems, textAt, change, onNode, onItems, changeNode, without, only, each, gather, _+++_}
 use Rattle.lowering.specs.Made.{Context, reference, keyOf, string}
-use Rattle.lowering.specs.Patterns.{shape, properties, itemsOf, rest, hasRest, leftOf, key, value, withLeft, withItems, withProperties, withValues, hasNestedObjectRest, replaced, objectsWithRest}
-use Rattle.lowering.specs.Patterns.Shape.{objectPattern, arrayPattern, default, leaf}
+use Rattle.lowering.specs.Patterns.{shape, properties, itemsOf, rest, hasRest, leftOf, key, value, withItems, withProperties, withValues, hasNestedObjectRest, replaced, objectsWithRest}
 use Rattle.lowering.specs.Keys.{keySort, excludedKey, keptKey, excludedKeys, taken}
 use Rattle.lowering.specs.Assignments.{restsThroughObjects, withoutRests}
 use Rattle.lowering.specs.Heads.{moved, movedPattern, movedOut}
@@ -95,11 +94,6 @@ module _ (x : ℕ) where
       (λ e. let z : false ≡ true = rw (e, hasNestedObjectRest) at h in absurd (false≢true z))
 
   -- ---- moved out of a head
-
-  moved-nothing : (d : ℕ) → moved d nothing ≡ none
-  unfolding moved shape
-  moved-nothing zero = refl
-  moved-nothing (suc d) = refl
 
   pub moved-sites : (d : ℕ) (p : Node) → sitesItems x (moved d p) ≤ sites x p
   unfolding moved

@@ -12,7 +12,7 @@ use Rattle.tree.specs.Tree.Node.{node}
 use Rattle.tree.specs.Tree.Fields.{done, absent, field}
 use Rattle.tree.specs.Tree.Items.{none, hole, item}
 use Rattle.lowering.specs.Parts.{position, is, pieceIn, changeIn, dropIn, asNode, nodeAt, textAt, change, onNode, onItems, changeNode, without, only, each, gather, _+++_}
-use Rattle.lowering.specs.Made.{Context, temporary, reference, keyOf, excludedOf, call, S, X, E, W, object, array, sequence, assign, string, declares, declared, idOf, letOf, varOf, assigning, returning, block, functionBody}
+use Rattle.lowering.specs.Made.{Context, temporary, reference, keyOf, excludedOf, S, X, E, W, object, array, sequence, assign, string, declares, declared, idOf, letOf, varOf, assigning, returning, block, functionBody}
 use Rattle.lowering.specs.Patterns.{shape, properties, itemsOf, rest, hasRest, leftOf, key, value, withProperties, withValues, replaced, objectsWithRest}
 use Rattle.lowering.specs.Keys.{keySort, keyTemporary, keyTemporaries, excludedKey, excludedKeys, allPrimitive, keptKey, taken}
 use Rattle.lowering.specs.Rests.{hasNoProperties, mapped, isHoisted, keysRead, restValue, excludedFor, restMakes}
@@ -45,10 +45,6 @@ gather-append f (item n is) js = ap (λ (x : Items). f n +++ x) (gather-append f
 
 module _ (a : Name) where
   -- ---- nodes that the rules make
-
-  call-occurs : (f : Node) (xs : Items) → occurs a (call f xs) ≡ occurs a f + occursItems a xs
-  unfolding occurs
-  call-occurs f xs = omega arith
 
   pub S-occurs : (xs : Items) → occurs a (S xs) ≡ occursItems a xs
   unfolding occurs

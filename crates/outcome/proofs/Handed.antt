@@ -2,19 +2,17 @@
 -- bytes of these declarators, a name for each temporary.
 -- Assumes nothing.
 use mathlib.Core.Path.{_≡_, refl, sym, ap, ap₂, _∙_, subst}
-use mathlib.Core.Bool.{Bool, true, false, cond, not, _&&_, _||_, false≢true, true≢false}
+use mathlib.Core.Bool.{Bool, true, false, cond, not, _&&_, false≢true, true≢false}
 use mathlib.Core.List.{List, [], _∷_, _++_}
 use mathlib.Core.Logic.{_⊎_, ⊎-elim}
 use mathlib.Core.Logic._⊎_.{inl, inr}
-use Prim.Native.Nat.{ℕ, zero, suc, _+_, _/_, _%_}
+use Prim.Native.Nat.{ℕ, zero, suc, _+_}
 use native.Mathlib.Omega.{arith}
-use lib.Dec.{eqb}
-use lib.ListN.{length}
 use borrow.Author.Tests.{eqb-true, not-true}
 use Rattle.tree.specs.Tree.{Node, Fields, Piece, Items, wideBytes, mapOf, count, encode, encodeFields, encodePiece, encodeItems, depth}
 use Rattle.tree.specs.Tree.Node.{node}
-use Rattle.lowering.specs.Parts.{position, kind, is, nodeAt, itemsAt, textAt, numberAt, pieceIn, stands, standsIn, isEmpty, only, each, gather, any, _+++_}
-use Rattle.lowering.specs.Made.{Context, temporary, reference, valueOf, keyOf, excludedOf, declares, declared, array, string, idOf}
+use Rattle.lowering.specs.Parts.{position, kind, is, nodeAt, itemsAt, textAt, pieceIn, stands, standsIn, only, each, gather, any, _+++_}
+use Rattle.lowering.specs.Made.{Context, temporary, reference, declares, declared, array, string, idOf}
 use Rattle.lowering.specs.Patterns.{shape, properties, itemsOf, leftOf, value, hasRest, withValues, replaced, key, hasObjectRest, hasArrayRestOverObjectRest, objectsWithRest, objectsBelow}
 use Rattle.lowering.specs.Keys.{Key, keySort, isPrimitive, allPrimitive, excludedKey, excludedKeys, keyTemporary, keyTemporaries}
 use Rattle.lowering.specs.Rests.{hasNoProperties, isHoisted, excludedFor}
@@ -23,13 +21,13 @@ use Rattle.lowering.specs.Assignments.{isTop, target, restsOf, topLacksForm, to
 use Rattle.lowering.specs.Walk.{Note, ruleOf, rewrite, unchanged, stepDeclaration, stepTop, stepAssignment, stepFor}
 use Rattle.lowering.specs.Collect.{Name, nameOf}
 use Rattle.lowering.proofs.All.{AllItems, all-gather, all-unit}
-use Rattle.lowering.proofs.Cases.{by-test, by-shape, by-key, by-rule, and-left, and-right, or-left, or-right}
-use Rattle.sink.specs.Shown.{Named, Token, listOf, keysOf, listTokens, keysTokens, entryIn, declaratorIn, entriesIn, declaratorsIn}
+use Rattle.lowering.proofs.Cases.{by-test, by-shape, by-key, by-rule, and-right, or-left, or-right}
+use Rattle.sink.specs.Shown.{Named, Token, listOf, keysOf, listTokens, keysTokens, declaratorIn, declaratorsIn}
 use Rattle.sink.specs.Shown.Token.{plain, temp}
 use Rattle.direct.specs.Events.{cellOf}
 use Rattle.outcome.specs.Named
-use Rattle.outcome.specs.Named.{Act, lists, excludes, handed, entered, plains, tokens, tokensFields, tokensPiece, tokensItems}
-use Rattle.outcome.proofs.Tokens.{append-assoc, append-none}
+use Rattle.outcome.specs.Named.{Act, lists, excludes, handed, plains, tokens, tokensFields, tokensPiece, tokensItems}
+use Rattle.outcome.proofs.Tokens.{append-none}
 use Rattle.outcome.proofs.Listed.{list-append, keys-append, declarators-append}
 use Rattle.outcome.proofs.Good.{Pure, PureFields, PurePiece, PureItems, Is35, KeyOk, Good, GoodItems, GoodObject, to-all, node-good, items-good, properties-35, key-ok, objects-good, rests-good}
 
@@ -265,9 +263,6 @@ module _ (c : Context) where
   nested-hands : (n : Node) → Full Declares (nestedEntry c n)
   unfolding nestedEntry
   nested-hands n = refs-full (objectsBelow c (target n)) (objects-full (depth (target n)) (target n))
-
-  nothing-hands : Hands (record { refusal = 0; made = Items.none; entry = Items.none; excluded = Items.none })
-  nothing-hands = record { entry = tt; excluded = tt }
 
   quiet-hands : (r : ℕ) (made : Items) → Hands (record { refusal = r; made = made; entry = Items.none; excluded = Items.none })
   quiet-hands r made = record { entry = tt; excluded = tt }

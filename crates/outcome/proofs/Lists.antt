@@ -47,10 +47,6 @@ both-say es fs ts us ts′ us′ e d e′ d′ h k =
       declarators = declarators-append es fs ∙ ap₂ (λ (x : ℕ) (y : ℕ). x + y) (h .declarators) (k .declarators);
     }
 
-none-says : Says [] [] [] 0 0
-unfolding listTokens keysTokens entriesIn declaratorsIn
-none-says = record { list = refl; keys = refl; entries = refl; declarators = refl }
-
 -- the entry as the machine writes it
 abbrev pub machineEntry : Entry → List (Token Name)
 machineEntry e =
@@ -238,10 +234,6 @@ count-size (Items.item n is) =
 abbrev pub Entries : (Entry → Type 0) → List Entry → Type 0
 Entries P [] = Unit {0}
 Entries P (e ∷ es) = P e × Entries P es
-
-entries-both : (P Q : Entry → Type 0) (es : List Entry) → Entries P es → Entries Q es → Entries (λ e. P e × Q e) es
-entries-both P Q [] h k = tt
-entries-both P Q (e ∷ es) h k = ((h .0, k .0), entries-both P Q es (h .1) (k .1))
 
 entries-append-all : (P : Entry → Type 0) (es fs : List Entry) → Entries P es → Entries P fs → Entries P (es ++ fs)
 entries-append-all P [] fs h k = k

@@ -3,30 +3,29 @@
 use mathlib.Core.Path.{_≡_, refl, sym, ap, ap₂, _∙_, subst}
 use mathlib.Core.Bool.{Bool, true, false, cond, _&&_, false≢true}
 use mathlib.Core.List.{List, [], _∷_, _++_}
-use Prim.Native.Nat.{ℕ, zero, suc, _+_, _≤_, _<_}
+use Prim.Native.Nat.{ℕ, _+_, _≤_, _<_}
 use native.Mathlib.Omega.{arith}
 use lib.Dec.{eqb}
-use borrow.Author.Tests.{eqb-true}
-use Rattle.tree.specs.Tree.{Node, Items, count, encode, depth}
+use Rattle.tree.specs.Tree.{Node, Items, count, encode}
 use Rattle.tree.specs.Tree.Items.{none, hole, item}
 use Rattle.lowering.specs.Parts.{position, kind, is, nodeAt, itemsAt, numberAt, pieceIn, stands, isEmpty, only, each, gather, _+++_}
-use Rattle.lowering.specs.Made.{Context, temporary, reference, valueOf, keyOf, excludedOf, declares, declared, array, idOf}
+use Rattle.lowering.specs.Made.{Context, temporary, reference, idOf}
 use Rattle.lowering.specs.Patterns.{key, properties, hasObjectRest, hasArrayRestOverObjectRest, objectsBelow}
-use Rattle.lowering.specs.Keys.{keySort, keyTemporary, keyTemporaries, excludedKeys}
+use Rattle.lowering.specs.Keys.{keySort, keyTemporary, keyTemporaries}
 use Rattle.lowering.specs.Rests.{isHoisted, excludedFor, restMakes}
 use Rattle.lowering.specs.Declarations.{isName, sourceDeclarator, innerObjects, declaratorMakes, isLowered, loweredIn, declarationMakes, declarationExcludes, declarationLacksForm}
-use Rattle.lowering.specs.Assignments.{isTop, target, restsOf, topLacksForm, topEntry, topExcludes, topMakes, nestedEntry, nestedMakes}
+use Rattle.lowering.specs.Assignments.{isTop, target, topLacksForm, topEntry, topMakes, nestedEntry, nestedMakes}
 use Rattle.lowering.specs.Heads.{movedFrom, references, functionMakes, arrowMakes, catchMakes, declaringMakes, assigningMakes}
 use Rattle.lowering.specs.Walk.{Note, ruleOf, rewrite, stepDeclaration, stepTop, stepAssignment, stepFor}
 use Rattle.lowering.specs.Collect.{Name, nameOf, same}
-use Rattle.lowering.proofs.Cases.{by-test, by-key, by-rule, and-left, and-right}
+use Rattle.lowering.proofs.Cases.{by-test, by-key, by-rule}
 use Rattle.lowering.proofs.Made.{each-append}
 use Rattle.lowering.proofs.Appearance.{same-is}
 use Rattle.sink.specs.Shown.{Named, namesAfter, renamed, madeBy, madeIn}
 use Rattle.direct.specs.Events.{cellOf}
 use Rattle.outcome.specs.Named
 use Rattle.outcome.specs.Named.{Act, lists, excludes, handed, entered, handsOut, after}
-use Rattle.outcome.proofs.Tokens.{after-append, append-assoc}
+use Rattle.outcome.proofs.Tokens.{after-append}
 use Rattle.outcome.proofs.Listed.{made-append}
 
 -- ---- the temporaries in the order in which they are made

@@ -2,20 +2,19 @@
 -- what the node might make.
 -- Assumes nothing.
 use mathlib.Core.Path.{_≡_, refl, sym, ap, ap₂, _∙_, subst}
-use mathlib.Core.Bool.{Bool, true, false, cond, not, _&&_, _||_, false≢true, true≢false}
-use mathlib.Core.List.{List, [], _∷_}
-use Prim.Native.Nat.{ℕ, zero, suc, _+_, _*_, _≤_, _<_}
+use mathlib.Core.Bool.{Bool, true, false, cond, _&&_, _||_, false≢true, true≢false}
+use mathlib.Core.List.{List}
+use Prim.Native.Nat.{ℕ, zero, suc, _+_, _≤_, _<_}
 use native.Mathlib.Omega.{arith}
 use lib.Dec.{eqb}
-use lib.ListN.{getD}
 use borrow.Author.Tests.{eqb-true}
 use Rattle.tree.specs.Tree.{Node, Fields, Piece, Items, depth, depthFields}
 use Rattle.tree.specs.Tree.Node.{node}
-use Rattle.lowering.specs.Parts.{nothing, position, kind, is, pieceIn, standsIn, changeIn, dropIn, asNode, asItems, nodeAt, itemsAt, textAt, numberAt, stands, change, onNode, onItems, changeNode, changeItems, without, only, each, gather, any, _+++_}
-use Rattle.lowering.specs.Made.{Context, temporary, reference, valueOf, keyOf, excludedOf, helper, call, S, X, E, W, K, object, array, sequence, member, assign, string, declares, declared, idOf, letOf, varOf, assigning, returning, block, functionBody}
-use Rattle.lowering.specs.Patterns.{Shape, shape, withProperties, properties, itemsOf, rest, hasRest, leftOf, key, value, withValues, hasNestedObjectRest, hasObjectRest, hasArrayRestOverObjectRest, replaced, objectsWithRest, replacedBelow, objectsBelow}
+use Rattle.lowering.specs.Parts.{nothing, position, kind, is, pieceIn, standsIn, changeIn, dropIn, asNode, asItems, nodeAt, itemsAt, numberAt, stands, change, onNode, onItems, changeNode, changeItems, without, only, each, gather, any, _+++_}
+use Rattle.lowering.specs.Made.{Context, temporary, reference, valueOf, keyOf, S, X, E, W, object, array, sequence, assign, declares, declared, idOf, letOf, varOf, assigning, returning, block, functionBody}
+use Rattle.lowering.specs.Patterns.{shape, withProperties, properties, itemsOf, rest, hasRest, leftOf, key, value, withValues, hasNestedObjectRest, hasObjectRest, hasArrayRestOverObjectRest, replaced, objectsWithRest, replacedBelow, objectsBelow}
 use Rattle.lowering.specs.Patterns.Shape.{objectPattern, arrayPattern, default, leaf}
-use Rattle.lowering.specs.Keys.{keySort, keptKey, excludedKey, excludedKeys, keyTemporary, keyTemporaries, allPrimitive, taken}
+use Rattle.lowering.specs.Keys.{keySort, keptKey, excludedKeys, keyTemporary, keyTemporaries, allPrimitive, taken}
 use Rattle.lowering.specs.Rests.{hasNoProperties, mapped, isHoisted, keysRead, restValue, excludedFor, restMakes}
 use Rattle.lowering.specs.Literals.{Call, opened, closed, scan, literal}
 use Rattle.lowering.specs.Declarations.{isName, source, sourceDeclarator, keysBefore, patternDeclarator, restDeclarator, nested, nestedBelow, objectDeclarators, patternDeclarators, lowerDeclarator, innerObjects, declaratorMakes, isLowered, declarators, declaration, declarationMakes, declarationLacksForm}
@@ -24,21 +23,19 @@ use Rattle.lowering.specs.Assignments.{isTop, target, assigned, restsOf, topLac
 use Rattle.lowering.specs.Heads.{isMoved, moved, movedFrom, movedPattern, movedOut, leftBehind, inFront, inBody, asFunctionBody, asBlock, references, function, functionMakes, arrow, arrowMakes, catch, catchMakes, declaringHead, declaringMakes, assigningHead, assigningMakes}
 use Rattle.lowering.specs.Walk.{Rule, ruleOf, rewrite, stepDeclaration, stepTop, stepAssignment, stepFor}
 use Rattle.lowering.specs.Walk.Rule.{literals, declarations, assignments, functions, arrows, catches, fors, nowhere}
-use Rattle.lowering.proofs.All.{AllItems, AllPiece, AllFields, Each, all-append, all-gather, all-each, all-unit, weaker-items, weaker-piece, weaker-fields, other-changed}
+use Rattle.lowering.proofs.All.{AllItems, AllPiece, AllFields, Each, all-append, all-gather, all-each, weaker-items, other-changed}
 use Rattle.lowering.proofs.Cases.{by-test, by-shape, by-key, by-rule, and-left, and-right, and-none, object-is, array-is, default-is, is-changed, functionBody-is, block-is}
-use Rattle.lowering.specs.Collect.{Name}
 use Rattle.lowering.proofs.Sites.{here, hereItems}
 use Rattle.lowering.proofs.Made.{each-append}
 use Rattle.lowering.proofs.Clauses.{objects-object, objects-array, objects-default}
-use Rattle.lowering.proofs.Occurs.{position-kept}
 use Rattle.direct.specs.Events.{cell, cellOf}
 use Rattle.outcome.proofs.Makes.{number, number-append, number-none, inCell}
-use Rattle.outcome.proofs.Good.{NoParts, Leaf, Is35, NotDefault, Good, GoodItems, GoodObject, to-all, from-all, node-good, items-good, properties-35, rest-leaf, first-simple, values-good, objects-good, rests-good, replaced-view, movedOut-view, IsHelping}
+use Rattle.outcome.proofs.Good.{NoParts, Leaf, NotDefault, Good, GoodItems, GoodObject, to-all, node-good, items-good, properties-35, rest-leaf, first-simple, values-good, rests-good, movedOut-view}
 use Rattle.outcome.proofs.GoodRules.{below-good}
 use Rattle.outcome.proofs.Scope.{IsNamed}
 use Rattle.outcome.proofs.Stays.{stands-changed, values-rest, objects-top, below-object, below-leaf, leaf-34}
-use Rattle.outcome.proofs.Potential.{isPattern, gone, slot, slotMoved, slotValue, slotTop, slots, slotValues, odd, odds, head, heads, headCatch, headFor, aliens, resting, declaring, own, pot, potFields, potPiece, potItems, inner, pot-34, pot-35, pot-36, pot-37, pot-14, pot-17, pot-10, pot-7, pot-8, pot-27, pot-5, pot-4, inner-in, piece-in, two-pieces, as-node, as-items, node-in, items-in, node-and-node, items-and-node, pot-append, only-pot, none-pot, nothing-pot, temporary-pot, each-item, each-piece, each-field, each-part, node-exchange, items-exchange, node-exchange-in}
-use Rattle.outcome.proofs.PotViews.{items-changed, node-other, items-other, node-changed, node-changed-in, gone-in, slot-nothing, properties-are, slot-temporary, slot-changed, slot-34, whole, wholes, wholes-append, Sum, nil, nil-sum, nil-is, wholes-sum, object-sum, objects-sum, targets-sum, taken-sum, taken-none, excludedKeys-pot, restings, restings-append, restings-none, only-restings, none-wholes, only-wholes, rests-left, rests-pot, rests-beside, Beside, moves, moves-append, moves-none, moved-sum, resting-same}
+use Rattle.outcome.proofs.Potential.{isPattern, gone, slot, slotMoved, slotValue, slotTop, slots, slotValues, odds, head, heads, headCatch, headFor, aliens, resting, declaring, own, pot, potFields, potPiece, potItems, inner, pot-34, pot-14, pot-17, pot-10, pot-7, pot-8, pot-27, pot-5, pot-4, inner-in, piece-in, two-pieces, as-node, as-items, node-in, items-in, node-and-node, items-and-node, pot-append, only-pot, none-pot, nothing-pot, temporary-pot, each-item, node-exchange, items-exchange, node-exchange-in}
+use Rattle.outcome.proofs.PotViews.{items-changed, node-changed, node-changed-in, gone-in, slot-nothing, slot-temporary, slot-changed, slot-34, whole, wholes, wholes-append, nil, nil-sum, nil-is, wholes-sum, object-sum, objects-sum, targets-sum, taken-sum, taken-none, excludedKeys-pot, restings, restings-append, restings-none, only-restings, none-wholes, only-wholes, rests-left, rests-pot, rests-beside, Beside, moves, moves-append, moves-none, moved-sum}
 
 -- ---- what is made in a cell
 
@@ -102,20 +99,12 @@ temporary-name : (path : List ℕ) (stem at : ℕ) → isName (temporary path st
 unfolding isName is
 temporary-name path stem at = refl
 
-call-name : (f : Node) (xs : Items) → isName (call f xs) ≡ false
-unfolding isName is
-call-name f xs = refl
-
 named-none : (fs : Fields) → IsNamed fs → NoParts fs
 named-none fs h = subst NoParts (sym (h .whole)) (tt, (tt, tt))
 
 temporary-leaf′ : (path : List ℕ) (stem at : ℕ) → Leaf (temporary path stem at)
 unfolding shape
 temporary-leaf′ path stem at = refl
-
--- any name
-nobody : Name
-nobody = record { path = []; stem = 0; place = 0 }
 
 values-top : (f : Node → Node) (p : Node) → is 34 p ≡ true → hasRest p ≡ true → isTop (withValues f p) ≡ true
 unfolding isTop
@@ -286,14 +275,6 @@ module _ (x : ℕ) where
   leaf-top p e = rw (leaf-34 p e) refl
 
   -- ---- nodes that the rules make
-
-  call-pot : (f : Node) (xs : Items) → pot x (call f xs) ≡ pot x f + potItems x xs
-  unfolding pot own
-  call-pot f xs = omega arith
-
-  helper-pot : (h : ℕ) → pot x (helper h) ≡ 0
-  unfolding pot own
-  helper-pot h = refl
 
   object-pot : (ps : Items) → pot x (object ps) ≡ potItems x ps
   unfolding pot own

@@ -2,21 +2,20 @@
 -- Assumes nothing.
 use mathlib.Core.Path.{_≡_, refl, sym, ap, ap₂, _∙_, subst}
 use mathlib.Core.Bool.{Bool, true, false, cond, _&&_, false≢true}
-use mathlib.Core.List.{List, []}
+use mathlib.Core.List.{List}
 use Prim.Native.Nat.{ℕ, zero, suc, _+_, _≤_}
 use native.Mathlib.Omega.{arith}
 use lib.Dec.{eqb}
 use borrow.Author.Tests.{eqb-true}
 use Rattle.tree.specs.Tree.{Node, Fields, Piece, Items}
 use Rattle.tree.specs.Tree.Node.{node}
-use Rattle.lowering.specs.Parts.{nothing, position, kind, is, pieceIn, standsIn, changeIn, dropIn, asNode, asItems, nodeAt, itemsAt, textAt, stands, change, onNode, onItems, changeNode, changeItems, without, only, each, gather, _+++_}
+use Rattle.lowering.specs.Parts.{nothing, position, is, pieceIn, standsIn, changeIn, dropIn, asNode, asItems, nodeAt, itemsAt, textAt, stands, change, onNode, onItems, changeNode, changeItems, without, only, each, gather, _+++_}
 use Rattle.lowering.specs.Made.{Context, temporary, reference, keyOf, string}
 use Rattle.lowering.specs.Patterns.{shape, properties, itemsOf, rest, hasRest, leftOf, key, value, withLeft, withItems, withRest, withProperties, withValues, replaced, objectsWithRest}
 use Rattle.lowering.specs.Patterns.Shape.{objectPattern, arrayPattern, default, leaf}
 use Rattle.lowering.specs.Keys.{keySort, excludedKey, excludedKeys, keptKey, taken}
 use Rattle.lowering.specs.Assignments.{isTop, restsThroughObjects, withoutRests}
 use Rattle.lowering.specs.Heads.{moved, movedPattern, movedOut}
-use Rattle.lowering.specs.Collect.{Name}
 use Rattle.lowering.proofs.All.{AllItems, all-append, weaker-items, other-changed}
 use Rattle.lowering.proofs.Cases.{by-test, by-shape, by-key, object-is, array-is, default-is, is-changed}
 use Rattle.lowering.proofs.Sites.{here, hereItems}
@@ -157,9 +156,6 @@ left-less h true true f = omega arith
 left-less h true false f = absurd (false≢true (f refl))
 left-less h false true f = omega arith
 left-less h false false f = omega arith
-
-name : Name
-name = record { path = []; stem = 0; place = 0 }
 
 -- a good property
 abbrev Property : Node → Type 0
@@ -809,10 +805,6 @@ module _ (x : ℕ) where
         let k = gone-none (gone (nodeAt 0 p′)) (here x (position p′)) (put-gone t f p) in
         let y = node-exchange x 0 (λ l. t) p in
         omega arith
-
-    not-object : (p : Node) → is 37 p ≡ true → is 34 p ≡ false
-    unfolding is
-    not-object p e = let z : kind p ≡ 37 = eqb-true (kind p) 37 e in ap (λ (y : ℕ). eqb y 34) z
 
     -- a pattern and what is moved out of it, with and without its slot
     record Moves (d : ℕ) (p : Node) : Type 0 where

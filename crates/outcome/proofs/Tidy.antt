@@ -1,6 +1,6 @@
 -- In a formed tree Temporaries and Helpers have no mark in them.
 -- Assumes nothing.
-use mathlib.Core.Path.{_≡_, refl, ap, _∙_}
+use mathlib.Core.Path.{_≡_, ap}
 use Rattle.lowering.specs.Walk.{Walked, WalkedFields, WalkedPiece, WalkedItems}
 use Rattle.lowering.specs.Walk.Walked.{noted}
 use Rattle.lowering.specs.Collect.{newInFields}

@@ -13,7 +13,7 @@ use Rattle.lowering.specs.Collect.{Name}
 use Rattle.overlay.specs.Objects.{Key, Value, Props, put}
 use Rattle.overlay.specs.Objects.Value.{outer, inner}
 use Rattle.overlay.specs.Objects.Props.{empty, entry}
-use Rattle.overlay.specs.Run.{Step, History, Reply, Outside, Out, then, ask, putEntry, pour, create, take, copy, flags, isComputed, isWritten, makes, callsS, opaque, keyed, defined, run, lay, layAll}
+use Rattle.overlay.specs.Run.{Step, History, Reply, Outside, Out, then, ask, putEntry, pour, create, take, copy, flags, isComputed, isWritten, makes, callsS, keyed, defined, run, lay, layAll}
 use Rattle.overlay.specs.Run.Step.{evaluates, computes, names, converts, lists, reads}
 use Rattle.overlay.specs.Run.Reply.{gives, throws}
 use Rattle.overlay.specs.Run.Out.{ok, threw, beyond, stuck}

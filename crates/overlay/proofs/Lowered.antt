@@ -25,7 +25,7 @@ use Rattle.overlay.specs.Whole.{leaves}
 use Rattle.overlay.proofs.Objects.{by-test, and-left, and-right, differ}
 use Rattle.overlay.proofs.Free.{or-left, or-right, free-here, free-below}
 use Rattle.overlay.proofs.Still.{still}
-use Rattle.overlay.proofs.Plainly.{Opaque, Plain, PlainParts, PlainPart, opaque, no-part, next-part, spread, property, spreadOf, propertyOf}
+use Rattle.overlay.proofs.Plainly.{Opaque, Plain, PlainParts, PlainPart, no-part, next-part, spread, property, spreadOf, propertyOf}
 
 -- ---- the lowering from below: the parts first, and then the rule
 
