@@ -32,13 +32,14 @@ use Rattle.direct.proofs.Threads.{then-assoc}
 use Rattle.direct.proofs.Stays.{emits-as, emits-refused, emits-unchanged, emits-nowhere}
 use Rattle.direct.proofs.Kept.{rule-27, assignment-kept}
 use Rattle.direct.proofs.Makes.{say-then, below-inner, three-fields, only-item, no-items, more-items, emits-sequence}
-use Rattle.direct.proofs.Items.{count-append, items-append}
-use Rattle.direct.proofs.Lists.{count-each, items-each}
+use Rattle.direct.proofs.Items.{items-append}
+use Rattle.direct.proofs.Lists.{items-each}
 use Rattle.direct.proofs.PatternViews.{emits-viewed, says-cell, without-object, taken-rest, values-rest}
 use Rattle.direct.proofs.RestValues.{rest-value}
 use Rattle.direct.proofs.Objects.{objects-same-path, replaced-same-path, without-same-path}
 use Rattle.direct.proofs.Handed.{top-handed, nested-handed}
 use Rattle.direct.proofs.Targets.{replaced-nothing, replaced-clear, over-without, found-some}
+use Rattle.lowering.proofs.ItemLaws.{count-append, count-each}
 
 -- ---- the lists of objects have no holes
 

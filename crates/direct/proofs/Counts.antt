@@ -19,11 +19,10 @@ use Rattle.direct.specs.Views.{nameless}
 use Rattle.direct.specs.Inner.{otherKeys}
 use Rattle.direct.specs.Declared.{declaratorCount}
 use Rattle.direct.specs.Counts.{sumOf, ownCount, foundCount, patternCount, declaratorsOf}
-use Rattle.direct.proofs.Items.{count-append}
-use Rattle.direct.proofs.RestValues.{empty-each}
 use Rattle.direct.proofs.Declared.{properties-changed}
 use Rattle.direct.proofs.Inner.{keys-counted, other-values}
 use Rattle.direct.proofs.Tests.{count-gather}
+use Rattle.lowering.proofs.ItemLaws.{count-append, empty-each}
 
 count-first : (b : Bool) (n : Node) → count (cond b (only n) Items.none) ≡ cond b 1 0
 unfolding count

@@ -8,8 +8,8 @@ use native.Mathlib.Omega.{arith}
 use Rattle.tree.specs.Tree.{Node, Fields, Piece, Items, wideBytes, count, depth, depthFields, depthItems}
 use Rattle.tree.specs.Tree.Node.{node}
 use Rattle.tree.specs.Tree.Fields.{done, absent, field}
-use Rattle.tree.specs.Tree.Piece.{one, list, text, byte, mark, number}
-use Rattle.lowering.specs.Parts.{nothing, position, is, asItems, pieceIn, standsIn, changeIn, nodeAt, itemsAt, stands, isEmpty, change, onNode, onItems, changeNode, changeItems, only, each, gather, _+++_}
+use Rattle.tree.specs.Tree.Piece.{one, list}
+use Rattle.lowering.specs.Parts.{nothing, position, is, pieceIn, standsIn, changeIn, nodeAt, itemsAt, stands, isEmpty, change, onNode, onItems, changeNode, changeItems, only, each, gather, _+++_}
 use Rattle.lowering.specs.Made.{Context, declares, reference, valueOf, keyOf}
 use Rattle.lowering.specs.Patterns.{shape, properties, key, value, rest, hasRest, withValues, replaced, replacedBelow}
 use Rattle.lowering.specs.Patterns.Shape.{objectPattern, arrayPattern, leaf}
@@ -34,35 +34,24 @@ use Rattle.direct.proofs.Kept.{rule-4}
 use Rattle.direct.proofs.Makes.{only-item, no-items, emits-declares, stays-declaration}
 use Rattle.direct.proofs.Items.{turn-same, items-append, items-gather}
 use Rattle.direct.proofs.PatternViews.{emits-viewed, says-cell}
-use Rattle.direct.proofs.RestValues.{does-each, empty-each, rest-value, rest-values}
+use Rattle.direct.proofs.RestValues.{does-each, rest-value, rest-values}
 use Rattle.direct.proofs.Handed.{keyTemporary-is, declaration-handed}
+use Rattle.lowering.proofs.ItemLaws.{empty-each}
+use Rattle.lowering.proofs.ChangeLaws.{position-changed, each-on}
 
 -- ---- an object with its values changed
-
-items-piece : (f : Node → Node) (p : Piece) → asItems (onItems (each f) p) ≡ each f (asItems p)
-unfolding onItems each
-items-piece f (one n) = refl
-items-piece f (list is) = refl
-items-piece f (text bs) = refl
-items-piece f (byte b) = refl
-items-piece f (mark b) = refl
-items-piece f (number b) = refl
 
 pub properties-changed : (f : Node → Node) (p : Node) → properties (changeItems 0 (each f) p) ≡ each f (properties p)
 unfolding itemsAt change changeIn pieceIn each
 properties-changed f (node at k done) = refl
 properties-changed f (node at k (absent fs)) = refl
-properties-changed f (node at k (field p fs)) = items-piece f p
+properties-changed f (node at k (field p fs)) = each-on f p
 
 pub rest-beside : (f : Piece → Piece) (p : Node) → rest (change 0 f p) ≡ rest p
 unfolding nodeAt change changeIn pieceIn
 rest-beside f (node at k done) = refl
 rest-beside f (node at k (absent fs)) = refl
 rest-beside f (node at k (field p fs)) = refl
-
-position-changed : (i : ℕ) (f : Piece → Piece) (q : Node) → position (change i f q) ≡ position q
-unfolding change
-position-changed i f (node at k fs) = refl
 
 inner-inner : (c : Place) → inner (inner c) ≡ inner c
 unfolding inner

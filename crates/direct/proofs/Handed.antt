@@ -6,9 +6,8 @@ use mathlib.Core.List.{List, [], _∷_, _++_}
 use Prim.Native.Nat.{ℕ, suc, _+_}
 use lib.Dec.{eqb}
 use lib.ListN.{length}
-use Rattle.tree.specs.Tree.{Node, Piece, Items, wideBytes, mapOf, count, encode, encodeItems}
-use Rattle.tree.specs.Tree.Node.{node}
-use Rattle.lowering.specs.Parts.{position, is, nodeAt, numberAt, textAt, itemsAt, stands, standsIn, pieceIn, isEmpty, only, each, gather, any, change, onNode, changeNode, _+++_}
+use Rattle.tree.specs.Tree.{Node, Items, wideBytes, mapOf, count, encode, encodeItems}
+use Rattle.lowering.specs.Parts.{position, is, nodeAt, numberAt, textAt, itemsAt, stands, standsIn, pieceIn, isEmpty, only, each, gather, any, onNode, changeNode, _+++_}
 use Rattle.lowering.specs.Made.{Context, array, string, declares, declared, idOf, reference, excludedOf, valueOf, keyOf, temporary}
 use Rattle.lowering.specs.Patterns.{properties, key, objectsBelow}
 use Rattle.lowering.specs.Keys.{keySort, isPrimitive, excludedKey, excludedKeys, keyTemporary, keyTemporaries}
@@ -31,9 +30,10 @@ use Rattle.direct.proofs.Threads.{then-assoc, then-nothing, say-say}
 use Rattle.direct.proofs.Alike.{key-kept}
 use Rattle.direct.proofs.AlikeRests.{excluded-none, excluded-append}
 use Rattle.direct.proofs.Items.{turn-same}
-use Rattle.direct.proofs.Lists.{each-gather, count-each}
-use Rattle.direct.proofs.RestValues.{empty-each, key-name, key-literal, key-template, key-private, entries-in, hoisted-are, hoists-values, entries-values, does-each}
+use Rattle.direct.proofs.RestValues.{key-name, key-literal, key-template, key-private, entries-in, hoisted-are, hoists-values, entries-values, does-each}
 use Rattle.direct.proofs.Objects.{Keyed, objects-same-path}
+use Rattle.lowering.proofs.ItemLaws.{each-gather, count-each, empty-each}
+use Rattle.lowering.proofs.ChangeLaws.{position-changed}
 
 -- ---- lists of deeds, list by list
 
@@ -301,15 +301,11 @@ pub hands-keyed : Keyed handsPlace
 unfolding handsPlace
 hands-keyed g at ps r = refl
 
-key-position : (i : ℕ) (f : Piece → Piece) (q : Node) → position (change i f q) ≡ position q
-unfolding change
-key-position i f (node at k fs) = refl
-
 pub keys-keyed : Keyed keysMade
 unfolding keysMade keyMade itemsAt pieceIn
 keys-keyed g at ps r =
     does-each keyMade (λ q. changeNode 1 g q)
-    (λ q. ap₂ (λ (x : ℕ) (k : Node). cond (isOther k) (say (does (Event.make (cell 4 x)) ∷ [])) (say [])) (key-position 1 (onNode g) q) (key-kept (onNode g) q)) ps
+    (λ q. ap₂ (λ (x : ℕ) (k : Node). cond (isOther k) (say (does (Event.make (cell 4 x)) ∷ [])) (say [])) (position-changed 1 (onNode g) q) (key-kept (onNode g) q)) ps
 
 bytes-kept : (g : Node → Node) (q : Node) → keyBytes (changeNode 1 g q) ≡ keyBytes q
 unfolding keyBytes

@@ -6,7 +6,7 @@ use Prim.Native.Nat.{ℕ, zero, suc}
 use borrow.Author.Tests.{eqb-true}
 use Rattle.tree.specs.Tree.{Node, Items, depth, depthFields}
 use Rattle.tree.specs.Tree.Node.{node}
-use Rattle.lowering.specs.Parts.{kind, is, pieceIn, nodeAt, itemsAt, stands, change, onItems, changeItems, only, each, gather, any, _+++_}
+use Rattle.lowering.specs.Parts.{kind, is, nodeAt, itemsAt, stands, only, each, gather, any, _+++_}
 use Rattle.lowering.specs.Made.{Context}
 use Rattle.lowering.specs.Patterns.{shape, properties, itemsOf, rest, hasRest, leftOf, value, hasNestedObjectRest, hasNestedArrayRest, hasObjectRest}
 use Rattle.lowering.specs.Patterns.Shape.{objectPattern}
@@ -20,7 +20,8 @@ use Rattle.lowering.specs.Walk.{Step, rewritten, unchanged, ruleOf, rewrite, st
 use Rattle.lowering.specs.Walk.Rule.{literals, declarations, assignments, functions, arrows, catches, fors}
 use Rattle.lowering.proofs.Cases.{by-test, by-shape, or-left, or-right}
 use Rattle.lowering.proofs.Accepted.{NoHoles}
-use Rattle.lowering.proofs.Simple.{change-same, list-same}
+use Rattle.lowering.proofs.ItemLaws.{gather-none as none-in, any-none, any-empty}
+use Rattle.lowering.proofs.ChangeLaws.{changeItems-same}
 
 -- ---- rules by kind
 
@@ -49,12 +50,6 @@ unfolding is ruleOf
 rule-10 (node at k fs) e = rw (eqb-true k 10 e) refl
 
 -- ---- searches that find nothing
-
-any-none : (f g : Node → Bool) → ((n : Node) → f n ≡ false → g n ≡ false) → (is : Items) → any f is ≡ false → any g is ≡ false
-unfolding any
-any-none f g h Items.none e = refl
-any-none f g h (Items.hole ns) e = any-none f g h ns e
-any-none f g h (Items.item n ns) e = rw (h n (or-left (f n) (any f ns) e)) (any-none f g h ns (or-right (f n) (any f ns) e))
 
 gather-none : (f : Node → Bool) (g : Node → Items) → ((n : Node) → f n ≡ false → g n ≡ Items.none) → (is : Items) → any f is ≡ false → gather g is ≡ Items.none
 unfolding any gather _+++_
@@ -115,10 +110,6 @@ step-kept m e r n p q s = λ j. record { note = record { refusal = 0; made = (p)
 rewritten-kept : (m : Items) (r n : Node) → m ≡ Items.none → r ≡ n → rewritten m r ≡ unchanged n
 rewritten-kept m r n p s = step-kept m Items.none r n p refl s
 
-pub changeItems-same : (i : ℕ) (f : Items → Items) (n : Node) → f (itemsAt i n) ≡ itemsAt i n → changeItems i f n ≡ n
-unfolding change itemsAt
-changeItems-same i f (node at k fs) h = ap (node at k) (change-same fs i (onItems f) (list-same f (pieceIn fs i) h))
-
 moved-none : (is : Items) → any isMoved is ≡ false → gather movedFrom is ≡ Items.none
 unfolding movedFrom
 moved-none ns h = gather-none isMoved movedFrom (λ n e. rw e) ns h
@@ -126,14 +117,6 @@ moved-none ns h = gather-none isMoved movedFrom (λ n e. rw e) ns h
 literal-same : (n : Node) → any (λ p. is 26 p) (itemsAt 0 n) ≡ false → literal n ≡ n
 unfolding literal
 literal-same n h = rw h refl
-
-none-in : (f : Node → Items) → gather f Items.none ≡ Items.none
-unfolding gather
-none-in f = refl
-
-none-any : (f : Node → Bool) → any f Items.none ≡ false
-unfolding any
-none-any f = refl
 
 module _ (c : Context) where
   kept-one : (d : Node) → isLowered d ≡ false → declarators c d ≡ only d
@@ -147,7 +130,7 @@ module _ (c : Context) where
   lacks-none : (n : Node) → any isLowered (itemsAt 2 n) ≡ false → declarationLacksForm c n ≡ false
   unfolding declarationLacksForm
   lacks-none n h =
-      any-none isLowered (λ d. any (λ p. anyLacksForm p) (loweredIn c d)) (λ d e. ap (any (λ p. anyLacksForm p)) (lowered-in d e) ∙ none-any (λ p. anyLacksForm p)) (itemsAt 2 n) h
+      any-none isLowered (λ d. any (λ p. anyLacksForm p) (loweredIn c d)) (λ d e. ap (any (λ p. anyLacksForm p)) (lowered-in d e) ∙ any-empty (λ p. anyLacksForm p)) (itemsAt 2 n) h
 
   pub literal-kept : (n : Node) → is 24 n ≡ true → any (λ p. is 26 p) (itemsAt 0 n) ≡ false → rewrite c n ≡ unchanged n
   unfolding rewrite

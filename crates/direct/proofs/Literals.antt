@@ -21,7 +21,8 @@ use Rattle.direct.proofs.Threads.{then-assoc, say-nothing, then-nothing
 use Rattle.direct.proofs.Stays.{emits-as, nothing-handed, emits-nowhere, emits-unchanged}
 use Rattle.direct.proofs.Kept.{rule-24, literal-kept}
 use Rattle.direct.proofs.Makes.{say-then, more-items, only-item, no-items, emits-S, emits-object}
-use Rattle.direct.proofs.Items.{items-append, count-append, any-append, holes-append}
+use Rattle.direct.proofs.Items.{items-append, holes-append}
+use Rattle.lowering.proofs.ItemLaws.{count-append, any-append}
 
 -- ---- heads
 

@@ -1,6 +1,6 @@
 -- Which patterns are moved, how many they are, and what is made for them.
 -- Assumes nothing.
-use mathlib.Core.Path.{_≡_, refl, sym, ap, ap₂, _∙_}
+use mathlib.Core.Path.{_≡_, refl, ap, ap₂, _∙_}
 use mathlib.Core.Bool.{Bool, true, false, cond}
 use mathlib.Core.List.{List, [], _∷_, _++_, append-nil}
 use Prim.Native.Nat.{ℕ, zero, suc, _+_, _≤_}
@@ -18,24 +18,15 @@ use Rattle.sink.specs.Machine.{Event}
 use Rattle.direct.specs.Events.{Deed, cell, cellOf, made, refused, entered, excludedKeys, handsOut}
 use Rattle.direct.specs.Events.Deed.{does}
 use Rattle.direct.specs.Moved.{movedIn, makes, number}
+use Rattle.lowering.proofs.ItemLaws.{items-none, gather-none}
 
 -- ---- lists
-
-pub join-none : (is : Items) → is +++ Items.none ≡ is
-unfolding _+++_
-join-none Items.none = refl
-join-none (Items.hole ns) = ap Items.hole (join-none ns)
-join-none (Items.item n ns) = ap (Items.item n) (join-none ns)
 
 pub join-assoc : (is js ks : Items) → (is +++ js) +++ ks ≡ is +++ js +++ ks
 unfolding _+++_
 join-assoc Items.none js ks = refl
 join-assoc (Items.hole ns) js ks = ap Items.hole (join-assoc ns js ks)
 join-assoc (Items.item n ns) js ks = ap (Items.item n) (join-assoc ns js ks)
-
-pub gather-none : (f : Node → Items) → gather f Items.none ≡ Items.none
-unfolding gather
-gather-none f = refl
 
 pub gather-hole : (f : Node → Items) (is : Items) → gather f (Items.hole is) ≡ gather f is
 unfolding gather
@@ -44,15 +35,6 @@ gather-hole f ns = refl
 pub gather-item : (f : Node → Items) (n : Node) (is : Items) → gather f (Items.item n is) ≡ f n +++ gather f is
 unfolding gather
 gather-item f n ns = refl
-
-pub gather-only : (f : Node → Items) (n : Node) → gather f (only n) ≡ f n
-gather-only f n = gather-item f n Items.none ∙ ap (λ (x : Items). f n +++ x) (gather-none f) ∙ join-none (f n)
-
-pub gather-join : (f : Node → Items) (is js : Items) → gather f (is +++ js) ≡ gather f is +++ gather f js
-unfolding gather _+++_
-gather-join f Items.none js = refl
-gather-join f (Items.hole ns) js = gather-join f ns js
-gather-join f (Items.item n ns) js = ap (λ (x : Items). f n +++ x) (gather-join f ns js) ∙ sym (join-assoc (f n) (gather f ns) (gather f js))
 
 -- ---- which patterns are moved
 
@@ -88,7 +70,7 @@ pub moved-array : (at : ℕ) (is : Items) → movedIn (node at 36 (Fields.field 
 unfolding movedIn moved shape depth itemsAt nodeAt pieceIn
 moved-array at ns =
     let d = depthFields (Fields.field (Piece.list ns) (Fields.absent Fields.done)) in
-    ap₂ (λ (x y : Items). x +++ y) (gather-levels d ns (omega arith)) (moved-nothing d) ∙ join-none (gather movedIn ns)
+    ap₂ (λ (x y : Items). x +++ y) (gather-levels d ns (omega arith)) (moved-nothing d) ∙ items-none (gather movedIn ns)
 
 -- of a Param or a Declarator
 pub from-kept : (q : Node) → isMoved q ≡ false → movedFrom q ≡ Items.none

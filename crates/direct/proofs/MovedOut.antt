@@ -22,6 +22,7 @@ use Rattle.direct.specs.Moved.{here, standIn, stand, outOf, behind, Bind
 use Rattle.direct.proofs.Threads.{then-assoc, then-nothing}
 use Rattle.direct.proofs.Stays.{emits-nowhere}
 use Rattle.direct.proofs.Makes.{say-then, below-inner, two-fields, emits-temporary}
+use Rattle.lowering.proofs.ItemLaws.{count-each}
 
 -- ---- the context plays no part
 
@@ -39,14 +40,6 @@ pub behind-here : (c : Place) → leftBehind (contextOf c) ≡ leftBehind here
 unfolding leftBehind
 behind-here c =
     fun-ext (λ q. ap (λ (f : Node → Node). cond (isMoved q) (change 0 (onNode f) q) q) (fun-ext (λ p. out-here c (depth p) p)))
-
--- ---- lists
-
-pub each-count : (f : Node → Node) (is : Items) → count (each f is) ≡ count is
-unfolding each count
-each-count f Items.none = refl
-each-count f (Items.hole ns) = ap suc (each-count f ns)
-each-count f (Items.item n ns) = ap suc (each-count f ns)
 
 -- ---- shapes by kind
 
@@ -143,7 +136,7 @@ pub emits-out-array-rest : (c : Place) (at : ℕ) (is : Items) (r : Node)
 emits-out-array-rest c at ns r =
     ap (emits c) (out-array-rest at ns r)
     ∙ emits-items-rest c at (each outOf ns) (outOf r)
-    ∙ ap (λ (x : ℕ). say (puts (36 ∷ 3 ∷ wideBytes x)) ▷ emitsItems false (inner c) (each outOf ns) ▷ emits (inner c) (outOf r)) (each-count outOf ns)
+    ∙ ap (λ (x : ℕ). say (puts (36 ∷ 3 ∷ wideBytes x)) ▷ emitsItems false (inner c) (each outOf ns) ▷ emits (inner c) (outOf r)) (count-each outOf ns)
 
 pub emits-out-array : (c : Place) (at : ℕ) (is : Items)
     → emits c (outOf (node at 36 (Fields.field (Piece.list is) (Fields.absent Fields.done))))
@@ -151,7 +144,7 @@ pub emits-out-array : (c : Place) (at : ℕ) (is : Items)
 emits-out-array c at ns =
     ap (emits c) (out-array at ns)
     ∙ emits-items c at (each outOf ns)
-    ∙ ap (λ (x : ℕ). say (puts (36 ∷ 1 ∷ wideBytes x)) ▷ emitsItems false (inner c) (each outOf ns)) (each-count outOf ns)
+    ∙ ap (λ (x : ℕ). say (puts (36 ∷ 1 ∷ wideBytes x)) ▷ emitsItems false (inner c) (each outOf ns)) (count-each outOf ns)
 
 -- the temporary has the position of the default
 pub emits-out-default : (c : Place) (at : ℕ) (l r : Node)

@@ -20,7 +20,9 @@ use Rattle.direct.specs.Moved.{here, standIn, outOf, behind, declaration
 use Rattle.direct.proofs.Stays.{emits-unchanged}
 use Rattle.direct.proofs.Kept.{declaration-kept}
 use Rattle.direct.proofs.Makes.{stays-declaration}
-use Rattle.direct.proofs.MovedOut.{each-count, behind-kept}
+use Rattle.direct.proofs.MovedOut.{behind-kept}
+use Rattle.lowering.proofs.ItemLaws.{count-each}
+use Rattle.lowering.proofs.ChangeLaws.{shape-changed}
 
 -- ---- nothing is found in nothing, nor in a temporary, nor in a leaf
 
@@ -51,10 +53,6 @@ has-array e p h i r = rw (h, hasNestedObjectRest, i) r
 has-default : (e : ℕ) (p : Node) → shape p ≡ default → hasNestedObjectRest e (leftOf p) ≡ false → hasNestedObjectRest (suc e) p ≡ false
 unfolding hasNestedObjectRest
 has-default e p h l = rw (h, hasNestedObjectRest) l
-
-changed-shape : (i : ℕ) (f : Piece → Piece) (p : Node) → shape (change i f p) ≡ shape p
-unfolding shape change
-changed-shape i f (node at k fs) = refl
 
 -- ---- parts that are changed
 
@@ -109,13 +107,13 @@ array-none : (f : Node → Node) (e d : ℕ) → ((m : Node) → depth m ≤ d �
 unfolding change itemsAt nodeAt depth
 array-none f e d none (node at k fs) h s =
     has-array e (withRest f (withItems f (node at k fs)))
-    (changed-shape 1 (onNode f) (withItems f (node at k fs)) ∙ changed-shape 0 (onItems (each f)) (node at k fs) ∙ s)
+    (shape-changed 1 (onNode f) (withItems f (node at k fs)) ∙ shape-changed 0 (onItems (each f)) (node at k fs) ∙ s)
     (items-in f e d none fs (omega arith)) (rest-in f e d none fs (omega arith))
 
 default-none : (e : ℕ) (p q : Node) → shape p ≡ default → hasNestedObjectRest (suc e) (withLeft (λ l. standIn q) p) ≡ false
 unfolding change nodeAt depth
 default-none e (node at k fs) q s =
-    has-default e (withLeft (λ l. standIn q) (node at k fs)) (changed-shape 0 (onNode (λ l. standIn q)) (node at k fs) ∙ s)
+    has-default e (withLeft (λ l. standIn q) (node at k fs)) (shape-changed 0 (onNode (λ l. standIn q)) (node at k fs) ∙ s)
     (first-in (λ l. standIn q) e (depthFields fs) (λ m h. has-stand e q) fs (omega arith))
 
 pos : (n : Node) → 0 < depth n
@@ -190,4 +188,4 @@ emits-declaring c at m sort qs w =
     let n = node at 4 (declarationFields m sort (each behind qs)) in
     emits-unchanged c n (declaration-kept (contextOf c) n refl (each-whole behind qs w) (behind-kept-again qs))
     ∙ stays-declaration c at m sort (each behind qs)
-    ∙ ap (λ (x : ℕ). say (puts (4 ∷ 7 ∷ []) ++ (marks m ++ puts (sort ∷ wideBytes x))) ▷ emitsItems false (inner c) (each behind qs)) (each-count behind qs)
+    ∙ ap (λ (x : ℕ). say (puts (4 ∷ 7 ∷ []) ++ (marks m ++ puts (sort ∷ wideBytes x))) ▷ emitsItems false (inner c) (each behind qs)) (count-each behind qs)

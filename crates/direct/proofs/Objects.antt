@@ -8,7 +8,7 @@ use native.Mathlib.Omega.{arith}
 use Rattle.tree.specs.Tree.{Node, Fields, Piece, Items, depth, depthFields, depthItems}
 use Rattle.tree.specs.Tree.Node.{node}
 use Rattle.tree.specs.Tree.Fields.{done, absent, field}
-use Rattle.tree.specs.Tree.Piece.{one, list, text, byte, mark, number}
+use Rattle.tree.specs.Tree.Piece.{one, list}
 use Rattle.lowering.specs.Parts.{nothing, position, is, asNode, pieceIn, standsIn, changeIn, nodeAt, itemsAt, stands, change, onNode, onItems, changeNode, without, only, each, gather, _+++_}
 use Rattle.lowering.specs.Made.{Context, temporary, keyOf}
 use Rattle.lowering.specs.Patterns.{shape, properties, key, value, hasRest, withItems, withLeft, withValues, withProperties, replaced, replacedBelow, objectsWithRest, objectsBelow}
@@ -23,26 +23,19 @@ use Rattle.direct.specs.Views.{View, valuesOf, takes, objectAt, objectRe
 use Rattle.direct.specs.Views.View.{replacing, taking, leaving}
 use Rattle.direct.specs.Objects.{objectsIn, restsIn, overObjects, overRests}
 use Rattle.direct.proofs.Items.{turn-append, turn-gather}
-use Rattle.direct.proofs.Lists.{gather-same, gather-each, append-none, turn-only}
+use Rattle.direct.proofs.Lists.{turn-only}
 use Rattle.direct.proofs.PatternViews.{keptKey-is, taken-object, taken-rest, values-object, values-rest, without-object, without-array-at, without-default-at, without-leaf-at}
+use Rattle.lowering.proofs.ItemLaws.{items-none, gather-same, gather-each}
+use Rattle.lowering.proofs.ChangeLaws.{node-on}
 
 -- ---- values
-
-piece-changed : (f : Node → Node) → f nothing ≡ nothing → (p : Piece) → asNode (onNode f p) ≡ f (asNode p)
-unfolding onNode
-piece-changed f h (one n) = refl
-piece-changed f h (list is) = sym h
-piece-changed f h (text bs) = sym h
-piece-changed f h (byte b) = sym h
-piece-changed f h (mark b) = sym h
-piece-changed f h (number b) = sym h
 
 field-changed : (f : Node → Node) → f nothing ≡ nothing → (fs : Fields) (i : ℕ) → asNode (pieceIn (changeIn fs i (onNode f)) i) ≡ f (asNode (pieceIn fs i))
 unfolding pieceIn changeIn
 field-changed f h done i = sym h
 field-changed f h (absent fs) zero = sym h
 field-changed f h (absent fs) (suc i) = field-changed f h fs i
-field-changed f h (field p fs) zero = piece-changed f h p
+field-changed f h (field p fs) zero = node-on f h p
 field-changed f h (field p fs) (suc i) = field-changed f h fs i
 
 pub value-changed : (f : Node → Node) → f nothing ≡ nothing → (q : Node) → value (changeNode 1 f q) ≡ f (value q)
@@ -83,7 +76,7 @@ module _ (κ : Context) where
   unfolding objectsWithRest shape depth stands standsIn itemsAt pieceIn
   found-object at ps =
       let d = max (depthItems ps) 0 in
-      append-none (gather (λ q. objectsWithRest κ d (value q)) ps)
+      items-none (gather (λ q. objectsWithRest κ d (value q)) ps)
       ∙ gather-agrees (λ q. objectsWithRest κ d (value q)) (λ q. objectsBelow κ (value q)) d (λ q l. found-in d q l) ps (omega arith)
 
   found-rest : (at : ℕ) (ps : Items) (r : Node)
@@ -174,7 +167,7 @@ pub rests-object : (at : ℕ) (ps : Items) → restsIn (objectAt at ps) ≡ gath
 unfolding restsThroughObjects shape depth stands standsIn itemsAt pieceIn
 rests-object at ps =
     let d = max (depthItems ps) 0 in
-    append-none (gather (λ q. restsThroughObjects d (value q)) ps)
+    items-none (gather (λ q. restsThroughObjects d (value q)) ps)
     ∙ gather-agrees (λ q. restsThroughObjects d (value q)) (λ q. restsIn (value q)) d (λ q l. rests-value d q l) ps (omega arith)
 
 pub rests-rest : (at : ℕ) (ps : Items) (r : Node) → restsIn (objectRestAt at ps r) ≡ gather (λ q. restsIn (value q)) ps +++ only (objectRestAt at ps r)

@@ -4,9 +4,8 @@ use mathlib.Core.Path.{_≡_, refl, sym, ap, ap₂, _∙_}
 use mathlib.Core.Bool.{Bool, true, false, cond, not, _&&_, _||_}
 use mathlib.Core.List.{List, [], _∷_, _++_}
 use Prim.Native.Nat.{ℕ, suc, _+_}
-use Rattle.tree.specs.Tree.{Node, Piece, Items, wideBytes, count}
-use Rattle.tree.specs.Tree.Node.{node}
-use Rattle.lowering.specs.Parts.{position, is, textAt, isEmpty, only, each, gather, any, change, onNode, changeNode, _+++_}
+use Rattle.tree.specs.Tree.{Node, Items, wideBytes, count}
+use Rattle.lowering.specs.Parts.{position, is, textAt, isEmpty, only, each, gather, any, onNode, changeNode, _+++_}
 use Rattle.lowering.specs.Made.{Context, object, array, sequence, member, string, excludedOf, keyOf, E, X, W, K}
 use Rattle.lowering.specs.Patterns.{properties, key}
 use Rattle.lowering.specs.Keys.{keySort, isPrimitive, excludedKey, excludedKeys, allPrimitive}
@@ -24,6 +23,8 @@ use Rattle.direct.proofs.Alike.{key-kept}
 use Rattle.direct.proofs.Makes.{say-then, more-items, only-item, no-items, emits-call, emits-X, emits-E, emits-W, emits-array, emits-object, emits-sequence, emits-member, emits-string, emits-helper}
 use Rattle.direct.proofs.Items.{items-gather, turn-same}
 use Rattle.direct.proofs.PatternViews.{says-cell}
+use Rattle.lowering.proofs.ItemLaws.{empty-each}
+use Rattle.lowering.proofs.ChangeLaws.{position-changed}
 
 -- ---- one key
 
@@ -229,16 +230,6 @@ does-each f g h Items.none = refl
 does-each f g h (Items.hole qs) = does-each f g h qs
 does-each f g h (Items.item q qs) = ap₂ (λ (x y : Emit). x ▷ y) (h q) (does-each f g h qs)
 
-pub empty-each : (g : Node → Node) (qs : Items) → isEmpty (each g qs) ≡ isEmpty qs
-unfolding isEmpty each
-empty-each g Items.none = refl
-empty-each g (Items.hole qs) = refl
-empty-each g (Items.item q qs) = refl
-
-position-kept : (i : ℕ) (f : Piece → Piece) (q : Node) → position (change i f q) ≡ position q
-unfolding change
-position-kept i f (node at k fs) = refl
-
 module _ (g : Node → Node) where
   pub primitives-values : (qs : Items) → primitives (each (λ q. changeNode 1 g q) qs) ≡ primitives qs
   unfolding primitives
@@ -266,7 +257,7 @@ module _ (g : Node → Node) where
         | private ↦ say []
         | again ↦ emits c k
         | other ↦ saysCell 4 at
-      ]) (position-kept 1 (onNode g) q) (key-kept (onNode g) q)
+      ]) (position-changed 1 (onNode g) q) (key-kept (onNode g) q)
 
   pub keys-values : (c : Place) (qs : Items) → emitsKeys c (each (λ q. changeNode 1 g q) qs) ≡ emitsKeys c qs
   unfolding emitsKeys

@@ -20,29 +20,19 @@ use Rattle.lowering.proofs.Levels.{has-levels, array-levels, replaced-levels, w
 use Rattle.lowering.proofs.Views.{replaced-rests}
 use Rattle.direct.specs.Views.{withoutRestsBelow}
 use Rattle.direct.specs.Objects.{restsIn}
-use Rattle.direct.proofs.Kept.{changeItems-same}
-use Rattle.direct.proofs.Lists.{each-each}
 use Rattle.direct.proofs.PatternViews.{value-twice}
 use Rattle.direct.proofs.Objects.{value-changed, value-kept}
 use Rattle.direct.proofs.Declared.{properties-changed, rest-beside}
+use Rattle.lowering.proofs.ItemLaws.{each-each, any-none}
+use Rattle.lowering.proofs.ChangeLaws.{shape-changed, changeItems-same, node-on, node-on-twice}
 
 -- ---- lists and fields
-
-pub shape-changed : (i : ℕ) (f : Piece → Piece) (n : Node) → shape (change i f n) ≡ shape n
-unfolding shape change
-shape-changed i f (node at k fs) = refl
 
 pub any-each : (t : Node → Bool) (g : Node → Node) (is : Items) → any t (each g is) ≡ any (λ n. t (g n)) is
 unfolding any each
 any-each t g Items.none = refl
 any-each t g (Items.hole is) = any-each t g is
 any-each t g (Items.item n is) = ap (λ (b : Bool). t (g n) || b) (any-each t g is)
-
-pub any-none : (u t : Node → Bool) → ((n : Node) → u n ≡ false → t n ≡ false) → (is : Items) → any u is ≡ false → any t is ≡ false
-unfolding any
-any-none u t h Items.none e = refl
-any-none u t h (Items.hole is) e = any-none u t h is e
-any-none u t h (Items.item n is) e = rw (h n (or-left (u n) (any u is) e)) (any-none u t h is (or-right (u n) (any u is) e))
 
 each-kept : (u : Node → Bool) (g : Node → Node) → ((n : Node) → u n ≡ false → g n ≡ n) → (is : Items) → any u is ≡ false → each g is ≡ is
 unfolding any each
@@ -71,35 +61,17 @@ node-same : (f : Node → Node) (i : ℕ) (n : Node) → f (nodeAt i n) ≡ node
 unfolding change nodeAt
 node-same f i (node at k fs) h = ap (node at k) (field-same f fs i h)
 
-piece-changed : (f : Node → Node) → f nothing ≡ nothing → (p : Piece) → asNode (onNode f p) ≡ f (asNode p)
-unfolding onNode
-piece-changed f h (one n) = refl
-piece-changed f h (list is) = sym h
-piece-changed f h (text bs) = sym h
-piece-changed f h (byte b) = sym h
-piece-changed f h (mark b) = sym h
-piece-changed f h (number b) = sym h
-
 first-changed : (f : Node → Node) → f nothing ≡ nothing → (p : Node) → nodeAt 0 (changeNode 0 f p) ≡ f (nodeAt 0 p)
 unfolding nodeAt change changeIn pieceIn
 first-changed f h (node at k done) = sym h
 first-changed f h (node at k (absent fs)) = sym h
-first-changed f h (node at k (field p fs)) = piece-changed f h p
-
-piece-twice : (f g : Node → Node) (p : Piece) → onNode f (onNode g p) ≡ onNode (λ n. f (g n)) p
-unfolding onNode
-piece-twice f g (one n) = refl
-piece-twice f g (list is) = refl
-piece-twice f g (text bs) = refl
-piece-twice f g (byte b) = refl
-piece-twice f g (mark b) = refl
-piece-twice f g (number b) = refl
+first-changed f h (node at k (field p fs)) = node-on f h p
 
 left-twice : (f g : Node → Node) (p : Node) → withLeft f (withLeft g p) ≡ withLeft (λ n. f (g n)) p
 unfolding change changeIn
 left-twice f g (node at k done) = refl
 left-twice f g (node at k (absent fs)) = refl
-left-twice f g (node at k (field p fs)) = ap (λ (x : Piece). node at k (field x fs)) (piece-twice f g p)
+left-twice f g (node at k (field p fs)) = ap (λ (x : Piece). node at k (field x fs)) (node-on-twice f g p)
 
 list-twice : (f g : Node → Node) (p : Piece) → onItems (each f) (onItems (each g) p) ≡ onItems (each (λ n. f (g n))) p
 unfolding onItems

@@ -16,7 +16,7 @@ use Rattle.lowering.proofs.Levels.{node-in, has-levels, array-levels}
 use Rattle.direct.specs.Views.{arrayAt, arrayRestAt}
 use Rattle.direct.specs.Assigned.{assignmentAt}
 use Rattle.direct.specs.Counts.{sumOf, lacksRests}
-use Rattle.direct.proofs.Items.{count-append}
+use Rattle.lowering.proofs.ItemLaws.{count-append}
 
 -- ---- whether an object rest is below
 

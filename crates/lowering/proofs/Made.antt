@@ -22,6 +22,7 @@ use Rattle.lowering.specs.Collect.{Name, nameOf, samePath, same}
 use Rattle.lowering.proofs.Cases.{by-test, by-shape, by-key, by-rule, and-left, and-right}
 use Rattle.lowering.proofs.Sites.{here, hereItems, sites, sitesItems, node-in, items-in, shell, shells, gather-here, shells-in, here-in}
 use Rattle.lowering.proofs.SiteViews.{object-here, rest-here, moved-here, rests-shells, objects-sum, objects-are}
+use Rattle.lowering.proofs.ItemLaws.{each-append}
 
 -- how often a is the name of one of them
 unfoldable pub times : Name → Items → ℕ
@@ -34,12 +35,6 @@ unfolding times _+++_
 times-append a none js = omega arith
 times-append a (hole is) js = times-append a is js
 times-append a (item n is) js = let h = times-append a is js in omega arith
-
-pub each-append : (f : Node → Node) (is js : Items) → each f (is +++ js) ≡ each f is +++ each f js
-unfolding each _+++_
-each-append f none js = refl
-each-append f (hole is) js = ap hole (each-append f is js)
-each-append f (item n is) js = ap (item (f n)) (each-append f is js)
 
 lowered-rest : (d : Node) → isLowered d ≡ true → hasObjectRest (nodeAt 0 d) ≡ true
 unfolding isLowered

@@ -19,7 +19,9 @@ use Rattle.lowering.specs.Collect.{Name, nameOf, same}
 use Rattle.lowering.proofs.All.{AllItems}
 use Rattle.lowering.proofs.Cases.{by-test, by-shape}
 use Rattle.lowering.proofs.Clauses.{objects-object, objects-array, objects-default, objects-leaf, replaced-object, replaced-array, replaced-default, replaced-leaf}
-use Rattle.lowering.proofs.Made.{times, times-append, each-append, only-times}
+use Rattle.lowering.proofs.Made.{times, times-append, only-times}
+use Rattle.lowering.proofs.ItemLaws.{each-append}
+use Rattle.lowering.proofs.ChangeLaws.{position-changed}
 
 -- ---- changes of a field that leave texts and numbers alone
 
@@ -97,10 +99,6 @@ name-kept f l at k fs i =
     let t = text-kept f l fs i 1 in
     let n = number-kept f l fs i 0 in
     λ j. record { path = (t) j; stem = (n) j; place = at }
-
-pub position-kept : (i : ℕ) (f : Piece → Piece) (n : Node) → position (change i f n) ≡ position n
-unfolding change
-position-kept i f (node at k fs) = refl
 
 second-kept : (f : Piece → Piece) (fs : Fields) → pieceIn (changeIn fs 0 f) 1 ≡ pieceIn fs 1
 unfolding changeIn pieceIn
@@ -387,7 +385,7 @@ module _ (a : Name) where
         let x = ap (times a) (each-append (λ q. reference c q) inner (only own)) in
         let y = times-append a (refs inner) (refs (only own)) in
         let v = ref-times own in
-        let k = ap (λ (m : ℕ). occurs (temporary (c .path) 1 m)) (position-kept 0 (onItems (each (λ q. changeNode 1 f q))) p) in
+        let k = ap (λ (m : ℕ). occurs (temporary (c .path) 1 m)) (position-changed 0 (onItems (each (λ q. changeNode 1 f q))) p) in
         omega arith)
         (λ r.
         let i′ : occursItems (objectsWithRest c (suc d) p) ≡ occursItems (inner +++ none) = rw r at i in

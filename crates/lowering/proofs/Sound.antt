@@ -1,6 +1,6 @@
 -- Keys, rests, and the declarators of one object pattern: no temporary stands in them but those that are made with them.
 -- Assumes nothing.
-use mathlib.Core.Path.{_≡_, refl, sym, ap, _∙_, subst}
+use mathlib.Core.Path.{_≡_, refl, ap, _∙_, subst}
 use mathlib.Core.Bool.{true, cond}
 use mathlib.Core.List.{List}
 use Prim.Native.Nat.{ℕ, zero, suc, _+_, _*_, _≤_}
@@ -21,9 +21,10 @@ use Rattle.lowering.specs.Collect.{Name}
 use Rattle.lowering.proofs.All.{AllItems, all-append, all-gather}
 use Rattle.lowering.proofs.Cases.{by-test, by-shape, by-key, object-is, is-changed}
 use Rattle.lowering.proofs.Clauses.{objects-object, objects-array, objects-default}
-use Rattle.lowering.proofs.Made.{times, times-append, each-append, only-times, none-times}
-use Rattle.lowering.proofs.Occurs.{position-kept, occurs, occursFields, occursItems, node-in, items-in, Free, each-item, occurs-append, only-occurs, none-occurs, temporary-occurs, items-more, node-more, put-more, gathered, refs, ref-times, replaced-more}
-use Rattle.lowering.proofs.Names.{append-assoc}
+use Rattle.lowering.proofs.Made.{times, times-append, only-times, none-times}
+use Rattle.lowering.proofs.Occurs.{occurs, occursFields, occursItems, node-in, items-in, Free, each-item, occurs-append, only-occurs, none-occurs, temporary-occurs, items-more, node-more, put-more, gathered, refs, ref-times, replaced-more}
+use Rattle.lowering.proofs.ItemLaws.{each-append, gather-append}
+use Rattle.lowering.proofs.ChangeLaws.{position-changed}
 
 -- ---- the keys of a pattern do not depend on its values
 
@@ -36,12 +37,6 @@ first-of g (field p fs) = refl
 pub key-kept : (f : Node → Node) (q : Node) → key (changeNode 1 f q) ≡ key q
 unfolding nodeAt change
 key-kept f (node at k fs) = ap asNode (first-of (onNode f) fs)
-
-pub gather-append : (f : Node → Items) (is js : Items) → gather f (is +++ js) ≡ gather f is +++ gather f js
-unfolding gather _+++_
-gather-append f none js = refl
-gather-append f (hole is) js = gather-append f is js
-gather-append f (item n is) js = ap (λ (x : Items). f n +++ x) (gather-append f is js) ∙ sym (append-assoc (f n) (gather f is) (gather f js))
 
 module _ (a : Name) where
   -- ---- nodes that the rules make
@@ -374,7 +369,7 @@ module _ (a : Name) where
         let g : Piece → Piece = onItems (each (λ q. changeNode 1 (λ v. replaced c d v) q)) in
         let f = shell-free d p h u in
         let t = ref-times a c o in
-        let k = ap (λ (m : ℕ). occurs a (temporary (c .path) 1 m)) (position-kept 0 g p) in
+        let k = ap (λ (m : ℕ). occurs a (temporary (c .path) 1 m)) (position-changed 0 g p) in
         let r = v .0 in
         each-item a (own c o (reference c p))
         (own-free o (reference c p) (is-changed 0 g p 34 ∙ e) f (omega arith) (one-made o (v .1)))

@@ -25,10 +25,11 @@ use Rattle.lowering.proofs.WeightKeys.{rest-changed}
 use Rattle.lowering.proofs.Levels.{items-depth, gather-agrees, values-agree, objects-levels, replaced-levels, objects-nothing}
 use Rattle.lowering.proofs.Levels.{node-in as levels-node-in}
 use Rattle.lowering.proofs.Clauses.{objects-object}
-use Rattle.lowering.proofs.Made.{times, times-append, each-append, only-times, entry-refs, entry-times}
+use Rattle.lowering.proofs.Made.{times, times-append, only-times, entry-refs, entry-times}
 use Rattle.lowering.proofs.Occurs.{occurs, occursItems, node-in, items-in, Free, each-item, occurs-append, only-occurs, none-occurs, nothing-occurs, temporary-occurs, items-more, node-more, gathered, refs, objects-sum, replaced-more}
-use Rattle.lowering.proofs.Sound.{gather-append, assign-occurs, declares-occurs, declared-occurs, all-free, gather-zero, keys-free, taken-more, rest-split, rest-free, excluded-free, keysBefore-free, pattern-free, restDeclarator-free, Unmade, unmade-each, one-made, nested-free}
-use Rattle.lowering.proofs.SoundRules.{gather-gather, keys-value, items-free-at, node-free-at, literal-free, function-free, arrow-free, catch-free, declaring-free, assigning-free}
+use Rattle.lowering.proofs.Sound.{assign-occurs, declares-occurs, declared-occurs, all-free, gather-zero, keys-free, taken-more, rest-split, rest-free, excluded-free, keysBefore-free, pattern-free, restDeclarator-free, Unmade, unmade-each, one-made, nested-free}
+use Rattle.lowering.proofs.SoundRules.{keys-value, items-free-at, node-free-at, literal-free, function-free, arrow-free, catch-free, declaring-free, assigning-free}
+use Rattle.lowering.proofs.ItemLaws.{each-append, gather-append, gather-gather}
 
 module _ (a : Name) where
   sequence-occurs : (xs : Items) → occurs a (sequence xs) ≡ occursItems a xs

@@ -16,10 +16,7 @@ use Rattle.lowering.specs.Assignments.{restsThroughObjects}
 use Rattle.lowering.proofs.Clauses.{replaced-array, replaced-default, replaced-leaf}
 use Rattle.lowering.proofs.Cases.{by-test, by-shape}
 use Rattle.lowering.proofs.WeightKeys.{rest-changed}
-
-shape-changed : (i : ℕ) (f : Piece → Piece) (n : Node) → shape (change i f n) ≡ shape n
-unfolding shape change
-shape-changed i f (node at k fs) = refl
+use Rattle.lowering.proofs.ChangeLaws.{shape-changed}
 
 -- a function that finds nothing in what f gives, nor in nothing
 module _ (find : Node → Items) (f : Node → Node) (empty : find nothing ≡ none) (finds : (v : Node) → find (f v) ≡ none) where

@@ -18,8 +18,9 @@ use Rattle.lowering.specs.Rests.{hasNoProperties, isHoisted, mapped, key
 use Rattle.lowering.specs.Weight.{isHead, extra, factor, weight, weightFields, weightItems}
 use Rattle.lowering.proofs.Cases.{by-test, by-key, is-changed}
 use Rattle.lowering.proofs.Weights.{weight-pos, weight-of, node-piece, items-piece}
-use Rattle.lowering.proofs.WeightChange.{gather-light, stands-changed, changeNode-light, changeEach-light, two-light}
+use Rattle.lowering.proofs.WeightChange.{gather-light, changeNode-light, changeEach-light, two-light}
 use Rattle.lowering.proofs.WeightPatterns.{temporary-weight, only-weight, none-weight, node-in, within}
+use Rattle.lowering.proofs.ChangeLaws.{stands-changed, stands-dropped}
 
 -- ---- keys
 
@@ -28,14 +29,6 @@ unfolding weight extra factor isHead
 string-weight bs = refl
 
 -- ---- a pattern whose rest is taken
-
-stands-dropped : (fs : Fields) (i : ℕ) → standsIn (dropIn fs i) i ≡ false
-unfolding standsIn dropIn
-stands-dropped done i = refl
-stands-dropped (absent fs) zero = refl
-stands-dropped (absent fs) (suc i) = stands-dropped fs i
-stands-dropped (field p fs) zero = refl
-stands-dropped (field p fs) (suc i) = stands-dropped fs i
 
 fields-dropped : (fs : Fields) (i : ℕ) → weightFields (dropIn fs i) ≤ weightFields fs
 unfolding dropIn weight

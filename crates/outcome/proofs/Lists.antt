@@ -28,6 +28,7 @@ use Rattle.outcome.proofs.Kept.{Walks, WalksFields, WalksPiece, WalksIt
 use Rattle.outcome.proofs.Listed.{list-append, keys-append, entries-append, declarators-append, over-append, hands}
 use Rattle.outcome.proofs.Handed.{Hands, Declares, Valued, Full, handed-listed, excluded-listed, excluded-counted}
 use Rattle.outcome.proofs.Numbers.{bytes, bytes-append, bytes-plains, encode-items}
+use Rattle.lowering.proofs.ItemLaws.{count-append}
 
 -- ---- the parts of a note that say nothing of a list
 
@@ -177,12 +178,6 @@ unfolding tokens _+++_
 tokens-append Items.none js = refl
 tokens-append (Items.hole is) js = ap (λ (x : List (Token Name)). plain 0 ∷ x) (tokens-append is js)
 tokens-append (Items.item n is) js = ap (λ (x : List (Token Name)). tokens n ++ x) (tokens-append is js) ∙ sym (append-assoc (tokens n) (tokensItems is) (tokensItems js))
-
-count-append : (is js : Items) → count (is +++ js) ≡ count is + count js
-unfolding count _+++_
-count-append Items.none js = omega arith
-count-append (Items.hole is) js = let h = count-append is js in omega arith
-count-append (Items.item n is) js = let h = count-append is js in omega arith
 
 entries-split : (v : Visit) (vs : List Visit) → entries (v ∷ vs) ≡ entryAt v ++ entries vs
 unfolding entries over

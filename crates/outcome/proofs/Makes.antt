@@ -19,7 +19,6 @@ use Rattle.lowering.specs.Heads.{movedFrom, references, functionMakes, arrowMak
 use Rattle.lowering.specs.Walk.{Note, ruleOf, rewrite, stepDeclaration, stepTop, stepAssignment, stepFor}
 use Rattle.lowering.specs.Collect.{Name, nameOf, same}
 use Rattle.lowering.proofs.Cases.{by-test, by-key, by-rule}
-use Rattle.lowering.proofs.Made.{each-append}
 use Rattle.lowering.proofs.Appearance.{same-is}
 use Rattle.sink.specs.Shown.{Named, namesAfter, renamed, madeBy, madeIn}
 use Rattle.direct.specs.Events.{cellOf}
@@ -27,6 +26,7 @@ use Rattle.outcome.specs.Named
 use Rattle.outcome.specs.Named.{Act, lists, excludes, handed, entered, handsOut, after}
 use Rattle.outcome.proofs.Tokens.{after-append}
 use Rattle.outcome.proofs.Listed.{made-append}
+use Rattle.lowering.proofs.ItemLaws.{items-none, each-append}
 
 -- ---- the temporaries in the order in which they are made
 
@@ -354,12 +354,6 @@ hole-names : (ts : Items) → namesIn ts ≡ namesIn (hole ts)
 unfolding namesIn
 hole-names ts = refl
 
-right-none : (ts : Items) → ts +++ none ≡ ts
-unfolding _+++_
-right-none none = refl
-right-none (hole ts) = ap hole (right-none ts)
-right-none (item t ts) = ap (item t) (right-none ts)
-
 handed-does : (ds : Items) → Does (handed ds) (each idOf ds)
 unfolding handed each _+++_
 handed-does none = nothing-does
@@ -393,7 +387,7 @@ hands-do m note =
     (excluded-do (note .excluded))
   where
     go : (b : Bool) → Does (cond b (Named.made (note .made)) [] ++ cond b [] (Named.entry m (count (note .entry)) ∷ handed (note .entry))) (cond b (others (note .made)) (each idOf (note .entry)))
-    go true = subst (λ (x : Items). Does (Named.made (note .made) ++ []) x) (right-none (others (note .made))) (both-do (Named.made (note .made)) [] (others (note .made)) none (made-does (note .made)) nothing-does)
+    go true = subst (λ (x : Items). Does (Named.made (note .made) ++ []) x) (items-none (others (note .made))) (both-do (Named.made (note .made)) [] (others (note .made)) none (made-does (note .made)) nothing-does)
     go false = entry-does m (count (note .entry)) (handed (note .entry)) (each idOf (note .entry)) (handed-does (note .entry))
 
 pub hands-names : (m : ℕ) (note : Note) (names : ℕ → Name) → after names (handsOut m note) ≡ assigned names (makes note)

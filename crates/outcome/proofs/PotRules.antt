@@ -26,16 +26,17 @@ use Rattle.lowering.specs.Walk.Rule.{literals, declarations, assignments, funct
 use Rattle.lowering.proofs.All.{AllItems, AllPiece, AllFields, Each, all-append, all-gather, all-each, weaker-items, other-changed}
 use Rattle.lowering.proofs.Cases.{by-test, by-shape, by-key, by-rule, and-left, and-right, and-none, object-is, array-is, default-is, is-changed, functionBody-is, block-is}
 use Rattle.lowering.proofs.Sites.{here, hereItems}
-use Rattle.lowering.proofs.Made.{each-append}
 use Rattle.lowering.proofs.Clauses.{objects-object, objects-array, objects-default}
 use Rattle.direct.specs.Events.{cell, cellOf}
 use Rattle.outcome.proofs.Makes.{number, number-append, number-none, inCell}
 use Rattle.outcome.proofs.Good.{NoParts, Leaf, NotDefault, Good, GoodItems, GoodObject, to-all, node-good, items-good, properties-35, rest-leaf, first-simple, values-good, rests-good, movedOut-view}
 use Rattle.outcome.proofs.GoodRules.{below-good}
 use Rattle.outcome.proofs.Scope.{IsNamed}
-use Rattle.outcome.proofs.Stays.{stands-changed, values-rest, objects-top, below-object, below-leaf, leaf-34}
+use Rattle.outcome.proofs.Stays.{values-rest, objects-top, below-object, below-leaf, leaf-34}
 use Rattle.outcome.proofs.Potential.{isPattern, gone, slot, slotMoved, slotValue, slotTop, slots, slotValues, odds, head, heads, headCatch, headFor, aliens, resting, declaring, own, pot, potFields, potPiece, potItems, inner, pot-34, pot-14, pot-17, pot-10, pot-7, pot-8, pot-27, pot-5, pot-4, inner-in, piece-in, two-pieces, as-node, as-items, node-in, items-in, node-and-node, items-and-node, pot-append, only-pot, none-pot, nothing-pot, temporary-pot, each-item, node-exchange, items-exchange, node-exchange-in}
 use Rattle.outcome.proofs.PotViews.{items-changed, node-changed, node-changed-in, gone-in, slot-nothing, slot-temporary, slot-changed, slot-34, whole, wholes, wholes-append, nil, nil-sum, nil-is, wholes-sum, object-sum, objects-sum, targets-sum, taken-sum, taken-none, excludedKeys-pot, restings, restings-append, restings-none, only-restings, none-wholes, only-wholes, rests-left, rests-pot, rests-beside, Beside, moves, moves-append, moves-none, moved-sum}
+use Rattle.lowering.proofs.ItemLaws.{each-append}
+use Rattle.lowering.proofs.ChangeLaws.{stands-changed}
 
 -- ---- what is made in a cell
 

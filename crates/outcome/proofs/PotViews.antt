@@ -20,28 +20,19 @@ use Rattle.lowering.proofs.All.{AllItems, all-append, weaker-items, other-chang
 use Rattle.lowering.proofs.Cases.{by-test, by-shape, by-key, object-is, array-is, default-is, is-changed}
 use Rattle.lowering.proofs.Sites.{here, hereItems}
 use Rattle.lowering.proofs.Clauses.{objects-object, objects-array, objects-default}
-use Rattle.lowering.proofs.Occurs.{position-kept}
 use Rattle.outcome.proofs.Good.{Leaf, Is35, Good, GoodItems, to-all, node-good, items-good, properties-35, replaced-view}
 use Rattle.outcome.proofs.Stays.{values-rest, objects-zero, objects-leaf}
 use Rattle.outcome.proofs.Potential.{gone, slot, slotMoved, slots, slotValues, odd, odds, resting, own, pot, potItems, pot-34, pot-35, pot-36, pot-37, inner-in, node-in, items-in, node-and-node, items-and-node, pot-append, only-pot, none-pot, temporary-pot, node-exchange, items-exchange, drop-exchange, odds-append, odds-none, only-odds, moved-less}
+use Rattle.lowering.proofs.ChangeLaws.{position-changed, each-on}
 
 -- ---- accessors of changed nodes
-
-items-changed-piece : (f : Node → Node) (p : Piece) → asItems (onItems (each f) p) ≡ each f (asItems p)
-unfolding onItems each
-items-changed-piece f (Piece.one n) = refl
-items-changed-piece f (Piece.list is) = refl
-items-changed-piece f (Piece.text bs) = refl
-items-changed-piece f (Piece.byte b) = refl
-items-changed-piece f (Piece.mark b) = refl
-items-changed-piece f (Piece.number b) = refl
 
 items-changed-in : (f : Node → Node) (fs : Fields) (i : ℕ) → asItems (pieceIn (changeIn fs i (onItems (each f))) i) ≡ each f (asItems (pieceIn fs i))
 unfolding changeIn pieceIn each
 items-changed-in f Fields.done i = refl
 items-changed-in f (Fields.absent fs) zero = refl
 items-changed-in f (Fields.absent fs) (suc i) = items-changed-in f fs i
-items-changed-in f (Fields.field p fs) zero = items-changed-piece f p
+items-changed-in f (Fields.field p fs) zero = each-on f p
 items-changed-in f (Fields.field p fs) (suc i) = items-changed-in f fs i
 
 pub items-changed : (i : ℕ) (f : Node → Node) (n : Node) → itemsAt i (changeItems i (each f) n) ≡ each f (itemsAt i n)
@@ -285,8 +276,8 @@ module _ (x : ℕ) where
         let a = pot-34 x p e in
         let b = pot-34 x p′ (is-changed 0 (onItems (each F)) p 34 ∙ e) in
         let i = ap (slotValues x) (items-changed 0 F p) in
-        let r = resting-same (position p′) (position p) (stands 1 p′) (stands 1 p) (itemsAt 0 p′) (itemsAt 0 p) (position-kept 0 (onItems (each F)) p) (values-rest f p)
-        (ap (hereItems x) (items-changed 0 F p) ∙ here-each F (λ q. position-kept 1 (onNode f) q) (itemsAt 0 p)) in
+        let r = resting-same (position p′) (position p) (stands 1 p′) (stands 1 p) (itemsAt 0 p′) (itemsAt 0 p) (position-changed 0 (onItems (each F)) p) (values-rest f p)
+        (ap (hereItems x) (items-changed 0 F p) ∙ here-each F (λ q. position-changed 1 (onNode f) q) (itemsAt 0 p)) in
         let t = items-exchange x 0 (each F) p in
         omega arith
 
@@ -311,7 +302,7 @@ module _ (x : ℕ) where
         let b = pot-37 x p′ (is-changed 0 (onNode f) p 37 ∙ e) in
         let n = node-changed (slot x) slot-nothing 0 f p in
         let t = node-exchange x 0 f p in
-        let c = ap (λ (m : ℕ). cond (gone (nodeAt 0 p′)) 0 (here x m)) (position-kept 0 (onNode f) p) in
+        let c = ap (λ (m : ℕ). cond (gone (nodeAt 0 p′)) 0 (here x m)) (position-changed 0 (onNode f) p) in
         let d = left-less (here x (position p)) (gone (nodeAt 0 p)) (gone (nodeAt 0 p′)) (λ z. stays-gone f v 0 p z) in
         omega arith
 
@@ -599,8 +590,8 @@ module _ (x : ℕ) where
         let a = restings-append inside (only p) in
         let o = only-restings p in
         let m = taken-sum p′ e′ (subst (AllItems Is35) (sym (items-changed 0 (λ q. changeNode 1 f q) p)) (values-properties f (properties p) (properties-35 p (object-is p e) g))) (values-rest f p ∙ r) in
-        let q = resting-same (position p′) (position p) true true (properties p′) (properties p) (position-kept 0 (onItems (each (λ m. changeNode 1 f m))) p) refl
-        (ap (hereItems x) (items-changed 0 (λ m. changeNode 1 f m) p) ∙ here-each (λ m. changeNode 1 f m) (λ m. position-kept 1 (onNode f) m) (itemsAt 0 p)) in
+        let q = resting-same (position p′) (position p) true true (properties p′) (properties p) (position-changed 0 (onItems (each (λ m. changeNode 1 f m))) p) refl
+        (ap (hereItems x) (items-changed 0 (λ m. changeNode 1 f m) p) ∙ here-each (λ m. changeNode 1 f m) (λ m. position-changed 1 (onNode f) m) (itemsAt 0 p)) in
         omega arith)
         (λ r.
         let i′ : restings (restsThroughObjects (suc d) p) ≡ restings (inside +++ Items.none) = rw r at i in

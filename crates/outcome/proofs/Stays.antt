@@ -11,7 +11,7 @@ use lib.Dec.{eqb}
 use borrow.Author.Tests.{not-true}
 use Rattle.tree.specs.Tree.{Node, Fields, Piece, Items, depth, depthFields}
 use Rattle.tree.specs.Tree.Node.{node}
-use Rattle.lowering.specs.Parts.{nothing, position, kind, asItems, is, nodeAt, itemsAt, pieceIn, standsIn, stands, changeIn, change, onItems, changeNode, changeItems, isEmpty, only, each, gather, any, _+++_}
+use Rattle.lowering.specs.Parts.{nothing, position, kind, asItems, is, nodeAt, itemsAt, pieceIn, stands, changeIn, change, onItems, changeNode, changeItems, isEmpty, only, each, gather, any, _+++_}
 use Rattle.lowering.specs.Made.{Context, temporary, reference, valueOf, keyOf, excludedOf, helper, call, K, array, member, assign, declares, declared, idOf}
 use Rattle.lowering.specs.Patterns.{shape, properties, itemsOf, rest, hasRest, leftOf, key, value, withValues, hasNestedObjectRest, hasNestedArrayRest, hasObjectRest, hasArrayRestOverObjectRest, replaced, objectsWithRest, replacedBelow, objectsBelow}
 use Rattle.lowering.specs.Patterns.Shape.{objectPattern, arrayPattern, default, leaf}
@@ -29,11 +29,12 @@ use Rattle.lowering.proofs.Cases.{by-test, by-shape, by-key, by-rule, and-left,
 use Rattle.lowering.proofs.Falls.{walked-is}
 use Rattle.lowering.proofs.Levels.{items-depth, gather-agrees, values-agree, objects-levels, replaced-levels, objects-nothing}
 use Rattle.lowering.proofs.Levels.{node-in as levels-node-in}
-use Rattle.lowering.proofs.Made.{times, times-append, each-append}
+use Rattle.lowering.proofs.Made.{times, times-append}
 use Rattle.lowering.proofs.Occurs.{occurs, occursFields, occursPiece, occursItems}
 use Rattle.lowering.proofs.Clauses.{objects-object, objects-array, objects-default}
-use Rattle.lowering.proofs.Names.{append-assoc}
 use Rattle.outcome.proofs.Good.{Leaf, NotDefault, first-simple, Good, GoodObject, rest-leaf, node-good, items-good, to-all, rests-good}
+use Rattle.lowering.proofs.ItemLaws.{each-append, gather-none, gather-append}
+use Rattle.lowering.proofs.ChangeLaws.{stands-changed}
 
 -- ---- no refusal anywhere
 
@@ -240,27 +241,6 @@ top-some P c p r t z f =
     (subst (λ (x : Node). P (assign (valueOf c (target (assign p r))) x)) (sym (assigned-of p r)) (f (valueOf c (target (assign p r))) (temporary-leaf (c .path) 3 (position (target (assign p r)))))))
 
 -- ---- objects with rest
-
-gather-append : (f : Node → Items) (is js : Items) → gather f (is +++ js) ≡ gather f is +++ gather f js
-unfolding gather _+++_
-gather-append f Items.none js = refl
-gather-append f (Items.hole is) js = gather-append f is js
-gather-append f (Items.item n is) js = ap (λ (x : Items). f n +++ x) (gather-append f is js) ∙ sym (append-assoc (f n) (gather f is) (gather f js))
-
-gather-none : (f : Node → Items) → gather f Items.none ≡ Items.none
-unfolding gather
-gather-none f = refl
-
-pub stands-changed : (fs : Fields) (i : ℕ) (g : Piece → Piece) (j : ℕ) → standsIn (changeIn fs i g) j ≡ standsIn fs j
-unfolding standsIn changeIn
-stands-changed Fields.done i g j = refl
-stands-changed (Fields.absent fs) zero g j = refl
-stands-changed (Fields.absent fs) (suc i) g zero = refl
-stands-changed (Fields.absent fs) (suc i) g (suc j) = stands-changed fs i g j
-stands-changed (Fields.field p fs) zero g zero = refl
-stands-changed (Fields.field p fs) zero g (suc j) = refl
-stands-changed (Fields.field p fs) (suc i) g zero = refl
-stands-changed (Fields.field p fs) (suc i) g (suc j) = stands-changed fs i g j
 
 pub values-rest : (f : Node → Node) (p : Node) → hasRest (withValues f p) ≡ hasRest p
 unfolding stands change

@@ -22,7 +22,7 @@ use Rattle.lowering.proofs.Notes.{AllNotes}
 use Rattle.lowering.proofs.Cases.{by-test}
 use Rattle.lowering.proofs.Weights.{weight-pos}
 use Rattle.lowering.proofs.Falls.{falls, walked-is}
-use Rattle.lowering.proofs.Made.{times, times-append, each-append}
+use Rattle.lowering.proofs.Made.{times, times-append}
 use Rattle.lowering.proofs.Appearance.{same-is}
 use Rattle.lowering.proofs.Occurs.{occurs, occursFields, occursPiece, occursItems}
 use Rattle.sink.specs.Shown.{Token}
@@ -38,6 +38,7 @@ use Rattle.outcome.proofs.Numbers.{Every, every-append, In, in-left, in
 use Rattle.outcome.proofs.Nodes.{names-joined, plains-names}
 use Rattle.outcome.proofs.Lists.{machineEntry}
 use Rattle.outcome.proofs.Stays.{Calm, CalmFields, CalmPiece, CalmItems, stays-result, rewrite-used}
+use Rattle.lowering.proofs.ItemLaws.{each-append}
 
 sum-some : (s t : ℕ) → 0 < s + t → (0 < s) ⊎ (0 < t)
 sum-some zero t h = inr (omega arith)

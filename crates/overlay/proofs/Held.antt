@@ -60,17 +60,6 @@ isAtom k = eqb k 13 || (eqb k 18 || eqb k 20)
 no-stand : {A : Type 0} → false ≡ true → A
 no-stand e = differ (sym e)
 
-pub stands-changed : (fs : Fields) (i : ℕ) (f : Piece → Piece) (j : ℕ) → standsIn (changeIn fs i f) j ≡ standsIn fs j
-unfolding standsIn changeIn
-stands-changed done i f j = refl
-stands-changed (absent fs) zero f j = refl
-stands-changed (absent fs) (suc i) f zero = refl
-stands-changed (absent fs) (suc i) f (suc j) = stands-changed fs i f j
-stands-changed (field p fs) zero f zero = refl
-stands-changed (field p fs) zero f (suc j) = refl
-stands-changed (field p fs) (suc i) f zero = refl
-stands-changed (field p fs) (suc i) f (suc j) = stands-changed fs i f j
-
 module _ (wanted : Node → Bool) where
   unfoldable mutual
     pub held : Node → ℕ

@@ -23,7 +23,8 @@ use Rattle.lowering.specs.Assignments.{restsThroughObjects, withoutRests}
 use Rattle.lowering.specs.Heads.{moved, movedPattern, movedOut}
 use Rattle.lowering.proofs.All.{other-changed}
 use Rattle.overlay.proofs.Objects.{by-test, and-right, differ}
-use Rattle.overlay.proofs.Held.{isAtom, hasBody, held, heldAll, heldPiece, heldItems, heldParts, heldPattern, heldDeclarator, at-34, at-37, declarator-held, held-append, change-less, node-most, only-held, two-all, stands-changed}
+use Rattle.overlay.proofs.Held.{isAtom, hasBody, held, heldAll, heldPiece, heldItems, heldParts, heldPattern, heldDeclarator, at-34, at-37, declarator-held, held-append, change-less, node-most, only-held, two-all}
+use Rattle.lowering.proofs.ChangeLaws.{stands-changed}
 
 -- ---- patterns by kind
 

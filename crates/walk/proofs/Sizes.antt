@@ -24,14 +24,15 @@ use Rattle.direct.specs.Views.View.{replacing, leaving}
 use Rattle.direct.specs.Objects.{objectsIn}
 use Rattle.direct.specs.Handed.{placesIn}
 use Rattle.direct.specs.Counts.{restsCount}
-use Rattle.direct.proofs.Lists.{gather-same, gather-each}
 use Rattle.direct.proofs.Objects.{value-changed, value-kept}
 use Rattle.direct.proofs.Declared.{properties-changed}
-use Rattle.direct.proofs.Targets.{shape-changed, shape-taken, items-left, left-object, left-array, left-default, left-leaf, left-nothing, left-changed}
+use Rattle.direct.proofs.Targets.{shape-taken, items-left, left-object, left-array, left-default, left-leaf, left-nothing, left-changed}
 use Rattle.pattern.specs.Objects.{throughObjects}
 use Rattle.pattern.proofs.Below.{by-shape}
 use Rattle.pattern.proofs.KeyCases.{by-sort, count-append}
 use Rattle.walk.specs.Turns.{viewOf}
+use Rattle.lowering.proofs.ItemLaws.{gather-same, gather-each}
+use Rattle.lowering.proofs.ChangeLaws.{shape-changed}
 
 -- ---- parts have no more bytes than the whole
 
