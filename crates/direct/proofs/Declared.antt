@@ -3,7 +3,7 @@
 use mathlib.Core.Path.{_≡_, refl, sym, ap, ap₂, _∙_}
 use mathlib.Core.Bool.{Bool, true, false, cond}
 use mathlib.Core.List.{[], _∷_, _++_}
-use Prim.Native.Nat.{ℕ, zero, suc, _+_, _≤_, max}
+use Prim.Native.Nat.{ℕ, _+_, _≤_, max}
 use native.Mathlib.Omega.{arith}
 use Rattle.tree.specs.Tree.{Node, Fields, Piece, Items, wideBytes, count, depth, depthFields, depthItems}
 use Rattle.tree.specs.Tree.Node.{node}
@@ -17,8 +17,8 @@ use Rattle.lowering.specs.Keys.{keyTemporary, keyTemporaries, taken}
 use Rattle.lowering.specs.Rests.{restValue}
 use Rattle.lowering.specs.Declarations.{isName, source, sourceDeclarator, keysBefore, patternDeclarator, restDeclarator, own, nested, nestedBelow, objectDeclarators, patternDeclarators, lowerDeclarator, isLowered, declarators, declaration, declarationMakes, declarationExcludes, declarationLacksForm}
 use Rattle.lowering.specs.Walk.{rewrite, refuse, stepDeclaration}
-use Rattle.lowering.proofs.Cases.{by-test, by-shape, object-is}
-use Rattle.lowering.proofs.Levels.{gather-agrees, node-in, values-agree, replaced-levels, nested-levels}
+use Rattle.lowering.proofs.Cases.{by-test, by-shape, object-is, rule-4}
+use Rattle.lowering.proofs.Levels.{gather-agrees, node-in, values-agree, replaced-levels, nested-levels, nested-nothing}
 use Rattle.lowering.proofs.WeightKeys.{rest-changed}
 use Rattle.direct.specs.Events.{Place, Emit, puts, marks, refused, contextOf, emits}
 use Rattle.direct.specs.Emit.{say, _▷_, inner, emitsItems, stays, inTurn}
@@ -30,7 +30,6 @@ use Rattle.direct.specs.Declared.{declarationAt, emitsKeyValue, emitsOwn
 use Rattle.direct.proofs.Threads.{then-assoc, say-nothing}
 use Rattle.direct.proofs.Alike.{key-kept}
 use Rattle.direct.proofs.Stays.{emits-as, emits-refused}
-use Rattle.direct.proofs.Kept.{rule-4}
 use Rattle.direct.proofs.Makes.{only-item, no-items, emits-declares, stays-declaration}
 use Rattle.direct.proofs.Items.{turn-same, items-append, items-gather}
 use Rattle.direct.proofs.PatternViews.{emits-viewed, says-cell}
@@ -53,7 +52,7 @@ rest-beside f (node at k done) = refl
 rest-beside f (node at k (absent fs)) = refl
 rest-beside f (node at k (field p fs)) = refl
 
-inner-inner : (c : Place) → inner (inner c) ≡ inner c
+pub inner-inner : (c : Place) → inner (inner c) ≡ inner c
 unfolding inner
 inner-inner c = refl
 
@@ -142,11 +141,6 @@ module _ (c : Place) where
       go false =
           declares-done (viewed κ taking p) s
           ∙ ap (λ (e : Emit). say (puts (5 ∷ 3 ∷ [])) ▷ e ▷ emits (inner c) s) (emits-viewed (inner c) κ taking p)
-
-nested-nothing : (κ : Context) (d : ℕ) → nested κ d nothing ≡ Items.none
-unfolding nested shape
-nested-nothing κ zero = refl
-nested-nothing κ (suc d) = refl
 
 -- ---- what is found below a pattern, as lists
 

@@ -11,7 +11,7 @@ use native.Mathlib.Omega.{arith}
 use native.Mathlib.Decide.{decLt}
 use lib.Dec.{eqb, ltb}
 use lib.ListN.{getD}
-use borrow.Author.Tests.{eqb-true, lt-ltb, le-ltb}
+use borrow.Author.Tests.{eqb-true, le-ltb}
 use Rattle.tree.specs.Tree.{Node, Fields, Piece, Items, mapOf}
 use Rattle.tree.specs.Tree.Node.{node}
 use Rattle.tree.specs.Grammar.{Sort, Field, places, allowed, kindOf, formIn, formAt, fieldsOf, kinds, variants}
@@ -28,6 +28,7 @@ use Rattle.direct.specs.Events.{Place, Emit, puts, emits}
 use Rattle.direct.specs.Emit.{say, _▷_, below, emitsPiece, emitsFields, stays}
 use Rattle.direct.proofs.Stays.{emits-nowhere}
 use Rattle.direct.specs.Moved.{given, forFields, declarationFields}
+use Rattle.lowering.proofs.Accepted.{early}
 
 -- ---- forms
 
@@ -42,10 +43,6 @@ late-kind (suc (suc (suc zero))) k e a b = absurd (omega arith)
 late-kind (suc (suc (suc (suc zero)))) k e a b = absurd (omega arith)
 late-kind (suc (suc (suc (suc (suc zero))))) k e a b = absurd (omega arith)
 late-kind (suc (suc (suc (suc (suc (suc i)))))) k e a b = absurd (omega arith)
-
-early : (f : ℕ) → f < 64 → kindOf f ≡ f
-unfolding kindOf
-early f h = rw (lt-ltb f 64 h)
 
 lately : (f : ℕ) → 64 ≤ f → kindOf f ≡ late (f - 64)
 unfolding kindOf

@@ -1,7 +1,7 @@
 -- The assignment of an object with rest that has been replaced: its rest is its own alone.
 -- Assumes nothing.
 use mathlib.Core.Path.{_≡_, refl, sym, ap, ap₂, _∙_, fun-ext}
-use mathlib.Core.Bool.{Bool, true, false, cond, _||_}
+use mathlib.Core.Bool.{Bool, true, false, cond, _||_, or-false}
 use mathlib.Core.List.{[], _∷_, _++_}
 use Prim.Native.Nat.{ℕ, suc, _+_, _≤_}
 use native.Mathlib.Omega.{arith}
@@ -55,10 +55,6 @@ none-gathered (Items.item n is) = none-gathered is
 only-left : (n : Node) → Items.none +++ only n ≡ only n
 unfolding _+++_
 only-left n = refl
-
-or-none : (a : Bool) → a || false ≡ a
-or-none true = refl
-or-none false = refl
 
 key-counted : (b : Bool) (n : Node) (is : Items) → count (cond b (only n) Items.none +++ is) ≡ cond b (suc (count is)) (count is)
 unfolding count _+++_
@@ -230,7 +226,7 @@ module _ (at : ℕ) (ps : Items) (r : Node) where
   unfolding topLacksForm nodeAt pieceIn any
   top-lacks x =
       ap (any (λ p. anyLacksForm p)) inner-rests
-      ∙ or-none (anyLacksForm (innerAt at ps r))
+      ∙ or-false (anyLacksForm (innerAt at ps r))
       ∙ lacks-kept (λ v. replacedBelow nameless v) at ps r
 
   -- a key without form

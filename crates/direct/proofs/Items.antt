@@ -1,7 +1,7 @@
 -- Lists one after another.
 -- Assumes nothing.
 use mathlib.Core.Path.{_≡_, refl, sym, ap, ap₂, _∙_}
-use mathlib.Core.Bool.{Bool, true, false, _||_}
+use mathlib.Core.Bool.{Bool}
 use mathlib.Core.List.{[], _∷_}
 use Prim.Native.Nat.{_+_}
 use Rattle.tree.specs.Tree.{Node, Items}
@@ -47,10 +47,6 @@ unfolding inTurn
 turn-same f g h Items.none = refl
 turn-same f g h (Items.hole ns) = turn-same f g h ns
 turn-same f g h (Items.item n ns) = ap₂ (λ (x y : Emit). x ▷ y) (h n) (turn-same f g h ns)
-
-or-assoc : (a b c : Bool) → (a || b) || c ≡ a || (b || c)
-or-assoc true b c = refl
-or-assoc false b c = refl
 
 pub holes-append : (ns ms : Items) → NoHoles ns → NoHoles ms → NoHoles (ns +++ ms)
 unfolding NoHoles _+++_

@@ -1,7 +1,7 @@
 -- The nodes that the rules make, by their bytes and their parts.
 -- Assumes nothing.
 use mathlib.Core.Path.{_≡_, refl, sym, ap, _∙_}
-use mathlib.Core.Bool.{Bool, true, false, _||_, _&&_, not}
+use mathlib.Core.Bool.{Bool, true, false, _||_, _&&_, not, and-true, and-false}
 use mathlib.Core.List.{List, [], _∷_, _++_}
 use Prim.Native.Nat.{ℕ}
 use lib.ListN.{length}
@@ -29,14 +29,6 @@ pub say-then : (ds es : List Deed) (e : Emit) → say ds ▷ say es ▷ e ≡ sa
 say-then ds es e = sym (then-assoc (say ds) (say es) e) ∙ ap (λ (x : Emit). x ▷ e) (say-say ds es)
 
 -- ---- the places of parts
-
-and-true : (b : Bool) → b && true ≡ b
-and-true true = refl
-and-true false = refl
-
-and-false : (b : Bool) → b && false ≡ false
-and-false true = refl
-and-false false = refl
 
 place-is : (c : Place) (a b : Bool) → c .root && not a ≡ b → (s t : Bool) → s ≡ t
     → _≡_ {A = Place} (record { root = c .root && not a; statement = s; mark = c .mark }) (record { root = b; statement = t; mark = c .mark })

@@ -3,17 +3,17 @@
 use mathlib.Core.Path.{_≡_, refl, ap, ap₂, _∙_}
 use mathlib.Core.Bool.{Bool, true, false, cond}
 use mathlib.Core.List.{List, [], _∷_, _++_, append-nil}
-use Prim.Native.Nat.{ℕ, zero, suc, _+_, _≤_}
+use Prim.Native.Nat.{ℕ, _+_, _≤_}
 use native.Mathlib.Omega.{arith}
 use Rattle.tree.specs.Tree.{Node, Fields, Piece, Items, depth, depthFields, depthItems}
 use Rattle.tree.specs.Tree.Node.{node}
-use Rattle.lowering.specs.Parts.{nothing, position, pieceIn, nodeAt, itemsAt, numberAt, stands, isEmpty, only, each, gather, _+++_}
+use Rattle.lowering.specs.Parts.{position, pieceIn, nodeAt, itemsAt, numberAt, stands, isEmpty, only, each, gather, _+++_}
 use Rattle.lowering.specs.Made.{Context, reference}
 use Rattle.lowering.specs.Patterns.{shape, hasObjectRest}
 use Rattle.lowering.specs.Patterns.Shape.{objectPattern, default, leaf}
 use Rattle.lowering.specs.Heads.{moved, isMoved, movedFrom, references, functionMakes, arrowMakes, catchMakes, declaringMakes, assigningMakes}
 use Rattle.lowering.specs.Walk.{rewritten}
-use Rattle.lowering.proofs.Levels.{moved-levels, gather-agrees}
+use Rattle.lowering.proofs.Levels.{moved-levels, gather-agrees, moved-nothing}
 use Rattle.sink.specs.Machine.{Event}
 use Rattle.direct.specs.Events.{Deed, cell, cellOf, made, refused, entered, excludedKeys, handsOut}
 use Rattle.direct.specs.Events.Deed.{does}
@@ -53,11 +53,6 @@ moved-leaf (node at k fs) e = rw (e, moved) refl
 gather-levels : (d : ℕ) (is : Items) → depthItems is ≤ d → gather (λ e. moved d e) is ≡ gather movedIn is
 unfolding movedIn
 gather-levels d ns h = gather-agrees (λ e. moved d e) movedIn d (λ e l. moved-levels d e l) ns h
-
-moved-nothing : (d : ℕ) → moved d nothing ≡ Items.none
-unfolding moved shape
-moved-nothing zero = refl
-moved-nothing (suc d) = refl
 
 pub moved-array-rest : (at : ℕ) (is : Items) (r : Node)
     → movedIn (node at 36 (Fields.field (Piece.list is) (Fields.field (Piece.one r) Fields.done))) ≡ gather movedIn is +++ movedIn r

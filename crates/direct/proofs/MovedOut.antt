@@ -43,10 +43,6 @@ behind-here c =
 
 -- ---- shapes by kind
 
-pub shape-34 : (p : Node) → is 34 p ≡ true → shape p ≡ objectPattern
-unfolding is shape
-shape-34 p e = rw e refl
-
 pub shape-37 : (p : Node) → is 37 p ≡ true → shape p ≡ default
 unfolding is shape
 shape-37 (node at k fs) e = rw (eqb-true k 37 e) refl

@@ -16,7 +16,7 @@ use Rattle.lowering.specs.Patterns.Shape.{objectPattern, arrayPattern, default,
 use Rattle.lowering.specs.Keys.{keptKey, taken}
 use Rattle.lowering.specs.Declarations.{innerObjects}
 use Rattle.lowering.specs.Assignments.{restsThroughObjects, withoutRests}
-use Rattle.lowering.proofs.Levels.{gather-agrees, node-in, values-agree, objects-nothing, replaced-levels, objects-levels, rests-levels}
+use Rattle.lowering.proofs.Levels.{gather-agrees, node-in, values-agree, objects-nothing, replaced-levels, objects-levels, rests-levels, rests-nothing, below-leaf}
 use Rattle.direct.specs.Events.{Emit}
 use Rattle.direct.specs.Emit.{say, _▷_, inTurn}
 use Rattle.direct.specs.Views.{View, valuesOf, takes, objectAt, objectRestAt, withoutRestsBelow, nameless, isOther}
@@ -47,11 +47,6 @@ unfolding nodeAt change changeIn pieceIn
 value-beside f (node at k done) = refl
 value-beside f (node at k (absent fs)) = refl
 value-beside f (node at k (field p fs)) = refl
-
-rests-nothing : (d : ℕ) → restsThroughObjects d nothing ≡ Items.none
-unfolding restsThroughObjects shape
-rests-nothing zero = refl
-rests-nothing (suc d) = refl
 
 module _ (κ : Context) where
   pub without-nothing : withoutRestsBelow κ nothing ≡ nothing
@@ -97,10 +92,6 @@ module _ (κ : Context) where
   found-default : (at : ℕ) (l : Node) (fs : Fields) → objectsBelow κ (node at 37 (field (one l) fs)) ≡ objectsBelow κ l
   unfolding objectsWithRest shape depth nodeAt pieceIn
   found-default at l fs = objects-levels (max (depth l) (depthFields fs)) l (omega arith) κ
-
-  found-leaf : (p : Node) → shape p ≡ leaf → objectsBelow κ p ≡ Items.none
-  unfolding objectsWithRest depth
-  found-leaf (node at k fs) e = rw (e, objectsWithRest) refl
 
   -- the values, when rests are taken
   without-values : (q : Node) → value (changeNode 1 (λ v. withoutRestsBelow κ v) q) ≡ withoutRestsBelow κ (value q)
@@ -152,9 +143,9 @@ module _ (κ : Context) where
 
   pub objects-leaf : (v : View) (p : Node) → shape p ≡ leaf → objectsIn κ v p ≡ Items.none
   unfolding objectsIn innerObjects
-  objects-leaf replacing p e = found-leaf p e
+  objects-leaf replacing p e = below-leaf κ p e
   objects-leaf taking p e = rw (e, innerObjects) refl
-  objects-leaf leaving p e = ap (λ (x : Node). objectsBelow κ x) (without-leaf-at κ p e) ∙ found-leaf p e
+  objects-leaf leaving p e = ap (λ (x : Node). objectsBelow κ x) (without-leaf-at κ p e) ∙ below-leaf κ p e
 
 -- ---- objects that are reached through objects alone
 

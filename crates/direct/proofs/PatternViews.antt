@@ -18,7 +18,7 @@ use Rattle.lowering.specs.Keys.{keySort, keptKey, taken}
 use Rattle.lowering.specs.Assignments.{withoutRests}
 use Rattle.lowering.specs.Walk.{ruleOf, opensScope}
 use Rattle.lowering.specs.Collect.{isContainer}
-use Rattle.lowering.proofs.Cases.{by-test, by-key}
+use Rattle.lowering.proofs.Cases.{by-test, by-key, shape-34}
 use Rattle.lowering.proofs.Levels.{values-agree, replaced-levels, without-levels}
 use Rattle.sink.specs.Machine.{Event}
 use Rattle.direct.specs.Events.{Place, Emit, puts, cell, emits}
@@ -269,10 +269,6 @@ module _ (κ : Context) where
 
 -- ---- the names of temporaries play no part
 
-object-shaped : (p : Node) → is 34 p ≡ true → shape p ≡ objectPattern
-unfolding is shape
-object-shaped p e = rw e refl
-
 module _ (κ μ : Context) where
   pub viewed-alike : (v : View) (p : Node) → Alike false (viewed κ v p) (viewed μ v p)
   unfolding viewed
@@ -280,7 +276,7 @@ module _ (κ μ : Context) where
   viewed-alike taking p =
       by-test (is 34 p)
       (λ e. rw e
-      (taken-alike κ μ (shape-values (λ v. replacedBelow κ v) p ∙ object-shaped p e)
+      (taken-alike κ μ (shape-values (λ v. replacedBelow κ v) p ∙ shape-34 p e)
       (values-alike (λ v. replacedBelow κ v) (λ v. replacedBelow μ v) (λ n m a. replaced-alike κ μ a) (alike-refl p))))
       (λ e. rw e (replaced-alike κ μ (alike-refl p)))
   viewed-alike leaving p = replaced-alike κ μ (withoutRests-alike κ μ (alike-refl p))

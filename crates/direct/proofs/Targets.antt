@@ -8,7 +8,7 @@ use Rattle.tree.specs.Tree.{Node, Fields, Piece, Items, depth}
 use Rattle.tree.specs.Tree.Node.{node}
 use Rattle.tree.specs.Tree.Fields.{done, absent, field}
 use Rattle.tree.specs.Tree.Piece.{one, list, text, byte, mark, number}
-use Rattle.lowering.specs.Parts.{nothing, is, asNode, pieceIn, changeIn, dropIn, nodeAt, itemsAt, isEmpty, change, onNode, onItems, changeNode, changeItems, without, only, each, gather, any, _+++_}
+use Rattle.lowering.specs.Parts.{nothing, is, asNode, pieceIn, changeIn, nodeAt, isEmpty, change, onNode, onItems, changeNode, changeItems, without, only, each, gather, any, _+++_}
 use Rattle.lowering.specs.Made.{Context, reference}
 use Rattle.lowering.specs.Patterns.{shape, properties, itemsOf, rest, hasRest, leftOf, value, withLeft, withItems, withValues, withProperties, hasNestedObjectRest, hasNestedArrayRest, hasObjectRest, hasArrayRestOverObjectRest, replaced, replacedBelow, objectsWithRest, objectsBelow}
 use Rattle.lowering.specs.Patterns.Shape.{objectPattern, arrayPattern, default, leaf}
@@ -24,7 +24,8 @@ use Rattle.direct.proofs.PatternViews.{value-twice}
 use Rattle.direct.proofs.Objects.{value-changed, value-kept}
 use Rattle.direct.proofs.Declared.{properties-changed, rest-beside}
 use Rattle.lowering.proofs.ItemLaws.{each-each, any-none}
-use Rattle.lowering.proofs.ChangeLaws.{shape-changed, changeItems-same, node-on, node-on-twice}
+use Rattle.lowering.proofs.ChangeLaws.{shape-changed, changeItems-same, node-on, node-on-twice, items-without}
+use Rattle.lowering.proofs.Clauses.{objects-object, objects-array, objects-default, objects-leaf, taken-none}
 
 -- ---- lists and fields
 
@@ -92,10 +93,6 @@ pub values-twice : (f g : Node → Node) (p : Node) → withValues f (withValues
 values-twice f g p =
     items-twice (λ q. changeNode 1 f q) (λ q. changeNode 1 g q) p
     ∙ ap (λ (h : Node → Node). changeItems 0 (each h) p) (fun-ext (λ q. value-twice f g q))
-
-taken-none : (κ : Context) (p : Node) → hasRest p ≡ false → taken κ p ≡ p
-unfolding taken
-taken-none κ p e = rw e refl
 
 -- ---- clauses as equations
 
@@ -310,12 +307,6 @@ module _ (κ : Context) where
 
 -- ---- rests taken: what stands below arrays stays
 
-pub items-left : (n : Node) → itemsAt 0 (without 1 n) ≡ itemsAt 0 n
-unfolding itemsAt without dropIn pieceIn
-items-left (node at k done) = refl
-items-left (node at k (absent fs)) = refl
-items-left (node at k (field p fs)) = refl
-
 shape-left : (n : Node) → shape (without 1 n) ≡ shape n
 unfolding shape without
 shape-left (node at k fs) = refl
@@ -331,7 +322,7 @@ module _ (κ : Context) where
   any-taken t p =
       by-test (hasRest p)
       (λ r. rw r
-      (ap (any (λ q. t (value q))) (items-left (withProperties (keptKey κ) p) ∙ properties-changed (keptKey κ) p)
+      (ap (any (λ q. t (value q))) (items-without (withProperties (keptKey κ) p) ∙ properties-changed (keptKey κ) p)
       ∙ any-each (λ q. t (value q)) (keptKey κ) (properties p)
       ∙ ap (λ (g : Node → Bool). any g (properties p)) (fun-ext (λ q. ap t (value-kept κ q)))))
       (λ r. rw r refl)
@@ -399,22 +390,6 @@ module _ (κ : Context) where
   or-false true = refl
   or-false false = refl
 
-  obj-object : (d : ℕ) (p : Node) → shape p ≡ objectPattern → objectsWithRest κ (suc d) p ≡ gather (λ q. objectsWithRest κ d (value q)) (properties p) +++ cond (hasRest p) (only (withValues (λ v. replaced κ d v) p)) Items.none
-  unfolding objectsWithRest
-  obj-object d p e = rw (e, objectsWithRest) refl
-
-  obj-array : (d : ℕ) (p : Node) → shape p ≡ arrayPattern → objectsWithRest κ (suc d) p ≡ gather (λ x. objectsWithRest κ d x) (itemsOf p)
-  unfolding objectsWithRest
-  obj-array d p e = rw (e, objectsWithRest) refl
-
-  obj-default : (d : ℕ) (p : Node) → shape p ≡ default → objectsWithRest κ (suc d) p ≡ objectsWithRest κ d (leftOf p)
-  unfolding objectsWithRest
-  obj-default d p e = rw (e, objectsWithRest) refl
-
-  obj-leaf : (d : ℕ) (p : Node) → shape p ≡ leaf → objectsWithRest κ (suc d) p ≡ Items.none
-  unfolding objectsWithRest
-  obj-leaf d p e = rw (e, objectsWithRest) refl
-
   pub found-iff : (d : ℕ) (p : Node) → hasNestedArrayRest d p ≡ false → isEmpty (objectsWithRest κ d p) ≡ not (hasNestedObjectRest d p)
   unfolding hasNestedObjectRest objectsWithRest isEmpty
   found-iff zero p h = refl
@@ -425,7 +400,7 @@ module _ (κ : Context) where
       by-shape (shape p)
       (λ e.
       let o = withValues (λ v. replaced κ d v) p in
-      ap isEmpty (obj-object d p e)
+      ap isEmpty (objects-object κ d p e)
       ∙ empty-append (gather (λ q. f (value q)) (properties p)) (cond (hasRest p) (only o) Items.none)
       ∙ ap (λ (b : Bool). b && isEmpty (cond (hasRest p) (only o) Items.none))
       (empty-gather (λ q. u (value q)) (λ q. t (value q)) (λ q. f (value q)) (λ q y. found-iff d (value q) y) (properties p) (sym (over-object d p e) ∙ h))
@@ -433,11 +408,11 @@ module _ (κ : Context) where
       ∙ ap not (sym (has-object d p e)))
       (λ e.
       let z = sym (over-array d p e) ∙ h in
-      ap isEmpty (obj-array d p e)
+      ap isEmpty (objects-array κ d p e)
       ∙ empty-gather u t f (λ x y. found-iff d x y) (itemsOf p) (or-left (any u (itemsOf p)) (t (rest p)) z)
       ∙ ap not (or-false (any t (itemsOf p)) ∙ ap (λ (b : Bool). any t (itemsOf p) || b) (sym (or-right (any u (itemsOf p)) (t (rest p)) z)) ∙ sym (has-array d p e)))
-      (λ e. ap isEmpty (obj-default d p e) ∙ found-iff d (leftOf p) (sym (over-default d p e) ∙ h) ∙ ap not (sym (has-default d p e)))
-      (λ e. ap isEmpty (obj-leaf d p e) ∙ ap not (sym (has-leaf d p e)))
+      (λ e. ap isEmpty (objects-default κ d p e) ∙ found-iff d (leftOf p) (sym (over-default d p e) ∙ h) ∙ ap not (sym (has-default d p e)))
+      (λ e. ap isEmpty (objects-leaf κ d p e) ∙ ap not (sym (has-leaf d p e)))
 
   pub found-some : (p : Node) → hasArrayRestOverObjectRest p ≡ false → hasObjectRest p ≡ true → isEmpty (objectsBelow κ p) ≡ false
   found-some p h k = found-iff (depth p) p h ∙ ap not k

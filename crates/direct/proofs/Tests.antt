@@ -1,18 +1,17 @@
 -- Tests and counts over a pattern: one level at a time.
 -- Assumes nothing.
 use mathlib.Core.Path.{_≡_, refl, sym, ap, ap₂, _∙_}
-use mathlib.Core.Bool.{Bool, true, false, _||_}
-use Prim.Native.Nat.{ℕ, zero, suc, _+_, _≤_, max}
+use mathlib.Core.Bool.{Bool, _||_, or-false}
+use Prim.Native.Nat.{ℕ, _+_, _≤_, max}
 use native.Mathlib.Omega.{arith}
 use Rattle.tree.specs.Tree.{Node, Fields, Items, count, depth, depthFields, depthItems}
 use Rattle.tree.specs.Tree.Node.{node}
 use Rattle.tree.specs.Tree.Fields.{field}
 use Rattle.tree.specs.Tree.Piece.{one, list}
 use Rattle.lowering.specs.Parts.{nothing, is, pieceIn, nodeAt, itemsAt, gather, any}
-use Rattle.lowering.specs.Patterns.{shape, value, hasNestedObjectRest, hasNestedArrayRest, hasObjectRest, hasArrayRestOverObjectRest}
-use Rattle.lowering.specs.Patterns.Shape.{leaf}
+use Rattle.lowering.specs.Patterns.{shape, value, hasNestedArrayRest, hasObjectRest, hasArrayRestOverObjectRest}
 use Rattle.lowering.specs.Assignments.{topLacksForm}
-use Rattle.lowering.proofs.Levels.{node-in, has-levels, array-levels}
+use Rattle.lowering.proofs.Levels.{node-in, has-levels, array-levels, has-nothing, array-nothing}
 use Rattle.direct.specs.Views.{arrayAt, arrayRestAt}
 use Rattle.direct.specs.Assigned.{assignmentAt}
 use Rattle.direct.specs.Counts.{sumOf, lacksRests}
@@ -20,33 +19,15 @@ use Rattle.lowering.proofs.ItemLaws.{count-append}
 
 -- ---- whether an object rest is below
 
-has-nothing : (d : ℕ) → hasNestedObjectRest d nothing ≡ false
-unfolding hasNestedObjectRest shape
-has-nothing zero = refl
-has-nothing (suc d) = refl
-
-over-nothing : (d : ℕ) → hasNestedArrayRest d nothing ≡ false
-unfolding hasNestedArrayRest shape
-over-nothing zero = refl
-over-nothing (suc d) = refl
-
 any-levels : (f g : Node → Bool) (b : ℕ) → ((m : Node) → depth m ≤ b → f m ≡ g m) → (is : Items) → depthItems is ≤ b → any f is ≡ any g is
 unfolding any depth
 any-levels f g b h Items.none l = refl
 any-levels f g b h (Items.hole is) l = any-levels f g b h is l
 any-levels f g b h (Items.item n is) l = ap₂ (λ (x y : Bool). x || y) (h n (omega arith)) (any-levels f g b h is (omega arith))
 
-or-none : (a : Bool) → a || false ≡ a
-or-none true = refl
-or-none false = refl
-
 over-value : (d : ℕ) (q : Node) → depth q ≤ d → hasNestedArrayRest d (value q) ≡ hasArrayRestOverObjectRest (value q)
 over-value d q l =
-    node-in (λ m. hasNestedArrayRest d m) (λ m. hasArrayRestOverObjectRest m) d (λ m h. array-levels d m h) (over-nothing d ∙ sym (over-nothing (depth nothing))) 1 q (omega arith)
-
-pub has-leaf-at : (p : Node) → shape p ≡ leaf → hasObjectRest p ≡ false
-unfolding hasNestedObjectRest depth
-has-leaf-at (node at k fs) e = rw (e, hasNestedObjectRest) refl
+    node-in (λ m. hasNestedArrayRest d m) (λ m. hasArrayRestOverObjectRest m) d (λ m h. array-levels d m h) (array-nothing d ∙ sym (array-nothing (depth nothing))) 1 q (omega arith)
 
 -- ---- whether one is below an array rest
 
@@ -61,7 +42,7 @@ unfolding hasNestedArrayRest shape depth nodeAt itemsAt pieceIn
 over-array-at at is =
     let d = max (depthItems is) 0 in
     ap₂ (λ (x y : Bool). x || y) (any-levels (λ n. hasNestedArrayRest d n) (λ n. hasArrayRestOverObjectRest n) d (λ m l. array-levels d m l) is (omega arith)) (has-nothing d)
-    ∙ or-none (any (λ n. hasArrayRestOverObjectRest n) is)
+    ∙ or-false (any (λ n. hasArrayRestOverObjectRest n) is)
 
 pub over-array-rest-at : (at : ℕ) (is : Items) (r : Node) → hasArrayRestOverObjectRest (arrayRestAt at is r) ≡ any (λ n. hasArrayRestOverObjectRest n) is || hasObjectRest r
 unfolding hasNestedArrayRest shape depth nodeAt itemsAt pieceIn

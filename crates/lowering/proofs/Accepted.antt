@@ -153,7 +153,7 @@ late-kind (suc (suc (suc (suc zero)))) = ((λ h. omega arith), (λ h. omega arit
 late-kind (suc (suc (suc (suc (suc zero))))) = ((λ h. omega arith), (λ h. omega arith), (λ h. omega arith), (λ h. absurd (omega arith)))
 late-kind (suc (suc (suc (suc (suc (suc m)))))) = ((λ h. omega arith), (λ h. omega arith), (λ h. omega arith), (λ h. absurd (omega arith)))
 
-early : (f : ℕ) → f < 64 → kindOf f ≡ f
+pub early : (f : ℕ) → f < 64 → kindOf f ≡ f
 unfolding kindOf
 early f h = rw (lt-ltb f 64 h)
 

@@ -7,7 +7,7 @@ use Rattle.tree.specs.Tree.{Node, Piece, Fields, Items}
 use Rattle.tree.specs.Tree.Node.{node}
 use Rattle.tree.specs.Tree.Fields.{done, absent, field}
 use Rattle.tree.specs.Tree.Piece.{one, list, text, byte, mark, number}
-use Rattle.lowering.specs.Parts.{position, change, standsIn, changeIn, dropIn, pieceIn, itemsAt, onItems, changeItems, nothing, asNode, onNode, asItems, each}
+use Rattle.lowering.specs.Parts.{position, change, standsIn, changeIn, dropIn, pieceIn, itemsAt, onItems, changeItems, nothing, asNode, onNode, asItems, each, is, without, stands}
 use Rattle.lowering.specs.Patterns.{shape}
 
 pub position-changed : (i : ℕ) (f : Piece → Piece) (q : Node) → position (change i f q) ≡ position q
@@ -85,3 +85,29 @@ each-on f (text bs) = refl
 each-on f (byte b) = refl
 each-on f (mark b) = refl
 each-on f (number b) = refl
+
+pub is-without : (n : Node) (j : ℕ) → is j (without 1 n) ≡ is j n
+unfolding without is
+is-without (node at k fs) j = refl
+
+pub items-without : (n : Node) → itemsAt 0 (without 1 n) ≡ itemsAt 0 n
+unfolding itemsAt without dropIn pieceIn
+items-without (node at k done) = refl
+items-without (node at k (absent fs)) = refl
+items-without (node at k (field p fs)) = refl
+
+pub stands-without : (i : ℕ) (n : Node) → stands i (without i n) ≡ false
+unfolding stands without
+stands-without i (node at k fs) = stands-dropped fs i
+
+pub items-changed-in : (f : Node → Node) (fs : Fields) (i : ℕ) → asItems (pieceIn (changeIn fs i (onItems (each f))) i) ≡ each f (asItems (pieceIn fs i))
+unfolding changeIn pieceIn each
+items-changed-in f done i = refl
+items-changed-in f (absent fs) zero = refl
+items-changed-in f (absent fs) (suc i) = items-changed-in f fs i
+items-changed-in f (field p fs) zero = each-on f p
+items-changed-in f (field p fs) (suc i) = items-changed-in f fs i
+
+pub items-changed : (i : ℕ) (f : Node → Node) (n : Node) → itemsAt i (changeItems i (each f) n) ≡ each f (itemsAt i n)
+unfolding itemsAt change
+items-changed i f (node at k fs) = items-changed-in f fs i

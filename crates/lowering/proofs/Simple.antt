@@ -23,11 +23,11 @@ use Rattle.lowering.specs.Keys.{anyLacksForm}
 use Rattle.lowering.specs.Declarations.{isLowered, declaratorMakes, declarators, loweredIn, declaration, declarationMakes, declarationExcludes, declarationLacksForm}
 use Rattle.lowering.specs.Assignments.{isTop, target}
 use Rattle.lowering.specs.Heads.{isMoved, movedFrom, references, function, functionMakes, arrow, arrowMakes, catch, catchMakes, declaringHead, declaringMakes, assigningHead, assigningMakes}
-use Rattle.lowering.specs.Walk.{Note, Step, Walked, eachItem, eachPiece, eachField, inside, rewritten, unchanged, ruleOf, rewrite, stepDeclaration, stepAssignment, stepFor, within}
+use Rattle.lowering.specs.Walk.{Note, Step, Walked, eachItem, eachPiece, eachField, inside, unchanged, ruleOf, rewrite, stepDeclaration, stepAssignment, stepFor, within}
 use Rattle.lowering.specs.Weight.{walked}
 use Rattle.lowering.specs.Collect.{Visit, Name, over, newIn, newInPiece, marked, markOf, bare, bareFields, barePiece, bareItems, isContainer, visits, visitsFields, visitsPiece, visitsItems, firstRefusal, entryAt, entries, excludedIn, nodes, nodesFields, nodesPiece, nodesItems, uses, maskFrom, helperMask, namesOf, numbered, numberedFields, numberedPiece, numberedItems, declaratorBytes, listBytes}
 use Rattle.lowering.specs.Answer.{Lent, fitted, collected, afterWalk, top, afterReading, lowering}
-use Rattle.lowering.proofs.Cases.{by-test, by-shape, object-is, by-rule, and-none, literals-24, declarations-4}
+use Rattle.lowering.proofs.Cases.{by-test, by-shape, object-is, by-rule, and-none, literals-24, declarations-4, step-same, rewritten-same}
 use Rattle.lowering.proofs.Falls.{walked-is}
 use Rattle.lowering.proofs.Notes.{AllNotes, both}
 use Rattle.lowering.proofs.Accepted.{NoHoles, Proper, ProperFields, ProperPiece, ProperItems, accepted-good}
@@ -187,10 +187,6 @@ module _ (c : Context) where
   lacks-none n s =
       any-none (λ d. any (λ p. anyLacksForm p) (loweredIn c d)) (λ d z. ap (any (λ p. anyLacksForm p)) (lowered-in d z) ∙ any-empty (λ p. anyLacksForm p)) (itemsAt 2 n) (items-at 2 n s)
 
-  step-same : (m e : Items) (r n : Node) → m ≡ Items.none → e ≡ Items.none → r ≡ n
-      → _≡_ {A = Step} (record { note = record { refusal = 0; made = m; entry = Items.none; excluded = e }; result = r }) (unchanged n)
-  step-same m e r n p q s = λ j. record { note = record { refusal = 0; made = (p) j; entry = Items.none; excluded = (q) j }; result = (s) j }
-
   declarations-same : (n : Node) → Simple n → NoHoles (itemsAt 2 n) → stepDeclaration c n ≡ unchanged n
   unfolding stepDeclaration
   declarations-same n s w =
@@ -262,9 +258,6 @@ module _ (c : Context) where
   assigning-same : (n : Node) → Simple n → assigningHead c n ≡ n
   unfolding assigningHead
   assigning-same n s = rw (has-none (depth (nodeAt 1 n)) (nodeAt 1 n) (node-at 1 n s))
-
-  rewritten-same : (m : Items) (r n : Node) → m ≡ Items.none → r ≡ n → rewritten m r ≡ unchanged n
-  rewritten-same m r n p s = step-same m Items.none r n p refl s
 
   fors-same : (n : Node) → Simple n → stepFor c n ≡ unchanged n
   unfolding stepFor

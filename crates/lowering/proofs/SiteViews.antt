@@ -54,7 +54,7 @@ put-here x (Fields.field (Piece.mark b) fs) t = omega arith
 put-here x (Fields.field (Piece.number b) fs) t = omega arith
 
 module _ (x : ℕ) where
-  none-sites : sitesItems x none ≡ 0
+  pub none-sites : sitesItems x none ≡ 0
   unfolding sites
   none-sites = refl
 
@@ -62,11 +62,11 @@ module _ (x : ℕ) where
   unfolding sites
   only-sites n = omega arith
 
-  only-here : (n : Node) → hereItems x (only n) ≡ here x (position n)
+  pub only-here : (n : Node) → hereItems x (only n) ≡ here x (position n)
   unfolding hereItems
   only-here n = omega arith
 
-  none-here : hereItems x none ≡ 0
+  pub none-here : hereItems x none ≡ 0
   unfolding hereItems
   none-here = refl
 

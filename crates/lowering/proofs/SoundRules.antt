@@ -23,19 +23,13 @@ use Rattle.lowering.proofs.Cases.{by-test}
 use Rattle.lowering.proofs.Made.{times, only-times}
 use Rattle.lowering.proofs.Occurs.{occurs, occursFields, occursPiece, occursItems, node-in, items-in, Free, occurs-append, only-occurs, none-occurs, temporary-occurs, change-more, on-node, on-items, each-more, node-more, gathered, refs, gather-less, moved-occurs, movedPattern-occurs, movedOut-more}
 use Rattle.lowering.proofs.Sound.{key-kept, S-occurs, object-occurs, let-occurs, var-occurs, assigning-occurs, block-occurs, returned-occurs}
-use Rattle.lowering.proofs.ChangeLaws.{position-changed, each-on}
+use Rattle.lowering.proofs.ChangeLaws.{position-changed, items-changed-in}
 
 -- ---- the keys of a pattern do not depend on its values
 
-first-items : (g : Node → Node) (fs : Fields) → asItems (pieceIn (changeIn fs 0 (onItems (each g))) 0) ≡ each g (asItems (pieceIn fs 0))
-unfolding pieceIn changeIn each
-first-items g done = refl
-first-items g (absent fs) = refl
-first-items g (field p fs) = each-on g p
-
 changed-items : (g : Node → Node) (p : Node) → itemsAt 0 (changeItems 0 (each g) p) ≡ each g (itemsAt 0 p)
 unfolding itemsAt change
-changed-items g (node at k fs) = first-items g fs
+changed-items g (node at k fs) = items-changed-in g fs 0
 
 gather-each : (h : Node → Items) (g : Node → Node) → ((n : Node) → h (g n) ≡ h n) → (is : Items) → gather h (each g is) ≡ gather h is
 unfolding gather each
@@ -53,7 +47,7 @@ module _ (c : Context) where
   unfolding keyTemporary keyAt
   key-at q = refl
 
-  keyTemporary-value : (f : Node → Node) (q : Node) → keyTemporary c (changeNode 1 f q) ≡ keyTemporary c q
+  pub keyTemporary-value : (f : Node → Node) (q : Node) → keyTemporary c (changeNode 1 f q) ≡ keyTemporary c q
   keyTemporary-value f q = key-at (changeNode 1 f q) ∙ (ap₂ keyAt (key-kept f q) (position-changed 1 (onNode f) q) ∙ sym (key-at q))
 
   pub keys-value : (f : Node → Node) (p : Node) → keyTemporaries c (withValues f p) ≡ keyTemporaries c p

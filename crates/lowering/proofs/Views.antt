@@ -10,13 +10,14 @@ use Rattle.tree.specs.Tree.Piece.{one, list, text, byte, mark, number}
 use Rattle.tree.specs.Tree.Items.{none, hole, item}
 use Rattle.lowering.specs.Parts.{nothing, pieceIn, changeIn, change, onNode, onItems, changeNode, changeItems, asNode, asItems, nodeAt, itemsAt, is, each, gather, _+++_}
 use Rattle.lowering.specs.Made.{Context, reference}
-use Rattle.lowering.specs.Patterns.{shape, properties, hasRest, leftOf, value, withLeft, withItems, withValues, replaced}
-use Rattle.lowering.specs.Patterns.Shape.{objectPattern, arrayPattern, default, leaf}
+use Rattle.lowering.specs.Patterns.{shape, properties, hasRest, value, withLeft, withItems, withValues, replaced}
+use Rattle.lowering.specs.Patterns.Shape.{objectPattern}
 use Rattle.lowering.specs.Assignments.{restsThroughObjects}
-use Rattle.lowering.proofs.Clauses.{replaced-array, replaced-default, replaced-leaf}
+use Rattle.lowering.proofs.Clauses.{replaced-array, replaced-default, replaced-leaf, rests-array, rests-default, rests-leaf}
 use Rattle.lowering.proofs.Cases.{by-test, by-shape}
 use Rattle.lowering.proofs.WeightKeys.{rest-changed}
 use Rattle.lowering.proofs.ChangeLaws.{shape-changed}
+use Rattle.lowering.proofs.Levels.{rests-nothing}
 
 -- a function that finds nothing in what f gives, nor in nothing
 module _ (find : Node → Items) (f : Node → Node) (empty : find nothing ≡ none) (finds : (v : Node) → find (f v) ≡ none) where
@@ -75,28 +76,11 @@ rests-object : (d : ℕ) (p : Node) → shape p ≡ objectPattern → hasRest p 
 unfolding restsThroughObjects
 rests-object d p e r = rw (e, restsThroughObjects, r)
 
-rests-default : (d : ℕ) (p : Node) → shape p ≡ default → restsThroughObjects (suc d) p ≡ restsThroughObjects d (leftOf p)
-unfolding restsThroughObjects
-rests-default d p e = rw (e, restsThroughObjects)
-
-rests-leaf : (d : ℕ) (p : Node) → shape p ≡ leaf → restsThroughObjects (suc d) p ≡ none
-unfolding restsThroughObjects
-rests-leaf d p e = rw (e, restsThroughObjects)
-
-rests-array : (d : ℕ) (p : Node) → shape p ≡ arrayPattern → restsThroughObjects (suc d) p ≡ none
-unfolding restsThroughObjects
-rests-array d p e = rw (e, restsThroughObjects)
-
 nothing-added : none +++ none ≡ none
 unfolding _+++_
 nothing-added = refl
 
 -- ---- an inner object, its own objects replaced: in its assignment the rule for the top finds its rest and no other
-
-rests-nothing : (d : ℕ) → restsThroughObjects d nothing ≡ none
-unfolding restsThroughObjects shape
-rests-nothing zero = refl
-rests-nothing (suc d) = refl
 
 module _ (c : Context) where
   replaced-object : (d : ℕ) (p : Node) → shape p ≡ objectPattern → hasRest p ≡ false → replaced c (suc d) p ≡ withValues (λ v. replaced c d v) p

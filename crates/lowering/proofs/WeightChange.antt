@@ -88,7 +88,7 @@ pub extra-changed : (k : ℕ) (fs : Fields) (i : ℕ) (f : Piece → Piece) → 
 unfolding extra
 extra-changed k fs i f = rw (stands-changed fs i f 1)
 
-factor-monotone : (k v w : ℕ) → v ≤ w → factor k * v ≤ factor k * w
+pub factor-monotone : (k v w : ℕ) → v ≤ w → factor k * v ≤ factor k * w
 unfolding factor
 factor-monotone k v w h = go (isHead k) (eqb k 4)
   where

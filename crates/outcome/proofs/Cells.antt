@@ -28,8 +28,8 @@ use Rattle.direct.specs.Events.{cell, cellOf, later, numberIn, countIn, mapIn}
 use Rattle.outcome.specs.Named
 use Rattle.outcome.specs.Named.{Act, puts, lists, excludes, handed, entered, excludedKeys, handsOut, marks, written, named, namedFields, namedPiece, namedItems}
 use Rattle.outcome.proofs.Listed.{made-append}
-use Rattle.outcome.proofs.Makes.{others, makes, number, makes-all, namesIn, hands-made, inCell}
-use Rattle.outcome.proofs.Scope.{cellAt, IsNamed, origin, weaker, both-each, all-each, occurs-here, walked-cell, cell-name, named-there, named-less}
+use Rattle.outcome.proofs.Makes.{others, makes, number, makes-all, namesIn, hands-made, inCell, named-less}
+use Rattle.outcome.proofs.Scope.{cellAt, IsNamed, origin, weaker, both-each, all-each, occurs-here, walked-cell, cell-name, named-there}
 use Rattle.outcome.proofs.Numbers.{Every, every-append}
 
 -- ---- temporaries in cells

@@ -209,7 +209,7 @@ visits-say (v ∷ vs) h =
 
 -- ---- sizes
 
-size-plains : (bs : List ℕ) → size (plains bs) ≡ length bs
+pub size-plains : (bs : List ℕ) → size (plains bs) ≡ length bs
 unfolding plains
 size-plains [] = refl
 size-plains (b ∷ bs) = let h = size-plains bs in omega arith

@@ -416,11 +416,12 @@ cell-left names x (item t ts) h =
     (λ e. let z : 0 + number (inCell x) ts ≡ 0 = rw e at h in
     cell-left (renamed names (cellOf t) (nameOf t)) x ts (omega arith) ∙ rw e refl)
 
-less : (x : ℕ) (a : Name) (ts : Items) → number (namedCell x a) ts ≤ number (inCell x) ts
+-- what is made with the name is made in its cell
+pub named-less : (x : ℕ) (a : Name) (ts : Items) → number (namedCell x a) ts ≤ number (inCell x) ts
 unfolding number
-less x a none = omega arith
-less x a (hole ts) = less x a ts
-less x a (item t ts) = let h = less x a ts in go (eqb x (cellOf t)) (same a (nameOf t)) h
+named-less x a Items.none = omega arith
+named-less x a (Items.hole ts) = named-less x a ts
+named-less x a (Items.item t ts) = go (eqb x (cellOf t)) (same a (nameOf t)) (named-less x a ts)
   where
     go : (b d : Bool) → number (namedCell x a) ts ≤ number (inCell x) ts → cond (b && d) 1 0 + number (namedCell x a) ts ≤ cond b 1 0 + number (inCell x) ts
     go true true h = omega arith
@@ -433,7 +434,7 @@ unfolding assigned number renamed
 cell-made names x a none h k = absurd (omega arith)
 cell-made names x a (hole ts) h k = cell-made names x a ts h k
 cell-made names x a (item t ts) h k =
-    let l = less x a ts in
+    let l = named-less x a ts in
     by-test (eqb x (cellOf t))
     (λ e.
     let h′ : 1 + number (inCell x) ts ≤ 1 = rw e at h in

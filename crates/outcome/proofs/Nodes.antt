@@ -1,7 +1,7 @@
 -- The names and the helpers of the tree, by its nodes and by the events that write it.
 -- Assumes nothing.
 use mathlib.Core.Path.{_≡_, refl, sym, ap, ap₂, _∙_}
-use mathlib.Core.Bool.{Bool, true, false, cond, _&&_, _||_}
+use mathlib.Core.Bool.{Bool, true, false, cond, _&&_, _||_, or-assoc}
 use mathlib.Core.List.{List, [], _∷_, _++_}
 use Prim.Native.Nat.{ℕ, zero, suc, _+_}
 use native.Mathlib.Omega.{arith}
@@ -93,10 +93,6 @@ mutual
       ∙ sym (names-joined (tokens (bare k w)) (tokensItems (bareItems (k + newIn w) is)))
 
 -- ---- helpers
-
-or-assoc : (a b c : Bool) → (a || b) || c ≡ a || (b || c)
-or-assoc true b c = refl
-or-assoc false b c = refl
 
 uses-append : (h : ℕ) (ns ms : List Node) → uses h (ns ++ ms) ≡ uses h ns || uses h ms
 unfolding uses

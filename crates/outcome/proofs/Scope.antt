@@ -30,7 +30,7 @@ use Rattle.direct.specs.Events.{cell, cellOf, later, numberIn, countIn, mapIn}
 use Rattle.outcome.specs.Named
 use Rattle.outcome.specs.Named.{Act, puts, entered, excludedKeys, marks, handsOut, written, named, namedFields, namedPiece, namedItems, after}
 use Rattle.outcome.proofs.Tokens.{after-append, puts-after, Scoped, ScopedFields, ScopedPiece, ScopedItems, fields-alike, items-alike}
-use Rattle.outcome.proofs.Makes.{makes, number, makes-all, hands-names, inCell, namedCell, cell-left, cell-made}
+use Rattle.outcome.proofs.Makes.{makes, number, makes-all, hands-names, inCell, namedCell, cell-left, cell-made, named-less}
 
 -- ---- names and cells
 
@@ -66,18 +66,6 @@ named-there a (Items.item t ts) =
     go : (b : Bool) → number (namedCell (cellAt a) a) ts ≡ times a ts → cond (b && false) 1 0 + number (namedCell (cellAt a) a) ts ≡ 0 + times a ts
     go true h = ap (λ (x : ℕ). 0 + x) h
     go false h = ap (λ (x : ℕ). 0 + x) h
-
--- what is made with the name is made in its cell
-pub named-less : (x : ℕ) (a : Name) (ts : Items) → number (namedCell x a) ts ≤ number (inCell x) ts
-unfolding number
-named-less x a Items.none = omega arith
-named-less x a (Items.hole ts) = named-less x a ts
-named-less x a (Items.item t ts) = go (eqb x (cellOf t)) (same a (nameOf t)) (named-less x a ts)
-  where
-    go : (b d : Bool) → number (namedCell x a) ts ≤ number (inCell x) ts → cond (b && d) 1 0 + number (namedCell x a) ts ≤ cond b 1 0 + number (inCell x) ts
-    go true true h = omega arith
-    go true false h = omega arith
-    go false d h = omega arith
 
 -- ---- what holds at a node
 

@@ -4,7 +4,7 @@ use mathlib.Core.Path.{_≡_, refl, sym, ap, _∙_, subst}
 use mathlib.Core.Bool.{Bool, cond, false≢true}
 use mathlib.Core.List.{List, [], _∷_, _++_}
 use mathlib.Core.Logic.{_⊎_, ⊎-elim}
-use mathlib.Core.Logic._⊎_.{inl, inr}
+use mathlib.Core.Logic._⊎_.{inl}
 use Prim.Native.Nat.{ℕ, zero, suc, _+_, _≤_, _<_}
 use native.Mathlib.Omega.{arith}
 use lib.Dec.{eqb}
@@ -22,7 +22,7 @@ use Rattle.lowering.proofs.Notes.{AllNotes}
 use Rattle.lowering.proofs.Cases.{by-test}
 use Rattle.lowering.proofs.Weights.{weight-pos}
 use Rattle.lowering.proofs.Falls.{falls, walked-is}
-use Rattle.lowering.proofs.Made.{times, times-append}
+use Rattle.lowering.proofs.Made.{times, times-append, no-ids}
 use Rattle.lowering.proofs.Appearance.{same-is}
 use Rattle.lowering.proofs.Occurs.{occurs, occursFields, occursPiece, occursItems}
 use Rattle.sink.specs.Shown.{Token}
@@ -37,12 +37,8 @@ use Rattle.outcome.proofs.Handed.{Hands, Declares, Valued, Full, full-a
 use Rattle.outcome.proofs.Numbers.{Every, every-append, In, in-left, in-right}
 use Rattle.outcome.proofs.Nodes.{names-joined, plains-names}
 use Rattle.outcome.proofs.Lists.{machineEntry}
-use Rattle.outcome.proofs.Stays.{Calm, CalmFields, CalmPiece, CalmItems, stays-result, rewrite-used}
+use Rattle.outcome.proofs.Stays.{Calm, CalmFields, CalmPiece, CalmItems, stays-result, rewrite-used, sum-some}
 use Rattle.lowering.proofs.ItemLaws.{each-append}
-
-sum-some : (s t : ℕ) → 0 < s + t → (0 < s) ⊎ (0 < t)
-sum-some zero t h = inr (omega arith)
-sum-some (suc s) t h = inl (omega arith)
 
 -- ---- no refusal in the visits is none in the walk
 
@@ -266,10 +262,6 @@ declares-names d h =
 over-first : (v : Visit) (vs : List Visit) → over entryAt (v ∷ vs) ≡ entryAt v ++ over entryAt vs
 unfolding over
 over-first v vs = refl
-
-no-ids : (a : Name) → times a (each idOf Items.none) ≡ 0
-unfolding each times
-no-ids a = refl
 
 nothing-every : (P : Name → Type 0) → Every P (namesIn (over machineEntry (over entryAt [])))
 unfolding over namesIn

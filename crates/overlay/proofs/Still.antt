@@ -17,9 +17,9 @@ use Rattle.lowering.specs.Assignments.{target, isTop}
 use Rattle.lowering.specs.Heads.{isMoved, function, arrow, catch, declaringHead, assigningHead}
 use Rattle.lowering.specs.Walk.{Rule, ruleOf, rewrite, stepDeclaration, stepAssignment, stepFor}
 use Rattle.lowering.specs.Walk.Rule.{literals, declarations, assignments, functions, arrows, catches, fors, nowhere}
-use Rattle.lowering.proofs.Cases.{by-shape, by-rule, object-is}
+use Rattle.lowering.proofs.Cases.{by-shape, by-rule, object-is, by-test}
 use Rattle.overlay.specs.Plain.{free, freeItems, isObject, isForeign, isNew, hasHole}
-use Rattle.overlay.proofs.Objects.{by-test, and-left, and-right, differ}
+use Rattle.overlay.proofs.Objects.{and-left, and-right, differ}
 use Rattle.overlay.proofs.Free.{or-left, or-right, and-no, free-here, free-node, free-items}
 use Rattle.lowering.proofs.ChangeLaws.{changeItems-same}
 

@@ -26,13 +26,13 @@ use Rattle.direct.specs.Handed.{placesIn}
 use Rattle.direct.specs.Counts.{restsCount}
 use Rattle.direct.proofs.Objects.{value-changed, value-kept}
 use Rattle.direct.proofs.Declared.{properties-changed}
-use Rattle.direct.proofs.Targets.{shape-taken, items-left, left-object, left-array, left-default, left-leaf, left-nothing, left-changed}
+use Rattle.direct.proofs.Targets.{shape-taken, left-object, left-array, left-default, left-leaf, left-nothing, left-changed}
 use Rattle.pattern.specs.Objects.{throughObjects}
 use Rattle.pattern.proofs.Below.{by-shape}
 use Rattle.pattern.proofs.KeyCases.{by-sort, count-append}
 use Rattle.walk.specs.Turns.{viewOf}
 use Rattle.lowering.proofs.ItemLaws.{gather-same, gather-each}
-use Rattle.lowering.proofs.ChangeLaws.{shape-changed}
+use Rattle.lowering.proofs.ChangeLaws.{shape-changed, items-without}
 
 -- ---- parts have no more bytes than the whole
 
@@ -248,7 +248,7 @@ module _ (c : Context) where
   gather-taken F p =
       by-test (hasRest p)
       (λ r. rw r
-      (ap (gather (λ q. F (value q))) (items-left (withProperties (keptKey c) p) ∙ properties-changed (keptKey c) p)
+      (ap (gather (λ q. F (value q))) (items-without (withProperties (keptKey c) p) ∙ properties-changed (keptKey c) p)
       ∙ gather-each (λ q. F (value q)) (keptKey c) (properties p)
       ∙ gather-same (λ q. F (value (keptKey c q))) (λ q. F (value q)) (λ q. ap F (value-kept c q)) (properties p)))
       (λ r. rw r refl)
