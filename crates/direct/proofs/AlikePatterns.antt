@@ -14,11 +14,11 @@ use Rattle.lowering.specs.Made.{Context, temporary, reference, keyOf, string}
 use Rattle.lowering.specs.Patterns.{Shape, shape, properties, hasRest, key, value, withItems, withValues, hasNestedObjectRest, hasObjectRest, hasNestedArrayRest, hasArrayRestOverObjectRest, replaced, objectsWithRest, replacedBelow, objectsBelow}
 use Rattle.lowering.specs.Patterns.Shape.{objectPattern, arrayPattern, default, leaf}
 use Rattle.lowering.specs.Keys.{keySort, isPrimitive, lacksForm, excludedKey, keptKey, keyTemporary, allPrimitive, anyLacksForm, excludedKeys, keyTemporaries, taken}
-use Rattle.lowering.specs.Keys.Key.{again}
 use Rattle.lowering.specs.Assignments.{restsThroughObjects, withoutRests}
 use Rattle.lowering.specs.Heads.{moved, movedPattern, movedOut}
 use Rattle.lowering.proofs.Cases.{by-shape, by-key, object-is}
 use Rattle.direct.proofs.Alike.{SameKey, same, temporaries, Alike, AlikeItems, Linked, string-alike, temporary-alike, position-alike, shape-alike, node-at, items-at, stands-at, depth-alike, loose, recast, only-alike, append-alike, each-alike, gather-alike, any-alike, cond-alike, cond-items, changeNode-alike, changeItems-alike, without-alike, key-kept, key-put, declares-alike}
+use Rattle.lowering.proofs.Clauses.{again-temporary}
 
 -- ---- the properties of an object pattern, the parts of any pattern
 
@@ -85,10 +85,6 @@ pub rests-alike : {ok : Bool} {p q : Node} → Alike ok p q → AlikeItems ok 0 
 rests-alike {ok = ok} {p = p} {q = q} a = subst (λ (x : ℕ). AlikeItems ok 0 (restsThroughObjects (depth p) p) (restsThroughObjects x q)) (depth-alike a) (rests-at (depth p) a)
 
 -- ---- keys
-
-pub again-temporary : (k : Node) → is 20 k ≡ true → keySort k ≡ again
-unfolding keySort is
-again-temporary (node at k fs) e = rw (eqb-true k 20 e) refl
 
 pub key-alike : {k j : Node} → SameKey k j → keySort k ≡ keySort j
 key-alike (same e) = ap keySort e

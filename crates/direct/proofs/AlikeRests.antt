@@ -15,12 +15,13 @@ use Rattle.lowering.specs.Rests.{hasNoProperties, mapped, isHoisted, keysRead, 
 use Rattle.lowering.specs.Declarations.{isName, source, sourceDeclarator, keysBefore, patternDeclarator, restDeclarator, own, nested, nestedBelow, objectDeclarators, patternDeclarators, lowerDeclarator, innerObjects, declaratorMakes, isLowered, declarators, loweredIn, declaration, declarationMakes, declarationExcludes, declarationLacksForm}
 use Rattle.lowering.specs.Assignments.{restsThroughObjects}
 use Rattle.lowering.proofs.All.{AllItems, all-append, all-gather, all-unit}
-use Rattle.lowering.proofs.Cases.{by-test, by-shape, and-right}
+use Rattle.lowering.proofs.Cases.{by-test, by-shape, not-true}
 use Rattle.direct.specs.Events.{Deed, cellOf, excludes, excludedKeys as excludedDeeds}
 use Rattle.direct.specs.Events.Deed.{does}
 use Rattle.sink.specs.Machine.{Event}
 use Rattle.direct.proofs.Alike.{Alike, AlikeItems, Linked, helper-alike, temporary-alike, position-alike, is-alike, node-at, stands-at, depth-alike, empty-alike, tight, only-alike, more-alike, append-alike, each-alike, gather-alike, any-alike, cond-alike, cond-items, changeItems-alike, declares-alike, call-alike, object-alike, array-of-alike, sequence-alike, member-alike}
 use Rattle.direct.proofs.AlikePatterns.{props, parts, shaped, below-alike, primitive-one, anyLacks-alike, all-alike, reference-alike, temporaries-alike, keys-alike, taken-alike, values-alike, shape-values, replaced-at, replaced-alike, objects-alike}
+use Rattle.lowering.proofs.Clauses.{hoisted-primitive}
 
 -- ---- lists of object patterns
 
@@ -116,10 +117,6 @@ keys-none c d (AlikeItems.item {n = n} {m = m} {is = is} a s l) h =
     let z : not false || r ≡ false = subst (λ (x : Bool). not x || r ≡ false) e h in
     absurd (true≢false z))
 
-not-true : (b : Bool) → not b ≡ true → b ≡ false
-not-true true h = absurd (false≢true h)
-not-true false h = refl
-
 pub keys-same : {ok : Bool} {p q : Node} (c d : Context) → Object p → Alike ok p q → allPrimitive p ≡ true → excludedKeys c p ≡ excludedKeys d q
 unfolding excludedKeys allPrimitive
 keys-same {p = p} c d e a h = keys-none c d (props e a) (not-true (any (λ q. not (isPrimitive (key q))) (properties p)) h)
@@ -158,17 +155,13 @@ module _ (c d : Context) (root : c .root ≡ d .root) where
       cond-items (isHoisted c p) (isHoisted d q) (hoisted-alike e a)
       (λ h. only-alike (declares-alike (excludedOf-alike a) (array-of-alike (keys-alike c d e a)))) (λ h. AlikeItems.none)
 
-  hoisted-primitive : (p : Node) → isHoisted c p ≡ true → allPrimitive p ≡ true
-  unfolding isHoisted
-  hoisted-primitive p h = and-right (not (hasNoProperties p)) (allPrimitive p) (and-right (not (c .root)) (not (hasNoProperties p) && allPrimitive p) h)
-
   -- what is handed out for the keys is the same
   pub excludedFor-deeds : {ok : Bool} {p q : Node} → Object p → Alike ok p q → excludedDeeds (excludedFor c p) ≡ excludedDeeds (excludedFor d q)
   unfolding excludedFor excludedDeeds cellOf nodeAt pieceIn numberAt
   excludedFor-deeds {p = p} {q = q} e a =
       by-test (isHoisted c p)
       (λ h. rw (h, sym (hoisted-alike e a) ∙ h)
-      (ap₂ (λ (x : ℕ) (y : Items). excludedDeeds (only (declares (temporary [] 2 x) (array y)))) (position-alike a) (keys-same c d e a (hoisted-primitive p h))))
+      (ap₂ (λ (x : ℕ) (y : Items). excludedDeeds (only (declares (temporary [] 2 x) (array y)))) (position-alike a) (keys-same c d e a (hoisted-primitive c p h))))
       (λ h. rw (h, sym (hoisted-alike e a) ∙ h) refl)
 
   pub ids-alike : {ok : Bool} {is js : Items} → AlikeItems ok 0 is js → AlikeItems ok 0 (each idOf is) (each idOf js)

@@ -24,8 +24,9 @@ use Rattle.lowering.proofs.Cases.{by-test, by-key, by-rule, functionBody-is, bl
 use Rattle.direct.specs.Events.{Deed, cell, cellOf, lists, made, handed, entered, refused, handsOut, excludedKeys as excludedDeeds}
 use Rattle.direct.specs.Events.Deed.{does}
 use Rattle.direct.proofs.Alike.{SameKey, same, temporaries, Alike, AlikeItems, Linked, helper-alike, nothing-alike, kind-alike, position-alike, is-alike, node-at, number-at, stands-at, empty-alike, count-alike, loose, tight, only-alike, more-alike, append-alike, each-alike, gather-alike, any-alike, cond-alike, cond-items, changeNode-alike, changeNode-here, changeItems-alike, declared-alike, assign-alike, call-alike, object-alike, sequence-alike, let-alike, var-alike, assigning-alike, returning-alike, block-alike, body-alike}
-use Rattle.direct.proofs.AlikePatterns.{props, parts, below-alike, over-alike, rests-alike, again-temporary, anyLacks-alike, reference-alike, temporaries-alike, replaced-alike, objects-alike, withoutRests-alike, movedOut-alike, moved-alike, pattern-alike}
+use Rattle.direct.proofs.AlikePatterns.{props, parts, below-alike, over-alike, rests-alike, anyLacks-alike, reference-alike, temporaries-alike, replaced-alike, objects-alike, withoutRests-alike, movedOut-alike, moved-alike, pattern-alike}
 use Rattle.direct.proofs.AlikeRests.{Object, rests-objects, each-with, gather-with, any-with, deeds-gather, excluded-none, excluded-append, valueOf-alike, restValue-alike, excludedFor-alike, excludedFor-deeds, ids-alike, declaration-alike, declarationMakes-alike, declarationLacks-alike, declarationExcludes-deeds}
+use Rattle.lowering.proofs.Clauses.{again-temporary}
 
 -- ---- what is handed out
 
@@ -41,7 +42,7 @@ handed-none : handed Items.none ≡ []
 unfolding handed
 handed-none = refl
 
-handed-append : (is js : Items) → handed (is +++ js) ≡ handed is ++ handed js
+pub handed-append : (is js : Items) → handed (is +++ js) ≡ handed is ++ handed js
 unfolding handed _+++_
 handed-append Items.none js = refl
 handed-append (Items.hole is) js = handed-append is js
@@ -217,11 +218,11 @@ asBlock-alike {b = b} {e = e} a =
     cond-alike (is 2 b) (is 2 e) (is-alike 2 a) (λ h. a)
     (λ h. block-alike (cond-items (is 13 b) (is 13 e) (is-alike 13 a) (λ t. AlikeItems.none) (λ t. only-alike a)))
 
-functionBody-kind : (b : Node) → eqb (kind (asFunctionBody b)) 34 ≡ false
+pub functionBody-kind : (b : Node) → eqb (kind (asFunctionBody b)) 34 ≡ false
 unfolding is
 functionBody-kind b = kind-not (kind (asFunctionBody b)) 16 (functionBody-is b) refl
 
-block-kind : (b : Node) → eqb (kind (asBlock b)) 34 ≡ false
+pub block-kind : (b : Node) → eqb (kind (asBlock b)) 34 ≡ false
 unfolding is
 block-kind b = kind-not (kind (asBlock b)) 2 (block-is b) refl
 

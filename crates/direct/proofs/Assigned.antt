@@ -6,9 +6,8 @@ use mathlib.Core.List.{List, [], _∷_, _++_}
 use Prim.Native.Nat.{ℕ, zero, suc, _+_}
 use native.Mathlib.Omega.{arith}
 use Rattle.tree.specs.Tree.{Node, Items, wideBytes, mapOf, count, depth}
-use Rattle.tree.specs.Tree.Node.{node}
 use Rattle.tree.specs.Tree.Fields.{done, field}
-use Rattle.tree.specs.Tree.Piece.{one, byte, mark}
+use Rattle.tree.specs.Tree.Piece.{one, byte}
 use Rattle.lowering.specs.Parts.{position, is, pieceIn, standsIn, changeIn, nodeAt, itemsAt, stands, isEmpty, change, onNode, changeNode, only, each, gather, _+++_}
 use Rattle.lowering.specs.Made.{Context, temporary, assign, sequence, reference, valueOf}
 use Rattle.lowering.specs.Patterns.{shape, properties, value, rest, hasRest, withValues, hasNestedObjectRest, hasObjectRest, hasArrayRestOverObjectRest, replaced, replacedBelow, objectsWithRest, objectsBelow}
@@ -18,7 +17,7 @@ use Rattle.lowering.specs.Rests.{restValue}
 use Rattle.lowering.specs.Assignments.{target, isTop, restsThroughObjects, topLacksForm, topSequence, topEntry, topExcludes, topMakes, nestedSequence, nestedEntry, nestedMakes}
 use Rattle.lowering.specs.Walk.{rewrite, refuse, ruleOf, opensScope, stepAssignment, stepTop}
 use Rattle.lowering.specs.Collect.{isContainer}
-use Rattle.lowering.proofs.Cases.{by-test, by-shape}
+use Rattle.lowering.proofs.Cases.{by-test, by-shape, rule-27}
 use Rattle.lowering.proofs.Accepted.{NoHoles}
 use Rattle.direct.specs.Events.{Place, Emit, puts, refused, contextOf, emits}
 use Rattle.direct.specs.Emit.{say, _▷_, below, inner, emitsItems, emitsPiece, stays, inTurn}
@@ -30,23 +29,20 @@ use Rattle.direct.specs.Handed.{placesIn}
 use Rattle.direct.specs.Assigned.{assignmentAt, assignHead, restInArrays, emitsRestOf, emitsInner, emitsNest, emitsTarget, topCount, emitsTop}
 use Rattle.direct.proofs.Threads.{then-assoc}
 use Rattle.direct.proofs.Stays.{emits-as, emits-refused, emits-unchanged, emits-nowhere}
-use Rattle.direct.proofs.Kept.{rule-27, assignment-kept}
+use Rattle.direct.proofs.Kept.{assignment-kept}
 use Rattle.direct.proofs.Makes.{say-then, below-inner, three-fields, only-item, no-items, more-items, emits-sequence}
-use Rattle.direct.proofs.Items.{count-append, items-append}
-use Rattle.direct.proofs.Lists.{count-each, items-each}
+use Rattle.direct.proofs.Items.{items-append, holes-append}
+use Rattle.direct.proofs.Lists.{items-each}
 use Rattle.direct.proofs.PatternViews.{emits-viewed, says-cell, without-object, taken-rest, values-rest}
 use Rattle.direct.proofs.RestValues.{rest-value}
 use Rattle.direct.proofs.Objects.{objects-same-path, replaced-same-path, without-same-path}
 use Rattle.direct.proofs.Handed.{top-handed, nested-handed}
 use Rattle.direct.proofs.Targets.{replaced-nothing, replaced-clear, over-without, found-some}
+use Rattle.lowering.proofs.ItemLaws.{count-append, count-each}
+use Rattle.lowering.proofs.Clauses.{has-leaf-at}
+use Rattle.direct.proofs.Declared.{inner-inner}
 
 -- ---- the lists of objects have no holes
-
-holes-append : (is js : Items) → NoHoles is → NoHoles js → NoHoles (is +++ js)
-unfolding NoHoles _+++_
-holes-append Items.none js a b = b
-holes-append (Items.hole is) js a b = absurd a
-holes-append (Items.item n is) js a b = holes-append is js a b
 
 holes-gather : (f : Node → Items) → ((n : Node) → NoHoles (f n)) → (is : Items) → NoHoles (gather f is)
 unfolding NoHoles gather
@@ -129,10 +125,6 @@ module _ (c : Place) (n : Node) (k : is 27 n ≡ true) where
 
 -- ---- parts
 
-inner-inner : (c : Place) → inner (inner c) ≡ inner c
-unfolding inner
-inner-inner c = refl
-
 stays-sequence : (c : Place) (xs : Items) → stays c (sequence xs) ≡ say (puts (28 ∷ 1 ∷ wideBytes (count xs))) ▷ emitsItems false (inner c) xs
 unfolding ruleOf
 stays-sequence c xs = sym (emits-nowhere c (sequence xs) refl) ∙ emits-sequence c xs
@@ -157,10 +149,6 @@ inside-assigns c at op p x h =
 temporary-has : (path : List ℕ) (stem at : ℕ) → hasObjectRest (temporary path stem at) ≡ false
 unfolding hasNestedObjectRest shape depth
 temporary-has path stem at = refl
-
-leaf-has : (p : Node) → shape p ≡ leaf → hasObjectRest p ≡ false
-unfolding hasNestedObjectRest depth
-leaf-has (node at k fs) e = rw (e, hasNestedObjectRest) refl
 
 -- ---- objects replaced, then an assignment for each
 
@@ -285,7 +273,7 @@ module _ (c : Place) where
   unfolding emitsRestOf nodeAt itemsAt pieceIn inner
   rest-done t at ps r e =
       let o = objectRestAt at ps r in
-      inside-assigns c 0 1 r (restValue (contextOf c) o (temporary [] 3 t)) (leaf-has r e)
+      inside-assigns c 0 1 r (restValue (contextOf c) o (temporary [] 3 t)) (has-leaf-at r e)
       ∙ ap (λ (x : Emit). assignHead 1 ▷ emits (inner c) r ▷ x)
       (rest-value (inner c) (contextOf c) o (temporary [] 3 t) refl ∙ ap (λ (s : Emit). emitsRest (inner c) at ps s) (says-cell (inner (inner c)) [] 3 t))
 

@@ -33,10 +33,6 @@ pub scoped-scoped : (c : Place) → scoped (scoped c) ≡ scoped c
 unfolding scoped
 scoped-scoped c = refl
 
-pub scoped-inner : (c : Place) → scoped (inner c) ≡ scoped c
-unfolding inner scoped
-scoped-inner c = refl
-
 pub inner-marking : (c : Place) (m : ℕ) → inner (marking c m) ≡ marking (inner c) m
 unfolding inner marking
 inner-marking c m = refl
@@ -140,10 +136,6 @@ empty-block : (b : Node) → is 13 b ≡ true → asBlock b ≡ block Items.none
 unfolding is asBlock
 empty-block (node at k fs) e = rw (eqb-true k 13 e) refl
 
-one-block : (b : Node) → is 2 b ≡ false → is 13 b ≡ false → asBlock b ≡ block (only b)
-unfolding asBlock
-one-block b h e = rw (h, e) refl
-
 block-front : (ps : Items) (b : Node) (ns : Items) → asBlock b ≡ block ns → blockIn ps b ≡ block (inFront here ps ns)
 unfolding blockIn inBody change changeIn onItems
 block-front ps b ns e = ap (λ (x : Node). changeItems 1 (inFront here ps) x) e
@@ -160,19 +152,6 @@ emits-empty-in c ps b h =
     (emits-in-front (scoped c) ps Items.none
     ∙ ap (λ (x : Emit). fronts (scoped c) ps ▷ x) (no-items true (scoped c))
     ∙ then-nothing (fronts (scoped c) ps))
-
--- any other statement: a new Block with it last
-pub emits-statement-in : (c : Place) (ps : Items) (b : Node) → is 2 b ≡ false → is 13 b ≡ false → is 24 b ≡ false → is 27 b ≡ false
-    → emits c (blockIn ps b)
-    ≡ say (puts (2 ∷ 3 ∷ []) ++ (does Event.newMark ∷ puts (wideBytes (suc (number ps))))) ▷ fronts (scoped c) ps ▷ emitsStatement (scoped c) b
-unfolding count
-emits-statement-in c ps b h k u v =
-    let e : count (inFront here ps (only b)) ≡ suc (number ps) = count-in-front ps (only b) ∙ omega arith in
-    ap (emits c) (block-front ps b (only b) (one-block b h k))
-    ∙ emits-new-block c (inFront here ps (only b))
-    ∙ ap₂ (λ (x : ℕ) (y : Emit). say (puts (2 ∷ 3 ∷ []) ++ (does Event.newMark ∷ puts (wideBytes x))) ▷ y) e
-    (emits-in-front (scoped c) ps (only b)
-    ∙ ap (λ (x : Emit). fronts (scoped c) ps ▷ x) (only-statement (scoped c) b u v))
 
 -- ---- the body of a loop that assigns to p
 
@@ -202,14 +181,3 @@ emits-target-empty c p b h =
     ∙ emits-new-block c (only (assigning p (standIn p)))
     ∙ ap (λ (y : Emit). say (puts (2 ∷ 3 ∷ []) ++ (does Event.newMark ∷ puts (wideBytes 1))) ▷ y)
     (first-assigned (scoped c) p Items.none ∙ ap (λ (x : Emit). s ▷ x) (no-items true (scoped c)) ∙ then-nothing s)
-
-pub emits-target-statement : (c : Place) (p b : Node) → is 2 b ≡ false → is 13 b ≡ false → is 24 b ≡ false → is 27 b ≡ false
-    → emits c (targetIn p b)
-    ≡ say (puts (2 ∷ 3 ∷ []) ++ (does Event.newMark ∷ puts (wideBytes 2))) ▷ emitsStatement (scoped c) (assigning p (standIn p)) ▷ emitsStatement (scoped c) b
-unfolding count
-emits-target-statement c p b h k u v =
-    let s = emitsStatement (scoped c) (assigning p (standIn p)) in
-    ap (emits c) (target-front p b (only b) (one-block b h k))
-    ∙ emits-new-block c (Items.item (assigning p (standIn p)) (only b))
-    ∙ ap (λ (y : Emit). say (puts (2 ∷ 3 ∷ []) ++ (does Event.newMark ∷ puts (wideBytes 2))) ▷ y)
-    (first-assigned (scoped c) p (only b) ∙ ap (λ (x : Emit). s ▷ x) (only-statement (scoped c) b u v))

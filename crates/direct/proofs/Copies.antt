@@ -1,18 +1,15 @@
 -- A node of an accepted tree without object rest and spread below it does nothing but write its bytes. So does a name.
 -- Assumes nothing.
-use mathlib.Core.Path.{_≡_, refl, sym, ap, ap₂, _∙_, fun-ext}
-use mathlib.Core.Bool.{Bool, true, false, true≢false}
+use mathlib.Core.Path.{_≡_, refl, ap, ap₂, _∙_, fun-ext}
+use mathlib.Core.Bool.{Bool, true, false}
 use mathlib.Core.List.{List, [], _∷_}
 use Prim.Native.Nat.{ℕ, zero, suc, _<_}
 use native.Mathlib.Omega.{arith}
 use lib.Dec.{eqb}
-use borrow.Author.Tests.{eqb-true}
 use Rattle.tree.specs.Tree.{Node, Fields, Piece, Items, wideBytes, mapOf, count, encode, encodeFields, encodePiece, encodeItems}
 use Rattle.tree.specs.Tree.Node.{node}
-use Rattle.lowering.specs.Parts.{is}
 use Rattle.lowering.specs.Collect.{isContainer, marked}
 use Rattle.lowering.proofs.Simple.{Simple, SimpleFields, SimplePiece, SimpleItems, simple, rewrite-same}
-use Rattle.lowering.proofs.Sites.{isNameKind, directItems, directPiece, direct}
 use Rattle.lowering.proofs.Accepted.{Proper, ProperFields, ProperPiece, ProperItems}
 use Rattle.lowering.proofs.Accepted.Proper.{proper}
 use Rattle.sink.specs.Machine.{Event}
@@ -69,36 +66,3 @@ mutual
       ap (λ (x : Emit). say (does (Event.put 0) ∷ []) ▷ x) (items-copied ns s p l c) ∙ say-puts (0 ∷ []) (encodeItems ns)
   items-copied (Items.item n ns) (SimpleItems.item a s) (ProperItems.item b p) l c =
       ap₂ (λ (x y : Emit). x ▷ y) (item-copied l c n (encode n) (λ d. emits-copied n a b d)) (items-copied ns s p l c) ∙ say-puts (encode n) (encodeItems ns)
-
--- ---- a name: no node stands in it
-
-bare-items : (ns : Items) → directItems ns ≡ 0 → SimpleItems ns
-unfolding directItems
-bare-items Items.none h = SimpleItems.none
-bare-items (Items.hole ns) h = SimpleItems.hole (bare-items ns h)
-bare-items (Items.item n ns) h = absurd (omega arith)
-
-bare-piece : (p : Piece) → directPiece p ≡ 0 → SimplePiece p
-unfolding directPiece
-bare-piece (Piece.one n) h = absurd (omega arith)
-bare-piece (Piece.list ns) h = SimplePiece.list (bare-items ns h)
-bare-piece (Piece.text bs) h = SimplePiece.text
-bare-piece (Piece.byte b) h = SimplePiece.byte
-bare-piece (Piece.mark b) h = SimplePiece.mark
-bare-piece (Piece.number b) h = SimplePiece.number
-
-bare-fields : (fs : Fields) → direct fs ≡ 0 → SimpleFields fs
-unfolding direct
-bare-fields Fields.done h = SimpleFields.done
-bare-fields (Fields.absent fs) h = SimpleFields.absent (bare-fields fs h)
-bare-fields (Fields.field p fs) h = SimpleFields.field (bare-piece p (omega arith)) (bare-fields fs (omega arith))
-
-other-kind : (k j : ℕ) → eqb k 18 ≡ true → eqb 18 j ≡ false → eqb k j ≡ true → ⊥
-other-kind k j e h z = absurd (true≢false (sym z ∙ ap (λ (x : ℕ). eqb x j) (eqb-true k 18 e) ∙ h))
-
--- 18 Reference
-pub emits-name : (n : Node) → is 18 n ≡ true → Proper n → (c : Place) → emits c n ≡ say (puts (encode n))
-unfolding is isNameKind
-emits-name (node at k fs) e (proper names objects holes t h p) c =
-    emits-copied (node at k fs)
-    (simple (λ z. absurd (other-kind k 34 e refl z)) (λ z. absurd (other-kind k 24 e refl z)) (bare-fields fs (names (rw e refl)))) (proper names objects holes t h p) c

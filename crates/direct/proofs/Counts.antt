@@ -4,11 +4,8 @@ use mathlib.Core.Path.{_≡_, refl, sym, ap, ap₂, _∙_, fun-ext}
 use mathlib.Core.Bool.{Bool, true, false, cond}
 use Prim.Native.Nat.{ℕ, zero, suc, _+_}
 use native.Mathlib.Omega.{arith}
-use Rattle.tree.specs.Tree.{Node, Fields, Items, count, depth}
-use Rattle.tree.specs.Tree.Node.{node}
-use Rattle.tree.specs.Tree.Fields.{field}
-use Rattle.tree.specs.Tree.Piece.{one, list}
-use Rattle.lowering.specs.Parts.{is, nodeAt, isEmpty, stands, standsIn, onItems, changeNode, only, each, gather, _+++_}
+use Rattle.tree.specs.Tree.{Node, Items, count, depth}
+use Rattle.lowering.specs.Parts.{is, nodeAt, isEmpty, onItems, changeNode, only, each, gather, _+++_}
 use Rattle.lowering.specs.Made.{Context, declares, reference, valueOf}
 use Rattle.lowering.specs.Patterns.{shape, properties, itemsOf, leftOf, value, rest, hasRest, withValues, replaced, replacedBelow}
 use Rattle.lowering.specs.Patterns.Shape.{objectPattern, arrayPattern, default, leaf}
@@ -18,15 +15,14 @@ use Rattle.lowering.specs.Declarations.{isName, source, sourceDeclarator, keysB
 use Rattle.lowering.proofs.Cases.{by-test, by-shape}
 use Rattle.lowering.proofs.WeightKeys.{rest-changed}
 use Rattle.direct.specs.Events.{Place, contextOf}
-use Rattle.direct.specs.Views.{objectAt, objectRestAt, nameless}
+use Rattle.direct.specs.Views.{nameless}
 use Rattle.direct.specs.Inner.{otherKeys}
 use Rattle.direct.specs.Declared.{declaratorCount}
 use Rattle.direct.specs.Counts.{sumOf, ownCount, foundCount, patternCount, declaratorsOf}
-use Rattle.direct.proofs.Items.{count-append}
-use Rattle.direct.proofs.RestValues.{empty-each}
-use Rattle.direct.proofs.Declared.{properties-changed, nested-object, nested-rest, nested-array, nested-default, nested-leaf}
+use Rattle.direct.proofs.Declared.{properties-changed}
 use Rattle.direct.proofs.Inner.{keys-counted, other-values}
 use Rattle.direct.proofs.Tests.{count-gather}
+use Rattle.lowering.proofs.ItemLaws.{count-append, empty-each}
 
 count-first : (b : Bool) (n : Node) → count (cond b (only n) Items.none) ≡ cond b 1 0
 unfolding count
@@ -127,40 +123,6 @@ module _ (κ μ : Context) where
 pub found-counted : (κ : Context) (p : Node) → count (nestedBelow κ p) ≡ foundCount p
 unfolding foundCount
 found-counted κ p = nested-count κ nameless (depth p) p
-
--- ---- what is found below a pattern, one level
-
-pub found-count-object : (at : ℕ) (ps : Items) → foundCount (objectAt at ps) ≡ sumOf (λ q. foundCount (value q)) ps
-unfolding foundCount
-found-count-object at ps = ap count (nested-object nameless at ps) ∙ count-gather (λ q. nestedBelow nameless (value q)) ps
-
-stands-rest : (at : ℕ) (ps : Items) (r : Node) → hasRest (objectRestAt at ps r) ≡ true
-unfolding stands standsIn
-stands-rest at ps r = refl
-
-pub found-count-rest : (at : ℕ) (ps : Items) (r : Node)
-    → foundCount (objectRestAt at ps r) ≡ (ownCount (objectRestAt at ps r) + 1) + sumOf (λ q. foundCount (value q)) ps
-unfolding foundCount
-found-count-rest at ps r =
-    let p = objectRestAt at ps r in
-    let f : Node → Node = λ v. replacedBelow nameless v in
-    let o = own nameless (withValues f p) (reference nameless p) in
-    ap count (nested-rest nameless at ps r)
-    ∙ count-append o (gather (λ q. nestedBelow nameless (value q)) ps)
-    ∙ ap₂ (λ (x y : ℕ). x + y) (own-count nameless f p (reference nameless p) ∙ ap (λ (b : Bool). ownCount p + cond b 1 0) (stands-rest at ps r))
-    (count-gather (λ q. nestedBelow nameless (value q)) ps)
-
-pub found-count-array : (at : ℕ) (is : Items) (fs : Fields) → foundCount (node at 36 (field (list is) fs)) ≡ sumOf foundCount is
-unfolding foundCount
-found-count-array at is fs = ap count (nested-array nameless at is fs) ∙ count-gather (λ n. nestedBelow nameless n) is
-
-pub found-count-default : (at : ℕ) (l : Node) (fs : Fields) → foundCount (node at 37 (field (one l) fs)) ≡ foundCount l
-unfolding foundCount
-found-count-default at l fs = ap count (nested-default nameless at l fs)
-
-pub found-count-leaf : (p : Node) → shape p ≡ leaf → foundCount p ≡ 0
-unfolding foundCount count
-found-count-leaf p e = ap count (nested-leaf nameless p e)
 
 -- ---- a pattern, a declarator, a declaration
 

@@ -18,7 +18,8 @@ use Rattle.direct.specs.Emit.{say, _▷_, inner, marking, startMark, emi
 use Rattle.direct.specs.Moved.{here, standIn, stand, movedIn, number, frontOf, fronts, fresh}
 use Rattle.direct.proofs.Threads.{then-assoc, say-nothing, then-nothing}
 use Rattle.direct.proofs.Makes.{more-statements, newDeclaration, emits-let, emits-temporary}
-use Rattle.direct.proofs.MovedMade.{gather-none, gather-hole, gather-only, gather-join, moved-object, moved-default, moved-leaf, moved-array-rest, moved-array, from-kept, from-moved}
+use Rattle.direct.proofs.MovedMade.{gather-hole, moved-object, moved-default, moved-leaf, moved-array-rest, moved-array, from-kept, from-moved}
+use Rattle.lowering.proofs.ItemLaws.{gather-none, gather-append, gather-only}
 
 -- ---- in front of a body
 
@@ -64,7 +65,7 @@ fronts-join c (Items.item p ps) qs =
 
 -- items of an array pattern (f is movedIn), or Params and Declarators (f is movedFrom), cut in two
 pub fronts-cut : (c : Place) (f : Node → Items) (is js : Items) → fronts c (gather f (is +++ js)) ≡ fronts c (gather f js) ▷ fronts c (gather f is)
-fronts-cut c f ns js = ap (fronts c) (gather-join f ns js) ∙ fronts-join c (gather f ns) (gather f js)
+fronts-cut c f ns js = ap (fronts c) (gather-append f ns js) ∙ fronts-join c (gather f ns) (gather f js)
 
 pub fronts-empty : (c : Place) (f : Node → Items) → fronts c (gather f Items.none) ≡ say []
 fronts-empty c f = ap (fronts c) (gather-none f) ∙ fronts-none c

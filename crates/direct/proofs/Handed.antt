@@ -1,14 +1,13 @@
 -- What declarations and assignments hand out, object by object.
 -- Assumes nothing.
 use mathlib.Core.Path.{_≡_, refl, sym, ap, ap₂, _∙_, fun-ext}
-use mathlib.Core.Bool.{Bool, true, false, cond, not, _&&_, _||_, true≢false, false≢true}
+use mathlib.Core.Bool.{Bool, true, false, cond, not, _&&_, _||_, false≢true}
 use mathlib.Core.List.{List, [], _∷_, _++_}
 use Prim.Native.Nat.{ℕ, suc, _+_}
 use lib.Dec.{eqb}
 use lib.ListN.{length}
-use Rattle.tree.specs.Tree.{Node, Piece, Items, wideBytes, mapOf, count, encode, encodeItems}
-use Rattle.tree.specs.Tree.Node.{node}
-use Rattle.lowering.specs.Parts.{position, is, nodeAt, numberAt, textAt, itemsAt, stands, standsIn, pieceIn, isEmpty, only, each, gather, any, change, onNode, changeNode, _+++_}
+use Rattle.tree.specs.Tree.{Node, Items, wideBytes, mapOf, count, encode, encodeItems}
+use Rattle.lowering.specs.Parts.{position, is, nodeAt, numberAt, textAt, itemsAt, stands, standsIn, pieceIn, isEmpty, only, each, gather, any, onNode, changeNode, _+++_}
 use Rattle.lowering.specs.Made.{Context, array, string, declares, declared, idOf, reference, excludedOf, valueOf, keyOf, temporary}
 use Rattle.lowering.specs.Patterns.{properties, key, objectsBelow}
 use Rattle.lowering.specs.Keys.{keySort, isPrimitive, excludedKey, excludedKeys, keyTemporary, keyTemporaries}
@@ -16,7 +15,7 @@ use Rattle.lowering.specs.Keys.Key.{name, literal, template, private, again, ot
 use Rattle.lowering.specs.Rests.{isHoisted, excludedFor, restMakes}
 use Rattle.lowering.specs.Declarations.{isName, isLowered, sourceDeclarator, innerObjects, declaratorMakes, loweredIn, declarationMakes, declarationExcludes}
 use Rattle.lowering.specs.Assignments.{target, restsOf, topEntry, topExcludes, topMakes, nestedEntry, nestedMakes}
-use Rattle.lowering.proofs.Cases.{by-test, by-key, and-right, or-left, or-right}
+use Rattle.lowering.proofs.Cases.{by-test, by-key, and-right, or-left, or-right, not-true, not-false}
 use Rattle.lowering.proofs.All.{AllItems}
 use Rattle.sink.specs.Machine.{Event}
 use Rattle.direct.specs.Events.{Deed, Emit, cell, cellOf, lists, excludes, made, handed, entered, excludedKeys as excludedDeeds, refused, handsOut}
@@ -31,9 +30,11 @@ use Rattle.direct.proofs.Threads.{then-assoc, then-nothing, say-say}
 use Rattle.direct.proofs.Alike.{key-kept}
 use Rattle.direct.proofs.AlikeRests.{excluded-none, excluded-append}
 use Rattle.direct.proofs.Items.{turn-same}
-use Rattle.direct.proofs.Lists.{each-gather, count-each}
-use Rattle.direct.proofs.RestValues.{empty-each, key-name, key-literal, key-template, key-private, entries-in, hoisted-are, hoists-values, entries-values, does-each}
+use Rattle.direct.proofs.RestValues.{key-name, key-literal, key-template, key-private, entries-in, hoisted-are, hoists-values, entries-values, does-each}
 use Rattle.direct.proofs.Objects.{Keyed, objects-same-path}
+use Rattle.lowering.proofs.ItemLaws.{each-gather, count-each, empty-each}
+use Rattle.lowering.proofs.ChangeLaws.{position-changed}
+use Rattle.direct.proofs.AlikeRules.{handed-append}
 
 -- ---- lists of deeds, list by list
 
@@ -84,17 +85,9 @@ pub made-listed : Listed made
 unfolding made
 made-listed = record { empty = refl; skips = λ is. refl; joins = made-joins }
 
-handed-joins : (is js : Items) → handed (is +++ js) ≡ handed is ++ handed js
-unfolding handed _+++_
-handed-joins Items.none js = refl
-handed-joins (Items.hole is) js = handed-joins is js
-handed-joins (Items.item d is) js =
-    let h = lists (5 ∷ cond (stands 1 d) 3 1 ∷ []) ++ (does (Event.listedTemporary (cellOf (idOf d))) ∷ cond (stands 1 d) (lists (encode (nodeAt 1 d))) []) in
-    ap (λ (x : List Deed). h ++ x) (handed-joins is js) ∙ sym (append-deeds h (handed is) (handed js))
-
 pub handed-listed : Listed handed
 unfolding handed
-handed-listed = record { empty = refl; skips = λ is. refl; joins = handed-joins }
+handed-listed = record { empty = refl; skips = λ is. refl; joins = handed-append }
 
 pub excluded-listed : Listed excludedDeeds
 unfolding excludedDeeds
@@ -162,14 +155,6 @@ excludes-append (b ∷ bs) cs = ap (λ (x : List Deed). does (Event.excluded b) 
 bytes-assoc : (xs bs cs : List ℕ) → (xs ++ bs) ++ cs ≡ xs ++ (bs ++ cs)
 bytes-assoc [] bs cs = refl
 bytes-assoc (a ∷ xs) bs cs = ap (λ (x : List ℕ). a ∷ x) (bytes-assoc xs bs cs)
-
-not-true : (b : Bool) → not b ≡ true → b ≡ false
-not-true true h = absurd (false≢true h)
-not-true false h = refl
-
-not-false : (b : Bool) → not b ≡ false → b ≡ true
-not-false true h = refl
-not-false false h = absurd (true≢false h)
 
 encode-append : (is js : Items) → encodeItems (is +++ js) ≡ encodeItems is ++ encodeItems js
 unfolding encode _+++_
@@ -301,15 +286,11 @@ pub hands-keyed : Keyed handsPlace
 unfolding handsPlace
 hands-keyed g at ps r = refl
 
-key-position : (i : ℕ) (f : Piece → Piece) (q : Node) → position (change i f q) ≡ position q
-unfolding change
-key-position i f (node at k fs) = refl
-
 pub keys-keyed : Keyed keysMade
 unfolding keysMade keyMade itemsAt pieceIn
 keys-keyed g at ps r =
     does-each keyMade (λ q. changeNode 1 g q)
-    (λ q. ap₂ (λ (x : ℕ) (k : Node). cond (isOther k) (say (does (Event.make (cell 4 x)) ∷ [])) (say [])) (key-position 1 (onNode g) q) (key-kept (onNode g) q)) ps
+    (λ q. ap₂ (λ (x : ℕ) (k : Node). cond (isOther k) (say (does (Event.make (cell 4 x)) ∷ [])) (say [])) (position-changed 1 (onNode g) q) (key-kept (onNode g) q)) ps
 
 bytes-kept : (g : Node → Node) (q : Node) → keyBytes (changeNode 1 g q) ≡ keyBytes q
 unfolding keyBytes

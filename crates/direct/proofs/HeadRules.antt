@@ -23,10 +23,11 @@ use Rattle.direct.specs.Moved.{standIn, stand, behind, makes, bodyIn, bl
 use Rattle.direct.proofs.Threads.{then-assoc, say-nothing, then-nothing}
 use Rattle.direct.proofs.Stays.{emits-as, emits-refused}
 use Rattle.direct.proofs.Makes.{say-then, below-scoped, two-fields, only-item, newDeclaration, emits-var, emits-temporary}
-use Rattle.direct.proofs.MovedOut.{behind-here, each-count}
-use Rattle.direct.proofs.MovedMade.{gather-only, hands-function, hands-arrow, hands-catch, hands-declaring, hands-assigning}
+use Rattle.direct.proofs.MovedOut.{behind-here}
+use Rattle.direct.proofs.MovedMade.{hands-function, hands-arrow, hands-catch, hands-declaring, hands-assigning}
 use Rattle.direct.proofs.MovedRest.{emits-declaring}
 use Rattle.direct.proofs.Bodies.{body-here, inner-scoped}
+use Rattle.lowering.proofs.ItemLaws.{gather-only, count-each}
 
 -- a step with what it hands out and what it leaves named
 emits-by : (c : Place) (n : Node) (ts : Items) (r : Node) (ds : List Deed) → rewrite (contextOf c) n ≡ rewritten ts r → handsOut (c .mark) (rewritten ts r .note) ≡ ds
@@ -101,7 +102,7 @@ emits-arrow c at qs rest b h =
     ∙ ap (λ (x : Emit). say (makes (gather movedFrom qs)) ▷ x)
     (stays-arrow c at (each behind qs) rest d
     ∙ ap₂ (λ (x y : ℕ). say (puts (17 ∷ x ∷ wideBytes y)) ▷ emitsItems false (scoped c) (each behind qs) ▷ emitsGiven (emits (scoped c)) rest ▷ emits (scoped c) d)
-    (arrow-map (each behind qs) qs rest d b) (each-count behind qs))
+    (arrow-map (each behind qs) qs rest d b) (count-each behind qs))
 
 -- ---- functions with a body
 
@@ -198,7 +199,7 @@ emits-function c at m sort name qs rest b h =
     ▷ emitsItems false (scoped c) (each behind qs)
     ▷ emitsGiven (emits (scoped c)) rest
     ▷ emits (scoped c) d)
-    (function-map m sort name (each behind qs) qs rest d b) (each-count behind qs))
+    (function-map m sort name (each behind qs) qs rest d b) (count-each behind qs))
 
 -- ---- catches
 

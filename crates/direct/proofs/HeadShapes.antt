@@ -1,8 +1,8 @@
 -- Well-formed heads, bodies and patterns that bind have the fields that the laws about heads speak of.
 -- Assumes nothing.
-use mathlib.Core.Path.{_≡_, refl, sym, ap, ap₂, _∙_, subst, fun-ext}
+use mathlib.Core.Path.{_≡_, refl, sym, ap, ap₂, _∙_, subst}
 use mathlib.Core.Option.{Option}
-use mathlib.Core.Bool.{Bool, true, false, cond, _&&_, true≢false, false≢true}
+use mathlib.Core.Bool.{Bool, true, false, cond, _&&_, false≢true}
 use mathlib.Core.List.{List, [], _∷_}
 use mathlib.Core.Logic.{_⊎_, ⊎-elim}
 use mathlib.Core.Logic._⊎_.{inl, inr}
@@ -11,7 +11,7 @@ use native.Mathlib.Omega.{arith}
 use native.Mathlib.Decide.{decLt}
 use lib.Dec.{eqb, ltb}
 use lib.ListN.{getD}
-use borrow.Author.Tests.{eqb-true, lt-ltb, le-ltb}
+use borrow.Author.Tests.{eqb-true, le-ltb}
 use Rattle.tree.specs.Tree.{Node, Fields, Piece, Items, mapOf}
 use Rattle.tree.specs.Tree.Node.{node}
 use Rattle.tree.specs.Grammar.{Sort, Field, places, allowed, kindOf, formIn, formAt, fieldsOf, kinds, variants}
@@ -20,18 +20,15 @@ use Rattle.tree.specs.Grammar.Field.{must, may}
 use Rattle.tree.specs.Read.{sortIn}
 use Rattle.tree.specs.WellFormed.{byteIn, Fits, FitFields, FitPiece, FitItems}
 use Rattle.tree.proofs.Look.{kind-at}
-use Rattle.lowering.specs.Parts.{kind, is}
+use Rattle.lowering.specs.Parts.{is}
 use Rattle.lowering.specs.Walk.{ruleOf}
-use Rattle.lowering.specs.Collect.{isContainer, marked}
+use Rattle.lowering.specs.Collect.{isContainer}
 use Rattle.lowering.proofs.Cases.{by-test, and-left, and-right}
-use Rattle.lowering.proofs.Accepted.{NoHoles}
-use Rattle.sink.specs.Machine.{Event}
 use Rattle.direct.specs.Events.{Place, Emit, puts, emits}
-use Rattle.direct.specs.Events.Deed.{does}
-use Rattle.direct.specs.Emit.{say, _▷_, below, marking, markHere, emitsStatement, emitsItem, emitsItems, emitsPiece, emitsFields, stays}
+use Rattle.direct.specs.Emit.{say, _▷_, below, emitsPiece, emitsFields, stays}
 use Rattle.direct.proofs.Stays.{emits-nowhere}
-use Rattle.direct.proofs.Makes.{more-statements}
-use Rattle.direct.specs.Moved.{given, functionFields, arrowFields, forFields, declarationFields, Binder}
+use Rattle.direct.specs.Moved.{given, forFields, declarationFields}
+use Rattle.lowering.proofs.Accepted.{early}
 
 -- ---- forms
 
@@ -46,10 +43,6 @@ late-kind (suc (suc (suc zero))) k e a b = absurd (omega arith)
 late-kind (suc (suc (suc (suc zero)))) k e a b = absurd (omega arith)
 late-kind (suc (suc (suc (suc (suc zero))))) k e a b = absurd (omega arith)
 late-kind (suc (suc (suc (suc (suc (suc i)))))) k e a b = absurd (omega arith)
-
-early : (f : ℕ) → f < 64 → kindOf f ≡ f
-unfolding kindOf
-early f h = rw (lt-ltb f 64 h)
 
 lately : (f : ℕ) → 64 ≤ f → kindOf f ≡ late (f - 64)
 unfolding kindOf
@@ -102,9 +95,6 @@ record List-at (p : ℕ) (h : Bool) (x : Piece) : Type 0 where
 list-at : {b p : ℕ} {x : Piece} → FitPiece input b (Sort.many p) x → List-at p false x
 list-at (FitPiece.many {is = ns} l h) = record { part = ns; same = refl; partFits = h }
 
-gaps-at : {b p : ℕ} {x : Piece} → FitPiece input b (Sort.gaps p) x → List-at p true x
-gaps-at (FitPiece.gaps {is = ns} l h) = record { part = ns; same = refl; partFits = h }
-
 record Mark-at (x : Piece) : Type 0 where
   part : ℕ
   same : x ≡ Piece.mark part
@@ -140,38 +130,6 @@ given-at (FitFields.absent {fs = fs} f) = record { part = Option.none; more = fs
 given-at (FitFields.field {p = x} {fs = fs} h f) =
     let n = node-at h in
     record { part = Option.some (n .part); more = fs; same = ap (λ (y : Piece). Fields.field y fs) (n .same); partFits = n .partFits; next = byteIn x; moreFit = f }
-
--- ---- arrows
-
-pub record ArrowFits (fs : Fields) : Type 0 where
-  pub params : Items
-  pub rest : Option Node
-  pub body : Node
-  pub fields : fs ≡ arrowFields params rest body
-  pub paramsFit : FitItems input 7 false params
-  pub restFits : FitGiven 15 rest
-  pub bodyFits : Fits input 9 body
-
-arrow-in : {b : ℕ} {fs : Fields} → FitFields input b (must (Sort.many 7) ∷ may (Sort.child 15) ∷ must (Sort.child 9) ∷ []) fs → ArrowFits fs
-arrow-in f =
-    let a = led f in
-    let qs = list-at (a .pieceFits) in
-    let r = given-at (a .moreFit) in
-    let d = led (r .moreFit) in
-    let b = node-at (d .pieceFits) in
-    record {
-      params = qs .part;
-      rest = r .part;
-      body = b .part;
-      fields = a .same ∙ ap₂ Fields.field (qs .same) (r .same ∙ ap (given (r .part)) (d .same ∙ ap₂ Fields.field (b .same) (ended (d .moreFit))));
-      paramsFit = qs .partFits;
-      restFits = r .partFits;
-      bodyFits = b .partFits;
-    }
-
-pub arrow-fits : {p at : ℕ} {fs : Fields} → Fits input p (node at 17 fs) → ArrowFits fs
-unfolding fieldsOf kinds
-arrow-fits f = arrow-in (fields-in f (omega arith) (omega arith) (λ e. omega arith))
 
 -- ---- functions; with a body the fields are functionFields
 
@@ -337,59 +295,7 @@ pub record DeclarationFits (fs : Fields) : Type 0 where
   pub fields : fs ≡ declarationFields mark sort declarators
   pub declaratorsFit : FitItems input 4 false declarators
 
-declaration-in : {i low high : ℕ} {fs : Fields} → FitFields input i (must Sort.mark ∷ must (Sort.byte low high) ∷ must (Sort.many 4) ∷ []) fs → DeclarationFits fs
-declaration-in f =
-    let a = led f in
-    let m = mark-at (a .pieceFits) in
-    let b = led (a .moreFit) in
-    let s = byte-at (b .pieceFits) in
-    let c = led (b .moreFit) in
-    let ds = list-at (c .pieceFits) in
-    record {
-      mark = m .part;
-      sort = s .part;
-      declarators = ds .part;
-      fields = a .same ∙ ap₂ Fields.field (m .same) (b .same ∙ ap₂ Fields.field (s .same) (c .same ∙ ap₂ Fields.field (ds .same) (ended (c .moreFit))));
-      declaratorsFit = ds .partFits;
-    }
-
-pub declaration-fits : {p at : ℕ} {fs : Fields} → Fits input p (node at 4 fs) → DeclarationFits fs
-unfolding fieldsOf kinds
-declaration-fits f = declaration-in (fields-in f (omega arith) (omega arith) (λ e. omega arith))
-
--- a list in which no hole may stand has none
-pub whole : {p : ℕ} {h : Bool} {is : Items} → FitItems input p h is → h ≡ false → NoHoles is
-unfolding NoHoles
-whole FitItems.none e = tt
-whole (FitItems.hole i) e = absurd (true≢false e)
-whole (FitItems.item f i) e = whole i e
-
 -- ---- Params and Declarators
-
-pub record BinderFits (fs : Fields) : Type 0 where
-  pub pattern : Node
-  pub value : Option Node
-  pub fields : fs ≡ Fields.field (Piece.one pattern) (given value Fields.done)
-  pub patternFits : Fits input 15 pattern
-  pub valueFits : FitGiven 3 value
-
-binder-in : {i : ℕ} {fs : Fields} → FitFields input i (must (Sort.child 15) ∷ may (Sort.child 3) ∷ []) fs → BinderFits fs
-binder-in f =
-    let a = led f in
-    let p = node-at (a .pieceFits) in
-    let v = given-at (a .moreFit) in
-    record {
-      pattern = p .part;
-      value = v .part;
-      fields = a .same ∙ ap₂ Fields.field (p .same) (v .same ∙ ap (given (v .part)) (ended (v .moreFit)));
-      patternFits = p .partFits;
-      valueFits = v .partFits;
-    }
-
-pub binder-fits : {p at k : ℕ} {fs : Fields} → Binder k → Fits input p (node at k fs) → BinderFits fs
-unfolding fieldsOf kinds
-binder-fits Binder.param f = binder-in (fields-in f (omega arith) (omega arith) (λ e. omega arith))
-binder-fits Binder.declarator f = binder-in (fields-in f (omega arith) (omega arith) (λ e. omega arith))
 
 one-form : (j k : ℕ) → 0 < cond (ltb k 64) (cond (eqb j k) j 0) 0 → k ≡ j
 one-form j k h = go (ltb k 64) (eqb j k) refl h
@@ -404,54 +310,7 @@ pub param-kind : {at k : ℕ} {fs : Fields} → Fits input 7 (node at k fs) → 
 unfolding formAt allowed places formIn kindOf
 param-kind {k = k} f = one-form 15 k (form-there f)
 
-pub declarator-kind : {at k : ℕ} {fs : Fields} → Fits input 4 (node at k fs) → k ≡ 5
-unfolding formAt allowed places formIn kindOf
-declarator-kind {k = k} f = one-form 5 k (form-there f)
-
 -- ---- bodies
-
--- 16 FunctionBody(directives*? body*)
-abbrev pub bodyFields : Option Items → Items → Fields
-bodyFields Option.none ns = Fields.absent (Fields.field (Piece.list ns) Fields.done)
-bodyFields (Option.some ds) ns = Fields.field (Piece.list ds) (Fields.field (Piece.list ns) Fields.done)
-
-abbrev pub FitDirectives : Option Items → Type 0
-FitDirectives Option.none = Unit {0}
-FitDirectives (Option.some ds) = FitItems input 10 false ds
-
-pub record BodyFits (fs : Fields) : Type 0 where
-  pub directives : Option Items
-  pub body : Items
-  pub fields : fs ≡ bodyFields directives body
-  pub directivesFit : FitDirectives directives
-  pub bodyFit : FitItems input 1 false body
-
-body-in : {i : ℕ} {fs : Fields} → FitFields input i (may (Sort.many 10) ∷ must (Sort.many 1) ∷ []) fs → BodyFits fs
-body-in (FitFields.absent f) =
-    let a = led f in
-    let ns = list-at (a .pieceFits) in
-    record {
-      directives = Option.none;
-      body = ns .part;
-      fields = ap Fields.absent (a .same ∙ ap₂ Fields.field (ns .same) (ended (a .moreFit)));
-      directivesFit = tt;
-      bodyFit = ns .partFits;
-    }
-body-in (FitFields.field h f) =
-    let ds = list-at h in
-    let a = led f in
-    let ns = list-at (a .pieceFits) in
-    record {
-      directives = Option.some (ds .part);
-      body = ns .part;
-      fields = ap₂ Fields.field (ds .same) (a .same ∙ ap₂ Fields.field (ns .same) (ended (a .moreFit)));
-      directivesFit = ds .partFits;
-      bodyFit = ns .partFits;
-    }
-
-pub body-fits : {p at : ℕ} {fs : Fields} → Fits input p (node at 16 fs) → BodyFits fs
-unfolding fieldsOf kinds
-body-fits f = body-in (fields-in f (omega arith) (omega arith) (λ e. omega arith))
 
 pub functionBody-kind : {at k : ℕ} {fs : Fields} → Fits input 8 (node at k fs) → k ≡ 16
 unfolding formAt allowed places formIn kindOf
@@ -463,23 +322,6 @@ pub record BlockFits (fs : Fields) : Type 0 where
   pub body : Items
   pub fields : fs ≡ Fields.field (Piece.mark mark) (Fields.field (Piece.list body) Fields.done)
   pub bodyFit : FitItems input 1 false body
-
-block-in : {i : ℕ} {fs : Fields} → FitFields input i (must Sort.mark ∷ must (Sort.many 1) ∷ []) fs → BlockFits fs
-block-in f =
-    let a = led f in
-    let m = mark-at (a .pieceFits) in
-    let b = led (a .moreFit) in
-    let ns = list-at (b .pieceFits) in
-    record {
-      mark = m .part;
-      body = ns .part;
-      fields = a .same ∙ ap₂ Fields.field (m .same) (b .same ∙ ap₂ Fields.field (ns .same) (ended (b .moreFit)));
-      bodyFit = ns .partFits;
-    }
-
-pub block-fits : {p at : ℕ} {fs : Fields} → Fits input p (node at 2 fs) → BlockFits fs
-unfolding fieldsOf kinds
-block-fits f = block-in (fields-in f (omega arith) (omega arith) (λ e. omega arith))
 
 pub catchBody-kind : {at k : ℕ} {fs : Fields} → Fits input 5 (node at k fs) → k ≡ 2
 unfolding formAt allowed places formIn kindOf
@@ -504,10 +346,6 @@ statement-24 n f = never 24 refl n f
 pub statement-27 : (n : Node) → Fits input 1 n → is 27 n ≡ false
 unfolding formAt allowed places formIn kindOf
 statement-27 n f = never 27 refl n f
-
--- an item of a container
-pub statements-item : (c : Place) (n : Node) (ns : Items) → Fits input 1 n → emitsItems true c (Items.item n ns) ≡ emitsStatement c n ▷ emitsItems true c ns
-statements-item c n ns f = more-statements c n ns (statement-24 n f) (statement-27 n f)
 
 -- a statement begins with its mark
 
@@ -593,10 +431,6 @@ statement-fits {k = k} f = mark-first (fields-at f) (statement-leads k (form-the
 
 -- ---- patterns that bind
 
-pub data Binds : ℕ → Type 0 where
-  binding : Binds 15
-  value : Binds 18
-
 pub record ArrayFits (fs : Fields) : Type 0 where
   pub items : Items
   pub rest : Option Node
@@ -604,53 +438,12 @@ pub record ArrayFits (fs : Fields) : Type 0 where
   pub itemsFit : FitItems input 18 true items
   pub restFits : FitGiven 15 rest
 
-array-in : {i : ℕ} {fs : Fields} → FitFields input i (must (Sort.gaps 18) ∷ may (Sort.child 15) ∷ []) fs → ArrayFits fs
-array-in f =
-    let a = led f in
-    let ns = gaps-at (a .pieceFits) in
-    let r = given-at (a .moreFit) in
-    record {
-      items = ns .part;
-      rest = r .part;
-      fields = a .same ∙ ap₂ Fields.field (ns .same) (r .same ∙ ap (given (r .part)) (ended (r .moreFit)));
-      itemsFit = ns .partFits;
-      restFits = r .partFits;
-    }
-
-pub array-fits : {p at : ℕ} {fs : Fields} → Binds p → Fits input p (node at 36 fs) → ArrayFits fs
-unfolding fieldsOf kinds variants formAt allowed places formIn kindOf
-array-fits Binds.binding f = array-in (fields-at f)
-array-fits Binds.value f = array-in (fields-at f)
-
 pub record DefaultFits (fs : Fields) : Type 0 where
   pub left : Node
   pub right : Node
   pub fields : fs ≡ Fields.field (Piece.one left) (Fields.field (Piece.one right) Fields.done)
   pub leftFits : Fits input 15 left
   pub rightFits : Fits input 3 right
-
-default-in : {i : ℕ} {fs : Fields} → FitFields input i (must (Sort.child 15) ∷ must (Sort.child 3) ∷ []) fs → DefaultFits fs
-default-in f =
-    let a = led f in
-    let l = node-at (a .pieceFits) in
-    let b = led (a .moreFit) in
-    let r = node-at (b .pieceFits) in
-    record {
-      left = l .part;
-      right = r .part;
-      fields = a .same ∙ ap₂ Fields.field (l .same) (b .same ∙ ap₂ Fields.field (r .same) (ended (b .moreFit)));
-      leftFits = l .partFits;
-      rightFits = r .partFits;
-    }
-
--- a Default stands in a property or an item only
-pub default-fits : {at : ℕ} {fs : Fields} → Fits input 18 (node at 37 fs) → DefaultFits fs
-unfolding fieldsOf kinds variants formAt allowed places formIn kindOf
-default-fits f = default-in (fields-at f)
-
-pub binding-no-default : (n : Node) → Fits input 15 n → is 37 n ≡ false
-unfolding formAt allowed places formIn kindOf
-binding-no-default n f = never 37 refl n f
 
 -- ---- directives, which are Literals
 
@@ -705,14 +498,3 @@ literal-anywhere c d (node at k fs) f =
     let e = literal-kind f in
     let g : Fits input 10 (node at 22 fs) = subst (λ (x : ℕ). Fits input 10 (node at x fs)) e f in
     subst (λ (x : ℕ). emits c (node at x fs) ≡ emits d (node at x fs)) (sym e) (literal-22 c d at fs (fields-in g (omega arith) (omega arith) (λ z. omega arith)))
-
--- so it does not matter whether they are taken for statements
-pub directives-anywhere : (l k : Bool) (c d : Place) {h : Bool} {is : Items} → FitItems input 10 h is → emitsItems l c is ≡ emitsItems k d is
-unfolding emitsItems emitsItem
-directives-anywhere l k c d FitItems.none = refl
-directives-anywhere l k c d (FitItems.hole {is = ns} i) = ap (λ (x : Emit). say (does (Event.put 0) ∷ []) ▷ x) (directives-anywhere l k c d i)
-directives-anywhere l k c d (FitItems.item {n = n} {is = ns} f i) =
-    ap₂ (λ (x y : Emit). x ▷ y)
-    (fun-ext (λ next.
-    ap (λ (g : Emit). g next) (literal-anywhere (cond l (marking c (marked next (markHere c n))) c) (cond k (marking d (marked next (markHere d n))) d) n f)))
-    (directives-anywhere l k c d i)

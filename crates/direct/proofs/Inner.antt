@@ -1,15 +1,14 @@
 -- The assignment of an object with rest that has been replaced: its rest is its own alone.
 -- Assumes nothing.
 use mathlib.Core.Path.{_≡_, refl, sym, ap, ap₂, _∙_, fun-ext}
-use mathlib.Core.Bool.{Bool, true, false, cond, _||_}
+use mathlib.Core.Bool.{Bool, true, false, cond, _||_, or-false}
 use mathlib.Core.List.{[], _∷_, _++_}
 use Prim.Native.Nat.{ℕ, suc, _+_, _≤_}
 use native.Mathlib.Omega.{arith}
-use Rattle.tree.specs.Tree.{Node, Piece, Items, wideBytes, count, depth, encode}
-use Rattle.tree.specs.Tree.Node.{node}
+use Rattle.tree.specs.Tree.{Node, Items, wideBytes, count, depth, encode}
 use Rattle.tree.specs.Tree.Fields.{done, field}
 use Rattle.tree.specs.Tree.Piece.{one}
-use Rattle.lowering.specs.Parts.{nothing, position, is, pieceIn, standsIn, nodeAt, itemsAt, stands, change, onNode, changeNode, only, each, gather, any, _+++_}
+use Rattle.lowering.specs.Parts.{nothing, is, pieceIn, standsIn, nodeAt, itemsAt, stands, onNode, changeNode, only, each, gather, any, _+++_}
 use Rattle.lowering.specs.Made.{Context, temporary, assign, declares, keyOf}
 use Rattle.lowering.specs.Patterns.{shape, properties, key, value, hasRest, withValues, hasNestedObjectRest, hasNestedArrayRest, hasObjectRest, hasArrayRestOverObjectRest, replaced, replacedBelow}
 use Rattle.lowering.specs.Patterns.Shape.{objectPattern, leaf}
@@ -30,13 +29,15 @@ use Rattle.direct.specs.Inner.{otherKeys, emitsInnerTop}
 use Rattle.direct.proofs.Threads.{then-assoc}
 use Rattle.direct.proofs.Alike.{key-kept}
 use Rattle.direct.proofs.Kept.{over-none}
-use Rattle.direct.proofs.Lists.{gather-same, gather-each, turn-only, gather-only}
+use Rattle.direct.proofs.Lists.{turn-only}
 use Rattle.direct.proofs.PatternViews.{says-cell, without-object, taken-rest, values-rest}
 use Rattle.direct.proofs.RestValues.{does-each, rest-values}
 use Rattle.direct.proofs.Objects.{Keyed, value-changed, rests-rest}
 use Rattle.direct.proofs.Handed.{keyTemporary-is, excludes-keyed}
-use Rattle.direct.proofs.Targets.{replaced-nothing, without-replaced, rests-replaced, values-changed, any-taken, has-replaced, has-object, over-object, any-none, any-each, values-twice, rep-nothing}
+use Rattle.direct.proofs.Targets.{replaced-nothing, without-replaced, rests-replaced, values-changed, any-taken, has-replaced, has-object, over-object, any-each, values-twice, rep-nothing}
 use Rattle.direct.proofs.Assigned.{assignment-top, assignment-refused-6, target-kept, rest-done}
+use Rattle.lowering.proofs.ItemLaws.{gather-only, gather-same, gather-each, any-none}
+use Rattle.lowering.proofs.ChangeLaws.{position-changed}
 
 -- the object as it stands when those inside it are replaced
 abbrev pub innerAt : ℕ → Items → Node → Node
@@ -54,14 +55,6 @@ none-gathered (Items.item n is) = none-gathered is
 only-left : (n : Node) → Items.none +++ only n ≡ only n
 unfolding _+++_
 only-left n = refl
-
-or-none : (a : Bool) → a || false ≡ a
-or-none true = refl
-or-none false = refl
-
-position-same : (i : ℕ) (f : Piece → Piece) (q : Node) → position (change i f q) ≡ position q
-unfolding change
-position-same i f (node at k fs) = refl
 
 key-counted : (b : Bool) (n : Node) (is : Items) → count (cond b (only n) Items.none +++ is) ≡ cond b (suc (count is)) (count is)
 unfolding count _+++_
@@ -98,7 +91,7 @@ pub handsKeys-keyed : Keyed handsKeys
 unfolding handsKeys handsKey itemsAt pieceIn
 handsKeys-keyed g at ps r =
     does-each handsKey (λ q. changeNode 1 g q)
-    (λ q. ap₂ (λ (x : ℕ) (k : Node). cond (isOther k) (say (lists (5 ∷ 3 ∷ []) ++ (does (Event.listedTemporary (cell 4 x)) ∷ lists (encode k)))) (say [])) (position-same 1 (onNode g) q) (key-kept (onNode g) q)) ps
+    (λ q. ap₂ (λ (x : ℕ) (k : Node). cond (isOther k) (say (lists (5 ∷ 3 ∷ []) ++ (does (Event.listedTemporary (cell 4 x)) ∷ lists (encode k)))) (say [])) (position-changed 1 (onNode g) q) (key-kept (onNode g) q)) ps
 
 count-keys : (κ : Context) (qs : Items) → count (gather (keyTemporary κ) qs) ≡ otherKeys qs
 unfolding gather count otherKeys
@@ -233,7 +226,7 @@ module _ (at : ℕ) (ps : Items) (r : Node) where
   unfolding topLacksForm nodeAt pieceIn any
   top-lacks x =
       ap (any (λ p. anyLacksForm p)) inner-rests
-      ∙ or-none (anyLacksForm (innerAt at ps r))
+      ∙ or-false (anyLacksForm (innerAt at ps r))
       ∙ lacks-kept (λ v. replacedBelow nameless v) at ps r
 
   -- a key without form

@@ -1,12 +1,11 @@
 -- Lists one after another.
 -- Assumes nothing.
 use mathlib.Core.Path.{_≡_, refl, sym, ap, ap₂, _∙_}
-use mathlib.Core.Bool.{Bool, true, false, _||_}
+use mathlib.Core.Bool.{Bool}
 use mathlib.Core.List.{[], _∷_}
 use Prim.Native.Nat.{_+_}
-use native.Mathlib.Omega.{arith}
-use Rattle.tree.specs.Tree.{Node, Items, count}
-use Rattle.lowering.specs.Parts.{each, gather, any, _+++_}
+use Rattle.tree.specs.Tree.{Node, Items}
+use Rattle.lowering.specs.Parts.{gather, _+++_}
 use Rattle.lowering.proofs.Accepted.{NoHoles}
 use Rattle.sink.specs.Machine.{Event}
 use Rattle.direct.specs.Events.{Place, Emit}
@@ -31,13 +30,6 @@ items-gather l c f (Items.hole ns) = items-gather l c f ns
 items-gather l c f (Items.item n ns) =
     items-append l c (f n) (gather f ns) ∙ ap (λ (x : Emit). emitsItems l c (f n) ▷ x) (items-gather l c f ns)
 
--- items that are changed, or made, one for one
-pub items-each : (l : Bool) (c : Place) (f : Node → Node) (ns : Items) → NoHoles ns → emitsItems l c (each f ns) ≡ inTurn (λ n. emitsItem l c (f n)) ns
-unfolding emitsItems each inTurn NoHoles
-items-each l c f Items.none w = refl
-items-each l c f (Items.hole ns) w = absurd w
-items-each l c f (Items.item n ns) w = ap (λ (x : Emit). emitsItem l c (f n) ▷ x) (items-each l c f ns w)
-
 pub turn-append : (f : Node → Emit) (ns ms : Items) → inTurn f (ns +++ ms) ≡ inTurn f ns ▷ inTurn f ms
 unfolding inTurn _+++_
 turn-append f Items.none ms = sym (say-nothing (inTurn f ms))
@@ -55,22 +47,6 @@ unfolding inTurn
 turn-same f g h Items.none = refl
 turn-same f g h (Items.hole ns) = turn-same f g h ns
 turn-same f g h (Items.item n ns) = ap₂ (λ (x y : Emit). x ▷ y) (h n) (turn-same f g h ns)
-
-pub count-append : (ns ms : Items) → count (ns +++ ms) ≡ count ns + count ms
-unfolding count _+++_
-count-append Items.none ms = omega arith
-count-append (Items.hole ns) ms = let e = count-append ns ms in omega arith
-count-append (Items.item n ns) ms = let e = count-append ns ms in omega arith
-
-or-assoc : (a b c : Bool) → (a || b) || c ≡ a || (b || c)
-or-assoc true b c = refl
-or-assoc false b c = refl
-
-pub any-append : (f : Node → Bool) (ns ms : Items) → any f (ns +++ ms) ≡ any f ns || any f ms
-unfolding any _+++_
-any-append f Items.none ms = refl
-any-append f (Items.hole ns) ms = any-append f ns ms
-any-append f (Items.item n ns) ms = ap (λ (x : Bool). f n || x) (any-append f ns ms) ∙ sym (or-assoc (f n) (any f ns) (any f ms))
 
 pub holes-append : (ns ms : Items) → NoHoles ns → NoHoles ms → NoHoles (ns +++ ms)
 unfolding NoHoles _+++_

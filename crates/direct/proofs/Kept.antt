@@ -4,23 +4,23 @@ use mathlib.Core.Path.{_≡_, refl, ap, _∙_}
 use mathlib.Core.Bool.{Bool, true, false, cond, _||_, _&&_}
 use Prim.Native.Nat.{ℕ, zero, suc}
 use borrow.Author.Tests.{eqb-true}
-use Rattle.tree.specs.Tree.{Node, Fields, Piece, Items, depth, depthFields}
+use Rattle.tree.specs.Tree.{Node, Items, depth, depthFields}
 use Rattle.tree.specs.Tree.Node.{node}
-use Rattle.lowering.specs.Parts.{kind, is, pieceIn, changeIn, asItems, nodeAt, itemsAt, stands, change, onItems, changeItems, only, each, gather, any, _+++_}
+use Rattle.lowering.specs.Parts.{kind, is, nodeAt, itemsAt, stands, only, each, gather, any, _+++_}
 use Rattle.lowering.specs.Made.{Context}
 use Rattle.lowering.specs.Patterns.{shape, properties, itemsOf, rest, hasRest, leftOf, value, hasNestedObjectRest, hasNestedArrayRest, hasObjectRest}
-use Rattle.lowering.specs.Patterns.Shape.{objectPattern}
 use Rattle.lowering.specs.Keys.{anyLacksForm}
 use Rattle.lowering.specs.Rests.{excludedFor}
 use Rattle.lowering.specs.Literals.{literal}
 use Rattle.lowering.specs.Declarations.{isLowered, declaratorMakes, declarators, loweredIn, declaration, declarationMakes, declarationExcludes, declarationLacksForm}
 use Rattle.lowering.specs.Assignments.{isTop, target}
 use Rattle.lowering.specs.Heads.{isMoved, movedFrom, function, functionMakes, arrow, arrowMakes, catch, catchMakes, declaringHead, declaringMakes, assigningHead, assigningMakes}
-use Rattle.lowering.specs.Walk.{Step, rewritten, unchanged, ruleOf, rewrite, stepDeclaration, stepAssignment, stepFor}
-use Rattle.lowering.specs.Walk.Rule.{literals, declarations, assignments, functions, arrows, catches, fors}
-use Rattle.lowering.proofs.Cases.{by-test, by-shape, or-left, or-right}
+use Rattle.lowering.specs.Walk.{unchanged, ruleOf, rewrite, stepDeclaration, stepAssignment, stepFor}
+use Rattle.lowering.specs.Walk.Rule.{literals, fors}
+use Rattle.lowering.proofs.Cases.{by-test, by-shape, or-left, or-right, shape-34, rule-4, rule-27, rule-14, rule-17, rule-10, step-same, rewritten-same}
 use Rattle.lowering.proofs.Accepted.{NoHoles}
-use Rattle.lowering.proofs.Simple.{change-same, list-same}
+use Rattle.lowering.proofs.ItemLaws.{gather-none as none-in, any-none, any-empty}
+use Rattle.lowering.proofs.ChangeLaws.{changeItems-same}
 
 -- ---- rules by kind
 
@@ -28,41 +28,7 @@ pub rule-24 : (n : Node) → is 24 n ≡ true → ruleOf (kind n) ≡ literals
 unfolding is ruleOf
 rule-24 (node at k fs) e = rw (eqb-true k 24 e) refl
 
-pub rule-4 : (n : Node) → is 4 n ≡ true → ruleOf (kind n) ≡ declarations
-unfolding is ruleOf
-rule-4 (node at k fs) e = rw (eqb-true k 4 e) refl
-
-pub rule-27 : (n : Node) → is 27 n ≡ true → ruleOf (kind n) ≡ assignments
-unfolding is ruleOf
-rule-27 (node at k fs) e = rw (eqb-true k 27 e) refl
-
-pub rule-14 : (n : Node) → is 14 n ≡ true → ruleOf (kind n) ≡ functions
-unfolding is ruleOf
-rule-14 (node at k fs) e = rw (eqb-true k 14 e) refl
-
-pub rule-17 : (n : Node) → is 17 n ≡ true → ruleOf (kind n) ≡ arrows
-unfolding is ruleOf
-rule-17 (node at k fs) e = rw (eqb-true k 17 e) refl
-
-pub rule-10 : (n : Node) → is 10 n ≡ true → ruleOf (kind n) ≡ catches
-unfolding is ruleOf
-rule-10 (node at k fs) e = rw (eqb-true k 10 e) refl
-
-pub rule-7 : (n : Node) → is 7 n ≡ true → ruleOf (kind n) ≡ fors
-unfolding is ruleOf
-rule-7 (node at k fs) e = rw (eqb-true k 7 e) refl
-
-pub rule-8 : (n : Node) → is 8 n ≡ true → ruleOf (kind n) ≡ fors
-unfolding is ruleOf
-rule-8 (node at k fs) e = rw (eqb-true k 8 e) refl
-
 -- ---- searches that find nothing
-
-any-none : (f g : Node → Bool) → ((n : Node) → f n ≡ false → g n ≡ false) → (is : Items) → any f is ≡ false → any g is ≡ false
-unfolding any
-any-none f g h Items.none e = refl
-any-none f g h (Items.hole ns) e = any-none f g h ns e
-any-none f g h (Items.item n ns) e = rw (h n (or-left (f n) (any f ns) e)) (any-none f g h ns (or-right (f n) (any f ns) e))
 
 gather-none : (f : Node → Bool) (g : Node → Items) → ((n : Node) → f n ≡ false → g n ≡ Items.none) → (is : Items) → any f is ≡ false → gather g is ≡ Items.none
 unfolding any gather _+++_
@@ -96,14 +62,10 @@ over-none (suc d) p h =
     rw (e, hasNestedArrayRest) (over-none d (leftOf p) z))
     (λ e. rw (e, hasNestedArrayRest) refl)
 
-object-shape : (p : Node) → is 34 p ≡ true → shape p ≡ objectPattern
-unfolding is shape
-object-shape p e = rw e refl
-
 rest-found : (d : ℕ) (p : Node) → is 34 p ≡ true → hasNestedObjectRest (suc d) p ≡ false → hasRest p ≡ false
 unfolding hasNestedObjectRest
 rest-found d p e h =
-    let z : hasRest p || any (λ q. hasNestedObjectRest d (value q)) (properties p) ≡ false = rw (object-shape p e, hasNestedObjectRest) at h in
+    let z : hasRest p || any (λ q. hasNestedObjectRest d (value q)) (properties p) ≡ false = rw (shape-34 p e, hasNestedObjectRest) at h in
     or-left (hasRest p) (any (λ q. hasNestedObjectRest d (value q)) (properties p)) z
 
 no-rest : (p : Node) → is 34 p ≡ true → hasObjectRest p ≡ false → hasRest p ≡ false
@@ -116,17 +78,6 @@ top-none p h = by-test (is 34 p) (λ e. rw (e, no-rest p e h)) (λ e. rw e)
 
 -- ---- steps
 
-step-kept : (m e : Items) (r n : Node) → m ≡ Items.none → e ≡ Items.none → r ≡ n
-    → _≡_ {A = Step} (record { note = record { refusal = 0; made = m; entry = Items.none; excluded = e }; result = r }) (unchanged n)
-step-kept m e r n p q s = λ j. record { note = record { refusal = 0; made = (p) j; entry = Items.none; excluded = (q) j }; result = (s) j }
-
-rewritten-kept : (m : Items) (r n : Node) → m ≡ Items.none → r ≡ n → rewritten m r ≡ unchanged n
-rewritten-kept m r n p s = step-kept m Items.none r n p refl s
-
-pub changeItems-same : (i : ℕ) (f : Items → Items) (n : Node) → f (itemsAt i n) ≡ itemsAt i n → changeItems i f n ≡ n
-unfolding change itemsAt
-changeItems-same i f (node at k fs) h = ap (node at k) (change-same fs i (onItems f) (list-same f (pieceIn fs i) h))
-
 moved-none : (is : Items) → any isMoved is ≡ false → gather movedFrom is ≡ Items.none
 unfolding movedFrom
 moved-none ns h = gather-none isMoved movedFrom (λ n e. rw e) ns h
@@ -134,14 +85,6 @@ moved-none ns h = gather-none isMoved movedFrom (λ n e. rw e) ns h
 literal-same : (n : Node) → any (λ p. is 26 p) (itemsAt 0 n) ≡ false → literal n ≡ n
 unfolding literal
 literal-same n h = rw h refl
-
-none-in : (f : Node → Items) → gather f Items.none ≡ Items.none
-unfolding gather
-none-in f = refl
-
-none-any : (f : Node → Bool) → any f Items.none ≡ false
-unfolding any
-none-any f = refl
 
 module _ (c : Context) where
   kept-one : (d : Node) → isLowered d ≡ false → declarators c d ≡ only d
@@ -155,18 +98,18 @@ module _ (c : Context) where
   lacks-none : (n : Node) → any isLowered (itemsAt 2 n) ≡ false → declarationLacksForm c n ≡ false
   unfolding declarationLacksForm
   lacks-none n h =
-      any-none isLowered (λ d. any (λ p. anyLacksForm p) (loweredIn c d)) (λ d e. ap (any (λ p. anyLacksForm p)) (lowered-in d e) ∙ none-any (λ p. anyLacksForm p)) (itemsAt 2 n) h
+      any-none isLowered (λ d. any (λ p. anyLacksForm p) (loweredIn c d)) (λ d e. ap (any (λ p. anyLacksForm p)) (lowered-in d e) ∙ any-empty (λ p. anyLacksForm p)) (itemsAt 2 n) h
 
   pub literal-kept : (n : Node) → is 24 n ≡ true → any (λ p. is 26 p) (itemsAt 0 n) ≡ false → rewrite c n ≡ unchanged n
   unfolding rewrite
-  literal-kept n k h = rw (rule-24 n k, rewrite) (rewritten-kept Items.none (literal n) n refl (literal-same n h))
+  literal-kept n k h = rw (rule-24 n k, rewrite) (rewritten-same Items.none (literal n) n refl (literal-same n h))
 
   -- a declaration without holes, none of whose declarators is lowered
   pub declaration-kept : (n : Node) → is 4 n ≡ true → NoHoles (itemsAt 2 n) → any isLowered (itemsAt 2 n) ≡ false → rewrite c n ≡ unchanged n
   unfolding rewrite stepDeclaration declaration declarationMakes declarationExcludes
   declaration-kept n k w h =
       rw (rule-4 n k, rewrite, lacks-none n h, stepDeclaration)
-      (step-kept (declarationMakes c n) (declarationExcludes c n) (declaration c n) n
+      (step-same (declarationMakes c n) (declarationExcludes c n) (declaration c n) n
       (gather-none isLowered (λ d. cond (isLowered d) (declaratorMakes c (nodeAt 0 d) (nodeAt 1 d)) Items.none) (λ d e. rw e) (itemsAt 2 n) h)
       (gather-none isLowered (λ d. gather (excludedFor c) (loweredIn c d)) (λ d e. ap (gather (excludedFor c)) (lowered-in d e) ∙ none-in (excludedFor c)) (itemsAt 2 n) h)
       (changeItems-same 2 (gather (declarators c)) n (gather-kept isLowered (declarators c) (λ d e. kept-one d e) (itemsAt 2 n) w h)))
@@ -181,7 +124,7 @@ module _ (c : Context) where
   unfolding rewrite function functionMakes each
   function-kept n k h =
       rw (rule-14 n k, rewrite)
-      (rewritten-kept (functionMakes c n) (function c n) n
+      (rewritten-same (functionMakes c n) (function c n) n
       (by-test (stands 5 n)
       (λ e.
       let z : any isMoved (itemsAt 3 n) ≡ false = rw e at h in
@@ -191,22 +134,22 @@ module _ (c : Context) where
 
   pub arrow-kept : (n : Node) → is 17 n ≡ true → any isMoved (itemsAt 0 n) ≡ false → rewrite c n ≡ unchanged n
   unfolding rewrite arrow arrowMakes each
-  arrow-kept n k h = rw (rule-17 n k, rewrite) (rewritten-kept (arrowMakes c n) (arrow c n) n (rw (moved-none (itemsAt 0 n) h) refl) (rw h refl))
+  arrow-kept n k h = rw (rule-17 n k, rewrite) (rewritten-same (arrowMakes c n) (arrow c n) n (rw (moved-none (itemsAt 0 n) h) refl) (rw h refl))
 
   pub catch-kept : (n : Node) → is 10 n ≡ true → isMoved (nodeAt 0 n) ≡ false → rewrite c n ≡ unchanged n
   unfolding rewrite catch catchMakes movedFrom each
-  catch-kept n k h = rw (rule-10 n k, rewrite) (rewritten-kept (catchMakes c n) (catch c n) n (rw h refl) (rw h refl))
+  catch-kept n k h = rw (rule-10 n k, rewrite) (rewritten-same (catchMakes c n) (catch c n) n (rw h refl) (rw h refl))
 
   -- a head that declares, none of whose patterns is moved
   pub declaring-kept : (n : Node) → ruleOf (kind n) ≡ fors → is 4 (nodeAt 1 n) ≡ true → any isMoved (itemsAt 2 (nodeAt 1 n)) ≡ false → rewrite c n ≡ unchanged n
   unfolding rewrite stepFor declaringHead declaringMakes each
   declaring-kept n k d h =
       rw (k, rewrite, d, stepFor)
-      (rewritten-kept (declaringMakes c n) (declaringHead c n) n (rw (moved-none (itemsAt 2 (nodeAt 1 n)) h) refl) (rw h refl))
+      (rewritten-same (declaringMakes c n) (declaringHead c n) n (rw (moved-none (itemsAt 2 (nodeAt 1 n)) h) refl) (rw h refl))
 
   -- a head that assigns, without an object rest below its target
   pub assigning-kept : (n : Node) → ruleOf (kind n) ≡ fors → is 4 (nodeAt 1 n) ≡ false → hasObjectRest (nodeAt 1 n) ≡ false → rewrite c n ≡ unchanged n
   unfolding rewrite stepFor assigningHead assigningMakes
   assigning-kept n k d h =
       rw (k, rewrite, d, stepFor, over-none (depth (nodeAt 1 n)) (nodeAt 1 n) h)
-      (rewritten-kept (assigningMakes c n) (assigningHead c n) n (rw h refl) (rw h refl))
+      (rewritten-same (assigningMakes c n) (assigningHead c n) n (rw h refl) (rw h refl))

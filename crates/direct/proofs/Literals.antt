@@ -21,7 +21,9 @@ use Rattle.direct.proofs.Threads.{then-assoc, say-nothing, then-nothing
 use Rattle.direct.proofs.Stays.{emits-as, nothing-handed, emits-nowhere, emits-unchanged}
 use Rattle.direct.proofs.Kept.{rule-24, literal-kept}
 use Rattle.direct.proofs.Makes.{say-then, more-items, only-item, no-items, emits-S, emits-object}
-use Rattle.direct.proofs.Items.{items-append, count-append, any-append, holes-append}
+use Rattle.direct.proofs.Items.{items-append, holes-append}
+use Rattle.lowering.proofs.ItemLaws.{count-append, any-append}
+use Rattle.lowering.proofs.Clauses.{scan-spread, scan-other}
 
 -- ---- heads
 
@@ -102,15 +104,6 @@ unfolding parts part
 parts-other c p ps e = rw e refl
 
 -- ---- the scan
-
-scan-spread : (c : Call) (pending : Items) (p : Node) (ps : Items) → is 26 p ≡ true
-    → scan c pending (Items.item p ps) ≡ scan (Call.call (S (opened c pending +++ only (nodeAt 0 p)))) Items.none ps
-unfolding scan
-scan-spread c pending p ps e = rw (e, scan)
-
-scan-other : (c : Call) (pending : Items) (p : Node) (ps : Items) → is 26 p ≡ false → scan c pending (Items.item p ps) ≡ scan c (pending +++ only p) ps
-unfolding scan
-scan-other c pending p ps e = rw (e, scan)
 
 -- the mode behind a call
 unfoldable modeOf : Items → ℕ

@@ -1,10 +1,9 @@
 -- The nodes that the rules make, by their bytes and their parts.
 -- Assumes nothing.
-use mathlib.Core.Path.{_≡_, refl, sym, ap, ap₂, _∙_}
-use mathlib.Core.Bool.{Bool, true, false, _||_, _&&_, not}
+use mathlib.Core.Path.{_≡_, refl, sym, ap, _∙_}
+use mathlib.Core.Bool.{Bool, true, false, _||_, _&&_, not, and-true, and-false}
 use mathlib.Core.List.{List, [], _∷_, _++_}
 use Prim.Native.Nat.{ℕ}
-use lib.Dec.{eqb}
 use lib.ListN.{length}
 use Rattle.tree.specs.Tree.{Node, Fields, Piece, Items, wideBytes, mapOf, count}
 use Rattle.tree.specs.Tree.Node.{node}
@@ -14,16 +13,15 @@ use Rattle.lowering.specs.Made.{call, object, array, sequence, member, assign, 
 use Rattle.lowering.specs.Patterns.{hasObjectRest}
 use Rattle.lowering.specs.Declarations.{isLowered}
 use Rattle.lowering.specs.Walk.{ruleOf, opensScope}
-use Rattle.lowering.specs.Walk.Rule.{nowhere}
-use Rattle.lowering.specs.Collect.{isContainer, marked}
+use Rattle.lowering.specs.Collect.{isContainer}
 use Rattle.lowering.proofs.Accepted.{NoHoles}
 use Rattle.sink.specs.Machine.{Event}
 use Rattle.direct.specs.Events.{Deed, Place, Emit, puts, cell, marks, contextOf, emits}
 use Rattle.direct.specs.Events.Deed.{does}
-use Rattle.direct.specs.Emit.{say, _▷_, below, inner, scoped, unused, marking, startMark, emitsItem, emitsStatement, emitsItems, emitsPiece, emitsFields, stays, callHead}
+use Rattle.direct.specs.Emit.{say, _▷_, below, inner, scoped, unused, emitsStatement, emitsItems, emitsPiece, emitsFields, stays, callHead}
 use Rattle.direct.proofs.Threads.{then-assoc, then-nothing, say-say}
 use Rattle.direct.proofs.Stays.{emits-unchanged, emits-nowhere}
-use Rattle.direct.proofs.Kept.{literal-kept, declaration-kept, assignment-kept}
+use Rattle.direct.proofs.Kept.{literal-kept, declaration-kept}
 use Rattle.direct.proofs.Marks.{emits-statement, emits-item}
 
 -- bytes that are joined
@@ -31,14 +29,6 @@ pub say-then : (ds es : List Deed) (e : Emit) → say ds ▷ say es ▷ e ≡ sa
 say-then ds es e = sym (then-assoc (say ds) (say es) e) ∙ ap (λ (x : Emit). x ▷ e) (say-say ds es)
 
 -- ---- the places of parts
-
-and-true : (b : Bool) → b && true ≡ b
-and-true true = refl
-and-true false = refl
-
-and-false : (b : Bool) → b && false ≡ false
-and-false true = refl
-and-false false = refl
 
 place-is : (c : Place) (a b : Bool) → c .root && not a ≡ b → (s t : Bool) → s ≡ t
     → _≡_ {A = Place} (record { root = c .root && not a; statement = s; mark = c .mark }) (record { root = b; statement = t; mark = c .mark })
@@ -61,12 +51,6 @@ pub below-unused : (c : Place) (n : Node) → is 3 n ≡ true → opensScope (ki
 unfolding below unused
 below-unused c n s o =
     place-is c (opensScope (kind n)) (c .root) (rw o (and-true (c .root))) (is 3 n || (is 31 n && c .statement)) true (rw s refl)
-
--- below parentheses the place stays
-pub below-parentheses : (c : Place) (n : Node) → is 31 n ≡ true → is 3 n ≡ false → opensScope (kind n) ≡ false → below c n ≡ c
-unfolding below
-below-parentheses c n p s o =
-    place-is c (opensScope (kind n)) (c .root) (rw o (and-true (c .root))) (is 3 n || (is 31 n && c .statement)) (c .statement) (rw (s, p) refl)
 
 -- ---- fields of nodes that are made
 
@@ -99,21 +83,6 @@ pub more-statements : (c : Place) (n : Node) (ns : Items) → is 24 n ≡ false 
     → emitsItems true c (Items.item n ns) ≡ emitsStatement c n ▷ emitsItems true c ns
 unfolding emitsItems
 more-statements c n ns a b = ap (λ (x : Emit). x ▷ emitsItems true c ns) (emits-statement c n a b)
-
--- ---- any node that no rule is for, with its fields
-
-pub emits-plain : (c : Place) (at k : ℕ) (fs : Fields) → ruleOf k ≡ nowhere → eqb k 20 ≡ false → eqb k 21 ≡ false
-    → emits c (node at k fs) ≡ say (puts (k ∷ mapOf fs ∷ [])) ▷ emitsFields (isContainer k) (below c (node at k fs)) fs
-unfolding stays
-emits-plain c at k fs r t h = emits-nowhere c (node at k fs) r ∙ rw (t, h) refl
-
--- one that is no container, no scope, no expression statement and no parentheses
-pub emits-inner : (c : Place) (at k : ℕ) (fs : Fields) → ruleOf k ≡ nowhere → eqb k 20 ≡ false → eqb k 21 ≡ false → isContainer k ≡ false → opensScope k ≡ false
-    → eqb k 3 ≡ false → eqb k 31 ≡ false → emits c (node at k fs) ≡ say (puts (k ∷ mapOf fs ∷ [])) ▷ emitsFields false (inner c) fs
-unfolding is
-emits-inner c at k fs r t h l o s p =
-    emits-plain c at k fs r t h
-    ∙ ap₂ (λ (x : Bool) (d : Place). say (puts (k ∷ mapOf fs ∷ [])) ▷ emitsFields x d fs) l (below-inner c (node at k fs) o s p)
 
 -- ---- temporaries, helpers and calls
 
@@ -207,17 +176,6 @@ emits-string c form =
     ∙ ap (λ (x : Emit). say (puts (1 ∷ [])) ▷ x) (say-say (puts (0 ∷ 0 ∷ [])) (puts (wideBytes (length form) ++ form)))
     ∙ say-say (puts (1 ∷ [])) (puts (0 ∷ 0 ∷ wideBytes (length form) ++ form)))
     ∙ say-say (puts (22 ∷ 7 ∷ [])) (puts (1 ∷ 0 ∷ 0 ∷ wideBytes (length form) ++ form))
-
--- an assignment without an object rest below its target
-pub emits-assign : (c : Place) (left right : Node) → hasObjectRest left ≡ false
-    → emits c (assign left right) ≡ say (puts (27 ∷ 7 ∷ 1 ∷ [])) ▷ emits (inner c) left ▷ emits (inner c) right
-unfolding stays mapOf isContainer emitsPiece is opensScope nodeAt pieceIn
-emits-assign c left right h =
-    emits-unchanged c (assign left right) (assignment-kept (contextOf c) (assign left right) refl h)
-    ∙ ap (λ (x : Emit). say (puts (27 ∷ 7 ∷ [])) ▷ x)
-    (three-fields false (below c (assign left right)) (Piece.byte 1) (Piece.one left) (Piece.one right)
-    ∙ ap (λ (d : Place). say (puts (1 ∷ [])) ▷ emits d left ▷ emits d right) (below-inner c (assign left right) refl refl refl))
-    ∙ say-then (puts (27 ∷ 7 ∷ [])) (puts (1 ∷ [])) (emits (inner c) left ▷ emits (inner c) right)
 
 -- ---- declarators
 
@@ -335,9 +293,3 @@ emits-body c at ns =
     (then-nothing (say (puts (wideBytes (count ns))) ▷ emitsItems true (below c n) ns)
     ∙ ap (λ (d : Place). say (puts (wideBytes (count ns))) ▷ emitsItems true d ns) (below-inner c n refl refl refl))
     ∙ say-then (puts (16 ∷ 2 ∷ [])) (puts (wideBytes (count ns))) (emitsItems true (inner c) ns)
-
--- a new statement in a container is marked next
-pub new-statement : (c : Place) (n : Node) → startMark n ≡ 0 → is 24 n ≡ false → is 27 n ≡ false → (next : ℕ) → emitsItem true c n next ≡ emits (marking c next) n next
-unfolding emitsStatement
-new-statement c n e a b next =
-    ap (λ (f : Emit). f next) (emits-statement c n a b) ∙ ap (λ (x : ℕ). emits (marking c (marked next x)) n next) e

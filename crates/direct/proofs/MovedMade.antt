@@ -1,41 +1,32 @@
 -- Which patterns are moved, how many they are, and what is made for them.
 -- Assumes nothing.
-use mathlib.Core.Path.{_≡_, refl, sym, ap, ap₂, _∙_}
+use mathlib.Core.Path.{_≡_, refl, ap, ap₂, _∙_}
 use mathlib.Core.Bool.{Bool, true, false, cond}
 use mathlib.Core.List.{List, [], _∷_, _++_, append-nil}
-use Prim.Native.Nat.{ℕ, zero, suc, _+_, _≤_}
+use Prim.Native.Nat.{ℕ, _+_, _≤_}
 use native.Mathlib.Omega.{arith}
 use Rattle.tree.specs.Tree.{Node, Fields, Piece, Items, depth, depthFields, depthItems}
 use Rattle.tree.specs.Tree.Node.{node}
-use Rattle.lowering.specs.Parts.{nothing, position, pieceIn, nodeAt, itemsAt, numberAt, stands, isEmpty, only, each, gather, _+++_}
+use Rattle.lowering.specs.Parts.{position, pieceIn, nodeAt, itemsAt, numberAt, stands, isEmpty, only, each, gather, _+++_}
 use Rattle.lowering.specs.Made.{Context, reference}
 use Rattle.lowering.specs.Patterns.{shape, hasObjectRest}
 use Rattle.lowering.specs.Patterns.Shape.{objectPattern, default, leaf}
 use Rattle.lowering.specs.Heads.{moved, isMoved, movedFrom, references, functionMakes, arrowMakes, catchMakes, declaringMakes, assigningMakes}
 use Rattle.lowering.specs.Walk.{rewritten}
-use Rattle.lowering.proofs.Levels.{moved-levels, gather-agrees}
+use Rattle.lowering.proofs.Levels.{moved-levels, gather-agrees, moved-nothing}
 use Rattle.sink.specs.Machine.{Event}
 use Rattle.direct.specs.Events.{Deed, cell, cellOf, made, refused, entered, excludedKeys, handsOut}
 use Rattle.direct.specs.Events.Deed.{does}
 use Rattle.direct.specs.Moved.{movedIn, makes, number}
+use Rattle.lowering.proofs.ItemLaws.{items-none, gather-none}
 
 -- ---- lists
-
-pub join-none : (is : Items) → is +++ Items.none ≡ is
-unfolding _+++_
-join-none Items.none = refl
-join-none (Items.hole ns) = ap Items.hole (join-none ns)
-join-none (Items.item n ns) = ap (Items.item n) (join-none ns)
 
 pub join-assoc : (is js ks : Items) → (is +++ js) +++ ks ≡ is +++ js +++ ks
 unfolding _+++_
 join-assoc Items.none js ks = refl
 join-assoc (Items.hole ns) js ks = ap Items.hole (join-assoc ns js ks)
 join-assoc (Items.item n ns) js ks = ap (Items.item n) (join-assoc ns js ks)
-
-pub gather-none : (f : Node → Items) → gather f Items.none ≡ Items.none
-unfolding gather
-gather-none f = refl
 
 pub gather-hole : (f : Node → Items) (is : Items) → gather f (Items.hole is) ≡ gather f is
 unfolding gather
@@ -44,15 +35,6 @@ gather-hole f ns = refl
 pub gather-item : (f : Node → Items) (n : Node) (is : Items) → gather f (Items.item n is) ≡ f n +++ gather f is
 unfolding gather
 gather-item f n ns = refl
-
-pub gather-only : (f : Node → Items) (n : Node) → gather f (only n) ≡ f n
-gather-only f n = gather-item f n Items.none ∙ ap (λ (x : Items). f n +++ x) (gather-none f) ∙ join-none (f n)
-
-pub gather-join : (f : Node → Items) (is js : Items) → gather f (is +++ js) ≡ gather f is +++ gather f js
-unfolding gather _+++_
-gather-join f Items.none js = refl
-gather-join f (Items.hole ns) js = gather-join f ns js
-gather-join f (Items.item n ns) js = ap (λ (x : Items). f n +++ x) (gather-join f ns js) ∙ sym (join-assoc (f n) (gather f ns) (gather f js))
 
 -- ---- which patterns are moved
 
@@ -72,11 +54,6 @@ gather-levels : (d : ℕ) (is : Items) → depthItems is ≤ d → gather (λ e.
 unfolding movedIn
 gather-levels d ns h = gather-agrees (λ e. moved d e) movedIn d (λ e l. moved-levels d e l) ns h
 
-moved-nothing : (d : ℕ) → moved d nothing ≡ Items.none
-unfolding moved shape
-moved-nothing zero = refl
-moved-nothing (suc d) = refl
-
 pub moved-array-rest : (at : ℕ) (is : Items) (r : Node)
     → movedIn (node at 36 (Fields.field (Piece.list is) (Fields.field (Piece.one r) Fields.done))) ≡ gather movedIn is +++ movedIn r
 unfolding movedIn moved shape depth itemsAt nodeAt pieceIn
@@ -88,7 +65,7 @@ pub moved-array : (at : ℕ) (is : Items) → movedIn (node at 36 (Fields.field 
 unfolding movedIn moved shape depth itemsAt nodeAt pieceIn
 moved-array at ns =
     let d = depthFields (Fields.field (Piece.list ns) (Fields.absent Fields.done)) in
-    ap₂ (λ (x y : Items). x +++ y) (gather-levels d ns (omega arith)) (moved-nothing d) ∙ join-none (gather movedIn ns)
+    ap₂ (λ (x y : Items). x +++ y) (gather-levels d ns (omega arith)) (moved-nothing d) ∙ items-none (gather movedIn ns)
 
 -- of a Param or a Declarator
 pub from-kept : (q : Node) → isMoved q ≡ false → movedFrom q ≡ Items.none
@@ -111,26 +88,12 @@ pub number-none : number Items.none ≡ 0
 unfolding number
 number-none = refl
 
-pub number-only : (p : Node) → number (only p) ≡ 1
-unfolding number
-number-only p = refl
-
 -- of items, or of Params or Declarators
 pub number-item : (f : Node → Items) (n : Node) (is : Items) → number (gather f (Items.item n is)) ≡ number (f n) + number (gather f is)
 number-item f n ns = ap number (gather-item f n ns) ∙ number-join (f n) (gather f ns)
 
 pub number-empty : (f : Node → Items) → number (gather f Items.none) ≡ 0
 number-empty f = ap number (gather-none f) ∙ number-none
-
-pub number-one : (f : Node → Items) (n : Node) → number (gather f (only n)) ≡ number (f n)
-number-one f n = ap number (gather-only f n)
-
-pub number-cut : (f : Node → Items) (is js : Items) → number (gather f (is +++ js)) ≡ number (gather f is) + number (gather f js)
-number-cut f ns js = ap number (gather-join f ns js) ∙ number-join (gather f ns) (gather f js)
-
-pub number-array-rest : (at : ℕ) (is : Items) (r : Node)
-    → number (movedIn (node at 36 (Fields.field (Piece.list is) (Fields.field (Piece.one r) Fields.done)))) ≡ number (gather movedIn is) + number (movedIn r)
-number-array-rest at ns r = ap number (moved-array-rest at ns r) ∙ number-join (gather movedIn ns) (movedIn r)
 
 -- ---- what is made for them
 
@@ -147,22 +110,6 @@ makes-none = refl
 pub makes-only : (p : Node) → makes (only p) ≡ does (Event.make (cell 1 (position p))) ∷ []
 unfolding makes
 makes-only p = refl
-
--- of items, or of Params or Declarators
-pub makes-hole : (f : Node → Items) (is : Items) → makes (gather f (Items.hole is)) ≡ makes (gather f is)
-makes-hole f ns = ap makes (gather-hole f ns)
-
-pub makes-item : (f : Node → Items) (n : Node) (is : Items) → makes (gather f (Items.item n is)) ≡ makes (f n) ++ makes (gather f is)
-makes-item f n ns = ap makes (gather-item f n ns) ∙ makes-join (f n) (gather f ns)
-
-pub makes-empty : (f : Node → Items) → makes (gather f Items.none) ≡ []
-makes-empty f = ap makes (gather-none f) ∙ makes-none
-
-pub makes-one : (f : Node → Items) (n : Node) → makes (gather f (only n)) ≡ makes (f n)
-makes-one f n = ap makes (gather-only f n)
-
-pub makes-cut : (f : Node → Items) (is js : Items) → makes (gather f (is +++ js)) ≡ makes (gather f is) ++ makes (gather f js)
-makes-cut f ns js = ap makes (gather-join f ns js) ∙ makes-join (gather f ns) (gather f js)
 
 pub makes-kept : (q : Node) → isMoved q ≡ false → makes (movedFrom q) ≡ []
 makes-kept q h = ap makes (from-kept q h) ∙ makes-none

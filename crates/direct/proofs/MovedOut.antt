@@ -10,19 +10,19 @@ use Rattle.tree.specs.Tree.{Node, Fields, Piece, Items, wideBytes, mapOf, count
 use Rattle.tree.specs.Tree.Node.{node}
 use Rattle.lowering.specs.Parts.{position, is, pieceIn, nodeAt, change, changeIn, onNode, onItems, each}
 use Rattle.lowering.specs.Patterns.{shape, withItems, withRest, hasObjectRest}
-use Rattle.lowering.specs.Patterns.Shape.{objectPattern, arrayPattern, default, leaf}
+use Rattle.lowering.specs.Patterns.Shape.{objectPattern, default, leaf}
 use Rattle.lowering.specs.Heads.{movedOut, isMoved, leftBehind}
 use Rattle.lowering.specs.Walk.{ruleOf, opensScope}
 use Rattle.lowering.specs.Collect.{isContainer}
 use Rattle.lowering.proofs.Cases.{by-shape}
 use Rattle.lowering.proofs.Levels.{movedOut-levels}
 use Rattle.direct.specs.Events.{Place, Emit, puts, contextOf, emits}
-use Rattle.direct.specs.Events.Deed.{does}
 use Rattle.direct.specs.Emit.{say, _▷_, below, inner, emitsItems, emitsPiece, emitsFields, stays}
 use Rattle.direct.specs.Moved.{here, standIn, stand, outOf, behind, Binder}
 use Rattle.direct.proofs.Threads.{then-assoc, then-nothing}
 use Rattle.direct.proofs.Stays.{emits-nowhere}
-use Rattle.direct.proofs.Makes.{say-then, below-inner, two-fields, more-items, no-items, emits-temporary}
+use Rattle.direct.proofs.Makes.{say-then, below-inner, two-fields, emits-temporary}
+use Rattle.lowering.proofs.ItemLaws.{count-each}
 
 -- ---- the context plays no part
 
@@ -36,45 +36,12 @@ out-here c (suc d) p =
     (λ e. rw (e, movedOut) refl)
     (λ e. rw (e, movedOut) refl)
 
--- nor do levels beyond those of the pattern
-pub out-levels : (c : Place) (d : ℕ) (p : Node) → depth p ≤ d → movedOut (contextOf c) d p ≡ outOf p
-unfolding outOf
-out-levels c d p h = out-here c d p ∙ movedOut-levels d p h here
-
 pub behind-here : (c : Place) → leftBehind (contextOf c) ≡ leftBehind here
 unfolding leftBehind
 behind-here c =
     fun-ext (λ q. ap (λ (f : Node → Node). cond (isMoved q) (change 0 (onNode f) q) q) (fun-ext (λ p. out-here c (depth p) p)))
 
--- ---- lists
-
-pub each-count : (f : Node → Node) (is : Items) → count (each f is) ≡ count is
-unfolding each count
-each-count f Items.none = refl
-each-count f (Items.hole ns) = ap suc (each-count f ns)
-each-count f (Items.item n ns) = ap suc (each-count f ns)
-
-pub each-none : (c : Place) (f : Node → Node) → emitsItems false c (each f Items.none) ≡ say []
-unfolding each
-each-none c f = no-items false c
-
-pub each-hole : (c : Place) (f : Node → Node) (is : Items) → emitsItems false c (each f (Items.hole is)) ≡ say (puts (0 ∷ [])) ▷ emitsItems false c (each f is)
-unfolding each emitsItems
-each-hole c f ns = refl
-
-pub each-item : (c : Place) (f : Node → Node) (n : Node) (is : Items) → emitsItems false c (each f (Items.item n is)) ≡ emits c (f n) ▷ emitsItems false c (each f is)
-unfolding each
-each-item c f n ns = more-items c (f n) (each f ns)
-
 -- ---- shapes by kind
-
-pub shape-34 : (p : Node) → is 34 p ≡ true → shape p ≡ objectPattern
-unfolding is shape
-shape-34 p e = rw e refl
-
-pub shape-36 : (p : Node) → is 36 p ≡ true → shape p ≡ arrayPattern
-unfolding is shape
-shape-36 (node at k fs) e = rw (eqb-true k 36 e) refl
 
 pub shape-37 : (p : Node) → is 37 p ≡ true → shape p ≡ default
 unfolding is shape
@@ -165,7 +132,7 @@ pub emits-out-array-rest : (c : Place) (at : ℕ) (is : Items) (r : Node)
 emits-out-array-rest c at ns r =
     ap (emits c) (out-array-rest at ns r)
     ∙ emits-items-rest c at (each outOf ns) (outOf r)
-    ∙ ap (λ (x : ℕ). say (puts (36 ∷ 3 ∷ wideBytes x)) ▷ emitsItems false (inner c) (each outOf ns) ▷ emits (inner c) (outOf r)) (each-count outOf ns)
+    ∙ ap (λ (x : ℕ). say (puts (36 ∷ 3 ∷ wideBytes x)) ▷ emitsItems false (inner c) (each outOf ns) ▷ emits (inner c) (outOf r)) (count-each outOf ns)
 
 pub emits-out-array : (c : Place) (at : ℕ) (is : Items)
     → emits c (outOf (node at 36 (Fields.field (Piece.list is) (Fields.absent Fields.done))))
@@ -173,7 +140,7 @@ pub emits-out-array : (c : Place) (at : ℕ) (is : Items)
 emits-out-array c at ns =
     ap (emits c) (out-array at ns)
     ∙ emits-items c at (each outOf ns)
-    ∙ ap (λ (x : ℕ). say (puts (36 ∷ 1 ∷ wideBytes x)) ▷ emitsItems false (inner c) (each outOf ns)) (each-count outOf ns)
+    ∙ ap (λ (x : ℕ). say (puts (36 ∷ 1 ∷ wideBytes x)) ▷ emitsItems false (inner c) (each outOf ns)) (count-each outOf ns)
 
 -- the temporary has the position of the default
 pub emits-out-default : (c : Place) (at : ℕ) (l r : Node)

@@ -3,13 +3,13 @@
 use mathlib.Core.Path.{_≡_, refl, ap, _∙_}
 use mathlib.Core.Bool.{true, false}
 use mathlib.Core.List.{[], _∷_, _++_}
-use Prim.Native.Nat.{ℕ, zero, suc, _+_, _≤_, _<_}
+use Prim.Native.Nat.{ℕ, zero, suc, _+_, _≤_}
 use native.Mathlib.Omega.{arith}
 use Rattle.tree.specs.Tree.{Node, Fields, Piece, Items, wideBytes, count, depth, depthFields, depthPiece, depthItems}
 use Rattle.tree.specs.Tree.Node.{node}
 use Rattle.lowering.specs.Parts.{nothing, is, pieceIn, changeIn, asNode, asItems, nodeAt, itemsAt, stands, change, onNode, onItems, each, any}
 use Rattle.lowering.specs.Patterns.{shape, itemsOf, rest, leftOf, withLeft, withItems, withRest, hasNestedObjectRest, hasObjectRest}
-use Rattle.lowering.specs.Patterns.Shape.{arrayPattern, default, leaf}
+use Rattle.lowering.specs.Patterns.Shape.{arrayPattern, default}
 use Rattle.lowering.specs.Declarations.{isLowered}
 use Rattle.lowering.specs.Heads.{movedOut, isMoved, leftBehind}
 use Rattle.lowering.proofs.Cases.{by-test, by-shape, and-none}
@@ -20,7 +20,11 @@ use Rattle.direct.specs.Moved.{here, standIn, outOf, behind, declaration
 use Rattle.direct.proofs.Stays.{emits-unchanged}
 use Rattle.direct.proofs.Kept.{declaration-kept}
 use Rattle.direct.proofs.Makes.{stays-declaration}
-use Rattle.direct.proofs.MovedOut.{each-count, behind-kept}
+use Rattle.direct.proofs.MovedOut.{behind-kept}
+use Rattle.lowering.proofs.ItemLaws.{count-each}
+use Rattle.lowering.proofs.ChangeLaws.{shape-changed}
+use Rattle.lowering.proofs.Levels.{has-nothing, depth-pos}
+use Rattle.lowering.proofs.Clauses.{has-leaf}
 
 -- ---- nothing is found in nothing, nor in a temporary, nor in a leaf
 
@@ -28,20 +32,10 @@ no-levels : (p : Node) → hasNestedObjectRest 0 p ≡ false
 unfolding hasNestedObjectRest
 no-levels p = refl
 
-has-nothing : (e : ℕ) → hasNestedObjectRest e nothing ≡ false
-unfolding hasNestedObjectRest shape
-has-nothing zero = refl
-has-nothing (suc e) = refl
-
 has-stand : (e : ℕ) (p : Node) → hasNestedObjectRest e (standIn p) ≡ false
 unfolding hasNestedObjectRest shape
 has-stand zero p = refl
 has-stand (suc e) p = refl
-
-has-leaf : (e : ℕ) (p : Node) → shape p ≡ leaf → hasNestedObjectRest e p ≡ false
-unfolding hasNestedObjectRest
-has-leaf zero p h = refl
-has-leaf (suc e) p h = rw (h, hasNestedObjectRest) refl
 
 has-array : (e : ℕ) (p : Node) → shape p ≡ arrayPattern → any (λ m. hasNestedObjectRest e m) (itemsOf p) ≡ false → hasNestedObjectRest e (rest p) ≡ false
     → hasNestedObjectRest (suc e) p ≡ false
@@ -51,10 +45,6 @@ has-array e p h i r = rw (h, hasNestedObjectRest, i) r
 has-default : (e : ℕ) (p : Node) → shape p ≡ default → hasNestedObjectRest e (leftOf p) ≡ false → hasNestedObjectRest (suc e) p ≡ false
 unfolding hasNestedObjectRest
 has-default e p h l = rw (h, hasNestedObjectRest) l
-
-changed-shape : (i : ℕ) (f : Piece → Piece) (p : Node) → shape (change i f p) ≡ shape p
-unfolding shape change
-changed-shape i f (node at k fs) = refl
 
 -- ---- parts that are changed
 
@@ -109,22 +99,18 @@ array-none : (f : Node → Node) (e d : ℕ) → ((m : Node) → depth m ≤ d �
 unfolding change itemsAt nodeAt depth
 array-none f e d none (node at k fs) h s =
     has-array e (withRest f (withItems f (node at k fs)))
-    (changed-shape 1 (onNode f) (withItems f (node at k fs)) ∙ changed-shape 0 (onItems (each f)) (node at k fs) ∙ s)
+    (shape-changed 1 (onNode f) (withItems f (node at k fs)) ∙ shape-changed 0 (onItems (each f)) (node at k fs) ∙ s)
     (items-in f e d none fs (omega arith)) (rest-in f e d none fs (omega arith))
 
 default-none : (e : ℕ) (p q : Node) → shape p ≡ default → hasNestedObjectRest (suc e) (withLeft (λ l. standIn q) p) ≡ false
 unfolding change nodeAt depth
 default-none e (node at k fs) q s =
-    has-default e (withLeft (λ l. standIn q) (node at k fs)) (changed-shape 0 (onNode (λ l. standIn q)) (node at k fs) ∙ s)
+    has-default e (withLeft (λ l. standIn q) (node at k fs)) (shape-changed 0 (onNode (λ l. standIn q)) (node at k fs) ∙ s)
     (first-in (λ l. standIn q) e (depthFields fs) (λ m h. has-stand e q) fs (omega arith))
-
-pos : (n : Node) → 0 < depth n
-unfolding depth
-pos (node at k fs) = omega arith
 
 out-none : (d e : ℕ) (p : Node) → depth p ≤ d → hasNestedObjectRest e (movedOut here d p) ≡ false
 unfolding movedOut
-out-none zero e p h = let z = pos p in absurd (omega arith)
+out-none zero e p h = let z = depth-pos p in absurd (omega arith)
 out-none (suc d) zero p h = no-levels (movedOut here (suc d) p)
 out-none (suc d) (suc e) p h =
     by-shape (shape p)
@@ -190,4 +176,4 @@ emits-declaring c at m sort qs w =
     let n = node at 4 (declarationFields m sort (each behind qs)) in
     emits-unchanged c n (declaration-kept (contextOf c) n refl (each-whole behind qs w) (behind-kept-again qs))
     ∙ stays-declaration c at m sort (each behind qs)
-    ∙ ap (λ (x : ℕ). say (puts (4 ∷ 7 ∷ []) ++ (marks m ++ puts (sort ∷ wideBytes x))) ▷ emitsItems false (inner c) (each behind qs)) (each-count behind qs)
+    ∙ ap (λ (x : ℕ). say (puts (4 ∷ 7 ∷ []) ++ (marks m ++ puts (sort ∷ wideBytes x))) ▷ emitsItems false (inner c) (each behind qs)) (count-each behind qs)

@@ -8,7 +8,7 @@ use native.Mathlib.Omega.{arith}
 use Rattle.tree.specs.Tree.{Node, Fields, Piece, Items, depth, depthFields, depthItems}
 use Rattle.tree.specs.Tree.Node.{node}
 use Rattle.tree.specs.Tree.Fields.{done, absent, field}
-use Rattle.tree.specs.Tree.Piece.{one, list, text, byte, mark, number}
+use Rattle.tree.specs.Tree.Piece.{one, list}
 use Rattle.lowering.specs.Parts.{nothing, position, is, asNode, pieceIn, standsIn, changeIn, nodeAt, itemsAt, stands, change, onNode, onItems, changeNode, without, only, each, gather, _+++_}
 use Rattle.lowering.specs.Made.{Context, temporary, keyOf}
 use Rattle.lowering.specs.Patterns.{shape, properties, key, value, hasRest, withItems, withLeft, withValues, withProperties, replaced, replacedBelow, objectsWithRest, objectsBelow}
@@ -16,33 +16,26 @@ use Rattle.lowering.specs.Patterns.Shape.{objectPattern, arrayPattern, default,
 use Rattle.lowering.specs.Keys.{keptKey, taken}
 use Rattle.lowering.specs.Declarations.{innerObjects}
 use Rattle.lowering.specs.Assignments.{restsThroughObjects, withoutRests}
-use Rattle.lowering.proofs.Levels.{gather-agrees, node-in, values-agree, objects-nothing, replaced-levels, objects-levels, rests-levels}
+use Rattle.lowering.proofs.Levels.{gather-agrees, node-in, values-agree, objects-nothing, replaced-levels, objects-levels, rests-levels, rests-nothing, below-leaf}
 use Rattle.direct.specs.Events.{Emit}
 use Rattle.direct.specs.Emit.{say, _▷_, inTurn}
 use Rattle.direct.specs.Views.{View, valuesOf, takes, objectAt, objectRestAt, withoutRestsBelow, nameless, isOther}
 use Rattle.direct.specs.Views.View.{replacing, taking, leaving}
 use Rattle.direct.specs.Objects.{objectsIn, restsIn, overObjects, overRests}
 use Rattle.direct.proofs.Items.{turn-append, turn-gather}
-use Rattle.direct.proofs.Lists.{gather-same, gather-each, append-none, turn-only}
+use Rattle.direct.proofs.Lists.{turn-only}
 use Rattle.direct.proofs.PatternViews.{keptKey-is, taken-object, taken-rest, values-object, values-rest, without-object, without-array-at, without-default-at, without-leaf-at}
+use Rattle.lowering.proofs.ItemLaws.{items-none, gather-same, gather-each}
+use Rattle.lowering.proofs.ChangeLaws.{node-on}
 
 -- ---- values
-
-piece-changed : (f : Node → Node) → f nothing ≡ nothing → (p : Piece) → asNode (onNode f p) ≡ f (asNode p)
-unfolding onNode
-piece-changed f h (one n) = refl
-piece-changed f h (list is) = sym h
-piece-changed f h (text bs) = sym h
-piece-changed f h (byte b) = sym h
-piece-changed f h (mark b) = sym h
-piece-changed f h (number b) = sym h
 
 field-changed : (f : Node → Node) → f nothing ≡ nothing → (fs : Fields) (i : ℕ) → asNode (pieceIn (changeIn fs i (onNode f)) i) ≡ f (asNode (pieceIn fs i))
 unfolding pieceIn changeIn
 field-changed f h done i = sym h
 field-changed f h (absent fs) zero = sym h
 field-changed f h (absent fs) (suc i) = field-changed f h fs i
-field-changed f h (field p fs) zero = piece-changed f h p
+field-changed f h (field p fs) zero = node-on f h p
 field-changed f h (field p fs) (suc i) = field-changed f h fs i
 
 pub value-changed : (f : Node → Node) → f nothing ≡ nothing → (q : Node) → value (changeNode 1 f q) ≡ f (value q)
@@ -54,11 +47,6 @@ unfolding nodeAt change changeIn pieceIn
 value-beside f (node at k done) = refl
 value-beside f (node at k (absent fs)) = refl
 value-beside f (node at k (field p fs)) = refl
-
-rests-nothing : (d : ℕ) → restsThroughObjects d nothing ≡ Items.none
-unfolding restsThroughObjects shape
-rests-nothing zero = refl
-rests-nothing (suc d) = refl
 
 module _ (κ : Context) where
   pub without-nothing : withoutRestsBelow κ nothing ≡ nothing
@@ -83,7 +71,7 @@ module _ (κ : Context) where
   unfolding objectsWithRest shape depth stands standsIn itemsAt pieceIn
   found-object at ps =
       let d = max (depthItems ps) 0 in
-      append-none (gather (λ q. objectsWithRest κ d (value q)) ps)
+      items-none (gather (λ q. objectsWithRest κ d (value q)) ps)
       ∙ gather-agrees (λ q. objectsWithRest κ d (value q)) (λ q. objectsBelow κ (value q)) d (λ q l. found-in d q l) ps (omega arith)
 
   found-rest : (at : ℕ) (ps : Items) (r : Node)
@@ -104,10 +92,6 @@ module _ (κ : Context) where
   found-default : (at : ℕ) (l : Node) (fs : Fields) → objectsBelow κ (node at 37 (field (one l) fs)) ≡ objectsBelow κ l
   unfolding objectsWithRest shape depth nodeAt pieceIn
   found-default at l fs = objects-levels (max (depth l) (depthFields fs)) l (omega arith) κ
-
-  found-leaf : (p : Node) → shape p ≡ leaf → objectsBelow κ p ≡ Items.none
-  unfolding objectsWithRest depth
-  found-leaf (node at k fs) e = rw (e, objectsWithRest) refl
 
   -- the values, when rests are taken
   without-values : (q : Node) → value (changeNode 1 (λ v. withoutRestsBelow κ v) q) ≡ withoutRestsBelow κ (value q)
@@ -159,9 +143,9 @@ module _ (κ : Context) where
 
   pub objects-leaf : (v : View) (p : Node) → shape p ≡ leaf → objectsIn κ v p ≡ Items.none
   unfolding objectsIn innerObjects
-  objects-leaf replacing p e = found-leaf p e
+  objects-leaf replacing p e = below-leaf κ p e
   objects-leaf taking p e = rw (e, innerObjects) refl
-  objects-leaf leaving p e = ap (λ (x : Node). objectsBelow κ x) (without-leaf-at κ p e) ∙ found-leaf p e
+  objects-leaf leaving p e = ap (λ (x : Node). objectsBelow κ x) (without-leaf-at κ p e) ∙ below-leaf κ p e
 
 -- ---- objects that are reached through objects alone
 
@@ -174,7 +158,7 @@ pub rests-object : (at : ℕ) (ps : Items) → restsIn (objectAt at ps) ≡ gath
 unfolding restsThroughObjects shape depth stands standsIn itemsAt pieceIn
 rests-object at ps =
     let d = max (depthItems ps) 0 in
-    append-none (gather (λ q. restsThroughObjects d (value q)) ps)
+    items-none (gather (λ q. restsThroughObjects d (value q)) ps)
     ∙ gather-agrees (λ q. restsThroughObjects d (value q)) (λ q. restsIn (value q)) d (λ q l. rests-value d q l) ps (omega arith)
 
 pub rests-rest : (at : ℕ) (ps : Items) (r : Node) → restsIn (objectRestAt at ps r) ≡ gather (λ q. restsIn (value q)) ps +++ only (objectRestAt at ps r)

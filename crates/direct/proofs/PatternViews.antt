@@ -9,8 +9,8 @@ use lib.Dec.{eqb}
 use Rattle.tree.specs.Tree.{Node, Fields, Piece, Items, wideBytes, mapOf, count, depth, depthFields, depthItems}
 use Rattle.tree.specs.Tree.Node.{node}
 use Rattle.tree.specs.Tree.Fields.{done, absent, field}
-use Rattle.tree.specs.Tree.Piece.{one, list, text, byte, mark, number}
-use Rattle.lowering.specs.Parts.{position, kind, is, pieceIn, standsIn, changeIn, dropIn, nodeAt, stands, change, onNode, onItems, changeNode, without, each}
+use Rattle.tree.specs.Tree.Piece.{one, list, byte}
+use Rattle.lowering.specs.Parts.{kind, is, pieceIn, standsIn, changeIn, dropIn, nodeAt, stands, change, onNode, onItems, changeNode, without, each}
 use Rattle.lowering.specs.Made.{Context, temporary, keyOf}
 use Rattle.lowering.specs.Patterns.{shape, key, withValues, replaced, replacedBelow}
 use Rattle.lowering.specs.Patterns.Shape.{objectPattern, arrayPattern, default, leaf}
@@ -18,7 +18,7 @@ use Rattle.lowering.specs.Keys.{keySort, keptKey, taken}
 use Rattle.lowering.specs.Assignments.{withoutRests}
 use Rattle.lowering.specs.Walk.{ruleOf, opensScope}
 use Rattle.lowering.specs.Collect.{isContainer}
-use Rattle.lowering.proofs.Cases.{by-test, by-key}
+use Rattle.lowering.proofs.Cases.{by-test, by-key, shape-34}
 use Rattle.lowering.proofs.Levels.{values-agree, replaced-levels, without-levels}
 use Rattle.sink.specs.Machine.{Event}
 use Rattle.direct.specs.Events.{Place, Emit, puts, cell, emits}
@@ -32,7 +32,9 @@ use Rattle.direct.proofs.AlikePatterns.{replaced-alike, withoutRests-al
 use Rattle.direct.proofs.Places.{names-free}
 use Rattle.direct.proofs.Stays.{emits-nowhere}
 use Rattle.direct.proofs.Makes.{say-then, below-inner, two-fields, three-fields, emits-temporary}
-use Rattle.direct.proofs.Lists.{count-each, each-each, each-same, each-levels, items-each}
+use Rattle.direct.proofs.Lists.{each-levels, items-each}
+use Rattle.lowering.proofs.ItemLaws.{each-each, each-same, count-each}
+use Rattle.lowering.proofs.ChangeLaws.{position-changed, node-on-twice}
 
 -- ---- pattern nodes by their bytes and their parts
 
@@ -87,25 +89,16 @@ emits-property-at c at k v b =
 
 -- ---- properties and their keys
 
-twice : (f g : Node → Node) (p : Piece) → onNode f (onNode g p) ≡ onNode (λ n. f (g n)) p
-unfolding onNode
-twice f g (one n) = refl
-twice f g (list is) = refl
-twice f g (text bs) = refl
-twice f g (byte b) = refl
-twice f g (mark b) = refl
-twice f g (number b) = refl
-
 -- the value changed twice
 pub value-twice : (f g : Node → Node) (q : Node) → changeNode 1 f (changeNode 1 g q) ≡ changeNode 1 (λ n. f (g n)) q
 unfolding change changeIn
 value-twice f g (node at k done) = refl
 value-twice f g (node at k (absent done)) = refl
 value-twice f g (node at k (absent (absent fs))) = refl
-value-twice f g (node at k (absent (field p fs))) = ap (λ (x : Piece). node at k (absent (field x fs))) (twice f g p)
+value-twice f g (node at k (absent (field p fs))) = ap (λ (x : Piece). node at k (absent (field x fs))) (node-on-twice f g p)
 value-twice f g (node at k (field r done)) = refl
 value-twice f g (node at k (field r (absent fs))) = refl
-value-twice f g (node at k (field r (field p fs))) = ap (λ (x : Piece). node at k (field r (field x fs))) (twice f g p)
+value-twice f g (node at k (field r (field p fs))) = ap (λ (x : Piece). node at k (field r (field x fs))) (node-on-twice f g p)
 
 -- key and value changed in either order
 swapped : (f g : Piece → Piece) (q : Node) → change 1 f (change 0 g q) ≡ change 0 g (change 1 f q)
@@ -117,10 +110,6 @@ swapped f g (node at k (absent (field p fs))) = refl
 swapped f g (node at k (field r done)) = refl
 swapped f g (node at k (field r (absent fs))) = refl
 swapped f g (node at k (field r (field p fs))) = refl
-
-position-changed : (i : ℕ) (f : Piece → Piece) (q : Node) → position (change i f q) ≡ position q
-unfolding change
-position-changed i f (node at k fs) = refl
 
 leaf-34 : (p : Node) → shape p ≡ leaf → is 34 p ≡ false
 unfolding shape is
@@ -280,10 +269,6 @@ module _ (κ : Context) where
 
 -- ---- the names of temporaries play no part
 
-object-shaped : (p : Node) → is 34 p ≡ true → shape p ≡ objectPattern
-unfolding is shape
-object-shaped p e = rw e refl
-
 module _ (κ μ : Context) where
   pub viewed-alike : (v : View) (p : Node) → Alike false (viewed κ v p) (viewed μ v p)
   unfolding viewed
@@ -291,7 +276,7 @@ module _ (κ μ : Context) where
   viewed-alike taking p =
       by-test (is 34 p)
       (λ e. rw e
-      (taken-alike κ μ (shape-values (λ v. replacedBelow κ v) p ∙ object-shaped p e)
+      (taken-alike κ μ (shape-values (λ v. replacedBelow κ v) p ∙ shape-34 p e)
       (values-alike (λ v. replacedBelow κ v) (λ v. replacedBelow μ v) (λ n m a. replaced-alike κ μ a) (alike-refl p))))
       (λ e. rw e (replaced-alike κ μ (alike-refl p)))
   viewed-alike leaving p = replaced-alike κ μ (withoutRests-alike κ μ (alike-refl p))

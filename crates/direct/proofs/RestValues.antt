@@ -4,30 +4,27 @@ use mathlib.Core.Path.{_≡_, refl, sym, ap, ap₂, _∙_}
 use mathlib.Core.Bool.{Bool, true, false, cond, not, _&&_, _||_}
 use mathlib.Core.List.{List, [], _∷_, _++_}
 use Prim.Native.Nat.{ℕ, suc, _+_}
-use lib.ListN.{length}
-use Rattle.tree.specs.Tree.{Node, Fields, Piece, Items, wideBytes, mapOf, count}
-use Rattle.tree.specs.Tree.Node.{node}
-use Rattle.lowering.specs.Parts.{position, is, textAt, isEmpty, only, each, gather, any, change, onNode, changeNode, _+++_}
+use Rattle.tree.specs.Tree.{Node, Items, wideBytes, count}
+use Rattle.lowering.specs.Parts.{position, is, textAt, isEmpty, only, each, gather, any, onNode, changeNode, _+++_}
 use Rattle.lowering.specs.Made.{Context, object, array, sequence, member, string, excludedOf, keyOf, E, X, W, K}
 use Rattle.lowering.specs.Patterns.{properties, key}
 use Rattle.lowering.specs.Keys.{keySort, isPrimitive, excludedKey, excludedKeys, allPrimitive}
 use Rattle.lowering.specs.Keys.Key.{name, literal, template, private, again, other}
 use Rattle.lowering.specs.Rests.{mapped, isHoisted, keysRead, restValue}
-use Rattle.lowering.specs.Walk.{ruleOf}
-use Rattle.lowering.specs.Collect.{isContainer}
 use Rattle.lowering.proofs.Cases.{by-key}
 use Rattle.sink.specs.Machine.{Event}
 use Rattle.direct.specs.Events.{Deed, Place, Emit, puts, emits}
 use Rattle.direct.specs.Events.Deed.{does}
-use Rattle.direct.specs.Emit.{say, _▷_, below, inner, emitsItems, emitsPiece, emitsFields, stays, callHead, inTurn}
+use Rattle.direct.specs.Emit.{say, _▷_, inner, emitsItems, callHead, inTurn}
 use Rattle.direct.specs.Views.{saysCell}
 use Rattle.direct.specs.Keys.{stringBytes, emitsExcluded, isPrivate, entries, primitives, hoists, emitsKeys, emitsKeysRead, emitsRest}
 use Rattle.direct.proofs.Threads.{then-assoc, then-nothing, say-say}
 use Rattle.direct.proofs.Alike.{key-kept}
-use Rattle.direct.proofs.Stays.{emits-nowhere}
-use Rattle.direct.proofs.Makes.{say-then, more-items, only-item, no-items, two-fields, emits-call, emits-X, emits-E, emits-W, emits-array, emits-object, emits-sequence, emits-member, emits-string, emits-helper}
+use Rattle.direct.proofs.Makes.{say-then, more-items, only-item, no-items, emits-call, emits-X, emits-E, emits-W, emits-array, emits-object, emits-sequence, emits-member, emits-string, emits-helper}
 use Rattle.direct.proofs.Items.{items-gather, turn-same}
 use Rattle.direct.proofs.PatternViews.{says-cell}
+use Rattle.lowering.proofs.ItemLaws.{empty-each}
+use Rattle.lowering.proofs.ChangeLaws.{position-changed}
 
 -- ---- one key
 
@@ -233,16 +230,6 @@ does-each f g h Items.none = refl
 does-each f g h (Items.hole qs) = does-each f g h qs
 does-each f g h (Items.item q qs) = ap₂ (λ (x y : Emit). x ▷ y) (h q) (does-each f g h qs)
 
-pub empty-each : (g : Node → Node) (qs : Items) → isEmpty (each g qs) ≡ isEmpty qs
-unfolding isEmpty each
-empty-each g Items.none = refl
-empty-each g (Items.hole qs) = refl
-empty-each g (Items.item q qs) = refl
-
-position-kept : (i : ℕ) (f : Piece → Piece) (q : Node) → position (change i f q) ≡ position q
-unfolding change
-position-kept i f (node at k fs) = refl
-
 module _ (g : Node → Node) where
   pub primitives-values : (qs : Items) → primitives (each (λ q. changeNode 1 g q) qs) ≡ primitives qs
   unfolding primitives
@@ -270,7 +257,7 @@ module _ (g : Node → Node) where
         | private ↦ say []
         | again ↦ emits c k
         | other ↦ saysCell 4 at
-      ]) (position-kept 1 (onNode g) q) (key-kept (onNode g) q)
+      ]) (position-changed 1 (onNode g) q) (key-kept (onNode g) q)
 
   pub keys-values : (c : Place) (qs : Items) → emitsKeys c (each (λ q. changeNode 1 g q) qs) ≡ emitsKeys c qs
   unfolding emitsKeys
@@ -292,23 +279,3 @@ module _ (g : Node → Node) where
   rest-values c at qs s =
       ap₂ (λ (b : Bool) (e : Emit). cond b (say (callHead 2 2 ++ (puts (24 ∷ 1 ∷ 0 ∷ 0 ∷ 28 ∷ 1 ∷ 2 ∷ 0 ∷ []) ++ callHead 3 1)) ▷ s ▷ s) (say (callHead 4 2) ▷ s ▷ e))
       (empty-each (λ q. changeNode 1 g q) qs) (read-values (inner c) at qs)
-
--- ---- a source that is a name: its bytes
-
-pub emits-reference-at : (c : Place) (at : ℕ) (bs : List ℕ)
-    → emits c (node at 18 (Fields.field (Piece.text bs) (Fields.absent Fields.done))) ≡ say (puts (18 ∷ 1 ∷ wideBytes (length bs) ++ bs))
-unfolding ruleOf stays mapOf isContainer emitsPiece emitsFields
-emits-reference-at c at bs =
-    emits-nowhere c (node at 18 (Fields.field (Piece.text bs) (Fields.absent Fields.done))) refl
-    ∙ ap (λ (x : Emit). say (puts (18 ∷ 1 ∷ [])) ▷ x) (then-nothing (say (puts (wideBytes (length bs) ++ bs))))
-    ∙ say-say (puts (18 ∷ 1 ∷ [])) (puts (wideBytes (length bs) ++ bs))
-
-pub emits-symbol-at : (c : Place) (at : ℕ) (bs : List ℕ) (y : ℕ)
-    → emits c (node at 18 (Fields.field (Piece.text bs) (Fields.field (Piece.number y) Fields.done)))
-    ≡ say (puts (18 ∷ 3 ∷ wideBytes (length bs) ++ bs) ++ puts (wideBytes y))
-unfolding ruleOf stays mapOf isContainer emitsPiece
-emits-symbol-at c at bs y =
-    let n = node at 18 (Fields.field (Piece.text bs) (Fields.field (Piece.number y) Fields.done)) in
-    emits-nowhere c n refl
-    ∙ ap (λ (x : Emit). say (puts (18 ∷ 3 ∷ [])) ▷ x) (two-fields false (below c n) (Piece.text bs) (Piece.number y) ∙ say-say (puts (wideBytes (length bs) ++ bs)) (puts (wideBytes y)))
-    ∙ say-say (puts (18 ∷ 3 ∷ [])) (puts (wideBytes (length bs) ++ bs) ++ puts (wideBytes y))

@@ -8,7 +8,7 @@ use Rattle.tree.specs.Tree.{Node, Fields, Piece, Items, depth}
 use Rattle.tree.specs.Tree.Node.{node}
 use Rattle.tree.specs.Tree.Fields.{done, absent, field}
 use Rattle.tree.specs.Tree.Piece.{one, list, text, byte, mark, number}
-use Rattle.lowering.specs.Parts.{nothing, is, asNode, pieceIn, changeIn, dropIn, nodeAt, itemsAt, isEmpty, change, onNode, onItems, changeNode, changeItems, without, only, each, gather, any, _+++_}
+use Rattle.lowering.specs.Parts.{nothing, is, asNode, pieceIn, changeIn, nodeAt, isEmpty, change, onNode, onItems, changeNode, changeItems, without, only, each, gather, any, _+++_}
 use Rattle.lowering.specs.Made.{Context, reference}
 use Rattle.lowering.specs.Patterns.{shape, properties, itemsOf, rest, hasRest, leftOf, value, withLeft, withItems, withValues, withProperties, hasNestedObjectRest, hasNestedArrayRest, hasObjectRest, hasArrayRestOverObjectRest, replaced, replacedBelow, objectsWithRest, objectsBelow}
 use Rattle.lowering.specs.Patterns.Shape.{objectPattern, arrayPattern, default, leaf}
@@ -20,29 +20,20 @@ use Rattle.lowering.proofs.Levels.{has-levels, array-levels, replaced-levels, w
 use Rattle.lowering.proofs.Views.{replaced-rests}
 use Rattle.direct.specs.Views.{withoutRestsBelow}
 use Rattle.direct.specs.Objects.{restsIn}
-use Rattle.direct.proofs.Kept.{changeItems-same}
-use Rattle.direct.proofs.Lists.{each-each}
 use Rattle.direct.proofs.PatternViews.{value-twice}
 use Rattle.direct.proofs.Objects.{value-changed, value-kept}
 use Rattle.direct.proofs.Declared.{properties-changed, rest-beside}
+use Rattle.lowering.proofs.ItemLaws.{each-each, any-none}
+use Rattle.lowering.proofs.ChangeLaws.{shape-changed, changeItems-same, node-on, node-on-twice, items-without}
+use Rattle.lowering.proofs.Clauses.{objects-object, objects-array, objects-default, objects-leaf, taken-none}
 
 -- ---- lists and fields
-
-pub shape-changed : (i : ℕ) (f : Piece → Piece) (n : Node) → shape (change i f n) ≡ shape n
-unfolding shape change
-shape-changed i f (node at k fs) = refl
 
 pub any-each : (t : Node → Bool) (g : Node → Node) (is : Items) → any t (each g is) ≡ any (λ n. t (g n)) is
 unfolding any each
 any-each t g Items.none = refl
 any-each t g (Items.hole is) = any-each t g is
 any-each t g (Items.item n is) = ap (λ (b : Bool). t (g n) || b) (any-each t g is)
-
-pub any-none : (u t : Node → Bool) → ((n : Node) → u n ≡ false → t n ≡ false) → (is : Items) → any u is ≡ false → any t is ≡ false
-unfolding any
-any-none u t h Items.none e = refl
-any-none u t h (Items.hole is) e = any-none u t h is e
-any-none u t h (Items.item n is) e = rw (h n (or-left (u n) (any u is) e)) (any-none u t h is (or-right (u n) (any u is) e))
 
 each-kept : (u : Node → Bool) (g : Node → Node) → ((n : Node) → u n ≡ false → g n ≡ n) → (is : Items) → any u is ≡ false → each g is ≡ is
 unfolding any each
@@ -71,35 +62,17 @@ node-same : (f : Node → Node) (i : ℕ) (n : Node) → f (nodeAt i n) ≡ node
 unfolding change nodeAt
 node-same f i (node at k fs) h = ap (node at k) (field-same f fs i h)
 
-piece-changed : (f : Node → Node) → f nothing ≡ nothing → (p : Piece) → asNode (onNode f p) ≡ f (asNode p)
-unfolding onNode
-piece-changed f h (one n) = refl
-piece-changed f h (list is) = sym h
-piece-changed f h (text bs) = sym h
-piece-changed f h (byte b) = sym h
-piece-changed f h (mark b) = sym h
-piece-changed f h (number b) = sym h
-
 first-changed : (f : Node → Node) → f nothing ≡ nothing → (p : Node) → nodeAt 0 (changeNode 0 f p) ≡ f (nodeAt 0 p)
 unfolding nodeAt change changeIn pieceIn
 first-changed f h (node at k done) = sym h
 first-changed f h (node at k (absent fs)) = sym h
-first-changed f h (node at k (field p fs)) = piece-changed f h p
-
-piece-twice : (f g : Node → Node) (p : Piece) → onNode f (onNode g p) ≡ onNode (λ n. f (g n)) p
-unfolding onNode
-piece-twice f g (one n) = refl
-piece-twice f g (list is) = refl
-piece-twice f g (text bs) = refl
-piece-twice f g (byte b) = refl
-piece-twice f g (mark b) = refl
-piece-twice f g (number b) = refl
+first-changed f h (node at k (field p fs)) = node-on f h p
 
 left-twice : (f g : Node → Node) (p : Node) → withLeft f (withLeft g p) ≡ withLeft (λ n. f (g n)) p
 unfolding change changeIn
 left-twice f g (node at k done) = refl
 left-twice f g (node at k (absent fs)) = refl
-left-twice f g (node at k (field p fs)) = ap (λ (x : Piece). node at k (field x fs)) (piece-twice f g p)
+left-twice f g (node at k (field p fs)) = ap (λ (x : Piece). node at k (field x fs)) (node-on-twice f g p)
 
 list-twice : (f g : Node → Node) (p : Piece) → onItems (each f) (onItems (each g) p) ≡ onItems (each (λ n. f (g n))) p
 unfolding onItems
@@ -120,10 +93,6 @@ pub values-twice : (f g : Node → Node) (p : Node) → withValues f (withValues
 values-twice f g p =
     items-twice (λ q. changeNode 1 f q) (λ q. changeNode 1 g q) p
     ∙ ap (λ (h : Node → Node). changeItems 0 (each h) p) (fun-ext (λ q. value-twice f g q))
-
-taken-none : (κ : Context) (p : Node) → hasRest p ≡ false → taken κ p ≡ p
-unfolding taken
-taken-none κ p e = rw e refl
 
 -- ---- clauses as equations
 
@@ -338,12 +307,6 @@ module _ (κ : Context) where
 
 -- ---- rests taken: what stands below arrays stays
 
-pub items-left : (n : Node) → itemsAt 0 (without 1 n) ≡ itemsAt 0 n
-unfolding itemsAt without dropIn pieceIn
-items-left (node at k done) = refl
-items-left (node at k (absent fs)) = refl
-items-left (node at k (field p fs)) = refl
-
 shape-left : (n : Node) → shape (without 1 n) ≡ shape n
 unfolding shape without
 shape-left (node at k fs) = refl
@@ -359,7 +322,7 @@ module _ (κ : Context) where
   any-taken t p =
       by-test (hasRest p)
       (λ r. rw r
-      (ap (any (λ q. t (value q))) (items-left (withProperties (keptKey κ) p) ∙ properties-changed (keptKey κ) p)
+      (ap (any (λ q. t (value q))) (items-without (withProperties (keptKey κ) p) ∙ properties-changed (keptKey κ) p)
       ∙ any-each (λ q. t (value q)) (keptKey κ) (properties p)
       ∙ ap (λ (g : Node → Bool). any g (properties p)) (fun-ext (λ q. ap t (value-kept κ q)))))
       (λ r. rw r refl)
@@ -427,22 +390,6 @@ module _ (κ : Context) where
   or-false true = refl
   or-false false = refl
 
-  obj-object : (d : ℕ) (p : Node) → shape p ≡ objectPattern → objectsWithRest κ (suc d) p ≡ gather (λ q. objectsWithRest κ d (value q)) (properties p) +++ cond (hasRest p) (only (withValues (λ v. replaced κ d v) p)) Items.none
-  unfolding objectsWithRest
-  obj-object d p e = rw (e, objectsWithRest) refl
-
-  obj-array : (d : ℕ) (p : Node) → shape p ≡ arrayPattern → objectsWithRest κ (suc d) p ≡ gather (λ x. objectsWithRest κ d x) (itemsOf p)
-  unfolding objectsWithRest
-  obj-array d p e = rw (e, objectsWithRest) refl
-
-  obj-default : (d : ℕ) (p : Node) → shape p ≡ default → objectsWithRest κ (suc d) p ≡ objectsWithRest κ d (leftOf p)
-  unfolding objectsWithRest
-  obj-default d p e = rw (e, objectsWithRest) refl
-
-  obj-leaf : (d : ℕ) (p : Node) → shape p ≡ leaf → objectsWithRest κ (suc d) p ≡ Items.none
-  unfolding objectsWithRest
-  obj-leaf d p e = rw (e, objectsWithRest) refl
-
   pub found-iff : (d : ℕ) (p : Node) → hasNestedArrayRest d p ≡ false → isEmpty (objectsWithRest κ d p) ≡ not (hasNestedObjectRest d p)
   unfolding hasNestedObjectRest objectsWithRest isEmpty
   found-iff zero p h = refl
@@ -453,7 +400,7 @@ module _ (κ : Context) where
       by-shape (shape p)
       (λ e.
       let o = withValues (λ v. replaced κ d v) p in
-      ap isEmpty (obj-object d p e)
+      ap isEmpty (objects-object κ d p e)
       ∙ empty-append (gather (λ q. f (value q)) (properties p)) (cond (hasRest p) (only o) Items.none)
       ∙ ap (λ (b : Bool). b && isEmpty (cond (hasRest p) (only o) Items.none))
       (empty-gather (λ q. u (value q)) (λ q. t (value q)) (λ q. f (value q)) (λ q y. found-iff d (value q) y) (properties p) (sym (over-object d p e) ∙ h))
@@ -461,11 +408,11 @@ module _ (κ : Context) where
       ∙ ap not (sym (has-object d p e)))
       (λ e.
       let z = sym (over-array d p e) ∙ h in
-      ap isEmpty (obj-array d p e)
+      ap isEmpty (objects-array κ d p e)
       ∙ empty-gather u t f (λ x y. found-iff d x y) (itemsOf p) (or-left (any u (itemsOf p)) (t (rest p)) z)
       ∙ ap not (or-false (any t (itemsOf p)) ∙ ap (λ (b : Bool). any t (itemsOf p) || b) (sym (or-right (any u (itemsOf p)) (t (rest p)) z)) ∙ sym (has-array d p e)))
-      (λ e. ap isEmpty (obj-default d p e) ∙ found-iff d (leftOf p) (sym (over-default d p e) ∙ h) ∙ ap not (sym (has-default d p e)))
-      (λ e. ap isEmpty (obj-leaf d p e) ∙ ap not (sym (has-leaf d p e)))
+      (λ e. ap isEmpty (objects-default κ d p e) ∙ found-iff d (leftOf p) (sym (over-default d p e) ∙ h) ∙ ap not (sym (has-default d p e)))
+      (λ e. ap isEmpty (objects-leaf κ d p e) ∙ ap not (sym (has-leaf d p e)))
 
   pub found-some : (p : Node) → hasArrayRestOverObjectRest p ≡ false → hasObjectRest p ≡ true → isEmpty (objectsBelow κ p) ≡ false
   found-some p h k = found-iff (depth p) p h ∙ ap not k

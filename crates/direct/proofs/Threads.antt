@@ -3,7 +3,7 @@
 use mathlib.Core.Path.{_≡_, refl, sym, ap, _∙_, fun-ext}
 use mathlib.Core.Bool.{Bool, true, false, cond}
 use mathlib.Core.List.{List, [], _∷_, _++_, append-assoc, append-nil}
-use Prim.Native.Nat.{ℕ, zero, suc, _+_, _≤_, min}
+use Prim.Native.Nat.{ℕ, zero, suc, _+_, min}
 use native.Mathlib.Omega.{arith}
 use lib.Dec.{eqb}
 use lib.ListN.{length}
@@ -26,10 +26,6 @@ later-later next (suc a) (suc b) =
     let e : suc (a + suc b) ≡ suc a + suc b = omega arith in
     let h : min 65535 (min 65535 (next + suc a) + suc b) ≡ min 65535 (next + suc (a + suc b)) = omega arith in
     h ∙ ap (later next) e
-
-pub later-min : (next n : ℕ) → next ≤ 65535 → later next n ≡ min 65535 (next + n)
-later-min next zero h = omega arith
-later-min next (suc n) h = refl
 
 counted-add : (e : Event) (a b : ℕ) → counted e (a + b) ≡ counted e a + b
 unfolding counted

@@ -8,8 +8,8 @@ use Rattle.lowering.specs.Patterns.{shape, properties, value, hasRest}
 use Rattle.lowering.specs.Patterns.Shape.{objectPattern, arrayPattern, default, leaf}
 use Rattle.lowering.specs.Keys.{anyLacksForm}
 use Rattle.lowering.specs.Declarations.{isName, isLowered, nestedBelow}
-use Rattle.direct.specs.Views.{View, nameless}
-use Rattle.direct.specs.Objects.{objectsIn, restsIn}
+use Rattle.direct.specs.Views.{nameless}
+use Rattle.direct.specs.Objects.{restsIn}
 use Rattle.direct.specs.Inner.{otherKeys}
 
 -- the sum over all items
@@ -25,9 +25,6 @@ restsCount p = count (restsIn p)
 -- whether a key of them lacks its form; one of the objects that are found
 unfoldable pub lacksRests : Node → Bool
 lacksRests p = any (λ o. anyLacksForm o) (restsIn p)
-
-unfoldable pub lacksIn : View → Node → Bool
-lacksIn v p = any (λ o. anyLacksForm o) (objectsIn nameless v p)
 
 -- how many declarators: of an object of its own, but for its rest; of what is found below a pattern; of a pattern; of a declarator
 unfoldable pub ownCount : Node → ℕ

@@ -1,5 +1,5 @@
 -- Deeds one after another, and a node as it stands: its bytes, and what its parts do.
-use Prim.Native.Nat.{ℕ, suc}
+use Prim.Native.Nat.{ℕ}
 use mathlib.Core.Bool.{Bool, true, false, cond, not, _&&_, _||_}
 use mathlib.Core.List.{List, [], _∷_, _++_}
 use lib.Dec.{eqb}
@@ -111,17 +111,3 @@ stays c (node at k fs) =
 -- the head of a call of helper h with n arguments
 abbrev pub callHead : ℕ → ℕ → List Deed
 callHead h n = puts (29 ∷ 3 ∷ []) ++ (does (helper h) ∷ puts (wideBytes n))
-
--- ---- a node whose fields do as f says, told the number of the field: for a node some of whose fields are changed
-
-unfoldable pub fieldsBy : (ℕ → Piece → Emit) → ℕ → Fields → Emit
-fieldsBy f i done = say []
-fieldsBy f i (absent fs) = fieldsBy f (suc i) fs
-fieldsBy f i (field p fs) = f i p ▷ fieldsBy f (suc i) fs
-
-unfoldable pub staysBy : Node → (ℕ → Piece → Emit) → Emit
-staysBy (node at k fs) f = say (puts (k ∷ mapOf fs ∷ [])) ▷ fieldsBy f 0 fs
-
--- field j does what it does once g has changed it
-abbrev pub changedAt : ℕ → (Piece → Piece) → (ℕ → Piece → Emit) → ℕ → Piece → Emit
-changedAt j g f i p = cond (eqb i j) (f i (g p)) (f i p)

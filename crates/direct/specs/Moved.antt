@@ -4,7 +4,6 @@ use mathlib.Core.Option.{Option}
 use mathlib.Core.Bool.{false}
 use mathlib.Core.List.{List, [], _∷_}
 use Rattle.tree.specs.Tree.{Node, Fields, Items, depth}
-use Rattle.tree.specs.Tree.Node.{node}
 use Rattle.tree.specs.Tree.Fields.{done, absent, field}
 use Rattle.tree.specs.Tree.Piece.{one, list, byte, mark}
 use Rattle.tree.specs.Tree.Items.{none, hole, item}

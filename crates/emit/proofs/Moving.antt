@@ -24,7 +24,7 @@ use Rattle.lowering.specs.Keys.{anyLacksForm}
 use Rattle.lowering.specs.Declarations.{isName, patternDeclarators, isLowered, loweredIn, declarationLacksForm}
 use Rattle.lowering.specs.Heads.{isMoved, movedFrom}
 use Rattle.lowering.proofs.All.{AllItems}
-use Rattle.lowering.proofs.Cases.{by-test, or-other}
+use Rattle.lowering.proofs.Cases.{by-test, or-other, shape-34}
 use Rattle.sink.specs.Machine.{part}
 use Rattle.sink.specs.Machine.Event.{temporary}
 use Rattle.pattern.specs.Tally.{limited}
@@ -41,11 +41,10 @@ use Rattle.direct.specs.Counts.{sumOf, declaratorsOf}
 use Rattle.direct.specs.Moved.{stand, outOf, movedIn, behind, Binder, fronts}
 use Rattle.direct.proofs.Makes.{newDeclaration, emits-temporary}
 use Rattle.direct.proofs.Lists.{turn-only}
-use Rattle.direct.proofs.Tests.{has-leaf-at}
 use Rattle.direct.proofs.Declared.{declaration-refused, declaration-done}
 use Rattle.direct.proofs.Counts.{pattern-counted, declarator-count}
 use Rattle.direct.proofs.Bodies.{inner-scoped, scoped-scoped}
-use Rattle.direct.proofs.MovedOut.{shape-34, shape-37, shape-leaf, emits-out-object, emits-out-leaf, emits-out-array-rest, emits-out-array, emits-out-default, emits-behind-kept, emits-behind-value, emits-behind}
+use Rattle.direct.proofs.MovedOut.{shape-37, shape-leaf, emits-out-object, emits-out-leaf, emits-out-array-rest, emits-out-array, emits-out-default, emits-behind-kept, emits-behind-value, emits-behind}
 use Rattle.direct.proofs.Fronts.{fronts-cut, fronts-empty, fronts-hole, fronts-one, fronts-kept, fronts-moved, fronts-object, fronts-default, fronts-leaf, fronts-array-rest, fronts-array, marked-let, front-kept}
 use Rattle.direct.proofs.Threads.{then-assoc, say-nothing, then-nothing, say-say}
 use Rattle.walk.specs.Run.{Going, Does}
@@ -58,6 +57,7 @@ use Rattle.walk.proofs.Args.{does-from}
 use Rattle.walk.proofs.Emits.{is-hole, no-hole, full, good-item}
 use Rattle.walk.proofs.Opened.{ArrayOpen, BinderOpen, array-open, default-open, declarator-open, param-open, no-good, is-here, position-here, good-short, good-within}
 use Rattle.walk.proofs.Turning.{turns-16, suit-16}
+use Rattle.lowering.proofs.Clauses.{has-leaf-at}
 
 -- ---- states and places
 

@@ -153,7 +153,7 @@ late-kind (suc (suc (suc (suc zero)))) = ((λ h. omega arith), (λ h. omega arit
 late-kind (suc (suc (suc (suc (suc zero))))) = ((λ h. omega arith), (λ h. omega arith), (λ h. omega arith), (λ h. absurd (omega arith)))
 late-kind (suc (suc (suc (suc (suc (suc m)))))) = ((λ h. omega arith), (λ h. omega arith), (λ h. omega arith), (λ h. absurd (omega arith)))
 
-early : (f : ℕ) → f < 64 → kindOf f ≡ f
+pub early : (f : ℕ) → f < 64 → kindOf f ≡ f
 unfolding kindOf
 early f h = rw (lt-ltb f 64 h)
 
@@ -164,9 +164,6 @@ lately f h = rw (le-ltb f 64 h)
 module _ (f : ℕ) where
   form-18 : kindOf f ≡ 18 → f ≡ 18
   form-18 e = elim (decLt f 64) [ yes h ↦ sym (early f h) ∙ e | no h ↦ absurd (late-kind (f - 64) .0 (sym (lately f (omega arith)) ∙ e)) ]
-
-  form-20 : kindOf f ≡ 20 → f ≡ 20
-  form-20 e = elim (decLt f 64) [ yes h ↦ sym (early f h) ∙ e | no h ↦ absurd (late-kind (f - 64) .1 (sym (lately f (omega arith)) ∙ e)) ]
 
   form-4 : kindOf f ≡ 4 → f ≡ 4
   form-4 e = elim (decLt f 64) [ yes h ↦ sym (early f h) ∙ e | no h ↦ absurd (late-kind (f - 64) .2 (sym (lately f (omega arith)) ∙ e)) ]
@@ -249,14 +246,6 @@ unfoldable pub NoHoles : Items → Type 0
 NoHoles Items.none = Unit {0}
 NoHoles (Items.hole is) = ⊥
 NoHoles (Items.item n is) = NoHoles is
-
-abbrev Stands : Piece → Type 0
-Stands (Piece.one n) = Unit {0}
-Stands (Piece.list is) = Unit {0}
-Stands (Piece.text bs) = Unit {0}
-Stands (Piece.byte b) = Unit {0}
-Stands (Piece.mark b) = 0 < b
-Stands (Piece.number b) = Unit {0}
 
 abbrev OfSort : Sort → Piece → Type 0
 OfSort (Sort.child p) x = Unit {0}

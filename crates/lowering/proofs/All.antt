@@ -7,9 +7,11 @@ use Rattle.tree.specs.Tree.Node.{node}
 use Rattle.tree.specs.Tree.Fields.{done, absent, field}
 use Rattle.tree.specs.Tree.Piece.{one, list, text, byte, mark, number}
 use Rattle.tree.specs.Tree.Items.{none, hole, item}
-use Rattle.lowering.specs.Parts.{pieceIn, is, each, gather, _+++_, changeIn}
+use Rattle.lowering.specs.Parts.{pieceIn, is, each, gather, _+++_, changeIn, any}
 use Rattle.lowering.specs.Walk.{Note, Walked, WalkedFields, WalkedPiece, WalkedItems, eachItem, eachPiece, eachField, inside}
 use Rattle.lowering.specs.Walk.Walked.{noted}
+use mathlib.Core.Bool.{Bool, false}
+use Rattle.lowering.proofs.Cases.{or-left, or-right}
 
 abbrev pub AllItems : (Node → Type 0) → Items → Type 0
 AllItems P none = Unit {0}
@@ -127,3 +129,9 @@ module _ (v w : ℕ → ℕ → Node → Walked) where
   pub inside-same : (note : Note) (n : Node) → Each (λ m. (i j : ℕ) → v i j m ≡ w i j m) n → inside note v n ≡ inside note w n
   unfolding inside
   inside-same note (node at k fs) h = ap (noted note at k) (fields-same 0 fs h)
+
+pub none-passes : (f : Node → Bool) (is : Items) → any f is ≡ false → AllItems (λ n. f n ≡ false) is
+unfolding any
+none-passes f Items.none h = tt
+none-passes f (Items.hole is) h = none-passes f is h
+none-passes f (Items.item n is) h = (or-left (f n) (any f is) h, none-passes f is (or-right (f n) (any f is) h))

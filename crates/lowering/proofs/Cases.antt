@@ -1,20 +1,22 @@
 -- Case analysis that hands out the equation, and what tests say.
 -- Assumes nothing.
 use mathlib.Core.Path.{_≡_, refl, sym, _∙_}
-use mathlib.Core.Bool.{Bool, true, false, cond, _||_, _&&_, false≢true, true≢false}
+use mathlib.Core.Bool.{Bool, true, false, cond, _||_, _&&_, false≢true, true≢false, not}
 use Prim.Native.Nat.{ℕ}
 use native.Mathlib.Omega.{arith}
 use lib.Dec.{eqb}
-use Rattle.tree.specs.Tree.{Node, Piece}
+use Rattle.tree.specs.Tree.{Node, Piece, Items}
 use Rattle.tree.specs.Tree.Node.{node}
 use Rattle.lowering.specs.Parts.{is, kind, change}
 use Rattle.lowering.specs.Patterns.{Shape, shape}
 use Rattle.lowering.specs.Patterns.Shape.{objectPattern, arrayPattern, default, leaf}
 use Rattle.lowering.specs.Keys.{Key}
 use Rattle.lowering.specs.Keys.Key.{name, literal, template, private, again, other}
-use Rattle.lowering.specs.Walk.{Rule, ruleOf}
+use Rattle.lowering.specs.Walk.{Rule, ruleOf, Step, unchanged, rewritten}
 use Rattle.lowering.specs.Walk.Rule.{literals, declarations, assignments, functions, arrows, catches, fors, nowhere}
 use Rattle.lowering.specs.Heads.{asFunctionBody, asBlock}
+use borrow.Author.Tests.{eqb-true}
+use Rattle.tree.specs.Tree.Items.{none}
 
 pub by-test : {A : Type 0} (b : Bool) → (b ≡ true → A) → (b ≡ false → A) → A
 by-test true f g = f refl
@@ -143,3 +145,43 @@ block-is b = by-test (is 2 b) (λ e. rw e e) (λ e. rw e refl)
 pub is-changed : (i : ℕ) (f : Piece → Piece) (n : Node) (j : ℕ) → is j (change i f n) ≡ is j n
 unfolding is change
 is-changed i f (node at k fs) j = refl
+
+pub shape-34 : (p : Node) → is 34 p ≡ true → shape p ≡ objectPattern
+unfolding is shape
+shape-34 p e = rw e refl
+
+pub not-true : (b : Bool) → not b ≡ true → b ≡ false
+not-true true h = absurd (false≢true h)
+not-true false h = refl
+
+pub not-false : (b : Bool) → not b ≡ false → b ≡ true
+not-false true h = refl
+not-false false h = absurd (true≢false h)
+
+pub rule-4 : (n : Node) → is 4 n ≡ true → ruleOf (kind n) ≡ declarations
+unfolding is ruleOf
+rule-4 (node at k fs) e = rw (eqb-true k 4 e) refl
+
+pub rule-27 : (n : Node) → is 27 n ≡ true → ruleOf (kind n) ≡ assignments
+unfolding is ruleOf
+rule-27 (node at k fs) e = rw (eqb-true k 27 e) refl
+
+pub rule-14 : (n : Node) → is 14 n ≡ true → ruleOf (kind n) ≡ functions
+unfolding is ruleOf
+rule-14 (node at k fs) e = rw (eqb-true k 14 e) refl
+
+pub rule-17 : (n : Node) → is 17 n ≡ true → ruleOf (kind n) ≡ arrows
+unfolding is ruleOf
+rule-17 (node at k fs) e = rw (eqb-true k 17 e) refl
+
+pub rule-10 : (n : Node) → is 10 n ≡ true → ruleOf (kind n) ≡ catches
+unfolding is ruleOf
+rule-10 (node at k fs) e = rw (eqb-true k 10 e) refl
+
+-- a step that makes nothing and leaves the node changes nothing
+pub step-same : (m e : Items) (r n : Node) → m ≡ none → e ≡ none → r ≡ n
+    → _≡_ {A = Step} (record { note = record { refusal = 0; made = m; entry = none; excluded = e }; result = r }) (unchanged n)
+step-same m e r n p q s = λ j. record { note = record { refusal = 0; made = (p) j; entry = none; excluded = (q) j }; result = (s) j }
+
+pub rewritten-same : (m : Items) (r n : Node) → m ≡ none → r ≡ n → rewritten m r ≡ unchanged n
+rewritten-same m r n p s = step-same m none r n p refl s

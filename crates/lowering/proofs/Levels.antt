@@ -12,20 +12,22 @@ use Rattle.tree.specs.Tree.Piece.{one, list, text, byte, mark, number}
 use Rattle.tree.specs.Tree.Items.{none, hole, item}
 use Rattle.lowering.specs.Parts.{nothing, pieceIn, changeIn, change, onNode, onItems, changeNode, changeItems, asNode, asItems, nodeAt, itemsAt, only, each, gather, any, _+++_}
 use Rattle.lowering.specs.Made.{Context, reference}
-use Rattle.lowering.specs.Patterns.{shape, properties, itemsOf, hasRest, value, withItems, withRest, withValues, hasNestedObjectRest, hasNestedArrayRest, replaced, objectsWithRest}
+use Rattle.lowering.specs.Patterns.{shape, properties, itemsOf, hasRest, value, withItems, withRest, withValues, hasNestedObjectRest, hasNestedArrayRest, replaced, objectsWithRest, replacedBelow, objectsBelow}
+use Rattle.lowering.specs.Patterns.Shape.{objectPattern, leaf}
 use Rattle.lowering.specs.Keys.{taken}
 use Rattle.lowering.specs.Declarations.{own, nested}
 use Rattle.lowering.specs.Assignments.{restsThroughObjects, withoutRests}
 use Rattle.lowering.specs.Heads.{moved, movedOut}
 use Rattle.lowering.proofs.Cases.{by-shape}
+use Rattle.lowering.proofs.Clauses.{objects-object, objects-leaf}
 
 -- ---- two functions that agree on nodes of at most b levels agree on the parts of a node of one level more
 
-depth-pos : (n : Node) → 0 < depth n
+pub depth-pos : (n : Node) → 0 < depth n
 unfolding depth
 depth-pos (node at k fs) = omega arith
 
-piece-depth : (fs : Fields) (i : ℕ) → depthPiece (pieceIn fs i) ≤ depthFields fs
+pub piece-depth : (fs : Fields) (i : ℕ) → depthPiece (pieceIn fs i) ≤ depthFields fs
 unfolding pieceIn depth
 piece-depth done i = omega arith
 piece-depth (absent fs) zero = omega arith
@@ -144,22 +146,22 @@ both-agree f g b agree (node at k fs) h = ap (node at k) (both-changed f g b agr
 
 -- nothing is found in nothing
 
-has-nothing : (d : ℕ) → hasNestedObjectRest d nothing ≡ false
+pub has-nothing : (d : ℕ) → hasNestedObjectRest d nothing ≡ false
 unfolding hasNestedObjectRest shape
 has-nothing zero = refl
 has-nothing (suc d) = refl
 
-array-nothing : (d : ℕ) → hasNestedArrayRest d nothing ≡ false
+pub array-nothing : (d : ℕ) → hasNestedArrayRest d nothing ≡ false
 unfolding hasNestedArrayRest shape
 array-nothing zero = refl
 array-nothing (suc d) = refl
 
-rests-nothing : (d : ℕ) → restsThroughObjects d nothing ≡ none
+pub rests-nothing : (d : ℕ) → restsThroughObjects d nothing ≡ none
 unfolding restsThroughObjects shape
 rests-nothing zero = refl
 rests-nothing (suc d) = refl
 
-moved-nothing : (d : ℕ) → moved d nothing ≡ none
+pub moved-nothing : (d : ℕ) → moved d nothing ≡ none
 unfolding moved shape
 moved-nothing zero = refl
 moved-nothing (suc d) = refl
@@ -170,7 +172,7 @@ module _ (c : Context) where
   objects-nothing zero = refl
   objects-nothing (suc d) = refl
 
-  nested-nothing : (d : ℕ) → nested c d nothing ≡ none
+  pub nested-nothing : (d : ℕ) → nested c d nothing ≡ none
   unfolding nested shape
   nested-nothing zero = refl
   nested-nothing (suc d) = refl
@@ -347,3 +349,27 @@ module _ (d : ℕ) (p : Node) (enough : depth p ≤ d) where
 
     pub movedOut-levels : movedOut c d p ≡ movedOut c (depth p) p
     movedOut-levels = movedOut-same c (depth p) d (depth p) p enough (omega arith) (omega arith)
+
+-- ---- the objects below a pattern, by its parts
+
+module _ (c : Context) where
+  pub below-leaf : (p : Node) → shape p ≡ leaf → objectsBelow c p ≡ none
+  unfolding depth
+  below-leaf (node at k fs) e = objects-leaf c (depthFields fs) (node at k fs) e
+
+  -- below an object pattern: those below its values, and itself
+  pub below-object : (p : Node) → shape p ≡ objectPattern
+      → objectsBelow c p ≡ gather (λ q. objectsBelow c (value q)) (properties p) +++ cond (hasRest p) (only (withValues (λ v. replacedBelow c v) p)) none
+  unfolding depth
+  below-object (node at k fs) e =
+      let p = node at k fs in
+      let d = depthFields fs in
+      let i = items-depth 0 p in
+      objects-object c d p e
+      ∙ ap₂ (λ (x : Items) (y : Node). x +++ cond (hasRest p) (only y) none)
+      (gather-agrees (λ q. objectsWithRest c d (value q)) (λ q. objectsBelow c (value q)) d
+      (λ q l.
+      node-in (λ m. objectsWithRest c d m) (λ m. objectsBelow c m) d (λ m h. objects-levels d m h c)
+      (objects-nothing c d ∙ sym (objects-nothing c (depth nothing))) 1 q (omega arith))
+      (properties p) (omega arith))
+      (values-agree (λ v. replaced c d v) (λ v. replacedBelow c v) d (λ m h. replaced-levels d m h c) p (omega arith))

@@ -1,3 +1,5 @@
+pub mod ItemLaws
+pub mod ChangeLaws
 pub mod All
 pub mod Cases
 pub mod Clauses

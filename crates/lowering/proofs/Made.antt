@@ -11,7 +11,7 @@ use Rattle.tree.specs.Tree.{Node, Items, depth}
 use Rattle.tree.specs.Tree.Items.{none, hole, item}
 use Rattle.lowering.specs.Parts.{position, kind, is, nodeAt, itemsAt, stands, textAt, numberAt, pieceIn, only, each, gather, _+++_}
 use Rattle.lowering.specs.Made.{Context, temporary, reference, valueOf, keyOf, excludedOf, declared, idOf}
-use Rattle.lowering.specs.Patterns.{shape, properties, key, value, hasObjectRest, hasArrayRestOverObjectRest, objectsBelow, hasRest}
+use Rattle.lowering.specs.Patterns.{shape, properties, key, value, hasObjectRest, hasArrayRestOverObjectRest, objectsBelow}
 use Rattle.lowering.specs.Keys.{keySort, keyTemporary, keyTemporaries}
 use Rattle.lowering.specs.Rests.{isHoisted, excludedFor, restMakes}
 use Rattle.lowering.specs.Declarations.{isName, sourceDeclarator, innerObjects, declaratorMakes, isLowered, declarationMakes, declarationLacksForm}
@@ -19,9 +19,11 @@ use Rattle.lowering.specs.Assignments.{isTop, target, restsOf, topLacksF
 use Rattle.lowering.specs.Heads.{isMoved, movedFrom, references, functionMakes, arrowMakes, catchMakes, declaringMakes, assigningMakes}
 use Rattle.lowering.specs.Walk.{ruleOf, rewrite, stepDeclaration, stepTop, stepAssignment, stepFor}
 use Rattle.lowering.specs.Collect.{Name, nameOf, samePath, same}
-use Rattle.lowering.proofs.Cases.{by-test, by-shape, by-key, by-rule, and-left, and-right}
+use Rattle.lowering.proofs.Cases.{by-test, by-shape, by-key, by-rule}
 use Rattle.lowering.proofs.Sites.{here, hereItems, sites, sitesItems, node-in, items-in, shell, shells, gather-here, shells-in, here-in}
 use Rattle.lowering.proofs.SiteViews.{object-here, rest-here, moved-here, rests-shells, objects-sum, objects-are}
+use Rattle.lowering.proofs.ItemLaws.{each-append}
+use Rattle.lowering.proofs.Clauses.{lowered-rest, top-34}
 
 -- how often a is the name of one of them
 unfoldable pub times : Name → Items → ℕ
@@ -34,20 +36,6 @@ unfolding times _+++_
 times-append a none js = omega arith
 times-append a (hole is) js = times-append a is js
 times-append a (item n is) js = let h = times-append a is js in omega arith
-
-pub each-append : (f : Node → Node) (is js : Items) → each f (is +++ js) ≡ each f is +++ each f js
-unfolding each _+++_
-each-append f none js = refl
-each-append f (hole is) js = ap hole (each-append f is js)
-each-append f (item n is) js = ap (item (f n)) (each-append f is js)
-
-lowered-rest : (d : Node) → isLowered d ≡ true → hasObjectRest (nodeAt 0 d) ≡ true
-unfolding isLowered
-lowered-rest d e = and-right (stands 1 d) (hasObjectRest (nodeAt 0 d)) e
-
-top-is : (p : Node) → isTop p ≡ true → is 34 p ≡ true
-unfolding isTop
-top-is p e = and-left (is 34 p) (hasRest p) e
 
 -- ---- a temporary by its name
 
@@ -85,7 +73,7 @@ module _ (a : Name) where
   unfolding times
   none-times = refl
 
-  no-ids : times a (each idOf none) ≡ 0
+  pub no-ids : times a (each idOf none) ≡ 0
   unfolding each times
   no-ids = refl
 
@@ -340,7 +328,7 @@ module _ (a : Name) where
         (λ e.
         let q : a .stem ≡ 3 = eqb-true (a .stem) 3 e in
         let o = one-here (c .path) 3 (position p) in
-        let i = object-here (a .place) p (top-is p h) in
+        let i = object-here (a .place) p (top-34 p h) in
         let k = both-none (stem-not 3 2 q refl) (stem-not 3 4 q refl) (restsOf n) in
         omega arith)
         (λ e.

@@ -26,6 +26,7 @@ use Rattle.lowering.proofs.Sites.{sites, AtMost}
 use Rattle.lowering.proofs.SiteRules.{kept}
 use Rattle.lowering.proofs.Made.{times, times-append, makes-once}
 use Rattle.lowering.proofs.Paths.{made-from, not-made}
+use Rattle.lowering.proofs.ItemLaws.{items-assoc}
 
 -- ---- paths
 
@@ -58,12 +59,6 @@ through p q i j u = record { below = u .below ++ (j ∷ i ∷ []); whole = u .wh
     step : (r : List ℕ) → r ++ (j ∷ i ∷ p) ≡ (r ++ (j ∷ i ∷ [])) ++ p
     step [] = refl
     step (a ∷ r) = ap (λ (x : List ℕ). a ∷ x) (step r)
-
-pub append-assoc : (is js ks : Items) → (is +++ js) +++ ks ≡ is +++ (js +++ ks)
-unfolding _+++_
-append-assoc Items.none js ks = refl
-append-assoc (Items.hole is) js ks = ap Items.hole (append-assoc is js ks)
-append-assoc (Items.item n is) js ks = ap (Items.item n) (append-assoc is js ks)
 
 -- ---- a number of finds, one at most, and where
 
@@ -103,7 +98,7 @@ module _ (a : Name) where
   made-append : (us vs : List Visit) → madeIn (us ++ vs) ≡ madeIn us +++ madeIn vs
   unfolding madeIn _+++_
   made-append [] vs = refl
-  made-append (u ∷ us) vs = ap (λ (x : Items). u .note .made +++ x) (made-append us vs) ∙ sym (append-assoc (u .note .made) (madeIn us) (madeIn vs))
+  made-append (u ∷ us) vs = ap (λ (x : Items). u .note .made +++ x) (made-append us vs) ∙ sym (items-assoc (u .note .made) (madeIn us) (madeIn vs))
 
   pub total-append : (us vs : List Visit) → total (us ++ vs) ≡ total us + total vs
   total-append us vs = ap (times a) (made-append us vs) ∙ times-append a (madeIn us) (madeIn vs)

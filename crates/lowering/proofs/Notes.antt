@@ -5,7 +5,6 @@ use Prim.Native.Nat.{ℕ, zero, suc, _+_}
 use mathlib.Core.Bool.{Bool, cond}
 use Rattle.tree.specs.Tree.{Node, Fields, Piece, Items}
 use Rattle.tree.specs.Tree.Node.{node}
-use Rattle.tree.specs.Tree.Items.{none}
 use Rattle.lowering.specs.Made.{Context}
 use Rattle.lowering.specs.Walk.{Note, Walked, eachItem, eachPiece, eachField, inside, rewrite, within, walk, unchanged}
 use Rattle.lowering.specs.Weight.{weight, walked}

@@ -13,14 +13,15 @@ use Rattle.tree.specs.Tree.Piece.{one, list, text, byte, mark, number}
 use Rattle.tree.specs.Tree.Items.{none, hole, item}
 use Rattle.lowering.specs.Parts.{nothing, position, is, pieceIn, changeIn, asNode, asItems, asText, asNumber, nodeAt, itemsAt, textAt, numberAt, change, onNode, onItems, changeNode, changeItems, only, each, gather, _+++_}
 use Rattle.lowering.specs.Made.{Context, temporary, reference}
-use Rattle.lowering.specs.Patterns.{shape, properties, itemsOf, rest, hasRest, leftOf, value, withLeft, withItems, withRest, withValues, replaced, objectsWithRest}
-use Rattle.lowering.specs.Patterns.Shape.{objectPattern, arrayPattern, default, leaf}
+use Rattle.lowering.specs.Patterns.{shape, properties, itemsOf, rest, hasRest, value, withItems, withRest, withValues, replaced, objectsWithRest}
 use Rattle.lowering.specs.Heads.{moved, movedPattern, movedOut}
 use Rattle.lowering.specs.Collect.{Name, nameOf, same}
-use Rattle.lowering.proofs.All.{AllItems, AllPiece, AllFields, Each}
+use Rattle.lowering.proofs.All.{AllItems}
 use Rattle.lowering.proofs.Cases.{by-test, by-shape}
 use Rattle.lowering.proofs.Clauses.{objects-object, objects-array, objects-default, objects-leaf, replaced-object, replaced-array, replaced-default, replaced-leaf}
-use Rattle.lowering.proofs.Made.{times, times-append, each-append, only-times}
+use Rattle.lowering.proofs.Made.{times, times-append, only-times}
+use Rattle.lowering.proofs.ItemLaws.{each-append}
+use Rattle.lowering.proofs.ChangeLaws.{position-changed}
 
 -- ---- changes of a field that leave texts and numbers alone
 
@@ -98,10 +99,6 @@ name-kept f l at k fs i =
     let t = text-kept f l fs i 1 in
     let n = number-kept f l fs i 0 in
     λ j. record { path = (t) j; stem = (n) j; place = at }
-
-pub position-kept : (i : ℕ) (f : Piece → Piece) (n : Node) → position (change i f n) ≡ position n
-unfolding change
-position-kept i f (node at k fs) = refl
 
 second-kept : (f : Piece → Piece) (fs : Fields) → pieceIn (changeIn fs 0 f) 1 ≡ pieceIn fs 1
 unfolding changeIn pieceIn
@@ -188,24 +185,6 @@ module _ (a : Name) where
   each-item none h = tt
   each-item (hole is) h = each-item is h
   each-item (item n is) h = (omega arith, each-item is (omega arith))
-
-  pub each-piece : (p : Piece) → occursPiece p ≡ 0 → AllPiece Free p
-  unfolding occurs
-  each-piece (one n) h = h
-  each-piece (list is) h = each-item is h
-  each-piece (text bs) h = tt
-  each-piece (byte b) h = tt
-  each-piece (mark b) h = tt
-  each-piece (number b) h = tt
-
-  pub each-field : (fs : Fields) → occursFields fs ≡ 0 → AllFields Free fs
-  unfolding occurs
-  each-field done h = tt
-  each-field (absent fs) h = each-field fs h
-  each-field (field p fs) h = (each-piece p (omega arith), each-field fs (omega arith))
-
-  pub each-part : (n : Node) → Free n → Each Free n
-  each-part (node at k fs) h = let w = fields-in at k fs in each-field fs (omega arith)
 
   pub occurs-append : (is js : Items) → occursItems (is +++ js) ≡ occursItems is + occursItems js
   unfolding occurs _+++_
@@ -406,7 +385,7 @@ module _ (a : Name) where
         let x = ap (times a) (each-append (λ q. reference c q) inner (only own)) in
         let y = times-append a (refs inner) (refs (only own)) in
         let v = ref-times own in
-        let k = ap (λ (m : ℕ). occurs (temporary (c .path) 1 m)) (position-kept 0 (onItems (each (λ q. changeNode 1 f q))) p) in
+        let k = ap (λ (m : ℕ). occurs (temporary (c .path) 1 m)) (position-changed 0 (onItems (each (λ q. changeNode 1 f q))) p) in
         omega arith)
         (λ r.
         let i′ : occursItems (objectsWithRest c (suc d) p) ≡ occursItems (inner +++ none) = rw r at i in

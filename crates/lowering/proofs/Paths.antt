@@ -20,7 +20,8 @@ use Rattle.lowering.specs.Walk.{ruleOf, rewrite, stepDeclaration, stepTo
 use Rattle.lowering.specs.Collect.{Name, nameOf, samePath, same}
 use Rattle.lowering.proofs.All.{AllItems, all-append, all-gather, all-each, all-unit}
 use Rattle.lowering.proofs.Cases.{by-test, by-key, by-rule}
-use Rattle.lowering.proofs.Made.{times, each-append, name-of, entry-refs}
+use Rattle.lowering.proofs.Made.{times, name-of, entry-refs}
+use Rattle.lowering.proofs.ItemLaws.{each-append}
 
 -- a temporary with the path
 pub data From (path : List ℕ) : Node → Type 0 where

@@ -14,7 +14,7 @@ use Rattle.tree.specs.Read.{readTree}
 use Rattle.tree.specs.Read.Got.{got}
 use Rattle.tree.specs.WellFormed.{Bytes}
 use Rattle.tree.proofs.Sound.{sound}
-use Rattle.lowering.specs.Parts.{nothing, kind, is, pieceIn, standsIn, changeIn, asNode, asItems, nodeAt, itemsAt, numberAt, stands, change, onItems, only, each, gather, any, isEmpty, _+++_}
+use Rattle.lowering.specs.Parts.{nothing, kind, is, pieceIn, standsIn, asNode, asItems, nodeAt, itemsAt, numberAt, stands, change, onItems, only, each, gather, any, isEmpty, _+++_}
 use Rattle.lowering.specs.Made.{Context}
 use Rattle.lowering.specs.Patterns.{shape, properties, itemsOf, rest, hasRest, leftOf, value, hasNestedObjectRest, hasNestedArrayRest, hasObjectRest}
 use Rattle.lowering.specs.Literals.{literal}
@@ -23,15 +23,17 @@ use Rattle.lowering.specs.Keys.{anyLacksForm}
 use Rattle.lowering.specs.Declarations.{isLowered, declaratorMakes, declarators, loweredIn, declaration, declarationMakes, declarationExcludes, declarationLacksForm}
 use Rattle.lowering.specs.Assignments.{isTop, target}
 use Rattle.lowering.specs.Heads.{isMoved, movedFrom, references, function, functionMakes, arrow, arrowMakes, catch, catchMakes, declaringHead, declaringMakes, assigningHead, assigningMakes}
-use Rattle.lowering.specs.Walk.{Note, Step, Walked, eachItem, eachPiece, eachField, inside, rewritten, unchanged, ruleOf, rewrite, stepDeclaration, stepAssignment, stepFor, within}
+use Rattle.lowering.specs.Walk.{Note, Step, Walked, eachItem, eachPiece, eachField, inside, unchanged, ruleOf, rewrite, stepDeclaration, stepAssignment, stepFor, within}
 use Rattle.lowering.specs.Weight.{walked}
 use Rattle.lowering.specs.Collect.{Visit, Name, over, newIn, newInPiece, marked, markOf, bare, bareFields, barePiece, bareItems, isContainer, visits, visitsFields, visitsPiece, visitsItems, firstRefusal, entryAt, entries, excludedIn, nodes, nodesFields, nodesPiece, nodesItems, uses, maskFrom, helperMask, namesOf, numbered, numberedFields, numberedPiece, numberedItems, declaratorBytes, listBytes}
 use Rattle.lowering.specs.Answer.{Lent, fitted, collected, afterWalk, top, afterReading, lowering}
-use Rattle.lowering.proofs.Cases.{by-test, by-shape, object-is, by-rule, and-none, literals-24, declarations-4}
+use Rattle.lowering.proofs.Cases.{by-test, by-shape, object-is, by-rule, and-none, literals-24, declarations-4, step-same, rewritten-same}
 use Rattle.lowering.proofs.Falls.{walked-is}
 use Rattle.lowering.proofs.Notes.{AllNotes, both}
 use Rattle.lowering.proofs.Accepted.{NoHoles, Proper, ProperFields, ProperPiece, ProperItems, accepted-good}
 use Rattle.lowering.proofs.Accepted.Proper.{proper}
+use Rattle.lowering.proofs.ItemLaws.{gather-none as none-in, any-empty}
+use Rattle.lowering.proofs.ChangeLaws.{change-same, list-same}
 
 -- ---- trees without object rest and spread
 
@@ -134,8 +136,6 @@ array-none (suc d) p s =
     (λ e. rw (e, hasNestedArrayRest) (array-none d (leftOf p) (node-at 0 p s)))
     (λ e. rw (e, hasNestedArrayRest) refl)
 
--- ---- the kinds of two rules
-
 -- ---- nothing is rewritten
 
 lowered-none : (d : Node) → Simple d → isLowered d ≡ false
@@ -155,23 +155,6 @@ unfolding gather _+++_ NoHoles
 gather-same f h Items.none SimpleItems.none w = refl
 gather-same f h (Items.hole is) (SimpleItems.hole s) w = absurd w
 gather-same f h (Items.item n is) (SimpleItems.item q s) w = rw (h n q) (ap (Items.item n) (gather-same f h is s w))
-
-pub change-same : (fs : Fields) (i : ℕ) (f : Piece → Piece) → f (pieceIn fs i) ≡ pieceIn fs i → changeIn fs i f ≡ fs
-unfolding pieceIn changeIn
-change-same Fields.done i f h = refl
-change-same (Fields.absent fs) zero f h = refl
-change-same (Fields.absent fs) (suc i) f h = ap Fields.absent (change-same fs i f h)
-change-same (Fields.field p fs) zero f h = ap (λ (q : Piece). Fields.field q fs) h
-change-same (Fields.field p fs) (suc i) f h = ap (Fields.field p) (change-same fs i f h)
-
-pub list-same : (f : Items → Items) (p : Piece) → f (asItems p) ≡ asItems p → onItems f p ≡ p
-unfolding onItems
-list-same f (Piece.one n) h = refl
-list-same f (Piece.list is) h = ap Piece.list h
-list-same f (Piece.text bs) h = refl
-list-same f (Piece.byte b) h = refl
-list-same f (Piece.mark b) h = refl
-list-same f (Piece.number b) h = refl
 
 module _ (c : Context) where
   kept-declarator : (d : Node) → Simple d → declarators c d ≡ only d
@@ -194,14 +177,6 @@ module _ (c : Context) where
   makes-none n s =
       gather-none (λ d. cond (isLowered d) (declaratorMakes c (nodeAt 0 d) (nodeAt 1 d)) Items.none) (λ d z. rw (lowered-none d z)) (itemsAt 2 n) (items-at 2 n s)
 
-  none-in : (f : Node → Items) → gather f Items.none ≡ Items.none
-  unfolding gather
-  none-in f = refl
-
-  none-any : (f : Node → Bool) → any f Items.none ≡ false
-  unfolding any
-  none-any f = refl
-
   excludes-none : (n : Node) → Simple n → declarationExcludes c n ≡ Items.none
   unfolding declarationExcludes
   excludes-none n s =
@@ -210,11 +185,7 @@ module _ (c : Context) where
   lacks-none : (n : Node) → Simple n → declarationLacksForm c n ≡ false
   unfolding declarationLacksForm
   lacks-none n s =
-      any-none (λ d. any (λ p. anyLacksForm p) (loweredIn c d)) (λ d z. ap (any (λ p. anyLacksForm p)) (lowered-in d z) ∙ none-any (λ p. anyLacksForm p)) (itemsAt 2 n) (items-at 2 n s)
-
-  step-same : (m e : Items) (r n : Node) → m ≡ Items.none → e ≡ Items.none → r ≡ n
-      → _≡_ {A = Step} (record { note = record { refusal = 0; made = m; entry = Items.none; excluded = e }; result = r }) (unchanged n)
-  step-same m e r n p q s = λ j. record { note = record { refusal = 0; made = (p) j; entry = Items.none; excluded = (q) j }; result = (s) j }
+      any-none (λ d. any (λ p. anyLacksForm p) (loweredIn c d)) (λ d z. ap (any (λ p. anyLacksForm p)) (lowered-in d z) ∙ any-empty (λ p. anyLacksForm p)) (itemsAt 2 n) (items-at 2 n s)
 
   declarations-same : (n : Node) → Simple n → NoHoles (itemsAt 2 n) → stepDeclaration c n ≡ unchanged n
   unfolding stepDeclaration
@@ -287,9 +258,6 @@ module _ (c : Context) where
   assigning-same : (n : Node) → Simple n → assigningHead c n ≡ n
   unfolding assigningHead
   assigning-same n s = rw (has-none (depth (nodeAt 1 n)) (nodeAt 1 n) (node-at 1 n s))
-
-  rewritten-same : (m : Items) (r n : Node) → m ≡ Items.none → r ≡ n → rewritten m r ≡ unchanged n
-  rewritten-same m r n p s = step-same m Items.none r n p refl s
 
   fors-same : (n : Node) → Simple n → stepFor c n ≡ unchanged n
   unfolding stepFor

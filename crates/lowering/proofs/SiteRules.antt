@@ -12,7 +12,7 @@ use Rattle.tree.specs.Tree.Fields.{done, absent, field}
 use Rattle.tree.specs.Tree.Piece.{one, list, text, byte, mark, number}
 use Rattle.tree.specs.Tree.Items.{none, hole, item}
 use Rattle.lowering.specs.Parts.{position, kind, is, pieceIn, changeIn, asNode, asItems, nodeAt, itemsAt, stands, change, onNode, onItems, changeNode, changeItems, only, each, gather, any, _+++_}
-use Rattle.lowering.specs.Made.{Context, reference, valueOf, keyOf, call, S, X, E, W, object, array, sequence, assign, declares, letOf, varOf, assigning, returning, block, functionBody}
+use Rattle.lowering.specs.Made.{Context, reference, valueOf, keyOf, S, X, E, W, object, array, sequence, assign, declares, letOf, varOf, assigning, returning, block, functionBody}
 use Rattle.lowering.specs.Patterns.{shape, properties, itemsOf, rest, hasRest, leftOf, key, value, withValues, hasObjectRest, hasArrayRestOverObjectRest, replaced, replacedBelow, objectsBelow}
 use Rattle.lowering.specs.Keys.{keySort, keyTemporary, keyTemporaries, excludedKeys, allPrimitive, taken}
 use Rattle.lowering.specs.Rests.{hasNoProperties, mapped, isHoisted, keysRead, restValue}
@@ -25,14 +25,10 @@ use Rattle.lowering.specs.Walk.{ruleOf, rewrite, stepDeclaration, stepTo
 use Rattle.lowering.proofs.All.{AllItems, AllPiece, AllFields, Each, all-append, all-gather, all-each, all-changed, other-changed}
 use Rattle.lowering.proofs.Cases.{by-test, by-shape, by-key, by-rule, functionBody-is, block-is}
 use Rattle.lowering.proofs.Sites.{isNameKind, own as ownSites, sites, sitesFields, sitesPiece, sitesItems, fields-in, piece-in, two-pieces, as-node, as-items, node-in, items-in, node-and-node, items-and-node, AtMost, each-item, each-piece, each-field, each-part, sites-append, gather-light, Light, on-items, changeNode-light, changeEach-light, temporary-sites}
-use Rattle.lowering.proofs.SiteViews.{only-sites, moved-sites, movedPattern-sites, rests-in, Rest, replaced-light, objects-sum, movedOut-light, excludedKeys-sites, taken-fewer, withoutRests-fewer}
+use Rattle.lowering.proofs.SiteViews.{only-sites, moved-sites, movedPattern-sites, rests-in, Rest, replaced-light, objects-sum, movedOut-light, excludedKeys-sites, taken-fewer, withoutRests-fewer, none-sites}
 
 module _ (x : ℕ) where
   -- ---- nodes that the rules make have the sites of their parts
-
-  none-sites : sitesItems x none ≡ 0
-  unfolding sites
-  none-sites = refl
 
   S-sites : (xs : Items) → sites x (S xs) ≡ sitesItems x xs
   unfolding sites ownSites isNameKind
@@ -45,10 +41,6 @@ module _ (x : ℕ) where
   array-sites : (xs : Items) → sites x (array xs) ≡ sitesItems x xs
   unfolding sites ownSites isNameKind
   array-sites xs = omega arith
-
-  sequence-sites : (xs : Items) → sites x (sequence xs) ≡ sitesItems x xs
-  unfolding sites ownSites isNameKind
-  sequence-sites xs = omega arith
 
   mapped-sites : (n : Node) → sites x (mapped n) ≡ sites x n
   unfolding mapped sites ownSites isNameKind
@@ -125,7 +117,7 @@ module _ (x : ℕ) where
       let b = opened-sites c pending in
       let o = only-sites x (nodeAt 0 p) in
       let n = node-in x 0 p in
-      let z = none-sites in
+      let z = none-sites x in
       omega arith))
       (λ e. rw (e, scan)
       (let h = scan-sites c (pending +++ only p) ps in let a = sites-append x pending (only p) in let o = only-sites x p in omega arith))
@@ -134,7 +126,7 @@ module _ (x : ℕ) where
   unfolding literal
   literal-sites n =
       by-test (any (λ p. is 26 p) (itemsAt 0 n))
-      (λ e. rw e (let h = scan-sites no-call none (itemsAt 0 n) in let i = items-in x 0 n in let z = none-sites in omega arith))
+      (λ e. rw e (let h = scan-sites no-call none (itemsAt 0 n) in let i = items-in x 0 n in let z = none-sites x in omega arith))
       (λ e. rw e (omega arith))
 
   -- ---- two fields of a node changed
@@ -209,7 +201,7 @@ module _ (x : ℕ) where
       (λ e. rw e (omega arith))
       (λ e. rw e
       (by-test (is 13 b)
-      (λ f. rw f (let h = block-sites none in let z = none-sites in omega arith))
+      (λ f. rw f (let h = block-sites none in let z = none-sites x in omega arith))
       (λ f. rw f (let h = block-sites (only b) in let o = only-sites x b in omega arith))))
 
   movedFrom-sites : (q : Node) → sitesItems x (movedFrom q) ≤ sites x q
@@ -217,7 +209,7 @@ module _ (x : ℕ) where
   movedFrom-sites q =
       by-test (isMoved q)
       (λ e. rw e (let m = moved-sites x (depth (nodeAt 0 q)) (nodeAt 0 q) in let n = node-in x 0 q in omega arith))
-      (λ e. rw e (let z = none-sites in omega arith))
+      (λ e. rw e (let z = none-sites x in omega arith))
 
   -- a Reference or a Temporary with one site at most has none
   name-sites : (e : Node) → isName e ≡ true → sites x e ≤ 1 → sites x e ≡ 0

@@ -10,8 +10,7 @@ use Rattle.tree.specs.Tree.Node.{node}
 use Rattle.tree.specs.Tree.Items.{none}
 use Rattle.lowering.specs.Parts.{nothing, position, is, pieceIn, changeIn, asItems, textAt, change, onNode, onItems, changeNode, without, only, each, gather, _+++_}
 use Rattle.lowering.specs.Made.{Context, reference, keyOf, string}
-use Rattle.lowering.specs.Patterns.{shape, properties, itemsOf, rest, hasRest, leftOf, key, value, withLeft, withItems, withProperties, withValues, hasNestedObjectRest, replaced, objectsWithRest}
-use Rattle.lowering.specs.Patterns.Shape.{objectPattern, arrayPattern, default, leaf}
+use Rattle.lowering.specs.Patterns.{shape, properties, itemsOf, rest, hasRest, leftOf, key, value, withItems, withProperties, withValues, hasNestedObjectRest, replaced, objectsWithRest}
 use Rattle.lowering.specs.Keys.{keySort, excludedKey, keptKey, excludedKeys, taken}
 use Rattle.lowering.specs.Assignments.{restsThroughObjects, withoutRests}
 use Rattle.lowering.specs.Heads.{moved, movedPattern, movedOut}
@@ -55,7 +54,7 @@ put-here x (Fields.field (Piece.mark b) fs) t = omega arith
 put-here x (Fields.field (Piece.number b) fs) t = omega arith
 
 module _ (x : ℕ) where
-  none-sites : sitesItems x none ≡ 0
+  pub none-sites : sitesItems x none ≡ 0
   unfolding sites
   none-sites = refl
 
@@ -63,11 +62,11 @@ module _ (x : ℕ) where
   unfolding sites
   only-sites n = omega arith
 
-  only-here : (n : Node) → hereItems x (only n) ≡ here x (position n)
+  pub only-here : (n : Node) → hereItems x (only n) ≡ here x (position n)
   unfolding hereItems
   only-here n = omega arith
 
-  none-here : hereItems x none ≡ 0
+  pub none-here : hereItems x none ≡ 0
   unfolding hereItems
   none-here = refl
 
@@ -95,11 +94,6 @@ module _ (x : ℕ) where
       (λ e. let z : false ≡ true = rw (e, hasNestedObjectRest) at h in absurd (false≢true z))
 
   -- ---- moved out of a head
-
-  moved-nothing : (d : ℕ) → moved d nothing ≡ none
-  unfolding moved shape
-  moved-nothing zero = refl
-  moved-nothing (suc d) = refl
 
   pub moved-sites : (d : ℕ) (p : Node) → sitesItems x (moved d p) ≤ sites x p
   unfolding moved

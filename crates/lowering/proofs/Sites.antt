@@ -16,6 +16,7 @@ use Rattle.tree.specs.Tree.Items.{none, hole, item}
 use Rattle.lowering.specs.Parts.{nothing, position, is, pieceIn, changeIn, dropIn, asNode, asItems, nodeAt, itemsAt, change, onNode, onItems, changeNode, changeItems, without, each, gather, _+++_}
 use Rattle.lowering.specs.Made.{temporary}
 use Rattle.lowering.proofs.All.{AllItems, AllPiece, AllFields, Each}
+use Rattle.lowering.proofs.ChangeLaws.{position-changed}
 
 -- 18 Reference and 20 Temporary, which have no parts in a tree
 unfoldable pub isNameKind : ℕ → Bool
@@ -333,12 +334,8 @@ module _ (x : ℕ) where
   unfolding change
   change-fewer i f l (node at k fs) = other-fields at k fs (changeIn fs i f) (changed-sites fs i f l) (changed-direct fs i f l) (changed-here fs i f l)
 
-  change-stays : (i : ℕ) (f : Piece → Piece) (n : Node) → position (change i f n) ≡ position n
-  unfolding change
-  change-stays i f (node at k fs) = refl
-
   change-light : (i : ℕ) (f : Piece → Piece) → LightPiece f → Light (change i f)
-  change-light i f l = record { fewer = change-fewer i f l; stays = change-stays i f }
+  change-light i f l = record { fewer = change-fewer i f l; stays = position-changed i f }
 
   pub changeNode-light : (i : ℕ) (f : Node → Node) → Light f → Light (changeNode i f)
   changeNode-light i f l = change-light i (onNode f) (on-node f l)

@@ -1,6 +1,6 @@
 -- Keys, rests, and the declarators of one object pattern: no temporary stands in them but those that are made with them.
 -- Assumes nothing.
-use mathlib.Core.Path.{_≡_, refl, sym, ap, _∙_, subst}
+use mathlib.Core.Path.{_≡_, refl, ap, _∙_, subst}
 use mathlib.Core.Bool.{true, cond}
 use mathlib.Core.List.{List}
 use Prim.Native.Nat.{ℕ, zero, suc, _+_, _*_, _≤_}
@@ -12,7 +12,7 @@ use Rattle.tree.specs.Tree.Node.{node}
 use Rattle.tree.specs.Tree.Fields.{done, absent, field}
 use Rattle.tree.specs.Tree.Items.{none, hole, item}
 use Rattle.lowering.specs.Parts.{position, is, pieceIn, changeIn, dropIn, asNode, nodeAt, textAt, change, onNode, onItems, changeNode, without, only, each, gather, _+++_}
-use Rattle.lowering.specs.Made.{Context, temporary, reference, keyOf, excludedOf, call, S, X, E, W, object, array, sequence, assign, string, declares, declared, idOf, letOf, varOf, assigning, returning, block, functionBody}
+use Rattle.lowering.specs.Made.{Context, temporary, reference, keyOf, excludedOf, S, X, E, W, object, array, sequence, assign, string, declares, declared, idOf, letOf, varOf, assigning, returning, block, functionBody}
 use Rattle.lowering.specs.Patterns.{shape, properties, itemsOf, rest, hasRest, leftOf, key, value, withProperties, withValues, replaced, objectsWithRest}
 use Rattle.lowering.specs.Keys.{keySort, keyTemporary, keyTemporaries, excludedKey, excludedKeys, allPrimitive, keptKey, taken}
 use Rattle.lowering.specs.Rests.{hasNoProperties, mapped, isHoisted, keysRead, restValue, excludedFor, restMakes}
@@ -21,9 +21,10 @@ use Rattle.lowering.specs.Collect.{Name}
 use Rattle.lowering.proofs.All.{AllItems, all-append, all-gather}
 use Rattle.lowering.proofs.Cases.{by-test, by-shape, by-key, object-is, is-changed}
 use Rattle.lowering.proofs.Clauses.{objects-object, objects-array, objects-default}
-use Rattle.lowering.proofs.Made.{times, times-append, each-append, only-times, none-times}
-use Rattle.lowering.proofs.Occurs.{position-kept, occurs, occursFields, occursItems, node-in, items-in, Free, each-item, occurs-append, only-occurs, none-occurs, temporary-occurs, items-more, node-more, put-more, gathered, refs, ref-times, replaced-more}
-use Rattle.lowering.proofs.Names.{append-assoc}
+use Rattle.lowering.proofs.Made.{times, times-append, only-times, none-times}
+use Rattle.lowering.proofs.Occurs.{occurs, occursFields, occursItems, node-in, items-in, Free, each-item, occurs-append, only-occurs, none-occurs, temporary-occurs, items-more, node-more, put-more, gathered, refs, ref-times, replaced-more}
+use Rattle.lowering.proofs.ItemLaws.{each-append, gather-append}
+use Rattle.lowering.proofs.ChangeLaws.{position-changed}
 
 -- ---- the keys of a pattern do not depend on its values
 
@@ -37,18 +38,8 @@ pub key-kept : (f : Node → Node) (q : Node) → key (changeNode 1 f q) ≡ key
 unfolding nodeAt change
 key-kept f (node at k fs) = ap asNode (first-of (onNode f) fs)
 
-pub gather-append : (f : Node → Items) (is js : Items) → gather f (is +++ js) ≡ gather f is +++ gather f js
-unfolding gather _+++_
-gather-append f none js = refl
-gather-append f (hole is) js = gather-append f is js
-gather-append f (item n is) js = ap (λ (x : Items). f n +++ x) (gather-append f is js) ∙ sym (append-assoc (f n) (gather f is) (gather f js))
-
 module _ (a : Name) where
   -- ---- nodes that the rules make
-
-  call-occurs : (f : Node) (xs : Items) → occurs a (call f xs) ≡ occurs a f + occursItems a xs
-  unfolding occurs
-  call-occurs f xs = omega arith
 
   pub S-occurs : (xs : Items) → occurs a (S xs) ≡ occursItems a xs
   unfolding occurs
@@ -378,7 +369,7 @@ module _ (a : Name) where
         let g : Piece → Piece = onItems (each (λ q. changeNode 1 (λ v. replaced c d v) q)) in
         let f = shell-free d p h u in
         let t = ref-times a c o in
-        let k = ap (λ (m : ℕ). occurs a (temporary (c .path) 1 m)) (position-kept 0 g p) in
+        let k = ap (λ (m : ℕ). occurs a (temporary (c .path) 1 m)) (position-changed 0 g p) in
         let r = v .0 in
         each-item a (own c o (reference c p))
         (own-free o (reference c p) (is-changed 0 g p 34 ∙ e) f (omega arith) (one-made o (v .1)))

@@ -1,16 +1,16 @@
 -- Declarations and assignments put no temporary into the tree, the entries or the excluded keys but those that they make; and so no
 -- rewriting does.
 -- Assumes nothing.
-use mathlib.Core.Path.{_≡_, refl, sym, ap, ap₂, _∙_}
+use mathlib.Core.Path.{_≡_, refl, ap, _∙_}
 use mathlib.Core.Bool.{Bool, true, false, cond}
 use Prim.Native.Nat.{ℕ, zero, suc, _+_, _≤_}
 use native.Mathlib.Omega.{arith}
-use Rattle.tree.specs.Tree.{Node, Piece, Items, depth, depthFields}
+use Rattle.tree.specs.Tree.{Node, Piece, Items, depth}
 use Rattle.tree.specs.Tree.Node.{node}
 use Rattle.tree.specs.Tree.Items.{none, hole, item}
-use Rattle.lowering.specs.Parts.{nothing, position, kind, is, pieceIn, nodeAt, itemsAt, onItems, changeNode, only, each, gather, _+++_}
+use Rattle.lowering.specs.Parts.{position, kind, is, pieceIn, nodeAt, itemsAt, onItems, changeNode, only, each, gather, _+++_}
 use Rattle.lowering.specs.Made.{Context, reference, valueOf, sequence, assign, declares, declared, idOf}
-use Rattle.lowering.specs.Patterns.{shape, properties, rest, hasRest, leftOf, value, withLeft, withValues, hasObjectRest, hasArrayRestOverObjectRest, replaced, objectsWithRest, replacedBelow, objectsBelow}
+use Rattle.lowering.specs.Patterns.{shape, properties, rest, hasRest, leftOf, value, withValues, hasObjectRest, hasArrayRestOverObjectRest, objectsWithRest, replacedBelow, objectsBelow}
 use Rattle.lowering.specs.Patterns.Shape.{objectPattern, arrayPattern, default, leaf}
 use Rattle.lowering.specs.Keys.{keyTemporaries, taken}
 use Rattle.lowering.specs.Rests.{hasNoProperties, restValue, excludedFor, restMakes}
@@ -22,13 +22,13 @@ use Rattle.lowering.specs.Collect.{Name}
 use Rattle.lowering.proofs.All.{AllItems, all-gather}
 use Rattle.lowering.proofs.Cases.{by-test, by-shape, by-rule, object-is, is-changed}
 use Rattle.lowering.proofs.WeightKeys.{rest-changed}
-use Rattle.lowering.proofs.Levels.{items-depth, gather-agrees, values-agree, objects-levels, replaced-levels, objects-nothing}
-use Rattle.lowering.proofs.Levels.{node-in as levels-node-in}
-use Rattle.lowering.proofs.Clauses.{objects-object}
-use Rattle.lowering.proofs.Made.{times, times-append, each-append, only-times, entry-refs, entry-times}
+use Rattle.lowering.proofs.Levels.{below-object}
+use Rattle.lowering.proofs.Clauses.{without-object, without-default, taken-none, inner-object, inner-array, rests-object, rests-default}
+use Rattle.lowering.proofs.Made.{times, times-append, only-times, entry-refs, entry-times, no-ids}
 use Rattle.lowering.proofs.Occurs.{occurs, occursItems, node-in, items-in, Free, each-item, occurs-append, only-occurs, none-occurs, nothing-occurs, temporary-occurs, items-more, node-more, gathered, refs, objects-sum, replaced-more}
-use Rattle.lowering.proofs.Sound.{gather-append, assign-occurs, declares-occurs, declared-occurs, all-free, gather-zero, keys-free, taken-more, rest-split, rest-free, excluded-free, keysBefore-free, pattern-free, restDeclarator-free, Unmade, unmade-each, one-made, nested-free}
-use Rattle.lowering.proofs.SoundRules.{gather-gather, keys-value, items-free-at, node-free-at, literal-free, function-free, arrow-free, catch-free, declaring-free, assigning-free}
+use Rattle.lowering.proofs.Sound.{assign-occurs, declares-occurs, declared-occurs, all-free, gather-zero, keys-free, taken-more, rest-split, rest-free, excluded-free, keysBefore-free, pattern-free, restDeclarator-free, Unmade, unmade-each, one-made, nested-free}
+use Rattle.lowering.proofs.SoundRules.{keys-value, items-free-at, node-free-at, literal-free, function-free, arrow-free, catch-free, declaring-free, assigning-free}
+use Rattle.lowering.proofs.ItemLaws.{each-append, gather-append, gather-gather}
 
 module _ (a : Name) where
   sequence-occurs : (xs : Items) → occurs a (sequence xs) ≡ occursItems a xs
@@ -39,37 +39,11 @@ module _ (a : Name) where
   unfolding occurs
   item-occurs n is = omega arith
 
-  no-ids : times a (each idOf none) ≡ 0
-  unfolding each times
-  no-ids = refl
-
   last-free : (t : Node) (b : Bool) → Free a t → occursItems a (cond b none (only t)) ≡ 0
   last-free t true f = none-occurs a
   last-free t false f = let o = only-occurs a t in omega arith
 
   module _ (c : Context) where
-    taken-none : (p : Node) → hasRest p ≡ false → taken c p ≡ p
-    unfolding taken
-    taken-none p r = rw r
-
-    -- ---- the objects below an object pattern: those below its values, and itself
-
-    below-object : (p : Node) → shape p ≡ objectPattern
-        → objectsBelow c p ≡ gather (λ q. objectsBelow c (value q)) (properties p) +++ cond (hasRest p) (only (withValues (λ v. replacedBelow c v) p)) none
-    unfolding depth
-    below-object (node at k fs) e =
-        let p = node at k fs in
-        let d = depthFields fs in
-        let i = items-depth 0 p in
-        objects-object c d p e
-        ∙ ap₂ (λ (x : Items) (y : Node). x +++ cond (hasRest p) (only y) none)
-        (gather-agrees (λ q. objectsWithRest c d (value q)) (λ q. objectsBelow c (value q)) d
-        (λ q l.
-        levels-node-in (λ m. objectsWithRest c d m) (λ m. objectsBelow c m) d (λ m h. objects-levels d m h c)
-        (objects-nothing c d ∙ sym (objects-nothing c (depth nothing))) 1 q (omega arith))
-        (properties p) (omega arith))
-        (values-agree (λ v. replaced c d v) (λ v. replacedBelow c v) d (λ m h. replaced-levels d m h c) p (omega arith))
-
     -- ---- one declarator
 
     source-free : (p init : Node) → Free a init → times a (each idOf (sourceDeclarator c p init)) ≡ 0 → Free a (source c p init)
@@ -165,14 +139,6 @@ module _ (a : Name) where
         let g = gather (restMakes c) (objectsBelow c p) in
         times-append a v (i +++ g) ∙ ap (λ (m : ℕ). times a v + m) (times-append a i g)
 
-    inner-object : (p : Node) → shape p ≡ objectPattern → innerObjects c p ≡ gather (λ q. objectsBelow c (value q)) (properties p)
-    unfolding innerObjects
-    inner-object p e = rw (e, innerObjects)
-
-    inner-array : (p : Node) → shape p ≡ arrayPattern → innerObjects c p ≡ objectsBelow c p
-    unfolding innerObjects
-    inner-array p e = rw (e, innerObjects)
-
     -- for the objects below the values of an object pattern nothing is made, and nothing for itself
     object-unmade : (p init : Node) → shape p ≡ objectPattern → times a (declaratorMakes c p init) ≡ 0
         → Unmade a c (gather (λ q. objectsBelow c (value q)) (properties p)) × (hasRest p ≡ true → times a (restMakes c (withValues (λ v. replacedBelow c v) p)) ≡ 0)
@@ -181,8 +147,8 @@ module _ (a : Name) where
         let inner = gather (λ q. objectsBelow c (value q)) (properties p) in
         let own = withValues (λ v. replacedBelow c v) p in
         let s = makes-split p init in
-        let i = ap (λ (is : Items). times a (refs a c is)) (inner-object p e) in
-        let b = ap (λ (is : Items). times a (gather (restMakes c) is)) (below-object p e) in
+        let i = ap (λ (is : Items). times a (refs a c is)) (inner-object c p e) in
+        let b = ap (λ (is : Items). times a (gather (restMakes c) is)) (below-object c p e) in
         let g = ap (times a) (gather-append (restMakes c) inner (cond (hasRest p) (only own) none)) in
         let t = times-append a (gather (restMakes c) inner) (gather (restMakes c) (cond (hasRest p) (only own) none)) in (
           (omega arith, omega arith),
@@ -196,7 +162,7 @@ module _ (a : Name) where
     unfolding Unmade
     array-free p init s e f g z =
         let m = makes-split p init in
-        let i = ap (λ (is : Items). times a (refs a c is)) (inner-array p e) in
+        let i = ap (λ (is : Items). times a (refs a c is)) (inner-array c p e) in
         let r = replaced-more a c (depth p) p in
         let d = declares-occurs a (replacedBelow c p) s in
         let o = only-occurs a (declares (replacedBelow c p) s) in
@@ -256,7 +222,7 @@ module _ (a : Name) where
         let own = withValues (λ v. replacedBelow c v) p in
         let w = values-free p f (u .0) in
         let i = inner-free p f (u .0) in
-        let b = ap (occursItems a) (below-object p e) in
+        let b = ap (occursItems a) (below-object c p e) in
         let y = only-occurs a own in
         let n = none-occurs a in
         by-test (hasRest p)
@@ -268,7 +234,7 @@ module _ (a : Name) where
         let b′ : occursItems a (objectsBelow c p) ≡ occursItems a (inner +++ none) = rw r at b in
         let x = occurs-append a inner none in
         omega arith))
-        (λ e. let i = ap (λ (is : Items). times a (refs a c is)) (inner-array p e) in omega arith)
+        (λ e. let i = ap (λ (is : Items). times a (refs a c is)) (inner-array c p e) in omega arith)
         (λ e. let i = ap (λ (is : Items). times a (refs a c is)) (inner-default p e) in omega arith)
         (λ e. objects-leaf p e)
 
@@ -362,23 +328,6 @@ module _ (a : Name) where
     abbrev below : ℕ → Node → Items
     below d p = each idOf (gather (keyTemporaries c) (restsThroughObjects d p))
 
-    rests-object : (d : ℕ) (p : Node) → shape p ≡ objectPattern
-        → restsThroughObjects (suc d) p ≡ gather (λ q. restsThroughObjects d (value q)) (properties p) +++ cond (hasRest p) (only p) none
-    unfolding restsThroughObjects
-    rests-object d p e = rw (e, restsThroughObjects)
-
-    rests-default : (d : ℕ) (p : Node) → shape p ≡ default → restsThroughObjects (suc d) p ≡ restsThroughObjects d (leftOf p)
-    unfolding restsThroughObjects
-    rests-default d p e = rw (e, restsThroughObjects)
-
-    without-object : (d : ℕ) (p : Node) → shape p ≡ objectPattern → withoutRests c (suc d) p ≡ taken c (withValues (λ v. withoutRests c d v) p)
-    unfolding withoutRests
-    without-object d p e = rw (e, withoutRests)
-
-    without-default : (d : ℕ) (p : Node) → shape p ≡ default → withoutRests c (suc d) p ≡ withLeft (λ v. withoutRests c d v) p
-    unfolding withoutRests
-    without-default d p e = rw (e, withoutRests)
-
     without-other : (d : ℕ) (p : Node) → (shape p ≡ arrayPattern → withoutRests c (suc d) p ≡ p) × (shape p ≡ leaf → withoutRests c (suc d) p ≡ p)
     unfolding withoutRests
     without-other d p = ((λ e. rw (e, withoutRests)), (λ e. rw (e, withoutRests)))
@@ -401,7 +350,7 @@ module _ (a : Name) where
     only-keys p =
         let s = ap (times a) (each-append idOf (keyTemporaries c p) none) in
         let t = times-append a (each idOf (keyTemporaries c p)) (each idOf none) in
-        let z = no-ids in
+        let z = no-ids a in
         omega arith
 
     without-more : (d : ℕ) (p : Node) → occurs a (withoutRests c d p) ≤ occurs a p + times a (below d p)
@@ -415,7 +364,7 @@ module _ (a : Name) where
         let h : Piece → Piece = onItems (each (λ y. changeNode 1 f y)) in
         let u = items-more a (λ q. changeNode 1 f q) (λ q. below d (value q)) (λ q. node-more a f (λ v. below d v) (without-more d) 1 q) 0 p in
         let k = ap (λ (is : Items). times a (each idOf is)) (keys-value c f p) in
-        let o = ap (occurs a) (without-object d p e) in
+        let o = ap (occurs a) (without-object c d p e) in
         let b = ap (λ (is : Items). times a (each idOf (gather (keyTemporaries c) is))) (rests-object d p e) in
         let s = below-split d p (cond (hasRest p) (only p) none) in
         by-test (hasRest p)
@@ -427,12 +376,12 @@ module _ (a : Name) where
         s ∙ ap (λ (t : Bool). times a (gather (λ q. below d (value q)) (properties p)) + times a (each idOf (gather (keyTemporaries c) (cond t (only p) none)))) r in
         omega arith)
         (λ r.
-        let t = ap (occurs a) (taken-none w (rest-changed 0 h p ∙ r)) in
+        let t = ap (occurs a) (taken-none c w (rest-changed 0 h p ∙ r)) in
         omega arith))
         (λ e. let o = ap (occurs a) (without-other d p .0 e) in omega arith)
         (λ e.
         let u = node-more a f (λ v. below d v) (without-more d) 0 p in
-        let o = ap (occurs a) (without-default d p e) in
+        let o = ap (occurs a) (without-default c d p e) in
         let b = ap (λ (is : Items). times a (each idOf (gather (keyTemporaries c) is))) (rests-default d p e) in
         omega arith)
         (λ e. let o = ap (occurs a) (without-other d p .1 e) in omega arith)

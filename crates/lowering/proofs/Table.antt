@@ -28,7 +28,7 @@ use Rattle.lowering.specs.Answer.{Lent, Result, fits, fitted, collected,
 use Rattle.lowering.specs.Answer.Result.{refusal, lowered}
 use Rattle.lowering.specs.Table.{Meets, MeetsIn, MeetsField, MeetsPiece, MeetsItem, TreeMeets, Five, Six}
 use Rattle.lowering.specs.Table.Meets.{here, below}
-use Rattle.lowering.proofs.Cases.{by-test, by-rule, or-other}
+use Rattle.lowering.proofs.Cases.{by-test, by-rule, or-other, rule-4, rule-27}
 use Rattle.lowering.proofs.Falls.{walked-is}
 use Rattle.lowering.proofs.Answers.{ByWalk, walk-refuses}
 
@@ -235,14 +235,6 @@ kinds k = go (eqb k 24) (eqb k 4) (eqb k 27) (eqb k 14) (eqb k 17) (eqb k 10) (e
 kinds-at : (n : Node) (r : Rule) → ruleOf (kind n) ≡ r → Kinds r (is 4 n) (is 27 n) (is 7 n || is 8 n)
 unfolding is
 kinds-at n r e = rw e at (kinds (kind n))
-
-rule-4 : (n : Node) → is 4 n ≡ true → ruleOf (kind n) ≡ declarations
-unfolding is ruleOf
-rule-4 n e = ap ruleOf (eqb-true (kind n) 4 e)
-
-rule-27 : (n : Node) → is 27 n ≡ true → ruleOf (kind n) ≡ assignments
-unfolding is ruleOf
-rule-27 n e = ap ruleOf (eqb-true (kind n) 27 e)
 
 rule-for : (n : Node) → is 7 n || is 8 n ≡ true → ruleOf (kind n) ≡ fors
 unfolding is ruleOf

@@ -8,18 +8,16 @@ use Rattle.tree.specs.Tree.Node.{node}
 use Rattle.tree.specs.Tree.Fields.{done, absent, field}
 use Rattle.tree.specs.Tree.Piece.{one, list, text, byte, mark, number}
 use Rattle.tree.specs.Tree.Items.{none, hole, item}
-use Rattle.lowering.specs.Parts.{nothing, pieceIn, changeIn, change, onNode, onItems, changeNode, changeItems, asNode, asItems, nodeAt, itemsAt, is, only, each, gather, _+++_}
+use Rattle.lowering.specs.Parts.{nothing, pieceIn, changeIn, change, onNode, onItems, changeNode, changeItems, asNode, asItems, nodeAt, itemsAt, is, each, gather, _+++_}
 use Rattle.lowering.specs.Made.{Context, reference}
-use Rattle.lowering.specs.Patterns.{shape, properties, itemsOf, hasRest, leftOf, value, withLeft, withItems, withValues, replaced, objectsWithRest}
-use Rattle.lowering.specs.Patterns.Shape.{objectPattern, arrayPattern, default, leaf}
+use Rattle.lowering.specs.Patterns.{shape, properties, hasRest, value, withLeft, withItems, withValues, replaced}
+use Rattle.lowering.specs.Patterns.Shape.{objectPattern}
 use Rattle.lowering.specs.Assignments.{restsThroughObjects}
-use Rattle.lowering.proofs.Clauses.{objects-array, objects-default, objects-leaf, replaced-array, replaced-default, replaced-leaf}
+use Rattle.lowering.proofs.Clauses.{replaced-array, replaced-default, replaced-leaf, rests-array, rests-default, rests-leaf}
 use Rattle.lowering.proofs.Cases.{by-test, by-shape}
 use Rattle.lowering.proofs.WeightKeys.{rest-changed}
-
-shape-changed : (i : ℕ) (f : Piece → Piece) (n : Node) → shape (change i f n) ≡ shape n
-unfolding shape change
-shape-changed i f (node at k fs) = refl
+use Rattle.lowering.proofs.ChangeLaws.{shape-changed}
+use Rattle.lowering.proofs.Levels.{rests-nothing}
 
 -- a function that finds nothing in what f gives, nor in nothing
 module _ (find : Node → Items) (f : Node → Node) (empty : find nothing ≡ none) (finds : (v : Node) → find (f v) ≡ none) where
@@ -78,51 +76,13 @@ rests-object : (d : ℕ) (p : Node) → shape p ≡ objectPattern → hasRest p 
 unfolding restsThroughObjects
 rests-object d p e r = rw (e, restsThroughObjects, r)
 
-rests-default : (d : ℕ) (p : Node) → shape p ≡ default → restsThroughObjects (suc d) p ≡ restsThroughObjects d (leftOf p)
-unfolding restsThroughObjects
-rests-default d p e = rw (e, restsThroughObjects)
-
-rests-leaf : (d : ℕ) (p : Node) → shape p ≡ leaf → restsThroughObjects (suc d) p ≡ none
-unfolding restsThroughObjects
-rests-leaf d p e = rw (e, restsThroughObjects)
-
-rests-array : (d : ℕ) (p : Node) → shape p ≡ arrayPattern → restsThroughObjects (suc d) p ≡ none
-unfolding restsThroughObjects
-rests-array d p e = rw (e, restsThroughObjects)
-
 nothing-added : none +++ none ≡ none
 unfolding _+++_
 nothing-added = refl
 
 -- ---- an inner object, its own objects replaced: in its assignment the rule for the top finds its rest and no other
 
-rests-nothing : (d : ℕ) → restsThroughObjects d nothing ≡ none
-unfolding restsThroughObjects shape
-rests-nothing zero = refl
-rests-nothing (suc d) = refl
-
-only-added : (n : Node) → none +++ only n ≡ only n
-unfolding _+++_
-only-added n = refl
-
 module _ (c : Context) where
-  objects-nothing : (d : ℕ) → objectsWithRest c d nothing ≡ none
-  unfolding objectsWithRest shape
-  objects-nothing zero = refl
-  objects-nothing (suc d) = refl
-
-  objects-reference : (d : ℕ) (p : Node) → objectsWithRest c d (reference c p) ≡ none
-  unfolding objectsWithRest shape
-  objects-reference zero p = refl
-  objects-reference (suc d) p = refl
-
-  -- the values of an object, replaced
-  values-replaced : (d : ℕ) → ((p : Node) → objectsWithRest c d (replaced c d p) ≡ none) → (p : Node)
-      → gather (λ q. objectsWithRest c d (value q)) (properties (withValues (λ v. replaced c d v) p)) ≡ none
-  values-replaced d found p =
-      list-finds (λ q. objectsWithRest c d (value q)) (λ q. changeNode 1 (λ v. replaced c d v) q)
-      (λ q. node-finds (λ m. objectsWithRest c d m) (λ v. replaced c d v) (objects-nothing d) found 1 q) 0 p
-
   replaced-object : (d : ℕ) (p : Node) → shape p ≡ objectPattern → hasRest p ≡ false → replaced c (suc d) p ≡ withValues (λ v. replaced c d v) p
   unfolding replaced
   replaced-object d p e r = rw (e, replaced, r)
@@ -130,33 +90,6 @@ module _ (c : Context) where
   replaced-top : (d : ℕ) (p : Node) → shape p ≡ objectPattern → hasRest p ≡ true → replaced c (suc d) p ≡ reference c p
   unfolding replaced
   replaced-top d p e r = rw (e, replaced, r)
-
-  objects-object : (d : ℕ) (p : Node) → shape p ≡ objectPattern → hasRest p ≡ false → objectsWithRest c (suc d) p ≡ gather (λ q. objectsWithRest c d (value q)) (properties p) +++ none
-  unfolding objectsWithRest
-  objects-object d p e r = rw (e, objectsWithRest, r)
-
-  pub replaced-found : (d : ℕ) (p : Node) → objectsWithRest c d (replaced c d p) ≡ none
-  unfolding objectsWithRest
-  replaced-found zero p = refl
-  replaced-found (suc d) p =
-      let f : Node → Node = λ v. replaced c d v in
-      by-shape (shape p)
-      (λ e.
-      by-test (hasRest p)
-      (λ r. ap (objectsWithRest c (suc d)) (replaced-top d p e r) ∙ objects-reference (suc d) p)
-      (λ r.
-      let g : Piece → Piece = onItems (each (λ q. changeNode 1 f q)) in
-      ap (objectsWithRest c (suc d)) (replaced-object d p e r)
-      ∙ (objects-object d (withValues f p) (shape-changed 0 g p ∙ e) (rest-changed 0 g p ∙ r)
-      ∙ (ap (λ (is : Items). is +++ none) (values-replaced d (replaced-found d) p) ∙ nothing-added))))
-      (λ e.
-      ap (objectsWithRest c (suc d)) (replaced-array c d p e)
-      ∙ (objects-array c d (withItems f p) (shape-changed 0 (onItems (each f)) p ∙ e) ∙ list-finds (λ m. objectsWithRest c d m) f (replaced-found d) 0 p))
-      (λ e.
-      ap (objectsWithRest c (suc d)) (replaced-default c d p e)
-      ∙ (objects-default c d (withLeft f p) (shape-changed 0 (onNode f) p ∙ e)
-      ∙ node-finds (λ m. objectsWithRest c d m) f (objects-nothing d) (replaced-found d) 0 p))
-      (λ e. ap (objectsWithRest c (suc d)) (replaced-leaf c d p e) ∙ objects-leaf c d p e)
 
   rests-reference : (d : ℕ) (p : Node) → restsThroughObjects d (reference c p) ≡ none
   unfolding restsThroughObjects shape
@@ -191,12 +124,3 @@ module _ (c : Context) where
       ∙ (rests-default d (withLeft f p) (shape-changed 0 (onNode f) p ∙ e)
       ∙ node-finds (λ m. restsThroughObjects d m) f (rests-nothing d) (replaced-rests d) 0 p))
       (λ e. ap (restsThroughObjects (suc d)) (replaced-leaf c d p e) ∙ rests-leaf d p e)
-
-  pub inner-rests : (d : ℕ) (p : Node) → shape p ≡ objectPattern → hasRest p ≡ true
-      → restsThroughObjects (suc d) (withValues (λ v. replaced c d v) p) ≡ only (withValues (λ v. replaced c d v) p)
-  unfolding restsThroughObjects
-  inner-rests d p e r =
-      let g : Piece → Piece = onItems (each (λ q. changeNode 1 (λ v. replaced c d v) q)) in
-      let s : shape (withValues (λ v. replaced c d v) p) ≡ objectPattern = shape-changed 0 g p ∙ e in
-      let t : hasRest (withValues (λ v. replaced c d v) p) ≡ true = rest-changed 0 g p ∙ r in
-      rw (s, restsThroughObjects, t, values-rests d (replaced-rests d) p) (only-added (withValues (λ v. replaced c d v) p))

@@ -11,14 +11,13 @@ use Rattle.tree.specs.Tree.Items.{none}
 use Rattle.lowering.specs.Parts.{position, pieceIn, change, onItems, changeNode, nodeAt, is, only, each, gather, _+++_}
 use Rattle.lowering.specs.Made.{Context, reference, valueOf, keyOf, assign, declares}
 use Rattle.lowering.specs.Patterns.{shape, properties, itemsOf, rest, hasRest, leftOf, value, key, withValues, hasObjectRest, hasArrayRestOverObjectRest, replaced, replacedBelow, objectsBelow}
-use Rattle.lowering.specs.Patterns.Shape.{objectPattern}
 use Rattle.lowering.specs.Keys.{keySort, keyTemporary, keyTemporaries, taken}
 use Rattle.lowering.specs.Rests.{hasNoProperties, restValue}
 use Rattle.lowering.specs.Assignments.{isTop, target, assigned, withoutRests, restsThroughObjects, restsOf, targetLeft, topSequence, nestedSequence}
 use Rattle.lowering.specs.Declarations.{isName, source, sourceDeclarator, keysBefore, patternDeclarator, restDeclarator, own, nested, nestedBelow, objectDeclarators, patternDeclarators, lowerDeclarator, isLowered, declarators, declaration}
 use Rattle.lowering.specs.Weight.{isHead, extra, factor, weight, weightPiece, weightItems}
 use Rattle.lowering.proofs.All.{AllItems, AllPiece, Each, weaker-items, all-append, all-gather, all-each, all-changed}
-use Rattle.lowering.proofs.Cases.{by-test, by-shape, object-is, by-key, is-changed, and-left, and-right}
+use Rattle.lowering.proofs.Cases.{by-test, by-shape, object-is, by-key, is-changed, and-left, and-right, shape-34}
 use Rattle.lowering.proofs.Weights.{weight-pos, weight-of, weight-whole, items-light, parts-fall, node-piece, piece-light-in}
 use Rattle.lowering.proofs.WeightChange.{changeNode-light, changeEach-light, two-light}
 use Rattle.lowering.proofs.WeightPatterns.{temporary-weight, node-in, within, within-light, parts-within, replaced-light, inner-light, replaced-less, changeNode-less}
@@ -26,12 +25,6 @@ use Rattle.lowering.proofs.WeightKeys.{taken-light, taken-top, rest-cha
 
 abbrev Falling : Node → Node → Type 0
 Falling n m = weight m < weight n
-
--- ---- a target without its rests
-
-shape-object : (p : Node) → is 34 p ≡ true → shape p ≡ objectPattern
-unfolding shape is
-shape-object p e = rw e
 
 -- ---- the rests reached through objects
 
@@ -110,7 +103,7 @@ module _ (c : Context) where
       let g : Piece → Piece = onItems (each (λ q. changeNode 1 f q)) in
       let a = taken-top c (withValues f p) (is-changed 0 g p 34 ∙ e) (rest-changed 0 g p ∙ r) in
       let b = changeEach-light 0 (λ q. changeNode 1 f q) (changeNode-light 1 f (withoutRests-light d)) p in
-      rw (shape-object p e, withoutRests) (omega arith)
+      rw (shape-34 p e, withoutRests) (omega arith)
 
   withoutRests-top : (p : Node) → is 34 p ≡ true → hasRest p ≡ true → weight (withoutRests c (depth p) p) + 10 ≤ weight p
   unfolding depth

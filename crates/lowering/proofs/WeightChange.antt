@@ -1,6 +1,6 @@
 -- Weights of nodes in which a field was changed.
 -- Assumes nothing.
-use mathlib.Core.Path.{_≡_, refl}
+use mathlib.Core.Path.{_≡_}
 use mathlib.Core.Bool.{Bool, true, false, cond}
 use Prim.Native.Nat.{ℕ, zero, suc, _+_, _*_, _≤_, _<_}
 use native.Mathlib.Omega.{arith}
@@ -10,9 +10,10 @@ use Rattle.tree.specs.Tree.Node.{node}
 use Rattle.tree.specs.Tree.Fields.{done, absent, field}
 use Rattle.tree.specs.Tree.Piece.{one, list, text, byte, mark, number}
 use Rattle.tree.specs.Tree.Items.{none, hole, item}
-use Rattle.lowering.specs.Parts.{pieceIn, standsIn, changeIn, change, onNode, onItems, changeNode, changeItems, is, each, gather}
+use Rattle.lowering.specs.Parts.{pieceIn, changeIn, change, onNode, onItems, changeNode, changeItems, is, each, gather}
 use Rattle.lowering.specs.Weight.{isHead, extra, factor, weight, weightFields, weightPiece, weightItems}
 use Rattle.lowering.proofs.Weights.{weight-append, piece-light-in}
+use Rattle.lowering.proofs.ChangeLaws.{stands-changed}
 
 -- ---- lists
 
@@ -53,18 +54,6 @@ list-light f light (number b) = omega arith
 
 -- ---- fields
 
-pub stands-changed : (fs : Fields) (i : ℕ) (f : Piece → Piece) (j : ℕ) → standsIn (changeIn fs i f) j ≡ standsIn fs j
-unfolding standsIn changeIn
-stands-changed done i f j = refl
-stands-changed (absent fs) zero f zero = refl
-stands-changed (absent fs) zero f (suc j) = refl
-stands-changed (absent fs) (suc i) f zero = refl
-stands-changed (absent fs) (suc i) f (suc j) = stands-changed fs i f j
-stands-changed (field p fs) zero f zero = refl
-stands-changed (field p fs) zero f (suc j) = refl
-stands-changed (field p fs) (suc i) f zero = refl
-stands-changed (field p fs) (suc i) f (suc j) = stands-changed fs i f j
-
 pub fields-changed : (fs : Fields) (i : ℕ) (f : Piece → Piece) → weightPiece (f (pieceIn fs i)) ≤ weightPiece (pieceIn fs i) → weightFields (changeIn fs i f) ≤ weightFields fs
 unfolding pieceIn changeIn weight
 fields-changed done i f h = omega arith
@@ -99,7 +88,7 @@ pub extra-changed : (k : ℕ) (fs : Fields) (i : ℕ) (f : Piece → Piece) → 
 unfolding extra
 extra-changed k fs i f = rw (stands-changed fs i f 1)
 
-factor-monotone : (k v w : ℕ) → v ≤ w → factor k * v ≤ factor k * w
+pub factor-monotone : (k v w : ℕ) → v ≤ w → factor k * v ≤ factor k * w
 unfolding factor
 factor-monotone k v w h = go (isHead k) (eqb k 4)
   where

@@ -18,8 +18,9 @@ use Rattle.lowering.specs.Rests.{hasNoProperties, isHoisted, mapped, key
 use Rattle.lowering.specs.Weight.{isHead, extra, factor, weight, weightFields, weightItems}
 use Rattle.lowering.proofs.Cases.{by-test, by-key, is-changed}
 use Rattle.lowering.proofs.Weights.{weight-pos, weight-of, node-piece, items-piece}
-use Rattle.lowering.proofs.WeightChange.{gather-light, stands-changed, changeNode-light, changeEach-light, two-light}
+use Rattle.lowering.proofs.WeightChange.{gather-light, changeNode-light, changeEach-light, two-light, factor-monotone}
 use Rattle.lowering.proofs.WeightPatterns.{temporary-weight, only-weight, none-weight, node-in, within}
+use Rattle.lowering.proofs.ChangeLaws.{stands-changed, stands-dropped}
 
 -- ---- keys
 
@@ -28,14 +29,6 @@ unfolding weight extra factor isHead
 string-weight bs = refl
 
 -- ---- a pattern whose rest is taken
-
-stands-dropped : (fs : Fields) (i : ℕ) → standsIn (dropIn fs i) i ≡ false
-unfolding standsIn dropIn
-stands-dropped done i = refl
-stands-dropped (absent fs) zero = refl
-stands-dropped (absent fs) (suc i) = stands-dropped fs i
-stands-dropped (field p fs) zero = refl
-stands-dropped (field p fs) (suc i) = stands-dropped fs i
 
 fields-dropped : (fs : Fields) (i : ℕ) → weightFields (dropIn fs i) ≤ weightFields fs
 unfolding dropIn weight
@@ -58,15 +51,6 @@ extra-dropped k fs = rw (stands-dropped fs 1) (go (isHead k) (eqb k 4) (eqb k 27
     go false false false false true f false = omega arith
     go false false false false false true s = omega arith
     go false false false false false false s = omega arith
-
-factor-monotone : (k v w : ℕ) → v ≤ w → factor k * v ≤ factor k * w
-unfolding factor
-factor-monotone k v w h = go (isHead k) (eqb k 4)
-  where
-    go : (b c : Bool) → cond b 10 (cond c 2 1) * v ≤ cond b 10 (cond c 2 1) * w
-    go true c = omega arith
-    go false true = omega arith
-    go false false = omega arith
 
 without-light : (n : Node) → weight (without 1 n) ≤ weight n
 unfolding without weight

@@ -3,14 +3,14 @@ use mathlib.Core.Path.{_≡_, refl}
 use mathlib.Core.List.{List, [], _∷_, _++_}
 use Prim.Native.Nat.{ℕ, zero, suc}
 use lib.ListN.{replicate}
-use Rattle.tree.specs.Tree.{Node, Fields, Piece, Items, encode, marks}
+use Rattle.tree.specs.Tree.{Node, Items, encode, marks}
 use Rattle.tree.specs.Tree.Node.{node}
 use Rattle.tree.specs.Tree.Fields.{done, absent, field}
 use Rattle.tree.specs.Tree.Piece.{one, list, text, byte, mark, number}
-use Rattle.tree.specs.Tree.Items.{none, hole, item}
+use Rattle.tree.specs.Tree.Items.{none, item}
 use Rattle.lowering.specs.Parts.{only}
-use Rattle.lowering.specs.Made.{call, S, X, E, W, object, array, sequence, assign, string, declares, declared}
-use Rattle.lowering.specs.Answer.{Lent, Result, Outcome, lowering, levels, outcome}
+use Rattle.lowering.specs.Made.{call, S, X, E, W, object, array, sequence, assign, string, declares}
+use Rattle.lowering.specs.Answer.{Lent, lowering, levels, outcome}
 use Rattle.lowering.specs.Answer.Result.{refusal, lowered}
 
 -- ---- small trees

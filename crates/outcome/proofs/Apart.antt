@@ -3,14 +3,14 @@
 use mathlib.Core.Path.{_≡_, refl, sym, ap, ap₂, _∙_, subst}
 use mathlib.Core.Bool.{Bool, true, false, cond}
 use mathlib.Core.List.{List, [], _∷_, _++_}
-use Prim.Native.Nat.{ℕ, zero, suc, _+_, _≤_, _<_}
+use Prim.Native.Nat.{ℕ, zero, suc, _+_, _≤_}
 use native.Mathlib.Omega.{arith}
 use lib.Dec.{eqb}
 use lib.ListN.{length}
 use Rattle.tree.specs.Tree.{Node, Items, wideBytes}
 use Rattle.lowering.specs.Parts.{isEmpty, each, _+++_}
 use Rattle.lowering.specs.Made.{Context}
-use Rattle.lowering.specs.Walk.{Note, Walked, WalkedFields, WalkedPiece, WalkedItems, rewrite, unchanged}
+use Rattle.lowering.specs.Walk.{Note, Walked, WalkedFields, WalkedPiece, WalkedItems, unchanged}
 use Rattle.lowering.specs.Walk.Walked.{noted}
 use Rattle.lowering.specs.Weight.{walked}
 use Rattle.lowering.specs.Collect.{Name, nameOf, same, Visit, over, newIn, newInPiece, isContainer, marked, markOf, visits, visitsFields, visitsPiece, visitsItems}

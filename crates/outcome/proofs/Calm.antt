@@ -27,7 +27,7 @@ use Rattle.lowering.specs.Rests.{isHoisted, keysRead, restValue}
 use Rattle.lowering.specs.Walk.{Note, Walked, WalkedFields, WalkedPiece, WalkedItems}
 use Rattle.lowering.specs.Walk.Walked.{noted}
 use Rattle.lowering.specs.Weight.{walked}
-use Rattle.lowering.specs.Made.{Context, assign, reference, temporary}
+use Rattle.lowering.specs.Made.{Context, assign, temporary}
 use Rattle.lowering.specs.Collect.{isContainer, marked, markOf}
 use Rattle.lowering.proofs.All.{AllItems}
 use Rattle.lowering.proofs.Cases.{by-test, by-shape, by-key, object-is, array-is, default-is}
@@ -35,12 +35,12 @@ use Rattle.sink.specs.Machine.{Event}
 use Rattle.direct.specs.Events.{Deed, Place, Emit, puts, lists, cell, numberIn, handsOut, after, marks, countIn, mapIn, written, deeds, deedsFields, deedsPiece, deedsItems, contextOf, emits}
 use Rattle.direct.specs.Events.Deed.{does, refuses}
 use Rattle.direct.specs.Emit.{say, _▷_, inner, inTurn, callHead}
-use Rattle.direct.specs.Views.{View, valuesOf, takes, objectAt, objectRestAt, propertyAt, defaultAt, viewed, viewedProperty, nameless, eachDoes, saysCell, emitsView, emitsProperty, isOther, emitsKey}
+use Rattle.direct.specs.Views.{View, valuesOf, takes, objectAt, objectRestAt, propertyAt, defaultAt, viewedProperty, nameless, eachDoes, saysCell, emitsView, emitsProperty, isOther, emitsKey}
 use Rattle.direct.specs.Views.View.{taking, leaving}
 use Rattle.direct.specs.Keys.{stringBytes, emitsExcluded, entries, primitives, hoists, emitsKeys, emitsKeysRead, emitsRest}
 use Rattle.direct.specs.Objects.{objectsIn, restsIn, overObjects, overRests}
 use Rattle.direct.specs.Handed.{placesIn, handsPlace, handsNested}
-use Rattle.direct.specs.Assigned.{restInArrays, emitsRestOf, emitsInner, emitsNest, emitsTarget}
+use Rattle.direct.specs.Assigned.{restInArrays, emitsRestOf, emitsNest, emitsTarget}
 use Rattle.direct.specs.Declared.{emitsKeyValue, emitsOwnKeys, emitsOwnPattern}
 use Rattle.direct.proofs.PatternViews.{view-object, view-rest, view-default, view-property}
 use Rattle.direct.proofs.Objects.{through-object, through-rest, through-array, through-default, through-leaf}
@@ -438,10 +438,6 @@ pub property-sounds : (c : Place) (t : Bool) (v : View) (q : Node) → Sounds (e
 unfolding emitsProperty
 property-sounds c t v q = node-sounds c (viewedProperty nameless t v q)
 
-pub view-sounds : (c : Place) (v : View) (p : Node) → Sounds (emitsView c v p)
-unfolding emitsView
-view-sounds c v p = node-sounds c (viewed nameless v p)
-
 -- a property: its head, its key, its value, its flags
 property-parts : (c : Place) (t : Bool) (v : View) (at : ℕ) (k x : Node) (b : ℕ) → Once (emitsProperty c t v (propertyAt at k x b))
     → Once (emitsKey (inner c) t at k) × Once (emitsView (inner c) v x)
@@ -610,11 +606,6 @@ module _ (c : Place) (x : ℕ) where
         then-steadily (rests-steadily w (property-parts (inner c) t leaving at k v b (once-left _ h) .1))
         (values-steadily ws t (once-right (property-sounds (inner c) t leaving (propertyAt at k v b)) h))
 
--- the target refuses nothing, so of its rests only what they are assigned to can be refused
-pub leaving-calm : (c : Place) (place : ℕ) (p : Node) → Fits input place p → (m : ℕ) → firstRefused (emitsView (inner c) leaving p m) ≡ 0
-    → (x m′ m″ : ℕ) → firstRefused (overRests (emitsRestOf c x) p m′) ≡ firstRefused (overRests (λ o. emits (inner c) (rest o)) p m″)
-leaving-calm c place p f m z x m′ m″ = rests-steadily c x (drawn p f) (record { next = m; none = z }) .always m′ m″ .same
-
 -- ---- the whole target
 
 place-sounds : (v : View) (m : ℕ) (p : Node) → Sounds (handsNested v m p)
@@ -637,22 +628,6 @@ target-view c p h =
     once-left _ (once-right (say-sounds (puts (27 ∷ 7 ∷ 1 ∷ [])) tt) (once-right (say-sounds head tt) (once-right (place-sounds leaving (c .mark) p) (subst Once (target-nested c p e) h)))))
     (λ e. once-left _ (once-right (say-sounds (puts (27 ∷ 7 ∷ 1 ∷ [])) tt) (subst Once (target-kept c p e) h)))
 
-pub target-sounds : (c : Place) (p : Node) → Sounds (emitsTarget c p)
-unfolding emitsNest inner overObjects emitsInner
-target-sounds c p =
-    let view = view-sounds (inner c) leaving p in
-    let value = cell-sounds 3 (position p) in
-    let equals = say-sounds (puts (27 ∷ 7 ∷ 1 ∷ [])) tt in
-    by-test (restInArrays p)
-    (λ e. subst Sounds (sym (target-nested c p e))
-    (sounds-then (place-sounds leaving (c .mark) p)
-    (sounds-then (say-sounds (puts (28 ∷ 1 ∷ wideBytes (suc (placesIn leaving p)))) tt)
-    (sounds-then equals
-    (sounds-then view
-    (sounds-then value
-    (turn-sounds (emitsInner (inner c)) (λ o. node-sounds (inner c) (assign o (reference (contextOf (inner c)) o))) (objectsIn nameless leaving p))))))))
-    (λ e. subst Sounds (sym (target-kept c p e)) (sounds-then equals (sounds-then view value)))
-
 -- the same by all that is written for the target
 pub target-calm : (c : Place) (place : ℕ) (p : Node) → Fits input place p → (m : ℕ) → firstRefused (emitsTarget c p m) ≡ 0
     → (x m′ m″ : ℕ) → firstRefused (overRests (emitsRestOf c x) p m′) ≡ firstRefused (overRests (λ o. emits (inner c) (rest o)) p m″)
@@ -662,7 +637,3 @@ target-calm c place p f m z x m′ m″ = rests-steadily c x (drawn p f) (target
 pub rest-inner : (c : Place) (x : ℕ) → emitsRestOf (inner c) x ≡ emitsRestOf c x
 unfolding emitsRestOf inner restValue keysRead isHoisted excludedKeys excludedKey
 rest-inner c x = refl
-
-pub target-inner : (c : Place) (p : Node) → emitsTarget (inner c) p ≡ emitsTarget c p
-unfolding emitsTarget inner
-target-inner c p = refl

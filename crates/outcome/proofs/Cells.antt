@@ -1,6 +1,6 @@
 -- All cells of a walk are cells: those that may be made, and those of the temporaries that stand in the tree.
 -- Assumes nothing.
-use mathlib.Core.Path.{_≡_, refl, sym, ap, ap₂, _∙_, subst}
+use mathlib.Core.Path.{_≡_, refl, sym, subst}
 use mathlib.Core.Bool.{Bool, true, false, cond}
 use mathlib.Core.List.{List, [], _∷_, _++_}
 use mathlib.Core.Logic.{_⊎_, ⊎-elim}
@@ -14,7 +14,7 @@ use Rattle.tree.specs.Tree.{Node, Fields, Piece, Items, wideBytes, count, encod
 use Rattle.tree.specs.Tree.Node.{node}
 use Rattle.lowering.specs.Parts.{nodeAt, numberAt, stands, isEmpty, each, _+++_}
 use Rattle.lowering.specs.Made.{Context, idOf}
-use Rattle.lowering.specs.Walk.{Note, Walked, WalkedFields, WalkedPiece, WalkedItems, eachItem, eachPiece, eachField, inside, rewrite, within, walk, unchanged}
+use Rattle.lowering.specs.Walk.{Note, Walked, WalkedFields, eachItem, eachPiece, eachField, inside, rewrite, within, walk, unchanged}
 use Rattle.lowering.specs.Walk.Walked.{noted}
 use Rattle.lowering.specs.Weight.{weight, walked}
 use Rattle.lowering.specs.Collect.{Name, nameOf, newIn, newInPiece, isContainer, marked, markOf}
@@ -28,8 +28,8 @@ use Rattle.direct.specs.Events.{cell, cellOf, later, numberIn, countIn, mapIn}
 use Rattle.outcome.specs.Named
 use Rattle.outcome.specs.Named.{Act, puts, lists, excludes, handed, entered, excludedKeys, handsOut, marks, written, named, namedFields, namedPiece, namedItems}
 use Rattle.outcome.proofs.Listed.{made-append}
-use Rattle.outcome.proofs.Makes.{others, makes, number, makes-all, namesIn, hands-made, inCell, namedCell}
-use Rattle.outcome.proofs.Scope.{cellAt, IsNamed, origin, weaker, both-each, all-each, occurs-here, walked-cell, cell-name, named-there, named-less}
+use Rattle.outcome.proofs.Makes.{others, makes, number, makes-all, namesIn, hands-made, inCell, named-less}
+use Rattle.outcome.proofs.Scope.{cellAt, IsNamed, origin, weaker, both-each, all-each, occurs-here, walked-cell, cell-name, named-there}
 use Rattle.outcome.proofs.Numbers.{Every, every-append}
 
 -- ---- temporaries in cells
@@ -77,16 +77,6 @@ excludes-ok : (bs : List ℕ) → CellsOk (excludes bs)
 unfolding excludes
 excludes-ok [] = tt
 excludes-ok (b ∷ bs) = (tt, excludes-ok bs)
-
-pub puts-ok : (bs : List ℕ) → CellsOk (puts bs)
-unfolding puts
-puts-ok [] = tt
-puts-ok (b ∷ bs) = (tt, puts-ok bs)
-
-marks-ok : (b : ℕ) → CellsOk (marks b)
-unfolding marks puts
-marks-ok zero = (tt, tt)
-marks-ok (suc b) = (tt, (tt, tt))
 
 made-ok : (ts : Items) → Below (others ts) → CellsOk (Named.made ts)
 unfolding Named.made others

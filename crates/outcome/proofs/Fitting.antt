@@ -19,7 +19,7 @@ use Rattle.lowering.specs.Patterns.{shape, itemsOf, rest}
 use Rattle.lowering.specs.Patterns.Shape.{objectPattern, arrayPattern, default, leaf}
 use Rattle.lowering.specs.Heads.{moved, isMoved, movedFrom}
 use Rattle.lowering.proofs.All.{weaker-items}
-use Rattle.lowering.proofs.Cases.{by-test, by-shape, or-left, or-right}
+use Rattle.lowering.proofs.Cases.{by-test, by-shape, or-left, or-right, not-true}
 use Rattle.outcome.proofs.Good.{Pure, PureFields, PurePiece, PureItems, Leaf, Is35, Local, Good, GoodFields, GoodPiece, GoodItems}
 use Rattle.outcome.proofs.Asked.{leafKind, notDefault, standing, Known, known}
 use Rattle.outcome.proofs.Potential.{gone, odd, odds, odds-append, odds-none, only-odds}
@@ -35,10 +35,6 @@ leaf-of n h = go (eqb (kind n) 34) (eqb (kind n) 36) (eqb (kind n) 37) h
     go false true c e = absurd (false≢true e)
     go false false true e = absurd (false≢true e)
     go false false false e = refl
-
-not-true : (b : Bool) → not b ≡ true → b ≡ false
-not-true true h = absurd (false≢true h)
-not-true false h = refl
 
 pub same-kind : (j : ℕ) (n : Node) → eqb j (kind n) ≡ true → is j n ≡ true
 unfolding is

@@ -22,6 +22,8 @@ use Rattle.lowering.specs.Heads.{moved, movedPattern, movedOut}
 use Rattle.lowering.proofs.All.{AllItems, AllFields, Each, all-append, all-gather, all-each, other-changed}
 use Rattle.lowering.proofs.Cases.{by-test, by-shape, by-key, object-is, array-is, default-is, is-changed}
 use Rattle.outcome.proofs.Scope.{IsNamed}
+use Rattle.lowering.proofs.ChangeLaws.{is-without}
+use Rattle.tree.proofs.Sound.{never}
 
 -- ---- nodes without a Temporary in them
 
@@ -124,9 +126,6 @@ from-all (Items.hole is) h = from-all is h
 from-all (Items.item n is) h = (h .0, from-all is (h .1))
 
 -- ---- parts of good nodes are good
-
-pub absent-good : {A : Type 0} → false ≡ true → A
-absent-good e = absurd (false≢true e)
 
 -- a kind of which nothing is asked
 pub free : (k : ℕ) (fs : Fields) → eqb k 20 ≡ false → eqb k 21 ≡ false → eqb k 18 ≡ false → eqb k 34 ≡ false → eqb k 35 ≡ false → NotDefault (asNode (pieceIn fs 0)) → Local k fs
@@ -232,7 +231,7 @@ idle-same g f (Fields.absent fs) (suc i) h = ap Fields.absent (idle-same g f fs 
 idle-same g f (Fields.field p fs) zero h = ap (λ (x : Piece). Fields.field x fs) (f p (h .0))
 idle-same g f (Fields.field p fs) (suc i) h = ap (Fields.field p) (idle-same g f fs i (h .1))
 
-named-parts : (fs : Fields) → IsNamed fs → NoParts fs
+pub named-parts : (fs : Fields) → IsNamed fs → NoParts fs
 named-parts fs h = subst NoParts (sym (h .whole)) (tt, (tt, tt))
 
 helping-parts : (fs : Fields) → IsHelping fs → NoParts fs
@@ -423,10 +422,10 @@ unfolding pieceIn is
 temporary-good path stem at = (
   record {
     temporary = λ e. record { stem = stem; path = path; whole = refl };
-    helper = λ e. absent-good e;
-    reference = λ e. absent-good e;
-    object = λ e. absent-good e;
-    property = λ e. absent-good e;
+    helper = λ e. never e;
+    reference = λ e. never e;
+    object = λ e. never e;
+    property = λ e. never e;
     first = refl;
   },
   (tt, (tt, tt)),
@@ -515,17 +514,13 @@ object-local : (k : ℕ) (fs : Fields) → eqb k 34 ≡ true → ObjectOk fs →
 object-local k fs e l f =
     let z : k ≡ 34 = eqb-true k 34 e in
     record {
-      temporary = λ y. absent-good (ap (λ (x : ℕ). eqb x 20) (sym z) ∙ y);
-      helper = λ y. absent-good (ap (λ (x : ℕ). eqb x 21) (sym z) ∙ y);
-      reference = λ y. absent-good (ap (λ (x : ℕ). eqb x 18) (sym z) ∙ y);
+      temporary = λ y. never (ap (λ (x : ℕ). eqb x 20) (sym z) ∙ y);
+      helper = λ y. never (ap (λ (x : ℕ). eqb x 21) (sym z) ∙ y);
+      reference = λ y. never (ap (λ (x : ℕ). eqb x 18) (sym z) ∙ y);
       object = λ y. l;
-      property = λ y. absent-good (ap (λ (x : ℕ). eqb x 35) (sym z) ∙ y);
+      property = λ y. never (ap (λ (x : ℕ). eqb x 35) (sym z) ∙ y);
       first = f;
     }
-
-without-kind : (n : Node) (j : ℕ) → is j (without 1 n) ≡ is j n
-unfolding without is
-without-kind (node at k fs) j = refl
 
 without-good : (n : Node) → is 34 n ≡ true → Good n → Good (without 1 n)
 unfolding without is
@@ -683,7 +678,7 @@ module _ (c : Context) where
       (λ e. rw (e, restsThroughObjects, AllItems) (rests-good d (leftOf p) (node-good 0 p h)))
       (λ e. rw (e, restsThroughObjects, AllItems) tt)
 
-  without-fixes : (d : ℕ) (p : Node) → Leaf p → withoutRests c d p ≡ p
+  pub without-fixes : (d : ℕ) (p : Node) → Leaf p → withoutRests c d p ≡ p
   unfolding withoutRests
   without-fixes zero p l = refl
   without-fixes (suc d) p l = rw (l, withoutRests) refl
@@ -692,7 +687,7 @@ module _ (c : Context) where
   unfolding taken
   taken-simple p h =
       by-test (hasRest p)
-      (λ r. rw r (without-kind (withProperties (keptKey c) p) 37 ∙ is-changed 0 (onItems (each (keptKey c))) p 37 ∙ h))
+      (λ r. rw r (is-without (withProperties (keptKey c) p) 37 ∙ is-changed 0 (onItems (each (keptKey c))) p 37 ∙ h))
       (λ r. rw r h)
 
   without-simple : (d : ℕ) (p : Node) → NotDefault p → NotDefault (withoutRests c d p)

@@ -22,7 +22,9 @@ use Rattle.lowering.specs.Walk.{Rule, ruleOf, rewrite, stepDeclaration, stepTop
 use Rattle.lowering.specs.Walk.Rule.{literals, declarations, assignments, functions, arrows, catches, fors, nowhere}
 use Rattle.lowering.proofs.All.{all-each}
 use Rattle.lowering.proofs.Cases.{by-test, by-shape, by-key, by-rule, object-is, array-is, is-changed, functionBody-is, block-is}
-use Rattle.outcome.proofs.Good.{NotDefault, temporary-20, temporary-simple, leaf-simple, object-simple, array-simple, rest-leaf, taken-simple, replaced-simple, reference-simple, movedPattern-simple, absent-good, Is35, changed-35, Good, GoodItems, GoodObject, free, nothing-good, from-all, node-good, items-good, append-good, gather-good, view-node, change-items, each-items, change-free, temporary-good, reference-good, taken-good, replaced-view, values-good, objects-good, rests-good, withoutRests-good, movedOut-view, moved-good, movedPattern-good}
+use Rattle.outcome.proofs.Good.{NotDefault, temporary-20, temporary-simple, leaf-simple, object-simple, array-simple, rest-leaf, taken-simple, replaced-simple, reference-simple, movedPattern-simple, Is35, changed-35, Good, GoodItems, GoodObject, free, nothing-good, from-all, node-good, items-good, append-good, gather-good, view-node, change-items, each-items, change-free, temporary-good, reference-good, taken-good, replaced-view, values-good, objects-good, rests-good, withoutRests-good, movedOut-view, moved-good, movedPattern-good}
+use Rattle.tree.proofs.Sound.{never}
+use Rattle.direct.proofs.AlikeRules.{functionBody-kind, block-kind}
 
 -- ---- nodes that the rules make
 
@@ -30,11 +32,11 @@ helper-good : (h : ℕ) → Good (helper h)
 unfolding pieceIn is
 helper-good h = (
   record {
-    temporary = λ e. absent-good e;
+    temporary = λ e. never e;
     helper = λ e. record { which = h; whole = refl };
-    reference = λ e. absent-good e;
-    object = λ e. absent-good e;
-    property = λ e. absent-good e;
+    reference = λ e. never e;
+    object = λ e. never e;
+    property = λ e. never e;
     first = refl;
   },
   (tt, tt),
@@ -413,9 +415,6 @@ module _ (c : Context) where
   unfolding inBody
   inBody-good ps b a h k = change-items (inFront c ps) (λ is g. inFront-good ps is h g) 1 b a k
 
-  body-not : (b : Node) → eqb (kind (asFunctionBody b)) 34 ≡ false
-  body-not b = not-patterns (kind (asFunctionBody b)) 16 (body-16 b) refl refl .0
-
   body-simple : (ps : Items) (b : Node) → NotDefault (inBody c ps (asFunctionBody b))
   unfolding inBody
   body-simple ps b = is-changed 1 (onItems (inFront c ps)) (asFunctionBody b) 37 ∙ kind-not (asFunctionBody b) 16 (functionBody-is b) refl
@@ -426,9 +425,6 @@ module _ (c : Context) where
   block-body : (ps : Items) (b : Node) → NotDefault (inBody c ps (asBlock b))
   unfolding inBody
   block-body ps b = block-simple (inFront c ps) b
-
-  block-not : (b : Node) → eqb (kind (asBlock b)) 34 ≡ false
-  block-not b = not-patterns (kind (asBlock b)) 2 (block-2 b) refl refl .0
 
   asFunctionBody-good : (b : Node) → Good b → Good (asFunctionBody b)
   unfolding asFunctionBody
@@ -450,7 +446,7 @@ module _ (c : Context) where
       let f′ = free-changed 3 (onItems (each (leftBehind c))) n f in
       by-test (stands 5 n && any isMoved (itemsAt 3 n))
       (λ e. rw (e, Good)
-      (change-free (λ b. inBody c ps (asFunctionBody b)) (λ b k. inBody-good ps (asFunctionBody b) (body-not b) g (asFunctionBody-good b k)) (λ b z. body-simple ps b) 5 m (f′ .0) (f′ .1) (each-items (leftBehind c) leftBehind-good leftBehind-35 3 n h)))
+      (change-free (λ b. inBody c ps (asFunctionBody b)) (λ b k. inBody-good ps (asFunctionBody b) (functionBody-kind b) g (asFunctionBody-good b k)) (λ b z. body-simple ps b) 5 m (f′ .0) (f′ .1) (each-items (leftBehind c) leftBehind-good leftBehind-35 3 n h)))
       (λ e. rw (e, Good) h)
 
   arrow-good : (n : Node) → Free n → Good n → Good (arrow c n)
@@ -462,7 +458,7 @@ module _ (c : Context) where
       let f′ = free-changed 0 (onItems (each (leftBehind c))) n f in
       by-test (any isMoved (itemsAt 0 n))
       (λ e. rw (e, Good)
-      (change-free (λ b. inBody c ps (asFunctionBody b)) (λ b k. inBody-good ps (asFunctionBody b) (body-not b) g (asFunctionBody-good b k)) (λ b z. body-simple ps b) 2 m (f′ .0) (f′ .1) (each-items (leftBehind c) leftBehind-good leftBehind-35 0 n h)))
+      (change-free (λ b. inBody c ps (asFunctionBody b)) (λ b k. inBody-good ps (asFunctionBody b) (functionBody-kind b) g (asFunctionBody-good b k)) (λ b z. body-simple ps b) 2 m (f′ .0) (f′ .1) (each-items (leftBehind c) leftBehind-good leftBehind-35 0 n h)))
       (λ e. rw (e, Good) h)
 
   catch-good : (n : Node) → Free n → Good n → Good (catch c n)
@@ -474,7 +470,7 @@ module _ (c : Context) where
       let f′ = free-changed 0 (onNode (leftBehind c)) n f in
       by-test (isMoved (nodeAt 0 n))
       (λ e. rw (e, Good)
-      (change-free (λ b. inBody c ps (asBlock b)) (λ b k. inBody-good ps (asBlock b) (block-not b) g (asBlock-good b k)) (λ b z. block-body ps b) 1 m (f′ .0) (f′ .1) (change-free (leftBehind c) leftBehind-good leftBehind-simple 0 n (f .0) (f .1) h)))
+      (change-free (λ b. inBody c ps (asBlock b)) (λ b k. inBody-good ps (asBlock b) (block-kind b) g (asBlock-good b k)) (λ b z. block-body ps b) 1 m (f′ .0) (f′ .1) (change-free (leftBehind c) leftBehind-good leftBehind-simple 0 n (f .0) (f .1) h)))
       (λ e. rw (e, Good) h)
 
   declaringHead-good : (n : Node) → Free n → Good n → Good (declaringHead c n)
@@ -487,7 +483,7 @@ module _ (c : Context) where
       let f′ = free-changed 1 (onNode left) n f in
       by-test (any isMoved ds)
       (λ e. rw (e, Good)
-      (change-free (λ b. inBody c (gather movedFrom ds) (asBlock b)) (λ b k. inBody-good (gather movedFrom ds) (asBlock b) (block-not b) g (asBlock-good b k)) (λ b z. block-body (gather movedFrom ds) b) 3 m (f′ .0) (f′ .1)
+      (change-free (λ b. inBody c (gather movedFrom ds) (asBlock b)) (λ b k. inBody-good (gather movedFrom ds) (asBlock b) (block-kind b) g (asBlock-good b k)) (λ b z. block-body (gather movedFrom ds) b) 3 m (f′ .0) (f′ .1)
       (change-free left (λ l k. each-items (leftBehind c) leftBehind-good leftBehind-35 2 l k) (λ l z. is-changed 2 (onItems (each (leftBehind c))) l 37 ∙ z) 1 n (f .0) (f .1) h)))
       (λ e. rw (e, Good) h)
 
@@ -502,7 +498,7 @@ module _ (c : Context) where
       by-test (hasObjectRest p)
       (λ e. rw (e, Good)
       (change-free (λ b. changeItems 1 (item s) (asBlock b))
-      (λ b k. change-items (item s) (λ is g. (assigning-good p (reference c p) (node-good 1 n h) (reference-good c p), g)) 1 (asBlock b) (block-not b) (asBlock-good b k)) (λ b z. block-simple (item s) b) 3 m (f′ .0) (f′ .1)
+      (λ b k. change-items (item s) (λ is g. (assigning-good p (reference c p) (node-good 1 n h) (reference-good c p), g)) 1 (asBlock b) (block-kind b) (asBlock-good b k)) (λ b z. block-simple (item s) b) 3 m (f′ .0) (f′ .1)
       (change-free left (λ l k. var-good (reference c l) (reference-simple c l) (reference-good c l)) (λ l z. var-simple (reference c l)) 1 n (f .0) (f .1) h)))
       (λ e. rw (e, Good) h)
 

@@ -2,36 +2,35 @@
 -- bytes of these declarators, a name for each temporary.
 -- Assumes nothing.
 use mathlib.Core.Path.{_≡_, refl, sym, ap, ap₂, _∙_, subst}
-use mathlib.Core.Bool.{Bool, true, false, cond, not, _&&_, _||_, false≢true, true≢false}
+use mathlib.Core.Bool.{true, false, cond, not, false≢true}
 use mathlib.Core.List.{List, [], _∷_, _++_}
 use mathlib.Core.Logic.{_⊎_, ⊎-elim}
 use mathlib.Core.Logic._⊎_.{inl, inr}
-use Prim.Native.Nat.{ℕ, zero, suc, _+_, _/_, _%_}
+use Prim.Native.Nat.{ℕ, zero, suc, _+_}
 use native.Mathlib.Omega.{arith}
-use lib.Dec.{eqb}
-use lib.ListN.{length}
-use borrow.Author.Tests.{eqb-true, not-true}
+use borrow.Author.Tests.{not-true}
 use Rattle.tree.specs.Tree.{Node, Fields, Piece, Items, wideBytes, mapOf, count, encode, encodeFields, encodePiece, encodeItems, depth}
 use Rattle.tree.specs.Tree.Node.{node}
-use Rattle.lowering.specs.Parts.{position, kind, is, nodeAt, itemsAt, textAt, numberAt, pieceIn, stands, standsIn, isEmpty, only, each, gather, any, _+++_}
-use Rattle.lowering.specs.Made.{Context, temporary, reference, valueOf, keyOf, excludedOf, declares, declared, array, string, idOf}
+use Rattle.lowering.specs.Parts.{position, kind, is, nodeAt, itemsAt, textAt, pieceIn, stands, standsIn, only, each, gather, any, _+++_}
+use Rattle.lowering.specs.Made.{Context, temporary, reference, declares, declared, array, string, idOf}
 use Rattle.lowering.specs.Patterns.{shape, properties, itemsOf, leftOf, value, hasRest, withValues, replaced, key, hasObjectRest, hasArrayRestOverObjectRest, objectsWithRest, objectsBelow}
 use Rattle.lowering.specs.Keys.{Key, keySort, isPrimitive, allPrimitive, excludedKey, excludedKeys, keyTemporary, keyTemporaries}
-use Rattle.lowering.specs.Rests.{hasNoProperties, isHoisted, excludedFor}
+use Rattle.lowering.specs.Rests.{isHoisted, excludedFor}
 use Rattle.lowering.specs.Declarations.{isLowered, loweredIn, declarationExcludes, declarationLacksForm}
 use Rattle.lowering.specs.Assignments.{isTop, target, restsOf, topLacksForm, topEntry, topExcludes, nestedEntry}
 use Rattle.lowering.specs.Walk.{Note, ruleOf, rewrite, unchanged, stepDeclaration, stepTop, stepAssignment, stepFor}
 use Rattle.lowering.specs.Collect.{Name, nameOf}
-use Rattle.lowering.proofs.All.{AllItems, all-gather, all-unit}
-use Rattle.lowering.proofs.Cases.{by-test, by-shape, by-key, by-rule, and-left, and-right, or-left, or-right}
-use Rattle.sink.specs.Shown.{Named, Token, listOf, keysOf, listTokens, keysTokens, entryIn, declaratorIn, entriesIn, declaratorsIn}
+use Rattle.lowering.proofs.All.{AllItems, all-gather, all-unit, none-passes}
+use Rattle.lowering.proofs.Cases.{by-test, by-shape, by-key, by-rule, not-false}
+use Rattle.sink.specs.Shown.{Named, Token, listOf, keysOf, listTokens, keysTokens, declaratorIn, declaratorsIn}
 use Rattle.sink.specs.Shown.Token.{plain, temp}
 use Rattle.direct.specs.Events.{cellOf}
 use Rattle.outcome.specs.Named
-use Rattle.outcome.specs.Named.{Act, lists, excludes, handed, entered, plains, tokens, tokensFields, tokensPiece, tokensItems}
-use Rattle.outcome.proofs.Tokens.{append-assoc, append-none}
+use Rattle.outcome.specs.Named.{Act, lists, excludes, handed, plains, tokens, tokensFields, tokensPiece, tokensItems}
+use Rattle.outcome.proofs.Tokens.{append-none}
 use Rattle.outcome.proofs.Listed.{list-append, keys-append, declarators-append}
 use Rattle.outcome.proofs.Good.{Pure, PureFields, PurePiece, PureItems, Is35, KeyOk, Good, GoodItems, GoodObject, to-all, node-good, items-good, properties-35, key-ok, objects-good, rests-good}
+use Rattle.lowering.proofs.Clauses.{again-temporary, hoisted-primitive}
 
 -- ---- what is handed out
 
@@ -89,20 +88,16 @@ pub record Hands (note : Note) : Type 0 where
 
 -- ---- pure keys
 
-twenty-again : (k : Node) → is 20 k ≡ true → keySort k ≡ Key.again
-unfolding keySort is
-twenty-again (node at k fs) e = let z : k ≡ 20 = eqb-true k 20 e in ap (λ (x : ℕ). keySort (node at x fs)) z
-
 other-not : (k : Node) → keySort k ≡ Key.other → is 20 k ≡ false
 other-not k e =
     by-test (is 20 k)
-    (λ t. let y : Key.again ≡ Key.other = sym (twenty-again k t) ∙ e in let z : _≡_ {A = ℕ} 0 1 = cc in absurd (omega arith))
+    (λ t. let y : Key.again ≡ Key.other = sym (again-temporary k t) ∙ e in let z : _≡_ {A = ℕ} 0 1 = cc in absurd (omega arith))
     (λ t. t)
 
 template-not : (k : Node) → keySort k ≡ Key.template → is 20 k ≡ false
 template-not k e =
     by-test (is 20 k)
-    (λ t. let y : Key.again ≡ Key.template = sym (twenty-again k t) ∙ e in let z : _≡_ {A = ℕ} 0 1 = cc in absurd (omega arith))
+    (λ t. let y : Key.again ≡ Key.template = sym (again-temporary k t) ∙ e in let z : _≡_ {A = ℕ} 0 1 = cc in absurd (omega arith))
     (λ t. t)
 
 pure-key : (k : Node) → is 20 k ≡ false → KeyOk k → Pure k
@@ -131,13 +126,6 @@ properties-all (Items.item n is) h k = ((h .0, k .0), properties-all is (h .1) (
 properties-are : (p : Node) → is 34 p ≡ true → Good p → AllItems Property (properties p)
 properties-are p e h = properties-all (properties p) (properties-35 p e h) (items-good 0 p h)
 
--- a test that no item passes
-none-passes : (f : Node → Bool) (is : Items) → any f is ≡ false → AllItems (λ n. f n ≡ false) is
-unfolding any
-none-passes f Items.none h = tt
-none-passes f (Items.hole is) h = none-passes f is h
-none-passes f (Items.item n is) h = (or-left (f n) (any f is) h, none-passes f is (or-right (f n) (any f is) h))
-
 both-all : (P Q R : Node → Type 0) → ((n : Node) → P n → Q n → R n) → (is : Items) → AllItems P is → AllItems Q is → AllItems R is
 both-all P Q R f Items.none h k = tt
 both-all P Q R f (Items.hole is) h k = both-all P Q R f is h k
@@ -150,10 +138,6 @@ not-primitive k e = rw (e, isPrimitive) refl
 other-primitive : (k : Node) → keySort k ≡ Key.other → isPrimitive k ≡ false
 unfolding isPrimitive
 other-primitive k e = rw (e, isPrimitive) refl
-
-not-false : (b : Bool) → not b ≡ false → b ≡ true
-not-false true h = refl
-not-false false h = absurd (true≢false h)
 
 module _ (c : Context) where
   -- ---- excluded keys
@@ -179,10 +163,6 @@ module _ (c : Context) where
       (both-all Property (λ q. not (isPrimitive (key q)) ≡ false) (λ q. Property q × (not (isPrimitive (key q)) ≡ false)) (λ q u v. (u, v)) (properties p)
       (properties-are p e h) (none-passes (λ q. not (isPrimitive (key q))) (properties p) (not-true (any (λ q. not (isPrimitive (key q))) (properties p)) a))))
 
-  hoisted-primitive : (p : Node) → isHoisted c p ≡ true → allPrimitive p ≡ true
-  unfolding isHoisted
-  hoisted-primitive p e = and-right (not (hasNoProperties p)) (allPrimitive p) (and-right (not (c .root)) (not (hasNoProperties p) && allPrimitive p) e)
-
   excludedFor-full : (p : Node) → GoodObject c p → Full Valued (excludedFor c p)
   unfolding excludedFor
   excludedFor-full p h =
@@ -194,7 +174,7 @@ module _ (c : Context) where
           place = position p;
           value = array (excludedKeys c p);
           whole = refl;
-          pure = array-pure (excludedKeys c p) (excludedKeys-pure p (h .0) (h .1) (hoisted-primitive p e));
+          pure = array-pure (excludedKeys c p) (excludedKeys-pure p (h .0) (h .1) (hoisted-primitive c p e));
         },
         tt,
       ))
@@ -265,9 +245,6 @@ module _ (c : Context) where
   nested-hands : (n : Node) → Full Declares (nestedEntry c n)
   unfolding nestedEntry
   nested-hands n = refs-full (objectsBelow c (target n)) (objects-full (depth (target n)) (target n))
-
-  nothing-hands : Hands (record { refusal = 0; made = Items.none; entry = Items.none; excluded = Items.none })
-  nothing-hands = record { entry = tt; excluded = tt }
 
   quiet-hands : (r : ℕ) (made : Items) → Hands (record { refusal = r; made = made; entry = Items.none; excluded = Items.none })
   quiet-hands r made = record { entry = tt; excluded = tt }

@@ -1,9 +1,9 @@
 -- What is handed out by named events: those of each note in walk order. So the list, the counts and the names that are made are those of the notes.
 -- Assumes nothing.
 use mathlib.Core.Path.{_≡_, refl, sym, ap, ap₂, _∙_}
-use mathlib.Core.Bool.{Bool, true, false, cond}
+use mathlib.Core.Bool.{Bool, true, cond}
 use mathlib.Core.List.{List, [], _∷_, _++_}
-use Prim.Native.Nat.{ℕ, zero, suc, _+_, _≤_, min}
+use Prim.Native.Nat.{ℕ, zero, suc, _+_, _≤_}
 use native.Mathlib.Omega.{arith}
 use lib.Dec.{eqb}
 use lib.ListN.{length}
@@ -13,9 +13,9 @@ use Rattle.lowering.specs.Walk.Walked.{noted}
 use Rattle.lowering.specs.Collect.{Name, Visit, over, newIn, newInFields, newInPiece, newInItems, isContainer, marked, markOf, visits, visitsFields, visitsPiece, visitsItems}
 use Rattle.lowering.proofs.Cases.{by-test}
 use Rattle.sink.specs.Shown.{Named, Token, listOf, keysOf, listTokens, keysTokens, entryIn, declaratorIn, entriesIn, declaratorsIn, madeBy, madeIn}
-use Rattle.direct.specs.Events.{cell, numberIn, later, countIn, mapIn}
+use Rattle.direct.specs.Events.{later, countIn, mapIn}
 use Rattle.outcome.specs.Named.{Act, puts, handsOut, marks, written, named, namedFields, namedPiece, namedItems}
-use Rattle.outcome.proofs.Refusals.{Leaf, Leafy, LeafyFields, LeafyPiece, LeafyItems, leaf-visits}
+use Rattle.outcome.proofs.Refusals.{Leafy, LeafyFields, LeafyPiece, LeafyItems, leaf-visits}
 use Rattle.outcome.proofs.Tokens.{Aside, hands-aside, append-assoc}
 
 -- ---- the events that write nothing of the tree
@@ -123,21 +123,6 @@ declarators-aside (Named.entry m n ∷ es) = ap (λ (x : ℕ). declaratorIn {A =
 declarators-aside (Named.excluded b ∷ es) = ap (λ (x : ℕ). declaratorIn {A = Name} (Named.excluded b) + x) (declarators-aside es)
 declarators-aside (Named.excludedTemporary c a ∷ es) = ap (λ (x : ℕ). declaratorIn {A = Name} (Named.excludedTemporary c a) + x) (declarators-aside es)
 declarators-aside (Named.declarator ∷ es) = ap (λ (x : ℕ). declaratorIn {A = Name} (Named.declarator) + x) (declarators-aside es)
-
-pub made-aside : (es : List Act) → madeIn es ≡ madeIn (asides es)
-unfolding asides madeIn madeBy
-made-aside [] = refl
-made-aside (Named.put b ∷ es) = made-aside es
-made-aside (Named.helper h ∷ es) = made-aside es
-made-aside (Named.temporary c ∷ es) = made-aside es
-made-aside (Named.newMark ∷ es) = made-aside es
-made-aside (Named.make c a ∷ es) = ap (λ (x : List Name). madeBy (Named.make c a) ++ x) (made-aside es)
-made-aside (Named.listed b ∷ es) = ap (λ (x : List Name). madeBy (Named.listed b) ++ x) (made-aside es)
-made-aside (Named.listedTemporary c a ∷ es) = ap (λ (x : List Name). madeBy (Named.listedTemporary c a) ++ x) (made-aside es)
-made-aside (Named.entry m n ∷ es) = ap (λ (x : List Name). madeBy (Named.entry m n) ++ x) (made-aside es)
-made-aside (Named.excluded b ∷ es) = ap (λ (x : List Name). madeBy (Named.excluded b) ++ x) (made-aside es)
-made-aside (Named.excludedTemporary c a ∷ es) = ap (λ (x : List Name). madeBy (Named.excludedTemporary c a) ++ x) (made-aside es)
-made-aside (Named.declarator ∷ es) = ap (λ (x : List Name). madeBy (Named.declarator) ++ x) (made-aside es)
 
 -- ---- rows in turn
 

@@ -28,6 +28,7 @@ use Rattle.outcome.proofs.Kept.{Walks, WalksFields, WalksPiece, WalksIt
 use Rattle.outcome.proofs.Listed.{list-append, keys-append, entries-append, declarators-append, over-append, hands}
 use Rattle.outcome.proofs.Handed.{Hands, Declares, Valued, Full, handed-listed, excluded-listed, excluded-counted}
 use Rattle.outcome.proofs.Numbers.{bytes, bytes-append, bytes-plains, encode-items}
+use Rattle.lowering.proofs.ItemLaws.{count-append}
 
 -- ---- the parts of a note that say nothing of a list
 
@@ -46,10 +47,6 @@ both-say es fs ts us ts′ us′ e d e′ d′ h k =
       entries = entries-append es fs ∙ ap₂ (λ (x : ℕ) (y : ℕ). x + y) (h .entries) (k .entries);
       declarators = declarators-append es fs ∙ ap₂ (λ (x : ℕ) (y : ℕ). x + y) (h .declarators) (k .declarators);
     }
-
-none-says : Says [] [] [] 0 0
-unfolding listTokens keysTokens entriesIn declaratorsIn
-none-says = record { list = refl; keys = refl; entries = refl; declarators = refl }
 
 -- the entry as the machine writes it
 abbrev pub machineEntry : Entry → List (Token Name)
@@ -182,12 +179,6 @@ tokens-append Items.none js = refl
 tokens-append (Items.hole is) js = ap (λ (x : List (Token Name)). plain 0 ∷ x) (tokens-append is js)
 tokens-append (Items.item n is) js = ap (λ (x : List (Token Name)). tokens n ++ x) (tokens-append is js) ∙ sym (append-assoc (tokens n) (tokensItems is) (tokensItems js))
 
-count-append : (is js : Items) → count (is +++ js) ≡ count is + count js
-unfolding count _+++_
-count-append Items.none js = omega arith
-count-append (Items.hole is) js = let h = count-append is js in omega arith
-count-append (Items.item n is) js = let h = count-append is js in omega arith
-
 entries-split : (v : Visit) (vs : List Visit) → entries (v ∷ vs) ≡ entryAt v ++ entries vs
 unfolding entries over
 entries-split v vs = refl
@@ -218,7 +209,7 @@ visits-say (v ∷ vs) h =
 
 -- ---- sizes
 
-size-plains : (bs : List ℕ) → size (plains bs) ≡ length bs
+pub size-plains : (bs : List ℕ) → size (plains bs) ≡ length bs
 unfolding plains
 size-plains [] = refl
 size-plains (b ∷ bs) = let h = size-plains bs in omega arith
@@ -238,10 +229,6 @@ count-size (Items.item n is) =
 abbrev pub Entries : (Entry → Type 0) → List Entry → Type 0
 Entries P [] = Unit {0}
 Entries P (e ∷ es) = P e × Entries P es
-
-entries-both : (P Q : Entry → Type 0) (es : List Entry) → Entries P es → Entries Q es → Entries (λ e. P e × Q e) es
-entries-both P Q [] h k = tt
-entries-both P Q (e ∷ es) h k = ((h .0, k .0), entries-both P Q es (h .1) (k .1))
 
 entries-append-all : (P : Entry → Type 0) (es fs : List Entry) → Entries P es → Entries P fs → Entries P (es ++ fs)
 entries-append-all P [] fs h k = k

@@ -3,31 +3,30 @@
 use mathlib.Core.Path.{_≡_, refl, sym, ap, ap₂, _∙_, subst}
 use mathlib.Core.Bool.{Bool, true, false, cond, _&&_, false≢true}
 use mathlib.Core.List.{List, [], _∷_, _++_}
-use Prim.Native.Nat.{ℕ, zero, suc, _+_, _≤_, _<_}
+use Prim.Native.Nat.{ℕ, _+_, _≤_, _<_}
 use native.Mathlib.Omega.{arith}
 use lib.Dec.{eqb}
-use borrow.Author.Tests.{eqb-true}
-use Rattle.tree.specs.Tree.{Node, Items, count, encode, depth}
+use Rattle.tree.specs.Tree.{Node, Items, count, encode}
 use Rattle.tree.specs.Tree.Items.{none, hole, item}
 use Rattle.lowering.specs.Parts.{position, kind, is, nodeAt, itemsAt, numberAt, pieceIn, stands, isEmpty, only, each, gather, _+++_}
-use Rattle.lowering.specs.Made.{Context, temporary, reference, valueOf, keyOf, excludedOf, declares, declared, array, idOf}
+use Rattle.lowering.specs.Made.{Context, temporary, reference, idOf}
 use Rattle.lowering.specs.Patterns.{key, properties, hasObjectRest, hasArrayRestOverObjectRest, objectsBelow}
-use Rattle.lowering.specs.Keys.{keySort, keyTemporary, keyTemporaries, excludedKeys}
+use Rattle.lowering.specs.Keys.{keySort, keyTemporary, keyTemporaries}
 use Rattle.lowering.specs.Rests.{isHoisted, excludedFor, restMakes}
 use Rattle.lowering.specs.Declarations.{isName, sourceDeclarator, innerObjects, declaratorMakes, isLowered, loweredIn, declarationMakes, declarationExcludes, declarationLacksForm}
-use Rattle.lowering.specs.Assignments.{isTop, target, restsOf, topLacksForm, topEntry, topExcludes, topMakes, nestedEntry, nestedMakes}
+use Rattle.lowering.specs.Assignments.{isTop, target, topLacksForm, topEntry, topMakes, nestedEntry, nestedMakes}
 use Rattle.lowering.specs.Heads.{movedFrom, references, functionMakes, arrowMakes, catchMakes, declaringMakes, assigningMakes}
 use Rattle.lowering.specs.Walk.{Note, ruleOf, rewrite, stepDeclaration, stepTop, stepAssignment, stepFor}
 use Rattle.lowering.specs.Collect.{Name, nameOf, same}
-use Rattle.lowering.proofs.Cases.{by-test, by-key, by-rule, and-left, and-right}
-use Rattle.lowering.proofs.Made.{each-append}
+use Rattle.lowering.proofs.Cases.{by-test, by-key, by-rule}
 use Rattle.lowering.proofs.Appearance.{same-is}
 use Rattle.sink.specs.Shown.{Named, namesAfter, renamed, madeBy, madeIn}
 use Rattle.direct.specs.Events.{cellOf}
 use Rattle.outcome.specs.Named
 use Rattle.outcome.specs.Named.{Act, lists, excludes, handed, entered, handsOut, after}
-use Rattle.outcome.proofs.Tokens.{after-append, append-assoc}
+use Rattle.outcome.proofs.Tokens.{after-append}
 use Rattle.outcome.proofs.Listed.{made-append}
+use Rattle.lowering.proofs.ItemLaws.{items-none, each-append}
 
 -- ---- the temporaries in the order in which they are made
 
@@ -355,12 +354,6 @@ hole-names : (ts : Items) → namesIn ts ≡ namesIn (hole ts)
 unfolding namesIn
 hole-names ts = refl
 
-right-none : (ts : Items) → ts +++ none ≡ ts
-unfolding _+++_
-right-none none = refl
-right-none (hole ts) = ap hole (right-none ts)
-right-none (item t ts) = ap (item t) (right-none ts)
-
 handed-does : (ds : Items) → Does (handed ds) (each idOf ds)
 unfolding handed each _+++_
 handed-does none = nothing-does
@@ -394,7 +387,7 @@ hands-do m note =
     (excluded-do (note .excluded))
   where
     go : (b : Bool) → Does (cond b (Named.made (note .made)) [] ++ cond b [] (Named.entry m (count (note .entry)) ∷ handed (note .entry))) (cond b (others (note .made)) (each idOf (note .entry)))
-    go true = subst (λ (x : Items). Does (Named.made (note .made) ++ []) x) (right-none (others (note .made))) (both-do (Named.made (note .made)) [] (others (note .made)) none (made-does (note .made)) nothing-does)
+    go true = subst (λ (x : Items). Does (Named.made (note .made) ++ []) x) (items-none (others (note .made))) (both-do (Named.made (note .made)) [] (others (note .made)) none (made-does (note .made)) nothing-does)
     go false = entry-does m (count (note .entry)) (handed (note .entry)) (each idOf (note .entry)) (handed-does (note .entry))
 
 pub hands-names : (m : ℕ) (note : Note) (names : ℕ → Name) → after names (handsOut m note) ≡ assigned names (makes note)
@@ -423,11 +416,12 @@ cell-left names x (item t ts) h =
     (λ e. let z : 0 + number (inCell x) ts ≡ 0 = rw e at h in
     cell-left (renamed names (cellOf t) (nameOf t)) x ts (omega arith) ∙ rw e refl)
 
-less : (x : ℕ) (a : Name) (ts : Items) → number (namedCell x a) ts ≤ number (inCell x) ts
+-- what is made with the name is made in its cell
+pub named-less : (x : ℕ) (a : Name) (ts : Items) → number (namedCell x a) ts ≤ number (inCell x) ts
 unfolding number
-less x a none = omega arith
-less x a (hole ts) = less x a ts
-less x a (item t ts) = let h = less x a ts in go (eqb x (cellOf t)) (same a (nameOf t)) h
+named-less x a Items.none = omega arith
+named-less x a (Items.hole ts) = named-less x a ts
+named-less x a (Items.item t ts) = go (eqb x (cellOf t)) (same a (nameOf t)) (named-less x a ts)
   where
     go : (b d : Bool) → number (namedCell x a) ts ≤ number (inCell x) ts → cond (b && d) 1 0 + number (namedCell x a) ts ≤ cond b 1 0 + number (inCell x) ts
     go true true h = omega arith
@@ -440,7 +434,7 @@ unfolding assigned number renamed
 cell-made names x a none h k = absurd (omega arith)
 cell-made names x a (hole ts) h k = cell-made names x a ts h k
 cell-made names x a (item t ts) h k =
-    let l = less x a ts in
+    let l = named-less x a ts in
     by-test (eqb x (cellOf t))
     (λ e.
     let h′ : 1 + number (inCell x) ts ≤ 1 = rw e at h in

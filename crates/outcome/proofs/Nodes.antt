@@ -1,17 +1,17 @@
 -- The names and the helpers of the tree, by its nodes and by the events that write it.
 -- Assumes nothing.
-use mathlib.Core.Path.{_≡_, refl, sym, ap, ap₂, _∙_, subst}
-use mathlib.Core.Bool.{Bool, true, false, cond, _&&_, _||_}
+use mathlib.Core.Path.{_≡_, refl, sym, ap, ap₂, _∙_}
+use mathlib.Core.Bool.{Bool, true, false, cond, _&&_, _||_, or-assoc}
 use mathlib.Core.List.{List, [], _∷_, _++_}
-use Prim.Native.Nat.{ℕ, zero, suc, _+_, _*_}
+use Prim.Native.Nat.{ℕ, zero, suc, _+_}
 use native.Mathlib.Omega.{arith}
 use lib.Dec.{eqb}
 use lib.ListN.{length}
 use borrow.Author.Tests.{eqb-true}
-use Rattle.tree.specs.Tree.{Node, Fields, Piece, Items, wideBytes, mapOf, count}
+use Rattle.tree.specs.Tree.{Node, Fields, wideBytes, count}
 use Rattle.tree.specs.Tree.Node.{node}
-use Rattle.lowering.specs.Parts.{is, kind, numberAt, pieceIn}
-use Rattle.lowering.specs.Walk.{Note, Walked, WalkedFields, WalkedPiece, WalkedItems}
+use Rattle.lowering.specs.Parts.{is, numberAt, pieceIn}
+use Rattle.lowering.specs.Walk.{Walked, WalkedFields, WalkedPiece, WalkedItems}
 use Rattle.lowering.specs.Walk.Walked.{noted}
 use Rattle.lowering.specs.Collect.{Name, nameOf, nameAt, over, newIn, newInPiece, isContainer, marked, markOf, bare, bareFields, barePiece, bareItems, nodes, nodesFields, nodesPiece, nodesItems, uses, maskFrom, helperMask}
 use Rattle.lowering.proofs.Cases.{by-test}
@@ -22,7 +22,7 @@ use Rattle.sink.proofs.Firsts.{namesIn}
 use Rattle.sink.proofs.Joined.{helper-joined}
 use Rattle.direct.specs.Events.{cell, later, numberIn, countIn, mapIn}
 use Rattle.outcome.specs.Named.{Act, puts, handsOut, marks, written, named, namedFields, namedPiece, namedItems, plains, tokens, tokensFields, tokensPiece, tokensItems}
-use Rattle.outcome.proofs.Tokens.{Aside, hands-aside, append-assoc, IsTemporary, IsHelper, Formed, FormedFields, FormedPiece, FormedItems}
+use Rattle.outcome.proofs.Tokens.{Aside, hands-aside, IsTemporary, IsHelper, Formed, FormedFields, FormedPiece, FormedItems}
 use Rattle.outcome.proofs.Listed.{over-append}
 
 -- ---- names
@@ -93,10 +93,6 @@ mutual
       ∙ sym (names-joined (tokens (bare k w)) (tokensItems (bareItems (k + newIn w) is)))
 
 -- ---- helpers
-
-or-assoc : (a b c : Bool) → (a || b) || c ≡ a || (b || c)
-or-assoc true b c = refl
-or-assoc false b c = refl
 
 uses-append : (h : ℕ) (ns ms : List Node) → uses h (ns ++ ms) ≡ uses h ns || uses h ms
 unfolding uses

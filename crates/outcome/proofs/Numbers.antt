@@ -1,17 +1,15 @@
 -- Numbers by first appearance: those that the machine gives are those of the definition, for the names of the tree.
 -- Assumes nothing.
 use mathlib.Core.Path.{_≡_, refl, sym, ap, ap₂, _∙_, subst}
-use mathlib.Core.Bool.{Bool, true, false, cond, _&&_, _||_}
+use mathlib.Core.Bool.{cond}
 use mathlib.Core.List.{List, [], _∷_, _++_}
-use Prim.Native.Nat.{ℕ, zero, suc, _+_, _*_, _/_, _%_, _<_, _≤_}
-use native.Mathlib.Omega.{arith}
+use Prim.Native.Nat.{ℕ, suc, _+_, _*_, _/_, _%_}
 use lib.Dec.{eqb}
-use lib.ListN.{length, length-append}
-use borrow.Author.Tests.{eqb-true}
+use lib.ListN.{length}
 use Rattle.tree.specs.Tree.{Node, Fields, Piece, Items, wideBytes, mapOf, count, encode, encodeFields, encodePiece, encodeItems}
 use Rattle.tree.specs.Tree.Node.{node}
-use Rattle.lowering.specs.Parts.{is, numberAt, pieceIn, kind}
-use Rattle.lowering.specs.Collect.{Name, Entry, nameOf, nameAt, same, except, distinct, numberIn, over, nodes, nodesFields, nodesPiece, nodesItems, listNodes, namesOf, withNumber, numbered, numberedFields, numberedPiece, numberedItems}
+use Rattle.lowering.specs.Parts.{is}
+use Rattle.lowering.specs.Collect.{Name, same, except, distinct, numberIn, withNumber, numbered, numberedFields, numberedPiece, numberedItems}
 use Rattle.lowering.proofs.Cases.{by-test}
 use Rattle.lowering.proofs.Appearance.{same-is}
 use Rattle.sink.specs.Shown.{Token, place, noted, order, shown}
@@ -20,8 +18,6 @@ use Rattle.sink.proofs.Names.{place-noted, order-kept}
 use Rattle.sink.proofs.Firsts
 use Rattle.sink.proofs.Firsts.{namesIn, number-is}
 use Rattle.outcome.specs.Named.{plains, tokens, tokensFields, tokensPiece, tokensItems}
-use Rattle.outcome.proofs.Tokens.{append-assoc, append-none}
-use Rattle.outcome.proofs.Listed.{over-append}
 use Rattle.outcome.proofs.Scope.{self}
 
 -- ---- bytes of a row, each name by its number

@@ -2,20 +2,19 @@
 -- what the node might make.
 -- Assumes nothing.
 use mathlib.Core.Path.{_≡_, refl, sym, ap, ap₂, _∙_, subst}
-use mathlib.Core.Bool.{Bool, true, false, cond, not, _&&_, _||_, false≢true, true≢false}
-use mathlib.Core.List.{List, [], _∷_}
-use Prim.Native.Nat.{ℕ, zero, suc, _+_, _*_, _≤_, _<_}
+use mathlib.Core.Bool.{Bool, true, false, cond, _&&_, _||_, false≢true, true≢false}
+use mathlib.Core.List.{List}
+use Prim.Native.Nat.{ℕ, zero, suc, _+_, _≤_, _<_}
 use native.Mathlib.Omega.{arith}
 use lib.Dec.{eqb}
-use lib.ListN.{getD}
 use borrow.Author.Tests.{eqb-true}
 use Rattle.tree.specs.Tree.{Node, Fields, Piece, Items, depth, depthFields}
 use Rattle.tree.specs.Tree.Node.{node}
-use Rattle.lowering.specs.Parts.{nothing, position, kind, is, pieceIn, standsIn, changeIn, dropIn, asNode, asItems, nodeAt, itemsAt, textAt, numberAt, stands, change, onNode, onItems, changeNode, changeItems, without, only, each, gather, any, _+++_}
-use Rattle.lowering.specs.Made.{Context, temporary, reference, valueOf, keyOf, excludedOf, helper, call, S, X, E, W, K, object, array, sequence, member, assign, string, declares, declared, idOf, letOf, varOf, assigning, returning, block, functionBody}
-use Rattle.lowering.specs.Patterns.{Shape, shape, withProperties, properties, itemsOf, rest, hasRest, leftOf, key, value, withValues, hasNestedObjectRest, hasObjectRest, hasArrayRestOverObjectRest, replaced, objectsWithRest, replacedBelow, objectsBelow}
+use Rattle.lowering.specs.Parts.{nothing, position, kind, is, pieceIn, standsIn, changeIn, asNode, asItems, nodeAt, itemsAt, numberAt, stands, change, onNode, onItems, changeNode, changeItems, only, each, gather, any, _+++_}
+use Rattle.lowering.specs.Made.{Context, temporary, reference, valueOf, keyOf, S, X, E, W, object, array, sequence, assign, declares, declared, idOf, letOf, varOf, assigning, returning, block, functionBody}
+use Rattle.lowering.specs.Patterns.{shape, withProperties, properties, itemsOf, rest, hasRest, leftOf, key, value, withValues, hasNestedObjectRest, hasObjectRest, hasArrayRestOverObjectRest, replaced, objectsWithRest, replacedBelow, objectsBelow}
 use Rattle.lowering.specs.Patterns.Shape.{objectPattern, arrayPattern, default, leaf}
-use Rattle.lowering.specs.Keys.{keySort, keptKey, excludedKey, excludedKeys, keyTemporary, keyTemporaries, allPrimitive, taken}
+use Rattle.lowering.specs.Keys.{keySort, keptKey, excludedKeys, keyTemporary, keyTemporaries, allPrimitive, taken}
 use Rattle.lowering.specs.Rests.{hasNoProperties, mapped, isHoisted, keysRead, restValue, excludedFor, restMakes}
 use Rattle.lowering.specs.Literals.{Call, opened, closed, scan, literal}
 use Rattle.lowering.specs.Declarations.{isName, source, sourceDeclarator, keysBefore, patternDeclarator, restDeclarator, nested, nestedBelow, objectDeclarators, patternDeclarators, lowerDeclarator, innerObjects, declaratorMakes, isLowered, declarators, declaration, declarationMakes, declarationLacksForm}
@@ -24,21 +23,22 @@ use Rattle.lowering.specs.Assignments.{isTop, target, assigned, restsOf, topLac
 use Rattle.lowering.specs.Heads.{isMoved, moved, movedFrom, movedPattern, movedOut, leftBehind, inFront, inBody, asFunctionBody, asBlock, references, function, functionMakes, arrow, arrowMakes, catch, catchMakes, declaringHead, declaringMakes, assigningHead, assigningMakes}
 use Rattle.lowering.specs.Walk.{Rule, ruleOf, rewrite, stepDeclaration, stepTop, stepAssignment, stepFor}
 use Rattle.lowering.specs.Walk.Rule.{literals, declarations, assignments, functions, arrows, catches, fors, nowhere}
-use Rattle.lowering.proofs.All.{AllItems, AllPiece, AllFields, Each, all-append, all-gather, all-each, all-unit, weaker-items, weaker-piece, weaker-fields, other-changed}
-use Rattle.lowering.proofs.Cases.{by-test, by-shape, by-key, by-rule, and-left, and-right, and-none, object-is, array-is, default-is, is-changed, functionBody-is, block-is}
-use Rattle.lowering.specs.Collect.{Name}
+use Rattle.lowering.proofs.All.{AllItems, AllPiece, AllFields, Each, all-append, all-gather, all-each, weaker-items, other-changed, none-passes}
+use Rattle.lowering.proofs.Cases.{by-test, by-shape, by-key, by-rule, and-left, and-none, object-is, array-is, default-is, is-changed, functionBody-is, block-is}
 use Rattle.lowering.proofs.Sites.{here, hereItems}
-use Rattle.lowering.proofs.Made.{each-append}
-use Rattle.lowering.proofs.Clauses.{objects-object, objects-array, objects-default}
-use Rattle.lowering.proofs.Occurs.{position-kept}
+use Rattle.lowering.proofs.Clauses.{objects-object, objects-array, objects-default, without-object, taken-none, inner-object, inner-array, has-leaf, lowered-rest, top-34, top-rest, top-rest as top-rest′}
 use Rattle.direct.specs.Events.{cell, cellOf}
 use Rattle.outcome.proofs.Makes.{number, number-append, number-none, inCell}
-use Rattle.outcome.proofs.Good.{NoParts, Leaf, Is35, NotDefault, Good, GoodItems, GoodObject, to-all, from-all, node-good, items-good, properties-35, rest-leaf, first-simple, values-good, objects-good, rests-good, replaced-view, movedOut-view, IsHelping}
+use Rattle.outcome.proofs.Good.{NoParts, Leaf, NotDefault, Good, GoodItems, GoodObject, to-all, node-good, items-good, properties-35, rest-leaf, first-simple, values-good, rests-good, movedOut-view, named-parts}
 use Rattle.outcome.proofs.GoodRules.{below-good}
-use Rattle.outcome.proofs.Scope.{IsNamed}
-use Rattle.outcome.proofs.Stays.{stands-changed, values-rest, objects-top, below-object, below-leaf, leaf-34}
-use Rattle.outcome.proofs.Potential.{isPattern, gone, slot, slotMoved, slotValue, slotTop, slots, slotValues, odd, odds, head, heads, headCatch, headFor, aliens, resting, declaring, own, pot, potFields, potPiece, potItems, inner, pot-34, pot-35, pot-36, pot-37, pot-14, pot-17, pot-10, pot-7, pot-8, pot-27, pot-5, pot-4, inner-in, piece-in, two-pieces, as-node, as-items, node-in, items-in, node-and-node, items-and-node, pot-append, only-pot, none-pot, nothing-pot, temporary-pot, each-item, each-piece, each-field, each-part, node-exchange, items-exchange, node-exchange-in}
-use Rattle.outcome.proofs.PotViews.{items-changed, node-other, items-other, node-changed, node-changed-in, gone-in, slot-nothing, properties-are, slot-temporary, slot-changed, slot-34, whole, wholes, wholes-append, Sum, nil, nil-sum, nil-is, wholes-sum, object-sum, objects-sum, targets-sum, taken-sum, taken-none, excludedKeys-pot, restings, restings-append, restings-none, only-restings, none-wholes, only-wholes, rests-left, rests-pot, rests-beside, Beside, moves, moves-append, moves-none, moved-sum, resting-same}
+use Rattle.outcome.proofs.Stays.{values-rest, objects-top, temporary-leaf, values-top, leaf-top}
+use Rattle.outcome.proofs.Potential.{isPattern, gone, slot, slotMoved, slotValue, slotTop, slots, slotValues, odds, head, heads, headCatch, headFor, aliens, resting, declaring, own, pot, potFields, potPiece, potItems, inner, pot-34, pot-14, pot-17, pot-10, pot-7, pot-8, pot-27, pot-5, pot-4, inner-in, piece-in, two-pieces, as-node, as-items, node-in, items-in, node-and-node, items-and-node, pot-append, only-pot, none-pot, nothing-pot, temporary-pot, each-item, node-exchange, items-exchange, node-exchange-in}
+use Rattle.outcome.proofs.PotViews.{node-changed, node-changed-in, gone-in, slot-nothing, slot-temporary, slot-changed, slot-34, whole, wholes, wholes-append, nil, nil-sum, nil-is, wholes-sum, object-sum, objects-sum, targets-sum, taken-sum, excludedKeys-pot, restings, restings-append, restings-none, only-restings, none-wholes, only-wholes, rests-left, rests-pot, rests-beside, Beside, moves, moves-append, moves-none, moved-sum, left-less}
+use Rattle.lowering.proofs.ItemLaws.{each-append}
+use Rattle.lowering.proofs.ChangeLaws.{stands-changed, stands-without, items-changed}
+use Rattle.lowering.proofs.Levels.{below-object, below-leaf}
+use Rattle.lowering.proofs.SiteViews.{only-here, none-here}
+use Rattle.direct.proofs.MovedMade.{from-kept}
 
 -- ---- what is made in a cell
 
@@ -57,16 +57,6 @@ cell-3 at = refl
 cell-4 : (at : ℕ) → cell 4 at ≡ at
 unfolding cell
 cell-4 at = omega arith
-
--- a test over a list
-no-any : (f : Node → Bool) (is : Items) → any f is ≡ false → AllItems (λ n. f n ≡ false) is
-unfolding any
-no-any f Items.none h = tt
-no-any f (Items.hole is) h = no-any f is h
-no-any f (Items.item n is) h =
-    by-test (f n)
-    (λ e. let z : true ≡ false = rw e at h in absurd (true≢false z))
-    (λ e. let z : any f is ≡ false = rw e at h in (e, no-any f is z))
 
 pattern-shape : (p : Node) → isPattern p ≡ false → Leaf p
 unfolding isPattern shape is
@@ -88,65 +78,19 @@ leaf-pattern p h = go (eqb (kind p) 34) (eqb (kind p) 36) (eqb (kind p) 37) h
     go false false true e = let z : _≡_ {A = ℕ} 0 1 = cc in absurd (omega arith)
     go false false false e = refl
 
-no-rest-leaf : (d : ℕ) (p : Node) → Leaf p → hasNestedObjectRest d p ≡ false
-unfolding hasNestedObjectRest
-no-rest-leaf zero p e = refl
-no-rest-leaf (suc d) p e = rw (e, hasNestedObjectRest) refl
-
 -- a pattern with an object rest below is one
 rest-pattern : (p : Node) → hasObjectRest p ≡ true → isPattern p ≡ true
 rest-pattern p h =
-    by-test (isPattern p) (λ e. e) (λ e. absurd (false≢true (sym (no-rest-leaf (depth p) p (pattern-shape p e)) ∙ h)))
+    by-test (isPattern p) (λ e. e) (λ e. absurd (false≢true (sym (has-leaf (depth p) p (pattern-shape p e)) ∙ h)))
 
 temporary-name : (path : List ℕ) (stem at : ℕ) → isName (temporary path stem at) ≡ true
 unfolding isName is
 temporary-name path stem at = refl
 
-call-name : (f : Node) (xs : Items) → isName (call f xs) ≡ false
-unfolding isName is
-call-name f xs = refl
-
-named-none : (fs : Fields) → IsNamed fs → NoParts fs
-named-none fs h = subst NoParts (sym (h .whole)) (tt, (tt, tt))
-
-temporary-leaf′ : (path : List ℕ) (stem at : ℕ) → Leaf (temporary path stem at)
-unfolding shape
-temporary-leaf′ path stem at = refl
-
--- any name
-nobody : Name
-nobody = record { path = []; stem = 0; place = 0 }
-
-values-top : (f : Node → Node) (p : Node) → is 34 p ≡ true → hasRest p ≡ true → isTop (withValues f p) ≡ true
-unfolding isTop
-values-top f p e r = rw (is-changed 0 (onItems (each (λ q. changeNode 1 f q))) p 34 ∙ e) (values-rest f p ∙ r)
-
-no-stand-in : (fs : Fields) → standsIn (dropIn fs 1) 1 ≡ false
-unfolding dropIn standsIn
-no-stand-in Fields.done = refl
-no-stand-in (Fields.absent Fields.done) = refl
-no-stand-in (Fields.absent (Fields.absent fs)) = refl
-no-stand-in (Fields.absent (Fields.field p fs)) = refl
-no-stand-in (Fields.field q Fields.done) = refl
-no-stand-in (Fields.field q (Fields.absent fs)) = refl
-no-stand-in (Fields.field q (Fields.field p fs)) = refl
-
-no-stand : (n : Node) → stands 1 (without 1 n) ≡ false
-unfolding without stands
-no-stand (node at k fs) = no-stand-in fs
-
-top-has : (p : Node) → isTop p ≡ true → hasRest p ≡ true
-unfolding isTop
-top-has p t = and-right (is 34 p) (hasRest p) t
-
 -- what is left of a target with rest has none
 taken-rest : (c : Context) (p : Node) → hasRest p ≡ true → hasRest (taken c p) ≡ false
 unfolding taken
-taken-rest c p r = rw r (no-stand (withProperties (keptKey c) p))
-
-left-object : (c : Context) (d : ℕ) (p : Node) → shape p ≡ objectPattern → withoutRests c (suc d) p ≡ taken c (withValues (λ v. withoutRests c d v) p)
-unfolding withoutRests
-left-object c d p e = rw (e, withoutRests)
+taken-rest c p r = rw r (stands-without 1 (withProperties (keptKey c) p))
 
 top-shape : (p : Node) → isTop p ≡ true → shape p ≡ objectPattern
 unfolding isTop shape is
@@ -157,7 +101,7 @@ unfolding depth
 left-rest c (node at k fs) t =
     let p = node at k fs in
     let d = depthFields fs in
-    ap hasRest (left-object c d p (top-shape p t)) ∙ taken-rest c (withValues (λ v. withoutRests c d v) p) (values-rest (λ v. withoutRests c d v) p ∙ top-has p t)
+    ap hasRest (without-object c d p (top-shape p t)) ∙ taken-rest c (withValues (λ v. withoutRests c d v) p) (values-rest (λ v. withoutRests c d v) p ∙ top-rest p t)
 
 stands-kept : (i : ℕ) (f : Piece → Piece) (n : Node) → stands 1 (change i f n) ≡ stands 1 n
 unfolding stands change
@@ -188,10 +132,6 @@ replaced-top c (suc d) p h =
 moved-is : (q : Node) → isMoved q ≡ true → movedFrom q ≡ moved (depth (nodeAt 0 q)) (nodeAt 0 q)
 unfolding movedFrom
 moved-is q e = rw e refl
-
-moved-not : (q : Node) → isMoved q ≡ false → movedFrom q ≡ Items.none
-unfolding movedFrom
-moved-not q e = rw e refl
 
 kind-changed : (i : ℕ) (f : Piece → Piece) (n : Node) → eqb (kind (change i f n)) 16 || eqb (kind (change i f n)) 2 ≡ eqb (kind n) 16 || eqb (kind n) 2
 unfolding change
@@ -262,7 +202,7 @@ module _ (x : ℕ) where
       (λ t.
       let u : eqb k 20 ≡ true = rw t at n in
       let z : k ≡ 20 = eqb-true k 20 u in
-      let y = parts-none fs (named-none fs (g .0 .temporary u)) in
+      let y = parts-none fs (named-parts fs (g .0 .temporary u)) in
       ap (λ (m : ℕ). own x at m fs + potFields x fs) z ∙ omega arith)
 
   slot-value-leaf : (p : Node) → Leaf p → slotValue x p ≡ 0
@@ -281,19 +221,7 @@ module _ (x : ℕ) where
   unfolding slotTop
   slot-top-not p e = rw e refl
 
-  leaf-top : (p : Node) → Leaf p → isTop p ≡ false
-  unfolding isTop
-  leaf-top p e = rw (leaf-34 p e) refl
-
   -- ---- nodes that the rules make
-
-  call-pot : (f : Node) (xs : Items) → pot x (call f xs) ≡ pot x f + potItems x xs
-  unfolding pot own
-  call-pot f xs = omega arith
-
-  helper-pot : (h : ℕ) → pot x (helper h) ≡ 0
-  unfolding pot own
-  helper-pot h = refl
 
   object-pot : (ps : Items) → pot x (object ps) ≡ potItems x ps
   unfolding pot own
@@ -600,7 +528,7 @@ module _ (x : ℕ) where
         (λ e. rw (e, keyTemporary, AllItems) tt)
         (λ e. rw (e, keyTemporary, AllItems) tt)
         (λ e. rw (e, keyTemporary, AllItems)
-        (let d = declares-leaf (keyOf c q) (key q) (temporary-leaf′ (c .path) 4 (position q)) in let t = temporary-pot x (c .path) 4 (position q) in (omega arith, tt)))
+        (let d = declares-leaf (keyOf c q) (key q) (temporary-leaf (c .path) 4 (position q)) in let t = temporary-pot x (c .path) 4 (position q) in (omega arith, tt)))
 
     keysBefore-fit : (o : Node) → is 34 o ≡ true → hasRest o ≡ true → AllItems (Fit (taking o) (pot x o)) (keysBefore c o)
     unfolding keysBefore keyTemporaries
@@ -649,25 +577,8 @@ module _ (x : ℕ) where
     cost-append : (is js : Items) → cost (is +++ js) ≡ cost is + cost js
     cost-append is js = let a = here-append is js in let b = restings-append x c is js in omega arith
 
-    here-none : hereItems x Items.none ≡ 0
-    unfolding hereItems
-    here-none = refl
-
-    here-only : (n : Node) → hereItems x (only n) ≡ here x (position n)
-    unfolding hereItems
-    here-only n = omega arith
-
     cost-none : cost Items.none ≡ 0
-    cost-none = let a = here-none in let b = restings-none x c in omega arith
-
-    -- an object with rest has more than it costs
-    top-34 : (o : Node) → isTop o ≡ true → is 34 o ≡ true
-    unfolding isTop
-    top-34 o e = and-left (is 34 o) (hasRest o) e
-
-    top-rest′ : (o : Node) → isTop o ≡ true → hasRest o ≡ true
-    unfolding isTop
-    top-rest′ o e = and-right (is 34 o) (hasRest o) e
+    cost-none = let a = none-here x in let b = restings-none x c in omega arith
 
     whole-cost : (o : Node) → isTop o ≡ true → here x (position o) + here x (position o + 2) + pot x o ≡ whole x o
     whole-cost o t = let s = slot-34 x o (top-34 o t) in omega arith
@@ -713,7 +624,7 @@ module _ (x : ℕ) where
     own-costs : (o s : Node) → isTop o ≡ true → Good o → isName s ≡ true → pot x s ≡ 0 → AllItems (Costs (only o)) (Declarations.own c o s)
     own-costs o s t g n z =
         let w = whole-cost o t in
-        let a = here-only o in
+        let a = only-here x o in
         let b = only-restings x c o in
         let d = only-wholes x o in
         weaker-items (Fit (taking o) (pot x o)) (Costs (only o)) (λ m k. omega arith) (Declarations.own c o s) (own-fit o s (top-34 o t) g (top-rest′ o t) n z)
@@ -767,14 +678,6 @@ module _ (x : ℕ) where
       makes : wanted p ≤ pot x p
       leaves : AllItems (Fit (wanted p) (pot x p)) (patternDeclarators c p s)
 
-    inner-object : (p : Node) → shape p ≡ objectPattern → innerObjects c p ≡ gather (λ q. objectsBelow c (value q)) (properties p)
-    unfolding innerObjects
-    inner-object p e = rw (e, innerObjects)
-
-    inner-array : (p : Node) → shape p ≡ arrayPattern → innerObjects c p ≡ objectsBelow c p
-    unfolding innerObjects
-    inner-array p e = rw (e, innerObjects)
-
     inner-leaf : (p : Node) → shape p ≡ leaf → innerObjects c p ≡ Items.none
     unfolding innerObjects
     inner-leaf p e = rw (e, innerObjects)
@@ -787,7 +690,7 @@ module _ (x : ℕ) where
     unfolding patternDeclarators
     array-apart p s e g n z =
         let os = objectsBelow c p in
-        let u = ap (λ (ys : Items). number (inCell x) (each (λ o. reference c o) ys)) (inner-array p e) ∙ refs-number os in
+        let u = ap (λ (ys : Items). number (inCell x) (each (λ o. reference c o) ys)) (inner-array c p e) ∙ refs-number os in
         let v = rests-number os in
         let t = targets-sum x c (depth p) p (not-top p (array-is p e)) g in
         let l = objects-cost (depth p) p in
@@ -827,7 +730,7 @@ module _ (x : ℕ) where
         by-test (hasNoProperties q)
         (λ e. rw (e, AllItems) tt)
         (λ e. rw (e, AllItems)
-        (let t = ap (pot x) (taken-none x c q r) in let d = declares-name (taken c q) s n in (omega arith, tt)))
+        (let t = ap (pot x) (taken-none c q r) in let d = declares-name (taken c q) s n in (omega arith, tt)))
 
     object-apart : (p s : Node) → shape p ≡ objectPattern → Good p → isName s ≡ true → pot x s ≡ 0 → Apart p s
     unfolding patternDeclarators objectDeclarators
@@ -838,7 +741,7 @@ module _ (x : ℕ) where
         let e34 = object-is p e in
         let q34 : is 34 q ≡ true = is-changed 0 (onItems (each (λ r. changeNode 1 (λ v. replacedBelow c v) r))) p 34 ∙ e34 in
         let qg = below-good c p g in
-        let u = ap (λ (ys : Items). number (inCell x) (each (λ o. reference c o) ys)) (inner-object p e) ∙ refs-number found in
+        let u = ap (λ (ys : Items). number (inCell x) (each (λ o. reference c o) ys)) (inner-object c p e) ∙ refs-number found in
         let b = below-sum p e34 g in
         let l = gather-cost (λ r. objectsBelow c (value r)) (λ r. objects-cost (depth (value r)) (value r)) (properties p) in
         let inside = below-fit p g in
@@ -883,7 +786,7 @@ module _ (x : ℕ) where
     unfolding patternDeclarators
     leaf-apart p s e =
         let u = ap (λ (ys : Items). number (inCell x) (each (λ o. reference c o) ys)) (inner-leaf p e) ∙ refs-number Items.none in
-        let h = here-none in
+        let h = none-here x in
         let v = ap (λ (ys : Items). number (inCell x) (gather (restMakes c) ys)) (below-leaf c p e) in
         let w = rests-number Items.none in
         let y = restings-none x c in
@@ -921,7 +824,7 @@ module _ (x : ℕ) where
         by-test (isName init)
         (λ e. rw (e, AllItems) tt)
         (λ e. rw (e, AllItems)
-        (let d = declares-leaf (valueOf c p) init (temporary-leaf′ (c .path) 3 (position p)) in let t = temporary-pot x (c .path) 3 (position p) in (omega arith, tt)))
+        (let d = declares-leaf (valueOf c p) init (temporary-leaf (c .path) 3 (position p)) in let t = temporary-pot x (c .path) 3 (position p) in (omega arith, tt)))
 
     -- what a declarator of a declaration makes
     abbrev madeBy : Node → Items
@@ -934,10 +837,6 @@ module _ (x : ℕ) where
     lowered-stands : (d : Node) → isLowered d ≡ true → stands 1 d ≡ true
     unfolding isLowered
     lowered-stands d e = and-left (stands 1 d) (hasObjectRest (nodeAt 0 d)) e
-
-    lowered-rest : (d : Node) → isLowered d ≡ true → hasObjectRest (nodeAt 0 d) ≡ true
-    unfolding isLowered
-    lowered-rest d e = and-right (stands 1 d) (hasObjectRest (nodeAt 0 d)) e
 
     declaring-is : (d : Node) → stands 1 d ≡ true → declaring x (stands 1 d) (nodeAt 0 d) (nodeAt 1 d) ≡ cond (isName (nodeAt 1 d)) 0 (slotValue x (nodeAt 0 d))
     unfolding declaring
@@ -1108,7 +1007,7 @@ module _ (x : ℕ) where
         let r = rests-pot x c (depth p) p pg in
         let l = rests-left x c (depth p) p pg in
         let a0 = assign-pot v (assigned n) in
-        let s0 = slot-top-not v (leaf-top v (temporary-leaf′ (c .path) 3 (position p))) in
+        let s0 = slot-top-not v (leaf-top v (temporary-leaf (c .path) 3 (position p))) in
         let a1 = assign-pot (targetLeft c n) v in
         let s1 = slot-top-not (targetLeft c n) (without-top n t) in
         let made = number (inCell x) (topMakes c n) in (
@@ -1265,7 +1164,7 @@ module _ (x : ℕ) where
     movedOut-value (suc d) p =
         let f : Node → Node = λ v. movedOut c d v in
         by-shape (shape p)
-        (λ e. rw (e, movedOut) (let z = slot-value-leaf (reference c p) (temporary-leaf′ (c .path) 1 (position p)) in omega arith))
+        (λ e. rw (e, movedOut) (let z = slot-value-leaf (reference c p) (temporary-leaf (c .path) 1 (position p)) in omega arith))
         (λ e. rw (e, movedOut) (let a = value-changed 1 (onNode f) (changeItems 0 (each f) p) in let b = value-changed 0 (onItems (each f)) p in omega arith))
         (λ e. rw (e, movedOut) (let a = value-changed 0 (onNode (λ l. reference c p)) p in omega arith))
         (λ e. rw (e, movedOut) (omega arith))
@@ -1295,12 +1194,6 @@ module _ (x : ℕ) where
     same-less : (a : ℕ) → a ≤ a
     same-less a = omega arith
 
-    gone-less : (h : ℕ) (b d : Bool) → (b ≡ true → d ≡ true) → cond d 0 h ≤ cond b 0 h
-    gone-less h true true f = omega arith
-    gone-less h true false f = absurd (false≢true (f refl))
-    gone-less h false true f = omega arith
-    gone-less h false false f = omega arith
-
     declaring-less : (s : Bool) (n m v : Node) → slotValue x m ≤ slotValue x n → declaring x s m v ≤ declaring x s n v
     unfolding declaring
     declaring-less s n m v h = cond-less s (cond (isName v) 0 (slotValue x n)) 0 (cond (isName v) 0 (slotValue x m)) 0 (λ e. cond-less (isName v) 0 (slotValue x n) 0 (slotValue x m) (λ f. omega arith) (λ f. h)) (λ e. omega arith)
@@ -1309,7 +1202,7 @@ module _ (x : ℕ) where
         → ownOf at k i0 s1 m n1 i2 i3 ≤ ownOf at k i0 s1 n n1 i2 i3
     unfolding ownOf
     own-less at k i0 s1 n m n1 i2 i3 z a b d =
-        let g = gone-less (here x at) (gone n) (gone m) b in
+        let g = left-less (here x at) (gone n) (gone m) b in
         let e = declaring-less s1 n m n1 d in
         cond-less (eqb k 34) _ _ _ _ (λ h. same-less _)
         (λ h. cond-less (eqb k 36) _ _ _ _ (λ h. same-less _)
@@ -1417,7 +1310,7 @@ module _ (x : ℕ) where
         let y = any-exchange q l in
         rw e (omega arith))
         (λ e.
-        let m = ap (moves x c) (moved-not q e) in
+        let m = ap (moves x c) (from-kept q e) in
         let z = moves-none x c in
         rw e (omega arith))
 
@@ -1560,13 +1453,13 @@ module _ (x : ℕ) where
     -- where nothing is moved nothing is made
     none-moved : (qs : Items) → AllItems (λ q. isMoved q ≡ false) qs → hereItems x (gather movedFrom qs) ≡ 0
     unfolding gather
-    none-moved Items.none h = here-none
+    none-moved Items.none h = none-here x
     none-moved (Items.hole qs) h = none-moved qs h
     none-moved (Items.item q qs) h =
         let a = here-append (movedFrom q) (gather movedFrom qs) in
-        let b = ap (hereItems x) (moved-not q (h .0)) in
+        let b = ap (hereItems x) (from-kept q (h .0)) in
         let d = none-moved qs (h .1) in
-        let z = here-none in
+        let z = none-here x in
         omega arith
 
     references-number : (ps : Items) → number (inCell x) (references c ps) ≡ hereItems x ps
@@ -1587,7 +1480,7 @@ module _ (x : ℕ) where
         by-test (stands 5 n)
         (λ e.
         let u : any isMoved (itemsAt 3 n) ≡ false = rw e at h in
-        rw e (let r = references-number (gather movedFrom (itemsAt 3 n)) in let m = none-moved (itemsAt 3 n) (no-any isMoved (itemsAt 3 n) u) in omega arith))
+        rw e (let r = references-number (gather movedFrom (itemsAt 3 n)) in let m = none-moved (itemsAt 3 n) (none-passes isMoved (itemsAt 3 n) u) in omega arith))
         (λ e. rw e (number-none (inCell x)))
 
     function-spent : (n : Node) → is 14 n ≡ true → Good n → pot x n ≤ 1 → Spent n (functionMakes c n) (function c n)
@@ -1617,7 +1510,7 @@ module _ (x : ℕ) where
 
     arrow-quiet : (n : Node) → any isMoved (itemsAt 0 n) ≡ false → number (inCell x) (arrowMakes c n) ≡ 0
     unfolding arrowMakes
-    arrow-quiet n h = let r = references-number (gather movedFrom (itemsAt 0 n)) in let m = none-moved (itemsAt 0 n) (no-any isMoved (itemsAt 0 n) h) in omega arith
+    arrow-quiet n h = let r = references-number (gather movedFrom (itemsAt 0 n)) in let m = none-moved (itemsAt 0 n) (none-passes isMoved (itemsAt 0 n) h) in omega arith
 
     arrow-number : (n : Node) → number (inCell x) (arrowMakes c n) ≡ hereItems x (gather movedFrom (itemsAt 0 n))
     unfolding arrowMakes
@@ -1694,7 +1587,7 @@ module _ (x : ℕ) where
               (fit-piece made (pot x n) (onNode (λ v. inBody c ps (asBlock v)) (pieceIn fs 1)) (omega arith)),
         ))
         (λ f. rw (f, Each)
-        (let v = ap (hereItems x) (moved-not q f) in let o = here-none in (omega arith, fit-fields made (pot x n) fs (omega arith)))))
+        (let v = ap (hereItems x) (from-kept q f) in let o = none-here x in (omega arith, fit-fields made (pot x n) fs (omega arith)))))
 
     -- ---- the heads of 7 and 8
 
@@ -1769,7 +1662,7 @@ module _ (x : ℕ) where
               (fit-piece made (pot x n) (onNode (λ y. inBody c ps (asBlock y)) (pieceIn fs 3)) (omega arith)),
         ))
         (λ z. rw (z, Each)
-        (let q = none-moved ds (no-any isMoved ds z) in (omega arith, fit-fields made (pot x n) fs (omega arith))))
+        (let q = none-moved ds (none-passes isMoved ds z) in (omega arith, fit-fields made (pot x n) fs (omega arith))))
 
     -- left is a target
     first-block : (t b : Node) → pot x (changeItems 1 (Items.item t) (asBlock b)) ≤ pot x b + pot x t

@@ -2,52 +2,30 @@
 -- Assumes nothing.
 use mathlib.Core.Path.{_≡_, refl, sym, ap, ap₂, _∙_, subst}
 use mathlib.Core.Bool.{Bool, true, false, cond, _&&_, false≢true}
-use mathlib.Core.List.{List, []}
+use mathlib.Core.List.{List}
 use Prim.Native.Nat.{ℕ, zero, suc, _+_, _≤_}
 use native.Mathlib.Omega.{arith}
 use lib.Dec.{eqb}
 use borrow.Author.Tests.{eqb-true}
 use Rattle.tree.specs.Tree.{Node, Fields, Piece, Items}
 use Rattle.tree.specs.Tree.Node.{node}
-use Rattle.lowering.specs.Parts.{nothing, position, kind, is, pieceIn, standsIn, changeIn, dropIn, asNode, asItems, nodeAt, itemsAt, textAt, stands, change, onNode, onItems, changeNode, changeItems, without, only, each, gather, _+++_}
+use Rattle.lowering.specs.Parts.{nothing, position, is, pieceIn, changeIn, dropIn, asNode, asItems, nodeAt, itemsAt, textAt, stands, change, onNode, onItems, changeNode, without, only, each, gather, _+++_}
 use Rattle.lowering.specs.Made.{Context, temporary, reference, keyOf, string}
 use Rattle.lowering.specs.Patterns.{shape, properties, itemsOf, rest, hasRest, leftOf, key, value, withLeft, withItems, withRest, withProperties, withValues, replaced, objectsWithRest}
 use Rattle.lowering.specs.Patterns.Shape.{objectPattern, arrayPattern, default, leaf}
 use Rattle.lowering.specs.Keys.{keySort, excludedKey, excludedKeys, keptKey, taken}
 use Rattle.lowering.specs.Assignments.{isTop, restsThroughObjects, withoutRests}
 use Rattle.lowering.specs.Heads.{moved, movedPattern, movedOut}
-use Rattle.lowering.specs.Collect.{Name}
 use Rattle.lowering.proofs.All.{AllItems, all-append, weaker-items, other-changed}
 use Rattle.lowering.proofs.Cases.{by-test, by-shape, by-key, object-is, array-is, default-is, is-changed}
 use Rattle.lowering.proofs.Sites.{here, hereItems}
-use Rattle.lowering.proofs.Clauses.{objects-object, objects-array, objects-default}
-use Rattle.lowering.proofs.Occurs.{position-kept}
-use Rattle.outcome.proofs.Good.{Leaf, Is35, Good, GoodItems, to-all, node-good, items-good, properties-35, replaced-view}
-use Rattle.outcome.proofs.Stays.{values-rest, objects-zero, objects-leaf}
+use Rattle.lowering.proofs.Clauses.{objects-object, objects-array, objects-default, objects-leaf, replaced-object, replaced-array, replaced-default, without-object, without-array, without-default, without-leaf, taken-none, rests-object, rests-array, rests-default, rests-leaf}
+use Rattle.outcome.proofs.Good.{Leaf, Is35, Good, GoodItems, to-all, node-good, items-good, properties-35, replaced-view, without-fixes}
+use Rattle.outcome.proofs.Stays.{values-rest, objects-zero}
 use Rattle.outcome.proofs.Potential.{gone, slot, slotMoved, slots, slotValues, odd, odds, resting, own, pot, potItems, pot-34, pot-35, pot-36, pot-37, inner-in, node-in, items-in, node-and-node, items-and-node, pot-append, only-pot, none-pot, temporary-pot, node-exchange, items-exchange, drop-exchange, odds-append, odds-none, only-odds, moved-less}
+use Rattle.lowering.proofs.ChangeLaws.{position-changed, is-without, items-without, stands-without, items-changed}
 
 -- ---- accessors of changed nodes
-
-items-changed-piece : (f : Node → Node) (p : Piece) → asItems (onItems (each f) p) ≡ each f (asItems p)
-unfolding onItems each
-items-changed-piece f (Piece.one n) = refl
-items-changed-piece f (Piece.list is) = refl
-items-changed-piece f (Piece.text bs) = refl
-items-changed-piece f (Piece.byte b) = refl
-items-changed-piece f (Piece.mark b) = refl
-items-changed-piece f (Piece.number b) = refl
-
-items-changed-in : (f : Node → Node) (fs : Fields) (i : ℕ) → asItems (pieceIn (changeIn fs i (onItems (each f))) i) ≡ each f (asItems (pieceIn fs i))
-unfolding changeIn pieceIn each
-items-changed-in f Fields.done i = refl
-items-changed-in f (Fields.absent fs) zero = refl
-items-changed-in f (Fields.absent fs) (suc i) = items-changed-in f fs i
-items-changed-in f (Fields.field p fs) zero = items-changed-piece f p
-items-changed-in f (Fields.field p fs) (suc i) = items-changed-in f fs i
-
-pub items-changed : (i : ℕ) (f : Node → Node) (n : Node) → itemsAt i (changeItems i (each f) n) ≡ each f (itemsAt i n)
-unfolding itemsAt change
-items-changed i f (node at k fs) = items-changed-in f fs i
 
 pub node-other : (i j : ℕ) → (i ≡ j → ⊥) → (g : Piece → Piece) (n : Node) → nodeAt j (change i g n) ≡ nodeAt j n
 unfolding nodeAt change
@@ -142,24 +120,11 @@ dropped-items Fields.done = refl
 dropped-items (Fields.absent fs) = refl
 dropped-items (Fields.field p fs) = refl
 
-dropped-stands : (fs : Fields) → standsIn (dropIn fs 1) 1 ≡ false
-unfolding dropIn standsIn
-dropped-stands Fields.done = refl
-dropped-stands (Fields.absent Fields.done) = refl
-dropped-stands (Fields.absent (Fields.absent fs)) = refl
-dropped-stands (Fields.absent (Fields.field p fs)) = refl
-dropped-stands (Fields.field q Fields.done) = refl
-dropped-stands (Fields.field q (Fields.absent fs)) = refl
-dropped-stands (Fields.field q (Fields.field p fs)) = refl
-
-left-less : (h : ℕ) (b d : Bool) → (b ≡ true → d ≡ true) → cond d 0 h ≤ cond b 0 h
+pub left-less : (h : ℕ) (b d : Bool) → (b ≡ true → d ≡ true) → cond d 0 h ≤ cond b 0 h
 left-less h true true f = omega arith
 left-less h true false f = absurd (false≢true (f refl))
 left-less h false true f = omega arith
 left-less h false false f = omega arith
-
-name : Name
-name = record { path = []; stem = 0; place = 0 }
 
 -- a good property
 abbrev Property : Node → Type 0
@@ -289,8 +254,8 @@ module _ (x : ℕ) where
         let a = pot-34 x p e in
         let b = pot-34 x p′ (is-changed 0 (onItems (each F)) p 34 ∙ e) in
         let i = ap (slotValues x) (items-changed 0 F p) in
-        let r = resting-same (position p′) (position p) (stands 1 p′) (stands 1 p) (itemsAt 0 p′) (itemsAt 0 p) (position-kept 0 (onItems (each F)) p) (values-rest f p)
-        (ap (hereItems x) (items-changed 0 F p) ∙ here-each F (λ q. position-kept 1 (onNode f) q) (itemsAt 0 p)) in
+        let r = resting-same (position p′) (position p) (stands 1 p′) (stands 1 p) (itemsAt 0 p′) (itemsAt 0 p) (position-changed 0 (onItems (each F)) p) (values-rest f p)
+        (ap (hereItems x) (items-changed 0 F p) ∙ here-each F (λ q. position-changed 1 (onNode f) q) (itemsAt 0 p)) in
         let t = items-exchange x 0 (each F) p in
         omega arith
 
@@ -315,7 +280,7 @@ module _ (x : ℕ) where
         let b = pot-37 x p′ (is-changed 0 (onNode f) p 37 ∙ e) in
         let n = node-changed (slot x) slot-nothing 0 f p in
         let t = node-exchange x 0 f p in
-        let c = ap (λ (m : ℕ). cond (gone (nodeAt 0 p′)) 0 (here x m)) (position-kept 0 (onNode f) p) in
+        let c = ap (λ (m : ℕ). cond (gone (nodeAt 0 p′)) 0 (here x m)) (position-changed 0 (onNode f) p) in
         let d = left-less (here x (position p)) (gone (nodeAt 0 p)) (gone (nodeAt 0 p′)) (λ z. stays-gone f v 0 p z) in
         omega arith
 
@@ -324,18 +289,6 @@ module _ (x : ℕ) where
     reference-whole p = let a = slot-temporary (c .path) 1 (position p) in let b = temporary-pot x (c .path) 1 (position p) in omega arith
 
     -- ---- replaced
-
-    replaced-object : (d : ℕ) (p : Node) → shape p ≡ objectPattern → replaced c (suc d) p ≡ cond (hasRest p) (reference c p) (withValues (λ v. replaced c d v) p)
-    unfolding replaced
-    replaced-object d p e = rw (e, replaced)
-
-    replaced-array : (d : ℕ) (p : Node) → shape p ≡ arrayPattern → replaced c (suc d) p ≡ withItems (λ v. replaced c d v) p
-    unfolding replaced
-    replaced-array d p e = rw (e, replaced)
-
-    replaced-default : (d : ℕ) (p : Node) → shape p ≡ default → replaced c (suc d) p ≡ withLeft (λ v. replaced c d v) p
-    unfolding replaced
-    replaced-default d p e = rw (e, replaced)
 
     pub objects-sum : (d : ℕ) (p : Node) → Good p → wholes (objectsWithRest c d p) + whole (replaced c d p) ≤ whole p
     unfolding replaced
@@ -352,7 +305,7 @@ module _ (x : ℕ) where
         let s = object-sum wholes nil wholes-sum nil-sum h f together p (object-is p e) g in
         let z = nil-is (gather (λ q. h (value q)) (properties p)) in
         let i = ap wholes (objects-object c d p e) in
-        let j = ap whole (replaced-object d p e) in
+        let j = ap whole (replaced-object c d p e) in
         let k = slot-changed 0 (onItems (each (λ q. changeNode 1 f q))) p in
         by-test (hasRest p)
         (λ r.
@@ -371,14 +324,14 @@ module _ (x : ℕ) where
         let s = array-sum wholes nil wholes-sum nil-sum h f together p (array-is p e) g in
         let z = nil-is (gather h (itemsOf p)) in
         let i = ap wholes (objects-array c d p e) in
-        let j = ap whole (replaced-array d p e) in
+        let j = ap whole (replaced-array c d p e) in
         let k = slot-changed 0 (onItems (each f)) p in
         omega arith)
         (λ e.
         let s = default-sum wholes nil wholes-sum nil-sum h f together (replaced-view c d .fixes) p (default-is p e) g in
         let z = nil-is (h (leftOf p)) in
         let i = ap wholes (objects-default c d p e) in
-        let j = ap whole (replaced-default d p e) in
+        let j = ap whole (replaced-default c d p e) in
         let k = slot-changed 0 (onNode f) p in
         omega arith)
         (λ e.
@@ -395,9 +348,9 @@ module _ (x : ℕ) where
         by-shape (shape p)
         (λ e.
         let r : hasRest p ≡ false = top-rest p (object-is p e) t in
-        ap (slot x) (replaced-object d p e) ∙ rw r (slot-changed 0 (onItems (each (λ q. changeNode 1 f q))) p))
-        (λ e. ap (slot x) (replaced-array d p e) ∙ slot-changed 0 (onItems (each f)) p)
-        (λ e. ap (slot x) (replaced-default d p e) ∙ slot-changed 0 (onNode f) p)
+        ap (slot x) (replaced-object c d p e) ∙ rw r (slot-changed 0 (onItems (each (λ q. changeNode 1 f q))) p))
+        (λ e. ap (slot x) (replaced-array c d p e) ∙ slot-changed 0 (onItems (each f)) p)
+        (λ e. ap (slot x) (replaced-default c d p e) ∙ slot-changed 0 (onNode f) p)
         (λ e. ap (slot x) (replaced-view c (suc d) .fixes p e))
 
     pub targets-sum : (d : ℕ) (p : Node) → isTop p ≡ false → Good p → wholes (objectsWithRest c d p) + pot x (replaced c d p) ≤ pot x p
@@ -456,18 +409,6 @@ module _ (x : ℕ) where
     kept-each (Items.item q is) h =
         let a = keptKey-pot q (h .0) in let b = ap (slot x) (keptKey-value q) in let r = kept-each is (h .1) in omega arith
 
-    without-items : (n : Node) → itemsAt 0 (without 1 n) ≡ itemsAt 0 n
-    unfolding without itemsAt
-    without-items (node at k fs) = dropped-items fs
-
-    without-rest : (n : Node) → stands 1 (without 1 n) ≡ false
-    unfolding without stands
-    without-rest (node at k fs) = dropped-stands fs
-
-    without-is : (n : Node) (j : ℕ) → is j (without 1 n) ≡ is j n
-    unfolding without is
-    without-is (node at k fs) j = refl
-
     no-rest : (at : ℕ) (r : Bool) (ps : Items) → r ≡ false → resting x at r ps ≡ 0
     unfolding resting
     no-rest at r ps e = rw e refl
@@ -482,19 +423,15 @@ module _ (x : ℕ) where
         let n = without 1 q in
         let e′ : is 34 q ≡ true = is-changed 0 (onItems (each (keptKey c))) p 34 ∙ e in
         let a = pot-34 x p e in
-        let b = pot-34 x n (without-is q 34 ∙ e′) in
-        let z = no-rest (position n) (stands 1 n) (itemsAt 0 n) (without-rest q) in
+        let b = pot-34 x n (is-without q 34 ∙ e′) in
+        let z = no-rest (position n) (stands 1 n) (itemsAt 0 n) (stands-without 1 q) in
         let y : resting x (position p) (stands 1 p) (itemsAt 0 p) ≡ resting x (position p) true (itemsAt 0 p) = ap (λ (u : Bool). resting x (position p) u (itemsAt 0 p)) r in
-        let i = ap (slotValues x) (without-items q ∙ items-changed 0 (keptKey c) p) in
+        let i = ap (slotValues x) (items-without q ∙ items-changed 0 (keptKey c) p) in
         let k = kept-each (properties p) h in
         let t = items-exchange x 0 (each (keptKey c)) p in
         let d = drop-exchange x q in
         let m = ap (pot x) (node-other 0 1 (λ w. omega arith) (onItems (each (keptKey c))) p) in
         omega arith)
-
-    pub taken-none : (p : Node) → hasRest p ≡ false → taken c p ≡ p
-    unfolding taken
-    taken-none p r = rw r
 
     -- ---- rests reached through objects
 
@@ -520,46 +457,9 @@ module _ (x : ℕ) where
     restings-sum : Sum restings
     restings-sum = record { none = restings-none; append = restings-append }
 
-    rests-object : (d : ℕ) (p : Node) → shape p ≡ objectPattern → restsThroughObjects (suc d) p ≡ gather (λ q. restsThroughObjects d (value q)) (properties p) +++ cond (hasRest p) (only p) Items.none
-    unfolding restsThroughObjects
-    rests-object d p e = rw (e, restsThroughObjects)
-
-    rests-array : (d : ℕ) (p : Node) → shape p ≡ arrayPattern → restsThroughObjects (suc d) p ≡ Items.none
-    unfolding restsThroughObjects
-    rests-array d p e = rw (e, restsThroughObjects)
-
-    rests-default : (d : ℕ) (p : Node) → shape p ≡ default → restsThroughObjects (suc d) p ≡ restsThroughObjects d (leftOf p)
-    unfolding restsThroughObjects
-    rests-default d p e = rw (e, restsThroughObjects)
-
-    rests-leaf : (d : ℕ) (p : Node) → shape p ≡ leaf → restsThroughObjects (suc d) p ≡ Items.none
-    unfolding restsThroughObjects
-    rests-leaf d p e = rw (e, restsThroughObjects)
-
     rests-zero : (p : Node) → restsThroughObjects 0 p ≡ Items.none
     unfolding restsThroughObjects
     rests-zero p = refl
-
-    without-object : (d : ℕ) (p : Node) → shape p ≡ objectPattern → withoutRests c (suc d) p ≡ taken c (withValues (λ v. withoutRests c d v) p)
-    unfolding withoutRests
-    without-object d p e = rw (e, withoutRests)
-
-    without-array : (d : ℕ) (p : Node) → shape p ≡ arrayPattern → withoutRests c (suc d) p ≡ p
-    unfolding withoutRests
-    without-array d p e = rw (e, withoutRests)
-
-    without-default : (d : ℕ) (p : Node) → shape p ≡ default → withoutRests c (suc d) p ≡ withLeft (λ v. withoutRests c d v) p
-    unfolding withoutRests
-    without-default d p e = rw (e, withoutRests)
-
-    without-leaf : (d : ℕ) (p : Node) → shape p ≡ leaf → withoutRests c (suc d) p ≡ p
-    unfolding withoutRests
-    without-leaf d p e = rw (e, withoutRests)
-
-    without-fixes : (d : ℕ) (p : Node) → Leaf p → withoutRests c d p ≡ p
-    unfolding withoutRests
-    without-fixes zero p l = refl
-    without-fixes (suc d) p l = without-leaf d p l
 
     slot-without : (n : Node) → slot x (without 1 n) ≡ slot x n
     unfolding slot is without
@@ -593,7 +493,7 @@ module _ (x : ℕ) where
         let s = object-sum restings nil restings-sum nil-sum h f together p (object-is p e) g in
         let z = nil-is inside in
         let i = ap restings (rests-object d p e) in
-        let j = ap whole (without-object d p e) in
+        let j = ap whole (without-object c d p e) in
         let k = slot-changed 0 (onItems (each (λ q. changeNode 1 f q))) p in
         let t = slot-taken p′ in
         let e′ : is 34 p′ ≡ true = is-changed 0 (onItems (each (λ q. changeNode 1 f q))) p 34 ∙ object-is p e in
@@ -603,23 +503,23 @@ module _ (x : ℕ) where
         let a = restings-append inside (only p) in
         let o = only-restings p in
         let m = taken-sum p′ e′ (subst (AllItems Is35) (sym (items-changed 0 (λ q. changeNode 1 f q) p)) (values-properties f (properties p) (properties-35 p (object-is p e) g))) (values-rest f p ∙ r) in
-        let q = resting-same (position p′) (position p) true true (properties p′) (properties p) (position-kept 0 (onItems (each (λ m. changeNode 1 f m))) p) refl
-        (ap (hereItems x) (items-changed 0 (λ m. changeNode 1 f m) p) ∙ here-each (λ m. changeNode 1 f m) (λ m. position-kept 1 (onNode f) m) (itemsAt 0 p)) in
+        let q = resting-same (position p′) (position p) true true (properties p′) (properties p) (position-changed 0 (onItems (each (λ m. changeNode 1 f m))) p) refl
+        (ap (hereItems x) (items-changed 0 (λ m. changeNode 1 f m) p) ∙ here-each (λ m. changeNode 1 f m) (λ m. position-changed 1 (onNode f) m) (itemsAt 0 p)) in
         omega arith)
         (λ r.
         let i′ : restings (restsThroughObjects (suc d) p) ≡ restings (inside +++ Items.none) = rw r at i in
         let a = restings-append inside Items.none in
-        let m = ap (pot x) (taken-none p′ (values-rest f p ∙ r)) in
+        let m = ap (pot x) (taken-none c p′ (values-rest f p ∙ r)) in
         omega arith))
-        (λ e. let i = ap restings (rests-array d p e) in let j = ap whole (without-array d p e) in omega arith)
+        (λ e. let i = ap restings (rests-array d p e) in let j = ap whole (without-array c d p e) in omega arith)
         (λ e.
-        let s = default-sum restings nil restings-sum nil-sum h f together (without-fixes d) p (default-is p e) g in
+        let s = default-sum restings nil restings-sum nil-sum h f together (without-fixes c d) p (default-is p e) g in
         let z = nil-is (h (leftOf p)) in
         let i = ap restings (rests-default d p e) in
-        let j = ap whole (without-default d p e) in
+        let j = ap whole (without-default c d p e) in
         let k = slot-changed 0 (onNode f) p in
         omega arith)
-        (λ e. let i = ap restings (rests-leaf d p e) in let j = ap whole (without-leaf d p e) in omega arith)
+        (λ e. let i = ap restings (rests-leaf d p e) in let j = ap whole (without-leaf c d p e) in omega arith)
 
     -- what each rest and its keys have beside all that rests may make
     abbrev pub Beside : Items → ℕ → Node → Type 0
@@ -651,10 +551,10 @@ module _ (x : ℕ) where
     slot-rests (suc d) p =
         let f : Node → Node = λ v. withoutRests c d v in
         by-shape (shape p)
-        (λ e. ap (slot x) (without-object d p e) ∙ slot-taken (withValues f p) ∙ slot-changed 0 (onItems (each (λ q. changeNode 1 f q))) p)
-        (λ e. ap (slot x) (without-array d p e))
-        (λ e. ap (slot x) (without-default d p e) ∙ slot-changed 0 (onNode f) p)
-        (λ e. ap (slot x) (without-leaf d p e))
+        (λ e. ap (slot x) (without-object c d p e) ∙ slot-taken (withValues f p) ∙ slot-changed 0 (onItems (each (λ q. changeNode 1 f q))) p)
+        (λ e. ap (slot x) (without-array c d p e))
+        (λ e. ap (slot x) (without-default c d p e) ∙ slot-changed 0 (onNode f) p)
+        (λ e. ap (slot x) (without-leaf c d p e))
 
     pub rests-left : (d : ℕ) (p : Node) → Good p → restings (restsThroughObjects d p) + pot x (withoutRests c d p) ≤ pot x p
     rests-left d p g = let s = without-sum d p g in let k = slot-rests d p in omega arith
@@ -809,10 +709,6 @@ module _ (x : ℕ) where
         let k = gone-none (gone (nodeAt 0 p′)) (here x (position p′)) (put-gone t f p) in
         let y = node-exchange x 0 (λ l. t) p in
         omega arith
-
-    not-object : (p : Node) → is 37 p ≡ true → is 34 p ≡ false
-    unfolding is
-    not-object p e = let z : kind p ≡ 37 = eqb-true (kind p) 37 e in ap (λ (y : ℕ). eqb y 34) z
 
     -- a pattern and what is moved out of it, with and without its slot
     record Moves (d : ℕ) (p : Node) : Type 0 where

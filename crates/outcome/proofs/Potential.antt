@@ -16,7 +16,7 @@ use Rattle.lowering.specs.Made.{temporary}
 use Rattle.lowering.specs.Assignments.{isTop}
 use Rattle.lowering.specs.Declarations.{isName}
 use Rattle.lowering.specs.Heads.{movedFrom}
-use Rattle.lowering.proofs.All.{AllItems, AllPiece, AllFields, Each}
+use Rattle.lowering.proofs.All.{AllItems}
 use Rattle.lowering.proofs.Cases.{by-test}
 use Rattle.lowering.proofs.Sites.{here, hereItems}
 
@@ -297,25 +297,6 @@ module _ (x : ℕ) where
   each-item b Items.none h = tt
   each-item b (Items.hole is) h = each-item b is h
   each-item b (Items.item n is) h = (omega arith, each-item b is (omega arith))
-
-  pub each-piece : (b : ℕ) (p : Piece) → potPiece p ≤ b → AllPiece (λ m. pot m ≤ b) p
-  unfolding pot
-  each-piece b (Piece.one n) h = h
-  each-piece b (Piece.list is) h = each-item b is h
-  each-piece b (Piece.text bs) h = tt
-  each-piece b (Piece.byte v) h = tt
-  each-piece b (Piece.mark v) h = tt
-  each-piece b (Piece.number v) h = tt
-
-  pub each-field : (b : ℕ) (fs : Fields) → potFields fs ≤ b → AllFields (λ m. pot m ≤ b) fs
-  unfolding pot
-  each-field b Fields.done h = tt
-  each-field b (Fields.absent fs) h = each-field b fs h
-  each-field b (Fields.field p fs) h = (each-piece b p (omega arith), each-field b fs (omega arith))
-
-  pub each-part : (b : ℕ) (n : Node) → inner n ≤ b → Each (λ m. pot m ≤ b) n
-  unfolding inner
-  each-part b (node at k fs) h = each-field b fs h
 
   -- ---- a field changed
 

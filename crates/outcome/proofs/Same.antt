@@ -6,7 +6,7 @@ use mathlib.Core.List.{List, [], _∷_, _++_}
 use Prim.Native.Nat.{ℕ, zero, suc}
 use lib.Dec.{eqb}
 use lib.ListN.{length}
-use Rattle.tree.specs.Tree.{Node, Items, wideBytes, count, encode}
+use Rattle.tree.specs.Tree.{Items, wideBytes, count, encode}
 use Rattle.lowering.specs.Parts.{nodeAt, numberAt, stands, isEmpty}
 use Rattle.lowering.specs.Made.{idOf}
 use Rattle.lowering.specs.Walk.{Note, Walked, WalkedFields, WalkedPiece, WalkedItems}

@@ -1,7 +1,7 @@
 -- Where each Temporary is written, its cell stands for its name: what is made below a node is made in other cells than those of the
 -- temporaries that stand there. Two laws of one rewriting are asked for: of the form of nodes, and of the cells that are still to be made.
 -- Assumes nothing.
-use mathlib.Core.Path.{_≡_, refl, sym, ap, ap₂, _∙_, subst}
+use mathlib.Core.Path.{_≡_, refl, sym, ap, _∙_, subst}
 use mathlib.Core.Bool.{Bool, true, false, cond, _&&_}
 use mathlib.Core.List.{List, [], _∷_, _++_}
 use mathlib.Core.Logic.{_⊎_, ⊎-elim}
@@ -18,19 +18,19 @@ use Rattle.lowering.specs.Made.{Context}
 use Rattle.lowering.specs.Walk.{Note, Walked, WalkedFields, WalkedPiece, WalkedItems, eachItem, eachPiece, eachField, inside, rewrite, within, walk, unchanged}
 use Rattle.lowering.specs.Walk.Walked.{noted}
 use Rattle.lowering.specs.Weight.{weight, walked}
-use Rattle.lowering.specs.Collect.{Name, nameOf, samePath, same, newIn, newInPiece, isContainer, marked, markOf, bare, bareFields, barePiece}
-use Rattle.lowering.proofs.All.{AllItems, AllPiece, AllFields, Each, weaker-items, weaker-piece, weaker-fields}
+use Rattle.lowering.specs.Collect.{Name, nameOf, samePath, same, newIn, newInPiece, isContainer, bare, bareFields}
+use Rattle.lowering.proofs.All.{AllItems, AllPiece, AllFields, Each, weaker-fields}
 use Rattle.lowering.proofs.Cases.{by-test}
 use Rattle.lowering.proofs.Appearance.{same-is}
 use Rattle.lowering.proofs.Made.{times}
-use Rattle.lowering.proofs.Occurs.{occurs, occursFields, occursPiece, occursItems, fields-in, Free}
+use Rattle.lowering.proofs.Occurs.{occurs, occursFields, occursPiece, occursItems, fields-in}
 use Rattle.lowering.proofs.SoundSteps.{rewrite-sound}
 use Rattle.sink.specs.Shown.{Named, namesAfter}
 use Rattle.direct.specs.Events.{cell, cellOf, later, numberIn, countIn, mapIn}
 use Rattle.outcome.specs.Named
 use Rattle.outcome.specs.Named.{Act, puts, entered, excludedKeys, marks, handsOut, written, named, namedFields, namedPiece, namedItems, after}
-use Rattle.outcome.proofs.Tokens.{after-append, puts-after, Scoped, ScopedFields, ScopedPiece, ScopedItems, named-alike, fields-alike, piece-alike, items-alike}
-use Rattle.outcome.proofs.Makes.{makes, number, makes-all, assigned, hands-names, inCell, namedCell, cell-left, cell-made}
+use Rattle.outcome.proofs.Tokens.{after-append, puts-after, Scoped, ScopedFields, ScopedPiece, ScopedItems, fields-alike, items-alike}
+use Rattle.outcome.proofs.Makes.{makes, number, makes-all, hands-names, inCell, namedCell, cell-left, cell-made, named-less}
 
 -- ---- names and cells
 
@@ -66,18 +66,6 @@ named-there a (Items.item t ts) =
     go : (b : Bool) → number (namedCell (cellAt a) a) ts ≡ times a ts → cond (b && false) 1 0 + number (namedCell (cellAt a) a) ts ≡ 0 + times a ts
     go true h = ap (λ (x : ℕ). 0 + x) h
     go false h = ap (λ (x : ℕ). 0 + x) h
-
--- what is made with the name is made in its cell
-pub named-less : (x : ℕ) (a : Name) (ts : Items) → number (namedCell x a) ts ≤ number (inCell x) ts
-unfolding number
-named-less x a Items.none = omega arith
-named-less x a (Items.hole ts) = named-less x a ts
-named-less x a (Items.item t ts) = go (eqb x (cellOf t)) (same a (nameOf t)) (named-less x a ts)
-  where
-    go : (b d : Bool) → number (namedCell x a) ts ≤ number (inCell x) ts → cond (b && d) 1 0 + number (namedCell x a) ts ≤ cond b 1 0 + number (inCell x) ts
-    go true true h = omega arith
-    go true false h = omega arith
-    go false d h = omega arith
 
 -- ---- what holds at a node
 

@@ -1,39 +1,39 @@
 -- Where nothing is refused, each temporary of the list stands in the tree.
 -- Assumes nothing.
-use mathlib.Core.Path.{_≡_, refl, sym, ap, ap₂, _∙_, subst}
-use mathlib.Core.Bool.{Bool, true, false, cond, not, _&&_, _||_, false≢true, true≢false}
+use mathlib.Core.Path.{_≡_, refl, sym, ap, _∙_, subst}
+use mathlib.Core.Bool.{Bool, true, false, cond, not, _&&_, false≢true, true≢false}
 use mathlib.Core.List.{List, [], _∷_, _++_}
 use mathlib.Core.Logic.{_⊎_, ⊎-elim}
 use mathlib.Core.Logic._⊎_.{inl, inr}
-use Prim.Native.Nat.{ℕ, zero, suc, _+_, _≤_, _<_}
+use Prim.Native.Nat.{ℕ, zero, suc, _+_, _<_}
 use native.Mathlib.Omega.{arith}
 use lib.Dec.{eqb}
-use borrow.Author.Tests.{eqb-true, not-true}
-use Rattle.tree.specs.Tree.{Node, Fields, Piece, Items, depth, depthFields}
+use borrow.Author.Tests.{not-true}
+use Rattle.tree.specs.Tree.{Node, Fields, Piece, Items, depth}
 use Rattle.tree.specs.Tree.Node.{node}
-use Rattle.lowering.specs.Parts.{nothing, position, kind, asItems, is, nodeAt, itemsAt, pieceIn, standsIn, stands, changeIn, change, onItems, onNode, changeNode, changeItems, isEmpty, only, each, gather, any, _+++_}
-use Rattle.lowering.specs.Made.{Context, temporary, reference, valueOf, keyOf, excludedOf, helper, call, W, K, array, sequence, member, assign, declares, declared, idOf}
-use Rattle.lowering.specs.Patterns.{Shape, shape, properties, itemsOf, rest, hasRest, leftOf, key, value, withValues, hasNestedObjectRest, hasNestedArrayRest, hasObjectRest, hasArrayRestOverObjectRest, replaced, objectsWithRest, replacedBelow, objectsBelow}
+use Rattle.lowering.specs.Parts.{nothing, position, kind, asItems, is, nodeAt, itemsAt, pieceIn, stands, changeIn, change, onItems, changeNode, changeItems, isEmpty, only, each, gather, any, _+++_}
+use Rattle.lowering.specs.Made.{Context, temporary, reference, valueOf, keyOf, excludedOf, helper, call, K, array, member, assign, declares, declared, idOf}
+use Rattle.lowering.specs.Patterns.{shape, properties, itemsOf, rest, hasRest, leftOf, key, value, withValues, hasNestedArrayRest, hasObjectRest, hasArrayRestOverObjectRest, replaced, objectsWithRest, replacedBelow, objectsBelow}
 use Rattle.lowering.specs.Patterns.Shape.{objectPattern, arrayPattern, default, leaf}
-use Rattle.lowering.specs.Keys.{Key, keySort, isPrimitive, allPrimitive, excludedKey, excludedKeys, keyTemporary, keyTemporaries}
+use Rattle.lowering.specs.Keys.{keySort, isPrimitive, allPrimitive, excludedKey, excludedKeys, keyTemporary, keyTemporaries}
 use Rattle.lowering.specs.Rests.{hasNoProperties, mapped, isHoisted, keysRead, restValue, excludedFor}
-use Rattle.lowering.specs.Declarations.{isName, source, sourceDeclarator, keysBefore, patternDeclarator, restDeclarator, own, nested, nestedBelow, objectDeclarators, patternDeclarators, lowerDeclarator, isLowered, loweredIn, declarators, declaration, declarationExcludes, declarationLacksForm}
-use Rattle.lowering.specs.Assignments.{isTop, target, assigned, restsOf, topLacksForm, targetLeft, topSequence, topEntry, topExcludes, nestedSequence, nestedEntry}
+use Rattle.lowering.specs.Declarations.{source, sourceDeclarator, keysBefore, patternDeclarator, restDeclarator, own, nested, nestedBelow, objectDeclarators, patternDeclarators, lowerDeclarator, isLowered, loweredIn, declarators, declaration, declarationExcludes, declarationLacksForm}
+use Rattle.lowering.specs.Assignments.{isTop, target, assigned, restsOf, topLacksForm, topSequence, topEntry, topExcludes, nestedSequence, nestedEntry}
 use Rattle.lowering.specs.Walk.{Note, Step, Walked, WalkedFields, WalkedPiece, WalkedItems, eachItem, eachPiece, eachField, inside, ruleOf, rewrite, unchanged, stepDeclaration, stepTop, stepAssignment, stepFor, within}
 use Rattle.lowering.specs.Walk.Rule.{nowhere}
 use Rattle.lowering.specs.Walk.Walked.{noted}
 use Rattle.lowering.specs.Weight.{walked}
 use Rattle.lowering.specs.Collect.{Name, nameOf, same, newIn, newInPiece, bare, bareFields, barePiece, bareItems}
 use Rattle.lowering.proofs.All.{AllItems, all-unit, all-append, all-gather}
-use Rattle.lowering.proofs.Cases.{by-test, by-shape, by-key, by-rule, and-left, and-right, and-none, or-left, or-right, is-changed, object-is, default-is}
+use Rattle.lowering.proofs.Cases.{by-test, by-shape, by-key, by-rule, and-left, and-right, and-none, is-changed, object-is, default-is}
 use Rattle.lowering.proofs.Falls.{walked-is}
-use Rattle.lowering.proofs.Levels.{items-depth, gather-agrees, values-agree, objects-levels, replaced-levels, objects-nothing}
-use Rattle.lowering.proofs.Levels.{node-in as levels-node-in}
-use Rattle.lowering.proofs.Made.{times, times-append, each-append}
+use Rattle.lowering.proofs.Levels.{below-object, below-leaf}
+use Rattle.lowering.proofs.Made.{times, times-append, no-ids}
 use Rattle.lowering.proofs.Occurs.{occurs, occursFields, occursPiece, occursItems}
-use Rattle.lowering.proofs.Clauses.{objects-object, objects-array, objects-default}
-use Rattle.lowering.proofs.Names.{append-assoc}
+use Rattle.lowering.proofs.Clauses.{objects-object, objects-array, objects-default, objects-leaf, has-leaf}
 use Rattle.outcome.proofs.Good.{Leaf, NotDefault, first-simple, Good, GoodObject, rest-leaf, node-good, items-good, to-all, rests-good}
+use Rattle.lowering.proofs.ItemLaws.{each-append, gather-none, gather-append}
+use Rattle.lowering.proofs.ChangeLaws.{stands-changed}
 
 -- ---- no refusal anywhere
 
@@ -145,7 +145,7 @@ some-nonempty P (Items.hole is) h = refl
 some-nonempty P (Items.item n is) h = refl
 
 -- which of a list
-sum-some : (s t : ℕ) → 0 < s + t → (0 < s) ⊎ (0 < t)
+pub sum-some : (s t : ℕ) → 0 < s + t → (0 < s) ⊎ (0 < t)
 sum-some zero t h = inr (omega arith)
 sum-some (suc s) t h = inl (omega arith)
 
@@ -163,7 +163,7 @@ leaf-34 p e = go (eqb (kind p) 34) (eqb (kind p) 36) (eqb (kind p) 37) e
     go true b c e = let z : _≡_ {A = ℕ} 0 1 = cc in absurd (omega arith)
     go false b c e = refl
 
-leaf-top : (p : Node) → Leaf p → isTop p ≡ false
+pub leaf-top : (p : Node) → Leaf p → isTop p ≡ false
 unfolding isTop
 leaf-top p e = rw (leaf-34 p e) refl
 
@@ -171,11 +171,6 @@ leaf-array : (d : ℕ) (p : Node) → Leaf p → hasNestedArrayRest d p ≡ fals
 unfolding hasNestedArrayRest
 leaf-array zero p e = refl
 leaf-array (suc d) p e = rw (e, hasNestedArrayRest) refl
-
-leaf-rest : (d : ℕ) (p : Node) → Leaf p → hasNestedObjectRest d p ≡ false
-unfolding hasNestedObjectRest
-leaf-rest zero p e = refl
-leaf-rest (suc d) p e = rw (e, hasNestedObjectRest) refl
 
 target-of : (l r : Node) → target (assign l r) ≡ l
 unfolding nodeAt pieceIn
@@ -190,7 +185,7 @@ unfolding stepAssignment
 leaf-step c n e =
     rw (leaf-array (depth (target n)) (target n) e, stepAssignment)
     (rw (leaf-top (target n) e)
-    (rw (leaf-rest (depth (target n)) (target n) e) refl))
+    (rw (has-leaf (depth (target n)) (target n) e) refl))
 
 assign-rule : (c : Context) (l r : Node) → rewrite c (assign l r) ≡ stepAssignment c (assign l r)
 unfolding rewrite ruleOf
@@ -199,7 +194,7 @@ assign-rule c l r = refl
 leaf-assigned : (c : Context) (l r : Node) → Leaf l → rewrite c (assign l r) ≡ unchanged (assign l r)
 leaf-assigned c l r e = assign-rule c l r ∙ leaf-step c (assign l r) (subst Leaf (sym (target-of l r)) e)
 
-temporary-leaf : (path : List ℕ) (stem at : ℕ) → Leaf (temporary path stem at)
+pub temporary-leaf : (path : List ℕ) (stem at : ℕ) → Leaf (temporary path stem at)
 unfolding shape
 temporary-leaf path stem at = refl
 
@@ -241,27 +236,6 @@ top-some P c p r t z f =
 
 -- ---- objects with rest
 
-gather-append : (f : Node → Items) (is js : Items) → gather f (is +++ js) ≡ gather f is +++ gather f js
-unfolding gather _+++_
-gather-append f Items.none js = refl
-gather-append f (Items.hole is) js = gather-append f is js
-gather-append f (Items.item n is) js = ap (λ (x : Items). f n +++ x) (gather-append f is js) ∙ sym (append-assoc (f n) (gather f is) (gather f js))
-
-gather-none : (f : Node → Items) → gather f Items.none ≡ Items.none
-unfolding gather
-gather-none f = refl
-
-pub stands-changed : (fs : Fields) (i : ℕ) (g : Piece → Piece) (j : ℕ) → standsIn (changeIn fs i g) j ≡ standsIn fs j
-unfolding standsIn changeIn
-stands-changed Fields.done i g j = refl
-stands-changed (Fields.absent fs) zero g j = refl
-stands-changed (Fields.absent fs) (suc i) g zero = refl
-stands-changed (Fields.absent fs) (suc i) g (suc j) = stands-changed fs i g j
-stands-changed (Fields.field p fs) zero g zero = refl
-stands-changed (Fields.field p fs) zero g (suc j) = refl
-stands-changed (Fields.field p fs) (suc i) g zero = refl
-stands-changed (Fields.field p fs) (suc i) g (suc j) = stands-changed fs i g j
-
 pub values-rest : (f : Node → Node) (p : Node) → hasRest (withValues f p) ≡ hasRest p
 unfolding stands change
 values-rest f (node at k fs) = stands-changed fs 0 (onItems (each (λ q. changeNode 1 f q))) 1
@@ -288,7 +262,7 @@ some-changed : (P : Node → Type 0) (f : Items → Items) → f Items.none ≡ 
 unfolding itemsAt change
 some-changed P f z i (node at k fs) h = some-changed-in P f z fs i h
 
-values-top : (f : Node → Node) (p : Node) → is 34 p ≡ true → hasRest p ≡ true → isTop (withValues f p) ≡ true
+pub values-top : (f : Node → Node) (p : Node) → is 34 p ≡ true → hasRest p ≡ true → isTop (withValues f p) ≡ true
 unfolding isTop
 values-top f p e r = rw (is-changed 0 (onItems (each (λ q. changeNode 1 f q))) p 34 ∙ e) (values-rest f p ∙ r)
 
@@ -296,14 +270,6 @@ module _ (c : Context) where
   pub objects-zero : (p : Node) → objectsWithRest c 0 p ≡ Items.none
   unfolding objectsWithRest
   objects-zero p = refl
-
-  pub objects-leaf : (d : ℕ) (p : Node) → shape p ≡ leaf → objectsWithRest c (suc d) p ≡ Items.none
-  unfolding objectsWithRest
-  objects-leaf d p e = rw (e, objectsWithRest)
-
-  pub below-leaf : (p : Node) → shape p ≡ leaf → objectsBelow c p ≡ Items.none
-  unfolding depth
-  below-leaf (node at k fs) e = objects-leaf (depthFields fs) (node at k fs) e
 
   pub objects-top : (d : ℕ) (p : Node) → AllItems (λ o. isTop o ≡ true) (objectsWithRest c d p)
   unfolding objectsWithRest
@@ -319,23 +285,6 @@ module _ (c : Context) where
       (λ e. rw (e, objectsWithRest, AllItems) (all-gather (λ q. Unit {0}) T (λ q. objectsWithRest c d q) (λ q u. objects-top d q) (itemsOf p) (all-unit (itemsOf p))))
       (λ e. rw (e, objectsWithRest, AllItems) (objects-top d (leftOf p)))
       (λ e. rw (e, objectsWithRest, AllItems) tt)
-
-  -- the objects below an object pattern: those below its values, and itself
-  pub below-object : (p : Node) → shape p ≡ objectPattern
-      → objectsBelow c p ≡ gather (λ q. objectsBelow c (value q)) (properties p) +++ cond (hasRest p) (only (withValues (λ v. replacedBelow c v) p)) Items.none
-  unfolding depth objectsWithRest
-  below-object (node at k fs) e =
-      let p = node at k fs in
-      let d = depthFields fs in
-      let i = items-depth 0 p in
-      objects-object c d p e
-      ∙ ap₂ (λ (x : Items) (y : Node). x +++ cond (hasRest p) (only y) Items.none)
-      (gather-agrees (λ q. objectsWithRest c d (value q)) (λ q. objectsBelow c (value q)) d
-      (λ q l.
-      levels-node-in (λ m. objectsWithRest c d m) (λ m. objectsBelow c m) d (λ m h. objects-levels d m h c)
-      (objects-nothing c d ∙ sym (objects-nothing c (depth nothing))) 1 q (omega arith))
-      (properties p) (omega arith))
-      (values-agree (λ v. replaced c d v) (λ v. replacedBelow c v) d (λ m h. replaced-levels d m h c) p (omega arith))
 
 module _ (a : Name) where
   -- ids of what a function gives
@@ -456,10 +405,6 @@ module _ (a : Name) where
   one-times : (t : Node) → 0 < times a (only t) → same a (nameOf t) ≡ true
   unfolding times
   one-times t h = by-test (same a (nameOf t)) (λ e. e) (λ e. let z : 0 < 0 + 0 = rw e at h in absurd (omega arith))
-
-  no-ids : times a (each idOf Items.none) ≡ 0
-  unfolding each times
-  no-ids = refl
 
   none-left : {A : Type 0} → 0 < times a (each idOf Items.none) → A
   unfolding each times
@@ -591,7 +536,7 @@ module _ (a : Name) where
     excluded-only p h =
         let f = ap (times a) (each-append idOf (excludedFor c p) Items.none) in
         let t = times-append a (each idOf (excludedFor c p)) (each idOf Items.none) in
-        let z = no-ids in
+        let z = no-ids a in
         omega arith
 
     no-excluded : {A : Type 0} → Excluded Items.none → A
@@ -675,14 +620,14 @@ module _ (a : Name) where
     Used s = 0 < times a (each idOf (s .note .entry)) + times a (each idOf (s .note .excluded)) → Some Stays (s .result)
 
     nothing-used : (made : Items) (r : ℕ) (n : Node) → Used (record { note = record { refusal = r; made = made; entry = Items.none; excluded = Items.none }; result = n })
-    nothing-used made r n h = let z = no-ids in absurd (omega arith)
+    nothing-used made r n h = let z = no-ids a in absurd (omega arith)
 
     declarations-used : (n : Node) → Good n → Used (stepDeclaration c n)
     unfolding stepDeclaration
     declarations-used n g =
         by-test (declarationLacksForm c n)
         (λ e. rw (e, stepDeclaration) (nothing-used Items.none 6 nothing))
-        (λ e. rw (e, stepDeclaration) (λ h. let z = no-ids in declaration-used n g (omega arith)))
+        (λ e. rw (e, stepDeclaration) (λ h. let z = no-ids a in declaration-used n g (omega arith)))
 
     tops-used : (n : Node) → Good n → Used (stepTop c n)
     unfolding stepTop
@@ -701,28 +646,28 @@ module _ (a : Name) where
         (λ t. rw t (tops-used n g))
         (λ t. rw t
         (by-test (hasObjectRest (target n))
-        (λ r. rw r (λ h. let z = no-ids in nested-used n (omega arith)))
+        (λ r. rw r (λ h. let z = no-ids a in nested-used n (omega arith)))
         (λ r. rw r (nothing-used Items.none 0 n))))))
 
     fors-used : (n : Node) → Used (stepFor c n)
     unfolding stepFor
     fors-used n =
         by-test (is 4 (nodeAt 1 n))
-        (λ d. rw (d, stepFor) (λ h. let z = no-ids in absurd (omega arith)))
+        (λ d. rw (d, stepFor) (λ h. let z = no-ids a in absurd (omega arith)))
         (λ d. rw (d, stepFor)
         (by-test (hasArrayRestOverObjectRest (nodeAt 1 n))
         (λ e. rw e (nothing-used Items.none 5 nothing))
-        (λ e. rw e (λ h. let z = no-ids in absurd (omega arith)))))
+        (λ e. rw e (λ h. let z = no-ids a in absurd (omega arith)))))
 
     pub rewrite-used : (n : Node) → Good n → Used (rewrite c n)
     unfolding rewrite
     rewrite-used n g =
         by-rule (ruleOf (kind n))
-        (λ e. rw (e, rewrite) (λ h. let z = no-ids in absurd (omega arith)))
+        (λ e. rw (e, rewrite) (λ h. let z = no-ids a in absurd (omega arith)))
         (λ e. rw (e, rewrite) (declarations-used n g))
         (λ e. rw (e, rewrite) (assignments-used n g))
-        (λ e. rw (e, rewrite) (λ h. let z = no-ids in absurd (omega arith)))
-        (λ e. rw (e, rewrite) (λ h. let z = no-ids in absurd (omega arith)))
-        (λ e. rw (e, rewrite) (λ h. let z = no-ids in absurd (omega arith)))
+        (λ e. rw (e, rewrite) (λ h. let z = no-ids a in absurd (omega arith)))
+        (λ e. rw (e, rewrite) (λ h. let z = no-ids a in absurd (omega arith)))
+        (λ e. rw (e, rewrite) (λ h. let z = no-ids a in absurd (omega arith)))
         (λ e. rw (e, rewrite) (fors-used n))
         (λ e. rw (e, rewrite) (nothing-used Items.none 0 n))

@@ -1,19 +1,9 @@
 -- In a formed tree Temporaries and Helpers have no mark in them.
 -- Assumes nothing.
-use mathlib.Core.Path.{_≡_, refl, ap, _∙_}
 use Rattle.lowering.specs.Walk.{Walked, WalkedFields, WalkedPiece, WalkedItems}
 use Rattle.lowering.specs.Walk.Walked.{noted}
-use Rattle.lowering.specs.Collect.{newInFields}
 use Rattle.direct.proofs.Threads.{Tidy, TidyFields, TidyPiece, TidyItems}
-use Rattle.outcome.proofs.Tokens.{IsTemporary, IsHelper, Formed, FormedFields, FormedPiece, FormedItems}
-
-temporary-none : (fs : WalkedFields) → IsTemporary fs → newInFields fs ≡ 0
-unfolding newInFields
-temporary-none fs h = ap newInFields (h .whole)
-
-helper-none : (fs : WalkedFields) → IsHelper fs → newInFields fs ≡ 0
-unfolding newInFields
-helper-none fs h = ap newInFields (h .whole)
+use Rattle.outcome.proofs.Tokens.{Formed, FormedFields, FormedPiece, FormedItems, temporary-none, helper-none}
 
 mutual
   pub formed-tidy : (w : Walked) → Formed w → Tidy w

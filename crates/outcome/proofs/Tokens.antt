@@ -402,15 +402,15 @@ tokens-node : (at k : ℕ) (fs : Fields) → eqb k 20 ≡ false → tokens (node
 unfolding tokens plains
 tokens-node at k fs e = rw e refl
 
+pub temporary-none : (fs : WalkedFields) → IsTemporary fs → newInFields fs ≡ 0
+unfolding newInFields
+temporary-none fs h = ap newInFields (h .whole)
+
+pub helper-none : (fs : WalkedFields) → IsHelper fs → newInFields fs ≡ 0
+unfolding newInFields
+helper-none fs h = ap newInFields (h .whole)
+
 module _ (at k′ : ℕ) (fs : WalkedFields) where
-  temporary-new : IsTemporary fs → newInFields fs ≡ 0
-  unfolding newIn
-  temporary-new h = ap newInFields (h .whole)
-
-  helper-new : IsHelper fs → newInFields fs ≡ 0
-  unfolding newIn
-  helper-new h = ap newInFields (h .whole)
-
   temporary-name : (k : ℕ) → IsTemporary fs → nameOf (node at k′ (bareFields 0 fs)) ≡ nameOf (node at k′ (bareFields k fs))
   unfolding bare
   temporary-name k h =
@@ -433,13 +433,13 @@ module _ (at k′ : ℕ) (fs : WalkedFields) where
       by-test (eqb k′ 20)
       (λ e. rw e
       (writes-to names k k (k + newInFields fs) (Named.temporary (cell (numberIn fs) at) ∷ []) (temp (nameOf (node at k′ (bareFields k fs))) ∷ []) (tokens (node at k′ (bareFields k fs)))
-      (let z = temporary-new (f e) in omega arith) (tokens-20 e)
+      (let z = temporary-none fs (f e) in omega arith) (tokens-20 e)
       (temporary-writes names k (cell (numberIn fs) at) (nameOf (node at k′ (bareFields k fs))) (s e ∙ temporary-name k (f e)))))
       (λ e. rw e
       (by-test (eqb k′ 21)
       (λ d. rw d
       (writes-to names k k (k + newInFields fs) (Named.helper (numberIn fs) ∷ []) (plain 21 ∷ plain 1 ∷ plain (numberIn fs) ∷ []) (tokens (node at k′ (bareFields k fs)))
-      (let z = helper-new (g d) in omega arith) (helper-tokens k e d (g d))
+      (let z = helper-none fs (g d) in omega arith) (helper-tokens k e d (g d))
       (helper-writes names k (numberIn fs))))
       (λ d. rw d
       (writes-to names k (k + newInFields fs) (k + newInFields fs) (puts (k′ ∷ mapIn fs ∷ []) ++ es) (plains (k′ ∷ mapIn fs ∷ []) ++ tokensFields (bareFields k fs)) (tokens (node at k′ (bareFields k fs)))

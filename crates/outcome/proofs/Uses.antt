@@ -1,33 +1,31 @@
 -- The names of the list are names of the tree.
 -- Assumes nothing.
-use mathlib.Core.Path.{_≡_, refl, sym, ap, ap₂, _∙_, subst}
-use mathlib.Core.Bool.{Bool, true, false, cond, _&&_, false≢true}
+use mathlib.Core.Path.{_≡_, refl, sym, ap, _∙_, subst}
+use mathlib.Core.Bool.{Bool, cond, false≢true}
 use mathlib.Core.List.{List, [], _∷_, _++_}
 use mathlib.Core.Logic.{_⊎_, ⊎-elim}
-use mathlib.Core.Logic._⊎_.{inl, inr}
+use mathlib.Core.Logic._⊎_.{inl}
 use Prim.Native.Nat.{ℕ, zero, suc, _+_, _≤_, _<_}
 use native.Mathlib.Omega.{arith}
 use lib.Dec.{eqb}
-use lib.ListN.{length}
-use borrow.Author.Tests.{eqb-true, ne-eqb}
-use Rattle.tree.specs.Tree.{Node, Fields, Piece, Items, wideBytes, mapOf, count, encode}
+use borrow.Author.Tests.{eqb-true}
+use Rattle.tree.specs.Tree.{Node, Fields, Piece, Items, wideBytes, count, encode}
 use Rattle.tree.specs.Tree.Node.{node}
-use Rattle.lowering.specs.Parts.{nodeAt, pieceIn, isEmpty, each, _+++_}
+use Rattle.lowering.specs.Parts.{nodeAt, pieceIn, isEmpty, each}
 use Rattle.lowering.specs.Made.{Context, temporary, declares, declared, idOf}
 use Rattle.lowering.specs.Walk.{Note, Walked, WalkedFields, WalkedPiece, WalkedItems, eachItem, eachPiece, eachField, inside, rewrite, within}
 use Rattle.lowering.specs.Walk.Walked.{noted}
 use Rattle.lowering.specs.Weight.{weight, walked}
-use Rattle.lowering.specs.Collect.{Name, nameOf, same, Visit, Entry, over, entryAt, entries, excludedIn, newIn, newInPiece, isContainer, marked, markOf, bare, bareFields, barePiece, bareItems, visits, visitsFields, visitsPiece, visitsItems, firstRefusal}
+use Rattle.lowering.specs.Collect.{Name, nameOf, same, Visit, over, entryAt, entries, excludedIn, newIn, newInPiece, isContainer, marked, markOf, bare, bareFields, barePiece, bareItems, visits, visitsFields, visitsPiece, visitsItems, firstRefusal}
 use Rattle.lowering.proofs.All.{AllItems, AllPiece, AllFields, Each}
 use Rattle.lowering.proofs.Notes.{AllNotes}
 use Rattle.lowering.proofs.Cases.{by-test}
 use Rattle.lowering.proofs.Weights.{weight-pos}
 use Rattle.lowering.proofs.Falls.{falls, walked-is}
-use Rattle.lowering.proofs.Made.{times, times-append, each-append}
+use Rattle.lowering.proofs.Made.{times, times-append, no-ids}
 use Rattle.lowering.proofs.Appearance.{same-is}
 use Rattle.lowering.proofs.Occurs.{occurs, occursFields, occursPiece, occursItems}
 use Rattle.sink.specs.Shown.{Token}
-use Rattle.sink.specs.Shown.Token.{plain, temp}
 use Rattle.sink.proofs.Firsts.{namesIn}
 use Rattle.outcome.specs.Named.{plains, tokens, tokensFields, tokensPiece, tokensItems}
 use Rattle.outcome.proofs.Tokens.{append-none, IsTemporary, Formed, FormedFields, FormedPiece, FormedItems}
@@ -35,15 +33,12 @@ use Rattle.outcome.proofs.Listed.{over-append}
 use Rattle.outcome.proofs.Scope.{self, both-each}
 use Rattle.outcome.proofs.Good.{Pure, Good, parts}
 use Rattle.outcome.proofs.GoodRules.{rewrite-good}
-use Rattle.outcome.proofs.Handed.{Hands, Declares, Valued, Unvalued, Full, full-append, full-weaker, pure-tokens}
+use Rattle.outcome.proofs.Handed.{Hands, Declares, Valued, Full, full-append, full-weaker, pure-tokens}
 use Rattle.outcome.proofs.Numbers.{Every, every-append, In, in-left, in-right}
 use Rattle.outcome.proofs.Nodes.{names-joined, plains-names}
 use Rattle.outcome.proofs.Lists.{machineEntry}
-use Rattle.outcome.proofs.Stays.{Calm, CalmFields, CalmPiece, CalmItems, stays-result, rewrite-used}
-
-sum-some : (s t : ℕ) → 0 < s + t → (0 < s) ⊎ (0 < t)
-sum-some zero t h = inr (omega arith)
-sum-some (suc s) t h = inl (omega arith)
+use Rattle.outcome.proofs.Stays.{Calm, CalmFields, CalmPiece, CalmItems, stays-result, rewrite-used, sum-some}
+use Rattle.lowering.proofs.ItemLaws.{each-append}
 
 -- ---- no refusal in the visits is none in the walk
 
@@ -267,10 +262,6 @@ declares-names d h =
 over-first : (v : Visit) (vs : List Visit) → over entryAt (v ∷ vs) ≡ entryAt v ++ over entryAt vs
 unfolding over
 over-first v vs = refl
-
-no-ids : (a : Name) → times a (each idOf Items.none) ≡ 0
-unfolding each times
-no-ids a = refl
 
 nothing-every : (P : Name → Type 0) → Every P (namesIn (over machineEntry (over entryAt [])))
 unfolding over namesIn

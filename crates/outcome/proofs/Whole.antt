@@ -36,7 +36,7 @@ use Rattle.outcome.specs.Named.{Act, firstRefused, eventsIn, named, plai
 use Rattle.outcome.proofs.Tidy.{formed-tidy}
 use Rattle.outcome.proofs.Refusals.{Leafy, first-refusal}
 use Rattle.outcome.proofs.Same.{named-same}
-use Rattle.outcome.proofs.Tokens.{Formed, FormedFields, FormedPiece, FormedItems, IsTemporary, formed-leafy, tree-writes}
+use Rattle.outcome.proofs.Tokens.{Formed, FormedFields, FormedPiece, FormedItems, formed-leafy, tree-writes, temporary-none}
 use Rattle.outcome.proofs.Listed.{asides, over-append, hands, named-hands, list-aside, keys-aside, entries-aside, declarators-aside}
 use Rattle.outcome.proofs.Makes.{number, inCell}
 use Rattle.outcome.proofs.Scope.{self, cellAt, walked-scoped}
@@ -47,21 +47,12 @@ use Rattle.outcome.proofs.Handed.{Hands, rewrite-hands, unchanged-hands
 use Rattle.outcome.proofs.Kept.{Held, Walks, walked-keeps}
 use Rattle.outcome.proofs.Numbers.{bytes, Every, every-weaker, bytes-same, shown-bytes, encode-tokens, Placed, all-placed, number-agrees, in-every}
 use Rattle.outcome.proofs.Nodes.{tree-names, tree-mask}
-use Rattle.outcome.proofs.Lists.{Says, machineEntry, visits-say, counts-small, list-bytes, list-length, visits-marks, entries-marks, entries-small}
+use Rattle.outcome.proofs.Lists.{Says, machineEntry, visits-say, counts-small, list-bytes, list-length, visits-marks, entries-marks, entries-small, size-plains}
 use Rattle.outcome.proofs.Uses.{calm, used, walked-used, occurs-in, entries-every, excluded-every}
 use Rattle.outcome.proofs.Cells.{Ok, walked-ok}
 use Rattle.outcome.proofs.Apart.{made-apart}
 
 -- ---- new marks take two bytes each
-
-none-new : (fs : WalkedFields) → IsTemporary fs → newInFields fs ≡ 0
-unfolding newIn
-none-new fs h = ap newInFields (h .whole)
-
-plains-size : (bs : List ℕ) → size (plains bs) ≡ length bs
-unfolding plains
-plains-size [] = refl
-plains-size (b ∷ bs) = let h = plains-size bs in omega arith
 
 mutual
   unfolding newIn bare tokens
@@ -69,7 +60,7 @@ mutual
   marks-size : (k : ℕ) (w : Walked) → Formed w → 2 * newIn w ≤ size (tokens (bare k w))
   marks-size k (noted note at j fs) f =
       by-test (eqb j 20)
-      (λ e. rw e (let z = none-new fs (f .0 e) in omega arith))
+      (λ e. rw e (let z = temporary-none fs (f .0 e) in omega arith))
       (λ e. rw e (let h = fields-size k fs (f .2) in omega arith))
 
   fields-size : (k : ℕ) (fs : WalkedFields) → FormedFields fs → 2 * newInFields fs ≤ size (tokensFields (bareFields k fs))
@@ -87,7 +78,7 @@ mutual
       let b = items-size k is f in let s = size-append (plains (wideBytes (count (bareItems k is)))) (tokensItems (bareItems k is)) in omega arith
   piece-size k (WalkedPiece.text bs) f = omega arith
   piece-size k (WalkedPiece.byte b) f = omega arith
-  piece-size k (WalkedPiece.mark zero) f = let s = plains-size (wideBytes k) in omega arith
+  piece-size k (WalkedPiece.mark zero) f = let s = size-plains (wideBytes k) in omega arith
   piece-size k (WalkedPiece.mark (suc b)) f = omega arith
   piece-size k (WalkedPiece.number b) f = omega arith
 

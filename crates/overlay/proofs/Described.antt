@@ -13,7 +13,7 @@ use Rattle.lowering.specs.Collect.{Name}
 use Rattle.overlay.specs.Objects.{Key, Value, Props, put}
 use Rattle.overlay.specs.Objects.Value.{outer, inner}
 use Rattle.overlay.specs.Objects.Props.{empty, entry}
-use Rattle.overlay.specs.Run.{Step, History, Reply, Outside, Out, then, ask, putEntry, pour, create, take, copy, flags, isComputed, isWritten, makes, callsS, opaque, keyed, defined, run, lay, layAll}
+use Rattle.overlay.specs.Run.{Step, History, Reply, Outside, Out, then, ask, putEntry, pour, create, take, copy, flags, isComputed, isWritten, makes, callsS, keyed, defined, run, lay, layAll}
 use Rattle.overlay.specs.Run.Step.{evaluates, computes, names, converts, lists, reads}
 use Rattle.overlay.specs.Run.Reply.{gives, throws}
 use Rattle.overlay.specs.Run.Out.{ok, threw, beyond, stuck}
@@ -21,10 +21,11 @@ use Rattle.overlay.specs.Run.Entry.{pair}
 use Rattle.overlay.specs.Plain.{free, isObject, isForeign, bare, fineKey, given, plain}
 use Rattle.overlay.specs.Law.{Fair, Moves, Described}
 use Rattle.overlay.specs.Whole.{leaves}
-use Rattle.overlay.proofs.Objects.{by-test, and-right}
+use Rattle.overlay.proofs.Objects.{and-right}
 use Rattle.overlay.proofs.Free.{or-left, or-right, and-no, free-here, free-node}
 use Rattle.overlay.proofs.Plainly.{Opaque, Plain, PlainParts, PlainPart, no-part, next-part, spread, property, propertyOf, plain-rule}
 use Rattle.overlay.proofs.Overlay.{faithful}
+use Rattle.lowering.proofs.Cases.{by-test}
 
 then-moves : {A B : Type 0} (r : Out A) (f : History → A → Out B) → Moves r → ((h : History) (a : A) → Moves (f h a)) → Moves (then r f)
 then-moves (ok h a) f m q = q h a

@@ -24,10 +24,6 @@ pub and-no : (a b : Bool) → b ≡ false → (a && b) ≡ false
 and-no true b e = e
 and-no false b e = refl
 
-pub not-false : (b : Bool) → not b ≡ false → b ≡ true
-not-false true e = refl
-not-false false e = differ e
-
 module _ (bad : Node → Bool) where
   pub free-here : (n : Node) → free bad n ≡ true → bad n ≡ false
   free-here (node at k fs) e = not-true (bad (node at k fs)) (and-left (not (bad (node at k fs))) (freeFields bad fs) e)

@@ -1,7 +1,7 @@
 -- How often a literal stands in a tree, at the places where the rules look. `wanted` says which literal it is. A place that the grammar
 -- does not have is not counted, so that what is said of the count holds of every tree.
 -- Assumes nothing.
-use mathlib.Core.Path.{_≡_, refl, sym, ap, ap₂}
+use mathlib.Core.Path.{_≡_, refl, ap, ap₂}
 use mathlib.Core.Bool.{Bool, true, false, cond, _&&_, _||_, not}
 use Prim.Native.Nat.{ℕ, zero, suc, _+_, _≤_}
 use native.Mathlib.Omega.{arith}
@@ -12,7 +12,7 @@ use Rattle.tree.specs.Tree.Fields.{done, absent, field}
 use Rattle.tree.specs.Tree.Piece.{one, list, text, byte, mark, number}
 use Rattle.tree.specs.Tree.Items.{none, hole, item}
 use Rattle.lowering.specs.Parts.{is, pieceIn, standsIn, changeIn, asNode, asItems, nodeAt, any, _+++_, only}
-use Rattle.overlay.proofs.Objects.{differ}
+use Rattle.tree.proofs.Sound.{never}
 
 -- ---- bodies that take statements in: 16 FunctionBody(directives*? body*), 2 Block(# body*)
 
@@ -56,20 +56,6 @@ hasBody k fs =
 -- names, and 13 Empty(#), have no parts
 unfoldable pub isAtom : ℕ → Bool
 isAtom k = eqb k 13 || (eqb k 18 || eqb k 20)
-
-no-stand : {A : Type 0} → false ≡ true → A
-no-stand e = differ (sym e)
-
-pub stands-changed : (fs : Fields) (i : ℕ) (f : Piece → Piece) (j : ℕ) → standsIn (changeIn fs i f) j ≡ standsIn fs j
-unfolding standsIn changeIn
-stands-changed done i f j = refl
-stands-changed (absent fs) zero f j = refl
-stands-changed (absent fs) (suc i) f zero = refl
-stands-changed (absent fs) (suc i) f (suc j) = stands-changed fs i f j
-stands-changed (field p fs) zero f zero = refl
-stands-changed (field p fs) zero f (suc j) = refl
-stands-changed (field p fs) (suc i) f zero = refl
-stands-changed (field p fs) (suc i) f (suc j) = stands-changed fs i f j
 
 module _ (wanted : Node → Bool) where
   unfoldable mutual
@@ -324,8 +310,8 @@ module _ (wanted : Node → Bool) where
   -- what it adds is at least x
   pub change-more : (fs : Fields) (i : ℕ) (f : Piece → Piece) (x : ℕ) → standsIn fs i ≡ true → heldPiece (pieceIn fs i) + x ≤ heldPiece (f (pieceIn fs i)) → heldAll fs + x ≤ heldAll (changeIn fs i f)
   unfolding held pieceIn changeIn standsIn
-  change-more done i f x s h = no-stand s
-  change-more (absent fs) zero f x s h = no-stand s
+  change-more done i f x s h = never s
+  change-more (absent fs) zero f x s h = never s
   change-more (absent fs) (suc i) f x s h = change-more fs i f x s h
   change-more (field p fs) zero f x s h = omega arith
   change-more (field p fs) (suc i) f x s h = let r = change-more fs i f x s h in omega arith

@@ -14,7 +14,7 @@ use Rattle.tree.specs.Tree.Piece.{one, list, text, byte, mark, number}
 use Rattle.tree.specs.Tree.Items.{none, hole, item}
 use Rattle.lowering.specs.Parts.{is, pieceIn, standsIn, changeIn, dropIn, asNode, asItems, nodeAt, itemsAt, stands, change, onNode, onItems, changeNode, without, only, each, gather, isEmpty, _+++_}
 use Rattle.lowering.specs.Made.{Context, temporary, reference, keyOf, valueOf, declares, letOf}
-use Rattle.lowering.specs.Patterns.{shape, properties, itemsOf, rest, hasRest, leftOf, value, key, withLeft, withItems, withRest, withValues, hasNestedObjectRest, hasObjectRest, replaced, objectsWithRest, replacedBelow}
+use Rattle.lowering.specs.Patterns.{shape, properties, itemsOf, rest, hasRest, leftOf, value, key, withLeft, withItems, withRest, withValues, hasObjectRest, replaced, objectsWithRest, replacedBelow}
 use Rattle.lowering.specs.Patterns.Shape.{leaf}
 use Rattle.lowering.specs.Keys.{Key, keySort, keptKey, keyTemporary, keyTemporaries, taken}
 use Rattle.lowering.specs.Rests.{hasNoProperties, restValue}
@@ -22,8 +22,12 @@ use Rattle.lowering.specs.Declarations.{isName, source, sourceDeclarator, keysB
 use Rattle.lowering.specs.Assignments.{restsThroughObjects, withoutRests}
 use Rattle.lowering.specs.Heads.{moved, movedPattern, movedOut}
 use Rattle.lowering.proofs.All.{other-changed}
-use Rattle.overlay.proofs.Objects.{by-test, and-right, differ}
-use Rattle.overlay.proofs.Held.{isAtom, hasBody, held, heldAll, heldPiece, heldItems, heldParts, heldPattern, heldDeclarator, at-34, at-37, declarator-held, held-append, change-less, node-most, only-held, two-all, stands-changed}
+use Rattle.overlay.proofs.Objects.{and-right, differ}
+use Rattle.overlay.proofs.Held.{isAtom, hasBody, held, heldAll, heldPiece, heldItems, heldParts, heldPattern, heldDeclarator, at-34, at-37, declarator-held, held-append, change-less, node-most, only-held, two-all}
+use Rattle.lowering.proofs.ChangeLaws.{stands-changed, items-changed-in}
+use Rattle.lowering.proofs.Clauses.{taken-none, has-leaf}
+use Rattle.lowering.proofs.Cases.{by-test}
+use Rattle.lowering.proofs.SoundRules.{keyTemporary-value}
 
 -- ---- patterns by kind
 
@@ -129,17 +133,6 @@ module _ (wanted : Node → Bool) where
         let e = adds .append (g (value q)) (gather (λ q. g (value q)) qs) in
         omega arith
 
-    items-changed : (h : Node → Node) (fs : Fields) → asItems (pieceIn (changeIn fs 0 (onItems (each h))) 0) ≡ each h (asItems (pieceIn fs 0))
-    unfolding pieceIn changeIn onItems each
-    items-changed h done = refl
-    items-changed h (absent fs) = refl
-    items-changed h (field (one n) fs) = refl
-    items-changed h (field (list n) fs) = refl
-    items-changed h (field (text n) fs) = refl
-    items-changed h (field (byte n) fs) = refl
-    items-changed h (field (mark n) fs) = refl
-    items-changed h (field (number n) fs) = refl
-
     -- an object pattern with its values changed, an array pattern with its items, a default with its left
     pub object-kept : (at : ℕ) (fs : Fields) → H (node at 34 fs) ≤ H (withValues f (node at 34 fs)) + M (gather (λ q. g (value q)) (properties (node at 34 fs)))
     unfolding change itemsAt
@@ -147,7 +140,7 @@ module _ (wanted : Node → Bool) where
         let gs : Fields = changeIn fs 0 (onItems (each (λ q. changeNode 1 f q))) in
         let a = at-34 wanted at fs in
         let b = at-34 wanted at gs in
-        let e : heldParts wanted (asItems (pieceIn gs 0)) ≡ heldParts wanted (each (λ q. changeNode 1 f q) (asItems (pieceIn fs 0))) = ap (heldParts wanted) (items-changed (λ q. changeNode 1 f q) fs) in
+        let e : heldParts wanted (asItems (pieceIn gs 0)) ≡ heldParts wanted (each (λ q. changeNode 1 f q) (asItems (pieceIn fs 0))) = ap (heldParts wanted) (items-changed-in (λ q. changeNode 1 f q) fs 0) in
         let d : H (asNode (pieceIn gs 1)) ≡ H (asNode (pieceIn fs 1)) = ap (λ (p : Piece). H (asNode p)) (other-changed fs 0 (onItems (each (λ q. changeNode 1 f q))) 1 (λ z. omega arith)) in
         let r = values-kept (asItems (pieceIn fs 0)) in
         omega arith
@@ -317,10 +310,6 @@ module _ (wanted : Node → Bool) where
         (λ e. let z = no-parts (properties p) e in rw e (omega arith))
         (λ e. let z = declares-one x s in rw e (omega arith))
 
-    taken-same : (p : Node) → hasRest p ≡ false → taken c p ≡ p
-    unfolding taken
-    taken-same p e = rw e refl
-
     -- keys, pattern, rest
     pub own-parts : (at : ℕ) (fs : Fields) (s : Node) → H (node at 34 fs) ≤ HI (keysBefore c (node at 34 fs)) + (HI (patternDeclarator c (node at 34 fs) s) + HI (restDeclarator c (node at 34 fs) s))
     unfolding keysBefore patternDeclarator restDeclarator held
@@ -332,7 +321,7 @@ module _ (wanted : Node → Bool) where
         let d = declares-one (rest p) (restValue c p s) in
         rw r (omega arith))
         (λ r. let z = no-rest at fs r in
-        let q : H (taken c p) ≡ H p = ap (held wanted) (taken-same p r) in
+        let q : H (taken c p) ≡ H p = ap (held wanted) (taken-none c p r) in
         let t = dropped-kept p (taken c p) 0 (omega arith) s in
         rw r (omega arith))
 
@@ -399,11 +388,6 @@ module _ (wanted : Node → Bool) where
         (λ b. let e₁ : heldDeclarator wanted (node at k fs) ≡ 0 = e ∙ ap (λ (x : Bool). cond x (heldPattern wanted (asNode (pieceIn fs 0)) + H (asNode (pieceIn fs 1))) 0) b in
         omega arith)
 
-    leaf-none : (d : ℕ) (p : Node) → shape p ≡ leaf → hasNestedObjectRest d p ≡ false
-    unfolding hasNestedObjectRest
-    leaf-none zero p e = refl
-    leaf-none (suc d) p e = rw (e, hasNestedObjectRest) refl
-
     pub pattern-declared : (p : Node) (s : Node) → hasObjectRest p ≡ true → heldPattern wanted p ≤ HI (patternDeclarators c p s)
     unfolding patternDeclarators shape objectDeclarators
     pattern-declared p s h = go (view p) h
@@ -431,7 +415,7 @@ module _ (wanted : Node → Bool) where
             let a = held-append wanted (only (declares (replacedBelow c p) s)) (nestedBelow c p) in
             omega arith
         go (default-view {at = at} {fs = fs}) h = default-zero at fs
-        go (leaf-view {p = p} z y) h = differ (sym h ∙ leaf-none (depth p) p z)
+        go (leaf-view {p = p} z y) h = differ (sym h ∙ has-leaf (depth p) p z)
 
     name-held : (e : Node) → isName e ≡ true → H e ≡ 0
     unfolding isName is held isAtom
@@ -483,27 +467,11 @@ module _ (wanted : Node → Bool) where
     unfolding heldRests
     rests-add = record { append = rests-append }
 
-    -- a value changed leaves the key as it is
-    key-same : (f : Node → Node) (q : Node) → keyTemporary c (changeNode 1 f q) ≡ keyTemporary c q
-    unfolding keyTemporary change nodeAt
-    key-same f (node at k fs) = ap (λ (x : Node). temporaryFor at x) (ap asNode (other-changed fs 1 (onNode f) 0 (λ z. omega arith)))
-      where
-        temporaryFor : ℕ → Node → Items
-        temporaryFor at x =
-            elim (keySort x) [
-              | Key.name ↦ none
-              | Key.literal ↦ none
-              | Key.template ↦ none
-              | Key.private ↦ none
-              | Key.again ↦ none
-              | Key.other ↦ only (declares (temporary (c .path) 4 at) x)
-            ]
-
     keys-same : (f : Node → Node) (qs : Items) → gather (keyTemporary c) (each (λ q. changeNode 1 f q) qs) ≡ gather (keyTemporary c) qs
     unfolding gather each
     keys-same f none = refl
     keys-same f (hole qs) = keys-same f qs
-    keys-same f (item q qs) = ap₂ (λ (x y : Items). x +++ y) (key-same f q) (keys-same f qs)
+    keys-same f (item q qs) = ap₂ (λ (x y : Items). x +++ y) (keyTemporary-value c f q) (keys-same f qs)
 
     values-properties : (at : ℕ) (fs : Fields) (f : Node → Node) → properties (withValues f (node at 34 fs)) ≡ each (λ q. changeNode 1 f q) (properties (node at 34 fs))
     unfolding change itemsAt pieceIn changeIn onItems each
@@ -561,7 +529,7 @@ module _ (wanted : Node → Bool) where
             omega arith))
             (λ e. rw (e, restsThroughObjects)
             (let o = object-kept heldRests rests-add (λ v. withoutRests c d v) (λ v. restsThroughObjects d v) k at fs in
-            let t : H (taken c (withValues (λ v. withoutRests c d v) p)) ≡ H (withValues (λ v. withoutRests c d v) p) = ap (held wanted) (taken-same (withValues (λ v. withoutRests c d v) p) (values-rest at fs (λ v. withoutRests c d v) ∙ e)) in
+            let t : H (taken c (withValues (λ v. withoutRests c d v) p)) ≡ H (withValues (λ v. withoutRests c d v) p) = ap (held wanted) (taken-none c (withValues (λ v. withoutRests c d v) p) (values-rest at fs (λ v. withoutRests c d v) ∙ e)) in
             let a = rests-append gs none in
             omega arith))
         go (array-view {at = at} {fs = fs}) k = omega arith

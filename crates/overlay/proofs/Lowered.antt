@@ -22,10 +22,11 @@ use Rattle.lowering.proofs.Falls.{walked-is}
 use Rattle.overlay.specs.Plain.{free, freeFields, freePiece, freeItems, isObject, isForeign, isNew}
 use Rattle.overlay.specs.Law.{literalOf}
 use Rattle.overlay.specs.Whole.{leaves}
-use Rattle.overlay.proofs.Objects.{by-test, and-left, and-right, differ}
+use Rattle.overlay.proofs.Objects.{and-left, and-right, differ}
 use Rattle.overlay.proofs.Free.{or-left, or-right, free-here, free-below}
 use Rattle.overlay.proofs.Still.{still}
-use Rattle.overlay.proofs.Plainly.{Opaque, Plain, PlainParts, PlainPart, opaque, no-part, next-part, spread, property, spreadOf, propertyOf}
+use Rattle.overlay.proofs.Plainly.{Opaque, Plain, PlainParts, PlainPart, no-part, next-part, spread, property, spreadOf, propertyOf}
+use Rattle.lowering.proofs.Cases.{by-test}
 
 -- ---- the lowering from below: the parts first, and then the rule
 

@@ -10,11 +10,7 @@ use borrow.Author.Tests.{eq-eqb, eqb-true, lt-ltb, le-ltb, ltb-true, ltb-false}
 use Rattle.overlay.specs.Objects.{Key, Value, Props, sameText, same, top, digits, indexOf, rank, isName, put, overlay, keysOf, find, pick, filter, namesFirst}
 use Rattle.overlay.specs.Objects.Key.{name, symbol}
 use Rattle.overlay.specs.Objects.Props.{empty, entry}
-
--- by whether a test holds, with what it says
-pub by-test : {A : Type 0} (b : Bool) → (b ≡ true → A) → (b ≡ false → A) → A
-by-test true f g = f refl
-by-test false f g = g refl
+use Rattle.lowering.proofs.Cases.{by-test}
 
 pub and-left : (a b : Bool) → (a && b) ≡ true → a ≡ true
 and-left true b e = refl

@@ -11,7 +11,7 @@ use Rattle.tree.specs.Tree.Piece.{one, list, text, byte, mark, number}
 use Rattle.tree.specs.Tree.Items.{none, hole, item}
 use Rattle.lowering.specs.Parts.{is, pieceIn, asNode, asItems, nodeAt, itemsAt, numberAt, only, _+++_}
 use Rattle.lowering.specs.Made.{S, object}
-use Rattle.lowering.specs.Literals.{Call, opened, closed, scan}
+use Rattle.lowering.specs.Literals.{opened, closed, scan}
 use Rattle.lowering.specs.Literals.Call.{no-call, call}
 use Rattle.overlay.specs.Objects.{Key, Value, Props, put, overlay, keysOf, pick, isName, filter, namesFirst}
 use Rattle.overlay.specs.Objects.Value.{outer, inner}
@@ -22,8 +22,10 @@ use Rattle.overlay.specs.Run.Reply.{gives, throws}
 use Rattle.overlay.specs.Run.Out.{ok, threw, beyond, stuck}
 use Rattle.overlay.specs.Run.Entry.{pair}
 use Rattle.overlay.specs.Law.{Tame, Fair}
-use Rattle.overlay.proofs.Objects.{by-test, Canon, canon-put, pick-names, overlay-put}
+use Rattle.overlay.proofs.Objects.{Canon, canon-put, pick-names, overlay-put}
 use Rattle.overlay.proofs.Ordered.{Holds, Good, run-good}
+use Rattle.lowering.proofs.Cases.{by-test}
+use Rattle.lowering.proofs.Clauses.{scan-spread, scan-other}
 
 -- ---- outcomes
 
@@ -51,16 +53,6 @@ then-good P (ok h a) p e = e h a p
 then-good P (threw h v) p e = refl
 then-good P (beyond h n) p e = refl
 then-good P (stuck h) p e = refl
-
--- ---- the rule, one property
-
-scan-spread : (c : Call) (pend : Items) (p : Node) (ps : Items) → is 26 p ≡ true → scan c pend (item p ps) ≡ scan (call (S (opened c pend +++ only (nodeAt 0 p)))) none ps
-unfolding scan
-scan-spread c pend p ps e = rw (e, scan) refl
-
-scan-other : (c : Call) (pend : Items) (p : Node) (ps : Items) → is 26 p ≡ false → scan c pend (item p ps) ≡ scan c (pend +++ only p) ps
-unfolding scan
-scan-other c pend p ps e = rw (e, scan) refl
 
 -- ---- both copies of a tame object
 

@@ -4,12 +4,10 @@ use mathlib.Core.Path.{_≡_, refl, sym, ap, _∙_}
 use mathlib.Core.Bool.{Bool, true, false, cond, _||_}
 use Prim.Native.Nat.{ℕ, zero, suc}
 use lib.Dec.{eqb}
-use Rattle.tree.specs.Tree.{Node, Fields, Piece, Items, depth}
+use Rattle.tree.specs.Tree.{Node, Items, depth}
 use Rattle.tree.specs.Tree.Node.{node}
-use Rattle.tree.specs.Tree.Fields.{done, absent, field}
-use Rattle.tree.specs.Tree.Piece.{one, list, text, byte, mark, number}
 use Rattle.tree.specs.Tree.Items.{none, hole, item}
-use Rattle.lowering.specs.Parts.{kind, is, pieceIn, changeIn, asItems, nodeAt, itemsAt, stands, change, onItems, changeItems, gather, any, _+++_}
+use Rattle.lowering.specs.Parts.{kind, is, nodeAt, itemsAt, stands, gather, any, _+++_}
 use Rattle.lowering.specs.Made.{Context}
 use Rattle.lowering.specs.Patterns.{shape, itemsOf, rest, leftOf, hasNestedObjectRest, hasObjectRest, hasNestedArrayRest, hasArrayRestOverObjectRest}
 use Rattle.lowering.specs.Patterns.Shape.{objectPattern}
@@ -19,32 +17,11 @@ use Rattle.lowering.specs.Assignments.{target, isTop}
 use Rattle.lowering.specs.Heads.{isMoved, function, arrow, catch, declaringHead, assigningHead}
 use Rattle.lowering.specs.Walk.{Rule, ruleOf, rewrite, stepDeclaration, stepAssignment, stepFor}
 use Rattle.lowering.specs.Walk.Rule.{literals, declarations, assignments, functions, arrows, catches, fors, nowhere}
-use Rattle.lowering.proofs.Cases.{by-shape, by-rule, object-is}
+use Rattle.lowering.proofs.Cases.{by-shape, by-rule, object-is, by-test}
 use Rattle.overlay.specs.Plain.{free, freeItems, isObject, isForeign, isNew, hasHole}
-use Rattle.overlay.proofs.Objects.{by-test, and-left, and-right, differ}
+use Rattle.overlay.proofs.Objects.{and-left, and-right, differ}
 use Rattle.overlay.proofs.Free.{or-left, or-right, and-no, free-here, free-node, free-items}
-
--- ---- a change that changes nothing
-
-same-in : (fs : Fields) (i : ℕ) (f : Piece → Piece) → f (pieceIn fs i) ≡ pieceIn fs i → changeIn fs i f ≡ fs
-unfolding changeIn pieceIn
-same-in done i f e = refl
-same-in (absent fs) zero f e = refl
-same-in (absent fs) (suc i) f e = ap absent (same-in fs i f e)
-same-in (field p fs) zero f e = ap (λ (x : Piece). field x fs) e
-same-in (field p fs) (suc i) f e = ap (λ (x : Fields). field p x) (same-in fs i f e)
-
-items-same : (i : ℕ) (f : Items → Items) (n : Node) → f (itemsAt i n) ≡ itemsAt i n → changeItems i f n ≡ n
-unfolding change itemsAt onItems
-items-same i f (node at k fs) e = ap (λ (x : Fields). node at k x) (same-in fs i (onItems f) (go (pieceIn fs i) e))
-  where
-    go : (p : Piece) → f (asItems p) ≡ asItems p → onItems f p ≡ p
-    go (one n) e = refl
-    go (list is) e = ap list e
-    go (text bs) e = refl
-    go (byte b) e = refl
-    go (mark b) e = refl
-    go (number b) e = refl
+use Rattle.lowering.proofs.ChangeLaws.{changeItems-same}
 
 -- ---- no object rest below
 
@@ -121,7 +98,7 @@ module _ (c : Context) where
 
   declaration-still : (n : Node) → Bare n → hasHole (itemsAt 2 n) ≡ false → stepDeclaration c n .result ≡ n
   unfolding stepDeclaration declaration
-  declaration-still n b e = rw (forms-kept n b, stepDeclaration) (items-same 2 (gather (declarators c)) n (all-kept (itemsAt 2 n) (bare-items 2 n b) e))
+  declaration-still n b e = rw (forms-kept n b, stepDeclaration) (changeItems-same 2 (gather (declarators c)) n (all-kept (itemsAt 2 n) (bare-items 2 n b) e))
 
   -- ---- assignments
 

@@ -19,10 +19,10 @@ use Rattle.lowering.proofs.Falls.{walked-is}
 use Rattle.overlay.specs.Plain.{given}
 use Rattle.overlay.specs.Law.{Overlay, Faithful}
 use Rattle.overlay.specs.Whole.{leaves, ItemAt, NodeIn, FieldAt, PartAt, Stands, Visits, lowered, Left, InPlace, Writes}
-use Rattle.overlay.proofs.Objects.{by-test}
 use Rattle.overlay.proofs.Plainly.{Plain, plain-rule}
 use Rattle.overlay.proofs.Lowered.{plain-turns}
 use Rattle.overlay.proofs.Overlay.{faithful, overlays}
+use Rattle.lowering.proofs.Cases.{by-test}
 
 pub plus-zero : (n : ℕ) → n ≡ n + 0
 plus-zero n = omega arith

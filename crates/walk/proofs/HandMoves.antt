@@ -16,7 +16,7 @@ use Rattle.tree.specs.Look.{Seen, onward, lookItems, lookNode}
 use Rattle.lowering.specs.Parts.{position, is, nodeAt, pieceIn, gather}
 use Rattle.lowering.specs.Patterns.{hasObjectRest}
 use Rattle.lowering.specs.Heads.{isMoved, movedFrom}
-use Rattle.lowering.proofs.Cases.{by-test, or-other}
+use Rattle.lowering.proofs.Cases.{by-test, or-other, shape-34}
 use Rattle.sink.specs.Machine.Event.{make}
 use Rattle.direct.specs.Events as events
 use Rattle.direct.specs.Events.Deed.{does}
@@ -24,7 +24,7 @@ use Rattle.direct.specs.Emit.{say, inTurn}
 use Rattle.direct.specs.Moved.{movedIn, makes}
 use Rattle.direct.proofs.Threads.{say-say}
 use Rattle.direct.proofs.Handed.{Listed, listed-gather}
-use Rattle.direct.proofs.MovedOut.{shape-34, shape-37}
+use Rattle.direct.proofs.MovedOut.{shape-37}
 use Rattle.direct.proofs.MovedMade.{makes-join, makes-object, makes-default, makes-leaf, makes-array, makes-array-rest, makes-kept, makes-moved}
 use Rattle.walk.specs.Run.{Going, Does}
 use Rattle.walk.specs.Whole.{GoodItems, Good}

@@ -35,12 +35,12 @@ use Rattle.direct.specs.Views.View.{replacing}
 use Rattle.direct.specs.Objects.{objectsIn}
 use Rattle.direct.specs.Handed.{placesIn}
 use Rattle.direct.specs.Assigned.{restInArrays}
-use Rattle.direct.proofs.Lists.{gather-same, gather-each, append-none}
 use Rattle.direct.proofs.Targets.{any-each}
 use Rattle.direct.proofs.AlikePatterns.{shape-values}
 use Rattle.direct.proofs.PatternViews.{without-leaf-at}
 use Rattle.direct.proofs.Objects.{value-changed, value-kept, without-nothing}
 use Rattle.walk.specs.Turns.{viewOf}
+use Rattle.lowering.proofs.ItemLaws.{items-none, gather-same, gather-each}
 
 -- ---- an object whose rest is taken
 
@@ -226,7 +226,7 @@ found-object : (κ : Context) (x : Node) → shape x ≡ objectPattern → hasRe
 unfolding objectsWithRest depth
 found-object κ (node at k fs) s r =
     rw (s, objectsWithRest, r)
-    (append-none (gather (λ q. objectsWithRest κ (depthFields fs) (value q)) (properties (node at k fs)))
+    (items-none (gather (λ q. objectsWithRest κ (depthFields fs) (value q)) (properties (node at k fs)))
     ∙ gather-values (λ d p. objectsWithRest κ d p) (λ d p h. objects-levels d p h κ) (objects-nothing κ) 0 at k fs)
 
 found-default : (κ : Context) (x : Node) → shape x ≡ default → objectsBelow κ x ≡ objectsBelow κ (leftOf x)
