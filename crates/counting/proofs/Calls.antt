@@ -1,18 +1,17 @@
 -- What the literal rule makes has as many nested calls as the pattern says.
 -- Assumes nothing.
 use mathlib.Core.Path.{_≡_, refl, sym, ap, _∙_}
-use mathlib.Core.Bool.{Bool, true, false, cond, _&&_, _||_}
-use mathlib.Core.List.{List, [], _∷_}
-use Prim.Native.Nat.{ℕ, zero, suc, _+_}
+use mathlib.Core.Bool.{Bool, true, false}
+use mathlib.Core.List.{[], _∷_}
+use Prim.Native.Nat.{ℕ, suc, _+_}
 use native.Mathlib.Omega.{arith}
-use lib.Dec.{eqb}
 use borrow.Author.Tests.{eqb-true, ne-eqb}
-use Rattle.tree.specs.Tree.{Node, Fields, Piece, Items}
+use Rattle.tree.specs.Tree.{Node, Items}
 use Rattle.tree.specs.Tree.Node.{node}
 use Rattle.tree.specs.Tree.Items.{none, hole, item}
 use Rattle.lowering.specs.Parts.{is, nodeAt, numberAt, itemsAt, pieceIn, only, any, _+++_}
 use Rattle.lowering.specs.Made.{S}
-use Rattle.lowering.specs.Literals.{Call, opened, closed, scan, literal}
+use Rattle.lowering.specs.Literals.{opened, closed, scan, literal}
 use Rattle.lowering.specs.Literals.Call.{no-call, call}
 use Rattle.lowering.proofs.Cases.{by-test, or-left, or-right}
 use Rattle.counting.specs.Patterns.{Pattern, number, patternOf, pattern}

@@ -2,11 +2,10 @@
 -- Assumes nothing.
 use mathlib.Core.Path.{_≡_, refl, sym, ap, _∙_}
 use mathlib.Core.Bool.{Bool, true, false}
-use mathlib.Core.List.{[], _∷_}
 use Prim.Native.Nat.{ℕ, zero, suc, _+_, _*_}
 use native.Mathlib.Omega.{arith}
 use lib.Dec.{eqb, eqb·suc-suc, eqb·zero-suc}
-use Rattle.counting.specs.Patterns.{Pattern, patterns, number, count, having, spreads}
+use Rattle.counting.specs.Patterns.{patterns, number, count, having, spreads}
 use Rattle.counting.specs.Calls.{calls}
 use Rattle.counting.specs.Figures.{choose, figure}
 use Rattle.counting.proofs.Calls.{more, starting, calls-start}

@@ -1,14 +1,14 @@
 -- `patterns n` has each pattern of length n once, and no other; and laws of counting.
 -- Assumes nothing.
 use mathlib.Core.Path.{_≡_, refl, sym, ap, _∙_}
-use mathlib.Core.Bool.{Bool, true, false, _&&_, false≢true}
+use mathlib.Core.Bool.{Bool, true, false, false≢true}
 use mathlib.Core.List.{List, [], _∷_, _++_}
 use Prim.Native.Nat.{ℕ, zero, suc, _+_, _^_}
 use native.Mathlib.Nat.{two-pow-succ}
 use native.Mathlib.Omega.{arith}
 use lib.Dec.{eqb, eqb·suc-suc, eqb·zero-suc, eqb·suc-zero}
 use lib.ListN.{length}
-use Rattle.counting.specs.Patterns.{Pattern, before, patterns, number, count, having, alike, same}
+use Rattle.counting.specs.Patterns.{Pattern, before, patterns, number, count, having, same}
 
 -- ---- counting
 

@@ -6,9 +6,6 @@ use borrow.Author.Needs.{needs}
 use Rattle.counting.proofs.Figures.{choose-largest, figured-none, figured-above, figured-one, figured-twice}
 use Rattle.counting.proofs.figured.Statement.{statement}
 use Rattle.counting.proofs.figured.Tie as tie
-use Rattle.counting.proofs.figured.Reads as reads
-use Rattle.counting.proofs.figured.Lts as lts
-use Rattle.counting.proofs.ways.Reads as ways-reads
 
 returns : tie.Need-returns
 returns c = figured-none _ _ (omega arith)

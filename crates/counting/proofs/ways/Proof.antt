@@ -3,13 +3,10 @@
 use Prim.Native.Nat.{ℕ, _≤_, _-_}
 use mathlib.Core.Path.{_≡_, sym, ap, _∙_}
 use native.Mathlib.Omega.{arith}
-use borrow.Author.Needs.{needs}
 use Rattle.counting.specs.Figures.{choose}
 use Rattle.counting.proofs.Figures.{choose-none, way-fits, way-on}
 use Rattle.counting.proofs.ways.Statement.{statement}
 use Rattle.counting.proofs.ways.Tie as tie
-use Rattle.counting.proofs.ways.Reads as reads
-use Rattle.counting.proofs.ways.Lts as lts
 
 abbrev Inv-loop : tie.InvT-loop
 Inv-loop m k r₀ j₀ r j = (j ≤ k) × (r ≡ choose m j)
