@@ -98,7 +98,7 @@ unfolding given
 in-place ns next n m d v g e =
     let r : Plain m = plain-rule m e g in
     let s = left ns next top d n m v in
-    subst (λ (x : Node). Stands [] (leaves ns next top n) (d .path) x) (plain-turns r ns (s .0) d ∙ sym (plain-turns r [] 1 top)) (s .1)
+    subst (λ (x : Node). Stands [] (leaves ns next top n) (d .path) x) (plain-turns ns r (s .0) d ∙ sym (plain-turns [] r 1 top)) (s .1)
 
 pub lowered-overlays : Overlay lowered lowered
 lowered-overlays = overlays [] [] 1 1 top top
