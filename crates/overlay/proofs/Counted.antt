@@ -103,7 +103,7 @@ only-form g k h = go (ltb k 64) (eqb g k) h
     go true false h = absurd (omega arith)
     go false false h = absurd (omega arith)
 
-abbrev isNodeSort : Sort → Bool
+abbrev pub isNodeSort : Sort → Bool
 isNodeSort (Sort.child p) = true
 isNodeSort (Sort.chosen p q) = true
 isNodeSort (Sort.many p) = false
@@ -113,7 +113,7 @@ isNodeSort (Sort.byte low high) = false
 isNodeSort Sort.mark = false
 isNodeSort Sort.number = false
 
-abbrev isLeafSort : Sort → Bool
+abbrev pub isLeafSort : Sort → Bool
 isLeafSort (Sort.child p) = false
 isLeafSort (Sort.chosen p q) = false
 isLeafSort (Sort.many p) = false
@@ -590,7 +590,7 @@ piece-fits (FitPiece.chosen {b = b} {p = p} {q = q} f) NodeIn.one = (cond (eqb b
 piece-fits (FitPiece.many {p = p} c f) (NodeIn.list a) = (p, item-fits f a)
 piece-fits (FitPiece.gaps {p = p} c f) (NodeIn.list a) = (p, item-fits f a)
 
-field-fits : {b : ℕ} {ts : List Field} {fs : Fields} {i j : ℕ} {x : Node} → FitFields input b ts fs → FieldAt fs i j x → (q : ℕ) × Fits input q x
+pub field-fits : {b : ℕ} {ts : List Field} {fs : Fields} {i j : ℕ} {x : Node} → FitFields input b ts fs → FieldAt fs i j x → (q : ℕ) × Fits input q x
 field-fits (FitFields.field p f) (FieldAt.first a) = piece-fits p a
 field-fits (FitFields.field p f) (FieldAt.behind a) = field-fits f a
 field-fits (FitFields.absent f) (FieldAt.behindAbsent a) = field-fits f a

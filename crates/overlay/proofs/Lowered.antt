@@ -104,7 +104,7 @@ module _ (ns : List Name) where
     turns-absent : {fs gs : Fields} → TurnsFields fs gs → TurnsFields (absent fs) (absent gs)
     turns-field : {p q : Piece} {fs gs : Fields} → TurnsPiece p q → TurnsFields fs gs → TurnsFields (field p fs) (field q gs)
 
-  items-turned : {is js : Items} → TurnsItems is js → (cs : ℕ → Context) (next j : ℕ) → numberedItems ns (bareItems next (eachItem (λ j m. walked (cs j) m) j is)) ≡ js
+  pub items-turned : {is js : Items} → TurnsItems is js → (cs : ℕ → Context) (next j : ℕ) → numberedItems ns (bareItems next (eachItem (λ j m. walked (cs j) m) j is)) ≡ js
   unfolding eachItem bare numbered leaves
   items-turned turns-none cs next j = refl
   items-turned (turns-hole t) cs next j = ap hole (items-turned t cs next (suc j))
@@ -138,7 +138,7 @@ module _ (ns : List Name) where
   foreign-kind : (at k : ℕ) (fs : Fields) → isForeign (node at k fs) ≡ false → eqb k 20 ≡ false
   foreign-kind at k fs e = or-left (eqb k 20) _ e
 
-  foreign-new : (at k : ℕ) (fs : Fields) → isForeign (node at k fs) ≡ false → isNew fs ≡ false
+  pub foreign-new : (at k : ℕ) (fs : Fields) → isForeign (node at k fs) ≡ false → isNew fs ≡ false
   foreign-new at k fs e = or-left (isNew fs) _ (or-right (eqb k 21) _ (or-right (eqb k 20) _ e))
 
   new-rest : (p : Piece) (fs : Fields) → isNew (field p fs) ≡ false → isNew fs ≡ false
@@ -185,20 +185,21 @@ module _ (ns : List Name) where
 
   -- ---- what the literal rule makes
 
-  helper-turns : Turns (helper 1) (helper 1)
+  helper-turns : (i : ℕ) → Turns (helper i) (helper i)
   unfolding rewrite ruleOf
-  helper-turns = turn (helper 1) 0 21 (field (byte 1) done) (field (byte 1) done) (λ c. refl) refl (turns-field turns-byte turns-done)
+  helper-turns i = turn (helper i) 0 21 (field (byte i) done) (field (byte i) done) (λ c. refl) refl (turns-field turns-byte turns-done)
 
-  S-turns : {xs ys : Items} → TurnsItems xs ys → Turns (S xs) (S ys)
+  -- a call of a helper
+  pub call-turns : (i : ℕ) {xs ys : Items} → TurnsItems xs ys → Turns (node 0 29 (field (one (helper i)) (field (list xs) done))) (node 0 29 (field (one (helper i)) (field (list ys) done)))
   unfolding rewrite ruleOf
-  S-turns {xs} {ys} t =
-      turn (S xs) 0 29 (field (one (helper 1)) (field (list xs) done)) (field (one (helper 1)) (field (list ys) done)) (λ c. refl) refl
-      (turns-field (turns-one helper-turns) (turns-field (turns-list t) turns-done))
+  call-turns i {xs} {ys} t =
+      turn (node 0 29 (field (one (helper i)) (field (list xs) done))) 0 29 (field (one (helper i)) (field (list xs) done)) (field (one (helper i)) (field (list ys) done)) (λ c. refl) refl
+      (turns-field (turns-one (helper-turns i)) (turns-field (turns-list t) turns-done))
 
   abbrev isSpread : Node → Bool
   isSpread p = is 26 p
 
-  object-turns : {ps qs : Items} → any isSpread ps ≡ false → TurnsItems ps qs → Turns (object ps) (object qs)
+  pub object-turns : {ps qs : Items} → any isSpread ps ≡ false → TurnsItems ps qs → Turns (object ps) (object qs)
   unfolding rewrite ruleOf literal itemsAt pieceIn
   object-turns {ps} {qs} e t =
       turn (object ps) 0 24 (field (list ps) done) (field (list qs) done) (λ c. rw e refl) refl (turns-field (turns-list t) turns-done)
@@ -246,13 +247,13 @@ module _ (ns : List Name) where
   opened-turns : {c d : Call} {ps qs : Items} → TurnsCall c d → any isSpread ps ≡ false → TurnsItems ps qs → TurnsItems (opened c ps) (opened d qs)
   unfolding opened any
   opened-turns turns-no-call e t = turns-item (object-turns e t) turns-none
-  opened-turns (turns-call u) e turns-none = turns-item (S-turns u) turns-none
-  opened-turns (turns-call u) e (turns-hole t) = turns-item (S-turns u) turns-none
+  opened-turns (turns-call u) e turns-none = turns-item (call-turns 1 u) turns-none
+  opened-turns (turns-call u) e (turns-hole t) = turns-item (call-turns 1 u) turns-none
   opened-turns (turns-call u) e (turns-item a t) =
-      turns-item (S-turns u) (turns-item (object-turns refl turns-none) (turns-item (object-turns e (turns-item a t)) turns-none))
+      turns-item (call-turns 1 u) (turns-item (object-turns refl turns-none) (turns-item (object-turns e (turns-item a t)) turns-none))
 
   S-same : {xs ys : Items} → TurnsItems xs ys → Same (S xs) (S ys)
-  S-same t = same refl (turns-field (turns-one helper-turns) (turns-field (turns-list t) turns-done))
+  S-same t = same refl (turns-field (turns-one (helper-turns 1)) (turns-field (turns-list t) turns-done))
 
   closed-turns : {c d : Call} {ps qs : Items} → TurnsCall c d → any isSpread ps ≡ false → TurnsItems ps qs → Same (closed c ps) (closed d qs)
   unfolding closed
