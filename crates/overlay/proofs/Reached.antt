@@ -82,7 +82,7 @@ module _ (P : Note → Type 0) where
   unfolding inside visits
   here-noted note w (node at k fs) next m h = h .0
 
-  visit-noted : {c d : Context} {n x : Node} → Visits c n d x → (next m : ℕ) → All (visits next m (walked c n)) → P (rewrite d x .note)
+  pub visit-noted : {c d : Context} {n x : Node} → Visits c n d x → (next m : ℕ) → All (visits next m (walked c n)) → P (rewrite d x .note)
   visit-noted (Visits.here {c = c} {n = n}) next m h =
       here-noted (rewrite c n .note) (λ i j m. walked (within c (rewrite c n .result) i j) m) (rewrite c n .result) next m (subst (λ (w : Walked). All (visits next m w)) (walked-is c n) h)
   visit-noted (Visits.onward {c = c} {n = n} e a v) next m h =
