@@ -26,7 +26,7 @@ use Rattle.overlay.proofs.Free.{or-left, or-right, and-no, free-here, f
 
 -- ---- a change that changes nothing
 
-same-in : (fs : Fields) (i : ℕ) (f : Piece → Piece) → f (pieceIn fs i) ≡ pieceIn fs i → changeIn fs i f ≡ fs
+pub same-in : (fs : Fields) (i : ℕ) (f : Piece → Piece) → f (pieceIn fs i) ≡ pieceIn fs i → changeIn fs i f ≡ fs
 unfolding changeIn pieceIn
 same-in done i f e = refl
 same-in (absent fs) zero f e = refl
@@ -34,7 +34,7 @@ same-in (absent fs) (suc i) f e = ap absent (same-in fs i f e)
 same-in (field p fs) zero f e = ap (λ (x : Piece). field x fs) e
 same-in (field p fs) (suc i) f e = ap (λ (x : Fields). field p x) (same-in fs i f e)
 
-items-same : (i : ℕ) (f : Items → Items) (n : Node) → f (itemsAt i n) ≡ itemsAt i n → changeItems i f n ≡ n
+pub items-same : (i : ℕ) (f : Items → Items) (n : Node) → f (itemsAt i n) ≡ itemsAt i n → changeItems i f n ≡ n
 unfolding change itemsAt onItems
 items-same i f (node at k fs) e = ap (λ (x : Fields). node at k x) (same-in fs i (onItems f) (go (pieceIn fs i) e))
   where

@@ -29,6 +29,7 @@ use Rattle.lowering.proofs.Appearance.In.{here, there}
 use Rattle.overlay.specs.Whole.{ItemAt}
 use Rattle.overlay.proofs.Objects.{differ}
 use Rattle.packing.specs.Unpack.{sameTemporary, arrayOf}
+use Rattle.packing.proofs.Declared.{same-self}
 
 -- ---- what is handed out was made
 
@@ -260,10 +261,6 @@ module _ (ns : List Name) where
       first true e = refl
       first false e = e
 
-  number-same : (t : Node) → sameTemporary (withNumber ns t) (withNumber ns t) ≡ true
-  unfolding sameTemporary withNumber numberAt textAt pieceIn
-  number-same t = rw (eq-eqb (numberIn same 1 ns (nameOf t)) (numberIn same 1 ns (nameOf t)) refl) refl
-
   -- the first of the list is ours, or it is another's
   array-first : (xs : Items) (path : List ℕ) (stem at : ℕ) (ks : Items) (t : Node)
       → arrayOf (numberedItems ns (item (declares (temporary path stem at) (array ks)) xs)) t
@@ -277,7 +274,7 @@ module _ (ns : List Name) where
   unfolding arrayOf numbered each times nodeAt pieceIn
   array-found path stem at ks s m n (ItemAt.first {is = xs}) =
       let t = temporary path stem at in
-      array-first xs path stem at ks (withNumber ns t) ∙ rw (number-same t) refl
+      array-first xs path stem at ks (withNumber ns t) ∙ rw (same-self (withNumber ns t)) refl
   array-found path stem at ks s m n (ItemAt.behindHole a) = array-found path stem at ks s m (λ y i. n y (suc (i .0), ItemAt.behindHole (i .1))) a
   array-found path stem at ks s m n (ItemAt.behind {n = y} {is = xs} a) =
       go (s .0) (n y (0, ItemAt.first)) m (λ l. array-found path stem at ks (s .1) l (λ y i. n y (suc (i .0), ItemAt.behind (i .1))) a)
