@@ -4,7 +4,7 @@
 use mathlib.Core.Path.{_≡_, refl, sym, ap, subst, _∙_}
 use mathlib.Core.Bool.{Bool, true, false, cond, _&&_}
 use mathlib.Core.List.{List, [], _∷_, _++_}
-use Prim.Native.Nat.{ℕ, zero, suc, _+_, _≤_, _<_}
+use Prim.Native.Nat.{ℕ, suc, _+_, _≤_, _<_}
 use native.Mathlib.Omega.{arith}
 use lib.Dec.{eqb}
 use borrow.Author.Tests.{eq-eqb, eqb-true}
@@ -13,11 +13,11 @@ use Rattle.tree.specs.Tree.Items.{none, hole, item}
 use Rattle.lowering.specs.Parts.{kind, is, pieceIn, nodeAt, itemsAt, textAt, numberAt, each, gather, _+++_}
 use Rattle.lowering.specs.Made.{Context, temporary, reference, declares, idOf, array}
 use Rattle.lowering.specs.Patterns.{hasObjectRest, hasArrayRestOverObjectRest, objectsBelow}
-use Rattle.lowering.specs.Keys.{keyTemporaries, excludedKeys}
+use Rattle.lowering.specs.Keys.{keyTemporaries}
 use Rattle.lowering.specs.Rests.{isHoisted, excludedFor, restMakes}
 use Rattle.lowering.specs.Declarations.{sourceDeclarator, innerObjects, declaratorMakes, isLowered, loweredIn, declarationMakes, declarationExcludes, declarationLacksForm}
 use Rattle.lowering.specs.Assignments.{target, isTop, restsOf, topLacksForm, topEntry, topExcludes, topMakes}
-use Rattle.lowering.specs.Walk.{Note, unchanged, ruleOf, rewrite, stepDeclaration, stepTop, stepAssignment, stepFor}
+use Rattle.lowering.specs.Walk.{Note, ruleOf, rewrite, stepDeclaration, stepTop, stepAssignment, stepFor}
 use Rattle.lowering.specs.Weight.{walked}
 use Rattle.lowering.specs.Collect.{Visit, Entry, Name, visits, namesOf, over, nodes, nodesItems, listNodes, nameOf, nameAt, samePath, same, except, distinct, numberIn, excludedIn, madeIn, numbered, numberedItems, withNumber}
 use Rattle.lowering.proofs.All.{AllItems}
@@ -27,7 +27,6 @@ use Rattle.lowering.proofs.Made.{times, times-append, each-append}
 use Rattle.lowering.proofs.Appearance.{In, same-is}
 use Rattle.lowering.proofs.Appearance.In.{here, there}
 use Rattle.overlay.specs.Whole.{ItemAt}
-use Rattle.overlay.proofs.Objects.{differ}
 use Rattle.packing.specs.Unpack.{sameTemporary, arrayOf}
 use Rattle.packing.proofs.Declared.{same-self}
 

@@ -1,17 +1,17 @@
 -- The literal that packs again, laid out by the overlay law's `layAll`.
 -- Assumes nothing.
 use mathlib.Core.Path.{_≡_, refl, sym, ap, _∙_}
-use mathlib.Core.Bool.{Bool, true, false, cond, _&&_, _||_}
+use mathlib.Core.Bool.{Bool, true, false, cond, _&&_}
 use mathlib.Core.List.{List, [], _∷_}
 use Prim.Native.Nat.{ℕ, suc}
 use Rattle.tree.specs.Tree.{Node, Items}
-use Rattle.tree.specs.Tree.Items.{none, hole, item}
+use Rattle.tree.specs.Tree.Items.{item}
 use Rattle.lowering.specs.Parts.{is, nodeAt, textAt, numberAt, pieceIn}
 use Rattle.overlay.specs.Objects.{Key, Value, Props, sameText, same, put, owns, keysOf}
 use Rattle.overlay.specs.Objects.Key.{name, symbol}
 use Rattle.overlay.specs.Objects.Value.{outer, inner}
 use Rattle.overlay.specs.Objects.Props.{empty, entry}
-use Rattle.overlay.specs.Run.{Step, History, Reply, Outside, Out, proto, isWritten, spelled, makes, callsS, take, copy, keyed, defined, lay, layAll}
+use Rattle.overlay.specs.Run.{History, Outside, proto, isWritten, spelled, makes, callsS, take, copy, keyed, defined, lay, layAll}
 use Rattle.overlay.specs.Run.Step.{evaluates, computes, names, converts, lists, reads}
 use Rattle.overlay.specs.Run.Reply.{gives}
 use Rattle.overlay.specs.Run.Out.{ok}
@@ -22,7 +22,7 @@ use Rattle.packing.specs.World.Slot.{lacks, value, accessor}
 use Rattle.packing.specs.World.Held.{lost, held}
 use Rattle.packing.specs.Unpack.{Take, isAmong}
 use Rattle.packing.specs.Unpack.Take.{taking}
-use Rattle.packing.specs.Pack.{property, reference, parts, since, number, spreadRest, outside, packs, numbered}
+use Rattle.packing.specs.Pack.{property, reference, parts, since, spreadRest, outside, packs, numbered}
 use Rattle.packing.specs.Class.{areNames, keysTaken}
 use Rattle.packing.specs.Law.{Among}
 use Rattle.packing.specs.Law.Among.{here, there}

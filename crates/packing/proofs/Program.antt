@@ -7,7 +7,6 @@ use mathlib.Core.List.{List, [], _∷_}
 use Prim.Native.Nat.{ℕ}
 use lib.Dec.{ltb}
 use borrow.Author.Tests.{ltb-true}
-use Rattle.tree.specs.Tree.{Node}
 use Rattle.tree.specs.Grammar.Stage.{input}
 use Rattle.tree.specs.Read.{readTree}
 use Rattle.tree.specs.Read.Got.{got}
@@ -26,7 +25,7 @@ use Rattle.packing.specs.Unpack.Take.{taking}
 use Rattle.packing.specs.Unpack.Form.{pattern, without}
 use Rattle.packing.specs.Class.{fits}
 use Rattle.packing.specs.Whole.{Accepted, Declared, formsThere}
-use Rattle.packing.specs.Examples.{nb, nq, nt, programBytes, firstOfTwo, secondOfTwo, blockOfTwo, program}
+use Rattle.packing.specs.Examples.{nb, nq, nt, programBytes, secondOfTwo, blockOfTwo, program}
 
 -- where the second stands
 abbrev there : Context

@@ -1,16 +1,13 @@
 -- The law for each declaration of the class of an accepted tree.
 -- Assumes nothing.
 use mathlib.Core.Path.{_≡_, refl, sym, subst, _∙_}
-use mathlib.Core.Bool.{Bool, true, false, cond, _&&_, _||_}
+use mathlib.Core.Bool.{true, _||_}
 use mathlib.Core.List.{List, []}
-use Prim.Native.Nat.{ℕ}
-use lib.Dec.{eqb}
-use borrow.Author.Tests.{eq-eqb}
 use Rattle.tree.specs.Tree.{Node, Items}
 use Rattle.tree.specs.Grammar.Stage.{input}
 use Rattle.tree.specs.WellFormed.{WellFormed}
 use Rattle.tree.proofs.Sound.{sound}
-use Rattle.lowering.specs.Parts.{position, is, kind, nodeAt, only}
+use Rattle.lowering.specs.Parts.{position, is, nodeAt}
 use Rattle.lowering.specs.Made.{Context, declares, excludedOf, array}
 use Rattle.lowering.specs.Keys.{excludedKeys}
 use Rattle.lowering.specs.Rests.{isHoisted, excludedFor}
@@ -19,16 +16,15 @@ use Rattle.lowering.specs.Weight.{walked}
 use Rattle.lowering.specs.Collect.{bare, entries, excludedIn}
 use Rattle.lowering.specs.Answer.{top}
 use Rattle.lowering.proofs.Names.{accepted-names-apart}
-use Rattle.overlay.specs.Whole.{ItemAt, Stands, Visits, Comes}
+use Rattle.overlay.specs.Whole.{ItemAt, Visits, Comes}
 use Rattle.overlay.proofs.Objects.{by-test, and-left}
 use Rattle.overlay.proofs.Same.{same, same-is}
 use Rattle.overlay.proofs.Whole.{left}
 use Rattle.overlay.proofs.Reached.{visit-noted, comes-to}
-use Rattle.packing.specs.World.{World}
 use Rattle.packing.specs.Unpack.{Form}
 use Rattle.packing.specs.Class.{isShaped, fits, apart, unpackingOf, patternOf, declaratorOf}
-use Rattle.packing.specs.Law.{Premises, Unpacked}
-use Rattle.packing.specs.Whole.{Accepted, notes, names, written, handedOut, formsThere, Declared, LandsThere, Unpacks, OneSide, Whole, Placed, Everywhere}
+use Rattle.packing.specs.Law.{Unpacked}
+use Rattle.packing.specs.Whole.{Accepted, notes, names, handedOut, LandsThere, Unpacks, OneSide, Whole, Placed, Everywhere}
 use Rattle.packing.proofs.Declared.{Shaped, shaped, excluded-is, excludes-are, packing}
 use Rattle.packing.proofs.Clean.{accepted-clean}
 use Rattle.packing.proofs.Written.{Hands}
