@@ -1,9 +1,11 @@
 -- The law for each declaration of the class of an accepted tree.
 -- Assumes nothing.
-use mathlib.Core.Path.{_≡_, refl, sym, subst, _∙_}
+use mathlib.Core.Path.{_≡_, refl, sym, ap, subst, _∙_}
 use mathlib.Core.Bool.{true, _||_}
-use mathlib.Core.List.{List, []}
-use Rattle.tree.specs.Tree.{Node, Items}
+use mathlib.Core.List.{List, [], _∷_, _++_}
+use Prim.Native.Nat.{ℕ}
+use lib.ListN.{length}
+use Rattle.tree.specs.Tree.{Node, Items, wideBytes, count, encodeItems}
 use Rattle.tree.specs.Grammar.Stage.{input}
 use Rattle.tree.specs.WellFormed.{WellFormed}
 use Rattle.tree.proofs.Sound.{sound}
@@ -13,18 +15,18 @@ use Rattle.lowering.specs.Keys.{excludedKeys}
 use Rattle.lowering.specs.Rests.{isHoisted, excludedFor}
 use Rattle.lowering.specs.Walk.{rewrite}
 use Rattle.lowering.specs.Weight.{walked}
-use Rattle.lowering.specs.Collect.{bare, entries, excludedIn}
+use Rattle.lowering.specs.Collect.{over, bare, entries, excludedIn, declaratorBytes, entryBytes, listBytes}
 use Rattle.lowering.specs.Answer.{top}
 use Rattle.lowering.proofs.Names.{accepted-names-apart}
-use Rattle.overlay.specs.Whole.{ItemAt, Visits, Comes}
+use Rattle.overlay.specs.Whole.{leaves, ItemAt, Visits, Comes}
 use Rattle.overlay.proofs.Objects.{by-test, and-left}
 use Rattle.overlay.proofs.Same.{same, same-is}
-use Rattle.overlay.proofs.Whole.{left}
+use Rattle.overlay.proofs.Whole.{left, call-writes}
 use Rattle.overlay.proofs.Reached.{visit-noted, comes-to}
 use Rattle.packing.specs.Unpack.{Form}
 use Rattle.packing.specs.Class.{isShaped, fits, apart, unpackingOf, patternOf, declaratorOf}
 use Rattle.packing.specs.Law.{Unpacked}
-use Rattle.packing.specs.Whole.{Accepted, notes, names, handedOut, LandsThere, Unpacks, OneSide, Whole, Placed, Everywhere}
+use Rattle.packing.specs.Whole.{Accepted, notes, names, handedOut, LandsThere, Unpacks, OneSide, Whole, Placed, Everywhere, Writes}
 use Rattle.packing.proofs.Declared.{Shaped, shaped, excluded-is, excludes-are, packing}
 use Rattle.packing.proofs.Clean.{accepted-clean}
 use Rattle.packing.proofs.Written.{Hands}
@@ -86,3 +88,18 @@ everywhere a p n s e u =
     go (Comes.visited {d = d} v) = let r = left (names a) (a .next) top d (a .tree) n v in Placed.inTree (r .0) (record { place = p; stands = s; visited = v; ofClass = e }) (r .1)
     go (Comes.inEntry v i t) = Placed.inList v i t
     go (Comes.inExcluded v i t) = Placed.inKeys v i t
+
+-- ---- a call
+
+pub writes : Writes
+unfolding leaves listBytes declaratorBytes
+writes limit options bytes s helpers mask t l b e =
+    let x = call-writes limit options bytes s helpers mask t l e in
+    let a : Accepted = record { limit = limit; bytes = bytes; tree = x .0; end = x .1; next = x .2; areBytes = b; read = x .3; unrefused = x .4 .0 } in
+    let es = entries (notes a) in
+    let last = wideBytes (count (excludedIn (notes a))) ++ encodeItems (handedOut a) in
+    (a, refl, x .4 .1, wideBytes (length es) ++ over (entryBytes (names a)) es, x .4 .2 ∙ assoc (wideBytes (length es)) (over (entryBytes (names a)) es) last)
+  where
+    assoc : (us vs ws : List ℕ) → us ++ (vs ++ ws) ≡ (us ++ vs) ++ ws
+    assoc [] vs ws = refl
+    assoc (u ∷ us) vs ws = ap (λ (x : List ℕ). u ∷ x) (assoc us vs ws)

@@ -1,9 +1,9 @@
 -- The law in a whole tree: declarations of the class as they are written, with the list of excluded keys of the whole program.
 use mathlib.Core.Path.{_≡_}
 use mathlib.Core.Bool.{true, _||_}
-use mathlib.Core.List.{List, []}
+use mathlib.Core.List.{List, [], _++_}
 use Prim.Native.Nat.{ℕ}
-use Rattle.tree.specs.Tree.{Node, Items}
+use Rattle.tree.specs.Tree.{Node, Items, wideBytes, count, encode, encodeItems}
 use Rattle.tree.specs.Grammar.Stage.{input}
 use Rattle.tree.specs.Read.{readTree}
 use Rattle.tree.specs.Read.Got.{got}
@@ -13,7 +13,7 @@ use Rattle.lowering.specs.Made.{Context}
 use Rattle.lowering.specs.Walk.{rewrite}
 use Rattle.lowering.specs.Weight.{walked}
 use Rattle.lowering.specs.Collect.{Name, Visit, bare, visits, entries, excludedIn, namesOf, numberedItems, firstRefusal}
-use Rattle.lowering.specs.Answer.{top}
+use Rattle.lowering.specs.Answer.{Lent, Result, lowering, top}
 use Rattle.overlay.specs.Objects.{Key, Value, Props}
 use Rattle.overlay.specs.Objects.Value.{inner}
 use Rattle.overlay.specs.Run.{History as Read}
@@ -108,3 +108,10 @@ NoHead a n = (p : List ℕ) (f : Node) → Stands [] (a .tree) p f → (is 7 f |
 
 abbrev pub Everywhere : Type 0
 Everywhere = (a : Accepted) (p : List ℕ) (n : Node) → Stands [] (a .tree) p n → fits n ≡ true → NoHead a n → Placed a n
+
+-- ---- and of a call: where it lowers, the bytes that it hands back are the tree that is written, and a list that ends with the declarators
+-- of excluded keys
+
+abbrev pub Writes : Type 0
+Writes = (limit options : ℕ) (bytes : List ℕ) (s : Lent) (helpers mask : ℕ) (t l : List ℕ) → Bytes bytes → lowering limit options bytes s ≡ Result.lowered helpers mask t l
+    → (a : Accepted) × (a .bytes ≡ bytes) × (t ≡ encode (written a)) × (front : List ℕ) × (l ≡ front ++ (wideBytes (count (excludedIn (notes a))) ++ encodeItems (handedOut a)))
