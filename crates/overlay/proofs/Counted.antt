@@ -1,4 +1,4 @@
--- In an accepted tree every literal counts: the places that are not counted are none of the grammar's.
+-- In an accepted tree every literal and Declaration counts, unless ForIn or ForOf changes it: the places that are not counted are none of the grammar's.
 -- Assumes nothing.
 use mathlib.Core.Path.{_≡_, refl, sym, ap, subst, _∙_}
 use mathlib.Core.Bool.{Bool, true, false, cond, _||_, not}
@@ -19,7 +19,7 @@ use Rattle.overlay.specs.Whole.{ItemAt, NodeIn, FieldAt, PartAt, Stands}
 use Rattle.overlay.proofs.Objects.{differ}
 use Rattle.overlay.proofs.Free.{or-left, or-right}
 use Rattle.overlay.proofs.Accepted.{no-20, allRows, row-at, isMany, fieldAt, not-kind}
-use Rattle.overlay.proofs.Held.{isList, takesIn, takes, areParams, hasBody, isAtom, held, heldAll, heldPiece, heldItems, heldParts, heldPattern, heldDeclarators, heldDeclarator, at-24, at-26, at-27, at-34, at-37, at-4, declarator-held}
+use Rattle.overlay.proofs.Held.{isList, takesIn, takes, areParams, hasBody, isAtom, changesIt, held, heldAll, heldPiece, heldItems, heldParts, heldPattern, heldDeclarators, heldDeclarator, at-24, at-26, at-27, at-34, at-37, at-4, declarator-held}
 use Rattle.lowering.proofs.Cases.{by-test}
 
 -- ---- forms: which a kind may have, at whatever place
@@ -104,7 +104,7 @@ only-form g k h = go (ltb k 64) (eqb g k) h
     go true false h = absurd (omega arith)
     go false false h = absurd (omega arith)
 
-abbrev isNodeSort : Sort → Bool
+abbrev pub isNodeSort : Sort → Bool
 isNodeSort (Sort.child p) = true
 isNodeSort (Sort.chosen p q) = true
 isNodeSort (Sort.many p) = false
@@ -114,7 +114,7 @@ isNodeSort (Sort.byte low high) = false
 isNodeSort Sort.mark = false
 isNodeSort Sort.number = false
 
-abbrev isLeafSort : Sort → Bool
+abbrev pub isLeafSort : Sort → Bool
 isLeafSort (Sort.child p) = false
 isLeafSort (Sort.chosen p q) = false
 isLeafSort (Sort.many p) = false
@@ -532,23 +532,23 @@ body-8 p fs h f =
 
 module _ (wanted : Node → Bool) where
   body-counts : (at k : ℕ) (fs : Fields) → eqb k 24 ≡ false → eqb k 26 ≡ false → eqb k 27 ≡ false → eqb k 34 ≡ false → eqb k 37 ≡ false → eqb k 4 ≡ false
-      → isAtom k ≡ false → hasBody k fs ≡ true → heldAll wanted fs ≤ held wanted (node at k fs)
+      → isAtom k ≡ false → hasBody k fs ≡ true → changesIt wanted k fs ≡ false → heldAll wanted fs ≤ held wanted (node at k fs)
   unfolding held
-  body-counts at k fs e₁ e₂ e₃ e₄ e₅ e₆ a b = rw (e₁, e₂, e₃, e₄, e₅, e₆, a, b) (omega arith)
+  body-counts at k fs e₁ e₂ e₃ e₄ e₅ e₆ a b u = rw (e₁, e₂, e₃, e₄, e₅, e₆, a, b, u) (omega arith)
 
   abbrev Counts : ℕ → ℕ → Fields → ℕ → Type 0
-  Counts p at fs k = 0 < formAt input p k → FitFields input 0 (fieldsOf (formAt input p k)) fs → heldAll wanted fs ≤ held wanted (node at k fs)
+  Counts p at fs k = changesIt wanted k fs ≡ false → 0 < formAt input p k → FitFields input 0 (fieldsOf (formAt input p k)) fs → heldAll wanted fs ≤ held wanted (node at k fs)
 
   with-body : (p at : ℕ) (fs : Fields) (k : ℕ) → (isAtom k || (eqb k 24 || (eqb k 26 || (eqb k 27 || (eqb k 34 || (eqb k 37 || eqb k 4)))))) ≡ false
       → (0 < formAt input p k → FitFields input 0 (fieldsOf (formAt input p k)) fs → hasBody k fs ≡ true) → Counts p at fs k
-  with-body p at fs k e b h f =
+  with-body p at fs k e b u h f =
       let e₀ = or-right (isAtom k) _ e in
       let e₁ = or-right (eqb k 24) _ e₀ in
       let e₂ = or-right (eqb k 26) _ e₁ in
       let e₃ = or-right (eqb k 27) _ e₂ in
       let e₄ = or-right (eqb k 34) _ e₃ in
       body-counts at k fs (or-left (eqb k 24) _ e₀) (or-left (eqb k 26) _ e₁) (or-left (eqb k 27) _ e₂) (or-left (eqb k 34) _ e₃) (or-left (eqb k 37) _ e₄) (or-right (eqb k 37) _ e₄)
-      (or-left (isAtom k) _ e) (b h f)
+      (or-left (isAtom k) _ e) (b h f) u
 
   no-body : (k : ℕ) (fs : Fields) → eqb k 14 ≡ false → eqb k 17 ≡ false → eqb k 10 ≡ false → eqb k 7 ≡ false → eqb k 8 ≡ false → hasBody k fs ≡ true
   unfolding hasBody
@@ -560,20 +560,20 @@ module _ (wanted : Node → Bool) where
   counts : (p at : ℕ) (fs : Fields) (k : ℕ) → Counts p at fs k
   unfolding formIn places kindOf isAtom
   counts p at fs k =
-      by-test (eqb k 24) (λ e. counts-at p at fs k 24 e (λ h f. counts-24 wanted at fs (as-form wanted (one-form 24 24 refl refl refl p h) f)))
-      (λ e₁. by-test (eqb k 26) (λ e. counts-at p at fs k 26 e (λ h f. counts-26 wanted at fs (as-form wanted (one-form 26 26 refl refl refl p h) f)))
-      (λ e₂. by-test (eqb k 27) (λ e. counts-at p at fs k 27 e (λ h f. counts-27 wanted at fs (as-form wanted (one-form 27 27 refl refl refl p h) f)))
-      (λ e₃. by-test (eqb k 34) (λ e. counts-at p at fs k 34 e (λ h f. two-forms 34 34 66 refl refl refl p h (λ z. counts-34 wanted at fs (as-form wanted z f)) (λ z. counts-66 wanted at fs (as-form wanted z f))))
-      (λ e₄. by-test (eqb k 37) (λ e. counts-at p at fs k 37 e (λ h f. two-forms 37 37 69 refl refl refl p h (λ z. counts-37 wanted at fs (as-form wanted z f)) (λ z. counts-69 wanted at fs (as-form wanted z f))))
-      (λ e₅. by-test (eqb k 4) (λ e. counts-at p at fs k 4 e (λ h f. counts-4 wanted at fs (as-form wanted (one-form 4 4 refl refl refl p h) f)))
-      (λ e₆. by-test (eqb k 13) (λ e. counts-at p at fs k 13 e (λ h f. let z = counts-13 wanted fs (as-form wanted (one-form 13 13 refl refl refl p h) f) in omega arith))
-      (λ e₇. by-test (eqb k 18) (λ e. counts-at p at fs k 18 e (λ h f. let z = counts-18 wanted fs (as-form wanted (one-form 18 18 refl refl refl p h) f) in omega arith))
+      by-test (eqb k 24) (λ e. counts-at p at fs k 24 e (λ u h f. counts-24 wanted at fs (as-form wanted (one-form 24 24 refl refl refl p h) f)))
+      (λ e₁. by-test (eqb k 26) (λ e. counts-at p at fs k 26 e (λ u h f. counts-26 wanted at fs (as-form wanted (one-form 26 26 refl refl refl p h) f)))
+      (λ e₂. by-test (eqb k 27) (λ e. counts-at p at fs k 27 e (λ u h f. counts-27 wanted at fs (as-form wanted (one-form 27 27 refl refl refl p h) f)))
+      (λ e₃. by-test (eqb k 34) (λ e. counts-at p at fs k 34 e (λ u h f. two-forms 34 34 66 refl refl refl p h (λ z. counts-34 wanted at fs (as-form wanted z f)) (λ z. counts-66 wanted at fs (as-form wanted z f))))
+      (λ e₄. by-test (eqb k 37) (λ e. counts-at p at fs k 37 e (λ u h f. two-forms 37 37 69 refl refl refl p h (λ z. counts-37 wanted at fs (as-form wanted z f)) (λ z. counts-69 wanted at fs (as-form wanted z f))))
+      (λ e₅. by-test (eqb k 4) (λ e. counts-at p at fs k 4 e (λ u h f. counts-4 wanted at fs (as-form wanted (one-form 4 4 refl refl refl p h) f)))
+      (λ e₆. by-test (eqb k 13) (λ e. counts-at p at fs k 13 e (λ u h f. let z = counts-13 wanted fs (as-form wanted (one-form 13 13 refl refl refl p h) f) in omega arith))
+      (λ e₇. by-test (eqb k 18) (λ e. counts-at p at fs k 18 e (λ u h f. let z = counts-18 wanted fs (as-form wanted (one-form 18 18 refl refl refl p h) f) in omega arith))
       (λ e₈. by-test (eqb k 14) (λ e. counts-at p at fs k 14 e (with-body p at fs 14 refl (body-14 p fs)))
       (λ e₉. by-test (eqb k 17) (λ e. counts-at p at fs k 17 e (with-body p at fs 17 refl (body-17 p fs)))
       (λ e₁₀. by-test (eqb k 10) (λ e. counts-at p at fs k 10 e (with-body p at fs 10 refl (body-10 p fs)))
       (λ e₁₁. by-test (eqb k 7) (λ e. counts-at p at fs k 7 e (with-body p at fs 7 refl (body-7 p fs)))
       (λ e₁₂. by-test (eqb k 8) (λ e. counts-at p at fs k 8 e (with-body p at fs 8 refl (body-8 p fs)))
-      (λ e₁₃ h f. body-counts at k fs e₁ e₂ e₃ e₄ e₅ e₆ (atom (not-kind p k 20 (no-20 p) h) e₇ e₈) (no-body k fs e₉ e₁₀ e₁₁ e₁₂ e₁₃))))))))))))))
+      (λ e₁₃ u h f. body-counts at k fs e₁ e₂ e₃ e₄ e₅ e₆ (atom (not-kind p k 20 (no-20 p) h) e₇ e₈) (no-body k fs e₉ e₁₀ e₁₁ e₁₂ e₁₃) u)))))))))))))
     where
       atom : eqb k 20 ≡ false → eqb k 13 ≡ false → eqb k 18 ≡ false → isAtom k ≡ false
       atom a b d = rw (b, d, a) refl
@@ -591,7 +591,7 @@ piece-fits (FitPiece.chosen {b = b} {p = p} {q = q} f) NodeIn.one = (cond (eqb b
 piece-fits (FitPiece.many {p = p} c f) (NodeIn.list a) = (p, item-fits f a)
 piece-fits (FitPiece.gaps {p = p} c f) (NodeIn.list a) = (p, item-fits f a)
 
-field-fits : {b : ℕ} {ts : List Field} {fs : Fields} {i j : ℕ} {x : Node} → FitFields input b ts fs → FieldAt fs i j x → (q : ℕ) × Fits input q x
+pub field-fits : {b : ℕ} {ts : List Field} {fs : Fields} {i j : ℕ} {x : Node} → FitFields input b ts fs → FieldAt fs i j x → (q : ℕ) × Fits input q x
 field-fits (FitFields.field p f) (FieldAt.first a) = piece-fits p a
 field-fits (FitFields.field p f) (FieldAt.behind a) = field-fits f a
 field-fits (FitFields.absent f) (FieldAt.behindAbsent a) = field-fits f a
@@ -614,25 +614,41 @@ module _ (wanted : Node → Bool) where
   field-held (FieldAt.behind a) = let r = field-held a in omega arith
   field-held (FieldAt.behindAbsent a) = field-held a
 
-  here-held : (n : Node) → is 24 n ≡ true → wanted n ≡ true → 0 < held wanted n
+  here-held : (n : Node) → (is 24 n || is 4 n) ≡ true → wanted n ≡ true → 0 < held wanted n
   unfolding is
   here-held (node at k fs) e w =
-      let z : k ≡ 24 = eqb-true k 24 e in
-      subst (λ (x : ℕ). wanted (node at x fs) ≡ true → 0 < held wanted (node at x fs)) (sym z) (λ w. let a = at-24 wanted at fs in let o = counted (wanted (node at 24 fs)) w in omega arith) w
+      by-test (eqb k 24)
+      (λ z. at-kind 24 (eqb-true k 24 z) (λ w. let a = at-24 wanted at fs in let o = counted (wanted (node at 24 fs)) w in omega arith))
+      (λ z. at-kind 4 (eqb-true k 4 (rw z at e)) (λ w. let a = at-4 wanted at fs in let o = counted (wanted (node at 4 fs)) w in omega arith))
     where
+      at-kind : (j : ℕ) → k ≡ j → (wanted (node at j fs) ≡ true → 0 < held wanted (node at j fs)) → 0 < held wanted (node at k fs)
+      at-kind j z f = subst (λ (x : ℕ). wanted (node at x fs) ≡ true → 0 < held wanted (node at x fs)) (sym z) f w
+
       counted : (b : Bool) → b ≡ true → _≡_ {A = ℕ} (cond b 1 0) 1
       counted true e = refl
       counted false e = differ (sym e)
 
-  stands-held : {p : ℕ} {q r : List ℕ} {n m : Node} → Stands q n r m → Fits input p n → is 24 m ≡ true → wanted m ≡ true → 0 < held wanted n
-  stands-held (Stands.here {n = n}) f e w = here-held n e w
-  stands-held (Stands.onward (PartAt.part {at = at} {k = k} {fs = fs} a) s) (Fits.fits {p = p} h f) e w =
+  -- no ForIn or ForOf in n has a left that is wanted
+  abbrev pub Apart : List ℕ → Node → Type 0
+  Apart q n = (r : List ℕ) (f : Node) → Stands q n r f → (is 7 f || is 8 f) ≡ true → is 4 (nodeAt 1 f) ≡ true → wanted (nodeAt 1 f) ≡ false
+
+  unchanging : (q : List ℕ) (at k : ℕ) (fs : Fields) → Apart q (node at k fs) → changesIt wanted k fs ≡ false
+  unfolding is nodeAt
+  unchanging q at k fs a =
+      by-test (eqb k 7 || eqb k 8)
+      (λ l. rw l (by-test (is 4 (asNode (pieceIn fs 1))) (λ d. rw d (a q (node at k fs) Stands.here l d)) (λ d. rw d refl)))
+      (λ l. rw l refl)
+
+  stands-held : {p : ℕ} {q r : List ℕ} {n m : Node} → Stands q n r m → Fits input p n → Apart q n → (is 24 m || is 4 m) ≡ true → wanted m ≡ true → 0 < held wanted n
+  stands-held (Stands.here {n = n}) f u e w = here-held n e w
+  stands-held (Stands.onward {p = q} (PartAt.part {at = at} {k = k} {fs = fs} a) s) (Fits.fits {p = p} h f) u e w =
       let x = field-fits f a in
-      let i = stands-held s (x .1) e w in
+      let i = stands-held s (x .1) (λ r g t. u r g (Stands.onward (PartAt.part a) t)) e w in
       let b = field-held a in
-      let t = counts wanted p at fs k h f in
+      let t = counts wanted p at fs k (unchanging q at k fs u) h f in
       omega arith
 
--- every literal of an accepted tree counts
-pub counted : (wanted : Node → Bool) (levels j : ℕ) (n : Node) → WellFormed input levels n j → {p : List ℕ} {m : Node} → Stands [] n p m → is 24 m ≡ true → wanted m ≡ true → 0 < held wanted n
-counted wanted levels j n w s e t = stands-held wanted s (w .fits) e t
+-- every literal of an accepted tree counts, and every Declaration that is not changed
+pub counted : (wanted : Node → Bool) (levels j : ℕ) (n : Node) → WellFormed input levels n j → {p : List ℕ} {m : Node} → Stands [] n p m → Apart wanted [] n → (is 24 m || is 4 m) ≡ true → wanted m ≡ true
+    → 0 < held wanted n
+counted wanted levels j n w s u e t = stands-held wanted s (w .fits) u e t

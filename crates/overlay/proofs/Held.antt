@@ -1,5 +1,5 @@
--- How often a literal stands in a tree, at the places where the rules look. `wanted` says which literal it is. A place that the grammar
--- does not have is not counted, so that what is said of the count holds of every tree.
+-- How often a literal or a Declaration stands in a tree, at the places where the rules look. `wanted` says which it is. A place that the
+-- grammar does not have is not counted, so that what is said of the count holds of every tree.
 -- Assumes nothing.
 use mathlib.Core.Path.{_≡_, refl, ap, ap₂}
 use mathlib.Core.Bool.{Bool, true, false, cond, _&&_, _||_, not}
@@ -58,6 +58,10 @@ unfoldable pub isAtom : ℕ → Bool
 isAtom k = eqb k 13 || (eqb k 18 || eqb k 20)
 
 module _ (wanted : Node → Bool) where
+  -- 7 ForIn and 8 ForOf change the Declaration that is their left. Where that one is wanted, nothing is counted
+  abbrev pub changesIt : ℕ → Fields → Bool
+  changesIt k fs = (eqb k 7 || eqb k 8) && (is 4 (asNode (pieceIn fs 1)) && wanted (asNode (pieceIn fs 1)))
+
   unfoldable mutual
     pub held : Node → ℕ
     held (node at k fs) =
@@ -67,9 +71,9 @@ module _ (wanted : Node → Bool) where
         (cond (eqb k 27) (heldOne fs 1 + heldOne fs 2)
         (cond (eqb k 34) (heldPart fs 0 + heldOne fs 1)
         (cond (eqb k 37) (heldLeft fs 0 + heldOne fs 1)
-        (cond (eqb k 4) (heldDeclared fs 2)
+        (cond (eqb k 4) (own + heldDeclared fs 2)
         (cond (isAtom k) 0
-        (cond (hasBody k fs) (heldAll fs) 0)))))))
+        (cond (hasBody k fs) (cond (changesIt k fs) 0 (heldAll fs)) 0)))))))
 
     pub heldAll : Fields → ℕ
     heldAll done = 0
@@ -272,9 +276,9 @@ module _ (wanted : Node → Bool) where
   unfolding held
   at-37 at fs = ap₂ (λ (x y : ℕ). x + y) (left-held fs 0) (one-held fs 1)
 
-  pub at-4 : (at : ℕ) (fs : Fields) → held (node at 4 fs) ≡ heldDeclarators (asItems (pieceIn fs 2))
+  pub at-4 : (at : ℕ) (fs : Fields) → held (node at 4 fs) ≡ cond (wanted (node at 4 fs)) 1 0 + heldDeclarators (asItems (pieceIn fs 2))
   unfolding held
-  at-4 at fs = declared-held fs 2
+  at-4 at fs = ap (λ (x : ℕ). cond (wanted (node at 4 fs)) 1 0 + x) (declared-held fs 2)
 
   pub declarator-held : (d : Node) → heldDeclarator d ≡ cond (is 5 d) (heldPattern (nodeAt 0 d) + held (nodeAt 1 d)) 0
   unfolding held nodeAt is

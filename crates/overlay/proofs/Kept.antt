@@ -554,7 +554,7 @@ module _ (wanted : Node → Bool) where
     unfolding heldLets
     lets-add = record { append = lets-append }
 
-    let-held : (p : Node) (path : List ℕ) (stem at : ℕ) → H (letOf p (temporary path stem at)) ≡ heldPattern wanted p
+    let-held : (p : Node) (path : List ℕ) (stem at : ℕ) → heldPattern wanted p ≤ H (letOf p (temporary path stem at))
     unfolding held isAtom
     let-held p path stem at = omega arith
 

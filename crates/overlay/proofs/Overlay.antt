@@ -70,7 +70,7 @@ pub faithful : (ns : List Name) (next : ℕ) (c : Context) → Faithful (leaves 
 unfolding given
 faithful ns next c W fair how n h g e =
     let r : Plain n = plain-rule n e g in
-    ap (λ (x : Node). run W how x h) (plain-turns r ns next c) ∙ plain-run W fair r how h
+    ap (λ (x : Node). run W how x h) (plain-turns ns r next c) ∙ plain-run W fair r how h
 
 -- ---- the cut
 
@@ -125,7 +125,7 @@ overlays ns ns′ next next′ c c′ = overlay-of (leaves ns next c) (leaves ns
 -- an empty front is `{}`
 pub empty-front : (ns : List Name) (next : ℕ) (c : Context) (at : ℕ) → leaves ns next c (literalOf at none) ≡ literalOf at none
 unfolding lower literal any itemsAt pieceIn
-empty-front ns next c at = plain-turns (Plain.literal no-part) ns next c
+empty-front ns next c at = plain-turns ns (Plain.literal no-part) next c
 
 items-marks : (ps qs : Items) → marksItems (ps +++ qs) ≡ marksItems ps ++ marksItems qs
 unfolding marks _+++_

@@ -1,7 +1,7 @@
 -- Every plain literal of an accepted tree is handed out, or is written lowered.
 -- Assumes nothing.
-use mathlib.Core.Path.{_≡_, sym, subst, _∙_}
-use mathlib.Core.Bool.{Bool, true, false, cond}
+use mathlib.Core.Path.{_≡_, refl, sym, ap, subst, _∙_}
+use mathlib.Core.Bool.{Bool, true, false, cond, _||_}
 use mathlib.Core.List.{List, [], _∷_, _++_}
 use Prim.Native.Nat.{ℕ, suc, _+_}
 use native.Mathlib.Omega.{arith}
@@ -12,9 +12,9 @@ use Rattle.tree.specs.Tree.Node.{node}
 use Rattle.tree.specs.Grammar.Stage.{input}
 use Rattle.tree.specs.Read.{readTree}
 use Rattle.tree.specs.Read.Got.{got}
-use Rattle.tree.specs.WellFormed.{Bytes}
+use Rattle.tree.specs.WellFormed.{Bytes, WellFormed}
 use Rattle.tree.proofs.Sound.{sound}
-use Rattle.lowering.specs.Parts.{is}
+use Rattle.lowering.specs.Parts.{kind, is, nodeAt}
 use Rattle.lowering.specs.Made.{Context}
 use Rattle.lowering.specs.Walk.{Note, Walked, rewrite, within, inside, eachItem, eachPiece, eachField}
 use Rattle.lowering.specs.Weight.{walked}
@@ -27,7 +27,7 @@ use Rattle.overlay.specs.Whole.{ItemAt, NodeIn, FieldAt, PartAt, Stands,
 use Rattle.overlay.proofs.Objects.{differ}
 use Rattle.overlay.proofs.Same.{same, same-is, same-self}
 use Rattle.overlay.proofs.Visited.{Finds, comes}
-use Rattle.overlay.proofs.Counted.{counted}
+use Rattle.overlay.proofs.Counted.{Apart, counted}
 use Rattle.overlay.proofs.Accepted.{accepted-given}
 use Rattle.overlay.proofs.Whole.{plus-zero, zero-plus, plus-suc, in-place}
 use Rattle.lowering.proofs.Cases.{by-test}
@@ -83,7 +83,7 @@ module _ (P : Note → Type 0) where
   unfolding inside visits
   here-noted note w (node at k fs) next m h = h .0
 
-  visit-noted : {c d : Context} {n x : Node} → Visits c n d x → (next m : ℕ) → All (visits next m (walked c n)) → P (rewrite d x .note)
+  pub visit-noted : {c d : Context} {n x : Node} → Visits c n d x → (next m : ℕ) → All (visits next m (walked c n)) → P (rewrite d x .note)
   visit-noted (Visits.here {c = c} {n = n}) next m h =
       here-noted (rewrite c n .note) (λ i j m. walked (within c (rewrite c n .result) i j) m) (rewrite c n .result) next m (subst (λ (w : Walked). All (visits next m w)) (walked-is c n) h)
   visit-noted (Visits.onward {c = c} {n = n} e a v) next m h =
@@ -101,10 +101,12 @@ unrefused (v ∷ vs) e =
     refuted : v .note .refusal ≡ 0 → eqb (v .note .refusal) 0 ≡ false → ⊥
     refuted y z = differ (sym (eq-eqb (v .note .refusal) 0 y) ∙ z)
 
--- ---- every literal
+-- ---- every literal and Declaration
 
-pub reached : Reached
-reached levels next n w r p m s k = go (comes (same m) top n (counted (same m) levels next n w s k (same-self m)))
+-- a literal, or a Declaration that is the left of no ForIn and ForOf
+pub comes-to : (levels next : ℕ) (n : Node) → WellFormed input levels n next → firstRefusal (visits next 0 (walked top n)) ≡ 0
+    → (p : List ℕ) (m : Node) → Stands [] n p m → Apart (same m) [] n → (is 24 m || is 4 m) ≡ true → Comes m top n
+comes-to levels next n w r p m s u k = go (comes (same m) top n (counted (same m) levels next n w s u k (same-self m)))
   where
     go : Finds (same m) top n → Comes m top n
     go (Finds.visited {d = d} {m = m′} v e) = Comes.visited (subst (λ (x : Node). Visits top n d x) (sym (same-is m m′ e)) v)
@@ -112,6 +114,14 @@ reached levels next n w r p m s k = go (comes (same m) top n (counted (same m) l
     go (Finds.inExcluded {y = y} {m = m′} {p = q} v i t e) = Comes.inExcluded v i (subst (λ (x : Node). Stands [] y q x) (sym (same-is m m′ e)) t)
     go (Finds.refused {d = d} {x = x} v q) =
         absurd (let z = visit-noted (λ n. n .refusal ≡ 0) v next 0 (unrefused (visits next 0 (walked top n)) r) in omega arith)
+
+pub reached : Reached
+unfolding is
+reached levels next n w r p m s k = comes-to levels next n w r p m s (λ q f t l d. other (nodeAt 1 f) d) (rw k refl)
+  where
+    -- a literal is no Declaration
+    other : (l : Node) → is 4 l ≡ true → same m l ≡ false
+    other l d = by-test (same m l) (λ e. differ (sym d ∙ ap (is 4) (sym (same-is m l e)) ∙ rw (eqb-true (kind m) 24 k) refl)) (λ e. e)
 
 pub everywhere : Everywhere
 everywhere levels next n w r ns p m s k e = go (reached levels next n w r p m s k)

@@ -27,7 +27,7 @@ use Rattle.lowering.proofs.All.{other-changed}
 use Rattle.overlay.specs.Plain.{hasHole}
 use Rattle.overlay.proofs.Objects.{and-left, and-right, differ}
 use Rattle.overlay.proofs.Free.{or-left, or-right}
-use Rattle.overlay.proofs.Held.{isList, takesIn, takes, areParams, hasBody, isAtom, held, heldAll, heldPiece, heldItems, heldParts, heldPattern, heldDeclarators, heldDeclarator, at-24, at-26, at-27, at-34, at-37, at-4, declarator-held, held-append, piece-all, change-less, change-more, node-most, only-held, two-all}
+use Rattle.overlay.proofs.Held.{isList, takesIn, takes, areParams, hasBody, isAtom, changesIt, held, heldAll, heldPiece, heldItems, heldParts, heldPattern, heldDeclarators, heldDeclarator, at-24, at-26, at-27, at-34, at-37, at-4, declarator-held, held-append, piece-all, change-less, change-more, node-most, only-held, two-all}
 use Rattle.overlay.proofs.Kept.{View, view, object-view, array-view, default-view, leaf-view, pattern-most, declarator-most, declarator-kept, replaced-kept, heldRests, top-kept, heldLets, lets-add, moved-kept}
 use Rattle.lowering.proofs.ChangeLaws.{stands-changed}
 use Rattle.lowering.proofs.Cases.{not-false, by-test}
@@ -114,7 +114,7 @@ module _ (wanted : Node → Bool) where
       let b = two-all wanted fs in
       omega arith
 
-  stays-4 : (at : ℕ) (fs : Fields) → H (node at 4 fs) ≤ partsHeld (node at 4 fs)
+  stays-4 : (at : ℕ) (fs : Fields) → H (node at 4 fs) ≤ own (node at 4 fs) + partsHeld (node at 4 fs)
   unfolding partsHeld
   stays-4 at fs =
       let e = at-4 wanted at fs in
@@ -140,12 +140,13 @@ module _ (wanted : Node → Bool) where
       (λ e. subst (λ (x : ℕ). H (node at x fs) ≤ own (node at x fs) + partsHeld (node at x fs)) (sym (eqb-true k 4 e)) (let s = stays-4 at fs in omega arith))
       (λ e₆. by-test (eqb k 20)
       (λ e. subst (λ (x : ℕ). H (node at x fs) ≤ own (node at x fs) + partsHeld (node at x fs)) (sym (eqb-true k 20 e)) (omega arith))
-      (λ e₇. rw (e₁, e₂, e₃, e₄, e₅, e₆, e₇) (rest-of (eqb k 13 || (eqb k 18 || false)) (hasBody k fs)))))))))
+      (λ e₇. rw (e₁, e₂, e₃, e₄, e₅, e₆, e₇) (rest-of (eqb k 13 || (eqb k 18 || false)) (hasBody k fs) (changesIt wanted k fs)))))))))
     where
-      rest-of : (a b : Bool) → cond a 0 (cond b (heldAll wanted fs) 0) ≤ own (node at k fs) + heldAll wanted fs
-      rest-of true b = omega arith
-      rest-of false true = omega arith
-      rest-of false false = omega arith
+      rest-of : (a b d : Bool) → cond a 0 (cond b (cond d 0 (heldAll wanted fs)) 0) ≤ own (node at k fs) + heldAll wanted fs
+      rest-of true b d = omega arith
+      rest-of false true true = omega arith
+      rest-of false true false = omega arith
+      rest-of false false d = omega arith
 
   -- ---- literals
 
@@ -266,7 +267,7 @@ module _ (wanted : Node → Bool) where
     unfolding gather held
     gathered-none = refl
 
-    pub declaration-kept : (at : ℕ) (fs : Fields) → H (node at 4 fs) ≤ partsHeld (declaration c (node at 4 fs))
+    pub declaration-kept : (at : ℕ) (fs : Fields) → H (node at 4 fs) ≤ own (node at 4 fs) + partsHeld (declaration c (node at 4 fs))
     unfolding declaration change partsHeld
     declaration-kept at fs =
         let e = at-4 wanted at fs in
@@ -642,33 +643,36 @@ module _ (wanted : Node → Bool) where
     third-changed : (fs : Fields) (h : Node → Node) → heldDeclarators wanted (each h (asItems (pieceIn fs 2))) ≡ heldDeclarators wanted (asItems (pieceIn (changeIn fs 2 (onItems (each h))) 2))
     third-changed fs h = ap (heldDeclarators wanted) (sym (list-changed fs 2 h))
 
-    declaration-moved : (l : Node) → is 4 l ≡ true → H l ≤ H (changeItems 2 (each (leftBehind c)) l) + heldLets wanted c (gather movedFrom (itemsAt 2 l))
+    declaration-moved : (l : Node) → is 4 l ≡ true → wanted l ≡ false → H l ≤ H (changeItems 2 (each (leftBehind c)) l) + heldLets wanted c (gather movedFrom (itemsAt 2 l))
     unfolding is change itemsAt
-    declaration-moved (node at k fs) e =
+    declaration-moved (node at k fs) e u =
         let gs : Fields = changeIn fs 2 (onItems (each (leftBehind c))) in
-        subst (λ (y : ℕ). H (node at y fs) ≤ H (node at y gs) + heldLets wanted c (gather movedFrom (asItems (pieceIn fs 2)))) (sym (eqb-true k 4 e))
-        (let a = at-4 wanted at fs in
+        subst (λ (y : ℕ). wanted (node at y fs) ≡ false → H (node at y fs) ≤ H (node at y gs) + heldLets wanted c (gather movedFrom (asItems (pieceIn fs 2)))) (sym (eqb-true k 4 e))
+        (λ u.
+        let a = at-4 wanted at fs in
+        let o : own (node at 4 fs) ≡ 0 = rw u refl in
         let b = at-4 wanted at gs in
         let r = declarators-moved (asItems (pieceIn fs 2)) in
         let t = third-changed fs (leftBehind c) in
         omega arith)
+        u
 
-    left-piece : (p : Piece) → is 4 (asNode p) ≡ true → heldPiece wanted p ≤ heldPiece wanted (onNode (λ l. changeItems 2 (each (leftBehind c)) l) p) + heldLets wanted c (gather movedFrom (itemsAt 2 (asNode p)))
+    left-piece : (p : Piece) → is 4 (asNode p) ≡ true → wanted (asNode p) ≡ false → heldPiece wanted p ≤ heldPiece wanted (onNode (λ l. changeItems 2 (each (leftBehind c)) l) p) + heldLets wanted c (gather movedFrom (itemsAt 2 (asNode p)))
     unfolding held onNode
-    left-piece (one l) e = declaration-moved l e
-    left-piece (list n) e = omega arith
-    left-piece (text n) e = omega arith
-    left-piece (byte n) e = omega arith
-    left-piece (mark n) e = omega arith
-    left-piece (number n) e = omega arith
+    left-piece (one l) e u = declaration-moved l e u
+    left-piece (list n) e u = omega arith
+    left-piece (text n) e u = omega arith
+    left-piece (byte n) e u = omega arith
+    left-piece (mark n) e u = omega arith
+    left-piece (number n) e u = omega arith
 
-    pub declaring-all : (at k : ℕ) (fs : Fields) → eqb k 20 ≡ false → takes 2 (pieceIn fs 3) ≡ true → is 4 (nodeAt 1 (node at k fs)) ≡ true → heldAll wanted fs ≤ partsHeld (declaringHead c (node at k fs))
+    pub declaring-all : (at k : ℕ) (fs : Fields) → eqb k 20 ≡ false → takes 2 (pieceIn fs 3) ≡ true → is 4 (nodeAt 1 (node at k fs)) ≡ true → wanted (nodeAt 1 (node at k fs)) ≡ false → heldAll wanted fs ≤ partsHeld (declaringHead c (node at k fs))
     unfolding declaringHead inBody change nodeAt partsHeld
-    declaring-all at k fs z t d =
+    declaring-all at k fs z t d u =
         let ps = gather movedFrom (itemsAt 2 (asNode (pieceIn fs 1))) in
         by-test (any isMoved (itemsAt 2 (asNode (pieceIn fs 1))))
         (λ e. rw (e, z) (head-kept fs 1 3 (onNode (λ l. changeItems 2 (each (leftBehind c)) l)) (onNode (λ b. changeItems 1 (inFront c ps) (asBlock b))) (heldLets wanted c ps) (λ z. omega arith)
-        (left-piece (pieceIn fs 1) d)
+        (left-piece (pieceIn fs 1) d u)
         (takes-stands 2 fs 3 t) (block-piece (inFront c ps) (heldLets wanted c ps) (front-more ps) (pieceIn fs 3) t)))
         (λ e. rw (e, z) (omega arith))
 
@@ -741,24 +745,28 @@ module _ (wanted : Node → Bool) where
     keeps-10 at fs = kept (let l = catch-all at fs in omega arith)
 
     keeps-7 : (at : ℕ) (fs : Fields) → Kept (node at 7 fs)
-    unfolding rewrite ruleOf stepFor held isAtom hasBody
+    unfolding rewrite ruleOf stepFor held isAtom hasBody nodeAt
     keeps-7 at fs =
         let n = node at 7 fs in
         by-test (takes 2 (pieceIn fs 3))
         (λ t. by-test (is 4 (nodeAt 1 n))
-        (λ d. kept (rw (t, d, stepFor) (let l = declaring-all at 7 fs refl t d in omega arith)))
+        (λ d. by-test (wanted (nodeAt 1 n))
+        (λ u. kept (rw (t, d, u) (omega arith)))
+        (λ u. kept (rw (t, d, u, stepFor) (let l = declaring-all at 7 fs refl t d u in omega arith))))
         (λ d. by-test (hasArrayRestOverObjectRest (nodeAt 1 n))
         (λ a. refuses (rw (d, stepFor) (rw a (omega arith))))
         (λ a. kept (rw (t, d, stepFor) (rw a (let l = assigning-all at 7 fs refl t in omega arith))))))
         (λ t. kept (rw t (omega arith)))
 
     keeps-8 : (at : ℕ) (fs : Fields) → Kept (node at 8 fs)
-    unfolding rewrite ruleOf stepFor held isAtom hasBody
+    unfolding rewrite ruleOf stepFor held isAtom hasBody nodeAt
     keeps-8 at fs =
         let n = node at 8 fs in
         by-test (takes 2 (pieceIn fs 3))
         (λ t. by-test (is 4 (nodeAt 1 n))
-        (λ d. kept (rw (t, d, stepFor) (let l = declaring-all at 8 fs refl t d in omega arith)))
+        (λ d. by-test (wanted (nodeAt 1 n))
+        (λ u. kept (rw (t, d, u) (omega arith)))
+        (λ u. kept (rw (t, d, u, stepFor) (let l = declaring-all at 8 fs refl t d u in omega arith))))
         (λ d. by-test (hasArrayRestOverObjectRest (nodeAt 1 n))
         (λ a. refuses (rw (d, stepFor) (rw a (omega arith))))
         (λ a. kept (rw (t, d, stepFor) (rw a (let l = assigning-all at 8 fs refl t in omega arith))))))

@@ -98,7 +98,7 @@ unfolding given
 in-place ns next n m d v g e =
     let r : Plain m = plain-rule m e g in
     let s = left ns next top d n m v in
-    subst (λ (x : Node). Stands [] (leaves ns next top n) (d .path) x) (plain-turns r ns (s .0) d ∙ sym (plain-turns r [] 1 top)) (s .1)
+    subst (λ (x : Node). Stands [] (leaves ns next top n) (d .path) x) (plain-turns ns r (s .0) d ∙ sym (plain-turns [] r 1 top)) (s .1)
 
 pub lowered-overlays : Overlay lowered lowered
 lowered-overlays = overlays [] [] 1 1 top top
@@ -109,15 +109,15 @@ lowered-faithful = faithful [] 1 top
 -- ---- the bytes of the result
 
 -- an answer that lowers, by the tests that it passed
-fitted-tree : (s : Lent) (hs os : ℕ) (a b : List ℕ) (helpers mask : ℕ) (t l : List ℕ) → fitted s hs os a b ≡ Result.lowered helpers mask t l → t ≡ a
+fitted-bytes : (s : Lent) (hs os : ℕ) (a b : List ℕ) (helpers mask : ℕ) (t l : List ℕ) → fitted s hs os a b ≡ Result.lowered helpers mask t l → (t ≡ a) × (l ≡ b)
 unfolding fitted
-fitted-tree s hs os a b helpers mask t l e = by-test (fits s a b) (λ f. tree-of (rw f at e)) (λ f. no-tree (rw f at e))
+fitted-bytes s hs os a b helpers mask t l e = by-test (fits s a b) (λ f. bytes-of (rw f at e)) (λ f. no-bytes (rw f at e))
   where
-    tree-of : Result.lowered hs os a b ≡ Result.lowered helpers mask t l → t ≡ a
-    tree-of e = cc
+    bytes-of : Result.lowered hs os a b ≡ Result.lowered helpers mask t l → (t ≡ a) × (l ≡ b)
+    bytes-of e = (cc, cc)
 
-    no-tree : Result.refusal 7 ≡ Result.lowered helpers mask t l → t ≡ a
-    no-tree e = cc
+    no-bytes : Result.refusal 7 ≡ Result.lowered helpers mask t l → (t ≡ a) × (l ≡ b)
+    no-bytes e = (cc, cc)
 
 by-number : {A : Type 0} (n : ℕ) → (n ≡ 0 → A) → ((m : ℕ) → n ≡ suc m → A) → A
 by-number zero f g = f refl
@@ -130,19 +130,27 @@ no-refusal r helpers mask t l e = absurd (let z : _≡_ {A = ℕ} 0 1 = ap sort 
     sort (Result.refusal r) = 0
     sort (Result.lowered a b c d) = 1
 
-walk-tree : (options : ℕ) (s : Lent) (next : ℕ) (w : Walked) (helpers mask : ℕ) (t l : List ℕ) → afterWalk options s next w ≡ Result.lowered helpers mask t l
-    → (ns : List Name) × (firstRefusal (visits next 0 w) ≡ 0) × (t ≡ encode (numbered ns (bare next w)))
+-- the tree and the list, with the names of the temporaries in the order of their numbers
+abbrev pub Bytes-of : ℕ → Walked → List ℕ → List ℕ → Type 0
+Bytes-of next w t l =
+    let vs = visits next 0 w in
+    let ns = namesOf (bare next w) (entries vs) (excludedIn vs) in
+    (firstRefusal vs ≡ 0) × (t ≡ encode (numbered ns (bare next w))) × (l ≡ listBytes ns (entries vs) (excludedIn vs))
+
+walk-bytes : (options : ℕ) (s : Lent) (next : ℕ) (w : Walked) (helpers mask : ℕ) (t l : List ℕ) → afterWalk options s next w ≡ Result.lowered helpers mask t l → Bytes-of next w t l
 unfolding afterWalk collected
-walk-tree options s next w helpers mask t l e =
+walk-bytes options s next w helpers mask t l e =
     let vs = visits next 0 w in
     let ns = namesOf (bare next w) (entries vs) (excludedIn vs) in
     by-number (firstRefusal vs)
-    (λ z. (ns, z, fitted-tree s (helperMask (bare next w)) options (encode (numbered ns (bare next w))) (listBytes ns (entries vs) (excludedIn vs)) helpers mask t l (rw (z, afterWalk) at e)))
+    (λ z. let f = fitted-bytes s (helperMask (bare next w)) options (encode (numbered ns (bare next w))) (listBytes ns (entries vs) (excludedIn vs)) helpers mask t l (rw (z, afterWalk) at e) in (z, f .0, f .1))
     (λ r z. no-refusal (suc r) helpers mask t l (rw (z, afterWalk) at e))
 
-pub writes : Writes
-unfolding lowering afterReading leaves
-writes limit options bytes s helpers mask t l e =
+-- what a call that lowers has read, and what it writes
+pub call-writes : (limit options : ℕ) (bytes : List ℕ) (s : Lent) (helpers mask : ℕ) (t l : List ℕ) → lowering limit options bytes s ≡ Result.lowered helpers mask t l
+    → (n : Node) × (q next : ℕ) × (readTree input limit bytes ≡ got n q next) × Bytes-of next (walked top n) t l
+unfolding lowering afterReading
+call-writes limit options bytes s helpers mask t l e =
     by-test (ltb 15 options)
     (λ a. no-refusal 1 helpers mask t l (rw (a, lowering) at e))
     (λ a. by-test (ltb (s .workSlice) 65536)
@@ -150,6 +158,13 @@ writes limit options bytes s helpers mask t l e =
     (λ b. go (readTree input limit bytes) refl (rw b at (rw (a, lowering) at e))))
   where
     go : (g : Got Node) → readTree input limit bytes ≡ g → afterReading options s g ≡ Result.lowered helpers mask t l
-        → (n : Node) × (q next : ℕ) × (ns : List Name) × (readTree input limit bytes ≡ got n q next) × (firstRefusal (visits next 0 (walked top n)) ≡ 0) × (t ≡ encode (leaves ns next top n))
-    go (got n q next) r e = let x = walk-tree options s next (walked top n) helpers mask t l e in (n, q, next, x .0, r, x .1, x .2)
+        → (n : Node) × (q next : ℕ) × (readTree input limit bytes ≡ got n q next) × Bytes-of next (walked top n) t l
+    go (got n q next) r e = (n, q, next, r, walk-bytes options s next (walked top n) helpers mask t l e)
     go (refused x) r e = no-refusal _ helpers mask t l e
+
+pub writes : Writes
+unfolding leaves
+writes limit options bytes s helpers mask t l e =
+    let x = call-writes limit options bytes s helpers mask t l e in
+    let vs = visits (x .2) 0 (walked top (x .0)) in
+    (x .0, x .1, x .2, namesOf (bare (x .2) (walked top (x .0))) (entries vs) (excludedIn vs), x .3, x .4 .0, x .4 .1)

@@ -28,23 +28,10 @@ use Rattle.lowering.proofs.Clauses.{objects-object, objects-default}
 use Rattle.walk.proofs.Leaving.{taken-gather}
 use Rattle.walk.specs.Turns.{viewOf}
 use Rattle.lowering.proofs.ItemLaws.{gather-same, gather-each}
-use Rattle.lowering.proofs.ChangeLaws.{shape-changed, items-without}
+use Rattle.lowering.proofs.ChangeLaws.{shape-changed}
 
 module _ (c : Context) where
   -- an object whose values are changed and whose rest is taken has the objects of its values
-<<<<<<< HEAD
-=======
-  gather-taken : (F : Node → Items) (p : Node) → gather (λ q. F (value q)) (properties (taken c p)) ≡ gather (λ q. F (value q)) (properties p)
-  unfolding taken
-  gather-taken F p =
-      by-test (hasRest p)
-      (λ r. rw r
-      (ap (gather (λ q. F (value q))) (items-without (withProperties (keptKey c) p) ∙ properties-changed (keptKey c) p)
-      ∙ gather-each (λ q. F (value q)) (keptKey c) (properties p)
-      ∙ gather-same (λ q. F (value (keptKey c q))) (λ q. F (value q)) (λ q. ap F (value-kept c q)) (properties p)))
-      (λ r. rw r refl)
-
->>>>>>> 7aed5ac5a0e9f1dec8afa36fa3cbf23207e2cb07
   gather-values : (F : Node → Items) (f : Node → Node) → f nothing ≡ nothing → (p : Node)
       → gather (λ q. F (value q)) (properties (taken c (withValues f p))) ≡ gather (λ q. F (f (value q))) (properties p)
   gather-values F f z p =
