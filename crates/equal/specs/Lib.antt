@@ -1,0 +1,4 @@
+pub mod Canonical
+pub mod Equal
+pub mod Renaming
+pub mod Examples
