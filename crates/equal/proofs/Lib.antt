@@ -1,1 +1,4 @@
 pub mod Places
+pub mod Renumber
+pub mod Unplaced
+pub mod Equals

@@ -62,9 +62,9 @@ pub record Apart : Type 0 where
   pub form-counted : isEqualBefore decimal (program (numeral (49 ∷ 54 ∷ []) (49 ∷ []))) ≡ false
   pub formless-before : isEqualBefore (formless (49 ∷ [])) (formless (50 ∷ [])) ≡ false
 
-pub spelled-apart : Apart
+pub apart-examples : Apart
 unfolding isEqual isEqualBefore encode mapOf count canonical numbers renumbered placeOf distinct except numberIn samePath unspelled unspelledLiteral standsIn dropIn
-spelled-apart =
+apart-examples =
     record { hexadecimal-bytes = refl; decimal-bytes = refl; equal-before = refl; not-now = refl; form-counted = refl; formless-before = refl }
 
 -- temporaries by first appearance; a stem counts, and so does a tree's temporary in its list
