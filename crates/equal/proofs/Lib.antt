@@ -2,3 +2,4 @@ pub mod Places
 pub mod Renumber
 pub mod Unplaced
 pub mod Equals
+pub mod Unique
