@@ -3,3 +3,5 @@ pub mod Renumber
 pub mod Unplaced
 pub mod Equals
 pub mod Unique
+pub mod Forms
+pub mod Back

@@ -16,7 +16,7 @@ use Rattle.tree.proofs.Complete.{not-hole}
 use Rattle.equal.specs.Renaming.{unplaced, unplacedFields, unplacedPiece, unplacedItems}
 
 -- two 16-bit numbers by their bytes, and what follows them
-wide-same : (a b : ℕ) (x y : List ℕ) → wideBytes a ++ x ≡ wideBytes b ++ y → (a ≡ b) × (x ≡ y)
+pub wide-same : (a b : ℕ) (x y : List ℕ) → wideBytes a ++ x ≡ wideBytes b ++ y → (a ≡ b) × (x ≡ y)
 wide-same a b x y e =
     let low : a % 256 ≡ b % 256 = cc in
     let high : a / 256 ≡ b / 256 = cc in
@@ -45,7 +45,7 @@ byte-unplaced (Piece.mark b) = refl
 byte-unplaced (Piece.number b) = refl
 
 -- a list by its items
-list-by : (is js : Items) (x y : List ℕ) → (count is ≡ count js → encodeItems is ++ x ≡ encodeItems js ++ y → (unplacedItems is ≡ unplacedItems js) × (x ≡ y))
+pub list-by : (is js : Items) (x y : List ℕ) → (count is ≡ count js → encodeItems is ++ x ≡ encodeItems js ++ y → (unplacedItems is ≡ unplacedItems js) × (x ≡ y))
     → encodePiece (Piece.list is) ++ x ≡ encodePiece (Piece.list js) ++ y → (unplacedPiece (Piece.list is) ≡ unplacedPiece (Piece.list js)) × (x ≡ y)
 unfolding encode unplaced
 list-by is js x y h e =

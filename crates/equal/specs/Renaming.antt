@@ -1,14 +1,22 @@
 -- Trees that differ in the numbers of their temporaries, positions aside.
-use Prim.Native.Nat.{ℕ}
+use Prim.Native.Nat.{ℕ, _+_, _≤_}
 use mathlib.Core.Path.{_≡_}
-use mathlib.Core.List.{List}
-use Rattle.tree.specs.Tree.{Node, Fields, Piece, Items}
+use mathlib.Core.Bool.{false}
+use mathlib.Core.List.{List, [], _∷_}
+use lib.ListN.{length}
+use Rattle.tree.specs.Tree.{Node, Fields, Piece, Items, encode}
 use Rattle.tree.specs.Tree.Node.{node}
 use Rattle.tree.specs.Tree.Fields.{done, absent, field}
 use Rattle.tree.specs.Tree.Piece.{one, list, text, byte, mark, number}
 use Rattle.tree.specs.Tree.Items.{none, hole, item}
+use Rattle.tree.specs.Grammar.{root, declarator}
+use Rattle.tree.specs.Grammar.Stage.{rewritten}
+use Rattle.tree.specs.Read.{longest}
+use Rattle.tree.specs.WellFormed.{Fits, FitItems}
+use Rattle.lowering.specs.Collect.{Entry}
 use Rattle.lowering.proofs.Appearance.{In}
 use Rattle.equal.specs.Canonical.{Written, numbers, renumbered, numbersWritten, eachEntry, renumberedWritten}
+use Rattle.equal.specs.Equal.{listEncoded}
 
 -- f gives no two of the numbers one number
 unfoldable pub KeepsApart : (ℕ → ℕ) → List ℕ → Type 0
@@ -54,3 +62,20 @@ pub record RenamedWritten (v w : Written) : Type 0 where
   pub by : ℕ → ℕ
   pub apart : KeepsApart by (numbersWritten v)
   pub same : unplacedWritten (renumberedWritten by v) ≡ unplacedWritten w
+
+-- ---- trees and results that are laid out by the grammar, and are no longer than a result may be; the depth and the marks are free
+
+pub record Formed (n : Node) : Type 0 where
+  pub fits : Fits rewritten root n
+  pub short : length (encode n) ≤ longest rewritten
+
+abbrev pub FitEntries : List Entry → Type 0
+FitEntries [] = Unit {0}
+FitEntries (e ∷ es) = FitItems rewritten declarator false (e .declarators) × FitEntries es
+
+-- a list has 16,384 bytes at most
+pub record FormedWritten (w : Written) : Type 0 where
+  pub tree : Formed (w .tree)
+  pub entries : FitEntries (w .entries)
+  pub excluded : FitItems rewritten declarator false (w .excluded)
+  pub short : length (listEncoded (w .entries) (w .excluded)) ≤ 16384
