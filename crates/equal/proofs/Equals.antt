@@ -43,7 +43,7 @@ equal-written-equivalence =
 
 -- ---- the tests decide
 
-own-text : (p : List ℕ) → samePath p p ≡ true
+pub own-text : (p : List ℕ) → samePath p p ≡ true
 unfolding samePath
 own-text [] = refl
 own-text (a ∷ p) = ap₂ (λ (x y : Bool). x && y) (own-number a) (own-text p)

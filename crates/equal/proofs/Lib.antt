@@ -5,3 +5,4 @@ pub mod Equals
 pub mod Unique
 pub mod Forms
 pub mod Back
+pub mod One

@@ -165,7 +165,7 @@ entries-unplaced [] = refl
 entries-unplaced (e ∷ es) =
     ap₂ joined (ap (λ (bs : List ℕ). wideBytes (e .containing) ++ bs) (piece-encoded (list (e .declarators)))) (entries-unplaced es)
 
-each-length : (F : Items → Items) (es : List Entry) → length (eachEntry F es) ≡ length es
+pub each-length : (F : Items → Items) (es : List Entry) → length (eachEntry F es) ≡ length es
 unfolding eachEntry
 each-length F [] = refl
 each-length F (e ∷ es) = ap suc (each-length F es)

@@ -1,4 +1,5 @@
 pub mod Canonical
 pub mod Equal
 pub mod Renaming
+pub mod Results
 pub mod Examples
