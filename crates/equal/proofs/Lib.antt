@@ -6,3 +6,5 @@ pub mod Unique
 pub mod Forms
 pub mod Back
 pub mod One
+pub mod Leaves
+pub mod LeafViews
