@@ -8,3 +8,4 @@ pub mod Back
 pub mod One
 pub mod Leaves
 pub mod LeafViews
+pub mod LeafRules
