@@ -9,3 +9,4 @@ pub mod One
 pub mod Leaves
 pub mod LeafViews
 pub mod LeafRules
+pub mod LeafWalk
