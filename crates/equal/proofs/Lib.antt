@@ -10,3 +10,4 @@ pub mod Leaves
 pub mod LeafViews
 pub mod LeafRules
 pub mod LeafWalk
+pub mod Spelled
