@@ -15,7 +15,8 @@ use Rattle.lowering.specs.Collect.{Entry, over, distinct, numberIn}
 use Rattle.lowering.proofs.Appearance.{In, here, there}
 use Rattle.lowering.proofs.Cases.{by-test}
 use Rattle.equal.specs.Canonical.{Written, numbers, renumbered, placeOf, canonical, numbersWritten, eachEntry, renumberedWritten, canonicalWritten}
-use Rattle.equal.specs.Equal.{Equal, entryEncoded, listEncoded, EqualWritten, unspelled, EqualBefore}
+use Rattle.equal.specs.Equal.{Equal, entryEncoded, listEncoded, EqualWritten, EqualBefore}
+use Rattle.equal.specs.Unspelled.{unspelled}
 use Rattle.equal.specs.Renaming.{KeepsApart, unplaced, unplacedItems, unplacedWritten, Renamed, RenamedWritten, Formed, FitEntries, FormedWritten}
 use Rattle.equal.proofs.Places.{changed, own-number, among, places-apart}
 use Rattle.equal.proofs.Renumber.{Renumbers, trees, results, written}
@@ -150,7 +151,7 @@ entries-same (e ∷ es) (d ∷ ds) f g l x y h =
     let k = sym (append-assoc (wideBytes (e .containing) ++ a) (over entryEncoded es) x) ∙ (h ∙ append-assoc (wideBytes (d .containing) ++ b) (over entryEncoded ds) y) in
     let m = wide-same (e .containing) (d .containing) (a ++ (over entryEncoded es ++ x)) (b ++ (over entryEncoded ds ++ y)) k in
     let r = list-by (e .declarators) (d .declarators) (over entryEncoded es ++ x) (over entryEncoded ds ++ y)
-        (λ c t. items-same rewritten (f .0) (g .0) c (over entryEncoded es ++ x) (over entryEncoded ds ++ y) t) (m .1) in
+    (λ c t. items-same rewritten (f .0) (g .0) c (over entryEncoded es ++ x) (over entryEncoded ds ++ y) t) (m .1) in
     let s = entries-same es ds (f .1) (g .1) (omega arith) x y (r .1) in
     let p = m .0 in
     let q : unplacedItems (e .declarators) ≡ unplacedItems (d .declarators) = (let z = r .0 in cc) in

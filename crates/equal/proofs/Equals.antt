@@ -11,7 +11,8 @@ use Rattle.lowering.specs.Collect.{samePath}
 use Rattle.lowering.proofs.Appearance.{same-path}
 use Rattle.lowering.proofs.Cases.{and-left, and-right}
 use Rattle.equal.specs.Canonical.{Written, numbers, renumbered, placeOf, canonical, numbersWritten, eachEntry, renumberedWritten, canonicalWritten}
-use Rattle.equal.specs.Equal.{Equal, isEqual, listEncoded, EqualWritten, isEqualWritten, unspelled, EqualBefore, isEqualBefore}
+use Rattle.equal.specs.Equal.{Equal, isEqual, listEncoded, EqualWritten, isEqualWritten, EqualBefore, isEqualBefore}
+use Rattle.equal.specs.Unspelled.{unspelled}
 use Rattle.equal.specs.Renaming.{KeepsApart, unplaced, unplacedItems, unplacedWritten, Renamed, RenamedWritten}
 use Rattle.equal.specs.Examples.{hexadecimal, decimal, apart-examples}
 use Rattle.equal.proofs.Places.{own-number, place-changed}
@@ -59,11 +60,10 @@ equal-decides m n =
 
 pub equal-before-decides : (m n : Node) → (isEqualBefore m n ≡ true) ↔ EqualBefore m n
 unfolding isEqualBefore EqualBefore
-equal-before-decides m n =
-    (
-      same-path (encode (unspelled (canonical m))) (encode (unspelled (canonical n))),
-      text-same (encode (unspelled (canonical m))) (encode (unspelled (canonical n))),
-    )
+equal-before-decides m n = (
+  same-path (encode (unspelled (canonical m))) (encode (unspelled (canonical n))),
+  text-same (encode (unspelled (canonical m))) (encode (unspelled (canonical n))),
+)
 
 pub equal-written-decides : (v w : Written) → (isEqualWritten v w ≡ true) ↔ EqualWritten v w
 unfolding isEqualWritten
@@ -71,19 +71,17 @@ equal-written-decides v w =
     let a = encode (canonicalWritten v .tree) in
     let b = encode (canonicalWritten w .tree) in
     let c = listEncoded (canonicalWritten v .entries) (canonicalWritten v .excluded) in
-    let d = listEncoded (canonicalWritten w .entries) (canonicalWritten w .excluded) in
-    (
+    let d = listEncoded (canonicalWritten w .entries) (canonicalWritten w .excluded) in (
       λ e. record { trees = same-path a b (and-left (samePath a b) (samePath c d) e); lists = same-path c d (and-right (samePath a b) (samePath c d) e) },
       λ h. ap₂ (λ (x y : Bool). x && y) (text-same a b (h .trees)) (text-same c d (h .lists)),
     )
 
 -- `0x10;` and `16;`, whose numbers have one form: equal before, not now
 pub spelled-apart : EqualBefore hexadecimal decimal × (Equal hexadecimal decimal → ⊥)
-spelled-apart =
-    (
-      equal-before-decides hexadecimal decimal .0 (apart-examples .equal-before),
-      λ h. true≢false (sym (equal-decides hexadecimal decimal .1 h) ∙ apart-examples .not-now),
-    )
+spelled-apart = (
+  equal-before-decides hexadecimal decimal .0 (apart-examples .equal-before),
+  λ h. true≢false (sym (equal-decides hexadecimal decimal .1 h) ∙ apart-examples .not-now),
+)
 
 -- ---- a renaming that keeps temporaries apart does not change the canonical form
 

@@ -148,20 +148,19 @@ canonical-written-fits w g =
     let es = over entryEncoded (w .entries) in
     let ex = encodePiece (Piece.list (w .excluded)) in
     let bounded : (a : ℕ) → f a < 65536 =
-        λ a.
-            let h = place-most (numbersWritten w) a in
-            let t = numbers-short (w .tree) in
-            let u = g .tree .short in
-            let v = g .short in
-            let i = entries-short (w .entries) in
-            let j = list-short (w .excluded) in
-            omega
-            (
-              arith,
-              length-append (numbers (w .tree)) (listed (w .entries) ++ numbersItems (w .excluded)),
-              length-append (listed (w .entries)) (numbersItems (w .excluded)),
-              length-append es ex,
-            ) in
+    λ a.
+    let h = place-most (numbersWritten w) a in
+    let t = numbers-short (w .tree) in
+    let u = g .tree .short in
+    let v = g .short in
+    let i = entries-short (w .entries) in
+    let j = list-short (w .excluded) in
+    omega (
+      arith,
+      length-append (numbers (w .tree)) (listed (w .entries) ++ numbersItems (w .excluded)),
+      length-append (listed (w .entries)) (numbersItems (w .excluded)),
+      length-append es ex,
+    ) in
     record {
       tree = renumbered-fits rewritten f bounded (g .tree .fits);
       entries = entries-fit f bounded (w .entries) (g .entries);

@@ -237,25 +237,23 @@ module _ (Q : Node → Type 0) (makes : Makes Q) where
         let t = valueOf c (target n) in
         let rs : Items = each (λ p. assign (rest p) (restValue c p t)) (restsOf n) in
         Views.sequence-good Q makes
-        (item (assign t (assigned n)) (item (assign (targetLeft c n) t) (rs +++ cond (c .statement) none (only t))))
-        (
+        (item (assign t (assigned n)) (item (assign (targetLeft c n) t) (rs +++ cond (c .statement) none (only t)))) (
           Views.assign-good Q makes t (assigned n) (val (target n)) (part 2 n h),
           (
             Views.assign-good Q makes (targetLeft c n) t (Views.withoutRests-good Q makes c (depth (target n)) (target n) (part 1 n h)) (val (target n)),
             append rs (cond (c .statement) none (only t))
-            (Leaves.each-leaves Q (λ p. assign (rest p) (restValue c p t))
-            (λ p g. Views.assign-good Q makes (rest p) (restValue c p t) (part 1 p g) (Views.restValue-good Q makes c p t g (val (target n)))) (restsOf n) (targets-good n h))
-            (one-or-none (c .statement) none (only t) tt (val (target n), tt)),
+                (Leaves.each-leaves Q (λ p. assign (rest p) (restValue c p t))
+                (λ p g. Views.assign-good Q makes (rest p) (restValue c p t) (part 1 p g) (Views.restValue-good Q makes c p t g (val (target n)))) (restsOf n) (targets-good n h))
+                (one-or-none (c .statement) none (only t) tt (val (target n), tt)),
           ),
         )
 
     topEntry-good : (n : Node) → G n → GI (topEntry c n)
     unfolding topEntry
-    topEntry-good n h =
-        (
-          Views.declared-good Q makes (valueOf c (target n)) (val (target n)),
-          Leaves.gather-leaves Q (keyTemporaries c) (Views.keyTemporaries-good Q makes c) (restsOf n) (targets-good n h),
-        )
+    topEntry-good n h = (
+      Views.declared-good Q makes (valueOf c (target n)) (val (target n)),
+      Leaves.gather-leaves Q (keyTemporaries c) (Views.keyTemporaries-good Q makes c) (restsOf n) (targets-good n h),
+    )
 
     top-step : (n : Node) → G n → GoodStep (stepTop c n)
     unfolding stepTop topExcludes
@@ -269,11 +267,10 @@ module _ (Q : Node → Type 0) (makes : Makes Q) where
     unfolding nestedSequence
     nestedSequence-good n h =
         Views.sequence-good Q makes
-        (item (changeNode 1 (λ p. replacedBelow c p) n) (each (λ p. assign p (reference c p)) (objectsBelow c (target n))))
-        (
+        (item (changeNode 1 (λ p. replacedBelow c p) n) (each (λ p. assign p (reference c p)) (objectsBelow c (target n)))) (
           Leaves.change-node Q 1 (λ p. replacedBelow c p) replacedBelow-good n h,
           Leaves.each-leaves Q (λ p. assign p (reference c p)) (λ p g. Views.assign-good Q makes p (reference c p) g (ref p)) (objectsBelow c (target n))
-          (objectsBelow-good (target n) (part 1 n h)),
+              (objectsBelow-good (target n) (part 1 n h)),
         )
 
     nestedEntry-good : (n : Node) → G n → GI (nestedEntry c n)

@@ -91,11 +91,10 @@ module _ (Q : Node → Type 0) (makes : Makes Q) where
 
     node-tree : (note : Note) (n : Node) → G n → (next : ℕ) → G (bare next (inside note w n))
     unfolding bare inside
-    node-tree note (node at k fs) h next =
-        (
-          (λ t. let l = h .0 t in subst (λ (gs : Fields). Leaf Q at k gs) (sym (fields-alone w 0 next fs (l .alone))) l),
-          fields-tree fs 0 next (h .1),
-        )
+    node-tree note (node at k fs) h next = (
+      (λ t. let l = h .0 t in subst (λ (gs : Fields). Leaf Q at k gs) (sym (fields-alone w 0 next fs (l .alone))) l),
+      fields-tree fs 0 next (h .1),
+    )
 
     items-notes : (i : ℕ) (is : Items) (j : ℕ) (l : Bool) (next m : ℕ) → LeavesItems Q is → AllNotes (GoodNote Q makes) (visitsItems l next m (eachItem (w i) j is))
     unfolding visits eachItem
@@ -177,8 +176,7 @@ module _ (Q : Node → Type 0) (makes : Makes Q) where
       numbered-leaves (node at k fs) h =
           by-test (eqb k 20)
           (λ e. rw e (other Q at 20 _ refl (tt, tt)))
-          (λ e. rw e
-          (
+          (λ e. rw e (
             (λ t. let l = h .0 t in subst (λ (gs : Fields). Leaf Q at k gs) (sym (fields-numbered ns fs (l .alone))) l),
             fields-leaves fs (h .1),
           ))

@@ -192,11 +192,10 @@ module _ (Q : Node → Type 0) where
 
     changed-leaves : (i : ℕ) (n : Node) → Leaves n → Leaves (change i f n)
     unfolding change
-    changed-leaves i (node at k fs) h =
-        (
-          (λ t. let l = h .0 t in subst (λ (gs : Fields). Leaf at k gs) (sym (same-fields fs i (l .alone))) l),
-          fields-changed fs i (h .1),
-        )
+    changed-leaves i (node at k fs) h = (
+      (λ t. let l = h .0 t in subst (λ (gs : Fields). Leaf at k gs) (sym (same-fields fs i (l .alone))) l),
+      fields-changed fs i (h .1),
+    )
 
   pub change-node : (i : ℕ) (f : Node → Node) → ((n : Node) → Leaves n → Leaves (f n)) → (n : Node) → Leaves n → Leaves (changeNode i f n)
   change-node i f g n h = changed-leaves (onNode f) (on-node f g) i n h

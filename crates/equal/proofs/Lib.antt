@@ -11,3 +11,4 @@ pub mod LeafViews
 pub mod LeafRules
 pub mod LeafWalk
 pub mod Spelled
+pub mod Turn

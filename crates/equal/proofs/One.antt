@@ -263,7 +263,7 @@ same-results : (ns ms : List Name) (n : Node) (es : List Entry) (excluded : Item
     → EqualWritten (writtenBy ns n es excluded) (writtenBy ms n es excluded)
 same-results ns ms n es excluded g h =
     let e : canonicalWritten (writtenBy ns n es excluded) ≡ canonicalWritten (writtenBy ms n es excluded) =
-        canonical-by ns n es excluded g ∙ sym (canonical-by ms n es excluded h) in
+    canonical-by ns n es excluded g ∙ sym (canonical-by ms n es excluded h) in
     record { trees = ap (λ (w : Written). encode (w .tree)) e; lists = ap (λ (w : Written). listEncoded (w .entries) (w .excluded)) e }
 
 -- ---- the definition's own result
@@ -329,7 +329,7 @@ module _ (h o : ℕ) (t l : List ℕ) where
       let ex = excludedOf next n in
       let ns = namesOf m es ex in
       let f = of-fitted s (helperMask m) options (encode (numbered ns m)) (listBytes ns es ex)
-          (of-walk (fitted s (helperMask m) options (encode (numbered ns m)) (listBytes ns es ex)) (firstRefusal (visits next 0 (walked top n))) e) in
+      (of-walk (fitted s (helperMask m) options (encode (numbered ns m)) (listBytes ns es ex)) (firstRefusal (visits next 0 (walked top n))) e) in
       record { n = n; end = q; next = next; read = k; tree-bytes = f .0; list-bytes = f .1 ∙ sym (list-bytes ns m es ex) }
 
   pub handed : (limit options : ℕ) (tree : List ℕ) (s : Lent) → lowering limit options tree s ≡ lowered h o t l → Handed limit tree t l

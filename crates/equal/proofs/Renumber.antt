@@ -221,7 +221,7 @@ unfolding renumberedWritten
 written-twice f g w =
     let t = node-twice f g (w .tree) in
     let e = each-twice (λ is. renumberedItems f is) (λ is. renumberedItems g is) (w .entries)
-        ∙ each-same (λ is. renumberedItems f (renumberedItems g is)) (λ is. renumberedItems (λ a. f (g a)) is) (items-twice f g) (w .entries) in
+    ∙ each-same (λ is. renumberedItems f (renumberedItems g is)) (λ is. renumberedItems (λ a. f (g a)) is) (items-twice f g) (w .entries) in
     let x = items-twice f g (w .excluded) in
     λ j. written ((t) j) ((e) j) ((x) j)
 

@@ -118,20 +118,18 @@ module _ (start : Node) where
     unfolding nodes
 
     fits-leaves : {p : ℕ} {n : Node} → Fits input p n → Within (nodes n) → Leaves (Origin start) n
-    fits-leaves (Fits.fits {p = p} {at = at} {k = k} {fs = fs} u g) h =
-        (
-          (λ t. record { alone = plain-fields g (leaf-plain p k u t); holds = found (h (node at k fs) (In.here refl)) }),
-          fields-leaves g (λ m i. h m (In.there i)),
-        )
+    fits-leaves (Fits.fits {p = p} {at = at} {k = k} {fs = fs} u g) h = (
+      (λ t. record { alone = plain-fields g (leaf-plain p k u t); holds = found (h (node at k fs) (In.here refl)) }),
+      fields-leaves g (λ m i. h m (In.there i)),
+    )
 
     fields-leaves : {b : ℕ} {ts : List Field} {fs : Fields} → FitFields input b ts fs → Within (nodesFields fs) → LeavesFields (Origin start) fs
     fields-leaves FitFields.done h = tt
     fields-leaves (FitFields.absent g) h = fields-leaves g h
-    fields-leaves (FitFields.field {p = p} {fs = fs} u g) h =
-        (
-          piece-leaves u (λ m i. h m (in-left m (nodesPiece p) (nodesFields fs) i)),
-          fields-leaves g (λ m i. h m (in-right m (nodesPiece p) (nodesFields fs) i)),
-        )
+    fields-leaves (FitFields.field {p = p} {fs = fs} u g) h = (
+      piece-leaves u (λ m i. h m (in-left m (nodesPiece p) (nodesFields fs) i)),
+      fields-leaves g (λ m i. h m (in-right m (nodesPiece p) (nodesFields fs) i)),
+    )
 
     piece-leaves : {b : ℕ} {t : Sort} {p : Piece} → FitPiece input b t p → Within (nodesPiece p) → LeavesPiece (Origin start) p
     piece-leaves (FitPiece.child g) h = fits-leaves g h

@@ -14,7 +14,8 @@ use Rattle.tree.specs.Tree.Items.{none, hole, item}
 use Rattle.lowering.specs.Parts.{standsIn, dropIn}
 use Rattle.lowering.specs.Collect.{Entry, over}
 use Rattle.equal.specs.Canonical.{Written, numbers, numbersFields, numbersPiece, numbersItems, renumbered, renumberedFields, renumberedPiece, renumberedItems, numbersList, numbersWritten, eachEntry, renumberedWritten}
-use Rattle.equal.specs.Equal.{entryEncoded, listEncoded, unspelledLiteral, unspelled, unspelledFields, unspelledPiece, unspelledItems}
+use Rattle.equal.specs.Equal.{entryEncoded, listEncoded}
+use Rattle.equal.specs.Unspelled.{unspelledLiteral, unspelled, unspelledFields, unspelledPiece, unspelledItems}
 use Rattle.equal.specs.Renaming.{unplaced, unplacedFields, unplacedPiece, unplacedItems, unplacedWritten}
 use Rattle.equal.proofs.Renumber.{written, listed, each-same, each-twice}
 
@@ -190,8 +191,8 @@ unfolding renumberedWritten unplacedWritten
 written-renumbered-unplaced f w =
     let t = renumbered-unplaced f (w .tree) in
     let e =
-        each-twice (λ is. renumberedItems f is) unplacedItems (w .entries)
-        ∙ (each-same (λ is. renumberedItems f (unplacedItems is)) (λ is. unplacedItems (renumberedItems f is)) (items-renumbered f) (w .entries)
-        ∙ sym (each-twice unplacedItems (λ is. renumberedItems f is) (w .entries))) in
+    each-twice (λ is. renumberedItems f is) unplacedItems (w .entries)
+    ∙ (each-same (λ is. renumberedItems f (unplacedItems is)) (λ is. unplacedItems (renumberedItems f is)) (items-renumbered f) (w .entries)
+    ∙ sym (each-twice unplacedItems (λ is. renumberedItems f is) (w .entries))) in
     let x = items-renumbered f (w .excluded) in
     λ j. written ((t) j) ((e) j) ((x) j)

@@ -1,18 +1,14 @@
 -- When two trees are equal, and when two results are.
 use Prim.Native.Nat.{ℕ}
 use mathlib.Core.Path.{_≡_}
-use mathlib.Core.Bool.{Bool, cond, _&&_}
+use mathlib.Core.Bool.{Bool, _&&_}
 use mathlib.Core.List.{List, _++_}
-use lib.Dec.{eqb}
 use lib.ListN.{length}
-use Rattle.tree.specs.Tree.{Node, Fields, Piece, Items, wideBytes, encode, encodePiece}
-use Rattle.tree.specs.Tree.Node.{node}
-use Rattle.tree.specs.Tree.Fields.{done, absent, field}
-use Rattle.tree.specs.Tree.Piece.{one, list, text, byte, mark, number}
-use Rattle.tree.specs.Tree.Items.{none, hole, item}
-use Rattle.lowering.specs.Parts.{standsIn, dropIn}
+use Rattle.tree.specs.Tree.{Node, Items, wideBytes, encode, encodePiece}
+use Rattle.tree.specs.Tree.Piece.{list}
 use Rattle.lowering.specs.Collect.{Entry, over, samePath}
 use Rattle.equal.specs.Canonical.{Written, canonical, canonicalWritten}
+use Rattle.equal.specs.Unspelled.{unspelled}
 
 -- ---- equal trees: the bytes of their canonical forms are the same. So every spelling counts, with a form or without
 
@@ -47,32 +43,6 @@ isEqualWritten v w =
     (listEncoded (canonicalWritten w .entries) (canonicalWritten w .excluded))
 
 -- ---- equal as before: a Literal's spelling was disregarded where its form stands (document 01)
-
--- 22 Literal(sort= spelling' form'?): without its spelling, if it has a form
-unfoldable pub unspelledLiteral : ℕ → Fields → Fields
-unspelledLiteral k fs = cond (eqb k 22 && standsIn fs 2) (dropIn fs 1) fs
-
-unfoldable mutual
-  pub unspelled : Node → Node
-  unspelled (node at k fs) = node at k (unspelledLiteral k (unspelledFields fs))
-
-  pub unspelledFields : Fields → Fields
-  unspelledFields done = done
-  unspelledFields (absent fs) = absent (unspelledFields fs)
-  unspelledFields (field p fs) = field (unspelledPiece p) (unspelledFields fs)
-
-  pub unspelledPiece : Piece → Piece
-  unspelledPiece (one n) = one (unspelled n)
-  unspelledPiece (list is) = list (unspelledItems is)
-  unspelledPiece (text bs) = text bs
-  unspelledPiece (byte b) = byte b
-  unspelledPiece (mark b) = mark b
-  unspelledPiece (number b) = number b
-
-  pub unspelledItems : Items → Items
-  unspelledItems none = none
-  unspelledItems (hole is) = hole (unspelledItems is)
-  unspelledItems (item n is) = item (unspelled n) (unspelledItems is)
 
 unfoldable pub EqualBefore : Node → Node → Type 0
 EqualBefore m n = encode (unspelled (canonical m)) ≡ encode (unspelled (canonical n))

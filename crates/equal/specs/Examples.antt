@@ -12,7 +12,8 @@ use Rattle.lowering.specs.Parts.{standsIn, dropIn}
 use Rattle.lowering.specs.Made.{array, declared}
 use Rattle.lowering.specs.Collect.{over, except, distinct, numberIn, samePath}
 use Rattle.equal.specs.Canonical.{Written, numbers, renumbered, placeOf, canonical, numbersList, numbersWritten, eachEntry, renumberedWritten, canonicalWritten}
-use Rattle.equal.specs.Equal.{isEqual, entryEncoded, listEncoded, isEqualWritten, unspelledLiteral, unspelled, isEqualBefore}
+use Rattle.equal.specs.Equal.{isEqual, entryEncoded, listEncoded, isEqualWritten, isEqualBefore}
+use Rattle.equal.specs.Unspelled.{unspelledLiteral, unspelled}
 
 -- a Program of one expression statement
 abbrev pub program : Node → Node
