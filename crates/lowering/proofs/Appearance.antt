@@ -62,7 +62,7 @@ module _ {A B : Type 0} (alike : A → A → Bool) (alike′ : B → B → Bool)
       go true z k = there (k z)
       go false z k = after (except alike b xs) z k
 
-  in-distinct : (a : A) (xs : List A) → In a (distinct alike xs) → In a xs
+  pub in-distinct : (a : A) (xs : List A) → In a (distinct alike xs) → In a xs
   unfolding distinct
   in-distinct a [] i = i
   in-distinct a (d ∷ xs) i = after (except alike d (distinct alike xs)) i (λ z. in-distinct a xs (in-except a d (distinct alike xs) z))

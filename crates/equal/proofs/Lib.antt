@@ -1,0 +1,14 @@
+pub mod Places
+pub mod Renumber
+pub mod Unplaced
+pub mod Equals
+pub mod Unique
+pub mod Forms
+pub mod Back
+pub mod One
+pub mod Leaves
+pub mod LeafViews
+pub mod LeafRules
+pub mod LeafWalk
+pub mod Spelled
+pub mod Turn
