@@ -7,7 +7,8 @@ Read are README.md, CONTRIBUTING.md and the pages in docs/, tools/, examples/ an
 
 - a link to a file of the repository leads to one, and to a heading of it if it names one;
 - a file or folder that is named in a code span is there;
-- in a table with the columns Theorem (or Definition, or Contract) and File each name is declared in one of the files;
+- in a table with the columns Theorem (or Definition, or Contract) and File each name is declared in one of the files, and
+  a column Lines has the number of its lines;
 - in a table that begins with Case, and behind the word 'Case' in a text, the script and what it becomes are those of the
   stored case with that number (crates/vectors/stdin, which the program vectors replays). --renumber looks for the case by its text
   and writes its number into the page;
@@ -89,6 +90,17 @@ class Checker:
         return "/" not in name and name in self.files
 
     # ---- tables
+
+    def lines(self, page, text):
+        for header, row in table_rows(text):
+            if "File" not in header or "Lines" not in header:
+                continue
+            for name in spans(row[header.index("File")]):
+                path = os.path.join(ROOT, "crates", name)
+                count = len(text_of(path).splitlines()) if os.path.exists(path) else 0
+                self.counts["lengths"] += 1
+                if row[header.index("Lines")] != f"{count:,}":
+                    self.bad(page, f"{name} has {count:,} lines")
 
     def theorems(self, page, text):
         for header, row in table_rows(text):
@@ -231,6 +243,7 @@ def main():
         checker.links(page, without_blocks(text))
         checker.paths(page, without_blocks(text))
         checker.theorems(page, text)
+        checker.lines(page, text)
         changed = checker.examples(page, text, given.renumber)
         if changed != text:
             with open(path, "w", encoding="utf-8") as out:
