@@ -3,6 +3,7 @@
 
     tools/show.py [--hex] < TREE          a tree, or what the program lower prints
     tools/show.py --list LIST < TREE      a tree and its list, each a file of bytes
+    tools/show.py --nodes < TREE          a line for each node: where it begins, its kind, and the fields that are no nodes
 
 A tree of bytes, or with --hex of hexadecimal digits, is printed without its marks if it has no Temporary and no Helper,
 and with them otherwise; what lower prints, its three lines, is recognised and printed whole. Nothing is checked: bytes
@@ -17,6 +18,11 @@ import read
 TEMPORARY, HELPER = 20, 21
 HELPERS = {1: "S", 2: "X", 3: "E", 4: "W", 5: "K"}
 KINDS = {1: "var", 2: "let", 3: "const"}
+NAMES = (
+    "Program Block ExpressionStatement Declaration Declarator For ForIn ForOf Try Catch Return OtherStatement Empty Function Param "
+    "FunctionBody Arrow Reference Binding Temporary Helper Literal Template Object Property Spread Assignment Sequence Call Member "
+    "Parenthesised Array OtherExpression ObjectPattern PatternProperty ArrayPattern Default StaticKey PrivateKey"
+).split()
 # The sorts of the fields of each kind, bit 0 first. Forms of one kind differ in their places alone.
 SORTS = {read.KIND[form]: [field.sort for field in fields] for form, fields in read.FIELDS.items()}
 SORTS.update({TEMPORARY: ["number"], HELPER: ["byte"]})
@@ -29,8 +35,8 @@ class NoTree(Exception):
 class Node:
     """A kind and its fields; None where a field is absent, and where an item is a hole."""
 
-    def __init__(self, kind, fields):
-        self.kind, self.fields = kind, fields
+    def __init__(self, kind, fields, at):
+        self.kind, self.fields, self.at = kind, fields, at
 
     def __getitem__(self, i):
         return self.fields[i]
@@ -50,10 +56,11 @@ class Decoder:
         return int.from_bytes(self.take(2), "little")
 
     def node(self):
+        at = self.at
         kind, bits = self.take(2)
         if kind not in SORTS:
             raise NoTree
-        return Node(kind, [self.field(sort) if bits >> i & 1 else None for i, sort in enumerate(SORTS[kind])])
+        return Node(kind, [self.field(sort) if bits >> i & 1 else None for i, sort in enumerate(SORTS[kind])], at)
 
     def field(self, sort):
         if sort in ("node", "chosen"):
@@ -271,6 +278,23 @@ def tree_text(data, marks=None):
     return Printer(bool(kinds(tree) & {TEMPORARY, HELPER}) if marks is None else marks).text(tree)
 
 
+def node_lines(n, level=0):
+    """A line for the node, and one for each below it. Signs are those of docs/FORMAT.md; absent fields are left out."""
+    signs = {"text": "'", "byte": "=", "mark": "#", "number": "+"}
+    words, below = [], []
+    for sort, value in zip(SORTS[n.kind], n.fields):
+        if isinstance(value, Node):
+            below.append(value)
+        elif isinstance(value, list):
+            words.append(f"*{len(value)}")
+            below += [item for item in value if item is not None]
+        elif value is not None:
+            words.append(signs[sort] + (name_text(value) if sort == "text" else str(value)))
+    yield " ".join([f"{n.at:5}  " + "  " * level + f"{n.kind} {NAMES[n.kind - 1]}"] + words)
+    for node in below:
+        yield from node_lines(node, level + 1)
+
+
 def list_text(data):
     """The entries and the excluded keys; nothing for an empty list."""
     decoder, parts = Decoder(data), []
@@ -301,19 +325,23 @@ def main():
     words = argparse.ArgumentParser(description=__doc__.splitlines()[0])
     words.add_argument("--hex", action="store_true", help="the tree is in hexadecimal")
     words.add_argument("--list", metavar="FILE", help="the list that belongs to the tree")
+    words.add_argument("--nodes", action="store_true", help="a line for each node")
     given = words.parse_args()
     data = sys.stdin.buffer.read()
     try:
         if re.match(rb"\d+ \d+ \d+\n", data):
             print(printed(data.decode()))
             return
-        print(tree_text(bytes.fromhex(data.decode()) if given.hex else data, True if given.list else None))
+        if given.hex:
+            data = bytes.fromhex(data.decode())
+        text = tree_text(data, True if given.list else None)
+        print("\n".join(node_lines(Decoder(data).node())) if given.nodes else text)
         if given.list:
             with open(given.list, "rb") as listed:
                 print(f"list: {list_text(listed.read()) or 'empty'}")
     except (NoTree, ValueError, RecursionError):
         sys.exit("these bytes are no tree")
-    except OSError as error:
+    except FileNotFoundError as error:
         sys.exit(f"{error.filename}: {error.strerror}")
 
 
