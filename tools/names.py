@@ -13,7 +13,8 @@ Read are README.md, CONTRIBUTING.md and the pages in docs/, tools/, examples/ an
   stored case with that number (crates/vectors/stdin, which the program vectors replays). --renumber looks for the case by its text
   and writes its number into the page;
 - docs/MAP.md names every crate, every file of specs/ and every page of docs/; a page docs/DECISIONS-*.md links to each of
-  its headings on top, and tools/README.md names every tool.
+  its headings on top, and tools/README.md names every tool;
+- where a page says how many departures there are, docs/DEPARTURES.md has so many entries.
 
 Prints a line for each thing that is not as it should be, then how much was looked at. The status is 1 if there is one.
 """
@@ -121,23 +122,32 @@ class Checker:
 
     def examples(self, page, text, renumber):
         """Examples in tables and in texts; returns the page with its numbers put right if they are to be."""
-        found = [(int(row[0]), [spans(cell) for cell in row[1:]]) for header, row in table_rows(text) if header[0] == "Case" and row[0].isdecimal()]
-        said = re.findall(rf"[Cc]ase (\d+):?\s+({CODE})(?:[^`]*?)\s(?:gives|prints)\s+({CODE})(?:,\s+list\s+({CODE}))?", text)
-        found += [(int(number), [spans(word) for word in words]) for number, *words in said]
-        changes = {}
-        for number, words in found:
+        found, at = [], 0
+        for line, (header, row) in zip(text.splitlines(keepends=True), table_lines(text)):
+            number = re.match(r"\|\s*(\d+)\s*\|", line)
+            if number and header and header[0] == "Case":
+                found.append((at + number.start(1), number[1], row[1:]))
+            at += len(line)
+        said = rf"[Cc]ase (\d+):?\s+({CODE})(?:[^`]*?)\s(?:gives|prints)\s+({CODE})(?:,\s+list\s+({CODE}))?"
+        found += [(m.start(1), m[1], [m[2], m[3], m[4] or ""]) for m in re.finditer(said, text)]
+        for place, number, cells in sorted(found, reverse=True):
             self.counts["examples"] += 1
-            words = [squeezed(word[0]) if word else "" for word in words]
-            if not 1 <= number <= len(self.stored) or not fits(self.stored[number - 1], words):
-                other = [at for at, case in enumerate(self.stored, 1) if fits(case, words)]
-                if renumber and other:
-                    changes[number] = other[0]
-                else:
-                    self.bad(page, f"case {number} is not {words[0]} giving {words[1]}" + (f" (it is case {other[0]})" if other else ""))
-        if not changes:
-            return text
-        pattern = r"(^\| |[Cc]ase )(\d+)(?= \|| ?:|:? +`)"
-        return re.sub(pattern, lambda m: m[1] + str(changes.get(int(m[2]), int(m[2]))), text, flags=re.M)
+            words = [squeezed(spans(cell)[0]) if spans(cell) else "" for cell in cells]
+            if 1 <= int(number) <= len(self.stored) and fits(self.stored[int(number) - 1], words):
+                continue
+            other = [at for at, case in enumerate(self.stored, 1) if fits(case, words)]
+            if renumber and other:
+                text = text[:place] + str(other[0]) + text[place + len(number) :]
+            else:
+                self.bad(page, f"case {number} is not {words[0]} giving {words[1]}" + (f" (it is case {other[0]})" if other else ""))
+        return text
+
+    def departures(self, page, text):
+        entries = len(re.findall(r"^### ", text_of(os.path.join(ROOT, "docs", "DEPARTURES.md")), re.M))
+        for number in re.findall(r"(\d+) departures", text):
+            self.counts["numbers"] += 1
+            if int(number) != entries:
+                self.bad(page, f"{number} departures: {entries} are listed")
 
     # ---- what has to be listed
 
@@ -197,19 +207,24 @@ def squeezed(text):
     return " ".join(text.split())
 
 
-def table_rows(text):
-    """Each row of each table with the table's header."""
+def table_lines(text):
+    """For each line the header of its table and its cells; neither for a line that is no row."""
     header = None
     for line in text.splitlines():
         if not line.startswith("|"):
             header = None
+            yield None, None
             continue
         hidden = re.sub(CODE, lambda span: span[0].replace("|", "\0"), line.strip())
         cells = [cell.strip().replace("\0", "|") for cell in hidden.strip("|").split("|")]
-        if header is None:
-            header = cells
-        elif not re.fullmatch(r"[|:\- ]+", line):
-            yield header, cells
+        is_row = header and not re.fullmatch(r"[|:\- ]+", line)
+        yield (header, cells) if is_row else (None, None)
+        header = header or cells
+
+
+def table_rows(text):
+    """Each row of each table with the table's header."""
+    return [(header, row) for header, row in table_lines(text) if header]
 
 
 def declares(source, name):
@@ -244,6 +259,7 @@ def main():
         checker.paths(page, without_blocks(text))
         checker.theorems(page, text)
         checker.lines(page, text)
+        checker.departures(page, text)
         changed = checker.examples(page, text, given.renumber)
         if changed != text:
             with open(path, "w", encoding="utf-8") as out:
