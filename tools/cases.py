@@ -1,22 +1,32 @@
-"""Makes the stored test of the program vectors: crates/vectors/stdin and stdout.
+#!/usr/bin/env python3
+"""Makes and shows the stored cases of the program vectors: crates/vectors/stdin and stdout.
 
-    tools/cases.py [--list] FOLDER
+    tools/cases.py --show N..          the stored cases with these numbers, as text and in hexadecimal
+    tools/cases.py FOLDER              makes the list anew from FOLDER and says whether it is the stored one
+    tools/cases.py --write FOLDER      makes it and stores it
+    tools/cases.py --list FOLDER       says what each case is, too
 
-FOLDER has the vector files, document01.txt, readings.txt, extra.txt and recorded.txt. --list prints each case's number and
-what it is. The cases of reading come first. Such a case is a zero byte; a byte, the expected answer of reading; two 16-bit
-numbers, the tree's length and the expected next mark (0 on a refusal); then the tree. Expected answers are those recorded
-in the vector files or given here; read.py has to agree with each, and supplies the marks.
+FOLDER has the vector files document01.txt, readings.txt, extra.txt and recorded.txt, whole; they are kept outside the
+repository (loader/tests/data has a part of them). A case's number is the one that vectors prints. The cases of reading
+come first. Such a case is a zero byte; a byte, the
+expected answer of reading; two 16-bit numbers, the tree's length and the expected next mark (0 on a refusal); then the
+tree. Expected answers are those recorded in the vector files or given here; read.py has to agree with each, and supplies
+the marks.
 
 A case of lowering is a byte 1; the options byte, the expected answer, helper mask and options mask, a byte each; three
 16-bit numbers, the lengths of the tree, of the expected tree and of the expected list; then these three. What is expected
 is recorded in the vector files or given here.
 """
+import argparse
 import os
 import sys
 
 import read
+import show
 
 ROOT = os.path.dirname(os.path.dirname(os.path.abspath(__file__)))
+STORED = os.path.join(ROOT, "crates", "vectors", "stdin")
+SUMMARY = os.path.join(ROOT, "crates", "vectors", "stdout")
 
 
 def wide(number):
@@ -30,6 +40,74 @@ def encode(number, mark, tree):
 def encode_lowering(options, number, helpers, mask, tree, result, listed):
     lengths = wide(len(tree)) + wide(len(result)) + wide(len(listed))
     return bytes([1, options, number, helpers, mask]) + lengths + tree + result + listed
+
+
+class Reading:
+    """A stored case of reading."""
+
+    def __init__(self, answer, mark, tree):
+        self.answer, self.mark, self.tree = answer, mark, tree
+
+
+class Lowering:
+    """A stored case of lowering."""
+
+    def __init__(self, options, answer, helpers, mask, tree, result, listed):
+        self.options, self.answer, self.helpers, self.mask = options, answer, helpers, mask
+        self.tree, self.result, self.listed = tree, result, listed
+
+
+def load_stored():
+    """The stored cases in their order; case N is the item N - 1."""
+    with open(STORED, "rb") as stored:
+        data = stored.read()
+    found, at = [], 0
+
+    def number():
+        nonlocal at
+        at += 2
+        return int.from_bytes(data[at - 2 : at], "little")
+
+    def take(length):
+        nonlocal at
+        at += length
+        return data[at - length : at]
+
+    while at < len(data):
+        if take(1) == b"\0":
+            answer = take(1)[0]
+            length, mark = number(), number()
+            found.append(Reading(answer, mark, take(length)))
+        else:
+            options, answer, helpers, mask = take(4)
+            lengths = number(), number(), number()
+            found.append(Lowering(options, answer, helpers, mask, *map(take, lengths)))
+    return found
+
+
+def shown(number, case):
+    """Lines on a stored case: what comes out, then the bytes."""
+
+    def as_text(tree, marks):
+        try:
+            return show.tree_text(tree, marks)
+        except (show.NoTree, RecursionError):
+            return "no tree"
+
+    short = case.tree.hex() if len(case.tree) <= 2000 else f"{len(case.tree)} bytes"
+    if isinstance(case, Reading):
+        answer = f"0 {len(case.tree)} {case.mark}" if case.answer == 0 else case.answer
+        return [f"case {number}, reading: {as_text(case.tree, False)}", f"  prints {answer}", f"  tree   {short}"]
+    options = f", options {case.options}" if case.options else ""
+    lines = [f"case {number}, lowering{options}: {as_text(case.tree, False)}"]
+    if case.answer:
+        return lines + [f"  gives  {case.answer}", f"  tree   {short}"]
+    handed = show.list_text(case.listed)
+    lines += [f"  gives  {as_text(case.result, True)}"] + ([f"  list   {handed}"] if handed else [])
+    lines += [f"  helpers {case.helpers}, options {case.mask}", f"  tree   {short}"]
+    if len(case.result) <= 2000:
+        lines += [f"  result {case.result.hex()}", f"  list   {case.listed.hex()}"]
+    return lines
 
 
 def lines_of(folder, name):
@@ -253,27 +331,50 @@ def summary(numbers, lowered):
     )
 
 
+def show_stored(words):
+    found = load_stored()
+    for word in words:
+        if not word.isdecimal() or not 1 <= int(word) <= len(found):
+            sys.exit(f"{word}: the stored cases have the numbers 1 to {len(found)}")
+        print("\n".join(shown(int(word), found[int(word) - 1])))
+
+
 def main():
-    words = sys.argv[1:]
-    listed = "--list" in words
-    folders = [word for word in words if word != "--list"]
-    if len(folders) != 1:
-        sys.exit(__doc__)
-    cases, lowerings = stored(folders[0]), stored_lowerings(folders[0])
+    words = argparse.ArgumentParser(description=__doc__.splitlines()[0])
+    words.add_argument("--show", action="store_true", help="print stored cases")
+    words.add_argument("--write", action="store_true", help="store the list that is made")
+    words.add_argument("--list", action="store_true", help="say what each case is")
+    words.add_argument("given", nargs="+", metavar="FOLDER or N")
+    given = words.parse_args()
+    if given.show:
+        return show_stored(given.given)
+    if len(given.given) != 1:
+        words.error("one folder is wanted")
+    folder = given.given[0]
+    try:
+        cases, lowerings = stored(folder), stored_lowerings(folder)
+    except OSError as error:
+        sys.exit(f"{error.filename}: {error.strerror}")
     answers = list(expected(cases))
     stream = b"".join(encode(*case) for case in answers) + b"".join(encode_lowering(*case) for _, case in lowerings)
     lines = summary([number for number, _, _ in answers], [case[1] for _, case in lowerings])
-    crate = os.path.join(ROOT, "crates", "vectors")
-    with open(os.path.join(crate, "stdin"), "wb") as out:
-        out.write(stream)
-    with open(os.path.join(crate, "stdout"), "w") as out:
-        out.write(lines)
-    if listed:
+    if given.list:
         names = [(what, number, tree) for (what, _, _), (number, _, tree) in zip(cases, answers)]
         names += [(what, case[1], case[4]) for what, case in lowerings]
         for at, (what, number, tree) in enumerate(names, 1):
             print(f"{at}: {number}, {len(tree)} bytes, {what}")
     print(f"{len(stream)} bytes\n{lines}", end="")
+    if given.write:
+        with open(STORED, "wb") as out:
+            out.write(stream)
+        with open(SUMMARY, "w") as out:
+            out.write(lines)
+        print("stored")
+        return
+    with open(STORED, "rb") as before, open(SUMMARY) as said:
+        is_same = before.read() == stream and said.read() == lines
+    print("this is what is stored" if is_same else "what is stored is another list; --write stores this one")
+    sys.exit(0 if is_same else 1)
 
 
 if __name__ == "__main__":

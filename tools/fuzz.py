@@ -1,3 +1,4 @@
+#!/usr/bin/env python3
 """Holds the program vectors to read.py on made trees: valid ones, wrong ones, and ones at the limits of depth and length.
 
     tools/fuzz.py [--count N] [--seed N] [--binary FILE]
@@ -206,7 +207,10 @@ def trees(rnd, count):
 
 def run(binary, stream, count):
     """Runs the program on that many cases. Returns its differences, by case, and the lines on reading and lowering."""
-    wrote = subprocess.run([binary], input=stream, stdout=subprocess.PIPE, check=True).stdout.decode()
+    try:
+        wrote = subprocess.run([binary], input=stream, stdout=subprocess.PIPE, check=True).stdout.decode()
+    except OSError as error:
+        sys.exit(f"{binary}: {error.strerror} (`rt check vectors` builds target/bin/vectors)")
     *lines, reading, lowering, total = wrote.splitlines()
     if total != f"{count} cases, {len(lines)} wrong":
         sys.exit(f"{binary}: {count} cases were sent, {len(lines)} lines came back, and it says: {total}")
@@ -247,6 +251,8 @@ def main():
     words.add_argument("--vectors")
     given = words.parse_args()
     if given.vectors:
+        if not os.path.isdir(given.vectors):
+            sys.exit(f"{given.vectors}: no such folder")
         names = sorted(name[:-4] for name in os.listdir(given.vectors) if name.endswith(".txt"))
         source = cases.expected(case for name in names for case in cases.load(given.vectors, name))
     else:

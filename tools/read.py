@@ -1,3 +1,4 @@
+#!/usr/bin/env python3
 """Reads tree bytes: document 01, 'Tree bytes', in Python. It shares nothing with the crates, which are held to it.
 
     answer(tree) -> (0, next mark), (3, 0) or (4, 0)

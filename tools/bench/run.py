@@ -1,11 +1,12 @@
-"""Measures lowering beside clearing and copying the same buffers, and beside the Rust reference, on the same trees in one run.
+#!/usr/bin/env python3
+"""Measures lowering beside clearing and copying the same buffers and, if it is there, beside the Rust reference.
 
-    tools/bench/run.py --reference FOLDER [--library FILE] [--rounds N] [--seconds S] [TREE..]
+    tools/bench/run.py [--reference FILE] [--library FILE] [--rounds N] [--seconds S] [TREE..]
 
-Wants cc, cargo and patch, and target/staticlib/librest_spread.a, which `rt staticlib rest_spread` makes (or FILE). The
-reference is copied, given a way to measure itself (reference.patch) and built. TREE are names in trees.py; without any,
-all of them are measured. For each tree the two are run by turns, and the least time of a call in all rounds is taken.
-Prints a table: times in microseconds, then the ratios to clearing and copying and to the reference.
+Wants cc and target/staticlib/librest_spread.a, which `rt staticlib rest_spread` makes (or FILE). The reference is the
+built program of docs/DIFFERENCES.md; it measures itself (--bench=SECONDS). TREE are names in trees.py; without any, all of
+them are measured. For each tree the two are run by turns, and the least time of a call in all rounds is taken. Prints a
+table: times in microseconds, then the ratios to clearing and copying and to the reference.
 """
 import argparse
 import os
@@ -21,23 +22,19 @@ ROOT = HERE.parent.parent
 
 
 def run(words, **how):
-    return subprocess.run([str(word) for word in words], check=True, **how)
+    try:
+        return subprocess.run([str(word) for word in words], check=True, **how)
+    except OSError as error:
+        sys.exit(f"{words[0]}: {error.strerror}")
+    except subprocess.CalledProcessError as error:
+        sys.exit(f"{words[0]}: ended with status {error.returncode}")
 
 
 def built_bench(library, folder):
+    if not os.path.exists(library):
+        sys.exit(f"{library}: not there (`rt staticlib rest_spread` makes target/staticlib/librest_spread.a)")
     run(["cc", "-O2", "-o", folder / "bench", HERE / "bench.c", library])
     return folder / "bench"
-
-
-def built_reference(source, folder):
-    copy = folder / "reference"
-    run(["cp", "-r", source, copy])
-    run(["chmod", "-R", "u+w", copy])
-    run(["patch", "-s", "-p1", "-d", copy, "-i", HERE / "reference.patch"])
-    sources = pathlib.Path(source).resolve().parent / "docs" / "src" / "src"
-    env = {**os.environ, "CARGO_TARGET_DIR": str(folder / "target"), "OXC_SOURCES": str(sources)}
-    run(["cargo", "build", "--release", "--offline", "-q"], cwd=copy, env=env)
-    return folder / "target" / "release" / "oracle"
 
 
 def measured(bench, reference, tree, rounds, seconds):
@@ -61,25 +58,24 @@ def measured(bench, reference, tree, rounds, seconds):
 
 def main():
     words = argparse.ArgumentParser(description=__doc__.splitlines()[0])
-    words.add_argument("--reference", required=True)
+    words.add_argument("--reference", metavar="FILE")
     words.add_argument("--library", default=ROOT / "target" / "staticlib" / "librest_spread.a")
     words.add_argument("--rounds", type=int, default=3)
     words.add_argument("--seconds", type=float, default=0.2)
-    words.add_argument("--programs", nargs=2, metavar=("BENCH", "REFERENCE"), help="both built already")
     words.add_argument("names", nargs="*", metavar="TREE")
     given = words.parse_args()
+    for name in given.names:
+        if name not in trees.TREES:
+            sys.exit(f"{name}: no tree of trees.py has this name")
     with tempfile.TemporaryDirectory() as name:
         folder = pathlib.Path(name)
-        if given.programs:
-            bench, reference = given.programs
-        else:
-            bench, reference = built_bench(given.library, folder), built_reference(given.reference, folder)
+        bench = built_bench(given.library, folder)
         print("| Tree | Bytes | Answer | Tree, list | Lowering | Clear, copy | Rust | to clear, copy | to Rust |")
         print("|---|--:|--:|--:|--:|--:|--:|--:|--:|")
         for name in given.names or trees.TREES:
             tree = folder / name
             tree.write_bytes(trees.TREES[name]())
-            beside = None if name in trees.ALONE else reference
+            beside = None if name in trees.ALONE else given.reference
             (length, answer, out, list_), lower, clear, rust = measured(bench, beside, tree, given.rounds, given.seconds)
             of_rust, to_rust = ("", "") if rust is None else (f"{rust:,.1f}", f"{lower / rust:.2f}")
             times = f"{lower:,.1f} | {clear:.1f} | {of_rust} | {lower / clear:,.1f} | {to_rust}"

@@ -1,3 +1,4 @@
+#!/usr/bin/env python3
 """Makes the trees that are measured: trees.py FOLDER writes one file each. Ordinary ones, the largest, and hostile ones."""
 import os
 import sys
