@@ -11,7 +11,8 @@ use Rattle.lowering.specs.Patterns.{hasObjectRest, hasArrayRestOverObjectRest}
 use Rattle.lowering.specs.Declarations.{declaration, declarationMakes, declarationExcludes, declarationLacksForm}
 use Rattle.lowering.specs.Assignments.{target, isTop, topLacksForm, topSequence, topEntry, topExcludes, topMakes, nestedSequence, nestedEntry, nestedMakes}
 use Rattle.lowering.specs.Heads.{function, functionMakes, arrow, arrowMakes, catch, catchMakes, declaringHead, declaringMakes, assigningHead, assigningMakes}
-use Rattle.lowering.specs.Walk.{Step, ruleOf, rewrite, rewritten, refuse, stepDeclaration, stepTop, stepAssignment, stepFor, keyWithoutForm, restBelowArrayRest}
+use Rattle.lowering.specs.Walk.{Step, ruleOf, rewrite, rewritten, refuse, stepDeclaration, stepTop, stepAssignment, stepFor}
+use Rattle.lowering.specs.Refusals.{keyWithoutForm, restBelowArrayRest}
 use Rattle.lowering.specs.Walk.Rule.{fors}
 use Rattle.direct.specs.Events.{Place, refused, puts, contextOf, emits}
 use Rattle.direct.specs.Events.Deed.{refuses}
