@@ -3,7 +3,7 @@
 use mathlib.Core.Path.{_≡_, refl, sym, ap, _∙_}
 use mathlib.Core.Bool.{Bool, true, false, cond}
 use mathlib.Core.List.{List, [], _∷_}
-use Prim.Native.Nat.{ℕ, zero, suc, _-_, _≤_, _<_}
+use Prim.Native.Nat.{ℕ, zero, suc, _+_, _-_, _%_, _≤_, _<_}
 use native.Mathlib.Omega.{arith}
 use lib.Dec.{eqb, ltb}
 use lib.ListN.{replicate}
@@ -23,7 +23,7 @@ use Rattle.lowering.specs.Walk.{Note, Walked, ruleOf, rewrite, within, i
 use Rattle.lowering.specs.Weight.{weight, walked}
 use Rattle.lowering.specs.Collect.{Visit, bare, visits, firstRefusal, entries, excludedIn}
 use Rattle.lowering.specs.Refusals.{isRefusal, isAnswer, tooLong}
-use Rattle.lowering.specs.Answer.{Lent, Result, Outcome, fits, fitted, collected, afterWalk, top, limitRefused, afterReading, lowering, filled, outcomeOf, outcome}
+use Rattle.lowering.specs.Answer.{Lent, Result, Outcome, fits, fitted, collected, afterWalk, top, limitRefused, inForce, afterReading, lowering, filled, outcomeOf, outcome}
 use Rattle.lowering.specs.Answer.Result.{refusal, lowered}
 use Rattle.lowering.proofs.Cases.{by-test, by-rule}
 use Rattle.lowering.proofs.Falls.{walk-more, walked-only}
@@ -120,7 +120,7 @@ reading-in o s (refused tooDeep) = refl
 
 pub in-table : (limit o : ℕ) (tree : List ℕ) (s : Lent) → InTable (lowering limit o tree s)
 unfolding among
-in-table limit o tree s = by-order limit o tree s InTable refl refl refl (reading-in o s (readTree input limit tree))
+in-table limit o tree s = by-order limit o tree s InTable refl refl refl (reading-in (inForce o) s (readTree input limit tree))
 
 answer-in : (s : Lent) (r : Result) → InTable r → isAnswer (outcomeOf s r .answer) ≡ true
 unfolding outcomeOf among
@@ -165,7 +165,7 @@ pub work-is-zero : (limit o : ℕ) (tree : List ℕ) (s : Lent) → outcome limi
 unfolding outcome
 work-is-zero limit o tree s = work-of s (lowering limit o tree s)
 
--- ---- options change nothing but the options mask, which is the options themselves
+-- ---- options change nothing but the options mask, which is those of them that are in force
 
 abbrev pub withOptions : ℕ → Result → Result
 withOptions o (refusal n) = refusal n
@@ -197,7 +197,7 @@ unfolding afterReading
 reading-options s o p (got n q next) = walk-options s o p next (walked top n)
 reading-options s o p (refused r) = refl
 
-pub options-only : (limit o p : ℕ) (tree : List ℕ) (s : Lent) → o ≤ 15 → p ≤ 15 → withOptions p (lowering limit o tree s) ≡ lowering limit p tree s
+pub options-only : (limit o p : ℕ) (tree : List ℕ) (s : Lent) → o ≤ 15 → p ≤ 15 → withOptions (inForce p) (lowering limit o tree s) ≡ lowering limit p tree s
 unfolding lowering
 options-only limit o p tree s h k =
     by-test (limitRefused limit)
@@ -205,7 +205,34 @@ options-only limit o p tree s h k =
     (λ e. rw (e, lowering, le-ltb 15 o h, le-ltb 15 p k)
     (by-test (ltb (s .workSlice) 65536)
     (λ f. rw f refl)
-    (λ f. rw f (reading-options s o p (readTree input limit tree)))))
+    (λ f. rw f (reading-options s (inForce o) (inForce p) (readTree input limit tree)))))
+
+-- with the retired option everything comes out as without it
+pub retired : (limit o : ℕ) (tree : List ℕ) (s : Lent) → o + 8 ≤ 15 → outcome limit (o + 8) tree s ≡ outcome limit o tree s
+unfolding outcome inForce
+retired limit o tree s h =
+    let same : (o + 8) % 8 ≡ o % 8 = omega arith in
+    ap (outcomeOf s)
+    (sym (options-only limit o (o + 8) tree s (omega arith) h) ∙ ap (λ (m : ℕ). withOptions m (lowering limit o tree s)) same ∙ options-only limit o o tree s (omega arith) (omega arith))
+
+-- and the mask never shows it
+mask-of : (s : Lent) (m : ℕ) (r : Result) → outcomeOf s (withOptions m r) .options ≤ m
+unfolding outcomeOf
+mask-of s m (refusal n) = omega arith
+mask-of s m (lowered h o t l) = omega arith
+
+pub mask-at-most-7 : (limit o : ℕ) (tree : List ℕ) (s : Lent) → outcome limit o tree s .options ≤ 7
+unfolding outcome outcomeOf inForce
+mask-at-most-7 limit o tree s =
+    by-order limit o tree s (λ x. outcomeOf s x .options ≤ 7)
+    (omega arith)
+    (omega arith)
+    (omega arith)
+    (let r : Result = afterReading (inForce o) s (readTree input limit tree) in
+    let e : outcomeOf s (withOptions (inForce o) r) .options ≡ outcomeOf s r .options =
+    ap (λ (x : Result). outcomeOf s x .options) (reading-options s (inForce o) (inForce o) (readTree input limit tree)) in
+    let m : outcomeOf s (withOptions (inForce o) r) .options ≤ o % 8 = mask-of s (inForce o) r in
+    omega arith)
 
 -- ---- there is one answer for each input
 

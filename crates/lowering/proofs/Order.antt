@@ -15,7 +15,7 @@ use Rattle.tree.specs.Read.Got.{refused}
 use Rattle.tree.specs.Read.Refusal.{tooDeep}
 use Rattle.tree.proofs.Limit.{tree-limit}
 use Rattle.lowering.specs.Refusals.{limitOutside, unknownOptions, smallWork, deeperTree}
-use Rattle.lowering.specs.Answer.{Lent, Result, highestLimit, limitRefused, afterReading, lowering, outcomeOf, outcome}
+use Rattle.lowering.specs.Answer.{Lent, Result, highestLimit, limitRefused, inForce, afterReading, lowering, outcomeOf, outcome}
 use Rattle.lowering.specs.Answer.Result.{refusal}
 use Rattle.lowering.proofs.Cases.{by-test}
 
@@ -29,7 +29,7 @@ pub record Admitted (limit options : ℕ) (s : Lent) : Type 0 where
 
 module _ (limit options : ℕ) (tree : List ℕ) (s : Lent) where
   -- what holds of the refusals in front and of what comes of the reading holds of the lowering
-  pub by-order : (P : Result → Type 0) → P (refusal limitOutside) → P (refusal unknownOptions) → P (refusal smallWork) → P (afterReading options s (readTree input limit tree))
+  pub by-order : (P : Result → Type 0) → P (refusal limitOutside) → P (refusal unknownOptions) → P (refusal smallWork) → P (afterReading (inForce options) s (readTree input limit tree))
       → P (lowering limit options tree s)
   unfolding lowering
   by-order P a b c d =
@@ -55,7 +55,7 @@ module _ (limit options : ℕ) (tree : List ℕ) (s : Lent) where
   unfolding lowering
   work-small e k h = rw (e, lowering, le-ltb 15 options k, lt-ltb (s .workSlice) 65536 h) refl
 
-  pub reading-decides : Admitted limit options s → lowering limit options tree s ≡ afterReading options s (readTree input limit tree)
+  pub reading-decides : Admitted limit options s → lowering limit options tree s ≡ afterReading (inForce options) s (readTree input limit tree)
   unfolding lowering
   reading-decides a = rw (a .allowed, lowering, le-ltb 15 options (a .known), le-ltb (s .workSlice) 65536 (a .roomy)) refl
 
@@ -76,6 +76,6 @@ answer-stays limit more options tree s low high other =
     (λ f. by-test (ltb (s .workSlice) 65536)
     (λ g. rw (a, b, lowering, f, g) refl)
     (λ g. ⊎-elim
-    (λ deep. absurd (other (rw (a, lowering, f, g) (ap (λ (r : Got Node). outcomeOf s (afterReading options s r) .answer) deep))))
-    (λ same. rw (a, b, lowering, f, g) (ap (λ (r : Got Node). outcomeOf s (afterReading options s r)) same))
+    (λ deep. absurd (other (rw (a, lowering, f, g) (ap (λ (r : Got Node). outcomeOf s (afterReading (inForce options) s r) .answer) deep))))
+    (λ same. rw (a, b, lowering, f, g) (ap (λ (r : Got Node). outcomeOf s (afterReading (inForce options) s r)) same))
     (tree-limit tree input more limit)))

@@ -24,7 +24,7 @@ use Rattle.lowering.specs.Walk.{Note, Walked, Rule, ruleOf, rewrite, wit
 use Rattle.lowering.specs.Walk.Rule.{literals, declarations, assignments, functions, arrows, catches, fors, nowhere}
 use Rattle.lowering.specs.Weight.{weight, walked}
 use Rattle.lowering.specs.Collect.{Visit, newIn, newInPiece, isContainer, markOf, marked, visits, visitsFields, visitsPiece, visitsItems, bare, firstRefusal, entries, excludedIn}
-use Rattle.lowering.specs.Answer.{Lent, Result, fits, fitted, collected, afterWalk, top, afterReading, lowering, outcomeOf, outcome}
+use Rattle.lowering.specs.Answer.{Lent, Result, fits, fitted, collected, afterWalk, top, inForce, afterReading, lowering, outcomeOf, outcome}
 use Rattle.lowering.specs.Answer.Result.{refusal, lowered}
 use Rattle.lowering.specs.Table.{Meets, MeetsIn, MeetsField, MeetsPiece, MeetsItem, TreeMeets, Five, Six}
 use Rattle.lowering.specs.Table.Meets.{here, below}
@@ -401,7 +401,7 @@ module _ (P : Context → Node → Type 0) (r : ℕ) (low : 4 < r) (high : r < 7
       (λ h. absurd (omega arith))
       (λ h. absurd (omega arith))
       (λ h. absurd (omega arith))
-      (after-reading limit o s tree (readTree input limit tree) refl)
+      (after-reading limit (inForce o) s tree (readTree input limit tree) refl)
       (sym (answer-is s (lowering limit o tree s)) ∙ e)
 
 -- 5 and 6 are answered only for a tree that is accepted and has what the table says
@@ -428,7 +428,7 @@ answer-of : (limit o : ℕ) (tree : List ℕ) (s : Lent) (n : Node) (q next : �
 unfolding outcome afterReading
 answer-of limit o tree s n q next a e p =
     answer-is s (lowering limit o tree s)
-    ∙ (ap answerOf (reading-decides limit o tree s a) ∙ (ap (λ (g : Got Node). answerOf (afterReading o s g)) e ∙ after-refusal o s next (walked top n) p))
+    ∙ (ap answerOf (reading-decides limit o tree s a) ∙ (ap (λ (g : Got Node). answerOf (afterReading (inForce o) s g)) e ∙ after-refusal (inForce o) s next (walked top n) p))
 
 -- so for a tree that is accepted and has what the table says at 5 or at 6, one of the two is answered
 pub answer-if : (limit o : ℕ) (tree : List ℕ) (s : Lent) → Admitted limit o s

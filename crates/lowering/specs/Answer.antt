@@ -1,5 +1,5 @@
 -- What a call hands back: the answer, and every byte that was lent (document 01, 'What the lowering hands back').
-use Prim.Native.Nat.{ℕ, zero, suc, _-_, min}
+use Prim.Native.Nat.{ℕ, zero, suc, _-_, _%_, min}
 use mathlib.Core.Bool.{Bool, true, false, cond, not, _||_}
 use mathlib.Core.List.{List, [], _++_}
 use lib.Dec.{eqb, ltb}
@@ -69,6 +69,11 @@ highestLimit = 128
 abbrev pub limitRefused : ℕ → Bool
 limitRefused limit = eqb limit 0 || ltb highestLimit limit
 
+-- the options mask of a lowering: the options, at most 15, without the 8. That option, `ignoreFunctionLength`, is retired (request 12):
+-- with it a tree is lowered as without it, and the mask never shows it
+unfoldable pub inForce : ℕ → ℕ
+inForce options = options % 8
+
 -- the order of the refusals: the limit, options, work, the tree, the walk, lengths
 unfoldable pub lowering : ℕ → ℕ → List ℕ → Lent → Result
 lowering limit options tree s =
@@ -80,7 +85,7 @@ lowering limit options tree s =
             | false ↦
                 elim (ltb (s .workSlice) 65536) [
                   | true ↦ refusal smallWork
-                  | false ↦ afterReading options s (readTree input limit tree)
+                  | false ↦ afterReading (inForce options) s (readTree input limit tree)
                 ]
           ]
     ]

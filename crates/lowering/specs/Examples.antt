@@ -182,11 +182,13 @@ pub record Examples : Type 0 where
   -- ---- the listing
 
   the-listing : lowering highestLimit 0 listing plenty ≡ lowered 1 0 listed empty
-  -- options go into the mask, and lowering goes on
-  all-options : lowering highestLimit 15 listing plenty ≡ lowered 1 15 listed empty
+  -- options go into the mask, and lowering goes on; 8 is left out (request 12)
+  retired-option : lowering highestLimit 8 listing plenty ≡ lowered 1 0 listed empty
+  all-options : lowering highestLimit 15 listing plenty ≡ lowered 1 7 listed empty
   -- ---- the small inputs of the refusal table
 
   one-options : lowering highestLimit 16 listing plenty ≡ refusal 1
+  one-retired : lowering highestLimit 24 listing plenty ≡ refusal 1
   two-work : lowering highestLimit 0 listing (lent 32768 16384 65535) ≡ refusal 2
   three-empty : lowering highestLimit 0 [] plenty ≡ refusal 3
   -- Program, 64 blocks each in the last, with a limit of 64; with 63 it is a tree
@@ -336,5 +338,5 @@ unfolding
     Rattle.lowering.specs.Answer.collected Rattle.lowering.specs.Answer.afterWalk
     Rattle.lowering.specs.Answer.afterReading Rattle.lowering.specs.Answer.lowering
     Rattle.lowering.specs.Answer.filled Rattle.lowering.specs.Answer.outcomeOf
-    Rattle.lowering.specs.Answer.outcome
-examples = record { table = record { empty-literal = refl; plain-literal = refl; two-spreads = refl; spread-last = refl; spread-first = refl; spread-around = refl; rest = refl; rest-only = refl }; the-listing = refl; all-options = refl; one-options = refl; two-work = refl; three-empty = refl; four-deep = refl; not-so-deep = refl; five-array-rest = refl; six-no-form = refl; seven-short = refl; just-fits = refl; deeper = refl; deepest = refl; too-deep = refl; nine-zero = refl; nine-above = refl; nine-first = refl; one-next = refl; one-level = refl; one-level-deep = refl; one-level-no-tree = refl; tree-slice = refl; list-slice = refl; refused-slice = refl; array-rest-stays = refl; nested-rest = refl; hoisted-keys = refl; template-copied = refl; mark-twice = refl }
+    Rattle.lowering.specs.Answer.outcome Rattle.lowering.specs.Answer.inForce
+examples = record { table = record { empty-literal = refl; plain-literal = refl; two-spreads = refl; spread-last = refl; spread-first = refl; spread-around = refl; rest = refl; rest-only = refl }; the-listing = refl; retired-option = refl; all-options = refl; one-options = refl; one-retired = refl; two-work = refl; three-empty = refl; four-deep = refl; not-so-deep = refl; five-array-rest = refl; six-no-form = refl; seven-short = refl; just-fits = refl; deeper = refl; deepest = refl; too-deep = refl; nine-zero = refl; nine-above = refl; nine-first = refl; one-next = refl; one-level = refl; one-level-deep = refl; one-level-no-tree = refl; tree-slice = refl; list-slice = refl; refused-slice = refl; array-rest-stays = refl; nested-rest = refl; hoisted-keys = refl; template-copied = refl; mark-twice = refl }

@@ -14,7 +14,7 @@ use Rattle.lowering.specs.Walk.{Note, Walked, rewrite, within, inside, eachItem
 use Rattle.lowering.specs.Weight.{walked}
 use Rattle.lowering.specs.Collect.{Name, newIn, newInPiece, bare, bareFields, barePiece, bareItems, numbered, numberedFields, numberedPiece, numberedItems, visits, firstRefusal, entries, excludedIn, namesOf, helperMask, listBytes}
 use Rattle.lowering.specs.Refusals.{limitOutside, unknownOptions, smallWork}
-use Rattle.lowering.specs.Answer.{Lent, Result, afterReading, afterWalk, collected, fitted, fits, top}
+use Rattle.lowering.specs.Answer.{Lent, Result, inForce, afterReading, afterWalk, collected, fitted, fits, top}
 use Rattle.lowering.proofs.Falls.{walked-is}
 use Rattle.lowering.proofs.Order.{by-order}
 use Rattle.overlay.specs.Plain.{given}
@@ -151,7 +151,7 @@ writes limit options bytes s helpers mask t l =
     (no-refusal smallWork helpers mask t l)
     (go (readTree input limit bytes) refl)
   where
-    go : (g : Got Node) → readTree input limit bytes ≡ g → afterReading options s g ≡ Result.lowered helpers mask t l
+    go : (g : Got Node) → readTree input limit bytes ≡ g → afterReading (inForce options) s g ≡ Result.lowered helpers mask t l
         → (n : Node) × (q next : ℕ) × (ns : List Name) × (readTree input limit bytes ≡ got n q next) × (firstRefusal (visits next 0 (walked top n)) ≡ 0) × (t ≡ encode (leaves ns next top n))
-    go (got n q next) r e = let x = walk-tree options s next (walked top n) helpers mask t l e in (n, q, next, x .0, r, x .1, x .2)
+    go (got n q next) r e = let x = walk-tree (inForce options) s next (walked top n) helpers mask t l e in (n, q, next, x .0, r, x .1, x .2)
     go (refused x) r e = no-refusal _ helpers mask t l e
