@@ -17,7 +17,8 @@ use Rattle.lowering.specs.Literals.{Call, opened, closed, scan, literal}
 use Rattle.lowering.specs.Declarations.{declaration, declarationMakes, declarationExcludes, declarationLacksForm}
 use Rattle.lowering.specs.Assignments.{target, isTop, restsOf, topLacksForm, topSequence, topEntry, topExcludes, topMakes, nestedSequence, nestedEntry, nestedMakes}
 use Rattle.lowering.specs.Heads.{isMoved, movedFrom, movedOut, leftBehind, inFront, inBody, asFunctionBody, asBlock, references, function, functionMakes, arrow, arrowMakes, catch, catchMakes, declaringHead, declaringMakes, assigningHead, assigningMakes}
-use Rattle.lowering.specs.Walk.{Step, Rule, rewritten, unchanged, refuse, stepDeclaration, stepTop, stepAssignment, stepFor, ruleOf, rewrite, restBelowArrayRest, keyWithoutForm}
+use Rattle.lowering.specs.Walk.{Step, Rule, rewritten, unchanged, refuse, stepDeclaration, stepTop, stepAssignment, stepFor, ruleOf, rewrite}
+use Rattle.lowering.specs.Refusals.{restBelowArrayRest, keyWithoutForm}
 use Rattle.lowering.specs.Walk.Rule.{literals, declarations, assignments, functions, arrows, catches, fors, nowhere}
 use Rattle.lowering.proofs.All.{AllItems, all-unit}
 use Rattle.lowering.proofs.Cases.{by-test, by-key, by-rule, functionBody-is, block-is, declarations-4}

@@ -11,7 +11,8 @@ use Rattle.lowering.specs.Parts.{position, kind, is, pieceIn, standsIn, nodeAt,
 use Rattle.lowering.specs.Made.{Context, varOf}
 use Rattle.lowering.specs.Patterns.{hasObjectRest, hasArrayRestOverObjectRest}
 use Rattle.lowering.specs.Heads.{isMoved, movedFrom, asFunctionBody, asBlock, function, functionMakes, arrow, arrowMakes, catch, catchMakes, declaringHead, declaringMakes, assigningHead, assigningMakes}
-use Rattle.lowering.specs.Walk.{rewritten, refuse, restBelowArrayRest, ruleOf, rewrite, stepFor, opensScope}
+use Rattle.lowering.specs.Walk.{rewritten, refuse, ruleOf, rewrite, stepFor, opensScope}
+use Rattle.lowering.specs.Refusals.{restBelowArrayRest}
 use Rattle.lowering.specs.Walk.Rule.{functions, arrows, catches, fors}
 use Rattle.lowering.specs.Collect.{isContainer}
 use Rattle.lowering.proofs.Accepted.{NoHoles}

@@ -12,7 +12,8 @@ use Rattle.lowering.specs.Made.{Context, reference, varOf, assigning}
 use Rattle.lowering.specs.Patterns.{hasObjectRest, hasArrayRestOverObjectRest}
 use Rattle.lowering.specs.Declarations.{declaration, declarators, declarationLacksForm}
 use Rattle.lowering.specs.Heads.{isMoved, movedFrom, leftBehind, inBody, asFunctionBody, asBlock, function, arrow, catch, declaringHead, assigningHead}
-use Rattle.lowering.specs.Walk.{Walked, inside, refuse, restBelowArrayRest, keyWithoutForm, stepDeclaration, stepFor, ruleOf, rewrite, within}
+use Rattle.lowering.specs.Walk.{Walked, inside, refuse, stepDeclaration, stepFor, ruleOf, rewrite, within}
+use Rattle.lowering.specs.Refusals.{restBelowArrayRest, keyWithoutForm}
 use Rattle.lowering.specs.Walk.Rule.{literals, declarations, assignments, functions, arrows, catches, fors, nowhere}
 use Rattle.lowering.specs.Weight.{walked}
 use Rattle.lowering.specs.Collect.{marked, markOf}

@@ -18,10 +18,12 @@ use Rattle.tree.specs.Read.Got.{got, refused}
 use Rattle.lowering.specs.Parts.{is}
 use Rattle.lowering.specs.Weight.{walked}
 use Rattle.lowering.specs.Collect.{Name, Entry, over, visits, firstRefusal, samePath, same, nameOf, nameAt, helperMask, nodes, nodesFields, nodesPiece, nodesItems, listNodes, distinct, numberIn, namesOf, withNumber, numbered, numberedFields, numberedPiece, numberedItems, declaratorBytes, entryBytes, listBytes}
-use Rattle.lowering.specs.Answer.{Lent, Result, fits, fitted, collected, afterWalk, afterReading, lowering, top}
+use Rattle.lowering.specs.Refusals.{limitOutside, unknownOptions, smallWork}
+use Rattle.lowering.specs.Answer.{Lent, Result, fits, fitted, collected, afterWalk, afterReading, inForce, lowering, top}
 use Rattle.lowering.specs.Answer.Result.{refusal, lowered}
 use Rattle.lowering.proofs.Appearance.{In, here, there, renamed, Keeps, same-is}
 use Rattle.lowering.proofs.Cases.{by-test}
+use Rattle.lowering.proofs.Order.{by-order}
 use Rattle.equal.specs.Canonical.{Written, numbers, numbersFields, numbersPiece, numbersItems, renumbered, renumberedFields, renumberedPiece, renumberedItems, placeOf, numbersList, numbersWritten, eachEntry, renumberedWritten, canonicalWritten}
 use Rattle.equal.specs.Equal.{entryEncoded, listEncoded, EqualWritten}
 use Rattle.equal.specs.Results.{writtenBy, NamesAll, treeOf, entriesOf, excludedOf, resultBy, ownNames}
@@ -333,14 +335,9 @@ module _ (h o : ℕ) (t l : List ℕ) where
       record { n = n; end = q; next = next; read = k; tree-bytes = f .0; list-bytes = f .1 ∙ sym (list-bytes ns m es ex) }
 
   pub handed : (limit options : ℕ) (tree : List ℕ) (s : Lent) → lowering limit options tree s ≡ lowered h o t l → Handed limit tree t l
-  unfolding lowering
-  handed limit options tree s e =
-      by-test (ltb 15 options)
-      (λ a. no-refusal 1 (rw (a, lowering) at e))
-      (λ a.
-      by-test (ltb (s .workSlice) 65536)
-      (λ b. no-refusal 2 (rw (a, lowering, b) at e))
-      (λ b. of-reading limit options tree s (readTree input limit tree) refl (rw (a, lowering, b) at e)))
+  handed limit options tree s =
+      by-order limit options tree s (λ x. x ≡ lowered h o t l → Handed limit tree t l) (no-refusal limitOutside) (no-refusal unknownOptions) (no-refusal smallWork)
+      (of-reading limit (inForce options) tree s (readTree input limit tree) refl)
 
 -- for one input no two results under other names are unequal
 pub result-one : (next : ℕ) (n : Node) (ns ms : List Name) → NamesAll ns (treeOf next n) (entriesOf next n) (excludedOf next n)

@@ -3,12 +3,13 @@
 use mathlib.Core.Path.{_≡_, refl, sym, ap, _∙_}
 use mathlib.Core.Bool.{Bool, true, false, cond}
 use mathlib.Core.List.{List, [], _∷_}
-use Prim.Native.Nat.{ℕ, zero, suc, _-_, _≤_, _<_}
+use Prim.Native.Nat.{ℕ, zero, suc, _+_, _-_, _%_, _≤_, _<_}
 use native.Mathlib.Omega.{arith}
 use lib.Dec.{eqb, ltb}
 use lib.ListN.{replicate}
 use borrow.Author.Tests.{le-ltb}
 use Rattle.tree.specs.Tree.{Node}
+use Rattle.tree.specs.Grammar.{among}
 use Rattle.tree.specs.Grammar.Stage.{input}
 use Rattle.tree.specs.Read.{Got, readTree}
 use Rattle.tree.specs.Read.Got.{got, refused}
@@ -21,11 +22,13 @@ use Rattle.lowering.specs.Assignments.{isTop, target, topLacksForm}
 use Rattle.lowering.specs.Walk.{Note, Walked, ruleOf, rewrite, within, inside, walk, stepDeclaration, stepTop, stepAssignment, stepFor}
 use Rattle.lowering.specs.Weight.{weight, walked}
 use Rattle.lowering.specs.Collect.{Visit, bare, visits, firstRefusal, entries, excludedIn}
-use Rattle.lowering.specs.Answer.{Lent, Result, Outcome, fits, fitted, collected, afterWalk, top, afterReading, lowering, filled, outcomeOf, outcome, levels}
+use Rattle.lowering.specs.Refusals.{isRefusal, isAnswer, tooLong}
+use Rattle.lowering.specs.Answer.{Lent, Result, Outcome, fits, fitted, collected, afterWalk, top, limitRefused, inForce, afterReading, lowering, filled, outcomeOf, outcome}
 use Rattle.lowering.specs.Answer.Result.{refusal, lowered}
 use Rattle.lowering.proofs.Cases.{by-test, by-rule}
 use Rattle.lowering.proofs.Falls.{walk-more, walked-only}
 use Rattle.lowering.proofs.Notes.{AllNotes, in-walked}
+use Rattle.lowering.proofs.Order.{by-order}
 
 -- ---- the walk refuses by 5 or 6 and by nothing else
 
@@ -79,30 +82,25 @@ first-refuses (v ∷ vs) h =
 pub walk-refuses : (next m : ℕ) (c : Context) (n : Node) → ByWalk (firstRefusal (visits next m (walked c n)))
 walk-refuses next m c n = first-refuses (visits next m (walked c n)) (in-walked Refuses (λ k. no) (λ d k. rewrite-refuses d k) c n next m)
 
--- ---- the answer is one of 0 to 7
+-- ---- the answer is 0 or a number of the table
 
 -- a result is a lowering, or a refusal of the table
 abbrev pub InTable : Result → Type 0
-InTable (refusal n) = (1 ≤ n) × (n ≤ 7)
+InTable (refusal n) = isRefusal n ≡ true
 InTable (lowered helpers options t l) = Unit {0}
 
 fitted-in : (s : Lent) (h o : ℕ) (t l : List ℕ) → InTable (fitted s h o t l)
-unfolding fitted
+unfolding fitted among
 fitted-in s h o t l = go (fits s t l)
   where
-    go : (b : Bool) → InTable (cond b (lowered h o t l) (refusal 7))
+    go : (b : Bool) → InTable (cond b (lowered h o t l) (refusal tooLong))
     go true = tt
-    go false = (omega arith, omega arith)
+    go false = refl
 
 afterWalk-in : (o : ℕ) (s : Lent) (next : ℕ) (n : Node) → InTable (afterWalk o s next (walked top n))
-unfolding afterWalk collected
+unfolding afterWalk collected among
 afterWalk-in o s next n = go (firstRefusal (visits next 0 (walked top n))) (walk-refuses next 0 top n)
   where
-    bounds : (r : ℕ) → 1 ≤ r → ByWalk r → (1 ≤ r) × (r ≤ 7)
-    bounds r h no = absurd (omega arith)
-    bounds r h five = (omega arith, omega arith)
-    bounds r h six = (omega arith, omega arith)
-
     w : Walked
     w = walked top n
 
@@ -110,34 +108,28 @@ afterWalk-in o s next n = go (firstRefusal (visits next 0 (walked top n))) (walk
       | zero ↦ collected o s (bare next w) (entries (visits next 0 w)) (excludedIn (visits next 0 w))
       | suc m ↦ refusal (suc m)
     ])
-    go zero b = fitted-in s _ o _ _
-    go (suc zero) b = (omega arith, omega arith)
-    go (suc (suc m)) b = bounds (suc (suc m)) (omega arith) b
+    go r no = fitted-in s _ o _ _
+    go r five = refl
+    go r six = refl
 
 reading-in : (o : ℕ) (s : Lent) (g : Got Node) → InTable (afterReading o s g)
-unfolding afterReading
+unfolding afterReading among
 reading-in o s (got n q next) = afterWalk-in o s next n
-reading-in o s (refused notATree) = (omega arith, omega arith)
-reading-in o s (refused tooDeep) = (omega arith, omega arith)
+reading-in o s (refused notATree) = refl
+reading-in o s (refused tooDeep) = refl
 
 pub in-table : (limit o : ℕ) (tree : List ℕ) (s : Lent) → InTable (lowering limit o tree s)
-unfolding lowering
-in-table limit o tree s =
-    by-test (ltb 15 o)
-    (λ e. rw (e, InTable) (omega arith, omega arith))
-    (λ e. rw (e, InTable)
-    (by-test (ltb (s .workSlice) 65536)
-    (λ f. rw (f, InTable) (omega arith, omega arith))
-    (λ f. rw (f, InTable) (reading-in o s (readTree input limit tree)))))
+unfolding among
+in-table limit o tree s = by-order limit o tree s InTable refl refl refl (reading-in (inForce o) s (readTree input limit tree))
 
-answer-of : (s : Lent) (r : Result) → InTable r → outcomeOf s r .answer ≤ 7
-unfolding outcomeOf
-answer-of s (refusal n) h = h .1
-answer-of s (lowered p o t l) h = omega arith
+answer-in : (s : Lent) (r : Result) → InTable r → isAnswer (outcomeOf s r .answer) ≡ true
+unfolding outcomeOf among
+answer-in s (refusal n) h = by-test (eqb 0 n) (λ e. rw e refl) (λ e. rw e h)
+answer-in s (lowered p o t l) h = refl
 
-pub answer-at-most-7 : (o : ℕ) (tree : List ℕ) (s : Lent) → outcome o tree s .answer ≤ 7
+pub answer-is-one : (limit o : ℕ) (tree : List ℕ) (s : Lent) → isAnswer (outcome limit o tree s .answer) ≡ true
 unfolding outcome
-answer-at-most-7 o tree s = answer-of s (lowering levels o tree s) (in-table levels o tree s)
+answer-is-one limit o tree s = answer-in s (lowering limit o tree s) (in-table limit o tree s)
 
 -- ---- a refusal gives nothing: lengths and masks are 0, and the slices hold zeros
 
@@ -159,9 +151,9 @@ refused-of s (refusal n) h =
     record { helpers = refl; options = refl; treeLength = refl; listLength = refl; treeOut = zeros (s .treeSlice); listOut = zeros (s .listSlice) }
 refused-of s (lowered p o t l) h = absurd (omega arith)
 
-pub refusal-is-empty : (o : ℕ) (tree : List ℕ) (s : Lent) → 0 < outcome o tree s .answer → Nothing s (outcome o tree s)
+pub refusal-is-empty : (limit o : ℕ) (tree : List ℕ) (s : Lent) → 0 < outcome limit o tree s .answer → Nothing s (outcome limit o tree s)
 unfolding outcome
-refusal-is-empty o tree s h = refused-of s (lowering levels o tree s) h
+refusal-is-empty limit o tree s h = refused-of s (lowering limit o tree s) h
 
 work-of : (s : Lent) (r : Result) → outcomeOf s r .work ≡ replicate (s .workSlice) 0
 unfolding outcomeOf
@@ -169,11 +161,11 @@ work-of s (refusal n) = zeros (s .workSlice)
 work-of s (lowered p o t l) = zeros (s .workSlice)
 
 -- work is zero after every call
-pub work-is-zero : (o : ℕ) (tree : List ℕ) (s : Lent) → outcome o tree s .work ≡ replicate (s .workSlice) 0
+pub work-is-zero : (limit o : ℕ) (tree : List ℕ) (s : Lent) → outcome limit o tree s .work ≡ replicate (s .workSlice) 0
 unfolding outcome
-work-is-zero o tree s = work-of s (lowering levels o tree s)
+work-is-zero limit o tree s = work-of s (lowering limit o tree s)
 
--- ---- options change nothing but the options mask, which is the options themselves
+-- ---- options change nothing but the options mask, which is those of them that are in force
 
 abbrev pub withOptions : ℕ → Result → Result
 withOptions o (refusal n) = refusal n
@@ -205,28 +197,42 @@ unfolding afterReading
 reading-options s o p (got n q next) = walk-options s o p next (walked top n)
 reading-options s o p (refused r) = refl
 
--- behind the options
-unfoldable afterOptions : ℕ → ℕ → List ℕ → Lent → Result
-afterOptions limit o tree s =
-    elim (ltb (s .workSlice) 65536) [ true ↦ refusal 2 | false ↦ afterReading o s (readTree input limit tree) ]
-
-options-known : (limit o : ℕ) (tree : List ℕ) (s : Lent) → o ≤ 15 → lowering limit o tree s ≡ afterOptions limit o tree s
-unfolding lowering afterOptions
-options-known limit o tree s h = rw (le-ltb 15 o h, lowering)
-
-options-after : (limit o p : ℕ) (tree : List ℕ) (s : Lent) → withOptions p (afterOptions limit o tree s) ≡ afterOptions limit p tree s
-unfolding afterOptions
-options-after limit o p tree s = go (ltb (s .workSlice) 65536)
-  where
-    go : (b : Bool)
-        → withOptions p (elim b [ true ↦ refusal 2 | false ↦ afterReading o s (readTree input limit tree) ])
-        ≡ elim b [ true ↦ refusal 2 | false ↦ afterReading p s (readTree input limit tree) ]
-    go true = refl
-    go false = reading-options s o p (readTree input limit tree)
-
-pub options-only : (limit o p : ℕ) (tree : List ℕ) (s : Lent) → o ≤ 15 → p ≤ 15 → withOptions p (lowering limit o tree s) ≡ lowering limit p tree s
+pub options-only : (limit o p : ℕ) (tree : List ℕ) (s : Lent) → o ≤ 15 → p ≤ 15 → withOptions (inForce p) (lowering limit o tree s) ≡ lowering limit p tree s
+unfolding lowering
 options-only limit o p tree s h k =
-    ap (withOptions p) (options-known limit o tree s h) ∙ (options-after limit o p tree s ∙ sym (options-known limit p tree s k))
+    by-test (limitRefused limit)
+    (λ e. rw (e, lowering) refl)
+    (λ e. rw (e, lowering, le-ltb 15 o h, le-ltb 15 p k)
+    (by-test (ltb (s .workSlice) 65536)
+    (λ f. rw f refl)
+    (λ f. rw f (reading-options s (inForce o) (inForce p) (readTree input limit tree)))))
+
+-- with the retired option everything comes out as without it
+pub retired : (limit o : ℕ) (tree : List ℕ) (s : Lent) → o + 8 ≤ 15 → outcome limit (o + 8) tree s ≡ outcome limit o tree s
+unfolding outcome inForce
+retired limit o tree s h =
+    let same : (o + 8) % 8 ≡ o % 8 = omega arith in
+    ap (outcomeOf s)
+    (sym (options-only limit o (o + 8) tree s (omega arith) h) ∙ ap (λ (m : ℕ). withOptions m (lowering limit o tree s)) same ∙ options-only limit o o tree s (omega arith) (omega arith))
+
+-- and the mask never shows it
+mask-of : (s : Lent) (m : ℕ) (r : Result) → outcomeOf s (withOptions m r) .options ≤ m
+unfolding outcomeOf
+mask-of s m (refusal n) = omega arith
+mask-of s m (lowered h o t l) = omega arith
+
+pub mask-at-most-7 : (limit o : ℕ) (tree : List ℕ) (s : Lent) → outcome limit o tree s .options ≤ 7
+unfolding outcome outcomeOf inForce
+mask-at-most-7 limit o tree s =
+    by-order limit o tree s (λ x. outcomeOf s x .options ≤ 7)
+    (omega arith)
+    (omega arith)
+    (omega arith)
+    (let r : Result = afterReading (inForce o) s (readTree input limit tree) in
+    let e : outcomeOf s (withOptions (inForce o) r) .options ≡ outcomeOf s r .options =
+    ap (λ (x : Result). outcomeOf s x .options) (reading-options s (inForce o) (inForce o) (readTree input limit tree)) in
+    let m : outcomeOf s (withOptions (inForce o) r) .options ≤ o % 8 = mask-of s (inForce o) r in
+    omega arith)
 
 -- ---- there is one answer for each input
 

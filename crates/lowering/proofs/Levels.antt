@@ -1,5 +1,5 @@
--- The searches below patterns: from the depth of the pattern on, more levels change nothing. So 64 levels are enough for a tree that is
--- accepted, and the code may search with as many as it has left.
+-- The searches below patterns: from the depth of the pattern on, more levels change nothing. So as many as the limit are enough for a
+-- tree that is accepted, and the code may search with as many as it has left.
 -- Assumes nothing.
 use mathlib.Core.Path.{_≡_, refl, sym, ap, ap₂, _∙_}
 use mathlib.Core.Bool.{Bool, false, cond, _||_}

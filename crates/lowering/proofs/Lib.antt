@@ -14,6 +14,7 @@ pub mod Falls
 pub mod Levels
 pub mod Views
 pub mod Notes
+pub mod Order
 pub mod Answers
 pub mod Table
 pub mod Written

@@ -6,7 +6,6 @@ use mathlib.Core.List.{List, [], _∷_, _++_}
 use Prim.Native.Nat.{ℕ, zero, suc, _+_, _≤_, _<_}
 use native.Mathlib.Omega.{arith}
 use lib.Dec.{eqb}
-use borrow.Author.Tests.{le-ltb}
 use Rattle.tree.specs.Tree.{Node, Fields, Piece, Items, depth, encode}
 use Rattle.tree.specs.Tree.Node.{node}
 use Rattle.tree.specs.Grammar.Stage.{input}
@@ -26,10 +25,11 @@ use Rattle.lowering.specs.Heads.{isMoved, movedFrom, references, functio
 use Rattle.lowering.specs.Walk.{Note, Step, Walked, eachItem, eachPiece, eachField, inside, unchanged, ruleOf, rewrite, stepDeclaration, stepAssignment, stepFor, within}
 use Rattle.lowering.specs.Weight.{walked}
 use Rattle.lowering.specs.Collect.{Visit, Name, over, newIn, newInPiece, marked, markOf, bare, bareFields, barePiece, bareItems, isContainer, visits, visitsFields, visitsPiece, visitsItems, firstRefusal, entryAt, entries, excludedIn, nodes, nodesFields, nodesPiece, nodesItems, uses, maskFrom, helperMask, namesOf, numbered, numberedFields, numberedPiece, numberedItems, declaratorBytes, listBytes}
-use Rattle.lowering.specs.Answer.{Lent, fitted, collected, afterWalk, top, afterReading, lowering}
+use Rattle.lowering.specs.Answer.{Lent, fitted, collected, afterWalk, top, inForce, afterReading, lowering}
 use Rattle.lowering.proofs.Cases.{by-test, by-shape, object-is, by-rule, and-none, literals-24, declarations-4, step-same, rewritten-same}
 use Rattle.lowering.proofs.Falls.{walked-is}
 use Rattle.lowering.proofs.Notes.{AllNotes, both}
+use Rattle.lowering.proofs.Order.{Admitted, reading-decides}
 use Rattle.lowering.proofs.Accepted.{NoHoles, Proper, ProperFields, ProperPiece, ProperItems, accepted-good}
 use Rattle.lowering.proofs.Accepted.Proper.{proper}
 use Rattle.lowering.proofs.ItemLaws.{gather-none as none-in, any-empty}
@@ -473,15 +473,14 @@ walk-result o s next n q p =
     rw (first-none vs a, afterWalk, entries-none vs a, excluded-none vs a, bare-same n q p top next) (collected-same o s n p)
 
 -- a tree that is accepted and has no object rest and no spread comes back as it is
-pub simple-result : (limit o : ℕ) (tree : List ℕ) (s : Lent) (n : Node) (q next : ℕ) → readTree input limit tree ≡ got n q next → Simple n → o ≤ 15 → 65536 ≤ s .workSlice
-    → lowering limit o tree s ≡ fitted s 0 o (encode n) (0 ∷ 0 ∷ 0 ∷ 0 ∷ [])
-unfolding lowering afterReading
-simple-result limit o tree s n q next e z h w =
-    rw (le-ltb 15 o h, lowering, le-ltb (s .workSlice) 65536 w, e)
-    (walk-result o s next n z (accepted-good limit tree n q next e .fine))
+pub simple-result : (limit o : ℕ) (tree : List ℕ) (s : Lent) (n : Node) (q next : ℕ) → readTree input limit tree ≡ got n q next → Simple n → Admitted limit o s
+    → lowering limit o tree s ≡ fitted s 0 (inForce o) (encode n) (0 ∷ 0 ∷ 0 ∷ 0 ∷ [])
+unfolding afterReading
+simple-result limit o tree s n q next e z a =
+    reading-decides limit o tree s a ∙ rw e (walk-result (inForce o) s next n z (accepted-good limit tree n q next e .fine))
 
 -- byte for byte, for the reader's trees encode to what was read
-pub simple-bytes : (limit o : ℕ) (tree : List ℕ) (s : Lent) (n : Node) (q next : ℕ) → Bytes tree → readTree input limit tree ≡ got n q next → Simple n → o ≤ 15 → 65536 ≤ s .workSlice
-    → lowering limit o tree s ≡ fitted s 0 o tree (0 ∷ 0 ∷ 0 ∷ 0 ∷ [])
-simple-bytes limit o tree s n q next b e z h w =
-    simple-result limit o tree s n q next e z h w ∙ ap (λ (bs : List ℕ). fitted s 0 o bs (0 ∷ 0 ∷ 0 ∷ 0 ∷ [])) (sound input limit tree n q next b e .bytes)
+pub simple-bytes : (limit o : ℕ) (tree : List ℕ) (s : Lent) (n : Node) (q next : ℕ) → Bytes tree → readTree input limit tree ≡ got n q next → Simple n → Admitted limit o s
+    → lowering limit o tree s ≡ fitted s 0 (inForce o) tree (0 ∷ 0 ∷ 0 ∷ 0 ∷ [])
+simple-bytes limit o tree s n q next b e z a =
+    simple-result limit o tree s n q next e z a ∙ ap (λ (bs : List ℕ). fitted s 0 (inForce o) bs (0 ∷ 0 ∷ 0 ∷ 0 ∷ [])) (sound input limit tree n q next b e .bytes)

@@ -7,8 +7,8 @@ use mathlib.Core.Logic.{_⊎_, ⊎-elim}
 use mathlib.Core.Logic._⊎_.{inl, inr}
 use Prim.Native.Nat.{ℕ, zero, suc, _+_, _≤_, _<_}
 use native.Mathlib.Omega.{arith}
-use lib.Dec.{eqb, ltb}
-use borrow.Author.Tests.{eqb-true, le-ltb}
+use lib.Dec.{eqb}
+use borrow.Author.Tests.{eqb-true}
 use Rattle.tree.specs.Tree.{Node, Fields, Piece, Items}
 use Rattle.tree.specs.Tree.Node.{node}
 use Rattle.tree.specs.Grammar.Stage.{input}
@@ -24,13 +24,14 @@ use Rattle.lowering.specs.Walk.{Note, Walked, Rule, ruleOf, rewrite, wit
 use Rattle.lowering.specs.Walk.Rule.{literals, declarations, assignments, functions, arrows, catches, fors, nowhere}
 use Rattle.lowering.specs.Weight.{weight, walked}
 use Rattle.lowering.specs.Collect.{Visit, newIn, newInPiece, isContainer, markOf, marked, visits, visitsFields, visitsPiece, visitsItems, bare, firstRefusal, entries, excludedIn}
-use Rattle.lowering.specs.Answer.{Lent, Result, fits, fitted, collected, afterWalk, top, afterReading, lowering, outcomeOf, outcome, levels}
+use Rattle.lowering.specs.Answer.{Lent, Result, fits, fitted, collected, afterWalk, top, inForce, afterReading, lowering, outcomeOf, outcome}
 use Rattle.lowering.specs.Answer.Result.{refusal, lowered}
 use Rattle.lowering.specs.Table.{Meets, MeetsIn, MeetsField, MeetsPiece, MeetsItem, TreeMeets, Five, Six}
 use Rattle.lowering.specs.Table.Meets.{here, below}
 use Rattle.lowering.proofs.Cases.{by-test, by-rule, or-other, rule-4, rule-27}
 use Rattle.lowering.proofs.Falls.{walked-is}
 use Rattle.lowering.proofs.Answers.{ByWalk, walk-refuses}
+use Rattle.lowering.proofs.Order.{Admitted, by-order, reading-decides}
 
 -- ---- the first refusal of two lists
 
@@ -379,36 +380,30 @@ module _ (P : Context → Node → Type 0) (r : ℕ) (low : 4 < r) (high : r < 7
       go zero h e = absurd (fitted-not s _ o _ _ e)
       go (suc y) h e = h e
 
-  after-reading : (o : ℕ) (s : Lent) (tree : List ℕ) (g : Got Node) → readTree input levels tree ≡ g → answerOf (afterReading o s g) ≡ r → TreeMeets P tree
+  after-reading : (limit o : ℕ) (s : Lent) (tree : List ℕ) (g : Got Node) → readTree input limit tree ≡ g → answerOf (afterReading o s g) ≡ r → TreeMeets P limit tree
   unfolding afterReading
-  after-reading o s tree (got n q next) h e = TreeMeets.accepted n q next h (after-walk o s next n e)
-  after-reading o s tree (refused notATree) h e = absurd (omega arith)
-  after-reading o s tree (refused tooDeep) h e = absurd (omega arith)
+  after-reading limit o s tree (got n q next) h e = TreeMeets.accepted n q next h (after-walk o s next n e)
+  after-reading limit o s tree (refused notATree) h e = absurd (omega arith)
+  after-reading limit o s tree (refused tooDeep) h e = absurd (omega arith)
 
-  of-lowering : (o : ℕ) (tree : List ℕ) (s : Lent) → answerOf (lowering levels o tree s) ≡ r → TreeMeets P tree
-  unfolding lowering
-  of-lowering o tree s e = go (ltb 15 o) (ltb (s .workSlice) 65536) e
-    where
-      go : (a b : Bool) → answerOf (elim a [
-        | true ↦ refusal 1
-        | false ↦ elim b [ true ↦ refusal 2 | false ↦ afterReading o s (readTree input levels tree) ]
-      ]) ≡ r → TreeMeets P tree
-      go true b e = absurd (omega arith)
-      go false true e = absurd (omega arith)
-      go false false e = after-reading o s tree (readTree input levels tree) refl e
-
-  of-outcome : (o : ℕ) (tree : List ℕ) (s : Lent) → outcome o tree s .answer ≡ r → TreeMeets P tree
+  of-outcome : (limit o : ℕ) (tree : List ℕ) (s : Lent) → outcome limit o tree s .answer ≡ r → TreeMeets P limit tree
   unfolding outcome
-  of-outcome o tree s e = of-lowering o tree s (sym (answer-is s (lowering levels o tree s)) ∙ e)
+  of-outcome limit o tree s e =
+      by-order limit o tree s (λ x. answerOf x ≡ r → TreeMeets P limit tree)
+      (λ h. absurd (omega arith))
+      (λ h. absurd (omega arith))
+      (λ h. absurd (omega arith))
+      (after-reading limit (inForce o) s tree (readTree input limit tree) refl)
+      (sym (answer-is s (lowering limit o tree s)) ∙ e)
 
 -- 5 and 6 are answered only for a tree that is accepted and has what the table says
-pub answer-five : (o : ℕ) (tree : List ℕ) (s : Lent) → outcome o tree s .answer ≡ 5 → TreeMeets Five tree
-answer-five o tree s e = of-outcome Five 5 (omega arith) (omega arith) (λ n next. five-where top n next 0) o tree s e
+pub answer-five : (limit o : ℕ) (tree : List ℕ) (s : Lent) → outcome limit o tree s .answer ≡ 5 → TreeMeets Five limit tree
+answer-five limit o tree s e = of-outcome Five 5 (omega arith) (omega arith) (λ n next. five-where top n next 0) limit o tree s e
 
-pub answer-six : (o : ℕ) (tree : List ℕ) (s : Lent) → outcome o tree s .answer ≡ 6 → TreeMeets Six tree
-answer-six o tree s e = of-outcome Six 6 (omega arith) (omega arith) (λ n next. six-where top n next 0) o tree s e
+pub answer-six : (limit o : ℕ) (tree : List ℕ) (s : Lent) → outcome limit o tree s .answer ≡ 6 → TreeMeets Six limit tree
+answer-six limit o tree s e = of-outcome Six 6 (omega arith) (omega arith) (λ n next. six-where top n next 0) limit o tree s e
 
--- a refusal of the walk is the answer, if options are known and work is long enough
+-- a refusal of the walk is the answer, if limit, options and work are not refused
 after-refusal : (o : ℕ) (s : Lent) (next : ℕ) (w : Walked) → 0 < firstRefusal (visits next 0 w) → answerOf (afterWalk o s next w) ≡ firstRefusal (visits next 0 w)
 unfolding afterWalk
 after-refusal o s next w h = go (firstRefusal (visits next 0 w)) h
@@ -420,29 +415,25 @@ after-refusal o s next w h = go (firstRefusal (visits next 0 w)) h
     go zero h = absurd (omega arith)
     go (suc y) h = refl
 
-lowering-is : (o : ℕ) (tree : List ℕ) (s : Lent) → o ≤ 15 → 65536 ≤ s .workSlice → lowering levels o tree s ≡ afterReading o s (readTree input levels tree)
-unfolding lowering
-lowering-is o tree s h k = rw (le-ltb 15 o h, lowering, le-ltb (s .workSlice) 65536 k) refl
-
-answer-of : (o : ℕ) (tree : List ℕ) (s : Lent) (n : Node) (q next : ℕ) → o ≤ 15 → 65536 ≤ s .workSlice → readTree input levels tree ≡ got n q next
-    → 0 < firstRefusal (visits next 0 (walked top n)) → outcome o tree s .answer ≡ firstRefusal (visits next 0 (walked top n))
+answer-of : (limit o : ℕ) (tree : List ℕ) (s : Lent) (n : Node) (q next : ℕ) → Admitted limit o s → readTree input limit tree ≡ got n q next
+    → 0 < firstRefusal (visits next 0 (walked top n)) → outcome limit o tree s .answer ≡ firstRefusal (visits next 0 (walked top n))
 unfolding outcome afterReading
-answer-of o tree s n q next h k e p =
-    answer-is s (lowering levels o tree s)
-    ∙ (ap answerOf (lowering-is o tree s h k) ∙ (ap (λ (g : Got Node). answerOf (afterReading o s g)) e ∙ after-refusal o s next (walked top n) p))
+answer-of limit o tree s n q next a e p =
+    answer-is s (lowering limit o tree s)
+    ∙ (ap answerOf (reading-decides limit o tree s a) ∙ (ap (λ (g : Got Node). answerOf (afterReading (inForce o) s g)) e ∙ after-refusal (inForce o) s next (walked top n) p))
 
 -- so for a tree that is accepted and has what the table says at 5 or at 6, one of the two is answered
-pub answer-if : (o : ℕ) (tree : List ℕ) (s : Lent) → o ≤ 15 → 65536 ≤ s .workSlice
-    → TreeMeets Five tree ⊎ TreeMeets Six tree → (outcome o tree s .answer ≡ 5) ⊎ (outcome o tree s .answer ≡ 6)
-answer-if o tree s h k m =
+pub answer-if : (limit o : ℕ) (tree : List ℕ) (s : Lent) → Admitted limit o s
+    → TreeMeets Five limit tree ⊎ TreeMeets Six limit tree → (outcome limit o tree s .answer ≡ 5) ⊎ (outcome limit o tree s .answer ≡ 6)
+answer-if limit o tree s a m =
     ⊎-elim
     (λ f. go f (λ n p. inl p))
     (λ x. go x (λ n p. inr p))
     m
   where
-    go : {P : Context → Node → Type 0} → TreeMeets P tree → ((n : Node) → Meets P top n → Meets Five top n ⊎ Meets Six top n)
-        → (outcome o tree s .answer ≡ 5) ⊎ (outcome o tree s .answer ≡ 6)
+    go : {P : Context → Node → Type 0} → TreeMeets P limit tree → ((n : Node) → Meets P top n → Meets Five top n ⊎ Meets Six top n)
+        → (outcome limit o tree s .answer ≡ 5) ⊎ (outcome limit o tree s .answer ≡ 6)
     go (TreeMeets.accepted n q next e p) f =
         let r = refused-if top n next 0 (f n p) in
-        let a = answer-of o tree s n q next h k e r in
-        ⊎-elim (λ b. inl (a ∙ b)) (λ b. inr (a ∙ b)) (five-or-six (firstRefusal (visits next 0 (walked top n))) (walk-refuses next 0 top n) r)
+        let b = answer-of limit o tree s n q next a e r in
+        ⊎-elim (λ c. inl (b ∙ c)) (λ c. inr (b ∙ c)) (five-or-six (firstRefusal (visits next 0 (walked top n))) (walk-refuses next 0 top n) r)

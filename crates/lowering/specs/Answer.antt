@@ -1,8 +1,8 @@
 -- What a call hands back: the answer, and every byte that was lent (document 01, 'What the lowering hands back').
-use Prim.Native.Nat.{ℕ, zero, suc, _-_, min}
+use Prim.Native.Nat.{ℕ, zero, suc, _-_, _%_, min}
 use mathlib.Core.Bool.{Bool, true, false, cond, not, _||_}
 use mathlib.Core.List.{List, [], _++_}
-use lib.Dec.{ltb}
+use lib.Dec.{eqb, ltb}
 use lib.ListN.{length, replicate}
 use Rattle.tree.specs.Tree.{Node, Items, encode}
 use Rattle.tree.specs.Grammar.Stage.{input}
@@ -12,6 +12,7 @@ use Rattle.lowering.specs.Made.{Context}
 use Rattle.lowering.specs.Walk.{Walked}
 use Rattle.lowering.specs.Weight.{walked}
 use Rattle.lowering.specs.Collect.{Entry, bare, visits, firstRefusal, entries, excludedIn, helperMask, namesOf, numbered, listBytes}
+use Rattle.lowering.specs.Refusals.{limitOutside, unknownOptions, smallWork, tooLong}
 
 -- the slices that are lent, by their lengths
 pub record Lent : Type 0 where
@@ -23,20 +24,6 @@ pub record Lent : Type 0 where
 pub data Result : Type 0 where
   refusal : ℕ → Result
   lowered : ℕ → ℕ → List ℕ → List ℕ → Result  -- helper mask, options mask, tree, list
-
--- ---- the table's numbers that are not the reader's or the walk's
-
--- options above 15
-abbrev pub unknownOptions : ℕ
-unknownOptions = 1
-
--- work below 65,536 bytes
-abbrev pub smallWork : ℕ
-smallWork = 2
-
--- tree or list over its limit or longer than its slice
-abbrev pub tooLong : ℕ
-tooLong = 7
 
 -- ---- from the walked tree to the result
 
@@ -74,15 +61,32 @@ unfoldable pub afterReading : ℕ → Lent → Got Node → Result
 afterReading options s (got n q next) = afterWalk options s next (walked top n)
 afterReading options s (refused r) = refusal (numberOf r)
 
--- the order of the refusals: options, work, the tree, the walk, lengths. A tree has at most `limit` levels
+-- the highest limit, which is also that of a caller who names none (request 5)
+abbrev pub highestLimit : ℕ
+highestLimit = 128
+
+-- a limit that there is not. A tree has at most as many levels as the limit says: the Program is at depth 1
+abbrev pub limitRefused : ℕ → Bool
+limitRefused limit = eqb limit 0 || ltb highestLimit limit
+
+-- the options mask of a lowering: the options, at most 15, without the 8. That option, `ignoreFunctionLength`, is retired (request 12):
+-- with it a tree is lowered as without it, and the mask never shows it
+unfoldable pub inForce : ℕ → ℕ
+inForce options = options % 8
+
+-- the order of the refusals: the limit, options, work, the tree, the walk, lengths
 unfoldable pub lowering : ℕ → ℕ → List ℕ → Lent → Result
 lowering limit options tree s =
-    elim (ltb 15 options) [
-      | true ↦ refusal unknownOptions
+    elim (limitRefused limit) [
+      | true ↦ refusal limitOutside
       | false ↦
-          elim (ltb (s .workSlice) 65536) [
-            | true ↦ refusal smallWork
-            | false ↦ afterReading options s (readTree input limit tree)
+          elim (ltb 15 options) [
+            | true ↦ refusal unknownOptions
+            | false ↦
+                elim (ltb (s .workSlice) 65536) [
+                  | true ↦ refusal smallWork
+                  | false ↦ afterReading (inForce options) s (readTree input limit tree)
+                ]
           ]
     ]
 
@@ -128,10 +132,6 @@ outcomeOf s (lowered helpers options t l) =
       work = filled (s .workSlice) [];
     }
 
--- the one number of levels that a tree may have: the Program is at depth 1, a node at depth 65 is refused
-abbrev pub levels : ℕ
-levels = 64
-
--- what `rest_spread_lower` gives for options, tree bytes and the lengths of its three slices
-unfoldable pub outcome : ℕ → List ℕ → Lent → Outcome
-outcome options tree s = outcomeOf s (lowering levels options tree s)
+-- what a call gives for the limit, options, tree bytes and the lengths of its three slices
+unfoldable pub outcome : ℕ → ℕ → List ℕ → Lent → Outcome
+outcome limit options tree s = outcomeOf s (lowering limit options tree s)

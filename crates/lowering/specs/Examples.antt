@@ -10,7 +10,7 @@ use Rattle.tree.specs.Tree.Piece.{one, list, text, byte, mark, number}
 use Rattle.tree.specs.Tree.Items.{none, item}
 use Rattle.lowering.specs.Parts.{only}
 use Rattle.lowering.specs.Made.{call, S, X, E, W, object, array, sequence, assign, string, declares}
-use Rattle.lowering.specs.Answer.{Lent, lowering, levels, outcome}
+use Rattle.lowering.specs.Answer.{Lent, highestLimit, lowering, outcome}
 use Rattle.lowering.specs.Answer.Result.{refusal, lowered}
 
 -- ---- small trees
@@ -127,10 +127,10 @@ empty = 0 ∷ 0 ∷ 0 ∷ 0 ∷ []
 
 -- one statement becomes another with these helpers, and an empty list
 abbrev Becomes : Node → ℕ → Node → Type 0
-Becomes before helpers after = lowering levels 0 (program (only before)) plenty ≡ lowered helpers 0 (program (only after)) empty
+Becomes before helpers after = lowering highestLimit 0 (program (only before)) plenty ≡ lowered helpers 0 (program (only after)) empty
 
 abbrev Refused : Node → ℕ → Type 0
-Refused n r = lowering levels 0 (program (only n)) plenty ≡ refusal r
+Refused n r = lowering highestLimit 0 (program (only n)) plenty ≡ refusal r
 
 -- `` `a`[function() { }] ``, the function with mark 2
 abbrev templated : Node
@@ -181,31 +181,48 @@ pub record Examples : Type 0 where
   table : Table
   -- ---- the listing
 
-  the-listing : lowering levels 0 listing plenty ≡ lowered 1 0 listed empty
-  -- options go into the mask, and lowering goes on
-  all-options : lowering levels 15 listing plenty ≡ lowered 1 15 listed empty
+  the-listing : lowering highestLimit 0 listing plenty ≡ lowered 1 0 listed empty
+  -- options go into the mask, and lowering goes on; 8 is left out (request 12)
+  retired-option : lowering highestLimit 8 listing plenty ≡ lowered 1 0 listed empty
+  all-options : lowering highestLimit 15 listing plenty ≡ lowered 1 7 listed empty
   -- ---- the small inputs of the refusal table
 
-  one-options : lowering levels 16 listing plenty ≡ refusal 1
-  two-work : lowering levels 0 listing (lent 32768 16384 65535) ≡ refusal 2
-  three-empty : lowering levels 0 [] plenty ≡ refusal 3
-  -- Program, 64 blocks each in the last; with 63 it is a tree
-  four-deep : lowering levels 0 (program (blocks 1 64)) plenty ≡ refusal 4
-  not-so-deep : lowering levels 0 (program (blocks 1 63)) plenty ≡ lowered 0 0 (program (blocks 1 63)) empty
+  one-options : lowering highestLimit 16 listing plenty ≡ refusal 1
+  one-retired : lowering highestLimit 24 listing plenty ≡ refusal 1
+  two-work : lowering highestLimit 0 listing (lent 32768 16384 65535) ≡ refusal 2
+  three-empty : lowering highestLimit 0 [] plenty ≡ refusal 3
+  -- Program, 64 blocks each in the last, with a limit of 64; with 63 it is a tree
+  four-deep : lowering 64 0 (program (blocks 1 64)) plenty ≡ refusal 4
+  not-so-deep : lowering 64 0 (program (blocks 1 63)) plenty ≡ lowered 0 0 (program (blocks 1 63)) empty
   -- `[...[{...a}]] = b`
   five-array-rest : Refused (says 1 (assign (itemsRest (items (only (takingRest none (ref a))))) (ref b))) 5
   -- `var {[/q/]: a, ...r} = s`
   six-no-form : Refused (declaring 1 1 (only (declares (takingRest (only (part regexp (bind a) 1)) (bind r)) (ref s)))) 6
   -- the listing with a tree slice of 23; with 24, and a list slice of 4, it fits
-  seven-short : lowering levels 0 listing (lent 23 16384 65536) ≡ refusal 7
-  just-fits : lowering levels 0 listing (lent 24 4 65536) ≡ lowered 1 0 listed empty
+  seven-short : lowering highestLimit 0 listing (lent 23 16384 65536) ≡ refusal 7
+  just-fits : lowering highestLimit 0 listing (lent 24 4 65536) ≡ lowered 1 0 listed empty
+  -- ---- the limit (request 5)
+
+  -- 64 blocks, 127 and 128 where none is named
+  deeper : lowering highestLimit 0 (program (blocks 1 64)) plenty ≡ lowered 0 0 (program (blocks 1 64)) empty
+  deepest : lowering highestLimit 0 (program (blocks 1 127)) plenty ≡ lowered 0 0 (program (blocks 1 127)) empty
+  too-deep : lowering highestLimit 0 (program (blocks 1 128)) plenty ≡ refusal 4
+  -- limits that there are not; 9 comes before 1, and 1 before 4
+  nine-zero : lowering 0 0 listing plenty ≡ refusal 9
+  nine-above : lowering 129 0 listing plenty ≡ refusal 9
+  nine-first : lowering 0 16 listing plenty ≡ refusal 9
+  one-next : lowering 1 16 listing plenty ≡ refusal 1
+  -- a limit of 1 leaves the empty Program; a statement in it is met as 4, a byte that is no statement's kind as 3
+  one-level : lowering 1 0 (program none) plenty ≡ lowered 0 0 (program none) empty
+  one-level-deep : lowering 1 0 listing plenty ≡ refusal 4
+  one-level-no-tree : lowering 1 0 (1 ∷ 1 ∷ 1 ∷ 0 ∷ 20 ∷ []) plenty ≡ refusal 3
   -- ---- every lent byte
 
   -- the listing with slices of 26 and 6 bytes: the result, then zeros
-  tree-slice : outcome 0 listing (lent 26 6 65536) .treeOut ≡ listed ++ (0 ∷ 0 ∷ [])
-  list-slice : outcome 0 listing (lent 26 6 65536) .listOut ≡ replicate 6 0
+  tree-slice : outcome highestLimit 0 listing (lent 26 6 65536) .treeOut ≡ listed ++ (0 ∷ 0 ∷ [])
+  list-slice : outcome highestLimit 0 listing (lent 26 6 65536) .listOut ≡ replicate 6 0
   -- with a tree slice of 23: zeros
-  refused-slice : outcome 0 listing (lent 23 6 65536) .treeOut ≡ replicate 23 0
+  refused-slice : outcome highestLimit 0 listing (lent 23 6 65536) .treeOut ≡ replicate 23 0
   -- ---- others that document 01 names
 
   -- `var [...[{...a}]] = b` keeps its rest
@@ -213,7 +230,7 @@ pub record Examples : Type 0 where
       (declaring 1 1 (only (declares (itemsRest (items (only (takingRest none (bind a))))) (ref b)))) 0
       (declaring 1 1 (only (declares (itemsRest (items (only (takingRest none (bind a))))) (ref b))))
   -- `({a: {...b}, ...c} = d)`: (t = d, {a: {}} = t, b = X({}, (E(t), t)), c = W(t, ["a"])), so b is copied from d's temporary; before statement 1: t
-  nested-rest : lowering levels 0 (program (only (says 1 (parens (assign (takingRest (only (part (name a) (takingRest none (ref b)) 0)) (ref c)) (ref d)))))) plenty
+  nested-rest : lowering highestLimit 0 (program (only (says 1 (parens (assign (takingRest (only (part (name a) (takingRest none (ref b)) 0)) (ref c)) (ref d)))))) plenty
       ≡ lowered 14 0
       (program (only (says 1 (parens (sequence (all (
       assign (temp 1) (ref d)
@@ -223,7 +240,7 @@ pub record Examples : Type 0 where
       ∷ [])))))))
       (1 ∷ 0 ∷ 1 ∷ 0 ∷ 1 ∷ 0 ∷ 5 ∷ 1 ∷ 20 ∷ 1 ∷ 1 ∷ 0 ∷ 0 ∷ 0 ∷ [])
   -- `{ let {a, ...r} = s; }`: not at root the keys go to the list, t = ["a"]
-  hoisted-keys : lowering levels 0 (program (only (blockOf 1 (only (declaring 2 2 (only (declares (takingRest (only (part (name a) (bind a) 2)) (bind r)) (ref s)))))))) plenty
+  hoisted-keys : lowering highestLimit 0 (program (only (blockOf 1 (only (declaring 2 2 (only (declares (takingRest (only (part (name a) (bind a) 2)) (bind r)) (ref s)))))))) plenty
       ≡ lowered 8 0
       (program (only (blockOf 1 (only (declaring 2 2 (all (declares (taking (only (part (name a) (bind a) 2))) (ref s) ∷ declares (bind r) (W (ref s) (temp 1)) ∷ [])))))))
       (0 ∷ 0 ∷ 1 ∷ 0 ∷ 5 ∷ 3 ∷ 20 ∷ 1 ∷ 1 ∷ 0 ∷ 32 ∷ 1 ∷ 1 ∷ 0 ∷ 22 ∷ 7 ∷ 1 ∷ 0 ∷ 0 ∷ 1 ∷ 0 ∷ 97 ∷ [])
@@ -321,5 +338,5 @@ unfolding
     Rattle.lowering.specs.Answer.collected Rattle.lowering.specs.Answer.afterWalk
     Rattle.lowering.specs.Answer.afterReading Rattle.lowering.specs.Answer.lowering
     Rattle.lowering.specs.Answer.filled Rattle.lowering.specs.Answer.outcomeOf
-    Rattle.lowering.specs.Answer.outcome
-examples = record { table = record { empty-literal = refl; plain-literal = refl; two-spreads = refl; spread-last = refl; spread-first = refl; spread-around = refl; rest = refl; rest-only = refl }; the-listing = refl; all-options = refl; one-options = refl; two-work = refl; three-empty = refl; four-deep = refl; not-so-deep = refl; five-array-rest = refl; six-no-form = refl; seven-short = refl; just-fits = refl; tree-slice = refl; list-slice = refl; refused-slice = refl; array-rest-stays = refl; nested-rest = refl; hoisted-keys = refl; template-copied = refl; mark-twice = refl }
+    Rattle.lowering.specs.Answer.outcome Rattle.lowering.specs.Answer.inForce
+examples = record { table = record { empty-literal = refl; plain-literal = refl; two-spreads = refl; spread-last = refl; spread-first = refl; spread-around = refl; rest = refl; rest-only = refl }; the-listing = refl; retired-option = refl; all-options = refl; one-options = refl; one-retired = refl; two-work = refl; three-empty = refl; four-deep = refl; not-so-deep = refl; five-array-rest = refl; six-no-form = refl; seven-short = refl; just-fits = refl; deeper = refl; deepest = refl; too-deep = refl; nine-zero = refl; nine-above = refl; nine-first = refl; one-next = refl; one-level = refl; one-level-deep = refl; one-level-no-tree = refl; tree-slice = refl; list-slice = refl; refused-slice = refl; array-rest-stays = refl; nested-rest = refl; hoisted-keys = refl; template-copied = refl; mark-twice = refl }

@@ -7,6 +7,7 @@ pub mod Literals
 pub mod Declarations
 pub mod Assignments
 pub mod Heads
+pub mod Refusals
 pub mod Walk
 pub mod Weight
 pub mod Collect

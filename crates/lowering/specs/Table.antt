@@ -15,7 +15,7 @@ use Rattle.lowering.specs.Patterns.{hasArrayRestOverObjectRest}
 use Rattle.lowering.specs.Declarations.{declarationLacksForm}
 use Rattle.lowering.specs.Assignments.{target, isTop, topLacksForm}
 use Rattle.lowering.specs.Walk.{rewrite, within}
-use Rattle.lowering.specs.Answer.{top, levels}
+use Rattle.lowering.specs.Answer.{top}
 
 -- ---- what the walk meets
 
@@ -47,9 +47,9 @@ mutual
     first : {place : ℕ → Context} {j : ℕ} {n : Node} {is : Items} → Meets P (place j) n → MeetsItem P place j (Items.item n is)
     after : {place : ℕ → Context} {j : ℕ} {n : Node} {is : Items} → MeetsItem P place (suc j) is → MeetsItem P place j (Items.item n is)
 
--- the bytes are accepted as a tree, and its walk comes to a node of which P holds
-pub data TreeMeets (P : Context → Node → Type 0) (tree : List ℕ) : Type 0 where
-  accepted : (n : Node) (q next : ℕ) → readTree input levels tree ≡ got n q next → Meets P top n → TreeMeets P tree
+-- the bytes are accepted as a tree within the limit, and its walk comes to a node of which P holds
+pub data TreeMeets (P : Context → Node → Type 0) (limit : ℕ) (tree : List ℕ) : Type 0 where
+  accepted : (n : Node) (q next : ℕ) → readTree input limit tree ≡ got n q next → Meets P top n → TreeMeets P limit tree
 
 -- ---- the table's lines
 

@@ -12,6 +12,7 @@ use Rattle.lowering.specs.Literals.{literal}
 use Rattle.lowering.specs.Declarations.{declaration, declarationMakes, declarationExcludes, declarationLacksForm}
 use Rattle.lowering.specs.Assignments.{target, isTop, topSequence, topEntry, topExcludes, topMakes, topLacksForm, nestedSequence, nestedEntry, nestedMakes}
 use Rattle.lowering.specs.Heads.{function, functionMakes, arrow, arrowMakes, catch, catchMakes, declaringHead, declaringMakes, assigningHead, assigningMakes}
+use Rattle.lowering.specs.Refusals.{restBelowArrayRest, keyWithoutForm}
 
 -- ---- what the rewriting of a node gives
 
@@ -37,13 +38,6 @@ abbrev pub refuse : ℕ → Step
 refuse r = record { note = record { refusal = r; made = Items.none; entry = Items.none; excluded = Items.none }; result = nothing }
 
 -- ---- the rules that can refuse
-
--- the table's numbers (document 01)
-abbrev pub restBelowArrayRest : ℕ
-restBelowArrayRest = 5
-
-abbrev pub keyWithoutForm : ℕ
-keyWithoutForm = 6
 
 module _ (c : Context) where
   -- 4 Declaration

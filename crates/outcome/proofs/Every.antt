@@ -1,21 +1,20 @@
 -- For every tree that is accepted the events of its walk end in the definition's outcome, or the walk refuses as the definition does;
 -- each temporary of the list stands in the tree, and the marks of new statements count up from the next mark of the tree.
 -- Assumes nothing.
-use mathlib.Core.Path.{_≡_, refl, sym, ap, _∙_}
+use mathlib.Core.Path.{_≡_}
 use mathlib.Core.List.{List}
 use Prim.Native.Nat.{ℕ, suc, _+_, _<_, _≤_}
 use native.Mathlib.Omega.{arith}
-use borrow.Author.Tests.{lt-ltb, le-ltb}
 use Rattle.tree.specs.Tree.{Node, marks}
 use Rattle.tree.specs.Grammar.{root}
 use Rattle.tree.specs.Grammar.Stage.{input}
-use Rattle.tree.specs.Read.{Got, Refusal, numberOf, readTree}
-use Rattle.tree.specs.Read.Got.{got, refused}
+use Rattle.tree.specs.Read.{readTree}
+use Rattle.tree.specs.Read.Got.{got}
 use Rattle.tree.specs.WellFormed.{Bytes, Fits, Counts}
 use Rattle.tree.proofs.Sound.{Accepted, sound}
 use Rattle.lowering.specs.Weight.{walked}
 use Rattle.lowering.specs.Collect.{Name, newIn, bare, visits, firstRefusal, numbered}
-use Rattle.lowering.specs.Answer.{Lent, Result, top, levels, afterWalk, afterReading, lowering, outcomeOf, outcome}
+use Rattle.lowering.specs.Answer.{Lent, Result, top, afterWalk, outcomeOf}
 use Rattle.lowering.proofs.Occurs.{occurs}
 use Rattle.lowering.proofs.Accepted.{accepted-good}
 use Rattle.lowering.proofs.Names.{accepted-names-apart}
@@ -94,42 +93,3 @@ module _ (limit : ℕ) (tree : List ℕ) (bytes : Bytes tree) (n : Node) (q next
       let held : Held (λ (m : ℕ). m < next) n = counts-held next 1 n next (omega arith) (taken .wellFormed .marked) in
       rw (numbered-marks ns next (walked top n) (walked-formed top n accepted-is-good))
       (new-marks next next (walked top n) (omega arith) (walked-keeps (λ (m : ℕ). m < next) (omega arith) top n held))
-
--- ---- the call: what is answered, case by case
-
--- options above 15
-pub options-unknown : (options : ℕ) (tree : List ℕ) (s : Lent) → 15 < options → outcome options tree s ≡ outcomeOf s (Result.refusal 1)
-unfolding outcome lowering
-options-unknown options tree s h = rw (lt-ltb 15 options h, lowering) refl
-
-module _ (options : ℕ) (known : options ≤ 15) (tree : List ℕ) (s : Lent) where
-  -- work below 65,536 bytes
-  pub work-small : s .workSlice < 65536 → outcome options tree s ≡ outcomeOf s (Result.refusal 2)
-  unfolding outcome lowering
-  work-small h = rw (le-ltb 15 options known, lowering, lt-ltb (s .workSlice) 65536 h) refl
-
-  module _ (big : 65536 ≤ s .workSlice) where
-    -- what is read decides
-    by-reading : outcome options tree s ≡ outcomeOf s (afterReading options s (readTree input levels tree))
-    unfolding outcome lowering
-    by-reading = rw (le-ltb 15 options known, lowering, le-ltb (s .workSlice) 65536 big) refl
-
-    -- no tree, or one too deep
-    pub tree-refused : (r : Refusal) → readTree input levels tree ≡ refused r → outcome options tree s ≡ outcomeOf s (Result.refusal (numberOf r))
-    unfolding afterReading
-    tree-refused r e = by-reading ∙ ap (λ (g : Got Node). outcomeOf s (afterReading options s g)) e
-
-    -- a tree that is accepted
-    module _ (bytes : Bytes tree) (n : Node) (q next : ℕ) (read : readTree input levels tree ≡ got n q next) where
-      by-walk : outcome options tree s ≡ outcomeOf s (afterWalk options s next (walked top n))
-      unfolding afterReading
-      by-walk = by-reading ∙ ap (λ (g : Got Node). outcomeOf s (afterReading options s g)) read
-
-      -- whose walk refuses nothing: what the output machine hands back after the walk's events
-      pub tree-lowered : firstRefused (deeds next 0 (walked top n)) ≡ 0
-          → outcome options tree s ≡ outcomeFrom options (finished (steps (start (s .treeSlice) (s .listSlice) (s .workSlice) next) (eventsIn (deeds next 0 (walked top n)))))
-      tree-lowered h = by-walk ∙ sym (accepted-outcome levels tree bytes n q next read options s (omega arith) h)
-
-      -- whose walk refuses something: the first that is met
-      pub walk-refused : (r : ℕ) → firstRefused (deeds next 0 (walked top n)) ≡ suc r → outcome options tree s ≡ outcomeOf s (Result.refusal (suc r))
-      walk-refused r h = by-walk ∙ ap (outcomeOf s) (accepted-refusal levels tree bytes n q next read options s r h)

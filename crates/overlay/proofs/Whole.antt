@@ -5,7 +5,6 @@ use mathlib.Core.Bool.{false}
 use mathlib.Core.List.{List, []}
 use Prim.Native.Nat.{ℕ, zero, suc, _+_}
 use native.Mathlib.Omega.{arith}
-use lib.Dec.{ltb}
 use Rattle.tree.specs.Tree.{Node, Fields, Piece, Items, encode}
 use Rattle.tree.specs.Grammar.Stage.{input}
 use Rattle.tree.specs.Read.{Got, readTree}
@@ -14,8 +13,10 @@ use Rattle.lowering.specs.Parts.{is}
 use Rattle.lowering.specs.Walk.{Note, Walked, rewrite, within, inside, eachItem, eachPiece, eachField}
 use Rattle.lowering.specs.Weight.{walked}
 use Rattle.lowering.specs.Collect.{Name, newIn, newInPiece, bare, bareFields, barePiece, bareItems, numbered, numberedFields, numberedPiece, numberedItems, visits, firstRefusal, entries, excludedIn, namesOf, helperMask, listBytes}
-use Rattle.lowering.specs.Answer.{Lent, Result, lowering, afterReading, afterWalk, collected, fitted, fits, top}
+use Rattle.lowering.specs.Refusals.{limitOutside, unknownOptions, smallWork}
+use Rattle.lowering.specs.Answer.{Lent, Result, inForce, lowering, afterReading, afterWalk, collected, fitted, fits, top}
 use Rattle.lowering.proofs.Falls.{walked-is}
+use Rattle.lowering.proofs.Order.{by-order}
 use Rattle.overlay.specs.Plain.{given}
 use Rattle.overlay.specs.Law.{Overlay, Faithful}
 use Rattle.overlay.specs.Whole.{leaves, ItemAt, NodeIn, FieldAt, PartAt, Stands, Visits, lowered, Left, InPlace, Writes}
@@ -149,17 +150,18 @@ walk-bytes options s next w helpers mask t l e =
 -- what a call that lowers has read, and what it writes
 pub call-writes : (limit options : ℕ) (bytes : List ℕ) (s : Lent) (helpers mask : ℕ) (t l : List ℕ) → lowering limit options bytes s ≡ Result.lowered helpers mask t l
     → (n : Node) × (q next : ℕ) × (readTree input limit bytes ≡ got n q next) × Bytes-of next (walked top n) t l
-unfolding lowering afterReading
-call-writes limit options bytes s helpers mask t l e =
-    by-test (ltb 15 options)
-    (λ a. no-refusal 1 helpers mask t l (rw (a, lowering) at e))
-    (λ a. by-test (ltb (s .workSlice) 65536)
-    (λ b. no-refusal 2 helpers mask t l (rw b at (rw (a, lowering) at e)))
-    (λ b. go (readTree input limit bytes) refl (rw b at (rw (a, lowering) at e))))
+unfolding afterReading
+call-writes limit options bytes s helpers mask t l =
+    by-order limit options bytes s (λ x. x ≡ Result.lowered helpers mask t l
+    → (n : Node) × (q next : ℕ) × (readTree input limit bytes ≡ got n q next) × Bytes-of next (walked top n) t l)
+    (no-refusal limitOutside helpers mask t l)
+    (no-refusal unknownOptions helpers mask t l)
+    (no-refusal smallWork helpers mask t l)
+    (go (readTree input limit bytes) refl)
   where
-    go : (g : Got Node) → readTree input limit bytes ≡ g → afterReading options s g ≡ Result.lowered helpers mask t l
+    go : (g : Got Node) → readTree input limit bytes ≡ g → afterReading (inForce options) s g ≡ Result.lowered helpers mask t l
         → (n : Node) × (q next : ℕ) × (readTree input limit bytes ≡ got n q next) × Bytes-of next (walked top n) t l
-    go (got n q next) r e = (n, q, next, r, walk-bytes options s next (walked top n) helpers mask t l e)
+    go (got n q next) r e = (n, q, next, r, walk-bytes (inForce options) s next (walked top n) helpers mask t l e)
     go (refused x) r e = no-refusal _ helpers mask t l e
 
 pub writes : Writes
