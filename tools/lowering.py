@@ -3,13 +3,18 @@
     tools/lowering.py --reference FILE [--binary FILE] [--stream] [--count N] [--seed N] [--shown N]
     tools/lowering.py --reference FILE --grid ..             on the trees of grid.py, which try each rule of the grammar
     tools/lowering.py --reference FILE --vectors FOLDER ..   on the inputs of the vector files in FOLDER
+    tools/lowering.py --reference FILE --self-test [--count N] [--seed N]   whether the comparison sees what it should
 
 The reference is the Rust module over stand-ins (docs/DIFFERENCES.md); it is run with --batch --template-key=node. The
 program is `lower`, run once for each case; with --stream it is one that takes many cases: options byte, 16-bit length,
-tree, and so on. Compared are the answer, both masks, the tree and the list, byte for byte. Whether an input is a tree
-is asked of read.py: where it says 3 or 4 that is what is expected. Prints the first differences with their inputs, trees
-shrunk; then how many cases of each shape had which answer, and in how many a helper stands. The status is 1 where
-anything differs.
+tree, and so on. Compared are the answer, both masks, and tree and list as equal.py compares results: spelling counts, and
+temporaries by first appearance. How many have other bytes is counted beside that. Whether an input is a tree is asked of
+read.py: where it says 3 or 4 that is what is expected. Prints the first differences with their inputs, trees shrunk;
+then how many cases of each shape had which answer, and in how many a helper stands. The status is 1 where anything
+differs, in either way.
+
+--self-test changes one spelling in a result of the reference, of a literal, a quasi, a directive or a literal in the list,
+and each change must be seen; it swaps two temporaries' numbers throughout, and that must not be seen.
 """
 import argparse
 import collections
@@ -21,6 +26,7 @@ import subprocess
 import sys
 
 import cases
+import equal
 import fuzz
 import grid
 import read
@@ -28,6 +34,20 @@ import read
 BATCH = 2000
 TREE, LIST = 32768, 16384
 NAMES = [b"a", b"b", b"c", b"k", b"s", b"", b"state", b"deadline"]
+# Literals by sort: a form, and spellings of it. A boolean and a null have their words.
+STRING, NUMBER, BOOLEAN, NULL, BIGINT, REGEXP = range(1, 7)
+SPELLINGS = {
+    NUMBER: [(b"16", [b"16", b"0x10", b"16.0", b"0b10000", b"1.6e1"]), (b"0", [b"0", b"0x0", b".0", b"0e5"]), (b"1.5", [b"1.5", b"1.50", b"15e-1"])],
+    BOOLEAN: [(b"true", [b"true"]), (b"false", [b"false"])],
+    NULL: [(b"null", [b"null"])],
+    BIGINT: [(b"16", [b"16n", b"0x10n", b"0b10000n"])],
+    REGEXP: [(b"/a/g", [b"/a/g"]), (b"/[b]/", [b"/[b]/"])],
+}
+
+
+def spelled_strings(name):
+    """Spellings of a string, as a literal or a quasi has them."""
+    return [b"'" + name + b"'", b'"' + name + b'"', name] + [b"'\\x%02x%s'" % (name[0], name[1:]) for _ in name[:1]]
 
 # How often a form is chosen, by its name and for some places in another way. What is not listed counts 1.
 WEIGHT = {
@@ -88,6 +108,9 @@ class Maker:
         self.nodes += 1
         goes_down = on_path and depth < self.goal and place in fuzz.DEEP_PLACES
         form = self.choose(place, depth, goes_down)
+        if form == "Literal":
+            self.literal()
+            return
         fields = read.FIELDS[form]
         down = None
         if goes_down:
@@ -99,9 +122,21 @@ class Maker:
             if stand[i]:
                 self.field(form, i, field, depth, field is down)
 
+    def literal(self):
+        rnd = self.rnd
+        sort = rnd.randint(STRING, REGEXP)
+        if sort == STRING:
+            form = rnd.choice(NAMES) if rnd.random() < 0.97 else rnd.randbytes(rnd.randrange(40))
+            spelled = spelled_strings(form)
+        else:
+            form, spelled = rnd.choice(SPELLINGS[sort])
+        spelling = rnd.choice(spelled)
+        has_form = not self.refused or self.stands("Literal", 2, 1)
+        self.out += bytes([read.KIND["Literal"], 7 if has_form else 3, sort]) + cases.wide(len(spelling)) + spelling
+        if has_form:
+            self.out += cases.wide(len(form)) + form
+
     def stands(self, form, i, more):
-        if not self.refused and form == "Literal":
-            return True
         likely = STANDS.get((form, i), 0.4)
         return self.rnd.random() < (likely if form in ("Literal", "Declarator") or form.endswith("Object") else likely * more)
 
@@ -552,6 +587,55 @@ def shrunk(case, differs):
         tree = found[1]
 
 
+# ---- comparing
+
+
+def result_of(answer):
+    """Tree and list of an answer, as bytes."""
+    return bytes.fromhex(answer[3]), bytes.fromhex(answer[4])
+
+
+def is_equal(want, got):
+    """Whether two answers are equal: number, masks, and results that are equal."""
+    if want[:3] != got[:3]:
+        return False
+    if want[0]:
+        return want == got
+    try:
+        return equal.is_equal(result_of(want), result_of(got))
+    except equal.Unreadable:
+        return False
+
+
+def self_test(rnd, count, reference):
+    """Whether each change of a spelling is seen, and no swap of temporaries. Prints what was tried and what was seen."""
+    tried, seen = collections.Counter(), collections.Counter()
+    for _ in range(0, count, BATCH):
+        batch = [(0, plain(rnd)) for _ in range(min(count, BATCH))]
+        for answer in reference(batch):
+            if answer[0]:
+                continue
+            result = result_of(answer)
+            by_sort = collections.defaultdict(list)
+            for part, at, what, has_form in equal.spellings(result):
+                by_sort[what + (", with a form" if has_form else "")].append((part, at))
+            for sort, places in by_sort.items():
+                tree, listed = equal.respelled(result, *rnd.choice(places))
+                tried[sort] += 1
+                seen[sort] += not is_equal(answer, (*answer[:3], tree.hex(), listed.hex()))
+            numbers = equal.numbers(result)
+            if len(numbers) > 1:
+                tree, listed = equal.swapped(result, *rnd.sample(numbers, 2))
+                tried["swap"] += 1
+                seen["swap"] += not is_equal(answer, (*answer[:3], tree.hex(), listed.hex())) or (tree, listed) == result
+    for sort in sorted(tried):
+        print(f"{sort}: {seen[sort]} of {tried[sort]} seen")
+    changes = [word + form for word in ("literal", "quasi", "directive", "list") for form in ("", ", with a form")]
+    is_good = all(tried[sort] and seen[sort] == tried[sort] for sort in changes) and tried["swap"] and not seen["swap"]
+    print("self-test: " + ("ok" if is_good else "FAILED"))
+    return is_good
+
+
 def text_of(answer):
     return "{} {} {} {} {}".format(*answer[:3], answer[3] or "-", answer[4] or "-")
 
@@ -566,12 +650,15 @@ def main():
     words.add_argument("--shown", type=int, default=5, help="how many differences are printed")
     words.add_argument("--grid", action="store_true")
     words.add_argument("--vectors")
+    words.add_argument("--self-test", action="store_true")
     given = words.parse_args()
+    if given.self_test:
+        sys.exit(0 if self_test(random.Random(given.seed), given.count, reference_at(given.reference)) else 1)
     reference, program = reference_at(given.reference), program_at(given.binary, given.stream)
 
     def differs(batch):
         wanted, _ = expected(batch, reference)
-        return [a != b for a, b in zip(wanted, program(batch))]
+        return [a != b or not is_equal(a, b) for a, b in zip(wanted, program(batch))]
 
     if given.vectors:
         names = sorted(name[:-4] for name in os.listdir(given.vectors) if name.endswith(".txt"))
@@ -580,7 +667,7 @@ def main():
         source = (("grid", 0, tree) for tree in grid.grid())
     else:
         source = trees(random.Random(given.seed), given.count, reference)
-    counts, total, different, otherwise = collections.defaultdict(collections.Counter), 0, 0, 0
+    counts, total, unequal, different, otherwise = collections.defaultdict(collections.Counter), 0, 0, 0, 0
     while some := list(itertools.islice(source, BATCH)):
         batch = [(options, tree) for _, options, tree in some]
         wanted, others = expected(batch, reference)
@@ -589,10 +676,10 @@ def main():
             total += 1
             counts[shape][want[0]] += 1
             counts[shape]["lowered"] += want[1] > 0
-            if want == got:
-                continue
-            different += 1
-            if different <= given.shown:
+            is_other, has_other_bytes = not is_equal(want, got), want != got
+            unequal += is_other
+            different += has_other_bytes
+            if (is_other or has_other_bytes) and max(unequal, different) <= given.shown:
                 if read.answer(case[1])[0] == 0:
                     case = shrunk(case, differs)
                     (want,), _ = expected([case], reference)
@@ -604,8 +691,8 @@ def main():
     for shape, by in counts.items():
         print(shape.ljust(10), *(f"{by[name]:8}" for name in columns), f"{sum(by.values()) - by['lowered']:8}")
     print(f"the reference reads {otherwise} otherwise than read.py")
-    print(f"{total} cases, {different} different")
-    sys.exit(1 if different or not total else 0)
+    print(f"{total} cases, {unequal} unequal, {different} with other bytes")
+    sys.exit(1 if unequal or different or not total else 0)
 
 
 def recorded(folder, name):

@@ -1,15 +1,16 @@
 -- Equal trees differ by no more than a renaming that keeps temporaries apart, and equal results too. So equal trees are equal as before.
 -- Assumes nothing.
-use mathlib.Core.Path.{_≡_, refl, sym, ap, ap₂, _∙_, subst}
-use mathlib.Core.Bool.{Bool, true, false, cond}
+use mathlib.Core.Path.{_≡_, refl, sym, ap, _∙_, subst}
+use mathlib.Core.Bool.{cond}
 use mathlib.Core.List.{List, [], _∷_, _++_, append-nil, append-assoc}
-use Prim.Native.Nat.{ℕ, suc, _≤_, _<_}
+use Prim.Native.Nat.{ℕ, suc, _≤_}
 use native.Mathlib.Omega.{arith}
 use lib.Dec.{eqb}
 use lib.ListN.{length}
 use borrow.Author.Tests.{eqb-true, eq-eqb, ne-eqb}
-use Rattle.tree.specs.Tree.{Node, Items, wideBytes, encode, encodePiece}
+use Rattle.tree.specs.Tree.{Node, wideBytes, encode, encodePiece}
 use Rattle.tree.specs.Tree.Piece.{list}
+use Rattle.tree.specs.Grammar.{Stage}
 use Rattle.tree.specs.Grammar.Stage.{rewritten}
 use Rattle.lowering.specs.Collect.{Entry, over, distinct, numberIn}
 use Rattle.lowering.proofs.Appearance.{In, here, there}
@@ -20,10 +21,10 @@ use Rattle.equal.specs.Unspelled.{unspelled}
 use Rattle.equal.specs.Renaming.{KeepsApart, unplaced, unplacedItems, unplacedWritten, Renamed, RenamedWritten, Formed, FitEntries, FormedWritten}
 use Rattle.equal.proofs.Places.{changed, own-number, among, places-apart}
 use Rattle.equal.proofs.Renumber.{Renumbers, trees, results, written}
-use Rattle.equal.proofs.Unplaced.{numbers-unplaced, renumbered-unplaced, encode-unplaced, unspelled-unplaced, written-numbers-unplaced, written-renumbered-unplaced}
+use Rattle.equal.proofs.Unplaced.{numbers-unplaced, renumbered-unplaced, unspelled-unplaced, written-numbers-unplaced, written-renumbered-unplaced}
 use Rattle.equal.proofs.Equals.{bytes-unplaced}
 use Rattle.equal.proofs.Unique.{wide-same, node-same, list-by, items-same}
-use Rattle.equal.proofs.Forms.{canonical-fits, FitWritten, canonical-written-fits}
+use Rattle.equal.proofs.Forms.{canonical-fits, canonical-written-fits}
 
 -- ---- from a place back to its number
 
@@ -114,16 +115,16 @@ module _ {X : Type 0} (of : X → List ℕ) (to : (ℕ → ℕ) → X → X) (la
 -- ---- trees
 
 -- equal trees have the same canonical form, positions aside
-pub equal-unplaced : (m n : Node) → Formed m → Formed n → Equal m n → unplaced (canonical m) ≡ unplaced (canonical n)
+pub equal-unplaced : (stage : Stage) (m n : Node) → Formed stage m → Formed stage n → Equal m n → unplaced (canonical m) ≡ unplaced (canonical n)
 unfolding Equal
-equal-unplaced m n f g e =
-    node-same rewritten (canonical-fits m f) (canonical-fits n g) [] []
+equal-unplaced stage m n f g e =
+    node-same stage (canonical-fits stage m f) (canonical-fits stage n g) [] []
     (append-nil (encode (canonical m)) ∙ (e ∙ sym (append-nil (encode (canonical n))))) .0
 
-pub equal-renamed : (m n : Node) → Formed m → Formed n → Equal m n → Renamed m n
+pub equal-renamed : (stage : Stage) (m n : Node) → Formed stage m → Formed stage n → Equal m n → Renamed m n
 unfolding canonical
-equal-renamed m n f g e =
-    let u = equal-unplaced m n f g e in
+equal-renamed stage m n f g e =
+    let u = equal-unplaced stage m n f g e in
     record {
       by = across numbers renumbered trees unplaced numbers-unplaced renumbered-unplaced m n;
       apart = across-apart numbers renumbered trees unplaced numbers-unplaced renumbered-unplaced m n u;
@@ -131,11 +132,11 @@ equal-renamed m n f g e =
     }
 
 -- equal trees are equal as before: the new equality is finer
-pub spelled-finer : (m n : Node) → Formed m → Formed n → Equal m n → EqualBefore m n
+pub spelled-finer : (stage : Stage) (m n : Node) → Formed stage m → Formed stage n → Equal m n → EqualBefore m n
 unfolding EqualBefore
-spelled-finer m n f g e =
+spelled-finer stage m n f g e =
     bytes-unplaced (unspelled (canonical m)) (unspelled (canonical n))
-    (sym (unspelled-unplaced (canonical m)) ∙ (ap unspelled (equal-unplaced m n f g e) ∙ unspelled-unplaced (canonical n)))
+    (sym (unspelled-unplaced (canonical m)) ∙ (ap unspelled (equal-unplaced stage m n f g e) ∙ unspelled-unplaced (canonical n)))
 
 -- ---- results
 

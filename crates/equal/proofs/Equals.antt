@@ -1,19 +1,18 @@
 -- Equality is an equivalence that its test decides, and a renaming that keeps temporaries apart leads to equal trees.
 -- Assumes nothing.
 use mathlib.Core.Path.{_≡_, refl, sym, ap, ap₂, _∙_}
-use mathlib.Core.Bool.{Bool, true, false, _&&_, true≢false}
+use mathlib.Core.Bool.{Bool, true, _&&_, true≢false}
 use mathlib.Core.List.{List, [], _∷_}
 use mathlib.Core.Logic.{_↔_}
 use Prim.Native.Nat.{ℕ}
-use lib.Dec.{eqb}
 use Rattle.tree.specs.Tree.{Node, encode}
 use Rattle.lowering.specs.Collect.{samePath}
 use Rattle.lowering.proofs.Appearance.{same-path}
 use Rattle.lowering.proofs.Cases.{and-left, and-right}
-use Rattle.equal.specs.Canonical.{Written, numbers, renumbered, placeOf, canonical, numbersWritten, eachEntry, renumberedWritten, canonicalWritten}
+use Rattle.equal.specs.Canonical.{Written, numbers, renumbered, placeOf, canonical, numbersWritten, renumberedWritten, canonicalWritten}
 use Rattle.equal.specs.Equal.{Equal, isEqual, listEncoded, EqualWritten, isEqualWritten, EqualBefore, isEqualBefore}
 use Rattle.equal.specs.Unspelled.{unspelled}
-use Rattle.equal.specs.Renaming.{KeepsApart, unplaced, unplacedItems, unplacedWritten, Renamed, RenamedWritten}
+use Rattle.equal.specs.Renaming.{KeepsApart, unplaced, unplacedWritten, Renamed, RenamedWritten}
 use Rattle.equal.specs.Examples.{hexadecimal, decimal, apart-examples}
 use Rattle.equal.proofs.Places.{own-number, place-changed}
 use Rattle.equal.proofs.Renumber.{Renumbers, trees, results}

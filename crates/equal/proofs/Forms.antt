@@ -1,16 +1,17 @@
 -- Renumbering keeps a tree to the grammar, if the new numbers have 16 bits; those of a canonical form do.
 -- Assumes nothing.
-use mathlib.Core.Path.{_≡_, refl, sym, ap, _∙_, subst}
+use mathlib.Core.Path.{_≡_, refl, ap, subst}
 use mathlib.Core.Bool.{Bool, true, false, cond}
 use mathlib.Core.List.{List, [], _∷_, _++_}
-use Prim.Native.Nat.{ℕ, suc, _+_, _*_, _≤_, _<_}
+use Prim.Native.Nat.{ℕ, suc, _+_, _≤_, _<_}
 use native.Mathlib.Omega.{arith}
 use lib.Dec.{eqb}
 use lib.ListN.{length, length-append}
 use Rattle.tree.specs.Tree.{Node, Fields, Piece, Items, wideBytes, count, encode, encodeFields, encodePiece, encodeItems}
 use Rattle.tree.specs.Tree.Node.{node}
-use Rattle.tree.specs.Grammar.{Sort, Field, Stage, formAt, fieldsOf, root, declarator}
-use Rattle.tree.specs.Grammar.Stage.{rewritten}
+use Rattle.tree.specs.Grammar.{Sort, Field, Stage, root, declarator}
+use Rattle.tree.specs.Grammar.Stage.{input, rewritten}
+use Rattle.tree.specs.Read.{longest}
 use Rattle.tree.specs.WellFormed.{byteIn, Fits, FitFields, FitPiece, FitItems, WellFormed}
 use Rattle.lowering.specs.Collect.{Entry, over}
 use Rattle.equal.specs.Canonical.{Written, numbers, numbersFields, numbersPiece, numbersItems, renumbered, renumberedFields, renumberedPiece, renumberedItems, placeOf, canonical, numbersList, numbersWritten, eachEntry, renumberedWritten, canonicalWritten}
@@ -126,14 +127,24 @@ entries-short (e ∷ es) =
 
 -- ---- so the canonical form fits
 
-pub formed : (d : ℕ) (n : Node) (j : ℕ) → WellFormed rewritten d n j → Formed n
-formed d n j w = record { fits = w .fits; short = w .short }
+pub formed : (stage : Stage) (d : ℕ) (n : Node) (j : ℕ) → WellFormed stage d n j → Formed stage n
+formed stage d n j w = record { fits = w .fits; short = w .short }
 
-pub canonical-fits : (n : Node) → Formed n → Fits rewritten root (canonical n)
+longest-most : (stage : Stage) → longest stage ≤ 32768
+longest-most input = omega arith
+longest-most rewritten = omega arith
+
+pub canonical-fits : (stage : Stage) (n : Node) → Formed stage n → Fits stage root (canonical n)
 unfolding canonical
-canonical-fits n w =
-    renumbered-fits rewritten (placeOf (numbers n))
-    (λ a. let h = place-most (numbers n) a in let k = numbers-short n in let l = w .short in omega arith) (w .fits)
+canonical-fits stage n w =
+    renumbered-fits stage (placeOf (numbers n))
+    (λ a.
+    let h = place-most (numbers n) a in
+    let k = numbers-short n in
+    let l = w .short in
+    let m = longest-most stage in
+    omega arith)
+    (w .fits)
 
 -- the same of a result
 pub record FitWritten (w : Written) : Type 0 where

@@ -1,17 +1,16 @@
 -- Each rule keeps what holds of Literals and StaticKeys, in what it leaves and in what it hands out.
 -- Assumes nothing.
-use mathlib.Core.Path.{_≡_, refl, sym, ap, _∙_}
+use mathlib.Core.Path.{_≡_, refl, _∙_}
 use mathlib.Core.Bool.{Bool, true, false, cond, _&&_}
-use mathlib.Core.List.{List, []}
 use Prim.Native.Nat.{ℕ, zero, suc}
 use Rattle.tree.specs.Tree.{Node, Items, depth}
-use Rattle.tree.specs.Tree.Node.{node}
 use Rattle.tree.specs.Tree.Fields.{done, absent, field}
-use Rattle.tree.specs.Tree.Piece.{one, list, text, byte, mark, number}
+use Rattle.tree.specs.Tree.Piece.{one, list, byte, mark}
 use Rattle.tree.specs.Tree.Items.{none, hole, item}
 use Rattle.lowering.specs.Parts.{kind, is, nodeAt, itemsAt, stands, changeNode, changeItems, onItems, only, each, gather, any, _+++_}
-use Rattle.lowering.specs.Made.{Context, reference, valueOf, S, object, assign, sequence, declares, declared, letOf, varOf, assigning, returning, block, functionBody, helper}
+use Rattle.lowering.specs.Made.{Context, reference, valueOf, S, assign, declares, declared, letOf, varOf, assigning, returning, block, functionBody, helper}
 use Rattle.lowering.specs.Patterns.{shape, properties, rest, hasRest, leftOf, value, withValues, hasObjectRest, hasArrayRestOverObjectRest, replaced, replacedBelow, objectsBelow}
+use Rattle.lowering.specs.Patterns.Shape.{objectPattern}
 use Rattle.lowering.specs.Keys.{keyTemporaries, taken}
 use Rattle.lowering.specs.Rests.{hasNoProperties, restValue, excludedFor}
 use Rattle.lowering.specs.Literals.{Call, opened, closed, scan, literal}
@@ -19,10 +18,10 @@ use Rattle.lowering.specs.Literals.Call.{no-call, call}
 use Rattle.lowering.specs.Declarations.{isName, source, sourceDeclarator, keysBefore, patternDeclarator, restDeclarator, own, nested, nestedBelow, objectDeclarators, patternDeclarators, lowerDeclarator, isLowered, declarators, loweredIn, declaration, declarationExcludes, declarationLacksForm}
 use Rattle.lowering.specs.Assignments.{target, assigned, isTop, restsOf, topLacksForm, targetLeft, topSequence, topEntry, topExcludes, nestedSequence, nestedEntry}
 use Rattle.lowering.specs.Heads.{moved, movedPattern, isMoved, movedFrom, movedOut, leftBehind, inFront, inBody, asFunctionBody, asBlock, function, arrow, catch, declaringHead, assigningHead}
-use Rattle.lowering.specs.Walk.{Note, Step, rewritten, unchanged, refuse, ruleOf, rewrite, stepDeclaration, stepTop, stepAssignment, stepFor}
+use Rattle.lowering.specs.Walk.{Note, Step, rewritten, refuse, ruleOf, rewrite, stepDeclaration, stepTop, stepAssignment, stepFor}
 use Rattle.lowering.proofs.Cases.{by-test, by-shape, by-rule, object-is, is-changed}
 use Rattle.equal.proofs.LeafViews.{Makes, Good, GoodItems}
-use Rattle.equal.proofs.Leaves as Leaves
+use Rattle.equal.proofs.Leaves
 use Rattle.equal.proofs.LeafViews as Views
 
 module _ (Q : Node → Type 0) (makes : Makes Q) where
@@ -144,7 +143,7 @@ module _ (Q : Node → Type 0) (makes : Makes Q) where
         (append (patternDeclarator c p s) (restDeclarator c p s) (patternDeclarator-good p s i h g) (restDeclarator-good p s h g))
 
     -- an object pattern with its values changed is one
-    still-object : (f : Node → Node) (p : Node) → shape p ≡ Rattle.lowering.specs.Patterns.Shape.objectPattern → is 34 (withValues f p) ≡ true
+    still-object : (f : Node → Node) (p : Node) → shape p ≡ objectPattern → is 34 (withValues f p) ≡ true
     still-object f p e = is-changed 0 (onItems (each (λ q. changeNode 1 f q))) p 34 ∙ object-is p e
 
     nested-good : (d : ℕ) (p : Node) → G p → GI (nested c d p)
@@ -172,7 +171,7 @@ module _ (Q : Node → Type 0) (makes : Makes Q) where
     objectsBelow-good : (p : Node) → G p → GI (objectsBelow c p)
     objectsBelow-good p h = Views.objects-good Q makes c (depth p) p h
 
-    objectDeclarators-good : (p s : Node) → shape p ≡ Rattle.lowering.specs.Patterns.Shape.objectPattern → G p → G s → GI (objectDeclarators c p s)
+    objectDeclarators-good : (p s : Node) → shape p ≡ objectPattern → G p → G s → GI (objectDeclarators c p s)
     unfolding objectDeclarators
     objectDeclarators-good p s e h g =
         let q = withValues (λ v. replacedBelow c v) p in

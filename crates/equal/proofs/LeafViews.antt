@@ -1,28 +1,26 @@
 -- The views of patterns, the keys and the rests keep what holds of Literals and StaticKeys, if it holds of the strings made of them.
 -- Assumes nothing.
-use mathlib.Core.Path.{_≡_, refl, sym, ap, _∙_}
-use mathlib.Core.Bool.{Bool, true, false, cond, _||_, _&&_, true≢false}
-use mathlib.Core.List.{List, []}
+use mathlib.Core.Path.{_≡_, refl, ap, _∙_}
+use mathlib.Core.Bool.{Bool, true, false, cond, _||_, _&&_}
+use mathlib.Core.List.{List}
 use Prim.Native.Nat.{ℕ, zero, suc}
 use native.Mathlib.Omega.{arith}
 use lib.Dec.{eqb}
 use borrow.Author.Tests.{eqb-true}
-use Rattle.tree.specs.Tree.{Node, Fields, Piece, Items, count}
-use Rattle.tree.specs.Tree.Node.{node}
+use Rattle.tree.specs.Tree.{Node, Items, count}
 use Rattle.tree.specs.Tree.Fields.{done, absent, field}
-use Rattle.tree.specs.Tree.Piece.{one, list, text, byte, mark, number}
-use Rattle.tree.specs.Tree.Items.{none, hole, item}
-use Rattle.lowering.specs.Parts.{kind, is, nodeAt, itemsAt, textAt, stands, changeNode, without, onItems, only, each, gather, _+++_}
-use Rattle.lowering.specs.Made.{Context, temporary, reference, excludedOf, valueOf, keyOf, helper, call, X, E, W, K, object, array, sequence, member, assign, string, declares, declared}
-use Rattle.lowering.specs.Patterns.{shape, properties, itemsOf, rest, hasRest, leftOf, key, value, withLeft, withItems, withRest, withProperties, withValues, replaced, objectsWithRest}
-use Rattle.lowering.specs.Patterns.Shape.{objectPattern, arrayPattern, default, leaf}
-use Rattle.lowering.specs.Keys.{Key, keySort, excludedKey, keptKey, keyTemporary, allPrimitive, excludedKeys, keyTemporaries, taken}
+use Rattle.tree.specs.Tree.Piece.{one, list, text, byte, number}
+use Rattle.tree.specs.Tree.Items.{none, item}
+use Rattle.lowering.specs.Parts.{kind, is, itemsAt, textAt, stands, changeNode, onItems, only, each, gather}
+use Rattle.lowering.specs.Made.{Context, temporary, reference, excludedOf, keyOf, helper, call, E, K, object, array, sequence, member, assign, string, declares, declared}
+use Rattle.lowering.specs.Patterns.{shape, properties, itemsOf, rest, hasRest, leftOf, key, value, withItems, withProperties, withValues, replaced, objectsWithRest}
+use Rattle.lowering.specs.Keys.{keySort, excludedKey, keptKey, keyTemporary, allPrimitive, excludedKeys, keyTemporaries, taken}
 use Rattle.lowering.specs.Keys.Key.{name, literal, template, private, again, other}
 use Rattle.lowering.specs.Rests.{hasNoProperties, mapped, isHoisted, keysRead, restValue, excludedFor}
 use Rattle.lowering.specs.Assignments.{restsThroughObjects, withoutRests}
 use Rattle.lowering.specs.Heads.{moved, movedPattern, movedOut}
 use Rattle.lowering.proofs.Cases.{by-test, by-shape, by-key, object-is, is-changed}
-use Rattle.equal.proofs.Leaves as Leaves
+use Rattle.equal.proofs.Leaves
 
 -- ---- keys by sort
 

@@ -1,17 +1,15 @@
 -- The walk keeps what holds of Literals and StaticKeys, and so do the numbers of temporaries: in the tree and in what is handed out.
 -- Assumes nothing.
-use mathlib.Core.Path.{_≡_, refl, sym, ap, ap₂, _∙_, subst}
-use mathlib.Core.Bool.{Bool, true, false, cond, true≢false}
+use mathlib.Core.Path.{_≡_, refl, sym, ap, ap₂, subst}
+use mathlib.Core.Bool.{Bool, true, cond}
 use mathlib.Core.List.{List, [], _∷_, _++_}
 use Prim.Native.Nat.{ℕ, zero, suc, _+_}
 use lib.Dec.{eqb}
-use borrow.Author.Tests.{eqb-true}
 use Rattle.tree.specs.Tree.{Node, Fields, Piece, Items}
 use Rattle.tree.specs.Tree.Node.{node}
-use Rattle.lowering.specs.Parts.{isEmpty, kind, _+++_}
+use Rattle.lowering.specs.Parts.{isEmpty, kind}
 use Rattle.lowering.specs.Made.{Context}
-use Rattle.lowering.specs.Walk.{Note, Walked, WalkedFields, WalkedPiece, WalkedItems, eachItem, eachPiece, eachField, inside, rewrite, within, walk}
-use Rattle.lowering.specs.Walk.Walked.{noted}
+use Rattle.lowering.specs.Walk.{Note, Walked, eachItem, eachPiece, eachField, inside, rewrite, within, walk}
 use Rattle.lowering.specs.Weight.{weight, walked}
 use Rattle.lowering.specs.Collect.{Name, Visit, Entry, over, newIn, newInPiece, isContainer, markOf, marked, bare, bareFields, barePiece, bareItems, visits, visitsFields, visitsPiece, visitsItems, entryAt, entries, excludedIn, nodes, nodesFields, nodesPiece, nodesItems, listNodes, withNumber, numbered, numberedFields, numberedPiece, numberedItems}
 use Rattle.lowering.proofs.Appearance.{In, here, there}

@@ -1,19 +1,17 @@
 -- What holds of each Literal and each StaticKey of a tree, none of which has parts. What the rules are built of keeps it.
 -- Assumes nothing.
-use mathlib.Core.Path.{_≡_, refl, sym, ap, ap₂, _∙_, subst}
-use mathlib.Core.Bool.{Bool, true, false, cond, _||_, false≢true, true≢false}
+use mathlib.Core.Path.{_≡_, refl, sym, ap, _∙_, subst}
+use mathlib.Core.Bool.{Bool, true, false, _||_, true≢false}
 use mathlib.Core.List.{List}
 use Prim.Native.Nat.{ℕ, zero, suc}
 use lib.Dec.{eqb}
-use borrow.Author.Tests.{eqb-true}
 use Rattle.tree.specs.Tree.{Node, Fields, Piece, Items}
 use Rattle.tree.specs.Tree.Node.{node}
 use Rattle.tree.specs.Tree.Fields.{done, absent, field}
 use Rattle.tree.specs.Tree.Piece.{one, list, text, byte, mark, number}
 use Rattle.tree.specs.Tree.Items.{none, hole, item}
-use Rattle.lowering.specs.Parts.{nothing, kind, is, pieceIn, changeIn, dropIn, asNode, asItems, nodeAt, itemsAt, textAt, change, onNode, onItems, changeNode, changeItems, without, only, each, gather, _+++_}
+use Rattle.lowering.specs.Parts.{nothing, kind, is, pieceIn, changeIn, dropIn, asNode, asItems, nodeAt, itemsAt, change, onNode, onItems, changeNode, changeItems, without, each, gather, _+++_}
 use Rattle.lowering.specs.Made.{string}
-use Rattle.lowering.proofs.Cases.{by-test}
 
 -- 22 Literal, 38 StaticKey
 abbrev pub isLeaf : ℕ → Bool

@@ -1,13 +1,12 @@
 -- For one input there is one result: whatever numbers its temporaries get, the results are equal.
 -- Assumes nothing.
 use mathlib.Core.Path.{_≡_, refl, sym, ap, ap₂, _∙_, subst}
-use mathlib.Core.Bool.{Bool, true, false, cond, _&&_, _||_}
+use mathlib.Core.Bool.{Bool, true, false, cond}
 use mathlib.Core.List.{List, [], _∷_, _++_, append-assoc}
 use Prim.Native.Nat.{ℕ, zero, suc}
 use native.Mathlib.Omega.{arith}
 use lib.Dec.{eqb, ltb}
-use lib.ListN.{length}
-use Rattle.tree.specs.Tree.{Node, Fields, Piece, Items, wideBytes, count, encode, encodePiece, encodeItems}
+use Rattle.tree.specs.Tree.{Node, Fields, Piece, Items, wideBytes, count, encode, encodeItems}
 use Rattle.tree.specs.Tree.Node.{node}
 use Rattle.tree.specs.Tree.Fields.{done, absent, field}
 use Rattle.tree.specs.Tree.Piece.{one, list, text, byte, mark, number}
@@ -17,7 +16,7 @@ use Rattle.tree.specs.Read.{Got, readTree}
 use Rattle.tree.specs.Read.Got.{got, refused}
 use Rattle.lowering.specs.Parts.{is}
 use Rattle.lowering.specs.Weight.{walked}
-use Rattle.lowering.specs.Collect.{Name, Entry, over, visits, firstRefusal, samePath, same, nameOf, nameAt, helperMask, nodes, nodesFields, nodesPiece, nodesItems, listNodes, distinct, numberIn, namesOf, withNumber, numbered, numberedFields, numberedPiece, numberedItems, declaratorBytes, entryBytes, listBytes}
+use Rattle.lowering.specs.Collect.{Name, Entry, over, visits, firstRefusal, same, nameOf, nameAt, helperMask, nodes, nodesFields, nodesPiece, nodesItems, listNodes, distinct, numberIn, namesOf, withNumber, numbered, numberedFields, numberedPiece, numberedItems, declaratorBytes, entryBytes, listBytes}
 use Rattle.lowering.specs.Refusals.{limitOutside, unknownOptions, smallWork}
 use Rattle.lowering.specs.Answer.{Lent, Result, fits, fitted, collected, afterWalk, afterReading, inForce, lowering, top}
 use Rattle.lowering.specs.Answer.Result.{refusal, lowered}

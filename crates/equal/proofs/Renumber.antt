@@ -11,9 +11,8 @@ use Rattle.tree.specs.Tree.Fields.{done, absent, field}
 use Rattle.tree.specs.Tree.Piece.{one, list, text, byte, mark, number}
 use Rattle.tree.specs.Tree.Items.{none, hole, item}
 use Rattle.lowering.specs.Collect.{Entry, over}
-use Rattle.lowering.proofs.Appearance.{In, here, there}
+use Rattle.lowering.proofs.Appearance.{In, here}
 use Rattle.equal.specs.Canonical.{Written, numbers, numbersFields, numbersPiece, numbersItems, renumbered, renumberedFields, renumberedPiece, renumberedItems, numbersList, numbersWritten, eachEntry, renumberedWritten}
-use Rattle.equal.specs.Renaming.{unplaced, unplacedFields, unplacedPiece, unplacedItems, unplacedWritten}
 use Rattle.equal.proofs.Places.{changed, in-left, in-right}
 
 -- what is known of things that have numbers, and of their renumbering

@@ -2,14 +2,14 @@
 -- whose spelling is empty.
 -- Assumes nothing.
 use mathlib.Core.Path.{_≡_, refl, sym, ap, _∙_, subst}
-use mathlib.Core.Bool.{Bool, true, false, cond, _||_, false≢true}
-use mathlib.Core.List.{List, [], _∷_, _++_}
+use mathlib.Core.Bool.{Bool, true, false, false≢true}
+use mathlib.Core.List.{List, [], _∷_}
 use mathlib.Core.Logic.{_⊎_}
 use mathlib.Core.Logic._⊎_.{inl, inr}
-use Prim.Native.Nat.{ℕ, zero, suc, _-_, _<_, _≤_}
+use Prim.Native.Nat.{ℕ, zero, suc, _-_, _<_}
 use native.Mathlib.Omega.{arith}
 use native.Mathlib.Decide.{decLt}
-use lib.Dec.{eqb, ltb}
+use lib.Dec.{eqb}
 use lib.ListN.{getD}
 use borrow.Author.Tests.{eqb-true, lt-ltb, le-ltb}
 use Rattle.tree.specs.Tree.{Node, Fields, Piece, Items}
@@ -23,14 +23,14 @@ use Rattle.tree.proofs.Look.{kind-at}
 use Rattle.tree.proofs.Sound.{sound}
 use Rattle.lowering.specs.Parts.{kind, is, textAt, pieceIn}
 use Rattle.lowering.specs.Made.{string}
-use Rattle.lowering.specs.Collect.{Name, nodes, nodesFields, nodesPiece, nodesItems, listNodes}
+use Rattle.lowering.specs.Collect.{Name, nodes, nodesFields, nodesPiece, nodesItems}
 use Rattle.lowering.specs.Answer.{top}
 use Rattle.lowering.proofs.Appearance.{In}
 use Rattle.lowering.proofs.Cases.{by-test, or-other}
 use Rattle.equal.specs.Results.{writtenBy, treeOf, entriesOf, excludedOf, resultBy}
 use Rattle.equal.specs.Spelled.{Origin, found, ofName, ofForm, nodesWritten}
 use Rattle.equal.proofs.Places.{in-left, in-right}
-use Rattle.equal.proofs.Leaves.{isLeaf, NoPart, NoParts, Leaf, Leaves, LeavesFields, LeavesPiece, LeavesItems}
+use Rattle.equal.proofs.Leaves.{isLeaf, NoPart, NoParts, Leaves, LeavesFields, LeavesPiece, LeavesItems}
 use Rattle.equal.proofs.LeafViews.{Makes}
 use Rattle.equal.proofs.LeafWalk.{tree-leaves, entries-leaves, excluded-leaves, numbered-leaves, entries-numbered, items-numbered, each-written}
 

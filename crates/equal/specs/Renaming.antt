@@ -1,5 +1,5 @@
 -- Trees that differ in the numbers of their temporaries, positions aside.
-use Prim.Native.Nat.{ℕ, _+_, _≤_}
+use Prim.Native.Nat.{ℕ, _≤_}
 use mathlib.Core.Path.{_≡_}
 use mathlib.Core.Bool.{false}
 use mathlib.Core.List.{List, [], _∷_}
@@ -9,7 +9,7 @@ use Rattle.tree.specs.Tree.Node.{node}
 use Rattle.tree.specs.Tree.Fields.{done, absent, field}
 use Rattle.tree.specs.Tree.Piece.{one, list, text, byte, mark, number}
 use Rattle.tree.specs.Tree.Items.{none, hole, item}
-use Rattle.tree.specs.Grammar.{root, declarator}
+use Rattle.tree.specs.Grammar.{Stage, root, declarator}
 use Rattle.tree.specs.Grammar.Stage.{rewritten}
 use Rattle.tree.specs.Read.{longest}
 use Rattle.tree.specs.WellFormed.{Fits, FitItems}
@@ -63,11 +63,12 @@ pub record RenamedWritten (v w : Written) : Type 0 where
   pub apart : KeepsApart by (numbersWritten v)
   pub same : unplacedWritten (renumberedWritten by v) ≡ unplacedWritten w
 
--- ---- trees and results that are laid out by the grammar, and are no longer than a result may be; the depth and the marks are free
+-- ---- trees and results that are laid out by the grammar and no longer than they may be; depth and marks are free
 
-pub record Formed (n : Node) : Type 0 where
-  pub fits : Fits rewritten root n
-  pub short : length (encode n) ≤ longest rewritten
+-- a tree as it is read, or after lowering
+pub record Formed (stage : Stage) (n : Node) : Type 0 where
+  pub fits : Fits stage root n
+  pub short : length (encode n) ≤ longest stage
 
 abbrev pub FitEntries : List Entry → Type 0
 FitEntries [] = Unit {0}
@@ -75,7 +76,7 @@ FitEntries (e ∷ es) = FitItems rewritten declarator false (e .declarators) × 
 
 -- a list has 16,384 bytes at most
 pub record FormedWritten (w : Written) : Type 0 where
-  pub tree : Formed (w .tree)
+  pub tree : Formed rewritten (w .tree)
   pub entries : FitEntries (w .entries)
   pub excluded : FitItems rewritten declarator false (w .excluded)
   pub short : length (listEncoded (w .entries) (w .excluded)) ≤ 16384
