@@ -19,6 +19,7 @@ is recorded in the vector files or given here.
 """
 import argparse
 import os
+import signal
 import sys
 
 import read
@@ -378,4 +379,6 @@ def main():
 
 
 if __name__ == "__main__":
+    # a reader that stops early, as head does, is no fault
+    signal.signal(signal.SIGPIPE, signal.SIG_DFL)
     main()

@@ -11,6 +11,7 @@ that are no tree are said to be none.
 """
 import argparse
 import re
+import signal
 import sys
 
 import read
@@ -346,4 +347,6 @@ def main():
 
 
 if __name__ == "__main__":
+    # a reader that stops early, as head does, is no fault
+    signal.signal(signal.SIGPIPE, signal.SIG_DFL)
     main()
