@@ -37,7 +37,7 @@ use Rattle.walk.specs.Run.{Going, Does}
 use Rattle.walk.specs.Whole.{holeAt, GoodItem, GoodItems, Good, Emitted}
 use Rattle.walk.specs.Turns.{restFrom, viewOf, turnOf, deepMode, suits, holeOf, turnsOf, AllSuit, spotDeeds}
 use Rattle.walk.proofs.Running.{does-as}
-use Rattle.walk.proofs.Opened.{kind-byte}
+use Rattle.walk.proofs.Opened.{no-good, kind-byte}
 use Rattle.walk.proofs.Emits.{Onto, onto-start, onto-more, onto-end, is-hole, item-next, good-item, good-items}
 
 -- ---- lists without holes
