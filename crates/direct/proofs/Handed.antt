@@ -2,7 +2,7 @@
 -- Assumes nothing.
 use mathlib.Core.Path.{_≡_, refl, sym, ap, ap₂, _∙_, fun-ext}
 use mathlib.Core.Bool.{Bool, true, false, cond, not, _&&_, _||_, false≢true}
-use mathlib.Core.List.{List, [], _∷_, _++_}
+use mathlib.Core.List.{List, [], _∷_, _++_, append-nil, append-assoc}
 use Prim.Native.Nat.{ℕ, suc, _+_}
 use lib.Dec.{eqb}
 use lib.ListN.{length}
@@ -37,14 +37,6 @@ use Rattle.lowering.proofs.ChangeLaws.{position-changed}
 use Rattle.direct.proofs.AlikeRules.{handed-append}
 
 -- ---- lists of deeds, list by list
-
-append-deeds : (xs bs cs : List Deed) → (xs ++ bs) ++ cs ≡ xs ++ (bs ++ cs)
-append-deeds [] bs cs = refl
-append-deeds (a ∷ xs) bs cs = ap (λ (x : List Deed). a ∷ x) (append-deeds xs bs cs)
-
-no-deeds : (xs : List Deed) → xs ++ [] ≡ xs
-no-deeds [] = refl
-no-deeds (a ∷ xs) = ap (λ (x : List Deed). a ∷ x) (no-deeds xs)
 
 -- a list of deeds for each list of nodes, holes aside
 pub record Listed (F : Items → List Deed) : Type 0 where
@@ -138,7 +130,7 @@ module _ (κ : Context) where
   key-handed q = ap (λ (is : Items). say (handed is)) (keyTemporary-is q) ∙ go (isOther (key q))
     where
       go : (b : Bool) → say (handed (cond b (only (declares (keyOf κ q) (key q))) Items.none)) ≡ cond b (say (lists (5 ∷ 3 ∷ []) ++ (does (Event.listedTemporary (cell 4 (position q))) ∷ lists (encode (key q))))) (say [])
-      go true = ap say (no-deeds (lists (5 ∷ 3 ∷ []) ++ (does (Event.listedTemporary (cell 4 (position q))) ∷ lists (encode (key q)))))
+      go true = ap say (append-nil (lists (5 ∷ 3 ∷ []) ++ (does (Event.listedTemporary (cell 4 (position q))) ∷ lists (encode (key q)))))
       go false = refl
 
   pub keys-handed : (o : Node) → say (handed (keyTemporaries κ o)) ≡ handsKeys o
@@ -152,15 +144,11 @@ excludes-append : (bs cs : List ℕ) → excludes (bs ++ cs) ≡ excludes bs ++ 
 excludes-append [] cs = refl
 excludes-append (b ∷ bs) cs = ap (λ (x : List Deed). does (Event.excluded b) ∷ x) (excludes-append bs cs)
 
-bytes-assoc : (xs bs cs : List ℕ) → (xs ++ bs) ++ cs ≡ xs ++ (bs ++ cs)
-bytes-assoc [] bs cs = refl
-bytes-assoc (a ∷ xs) bs cs = ap (λ (x : List ℕ). a ∷ x) (bytes-assoc xs bs cs)
-
 encode-append : (is js : Items) → encodeItems (is +++ js) ≡ encodeItems is ++ encodeItems js
 unfolding encode _+++_
 encode-append Items.none js = refl
 encode-append (Items.hole is) js = ap (λ (x : List ℕ). 0 ∷ x) (encode-append is js)
-encode-append (Items.item n is) js = ap (λ (x : List ℕ). encode n ++ x) (encode-append is js) ∙ sym (bytes-assoc (encode n) (encodeItems is) (encodeItems js))
+encode-append (Items.item n is) js = ap (λ (x : List ℕ). encode n ++ x) (encode-append is js) ∙ sym (append-assoc (encode n) (encodeItems is) (encodeItems js))
 
 primitive-in : (qs : Items) → primitives qs ≡ true → AllItems (λ q. isPrimitive (key q) ≡ true) qs
 unfolding primitives any
@@ -172,13 +160,9 @@ primitive-in (Items.item q qs) h =
       primitive-in qs (rw (or-right (not (isPrimitive (key q))) (any (λ q. not (isPrimitive (key q))) qs) z) refl),
     )
 
-bytes-none : (bs : List ℕ) → bs ++ [] ≡ bs
-bytes-none [] = refl
-bytes-none (b ∷ bs) = ap (λ (x : List ℕ). b ∷ x) (bytes-none bs)
-
 one-bytes : (n : Node) → encodeItems (only n) ≡ encode n
 unfolding encode
-one-bytes n = bytes-none (encode n)
+one-bytes n = append-nil (encode n)
 
 no-bytes : encodeItems Items.none ≡ []
 unfolding encode
@@ -186,7 +170,7 @@ no-bytes = refl
 
 string-bytes : (form : List ℕ) → encode (string form) ≡ stringBytes form
 unfolding encode mapOf
-string-bytes form = ap (λ (x : List ℕ). 22 ∷ 7 ∷ 1 ∷ 0 ∷ 0 ∷ x) (bytes-none (wideBytes (length form) ++ form))
+string-bytes form = ap (λ (x : List ℕ). 22 ∷ 7 ∷ 1 ∷ 0 ∷ 0 ∷ x) (append-nil (wideBytes (length form) ++ form))
 
 -- the bytes of a key by its sort
 module _ (q : Node) where
@@ -245,11 +229,11 @@ module _ (κ : Context) where
 
   array-bytes : (xs : Items) → encode (array xs) ≡ 32 ∷ 1 ∷ wideBytes (count xs) ++ encodeItems xs
   unfolding encode mapOf
-  array-bytes xs = ap (λ (x : List ℕ). 32 ∷ 1 ∷ x) (bytes-none (wideBytes (count xs) ++ encodeItems xs))
+  array-bytes xs = ap (λ (x : List ℕ). 32 ∷ 1 ∷ x) (append-nil (wideBytes (count xs) ++ encodeItems xs))
 
   one-excluded : (t x : Node) → excludedDeeds (only (declares t x)) ≡ does Event.declarator ∷ does (Event.excludedTemporary (cellOf t)) ∷ excludes (encode x)
   unfolding excludedDeeds nodeAt pieceIn
-  one-excluded t x = ap (λ (y : List Deed). does Event.declarator ∷ does (Event.excludedTemporary (cellOf t)) ∷ y) (no-deeds (excludes (encode x)))
+  one-excluded t x = ap (λ (y : List Deed). does Event.declarator ∷ does (Event.excludedTemporary (cellOf t)) ∷ y) (append-nil (excludes (encode x)))
 
   cell-2 : (o : Node) → cellOf (excludedOf κ o) ≡ cell 2 (position o)
   unfolding cellOf numberAt pieceIn
@@ -379,7 +363,7 @@ module _ (κ : Context) (unnamed : κ .path ≡ []) where
   declaration-handed m n =
       let f : Node → Items = λ d. cond (isLowered d) (declaratorMakes κ (nodeAt 0 d) (nodeAt 1 d)) Items.none in
       let g : Node → Items = λ d. gather (excludedFor κ) (loweredIn κ d) in
-      ap (λ (x : List Deed). say (x ++ excludedDeeds (gather g (itemsAt 2 n)))) (no-deeds (made (gather f (itemsAt 2 n))))
+      ap (λ (x : List Deed). say (x ++ excludedDeeds (gather g (itemsAt 2 n)))) (append-nil (made (gather f (itemsAt 2 n))))
       ∙ sym (say-say (made (gather f (itemsAt 2 n))) (excludedDeeds (gather g (itemsAt 2 n))))
       ∙ ap₂ (λ (x y : Emit). x ▷ y)
       (listed-gather made made-listed f (itemsAt 2 n) ∙ turn-same (λ d. say (made (f d))) declaratorMade made-in (itemsAt 2 n))
@@ -447,7 +431,7 @@ module _ (κ : Context) (unnamed : κ .path ≡ []) where
       let os = objectsIn nameless v p in
       ap (λ (is : Items). say (((([] ++ cond (isEmpty (each f is)) (made (each idOf (each f is))) []) ++ cond (isEmpty (each f is)) [] (does (Event.entry m (count (each f is))) ∷ handed (each f is))) ++ []))) e
       ∙ ap (λ (b : Bool). say (((([] ++ cond b (made (each idOf (each f os))) []) ++ cond b [] (does (Event.entry m (count (each f os))) ∷ handed (each f os))) ++ []))) (empty-each f os ∙ h)
-      ∙ ap say (no-deeds (does (Event.entry m (count (each f os))) ∷ handed (each f os)))
+      ∙ ap say (append-nil (does (Event.entry m (count (each f os))) ∷ handed (each f os)))
       ∙ ap (λ (k : ℕ). say (does (Event.entry m k) ∷ handed (each f os))) (count-each f os)
       ∙ sym (say-say (does (Event.entry m (count os)) ∷ []) (handed (each f os)))
       ∙ ap (λ (x : Emit). say (does (Event.entry m (count os)) ∷ []) ▷ x)

@@ -3,7 +3,7 @@
 -- Assumes nothing.
 use mathlib.Core.Path.{_≡_, refl, sym, ap, ap₂, _∙_, subst}
 use mathlib.Core.Bool.{true, false, cond, not, false≢true}
-use mathlib.Core.List.{List, [], _∷_, _++_}
+use mathlib.Core.List.{List, [], _∷_, _++_, append-nil}
 use mathlib.Core.Logic.{_⊎_, ⊎-elim}
 use mathlib.Core.Logic._⊎_.{inl, inr}
 use Prim.Native.Nat.{ℕ, zero, suc, _+_}
@@ -27,7 +27,6 @@ use Rattle.sink.specs.Shown.Token.{plain, temp}
 use Rattle.direct.specs.Events.{cellOf}
 use Rattle.outcome.specs.Named
 use Rattle.outcome.specs.Named.{Act, lists, excludes, handed, plains, tokens, tokensFields, tokensPiece, tokensItems}
-use Rattle.outcome.proofs.Tokens.{append-none}
 use Rattle.outcome.proofs.Listed.{list-append, keys-append, declarators-append}
 use Rattle.outcome.proofs.Good.{Pure, PureFields, PurePiece, PureItems, Is35, KeyOk, Good, GoodItems, GoodObject, to-all, node-good, items-good, properties-35, key-ok, objects-good, rests-good}
 use Rattle.lowering.proofs.Clauses.{again-temporary, hoisted-primitive}
@@ -358,7 +357,7 @@ one-handed d =
 valued-listed : (path : List ℕ) (stem at : ℕ) (v : Node) → Pure v → listTokens (one-handed (declares (temporary path stem at) v)) ≡ tokens (declares (temporary path stem at) v)
 unfolding one-handed lists listTokens listOf tokens stands standsIn nodeAt pieceIn mapOf
 valued-listed path stem at v h =
-    ap (λ (x : List (Token Name)). plain 5 ∷ plain 3 ∷ temp (nameOf (temporary path stem at)) ∷ x) (lists-tokens (encode v) ∙ sym (pure-tokens v h) ∙ sym (append-none (tokens v)))
+    ap (λ (x : List (Token Name)). plain 5 ∷ plain 3 ∷ temp (nameOf (temporary path stem at)) ∷ x) (lists-tokens (encode v) ∙ sym (pure-tokens v h) ∙ sym (append-nil (tokens v)))
 
 unvalued-listed : (path : List ℕ) (stem at : ℕ) → listTokens (one-handed (declared (temporary path stem at))) ≡ tokens (declared (temporary path stem at))
 unfolding one-handed lists listTokens listOf tokens stands standsIn nodeAt pieceIn mapOf
@@ -386,7 +385,7 @@ one-excluded d = Named.declarator ∷ Named.excludedTemporary (cellOf (idOf d)) 
 valued-keys : (path : List ℕ) (stem at : ℕ) (v : Node) → Pure v → keysTokens (one-excluded (declares (temporary path stem at) v)) ≡ tokens (declares (temporary path stem at) v)
 unfolding one-excluded keysTokens keysOf tokens nodeAt pieceIn mapOf
 valued-keys path stem at v h =
-    ap (λ (x : List (Token Name)). plain 5 ∷ plain 3 ∷ temp (nameOf (temporary path stem at)) ∷ x) (excludes-tokens (encode v) ∙ sym (pure-tokens v h) ∙ sym (append-none (tokens v)))
+    ap (λ (x : List (Token Name)). plain 5 ∷ plain 3 ∷ temp (nameOf (temporary path stem at)) ∷ x) (excludes-tokens (encode v) ∙ sym (pure-tokens v h) ∙ sym (append-nil (tokens v)))
 
 one-keys : (d : Node) → Valued d → keysTokens (one-excluded d) ≡ tokens d
 one-keys d v = subst (λ (x : Node). keysTokens (one-excluded x) ≡ tokens x) (sym (v .whole)) (valued-keys (v .path) (v .stem) (v .place) (v .value) (v .pure))

@@ -2,7 +2,7 @@
 -- Assumes nothing.
 use mathlib.Core.Path.{_≡_, refl, sym, ap, ap₂, _∙_}
 use mathlib.Core.Bool.{Bool, true, cond}
-use mathlib.Core.List.{List, [], _∷_, _++_}
+use mathlib.Core.List.{List, [], _∷_, _++_, append-assoc}
 use Prim.Native.Nat.{ℕ, zero, suc, _+_, _≤_}
 use native.Mathlib.Omega.{arith}
 use lib.Dec.{eqb}
@@ -16,7 +16,7 @@ use Rattle.sink.specs.Shown.{Named, Token, listOf, keysOf, listTokens, keysToke
 use Rattle.direct.specs.Events.{later, countIn, mapIn}
 use Rattle.outcome.specs.Named.{Act, puts, handsOut, marks, written, named, namedFields, namedPiece, namedItems}
 use Rattle.outcome.proofs.Refusals.{Leafy, LeafyFields, LeafyPiece, LeafyItems, leaf-visits}
-use Rattle.outcome.proofs.Tokens.{Aside, hands-aside, append-assoc}
+use Rattle.outcome.proofs.Tokens.{Aside, hands-aside}
 
 -- ---- the events that write nothing of the tree
 

@@ -2,7 +2,7 @@
 -- Assumes nothing.
 use mathlib.Core.Path.{_≡_, refl, sym, ap, ap₂, _∙_, subst}
 use mathlib.Core.Bool.{Bool, true, false, cond}
-use mathlib.Core.List.{List, [], _∷_, _++_}
+use mathlib.Core.List.{List, [], _∷_, _++_, append-assoc, append-nil}
 use Prim.Native.Nat.{ℕ, zero, suc, _+_, _/_, _%_, _≤_, _<_}
 use native.Mathlib.Omega.{arith}
 use lib.Dec.{eqb}
@@ -23,7 +23,6 @@ use Rattle.sink.proofs.Names.{size, size-append}
 use Rattle.direct.specs.Events.{cellOf}
 use Rattle.outcome.specs.Named
 use Rattle.outcome.specs.Named.{Act, lists, excludes, handed, entered, excludedKeys, handsOut, plains, tokens, tokensItems}
-use Rattle.outcome.proofs.Tokens.{append-assoc, append-none}
 use Rattle.outcome.proofs.Kept.{Walks, WalksFields, WalksPiece, WalksItems}
 use Rattle.outcome.proofs.Listed.{list-append, keys-append, entries-append, declarators-append, over-append, hands}
 use Rattle.outcome.proofs.Handed.{Hands, Declares, Valued, Full, handed-listed, excluded-listed, excluded-counted}
@@ -143,7 +142,7 @@ entry-says m ds f =
     let q = handed-quiet ds in
     record {
       list = ap (λ (x : List (Token Name)). plain (low m) ∷ plain (high m) ∷ plain (low (count ds)) ∷ plain (high (count ds)) ∷ x) (handed-listed ds f)
-          ∙ sym (append-none (machineEntry (record { containing = m; declarators = ds })));
+          ∙ sym (append-nil (machineEntry (record { containing = m; declarators = ds })));
       keys = q .keys;
       entries = (let z = q .entries in omega arith);
       declarators = (let z = q .declarators in omega arith);
@@ -157,7 +156,7 @@ entered-says v f =
     by-test (isEmpty ds)
     (λ e. rw e
     (let h = made-says (v .note .made) in
-    let a = append-none (Named.made (v .note .made)) in
+    let a = append-nil (Named.made (v .note .made)) in
     subst (λ (x : List Act). Says x [] [] 0 0) (sym a) h))
     (λ e. rw e (entry-says (v .containing) ds f))
 
@@ -171,7 +170,7 @@ hands-say v h =
     let es = cond (isEmpty (v .note .entry)) (Named.made (v .note .made)) [] ++ entered (v .containing) (v .note .entry) in
     let b = both-say es (excludedKeys (v .note .excluded)) (over machineEntry (entryAt v)) [] [] (tokensItems (v .note .excluded)) (length (entryAt v)) 0 0 (count (v .note .excluded))
     (entered-says v (h .entry)) (excluded-says (v .note .excluded) (h .excluded)) in
-    record { list = b .list ∙ append-none (over machineEntry (entryAt v)); keys = b .keys; entries = (let z = b .entries in omega arith); declarators = (let z = b .declarators in omega arith) }
+    record { list = b .list ∙ append-nil (over machineEntry (entryAt v)); keys = b .keys; entries = (let z = b .entries in omega arith); declarators = (let z = b .declarators in omega arith) }
 
 tokens-append : (is js : Items) → tokensItems (is +++ js) ≡ tokensItems is ++ tokensItems js
 unfolding tokens _+++_

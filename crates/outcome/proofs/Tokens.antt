@@ -2,7 +2,7 @@
 -- Assumes nothing.
 use mathlib.Core.Path.{_≡_, refl, sym, ap, ap₂, _∙_, subst}
 use mathlib.Core.Bool.{Bool, true, false, cond}
-use mathlib.Core.List.{List, [], _∷_, _++_}
+use mathlib.Core.List.{List, [], _∷_, _++_, append-assoc}
 use Prim.Native.Nat.{ℕ, zero, suc, _+_}
 use native.Mathlib.Omega.{arith}
 use lib.Dec.{eqb}
@@ -20,16 +20,6 @@ use Rattle.sink.specs.Shown.Token.{plain, temp}
 use Rattle.direct.specs.Events.{cell, cellOf, later, numberIn, countIn, mapIn}
 use Rattle.outcome.specs.Named.{Act, puts, lists, excludes, made, handed, entered, excludedKeys, handsOut, marks, written, named, namedFields, namedPiece, namedItems, plains, tokens, tokensFields, tokensPiece, tokensItems, after}
 use Rattle.outcome.proofs.Refusals.{Leaf, Leafy, LeafyFields, LeafyPiece, LeafyItems}
-
--- ---- lists
-
-pub append-assoc : {A : Type 0} (ks ls ms : List A) → (ks ++ ls) ++ ms ≡ ks ++ (ls ++ ms)
-append-assoc [] ls ms = refl
-append-assoc (k ∷ ks) ls ms = ap (λ (x : List _). k ∷ x) (append-assoc ks ls ms)
-
-pub append-none : {A : Type 0} (ks : List A) → ks ++ [] ≡ ks
-append-none [] = refl
-append-none (k ∷ ks) = ap (λ (x : List _). k ∷ x) (append-none ks)
 
 -- ---- what a row of events does: the names of the cells, the next mark, the tree
 

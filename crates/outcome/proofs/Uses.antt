@@ -2,7 +2,7 @@
 -- Assumes nothing.
 use mathlib.Core.Path.{_≡_, refl, sym, ap, _∙_, subst}
 use mathlib.Core.Bool.{Bool, cond, false≢true}
-use mathlib.Core.List.{List, [], _∷_, _++_}
+use mathlib.Core.List.{List, [], _∷_, _++_, append-nil}
 use mathlib.Core.Logic.{_⊎_, ⊎-elim}
 use mathlib.Core.Logic._⊎_.{inl}
 use Prim.Native.Nat.{ℕ, zero, suc, _+_, _≤_, _<_}
@@ -28,7 +28,7 @@ use Rattle.lowering.proofs.Occurs.{occurs, occursFields, occursPiece, occursIte
 use Rattle.sink.specs.Shown.{Token}
 use Rattle.sink.proofs.Firsts.{namesIn}
 use Rattle.outcome.specs.Named.{plains, tokens, tokensFields, tokensPiece, tokensItems}
-use Rattle.outcome.proofs.Tokens.{append-none, IsTemporary, Formed, FormedFields, FormedPiece, FormedItems}
+use Rattle.outcome.proofs.Tokens.{IsTemporary, Formed, FormedFields, FormedPiece, FormedItems}
 use Rattle.outcome.proofs.Listed.{over-append}
 use Rattle.outcome.proofs.Scope.{self, both-each}
 use Rattle.outcome.proofs.Good.{Pure, Good, parts}
@@ -300,7 +300,7 @@ module _ (P : Name → Type 0) where
       by-test (isEmpty (v .note .entry))
       (λ e. rw (e, Every) tt)
       (λ e. rw (e, Every)
-      (subst (λ (x : List (Token Name)). Every P (namesIn x)) (sym (append-none (tokensItems (v .note .entry)))) (items-every (v .note .entry) f h)))
+      (subst (λ (x : List (Token Name)). Every P (namesIn x)) (sym (append-nil (tokensItems (v .note .entry)))) (items-every (v .note .entry) f h)))
 
   -- if the ids of all visits are such, so are the names of both parts of the list
   pub entries-every : (vs : List Visit) → AllNotes Hands vs → ((a : Name) → 0 < used a vs → P a) → Every P (namesIn (over machineEntry (entries vs)))

@@ -17,9 +17,9 @@ use Rattle.tree.specs.WellFormed.{Fits, FitFields, FitPiece, FitItems, Counts, 
 use Rattle.lowering.specs.Parts.{is, pieceIn, asItems, itemsAt}
 use Rattle.overlay.specs.Plain.{free, freeFields, freePiece, freeItems, isForeign, isNew, hasHole, given}
 use Rattle.overlay.specs.Whole.{ItemAt, NodeIn, FieldAt, PartAt, Stands}
-use Rattle.overlay.proofs.Objects.{and-left, and-right, differ}
+use Rattle.overlay.proofs.Objects.{differ}
 use Rattle.overlay.proofs.Free.{free-below}
-use Rattle.lowering.proofs.Cases.{by-test}
+use Rattle.lowering.proofs.Cases.{by-test, and-left, and-right}
 
 -- ---- a test that holds of every node of a tree holds of the parts
 

@@ -21,11 +21,10 @@ use Rattle.overlay.specs.Run.Entry.{pair}
 use Rattle.overlay.specs.Plain.{free, isObject, isForeign, bare, fineKey, given, plain}
 use Rattle.overlay.specs.Law.{Fair, Moves, Described}
 use Rattle.overlay.specs.Whole.{leaves}
-use Rattle.overlay.proofs.Objects.{and-right}
-use Rattle.overlay.proofs.Free.{or-left, or-right, and-no, free-here, free-node}
+use Rattle.overlay.proofs.Free.{free-here, free-node}
 use Rattle.overlay.proofs.Plainly.{Opaque, Plain, PlainParts, PlainPart, no-part, next-part, spread, property, propertyOf, plain-rule}
 use Rattle.overlay.proofs.Overlay.{faithful}
-use Rattle.lowering.proofs.Cases.{by-test}
+use Rattle.lowering.proofs.Cases.{by-test, or-left, or-right, and-none, and-right}
 
 then-moves : {A B : Type 0} (r : Out A) (f : History → A → Out B) → Moves r → ((h : History) (a : A) → Moves (f h a)) → Moves (then r f)
 then-moves (ok h a) f m q = q h a
@@ -51,7 +50,7 @@ no-call : (n : Node) → free isForeign n ≡ true → callsS n ≡ false
 unfolding callsS is
 no-call n g =
     let e : is 21 (nodeAt 0 n) ≡ false = not-helper (nodeAt 0 n) (free-here isForeign (nodeAt 0 n) (free-node isForeign refl 0 n g)) in
-    and-no (is 29 n) _ (rw e refl)
+    and-none (is 29 n) _ (rw e refl)
 
 module _ (W : Outside) where
   pour-moves : (p q o : Props) (h : History) → Moves (pour W (create W) p q o h)

@@ -1,7 +1,7 @@
 -- The parts of a tree in which every node passes a test.
 -- Assumes nothing.
 use mathlib.Core.Path.{_≡_, refl}
-use mathlib.Core.Bool.{Bool, true, false, _&&_, _||_, not}
+use mathlib.Core.Bool.{Bool, true, false, not}
 use Prim.Native.Nat.{ℕ, zero, suc}
 use borrow.Author.Tests.{not-true}
 use Rattle.tree.specs.Tree.{Node, Fields, Piece}
@@ -10,19 +10,7 @@ use Rattle.tree.specs.Tree.Fields.{done, absent, field}
 use Rattle.tree.specs.Tree.Piece.{one, list, text, byte, mark, number}
 use Rattle.lowering.specs.Parts.{nothing, pieceIn, asNode, asItems, nodeAt, itemsAt}
 use Rattle.overlay.specs.Plain.{free, freeFields, freePiece, freeItems}
-use Rattle.overlay.proofs.Objects.{and-left, and-right, differ}
-
-pub or-left : (a b : Bool) → (a || b) ≡ false → a ≡ false
-or-left true b e = e
-or-left false b e = refl
-
-pub or-right : (a b : Bool) → (a || b) ≡ false → b ≡ false
-or-right true b e = differ e
-or-right false b e = e
-
-pub and-no : (a b : Bool) → b ≡ false → (a && b) ≡ false
-and-no true b e = e
-and-no false b e = refl
+use Rattle.lowering.proofs.Cases.{and-left, and-right}
 
 module _ (bad : Node → Bool) where
   pub free-here : (n : Node) → free bad n ≡ true → bad n ≡ false

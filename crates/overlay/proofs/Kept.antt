@@ -22,11 +22,11 @@ use Rattle.lowering.specs.Declarations.{isName, source, sourceDeclarator, keysB
 use Rattle.lowering.specs.Assignments.{restsThroughObjects, withoutRests}
 use Rattle.lowering.specs.Heads.{moved, movedPattern, movedOut}
 use Rattle.lowering.proofs.All.{other-changed}
-use Rattle.overlay.proofs.Objects.{and-right, differ}
+use Rattle.overlay.proofs.Objects.{differ}
 use Rattle.overlay.proofs.Held.{isAtom, hasBody, held, heldAll, heldPiece, heldItems, heldParts, heldPattern, heldDeclarator, at-34, at-37, declarator-held, held-append, change-less, node-most, only-held, two-all}
 use Rattle.lowering.proofs.ChangeLaws.{stands-changed, items-changed-in}
 use Rattle.lowering.proofs.Clauses.{taken-none, has-leaf}
-use Rattle.lowering.proofs.Cases.{by-test}
+use Rattle.lowering.proofs.Cases.{by-test, and-right}
 use Rattle.lowering.proofs.SoundRules.{keyTemporary-value}
 
 -- ---- patterns by kind

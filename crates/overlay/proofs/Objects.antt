@@ -10,16 +10,7 @@ use borrow.Author.Tests.{eq-eqb, eqb-true, lt-ltb, le-ltb, ltb-true, ltb-false}
 use Rattle.overlay.specs.Objects.{Key, Value, Props, sameText, same, top, digits, indexOf, rank, isName, put, overlay, keysOf, find, pick, filter, namesFirst}
 use Rattle.overlay.specs.Objects.Key.{name, symbol}
 use Rattle.overlay.specs.Objects.Props.{empty, entry}
-use Rattle.lowering.proofs.Cases.{by-test}
-
-pub and-left : (a b : Bool) → (a && b) ≡ true → a ≡ true
-and-left true b e = refl
-and-left false b e = e
-
-pub and-right : (a b : Bool) → (a && b) ≡ true → b ≡ true
-and-right true b e = e
-and-right false true e = refl
-and-right false false e = e
+use Rattle.lowering.proofs.Cases.{by-test, and-left, and-right}
 
 pub differ : {A : Type 0} → true ≡ false → A
 differ e = absurd (let z : _≡_ {A = ℕ} 0 1 = ap (λ (b : Bool). cond b 0 1) e in omega arith)

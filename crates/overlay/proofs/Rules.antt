@@ -25,12 +25,11 @@ use Rattle.lowering.specs.Heads.{isMoved, moved, movedFrom, movedOut, movedPatt
 use Rattle.lowering.specs.Walk.{Step, unchanged, ruleOf, rewrite, stepDeclaration, stepTop, stepAssignment, stepFor}
 use Rattle.lowering.proofs.All.{other-changed}
 use Rattle.overlay.specs.Plain.{hasHole}
-use Rattle.overlay.proofs.Objects.{and-left, and-right, differ}
-use Rattle.overlay.proofs.Free.{or-left, or-right}
+use Rattle.overlay.proofs.Objects.{differ}
 use Rattle.overlay.proofs.Held.{isList, takesIn, takes, areParams, hasBody, isAtom, changesIt, held, heldAll, heldPiece, heldItems, heldParts, heldPattern, heldDeclarators, heldDeclarator, at-24, at-26, at-27, at-34, at-37, at-4, declarator-held, held-append, piece-all, change-less, change-more, node-most, only-held, two-all}
 use Rattle.overlay.proofs.Kept.{View, view, object-view, array-view, default-view, leaf-view, pattern-most, declarator-most, declarator-kept, replaced-kept, heldRests, top-kept, heldLets, lets-add, moved-kept}
 use Rattle.lowering.proofs.ChangeLaws.{stands-changed}
-use Rattle.lowering.proofs.Cases.{not-false, by-test}
+use Rattle.lowering.proofs.Cases.{not-false, by-test, or-left, or-right, and-left, and-right}
 
 abbrev nowhere-context : Context
 nowhere-context = record { path = []; root = true; statement = false }

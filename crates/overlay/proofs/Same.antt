@@ -10,7 +10,8 @@ use Rattle.tree.specs.Tree.Fields.{done, absent, field}
 use Rattle.tree.specs.Tree.Piece.{one, list, text, byte, mark, number}
 use Rattle.tree.specs.Tree.Items.{none, hole, item}
 use Rattle.overlay.specs.Objects.{sameText}
-use Rattle.overlay.proofs.Objects.{and-left, and-right, differ, text-is, text-same}
+use Rattle.overlay.proofs.Objects.{differ, text-is, text-same}
+use Rattle.lowering.proofs.Cases.{and-left, and-right}
 
 unfoldable mutual
   pub same : Node → Node → Bool

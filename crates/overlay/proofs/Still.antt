@@ -17,10 +17,10 @@ use Rattle.lowering.specs.Assignments.{target, isTop}
 use Rattle.lowering.specs.Heads.{isMoved, function, arrow, catch, declaringHead, assigningHead}
 use Rattle.lowering.specs.Walk.{Rule, ruleOf, rewrite, stepDeclaration, stepAssignment, stepFor}
 use Rattle.lowering.specs.Walk.Rule.{literals, declarations, assignments, functions, arrows, catches, fors, nowhere}
-use Rattle.lowering.proofs.Cases.{by-shape, by-rule, object-is, by-test}
+use Rattle.lowering.proofs.Cases.{by-shape, by-rule, object-is, by-test, or-left, or-right, and-none, and-left, and-right}
 use Rattle.overlay.specs.Plain.{free, freeItems, isObject, isForeign, isNew, hasHole}
-use Rattle.overlay.proofs.Objects.{and-left, and-right, differ}
-use Rattle.overlay.proofs.Free.{or-left, or-right, and-no, free-here, free-node, free-items}
+use Rattle.overlay.proofs.Objects.{differ}
+use Rattle.overlay.proofs.Free.{free-here, free-node, free-items}
 use Rattle.lowering.proofs.ChangeLaws.{changeItems-same}
 
 -- ---- no object rest below
@@ -81,7 +81,7 @@ array-none p b = below-free (depth p) p b
 
 not-lowered : (d : Node) → Bare d → isLowered d ≡ false
 unfolding isLowered
-not-lowered d b = and-no (stands 1 d) (hasObjectRest (nodeAt 0 d)) (rest-none (nodeAt 0 d) (bare-node 0 d b))
+not-lowered d b = and-none (stands 1 d) (hasObjectRest (nodeAt 0 d)) (rest-none (nodeAt 0 d) (bare-node 0 d b))
 
 module _ (c : Context) where
   all-kept : (is : Items) → BareItems is → hasHole is ≡ false → gather (declarators c) is ≡ is
@@ -116,7 +116,7 @@ module _ (c : Context) where
 
   function-still : (n : Node) → Bare n → function c n ≡ n
   unfolding function
-  function-still n b = rw (and-no (stands 5 n) (any isMoved (itemsAt 3 n)) (no-any isMoved not-moved (itemsAt 3 n) (bare-items 3 n b))) refl
+  function-still n b = rw (and-none (stands 5 n) (any isMoved (itemsAt 3 n)) (no-any isMoved not-moved (itemsAt 3 n) (bare-items 3 n b))) refl
 
   arrow-still : (n : Node) → Bare n → arrow c n ≡ n
   unfolding arrow

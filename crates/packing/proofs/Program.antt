@@ -7,6 +7,7 @@ use mathlib.Core.List.{List, [], _∷_}
 use Prim.Native.Nat.{ℕ}
 use lib.Dec.{ltb}
 use borrow.Author.Tests.{ltb-true}
+use Rattle.lowering.proofs.Cases.{and-left, and-right}
 use Rattle.tree.specs.Grammar.Stage.{input}
 use Rattle.tree.specs.Read.{readTree}
 use Rattle.tree.specs.Read.Got.{got}
@@ -18,7 +19,6 @@ use Rattle.lowering.specs.Parts.{itemsAt}
 use Rattle.lowering.specs.Collect.{bare, visits, entries, excludedIn, namesOf, numberedItems, firstRefusal}
 use Rattle.lowering.specs.Answer.{top}
 use Rattle.overlay.specs.Objects.Key.{name}
-use Rattle.overlay.proofs.Objects.{and-left, and-right}
 use Rattle.overlay.specs.Whole.{leaves, ItemAt, NodeIn, FieldAt, PartAt, Stands, Visits}
 use Rattle.packing.specs.Unpack.{formsOf}
 use Rattle.packing.specs.Unpack.Take.{taking}

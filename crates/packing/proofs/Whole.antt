@@ -18,9 +18,8 @@ use Rattle.lowering.specs.Weight.{walked}
 use Rattle.lowering.specs.Collect.{over, bare, entries, excludedIn, declaratorBytes, entryBytes, listBytes}
 use Rattle.lowering.specs.Answer.{top}
 use Rattle.lowering.proofs.Names.{accepted-names-apart}
-use Rattle.lowering.proofs.Cases.{by-test}
+use Rattle.lowering.proofs.Cases.{by-test, and-left}
 use Rattle.overlay.specs.Whole.{leaves, ItemAt, Visits, Comes}
-use Rattle.overlay.proofs.Objects.{and-left}
 use Rattle.overlay.proofs.Same.{same, same-is}
 use Rattle.overlay.proofs.Whole.{left, call-writes}
 use Rattle.overlay.proofs.Reached.{visit-noted, comes-to}

@@ -2,7 +2,7 @@
 -- Assumes nothing.
 use mathlib.Core.Path.{_≡_, refl, sym, ap, _∙_, subst}
 use mathlib.Core.Bool.{Bool, true, false, cond}
-use mathlib.Core.List.{List, [], _∷_}
+use mathlib.Core.List.{List, [], _∷_, append-nil}
 use Prim.Native.Nat.{ℕ, zero, suc, _-_, _%_, _<_, _≤_}
 use native.Mathlib.Omega.{arith}
 use lib.ListN.{length, getD, replicate, length-append}
@@ -25,7 +25,6 @@ use Rattle.direct.specs.Events.{Deed, Place, contextOf, deeds, emits}
 use Rattle.outcome.specs.Named.{firstRefused, eventsIn, outcomeFrom}
 use Rattle.outcome.proofs.Every.{tree-refused, tree-lowered, walk-refused}
 use Rattle.outcome.proofs.Calm.{emits-sound}
-use Rattle.outcome.proofs.Tokens.{append-none}
 use Rattle.walk.specs.Run.{met, Full, Way, Does}
 use Rattle.walk.specs.Run.Way.{whole, full}
 use Rattle.walk.proofs.Again.{met-first}
@@ -63,7 +62,7 @@ way-ends a b k next s′ es big (whole p) = ap finished p
 way-ends a b k next s′ es big (full fs p f g) = ap finished p ∙ none fs (subst Full p f) ∙ sym (none es g)
   where
     none : (xs : List Event) → Full (steps (start a b k next) xs) → finished (steps (start a b k next) xs) ≡ nothing a b k
-    none xs h = ap (λ (l : List Event). finished (steps (start a b k next) l)) (sym (append-none xs)) ∙ full-nothing a b k next xs [] big h
+    none xs h = ap (λ (l : List Event). finished (steps (start a b k next) l)) (sym (append-nil xs)) ∙ full-nothing a b k next xs [] big h
 
 -- ---- what is lent
 
