@@ -9,7 +9,7 @@ use lib.Dec.{eqb}
 use borrow.Author.Tests.{eqb-true}
 use Rattle.tree.specs.Tree.{Node, Items, count}
 use Rattle.tree.specs.Tree.Fields.{done, absent, field}
-use Rattle.tree.specs.Tree.Piece.{one, list, text, byte, number}
+use Rattle.tree.specs.Tree.Piece.{one, list, text, byte}
 use Rattle.tree.specs.Tree.Items.{none, item}
 use Rattle.lowering.specs.Parts.{kind, is, itemsAt, textAt, stands, changeNode, onItems, only, each, gather}
 use Rattle.lowering.specs.Made.{Context, temporary, reference, excludedOf, keyOf, helper, call, E, K, object, array, sequence, member, assign, string, declares, declared}
@@ -68,7 +68,7 @@ module _ (Q : Node → Type 0) (makes : Makes Q) where
   -- ---- nodes that are made
 
   pub temporary-good : (path : List ℕ) (stem at : ℕ) → Good (temporary path stem at)
-  temporary-good path stem at = Leaves.other Q at 20 (field (number stem) (field (text path) done)) refl (tt, (tt, tt))
+  temporary-good path stem at = Leaves.alone Q (temporary path stem at) refl refl
 
   pub helper-good : (h : ℕ) → Good (helper h)
   helper-good h = Leaves.other Q 0 21 (field (byte h) done) refl (tt, tt)

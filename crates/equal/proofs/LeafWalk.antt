@@ -16,7 +16,7 @@ use Rattle.lowering.proofs.Appearance.{In, here, there}
 use Rattle.lowering.proofs.Cases.{by-test}
 use Rattle.lowering.proofs.Notes.{AllNotes, both}
 use Rattle.equal.specs.Canonical.{eachEntry}
-use Rattle.equal.proofs.Leaves.{NoPart, NoParts, isLeaf, Leaf, Leaves, LeavesFields, LeavesPiece, LeavesItems, other, append-leaves}
+use Rattle.equal.proofs.Leaves.{NoPart, NoParts, isLeaf, Leaf, Leaves, LeavesFields, LeavesPiece, LeavesItems, other, alone, append-leaves}
 use Rattle.equal.proofs.LeafViews.{Makes}
 use Rattle.equal.proofs.LeafRules.{GoodNote, rewrite-good}
 
@@ -173,7 +173,7 @@ module _ (Q : Node → Type 0) (makes : Makes Q) where
       pub numbered-leaves : (n : Node) → G n → G (numbered ns n)
       numbered-leaves (node at k fs) h =
           by-test (eqb k 20)
-          (λ e. rw e (other Q at 20 _ refl (tt, tt)))
+          (λ e. rw e (alone Q (withNumber ns (node at k fs)) refl refl))
           (λ e. rw e (
             (λ t. let l = h .0 t in subst (λ (gs : Fields). Leaf Q at k gs) (sym (fields-numbered ns fs (l .alone))) l),
             fields-leaves fs (h .1),

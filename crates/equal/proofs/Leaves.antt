@@ -12,6 +12,7 @@ use Rattle.tree.specs.Tree.Piece.{one, list, text, byte, mark, number}
 use Rattle.tree.specs.Tree.Items.{none, hole, item}
 use Rattle.lowering.specs.Parts.{nothing, kind, is, pieceIn, changeIn, dropIn, asNode, asItems, nodeAt, itemsAt, change, onNode, onItems, changeNode, changeItems, without, each, gather, _+++_}
 use Rattle.lowering.specs.Made.{string}
+use Rattle.lowering.proofs.Cases.{or-left, or-right}
 
 -- 22 Literal, 38 StaticKey
 abbrev pub isLeaf : ℕ → Bool
@@ -30,6 +31,23 @@ abbrev pub NoParts : Fields → Type 0
 NoParts done = Unit {0}
 NoParts (absent fs) = NoParts fs
 NoParts (field p fs) = NoPart p × NoParts fs
+
+-- whether a node or a list stands in a field
+abbrev pub holdsNodes : Piece → Bool
+holdsNodes (one n) = true
+holdsNodes (list is) = true
+holdsNodes (text bs) = false
+holdsNodes (byte b) = false
+holdsNodes (mark b) = false
+holdsNodes (number b) = false
+
+abbrev pub fieldsIn : Node → Fields
+fieldsIn (node at k fs) = fs
+
+abbrev pub anyHolds : Fields → Bool
+anyHolds done = false
+anyHolds (absent fs) = anyHolds fs
+anyHolds (field p fs) = holdsNodes p || anyHolds fs
 
 module _ (Q : Node → Type 0) where
   pub record Leaf (at k : ℕ) (fs : Fields) : Type 0 where
@@ -63,6 +81,23 @@ module _ (Q : Node → Type 0) where
 
   pub other : (at k : ℕ) (fs : Fields) → isLeaf k ≡ false → LeavesFields fs → Leaves (node at k fs)
   other at k fs e h = ((λ t. absurd (true≢false (sym t ∙ e))), h)
+
+  flat-piece : (p : Piece) → holdsNodes p ≡ false → LeavesPiece p
+  flat-piece (one n) e = absurd (true≢false e)
+  flat-piece (list is) e = absurd (true≢false e)
+  flat-piece (text bs) e = tt
+  flat-piece (byte b) e = tt
+  flat-piece (mark b) e = tt
+  flat-piece (number b) e = tt
+
+  flat : (fs : Fields) → anyHolds fs ≡ false → LeavesFields fs
+  flat done e = tt
+  flat (absent fs) e = flat fs e
+  flat (field p fs) e = (flat-piece p (or-left (holdsNodes p) (anyHolds fs) e), flat fs (or-right (holdsNodes p) (anyHolds fs) e))
+
+  -- and whose fields hold no node
+  pub alone : (n : Node) → isLeaf (kind n) ≡ false → anyHolds (fieldsIn n) ≡ false → Leaves n
+  alone (node at k fs) e h = other at k fs e (flat fs h)
 
   pub own : (n : Node) → isLeaf (kind n) ≡ true → Leaves n → Q n
   own (node at k fs) e h = h .0 e .holds

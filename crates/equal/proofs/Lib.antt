@@ -12,3 +12,4 @@ pub mod LeafRules
 pub mod LeafWalk
 pub mod Spelled
 pub mod Turn
+pub mod Inputs

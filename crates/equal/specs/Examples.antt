@@ -29,7 +29,7 @@ hexadecimal = program (numeral (48 ∷ 120 ∷ 49 ∷ 48 ∷ []) (49 ∷ 54 ∷ 
 abbrev pub decimal : Node
 decimal = program (numeral (49 ∷ 54 ∷ []) (49 ∷ 54 ∷ []))
 
--- the same two without their forms
+-- a number without a form
 abbrev pub formless : List ℕ → Node
 formless spelling = program (node 0 22 (field (byte 2) (field (text spelling) (absent done))))
 
