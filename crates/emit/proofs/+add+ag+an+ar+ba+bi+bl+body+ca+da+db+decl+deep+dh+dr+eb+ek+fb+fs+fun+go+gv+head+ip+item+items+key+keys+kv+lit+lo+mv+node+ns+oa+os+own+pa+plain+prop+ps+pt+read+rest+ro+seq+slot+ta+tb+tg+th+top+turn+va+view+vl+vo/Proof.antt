@@ -1317,67 +1317,8 @@ vo-returns-3 t c = viewing.object-rest _ _ _ _ _ _ _ _ _ _ _ _ _ _ _ _ _ (c .bef
 vo-returns-4 : (t : ℕ) → cycle.Lts-vo.Need-returns-4 (vo-claims t) (at-measure vo.Kinds.ps μ-vo vo.Reads.Pre t) vo.Reads.Post
 vo-returns-4 t c = viewing.object-plain _ _ _ _ _ _ _ _ _ _ _ _ _ _ (c .before .before .before .before .before .before .before .before .before .before .before .before .before .before .before .before .before .before .before .before .before .before .before .before .before .before .has-second .ensures) (c .if4 .left) (c .before .before .before .before .before .before .before .before .before .before .before .before .before .before .before .before .before .before .before .before .before .before .before .before .step .ensures) (c .before .before .before .before .before .before .before .before .before .before .before .before .before .before .before .before .before .before .before .before .before .before .before .wide-at .ensures) (c .before .before .before .before .before .before .before .before .before .before .before .before .before .before .step2 .ensures) (c .before .before .before .before .before .before .before .before .before .before .before .before .before .to2 .ensures .1) (c .before .before .before .before .before .before .before .before .before .inside .ensures .0) (c .before .before .before .before .before .before .before .before .before .inside .ensures .1 ∙ c .before .before .before .before .before .before .before .before .before .before .before .before .before .before .before .before .before .before .before .before .before .before .before .before .before .before .before .less .ensures) (c .before .before .before .before .before .before .before .before .property-mode .ensures) (c .before .before .before .before .before .before .before .before .before .before .before .before .before .to2 .ensures .0 _ _ _) (c .before .before .before .before .before .before .before .before .before .before .before .before .before .before .before .before .before .before .before .before .before .put2 .ensures .0 _ _) (c .before .before .before .before .before .before .before .before .before .before .before .before .before .before .before .before .before .wide .ensures .0 _ _) (c .before .before .before .before .before .before .before .seq .ensures)
 
-pub +add+ag+an+ar+ba+bi+bl+body+ca+da+db+decl+deep+dh+dr+eb+ek+fb+fs+fun+go+gv+head+ip+item+items+key+keys+kv+lit+lo+mv+node+ns+oa+os+own+pa+plain+prop+ps+pt+read+rest+ro+seq+slot+ta+tb+tg+th+top+turn+va+view+vl+vo-spec : {M : Type 1} → cycle.statement M
-+add+ag+an+ar+ba+bi+bl+body+ca+da+db+decl+deep+dh+dr+eb+ek+fb+fs+fun+go+gv+head+ip+item+items+key+keys+kv+lit+lo+mv+node+ns+oa+os+own+pa+plain+prop+ps+pt+read+rest+ro+seq+slot+ta+tb+tg+th+top+turn+va+view+vl+vo-spec =
-    cycle.Tie.close
-    μ-add
-    μ-ag
-    μ-an
-    μ-ar
-    μ-ba
-    μ-bi
-    μ-bl
-    μ-body
-    μ-ca
-    μ-da
-    μ-db
-    μ-decl
-    μ-deep
-    μ-dh
-    μ-dr
-    μ-eb
-    μ-ek
-    μ-fb
-    μ-fs
-    μ-fun
-    μ-go
-    μ-gv
-    μ-head
-    μ-ip
-    μ-item
-    μ-items
-    μ-key
-    μ-keys
-    μ-kv
-    μ-lit
-    μ-lo
-    μ-mv
-    μ-node
-    μ-ns
-    μ-oa
-    μ-os
-    μ-own
-    μ-pa
-    μ-plain
-    μ-prop
-    μ-ps
-    μ-pt
-    μ-read
-    μ-rest
-    μ-ro
-    μ-seq
-    μ-slot
-    μ-ta
-    μ-tb
-    μ-tg
-    μ-th
-    μ-top
-    μ-turn
-    μ-va
-    μ-view
-    μ-vl
-    μ-vo
-    (λ t. cycle.Lts-add.spec (add-claims t) (at-measure add.Kinds.ps μ-add add.Reads.Pre t) add.Reads.Post
+add-spec : {M : Type 1} (t : ℕ) → cycle.Lts-add.Closed (add-claims t) (at-measure add.Kinds.ps μ-add add.Reads.Pre t) add.Reads.Post M
+add-spec t = cycle.Lts-add.spec (add-claims t) (at-measure add.Kinds.ps μ-add add.Reads.Pre t) add.Reads.Post
     (λ c κs. tt)
     (λ c κs. tt)
     (λ c κs. tt)
@@ -1404,8 +1345,10 @@ pub +add+ag+an+ar+ba+bi+bl+body+ca+da+db+decl+deep+dh+dr+eb+ek+fb+fs+fun+go+gv+h
     (λ c. omega (arith, c .before .before .before .before .before .before .before .before .before .before .before .before .before .before .before .before .before .before .before .before .before .before .before .before .before .before .before .declaration2 .kept, c .before .before .before .before .before .before .before .before .before .before .before .before .before .before .before .before .before .before .before .before .before .before .before .put2 .kept, c .before .before .before .before .before .before .before .before .before .before .before .before .before .before .before .before .node .kept, c .before .before .before .before .before .before .temporary .kept))
     (λ c. omega (arith, c .before .before .before .before .before .before .before .before .before .before .before .before .before .before .before .before .before .before .before .before .before .before .before .before .before .before .before .declaration2 .kept, c .before .before .before .before .before .before .before .before .before .before .before .before .before .before .before .before .before .before .before .before .before .before .before .put2 .kept, c .before .before .before .before .before .before .before .before .before .before .before .before .before .before .before .before .node .kept, c .before .before .before .before .before .before .temporary .kept))
     (λ c. omega (arith, c .before .before .before .before .before .before .before .before .before .before .before .before .before .before .before .before .before .before .before .before .before .before .before .before .before .before .before .declaration2 .kept, c .before .before .before .before .before .before .before .before .before .before .before .before .before .before .before .before .before .before .before .before .before .before .before .put2 .kept, c .before .before .before .before .before .before .before .before .before .before .before .before .before .before .before .before .node .kept, c .before .before .before .before .before .before .temporary .kept))
-    (add-returns-3 t))
-    (λ t. cycle.Lts-ag.spec (ag-claims t) (at-measure ag.Kinds.ps μ-ag ag.Reads.Pre t) ag.Reads.Post
+    (add-returns-3 t)
+
+ag-spec : {M : Type 1} (t : ℕ) → cycle.Lts-ag.Closed (ag-claims t) (at-measure ag.Kinds.ps μ-ag ag.Reads.Pre t) ag.Reads.Post M
+ag-spec t = cycle.Lts-ag.spec (ag-claims t) (at-measure ag.Kinds.ps μ-ag ag.Reads.Pre t) ag.Reads.Post
     (λ c κs. tt)
     (λ c κs. tt)
     (λ c κs. tt)
@@ -1430,8 +1373,10 @@ pub +add+ag+an+ar+ba+bi+bl+body+ca+da+db+decl+deep+dh+dr+eb+ek+fb+fs+fun+go+gv+h
     (λ c. omega (arith, c .before .before .before .before .before .before .plain .kept))
     (λ c. omega (arith, c .before .before .before .before .before .before .plain .kept))
     (λ c. omega (arith, c .before .before .before .before .before .before .plain .kept))
-    (ag-returns-3 t))
-    (λ t. cycle.Lts-an.spec (an-claims t) (at-measure an.Kinds.ps μ-an an.Reads.Pre t) an.Reads.Post
+    (ag-returns-3 t)
+
+an-spec : {M : Type 1} (t : ℕ) → cycle.Lts-an.Closed (an-claims t) (at-measure an.Kinds.ps μ-an an.Reads.Pre t) an.Reads.Post M
+an-spec t = cycle.Lts-an.spec (an-claims t) (at-measure an.Kinds.ps μ-an an.Reads.Pre t) an.Reads.Post
     (λ c κs. tt)
     (λ c κs. tt)
     (λ c κs. (omega (arith, c .before .before .before .before .before .before .before .before .before .before .before .pre .0), tt))
@@ -1443,8 +1388,10 @@ pub +add+ag+an+ar+ba+bi+bl+body+ca+da+db+decl+deep+dh+dr+eb+ek+fb+fs+fun+go+gv+h
     (λ c. omega (arith, c .before .before .before .before .before .before .ns .kept))
     (λ c. omega (arith, c .before .before .before .before .before .before .ns .kept))
     (λ c. omega (arith, c .before .before .before .before .before .before .ns .kept))
-    (an-returns-2 t))
-    (λ t. cycle.Lts-ar.spec (ar-claims t) (at-measure ar.Kinds.ps μ-ar ar.Reads.Pre t) ar.Reads.Post
+    (an-returns-2 t)
+
+ar-spec : {M : Type 1} (t : ℕ) → cycle.Lts-ar.Closed (ar-claims t) (at-measure ar.Kinds.ps μ-ar ar.Reads.Pre t) ar.Reads.Post M
+ar-spec t = cycle.Lts-ar.spec (ar-claims t) (at-measure ar.Kinds.ps μ-ar ar.Reads.Pre t) ar.Reads.Post
     (λ c κs. tt)
     (λ c κs. tt)
     (λ c κs. tt)
@@ -1467,8 +1414,10 @@ pub +add+ag+an+ar+ba+bi+bl+body+ca+da+db+decl+deep+dh+dr+eb+ek+fb+fs+fun+go+gv+h
     (λ c. omega (arith, c .before .before .before .before .before .before .plain .kept))
     (λ c. omega (arith, c .before .before .before .before .before .before .plain .kept))
     (λ c. omega (arith, c .before .before .before .before .before .before .plain .kept))
-    (ar-returns-2 t))
-    (λ t. cycle.Lts-ba.spec (ba-claims t) (at-measure ba.Kinds.ps μ-ba ba.Reads.Pre t) ba.Reads.Post
+    (ar-returns-2 t)
+
+ba-spec : {M : Type 1} (t : ℕ) → cycle.Lts-ba.Closed (ba-claims t) (at-measure ba.Kinds.ps μ-ba ba.Reads.Pre t) ba.Reads.Post M
+ba-spec t = cycle.Lts-ba.spec (ba-claims t) (at-measure ba.Kinds.ps μ-ba ba.Reads.Pre t) ba.Reads.Post
     (ba-returns t)
     (λ c κs. tt)
     (ba-returns-2 t)
@@ -1494,8 +1443,10 @@ pub +add+ag+an+ar+ba+bi+bl+body+ca+da+db+decl+deep+dh+dr+eb+ek+fb+fs+fun+go+gv+h
     (λ c. omega (arith, c .before .before .before .before .before .before .before .before .before .before .before .before .before .before .before .before .ba .kept, c .before .before .before .before .before .before .ba2 .kept))
     (λ c. omega (arith, c .before .before .before .before .before .before .before .before .before .before .before .before .before .before .before .before .ba .kept, c .before .before .before .before .before .before .ba2 .kept))
     (λ c. omega (arith, c .before .before .before .before .before .before .before .before .before .before .before .before .before .before .before .before .ba .kept, c .before .before .before .before .before .before .ba2 .kept))
-    (ba-returns-6 t))
-    (λ t. cycle.Lts-bi.spec (bi-claims t) (at-measure bi.Kinds.ps μ-bi bi.Reads.Pre t) bi.Reads.Post
+    (ba-returns-6 t)
+
+bi-spec : {M : Type 1} (t : ℕ) → cycle.Lts-bi.Closed (bi-claims t) (at-measure bi.Kinds.ps μ-bi bi.Reads.Pre t) bi.Reads.Post M
+bi-spec t = cycle.Lts-bi.spec (bi-claims t) (at-measure bi.Kinds.ps μ-bi bi.Reads.Pre t) bi.Reads.Post
     (λ c κs. tt)
     (λ c κs. tt)
     (λ c κs. tt)
@@ -1513,8 +1464,10 @@ pub +add+ag+an+ar+ba+bi+bl+body+ca+da+db+decl+deep+dh+dr+eb+ek+fb+fs+fun+go+gv+h
     (λ c. omega (arith, c .before .before .before .before .before .before .node .kept))
     (λ c. omega (arith, c .before .before .before .before .before .before .node .kept))
     (λ c. omega (arith, c .before .before .before .before .before .before .node .kept))
-    (bi-returns-2 t))
-    (λ t. cycle.Lts-bl.spec (bl-claims t) (at-measure bl.Kinds.ps μ-bl bl.Reads.Pre t) bl.Reads.Post
+    (bi-returns-2 t)
+
+bl-spec : {M : Type 1} (t : ℕ) → cycle.Lts-bl.Closed (bl-claims t) (at-measure bl.Kinds.ps μ-bl bl.Reads.Pre t) bl.Reads.Post M
+bl-spec t = cycle.Lts-bl.spec (bl-claims t) (at-measure bl.Kinds.ps μ-bl bl.Reads.Pre t) bl.Reads.Post
     (λ c κs. tt)
     (λ c κs. tt)
     (λ c κs. tt)
@@ -1553,8 +1506,10 @@ pub +add+ag+an+ar+ba+bi+bl+body+ca+da+db+decl+deep+dh+dr+eb+ek+fb+fs+fun+go+gv+h
     (λ c. omega (arith, c .before .before .before .before .before .before .item .kept, c .before .before .before .before .before .before .before .before .before .before .before .before .before .before .before .before .before .before .ba3 .kept, c .before .before .before .before .before .before .before .before .before .before .before .before .before .before .before .before .before .before .before .before .before .before .before .before .before .block2 .kept))
     (λ c. omega (arith, c .before .before .before .before .before .before .item .kept, c .before .before .before .before .before .before .before .before .before .before .before .before .before .before .before .before .before .before .ba3 .kept, c .before .before .before .before .before .before .before .before .before .before .before .before .before .before .before .before .before .before .before .before .before .before .before .before .before .block2 .kept))
     (λ c. omega (arith, c .before .before .before .before .before .before .item .kept, c .before .before .before .before .before .before .before .before .before .before .before .before .before .before .before .before .before .before .ba3 .kept, c .before .before .before .before .before .before .before .before .before .before .before .before .before .before .before .before .before .before .before .before .before .before .before .before .before .block2 .kept))
-    (bl-returns-3 t))
-    (λ t. cycle.Lts-body.spec (body-claims t) (at-measure body.Kinds.ps μ-body body.Reads.Pre t) body.Reads.Post
+    (bl-returns-3 t)
+
+body-spec : {M : Type 1} (t : ℕ) → cycle.Lts-body.Closed (body-claims t) (at-measure body.Kinds.ps μ-body body.Reads.Pre t) body.Reads.Post M
+body-spec t = cycle.Lts-body.spec (body-claims t) (at-measure body.Kinds.ps μ-body body.Reads.Pre t) body.Reads.Post
     (body-returns t)
     (λ c κs. tt)
     (λ c κs. tt)
@@ -1573,8 +1528,10 @@ pub +add+ag+an+ar+ba+bi+bl+body+ca+da+db+decl+deep+dh+dr+eb+ek+fb+fs+fun+go+gv+h
     (λ c. omega (arith, c .before .before .before .before .before .before .before .before .before .before .before .before .before .before .before .before .before .before .before .before .before .before .before .before .before .before .before .before .before .before .before .before .before .before .before .before .before .before .before .before .copy .kept, c .before .before .before .before .before .before .before .before .before .before .before .before .before .before .before .before .before .before .before .before .before .before .before .before .before .before .before .before .before .before .before .before .before .slot .kept, c .before .before .before .before .before .before .before .before .before .before .before .before .before .before .before .before .before .before .before .before .before .before .before .before .wide .kept, c .before .before .before .before .before .before .before .before .before .before .before .before .before .before .before .before .before .before .ba .kept, c .before .before .before .before .before .before .items .kept))
     (λ c. omega (arith, c .before .before .before .before .before .before .before .before .before .before .before .before .before .before .before .before .before .before .before .before .before .before .before .before .before .before .before .before .before .before .before .before .before .before .before .before .before .before .before .before .copy .kept, c .before .before .before .before .before .before .before .before .before .before .before .before .before .before .before .before .before .before .before .before .before .before .before .before .before .before .before .before .before .before .before .before .before .slot .kept, c .before .before .before .before .before .before .before .before .before .before .before .before .before .before .before .before .before .before .before .before .before .before .before .before .wide .kept, c .before .before .before .before .before .before .before .before .before .before .before .before .before .before .before .before .before .before .ba .kept, c .before .before .before .before .before .before .items .kept))
     (λ c. omega (arith, c .before .before .before .before .before .before .before .before .before .before .before .before .before .before .before .before .before .before .before .before .before .before .before .before .before .before .before .before .before .before .before .before .before .before .before .before .before .before .before .before .copy .kept, c .before .before .before .before .before .before .before .before .before .before .before .before .before .before .before .before .before .before .before .before .before .before .before .before .before .before .before .before .before .before .before .before .before .slot .kept, c .before .before .before .before .before .before .before .before .before .before .before .before .before .before .before .before .before .before .before .before .before .before .before .before .wide .kept, c .before .before .before .before .before .before .before .before .before .before .before .before .before .before .before .before .before .before .ba .kept, c .before .before .before .before .before .before .items .kept))
-    (body-returns-2 t))
-    (λ t. cycle.Lts-ca.spec (ca-claims t) (at-measure ca.Kinds.ps μ-ca ca.Reads.Pre t) ca.Reads.Post
+    (body-returns-2 t)
+
+ca-spec : {M : Type 1} (t : ℕ) → cycle.Lts-ca.Closed (ca-claims t) (at-measure ca.Kinds.ps μ-ca ca.Reads.Pre t) ca.Reads.Post M
+ca-spec t = cycle.Lts-ca.spec (ca-claims t) (at-measure ca.Kinds.ps μ-ca ca.Reads.Pre t) ca.Reads.Post
     (λ c κs. tt)
     (λ c κs. tt)
     (λ c κs. tt)
@@ -1599,8 +1556,10 @@ pub +add+ag+an+ar+ba+bi+bl+body+ca+da+db+decl+deep+dh+dr+eb+ek+fb+fs+fun+go+gv+h
     (λ c. omega (arith, c .before .before .before .before .before .before .plain2 .kept))
     (λ c. omega (arith, c .before .before .before .before .before .before .plain2 .kept))
     (λ c. omega (arith, c .before .before .before .before .before .before .plain2 .kept))
-    (ca-returns-3 t))
-    (λ t. cycle.Lts-da.spec (da-claims t) (at-measure da.Kinds.ps μ-da da.Reads.Pre t) da.Reads.Post
+    (ca-returns-3 t)
+
+da-spec : {M : Type 1} (t : ℕ) → cycle.Lts-da.Closed (da-claims t) (at-measure da.Kinds.ps μ-da da.Reads.Pre t) da.Reads.Post M
+da-spec t = cycle.Lts-da.spec (da-claims t) (at-measure da.Kinds.ps μ-da da.Reads.Pre t) da.Reads.Post
     (da-returns t)
     (λ c κs. tt)
     (λ c κs. tt)
@@ -1617,8 +1576,10 @@ pub +add+ag+an+ar+ba+bi+bl+body+ca+da+db+decl+deep+dh+dr+eb+ek+fb+fs+fun+go+gv+h
     (λ c. omega (arith, c .before .before .before .before .before .before .before .seq .kept))
     (λ c. omega (arith, c .before .before .before .before .before .before .before .seq .kept))
     (λ c. omega (arith, c .before .before .before .before .before .before .before .seq .kept))
-    (da-returns-3 t))
-    (λ t. cycle.Lts-db.spec (db-claims t) (at-measure db.Kinds.ps μ-db db.Reads.Pre t) db.Reads.Post
+    (da-returns-3 t)
+
+db-spec : {M : Type 1} (t : ℕ) → cycle.Lts-db.Closed (db-claims t) (at-measure db.Kinds.ps μ-db db.Reads.Pre t) db.Reads.Post M
+db-spec t = cycle.Lts-db.spec (db-claims t) (at-measure db.Kinds.ps μ-db db.Reads.Pre t) db.Reads.Post
     (db-returns t)
     (λ c κs. (omega (arith, c .before .before .before .before .before .before .before .before .before .before .pre .0), tt))
     (λ c. omega (arith, c .before .before .before .before .before .before .fb .kept))
@@ -1655,8 +1616,10 @@ pub +add+ag+an+ar+ba+bi+bl+body+ca+da+db+decl+deep+dh+dr+eb+ek+fb+fs+fun+go+gv+h
     (λ c. omega (arith, c .before .before .before .before .before .before .before .before .seq .kept))
     (λ c. omega (arith, c .before .before .before .before .before .before .before .before .seq .kept))
     (λ c. omega (arith, c .before .before .before .before .before .before .before .before .seq .kept))
-    (db-returns-6 t))
-    (λ t. cycle.Lts-decl.spec (decl-claims t) (at-measure decl.Kinds.ps μ-decl decl.Reads.Pre t) decl.Reads.Post
+    (db-returns-6 t)
+
+decl-spec : {M : Type 1} (t : ℕ) → cycle.Lts-decl.Closed (decl-claims t) (at-measure decl.Kinds.ps μ-decl decl.Reads.Pre t) decl.Reads.Post M
+decl-spec t = cycle.Lts-decl.spec (decl-claims t) (at-measure decl.Kinds.ps μ-decl decl.Reads.Pre t) decl.Reads.Post
     (decl-returns t)
     (λ c κs. tt)
     (λ c κs. tt)
@@ -1680,8 +1643,10 @@ pub +add+ag+an+ar+ba+bi+bl+body+ca+da+db+decl+deep+dh+dr+eb+ek+fb+fs+fun+go+gv+h
     (λ c. omega (arith, c .before .before .before .before .before .before .before .seq .kept, c .before .before .before .before .before .before .before .before .before .before .before .before .before .before .before .before .before .before .before .wide .kept, c .before .before .before .before .before .before .before .before .before .before .before .before .before .before .before .before .before .before .before .before .before .before .before .copy .kept, c .before .before .before .before .before .before .before .before .before .before .before .before .before .before .before .before .before .before .before .before .before .before .before .before .before .before .before .before .before .before .before .declaration-hands .kept))
     (λ c. omega (arith, c .before .before .before .before .before .before .before .seq .kept, c .before .before .before .before .before .before .before .before .before .before .before .before .before .before .before .before .before .before .before .wide .kept, c .before .before .before .before .before .before .before .before .before .before .before .before .before .before .before .before .before .before .before .before .before .before .before .copy .kept, c .before .before .before .before .before .before .before .before .before .before .before .before .before .before .before .before .before .before .before .before .before .before .before .before .before .before .before .before .before .before .before .declaration-hands .kept))
     (λ c. omega (arith, c .before .before .before .before .before .before .before .seq .kept, c .before .before .before .before .before .before .before .before .before .before .before .before .before .before .before .before .before .before .before .wide .kept, c .before .before .before .before .before .before .before .before .before .before .before .before .before .before .before .before .before .before .before .before .before .before .before .copy .kept, c .before .before .before .before .before .before .before .before .before .before .before .before .before .before .before .before .before .before .before .before .before .before .before .before .before .before .before .before .before .before .before .declaration-hands .kept))
-    (decl-returns-3 t))
-    (λ t. cycle.Lts-deep.spec (deep-claims t) (at-measure deep.Kinds.ps μ-deep deep.Reads.Pre t) deep.Reads.Post
+    (decl-returns-3 t)
+
+deep-spec : {M : Type 1} (t : ℕ) → cycle.Lts-deep.Closed (deep-claims t) (at-measure deep.Kinds.ps μ-deep deep.Reads.Pre t) deep.Reads.Post M
+deep-spec t = cycle.Lts-deep.spec (deep-claims t) (at-measure deep.Kinds.ps μ-deep deep.Reads.Pre t) deep.Reads.Post
     (deep-returns t)
     (λ c κs. tt)
     (λ c κs. (omega (arith, c .before .before .before .before .before .before .before .before .before .before .before .pre .0), tt))
@@ -1707,8 +1672,10 @@ pub +add+ag+an+ar+ba+bi+bl+body+ca+da+db+decl+deep+dh+dr+eb+ek+fb+fs+fun+go+gv+h
     (λ c. omega (arith, c .before .before .before .before .before .before .before .before .deep .kept))
     (λ c. omega (arith, c .before .before .before .before .before .before .before .before .deep .kept))
     (deep-returns-4 t)
-    (deep-returns-5 t))
-    (λ t. cycle.Lts-dh.spec (dh-claims t) (at-measure dh.Kinds.ps μ-dh dh.Reads.Pre t) dh.Reads.Post
+    (deep-returns-5 t)
+
+dh-spec : {M : Type 1} (t : ℕ) → cycle.Lts-dh.Closed (dh-claims t) (at-measure dh.Kinds.ps μ-dh dh.Reads.Pre t) dh.Reads.Post M
+dh-spec t = cycle.Lts-dh.spec (dh-claims t) (at-measure dh.Kinds.ps μ-dh dh.Reads.Pre t) dh.Reads.Post
     (dh-returns t)
     (λ c κs. tt)
     (λ c κs. tt)
@@ -1728,8 +1695,10 @@ pub +add+ag+an+ar+ba+bi+bl+body+ca+da+db+decl+deep+dh+dr+eb+ek+fb+fs+fun+go+gv+h
     (dh-same-length t)
     (dh-same-length-2 t)
     (dh-same-length-3 t)
-    (dh-returns-2 t))
-    (λ t. cycle.Lts-dr.spec (dr-claims t) (at-measure dr.Kinds.ps μ-dr dr.Reads.Pre t) dr.Reads.Post
+    (dh-returns-2 t)
+
+dr-spec : {M : Type 1} (t : ℕ) → cycle.Lts-dr.Closed (dr-claims t) (at-measure dr.Kinds.ps μ-dr dr.Reads.Pre t) dr.Reads.Post M
+dr-spec t = cycle.Lts-dr.spec (dr-claims t) (at-measure dr.Kinds.ps μ-dr dr.Reads.Pre t) dr.Reads.Post
     (λ c κs. tt)
     (λ c κs. tt)
     (λ c κs. tt)
@@ -1757,8 +1726,10 @@ pub +add+ag+an+ar+ba+bi+bl+body+ca+da+db+decl+deep+dh+dr+eb+ek+fb+fs+fun+go+gv+h
     (λ c. omega (arith, c .before .before .before .before .before .before .node2 .kept))
     (λ c. omega (arith, c .before .before .before .before .before .before .node2 .kept))
     (λ c. omega (arith, c .before .before .before .before .before .before .node2 .kept))
-    (dr-returns-3 t))
-    (λ t. cycle.Lts-eb.spec (eb-claims t) (at-measure eb.Kinds.ps μ-eb eb.Reads.Pre t) eb.Reads.Post
+    (dr-returns-3 t)
+
+eb-spec : {M : Type 1} (t : ℕ) → cycle.Lts-eb.Closed (eb-claims t) (at-measure eb.Kinds.ps μ-eb eb.Reads.Pre t) eb.Reads.Post M
+eb-spec t = cycle.Lts-eb.spec (eb-claims t) (at-measure eb.Kinds.ps μ-eb eb.Reads.Pre t) eb.Reads.Post
     (λ c κs. tt)
     (λ c κs. (omega (arith, c .before .before .before .before .before .before .before .before .before .pre .0), tt))
     (λ c. omega (arith, c .before .before .before .before .before .before .body .kept))
@@ -1779,8 +1750,10 @@ pub +add+ag+an+ar+ba+bi+bl+body+ca+da+db+decl+deep+dh+dr+eb+ek+fb+fs+fun+go+gv+h
     (eb-same-length-4 t)
     (eb-same-length-5 t)
     (eb-same-length-6 t)
-    (eb-returns-2 t))
-    (λ t. cycle.Lts-ek.spec (ek-claims t) (at-measure ek.Kinds.ps μ-ek ek.Reads.Pre t) ek.Reads.Post
+    (eb-returns-2 t)
+
+ek-spec : {M : Type 1} (t : ℕ) → cycle.Lts-ek.Closed (ek-claims t) (at-measure ek.Kinds.ps μ-ek ek.Reads.Pre t) ek.Reads.Post M
+ek-spec t = cycle.Lts-ek.spec (ek-claims t) (at-measure ek.Kinds.ps μ-ek ek.Reads.Pre t) ek.Reads.Post
     (λ c κs. tt)
     (λ c κs. tt)
     (λ c κs. tt)
@@ -1804,8 +1777,10 @@ pub +add+ag+an+ar+ba+bi+bl+body+ca+da+db+decl+deep+dh+dr+eb+ek+fb+fs+fun+go+gv+h
     (λ c. search needs)
     (λ c. search needs)
     (λ c. search needs)
-    (ek-returns-4 t))
-    (λ t. cycle.Lts-fb.spec (fb-claims t) (at-measure fb.Kinds.ps μ-fb fb.Reads.Pre t) fb.Reads.Post
+    (ek-returns-4 t)
+
+fb-spec : {M : Type 1} (t : ℕ) → cycle.Lts-fb.Closed (fb-claims t) (at-measure fb.Kinds.ps μ-fb fb.Reads.Pre t) fb.Reads.Post M
+fb-spec t = cycle.Lts-fb.spec (fb-claims t) (at-measure fb.Kinds.ps μ-fb fb.Reads.Pre t) fb.Reads.Post
     (fb-returns t)
     (λ c κs. tt)
     (λ c κs. tt)
@@ -1833,8 +1808,10 @@ pub +add+ag+an+ar+ba+bi+bl+body+ca+da+db+decl+deep+dh+dr+eb+ek+fb+fs+fun+go+gv+h
     (λ c. omega (arith, c .before .before .before .before .before .before .seq2 .kept))
     (λ c. omega (arith, c .before .before .before .before .before .before .seq2 .kept))
     (λ c. omega (arith, c .before .before .before .before .before .before .seq2 .kept))
-    (fb-returns-3 t))
-    (λ t. cycle.Lts-fs.spec (fs-claims t) (at-measure fs.Kinds.ps μ-fs fs.Reads.Pre t) fs.Reads.Post
+    (fb-returns-3 t)
+
+fs-spec : {M : Type 1} (t : ℕ) → cycle.Lts-fs.Closed (fs-claims t) (at-measure fs.Kinds.ps μ-fs fs.Reads.Pre t) fs.Reads.Post M
+fs-spec t = cycle.Lts-fs.spec (fs-claims t) (at-measure fs.Kinds.ps μ-fs fs.Reads.Pre t) fs.Reads.Post
     fs-Inv-loop
     fs-μ-loop
     (fs-loop-holds t)
@@ -1844,8 +1821,10 @@ pub +add+ag+an+ar+ba+bi+bl+body+ca+da+db+decl+deep+dh+dr+eb+ek+fb+fs+fun+go+gv+h
     (λ c. search needs)
     (λ c. search needs)
     (λ c. search needs)
-    (fs-returns t))
-    (λ t. cycle.Lts-fun.spec (fun-claims t) (at-measure fun.Kinds.ps μ-fun fun.Reads.Pre t) fun.Reads.Post
+    (fs-returns t)
+
+fun-spec : {M : Type 1} (t : ℕ) → cycle.Lts-fun.Closed (fun-claims t) (at-measure fun.Kinds.ps μ-fun fun.Reads.Pre t) fun.Reads.Post M
+fun-spec t = cycle.Lts-fun.spec (fun-claims t) (at-measure fun.Kinds.ps μ-fun fun.Reads.Pre t) fun.Reads.Post
     (λ c κs. tt)
     (λ c κs. tt)
     (λ c κs. tt)
@@ -1873,8 +1852,10 @@ pub +add+ag+an+ar+ba+bi+bl+body+ca+da+db+decl+deep+dh+dr+eb+ek+fb+fs+fun+go+gv+h
     (λ c. omega (arith, c .before .before .before .before .before .before .plain .kept))
     (λ c. omega (arith, c .before .before .before .before .before .before .plain .kept))
     (λ c. omega (arith, c .before .before .before .before .before .before .plain .kept))
-    (fun-returns-2 t))
-    (λ t. cycle.Lts-go.spec (go-claims t) (at-measure go.Kinds.ps μ-go go.Reads.Pre t) go.Reads.Post
+    (fun-returns-2 t)
+
+go-spec : {M : Type 1} (t : ℕ) → cycle.Lts-go.Closed (go-claims t) (at-measure go.Kinds.ps μ-go go.Reads.Pre t) go.Reads.Post M
+go-spec t = cycle.Lts-go.spec (go-claims t) (at-measure go.Kinds.ps μ-go go.Reads.Pre t) go.Reads.Post
     (go-returns t)
     (λ c κs. tt)
     (λ c κs. tt)
@@ -1917,8 +1898,10 @@ pub +add+ag+an+ar+ba+bi+bl+body+ca+da+db+decl+deep+dh+dr+eb+ek+fb+fs+fun+go+gv+h
     (λ c. omega (arith, c .before .before .before .before .before .before .node2 .kept))
     (λ c. omega (arith, c .before .before .before .before .before .before .node2 .kept))
     (λ c. omega (arith, c .before .before .before .before .before .before .node2 .kept))
-    (go-returns-6 t))
-    (λ t. cycle.Lts-gv.spec (gv-claims t) (at-measure gv.Kinds.ps μ-gv gv.Reads.Pre t) gv.Reads.Post
+    (go-returns-6 t)
+
+gv-spec : {M : Type 1} (t : ℕ) → cycle.Lts-gv.Closed (gv-claims t) (at-measure gv.Kinds.ps μ-gv gv.Reads.Pre t) gv.Reads.Post M
+gv-spec t = cycle.Lts-gv.spec (gv-claims t) (at-measure gv.Kinds.ps μ-gv gv.Reads.Pre t) gv.Reads.Post
     (λ c κs. tt)
     (λ c κs. (omega (arith, c .before .before .before .before .before .before .before .before .before .pre .0), tt))
     (λ c. omega (arith, c .before .before .before .before .before .before .node .kept))
@@ -1929,8 +1912,10 @@ pub +add+ag+an+ar+ba+bi+bl+body+ca+da+db+decl+deep+dh+dr+eb+ek+fb+fs+fun+go+gv+h
     (λ c. omega (arith, c .before .before .before .before .before .before .temporary .kept))
     (λ c. omega (arith, c .before .before .before .before .before .before .temporary .kept))
     (λ c. omega (arith, c .before .before .before .before .before .before .temporary .kept))
-    (gv-returns-2 t))
-    (λ t. cycle.Lts-head.spec (head-claims t) (at-measure head.Kinds.ps μ-head head.Reads.Pre t) head.Reads.Post
+    (gv-returns-2 t)
+
+head-spec : {M : Type 1} (t : ℕ) → cycle.Lts-head.Closed (head-claims t) (at-measure head.Kinds.ps μ-head head.Reads.Pre t) head.Reads.Post M
+head-spec t = cycle.Lts-head.spec (head-claims t) (at-measure head.Kinds.ps μ-head head.Reads.Pre t) head.Reads.Post
     (λ c κs. tt)
     (λ c κs. tt)
     (λ c κs. tt)
@@ -1965,8 +1950,10 @@ pub +add+ag+an+ar+ba+bi+bl+body+ca+da+db+decl+deep+dh+dr+eb+ek+fb+fs+fun+go+gv+h
     (λ c. omega (arith, c .before .before .before .before .before .before .plain2 .kept))
     (λ c. omega (arith, c .before .before .before .before .before .before .plain2 .kept))
     (λ c. omega (arith, c .before .before .before .before .before .before .plain2 .kept))
-    (head-returns-5 t))
-    (λ t. cycle.Lts-ip.spec (ip-claims t) (at-measure ip.Kinds.ps μ-ip ip.Reads.Pre t) ip.Reads.Post
+    (head-returns-5 t)
+
+ip-spec : {M : Type 1} (t : ℕ) → cycle.Lts-ip.Closed (ip-claims t) (at-measure ip.Kinds.ps μ-ip ip.Reads.Pre t) ip.Reads.Post M
+ip-spec t = cycle.Lts-ip.spec (ip-claims t) (at-measure ip.Kinds.ps μ-ip ip.Reads.Pre t) ip.Reads.Post
     (λ c κs. tt)
     (λ c κs. tt)
     (λ c. omega (arith, c .before .before .refuse .kept))
@@ -1998,8 +1985,10 @@ pub +add+ag+an+ar+ba+bi+bl+body+ca+da+db+decl+deep+dh+dr+eb+ek+fb+fs+fun+go+gv+h
     (ip-same-length-2 t)
     (ip-same-length-3 t)
     (ip-same-length-4 t)
-    (ip-returns-2 t))
-    (λ t. cycle.Lts-item.spec (item-claims t) (at-measure item.Kinds.ps μ-item item.Reads.Pre t) item.Reads.Post
+    (ip-returns-2 t)
+
+item-spec : {M : Type 1} (t : ℕ) → cycle.Lts-item.Closed (item-claims t) (at-measure item.Kinds.ps μ-item item.Reads.Pre t) item.Reads.Post M
+item-spec t = cycle.Lts-item.spec (item-claims t) (at-measure item.Kinds.ps μ-item item.Reads.Pre t) item.Reads.Post
     (λ c κs. tt)
     (λ c κs. tt)
     (λ c κs. tt)
@@ -2017,8 +2006,10 @@ pub +add+ag+an+ar+ba+bi+bl+body+ca+da+db+decl+deep+dh+dr+eb+ek+fb+fs+fun+go+gv+h
     (λ c. search needs)
     (λ c. search needs)
     (λ c. search needs)
-    (item-returns-3 t))
-    (λ t. cycle.Lts-items.spec (items-claims t) (at-measure items.Kinds.ps μ-items items.Reads.Pre t) items.Reads.Post
+    (item-returns-3 t)
+
+items-spec : {M : Type 1} (t : ℕ) → cycle.Lts-items.Closed (items-claims t) (at-measure items.Kinds.ps μ-items items.Reads.Pre t) items.Reads.Post M
+items-spec t = cycle.Lts-items.spec (items-claims t) (at-measure items.Kinds.ps μ-items items.Reads.Pre t) items.Reads.Post
     items-Inv-loop
     items-μ-loop
     (items-loop-holds t)
@@ -2029,8 +2020,10 @@ pub +add+ag+an+ar+ba+bi+bl+body+ca+da+db+decl+deep+dh+dr+eb+ek+fb+fs+fun+go+gv+h
     (λ c. search needs)
     (λ c. search needs)
     (λ c. search needs)
-    (items-returns t))
-    (λ t. cycle.Lts-key.spec (key-claims t) (at-measure key.Kinds.ps μ-key key.Reads.Pre t) key.Reads.Post
+    (items-returns t)
+
+key-spec : {M : Type 1} (t : ℕ) → cycle.Lts-key.Closed (key-claims t) (at-measure key.Kinds.ps μ-key key.Reads.Pre t) key.Reads.Post M
+key-spec t = cycle.Lts-key.spec (key-claims t) (at-measure key.Kinds.ps μ-key key.Reads.Pre t) key.Reads.Post
     (λ c κs. tt)
     (λ c κs. tt)
     (λ c κs. tt)
@@ -2043,8 +2036,10 @@ pub +add+ag+an+ar+ba+bi+bl+body+ca+da+db+decl+deep+dh+dr+eb+ek+fb+fs+fun+go+gv+h
     (λ c. search needs)
     (λ c. search needs)
     (λ c. search needs)
-    (key-returns-2 t))
-    (λ t. cycle.Lts-keys.spec (keys-claims t) (at-measure keys.Kinds.ps μ-keys keys.Reads.Pre t) keys.Reads.Post
+    (key-returns-2 t)
+
+keys-spec : {M : Type 1} (t : ℕ) → cycle.Lts-keys.Closed (keys-claims t) (at-measure keys.Kinds.ps μ-keys keys.Reads.Pre t) keys.Reads.Post M
+keys-spec t = cycle.Lts-keys.spec (keys-claims t) (at-measure keys.Kinds.ps μ-keys keys.Reads.Pre t) keys.Reads.Post
     (keys-returns t)
     (λ c κs. tt)
     (λ c κs. tt)
@@ -2060,8 +2055,10 @@ pub +add+ag+an+ar+ba+bi+bl+body+ca+da+db+decl+deep+dh+dr+eb+ek+fb+fs+fun+go+gv+h
     (λ c. omega (arith, c .before .before .before .before .before .before .before .seq .kept, c .before .before .before .before .before .before .before .before .before .before .before .before .before .before .before .before .before .wide .kept, c .before .before .before .before .before .before .before .before .before .before .before .before .before .before .before .before .before .before .before .before .before .put2 .kept))
     (λ c. search needs)
     (λ c. search needs)
-    (keys-returns-2 t))
-    (λ t. cycle.Lts-kv.spec (kv-claims t) (at-measure kv.Kinds.ps μ-kv kv.Reads.Pre t) kv.Reads.Post
+    (keys-returns-2 t)
+
+kv-spec : {M : Type 1} (t : ℕ) → cycle.Lts-kv.Closed (kv-claims t) (at-measure kv.Kinds.ps μ-kv kv.Reads.Pre t) kv.Reads.Post M
+kv-spec t = cycle.Lts-kv.spec (kv-claims t) (at-measure kv.Kinds.ps μ-kv kv.Reads.Pre t) kv.Reads.Post
     (λ c κs. tt)
     (λ c κs. tt)
     (λ c κs. tt)
@@ -2077,8 +2074,10 @@ pub +add+ag+an+ar+ba+bi+bl+body+ca+da+db+decl+deep+dh+dr+eb+ek+fb+fs+fun+go+gv+h
     (λ c. omega (arith, c .before .before .before .before .before .before .before .node .kept, c .before .before .before .before .before .before .before .before .before .before .before .before .before .before .before .before .before .before .before .temporary .kept, c .before .before .before .before .before .before .before .before .before .before .before .before .before .before .before .before .before .before .before .before .before .before .before .before .before .put2 .kept))
     (kv-returns t)
     (λ c κs. tt)
-    (kv-returns-2 t))
-    (λ t. cycle.Lts-lit.spec (lit-claims t) (at-measure lit.Kinds.ps μ-lit lit.Reads.Pre t) lit.Reads.Post
+    (kv-returns-2 t)
+
+lit-spec : {M : Type 1} (t : ℕ) → cycle.Lts-lit.Closed (lit-claims t) (at-measure lit.Kinds.ps μ-lit lit.Reads.Pre t) lit.Reads.Post M
+lit-spec t = cycle.Lts-lit.spec (lit-claims t) (at-measure lit.Kinds.ps μ-lit lit.Reads.Pre t) lit.Reads.Post
     (λ c κs. tt)
     (λ c κs. tt)
     (λ c κs. tt)
@@ -2096,8 +2095,10 @@ pub +add+ag+an+ar+ba+bi+bl+body+ca+da+db+decl+deep+dh+dr+eb+ek+fb+fs+fun+go+gv+h
     (λ c. search needs)
     (λ c. search needs)
     (λ c. search needs)
-    (lit-returns-2 t))
-    (λ t. cycle.Lts-lo.spec (lo-claims t) (at-measure lo.Kinds.ps μ-lo lo.Reads.Pre t) lo.Reads.Post
+    (lit-returns-2 t)
+
+lo-spec : {M : Type 1} (t : ℕ) → cycle.Lts-lo.Closed (lo-claims t) (at-measure lo.Kinds.ps μ-lo lo.Reads.Pre t) lo.Reads.Post M
+lo-spec t = cycle.Lts-lo.spec (lo-claims t) (at-measure lo.Kinds.ps μ-lo lo.Reads.Pre t) lo.Reads.Post
     (λ c κs. tt)
     (λ c κs. tt)
     (λ c κs. tt)
@@ -2115,8 +2116,10 @@ pub +add+ag+an+ar+ba+bi+bl+body+ca+da+db+decl+deep+dh+dr+eb+ek+fb+fs+fun+go+gv+h
     (λ c. omega (arith, c .before .before .before .before .before .before .pa2 .kept))
     (λ c. omega (arith, c .before .before .before .before .before .before .pa2 .kept))
     (λ c. omega (arith, c .before .before .before .before .before .before .pa2 .kept))
-    (lo-returns-2 t))
-    (λ t. cycle.Lts-mv.spec (mv-claims t) (at-measure mv.Kinds.ps μ-mv mv.Reads.Pre t) mv.Reads.Post
+    (lo-returns-2 t)
+
+mv-spec : {M : Type 1} (t : ℕ) → cycle.Lts-mv.Closed (mv-claims t) (at-measure mv.Kinds.ps μ-mv mv.Reads.Pre t) mv.Reads.Post M
+mv-spec t = cycle.Lts-mv.spec (mv-claims t) (at-measure mv.Kinds.ps μ-mv mv.Reads.Pre t) mv.Reads.Post
     (mv-returns t)
     (λ c κs. tt)
     (λ c κs. tt)
@@ -2151,8 +2154,10 @@ pub +add+ag+an+ar+ba+bi+bl+body+ca+da+db+decl+deep+dh+dr+eb+ek+fb+fs+fun+go+gv+h
     (λ c. omega (arith, c .before .before .before .before .before .before .add2 .kept))
     (λ c. omega (arith, c .before .before .before .before .before .before .add2 .kept))
     (mv-returns-5 t)
-    (mv-returns-6 t))
-    (λ t. cycle.Lts-node.spec (node-claims t) (at-measure node.Kinds.ps μ-node node.Reads.Pre t) node.Reads.Post
+    (mv-returns-6 t)
+
+node-spec : {M : Type 1} (t : ℕ) → cycle.Lts-node.Closed (node-claims t) (at-measure node.Kinds.ps μ-node node.Reads.Pre t) node.Reads.Post M
+node-spec t = cycle.Lts-node.spec (node-claims t) (at-measure node.Kinds.ps μ-node node.Reads.Pre t) node.Reads.Post
     (λ c κs. tt)
     (λ c κs. (omega (arith, c .before .before .before .before .before .before .before .before .before .pre .0), tt))
     (λ c κs. (omega (arith, c .before .before .before .before .before .before .before .before .before .pre .0), tt))
@@ -2198,8 +2203,10 @@ pub +add+ag+an+ar+ba+bi+bl+body+ca+da+db+decl+deep+dh+dr+eb+ek+fb+fs+fun+go+gv+h
     (λ c. search needs)
     (λ c. search needs)
     (λ c. search needs)
-    (node-returns-9 t))
-    (λ t. cycle.Lts-ns.spec (ns-claims t) (at-measure ns.Kinds.ps μ-ns ns.Reads.Pre t) ns.Reads.Post
+    (node-returns-9 t)
+
+ns-spec : {M : Type 1} (t : ℕ) → cycle.Lts-ns.Closed (ns-claims t) (at-measure ns.Kinds.ps μ-ns ns.Reads.Pre t) ns.Reads.Post M
+ns-spec t = cycle.Lts-ns.spec (ns-claims t) (at-measure ns.Kinds.ps μ-ns ns.Reads.Pre t) ns.Reads.Post
     (λ c κs. tt)
     (λ c κs. tt)
     (λ c κs. tt)
@@ -2217,8 +2224,10 @@ pub +add+ag+an+ar+ba+bi+bl+body+ca+da+db+decl+deep+dh+dr+eb+ek+fb+fs+fun+go+gv+h
     (ns-same-length t)
     (λ c. omega (arith, c .before .before .before .before .before .before .deep .kept, c .before .before .before .before .before .before .before .before .before .before .before .before .before .before .before .before .before .before .gv .kept, c .before .before .before .before .before .before .before .before .before .before .before .before .before .before .before .before .before .before .before .before .before .before .before .before .before .before .before .before .before .view .kept, c .before .before .before .before .before .before .before .before .before .before .before .before .before .before .before .before .before .before .before .before .before .before .before .before .before .before .before .before .before .before .before .before .before .before .before .before .before .before .before .before .before .before .before .before .before .before .before .before .before .before .before .before .nested-hands .kept))
     (λ c. omega (arith, c .before .before .before .before .before .before .deep .kept, c .before .before .before .before .before .before .before .before .before .before .before .before .before .before .before .before .before .before .gv .kept, c .before .before .before .before .before .before .before .before .before .before .before .before .before .before .before .before .before .before .before .before .before .before .before .before .before .before .before .before .before .view .kept, c .before .before .before .before .before .before .before .before .before .before .before .before .before .before .before .before .before .before .before .before .before .before .before .before .before .before .before .before .before .before .before .before .before .before .before .before .before .before .before .before .before .before .before .before .before .before .before .before .before .before .before .before .nested-hands .kept))
-    (ns-returns t))
-    (λ t. cycle.Lts-oa.spec (oa-claims t) (at-measure oa.Kinds.ps μ-oa oa.Reads.Pre t) oa.Reads.Post
+    (ns-returns t)
+
+oa-spec : {M : Type 1} (t : ℕ) → cycle.Lts-oa.Closed (oa-claims t) (at-measure oa.Kinds.ps μ-oa oa.Reads.Pre t) oa.Reads.Post M
+oa-spec t = cycle.Lts-oa.spec (oa-claims t) (at-measure oa.Kinds.ps μ-oa oa.Reads.Pre t) oa.Reads.Post
     (λ c κs. tt)
     (oa-returns t)
     (λ c κs. tt)
@@ -2229,8 +2238,10 @@ pub +add+ag+an+ar+ba+bi+bl+body+ca+da+db+decl+deep+dh+dr+eb+ek+fb+fs+fun+go+gv+h
     (λ c. omega (arith, c .before .before .before .before .before .before .before .source .kept, c .before .before .before .before .before .before .before .before .before .before .before .before .before .before .before .before .before .view .kept, c .before .before .before .before .before .before .before .before .before .before .before .before .before .before .before .before .before .before .before .before .before .before .before .before .put2 .kept))
     (λ c. omega (arith, c .before .before .before .before .before .before .before .source .kept, c .before .before .before .before .before .before .before .before .before .before .before .before .before .before .before .before .before .view .kept, c .before .before .before .before .before .before .before .before .before .before .before .before .before .before .before .before .before .before .before .before .before .before .before .before .put2 .kept))
     (λ c. omega (arith, c .before .before .before .before .before .before .before .source .kept, c .before .before .before .before .before .before .before .before .before .before .before .before .before .before .before .before .before .view .kept, c .before .before .before .before .before .before .before .before .before .before .before .before .before .before .before .before .before .before .before .before .before .before .before .before .put2 .kept))
-    (oa-returns-2 t))
-    (λ t. cycle.Lts-os.spec (os-claims t) (at-measure os.Kinds.ps μ-os os.Reads.Pre t) os.Reads.Post
+    (oa-returns-2 t)
+
+os-spec : {M : Type 1} (t : ℕ) → cycle.Lts-os.Closed (os-claims t) (at-measure os.Kinds.ps μ-os os.Reads.Pre t) os.Reads.Post M
+os-spec t = cycle.Lts-os.spec (os-claims t) (at-measure os.Kinds.ps μ-os os.Reads.Pre t) os.Reads.Post
     (λ c κs. tt)
     (λ c κs. tt)
     (λ c κs. tt)
@@ -2248,8 +2259,10 @@ pub +add+ag+an+ar+ba+bi+bl+body+ca+da+db+decl+deep+dh+dr+eb+ek+fb+fs+fun+go+gv+h
     (λ c. omega (arith, c .before .before .before .before .before .before .before .rest .kept, c .before .before .before .before .before .before .before .before .before .before .before .before .before .before .before .before .before .before .node .kept, c .before .before .before .before .before .before .before .before .before .before .before .before .before .before .before .before .before .before .before .before .before .before .before .before .before .before .put2 .kept))
     (λ c. omega (arith, c .before .before .before .before .before .before .before .rest .kept, c .before .before .before .before .before .before .before .before .before .before .before .before .before .before .before .before .before .before .node .kept, c .before .before .before .before .before .before .before .before .before .before .before .before .before .before .before .before .before .before .before .before .before .before .before .before .before .before .put2 .kept))
     (os-returns t)
-    (os-returns-2 t))
-    (λ t. cycle.Lts-own.spec (own-claims t) (at-measure own.Kinds.ps μ-own own.Reads.Pre t) own.Reads.Post
+    (os-returns-2 t)
+
+own-spec : {M : Type 1} (t : ℕ) → cycle.Lts-own.Closed (own-claims t) (at-measure own.Kinds.ps μ-own own.Reads.Pre t) own.Reads.Post M
+own-spec t = cycle.Lts-own.spec (own-claims t) (at-measure own.Kinds.ps μ-own own.Reads.Pre t) own.Reads.Post
     (own-returns t)
     (λ c κs. tt)
     (λ c κs. tt)
@@ -2269,8 +2282,10 @@ pub +add+ag+an+ar+ba+bi+bl+body+ca+da+db+decl+deep+dh+dr+eb+ek+fb+fs+fun+go+gv+h
     (λ c. omega (arith, c .before .before .before .before .before .before .oa2 .kept))
     (λ c. omega (arith, c .before .before .before .before .before .before .oa2 .kept))
     (λ c. omega (arith, c .before .before .before .before .before .before .oa2 .kept))
-    (own-returns-3 t))
-    (λ t. cycle.Lts-pa.spec (pa-claims t) (at-measure pa.Kinds.ps μ-pa pa.Reads.Pre t) pa.Reads.Post
+    (own-returns-3 t)
+
+pa-spec : {M : Type 1} (t : ℕ) → cycle.Lts-pa.Closed (pa-claims t) (at-measure pa.Kinds.ps μ-pa pa.Reads.Pre t) pa.Reads.Post M
+pa-spec t = cycle.Lts-pa.spec (pa-claims t) (at-measure pa.Kinds.ps μ-pa pa.Reads.Pre t) pa.Reads.Post
     (pa-returns t)
     (λ c κs. tt)
     (λ c κs. tt)
@@ -2297,8 +2312,10 @@ pub +add+ag+an+ar+ba+bi+bl+body+ca+da+db+decl+deep+dh+dr+eb+ek+fb+fs+fun+go+gv+h
     (λ c. omega (arith, c .before .before .before .before .before .before .deep .kept, c .before .before .before .before .before .before .before .before .before .before .before .before .before .before .before .before .before .source .kept, c .before .before .before .before .before .before .before .before .before .before .before .before .before .before .before .before .before .before .before .before .before .before .before .before .before .before .before .view .kept, c .before .before .before .before .before .before .before .before .before .before .before .before .before .before .before .before .before .before .before .before .before .before .before .before .before .before .before .before .before .before .before .before .before .before .put2 .kept))
     (λ c. omega (arith, c .before .before .before .before .before .before .deep .kept, c .before .before .before .before .before .before .before .before .before .before .before .before .before .before .before .before .before .source .kept, c .before .before .before .before .before .before .before .before .before .before .before .before .before .before .before .before .before .before .before .before .before .before .before .before .before .before .before .view .kept, c .before .before .before .before .before .before .before .before .before .before .before .before .before .before .before .before .before .before .before .before .before .before .before .before .before .before .before .before .before .before .before .before .before .before .put2 .kept))
     (pa-returns-3 t)
-    (pa-returns-4 t))
-    (λ t. cycle.Lts-plain.spec (plain-claims t) (at-measure plain.Kinds.ps μ-plain plain.Reads.Pre t) plain.Reads.Post
+    (pa-returns-4 t)
+
+plain-spec : {M : Type 1} (t : ℕ) → cycle.Lts-plain.Closed (plain-claims t) (at-measure plain.Kinds.ps μ-plain plain.Reads.Pre t) plain.Reads.Post M
+plain-spec t = cycle.Lts-plain.spec (plain-claims t) (at-measure plain.Kinds.ps μ-plain plain.Reads.Pre t) plain.Reads.Post
     (plain-returns t)
     (λ c κs. tt)
     (λ c κs. tt)
@@ -2318,8 +2335,10 @@ pub +add+ag+an+ar+ba+bi+bl+body+ca+da+db+decl+deep+dh+dr+eb+ek+fb+fs+fun+go+gv+h
     (λ c. search needs)
     (λ c. search needs)
     (λ c. search needs)
-    (plain-returns-3 t))
-    (λ t. cycle.Lts-prop.spec (prop-claims t) (at-measure prop.Kinds.ps μ-prop prop.Reads.Pre t) prop.Reads.Post
+    (plain-returns-3 t)
+
+prop-spec : {M : Type 1} (t : ℕ) → cycle.Lts-prop.Closed (prop-claims t) (at-measure prop.Kinds.ps μ-prop prop.Reads.Pre t) prop.Reads.Post M
+prop-spec t = cycle.Lts-prop.spec (prop-claims t) (at-measure prop.Kinds.ps μ-prop prop.Reads.Pre t) prop.Reads.Post
     (λ c κs. tt)
     (λ c κs. tt)
     (λ c κs. tt)
@@ -2332,8 +2351,10 @@ pub +add+ag+an+ar+ba+bi+bl+body+ca+da+db+decl+deep+dh+dr+eb+ek+fb+fs+fun+go+gv+h
     (λ c. omega (arith, c .before .before .copy2 .kept, c .before .before .before .before .before .before .before .before .before .before .before .view .kept, c .before .before .before .before .before .before .before .before .before .before .before .before .before .before .before .before .before .before .before .before .before .before .key .kept, c .before .before .before .before .before .before .before .before .before .before .before .before .before .before .before .before .before .before .before .before .before .before .before .before .before .before .before .before .before .copy .kept))
     (λ c. omega (arith, c .before .before .copy2 .kept, c .before .before .before .before .before .before .before .before .before .before .before .view .kept, c .before .before .before .before .before .before .before .before .before .before .before .before .before .before .before .before .before .before .before .before .before .before .key .kept, c .before .before .before .before .before .before .before .before .before .before .before .before .before .before .before .before .before .before .before .before .before .before .before .before .before .before .before .before .before .copy .kept))
     (λ c. omega (arith, c .before .before .copy2 .kept, c .before .before .before .before .before .before .before .before .before .before .before .view .kept, c .before .before .before .before .before .before .before .before .before .before .before .before .before .before .before .before .before .before .before .before .before .before .key .kept, c .before .before .before .before .before .before .before .before .before .before .before .before .before .before .before .before .before .before .before .before .before .before .before .before .before .before .before .before .before .copy .kept))
-    (prop-returns t))
-    (λ t. cycle.Lts-ps.spec (ps-claims t) (at-measure ps.Kinds.ps μ-ps ps.Reads.Pre t) ps.Reads.Post
+    (prop-returns t)
+
+ps-spec : {M : Type 1} (t : ℕ) → cycle.Lts-ps.Closed (ps-claims t) (at-measure ps.Kinds.ps μ-ps ps.Reads.Pre t) ps.Reads.Post M
+ps-spec t = cycle.Lts-ps.spec (ps-claims t) (at-measure ps.Kinds.ps μ-ps ps.Reads.Pre t) ps.Reads.Post
     ps-Inv-loop
     ps-μ-loop
     (ps-loop-holds t)
@@ -2345,8 +2366,10 @@ pub +add+ag+an+ar+ba+bi+bl+body+ca+da+db+decl+deep+dh+dr+eb+ek+fb+fs+fun+go+gv+h
     (λ c. search needs)
     (λ c. search needs)
     (λ c. search needs)
-    (ps-returns t))
-    (λ t. cycle.Lts-pt.spec (pt-claims t) (at-measure pt.Kinds.ps μ-pt pt.Reads.Pre t) pt.Reads.Post
+    (ps-returns t)
+
+pt-spec : {M : Type 1} (t : ℕ) → cycle.Lts-pt.Closed (pt-claims t) (at-measure pt.Kinds.ps μ-pt pt.Reads.Pre t) pt.Reads.Post M
+pt-spec t = cycle.Lts-pt.spec (pt-claims t) (at-measure pt.Kinds.ps μ-pt pt.Reads.Pre t) pt.Reads.Post
     (λ c κs. tt)
     (λ c κs. tt)
     (λ c κs. tt)
@@ -2369,8 +2392,10 @@ pub +add+ag+an+ar+ba+bi+bl+body+ca+da+db+decl+deep+dh+dr+eb+ek+fb+fs+fun+go+gv+h
     (λ c. search needs)
     (λ c. search needs)
     (λ c. search needs)
-    (pt-returns-3 t))
-    (λ t. cycle.Lts-read.spec (read-claims t) (at-measure read.Kinds.ps μ-read read.Reads.Pre t) read.Reads.Post
+    (pt-returns-3 t)
+
+read-spec : {M : Type 1} (t : ℕ) → cycle.Lts-read.Closed (read-claims t) (at-measure read.Kinds.ps μ-read read.Reads.Pre t) read.Reads.Post M
+read-spec t = cycle.Lts-read.spec (read-claims t) (at-measure read.Kinds.ps μ-read read.Reads.Pre t) read.Reads.Post
     (λ c κs. tt)
     (λ c κs. tt)
     (λ c κs. tt)
@@ -2391,8 +2416,10 @@ pub +add+ag+an+ar+ba+bi+bl+body+ca+da+db+decl+deep+dh+dr+eb+ek+fb+fs+fun+go+gv+h
     (λ c. omega (arith, c .before .before .mapped .kept, c .before .before .before .before .before .before .before .before .before .before .keys2 .kept, c .before .before .before .before .before .before .before .before .before .before .before .before .before .before .before .before .put22 .kept, c .before .before .before .before .before .before .before .before .before .before .before .before .before .before .before .before .before .before .before .before .put2 .kept))
     (λ c. search needs)
     (λ c. search needs)
-    (read-returns-3 t))
-    (λ t. cycle.Lts-rest.spec (rest-claims t) (at-measure rest.Kinds.ps μ-rest rest.Reads.Pre t) rest.Reads.Post
+    (read-returns-3 t)
+
+rest-spec : {M : Type 1} (t : ℕ) → cycle.Lts-rest.Closed (rest-claims t) (at-measure rest.Kinds.ps μ-rest rest.Reads.Pre t) rest.Reads.Post M
+rest-spec t = cycle.Lts-rest.spec (rest-claims t) (at-measure rest.Kinds.ps μ-rest rest.Reads.Pre t) rest.Reads.Post
     (λ c κs. tt)
     (rest-returns t)
     (λ c κs. tt)
@@ -2410,8 +2437,10 @@ pub +add+ag+an+ar+ba+bi+bl+body+ca+da+db+decl+deep+dh+dr+eb+ek+fb+fs+fun+go+gv+h
     (λ c. omega (arith, c .before .before .before .before .before .before .read .kept, c .before .before .before .before .before .before .before .before .before .before .before .before .before .before .before .before .before .source3 .kept, c .before .before .before .before .before .before .before .before .before .before .before .before .before .before .before .before .before .before .before .before .before .before .before .call .kept))
     (λ c. search needs)
     (λ c. search needs)
-    (rest-returns-3 t))
-    (λ t. cycle.Lts-ro.spec (ro-claims t) (at-measure ro.Kinds.ps μ-ro ro.Reads.Pre t) ro.Reads.Post
+    (rest-returns-3 t)
+
+ro-spec : {M : Type 1} (t : ℕ) → cycle.Lts-ro.Closed (ro-claims t) (at-measure ro.Kinds.ps μ-ro ro.Reads.Pre t) ro.Reads.Post M
+ro-spec t = cycle.Lts-ro.spec (ro-claims t) (at-measure ro.Kinds.ps μ-ro ro.Reads.Pre t) ro.Reads.Post
     (λ c κs. tt)
     (λ c κs. tt)
     (λ c κs. tt)
@@ -2432,8 +2461,10 @@ pub +add+ag+an+ar+ba+bi+bl+body+ca+da+db+decl+deep+dh+dr+eb+ek+fb+fs+fun+go+gv+h
     (λ c. omega (arith, c .before .before .before .before .before .before .rest .kept, c .before .before .before .before .before .before .before .before .before .before .before .before .before .before .before .before .before .before .before .node2 .kept, c .before .before .before .before .before .before .before .before .before .before .before .before .before .before .before .before .before .before .before .before .before .before .before .before .before .before .before .before .assign .kept))
     (λ c. omega (arith, c .before .before .before .before .before .before .rest .kept, c .before .before .before .before .before .before .before .before .before .before .before .before .before .before .before .before .before .before .before .node2 .kept))
     (λ c. omega (arith, c .before .before .before .before .before .before .rest .kept, c .before .before .before .before .before .before .before .before .before .before .before .before .before .before .before .before .before .before .before .node2 .kept))
-    (ro-returns-2 t))
-    (λ t. cycle.Lts-seq.spec (seq-claims t) (at-measure seq.Kinds.ps μ-seq seq.Reads.Pre t) seq.Reads.Post
+    (ro-returns-2 t)
+
+seq-spec : {M : Type 1} (t : ℕ) → cycle.Lts-seq.Closed (seq-claims t) (at-measure seq.Kinds.ps μ-seq seq.Reads.Pre t) seq.Reads.Post M
+seq-spec t = cycle.Lts-seq.spec (seq-claims t) (at-measure seq.Kinds.ps μ-seq seq.Reads.Pre t) seq.Reads.Post
     seq-Inv-loop
     seq-μ-loop
     (seq-loop-holds t)
@@ -2444,8 +2475,10 @@ pub +add+ag+an+ar+ba+bi+bl+body+ca+da+db+decl+deep+dh+dr+eb+ek+fb+fs+fun+go+gv+h
     (λ c. search needs)
     (λ c. search needs)
     (λ c. search needs)
-    (seq-returns t))
-    (λ t. cycle.Lts-slot.spec (slot-claims t) (at-measure slot.Kinds.ps μ-slot slot.Reads.Pre t) slot.Reads.Post
+    (seq-returns t)
+
+slot-spec : {M : Type 1} (t : ℕ) → cycle.Lts-slot.Closed (slot-claims t) (at-measure slot.Kinds.ps μ-slot slot.Reads.Pre t) slot.Reads.Post M
+slot-spec t = cycle.Lts-slot.spec (slot-claims t) (at-measure slot.Kinds.ps μ-slot slot.Reads.Pre t) slot.Reads.Post
     (slot-returns t)
     (λ c κs. (omega (arith, c .before .before .before .before .before .before .before .before .before .pre .0), tt))
     (λ c κs. (omega (arith, c .before .before .before .before .before .before .before .before .before .pre .0), tt))
@@ -2476,8 +2509,10 @@ pub +add+ag+an+ar+ba+bi+bl+body+ca+da+db+decl+deep+dh+dr+eb+ek+fb+fs+fun+go+gv+h
     (λ c. search needs)
     (slot-returns-5 t)
     (λ c. search needs)
-    (slot-returns-6 t))
-    (λ t. cycle.Lts-ta.spec (ta-claims t) (at-measure ta.Kinds.ps μ-ta ta.Reads.Pre t) ta.Reads.Post
+    (slot-returns-6 t)
+
+ta-spec : {M : Type 1} (t : ℕ) → cycle.Lts-ta.Closed (ta-claims t) (at-measure ta.Kinds.ps μ-ta ta.Reads.Pre t) ta.Reads.Post M
+ta-spec t = cycle.Lts-ta.spec (ta-claims t) (at-measure ta.Kinds.ps μ-ta ta.Reads.Pre t) ta.Reads.Post
     (λ c κs. tt)
     (λ c κs. tt)
     (λ c κs. tt)
@@ -2486,8 +2521,10 @@ pub +add+ag+an+ar+ba+bi+bl+body+ca+da+db+decl+deep+dh+dr+eb+ek+fb+fs+fun+go+gv+h
     (λ c. omega (arith, c .before .before .before .before .before .before .an .kept, c .before .before .before .before .before .before .before .before .before .before .before .before .new-mark .kept, c .before .before .before .before .before .before .before .before .before .before .before .before .before .before .before .before .put2 .kept))
     (λ c. omega (arith, c .before .before .before .before .before .before .an .kept, c .before .before .before .before .before .before .before .before .before .before .before .before .new-mark .kept, c .before .before .before .before .before .before .before .before .before .before .before .before .before .before .before .before .put2 .kept))
     (λ c. omega (arith, c .before .before .before .before .before .before .an .kept, c .before .before .before .before .before .before .before .before .before .before .before .before .new-mark .kept, c .before .before .before .before .before .before .before .before .before .before .before .before .before .before .before .before .put2 .kept))
-    (ta-returns t))
-    (λ t. cycle.Lts-tb.spec (tb-claims t) (at-measure tb.Kinds.ps μ-tb tb.Reads.Pre t) tb.Reads.Post
+    (ta-returns t)
+
+tb-spec : {M : Type 1} (t : ℕ) → cycle.Lts-tb.Closed (tb-claims t) (at-measure tb.Kinds.ps μ-tb tb.Reads.Pre t) tb.Reads.Post M
+tb-spec t = cycle.Lts-tb.spec (tb-claims t) (at-measure tb.Kinds.ps μ-tb tb.Reads.Pre t) tb.Reads.Post
     (λ c κs. tt)
     (λ c κs. tt)
     (λ c κs. tt)
@@ -2523,8 +2560,10 @@ pub +add+ag+an+ar+ba+bi+bl+body+ca+da+db+decl+deep+dh+dr+eb+ek+fb+fs+fun+go+gv+h
     (λ c. omega (arith, c .before .before .before .before .before .before .item .kept, c .before .before .before .before .before .before .before .before .before .before .before .before .before .before .before .before .before .before .ta3 .kept, c .before .before .before .before .before .before .before .before .before .before .before .before .before .before .before .before .before .before .before .before .before .before .before .before .before .block2 .kept))
     (λ c. omega (arith, c .before .before .before .before .before .before .item .kept, c .before .before .before .before .before .before .before .before .before .before .before .before .before .before .before .before .before .before .ta3 .kept, c .before .before .before .before .before .before .before .before .before .before .before .before .before .before .before .before .before .before .before .before .before .before .before .before .before .block2 .kept))
     (λ c. omega (arith, c .before .before .before .before .before .before .item .kept, c .before .before .before .before .before .before .before .before .before .before .before .before .before .before .before .before .before .before .ta3 .kept, c .before .before .before .before .before .before .before .before .before .before .before .before .before .before .before .before .before .before .before .before .before .before .before .before .before .block2 .kept))
-    (tb-returns-3 t))
-    (λ t. cycle.Lts-tg.spec (tg-claims t) (at-measure tg.Kinds.ps μ-tg tg.Reads.Pre t) tg.Reads.Post
+    (tb-returns-3 t)
+
+tg-spec : {M : Type 1} (t : ℕ) → cycle.Lts-tg.Closed (tg-claims t) (at-measure tg.Kinds.ps μ-tg tg.Reads.Pre t) tg.Reads.Post M
+tg-spec t = cycle.Lts-tg.spec (tg-claims t) (at-measure tg.Kinds.ps μ-tg tg.Reads.Pre t) tg.Reads.Post
     (λ c κs. tt)
     (λ c κs. tt)
     (λ c κs. tt)
@@ -2541,8 +2580,10 @@ pub +add+ag+an+ar+ba+bi+bl+body+ca+da+db+decl+deep+dh+dr+eb+ek+fb+fs+fun+go+gv+h
     (λ c. omega (arith, c .before .before .before .before .before .before .temporary .kept, c .before .before .before .before .before .before .before .before .before .before .before .before .before .before .before .before .before .view .kept, c .before .before .before .before .before .before .before .before .before .before .before .before .before .before .before .before .before .before .before .before .before .before .before .before .assign .kept))
     (λ c. omega (arith, c .before .before .before .before .before .before .temporary .kept, c .before .before .before .before .before .before .before .before .before .before .before .before .before .before .before .before .before .view .kept))
     (λ c. omega (arith, c .before .before .before .before .before .before .temporary .kept, c .before .before .before .before .before .before .before .before .before .before .before .before .before .before .before .before .before .view .kept))
-    (tg-returns-2 t))
-    (λ t. cycle.Lts-th.spec (th-claims t) (at-measure th.Kinds.ps μ-th th.Reads.Pre t) th.Reads.Post
+    (tg-returns-2 t)
+
+th-spec : {M : Type 1} (t : ℕ) → cycle.Lts-th.Closed (th-claims t) (at-measure th.Kinds.ps μ-th th.Reads.Pre t) th.Reads.Post M
+th-spec t = cycle.Lts-th.spec (th-claims t) (at-measure th.Kinds.ps μ-th th.Reads.Pre t) th.Reads.Post
     (th-returns t)
     (λ c κs. tt)
     (λ c κs. tt)
@@ -2560,8 +2601,10 @@ pub +add+ag+an+ar+ba+bi+bl+body+ca+da+db+decl+deep+dh+dr+eb+ek+fb+fs+fun+go+gv+h
     (th-same-length t)
     (th-same-length-2 t)
     (th-same-length-3 t)
-    (th-returns-2 t))
-    (λ t. cycle.Lts-top.spec (top-claims t) (at-measure top.Kinds.ps μ-top top.Reads.Pre t) top.Reads.Post
+    (th-returns-2 t)
+
+top-spec : {M : Type 1} (t : ℕ) → cycle.Lts-top.Closed (top-claims t) (at-measure top.Kinds.ps μ-top top.Reads.Pre t) top.Reads.Post M
+top-spec t = cycle.Lts-top.spec (top-claims t) (at-measure top.Kinds.ps μ-top top.Reads.Pre t) top.Reads.Post
     (λ c κs. tt)
     (λ c κs. tt)
     (λ c. omega (arith, c .before .before .refuse .kept))
@@ -2589,8 +2632,10 @@ pub +add+ag+an+ar+ba+bi+bl+body+ca+da+db+decl+deep+dh+dr+eb+ek+fb+fs+fun+go+gv+h
     (top-same-length-5 t)
     (top-same-length-6 t)
     (top-same-length-7 t)
-    (top-returns-3 t))
-    (λ t. cycle.Lts-turn.spec (turn-claims t) (at-measure turn.Kinds.ps μ-turn turn.Reads.Pre t) turn.Reads.Post
+    (top-returns-3 t)
+
+turn-spec : {M : Type 1} (t : ℕ) → cycle.Lts-turn.Closed (turn-claims t) (at-measure turn.Kinds.ps μ-turn turn.Reads.Pre t) turn.Reads.Post M
+turn-spec t = cycle.Lts-turn.spec (turn-claims t) (at-measure turn.Kinds.ps μ-turn turn.Reads.Pre t) turn.Reads.Post
     (λ c κs. tt)
     (λ c κs. tt)
     (λ c. search needs)
@@ -2669,8 +2714,10 @@ pub +add+ag+an+ar+ba+bi+bl+body+ca+da+db+decl+deep+dh+dr+eb+ek+fb+fs+fun+go+gv+h
     (λ c. search needs)
     (λ c. search needs)
     (λ c. search needs)
-    (turn-returns-16 t))
-    (λ t. cycle.Lts-va.spec (va-claims t) (at-measure va.Kinds.ps μ-va va.Reads.Pre t) va.Reads.Post
+    (turn-returns-16 t)
+
+va-spec : {M : Type 1} (t : ℕ) → cycle.Lts-va.Closed (va-claims t) (at-measure va.Kinds.ps μ-va va.Reads.Pre t) va.Reads.Post M
+va-spec t = cycle.Lts-va.spec (va-claims t) (at-measure va.Kinds.ps μ-va va.Reads.Pre t) va.Reads.Post
     (va-returns t)
     (λ c κs. tt)
     (λ c κs. tt)
@@ -2689,8 +2736,10 @@ pub +add+ag+an+ar+ba+bi+bl+body+ca+da+db+decl+deep+dh+dr+eb+ek+fb+fs+fun+go+gv+h
     (λ c. search needs)
     (λ c. search needs)
     (λ c. search needs)
-    (va-returns-3 t))
-    (λ t. cycle.Lts-view.spec (view-claims t) (at-measure view.Kinds.ps μ-view view.Reads.Pre t) view.Reads.Post
+    (va-returns-3 t)
+
+view-spec : {M : Type 1} (t : ℕ) → cycle.Lts-view.Closed (view-claims t) (at-measure view.Kinds.ps μ-view view.Reads.Pre t) view.Reads.Post M
+view-spec t = cycle.Lts-view.spec (view-claims t) (at-measure view.Kinds.ps μ-view view.Reads.Pre t) view.Reads.Post
     (view-returns t)
     (λ c κs. tt)
     (λ c κs. (omega (arith, c .before .before .before .before .before .before .before .before .before .before .before .pre .0, c .before .before .before .before .before .if1 .left), tt))
@@ -2719,8 +2768,10 @@ pub +add+ag+an+ar+ba+bi+bl+body+ca+da+db+decl+deep+dh+dr+eb+ek+fb+fs+fun+go+gv+h
     (λ c. search needs)
     (λ c. search needs)
     (λ c. search needs)
-    (view-returns-5 t))
-    (λ t. cycle.Lts-vl.spec (vl-claims t) (at-measure vl.Kinds.ps μ-vl vl.Reads.Pre t) vl.Reads.Post
+    (view-returns-5 t)
+
+vl-spec : {M : Type 1} (t : ℕ) → cycle.Lts-vl.Closed (vl-claims t) (at-measure vl.Kinds.ps μ-vl vl.Reads.Pre t) vl.Reads.Post M
+vl-spec t = cycle.Lts-vl.spec (vl-claims t) (at-measure vl.Kinds.ps μ-vl vl.Reads.Pre t) vl.Reads.Post
     (λ c κs. tt)
     (λ c κs. tt)
     (λ c κs. tt)
@@ -2732,8 +2783,10 @@ pub +add+ag+an+ar+ba+bi+bl+body+ca+da+db+decl+deep+dh+dr+eb+ek+fb+fs+fun+go+gv+h
     (λ c. omega (arith, c .before .before .before .before .before .before .before .before .deep .kept))
     (λ c. omega (arith, c .before .before .before .before .before .before .before .before .deep .kept))
     (λ c. omega (arith, c .before .before .before .before .before .before .before .before .deep .kept))
-    (vl-returns t))
-    (λ t. cycle.Lts-vo.spec (vo-claims t) (at-measure vo.Kinds.ps μ-vo vo.Reads.Pre t) vo.Reads.Post
+    (vl-returns t)
+
+vo-spec : {M : Type 1} (t : ℕ) → cycle.Lts-vo.Closed (vo-claims t) (at-measure vo.Kinds.ps μ-vo vo.Reads.Pre t) vo.Reads.Post M
+vo-spec t = cycle.Lts-vo.spec (vo-claims t) (at-measure vo.Kinds.ps μ-vo vo.Reads.Pre t) vo.Reads.Post
     (vo-returns t)
     (λ c κs. tt)
     (λ c κs. tt)
@@ -2763,4 +2816,122 @@ pub +add+ag+an+ar+ba+bi+bl+body+ca+da+db+decl+deep+dh+dr+eb+ek+fb+fs+fun+go+gv+h
     (λ c. omega (arith, c .before .before .before .before .before .before .before .seq .kept, c .before .before .before .before .before .before .before .before .before .before .before .before .before .before .before .before .before .wide .kept, c .before .before .before .before .before .before .before .before .before .before .before .before .before .before .before .before .before .before .before .before .before .put2 .kept))
     (λ c. search needs)
     (λ c. search needs)
-    (vo-returns-4 t))
+    (vo-returns-4 t)
+
+pub +add+ag+an+ar+ba+bi+bl+body+ca+da+db+decl+deep+dh+dr+eb+ek+fb+fs+fun+go+gv+head+ip+item+items+key+keys+kv+lit+lo+mv+node+ns+oa+os+own+pa+plain+prop+ps+pt+read+rest+ro+seq+slot+ta+tb+tg+th+top+turn+va+view+vl+vo-spec : {M : Type 1} → cycle.statement M
++add+ag+an+ar+ba+bi+bl+body+ca+da+db+decl+deep+dh+dr+eb+ek+fb+fs+fun+go+gv+head+ip+item+items+key+keys+kv+lit+lo+mv+node+ns+oa+os+own+pa+plain+prop+ps+pt+read+rest+ro+seq+slot+ta+tb+tg+th+top+turn+va+view+vl+vo-spec =
+    cycle.Tie.close
+    μ-add
+    μ-ag
+    μ-an
+    μ-ar
+    μ-ba
+    μ-bi
+    μ-bl
+    μ-body
+    μ-ca
+    μ-da
+    μ-db
+    μ-decl
+    μ-deep
+    μ-dh
+    μ-dr
+    μ-eb
+    μ-ek
+    μ-fb
+    μ-fs
+    μ-fun
+    μ-go
+    μ-gv
+    μ-head
+    μ-ip
+    μ-item
+    μ-items
+    μ-key
+    μ-keys
+    μ-kv
+    μ-lit
+    μ-lo
+    μ-mv
+    μ-node
+    μ-ns
+    μ-oa
+    μ-os
+    μ-own
+    μ-pa
+    μ-plain
+    μ-prop
+    μ-ps
+    μ-pt
+    μ-read
+    μ-rest
+    μ-ro
+    μ-seq
+    μ-slot
+    μ-ta
+    μ-tb
+    μ-tg
+    μ-th
+    μ-top
+    μ-turn
+    μ-va
+    μ-view
+    μ-vl
+    μ-vo
+    add-spec
+    ag-spec
+    an-spec
+    ar-spec
+    ba-spec
+    bi-spec
+    bl-spec
+    body-spec
+    ca-spec
+    da-spec
+    db-spec
+    decl-spec
+    deep-spec
+    dh-spec
+    dr-spec
+    eb-spec
+    ek-spec
+    fb-spec
+    fs-spec
+    fun-spec
+    go-spec
+    gv-spec
+    head-spec
+    ip-spec
+    item-spec
+    items-spec
+    key-spec
+    keys-spec
+    kv-spec
+    lit-spec
+    lo-spec
+    mv-spec
+    node-spec
+    ns-spec
+    oa-spec
+    os-spec
+    own-spec
+    pa-spec
+    plain-spec
+    prop-spec
+    ps-spec
+    pt-spec
+    read-spec
+    rest-spec
+    ro-spec
+    seq-spec
+    slot-spec
+    ta-spec
+    tb-spec
+    tg-spec
+    th-spec
+    top-spec
+    turn-spec
+    va-spec
+    view-spec
+    vl-spec
+    vo-spec
