@@ -36,8 +36,8 @@ use Rattle.walk.specs.Turns.{turnsOf, AllSuit, AllBind}
 use Rattle.walk.proofs.Running.{does-then, does-as, does-to, does-fresh}
 use Rattle.walk.proofs.Agreeing.{agree-say, agree-then, agree-marked}
 use Rattle.walk.proofs.Args.{does-from}
-use Rattle.walk.proofs.Opened.{ListOpen, BodyOpen, FunctionOpen, ArrowOpen, body-open, function-open, arrow-open, no-good, is-here, good-two}
-use Rattle.walk.proofs.Turning.{turns-11, suit-11, look-solid}
+use Rattle.walk.proofs.Opened.{look-solid, ListOpen, BodyOpen, FunctionOpen, ArrowOpen, body-open, function-open, arrow-open, no-good, is-here, good-two}
+use Rattle.walk.proofs.Turning.{turns-11, suit-11}
 use Rattle.emit.proofs.MovedSizes.{part-join, on-inside, on-more, moves-within, moves-whole, count-within}
 use Rattle.emit.proofs.Moving.{marks-own, inner-place, scoped-place, kind-not, look-as, good-as, node-as, stands-as, slot-on, slot-off, Through, Slotted, Backed}
 

@@ -49,9 +49,9 @@ use Rattle.walk.proofs.Running.{does-then, does-as, does-to, does-fresh}
 use Rattle.walk.proofs.Agreeing.{agree-say, agree-then, agree-unused}
 use Rattle.walk.proofs.Args.{does-from}
 use Rattle.emit.proofs.Moving.{marks-own, scoped-place, cell-one}
-use Rattle.walk.proofs.Opened.{CatchOpen, LoopOpen, no-good, is-here, position-here, good-fits, good-room, declaration-open, block-open, catch-open, for-in-open, for-of-open}
+use Rattle.walk.proofs.Opened.{look-solid, CatchOpen, LoopOpen, no-good, is-here, position-here, good-fits, good-room, declaration-open, block-open, catch-open, for-in-open, for-of-open}
 use Rattle.emit.proofs.MovedSizes.{moves-within, moves-whole, count-within, part-join, on-inside, on-more}
-use Rattle.walk.proofs.Turning.{look-solid, turns-11, suit-11, suit-11-declarators}
+use Rattle.walk.proofs.Turning.{turns-11, suit-11, suit-11-declarators}
 
 module _ (t : List ℕ) where
   -- ---- ags
