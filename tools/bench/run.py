@@ -2,10 +2,10 @@
 
     tools/bench/run.py --reference FOLDER [--library FILE] [--rounds N] [--seconds S] [TREE..]
 
-Wants cc, cargo and patch, and target/staticlib/librest_spread.a, which `rt staticlib rest_spread` makes (or FILE). The
-reference is copied, given a way to measure itself (reference.patch) and built. TREE are names in trees.py; without any,
-all of them are measured. For each tree the two are run by turns, and the least time of a call in all rounds is taken.
-Prints a table: times in microseconds, then the ratios to clearing and copying and to the reference.
+Wants cc and cargo, and target/staticlib/librest_spread.a, which `rt staticlib rest_spread` makes (or FILE). The reference
+measures itself; it is given the depth limit 128. TREE are names in trees.py; without any, all of them are measured. For each
+tree the two are run by turns, and the least time of a call in all rounds is taken. Prints a table: times in microseconds,
+then the ratios to clearing and copying and to the reference.
 """
 import argparse
 import os
@@ -30,13 +30,9 @@ def built_bench(library, folder):
 
 
 def built_reference(source, folder):
-    copy = folder / "reference"
-    run(["cp", "-r", source, copy])
-    run(["chmod", "-R", "u+w", copy])
-    run(["patch", "-s", "-p1", "-d", copy, "-i", HERE / "reference.patch"])
     sources = pathlib.Path(source).resolve().parent / "docs" / "src" / "src"
     env = {**os.environ, "CARGO_TARGET_DIR": str(folder / "target"), "OXC_SOURCES": str(sources)}
-    run(["cargo", "build", "--release", "--offline", "-q"], cwd=copy, env=env)
+    run(["cargo", "build", "--release", "--offline", "-q"], cwd=source, env=env)
     return folder / "target" / "release" / "oracle"
 
 
@@ -51,7 +47,7 @@ def measured(bench, reference, tree, rounds, seconds):
         if reference is None:
             continue
         with open(tree, "rb") as given:
-            command = [reference, "--template-key=node", f"--bench={seconds}"]
+            command = [reference, "--template-key=node", "--limit=128", f"--bench={seconds}"]
             words = run(command, stdin=given, stdout=subprocess.PIPE).stdout.decode().split()
         if int(words[0]) != facts[1]:
             sys.exit(f"{tree}: the answer is {facts[1]}, the reference's {words[0]}")

@@ -38,19 +38,19 @@ say-requires-3 : tie.Need-say-requires-3
 say-requires-3 c κs = search needs
 
 slice-reshare-prefix-say-line : tie.Need-slice-reshare-prefix-say-line
-slice-reshare-prefix-say-line c = handed-within _ _ _ _ _ _ _ (c .before .before .before .before .before .before .before .before .before .before .before .before .before .before .before .rest-spread-lower .ensures) .0
+slice-reshare-prefix-say-line c = handed-within _ _ _ _ _ _ _ _ (c .before .before .before .before .before .before .before .before .before .before .before .before .before .before .before .rest-spread-lower .ensures) .0
 
 slice-aggregate-say-line : tie.Need-slice-aggregate-say-line
-slice-aggregate-say-line c = sym (length-take-le _ _ (handed-within _ _ _ _ _ _ _ (c .before .before .before .before .before .before .before .before .before .before .before .before .before .before .before .before .rest-spread-lower .ensures) .0))
+slice-aggregate-say-line c = sym (length-take-le _ _ (handed-within _ _ _ _ _ _ _ _ (c .before .before .before .before .before .before .before .before .before .before .before .before .before .before .before .before .rest-spread-lower .ensures) .0))
 
 say-line-requires : tie.Need-say-line-requires
 say-line-requires c κs = search needs
 
 slice-reshare-prefix-say-line-2 : tie.Need-slice-reshare-prefix-say-line-2
-slice-reshare-prefix-say-line-2 c = handed-within _ _ _ _ _ _ _ (c .before .before .before .before .before .before .before .before .before .before .before .before .before .before .before .before .before .rest-spread-lower .ensures) .1
+slice-reshare-prefix-say-line-2 c = handed-within _ _ _ _ _ _ _ _ (c .before .before .before .before .before .before .before .before .before .before .before .before .before .before .before .before .before .rest-spread-lower .ensures) .1
 
 slice-aggregate-say-line-2 : tie.Need-slice-aggregate-say-line-2
-slice-aggregate-say-line-2 c = sym (length-take-le _ _ (handed-within _ _ _ _ _ _ _ (c .before .before .before .before .before .before .before .before .before .before .before .before .before .before .before .before .before .before .rest-spread-lower .ensures) .1))
+slice-aggregate-say-line-2 c = sym (length-take-le _ _ (handed-within _ _ _ _ _ _ _ _ (c .before .before .before .before .before .before .before .before .before .before .before .before .before .before .before .before .before .before .rest-spread-lower .ensures) .1))
 
 say-line-requires-2 : tie.Need-say-line-requires-2
 say-line-requires-2 c κs = search needs
