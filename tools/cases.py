@@ -6,16 +6,17 @@
     tools/cases.py --write FOLDER      makes it and stores it
     tools/cases.py --list FOLDER       says what each case is, too
 
-FOLDER has the vector files document01.txt, readings.txt, extra.txt and recorded.txt, whole; they are kept outside the
-repository (loader/tests/data has a part of them). A case's number is the one that vectors prints. The cases of reading
-come first. Such a case is a zero byte; a byte, the
+FOLDER has the vector files, whole; they are kept outside the repository (loader/tests/data has a part of them):
+document01.txt, readings.txt, extra.txt and recorded.txt, which are the base's and run with a depth limit of 64; cr5.txt,
+whose lines have seven words, the first the limit (`-` where none is named); and cr12.txt. A case's number is the one that
+vectors prints. The cases of reading come first. Such a case is a zero byte; two bytes, the limit and the
 expected answer of reading; two 16-bit numbers, the tree's length and the expected next mark (0 on a refusal); then the
 tree. Expected answers are those recorded in the vector files or given here; read.py has to agree with each, and supplies
 the marks.
 
-A case of lowering is a byte 1; the options byte, the expected answer, helper mask and options mask, a byte each; three
-16-bit numbers, the lengths of the tree, of the expected tree and of the expected list; then these three. What is expected
-is recorded in the vector files or given here.
+A case of lowering is a byte 1 where no limit is named, or a byte 2 and the limit, a 32-bit number; the options byte, the
+expected answer, helper mask and options mask, a byte each; three 16-bit numbers, the lengths of the tree, of the expected
+tree and of the expected list; then these three. What is expected is recorded in the vector files or given here.
 """
 import argparse
 import os
@@ -34,27 +35,37 @@ def wide(number):
     return number.to_bytes(2, "little")
 
 
-def encode(number, mark, tree):
-    return bytes([0, number]) + wide(len(tree)) + wide(mark) + tree
+def encode(limit, number, mark, tree):
+    return bytes([0, limit, number]) + wide(len(tree)) + wide(mark) + tree
 
 
-def encode_lowering(options, number, helpers, mask, tree, result, listed):
+def encode_lowering(limit, options, number, helpers, mask, tree, result, listed):
+    kind = b"\1" if limit is None else b"\2" + limit.to_bytes(4, "little")
     lengths = wide(len(tree)) + wide(len(result)) + wide(len(listed))
-    return bytes([1, options, number, helpers, mask]) + lengths + tree + result + listed
+    return kind + bytes([options, number, helpers, mask]) + lengths + tree + result + listed
+
+
+# The base's limit. The vector files with the limit of their cases where the lines name none; None is for a caller who names
+# none either. A part of a file that does not hold yet, by the first words of its head.
+BASE_LIMIT = 64
+FILES = dict.fromkeys(["document01", "readings", "extra", "recorded"], BASE_LIMIT) | {"cr5": None, "cr12": None}
+NOT_YET = "---- the same with request 4 in force"
+# The option that is no longer shown in the mask (request 12). The base's files record masks that show it, and are restated.
+RETIRED = 8
 
 
 class Reading:
     """A stored case of reading."""
 
-    def __init__(self, answer, mark, tree):
-        self.answer, self.mark, self.tree = answer, mark, tree
+    def __init__(self, limit, answer, mark, tree):
+        self.limit, self.answer, self.mark, self.tree = limit, answer, mark, tree
 
 
 class Lowering:
     """A stored case of lowering."""
 
-    def __init__(self, options, answer, helpers, mask, tree, result, listed):
-        self.options, self.answer, self.helpers, self.mask = options, answer, helpers, mask
+    def __init__(self, limit, options, answer, helpers, mask, tree, result, listed):
+        self.limit, self.options, self.answer, self.helpers, self.mask = limit, options, answer, helpers, mask
         self.tree, self.result, self.listed = tree, result, listed
 
 
@@ -75,14 +86,16 @@ def load_stored():
         return data[at - length : at]
 
     while at < len(data):
-        if take(1) == b"\0":
-            answer = take(1)[0]
+        kind = take(1)
+        if kind == b"\0":
+            limit, answer = take(2)
             length, mark = number(), number()
-            found.append(Reading(answer, mark, take(length)))
+            found.append(Reading(limit, answer, mark, take(length)))
         else:
+            limit = None if kind == b"\1" else int.from_bytes(take(4), "little")
             options, answer, helpers, mask = take(4)
             lengths = number(), number(), number()
-            found.append(Lowering(options, answer, helpers, mask, *map(take, lengths)))
+            found.append(Lowering(limit, options, answer, helpers, mask, *map(take, lengths)))
     return found
 
 
@@ -98,9 +111,10 @@ def shown(number, case):
     short = case.tree.hex() if len(case.tree) <= 2000 else f"{len(case.tree)} bytes"
     if isinstance(case, Reading):
         answer = f"0 {len(case.tree)} {case.mark}" if case.answer == 0 else case.answer
-        return [f"case {number}, reading: {as_text(case.tree, False)}", f"  prints {answer}", f"  tree   {short}"]
+        return [f"case {number}, reading, limit {case.limit}: {as_text(case.tree, False)}", f"  prints {answer}", f"  tree   {short}"]
     options = f", options {case.options}" if case.options else ""
-    lines = [f"case {number}, lowering{options}: {as_text(case.tree, False)}"]
+    limit = "" if case.limit is None else f", limit {case.limit}"
+    lines = [f"case {number}, lowering{limit}{options}: {as_text(case.tree, False)}"]
     if case.answer:
         return lines + [f"  gives  {case.answer}", f"  tree   {short}"]
     handed = show.list_text(case.listed)
@@ -112,32 +126,38 @@ def shown(number, case):
 
 
 def lines_of(folder, name):
-    """The cases of a vector file: what each is, and the words of its line."""
-    what = ""
+    """The cases of a vector file: what each is, its limit (None where none is named) and the words of its line."""
+    what, holds = "", True
     with open(os.path.join(folder, name + ".txt")) as lines:
         for at, line in enumerate(lines, 1):
             if line.startswith("#"):
                 what = line[1:].strip()
-            elif line.strip():
-                yield f"{name}:{at} {what}".strip(), line.split()
+                if what.startswith("----"):
+                    holds = not what.startswith(NOT_YET)
+            elif line.strip() and holds:
+                words = line.split()
+                limit = words.pop(0) if len(words) == 7 else "-"
+                yield f"{name}:{at} {what}".strip(), FILES[name] if limit == "-" else int(limit), words
                 what = ""
 
 
 def load(folder, name):
-    """The cases of a vector file: what each is, the answer of reading (None where it is not recorded) and the tree."""
-    for what, (given, number, *_) in lines_of(folder, name):
-        # 1 and 2 come before reading, 3 and 4 from it, all else after it
+    """The cases of a vector file: what each is, its limit, the answer of reading (None where it is not recorded) and the tree."""
+    for what, limit, (given, number, *_) in lines_of(folder, name):
+        # 9 is no limit to read with; 1 and 2 come before reading, 3 and 4 from it, all else after it
+        if number == "9":
+            continue
         reading = {"1": None, "2": None, "3": 3, "4": 4}.get(number, 0)
         # the first byte is the options
-        yield what, reading, bytes.fromhex(given)[1:]
+        yield what, limit or read.DEEPEST, reading, bytes.fromhex(given)[1:]
 
 
 def load_lowerings(folder, name):
     """The same as cases of lowering: what each is, and what encode_lowering takes."""
-    for what, (given, number, helpers, mask, *results) in lines_of(folder, name):
+    for what, limit, (given, number, helpers, mask, *results) in lines_of(folder, name):
         options, tree = bytes.fromhex(given)[0], bytes.fromhex(given)[1:]
         result, listed = (b"" if word == "-" else bytes.fromhex(word) for word in results)
-        yield what, (options, int(number), int(helpers), int(mask), tree, result, listed)
+        yield what, (limit, options, int(number), int(helpers), int(mask) & ~RETIRED, tree, result, listed)
 
 
 def blocks(count):
@@ -160,11 +180,11 @@ def sized(length):
 
 
 def made():
-    """Cases at the edges of the refusals 3 and 4."""
+    """Cases at the edges of the refusals 3 and 4, for a limit of 64 and for the highest."""
     deep = blocks(64)
     cut = deep[:-6]
     array, hole, name = bytes([32, 1]), bytes([1, 0, 0]), bytes([1, 0, 18, 1, 1, 0, 97])
-    return [
+    base = [
         ("empty", 3, b""),
         ("Program without items", 0, blocks(0)),
         ("Program, 63 blocks each in the last", 0, blocks(63)),
@@ -188,6 +208,10 @@ def made():
         ("depth 64: a name", 0, wrapped(61, name[2:])),
         ("a byte after the tree", 3, blocks(1) + b"\0"),
         ("a second Program", 3, blocks(0) + blocks(0)),
+    ]
+    return [(what, BASE_LIMIT, number, tree) for what, number, tree in base] + [
+        ("Program, 127 blocks each in the last", read.DEEPEST, 0, blocks(127)),
+        ("Program, 128 blocks each in the last", read.DEEPEST, 4, blocks(128)),
     ]
 
 
@@ -258,12 +282,12 @@ def made_lowerings():
     listing, long = bytes.fromhex("0101010003030100180101001a011201010061"), sized(16384)
     fits, over = doubled(16340, 2), doubled(16340, 3)
     full, past = handed_out(16285, 4), handed_out(16286, 4)
-    return [
+    base = [
         ("no tree", (0, 3, 0, 0, b"", b"", b"")),
         ("options 16, no tree", (16, 1, 0, 0, b"", b"", b"")),
         ("options 255, a tree", (255, 1, 0, 0, listing, b"", b"")),
         ("options 16, 16,385 bytes", (16, 1, 0, 0, bytes(16385), b"", b"")),
-        ("16,384 bytes, unchanged", (15, 0, 0, 15, long, long, bytes(4))),
+        ("16,384 bytes, unchanged", (15, 0, 0, 7, long, long, bytes(4))),
         ("16,385 bytes, else a tree", (0, 3, 0, 0, sized(16385), b"", b"")),
         ("Program, 64 blocks each in the last", (0, 4, 0, 0, blocks(64), b"", b"")),
         ("a result of 32,768 bytes", (0, 0, 6, 0, *fits, bytes(4))),
@@ -271,17 +295,18 @@ def made_lowerings():
         ("a list of 16,384 bytes", (0, 0, 14, 0, *full)),
         ("a list of 16,385 bytes", (0, 7, 0, 0, past[0], b"", b"")),
     ]
+    return [(what, (BASE_LIMIT, *case)) for what, case in base]
 
 
 def sample(cases):
     """Of the recorded cases that are not long, the 4, fifty 3 and thirty trees, spread evenly."""
-    return spread(cases, [(4, 2000, 100), (3, 500, 50), (0, 300, 30)], lambda case: case[1], lambda case: len(case[2]))
+    return spread(cases, [(4, 2000, 100), (3, 500, 50), (0, 300, 30)], lambda case: case[2], lambda case: len(case[3]))
 
 
 def sample_lowerings(cases):
     """All recorded 5, 6 and 7, the 4; of the others that are not long twenty 1, forty 3 and two hundred trees, spread evenly."""
     counts = [(7, 20000, 10), (6, 20000, 100), (5, 20000, 100), (4, 2000, 100), (3, 500, 40), (1, 500, 20), (0, 1000, 200)]
-    return spread(cases, counts, lambda case: case[1][1], lambda case: sum(map(len, case[1][4:])))
+    return spread(cases, counts, lambda case: case[1][2], lambda case: sum(map(len, case[1][5:])))
 
 
 def spread(cases, counts, answer, size):
@@ -293,30 +318,29 @@ def spread(cases, counts, answer, size):
     return chosen
 
 
-FILES = "document01", "readings", "extra"
-
-
 def stored(folder):
     cases = made()
     for name in FILES:
-        cases += load(folder, name)
-    return cases + sample(list(load(folder, "recorded")))
+        some = load(folder, name)
+        cases += sample(list(some)) if name == "recorded" else some
+    return cases
 
 
 def stored_lowerings(folder):
     cases = made_lowerings()
     for name in FILES:
-        cases += load_lowerings(folder, name)
-    return cases + sample_lowerings(list(load_lowerings(folder, "recorded")))
+        some = load_lowerings(folder, name)
+        cases += sample_lowerings(list(some)) if name == "recorded" else some
+    return cases
 
 
 def expected(cases):
-    """Each tree with its expected answer and mark. Stops where read.py and a recorded answer differ."""
-    for what, number, tree in cases:
-        found, mark = read.answer(tree)
+    """Each tree with its limit, expected answer and mark. Stops where read.py and a recorded answer differ."""
+    for what, limit, number, tree in cases:
+        found, mark = read.answer(tree, limit)
         if number is not None and number != found:
             sys.exit(f"{what}: recorded {number}, read.py says {found}")
-        yield found, mark, tree
+        yield limit, found, mark, tree
 
 
 def summary(numbers, lowered):
@@ -358,10 +382,10 @@ def main():
         sys.exit(f"{error.filename}: {error.strerror}")
     answers = list(expected(cases))
     stream = b"".join(encode(*case) for case in answers) + b"".join(encode_lowering(*case) for _, case in lowerings)
-    lines = summary([number for number, _, _ in answers], [case[1] for _, case in lowerings])
+    lines = summary([number for _, number, _, _ in answers], [case[2] for _, case in lowerings])
     if given.list:
-        names = [(what, number, tree) for (what, _, _), (number, _, tree) in zip(cases, answers)]
-        names += [(what, case[1], case[4]) for what, case in lowerings]
+        names = [(what, number, tree) for (what, *_), (_, number, _, tree) in zip(cases, answers)]
+        names += [(what, case[2], case[5]) for what, case in lowerings]
         for at, (what, number, tree) in enumerate(names, 1):
             print(f"{at}: {number}, {len(tree)} bytes, {what}")
     print(f"{len(stream)} bytes\n{lines}", end="")

@@ -6,7 +6,7 @@
     tools/fuzz.py --vectors FOLDER [--binary FILE]     on all cases of the vector files in FOLDER, of reading and of lowering
 
 The cases go to the program in batches, with the answers of read.py as the expected ones (for the lowering, those of the
-files). Prints each difference with its tree, then the counts. The status is 1 where anything differs.
+files). Each made tree has a depth limit of its own: 64, the highest, or another. Prints each difference with its tree, then the counts. The status is 1 where anything differs.
 """
 import argparse
 import collections
@@ -130,21 +130,21 @@ class Maker:
             self.put(rnd.randrange(65536))
 
 
-def plain(rnd, is_wrong):
+def plain(rnd, is_wrong, limit):
     size = rnd.choice([3, 10, 40, 150])
     maker = Maker(rnd, size, wrong_at=rnd.randint(1, size) if is_wrong else NEVER)
     maker.node("program")
     return bytes(maker.out)
 
 
-def deep(rnd, is_wrong):
-    size, goal, wrong = rnd.choice([0, 100]), rnd.randint(61, 67), rnd.randint(55, 67)
+def deep(rnd, is_wrong, limit):
+    size, goal, wrong = rnd.choice([0, 100]), limit + rnd.randint(-3, 3), limit + rnd.randint(-9, 3)
     maker = Maker(rnd, size, goal, wrong_below=wrong if is_wrong else NEVER)
     maker.node("program")
     return bytes(maker.out)
 
 
-def long(rnd, is_wrong):
+def long(rnd, is_wrong, limit):
     """A tree of a length near the limit: statements, and one more that fills it up."""
     length = read.LONGEST + rnd.choice([-1, 0, 0, 1, 1, 2, rnd.randint(-300, 300)])
     maker = Maker(rnd, 0, wrong_at=rnd.randint(1, 2000) if is_wrong else NEVER)
@@ -193,16 +193,18 @@ def damaged(rnd, tree):
 
 
 def trees(rnd, count):
+    """So many trees, each with its limit."""
     made = 0
     while made < count:
         shape = rnd.choices([plain, deep, long], [60, 38, 2])[0]
+        limit = rnd.choice([64, read.DEEPEST, read.DEEPEST, rnd.randint(1, read.DEEPEST)])
         way = rnd.randrange(3)
-        tree = shape(rnd, way == 1)
+        tree = shape(rnd, way == 1, limit)
         if way == 2:
             tree = damaged(rnd, tree)
         if len(tree) <= ROOM:
             made += 1
-            yield tree
+            yield limit, tree
 
 
 def run(binary, stream, count):
@@ -219,11 +221,12 @@ def run(binary, stream, count):
 
 
 def replay(binary, batch):
-    """Runs the program on expected answers with their trees. Prints the differences; returns how many trees it accepted,
-    refused by 3 and by 4, and how many answers differ."""
+    """Runs the program on limits and expected answers with their trees. Prints the differences; returns how many trees it
+    accepted, refused by 3 and by 4, and how many answers differ."""
     differences, reading, _ = run(binary, b"".join(cases.encode(*case) for case in batch), len(batch))
     for at, difference in differences:
-        print(f"{difference}: {batch[at][2].hex()}")
+        limit, *_, tree = batch[at]
+        print(f"limit {limit}: {difference}: {tree.hex()}")
     counts = re.fullmatch(r"reading: accepted (\d+), refused 3: (\d+), refused 4: (\d+)", reading)
     return [*map(int, counts.groups()), len(differences)]
 
@@ -253,14 +256,15 @@ def main():
     if given.vectors:
         if not os.path.isdir(given.vectors):
             sys.exit(f"{given.vectors}: no such folder")
-        names = sorted(name[:-4] for name in os.listdir(given.vectors) if name.endswith(".txt"))
+        names = list(cases.FILES)
         source = cases.expected(case for name in names for case in cases.load(given.vectors, name))
     else:
-        made = grid() if given.grid else trees(random.Random(given.seed), given.count)
-        source = ((*read.answer(tree), tree) for tree in made)
+        whole = ((read.DEEPEST, tree) for tree in grid())
+        made = whole if given.grid else trees(random.Random(given.seed), given.count)
+        source = ((limit, *read.answer(tree, limit), tree) for limit, tree in made)
     expected, found = collections.Counter(), collections.Counter()
     for batch in batches(source):
-        expected.update(number for number, _, _ in batch)
+        expected.update(number for _, number, _, _ in batch)
         found.update(dict(zip((0, 3, 4, "different"), replay(given.binary, batch))))
     for who, counts in ("expected", expected), ("found", found):
         print(f"{who}: accepted {counts[0]}, refused 3: {counts[3]}, refused 4: {counts[4]}")

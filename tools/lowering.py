@@ -1,17 +1,21 @@
 """Holds a program that lowers to the Rust reference on made trees: valid ones, damaged ones, and ones at the limits.
 
-    tools/lowering.py --reference FILE [--binary FILE] [--stream] [--count N] [--seed N] [--shown N]
+    tools/lowering.py --reference FILE [--binary FILE] [--stream] [--count N] [--seed N] [--shown N] [--deep N] [--limit N]
     tools/lowering.py --reference FILE --grid ..             on the trees of grid.py, which try each rule of the grammar
     tools/lowering.py --reference FILE --vectors FOLDER ..   on the inputs of the vector files in FOLDER
     tools/lowering.py --reference FILE --self-test [--count N] [--seed N]   whether the comparison sees what it should
 
-The reference is the Rust module over stand-ins (docs/DIFFERENCES.md); it is run with --batch --template-key=node. The
-program is `lower`, run once for each case; with --stream it is one that takes many cases: options byte, 16-bit length,
-tree, and so on. Compared are the answer, both masks, and tree and list as equal.py compares results: spelling counts, and
-temporaries by first appearance. How many have other bytes is counted beside that. Whether an input is a tree is asked of
-read.py: where it says 3 or 4 that is what is expected. Prints the first differences with their inputs, trees shrunk;
-then how many cases of each shape had which answer, and in how many a helper stands. The status is 1 where anything
-differs, in either way.
+The reference is the Rust module over stand-ins (docs/DIFFERENCES.md); it is run with --batch --template-key=node --retired,
+so it is given the options without the retired 8. The program is `lower`, run once for each case; with --stream it is one
+that takes many cases: options byte, 16-bit length, tree, and so on. It names no depth limit, which means 128, and the
+reference is given 128. With --limit N, or --limit draw for another limit with each batch, both are given that limit, and the
+program is the loader's command.
+
+Compared are the answer, both masks, and tree and list as equal.py compares results: spelling counts, and temporaries by
+first appearance. How many have other bytes is counted beside that. Whether an input is a tree is asked of read.py: where
+it says 3 or 4 that is what is expected. Of a hundred trees --deep go far down. Prints the first differences with their
+inputs, trees shrunk; then how many cases of each shape had which answer, and in how many a helper stands. The status is 1
+where anything differs, in either way.
 
 --self-test changes one spelling in a result of the reference, of a literal, a quasi, a directive or a literal in the list,
 and each change must be seen; it swaps two temporaries' numbers throughout, and that must not be seen.
@@ -258,7 +262,8 @@ def plain(rnd):
 
 
 def deep(rnd):
-    return made(rnd, rnd.choice([0, 20, 60, 150]), rnd.choice([40, 61, 62, 62, 63, 63, 64, 64, 65, 66]))
+    goal = rnd.choice([40, 61, 62, 63, 64, 65, 66, rnd.randint(65, 128), rnd.randint(65, 128), 124, 125, 126, 127, 128, 129, 130])
+    return made(rnd, rnd.choice([0, 20, 60, 150]), goal)
 
 
 def damaged(rnd):
@@ -379,14 +384,19 @@ def fulls(rnd, reference):
 
 
 def random_options(rnd):
-    return rnd.choices([0, rnd.randrange(16), rnd.choice([16, 128, 255])], [70, 29, 1])[0]
+    return rnd.choices([0, rnd.randrange(16), rnd.randrange(16, 256)], [70, 29, 1])[0]
 
 
-def trees(rnd, count, reference):
-    """(shape, options, tree), so many."""
-    about = fulls(rnd, reference)
+def random_limit(rnd):
+    return rnd.choice([64, 65, 127, 128, rnd.randint(1, 128), rnd.randint(1, 128)])
+
+
+def trees(rnd, count, reference, far):
+    """(shape, options, tree), so many; `far` of a hundred go far down."""
+    about, others = fulls(rnd, reference), (92 - far) / 82
     for _ in range(count):
-        shape = rnd.choices(["valid", "deep", "damaged", "copied", "long", "full"], [52, 10, 30, 4, 1, 3])[0]
+        weights = [52 * others, far, 30 * others, 4, 1, 3]
+        shape = rnd.choices(["valid", "deep", "damaged", "copied", "long", "full"], weights)[0]
         maker = {"valid": plain, "deep": deep, "damaged": damaged, "copied": copied, "long": long}.get(shape)
         yield shape, random_options(rnd), maker(rnd) if maker else next(about)
 
@@ -398,10 +408,10 @@ class Refused(tuple):
         return super().__new__(cls, (number, 0, 0, "", ""))
 
 
-def reference_at(path):
+def reference_at(path, limit):
     def run(batch):
         lines = "".join(f"{options:02x}{tree.hex()}\n" for options, tree in batch)
-        words = [path, "--batch", "--template-key=node"]
+        words = [path, "--batch", "--template-key=node", "--retired", f"--limit={limit or read.DEEPEST}"]
         wrote = subprocess.run(words, input=lines.encode(), stdout=subprocess.PIPE, check=True).stdout.decode().splitlines()
         if len(wrote) != len(batch):
             sys.exit(f"{path}: {len(batch)} cases were sent, {len(wrote)} lines came back")
@@ -417,10 +427,12 @@ def printed(lines):
     return number, helpers, options, lines[1], lines[2]
 
 
-def program_at(path, is_stream):
+def program_at(path, is_stream, limit):
+    words = [path] if limit is None else [path, "--hex", "--options-first", "--depth", str(limit)]
+
     def once(case):
         options, tree = case
-        wrote = subprocess.run([path], input=bytes([options]) + tree, stdout=subprocess.PIPE, check=True).stdout.decode()
+        wrote = subprocess.run(words, input=bytes([options]) + tree, stdout=subprocess.PIPE, check=True).stdout.decode()
         return printed(wrote.split("\n"))
 
     def singly(batch):
@@ -429,7 +441,7 @@ def program_at(path, is_stream):
 
     def stream(batch):
         given = b"".join(bytes([options]) + cases.wide(len(tree)) + tree for options, tree in batch)
-        wrote = subprocess.run([path], input=given, stdout=subprocess.PIPE, check=True).stdout.decode().split("\n")
+        wrote = subprocess.run(words, input=given, stdout=subprocess.PIPE, check=True).stdout.decode().split("\n")
         if len(wrote) != 3 * len(batch) + 1:
             sys.exit(f"{path}: {len(batch)} cases were sent, {len(wrote) - 1} lines came back")
         return [printed(wrote[3 * i : 3 * i + 3]) for i in range(len(batch))]
@@ -437,11 +449,11 @@ def program_at(path, is_stream):
     return stream if is_stream else singly
 
 
-def expected(batch, reference):
+def expected(batch, reference, limit):
     """What should be printed for each case, and how many trees the reference reads otherwise than read.py."""
     wanted, otherwise = [], 0
     for (options, tree), answer in zip(batch, reference(batch)):
-        number = 1 if options > 15 else read.answer(tree)[0]
+        number = 1 if options > 15 else read.answer(tree, limit or read.DEEPEST)[0]
         otherwise += number != (answer[0] if answer[0] in (1, 3, 4) else 0)
         wanted.append(Refused(number) if number else answer)
     return wanted, otherwise
@@ -651,27 +663,32 @@ def main():
     words.add_argument("--grid", action="store_true")
     words.add_argument("--vectors")
     words.add_argument("--self-test", action="store_true")
+    words.add_argument("--deep", type=int, default=10)
+    words.add_argument("--limit")
     given = words.parse_args()
+    rnd = random.Random(given.seed)
     if given.self_test:
-        sys.exit(0 if self_test(random.Random(given.seed), given.count, reference_at(given.reference)) else 1)
-    reference, program = reference_at(given.reference), program_at(given.binary, given.stream)
+        sys.exit(0 if self_test(rnd, given.count, reference_at(given.reference, None)) else 1)
 
     def differs(batch):
-        wanted, _ = expected(batch, reference)
+        wanted, _ = expected(batch, reference, limit)
         return [a != b or not is_equal(a, b) for a, b in zip(wanted, program(batch))]
 
     if given.vectors:
-        names = sorted(name[:-4] for name in os.listdir(given.vectors) if name.endswith(".txt"))
+        names = list(cases.FILES)
         source = (case for name in names for case in recorded(given.vectors, name))
     elif given.grid:
         source = (("grid", 0, tree) for tree in grid.grid())
     else:
-        source = trees(random.Random(given.seed), given.count, reference)
-    counts, total, unequal, different, otherwise = collections.defaultdict(collections.Counter), 0, 0, 0, 0
+        source = trees(rnd, given.count, reference_at(given.reference, None), given.deep)
+    counts, total, unequal, different, otherwise, far = collections.defaultdict(collections.Counter), 0, 0, 0, 0, 0
     while some := list(itertools.islice(source, BATCH)):
+        limit = random_limit(rnd) if given.limit == "draw" else int(given.limit) if given.limit else None
+        reference, program = reference_at(given.reference, limit), program_at(given.binary, given.stream, limit)
         batch = [(options, tree) for _, options, tree in some]
-        wanted, others = expected(batch, reference)
+        wanted, others = expected(batch, reference, limit)
         otherwise += others
+        far += sum(read.answer(tree, 64)[0] == 4 for _, tree in batch)
         for (shape, *_), case, want, got in zip(some, batch, wanted, program(batch)):
             total += 1
             counts[shape][want[0]] += 1
@@ -680,18 +697,18 @@ def main():
             unequal += is_other
             different += has_other_bytes
             if (is_other or has_other_bytes) and max(unequal, different) <= given.shown:
-                if read.answer(case[1])[0] == 0:
+                if read.answer(case[1], limit or read.DEEPEST)[0] == 0:
                     case = shrunk(case, differs)
-                    (want,), _ = expected([case], reference)
+                    (want,), _ = expected([case], reference, limit)
                     (got,) = program([case])
-                print(f"{shape}: {case[0]:02x} {case[1].hex()}\n  expected {text_of(want)}\n  found    {text_of(got)}")
+                print(f"{shape}, limit {limit}: {case[0]:02x} {case[1].hex()}\n  expected {text_of(want)}\n  found    {text_of(got)}")
     counts["all"] = sum(counts.values(), collections.Counter())
     columns = ["lowered", 0, 1, 3, 4, 5, 6, 7]
     print("shape".ljust(10), *(f"{name:>8}" for name in columns), "     all")
     for shape, by in counts.items():
         print(shape.ljust(10), *(f"{by[name]:8}" for name in columns), f"{sum(by.values()) - by['lowered']:8}")
     print(f"the reference reads {otherwise} otherwise than read.py")
-    print(f"{total} cases, {unequal} unequal, {different} with other bytes")
+    print(f"{total} cases, {unequal} unequal, {different} with other bytes; {far} have a node at depth 65")
     sys.exit(1 if unequal or different or not total else 0)
 
 
@@ -699,7 +716,8 @@ def recorded(folder, name):
     with open(os.path.join(folder, name + ".txt")) as lines:
         for line in lines:
             if line.strip() and not line.startswith("#"):
-                case = bytes.fromhex(line.split()[0])
+                # a limit may stand before it
+                case = bytes.fromhex(line.split()[-6])
                 yield name, case[0] if case else 0, case[1:]
 
 

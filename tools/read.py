@@ -1,14 +1,15 @@
 #!/usr/bin/env python3
 """Reads tree bytes: document 01, 'Tree bytes', in Python. It shares nothing with the crates, which are held to it.
 
-    answer(tree) -> (0, next mark), (3, 0) or (4, 0)
+    answer(tree, limit) -> (0, next mark), (3, 0) or (4, 0)
 
 As a program it prints for a tree on standard input what the program treecheck prints.
 """
 import sys
 
 LONGEST = 16384
-DEEPEST = 64
+# The highest limit, and that of a caller who names none.
+DEEPEST = 128
 
 # A form: its name, its kind, and its fields, bit 0 first. A field is
 #   PLACE   a node that may stand at that place    PLACE*  a list of such nodes    PLACE~  the same, holes allowed

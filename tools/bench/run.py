@@ -4,7 +4,8 @@
     tools/bench/run.py [--reference FILE] [--library FILE] [--rounds N] [--seconds S] [TREE..]
 
 Wants cc and target/staticlib/librest_spread.a, which `rt staticlib rest_spread` makes (or FILE). The reference is the
-built program of docs/DIFFERENCES.md; it measures itself (--bench=SECONDS). TREE are names in trees.py; without any, all of
+built program of docs/DIFFERENCES.md; it measures itself (--bench=SECONDS) and is given
+the depth limit 128. TREE are names in trees.py; without any, all of
 them are measured. For each tree the two are run by turns, and the least time of a call in all rounds is taken. Prints a
 table: times in microseconds, then the ratios to clearing and copying and to the reference.
 """
@@ -48,7 +49,7 @@ def measured(bench, reference, tree, rounds, seconds):
         if reference is None:
             continue
         with open(tree, "rb") as given:
-            command = [reference, "--template-key=node", f"--bench={seconds}"]
+            command = [reference, "--template-key=node", "--limit=128", f"--bench={seconds}"]
             words = run(command, stdin=given, stdout=subprocess.PIPE).stdout.decode().split()
         if int(words[0]) != facts[1]:
             sys.exit(f"{tree}: the answer is {facts[1]}, the reference's {words[0]}")

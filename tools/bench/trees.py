@@ -300,19 +300,20 @@ TREES = {
     "plain-16k": lambda: ordinary(LONGEST, False),
     **{f"spreads-{n}": lambda n=n: spreads(n) for n in (337, 675, 1350, 2700)},
     **{f"mixed-{n}": lambda n=n: mixed(n) for n in (250, 500, 1000, 1900)},
-    **{f"literals-{d}-{k}k": lambda d=d, k=k: nested_literals(d, 1024 * k) for d, k in ((30, 4), (60, 4), (30, 16), (60, 16))},
+    **{f"literals-{d}-{k}k": lambda d=d, k=k: nested_literals(d, 1024 * k) for d, k in ((30, 4), (60, 4), (30, 16), (60, 16), (124, 16))},
     **{f"array-{kind}-{n}": lambda n=n, kind=kind: array_rests(n, kind) for kind in ("assignment", "declaration", "parameter") for n in (250, 500, 1000, 2000)},
     **{f"parameters-{n}": lambda n=n: parameters(n) for n in (250, 500, 1000, 1600)},
-    **{f"pattern-{kind}-{d}-{k}k": lambda d=d, k=k, kind=kind: nested_pattern(d, 1024 * k, kind) for kind in ("declaration", "assignment", "arrays") for d, k in ((30, 4), (60, 4), (30, 16), (60, 16))},
-    **{f"arrays-{kind}-{d}": lambda d=d, kind=kind: nested_arrays(d, kind) for kind in ("assignment", "declaration", "parameter") for d in (30, 60)},
-    **{f"loops-{d}": lambda d=d: loops(d) for d in (15, 30, 60)},
-    **{f"templates-{n}": lambda n=n: template_keys(n) for n in (4, 6, 8, 10, 12, 14)},
+    **{f"pattern-{kind}-{d}-{k}k": lambda d=d, k=k, kind=kind: nested_pattern(d, 1024 * k, kind) for kind in ("declaration", "assignment", "arrays") for d, k in ((30, 4), (60, 4), (30, 16), (60, 16), (124, 16))},
+    **{f"arrays-{kind}-{d}": lambda d=d, kind=kind: nested_arrays(d, kind) for kind in ("assignment", "declaration", "parameter") for d in (30, 60, 124)},
+    **{f"loops-{d}": lambda d=d: loops(d) for d in (15, 30, 60, 124)},
+    # 30 keys in each other reach level 124
+    **{f"templates-{n}": lambda n=n: template_keys(n) for n in (4, 6, 8, 10, 12, 14, 30)},
     **{f"templates-{n}-16k": lambda n=n: template_keys(n, LONGEST) for n in (4, 6, 8, 10, 12, 14)},
     **{f"templates-declared-{n}-16k": lambda n=n: template_keys(n, LONGEST, True) for n in (2, 4, 6, 8)},
 }
 
 # the reference would take seconds or minutes for one call
-ALONE = {"templates-10-16k", "templates-12-16k", "templates-14-16k"}
+ALONE = {"templates-10-16k", "templates-12-16k", "templates-14-16k", "templates-30"}
 
 
 def main():

@@ -1,6 +1,6 @@
-// The lowering as a program: reads an options byte (0 if there is none) and a tree from standard input to its end. Prints
-// the answer, the helper mask and the options mask; then the tree, then the list, in hexadecimal. The last two lines are
-// empty on a refusal.
+// The lowering as a program: reads an options byte (0 if there is none) and a tree from standard input to its end; it names no
+// limit. Prints the answer, the helper mask and the options mask; then the tree, then the list, in hexadecimal. The last two
+// lines are empty on a refusal.
 use libc::STDIN_FILENO;
 use libc::STDOUT_FILENO;
 ghost use Rattle.io.specs.Counts.{Counts};

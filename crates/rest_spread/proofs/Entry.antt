@@ -1,11 +1,13 @@
 -- The walk of an accepted tree from its root, begun on cleared slices and ended, gives the definition's outcome.
 -- Assumes nothing.
 use mathlib.Core.Path.{_≡_, refl, sym, ap, _∙_, subst}
-use mathlib.Core.Bool.{Bool, true, false, cond}
+use mathlib.Core.Bool.{Bool, true, false, cond, _||_}
 use mathlib.Core.List.{List, [], _∷_, append-nil}
 use Prim.Native.Nat.{ℕ, zero, suc, _-_, _%_, _<_, _≤_}
 use native.Mathlib.Omega.{arith}
+use lib.Dec.{eqb, ltb}
 use lib.ListN.{length, getD, replicate, length-append}
+use borrow.Author.Tests.{eq-eqb, ne-eqb}
 use Rattle.tree.specs.Tree.{Node}
 use Rattle.tree.specs.Grammar.Stage.{input}
 use Rattle.tree.specs.Read.{Got, Refusal, numberOf, readTree}
@@ -17,13 +19,15 @@ use Rattle.tree.specs.WellFormed.{Bytes}
 use Rattle.tree.specs.Look.{lookNode, Seen}
 use Rattle.tree.proofs.Look as look
 use Rattle.lowering.specs.Weight.{walked}
-use Rattle.lowering.specs.Answer.{Lent, Result, Outcome, top, levels, filled, lowering, outcomeOf, outcome}
+use Rattle.lowering.specs.Refusals.{limitOutside, unknownOptions, smallWork}
+use Rattle.lowering.specs.Answer.{Lent, Result, Outcome, top, highestLimit, limitRefused, inForce, afterReading, filled, lowering, outcomeOf, outcome}
+use Rattle.lowering.proofs.Order.{Admitted, limit-outside, options-unknown, work-small, reading-decides}
 use Rattle.sink.specs.declared.Sink.{Sink}
 use Rattle.sink.specs.declared.Written.{Written}
 use Rattle.sink.specs.Machine.{Event, State, Ended, stateOf, endOf, nothing, steps, start, finished}
 use Rattle.direct.specs.Events.{Deed, Place, contextOf, deeds, emits}
 use Rattle.outcome.specs.Named.{firstRefused, eventsIn, outcomeFrom}
-use Rattle.outcome.proofs.Every.{tree-refused, tree-lowered, walk-refused}
+use Rattle.outcome.proofs.Every.{accepted-outcome, accepted-refusal}
 use Rattle.outcome.proofs.Calm.{emits-sound}
 use Rattle.walk.specs.Run.{met, Full, Way, Does}
 use Rattle.walk.specs.Run.Way.{whole, full}
@@ -109,57 +113,6 @@ handed-over options o l w r e h f =
     ap (λ (b : Bool). handedBack (record { answer = cond b 0 7; helpers = r .helpers; options = cond b options 0; «tree_len» = r .tree; «list_len» = r .list }) o l w) (sym f)
     ∙ ap (outcomeFrom options) h
 
--- ---- the walk of an accepted tree
-
-module _ (options : ℕ) (tree out list work : List ℕ) (mark : ℕ) (each : (i : ℕ) → getD tree i 0 < 256)
-    (o l w : List ℕ) (k : Sink) (begun : stateOf o l w k ≡ start (length out) (length list) (length work) mark)
-    (o′ l′ w′ : List ℕ) (k′ : Sink) (r′ : ℕ)
-    (does : Good tree 64 0 → Does (record { state = stateOf o l w k; refusal = 0 }) (record { state = stateOf o′ l′ w′ k′; refusal = r′ })
-    (emits (record { root = true; statement = false; mark = 0 }) (lookNode tree 64 0 .value)))
-  where
-    module _ (n : Node) (q : ℕ) (read : readTree input levels tree ≡ got n q mark) where
-      ends : Way (start (length out) (length list) (length work) mark) (stateOf o′ l′ w′ k′) (eventsIn (deeds mark 0 (walked top n))) × (r′ ≡ firstRefused (deeds mark 0 (walked top n)))
-      ends =
-          let c : Place = record { root = true; statement = false; mark = 0 } in
-          let d : Does (record { state = stateOf o l w k; refusal = 0 }) (record { state = stateOf o′ l′ w′ k′; refusal = r′ }) (emits c n) =
-          subst (λ (x : Seen Node). Does (record { state = stateOf o l w k; refusal = 0 }) (record { state = stateOf o′ l′ w′ k′; refusal = r′ }) (emits c (x .value)))
-          (look.tree-stands tree input levels n q mark read)
-          (does (accepted-good levels tree n q mark (each-byte tree each) read)) in
-          walked-to (length out) (length list) (length work) mark c n (stateOf o l w k) (stateOf o′ l′ w′ k′) 0 r′ refl begun refl d
-
-    -- something is refused
-    pub ends-refused : (x : Outcome) → 0 < r′ → length o′ ≡ length out → length l′ ≡ length list → length w′ ≡ length work
-        → x ≡ outcomeOf (lentOf o′ l′ w′) (Result.refusal r′)
-        → (n : Node) (q : ℕ) → options ≤ 15 → 65536 ≤ length work → readTree input levels tree ≡ got n q mark
-        → x ≡ outcome options tree (lentOf out list work)
-    ends-refused x some a b c e n q known big read =
-        let s : Lent = lentOf out list work in
-        let y : x ≡ outcomeOf s (Result.refusal r′) =
-        e ∙ ap (λ (u : Lent). outcomeOf u (Result.refusal r′)) (lent-kept (length out) (length list) (length work) (length o′) (length l′) (length w′) a b c) in
-        y ∙ sym (by-number r′ some (ends n q read .1))
-      where
-        by-number : (r : ℕ) → 0 < r → r ≡ firstRefused (deeds mark 0 (walked top n)) → outcome options tree (lentOf out list work) ≡ outcomeOf (lentOf out list work) (Result.refusal r)
-        by-number zero h f = absurd (omega arith)
-        by-number (suc r) h f = walk-refused options known tree (lentOf out list work) big (each-byte tree each) n q mark read r (sym f)
-
-    -- nothing is
-    ends-handed : (x : Outcome) → r′ ≡ 0 → x ≡ outcomeFrom options (finished (stateOf o′ l′ w′ k′))
-        → (n : Node) (q : ℕ) → options ≤ 15 → 65536 ≤ length work → readTree input levels tree ≡ got n q mark
-        → x ≡ outcome options tree (lentOf out list work)
-    ends-handed x none′ e n q known big read =
-        e ∙ ap (outcomeFrom options) (way-ends (length out) (length list) (length work) mark (stateOf o′ l′ w′ k′) _ (omega arith) (ends n q read .0))
-        ∙ sym (tree-lowered options known tree (lentOf out list work) big (each-byte tree each) n q mark read (sym (ends n q read .1) ∙ none′))
-
-    pub ends-fits : (o″ l″ w″ : List ℕ) (v : Written) → r′ ≡ 0 → endOf o″ l″ w″ v ≡ finished (stateOf o′ l′ w′ k′) → v .fits ≡ true
-        → (n : Node) (q : ℕ) → options ≤ 15 → 65536 ≤ length work → readTree input levels tree ≡ got n q mark
-        → handedBack (record { answer = 0; helpers = v .helpers; options = options; «tree_len» = v .tree; «list_len» = v .list }) o″ l″ w″ ≡ outcome options tree (lentOf out list work)
-    ends-fits o″ l″ w″ v none′ e f = ends-handed _ none′ (handed-fits options o″ l″ w″ v (finished (stateOf o′ l′ w′ k′)) e f)
-
-    pub ends-over : (o″ l″ w″ : List ℕ) (v : Written) → r′ ≡ 0 → endOf o″ l″ w″ v ≡ finished (stateOf o′ l′ w′ k′) → v .fits ≡ false
-        → (n : Node) (q : ℕ) → options ≤ 15 → 65536 ≤ length work → readTree input levels tree ≡ got n q mark
-        → handedBack (record { answer = 7; helpers = v .helpers; options = 0; «tree_len» = v .tree; «list_len» = v .list }) o″ l″ w″ ≡ outcome options tree (lentOf out list work)
-    ends-over o″ l″ w″ v none′ e f = ends-handed _ none′ (handed-over options o″ l″ w″ v (finished (stateOf o′ l′ w′ k′)) e f)
-
 -- ---- what the reader answers
 
 refused-by : (g : Got Node) (m : ℕ) → Refused m ≡ answer g → (r : Refusal) × ((g ≡ Got.refused r) × (m ≡ numberOf r))
@@ -172,22 +125,109 @@ unfolding answer
 read-by (got n p k) q j e = (n, cc)
 read-by (Got.refused r) q j e = let w : _≡_ {A = ℕ} 0 1 = cc in absurd (omega arith)
 
-module _ (options : ℕ) (tree out list work : List ℕ) (known : options ≤ 15) (big : 65536 ≤ length work) (x : Outcome) (a : Answer) (answered : a ≡ answer (readTree input 64 tree)) where
-  -- no tree, or one too deep
-  pub entry-refused : (m : ℕ) → a ≡ Refused m → x ≡ outcomeOf (lentOf out list work) (Result.refusal m) → x ≡ outcome options tree (lentOf out list work)
-  entry-refused m e h =
-      let g : (r : Refusal) × ((readTree input 64 tree ≡ Got.refused r) × (m ≡ numberOf r)) = refused-by (readTree input 64 tree) m (sym e ∙ answered) in
-      h ∙ ap (λ (k : ℕ). outcomeOf (lentOf out list work) (Result.refusal k)) (g .1 .1)
-      ∙ sym (tree-refused options known tree (lentOf out list work) big (g .0) (g .1 .0))
+-- ---- the limit that is tested
 
-  -- a tree: the options are the number's low four bits
-  pub entry-lowered : (q j : ℕ) → a ≡ Read q j
-      → ((n : Node) (q : ℕ) → options % 16 ≤ 15 → 65536 ≤ length work → readTree input levels tree ≡ got n q j → x ≡ outcome (options % 16) tree (lentOf out list work))
-      → x ≡ outcome options tree (lentOf out list work)
-  entry-lowered q j e h =
-      let g : (n : Node) × (readTree input 64 tree ≡ got n q j) = read-by (readTree input 64 tree) q j (sym e ∙ answered) in
-      let low : options % 16 ≡ options = omega arith in
-      h (g .0) q (omega arith) big (g .1) ∙ ap (λ (k : ℕ). outcome k tree (lentOf out list work)) low
+pub limit-zero : (limit : ℕ) → limit ≡ 0 → eqb limit 0 ≡ limitRefused limit
+limit-zero limit e = rw (eq-eqb limit 0 e) refl
+
+pub limit-some : (limit : ℕ) → (limit ≡ 0 → ⊥) → ltb highestLimit limit ≡ limitRefused limit
+limit-some limit e = rw (ne-eqb limit 0 e) refl
+
+-- ---- the call
+
+module _ (limit options : ℕ) (tree out list work : List ℕ) where
+  abbrev s : Lent
+  s = lentOf out list work
+
+  -- the walk of an accepted tree
+  module _ (mark : ℕ) (each : (i : ℕ) → getD tree i 0 < 256)
+      (o l w : List ℕ) (k : Sink) (begun : stateOf o l w k ≡ start (length out) (length list) (length work) mark)
+      (o′ l′ w′ : List ℕ) (k′ : Sink) (r′ : ℕ)
+      (does : Good tree limit 0 → Does (record { state = stateOf o l w k; refusal = 0 }) (record { state = stateOf o′ l′ w′ k′; refusal = r′ })
+      (emits (record { root = true; statement = false; mark = 0 }) (lookNode tree limit 0 .value)))
+    where
+      module _ (n : Node) (q : ℕ) (read : readTree input limit tree ≡ got n q mark) where
+        ends : Way (start (length out) (length list) (length work) mark) (stateOf o′ l′ w′ k′) (eventsIn (deeds mark 0 (walked top n))) × (r′ ≡ firstRefused (deeds mark 0 (walked top n)))
+        ends =
+            let c : Place = record { root = true; statement = false; mark = 0 } in
+            let d : Does (record { state = stateOf o l w k; refusal = 0 }) (record { state = stateOf o′ l′ w′ k′; refusal = r′ }) (emits c n) =
+            subst (λ (x : Seen Node). Does (record { state = stateOf o l w k; refusal = 0 }) (record { state = stateOf o′ l′ w′ k′; refusal = r′ }) (emits c (x .value)))
+            (look.tree-stands tree input limit n q mark read)
+            (does (accepted-good limit tree n q mark (each-byte tree each) read)) in
+            walked-to (length out) (length list) (length work) mark c n (stateOf o l w k) (stateOf o′ l′ w′ k′) 0 r′ refl begun refl d
+
+      -- something is refused
+      pub ends-refused : (x : Outcome) → 0 < r′ → length o′ ≡ length out → length l′ ≡ length list → length w′ ≡ length work
+          → x ≡ outcomeOf (lentOf o′ l′ w′) (Result.refusal r′)
+          → (n : Node) (q : ℕ) → 65536 ≤ length work → readTree input limit tree ≡ got n q mark
+          → x ≡ outcomeOf s (afterReading options s (got n q mark))
+      unfolding afterReading
+      ends-refused x some a b c e n q big read =
+          e ∙ ap (λ (u : Lent). outcomeOf u (Result.refusal r′)) (lent-kept (length out) (length list) (length work) (length o′) (length l′) (length w′) a b c)
+          ∙ ap (outcomeOf s) (sym (by-number r′ some (ends n q read .1)))
+        where
+          by-number : (r : ℕ) → 0 < r → r ≡ firstRefused (deeds mark 0 (walked top n)) → afterReading options s (got n q mark) ≡ Result.refusal r
+          by-number zero h f = absurd (omega arith)
+          by-number (suc r) h f = accepted-refusal limit tree (each-byte tree each) n q mark read options s r (sym f)
+
+      -- nothing is
+      ends-handed : (x : Outcome) → r′ ≡ 0 → x ≡ outcomeFrom options (finished (stateOf o′ l′ w′ k′))
+          → (n : Node) (q : ℕ) → 65536 ≤ length work → readTree input limit tree ≡ got n q mark
+          → x ≡ outcomeOf s (afterReading options s (got n q mark))
+      unfolding afterReading
+      ends-handed x none′ e n q big read =
+          e ∙ ap (outcomeFrom options) (way-ends (length out) (length list) (length work) mark (stateOf o′ l′ w′ k′) _ (omega arith) (ends n q read .0))
+          ∙ accepted-outcome limit tree (each-byte tree each) n q mark read options s (omega arith) (sym (ends n q read .1) ∙ none′)
+
+      pub ends-fits : (o″ l″ w″ : List ℕ) (v : Written) → r′ ≡ 0 → endOf o″ l″ w″ v ≡ finished (stateOf o′ l′ w′ k′) → v .fits ≡ true
+          → (n : Node) (q : ℕ) → 65536 ≤ length work → readTree input limit tree ≡ got n q mark
+          → handedBack (record { answer = 0; helpers = v .helpers; options = options; «tree_len» = v .tree; «list_len» = v .list }) o″ l″ w″
+          ≡ outcomeOf s (afterReading options s (got n q mark))
+      ends-fits o″ l″ w″ v none′ e f = ends-handed _ none′ (handed-fits options o″ l″ w″ v (finished (stateOf o′ l′ w′ k′)) e f)
+
+      pub ends-over : (o″ l″ w″ : List ℕ) (v : Written) → r′ ≡ 0 → endOf o″ l″ w″ v ≡ finished (stateOf o′ l′ w′ k′) → v .fits ≡ false
+          → (n : Node) (q : ℕ) → 65536 ≤ length work → readTree input limit tree ≡ got n q mark
+          → handedBack (record { answer = 7; helpers = v .helpers; options = 0; «tree_len» = v .tree; «list_len» = v .list }) o″ l″ w″
+          ≡ outcomeOf s (afterReading options s (got n q mark))
+      ends-over o″ l″ w″ v none′ e f = ends-handed _ none′ (handed-over options o″ l″ w″ v (finished (stateOf o′ l′ w′ k′)) e f)
+
+  -- what is handed back is the outcome, where it is asked for before the tree is read: `refused` is what the test gave
+  module _ (x : Outcome) (refused : Bool) (tested : refused ≡ limitRefused limit) where
+    pub entry-limit : refused ≡ true → x ≡ outcomeOf s (Result.refusal limitOutside) → x ≡ outcome limit options tree s
+    unfolding outcome
+    entry-limit t h = h ∙ ap (outcomeOf s) (sym (limit-outside limit options tree s (sym tested ∙ t)))
+
+    pub entry-options : refused ≡ false → 15 < options → x ≡ outcomeOf s (Result.refusal unknownOptions) → x ≡ outcome limit options tree s
+    unfolding outcome
+    entry-options t u h = h ∙ ap (outcomeOf s) (sym (options-unknown limit options tree s (sym tested ∙ t) u))
+
+    pub entry-work : refused ≡ false → options ≤ 15 → length work < 65536 → x ≡ outcomeOf s (Result.refusal smallWork) → x ≡ outcome limit options tree s
+    unfolding outcome
+    entry-work t k u h = h ∙ ap (outcomeOf s) (sym (work-small limit options tree s (sym tested ∙ t) k u))
+
+    -- and where the reader answers
+    module _ (free : refused ≡ false) (known : options ≤ 15) (big : 65536 ≤ length work) (a : Answer) (answered : a ≡ answer (readTree input limit tree)) where
+      decided : (g : Got Node) → readTree input limit tree ≡ g → outcome limit options tree s ≡ outcomeOf s (afterReading (inForce options) s g)
+      unfolding outcome
+      decided g e =
+          ap (outcomeOf s) (reading-decides limit options tree s (record { allowed = sym tested ∙ free; known = known; roomy = big }))
+          ∙ ap (λ (h : Got Node). outcomeOf s (afterReading (inForce options) s h)) e
+
+      -- no tree, or one too deep
+      pub entry-refused : (m : ℕ) → a ≡ Refused m → x ≡ outcomeOf s (Result.refusal m) → x ≡ outcome limit options tree s
+      unfolding afterReading
+      entry-refused m e h =
+          let g : (r : Refusal) × ((readTree input limit tree ≡ Got.refused r) × (m ≡ numberOf r)) = refused-by (readTree input limit tree) m (sym e ∙ answered) in
+          h ∙ ap (λ (k : ℕ). outcomeOf s (Result.refusal k)) (g .1 .1) ∙ sym (decided (Got.refused (g .0)) (g .1 .0))
+
+      -- a tree: it is lowered with the options in force
+      pub entry-lowered : (q j : ℕ) → a ≡ Read q j
+          → ((n : Node) (q : ℕ) → 65536 ≤ length work → readTree input limit tree ≡ got n q j → x ≡ outcomeOf s (afterReading (options % 8) s (got n q j)))
+          → x ≡ outcome limit options tree s
+      unfolding inForce
+      entry-lowered q j e h =
+          let g : (n : Node) × (readTree input limit tree ≡ got n q j) = read-by (readTree input limit tree) q j (sym e ∙ answered) in
+          h (g .0) q big (g .1) ∙ sym (decided (got (g .0) q j) (g .1))
 
 -- ---- for callers
 
@@ -200,8 +240,8 @@ lengths-within s (Result.lowered helpers options t l) =
     (omega arith, omega arith)
 
 -- the lengths that are handed back lie within the slices
-pub handed-within : (options : ℕ) (tree : List ℕ) (s : Lent) (r : Lowered) (o l w : List ℕ) → handedBack r o l w ≡ outcome options tree s
+pub handed-within : (limit options : ℕ) (tree : List ℕ) (s : Lent) (r : Lowered) (o l w : List ℕ) → handedBack r o l w ≡ outcome limit options tree s
     → (r .«tree_len» ≤ length o) × (r .«list_len» ≤ length l)
 unfolding outcome
-handed-within options tree s r o l w e =
-    subst (λ (x : Outcome). (x .treeLength ≤ length (x .treeOut)) × (x .listLength ≤ length (x .listOut))) (sym e) (lengths-within s (lowering levels options tree s))
+handed-within limit options tree s r o l w e =
+    subst (λ (x : Outcome). (x .treeLength ≤ length (x .treeOut)) × (x .listLength ≤ length (x .listOut))) (sym e) (lengths-within s (lowering limit options tree s))

@@ -15,7 +15,7 @@ ghost use Rattle.tree.specs.Grammar.Stage.{input};
 ghost use Rattle.tree.specs.Read.{readTree};
 ghost use Rattle.tree.specs.Read.Got.{got};
 ghost use Rattle.tree.specs.WellFormed.{Bytes};
-ghost use Rattle.lowering.specs.Answer.{Result, levels, outcomeOf, outcome};
+ghost use Rattle.lowering.specs.Answer.{Result, highestLimit, limitRefused, afterReading, outcomeOf, outcome};
 ghost use Rattle.rest_spread.specs.Entry.{lentOf, handedBack};
 
 // Document 01's answer (0, or the number of a refusal), the mask of helpers, that of options, and the lengths of tree and list.
@@ -42,8 +42,9 @@ fn refuse(answer: u8, out: &mut [u8], list: &mut [u8], work: &mut [u8]) -> Lower
     }
 }
 
-// The walk of an accepted tree, whose next mark is given.
+// The walk of a tree that is accepted within the limit, whose next mark is given.
 fn lower(
+    limit: usize,
     options: u8,
     tree: &[u8],
     out: &mut [u8],
@@ -51,7 +52,7 @@ fn lower(
     work: &mut [u8],
     mark: usize,
 ) -> Lowered
-    ensures { λ r. ⌜ ((n : Node) (q : ℕ) → options ≤ 15 → 65536 ≤ length (now (work .entry)) → readTree input levels (now (tree .entry)) ≡ got n q mark → handedBack r (now (out .exit)) (now (list .exit)) (now (work .exit)) ≡ outcome options (now (tree .entry)) (lentOf (now (out .entry)) (now (list .entry)) (now (work .entry)))) ⌝ }
+    ensures { λ r. ⌜ ((n : Node) (q : ℕ) → 65536 ≤ length (now (work .entry)) → readTree input limit (now (tree .entry)) ≡ got n q mark → handedBack r (now (out .exit)) (now (list .exit)) (now (work .exit)) ≡ outcomeOf (lentOf (now (out .entry)) (now (list .entry)) (now (work .entry))) (afterReading options (lentOf (now (out .entry)) (now (list .entry)) (now (work .entry))) (got n q mark))) ⌝ }
 {
     let k = ends::begin(out, list, work, mark);
     let w = Walk {
@@ -63,7 +64,7 @@ fn lower(
         root: true,
         statement: false,
         mark: 0,
-        left: 64,
+        left: limit,
     };
     let v = node(w, tree, out, list, work, c);
     let refusal = v.refusal;
@@ -90,7 +91,53 @@ fn lower(
     }
 }
 
-// The lowering: document 01's first section. Any bytes, any options, slices of any lengths.
+// The highest limit, which is also that of a caller who names none (request 5).
+const HIGHEST_LIMIT: u32 = 128;
+
+fn limit_refused(limit: u32) -> bool
+    ensures { λ r. ⌜ r ≡ limitRefused limit ⌝ }
+{
+    limit == 0 || HIGHEST_LIMIT < limit
+}
+
+// The lowering of a tree of at most `depth` levels: document 01's first section with request 5's limit. Any bytes, any limit, any
+// options, slices of any lengths.
+#[no_mangle]
+pub extern "C" fn rest_spread_lower_within(
+    depth: u32,
+    options: u32,
+    tree: &[u8],
+    tree_out: &mut [u8],
+    list_out: &mut [u8],
+    work: &mut [u8],
+) -> Lowered
+    ensures { λ r. ⌜ handedBack r (now («tree_out» .exit)) (now («list_out» .exit)) (now (work .exit)) ≡ outcome depth options (now (tree .entry)) (lentOf (now («tree_out» .entry)) (now («list_out» .entry)) (now (work .entry))) ⌝ }
+{
+    if limit_refused(depth) {
+        return refuse(9, tree_out, list_out, work);
+    }
+    if 15 < options {
+        return refuse(1, tree_out, list_out, work);
+    }
+    if work.len() < 65536 {
+        return refuse(2, tree_out, list_out, work);
+    }
+    let limit = depth as usize;
+    match read::read_tree(tree, limit) {
+        Answer::Refused(n) => refuse(n, tree_out, list_out, work),
+        Answer::Read(_, mark) => lower(
+            limit,
+            (options % 8) as u8,
+            tree,
+            tree_out,
+            list_out,
+            work,
+            mark,
+        ),
+    }
+}
+
+// The same where no limit is named.
 #[no_mangle]
 pub extern "C" fn rest_spread_lower(
     options: u32,
@@ -99,16 +146,7 @@ pub extern "C" fn rest_spread_lower(
     list_out: &mut [u8],
     work: &mut [u8],
 ) -> Lowered
-    ensures { λ r. ⌜ handedBack r (now («tree_out» .exit)) (now («list_out» .exit)) (now (work .exit)) ≡ outcome options (now (tree .entry)) (lentOf (now («tree_out» .entry)) (now («list_out» .entry)) (now (work .entry))) ⌝ }
+    ensures { λ r. ⌜ handedBack r (now («tree_out» .exit)) (now («list_out» .exit)) (now (work .exit)) ≡ outcome highestLimit options (now (tree .entry)) (lentOf (now («tree_out» .entry)) (now («list_out» .entry)) (now (work .entry))) ⌝ }
 {
-    if 15 < options {
-        return refuse(1, tree_out, list_out, work);
-    }
-    if work.len() < 65536 {
-        return refuse(2, tree_out, list_out, work);
-    }
-    match read::read_tree(tree, 64) {
-        Answer::Refused(n) => refuse(n, tree_out, list_out, work),
-        Answer::Read(_, mark) => lower((options % 16) as u8, tree, tree_out, list_out, work, mark),
-    }
+    rest_spread_lower_within(HIGHEST_LIMIT, options, tree, tree_out, list_out, work)
 }

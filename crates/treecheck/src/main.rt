@@ -1,11 +1,11 @@
 // Reads a tree from standard input to its end. Prints 0, the number of its bytes and the next mark; or the number of
-// the refusal.
+// the refusal. It names no limit.
 use libc::STDIN_FILENO;
 use libc::STDOUT_FILENO;
 use tree::read::Answer;
 
-// Document 01: no node at depth 65.
-const LIMIT: usize = 64;
+// The limit where none is named (request 5).
+const LIMIT: usize = 128;
 
 fn report(answer: Answer) {
     match answer {

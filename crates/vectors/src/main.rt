@@ -1,6 +1,6 @@
-// Replays stored cases from standard input. The first byte of a case says what it is of: 0 reading, 1 lowering. Prints a line
-// for each disagreement, then how many trees the reader answered how, how many cases of lowering there were and how often
-// the entry was called, then the number of cases and of disagreements.
+// Replays stored cases from standard input. The first byte of a case says what it is of: 0 reading, 1 lowering where no limit is
+// named, 2 lowering within a limit. Prints a line for each disagreement, then how many trees the reader answered how, how many
+// cases of lowering there were and how often the entries were called, then the number of cases and of disagreements.
 mod reading;
 mod rewriting;
 mod tally;
@@ -18,6 +18,7 @@ fn next_case(t: Tally) -> Tally {
     match kind[0] {
         0 => reading::case(t),
         1 => rewriting::case(t),
+        2 => rewriting::case_within(t),
         _ => t.broken(b": it is of no kind\n"),
     }
 }

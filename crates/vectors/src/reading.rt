@@ -1,5 +1,5 @@
-// A case of reading is the expected answer (a byte: 0, 3 or 4), the length of its tree and the expected next mark (16 bits
-// each, little-endian; the mark is 0 on a refusal), then the tree.
+// A case of reading is the depth limit and the expected answer (a byte each; the answer is 0, 3 or 4), the length of its tree
+// and the expected next mark (16 bits each, little-endian; the mark is 0 on a refusal), then the tree.
 use crate::tally::Tally;
 use crate::tally::say;
 use crate::tally::say_number;
@@ -7,11 +7,9 @@ use crate::tally::wide;
 use libc::STDIN_FILENO;
 use tree::read::Answer;
 
-// Document 01: no node at depth 65.
-const LIMIT: usize = 64;
-
 // What stands in front of a case's tree.
 struct Head {
+    limit: usize,
     answer: u8,
     length: usize,
     mark: usize,
@@ -32,11 +30,12 @@ fn say_answer(answer: u8, end: usize, mark: usize) {
     say_number(mark as u64);
 }
 
-fn head_of(bytes: &[u8; 5]) -> Head {
+fn head_of(bytes: &[u8; 6]) -> Head {
     Head {
-        answer: bytes[0],
-        length: wide(bytes[1], bytes[2]),
-        mark: wide(bytes[3], bytes[4]),
+        limit: wide(bytes[0], 0),
+        answer: bytes[1],
+        length: wide(bytes[2], bytes[3]),
+        mark: wide(bytes[4], bytes[5]),
     }
 }
 
@@ -57,7 +56,7 @@ fn found_of(answer: Answer) -> Found {
 
 // What comes of a case: its tree is read, and the answer compared with the expected one.
 fn judged(t: Tally, head: Head, tree: &[u8]) -> Tally {
-    let found = found_of(tree::read::read_tree(tree, LIMIT));
+    let found = found_of(tree::read::read_tree(tree, head.limit));
     let end = if head.answer == 0 { head.length } else { 0 };
     let t = t.read(found.answer);
     if found.answer == head.answer && found.end == end && found.mark == head.mark {
@@ -91,9 +90,9 @@ fn placed(t: Tally, head: Head, space: &mut [u8]) -> Tally {
 }
 
 pub fn case(t: Tally) -> Tally {
-    let mut bytes = [0u8; 5];
+    let mut bytes = [0u8; 6];
     let n = io::read_full(STDIN_FILENO, &mut bytes);
-    if n < 5 {
+    if n < 6 {
         return t.broken(b": the input ends in it\n");
     }
     let mut space = [0u8; 20000];

@@ -1,7 +1,8 @@
 // A case of lowering is the options; the expected answer, helper mask and options mask (a byte each); the lengths of the
 // tree, of the expected tree and of the expected list (16 bits each, little-endian; the last two are 0 on a refusal); then
-// the three. The entry is called on slices with bytes to spare and on ones that are as long as what they have to hold, or a
-// byte shorter. Before a call no byte of them is 0; after it every byte is compared.
+// the three. Before it stands its depth limit, if it names one (32 bits, little-endian), and the entry that is called is the
+// one that takes a limit, or the one that takes none. It is called on slices with bytes to spare and on ones that are as long
+// as what they have to hold, or a byte shorter. Before a call no byte of them is 0; after it every byte is compared.
 use crate::tally::Tally;
 use crate::tally::say;
 use crate::tally::say_number;
@@ -9,8 +10,15 @@ use crate::tally::wide;
 use libc::STDIN_FILENO;
 use rest_spread::Lowered;
 
+// The limit of a case; its number is 0 where none is named.
+struct Limit {
+    named: bool,
+    number: u32,
+}
+
 // What stands in front of a case's tree, expected tree and expected list.
 struct Head {
+    limit: Limit,
     options: u8,
     answer: u8,
     helpers: u8,
@@ -20,8 +28,9 @@ struct Head {
     list: usize,
 }
 
-// One call: the options and the lengths of the slices that are lent, and what it has to return beside lengths.
+// One call: limit, options and the lengths of the slices that are lent, and what it has to return beside lengths.
 struct Call {
+    limit: Limit,
     options: u8,
     tree: usize,
     list: usize,
@@ -31,8 +40,13 @@ struct Call {
     mask: u8,
 }
 
-fn head_of(bytes: &[u8; 10]) -> Head {
+fn number(a: u8, b: u8, c: u8, d: u8) -> u32 {
+    a as u32 + 256 * (b as u32) + 65536 * (c as u32) + 16777216 * (d as u32)
+}
+
+fn head_of(limit: Limit, bytes: &[u8; 10]) -> Head {
     Head {
+        limit: limit,
         options: bytes[0],
         answer: bytes[1],
         helpers: bytes[2],
@@ -113,6 +127,16 @@ fn compared(
     t
 }
 
+// The entry of a case: the one that takes a limit, if it names one.
+fn entered(call: Call, tree: &[u8], out: &mut [u8], list: &mut [u8], work: &mut [u8]) -> Lowered {
+    let limit = call.limit;
+    let options = call.options as u32;
+    if limit.named {
+        return rest_spread::rest_spread_lower_within(limit.number, options, tree, out, list, work);
+    }
+    rest_spread::rest_spread_lower(options, tree, out, list, work)
+}
+
 // The call, on slices that are lent whole.
 fn made(
     t: Tally,
@@ -125,7 +149,7 @@ fn made(
     list: &mut [u8],
     work: &mut [u8],
 ) -> Tally {
-    let r = rest_spread::rest_spread_lower(call.options as u32, tree, out, list, work);
+    let r = entered(call, tree, out, list, work);
     compared(t.called(), name, r, call, result, listed, out, list, work)
 }
 
@@ -180,7 +204,9 @@ fn tried(t: Tally, name: &[u8], call: Call, tree: &[u8], result: &[u8], listed: 
 
 // Slices with bytes to spare.
 fn spare(head: Head) -> Call {
+    let limit = head.limit;
     Call {
+        limit: limit,
         options: head.options,
         tree: 33000,
         list: 17000,
@@ -193,7 +219,9 @@ fn spare(head: Head) -> Call {
 
 // Slices just long enough.
 fn exact(head: Head) -> Call {
+    let limit = head.limit;
     Call {
+        limit: limit,
         options: head.options,
         tree: head.result,
         list: head.list,
@@ -205,9 +233,11 @@ fn exact(head: Head) -> Call {
 }
 
 // Slices that are too short.
-fn short(options: u8, tree: usize, list: usize, work: usize, answer: u8) -> Call {
+fn short(head: Head, tree: usize, list: usize, work: usize, answer: u8) -> Call {
+    let limit = head.limit;
     Call {
-        options: options,
+        limit: limit,
+        options: head.options,
         tree: tree,
         list: list,
         work: work,
@@ -223,21 +253,27 @@ fn one_less(n: usize) -> usize {
 
 // A tree that is lowered: slices as long as tree and list, and the one or the other a byte shorter.
 fn narrow(t: Tally, head: Head, tree: &[u8], result: &[u8], listed: &[u8]) -> Tally {
-    let options = head.options;
     let a = head.result;
     let b = head.list;
-    let tree_short = short(options, one_less(a), b, 65536, 7);
-    let list_short = short(options, a, one_less(b), 65536, 7);
+    let tree_short = short(head, one_less(a), b, 65536, 7);
+    let list_short = short(head, a, one_less(b), 65536, 7);
     let t = tried(t, b": just long enough", exact(head), tree, result, listed);
     let t = tried(t, b": tree slice too short", tree_short, tree, b"", b"");
     tried(t, b": list slice too short", list_short, tree, b"", b"")
 }
 
+// What a case is answered with where the work slice is too short: 9 and 1 come before 2.
+fn without_work(head: Head) -> u8 {
+    let limit = head.limit;
+    if limit.named && (limit.number == 0 || 128 < limit.number) {
+        return 9;
+    }
+    if 15 < head.options { 1 } else { 2 }
+}
+
 // What comes of a case.
 fn judged(t: Tally, head: Head, tree: &[u8], result: &[u8], listed: &[u8]) -> Tally {
-    let options = head.options;
-    let answer = if 15 < options { 1 } else { 2 };
-    let work_short = short(options, 33000, 17000, 65535, answer);
+    let work_short = short(head, 33000, 17000, 65535, without_work(head));
     let t = t.answered(head.answer);
     let t = tried(t, b": bytes to spare", spare(head), tree, result, listed);
     let t = tried(t, b": work slice too short", work_short, tree, b"", b"");
@@ -269,7 +305,7 @@ fn placed(t: Tally, head: Head, tree: &mut [u8], result: &mut [u8], listed: &mut
     filled(t, head, &mut tree[..a], &mut result[..b], &mut listed[..c])
 }
 
-pub fn case(t: Tally) -> Tally {
+fn limited(t: Tally, limit: Limit) -> Tally {
     let mut bytes = [0u8; 10];
     let n = io::read_full(STDIN_FILENO, &mut bytes);
     if n < 10 {
@@ -278,5 +314,36 @@ pub fn case(t: Tally) -> Tally {
     let mut tree = [0u8; 20000];
     let mut result = [0u8; 32768];
     let mut listed = [0u8; 16384];
-    placed(t, head_of(&bytes), &mut tree, &mut result, &mut listed)
+    placed(
+        t,
+        head_of(limit, &bytes),
+        &mut tree,
+        &mut result,
+        &mut listed,
+    )
+}
+
+pub fn case(t: Tally) -> Tally {
+    limited(
+        t,
+        Limit {
+            named: false,
+            number: 0,
+        },
+    )
+}
+
+pub fn case_within(t: Tally) -> Tally {
+    let mut bytes = [0u8; 4];
+    let n = io::read_full(STDIN_FILENO, &mut bytes);
+    if n < 4 {
+        return t.broken(b": the input ends in it\n");
+    }
+    limited(
+        t,
+        Limit {
+            named: true,
+            number: number(bytes[0], bytes[1], bytes[2], bytes[3]),
+        },
+    )
 }
