@@ -1,7 +1,8 @@
 // The five functions that lowered code calls, under document 01's names, and the four that these call. They need ECMAScript 2015.
 //
-// They are helpers of Babel (https://github.com/babel/babel), @babel/helpers 7.27. Changed: Babel calls the five _objectSpread2,
-// _extends, _objectDestructuringEmpty, _objectWithoutProperties and toPropertyKey.
+// They are helpers of Babel (https://github.com/babel/babel), as @babel/helpers 7.27 has them. Changed: Babel calls the five
+// _objectSpread2, _extends, _objectDestructuringEmpty, _objectWithoutProperties and toPropertyKey. tools/helpers.js runs them beside a
+// copy of @babel/runtime.
 //
 // MIT License. Copyright (c) 2014-present Sebastian McKenzie and other contributors. NOTICE has the licence's text.
 
