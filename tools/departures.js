@@ -8,6 +8,7 @@
 
 const acorn = require('internal/deps/acorn/acorn/dist/acorn');
 const { spawnSync } = require('child_process');
+const fs = require('fs');
 const path = require('path');
 const vm = require('vm');
 
@@ -258,19 +259,10 @@ function shortText(tree, list) {
   return show(tree) + (entries.length ? '  list ' + entries.join('; ') : '');
 }
 
-// ---- Babel's helpers
+// ---- Babel's helpers, under the short names that the printer writes
 
-const HELPERS = `
-function toPrimitive(t, r) { if ("object" != typeof t || !t) return t; var e = t[Symbol.toPrimitive]; if (void 0 !== e) { var i = e.call(t, r || "default"); if ("object" != typeof i) return i; throw new TypeError("@@toPrimitive must return a primitive value."); } return ("string" === r ? String : Number)(t); }
-function K(t) { var i = toPrimitive(t, "string"); return "symbol" == typeof i ? i : i + ""; }
-function defineProperty(e, r, t) { return (r = K(r)) in e ? Object.defineProperty(e, r, { value: t, enumerable: !0, configurable: !0, writable: !0 }) : e[r] = t, e; }
-function ownKeys(e, r) { var t = Object.keys(e); if (Object.getOwnPropertySymbols) { var o = Object.getOwnPropertySymbols(e); r && (o = o.filter(function (r) { return Object.getOwnPropertyDescriptor(e, r).enumerable; })), t.push.apply(t, o); } return t; }
-function S(e) { for (var r = 1; r < arguments.length; r++) { var t = null != arguments[r] ? arguments[r] : {}; r % 2 ? ownKeys(Object(t), !0).forEach(function (r) { defineProperty(e, r, t[r]); }) : Object.getOwnPropertyDescriptors ? Object.defineProperties(e, Object.getOwnPropertyDescriptors(t)) : ownKeys(Object(t)).forEach(function (r) { Object.defineProperty(e, r, Object.getOwnPropertyDescriptor(t, r)); }); } return e; }
-function X() { return X = Object.assign ? Object.assign.bind() : function (n) { for (var e = 1; e < arguments.length; e++) { var t = arguments[e]; for (var r in t) ({}).hasOwnProperty.call(t, r) && (n[r] = t[r]); } return n; }, X.apply(null, arguments); }
-function E(t) { if (null == t) throw new TypeError("Cannot destructure " + t); }
-function loose(r, e) { if (null == r) return {}; var t = {}; for (var n in r) if ({}.hasOwnProperty.call(r, n)) { if (-1 !== e.indexOf(n)) continue; t[n] = r[n]; } return t; }
-function W(e, t) { if (null == e) return {}; var o, r, i = loose(e, t); if (Object.getOwnPropertySymbols) { var n = Object.getOwnPropertySymbols(e); for (r = 0; r < n.length; r++) o = n[r], -1 === t.indexOf(o) && {}.propertyIsEnumerable.call(e, o) && (i[o] = e[o]); } return i; }
-`;
+const HELPERS = fs.readFileSync(path.join(__dirname, '..', 'helpers', 'helpers.js'), 'utf8')
+  + 'var S = ObjectSpread2, X = Extends, E = ObjectDestructuringEmpty, W = ObjectWithoutProperties, K = ToPropertyKey;\n';
 
 // ---- the cases: the program; what runs before it and is not lowered; what is looked at behind it (`it` is the program's own value);
 // what the original shows, and the lowered program. `bound` are the names that have a symbol. `log` is there for notes, and

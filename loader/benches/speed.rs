@@ -8,7 +8,7 @@
 mod common;
 
 use common::cases::{stored, to_hex};
-use common::make::{blocks, key_twice, other, pad, program, rests, spreads};
+use common::make::{blocks, key_twice, other, padded, program, rests, spreads};
 use rest_spread::{Lowerer, Options, LIST_OUT, TREE_IN, TREE_OUT, WORK};
 use std::env;
 use std::ffi::OsStr;
@@ -40,21 +40,21 @@ fn trees() -> Vec<(&'static str, Vec<u8>)> {
     let mut recorded: Vec<_> = cases.iter().filter(|c| c.answer == 0 && c.name.starts_with("recorded")).collect();
     recorded.sort_by_key(|case| case.tree.len());
     let of_length = |part: usize| recorded[(recorded.len() - 1) * part / 100].tree.clone();
-    let plain: Vec<Vec<u8>> = (1..=1_000).map(|mark| other(mark, 8)).collect();
+    let plain = vec![other(8); 1_000];
     vec![
-        ("the empty program", program(&[])),
+        ("the empty program", program([])),
         ("a slip handler", remark("a slip handler")),
         ("a loop over channels", remark("a loop over channels")),
         ("recorded, of median length", of_length(50)),
         ("recorded, at nine tenths", of_length(90)),
         ("recorded, the longest", of_length(100)),
-        ("60 levels of blocks", blocks(59, &[spreads(60, 1)])),
-        ("a whole tree, nothing to lower", pad(program(&plain), 1_001, TREE_IN)),
-        ("a whole tree, one literal", pad(program(&[spreads(1, 2_300)]), 2, TREE_IN)),
-        ("the longest result", program(&[rests(1, 839), other(2, 28)])),
-        ("the longest list", program(&[key_twice(1, 8_163)])),
-        ("refused at its last byte", [pad(program(&plain), 1_001, TREE_IN - 1), vec![0]].concat()),
-        ("refused with 7", program(&[rests(1, 1_000)])),
+        ("60 levels of blocks", blocks(59, [spreads(1)])),
+        ("a whole tree, nothing to lower", padded(&plain, TREE_IN)),
+        ("a whole tree, one literal", padded(&[spreads(2_300)], TREE_IN)),
+        ("the longest result", program([rests(839), other(28)])),
+        ("the longest list", program([key_twice(8_163)])),
+        ("refused at its last byte", [padded(&plain, TREE_IN - 1), vec![0]].concat()),
+        ("refused with 7", program([rests(1_000)])),
     ]
 }
 

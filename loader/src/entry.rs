@@ -1,10 +1,19 @@
-//! The archive's one function. All `unsafe` of this crate is here.
+//! The functions of the archives. All `unsafe` of this crate is here.
 
 #![allow(unsafe_code)]
 
 use std::mem::{offset_of, size_of};
 
-/// What the function returns. The bytes that it writes are in the slices.
+/// What [`lower`] returns. The bytes that it writes are in the slices.
+///
+/// ```
+/// use rest_spread::entry;
+///
+/// let (mut tree, mut list, mut work) = ([1; 100], [1; 100], vec![1; 65_536]);
+/// let outcome = entry::lower(0, b"\x01\x01\x00\x00", &mut tree, &mut list, &mut work);
+/// assert_eq!((outcome.answer, outcome.tree_len, outcome.list_len), (0, 4, 4));
+/// assert!(tree[4..].iter().chain(&list[4..]).chain(&work).all(|&byte| byte == 0));
+/// ```
 #[repr(C)]
 #[derive(Clone, Copy, Debug, PartialEq, Eq)]
 pub struct Outcome {
@@ -27,6 +36,8 @@ const _: () = assert!(offset_of!(Outcome, options) == 2 && offset_of!(Outcome, t
 const _: () = assert!(offset_of!(Outcome, list_len) == 16);
 
 extern "C" {
+    fn rest_spread_version() -> u32;
+
     // In Rattle each slice is one parameter. It is passed as its address and its length.
     fn rest_spread_lower(
         options: u32,
@@ -41,11 +52,20 @@ extern "C" {
     ) -> Outcome;
 }
 
+/// The version of the archive that was linked. It is [`ARCHIVE`](crate::ARCHIVE), or a [`Lowerer`](crate::Lowerer) would
+/// not be made.
+#[must_use]
+pub fn version() -> u32 {
+    // SAFETY: the function has no arguments, reads and writes nothing, and ends.
+    unsafe { rest_spread_version() }
+}
+
 /// Lowers `tree` into `tree_out` and `list_out`.
 ///
 /// Any options, any bytes and slices of any lengths will do; whatever the slices held before is of no account. After
 /// success both outputs are zero behind their lengths. After a refusal they are zero throughout. `work` is zero after
 /// every call.
+#[must_use]
 pub fn lower(options: u32, tree: &[u8], tree_out: &mut [u8], list_out: &mut [u8], work: &mut [u8]) -> Outcome {
     // SAFETY: the function is proved for every input: it reads `tree`, writes the three others, stays inside each of
     // them and ends. That the four lie apart and live until it returns is seen to by their types.

@@ -2,8 +2,20 @@
 
 use std::fmt;
 
+/// `helpers/helpers.js` of the repository.
+const SOURCE: &str = include_str!("../../helpers/helpers.js");
+
 /// A function that lowered code calls, with document 01's numbers.
+///
+/// ```
+/// use rest_spread::Helper;
+///
+/// let helper = Helper::from_number(2).unwrap();
+/// assert_eq!((helper, helper.name(), helper.function()), (Helper::Extends, "extends", "Extends"));
+/// assert!(helper.source().starts_with("function Extends() {"));
+/// ```
 #[derive(Clone, Copy, Debug, PartialEq, Eq, PartialOrd, Ord, Hash)]
+#[non_exhaustive]
 #[repr(u8)]
 pub enum Helper {
     /// Copies sources into an object: the spreads of a literal.
@@ -20,7 +32,7 @@ pub enum Helper {
 
 impl Helper {
     /// All helpers, by number.
-    pub const ALL: [Helper; 5] = [
+    pub const ALL: &'static [Helper] = &[
         Helper::ObjectSpread2,
         Helper::Extends,
         Helper::ObjectDestructuringEmpty,
@@ -29,16 +41,19 @@ impl Helper {
     ];
 
     /// The number that a Helper node (kind 21) has.
+    #[must_use]
     pub fn number(self) -> u8 {
         self as u8
     }
 
     /// The helper with this number.
+    #[must_use]
     pub fn from_number(number: u8) -> Option<Self> {
-        Self::ALL.into_iter().find(|helper| helper.number() == number)
+        Self::ALL.iter().copied().find(|helper| helper.number() == number)
     }
 
     /// Babel's name for it.
+    #[must_use]
     pub fn name(self) -> &'static str {
         match self {
             Helper::ObjectSpread2 => "objectSpread2",
@@ -46,6 +61,32 @@ impl Helper {
             Helper::ObjectDestructuringEmpty => "objectDestructuringEmpty",
             Helper::ObjectWithoutProperties => "objectWithoutProperties",
             Helper::ToPropertyKey => "toPropertyKey",
+        }
+    }
+
+    /// The name of its function in [`source`](Self::source): document 01's name for it.
+    #[must_use]
+    pub fn function(self) -> &'static str {
+        self.functions()[self.functions().len() - 1]
+    }
+
+    /// Babel's text of it: its function, and in front of that the functions that it calls. [`Helpers::source`] has the
+    /// text of several. Babel's licence, MIT, is in the repository's NOTICE.
+    #[must_use]
+    pub fn source(self) -> &'static str {
+        let functions = self.functions();
+        let (first, last) = (function(functions[0]), function(functions[functions.len() - 1]));
+        &SOURCE[first.0..last.1]
+    }
+
+    /// The functions of its text, which stand one behind the other in the file, its own last.
+    fn functions(self) -> &'static [&'static str] {
+        match self {
+            Helper::ObjectSpread2 => &["toPrimitive", "ToPropertyKey", "_defineProperty", "ownKeys", "ObjectSpread2"],
+            Helper::Extends => &["Extends"],
+            Helper::ObjectDestructuringEmpty => &["ObjectDestructuringEmpty"],
+            Helper::ObjectWithoutProperties => &["_objectWithoutPropertiesLoose", "ObjectWithoutProperties"],
+            Helper::ToPropertyKey => &["toPrimitive", "ToPropertyKey"],
         }
     }
 
@@ -60,7 +101,27 @@ impl fmt::Display for Helper {
     }
 }
 
+/// Where a function begins and ends in the file. `helpers.js` is compiled in, and a test has each.
+fn function(name: &str) -> (usize, usize) {
+    let begin = SOURCE.find(&format!("function {name}(")).expect("helpers.js has the function");
+    let end = SOURCE[begin..].find("\n}\n").expect("a function ends");
+    (begin, begin + end + "\n}\n".len())
+}
+
 /// A set of helpers. It prints as their names.
+///
+/// ```
+/// use rest_spread::{Helper, Lowerer, Options};
+///
+/// // ({...a})
+/// let tree = b"\x01\x01\x01\x00\x03\x03\x01\x00\x18\x01\x01\x00\x1a\x01\x12\x01\x01\x00a";
+/// let mut lowerer = Lowerer::new();
+/// let helpers = lowerer.lower(Options::NONE, tree)?.helpers;
+/// assert!(helpers.contains(Helper::ObjectSpread2));
+/// assert_eq!(helpers.to_string(), "objectSpread2");
+/// assert!(helpers.source().contains("function ObjectSpread2("));
+/// # Ok::<(), rest_spread::Refusal>(())
+/// ```
 #[derive(Clone, Copy, Debug, Default, PartialEq, Eq, Hash)]
 pub struct Helpers(u8);
 
@@ -69,24 +130,40 @@ impl Helpers {
         Self(bits)
     }
 
+    /// All five.
+    pub const ALL: Helpers = Helpers(31);
+
     /// The mask: bit 0 for number 1, and so on.
+    #[must_use]
     pub fn bits(self) -> u8 {
         self.0
     }
 
     /// Whether it is in the set.
+    #[must_use]
     pub fn contains(self, helper: Helper) -> bool {
         self.0 & helper.bit() != 0
     }
 
     /// Whether none is.
+    #[must_use]
     pub fn is_empty(self) -> bool {
         self.0 == 0
     }
 
     /// Those in the set, by number.
     pub fn iter(self) -> impl Iterator<Item = Helper> {
-        Helper::ALL.into_iter().filter(move |&helper| self.contains(helper))
+        Helper::ALL.iter().copied().filter(move |&helper| self.contains(helper))
+    }
+
+    /// The text of all in the set, each function once. A loader runs it ahead of the lowered script.
+    #[must_use]
+    pub fn source(self) -> String {
+        let mut texts: Vec<(usize, usize)> =
+            self.iter().flat_map(|h| h.functions()).map(|name| function(name)).collect();
+        texts.sort_unstable();
+        texts.dedup();
+        texts.iter().map(|&(begin, end)| &SOURCE[begin..end]).collect::<Vec<_>>().join("\n")
     }
 }
 
@@ -118,6 +195,28 @@ mod tests {
         }
         assert_eq!(Helpers::from_bits(0).to_string(), "none");
         assert_eq!(Helpers::from_bits(9).to_string(), "objectSpread2, objectWithoutProperties");
+    }
+
+    #[test]
+    fn each_has_its_text() {
+        for &helper in Helper::ALL {
+            let source = helper.source();
+            for name in helper.functions() {
+                assert!(source.contains(&format!("function {name}(")), "{name}");
+            }
+            let begins =
+                source.match_indices("function ").filter(|(at, _)| *at == 0 || source[..*at].ends_with("\n\n"));
+            assert_eq!(begins.count(), helper.functions().len(), "{helper}");
+            assert!(
+                source.ends_with("\n}\n") && source.matches('{').count() == source.matches('}').count(),
+                "{helper}"
+            );
+            assert_eq!(helper.function(), format!("{helper:?}"));
+        }
+        let all = Helpers::ALL.source();
+        assert_eq!(all.matches("\nfunction ").count() + 1, 9, "each function once");
+        assert!(SOURCE.ends_with(&format!("\n\n{all}")), "all of the file");
+        assert_eq!(Helpers::default().source(), "");
     }
 
     #[test]

@@ -18,34 +18,57 @@
 //!
 //! | Module | Holds |
 //! |---|---|
-//! | [`entry`] | the archive's one function, with all the `unsafe` there is |
+//! | [`entry`] | the archive's functions, with all the `unsafe` there is |
 //! | [`Lowerer`], [`Lowered`] | the safe layer: buffers that are used again, and what a call hands back |
-//! | [`Refusal`] | why a tree was not lowered, and what to do about it |
-//! | [`Helpers`], [`Options`] | the masks, by name |
-//! | [`List`], [`Node`] | what the list hands out, down to the nodes in it |
+//! | [`Refusal`], [`Explained`] | why a tree was not lowered, where, and what to do about it |
+//! | [`Helpers`], [`Options`] | the masks, by name, and the helpers' text |
+//! | [`List`], [`Node`], [`Walk`] | what the list hands out; reading trees |
+//! | [`Make`] | making trees |
+//! | [`Leftover`] | object rest and spread that stay in a result |
 //!
 //! `docs/FORMAT.md` of the repository describes the tree bytes.
 
 #![deny(unsafe_code)]
 #![warn(missing_docs)]
 
+mod advice;
+#[cfg(test)]
+#[path = "../tests/common/draw.rs"]
+#[allow(dead_code)]
+mod draw;
 pub mod entry;
+mod grammar;
 mod helpers;
+mod kind;
+mod leftover;
 mod list;
 mod lowerer;
+mod make;
 mod node;
 mod options;
+mod parts;
 mod refusal;
+mod walk;
 
+pub use advice::{Advice, Explained};
+pub use grammar::{Fault, Trouble};
 pub use helpers::{Helper, Helpers};
+pub use kind::Kind;
+pub use leftover::{Left, Leftover};
 pub use list::{Declarator, Declarators, Entries, Entry, List};
 pub use lowerer::{Lowered, Lowerer};
-pub use node::{Field, Items, Node};
+pub use make::{Make, Unfit};
+pub use node::{Field, Fields, Item, Items, Node};
 pub use options::Options;
 pub use refusal::Refusal;
+pub use walk::{Path, Step, Turn, Walk};
 
+/// The version of the archive that this crate is for. It goes up with what the archive's functions promise.
+pub const ARCHIVE: u32 = 1;
 /// The longest tree that is read.
 pub const TREE_IN: usize = 16_384;
+/// The deepest: the Program is at level 1.
+pub const LEVELS: usize = 64;
 /// The longest tree that is written.
 pub const TREE_OUT: usize = 32_768;
 /// The longest list that is written.

@@ -1,18 +1,41 @@
 //! The list that belongs to a lowered tree.
 
-use crate::node::{read_number, Field, Items, Node, DECLARATOR, TEMPORARY};
+use crate::kind::Kind;
+use crate::node::{read_number, Field, Item, Items, Node};
 
 /// The declarations that a lowered tree needs outside itself.
 ///
 /// A loader declares each entry's temporaries right before the statement that has the entry's mark, and the excluded
 /// keys ahead of the whole program.
-#[derive(Clone, Copy, Debug)]
+///
+/// ```
+/// use rest_spread::List;
+///
+/// // one entry: before statement 1, temporary 2
+/// let list = List::new(b"\x01\x00\x01\x00\x01\x00\x05\x01\x14\x01\x02\x00\x00\x00");
+/// assert!(list.is_whole());
+/// for entry in list.entries() {
+///     let temporaries: Vec<_> = entry.declarators.map(|declarator| declarator.temporary()).collect();
+///     assert_eq!((entry.mark, temporaries), (1, vec![Some(2)]));
+/// }
+/// assert_eq!(list.excluded().count(), 0);
+/// ```
+#[derive(Clone, Copy, Debug, PartialEq, Eq)]
 pub struct List<'a> {
     bytes: &'a [u8],
 }
 
 /// What one rewritten assignment hands out.
-#[derive(Clone, Debug)]
+///
+/// ```
+/// # let list = rest_spread::List::new(b"\x01\x00\x07\x00\x01\x00\x05\x01\x14\x01\x02\x00\x00\x00");
+/// for entry in list.entries() {
+///     println!("before statement {}: {} temporaries", entry.mark, entry.declarators.count());
+/// }
+/// # assert_eq!(list.entries().next().unwrap().mark, 7);
+/// ```
+#[derive(Clone, Debug, PartialEq, Eq)]
+#[non_exhaustive]
 pub struct Entry<'a> {
     /// The mark of the statement that the declarators belong before.
     pub mark: u16,
@@ -21,60 +44,84 @@ pub struct Entry<'a> {
 }
 
 /// A temporary, and the value that it starts with if it has one.
+///
+/// ```
+/// use rest_spread::{Kind, List};
+///
+/// // an excluded key list: $2 = []
+/// let list = List::new(b"\x00\x00\x01\x00\x05\x03\x14\x01\x02\x00\x20\x01\x00\x00");
+/// let declarator = list.excluded().next().unwrap();
+/// assert_eq!(declarator.temporary(), Some(2));
+/// assert_eq!(declarator.value().map(|value| value.kind()), Some(Kind::Array));
+/// ```
 #[derive(Clone, Copy, Debug, PartialEq, Eq)]
 pub struct Declarator<'a> {
     node: Node<'a>,
 }
 
 /// The entries of a list.
-#[derive(Clone, Debug)]
+///
+/// ```
+/// let list = rest_spread::List::new(&[0; 4]);
+/// assert!(list.entries().next().is_none());
+/// ```
+#[derive(Clone, Debug, PartialEq, Eq)]
 pub struct Entries<'a> {
     left: u16,
     bytes: &'a [u8],
 }
 
 /// The declarators of an entry, or of the excluded keys.
-#[derive(Clone, Debug)]
+///
+/// ```
+/// let list = rest_spread::List::new(b"\x00\x00\x01\x00\x05\x03\x14\x01\x02\x00\x20\x01\x00\x00");
+/// let numbers: Vec<_> = list.excluded().map(|declarator| declarator.temporary()).collect();
+/// assert_eq!(numbers, [Some(2)]);
+/// ```
+#[derive(Clone, Debug, PartialEq, Eq)]
 pub struct Declarators<'a>(Items<'a>);
 
 impl<'a> List<'a> {
     /// The list that these bytes are. Bytes that are no list have the entries that can be made out; see
     /// [`is_whole`](Self::is_whole).
+    #[must_use]
     pub fn new(bytes: &'a [u8]) -> Self {
         Self { bytes }
     }
 
     /// All of it.
+    #[must_use]
     pub fn bytes(self) -> &'a [u8] {
         self.bytes
     }
 
     /// The entries, in the order of the walk.
+    #[must_use]
     pub fn entries(self) -> Entries<'a> {
         let (left, bytes) = read_number(self.bytes).unwrap_or((0, &[]));
         Entries { left, bytes }
     }
 
     /// The excluded keys: temporaries, each with an array of strings and templates.
+    #[must_use]
     pub fn excluded(self) -> Declarators<'a> {
-        let mut entries = self.entries();
-        while entries.next().is_some() {}
-        match read_number(entries.bytes) {
-            Some((count, bytes)) if entries.left == 0 => Declarators(Items::new(count, bytes)),
-            _ => Declarators(Items::new(0, &[])),
-        }
+        self.last().map_or(Declarators(Items::default()), |(excluded, _)| excluded)
     }
 
     /// Whether the bytes are a list and nothing else, with a temporary in each declarator. After a success they are.
+    #[must_use]
     pub fn is_whole(self) -> bool {
+        let named = |mut declarators: Declarators<'a>| declarators.all(|declarator| declarator.temporary().is_some());
+        let entries = self.entries().all(|entry| named(entry.declarators));
+        entries && self.last().is_some_and(|(excluded, behind)| named(excluded) && behind.is_empty())
+    }
+
+    /// The declarators behind all entries, and what follows them.
+    fn last(self) -> Option<(Declarators<'a>, &'a [u8])> {
         let mut entries = self.entries();
-        let mut excluded = self.excluded();
-        entries.by_ref().all(|mut entry| entry.declarators.all(|declarator| declarator.temporary().is_some()))
-            && entries.left == 0
-            && read_number(entries.bytes).is_some()
-            && excluded.by_ref().all(|declarator| declarator.temporary().is_some())
-            && excluded.0.left() == 0
-            && excluded.0.behind().is_empty()
+        entries.by_ref().for_each(drop);
+        let (count, bytes) = read_number(entries.bytes).filter(|_| entries.left == 0)?;
+        Items::read(count, bytes, false).map(|(items, behind)| (Declarators(items), behind))
     }
 }
 
@@ -85,13 +132,8 @@ impl<'a> Iterator for Entries<'a> {
         let left = self.left.checked_sub(1)?;
         let (mark, bytes) = read_number(self.bytes)?;
         let (count, bytes) = read_number(bytes)?;
-        let declarators = Items::new(count, bytes);
-        let mut walk = declarators.clone();
-        while walk.next().is_some() {}
-        if walk.left() > 0 {
-            return None;
-        }
-        *self = Entries { left, bytes: walk.behind() };
+        let (declarators, bytes) = Items::read(count, bytes, false)?;
+        *self = Entries { left, bytes };
         Some(Entry { mark, declarators: Declarators(declarators) })
     }
 }
@@ -100,19 +142,21 @@ impl<'a> Iterator for Declarators<'a> {
     type Item = Declarator<'a>;
 
     fn next(&mut self) -> Option<Declarator<'a>> {
-        self.0.next().map(|node| Declarator { node })
+        self.0.next().and_then(Item::node).map(|node| Declarator { node })
     }
 }
 
 impl<'a> Declarator<'a> {
     /// All of it, a node of kind 5.
+    #[must_use]
     pub fn bytes(self) -> &'a [u8] {
         self.node.bytes()
     }
 
     /// The number of its temporary.
+    #[must_use]
     pub fn temporary(self) -> Option<u16> {
-        let id = self.part(0).filter(|id| id.kind() == TEMPORARY)?;
+        let id = self.part(0).filter(|id| id.kind() == Kind::Temporary)?;
         match id.field(0) {
             Some(Field::Number(number)) => Some(number),
             _ => None,
@@ -120,13 +164,14 @@ impl<'a> Declarator<'a> {
     }
 
     /// The value that the temporary starts with.
+    #[must_use]
     pub fn value(self) -> Option<Node<'a>> {
         self.part(1)
     }
 
     fn part(self, number: usize) -> Option<Node<'a>> {
         match self.node.field(number) {
-            Some(Field::Node(part)) if self.node.kind() == DECLARATOR => Some(part),
+            Some(Field::Node(part)) if self.node.kind() == Kind::Declarator => Some(part),
             _ => None,
         }
     }
@@ -151,11 +196,11 @@ mod tests {
         let entries: Vec<Entry> = list.entries().collect();
         assert_eq!((entries.len(), entries[0].mark), (1, 1));
         let named: Vec<_> =
-            entries[0].declarators.clone().map(|d| (d.temporary(), d.value().map(Node::name))).collect();
-        assert_eq!(named, [(Some(1), None), (Some(3), Some("Call")), (Some(2), Some("Call"))]);
+            entries[0].declarators.clone().map(|d| (d.temporary(), d.value().map(Node::kind))).collect();
+        assert_eq!(named, [(Some(1), None), (Some(3), Some(Kind::Call)), (Some(2), Some(Kind::Call))]);
         let excluded: Vec<_> = list.excluded().collect();
         assert_eq!((excluded.len(), excluded[0].temporary()), (1, Some(4)));
-        assert_eq!(excluded[0].value().unwrap().name(), "Array");
+        assert_eq!(excluded[0].value().unwrap().kind(), Kind::Array);
         assert_eq!(excluded[0].bytes(), &LIST[LIST.len() - 18..]);
     }
 
@@ -183,7 +228,7 @@ mod tests {
                 let values =
                     list.entries().flat_map(|e| e.declarators).chain(list.excluded()).filter_map(|d| d.value());
                 assert!(values.count() <= LIST.len());
-                list.is_whole();
+                let _ = list.is_whole();
             }
         }
     }

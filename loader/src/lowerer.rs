@@ -1,10 +1,23 @@
 //! The safe layer over the entry.
 
-use crate::{entry, Helpers, List, Options, Refusal, LIST_OUT, TREE_OUT, WORK};
+use crate::{entry, Helpers, List, Options, Refusal, ARCHIVE, LIST_OUT, TREE_OUT, WORK};
+use std::fmt;
 
 /// The lowering with its own three buffers, which every call uses again.
 ///
 /// One `Lowerer` serves one thread at a time; several are independent of each other.
+///
+/// ```
+/// use rest_spread::{Lowerer, Options};
+///
+/// let mut lowerer = Lowerer::new();
+/// for tree in [b"\x01\x01\x00\x00", b"no t"] {
+///     match lowerer.lower(Options::NONE, tree) {
+///         Ok(lowered) => assert_eq!(lowered.tree, tree),
+///         Err(refusal) => eprintln!("{}", lowerer.explain(tree, refusal)),
+///     }
+/// }
+/// ```
 pub struct Lowerer {
     tree: Box<[u8]>,
     list: Box<[u8]>,
@@ -12,7 +25,19 @@ pub struct Lowerer {
 }
 
 /// A lowered tree. It lies in the buffers of its [`Lowerer`], until the next call.
-#[derive(Clone, Copy, Debug)]
+///
+/// ```
+/// use rest_spread::{Lowerer, Options};
+///
+/// let mut lowerer = Lowerer::new();
+/// let lowered = lowerer.lower(Options::LOOSE, b"\x01\x01\x00\x00")?;
+/// assert_eq!((lowered.tree, lowered.list.bytes()), (&b"\x01\x01\x00\x00"[..], &[0; 4][..]));
+/// assert!(lowered.helpers.is_empty() && lowered.leftovers().is_empty());
+/// assert_eq!(lowered.options, Options::LOOSE);
+/// # Ok::<(), rest_spread::Refusal>(())
+/// ```
+#[derive(Clone, Copy, Debug, PartialEq, Eq)]
+#[non_exhaustive]
 pub struct Lowered<'a> {
     /// The tree, with temporaries and helper calls.
     pub tree: &'a [u8],
@@ -26,23 +51,35 @@ pub struct Lowered<'a> {
 
 impl Lowerer {
     /// Makes the buffers, 114,688 bytes in all.
+    ///
+    /// # Panics
+    /// If the archive that was linked is of another version than this crate is for.
+    #[must_use]
     pub fn new() -> Self {
+        let linked = entry::version();
+        assert!(
+            linked == ARCHIVE,
+            "the archive is of version {linked}, and this loader is for {ARCHIVE}: build both anew"
+        );
         let zeros = |length| vec![0; length].into_boxed_slice();
         Self { tree: zeros(TREE_OUT), list: zeros(LIST_OUT), work: zeros(WORK) }
     }
 
     /// Lowers a tree.
+    ///
+    /// # Errors
+    /// The refusal that document 01 has for this input. Then the buffers are zero, and nothing is to be loaded;
+    /// [`explain`](Self::explain) tells more about it.
     pub fn lower(&mut self, options: Options, tree: &[u8]) -> Result<Lowered<'_>, Refusal> {
         let outcome = entry::lower(options.bits(), tree, &mut self.tree, &mut self.list, &mut self.work);
-        match outcome.answer {
-            0 => Ok(Lowered {
+        match Refusal::from_number(outcome.answer) {
+            Some(refusal) => Err(refusal),
+            None => Ok(Lowered {
                 tree: &self.tree[..outcome.tree_len],
                 list: List::new(&self.list[..outcome.list_len]),
                 helpers: Helpers::from_bits(outcome.helpers),
                 options: Options::from_bits(outcome.options.into()),
             }),
-            number => Err(Refusal::from_number(number)
-                .unwrap_or_else(|| panic!("the archive answers {number}, which this loader has no name for"))),
         }
     }
 }
@@ -50,6 +87,12 @@ impl Lowerer {
 impl Default for Lowerer {
     fn default() -> Self {
         Self::new()
+    }
+}
+
+impl fmt::Debug for Lowerer {
+    fn fmt(&self, f: &mut fmt::Formatter<'_>) -> fmt::Result {
+        f.debug_struct("Lowerer").finish_non_exhaustive()
     }
 }
 

@@ -7,6 +7,13 @@ use std::ops::BitOr;
 /// A sum of options. None of them is implemented: a call reports those that it was given, and lowers as without them.
 ///
 /// Any number can be held, and a call refuses those above 15.
+///
+/// ```
+/// use rest_spread::Options;
+///
+/// let options = Options::LOOSE | Options::USE_BUILT_INS;
+/// assert_eq!((options.bits(), options.to_string().as_str()), (3, "loose, useBuiltIns"));
+/// ```
 #[derive(Clone, Copy, Debug, Default, PartialEq, Eq, Hash)]
 pub struct Options(u32);
 
@@ -30,16 +37,19 @@ impl Options {
     ];
 
     /// The options with this sum.
+    #[must_use]
     pub const fn from_bits(bits: u32) -> Self {
         Self(bits)
     }
 
     /// Their sum.
+    #[must_use]
     pub const fn bits(self) -> u32 {
         self.0
     }
 
     /// Whether all of `others` are among these.
+    #[must_use]
     pub const fn contains(self, others: Options) -> bool {
         self.0 & others.0 == others.0
     }

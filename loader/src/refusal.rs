@@ -3,86 +3,132 @@
 use std::error::Error;
 use std::fmt;
 
-/// Why a tree was not lowered, with document 01's numbers.
+/// Why a call gave no result, with document 01's numbers.
+///
+/// ```
+/// use rest_spread::{Lowerer, Options, Refusal};
+///
+/// let refusal = Lowerer::new().lower(Options::from_bits(16), b"").unwrap_err();
+/// assert_eq!((refusal, refusal.number()), (Refusal::UnknownOptions, 1));
+/// eprintln!("{}: {}", refusal.fault(), refusal.remedy());
+/// ```
 #[derive(Clone, Copy, Debug, PartialEq, Eq, PartialOrd, Ord, Hash)]
 #[non_exhaustive]
-#[repr(u8)]
 pub enum Refusal {
     /// The options are above 15.
-    UnknownOptions = 1,
+    UnknownOptions,
     /// The work slice is too short. A [`Lowerer`](crate::Lowerer) has one that is long enough.
-    ShortWork = 2,
+    ShortWork,
     /// The input is too long, or is not a tree.
-    NotATree = 3,
+    NotATree,
     /// A node stands at depth 65.
-    TooDeep = 4,
+    TooDeep,
     /// An assignment or the head of a loop has an object rest below an array rest.
-    RestBelowArrayRest = 5,
+    RestBelowArrayRest,
     /// An excluded key is a literal without a form.
-    KeyWithoutForm = 6,
+    KeyWithoutForm,
     /// The result passes a limit or a slice.
-    TooLong = 7,
+    TooLong,
+    /// A number that this version has no name for: the archive is newer. Such a value is made by
+    /// [`from_number`](Self::from_number) alone.
+    #[non_exhaustive]
+    Unknown(u8),
 }
 
 use Refusal::*;
 
-impl Refusal {
-    /// All refusals, by number.
-    pub const ALL: [Refusal; 7] =
-        [UnknownOptions, ShortWork, NotATree, TooDeep, RestBelowArrayRest, KeyWithoutForm, TooLong];
+/// Each refusal with its number, what is wrong, and what to do about it.
+const TABLE: &[(Refusal, u8, &str, &str)] = &[
+    (
+        UnknownOptions,
+        1,
+        "the options are above 15, and only the bits 1, 2, 4 and 8 have a meaning",
+        "give the sum of those that you want: 1 loose, 2 useBuiltIns, 4 objectRestNoSymbols, 8 ignoreFunctionLength",
+    ),
+    (ShortWork, 2, "the work buffer is shorter than 65,536 bytes", "lend the call 65,536 bytes of work"),
+    (
+        NotATree,
+        3,
+        "the input is not a tree, or is longer than 16,384 bytes",
+        "see that it is a tree file and was copied whole, and export it again; split a script that is too long",
+    ),
+    (
+        TooDeep,
+        4,
+        "the tree is nested deeper than 64 levels",
+        "move inner functions and long nested expressions out, into functions or variables of their own",
+    ),
+    (
+        RestBelowArrayRest,
+        5,
+        "an assignment, or the head of a for loop, takes an object rest from below an array rest, as \
+         `[...[{...a}]] = b` does",
+        "assign the array rest to a plain name first, and take that apart in a statement of its own",
+    ),
+    (
+        KeyWithoutForm,
+        6,
+        "an object whose rest is taken has a key that is a literal without its string form, as `{[/q/]: a, ...r}` has",
+        "write the key as a name or a string; if it is one already, the exporter has to write its form",
+    ),
+    (
+        TooLong,
+        7,
+        "the result is too long: the tree may have 32,768 bytes, the list 16,384, and neither more than its buffer",
+        "split the script into smaller ones",
+    ),
+];
 
-    /// Document 01's number.
-    pub fn number(self) -> u8 {
-        self as u8
+const ALL: [Refusal; TABLE.len()] = {
+    let mut all = [UnknownOptions; TABLE.len()];
+    let mut at = 0;
+    while at < all.len() {
+        all[at] = TABLE[at].0;
+        at += 1;
+    }
+    all
+};
+
+impl Refusal {
+    /// All refusals that have a name, by number.
+    pub const ALL: &'static [Refusal] = &ALL;
+
+    /// The refusal with this number. 0 is none, since it says that all went well.
+    #[must_use]
+    pub fn from_number(number: u8) -> Option<Self> {
+        let named = TABLE.iter().find(|row| row.1 == number).map(|row| row.0);
+        (number > 0).then(|| named.unwrap_or(Unknown(number)))
     }
 
-    /// The refusal with this number.
-    pub fn from_number(number: u8) -> Option<Self> {
-        Self::ALL.into_iter().find(|refusal| refusal.number() == number)
+    /// Document 01's number.
+    #[must_use]
+    pub fn number(self) -> u8 {
+        match self {
+            Unknown(number) => number,
+            _ => self.row().1,
+        }
     }
 
     /// What is wrong.
+    #[must_use]
     pub fn fault(self) -> &'static str {
-        match self {
-            UnknownOptions => "the options are above 15, and only the bits 1, 2, 4 and 8 have a meaning",
-            ShortWork => "the work buffer is shorter than 65,536 bytes",
-            NotATree => "the input is not a tree, or is longer than 16,384 bytes",
-            TooDeep => "the tree is nested deeper than 64 levels",
-            RestBelowArrayRest => {
-                "an assignment, or the head of a for loop, takes an object rest from below an array rest, as \
-                 `[...[{...a}]] = b` does"
-            }
-            KeyWithoutForm => {
-                "an object whose rest is taken has a key that is a literal without its string form, as \
-                 `{[/q/]: a, ...r}` has"
-            }
-            TooLong => {
-                "the result is too long: the tree may have 32,768 bytes, the list 16,384, and neither more than its \
-                 buffer"
-            }
-        }
+        self.row().2
     }
 
     /// What to do about it.
+    #[must_use]
     pub fn remedy(self) -> &'static str {
-        match self {
-            UnknownOptions => {
-                "give the sum of those that you want: 1 loose, 2 useBuiltIns, 4 objectRestNoSymbols, \
-                 8 ignoreFunctionLength"
-            }
-            ShortWork => "lend the call 65,536 bytes of work",
-            NotATree => {
-                "see that it is a tree file and was copied whole, and export it again; split a script that is too long"
-            }
-            TooDeep => "move inner functions and long nested expressions out, into functions or variables of their own",
-            RestBelowArrayRest => {
-                "assign the array rest to a plain name first, and take that apart in a statement of its own"
-            }
-            KeyWithoutForm => {
-                "write the key as a name or a string; if it is one already, the exporter has to write its form"
-            }
-            TooLong => "split the script into smaller ones",
-        }
+        self.row().3
+    }
+
+    fn row(self) -> (Refusal, u8, &'static str, &'static str) {
+        let unnamed = (
+            self,
+            0,
+            "the archive refuses the input for a reason that this loader does not know",
+            "take the loader that belongs to the archive",
+        );
+        TABLE.iter().find(|row| row.0 == self).copied().unwrap_or(unnamed)
     }
 }
 
@@ -100,16 +146,19 @@ mod tests {
 
     #[test]
     fn numbers_go_there_and_back() {
-        for number in 0..=255 {
-            let refusal = Refusal::from_number(number);
-            assert_eq!(refusal.is_some(), (1..=7).contains(&number));
-            assert!(refusal.is_none_or(|r| r.number() == number));
+        assert_eq!(Refusal::from_number(0), None);
+        for number in 1..=255 {
+            let refusal = Refusal::from_number(number).unwrap();
+            assert_eq!(refusal.number(), number);
+            assert_eq!(refusal == Unknown(number), !Refusal::ALL.contains(&refusal));
         }
+        let numbers: Vec<u8> = Refusal::ALL.iter().map(|refusal| refusal.number()).collect();
+        assert_eq!(numbers, [1, 2, 3, 4, 5, 6, 7]);
     }
 
     #[test]
     fn texts_say_what_is_wrong_and_what_to_do() {
-        for refusal in Refusal::ALL {
+        for &refusal in Refusal::ALL.iter().chain(&[Unknown(200)]) {
             let text = refusal.to_string();
             assert!(text.starts_with(&format!("refusal {}: ", refusal.number())), "{text}");
             assert!(text.contains(refusal.fault()) && text.ends_with(refusal.remedy()), "{text}");

@@ -1,49 +1,22 @@
 //! The command `loader`, as a person or a script runs it.
 
+#[path = "common/command.rs"]
+mod command;
 mod common;
 
+use command::loader;
 use common::cases::{stored, to_hex};
-use common::make::{blocks, key_twice, program, rests, spreads};
+use common::folder;
+use common::json::Json;
+use common::make::{
+    binding, blocks, expression, key_twice, key_without_form, program, reference, rest_below_array_rest, rests, spreads,
+};
+use rest_spread::{Helper, Kind, Make, Refusal};
 use std::fs;
-use std::io::Write;
-use std::path::PathBuf;
-use std::process::{Command, Stdio};
-
-struct Ran {
-    status: i32,
-    out: String,
-    err: String,
-}
-
-fn loader(words: &[&str], input: &[u8]) -> Ran {
-    let mut child = Command::new(env!("CARGO_BIN_EXE_loader"))
-        .args(words)
-        .stdin(Stdio::piped())
-        .stdout(Stdio::piped())
-        .stderr(Stdio::piped())
-        .spawn()
-        .unwrap();
-    // A command that reads nothing may have ended by now.
-    let _ = child.stdin.take().unwrap().write_all(input);
-    let output = child.wait_with_output().unwrap();
-    Ran {
-        status: output.status.code().expect("no signal"),
-        out: String::from_utf8(output.stdout).unwrap(),
-        err: String::from_utf8(output.stderr).unwrap(),
-    }
-}
-
-/// A folder of its own for each test, empty.
-fn folder(name: &str) -> PathBuf {
-    let path = PathBuf::from(env!("CARGO_TARGET_TMPDIR")).join(name);
-    let _ = fs::remove_dir_all(&path);
-    fs::create_dir_all(&path).unwrap();
-    path
-}
 
 #[test]
 fn one_input_gets_a_summary() {
-    let ran = loader(&[], &program(&[key_twice(1, 10)]));
+    let ran = loader(&[], &program([key_twice(10)]));
     assert_eq!((ran.status, ran.err.as_str()), (0, ""));
     assert_eq!(
         ran.out,
@@ -81,8 +54,8 @@ fn a_long_summary_is_cut() {
     // Each in a block, so that its keys are excluded by a temporary: { var {a, ...r} = s }
     let rest =
         b"\x05\x03\x22\x03\x01\x00\x23\x07\x26\x01\x01\x00a\x13\x01\x01\x00a\x02\x13\x01\x01\x00r\x12\x01\x01\x00s";
-    let declaration = [&[4, 7, 2, 0, 1, 30, 0][..], &rest.repeat(30)].concat();
-    let ran = loader(&[], &blocks(1, &[declaration]));
+    let head = b"\x01\x01\x01\x00\x02\x03\x01\x00\x01\x00\x04\x07\x02\x00\x01\x1e\x00";
+    let ran = loader(&[], &[&head[..], &rest.repeat(30)].concat());
     assert!(ran.out.contains("  excluded  30\n") && ran.out.contains("            and 10 more\n"), "{}", ran.out);
 }
 
@@ -95,8 +68,29 @@ fn a_refusal_is_explained_and_its_number_is_the_status() {
         let begins = format!("standard input: refused with {}\n  what      ", case.answer);
         assert!(ran.err.starts_with(&begins) && ran.err.contains("\n  to do     "), "{}", ran.err);
     }
-    let ran = loader(&[], &program(&[rests(1, 900)]));
-    assert_eq!((ran.status, ran.out.as_str()), (7, ""));
+}
+
+/// Each refusal says where, as far as a second look can tell, and that this is not proved.
+#[test]
+fn a_refusal_says_where() {
+    let told = [
+        (&b""[..], "what      the input is empty"),
+        (&[1; 70_000], "what      the input has 70,000 bytes, and a tree has at most 16,384"),
+        (b"\x01\x01\x00\x00!", "where     byte 4, at the root: the tree has ended, and bytes follow it"),
+        (&blocks(64, []), "> Block.body[0]: the node is at level 65, and 64 are allowed"),
+        (&program([spreads(1), expression(rest_below_array_rest())]), "where     statement 2"),
+        (&program([spreads(1), expression(key_without_form())]), "where     statement 2"),
+        (&program([rests(900)]), "where     the tree would have 35,111 bytes, 2,343 too many"),
+        (&program([key_twice(8_164)]), "where     the list would have 16,386 bytes, 2 too many"),
+    ];
+    for (input, words) in told {
+        let ran = loader(&[], input);
+        assert!(ran.err.contains(words) && ran.out.is_empty(), "{words}: {}", ran.err);
+        let is_advice = ran.err.contains("(by a second look, which is not proved)");
+        assert_eq!(is_advice, ran.err.contains("  where "), "{}", ran.err);
+    }
+    let ran = loader(&["--options-first"], &[0; 70_001]);
+    assert!(ran.err.contains("the input has 70,000 bytes"), "the options are no part of it: {}", ran.err);
 }
 
 #[test]
@@ -107,49 +101,126 @@ fn hexadecimal_is_that_of_the_program_lower() {
         let (tree, list) = (to_hex(&case.tree_out), to_hex(&case.list_out));
         let lines = format!("{} {} {}\n{tree}\n{list}\n", case.answer, case.helpers, case.reported);
         assert_eq!((ran.status, ran.out), (case.answer.into(), lines), "{}", case.name);
-        assert_eq!(ran.err.is_empty(), case.answer == 0, "{}", case.name);
+        assert_eq!(ran.err.contains("refused"), case.answer > 0, "{}", case.name);
     }
     assert_eq!(loader(&["-x", "-f"], b"").out, "3 0 0\n\n\n", "no options byte and no tree");
 }
 
 #[test]
-fn results_are_written_to_files() {
-    let folder = folder("written");
-    let (tree, list) = (folder.join("tree"), folder.join("list"));
-    let words = ["--tree", tree.to_str().unwrap(), "--list", list.to_str().unwrap()];
-    assert_eq!(loader(&words, b"no tree").status, 3);
-    assert!(!tree.exists() && !list.exists(), "a refusal writes nothing");
-    assert_eq!(loader(&words, &program(&[spreads(1, 1)])).status, 0);
-    assert_eq!(to_hex(&fs::read(&tree).unwrap()), "01010100030301001d031501010200180100001201010061");
-    assert_eq!(fs::read(&list).unwrap(), [0; 4]);
-}
-
-#[test]
-fn several_inputs_get_a_line_each_and_a_count() {
-    let folder = folder("several");
+fn several_inputs_get_a_line_each_a_table_of_failures_and_a_count() {
+    let folder = folder("several_lines");
     let name = |name: &str| folder.join(name).to_str().unwrap().to_owned();
-    fs::write(name("good"), program(&[spreads(1, 1)])).unwrap();
-    fs::write(name("deep"), blocks(64, &[])).unwrap();
-    let out = name("out");
-    fs::create_dir(&out).unwrap();
+    fs::write(name("good"), program([spreads(1)])).unwrap();
+    fs::write(name("deep"), blocks(64, [])).unwrap();
     let (good, deep, none) = (name("good"), name("deep"), name("none"));
 
-    let ran = loader(&["--into", &out, &good, &deep, &none], b"");
-    let lines: Vec<&str> = ran.out.lines().collect();
-    assert_eq!((ran.status, lines.len(), ran.err.as_str()), (4, 4, ""), "{}", ran.out);
-    let first = "lowered from 19 to 24 bytes; 0 entries, 0 excluded key lists; helpers: objectSpread2";
-    assert_eq!(lines[0], format!("{good}: {first}"));
-    assert_eq!(lines[1], format!("{deep}: refused with 4: the tree is nested deeper than 64 levels"));
-    assert!(lines[2].starts_with(&format!("{none}: can't be read: ")), "{}", lines[2]);
-    assert_eq!(lines[3], "3 inputs: 1 lowered, 1 refused, 1 not read or written");
-    let mut made: Vec<_> = fs::read_dir(&out).unwrap().map(|file| file.unwrap().file_name()).collect();
-    made.sort();
-    assert_eq!(made, ["good.list", "good.lowered"]);
+    let ran = loader(&[&good, &deep, &good, &none], b"");
+    assert_eq!(ran.status, 4, "the first failure's");
+    let line = "lowered from 19 to 24 bytes; 0 entries, 0 excluded key lists; helpers: objectSpread2";
+    let count = "4 inputs: 2 lowered, 1 refused, 1 not read or written";
+    assert_eq!(ran.out, format!("{good}: {line}\n{good}: {line}\n{count}\n"));
+    let table: Vec<&str> = ran.err.lines().collect();
+    assert_eq!((table.len(), table[0]), (3, "failed, each with its status:"), "{}", ran.err);
+    assert!(table[1].starts_with(&format!("    4  {deep}  the tree is nested deeper than 64 levels (byte 382, ")));
+    assert!(table[2].starts_with(&format!("   74  {none}  can't be read: ")), "{}", table[2]);
 
+    let ran = loader(&[&good, &good], b"");
+    assert_eq!((ran.status, ran.err.as_str()), (0, ""), "no failure, no table");
     assert_eq!(loader(&[&none, &deep], b"").status, 74, "the first failure's");
     let ran = loader(&["--hex", &good, &deep], b"");
     assert_eq!((ran.status, ran.out.lines().count()), (4, 6));
     assert!(ran.err.ends_with("2 inputs: 1 lowered, 1 refused, 0 not read or written\n"), "{}", ran.err);
+}
+
+/// `var [...[{...a}]] = b`
+fn left_over() -> Make {
+    let rest = Kind::ObjectPattern.make().list([]).node(binding("a"));
+    let inner = Kind::ArrayPattern.make().list([rest]);
+    let outer = Kind::ArrayPattern.make().list([]).node(inner);
+    Kind::Declaration.make().byte(1).list([Kind::Declarator.make().node(outer).node(reference("b"))])
+}
+
+#[test]
+fn what_is_left_is_warned_of_and_refused_if_that_is_asked() {
+    let tree = program([spreads(1), left_over()]);
+    let ran = loader(&[], &tree);
+    assert_eq!(ran.status, 0);
+    assert!(ran.out.starts_with("standard input: lowered\n"));
+    let words = "object rest in the tree, statement 2";
+    assert_eq!(ran.err, format!("standard input: warning: {words}: an engine of ES2017 does not take it\n"));
+
+    let ran = loader(&["--strict"], &tree);
+    assert_eq!((ran.status, ran.out.as_str()), (65, ""));
+    assert!(ran.err.starts_with("standard input: refused by --strict\n") && ran.err.contains(words), "{}", ran.err);
+    assert_eq!(loader(&["--strict"], &program([spreads(1)])).status, 0);
+    let ran = loader(&["--strict", "--hex"], &tree);
+    assert_eq!((ran.status, ran.out.as_str()), (65, ""), "no three lines of a refusal that is not the archive's");
+}
+
+#[test]
+fn json_has_a_line_for_each_input() {
+    let folder = folder("json");
+    let name = |name: &str| folder.join(name).to_str().unwrap().to_owned();
+    let (good, bad, none) = (name("g \"o\" \u{e9}\n"), name("bad"), name("none"));
+    fs::write(&good, program([expression(common::make::rest_by_key(reference("k"))), left_over()])).unwrap();
+    fs::write(&bad, b"").unwrap();
+    let ran = loader(&["--json", "--into", folder.to_str().unwrap(), "--options", "3", &good, &bad, &none], b"");
+    assert_eq!(ran.status, 3);
+    let lines: Vec<Json> = ran.out.lines().map(Json::read).collect();
+    assert_eq!(lines.len(), 3);
+
+    let one = &lines[0];
+    assert_eq!((one.at("input").text(), one.at("status").number()), (good.as_str(), 0));
+    let written = fs::read(format!("{good}.lowered")).unwrap();
+    assert_eq!(one.at("tree_bytes").number() as usize, written.len());
+    assert_eq!(one.at("bytes_in").number(), fs::metadata(&good).unwrap().len());
+    assert_eq!(one.at("list_bytes").number(), fs::metadata(format!("{good}.list")).unwrap().len());
+    let texts = |value: &Json| value.list().iter().map(|item| item.text().to_owned()).collect::<Vec<_>>();
+    assert_eq!(texts(one.at("helpers")), ["objectWithoutProperties", "toPropertyKey"]);
+    assert_eq!(texts(one.at("options")), ["loose", "useBuiltIns"]);
+    let entry = &one.at("entries").list()[0];
+    assert_eq!(entry.at("mark").number(), 1);
+    assert_eq!(texts(entry.at("declarators")), ["$1", "$2 = Reference of 5 bytes"]);
+    assert_eq!(one.at("excluded").list().len(), 0);
+    let left = &one.at("leftovers").list()[0];
+    assert_eq!(
+        (left.at("what").text(), left.at("in").text(), left.at("statement").number()),
+        ("object rest", "tree", 2)
+    );
+    assert_eq!(one.at("written").list().len(), 2);
+
+    let two = &lines[1];
+    assert_eq!((two.at("status").number(), two.at("refusal").number()), (3, 3));
+    assert_eq!((two.at("fault").text(), two.at("where")), ("the input is empty", &Json::None));
+    assert!(two.at("removed").list().is_empty() && !two.at("remedy").text().is_empty());
+    let three = &lines[2];
+    assert_eq!(three.at("status").number(), 74);
+    assert!(three.at("failure").text().starts_with("can't be read: "));
+    assert!(ran.err.contains("failed, each with its status:"), "failures are told there, too: {}", ran.err);
+}
+
+#[test]
+fn versions_and_helpers_are_printed() {
+    let ran = loader(&["--version"], b"");
+    let expected = format!("loader {}, archive {}\n", env!("CARGO_PKG_VERSION"), rest_spread::ARCHIVE);
+    assert_eq!((ran.status, ran.out, ran.err.as_str()), (0, expected, ""));
+    let ran = loader(&["--helpers"], b"");
+    assert_eq!((ran.status, ran.err.as_str()), (0, ""));
+    for helper in Helper::ALL {
+        assert!(ran.out.contains(helper.source()), "{helper}");
+    }
+    let file = concat!(env!("CARGO_MANIFEST_DIR"), "/../helpers/helpers.js");
+    assert!(fs::read_to_string(file).unwrap().ends_with(&ran.out));
+}
+
+#[test]
+fn a_word_may_be_joined_to_its_option() {
+    let folder = folder("joined");
+    let file = folder.join("a=b");
+    let ran = loader(&[&format!("--tree={}", file.display()), "--options=3"], &program([spreads(1)]));
+    assert_eq!((ran.status, ran.err.as_str()), (0, ""));
+    assert_eq!(fs::read(&file).unwrap().len(), 24);
+    assert!(ran.out.contains("options   loose, useBuiltIns"), "{}", ran.out);
 }
 
 #[test]
@@ -164,6 +235,10 @@ fn more_than_a_tree_may_have_is_refused() {
 fn help_and_what_is_not_understood() {
     let ran = loader(&["--help"], b"");
     assert!(ran.status == 0 && ran.out.contains("--options-first") && ran.err.is_empty());
+    assert!(ran.out.lines().all(|line| line.len() <= 80), "within 80 columns");
+    for refusal in Refusal::ALL {
+        assert_ne!(refusal.number(), 64, "a status of its own");
+    }
     for words in [
         &["--what"][..],
         &["--options"],
@@ -172,11 +247,15 @@ fn help_and_what_is_not_understood() {
         &["--tree", "t", "a", "b"],
         &["-", "-"],
         &["--into", "d", "a/same", "b/same"],
+        &["--hex=1"],
+        &["--what=1"],
+        &["--hex", "--json"],
+        &["--options=loose"],
     ] {
         let ran = loader(words, b"");
         assert_eq!((ran.status, ran.out.as_str()), (64, ""), "{words:?}");
         assert!(ran.err.starts_with("loader: ") && ran.err.ends_with("loader --help says what can be asked\n"));
     }
-    assert_eq!(loader(&["--tree", "no/such/folder/t"], &program(&[])).status, 74);
+    assert_eq!(loader(&["--tree", "no/such/folder/t"], &program([])).status, 74);
     assert_eq!(loader(&["--", "--no-such-file"], b"").status, 74);
 }

@@ -2,20 +2,21 @@
 
 mod common;
 
-use common::make::{program, spreads};
+use common::make::{blocks, expression, key_without_form, program, rest_below_array_rest, rests, spreads};
 use common::skip;
-use rest_spread::{Helper, Options, Refusal, LIST_OUT, TREE_IN, TREE_OUT, WORK};
+use rest_spread::{Helper, Options, Refusal, ARCHIVE, LEVELS, LIST_OUT, TREE_IN, TREE_OUT, WORK};
 use std::collections::HashMap;
 use std::io::Write;
 use std::path::Path;
 use std::process::{Command, Stdio};
 use std::{env, fs};
 
-const HERE: &str = env!("CARGO_MANIFEST_DIR");
+/// The folder of the header and the example.
+const C: &str = concat!(env!("CARGO_MANIFEST_DIR"), "/../c");
 
 #[test]
 fn the_header_has_the_numbers_of_the_safe_layer() {
-    let text = fs::read_to_string(Path::new(HERE).join("rest_spread.h")).unwrap();
+    let text = fs::read_to_string(Path::new(C).join("rest_spread.h")).unwrap();
     let mut numbers: HashMap<&str, usize> = HashMap::new();
     for line in text.lines().filter_map(|line| line.strip_prefix("#define REST_SPREAD_")) {
         let mut words = line.split_whitespace();
@@ -25,6 +26,8 @@ fn the_header_has_the_numbers_of_the_safe_layer() {
         }
     }
     let mut has = |name: &str, number: usize| assert_eq!(numbers.remove(name), Some(number), "{name}");
+    has("VERSION", ARCHIVE as usize);
+    has("LEVELS", LEVELS);
     has("TREE_IN", TREE_IN);
     has("TREE_OUT", TREE_OUT);
     has("LIST_OUT", LIST_OUT);
@@ -57,11 +60,11 @@ fn the_c_example_works() {
     let compiler = env::var("CC").unwrap_or("cc".into());
     let program_file = Path::new(env!("CARGO_TARGET_TMPDIR")).join("lower_in_c");
     let compiled = Command::new(&compiler)
-        .args(["-std=c99", "-Wall", "-Wextra", "-Werror", "-pedantic", "-I.", "examples/lower.c"])
-        .arg(env!("REST_SPREAD_ARCHIVE"))
+        .args(["-std=c99", "-Wall", "-Wextra", "-Werror", "-pedantic", "lower.c"])
+        .args(env!("REST_SPREAD_ARCHIVES").split(':'))
         .arg("-o")
         .arg(&program_file)
-        .current_dir(HERE)
+        .current_dir(C)
         .output();
     let compiled = match compiled {
         Ok(compiled) => compiled,
@@ -73,16 +76,31 @@ fn the_c_example_works() {
         let mut child = Command::new(&program_file)
             .stdin(Stdio::piped())
             .stdout(Stdio::piped())
+            .stderr(Stdio::piped())
             .spawn()
             .expect("what was compiled");
         child.stdin.take().unwrap().write_all(input).unwrap();
         let output = child.wait_with_output().unwrap();
-        (output.status.code(), String::from_utf8(output.stdout).unwrap())
+        let [out, err] = [output.stdout, output.stderr].map(|bytes| String::from_utf8(bytes).unwrap());
+        (output.status.code().unwrap(), out, err)
     };
-    let (status, said) = run(&program(&[spreads(1, 1)]));
-    assert_eq!((status, said.as_str()), (Some(0), "answer 0, helpers 1, tree of 24 bytes, list of 4\n"));
-    let (status, said) = run(b"no tree");
-    assert_eq!((status, said.as_str()), (Some(3), "answer 3, helpers 0, tree of 0 bytes, list of 0\n"));
+    let lowered = "lowered: helpers 1, tree of 24 bytes, list of 4\n";
+    assert_eq!(run(&program([spreads(1)])), (0, lowered.into(), String::new()));
+    let refused = [
+        (vec![], 3),
+        (b"no tree".to_vec(), 3),
+        (vec![0; 20_000], 3),
+        (blocks(64, []), 4),
+        (program([expression(rest_below_array_rest())]), 5),
+        (program([expression(key_without_form())]), 6),
+        (program([rests(900)]), 7),
+    ];
+    for (tree, number) in refused {
+        let (status, out, err) = run(&tree);
+        assert_eq!((status, out.as_str()), (number, ""), "{err}");
+        let (begins, rest) = err.split_at("refused with 3: ".len());
+        assert!(begins == format!("refused with {number}: ") && rest.len() > 10, "{err}");
+    }
 }
 
 #[test]
@@ -90,7 +108,7 @@ fn the_header_is_taken_by_cpp() {
     let compiler = env::var("CXX").unwrap_or("c++".into());
     let checked = Command::new(&compiler)
         .args(["-fsyntax-only", "-Wall", "-Wextra", "-Werror", "-x", "c++", "rest_spread.h"])
-        .current_dir(HERE)
+        .current_dir(C)
         .output();
     match checked {
         Ok(checked) => assert!(checked.status.success(), "{}", String::from_utf8_lossy(&checked.stderr)),

@@ -44,7 +44,7 @@ fn small_results_in_slices_of_every_length() {
 /// Trees that fill the tree slice, fill the list slice, or nest deep, in slices around each length that matters.
 #[test]
 fn large_results_in_slices_of_awkward_lengths() {
-    for tree in [program(&[rests(1, 800)]), program(&[spreads(1, 2_300)]), program(&[key_twice(1, 8_000)])] {
+    for tree in [program([rests(800)]), program([spreads(2_300)]), program([key_twice(8_000)])] {
         let (needs_tree, needs_list) = {
             let mut rig = Rig::whole();
             let outcome = rig.run(0, &tree).outcome;
@@ -64,7 +64,7 @@ fn large_results_in_slices_of_awkward_lengths() {
 
 #[test]
 fn work_of_awkward_lengths() {
-    let tree = program(&[rests(1, 100), spreads(2, 100), key_twice(3, 100)]);
+    let tree = program([rests(100), spreads(100), key_twice(100)]);
     for slice in awkward(&[49_152], WORK).into_iter().chain([100_000, 1_000_000]) {
         for (tree_slice, list_slice) in [(TREE_OUT, LIST_OUT), (0, 0), (1, LIST_OUT), (TREE_OUT, 1)] {
             let answer = Rig::new(tree_slice, list_slice, slice).run(0, &tree).outcome.answer;

@@ -3,7 +3,7 @@
 mod common;
 
 use common::cases::from_hex;
-use common::make::{blocks, key_twice, other, pad, program, rests};
+use common::make::{blocks, key_twice, nested, other, padded, program, rests};
 use common::rig::Rig;
 use rest_spread::{Lowerer, Options, Refusal, LIST_OUT, TREE_IN, TREE_OUT, WORK};
 
@@ -41,14 +41,14 @@ fn what_is_no_tree_is_refused_with_3() {
         assert_eq!(refused(0, &LISTING[..end]), Some(Refusal::NotATree), "cut at {end}");
     }
     assert_eq!(refused(0, &[LISTING, b"\x00"].concat()), Some(Refusal::NotATree));
-    assert_eq!(refused(0, &pad(program(&[]), 1, TREE_IN)), None);
-    assert_eq!(refused(0, &pad(program(&[]), 1, TREE_IN + 1)), Some(Refusal::NotATree));
+    assert_eq!(refused(0, &padded(&[], TREE_IN)), None);
+    assert_eq!(refused(0, &padded(&[], TREE_IN + 1)), Some(Refusal::NotATree));
 }
 
 #[test]
 fn depth_65_is_refused_with_4() {
-    assert_eq!(refused(0, &blocks(63, &[])), None);
-    assert_eq!(refused(0, &blocks(64, &[])), Some(Refusal::TooDeep));
+    assert_eq!(refused(0, &blocks(63, [])), None);
+    assert_eq!(refused(0, &blocks(64, [])), Some(Refusal::TooDeep));
 }
 
 #[test]
@@ -71,7 +71,7 @@ fn what_does_not_fit_its_slice_is_refused_with_7() {
 /// 839 declarators make 32,732 bytes; a statement that is left alone makes up the rest.
 #[test]
 fn a_tree_over_32768_bytes_is_refused_with_7() {
-    let tree = |length: usize| program(&[rests(1, 839), other(2, length - 32_732 - 8)]);
+    let tree = |length: usize| program([rests(839), other(length - 32_732 - 8)]);
     for slice in [TREE_OUT, TREE_OUT + 1, 40_000] {
         let mut rig = Rig::new(slice, LIST_OUT, WORK);
         assert_eq!(rig.run(0, &tree(TREE_OUT)).outcome.tree_len, TREE_OUT);
@@ -84,7 +84,7 @@ fn a_tree_over_32768_bytes_is_refused_with_7() {
 /// A key that is handed out twice makes a list of twice its length.
 #[test]
 fn a_list_over_16384_bytes_is_refused_with_7() {
-    let tree = |length: usize| program(&[key_twice(1, (length - 58) / 2)]);
+    let tree = |length: usize| program([key_twice((length - 58) / 2)]);
     for slice in [LIST_OUT, LIST_OUT + 1, 40_000] {
         let mut rig = Rig::new(TREE_OUT, slice, WORK);
         assert_eq!(rig.run(0, &tree(LIST_OUT)).outcome.list_len, LIST_OUT);
@@ -99,14 +99,14 @@ fn a_list_over_16384_bytes_is_refused_with_7() {
 fn the_first_refusal_is_given() {
     let five = from_hex(FIVE);
     let six = from_hex(SIX);
-    let long = pad(blocks(64, &[]), 65, TREE_IN + 1);
+    let long = padded(&[nested(64, [])], TREE_IN + 1);
     let answer = |options, slices: [usize; 3], tree: &[u8]| {
         Rig::new(slices[0], slices[1], slices[2]).run(options, tree).outcome.answer
     };
     assert_eq!(answer(16, [0, 0, 0], &long), 1);
     assert_eq!(answer(15, [0, 0, 0], &long), 2);
     assert_eq!(answer(15, [0, 0, WORK], &long), 3);
-    assert_eq!(answer(15, [0, 0, WORK], &blocks(64, &[])), 4);
+    assert_eq!(answer(15, [0, 0, WORK], &blocks(64, [])), 4);
     assert_eq!(answer(15, [0, 0, WORK], &five), 5);
     assert_eq!(answer(15, [0, 0, WORK], &six), 6);
     assert_eq!(answer(15, [0, 0, WORK], LISTING), 7);

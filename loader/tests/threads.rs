@@ -35,7 +35,7 @@ fn two_lowerers_in_two_threads() {
 #[test]
 fn a_lowerer_may_be_sent_to_another_thread() {
     let mut lowerer = Lowerer::new();
-    let length = |lowerer: &mut Lowerer| lowerer.lower(Options::NONE, &program(&[spreads(1, 3)])).unwrap().tree.len();
+    let length = |lowerer: &mut Lowerer| lowerer.lower(Options::NONE, &program([spreads(3)])).unwrap().tree.len();
     let here = length(&mut lowerer);
     assert_eq!(thread::spawn(move || length(&mut lowerer)).join().unwrap(), here);
 }
@@ -43,7 +43,7 @@ fn a_lowerer_may_be_sent_to_another_thread() {
 #[test]
 fn the_buffers_are_used_again() {
     let mut lowerer = Lowerer::new();
-    let tree = program(&[spreads(1, 3)]);
+    let tree = program([spreads(3)]);
     let mut places = || {
         let lowered = lowerer.lower(Options::NONE, &tree).unwrap();
         (lowered.tree.as_ptr() as usize, lowered.list.bytes().as_ptr() as usize)
@@ -56,19 +56,19 @@ fn the_buffers_are_used_again() {
 #[test]
 fn a_small_stack_is_enough() {
     let expression = |begin: &[u8], times: usize| {
-        program(&[[b"\x03\x03\x01\x00", &begin.repeat(times)[..], b"\x12\x01\x01\x00z"].concat()])
+        [b"\x01\x01\x01\x00\x03\x03\x01\x00", &begin.repeat(times)[..], b"\x12\x01\x01\x00z"].concat()
     };
     let trees = vec![
-        blocks(59, &[spreads(60, 1)]),
+        blocks(59, [spreads(1)]),
         expression(b"\x1f\x01", 61),                                      // (z)
         expression(b"\x1d\x03\x12\x01\x01\x00f\x01\x00", 61),             // f(z)
         expression(b"\x18\x01\x01\x00\x1a\x01", 30),                      // {...z}
         expression(b"\x1b\x07\x01\x22\x03\x00\x00\x12\x01\x01\x00a", 60), // {...a} = z
         expression(b"\x1b\x07\x01\x24\x01\x01\x00\x22\x03\x00\x00\x12\x01\x01\x00a", 59), // [{...a}] = z
         expression(b"\x11\x05\x01\x00\x0f\x01\x22\x03\x00\x00\x13\x01\x01\x00a", 59), // ({...a}) => z
-        program(&[rests(1, 839)]),
-        program(&[spreads(1, 2_300)]),
-        program(&[key_twice(1, 8_000)]),
+        program([rests(839)]),
+        program([spreads(2_300)]),
+        program([key_twice(8_000)]),
     ];
     let run = move || {
         let mut lowerer = Lowerer::new();

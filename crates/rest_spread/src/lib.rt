@@ -1,5 +1,7 @@
 // The lowering of object rest and spread (ES2018) to ECMAScript 2017, from tree bytes to tree bytes.
 
+pub mod version;
+
 use emit::node;
 use sink::ends;
 use tree::read;

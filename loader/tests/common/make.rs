@@ -1,65 +1,95 @@
 //! Trees that are made by hand, for the limits.
 
-/// A Program of these statements.
-pub fn program(statements: &[Vec<u8>]) -> Vec<u8> {
-    [&[1, 1][..], &list(statements)].concat()
+use rest_spread::{Kind, Make};
+
+/// The tree of a Program of these statements.
+pub fn program(statements: impl IntoIterator<Item = Make>) -> Vec<u8> {
+    Kind::Program.make().list(statements).tree().unwrap()
 }
 
 /// A statement that the lowering leaves alone: an OtherStatement with a name of this length and no children.
-pub fn other(mark: u16, name: usize) -> Vec<u8> {
-    [&[12, 7][..], &mark.to_le_bytes(), &text(name), &[0, 0]].concat()
+pub fn other(name: usize) -> Make {
+    Kind::OtherStatement.make().text(x(name)).list([])
 }
 
 /// `var {...r} = s, {...r} = s, ..`, so many times. A declarator has 16 bytes, and 39 when it is lowered.
-pub fn rests(mark: u16, count: usize) -> Vec<u8> {
-    let one = b"\x05\x03\x22\x03\x00\x00\x13\x01\x01\x00r\x12\x01\x01\x00s".to_vec();
-    [&[4, 7][..], &mark.to_le_bytes(), &[1], &list(&vec![one; count])].concat()
+pub fn rests(count: usize) -> Make {
+    let pattern = Kind::ObjectPattern.make().list([]).node(binding("r"));
+    let one = Kind::Declarator.make().node(pattern).node(reference("s"));
+    Kind::Declaration.make().byte(1).list(vec![one; count])
 }
 
 /// `({...a, ...a, ..})`, so many spreads. Each has 7 bytes, and 12 when it is lowered, the first 16.
-pub fn spreads(mark: u16, count: usize) -> Vec<u8> {
-    let one = b"\x1a\x01\x12\x01\x01\x00a".to_vec();
-    [&[3, 3][..], &mark.to_le_bytes(), &[24, 1], &list(&vec![one; count])].concat()
+pub fn spreads(count: usize) -> Make {
+    expression(Kind::Object.make().list(vec![Kind::Spread.make().node(reference("a")); count]))
 }
 
 /// `({[TEMPLATE]: a, ...b} = c)`, where the Template has one quasi and among its expressions `{[KEY]: a, ...b} = c`. A
 /// Template of one quasi is written twice, as key and as excluded key, so KEY is handed out twice: the list has 58 bytes
 /// and twice the name's.
-pub fn key_twice(mark: u16, name: usize) -> Vec<u8> {
-    let key = [&[33, 3][..], &text(name), &[0, 0]].concat();
-    let quasi = b"\x16\x07\x01\x00\x00\x00\x00".to_vec();
-    let template = [&[23, 3][..], &list(&[quasi]), &list(&[assignment(&key)])].concat();
-    [&[3, 3][..], &mark.to_le_bytes(), &assignment(&template)].concat()
+pub fn key_twice(name: usize) -> Make {
+    let key = Kind::OtherExpression.make().text(x(name)).list([]);
+    let quasi = Kind::Literal.make().byte(1).text("").text("");
+    expression(rest_by_key(Kind::Template.make().list([quasi]).list([rest_by_key(key)])))
 }
 
 /// `{[key]: a, ...b} = c`
-fn assignment(key: &[u8]) -> Vec<u8> {
-    let property = [&[35, 7], key, b"\x12\x01\x01\x00a\x01"].concat();
-    [b"\x1b\x07\x01\x22\x03", &list(&[property])[..], b"\x12\x01\x01\x00b\x12\x01\x01\x00c"].concat()
+pub fn rest_by_key(key: Make) -> Make {
+    let property = Kind::PatternProperty.make().node(key).node(reference("a")).byte(1);
+    assign(Kind::ObjectPattern.make().list([property]).node(reference("b")), reference("c"))
 }
 
-/// A Program with so many Blocks in it, each in the last, and `inner` in the innermost. Marks begin with 1.
-pub fn blocks(count: u16, inner: &[Vec<u8>]) -> Vec<u8> {
-    let mut body = inner.to_vec();
-    for mark in (1..=count).rev() {
-        body = vec![[&[2, 3][..], &mark.to_le_bytes(), &list(&body)].concat()];
-    }
-    program(&body)
+/// `[...[{...a}]] = b`, which is refused with 5.
+pub fn rest_below_array_rest() -> Make {
+    let rest = Kind::ObjectPattern.make().list([]).node(reference("a"));
+    let inner = Kind::ArrayPattern.make().list([rest]);
+    assign(Kind::ArrayPattern.make().list([]).node(inner), reference("b"))
 }
 
-/// Adds a statement to a Program, with a name so long that the whole has `length` bytes.
-pub fn pad(mut tree: Vec<u8>, mark: u16, length: usize) -> Vec<u8> {
-    let count = u16::from_le_bytes([tree[2], tree[3]]) + 1;
-    tree[2..4].copy_from_slice(&count.to_le_bytes());
-    let name = length - tree.len() - other(mark, 0).len();
-    tree.extend(other(mark, name));
-    tree
+/// `{[/q/]: a, ...b} = c`, which is refused with 6.
+pub fn key_without_form() -> Make {
+    rest_by_key(Kind::Literal.make().byte(6).text("/q/"))
 }
 
-fn list(items: &[Vec<u8>]) -> Vec<u8> {
-    [&(items.len() as u16).to_le_bytes()[..], &items.concat()].concat()
+/// A Block of these statements, and so many Blocks around it, each in the last.
+pub fn nested(count: usize, inner: impl IntoIterator<Item = Make>) -> Make {
+    (1..count).fold(Kind::Block.make().list(inner), |block, _| Kind::Block.make().list([block]))
 }
 
-fn text(length: usize) -> Vec<u8> {
-    [&(length as u16).to_le_bytes()[..], &vec![b'x'; length]].concat()
+/// A Program with so many Blocks in it, each in the last, and `inner` in the innermost.
+pub fn blocks(count: usize, inner: impl IntoIterator<Item = Make>) -> Vec<u8> {
+    program([nested(count, inner)])
+}
+
+/// A Program of these statements and one more, with a name so long that the whole has `length` bytes.
+pub fn padded(statements: &[Make], length: usize) -> Vec<u8> {
+    let short = program(statements.iter().cloned().chain([other(0)])).len();
+    program(statements.iter().cloned().chain([other(length - short)]))
+}
+
+/// The statement that an expression is.
+pub fn expression(expression: Make) -> Make {
+    Kind::ExpressionStatement.make().node(expression)
+}
+
+pub fn assign(left: Make, right: Make) -> Make {
+    Kind::Assignment.make().byte(1).node(left).node(right)
+}
+
+pub fn reference(name: &str) -> Make {
+    Kind::Reference.make().text(name)
+}
+
+pub fn binding(name: &str) -> Make {
+    Kind::Binding.make().text(name)
+}
+
+/// A function expression with these statements.
+pub fn function(statements: impl IntoIterator<Item = Make>) -> Make {
+    let body = Kind::FunctionBody.make().none().list(statements);
+    Kind::Function.make().byte(2).none().list([]).none().node(body)
+}
+
+fn x(length: usize) -> String {
+    "x".repeat(length)
 }

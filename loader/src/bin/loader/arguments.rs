@@ -1,9 +1,9 @@
 //! What the command is asked to do.
 
 use rest_spread::Options;
-use std::collections::HashSet;
 use std::ffi::{OsStr, OsString};
 use std::fmt;
+use std::os::unix::ffi::{OsStrExt, OsStringExt};
 use std::path::PathBuf;
 
 pub const HELP: &str = "\
@@ -11,25 +11,45 @@ loader: lowers object rest and spread in tree files
 
     loader [OPTION..] [FILE..]
 
-Reads each FILE, or standard input for - and where no FILE is named. One input gets a summary; several get a line each
-and a count. Nothing is written for an input that is refused.
+Reads each FILE, or standard input for - and where no FILE is named. One input
+gets a summary. Several get a line each, and at the end come a table of those
+that failed and a count. What failed is told on standard error.
 
-    -t, --tree FILE       write the lowered tree to FILE (one input)
-    -l, --list FILE       write the list to FILE (one input)
-    -d, --into FOLDER     write NAME.lowered and NAME.list to FOLDER for each input NAME
-    -x, --hex             print three lines for each input, as the program `lower` does: answer, helper mask and options
-                          mask; the tree; the list
-    -o, --options N       1 loose + 2 useBuiltIns + 4 objectRestNoSymbols + 8 ignoreFunctionLength; 0 if not given.
-                          They are reported and have no effect
-    -f, --options-first   the first byte of each input is its options, as `lower` has it
-    -h, --help            print this
+  -t, --tree FILE      write the lowered tree to FILE (one input)
+  -l, --list FILE      write the list to FILE (one input)
+  -d, --into FOLDER    write NAME.lowered and NAME.list to FOLDER for each
+                       input NAME
+  -s, --strict         refuse a result in which an object rest or spread is
+                       left, as it may below an array rest, in a rest parameter
+                       or in a key; otherwise it is lowered with a warning
+  -x, --hex            print three lines for each input, as the program `lower`
+                       does: answer, helper mask and options mask; the tree;
+                       the list
+  -j, --json           print a line of JSON for each input
+  -o, --options N      1 loose + 2 useBuiltIns + 4 objectRestNoSymbols
+                       + 8 ignoreFunctionLength; 0 if not given. They are
+                       reported and have no effect
+  -f, --options-first  the first byte of each input is its options, as `lower`
+                       has it
+      --helpers        print the helpers that lowered code calls, as JavaScript
+  -V, --version        print the versions of loader and archive
+  -h, --help           print this
 
-Exit status: 0 if all was lowered; else of the first input that was not, the number of the refusal (1 to 7), or 74 if a
-file can't be read or written. 64 if the command was not understood.
+A word may be joined to its long option: --tree=FILE.
+
+Files are written whole or not at all, tree and list together. An input that
+fails has no result: what an earlier run wrote for it is removed. No output may
+be the same file as another or as an input.
+
+Exit status: 0 if all was lowered; else of the first input that was not, the
+number of the refusal, 65 if --strict refused its result, or 74 if a file can't
+be read or written. 64 if the command was not understood.
 ";
 
 pub enum Wish {
     Help,
+    Version,
+    Helpers,
     Lower(Arguments),
 }
 
@@ -39,20 +59,23 @@ pub struct Arguments {
     pub tree: Option<PathBuf>,
     pub list: Option<PathBuf>,
     pub into: Option<PathBuf>,
+    pub strict: bool,
     pub hex: bool,
+    pub json: bool,
     pub options: Options,
     pub options_first: bool,
 }
 
-/// How results are told: one input's summary, a line for each of several, or hexadecimal.
-#[derive(Clone, Copy)]
+/// How results are told: one input's summary, a line for each of several, hexadecimal, or JSON.
+#[derive(Clone, Copy, PartialEq)]
 pub enum Manner {
     Alone,
     Several,
     Hex,
+    Json,
 }
 
-#[derive(PartialEq)]
+#[derive(Clone, PartialEq)]
 pub enum Input {
     Standard,
     File(PathBuf),
@@ -82,16 +105,23 @@ pub fn parse(words: impl Iterator<Item = OsString>) -> Result<Wish, String> {
     let mut wish = Arguments::default();
     let mut only_files = false;
     while let Some(word) = words.next() {
-        let flag = if only_files { "" } else { word.to_str().unwrap_or("") };
-        let mut next = || words.next().ok_or(format!("{flag} wants a word behind it"));
-        match flag {
-            "-h" | "--help" => return Ok(Wish::Help),
-            "-x" | "--hex" => wish.hex = true,
-            "-f" | "--options-first" => wish.options_first = true,
+        let (flag, joined) = if only_files { (String::new(), None) } else { split(&word) };
+        let has_word = joined.is_some();
+        let mut joined = joined.into_iter();
+        let mut next = || joined.next().or_else(|| words.next()).ok_or(format!("{flag} wants a word behind it"));
+        match flag.as_str() {
             "-t" | "--tree" => wish.tree = Some(next()?.into()),
             "-l" | "--list" => wish.list = Some(next()?.into()),
             "-d" | "--into" => wish.into = Some(next()?.into()),
             "-o" | "--options" => wish.options = number(&next()?)?,
+            _ if has_word => return Err(format!("{flag} is not known, or takes no word")),
+            "-h" | "--help" => return Ok(Wish::Help),
+            "-V" | "--version" => return Ok(Wish::Version),
+            "--helpers" => return Ok(Wish::Helpers),
+            "-s" | "--strict" => wish.strict = true,
+            "-x" | "--hex" => wish.hex = true,
+            "-j" | "--json" => wish.json = true,
+            "-f" | "--options-first" => wish.options_first = true,
             "--" => only_files = true,
             "-" => wish.inputs.push(Input::Standard),
             _ if flag.starts_with('-') => return Err(format!("{flag} is not known")),
@@ -104,6 +134,17 @@ pub fn parse(words: impl Iterator<Item = OsString>) -> Result<Wish, String> {
     wish.agree().map(|()| Wish::Lower(wish))
 }
 
+/// `--tree=FILE` as two words. The second may be any bytes.
+fn split(word: &OsStr) -> (String, Option<OsString>) {
+    let bytes = word.as_bytes();
+    match bytes.iter().position(|&byte| byte == b'=') {
+        Some(at) if bytes.starts_with(b"--") => {
+            (String::from_utf8_lossy(&bytes[..at]).into_owned(), Some(OsString::from_vec(bytes[at + 1..].to_vec())))
+        }
+        _ => (word.to_string_lossy().into_owned(), None),
+    }
+}
+
 fn number(word: &OsStr) -> Result<Options, String> {
     let number = word.to_str().and_then(|word| word.parse().ok());
     number.map(Options::from_bits).ok_or(format!("--options wants a number, and {} is none", word.to_string_lossy()))
@@ -113,34 +154,22 @@ impl Arguments {
     pub fn manner(&self) -> Manner {
         match self.inputs.len() {
             _ if self.hex => Manner::Hex,
+            _ if self.json => Manner::Json,
             1 => Manner::Alone,
             _ => Manner::Several,
         }
     }
 
-    /// The file that --into has for an input, if it was given.
-    pub fn made_for(&self, input: &Input, end: &str) -> Option<PathBuf> {
-        let mut name = input.file_name().to_owned();
-        name.push(end);
-        self.into.as_ref().map(|folder| folder.join(name))
-    }
-
-    /// No two inputs may be written to one file, nor standard input be read twice.
     fn agree(&self) -> Result<(), String> {
+        if self.hex && self.json {
+            return Err("--hex and --json can't both be printed".into());
+        }
         if self.inputs.len() > 1 && (self.tree.is_some() || self.list.is_some()) {
             return Err("--tree and --list are for one input; use --into for several".into());
         }
         if self.inputs.iter().filter(|input| **input == Input::Standard).count() > 1 {
             return Err("standard input can be read only once".into());
         }
-        let mut names = HashSet::new();
-        let twice = self.inputs.iter().map(Input::file_name).find(|name| !names.insert(*name));
-        match twice {
-            Some(name) if self.into.is_some() => Err(format!(
-                "two inputs have the name {}, so --into would write one over the other",
-                name.to_string_lossy()
-            )),
-            _ => Ok(()),
-        }
+        Ok(())
     }
 }

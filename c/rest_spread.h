@@ -1,0 +1,107 @@
+/* Object rest and spread, lowered from tree bytes to tree bytes: the functions of librest_spread.a.
+ *
+ * The archive is made by `rt staticlib rest_spread` and is for x86-64 Linux. It needs memcpy, memmove and memset of the
+ * C library and nothing else: it allocates nothing, keeps nothing between calls, and reads and writes no file.
+ *
+ * Trees and lists are described in docs/FORMAT.md, lower.c is a whole program. */
+#ifndef REST_SPREAD_H
+#define REST_SPREAD_H
+
+#include <stddef.h>
+#include <stdint.h>
+
+#ifdef __cplusplus
+extern "C" {
+#endif
+
+/* The version of what is promised below. Compare it with rest_spread_version() before the first call: an archive of another
+ * version may be linked and then do something else. An archive from before there were versions does not link. */
+#define REST_SPREAD_VERSION 1
+
+/* The longest tree that is read, and the deepest: the Program is at level 1, a node in a field of another one below it. */
+#define REST_SPREAD_TREE_IN 16384
+#define REST_SPREAD_LEVELS 64
+
+/* The longest tree and list that are written, and the work that a call needs, in bytes. */
+#define REST_SPREAD_TREE_OUT 32768
+#define REST_SPREAD_LIST_OUT 16384
+#define REST_SPREAD_WORK 65536
+
+/* Options, to be added up. None is implemented: they are reported back and change nothing else. */
+#define REST_SPREAD_LOOSE 1
+#define REST_SPREAD_USE_BUILT_INS 2
+#define REST_SPREAD_OBJECT_REST_NO_SYMBOLS 4
+#define REST_SPREAD_IGNORE_FUNCTION_LENGTH 8
+
+/* Bits of the helper mask. A Helper node (kind 21) in the tree has the number of the bit, from 1. The functions
+ * themselves are in helpers/helpers.js. */
+#define REST_SPREAD_OBJECT_SPREAD_2 1
+#define REST_SPREAD_EXTENDS 2
+#define REST_SPREAD_OBJECT_DESTRUCTURING_EMPTY 4
+#define REST_SPREAD_OBJECT_WITHOUT_PROPERTIES 8
+#define REST_SPREAD_TO_PROPERTY_KEY 16
+
+/* Answers. Each refusal is given exactly if what stands beside it holds, and no refusal that comes before it is due. */
+#define REST_SPREAD_LOWERED 0
+/* options above 15 */
+#define REST_SPREAD_UNKNOWN_OPTIONS 1
+/* work_len below 65,536 */
+#define REST_SPREAD_SHORT_WORK 2
+/* tree_len above 16,384, which is looked at first; or the bytes are no tree, by the rules of docs/FORMAT.md */
+#define REST_SPREAD_NOT_A_TREE 3
+/* a node at level 65. Of 3 and 4 the one that is met first in byte order is given, at one byte 3 */
+#define REST_SPREAD_TOO_DEEP 4
+/* an assignment, or the head of a for loop, whose target has an array rest with an object rest below it, as in
+ * [...[{...a}]] = b */
+#define REST_SPREAD_REST_BELOW_ARRAY_REST 5
+/* an object whose rest is taken has a key that is a Literal without its form, as in var {[/q/]: a, ...r} = s. Of 5 and 6
+ * the one that the walk meets first is given, 5 before the keys of its target */
+#define REST_SPREAD_KEY_WITHOUT_FORM 6
+/* the lowered tree is longer than 32,768 bytes or than tree_out_len, or the list longer than 16,384 or than list_out_len */
+#define REST_SPREAD_TOO_LONG 7
+
+struct rest_spread_lowered {
+    uint8_t answer;  /* 0, or the number of the refusal; at a refusal all else is 0 */
+    uint8_t helpers; /* the helpers that the written tree calls */
+    uint8_t options; /* the options that were given */
+    size_t tree_len; /* the bytes of tree_out that are the tree */
+    size_t list_len; /* the bytes of list_out that are the list */
+};
+
+/* The version of the archive. It is REST_SPREAD_VERSION where header and archive belong together. */
+uint32_t rest_spread_version(void);
+
+/* Lowers a tree.
+ *
+ * What the caller owes
+ *   Each pointer is that of an array of so many bytes and not NULL, not even for a length of 0.
+ *   The four arrays do not overlap, and nobody else writes them during the call.
+ *   The stack has room for the call: the deepest trees take about 0.3 MB, and a thread with 1 MB will do.
+ *   Nothing is asked of the options, of the lengths, of what the bytes of tree are, or of what the others held before.
+ *
+ * What the caller gets, for every input
+ *   The call ends. It reads tree and nothing else, and writes tree_out, list_out and work and nothing else.
+ *   The answer is 0 to 7, by the table above, and depends on the arguments alone.
+ *   If it is 0, tree_out begins with the lowered tree, which has tree_len bytes, and list_out with its list, which has
+ *   list_len; all bytes behind them are zero; helpers and options say what they say above.
+ *   If it is not, tree_len, list_len, helpers and options are 0, and all bytes of tree_out and list_out are zero.
+ *   All bytes of work are zero after every call.
+ *   Calls with arrays of their own may run at the same time.
+ *
+ * What is in the list
+ *   Declarations that belong outside the tree: entries, each with the mark of a statement, to be declared right before
+ *   it, entries for one mark in their order; and excluded keys, to be declared ahead of the whole program.
+ *
+ * What is left in a result
+ *   Object rest may stand in the tree below an array rest of a declaration, in a rest parameter, in a parameter of a
+ *   function without a body and in a declarator without a value; object rest and spread in the values of the list's
+ *   entries. An engine that does not know them refuses such a script when it is loaded. */
+struct rest_spread_lowered rest_spread_lower(uint32_t options, const uint8_t *tree, size_t tree_len, uint8_t *tree_out,
+                                             size_t tree_out_len, uint8_t *list_out, size_t list_out_len,
+                                             uint8_t *work, size_t work_len);
+
+#ifdef __cplusplus
+}
+#endif
+
+#endif

@@ -1,0 +1,5 @@
+-- The number that the archive and its callers compare.
+use Prim.Native.Nat.{ℕ}
+
+abbrev pub version : ℕ
+version = 1
