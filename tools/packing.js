@@ -16,7 +16,8 @@ const vm = require('vm');
 
 // ---- Babel's helpers
 
-const helpers = () => /const HELPERS = `([^`]*)`/.exec(fs.readFileSync(path.join(__dirname, 'departures.js'), 'utf8'))[1];
+const helpers = () => fs.readFileSync(path.join(__dirname, '..', 'helpers', 'helpers.js'), 'utf8')
+  + 'var X = Extends, E = ObjectDestructuringEmpty, W = ObjectWithoutProperties;\n';
 
 // ---- declarations
 
