@@ -4,7 +4,7 @@ mod common;
 
 use common::make::{blocks, expression, key_without_form, program, rest_below_array_rest, rests, spreads};
 use common::skip;
-use rest_spread::{Helper, Options, Refusal, ARCHIVE, LEVELS, LIST_OUT, TREE_IN, TREE_OUT, WORK};
+use rest_spread::{Helper, Options, Refusal, ARCHIVE, LEVELS, LIST_OUT, LONGEST_PATTERN, TREE_IN, TREE_OUT, WORK};
 use std::collections::HashMap;
 use std::io::Write;
 use std::path::Path;
@@ -28,6 +28,7 @@ fn the_header_has_the_numbers_of_the_safe_layer() {
     let mut has = |name: &str, number: usize| assert_eq!(numbers.remove(name), Some(number), "{name}");
     has("VERSION", ARCHIVE as usize);
     has("LEVELS", LEVELS);
+    has("LONGEST_PATTERN", LONGEST_PATTERN as usize);
     has("TREE_IN", TREE_IN);
     has("TREE_OUT", TREE_OUT);
     has("LIST_OUT", LIST_OUT);
