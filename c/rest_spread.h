@@ -1,7 +1,9 @@
-/* Object rest and spread, lowered from tree bytes to tree bytes: the functions of librest_spread.a.
+/* Object rest and spread, lowered from tree bytes to tree bytes: the functions of librest_spread.a, and one of
+ * libcounting.a.
  *
- * The archive is made by `rt staticlib rest_spread` and is for x86-64 Linux. It needs memcpy, memmove and memset of the
- * C library and nothing else: it allocates nothing, keeps nothing between calls, and reads and writes no file.
+ * The archives are made by `rt staticlib rest_spread` and `rt staticlib counting`, are for x86-64 Linux, and can be linked
+ * together. They need memcpy, memmove and memset of the C library and nothing else: they allocate nothing, keep nothing
+ * between calls, and read and write no file.
  *
  * Trees and lists are described in docs/FORMAT.md, lower.c is a whole program. */
 #ifndef REST_SPREAD_H
@@ -99,6 +101,23 @@ uint32_t rest_spread_version(void);
 struct rest_spread_lowered rest_spread_lower(uint32_t options, const uint8_t *tree, size_t tree_len, uint8_t *tree_out,
                                              size_t tree_out_len, uint8_t *list_out, size_t list_out_len,
                                              uint8_t *work, size_t work_len);
+
+/* The answer of rest_spread_calls for an n above 32. */
+#define REST_SPREAD_PATTERN_TOO_LONG 14
+
+/* The most items of a literal whose patterns are counted. */
+#define REST_SPREAD_LONGEST_PATTERN 32
+
+struct rest_spread_counted {
+    uint8_t answer;  /* 0, or 14 */
+    uint32_t number; /* 0 at a refusal, and at most 601,080,390 */
+};
+
+/* How many literals lead to how many calls: of all patterns of n items of an object literal, each spread or ordinary, how
+ * many give c nested calls of the helper ObjectSpread2 when they are lowered. 0 for c above n. It stands in libcounting.a.
+ *
+ * Nothing is asked of n and c. The call ends, reads and writes nothing else, and depends on n and c alone. */
+struct rest_spread_counted rest_spread_calls(uint32_t n, uint32_t c);
 
 #ifdef __cplusplus
 }

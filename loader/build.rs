@@ -15,8 +15,10 @@ struct Archive {
     functions: &'static [&'static str],
 }
 
-const ARCHIVES: [Archive; 1] =
-    [Archive { name: "rest_spread", functions: &["rest_spread_lower", "rest_spread_version"] }];
+const ARCHIVES: [Archive; 2] = [
+    Archive { name: "rest_spread", functions: &["rest_spread_lower", "rest_spread_version"] },
+    Archive { name: "counting", functions: &["rest_spread_calls"] },
+];
 
 /// How long `rt staticlib` takes for all of them, from nothing.
 const TIME: &str = "some 15 minutes on two cores, less where crates are proved already";
@@ -142,9 +144,11 @@ fn test_functions(archive: &Archive, path: &Path) {
     }
 }
 
-/// Says so if the code was changed since.
+/// Says so if the code was changed since: the archive's crate, or one that `crates.txt` names behind it.
 fn test_age(archive: &Archive, path: &Path, root: &Path) {
-    let changed = newest(&root.join("crates"));
+    let crates = fs::read_to_string(root.join("crates.txt")).unwrap_or_default();
+    let line = crates.lines().find_map(|line| line.strip_prefix(archive.name)?.strip_prefix(':')).unwrap_or_default();
+    let changed = newest(&root.join("crates"), line.split_whitespace().chain([archive.name]));
     let made = fs::metadata(path).and_then(|m| m.modified()).ok();
     if made < changed {
         println!(
@@ -155,10 +159,10 @@ fn test_age(archive: &Archive, path: &Path, root: &Path) {
     }
 }
 
-/// When the code was changed last: the newest file below a crate's `src`.
-fn newest(crates: &Path) -> Option<SystemTime> {
-    let sources = within(crates).into_iter().map(|one| one.join("src"));
-    sources
+/// When the code was changed last: the newest file below the `src` of one of these crates.
+fn newest<'a>(crates: &Path, names: impl Iterator<Item = &'a str>) -> Option<SystemTime> {
+    names
+        .map(|name| crates.join(name).join("src"))
         .filter(|src| src.is_dir())
         .inspect(|src| println!("cargo:rerun-if-changed={}", src.display()))
         .filter_map(|src| newest_below(&src))

@@ -29,7 +29,24 @@ pub struct Outcome {
     pub list_len: usize,
 }
 
-// The layout that the archive was compiled with.
+/// What [`calls`] returns.
+///
+/// ```
+/// let counted = rest_spread::entry::calls(33, 0);
+/// assert_eq!((counted.answer, counted.number), (14, 0));
+/// ```
+#[repr(C)]
+#[derive(Clone, Copy, Debug, PartialEq, Eq)]
+pub struct Counted {
+    /// 0, or 14.
+    pub answer: u8,
+    /// The number, 0 at a refusal.
+    pub number: u32,
+}
+
+// The layouts that the archives were compiled with.
+const _: () = assert!(size_of::<Counted>() == 8);
+const _: () = assert!(offset_of!(Counted, answer) == 0 && offset_of!(Counted, number) == 4);
 const _: () = assert!(size_of::<Outcome>() == 24);
 const _: () = assert!(offset_of!(Outcome, answer) == 0 && offset_of!(Outcome, helpers) == 1);
 const _: () = assert!(offset_of!(Outcome, options) == 2 && offset_of!(Outcome, tree_len) == 8);
@@ -37,6 +54,9 @@ const _: () = assert!(offset_of!(Outcome, list_len) == 16);
 
 extern "C" {
     fn rest_spread_version() -> u32;
+
+    // In libcounting.a.
+    fn rest_spread_calls(n: u32, c: u32) -> Counted;
 
     // In Rattle each slice is one parameter. It is passed as its address and its length.
     fn rest_spread_lower(
@@ -82,4 +102,11 @@ pub fn lower(options: u32, tree: &[u8], tree_out: &mut [u8], list_out: &mut [u8]
             work.len(),
         )
     }
+}
+
+/// Counts patterns of `n` items that give `c` nested calls. [`calls`](crate::calls()) has the same with a refusal by name.
+#[must_use]
+pub fn calls(n: u32, c: u32) -> Counted {
+    // SAFETY: the function takes any two numbers, reads and writes nothing else, and ends.
+    unsafe { rest_spread_calls(n, c) }
 }

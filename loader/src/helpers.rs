@@ -156,14 +156,17 @@ impl Helpers {
         Helper::ALL.iter().copied().filter(move |&helper| self.contains(helper))
     }
 
-    /// The text of all in the set, each function once. A loader runs it ahead of the lowered script.
+    /// The text of all in the set, each function once, with Babel's notice above it. A loader runs it ahead of the lowered
+    /// script.
     #[must_use]
     pub fn source(self) -> String {
+        let (notice, _) = SOURCE.split_once("\n\nfunction ").expect("helpers.js begins with a notice");
         let mut texts: Vec<(usize, usize)> =
             self.iter().flat_map(|h| h.functions()).map(|name| function(name)).collect();
         texts.sort_unstable();
         texts.dedup();
-        texts.iter().map(|&(begin, end)| &SOURCE[begin..end]).collect::<Vec<_>>().join("\n")
+        let functions = texts.iter().map(|&(begin, end)| &SOURCE[begin..end]);
+        [format!("{notice}\n").as_str()].into_iter().chain(functions).collect::<Vec<_>>().join("\n")
     }
 }
 
@@ -214,9 +217,9 @@ mod tests {
             assert_eq!(helper.function(), format!("{helper:?}"));
         }
         let all = Helpers::ALL.source();
-        assert_eq!(all.matches("\nfunction ").count() + 1, 9, "each function once");
-        assert!(SOURCE.ends_with(&format!("\n\n{all}")), "all of the file");
-        assert_eq!(Helpers::default().source(), "");
+        assert_eq!(all.matches("\nfunction ").count(), 9, "each function once");
+        assert_eq!(all, SOURCE, "all of the file");
+        assert!(Helpers::default().source().contains("Copyright (c) 2014-present Sebastian McKenzie"));
     }
 
     #[test]

@@ -18,13 +18,14 @@
 //!
 //! | Module | Holds |
 //! |---|---|
-//! | [`entry`] | the archive's functions, with all the `unsafe` there is |
+//! | [`entry`] | the archives' functions, with all the `unsafe` there is |
 //! | [`Lowerer`], [`Lowered`] | the safe layer: buffers that are used again, and what a call hands back |
 //! | [`Refusal`], [`Explained`] | why a tree was not lowered, where, and what to do about it |
 //! | [`Helpers`], [`Options`] | the masks, by name, and the helpers' text |
 //! | [`List`], [`Node`], [`Walk`] | what the list hands out; reading trees |
 //! | [`Make`] | making trees |
 //! | [`Leftover`] | object rest and spread that stay in a result |
+//! | [`calls()`] | how many literals lead to how many calls |
 //!
 //! `docs/FORMAT.md` of the repository describes the tree bytes.
 
@@ -32,6 +33,7 @@
 #![warn(missing_docs)]
 
 mod advice;
+mod calls;
 #[cfg(test)]
 #[path = "../tests/common/draw.rs"]
 #[allow(dead_code)]
@@ -51,6 +53,7 @@ mod refusal;
 mod walk;
 
 pub use advice::{Advice, Explained};
+pub use calls::calls;
 pub use grammar::{Fault, Trouble};
 pub use helpers::{Helper, Helpers};
 pub use kind::Kind;
@@ -75,3 +78,5 @@ pub const TREE_OUT: usize = 32_768;
 pub const LIST_OUT: usize = 16_384;
 /// The bytes of work that a call needs.
 pub const WORK: usize = 65_536;
+/// The most items of a literal that [`calls()`] counts patterns of.
+pub const LONGEST_PATTERN: u32 = 32;

@@ -56,11 +56,7 @@ impl Lowerer {
     /// If the archive that was linked is of another version than this crate is for.
     #[must_use]
     pub fn new() -> Self {
-        let linked = entry::version();
-        assert!(
-            linked == ARCHIVE,
-            "the archive is of version {linked}, and this loader is for {ARCHIVE}: build both anew"
-        );
+        compare(entry::version());
         let zeros = |length| vec![0; length].into_boxed_slice();
         Self { tree: zeros(TREE_OUT), list: zeros(LIST_OUT), work: zeros(WORK) }
     }
@@ -82,6 +78,10 @@ impl Lowerer {
             }),
         }
     }
+}
+
+fn compare(linked: u32) {
+    assert!(linked == ARCHIVE, "the archive is of version {linked}, and this loader is for {ARCHIVE}: build both anew");
 }
 
 impl Default for Lowerer {
@@ -112,5 +112,16 @@ mod tests {
             let behind = [&lowerer.tree[length..], &lowerer.list[..], &lowerer.work[..]].concat();
             assert!(behind.iter().all(|&byte| byte == 0));
         }
+    }
+
+    #[test]
+    #[should_panic(expected = "the archive is of version 7, and this loader is for ")]
+    fn another_version_is_not_taken() {
+        compare(7);
+    }
+
+    #[test]
+    fn the_archive_is_of_this_version() {
+        assert_eq!(entry::version(), ARCHIVE);
     }
 }

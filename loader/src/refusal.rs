@@ -29,6 +29,8 @@ pub enum Refusal {
     KeyWithoutForm,
     /// The result passes a limit or a slice.
     TooLong,
+    /// More items than [`calls()`](crate::calls()) counts patterns of.
+    PatternTooLong,
     /// A number that this version has no name for: the archive is newer. Such a value is made by
     /// [`from_number`](Self::from_number) alone.
     #[non_exhaustive]
@@ -76,6 +78,12 @@ const TABLE: &[(Refusal, u8, &str, &str)] = &[
         7,
         "the result is too long: the tree may have 32,768 bytes, the list 16,384, and neither more than its buffer",
         "split the script into smaller ones",
+    ),
+    (
+        PatternTooLong,
+        14,
+        "the literals that are asked about have more than 32 items",
+        "ask about literals of 32 items or fewer",
     ),
 ];
 
@@ -153,7 +161,7 @@ mod tests {
             assert_eq!(refusal == Unknown(number), !Refusal::ALL.contains(&refusal));
         }
         let numbers: Vec<u8> = Refusal::ALL.iter().map(|refusal| refusal.number()).collect();
-        assert_eq!(numbers, [1, 2, 3, 4, 5, 6, 7]);
+        assert_eq!(numbers, [1, 2, 3, 4, 5, 6, 7, 14]);
     }
 
     #[test]

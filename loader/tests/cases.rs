@@ -19,7 +19,8 @@ fn the_safe_layer_gives_what_is_stored() {
         }
     }
     assert!(cases.len() >= 400, "{} cases", cases.len());
-    for refusal in Refusal::ALL.iter().filter(|&&refusal| refusal != Refusal::ShortWork) {
+    let elsewhere = [Refusal::ShortWork, Refusal::PatternTooLong];
+    for refusal in Refusal::ALL.iter().filter(|refusal| !elsewhere.contains(refusal)) {
         assert!(cases.iter().any(|case| case.answer == refusal.number()), "no case has {refusal}");
     }
 }

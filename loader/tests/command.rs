@@ -210,7 +210,7 @@ fn versions_and_helpers_are_printed() {
         assert!(ran.out.contains(helper.source()), "{helper}");
     }
     let file = concat!(env!("CARGO_MANIFEST_DIR"), "/../helpers/helpers.js");
-    assert!(fs::read_to_string(file).unwrap().ends_with(&ran.out));
+    assert_eq!(fs::read_to_string(file).unwrap(), ran.out, "with Babel's notice");
 }
 
 #[test]

@@ -3,11 +3,11 @@
 mod common;
 
 use common::make::{blocks, expression, key_without_form, program, rest_below_array_rest, rests, spreads};
-use common::skip;
-use rest_spread::{Helper, Options, Refusal, ARCHIVE, LEVELS, LIST_OUT, TREE_IN, TREE_OUT, WORK};
+use common::{folder, skip};
+use rest_spread::{Helper, Options, Refusal, ARCHIVE, LEVELS, LIST_OUT, LONGEST_PATTERN, TREE_IN, TREE_OUT, WORK};
 use std::collections::HashMap;
 use std::io::Write;
-use std::path::Path;
+use std::path::{Path, PathBuf};
 use std::process::{Command, Stdio};
 use std::{env, fs};
 
@@ -28,6 +28,7 @@ fn the_header_has_the_numbers_of_the_safe_layer() {
     let mut has = |name: &str, number: usize| assert_eq!(numbers.remove(name), Some(number), "{name}");
     has("VERSION", ARCHIVE as usize);
     has("LEVELS", LEVELS);
+    has("LONGEST_PATTERN", LONGEST_PATTERN as usize);
     has("TREE_IN", TREE_IN);
     has("TREE_OUT", TREE_OUT);
     has("LIST_OUT", LIST_OUT);
@@ -55,23 +56,49 @@ fn upper(name: &str) -> String {
     words.collect()
 }
 
-#[test]
-fn the_c_example_works() {
+/// Compiles the example in a folder, or says that there is no compiler.
+fn compiled(folder: &Path, name: &str) -> Option<PathBuf> {
     let compiler = env::var("CC").unwrap_or("cc".into());
-    let program_file = Path::new(env!("CARGO_TARGET_TMPDIR")).join("lower_in_c");
+    let program_file = Path::new(env!("CARGO_TARGET_TMPDIR")).join(name);
     let compiled = Command::new(&compiler)
         .args(["-std=c99", "-Wall", "-Wextra", "-Werror", "-pedantic", "lower.c"])
         .args(env!("REST_SPREAD_ARCHIVES").split(':'))
         .arg("-o")
         .arg(&program_file)
-        .current_dir(C)
+        .current_dir(folder)
         .output();
-    let compiled = match compiled {
-        Ok(compiled) => compiled,
-        Err(why) => return skip(&format!("the C example is not compiled: {compiler}: {why}")),
-    };
-    assert!(compiled.status.success(), "{}", String::from_utf8_lossy(&compiled.stderr));
+    match compiled {
+        Err(why) => {
+            skip(&format!("the C example is not compiled: {compiler}: {why}"));
+            None
+        }
+        Ok(compiled) => {
+            assert!(compiled.status.success(), "{}", String::from_utf8_lossy(&compiled.stderr));
+            Some(program_file)
+        }
+    }
+}
 
+/// With a header of another version than the archive's, nothing is lowered.
+#[test]
+fn the_c_example_compares_versions() {
+    let folder = folder("other_version");
+    for file in ["lower.c", "rest_spread.h"] {
+        let text = fs::read_to_string(Path::new(C).join(file)).unwrap();
+        let other = text.replace(&format!("REST_SPREAD_VERSION {ARCHIVE}\n"), "REST_SPREAD_VERSION 77\n");
+        assert_eq!(other != text, file == "rest_spread.h");
+        fs::write(folder.join(file), other).unwrap();
+    }
+    let Some(program) = compiled(&folder, "other_version_in_c") else { return };
+    let ended = Command::new(program).stdin(Stdio::null()).output().unwrap();
+    assert_eq!(ended.status.code(), Some(70));
+    let said = format!("the archive is of version {ARCHIVE}, the header of 77\n");
+    assert_eq!(String::from_utf8(ended.stderr).unwrap(), said);
+}
+
+#[test]
+fn the_c_example_works() {
+    let Some(program_file) = compiled(Path::new(C), "lower_in_c") else { return };
     let run = |input: &[u8]| {
         let mut child = Command::new(&program_file)
             .stdin(Stdio::piped())

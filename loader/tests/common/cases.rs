@@ -17,7 +17,8 @@ pub struct Case {
     pub list_out: Vec<u8>,
 }
 
-/// All cases in `tests/data`, and in the folder that `REST_SPREAD_CASES` names.
+/// All cases in `tests/data`, and in the folder that `REST_SPREAD_CASES` names, but for files `cr*.txt`: these have columns
+/// of their own.
 pub fn stored() -> Vec<Case> {
     let data = PathBuf::from(env!("CARGO_MANIFEST_DIR")).join("tests/data");
     let folders = [Some(data), env::var_os("REST_SPREAD_CASES").map(PathBuf::from)];
@@ -27,6 +28,7 @@ pub fn stored() -> Vec<Case> {
         .flat_map(|folder| fs::read_dir(&folder).unwrap_or_else(|why| panic!("{}: {why}", folder.display())))
         .map(|file| file.unwrap().path())
         .filter(|path| path.extension().is_some_and(|end| end == "txt"))
+        .filter(|path| !path.file_name().unwrap().to_string_lossy().starts_with("cr"))
         .collect();
     files.sort();
     files.iter().flat_map(read_file).collect()
