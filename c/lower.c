@@ -15,7 +15,7 @@ static const char *why(uint8_t answer, size_t len) {
     case REST_SPREAD_NOT_A_TREE:
         return len == 0 ? "the input is empty"
                : len > REST_SPREAD_TREE_IN ? "the input is longer than 16,384 bytes" : "the input is not a tree";
-    case REST_SPREAD_TOO_DEEP: return "the tree is nested deeper than 64 levels";
+    case REST_SPREAD_TOO_DEEP: return "the tree is nested deeper than 128 levels";
     case REST_SPREAD_REST_BELOW_ARRAY_REST:
         return "an assignment or a for head takes an object rest from below an array rest";
     case REST_SPREAD_KEY_WITHOUT_FORM: return "an excluded key is a literal without its string form";

@@ -22,7 +22,7 @@ extern "C" {
 
 /* The longest tree that is read, and the deepest: the Program is at level 1, a node in a field of another one below it. */
 #define REST_SPREAD_TREE_IN 16384
-#define REST_SPREAD_LEVELS 64
+#define REST_SPREAD_LEVELS 128
 
 /* The longest tree and list that are written, and the work that a call needs, in bytes. */
 #define REST_SPREAD_TREE_OUT 32768
@@ -51,7 +51,7 @@ extern "C" {
 #define REST_SPREAD_SHORT_WORK 2
 /* tree_len above 16,384, which is looked at first; or the bytes are no tree, by the rules of docs/FORMAT.md */
 #define REST_SPREAD_NOT_A_TREE 3
-/* a node at level 65. Of 3 and 4 the one that is met first in byte order is given, at one byte 3 */
+/* a node at level 129. Of 3 and 4 the one that is met first in byte order is given, at one byte 3 */
 #define REST_SPREAD_TOO_DEEP 4
 /* an assignment, or the head of a for loop, whose target has an array rest with an object rest below it, as in
  * [...[{...a}]] = b */

@@ -71,7 +71,7 @@ pub const ARCHIVE: u32 = 1;
 /// The longest tree that is read.
 pub const TREE_IN: usize = 16_384;
 /// The deepest: the Program is at level 1.
-pub const LEVELS: usize = 64;
+pub const LEVELS: usize = 128;
 /// The longest tree that is written.
 pub const TREE_OUT: usize = 32_768;
 /// The longest list that is written.

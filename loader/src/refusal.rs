@@ -21,7 +21,7 @@ pub enum Refusal {
     ShortWork,
     /// The input is too long, or is not a tree.
     NotATree,
-    /// A node stands at depth 65.
+    /// A node stands deeper than 128 levels.
     TooDeep,
     /// An assignment or the head of a loop has an object rest below an array rest.
     RestBelowArrayRest,
@@ -57,7 +57,7 @@ const TABLE: &[(Refusal, u8, &str, &str)] = &[
     (
         TooDeep,
         4,
-        "the tree is nested deeper than 64 levels",
+        "the tree is nested deeper than 128 levels",
         "move inner functions and long nested expressions out, into functions or variables of their own",
     ),
     (

@@ -108,10 +108,10 @@ fn the_byte_is_the_first_that_is_wrong() {
 #[test]
 fn a_path_leads_to_the_node_that_is_too_deep() {
     let mut lowerer = Lowerer::new();
-    let tree = blocks(64, []);
+    let tree = blocks(128, []);
     let told = lowerer.explain(&tree, Refusal::TooDeep).to_string();
-    let place = "byte 382, at Program.body[0] > Block.body[0] > Block.body[0] > (58 more) > Block.body[0] > \
-                 Block.body[0] > Block.body[0]: the node is at level 65, and 64 are allowed";
+    let place = "byte 766, at Program.body[0] > Block.body[0] > Block.body[0] > (122 more) > Block.body[0] > \
+                 Block.body[0] > Block.body[0]: the node is at level 129, and 128 are allowed";
     assert!(told.contains(place), "{told}");
 }
 

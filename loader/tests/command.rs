@@ -77,7 +77,7 @@ fn a_refusal_says_where() {
         (&b""[..], "what      the input is empty"),
         (&[1; 70_000], "what      the input has 70,000 bytes, and a tree has at most 16,384"),
         (b"\x01\x01\x00\x00!", "where     byte 4, at the root: the tree has ended, and bytes follow it"),
-        (&blocks(64, []), "> Block.body[0]: the node is at level 65, and 64 are allowed"),
+        (&blocks(128, []), "> Block.body[0]: the node is at level 129, and 128 are allowed"),
         (&program([spreads(1), expression(rest_below_array_rest())]), "where     statement 2"),
         (&program([spreads(1), expression(key_without_form())]), "where     statement 2"),
         (&program([rests(900)]), "where     the tree would have 35,111 bytes, 2,343 too many"),
@@ -111,7 +111,7 @@ fn several_inputs_get_a_line_each_a_table_of_failures_and_a_count() {
     let folder = folder("several_lines");
     let name = |name: &str| folder.join(name).to_str().unwrap().to_owned();
     fs::write(name("good"), program([spreads(1)])).unwrap();
-    fs::write(name("deep"), blocks(64, [])).unwrap();
+    fs::write(name("deep"), blocks(128, [])).unwrap();
     let (good, deep, none) = (name("good"), name("deep"), name("none"));
 
     let ran = loader(&[&good, &deep, &good, &none], b"");
@@ -121,7 +121,7 @@ fn several_inputs_get_a_line_each_a_table_of_failures_and_a_count() {
     assert_eq!(ran.out, format!("{good}: {line}\n{good}: {line}\n{count}\n"));
     let table: Vec<&str> = ran.err.lines().collect();
     assert_eq!((table.len(), table[0]), (3, "failed, each with its status:"), "{}", ran.err);
-    assert!(table[1].starts_with(&format!("    4  {deep}  the tree is nested deeper than 64 levels (byte 382, ")));
+    assert!(table[1].starts_with(&format!("    4  {deep}  the tree is nested deeper than 128 levels (byte 766, ")));
     assert!(table[2].starts_with(&format!("   74  {none}  can't be read: ")), "{}", table[2]);
 
     let ran = loader(&[&good, &good], b"");

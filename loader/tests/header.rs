@@ -117,7 +117,7 @@ fn the_c_example_works() {
         (vec![], 3),
         (b"no tree".to_vec(), 3),
         (vec![0; 20_000], 3),
-        (blocks(64, []), 4),
+        (blocks(128, []), 4),
         (program([expression(rest_below_array_rest())]), 5),
         (program([expression(key_without_form())]), 6),
         (program([rests(900)]), 7),

@@ -48,7 +48,7 @@ fn what_is_no_tree_is_refused_with_3() {
 #[test]
 fn depth_65_is_refused_with_4() {
     assert_eq!(refused(0, &blocks(63, [])), None);
-    assert_eq!(refused(0, &blocks(64, [])), Some(Refusal::TooDeep));
+    assert_eq!(refused(0, &blocks(128, [])), Some(Refusal::TooDeep));
 }
 
 #[test]
@@ -99,14 +99,14 @@ fn a_list_over_16384_bytes_is_refused_with_7() {
 fn the_first_refusal_is_given() {
     let five = from_hex(FIVE);
     let six = from_hex(SIX);
-    let long = padded(&[nested(64, [])], TREE_IN + 1);
+    let long = padded(&[nested(128, [])], TREE_IN + 1);
     let answer = |options, slices: [usize; 3], tree: &[u8]| {
         Rig::new(slices[0], slices[1], slices[2]).run(options, tree).outcome.answer
     };
     assert_eq!(answer(16, [0, 0, 0], &long), 1);
     assert_eq!(answer(15, [0, 0, 0], &long), 2);
     assert_eq!(answer(15, [0, 0, WORK], &long), 3);
-    assert_eq!(answer(15, [0, 0, WORK], &blocks(64, [])), 4);
+    assert_eq!(answer(15, [0, 0, WORK], &blocks(128, [])), 4);
     assert_eq!(answer(15, [0, 0, WORK], &five), 5);
     assert_eq!(answer(15, [0, 0, WORK], &six), 6);
     assert_eq!(answer(15, [0, 0, WORK], LISTING), 7);
