@@ -40,7 +40,7 @@ fn a_summary_shows_excluded_keys_and_options() {
     let ran = loader(&["--options", "9", "-"], tree);
     assert_eq!(ran.status, 0, "{}", ran.err);
     for line in [
-        "  options   loose, ignoreFunctionLength (not implemented, and without effect)",
+        "  options   loose (not implemented, and without effect)",
         "            before statement 2: $1",
         "  excluded  1",
         "            $2 = [\"a\"]",

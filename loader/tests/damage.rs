@@ -4,6 +4,7 @@ mod common;
 
 use common::cases::stored;
 use common::draw::{damage, Chance, Grammar};
+use common::make::blocks;
 use common::rig::Rig;
 use common::seeds;
 use rest_spread::{List, Node};
@@ -46,7 +47,8 @@ fn drawn_trees_are_trees() {
 
 #[test]
 fn damaged_trees_are_lowered_or_refused() {
-    let cases: Vec<Vec<u8>> = stored().into_iter().map(|case| case.tree).filter(|tree| tree.len() < 3_000).collect();
+    let mut cases: Vec<Vec<u8>> = stored().into_iter().map(|case| case.tree).filter(|tree| tree.len() < 3_000).collect();
+    cases.extend([blocks(130, []), blocks(200, [])]);
     let (grammar, mut rig, mut answers) = (Grammar::new(), Rig::whole(), Answers::default());
     for seed in seeds(300_000) {
         let mut chance = Chance::new(1_000_000_007 + seed);

