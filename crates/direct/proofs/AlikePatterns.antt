@@ -9,11 +9,11 @@ use lib.Dec.{eqb}
 use borrow.Author.Tests.{eqb-true}
 use Rattle.tree.specs.Tree.{Node, depth}
 use Rattle.tree.specs.Tree.Node.{node}
-use Rattle.lowering.specs.Parts.{position, kind, is, itemsAt, textAt, change, onNode, changeNode, only, each}
+use Rattle.lowering.specs.Parts.{position, kind, is, itemsAt, change, onNode, changeNode, only, each}
 use Rattle.lowering.specs.Made.{Context, temporary, reference, keyOf, string}
 use Rattle.lowering.specs.Patterns.{Shape, shape, properties, hasRest, key, value, withItems, withValues, hasNestedObjectRest, hasObjectRest, hasNestedArrayRest, hasArrayRestOverObjectRest, replaced, objectsWithRest, replacedBelow, objectsBelow}
 use Rattle.lowering.specs.Patterns.Shape.{objectPattern, arrayPattern, default, leaf}
-use Rattle.lowering.specs.Keys.{keySort, isPrimitive, lacksForm, excludedKey, keptKey, keyTemporary, allPrimitive, anyLacksForm, excludedKeys, keyTemporaries, taken}
+use Rattle.lowering.specs.Keys.{keySort, isPrimitive, lacksForm, excludedKey, keptKey, keyTemporary, allPrimitive, anyLacksForm, excludedKeys, keyTemporaries, taken, keyText}
 use Rattle.lowering.specs.Assignments.{restsThroughObjects, withoutRests}
 use Rattle.lowering.specs.Heads.{moved, movedPattern, movedOut}
 use Rattle.lowering.proofs.Cases.{by-shape, by-key, object-is}
@@ -130,8 +130,8 @@ module _ (c d : Context) where
   excluded-one {p = p} {q = q} l (same z) =
       let k : keySort (key q) ≡ keySort (key p) = ap keySort (sym z) in
       by-key (keySort (key p))
-      (λ e. rw (e, k ∙ e, excludedKey) (strings (textAt 0 (key p)) (textAt 0 (key q)) (ap (textAt 0) z)))
-      (λ e. rw (e, k ∙ e, excludedKey) (strings (textAt 2 (key p)) (textAt 2 (key q)) (ap (textAt 2) z)))
+      (λ e. rw (e, k ∙ e, excludedKey) (strings (keyText (key p)) (keyText (key q)) (ap keyText z)))
+      (λ e. rw (e, k ∙ e, excludedKey) (strings (keyText (key p)) (keyText (key q)) (ap keyText z)))
       (λ e. rw (e, k ∙ e, excludedKey) (only-alike (node-at 0 (l .0))))
       (λ e. rw (e, k ∙ e, excludedKey) AlikeItems.none)
       (λ e. rw (e, k ∙ e, excludedKey) (only-alike (node-at 0 (l .0))))
@@ -144,8 +144,8 @@ module _ (c d : Context) where
   primitive-one p q (same z) h =
       let k : keySort (key q) ≡ keySort (key p) = ap keySort (sym z) in
       by-key (keySort (key p))
-      (λ e. rw (e, k ∙ e, excludedKey) (ap (λ (x : Node). only (string (textAt 0 x))) z))
-      (λ e. rw (e, k ∙ e, excludedKey) (ap (λ (x : Node). only (string (textAt 2 x))) z))
+      (λ e. rw (e, k ∙ e, excludedKey) (ap (λ (x : Node). only (string (keyText x))) z))
+      (λ e. rw (e, k ∙ e, excludedKey) (ap (λ (x : Node). only (string (keyText x))) z))
       (λ e. rw (e, k ∙ e, excludedKey) (ap (λ (x : Node). only x) z))
       (λ e. rw (e, k ∙ e, excludedKey) refl)
       (λ e. absurd (false≢true (rw (e, isPrimitive) at h)))

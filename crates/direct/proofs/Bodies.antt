@@ -17,11 +17,12 @@ use Rattle.sink.specs.Machine.{Event}
 use Rattle.direct.specs.Events.{Place, Emit, puts, marks, contextOf, emits}
 use Rattle.direct.specs.Events.Deed.{does}
 use Rattle.direct.specs.Emit.{say, _▷_, below, inner, scoped, unused, marking, startMark, emitsStatement, emitsItems, emitsPiece, stays}
-use Rattle.direct.specs.Moved.{here, standIn, number, fronts, fresh, bodyIn, blockIn, targetIn}
+use Rattle.direct.specs.Moved.{standIn, number, fronts, fresh, bodyIn, blockIn, targetIn}
 use Rattle.direct.proofs.Threads.{then-assoc, then-nothing}
-use Rattle.direct.proofs.Stays.{emits-nowhere}
-use Rattle.direct.proofs.Makes.{say-then, below-inner, two-fields, no-items, more-statements, emits-assigning, emits-returning, emits-block, emits-new-block, emits-body}
+use Rattle.direct.proofs.OneLevel.{emits-nowhere}
+use Rattle.direct.proofs.MadeNodes.{say-then, below-inner, two-fields, no-items, more-statements, emits-assigning, emits-returning, emits-block, emits-new-block, emits-body}
 use Rattle.direct.proofs.Fronts.{front-here, emits-in-front, count-in-front, marked-new}
+use Rattle.direct.specs.Views.{nameless}
 
 -- ---- places
 
@@ -63,7 +64,7 @@ emits-assigned c left right =
 
 -- ---- the body of a function or an arrow
 
-pub body-here : (c : Place) (ps : Items) → inBody (contextOf c) ps ≡ inBody here ps
+pub body-here : (c : Place) (ps : Items) → inBody (contextOf c) ps ≡ inBody nameless ps
 unfolding inBody
 body-here c ps = fun-ext (λ b. ap (λ (f : Items → Items). changeItems 1 f b) (fun-ext (λ ns. front-here c ps ns)))
 
@@ -73,7 +74,7 @@ pub emits-body-in : (c : Place) (ps : Items) (at : ℕ) (ns : Items)
     ≡ say (puts (16 ∷ 2 ∷ wideBytes (count ns + number ps))) ▷ fronts (inner c) ps ▷ emitsItems true (inner c) ns
 unfolding bodyIn inBody asFunctionBody is change changeIn onItems
 emits-body-in c ps at ns =
-    emits-body c at (inFront here ps ns)
+    emits-body c at (inFront nameless ps ns)
     ∙ ap₂ (λ (x : ℕ) (y : Emit). say (puts (16 ∷ 2 ∷ wideBytes x)) ▷ y) (count-in-front ps ns) (emits-in-front (inner c) ps ns)
 
 -- with directives, as it stands
@@ -98,11 +99,11 @@ pub emits-directed-in : (c : Place) (ps : Items) (at : ℕ) (ds ns : Items)
     ▷ say (puts (wideBytes (count ns + number ps))) ▷ fronts (inner c) ps ▷ emitsItems true (inner c) ns
 unfolding bodyIn inBody asFunctionBody is change changeIn onItems
 emits-directed-in c ps at ds ns =
-    emits-directed c at ds (inFront here ps ns)
+    emits-directed c at ds (inFront nameless ps ns)
     ∙ ap₂ (λ (x : ℕ) (y : Emit). say (puts (16 ∷ 3 ∷ wideBytes (count ds))) ▷ emitsItems true (inner c) ds ▷ say (puts (wideBytes x)) ▷ y)
     (count-in-front ps ns) (emits-in-front (inner c) ps ns)
 
-made-body : (ps : Items) (b : Node) → is 16 b ≡ false → bodyIn ps b ≡ functionBody (inFront here ps (only (returning b)))
+made-body : (ps : Items) (b : Node) → is 16 b ≡ false → bodyIn ps b ≡ functionBody (inFront nameless ps (only (returning b)))
 unfolding bodyIn inBody asFunctionBody change changeIn onItems
 made-body ps b h = rw h refl
 
@@ -114,9 +115,9 @@ pub emits-return-in : (c : Place) (ps : Items) (b : Node) → is 16 b ≡ false
 unfolding is count inner
 emits-return-in c ps b h =
     let ns = only (returning b) in
-    let e : count (inFront here ps ns) ≡ suc (number ps) = count-in-front ps ns ∙ omega arith in
+    let e : count (inFront nameless ps ns) ≡ suc (number ps) = count-in-front ps ns ∙ omega arith in
     ap (emits c) (made-body ps b h)
-    ∙ emits-body c 0 (inFront here ps ns)
+    ∙ emits-body c 0 (inFront nameless ps ns)
     ∙ ap₂ (λ (x : ℕ) (y : Emit). say (puts (16 ∷ 2 ∷ wideBytes x)) ▷ y) e
     (emits-in-front (inner c) ps ns
     ∙ ap (λ (x : Emit). fronts (inner c) ps ▷ x) (only-statement (inner c) (returning b) refl refl ∙ emits-return (inner c) b))
@@ -129,25 +130,25 @@ pub emits-block-in : (c : Place) (ps : Items) (at m : ℕ) (ns : Items)
     ≡ say (puts (2 ∷ 3 ∷ []) ++ (marks m ++ puts (wideBytes (count ns + number ps)))) ▷ fronts (scoped c) ps ▷ emitsItems true (scoped c) ns
 unfolding blockIn inBody asBlock is change changeIn onItems
 emits-block-in c ps at m ns =
-    emits-block c at m (inFront here ps ns)
+    emits-block c at m (inFront nameless ps ns)
     ∙ ap₂ (λ (x : ℕ) (y : Emit). say (puts (2 ∷ 3 ∷ []) ++ (marks m ++ puts (wideBytes x))) ▷ y) (count-in-front ps ns) (emits-in-front (scoped c) ps ns)
 
 empty-block : (b : Node) → is 13 b ≡ true → asBlock b ≡ block Items.none
 unfolding is asBlock
 empty-block (node at k fs) e = rw (eqb-true k 13 e) refl
 
-block-front : (ps : Items) (b : Node) (ns : Items) → asBlock b ≡ block ns → blockIn ps b ≡ block (inFront here ps ns)
+block-front : (ps : Items) (b : Node) (ns : Items) → asBlock b ≡ block ns → blockIn ps b ≡ block (inFront nameless ps ns)
 unfolding blockIn inBody change changeIn onItems
-block-front ps b ns e = ap (λ (x : Node). changeItems 1 (inFront here ps) x) e
+block-front ps b ns e = ap (λ (x : Node). changeItems 1 (inFront nameless ps) x) e
 
 -- an Empty: a new Block that holds nothing else
 pub emits-empty-in : (c : Place) (ps : Items) (b : Node) → is 13 b ≡ true
     → emits c (blockIn ps b) ≡ say (puts (2 ∷ 3 ∷ []) ++ (does Event.newMark ∷ puts (wideBytes (number ps)))) ▷ fronts (scoped c) ps
 unfolding count
 emits-empty-in c ps b h =
-    let e : count (inFront here ps Items.none) ≡ number ps = count-in-front ps Items.none ∙ omega arith in
+    let e : count (inFront nameless ps Items.none) ≡ number ps = count-in-front ps Items.none ∙ omega arith in
     ap (emits c) (block-front ps b Items.none (empty-block b h))
-    ∙ emits-new-block c (inFront here ps Items.none)
+    ∙ emits-new-block c (inFront nameless ps Items.none)
     ∙ ap₂ (λ (x : ℕ) (y : Emit). say (puts (2 ∷ 3 ∷ []) ++ (does Event.newMark ∷ puts (wideBytes x))) ▷ y) e
     (emits-in-front (scoped c) ps Items.none
     ∙ ap (λ (x : Emit). fronts (scoped c) ps ▷ x) (no-items true (scoped c))

@@ -15,22 +15,23 @@ use Rattle.lowering.specs.Heads.{movedPattern, isMoved, movedFrom, inFront}
 use Rattle.lowering.specs.Collect.{marked}
 use Rattle.direct.specs.Events.{Place, Emit, puts, contextOf, emits}
 use Rattle.direct.specs.Emit.{say, _▷_, inner, marking, startMark, emitsStatement, emitsItems}
-use Rattle.direct.specs.Moved.{here, standIn, stand, movedIn, number, frontOf, fronts, fresh}
+use Rattle.direct.specs.Moved.{standIn, stand, movedIn, number, frontOf, fronts, fresh}
 use Rattle.direct.proofs.Threads.{then-assoc, say-nothing, then-nothing}
-use Rattle.direct.proofs.Makes.{more-statements, newDeclaration, emits-let, emits-temporary}
+use Rattle.direct.proofs.MadeNodes.{more-statements, newDeclaration, emits-let, emits-temporary}
 use Rattle.direct.proofs.MovedMade.{gather-hole, moved-object, moved-default, moved-leaf, moved-array-rest, moved-array, from-kept, from-moved}
 use Rattle.lowering.proofs.ItemLaws.{gather-none, gather-append, gather-only}
+use Rattle.direct.specs.Views.{nameless}
 
 -- ---- in front of a body
 
 -- the context plays no part
-pub front-here : (c : Place) (ps body : Items) → inFront (contextOf c) ps body ≡ inFront here ps body
+pub front-here : (c : Place) (ps body : Items) → inFront (contextOf c) ps body ≡ inFront nameless ps body
 unfolding inFront
 front-here c Items.none body = refl
 front-here c (Items.hole ps) body = front-here c ps body
 front-here c (Items.item p ps) body = front-here c ps (Items.item (frontOf p) body)
 
-pub emits-in-front : (c : Place) (ps body : Items) → emitsItems true c (inFront here ps body) ≡ fronts c ps ▷ emitsItems true c body
+pub emits-in-front : (c : Place) (ps body : Items) → emitsItems true c (inFront nameless ps body) ≡ fronts c ps ▷ emitsItems true c body
 unfolding inFront fronts is
 emits-in-front c Items.none body = sym (say-nothing (emitsItems true c body))
 emits-in-front c (Items.hole ps) body = emits-in-front c ps body
@@ -39,7 +40,7 @@ emits-in-front c (Items.item p ps) body =
     ∙ ap (λ (x : Emit). fronts c ps ▷ x) (more-statements c (frontOf p) body refl refl)
     ∙ sym (then-assoc (fronts c ps) (emitsStatement c (frontOf p)) (emitsItems true c body))
 
-pub count-in-front : (ps body : Items) → count (inFront here ps body) ≡ count body + number ps
+pub count-in-front : (ps body : Items) → count (inFront nameless ps body) ≡ count body + number ps
 unfolding inFront count number
 count-in-front Items.none body = omega arith
 count-in-front (Items.hole ps) body = count-in-front ps body

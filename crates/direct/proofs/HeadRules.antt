@@ -4,7 +4,7 @@ use mathlib.Core.Path.{_≡_, refl, sym, ap, ap₂, _∙_}
 use mathlib.Core.Option.{Option}
 use mathlib.Core.Bool.{Bool, true, false}
 use mathlib.Core.List.{List, [], _∷_, _++_}
-use Prim.Native.Nat.{ℕ, _+_}
+use Prim.Native.Nat.{ℕ}
 use Rattle.tree.specs.Tree.{Node, Fields, Piece, Items, wideBytes, mapOf, count}
 use Rattle.tree.specs.Tree.Node.{node}
 use Rattle.lowering.specs.Parts.{position, kind, is, pieceIn, standsIn, nodeAt, itemsAt, stands, change, changeIn, onNode, onItems, only, each, gather, any}
@@ -22,8 +22,8 @@ use Rattle.direct.specs.Events.Deed.{does, refuses}
 use Rattle.direct.specs.Emit.{say, _▷_, below, inner, scoped, emitsItems, emitsPiece, emitsFields, stays}
 use Rattle.direct.specs.Moved.{standIn, stand, behind, makes, bodyIn, blockIn, targetIn, given, emitsGiven, functionFields, arrowFields, catchFields, forFields, declarationFields, Loop}
 use Rattle.direct.proofs.Threads.{then-assoc, say-nothing, then-nothing}
-use Rattle.direct.proofs.Stays.{emits-as, emits-refused}
-use Rattle.direct.proofs.Makes.{say-then, below-scoped, two-fields, only-item, newDeclaration, emits-var, emits-temporary}
+use Rattle.direct.proofs.OneLevel.{emits-as, emits-refused}
+use Rattle.direct.proofs.MadeNodes.{say-then, below-scoped, two-fields, only-item, newDeclaration, emits-var, emits-temporary}
 use Rattle.direct.proofs.MovedOut.{behind-here}
 use Rattle.direct.proofs.MovedMade.{hands-function, hands-arrow, hands-catch, hands-declaring, hands-assigning}
 use Rattle.direct.proofs.MovedRest.{emits-declaring}

@@ -26,7 +26,7 @@ use Rattle.lowering.specs.Collect.{isContainer}
 use Rattle.lowering.proofs.Cases.{by-test, and-left, and-right}
 use Rattle.direct.specs.Events.{Place, Emit, puts, emits}
 use Rattle.direct.specs.Emit.{say, _▷_, below, emitsPiece, emitsFields, stays}
-use Rattle.direct.proofs.Stays.{emits-nowhere}
+use Rattle.direct.proofs.OneLevel.{emits-nowhere}
 use Rattle.direct.specs.Moved.{given, forFields, declarationFields}
 use Rattle.lowering.proofs.Accepted.{early}
 

@@ -18,15 +18,16 @@ use Rattle.lowering.proofs.Cases.{by-shape}
 use Rattle.lowering.proofs.Levels.{movedOut-levels}
 use Rattle.direct.specs.Events.{Place, Emit, puts, contextOf, emits}
 use Rattle.direct.specs.Emit.{say, _▷_, below, inner, emitsItems, emitsPiece, emitsFields, stays}
-use Rattle.direct.specs.Moved.{here, standIn, stand, outOf, behind, Binder}
+use Rattle.direct.specs.Moved.{standIn, stand, outOf, behind, Binder}
 use Rattle.direct.proofs.Threads.{then-assoc, then-nothing}
-use Rattle.direct.proofs.Stays.{emits-nowhere}
-use Rattle.direct.proofs.Makes.{say-then, below-inner, two-fields, emits-temporary}
+use Rattle.direct.proofs.OneLevel.{emits-nowhere}
+use Rattle.direct.proofs.MadeNodes.{say-then, below-inner, two-fields, emits-temporary}
 use Rattle.lowering.proofs.ItemLaws.{count-each}
+use Rattle.direct.specs.Views.{nameless}
 
 -- ---- the context plays no part
 
-out-here : (c : Place) (d : ℕ) (p : Node) → movedOut (contextOf c) d p ≡ movedOut here d p
+out-here : (c : Place) (d : ℕ) (p : Node) → movedOut (contextOf c) d p ≡ movedOut nameless d p
 unfolding movedOut
 out-here c zero p = refl
 out-here c (suc d) p =
@@ -36,7 +37,7 @@ out-here c (suc d) p =
     (λ e. rw (e, movedOut) refl)
     (λ e. rw (e, movedOut) refl)
 
-pub behind-here : (c : Place) → leftBehind (contextOf c) ≡ leftBehind here
+pub behind-here : (c : Place) → leftBehind (contextOf c) ≡ leftBehind nameless
 unfolding leftBehind
 behind-here c =
     fun-ext (λ q. ap (λ (f : Node → Node). cond (isMoved q) (change 0 (onNode f) q) q) (fun-ext (λ p. out-here c (depth p) p)))
@@ -61,11 +62,11 @@ pub out-leaf : (p : Node) → shape p ≡ leaf → outOf p ≡ p
 unfolding outOf movedOut depth
 out-leaf (node at k fs) e = rw (e, movedOut) refl
 
-each-out : (d : ℕ) (is : Items) → depthItems is ≤ d → each (λ e. movedOut here d e) is ≡ each outOf is
+each-out : (d : ℕ) (is : Items) → depthItems is ≤ d → each (λ e. movedOut nameless d e) is ≡ each outOf is
 unfolding each depth outOf
 each-out d Items.none h = refl
 each-out d (Items.hole ns) h = ap Items.hole (each-out d ns h)
-each-out d (Items.item n ns) h = ap₂ Items.item (movedOut-levels d n (omega arith) here) (each-out d ns (omega arith))
+each-out d (Items.item n ns) h = ap₂ Items.item (movedOut-levels d n (omega arith) nameless) (each-out d ns (omega arith))
 
 pub out-array-rest : (at : ℕ) (is : Items) (r : Node)
     → outOf (node at 36 (Fields.field (Piece.list is) (Fields.field (Piece.one r) Fields.done)))
@@ -74,7 +75,7 @@ unfolding outOf movedOut shape depth change changeIn onItems onNode
 out-array-rest at ns r =
     let d = depthFields (Fields.field (Piece.list ns) (Fields.field (Piece.one r) Fields.done)) in
     ap₂ (λ (x : Items) (y : Node). node at 36 (Fields.field (Piece.list x) (Fields.field (Piece.one y) Fields.done)))
-    (each-out d ns (omega arith)) (movedOut-levels d r (omega arith) here)
+    (each-out d ns (omega arith)) (movedOut-levels d r (omega arith) nameless)
 
 pub out-array : (at : ℕ) (is : Items)
     → outOf (node at 36 (Fields.field (Piece.list is) (Fields.absent Fields.done)))

@@ -3,7 +3,7 @@
 use mathlib.Core.Path.{_≡_, refl, ap, _∙_}
 use mathlib.Core.Bool.{true, false}
 use mathlib.Core.List.{[], _∷_, _++_}
-use Prim.Native.Nat.{ℕ, zero, suc, _+_, _≤_}
+use Prim.Native.Nat.{ℕ, zero, suc, _≤_}
 use native.Mathlib.Omega.{arith}
 use Rattle.tree.specs.Tree.{Node, Fields, Piece, Items, wideBytes, count, depth, depthFields, depthPiece, depthItems}
 use Rattle.tree.specs.Tree.Node.{node}
@@ -16,15 +16,16 @@ use Rattle.lowering.proofs.Cases.{by-test, by-shape, and-none}
 use Rattle.lowering.proofs.Accepted.{NoHoles}
 use Rattle.direct.specs.Events.{Place, puts, marks, contextOf, emits}
 use Rattle.direct.specs.Emit.{say, _▷_, inner, emitsItems}
-use Rattle.direct.specs.Moved.{here, standIn, outOf, behind, declarationFields}
-use Rattle.direct.proofs.Stays.{emits-unchanged}
-use Rattle.direct.proofs.Kept.{declaration-kept}
-use Rattle.direct.proofs.Makes.{stays-declaration}
+use Rattle.direct.specs.Moved.{standIn, outOf, behind, declarationFields}
+use Rattle.direct.proofs.OneLevel.{emits-unchanged}
+use Rattle.direct.proofs.RulesKeep.{declaration-kept}
+use Rattle.direct.proofs.MadeNodes.{stays-declaration}
 use Rattle.direct.proofs.MovedOut.{behind-kept}
 use Rattle.lowering.proofs.ItemLaws.{count-each}
 use Rattle.lowering.proofs.ChangeLaws.{shape-changed}
 use Rattle.lowering.proofs.Levels.{has-nothing, depth-pos}
 use Rattle.lowering.proofs.Clauses.{has-leaf}
+use Rattle.direct.specs.Views.{nameless}
 
 -- ---- nothing is found in nothing, nor in a temporary, nor in a leaf
 
@@ -108,20 +109,20 @@ default-none e (node at k fs) q s =
     has-default e (withLeft (λ l. standIn q) (node at k fs)) (shape-changed 0 (onNode (λ l. standIn q)) (node at k fs) ∙ s)
     (first-in (λ l. standIn q) e (depthFields fs) (λ m h. has-stand e q) fs (omega arith))
 
-out-none : (d e : ℕ) (p : Node) → depth p ≤ d → hasNestedObjectRest e (movedOut here d p) ≡ false
+out-none : (d e : ℕ) (p : Node) → depth p ≤ d → hasNestedObjectRest e (movedOut nameless d p) ≡ false
 unfolding movedOut
 out-none zero e p h = let z = depth-pos p in absurd (omega arith)
-out-none (suc d) zero p h = no-levels (movedOut here (suc d) p)
+out-none (suc d) zero p h = no-levels (movedOut nameless (suc d) p)
 out-none (suc d) (suc e) p h =
     by-shape (shape p)
     (λ s. rw (s, movedOut) (has-stand (suc e) p))
-    (λ s. rw (s, movedOut) (array-none (λ m. movedOut here d m) e d (λ m l. out-none d e m l) p h s))
+    (λ s. rw (s, movedOut) (array-none (λ m. movedOut nameless d m) e d (λ m l. out-none d e m l) p h s))
     (λ s. rw (s, movedOut) (default-none e p p s))
     (λ s. rw (s, movedOut) (has-leaf (suc e) p s))
 
 pub out-without-rest : (p : Node) → hasObjectRest (outOf p) ≡ false
 unfolding outOf
-out-without-rest p = out-none (depth p) (depth (movedOut here (depth p) p)) p (omega arith)
+out-without-rest p = out-none (depth p) (depth (movedOut nameless (depth p) p)) p (omega arith)
 
 -- ---- Declarators
 

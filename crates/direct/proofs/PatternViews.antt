@@ -19,7 +19,7 @@ use Rattle.lowering.specs.Assignments.{withoutRests}
 use Rattle.lowering.specs.Walk.{ruleOf, opensScope}
 use Rattle.lowering.specs.Collect.{isContainer}
 use Rattle.lowering.proofs.Cases.{by-test, by-key, shape-34}
-use Rattle.lowering.proofs.Levels.{values-agree, replaced-levels, without-levels}
+use Rattle.lowering.proofs.Levels.{values-agree, replaced-levels, without-levels, each-agrees}
 use Rattle.sink.specs.Machine.{Event}
 use Rattle.direct.specs.Events.{Place, Emit, puts, cell, emits}
 use Rattle.direct.specs.Events.Deed.{does}
@@ -29,12 +29,12 @@ use Rattle.direct.specs.Views.View.{replacing, taking, leaving}
 use Rattle.direct.proofs.Threads.{then-assoc, then-nothing}
 use Rattle.direct.proofs.Alike.{Alike, alike-refl, key-kept}
 use Rattle.direct.proofs.AlikePatterns.{replaced-alike, withoutRests-alike, taken-alike, values-alike, shape-values}
-use Rattle.direct.proofs.Places.{names-free}
-use Rattle.direct.proofs.Stays.{emits-nowhere}
-use Rattle.direct.proofs.Makes.{say-then, below-inner, two-fields, three-fields, emits-temporary}
-use Rattle.direct.proofs.Lists.{each-levels, items-each}
+use Rattle.direct.proofs.PathFree.{names-free}
+use Rattle.direct.proofs.OneLevel.{emits-nowhere}
+use Rattle.direct.proofs.MadeNodes.{say-then, below-inner, two-fields, three-fields, emits-temporary}
 use Rattle.lowering.proofs.ItemLaws.{each-each, each-same, count-each}
 use Rattle.lowering.proofs.ChangeLaws.{position-changed, node-on-twice}
+use Rattle.direct.proofs.ListsInTurn.{items-each}
 
 -- ---- pattern nodes by their bytes and their parts
 
@@ -158,7 +158,7 @@ module _ (κ : Context) where
   replaced-array-at at is fs =
       let d = max (depthItems is) (depthFields fs) in
       ap (λ (js : Items). node at 36 (field (list js) fs))
-      (each-levels (λ v. replaced κ d v) (λ v. replacedBelow κ v) d (λ m l. replaced-levels d m l κ) is (omega arith))
+      (each-agrees (λ v. replaced κ d v) (λ v. replacedBelow κ v) d (λ m l. replaced-levels d m l κ) is (omega arith))
 
   replaced-default-at : (at : ℕ) (l : Node) (fs : Fields) → replacedBelow κ (node at 37 (field (one l) fs)) ≡ node at 37 (field (one (replacedBelow κ l)) fs)
   unfolding replaced shape depth change changeIn onNode

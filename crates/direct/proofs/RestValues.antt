@@ -3,15 +3,15 @@
 use mathlib.Core.Path.{_≡_, refl, sym, ap, ap₂, _∙_}
 use mathlib.Core.Bool.{Bool, true, false, cond, not, _&&_, _||_}
 use mathlib.Core.List.{List, [], _∷_, _++_}
-use Prim.Native.Nat.{ℕ, suc, _+_}
+use Prim.Native.Nat.{ℕ, suc}
 use Rattle.tree.specs.Tree.{Node, Items, wideBytes, count}
-use Rattle.lowering.specs.Parts.{position, is, textAt, isEmpty, only, each, gather, any, onNode, changeNode, _+++_}
+use Rattle.lowering.specs.Parts.{position, is, isEmpty, only, each, gather, any, onNode, changeNode, _+++_}
 use Rattle.lowering.specs.Made.{Context, object, array, sequence, member, string, excludedOf, keyOf, E, X, W, K}
 use Rattle.lowering.specs.Patterns.{properties, key}
-use Rattle.lowering.specs.Keys.{keySort, isPrimitive, excludedKey, excludedKeys, allPrimitive}
-use Rattle.lowering.specs.Keys.Key.{name, literal, template, private, again, other}
+use Rattle.lowering.specs.Keys.{keySort, isPrimitive, excludedKey, excludedKeys, allPrimitive, entryOf, keyText}
+use Rattle.lowering.specs.Keys.Key.{name}
 use Rattle.lowering.specs.Rests.{mapped, isHoisted, keysRead, restValue}
-use Rattle.lowering.proofs.Cases.{by-key}
+use Rattle.lowering.proofs.Cases.{by-entry}
 use Rattle.sink.specs.Machine.{Event}
 use Rattle.direct.specs.Events.{Deed, Place, Emit, puts, emits}
 use Rattle.direct.specs.Events.Deed.{does}
@@ -20,85 +20,66 @@ use Rattle.direct.specs.Views.{saysCell}
 use Rattle.direct.specs.Keys.{stringBytes, emitsExcluded, isPrivate, entries, primitives, hoists, emitsKeys, emitsKeysRead, emitsRest}
 use Rattle.direct.proofs.Threads.{then-assoc, then-nothing, say-say}
 use Rattle.direct.proofs.Alike.{key-kept}
-use Rattle.direct.proofs.Makes.{say-then, more-items, only-item, no-items, emits-call, emits-X, emits-E, emits-W, emits-array, emits-object, emits-sequence, emits-member, emits-string, emits-helper}
-use Rattle.direct.proofs.Items.{items-gather, turn-same}
+use Rattle.direct.proofs.MadeNodes.{say-then, more-items, only-item, no-items, emits-call, emits-X, emits-E, emits-W, emits-array, emits-object, emits-sequence, emits-member, emits-string, emits-helper}
+use Rattle.direct.proofs.ListsInTurn.{items-gather, turn-same}
 use Rattle.direct.proofs.PatternViews.{says-cell}
 use Rattle.lowering.proofs.ItemLaws.{empty-each}
 use Rattle.lowering.proofs.ChangeLaws.{position-changed}
+use Rattle.lowering.specs.Keys.Entry.{spelt, itself, omitted, saved}
 
 -- ---- one key
 
 module _ (c : Place) (q : Node) where
-  pub excluded-name : keySort (key q) ≡ name → emitsExcluded c q ≡ say (puts (stringBytes (textAt 0 (key q))))
+  pub excluded-spelt : entryOf (keySort (key q)) ≡ spelt → emitsExcluded c q ≡ say (puts (stringBytes (keyText (key q))))
   unfolding emitsExcluded
-  excluded-name e = rw (e, emitsExcluded) refl
+  excluded-spelt e = rw (e, emitsExcluded) refl
 
-  pub excluded-literal : keySort (key q) ≡ literal → emitsExcluded c q ≡ say (puts (stringBytes (textAt 2 (key q))))
+  pub excluded-itself : entryOf (keySort (key q)) ≡ itself → emitsExcluded c q ≡ emits c (key q)
   unfolding emitsExcluded
-  excluded-literal e = rw (e, emitsExcluded) refl
+  excluded-itself e = rw (e, emitsExcluded) refl
 
-  pub excluded-template : keySort (key q) ≡ template → emitsExcluded c q ≡ emits c (key q)
+  pub excluded-omitted : entryOf (keySort (key q)) ≡ omitted → emitsExcluded c q ≡ say []
   unfolding emitsExcluded
-  excluded-template e = rw (e, emitsExcluded) refl
+  excluded-omitted e = rw (e, emitsExcluded) refl
 
-  pub excluded-private : keySort (key q) ≡ private → emitsExcluded c q ≡ say []
+  pub excluded-saved : entryOf (keySort (key q)) ≡ saved → emitsExcluded c q ≡ saysCell 4 (position q)
   unfolding emitsExcluded
-  excluded-private e = rw (e, emitsExcluded) refl
-
-  pub excluded-again : keySort (key q) ≡ again → emitsExcluded c q ≡ emits c (key q)
-  unfolding emitsExcluded
-  excluded-again e = rw (e, emitsExcluded) refl
-
-  pub excluded-other : keySort (key q) ≡ other → emitsExcluded c q ≡ saysCell 4 (position q)
-  unfolding emitsExcluded
-  excluded-other e = rw (e, emitsExcluded) refl
+  excluded-saved e = rw (e, emitsExcluded) refl
 
 module _ (κ : Context) (q : Node) where
-  pub key-name : keySort (key q) ≡ name → excludedKey κ q ≡ only (string (textAt 0 (key q)))
+  pub key-spelt : entryOf (keySort (key q)) ≡ spelt → excludedKey κ q ≡ only (string (keyText (key q)))
   unfolding excludedKey
-  key-name e = rw (e, excludedKey) refl
+  key-spelt e = rw (e, excludedKey) refl
 
-  pub key-literal : keySort (key q) ≡ literal → excludedKey κ q ≡ only (string (textAt 2 (key q)))
+  pub key-itself : entryOf (keySort (key q)) ≡ itself → excludedKey κ q ≡ only (key q)
   unfolding excludedKey
-  key-literal e = rw (e, excludedKey) refl
+  key-itself e = rw (e, excludedKey) refl
 
-  pub key-template : keySort (key q) ≡ template → excludedKey κ q ≡ only (key q)
+  pub key-omitted : entryOf (keySort (key q)) ≡ omitted → excludedKey κ q ≡ Items.none
   unfolding excludedKey
-  key-template e = rw (e, excludedKey) refl
+  key-omitted e = rw (e, excludedKey) refl
 
-  pub key-private : keySort (key q) ≡ private → excludedKey κ q ≡ Items.none
+  pub key-saved : entryOf (keySort (key q)) ≡ saved → excludedKey κ q ≡ only (keyOf κ q)
   unfolding excludedKey
-  key-private e = rw (e, excludedKey) refl
-
-  pub key-again : keySort (key q) ≡ again → excludedKey κ q ≡ only (key q)
-  unfolding excludedKey
-  key-again e = rw (e, excludedKey) refl
-
-  pub key-other : keySort (key q) ≡ other → excludedKey κ q ≡ only (keyOf κ q)
-  unfolding excludedKey
-  key-other e = rw (e, excludedKey) refl
+  key-saved e = rw (e, excludedKey) refl
 
   pub excluded-done : (c : Place) → emitsItems false c (excludedKey κ q) ≡ emitsExcluded c q
   excluded-done c =
-      by-key (keySort (key q))
-      (λ e. ap (emitsItems false c) (key-name e) ∙ only-item c (string (textAt 0 (key q))) ∙ emits-string c (textAt 0 (key q)) ∙ sym (excluded-name c q e))
-      (λ e. ap (emitsItems false c) (key-literal e) ∙ only-item c (string (textAt 2 (key q))) ∙ emits-string c (textAt 2 (key q)) ∙ sym (excluded-literal c q e))
-      (λ e. ap (emitsItems false c) (key-template e) ∙ only-item c (key q) ∙ sym (excluded-template c q e))
-      (λ e. ap (emitsItems false c) (key-private e) ∙ no-items false c ∙ sym (excluded-private c q e))
-      (λ e. ap (emitsItems false c) (key-again e) ∙ only-item c (key q) ∙ sym (excluded-again c q e))
-      (λ e. ap (emitsItems false c) (key-other e) ∙ only-item c (keyOf κ q) ∙ says-cell c (κ .path) 4 (position q) ∙ sym (excluded-other c q e))
+      by-entry (entryOf (keySort (key q)))
+      (λ e. ap (emitsItems false c) (key-spelt e) ∙ only-item c (string (keyText (key q))) ∙ emits-string c (keyText (key q)) ∙ sym (excluded-spelt c q e))
+      (λ e. ap (emitsItems false c) (key-itself e) ∙ only-item c (key q) ∙ sym (excluded-itself c q e))
+      (λ e. ap (emitsItems false c) (key-omitted e) ∙ no-items false c ∙ sym (excluded-omitted c q e))
+      (λ e. ap (emitsItems false c) (key-saved e) ∙ only-item c (keyOf κ q) ∙ says-cell c (κ .path) 4 (position q) ∙ sym (excluded-saved c q e))
 
   -- nothing, or one entry
   entry-one : (is : Items) → count (excludedKey κ q +++ is) ≡ cond (isPrivate (key q)) (count is) (suc (count is))
   unfolding _+++_ count isPrivate
   entry-one is =
-      by-key (keySort (key q))
-      (λ e. ap (λ (x : Items). count (x +++ is)) (key-name e) ∙ rw (e, isPrivate) refl)
-      (λ e. ap (λ (x : Items). count (x +++ is)) (key-literal e) ∙ rw (e, isPrivate) refl)
-      (λ e. ap (λ (x : Items). count (x +++ is)) (key-template e) ∙ rw (e, isPrivate) refl)
-      (λ e. ap (λ (x : Items). count (x +++ is)) (key-private e) ∙ rw (e, isPrivate) refl)
-      (λ e. ap (λ (x : Items). count (x +++ is)) (key-again e) ∙ rw (e, isPrivate) refl)
-      (λ e. ap (λ (x : Items). count (x +++ is)) (key-other e) ∙ rw (e, isPrivate) refl)
+      by-entry (entryOf (keySort (key q)))
+      (λ e. ap (λ (x : Items). count (x +++ is)) (key-spelt e) ∙ rw (e, isPrivate) refl)
+      (λ e. ap (λ (x : Items). count (x +++ is)) (key-itself e) ∙ rw (e, isPrivate) refl)
+      (λ e. ap (λ (x : Items). count (x +++ is)) (key-omitted e) ∙ rw (e, isPrivate) refl)
+      (λ e. ap (λ (x : Items). count (x +++ is)) (key-saved e) ∙ rw (e, isPrivate) refl)
 
 -- ---- all keys
 
@@ -250,14 +231,7 @@ module _ (g : Node → Node) where
   unfolding emitsExcluded
   excluded-value c q =
       ap₂ (λ (at : ℕ) (k : Node).
-      elim (keySort k) [
-        | name ↦ say (puts (stringBytes (textAt 0 k)))
-        | literal ↦ say (puts (stringBytes (textAt 2 k)))
-        | template ↦ emits c k
-        | private ↦ say []
-        | again ↦ emits c k
-        | other ↦ saysCell 4 at
-      ]) (position-changed 1 (onNode g) q) (key-kept (onNode g) q)
+      elim (entryOf (keySort k)) [ spelt ↦ say (puts (stringBytes (keyText k))) | itself ↦ emits c k | omitted ↦ say [] | saved ↦ saysCell 4 at ]) (position-changed 1 (onNode g) q) (key-kept (onNode g) q)
 
   pub keys-values : (c : Place) (qs : Items) → emitsKeys c (each (λ q. changeNode 1 g q) qs) ≡ emitsKeys c qs
   unfolding emitsKeys

@@ -17,15 +17,15 @@ use Rattle.lowering.specs.Assignments.{withoutRests, restsThroughObjects}
 use Rattle.lowering.proofs.Cases.{by-test, by-shape, or-left, or-right}
 use Rattle.lowering.proofs.WeightKeys.{rest-changed}
 use Rattle.lowering.proofs.Levels.{has-levels, array-levels, replaced-levels, without-levels, rests-levels}
-use Rattle.lowering.proofs.Views.{replaced-rests}
+use Rattle.lowering.proofs.NoRestsLeft.{replaced-rests}
 use Rattle.direct.specs.Views.{withoutRestsBelow}
 use Rattle.direct.specs.Objects.{restsIn}
 use Rattle.direct.proofs.PatternViews.{value-twice}
-use Rattle.direct.proofs.Objects.{value-changed, value-kept}
-use Rattle.direct.proofs.Declared.{properties-changed, rest-beside}
+use Rattle.direct.proofs.ObjectsByLevel.{value-changed, value-kept}
+use Rattle.direct.proofs.DeclarationsByPart.{properties-changed, rest-beside}
 use Rattle.lowering.proofs.ItemLaws.{each-each, any-none}
 use Rattle.lowering.proofs.ChangeLaws.{shape-changed, changeItems-same, node-on, node-on-twice, items-without}
-use Rattle.lowering.proofs.Clauses.{objects-object, objects-array, objects-default, objects-leaf, taken-none}
+use Rattle.lowering.proofs.Clauses.{objects-object, objects-array, objects-default, objects-leaf, taken-none, replaced-plain, replaced-top, replaced-array, replaced-default, replaced-leaf, without-object, without-array, without-default, without-leaf}
 
 -- ---- lists and fields
 
@@ -125,43 +125,6 @@ module _ (d : ℕ) (p : Node) where
   unfolding hasNestedArrayRest
   over-default e = rw (e, hasNestedArrayRest) refl
 
-  module _ (κ : Context) where
-    rep-object : shape p ≡ objectPattern → hasRest p ≡ false → replaced κ (suc d) p ≡ withValues (λ v. replaced κ d v) p
-    unfolding replaced
-    rep-object e r = rw (e, replaced, r)
-
-    rep-top : shape p ≡ objectPattern → hasRest p ≡ true → replaced κ (suc d) p ≡ reference κ p
-    unfolding replaced
-    rep-top e r = rw (e, replaced, r)
-
-    rep-array : shape p ≡ arrayPattern → replaced κ (suc d) p ≡ withItems (λ v. replaced κ d v) p
-    unfolding replaced
-    rep-array e = rw (e, replaced)
-
-    rep-default : shape p ≡ default → replaced κ (suc d) p ≡ withLeft (λ v. replaced κ d v) p
-    unfolding replaced
-    rep-default e = rw (e, replaced)
-
-    rep-leaf : shape p ≡ leaf → replaced κ (suc d) p ≡ p
-    unfolding replaced
-    rep-leaf e = rw (e, replaced)
-
-    pub left-object : shape p ≡ objectPattern → withoutRests κ (suc d) p ≡ taken κ (withValues (λ v. withoutRests κ d v) p)
-    unfolding withoutRests
-    left-object e = rw (e, withoutRests)
-
-    pub left-array : shape p ≡ arrayPattern → withoutRests κ (suc d) p ≡ p
-    unfolding withoutRests
-    left-array e = rw (e, withoutRests)
-
-    pub left-default : shape p ≡ default → withoutRests κ (suc d) p ≡ withLeft (λ v. withoutRests κ d v) p
-    unfolding withoutRests
-    left-default e = rw (e, withoutRests)
-
-    pub left-leaf : shape p ≡ leaf → withoutRests κ (suc d) p ≡ p
-    unfolding withoutRests
-    left-leaf e = rw (e, withoutRests)
-
 module _ (κ : Context) where
   pub rep-nothing : (d : ℕ) → replaced κ d nothing ≡ nothing
   unfolding replaced shape
@@ -193,17 +156,17 @@ module _ (κ : Context) where
       (λ e.
       let z = sym (has-object d p e) ∙ h in
       let t : Node → Bool = λ q. hasNestedObjectRest d (value q) in
-      rep-object d p κ e (or-left (hasRest p) (any t (properties p)) z)
+      replaced-plain κ d p e (or-left (hasRest p) (any t (properties p)) z)
       ∙ changeItems-same 0 (each (λ q. changeNode 1 (λ v. replaced κ d v) q)) p
       (each-kept t (λ q. changeNode 1 (λ v. replaced κ d v) q) (λ q y. node-same (λ v. replaced κ d v) 1 q (replaced-none d (value q) y)) (properties p) (or-right (hasRest p) (any t (properties p)) z)))
       (λ e.
       let z = sym (has-array d p e) ∙ h in
       let t : Node → Bool = λ x. hasNestedObjectRest d x in
-      rep-array d p κ e
+      replaced-array κ d p e
       ∙ changeItems-same 0 (each (λ v. replaced κ d v)) p
       (each-kept t (λ v. replaced κ d v) (λ x y. replaced-none d x y) (itemsOf p) (or-left (any t (itemsOf p)) (hasNestedObjectRest d (rest p)) z)))
-      (λ e. rep-default d p κ e ∙ node-same (λ v. replaced κ d v) 0 p (replaced-none d (leftOf p) (sym (has-default d p e) ∙ h)))
-      (λ e. rep-leaf d p κ e)
+      (λ e. replaced-default κ d p e ∙ node-same (λ v. replaced κ d v) 0 p (replaced-none d (leftOf p) (sym (has-default d p e) ∙ h)))
+      (λ e. replaced-leaf κ d p e)
 
   pub replaced-nothing : (p : Node) → hasObjectRest p ≡ false → replacedBelow κ p ≡ p
   replaced-nothing p h = replaced-none (depth p) p h
@@ -229,10 +192,10 @@ module _ (κ : Context) where
       by-shape (shape p)
       (λ e.
       by-test (hasRest p)
-      (λ r. ap (hasNestedObjectRest (suc d)) (rep-top d p κ e r) ∙ reference-has (suc d) p)
+      (λ r. ap (hasNestedObjectRest (suc d)) (replaced-top κ d p e r) ∙ reference-has (suc d) p)
       (λ r.
       let g : Piece → Piece = onItems (each (λ q. changeNode 1 f q)) in
-      ap (hasNestedObjectRest (suc d)) (rep-object d p κ e r)
+      ap (hasNestedObjectRest (suc d)) (replaced-plain κ d p e r)
       ∙ has-object d (withValues f p) (shape-changed 0 g p ∙ e)
       ∙ ap₂ (λ (a b : Bool). a || b) (rest-changed 0 g p ∙ r)
       (values-changed t f (rep-nothing d) p
@@ -240,17 +203,17 @@ module _ (κ : Context) where
       (λ e.
       let z = sym (over-array d p e) ∙ h in
       let u : Node → Bool = λ x. hasNestedArrayRest d x in
-      ap (hasNestedObjectRest (suc d)) (rep-array d p κ e)
+      ap (hasNestedObjectRest (suc d)) (replaced-array κ d p e)
       ∙ has-array d (withItems f p) (shape-changed 0 (onItems (each f)) p ∙ e)
       ∙ ap₂ (λ (a b : Bool). a || b)
       (ap (any t) (properties-changed f p) ∙ any-each t f (itemsOf p) ∙ any-none u (λ x. t (f x)) (λ x y. has-replaced d x y) (itemsOf p) (or-left (any u (itemsOf p)) (t (rest p)) z))
       (ap t (rest-beside (onItems (each f)) p) ∙ or-right (any u (itemsOf p)) (t (rest p)) z))
       (λ e.
-      ap (hasNestedObjectRest (suc d)) (rep-default d p κ e)
+      ap (hasNestedObjectRest (suc d)) (replaced-default κ d p e)
       ∙ has-default d (withLeft f p) (shape-changed 0 (onNode f) p ∙ e)
       ∙ ap t (left-changed f (rep-nothing d) p)
       ∙ has-replaced d (leftOf p) (sym (over-default d p e) ∙ h))
-      (λ e. ap (hasNestedObjectRest (suc d)) (rep-leaf d p κ e) ∙ has-leaf d p e)
+      (λ e. ap (hasNestedObjectRest (suc d)) (replaced-leaf κ d p e) ∙ has-leaf d p e)
 
   pub replaced-clear : (p : Node) → hasArrayRestOverObjectRest p ≡ false → hasObjectRest (replacedBelow κ p) ≡ false
   replaced-clear p h =
@@ -271,22 +234,22 @@ module _ (κ : Context) where
       by-shape (shape p)
       (λ e.
       by-test (hasRest p)
-      (λ r. ap (withoutRests μ (suc d)) (rep-top d p κ e r) ∙ reference-left μ (suc d) p ∙ sym (rep-top d p κ e r))
+      (λ r. ap (withoutRests μ (suc d)) (replaced-top κ d p e r) ∙ reference-left μ (suc d) p ∙ sym (replaced-top κ d p e r))
       (λ r.
       let g : Piece → Piece = onItems (each (λ q. changeNode 1 f q)) in
-      ap (withoutRests μ (suc d)) (rep-object d p κ e r)
-      ∙ left-object d (withValues f p) μ (shape-changed 0 g p ∙ e)
+      ap (withoutRests μ (suc d)) (replaced-plain κ d p e r)
+      ∙ without-object μ d (withValues f p) (shape-changed 0 g p ∙ e)
       ∙ ap (taken μ) (values-twice w f p ∙ ap (λ (h : Node → Node). withValues h p) (fun-ext (λ v. left-replaced μ d v)))
       ∙ taken-none μ (withValues f p) (rest-changed 0 g p ∙ r)
-      ∙ sym (rep-object d p κ e r)))
-      (λ e. ap (withoutRests μ (suc d)) (rep-array d p κ e) ∙ left-array d (withItems f p) μ (shape-changed 0 (onItems (each f)) p ∙ e) ∙ sym (rep-array d p κ e))
+      ∙ sym (replaced-plain κ d p e r)))
+      (λ e. ap (withoutRests μ (suc d)) (replaced-array κ d p e) ∙ without-array μ d (withItems f p) (shape-changed 0 (onItems (each f)) p ∙ e) ∙ sym (replaced-array κ d p e))
       (λ e.
-      ap (withoutRests μ (suc d)) (rep-default d p κ e)
-      ∙ left-default d (withLeft f p) μ (shape-changed 0 (onNode f) p ∙ e)
+      ap (withoutRests μ (suc d)) (replaced-default κ d p e)
+      ∙ without-default μ d (withLeft f p) (shape-changed 0 (onNode f) p ∙ e)
       ∙ left-twice w f p
       ∙ ap (λ (h : Node → Node). withLeft h p) (fun-ext (λ v. left-replaced μ d v))
-      ∙ sym (rep-default d p κ e))
-      (λ e. ap (withoutRests μ (suc d)) (rep-leaf d p κ e) ∙ left-leaf d p μ e ∙ sym (rep-leaf d p κ e))
+      ∙ sym (replaced-default κ d p e))
+      (λ e. ap (withoutRests μ (suc d)) (replaced-leaf κ d p e) ∙ without-leaf μ d p e ∙ sym (replaced-leaf κ d p e))
 
   pub without-replaced : (μ : Context) (p : Node) → withoutRestsBelow μ (replacedBelow κ p) ≡ replacedBelow κ p
   without-replaced μ p =
@@ -336,18 +299,18 @@ module _ (κ : Context) where
       by-shape (shape p)
       (λ e.
       let g : Piece → Piece = onItems (each (λ q. changeNode 1 w q)) in
-      ap (hasNestedArrayRest (suc d)) (left-object d p κ e)
+      ap (hasNestedArrayRest (suc d)) (without-object κ d p e)
       ∙ over-object d (taken κ (withValues w p)) (shape-taken (withValues w p) ∙ shape-changed 0 g p ∙ e)
       ∙ any-taken t (withValues w p)
       ∙ values-changed κ t w (left-nothing κ d) p
       ∙ any-none (λ q. t (value q)) (λ q. t (w (value q))) (λ q y. over-left d (value q) y) (properties p) (sym (over-object d p e) ∙ h))
-      (λ e. ap (hasNestedArrayRest (suc d)) (left-array d p κ e) ∙ h)
+      (λ e. ap (hasNestedArrayRest (suc d)) (without-array κ d p e) ∙ h)
       (λ e.
-      ap (hasNestedArrayRest (suc d)) (left-default d p κ e)
+      ap (hasNestedArrayRest (suc d)) (without-default κ d p e)
       ∙ over-default d (withLeft w p) (shape-changed 0 (onNode w) p ∙ e)
       ∙ ap t (left-changed κ w (left-nothing κ d) p)
       ∙ over-left d (leftOf p) (sym (over-default d p e) ∙ h))
-      (λ e. ap (hasNestedArrayRest (suc d)) (left-leaf d p κ e) ∙ h)
+      (λ e. ap (hasNestedArrayRest (suc d)) (without-leaf κ d p e) ∙ h)
 
   pub over-without : (p : Node) → hasArrayRestOverObjectRest p ≡ false → hasArrayRestOverObjectRest (withoutRestsBelow κ p) ≡ false
   over-without p h =

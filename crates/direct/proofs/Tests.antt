@@ -11,19 +11,13 @@ use Rattle.tree.specs.Tree.Piece.{one, list}
 use Rattle.lowering.specs.Parts.{nothing, is, pieceIn, nodeAt, itemsAt, gather, any}
 use Rattle.lowering.specs.Patterns.{shape, value, hasNestedArrayRest, hasObjectRest, hasArrayRestOverObjectRest}
 use Rattle.lowering.specs.Assignments.{topLacksForm}
-use Rattle.lowering.proofs.Levels.{node-in, has-levels, array-levels, has-nothing, array-nothing}
+use Rattle.lowering.proofs.Levels.{node-in, has-levels, array-levels, has-nothing, array-nothing, any-agrees}
 use Rattle.direct.specs.Views.{arrayAt, arrayRestAt}
 use Rattle.direct.specs.Assigned.{assignmentAt}
 use Rattle.direct.specs.Counts.{sumOf, lacksRests}
 use Rattle.lowering.proofs.ItemLaws.{count-append}
 
 -- ---- whether an object rest is below
-
-any-levels : (f g : Node → Bool) (b : ℕ) → ((m : Node) → depth m ≤ b → f m ≡ g m) → (is : Items) → depthItems is ≤ b → any f is ≡ any g is
-unfolding any depth
-any-levels f g b h Items.none l = refl
-any-levels f g b h (Items.hole is) l = any-levels f g b h is l
-any-levels f g b h (Items.item n is) l = ap₂ (λ (x y : Bool). x || y) (h n (omega arith)) (any-levels f g b h is (omega arith))
 
 over-value : (d : ℕ) (q : Node) → depth q ≤ d → hasNestedArrayRest d (value q) ≡ hasArrayRestOverObjectRest (value q)
 over-value d q l =
@@ -35,20 +29,20 @@ pub over-object-at : (at : ℕ) (ps : Items) (fs : Fields) → hasArrayRestOverO
 unfolding hasNestedArrayRest shape depth itemsAt pieceIn
 over-object-at at ps fs =
     let d = max (depthItems ps) (depthFields fs) in
-    any-levels (λ q. hasNestedArrayRest d (value q)) (λ q. hasArrayRestOverObjectRest (value q)) d (λ q l. over-value d q l) ps (omega arith)
+    any-agrees (λ q. hasNestedArrayRest d (value q)) (λ q. hasArrayRestOverObjectRest (value q)) d (λ q l. over-value d q l) ps (omega arith)
 
 pub over-array-at : (at : ℕ) (is : Items) → hasArrayRestOverObjectRest (arrayAt at is) ≡ any (λ n. hasArrayRestOverObjectRest n) is
 unfolding hasNestedArrayRest shape depth nodeAt itemsAt pieceIn
 over-array-at at is =
     let d = max (depthItems is) 0 in
-    ap₂ (λ (x y : Bool). x || y) (any-levels (λ n. hasNestedArrayRest d n) (λ n. hasArrayRestOverObjectRest n) d (λ m l. array-levels d m l) is (omega arith)) (has-nothing d)
+    ap₂ (λ (x y : Bool). x || y) (any-agrees (λ n. hasNestedArrayRest d n) (λ n. hasArrayRestOverObjectRest n) d (λ m l. array-levels d m l) is (omega arith)) (has-nothing d)
     ∙ or-false (any (λ n. hasArrayRestOverObjectRest n) is)
 
 pub over-array-rest-at : (at : ℕ) (is : Items) (r : Node) → hasArrayRestOverObjectRest (arrayRestAt at is r) ≡ any (λ n. hasArrayRestOverObjectRest n) is || hasObjectRest r
 unfolding hasNestedArrayRest shape depth nodeAt itemsAt pieceIn
 over-array-rest-at at is r =
     let d = max (depthItems is) (max (depth r) 0) in
-    ap₂ (λ (x y : Bool). x || y) (any-levels (λ n. hasNestedArrayRest d n) (λ n. hasArrayRestOverObjectRest n) d (λ m l. array-levels d m l) is (omega arith)) (has-levels d r (omega arith))
+    ap₂ (λ (x y : Bool). x || y) (any-agrees (λ n. hasNestedArrayRest d n) (λ n. hasArrayRestOverObjectRest n) d (λ m l. array-levels d m l) is (omega arith)) (has-levels d r (omega arith))
 
 pub over-default-at : (at : ℕ) (l : Node) (fs : Fields) → hasArrayRestOverObjectRest (node at 37 (field (one l) fs)) ≡ hasArrayRestOverObjectRest l
 unfolding hasNestedArrayRest shape depth nodeAt pieceIn

@@ -3,9 +3,9 @@ use Prim.Native.Nat.{ℕ, suc}
 use mathlib.Core.Bool.{Bool, cond}
 use mathlib.Core.List.{List, [], _∷_, _++_}
 use Rattle.tree.specs.Tree.{Node, wideBytes, count, encode}
-use Rattle.lowering.specs.Parts.{position, nodeAt, textAt, gather}
+use Rattle.lowering.specs.Parts.{position, nodeAt, gather}
 use Rattle.lowering.specs.Patterns.{properties, key}
-use Rattle.lowering.specs.Keys.{keySort, keyTemporaries}
+use Rattle.lowering.specs.Keys.{keySort, keyTemporaries, keyText}
 use Rattle.lowering.specs.Keys.Key.{name, literal, template, private, again, other}
 use Rattle.lowering.specs.Declarations.{isName, isLowered}
 use Rattle.sink.specs.Machine.Event.{make, listedTemporary, excludedTemporary, declarator, entry}
@@ -33,16 +33,20 @@ keysMade o = inTurn keyMade (properties o)
 -- ---- excluded keys
 
 -- the bytes of a key that may be taken as a string
-unfoldable pub keyBytes : Node → List ℕ
-keyBytes q =
-    elim (keySort (key q)) [
-      | name ↦ stringBytes (textAt 0 (key q))
-      | literal ↦ stringBytes (textAt 2 (key q))
-      | template ↦ encode (key q)
+unfoldable pub keyBytesOf : Node → List ℕ
+keyBytesOf k =
+    elim (keySort k) [
+      | name ↦ stringBytes (keyText k)
+      | literal ↦ stringBytes (keyText k)
+      | template ↦ encode k
       | private ↦ []
       | again ↦ []
       | other ↦ []
     ]
+
+-- of the property q
+unfoldable pub keyBytes : Node → List ℕ
+keyBytes q = keyBytesOf (key q)
 
 -- those of o, if they go out
 unfoldable pub excludesOf : Bool → Node → Emit

@@ -5,15 +5,15 @@ use mathlib.Core.List.{List, [], _∷_, _++_}
 use lib.ListN.{length}
 use Rattle.tree.specs.Tree.{Node, Items, wideBytes}
 use Rattle.tree.specs.Tree.Items.{none, hole, item}
-use Rattle.lowering.specs.Parts.{position, textAt, isEmpty, any}
+use Rattle.lowering.specs.Parts.{position, isEmpty, any}
 use Rattle.lowering.specs.Patterns.{key}
-use Rattle.lowering.specs.Keys.{keySort, isPrimitive}
-use Rattle.lowering.specs.Keys.Key.{name, literal, template, private, again, other}
+use Rattle.lowering.specs.Keys.{keySort, isPrimitive, entryOf, keyText}
 use Rattle.sink.specs.Machine.Event.{helper}
 use Rattle.direct.specs.Events.{Place, Emit, puts, emits}
 use Rattle.direct.specs.Events.Deed.{does}
 use Rattle.direct.specs.Emit.{say, _▷_, inner, callHead, inTurn}
 use Rattle.direct.specs.Views.{saysCell}
+use Rattle.lowering.specs.Keys.Entry.{spelt, itself, omitted, saved}
 
 -- a string of the form
 abbrev pub stringBytes : List ℕ → List ℕ
@@ -22,17 +22,15 @@ stringBytes form = 22 ∷ 7 ∷ 1 ∷ 0 ∷ 0 ∷ wideBytes (length form) ++ for
 -- the entry of the property q among the keys that are left out
 unfoldable pub emitsExcluded : Place → Node → Emit
 emitsExcluded c q =
-    elim (keySort (key q)) [
-      | name ↦ say (puts (stringBytes (textAt 0 (key q))))
-      | literal ↦ say (puts (stringBytes (textAt 2 (key q))))
-      | template ↦ emits c (key q)
-      | private ↦ say []
-      | again ↦ emits c (key q)
-      | other ↦ saysCell 4 (position q)
+    elim (entryOf (keySort (key q))) [
+      | spelt ↦ say (puts (stringBytes (keyText (key q))))
+      | itself ↦ emits c (key q)
+      | omitted ↦ say []
+      | saved ↦ saysCell 4 (position q)
     ]
 
 unfoldable pub isPrivate : Node → Bool
-isPrivate k = elim (keySort k) [ name ↦ false | literal ↦ false | template ↦ false | private ↦ true | again ↦ false | other ↦ false ]
+isPrivate k = elim (entryOf (keySort k)) [ spelt ↦ false | itself ↦ false | omitted ↦ true | saved ↦ false ]
 
 -- how many entries there are
 unfoldable pub entries : Items → ℕ

@@ -1,27 +1,23 @@
 -- The heads with patterns that are moved out: what they make, what stands in front of their bodies, what their parts become.
 use Prim.Native.Nat.{ℕ, suc}
 use mathlib.Core.Option.{Option}
-use mathlib.Core.Bool.{false}
 use mathlib.Core.List.{List, [], _∷_}
 use Rattle.tree.specs.Tree.{Node, Fields, Items, depth}
 use Rattle.tree.specs.Tree.Fields.{done, absent, field}
 use Rattle.tree.specs.Tree.Piece.{one, list, byte, mark}
 use Rattle.tree.specs.Tree.Items.{none, hole, item}
 use Rattle.lowering.specs.Parts.{position, changeItems}
-use Rattle.lowering.specs.Made.{Context, reference, letOf, assigning}
+use Rattle.lowering.specs.Made.{reference, letOf, assigning}
 use Rattle.lowering.specs.Heads.{moved, movedPattern, movedOut, leftBehind, inBody, asFunctionBody, asBlock}
 use Rattle.sink.specs.Machine.{Event}
 use Rattle.direct.specs.Events.{Deed, Place, Emit, cell}
 use Rattle.direct.specs.Events.Deed.{does}
 use Rattle.direct.specs.Emit.{say, _▷_, emitsStatement}
-
--- names of temporaries are not written, so one context does for all
-abbrev pub here : Context
-here = record { path = []; root = false; statement = false }
+use Rattle.direct.specs.Views.{nameless}
 
 -- the temporary in place of p, and what it does
 abbrev pub standIn : Node → Node
-standIn p = reference here p
+standIn p = reference nameless p
 
 abbrev pub stand : ℕ → List Deed
 stand at = does (Event.temporary (cell 1 at)) ∷ []
@@ -30,7 +26,7 @@ stand at = does (Event.temporary (cell 1 at)) ∷ []
 
 -- a whole pattern, moved out
 unfoldable pub outOf : Node → Node
-outOf p = movedOut here (depth p) p
+outOf p = movedOut nameless (depth p) p
 
 -- where patterns are moved out of a whole pattern
 unfoldable pub movedIn : Node → Items
@@ -38,7 +34,7 @@ movedIn p = moved (depth p) p
 
 -- a Param or a Declarator, its pattern moved out if there is an object rest below
 abbrev pub behind : Node → Node
-behind q = leftBehind here q
+behind q = leftBehind nameless q
 
 -- the kinds that bind: 15 Param(pattern default?), 5 Declarator(id init?)
 pub data Binder : ℕ → Type 0 where
@@ -76,10 +72,10 @@ fresh f next = f next next
 
 -- the body of a function or an arrow, and that of a catch or a loop, with what is put in front
 unfoldable pub bodyIn : Items → Node → Node
-bodyIn ps b = inBody here ps (asFunctionBody b)
+bodyIn ps b = inBody nameless ps (asFunctionBody b)
 
 unfoldable pub blockIn : Items → Node → Node
-blockIn ps b = inBody here ps (asBlock b)
+blockIn ps b = inBody nameless ps (asBlock b)
 
 -- the body of a loop that assigns to p
 unfoldable pub targetIn : Node → Node → Node

@@ -10,13 +10,13 @@ use Rattle.tree.specs.Tree.Items.{none, hole, item}
 use Rattle.lowering.specs.Parts.{is, changeNode}
 use Rattle.lowering.specs.Made.{Context}
 use Rattle.lowering.specs.Patterns.{replacedBelow, withValues}
-use Rattle.lowering.specs.Keys.{keySort, keptKey, taken}
-use Rattle.lowering.specs.Keys.Key.{name, literal, template, private, again, other}
+use Rattle.lowering.specs.Keys.{keySort, keptKey, taken, entryOf}
 use Rattle.lowering.specs.Assignments.{withoutRests}
 use Rattle.sink.specs.Machine.Event.{put, temporary}
 use Rattle.direct.specs.Events.{Place, Emit, cell, emits}
 use Rattle.direct.specs.Events.Deed.{does}
 use Rattle.direct.specs.Emit.{say, _▷_}
+use Rattle.lowering.specs.Keys.Entry.{spelt, itself, omitted, saved}
 
 -- ---- lists: what is done for each item; a hole is a zero byte
 
@@ -96,7 +96,7 @@ emitsProperty c t v q = emits c (viewedProperty nameless t v q)
 
 -- whether a key becomes a temporary where the rest is taken
 unfoldable pub isOther : Node → Bool
-isOther k = elim (keySort k) [ name ↦ false | literal ↦ false | template ↦ false | private ↦ false | again ↦ false | other ↦ true ]
+isOther k = elim (entryOf (keySort k)) [ spelt ↦ false | itself ↦ false | omitted ↦ false | saved ↦ true ]
 
 -- the key k of the property at `at`
 unfoldable pub emitsKey : Place → Bool → ℕ → Node → Emit

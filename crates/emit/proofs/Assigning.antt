@@ -36,19 +36,19 @@ use Rattle.direct.specs.Assigned.{assignmentAt, assignHead, restInArrays, emits
 use Rattle.direct.proofs.Threads.{then-assoc, say-say}
 use Rattle.direct.proofs.PatternViews.{values-rest, says-cell}
 use Rattle.direct.proofs.Tests.{top-lacks-form}
-use Rattle.direct.proofs.Assigned.{assignment-refused-5, assignment-refused-6, assignment-stays, assignment-nested, assignment-top, target-nested, target-kept, rest-done}
-use Rattle.direct.proofs.Inner.{inner-refused, inner-done}
+use Rattle.direct.proofs.AssignmentsByPart.{assignment-refused-5, assignment-refused-6, assignment-stays, assignment-nested, assignment-top, target-nested, target-kept, rest-done}
+use Rattle.direct.proofs.InnerAssignments.{inner-refused, inner-done}
 use Rattle.walk.specs.Run.{Going, Does, Clear}
 use Rattle.walk.specs.Whole.{Good}
 use Rattle.walk.specs.Turns.{restFrom, viewOf, turnOf, deepMode, suits, sourceOf, givenDeeds, givenNode}
-use Rattle.walk.proofs.Sizes.{rests-count-small}
+use Rattle.walk.proofs.PlacesFit.{rests-count-small}
 use Rattle.walk.proofs.HandRules.{places-within}
 use Rattle.walk.proofs.Running.{does-then, does-as, does-to, clear-after, clear-still}
 use Rattle.outcome.proofs.Calm.{rest-inner}
-use Rattle.walk.proofs.Again as walked
-use Rattle.walk.proofs.Again.{source-quiet, taking-again, target-again}
-use Rattle.walk.proofs.Args.{does-from}
-use Rattle.emit.proofs.Moving.{cell-one}
+use Rattle.walk.proofs.KeysOnceFull as walked
+use Rattle.walk.proofs.KeysOnceFull.{source-quiet, taking-again, target-again}
+use Rattle.walk.proofs.SpreadArguments.{does-from}
+use Rattle.emit.proofs.MovedPatterns.{cell-one}
 use Rattle.walk.proofs.Turning.{turn-12, turn-17, turn-18}
 use Rattle.walk.proofs.Opened.{ObjectOpen, AssignmentOpen, object-open, assignment-open, no-good, is-here, position-here, good-short, good-within}
 

@@ -15,6 +15,7 @@ use Rattle.tree.specs.Read.{byteAt, wideAt}
 use Rattle.tree.specs.Rows.{sortOf}
 use Rattle.tree.specs.Look.{Seen, onward, lookItems, lookField, lookSlot, lookFields, lookNode}
 use Rattle.tree.specs.Answer.{Peeked, Wide}
+use Rattle.tree.proofs.Look.{on-within}
 use Rattle.lowering.specs.Parts.{is, pieceIn, standsIn, itemsAt, stands, each, gather, any}
 use Rattle.lowering.specs.Heads.{isMoved, movedFrom}
 use Rattle.lowering.proofs.Cases.{by-test, and-none}
@@ -26,20 +27,21 @@ use Rattle.direct.specs.Events.Deed.{does}
 use Rattle.direct.specs.Emit.{say, _▷_, inner, scoped, marking, emitsItems, emitsPiece, stays}
 use Rattle.direct.specs.Moved.{behind, makes, number, fronts, fresh, bodyIn, emitsGiven, functionFields, arrowFields}
 use Rattle.direct.proofs.Threads.{then-assoc, say-nothing, say-say}
-use Rattle.direct.proofs.Stays.{emits-unchanged}
-use Rattle.direct.proofs.Kept.{function-kept, arrow-kept}
+use Rattle.direct.proofs.OneLevel.{emits-unchanged}
+use Rattle.direct.proofs.RulesKeep.{function-kept, arrow-kept}
 use Rattle.direct.proofs.Bodies.{emits-body-in, emits-directed-in, emits-return-in}
 use Rattle.direct.proofs.HeadRules.{emits-function, emits-arrow}
 use Rattle.walk.specs.Run.{Going, Does}
 use Rattle.walk.specs.Whole.{slotDeeds, GoodItems, GoodList, GoodField, GoodSlot, Good, Ruled}
 use Rattle.walk.specs.Turns.{turnsOf, AllSuit, AllBind}
 use Rattle.walk.proofs.Running.{does-then, does-as, does-to, does-fresh}
-use Rattle.walk.proofs.Agreeing.{agree-say, agree-then, agree-marked}
-use Rattle.walk.proofs.Args.{does-from}
-use Rattle.walk.proofs.Opened.{look-solid, ListOpen, BodyOpen, FunctionOpen, ArrowOpen, body-open, function-open, arrow-open, no-good, is-here, good-two}
+use Rattle.walk.proofs.RefusalsWithoutMarks.{agree-say, agree-then, agree-marked}
+use Rattle.walk.proofs.SpreadArguments.{does-from}
+use Rattle.walk.proofs.Opened.{kind-byte, look-solid, ListOpen, BodyOpen, FunctionOpen, ArrowOpen, body-open, function-open, arrow-open, no-good, is-here, good-two}
 use Rattle.walk.proofs.Turning.{turns-11, suit-11}
-use Rattle.emit.proofs.MovedSizes.{part-join, on-inside, on-more, moves-within, moves-whole, count-within}
-use Rattle.emit.proofs.Moving.{marks-own, inner-place, scoped-place, kind-not, look-as, good-as, node-as, stands-as, slot-on, slot-off, Through, Slotted, Backed}
+use Rattle.emit.proofs.MovesFit.{part-join, on-more, moves-within, moves-whole, count-within}
+use Rattle.emit.proofs.MovedPatterns.{marks-own, inner-place, scoped-place, kind-not, look-as, good-as, node-as, stands-as, slot-on, slot-off, Through, Slotted, Backed}
+use Rattle.pattern.proofs.Fields.{bit-stands}
 
 module _ (t : List ℕ) where
   -- ---- the directives of a body: a list by its bit
@@ -213,13 +215,6 @@ module _ (t : List ℕ) where
 
   -- ---- functions
 
-  -- what stands of the fields that are looked at
-  slot-stands : (R : ℕ → Seen Node) (s : Sort) (bit at : ℕ) (fs : Fields) → bit < 2 → standsIn (lookSlot t R s bit at .value fs) 0 ≡ eqb bit 1
-  unfolding lookSlot standsIn
-  slot-stands R s zero at fs h = refl
-  slot-stands R s (suc zero) at fs h = refl
-  slot-stands R s (suc (suc bit)) at fs h = absurd (omega arith)
-
   slot-later : (R : ℕ → Seen Node) (s : Sort) (bit at : ℕ) (fs : Fields) (i : ℕ) → standsIn (lookSlot t R s bit at .value fs) (suc i) ≡ standsIn fs i
   unfolding lookSlot standsIn
   slot-later R s zero at fs i = refl
@@ -230,7 +225,7 @@ module _ (t : List ℕ) where
   body-stands d at k =
       let m : ℕ = byteAt t (onward t at 1) in
       let e : m / 2 / 2 / 2 / 2 / 2 % 2 ≡ m / 32 % 2 = omega arith in
-      rw k (slot-later _ _ _ _ _ _ ∙ slot-later _ _ _ _ _ _ ∙ slot-later _ _ _ _ _ _ ∙ slot-later _ _ _ _ _ _ ∙ slot-later _ _ _ _ _ _ ∙ slot-stands _ _ _ _ _ (omega arith) ∙ ap (λ (x : ℕ). eqb x 1) e)
+      rw k (slot-later _ _ _ _ _ _ ∙ slot-later _ _ _ _ _ _ ∙ slot-later _ _ _ _ _ _ ∙ slot-later _ _ _ _ _ _ ∙ slot-later _ _ _ _ _ _ ∙ bit-stands t _ _ _ _ _ (omega arith) ∙ ap (λ (x : ℕ). eqb x 1) e)
 
   function-params : (at m sort : ℕ) (name : Option Node) (qs : Items) (rest : Option Node) (b : Node) → itemsAt 3 (node at 14 (functionFields m sort name qs rest b)) ≡ qs
   unfolding itemsAt pieceIn
@@ -257,10 +252,6 @@ module _ (t : List ℕ) where
   arrow-plain c (suc d) at x b e h r k =
       let n : Node = lookNode t (suc d) at .value in
       (r .0, λ good. does-as (r .1 good) (sym (emits-unchanged c n (arrow-kept (contextOf c) n (is-here t d at 17 ∙ eq-eqb (byteAt t at) 17 k) (sym e ∙ h)))))
-
-  kind-byte : (d at k : ℕ) → Good t d at → is k (lookNode t d at .value) ≡ true → byteAt t at ≡ k
-  kind-byte zero at k good h = no-good t at good
-  kind-byte (suc d) at k good h = eqb-true (byteAt t at) k (sym (is-here t d at k) ∙ h)
 
   module _ (d at : ℕ) where
     -- the places of the parameters, of the rest and of the body, and the parameters
@@ -336,7 +327,7 @@ module _ (t : List ℕ) where
         let run = sq (omega arith) goody suity in
         let q₄ : y₄ ≡ bound d at .next = run .0 ∙ ap (λ (is : Seen Items). is .next) (look-as t false e d n _ y₃ _ ed np q₃) in
         let q₅ : y₅ ≡ written d at = st .0 ∙ rw (ed, mm, q₄) (given-end d (byteAt t (onward t at 1) / 16 % 2) (bound d at .next) (omega arith)) in
-        let b16 : byteAt t y₅ ≡ 16 = ap (λ (x : ℕ). byteAt t x) q₅ ∙ kind-byte d (written d at) 16 (op .body) (op .kind16) in
+        let b16 : byteAt t y₅ ≡ 16 = ap (λ (x : ℕ). byteAt t x) q₅ ∙ kind-byte t d (written d at) 16 (op .body) (op .kind16) in
         let done = bd b16 (scoped-place c c₁ cc) (stands-as t e d y₅ (written d at) ed q₅ (op .body)) goode (λ r. suite) in
         does-to to
         (does-as (does-then (mk goodl suitl) (does-then cp (does-then (sl .1 (rw (ed, mm, q₁) (given-good d (byteAt t (onward t at 1) / 4 % 2) (onward t at 5) (omega arith) (op .name)))) (does-then cq (does-then (run .1) (does-then (st .1 (rw (ed, mm, q₄) (given-good d (byteAt t (onward t at 1) / 16 % 2) (bound d at .next) (omega arith) (op .rest)))) (done .1)))))))
@@ -356,7 +347,7 @@ module _ (t : List ℕ) where
     arrow-head : Good t (suc d) at → ArrowOpen t d at → part at (onward t (onward t at 2) 2) t ≡ 17 ∷ byteAt t (onward t at 1) ∷ wideBytes (wideAt t (onward t at 2))
     arrow-head good op =
         let two : onward t at 2 ≡ at + 2 = good-two t (suc d) at good in
-        part-join at (onward t at 2) (onward t (onward t at 2) 2) t (omega arith) (on-more t (onward t at 2) 2 (on-inside t at 2))
+        part-join at (onward t at 2) (onward t (onward t at 2) 2) t (omega arith) (on-more t (onward t at 2) 2 (on-within t at 2))
         ∙ ap₂ (λ (x y : List ℕ). x ++ y) (op .head) (op .list .head)
 
     arrow-deeds : (c : Place) → Good t (suc d) at → ArrowOpen t d at → any isMoved (itemsAt 0 (lookNode t (suc d) at .value)) ≡ true

@@ -1,7 +1,7 @@
 -- Declarations: the ways out of the code that writes one, declarator by declarator.
 -- Assumes nothing.
 use mathlib.Core.Path.{_≡_, refl, sym, ap, ap₂, _∙_, subst}
-use mathlib.Core.Bool.{Bool, true, false, cond, not, true≢false}
+use mathlib.Core.Bool.{Bool, true, false, cond, not}
 use mathlib.Core.List.{List, [], _∷_, _++_}
 use Prim.Native.Nat.{ℕ, zero, suc, _+_, _-_, _/_, _%_, _≤_, _<_}
 use native.Mathlib.Omega.{arith}
@@ -30,7 +30,7 @@ use Rattle.sink.specs.Machine.Event.{temporary}
 use Rattle.pattern.specs.Tally.{limited}
 use Rattle.pattern.specs.declared.source.ReferenceBuilder.{ReferenceBuilder}
 use Rattle.pattern.specs.Source.{builderOf, readOf, afterRead}
-use Rattle.pattern.proofs.Sizes.{counted-whole, declarations-fit}
+use Rattle.pattern.proofs.CountsFit.{counted-whole, declarations-fit}
 use Rattle.direct.specs.Events.{Place, Emit, puts, cell, marks, refused, contextOf, emits}
 use Rattle.direct.specs.Events.Deed.{does, refuses}
 use Rattle.direct.specs.Emit.{say, _▷_, inner, inTurn}
@@ -40,9 +40,9 @@ use Rattle.direct.specs.Keys.{emitsRest}
 use Rattle.direct.specs.Handed.{declaratorMade, declaratorExcludes}
 use Rattle.direct.specs.Declared.{declarationAt, emitsKeyValue, emitsOwnKeys, emitsOwnPattern, emitsOwnRest, emitsFound, emitsPattern, emitsLowered, emitsDeclarator, declaratorCount}
 use Rattle.direct.proofs.Threads.{then-assoc, say-nothing, say-say}
-use Rattle.direct.proofs.Stays.{emits-nowhere}
-use Rattle.direct.proofs.Items.{turn-same}
-use Rattle.direct.proofs.Declared.{pattern-object, pattern-array, declaration-refused, declaration-done}
+use Rattle.direct.proofs.OneLevel.{emits-nowhere}
+use Rattle.direct.proofs.ListsInTurn.{turn-same}
+use Rattle.direct.proofs.DeclarationsByPart.{pattern-object, pattern-array, declaration-refused, declaration-done}
 use Rattle.direct.proofs.Ways.{declarator-lowered, declarator-left, lowered-name, lowered-value, own-keys-none, own-keys-some, own-pattern-none, own-pattern-some, own-rest-none, own-rest-some}
 use Rattle.walk.specs.Run.{Going, Does, Clear}
 use Rattle.walk.specs.Whole.{GoodItems, Good}
@@ -50,13 +50,14 @@ use Rattle.walk.specs.Turns.{leafKind, viewOf, deepMode, suits, turnOf, turnsOf
 use Rattle.walk.specs.declared.look.Start.{Start}
 use Rattle.walk.specs.declared.look.Start.the-variants.{Value, Missing}
 use Rattle.walk.proofs.Running.{does-then, does-nothing, does-as, does-to, clear-after, clear-still}
-use Rattle.walk.proofs.Again as walked
-use Rattle.walk.proofs.Again.{Quiet, own-again}
-use Rattle.walk.proofs.Args.{does-from}
+use Rattle.walk.proofs.KeysOnceFull as walked
+use Rattle.walk.proofs.KeysOnceFull.{Quiet, own-again}
+use Rattle.walk.proofs.SpreadArguments.{does-from}
 use Rattle.walk.proofs.Opened.{BinderOpen, DeclarationOpen, no-good, kind-here, is-here, position-here, good-copied, good-short, good-two, declarator-open, declaration-open}
 use Rattle.walk.proofs.Turning.{turn-8, turns-7, turns-9, turns-10, suit-7, suit-9, suit-10}
-use Rattle.emit.proofs.Leaves.{leaf-stays}
-use Rattle.emit.proofs.Finding.{not-true, object-as, level-up, lifted, rest-stands, Turned, Deep}
+use Rattle.emit.proofs.LeavesCopied.{leaf-stays}
+use Rattle.emit.proofs.Finding.{object-as, level-up, lifted, rest-stands, Turned, Deep}
+use Rattle.lowering.proofs.Cases.{not-false, not-true}
 
 -- ---- places
 
@@ -83,10 +84,6 @@ first-part at k p v = refl
 second-part : (at k : ℕ) (p v : Node) → nodeAt 1 (node at k (field (one p) (field (one v) done))) ≡ v
 unfolding nodeAt pieceIn
 second-part at k p v = refl
-
-not-false : (b : Bool) → not b ≡ false → b ≡ true
-not-false true h = refl
-not-false false h = absurd (true≢false h)
 
 declarators-at : (at m b : ℕ) (ds : Items) → itemsAt 2 (declarationAt at m b ds) ≡ ds
 unfolding itemsAt pieceIn

@@ -10,13 +10,12 @@ use Rattle.tree.specs.Tree.{Node, Items, wideBytes, count}
 use Rattle.tree.specs.Read.{byteAt, wideAt}
 use Rattle.tree.specs.Look.{Seen, onward, lookItems, lookNode}
 use Rattle.tree.specs.Answer.{Wide}
-use Rattle.lowering.specs.Parts.{position, nodeAt, itemsAt, textAt, pieceIn}
+use Rattle.lowering.specs.Parts.{position, itemsAt, pieceIn}
 use Rattle.lowering.specs.Made.{Context}
 use Rattle.lowering.specs.Patterns.{properties, key}
-use Rattle.lowering.specs.Keys.{keySort, allPrimitive, excludedKeys}
-use Rattle.lowering.specs.Keys.Key.{name, literal, template, private, again, other}
+use Rattle.lowering.specs.Keys.{keySort, allPrimitive, excludedKeys, entryOf, keyText}
 use Rattle.lowering.specs.Rests.{hasNoProperties}
-use Rattle.lowering.proofs.Cases.{by-test, by-key}
+use Rattle.lowering.proofs.Cases.{by-test, by-entry}
 use Rattle.sink.specs.Machine.Event.{temporary, helper}
 use Rattle.pattern.specs.Tally.{limited}
 use Rattle.direct.specs.Events.{Place, Emit, puts, cell, emits}
@@ -26,15 +25,16 @@ use Rattle.direct.specs.Views.{saysCell, isOther, nameless}
 use Rattle.direct.specs.Keys.{stringBytes, emitsExcluded, isPrivate, entries, hoists, emitsKeys, emitsKeysRead, emitsRest}
 use Rattle.direct.specs.Declared.{emitsKeyValue}
 use Rattle.direct.proofs.Threads.{then-assoc, say-puts}
-use Rattle.direct.proofs.RestValues.{excluded-name, excluded-literal, excluded-template, excluded-private, excluded-again, excluded-other, entries-are, primitives-are, rest-none, rest-some, read-hoisted, read-inline, read-mapped}
+use Rattle.direct.proofs.RestValues.{excluded-spelt, excluded-itself, excluded-omitted, excluded-saved, entries-are, primitives-are, rest-none, rest-some, read-hoisted, read-inline, read-mapped}
 use Rattle.walk.specs.Run.{Going, Does}
 use Rattle.walk.specs.Whole.{Good, Ruled, Emitted}
 use Rattle.walk.specs.Turns.{keyClass, keyString}
 use Rattle.walk.proofs.Running.{does-then, does-as, does-to, does-nothing}
-use Rattle.walk.proofs.Args.{does-from}
-use Rattle.walk.proofs.Opened.{no-good, position-here, good-within, object-open, property-open}
+use Rattle.walk.proofs.SpreadArguments.{does-from}
+use Rattle.walk.proofs.Opened.{property-key, no-good, position-here, good-within, object-open}
 use Rattle.walk.proofs.Turning.{Sequenced, sequenced-as, turns-6, suit-6}
 use Rattle.walk.proofs.Viewing.{cell-4, ruled-as}
+use Rattle.lowering.specs.Keys.Entry.{spelt, itself, omitted, saved}
 
 -- ---- the value
 
@@ -146,92 +146,67 @@ module _ (t : List ℕ) where
 -- ---- one of them, by the class of its key
 
 module _ (k : Node) where
-  class-name : keySort k ≡ name → keyClass k ≡ 1
+  class-spelt : entryOf (keySort k) ≡ spelt → keyClass k ≡ 1
   unfolding keyClass
-  class-name e = rw (e, keyClass) refl
+  class-spelt e = rw (e, keyClass) refl
 
-  class-literal : keySort k ≡ literal → keyClass k ≡ 1
+  class-itself : entryOf (keySort k) ≡ itself → keyClass k ≡ 2
   unfolding keyClass
-  class-literal e = rw (e, keyClass) refl
+  class-itself e = rw (e, keyClass) refl
 
-  class-template : keySort k ≡ template → keyClass k ≡ 2
+  class-omitted : entryOf (keySort k) ≡ omitted → keyClass k ≡ 3
   unfolding keyClass
-  class-template e = rw (e, keyClass) refl
+  class-omitted e = rw (e, keyClass) refl
 
-  class-private : keySort k ≡ private → keyClass k ≡ 3
+  class-saved : entryOf (keySort k) ≡ saved → keyClass k ≡ 4
   unfolding keyClass
-  class-private e = rw (e, keyClass) refl
+  class-saved e = rw (e, keyClass) refl
 
-  class-again : keySort k ≡ again → keyClass k ≡ 2
-  unfolding keyClass
-  class-again e = rw (e, keyClass) refl
-
-  class-other : keySort k ≡ other → keyClass k ≡ 4
-  unfolding keyClass
-  class-other e = rw (e, keyClass) refl
-
-  string-name : keySort k ≡ name → keyString k ≡ stringBytes (textAt 0 k)
+  string-spelt : entryOf (keySort k) ≡ spelt → keyString k ≡ stringBytes (keyText k)
   unfolding keyString
-  string-name e = rw (e, keyString) refl
-
-  string-literal : keySort k ≡ literal → keyString k ≡ stringBytes (textAt 2 k)
-  unfolding keyString
-  string-literal e = rw (e, keyString) refl
+  string-spelt e = rw (e, keyString) refl
 
 module _ (c : Place) (q : Node) where
   as-string : keyClass (key q) ≡ 1 → say (puts (keyString (key q))) ≡ emitsExcluded c q
   as-string h =
-      by-key (keySort (key q))
-      (λ e. ap (λ (bs : List ℕ). say (puts bs)) (string-name (key q) e) ∙ sym (excluded-name c q e))
-      (λ e. ap (λ (bs : List ℕ). say (puts bs)) (string-literal (key q) e) ∙ sym (excluded-literal c q e))
-      (λ e. absurd (omega (arith, class-template (key q) e)))
-      (λ e. absurd (omega (arith, class-private (key q) e)))
-      (λ e. absurd (omega (arith, class-again (key q) e)))
-      (λ e. absurd (omega (arith, class-other (key q) e)))
+      by-entry (entryOf (keySort (key q)))
+      (λ e. ap (λ (bs : List ℕ). say (puts bs)) (string-spelt (key q) e) ∙ sym (excluded-spelt c q e))
+      (λ e. absurd (omega (arith, class-itself (key q) e)))
+      (λ e. absurd (omega (arith, class-omitted (key q) e)))
+      (λ e. absurd (omega (arith, class-saved (key q) e)))
 
   as-standing : keyClass (key q) ≡ 2 → emits c (key q) ≡ emitsExcluded c q
   as-standing h =
-      by-key (keySort (key q))
-      (λ e. absurd (omega (arith, class-name (key q) e)))
-      (λ e. absurd (omega (arith, class-literal (key q) e)))
-      (λ e. sym (excluded-template c q e))
-      (λ e. absurd (omega (arith, class-private (key q) e)))
-      (λ e. sym (excluded-again c q e))
-      (λ e. absurd (omega (arith, class-other (key q) e)))
+      by-entry (entryOf (keySort (key q)))
+      (λ e. absurd (omega (arith, class-spelt (key q) e)))
+      (λ e. sym (excluded-itself c q e))
+      (λ e. absurd (omega (arith, class-omitted (key q) e)))
+      (λ e. absurd (omega (arith, class-saved (key q) e)))
 
   as-nothing : keyClass (key q) ≡ 3 → say [] ≡ emitsExcluded c q
   as-nothing h =
-      by-key (keySort (key q))
-      (λ e. absurd (omega (arith, class-name (key q) e)))
-      (λ e. absurd (omega (arith, class-literal (key q) e)))
-      (λ e. absurd (omega (arith, class-template (key q) e)))
-      (λ e. sym (excluded-private c q e))
-      (λ e. absurd (omega (arith, class-again (key q) e)))
-      (λ e. absurd (omega (arith, class-other (key q) e)))
+      by-entry (entryOf (keySort (key q)))
+      (λ e. absurd (omega (arith, class-spelt (key q) e)))
+      (λ e. absurd (omega (arith, class-itself (key q) e)))
+      (λ e. sym (excluded-omitted c q e))
+      (λ e. absurd (omega (arith, class-saved (key q) e)))
 
   as-cell : (keyClass (key q) ≡ 1 → ⊥) → (keyClass (key q) ≡ 2 → ⊥) → (keyClass (key q) ≡ 3 → ⊥) → saysCell 4 (position q) ≡ emitsExcluded c q
   as-cell a b d =
-      by-key (keySort (key q))
-      (λ e. absurd (a (class-name (key q) e)))
-      (λ e. absurd (a (class-literal (key q) e)))
-      (λ e. absurd (b (class-template (key q) e)))
-      (λ e. absurd (d (class-private (key q) e)))
-      (λ e. absurd (b (class-again (key q) e)))
-      (λ e. sym (excluded-other c q e))
+      by-entry (entryOf (keySort (key q)))
+      (λ e. absurd (a (class-spelt (key q) e)))
+      (λ e. absurd (b (class-itself (key q) e)))
+      (λ e. absurd (d (class-omitted (key q) e)))
+      (λ e. sym (excluded-saved c q e))
 
 module _ (t : List ℕ) where
-  -- the key of a good property
-  key-here : (d at : ℕ) → Good t (suc d) at → byteAt t at ≡ 35 → key (lookNode t (suc d) at .value) ≡ lookNode t d (onward t at 2) .value
-  unfolding nodeAt pieceIn
-  key-here d at good e35 = ap (λ (n : Seen Node). key (n .value)) (property-open t d at good e35 .whole)
-
   module _ (d e at k : ℕ) (ee : e ≡ d) (ek : k ≡ onward t at 2) where
     -- the same where the code looks for it
     key-at : Good t (suc d) at → byteAt t at ≡ 35 → lookNode t e k .value ≡ key (lookNode t (suc d) at .value)
-    key-at good e35 = ap (λ (x : ℕ). lookNode t x k .value) ee ∙ ap (λ (x : ℕ). lookNode t d x .value) ek ∙ sym (key-here d at good e35)
+    key-at good e35 = ap (λ (x : ℕ). lookNode t x k .value) ee ∙ property-key t d at good e35 k ek .0
 
     key-good : Good t (suc d) at → byteAt t at ≡ 35 → Good t e k
-    key-good good e35 = rw (ee, ek) (property-open t d at good e35 .key)
+    key-good good e35 = rw ee (property-key t d at good e35 k ek .1)
 
   pub excluded-string : {g g₁ g₂ : Going} (c : Place) (d e at k s z sort : ℕ) → e ≡ d - 1 → k ≡ onward t at 2 → s ≡ lookNode t d at .next → z ≡ s → g₂ ≡ g₁
       → sort ≡ keyClass (lookNode t e k .value) → sort ≡ 1

@@ -29,16 +29,17 @@ use Rattle.direct.specs.Declared.{emitsOwnKeys, emitsOwnPattern, emitsOwnRest, 
 use Rattle.direct.specs.Assigned.{emitsInner}
 use Rattle.direct.proofs.Threads.{then-assoc}
 use Rattle.direct.proofs.PatternViews.{values-rest}
-use Rattle.direct.proofs.Objects.{over-object, over-rest, over-taken, over-array, over-default, over-leaf, through-object, through-rest, through-array, through-default, through-leaf}
-use Rattle.direct.proofs.Declared.{found-object, found-rest, found-array, found-default, found-leaf}
+use Rattle.direct.proofs.ObjectsByLevel.{over-object, over-rest, over-taken, over-array, over-default, over-leaf, through-object, through-rest, through-array, through-default, through-leaf}
+use Rattle.direct.proofs.DeclarationsByPart.{found-object, found-rest, found-array, found-default, found-leaf}
 use Rattle.direct.proofs.Tests.{over-object-at, over-array-at, over-array-rest-at, over-default-at}
 use Rattle.walk.specs.Run.{Going, Does, Clear}
 use Rattle.walk.specs.Whole.{GoodItems, Good}
 use Rattle.walk.specs.Turns.{restFrom, turnOf, deepMode, suits, turnsOf, AllSuit}
 use Rattle.walk.proofs.Running.{does-then, does-nothing, does-as, does-to, clear-after}
-use Rattle.walk.proofs.Args.{does-from}
+use Rattle.walk.proofs.SpreadArguments.{does-from}
 use Rattle.walk.proofs.Opened.{ObjectOpen, ArrayOpen, PropertyOpen, DefaultOpen, leaf-here, no-good, object-open, array-open, property-open, default-open}
 use Rattle.walk.proofs.Turning.{turn-8, turn-12, turn-17, turn-18, turns-8, turns-9, turns-12, turns-13, turns-14, turns-15, suit-8, suit-9, suit-12, suit-13, suit-14, suit-15}
+use Rattle.lowering.proofs.Cases.{not-true}
 
 -- ---- the modes that go below a pattern
 
@@ -89,10 +90,6 @@ valueMode mode = cond (eqb mode 12) 13 (cond (eqb mode 17) 14 15)
 
 abbrev itemMode : ℕ → ℕ
 itemMode mode = cond (eqb mode 8) 8 12
-
-pub not-true : (b : Bool) → not b ≡ true → b ≡ false
-not-true true h = absurd (false≢true h)
-not-true false h = refl
 
 -- no object rest below an array rest, where the mode asks for that
 clear-12 : (p : Node) → suits 12 p ≡ true → hasArrayRestOverObjectRest p ≡ false

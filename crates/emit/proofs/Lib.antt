@@ -1,9 +1,9 @@
-pub mod Leaves
-pub mod MovedSizes
+pub mod LeavesCopied
+pub mod MovesFit
 pub mod Excluding
 pub mod Finding
 pub mod Declaring
 pub mod Assigning
-pub mod Moving
+pub mod MovedPatterns
 pub mod Bodying
 pub mod Looping

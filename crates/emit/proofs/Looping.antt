@@ -16,6 +16,7 @@ use Rattle.tree.specs.WellFormed.{Fits}
 use Rattle.tree.specs.Read.{byteAt, wideAt, sortIn}
 use Rattle.tree.specs.Answer.{Peeked, Wide}
 use Rattle.tree.specs.Look.{Seen, seen, onward, lookItem, lookItems, lookField, lookSlot, lookFields, lookNode}
+use Rattle.tree.proofs.Look.{on-within}
 use Rattle.lowering.specs.Parts.{kind, is, position, nodeAt, itemsAt, pieceIn, only, each, gather, any, change, changeIn, onItems}
 use Rattle.lowering.specs.Made.{assign, assigning, block, temporary}
 use Rattle.lowering.specs.Patterns.{shape, hasNestedObjectRest, hasObjectRest, hasArrayRestOverObjectRest}
@@ -31,27 +32,28 @@ use Rattle.direct.specs.Events.{Place, Emit, Deed, puts, cell, marks, contextOf
 use Rattle.direct.specs.Events.Deed.{does, refuses}
 use Rattle.direct.specs.Emit.{say, _▷_, scoped, unused, marking, startMark, stays, emitsStatement, emitsItem, emitsItems, emitsFields}
 use Rattle.direct.specs.Assigned.{assignmentAt}
-use Rattle.direct.specs.Moved.{here, stand, standIn, behind, makes, number, fronts, blockIn, targetIn, forFields, declarationFields, Loop}
+use Rattle.direct.specs.Moved.{stand, standIn, behind, makes, number, fronts, blockIn, targetIn, forFields, declarationFields, Loop}
 use Rattle.direct.proofs.Threads.{then-nothing, say-say, puts-append}
-use Rattle.direct.proofs.Marks.{emits-statement}
+use Rattle.direct.proofs.StatementMarks.{emits-statement}
 use Rattle.direct.proofs.HeadShapes.{forIn-fits, forOf-fits, statement-24, statement-27, statement-fits}
 use Rattle.direct.proofs.HeadRules as rules
 use Rattle.direct.proofs.HeadRules.{no-more, awaits-not, emits-catch-list, emits-declaring-head, emits-refused-head, emits-assigning-head}
-use Rattle.direct.proofs.Stays.{emits-unchanged}
-use Rattle.direct.proofs.Kept.{catch-kept, declaring-kept, assigning-kept}
-use Rattle.direct.proofs.Makes.{newDeclaration, say-then, more-statements, emits-new-block}
+use Rattle.direct.proofs.OneLevel.{emits-unchanged}
+use Rattle.direct.proofs.RulesKeep.{catch-kept, declaring-kept, assigning-kept}
+use Rattle.direct.proofs.MadeNodes.{newDeclaration, say-then, more-statements, emits-new-block}
 use Rattle.direct.proofs.Fronts.{emits-in-front, count-in-front, marked-own}
 use Rattle.direct.proofs.Bodies.{emits-assigned, emits-block-in, emits-empty-in, emits-target-block, emits-target-empty}
 use Rattle.walk.specs.Run.{Going, Does}
 use Rattle.walk.specs.Whole.{holeAt, itemDeeds, GoodItem, GoodItems, GoodField, GoodSlot, GoodFields, Good}
 use Rattle.walk.specs.Turns.{turnsOf, AllSuit, AllBind, movesOf, awaits, givenNode, blockHead, declarationHead}
 use Rattle.walk.proofs.Running.{does-then, does-as, does-to, does-fresh}
-use Rattle.walk.proofs.Agreeing.{agree-say, agree-then, agree-unused}
-use Rattle.walk.proofs.Args.{does-from}
-use Rattle.emit.proofs.Moving.{marks-own, scoped-place, cell-one}
+use Rattle.walk.proofs.RefusalsWithoutMarks.{agree-say, agree-then, agree-unused}
+use Rattle.walk.proofs.SpreadArguments.{does-from}
+use Rattle.emit.proofs.MovedPatterns.{marks-own, scoped-place, cell-one}
 use Rattle.walk.proofs.Opened.{look-solid, CatchOpen, LoopOpen, no-good, is-here, position-here, good-fits, good-room, declaration-open, block-open, catch-open, for-in-open, for-of-open}
-use Rattle.emit.proofs.MovedSizes.{moves-within, moves-whole, count-within, part-join, on-inside, on-more}
+use Rattle.emit.proofs.MovesFit.{moves-within, moves-whole, count-within, part-join, on-more}
 use Rattle.walk.proofs.Turning.{turns-11, suit-11, suit-11-declarators}
+use Rattle.direct.specs.Views.{nameless}
 
 module _ (t : List ℕ) where
   -- ---- ags
@@ -84,7 +86,7 @@ emits-last : (c : Place) (n : Node) → emitsItems true c (only n) ≡ emitsItem
 unfolding emitsItems
 emits-last c n = then-nothing (emitsItem true c n)
 
-made-in : (ps : Items) (b : Node) → is 2 b ≡ false → is 13 b ≡ false → blockIn ps b ≡ block (inFront here ps (only b))
+made-in : (ps : Items) (b : Node) → is 2 b ≡ false → is 13 b ≡ false → blockIn ps b ≡ block (inFront nameless ps (only b))
 unfolding blockIn inBody asBlock change changeIn onItems
 made-in ps b h k = rw (h, k) refl
 
@@ -92,9 +94,9 @@ emits-item-in : (c : Place) (ps : Items) (b : Node) → is 2 b ≡ false → is 
     → emits c (blockIn ps b) ≡ say (blockHead (suc (number ps))) ▷ fronts (scoped c) ps ▷ emitsItem true (scoped c) b
 unfolding count
 emits-item-in c ps b h k =
-    let e : count (inFront here ps (only b)) ≡ suc (number ps) = count-in-front ps (only b) ∙ omega arith in
+    let e : count (inFront nameless ps (only b)) ≡ suc (number ps) = count-in-front ps (only b) ∙ omega arith in
     ap (emits c) (made-in ps b h k)
-    ∙ emits-new-block c (inFront here ps (only b))
+    ∙ emits-new-block c (inFront nameless ps (only b))
     ∙ ap₂ (λ (x : ℕ) (y : Emit). say (blockHead x) ▷ y) e
     (emits-in-front (scoped c) ps (only b) ∙ ap (λ (x : Emit). fronts (scoped c) ps ▷ x) (emits-last (scoped c) b))
 
@@ -484,7 +486,7 @@ module _ (t : List ℕ) where
       let n : ℕ = wideAt t s in
       let inside : q ≤ length t = omega (arith, good-room t (suc d) q good) in
       ap (λ (bs : List ℕ). puts bs)
-      (part-join q s (onward t s 2) t (on-more t q 5 inside) (on-more t s 2 (on-inside t q 5))
+      (part-join q s (onward t s 2) t (on-more t q 5 inside) (on-more t s 2 (on-within t q 5))
       ∙ ap₂ (λ (x y : List ℕ). x ++ y) (o .head) (o .list .head))
       ∙ ap₂ (λ (ds : List Deed) (x : ℕ). puts (4 ∷ 7 ∷ []) ++ (ds ++ puts (sort ∷ wideBytes x))) (sym (marks-own m (o .marked))) (sym (o .list .many))
 
@@ -529,7 +531,7 @@ module _ (t : List ℕ) where
         let r : ℕ = onward t q 5 in
         let F : ℕ = onward t r 2 in
         let inside : at ≤ length t = omega (arith, good-room t (suc (suc d)) at good) in
-        let back : q ≤ F = let y = on-more t q 5 (on-inside t at 4) in let z = on-more t r 2 (on-inside t q 5) in omega arith in
+        let back : q ≤ F = let y = on-more t q 5 (on-within t at 4) in let z = on-more t r 2 (on-within t q 5) in omega arith in
         ap (λ (bs : List ℕ). puts bs) (part-join at q F t (on-more t at 4 inside) back) ∙ puts-append (part at q t) (part q F t)
         ∙ ap₂ (λ (x y : List Deed). x ++ y)
         (loop-head (suc d) at v

@@ -11,6 +11,7 @@ use Rattle.tree.specs.Tree.{Node, Items, count}
 use Rattle.tree.specs.Tree.Fields.{done, absent, field}
 use Rattle.tree.specs.Tree.Piece.{one, list, text, byte}
 use Rattle.tree.specs.Tree.Items.{none, item}
+use Rattle.lowering.proofs.Clauses.{text-name, text-literal}
 use Rattle.lowering.specs.Parts.{kind, is, itemsAt, textAt, stands, changeNode, onItems, only, each, gather}
 use Rattle.lowering.specs.Made.{Context, temporary, reference, excludedOf, keyOf, helper, call, E, K, object, array, sequence, member, assign, string, declares, declared}
 use Rattle.lowering.specs.Patterns.{shape, properties, itemsOf, rest, hasRest, leftOf, key, value, withItems, withProperties, withValues, replaced, objectsWithRest}
@@ -107,10 +108,10 @@ module _ (Q : Node → Type 0) (makes : Makes Q) where
         by-key (keySort (key q))
         (λ e.
         let i = name-is (key q) e in
-        rw (e, excludedKey) (Leaves.string-leaves Q (textAt 0 (key q)) (makes .named (key q) i (Leaves.own Q (key q) (leaf-kind (key q) 38 i) k)), tt))
+        rw (e, excludedKey, text-name (key q) e) (Leaves.string-leaves Q (textAt 0 (key q)) (makes .named (key q) i (Leaves.own Q (key q) (leaf-kind (key q) 38 i) k)), tt))
         (λ e.
         let i = literal-is (key q) e in
-        rw (e, excludedKey) (Leaves.string-leaves Q (textAt 2 (key q)) (makes .formed (key q) i (Leaves.own Q (key q) (leaf-kind (key q) 22 i) k)), tt))
+        rw (e, excludedKey, text-literal (key q) e) (Leaves.string-leaves Q (textAt 2 (key q)) (makes .formed (key q) i (Leaves.own Q (key q) (leaf-kind (key q) 22 i) k)), tt))
         (λ e. rw (e, excludedKey) (k, tt))
         (λ e. rw (e, excludedKey) tt)
         (λ e. rw (e, excludedKey) (k, tt))

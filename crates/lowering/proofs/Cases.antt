@@ -10,7 +10,8 @@ use Rattle.tree.specs.Tree.Node.{node}
 use Rattle.lowering.specs.Parts.{is, kind, change}
 use Rattle.lowering.specs.Patterns.{Shape, shape}
 use Rattle.lowering.specs.Patterns.Shape.{objectPattern, arrayPattern, default, leaf}
-use Rattle.lowering.specs.Keys.{Key}
+use Rattle.lowering.specs.Keys.{Key, Entry}
+use Rattle.lowering.specs.Keys.Entry.{spelt, itself, omitted, saved}
 use Rattle.lowering.specs.Keys.Key.{name, literal, template, private, again, other}
 use Rattle.lowering.specs.Walk.{Rule, ruleOf, Step, unchanged, rewritten}
 use Rattle.lowering.specs.Walk.Rule.{literals, declarations, assignments, functions, arrows, catches, fors, nowhere}
@@ -35,6 +36,12 @@ by-key template a b c d e f = c refl
 by-key private a b c d e f = d refl
 by-key again a b c d e f = e refl
 by-key other a b c d e f = f refl
+
+pub by-entry : {A : Type 0} (s : Entry) → (s ≡ spelt → A) → (s ≡ itself → A) → (s ≡ omitted → A) → (s ≡ saved → A) → A
+by-entry spelt a b c d = a refl
+by-entry itself a b c d = b refl
+by-entry omitted a b c d = c refl
+by-entry saved a b c d = d refl
 
 pub by-rule : {A : Type 0} (r : Rule) → (r ≡ literals → A) → (r ≡ declarations → A) → (r ≡ assignments → A) → (r ≡ functions → A)
     → (r ≡ arrows → A) → (r ≡ catches → A) → (r ≡ fors → A) → (r ≡ nowhere → A) → A

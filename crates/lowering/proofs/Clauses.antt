@@ -5,18 +5,18 @@ use mathlib.Core.Bool.{cond, false, true, not, _&&_}
 use Prim.Native.Nat.{ℕ, suc, zero}
 use Rattle.tree.specs.Tree.{Node, depth, Items}
 use Rattle.tree.specs.Tree.Items.{none}
-use Rattle.lowering.specs.Parts.{only, gather, _+++_, is, nodeAt, stands}
+use Rattle.lowering.specs.Parts.{only, gather, _+++_, is, nodeAt, stands, textAt}
 use Rattle.lowering.specs.Made.{Context, reference, S}
 use Rattle.lowering.specs.Patterns.{shape, properties, itemsOf, hasRest, leftOf, value, withLeft, withItems, withValues, replaced, objectsWithRest, objectsBelow, hasNestedObjectRest, hasObjectRest}
 use Rattle.lowering.specs.Patterns.Shape.{objectPattern, arrayPattern, default, leaf}
-use Rattle.lowering.specs.Keys.{taken, keySort, allPrimitive}
+use Rattle.lowering.specs.Keys.{taken, keySort, allPrimitive, keyText}
 use Rattle.lowering.specs.Declarations.{innerObjects, isLowered}
 use Rattle.lowering.specs.Assignments.{restsThroughObjects, withoutRests, isTop}
 use Rattle.tree.specs.Tree.Node.{node}
 use Rattle.lowering.specs.Literals.{Call, opened, scan}
 use Rattle.lowering.proofs.Cases.{and-right, and-left}
 use borrow.Author.Tests.{eqb-true}
-use Rattle.lowering.specs.Keys.Key.{again}
+use Rattle.lowering.specs.Keys.Key.{again, name, literal}
 use Rattle.lowering.specs.Rests.{isHoisted, hasNoProperties}
 
 module _ (c : Context) where
@@ -40,6 +40,14 @@ module _ (c : Context) where
   pub replaced-object : (d : ℕ) (p : Node) → shape p ≡ objectPattern → replaced c (suc d) p ≡ cond (hasRest p) (reference c p) (withValues (λ v. replaced c d v) p)
   unfolding replaced
   replaced-object d p e = rw (e, replaced)
+
+  pub replaced-plain : (d : ℕ) (p : Node) → shape p ≡ objectPattern → hasRest p ≡ false → replaced c (suc d) p ≡ withValues (λ v. replaced c d v) p
+  unfolding replaced
+  replaced-plain d p e r = rw (e, replaced, r)
+
+  pub replaced-top : (d : ℕ) (p : Node) → shape p ≡ objectPattern → hasRest p ≡ true → replaced c (suc d) p ≡ reference c p
+  unfolding replaced
+  replaced-top d p e r = rw (e, replaced, r)
 
   pub replaced-array : (d : ℕ) (p : Node) → shape p ≡ arrayPattern → replaced c (suc d) p ≡ withItems (λ v. replaced c d v) p
   unfolding replaced
@@ -135,3 +143,11 @@ again-temporary (node at k fs) e = rw (eqb-true k 20 e) refl
 pub hoisted-primitive : (c : Context) (p : Node) → isHoisted c p ≡ true → allPrimitive p ≡ true
 unfolding isHoisted
 hoisted-primitive c p h = and-right (not (hasNoProperties p)) (allPrimitive p) (and-right (not (c .root)) (not (hasNoProperties p) && allPrimitive p) h)
+
+pub text-name : (k : Node) → keySort k ≡ name → keyText k ≡ textAt 0 k
+unfolding keyText
+text-name k e = rw (e, keyText) refl
+
+pub text-literal : (k : Node) → keySort k ≡ literal → keyText k ≡ textAt 2 k
+unfolding keyText
+text-literal k e = rw (e, keyText) refl

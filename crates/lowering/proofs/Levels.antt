@@ -3,7 +3,7 @@
 -- Assumes nothing.
 use mathlib.Core.Path.{_≡_, refl, sym, ap, ap₂, _∙_}
 use mathlib.Core.Bool.{Bool, false, cond, _||_}
-use Prim.Native.Nat.{ℕ, zero, suc, _+_, _≤_, _<_}
+use Prim.Native.Nat.{ℕ, zero, suc, _≤_, _<_}
 use native.Mathlib.Omega.{arith}
 use Rattle.tree.specs.Tree.{Node, Fields, Piece, Items, depth, depthFields, depthPiece, depthItems}
 use Rattle.tree.specs.Tree.Node.{node}
@@ -62,7 +62,7 @@ items-depth i (node at k fs) = let l = piece-depth fs i in go (pieceIn fs i) l
     go (number x) h = omega arith
 
 module _ (f g : Node → Bool) (b : ℕ) (agree : (m : Node) → depth m ≤ b → f m ≡ g m) where
-  any-agrees : (is : Items) → depthItems is ≤ b → any f is ≡ any g is
+  pub any-agrees : (is : Items) → depthItems is ≤ b → any f is ≡ any g is
   unfolding any depth
   any-agrees none h = refl
   any-agrees (hole is) h = any-agrees is h
@@ -76,7 +76,7 @@ module _ (f g : Node → Items) (b : ℕ) (agree : (m : Node) → depth m ≤ b 
   gather-agrees (item n is) h = ap₂ (λ (x y : Items). x +++ y) (agree n (omega arith)) (gather-agrees is (omega arith))
 
 module _ (f g : Node → Node) (b : ℕ) (agree : (m : Node) → depth m ≤ b → f m ≡ g m) where
-  each-agrees : (is : Items) → depthItems is ≤ b → each f is ≡ each g is
+  pub each-agrees : (is : Items) → depthItems is ≤ b → each f is ≡ each g is
   unfolding each depth
   each-agrees none h = refl
   each-agrees (hole is) h = ap hole (each-agrees is h)

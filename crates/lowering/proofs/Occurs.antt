@@ -19,7 +19,7 @@ use Rattle.lowering.specs.Collect.{Name, nameOf, same}
 use Rattle.lowering.proofs.All.{AllItems}
 use Rattle.lowering.proofs.Cases.{by-test, by-shape}
 use Rattle.lowering.proofs.Clauses.{objects-object, objects-array, objects-default, objects-leaf, replaced-object, replaced-array, replaced-default, replaced-leaf}
-use Rattle.lowering.proofs.Made.{times, times-append, only-times}
+use Rattle.lowering.proofs.MadeAtSites.{times, times-append, only-times}
 use Rattle.lowering.proofs.ItemLaws.{each-append}
 use Rattle.lowering.proofs.ChangeLaws.{position-changed}
 

@@ -3,7 +3,7 @@
 use mathlib.Core.Path.{_≡_, refl, sym, subst}
 use mathlib.Core.Bool.{Bool, true, false, cond, _&&_}
 use mathlib.Core.List.{List}
-use Prim.Native.Nat.{ℕ, _+_}
+use Prim.Native.Nat.{ℕ}
 use native.Mathlib.Omega.{arith}
 use lib.Dec.{eqb}
 use Rattle.tree.specs.Tree.{Node, Items}
@@ -20,7 +20,7 @@ use Rattle.lowering.specs.Walk.{ruleOf, rewrite, stepDeclaration, stepTo
 use Rattle.lowering.specs.Collect.{Name, nameOf, samePath, same}
 use Rattle.lowering.proofs.All.{AllItems, all-append, all-gather, all-each, all-unit}
 use Rattle.lowering.proofs.Cases.{by-test, by-key, by-rule}
-use Rattle.lowering.proofs.Made.{times, name-of, entry-refs}
+use Rattle.lowering.proofs.MadeAtSites.{times, name-of, entry-refs}
 use Rattle.lowering.proofs.ItemLaws.{each-append}
 
 -- a temporary with the path

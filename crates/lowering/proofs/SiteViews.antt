@@ -8,15 +8,15 @@ use native.Mathlib.Omega.{arith}
 use Rattle.tree.specs.Tree.{Node, Fields, Piece, Items, depth}
 use Rattle.tree.specs.Tree.Node.{node}
 use Rattle.tree.specs.Tree.Items.{none}
-use Rattle.lowering.specs.Parts.{nothing, position, is, pieceIn, changeIn, asItems, textAt, change, onNode, onItems, changeNode, without, only, each, gather, _+++_}
+use Rattle.lowering.specs.Parts.{nothing, position, is, pieceIn, changeIn, asItems, change, onNode, onItems, changeNode, without, only, each, gather, _+++_}
 use Rattle.lowering.specs.Made.{Context, reference, keyOf, string}
 use Rattle.lowering.specs.Patterns.{shape, properties, itemsOf, rest, hasRest, leftOf, key, value, withItems, withProperties, withValues, hasNestedObjectRest, replaced, objectsWithRest}
-use Rattle.lowering.specs.Keys.{keySort, excludedKey, keptKey, excludedKeys, taken}
+use Rattle.lowering.specs.Keys.{keySort, excludedKey, keptKey, excludedKeys, taken, entryOf, keyText}
 use Rattle.lowering.specs.Assignments.{restsThroughObjects, withoutRests}
 use Rattle.lowering.specs.Heads.{moved, movedPattern, movedOut}
 use Rattle.lowering.proofs.All.{AllItems, all-append, all-gather, all-unit}
 use Rattle.lowering.proofs.Clauses.{objects-object, objects-array, objects-default, objects-leaf, replaced-object, replaced-array, replaced-default, replaced-leaf}
-use Rattle.lowering.proofs.Cases.{by-test, by-shape, object-is, array-is, default-is, by-key, is-changed}
+use Rattle.lowering.proofs.Cases.{by-test, by-shape, object-is, array-is, default-is, by-key, is-changed, by-entry}
 use Rattle.lowering.proofs.Sites.{isNameKind, direct, directPiece, own, other-fields, here, hereItems, sites, sitesFields, sitesItems, Light, node-in, items-in, items-and-node, each-item, sites-append, here-append, gather-light, changeNode-light, changeEach-light, without-fewer, temporary-sites, items-sum, node-sum, shell, shells, shells-append, object-whole, array-here, default-here, gather-shells, gather-here, Object}
 
 -- a node put in place of field 0
@@ -321,10 +321,8 @@ module _ (x : ℕ) where
         let n = node-in x 0 q in
         let z = none-sites in
         let k = only-sites (key q) in
-        by-key (keySort (key q))
-        (λ e. rw (e, excludedKey) (let o = only-sites (string (textAt 0 (key q))) in let s = string-sites (textAt 0 (key q)) in omega arith))
-        (λ e. rw (e, excludedKey) (let o = only-sites (string (textAt 2 (key q))) in let s = string-sites (textAt 2 (key q)) in omega arith))
-        (λ e. rw (e, excludedKey) (omega arith))
+        by-entry (entryOf (keySort (key q)))
+        (λ e. rw (e, excludedKey) (let o = only-sites (string (keyText (key q))) in let s = string-sites (keyText (key q)) in omega arith))
         (λ e. rw (e, excludedKey) (omega arith))
         (λ e. rw (e, excludedKey) (omega arith))
         (λ e. rw (e, excludedKey) (let o = only-sites (keyOf c q) in let s = temporary-sites x (c .path) 4 (position q) in omega arith))

@@ -20,9 +20,9 @@ use Rattle.lowering.specs.Literals.Call.{no-call}
 use Rattle.lowering.specs.Heads.{moved, movedPattern, movedOut, isMoved, movedFrom, leftBehind, inFront, inBody, asFunctionBody, asBlock, function, functionMakes, arrow, arrowMakes, catch, catchMakes, declaringHead, declaringMakes, assigningHead, assigningMakes}
 use Rattle.lowering.specs.Collect.{Name}
 use Rattle.lowering.proofs.Cases.{by-test}
-use Rattle.lowering.proofs.Made.{times, only-times}
+use Rattle.lowering.proofs.MadeAtSites.{times, only-times}
 use Rattle.lowering.proofs.Occurs.{occurs, occursFields, occursPiece, occursItems, node-in, items-in, Free, occurs-append, only-occurs, none-occurs, temporary-occurs, change-more, on-node, on-items, each-more, node-more, gathered, refs, gather-less, moved-occurs, movedPattern-occurs, movedOut-more}
-use Rattle.lowering.proofs.Sound.{key-kept, S-occurs, object-occurs, let-occurs, var-occurs, assigning-occurs, block-occurs, returned-occurs}
+use Rattle.lowering.proofs.SoundKeys.{key-kept, S-occurs, object-occurs, let-occurs, var-occurs, assigning-occurs, block-occurs, returned-occurs}
 use Rattle.lowering.proofs.ChangeLaws.{position-changed, items-changed-in}
 
 -- ---- the keys of a pattern do not depend on its values

@@ -24,9 +24,9 @@ use Rattle.lowering.proofs.Cases.{by-test, by-shape, by-rule, object-is
 use Rattle.lowering.proofs.WeightKeys.{rest-changed}
 use Rattle.lowering.proofs.Levels.{below-object}
 use Rattle.lowering.proofs.Clauses.{without-object, without-default, taken-none, inner-object, inner-array, rests-object, rests-default}
-use Rattle.lowering.proofs.Made.{times, times-append, only-times, entry-refs, entry-times, no-ids}
+use Rattle.lowering.proofs.MadeAtSites.{times, times-append, only-times, entry-refs, entry-times, no-ids}
 use Rattle.lowering.proofs.Occurs.{occurs, occursItems, node-in, items-in, Free, each-item, occurs-append, only-occurs, none-occurs, nothing-occurs, temporary-occurs, items-more, node-more, gathered, refs, objects-sum, replaced-more}
-use Rattle.lowering.proofs.Sound.{assign-occurs, declares-occurs, declared-occurs, all-free, gather-zero, keys-free, taken-more, rest-split, rest-free, excluded-free, keysBefore-free, pattern-free, restDeclarator-free, Unmade, unmade-each, one-made, nested-free}
+use Rattle.lowering.proofs.SoundKeys.{assign-occurs, declares-occurs, declared-occurs, all-free, gather-zero, keys-free, taken-more, rest-split, rest-free, excluded-free, keysBefore-free, pattern-free, restDeclarator-free, Unmade, unmade-each, one-made, nested-free}
 use Rattle.lowering.proofs.SoundRules.{keys-value, items-free-at, node-free-at, literal-free, function-free, arrow-free, catch-free, declaring-free, assigning-free}
 use Rattle.lowering.proofs.ItemLaws.{each-append, gather-append, gather-gather}
 

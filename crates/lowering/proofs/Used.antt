@@ -1,4 +1,4 @@
--- Each temporary that stands in the result, in the tree or in the list, was made by the walk; and it was made once (Names).
+-- Each temporary that stands in the result, in the tree or in the list, was made by the walk; and it was made once (DistinctNames).
 -- Assumes nothing.
 use mathlib.Core.Path.{_≡_, refl, ap, ap₂, _∙_}
 use mathlib.Core.Bool.{Bool, cond}
@@ -18,8 +18,8 @@ use Rattle.lowering.specs.Weight.{weight, walked}
 use Rattle.lowering.specs.Collect.{Name, nameOf, over, Visit, Entry, newIn, newInPiece, isContainer, markOf, marked, bare, bareFields, barePiece, bareItems, visits, visitsFields, visitsPiece, visitsItems, entryAt, entries, excludedIn, madeIn}
 use Rattle.lowering.specs.Answer.{top}
 use Rattle.lowering.proofs.Cases.{by-test}
-use Rattle.lowering.proofs.Made.{times, times-append}
-use Rattle.lowering.proofs.Names.{total-append}
+use Rattle.lowering.proofs.MadeAtSites.{times, times-append}
+use Rattle.lowering.proofs.DistinctNames.{total-append}
 use Rattle.lowering.proofs.Notes.{AllNotes, both}
 use Rattle.lowering.proofs.Occurs.{occurs, occursFields, occursPiece, occursItems, fields-in, Free, occurs-append, none-occurs}
 use Rattle.lowering.proofs.SoundSteps.{rewrite-sound}

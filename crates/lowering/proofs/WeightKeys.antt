@@ -10,13 +10,13 @@ use Rattle.tree.specs.Tree.{Node, Fields, Piece, Items}
 use Rattle.tree.specs.Tree.Node.{node}
 use Rattle.tree.specs.Tree.Fields.{done, absent, field}
 use Rattle.tree.specs.Tree.Items.{none, item}
-use Rattle.lowering.specs.Parts.{position, pieceIn, standsIn, change, dropIn, without, onItems, nodeAt, itemsAt, textAt, stands, is, only, each}
+use Rattle.lowering.specs.Parts.{position, pieceIn, standsIn, change, dropIn, without, onItems, nodeAt, itemsAt, stands, is, only, each}
 use Rattle.lowering.specs.Made.{Context, string, keyOf, X, E, W, object, array, sequence}
 use Rattle.lowering.specs.Patterns.{properties, rest, hasRest, key, withProperties}
-use Rattle.lowering.specs.Keys.{keySort, excludedKey, keptKey, excludedKeys, allPrimitive, taken}
+use Rattle.lowering.specs.Keys.{keySort, excludedKey, keptKey, excludedKeys, allPrimitive, taken, entryOf, keyText}
 use Rattle.lowering.specs.Rests.{hasNoProperties, isHoisted, mapped, keysRead, restValue}
 use Rattle.lowering.specs.Weight.{isHead, extra, factor, weight, weightFields, weightItems}
-use Rattle.lowering.proofs.Cases.{by-test, by-key, is-changed}
+use Rattle.lowering.proofs.Cases.{by-test, by-key, is-changed, by-entry}
 use Rattle.lowering.proofs.Weights.{weight-pos, weight-of, node-piece, items-piece}
 use Rattle.lowering.proofs.WeightChange.{gather-light, changeNode-light, changeEach-light, two-light, factor-monotone}
 use Rattle.lowering.proofs.WeightPatterns.{temporary-weight, only-weight, none-weight, node-in, within}
@@ -107,12 +107,10 @@ module _ (c : Context) where
   excludedKey-light q =
       let w = weight-pos q in
       let n = node-in 0 q in
-      by-key (keySort (key q))
-      (λ e. rw (e, excludedKey) (let o = only-weight (string (textAt 0 (key q))) in let s = string-weight (textAt 0 (key q)) in omega arith))
-      (λ e. rw (e, excludedKey) (let o = only-weight (string (textAt 2 (key q))) in let s = string-weight (textAt 2 (key q)) in omega arith))
+      by-entry (entryOf (keySort (key q)))
+      (λ e. rw (e, excludedKey) (let o = only-weight (string (keyText (key q))) in let s = string-weight (keyText (key q)) in omega arith))
       (λ e. rw (e, excludedKey) (let o = only-weight (key q) in omega arith))
       (λ e. rw (e, excludedKey) (let o = none-weight in omega arith))
-      (λ e. rw (e, excludedKey) (let o = only-weight (key q) in omega arith))
       (λ e. rw (e, excludedKey) (let o = only-weight (keyOf c q) in let s = temporary-weight (c .path) 4 (position q) in omega arith))
 
   pub keptKey-light : (q : Node) → weight (keptKey c q) ≤ weight q

@@ -143,7 +143,7 @@ unfoldable pub excludedIn : List Visit → Items
 excludedIn [] = none
 excludedIn (v ∷ vs) = v .note .excluded +++ excludedIn vs
 
--- the temporaries in the order in which they are made. No two have one name (proofs/Names.antt)
+-- the temporaries in the order in which they are made. No two have one name (proofs/DistinctNames.antt)
 unfoldable pub madeIn : List Visit → Items
 madeIn [] = none
 madeIn (v ∷ vs) = v .note .made +++ madeIn vs

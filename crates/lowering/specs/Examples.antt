@@ -277,7 +277,7 @@ unfolding
     Rattle.lowering.specs.Patterns.hasNestedArrayRest Rattle.lowering.specs.Patterns.replaced
     Rattle.lowering.specs.Patterns.objectsWithRest Rattle.lowering.specs.Keys.keySort
     Rattle.lowering.specs.Keys.isPrimitive Rattle.lowering.specs.Keys.lacksForm
-    Rattle.lowering.specs.Keys.excludedKey Rattle.lowering.specs.Keys.keptKey
+    Rattle.lowering.specs.Keys.keyText Rattle.lowering.specs.Keys.excludedKey Rattle.lowering.specs.Keys.keptKey
     Rattle.lowering.specs.Keys.keyTemporary Rattle.lowering.specs.Keys.allPrimitive
     Rattle.lowering.specs.Keys.anyLacksForm Rattle.lowering.specs.Keys.excludedKeys
     Rattle.lowering.specs.Keys.keyTemporaries Rattle.lowering.specs.Keys.taken

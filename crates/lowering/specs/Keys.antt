@@ -1,5 +1,7 @@
 -- Keys of an object pattern whose rest is taken (document 01, 'The rewriting', Keys; transform_property_key).
 use mathlib.Core.Bool.{Bool, true, false, cond, not, _&&_, _||_}
+use mathlib.Core.List.{List, []}
+use Prim.Native.Nat.{ℕ}
 use lib.Dec.{eqb}
 use Rattle.tree.specs.Tree.{Node, Items, count}
 use Rattle.tree.specs.Tree.Items.{none}
@@ -27,6 +29,24 @@ keySort k =
 unfoldable pub isPrimitive : Node → Bool
 isPrimitive k = elim (keySort k) [ name ↦ true | literal ↦ true | template ↦ true | private ↦ true | again ↦ false | other ↦ false ]
 
+-- ---- what a key becomes among those that a rest leaves out
+
+-- the string of its text, the key as it stands, nothing, or a temporary
+pub data Entry : Type 0 where
+  spelt itself omitted saved : Entry
+
+abbrev pub entryOf : Key → Entry
+entryOf name = spelt
+entryOf literal = spelt
+entryOf template = itself
+entryOf private = omitted
+entryOf again = itself
+entryOf other = saved
+
+-- the text of a key that is spelt: a name is its own, a literal has its form
+unfoldable pub keyText : Node → List ℕ
+keyText k = elim (keySort k) [ name ↦ textAt 0 k | literal ↦ textAt 2 k | template ↦ [] | private ↦ [] | again ↦ [] | other ↦ [] ]
+
 -- what refusal 6 is about: there is no form to make the string of
 unfoldable pub lacksForm : Node → Bool
 lacksForm k = is 22 k && not (stands 2 k)
@@ -37,13 +57,11 @@ module _ (c : Context) where
   -- the entry that it adds to the excluded keys
   unfoldable pub excludedKey : Node → Items
   excludedKey q =
-      elim (keySort (key q)) [
-        | name ↦ only (string (textAt 0 (key q)))
-        | literal ↦ only (string (textAt 2 (key q)))
-        | template ↦ only (key q)
-        | private ↦ none
-        | again ↦ only (key q)
-        | other ↦ only (keyOf c q)
+      elim (entryOf (keySort (key q))) [
+        | spelt ↦ only (string (keyText (key q)))
+        | itself ↦ only (key q)
+        | omitted ↦ none
+        | saved ↦ only (keyOf c q)
       ]
 
   -- what is left of it in the pattern: a key that cannot be read again has become a temporary

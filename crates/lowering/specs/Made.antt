@@ -19,7 +19,7 @@ pub record Context : Type 0 where
 -- ---- temporaries
 
 -- Until the end a Temporary has no number but a name: the path of the node whose rewriting makes it, a stem for what it is made for, and the
--- position of what it stands for. No two that are made have one name (proofs/Names.antt); numbers are given to names (Collect).
+-- position of what it stands for. No two that are made have one name (proofs/DistinctNames.antt); numbers are given to names (Collect).
 abbrev pub temporary : List ℕ → ℕ → ℕ → Node
 temporary path stem at = node at 20 (field (number stem) (field (text path) done))
 

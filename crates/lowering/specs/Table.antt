@@ -1,5 +1,5 @@
 -- Where refusals 5 and 6 are met (document 01, 'What the lowering hands back', the table), said of the walk without its levels.
--- That the walk refuses there and nowhere else is shown in proofs/Table.antt.
+-- That the walk refuses there and nowhere else is shown in proofs/RefusalsMet.antt.
 use Prim.Native.Nat.{ℕ, suc}
 use mathlib.Core.Path.{_≡_}
 use mathlib.Core.Bool.{true, false, _||_}

@@ -17,14 +17,14 @@ use Rattle.lowering.specs.Collect.{Name, nameOf, same, Visit, over, newIn, newI
 use Rattle.lowering.specs.Collect
 use Rattle.lowering.proofs.Cases.{by-test}
 use Rattle.lowering.proofs.Notes.{AllNotes, in-walked}
-use Rattle.lowering.proofs.Made.{times, times-append}
+use Rattle.lowering.proofs.MadeAtSites.{times, times-append}
 use Rattle.sink.specs.Shown.{Named, madeBy, madeIn, Apart}
 use Rattle.sink.specs.Shown
 use Rattle.direct.specs.Events.{cell, later, numberIn, countIn, mapIn}
 use Rattle.outcome.specs.Named.{Act, puts, marks, handsOut, written, named, namedFields, namedPiece, namedItems}
 use Rattle.outcome.proofs.Refusals.{Leafy, LeafyFields, LeafyPiece, LeafyItems, leaf-visits}
 use Rattle.outcome.proofs.Listed.{made-append, over-append}
-use Rattle.outcome.proofs.Makes.{makes, others, number, makes-all, namesIn, hands-made}
+use Rattle.outcome.proofs.MadeOnce.{makes, others, number, makes-all, namesIn, hands-made}
 
 -- ---- the names that are made
 

@@ -19,10 +19,10 @@ use Rattle.tree.specs.Grammar.Field.{must, may}
 use Rattle.tree.specs.Grammar.Stage.{input}
 use Rattle.tree.specs.WellFormed.{byteIn, Fits, FitFields, FitPiece, FitItems}
 use Rattle.tree.proofs.Look.{kind-at}
-use Rattle.lowering.specs.Parts.{position, kind, is, pieceIn, nodeAt, itemsAt, textAt, stands, standsIn, isEmpty}
+use Rattle.lowering.specs.Parts.{position, kind, is, pieceIn, nodeAt, itemsAt, stands, standsIn, isEmpty}
 use Rattle.lowering.specs.Patterns.{Shape, shape, rest, hasRest, properties, key, value}
 use Rattle.lowering.specs.Patterns.Shape.{objectPattern, arrayPattern, leaf}
-use Rattle.lowering.specs.Keys.{keySort, excludedKey, excludedKeys}
+use Rattle.lowering.specs.Keys.{keySort, excludedKey, excludedKeys, entryOf, keyText}
 use Rattle.lowering.specs.Rests.{isHoisted, keysRead, restValue}
 use Rattle.lowering.specs.Walk.{Note, Walked, WalkedFields, WalkedPiece, WalkedItems}
 use Rattle.lowering.specs.Walk.Walked.{noted}
@@ -30,7 +30,7 @@ use Rattle.lowering.specs.Weight.{walked}
 use Rattle.lowering.specs.Made.{Context, assign, temporary}
 use Rattle.lowering.specs.Collect.{isContainer, marked, markOf}
 use Rattle.lowering.proofs.All.{AllItems}
-use Rattle.lowering.proofs.Cases.{by-test, by-shape, by-key, object-is, array-is, default-is}
+use Rattle.lowering.proofs.Cases.{by-test, by-shape, object-is, array-is, default-is, by-entry}
 use Rattle.sink.specs.Machine.{Event}
 use Rattle.direct.specs.Events.{Deed, Place, Emit, puts, lists, cell, numberIn, handsOut, after, marks, countIn, mapIn, written, deeds, deedsFields, deedsPiece, deedsItems, contextOf, emits}
 use Rattle.direct.specs.Events.Deed.{does, refuses}
@@ -43,9 +43,9 @@ use Rattle.direct.specs.Handed.{placesIn, handsPlace, handsNested}
 use Rattle.direct.specs.Assigned.{restInArrays, emitsRestOf, emitsNest, emitsTarget}
 use Rattle.direct.specs.Declared.{emitsKeyValue, emitsOwnKeys, emitsOwnPattern}
 use Rattle.direct.proofs.PatternViews.{view-object, view-rest, view-default, view-property}
-use Rattle.direct.proofs.Objects.{through-object, through-rest, through-array, through-default, through-leaf}
-use Rattle.direct.proofs.RestValues.{excluded-name, excluded-literal, excluded-template, excluded-private, excluded-again, excluded-other, rest-none, rest-some}
-use Rattle.direct.proofs.Assigned.{target-nested, target-kept, rest-done}
+use Rattle.direct.proofs.ObjectsByLevel.{through-object, through-rest, through-array, through-default, through-leaf}
+use Rattle.direct.proofs.RestValues.{excluded-spelt, excluded-itself, excluded-omitted, excluded-saved, rest-none, rest-some}
+use Rattle.direct.proofs.AssignmentsByPart.{target-nested, target-kept, rest-done}
 use Rattle.direct.proofs.Ways.{key-plain, own-pattern-some}
 use Rattle.outcome.specs.Named.{firstRefused}
 use Rattle.outcome.proofs.Refusals.{first, Sound, Silent, after-silent, silent-none, sound-both, silent-sound, first-both, puts-silent, marks-silent, hands-first, hands-sound}
@@ -245,13 +245,11 @@ module _ {P : Emit → Type 0} (held : Held P) where
   unfolding isOther
   excluded-has c q h =
       let bytes : (bs : List ℕ) → P (say (puts bs)) = λ bs. held .says (puts bs) (puts-silent bs) in
-      by-key (keySort (key q))
-      (λ e. subst P (sym (excluded-name c q e)) (bytes (stringBytes (textAt 0 (key q)))))
-      (λ e. subst P (sym (excluded-literal c q e)) (bytes (stringBytes (textAt 2 (key q)))))
-      (λ e. subst P (sym (excluded-template c q e)) (h (rw (e, isOther) refl)))
-      (λ e. subst P (sym (excluded-private c q e)) (held .says [] tt))
-      (λ e. subst P (sym (excluded-again c q e)) (h (rw (e, isOther) refl)))
-      (λ e. subst P (sym (excluded-other c q e)) (cell-has 4 (position q)))
+      by-entry (entryOf (keySort (key q)))
+      (λ e. subst P (sym (excluded-spelt c q e)) (bytes (stringBytes (keyText (key q)))))
+      (λ e. subst P (sym (excluded-itself c q e)) (h (rw (e, isOther) refl)))
+      (λ e. subst P (sym (excluded-omitted c q e)) (held .says [] tt))
+      (λ e. subst P (sym (excluded-saved c q e)) (cell-has 4 (position q)))
 
   module _ (c : Place) (at : ℕ) (qs : Items) where
     keys-have : P (inTurn (emitsExcluded c) qs) → P (emitsKeys c qs)

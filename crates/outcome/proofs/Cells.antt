@@ -3,7 +3,7 @@
 use mathlib.Core.Path.{_≡_, refl, sym, subst}
 use mathlib.Core.Bool.{Bool, true, false, cond}
 use mathlib.Core.List.{List, [], _∷_, _++_}
-use mathlib.Core.Logic.{_⊎_, ⊎-elim}
+use mathlib.Core.Logic.{⊎-elim}
 use Prim.Native.Nat.{ℕ, zero, suc, _+_, _≤_, _<_}
 use native.Mathlib.Omega.{arith}
 use native.Mathlib.Decide.{decLt}
@@ -20,7 +20,7 @@ use Rattle.lowering.specs.Weight.{weight, walked}
 use Rattle.lowering.specs.Collect.{Name, nameOf, newIn, newInPiece, isContainer, marked, markOf}
 use Rattle.lowering.proofs.All.{AllItems, AllPiece, AllFields, Each}
 use Rattle.lowering.proofs.Cases.{by-test}
-use Rattle.lowering.proofs.Made.{times}
+use Rattle.lowering.proofs.MadeAtSites.{times}
 use Rattle.lowering.proofs.Occurs.{occurs, occursFields, occursPiece, occursItems, fields-in}
 use Rattle.sink.specs.Shown.{Named, CellsOk, madeBy, madeIn}
 use Rattle.sink.proofs.Joined.{cells-joined}
@@ -28,7 +28,7 @@ use Rattle.direct.specs.Events.{cell, cellOf, later, numberIn, countIn, mapIn}
 use Rattle.outcome.specs.Named
 use Rattle.outcome.specs.Named.{Act, puts, lists, excludes, handed, entered, excludedKeys, handsOut, marks, written, named, namedFields, namedPiece, namedItems}
 use Rattle.outcome.proofs.Listed.{made-append}
-use Rattle.outcome.proofs.Makes.{others, makes, number, makes-all, namesIn, hands-made, inCell, named-less}
+use Rattle.outcome.proofs.MadeOnce.{others, makes, number, makes-all, namesIn, hands-made, inCell, named-less}
 use Rattle.outcome.proofs.Scope.{cellAt, IsNamed, origin, weaker, both-each, all-each, occurs-here, walked-cell, cell-name, named-there}
 use Rattle.outcome.proofs.Numbers.{Every, every-append}
 

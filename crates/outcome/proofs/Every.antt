@@ -17,21 +17,21 @@ use Rattle.lowering.specs.Collect.{Name, newIn, bare, visits, firstRefusal, num
 use Rattle.lowering.specs.Answer.{Lent, Result, top, afterWalk, outcomeOf}
 use Rattle.lowering.proofs.Occurs.{occurs}
 use Rattle.lowering.proofs.Accepted.{accepted-good}
-use Rattle.lowering.proofs.Names.{accepted-names-apart}
+use Rattle.lowering.proofs.DistinctNames.{accepted-names-apart}
 use Rattle.lowering.proofs.Used.{no-temporary}
 use Rattle.sink.specs.Machine.{start, steps, finished}
 use Rattle.direct.specs.Events.{deeds}
 use Rattle.outcome.specs.Named.{firstRefused, eventsIn, outcomeFrom}
 use Rattle.outcome.proofs.Good.{Good}
 use Rattle.outcome.proofs.Potential.{pot}
-use Rattle.outcome.proofs.PotRules.{spent}
-use Rattle.outcome.proofs.Whole.{outcome-is, refusal-is}
+use Rattle.outcome.proofs.PotentialRules.{spent}
+use Rattle.outcome.proofs.OutcomeGiven.{outcome-is, refusal-is}
 use Rattle.outcome.proofs.Fitting.{fits-good}
 use Rattle.outcome.proofs.Room.{pot-most, pot-past}
 use Rattle.outcome.proofs.Forms.{walked-formed}
 use Rattle.outcome.proofs.Uses.{used, calm, walked-used}
-use Rattle.outcome.proofs.Kept.{Held, walked-keeps}
-use Rattle.outcome.proofs.Marks.{counts-long, marks-long, counts-held, from, new-marks, numbered-marks}
+use Rattle.outcome.proofs.MarksKept.{Held, walked-keeps}
+use Rattle.outcome.proofs.MarksInOrder.{counts-long, marks-long, counts-held, from, new-marks, numbered-marks}
 
 -- ---- what holds of an accepted tree
 

@@ -9,10 +9,10 @@ use borrow.Author.Tests.{eqb-true}
 use Rattle.tree.specs.Tree.{Node, Piece, Items, depth}
 use Rattle.tree.specs.Tree.Node.{node}
 use Rattle.tree.specs.Tree.Items.{none, hole, item}
-use Rattle.lowering.specs.Parts.{position, pieceIn, kind, is, nodeAt, itemsAt, textAt, stands, change, onNode, onItems, changeNode, changeItems, only, each, gather, any, _+++_}
+use Rattle.lowering.specs.Parts.{position, pieceIn, kind, is, nodeAt, itemsAt, stands, change, onNode, onItems, changeNode, changeItems, only, each, gather, any, _+++_}
 use Rattle.lowering.specs.Made.{Context, temporary, reference, valueOf, keyOf, helper, call, S, X, E, W, K, object, array, sequence, member, assign, string, declares, declared, letOf, varOf, assigning, returning, block, functionBody}
 use Rattle.lowering.specs.Patterns.{shape, properties, rest, hasRest, leftOf, key, value, withValues, hasObjectRest, hasArrayRestOverObjectRest, replaced, replacedBelow, objectsBelow}
-use Rattle.lowering.specs.Keys.{keySort, excludedKey, excludedKeys, keyTemporary, keyTemporaries, allPrimitive, taken}
+use Rattle.lowering.specs.Keys.{keySort, excludedKey, excludedKeys, keyTemporary, keyTemporaries, allPrimitive, taken, entryOf, keyText}
 use Rattle.lowering.specs.Rests.{hasNoProperties, mapped, isHoisted, keysRead, restValue}
 use Rattle.lowering.specs.Literals.{Call, opened, closed, scan, literal}
 use Rattle.lowering.specs.Declarations.{isName, source, sourceDeclarator, keysBefore, patternDeclarator, restDeclarator, own, nested, nestedBelow, objectDeclarators, patternDeclarators, lowerDeclarator, isLowered, declarators, declaration, declarationLacksForm}
@@ -21,7 +21,7 @@ use Rattle.lowering.specs.Heads.{isMoved, movedFrom, movedPattern, movedOut, le
 use Rattle.lowering.specs.Walk.{Rule, ruleOf, rewrite, stepDeclaration, stepTop, stepAssignment, stepFor}
 use Rattle.lowering.specs.Walk.Rule.{literals, declarations, assignments, functions, arrows, catches, fors, nowhere}
 use Rattle.lowering.proofs.All.{all-each}
-use Rattle.lowering.proofs.Cases.{by-test, by-shape, by-key, by-rule, object-is, array-is, is-changed, functionBody-is, block-is}
+use Rattle.lowering.proofs.Cases.{by-test, by-shape, by-key, by-rule, object-is, array-is, is-changed, functionBody-is, block-is, by-entry}
 use Rattle.outcome.proofs.Good.{NotDefault, temporary-20, temporary-simple, leaf-simple, object-simple, array-simple, rest-leaf, taken-simple, replaced-simple, reference-simple, movedPattern-simple, Is35, changed-35, Good, GoodItems, GoodObject, free, nothing-good, from-all, node-good, items-good, append-good, gather-good, view-node, change-items, each-items, change-free, temporary-good, reference-good, taken-good, replaced-view, values-good, objects-good, rests-good, withoutRests-good, movedOut-view, moved-good, movedPattern-good}
 use Rattle.tree.proofs.Sound.{never}
 use Rattle.direct.proofs.AlikeRules.{functionBody-kind, block-kind}
@@ -222,12 +222,10 @@ module _ (c : Context) where
   unfolding excludedKey
   excludedKey-good q h =
       let k = node-good 0 q h in
-      by-key (keySort (key q))
-      (λ e. rw (e, excludedKey, GoodItems) (string-good (textAt 0 (key q)), tt))
-      (λ e. rw (e, excludedKey, GoodItems) (string-good (textAt 2 (key q)), tt))
+      by-entry (entryOf (keySort (key q)))
+      (λ e. rw (e, excludedKey, GoodItems) (string-good (keyText (key q)), tt))
       (λ e. rw (e, excludedKey, GoodItems) (k, tt))
       (λ e. rw (e, excludedKey, GoodItems) tt)
-      (λ e. rw (e, excludedKey, GoodItems) (k, tt))
       (λ e. rw (e, excludedKey, GoodItems) (temporary-good (c .path) 4 (position q), tt))
 
   excludedKeys-good : (p : Node) → Good p → GoodItems (excludedKeys c p)

@@ -22,7 +22,7 @@ use Rattle.lowering.specs.Collect.{Name, nameOf, samePath, same, newIn, newInPi
 use Rattle.lowering.proofs.All.{AllItems, AllPiece, AllFields, Each, weaker-fields}
 use Rattle.lowering.proofs.Cases.{by-test}
 use Rattle.lowering.proofs.Appearance.{same-is}
-use Rattle.lowering.proofs.Made.{times}
+use Rattle.lowering.proofs.MadeAtSites.{times}
 use Rattle.lowering.proofs.Occurs.{occurs, occursFields, occursPiece, occursItems, fields-in}
 use Rattle.lowering.proofs.SoundSteps.{rewrite-sound}
 use Rattle.sink.specs.Shown.{Named, namesAfter}
@@ -30,7 +30,7 @@ use Rattle.direct.specs.Events.{cell, cellOf, later, numberIn, countIn, mapIn}
 use Rattle.outcome.specs.Named
 use Rattle.outcome.specs.Named.{Act, puts, entered, excludedKeys, marks, handsOut, written, named, namedFields, namedPiece, namedItems, after}
 use Rattle.outcome.proofs.Tokens.{after-append, puts-after, Scoped, ScopedFields, ScopedPiece, ScopedItems, fields-alike, items-alike}
-use Rattle.outcome.proofs.Makes.{makes, number, makes-all, hands-names, inCell, namedCell, cell-left, cell-made, named-less}
+use Rattle.outcome.proofs.MadeOnce.{makes, number, makes-all, hands-names, inCell, namedCell, cell-left, cell-made, named-less}
 
 -- ---- names and cells
 

@@ -3,7 +3,7 @@
 use mathlib.Core.Path.{_≡_, refl, sym, ap, _∙_, subst}
 use mathlib.Core.Bool.{Bool, cond, false≢true}
 use mathlib.Core.List.{List, [], _∷_, _++_, append-nil}
-use mathlib.Core.Logic.{_⊎_, ⊎-elim}
+use mathlib.Core.Logic.{⊎-elim}
 use mathlib.Core.Logic._⊎_.{inl}
 use Prim.Native.Nat.{ℕ, zero, suc, _+_, _≤_, _<_}
 use native.Mathlib.Omega.{arith}
@@ -22,7 +22,7 @@ use Rattle.lowering.proofs.Notes.{AllNotes}
 use Rattle.lowering.proofs.Cases.{by-test}
 use Rattle.lowering.proofs.Weights.{weight-pos}
 use Rattle.lowering.proofs.Falls.{falls, walked-is}
-use Rattle.lowering.proofs.Made.{times, times-append, no-ids}
+use Rattle.lowering.proofs.MadeAtSites.{times, times-append, no-ids}
 use Rattle.lowering.proofs.Appearance.{same-is}
 use Rattle.lowering.proofs.Occurs.{occurs, occursFields, occursPiece, occursItems}
 use Rattle.sink.specs.Shown.{Token}
@@ -33,11 +33,11 @@ use Rattle.outcome.proofs.Listed.{over-append}
 use Rattle.outcome.proofs.Scope.{self, both-each}
 use Rattle.outcome.proofs.Good.{Pure, Good, parts}
 use Rattle.outcome.proofs.GoodRules.{rewrite-good}
-use Rattle.outcome.proofs.Handed.{Hands, Declares, Valued, Full, full-append, full-weaker, pure-tokens}
+use Rattle.outcome.proofs.HandedDeclarators.{Hands, Declares, Valued, Full, full-append, full-weaker, pure-tokens}
 use Rattle.outcome.proofs.Numbers.{Every, every-append, In, in-left, in-right}
 use Rattle.outcome.proofs.Nodes.{names-joined, plains-names}
-use Rattle.outcome.proofs.Lists.{machineEntry}
-use Rattle.outcome.proofs.Stays.{Calm, CalmFields, CalmPiece, CalmItems, stays-result, rewrite-used, sum-some}
+use Rattle.outcome.proofs.ListWritten.{machineEntry}
+use Rattle.outcome.proofs.ListedStand.{Calm, CalmFields, CalmPiece, CalmItems, stays-result, rewrite-used, sum-some}
 use Rattle.lowering.proofs.ItemLaws.{each-append}
 
 -- ---- no refusal in the visits is none in the walk

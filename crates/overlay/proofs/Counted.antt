@@ -16,8 +16,8 @@ use Rattle.tree.specs.Read.{sortIn}
 use Rattle.tree.specs.WellFormed.{Fits, FitFields, FitPiece, FitItems, WellFormed}
 use Rattle.lowering.specs.Parts.{is, pieceIn, standsIn, asNode, asItems, nodeAt, any}
 use Rattle.overlay.specs.Whole.{ItemAt, NodeIn, FieldAt, PartAt, Stands}
-use Rattle.overlay.proofs.Objects.{differ}
-use Rattle.overlay.proofs.Accepted.{no-20, allRows, row-at, isMany, fieldAt, not-kind}
+use Rattle.overlay.proofs.LaidOn.{differ}
+use Rattle.overlay.proofs.AcceptedGiven.{no-20, allRows, row-at, isMany, fieldAt, not-kind}
 use Rattle.overlay.proofs.Held.{isList, takesIn, takes, areParams, hasBody, isAtom, changesIt, held, heldAll, heldPiece, heldItems, heldParts, heldPattern, heldDeclarators, heldDeclarator, at-24, at-26, at-27, at-34, at-37, at-4, declarator-held}
 use Rattle.lowering.proofs.Cases.{by-test, or-left, or-right}
 

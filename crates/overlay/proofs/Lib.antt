@@ -1,4 +1,4 @@
-pub mod Objects
+pub mod LaidOn
 pub mod Ordered
 pub mod Runs
 pub mod Free
@@ -8,14 +8,14 @@ pub mod Lowered
 pub mod Overlay
 pub mod Described
 pub mod Grown
-pub mod Whole
-pub mod Impostors
-pub mod Premises
-pub mod Accepted
+pub mod LoweredInPlace
+pub mod ImpostorsFail
+pub mod PremisesNeeded
+pub mod AcceptedGiven
 pub mod Held
-pub mod Kept
-pub mod Rules
+pub mod ViewsKeep
+pub mod RulesKeepLiterals
 pub mod Visited
 pub mod Counted
-pub mod Same
+pub mod TreesCompared
 pub mod Reached

@@ -22,7 +22,7 @@ use Rattle.lowering.proofs.Falls.{walked-is}
 use Rattle.overlay.specs.Plain.{free, freeFields, freePiece, freeItems, isObject, isForeign, isNew}
 use Rattle.overlay.specs.Law.{literalOf}
 use Rattle.overlay.specs.Whole.{leaves}
-use Rattle.overlay.proofs.Objects.{differ}
+use Rattle.overlay.proofs.LaidOn.{differ}
 use Rattle.overlay.proofs.Free.{free-here, free-below}
 use Rattle.overlay.proofs.Still.{still}
 use Rattle.overlay.proofs.Plainly.{Opaque, Plain, PlainParts, PlainPart, no-part, next-part, spread, property, spreadOf, propertyOf}

@@ -16,7 +16,7 @@ use Rattle.overlay.specs.Run.{Step, History, Outside, Out, Entry, then, 
 use Rattle.overlay.specs.Run.Step.{evaluates, lists, reads}
 use Rattle.overlay.specs.Run.Out.{ok, threw, beyond, stuck}
 use Rattle.overlay.specs.Run.Entry.{pair}
-use Rattle.overlay.proofs.Objects.{Canon, canon-put, canon-overlay}
+use Rattle.overlay.proofs.LaidOn.{Canon, canon-put, canon-overlay}
 
 -- what holds of a result, if there is one
 abbrev pub Holds : {A : Type 0} → (A → Type 0) → Out A → Type 0

@@ -14,7 +14,7 @@ use Rattle.lowering.specs.Parts.{is, nodeAt, pieceIn}
 use Rattle.overlay.specs.Run.{makes}
 use Rattle.overlay.specs.Plain.{free, freeFields, freePiece, freeItems, isObject, isForeign, bare, fineKey, fineMethod, isDone, isNode, isFlags, plain, plainObject, plainList, plainParts, plainPart, plainSpread, plainProperty, plainValue, plainOne}
 use Rattle.overlay.specs.Law.{literalOf}
-use Rattle.overlay.proofs.Objects.{differ}
+use Rattle.overlay.proofs.LaidOn.{differ}
 use Rattle.overlay.proofs.Free.{free-below}
 use Rattle.lowering.proofs.Cases.{by-test, and-left, and-right}
 

@@ -24,12 +24,12 @@ use Rattle.lowering.proofs.Notes.{AllNotes}
 use Rattle.lowering.proofs.Falls.{walked-is}
 use Rattle.overlay.specs.Plain.{plain}
 use Rattle.overlay.specs.Whole.{ItemAt, NodeIn, FieldAt, PartAt, Stands, Visits, leaves, Comes, Reached, Lowered, Everywhere}
-use Rattle.overlay.proofs.Objects.{differ}
-use Rattle.overlay.proofs.Same.{same, same-is, same-self}
+use Rattle.overlay.proofs.LaidOn.{differ}
+use Rattle.overlay.proofs.TreesCompared.{same, same-is, same-self}
 use Rattle.overlay.proofs.Visited.{Finds, comes}
 use Rattle.overlay.proofs.Counted.{Apart, counted}
-use Rattle.overlay.proofs.Accepted.{accepted-given}
-use Rattle.overlay.proofs.Whole.{plus-zero, zero-plus, plus-suc, in-place}
+use Rattle.overlay.proofs.AcceptedGiven.{accepted-given}
+use Rattle.overlay.proofs.LoweredInPlace.{plus-zero, zero-plus, plus-suc, in-place}
 use Rattle.lowering.proofs.Cases.{by-test}
 
 -- ---- the note of each node that the walk comes to is among the notes that are collected

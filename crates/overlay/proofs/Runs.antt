@@ -22,7 +22,7 @@ use Rattle.overlay.specs.Run.Reply.{gives, throws}
 use Rattle.overlay.specs.Run.Out.{ok, threw, beyond, stuck}
 use Rattle.overlay.specs.Run.Entry.{pair}
 use Rattle.overlay.specs.Law.{Tame, Fair}
-use Rattle.overlay.proofs.Objects.{Canon, canon-put, pick-names, overlay-put}
+use Rattle.overlay.proofs.LaidOn.{Canon, canon-put, pick-names, overlay-put}
 use Rattle.overlay.proofs.Ordered.{Holds, Good, run-good}
 use Rattle.lowering.proofs.Cases.{by-test}
 use Rattle.lowering.proofs.Clauses.{scan-spread, scan-other}

@@ -19,7 +19,7 @@ use Rattle.lowering.specs.Walk.{Rule, ruleOf, rewrite, stepDeclaration, stepAss
 use Rattle.lowering.specs.Walk.Rule.{literals, declarations, assignments, functions, arrows, catches, fors, nowhere}
 use Rattle.lowering.proofs.Cases.{by-shape, by-rule, object-is, by-test, or-left, or-right, and-none, and-left, and-right}
 use Rattle.overlay.specs.Plain.{free, freeItems, isObject, isForeign, isNew, hasHole}
-use Rattle.overlay.proofs.Objects.{differ}
+use Rattle.overlay.proofs.LaidOn.{differ}
 use Rattle.overlay.proofs.Free.{free-here, free-node, free-items}
 use Rattle.lowering.proofs.ChangeLaws.{changeItems-same}
 

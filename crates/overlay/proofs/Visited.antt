@@ -17,7 +17,7 @@ use Rattle.lowering.proofs.Weights.{weight-pos, parts-fall}
 use Rattle.lowering.proofs.Falls.{falls}
 use Rattle.overlay.specs.Whole.{ItemAt, NodeIn, FieldAt, PartAt, Stands, Visits}
 use Rattle.overlay.proofs.Held.{held, heldAll, heldPiece, heldItems}
-use Rattle.overlay.proofs.Rules.{own, partsHeld, stays, Kept, kept, refuses, keeps}
+use Rattle.overlay.proofs.RulesKeepLiterals.{own, partsHeld, stays, Kept, kept, refuses, keeps}
 use Rattle.lowering.proofs.Cases.{by-test}
 
 -- ---- what holds of each part holds of the part at a place

@@ -1,4 +1,4 @@
--- Lowerings that the law rules out (proofs/Impostors.antt).
+-- Lowerings that the law rules out (proofs/ImpostorsFail.antt).
 use mathlib.Core.Bool.{cond}
 use Rattle.tree.specs.Tree.{Node, Items}
 use Rattle.tree.specs.Tree.Items.{none, hole, item}

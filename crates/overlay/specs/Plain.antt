@@ -171,7 +171,7 @@ unfoldable mutual
   plainOne (mark b) = false
   plainOne (number b) = false
 
--- ---- what every accepted tree is, as far as the law asks (proofs/Accepted.antt)
+-- ---- what every accepted tree is, as far as the law asks (proofs/AcceptedGiven.antt)
 
 -- a statement with mark 0, which says that the rewriting made it
 abbrev pub isNew : Fields → Bool

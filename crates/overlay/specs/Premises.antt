@@ -1,4 +1,4 @@
--- Outsides that break one premise of the law each (proofs/Premises.antt). Every value is one that the law is about.
+-- Outsides that break one premise of the law each (proofs/PremisesNeeded.antt). Every value is one that the law is about.
 use mathlib.Core.Path.{_≡_}
 use mathlib.Core.Bool.{Bool, true, false, not}
 use mathlib.Core.List.{List, [], _∷_}

@@ -23,7 +23,7 @@ use Rattle.lowering.specs.Collect.{Visit, Entry, Name, visits, namesOf, over, n
 use Rattle.lowering.proofs.All.{AllItems}
 use Rattle.lowering.proofs.Notes.{AllNotes, in-walked}
 use Rattle.lowering.proofs.Cases.{by-test, by-rule}
-use Rattle.lowering.proofs.Made.{times, times-append}
+use Rattle.lowering.proofs.MadeAtSites.{times, times-append}
 use Rattle.lowering.proofs.ItemLaws.{each-append}
 use Rattle.lowering.proofs.Appearance.{In, same-is}
 use Rattle.lowering.proofs.Appearance.In.{here, there}

@@ -16,7 +16,7 @@ use Rattle.overlay.specs.Run.{History, Outside, proto, isWritten, spelled, make
 use Rattle.overlay.specs.Run.Step.{evaluates, computes, names, converts, lists, reads}
 use Rattle.overlay.specs.Run.Reply.{gives}
 use Rattle.overlay.specs.Run.Out.{ok}
-use Rattle.overlay.proofs.Objects.{differ, text-is}
+use Rattle.overlay.proofs.LaidOn.{differ, text-is}
 use Rattle.packing.specs.World.{History as Steps}
 use Rattle.packing.specs.World.{Slot, Own, Held, World, slot, stored, shown, seen, look}
 use Rattle.packing.specs.World.Slot.{lacks, value, accessor}

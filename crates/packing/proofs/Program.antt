@@ -54,7 +54,7 @@ unfolding
     Rattle.lowering.specs.Parts.any Rattle.lowering.specs.Parts.isEmpty Rattle.lowering.specs.Patterns.shape
     Rattle.lowering.specs.Patterns.hasNestedObjectRest Rattle.lowering.specs.Patterns.replaced
     Rattle.lowering.specs.Patterns.objectsWithRest Rattle.lowering.specs.Keys.keySort Rattle.lowering.specs.Keys.isPrimitive
-    Rattle.lowering.specs.Keys.lacksForm Rattle.lowering.specs.Keys.excludedKey Rattle.lowering.specs.Keys.keptKey
+    Rattle.lowering.specs.Keys.lacksForm Rattle.lowering.specs.Keys.keyText Rattle.lowering.specs.Keys.excludedKey Rattle.lowering.specs.Keys.keptKey
     Rattle.lowering.specs.Keys.keyTemporary Rattle.lowering.specs.Keys.allPrimitive Rattle.lowering.specs.Keys.anyLacksForm
     Rattle.lowering.specs.Keys.excludedKeys Rattle.lowering.specs.Keys.keyTemporaries Rattle.lowering.specs.Keys.taken
     Rattle.lowering.specs.Rests.isHoisted Rattle.lowering.specs.Rests.keysRead Rattle.lowering.specs.Rests.restValue

@@ -2,28 +2,23 @@
 -- Assumes nothing.
 use mathlib.Core.Path.{_≡_, refl, sym, ap, ap₂, _∙_}
 use mathlib.Core.Bool.{Bool, true, false, cond, _||_}
-use Prim.Native.Nat.{ℕ, zero, suc, _≤_}
+use Prim.Native.Nat.{ℕ, _≤_}
 use native.Mathlib.Omega.{arith}
 use lib.Dec.{eqb}
 use borrow.Author.Tests.{eq-eqb, ne-eqb, eqb-true}
 use Rattle.tree.specs.Tree.{Node, Fields, Piece, Items, depth, depthFields, depthPiece, depthItems}
 use Rattle.tree.specs.Tree.Node.{node}
-use Rattle.tree.specs.Tree.Fields.{done, absent, field}
 use Rattle.tree.specs.Tree.Piece.{one, list, text, byte, mark, number}
 use Rattle.tree.specs.Tree.Items.{none, hole, item}
 use Rattle.lowering.specs.Parts.{nothing, kind, pieceIn, asNode, asItems, nodeAt, itemsAt, gather, any, _+++_}
-use Rattle.lowering.specs.Patterns.{Shape, shape, properties, itemsOf, rest, hasRest, leftOf, value, hasNestedObjectRest, hasNestedArrayRest, hasObjectRest, hasArrayRestOverObjectRest}
+use Rattle.lowering.specs.Patterns.{shape, properties, itemsOf, rest, hasRest, leftOf, value, hasNestedObjectRest, hasNestedArrayRest, hasObjectRest, hasArrayRestOverObjectRest}
 use Rattle.lowering.specs.Patterns.Shape.{objectPattern, arrayPattern, default, leaf}
 use Rattle.lowering.proofs.Levels.{has-levels, array-levels}
 use Rattle.pattern.proofs.Places.{Blank}
+use Rattle.lowering.proofs.Levels as levels
+use Rattle.lowering.proofs.Levels.{piece-depth}
 
 -- ---- the shape by the kind
-
-pub by-shape : {A : Type 0} (s : Shape) → (s ≡ objectPattern → A) → (s ≡ arrayPattern → A) → (s ≡ default → A) → (s ≡ leaf → A) → A
-by-shape objectPattern f g h i = f refl
-by-shape arrayPattern f g h i = g refl
-by-shape default f g h i = h refl
-by-shape leaf f g h i = i refl
 
 module _ (p : Node) where
   pub is-object : kind p ≡ 34 → shape p ≡ objectPattern
@@ -63,14 +58,6 @@ module _ (p : Node) where
       go false false false w f = let z : _≡_ {A = ℕ} 0 1 = cc in absurd (omega arith)
 
 -- ---- the depth of parts
-
-piece-depth : (fs : Fields) (i : ℕ) → depthPiece (pieceIn fs i) ≤ depthFields fs
-unfolding pieceIn depth
-piece-depth done i = omega arith
-piece-depth (absent fs) zero = omega arith
-piece-depth (absent fs) (suc i) = piece-depth fs i
-piece-depth (field p fs) zero = omega arith
-piece-depth (field p fs) (suc i) = let h = piece-depth fs i in omega arith
 
 items-depth : (i at k : ℕ) (fs : Fields) → depthItems (itemsAt i (node at k fs)) ≤ depthFields fs
 unfolding itemsAt depth
@@ -142,33 +129,28 @@ module _ (F : ℕ → Node → Items) (levels : Levels F) (bare : (d : ℕ) → 
 abbrev pub has : Node → Bool
 has p = hasObjectRest p
 
-has-bare : (d : ℕ) → hasNestedObjectRest d nothing ≡ false
-unfolding hasNestedObjectRest shape
-has-bare zero = refl
-has-bare (suc d) = refl
-
 pub has-blank : Blank has
 unfolding hasNestedObjectRest shape depth
 has-blank at = refl
 
 pub has-nothing : has nothing ≡ false
-has-nothing = has-bare (depth nothing)
+has-nothing = levels.has-nothing (depth nothing)
 
 pub has-object : (p : Node) → shape p ≡ objectPattern → has p ≡ hasRest p || any (λ q. has (value q)) (properties p)
 unfolding hasNestedObjectRest depth
 has-object (node at k fs) s =
-    rw (s, hasNestedObjectRest) (ap (λ (x : Bool). hasRest (node at k fs) || x) (any-values (λ d p. hasNestedObjectRest d p) has-levels has-bare 0 at k fs))
+    rw (s, hasNestedObjectRest) (ap (λ (x : Bool). hasRest (node at k fs) || x) (any-values (λ d p. hasNestedObjectRest d p) has-levels levels.has-nothing 0 at k fs))
 
 pub has-array : (p : Node) → shape p ≡ arrayPattern → has p ≡ any (λ e. has e) (itemsOf p) || has (rest p)
 unfolding hasNestedObjectRest depth
 has-array (node at k fs) s =
     rw (s, hasNestedObjectRest)
-    (ap₂ (λ (x y : Bool). x || y) (any-free (λ d p. hasNestedObjectRest d p) has-levels has-bare 0 at k fs)
-    (node-free (λ d p. hasNestedObjectRest d p) false has-levels has-bare (depthFields fs) 1 at k fs (omega arith)))
+    (ap₂ (λ (x y : Bool). x || y) (any-free (λ d p. hasNestedObjectRest d p) has-levels levels.has-nothing 0 at k fs)
+    (node-free (λ d p. hasNestedObjectRest d p) false has-levels levels.has-nothing (depthFields fs) 1 at k fs (omega arith)))
 
 pub has-default : (p : Node) → shape p ≡ default → has p ≡ has (leftOf p)
 unfolding hasNestedObjectRest depth
-has-default (node at k fs) s = rw (s, hasNestedObjectRest) (node-free (λ d p. hasNestedObjectRest d p) false has-levels has-bare (depthFields fs) 0 at k fs (omega arith))
+has-default (node at k fs) s = rw (s, hasNestedObjectRest) (node-free (λ d p. hasNestedObjectRest d p) false has-levels levels.has-nothing (depthFields fs) 0 at k fs (omega arith))
 
 pub has-leaf : (p : Node) → shape p ≡ leaf → has p ≡ false
 unfolding hasNestedObjectRest depth
@@ -179,32 +161,27 @@ has-leaf (node at k fs) s = rw (s, hasNestedObjectRest)
 abbrev pub below : Node → Bool
 below p = hasArrayRestOverObjectRest p
 
-below-bare : (d : ℕ) → hasNestedArrayRest d nothing ≡ false
-unfolding hasNestedArrayRest shape
-below-bare zero = refl
-below-bare (suc d) = refl
-
 pub below-blank : Blank below
 unfolding hasNestedArrayRest shape depth
 below-blank at = refl
 
 pub below-nothing : below nothing ≡ false
-below-nothing = below-bare (depth nothing)
+below-nothing = levels.array-nothing (depth nothing)
 
 pub below-object : (p : Node) → shape p ≡ objectPattern → below p ≡ any (λ q. below (value q)) (properties p)
 unfolding hasNestedArrayRest depth
-below-object (node at k fs) s = rw (s, hasNestedArrayRest) (any-values (λ d p. hasNestedArrayRest d p) array-levels below-bare 0 at k fs)
+below-object (node at k fs) s = rw (s, hasNestedArrayRest) (any-values (λ d p. hasNestedArrayRest d p) array-levels levels.array-nothing 0 at k fs)
 
 pub below-array : (p : Node) → shape p ≡ arrayPattern → below p ≡ any (λ e. below e) (itemsOf p) || has (rest p)
 unfolding hasNestedArrayRest depth
 below-array (node at k fs) s =
     rw (s, hasNestedArrayRest)
-    (ap₂ (λ (x y : Bool). x || y) (any-free (λ d p. hasNestedArrayRest d p) array-levels below-bare 0 at k fs)
-    (node-free (λ d p. hasNestedObjectRest d p) false has-levels has-bare (depthFields fs) 1 at k fs (omega arith)))
+    (ap₂ (λ (x y : Bool). x || y) (any-free (λ d p. hasNestedArrayRest d p) array-levels levels.array-nothing 0 at k fs)
+    (node-free (λ d p. hasNestedObjectRest d p) false has-levels levels.has-nothing (depthFields fs) 1 at k fs (omega arith)))
 
 pub below-default : (p : Node) → shape p ≡ default → below p ≡ below (leftOf p)
 unfolding hasNestedArrayRest depth
-below-default (node at k fs) s = rw (s, hasNestedArrayRest) (node-free (λ d p. hasNestedArrayRest d p) false array-levels below-bare (depthFields fs) 0 at k fs (omega arith))
+below-default (node at k fs) s = rw (s, hasNestedArrayRest) (node-free (λ d p. hasNestedArrayRest d p) false array-levels levels.array-nothing (depthFields fs) 0 at k fs (omega arith))
 
 pub below-leaf : (p : Node) → shape p ≡ leaf → below p ≡ false
 unfolding hasNestedArrayRest depth

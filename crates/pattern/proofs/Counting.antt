@@ -26,10 +26,11 @@ use Rattle.pattern.specs.Tally.{limited, both, sum}
 use Rattle.pattern.specs.Keys.{keyTally, keysOf, countsBy}
 use Rattle.pattern.specs.Objects.{objectItself, objectTally, ownTally, objectsTally, throughObjects, found, restsTally}
 use Rattle.pattern.specs.Declarators.{made}
-use Rattle.pattern.proofs.Adding.{tallies, sumOf, sum-append, sum-gather, plus-limited, plus-right, plus-both}
-use Rattle.pattern.proofs.KeyCases.{some-not, more-than, count-append, temporaries-law, lacking-law}
-use Rattle.pattern.proofs.Below.{by-shape}
-use Rattle.pattern.proofs.Objects.{no-properties-kept, tally-kept, only-tally, rests-object}
+use Rattle.pattern.proofs.CappedSums.{tallies, sumOf, sum-append, sum-gather, plus-limited, plus-right, plus-both}
+use Rattle.pattern.proofs.KeyCases.{some-not, more-than, temporaries-law, lacking-law}
+use Rattle.pattern.proofs.RestsFound.{no-properties-kept, tally-kept, only-tally, rests-object}
+use Rattle.lowering.proofs.ItemLaws.{count-append}
+use Rattle.lowering.proofs.Cases.{by-shape}
 
 -- any context
 abbrev somewhere : Context

@@ -146,7 +146,7 @@ module _ (l : List ℕ) where
   standsBy (f ∷ fs) m zero = eqb (m % 2) 1
   standsBy (f ∷ fs) m (suc i) = standsBy fs (m / 2) i
 
-  bit-stands : (R : ℕ → Seen Node) (s : Sort) (bit at : ℕ) (fs : Fields) → bit < 2 → standsIn (lookSlot l R s bit at .value fs) 0 ≡ eqb bit 1
+  pub bit-stands : (R : ℕ → Seen Node) (s : Sort) (bit at : ℕ) (fs : Fields) → bit < 2 → standsIn (lookSlot l R s bit at .value fs) 0 ≡ eqb bit 1
   unfolding lookSlot standsIn
   bit-stands R s zero at fs h = refl
   bit-stands R s (suc zero) at fs h = refl

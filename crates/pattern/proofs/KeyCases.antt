@@ -12,11 +12,11 @@ use Rattle.tree.specs.Tree.Items.{none, hole, item}
 use Rattle.tree.specs.Read.{byteAt}
 use Rattle.tree.specs.Answer.{Peeked}
 use Rattle.tree.specs.Look.{seen, seenAs, onward, lookItem, lookItems, lookNode}
-use Rattle.lowering.specs.Parts.{kind, is, itemsAt, textAt, stands, only, gather, any, isEmpty, pieceIn, _+++_}
+use Rattle.lowering.specs.Parts.{kind, is, itemsAt, textAt, stands, only, gather, any, isEmpty, pieceIn}
 use Rattle.lowering.specs.Made.{Context, string}
 use Rattle.lowering.specs.Patterns.{key, properties}
 use Rattle.lowering.specs.Keys as keys
-use Rattle.lowering.specs.Keys.{keySort, isPrimitive, lacksForm, excludedKey, keyTemporary, allPrimitive, anyLacksForm, excludedKeys, keyTemporaries}
+use Rattle.lowering.specs.Keys.{keySort, isPrimitive, lacksForm, excludedKey, keyTemporary, allPrimitive, anyLacksForm, excludedKeys, keyTemporaries, keyText}
 use Rattle.lowering.specs.Keys.Key.{name, literal, template, private, again, other}
 use Rattle.lowering.specs.Rests.{hasNoProperties}
 use Rattle.pattern.specs.declared.parts.Part.{Part}
@@ -31,7 +31,9 @@ use Rattle.pattern.specs.Tally as tally
 use Rattle.pattern.specs.Tally.{limited, both, sum}
 use Rattle.pattern.specs.Keys.{nameIn, formIn, keyAt, Becomes, keyRefusal, keyEntry, keyBy, counts, countsBy, keyCounts, keyTally, keysOf, itemKeys}
 use Rattle.pattern.proofs.Places.{Blank, child-is, list-is, kind-is, no-levels, text-part, stands-part, standing, textIn}
-use Rattle.pattern.proofs.Adding.{tallies, Adds, sumOf, listSum, sum-start, sum-more, sum-end}
+use Rattle.pattern.proofs.CappedSums.{tallies, Adds, sumOf, listSum, sum-start, sum-more, sum-end}
+use Rattle.lowering.proofs.ItemLaws.{count-append}
+use Rattle.lowering.proofs.Clauses.{text-name, text-literal}
 
 pub some-not : (n : ℕ) → eqb (suc n) 0 ≡ false
 some-not n = ne-eqb (suc n) 0 (λ e. absurd (omega arith))
@@ -250,8 +252,8 @@ module _ (l : List ℕ) (d at : ℕ) where
   entry-is c q e =
       let s : keySort (key q) ≡ keySort k = ap keySort e in
       by-sort (keySort k)
-      (λ w. rw (s, w, excludedKey) (ap (λ (x : Node). only (string (textAt 0 x))) e ∙ ap (λ (x : List ℕ). only (string x)) (text-part l d at 0) ∙ entry-name c q (partAt l d at 0)))
-      (λ w. rw (s, w, excludedKey) (ap (λ (x : Node). only (string (textAt 2 x))) e ∙ ap (λ (x : List ℕ). only (string x)) (text-part l d at 2) ∙ entry-form c q (partAt l d at 2)))
+      (λ w. rw (s, w, excludedKey) (ap (λ (x : Node). only (string (keyText x))) e ∙ ap (λ (x : List ℕ). only (string x)) (text-name k w ∙ text-part l d at 0) ∙ entry-name c q (partAt l d at 0)))
+      (λ w. rw (s, w, excludedKey) (ap (λ (x : Node). only (string (keyText x))) e ∙ ap (λ (x : List ℕ). only (string x)) (text-literal k w ∙ text-part l d at 2) ∙ entry-form c q (partAt l d at 2)))
       (λ w. rw (s, w, excludedKey))
       (λ w. rw (s, w, excludedKey))
       (λ w. rw (s, w, excludedKey))
@@ -411,12 +413,6 @@ unfolding keysOf anyLacksForm
 lacking-law p t e = ap (λ (x : Tally). ltb 0 (x .lacking)) e ∙ more-than (keysIn (properties p) .lacking) ∙ lacking-some (properties p)
 
 -- ---- how many excluded keys and key temporaries there are, in any context
-
-pub count-append : (is js : Items) → count (is +++ js) ≡ count is + count js
-unfolding count _+++_
-count-append none js = omega arith
-count-append (hole is) js = let h = count-append is js in omega arith
-count-append (item n is) js = let h = count-append is js in omega arith
 
 module _ (c : Context) where
   excluded-one : (q : Node) → keyTally (key q) .excluded ≡ count (excludedKey c q)

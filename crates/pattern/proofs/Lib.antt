@@ -2,11 +2,11 @@ pub mod Fields
 pub mod Places
 pub mod Below
 pub mod Searches
-pub mod Adding
+pub mod CappedSums
 pub mod KeyCases
-pub mod Objects
+pub mod RestsFound
 pub mod Counting
-pub mod Moving
-pub mod Reading
-pub mod Declaring
-pub mod Sizes
+pub mod MovesCounted
+pub mod SourceReads
+pub mod DeclaratorsCounted
+pub mod CountsFit

@@ -326,4 +326,3 @@ module _ (l : List ℕ) where
   pub no-levels : (d at : ℕ) → d ≡ 0 → lookNode l d at .value ≡ node at 0 done
   unfolding lookNode
   no-levels d at z = rw z
-  -- ---- a field that stands, exactly

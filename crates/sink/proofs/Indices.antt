@@ -9,7 +9,7 @@ use lib.Dec.{eqb}
 use borrow.Author.Tests.{eq-eqb, ne-eqb, eqb-true, lt-ltb}
 use Rattle.sink.specs.Machine.{Event, State, start, steps, closed, ended, finished, nothing, over, maskOf}
 use Rattle.sink.specs.Shown.{Every, Apart, CellsOk, eventOf, eventsOf, madeBy, madeIn, nameEach, ownName, treeTokens, listTokens, keysTokens, helpersIn, treeBytes, listBytes, handedBack}
-use Rattle.sink.proofs.Laws.{steps-append}
+use Rattle.sink.proofs.WaysOut.{steps-append}
 use Rattle.sink.proofs.Names.{size}
 use Rattle.sink.proofs.Lengths.{Long, long-events, long-closed}
 use Rattle.sink.proofs.Result.{handed-back, first-long, ended-long}

@@ -1,4 +1,4 @@
-pub mod Laws
+pub mod WaysOut
 pub mod Runs
 pub mod Names
 pub mod Holds

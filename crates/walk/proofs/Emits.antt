@@ -25,8 +25,8 @@ use Rattle.sink.specs.Machine.{part}
 use Rattle.direct.specs.Events.{Place, Emit, puts, marks, emits}
 use Rattle.direct.specs.Emit.{say, _▷_, below, marking, stays, emitsItem, emitsItems, emitsPiece, emitsFields}
 use Rattle.direct.proofs.Threads.{say-nothing}
-use Rattle.direct.proofs.Stays.{emits-nowhere}
-use Rattle.direct.proofs.Marks.{emits-item}
+use Rattle.direct.proofs.OneLevel.{emits-nowhere}
+use Rattle.direct.proofs.StatementMarks.{emits-item}
 use Rattle.walk.specs.Run.{Going, Does}
 use Rattle.walk.specs.Turns.{leafKind}
 use Rattle.walk.specs.Whole.{holeAt, itemDeeds, slotDeeds, GoodItem, GoodItems, GoodList, GoodField, GoodSlot, GoodFields, GoodHere, Good}

@@ -34,23 +34,24 @@ use Rattle.pattern.specs.Parts.{sortAt, textOf, partOf, partIn, partAt}
 use Rattle.pattern.specs.Keys.{nameIn, formIn, keyAt}
 use Rattle.pattern.proofs.KeyCases.{by-sort}
 use Rattle.pattern.proofs.Places.{textIn, text-part}
-use Rattle.pattern.proofs.Sizes.{counted-whole, excluded-fit}
+use Rattle.pattern.proofs.CountsFit.{counted-whole, excluded-fit}
 use Rattle.direct.specs.Events as events
 use Rattle.direct.specs.Events.{Emit, Deed, lists, excludes}
 use Rattle.direct.specs.Events.Deed.{does}
 use Rattle.direct.specs.Emit.{say, _▷_, inTurn}
 use Rattle.direct.specs.Views.{nameless, isOther}
 use Rattle.direct.specs.Keys.{stringBytes, entries, hoists}
-use Rattle.direct.specs.Handed.{placeMade, keyMade, keysMade, keyBytes, excludesOf, handsKey, handsKeys, handsPlace}
+use Rattle.direct.specs.Handed.{placeMade, keyMade, keysMade, keyBytes, excludesOf, handsKey, handsKeys, handsPlace, keyBytesOf}
 use Rattle.direct.proofs.Threads.{say-say}
 use Rattle.direct.proofs.RestValues.{entries-are}
 use Rattle.walk.specs.Run.{Going, Does}
 use Rattle.walk.specs.Whole.{GoodItems, Good}
-use Rattle.walk.specs.Turns.{ownOf, keyOf, keyBytesOf}
+use Rattle.walk.specs.Turns.{ownOf, keyOf}
 use Rattle.walk.proofs.Running.{does-then, does-nothing, does-as}
 use Rattle.walk.proofs.Opened.{position-here, good-copied, good-short, good-within, object-open, property-key}
 use Rattle.walk.proofs.Hands.{at-level, list-from}
 use Rattle.walk.proofs.Sources.{text-short}
+use Rattle.lowering.proofs.Clauses.{text-name, text-literal}
 
 -- ---- cells
 
@@ -250,8 +251,8 @@ module _ (t : List ℕ) where
     unfolding keyAt keyBytesOf
     key-is =
         by-sort (keySort this)
-        (λ s. rw s (name-as this (textAt 0 this) (short-text 0) (rw (s, keyBytesOf) refl) (partAt t d at 0) (part-at d at 0) (text-part t d at 0)))
-        (λ s. rw s (form-as this (textAt 2 this) (short-text 2) (rw (s, keyBytesOf) refl) (partAt t d at 2) (part-at d at 2) (text-part t d at 2)))
+        (λ s. rw s (name-as this (textAt 0 this) (short-text 0) (rw (s, keyBytesOf) (ap stringBytes (sym (text-name this s)))) (partAt t d at 0) (part-at d at 0) (text-part t d at 0)))
+        (λ s. rw s (form-as this (textAt 2 this) (short-text 2) (rw (s, keyBytesOf) (ap stringBytes (sym (text-literal this s)))) (partAt t d at 2) (part-at d at 2) (text-part t d at 2)))
         (λ s. rw s (rw (s, keyBytesOf) refl))
         (λ s. rw s (rw (s, keyBytesOf) refl))
         (λ s. rw s (rw (s, keyBytesOf) refl))

@@ -23,7 +23,7 @@ use Rattle.direct.specs.Events.Deed.{does}
 use Rattle.direct.specs.Emit.{say, inTurn}
 use Rattle.direct.specs.Moved.{movedIn, makes}
 use Rattle.direct.proofs.Threads.{say-say}
-use Rattle.direct.proofs.Handed.{Listed, listed-gather}
+use Rattle.direct.proofs.HandedByObject.{Listed, listed-gather}
 use Rattle.direct.proofs.MovedOut.{shape-37}
 use Rattle.direct.proofs.MovedMade.{makes-join, makes-object, makes-default, makes-leaf, makes-array, makes-array-rest, makes-kept, makes-moved}
 use Rattle.walk.specs.Run.{Going, Does}

@@ -24,7 +24,7 @@ use Rattle.lowering.proofs.Cases.{by-test}
 use Rattle.sink.specs.Machine.Event.{make, listedTemporary, entry}
 use Rattle.pattern.specs.Tally.{limited}
 use Rattle.pattern.specs.Objects.{throughObjects}
-use Rattle.pattern.proofs.Sizes.{counted-whole, temporaries-fit, through-fit, rests-fit}
+use Rattle.pattern.proofs.CountsFit.{counted-whole, temporaries-fit, through-fit, rests-fit}
 use Rattle.direct.specs.Events as events
 use Rattle.direct.specs.Events.{Emit, lists}
 use Rattle.direct.specs.Events.Deed.{does}
@@ -36,12 +36,12 @@ use Rattle.direct.specs.Inner.{otherKeys}
 use Rattle.direct.specs.Counts.{restsCount}
 use Rattle.direct.specs.Handed.{placeMade, keysMade, excludesOf, handsKeys, handsPlace, keysBelow, placesIn, declaratorMade, declaratorExcludes, handsTop, handsNested}
 use Rattle.direct.proofs.Threads.{then-assoc, say-nothing}
-use Rattle.direct.proofs.Inner.{keys-counted}
+use Rattle.direct.proofs.InnerAssignments.{keys-counted}
 use Rattle.walk.specs.Run.{Going, Does}
 use Rattle.walk.specs.Whole.{GoodItems, Good}
 use Rattle.walk.specs.Turns.{viewOf, ownOf, overAll, keyOf}
 use Rattle.walk.proofs.Running.{does-then, does-nothing, does-as}
-use Rattle.walk.proofs.Sizes.{places-small}
+use Rattle.walk.proofs.PlacesFit.{places-small}
 use Rattle.walk.proofs.Opened.{position-here, good-short, good-within, declarator-open, declaration-open}
 use Rattle.walk.proofs.Hands.{at-level}
 use Rattle.walk.proofs.HandKeys.{three-say, hands-turn}

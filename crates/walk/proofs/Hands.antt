@@ -26,9 +26,9 @@ use Rattle.direct.specs.Views.{View, valuesOf, takes, objectAt, objectRestAt, d
 use Rattle.direct.specs.Views.View.{replacing, taking, leaving}
 use Rattle.direct.specs.Objects.{overObjects, overRests}
 use Rattle.direct.proofs.Threads.{say-nothing}
-use Rattle.direct.proofs.Objects.{Keyed, over-object, over-keyed, over-taken, over-array, over-default, over-leaf, through-object, through-rest, through-array, through-default, through-leaf}
-use Rattle.direct.proofs.Handed.{place-keyed, hands-keyed, keys-keyed, excludes-keyed}
-use Rattle.direct.proofs.Inner.{handsKeys-keyed}
+use Rattle.direct.proofs.ObjectsByLevel.{Keyed, over-object, over-keyed, over-taken, over-array, over-default, over-leaf, through-object, through-rest, through-array, through-default, through-leaf}
+use Rattle.direct.proofs.HandedByObject.{place-keyed, hands-keyed, keys-keyed, excludes-keyed}
+use Rattle.direct.proofs.InnerAssignments.{handsKeys-keyed}
 use Rattle.walk.specs.Run.{Going, Does}
 use Rattle.walk.specs.Whole.{holeAt, GoodItem, GoodItems, Good}
 use Rattle.walk.specs.Turns.{viewOf, ownOf, overAll}

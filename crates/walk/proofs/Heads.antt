@@ -18,7 +18,7 @@ use Rattle.lowering.specs.Parts.{is, _+++_, any, itemsAt, pieceIn}
 use Rattle.direct.specs.Events.{Deed, puts}
 use Rattle.direct.specs.Emit.{say, _▷_, callHead}
 use Rattle.direct.specs.Literals.{isSpread, modeNext, modeAfter, headAt, innerHeads, lastHead, heads, run, pendingHead}
-use Rattle.direct.proofs.Literals.{heads-append, run-all, run-some}
+use Rattle.direct.proofs.LiteralsInOrder.{heads-append, run-all, run-some}
 use Rattle.direct.proofs.Threads.{say-say}
 use Rattle.walk.specs.Run.{Going, Does}
 use Rattle.walk.proofs.Running.{does-then, does-nothing, does-as}

@@ -3,16 +3,16 @@
 use mathlib.Core.Path.{_≡_, refl, sym, ap, _∙_, fun-ext}
 use mathlib.Core.Bool.{Bool, true, false, cond, _||_}
 use mathlib.Core.List.{List}
-use Prim.Native.Nat.{ℕ, zero, suc, _+_, _-_, _<_, _≤_}
+use Prim.Native.Nat.{ℕ, _+_, _-_, _<_, _≤_}
 use native.Mathlib.Omega.{arith}
 use borrow.Author.Tests.{ne-eqb}
-use Rattle.tree.specs.Tree.{Node, Fields, Piece, Items, count, depth, depthFields}
+use Rattle.tree.specs.Tree.{Node, Items, count, depth, depthFields}
 use Rattle.tree.specs.Tree.Node.{node}
 use Rattle.tree.specs.Tree.Fields.{done, absent, field}
 use Rattle.tree.specs.Tree.Items.{none}
 use Rattle.tree.specs.Read.{byteAt}
 use Rattle.tree.specs.Look.{lookItem, lookItems, lookNode}
-use Rattle.lowering.specs.Parts.{nothing, pieceIn, standsIn, changeIn, dropIn, change, onItems, onNode, nodeAt, itemsAt, stands, asItems, asNode, changeNode, without, each, gather, any}
+use Rattle.lowering.specs.Parts.{nothing, pieceIn, changeIn, change, nodeAt, itemsAt, stands, changeNode, without, each, gather, any}
 use Rattle.lowering.specs.Made.{Context}
 use Rattle.lowering.specs.Patterns.{shape, properties, hasRest, leftOf, value, withLeft, withValues, withProperties, objectsWithRest, objectsBelow, hasNestedObjectRest, hasObjectRest}
 use Rattle.lowering.specs.Patterns.Shape.{objectPattern, arrayPattern, default, leaf}
@@ -27,9 +27,9 @@ use Rattle.pattern.proofs.Places.{Blank, child-is, object-list, kind-is, no-lev
 use Rattle.pattern.proofs.Below as below
 use Rattle.pattern.proofs.Below.{gather-values, node-free}
 use Rattle.pattern.proofs.Searches.{leaf-shape}
-use Rattle.pattern.proofs.Objects.{values-changed}
-use Rattle.pattern.proofs.Adding.{numbers, Adds, sumOf, listSum, sum-start, sum-more, sum-end}
-use Rattle.pattern.proofs.Moving.{count-sum}
+use Rattle.pattern.proofs.RestsFound.{values-changed}
+use Rattle.pattern.proofs.CappedSums.{numbers, Adds, sumOf, listSum, sum-start, sum-more, sum-end}
+use Rattle.pattern.proofs.MovesCounted.{count-sum}
 use Rattle.direct.specs.Views.{View, withoutRestsBelow, nameless}
 use Rattle.direct.specs.Views.View.{replacing}
 use Rattle.direct.specs.Objects.{objectsIn}
@@ -38,42 +38,23 @@ use Rattle.direct.specs.Assigned.{restInArrays}
 use Rattle.direct.proofs.Targets.{any-each}
 use Rattle.direct.proofs.AlikePatterns.{shape-values}
 use Rattle.direct.proofs.PatternViews.{without-leaf-at}
-use Rattle.direct.proofs.Objects.{value-changed, value-kept, without-nothing}
+use Rattle.direct.proofs.ObjectsByLevel.{value-changed, value-kept, without-nothing}
 use Rattle.walk.specs.Turns.{viewOf}
 use Rattle.lowering.proofs.ItemLaws.{items-none, gather-same, gather-each}
+use Rattle.lowering.proofs.ChangeLaws.{items-without, stands-dropped, node-on}
+use Rattle.lowering.proofs.Levels.{below-leaf}
+use Rattle.direct.proofs.Targets.{shape-taken, any-taken, left-nothing}
+use Rattle.pattern.proofs.RestsFound.{items-changed}
 
 -- ---- an object whose rest is taken
 
-items-beside : (p : Node) → itemsAt 0 (without 1 p) ≡ itemsAt 0 p
-unfolding without dropIn itemsAt pieceIn
-items-beside (node at k done) = refl
-items-beside (node at k (absent fs)) = refl
-items-beside (node at k (field p fs)) = refl
-
-dropped : (fs : Fields) (i : ℕ) → standsIn (dropIn fs i) i ≡ false
-unfolding dropIn standsIn
-dropped done i = refl
-dropped (absent fs) zero = refl
-dropped (absent fs) (suc i) = dropped fs i
-dropped (field p fs) zero = refl
-dropped (field p fs) (suc i) = dropped fs i
-
 no-rest : (p : Node) → hasRest (without 1 p) ≡ false
 unfolding without stands
-no-rest (node at k fs) = dropped fs 1
+no-rest (node at k fs) = stands-dropped fs 1
 
 shape-without : (f : Node → Node) (p : Node) → shape (without 1 (withProperties f p)) ≡ shape p
 unfolding shape without change
 shape-without f (node at k fs) = refl
-
-items-changed : (g : Items → Items) → g none ≡ none → (p : Piece) → asItems (onItems g p) ≡ g (asItems p)
-unfolding onItems
-items-changed g e (Piece.one n) = sym e
-items-changed g e (Piece.list is) = refl
-items-changed g e (Piece.text bs) = sym e
-items-changed g e (Piece.byte b) = sym e
-items-changed g e (Piece.mark b) = sym e
-items-changed g e (Piece.number b) = sym e
 
 properties-changed : (f : Node → Node) (p : Node) → properties (withProperties f p) ≡ each f (properties p)
 unfolding change changeIn itemsAt pieceIn each
@@ -82,14 +63,6 @@ properties-changed f (node at k (absent fs)) = refl
 properties-changed f (node at k (field p fs)) = items-changed (each f) refl p
 
 module _ (κ : Context) where
-  taken-shape : (p : Node) → shape (taken κ p) ≡ shape p
-  unfolding taken
-  taken-shape p = go (hasRest p)
-    where
-      go : (b : Bool) → shape (cond b (without 1 (withProperties (keptKey κ) p)) p) ≡ shape p
-      go true = shape-without (keptKey κ) p
-      go false = refl
-
   taken-rest : (p : Node) → hasRest (taken κ p) ≡ false
   unfolding taken
   taken-rest p = go (hasRest p) refl
@@ -98,25 +71,13 @@ module _ (κ : Context) where
       go true e = no-rest (withProperties (keptKey κ) p)
       go false e = e
 
-  -- its values are what they were
-  taken-any : (F : Node → Bool) (p : Node) → any (λ q. F (value q)) (properties (taken κ p)) ≡ any (λ q. F (value q)) (properties p)
-  unfolding taken
-  taken-any F p = go (hasRest p)
-    where
-      go : (b : Bool) → any (λ q. F (value q)) (properties (cond b (without 1 (withProperties (keptKey κ) p)) p)) ≡ any (λ q. F (value q)) (properties p)
-      go true =
-          ap (any (λ q. F (value q))) (items-beside (withProperties (keptKey κ) p) ∙ properties-changed (keptKey κ) p)
-          ∙ any-each (λ q. F (value q)) (keptKey κ) (properties p)
-          ∙ ap (λ (f : Node → Bool). any f (properties p)) (fun-ext (λ q. ap F (value-kept κ q)))
-      go false = refl
-
   pub taken-gather : (F : Node → Items) (p : Node) → gather (λ q. F (value q)) (properties (taken κ p)) ≡ gather (λ q. F (value q)) (properties p)
   unfolding taken
   taken-gather F p = go (hasRest p)
     where
       go : (b : Bool) → gather (λ q. F (value q)) (properties (cond b (without 1 (withProperties (keptKey κ) p)) p)) ≡ gather (λ q. F (value q)) (properties p)
       go true =
-          ap (gather (λ q. F (value q))) (items-beside (withProperties (keptKey κ) p) ∙ properties-changed (keptKey κ) p)
+          ap (gather (λ q. F (value q))) (items-without (withProperties (keptKey κ) p) ∙ properties-changed (keptKey κ) p)
           ∙ gather-each (λ q. F (value q)) (keptKey κ) (properties p)
           ∙ gather-same (λ q. F (value (keptKey κ q))) (λ q. F (value q)) (λ q. ap F (value-kept κ q)) (properties p)
       go false = refl
@@ -137,7 +98,7 @@ module _ (κ : Context) where
 
   left-any : (F : Node → Bool) (p : Node) → any (λ q. F (value q)) (properties (taken κ (withValues left p))) ≡ any (λ q. F (left (value q))) (properties p)
   left-any F p =
-      taken-any F (withValues left p)
+      any-taken κ F (withValues left p)
       ∙ ap (any (λ q. F (value q))) (values-changed left p)
       ∙ any-each (λ q. F (value q)) (λ q. changeNode 1 left q) (properties p)
       ∙ ap (λ (f : Node → Bool). any f (properties p)) (fun-ext (λ q. ap F (value-changed left (without-nothing κ) q)))
@@ -149,45 +110,30 @@ module _ (κ : Context) where
       ∙ gather-each (λ q. F (value q)) (λ q. changeNode 1 left q) (properties p)
       ∙ gather-same (λ q. F (value (changeNode 1 left q))) (λ q. F (left (value q))) (λ q. ap F (value-changed left (without-nothing κ) q)) (properties p)
 
--- the left of a default, changed
-piece-changed : (f : Node → Node) → f nothing ≡ nothing → (p : Piece) → asNode (onNode f p) ≡ f (asNode p)
-unfolding onNode
-piece-changed f h (Piece.one n) = refl
-piece-changed f h (Piece.list is) = sym h
-piece-changed f h (Piece.text bs) = sym h
-piece-changed f h (Piece.byte b) = sym h
-piece-changed f h (Piece.mark b) = sym h
-piece-changed f h (Piece.number b) = sym h
-
 left-changed : (f : Node → Node) → f nothing ≡ nothing → (p : Node) → leftOf (withLeft f p) ≡ f (leftOf p)
 unfolding change changeIn nodeAt pieceIn
 left-changed f h (node at k done) = sym h
 left-changed f h (node at k (absent fs)) = sym h
-left-changed f h (node at k (field p fs)) = piece-changed f h p
+left-changed f h (node at k (field p fs)) = node-on f h p
 
 shape-left : (f : Node → Node) (p : Node) → shape (withLeft f p) ≡ shape p
 unfolding shape change
 shape-left f (node at k fs) = refl
-
-without-bare : (κ : Context) (d : ℕ) → withoutRests κ d nothing ≡ nothing
-unfolding withoutRests shape
-without-bare κ zero = refl
-without-bare κ (suc d) = refl
 
 -- the left of what is left of a default
 left-default : (κ : Context) (p : Node) → shape p ≡ default → leftOf (withoutRestsBelow κ p) ≡ withoutRestsBelow κ (leftOf p)
 unfolding withoutRests depth
 left-default κ (node at k fs) s =
     rw (s, withoutRests)
-    (left-changed (λ l. withoutRests κ (depthFields fs) l) (without-bare κ (depthFields fs)) (node at k fs)
-    ∙ node-free (λ d p. withoutRests κ d p) nothing (λ d p h. without-levels d p h κ) (without-bare κ) (depthFields fs) 0 at k fs (omega arith))
+    (left-changed (λ l. withoutRests κ (depthFields fs) l) (left-nothing κ (depthFields fs)) (node at k fs)
+    ∙ node-free (λ d p. withoutRests κ d p) nothing (λ d p h. without-levels d p h κ) (left-nothing κ) (depthFields fs) 0 at k fs (omega arith))
 
 default-shape : (κ : Context) (p : Node) → shape p ≡ default → shape (withoutRestsBelow κ p) ≡ default
 unfolding withoutRests depth
 default-shape κ (node at k fs) s = rw (s, withoutRests) (shape-left (λ l. withoutRests κ (depthFields fs) l) (node at k fs) ∙ s)
 
 object-shape : (κ : Context) (p : Node) → shape p ≡ objectPattern → shape (taken κ (withValues (λ v. withoutRestsBelow κ v) p)) ≡ objectPattern
-object-shape κ p s = taken-shape κ (withValues (λ v. withoutRestsBelow κ v) p) ∙ shape-values (λ v. withoutRestsBelow κ v) p ∙ s
+object-shape κ p s = shape-taken κ (withValues (λ v. withoutRestsBelow κ v) p) ∙ shape-values (λ v. withoutRestsBelow κ v) p ∙ s
 
 -- ---- whether there is one
 
@@ -234,10 +180,6 @@ unfolding objectsWithRest depth
 found-default κ (node at k fs) s =
     rw (s, objectsWithRest) (node-free (λ d p. objectsWithRest κ d p) none (λ d p h. objects-levels d p h κ) (objects-nothing κ) (depthFields fs) 0 at k fs (omega arith))
 
-found-leaf : (κ : Context) (x : Node) → shape x ≡ leaf → objectsBelow κ x ≡ none
-unfolding objectsWithRest depth
-found-leaf κ (node at k fs) s = rw (s, objectsWithRest) refl
-
 abbrev pub places : Node → ℕ
 places p = limited (placesIn (viewOf 3) p)
 
@@ -272,7 +214,7 @@ places-default p s =
 pub places-leaf : (p : Node) → shape p ≡ leaf → places p ≡ 0
 unfolding limited count
 places-leaf p s =
-    places-are p ∙ ap (λ (is : Items). limited (count is)) (ap (λ (n : Node). objectsBelow nameless n) (without-leaf-at nameless p s) ∙ found-leaf nameless p s)
+    places-are p ∙ ap (λ (is : Items). limited (count is)) (ap (λ (n : Node). objectsBelow nameless n) (without-leaf-at nameless p s) ∙ below-leaf nameless p s)
 
 pub places-blank : Blank places
 unfolding placesIn viewOf objectsIn withoutRests objectsWithRest shape depth

@@ -15,7 +15,7 @@ use Rattle.tree.specs.Look.{onward, lookItem, lookItems, lookNode}
 use Rattle.lowering.specs.Parts.{nodeAt, isEmpty, gather}
 use Rattle.lowering.specs.Patterns.{properties, itemsOf, rest, shape}
 use Rattle.lowering.specs.Heads.{moved, isMoved, movedFrom}
-use Rattle.lowering.specs.Keys.{allPrimitive, keySort}
+use Rattle.lowering.specs.Keys.{allPrimitive, keySort, entryOf}
 use Rattle.lowering.specs.Keys as lowering
 use Rattle.pattern.specs.declared.parts.Part.{Part}
 use Rattle.pattern.specs.declared.parts.Part.the-variants.{One, Many, Text, Number, Missing}
@@ -24,10 +24,8 @@ use Rattle.pattern.specs.declared.keys.Key.the-variants.{Name, Literal, NoForm,
 use Rattle.pattern.specs.Parts.{partAt}
 use Rattle.pattern.specs.Keys.{nameIn, formIn, keyBy, keyAt, Becomes}
 use Rattle.pattern.specs.Tally.{limited}
-use Rattle.pattern.proofs.KeyCases.{count-append}
-use Rattle.pattern.proofs.Below.{by-shape}
-use Rattle.pattern.proofs.Adding.{numbers, Adds, listSum, sum-start, sum-more, sum-end}
-use Rattle.pattern.proofs.Moving.{count-sum}
+use Rattle.pattern.proofs.CappedSums.{numbers, Adds, listSum, sum-start, sum-more, sum-end}
+use Rattle.pattern.proofs.MovesCounted.{count-sum}
 use Rattle.direct.specs.Events.{cell}
 use Rattle.direct.specs.Views.{isOther}
 use Rattle.direct.specs.Keys.{primitives, hoists}
@@ -35,6 +33,9 @@ use Rattle.direct.specs.Moved.{number}
 use Rattle.direct.proofs.MovedMade.{number-join}
 use Rattle.walk.specs.declared.look.Start.the-variants as start
 use Rattle.walk.specs.Turns.{keyClass, startOf}
+use Rattle.lowering.proofs.ItemLaws.{count-append}
+use Rattle.lowering.proofs.Cases.{by-shape}
+use Rattle.lowering.specs.Keys.Entry.{spelt, itself, omitted, saved}
 
 -- ---- tests
 
@@ -115,12 +116,7 @@ class-form Number = refl
 class-form Missing = refl
 
 abbrev sortClass : lowering.Key → ℕ
-sortClass lowering.Key.name = 1
-sortClass lowering.Key.literal = 1
-sortClass lowering.Key.template = 2
-sortClass lowering.Key.private = 3
-sortClass lowering.Key.again = 2
-sortClass lowering.Key.other = 4
+sortClass s = elim (entryOf s) [ spelt ↦ 1 | itself ↦ 2 | omitted ↦ 3 | saved ↦ 4 ]
 
 class-by : (s : lowering.Key) (p q : Part) → classOf (keyBy s p q) ≡ sortClass s
 class-by lowering.Key.name p q = class-name p
@@ -143,7 +139,7 @@ pub other-is : (k : Node) (n : ℕ) → n ≡ keyClass k → eqb n 4 ≡ isOther
 unfolding keyClass isOther
 other-is k n e = ap (λ (x : ℕ). eqb x 4) e ∙ go (keySort k)
   where
-    go : (s : lowering.Key) → eqb (sortClass s) 4 ≡ elim s [ lowering.Key.name ↦ false | lowering.Key.literal ↦ false | lowering.Key.template ↦ false | lowering.Key.private ↦ false | lowering.Key.again ↦ false | lowering.Key.other ↦ true ]
+    go : (s : lowering.Key) → eqb (sortClass s) 4 ≡ elim (entryOf s) [ spelt ↦ false | itself ↦ false | omitted ↦ false | saved ↦ true ]
     go lowering.Key.name = refl
     go lowering.Key.literal = refl
     go lowering.Key.template = refl

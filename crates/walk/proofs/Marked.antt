@@ -12,7 +12,7 @@ use Rattle.sink.specs.Machine.Event.{put, helper, temporary, newMark, make, lis
 use Rattle.direct.specs.Events.{Deed, later, after, counted, newMarks}
 use Rattle.direct.specs.Events.Deed.{does, refuses}
 use Rattle.direct.proofs.Threads.{later-later}
-use Rattle.sink.proofs.Laws.{more-below, more-at}
+use Rattle.sink.proofs.WaysOut.{more-below, more-at}
 use Rattle.outcome.specs.Named.{eventsIn}
 
 abbrev pub markIn : State → ℕ

@@ -37,7 +37,7 @@ use Rattle.direct.specs.Assigned.{assignmentAt}
 use Rattle.direct.specs.Moved.{given, functionFields, arrowFields, catchFields, forFields}
 use Rattle.direct.proofs.HeadShapes.{form-is, FitGiven, function-fits, catch-fits, functionBody-kind, param-kind, catchBody-kind}
 use Rattle.walk.specs.Whole.{GoodItems, GoodList, GoodField, GoodSlot, GoodFields, Good}
-use Rattle.walk.proofs.Copied.{part-cut}
+use Rattle.walk.proofs.CutBytes.{part-cut}
 
 -- what is read without holes has none
 pub look-solid : (t : List ℕ) (R : ℕ → Seen Node) (n at : ℕ) → NoHoles (lookItems t R false n at .value)

@@ -9,7 +9,7 @@ use lib.Dec.{eqb}
 use Rattle.sink.specs.Machine.{Event, State, step, steps, low, high}
 use Rattle.sink.specs.Machine as machine
 use Rattle.sink.specs.Machine.Event.{put, helper}
-use Rattle.sink.proofs.Laws.{one-step, wide-is, steps-append, chain}
+use Rattle.sink.proofs.WaysOut.{one-step, wide-is, steps-append, chain}
 use Rattle.tree.specs.Tree.{wideBytes}
 use Rattle.direct.proofs.Threads.{say-say}
 use Rattle.direct.specs.Events.{Deed, Emit, puts, all, after}
@@ -21,7 +21,7 @@ use Rattle.outcome.specs.Named.{eventsIn}
 use Rattle.walk.specs.Run.{Going, met, Full, Way, Does, Clear}
 use Rattle.walk.specs.Run.Way.{whole, full}
 use Rattle.walk.proofs.Marked.{markIn, mark-after}
-use Rattle.walk.proofs.Filled.{stays-full}
+use Rattle.walk.proofs.FullStaysFull.{stays-full}
 
 -- ---- refusals
 

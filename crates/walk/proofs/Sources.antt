@@ -45,6 +45,7 @@ use Rattle.walk.specs.Turns.{holeOf, reads, sourceOf, keyClass, keyStrin
 use Rattle.walk.proofs.Running.{does-as, does-nothing}
 use Rattle.walk.proofs.Opened.{good-short}
 use Rattle.walk.proofs.Lookups.{when-yes, classOf, key-class}
+use Rattle.lowering.proofs.Clauses.{text-name, text-literal}
 
 -- the same from the same
 pub does-same : {g h : Going} → h ≡ g → Does g h (say [])
@@ -249,7 +250,7 @@ module _ (t : List ℕ) (d at : ℕ) where
     name-spelt e = go (keySort here) refl (sym e ∙ b .variant)
       where
         go : (s : lowering.Key) → keySort here ≡ s → Name from n ≡ keyBy s (partAt t d at 0) (partAt t d at 2) → Spelt t here from n
-        go lowering.Key.name w h = spelt 0 from n g (name-texted t (partAt t d at 0) from n (part-within t d at 0) h) (rw (w, keyString) refl)
+        go lowering.Key.name w h = spelt 0 from n g (name-texted t (partAt t d at 0) from n (part-within t d at 0) h) (rw (w, keyString) (ap stringBytes (text-name here w)))
         go lowering.Key.literal w h = name-no-form (partAt t d at 2) from n h
         go lowering.Key.template w h = let z : _≡_ {A = ℕ} 0 1 = cc in absurd (omega arith)
         go lowering.Key.private w h = let z : _≡_ {A = ℕ} 0 1 = cc in absurd (omega arith)
@@ -262,7 +263,7 @@ module _ (t : List ℕ) (d at : ℕ) where
       where
         go : (s : lowering.Key) → keySort here ≡ s → Literal from n ≡ keyBy s (partAt t d at 0) (partAt t d at 2) → Spelt t here from n
         go lowering.Key.name w h = form-no-name (partAt t d at 0) from n h
-        go lowering.Key.literal w h = spelt 2 from n g (form-texted t (partAt t d at 2) from n (part-within t d at 2) h) (rw (w, keyString) refl)
+        go lowering.Key.literal w h = spelt 2 from n g (form-texted t (partAt t d at 2) from n (part-within t d at 2) h) (rw (w, keyString) (ap stringBytes (text-literal here w)))
         go lowering.Key.template w h = let z : _≡_ {A = ℕ} 0 1 = cc in absurd (omega arith)
         go lowering.Key.private w h = let z : _≡_ {A = ℕ} 0 1 = cc in absurd (omega arith)
         go lowering.Key.again w h = let z : _≡_ {A = ℕ} 0 1 = cc in absurd (omega arith)
@@ -275,7 +276,7 @@ module _ (t : List ℕ) (d at : ℕ) where
     where
       go : (s : lowering.Key) → keySort here ≡ s → NoForm ≡ keyBy s (partAt t d at 0) (partAt t d at 2) → Spelt t here 0 0
       go lowering.Key.name w h = bare-no-name (partAt t d at 0) h
-      go lowering.Key.literal w h = spelt 2 0 0 g (bare-texted t (partAt t d at 2) h) (rw (w, keyString) refl)
+      go lowering.Key.literal w h = spelt 2 0 0 g (bare-texted t (partAt t d at 2) h) (rw (w, keyString) (ap stringBytes (text-literal here w)))
       go lowering.Key.template w h = let z : _≡_ {A = ℕ} 0 1 = cc in absurd (omega arith)
       go lowering.Key.private w h = let z : _≡_ {A = ℕ} 0 1 = cc in absurd (omega arith)
       go lowering.Key.again w h = let z : _≡_ {A = ℕ} 0 1 = cc in absurd (omega arith)

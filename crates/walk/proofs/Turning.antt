@@ -32,15 +32,13 @@ use Rattle.direct.specs.Declared.{emitsKeyValue, emitsFound, emitsDeclarator}
 use Rattle.direct.specs.Assigned.{emitsInner}
 use Rattle.direct.specs.Moved.{outOf, behind}
 use Rattle.direct.proofs.Threads.{say-nothing}
-use Rattle.direct.proofs.Lists.{items-each}
 use Rattle.walk.specs.Run.{Going, Does}
 use Rattle.walk.specs.Whole.{holeAt, GoodItem, GoodItems, Good, Emitted}
 use Rattle.walk.specs.Turns.{restFrom, viewOf, turnOf, deepMode, suits, holeOf, turnsOf, AllSuit, spotDeeds}
 use Rattle.walk.proofs.Running.{does-as}
 use Rattle.walk.proofs.Opened.{no-good, kind-byte}
 use Rattle.walk.proofs.Emits.{Onto, onto-start, onto-more, onto-end, is-hole, item-next, good-item, good-items}
-
--- ---- lists without holes
+use Rattle.direct.proofs.ListsInTurn.{items-each}
 
 -- ---- what a turn does for one item
 

@@ -25,7 +25,7 @@ use Rattle.walk.specs.Run.{Going, Does}
 use Rattle.walk.specs.Whole.{Ruled, Emitted}
 use Rattle.walk.specs.Turns.{viewOf}
 use Rattle.walk.proofs.Running.{does-then, does-as, does-to}
-use Rattle.walk.proofs.Args.{does-from}
+use Rattle.walk.proofs.SpreadArguments.{does-from}
 use Rattle.walk.proofs.Opened.{look-solid, ObjectOpen, ArrayOpen, leaf-here, no-good, object-open, array-open, property-open, default-open}
 use Rattle.walk.proofs.Turning.{Sequenced, sequenced-as, turns-1, turns-properties, values-of, suit-1, suit-properties}
 

@@ -4,16 +4,15 @@ use mathlib.Core.Path.{_≡_}
 use mathlib.Core.Bool.{Bool, true, false, cond, not, _&&_, _||_}
 use mathlib.Core.List.{List, [], _∷_, _++_}
 use lib.Dec.{eqb, leb}
-use Rattle.tree.specs.Tree.{Node, Items, wideBytes, encode}
+use Rattle.tree.specs.Tree.{Node, Items, wideBytes}
 use Rattle.tree.specs.Tree.Items.{none, hole, item}
 use Rattle.tree.specs.Read.{byteAt}
 use Rattle.tree.specs.Look.{Seen, onward, lookNode}
-use Rattle.lowering.specs.Parts.{is, textAt}
+use Rattle.lowering.specs.Parts.{is}
 use Rattle.lowering.specs.Made as made
 use Rattle.lowering.specs.Patterns.{value, rest, hasArrayRestOverObjectRest}
 use Rattle.lowering.specs.Heads.{movedFrom}
-use Rattle.lowering.specs.Keys.{keySort}
-use Rattle.lowering.specs.Keys.Key.{name, literal, template, private, again, other}
+use Rattle.lowering.specs.Keys.{keySort, entryOf, keyText}
 use Rattle.lowering.proofs.All.{AllItems}
 use Rattle.sink.specs.Machine.{part}
 use Rattle.sink.specs.Machine.Event.{put, temporary, newMark}
@@ -35,6 +34,7 @@ use Rattle.direct.specs.Moved.{outOf, movedIn, behind}
 use Rattle.walk.specs.declared.look.Start.{Start}
 use Rattle.walk.specs.declared.look.Start.the-variants.{Value, Missing}
 use Rattle.walk.specs.Whole.{holeAt}
+use Rattle.lowering.specs.Keys.Entry.{spelt, itself, omitted, saved}
 
 -- a view by its number
 unfoldable pub viewOf : ℕ → View
@@ -108,18 +108,10 @@ sourceOf tree b = reads tree (readOf b)
 
 -- how a key is written among the excluded keys: 1 as a string, 2 as it stands, 3 not at all, 4 as a temporary
 unfoldable pub keyClass : Node → ℕ
-keyClass k = elim (keySort k) [ name ↦ 1 | literal ↦ 1 | template ↦ 2 | private ↦ 3 | again ↦ 2 | other ↦ 4 ]
+keyClass k = elim (entryOf (keySort k)) [ spelt ↦ 1 | itself ↦ 2 | omitted ↦ 3 | saved ↦ 4 ]
 
 unfoldable pub keyString : Node → List ℕ
-keyString k =
-    elim (keySort k) [
-      | name ↦ stringBytes (textAt 0 k)
-      | literal ↦ stringBytes (textAt 2 k)
-      | template ↦ []
-      | private ↦ []
-      | again ↦ []
-      | other ↦ []
-    ]
+keyString k = elim (entryOf (keySort k)) [ spelt ↦ stringBytes (keyText k) | itself ↦ [] | omitted ↦ [] | saved ↦ [] ]
 
 -- a kind without nodes and marks in it: names, literals, keys
 unfoldable pub leafKind : ℕ → Bool
@@ -183,15 +175,3 @@ overAll mode v p = cond (eqb v 4) (overRests (ownOf mode) p) (overObjects (ownOf
 -- for a property: 1 its key is made, 3 it is excluded, else it is listed
 unfoldable pub keyOf : ℕ → Node → Emit
 keyOf mode q = cond (eqb mode 3) (say (excludes (keyBytes q))) (cond (eqb mode 1) (keyMade q) (handsKey q))
-
--- the bytes of a key that may be taken as a string
-unfoldable pub keyBytesOf : Node → List ℕ
-keyBytesOf k =
-    elim (keySort k) [
-      | name ↦ stringBytes (textAt 0 k)
-      | literal ↦ stringBytes (textAt 2 k)
-      | template ↦ encode k
-      | private ↦ []
-      | again ↦ []
-      | other ↦ []
-    ]

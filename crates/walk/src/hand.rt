@@ -42,12 +42,12 @@ ghost use Rattle.direct.specs.Views.View.{replacing, taking};
 ghost use Rattle.direct.specs.Objects.{overObjects};
 ghost use Rattle.direct.specs.Inner.{otherKeys};
 ghost use Rattle.direct.specs.Counts.{restsCount};
-ghost use Rattle.direct.specs.Handed.{placeMade, keysMade, excludesOf, handsKeys, declaratorMade, declaratorExcludes, handsTop, handsNested};
+ghost use Rattle.direct.specs.Handed.{placeMade, keysMade, keyBytesOf, excludesOf, handsKeys, declaratorMade, declaratorExcludes, handsTop, handsNested};
 ghost use Rattle.direct.specs.Moved as moved;
 ghost use Rattle.direct.specs.Moved.{movedIn};
 ghost use Rattle.walk.specs.Run.{goingOf, Does};
 ghost use Rattle.walk.specs.Whole.{holeAt, GoodItems, Good};
-ghost use Rattle.walk.specs.Turns.{viewOf, suits, AllSuit, ownOf, overAll, keyOf, keyBytesOf};
+ghost use Rattle.walk.specs.Turns.{viewOf, suits, AllSuit, ownOf, overAll, keyOf};
 
 // ---- over the objects of a pattern
 

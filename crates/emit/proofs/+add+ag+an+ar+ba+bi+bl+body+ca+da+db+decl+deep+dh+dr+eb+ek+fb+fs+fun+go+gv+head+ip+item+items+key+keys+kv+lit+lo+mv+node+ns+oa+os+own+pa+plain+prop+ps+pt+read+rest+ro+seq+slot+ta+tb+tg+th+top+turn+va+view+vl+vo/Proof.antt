@@ -17,13 +17,13 @@ use Rattle.walk.proofs.Running.{does-nothing}
 use Rattle.tree.proofs.Skipping.{node-none}
 use Rattle.walk.proofs.Emits.{good-none}
 use Rattle.direct.specs.Literals as literals
-use Rattle.walk.proofs.Args as args
+use Rattle.walk.proofs.SpreadArguments as args
 use Rattle.tree.proofs.Skipping as skipping
 use Rattle.walk.proofs.Emits as law
 use Rattle.walk.proofs.place.container.Reads as container-reads
 use Rattle.walk.proofs.place.inside.Reads as inside-reads
 use Rattle.walk.proofs.place.is_leaf.Reads as is-leaf-reads
-use Rattle.emit.proofs.Leaves as leaves
+use Rattle.emit.proofs.LeavesCopied as leaves
 use Rattle.walk.proofs.place.less.Reads as less-reads
 use Rattle.walk.proofs.place.marked.Reads as marked-reads
 use Rattle.walk.proofs.place.parts_of.Reads as parts-of-reads
@@ -38,7 +38,7 @@ use Rattle.walk.proofs.walk.Walk.copy.Reads as copy-reads
 use Rattle.walk.proofs.walk.Walk.to.Reads as to-reads
 use Rattle.walk.proofs.walk.Walk.passes.Reads as passes-reads
 use Rattle.walk.proofs.walk.Walk.target.Reads as target-reads
-use Rattle.walk.proofs.Again as walked
+use Rattle.walk.proofs.KeysOnceFull as walked
 use Rattle.tree.proofs.bytes.peek.Reads as peek-reads
 use Rattle.tree.proofs.bytes.wide_at.Reads as wide-at-reads
 use Rattle.tree.proofs.grammar.row.Reads as row-reads
@@ -70,7 +70,7 @@ use Rattle.walk.proofs.walk.Walk.temporary.Reads as temporary-reads
 use Rattle.walk.proofs.walk.Walk.wide.Reads as wide-reads
 use Rattle.tree.proofs.skip.skip.Reads as skip-reads
 use Rattle.emit.proofs.Looping as looping
-use Rattle.emit.proofs.MovedSizes as sizes
+use Rattle.pattern.proofs.CountsFit.{limited-below}
 use Rattle.pattern.proofs.moves.any_moved.Reads as any-moved-reads
 use Rattle.pattern.proofs.moves.is_moved.Reads as is-moved-reads
 use Rattle.pattern.proofs.search.has_nested_object_rest.Reads as has-nested-object-rest-reads
@@ -99,7 +99,7 @@ use Rattle.walk.proofs.look.inner_mode.Reads as inner-mode-reads
 use Rattle.walk.proofs.look.places_in.Reads as places-in-reads
 use Rattle.walk.proofs.look.rest_in_arrays.Reads as rest-in-arrays-reads
 use Rattle.walk.proofs.walk.Walk.assign.Reads as assign-reads
-use Rattle.emit.proofs.Moving as moving
+use Rattle.emit.proofs.MovedPatterns as moving
 use Rattle.emit.proofs.Bodying as bodying
 use Rattle.pattern.proofs.declarators.pattern_declarators.Reads as pattern-declarators-reads
 use Rattle.pattern.proofs.parts.stands.Reads as stands-reads
@@ -621,7 +621,7 @@ body-returns : (t : ℕ) → cycle.Lts-body.Need-returns (body-claims t) (at-mea
 body-returns t c = λ k s good items binds. law.good-none _ _ _ (c .if1 .taken) good
 
 body-add-wide : (t : ℕ) → cycle.Lts-body.Need-add-wide (body-claims t) (at-measure body.Kinds.ps μ-body body.Reads.Pre t) body.Reads.Post
-body-add-wide t c = let z : c .before .before .before .before .before .before .before .before .before .before .before .before .before .before .before .before .before .before .before .moved-in .result ≤ 65536 = sizes.count-bound _ _ (c .before .before .before .before .before .before .before .before .before .before .before .before .before .before .before .before .before .before .before .moved-in .ensures) in omega (arith, z, c .before .wide-at .ensures .bound)
+body-add-wide t c = let z : c .before .before .before .before .before .before .before .before .before .before .before .before .before .before .before .before .before .before .before .moved-in .result ≤ 65536 = limited-below _ _ (c .before .before .before .before .before .before .before .before .before .before .before .before .before .before .before .before .before .before .before .moved-in .ensures) in omega (arith, z, c .before .wide-at .ensures .bound)
 
 body-returns-2 : (t : ℕ) → cycle.Lts-body.Need-returns-2 (body-claims t) (at-measure body.Kinds.ps μ-body body.Reads.Pre t) body.Reads.Post
 body-returns-2 t c = bodying.body-done _ _ _ _ _ _ _ _ _ _ _ _ _ _ _ _ _ _ (c .before .before .before .before .before .before .before .before .before .before .before .before .before .before .before .before .before .before .before .before .before .before .before .before .before .before .before .before .before .before .before .before .before .before .before .before .before .before .before .before .before .before .before .before .before .less .ensures) (c .before .before .before .before .before .before .before .before .before .before .before .before .before .before .before .before .before .before .before .before .before .before .before .before .before .before .before .before .before .before .before .before .before .before .before .before .before .before .before .before .before .before .before .before .moved-in .ensures) (c .before .before .before .before .before .before .before .before .before .before .before .before .before .before .before .before .before .before .before .before .before .before .before .before .before .before .before .before .before .before .before .before .before .before .before .before .before .before .before .before .before .before .before .scoped .ensures .0) (c .before .before .before .before .before .before .before .before .before .before .before .before .before .before .before .before .before .before .before .before .before .before .before .before .before .before .before .before .before .before .before .before .before .before .before .before .before .before .before .before .before .before .before .scoped .ensures .1) (c .before .before .before .before .before .before .before .before .before .before .before .before .before .before .before .before .before .before .before .before .before .before .before .before .before .before .before .before .before .before .before .before .before .before .before .before .before .before .before .before .before .step .ensures) (c .before .before .before .before .before .before .before .before .before .before .before .before .before .before .before .before .before .before .before .before .before .before .before .before .before .before .before .before .before .before .before .before .before .before .before .before .before .before .before .before .copy .ensures .1) (c .before .before .before .before .before .before .before .before .before .before .before .before .before .before .before .before .before .before .before .before .before .before .before .before .before .before .before .before .before .before .before .before .before .before .before .before .before .before .before .before .copy .ensures .0 _ _) (c .before .before .before .before .before .before .before .before .before .before .before .before .before .before .before .before .before .before .before .before .before .before .before .before .before .before .before .before .before .before .before .before .before .before .first-bit .ensures) (c .before .before .before .before .before .before .before .before .before .before .before .before .before .before .before .before .before .before .before .before .before .before .before .before .before .before .before .before .before .before .before .before .before .slot .ensures) (c .before .before .before .before .before .before .before .before .before .before .before .before .before .before .before .before .before .before .before .before .before .before .before .before .before .before .wide-at .ensures) (c .before .before .before .before .before .before .before .before .before .before .before .before .before .before .before .before .before .before .before .before .before .before .before .before .wide .ensures .0 _ _) (c .before .before .before .before .before .before .before .before .before .before .before .before .before .before .before .before .before .before .ba .ensures) (c .before .before .before .before .before .before .before .before .before .before .to .ensures .0 _ _ _) (c .before .before .before .before .before .before .before .before .before .before .before .step2 .ensures) (c .before .before .before .before .before .before .before .before .before .before .to .ensures .1) (c .before .before .before .before .before .before .items .ensures)
@@ -726,7 +726,7 @@ eb-returns : (t : ℕ) → cycle.Lts-eb.Need-returns (eb-claims t) (at-measure e
 eb-returns t c = c .before .before .before .before .before .before .body .ensures (sym (c .before .before .before .before .before .before .before .before .before .before .before .peek .ensures .value) ∙ c .before .before .before .before .before .before .before .before .before .before .if1 .taken)
 
 eb-add-wide : (t : ℕ) → cycle.Lts-eb.Need-add-wide (eb-claims t) (at-measure eb.Kinds.ps μ-eb eb.Reads.Pre t) eb.Reads.Post
-eb-add-wide t c = let z : c .before .before .before .before .before .moved-in .result ≤ 65536 = sizes.count-bound _ _ (c .before .before .before .before .before .moved-in .ensures) in omega (arith, z)
+eb-add-wide t c = let z : c .before .before .before .before .before .moved-in .result ≤ 65536 = limited-below _ _ (c .before .before .before .before .before .moved-in .ensures) in omega (arith, z)
 
 eb-same-length-4 : (t : ℕ) → cycle.Lts-eb.Need-same-length-4 (eb-claims t) (at-measure eb.Kinds.ps μ-eb eb.Reads.Pre t) eb.Reads.Post
 eb-same-length-4 t c = omega (arith, c .before .before .before .before .before .before .before .before .before .before .before .before .before .before .before .before .before .before .before .before .before .before .before .before .before .before .before .before .before .before .before .before .before .before .before .before .before .put2 .kept, c .before .before .before .before .before .before .before .before .before .before .before .before .before .before .before .before .before .before .before .before .before .before .before .before .before .before .before .before .before .before .before .before .before .wide .kept, c .before .before .before .before .before .before .before .before .before .before .before .before .before .before .before .before .before .before .before .before .before .before .before .before .before .before .before .ba .kept, c .before .before .before .before .before .before .before .before .before .before .before .before .before .before .before .before .before .put22 .kept, c .before .before .before .before .before .before .before .before .before .before .before .before .before .new-mark .kept, c .before .before .before .before .before .before .node .kept)
@@ -1475,7 +1475,7 @@ bl-spec t = cycle.Lts-bl.spec (bl-claims t) (at-measure bl.Kinds.ps μ-bl bl.Rea
     (λ c κs. tt)
     (λ c κs. tt)
     (λ c κs. tt)
-    (λ c. omega (arith, c .before .before .before .before .before .wide-at .ensures .bound, sizes.count-bound _ _ (c .before .before .before .before .before .before .before .before .before .moved-in .ensures)))
+    (λ c. omega (arith, c .before .before .before .before .before .wide-at .ensures .bound, limited-below _ _ (c .before .before .before .before .before .before .before .before .before .moved-in .ensures)))
     (λ c κs. tt)
     (λ c κs. tt)
     (λ c κs. (omega (arith, c .before .before .before .before .before .before .before .before .before .before .before .before .before .before .before .before .before .before .before .before .before .before .before .pre .0, c .scoped .ensures .1, c .before .before .before .before .before .before .before .before .before .before .before .before .before .before .before .before .before .level .ensures .1), tt))
@@ -1488,7 +1488,7 @@ bl-spec t = cycle.Lts-bl.spec (bl-claims t) (at-measure bl.Kinds.ps μ-bl bl.Rea
     (λ c κs. (omega (arith, c .before .before .before .before .before .before .before .before .before .before .before .before .before .before .before .before .before .pre .0, c .scoped3 .ensures .1, c .before .before .before .before .before .before .before .before .before .before .before .level .ensures .1), tt))
     (λ c κs. tt)
     (λ c κs. tt)
-    (λ c. omega (arith, sizes.count-bound _ _ (c .before .before .before .moved-in .ensures)))
+    (λ c. omega (arith, limited-below _ _ (c .before .before .before .moved-in .ensures)))
     (λ c κs. tt)
     (λ c κs. tt)
     (λ c κs. (omega (arith, c .before .before .before .before .before .before .before .before .before .before .before .before .before .before .before .before .before .pre .0, c .scoped4 .ensures .1, c .before .before .before .before .before .before .before .before .before .before .before .level .ensures .1), tt))

@@ -1,5 +1,5 @@
 use native.Mathlib.Omega.{arith}
-use Rattle.pattern.proofs.Declaring as law
+use Rattle.pattern.proofs.DeclaratorsCounted as law
 use Rattle.pattern.proofs.declarators.declaration_lacks_form.Statement.{statement}
 use Rattle.pattern.proofs.declarators.declaration_lacks_form.Tie as tie
 

@@ -1,4 +1,4 @@
-use Rattle.pattern.proofs.Declaring as law
+use Rattle.pattern.proofs.DeclaratorsCounted as law
 use mathlib.Core.Logic.{⊎-elim}
 use Rattle.pattern.proofs.declarators.item_becomes.Statement.{statement}
 use Rattle.pattern.proofs.declarators.item_becomes.Tie as tie

@@ -1,4 +1,4 @@
-use Rattle.pattern.proofs.Declaring as law
+use Rattle.pattern.proofs.DeclaratorsCounted as law
 use Rattle.pattern.proofs.declarators.lacks_form.Statement.{statement}
 use Rattle.pattern.proofs.declarators.lacks_form.Tie as tie
 

@@ -1,4 +1,4 @@
-use Rattle.pattern.proofs.Declaring as law
+use Rattle.pattern.proofs.DeclaratorsCounted as law
 use Rattle.pattern.proofs.declarators.pattern_declarators.Statement.{statement}
 use Rattle.pattern.proofs.declarators.pattern_declarators.Tie as tie
 

@@ -1,6 +1,6 @@
 use mathlib.Core.Bool.{true}
 use native.Mathlib.Omega.{arith}
-use Rattle.pattern.proofs.Moving as law
+use Rattle.pattern.proofs.MovesCounted as law
 use Rattle.pattern.proofs.Searches as search
 use Prim.Native.Nat.{ℕ}
 use borrow.Fn.PlainCycle.{Measures}

@@ -1,6 +1,6 @@
 use mathlib.Core.Path.{_≡_, _∙_}
 use native.Mathlib.Omega.{arith}
-use Rattle.pattern.proofs.Moving as law
+use Rattle.pattern.proofs.MovesCounted as law
 use Rattle.pattern.proofs.Searches as search
 use Rattle.tree.specs.Look.{lookItems, lookNode}
 use Rattle.lowering.specs.Parts.{any}

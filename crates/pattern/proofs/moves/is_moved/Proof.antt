@@ -1,4 +1,4 @@
-use Rattle.pattern.proofs.Moving as law
+use Rattle.pattern.proofs.MovesCounted as law
 use Rattle.pattern.proofs.moves.is_moved.Statement.{statement}
 use Rattle.pattern.proofs.moves.is_moved.Tie as tie
 

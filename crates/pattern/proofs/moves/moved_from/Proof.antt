@@ -1,4 +1,4 @@
-use Rattle.pattern.proofs.Moving as law
+use Rattle.pattern.proofs.MovesCounted as law
 use Rattle.pattern.proofs.moves.moved_from.Statement.{statement}
 use Rattle.pattern.proofs.moves.moved_from.Tie as tie
 

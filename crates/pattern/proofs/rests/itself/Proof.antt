@@ -1,4 +1,4 @@
-use Rattle.pattern.proofs.Objects as law
+use Rattle.pattern.proofs.RestsFound as law
 use mathlib.Core.List.{[]}
 use Rattle.pattern.specs.Objects.{objectItself}
 use Rattle.pattern.proofs.rests.itself.Statement.{statement}

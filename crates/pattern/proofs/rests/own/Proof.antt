@@ -1,4 +1,4 @@
-use Rattle.pattern.proofs.Objects as law
+use Rattle.pattern.proofs.RestsFound as law
 use Rattle.pattern.proofs.rests.own.Statement.{statement}
 use Rattle.pattern.proofs.rests.own.Tie as tie
 

@@ -1,4 +1,4 @@
-use Rattle.pattern.proofs.Adding as law
+use Rattle.pattern.proofs.CappedSums as law
 use Rattle.pattern.proofs.tally.both.Statement.{statement}
 use Rattle.pattern.proofs.tally.both.Tie as tie
 

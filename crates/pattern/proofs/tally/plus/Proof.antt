@@ -1,5 +1,5 @@
 use native.Mathlib.Omega.{arith}
-use Rattle.pattern.proofs.Adding as law
+use Rattle.pattern.proofs.CappedSums as law
 use Rattle.pattern.proofs.tally.plus.Statement.{statement}
 use Rattle.pattern.proofs.tally.plus.Tie as tie
 

@@ -1,5 +1,5 @@
 use mathlib.Core.Path.{_∙_}
-use Rattle.sink.proofs.Laws as law
+use Rattle.sink.proofs.WaysOut as law
 use borrow.Author.Needs.{needs}
 use Rattle.sink.proofs.Sink.closed.Statement.{statement}
 use Rattle.sink.proofs.Sink.closed.Tie as tie

@@ -1,4 +1,4 @@
-use Rattle.sink.proofs.Laws as law
+use Rattle.sink.proofs.WaysOut as law
 use borrow.Author.Needs.{needs}
 use Rattle.sink.proofs.Sink.entry.Statement.{statement}
 use Rattle.sink.proofs.Sink.entry.Tie as tie

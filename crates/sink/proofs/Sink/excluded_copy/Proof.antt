@@ -1,6 +1,6 @@
 use mathlib.Core.Path.{refl, _∙_, _≡_}
 use Rattle.sink.specs.Machine.{stateOf, steps, excludes, part}
-use Rattle.sink.proofs.Laws as law
+use Rattle.sink.proofs.WaysOut as law
 use native.Mathlib.Omega.{arith}
 use lib.ListN.{length}
 use mathlib.Core.List.{List}

@@ -1,5 +1,5 @@
 use mathlib.Core.Path.{_∙_}
-use Rattle.sink.proofs.Laws as law
+use Rattle.sink.proofs.WaysOut as law
 use mathlib.Core.List.{_∷_, []}
 use Rattle.sink.proofs.Sink.listed4.Statement.{statement}
 use Rattle.sink.proofs.Sink.listed4.Tie as tie

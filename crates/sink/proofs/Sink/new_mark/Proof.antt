@@ -1,4 +1,4 @@
-use Rattle.sink.proofs.Laws as law
+use Rattle.sink.proofs.WaysOut as law
 use Rattle.sink.proofs.Sink.new_mark.Statement.{statement}
 use Rattle.sink.proofs.Sink.new_mark.Tie as tie
 

@@ -1,5 +1,5 @@
 use mathlib.Core.Path.{refl, _≡_}
-use Rattle.sink.proofs.Laws as law
+use Rattle.sink.proofs.WaysOut as law
 use native.Mathlib.Omega.{arith}
 use Prim.Native.Nat.{_-_, _≤_}
 use lib.ListN.{length, take, replicate, length-set}

@@ -1,4 +1,4 @@
-use Rattle.sink.proofs.Laws as law
+use Rattle.sink.proofs.WaysOut as law
 use borrow.Author.Needs.{needs}
 use Rattle.sink.proofs.bytes.one_more.Statement.{statement}
 use Rattle.sink.proofs.bytes.one_more.Tie as tie

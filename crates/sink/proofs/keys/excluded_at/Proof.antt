@@ -1,4 +1,4 @@
-use Rattle.sink.proofs.Laws as law
+use Rattle.sink.proofs.WaysOut as law
 use borrow.Author.Needs.{needs}
 use Rattle.sink.proofs.keys.excluded_at.Statement.{statement}
 use Rattle.sink.proofs.keys.excluded_at.Tie as tie

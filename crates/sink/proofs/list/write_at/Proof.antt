@@ -1,5 +1,5 @@
 use mathlib.Core.Path.{sym}
-use Rattle.sink.proofs.Laws as law
+use Rattle.sink.proofs.WaysOut as law
 use lib.Seq.{set-out}
 use borrow.Author.Needs.{needs}
 use Rattle.sink.proofs.list.write_at.Statement.{statement}

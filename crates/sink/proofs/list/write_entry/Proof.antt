@@ -1,5 +1,5 @@
 use mathlib.Core.Path.{_∙_}
-use Rattle.sink.proofs.Laws as law
+use Rattle.sink.proofs.WaysOut as law
 use Rattle.sink.proofs.list.write_entry.Statement.{statement}
 use Rattle.sink.proofs.list.write_entry.Tie as tie
 

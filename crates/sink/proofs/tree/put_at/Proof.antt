@@ -1,5 +1,5 @@
 use Rattle.sink.specs.Machine.{withTree, stateOf}
-use Rattle.sink.proofs.Laws as law
+use Rattle.sink.proofs.WaysOut as law
 use borrow.Author.Needs.{needs}
 use Rattle.sink.proofs.tree.put_at.Statement.{statement}
 use Rattle.sink.proofs.tree.put_at.Tie as tie

@@ -1,5 +1,5 @@
 use native.Mathlib.Omega.{arith}
-use Rattle.pattern.proofs.Sizes.{limited-below}
+use Rattle.pattern.proofs.CountsFit.{limited-below}
 use Rattle.walk.proofs.HandRules as law
 use borrow.Author.Needs.{needs}
 use Rattle.walk.proofs.hand.top_count.Statement.{statement}

@@ -1,6 +1,6 @@
 use mathlib.Core.Path.{_∙_}
 use native.Mathlib.Omega.{arith}
-use Rattle.pattern.proofs.Sizes.{limited-below}
+use Rattle.pattern.proofs.CountsFit.{limited-below}
 use Rattle.walk.proofs.HandRules as law
 use borrow.Author.Needs.{needs}
 use Rattle.walk.proofs.hand.top_hands.Statement.{statement}

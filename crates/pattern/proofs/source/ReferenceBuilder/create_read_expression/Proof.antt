@@ -1,4 +1,4 @@
-use Rattle.pattern.proofs.Reading as law
+use Rattle.pattern.proofs.SourceReads as law
 use Rattle.pattern.proofs.source.ReferenceBuilder.create_read_expression.Statement.{
   statement,
 }

@@ -1,4 +1,4 @@
-use Rattle.walk.proofs.Steps as steps
+use Rattle.walk.proofs.SmallSteps as steps
 use mathlib.Core.Path.{refl}
 use borrow.Author.Needs.{needs}
 use Rattle.walk.proofs.walk.Walk.declaration.Statement.{statement}

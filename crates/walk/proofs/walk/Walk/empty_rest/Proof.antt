@@ -1,4 +1,4 @@
-use Rattle.walk.proofs.Steps as steps
+use Rattle.walk.proofs.SmallSteps as steps
 use native.Mathlib.Omega.{arith}
 use mathlib.Core.Path.{_∙_}
 use borrow.Author.Needs.{needs}

@@ -1,5 +1,5 @@
 use mathlib.Core.List.{_∷_, []}
-use Rattle.walk.proofs.Steps as steps
+use Rattle.walk.proofs.SmallSteps as steps
 use mathlib.Core.Path.{refl}
 use borrow.Author.Needs.{needs}
 use Rattle.walk.proofs.walk.Walk.listed2.Statement.{statement}
