@@ -37,7 +37,6 @@ use Rattle.walk.specs.Whole.{Good}
 use Rattle.rest_spread.specs.Entry.{lentOf, handedBack}
 use Rattle.rest_spread.specs.declared.Lowered.{Lowered}
 use Rattle.walk.proofs.AcceptedIsGood.{accepted-good}
-use Rattle.sink.proofs.Runs.{filled-none}
 
 -- ---- from the root
 
@@ -84,14 +83,18 @@ lent-kept a b c a′ b′ c′ e f g = λ j. record { treeSlice = (e) j; listSli
 
 -- ---- a refusal
 
+zeros : (k : ℕ) → replicate k 0 ≡ filled k []
+unfolding filled
+zeros k = let e : k ≡ k - length {A = ℕ} [] = omega arith in ap (λ (x : ℕ). replicate x 0) e
+
 pub refused-all : (answer a b c : ℕ) (o l w : List ℕ) (r : Written) → endOf o l w r ≡ nothing a b c
     → handedBack (record { answer = answer; helpers = 0; options = 0; «tree_len» = 0; «list_len» = 0 }) o l w
     ≡ outcomeOf (record { treeSlice = a; listSlice = b; workSlice = c }) (Result.refusal answer)
 unfolding nothing outcomeOf
 refused-all answer a b c o l w r h =
-    let x = ap (λ (e : Ended). e .out) h ∙ filled-none a in
-    let y = ap (λ (e : Ended). e .list) h ∙ filled-none b in
-    let z = ap (λ (e : Ended). e .work) h ∙ filled-none c in
+    let x = ap (λ (e : Ended). e .out) h ∙ zeros a in
+    let y = ap (λ (e : Ended). e .list) h ∙ zeros b in
+    let z = ap (λ (e : Ended). e .work) h ∙ zeros c in
     λ j. record { answer = answer; helpers = 0; options = 0; treeLength = 0; listLength = 0; treeOut = (x) j; listOut = (y) j; work = (z) j }
 
 -- ---- what is handed back where the walk refuses nothing
