@@ -33,7 +33,7 @@ PAGES = ["README.md", "CONTRIBUTING.md", "docs/*.md", "tools/*.md", "examples/*.
 # The endings by which a code span is known to name a file.
 ENDINGS = "antt rt py js rs c h md txt edit toml tree list sh"
 # Files that the pages name and that are not here: those of the Rust module's crate, and what is made.
-OUTSIDE = {"object_rest_spread.rs", "context.rs", "ast_builder.rs", "helper_loader.rs", "document01.txt", "Proof.antt", "Cargo.toml", "src/entry.rs"}
+OUTSIDE = {"object_rest_spread.rs", "context.rs", "ast_builder.rs", "helper_loader.rs", "document01.txt", "Proof.antt", "Cargo.toml", "src/entry.rs", "lowered.tree", "lowered.list"}
 TOPS = ("crates", "docs", "tools", "loader", "examples", ".ci")
 NAMED = ("Theorem", "Definition", "Contract")
 CODE = r"`` .+? ``|`[^`]+`"
@@ -192,7 +192,7 @@ def text_of(path):
 
 
 def without_blocks(text):
-    return re.sub(r"^```.*?^```$", "", text, flags=re.M | re.S)
+    return re.sub(r"^ *```.*?^ *```$", "", text, flags=re.M | re.S)
 
 
 def slug_of(title):
