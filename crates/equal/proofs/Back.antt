@@ -19,12 +19,12 @@ use Rattle.equal.specs.Canonical.{Written, numbers, renumbered, placeOf,
 use Rattle.equal.specs.Equal.{Equal, entryEncoded, listEncoded, EqualWritten, EqualBefore}
 use Rattle.equal.specs.Unspelled.{unspelled}
 use Rattle.equal.specs.Renaming.{KeepsApart, unplaced, unplacedItems, unplacedWritten, Renamed, RenamedWritten, Formed, FitEntries, FormedWritten}
-use Rattle.equal.proofs.Places.{changed, own-number, among, places-apart}
+use Rattle.equal.proofs.PlacesByAppearance.{changed, own-number, among, places-apart}
 use Rattle.equal.proofs.Renumber.{Renumbers, trees, results, written}
 use Rattle.equal.proofs.Unplaced.{numbers-unplaced, renumbered-unplaced, unspelled-unplaced, written-numbers-unplaced, written-renumbered-unplaced}
 use Rattle.equal.proofs.Equals.{bytes-unplaced}
 use Rattle.equal.proofs.Unique.{wide-same, node-same, list-by, items-same}
-use Rattle.equal.proofs.Forms.{canonical-fits, canonical-written-fits}
+use Rattle.equal.proofs.RenumberedFits.{canonical-fits, canonical-written-fits}
 
 -- ---- from a place back to its number
 

@@ -14,7 +14,7 @@ use Rattle.equal.specs.Equal.{Equal, isEqual, listEncoded, EqualWritten,
 use Rattle.equal.specs.Unspelled.{unspelled}
 use Rattle.equal.specs.Renaming.{KeepsApart, unplaced, unplacedWritten, Renamed, RenamedWritten}
 use Rattle.equal.specs.Examples.{hexadecimal, decimal, apart-examples}
-use Rattle.equal.proofs.Places.{own-number, place-changed}
+use Rattle.equal.proofs.PlacesByAppearance.{own-number, place-changed}
 use Rattle.equal.proofs.Renumber.{Renumbers, trees, results}
 use Rattle.equal.proofs.Unplaced.{encode-unplaced, numbers-unplaced, renumbered-unplaced, list-unplaced, written-numbers-unplaced, written-renumbered-unplaced}
 

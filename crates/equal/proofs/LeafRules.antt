@@ -21,7 +21,7 @@ use Rattle.lowering.specs.Heads.{moved, movedPattern, isMoved, movedFrom, moved
 use Rattle.lowering.specs.Walk.{Note, Step, rewritten, refuse, ruleOf, rewrite, stepDeclaration, stepTop, stepAssignment, stepFor}
 use Rattle.lowering.proofs.Cases.{by-test, by-shape, by-rule, object-is, is-changed}
 use Rattle.equal.proofs.LeafViews.{Makes, Good, GoodItems}
-use Rattle.equal.proofs.Leaves
+use Rattle.equal.proofs.LeafParts
 use Rattle.equal.proofs.LeafViews as Views
 
 module _ (Q : Node → Type 0) (makes : Makes Q) where
@@ -44,7 +44,7 @@ module _ (Q : Node → Type 0) (makes : Makes Q) where
   quiet is n h = record { note = record { entry = tt; excluded = tt }; result = h }
 
   refused : (r : ℕ) → GoodStep (refuse r)
-  refused r = record { note = record { entry = tt; excluded = tt }; result = Leaves.nothing-leaves Q }
+  refused r = record { note = record { entry = tt; excluded = tt }; result = LeafParts.nothing-leaves Q }
 
   one-or-none : (b : Bool) (is js : Items) → GI is → GI js → GI (cond b is js)
   one-or-none true is js h k = h
@@ -55,13 +55,13 @@ module _ (Q : Node → Type 0) (makes : Makes Q) where
   one-or-other false m n h k = k
 
   append : (is js : Items) → GI is → GI js → GI (is +++ js)
-  append is js h k = Leaves.append-leaves Q is js h k
+  append is js h k = LeafParts.append-leaves Q is js h k
 
   part : (i : ℕ) (n : Node) → G n → G (nodeAt i n)
-  part i n h = Leaves.node-leaves Q i n h
+  part i n h = LeafParts.node-leaves Q i n h
 
   parts : (i : ℕ) (n : Node) → G n → GI (itemsAt i n)
-  parts i n h = Leaves.items-leaves Q i n h
+  parts i n h = LeafParts.items-leaves Q i n h
 
   -- ---- literals
 
@@ -158,7 +158,7 @@ module _ (Q : Node → Type 0) (makes : Makes Q) where
         (one-or-none (hasRest p) (own c (withValues f p) (reference c p)) none
         (own-good (withValues f p) (reference c p) (still-object f p e) (Views.values-good Q makes c f (Views.replaced-good Q makes c d) p h) (ref p)) tt)
         (Views.values-found Q makes c g (nested-good d) p h)))
-        (λ e. rw (e, nested) (Leaves.gather-leaves Q g (nested-good d) (itemsAt 0 p) (parts 0 p h)))
+        (λ e. rw (e, nested) (LeafParts.gather-leaves Q g (nested-good d) (itemsAt 0 p) (parts 0 p h)))
         (λ e. rw (e, nested) (nested-good d (leftOf p) (part 0 p h)))
         (λ e. rw (e, nested) tt)
 
@@ -209,7 +209,7 @@ module _ (Q : Node → Type 0) (makes : Makes Q) where
     loweredIn-good d h = one-or-none (isLowered d) (objectsBelow c (nodeAt 0 d)) none (objectsBelow-good (nodeAt 0 d) (part 0 d h)) tt
 
     excluded-good : (is : Items) → GI is → GI (gather (excludedFor c) is)
-    excluded-good is h = Leaves.gather-leaves Q (excludedFor c) (Views.excludedFor-good Q makes c) is h
+    excluded-good is h = LeafParts.gather-leaves Q (excludedFor c) (Views.excludedFor-good Q makes c) is h
 
     declaration-step : (n : Node) → G n → GoodStep (stepDeclaration c n)
     unfolding stepDeclaration declaration declarationExcludes
@@ -220,9 +220,9 @@ module _ (Q : Node → Type 0) (makes : Makes Q) where
         (record {
           note = record {
             entry = tt;
-            excluded = Leaves.gather-leaves Q (λ d. gather (excludedFor c) (loweredIn c d)) (λ d g. excluded-good (loweredIn c d) (loweredIn-good d g)) (itemsAt 2 n) (parts 2 n h);
+            excluded = LeafParts.gather-leaves Q (λ d. gather (excludedFor c) (loweredIn c d)) (λ d g. excluded-good (loweredIn c d) (loweredIn-good d g)) (itemsAt 2 n) (parts 2 n h);
           };
-          result = Leaves.change-items Q 2 (gather (declarators c)) (Leaves.gather-leaves Q (declarators c) declarators-good) n h;
+          result = LeafParts.change-items Q 2 (gather (declarators c)) (LeafParts.gather-leaves Q (declarators c) declarators-good) n h;
         }))
 
     -- ---- assignments
@@ -241,7 +241,7 @@ module _ (Q : Node → Type 0) (makes : Makes Q) where
           (
             Views.assign-good Q makes (targetLeft c n) t (Views.withoutRests-good Q makes c (depth (target n)) (target n) (part 1 n h)) (val (target n)),
             append rs (cond (c .statement) none (only t))
-                (Leaves.each-leaves Q (λ p. assign (rest p) (restValue c p t))
+                (LeafParts.each-leaves Q (λ p. assign (rest p) (restValue c p t))
                 (λ p g. Views.assign-good Q makes (rest p) (restValue c p t) (part 1 p g) (Views.restValue-good Q makes c p t g (val (target n)))) (restsOf n) (targets-good n h))
                 (one-or-none (c .statement) none (only t) tt (val (target n), tt)),
           ),
@@ -251,7 +251,7 @@ module _ (Q : Node → Type 0) (makes : Makes Q) where
     unfolding topEntry
     topEntry-good n h = (
       Views.declared-good Q makes (valueOf c (target n)) (val (target n)),
-      Leaves.gather-leaves Q (keyTemporaries c) (Views.keyTemporaries-good Q makes c) (restsOf n) (targets-good n h),
+      LeafParts.gather-leaves Q (keyTemporaries c) (Views.keyTemporaries-good Q makes c) (restsOf n) (targets-good n h),
     )
 
     top-step : (n : Node) → G n → GoodStep (stepTop c n)
@@ -267,15 +267,15 @@ module _ (Q : Node → Type 0) (makes : Makes Q) where
     nestedSequence-good n h =
         Views.sequence-good Q makes
         (item (changeNode 1 (λ p. replacedBelow c p) n) (each (λ p. assign p (reference c p)) (objectsBelow c (target n)))) (
-          Leaves.change-node Q 1 (λ p. replacedBelow c p) replacedBelow-good n h,
-          Leaves.each-leaves Q (λ p. assign p (reference c p)) (λ p g. Views.assign-good Q makes p (reference c p) g (ref p)) (objectsBelow c (target n))
+          LeafParts.change-node Q 1 (λ p. replacedBelow c p) replacedBelow-good n h,
+          LeafParts.each-leaves Q (λ p. assign p (reference c p)) (λ p g. Views.assign-good Q makes p (reference c p) g (ref p)) (objectsBelow c (target n))
               (objectsBelow-good (target n) (part 1 n h)),
         )
 
     nestedEntry-good : (n : Node) → G n → GI (nestedEntry c n)
     unfolding nestedEntry
     nestedEntry-good n h =
-        Leaves.each-leaves Q (λ p. declared (reference c p)) (λ p g. Views.declared-good Q makes (reference c p) (ref p)) (objectsBelow c (target n))
+        LeafParts.each-leaves Q (λ p. declared (reference c p)) (λ p g. Views.declared-good Q makes (reference c p) (ref p)) (objectsBelow c (target n))
         (objectsBelow-good (target n) (part 1 n h))
 
     assignment-step : (n : Node) → G n → GoodStep (stepAssignment c n)
@@ -299,17 +299,17 @@ module _ (Q : Node → Type 0) (makes : Makes Q) where
         one-or-none (isMoved q) (moved (depth (nodeAt 0 q)) (nodeAt 0 q)) none (Views.moved-good Q makes c (depth (nodeAt 0 q)) (nodeAt 0 q) (part 0 q h)) tt
 
     allMoved-good : (is : Items) → GI is → GI (gather movedFrom is)
-    allMoved-good is h = Leaves.gather-leaves Q movedFrom movedFrom-good is h
+    allMoved-good is h = LeafParts.gather-leaves Q movedFrom movedFrom-good is h
 
     leftBehind-good : (q : Node) → G q → G (leftBehind c q)
     unfolding leftBehind
     leftBehind-good q h =
         one-or-other (isMoved q) (changeNode 0 (λ p. movedOut c (depth p) p) q) q
-        (Leaves.change-node Q 0 (λ p. movedOut c (depth p) p) (λ p g. Views.movedOut-good Q makes c (depth p) p g) q h) h
+        (LeafParts.change-node Q 0 (λ p. movedOut c (depth p) p) (λ p g. Views.movedOut-good Q makes c (depth p) p g) q h) h
 
     let-good : (a b : Node) → G a → G b → G (letOf a b)
     let-good a b g h =
-        Leaves.other Q 0 4 (field (mark 0) (field (byte 2) (field (list (only (declares a b))) done))) refl (tt, (tt, ((Views.declares-good Q makes a b g h, tt), tt)))
+        LeafParts.other Q 0 4 (field (mark 0) (field (byte 2) (field (list (only (declares a b))) done))) refl (tt, (tt, ((Views.declares-good Q makes a b g h, tt), tt)))
 
     inFront-good : (ps body : Items) → GI ps → GI body → GI (inFront c ps body)
     unfolding inFront
@@ -321,24 +321,24 @@ module _ (Q : Node → Type 0) (makes : Makes Q) where
 
     inBody-good : (ps : Items) (b : Node) → GI ps → G b → G (inBody c ps b)
     unfolding inBody
-    inBody-good ps b h g = Leaves.change-items Q 1 (inFront c ps) (λ is k. inFront-good ps is h k) b g
+    inBody-good ps b h g = LeafParts.change-items Q 1 (inFront c ps) (λ is k. inFront-good ps is h k) b g
 
     functionBody-good : (b : Node) → G b → G (asFunctionBody b)
     unfolding asFunctionBody
     functionBody-good b h =
         one-or-other (is 16 b) b (functionBody (only (returning b))) h
-        (Leaves.other Q 0 16 (absent (field (list (only (returning b))) done)) refl
-        ((Leaves.other Q 0 11 (field (mark 0) (field (one b) done)) refl (tt, (h, tt)), tt), tt))
+        (LeafParts.other Q 0 16 (absent (field (list (only (returning b))) done)) refl
+        ((LeafParts.other Q 0 11 (field (mark 0) (field (one b) done)) refl (tt, (h, tt)), tt), tt))
 
     block-good : (b : Node) → G b → G (asBlock b)
     unfolding asBlock
     block-good b h =
         one-or-other (is 2 b) b (block (cond (is 13 b) none (only b))) h
-        (Leaves.other Q 0 2 (field (mark 0) (field (list (cond (is 13 b) none (only b))) done)) refl
+        (LeafParts.other Q 0 2 (field (mark 0) (field (list (cond (is 13 b) none (only b))) done)) refl
         (tt, (one-or-none (is 13 b) none (only b) tt (h, tt), tt)))
 
     lefts : (i : ℕ) (n : Node) → G n → G (changeItems i (each (leftBehind c)) n)
-    lefts i n h = Leaves.change-items Q i (each (leftBehind c)) (Leaves.each-leaves Q (leftBehind c) leftBehind-good) n h
+    lefts i n h = LeafParts.change-items Q i (each (leftBehind c)) (LeafParts.each-leaves Q (leftBehind c) leftBehind-good) n h
 
     function-good : (n : Node) → G n → G (function c n)
     unfolding function
@@ -346,7 +346,7 @@ module _ (Q : Node → Type 0) (makes : Makes Q) where
         let ps = gather movedFrom (itemsAt 3 n) in
         let m = changeItems 3 (each (leftBehind c)) n in
         one-or-other (stands 5 n && any isMoved (itemsAt 3 n)) (changeNode 5 (λ b. inBody c ps (asFunctionBody b)) m) n
-        (Leaves.change-node Q 5 (λ b. inBody c ps (asFunctionBody b)) (λ b g. inBody-good ps (asFunctionBody b) (allMoved-good (itemsAt 3 n) (parts 3 n h)) (functionBody-good b g)) m (lefts 3 n h))
+        (LeafParts.change-node Q 5 (λ b. inBody c ps (asFunctionBody b)) (λ b g. inBody-good ps (asFunctionBody b) (allMoved-good (itemsAt 3 n) (parts 3 n h)) (functionBody-good b g)) m (lefts 3 n h))
         h
 
     arrow-good : (n : Node) → G n → G (arrow c n)
@@ -355,7 +355,7 @@ module _ (Q : Node → Type 0) (makes : Makes Q) where
         let ps = gather movedFrom (itemsAt 0 n) in
         let m = changeItems 0 (each (leftBehind c)) n in
         one-or-other (any isMoved (itemsAt 0 n)) (changeNode 2 (λ b. inBody c ps (asFunctionBody b)) m) n
-        (Leaves.change-node Q 2 (λ b. inBody c ps (asFunctionBody b)) (λ b g. inBody-good ps (asFunctionBody b) (allMoved-good (itemsAt 0 n) (parts 0 n h)) (functionBody-good b g)) m (lefts 0 n h))
+        (LeafParts.change-node Q 2 (λ b. inBody c ps (asFunctionBody b)) (λ b g. inBody-good ps (asFunctionBody b) (allMoved-good (itemsAt 0 n) (parts 0 n h)) (functionBody-good b g)) m (lefts 0 n h))
         h
 
     catch-good : (n : Node) → G n → G (catch c n)
@@ -364,8 +364,8 @@ module _ (Q : Node → Type 0) (makes : Makes Q) where
         let ps = movedFrom (nodeAt 0 n) in
         let m = changeNode 0 (leftBehind c) n in
         one-or-other (isMoved (nodeAt 0 n)) (changeNode 1 (λ b. inBody c ps (asBlock b)) m) n
-        (Leaves.change-node Q 1 (λ b. inBody c ps (asBlock b)) (λ b g. inBody-good ps (asBlock b) (movedFrom-good (nodeAt 0 n) (part 0 n h)) (block-good b g)) m
-        (Leaves.change-node Q 0 (leftBehind c) leftBehind-good n h))
+        (LeafParts.change-node Q 1 (λ b. inBody c ps (asBlock b)) (λ b g. inBody-good ps (asBlock b) (movedFrom-good (nodeAt 0 n) (part 0 n h)) (block-good b g)) m
+        (LeafParts.change-node Q 0 (leftBehind c) leftBehind-good n h))
         h
 
     declaringHead-good : (n : Node) → G n → G (declaringHead c n)
@@ -374,16 +374,16 @@ module _ (Q : Node → Type 0) (makes : Makes Q) where
         let ds = itemsAt 2 (nodeAt 1 n) in
         let m = changeNode 1 (λ l. changeItems 2 (each (leftBehind c)) l) n in
         one-or-other (any isMoved ds) (changeNode 3 (λ b. inBody c (gather movedFrom ds) (asBlock b)) m) n
-        (Leaves.change-node Q 3 (λ b. inBody c (gather movedFrom ds) (asBlock b))
+        (LeafParts.change-node Q 3 (λ b. inBody c (gather movedFrom ds) (asBlock b))
         (λ b g. inBody-good (gather movedFrom ds) (asBlock b) (allMoved-good ds (parts 2 (nodeAt 1 n) (part 1 n h))) (block-good b g)) m
-        (Leaves.change-node Q 1 (λ l. changeItems 2 (each (leftBehind c)) l) (λ l g. lefts 2 l g) n h))
+        (LeafParts.change-node Q 1 (λ l. changeItems 2 (each (leftBehind c)) l) (λ l g. lefts 2 l g) n h))
         h
 
     assigning-good : (a b : Node) → G a → G b → G (assigning a b)
-    assigning-good a b g h = Leaves.other Q 0 3 (field (mark 0) (field (one (assign a b)) done)) refl (tt, (Views.assign-good Q makes a b g h, tt))
+    assigning-good a b g h = LeafParts.other Q 0 3 (field (mark 0) (field (one (assign a b)) done)) refl (tt, (Views.assign-good Q makes a b g h, tt))
 
     var-good : (a : Node) → G a → G (varOf a)
-    var-good a g = Leaves.other Q 0 4 (field (mark 0) (field (byte 1) (field (list (only (declared a))) done))) refl (tt, (tt, ((Views.declared-good Q makes a g, tt), tt)))
+    var-good a g = LeafParts.other Q 0 4 (field (mark 0) (field (byte 1) (field (list (only (declared a))) done))) refl (tt, (tt, ((Views.declared-good Q makes a g, tt), tt)))
 
     assigningHead-good : (n : Node) → G n → G (assigningHead c n)
     unfolding assigningHead
@@ -391,9 +391,9 @@ module _ (Q : Node → Type 0) (makes : Makes Q) where
         let p = nodeAt 1 n in
         let m = changeNode 1 (λ l. varOf (reference c l)) n in
         one-or-other (hasObjectRest p) (changeNode 3 (λ b. changeItems 1 (item (assigning p (reference c p))) (asBlock b)) m) n
-        (Leaves.change-node Q 3 (λ b. changeItems 1 (item (assigning p (reference c p))) (asBlock b))
-        (λ b g. Leaves.change-items Q 1 (item (assigning p (reference c p))) (λ is k. (assigning-good p (reference c p) (part 1 n h) (ref p), k)) (asBlock b) (block-good b g)) m
-        (Leaves.change-node Q 1 (λ l. varOf (reference c l)) (λ l g. var-good (reference c l) (ref l)) n h))
+        (LeafParts.change-node Q 3 (λ b. changeItems 1 (item (assigning p (reference c p))) (asBlock b))
+        (λ b g. LeafParts.change-items Q 1 (item (assigning p (reference c p))) (λ is k. (assigning-good p (reference c p) (part 1 n h) (ref p), k)) (asBlock b) (block-good b g)) m
+        (LeafParts.change-node Q 1 (λ l. varOf (reference c l)) (λ l g. var-good (reference c l) (ref l)) n h))
         h
 
     for-step : (n : Node) → G n → GoodStep (stepFor c n)

@@ -21,7 +21,7 @@ use Rattle.lowering.specs.Rests.{hasNoProperties, mapped, isHoisted, keysRead, 
 use Rattle.lowering.specs.Assignments.{restsThroughObjects, withoutRests}
 use Rattle.lowering.specs.Heads.{moved, movedPattern, movedOut}
 use Rattle.lowering.proofs.Cases.{by-test, by-shape, by-key, object-is, is-changed}
-use Rattle.equal.proofs.Leaves
+use Rattle.equal.proofs.LeafParts
 
 -- ---- keys by sort
 
@@ -50,9 +50,9 @@ literal-is k e = go (is 38 k) (is 22 k) (is 23 k && eqb (count (itemsAt 0 k)) 1)
     go false false false false false e = let z : _≡_ {A = ℕ} 0 1 = cc in absurd (omega arith)
 
 -- a kind that is known
-leaf-kind : (n : Node) (j : ℕ) → is j n ≡ true → Leaves.isLeaf (kind n) ≡ Leaves.isLeaf j
+leaf-kind : (n : Node) (j : ℕ) → is j n ≡ true → LeafParts.isLeaf (kind n) ≡ LeafParts.isLeaf j
 unfolding is
-leaf-kind n j e = ap Leaves.isLeaf (eqb-true (kind n) j e)
+leaf-kind n j e = ap LeafParts.isLeaf (eqb-true (kind n) j e)
 
 -- what holds of StaticKeys and Literals holds of the strings that are made of them
 pub record Makes (Q : Node → Type 0) : Type 0 where
@@ -61,42 +61,42 @@ pub record Makes (Q : Node → Type 0) : Type 0 where
 
 module _ (Q : Node → Type 0) (makes : Makes Q) where
   abbrev pub Good : Node → Type 0
-  Good n = Leaves.Leaves Q n
+  Good n = LeafParts.Leaves Q n
 
   abbrev pub GoodItems : Items → Type 0
-  GoodItems is = Leaves.LeavesItems Q is
+  GoodItems is = LeafParts.LeavesItems Q is
 
   -- ---- nodes that are made
 
   pub temporary-good : (path : List ℕ) (stem at : ℕ) → Good (temporary path stem at)
-  temporary-good path stem at = Leaves.alone Q (temporary path stem at) refl refl
+  temporary-good path stem at = LeafParts.alone Q (temporary path stem at) refl refl
 
   pub helper-good : (h : ℕ) → Good (helper h)
-  helper-good h = Leaves.other Q 0 21 (field (byte h) done) refl (tt, tt)
+  helper-good h = LeafParts.other Q 0 21 (field (byte h) done) refl (tt, tt)
 
   pub call-good : (f : Node) (xs : Items) → Good f → GoodItems xs → Good (call f xs)
-  call-good f xs g h = Leaves.other Q 0 29 (field (one f) (field (list xs) done)) refl (g, (h, tt))
+  call-good f xs g h = LeafParts.other Q 0 29 (field (one f) (field (list xs) done)) refl (g, (h, tt))
 
   pub object-good : (xs : Items) → GoodItems xs → Good (object xs)
-  object-good xs h = Leaves.other Q 0 24 (field (list xs) done) refl (h, tt)
+  object-good xs h = LeafParts.other Q 0 24 (field (list xs) done) refl (h, tt)
 
   pub array-good : (xs : Items) → GoodItems xs → Good (array xs)
-  array-good xs h = Leaves.other Q 0 32 (field (list xs) done) refl (h, tt)
+  array-good xs h = LeafParts.other Q 0 32 (field (list xs) done) refl (h, tt)
 
   pub sequence-good : (xs : Items) → GoodItems xs → Good (sequence xs)
-  sequence-good xs h = Leaves.other Q 0 28 (field (list xs) done) refl (h, tt)
+  sequence-good xs h = LeafParts.other Q 0 28 (field (list xs) done) refl (h, tt)
 
   member-good : (a : Node) (bs : List ℕ) → Good a → Good (member a bs)
-  member-good a bs h = Leaves.other Q 0 30 (field (one a) (field (text bs) done)) refl (h, (tt, tt))
+  member-good a bs h = LeafParts.other Q 0 30 (field (one a) (field (text bs) done)) refl (h, (tt, tt))
 
   pub assign-good : (a b : Node) → Good a → Good b → Good (assign a b)
-  assign-good a b g h = Leaves.other Q 0 27 (field (byte 1) (field (one a) (field (one b) done))) refl (tt, (g, (h, tt)))
+  assign-good a b g h = LeafParts.other Q 0 27 (field (byte 1) (field (one a) (field (one b) done))) refl (tt, (g, (h, tt)))
 
   pub declares-good : (a b : Node) → Good a → Good b → Good (declares a b)
-  declares-good a b g h = Leaves.other Q 0 5 (field (one a) (field (one b) done)) refl (g, (h, tt))
+  declares-good a b g h = LeafParts.other Q 0 5 (field (one a) (field (one b) done)) refl (g, (h, tt))
 
   pub declared-good : (a : Node) → Good a → Good (declared a)
-  declared-good a g = Leaves.other Q 0 5 (field (one a) (absent done)) refl (g, tt)
+  declared-good a g = LeafParts.other Q 0 5 (field (one a) (absent done)) refl (g, tt)
 
   -- ---- keys
 
@@ -104,14 +104,14 @@ module _ (Q : Node → Type 0) (makes : Makes Q) where
     excludedKey-good : (q : Node) → Good q → GoodItems (excludedKey c q)
     unfolding excludedKey
     excludedKey-good q h =
-        let k = Leaves.node-leaves Q 0 q h in
+        let k = LeafParts.node-leaves Q 0 q h in
         by-key (keySort (key q))
         (λ e.
         let i = name-is (key q) e in
-        rw (e, excludedKey, text-name (key q) e) (Leaves.string-leaves Q (textAt 0 (key q)) (makes .named (key q) i (Leaves.own Q (key q) (leaf-kind (key q) 38 i) k)), tt))
+        rw (e, excludedKey, text-name (key q) e) (LeafParts.string-leaves Q (textAt 0 (key q)) (makes .named (key q) i (LeafParts.own Q (key q) (leaf-kind (key q) 38 i) k)), tt))
         (λ e.
         let i = literal-is (key q) e in
-        rw (e, excludedKey, text-literal (key q) e) (Leaves.string-leaves Q (textAt 2 (key q)) (makes .formed (key q) i (Leaves.own Q (key q) (leaf-kind (key q) 22 i) k)), tt))
+        rw (e, excludedKey, text-literal (key q) e) (LeafParts.string-leaves Q (textAt 2 (key q)) (makes .formed (key q) i (LeafParts.own Q (key q) (leaf-kind (key q) 22 i) k)), tt))
         (λ e. rw (e, excludedKey) (k, tt))
         (λ e. rw (e, excludedKey) tt)
         (λ e. rw (e, excludedKey) (k, tt))
@@ -126,7 +126,7 @@ module _ (Q : Node → Type 0) (makes : Makes Q) where
         (λ e. rw (e, keptKey) h)
         (λ e. rw (e, keptKey) h)
         (λ e. rw (e, keptKey) h)
-        (λ e. rw (e, keptKey) (Leaves.change-node Q 0 (λ k. keyOf c q) (λ k g. temporary-good (c .path) 4 _) q h))
+        (λ e. rw (e, keptKey) (LeafParts.change-node Q 0 (λ k. keyOf c q) (λ k g. temporary-good (c .path) 4 _) q h))
 
     keyTemporary-good : (q : Node) → Good q → GoodItems (keyTemporary c q)
     unfolding keyTemporary
@@ -137,23 +137,23 @@ module _ (Q : Node → Type 0) (makes : Makes Q) where
         (λ e. rw (e, keyTemporary) tt)
         (λ e. rw (e, keyTemporary) tt)
         (λ e. rw (e, keyTemporary) tt)
-        (λ e. rw (e, keyTemporary) (declares-good (keyOf c q) (key q) (temporary-good (c .path) 4 _) (Leaves.node-leaves Q 0 q h), tt))
+        (λ e. rw (e, keyTemporary) (declares-good (keyOf c q) (key q) (temporary-good (c .path) 4 _) (LeafParts.node-leaves Q 0 q h), tt))
 
     excludedKeys-good : (p : Node) → Good p → GoodItems (excludedKeys c p)
     unfolding excludedKeys
-    excludedKeys-good p h = Leaves.gather-leaves Q (excludedKey c) excludedKey-good (properties p) (Leaves.items-leaves Q 0 p h)
+    excludedKeys-good p h = LeafParts.gather-leaves Q (excludedKey c) excludedKey-good (properties p) (LeafParts.items-leaves Q 0 p h)
 
     pub keyTemporaries-good : (p : Node) → Good p → GoodItems (keyTemporaries c p)
     unfolding keyTemporaries
-    keyTemporaries-good p h = Leaves.gather-leaves Q (keyTemporary c) keyTemporary-good (properties p) (Leaves.items-leaves Q 0 p h)
+    keyTemporaries-good p h = LeafParts.gather-leaves Q (keyTemporary c) keyTemporary-good (properties p) (LeafParts.items-leaves Q 0 p h)
 
     pub taken-good : (p : Node) → is 34 p ≡ true → Good p → Good (taken c p)
     unfolding taken
     taken-good p i h =
         by-test (hasRest p)
         (λ e. rw e
-        (Leaves.without-leaves Q 1 (withProperties (keptKey c) p) (leaf-kind (withProperties (keptKey c) p) 34 (is-changed 0 (onItems (each (keptKey c))) p 34 ∙ i))
-        (Leaves.change-items Q 0 (each (keptKey c)) (Leaves.each-leaves Q (keptKey c) keptKey-good) p h)))
+        (LeafParts.without-leaves Q 1 (withProperties (keptKey c) p) (leaf-kind (withProperties (keptKey c) p) 34 (is-changed 0 (onItems (each (keptKey c))) p 34 ∙ i))
+        (LeafParts.change-items Q 0 (each (keptKey c)) (LeafParts.each-leaves Q (keptKey c) keptKey-good) p h)))
         (λ e. rw e h)
 
     -- ---- rests
@@ -191,10 +191,10 @@ module _ (Q : Node → Type 0) (makes : Makes Q) where
 
     pub values-good : (f : Node → Node) → ((v : Node) → Good v → Good (f v)) → (p : Node) → Good p → Good (withValues f p)
     values-good f g p h =
-        Leaves.change-items Q 0 (each (λ q. changeNode 1 f q)) (Leaves.each-leaves Q (λ q. changeNode 1 f q) (λ q k. Leaves.change-node Q 1 f g q k)) p h
+        LeafParts.change-items Q 0 (each (λ q. changeNode 1 f q)) (LeafParts.each-leaves Q (λ q. changeNode 1 f q) (λ q k. LeafParts.change-node Q 1 f g q k)) p h
 
     pub items-good : (f : Node → Node) → ((v : Node) → Good v → Good (f v)) → (p : Node) → Good p → Good (withItems f p)
-    items-good f g p h = Leaves.change-items Q 0 (each f) (Leaves.each-leaves Q f g) p h
+    items-good f g p h = LeafParts.change-items Q 0 (each f) (LeafParts.each-leaves Q f g) p h
 
     pub reference-good : (p : Node) → Good (reference c p)
     reference-good p = temporary-good (c .path) 1 _
@@ -208,12 +208,12 @@ module _ (Q : Node → Type 0) (makes : Makes Q) where
         (λ e. rw (e, replaced)
         (by-test (hasRest p) (λ r. rw r (reference-good p)) (λ r. rw r (values-good f (replaced-good d) p h))))
         (λ e. rw (e, replaced) (items-good f (replaced-good d) p h))
-        (λ e. rw (e, replaced) (Leaves.change-node Q 0 f (replaced-good d) p h))
+        (λ e. rw (e, replaced) (LeafParts.change-node Q 0 f (replaced-good d) p h))
         (λ e. rw (e, replaced) h)
 
     -- what is found in each property's value
     pub values-found : (f : Node → Items) → ((v : Node) → Good v → GoodItems (f v)) → (p : Node) → Good p → GoodItems (gather (λ q. f (value q)) (properties p))
-    values-found f g p h = Leaves.gather-leaves Q (λ q. f (value q)) (λ q k. g (value q) (Leaves.node-leaves Q 1 q k)) (properties p) (Leaves.items-leaves Q 0 p h)
+    values-found f g p h = LeafParts.gather-leaves Q (λ q. f (value q)) (λ q k. g (value q) (LeafParts.node-leaves Q 1 q k)) (properties p) (LeafParts.items-leaves Q 0 p h)
 
     pub objects-good : (d : ℕ) (p : Node) → Good p → GoodItems (objectsWithRest c d p)
     unfolding objectsWithRest
@@ -222,10 +222,10 @@ module _ (Q : Node → Type 0) (makes : Makes Q) where
         let f : Node → Items = λ v. objectsWithRest c d v in
         by-shape (shape p)
         (λ e. rw (e, objectsWithRest)
-        (Leaves.append-leaves Q (gather (λ q. f (value q)) (properties p)) (cond (hasRest p) (only (withValues (λ v. replaced c d v) p)) none) (values-found f (objects-good d) p h)
+        (LeafParts.append-leaves Q (gather (λ q. f (value q)) (properties p)) (cond (hasRest p) (only (withValues (λ v. replaced c d v) p)) none) (values-found f (objects-good d) p h)
         (by-test (hasRest p) (λ r. rw r (values-good (λ v. replaced c d v) (replaced-good d) p h, tt)) (λ r. rw r tt))))
-        (λ e. rw (e, objectsWithRest) (Leaves.gather-leaves Q f (objects-good d) (itemsOf p) (Leaves.items-leaves Q 0 p h)))
-        (λ e. rw (e, objectsWithRest) (objects-good d (leftOf p) (Leaves.node-leaves Q 0 p h)))
+        (λ e. rw (e, objectsWithRest) (LeafParts.gather-leaves Q f (objects-good d) (itemsOf p) (LeafParts.items-leaves Q 0 p h)))
+        (λ e. rw (e, objectsWithRest) (objects-good d (leftOf p) (LeafParts.node-leaves Q 0 p h)))
         (λ e. rw (e, objectsWithRest) tt)
 
     -- ---- targets
@@ -239,7 +239,7 @@ module _ (Q : Node → Type 0) (makes : Makes Q) where
         (λ e. rw (e, withoutRests)
         (taken-good (withValues f p) (is-changed 0 (onItems (each (λ q. changeNode 1 f q))) p 34 ∙ object-is p e) (values-good f (withoutRests-good d) p h)))
         (λ e. rw (e, withoutRests) h)
-        (λ e. rw (e, withoutRests) (Leaves.change-node Q 0 f (withoutRests-good d) p h))
+        (λ e. rw (e, withoutRests) (LeafParts.change-node Q 0 f (withoutRests-good d) p h))
         (λ e. rw (e, withoutRests) h)
 
     pub rests-good : (d : ℕ) (p : Node) → Good p → GoodItems (restsThroughObjects d p)
@@ -249,10 +249,10 @@ module _ (Q : Node → Type 0) (makes : Makes Q) where
         let f : Node → Items = λ v. restsThroughObjects d v in
         by-shape (shape p)
         (λ e. rw (e, restsThroughObjects)
-        (Leaves.append-leaves Q (gather (λ q. f (value q)) (properties p)) (cond (hasRest p) (only p) none) (values-found f (rests-good d) p h)
+        (LeafParts.append-leaves Q (gather (λ q. f (value q)) (properties p)) (cond (hasRest p) (only p) none) (values-found f (rests-good d) p h)
         (by-test (hasRest p) (λ r. rw r (h, tt)) (λ r. rw r tt))))
         (λ e. rw (e, restsThroughObjects) tt)
-        (λ e. rw (e, restsThroughObjects) (rests-good d (leftOf p) (Leaves.node-leaves Q 0 p h)))
+        (λ e. rw (e, restsThroughObjects) (rests-good d (leftOf p) (LeafParts.node-leaves Q 0 p h)))
         (λ e. rw (e, restsThroughObjects) tt)
 
     -- ---- what is moved out of a head
@@ -265,7 +265,7 @@ module _ (Q : Node → Type 0) (makes : Makes Q) where
         by-shape (shape p)
         (λ e. rw (e, moved) (h, tt))
         (λ e. rw (e, moved)
-        (Leaves.append-leaves Q (gather f (itemsOf p)) (f (rest p)) (Leaves.gather-leaves Q f (moved-good d) (itemsOf p) (Leaves.items-leaves Q 0 p h)) (moved-good d (rest p) (Leaves.node-leaves Q 1 p h))))
+        (LeafParts.append-leaves Q (gather f (itemsOf p)) (f (rest p)) (LeafParts.gather-leaves Q f (moved-good d) (itemsOf p) (LeafParts.items-leaves Q 0 p h)) (moved-good d (rest p) (LeafParts.node-leaves Q 1 p h))))
         (λ e. rw (e, moved) (h, tt))
         (λ e. rw (e, moved) tt)
 
@@ -275,7 +275,7 @@ module _ (Q : Node → Type 0) (makes : Makes Q) where
         by-shape (shape p)
         (λ e. rw (e, movedPattern) h)
         (λ e. rw (e, movedPattern) h)
-        (λ e. rw (e, movedPattern) (Leaves.node-leaves Q 0 p h))
+        (λ e. rw (e, movedPattern) (LeafParts.node-leaves Q 0 p h))
         (λ e. rw (e, movedPattern) h)
 
     pub movedOut-good : (d : ℕ) (p : Node) → Good p → Good (movedOut c d p)
@@ -285,6 +285,6 @@ module _ (Q : Node → Type 0) (makes : Makes Q) where
         let f : Node → Node = λ v. movedOut c d v in
         by-shape (shape p)
         (λ e. rw (e, movedOut) (reference-good p))
-        (λ e. rw (e, movedOut) (Leaves.change-node Q 1 f (movedOut-good d) (withItems f p) (items-good f (movedOut-good d) p h)))
-        (λ e. rw (e, movedOut) (Leaves.change-node Q 0 (λ l. reference c p) (λ l g. reference-good p) p h))
+        (λ e. rw (e, movedOut) (LeafParts.change-node Q 1 f (movedOut-good d) (withItems f p) (items-good f (movedOut-good d) p h)))
+        (λ e. rw (e, movedOut) (LeafParts.change-node Q 0 (λ l. reference c p) (λ l g. reference-good p) p h))
         (λ e. rw (e, movedOut) h)

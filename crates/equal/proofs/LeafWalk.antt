@@ -16,7 +16,7 @@ use Rattle.lowering.proofs.Appearance.{In, here, there}
 use Rattle.lowering.proofs.Cases.{by-test}
 use Rattle.lowering.proofs.Notes.{AllNotes, both}
 use Rattle.equal.specs.Canonical.{eachEntry}
-use Rattle.equal.proofs.Leaves.{NoPart, NoParts, isLeaf, Leaf, Leaves, LeavesFields, LeavesPiece, LeavesItems, other, alone, append-leaves}
+use Rattle.equal.proofs.LeafParts.{NoPart, NoParts, isLeaf, Leaf, Leaves, LeavesFields, LeavesPiece, LeavesItems, other, alone, append-leaves}
 use Rattle.equal.proofs.LeafViews.{Makes}
 use Rattle.equal.proofs.LeafRules.{GoodNote, rewrite-good}
 

@@ -1,12 +1,12 @@
-pub mod Places
+pub mod PlacesByAppearance
 pub mod Renumber
 pub mod Unplaced
 pub mod Equals
 pub mod Unique
-pub mod Forms
+pub mod RenumberedFits
 pub mod Back
 pub mod One
-pub mod Leaves
+pub mod LeafParts
 pub mod LeafViews
 pub mod LeafRules
 pub mod LeafWalk

@@ -26,7 +26,7 @@ use Rattle.lowering.proofs.Order.{by-order}
 use Rattle.equal.specs.Canonical.{Written, numbers, numbersFields, numbersPiece, numbersItems, renumbered, renumberedFields, renumberedPiece, renumberedItems, placeOf, numbersList, numbersWritten, eachEntry, renumberedWritten, canonicalWritten}
 use Rattle.equal.specs.Equal.{entryEncoded, listEncoded, EqualWritten}
 use Rattle.equal.specs.Results.{writtenBy, NamesAll, treeOf, entriesOf, excludedOf, resultBy, ownNames}
-use Rattle.equal.proofs.Places.{in-left, in-right, among, numbers-keep, place-renamed, own-number}
+use Rattle.equal.proofs.PlacesByAppearance.{in-left, in-right, among, numbers-keep, place-renamed, own-number}
 use Rattle.equal.proofs.Renumber.{written, listed}
 use Rattle.equal.proofs.Unplaced.{each-length}
 use Rattle.equal.proofs.Equals.{own-text}

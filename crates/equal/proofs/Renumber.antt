@@ -13,7 +13,7 @@ use Rattle.tree.specs.Tree.Items.{none, hole, item}
 use Rattle.lowering.specs.Collect.{Entry, over}
 use Rattle.lowering.proofs.Appearance.{In, here}
 use Rattle.equal.specs.Canonical.{Written, numbers, numbersFields, numbersPiece, numbersItems, renumbered, renumberedFields, renumberedPiece, renumberedItems, numbersList, numbersWritten, eachEntry, renumberedWritten}
-use Rattle.equal.proofs.Places.{changed, in-left, in-right}
+use Rattle.equal.proofs.PlacesByAppearance.{changed, in-left, in-right}
 
 -- what is known of things that have numbers, and of their renumbering
 pub record Renumbers {X : Type 0} (of : X → List ℕ) (to : (ℕ → ℕ) → X → X) : Type 0 where

@@ -29,8 +29,8 @@ use Rattle.lowering.proofs.Appearance.{In}
 use Rattle.lowering.proofs.Cases.{by-test, or-other}
 use Rattle.equal.specs.Results.{writtenBy, treeOf, entriesOf, excludedOf, resultBy}
 use Rattle.equal.specs.Spelled.{Origin, found, ofName, ofForm, nodesWritten}
-use Rattle.equal.proofs.Places.{in-left, in-right}
-use Rattle.equal.proofs.Leaves.{isLeaf, NoPart, NoParts, Leaves, LeavesFields, LeavesPiece, LeavesItems}
+use Rattle.equal.proofs.PlacesByAppearance.{in-left, in-right}
+use Rattle.equal.proofs.LeafParts.{isLeaf, NoPart, NoParts, Leaves, LeavesFields, LeavesPiece, LeavesItems}
 use Rattle.equal.proofs.LeafViews.{Makes}
 use Rattle.equal.proofs.LeafWalk.{tree-leaves, entries-leaves, excluded-leaves, numbered-leaves, entries-numbered, items-numbered, each-written}
 

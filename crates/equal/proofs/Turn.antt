@@ -18,7 +18,7 @@ use Rattle.lowering.proofs.Appearance.{In, here, there}
 use Rattle.lowering.proofs.Cases.{by-test}
 use Rattle.equal.specs.Canonical.{numbers, numbersFields, numbersPiece, numbersItems, renumbered, renumberedFields, renumberedPiece, renumberedItems, placeOf, canonical}
 use Rattle.equal.specs.Met.{placeIn, meet, place, met, metFields, metPiece, metItems, inTurn, inTurnFields, inTurnPiece, inTurnItems}
-use Rattle.equal.proofs.Places.{own-number}
+use Rattle.equal.proofs.PlacesByAppearance.{own-number}
 use Rattle.equal.proofs.Renumber.{trees}
 
 -- all of them met

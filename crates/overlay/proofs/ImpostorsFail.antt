@@ -17,7 +17,7 @@ use Rattle.overlay.specs.Law.{Fair, Overlay, Faithful}
 use Rattle.overlay.specs.Examples.{a, b, x, kx, k7, spread, counter}
 use Rattle.overlay.specs.Impostors.{second, backwards, gathered, lost}
 
-counter-sorted : (ks : List Key) → gives (k7 ∷ kx ∷ []) ≡ gives ks → namesFirst ks ≡ ks
+pub counter-sorted : (ks : List Key) → gives (k7 ∷ kx ∷ []) ≡ gives ks → namesFirst ks ≡ ks
 counter-sorted ks e = let q : ks ≡ k7 ∷ kx ∷ [] = cc in rw q refl
 
 pub fair : Fair counter

@@ -28,14 +28,14 @@ pub text-same : (s : List ℕ) → sameText s s ≡ true
 text-same [] = refl
 text-same (x ∷ xs) = rw (eq-eqb x x refl, text-same xs) refl
 
-same-is : (k l : Key) → same k l ≡ true → k ≡ l
+pub same-is : (k l : Key) → same k l ≡ true → k ≡ l
 unfolding same
 same-is (name s) (name t) e = ap name (text-is s t e)
 same-is (name s) (symbol n) e = differ (sym e)
 same-is (symbol m) (name t) e = differ (sym e)
 same-is (symbol m) (symbol n) e = ap symbol (eqb-true m n e)
 
-same-self : (k : Key) → same k k ≡ true
+pub same-self : (k : Key) → same k k ≡ true
 unfolding same
 same-self (name s) = text-same s
 same-self (symbol n) = eq-eqb n n refl

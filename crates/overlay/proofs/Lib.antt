@@ -1,6 +1,6 @@
 pub mod LaidOn
 pub mod Ordered
-pub mod Runs
+pub mod PropertiesInTurn
 pub mod Free
 pub mod Still
 pub mod Plainly

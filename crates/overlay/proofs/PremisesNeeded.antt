@@ -19,6 +19,7 @@ use Rattle.overlay.specs.Run.Out.{ok, threw, beyond, stuck}
 use Rattle.overlay.specs.Whole.{leaves}
 use Rattle.overlay.specs.Examples.{kx, k7}
 use Rattle.overlay.specs.Premises.{hiding, mixed, undetectable, meddling, emptied, indexed, Alike, Steady, Sorted, Strict, Unmeddled, UnmeddledAtFirst, Intact}
+use Rattle.overlay.proofs.ImpostorsFail.{counter-sorted}
 
 -- ---- what tells the runs apart: how many steps, and whether the last one reads a symbol
 
@@ -44,9 +45,6 @@ told (threw h n) = lastNumber h
 told (beyond h n) = lastNumber h
 told (stuck h) = lastNumber h
 
-sorted-two : (ks : List Key) → gives (k7 ∷ kx ∷ []) ≡ gives ks → namesFirst ks ≡ ks
-sorted-two ks e = let q : ks ≡ k7 ∷ kx ∷ [] = cc in rw q refl
-
 sorted-turned : (ks : List Key) → gives (kx ∷ k7 ∷ []) ≡ gives ks → namesFirst ks ≡ ks
 sorted-turned ks e = let q : ks ≡ kx ∷ k7 ∷ [] = cc in rw q refl
 
@@ -57,7 +55,7 @@ sorted-one ks e = let q : ks ≡ symbol 5 ∷ [] = cc in rw q refl
 
 pub hiding-fails : Sorted hiding × Strict hiding × Unmeddled hiding × Intact hiding × (Alike hiding → ⊥)
 unfolding leaves walked walk weight extra factor isHead standsIn rewrite ruleOf literal scan opened closed _+++_ any is nodeAt itemsAt numberAt pieceIn within opensScope inside eachField eachPiece eachItem bare numbered withNumber run copy copyS callsS put same rank
-hiding-fails = ((λ n h ks e. sorted-two ks e), (λ n. refl), (λ h. refl), (λ h ks. refl), (λ e. let q = ap told e in omega arith))
+hiding-fails = ((λ n h ks e. counter-sorted ks e), (λ n. refl), (λ h. refl), (λ h ks. refl), (λ e. let q = ap told e in omega arith))
 
 pub mixed-fails : Steady mixed × Strict mixed × Unmeddled mixed × Intact mixed × (Alike mixed → ⊥)
 unfolding leaves walked walk weight extra factor isHead standsIn rewrite ruleOf literal scan opened closed _+++_ any is nodeAt itemsAt numberAt pieceIn within opensScope inside eachField eachPiece eachItem bare numbered withNumber run copy copyS callsS put same rank
@@ -65,7 +63,7 @@ mixed-fails = ((λ n h k l. refl), (λ n. refl), (λ h. refl), (λ h ks. refl), 
 
 pub undetectable-fails : Steady undetectable × Sorted undetectable × Unmeddled undetectable × Intact undetectable × (Alike undetectable → ⊥)
 unfolding leaves walked walk weight extra factor isHead standsIn rewrite ruleOf literal scan opened closed _+++_ any is nodeAt itemsAt numberAt pieceIn within opensScope inside eachField eachPiece eachItem bare numbered withNumber run copy copyS callsS put same rank
-undetectable-fails = ((λ n h k l. refl), (λ n h ks e. sorted-two ks e), (λ h. refl), (λ h ks. refl), (λ e. let q = ap told e in omega arith))
+undetectable-fails = ((λ n h k l. refl), (λ n h ks e. counter-sorted ks e), (λ h. refl), (λ h ks. refl), (λ e. let q = ap told e in omega arith))
 
 pub meddling-fails : Steady meddling × Sorted meddling × Strict meddling × UnmeddledAtFirst meddling × Intact meddling × (Alike meddling → ⊥)
 unfolding leaves walked walk weight extra factor isHead standsIn rewrite ruleOf literal scan opened closed _+++_ any is nodeAt itemsAt numberAt pieceIn within opensScope inside eachField eachPiece eachItem bare numbered withNumber run copy copyS callsS put same rank
@@ -73,7 +71,7 @@ meddling-fails = ((λ n h k l. refl), (λ n h ks e. sorted-turned ks e), (λ n. 
 
 pub emptied-fails : Steady emptied × Sorted emptied × Strict emptied × Unmeddled emptied × (Alike emptied → ⊥)
 unfolding leaves walked walk weight extra factor isHead standsIn rewrite ruleOf literal scan opened closed _+++_ any is nodeAt itemsAt numberAt pieceIn within opensScope inside eachField eachPiece eachItem bare numbered withNumber run copy copyS callsS put same rank
-emptied-fails = ((λ n h k l. refl), (λ n h ks e. sorted-two ks e), (λ n. refl), (λ h. refl), (λ e. let q = ap told e in omega arith))
+emptied-fails = ((λ n h k l. refl), (λ n h ks e. counter-sorted ks e), (λ n. refl), (λ h. refl), (λ e. let q = ap told e in omega arith))
 
 pub indexed-fails : Steady indexed × Sorted indexed × Strict indexed × Unmeddled indexed × (Alike indexed → ⊥)
 unfolding leaves walked walk weight extra factor isHead standsIn rewrite ruleOf literal scan opened closed _+++_ any is nodeAt itemsAt numberAt pieceIn within opensScope inside eachField eachPiece eachItem bare numbered withNumber run copy copyS callsS put same rank

@@ -16,8 +16,7 @@ use Rattle.overlay.specs.Run.{History, Outside, proto, isWritten, spelled, make
 use Rattle.overlay.specs.Run.Step.{evaluates, computes, names, converts, lists, reads}
 use Rattle.overlay.specs.Run.Reply.{gives}
 use Rattle.overlay.specs.Run.Out.{ok}
-use Rattle.overlay.proofs.LaidOn.{differ, text-is}
-use Rattle.packing.specs.World.{History as Steps}
+use Rattle.overlay.proofs.LaidOn.{differ, text-is, same-self}
 use Rattle.packing.specs.World.{Slot, Own, Held, World, slot, stored, shown, seen, look}
 use Rattle.packing.specs.World.Slot.{lacks, value, accessor}
 use Rattle.packing.specs.World.Held.{lost, held}
@@ -27,7 +26,8 @@ use Rattle.packing.specs.Pack.{property, reference, parts, since, spread
 use Rattle.packing.specs.Class.{areNames, keysTaken}
 use Rattle.packing.specs.Law.{Among}
 use Rattle.packing.specs.Law.Among.{here, there}
-use Rattle.packing.proofs.Objects.{same-self, or-later, held-not-lost, held-is, fill, gathered, orElse, look-gathered}
+use Rattle.packing.specs.World.{History as Steps}
+use Rattle.packing.proofs.Objects.{or-later, held-not-lost, held-is, fill, gathered, orElse, look-gathered}
 
 -- reading names stores nothing
 pub since-stored : (x : List ℕ) (h : Steps) (g : History) → stored x (since h g) ≡ stored x h

@@ -29,8 +29,8 @@ use Rattle.packing.specs.Law.{Unpacked}
 use Rattle.packing.specs.Whole.{Accepted, notes, names, handedOut, LandsThere, Unpacks, OneSide, Whole, Placed, Everywhere, Writes}
 use Rattle.packing.proofs.Declared.{Shaped, shaped, excluded-is, excludes-are, packing}
 use Rattle.packing.proofs.Clean.{accepted-clean}
-use Rattle.packing.proofs.Written.{Hands}
-use Rattle.packing.proofs.Written.{written as reads-as}
+use Rattle.packing.proofs.WrittenReads.{Hands}
+use Rattle.packing.proofs.WrittenReads.{written as reads-as}
 use Rattle.packing.proofs.Handed.{Item, in-list, array-given}
 
 well-formed : (a : Accepted) → WellFormed input (a .limit) (a .tree) (a .next)

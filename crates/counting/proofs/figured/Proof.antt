@@ -16,21 +16,6 @@ returns-2 c = figured-above _ _ (omega arith)
 returns-3 : tie.Need-returns-3
 returns-3 c = figured-one _ _ (omega arith) (omega arith)
 
-sub-ways : tie.Need-sub-ways
-sub-ways c = search needs
-
-cast-ways : tie.Need-cast-ways
-cast-ways c = search needs
-
-sub-ways-2 : tie.Need-sub-ways-2
-sub-ways-2 c = search needs
-
-cast-ways-2 : tie.Need-cast-ways-2
-cast-ways-2 c = search needs
-
-ways-requires : tie.Need-ways-requires
-ways-requires c κs = search needs
-
 mul-result : tie.Need-mul-result
 mul-result c =
     let s = choose-largest (c .before .before .before .before .args .n - 1) (c .before .before .before .before .args .c - 1) (omega arith) in
@@ -51,11 +36,11 @@ figured-spec =
     returns
     returns-2
     returns-3
-    sub-ways
-    cast-ways
-    sub-ways-2
-    cast-ways-2
-    ways-requires
+    (λ c. search needs)
+    (λ c. search needs)
+    (λ c. search needs)
+    (λ c. search needs)
+    (λ c κs. search needs)
     mul-result
     cast-result
     returns-4)

@@ -17,25 +17,10 @@ abbrev μ-loop : tie.MeasureT-loop
 loop-holds : tie.Need-loop-holds Inv-loop μ-loop
 loop-holds c = (omega arith, sym (choose-none (c .args .m)))
 
-sub-r : tie.Need-sub-r Inv-loop μ-loop
-sub-r c = omega arith
-
 mul-r : tie.Need-mul-r Inv-loop μ-loop
 mul-r c =
     let f = way-fits (c .before .before .args .m) (c .before .loop .j) (c .before .loop .r) (c .before .loop .inv .1) (omega arith) in
     omega arith
-
-add-r : tie.Need-add-r Inv-loop μ-loop
-add-r c = omega arith
-
-div-r : tie.Need-div-r Inv-loop μ-loop
-div-r c = omega arith
-
-add-j : tie.Need-add-j Inv-loop μ-loop
-add-j c = omega arith
-
-loop-less : tie.Need-loop-less Inv-loop μ-loop
-loop-less c = omega arith
 
 loop-again : tie.Need-loop-again Inv-loop μ-loop
 loop-again c = (omega arith, way-on (c .before .before .args .m) (c .before .loop .j) (c .before .loop .r) (c .before .loop .inv .1))
@@ -50,11 +35,11 @@ ways-spec =
     Inv-loop
     μ-loop
     loop-holds
-    sub-r
+    (λ c. omega arith)
     mul-r
-    add-r
-    div-r
-    add-j
-    loop-less
+    (λ c. omega arith)
+    (λ c. omega arith)
+    (λ c. omega arith)
+    (λ c. omega arith)
     loop-again
     returns)

@@ -17,7 +17,7 @@ use Rattle.lowering.specs.Collect.{Entry, over}
 use Rattle.equal.specs.Canonical.{Written, numbers, numbersFields, numbersPiece, numbersItems, renumbered, renumberedFields, renumberedPiece, renumberedItems, placeOf, canonical, numbersList, numbersWritten, eachEntry, renumberedWritten, canonicalWritten}
 use Rattle.equal.specs.Equal.{entryEncoded, listEncoded}
 use Rattle.equal.specs.Renaming.{Formed, FitEntries, FormedWritten}
-use Rattle.equal.proofs.Places.{place-most}
+use Rattle.equal.proofs.PlacesByAppearance.{place-most}
 use Rattle.equal.proofs.Renumber.{listed}
 
 -- ---- the grammar
