@@ -17,6 +17,7 @@ pub mod Notes
 pub mod Order
 pub mod Answers
 pub mod RefusalsMet
+pub mod Answered
 pub mod Written
 pub mod Appearance
 pub mod Sites

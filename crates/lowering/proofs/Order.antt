@@ -17,15 +17,10 @@ use Rattle.tree.proofs.Limit.{tree-limit}
 use Rattle.lowering.specs.Refusals.{limitOutside, unknownOptions, smallWork, deeperTree}
 use Rattle.lowering.specs.Answer.{Lent, Result, highestLimit, limitRefused, inForce, afterReading, lowering, outcomeOf, outcome}
 use Rattle.lowering.specs.Answer.Result.{refusal}
+use Rattle.lowering.specs.Table.{Admitted}
 use Rattle.lowering.proofs.Cases.{by-test}
 
 -- ---- by cases
-
--- limit, options and work of which none is refused
-pub record Admitted (limit options : ℕ) (s : Lent) : Type 0 where
-  pub allowed : limitRefused limit ≡ false
-  pub known : options ≤ 15
-  pub roomy : 65536 ≤ s .workSlice
 
 module _ (limit options : ℕ) (tree : List ℕ) (s : Lent) where
   -- what holds of the refusals in front and of what comes of the reading holds of the lowering

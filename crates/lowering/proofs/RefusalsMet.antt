@@ -26,12 +26,12 @@ use Rattle.lowering.specs.Weight.{weight, walked}
 use Rattle.lowering.specs.Collect.{Visit, newIn, newInPiece, isContainer, markOf, marked, visits, visitsFields, visitsPiece, visitsItems, bare, firstRefusal, entries, excludedIn}
 use Rattle.lowering.specs.Answer.{Lent, Result, fits, fitted, collected, afterWalk, top, inForce, afterReading, lowering, outcomeOf, outcome}
 use Rattle.lowering.specs.Answer.Result.{refusal, lowered}
-use Rattle.lowering.specs.Table.{Meets, MeetsIn, MeetsField, MeetsPiece, MeetsItem, TreeMeets, Five, Six}
+use Rattle.lowering.specs.Table.{Meets, MeetsIn, MeetsField, MeetsPiece, MeetsItem, TreeMeets, Five, Six, Admitted}
 use Rattle.lowering.specs.Table.Meets.{here, below}
 use Rattle.lowering.proofs.Cases.{by-test, by-rule, or-other, rule-4, rule-27}
 use Rattle.lowering.proofs.Falls.{walked-is}
 use Rattle.lowering.proofs.Answers.{ByWalk, walk-refuses}
-use Rattle.lowering.proofs.Order.{Admitted, by-order, reading-decides}
+use Rattle.lowering.proofs.Order.{by-order, reading-decides}
 
 -- ---- the first refusal of two lists
 

@@ -29,7 +29,8 @@ use Rattle.lowering.specs.Answer.{Lent, fitted, collected, afterWalk, to
 use Rattle.lowering.proofs.Cases.{by-test, by-shape, object-is, by-rule, and-none, literals-24, declarations-4, step-same, rewritten-same}
 use Rattle.lowering.proofs.Falls.{walked-is}
 use Rattle.lowering.proofs.Notes.{AllNotes, both}
-use Rattle.lowering.proofs.Order.{Admitted, reading-decides}
+use Rattle.lowering.specs.Table.{Admitted}
+use Rattle.lowering.proofs.Order.{reading-decides}
 use Rattle.lowering.proofs.Accepted.{NoHoles, Proper, ProperFields, ProperPiece, ProperItems, accepted-good}
 use Rattle.lowering.proofs.Accepted.Proper.{proper}
 use Rattle.lowering.proofs.ItemLaws.{gather-none as none-in, any-empty}

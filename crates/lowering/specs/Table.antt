@@ -1,21 +1,25 @@
--- Where refusals 5 and 6 are met (document 01, 'What the lowering hands back', the table), said of the walk without its levels.
--- That the walk refuses there and nowhere else is shown in proofs/RefusalsMet.antt.
-use Prim.Native.Nat.{ℕ, suc}
+-- The table of refusals (document 01, 'What the lowering hands back'): where 5 and 6 are met, said of the walk without its levels, and when
+-- each number is answered. That the walk refuses there and nowhere else is shown in proofs/RefusalsMet.antt, the table in proofs/Answered.antt.
+use Prim.Native.Nat.{ℕ, suc, _≤_, _<_}
 use mathlib.Core.Path.{_≡_}
 use mathlib.Core.Bool.{true, false, _||_}
 use mathlib.Core.List.{List}
-use Rattle.tree.specs.Tree.{Node, Fields, Piece, Items}
+use Rattle.tree.specs.Tree.{Node, Fields, Piece, Items, encode}
 use Rattle.tree.specs.Tree.Node.{node}
 use Rattle.tree.specs.Grammar.Stage.{input}
 use Rattle.tree.specs.Read.{readTree}
-use Rattle.tree.specs.Read.Got.{got}
+use Rattle.tree.specs.Read.Got.{got, refused}
+use Rattle.tree.specs.Read.Refusal.{notATree, tooDeep}
 use Rattle.lowering.specs.Parts.{is, nodeAt}
 use Rattle.lowering.specs.Made.{Context}
 use Rattle.lowering.specs.Patterns.{hasArrayRestOverObjectRest}
 use Rattle.lowering.specs.Declarations.{declarationLacksForm}
 use Rattle.lowering.specs.Assignments.{target, isTop, topLacksForm}
 use Rattle.lowering.specs.Walk.{rewrite, within}
-use Rattle.lowering.specs.Answer.{top}
+use Rattle.lowering.specs.Weight.{walked}
+use Rattle.lowering.specs.Collect.{bare, numbered, visits, firstRefusal, entries, excludedIn, helperMask, namesOf, listBytes}
+use Rattle.lowering.specs.Refusals.{limitOutside, unknownOptions, smallWork, noTree, deeperTree, restBelowArrayRest, keyWithoutForm, tooLong}
+use Rattle.lowering.specs.Answer.{Lent, Result, Outcome, fits, limitRefused, inForce, outcomeOf, top}
 
 -- ---- what the walk meets
 
@@ -64,3 +68,60 @@ pub data Five (c : Context) (n : Node) : Type 0 where
 pub data Six (c : Context) (n : Node) : Type 0 where
   declaration : is 4 n ≡ true → declarationLacksForm c n ≡ true → Six c n
   assignment : is 27 n ≡ true → hasArrayRestOverObjectRest (target n) ≡ false → isTop (target n) ≡ true → topLacksForm n ≡ true → Six c n
+
+-- ---- the table, each line with what comes before it
+
+-- limit, options and work of which none is refused
+pub record Admitted (limit options : ℕ) (s : Lent) : Type 0 where
+  pub allowed : limitRefused limit ≡ false
+  pub known : options ≤ 15
+  pub roomy : 65536 ≤ s .workSlice
+
+-- the tree that is accepted, and the result that it would have
+pub record Accepted (limit options : ℕ) (tree : List ℕ) (s : Lent) (n : Node) (next : ℕ) : Type 0 where
+  pub admitted : Admitted limit options s
+  pub end : ℕ
+  pub read : readTree input limit tree ≡ got n end next
+
+-- the first refusal that the walk meets, 0 for none; tree and list of the result
+abbrev pub met : Node → ℕ → ℕ
+met n next = firstRefusal (visits next 0 (walked top n))
+
+abbrev pub resultTree : Node → ℕ → List ℕ
+resultTree n next =
+    let vs = visits next 0 (walked top n) in
+    let m = bare next (walked top n) in
+    encode (numbered (namesOf m (entries vs) (excludedIn vs)) m)
+
+abbrev pub resultList : Node → ℕ → List ℕ
+resultList n next =
+    let vs = visits next 0 (walked top n) in
+    listBytes (namesOf (bare next (walked top n)) (entries vs) (excludedIn vs)) (entries vs) (excludedIn vs)
+
+-- what is handed back, by the line of the table that applies
+pub data HandedBack (limit options : ℕ) (tree : List ℕ) (s : Lent) : Result → Type 0 where
+  nine : limitRefused limit ≡ true → HandedBack limit options tree s (Result.refusal limitOutside)
+  one : limitRefused limit ≡ false → 15 < options → HandedBack limit options tree s (Result.refusal unknownOptions)
+  two : limitRefused limit ≡ false → options ≤ 15 → s .workSlice < 65536 → HandedBack limit options tree s (Result.refusal smallWork)
+  -- the reader's: the first of the two that is met in byte order, at one byte 3 (tree's proofs say which bytes these are)
+  three : Admitted limit options s → readTree input limit tree ≡ refused notATree → HandedBack limit options tree s (Result.refusal noTree)
+  four : Admitted limit options s → readTree input limit tree ≡ refused tooDeep → HandedBack limit options tree s (Result.refusal deeperTree)
+  -- the walk's: the first that is met
+  five : {n : Node} {next : ℕ} → Accepted limit options tree s n next → met n next ≡ restBelowArrayRest → Meets Five top n
+      → HandedBack limit options tree s (Result.refusal restBelowArrayRest)
+  six : {n : Node} {next : ℕ} → Accepted limit options tree s n next → met n next ≡ keyWithoutForm → Meets Six top n
+      → HandedBack limit options tree s (Result.refusal keyWithoutForm)
+  -- the last
+  seven : {n : Node} {next : ℕ} → Accepted limit options tree s n next → (Meets Five top n → ⊥) → (Meets Six top n → ⊥)
+      → fits s (resultTree n next) (resultList n next) ≡ false → HandedBack limit options tree s (Result.refusal tooLong)
+  -- none of them
+  zero : {n : Node} {next : ℕ} → Accepted limit options tree s n next → (Meets Five top n → ⊥) → (Meets Six top n → ⊥)
+      → fits s (resultTree n next) (resultList n next) ≡ true
+      → HandedBack limit options tree s (Result.lowered (helperMask (bare next (walked top n))) (inForce options) (resultTree n next) (resultList n next))
+
+-- every call hands back what its line says, and no line says anything else: each number is answered exactly if its line applies
+pub record IsTable (limit options : ℕ) (tree : List ℕ) (s : Lent) (o : Outcome) : Type 0 where
+  pub result : Result
+  pub applies : HandedBack limit options tree s result
+  pub is : o ≡ outcomeOf s result
+  pub only : (r : Result) → HandedBack limit options tree s r → o ≡ outcomeOf s r

@@ -7,13 +7,13 @@ use Prim.Native.Nat.{ℕ}
 use lib.Dec.{eqb}
 use Rattle.tree.specs.Tree.{Node, Items}
 use Rattle.tree.specs.Tree.Node.{node}
-use Rattle.lowering.specs.Parts.{is, nodeAt}
+use Rattle.lowering.specs.Parts.{is, pieceIn, nodeAt}
 use Rattle.lowering.specs.Made.{Context}
 use Rattle.lowering.specs.Collect.{Name}
 use Rattle.overlay.specs.Objects.{Key, Value, Props, put}
 use Rattle.overlay.specs.Objects.Value.{outer, inner}
 use Rattle.overlay.specs.Objects.Props.{empty, entry}
-use Rattle.overlay.specs.Run.{Step, History, Reply, Outside, Out, then, ask, putEntry, pour, create, take, copy, flags, isComputed, isWritten, makes, callsS, keyed, defined, run, lay, layAll}
+use Rattle.overlay.specs.Run.{Step, History, Reply, Outside, Out, then, ask, putEntry, pour, create, take, isBlank, copy, flags, isComputed, isWritten, makes, callsS, keyed, defined, run, lay, layAll}
 use Rattle.overlay.specs.Run.Step.{evaluates, computes, names, converts, lists, reads}
 use Rattle.overlay.specs.Run.Reply.{gives, throws}
 use Rattle.overlay.specs.Run.Out.{ok, threw, beyond, stuck}
@@ -64,11 +64,10 @@ module _ (W : Outside) where
       (then-moves (ask (reads (outer n) k) (W .value h (reads (outer n) k)) h) (λ h v. take W n ks (put k (outer v) o) h) (ask-moves (reads (outer n) k) (W .value h (reads (outer n) k)) h) (λ h v. take-moves n ks (put k (outer v) o) h))
       (take-moves n ks o h)
 
-  copy-moves : (v : Value) (o : Props) (h : History) → Moves (copy W v o h)
+  copy-moves : (b : Bool) (v : Value) (o : Props) (h : History) → Moves (copy W b v o h)
   unfolding copy
-  copy-moves (inner empty) o h = tt
-  copy-moves (inner (entry k v q)) o h = pour-moves (entry k v q) (entry k v q) o (lists (inner (entry k v q)) ∷ h)
-  copy-moves (outer n) o h =
+  copy-moves b (inner p) o h = cond-moves b _ _ tt (pour-moves p p o (lists (inner p) ∷ h))
+  copy-moves b (outer n) o h =
       cond-moves (W .tame n) _ _
       (cond-moves (W .null n) _ _ tt (then-moves (ask (lists (outer n)) (W .keys h n) h) (λ h ks. take W n ks o h) (ask-moves (lists (outer n)) (W .keys h n) h) (λ h ks. take-moves n ks o h))) tt
 
@@ -94,7 +93,7 @@ module _ (W : Outside) where
       (then-moves (ask (how (node at k fs)) (W .value h (how (node at k fs))) h) (λ h v. ok h (outer v)) (ask-moves (how (node at k fs)) (W .value h (how (node at k fs))) h) (λ h v. tt))
 
   mutual
-    unfolding run
+    unfolding run nodeAt pieceIn
 
     run-moves : {n : Node} → Plain n → (how : Node → Step) (h : History) → Moves (run W how n h)
     run-moves (Plain.opaque {n = n} o) how h = opaque-moves how n h o
@@ -105,7 +104,7 @@ module _ (W : Outside) where
     parts-move (next-part {p = p} {ps = ps} r rs) o h = then-moves (lay W p o h) (λ h o. layAll W ps o h) (part-moves r o h) (λ h o. parts-move rs o h)
 
     part-moves : {p : Node} → PlainPart p → (o : Props) (h : History) → Moves (lay W p o h)
-    part-moves (spread {n = n} r) o h = then-moves (run W (λ n. evaluates n) n h) (λ h v. copy W v o h) (run-moves r (λ n. evaluates n) h) (λ h v. copy-moves v o h)
+    part-moves (spread {n = n} r) o h = then-moves (run W (λ n. evaluates n) n h) (λ h v. copy W (isBlank n) v o h) (run-moves r (λ n. evaluates n) h) (λ h v. copy-moves (isBlank n) v o h)
     part-moves (property {at = at} {k = k} {v = v} {f = f} m y q r) o h =
         then-moves (defined W (propertyOf at k v f) (λ how h. run W how v h) h) (λ h e. ok h (putEntry e o))
         (defined-moves (propertyOf at k v f) (λ how h. run W how v h) h m y (λ how h. run-moves r how h)) (λ h e. tt)

@@ -14,7 +14,8 @@ use Rattle.overlay.specs.Objects.{Key, Value, Props, put, overlay, owns,
 use Rattle.overlay.specs.Objects.Key.{name}
 use Rattle.overlay.specs.Objects.Value.{outer, inner}
 use Rattle.overlay.specs.Objects.Props.{empty, entry}
-use Rattle.overlay.specs.Run.{Step, History, Reply, Outside, Out, then, ask, made, putEntry, pour, create, defineS, defineAll, take, takeAll, copy, copyS, atOdd, atEven, spreads, opaque, flags, isComputed, isWritten, spelled, makes, callsS, keyed, defined, run, lay, layAll, runAll, layAt, layIn, argsAt, argsIn, runAt, runIn}
+use Rattle.overlay.specs.Run.{Step, History, Reply, Outside, Out, Argument, then, ask, made, putEntry, pour, create, defineS, defineAll, take, takeAll, lacksSymbol, takeListed, isBlank, copy, copyS, atOdd, atEven, spreads, opaque, flags, isComputed, isWritten, spelled, makes, callsS, keyed, defined, run, lay, layAll, runAll, layAt, layIn, argsAt, argsIn, runAt, runIn}
+use Rattle.overlay.specs.Run.Argument.{passed}
 use Rattle.overlay.specs.Run.Step.{evaluates, computes, names, converts, lists, reads}
 use Rattle.overlay.specs.Run.Reply.{gives, throws}
 use Rattle.overlay.specs.Run.Out.{ok, threw, beyond, stuck}
@@ -89,28 +90,29 @@ module _ (W : Outside) where
       (from-ask (reads (outer n) k) (W .value h (reads (outer n) k)) h)
       (λ h v. from-then h (defineS W k (outer v) o h) (λ h o. takeAll W n ks o h) (from-define k (outer v) o h) (λ h o. from-take-all n ks o h))
 
-  from-copy : (v : Value) (o : Props) (h : History) → From h (copy W v o h)
+  from-copy : (b : Bool) (v : Value) (o : Props) (h : History) → From h (copy W b v o h)
   unfolding copy
-  from-copy (inner empty) o h = from-ok h o
-  from-copy (inner (entry k v q)) o h =
-      from-next (lists (inner (entry k v q))) h _ (from-pour (create W) (λ k v o h. from-ok h (put k v o)) (entry k v q) (entry k v q) o (lists (inner (entry k v q)) ∷ h))
-  from-copy (outer n) o h =
+  from-copy b (inner p) o h =
+      from-cond h b _ _ (from-ok h o) (from-next (lists (inner p)) h _ (from-pour (create W) (λ k v o h. from-ok h (put k v o)) p p o (lists (inner p) ∷ h)))
+  from-copy b (outer n) o h =
       from-cond h (W .tame n) _ _
       (from-cond h (W .null n) _ _ (from-ok h o) (from-then h (ask (lists (outer n)) (W .keys h n) h) (λ h ks. take W n ks o h) (from-ask (lists (outer n)) (W .keys h n) h) (λ h ks. from-take n ks o h)))
       (from-beyond h n)
 
-  from-copy-s : (v : Value) (o : Props) (h : History) → From h (copyS W v o h)
+  from-listed : (n : ℕ) (ks : List Key) (o : Props) (h : History) → From h (takeListed W n ks o h)
+  from-listed n ks o h =
+      from-cond h (lacksSymbol W h n ks) _ _ (from-threw h (W .typeError)) (from-take-all n (W .gathers h (filter (λ k. W .shown h n k) ks)) o h)
+
+  from-copy-s : (b : Bool) (v : Value) (o : Props) (h : History) → From h (copyS W b v o h)
   unfolding copyS
-  from-copy-s (inner empty) o h = from-ok h o
-  from-copy-s (inner (entry k v q)) o h =
-      let p = entry k v q in
+  from-copy-s b (inner p) o h =
       let h′ = lists (inner p) ∷ h in
-      from-next (lists (inner p)) h _ (from-pour (defineS W) from-define p (pick (outer (W .undefined)) (W .gathers h′ (keysOf p)) p) o h′)
-  from-copy-s (outer n) o h =
+      from-cond h b _ _ (from-ok h o)
+      (from-next (lists (inner p)) h _ (from-pour (defineS W) from-define p (pick (outer (W .undefined)) (W .gathers h′ (keysOf p)) p) o h′))
+  from-copy-s b (outer n) o h =
       from-cond h (W .tame n) _ _
       (from-cond h (W .loose n) _ _ (from-ok h o)
-      (from-then h (ask (lists (outer n)) (W .keys h n) h) (λ h ks. takeAll W n (W .gathers h (filter (λ k. W .shown h n k) ks)) o h) (from-ask (lists (outer n)) (W .keys h n) h)
-      (λ h ks. from-take-all n (W .gathers h (filter (λ k. W .shown h n k) ks)) o h)))
+      (from-then h (ask (lists (outer n)) (W .keys h n) h) (λ h ks. takeListed W n ks o h) (from-ask (lists (outer n)) (W .keys h n) h) (λ h ks. from-listed n ks o h)))
       (from-beyond h n)
 
   from-define-all : (p o : Props) (h : History) → From h (defineAll W p o h)
@@ -118,19 +120,19 @@ module _ (W : Outside) where
   from-define-all (entry k v p) o h = from-cond h (W .meddled h) _ _ (from-threw h (W .typeError)) (from-ok h (overlay (entry k v p) o))
 
   mutual
-    from-odd : (vs : List Value) (o : Props) (h : History) → From h (atOdd W vs o h)
+    from-odd : (vs : List Argument) (o : Props) (h : History) → From h (atOdd W vs o h)
     from-odd [] o h = from-ok h o
-    from-odd (v ∷ vs) o h = from-then h (copyS W v o h) (λ h o. atEven W vs o h) (from-copy-s v o h) (λ h o. from-even vs o h)
+    from-odd (passed b v ∷ vs) o h = from-then h (copyS W b v o h) (λ h o. atEven W vs o h) (from-copy-s b v o h) (λ h o. from-even vs o h)
 
-    from-even : (vs : List Value) (o : Props) (h : History) → From h (atEven W vs o h)
+    from-even : (vs : List Argument) (o : Props) (h : History) → From h (atEven W vs o h)
     from-even [] o h = from-ok h o
-    from-even (outer n ∷ vs) o h = from-stuck h
-    from-even (inner p ∷ vs) o h = from-then h (defineAll W p o h) (λ h o. atOdd W vs o h) (from-define-all p o h) (λ h o. from-odd vs o h)
+    from-even (passed b (outer n) ∷ vs) o h = from-stuck h
+    from-even (passed b (inner p) ∷ vs) o h = from-then h (defineAll W p o h) (λ h o. atOdd W vs o h) (from-define-all p o h) (λ h o. from-odd vs o h)
 
-  from-spreads : (vs : List Value) (h : History) → From h (spreads W vs h)
+  from-spreads : (vs : List Argument) (h : History) → From h (spreads W vs h)
   from-spreads [] h = from-stuck h
-  from-spreads (outer n ∷ vs) h = from-stuck h
-  from-spreads (inner o ∷ vs) h = from-odd vs o h
+  from-spreads (passed b (outer n) ∷ vs) h = from-stuck h
+  from-spreads (passed b (inner o) ∷ vs) h = from-odd vs o h
 
   from-keyed : (p : Node) (h : History) → From h (keyed W p h)
   unfolding keyed
@@ -165,7 +167,7 @@ module _ (W : Outside) where
     from-lay : (p : Node) (o : Props) (h : History) → From h (lay W p o h)
     from-lay (node at k fs) o h =
         from-cond h (eqb k 26) _ _
-        (from-then h (runAt W (λ n. evaluates n) fs 0 h) (λ h v. copy W v o h) (from-at fs 0 (λ n. evaluates n) h) (λ h v. from-copy v o h))
+        (from-then h (runAt W (λ n. evaluates n) fs 0 h) (λ h v. copy W (isBlank (nodeAt 0 (node at k fs))) v o h) (from-at fs 0 (λ n. evaluates n) h) (λ h v. from-copy (isBlank (nodeAt 0 (node at k fs))) v o h))
         (from-then h (defined W (node at k fs) (λ how h. runAt W how fs 1 h) h) (λ h e. ok h (putEntry e o)) (from-defined (node at k fs) (λ how h. runAt W how fs 1 h) h (λ how h. from-at fs 1 how h)) (λ h e. from-ok h (putEntry e o)))
 
     from-all : (ps : Items) (o : Props) (h : History) → From h (layAll W ps o h)
@@ -177,8 +179,8 @@ module _ (W : Outside) where
     from-run-all none h = from-ok h []
     from-run-all (hole ns) h = from-run-all ns h
     from-run-all (item n ns) h =
-        from-then h (run W (λ n. evaluates n) n h) (λ h v. then (runAll W ns h) (λ h vs. ok h (v ∷ vs))) (from-run n (λ n. evaluates n) h)
-        (λ h v. from-then h (runAll W ns h) (λ h vs. ok h (v ∷ vs)) (from-run-all ns h) (λ h vs. from-ok h (v ∷ vs)))
+        from-then h (run W (λ n. evaluates n) n h) (λ h v. then (runAll W ns h) (λ h vs. ok h (passed (isBlank n) v ∷ vs))) (from-run n (λ n. evaluates n) h)
+        (λ h v. from-then h (runAll W ns h) (λ h vs. ok h (passed (isBlank n) v ∷ vs)) (from-run-all ns h) (λ h vs. from-ok h (passed (isBlank n) v ∷ vs)))
 
     from-lay-at : (fs : Fields) (i : ℕ) (o : Props) (h : History) → From h (layAt W fs i o h)
     from-lay-at done i o h = from-ok h o

@@ -9,12 +9,14 @@ use Rattle.tree.specs.Tree.Node.{node}
 use Rattle.tree.specs.Tree.Fields.{done, absent, field}
 use Rattle.tree.specs.Tree.Piece.{one, list, text, byte, mark, number}
 use Rattle.tree.specs.Tree.Items.{none, hole, item}
+use Rattle.lowering.specs.Parts.{nodeAt}
 use Rattle.overlay.specs.Objects.{Key, Value, Props, put, owns, keysOf, pick, filter}
 use Rattle.overlay.specs.Objects.Value.{outer, inner}
 use Rattle.overlay.specs.Objects.Props.{empty, entry}
-use Rattle.overlay.specs.Run.{Step, History, Outside, Out, Entry, then, ask, made, putEntry, pour, create, defineS, defineAll, take, takeAll, copy, copyS, atOdd, atEven, spreads, callsS, defined, run, lay, layAll, runAll, layAt, layIn, argsAt, argsIn, runAt}
+use Rattle.overlay.specs.Run.{Step, History, Outside, Out, Argument, Entry, then, ask, made, putEntry, pour, create, defineS, defineAll, take, takeAll, lacksSymbol, takeListed, isBlank, copy, copyS, atOdd, atEven, spreads, callsS, defined, run, lay, layAll, runAll, layAt, layIn, argsAt, argsIn, runAt}
 use Rattle.overlay.specs.Run.Step.{evaluates, lists, reads}
 use Rattle.overlay.specs.Run.Out.{ok, threw, beyond, stuck}
+use Rattle.overlay.specs.Run.Argument.{passed}
 use Rattle.overlay.specs.Run.Entry.{pair}
 use Rattle.overlay.proofs.LaidOn.{Canon, canon-put, canon-overlay}
 
@@ -29,9 +31,9 @@ abbrev pub Good : Value → Type 0
 Good (outer n) = Unit {0}
 Good (inner p) = Canon p
 
-abbrev AllGood : List Value → Type 0
+abbrev AllGood : List Argument → Type 0
 AllGood [] = Unit {0}
-AllGood (v ∷ vs) = Good v × AllGood vs
+AllGood (passed b v ∷ vs) = Good v × AllGood vs
 
 module _ {A B : Type 0} (P : A → Type 0) (Q : B → Type 0) where
   holds-then : (r : Out A) (f : History → A → Out B) → Holds P r → ((h : History) (a : A) → P a → Holds Q (f h a)) → Holds Q (then r f)
@@ -57,7 +59,7 @@ C o = Canon o
 abbrev G : Value → Type 0
 G v = Good v
 
-abbrev GG : List Value → Type 0
+abbrev GG : List Argument → Type 0
 GG vs = AllGood vs
 
 made-good : (r : Out Props) → Holds C r → Holds G (made r)
@@ -94,45 +96,42 @@ module _ (W : Outside) where
       holds-any C (ask (reads (outer n) k) (W .value h (reads (outer n) k)) h) (λ h v. then (defineS W k (outer v) o h) (λ h o. takeAll W n ks o h))
       (λ h v. holds-then C C (defineS W k (outer v) o h) (λ h o. takeAll W n ks o h) (define-canon k (outer v) o h c) (λ h o c. take-all-canon n ks o h c))
 
-  copy-canon : (v : Value) (o : Props) (h : History) → Canon o → Holds C (copy W v o h)
+  copy-canon : (b : Bool) (v : Value) (o : Props) (h : History) → Canon o → Holds C (copy W b v o h)
   unfolding copy
-  copy-canon (inner empty) o h c = c
-  copy-canon (inner (entry k v q)) o h c = pour-canon (create W) create-canon (entry k v q) (entry k v q) o (lists (inner (entry k v q)) ∷ h) c
-  copy-canon (outer n) o h c =
+  copy-canon b (inner p) o h c = holds-cond C b _ _ c (pour-canon (create W) create-canon p p o (lists (inner p) ∷ h) c)
+  copy-canon b (outer n) o h c =
       holds-cond C (W .tame n) _ _
       (holds-cond C (W .null n) _ _ c (holds-any C (ask (lists (outer n)) (W .keys h n) h) (λ h ks. take W n ks o h) (λ h ks. take-canon n ks o h c))) tt
 
-  copy-s-canon : (v : Value) (o : Props) (h : History) → Canon o → Holds C (copyS W v o h)
+  copy-s-canon : (b : Bool) (v : Value) (o : Props) (h : History) → Canon o → Holds C (copyS W b v o h)
   unfolding copyS
-  copy-s-canon (inner empty) o h c = c
-  copy-s-canon (inner (entry k v q)) o h c =
-      let p = entry k v q in
+  copy-s-canon b (inner p) o h c =
       let h′ = lists (inner p) ∷ h in
-      pour-canon (defineS W) define-canon p (pick (outer (W .undefined)) (W .gathers h′ (keysOf p)) p) o h′ c
-  copy-s-canon (outer n) o h c =
+      holds-cond C b _ _ c (pour-canon (defineS W) define-canon p (pick (outer (W .undefined)) (W .gathers h′ (keysOf p)) p) o h′ c)
+  copy-s-canon b (outer n) o h c =
       holds-cond C (W .tame n) _ _
       (holds-cond C (W .loose n) _ _ c
-      (holds-any C (ask (lists (outer n)) (W .keys h n) h) (λ h ks. takeAll W n (W .gathers h (filter (λ k. W .shown h n k) ks)) o h)
-      (λ h ks. take-all-canon n (W .gathers h (filter (λ k. W .shown h n k) ks)) o h c))) tt
+      (holds-any C (ask (lists (outer n)) (W .keys h n) h) (λ h ks. takeListed W n ks o h)
+      (λ h ks. holds-cond C (lacksSymbol W h n ks) _ _ tt (take-all-canon n (W .gathers h (filter (λ k. W .shown h n k) ks)) o h c)))) tt
 
   define-all-canon : (p o : Props) (h : History) → Canon o → Holds C (defineAll W p o h)
   define-all-canon empty o h c = c
   define-all-canon (entry k v p) o h c = holds-cond C (W .meddled h) _ _ tt (canon-overlay (entry k v p) o c)
 
   mutual
-    odd-canon : (vs : List Value) (o : Props) (h : History) → Canon o → Holds C (atOdd W vs o h)
+    odd-canon : (vs : List Argument) (o : Props) (h : History) → Canon o → Holds C (atOdd W vs o h)
     odd-canon [] o h c = c
-    odd-canon (v ∷ vs) o h c = holds-then C C (copyS W v o h) (λ h o. atEven W vs o h) (copy-s-canon v o h c) (λ h o c. even-canon vs o h c)
+    odd-canon (passed b v ∷ vs) o h c = holds-then C C (copyS W b v o h) (λ h o. atEven W vs o h) (copy-s-canon b v o h c) (λ h o c. even-canon vs o h c)
 
-    even-canon : (vs : List Value) (o : Props) (h : History) → Canon o → Holds C (atEven W vs o h)
+    even-canon : (vs : List Argument) (o : Props) (h : History) → Canon o → Holds C (atEven W vs o h)
     even-canon [] o h c = c
-    even-canon (outer n ∷ vs) o h c = tt
-    even-canon (inner p ∷ vs) o h c = holds-then C C (defineAll W p o h) (λ h o. atOdd W vs o h) (define-all-canon p o h c) (λ h o c. odd-canon vs o h c)
+    even-canon (passed b (outer n) ∷ vs) o h c = tt
+    even-canon (passed b (inner p) ∷ vs) o h c = holds-then C C (defineAll W p o h) (λ h o. atOdd W vs o h) (define-all-canon p o h c) (λ h o c. odd-canon vs o h c)
 
-  spreads-canon : (vs : List Value) (h : History) → AllGood vs → Holds C (spreads W vs h)
+  spreads-canon : (vs : List Argument) (h : History) → AllGood vs → Holds C (spreads W vs h)
   spreads-canon [] h g = tt
-  spreads-canon (outer n ∷ vs) h g = tt
-  spreads-canon (inner o ∷ vs) h g = odd-canon vs o h (g .0)
+  spreads-canon (passed b (outer n) ∷ vs) h g = tt
+  spreads-canon (passed b (inner o) ∷ vs) h g = odd-canon vs o h (g .0)
 
   mutual
     unfolding run
@@ -148,7 +147,7 @@ module _ (W : Outside) where
     lay-good : (p : Node) (o : Props) (h : History) → Canon o → Holds C (lay W p o h)
     lay-good (node at k fs) o h c =
         holds-cond C (eqb k 26) _ _
-        (holds-any C (runAt W (λ n. evaluates n) fs 0 h) (λ h v. copy W v o h) (λ h v. copy-canon v o h c))
+        (holds-any C (runAt W (λ n. evaluates n) fs 0 h) (λ h v. copy W (isBlank (nodeAt 0 (node at k fs))) v o h) (λ h v. copy-canon (isBlank (nodeAt 0 (node at k fs))) v o h c))
         (holds-any C (defined W (node at k fs) (λ how h. runAt W how fs 1 h) h) (λ h e. ok h (putEntry e o)) (λ h e. entry-canon e o c))
 
     all-good : (ps : Items) (o : Props) (h : History) → Canon o → Holds C (layAll W ps o h)
@@ -160,8 +159,8 @@ module _ (W : Outside) where
     run-all-good none h = tt
     run-all-good (hole ns) h = run-all-good ns h
     run-all-good (item n ns) h =
-        holds-then G GG (run W (λ n. evaluates n) n h) (λ h v. then (runAll W ns h) (λ h vs. ok h (v ∷ vs))) (run-good n (λ n. evaluates n) h)
-        (λ h v g. holds-then GG GG (runAll W ns h) (λ h vs. ok h (v ∷ vs)) (run-all-good ns h) (λ h vs gs. (g, gs)))
+        holds-then G GG (run W (λ n. evaluates n) n h) (λ h v. then (runAll W ns h) (λ h vs. ok h (passed (isBlank n) v ∷ vs))) (run-good n (λ n. evaluates n) h)
+        (λ h v g. holds-then GG GG (runAll W ns h) (λ h vs. ok h (passed (isBlank n) v ∷ vs)) (run-all-good ns h) (λ h vs gs. (g, gs)))
 
     at-good : (fs : Fields) (i : ℕ) (o : Props) (h : History) → Canon o → Holds C (layAt W fs i o h)
     at-good done i o h c = c

@@ -1,18 +1,20 @@
 -- The overlay law of the lowering.
 -- Assumes nothing.
 use mathlib.Core.Path.{_≡_, refl, sym, ap, _∙_}
-use mathlib.Core.Bool.{Bool, true, cond, _&&_}
+use mathlib.Core.Bool.{Bool, true, false, cond, _&&_}
 use mathlib.Core.List.{List, _++_, append-assoc, append-nil}
 use Prim.Native.Nat.{ℕ}
 use Rattle.tree.specs.Tree.{Node, Items, marks, marksItems}
 use Rattle.tree.specs.Tree.Items.{none, hole, item}
-use Rattle.lowering.specs.Parts.{is, nodeAt, itemsAt, numberAt, pieceIn, any, _+++_}
+use Rattle.lowering.specs.Parts.{is, nodeAt, itemsAt, numberAt, pieceIn, isEmpty, only, any, _+++_}
 use Rattle.lowering.specs.Made.{Context}
-use Rattle.lowering.specs.Literals.{literal}
+use Rattle.lowering.specs.Made.{S}
+use Rattle.lowering.specs.Literals.{opened, closed, scan, literal}
+use Rattle.lowering.specs.Literals.Call.{no-call, call}
 use Rattle.lowering.specs.Collect.{Name}
 use Rattle.overlay.specs.Objects.{Value, Props}
 use Rattle.overlay.specs.Objects.Props.{empty}
-use Rattle.overlay.specs.Run.{Step, History, Outside, Out, Entry, then, made, putEntry, makes, keyed, defined, run, lay, layAll, copy}
+use Rattle.overlay.specs.Run.{Step, History, Outside, Out, Entry, then, made, putEntry, makes, keyed, defined, isBlank, run, lay, layAll, copy}
 use Rattle.overlay.specs.Run.Step.{evaluates, names}
 use Rattle.overlay.specs.Run.Out.{ok, threw, beyond, stuck}
 use Rattle.overlay.specs.Run.Entry.{pair}
@@ -23,6 +25,53 @@ use Rattle.overlay.proofs.PropertiesInTurn.{then-each, run-literal, run
 use Rattle.overlay.proofs.Plainly.{Plain, PlainParts, PlainPart, no-part, next-part, spread, property, propertyOf, plain-rule}
 use Rattle.overlay.proofs.Lowered.{lower, lowerItems, lower-opaque, plain-turns}
 use Rattle.lowering.proofs.Cases.{by-test, and-left, and-right}
+use Rattle.lowering.proofs.Clauses.{scan-spread, scan-other}
+
+-- ---- what is lowered is the literal `{}` where it was, and nowhere else
+
+blank-call : (xs pend ps : Items) → isBlank (scan (call (S xs)) pend ps) ≡ false
+unfolding scan closed isBlank is
+blank-call xs none none = refl
+blank-call xs (hole qs) none = refl
+blank-call xs (item q qs) none = refl
+blank-call xs pend (hole ps) = blank-call xs pend ps
+blank-call xs pend (item p ps) =
+    by-test (is 26 p)
+    (λ e. ap isBlank (scan-spread (call (S xs)) pend p ps e) ∙ blank-call (opened (call (S xs)) pend +++ only (nodeAt 0 p)) none ps)
+    (λ e. ap isBlank (scan-other (call (S xs)) pend p ps e) ∙ blank-call xs (pend +++ only p) ps)
+
+-- a property is pending, or comes
+abbrev Some : Items → Items → Type 0
+Some pend none = isEmpty pend ≡ false
+Some pend (hole ps) = Some pend ps
+Some pend (item p ps) = Unit {0}
+
+some-last : (pend : Items) (p : Node) (ps : Items) → Some (pend +++ only p) ps
+unfolding isEmpty _+++_
+some-last none p none = refl
+some-last (hole qs) p none = refl
+some-last (item q qs) p none = refl
+some-last pend p (hole ps) = some-last pend p ps
+some-last pend p (item q ps) = tt
+
+blank-scan : (pend ps : Items) → Some pend ps → isBlank (scan no-call pend ps) ≡ false
+unfolding scan closed isBlank is itemsAt pieceIn
+blank-scan pend none e = e
+blank-scan pend (hole ps) e = blank-scan pend ps e
+blank-scan pend (item p ps) e =
+    by-test (is 26 p)
+    (λ e. ap isBlank (scan-spread no-call pend p ps e) ∙ blank-call (opened no-call pend +++ only (nodeAt 0 p)) none ps)
+    (λ e. ap isBlank (scan-other no-call pend p ps e) ∙ blank-scan (pend +++ only p) ps (some-last pend p ps))
+
+blank-rule : (at : ℕ) (p : Node) (ps : Items) → isBlank (literal (literalOf at (item p ps))) ≡ false
+unfolding literal isBlank isEmpty is itemsAt pieceIn
+blank-rule at p ps = by-test (any (λ p. is 26 p) (item p ps)) (λ e. rw e (blank-scan none (item p ps) tt)) (λ e. rw e refl)
+
+blank-lower : {n : Node} → Plain n → isBlank (lower n) ≡ isBlank n
+unfolding lower literal isBlank isEmpty any is itemsAt pieceIn
+blank-lower (Plain.opaque o) = ap isBlank (lower-opaque o)
+blank-lower (Plain.literal no-part) = refl
+blank-lower (Plain.literal {at = at} (next-part {p = p} {ps = ps} r rs)) = blank-rule at (lower p) (lowerItems ps)
 
 -- ---- a plain literal, lowered from below, does what it does
 
@@ -45,7 +94,7 @@ module _ (W : Outside) (fair : Fair W) where
       (then-each (keyed W (propertyOf at k v f) h) (λ h key. ap (λ (r : Out Value). then r (λ h v. ok h (pair key v))) (e (λ n. names f key n) h))))
 
   mutual
-    unfolding run lower is
+    unfolding run lower is nodeAt pieceIn
 
     pub plain-run : {n : Node} → Plain n → (how : Node → Step) (h : History) → run W how (lower n) h ≡ run W how n h
     plain-run (Plain.opaque o) how h = ap (λ (n : Node). run W how n h) (lower-opaque o)
@@ -57,7 +106,9 @@ module _ (W : Outside) (fair : Fair W) where
         ap (λ (x : Out Props). then x (λ h o. layAll W (lowerItems ps) o h)) (part-run r o h) ∙ then-each (lay W p o h) (λ h o. parts-run rs o h)
 
     part-run : {p : Node} → PlainPart p → (o : Props) (h : History) → lay W (lower p) o h ≡ lay W p o h
-    part-run (spread r) o h = ap (λ (x : Out Value). then x (λ h v. copy W v o h)) (plain-run r (λ n. evaluates n) h)
+    part-run (spread {n = n} r) o h =
+        ap (λ (x : Out Value). then x (λ h v. copy W (isBlank (lower n)) v o h)) (plain-run r (λ n. evaluates n) h)
+        ∙ ap (λ (b : Bool). then (run W (λ n. evaluates n) n h) (λ h v. copy W b v o h)) (blank-lower r)
     part-run (property {at = at} {k = k} {v = v} {f = f} m y q r) o h =
         ap (λ (x : Node). lay W (propertyOf at x (lower v) f) o h) (lower-opaque q)
         ∙ lay-property at k v (lower v) f (λ how h. plain-run r how h) o h

@@ -9,17 +9,18 @@ use Rattle.tree.specs.Tree.Node.{node}
 use Rattle.tree.specs.Tree.Fields.{done, absent, field}
 use Rattle.tree.specs.Tree.Piece.{one, list, text, byte, mark, number}
 use Rattle.tree.specs.Tree.Items.{none, hole, item}
-use Rattle.lowering.specs.Parts.{is, pieceIn, asNode, asItems, nodeAt, itemsAt, numberAt, only, _+++_}
+use Rattle.lowering.specs.Parts.{is, pieceIn, asNode, asItems, nodeAt, itemsAt, numberAt, isEmpty, only, _+++_}
 use Rattle.lowering.specs.Made.{S, object}
 use Rattle.lowering.specs.Literals.{opened, closed, scan}
 use Rattle.lowering.specs.Literals.Call.{no-call, call}
 use Rattle.overlay.specs.Objects.{Key, Value, Props, put, overlay, keysOf, pick, isName, filter, namesFirst}
 use Rattle.overlay.specs.Objects.Value.{outer, inner}
 use Rattle.overlay.specs.Objects.Props.{empty, entry}
-use Rattle.overlay.specs.Run.{Step, History, Reply, Outside, Out, Entry, then, ask, made, putEntry, pour, create, defineS, defineAll, take, takeAll, copy, copyS, atOdd, spreads, callsS, defined, run, lay, layAll, runAll, layAt, runAt}
+use Rattle.overlay.specs.Run.{Step, History, Reply, Outside, Out, Argument, Entry, then, ask, made, putEntry, pour, create, defineS, defineAll, take, takeAll, lacksSymbol, takeListed, isBlank, copy, copyS, atOdd, spreads, callsS, defined, run, lay, layAll, runAll, layAt, runAt}
 use Rattle.overlay.specs.Run.Step.{evaluates, lists, reads}
 use Rattle.overlay.specs.Run.Reply.{gives, throws}
 use Rattle.overlay.specs.Run.Out.{ok, threw, beyond, stuck}
+use Rattle.overlay.specs.Run.Argument.{passed}
 use Rattle.overlay.specs.Run.Entry.{pair}
 use Rattle.overlay.specs.Law.{Tame, Fair}
 use Rattle.overlay.proofs.LaidOn.{Canon, canon-put, pick-names, overlay-put}
@@ -74,6 +75,11 @@ names-filter f ks e =
     ∙ sym (filter-append f (filter isName ks) (filter (λ k. not (isName k)) ks))
     ∙ ap (λ (l : List Key). filter f l) e
 
+-- an object that lacks nothing lacks no symbol that it lists
+pub none-lacked : (W : Outside) (h : History) (n : ℕ) → ((k : Key) → W .lacks h n k ≡ false) → (ks : List Key) → lacksSymbol W h n ks ≡ false
+none-lacked W h n e [] = refl
+none-lacked W h n e (k ∷ ks) = rw (e k, none-lacked W h n e ks) (by-test (not (isName k)) (λ t. rw t refl) (λ t. rw t refl))
+
 module _ (W : Outside) where
   -- ---- what is run, one equation each
 
@@ -126,9 +132,9 @@ module _ (W : Outside) where
   pub define : Node → History → Out Entry
   define (node at k fs) h = defined W (node at k fs) (λ how h. runAt W how fs 1 h) h
 
-  pub lay-spread : (p : Node) (o : Props) (h : History) → is 26 p ≡ true → lay W p o h ≡ then (run W ev (nodeAt 0 p) h) (λ h v. copy W v o h)
+  pub lay-spread : (p : Node) (o : Props) (h : History) → is 26 p ≡ true → lay W p o h ≡ then (run W ev (nodeAt 0 p) h) (λ h v. copy W (isBlank (nodeAt 0 p)) v o h)
   unfolding run is nodeAt
-  lay-spread (node at k fs) o h e = simp e (ap (λ (r : Out Value). then r (λ h v. copy W v o h)) (run-at ev fs 0 h))
+  lay-spread (node at k fs) o h e = simp e (ap (λ (r : Out Value). then r (λ h v. copy W (isBlank (nodeAt 0 (node at k fs))) v o h)) (run-at ev fs 0 h))
 
   pub lay-other : (p : Node) (o : Props) (h : History) → is 26 p ≡ false → lay W p o h ≡ then (define p h) (λ h e. ok h (putEntry e o))
   unfolding run define is
@@ -182,30 +188,30 @@ module _ (W : Outside) where
             ∙ ap (λ (f : Key → Bool). takeAll W n (filter f ks) (put k (outer v) o) h′) (fun-ext (λ l. sym (t .steady h k l))) ∙ q v
         taken (throws v) q = refl
 
-    pub copy-same : (v : Value) (o : Props) (h : History) → Good v → copyS W v o h ≡ copy W v o h
+    pub copy-same : (b : Bool) (v : Value) (o : Props) (h : History) → Good v → copyS W b v o h ≡ copy W b v o h
     unfolding copy copyS
-    copy-same (inner empty) o h g = refl
-    copy-same (inner (entry k v q)) o h g =
-        let p : Props = entry k v q in
+    copy-same b (inner p) o h g =
         let h′ : History = lists (inner p) ∷ h in
-        ap (λ (ks : List Key). pour W (defineS W) p (pick (outer (W .undefined)) ks p) o h′) (fair .intact h′ (keysOf p))
+        ap (λ (r : Out Props). cond b (ok h o) r)
+        (ap (λ (ks : List Key). pour W (defineS W) p (pick (outer (W .undefined)) ks p) o h′) (fair .intact h′ (keysOf p))
         ∙ ap (λ (x : Props). pour W (defineS W) p x o h′) (pick-names (outer (W .undefined)) p g)
-        ∙ pour-same p p o h′
-    copy-same (outer n) o h g = by-test (W .tame n) (λ e. simp e (alike (fair .tamed n e))) (λ e. simp e)
+        ∙ pour-same p p o h′)
+    copy-same b (outer n) o h g = by-test (W .tame n) (λ e. simp e (alike (fair .tamed n e))) (λ e. simp e)
       where
         listed : Tame W n → (r : Reply (List Key)) → W .keys h n ≡ r
-            → then (ask (lists (outer n)) r h) (λ h ks. takeAll W n (W .gathers h (filter (λ k. W .shown h n k) ks)) o h) ≡ then (ask (lists (outer n)) r h) (λ h ks. take W n ks o h)
+            → then (ask (lists (outer n)) r h) (λ h ks. takeListed W n ks o h) ≡ then (ask (lists (outer n)) r h) (λ h ks. take W n ks o h)
         listed t (gives ks) e =
             let h′ : History = lists (outer n) ∷ h in
-            ap (λ (l : List Key). takeAll W n l o h′) (fair .intact h′ (filter (λ k. W .shown h′ n k) ks) ∙ names-filter (λ k. W .shown h′ n k) ks (t .sorted h ks e))
+            ap (λ (b : Bool). cond b (threw h′ (W .typeError)) (takeAll W n (W .gathers h′ (filter (λ k. W .shown h′ n k) ks)) o h′)) (t .owned h ks e)
+            ∙ ap (λ (l : List Key). takeAll W n l o h′) (fair .intact h′ (filter (λ k. W .shown h′ n k) ks) ∙ names-filter (λ k. W .shown h′ n k) ks (t .sorted h ks e))
             ∙ take-steady n t ks o h′
         listed t (throws v) e = refl
 
         alike : Tame W n
-            → cond (W .loose n) (ok h o) (then (ask (lists (outer n)) (W .keys h n) h) (λ h ks. takeAll W n (W .gathers h (filter (λ k. W .shown h n k) ks)) o h))
+            → cond (W .loose n) (ok h o) (then (ask (lists (outer n)) (W .keys h n) h) (λ h ks. takeListed W n ks o h))
             ≡ cond (W .null n) (ok h o) (then (ask (lists (outer n)) (W .keys h n) h) (λ h ks. take W n ks o h))
         alike t =
-            ap (λ (b : Bool). cond b (ok h o) (then (ask (lists (outer n)) (W .keys h n) h) (λ h ks. takeAll W n (W .gathers h (filter (λ k. W .shown h n k) ks)) o h))) (t .strict)
+            ap (λ (b : Bool). cond b (ok h o) (then (ask (lists (outer n)) (W .keys h n) h) (λ h ks. takeListed W n ks o h))) (t .strict)
             ∙ ap (λ (r : Out Props). cond (W .null n) (ok h o) r) (listed t (W .keys h n) refl)
 
     -- ---- arguments of S
@@ -215,21 +221,21 @@ module _ (W : Outside) where
         → runS (item n ns) h ≡ then r (λ h o. then (runAll W ns h) (λ h vs. atOdd W vs o h))
     unfolding run
     first-arg n ns r h e =
-        ap (λ (x : Out Value). then (then x (λ h v. then (runAll W ns h) (λ h vs. ok h (v ∷ vs)))) (λ h vs. spreads W vs h)) e ∙ go r
+        ap (λ (x : Out Value). then (then x (λ h v. then (runAll W ns h) (λ h vs. ok h (passed (isBlank n) v ∷ vs)))) (λ h vs. spreads W vs h)) e ∙ go r
       where
-        go : (r : Out Props) → then (then (made r) (λ h v. then (runAll W ns h) (λ h vs. ok h (v ∷ vs)))) (λ h vs. spreads W vs h)
+        go : (r : Out Props) → then (then (made r) (λ h v. then (runAll W ns h) (λ h vs. ok h (passed (isBlank n) v ∷ vs)))) (λ h vs. spreads W vs h)
             ≡ then r (λ h o. then (runAll W ns h) (λ h vs. atOdd W vs o h))
-        go (ok h o) = then-then (runAll W ns h) (λ h vs. ok h (inner o ∷ vs)) (λ h vs. spreads W vs h)
+        go (ok h o) = then-then (runAll W ns h) (λ h vs. ok h (passed (isBlank n) (inner o) ∷ vs)) (λ h vs. spreads W vs h)
         go (threw h v) = refl
         go (beyond h n) = refl
         go (stuck h) = refl
 
     -- the last, at an odd place
-    last-arg : (a : Node) (o : Props) (h : History) → then (runAll W (only a) h) (λ h vs. atOdd W vs o h) ≡ then (run W ev a h) (λ h v. copy W v o h)
+    last-arg : (a : Node) (o : Props) (h : History) → then (runAll W (only a) h) (λ h vs. atOdd W vs o h) ≡ then (run W ev a h) (λ h v. copy W (isBlank a) v o h)
     unfolding run
     last-arg a o h =
-        then-then (run W ev a h) (λ h v. ok h (v ∷ [])) (λ h vs. atOdd W vs o h)
-        ∙ then-good (λ v. Good v) (run W ev a h) (run-good W a ev h) (λ h v g. then-ok (copyS W v o h) ∙ copy-same v o h g)
+        then-then (run W ev a h) (λ h v. ok h (passed (isBlank a) v ∷ [])) (λ h vs. atOdd W vs o h)
+        ∙ then-good (λ v. Good v) (run W ev a h) (run-good W a ev h) (λ h v g. then-ok (copyS W (isBlank a) v o h) ∙ copy-same (isBlank a) v o h g)
 
     -- properties that a literal defines: no spread, no hole
     abbrev Others : Items → Type 0
@@ -265,17 +271,17 @@ module _ (W : Outside) where
     defined-args : (ps ns : Items) (o : Props) (h : History) → Others ps
         → then (runAll W (item (object none) (item (object ps) ns)) h) (λ h vs. atOdd W vs o h)
         ≡ then (layAll W ps o h) (λ h o. then (runAll W ns h) (λ h vs. atOdd W vs o h))
-    unfolding run copyS
+    unfolding run copyS isBlank isEmpty is itemsAt pieceIn
     defined-args ps ns o h a =
         go (layAll W ps empty h)
         ∙ ap (λ (r : Out Props). then r (λ h o. then (runAll W ns h) (λ h vs. atOdd W vs o h))) (gathered ps empty o h a tt)
       where
         go : (r : Out Props)
-            → then (then (then (made r) (λ h v. then (runAll W ns h) (λ h vs. ok h (v ∷ vs)))) (λ h vs. ok h (inner empty ∷ vs))) (λ h vs. atOdd W vs o h)
+            → then (then (then (made r) (λ h v. then (runAll W ns h) (λ h vs. ok h (passed (isBlank (object ps)) v ∷ vs)))) (λ h vs. ok h (passed true (inner empty) ∷ vs))) (λ h vs. atOdd W vs o h)
             ≡ then (then r (λ h p. ok h (overlay p o))) (λ h o. then (runAll W ns h) (λ h vs. atOdd W vs o h))
         go (ok h p) =
-            then-then (then (runAll W ns h) (λ h vs. ok h (inner p ∷ vs))) (λ h vs. ok h (inner empty ∷ vs)) (λ h vs. atOdd W vs o h)
-            ∙ then-then (runAll W ns h) (λ h vs. ok h (inner p ∷ vs)) (λ h vs. atOdd W (inner empty ∷ vs) o h)
+            then-then (then (runAll W ns h) (λ h vs. ok h (passed (isBlank (object ps)) (inner p) ∷ vs))) (λ h vs. ok h (passed true (inner empty) ∷ vs)) (λ h vs. atOdd W vs o h)
+            ∙ then-then (runAll W ns h) (λ h vs. ok h (passed (isBlank (object ps)) (inner p) ∷ vs)) (λ h vs. atOdd W (passed true (inner empty) ∷ vs) o h)
             ∙ then-each (runAll W ns h) (λ h vs. ap (λ (r : Out Props). then r (λ h o. atOdd W vs o h)) (all-same p o h))
         go (threw h v) = refl
         go (beyond h n) = refl

@@ -14,7 +14,7 @@ use Rattle.tree.specs.Read.{readTree}
 use Rattle.tree.specs.Read.Got.{got}
 use Rattle.tree.specs.WellFormed.{Bytes, WellFormed}
 use Rattle.tree.proofs.Sound.{sound}
-use Rattle.lowering.specs.Parts.{kind, is, nodeAt}
+use Rattle.lowering.specs.Parts.{kind, is, nodeAt, _+++_}
 use Rattle.lowering.specs.Made.{Context}
 use Rattle.lowering.specs.Walk.{Note, Walked, rewrite, within, inside, eachItem, eachPiece, eachField}
 use Rattle.lowering.specs.Weight.{walked}
@@ -23,13 +23,14 @@ use Rattle.lowering.specs.Answer.{top}
 use Rattle.lowering.proofs.Notes.{AllNotes}
 use Rattle.lowering.proofs.Falls.{walked-is}
 use Rattle.overlay.specs.Plain.{plain}
-use Rattle.overlay.specs.Whole.{ItemAt, NodeIn, FieldAt, PartAt, Stands, Visits, leaves, Comes, Reached, Lowered, Everywhere}
+use Rattle.overlay.specs.Whole.{ItemAt, NodeIn, FieldAt, PartAt, Stands, Visits, leaves, Comes, Reached, Lowered, Everywhere, OverlayEverywhere}
+use Rattle.overlay.specs.Law.{literalOf}
 use Rattle.overlay.proofs.LaidOn.{differ}
 use Rattle.overlay.proofs.TreesCompared.{same, same-is, same-self}
 use Rattle.overlay.proofs.Visited.{Finds, comes}
 use Rattle.overlay.proofs.Counted.{Apart, counted}
 use Rattle.overlay.proofs.AcceptedGiven.{accepted-given}
-use Rattle.overlay.proofs.LoweredInPlace.{plus-zero, zero-plus, plus-suc, in-place}
+use Rattle.overlay.proofs.LoweredInPlace.{plus-zero, zero-plus, plus-suc, in-place, lowered-overlays, writes}
 use Rattle.lowering.proofs.Cases.{by-test}
 
 -- ---- the note of each node that the walk comes to is among the notes that are collected
@@ -136,3 +137,22 @@ everywhere levels next n w r ns p m s k e = go (reached levels next n w r p m s 
 pub accepted-everywhere : (levels : ℕ) (tree : List ℕ) (n : Node) (q next : ℕ) → Bytes tree → readTree input levels tree ≡ got n q next → firstRefusal (visits next 0 (walked top n)) ≡ 0
     → (ns : List Name) (p : List ℕ) (m : Node) → Stands [] n p m → is 24 m ≡ true → plain m ≡ true → Lowered m n (leaves ns next top n)
 accepted-everywhere levels tree n q next b e = everywhere levels next n (sound input levels tree n q next b e .wellFormed)
+
+-- ---- the law, of every call that lowers
+
+pub overlay-everywhere : OverlayEverywhere
+unfolding is
+overlay-everywhere limit options bytes s helpers mask t l b e =
+    let w = writes limit options bytes s helpers mask t l e in
+    let f = sound input limit bytes (w .0) (w .1) (w .2) b (w .4) .wellFormed in (
+      w .0,
+      leaves (w .3) (w .2) top (w .0),
+      w .1,
+      w .2,
+      w .4,
+      w .6,
+      λ p at ps qs m k. (
+        everywhere limit (w .2) (w .0) f (w .5) (w .3) p (literalOf at (ps +++ qs)) m refl k,
+        λ W fair how at′ h. lowered-overlays W fair how at at′ ps qs h (accepted-given limit (w .2) (w .0) f m) k,
+      ),
+    )

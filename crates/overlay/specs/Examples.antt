@@ -10,7 +10,7 @@ use Rattle.tree.specs.Tree.Node.{node}
 use Rattle.tree.specs.Tree.Fields.{done, absent, field}
 use Rattle.tree.specs.Tree.Piece.{one, list, text, byte, mark}
 use Rattle.tree.specs.Tree.Items.{none, item}
-use Rattle.lowering.specs.Parts.{is, nodeAt, itemsAt, textAt, numberAt, pieceIn, stands, standsIn, any, only, _+++_}
+use Rattle.lowering.specs.Parts.{isEmpty, is, nodeAt, itemsAt, textAt, numberAt, pieceIn, stands, standsIn, any, only, _+++_}
 use Rattle.lowering.specs.Made.{S, object}
 use Rattle.lowering.specs.Literals.{opened, closed, scan, literal}
 use Rattle.lowering.specs.Walk.{ruleOf, rewrite, opensScope, within, eachItem, eachPiece, eachField, inside, walk}
@@ -20,7 +20,7 @@ use Rattle.overlay.specs.Objects.{Key, Value, same, rank, put, namesFirs
 use Rattle.overlay.specs.Objects.Key.{name, symbol}
 use Rattle.overlay.specs.Objects.Value.{outer, inner}
 use Rattle.overlay.specs.Objects.Props.{empty, entry}
-use Rattle.overlay.specs.Run.{Step, History, Reply, Outside, Out, copy, copyS, callsS, isWritten, spelled, makes, keyed, defined, run}
+use Rattle.overlay.specs.Run.{isBlank, Step, History, Reply, Outside, Out, copy, copyS, callsS, isWritten, spelled, makes, keyed, defined, run}
 use Rattle.overlay.specs.Run.Step.{evaluates, computes, names, converts, lists, reads}
 use Rattle.overlay.specs.Run.Reply.{gives, throws}
 use Rattle.overlay.specs.Run.Out.{ok, threw}
@@ -86,6 +86,7 @@ outside value ks null = record {
   tame = λ n. true;
   meddled = λ h. false;
   inherits = λ h k. false;
+  lacks = λ h n k. false;
   gathers = λ h ks. namesFirst ks;
   typeError = 0;
   undefined = 0;
@@ -126,12 +127,15 @@ pub record Runs : Type 0 where
   nested : doing counter (lowered (literalOf 0 (only (spread (literalOf 0 (only (spread a)))))))
       ≡ (let o = inner (entry k7 (outer 2) (entry kx (outer 3) empty)) in
       ok (reads o kx ∷ reads o k7 ∷ lists o ∷ reads (outer 0) kx ∷ reads (outer 0) k7 ∷ lists (outer 0) ∷ evaluates a ∷ []) o)
+  -- `{...{...{}}}`: copying the literal `{}` is no step, copying the empty object that is no literal lists it
+  blank : doing counter (lowered (literalOf 0 (only (spread (literalOf 0 (only (spread (literalOf 0 none))))))))
+      ≡ ok (lists (inner empty) ∷ []) (inner empty)
   -- a spread of null copies nothing, and lists nothing
   nothing : doing nulls (lowered (literalOf 0 (two (spread a) x))) ≡ ok (names 0 kx v ∷ evaluates a ∷ []) (inner (entry kx (outer 1) empty))
 
 pub runs : Runs
-unfolding leaves walked walk weight extra factor isHead standsIn rewrite ruleOf literal scan opened closed _+++_ any is nodeAt itemsAt textAt numberAt pieceIn stands within opensScope inside eachField eachPiece eachItem bare numbered withNumber run copy copyS callsS isWritten spelled makes keyed defined put same rank
-runs = record { called = refl; later = refl; earlier = refl; symbols = refl; throwing = refl; nested = refl; nothing = refl }
+unfolding leaves walked walk weight extra factor isHead standsIn rewrite ruleOf literal scan opened closed _+++_ any is nodeAt itemsAt textAt numberAt pieceIn stands within opensScope inside eachField eachPiece eachItem bare numbered withNumber run isBlank isEmpty copy copyS callsS isWritten spelled makes keyed defined put same rank
+runs = record { called = refl; later = refl; earlier = refl; symbols = refl; throwing = refl; nested = refl; blank = refl; nothing = refl }
 
 -- ---- the slip handler: `{deadline: now, ...state}`
 
@@ -163,7 +167,7 @@ pub record Deadline : Type 0 where
   is-given : given handler ≡ true
 
 pub running-deadline : Deadline
-unfolding leaves walked walk weight extra factor isHead standsIn rewrite ruleOf literal scan opened closed _+++_ any is nodeAt itemsAt textAt numberAt pieceIn stands within opensScope inside eachField eachPiece eachItem bare numbered withNumber run copy copyS callsS isWritten spelled makes keyed defined put same rank plain given fineKey fineMethod Rattle.overlay.specs.Plain.bare
+unfolding leaves walked walk weight extra factor isHead standsIn rewrite ruleOf literal scan opened closed _+++_ any is nodeAt itemsAt textAt numberAt pieceIn stands within opensScope inside eachField eachPiece eachItem bare numbered withNumber run isBlank isEmpty copy copyS callsS isWritten spelled makes keyed defined put same rank plain given fineKey fineMethod Rattle.overlay.specs.Plain.bare
 running-deadline = record { running = refl; none-running = refl; is-plain = refl; is-given = refl }
 
 -- ---- which properties are plain
@@ -207,6 +211,10 @@ pub record Plains : Type 0 where
   shorthand : Is (part (static (118 ∷ [])) v 2) true
   method : Is (part (static (118 ∷ [])) (returning v) 4) true
   computing : Is (part a (returning v) 5) true
+  -- no parser combines these: computed and shorthand, shorthand and method, all three
+  computed-short : Is (part a v 3) true
+  short-method : Is (part (static (118 ∷ [])) (returning v) 6) true
+  all-three : Is (part a (returning v) 7) true
   string : Is (part (formed 1 (118 ∷ [])) v 0) true
   digit : Is (part (formed 2 (55 ∷ [])) v 0) true
   inside : Is (part (static (118 ∷ [])) (literalOf 0 (two (spread a) x)) 0) true
@@ -236,6 +244,8 @@ pub record Plains : Type 0 where
   -- `super` and direct `eval` in a method, and in a value
   on-super : Is (part (static (118 ∷ [])) (returning (onSuper (115 ∷ 117 ∷ 112 ∷ 101 ∷ 114 ∷ []))) 4) false
   on-super-node : Is (part (static (118 ∷ [])) (returning (onSuper (83 ∷ 117 ∷ 112 ∷ 101 ∷ 114 ∷ []))) 4) false
+  -- `super[@]`, an index of `super`
+  super-index : Is (part (static (118 ∷ [])) (returning (onSuper (115 ∷ 117 ∷ 112 ∷ 101 ∷ 114 ∷ 91 ∷ 64 ∷ 93 ∷ []))) 4) false
   direct : Is (part (static (118 ∷ [])) (returning (calling eval)) 4) false
   wrapped-direct : Is (part (static (118 ∷ [])) (returning (calling (paren eval))) 4) false
   indirect : Is (part (static (118 ∷ [])) (returning (calling (paren (node 0 28 (field (list (two v eval)) done))))) 4) true
@@ -249,6 +259,9 @@ plains = record {
   shorthand = refl;
   method = refl;
   computing = refl;
+  computed-short = refl;
+  short-method = refl;
+  all-three = refl;
   string = refl;
   digit = refl;
   inside = refl;
@@ -273,6 +286,7 @@ plains = record {
   array-pattern = refl;
   on-super = refl;
   on-super-node = refl;
+  super-index = refl;
   direct = refl;
   wrapped-direct = refl;
   indirect = refl;

@@ -10,8 +10,8 @@ use Rattle.tree.specs.Tree.Piece.{list}
 use Rattle.lowering.specs.Parts.{_+++_}
 use Rattle.overlay.specs.Objects.{Key, Value, namesFirst}
 use Rattle.overlay.specs.Objects.Value.{outer, inner}
-use Rattle.overlay.specs.Run.{Step, History, Outside, Out, then, made, run, layAll}
-use Rattle.overlay.specs.Run.Step.{reads}
+use Rattle.overlay.specs.Run.{Step, History, Outside, Out, then, made, lacksSymbol, run, layAll}
+use Rattle.overlay.specs.Run.Step.{lists, reads}
 use Rattle.overlay.specs.Run.Reply.{gives}
 use Rattle.overlay.specs.Run.Out.{ok, threw, beyond, stuck}
 use Rattle.overlay.specs.Plain.{plain, given}
@@ -25,6 +25,8 @@ pub record Tame (W : Outside) (n : ℕ) : Type 0 where
   pub steady : (h : History) (k k′ : Key) → W .shown (reads (outer n) k ∷ h) n k′ ≡ W .shown h n k′
   -- it lists strings before symbols, as every object of ECMA-262 does
   pub sorted : (h : History) (ks : List Key) → W .keys h n ≡ gives ks → namesFirst ks ≡ ks
+  -- it has the symbols that it lists, as every object of ECMA-262 does
+  pub owned : (h : History) (ks : List Key) → W .keys h n ≡ gives ks → lacksSymbol W (lists (outer n) ∷ h) n ks ≡ false
   -- it is no [[IsHTMLDDA]] object
   pub strict : W .loose n ≡ W .null n
 

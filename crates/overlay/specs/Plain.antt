@@ -47,9 +47,18 @@ bare n = free isObject n
 
 -- ---- "methods without `super` or direct `eval`"
 
--- `super`, and the name that the node has in ESTree
+abbrev pub begins : List ℕ → List ℕ → Bool
+begins [] s = true
+begins (x ∷ xs) [] = false
+begins (x ∷ xs) (y ∷ ys) = eqb x y && begins xs ys
+
+abbrev pub contains : List ℕ → List ℕ → Bool
+contains t [] = begins t []
+contains t (b ∷ s) = begins t (b ∷ s) || contains t s
+
+-- a name with `super` in it, as `super[@]`, or with `Super`, as the node is called in ESTree
 abbrev pub isSuperName : List ℕ → Bool
-isSuperName s = sameText s (115 ∷ 117 ∷ 112 ∷ 101 ∷ 114 ∷ []) || sameText s (83 ∷ 117 ∷ 112 ∷ 101 ∷ 114 ∷ [])
+isSuperName s = contains (115 ∷ 117 ∷ 112 ∷ 101 ∷ 114 ∷ []) s || contains (83 ∷ 117 ∷ 112 ∷ 101 ∷ 114 ∷ []) s
 
 abbrev pub evalName : List ℕ
 evalName = 101 ∷ 118 ∷ 97 ∷ 108 ∷ []

@@ -1,15 +1,15 @@
 -- Running the expressions that the literal rule reads and makes, against an outside. Numbers of clauses are those of ECMA-262, 9th edition.
 use Prim.Native.Nat.{ℕ, zero, suc, _%_}
-use mathlib.Core.Bool.{Bool, cond, _&&_, _||_, not}
+use mathlib.Core.Bool.{Bool, false, cond, _&&_, _||_, not}
 use mathlib.Core.List.{List, [], _∷_}
-use lib.Dec.{eqb}
+use lib.Dec.{eqb, leb}
 use Rattle.tree.specs.Tree.{Node, Fields, Piece, Items}
 use Rattle.tree.specs.Tree.Node.{node}
 use Rattle.tree.specs.Tree.Fields.{done, absent, field}
 use Rattle.tree.specs.Tree.Piece.{one, list, text, byte, mark, number}
 use Rattle.tree.specs.Tree.Items.{none, hole, item}
-use Rattle.lowering.specs.Parts.{nothing, is, nodeAt, textAt, numberAt, stands}
-use Rattle.overlay.specs.Objects.{Key, Value, Props, sameText, put, overlay, owns, keysOf, pick, filter}
+use Rattle.lowering.specs.Parts.{nothing, is, nodeAt, itemsAt, textAt, numberAt, stands, isEmpty}
+use Rattle.overlay.specs.Objects.{Key, Value, Props, sameText, isName, put, overlay, owns, keysOf, pick, filter}
 use Rattle.overlay.specs.Objects.Key.{name}
 use Rattle.overlay.specs.Objects.Value.{outer, inner}
 use Rattle.overlay.specs.Objects.Props.{empty, entry}
@@ -40,6 +40,7 @@ pub record Outside : Type 0 where
   pub key : History → ℕ → Reply Key  -- to a conversion
   pub keys : History → ℕ → Reply (List Key)  -- to a listing: of all own properties, enumerable or not
   pub shown : History → ℕ → Key → Bool  -- no step: whether the object has the key now, and enumerable ([[GetOwnProperty]])
+  pub lacks : History → ℕ → Key → Bool  -- no step: whether it lacks a key that it listed, as an exotic object of the host may
   pub null : ℕ → Bool  -- whether a value is null or undefined
   pub loose : ℕ → Bool  -- whether it equals null by `==` (Abstract Equality Comparison, B.3.7)
   pub tame : ℕ → Bool  -- whether the law is about copies of the value (Law)
@@ -101,12 +102,10 @@ proto = 95 ∷ 95 ∷ 112 ∷ 114 ∷ 111 ∷ 116 ∷ 111 ∷ 95 ∷ 95 ∷ []
 abbrev pub isProto : Node → Bool
 isProto k = isWritten k && sameText (spelled k) proto
 
--- A value, a shorthand or a method, computed or not, that makes a data property: flags 0, 1, 2, 4, 5. Not so a getter or a setter (8,
--- 16), nor `__proto__: v`, which sets the prototype (B.3.1) if it is neither computed, shorthand nor a method
+-- A value, a shorthand or a method, computed or not, that makes a data property: flags 0 to 7. Not so a getter or a setter (8, 16), nor
+-- `__proto__: v`, which sets the prototype (B.3.1) if it is neither computed, shorthand nor a method
 unfoldable pub makes : Node → Bool
-makes p =
-    is 25 p
-    && ((eqb (flags p) 0 && not (isProto (nodeAt 0 p))) || (eqb (flags p) 1 || (eqb (flags p) 2 || (eqb (flags p) 4 || eqb (flags p) 5))))
+makes p = is 25 p && (leb (flags p) 7 && not (eqb (flags p) 0 && isProto (nodeAt 0 p)))
 
 -- ---- 29 Call(callee args*) of S, which is helper 1
 
@@ -114,6 +113,14 @@ unfoldable pub callsS : Node → Bool
 callsS n = is 29 n && (is 21 (nodeAt 0 n) && eqb (numberAt 0 (nodeAt 0 n)) 1)
 
 -- ---- copies
+
+-- the literal `{}`
+unfoldable pub isBlank : Node → Bool
+isBlank n = is 24 n && isEmpty (itemsAt 0 n)
+
+-- an argument of S: whether it is the literal `{}`, and its value
+pub data Argument : Type 0 where
+  passed : Bool → Value → Argument
 
 module _ (W : Outside) where
   -- An object that a literal made answers itself, with the same steps: it has no getters, and all its keys are enumerable. The entries q
@@ -134,11 +141,10 @@ module _ (W : Outside) where
       let skip = take n ks o h in
       cond (W .shown h n k) yes skip
 
-  -- null and undefined copy nothing; copying `{}` is no step
-  unfoldable pub copy : Value → Props → History → Out Props
-  copy (inner empty) o h = ok h o
-  copy (inner (entry k v q)) o h = pour create (entry k v q) (entry k v q) o (lists (inner (entry k v q)) ∷ h)
-  copy (outer n) o h =
+  -- null and undefined copy nothing; copying the literal `{}` is no step, copying any other empty object lists it
+  unfoldable pub copy : Bool → Value → Props → History → Out Props
+  copy blank (inner p) o h = let go = pour create p p o (lists (inner p) ∷ h) in cond blank (ok h o) go
+  copy blank (outer n) o h =
       let go = then (ask (lists (outer n)) (W .keys h n) h) (λ h ks. take n ks o h) in
       cond (W .tame n) (cond (W .null n) (ok h o) go) (beyond h n)
 
@@ -153,14 +159,23 @@ module _ (W : Outside) where
   takeAll n (k ∷ ks) o h =
       then (ask (reads (outer n) k) (W .value h (reads (outer n) k)) h) (λ h v. then (defineS k (outer v) o h) (λ h o. takeAll n ks o h))
 
-  unfoldable pub copyS : Value → Props → History → Out Props
-  copyS (inner empty) o h = ok h o
-  copyS (inner (entry k v q)) o h =
-      let p = entry k v q in
+  -- `getOwnPropertyDescriptor(t, k).enumerable` of each symbol k that is listed: a TypeError if one is not there
+  abbrev pub lacksSymbol : History → ℕ → List Key → Bool
+  lacksSymbol h n [] = false
+  lacksSymbol h n (k ∷ ks) = (not (isName k) && W .lacks h n k) || lacksSymbol h n ks
+
+  abbrev pub takeListed : ℕ → List Key → Props → History → Out Props
+  takeListed n ks o h =
+      let go = takeAll n (W .gathers h (filter (λ k. W .shown h n k) ks)) o h in
+      cond (lacksSymbol h n ks) (threw h (W .typeError)) go
+
+  unfoldable pub copyS : Bool → Value → Props → History → Out Props
+  copyS blank (inner p) o h =
       let h′ = lists (inner p) ∷ h in
-      pour defineS p (pick (outer (W .undefined)) (W .gathers h′ (keysOf p)) p) o h′
-  copyS (outer n) o h =
-      let go = then (ask (lists (outer n)) (W .keys h n) h) (λ h ks. takeAll n (W .gathers h (filter (λ k. W .shown h n k) ks)) o h) in
+      let go = pour defineS p (pick (outer (W .undefined)) (W .gathers h′ (keysOf p)) p) o h′ in
+      cond blank (ok h o) go
+  copyS blank (outer n) o h =
+      let go = then (ask (lists (outer n)) (W .keys h n) h) (λ h ks. takeListed n ks o h) in
       cond (W .tame n) (cond (W .loose n) (ok h o) go) (beyond h n)
 
   -- S at an even place: `Object.defineProperties(e, Object.getOwnPropertyDescriptors(t))`, no step. The rule puts only literals there
@@ -170,19 +185,19 @@ module _ (W : Outside) where
 
   -- the further arguments of S, the first of them at an odd place, or at an even one
   abbrev mutual
-    pub atOdd : List Value → Props → History → Out Props
+    pub atOdd : List Argument → Props → History → Out Props
     atOdd [] o h = ok h o
-    atOdd (v ∷ vs) o h = then (copyS v o h) (λ h o. atEven vs o h)
+    atOdd (passed blank v ∷ vs) o h = then (copyS blank v o h) (λ h o. atEven vs o h)
 
-    pub atEven : List Value → Props → History → Out Props
+    pub atEven : List Argument → Props → History → Out Props
     atEven [] o h = ok h o
-    atEven (v ∷ vs) o h = elim v [ inner p ↦ then (defineAll p o h) (λ h o. atOdd vs o h) | outer n ↦ stuck h ]
+    atEven (passed blank v ∷ vs) o h = elim v [ inner p ↦ then (defineAll p o h) (λ h o. atOdd vs o h) | outer n ↦ stuck h ]
 
   -- S, once its arguments are values: the first is the target
-  abbrev pub spreads : List Value → History → Out Props
+  abbrev pub spreads : List Argument → History → Out Props
   spreads [] h = stuck h
-  spreads (outer n ∷ vs) h = stuck h
-  spreads (inner o ∷ vs) h = atOdd vs o h
+  spreads (passed blank (outer n) ∷ vs) h = stuck h
+  spreads (passed blank (inner o) ∷ vs) h = atOdd vs o h
 
   -- ---- running
 
@@ -215,7 +230,7 @@ module _ (W : Outside) where
     -- one property of a literal, laid on an object (12.2.6, PropertyDefinitionEvaluation): 26 Spread(arg), or a property
     pub lay : Node → Props → History → Out Props
     lay (node at k fs) o h =
-        let spread = then (runAt (λ n. evaluates n) fs 0 h) (λ h v. copy v o h) in
+        let spread = then (runAt (λ n. evaluates n) fs 0 h) (λ h v. copy (isBlank (nodeAt 0 (node at k fs))) v o h) in
         let other = then (defined (node at k fs) (λ how h. runAt how fs 1 h) h) (λ h e. ok h (putEntry e o)) in
         cond (eqb k 26) spread other
 
@@ -226,10 +241,10 @@ module _ (W : Outside) where
     layAll (item p ps) o h = then (lay p o h) (λ h o. layAll ps o h)
 
     -- arguments, left to right
-    pub runAll : Items → History → Out (List Value)
+    pub runAll : Items → History → Out (List Argument)
     runAll none h = ok h []
     runAll (hole ns) h = runAll ns h
-    runAll (item n ns) h = then (run (λ n. evaluates n) n h) (λ h v. then (runAll ns h) (λ h vs. ok h (v ∷ vs)))
+    runAll (item n ns) h = then (run (λ n. evaluates n) n h) (λ h v. then (runAll ns h) (λ h vs. ok h (passed (isBlank n) v ∷ vs)))
 
     -- the list of field i as properties
     pub layAt : Fields → ℕ → Props → History → Out Props
@@ -248,14 +263,14 @@ module _ (W : Outside) where
     layIn (number b) o h = ok h o
 
     -- the list of field i as arguments
-    pub argsAt : Fields → ℕ → History → Out (List Value)
+    pub argsAt : Fields → ℕ → History → Out (List Argument)
     argsAt done i h = ok h []
     argsAt (absent fs) zero h = ok h []
     argsAt (absent fs) (suc i) h = argsAt fs i h
     argsAt (field p fs) zero h = argsIn p h
     argsAt (field p fs) (suc i) h = argsAt fs i h
 
-    pub argsIn : Piece → History → Out (List Value)
+    pub argsIn : Piece → History → Out (List Argument)
     argsIn (one n) h = ok h []
     argsIn (list is) h = runAll is h
     argsIn (text bs) h = ok h []

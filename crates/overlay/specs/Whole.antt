@@ -8,14 +8,16 @@ use Rattle.tree.specs.Tree.Node.{node}
 use Rattle.tree.specs.Grammar.Stage.{input}
 use Rattle.tree.specs.Read.{readTree}
 use Rattle.tree.specs.Read.Got.{got}
-use Rattle.tree.specs.WellFormed.{WellFormed}
-use Rattle.lowering.specs.Parts.{is}
+use Rattle.tree.specs.WellFormed.{Bytes, WellFormed}
+use Rattle.lowering.specs.Parts.{is, _+++_}
 use Rattle.lowering.specs.Made.{Context}
 use Rattle.lowering.specs.Walk.{rewrite, within}
 use Rattle.lowering.specs.Weight.{walked}
 use Rattle.lowering.specs.Collect.{Name, bare, numbered, visits, firstRefusal}
 use Rattle.lowering.specs.Answer.{Lent, Result, lowering, top}
+use Rattle.overlay.specs.Run.{Step, History, Outside, then, run}
 use Rattle.overlay.specs.Plain.{given, plain}
+use Rattle.overlay.specs.Law.{Fair, literalOf, layOn}
 
 -- what is written where the walk came to n, the next new mark being `next` and ns the names of the temporaries
 unfoldable pub leaves : List Name → ℕ → Context → Node → Node
@@ -103,3 +105,18 @@ pub data Lowered (m n written : Node) : Type 0 where
 abbrev pub Everywhere : Type 0
 Everywhere = (levels next : ℕ) (n : Node) → WellFormed input levels n next → firstRefusal (visits next 0 (walked top n)) ≡ 0
     → (ns : List Name) (p : List ℕ) (m : Node) → Stands [] n p m → is 24 m ≡ true → plain m ≡ true → Lowered m n (leaves ns next top n)
+
+-- ---- the whole in one statement: for each call that lowers, each plain literal in the tree that it reads, and each cut of it
+
+-- The literal `{ps, qs}` lowered, and its front `{ps}` lowered with the back laid on it, do the same against every outside that meets the
+-- premises. A front stands at another position and behind other marks than the whole, which plays no part
+abbrev pub Cut : ℕ → Items → Items → Type 0
+Cut at ps qs = (W : Outside) → Fair W → (how : Node → Step) (at′ : ℕ) (h : History)
+    → run W how (lowered (literalOf at (ps +++ qs))) h ≡ then (run W how (lowered (literalOf at′ ps)) h) (λ h v. layOn W qs v h)
+
+abbrev pub OverlayEverywhere : Type 0
+OverlayEverywhere = (limit options : ℕ) (bytes : List ℕ) (s : Lent) (helpers mask : ℕ) (t l : List ℕ) → Bytes bytes
+    → lowering limit options bytes s ≡ Result.lowered helpers mask t l
+    → (n written : Node) × (q next : ℕ) × (readTree input limit bytes ≡ got n q next) × (t ≡ encode written)
+    × ((p : List ℕ) (at : ℕ) (ps qs : Items) → Stands [] n p (literalOf at (ps +++ qs)) → plain (literalOf at (ps +++ qs)) ≡ true
+    → Lowered (literalOf at (ps +++ qs)) n written × Cut at ps qs)

@@ -12,7 +12,7 @@ use Rattle.overlay.specs.Objects.{Key, Value, Props, sameText, same, put, owns,
 use Rattle.overlay.specs.Objects.Key.{name, symbol}
 use Rattle.overlay.specs.Objects.Value.{outer, inner}
 use Rattle.overlay.specs.Objects.Props.{empty, entry}
-use Rattle.overlay.specs.Run.{History, Outside, proto, isWritten, spelled, makes, callsS, take, copy, keyed, defined, lay, layAll}
+use Rattle.overlay.specs.Run.{History, Outside, proto, isWritten, spelled, makes, callsS, isBlank, take, copy, keyed, defined, lay, layAll}
 use Rattle.overlay.specs.Run.Step.{evaluates, computes, names, converts, lists, reads}
 use Rattle.overlay.specs.Run.Reply.{gives}
 use Rattle.overlay.specs.Run.Out.{ok}
@@ -100,13 +100,13 @@ module _ (W : World) (h : Steps) (m : Own) (left : Props) where
       (r .0, rw (e, x .1, x .2, x .3) (r .1))
 
   rest-copied : (t : Props) (g : History) → spreadRest W h g ≡ left → ((k : Key) → isAmong k (keysOf left) ≡ true → Rests k)
-      → (g′ : History) × (copy (outside W h) (outer 0) t g ≡ ok g′ (gathered (λ k. true) see (keysOf left) t))
+      → (g′ : History) × (copy (outside W h) false (outer 0) t g ≡ ok g′ (gathered (λ k. true) see (keysOf left) t))
   unfolding copy
   rest-copied t g e a = let x = taken-all (keysOf left) t (lists (outer 0) ∷ g) e a in (x .0, rw e (x .1))
 
   rest-laid : (r : List ℕ) (t : Props) (g : History) → W .named (since h g) r ≡ gives (inner left) → ((k : Key) → isAmong k (keysOf left) ≡ true → Rests k)
       → (g′ : History) × (layAll (outside W h) (parts m [] r) t g ≡ ok g′ (gathered (λ k. true) see (keysOf left) t))
-  unfolding lay callsS is nodeAt textAt pieceIn
+  unfolding lay isBlank callsS is nodeAt textAt pieceIn
   rest-laid r t g q a =
       let x = rest-copied t (evaluates (reference r) ∷ g) (rw q refl) a in
       (x .0, rw (q, x .1) refl)

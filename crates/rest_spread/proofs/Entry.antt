@@ -21,7 +21,8 @@ use Rattle.tree.proofs.Look as look
 use Rattle.lowering.specs.Weight.{walked}
 use Rattle.lowering.specs.Refusals.{limitOutside, unknownOptions, smallWork}
 use Rattle.lowering.specs.Answer.{Lent, Result, Outcome, top, highestLimit, limitRefused, inForce, afterReading, filled, lowering, outcomeOf, outcome}
-use Rattle.lowering.proofs.Order.{Admitted, limit-outside, options-unknown, work-small, reading-decides}
+use Rattle.lowering.specs.Table.{Admitted}
+use Rattle.lowering.proofs.Order.{limit-outside, options-unknown, work-small, reading-decides}
 use Rattle.sink.specs.declared.Sink.{Sink}
 use Rattle.sink.specs.declared.Written.{Written}
 use Rattle.sink.specs.Machine.{Event, State, Ended, stateOf, endOf, nothing, steps, start, finished}
