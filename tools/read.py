@@ -1,5 +1,5 @@
 #!/usr/bin/env python3
-"""Reads tree bytes: document 01, 'Tree bytes', in Python. It shares nothing with the crates, which are held to it.
+"""Reads tree bytes: document 01, 'Tree bytes', with request 1, in Python. It shares nothing with the crates, which are held to it.
 
     answer(tree, limit) -> (0, next mark), (3, 0) or (4, 0)
 
@@ -60,11 +60,16 @@ TargetArray         36  target_item~ target?
 TargetDefault       37  target expression
 StaticKey           38  '
 PrivateKey          39  '
+Class               40  '? expression? class_member*
+ClassMember         41  key expression? =0-31
+StaticBlock         42  statement*
+Switch              43  # expression case*
+Case                44  expression? statement*
 """
 
-STATEMENT = "Block ExpressionStatement Declaration For ForIn ForOf Try Return OtherStatement Empty "
+STATEMENT = "Block ExpressionStatement Declaration For ForIn ForOf Try Return OtherStatement Empty Switch "
 EXPRESSION = (
-    "Arrow Reference Literal Template Object Assignment Sequence Call Member Parenthesised Array OtherExpression "
+    "Arrow Reference Literal Template Object Assignment Sequence Call Member Parenthesised Array OtherExpression Class "
 )
 LEAF = "Reference Member Parenthesised OtherExpression "
 BINDING = "Binding BindObject BindArray "
@@ -96,6 +101,8 @@ PLACES = {
     "param": "Param",
     "body": "FunctionBody",
     "literal": "Literal",
+    "class_member": "ClassMember StaticBlock",
+    "case": "Case",
 }
 
 

@@ -137,7 +137,7 @@ module _ (c : Place) where
       emits-unchanged c n (assignment-kept (contextOf c) n refl h)
       ∙ ap (λ (e : Emit). say (puts (27 ∷ 7 ∷ [])) ▷ e)
       (three-fields false (below c n) (byte op) (one p) (one x)
-      ∙ ap (λ (d : Place). say (puts (op ∷ [])) ▷ emits d p ▷ emits d x) (below-inner c n refl refl refl))
+      ∙ ap (λ (d : ℕ → Place). say (puts (op ∷ [])) ▷ emits (d 1) p ▷ emits (d 2) x) (below-inner c n (λ i. refl) refl refl))
       ∙ say-then (puts (27 ∷ 7 ∷ [])) (puts (op ∷ [])) (emits (inner c) p ▷ emits (inner c) x)
 
 -- the same inside

@@ -88,7 +88,7 @@ emits-directed c at ds ns =
     emits-nowhere c n refl
     ∙ ap (λ (x : Emit). say (puts (16 ∷ 3 ∷ [])) ▷ x)
     (two-fields true (below c n) (Piece.list ds) (Piece.list ns)
-    ∙ ap (λ (d : Place). (say (puts (wideBytes (count ds))) ▷ emitsItems true d ds) ▷ say (puts (wideBytes (count ns))) ▷ emitsItems true d ns) (below-inner c n refl refl refl)
+    ∙ ap (λ (d : ℕ → Place). (say (puts (wideBytes (count ds))) ▷ emitsItems true (d 0) ds) ▷ say (puts (wideBytes (count ns))) ▷ emitsItems true (d 1) ns) (below-inner c n (λ i. refl) refl refl)
     ∙ then-assoc (say (puts (wideBytes (count ds)))) (emitsItems true (inner c) ds) rest)
     ∙ say-then (puts (16 ∷ 3 ∷ [])) (puts (wideBytes (count ds))) (emitsItems true (inner c) ds ▷ rest)
 

@@ -19,7 +19,7 @@ use Rattle.lowering.proofs.Accepted.{NoHoles}
 use Rattle.sink.specs.Machine.{Event}
 use Rattle.direct.specs.Events.{Deed, Place, Emit, puts, cell, marks, refused, handsOut, contextOf, emits}
 use Rattle.direct.specs.Events.Deed.{does, refuses}
-use Rattle.direct.specs.Emit.{say, _▷_, below, inner, scoped, emitsItems, emitsPiece, emitsFields, stays}
+use Rattle.direct.specs.Emit.{say, _▷_, below, inner, scoped, emitsItems, emitsPiece, emitsFields, emitsParts, stays}
 use Rattle.direct.specs.Moved.{standIn, stand, behind, makes, bodyIn, blockIn, targetIn, given, emitsGiven, functionFields, arrowFields, catchFields, forFields, declarationFields, Loop}
 use Rattle.direct.proofs.Threads.{then-assoc, say-nothing, then-nothing}
 use Rattle.direct.proofs.OneLevel.{emits-as, emits-refused}
@@ -36,18 +36,18 @@ emits-by : (c : Place) (n : Node) (ts : Items) (r : Node) (ds : List Deed) → r
 emits-by c n ts r ds e h = emits-as c n (rewritten ts r) e ∙ ap (λ (x : List Deed). say x ▷ stays c r) h
 
 given-fields : (l : Bool) (c : Place) (o : Option Node) (fs : Fields) → emitsFields l c (given o fs) ≡ emitsGiven (emits c) o ▷ emitsFields l c fs
-unfolding emitsFields emitsPiece
+unfolding emitsParts emitsPiece
 given-fields l c Option.none fs = sym (say-nothing (emitsFields l c fs))
 given-fields l c (Option.some n) fs = refl
 
 last-field : (l : Bool) (c : Place) (n : Node) → emitsFields l c (Fields.field (Piece.one n) Fields.done) ≡ emits c n
-unfolding emitsFields emitsPiece
+unfolding emitsParts emitsPiece
 last-field l c n = then-nothing (emits c n)
 
 -- params, rest and body
 params-fields : (c : Place) (qs : Items) (rest : Option Node) (b : Node)
     → emitsFields false c (arrowFields qs rest b) ≡ say (puts (wideBytes (count qs))) ▷ emitsItems false c qs ▷ emitsGiven (emits c) rest ▷ emits c b
-unfolding emitsFields emitsPiece
+unfolding emitsParts emitsPiece
 params-fields c qs rest b =
     ap (λ (x : Emit). (say (puts (wideBytes (count qs))) ▷ emitsItems false c qs) ▷ x)
     (given-fields false c rest (Fields.field (Piece.one b) Fields.done) ∙ ap (λ (x : Emit). emitsGiven (emits c) rest ▷ x) (last-field false c b))
@@ -81,7 +81,7 @@ unfolding stays isContainer is opensScope
 stays-arrow c at qs rest b =
     let n = node at 17 (arrowFields qs rest b) in
     let m = mapOf (arrowFields qs rest b) in
-    ap (λ (d : Place). say (puts (17 ∷ m ∷ [])) ▷ emitsFields false d (arrowFields qs rest b)) (below-scoped c n refl refl refl)
+    ap (λ (d : ℕ → Place). say (puts (17 ∷ m ∷ [])) ▷ emitsParts false d (arrowFields qs rest b)) (below-scoped c n (λ i. refl) refl refl)
     ∙ ap (λ (x : Emit). say (puts (17 ∷ m ∷ [])) ▷ x) (params-fields (scoped c) qs rest b)
     ∙ say-then (puts (17 ∷ m ∷ [])) (puts (wideBytes (count qs))) (emitsItems false (scoped c) qs ▷ emitsGiven (emits (scoped c)) rest ▷ emits (scoped c) b)
 
@@ -160,13 +160,13 @@ stays-function : (c : Place) (at m sort : ℕ) (name : Option Node) (qs : Items)
     ▷ emitsItems false (scoped c) qs
     ▷ emitsGiven (emits (scoped c)) rest
     ▷ emits (scoped c) b
-unfolding stays isContainer is opensScope emitsFields emitsPiece
+unfolding stays isContainer is opensScope emitsParts emitsPiece
 stays-function c at m sort name qs rest b =
     let fs = functionFields m sort name qs rest b in
     let n = node at 14 fs in
     let ps = say (puts (wideBytes (count qs))) ▷ emitsItems false (scoped c) qs ▷ emitsGiven (emits (scoped c)) rest ▷ emits (scoped c) b in
     let e = emitsGiven (emits (scoped c)) name ▷ ps in
-    ap (λ (d : Place). say (puts (14 ∷ mapOf fs ∷ [])) ▷ emitsFields false d fs) (below-scoped c n refl refl refl)
+    ap (λ (d : ℕ → Place). say (puts (14 ∷ mapOf fs ∷ [])) ▷ emitsParts false d fs) (below-scoped c n (λ i. refl) refl refl)
     ∙ ap (λ (x : Emit). say (puts (14 ∷ mapOf fs ∷ [])) ▷ say (marks m) ▷ say (puts (sort ∷ [])) ▷ x)
     (given-fields false (scoped c) name (arrowFields qs rest b) ∙ ap (λ (x : Emit). emitsGiven (emits (scoped c)) name ▷ x) (params-fields (scoped c) qs rest b))
     ∙ ap (λ (x : Emit). say (puts (14 ∷ mapOf fs ∷ [])) ▷ x) (say-then (marks m) (puts (sort ∷ [])) e)
@@ -227,7 +227,7 @@ emits-catch c at q b h =
     (hands-catch (c .mark) (contextOf c) n r)
     ∙ ap (λ (x : Emit). say (makes (movedFrom q)) ▷ say (puts (10 ∷ 3 ∷ [])) ▷ x)
     (two-fields false (below c r) (Piece.one (behind q)) (Piece.one d)
-    ∙ ap (λ (e : Place). emits e (behind q) ▷ emits e d) (below-scoped c r refl refl refl))
+    ∙ ap (λ (e : ℕ → Place). emits (e 0) (behind q) ▷ emits (e 1) d) (below-scoped c r (λ i. refl) refl refl))
 
 -- the same with its param as a list of one
 pub emits-catch-list : (c : Place) (at : ℕ) (q b : Node) → isMoved q ≡ true
@@ -251,20 +251,20 @@ loop-rule Loop.forOf = refl
 
 -- what stands behind the body
 pub no-more : (l : Bool) (c : Place) → emitsFields l c Fields.done ≡ say []
-unfolding emitsFields
+unfolding emitsParts
 no-more l c = refl
 
 pub awaits-not : (l : Bool) (c : Place) → emitsFields l c (Fields.absent Fields.done) ≡ say []
-unfolding emitsFields
+unfolding emitsParts
 awaits-not l c = refl
 
 pub awaits : (l : Bool) (c : Place) (b : ℕ) → emitsFields l c (Fields.field (Piece.byte b) Fields.done) ≡ say (puts (b ∷ []))
-unfolding emitsFields emitsPiece
+unfolding emitsParts emitsPiece
 awaits l c b = then-nothing (say (puts (b ∷ [])))
 
 for-fields : (c : Place) (ds : List Deed) (m : ℕ) (left right b : Node) (more : Fields)
     → say ds ▷ emitsFields false c (forFields m left right b more) ≡ say (ds ++ marks m) ▷ emits c left ▷ emits c right ▷ emits c b ▷ emitsFields false c more
-unfolding emitsFields emitsPiece
+unfolding emitsParts emitsPiece
 for-fields c ds m left right b more = say-then ds (marks m) (emits c left ▷ emits c right ▷ emits c b ▷ emitsFields false c more)
 
 stays-for : (c : Place) (at : ℕ) {k : ℕ} → Loop k → (m : ℕ) (left right b : Node) (more : Fields)
@@ -273,11 +273,11 @@ stays-for : (c : Place) (at : ℕ) {k : ℕ} → Loop k → (m : ℕ) (left righ
 unfolding stays isContainer is opensScope
 stays-for c at Loop.forIn m left right b more =
     let fs = forFields m left right b more in
-    ap (λ (d : Place). say (puts (7 ∷ mapOf fs ∷ [])) ▷ emitsFields false d fs) (below-scoped c (node at 7 fs) refl refl refl)
+    ap (λ (d : ℕ → Place). say (puts (7 ∷ mapOf fs ∷ [])) ▷ emitsParts false d fs) (below-scoped c (node at 7 fs) (λ i. refl) refl refl)
     ∙ for-fields (scoped c) (puts (7 ∷ mapOf fs ∷ [])) m left right b more
 stays-for c at Loop.forOf m left right b more =
     let fs = forFields m left right b more in
-    ap (λ (d : Place). say (puts (8 ∷ mapOf fs ∷ [])) ▷ emitsFields false d fs) (below-scoped c (node at 8 fs) refl refl refl)
+    ap (λ (d : ℕ → Place). say (puts (8 ∷ mapOf fs ∷ [])) ▷ emitsParts false d fs) (below-scoped c (node at 8 fs) (λ i. refl) refl refl)
     ∙ for-fields (scoped c) (puts (8 ∷ mapOf fs ∷ [])) m left right b more
 
 for-map : (m : ℕ) (l r b x y z : Node) (more : Fields) → mapOf (forFields m l r b more) ≡ mapOf (forFields m x y z more)

@@ -25,7 +25,7 @@ use Rattle.lowering.specs.Walk.{ruleOf}
 use Rattle.lowering.specs.Collect.{isContainer}
 use Rattle.lowering.proofs.Cases.{by-test, and-left, and-right}
 use Rattle.direct.specs.Events.{Place, Emit, puts, emits}
-use Rattle.direct.specs.Emit.{say, _▷_, below, emitsPiece, emitsFields, stays}
+use Rattle.direct.specs.Emit.{say, _▷_, below, emitsPiece, emitsParts, stays}
 use Rattle.direct.proofs.OneLevel.{emits-nowhere}
 use Rattle.direct.specs.Moved.{given, forFields, declarationFields}
 use Rattle.lowering.proofs.Accepted.{early}
@@ -474,12 +474,13 @@ module _ (l k : Bool) (c d : Place) where
   bare-piece (FitPiece.mark n) e = refl
   bare-piece (FitPiece.number n) e = refl
 
-  bare-fields : {b : ℕ} {ts : List Field} {fs : Fields} → FitFields input b ts fs → allBare ts ≡ true → emitsFields l c fs ≡ emitsFields k d fs
-  unfolding allBare emitsFields
-  bare-fields FitFields.done e = refl
-  bare-fields (FitFields.absent {t = t} {ts = ts} f) e = bare-fields f (and-right (bareSort t) (allBare ts) e)
-  bare-fields (FitFields.field {f = g} {ts = ts} h f) e =
-      ap₂ (λ (x y : Emit). x ▷ y) (bare-piece h (and-left (bareSort (sortIn g)) (allBare ts) e)) (bare-fields f (and-right (bareSort (sortIn g)) (allBare ts) e))
+bare-fields : (l k : Bool) (c d : ℕ → Place) {b : ℕ} {ts : List Field} {fs : Fields} → FitFields input b ts fs → allBare ts ≡ true → emitsParts l c fs ≡ emitsParts k d fs
+unfolding allBare emitsParts
+bare-fields l k c d FitFields.done e = refl
+bare-fields l k c d (FitFields.absent {t = t} {ts = ts} f) e = bare-fields l k (λ i. c (suc i)) (λ i. d (suc i)) f (and-right (bareSort t) (allBare ts) e)
+bare-fields l k c d (FitFields.field {f = g} {ts = ts} h f) e =
+    ap₂ (λ (x y : Emit). x ▷ y) (bare-piece l k (c 0) (d 0) h (and-left (bareSort (sortIn g)) (allBare ts) e))
+    (bare-fields l k (λ i. c (suc i)) (λ i. d (suc i)) f (and-right (bareSort (sortIn g)) (allBare ts) e))
 
 literal-kind : {at k : ℕ} {fs : Fields} → Fits input 10 (node at k fs) → k ≡ 22
 unfolding formAt allowed places formIn kindOf

@@ -1,6 +1,6 @@
 -- The nodes that the rules make, by their bytes and their parts.
 -- Assumes nothing.
-use mathlib.Core.Path.{_≡_, refl, sym, ap, _∙_}
+use mathlib.Core.Path.{_≡_, refl, sym, ap, _∙_, fun-ext}
 use mathlib.Core.Bool.{Bool, true, false, _||_, _&&_, not, and-true, and-false}
 use mathlib.Core.List.{List, [], _∷_, _++_}
 use Prim.Native.Nat.{ℕ}
@@ -18,7 +18,7 @@ use Rattle.lowering.proofs.Accepted.{NoHoles}
 use Rattle.sink.specs.Machine.{Event}
 use Rattle.direct.specs.Events.{Deed, Place, Emit, puts, cell, marks, contextOf, emits}
 use Rattle.direct.specs.Events.Deed.{does}
-use Rattle.direct.specs.Emit.{say, _▷_, below, inner, scoped, unused, emitsStatement, emitsItems, emitsPiece, emitsFields, stays, callHead}
+use Rattle.direct.specs.Emit.{say, _▷_, below, inner, scoped, unused, emitsStatement, emitsItems, emitsPiece, emitsFields, emitsParts, stays, callHead}
 use Rattle.direct.proofs.Threads.{then-assoc, then-nothing, say-say}
 use Rattle.direct.proofs.OneLevel.{emits-unchanged, emits-nowhere}
 use Rattle.direct.proofs.RulesKeep.{literal-kept, declaration-kept}
@@ -35,37 +35,38 @@ place-is : (c : Place) (a b : Bool) → c .root && not a ≡ b → (s t : Bool) 
 place-is c a b e s t h = λ j. record { root = (e) j; statement = (h) j; mark = c .mark }
 
 -- below a node that is no scope, no expression statement and no parentheses
-pub below-inner : (c : Place) (n : Node) → opensScope (kind n) ≡ false → is 3 n ≡ false → is 31 n ≡ false → below c n ≡ inner c
+pub below-inner : (c : Place) (n : Node) → ((i : ℕ) → opensScope (kind n) i ≡ false) → is 3 n ≡ false → is 31 n ≡ false → below c n ≡ (λ i. inner c)
 unfolding below inner
 below-inner c n o s p =
-    place-is c (opensScope (kind n)) (c .root) (rw o (and-true (c .root))) (is 3 n || (is 31 n && c .statement)) false (rw (s, p) refl)
+    fun-ext (λ i. place-is c (opensScope (kind n) i) (c .root) (rw (o i) (and-true (c .root))) (is 3 n || (is 31 n && c .statement)) false (rw (s, p) refl))
 
 -- below a scope
-pub below-scoped : (c : Place) (n : Node) → opensScope (kind n) ≡ true → is 3 n ≡ false → is 31 n ≡ false → below c n ≡ scoped c
+pub below-scoped : (c : Place) (n : Node) → ((i : ℕ) → opensScope (kind n) i ≡ true) → is 3 n ≡ false → is 31 n ≡ false → below c n ≡ (λ i. scoped c)
 unfolding below scoped
 below-scoped c n o s p =
-    place-is c (opensScope (kind n)) false (rw o (and-false (c .root))) (is 3 n || (is 31 n && c .statement)) false (rw (s, p) refl)
+    fun-ext (λ i. place-is c (opensScope (kind n) i) false (rw (o i) (and-false (c .root))) (is 3 n || (is 31 n && c .statement)) false (rw (s, p) refl))
 
 -- below an expression statement
-pub below-unused : (c : Place) (n : Node) → is 3 n ≡ true → opensScope (kind n) ≡ false → below c n ≡ unused c
+pub below-unused : (c : Place) (n : Node) → is 3 n ≡ true → ((i : ℕ) → opensScope (kind n) i ≡ false) → below c n ≡ (λ i. unused c)
 unfolding below unused
 below-unused c n s o =
-    place-is c (opensScope (kind n)) (c .root) (rw o (and-true (c .root))) (is 3 n || (is 31 n && c .statement)) true (rw s refl)
+    fun-ext (λ i. place-is c (opensScope (kind n) i) (c .root) (rw (o i) (and-true (c .root))) (is 3 n || (is 31 n && c .statement)) true (rw s refl))
 
 -- ---- fields of nodes that are made
 
 pub one-field : (l : Bool) (c : Place) (p : Piece) → emitsFields l c (Fields.field p Fields.done) ≡ emitsPiece l c p
-unfolding emitsFields
+unfolding emitsParts
 one-field l c p = then-nothing (emitsPiece l c p)
 
-pub two-fields : (l : Bool) (c : Place) (p q : Piece) → emitsFields l c (Fields.field p (Fields.field q Fields.done)) ≡ emitsPiece l c p ▷ emitsPiece l c q
-unfolding emitsFields
-two-fields l c p q = ap (λ (x : Emit). emitsPiece l c p ▷ x) (then-nothing (emitsPiece l c q))
+pub two-fields : (l : Bool) (c : ℕ → Place) (p q : Piece)
+    → emitsParts l c (Fields.field p (Fields.field q Fields.done)) ≡ emitsPiece l (c 0) p ▷ emitsPiece l (c 1) q
+unfolding emitsParts
+two-fields l c p q = ap (λ (x : Emit). emitsPiece l (c 0) p ▷ x) (then-nothing (emitsPiece l (c 1) q))
 
-pub three-fields : (l : Bool) (c : Place) (p q r : Piece)
-    → emitsFields l c (Fields.field p (Fields.field q (Fields.field r Fields.done))) ≡ emitsPiece l c p ▷ emitsPiece l c q ▷ emitsPiece l c r
-unfolding emitsFields
-three-fields l c p q r = ap (λ (x : Emit). emitsPiece l c p ▷ emitsPiece l c q ▷ x) (then-nothing (emitsPiece l c r))
+pub three-fields : (l : Bool) (c : ℕ → Place) (p q r : Piece)
+    → emitsParts l c (Fields.field p (Fields.field q (Fields.field r Fields.done))) ≡ emitsPiece l (c 0) p ▷ emitsPiece l (c 1) q ▷ emitsPiece l (c 2) r
+unfolding emitsParts
+three-fields l c p q r = ap (λ (x : Emit). emitsPiece l (c 0) p ▷ emitsPiece l (c 1) q ▷ x) (then-nothing (emitsPiece l (c 2) r))
 
 pub no-items : (l : Bool) (c : Place) → emitsItems l c Items.none ≡ say []
 unfolding emitsItems
@@ -101,7 +102,7 @@ emits-call c f xs =
     emits-nowhere c (call f xs) refl
     ∙ ap (λ (x : Emit). say (puts (29 ∷ 3 ∷ [])) ▷ x)
     (two-fields false (below c (call f xs)) (Piece.one f) (Piece.list xs)
-    ∙ ap (λ (d : Place). emits d f ▷ say (puts (wideBytes (count xs))) ▷ emitsItems false d xs) (below-inner c (call f xs) refl refl refl))
+    ∙ ap (λ (d : ℕ → Place). emits (d 0) f ▷ say (puts (wideBytes (count xs))) ▷ emitsItems false (d 1) xs) (below-inner c (call f xs) (λ i. refl) refl refl))
 
 -- a call of a helper
 pub emits-help : (c : Place) (h : ℕ) (xs : Items) → emits c (call (made.helper h) xs) ≡ say (callHead h (count xs)) ▷ emitsItems false (inner c) xs
@@ -144,20 +145,20 @@ pub emits-array : (c : Place) (xs : Items) → emits c (array xs) ≡ say (puts 
 unfolding ruleOf stays mapOf isContainer is opensScope
 emits-array c xs =
     emits-nowhere c (array xs) refl
-    ∙ listed c 32 xs (ap (λ (d : Place). say (puts (32 ∷ 1 ∷ [])) ▷ emitsFields false d (Fields.field (Piece.list xs) Fields.done)) (below-inner c (array xs) refl refl refl))
+    ∙ listed c 32 xs (ap (λ (d : ℕ → Place). say (puts (32 ∷ 1 ∷ [])) ▷ emitsParts false d (Fields.field (Piece.list xs) Fields.done)) (below-inner c (array xs) (λ i. refl) refl refl))
 
 pub emits-sequence : (c : Place) (xs : Items) → emits c (sequence xs) ≡ say (puts (28 ∷ 1 ∷ wideBytes (count xs))) ▷ emitsItems false (inner c) xs
 unfolding ruleOf stays mapOf isContainer is opensScope
 emits-sequence c xs =
     emits-nowhere c (sequence xs) refl
-    ∙ listed c 28 xs (ap (λ (d : Place). say (puts (28 ∷ 1 ∷ [])) ▷ emitsFields false d (Fields.field (Piece.list xs) Fields.done)) (below-inner c (sequence xs) refl refl refl))
+    ∙ listed c 28 xs (ap (λ (d : ℕ → Place). say (puts (28 ∷ 1 ∷ [])) ▷ emitsParts false d (Fields.field (Piece.list xs) Fields.done)) (below-inner c (sequence xs) (λ i. refl) refl refl))
 
 -- an object without a spread
 pub emits-object : (c : Place) (ps : Items) → any (λ p. is 26 p) ps ≡ false → emits c (object ps) ≡ say (puts (24 ∷ 1 ∷ wideBytes (count ps))) ▷ emitsItems false (inner c) ps
 unfolding stays mapOf isContainer is opensScope itemsAt pieceIn
 emits-object c ps h =
     emits-unchanged c (object ps) (literal-kept (contextOf c) (object ps) refl h)
-    ∙ listed c 24 ps (ap (λ (d : Place). say (puts (24 ∷ 1 ∷ [])) ▷ emitsFields false d (Fields.field (Piece.list ps) Fields.done)) (below-inner c (object ps) refl refl refl))
+    ∙ listed c 24 ps (ap (λ (d : ℕ → Place). say (puts (24 ∷ 1 ∷ [])) ▷ emitsParts false d (Fields.field (Piece.list ps) Fields.done)) (below-inner c (object ps) (λ i. refl) refl refl))
 
 pub emits-member : (c : Place) (a : Node) (name : List ℕ) → emits c (member a name) ≡ say (puts (30 ∷ 3 ∷ [])) ▷ emits (inner c) a ▷ say (puts (wideBytes (length name) ++ name))
 unfolding ruleOf stays mapOf isContainer emitsPiece is opensScope
@@ -165,7 +166,7 @@ emits-member c a name =
     emits-nowhere c (member a name) refl
     ∙ ap (λ (x : Emit). say (puts (30 ∷ 3 ∷ [])) ▷ x)
     (two-fields false (below c (member a name)) (Piece.one a) (Piece.text name)
-    ∙ ap (λ (d : Place). emits d a ▷ say (puts (wideBytes (length name) ++ name))) (below-inner c (member a name) refl refl refl))
+    ∙ ap (λ (d : ℕ → Place). emits (d 0) a ▷ say (puts (wideBytes (length name) ++ name))) (below-inner c (member a name) (λ i. refl) refl refl))
 
 pub emits-string : (c : Place) (form : List ℕ) → emits c (string form) ≡ say (puts (22 ∷ 7 ∷ 1 ∷ 0 ∷ 0 ∷ wideBytes (length form) ++ form))
 unfolding ruleOf stays mapOf isContainer emitsPiece
@@ -185,14 +186,14 @@ emits-declares c id init =
     emits-nowhere c (declares id init) refl
     ∙ ap (λ (x : Emit). say (puts (5 ∷ 3 ∷ [])) ▷ x)
     (two-fields false (below c (declares id init)) (Piece.one id) (Piece.one init)
-    ∙ ap (λ (d : Place). emits d id ▷ emits d init) (below-inner c (declares id init) refl refl refl))
+    ∙ ap (λ (d : ℕ → Place). emits (d 0) id ▷ emits (d 1) init) (below-inner c (declares id init) (λ i. refl) refl refl))
 
 pub emits-declared : (c : Place) (id : Node) → emits c (declared id) ≡ say (puts (5 ∷ 1 ∷ [])) ▷ emits (inner c) id
-unfolding ruleOf stays mapOf isContainer emitsPiece emitsFields is opensScope
+unfolding ruleOf stays mapOf isContainer emitsPiece emitsParts is opensScope
 emits-declared c id =
     emits-nowhere c (declared id) refl
     ∙ ap (λ (x : Emit). say (puts (5 ∷ 1 ∷ [])) ▷ x)
-    (then-nothing (emits (below c (declared id)) id) ∙ ap (λ (d : Place). emits d id) (below-inner c (declared id) refl refl refl))
+    (then-nothing (emits (below c (declared id) 0) id) ∙ ap (λ (d : ℕ → Place). emits (d 0) id) (below-inner c (declared id) (λ i. refl) refl refl))
 
 -- ---- statements
 
@@ -206,7 +207,7 @@ stays-declaration c at m b ds =
     let e = emitsItems false (inner c) ds in
     ap (λ (x : Emit). say (puts (4 ∷ 7 ∷ [])) ▷ x)
     (three-fields false (below c n) (Piece.mark m) (Piece.byte b) (Piece.list ds)
-    ∙ ap (λ (d : Place). say (marks m) ▷ say (puts (b ∷ [])) ▷ say (puts (wideBytes (count ds))) ▷ emitsItems false d ds) (below-inner c n refl refl refl)
+    ∙ ap (λ (d : ℕ → Place). say (marks m) ▷ say (puts (b ∷ [])) ▷ say (puts (wideBytes (count ds))) ▷ emitsItems false (d 2) ds) (below-inner c n (λ i. refl) refl refl)
     ∙ ap (λ (x : Emit). say (marks m) ▷ x) (say-then (puts (b ∷ [])) (puts (wideBytes (count ds))) e)
     ∙ say-then (marks m) (puts (b ∷ wideBytes (count ds))) e)
     ∙ say-then (puts (4 ∷ 7 ∷ [])) (marks m ++ puts (b ∷ wideBytes (count ds))) e
@@ -249,7 +250,7 @@ emits-assigning c left right =
     emits-nowhere c (assigning left right) refl
     ∙ ap (λ (x : Emit). say (puts (3 ∷ 3 ∷ [])) ▷ x)
     (two-fields false (below c (assigning left right)) (Piece.mark 0) (Piece.one (assign left right))
-    ∙ ap (λ (d : Place). say (does Event.newMark ∷ []) ▷ emits d (assign left right)) (below-unused c (assigning left right) refl refl))
+    ∙ ap (λ (d : ℕ → Place). say (does Event.newMark ∷ []) ▷ emits (d 1) (assign left right)) (below-unused c (assigning left right) refl (λ i. refl)))
     ∙ say-then (puts (3 ∷ 3 ∷ [])) (does Event.newMark ∷ []) (emits (unused c) (assign left right))
 
 pub emits-returning : (c : Place) (e : Node) → emits c (returning e) ≡ say (puts (11 ∷ 3 ∷ []) ++ (does Event.newMark ∷ [])) ▷ emits (inner c) e
@@ -258,7 +259,7 @@ emits-returning c e =
     emits-nowhere c (returning e) refl
     ∙ ap (λ (x : Emit). say (puts (11 ∷ 3 ∷ [])) ▷ x)
     (two-fields false (below c (returning e)) (Piece.mark 0) (Piece.one e)
-    ∙ ap (λ (d : Place). say (does Event.newMark ∷ []) ▷ emits d e) (below-inner c (returning e) refl refl refl))
+    ∙ ap (λ (d : ℕ → Place). say (does Event.newMark ∷ []) ▷ emits (d 1) e) (below-inner c (returning e) (λ i. refl) refl refl))
     ∙ say-then (puts (11 ∷ 3 ∷ [])) (does Event.newMark ∷ []) (emits (inner c) e)
 
 -- a Block, which is a container and a scope
@@ -272,7 +273,7 @@ emits-block c at m ns =
     emits-nowhere c n refl
     ∙ ap (λ (x : Emit). say (puts (2 ∷ 3 ∷ [])) ▷ x)
     (two-fields true (below c n) (Piece.mark m) (Piece.list ns)
-    ∙ ap (λ (d : Place). say (marks m) ▷ say (puts (wideBytes (count ns))) ▷ emitsItems true d ns) (below-scoped c n refl refl refl)
+    ∙ ap (λ (d : ℕ → Place). say (marks m) ▷ say (puts (wideBytes (count ns))) ▷ emitsItems true (d 1) ns) (below-scoped c n (λ i. refl) refl refl)
     ∙ say-then (marks m) (puts (wideBytes (count ns))) e)
     ∙ say-then (puts (2 ∷ 3 ∷ [])) (marks m ++ puts (wideBytes (count ns))) e
 
@@ -285,11 +286,11 @@ emits-new-block c ns = emits-block c 0 0 ns
 -- a FunctionBody, a container, without directives
 pub emits-body : (c : Place) (at : ℕ) (ns : Items)
     → emits c (node at 16 (Fields.absent (Fields.field (Piece.list ns) Fields.done))) ≡ say (puts (16 ∷ 2 ∷ wideBytes (count ns))) ▷ emitsItems true (inner c) ns
-unfolding ruleOf stays mapOf isContainer emitsPiece emitsFields is opensScope
+unfolding ruleOf stays mapOf isContainer emitsPiece emitsParts is opensScope
 emits-body c at ns =
     let n = node at 16 (Fields.absent (Fields.field (Piece.list ns) Fields.done)) in
     emits-nowhere c n refl
     ∙ ap (λ (x : Emit). say (puts (16 ∷ 2 ∷ [])) ▷ x)
-    (then-nothing (say (puts (wideBytes (count ns))) ▷ emitsItems true (below c n) ns)
-    ∙ ap (λ (d : Place). say (puts (wideBytes (count ns))) ▷ emitsItems true d ns) (below-inner c n refl refl refl))
+    (then-nothing (say (puts (wideBytes (count ns))) ▷ emitsItems true (below c n 1) ns)
+    ∙ ap (λ (d : ℕ → Place). say (puts (wideBytes (count ns))) ▷ emitsItems true (d 1) ns) (below-inner c n (λ i. refl) refl refl))
     ∙ say-then (puts (16 ∷ 2 ∷ [])) (puts (wideBytes (count ns))) (emitsItems true (inner c) ns)

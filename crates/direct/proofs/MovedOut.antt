@@ -17,7 +17,7 @@ use Rattle.lowering.specs.Collect.{isContainer}
 use Rattle.lowering.proofs.Cases.{by-shape}
 use Rattle.lowering.proofs.Levels.{movedOut-levels}
 use Rattle.direct.specs.Events.{Place, Emit, puts, contextOf, emits}
-use Rattle.direct.specs.Emit.{say, _▷_, below, inner, emitsItems, emitsPiece, emitsFields, stays}
+use Rattle.direct.specs.Emit.{say, _▷_, below, inner, emitsItems, emitsPiece, emitsParts, stays}
 use Rattle.direct.specs.Moved.{standIn, stand, outOf, behind, Binder}
 use Rattle.direct.proofs.Threads.{then-assoc, then-nothing}
 use Rattle.direct.proofs.OneLevel.{emits-nowhere}
@@ -112,19 +112,19 @@ emits-items-rest c at ns r =
     emits-nowhere c n refl
     ∙ ap (λ (x : Emit). say (puts (36 ∷ 3 ∷ [])) ▷ x)
     (two-fields false (below c n) (Piece.list ns) (Piece.one r)
-    ∙ ap (λ (d : Place). (say (puts (wideBytes (count ns))) ▷ emitsItems false d ns) ▷ emits d r) (below-inner c n refl refl refl)
+    ∙ ap (λ (d : ℕ → Place). (say (puts (wideBytes (count ns))) ▷ emitsItems false (d 0) ns) ▷ emits (d 1) r) (below-inner c n (λ i. refl) refl refl)
     ∙ then-assoc (say (puts (wideBytes (count ns)))) (emitsItems false (inner c) ns) (emits (inner c) r))
     ∙ say-then (puts (36 ∷ 3 ∷ [])) (puts (wideBytes (count ns))) (emitsItems false (inner c) ns ▷ emits (inner c) r)
 
 emits-items : (c : Place) (at : ℕ) (is : Items)
     → emits c (node at 36 (Fields.field (Piece.list is) (Fields.absent Fields.done))) ≡ say (puts (36 ∷ 1 ∷ wideBytes (count is))) ▷ emitsItems false (inner c) is
-unfolding ruleOf stays mapOf isContainer emitsPiece emitsFields is opensScope
+unfolding ruleOf stays mapOf isContainer emitsPiece emitsParts is opensScope
 emits-items c at ns =
     let n = node at 36 (Fields.field (Piece.list ns) (Fields.absent Fields.done)) in
     emits-nowhere c n refl
     ∙ ap (λ (x : Emit). say (puts (36 ∷ 1 ∷ [])) ▷ x)
-    (then-nothing (say (puts (wideBytes (count ns))) ▷ emitsItems false (below c n) ns)
-    ∙ ap (λ (d : Place). say (puts (wideBytes (count ns))) ▷ emitsItems false d ns) (below-inner c n refl refl refl))
+    (then-nothing (say (puts (wideBytes (count ns))) ▷ emitsItems false (below c n 0) ns)
+    ∙ ap (λ (d : ℕ → Place). say (puts (wideBytes (count ns))) ▷ emitsItems false (d 0) ns) (below-inner c n (λ i. refl) refl refl))
     ∙ say-then (puts (36 ∷ 1 ∷ [])) (puts (wideBytes (count ns))) (emitsItems false (inner c) ns)
 
 pub emits-out-array-rest : (c : Place) (at : ℕ) (is : Items) (r : Node)
@@ -155,7 +155,7 @@ emits-out-default c at l r =
     ∙ emits-nowhere c n refl
     ∙ ap (λ (x : Emit). say (puts (37 ∷ 3 ∷ [])) ▷ x)
     (two-fields false (below c n) (Piece.one (standIn p)) (Piece.one r)
-    ∙ ap (λ (d : Place). emits d (standIn p) ▷ emits d r) (below-inner c n refl refl refl)
+    ∙ ap (λ (d : ℕ → Place). emits (d 0) (standIn p) ▷ emits (d 1) r) (below-inner c n (λ i. refl) refl refl)
     ∙ ap (λ (x : Emit). x ▷ emits (inner c) r) (emits-stand (inner c) p))
     ∙ say-then (puts (37 ∷ 3 ∷ [])) (stand at) (emits (inner c) r)
 
@@ -178,24 +178,24 @@ emits-binder-value c at Binder.param p v =
     let n = node at 15 (Fields.field (Piece.one p) (Fields.field (Piece.one v) Fields.done)) in
     emits-nowhere c n refl
     ∙ ap (λ (x : Emit). say (puts (15 ∷ 3 ∷ [])) ▷ x)
-    (two-fields false (below c n) (Piece.one p) (Piece.one v) ∙ ap (λ (d : Place). emits d p ▷ emits d v) (below-inner c n refl refl refl))
+    (two-fields false (below c n) (Piece.one p) (Piece.one v) ∙ ap (λ (d : ℕ → Place). emits (d 0) p ▷ emits (d 1) v) (below-inner c n (λ i. refl) refl refl))
 emits-binder-value c at Binder.declarator p v =
     let n = node at 5 (Fields.field (Piece.one p) (Fields.field (Piece.one v) Fields.done)) in
     emits-nowhere c n refl
     ∙ ap (λ (x : Emit). say (puts (5 ∷ 3 ∷ [])) ▷ x)
-    (two-fields false (below c n) (Piece.one p) (Piece.one v) ∙ ap (λ (d : Place). emits d p ▷ emits d v) (below-inner c n refl refl refl))
+    (two-fields false (below c n) (Piece.one p) (Piece.one v) ∙ ap (λ (d : ℕ → Place). emits (d 0) p ▷ emits (d 1) v) (below-inner c n (λ i. refl) refl refl))
 
 emits-binder : (c : Place) (at : ℕ) {k : ℕ} → Binder k → (p : Node)
     → emits c (node at k (Fields.field (Piece.one p) (Fields.absent Fields.done))) ≡ say (puts (k ∷ 1 ∷ [])) ▷ emits (inner c) p
-unfolding ruleOf stays mapOf isContainer emitsPiece emitsFields is opensScope
+unfolding ruleOf stays mapOf isContainer emitsPiece emitsParts is opensScope
 emits-binder c at Binder.param p =
     let n = node at 15 (Fields.field (Piece.one p) (Fields.absent Fields.done)) in
     emits-nowhere c n refl
-    ∙ ap (λ (x : Emit). say (puts (15 ∷ 1 ∷ [])) ▷ x) (then-nothing (emits (below c n) p) ∙ ap (λ (d : Place). emits d p) (below-inner c n refl refl refl))
+    ∙ ap (λ (x : Emit). say (puts (15 ∷ 1 ∷ [])) ▷ x) (then-nothing (emits (below c n 0) p) ∙ ap (λ (d : ℕ → Place). emits (d 0) p) (below-inner c n (λ i. refl) refl refl))
 emits-binder c at Binder.declarator p =
     let n = node at 5 (Fields.field (Piece.one p) (Fields.absent Fields.done)) in
     emits-nowhere c n refl
-    ∙ ap (λ (x : Emit). say (puts (5 ∷ 1 ∷ [])) ▷ x) (then-nothing (emits (below c n) p) ∙ ap (λ (d : Place). emits d p) (below-inner c n refl refl refl))
+    ∙ ap (λ (x : Emit). say (puts (5 ∷ 1 ∷ [])) ▷ x) (then-nothing (emits (below c n 0) p) ∙ ap (λ (d : ℕ → Place). emits (d 0) p) (below-inner c n (λ i. refl) refl refl))
 
 -- one that is not looked at
 pub emits-behind-kept : (c : Place) (q : Node) → isMoved q ≡ false → emits c (behind q) ≡ emits c q

@@ -3,7 +3,7 @@
 use mathlib.Core.Path.{_≡_, refl, sym, ap, ap₂, _∙_, fun-ext}
 use mathlib.Core.Bool.{Bool, true, false, cond}
 use mathlib.Core.List.{List, [], _∷_, _++_}
-use Prim.Native.Nat.{ℕ, suc}
+use Prim.Native.Nat.{ℕ, suc, _+_}
 use native.Mathlib.Omega.{arith}
 use lib.Dec.{eqb}
 use Rattle.tree.specs.Tree.{Node, Fields, Piece, Items, wideBytes, count, mapOf}
@@ -18,7 +18,7 @@ use Rattle.lowering.proofs.Falls.{walked-is}
 use Rattle.sink.specs.Machine.{Event}
 use Rattle.direct.specs.Events.{Deed, Place, cell, puts, made, refused, entered, handsOut, excludedKeys, after, later, counted, newMarks, numberIn, countIn, mapIn, written, deeds, deedsFields, deedsPiece, deedsItems, contextOf, emits}
 use Rattle.direct.specs.Events.Deed.{does}
-use Rattle.direct.specs.Emit.{say, _▷_, below, marking, markHere, asMark, emitsItem, emitsItems, emitsPiece, emitsFields, stays}
+use Rattle.direct.specs.Emit.{say, _▷_, below, marking, markHere, asMark, emitsItem, emitsItems, emitsPiece, emitsParts, stays}
 use Rattle.direct.proofs.Threads.{hands-new, say-nothing}
 use Rattle.direct.proofs.Alike.{alike-refl}
 use Rattle.direct.proofs.PathFree.{SameDeeds, walked-alike}
@@ -57,15 +57,30 @@ module _ (c : Place) (w : ℕ → Node → Walked) (h : (j : ℕ) (n : Node) →
   piece-done l (Piece.mark b) next = refl
   piece-done l (Piece.number b) next = refl
 
-module _ (c : Place) (w : ℕ → ℕ → Node → Walked) (h : (i j : ℕ) (n : Node) → SameDeeds (w i j n) (walked (contextOf c) n)) where
-  fields-done : (l : Bool) (i : ℕ) (fs : Fields) (next : ℕ) → deedsFields l next (c .mark) (eachField w i fs) ≡ emitsFields l c fs next
-  unfolding eachField deeds emitsFields _▷_ say
-  fields-done l i Fields.done next = refl
-  fields-done l i (Fields.absent fs) next = fields-done l (suc i) fs next
-  fields-done l i (Fields.field p fs) next =
-      ap (λ (x : List Deed). x ++ deedsFields l (after next x) (c .mark) (eachField w (suc i) fs)) (piece-done c (w i) (h i) l p next)
-      ∙ ap (λ (x : List Deed). emitsPiece l c p next ++ x) (fields-done l (suc i) fs (after next (emitsPiece l c p next)))
+-- the same with a place for each field, all in the statement with the mark m; d has the places from field i on
+module _ (c : ℕ → Place) (m : ℕ) (in-statement : (i : ℕ) → c i .mark ≡ m) (w : ℕ → ℕ → Node → Walked)
+    (h : (i j : ℕ) (n : Node) → SameDeeds (w i j n) (walked (contextOf (c i)) n)) where
+  onward : (i : ℕ) (d : ℕ → Place) → ((j : ℕ) → d j ≡ c (j + i)) → (j : ℕ) → d (suc j) ≡ c (j + suc i)
+  onward i d e j = let s : suc j + i ≡ j + suc i = omega arith in e (suc j) ∙ ap c s
 
+  first-done : (l : Bool) (i : ℕ) (d : ℕ → Place) → ((j : ℕ) → d j ≡ c (j + i)) → (p : Piece) (next : ℕ)
+      → deedsPiece l next m (eachPiece (w i) p) ≡ emitsPiece l (d 0) p next
+  first-done l i d e p next =
+      let z : c i ≡ d 0 = let s : i ≡ 0 + i = omega arith in ap c s ∙ sym (e 0) in
+      ap (λ (x : ℕ). deedsPiece l next x (eachPiece (w i) p)) (sym (in-statement i))
+      ∙ piece-done (c i) (w i) (h i) l p next
+      ∙ ap (λ (x : Place). emitsPiece l x p next) z
+
+  fields-done : (l : Bool) (i : ℕ) (d : ℕ → Place) → ((j : ℕ) → d j ≡ c (j + i)) → (fs : Fields) (next : ℕ)
+      → deedsFields l next m (eachField w i fs) ≡ emitsParts l d fs next
+  unfolding eachField deeds emitsParts _▷_ say
+  fields-done l i d e Fields.done next = refl
+  fields-done l i d e (Fields.absent fs) next = fields-done l (suc i) (λ j. d (suc j)) (onward i d e) fs next
+  fields-done l i d e (Fields.field p fs) next =
+      ap (λ (x : List Deed). x ++ deedsFields l (after next x) m (eachField w (suc i) fs)) (first-done l i d e p next)
+      ∙ ap (λ (x : List Deed). emitsPiece l (d 0) p next ++ x) (fields-done l (suc i) (λ j. d (suc j)) (onward i d e) fs (after next (emitsPiece l (d 0) p next)))
+
+module _ (w : ℕ → ℕ → Node → Walked) where
   map-done : (i : ℕ) (fs : Fields) → mapIn (eachField w i fs) ≡ mapOf fs
   unfolding eachField mapIn mapOf
   map-done i Fields.done = refl
@@ -97,9 +112,9 @@ module _ (c : Place) (w : ℕ → ℕ → Node → Walked) (h : (i j : ℕ) (n :
 -- ---- a node
 
 -- what the walk leaves to the parts of r, at the place c
-pub parts-near : (c : Place) (r : Node) (i j : ℕ) (n : Node) → SameDeeds (walked (within (contextOf c) r i j) n) (walked (contextOf (below c r)) n)
+parts-near : (c : Place) (r : Node) (i j : ℕ) (n : Node) → SameDeeds (walked (within (contextOf c) r i j) n) (walked (contextOf (below c r i)) n)
 unfolding within below
-parts-near c r i j n = walked-alike (within (contextOf c) r i j) (contextOf (below c r)) n n (record { root = refl; statement = refl }) (alike-refl n)
+parts-near c r i j n = walked-alike (within (contextOf c) r i j) (contextOf (below c r i)) n n (record { root = refl; statement = refl }) (alike-refl n)
 
 noted-done : (note : Note) (at k : ℕ) (fs : WalkedFields) (next m : ℕ)
     → deeds next m (noted note at k fs) ≡ handsOut m note ++ written at k fs (deedsFields (isContainer k) next m fs)
@@ -107,16 +122,16 @@ unfolding deeds
 noted-done note at k fs next m = refl
 
 written-done : (c : Place) (at k : ℕ) (fs : Fields) (ws : WalkedFields) (next : ℕ) (ds : List Deed) → numberIn ws ≡ asNumber (pieceIn fs 0) → mapIn ws ≡ mapOf fs
-    → ds ≡ emitsFields (isContainer k) (below c (node at k fs)) fs next → written at k ws ds ≡ stays c (node at k fs) next
+    → ds ≡ emitsParts (isContainer k) (below c (node at k fs)) fs next → written at k ws ds ≡ stays c (node at k fs) next
 unfolding stays written _▷_ say newMarks counted
 written-done c at k fs ws next ds a b e =
     rw (a, b, e) (go (eqb k 20) (eqb k 21))
   where
     go : (x y : Bool)
         → cond x (does (Event.temporary (cell (asNumber (pieceIn fs 0)) at)) ∷ [])
-        (cond y (does (Event.helper (asNumber (pieceIn fs 0))) ∷ []) (puts (k ∷ mapOf fs ∷ []) ++ emitsFields (isContainer k) (below c (node at k fs)) fs next))
+        (cond y (does (Event.helper (asNumber (pieceIn fs 0))) ∷ []) (puts (k ∷ mapOf fs ∷ []) ++ emitsParts (isContainer k) (below c (node at k fs)) fs next))
         ≡ cond x (say (does (Event.temporary (cell (asNumber (pieceIn fs 0)) at)) ∷ []))
-        (cond y (say (does (Event.helper (asNumber (pieceIn fs 0))) ∷ [])) (say (puts (k ∷ mapOf fs ∷ [])) ▷ emitsFields (isContainer k) (below c (node at k fs)) fs)) next
+        (cond y (say (does (Event.helper (asNumber (pieceIn fs 0))) ∷ [])) (say (puts (k ∷ mapOf fs ∷ [])) ▷ emitsParts (isContainer k) (below c (node at k fs)) fs)) next
     go true y = refl
     go false true = refl
     go false false = refl
@@ -127,11 +142,12 @@ unfolding inside below
 inside-done c note (node at k fs) next =
     let r = node at k fs in
     let w : ℕ → ℕ → Node → Walked = λ i j m. walked (within (contextOf c) r i j) m in
-    let h : (i j : ℕ) (n : Node) → SameDeeds (w i j n) (walked (contextOf (below c r)) n) = λ i j n. parts-near c r i j n in
+    let h : (i j : ℕ) (n : Node) → SameDeeds (w i j n) (walked (contextOf (below c r i)) n) = λ i j n. parts-near c r i j n in
+    let e : (j : ℕ) → below c r j ≡ below c r (j + 0) = λ j. let s : j ≡ j + 0 = omega arith in ap (below c r) s in
     noted-done note at k (eachField w 0 fs) next (c .mark)
     ∙ ap (λ (x : List Deed). handsOut (c .mark) note ++ x)
     (written-done c at k fs (eachField w 0 fs) next (deedsFields (isContainer k) next (c .mark) (eachField w 0 fs))
-    (number-done (below c r) w h fs) (map-done (below c r) w h 0 fs) (fields-done (below c r) w h (isContainer k) 0 fs next))
+    (number-done w fs) (map-done w 0 fs) (fields-done (below c r) (c .mark) (λ i. refl) w h (isContainer k) 0 (below c r) e fs next))
 
 -- what a rewriting hands out, then what it leaves
 pub emits-step : (c : Place) (n : Node)
@@ -166,7 +182,7 @@ emits-nowhere c n e = emits-unchanged c n (rw (e, rewrite) refl)
 
 -- one that is refused
 pub emits-refused : (c : Place) (n : Node) (r : ℕ) → rewrite (contextOf c) n ≡ refuse r → emits c n ≡ say (refused r ++ puts (0 ∷ 0 ∷ []))
-unfolding handsOut made entered excludedKeys isEmpty stays emitsFields _▷_ say newMarks counted mapOf
+unfolding handsOut made entered excludedKeys isEmpty stays emitsParts _▷_ say newMarks counted mapOf
 emits-refused c n r e = emits-as c n (refuse r) e ∙ fun-ext (λ next. go (refused r))
   where
     go : (ds : List Deed) → ((ds ++ []) ++ []) ++ [] ++ (puts (0 ∷ 0 ∷ []) ++ []) ≡ ds ++ puts (0 ∷ 0 ∷ [])

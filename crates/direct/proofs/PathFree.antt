@@ -119,7 +119,7 @@ within-near : {ok : Bool} (c d : Context) (n m : Node) (i j : ℕ) → Near c d 
 unfolding within
 within-near c d n m i j e a =
     record {
-      root = ap₂ (λ (x : Bool) (y : ℕ). x && not (opensScope y)) (e .root) (kind-alike a);
+      root = ap₂ (λ (x : Bool) (y : ℕ). x && not (opensScope y i)) (e .root) (kind-alike a);
       statement = ap₂ (λ (x y : Bool). x || y) (is-alike 3 a) (ap₂ (λ (x y : Bool). x && y) (is-alike 31 a) (e .statement));
     }
 

@@ -23,7 +23,7 @@ use Rattle.lowering.proofs.Levels.{values-agree, replaced-levels, without-level
 use Rattle.sink.specs.Machine.{Event}
 use Rattle.direct.specs.Events.{Place, Emit, puts, cell, emits}
 use Rattle.direct.specs.Events.Deed.{does}
-use Rattle.direct.specs.Emit.{say, _▷_, below, inner, emitsItems, emitsPiece, emitsFields, stays}
+use Rattle.direct.specs.Emit.{say, _▷_, below, inner, emitsItems, emitsPiece, emitsParts, stays}
 use Rattle.direct.specs.Views.{View, valuesOf, takes, objectAt, objectRestAt, propertyAt, arrayAt, arrayRestAt, defaultAt, withoutRestsBelow, viewed, viewedProperty, nameless, eachDoes, saysCell, emitsView, emitsProperty, isOther, emitsKey}
 use Rattle.direct.specs.Views.View.{replacing, taking, leaving}
 use Rattle.direct.proofs.Threads.{then-assoc, then-nothing}
@@ -39,21 +39,21 @@ use Rattle.direct.proofs.ListsInTurn.{items-each}
 -- ---- pattern nodes by their bytes and their parts
 
 pub emits-object-at : (c : Place) (at : ℕ) (ps : Items) → emits c (objectAt at ps) ≡ say (puts (34 ∷ 1 ∷ wideBytes (count ps))) ▷ emitsItems false (inner c) ps
-unfolding ruleOf stays mapOf isContainer emitsPiece emitsFields is opensScope
+unfolding ruleOf stays mapOf isContainer emitsPiece emitsParts is opensScope
 emits-object-at c at ps =
     emits-nowhere c (objectAt at ps) refl
     ∙ ap (λ (x : Emit). say (puts (34 ∷ 1 ∷ [])) ▷ x)
-    (then-nothing (say (puts (wideBytes (count ps))) ▷ emitsItems false (below c (objectAt at ps)) ps)
-    ∙ ap (λ (d : Place). say (puts (wideBytes (count ps))) ▷ emitsItems false d ps) (below-inner c (objectAt at ps) refl refl refl))
+    (then-nothing (say (puts (wideBytes (count ps))) ▷ emitsItems false (below c (objectAt at ps) 0) ps)
+    ∙ ap (λ (d : ℕ → Place). say (puts (wideBytes (count ps))) ▷ emitsItems false (d 0) ps) (below-inner c (objectAt at ps) (λ i. refl) refl refl))
     ∙ say-then (puts (34 ∷ 1 ∷ [])) (puts (wideBytes (count ps))) (emitsItems false (inner c) ps)
 
 pub emits-array-at : (c : Place) (at : ℕ) (is : Items) → emits c (arrayAt at is) ≡ say (puts (36 ∷ 1 ∷ wideBytes (count is))) ▷ emitsItems false (inner c) is
-unfolding ruleOf stays mapOf isContainer emitsPiece emitsFields is opensScope
+unfolding ruleOf stays mapOf isContainer emitsPiece emitsParts is opensScope
 emits-array-at c at ps =
     emits-nowhere c (arrayAt at ps) refl
     ∙ ap (λ (x : Emit). say (puts (36 ∷ 1 ∷ [])) ▷ x)
-    (then-nothing (say (puts (wideBytes (count ps))) ▷ emitsItems false (below c (arrayAt at ps)) ps)
-    ∙ ap (λ (d : Place). say (puts (wideBytes (count ps))) ▷ emitsItems false d ps) (below-inner c (arrayAt at ps) refl refl refl))
+    (then-nothing (say (puts (wideBytes (count ps))) ▷ emitsItems false (below c (arrayAt at ps) 0) ps)
+    ∙ ap (λ (d : ℕ → Place). say (puts (wideBytes (count ps))) ▷ emitsItems false (d 0) ps) (below-inner c (arrayAt at ps) (λ i. refl) refl refl))
     ∙ say-then (puts (36 ∷ 1 ∷ [])) (puts (wideBytes (count ps))) (emitsItems false (inner c) ps)
 
 pub emits-array-rest-at : (c : Place) (at : ℕ) (is : Items) (r : Node)
@@ -64,8 +64,8 @@ emits-array-rest-at c at ps r =
     emits-nowhere c n refl
     ∙ ap (λ (x : Emit). say (puts (36 ∷ 3 ∷ [])) ▷ x)
     (two-fields false (below c n) (list ps) (one r)
-    ∙ then-assoc (say (puts (wideBytes (count ps)))) (emitsItems false (below c n) ps) (emits (below c n) r)
-    ∙ ap (λ (d : Place). say (puts (wideBytes (count ps))) ▷ emitsItems false d ps ▷ emits d r) (below-inner c n refl refl refl))
+    ∙ then-assoc (say (puts (wideBytes (count ps)))) (emitsItems false (below c n 0) ps) (emits (below c n 1) r)
+    ∙ ap (λ (d : ℕ → Place). say (puts (wideBytes (count ps))) ▷ emitsItems false (d 0) ps ▷ emits (d 1) r) (below-inner c n (λ i. refl) refl refl))
     ∙ say-then (puts (36 ∷ 3 ∷ [])) (puts (wideBytes (count ps))) (emitsItems false (inner c) ps ▷ emits (inner c) r)
 
 pub emits-default-at : (c : Place) (at : ℕ) (l r : Node) → emits c (defaultAt at l r) ≡ say (puts (37 ∷ 3 ∷ [])) ▷ emits (inner c) l ▷ emits (inner c) r
@@ -75,7 +75,7 @@ emits-default-at c at l r =
     emits-nowhere c n refl
     ∙ ap (λ (x : Emit). say (puts (37 ∷ 3 ∷ [])) ▷ x)
     (two-fields false (below c n) (one l) (one r)
-    ∙ ap (λ (d : Place). emits d l ▷ emits d r) (below-inner c n refl refl refl))
+    ∙ ap (λ (d : ℕ → Place). emits (d 0) l ▷ emits (d 1) r) (below-inner c n (λ i. refl) refl refl))
 
 pub emits-property-at : (c : Place) (at : ℕ) (k v : Node) (b : ℕ)
     → emits c (propertyAt at k v b) ≡ say (puts (35 ∷ 7 ∷ [])) ▷ emits (inner c) k ▷ emits (inner c) v ▷ say (puts (b ∷ []))
@@ -85,7 +85,7 @@ emits-property-at c at k v b =
     emits-nowhere c n refl
     ∙ ap (λ (x : Emit). say (puts (35 ∷ 7 ∷ [])) ▷ x)
     (three-fields false (below c n) (one k) (one v) (byte b)
-    ∙ ap (λ (d : Place). emits d k ▷ emits d v ▷ say (puts (b ∷ []))) (below-inner c n refl refl refl))
+    ∙ ap (λ (d : ℕ → Place). emits (d 0) k ▷ emits (d 1) v ▷ say (puts (b ∷ []))) (below-inner c n (λ i. refl) refl refl))
 
 -- ---- properties and their keys
 

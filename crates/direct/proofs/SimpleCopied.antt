@@ -15,7 +15,7 @@ use Rattle.lowering.proofs.Accepted.Proper.{proper}
 use Rattle.sink.specs.Machine.{Event}
 use Rattle.direct.specs.Events.{Place, Emit, puts, marks, contextOf, emits}
 use Rattle.direct.specs.Events.Deed.{does}
-use Rattle.direct.specs.Emit.{say, _▷_, below, marking, markHere, emitsItem, emitsItems, emitsPiece, emitsFields, stays}
+use Rattle.direct.specs.Emit.{say, _▷_, below, marking, markHere, emitsItem, emitsItems, emitsPiece, emitsParts, stays}
 use Rattle.direct.proofs.Threads.{say-puts}
 use Rattle.direct.proofs.OneLevel.{emits-unchanged}
 
@@ -30,12 +30,12 @@ item-copied true c n bs h = fun-ext (λ next. ap (λ (f : Emit). f next) (h (mar
 item-copied false c n bs h = h c
 
 stays-plain : (c : Place) (at k : ℕ) (fs : Fields) → eqb k 20 ≡ false → eqb k 21 ≡ false
-    → stays c (node at k fs) ≡ say (puts (k ∷ mapOf fs ∷ [])) ▷ emitsFields (isContainer k) (below c (node at k fs)) fs
+    → stays c (node at k fs) ≡ say (puts (k ∷ mapOf fs ∷ [])) ▷ emitsParts (isContainer k) (below c (node at k fs)) fs
 unfolding stays
 stays-plain c at k fs t h = rw (t, h) refl
 
 mutual
-  unfolding emitsItems emitsPiece emitsFields encode
+  unfolding emitsItems emitsPiece emitsParts encode
 
   pub emits-copied : (n : Node) → Simple n → Proper n → (c : Place) → emits c n ≡ say (puts (encode n))
   emits-copied (node at k fs) (simple o l s) (proper names objects holes t h p) c =
@@ -45,11 +45,11 @@ mutual
       ∙ ap (λ (x : Emit). say (puts (k ∷ mapOf fs ∷ [])) ▷ x) (fields-copied fs s p (isContainer k) (below c n))
       ∙ say-puts (k ∷ mapOf fs ∷ []) (encodeFields fs)
 
-  pub fields-copied : (fs : Fields) → SimpleFields fs → ProperFields fs → (l : Bool) (c : Place) → emitsFields l c fs ≡ say (puts (encodeFields fs))
+  pub fields-copied : (fs : Fields) → SimpleFields fs → ProperFields fs → (l : Bool) (c : ℕ → Place) → emitsParts l c fs ≡ say (puts (encodeFields fs))
   fields-copied Fields.done s p l c = refl
-  fields-copied (Fields.absent fs) (SimpleFields.absent s) (ProperFields.absent p) l c = fields-copied fs s p l c
+  fields-copied (Fields.absent fs) (SimpleFields.absent s) (ProperFields.absent p) l c = fields-copied fs s p l (λ i. c (suc i))
   fields-copied (Fields.field q fs) (SimpleFields.field a s) (ProperFields.field b p) l c =
-      ap₂ (λ (x y : Emit). x ▷ y) (piece-copied q a b l c) (fields-copied fs s p l c) ∙ say-puts (encodePiece q) (encodeFields fs)
+      ap₂ (λ (x y : Emit). x ▷ y) (piece-copied q a b l (c 0)) (fields-copied fs s p l (λ i. c (suc i))) ∙ say-puts (encodePiece q) (encodeFields fs)
 
   pub piece-copied : (p : Piece) → SimplePiece p → ProperPiece p → (l : Bool) (c : Place) → emitsPiece l c p ≡ say (puts (encodePiece p))
   piece-copied (Piece.one n) (SimplePiece.one s) (ProperPiece.one p) l c = emits-copied n s p c

@@ -20,8 +20,8 @@ use Rattle.lowering.specs.Collect.{marked, markOf}
 use Rattle.lowering.proofs.Cases.{by-test, by-rule, literals-24}
 use Rattle.lowering.proofs.Falls.{walked-is}
 use Rattle.direct.specs.Events.{Place, Emit, contextOf, emits}
-use Rattle.direct.specs.Emit.{below, marking, markHere, asMark, startMark, emitsItem, emitsStatement}
-use Rattle.direct.proofs.OneLevel.{mark-done, parts-near, emits-refused}
+use Rattle.direct.specs.Emit.{marking, markHere, asMark, startMark, emitsItem, emitsStatement}
+use Rattle.direct.proofs.OneLevel.{mark-done, emits-refused}
 
 -- ---- changes of other fields
 
@@ -102,7 +102,7 @@ inside-mark : (c : Place) (n : Node) (note : _) → markOf (inside note (λ i j 
 unfolding inside startMark
 inside-mark c (node at k fs) note =
     let r = node at k fs in
-    mark-done (below c r) (λ i j m. walked (within (contextOf c) r i j) m) (λ i j m. parts-near c r i j m) fs
+    mark-done (λ i j m. walked (within (contextOf c) r i j) m) fs
 
 pub mark-here : (c : Place) (n : Node) → markHere c n ≡ startMark (rewrite (contextOf c) n .result)
 unfolding markHere

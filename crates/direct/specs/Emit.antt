@@ -1,5 +1,5 @@
 -- Deeds one after another, and a node as it stands: its bytes, and what its parts do.
-use Prim.Native.Nat.{ℕ}
+use Prim.Native.Nat.{ℕ, suc}
 use mathlib.Core.Bool.{Bool, true, false, cond, not, _&&_, _||_}
 use mathlib.Core.List.{List, [], _∷_, _++_}
 use lib.Dec.{eqb}
@@ -28,11 +28,11 @@ unfoldable pub _▷_ : Emit → Emit → Emit
 
 -- ---- places
 
--- the place of the parts of n, as `within` has it
-unfoldable pub below : Place → Node → Place
-below c n =
+-- the place of field i of n, as `within` has it
+unfoldable pub below : Place → Node → ℕ → Place
+below c n i =
     record {
-      root = c .root && not (opensScope (kind n));
+      root = c .root && not (opensScope (kind n) i);
       statement = is 3 n || (is 31 n && c .statement);
       mark = c .mark;
     }
@@ -89,10 +89,15 @@ emitsPiece l c (byte b) = say (does (put b) ∷ [])
 emitsPiece l c (mark b) = say (marks b)
 emitsPiece l c (number b) = say (puts (wideBytes b))
 
-unfoldable pub emitsFields : Bool → Place → Fields → Emit
-emitsFields l c done = say []
-emitsFields l c (absent fs) = emitsFields l c fs
-emitsFields l c (field p fs) = emitsPiece l c p ▷ emitsFields l c fs
+-- c has the place of each field, by its number
+unfoldable pub emitsParts : Bool → (ℕ → Place) → Fields → Emit
+emitsParts l c done = say []
+emitsParts l c (absent fs) = emitsParts l (λ i. c (suc i)) fs
+emitsParts l c (field p fs) = emitsPiece l (c 0) p ▷ emitsParts l (λ i. c (suc i)) fs
+
+-- all fields at one place
+abbrev pub emitsFields : Bool → Place → Fields → Emit
+emitsFields l c fs = emitsParts l (λ i. c) fs
 
 -- what f does with each item; a hole does nothing
 unfoldable pub inTurn : (Node → Emit) → Items → Emit
@@ -106,7 +111,7 @@ unfoldable pub stays : Place → Node → Emit
 stays c (node at k fs) =
     cond (eqb k 20) (say (does (temporary (cell (asNumber (pieceIn fs 0)) at)) ∷ []))
     (cond (eqb k 21) (say (does (helper (asNumber (pieceIn fs 0))) ∷ []))
-    (say (puts (k ∷ mapOf fs ∷ [])) ▷ emitsFields (isContainer k) (below c (node at k fs)) fs))
+    (say (puts (k ∷ mapOf fs ∷ [])) ▷ emitsParts (isContainer k) (below c (node at k fs)) fs))
 
 -- the head of a call of helper h with n arguments
 abbrev pub callHead : ℕ → ℕ → List Deed

@@ -15,7 +15,7 @@ use Rattle.tree.specs.Look.{Seen, onward, lookField, lookSlot, lookFields, look
 use Rattle.lowering.specs.Collect.{isContainer}
 use Rattle.sink.specs.Machine.{part}
 use Rattle.direct.specs.Events.{Place, Emit, puts}
-use Rattle.direct.specs.Emit.{say, _▷_, below, stays, emitsPiece, emitsFields}
+use Rattle.direct.specs.Emit.{say, _▷_, below, stays, emitsPiece, emitsParts}
 use Rattle.direct.proofs.Threads.{say-puts}
 use Rattle.walk.specs.Run.{Going, Does}
 use Rattle.walk.specs.Whole.{Good}
@@ -26,41 +26,41 @@ use Rattle.walk.proofs.Opened.{no-good, good-copied}
 module _ (t : List ℕ) where
   -- ---- fields
 
-  text-written : (R : ℕ → Seen Node) (l : Bool) (c : Place) (bit q : ℕ) (fs : Fields) → emitsFields l c fs ≡ say (puts (encodeFields fs))
-      → emitsFields l c (lookSlot t R Sort.text bit q .value fs) ≡ say (puts (encodeFields (lookSlot t R Sort.text bit q .value fs)))
-  unfolding lookSlot lookField emitsFields emitsPiece encodeFields encodePiece
+  text-written : (R : ℕ → Seen Node) (l : Bool) (c : ℕ → Place) (bit q : ℕ) (fs : Fields) → emitsParts l (λ i. c (suc i)) fs ≡ say (puts (encodeFields fs))
+      → emitsParts l c (lookSlot t R Sort.text bit q .value fs) ≡ say (puts (encodeFields (lookSlot t R Sort.text bit q .value fs)))
+  unfolding lookSlot lookField emitsParts emitsPiece encodeFields encodePiece
   text-written R l c zero q fs h = h
-  text-written R l c (suc bit) q fs h = ap (λ (e : Emit). emitsPiece l c (lookField t R Sort.text q .value) ▷ e) h ∙ say-puts (encodePiece (lookField t R Sort.text q .value)) (encodeFields fs)
+  text-written R l c (suc bit) q fs h = ap (λ (e : Emit). emitsPiece l (c 0) (lookField t R Sort.text q .value) ▷ e) h ∙ say-puts (encodePiece (lookField t R Sort.text q .value)) (encodeFields fs)
 
-  number-written : (R : ℕ → Seen Node) (l : Bool) (c : Place) (bit q : ℕ) (fs : Fields) → emitsFields l c fs ≡ say (puts (encodeFields fs))
-      → emitsFields l c (lookSlot t R Sort.number bit q .value fs) ≡ say (puts (encodeFields (lookSlot t R Sort.number bit q .value fs)))
-  unfolding lookSlot lookField emitsFields emitsPiece encodeFields encodePiece
+  number-written : (R : ℕ → Seen Node) (l : Bool) (c : ℕ → Place) (bit q : ℕ) (fs : Fields) → emitsParts l (λ i. c (suc i)) fs ≡ say (puts (encodeFields fs))
+      → emitsParts l c (lookSlot t R Sort.number bit q .value fs) ≡ say (puts (encodeFields (lookSlot t R Sort.number bit q .value fs)))
+  unfolding lookSlot lookField emitsParts emitsPiece encodeFields encodePiece
   number-written R l c zero q fs h = h
-  number-written R l c (suc bit) q fs h = ap (λ (e : Emit). emitsPiece l c (lookField t R Sort.number q .value) ▷ e) h ∙ say-puts (encodePiece (lookField t R Sort.number q .value)) (encodeFields fs)
+  number-written R l c (suc bit) q fs h = ap (λ (e : Emit). emitsPiece l (c 0) (lookField t R Sort.number q .value) ▷ e) h ∙ say-puts (encodePiece (lookField t R Sort.number q .value)) (encodeFields fs)
 
-  byte-written : (low high : ℕ) (R : ℕ → Seen Node) (l : Bool) (c : Place) (bit q : ℕ) (fs : Fields) → emitsFields l c fs ≡ say (puts (encodeFields fs))
-      → emitsFields l c (lookSlot t R (Sort.byte low high) bit q .value fs) ≡ say (puts (encodeFields (lookSlot t R (Sort.byte low high) bit q .value fs)))
-  unfolding lookSlot lookField emitsFields emitsPiece encodeFields encodePiece
+  byte-written : (low high : ℕ) (R : ℕ → Seen Node) (l : Bool) (c : ℕ → Place) (bit q : ℕ) (fs : Fields) → emitsParts l (λ i. c (suc i)) fs ≡ say (puts (encodeFields fs))
+      → emitsParts l c (lookSlot t R (Sort.byte low high) bit q .value fs) ≡ say (puts (encodeFields (lookSlot t R (Sort.byte low high) bit q .value fs)))
+  unfolding lookSlot lookField emitsParts emitsPiece encodeFields encodePiece
   byte-written low high R l c zero q fs h = h
-  byte-written low high R l c (suc bit) q fs h = ap (λ (e : Emit). emitsPiece l c (lookField t R (Sort.byte low high) q .value) ▷ e) h ∙ say-puts (encodePiece (lookField t R (Sort.byte low high) q .value)) (encodeFields fs)
+  byte-written low high R l c (suc bit) q fs h = ap (λ (e : Emit). emitsPiece l (c 0) (lookField t R (Sort.byte low high) q .value) ▷ e) h ∙ say-puts (encodePiece (lookField t R (Sort.byte low high) q .value)) (encodeFields fs)
 
   Written : ℕ → Type 0
-  Written k = (R : ℕ → Seen Node) (l : Bool) (c : Place) (m q : ℕ) → emitsFields l c (lookFields t R (fieldsOf k) m q .value) ≡ say (puts (encodeFields (lookFields t R (fieldsOf k) m q .value)))
+  Written k = (R : ℕ → Seen Node) (l : Bool) (c : ℕ → Place) (m q : ℕ) → emitsParts l c (lookFields t R (fieldsOf k) m q .value) ≡ say (puts (encodeFields (lookFields t R (fieldsOf k) m q .value)))
 
   name-fields : Written 18
-  unfolding Written lookFields fieldsOf kinds emitsFields encodeFields
-  name-fields R l c m q = text-written R l c (m % 2) q _ (number-written R l c (m / 2 % 2) _ done refl)
+  unfolding Written lookFields fieldsOf kinds emitsParts encodeFields
+  name-fields R l c m q = text-written R l c (m % 2) q _ (number-written R l (λ i. c (suc i)) (m / 2 % 2) _ done refl)
 
   binding-fields : Written 19
-  unfolding Written lookFields fieldsOf kinds emitsFields encodeFields
-  binding-fields R l c m q = text-written R l c (m % 2) q _ (number-written R l c (m / 2 % 2) _ done refl)
+  unfolding Written lookFields fieldsOf kinds emitsParts encodeFields
+  binding-fields R l c m q = text-written R l c (m % 2) q _ (number-written R l (λ i. c (suc i)) (m / 2 % 2) _ done refl)
 
   literal-fields : Written 22
-  unfolding Written lookFields fieldsOf kinds emitsFields encodeFields
-  literal-fields R l c m q = byte-written 1 6 R l c (m % 2) q _ (text-written R l c (m / 2 % 2) _ _ (text-written R l c (m / 2 / 2 % 2) _ done refl))
+  unfolding Written lookFields fieldsOf kinds emitsParts encodeFields
+  literal-fields R l c m q = byte-written 1 6 R l c (m % 2) q _ (text-written R l (λ i. c (suc i)) (m / 2 % 2) _ _ (text-written R l (λ i. c (suc (suc i))) (m / 2 / 2 % 2) _ done refl))
 
   key-fields : Written 38
-  unfolding Written lookFields fieldsOf kinds emitsFields encodeFields
+  unfolding Written lookFields fieldsOf kinds emitsParts encodeFields
   key-fields R l c m q = text-written R l c (m % 2) q _ refl
 
   -- ---- nodes

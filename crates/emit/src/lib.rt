@@ -117,6 +117,13 @@ ghost use Rattle.walk.specs.Run.{goingOf, Does, Clear};
 ghost use Rattle.walk.specs.Whole.{placeOf, holeAt, itemDeeds, slotDeeds, GoodItem, GoodItems, GoodSlot, GoodFields, Good, Ruled, Emitted, Done};
 ghost use Rattle.walk.specs.Turns.{viewOf, turnOf, deepMode, suits, turnsOf, restFrom, AllSuit, sourceOf, levelOf, spotDeeds, movesOf, AllBind, givenDeeds, givenNode};
 
+// A Switch, and its fields in two parts: mark and discriminant, then the cases, which alone lie in its scope.
+const SWITCH: usize = 43;
+
+const SWITCH_FRONT: usize = 0x8cc0;
+
+const SWITCH_CASES: usize = 0x79;
+
 pub fn node(w: Walk, t: &[u8], out: &mut [u8], list: &mut [u8], work: &mut [u8], c: Place) -> Walk
     ensures { λ r. ⌜ (r .at ≡ lookNode (now (t .entry)) (c .left) (w .at) .next) × (Good (now (t .entry)) (c .left) (w .at) → Does (goingOf (now (out .entry)) (now (list .entry)) (now (work .entry)) w) (goingOf (now (out .exit)) (now (list .exit)) (now (work .exit)) r) (emits (placeOf c) (lookNode (now (t .entry)) (c .left) (w .at) .value))) ⌝ }
 {
@@ -210,7 +217,12 @@ fn plain(w: Walk, t: &[u8], out: &mut [u8], list: &mut [u8], work: &mut [u8], c:
     }
     let map = peek(t, step(t, start, 1));
     let v = w.copy(t, out, step(t, start, 2));
-    let inner = parts_of(c, kind, left - 1);
+    let inner = parts_of(c, kind, 0, left - 1);
+    if kind == SWITCH {
+        let u = fs(v, t, out, list, work, inner, SWITCH_FRONT, map, false);
+        let cases = parts_of(c, kind, 2, left - 1);
+        return fs(u, t, out, list, work, cases, SWITCH_CASES, map / 4, false);
+    }
     fs(
         v,
         t,

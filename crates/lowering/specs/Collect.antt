@@ -78,9 +78,9 @@ pub record Visit : Type 0 where
   pub containing : ℕ
   pub note : Note
 
--- whether the lists of a node are statements directly in a Program, Block or FunctionBody
+-- whether the lists of a node are statements directly in a Program, Block, FunctionBody, StaticBlock or Case; a Case's test is no list
 unfoldable pub isContainer : ℕ → Bool
-isContainer k = eqb k 1 || eqb k 2 || eqb k 16
+isContainer k = eqb k 1 || eqb k 2 || eqb k 16 || eqb k 42 || eqb k 44
 
 -- a statement's mark is its first field
 unfoldable pub markIn : WalkedFields → ℕ

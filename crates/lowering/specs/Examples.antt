@@ -28,8 +28,14 @@ c = 99
 abbrev d : ℕ
 d = 100
 
+abbrev e : ℕ
+e = 101
+
 abbrev f : ℕ
 f = 102
+
+abbrev g : ℕ
+g = 103
 
 abbrev r : ℕ
 r = 114
@@ -105,6 +111,32 @@ declaring m kind ds = node 0 4 (field (mark m) (field (byte kind) (field (list d
 
 abbrev blockOf : ℕ → Items → Node
 blockOf m ss = node 0 2 (field (mark m) (field (list ss) done))
+
+-- `switch (on) { cases }`, `case test: ss`
+abbrev switching : ℕ → Node → Items → Node
+switching m on cases = node 0 43 (field (mark m) (field (one on) (field (list cases) done)))
+
+abbrev caseOf : Node → Items → Node
+caseOf test ss = node 0 44 (field (one test) (field (list ss) done))
+
+-- `class { members }`, `class extends e { }`, `static { ss }`, a method `key(params) { ss }` whose Function has the mark m
+abbrev classOf : Items → Node
+classOf members = node 0 40 (absent (absent (field (list members) done)))
+
+abbrev extending : Node → Node
+extending e = node 0 40 (absent (field (one e) (field (list none) done)))
+
+abbrev staticBlock : Items → Node
+staticBlock ss = node 0 42 (field (list ss) done)
+
+abbrev method : ℕ → Node → Items → Items → Node
+method m key params ss =
+    let body = node 0 16 (absent (field (list ss) done)) in
+    let function = node 0 14 (field (mark m) (field (byte 2) (absent (field (list params) (absent (field (one body) done)))))) in
+    node 0 41 (field (one key) (field (one function) (field (byte 4) done)))
+
+abbrev param : Node → Node
+param pattern = node 0 15 (field (one pattern) (absent done))
 
 -- blocks each in the last, their marks from m on
 abbrev blocks : ℕ → ℕ → Items
@@ -244,6 +276,59 @@ pub record Examples : Type 0 where
       ≡ lowered 8 0
       (program (only (blockOf 1 (only (declaring 2 2 (all (declares (taking (only (part (name a) (bind a) 2))) (ref s) ∷ declares (bind r) (W (ref s) (temp 1)) ∷ [])))))))
       (0 ∷ 0 ∷ 1 ∷ 0 ∷ 5 ∷ 3 ∷ 20 ∷ 1 ∷ 1 ∷ 0 ∷ 32 ∷ 1 ∷ 1 ∷ 0 ∷ 22 ∷ 7 ∷ 1 ∷ 0 ∷ 0 ∷ 1 ∷ 0 ∷ 97 ∷ [])
+  -- ---- classes and switch (request 1)
+
+  -- `switch ({a, ...b} = c) { case ({d, ...e} = f): g; }`: the discriminant is at root, ["a"] inline; the test is not, t = ["d"]
+  switch-scope : lowering highestLimit 0
+      (program (only (switching 1 (assign (takingRest (only (part (name a) (ref a) 2)) (ref b)) (ref c))
+      (only (caseOf (assign (takingRest (only (part (name d) (ref d) 2)) (ref e)) (ref f)) (only (says 2 (ref g))))))))
+      plenty
+      ≡ lowered 8 0
+      (program (only (switching 1
+      (sequence (all (
+      assign (temp 1) (ref c)
+      ∷ assign (taking (only (part (name a) (ref a) 2))) (temp 1)
+      ∷ assign (ref b) (W (temp 1) (array (only (string (a ∷ [])))))
+      ∷ temp 1
+      ∷ [])))
+      (only (caseOf
+      (sequence (all (
+      assign (temp 2) (ref f)
+      ∷ assign (taking (only (part (name d) (ref d) 2))) (temp 2)
+      ∷ assign (ref e) (W (temp 2) (temp 3))
+      ∷ temp 2
+      ∷ [])))
+      (only (says 2 (ref g))))))))
+      (2 ∷ 0 ∷ 1 ∷ 0 ∷ 1 ∷ 0 ∷ 5 ∷ 1 ∷ 20 ∷ 1 ∷ 1 ∷ 0 ∷ 1 ∷ 0 ∷ 1 ∷ 0 ∷ 5 ∷ 1 ∷ 20 ∷ 1 ∷ 2 ∷ 0
+      ∷ 1 ∷ 0 ∷ 5 ∷ 3 ∷ 20 ∷ 1 ∷ 3 ∷ 0 ∷ 32 ∷ 1 ∷ 1 ∷ 0 ∷ 22 ∷ 7 ∷ 1 ∷ 0 ∷ 0 ∷ 1 ∷ 0 ∷ 100 ∷ [])
+  -- `class extends ({a, ...b} = c) { }`: `super` is not at root, t = ["a"]
+  class-scope : lowering highestLimit 0 (program (only (says 1 (extending (assign (takingRest (only (part (name a) (ref a) 2)) (ref b)) (ref c)))))) plenty
+      ≡ lowered 8 0
+      (program (only (says 1 (extending (sequence (all (
+      assign (temp 1) (ref c)
+      ∷ assign (taking (only (part (name a) (ref a) 2))) (temp 1)
+      ∷ assign (ref b) (W (temp 1) (temp 2))
+      ∷ temp 1
+      ∷ [])))))))
+      (1 ∷ 0 ∷ 1 ∷ 0 ∷ 1 ∷ 0 ∷ 5 ∷ 1 ∷ 20 ∷ 1 ∷ 1 ∷ 0 ∷ 1 ∷ 0 ∷ 5 ∷ 3 ∷ 20 ∷ 1 ∷ 2 ∷ 0 ∷ 32 ∷ 1 ∷ 1 ∷ 0 ∷ 22 ∷ 7 ∷ 1 ∷ 0 ∷ 0 ∷ 1 ∷ 0 ∷ 97 ∷ [])
+  -- `class { static { {...a} = b; } }`: before statement 2: t
+  static-block-contains : lowering highestLimit 0 (program (only (says 1 (classOf (only (staticBlock (only (says 2 (assign (takingRest none (ref a)) (ref b)))))))))) plenty
+      ≡ lowered 6 0
+      (program (only (says 1 (classOf (only (staticBlock (only (says 2 (sequence (all (
+      assign (temp 1) (ref b) ∷ assign (taking none) (temp 1) ∷ assign (ref a) (copied (temp 1)) ∷ [])))))))))))
+      (1 ∷ 0 ∷ 2 ∷ 0 ∷ 1 ∷ 0 ∷ 5 ∷ 1 ∷ 20 ∷ 1 ∷ 1 ∷ 0 ∷ 0 ∷ 0 ∷ [])
+  -- `switch (x) { case s: {...a} = b; }`: before statement 2: t
+  case-contains : lowering highestLimit 0 (program (only (switching 1 (ref x) (only (caseOf (ref s) (only (says 2 (assign (takingRest none (ref a)) (ref b))))))))) plenty
+      ≡ lowered 6 0
+      (program (only (switching 1 (ref x) (only (caseOf (ref s) (only (says 2 (sequence (all (
+      assign (temp 1) (ref b) ∷ assign (taking none) (temp 1) ∷ assign (ref a) (copied (temp 1)) ∷ []))))))))))
+      (1 ∷ 0 ∷ 2 ∷ 0 ∷ 1 ∷ 0 ∷ 5 ∷ 1 ∷ 20 ∷ 1 ∷ 1 ∷ 0 ∷ 0 ∷ 0 ∷ [])
+  -- `class { x({a, ...r}) { } }`: x(t) { let {a} = t, r = W(t, u); }, with u = ["a"]
+  method-parameter : lowering highestLimit 0 (program (only (says 1 (classOf (only (method 2 (name x) (only (param (takingRest (only (part (name a) (bind a) 2)) (bind r)))) none)))))) plenty
+      ≡ lowered 8 0
+      (program (only (says 1 (classOf (only (method 2 (name x) (only (param (temp 1)))
+      (only (declaring 3 2 (all (declares (taking (only (part (name a) (bind a) 2))) (temp 1) ∷ declares (bind r) (W (temp 1) (temp 2)) ∷ []))))))))))
+      (0 ∷ 0 ∷ 1 ∷ 0 ∷ 5 ∷ 3 ∷ 20 ∷ 1 ∷ 2 ∷ 0 ∷ 32 ∷ 1 ∷ 1 ∷ 0 ∷ 22 ∷ 7 ∷ 1 ∷ 0 ∷ 0 ∷ 1 ∷ 0 ∷ 97 ∷ [])
   -- ---- marks of a result need not be distinct
 
   -- `` let {[`a`[function() { }]]: b, ...c} = d ``: {[`a`[function() { }]]: b} = d, c = W(d, [`a`[function() { }]])
@@ -339,4 +424,4 @@ unfolding
     Rattle.lowering.specs.Answer.afterReading Rattle.lowering.specs.Answer.lowering
     Rattle.lowering.specs.Answer.filled Rattle.lowering.specs.Answer.outcomeOf
     Rattle.lowering.specs.Answer.outcome Rattle.lowering.specs.Answer.inForce
-examples = record { table = record { empty-literal = refl; plain-literal = refl; two-spreads = refl; spread-last = refl; spread-first = refl; spread-around = refl; rest = refl; rest-only = refl }; the-listing = refl; retired-option = refl; all-options = refl; one-options = refl; one-retired = refl; two-work = refl; three-empty = refl; four-deep = refl; not-so-deep = refl; five-array-rest = refl; six-no-form = refl; seven-short = refl; just-fits = refl; deeper = refl; deepest = refl; too-deep = refl; nine-zero = refl; nine-above = refl; nine-first = refl; one-next = refl; one-level = refl; one-level-deep = refl; one-level-no-tree = refl; tree-slice = refl; list-slice = refl; refused-slice = refl; array-rest-stays = refl; nested-rest = refl; hoisted-keys = refl; template-copied = refl; mark-twice = refl }
+examples = record { table = record { empty-literal = refl; plain-literal = refl; two-spreads = refl; spread-last = refl; spread-first = refl; spread-around = refl; rest = refl; rest-only = refl }; the-listing = refl; retired-option = refl; all-options = refl; one-options = refl; one-retired = refl; two-work = refl; three-empty = refl; four-deep = refl; not-so-deep = refl; five-array-rest = refl; six-no-form = refl; seven-short = refl; just-fits = refl; deeper = refl; deepest = refl; too-deep = refl; nine-zero = refl; nine-above = refl; nine-first = refl; one-next = refl; one-level = refl; one-level-deep = refl; one-level-no-tree = refl; tree-slice = refl; list-slice = refl; refused-slice = refl; array-rest-stays = refl; nested-rest = refl; hoisted-keys = refl; switch-scope = refl; class-scope = refl; static-block-contains = refl; case-contains = refl; method-parameter = refl; template-copied = refl; mark-twice = refl }

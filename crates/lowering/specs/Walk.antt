@@ -125,16 +125,19 @@ rewrite c n =
 
 -- ---- the walk
 
--- the kinds that open a scope for their fields; Program's is the root (document 01, 'Tree bytes')
-unfoldable pub opensScope : ℕ → Bool
-opensScope k = eqb k 2 || eqb k 6 || eqb k 7 || eqb k 8 || eqb k 10 || eqb k 14 || eqb k 17
+-- whether field i of a node of kind k lies in a scope that the node opens; Program's is the root (document 01, 'Tree bytes'). A Class's scope
+-- has `super` and the members in it, a StaticBlock's its body (request 1). Of a Switch it has the cases, field 2, and not the discriminant
+unfoldable pub opensScope : ℕ → ℕ → Bool
+opensScope k i =
+    eqb k 2 || eqb k 6 || eqb k 7 || eqb k 8 || eqb k 10 || eqb k 14 || eqb k 17 || eqb k 40 || eqb k 42
+    || (eqb k 43 && eqb i 2)
 
 -- where item j of field i of n stands
 unfoldable pub within : Context → Node → ℕ → ℕ → Context
 within c n i j =
     record {
       path = j ∷ i ∷ c .path;
-      root = c .root && not (opensScope (kind n));
+      root = c .root && not (opensScope (kind n) i);
       statement = is 3 n || (is 31 n && c .statement);
     }
 

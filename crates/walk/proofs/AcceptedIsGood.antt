@@ -5,10 +5,11 @@ use mathlib.Core.Bool.{Bool, true, false, cond, _&&_, _||_, true≢false}
 use mathlib.Core.List.{List, [], _∷_, _++_}
 use Prim.Native.Nat.{ℕ, zero, suc, _+_, _-_, _*_, _/_, _%_, _<_, _≤_}
 use native.Mathlib.Omega.{arith}
+use native.Mathlib.Decide.{decLt}
 use lib.Dec.{ltb, eqb}
 use lib.ListN.{length, getD, drop, length-drop}
 use lib.Seq.{getD-drop}
-use borrow.Author.Tests.{ltb-true, eqb-true}
+use borrow.Author.Tests.{ltb-true, le-ltb, eqb-true}
 use Rattle.tree.specs.Tree.{Node, Fields, Piece, Items, wideBytes, mapOf, encode, encodeFields, encodePiece, marks, marksFields, marksPiece}
 use Rattle.tree.specs.Tree.Node.{node}
 use Rattle.tree.specs.Tree.Items.{hole, item}
@@ -85,17 +86,43 @@ unfolding statedIn
 allStated [] = true
 allStated (f ∷ fs) = statedIn (sortIn f) && allStated fs
 
+-- a kind above the patterns has one form, itself
+late-low : (i : ℕ) → getD (14 ∷ 14 ∷ 34 ∷ 35 ∷ 36 ∷ 37 ∷ []) i 0 ≤ 37
+late-low zero = omega arith
+late-low (suc zero) = omega arith
+late-low (suc (suc zero)) = omega arith
+late-low (suc (suc (suc zero))) = omega arith
+late-low (suc (suc (suc (suc zero)))) = omega arith
+late-low (suc (suc (suc (suc (suc zero))))) = omega arith
+late-low (suc (suc (suc (suc (suc (suc i)))))) = omega arith
+
+later-form : (f k : ℕ) → kindOf f ≡ k → 37 < k → f ≡ k
+unfolding kindOf
+later-form f k e h = elim (decLt f 64) [
+  | yes l ↦ sym (lowering.early f l) ∙ e
+  | no l ↦
+      let z : getD (14 ∷ 14 ∷ 34 ∷ 35 ∷ 36 ∷ 37 ∷ []) (f - 64) 0 ≡ k = rw (le-ltb f 64 (omega arith)) at e in
+      absurd (omega (arith, late-low (f - 64)))
+]
+
 container-stated : (f : ℕ) → isContainer (kindOf f) ≡ true → allStated (fieldsOf f) ≡ true
 unfolding isContainer allStated statedIn stated fieldsOf kinds
 container-stated f h =
     let k : ℕ = kindOf f in
     let at : (m : ℕ) → f ≡ m → allStated (fieldsOf m) ≡ true → allStated (fieldsOf f) ≡ true = λ m e t. subst (λ (x : ℕ). allStated (fieldsOf x) ≡ true) (sym e) t in
+    let is : (m : ℕ) → eqb k m ≡ true → k ≡ m = λ m e. eqb-true k m e in
+    by-test (eqb k 1 || eqb k 2 || eqb k 16 || eqb k 42)
+    (λ d.
+    by-test (eqb k 1 || eqb k 2 || eqb k 16)
+    (λ b.
     by-test (eqb k 1 || eqb k 2)
     (λ e.
     by-test (eqb k 1)
-    (λ a. at 1 (form-is f 1 (eqb-true k 1 a) (omega arith) (omega arith) (λ z. omega arith)) refl)
-    (λ a. at 2 (form-is f 2 (eqb-true k 2 (or-other (eqb k 1) (eqb k 2) a e)) (omega arith) (omega arith) (λ z. omega arith)) refl))
-    (λ e. at 16 (form-is f 16 (eqb-true k 16 (or-other (eqb k 1 || eqb k 2) (eqb k 16) e h)) (omega arith) (omega arith) (λ z. omega arith)) refl)
+    (λ a. at 1 (form-is f 1 (is 1 a) (omega arith) (omega arith) (λ z. omega arith)) refl)
+    (λ a. at 2 (form-is f 2 (is 2 (or-other (eqb k 1) (eqb k 2) a e)) (omega arith) (omega arith) (λ z. omega arith)) refl))
+    (λ e. at 16 (form-is f 16 (is 16 (or-other (eqb k 1 || eqb k 2) (eqb k 16) e b)) (omega arith) (omega arith) (λ z. omega arith)) refl))
+    (λ b. at 42 (later-form f 42 (is 42 (or-other (eqb k 1 || eqb k 2 || eqb k 16) (eqb k 42) b d)) (omega arith)) refl))
+    (λ d. at 44 (later-form f 44 (is 44 (or-other (eqb k 1 || eqb k 2 || eqb k 16 || eqb k 42) (eqb k 44) d h)) (omega arith)) refl)
 
 -- ---- heads
 

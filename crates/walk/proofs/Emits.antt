@@ -1,6 +1,6 @@
 -- The emitters' ways out: what each part of a node does is what its code does, one law for each.
 -- Assumes nothing.
-use mathlib.Core.Path.{_≡_, refl, sym, ap, _∙_, subst}
+use mathlib.Core.Path.{_≡_, refl, sym, ap, _∙_, subst, fun-ext}
 use mathlib.Core.Bool.{Bool, true, false, cond, _&&_, _||_, not}
 use mathlib.Core.List.{List, [], _∷_}
 use Prim.Native.Nat.{ℕ, zero, suc, _-_, _/_, _%_, _≤_, _<_}
@@ -9,9 +9,9 @@ use lib.Dec.{eqb}
 use borrow.Author.Tests.{eq-eqb, ne-eqb}
 use Rattle.tree.specs.Tree.{Node, Fields, Items, wideBytes, mapOf, count, encodePiece}
 use Rattle.tree.specs.Tree.Node.{node}
-use Rattle.tree.specs.Grammar.{Sort, Field, fieldsOf}
-use Rattle.tree.specs.Read.{byteAt, wideAt}
-use Rattle.tree.specs.Rows.{fieldsIn, fieldOf, sortOf, sortFrom}
+use Rattle.tree.specs.Grammar.{Sort, Field, fieldsOf, kinds}
+use Rattle.tree.specs.Read.{byteAt, wideAt, sortIn}
+use Rattle.tree.specs.Rows.{fieldsIn, fieldOf, sortOf, sortFrom, unpacked}
 use Rattle.tree.specs.Look.{Seen, onward, lookItem, lookItems, lookField, lookSlot, lookFields, lookNode}
 use Rattle.tree.specs.Answer.{Peeked, Wide}
 use Rattle.tree.proofs.Rows.{NoKey, no-key, row-done, row-first, first-sort}
@@ -23,8 +23,8 @@ use Rattle.lowering.specs.Walk.{ruleOf, opensScope}
 use Rattle.lowering.specs.Walk.Rule.{nowhere}
 use Rattle.sink.specs.Machine.{part}
 use Rattle.direct.specs.Events.{Place, Emit, puts, marks, emits}
-use Rattle.direct.specs.Emit.{say, _▷_, below, marking, stays, emitsItem, emitsItems, emitsPiece, emitsFields}
-use Rattle.direct.proofs.Threads.{say-nothing}
+use Rattle.direct.specs.Emit.{say, _▷_, below, marking, stays, emitsItem, emitsItems, emitsPiece, emitsFields, emitsParts}
+use Rattle.direct.proofs.Threads.{say-nothing, then-nothing, then-assoc}
 use Rattle.direct.proofs.OneLevel.{emits-nowhere}
 use Rattle.direct.proofs.StatementMarks.{emits-item}
 use Rattle.walk.specs.Run.{Going, Does}
@@ -58,6 +58,18 @@ pub nowhere-else : (k : ℕ) → (k ≡ 4 → ⊥) → (k ≡ 7 → ⊥) → (k 
 unfolding ruleOf
 nowhere-else k a b c d e f g h = rw (ne-eqb k 24 g, ne-eqb k 4 a, ne-eqb k 27 h, ne-eqb k 14 e, ne-eqb k 17 f, ne-eqb k 10 d, ne-eqb k 7 b, ne-eqb k 8 c) refl
 
+-- the fields of a node that is no Switch are all at one place
+same-below : (c : Place) (at k : ℕ) (fs : Fields) (i : ℕ) → (k ≡ 43 → ⊥) → below c (node at k fs) 0 ≡ below c (node at k fs) i
+unfolding below opensScope
+same-below c at k fs i h = rw (ne-eqb k 43 h) refl
+
+-- what stands before the cases of a Switch, and the cases, as rows
+abbrev pub switchFront : ℕ
+switchFront = 36032
+
+abbrev pub switchCases : ℕ
+switchCases = 121
+
 module _ (t : List ℕ) where
   -- ---- tests and marks
 
@@ -81,21 +93,55 @@ module _ (t : List ℕ) where
   -- ---- what the parts do, one before the rest
 
   module _ (R : ℕ → Seen Node) where
-    slot-first : (l : Bool) (c : Place) (s : Sort) (bit at : ℕ) (fs : Fields)
-        → emitsFields l c (lookSlot t R s bit at .value fs) ≡ slotDeeds t R l c s bit at ▷ emitsFields l c fs
-    unfolding lookSlot slotDeeds emitsFields
-    slot-first l c s zero at fs = sym (say-nothing (emitsFields l c fs))
+    slot-first : (l : Bool) (c : ℕ → Place) (s : Sort) (bit at : ℕ) (fs : Fields)
+        → emitsParts l c (lookSlot t R s bit at .value fs) ≡ slotDeeds t R l (c 0) s bit at ▷ emitsParts l (λ i. c (suc i)) fs
+    unfolding lookSlot slotDeeds emitsParts
+    slot-first l c s zero at fs = sym (say-nothing (emitsParts l (λ i. c (suc i)) fs))
     slot-first l c s (suc b) at fs = refl
 
     pub fields-first : (l : Bool) (c : Place) (row m at q : ℕ) → 0 < row → q ≡ lookSlot t R (sortOf (row % 512)) (m % 2) at .next
         → emitsFields l c (lookFields t R (fieldsIn row) m at .value)
         ≡ slotDeeds t R l c (sortOf (row % 512)) (m % 2) at ▷ emitsFields l c (lookFields t R (fieldsIn (row / 1024)) (m / 2) q .value)
     unfolding lookFields
-    fields-first l c row m at q h e = rw (row-first row h, first-sort row, e) (slot-first l c (sortOf (row % 512)) (m % 2) at _)
+    fields-first l c row m at q h e = rw (row-first row h, first-sort row, e) (slot-first l (λ i. c) (sortOf (row % 512)) (m % 2) at _)
 
     pub fields-none : (l : Bool) (c : Place) (row m at : ℕ) → row ≤ 0 → emitsFields l c (lookFields t R (fieldsIn row) m at .value) ≡ say []
-    unfolding lookFields emitsFields
+    unfolding lookFields emitsParts
     fields-none l c row m at h = rw (row-done row (omega arith)) refl
+
+    -- two fields before the rest
+    two-first : (l : Bool) (c : ℕ → Place) (f g : Field) (ts : List Field) (m at : ℕ)
+        → emitsParts l c (lookFields t R (f ∷ g ∷ ts) m at .value)
+        ≡ slotDeeds t R l (c 0) (sortIn f) (m % 2) at
+        ▷ slotDeeds t R l (c 1) (sortIn g) (m / 2 % 2) (lookSlot t R (sortIn f) (m % 2) at .next)
+        ▷ emitsParts l (λ i. c (suc (suc i))) (lookFields t R ts (m / 2 / 2) (lookFields t R (f ∷ g ∷ []) m at .next) .value)
+    unfolding lookFields
+    two-first l c f g ts m at =
+        slot-first l c (sortIn f) (m % 2) at _
+        ∙ ap (λ (x : Emit). slotDeeds t R l (c 0) (sortIn f) (m % 2) at ▷ x) (slot-first l (λ i. c (suc i)) (sortIn g) (m / 2 % 2) (lookSlot t R (sortIn f) (m % 2) at .next) _)
+
+    one-last : (l : Bool) (c : ℕ → Place) (f : Field) (m at : ℕ) → emitsParts l c (lookFields t R (f ∷ []) m at .value) ≡ slotDeeds t R l (c 0) (sortIn f) (m % 2) at ▷ say []
+    unfolding lookFields emitsParts
+    one-last l c f m at = slot-first l c (sortIn f) (m % 2) at _
+
+    -- three fields, the first two at one place and the third at another
+    three-apart : (l : Bool) (c : ℕ → Place) (a b : Place) → c 0 ≡ a → c 1 ≡ a → c 2 ≡ b → (f g h : Field) (m at : ℕ)
+        → emitsParts l c (lookFields t R (f ∷ g ∷ h ∷ []) m at .value)
+        ≡ emitsFields l a (lookFields t R (f ∷ g ∷ []) m at .value) ▷ emitsFields l b (lookFields t R (h ∷ []) (m / 2 / 2) (lookFields t R (f ∷ g ∷ []) m at .next) .value)
+    unfolding lookFields emitsParts
+    three-apart l c a b u v w f g h m at =
+        let q = lookFields t R (f ∷ g ∷ []) m at .next in
+        let d : Place → Emit = λ z. slotDeeds t R l z (sortIn f) (m % 2) at in
+        let e : Place → Emit = λ z. slotDeeds t R l z (sortIn g) (m / 2 % 2) (lookSlot t R (sortIn f) (m % 2) at .next) in
+        let s : Place → Emit = λ z. slotDeeds t R l z (sortIn h) (m / 2 / 2 % 2) q ▷ say [] in
+        let r : Emit = emitsFields l b (lookFields t R (h ∷ []) (m / 2 / 2) q .value) in
+        let p : s (c 2) ≡ r = ap s w ∙ sym (one-last l (λ i. b) h (m / 2 / 2) q) in
+        two-first l c f g (h ∷ []) m at
+        ∙ ap (λ (x : Emit). d (c 0) ▷ e (c 1) ▷ x) (one-last l (λ i. c (suc (suc i))) h (m / 2 / 2) q ∙ p)
+        ∙ ap (λ (z : Place). d z ▷ e (c 1) ▷ r) u
+        ∙ ap (λ (z : Place). d a ▷ e z ▷ r) v
+        ∙ sym (then-assoc (d a) (e a) r)
+        ∙ ap (λ (x : Emit). x ▷ r) (ap (λ (x : Emit). d a ▷ x) (sym (then-nothing (e a))) ∙ sym (two-first l (λ i. a) f g [] m at))
 
     hole-first : (l : Bool) (c : Place) (h : Bool) (at : ℕ) (is : Items)
         → emitsItems l c (lookItem t R h at .value is) ≡ itemDeeds t R l c h at ▷ emitsItems l c is
@@ -276,7 +322,7 @@ module _ (t : List ℕ) where
   deeper-next d e at s h k = k ∙ ap (λ (z : ℕ). lookNode t z at .next) h
 
   stays-is : (c : Place) (at k : ℕ) (fs : Fields) → eqb k 20 ≡ false → eqb k 21 ≡ false
-      → stays c (node at k fs) ≡ say (puts (k ∷ mapOf fs ∷ [])) ▷ emitsFields (isContainer k) (below c (node at k fs)) fs
+      → stays c (node at k fs) ≡ say (puts (k ∷ mapOf fs ∷ [])) ▷ emitsParts (isContainer k) (below c (node at k fs)) fs
   unfolding stays
   stays-is c at k fs e f = rw (e, f) refl
 
@@ -289,7 +335,7 @@ module _ (t : List ℕ) where
   emits-does c d at k p z f good = does-as (f good) (sym (emits-nowhere c (lookNode t d at .value) (ap ruleOf (kind-there d at k p good) ∙ z)))
 
   module _ (c c′ : Place) (d at k m row p q e x : ℕ) (l : Bool) (kinds : k ≡ byteAt t at) (second : p ≡ onward t at 1) (map : m ≡ byteAt t p)
-      (rows : fieldsIn row ≡ fieldsOf k) (third : q ≡ onward t at 2) (moved : x ≡ q) (containers : l ≡ isContainer k) (places : (at : ℕ) (fs : Fields) → c′ ≡ below c (node at k fs)) where
+      (rows : fieldsIn row ≡ fieldsOf k) (third : q ≡ onward t at 2) (moved : x ≡ q) (containers : l ≡ isContainer k) (places : (at : ℕ) (fs : Fields) → (λ i. c′) ≡ below c (node at k fs)) where
     fields-here : e ≡ d → GoodHere t (λ z. lookNode t d z) (λ l fs m z. GoodFields t (λ z. lookNode t d z) (λ z. Good t d z) l fs m z) at
         → GoodFields t (lookNode t e) (Good t e) l (fieldsIn row) m x
     fields-here u g = rw (u, moved, third, containers, rows, map, second, kinds) (g .below)
@@ -301,12 +347,12 @@ module _ (t : List ℕ) where
         let fs : Fields = lookFields t (λ z. lookNode t d z) (fieldsOf (byteAt t at)) (byteAt t (onward t at 1)) (onward t at 2) .value in
         let a : say (puts (part at q t)) ≡ say (puts (byteAt t at ∷ mapOf fs ∷ [])) = ap (λ (z : ℕ). say (puts (part at z t))) third ∙ ap (λ (bs : List ℕ). say (puts bs)) (g .head) in
         let b : lookFields t (lookNode t e) (fieldsIn row) m x .value ≡ fs = rw (u, moved, third, rows, map, second, kinds) refl in
-        let v : c′ ≡ below c (node at (byteAt t at) fs) = places at fs ∙ ap (λ (z : ℕ). below c (node at z fs)) kinds in
+        let v : (λ i. c′) ≡ below c (node at (byteAt t at) fs) = places at fs ∙ ap (λ (z : ℕ). below c (node at z fs)) kinds in
         let w : l ≡ isContainer (byteAt t at) = containers ∙ ap (λ (z : ℕ). isContainer z) kinds in
         ap (λ (z : Emit). z ▷ emitsFields l c′ (lookFields t (lookNode t e) (fieldsIn row) m x .value)) a
         ∙ ap (λ (z : Fields). say (puts (byteAt t at ∷ mapOf fs ∷ [])) ▷ emitsFields l c′ z) b
-        ∙ ap (λ (z : Place). say (puts (byteAt t at ∷ mapOf fs ∷ [])) ▷ emitsFields l z fs) v
-        ∙ ap (λ (z : Bool). say (puts (byteAt t at ∷ mapOf fs ∷ [])) ▷ emitsFields z (below c (node at (byteAt t at) fs)) fs) w
+        ∙ ap (λ (z : ℕ → Place). say (puts (byteAt t at ∷ mapOf fs ∷ [])) ▷ emitsParts l z fs) v
+        ∙ ap (λ (z : Bool). say (puts (byteAt t at ∷ mapOf fs ∷ [])) ▷ emitsParts z (below c (node at (byteAt t at) fs)) fs) w
         ∙ sym (stays-is c at (byteAt t at) fs (g .temporary) (g .helper))
 
     pub plain-here : {g g₁ g′ : Going} → e ≡ d → Does g g₁ (say (puts (part at q t)))
@@ -315,18 +361,120 @@ module _ (t : List ℕ) where
     unfolding Good
     plain-here u a b good = does-as (does-then a (b (fields-here u good))) (deeds-here u good)
 
+  -- all fields are at the place of the first
+  all-below : (c c′ : Place) (k : ℕ) → (k ≡ 43 → ⊥) → ((at : ℕ) (fs : Fields) → c′ ≡ below c (node at k fs) 0) → (at : ℕ) (fs : Fields) → (λ i. c′) ≡ below c (node at k fs)
+  all-below c c′ k h v at fs = fun-ext (λ i. v at fs ∙ same-below c at k fs i h)
+
   pub plain-does : {g g₁ g′ : Going} (c c′ : Place) (d at k m row p q e x : ℕ) (l : Bool) → (d ≡ 0 → ⊥) → k ≡ byteAt t at → p ≡ onward t at 1 → m ≡ byteAt t p
-      → fieldsIn row ≡ fieldsOf k → q ≡ onward t at 2 → x ≡ q → l ≡ isContainer k → ((at : ℕ) (fs : Fields) → c′ ≡ below c (node at k fs)) → e ≡ d - 1
+      → (k ≡ 43 → ⊥) → fieldsIn row ≡ fieldsOf k → q ≡ onward t at 2 → x ≡ q → l ≡ isContainer k → ((at : ℕ) (fs : Fields) → c′ ≡ below c (node at k fs) 0) → e ≡ d - 1
       → Does g g₁ (say (puts (part at q t)))
       → (GoodFields t (lookNode t e) (Good t e) l (fieldsIn row) m x → Does g₁ g′ (emitsFields l c′ (lookFields t (lookNode t e) (fieldsIn row) m x .value)))
       → Good t d at → Does g g′ (stays c (lookNode t d at .value))
-  plain-does c c′ zero at k m row p q e x l z a b f r h i j v u = absurd (z refl)
-  plain-does c c′ (suc d) at k m row p q e x l z a b f r h i j v u = plain-here c c′ d at k m row p q e x l a b f r h i j v (omega arith)
+  plain-does c c′ zero at k m row p q e x l z a b f s r h i j v u = absurd (z refl)
+  plain-does c c′ (suc d) at k m row p q e x l z a b f s r h i j v u = plain-here c c′ d at k m row p q e x l a b f r h i j (all-below c c′ k s v) (omega arith)
 
   pub plain-next : (d at k m row p q e x s : ℕ) → (d ≡ 0 → ⊥) → k ≡ byteAt t at → p ≡ onward t at 1 → m ≡ byteAt t p
       → fieldsIn row ≡ fieldsOf k → q ≡ onward t at 2 → x ≡ q → e ≡ d - 1 → s ≡ lookFields t (lookNode t e) (fieldsIn row) m x .next → s ≡ lookNode t d at .next
   plain-next d at k m row p q e x s z a b f r h i u v =
       skipping.node-fields t d at k m row p x s z a b f r (i ∙ h) (v ∙ ap (λ (y : ℕ). lookFields t (lookNode t y) (fieldsIn row) m x .next) u)
+
+  -- ---- a Switch: what stands before its cases is at another place than they are
+
+  module _ (R : ℕ → Seen Node) (m at : ℕ) where
+    cases-next : lookFields t R (fieldsIn switchCases) (m / 4) (lookFields t R (fieldsIn switchFront) m at .next) .next ≡ lookFields t R (fieldsOf 43) m at .next
+    unfolding lookFields fieldsOf kinds unpacked
+    cases-next = let h : m / 4 ≡ m / 2 / 2 = omega arith in rw h refl
+
+    module _ (G : ℕ → Type 0) (good : GoodFields t R G false (fieldsOf 43) m at) where
+      front-good : GoodFields t R G false (fieldsIn switchFront) m at
+      unfolding GoodFields fieldsOf kinds unpacked
+      front-good = (good .0, (good .1 .0, tt))
+
+      cases-good : GoodFields t R G false (fieldsIn switchCases) (m / 4) (lookFields t R (fieldsIn switchFront) m at .next)
+      unfolding GoodFields lookFields fieldsOf kinds unpacked
+      cases-good = let h : m / 4 ≡ m / 2 / 2 = omega arith in rw h (good .1 .1)
+
+    switch-apart : (c a b : Place) (n : ℕ) (fs : Fields) → a ≡ below c (node n 43 fs) 0 → b ≡ below c (node n 43 fs) 2
+        → emitsParts false (below c (node n 43 fs)) (lookFields t R (fieldsOf 43) m at .value)
+        ≡ emitsFields false a (lookFields t R (fieldsIn switchFront) m at .value)
+        ▷ emitsFields false b (lookFields t R (fieldsIn switchCases) (m / 4) (lookFields t R (fieldsIn switchFront) m at .next) .value)
+    unfolding fieldsOf kinds unpacked below opensScope
+    switch-apart c a b n fs u v =
+        let h : m / 4 ≡ m / 2 / 2 = omega arith in
+        rw h (three-apart R false (below c (node n 43 fs)) a b (sym u) (sym u) (sym v) _ _ _ m at)
+
+  module _ (c a b : Place) (d at k m p q x y : ℕ) (kinds-are : k ≡ byteAt t at) (switch : k ≡ 43) (second : p ≡ onward t at 1) (map : m ≡ byteAt t p) (third : q ≡ onward t at 2) (moved : x ≡ q)
+      (fronts : (at : ℕ) (fs : Fields) → a ≡ below c (node at k fs) 0) (cases : (at : ℕ) (fs : Fields) → b ≡ below c (node at k fs) 2)
+      (next : y ≡ lookFields t (lookNode t d) (fieldsIn switchFront) m x .next) where
+    abbrev front : Emit
+    front = emitsFields false a (lookFields t (lookNode t d) (fieldsIn switchFront) m x .value)
+
+    abbrev behind : Emit
+    behind = emitsFields false b (lookFields t (lookNode t d) (fieldsIn switchCases) (m / 4) y .value)
+
+    -- the fields as they are read, the kind known
+    fields-good : GoodHere t (λ z. lookNode t d z) (λ l fs m z. GoodFields t (λ z. lookNode t d z) (λ z. Good t d z) l fs m z) at → GoodFields t (lookNode t d) (Good t d) false (fieldsOf 43) m x
+    unfolding isContainer
+    fields-good g =
+        let e : GoodFields t (lookNode t d) (Good t d) (isContainer k) (fieldsOf k) m x = rw (moved, third, map, second, kinds-are) (g .below) in
+        subst (λ (z : ℕ). GoodFields t (lookNode t d) (Good t d) (isContainer z) (fieldsOf z) m x) switch e
+
+    switch-deeds : (g : GoodHere t (λ z. lookNode t d z) (λ l fs m z. GoodFields t (λ z. lookNode t d z) (λ z. Good t d z) l fs m z) at)
+        → say (puts (part at q t)) ▷ front ▷ behind ≡ stays c (lookNode t (suc d) at .value)
+    unfolding lookNode isContainer
+    switch-deeds g =
+        let fs : Fields = lookFields t (λ z. lookNode t d z) (fieldsOf (byteAt t at)) (byteAt t (onward t at 1)) (onward t at 2) .value in
+        let h : say (puts (part at q t)) ≡ say (puts (byteAt t at ∷ mapOf fs ∷ [])) = ap (λ (z : ℕ). say (puts (part at z t))) third ∙ ap (λ (bs : List ℕ). say (puts bs)) (g .head) in
+        let n : k ≡ 43 = switch in
+        let u : a ≡ below c (node at 43 fs) 0 = fronts at fs ∙ ap (λ (z : ℕ). below c (node at z fs) 0) n in
+        let v : b ≡ below c (node at 43 fs) 2 = cases at fs ∙ ap (λ (z : ℕ). below c (node at z fs) 2) n in
+        let r : behind ≡ emitsFields false b (lookFields t (lookNode t d) (fieldsIn switchCases) (m / 4) (lookFields t (lookNode t d) (fieldsIn switchFront) m x .next) .value) = ap (λ (z : ℕ). emitsFields false b (lookFields t (lookNode t d) (fieldsIn switchCases) (m / 4) z .value)) next in
+        let w : lookFields t (lookNode t d) (fieldsOf 43) m x .value ≡ fs = rw (sym n, moved, third, map, second, kinds-are) refl in
+        let z : byteAt t at ≡ 43 = sym kinds-are ∙ n in
+        ap (λ (e : Emit). say (puts (part at q t)) ▷ front ▷ e) r
+        ∙ ap (λ (e : Emit). say (puts (part at q t)) ▷ e) (sym (switch-apart (lookNode t d) m x c a b at fs u v))
+        ∙ ap (λ (e : Emit). e ▷ emitsParts false (below c (node at 43 fs)) (lookFields t (lookNode t d) (fieldsOf 43) m x .value)) h
+        ∙ ap (λ (gs : Fields). say (puts (byteAt t at ∷ mapOf fs ∷ [])) ▷ emitsParts false (below c (node at 43 fs)) gs) w
+        ∙ ap (λ (j : ℕ). say (puts (byteAt t at ∷ mapOf fs ∷ [])) ▷ emitsParts (isContainer j) (below c (node at j fs)) fs) (sym z)
+        ∙ sym (stays-is c at (byteAt t at) fs (g .temporary) (g .helper))
+
+    switch-here : {g g₁ g₂ g′ : Going} → Does g g₁ (say (puts (part at q t)))
+        → (GoodFields t (lookNode t d) (Good t d) false (fieldsIn switchFront) m x → Does g₁ g₂ front)
+        → (GoodFields t (lookNode t d) (Good t d) false (fieldsIn switchCases) (m / 4) y → Does g₂ g′ behind)
+        → Good t (suc d) at → Does g g′ (stays c (lookNode t (suc d) at .value))
+    unfolding Good
+    switch-here head f h good =
+        let w = fields-good good in
+        let l : GoodFields t (lookNode t d) (Good t d) false (fieldsIn switchCases) (m / 4) y = subst (λ (z : ℕ). GoodFields t (lookNode t d) (Good t d) false (fieldsIn switchCases) (m / 4) z) (sym next) (cases-good (lookNode t d) m x (Good t d) w) in
+        does-as (does-then head (does-then (f (front-good (lookNode t d) m x (Good t d) w)) (h l))) (switch-deeds good)
+
+  -- the same with the levels written in another way
+  pub switch-does : {g g₁ g₂ g′ : Going} (c a b : Place) (d at k m p q e₁ e₂ x y : ℕ) → (d ≡ 0 → ⊥) → k ≡ byteAt t at → k ≡ 43 → p ≡ onward t at 1 → m ≡ byteAt t p → q ≡ onward t at 2 → x ≡ q
+      → ((at : ℕ) (fs : Fields) → a ≡ below c (node at k fs) 0) → ((at : ℕ) (fs : Fields) → b ≡ below c (node at k fs) 2) → e₁ ≡ d - 1 → e₂ ≡ d - 1
+      → Does g g₁ (say (puts (part at q t)))
+      → (GoodFields t (lookNode t e₁) (Good t e₁) false (fieldsIn switchFront) m x → Does g₁ g₂ (emitsFields false a (lookFields t (lookNode t e₁) (fieldsIn switchFront) m x .value)))
+      → y ≡ lookFields t (lookNode t e₁) (fieldsIn switchFront) m x .next
+      → (GoodFields t (lookNode t e₂) (Good t e₂) false (fieldsIn switchCases) (m / 4) y → Does g₂ g′ (emitsFields false b (lookFields t (lookNode t e₂) (fieldsIn switchCases) (m / 4) y .value)))
+      → Good t d at → Does g g′ (stays c (lookNode t d at .value))
+  switch-does c a b zero at k m p q e₁ e₂ x y z i s u v w o f h e l head first n rest = absurd (z refl)
+  switch-does {g₁ = g₁} {g₂ = g₂} {g′ = g′} c a b (suc d) at k m p q e₁ e₂ x y z i s u v w o f h e l head first n rest =
+      let e : e₁ ≡ d = omega arith in
+      let l : e₂ ≡ d = omega arith in
+      switch-here c a b d at k m p q x y i s u v w o f h
+      (subst (λ (j : ℕ). y ≡ lookFields t (lookNode t j) (fieldsIn switchFront) m x .next) e n)
+      head
+      (subst (λ (j : ℕ). GoodFields t (lookNode t j) (Good t j) false (fieldsIn switchFront) m x → Does g₁ g₂ (emitsFields false a (lookFields t (lookNode t j) (fieldsIn switchFront) m x .value))) e first)
+      (subst (λ (j : ℕ). GoodFields t (lookNode t j) (Good t j) false (fieldsIn switchCases) (m / 4) y → Does g₂ g′ (emitsFields false b (lookFields t (lookNode t j) (fieldsIn switchCases) (m / 4) y .value))) l rest)
+
+  pub switch-next : (d at k m p q e₁ e₂ x y s : ℕ) → (d ≡ 0 → ⊥) → k ≡ byteAt t at → k ≡ 43 → p ≡ onward t at 1 → m ≡ byteAt t p → q ≡ onward t at 2 → x ≡ q → e₁ ≡ d - 1 → e₂ ≡ d - 1
+      → y ≡ lookFields t (lookNode t e₁) (fieldsIn switchFront) m x .next → s ≡ lookFields t (lookNode t e₂) (fieldsIn switchCases) (m / 4) y .next → s ≡ lookNode t d at .next
+  unfolding lookNode
+  switch-next zero at k m p q e₁ e₂ x y s z i n u v w o e l f h = absurd (z refl)
+  switch-next (suc d) at k m p q e₁ e₂ x y s z i n u v w o e l f h =
+      let e : e₁ ≡ d = omega arith in
+      let l : e₂ ≡ d = omega arith in
+      let a : s ≡ lookFields t (lookNode t d) (fieldsIn switchCases) (m / 4) (lookFields t (lookNode t d) (fieldsIn switchFront) m x .next) .next = h ∙ rw (l, f, e) refl in
+      a ∙ cases-next (lookNode t d) m x ∙ rw (sym n, o, w, v, u, i) refl
 
 -- ---- tests of the code
 
@@ -347,11 +495,11 @@ or-given k b e = rw e refl
 pub or-none : (k : ℕ) (b : Bool) → (k ≡ 3 → ⊥) → (k ≡ 31 → ⊥) → false ≡ eqb k 3 || (eqb k 31 && b)
 or-none k b e f = rw (ne-eqb k 3 e, ne-eqb k 31 f) refl
 
-pub below-is : (c : Place) (at k : ℕ) (fs : Fields) (r s i : Bool) → i ≡ opensScope k → r ≡ c .root && not i → s ≡ eqb k 3 || (eqb k 31 && c .statement)
-    → record { root = r; statement = s; mark = c .mark } ≡ below c (node at k fs)
+pub below-is : (c : Place) (at k : ℕ) (fs : Fields) (n : ℕ) (r s i : Bool) → i ≡ opensScope k n → r ≡ c .root && not i → s ≡ eqb k 3 || (eqb k 31 && c .statement)
+    → record { root = r; statement = s; mark = c .mark } ≡ below c (node at k fs) n
 unfolding below is
-below-is c at k fs r s i e f g =
-    let h : r ≡ c .root && not (opensScope k) = f ∙ ap (λ (x : Bool). c .root && not x) e in
+below-is c at k fs n r s i e f g =
+    let h : r ≡ c .root && not (opensScope k n) = f ∙ ap (λ (x : Bool). c .root && not x) e in
     λ j. record { root = (h) j; statement = (g) j; mark = c .mark }
 
 pub or-taken : (k n : ℕ) (x : Bool) → k ≡ n → eqb k n ≡ eqb k n || x
@@ -360,27 +508,15 @@ or-taken k n x e = rw (eq-eqb k n e) refl
 pub or-left : (k n : ℕ) (x y : Bool) → (k ≡ n → ⊥) → y ≡ x → y ≡ eqb k n || x
 or-left k n x y e h = rw (ne-eqb k n e) h
 
-seven : (a b c d e f g : Bool) → a || (b || (c || (d || (e || (f || g))))) ≡ a || b || c || d || e || f || g
-seven true b c d e f g = refl
-seven false true c d e f g = refl
-seven false false true d e f g = refl
-seven false false false true e f g = refl
-seven false false false false true f g = refl
-seven false false false false false true g = refl
-seven false false false false false false g = refl
-
-pub scope-is : (k : ℕ) → eqb k 2 || (eqb k 6 || (eqb k 7 || (eqb k 8 || (eqb k 10 || (eqb k 14 || eqb k 17))))) ≡ opensScope k
+pub no-scope : (k i : ℕ) → (k ≡ 2 → ⊥) → (k ≡ 6 → ⊥) → (k ≡ 7 → ⊥) → (k ≡ 8 → ⊥) → (k ≡ 10 → ⊥) → (k ≡ 14 → ⊥) → (k ≡ 17 → ⊥) → (k ≡ 40 → ⊥) → (k ≡ 42 → ⊥) → (k ≡ 43 → ⊥)
+    → false ≡ opensScope k i
 unfolding opensScope
-scope-is k = seven (eqb k 2) (eqb k 6) (eqb k 7) (eqb k 8) (eqb k 10) (eqb k 14) (eqb k 17)
+no-scope k i a b c d e f g h j l =
+    rw (ne-eqb k 2 a, ne-eqb k 6 b, ne-eqb k 7 c, ne-eqb k 8 d, ne-eqb k 10 e, ne-eqb k 14 f, ne-eqb k 17 g, ne-eqb k 40 h, ne-eqb k 42 j, ne-eqb k 43 l) refl
 
-three : (a b c : Bool) → a || (b || c) ≡ a || b || c
-three true b c = refl
-three false true c = refl
-three false false c = refl
-
-pub container-is : (k : ℕ) → eqb k 1 || (eqb k 2 || eqb k 16) ≡ isContainer k
+pub no-container : (k : ℕ) → (k ≡ 1 → ⊥) → (k ≡ 2 → ⊥) → (k ≡ 16 → ⊥) → (k ≡ 42 → ⊥) → (k ≡ 44 → ⊥) → false ≡ isContainer k
 unfolding isContainer
-container-is k = three (eqb k 1) (eqb k 2) (eqb k 16)
+no-container k a b c d e = rw (ne-eqb k 1 a, ne-eqb k 2 b, ne-eqb k 16 c, ne-eqb k 42 d, ne-eqb k 44 e) refl
 
 pub leaf-is : (k : ℕ) → eqb k 18 || (eqb k 38 || (eqb k 22 || eqb k 19)) ≡ leafKind k
 unfolding leafKind

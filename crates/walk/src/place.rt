@@ -20,17 +20,36 @@ pub struct Place {
     pub left: usize,
 }
 
-fn opens_scope(kind: usize) -> bool
-    ensures { λ r. ⌜ r ≡ opensScope kind ⌝ }
+// Whether a field of a node lies in a scope that the node opens; of a Switch the cases alone do.
+fn opens_scope(kind: usize, field: usize) -> bool
+    ensures { λ r. ⌜ r ≡ opensScope kind field ⌝ }
 {
-    kind == 2
-        || (kind == 6 || (kind == 7 || (kind == 8 || (kind == 10 || (kind == 14 || kind == 17)))))
+    match kind {
+        2 => true,
+        6 => true,
+        7 => true,
+        8 => true,
+        10 => true,
+        14 => true,
+        17 => true,
+        40 => true,
+        42 => true,
+        43 => field == 2,
+        _ => false,
+    }
 }
 
 pub fn container(kind: usize) -> bool
     ensures { λ r. ⌜ r ≡ isContainer kind ⌝ }
 {
-    kind == 1 || (kind == 2 || kind == 16)
+    match kind {
+        1 => true,
+        2 => true,
+        16 => true,
+        42 => true,
+        44 => true,
+        _ => false,
+    }
 }
 
 // Whether a kind has no nodes in it.
@@ -62,12 +81,12 @@ fn whole(kind: usize, statement: bool) -> bool
     false
 }
 
-// The place of the parts of a node.
-pub fn parts_of(c: Place, kind: usize, left: usize) -> Place
-    ensures { λ r. ⌜ ((at : ℕ) (fs : Fields) → placeOf r ≡ below (placeOf c) (node at kind fs)) × (r .left ≡ left) ⌝ }
+// The place of a field of a node; that of all of them, if the node is no Switch.
+pub fn parts_of(c: Place, kind: usize, field: usize, left: usize) -> Place
+    ensures { λ r. ⌜ ((at : ℕ) (fs : Fields) → placeOf r ≡ below (placeOf c) (node at kind fs) field) × (r .left ≡ left) ⌝ }
 {
     Place {
-        root: but_not(c.root, opens_scope(kind)),
+        root: but_not(c.root, opens_scope(kind, field)),
         statement: whole(kind, c.statement),
         mark: c.mark,
         left: left,

@@ -1,16 +1,17 @@
-use mathlib.Core.Path.{refl, _∙_}
+use mathlib.Core.Path.{sym, ap}
+use Rattle.lowering.specs.Collect.{isContainer}
 use Rattle.walk.proofs.Emits as law
 use Rattle.walk.proofs.place.container.Statement.{statement}
 use Rattle.walk.proofs.place.container.Tie as tie
 
-returns : tie.Need-returns
-returns c = law.or-taken _ 1 _ (c .if1 .taken) ∙ law.container-is _
-
-returns-2 : tie.Need-returns-2
-returns-2 c = law.or-left _ 1 _ _ (c .before .if1 .left) (law.or-taken _ 2 _ (c .if2 .taken)) ∙ law.container-is _
-
-returns-3 : tie.Need-returns-3
-returns-3 c = law.or-left _ 1 _ _ (c .before .if1 .left) (law.or-left _ 2 _ _ (c .if2 .left) refl) ∙ law.container-is _
-
 pub container-spec : {M : Type 1} → statement M
-container-spec = tie.close (tie.spec returns returns-2 returns-3)
+unfolding isContainer
+container-spec =
+    tie.close
+    (tie.spec
+    (λ c. ap isContainer (sym (c .match .keys1)))
+    (λ c. ap isContainer (sym (c .match .keys2)))
+    (λ c. ap isContainer (sym (c .match .keys3)))
+    (λ c. ap isContainer (sym (c .match .keys4)))
+    (λ c. ap isContainer (sym (c .match .keys5)))
+    (λ c. let n = c .match .rest in law.no-container _ (n .0 .0 .0 .0 .1) (n .0 .0 .0 .1) (n .0 .0 .1) (n .0 .1) (n .1)))
