@@ -18,7 +18,7 @@ extern "C" {
 
 /* The version of what is promised below. Compare it with rest_spread_version() before the first call: an archive of another
  * version may be linked and then do something else. An archive from before there were versions does not link. */
-#define REST_SPREAD_VERSION 1
+#define REST_SPREAD_VERSION 2
 
 /* The longest tree that is read, and the deepest: the Program is at level 1, a node in a field of another one below it. */
 #define REST_SPREAD_TREE_IN 16384

@@ -2,13 +2,14 @@
 """Makes and shows the stored cases of the program vectors: crates/vectors/stdin and stdout.
 
     tools/cases.py --show N..          the stored cases with these numbers, as text and in hexadecimal
-    tools/cases.py FOLDER              makes the list anew from FOLDER and says whether it is the stored one
-    tools/cases.py --write FOLDER      makes it and stores it
-    tools/cases.py --list FOLDER       says what each case is, too
+    tools/cases.py --reference FILE FOLDER           makes the list anew from FOLDER, says whether it is the stored one
+    tools/cases.py --reference FILE --write FOLDER   makes it and stores it
+    tools/cases.py --reference FILE --list FOLDER    says what each case is, too
 
 FOLDER has the vector files, whole; they are kept outside the repository (loader/tests/data has a part of them):
-document01.txt, readings.txt, extra.txt and recorded.txt, which are the base's and run with a depth limit of 64; cr5.txt,
-whose lines have seven words, the first the limit (`-` where none is named); and cr12.txt. A case's number is the one that
+document01.txt, readings.txt, extra.txt and recorded.txt, which are the base's and run with a depth limit of 64; cr4.txt;
+cr5.txt, whose lines have seven words, the first the limit (`-` where none is named); and cr12.txt. What the base records of
+a result with a temporary is restated with its stem (request 4): as cr4.txt has it, and for recorded.txt by the reference. A case's number is the one that
 vectors prints. The cases of reading come first. Such a case is a zero byte; two bytes, the limit and the
 expected answer of reading; two 16-bit numbers, the tree's length and the expected next mark (0 on a refusal); then the
 tree. Expected answers are those recorded in the vector files or given here; read.py has to agree with each, and supplies
@@ -21,8 +22,10 @@ tree and of the expected list; then these three. What is expected is recorded in
 import argparse
 import os
 import signal
+import subprocess
 import sys
 
+import equal
 import read
 import show
 
@@ -46,12 +49,17 @@ def encode_lowering(limit, options, number, helpers, mask, tree, result, listed)
 
 
 # The base's limit. The vector files with the limit of their cases where the lines name none; None is for a caller who names
-# none either. A part of a file that does not hold yet, by the first words of its head.
+# none either. A part of cr4.txt that restates cases of the base, and one of cr5.txt that holds no longer, by the first words of
+# their heads.
 BASE_LIMIT = 64
-FILES = dict.fromkeys(["document01", "readings", "extra", "recorded"], BASE_LIMIT) | {"cr5": None, "cr12": None}
-NOT_YET = "---- the same with request 4 in force"
+BASE = ["document01", "readings", "extra", "recorded"]
+FILES = dict.fromkeys(BASE, BASE_LIMIT) | {"cr4": None, "cr5": None, "cr12": None}
+RESTATED = "---- the cases of document01.txt, readings.txt and extra.txt whose result this request changes"
+NO_LONGER = "---- with temporaries, while request 4 is not in force"
 # The option that is no longer shown in the mask (request 12). The base's files record masks that show it, and are restated.
 RETIRED = 8
+# Stems of temporaries: in place of a pattern, of excluded keys, of a value.
+REF, EXCLUDED, VALUE = 1, 2, 3
 
 
 class Reading:
@@ -125,20 +133,27 @@ def shown(number, case):
     return lines
 
 
-def lines_of(folder, name):
-    """The cases of a vector file: what each is, its limit (None where none is named) and the words of its line."""
-    what, holds = "", True
+def lines_of(folder, name, part=None):
+    """The cases of a vector file: what each is, its limit (None where none is named) and the words of its line. Those of one
+    part of it, or of all parts that are stored."""
+    what, holds = "", part is None
     with open(os.path.join(folder, name + ".txt")) as lines:
         for at, line in enumerate(lines, 1):
             if line.startswith("#"):
                 what = line[1:].strip()
                 if what.startswith("----"):
-                    holds = not what.startswith(NOT_YET)
+                    holds = what.startswith(part) if part else not what.startswith((RESTATED, NO_LONGER))
             elif line.strip() and holds:
                 words = line.split()
                 limit = words.pop(0) if len(words) == 7 else "-"
-                yield f"{name}:{at} {what}".strip(), FILES[name] if limit == "-" else int(limit), words
+                if not is_later(words):
+                    yield f"{name}:{at} {what}".strip(), FILES[name] if limit == "-" else int(limit), words
                 what = ""
+
+
+def is_later(words):
+    """Whether a case stands on a request that has not landed: it is walked, and to read.py it is no tree."""
+    return words[1] in ("0", "5", "6", "7") and read.answer(bytes.fromhex(words[0])[1:], read.DEEPEST)[0] == 3
 
 
 def load(folder, name):
@@ -152,12 +167,41 @@ def load(folder, name):
         yield what, limit or read.DEEPEST, reading, bytes.fromhex(given)[1:]
 
 
-def load_lowerings(folder, name):
+def load_lowerings(folder, name, part=None):
     """The same as cases of lowering: what each is, and what encode_lowering takes."""
-    for what, limit, (given, number, helpers, mask, *results) in lines_of(folder, name):
+    for what, limit, (given, number, helpers, mask, *results) in lines_of(folder, name, part):
         options, tree = bytes.fromhex(given)[0], bytes.fromhex(given)[1:]
         result, listed = (b"" if word == "-" else bytes.fromhex(word) for word in results)
         yield what, (limit, options, int(number), int(helpers), int(mask) & ~RETIRED, tree, result, listed)
+
+
+def has_temporary(case):
+    result, listed = case[6:]
+    return bool(result) and any(reader.numbers for reader in equal.read((result, listed)))
+
+
+def restated(folder, name, some, reference):
+    """Cases of the base, those whose result has a temporary as they are with its stem."""
+    known = {(case[1], case[5]): case[2:] for _, case in load_lowerings(folder, "cr4", "----")}
+    changed = [case for _, case in some if has_temporary(case)]
+    if name == "recorded":
+        known = dict(zip(((case[1], case[5]) for case in changed), asked(reference, changed)))
+    for what, case in some:
+        if has_temporary(case):
+            if (case[1], case[5]) not in known:
+                sys.exit(f"{what}: its result has a temporary, and cr4.txt does not have it")
+            case = case[:2] + tuple(known[case[1], case[5]])
+        yield what, case
+
+
+def asked(reference, changed):
+    """What the reference gives for these cases: answer, masks, tree, result and list."""
+    words = [reference, "--batch", "--template-key=node", "--retired", "--stems", f"--limit={BASE_LIMIT}"]
+    lines = "".join(f"{case[1]:02x}{case[5].hex()}\n" for case in changed)
+    wrote = subprocess.run(words, input=lines.encode(), stdout=subprocess.PIPE, check=True).stdout.decode().splitlines()
+    for case, line in zip(changed, wrote, strict=True):
+        *numbers, result, listed = line.split()
+        yield *map(int, numbers), case[5], *(b"" if word == "-" else bytes.fromhex(word) for word in (result, listed))
 
 
 def blocks(count):
@@ -233,8 +277,8 @@ def doubled(source, rest):
 
 def handed_out(key, count):
     """`{ ({a, ...r} = s); [{...o}, ...] = b; }` with a key of that many bytes for a and that many objects; and what it
-    becomes: `{ ($1 = s, {a} = $1, r = W($1, $2)); ([$3, ...] = b, ($5 = $3, {} = $5, o = X({}, (E($5), $5)), $5), ...); }`
-    with the list `@2: $1 | @3: $3, ... | @3: $5 | ... | excluded: $2 = ["a"]`."""
+    becomes, with v for `$value`: `{ (v1 = s, {a} = v1, r = W(v1, $excluded2)); ([$ref3, ...] = b, (v7 = $ref3, {} = v7,
+    o = X({}, (E(v7), v7)), v7), ...); }` with the list `@2: v1 | @3: $ref3, ... | @3: v7 | ... | excluded: $excluded2 = ["a"]`."""
 
     def assigned(target, value):
         return bytes([27, 7, 1]) + target + value
@@ -243,7 +287,8 @@ def handed_out(key, count):
         return bytes([35, 7, 38, 1]) + wide(key) + b"k" * key + value + bytes([2])
 
     def temporary(number):
-        return bytes([20, 1]) + wide(number)
+        stem = EXCLUDED if number == 2 else REF if number in outer else VALUE
+        return bytes([20, 3]) + wide(number) + bytes([stem])
 
     def declared(*numbers):
         return wide(len(numbers)) + b"".join(bytes([5, 1]) + temporary(number) for number in numbers)
@@ -260,12 +305,12 @@ def handed_out(key, count):
         bare = assigned(bytes([34, 1, 0, 0]), temporary(to))
         return sequence(assigned(temporary(to), temporary(source)), bare, assigned(named(b"o"), copy), temporary(to))
 
+    outer, inner = range(3, 3 + count), range(3 + count, 3 + 2 * count)
     head, second, third = bytes([1, 1, 1, 0, 2, 3, 1, 0, 2, 0]), bytes([3, 3, 2, 0]), bytes([3, 3, 3, 0])
     one = property_of(named(b"a"))
     objects = (bytes([34, 3, 0, 0]) + named(b"o")) * count
     tree = head + second + assigned(bytes([34, 3, 1, 0]) + one + named(b"r"), named(b"s"))
     tree += third + assigned(bytes([36, 1]) + wide(count) + objects, named(b"b"))
-    outer, inner = range(3, 3 + count), range(3 + count, 3 + 2 * count)
     without = bytes([29, 3, 21, 1, 4, 2, 0]) + temporary(1) + temporary(2)
     kept = assigned(bytes([34, 1, 1, 0]) + one, temporary(1))
     result = head + second + sequence(assigned(temporary(1), named(b"s")), kept, assigned(named(b"r"), without))
@@ -281,7 +326,7 @@ def made_lowerings():
     """Cases at the edges of the refusals that are the entry's own."""
     listing, long = bytes.fromhex("0101010003030100180101001a011201010061"), sized(16384)
     fits, over = doubled(16340, 2), doubled(16340, 3)
-    full, past = handed_out(16285, 4), handed_out(16286, 4)
+    full, past = handed_out(16275, 4), handed_out(16276, 4)
     base = [
         ("no tree", (0, 3, 0, 0, b"", b"", b"")),
         ("options 16, no tree", (16, 1, 0, 0, b"", b"", b"")),
@@ -326,11 +371,13 @@ def stored(folder):
     return cases
 
 
-def stored_lowerings(folder):
+def stored_lowerings(folder, reference):
     cases = made_lowerings()
     for name in FILES:
-        some = load_lowerings(folder, name)
-        cases += sample_lowerings(list(some)) if name == "recorded" else some
+        some = list(load_lowerings(folder, name))
+        if name == "recorded":
+            some = sample_lowerings(some)
+        cases += restated(folder, name, some, reference) if name in BASE else some
     return cases
 
 
@@ -369,15 +416,18 @@ def main():
     words.add_argument("--show", action="store_true", help="print stored cases")
     words.add_argument("--write", action="store_true", help="store the list that is made")
     words.add_argument("--list", action="store_true", help="say what each case is")
+    words.add_argument("--reference", metavar="FILE", help="the Rust reference, which restates recorded.txt")
     words.add_argument("given", nargs="+", metavar="FOLDER or N")
     given = words.parse_args()
     if given.show:
         return show_stored(given.given)
     if len(given.given) != 1:
         words.error("one folder is wanted")
+    if given.reference is None:
+        words.error("--reference is wanted, to restate recorded.txt")
     folder = given.given[0]
     try:
-        cases, lowerings = stored(folder), stored_lowerings(folder)
+        cases, lowerings = stored(folder), stored_lowerings(folder, given.reference)
     except OSError as error:
         sys.exit(f"{error.filename}: {error.strerror}")
     answers = list(expected(cases))

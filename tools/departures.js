@@ -160,9 +160,12 @@ function encoded(root) {
 
 // # mark, ' text, * list, = byte, + number, . node
 const FIELDS = [
-  '', '*', '#*', '#.', '#=*', '..', '#....', '#...', '#...=', '#...', '..', '#.', "#'*", '#', '#=.*..', '..', '**', '*..', "'+", "'+", '+', '=',
+  '', '*', '#*', '#.', '#=*', '..', '#....', '#...', '#...=', '#...', '..', '#.', "#'*", '#', '#=.*..', '..', '**', '*..', "'+", "'+", '+=', '=',
   "='\'", '**', '*', '..=', '.', '=..', '*', '.*', ".'", '.', '*', "'*", '*.', '..=', '*.', '..', "'", "'",
 ];
+
+// names of temporaries by their stem
+const STEMS = ['', 'ref', 'excluded', 'value', 'key'];
 
 function decoded(bytes, at = { at: 0 }) {
   const wide = () => bytes[at.at++] + 256 * bytes[at.at++];
@@ -232,7 +235,7 @@ function printer(list, isShort) {
       case 16: return body(f);
       case 17: return arrow(f);
       case 18: case 19: return f[0] + (isShort && f[1] !== null && n.kind == 18 ? '#' + f[1] : '');
-      case 20: return '$' + f[0];
+      case 20: return '$' + STEMS[f[1]] + f[0];
       case 21: return ' SXEWK'[f[0]];
       case 22: return f[1] || JSON.stringify(f[2]);
       case 23: return '`' + f[0].map((q, i) => q.fields[1] + (f[1] && f[1][i] ? '${' + show(f[1][i]) + '}' : '')).join('') + '`';
@@ -291,7 +294,7 @@ const CASES = [
   { input: 'let {x, ...r} = s', what: 'a setter on Object.prototype', before: 'var s = {x: 0, y: 1}; Object.defineProperty(Object.prototype, "y", {set() {}})', after: 'Object.keys(r)', original: '["y"]', lowered: '[]' },
   { input: 'let {x, ...r} = s', what: 'a read-only property on Object.prototype', before: 'var s = Object.defineProperty({x: 0}, "y", {value: 1, enumerable: true}); Object.defineProperty(Object.prototype, "y", {value: 2})', after: 'Object.keys(r)', original: '["y"]', lowered: '[]' },
   { input: 'let {x, ...r} = s', what: 'a proxy', before: PROXY('s'), after: 'log', original: 'get x, keys, of y, get y', lowered: 'get x, keys, proto, of x, of x, of y, of y, get y, keys' },
-  { input: 'let {name, ...r} = () => 1', after: 'name', original: '""', lowered: '"$1"' },
+  { input: 'let {name, ...r} = () => 1', after: 'name', original: '""', lowered: '"$value1"' },
   // parameters
   { input: 'function f({a, ...r}) { var a }', after: '1', original: '1', lowered: 'throws SyntaxError' },
   { input: 'function f({a, ...r}) { function a() { } }', after: '1', original: '1', lowered: 'throws SyntaxError' },
@@ -305,7 +308,7 @@ const CASES = [
   { input: 'function* g({...a}) { }', after: 'g(null), 1', original: 'throws TypeError', lowered: '1' },
   { input: 'function f({a, ...r}, b) { arguments[1] = 2; return b }', after: 'f({}, 1)', original: '1', lowered: '2' },
   { input: 'function f({a, ...r}, b) { b = 2; return arguments[1] }', after: 'f({}, 1)', original: '1', lowered: '2' },
-  { input: 'function f([a = () => 1, {...b}]) { return a.name }', after: 'f([, {}])', original: '"a"', lowered: '"$1"' },
+  { input: 'function f([a = () => 1, {...b}]) { return a.name }', after: 'f([, {}])', original: '"a"', lowered: '"$ref1"' },
   { input: 'function f(...[{...a}]) { return a }', after: 'f({b: 1})', original: '{b: 1}', lowered: 'throws SyntaxError' },
   // loops
   { input: 'for (let {a, ...b} of c) { let a }', before: 'var c = []', after: '1', original: '1', lowered: 'throws SyntaxError' },
@@ -330,7 +333,7 @@ const CASES = [
   { input: 'f = async () => ({[await k()]: a, ...r} = s)', before: 'var f, a, r', after: '1', original: '1', lowered: 'throws SyntaxError' },
   // outside the tree
   { input: 'function f(x) { return {...x} }', what: 'the function as text, elsewhere', after: 'elsewhere("(" + f + ")({a: 1})")', original: '{a: 1}', lowered: 'throws ReferenceError' },
-  { input: 'export const {a, ...r} = {b: 1}', isModule: true, original: '["a", "r"]', lowered: '["$1", "a", "r"]' },
+  { input: 'export const {a, ...r} = {b: 1}', isModule: true, original: '["a", "r"]', lowered: '["$value1", "a", "r"]' },
   { input: "'use strict'; { let {a, ...r} = s } u = 1", what: 'excluded keys go to the head', before: 'var s = {}', after: 'typeof u', original: 'throws ReferenceError', lowered: '"number"' },
 ];
 
@@ -410,7 +413,7 @@ async function main(words) {
     if (c.text && result.tree.toString('hex') != c.bytes) throw new Error(`${c.title}: another tree`);
     const text = c.text || printer(list, false)(decoded(result.tree));
     const original = await shown(c, c.input, ''), lowered = isOld(text, c.isModule) ? await shown(c, text, HELPERS) : 'throws SyntaxError';
-    const isRust = !rust || lower([rust, '--template-key=node'], tree).lines == result.lines;
+    const isRust = !rust || lower([rust, '--template-key=node', '--stems'], tree).lines == result.lines;
     const isRight = original === c.original && lowered === c.lowered && isRust;
     if (!isRight) wrong++;
     if (!isRight || words.includes('-v')) {

@@ -1,7 +1,7 @@
 """Equal results: reads rewritten trees and lists, and says which results are equal (crates/equal, specs/Equal).
 
     is_equal(a, b)     of two results, each a tree and a list: whether their canonical forms have the same bytes
-    canonical(a)       the canonical form: temporaries renumbered from 1 by first appearance, tree before list
+    canonical(a)       the canonical form: temporaries renumbered from 1 by first appearance, tree before list; stems stay
     spellings(a)       where the Literals' spellings stand: (part, position, what), part 0 is the tree and 1 the list
     respelled(a, at)   the result with another spelling there
     swapped(a, x, y)   the result with two temporaries' numbers swapped throughout
@@ -16,7 +16,7 @@ LAYOUT = dict(
         line.split()
         for line in """
         1 *     | 2 #*     | 3 #.  | 4 #=* | 5 ..  | 6 #.... | 7 #... | 8 #...= | 9 #... | 10 ..
-        11 #.   | 12 #'*   | 13 #  | 14 #=.*.. | 15 .. | 16 ** | 17 *.. | 18 '+ | 19 '+  | 20 +
+        11 #.   | 12 #'*   | 13 #  | 14 #=.*.. | 15 .. | 16 ** | 17 *.. | 18 '+ | 19 '+  | 20 +=
         21 =    | 22 =''   | 23 ** | 24 *  | 25 ..= | 26 .   | 27 =.. | 28 *    | 29 .*  | 30 .'
         31 .    | 32 *     | 33 '* | 34 *. | 35 ..= | 36 *.  | 37 ..  | 38 '    | 39 '
         """.replace("\n", "|").split("|")

@@ -79,7 +79,7 @@ class Maker:
             self.out.append(0)
             return
         if wrong == "made":
-            self.out += self.rnd.choice([bytes([20, 1, 1, 0]), bytes([21, 1, 1])])
+            self.out += self.rnd.choice([bytes([20, 3, 1, 0, 3]), bytes([21, 1, 1])])
             return
         form = self.rnd.choice(list(read.FIELDS)) if wrong == "form" else self.choose(place, goes_down)
         fields = read.FIELDS[form]

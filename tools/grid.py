@@ -101,7 +101,7 @@ def surroundings():
 def grid():
     around = surroundings()
     nodes = [small(form) for form in read.FIELDS]
-    nodes += [[b"\0"], [bytes([20, 1, 1, 0])], [bytes([21, 1, 1])], [bytes([45, 0])], [bytes([255, 0])]]
+    nodes += [[b"\0"], [bytes([20, 3, 1, 0, 3])], [bytes([21, 1, 1])], [bytes([45, 0])], [bytes([255, 0])]]
     for node in nodes:
         yield finished(node)
     for form, fields in read.FIELDS.items():

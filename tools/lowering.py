@@ -5,8 +5,8 @@
     tools/lowering.py --reference FILE --vectors FOLDER ..   on the inputs of the vector files in FOLDER
     tools/lowering.py --reference FILE --self-test [--count N] [--seed N]   whether the comparison sees what it should
 
-The reference is the Rust module over stand-ins (docs/DIFFERENCES.md); it is run with --batch --template-key=node --retired,
-so it is given the options without the retired 8. The program is `lower`, run once for each case; with --stream it is one
+The reference is the Rust module over stand-ins (docs/DIFFERENCES.md); it is run with --batch --template-key=node --retired
+--stems, so it is given the options without the retired 8 and writes the stem of each temporary. The program is `lower`, run once for each case; with --stream it is one
 that takes many cases: options byte, 16-bit length, tree, and so on. It names no depth limit, which means 128, and the
 reference is given 128. With --limit N, or --limit draw for another limit with each batch, both are given that limit, and the
 program is the loader's command.
@@ -411,7 +411,7 @@ class Refused(tuple):
 def reference_at(path, limit):
     def run(batch):
         lines = "".join(f"{options:02x}{tree.hex()}\n" for options, tree in batch)
-        words = [path, "--batch", "--template-key=node", "--retired", f"--limit={limit or read.DEEPEST}"]
+        words = [path, "--batch", "--template-key=node", "--retired", "--stems", f"--limit={limit or read.DEEPEST}"]
         wrote = subprocess.run(words, input=lines.encode(), stdout=subprocess.PIPE, check=True).stdout.decode().splitlines()
         if len(wrote) != len(batch):
             sys.exit(f"{path}: {len(batch)} cases were sent, {len(wrote)} lines came back")

@@ -40,9 +40,9 @@ function declaration(r) {
 function lowered({ kind, isRoot, takes }) {
   const keys = '[' + takes.map(t => JSON.stringify(spelled(t.key))).join(', ') + ']';
   const isHoisted = !isRoot && takes.length > 0;
-  const rest = takes.length == 0 ? 'X({}, (E(s), s))' : `W(s, ${isHoisted ? '$1' : keys})`;
+  const rest = takes.length == 0 ? 'X({}, (E(s), s))' : `W(s, ${isHoisted ? '$excluded1' : keys})`;
   const pattern = takes.length == 0 ? '' : `{${takes.map(t => t.key + ': ' + t.binding).join(', ')}} = s, `;
-  return { list: isHoisted ? `const $1 = ${keys};` : '', text: `${['', 'var', 'let', 'const'][kind]} ${pattern}r = ${rest};` };
+  return { list: isHoisted ? `const $excluded1 = ${keys};` : '', text: `${['', 'var', 'let', 'const'][kind]} ${pattern}r = ${rest};` };
 }
 
 // ---- the same as tree bytes (docs/FORMAT.md): the declaration, and what is written of it
@@ -67,7 +67,7 @@ function input(d) {
 function output(d) {
   const isHoisted = !d.isRoot && d.takes.length > 0;
   const array = [32, 1, ...list(d.takes.map(t => string(spelled(t.key))))];
-  const temporary = [20, 1, ...wide(1)];
+  const temporary = [20, 3, ...wide(1), 2];
   const rest = d.takes.length == 0
     ? call(2, [[24, 1, ...list([])], [28, 1, ...list([call(3, [reference('s')]), reference('s')])]])
     : call(4, [reference('s'), isHoisted ? temporary : array]);

@@ -17,6 +17,7 @@ import sys
 import read
 
 TEMPORARY, HELPER = 20, 21
+STEMS = {1: "ref", 2: "excluded", 3: "value", 4: "key"}
 HELPERS = {1: "S", 2: "X", 3: "E", 4: "W", 5: "K"}
 KINDS = {1: "var", 2: "let", 3: "const"}
 NAMES = (
@@ -26,7 +27,7 @@ NAMES = (
 ).split()
 # The sorts of the fields of each kind, bit 0 first. Forms of one kind differ in their places alone.
 SORTS = {read.KIND[form]: [field.sort for field in fields] for form, fields in read.FIELDS.items()}
-SORTS.update({TEMPORARY: ["number"], HELPER: ["byte"]})
+SORTS.update({TEMPORARY: ["number", "byte"], HELPER: ["byte"]})
 
 
 class NoTree(Exception):
@@ -181,8 +182,8 @@ class Printer:
 
     kind_19 = kind_18
 
-    def kind_20(self, n, number):
-        return f"${number}"
+    def kind_20(self, n, number, stem):
+        return f"${STEMS.get(stem, '')}{number}"
 
     def kind_21(self, n, number):
         return HELPERS.get(number, f"helper {number}")

@@ -66,7 +66,7 @@ kinds! {
     17 Arrow [list("params", Place::Param), node("rest", Place::Binding).or_none(), node("body", Place::ArrowBody)],
     18 Reference [text("name"), number("symbol").or_none()],
     19 Binding [text("name"), number("symbol").or_none()],
-    20 Temporary [number("number")],
+    20 Temporary [number("number"), byte("stem", 1, 4)],
     21 Helper [byte("number", 1, 5)],
     22 Literal [byte("sort", 1, 6), text("spelling"), text("form").or_none()],
     23 Template [list("quasis", Place::Literal), list("exprs", Place::Expression).or_none()],

@@ -50,6 +50,7 @@ mod node;
 mod options;
 mod parts;
 mod refusal;
+mod stem;
 mod walk;
 
 pub use advice::{Advice, Explained};
@@ -64,10 +65,11 @@ pub use make::{Make, Unfit};
 pub use node::{Field, Fields, Item, Items, Node};
 pub use options::Options;
 pub use refusal::Refusal;
+pub use stem::Stem;
 pub use walk::{Path, Step, Turn, Walk};
 
 /// The version of the archive that this crate is for. It goes up with what the archive's functions promise.
-pub const ARCHIVE: u32 = 1;
+pub const ARCHIVE: u32 = 2;
 /// The longest tree that is read.
 pub const TREE_IN: usize = 16_384;
 /// The deepest: the Program is at level 1.

@@ -2,6 +2,7 @@
 
 use crate::kind::Kind;
 use crate::node::{read_number, Field, Item, Items, Node};
+use crate::stem::Stem;
 
 /// The declarations that a lowered tree needs outside itself.
 ///
@@ -12,7 +13,7 @@ use crate::node::{read_number, Field, Item, Items, Node};
 /// use rest_spread::List;
 ///
 /// // one entry: before statement 1, temporary 2
-/// let list = List::new(b"\x01\x00\x01\x00\x01\x00\x05\x01\x14\x01\x02\x00\x00\x00");
+/// let list = List::new(b"\x01\x00\x01\x00\x01\x00\x05\x01\x14\x03\x02\x00\x03\x00\x00");
 /// assert!(list.is_whole());
 /// for entry in list.entries() {
 ///     let temporaries: Vec<_> = entry.declarators.map(|declarator| declarator.temporary()).collect();
@@ -28,7 +29,7 @@ pub struct List<'a> {
 /// What one rewritten assignment hands out.
 ///
 /// ```
-/// # let list = rest_spread::List::new(b"\x01\x00\x07\x00\x01\x00\x05\x01\x14\x01\x02\x00\x00\x00");
+/// # let list = rest_spread::List::new(b"\x01\x00\x07\x00\x01\x00\x05\x01\x14\x03\x02\x00\x03\x00\x00");
 /// for entry in list.entries() {
 ///     println!("before statement {}: {} temporaries", entry.mark, entry.declarators.count());
 /// }
@@ -46,12 +47,12 @@ pub struct Entry<'a> {
 /// A temporary, and the value that it starts with if it has one.
 ///
 /// ```
-/// use rest_spread::{Kind, List};
+/// use rest_spread::{Kind, List, Stem};
 ///
-/// // an excluded key list: $2 = []
-/// let list = List::new(b"\x00\x00\x01\x00\x05\x03\x14\x01\x02\x00\x20\x01\x00\x00");
+/// // an excluded key list: $excluded2 = []
+/// let list = List::new(b"\x00\x00\x01\x00\x05\x03\x14\x03\x02\x00\x02\x20\x01\x00\x00");
 /// let declarator = list.excluded().next().unwrap();
-/// assert_eq!(declarator.temporary(), Some(2));
+/// assert_eq!((declarator.temporary(), declarator.stem()), (Some(2), Some(Stem::Excluded)));
 /// assert_eq!(declarator.value().map(|value| value.kind()), Some(Kind::Array));
 /// ```
 #[derive(Clone, Copy, Debug, PartialEq, Eq)]
@@ -74,7 +75,7 @@ pub struct Entries<'a> {
 /// The declarators of an entry, or of the excluded keys.
 ///
 /// ```
-/// let list = rest_spread::List::new(b"\x00\x00\x01\x00\x05\x03\x14\x01\x02\x00\x20\x01\x00\x00");
+/// let list = rest_spread::List::new(b"\x00\x00\x01\x00\x05\x03\x14\x03\x02\x00\x02\x20\x01\x00\x00");
 /// let numbers: Vec<_> = list.excluded().map(|declarator| declarator.temporary()).collect();
 /// assert_eq!(numbers, [Some(2)]);
 /// ```
@@ -108,10 +109,12 @@ impl<'a> List<'a> {
         self.last().map_or(Declarators(Items::default()), |(excluded, _)| excluded)
     }
 
-    /// Whether the bytes are a list and nothing else, with a temporary in each declarator. After a success they are.
+    /// Whether the bytes are a list and nothing else, with a temporary and its stem in each declarator. After a success
+    /// they are.
     #[must_use]
     pub fn is_whole(self) -> bool {
-        let named = |mut declarators: Declarators<'a>| declarators.all(|declarator| declarator.temporary().is_some());
+        let is_named = |declarator: Declarator<'a>| declarator.temporary().is_some() && declarator.stem().is_some();
+        let named = |mut declarators: Declarators<'a>| declarators.all(is_named);
         let entries = self.entries().all(|entry| named(entry.declarators));
         entries && self.last().is_some_and(|(excluded, behind)| named(excluded) && behind.is_empty())
     }
@@ -156,9 +159,17 @@ impl<'a> Declarator<'a> {
     /// The number of its temporary.
     #[must_use]
     pub fn temporary(self) -> Option<u16> {
-        let id = self.part(0).filter(|id| id.kind() == Kind::Temporary)?;
-        match id.field(0) {
+        match self.id()?.field(0) {
             Some(Field::Number(number)) => Some(number),
+            _ => None,
+        }
+    }
+
+    /// What its temporary is for.
+    #[must_use]
+    pub fn stem(self) -> Option<Stem> {
+        match self.id()?.field(1) {
+            Some(Field::Byte(stem)) => Stem::from_number(stem),
             _ => None,
         }
     }
@@ -167,6 +178,10 @@ impl<'a> Declarator<'a> {
     #[must_use]
     pub fn value(self) -> Option<Node<'a>> {
         self.part(1)
+    }
+
+    fn id(self) -> Option<Node<'a>> {
+        self.part(0).filter(|id| id.kind() == Kind::Temporary)
     }
 
     fn part(self, number: usize) -> Option<Node<'a>> {
@@ -181,13 +196,13 @@ impl<'a> Declarator<'a> {
 mod tests {
     use super::*;
 
-    /// The list of `({[k()]: {[l()]: a, ...b}, ...c} = d)`, and an excluded `$4 = ["a"]` behind it.
+    /// The list of `({[k()]: {[l()]: a, ...b}, ...c} = d)`, and an excluded `$excluded4 = ["a"]` behind it.
     const LIST: &[u8] = b"\x01\x00\x01\x00\x03\x00\
-        \x05\x01\x14\x01\x01\x00\
-        \x05\x03\x14\x01\x03\x00\x1d\x03\x12\x01\x01\x00l\x00\x00\
-        \x05\x03\x14\x01\x02\x00\x1d\x03\x12\x01\x01\x00k\x00\x00\
+        \x05\x01\x14\x03\x01\x00\x03\
+        \x05\x03\x14\x03\x03\x00\x04\x1d\x03\x12\x01\x01\x00l\x00\x00\
+        \x05\x03\x14\x03\x02\x00\x04\x1d\x03\x12\x01\x01\x00k\x00\x00\
         \x01\x00\
-        \x05\x03\x14\x01\x04\x00\x20\x01\x01\x00\x16\x07\x01\x00\x00\x01\x00a";
+        \x05\x03\x14\x03\x04\x00\x02\x20\x01\x01\x00\x16\x07\x01\x00\x00\x01\x00a";
 
     #[test]
     fn entries_and_excluded_keys_are_handed_out() {
@@ -196,12 +211,13 @@ mod tests {
         let entries: Vec<Entry> = list.entries().collect();
         assert_eq!((entries.len(), entries[0].mark), (1, 1));
         let named: Vec<_> =
-            entries[0].declarators.clone().map(|d| (d.temporary(), d.value().map(Node::kind))).collect();
-        assert_eq!(named, [(Some(1), None), (Some(3), Some(Kind::Call)), (Some(2), Some(Kind::Call))]);
+            entries[0].declarators.clone().map(|d| (d.stem(), d.temporary(), d.value().map(Node::kind))).collect();
+        let (value, key) = (Some(Stem::Value), Some(Stem::Key));
+        assert_eq!(named, [(value, Some(1), None), (key, Some(3), Some(Kind::Call)), (key, Some(2), Some(Kind::Call))]);
         let excluded: Vec<_> = list.excluded().collect();
-        assert_eq!((excluded.len(), excluded[0].temporary()), (1, Some(4)));
+        assert_eq!((excluded.len(), excluded[0].temporary(), excluded[0].stem()), (1, Some(4), Some(Stem::Excluded)));
         assert_eq!(excluded[0].value().unwrap().kind(), Kind::Array);
-        assert_eq!(excluded[0].bytes(), &LIST[LIST.len() - 18..]);
+        assert_eq!(excluded[0].bytes(), &LIST[LIST.len() - 19..]);
     }
 
     #[test]

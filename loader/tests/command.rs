@@ -25,9 +25,9 @@ fn one_input_gets_a_summary() {
            list      78 bytes out\n  \
            helpers   objectWithoutProperties, toPropertyKey\n  \
            entries   3\n            \
-                     before statement 1: $1\n            \
-                     before statement 1: $2, $3 = OtherExpression of 16 bytes\n            \
-                     before statement 1: $4, $5 = OtherExpression of 16 bytes\n  \
+                     before statement 1: $value1\n            \
+                     before statement 1: $value2, $key3 = OtherExpression of 16 bytes\n            \
+                     before statement 1: $value4, $key5 = OtherExpression of 16 bytes\n  \
            excluded  0\n"
     );
 }
@@ -41,9 +41,9 @@ fn a_summary_shows_excluded_keys_and_options() {
     assert_eq!(ran.status, 0, "{}", ran.err);
     for line in [
         "  options   loose (not implemented, and without effect)",
-        "            before statement 2: $1",
+        "            before statement 2: $value1",
         "  excluded  1",
-        "            $2 = [\"a\"]",
+        "            $excluded2 = [\"a\"]",
     ] {
         assert!(ran.out.lines().any(|l| l == line), "{line}\n{}", ran.out);
     }
@@ -180,7 +180,7 @@ fn json_has_a_line_for_each_input() {
     assert_eq!(texts(one.at("options")), ["loose", "useBuiltIns"]);
     let entry = &one.at("entries").list()[0];
     assert_eq!(entry.at("mark").number(), 1);
-    assert_eq!(texts(entry.at("declarators")), ["$1", "$2 = Reference of 5 bytes"]);
+    assert_eq!(texts(entry.at("declarators")), ["$value1", "$key2 = Reference of 5 bytes"]);
     assert_eq!(one.at("excluded").list().len(), 0);
     let left = &one.at("leftovers").list()[0];
     assert_eq!(

@@ -21,7 +21,7 @@ fn drawn_trees_are_lowered_as_the_reference_does() {
     let lines: String = cases.iter().map(|case| to_hex(case) + "\n").collect();
     // Document 01 copies a template key as it stands, and so does the program if it is told to.
     let mut child = Command::new(&program)
-        .args(["--batch", "--template-key=node"])
+        .args(["--batch", "--template-key=node", "--stems"])
         .stdin(Stdio::piped())
         .stdout(Stdio::piped())
         .spawn()

@@ -16,7 +16,7 @@ use Rattle.lowering.specs.Declarations.{isName, source, sourceDeclarator, keysB
 use Rattle.lowering.specs.Assignments.{restsThroughObjects}
 use Rattle.lowering.proofs.All.{AllItems, all-append, all-gather, all-unit}
 use Rattle.lowering.proofs.Cases.{by-test, by-shape, not-true}
-use Rattle.direct.specs.Events.{Deed, cellOf, excludes, excludedKeys as excludedDeeds}
+use Rattle.direct.specs.Events.{Deed, cellOf, stemOf, excludes, excludedKeys as excludedDeeds}
 use Rattle.direct.specs.Events.Deed.{does}
 use Rattle.sink.specs.Machine.{Event}
 use Rattle.direct.proofs.Alike.{Alike, AlikeItems, Linked, helper-alike, temporary-alike, position-alike, is-alike, node-at, stands-at, depth-alike, empty-alike, tight, only-alike, more-alike, append-alike, each-alike, gather-alike, any-alike, cond-alike, cond-items, changeItems-alike, declares-alike, call-alike, object-alike, array-of-alike, sequence-alike, member-alike}
@@ -98,7 +98,7 @@ excluded-append Items.none js = refl
 excluded-append (Items.hole is) js = excluded-append is js
 excluded-append (Items.item d is) js =
     let x = excludes (encode (nodeAt 1 d)) in
-    ap (λ (y : List Deed). does Event.declarator ∷ does (Event.excludedTemporary (cellOf (idOf d))) ∷ y)
+    ap (λ (y : List Deed). does Event.declarator ∷ does (Event.excludedTemporary (cellOf (idOf d)) (stemOf (idOf d))) ∷ y)
     (ap (λ (y : List Deed). x ++ y) (excluded-append is js) ∙ sym (append-assoc x (excludedDeeds is) (excludedDeeds js)))
 
 -- ---- the value of a rest

@@ -22,7 +22,7 @@ use Rattle.lowering.specs.Refusals.{restBelowArrayRest, keyWithoutForm}
 use Rattle.lowering.specs.Walk.Rule.{literals, declarations, assignments, functions, arrows, catches, fors, nowhere}
 use Rattle.lowering.proofs.All.{AllItems, all-unit}
 use Rattle.lowering.proofs.Cases.{by-test, by-key, by-rule, functionBody-is, block-is, declarations-4}
-use Rattle.direct.specs.Events.{Deed, cell, cellOf, lists, made, handed, entered, refused, handsOut, excludedKeys as excludedDeeds}
+use Rattle.direct.specs.Events.{Deed, cell, cellOf, stemOf, lists, made, handed, entered, refused, handsOut, excludedKeys as excludedDeeds}
 use Rattle.direct.specs.Events.Deed.{does}
 use Rattle.direct.proofs.Alike.{SameKey, same, temporaries, Alike, AlikeItems, Linked, helper-alike, nothing-alike, kind-alike, position-alike, is-alike, node-at, number-at, stands-at, empty-alike, count-alike, loose, tight, only-alike, more-alike, append-alike, each-alike, gather-alike, any-alike, cond-alike, cond-items, changeNode-alike, changeNode-here, changeItems-alike, declared-alike, assign-alike, call-alike, object-alike, sequence-alike, let-alike, var-alike, assigning-alike, returning-alike, block-alike, body-alike}
 use Rattle.direct.proofs.AlikePatterns.{props, parts, below-alike, over-alike, rests-alike, anyLacks-alike, reference-alike, temporaries-alike, replaced-alike, objects-alike, withoutRests-alike, movedOut-alike, moved-alike, pattern-alike}
@@ -48,7 +48,7 @@ unfolding handed _+++_
 handed-append Items.none js = refl
 handed-append (Items.hole is) js = handed-append is js
 handed-append (Items.item d is) js =
-    let x = lists (5 ∷ cond (stands 1 d) 3 1 ∷ []) ++ (does (Event.listedTemporary (cellOf (idOf d))) ∷ cond (stands 1 d) (lists (encode (nodeAt 1 d))) []) in
+    let x = lists (5 ∷ cond (stands 1 d) 3 1 ∷ []) ++ (does (Event.listedTemporary (cellOf (idOf d)) (stemOf (idOf d))) ∷ cond (stands 1 d) (lists (encode (nodeAt 1 d))) []) in
     ap (λ (y : List Deed). x ++ y) (handed-append is js) ∙ sym (append-assoc x (handed is) (handed js))
 
 -- ---- literals

@@ -18,7 +18,7 @@ use Rattle.lowering.specs.Assignments.{target, restsOf, topEntry, topExcludes, 
 use Rattle.lowering.proofs.Cases.{by-test, by-key, and-right, or-left, or-right, not-true, not-false}
 use Rattle.lowering.proofs.All.{AllItems}
 use Rattle.sink.specs.Machine.{Event}
-use Rattle.direct.specs.Events.{Deed, Emit, cell, cellOf, lists, excludes, made, handed, entered, excludedKeys as excludedDeeds, refused, handsOut}
+use Rattle.direct.specs.Events.{Deed, Emit, cell, cellOf, stemOf, lists, excludes, made, handed, entered, excludedKeys as excludedDeeds, refused, handsOut}
 use Rattle.direct.specs.Events.Deed.{does}
 use Rattle.direct.specs.Emit.{say, _▷_, inTurn}
 use Rattle.direct.specs.Views.{View, nameless, isOther}
@@ -129,8 +129,8 @@ module _ (κ : Context) where
   unfolding handsKey handed nodeAt pieceIn cellOf numberAt stands standsIn
   key-handed q = ap (λ (is : Items). say (handed is)) (keyTemporary-is q) ∙ go (isOther (key q))
     where
-      go : (b : Bool) → say (handed (cond b (only (declares (keyOf κ q) (key q))) Items.none)) ≡ cond b (say (lists (5 ∷ 3 ∷ []) ++ (does (Event.listedTemporary (cell 4 (position q))) ∷ lists (encode (key q))))) (say [])
-      go true = ap say (append-nil (lists (5 ∷ 3 ∷ []) ++ (does (Event.listedTemporary (cell 4 (position q))) ∷ lists (encode (key q)))))
+      go : (b : Bool) → say (handed (cond b (only (declares (keyOf κ q) (key q))) Items.none)) ≡ cond b (say (lists (5 ∷ 3 ∷ []) ++ (does (Event.listedTemporary (cell 4 (position q)) 4) ∷ lists (encode (key q))))) (say [])
+      go true = ap say (append-nil (lists (5 ∷ 3 ∷ []) ++ (does (Event.listedTemporary (cell 4 (position q)) 4) ∷ lists (encode (key q)))))
       go false = refl
 
   pub keys-handed : (o : Node) → say (handed (keyTemporaries κ o)) ≡ handsKeys o
@@ -231,9 +231,9 @@ module _ (κ : Context) where
   unfolding encode mapOf
   array-bytes xs = ap (λ (x : List ℕ). 32 ∷ 1 ∷ x) (append-nil (wideBytes (count xs) ++ encodeItems xs))
 
-  one-excluded : (t x : Node) → excludedDeeds (only (declares t x)) ≡ does Event.declarator ∷ does (Event.excludedTemporary (cellOf t)) ∷ excludes (encode x)
+  one-excluded : (t x : Node) → excludedDeeds (only (declares t x)) ≡ does Event.declarator ∷ does (Event.excludedTemporary (cellOf t) (stemOf t)) ∷ excludes (encode x)
   unfolding excludedDeeds nodeAt pieceIn
-  one-excluded t x = ap (λ (y : List Deed). does Event.declarator ∷ does (Event.excludedTemporary (cellOf t)) ∷ y) (append-nil (excludes (encode x)))
+  one-excluded t x = ap (λ (y : List Deed). does Event.declarator ∷ does (Event.excludedTemporary (cellOf t) (stemOf t)) ∷ y) (append-nil (excludes (encode x)))
 
   cell-2 : (o : Node) → cellOf (excludedOf κ o) ≡ cell 2 (position o)
   unfolding cellOf numberAt pieceIn
@@ -241,16 +241,16 @@ module _ (κ : Context) where
 
   hoisted-excludes : (o : Node) → hoists (κ .root) (properties o) ≡ true
       → say (excludedDeeds (only (declares (excludedOf κ o) (array (excludedKeys κ o)))))
-      ≡ say (does Event.declarator ∷ does (Event.excludedTemporary (cell 2 (position o))) ∷ excludes (32 ∷ 1 ∷ wideBytes (entries (properties o))))
+      ≡ say (does Event.declarator ∷ does (Event.excludedTemporary (cell 2 (position o)) 2) ∷ excludes (32 ∷ 1 ∷ wideBytes (entries (properties o))))
       ▷ inTurn (λ q. say (excludes (keyBytes q))) (properties o)
-  unfolding excludedKeys hoists
+  unfolding excludedKeys hoists numberAt pieceIn
   hoisted-excludes o h =
       let qs = properties o in
       let xs = gather (excludedKey κ) qs in
-      let head : ℕ → List Deed = λ n. does Event.declarator ∷ does (Event.excludedTemporary (cell 2 (position o))) ∷ excludes (32 ∷ 1 ∷ wideBytes n) in
+      let head : ℕ → List Deed = λ n. does Event.declarator ∷ does (Event.excludedTemporary (cell 2 (position o)) 2) ∷ excludes (32 ∷ 1 ∷ wideBytes n) in
       let p : primitives qs ≡ true = and-right (not (isEmpty qs)) (primitives qs) (and-right (not (κ .root)) (not (isEmpty qs) && primitives qs) h) in
       ap say (one-excluded (excludedOf κ o) (array xs))
-      ∙ ap₂ (λ (x : ℕ) (bs : List ℕ). say (does Event.declarator ∷ does (Event.excludedTemporary x) ∷ excludes bs)) (cell-2 o) (array-bytes xs)
+      ∙ ap₂ (λ (x : ℕ) (bs : List ℕ). say (does Event.declarator ∷ does (Event.excludedTemporary x 2) ∷ excludes bs)) (cell-2 o) (array-bytes xs)
       ∙ sym (say-say (head (count xs)) (excludes (encodeItems xs)))
       ∙ ap₂ (λ (n : ℕ) (e : Emit). say (head n) ▷ e) (entries-in κ qs) (keys-bytes qs (primitive-in qs p))
 
@@ -284,10 +284,10 @@ pub excludes-keyed : (root : Bool) → Keyed (excludesOf root)
 unfolding excludesOf itemsAt pieceIn
 excludes-keyed root g at ps r =
     ap₂ (λ (b : Bool) (n : ℕ). cond b
-    (say (does Event.declarator ∷ does (Event.excludedTemporary (cell 2 at)) ∷ excludes (32 ∷ 1 ∷ wideBytes n)) ▷ inTurn (λ q. say (excludes (keyBytes q))) (each (λ q. changeNode 1 g q) ps))
+    (say (does Event.declarator ∷ does (Event.excludedTemporary (cell 2 at) 2) ∷ excludes (32 ∷ 1 ∷ wideBytes n)) ▷ inTurn (λ q. say (excludes (keyBytes q))) (each (λ q. changeNode 1 g q) ps))
     (say []))
     (hoists-values g root ps) (entries-values g ps)
-    ∙ ap (λ (e : Emit). cond (hoists root ps) (say (does Event.declarator ∷ does (Event.excludedTemporary (cell 2 at)) ∷ excludes (32 ∷ 1 ∷ wideBytes (entries ps))) ▷ e) (say []))
+    ∙ ap (λ (e : Emit). cond (hoists root ps) (say (does Event.declarator ∷ does (Event.excludedTemporary (cell 2 at) 2) ∷ excludes (32 ∷ 1 ∷ wideBytes (entries ps))) ▷ e) (say []))
     (does-each (λ q. say (excludes (keyBytes q))) (λ q. changeNode 1 g q) (λ q. ap (λ (bs : List ℕ). say (excludes bs)) (bytes-kept g q)) ps)
 
 -- ---- a declaration
@@ -385,7 +385,7 @@ module _ (κ : Context) (unnamed : κ .path ≡ []) where
   keys-counted p = ap (λ (f : Node → Items). count (gather f (restsIn p))) (fun-ext temporaries-same)
 
   entry-first : (m : ℕ) (t : Node) (ds : Items)
-      → entered m (Items.item (declared t) ds) ≡ does (Event.entry m (suc (count ds))) ∷ lists (5 ∷ 1 ∷ []) ++ (does (Event.listedTemporary (cellOf t)) ∷ []) ++ handed ds
+      → entered m (Items.item (declared t) ds) ≡ does (Event.entry m (suc (count ds))) ∷ lists (5 ∷ 1 ∷ []) ++ (does (Event.listedTemporary (cellOf t) (stemOf t)) ∷ []) ++ handed ds
   unfolding entered handed isEmpty count stands standsIn nodeAt pieceIn
   entry-first m t ds = refl
 
@@ -395,12 +395,12 @@ module _ (κ : Context) (unnamed : κ .path ≡ []) where
 
   pub top-handed : (m : ℕ) (n : Node)
       → say (handsOut m (record { refusal = 0; made = topMakes κ n; entry = topEntry κ n; excluded = topExcludes κ n })) ≡ handsTop (κ .root) m (target n)
-  unfolding handsOut refused isEmpty topEntry topExcludes handsTop overRests
+  unfolding handsOut refused isEmpty topEntry topExcludes handsTop overRests numberAt pieceIn
   top-handed m n =
       let p = target n in
       let ds = gather (keyTemporaries κ) (restsOf n) in
       let es = excludedDeeds (gather (excludedFor κ) (restsOf n)) in
-      let head : ℕ → ℕ → List Deed = λ k t. does (Event.entry m (suc k)) ∷ lists (5 ∷ 1 ∷ []) ++ (does (Event.listedTemporary t) ∷ []) in
+      let head : ℕ → ℕ → List Deed = λ k t. does (Event.entry m (suc k)) ∷ lists (5 ∷ 1 ∷ []) ++ (does (Event.listedTemporary t 3) ∷ []) in
       ap (λ (x : List Deed). say (x ++ es)) (entry-first m (valueOf κ p) ds)
       ∙ ap₂ (λ (k t : ℕ). say ((head k t ++ handed ds) ++ es)) (keys-counted p) (cell-3 p)
       ∙ sym (say-say (head (keysBelow p) (cell 3 (position p)) ++ handed ds) es)

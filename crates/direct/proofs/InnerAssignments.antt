@@ -91,7 +91,7 @@ pub handsKeys-keyed : Keyed handsKeys
 unfolding handsKeys handsKey itemsAt pieceIn
 handsKeys-keyed g at ps r =
     does-each handsKey (λ q. changeNode 1 g q)
-    (λ q. ap₂ (λ (x : ℕ) (k : Node). cond (isOther k) (say (lists (5 ∷ 3 ∷ []) ++ (does (Event.listedTemporary (cell 4 x)) ∷ lists (encode k)))) (say [])) (position-changed 1 (onNode g) q) (key-kept (onNode g) q)) ps
+    (λ q. ap₂ (λ (x : ℕ) (k : Node). cond (isOther k) (say (lists (5 ∷ 3 ∷ []) ++ (does (Event.listedTemporary (cell 4 x) 4) ∷ lists (encode k)))) (say [])) (position-changed 1 (onNode g) q) (key-kept (onNode g) q)) ps
 
 count-keys : (κ : Context) (qs : Items) → count (gather (keyTemporary κ) qs) ≡ otherKeys qs
 unfolding gather count otherKeys
@@ -239,12 +239,12 @@ module _ (at : ℕ) (ps : Items) (r : Node) where
 
   hands-inner : (root : Bool) (m : ℕ)
       → handsTop root m (innerAt at ps r)
-      ≡ say (does (Event.entry m (suc (otherKeys ps))) ∷ lists (5 ∷ 1 ∷ []) ++ (does (Event.listedTemporary (cell 3 at)) ∷ [])) ▷ handsKeys (objectRestAt at ps r) ▷ excludesOf root (objectRestAt at ps r)
+      ≡ say (does (Event.entry m (suc (otherKeys ps))) ∷ lists (5 ∷ 1 ∷ []) ++ (does (Event.listedTemporary (cell 3 at) 3) ∷ [])) ▷ handsKeys (objectRestAt at ps r) ▷ excludesOf root (objectRestAt at ps r)
   unfolding handsTop
   hands-inner root m =
       let g : Node → Node = λ v. replacedBelow nameless v in
-      ap (λ (k : ℕ). say (does (Event.entry m (suc k)) ∷ lists (5 ∷ 1 ∷ []) ++ (does (Event.listedTemporary (cell 3 at)) ∷ [])) ▷ overRests handsKeys (innerAt at ps r) ▷ overRests (excludesOf root) (innerAt at ps r)) keys-inner
-      ∙ ap₂ (λ (e f : Emit). say (does (Event.entry m (suc (otherKeys ps))) ∷ lists (5 ∷ 1 ∷ []) ++ (does (Event.listedTemporary (cell 3 at)) ∷ [])) ▷ e ▷ f)
+      ap (λ (k : ℕ). say (does (Event.entry m (suc k)) ∷ lists (5 ∷ 1 ∷ []) ++ (does (Event.listedTemporary (cell 3 at) 3) ∷ [])) ▷ overRests handsKeys (innerAt at ps r) ▷ overRests (excludesOf root) (innerAt at ps r)) keys-inner
+      ∙ ap₂ (λ (e f : Emit). say (does (Event.entry m (suc (otherKeys ps))) ∷ lists (5 ∷ 1 ∷ []) ++ (does (Event.listedTemporary (cell 3 at) 3) ∷ [])) ▷ e ▷ f)
       (over-only handsKeys ∙ handsKeys-keyed g at ps r) (over-only (excludesOf root) ∙ excludes-keyed root g at ps r)
 
   four : (c : Place) → topCount (inner c) (innerAt at ps r) ≡ 4
@@ -258,7 +258,7 @@ module _ (at : ℕ) (ps : Items) (r : Node) where
       let o = innerAt at ps r in
       let p = objectRestAt at ps r in
       let s3 = saysCell 3 at in
-      let H = say (does (Event.entry (c .mark) (suc (otherKeys ps))) ∷ lists (5 ∷ 1 ∷ []) ++ (does (Event.listedTemporary (cell 3 at)) ∷ [])) in
+      let H = say (does (Event.entry (c .mark) (suc (otherKeys ps))) ∷ lists (5 ∷ 1 ∷ []) ++ (does (Event.listedTemporary (cell 3 at) 3) ∷ [])) in
       let rest-at = emitsRestOf (inner c) at in
       assignment-top (inner c) 0 1 at (each (λ q. changeNode 1 (λ v. replacedBelow nameless v) q) ps) r (temporary [] 1 at) (over-inner h) (top-lacks (temporary [] 1 at) ∙ f)
       ∙ ap₂ (λ (x : Emit) (k : ℕ). x ▷ say (puts (28 ∷ 1 ∷ wideBytes k)) ▷ assignHead 1 ▷ s3 ▷ emits (inner c) (temporary [] 1 at) ▷ emitsTarget (inner c) o ▷ overRests rest-at o ▷ s3)

@@ -87,7 +87,7 @@ more-statements c n ns a b = ap (λ (x : Emit). x ▷ emitsItems true c ns) (emi
 
 -- ---- temporaries, helpers and calls
 
-pub emits-temporary : (c : Place) (path : List ℕ) (stem at : ℕ) → emits c (made.temporary path stem at) ≡ say (does (Event.temporary (cell stem at)) ∷ [])
+pub emits-temporary : (c : Place) (path : List ℕ) (stem at : ℕ) → emits c (made.temporary path stem at) ≡ say (does (Event.temporary (cell stem at) stem) ∷ [])
 unfolding ruleOf stays pieceIn
 emits-temporary c path stem at = emits-nowhere c (made.temporary path stem at) refl
 

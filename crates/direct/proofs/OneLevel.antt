@@ -128,9 +128,9 @@ written-done c at k fs ws next ds a b e =
     rw (a, b, e) (go (eqb k 20) (eqb k 21))
   where
     go : (x y : Bool)
-        → cond x (does (Event.temporary (cell (asNumber (pieceIn fs 0)) at)) ∷ [])
+        → cond x (does (Event.temporary (cell (asNumber (pieceIn fs 0)) at) (asNumber (pieceIn fs 0))) ∷ [])
         (cond y (does (Event.helper (asNumber (pieceIn fs 0))) ∷ []) (puts (k ∷ mapOf fs ∷ []) ++ emitsParts (isContainer k) (below c (node at k fs)) fs next))
-        ≡ cond x (say (does (Event.temporary (cell (asNumber (pieceIn fs 0)) at)) ∷ []))
+        ≡ cond x (say (does (Event.temporary (cell (asNumber (pieceIn fs 0)) at) (asNumber (pieceIn fs 0))) ∷ []))
         (cond y (say (does (Event.helper (asNumber (pieceIn fs 0))) ∷ [])) (say (puts (k ∷ mapOf fs ∷ [])) ▷ emitsParts (isContainer k) (below c (node at k fs)) fs)) next
     go true y = refl
     go false true = refl

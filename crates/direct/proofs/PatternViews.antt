@@ -283,7 +283,7 @@ module _ (κ μ : Context) where
 
 -- ---- what is done for a pattern, one level
 
-cell-said : (stem at : ℕ) → saysCell stem at ≡ say (does (Event.temporary (cell stem at)) ∷ [])
+cell-said : (stem at : ℕ) → saysCell stem at ≡ say (does (Event.temporary (cell stem at) stem) ∷ [])
 unfolding saysCell
 cell-said stem at = refl
 

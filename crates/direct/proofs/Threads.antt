@@ -31,14 +31,14 @@ counted-add : (e : Event) (a b : ℕ) → counted e (a + b) ≡ counted e a + b
 unfolding counted
 counted-add (Event.put x) a b = refl
 counted-add (Event.helper x) a b = refl
-counted-add (Event.temporary x) a b = refl
+counted-add (Event.temporary x stem) a b = refl
 counted-add Event.newMark a b = omega arith
 counted-add (Event.make x) a b = refl
 counted-add (Event.listed x) a b = refl
-counted-add (Event.listedTemporary x) a b = refl
+counted-add (Event.listedTemporary x stem) a b = refl
 counted-add (Event.entry x y) a b = refl
 counted-add (Event.excluded x) a b = refl
-counted-add (Event.excludedTemporary x) a b = refl
+counted-add (Event.excludedTemporary x stem) a b = refl
 counted-add Event.declarator a b = refl
 
 pub new-append : (ds es : List Deed) → newMarks (ds ++ es) ≡ newMarks ds + newMarks es
@@ -176,7 +176,7 @@ unfolding written newMarks counted
 written-new at k fs ds t h e = go (eqb k 20) (eqb k 21) t h
   where
     go : (a b : Bool) → (a ≡ true → newInFields fs ≡ 0) → (b ≡ true → newInFields fs ≡ 0)
-        → newMarks (cond a (does (Event.temporary (cell (numberIn fs) at)) ∷ []) (cond b (does (Event.helper (numberIn fs)) ∷ []) (puts (k ∷ mapIn fs ∷ []) ++ ds))) ≡ newInFields fs
+        → newMarks (cond a (does (Event.temporary (cell (numberIn fs) at) (numberIn fs)) ∷ []) (cond b (does (Event.helper (numberIn fs)) ∷ []) (puts (k ∷ mapIn fs ∷ []) ++ ds))) ≡ newInFields fs
     go true b t h = sym (t refl)
     go false true t h = sym (h refl)
     go false false t h = e

@@ -109,7 +109,7 @@ inTurn f (item n ns) = f n ▷ inTurn f ns
 
 unfoldable pub stays : Place → Node → Emit
 stays c (node at k fs) =
-    cond (eqb k 20) (say (does (temporary (cell (asNumber (pieceIn fs 0)) at)) ∷ []))
+    cond (eqb k 20) (say (does (temporary (cell (asNumber (pieceIn fs 0)) at) (asNumber (pieceIn fs 0))) ∷ []))
     (cond (eqb k 21) (say (does (helper (asNumber (pieceIn fs 0))) ∷ []))
     (say (puts (k ∷ mapOf fs ∷ [])) ▷ emitsParts (isContainer k) (below c (node at k fs)) fs))
 

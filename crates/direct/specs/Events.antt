@@ -48,6 +48,10 @@ cell stem at = at + getD (0 ∷ 0 ∷ 1 ∷ 2 ∷ 0 ∷ []) stem 0
 unfoldable pub cellOf : Node → ℕ
 cellOf t = cell (numberAt 0 t) (position t)
 
+-- its stem, which stands in its number's place until then
+abbrev pub stemOf : Node → ℕ
+stemOf t = numberAt 0 t
+
 -- ---- what a rewriting hands out, before a statement with the mark m
 
 -- temporaries that stand in no list: a rewriting that hands out declarators makes its temporaries there, and stem 2 is excluded
@@ -62,7 +66,7 @@ handed none = []
 handed (hole ds) = handed ds
 handed (item d ds) =
     lists (5 ∷ cond (stands 1 d) 3 1 ∷ [])
-    ++ (does (listedTemporary (cellOf (idOf d))) ∷ cond (stands 1 d) (lists (encode (nodeAt 1 d))) [])
+    ++ (does (listedTemporary (cellOf (idOf d)) (stemOf (idOf d))) ∷ cond (stands 1 d) (lists (encode (nodeAt 1 d))) [])
     ++ handed ds
 
 unfoldable pub entered : ℕ → Items → List Deed
@@ -72,7 +76,7 @@ unfoldable pub excludedKeys : Items → List Deed
 excludedKeys none = []
 excludedKeys (hole ds) = excludedKeys ds
 excludedKeys (item d ds) =
-    does declarator ∷ does (excludedTemporary (cellOf (idOf d))) ∷ excludes (encode (nodeAt 1 d)) ++ excludedKeys ds
+    does declarator ∷ does (excludedTemporary (cellOf (idOf d)) (stemOf (idOf d))) ∷ excludes (encode (nodeAt 1 d)) ++ excludedKeys ds
 
 unfoldable pub refused : ℕ → List Deed
 refused zero = []
@@ -96,14 +100,14 @@ later next (suc n) = min 65535 (next + suc n)
 unfoldable pub counted : Event → ℕ → ℕ
 counted (put b) n = n
 counted (helper h) n = n
-counted (temporary c) n = n
+counted (temporary c stem) n = n
 counted newMark n = suc n
 counted (make c) n = n
 counted (listed b) n = n
-counted (listedTemporary c) n = n
+counted (listedTemporary c stem) n = n
 counted (entry m k) n = n
 counted (excluded b) n = n
-counted (excludedTemporary c) n = n
+counted (excludedTemporary c stem) n = n
 counted declarator n = n
 
 -- how many new statements the deeds mark
@@ -145,7 +149,7 @@ mapIn (WalkedFields.field p fs) = suc (mapIn fs + mapIn fs)
 -- 20 Temporary, 21 Helper; any other kind: kind, bit map, and what its fields do
 unfoldable pub written : ℕ → ℕ → WalkedFields → List Deed → List Deed
 written at k fs below =
-    cond (eqb k 20) (does (temporary (cell (numberIn fs) at)) ∷ [])
+    cond (eqb k 20) (does (temporary (cell (numberIn fs) at) (numberIn fs)) ∷ [])
     (cond (eqb k 21) (does (helper (numberIn fs)) ∷ []) (puts (k ∷ mapIn fs ∷ []) ++ below))
 
 unfoldable mutual

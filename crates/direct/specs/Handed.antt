@@ -52,7 +52,7 @@ keyBytes q = keyBytesOf (key q)
 unfoldable pub excludesOf : Bool → Node → Emit
 excludesOf root o =
     cond (hoists root (properties o))
-    (say (does declarator ∷ does (excludedTemporary (cell 2 (position o))) ∷ excludes (32 ∷ 1 ∷ wideBytes (entries (properties o))))
+    (say (does declarator ∷ does (excludedTemporary (cell 2 (position o)) 2) ∷ excludes (32 ∷ 1 ∷ wideBytes (entries (properties o))))
     ▷ inTurn (λ q. say (excludes (keyBytes q))) (properties o))
     (say [])
 
@@ -61,14 +61,14 @@ excludesOf root o =
 -- the temporary of the key of the property q, with its value; those of o
 unfoldable pub handsKey : Node → Emit
 handsKey q =
-    cond (isOther (key q)) (say (lists (5 ∷ 3 ∷ []) ++ (does (listedTemporary (cell 4 (position q))) ∷ lists (encode (key q))))) (say [])
+    cond (isOther (key q)) (say (lists (5 ∷ 3 ∷ []) ++ (does (listedTemporary (cell 4 (position q)) 4) ∷ lists (encode (key q))))) (say [])
 
 unfoldable pub handsKeys : Node → Emit
 handsKeys o = inTurn handsKey (properties o)
 
 -- the temporary in place of o, without a value
 unfoldable pub handsPlace : Node → Emit
-handsPlace o = say (lists (5 ∷ 1 ∷ []) ++ (does (listedTemporary (cell 1 (position o))) ∷ []))
+handsPlace o = say (lists (5 ∷ 1 ∷ []) ++ (does (listedTemporary (cell 1 (position o)) 1) ∷ []))
 
 -- how many keys, and how many places
 unfoldable pub keysBelow : Node → ℕ
@@ -93,7 +93,7 @@ declaratorExcludes root d = cond (isLowered d) (overObjects (excludesOf root) re
 -- an assignment to the object with rest p, in a statement with the mark m
 unfoldable pub handsTop : Bool → ℕ → Node → Emit
 handsTop root m p =
-    say (does (entry m (suc (keysBelow p))) ∷ lists (5 ∷ 1 ∷ []) ++ (does (listedTemporary (cell 3 (position p))) ∷ []))
+    say (does (entry m (suc (keysBelow p))) ∷ lists (5 ∷ 1 ∷ []) ++ (does (listedTemporary (cell 3 (position p)) 3) ∷ []))
     ▷ overRests handsKeys p ▷ overRests (excludesOf root) p
 
 -- one to any other target

@@ -25,7 +25,7 @@ otherKeys (item q qs) = cond (isOther (key q)) (suc (otherKeys qs)) (otherKeys q
 -- entry and keys; the excluded keys; a sequence of four: the value, the target, the rest, the read
 unfoldable pub emitsInnerTop : Place → Node → Emit
 emitsInnerTop c p =
-    say (does (entry (c .mark) (suc (otherKeys (properties p)))) ∷ lists (5 ∷ 1 ∷ []) ++ (does (listedTemporary (cell 3 (position p))) ∷ []))
+    say (does (entry (c .mark) (suc (otherKeys (properties p)))) ∷ lists (5 ∷ 1 ∷ []) ++ (does (listedTemporary (cell 3 (position p)) 3) ∷ []))
     ▷ handsKeys p
     ▷ excludesOf (c .root) p
     ▷ say (puts (28 ∷ 1 ∷ 4 ∷ 0 ∷ []))

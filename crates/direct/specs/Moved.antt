@@ -20,7 +20,7 @@ abbrev pub standIn : Node → Node
 standIn p = reference nameless p
 
 abbrev pub stand : ℕ → List Deed
-stand at = does (Event.temporary (cell 1 at)) ∷ []
+stand at = does (Event.temporary (cell 1 at) 1) ∷ []
 
 -- ---- patterns and what binds them
 

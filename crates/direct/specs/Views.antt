@@ -27,7 +27,7 @@ eachDoes f (item n is) = f n ▷ eachDoes f is
 
 -- the temporary of a stem and a position
 unfoldable pub saysCell : ℕ → ℕ → Emit
-saysCell stem at = say (does (temporary (cell stem at)) ∷ [])
+saysCell stem at = say (does (temporary (cell stem at) stem) ∷ [])
 
 -- ---- the patterns of input, by the parts that stand
 

@@ -63,9 +63,9 @@ carry E {c = c} {c′ = c′} {d = d} {d′ = d′} {p = p} {p′ = p′} u v w 
 abbrev CellIs : ℕ → ℕ → ℕ → Type 0
 CellIs z stem at = at < 16384 → 0 < stem → stem < 5 → z ≡ cell stem at
 
-cell-says : {g g′ : Going} (z stem at : ℕ) → z ≡ cell stem at → Does g g′ (say (does (temporary z) ∷ [])) → Does g g′ (saysCell stem at)
+cell-says : {g g′ : Going} (z stem at : ℕ) → z ≡ cell stem at → Does g g′ (say (does (temporary z stem) ∷ [])) → Does g g′ (saysCell stem at)
 unfolding saysCell
-cell-says z stem at e d = does-as d (ap (λ (x : ℕ). say (does (temporary x) ∷ [])) e)
+cell-says z stem at e d = does-as d (ap (λ (x : ℕ). say (does (temporary x stem) ∷ [])) e)
 
 -- the head of a sequence
 sequence-says : {g g₁ g₂ : Going} (k m : ℕ) → k ≡ m → m < 65536 → Does g g₁ (say (puts (28 ∷ 1 ∷ []))) → (k < 65536 → Does g₁ g₂ (say (puts (wideBytes k)))) → Does g g₂ (say (puts (28 ∷ 1 ∷ wideBytes m)))
@@ -74,7 +74,7 @@ sequence-says k m e h a b =
     does-as (does-then a (b s)) (say-say (puts (28 ∷ 1 ∷ [])) (puts (wideBytes k)) ∙ ap (λ (x : ℕ). say (puts (28 ∷ 1 ∷ wideBytes x))) e)
 
 -- the read of the value at the end of a sequence
-pub value-read : {g g′ : Going} (z p : ℕ) → CellIs z 3 p → Does g g′ (say (does (temporary z) ∷ [])) → p < 16384 → Does g g′ (saysCell 3 p)
+pub value-read : {g g′ : Going} (z p : ℕ) → CellIs z 3 p → Does g g′ (say (does (temporary z 3) ∷ [])) → p < 16384 → Does g g′ (saysCell 3 p)
 value-read z p ce d wi = cell-says z 3 p (ce wi (omega arith) (omega arith)) d
 
 pub read-none : (b : Bool) (p : ℕ) → b ≡ true → say [] ≡ cond b (say []) (saysCell 3 p)
@@ -130,32 +130,32 @@ module _ (t : List ℕ) where
 
   -- ---- what is assigned
 
-  pub giv-node : {g h g′ : Going} (c : Place) (d x q : ℕ) (input : Bool) → input ≡ true → h ≡ g → q ≡ x
-      → (Good t d q → Does h g′ (emits c (lookNode t d q .value))) → (input ≡ true → Good t d x) → Does g g′ (givenDeeds t d c input x)
+  pub giv-node : {g h g′ : Going} (c : Place) (d x q stem : ℕ) (input : Bool) → input ≡ true → h ≡ g → q ≡ x
+      → (Good t d q → Does h g′ (emits c (lookNode t d q .value))) → (input ≡ true → Good t d x) → Does g g′ (givenDeeds t d c input stem x)
   unfolding givenDeeds
-  giv-node {h = h} {g′ = g′} c d x q input b m w n good =
+  giv-node {h = h} {g′ = g′} c d x q stem input b m w n good =
       let a : Does h g′ (emits c (lookNode t d x .value)) = carry (λ y e z. Good t e z → Does h g′ (emits y (lookNode t e z .value))) refl refl w n (good b) in
-      does-from m (does-as a (ap (λ (y : Bool). cond y (emits c (lookNode t d x .value)) (say (does (temporary x) ∷ []))) (sym b)))
+      does-from m (does-as a (ap (λ (y : Bool). cond y (emits c (lookNode t d x .value)) (say (does (temporary x stem) ∷ []))) (sym b)))
 
-  pub giv-cell : {g g′ : Going} (c : Place) (d x : ℕ) (input : Bool) → input ≡ false → Does g g′ (say (does (temporary x) ∷ [])) → Does g g′ (givenDeeds t d c input x)
+  pub giv-cell : {g g′ : Going} (c : Place) (d x stem : ℕ) (input : Bool) → input ≡ false → Does g g′ (say (does (temporary x stem) ∷ [])) → Does g g′ (givenDeeds t d c input stem x)
   unfolding givenDeeds
-  giv-cell c d x input b n = does-as n (ap (λ (y : Bool). cond y (emits c (lookNode t d x .value)) (say (does (temporary x) ∷ []))) (sym b))
+  giv-cell c d x stem input b n = does-as n (ap (λ (y : Bool). cond y (emits c (lookNode t d x .value)) (say (does (temporary x stem) ∷ []))) (sym b))
 
-  given-is : (c : Place) (d x : ℕ) (input : Bool) → emits c (givenNode t d input x) ≡ givenDeeds t d c input x
+  given-is : (c : Place) (d x : ℕ) (input : Bool) → emits c (givenNode t d input x) ≡ givenDeeds t d c input 1 x
   unfolding givenDeeds saysCell
   given-is c d x true = refl
-  given-is c d x false = says-cell c [] 1 x ∙ ap (λ (z : ℕ). say (does (temporary z) ∷ [])) (cell-one x)
+  given-is c d x false = says-cell c [] 1 x ∙ ap (λ (z : ℕ). say (does (temporary z 1) ∷ [])) (cell-one x)
 
   -- ---- the rest of an object, from a temporary
 
   -- the value of a rest as the code writes it
-  rest-does : {g g′ : Going} (c c′ : Place) (d d′ p z stem x : ℕ) (b : ReferenceBuilder) → c′ ≡ c → d′ ≡ d → z ≡ cell stem x → ((u : List ℕ) → sourceOf u b ≡ say (does (temporary z) ∷ []))
+  rest-does : {g g′ : Going} (c c′ : Place) (d d′ p z stem x : ℕ) (b : ReferenceBuilder) → c′ ≡ c → d′ ≡ d → z ≡ cell stem x → ((u : List ℕ) → sourceOf u b ≡ say (does (temporary z stem) ∷ []))
       → (Good t d′ p → byteAt t p ≡ 34 → Does g g′ (emitsRest c′ p (properties (lookNode t d′ p .value)) (sourceOf t b))) → Good t d p → byteAt t p ≡ 34
       → Does g g′ (emitsRest c p (properties (lookNode t d p .value)) (saysCell stem x))
   unfolding saysCell
   rest-does {g = g} {g′ = g′} c c′ d d′ p z stem x b u v e s r good k =
       does-as (carry (λ y f q. Good t f q → byteAt t q ≡ 34 → Does g g′ (emitsRest y q (properties (lookNode t f q .value)) (sourceOf t b))) u v refl r good k)
-      (ap (λ (y : Emit). emitsRest c p (properties (lookNode t d p .value)) y) (s t ∙ ap (λ (y : ℕ). say (does (temporary y) ∷ [])) e))
+      (ap (λ (y : Emit). emitsRest c p (properties (lookNode t d p .value)) y) (s t ∙ ap (λ (y : ℕ). say (does (temporary y stem) ∷ [])) e))
 
   node-does : {g h g′ : Going} (c c′ : Place) (d d′ p q : ℕ) → h ≡ g → c′ ≡ c → d′ ≡ d → q ≡ p → (Good t d′ q → Does h g′ (emits c′ (lookNode t d′ q .value))) → Good t d p → Does g g′ (emits c (lookNode t d p .value))
   node-does {h = h} {g′ = g′} c c′ d d′ p q m u v w n good = does-from m (carry (λ y f z. Good t f z → Does h g′ (emits y (lookNode t f z .value))) u v w n good)
@@ -172,7 +172,7 @@ module _ (t : List ℕ) where
   pub rof-done : {g₀ g₁ h g₂ g₃ : Going} (c c₁ c₂ : Place) (d d₁ d₂ e p r q x z : ℕ) (b : ReferenceBuilder)
       → (1 < 256 → Does g₀ g₁ (assignHead 1)) → h ≡ g₁ → q ≡ r → e ≡ d - 1 → (c₁ ≡ inner c) × (d₁ ≡ e)
       → (Good t d₁ q → Does h g₂ (emits c₁ (lookNode t d₁ q .value)))
-      → CellIs z 3 x → ((u : List ℕ) → sourceOf u b ≡ say (does (temporary z) ∷ [])) → (c₂ ≡ inner c) × (d₂ ≡ d)
+      → CellIs z 3 x → ((u : List ℕ) → sourceOf u b ≡ say (does (temporary z 3) ∷ [])) → (c₂ ≡ inner c) × (d₂ ≡ d)
       → (Good t d₂ p → byteAt t p ≡ 34 → (false ≡ true → Clear g₂ (emitsRest c₂ p (properties (lookNode t d₂ p .value)) (sourceOf t b))) → Does g₂ g₃ (emitsRest c₂ p (properties (lookNode t d₂ p .value)) (sourceOf t b)))
       → (x ≡ 16383 → ⊥) → x < 16384 → byteAt t p ≡ 34 → hasRest (lookNode t d p .value) ≡ true → r ≡ listAt (d - 1) p .next → Good t d p
       → Does g₀ g₃ (restFrom c x (lookNode t d p .value))
@@ -210,9 +210,9 @@ module _ (t : List ℕ) where
   view-does {h = h} {g′ = g′} v c c′ d d′ p q r m u w e n good =
       does-from m (carry (λ y f z. Good t f z → (r ≡ lookNode t f z .next) × Does h g′ (emitsView y v (lookNode t f z .value))) u w e n good .1)
 
-  given-does : {g g′ : Going} (c c′ : Place) (d d′ x : ℕ) (input : Bool) → c′ ≡ c → d′ ≡ d → ((input ≡ true → Good t d′ x) → Does g g′ (givenDeeds t d′ c′ input x))
-      → (input ≡ true → Good t d x) → Does g g′ (givenDeeds t d c input x)
-  given-does {g = g} {g′ = g′} c c′ d d′ x input u w n good = carry (λ y f z. (input ≡ true → Good t f z) → Does g g′ (givenDeeds t f y input z)) u w refl n good
+  given-does : {g g′ : Going} (c c′ : Place) (d d′ x stem : ℕ) (input : Bool) → c′ ≡ c → d′ ≡ d → ((input ≡ true → Good t d′ x) → Does g g′ (givenDeeds t d′ c′ input stem x))
+      → (input ≡ true → Good t d x) → Does g g′ (givenDeeds t d c input stem x)
+  given-does {g = g} {g′ = g′} c c′ d d′ x stem input u w n good = carry (λ y f z. (input ≡ true → Good t f z) → Does g g′ (givenDeeds t f y input stem z)) u w refl n good
 
   deep-does : {g h g′ : Going} (c c′ : Place) (d d′ p q r mode x : ℕ) → h ≡ g → c′ ≡ c → d′ ≡ d → q ≡ p → x < 16384
       → (x < 16384 → Good t d′ q → deepMode mode ≡ true → suits mode (lookNode t d′ q .value) ≡ true → (r ≡ lookNode t d′ q .next) × Does h g′ (turnOf mode x c′ (lookNode t d′ q .value)))
@@ -243,19 +243,19 @@ module _ (t : List ℕ) where
   unfolding limited
   one-more a k m h e f = omega arith
 
-  pub nst-done : {g₀ g₁ g₂ g₃ g₄ h₄ g₅ g₆ h₆ g₇ : Going} (c c₁ c₂ : Place) (d d₁ d₂ v op p q q₂ r₅ r₇ k m x mode : ℕ) (input : Bool)
+  pub nst-done : {g₀ g₁ g₂ g₃ g₄ h₄ g₅ g₆ h₆ g₇ : Going} (c c₁ c₂ : Place) (d d₁ d₂ v op p q q₂ r₅ r₇ k m x mode stem : ℕ) (input : Bool)
       → ((v ≡ 2 → ⊥) → k ≡ limited (placesIn (viewOf v) (lookNode t d p .value)))
       → ((v ≡ 2 → ⊥) → Good t d p → Does g₀ g₁ (handsNested (viewOf v) (c .mark) (lookNode t d p .value)))
       → Does g₁ g₂ (say (puts (28 ∷ 1 ∷ []))) → m ≡ limited (k + 1) → (m < 65536 → Does g₂ g₃ (say (puts (wideBytes m)))) → (op < 256 → Does g₃ g₄ (assignHead op))
       → h₄ ≡ g₄ → q ≡ p → (c₁ ≡ inner c) × (d₁ ≡ d)
       → (Good t d₁ q → (r₅ ≡ lookNode t d₁ q .next) × Does h₄ g₅ (emitsView c₁ (viewOf v) (lookNode t d₁ q .value)))
-      → (c₂ ≡ inner c) × (d₂ ≡ d) → ((input ≡ true → Good t d₂ x) → Does g₅ g₆ (givenDeeds t d₂ c₂ input x))
+      → (c₂ ≡ inner c) × (d₂ ≡ d) → ((input ≡ true → Good t d₂ x) → Does g₅ g₆ (givenDeeds t d₂ c₂ input stem x))
       → h₆ ≡ g₆ → q₂ ≡ p → mode ≡ cond (eqb v 3) 17 12
       → (0 < 16384 → Good t d q₂ → deepMode mode ≡ true → suits mode (lookNode t d q₂ .value) ≡ true → (r₇ ≡ lookNode t d q₂ .next) × Does h₆ g₇ (turnOf mode 0 c (lookNode t d q₂ .value)))
       → (v ≡ 2 → ⊥) → Good t d p → (input ≡ true → Good t d x) → hasArrayRestOverObjectRest (lookNode t d p .value) ≡ false → op < 256
-      → Does g₀ g₇ (emitsNest c (viewOf v) op (lookNode t d p .value) (givenDeeds t d (inner c) input x))
+      → Does g₀ g₇ (emitsNest c (viewOf v) op (lookNode t d p .value) (givenDeeds t d (inner c) input stem x))
   unfolding emitsNest
-  nst-done {h₆ = h₆} {g₇ = g₇} c c₁ c₂ d d₁ d₂ v op p q q₂ r₅ r₇ k m x mode input pk hands two pm wide ass t₄ w₄ i₁ view i₂ giv t₆ w₆ md deep nv good gx ar lo =
+  nst-done {h₆ = h₆} {g₇ = g₇} c c₁ c₂ d d₁ d₂ v op p q q₂ r₅ r₇ k m x mode stem input pk hands two pm wide ass t₄ w₄ i₁ view i₂ giv t₆ w₆ md deep nv good gx ar lo =
       let n = lookNode t d p .value in
       let b = eqb v 3 in
       let pl : placesIn (viewOf v) n ≤ 16384 = places-within t v d p nv good in
@@ -267,24 +267,24 @@ module _ (t : List ℕ) where
       (does-then (sequence-says m (suc (placesIn (viewOf v) n)) mm (omega arith) two wide)
       (does-then (ass lo)
       (does-then (view-does (viewOf v) (inner c) c₁ d d₁ p q r₅ t₄ (i₁ .0) (i₁ .1) w₄ view good)
-      (does-then (given-does (inner c) c₂ d d₂ x input (i₂ .0) (i₂ .1) giv gx) D))))
+      (does-then (given-does (inner c) c₂ d d₂ x stem input (i₂ .0) (i₂ .1) giv gx) D))))
 
   -- ---- the target without its rests
 
   -- what is assigned to it: the temporary of its value
-  value-given : (c : Place) (d p z : ℕ) → z ≡ cell 3 p → givenDeeds t d c false z ≡ saysCell 3 p
+  value-given : (c : Place) (d p z : ℕ) → z ≡ cell 3 p → givenDeeds t d c false 3 z ≡ saysCell 3 p
   unfolding givenDeeds saysCell
-  value-given c d p z e = ap (λ (x : ℕ). say (does (temporary x) ∷ [])) e
+  value-given c d p z e = ap (λ (x : ℕ). say (does (temporary x 3) ∷ [])) e
 
   nest-as : {g g′ : Going} (c c′ : Place) (d d′ p z : ℕ) → c′ ≡ c → d′ ≡ d → z ≡ cell 3 p
       → ((_≡_ {A = ℕ} 3 2 → ⊥) → Good t d′ p → (false ≡ true → Good t d′ z) → hasArrayRestOverObjectRest (lookNode t d′ p .value) ≡ false → 1 < 256
-      → Does g g′ (emitsNest c′ (viewOf 3) 1 (lookNode t d′ p .value) (givenDeeds t d′ (inner c′) false z)))
+      → Does g g′ (emitsNest c′ (viewOf 3) 1 (lookNode t d′ p .value) (givenDeeds t d′ (inner c′) false 3 z)))
       → Good t d p → hasArrayRestOverObjectRest (lookNode t d p .value) ≡ false → Does g g′ (emitsNest c leaving 1 (lookNode t d p .value) (saysCell 3 p))
   unfolding viewOf
   nest-as {g = g} {g′ = g′} c c′ d d′ p z u w e n good ar =
       does-as
       (carry (λ y f q. (_≡_ {A = ℕ} 3 2 → ⊥) → Good t f q → (false ≡ true → Good t f z) → hasArrayRestOverObjectRest (lookNode t f q .value) ≡ false → 1 < 256
-      → Does g g′ (emitsNest y leaving 1 (lookNode t f q .value) (givenDeeds t f (inner y) false z))) u w refl n
+      → Does g g′ (emitsNest y leaving 1 (lookNode t f q .value) (givenDeeds t f (inner y) false 3 z))) u w refl n
       (λ x. omega (arith, x)) good (λ x. absurd (false≢true x)) ar (omega arith))
       (ap (λ (s : Emit). emitsNest c leaving 1 (lookNode t d p .value) s) (value-given (inner c) d p z e))
 
@@ -293,7 +293,7 @@ module _ (t : List ℕ) where
 
   pub tgt-nested : {g g′ : Going} (c c₁ : Place) (d d₁ p z : ℕ) (b : Bool) → b ≡ restInArrays (lookNode t d p .value) → b ≡ true → (c₁ ≡ inner c) × (d₁ ≡ d) → CellIs z 3 p
       → ((_≡_ {A = ℕ} 3 2 → ⊥) → Good t d₁ p → (false ≡ true → Good t d₁ z) → hasArrayRestOverObjectRest (lookNode t d₁ p .value) ≡ false → 1 < 256
-      → Does g g′ (emitsNest c₁ (viewOf 3) 1 (lookNode t d₁ p .value) (givenDeeds t d₁ (inner c₁) false z)))
+      → Does g g′ (emitsNest c₁ (viewOf 3) 1 (lookNode t d₁ p .value) (givenDeeds t d₁ (inner c₁) false 3 z)))
       → byteAt t p ≡ 34 → Good t d p → hasArrayRestOverObjectRest (lookNode t d p .value) ≡ false → Does g g′ (emitsTarget c (lookNode t d p .value))
   tgt-nested c c₁ d d₁ p z b e h i ce n k good ar =
       let y = lookNode t d p .value in
@@ -303,7 +303,7 @@ module _ (t : List ℕ) where
   pub tgt-kept : {g₀ g₁ h₁ g₂ g₃ : Going} (c c₁ : Place) (d d₁ p q r z : ℕ) (b : Bool) → b ≡ restInArrays (lookNode t d p .value) → b ≡ false → (c₁ ≡ inner c) × (d₁ ≡ d)
       → (1 < 256 → Does g₀ g₁ (assignHead 1)) → h₁ ≡ g₁ → q ≡ p
       → (Good t d₁ q → (r ≡ lookNode t d₁ q .next) × Does h₁ g₂ (emitsView c₁ (viewOf 3) (lookNode t d₁ q .value)))
-      → CellIs z 3 p → Does g₂ g₃ (say (does (temporary z) ∷ []))
+      → CellIs z 3 p → Does g₂ g₃ (say (does (temporary z 3) ∷ []))
       → byteAt t p ≡ 34 → Good t d p → hasArrayRestOverObjectRest (lookNode t d p .value) ≡ false → Does g₀ g₃ (emitsTarget c (lookNode t d p .value))
   unfolding viewOf
   tgt-kept c c₁ d d₁ p q r z b e h i ass m w view ce last k good ar =
@@ -326,8 +326,8 @@ module _ (t : List ℕ) where
 
   pub top-refused : {g g′ : Going} (c : Place) (d p x : ℕ) (input b : Bool) → b ≡ any anyLacksForm (throughObjects (lookNode t d p .value)) → b ≡ true
       → Does g g′ (say (refuses 6 ∷ puts (0 ∷ 0 ∷ [])))
-      → Does g g′ (cond (lacksRests (lookNode t d p .value)) (say (refuses 6 ∷ puts (0 ∷ 0 ∷ []))) (emitsTop c (lookNode t d p .value) (givenDeeds t d (inner c) input x)))
-  top-refused c d p x input b e h r = let n = lookNode t d p .value in top-way c n (givenDeeds t d (inner c) input x) true (lacks-is n b e ∙ h) r
+      → Does g g′ (cond (lacksRests (lookNode t d p .value)) (say (refuses 6 ∷ puts (0 ∷ 0 ∷ []))) (emitsTop c (lookNode t d p .value) (givenDeeds t d (inner c) input 1 x)))
+  top-refused c d p x input b e h r = let n = lookNode t d p .value in top-way c n (givenDeeds t d (inner c) input 1 x) true (lacks-is n b e ∙ h) r
 
   count-is : (c : Place) (d p k : ℕ) → Good t d p
       → (Good t d p → k ≡ suc (suc (cond (c .statement) (restsCount (lookNode t d p .value)) (suc (restsCount (lookNode t d p .value)))))) → (k ≡ topCount c (lookNode t d p .value)) × (topCount c (lookNode t d p .value) < 65536)
@@ -377,19 +377,19 @@ module _ (t : List ℕ) where
       → (Good t d p → byteAt t p ≡ 34 → Does g₀ g₁ (handsTop (c .root) (c .mark) (lookNode t d p .value)))
       → (Good t d p → k ≡ suc (suc (cond (c .statement) (restsCount (lookNode t d p .value)) (suc (restsCount (lookNode t d p .value))))))
       → Does g₁ g₂ (say (puts (28 ∷ 1 ∷ []))) → (k < 65536 → Does g₂ g₃ (say (puts (wideBytes k)))) → (1 < 256 → Does g₃ g₄ (assignHead 1))
-      → CellIs z 3 p → Does g₄ g₅ (say (does (temporary z) ∷ []))
-      → (c₁ ≡ inner c) × (d₁ ≡ d) → ((input ≡ true → Good t d₁ x) → Does g₅ g₆ (givenDeeds t d₁ c₁ input x))
+      → CellIs z 3 p → Does g₄ g₅ (say (does (temporary z 3) ∷ []))
+      → (c₁ ≡ inner c) × (d₁ ≡ d) → ((input ≡ true → Good t d₁ x) → Does g₅ g₆ (givenDeeds t d₁ c₁ input 1 x))
       → (byteAt t p ≡ 34 → Good t d p → hasArrayRestOverObjectRest (lookNode t d p .value) ≡ false → Does g₆ g₇ (emitsTarget c (lookNode t d p .value)))
       → h₇ ≡ g₇ → q ≡ p → (c₂ ≡ inner c) × (d₂ ≡ d)
       → y ≡ cond (ltb treeLimit (g₇ .state .sink .tree)) 16383 p
       → (y < 16384 → Good t d₂ q → deepMode 18 ≡ true → suits 18 (lookNode t d₂ q .value) ≡ true → (r ≡ lookNode t d₂ q .next) × Does h₇ g₈ (turnOf 18 y c₂ (lookNode t d₂ q .value)))
       → (p < 16384 → Does g₈ g₉ last) → last ≡ cond (c .statement) (say []) (saysCell 3 p)
       → byteAt t p ≡ 34 → Good t d p → (input ≡ true → Good t d x) → hasArrayRestOverObjectRest (lookNode t d p .value) ≡ false
-      → Does g₀ g₉ (cond (lacksRests (lookNode t d p .value)) (say (refuses 6 ∷ puts (0 ∷ 0 ∷ []))) (emitsTop c (lookNode t d p .value) (givenDeeds t d (inner c) input x)))
+      → Does g₀ g₉ (cond (lacksRests (lookNode t d p .value)) (say (refuses 6 ∷ puts (0 ∷ 0 ∷ []))) (emitsTop c (lookNode t d p .value) (givenDeeds t d (inner c) input 1 x)))
   unfolding emitsTop
   top-does {g₇ = g₇} {g₈ = g₈} c c₁ c₂ d d₁ d₂ p q r x y k z input b last e h hands kk two wide ass ce temp i₁ giv tgt m w i₂ from deep end ends by good gx ar =
       let n = lookNode t d p .value in
-      let X = givenDeeds t d (inner c) input x in
+      let X = givenDeeds t d (inner c) input 1 x in
       let wi : p < 16384 = object-within d p good in
       let co = count-is c d p k good kk in
       let T = tgt by good ar in
@@ -402,7 +402,7 @@ module _ (t : List ℕ) where
       (does-then (sequence-says k (topCount c n) (co .0) (co .1) two wide)
       (does-then (ass (omega arith))
       (does-then (cell-says z 3 p (ce wi (omega arith) (omega arith)) temp)
-      (does-then (given-does (inner c) c₁ d d₁ x input (i₁ .0) (i₁ .1) giv gx)
+      (does-then (given-does (inner c) c₁ d d₁ x 1 input (i₁ .0) (i₁ .1) giv gx)
       (does-then T
       (does-then D (does-as (end wi) ends))))))))
       (ap (λ (y : ℕ). handsTop (c .root) (c .mark) n ▷ say (puts (28 ∷ 1 ∷ wideBytes (topCount c n))) ▷ assignHead 1 ▷ saysCell 3 y ▷ X ▷ emitsTarget c n ▷ overRests (emitsRestOf c y) n ▷ cond (c .statement) (say []) (saysCell 3 y))
@@ -478,7 +478,7 @@ module _ (t : List ℕ) where
 
   pub asn-top : {g g′ : Going} (c : Place) (d op p x k : ℕ) (input s : Bool) → Peeked t p k → k ≡ 34 → s ≡ eqb (byteAt t (onward t p 1) / 2 % 2) 1 → s ≡ true
       → (byteAt t p ≡ 34 → hasRest (lookNode t d p .value) ≡ true → Good t d p → (input ≡ true → Good t d x) → hasArrayRestOverObjectRest (lookNode t d p .value) ≡ false
-      → Does g g′ (cond (lacksRests (lookNode t d p .value)) (say (refuses 6 ∷ puts (0 ∷ 0 ∷ []))) (emitsTop c (lookNode t d p .value) (givenDeeds t d (inner c) input x))))
+      → Does g g′ (cond (lacksRests (lookNode t d p .value)) (say (refuses 6 ∷ puts (0 ∷ 0 ∷ []))) (emitsTop c (lookNode t d p .value) (givenDeeds t d (inner c) input 1 x))))
       → Good t d p → (input ≡ true → Good t d x) → hasArrayRestOverObjectRest (lookNode t d p .value) ≡ false → hasObjectRest (lookNode t d p .value) ≡ true → op < 256
       → Does g g′ (emits c (assignmentAt 0 op (lookNode t d p .value) (givenNode t d input x)))
   asn-top c d op p x k input s pk kk se sh top good gx ar ob lo =
@@ -495,7 +495,7 @@ module _ (t : List ℕ) where
 
   asn-nest : {g g′ : Going} (c : Place) (d op p x : ℕ) (input : Bool) → isTop (lookNode t d p .value) ≡ false
       → ((_≡_ {A = ℕ} 1 2 → ⊥) → Good t d p → (input ≡ true → Good t d x) → hasArrayRestOverObjectRest (lookNode t d p .value) ≡ false → op < 256
-      → Does g g′ (emitsNest c (viewOf 1) op (lookNode t d p .value) (givenDeeds t d (inner c) input x)))
+      → Does g g′ (emitsNest c (viewOf 1) op (lookNode t d p .value) (givenDeeds t d (inner c) input 1 x)))
       → Good t d p → (input ≡ true → Good t d x) → hasArrayRestOverObjectRest (lookNode t d p .value) ≡ false → hasObjectRest (lookNode t d p .value) ≡ true → op < 256
       → Does g g′ (emits c (assignmentAt 0 op (lookNode t d p .value) (givenNode t d input x)))
   unfolding viewOf
@@ -506,7 +506,7 @@ module _ (t : List ℕ) where
 
   pub asn-plain : {g g′ : Going} (c : Place) (d op p x k : ℕ) (input s : Bool) → Peeked t p k → k ≡ 34 → s ≡ eqb (byteAt t (onward t p 1) / 2 % 2) 1 → s ≡ false
       → ((_≡_ {A = ℕ} 1 2 → ⊥) → Good t d p → (input ≡ true → Good t d x) → hasArrayRestOverObjectRest (lookNode t d p .value) ≡ false → op < 256
-      → Does g g′ (emitsNest c (viewOf 1) op (lookNode t d p .value) (givenDeeds t d (inner c) input x)))
+      → Does g g′ (emitsNest c (viewOf 1) op (lookNode t d p .value) (givenDeeds t d (inner c) input 1 x)))
       → Good t d p → (input ≡ true → Good t d x) → hasArrayRestOverObjectRest (lookNode t d p .value) ≡ false → hasObjectRest (lookNode t d p .value) ≡ true → op < 256
       → Does g g′ (emits c (assignmentAt 0 op (lookNode t d p .value) (givenNode t d input x)))
   asn-plain c d op p x k input s pk kk se sh n good gx ar ob lo =
@@ -514,7 +514,7 @@ module _ (t : List ℕ) where
 
   pub asn-other : {g g′ : Going} (c : Place) (d op p x k : ℕ) (input : Bool) → Peeked t p k → (k ≡ 34 → ⊥)
       → ((_≡_ {A = ℕ} 1 2 → ⊥) → Good t d p → (input ≡ true → Good t d x) → hasArrayRestOverObjectRest (lookNode t d p .value) ≡ false → op < 256
-      → Does g g′ (emitsNest c (viewOf 1) op (lookNode t d p .value) (givenDeeds t d (inner c) input x)))
+      → Does g g′ (emitsNest c (viewOf 1) op (lookNode t d p .value) (givenDeeds t d (inner c) input 1 x)))
       → Good t d p → (input ≡ true → Good t d x) → hasArrayRestOverObjectRest (lookNode t d p .value) ≡ false → hasObjectRest (lookNode t d p .value) ≡ true → op < 256
       → Does g g′ (emits c (assignmentAt 0 op (lookNode t d p .value) (givenNode t d input x)))
   asn-other c d op p x k input pk kn n good gx ar ob lo =
@@ -627,15 +627,15 @@ module _ (t : List ℕ) where
   pub itp-done : {g₀ g₁ g₂ g₃ g₄ g₅ g₆ g₇ h₇ g₈ g₉ i₀ j₀ i₁ i₂ i₃ : Going} (c c₁ c₂ : Place) (d d₁ d₂ e p q r s y z₁ z₂ z₃ z₄ z₅ : ℕ) (b : Bool) (f : ReferenceBuilder)
       → b ≡ anyLacksForm (lookNode t d p .value) → b ≡ false → (c₁ ≡ inner c) × (d₁ ≡ d)
       → (Good t d p → byteAt t p ≡ 34
-      → Does g₀ g₁ (say (does (entry (c .mark) (suc (otherKeys (properties (lookNode t d p .value))))) ∷ lists (5 ∷ 1 ∷ []) ++ (does (listedTemporary (cell 3 p)) ∷ [])) ▷ handsKeys (lookNode t d p .value) ▷ excludesOf (c .root) (lookNode t d p .value)))
+      → Does g₀ g₁ (say (does (entry (c .mark) (suc (otherKeys (properties (lookNode t d p .value))))) ∷ lists (5 ∷ 1 ∷ []) ++ (does (listedTemporary (cell 3 p) 3) ∷ [])) ▷ handsKeys (lookNode t d p .value) ▷ excludesOf (c .root) (lookNode t d p .value)))
       → Does g₁ g₂ (say (puts (28 ∷ 1 ∷ []))) → (4 < 65536 → Does g₂ g₃ (say (puts (wideBytes 4)))) → (1 < 256 → Does g₃ g₄ (assignHead 1))
-      → CellIs z₁ 3 p → Does g₄ g₅ (say (does (temporary z₁) ∷ [])) → CellIs z₂ 1 p → Does g₅ g₆ (say (does (temporary z₂) ∷ [])) → (1 < 256 → Does g₆ g₇ (assignHead 1))
+      → CellIs z₁ 3 p → Does g₄ g₅ (say (does (temporary z₁ 3) ∷ [])) → CellIs z₂ 1 p → Does g₅ g₆ (say (does (temporary z₂ 1) ∷ [])) → (1 < 256 → Does g₆ g₇ (assignHead 1))
       → h₇ ≡ g₇ → q ≡ p → (Good t d₁ q → (s ≡ lookNode t d₁ q .next) × Does h₇ g₈ (emitsView c₁ (viewOf 2) (lookNode t d₁ q .value)))
-      → CellIs z₃ 3 p → Does g₈ g₉ (say (does (temporary z₃) ∷ [])) → (1 < 256 → Does g₉ i₀ (assignHead 1)) → j₀ ≡ i₀ → y ≡ r → e ≡ d - 1 → (c₂ ≡ inner c) × (d₂ ≡ e)
+      → CellIs z₃ 3 p → Does g₈ g₉ (say (does (temporary z₃ 3) ∷ [])) → (1 < 256 → Does g₉ i₀ (assignHead 1)) → j₀ ≡ i₀ → y ≡ r → e ≡ d - 1 → (c₂ ≡ inner c) × (d₂ ≡ e)
       → (Good t d₂ y → Does j₀ i₁ (emits c₂ (lookNode t d₂ y .value)))
-      → CellIs z₄ 3 p → ((u : List ℕ) → sourceOf u f ≡ say (does (temporary z₄) ∷ []))
+      → CellIs z₄ 3 p → ((u : List ℕ) → sourceOf u f ≡ say (does (temporary z₄ 3) ∷ []))
       → (Good t d₁ p → byteAt t p ≡ 34 → (true ≡ true → Clear i₁ (emitsRest c₁ p (properties (lookNode t d₁ p .value)) (sourceOf t f))) → Does i₁ i₂ (emitsRest c₁ p (properties (lookNode t d₁ p .value)) (sourceOf t f)))
-      → CellIs z₅ 3 p → Does i₂ i₃ (say (does (temporary z₅) ∷ []))
+      → CellIs z₅ 3 p → Does i₂ i₃ (say (does (temporary z₅ 3) ∷ []))
       → byteAt t p ≡ 34 → hasRest (lookNode t d p .value) ≡ true → r ≡ listAt (d - 1) p .next → Good t d p → hasArrayRestOverObjectRest (lookNode t d p .value) ≡ false
       → Does g₀ i₃ (emitsInner c (innerHere d p))
   unfolding emitsInnerTop viewOf nodeAt itemsAt pieceIn
@@ -645,7 +645,7 @@ module _ (t : List ℕ) where
       let x = restNode (d - 1) p in
       let a = objectRestAt p ps x in
       let l : p < 16384 = o .within in
-      let H : Node → Emit = λ m. say (does (entry (c .mark) (suc (otherKeys (properties m)))) ∷ lists (5 ∷ 1 ∷ []) ++ (does (listedTemporary (cell 3 p)) ∷ [])) in
+      let H : Node → Emit = λ m. say (does (entry (c .mark) (suc (otherKeys (properties m)))) ∷ lists (5 ∷ 1 ∷ []) ++ (does (listedTemporary (cell 3 p) 3) ∷ [])) in
       let T : Node → Emit =
       λ m. say (puts (28 ∷ 1 ∷ wideBytes 4)) ▷ assignHead 1 ▷ saysCell 3 p ▷ saysCell 1 p ▷ assignHead 1 ▷ emitsView (inner c) taking m ▷ saysCell 3 p
       ▷ assignHead 1 ▷ emits (inner c) x ▷ emitsRest (inner c) p (properties m) (saysCell 3 p) ▷ saysCell 3 p in

@@ -302,25 +302,29 @@ module _ (t : List ℕ) where
   name-copied c zero at good h = no-good t at good
   name-copied c (suc d) at good h = ap (λ (bs : List ℕ). say (puts bs)) (good-copied t (suc d) at good) ∙ sym (name-emits c d at (name-kind d at good h))
 
-  wanted-is : (d at k : ℕ) → builderOf t d at k false .wanted ≡ not (isName (lookNode t d at .value))
+  wanted-is : (d at k : ℕ) → builderOf t d at k 3 false .wanted ≡ not (isName (lookNode t d at .value))
   unfolding builderOf
   wanted-is d at k = refl
 
-  builder-cell : (d at k : ℕ) → builderOf t d at k false .cell ≡ k
+  builder-cell : (d at k : ℕ) → builderOf t d at k 3 false .cell ≡ k
   unfolding builderOf
   builder-cell d at k = refl
 
-  source-name : (d at k : ℕ) → isName (lookNode t d at .value) ≡ true → sourceOf t (builderOf t d at k false) ≡ say (puts (part at (lookNode t d at .next) t))
+  builder-stem : (d at k : ℕ) → builderOf t d at k 3 false .stem ≡ 3
+  unfolding builderOf
+  builder-stem d at k = refl
+
+  source-name : (d at k : ℕ) → isName (lookNode t d at .value) ≡ true → sourceOf t (builderOf t d at k 3 false) ≡ say (puts (part at (lookNode t d at .next) t))
   unfolding builderOf readOf reads
   source-name d at k h = rw h refl
 
-  source-after : (d at k : ℕ) → isName (lookNode t d at .value) ≡ false → sourceOf t (afterRead (builderOf t d at k false)) ≡ say (does (temporary k) ∷ [])
+  source-after : (d at k : ℕ) → isName (lookNode t d at .value) ≡ false → sourceOf t (afterRead (builderOf t d at k 3 false)) ≡ say (does (temporary k 3) ∷ [])
   unfolding builderOf afterRead readOf reads
   source-after d at k h = rw h refl
 
   pub lowered-read : {g g₁ g′ : Going} (c : Place) (d id init i : ℕ) (b : ReferenceBuilder) → b .wanted ≡ false → g₁ ≡ g → i ≡ id
       → (Good t d i → Does g₁ g′ (emitsPattern c (lookNode t d i .value) (sourceOf t b)))
-      → b ≡ builderOf t d init (cell 3 id) false → Good t d id → Good t d init → Does g g′ (emitsLowered c (lookNode t d id .value) (lookNode t d init .value))
+      → b ≡ builderOf t d init (cell 3 id) 3 false → Good t d id → Good t d init → Does g g′ (emitsLowered c (lookNode t d id .value) (lookNode t d init .value))
   lowered-read c d id init i b test from move pattern built good-id good-init =
       let p : Node = lookNode t d id .value in
       let v : Node = lookNode t d init .value in
@@ -330,22 +334,24 @@ module _ (t : List ℕ) where
       (ap₂ (λ (y : ℕ) (s : Emit). emitsPattern c (lookNode t d y .value) s) move read ∙ sym (lowered-name c p v named))
 
   pub lowered-kept : {g g₁ g₂ g₃ g₄ g₅ g′ : Going} (c c′ : Place) (d h id init y u i : ℕ) (b a : ReferenceBuilder) → b .wanted ≡ true
-      → Does g g₁ (say (puts (5 ∷ 3 ∷ []))) → Does g₁ g₂ (say (does (temporary (b .cell)) ∷ [])) → g₃ ≡ g₂ → y ≡ init → c′ ≡ inner c → h ≡ d
+      → Does g g₁ (say (puts (5 ∷ 3 ∷ []))) → Does g₁ g₂ (say (does (temporary (b .cell) (b .stem)) ∷ [])) → g₃ ≡ g₂ → y ≡ init → c′ ≡ inner c → h ≡ d
       → (u ≡ lookNode t h y .next) × (Good t h y → Does g₃ g₄ (emits c′ (lookNode t h y .value)))
       → a ≡ afterRead b → g₅ ≡ g₄ → i ≡ id → (Good t d i → Does g₅ g′ (emitsPattern c (lookNode t d i .value) (sourceOf t a)))
-      → b ≡ builderOf t d init (cell 3 id) false → Good t d id → Good t d init → Does g g′ (emitsLowered c (lookNode t d id .value) (lookNode t d init .value))
+      → b ≡ builderOf t d init (cell 3 id) 3 false → Good t d id → Good t d init → Does g g′ (emitsLowered c (lookNode t d id .value) (lookNode t d init .value))
   unfolding saysCell
   lowered-kept c c′ d h id init y u i b a test head kept from at-init place same-level given next again at-id pattern built good-id good-init =
       let p : Node = lookNode t d id .value in
       let v : Node = lookNode t d init .value in
       let named : isName v ≡ false = not-true (isName v) (sym (wanted-is d init (cell 3 id)) ∙ ap (λ (x : ReferenceBuilder). x .wanted) (sym built) ∙ test) in
       let cell-is : b .cell ≡ cell 3 (position p) = ap (λ (x : ReferenceBuilder). x .cell) built ∙ builder-cell d init (cell 3 id) ∙ ap (cell 3) (sym (position-here t d id)) in
+      let stem-is : b .stem ≡ 3 = ap (λ (x : ReferenceBuilder). x .stem) built ∙ builder-stem d init (cell 3 id) in
       let read : sourceOf t a ≡ saysCell 3 (position p) =
-      ap (sourceOf t) (next ∙ ap afterRead built) ∙ source-after d init (cell 3 id) named ∙ ap (λ (k : ℕ). say (does (temporary (cell 3 k)) ∷ [])) (sym (position-here t d id)) in
+      ap (sourceOf t) (next ∙ ap afterRead built) ∙ source-after d init (cell 3 id) named ∙ ap (λ (k : ℕ). say (does (temporary (cell 3 k) 3) ∷ [])) (sym (position-here t d id)) in
       let value-done = given .1 (subst (λ (k : ℕ). Good t h k) (sym at-init) (subst (λ (k : ℕ). Good t k init) (sym same-level) good-init)) in
       let pattern-done = pattern (subst (λ (k : ℕ). Good t d k) (sym at-id) good-id) in
-      does-as (does-then head (does-then kept (does-then (does-from from value-done) (does-from again pattern-done))))
-      (ap₂ (λ (k : ℕ) (w : Node). say (puts (5 ∷ 3 ∷ [])) ▷ say (does (temporary k) ∷ []) ▷ emits c′ w ▷ emitsPattern c (lookNode t d i .value) (sourceOf t a)) cell-is (ap₂ (λ (m k : ℕ). lookNode t m k .value) same-level at-init)
+      let kept-3 = does-as kept (ap (λ (k : ℕ). say (does (temporary (b .cell) k) ∷ [])) stem-is) in
+      does-as (does-then head (does-then kept-3 (does-then (does-from from value-done) (does-from again pattern-done))))
+      (ap₂ (λ (k : ℕ) (w : Node). say (puts (5 ∷ 3 ∷ [])) ▷ say (does (temporary k 3) ∷ []) ▷ emits c′ w ▷ emitsPattern c (lookNode t d i .value) (sourceOf t a)) cell-is (ap₂ (λ (m k : ℕ). lookNode t m k .value) same-level at-init)
       ∙ ap (λ (m : Place). say (puts (5 ∷ 3 ∷ [])) ▷ saysCell 3 (position p) ▷ emits m v ▷ emitsPattern c (lookNode t d i .value) (sourceOf t a)) place
       ∙ ap₂ (λ (k : ℕ) (s : Emit). say (puts (5 ∷ 3 ∷ [])) ▷ saysCell 3 (position p) ▷ emits (inner c) v ▷ emitsPattern c (lookNode t d k .value) s) at-id read
       ∙ sym (lowered-value c p v named))
@@ -413,8 +419,8 @@ module _ (t : List ℕ) where
 
   pub declarator-done : {g g₁ g′ : Going} (c c′ : Place) (d left e at init id q k₃ s : ℕ) (w : Start) (b : Bool) (r : ReferenceBuilder) → left ≡ d - 1 → id ≡ onward t at 2 → w ≡ startOf t d at → w ≡ Value init
       → b ≡ hasObjectRest (lookNode t left id .value) → b ≡ true → q ≡ lookNode t left init .next
-      → (id < 16384 → 0 < 3 → 3 < 5 → k₃ ≡ cell 3 id) → r ≡ builderOf t left init k₃ false → c′ ≡ c → e ≡ left
-      → (r ≡ builderOf t e init (cell 3 id) false → Good t e id → Good t e init → Does g g₁ (emitsLowered c′ (lookNode t e id .value) (lookNode t e init .value)))
+      → (id < 16384 → 0 < 3 → 3 < 5 → k₃ ≡ cell 3 id) → r ≡ builderOf t left init k₃ 3 false → c′ ≡ c → e ≡ left
+      → (r ≡ builderOf t e init (cell 3 id) 3 false → Good t e id → Good t e init → Does g g₁ (emitsLowered c′ (lookNode t e id .value) (lookNode t e init .value)))
       → g′ ≡ g₁ → s ≡ q
       → byteAt t at ≡ 5 → Good t d at → (s ≡ lookNode t d at .next) × Does g g′ (emitsDeclarator c (lookNode t d at .value))
   declarator-done c c′ d left e at init id q k₃ s w b r levels second start some test yes-rest next cell-is built place level lowers upto moved k good =
@@ -433,7 +439,7 @@ module _ (t : List ℕ) where
       let small : id < 16384 = omega arith in
       let low : isLowered n ≡ true =
       ap (λ (y : Seen Node). isLowered (y .value)) whole ∙ valued-lowered at 5 p x ∙ ap₂ (λ (y z : ℕ). hasObjectRest (lookNode t y z .value)) level (sym second) ∙ sym test ∙ yes-rest in
-      let does-it = lowers (built ∙ ap₂ (λ (y z : ℕ). builderOf t y init z false) (sym level) (cell-is small (omega arith) (omega arith))) (subst (λ (y : ℕ). Good t e y) (sym second) (o .pattern)) (subst (λ (y : ℕ). Good t e y) (sym (v .1)) (o .value (v .0))) in (
+      let does-it = lowers (built ∙ ap₂ (λ (y z : ℕ). builderOf t y init z 3 false) (sym level) (cell-is small (omega arith) (omega arith))) (subst (λ (y : ℕ). Good t e y) (sym second) (o .pattern)) (subst (λ (y : ℕ). Good t e y) (sym (v .1)) (o .value (v .0))) in (
         moved ∙ next ∙ ap₂ (λ (y z : ℕ). lookNode t y z .next) (sym level) (v .1) ∙ ap (λ (y : Seen Node). y .next) (sym whole),
         does-to upto (does-as does-it
             (ap₂ (λ (y z : Node). emitsLowered c′ y z) id-as init-as

@@ -60,13 +60,13 @@ module _ (t : List ℕ) where
   -- ---- the keys as the helper reads them
 
   pub read-cell : {g g₁ : Going} (c : Place) (d p k : ℕ) (b : Bool) → b ≡ hoists (c .root) (properties (lookNode t d p .value)) → b ≡ true
-      → (p < 16384 → 0 < 2 → 2 < 5 → k ≡ cell 2 p) → Does g g₁ (say (does (temporary k) ∷ []))
+      → (p < 16384 → 0 < 2 → 2 < 5 → k ≡ cell 2 p) → Does g g₁ (say (does (temporary k 2) ∷ []))
       → Good t d p → byteAt t p ≡ 34 → Does g g₁ (emitsKeysRead c p (properties (lookNode t d p .value)))
   unfolding saysCell
   read-cell c d p k b e h ck a good e34 =
       let small : p < 16384 = omega (arith, good-within t d p good) in
       does-as a
-      (ap (λ (x : ℕ). say (does (temporary x) ∷ [])) (ck small (omega arith) (omega arith)) ∙ sym (read-hoisted c p (properties (lookNode t d p .value)) (sym e ∙ h)))
+      (ap (λ (x : ℕ). say (does (temporary x 2) ∷ [])) (ck small (omega arith) (omega arith)) ∙ sym (read-hoisted c p (properties (lookNode t d p .value)) (sym e ∙ h)))
 
   -- all may be taken as strings
   pub read-strings : {g g₁ : Going} (c : Place) (d p : ℕ) (b f : Bool) → b ≡ hoists (c .root) (properties (lookNode t d p .value)) → b ≡ false
@@ -248,7 +248,7 @@ module _ (t : List ℕ) where
       (ez ∙ es, does-to eg (does-as (does-nothing g) (as-nothing c q (sym (ap keyClass (key-at d e at k xe ek good e35)) ∙ sym h ∙ i))))
 
   pub excluded-cell : {g g₁ g₂ : Going} (c : Place) (d e at k s z sort : ℕ) → e ≡ d - 1 → k ≡ onward t at 2 → s ≡ lookNode t d at .next → z ≡ s → g₂ ≡ g₁
-      → sort ≡ keyClass (lookNode t e k .value) → (sort ≡ 1 → ⊥) → (sort ≡ 2 → ⊥) → (sort ≡ 3 → ⊥) → Does g g₁ (say (does (temporary at) ∷ []))
+      → sort ≡ keyClass (lookNode t e k .value) → (sort ≡ 1 → ⊥) → (sort ≡ 2 → ⊥) → (sort ≡ 3 → ⊥) → Does g g₁ (say (does (temporary at 4) ∷ []))
       → byteAt t at ≡ 35 → Emitted t d at z g g₂ (emitsExcluded c)
   excluded-cell c zero e at k s z sort ee ek es ez eg h i j l a e35 good = no-good t at good
   excluded-cell c (suc d) e at k s z sort ee ek es ez eg h i j l a e35 good =
@@ -266,7 +266,7 @@ module _ (t : List ℕ) where
   pub key-value : {g g₁ g₂ g₃ g₄ g₅ : Going} (c c₁ : Place) (d e d₁ at k s u r z : ℕ) (b : Bool) → e ≡ d - 1 → k ≡ onward t at 2 → s ≡ lookNode t d at .next → z ≡ s
       → c₁ ≡ inner c → d₁ ≡ e → u ≡ k → g₃ ≡ g₂ → g₅ ≡ g₄
       → b ≡ isOther (lookNode t e k .value) → b ≡ true
-      → Does g g₁ (say (puts (5 ∷ 3 ∷ []))) → Does g₁ g₂ (say (does (temporary at) ∷ [])) → Ruled t d₁ u r g₃ g₄ (emits c₁)
+      → Does g g₁ (say (puts (5 ∷ 3 ∷ []))) → Does g₁ g₂ (say (does (temporary at 4) ∷ [])) → Ruled t d₁ u r g₃ g₄ (emits c₁)
       → byteAt t at ≡ 35 → Emitted t d at z g g₅ (emitsKeyValue c)
   unfolding emitsKeyValue
   key-value c c₁ zero e d₁ at k s u r z b ee ek es ez ec ed eu eg eh h i x y a e35 good = no-good t at good

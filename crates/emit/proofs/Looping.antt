@@ -629,16 +629,16 @@ module _ (t : List ℕ) where
         rw (z .1) (is-here t (z .0) (onward t at 4) 4 ∙ ne-eqb (byteAt t (onward t at 4)) 4 h)
 
     -- `var` and the temporary
-    var-bytes : say (declarationHead 1 1) ▷ say (puts (5 ∷ 1 ∷ [])) ▷ say (does (Event.temporary (onward t at 4)) ∷ []) ≡ say ((newDeclaration 1 ++ puts (5 ∷ 1 ∷ [])) ++ stand (position target))
+    var-bytes : say (declarationHead 1 1) ▷ say (puts (5 ∷ 1 ∷ [])) ▷ say (does (Event.temporary (onward t at 4) 1) ∷ []) ≡ say ((newDeclaration 1 ++ puts (5 ∷ 1 ∷ [])) ++ stand (position target))
     var-bytes =
-        ap (λ (x : ℕ). say (declarationHead 1 1) ▷ say (puts (5 ∷ 1 ∷ [])) ▷ say (does (Event.temporary x) ∷ [])) (sym (cell-one (onward t at 4)))
+        ap (λ (x : ℕ). say (declarationHead 1 1) ▷ say (puts (5 ∷ 1 ∷ [])) ▷ say (does (Event.temporary x 1) ∷ [])) (sym (cell-one (onward t at 4)))
         ∙ ap (λ (x : ℕ). say (declarationHead 1 1) ▷ say (puts (5 ∷ 1 ∷ [])) ▷ say (stand x)) (sym (position-here t d (onward t at 4)))
         ∙ say-then (newDeclaration 1) (puts (5 ∷ 1 ∷ [])) (say (stand (position target)))
         ∙ say-say (newDeclaration 1 ++ puts (5 ∷ 1 ∷ [])) (stand (position target))
 
     assigning-law : (byteAt t (onward t at 4) ≡ 4 → ⊥) → hasArrayRestOverObjectRest target ≡ false → hasObjectRest target ≡ true
         → say (does (Event.make (onward t at 4)) ∷ []) ▷ say (puts (part at (onward t at 4) t))
-        ▷ (say (declarationHead 1 1) ▷ say (puts (5 ∷ 1 ∷ [])) ▷ say (does (Event.temporary (onward t at 4)) ∷ []))
+        ▷ (say (declarationHead 1 1) ▷ say (puts (5 ∷ 1 ∷ [])) ▷ say (does (Event.temporary (onward t at 4) 1) ∷ []))
         ▷ emits (scoped c) (lookNode t d (rightAt d at) .value) ▷ emits (scoped c) (targetIn target (lookNode t d (bodyAt d at) .value))
         ▷ say (puts (cond (awaits t at) (part (awaitAt d at) (onward t (awaitAt d at) 1) t) []))
         ≡ emits c (lookNode t (suc d) at .value)
@@ -656,7 +656,7 @@ module _ (t : List ℕ) where
   pub assigning-does : {g g₁ g₂ g₃ g₄ g₅ h g₆ g₇ g′ : Going} (c c′ : Place) (d e e′ at q s x₀ x₁ x₂ x₃ : ℕ)
       → e ≡ d - 1 → q ≡ onward t at 4 → c′ ≡ scoped c → e′ ≡ e → x₀ ≡ at → s ≡ lookNode t e q .next → x₁ ≡ s → h ≡ g₅
       → Does g g₁ (say (does (Event.make q) ∷ [])) → Does g₁ g₂ (say (puts (part x₀ q t))) → (1 < 65536 → Does g₂ g₃ (say (declarationHead 1 1)))
-      → Does g₃ g₄ (say (puts (5 ∷ 1 ∷ []))) → Does g₄ g₅ (say (does (Event.temporary q) ∷ []))
+      → Does g₃ g₄ (say (puts (5 ∷ 1 ∷ []))) → Does g₄ g₅ (say (does (Event.temporary q 1) ∷ []))
       → (x₂ ≡ lookNode t e′ x₁ .next) × (Good t e′ x₁ → Does h g₆ (emits c′ (lookNode t e′ x₁ .value)))
       → (GoodItem t (lookNode t e′) (Good t e′) true false x₂ → Good t e′ q → hasArrayRestOverObjectRest (lookNode t e′ q .value) ≡ false → hasObjectRest (lookNode t e′ q .value) ≡ true
       → (x₃ ≡ lookNode t e′ x₂ .next) × Does g₆ g₇ (emits c′ (targetIn (lookNode t e′ q .value) (lookNode t e′ x₂ .value))))
@@ -675,7 +675,7 @@ module _ (t : List ℕ) where
       let ob′ : hasObjectRest (lookNode t d l .value) ≡ true = ap (λ (z : Node). hasObjectRest z) (sym (target-is c d at good′ v)) ∙ ap (λ (z : ℕ). hasObjectRest (nodeAt 1 (lookNode t z at .value))) (sym (up .1)) ∙ ob in
       let mk′ : Does g g₁ (say (does (Event.make l) ∷ [])) = rw qq at mk in
       let cp′ : Does g₁ g₂ (say (puts (part at l t))) = rw (xx₀, qq) at cp in
-      let tm′ : Does _ g₅ (say (does (Event.temporary l) ∷ [])) = rw qq at tm in
+      let tm′ : Does _ g₅ (say (does (Event.temporary l 1) ∷ [])) = rw qq at tm in
       let x₁′ : x₁ ≡ rightAt d at = xx₁ ∙ ss ∙ ap₂ (λ (y z : ℕ). lookNode t y z .next) e″ qq in
       let nd′ : (x₂ ≡ bodyAt d at) × (Good t d (rightAt d at) → Does h g₆ (emits (scoped c) (lookNode t d (rightAt d at) .value))) = rw (ee′, e″, cc′, x₁′) at nd in
       let tb′ : GoodItem t (lookNode t d) (Good t d) true false (bodyAt d at) → Good t d l → hasArrayRestOverObjectRest (lookNode t d l .value) ≡ false → hasObjectRest (lookNode t d l .value) ≡ true

@@ -82,8 +82,8 @@ pub cell-one : (at : ℕ) → cell 1 at ≡ at
 unfolding cell
 cell-one at = omega arith
 
-stand-is : (at : ℕ) → say (does (temporary at) ∷ []) ≡ say (stand at)
-stand-is at = ap (λ (x : ℕ). say (does (temporary x) ∷ [])) (sym (cell-one at))
+stand-is : (at : ℕ) → say (does (temporary at 1) ∷ []) ≡ say (stand at)
+stand-is at = ap (λ (x : ℕ). say (does (temporary x 1) ∷ [])) (sym (cell-one at))
 
 -- ---- lists in two halves
 
@@ -155,7 +155,7 @@ module _ (t : List ℕ) where
   -- ---- a pattern without the parts that are moved out
 
   pub gone-object : {g g₁ g′ : Going} (c : Place) (d at k q x : ℕ) → (d ≡ 0 → ⊥) → Peeked t at k → k ≡ 34 → q ≡ lookNode t d at .next → x ≡ q
-      → Does g g₁ (say (does (temporary at) ∷ [])) → g′ ≡ g₁ → Emitted t d at x g g′ (λ p. emits c (outOf p))
+      → Does g g₁ (say (does (temporary at 1) ∷ [])) → g′ ≡ g₁ → Emitted t d at x g g′ (λ p. emits c (outOf p))
   gone-object c zero at k q x z p e f h a b good = absurd (z refl)
   gone-object c (suc d) at k q x z p e f h a b good =
       let n : Node = lookNode t (suc d) at .value in (
@@ -172,7 +172,7 @@ module _ (t : List ℕ) where
       (r .0, does-as (r .1 good) (sym (emits-out-leaf c n (leaf-is d at k p e f h))))
 
   pub gone-default : {g g₁ g₂ g₃ g′ : Going} (c c₁ : Place) (d l e at k q s y x : ℕ) → (d ≡ 0 → ⊥) → Peeked t at k → k ≡ 37 → l ≡ d - 1 → q ≡ onward t at 2 → s ≡ lookNode t l q .next → y ≡ s
-      → c₁ ≡ inner c → e ≡ l → Does g g₁ (say (puts (37 ∷ 3 ∷ []))) → Does g₁ g₂ (say (does (temporary at) ∷ [])) → g₃ ≡ g₂
+      → c₁ ≡ inner c → e ≡ l → Does g g₁ (say (puts (37 ∷ 3 ∷ []))) → Does g₁ g₂ (say (does (temporary at 1) ∷ [])) → g₃ ≡ g₂
       → Ruled t e y x g₃ g′ (emits c₁) → Emitted t d at x g g′ (λ p. emits c (outOf p))
   gone-default c c₁ zero l e at k q s y x z p f a b h i j u v w o r good = absurd (z refl)
   gone-default c c₁ (suc d) l e at k q s y x z p f a b h i j u v w o r good =
@@ -586,14 +586,14 @@ module _ (id : Node) (o : ℕ) (below : hasObjectRest id ≡ true) where
   unfolding sumOf declaratorsOf nodeAt pieceIn
   let-count c κ s = declarator-count c (only (declares id read)) ∙ rw (let-lowered, let-named) (omega (arith, pattern-counted κ id s))
 
-  let-declares : (c : Place) → emitsDeclarator c (declares id read) ≡ emitsPattern c id (say (does (temporary o) ∷ []))
+  let-declares : (c : Place) → emitsDeclarator c (declares id read) ≡ emitsPattern c id (say (does (temporary o 1) ∷ []))
   unfolding emitsDeclarator emitsLowered nodeAt pieceIn
   let-declares c = rw (let-lowered, let-named) (ap (emitsPattern c id) (emits-temporary (inner c) [] 1 o ∙ sym (stand-is o)))
 
   -- what it does: it hands out its temporaries and excluded keys, then come its declarators
   let-done : (c : Place) (κ : Context) (s : Node) → any (λ p. anyLacksForm p) (objectsBelow (contextOf c) id) ≡ false
       → (overObjects placeMade taking id ▷ overObjects keysMade replacing id ▷ overObjects (excludesOf (c .root)) replacing id)
-      ▷ say (declarationHead 2 (count (patternDeclarators κ id s))) ▷ emitsPattern c id (say (does (temporary o) ∷ []))
+      ▷ say (declarationHead 2 (count (patternDeclarators κ id s))) ▷ emitsPattern c id (say (does (temporary o 1) ∷ []))
       ≡ emits c (letOf id read)
   unfolding marks
   let-done c κ s lacks =
@@ -601,7 +601,7 @@ module _ (id : Node) (o : ℕ) (below : hasObjectRest id ≡ true) where
       let a : Emit = overObjects placeMade taking id in
       let b : Emit = overObjects keysMade replacing id in
       let x : Emit = overObjects (excludesOf (c .root)) replacing id in
-      let e : Emit = emitsPattern c id (say (does (temporary o) ∷ [])) in
+      let e : Emit = emitsPattern c id (say (does (temporary o 1) ∷ [])) in
       let h : Emit = say (declarationHead 2 (count (patternDeclarators κ id s))) in
       sym
       (declaration-done c 0 0 2 ds (let-lacks (contextOf c) ∙ lacks)
@@ -629,7 +629,7 @@ module _ (t : List ℕ) where
 
   pub add-kept : {g g₁ g₂ g₃ g₄ g′ : Going} (c c₁ c₂ : Place) (d e at o m y x : ℕ) (b : Bool) → b ≡ hasObjectRest (lookNode t d at .value) → b ≡ false
       → c₁ ≡ inner c → m ≡ g .state .sink .mark → c₂ ≡ marking c₁ m → e ≡ d → (1 < 65536 → Does g g₁ (say (declarationHead 2 1))) → Does g₁ g₂ (say (puts (5 ∷ 3 ∷ []))) → g₃ ≡ g₂ → y ≡ at
-      → Ruled t e y x g₃ g₄ (emits c₂) → Does g₄ g′ (say (does (temporary o) ∷ [])) → Added t d at o g g′ c
+      → Ruled t e y x g₃ g₄ (emits c₂) → Does g₄ g′ (say (does (temporary o 1) ∷ [])) → Added t d at o g g′ c
   add-kept {g = g} {g′ = g′} c c₁ c₂ d e at o m y x b bb bt v k v₂ ee hd tw tt yy r tm s good small =
       let id : Node = lookNode t d at .value in
       let same = node-as t e d y at ee yy in
@@ -644,7 +644,7 @@ module _ (t : List ℕ) where
       → ((κ : Context) → f ≡ any anyLacksForm (objectsBelow κ (lookNode t d at .value))) → f ≡ false → c₁ ≡ inner c → m ≡ g .state .sink .mark → c₂ ≡ marking c₁ m → e ≡ d
       → (Good t d at → Does g g₁ (overObjects placeMade taking (lookNode t d at .value) ▷ overObjects keysMade replacing (lookNode t d at .value) ▷ overObjects (excludesOf (c .root)) replacing (lookNode t d at .value)))
       → ((κ : Context) (z : Node) → k ≡ limited (count (patternDeclarators κ (lookNode t d at .value) z)))
-      → (k < 65536 → Does g₁ g₂ (say (declarationHead 2 k))) → g₃ ≡ g₂ → y ≡ at → source ≡ say (does (temporary o) ∷ [])
+      → (k < 65536 → Does g₁ g₂ (say (declarationHead 2 k))) → g₃ ≡ g₂ → y ≡ at → source ≡ say (does (temporary o 1) ∷ [])
       → (Good t e y → Does g₃ g′ (emitsPattern c₂ (lookNode t e y .value) source)) → Added t d at o g g′ c
   unfolding marking
   add-lowered {g = g} {g′ = g′} c c₁ c₂ d e at o m k y b f source bb bt l w v mk v₂ ee hands cn hd to yy src pt s good small =

@@ -469,7 +469,7 @@ fn vo(
     let rest = has_second(t, p);
     if rest {
         if replaces(v) {
-            return w.temporary(out, list, work, p).to(skip(t, c.left, p));
+            return w.temporary(out, list, work, p, 1).to(skip(t, c.left, p));
         }
     }
     let q = step(t, p, 2);
@@ -564,7 +564,7 @@ fn key(
 {
     if taken {
         if is_other(t, c.left, w.at) {
-            return w.temporary(out, list, work, property)
+            return w.temporary(out, list, work, property, 4)
                 .to(skip(t, c.left, w.at));
         }
     }
@@ -612,7 +612,7 @@ fn read(
     ensures { λ r. ⌜ (r .at ≡ w .at) × (Good (now (t .entry)) (c .left) p → byteAt (now (t .entry)) p ≡ 34 → Does (goingOf (now (out .entry)) (now (list .entry)) (now (work .entry)) w) (goingOf (now (out .exit)) (now (list .exit)) (now (work .exit)) r) (emitsKeysRead (placeOf c) p (properties (lookNode (now (t .entry)) (c .left) p .value)))) ⌝ }
 {
     if hoisted(t, c.left, c.root, p) {
-        return w.temporary(out, list, work, cell(2, p));
+        return w.temporary(out, list, work, cell(2, p), 2);
     }
     if all_primitive(t, c.left, p) {
         return keys(w, t, out, list, work, c, p);
@@ -667,7 +667,7 @@ fn ek(w: Walk, t: &[u8], out: &mut [u8], list: &mut [u8], work: &mut [u8], c: Pl
         1 => string(w, t, out, left, k).to(end),
         2 => node(w.to(k), t, out, list, work, under(c, left)).to(end),
         3 => w.to(end),
-        _ => w.temporary(out, list, work, p).to(end),
+        _ => w.temporary(out, list, work, p, 4).to(end),
     }
 }
 
@@ -680,7 +680,7 @@ fn kv(w: Walk, t: &[u8], out: &mut [u8], list: &mut [u8], work: &mut [u8], c: Pl
     let end = skip(t, c.left, p);
     let k = step(t, p, 2);
     if is_other(t, left, k) {
-        let u = w.put2(out, 5, 3).temporary(out, list, work, p).to(k);
+        let u = w.put2(out, 5, 3).temporary(out, list, work, p, 4).to(k);
         return node(u, t, out, list, work, inside(c, left)).to(end);
     }
     w.to(end)
@@ -779,8 +779,8 @@ fn fb(w: Walk, t: &[u8], out: &mut [u8], list: &mut [u8], work: &mut [u8], c: Pl
     let n = wide_at(t, q);
     let first = step(t, q, 2);
     if has_second(t, p) {
-        let u = own(w, t, out, list, work, c, cell_source(cell(1, p)));
-        let u = os(u, t, out, list, work, c, cell_source(cell(1, p)));
+        let u = own(w, t, out, list, work, c, cell_source(cell(1, p), 1));
+        let u = os(u, t, out, list, work, c, cell_source(cell(1, p), 1));
         let u = seq(
             u.to(first),
             t,
@@ -907,7 +907,7 @@ fn dr(w: Walk, t: &[u8], out: &mut [u8], list: &mut [u8], work: &mut [u8], c: Pl
     };
     if has_nested_object_rest(t, left, id) {
         let end = skip(t, left, init);
-        let b = ReferenceBuilder::new(t, left, init, cell(3, id), false);
+        let b = ReferenceBuilder::new(t, left, init, cell(3, id), 3, false);
         return lo(w, t, out, list, work, under(c, left), id, init, b).to(end);
     }
     node(w, t, out, list, work, inside(c, c.left))
@@ -925,11 +925,11 @@ fn lo(
     init: usize,
     b: ReferenceBuilder,
 ) -> Walk
-    ensures { λ r. ⌜ (b ≡ builderOf (now (t .entry)) (c .left) init (events.cell 3 id) false → Good (now (t .entry)) (c .left) id → Good (now (t .entry)) (c .left) init → Does (goingOf (now (out .entry)) (now (list .entry)) (now (work .entry)) w) (goingOf (now (out .exit)) (now (list .exit)) (now (work .exit)) r) (emitsLowered (placeOf c) (lookNode (now (t .entry)) (c .left) id .value) (lookNode (now (t .entry)) (c .left) init .value))) ⌝ }
+    ensures { λ r. ⌜ (b ≡ builderOf (now (t .entry)) (c .left) init (events.cell 3 id) 3 false → Good (now (t .entry)) (c .left) id → Good (now (t .entry)) (c .left) init → Does (goingOf (now (out .entry)) (now (list .entry)) (now (work .entry)) w) (goingOf (now (out .exit)) (now (list .exit)) (now (work .exit)) r) (emitsLowered (placeOf c) (lookNode (now (t .entry)) (c .left) id .value) (lookNode (now (t .entry)) (c .left) init .value))) ⌝ }
 {
     if b.wanted {
         let u = w.put2(out, 5, 3)
-            .temporary(out, list, work, b.cell)
+            .temporary(out, list, work, b.cell, b.stem)
             .to(init);
         let u = node(u, t, out, list, work, inside(c, c.left));
         let taken = b.create_read_expression();
@@ -1082,7 +1082,8 @@ fn ag(w: Walk, t: &[u8], out: &mut [u8], list: &mut [u8], work: &mut [u8], c: Pl
     plain(w, t, out, list, work, c)
 }
 
-// The assignment to the target at p, which has an object rest below it: of the expression at x, or of the temporary of the cell x.
+// The assignment to the target at p, which has an object rest below it: of the expression at x, or of the temporary in place of a
+// pattern, in the cell x.
 fn an(
     w: Walk,
     t: &[u8],
@@ -1102,7 +1103,7 @@ fn an(
             return top(w, t, out, list, work, c, p, input, x);
         }
     }
-    ns(w, t, out, list, work, c, 1, op, p, input, x)
+    ns(w, t, out, list, work, c, 1, op, p, input, 1, x)
 }
 
 // The target is an object with rest.
@@ -1117,7 +1118,7 @@ fn top(
     input: bool,
     x: usize,
 ) -> Walk
-    ensures { λ r. ⌜ (byteAt (now (t .entry)) p ≡ 34 → hasRest (lookNode (now (t .entry)) (c .left) p .value) ≡ true → Good (now (t .entry)) (c .left) p → (input ≡ true → Good (now (t .entry)) (c .left) x) → hasArrayRestOverObjectRest (lookNode (now (t .entry)) (c .left) p .value) ≡ false → Does (goingOf (now (out .entry)) (now (list .entry)) (now (work .entry)) w) (goingOf (now (out .exit)) (now (list .exit)) (now (work .exit)) r) (cond (lacksRests (lookNode (now (t .entry)) (c .left) p .value)) (say (refuses 6 ∷ puts (0 ∷ 0 ∷ []))) (emitsTop (placeOf c) (lookNode (now (t .entry)) (c .left) p .value) (givenDeeds (now (t .entry)) (c .left) (inner (placeOf c)) input x)))) ⌝ }
+    ensures { λ r. ⌜ (byteAt (now (t .entry)) p ≡ 34 → hasRest (lookNode (now (t .entry)) (c .left) p .value) ≡ true → Good (now (t .entry)) (c .left) p → (input ≡ true → Good (now (t .entry)) (c .left) x) → hasArrayRestOverObjectRest (lookNode (now (t .entry)) (c .left) p .value) ≡ false → Does (goingOf (now (out .entry)) (now (list .entry)) (now (work .entry)) w) (goingOf (now (out .exit)) (now (list .exit)) (now (work .exit)) r) (cond (lacksRests (lookNode (now (t .entry)) (c .left) p .value)) (say (refuses 6 ∷ puts (0 ∷ 0 ∷ []))) (emitsTop (placeOf c) (lookNode (now (t .entry)) (c .left) p .value) (givenDeeds (now (t .entry)) (c .left) (inner (placeOf c)) input 1 x)))) ⌝ }
 {
     if through_objects_lacks_form(t, c.left, p) {
         return w.refuse(out, 6);
@@ -1127,8 +1128,8 @@ fn top(
     let u = u.put2(out, 28, 1)
         .wide(out, k)
         .assign(out, 1)
-        .temporary(out, list, work, cell(3, p));
-    let u = gv(u, t, out, list, work, inside(c, c.left), input, x);
+        .temporary(out, list, work, cell(3, p), 3);
+    let u = gv(u, t, out, list, work, inside(c, c.left), input, 1, x);
     let u = tg(u, t, out, list, work, c, p);
     let u = deep(
         u.to(p),
@@ -1143,10 +1144,10 @@ fn top(
     if c.statement {
         return u;
     }
-    u.temporary(out, list, work, cell(3, p))
+    u.temporary(out, list, work, cell(3, p), 3)
 }
 
-// What is assigned.
+// What is assigned: the expression at x, or the temporary of the cell x with its stem.
 fn gv(
     w: Walk,
     t: &[u8],
@@ -1155,14 +1156,15 @@ fn gv(
     work: &mut [u8],
     c: Place,
     input: bool,
+    stem: u8,
     x: usize,
 ) -> Walk
-    ensures { λ r. ⌜ ((input ≡ true → Good (now (t .entry)) (c .left) x) → Does (goingOf (now (out .entry)) (now (list .entry)) (now (work .entry)) w) (goingOf (now (out .exit)) (now (list .exit)) (now (work .exit)) r) (givenDeeds (now (t .entry)) (c .left) (placeOf c) input x)) ⌝ }
+    ensures { λ r. ⌜ ((input ≡ true → Good (now (t .entry)) (c .left) x) → Does (goingOf (now (out .entry)) (now (list .entry)) (now (work .entry)) w) (goingOf (now (out .exit)) (now (list .exit)) (now (work .exit)) r) (givenDeeds (now (t .entry)) (c .left) (placeOf c) input stem x)) ⌝ }
 {
     if input {
         return node(w.to(x), t, out, list, work, c);
     }
-    w.temporary(out, list, work, x)
+    w.temporary(out, list, work, x, stem)
 }
 
 // The target without its rests.
@@ -1179,10 +1181,10 @@ fn tg(
 {
     let d = inside(c, c.left);
     if rest_in_arrays(t, c.left, p) {
-        return ns(w, t, out, list, work, d, 3, 1, p, false, cell(3, p));
+        return ns(w, t, out, list, work, d, 3, 1, p, false, 3, cell(3, p));
     }
     let u = view(w.assign(out, 1).to(p), t, out, list, work, d, 3);
-    u.temporary(out, list, work, cell(3, p))
+    u.temporary(out, list, work, cell(3, p), 3)
 }
 
 // Objects with rest replaced, then an assignment for each.
@@ -1197,9 +1199,10 @@ fn ns(
     op: usize,
     p: usize,
     input: bool,
+    stem: u8,
     x: usize,
 ) -> Walk
-    ensures { λ r. ⌜ ((v ≡ 2 → ⊥) → Good (now (t .entry)) (c .left) p → (input ≡ true → Good (now (t .entry)) (c .left) x) → hasArrayRestOverObjectRest (lookNode (now (t .entry)) (c .left) p .value) ≡ false → op < 256 → Does (goingOf (now (out .entry)) (now (list .entry)) (now (work .entry)) w) (goingOf (now (out .exit)) (now (list .exit)) (now (work .exit)) r) (emitsNest (placeOf c) (viewOf v) op (lookNode (now (t .entry)) (c .left) p .value) (givenDeeds (now (t .entry)) (c .left) (inner (placeOf c)) input x))) ⌝ }
+    ensures { λ r. ⌜ ((v ≡ 2 → ⊥) → Good (now (t .entry)) (c .left) p → (input ≡ true → Good (now (t .entry)) (c .left) x) → hasArrayRestOverObjectRest (lookNode (now (t .entry)) (c .left) p .value) ≡ false → op < 256 → Does (goingOf (now (out .entry)) (now (list .entry)) (now (work .entry)) w) (goingOf (now (out .exit)) (now (list .exit)) (now (work .exit)) r) (emitsNest (placeOf c) (viewOf v) op (lookNode (now (t .entry)) (c .left) p .value) (givenDeeds (now (t .entry)) (c .left) (inner (placeOf c)) input stem x))) ⌝ }
 {
     let k = places_in(t, c.left, p, v);
     let u = nested_hands(w, t, list, work, c.left, p, v, c.mark);
@@ -1208,7 +1211,7 @@ fn ns(
         .assign(out, op)
         .to(p);
     let u = view(u, t, out, list, work, inside(c, c.left), v);
-    let u = gv(u, t, out, list, work, inside(c, c.left), input, x);
+    let u = gv(u, t, out, list, work, inside(c, c.left), input, stem, x);
     deep(u.to(p), t, out, list, work, c, inner_mode(v), 0)
 }
 
@@ -1233,11 +1236,11 @@ fn ip(
     let u = u.put2(out, 28, 1)
         .wide(out, 4)
         .assign(out, 1)
-        .temporary(out, list, work, cell(3, p));
-    let u = u.temporary(out, list, work, cell(1, p))
+        .temporary(out, list, work, cell(3, p), 3);
+    let u = u.temporary(out, list, work, cell(1, p), 1)
         .assign(out, 1)
         .to(p);
-    let u = view(u, t, out, list, work, d, 2).temporary(out, list, work, cell(3, p));
+    let u = view(u, t, out, list, work, d, 2).temporary(out, list, work, cell(3, p), 3);
     let u = node(
         u.assign(out, 1).to(r),
         t,
@@ -1246,8 +1249,8 @@ fn ip(
         work,
         inside(c, less(c.left)),
     );
-    let u = rest(u, t, out, list, work, d, p, cell_source(cell(3, p)), true);
-    u.temporary(out, list, work, cell(3, p))
+    let u = rest(u, t, out, list, work, d, p, cell_source(cell(3, p), 3), true);
+    u.temporary(out, list, work, cell(3, p), 3)
 }
 
 // The rest of the object at p, which stands at r, from the value of the target at x; where no target starts there, only what it
@@ -1284,7 +1287,7 @@ fn ro(
         work,
         inside(c, c.left),
         p,
-        cell_source(cell(3, x)),
+        cell_source(cell(3, x), 3),
         false,
     )
 }
@@ -1326,7 +1329,7 @@ fn go(w: Walk, t: &[u8], out: &mut [u8], list: &mut [u8], work: &mut [u8], c: Pl
     let left = less(c.left);
     let kind = peek(t, p);
     match kind {
-        34 => w.temporary(out, list, work, p).to(skip(t, c.left, p)),
+        34 => w.temporary(out, list, work, p, 1).to(skip(t, c.left, p)),
         36 => {
             let q = step(t, p, 2);
             let n = wide_at(t, q);
@@ -1338,7 +1341,7 @@ fn go(w: Walk, t: &[u8], out: &mut [u8], list: &mut [u8], work: &mut [u8], c: Pl
             u
         }
         37 => {
-            let u = w.put2(out, 37, 3).temporary(out, list, work, p);
+            let u = w.put2(out, 37, 3).temporary(out, list, work, p, 1);
             let u = u.to(skip(t, left, step(t, p, 2)));
             node(u, t, out, list, work, inside(c, left))
         }
@@ -1439,10 +1442,10 @@ fn add(
         let u = pattern_hands(w, t, list, work, c.left, p, c.root);
         let k = pattern_declarators(t, c.left, p);
         let u = u.declaration(out, 2, k).to(p);
-        return pa(u, t, out, list, work, d, cell_source(o));
+        return pa(u, t, out, list, work, d, cell_source(o, 1));
     }
     let u = w.declaration(out, 2, 1).put2(out, 5, 3).to(p);
-    node(u, t, out, list, work, d).temporary(out, list, work, o)
+    node(u, t, out, list, work, d).temporary(out, list, work, o, 1)
 }
 
 // A function body with new statements in front.
@@ -1721,7 +1724,7 @@ fn th(w: Walk, t: &[u8], out: &mut [u8], list: &mut [u8], work: &mut [u8], c: Pl
     let u = w.make(work, q).copy(t, out, q);
     let u = u.declaration(out, 1, 1)
         .put2(out, 5, 1)
-        .temporary(out, list, work, q);
+        .temporary(out, list, work, q, 1);
     let u = node(u.to(skip(t, left, q)), t, out, list, work, d);
     let u = tb(u, t, out, list, work, d, q);
     await_of(u, t, out, p)

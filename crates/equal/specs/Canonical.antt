@@ -1,5 +1,5 @@
 -- The canonical form of a tree: each temporary has the place of its first appearance, from 1, in place of its number. All else stands as
--- it is. A temporary is a node of kind 20; its number is the first field that stands, and what it has behind that (a stem) is kept.
+-- it is. A temporary is a node of kind 20; its number is the first field that stands, and its stem, which stands behind that, is kept.
 use Prim.Native.Nat.{ℕ}
 use mathlib.Core.Bool.{Bool, false, cond}
 use mathlib.Core.List.{List, [], _∷_, _++_}

@@ -33,10 +33,7 @@ decimal = program (numeral (49 ∷ 54 ∷ []) (49 ∷ 54 ∷ []))
 abbrev pub formless : List ℕ → Node
 formless spelling = program (node 0 22 (field (byte 2) (field (text spelling) (absent done))))
 
--- a temporary with its number; one with a stem behind it
-abbrev pub withNumber : ℕ → Node
-withNumber x = node 0 20 (field (number x) done)
-
+-- a temporary with its number and its stem
 abbrev pub withStem : ℕ → ℕ → Node
 withStem x stem = node 0 20 (field (number x) (field (byte stem) done))
 
@@ -48,8 +45,8 @@ three a b c = array (item a (item b (item c none)))
 abbrev pub result : ℕ → ℕ → ℕ → Written
 result a b c =
     record {
-      tree = array (item (withNumber a) (item (withNumber b) none));
-      entries = record { containing = 1; declarators = item (declared (withNumber c)) none } ∷ [];
+      tree = array (item (withStem a 1) (item (withStem b 1) none));
+      entries = record { containing = 1; declarators = item (declared (withStem c 1)) none } ∷ [];
       excluded = none;
     }
 
@@ -70,8 +67,8 @@ apart-examples =
 
 -- temporaries by first appearance; a stem counts, and so does a tree's temporary in its list
 pub record Numbered : Type 0 where
-  pub same-places : isEqual (three (withNumber 7) (withNumber 3) (withNumber 7)) (three (withNumber 1) (withNumber 9) (withNumber 1)) ≡ true
-  pub other-places : isEqual (three (withNumber 7) (withNumber 3) (withNumber 7)) (three (withNumber 1) (withNumber 9) (withNumber 9)) ≡ false
+  pub same-places : isEqual (three (withStem 7 1) (withStem 3 1) (withStem 7 1)) (three (withStem 1 1) (withStem 9 1) (withStem 1 1)) ≡ true
+  pub other-places : isEqual (three (withStem 7 1) (withStem 3 1) (withStem 7 1)) (three (withStem 1 1) (withStem 9 1) (withStem 9 1)) ≡ false
   pub stem-kept : isEqual (three (withStem 7 1) (withStem 3 4) (withStem 7 1)) (three (withStem 1 1) (withStem 9 4) (withStem 1 1)) ≡ true
   pub stem-counts : isEqual (three (withStem 7 1) (withStem 3 4) (withStem 7 1)) (three (withStem 1 1) (withStem 9 2) (withStem 1 1)) ≡ false
   pub through-both : isEqualWritten (result 5 4 4) (result 1 2 2) ≡ true

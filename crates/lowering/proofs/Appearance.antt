@@ -1,12 +1,17 @@
 -- Numbers by first appearance are kept by a renaming that keeps apart the names that occur. So code may name temporaries as it likes.
+-- And a number is given to one name.
 -- Assumes nothing.
-use mathlib.Core.Path.{_≡_, refl, ap, ap₂, _∙_}
+use mathlib.Core.Path.{_≡_, refl, sym, ap, ap₂, subst, _∙_}
 use mathlib.Core.Bool.{Bool, true, false, cond, _&&_, false≢true}
-use mathlib.Core.List.{List, [], _∷_}
-use Prim.Native.Nat.{ℕ, suc}
+use mathlib.Core.List.{List, [], _∷_, _++_}
+use Prim.Native.Nat.{ℕ, suc, _≤_}
+use native.Mathlib.Omega.{arith}
 use lib.Dec.{eqb}
-use borrow.Author.Tests.{eqb-true}
-use Rattle.lowering.specs.Collect.{Name, samePath, same, except, distinct, numberIn}
+use borrow.Author.Tests.{eq-eqb, eqb-true}
+use Rattle.tree.specs.Tree.{Node}
+use Rattle.lowering.specs.Parts.{is}
+use Rattle.lowering.specs.Collect.{Name, over, nameOf, nameAt, samePath, same, except, distinct, numberIn}
+use Rattle.lowering.proofs.Cases.{by-test}
 
 -- ---- `same` tells names apart
 
@@ -95,3 +100,64 @@ module _ {A B : Type 0} (alike : A → A → Bool) (alike′ : B → B → Bool)
   unfolding numberIn
   number-renamed from [] a k = refl
   number-renamed from (b ∷ bs) a k = rw (k b (here refl), number-renamed (suc from) bs a (λ d i. k d (there i)))
+
+-- ---- the name of a temporary that stands in a list of nodes is among the names
+
+pub in-first : {A : Type 0} {a : A} {xs : List A} (ys : List A) → In a xs → In a (xs ++ ys)
+in-first ys (here e) = here e
+in-first ys (there i) = there (in-first ys i)
+
+pub in-second : {A : Type 0} {a : A} (xs : List A) {ys : List A} → In a ys → In a (xs ++ ys)
+in-second [] i = i
+in-second (x ∷ xs) i = there (in-second xs i)
+
+pub name-over : (t : Node) → is 20 t ≡ true → {ns : List Node} → In t ns → In (nameOf t) (over nameAt ns)
+unfolding over nameAt
+name-over t k (here {b = b} {xs = ns} e) = in-first (over nameAt ns) (subst (λ (x : Node). In (nameOf t) (cond (is 20 x) (nameOf x ∷ []) [])) e (rw k (here refl)))
+name-over t k (there {b = b} i) = in-second (cond (is 20 b) (nameOf b ∷ []) []) (name-over t k i)
+
+path-self : (p : List ℕ) → samePath p p ≡ true
+unfolding samePath
+path-self [] = refl
+path-self (x ∷ p) = rw (eq-eqb x x refl) (path-self p)
+
+pub name-self : (a : Name) → same a a ≡ true
+unfolding same
+name-self a = rw (eq-eqb (a .place) (a .place) refl, eq-eqb (a .stem) (a .stem) refl) (path-self (a .path))
+
+except-in : (a b : Name) {xs : List Name} → same b a ≡ false → In a xs → In a (except same b xs)
+unfolding except
+except-in a b n (here {b = d} {xs = xs} e) = rw (ap (same b) (sym e) ∙ n) (here e)
+except-in a b n (there {b = d} {xs = xs} i) = go (same b d) (except-in a b n i)
+  where
+    go : (t : Bool) → In a (except same b xs) → In a (cond t (except same b xs) (d ∷ except same b xs))
+    go true i = i
+    go false i = there i
+
+pub distinct-in : (a : Name) {xs : List Name} → In a xs → In a (distinct same xs)
+unfolding distinct
+distinct-in a (here e) = here e
+distinct-in a (there {b = b} {xs = xs} i) = by-test (same b a) (λ t. here (sym (same-is b a t))) (λ t. there (except-in a b t (distinct-in a i)))
+
+-- ---- a number is given to one name
+
+number-from : (from : ℕ) (xs : List Name) (a : Name) → from ≤ numberIn same from xs a
+unfolding numberIn
+number-from from [] a = omega arith
+number-from from (x ∷ xs) a = by-test (same a x) (λ e. rw e (omega arith)) (λ e. rw e (let r = number-from (suc from) xs a in omega arith))
+
+pub number-apart : (from : ℕ) {xs : List Name} (a b : Name) → In a xs → numberIn same from xs a ≡ numberIn same from xs b → same a b ≡ true
+unfolding numberIn
+number-apart from a b (here {b = x} {xs = xs} e) q =
+    by-test (same b x)
+    (λ t. subst (λ (y : Name). same a y ≡ true) (e ∙ sym (same-is b x t)) (name-self a))
+    (λ t. absurd (let f : same a x ≡ true = subst (λ (y : Name). same a y ≡ true) e (name-self a) in
+    let z : from ≡ numberIn same (suc from) xs b = simp (f, t) at q in let r = number-from (suc from) xs b in omega arith))
+number-apart from a b (there {b = x} {xs = xs} i) q =
+    by-test (same a x)
+    (λ s. by-test (same b x)
+    (λ t. subst (λ (y : Name). same a y ≡ true) (same-is a x s ∙ sym (same-is b x t)) (name-self a))
+    (λ t. absurd (let z : from ≡ numberIn same (suc from) xs b = simp (s, t) at q in let r = number-from (suc from) xs b in omega arith)))
+    (λ s. by-test (same b x)
+    (λ t. absurd (let z : numberIn same (suc from) xs a ≡ from = simp (s, t) at q in let r = number-from (suc from) xs a in omega arith))
+    (λ t. number-apart (suc from) a b i (simp (s, t) at q)))

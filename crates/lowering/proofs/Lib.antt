@@ -33,3 +33,4 @@ pub mod SoundKeys
 pub mod SoundRules
 pub mod SoundSteps
 pub mod Used
+pub mod Stems

@@ -1,4 +1,4 @@
--- Each temporary that a rewriting makes has the path of that rewriting in its name.
+-- Each temporary that a rewriting makes has the path of that rewriting in its name, and the stem of what it is made for.
 -- Assumes nothing.
 use mathlib.Core.Path.{_≡_, refl, sym, subst}
 use mathlib.Core.Bool.{Bool, true, false, cond, _&&_}
@@ -8,7 +8,7 @@ use native.Mathlib.Omega.{arith}
 use lib.Dec.{eqb}
 use Rattle.tree.specs.Tree.{Node, Items}
 use Rattle.tree.specs.Tree.Items.{none, hole, item}
-use Rattle.lowering.specs.Parts.{kind, is, nodeAt, itemsAt, stands, pieceIn, each, gather, _+++_}
+use Rattle.lowering.specs.Parts.{position, kind, is, nodeAt, itemsAt, stands, pieceIn, each, gather, _+++_}
 use Rattle.lowering.specs.Made.{Context, temporary, reference, idOf}
 use Rattle.lowering.specs.Patterns.{properties, key, hasObjectRest, hasArrayRestOverObjectRest, objectsBelow}
 use Rattle.lowering.specs.Keys.{keySort, keyTemporary, keyTemporaries}
@@ -23,20 +23,23 @@ use Rattle.lowering.proofs.Cases.{by-test, by-key, by-rule}
 use Rattle.lowering.proofs.MadeAtSites.{times, name-of, entry-refs}
 use Rattle.lowering.proofs.ItemLaws.{each-append}
 
--- a temporary with the path
+-- a temporary with the path, by what it is made for: in place of a pattern, excluded keys, a value, a key
 pub data From (path : List ℕ) : Node → Type 0 where
-  from : {stem at : ℕ} → From path (temporary path stem at)
+  for-pattern : (p : Node) → From path (temporary path 1 (position p))
+  for-excluded : (p : Node) → From path (temporary path 2 (position p))
+  for-value : (p : Node) → From path (temporary path 3 (position p))
+  for-key : (q : Node) → From path (temporary path 4 (position q))
 
 module _ (c : Context) where
   abbrev Ours : Node → Type 0
   Ours t = From (c .path) t
 
   refs-from : (ps : Items) → AllItems Ours (each (λ p. reference c p) ps)
-  refs-from ps = all-each (λ q. Unit {0}) Ours (λ p. reference c p) (λ p u. from) ps (all-unit ps)
+  refs-from ps = all-each (λ q. Unit {0}) Ours (λ p. reference c p) (λ p u. From.for-pattern p) ps (all-unit ps)
 
   value-from : (p init : Node) → AllItems Ours (each idOf (sourceDeclarator c p init))
   unfolding sourceDeclarator each nodeAt pieceIn
-  value-from p init = by-test (isName init) (λ e. rw (e, AllItems) tt) (λ e. rw (e, AllItems) (from, tt))
+  value-from p init = by-test (isName init) (λ e. rw (e, AllItems) tt) (λ e. rw (e, AllItems) (From.for-value p, tt))
 
   key-from : (q : Node) → AllItems Ours (each idOf (keyTemporary c q))
   unfolding keyTemporary each nodeAt pieceIn
@@ -47,7 +50,7 @@ module _ (c : Context) where
       (λ e. rw (e, keyTemporary, each, AllItems) tt)
       (λ e. rw (e, keyTemporary, each, AllItems) tt)
       (λ e. rw (e, keyTemporary, each, AllItems) tt)
-      (λ e. rw (e, keyTemporary, each, AllItems) (from, tt))
+      (λ e. rw (e, keyTemporary, each, AllItems) (From.for-key q, tt))
 
   ids-from : (f : Node → Items) → ((n : Node) → AllItems Ours (each idOf (f n))) → (is : Items) → AllItems Ours (each idOf (gather f is))
   unfolding gather each
@@ -62,7 +65,7 @@ module _ (c : Context) where
 
   excluded-from : (p : Node) → AllItems Ours (each idOf (excludedFor c p))
   unfolding excludedFor each nodeAt pieceIn
-  excluded-from p = by-test (isHoisted c p) (λ e. rw (e, each, AllItems) (from, tt)) (λ e. rw (e, each, AllItems) tt)
+  excluded-from p = by-test (isHoisted c p) (λ e. rw (e, each, AllItems) (From.for-excluded p, tt)) (λ e. rw (e, each, AllItems) tt)
 
   rest-from : (p : Node) → AllItems Ours (restMakes c p)
   unfolding restMakes
@@ -87,7 +90,7 @@ module _ (c : Context) where
 
   entry-from : (n : Node) → AllItems Ours (each idOf (topEntry c n))
   unfolding topEntry each nodeAt pieceIn
-  entry-from n = (from, ids-from (keyTemporaries c) keys-from (restsOf n))
+  entry-from n = (From.for-value (target n), ids-from (keyTemporaries c) keys-from (restsOf n))
 
   top-from : (n : Node) → AllItems Ours (topMakes c n)
   unfolding topMakes topExcludes
@@ -105,7 +108,7 @@ module _ (c : Context) where
 
   assigning-from : (n : Node) → AllItems Ours (assigningMakes c n)
   unfolding assigningMakes
-  assigning-from n = by-test (hasObjectRest (nodeAt 1 n)) (λ e. rw (e, AllItems) (from, tt)) (λ e. rw (e, AllItems) tt)
+  assigning-from n = by-test (hasObjectRest (nodeAt 1 n)) (λ e. rw (e, AllItems) (From.for-pattern (nodeAt 1 n), tt)) (λ e. rw (e, AllItems) tt)
 
   declarations-from : (n : Node) → AllItems Ours (stepDeclaration c n .note .made)
   unfolding stepDeclaration
@@ -148,13 +151,19 @@ module _ (c : Context) where
 -- ---- so a name with another path is not made
 
 module _ (a : Name) (path : List ℕ) (apart : samePath (a .path) path ≡ false) where
-  off : (t : Node) → From path t → same a (nameOf t) ≡ false
-  off t (from {stem} {at}) = rw (name-of a path stem at, apart) (go (eqb (a .place) at) (eqb (a .stem) stem))
+  other : (stem at : ℕ) → same a (nameOf (temporary path stem at)) ≡ false
+  other stem at = rw (name-of a path stem at, apart) (go (eqb (a .place) at) (eqb (a .stem) stem))
     where
       go : (b d : Bool) → b && (d && false) ≡ false
       go true true = refl
       go true false = refl
       go false d = refl
+
+  off : (t : Node) → From path t → same a (nameOf t) ≡ false
+  off t (From.for-pattern p) = other 1 (position p)
+  off t (From.for-excluded p) = other 2 (position p)
+  off t (From.for-value p) = other 3 (position p)
+  off t (From.for-key q) = other 4 (position q)
 
   pub not-made : (ts : Items) → AllItems (From path) ts → times a ts ≡ 0
   unfolding times

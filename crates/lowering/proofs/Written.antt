@@ -1,4 +1,4 @@
--- What is written: each Temporary has its number and nothing else, in the tree and in the list, and no statement of the tree has mark 0.
+-- What is written: each Temporary has its number and its stem and nothing else, in the tree and in the list, and no statement of the tree has mark 0.
 -- That no note is left is the type of `bare`: it gives a tree.
 -- Assumes nothing.
 use mathlib.Core.Path.{_≡_}
@@ -14,11 +14,11 @@ use Rattle.lowering.specs.Walk.Walked.{noted}
 use Rattle.lowering.specs.Collect.{Name, newIn, newInPiece, marked, bare, bareFields, barePiece, bareItems, withNumber, numbered, numberedFields, numberedPiece, numberedItems}
 use Rattle.lowering.proofs.Cases.{by-test}
 
--- ---- each Temporary has its number
+-- ---- each Temporary has its number and its stem
 
 mutual
   pub data Numbered : Node → Type 0 where
-    temporary : {at m : ℕ} → Numbered (node at 20 (Fields.field (Piece.number m) Fields.done))
+    temporary : {at m stem : ℕ} → Numbered (node at 20 (Fields.field (Piece.number m) (Fields.field (Piece.byte stem) Fields.done)))
     other : {at k : ℕ} {fs : Fields} → eqb k 20 ≡ false → NumberedFields fs → Numbered (node at k fs)
 
   pub data NumberedFields : Fields → Type 0 where
@@ -124,7 +124,7 @@ module _ (ns : List Name) where
     numbered-marked : (n : Node) → Marked n → Marked (numbered ns n)
     numbered-marked (node at k fs) (marks m) =
         by-test (eqb k 20)
-        (λ e. rw e (marks (MarkedFields.field MarkedPiece.number MarkedFields.done)))
+        (λ e. rw e (marks (MarkedFields.field MarkedPiece.number (MarkedFields.field MarkedPiece.byte MarkedFields.done))))
         (λ e. rw e (marks (numbered-fields fs m)))
 
     numbered-fields : (fs : Fields) → MarkedFields fs → MarkedFields (numberedFields ns fs)

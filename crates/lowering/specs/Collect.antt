@@ -239,11 +239,11 @@ module _ {A : Type 0} (alike : A → A → Bool) where
 unfoldable pub namesOf : Node → List Entry → Items → List Name
 namesOf n es excluded = distinct same (over nameAt (nodes n ++ listNodes es excluded))
 
--- ---- what is written: each temporary with its number in place of its name
+-- ---- what is written: each temporary with its number and its stem in place of its name
 
--- a temporary with the number of its name
+-- a temporary with the number of its name, and the stem (request 4): 20 Temporary(number+ stem=)
 unfoldable pub withNumber : List Name → Node → Node
-withNumber ns t = node (position t) 20 (field (number (numberIn same 1 ns (nameOf t))) done)
+withNumber ns t = node (position t) 20 (field (number (numberIn same 1 ns (nameOf t))) (field (byte (nameOf t .stem)) done))
 
 unfoldable mutual
   pub numbered : List Name → Node → Node

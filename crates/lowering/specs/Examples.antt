@@ -9,7 +9,7 @@ use Rattle.tree.specs.Tree.Fields.{done, absent, field}
 use Rattle.tree.specs.Tree.Piece.{one, list, text, byte, mark, number}
 use Rattle.tree.specs.Tree.Items.{none, item}
 use Rattle.lowering.specs.Parts.{only}
-use Rattle.lowering.specs.Made.{call, S, X, E, W, object, array, sequence, assign, string, declares}
+use Rattle.lowering.specs.Made.{call, S, X, E, W, K, object, array, sequence, member, assign, string, declares}
 use Rattle.lowering.specs.Answer.{Lent, highestLimit, lowering, outcome}
 use Rattle.lowering.specs.Answer.Result.{refusal, lowered}
 
@@ -57,9 +57,9 @@ ref letter = node 0 18 (field (text (letter ∷ [])) (absent done))
 abbrev bind : ℕ → Node
 bind letter = node 0 19 (field (text (letter ∷ [])) (absent done))
 
--- a temporary with its number
-abbrev temp : ℕ → Node
-temp n = node 0 20 (field (number n) done)
+-- a temporary with its number and its stem: 1 in place of a pattern, 2 excluded keys, 3 a value, 4 a key
+abbrev temp : ℕ → ℕ → Node
+temp n stem = node 0 20 (field (number n) (field (byte stem) done))
 
 abbrev name : ℕ → Node
 name letter = node 0 38 (field (text (letter ∷ [])) done)
@@ -207,7 +207,7 @@ pub record Table : Type 0 where
   -- `let {...r} = f()`: t = f(), r = X({}, (E(t), t))
   rest-only : Becomes
       (declaring 1 2 (only (declares (takingRest none (bind r)) (call (ref f) none)))) 6
-      (declaring 1 2 (all (declares (temp 1) (call (ref f) none) ∷ declares (bind r) (copied (temp 1)) ∷ [])))
+      (declaring 1 2 (all (declares (temp 1 3) (call (ref f) none) ∷ declares (bind r) (copied (temp 1 3)) ∷ [])))
 
 pub record Examples : Type 0 where
   table : Table
@@ -265,17 +265,17 @@ pub record Examples : Type 0 where
   nested-rest : lowering highestLimit 0 (program (only (says 1 (parens (assign (takingRest (only (part (name a) (takingRest none (ref b)) 0)) (ref c)) (ref d)))))) plenty
       ≡ lowered 14 0
       (program (only (says 1 (parens (sequence (all (
-      assign (temp 1) (ref d)
-      ∷ assign (taking (only (part (name a) (taking none) 0))) (temp 1)
-      ∷ assign (ref b) (copied (temp 1))
-      ∷ assign (ref c) (W (temp 1) (array (only (string (a ∷ [])))))
+      assign (temp 1 3) (ref d)
+      ∷ assign (taking (only (part (name a) (taking none) 0))) (temp 1 3)
+      ∷ assign (ref b) (copied (temp 1 3))
+      ∷ assign (ref c) (W (temp 1 3) (array (only (string (a ∷ [])))))
       ∷ [])))))))
-      (1 ∷ 0 ∷ 1 ∷ 0 ∷ 1 ∷ 0 ∷ 5 ∷ 1 ∷ 20 ∷ 1 ∷ 1 ∷ 0 ∷ 0 ∷ 0 ∷ [])
+      (1 ∷ 0 ∷ 1 ∷ 0 ∷ 1 ∷ 0 ∷ 5 ∷ 1 ∷ 20 ∷ 3 ∷ 1 ∷ 0 ∷ 3 ∷ 0 ∷ 0 ∷ [])
   -- `{ let {a, ...r} = s; }`: not at root the keys go to the list, t = ["a"]
   hoisted-keys : lowering highestLimit 0 (program (only (blockOf 1 (only (declaring 2 2 (only (declares (takingRest (only (part (name a) (bind a) 2)) (bind r)) (ref s)))))))) plenty
       ≡ lowered 8 0
-      (program (only (blockOf 1 (only (declaring 2 2 (all (declares (taking (only (part (name a) (bind a) 2))) (ref s) ∷ declares (bind r) (W (ref s) (temp 1)) ∷ [])))))))
-      (0 ∷ 0 ∷ 1 ∷ 0 ∷ 5 ∷ 3 ∷ 20 ∷ 1 ∷ 1 ∷ 0 ∷ 32 ∷ 1 ∷ 1 ∷ 0 ∷ 22 ∷ 7 ∷ 1 ∷ 0 ∷ 0 ∷ 1 ∷ 0 ∷ 97 ∷ [])
+      (program (only (blockOf 1 (only (declaring 2 2 (all (declares (taking (only (part (name a) (bind a) 2))) (ref s) ∷ declares (bind r) (W (ref s) (temp 1 2)) ∷ [])))))))
+      (0 ∷ 0 ∷ 1 ∷ 0 ∷ 5 ∷ 3 ∷ 20 ∷ 3 ∷ 1 ∷ 0 ∷ 2 ∷ 32 ∷ 1 ∷ 1 ∷ 0 ∷ 22 ∷ 7 ∷ 1 ∷ 0 ∷ 0 ∷ 1 ∷ 0 ∷ 97 ∷ [])
   -- ---- classes and switch (request 1)
 
   -- `switch ({a, ...b} = c) { case ({d, ...e} = f): g; }`: the discriminant is at root, ["a"] inline; the test is not, t = ["d"]
@@ -286,49 +286,68 @@ pub record Examples : Type 0 where
       ≡ lowered 8 0
       (program (only (switching 1
       (sequence (all (
-      assign (temp 1) (ref c)
-      ∷ assign (taking (only (part (name a) (ref a) 2))) (temp 1)
-      ∷ assign (ref b) (W (temp 1) (array (only (string (a ∷ [])))))
-      ∷ temp 1
+      assign (temp 1 3) (ref c)
+      ∷ assign (taking (only (part (name a) (ref a) 2))) (temp 1 3)
+      ∷ assign (ref b) (W (temp 1 3) (array (only (string (a ∷ [])))))
+      ∷ temp 1 3
       ∷ [])))
       (only (caseOf
       (sequence (all (
-      assign (temp 2) (ref f)
-      ∷ assign (taking (only (part (name d) (ref d) 2))) (temp 2)
-      ∷ assign (ref e) (W (temp 2) (temp 3))
-      ∷ temp 2
+      assign (temp 2 3) (ref f)
+      ∷ assign (taking (only (part (name d) (ref d) 2))) (temp 2 3)
+      ∷ assign (ref e) (W (temp 2 3) (temp 3 2))
+      ∷ temp 2 3
       ∷ [])))
       (only (says 2 (ref g))))))))
-      (2 ∷ 0 ∷ 1 ∷ 0 ∷ 1 ∷ 0 ∷ 5 ∷ 1 ∷ 20 ∷ 1 ∷ 1 ∷ 0 ∷ 1 ∷ 0 ∷ 1 ∷ 0 ∷ 5 ∷ 1 ∷ 20 ∷ 1 ∷ 2 ∷ 0
-      ∷ 1 ∷ 0 ∷ 5 ∷ 3 ∷ 20 ∷ 1 ∷ 3 ∷ 0 ∷ 32 ∷ 1 ∷ 1 ∷ 0 ∷ 22 ∷ 7 ∷ 1 ∷ 0 ∷ 0 ∷ 1 ∷ 0 ∷ 100 ∷ [])
+      (2 ∷ 0 ∷ 1 ∷ 0 ∷ 1 ∷ 0 ∷ 5 ∷ 1 ∷ 20 ∷ 3 ∷ 1 ∷ 0 ∷ 3 ∷ 1 ∷ 0 ∷ 1 ∷ 0 ∷ 5 ∷ 1 ∷ 20 ∷ 3 ∷ 2 ∷ 0 ∷ 3
+      ∷ 1 ∷ 0 ∷ 5 ∷ 3 ∷ 20 ∷ 3 ∷ 3 ∷ 0 ∷ 2 ∷ 32 ∷ 1 ∷ 1 ∷ 0 ∷ 22 ∷ 7 ∷ 1 ∷ 0 ∷ 0 ∷ 1 ∷ 0 ∷ 100 ∷ [])
   -- `class extends ({a, ...b} = c) { }`: `super` is not at root, t = ["a"]
   class-scope : lowering highestLimit 0 (program (only (says 1 (extending (assign (takingRest (only (part (name a) (ref a) 2)) (ref b)) (ref c)))))) plenty
       ≡ lowered 8 0
       (program (only (says 1 (extending (sequence (all (
-      assign (temp 1) (ref c)
-      ∷ assign (taking (only (part (name a) (ref a) 2))) (temp 1)
-      ∷ assign (ref b) (W (temp 1) (temp 2))
-      ∷ temp 1
+      assign (temp 1 3) (ref c)
+      ∷ assign (taking (only (part (name a) (ref a) 2))) (temp 1 3)
+      ∷ assign (ref b) (W (temp 1 3) (temp 2 2))
+      ∷ temp 1 3
       ∷ [])))))))
-      (1 ∷ 0 ∷ 1 ∷ 0 ∷ 1 ∷ 0 ∷ 5 ∷ 1 ∷ 20 ∷ 1 ∷ 1 ∷ 0 ∷ 1 ∷ 0 ∷ 5 ∷ 3 ∷ 20 ∷ 1 ∷ 2 ∷ 0 ∷ 32 ∷ 1 ∷ 1 ∷ 0 ∷ 22 ∷ 7 ∷ 1 ∷ 0 ∷ 0 ∷ 1 ∷ 0 ∷ 97 ∷ [])
+      (1 ∷ 0 ∷ 1 ∷ 0 ∷ 1 ∷ 0 ∷ 5 ∷ 1 ∷ 20 ∷ 3 ∷ 1 ∷ 0 ∷ 3 ∷ 1 ∷ 0 ∷ 5 ∷ 3 ∷ 20 ∷ 3 ∷ 2 ∷ 0 ∷ 2 ∷ 32 ∷ 1 ∷ 1 ∷ 0 ∷ 22 ∷ 7 ∷ 1 ∷ 0 ∷ 0 ∷ 1 ∷ 0 ∷ 97 ∷ [])
   -- `class { static { {...a} = b; } }`: before statement 2: t
   static-block-contains : lowering highestLimit 0 (program (only (says 1 (classOf (only (staticBlock (only (says 2 (assign (takingRest none (ref a)) (ref b)))))))))) plenty
       ≡ lowered 6 0
       (program (only (says 1 (classOf (only (staticBlock (only (says 2 (sequence (all (
-      assign (temp 1) (ref b) ∷ assign (taking none) (temp 1) ∷ assign (ref a) (copied (temp 1)) ∷ [])))))))))))
-      (1 ∷ 0 ∷ 2 ∷ 0 ∷ 1 ∷ 0 ∷ 5 ∷ 1 ∷ 20 ∷ 1 ∷ 1 ∷ 0 ∷ 0 ∷ 0 ∷ [])
+      assign (temp 1 3) (ref b) ∷ assign (taking none) (temp 1 3) ∷ assign (ref a) (copied (temp 1 3)) ∷ [])))))))))))
+      (1 ∷ 0 ∷ 2 ∷ 0 ∷ 1 ∷ 0 ∷ 5 ∷ 1 ∷ 20 ∷ 3 ∷ 1 ∷ 0 ∷ 3 ∷ 0 ∷ 0 ∷ [])
   -- `switch (x) { case s: {...a} = b; }`: before statement 2: t
   case-contains : lowering highestLimit 0 (program (only (switching 1 (ref x) (only (caseOf (ref s) (only (says 2 (assign (takingRest none (ref a)) (ref b))))))))) plenty
       ≡ lowered 6 0
       (program (only (switching 1 (ref x) (only (caseOf (ref s) (only (says 2 (sequence (all (
-      assign (temp 1) (ref b) ∷ assign (taking none) (temp 1) ∷ assign (ref a) (copied (temp 1)) ∷ []))))))))))
-      (1 ∷ 0 ∷ 2 ∷ 0 ∷ 1 ∷ 0 ∷ 5 ∷ 1 ∷ 20 ∷ 1 ∷ 1 ∷ 0 ∷ 0 ∷ 0 ∷ [])
+      assign (temp 1 3) (ref b) ∷ assign (taking none) (temp 1 3) ∷ assign (ref a) (copied (temp 1 3)) ∷ []))))))))))
+      (1 ∷ 0 ∷ 2 ∷ 0 ∷ 1 ∷ 0 ∷ 5 ∷ 1 ∷ 20 ∷ 3 ∷ 1 ∷ 0 ∷ 3 ∷ 0 ∷ 0 ∷ [])
   -- `class { x({a, ...r}) { } }`: x(t) { let {a} = t, r = W(t, u); }, with u = ["a"]
   method-parameter : lowering highestLimit 0 (program (only (says 1 (classOf (only (method 2 (name x) (only (param (takingRest (only (part (name a) (bind a) 2)) (bind r)))) none)))))) plenty
       ≡ lowered 8 0
-      (program (only (says 1 (classOf (only (method 2 (name x) (only (param (temp 1)))
-      (only (declaring 3 2 (all (declares (taking (only (part (name a) (bind a) 2))) (temp 1) ∷ declares (bind r) (W (temp 1) (temp 2)) ∷ []))))))))))
-      (0 ∷ 0 ∷ 1 ∷ 0 ∷ 5 ∷ 3 ∷ 20 ∷ 1 ∷ 2 ∷ 0 ∷ 32 ∷ 1 ∷ 1 ∷ 0 ∷ 22 ∷ 7 ∷ 1 ∷ 0 ∷ 0 ∷ 1 ∷ 0 ∷ 97 ∷ [])
+      (program (only (says 1 (classOf (only (method 2 (name x) (only (param (temp 1 1)))
+      (only (declaring 3 2 (all (declares (taking (only (part (name a) (bind a) 2))) (temp 1 1) ∷ declares (bind r) (W (temp 1 1) (temp 2 2)) ∷ []))))))))))
+      (0 ∷ 0 ∷ 1 ∷ 0 ∷ 5 ∷ 3 ∷ 20 ∷ 3 ∷ 2 ∷ 0 ∷ 2 ∷ 32 ∷ 1 ∷ 1 ∷ 0 ∷ 22 ∷ 7 ∷ 1 ∷ 0 ∷ 0 ∷ 1 ∷ 0 ∷ 97 ∷ [])
+  -- ---- the stem of a temporary (request 4): 3 in `rest-only`, 2 in `hoisted-keys`
+
+  -- `let [{...a}] = s`: [t] = s, a = X({}, (E(t), t)); t stands in place of a pattern
+  stem-of-a-pattern : Becomes
+      (declaring 1 2 (only (declares (items (only (takingRest none (bind a)))) (ref s)))) 6
+      (declaring 1 2 (all (declares (items (only (temp 1 1))) (ref s) ∷ declares (bind a) (copied (temp 1 1)) ∷ [])))
+  -- `let {[f()]: a, ...r} = s`: t = f(), {[t]: a} = s, r = W(s, [t].map(K)); t is a key
+  stem-of-a-key : Becomes
+      (declaring 1 2 (only (declares (takingRest (only (part (call (ref f) none) (bind a) 1)) (bind r)) (ref s)))) 24
+      (declaring 1 2 (all (declares (temp 1 4) (call (ref f) none) ∷ declares (taking (only (part (temp 1 4) (bind a) 1))) (ref s) ∷ declares (bind r) (W (ref s) (call (member (array (only (temp 1 4))) (109 ∷ 97 ∷ 112 ∷ [])) (only K))) ∷ [])))
+  -- `{ ({a, ...r} = s); }`: (t = s, {a} = t, r = W(t, u)); before statement 2: t, and u = ["a"]
+  stems-in-the-list : lowering highestLimit 0 (program (only (blockOf 1 (only (says 2 (parens (assign (takingRest (only (part (name a) (ref a) 2)) (ref r)) (ref s)))))))) plenty
+      ≡ lowered 8 0
+      (program (only (blockOf 1 (only (says 2 (parens (sequence (all (
+      assign (temp 1 3) (ref s)
+      ∷ assign (taking (only (part (name a) (ref a) 2))) (temp 1 3)
+      ∷ assign (ref r) (W (temp 1 3) (temp 2 2))
+      ∷ [])))))))))
+      (1 ∷ 0 ∷ 2 ∷ 0 ∷ 1 ∷ 0 ∷ 5 ∷ 1 ∷ 20 ∷ 3 ∷ 1 ∷ 0 ∷ 3 ∷ 1 ∷ 0 ∷ 5 ∷ 3 ∷ 20 ∷ 3 ∷ 2 ∷ 0 ∷ 2 ∷ 32 ∷ 1 ∷ 1 ∷ 0 ∷ 22 ∷ 7 ∷ 1 ∷ 0 ∷ 0 ∷ 1 ∷ 0 ∷ 97 ∷ [])
   -- ---- marks of a result need not be distinct
 
   -- `` let {[`a`[function() { }]]: b, ...c} = d ``: {[`a`[function() { }]]: b} = d, c = W(d, [`a`[function() { }]])
@@ -424,4 +443,4 @@ unfolding
     Rattle.lowering.specs.Answer.afterReading Rattle.lowering.specs.Answer.lowering
     Rattle.lowering.specs.Answer.filled Rattle.lowering.specs.Answer.outcomeOf
     Rattle.lowering.specs.Answer.outcome Rattle.lowering.specs.Answer.inForce
-examples = record { table = record { empty-literal = refl; plain-literal = refl; two-spreads = refl; spread-last = refl; spread-first = refl; spread-around = refl; rest = refl; rest-only = refl }; the-listing = refl; retired-option = refl; all-options = refl; one-options = refl; one-retired = refl; two-work = refl; three-empty = refl; four-deep = refl; not-so-deep = refl; five-array-rest = refl; six-no-form = refl; seven-short = refl; just-fits = refl; deeper = refl; deepest = refl; too-deep = refl; nine-zero = refl; nine-above = refl; nine-first = refl; one-next = refl; one-level = refl; one-level-deep = refl; one-level-no-tree = refl; tree-slice = refl; list-slice = refl; refused-slice = refl; array-rest-stays = refl; nested-rest = refl; hoisted-keys = refl; switch-scope = refl; class-scope = refl; static-block-contains = refl; case-contains = refl; method-parameter = refl; template-copied = refl; mark-twice = refl }
+examples = record { table = record { empty-literal = refl; plain-literal = refl; two-spreads = refl; spread-last = refl; spread-first = refl; spread-around = refl; rest = refl; rest-only = refl }; the-listing = refl; retired-option = refl; all-options = refl; one-options = refl; one-retired = refl; two-work = refl; three-empty = refl; four-deep = refl; not-so-deep = refl; five-array-rest = refl; six-no-form = refl; seven-short = refl; just-fits = refl; deeper = refl; deepest = refl; too-deep = refl; nine-zero = refl; nine-above = refl; nine-first = refl; one-next = refl; one-level = refl; one-level-deep = refl; one-level-no-tree = refl; tree-slice = refl; list-slice = refl; refused-slice = refl; array-rest-stays = refl; nested-rest = refl; hoisted-keys = refl; switch-scope = refl; class-scope = refl; static-block-contains = refl; case-contains = refl; method-parameter = refl; stem-of-a-pattern = refl; stem-of-a-key = refl; stems-in-the-list = refl; template-copied = refl; mark-twice = refl }

@@ -55,9 +55,9 @@ put-made : (b : ℕ) → madeIn {A = Name} (Named.put b ∷ []) ≡ []
 unfolding madeIn madeBy
 put-made b = refl
 
-temporary-made : (c : ℕ) → madeIn {A = Name} (Named.temporary c ∷ []) ≡ []
+temporary-made : (c stem : ℕ) → madeIn {A = Name} (Named.temporary c stem ∷ []) ≡ []
 unfolding madeIn madeBy
-temporary-made c = refl
+temporary-made c stem = refl
 
 helper-made : (h : ℕ) → madeIn {A = Name} (Named.helper h ∷ []) ≡ []
 unfolding madeIn madeBy
@@ -74,7 +74,7 @@ written-made : (at k : ℕ) (fs : WalkedFields) (es : List Act) (vs : List Visit
 unfolding written over
 written-made at k fs es vs f g h =
     by-test (eqb k 20)
-    (λ e. rw e (temporary-made (cell (numberIn fs) at) ∙ ap (over makesOf) (sym (f e))))
+    (λ e. rw e (temporary-made (cell (numberIn fs) at) (numberIn fs) ∙ ap (over makesOf) (sym (f e))))
     (λ e. rw e (by-test (eqb k 21) (λ d. rw d (helper-made (numberIn fs) ∙ ap (over makesOf) (sym (g d)))) (λ d. rw d (after-none (puts (k ∷ mapIn fs ∷ [])) es vs (puts-made (k ∷ mapIn fs ∷ [])) h))))
 
 nothing-made : madeIn {A = Name} [] ≡ []

@@ -83,7 +83,7 @@ cond-steady false ds ds′ bs bs′ h k = k
 written-steady : (at k : ℕ) (fs : WalkedFields) (ds bs : List Deed) → Steady ds bs → Steady (written at k fs ds) (written at k fs bs)
 unfolding written
 written-steady at k fs ds bs h =
-    let t = does (Event.temporary (cell (numberIn fs) at)) ∷ [] in
+    let t = does (Event.temporary (cell (numberIn fs) at) (numberIn fs)) ∷ [] in
     let e = does (Event.helper (numberIn fs)) ∷ [] in
     let p = puts (k ∷ mapIn fs ∷ []) in
     cond-steady (eqb k 20) t t (cond (eqb k 21) e (p ++ ds)) (cond (eqb k 21) e (p ++ bs)) (silent-steady t t tt tt)
@@ -232,7 +232,7 @@ record Held (P : Emit → Type 0) : Type 0 where
 module _ {P : Emit → Type 0} (held : Held P) where
   cell-has : (stem at : ℕ) → P (saysCell stem at)
   unfolding saysCell
-  cell-has stem at = held .says (does (Event.temporary (cell stem at)) ∷ []) tt
+  cell-has stem at = held .says (does (Event.temporary (cell stem at) stem) ∷ []) tt
 
   turn-has : (f : Node → Emit) → ((n : Node) → P (f n)) → (ns : Items) → P (inTurn f ns)
   unfolding inTurn
@@ -610,7 +610,7 @@ place-sounds : (v : View) (m : ℕ) (p : Node) → Sounds (handsNested v m p)
 unfolding handsNested overObjects handsPlace
 place-sounds v m p =
     sounds-then (say-sounds (does (Event.entry m (placesIn v p)) ∷ []) tt)
-    (turn-sounds handsPlace (λ o. say-sounds (lists (5 ∷ 1 ∷ []) ++ (does (Event.listedTemporary (cell 1 (position o))) ∷ [])) tt) (objectsIn nameless v p))
+    (turn-sounds handsPlace (λ o. say-sounds (lists (5 ∷ 1 ∷ []) ++ (does (Event.listedTemporary (cell 1 (position o)) 1) ∷ [])) tt) (objectsIn nameless v p))
 
 pub over-sounds : (f : Node → Emit) → ((o : Node) → Sounds (f o)) → (p : Node) → Sounds (overRests f p)
 unfolding overRests

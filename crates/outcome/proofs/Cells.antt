@@ -24,7 +24,7 @@ use Rattle.lowering.proofs.MadeAtSites.{times}
 use Rattle.lowering.proofs.Occurs.{occurs, occursFields, occursPiece, occursItems, fields-in}
 use Rattle.sink.specs.Shown.{Named, CellsOk, madeBy, madeIn}
 use Rattle.sink.proofs.Joined.{cells-joined}
-use Rattle.direct.specs.Events.{cell, cellOf, later, numberIn, countIn, mapIn}
+use Rattle.direct.specs.Events.{cell, cellOf, stemOf, later, numberIn, countIn, mapIn}
 use Rattle.outcome.specs.Named
 use Rattle.outcome.specs.Named.{Act, puts, lists, excludes, handed, entered, excludedKeys, handsOut, marks, written, named, namedFields, namedPiece, namedItems}
 use Rattle.outcome.proofs.Listed.{made-append}
@@ -94,7 +94,7 @@ handed-ok (Items.hole ds) h = handed-ok ds h
 handed-ok (Items.item d ds) h =
     let head : List ℕ = 5 ∷ cond (stands 1 d) 3 1 ∷ [] in
     let more = cond (stands 1 d) (lists (encode (nodeAt 1 d))) [] in
-    let t = Named.listedTemporary (cellOf (idOf d)) (nameOf (idOf d)) in
+    let t = Named.listedTemporary (cellOf (idOf d)) (stemOf (idOf d)) (nameOf (idOf d)) in
     cells-joined (lists head ++ (t ∷ more)) (handed ds)
     (cells-joined (lists head) (t ∷ more) (lists-ok head) (h .0, either (stands 1 d) (lists (encode (nodeAt 1 d))) [] (lists-ok (encode (nodeAt 1 d))) tt))
     (handed-ok ds (h .1))
@@ -157,9 +157,9 @@ put-fine : (b : ℕ) → Ok (Named.put b ∷ [])
 unfolding madeIn madeBy
 put-fine b = record { cells = (tt, tt); names = tt }
 
-temporary-fine : (c : ℕ) → c < 16384 → Ok (Named.temporary c ∷ [])
+temporary-fine : (c stem : ℕ) → c < 16384 → Ok (Named.temporary c stem ∷ [])
 unfolding madeIn madeBy
-temporary-fine c h = record { cells = (h, tt); names = tt }
+temporary-fine c stem h = record { cells = (h, tt); names = tt }
 
 helper-fine : (h : ℕ) → Ok (Named.helper h ∷ [])
 unfolding madeIn madeBy
@@ -172,7 +172,7 @@ written-fine : (at k : ℕ) (fs : WalkedFields) (es : List Act) → (eqb k 20 �
 unfolding written
 written-fine at k fs es f h =
     by-test (eqb k 20)
-    (λ e. rw e (temporary-fine (cell (numberIn fs) at) (f e)))
+    (λ e. rw e (temporary-fine (cell (numberIn fs) at) (numberIn fs) (f e)))
     (λ e. rw e (by-test (eqb k 21) (λ d. rw d (helper-fine (numberIn fs))) (λ d. rw d (both-ok (puts (k ∷ mapIn fs ∷ [])) es (puts-fine (k ∷ mapIn fs ∷ [])) h))))
 
 -- ---- the walk

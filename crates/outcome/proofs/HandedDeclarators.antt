@@ -11,7 +11,7 @@ use native.Mathlib.Omega.{arith}
 use borrow.Author.Tests.{not-true}
 use Rattle.tree.specs.Tree.{Node, Fields, Piece, Items, wideBytes, mapOf, count, encode, encodeFields, encodePiece, encodeItems, depth}
 use Rattle.tree.specs.Tree.Node.{node}
-use Rattle.lowering.specs.Parts.{position, kind, is, nodeAt, itemsAt, pieceIn, stands, standsIn, only, each, gather, any, _+++_}
+use Rattle.lowering.specs.Parts.{position, kind, is, nodeAt, itemsAt, numberAt, pieceIn, stands, standsIn, only, each, gather, any, _+++_}
 use Rattle.lowering.specs.Made.{Context, temporary, reference, declares, declared, array, string, idOf}
 use Rattle.lowering.specs.Patterns.{shape, properties, itemsOf, leftOf, value, hasRest, withValues, replaced, key, hasObjectRest, hasArrayRestOverObjectRest, objectsWithRest, objectsBelow}
 use Rattle.lowering.specs.Keys.{Key, keySort, isPrimitive, allPrimitive, excludedKey, excludedKeys, keyTemporary, keyTemporaries, keyText}
@@ -24,7 +24,7 @@ use Rattle.lowering.proofs.All.{AllItems, all-gather, all-unit, none-passes}
 use Rattle.lowering.proofs.Cases.{by-test, by-shape, by-key, by-rule, not-false}
 use Rattle.sink.specs.Shown.{Named, Token, listOf, keysOf, listTokens, keysTokens, declaratorIn, declaratorsIn}
 use Rattle.sink.specs.Shown.Token.{plain, temp}
-use Rattle.direct.specs.Events.{cellOf}
+use Rattle.direct.specs.Events.{cellOf, stemOf}
 use Rattle.outcome.specs.Named
 use Rattle.outcome.specs.Named.{Act, lists, excludes, handed, plains, tokens, tokensFields, tokensPiece, tokensItems}
 use Rattle.outcome.proofs.Listed.{list-append, keys-append, declarators-append}
@@ -352,15 +352,15 @@ excludes-none (b ∷ bs) = let h = excludes-none bs in omega arith
 -- what is handed out for one declarator
 one-handed : Node → List Act
 one-handed d =
-    lists (5 ∷ cond (stands 1 d) 3 1 ∷ []) ++ (Named.listedTemporary (cellOf (idOf d)) (nameOf (idOf d)) ∷ cond (stands 1 d) (lists (encode (nodeAt 1 d))) [])
+    lists (5 ∷ cond (stands 1 d) 3 1 ∷ []) ++ (Named.listedTemporary (cellOf (idOf d)) (stemOf (idOf d)) (nameOf (idOf d)) ∷ cond (stands 1 d) (lists (encode (nodeAt 1 d))) [])
 
 valued-listed : (path : List ℕ) (stem at : ℕ) (v : Node) → Pure v → listTokens (one-handed (declares (temporary path stem at) v)) ≡ tokens (declares (temporary path stem at) v)
-unfolding one-handed lists listTokens listOf tokens stands standsIn nodeAt pieceIn mapOf
+unfolding one-handed lists listTokens listOf tokens stands standsIn nodeAt pieceIn numberAt mapOf
 valued-listed path stem at v h =
-    ap (λ (x : List (Token Name)). plain 5 ∷ plain 3 ∷ temp (nameOf (temporary path stem at)) ∷ x) (lists-tokens (encode v) ∙ sym (pure-tokens v h) ∙ sym (append-nil (tokens v)))
+    ap (λ (x : List (Token Name)). plain 5 ∷ plain 3 ∷ temp (nameOf (temporary path stem at)) stem ∷ x) (lists-tokens (encode v) ∙ sym (pure-tokens v h) ∙ sym (append-nil (tokens v)))
 
 unvalued-listed : (path : List ℕ) (stem at : ℕ) → listTokens (one-handed (declared (temporary path stem at))) ≡ tokens (declared (temporary path stem at))
-unfolding one-handed lists listTokens listOf tokens stands standsIn nodeAt pieceIn mapOf
+unfolding one-handed lists listTokens listOf tokens stands standsIn nodeAt pieceIn numberAt mapOf
 unvalued-listed path stem at = refl
 
 one-listed : (d : Node) → Declares d → listTokens (one-handed d) ≡ tokens d
@@ -380,12 +380,12 @@ handed-listed (Items.item d ds) h =
 -- ---- the excluded ones
 
 one-excluded : Node → List Act
-one-excluded d = Named.declarator ∷ Named.excludedTemporary (cellOf (idOf d)) (nameOf (idOf d)) ∷ excludes (encode (nodeAt 1 d))
+one-excluded d = Named.declarator ∷ Named.excludedTemporary (cellOf (idOf d)) (stemOf (idOf d)) (nameOf (idOf d)) ∷ excludes (encode (nodeAt 1 d))
 
 valued-keys : (path : List ℕ) (stem at : ℕ) (v : Node) → Pure v → keysTokens (one-excluded (declares (temporary path stem at) v)) ≡ tokens (declares (temporary path stem at) v)
-unfolding one-excluded keysTokens keysOf tokens nodeAt pieceIn mapOf
+unfolding one-excluded keysTokens keysOf tokens nodeAt pieceIn numberAt mapOf
 valued-keys path stem at v h =
-    ap (λ (x : List (Token Name)). plain 5 ∷ plain 3 ∷ temp (nameOf (temporary path stem at)) ∷ x) (excludes-tokens (encode v) ∙ sym (pure-tokens v h) ∙ sym (append-nil (tokens v)))
+    ap (λ (x : List (Token Name)). plain 5 ∷ plain 3 ∷ temp (nameOf (temporary path stem at)) stem ∷ x) (excludes-tokens (encode v) ∙ sym (pure-tokens v h) ∙ sym (append-nil (tokens v)))
 
 one-keys : (d : Node) → Valued d → keysTokens (one-excluded d) ≡ tokens d
 one-keys d v = subst (λ (x : Node). keysTokens (one-excluded x) ≡ tokens x) (sym (v .whole)) (valued-keys (v .path) (v .stem) (v .place) (v .value) (v .pure))

@@ -20,7 +20,7 @@ use Rattle.sink.specs.Machine.{low, high}
 use Rattle.sink.specs.Shown.{Named, Token, listOf, keysOf, listTokens, keysTokens, entryIn, declaratorIn, entriesIn, declaratorsIn}
 use Rattle.sink.specs.Shown.Token.{plain, temp}
 use Rattle.sink.proofs.Names.{size, size-append}
-use Rattle.direct.specs.Events.{cellOf}
+use Rattle.direct.specs.Events.{cellOf, stemOf}
 use Rattle.outcome.specs.Named
 use Rattle.outcome.specs.Named.{Act, lists, excludes, handed, entered, excludedKeys, handsOut, plains, tokens, tokensItems}
 use Rattle.outcome.proofs.MarksKept.{Walks, WalksFields, WalksPiece, WalksItems}
@@ -87,9 +87,9 @@ quiet-none = record { keys = refl; entries = refl; declarators = refl }
 lists-quiet : (bs : List ℕ) → Quiet (lists bs)
 lists-quiet bs = record { keys = lists-keys bs; entries = lists-count bs .0; declarators = lists-count bs .1 }
 
-temporary-quiet : (c : ℕ) (a : Name) (es : List Act) → Quiet es → Quiet (Named.listedTemporary c a ∷ es)
+temporary-quiet : (c stem : ℕ) (a : Name) (es : List Act) → Quiet es → Quiet (Named.listedTemporary c stem a ∷ es)
 unfolding keysTokens keysOf entriesIn declaratorsIn entryIn declaratorIn
-temporary-quiet c a es h = record { keys = h .keys; entries = (let z = h .entries in omega arith); declarators = (let z = h .declarators in omega arith) }
+temporary-quiet c stem a es h = record { keys = h .keys; entries = (let z = h .entries in omega arith); declarators = (let z = h .declarators in omega arith) }
 
 either-quiet : (b : Bool) (es : List Act) → Quiet es → Quiet (cond b es [])
 either-quiet true es h = h
@@ -102,9 +102,9 @@ handed-quiet (Items.hole ds) = handed-quiet ds
 handed-quiet (Items.item d ds) =
     let head : List ℕ = 5 ∷ cond (stands 1 d) 3 1 ∷ [] in
     let more = cond (stands 1 d) (lists (encode (nodeAt 1 d))) [] in
-    let t = Named.listedTemporary (cellOf (idOf d)) (nameOf (idOf d)) in
+    let t = Named.listedTemporary (cellOf (idOf d)) (stemOf (idOf d)) (nameOf (idOf d)) in
     quiet-both (lists head ++ (t ∷ more)) (handed ds)
-    (quiet-both (lists head) (t ∷ more) (lists-quiet head) (temporary-quiet (cellOf (idOf d)) (nameOf (idOf d)) more (either-quiet (stands 1 d) (lists (encode (nodeAt 1 d))) (lists-quiet (encode (nodeAt 1 d))))))
+    (quiet-both (lists head) (t ∷ more) (lists-quiet head) (temporary-quiet (cellOf (idOf d)) (stemOf (idOf d)) (nameOf (idOf d)) more (either-quiet (stands 1 d) (lists (encode (nodeAt 1 d))) (lists-quiet (encode (nodeAt 1 d))))))
     (handed-quiet ds)
 
 excluded-silent : (ds : Items) → (listTokens (excludedKeys ds) ≡ []) × (entriesIn (excludedKeys ds) ≡ 0)
@@ -301,7 +301,7 @@ module _ (ns : List Name) where
   unfolding bytes
   length-bytes [] = refl
   length-bytes (plain b ∷ ts) = let h = length-bytes ts in omega arith
-  length-bytes (temp a ∷ ts) = let h = length-bytes ts in omega arith
+  length-bytes (temp a stem ∷ ts) = let h = length-bytes ts in omega arith
 
   same-size : (es : List Entry) → size (over entryTokens es) ≡ size (over machineEntry es)
   unfolding over entryTokens plains

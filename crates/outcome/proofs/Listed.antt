@@ -24,14 +24,14 @@ unfoldable pub asides : List Act → List Act
 asides [] = []
 asides (Named.put b ∷ es) = asides es
 asides (Named.helper h ∷ es) = asides es
-asides (Named.temporary c ∷ es) = asides es
+asides (Named.temporary c stem ∷ es) = asides es
 asides (Named.newMark ∷ es) = asides es
 asides (Named.make c a ∷ es) = Named.make c a ∷ asides es
 asides (Named.listed b ∷ es) = Named.listed b ∷ asides es
-asides (Named.listedTemporary c a ∷ es) = Named.listedTemporary c a ∷ asides es
+asides (Named.listedTemporary c stem a ∷ es) = Named.listedTemporary c stem a ∷ asides es
 asides (Named.entry m n ∷ es) = Named.entry m n ∷ asides es
 asides (Named.excluded b ∷ es) = Named.excluded b ∷ asides es
-asides (Named.excludedTemporary c a ∷ es) = Named.excludedTemporary c a ∷ asides es
+asides (Named.excludedTemporary c stem a ∷ es) = Named.excludedTemporary c stem a ∷ asides es
 asides (Named.declarator ∷ es) = Named.declarator ∷ asides es
 
 asides-append : (es fs : List Act) → asides (es ++ fs) ≡ asides es ++ asides fs
@@ -39,14 +39,14 @@ unfolding asides
 asides-append [] fs = refl
 asides-append (Named.put b ∷ es) fs = asides-append es fs
 asides-append (Named.helper h ∷ es) fs = asides-append es fs
-asides-append (Named.temporary c ∷ es) fs = asides-append es fs
+asides-append (Named.temporary c stem ∷ es) fs = asides-append es fs
 asides-append (Named.newMark ∷ es) fs = asides-append es fs
 asides-append (Named.make c a ∷ es) fs = ap (λ (x : List Act). Named.make c a ∷ x) (asides-append es fs)
 asides-append (Named.listed b ∷ es) fs = ap (λ (x : List Act). Named.listed b ∷ x) (asides-append es fs)
-asides-append (Named.listedTemporary c a ∷ es) fs = ap (λ (x : List Act). Named.listedTemporary c a ∷ x) (asides-append es fs)
+asides-append (Named.listedTemporary c stem a ∷ es) fs = ap (λ (x : List Act). Named.listedTemporary c stem a ∷ x) (asides-append es fs)
 asides-append (Named.entry m n ∷ es) fs = ap (λ (x : List Act). Named.entry m n ∷ x) (asides-append es fs)
 asides-append (Named.excluded b ∷ es) fs = ap (λ (x : List Act). Named.excluded b ∷ x) (asides-append es fs)
-asides-append (Named.excludedTemporary c a ∷ es) fs = ap (λ (x : List Act). Named.excludedTemporary c a ∷ x) (asides-append es fs)
+asides-append (Named.excludedTemporary c stem a ∷ es) fs = ap (λ (x : List Act). Named.excludedTemporary c stem a ∷ x) (asides-append es fs)
 asides-append (Named.declarator ∷ es) fs = ap (λ (x : List Act). Named.declarator ∷ x) (asides-append es fs)
 
 aside-all : (es : List Act) → Aside es → asides es ≡ es
@@ -54,14 +54,14 @@ unfolding asides
 aside-all [] h = refl
 aside-all (Named.put b ∷ es) h = absurd h
 aside-all (Named.helper b ∷ es) h = absurd h
-aside-all (Named.temporary c ∷ es) h = absurd h
+aside-all (Named.temporary c stem ∷ es) h = absurd h
 aside-all (Named.newMark ∷ es) h = absurd h
 aside-all (Named.make c a ∷ es) h = ap (λ (x : List Act). Named.make c a ∷ x) (aside-all es h)
 aside-all (Named.listed b ∷ es) h = ap (λ (x : List Act). Named.listed b ∷ x) (aside-all es h)
-aside-all (Named.listedTemporary c a ∷ es) h = ap (λ (x : List Act). Named.listedTemporary c a ∷ x) (aside-all es h)
+aside-all (Named.listedTemporary c stem a ∷ es) h = ap (λ (x : List Act). Named.listedTemporary c stem a ∷ x) (aside-all es h)
 aside-all (Named.entry m n ∷ es) h = ap (λ (x : List Act). Named.entry m n ∷ x) (aside-all es h)
 aside-all (Named.excluded b ∷ es) h = ap (λ (x : List Act). Named.excluded b ∷ x) (aside-all es h)
-aside-all (Named.excludedTemporary c a ∷ es) h = ap (λ (x : List Act). Named.excludedTemporary c a ∷ x) (aside-all es h)
+aside-all (Named.excludedTemporary c stem a ∷ es) h = ap (λ (x : List Act). Named.excludedTemporary c stem a ∷ x) (aside-all es h)
 aside-all (Named.declarator ∷ es) h = ap (λ (x : List Act). Named.declarator ∷ x) (aside-all es h)
 
 pub list-aside : (es : List Act) → listTokens es ≡ listTokens (asides es)
@@ -69,14 +69,14 @@ unfolding asides listTokens listOf
 list-aside [] = refl
 list-aside (Named.put b ∷ es) = list-aside es
 list-aside (Named.helper h ∷ es) = list-aside es
-list-aside (Named.temporary c ∷ es) = list-aside es
+list-aside (Named.temporary c stem ∷ es) = list-aside es
 list-aside (Named.newMark ∷ es) = list-aside es
 list-aside (Named.make c a ∷ es) = ap (λ (x : List (Token Name)). listOf (Named.make c a) ++ x) (list-aside es)
 list-aside (Named.listed b ∷ es) = ap (λ (x : List (Token Name)). listOf (Named.listed b) ++ x) (list-aside es)
-list-aside (Named.listedTemporary c a ∷ es) = ap (λ (x : List (Token Name)). listOf (Named.listedTemporary c a) ++ x) (list-aside es)
+list-aside (Named.listedTemporary c stem a ∷ es) = ap (λ (x : List (Token Name)). listOf (Named.listedTemporary c stem a) ++ x) (list-aside es)
 list-aside (Named.entry m n ∷ es) = ap (λ (x : List (Token Name)). listOf (Named.entry m n) ++ x) (list-aside es)
 list-aside (Named.excluded b ∷ es) = ap (λ (x : List (Token Name)). listOf (Named.excluded b) ++ x) (list-aside es)
-list-aside (Named.excludedTemporary c a ∷ es) = ap (λ (x : List (Token Name)). listOf (Named.excludedTemporary c a) ++ x) (list-aside es)
+list-aside (Named.excludedTemporary c stem a ∷ es) = ap (λ (x : List (Token Name)). listOf (Named.excludedTemporary c stem a) ++ x) (list-aside es)
 list-aside (Named.declarator ∷ es) = ap (λ (x : List (Token Name)). listOf (Named.declarator) ++ x) (list-aside es)
 
 pub keys-aside : (es : List Act) → keysTokens es ≡ keysTokens (asides es)
@@ -84,14 +84,14 @@ unfolding asides keysTokens keysOf
 keys-aside [] = refl
 keys-aside (Named.put b ∷ es) = keys-aside es
 keys-aside (Named.helper h ∷ es) = keys-aside es
-keys-aside (Named.temporary c ∷ es) = keys-aside es
+keys-aside (Named.temporary c stem ∷ es) = keys-aside es
 keys-aside (Named.newMark ∷ es) = keys-aside es
 keys-aside (Named.make c a ∷ es) = ap (λ (x : List (Token Name)). keysOf (Named.make c a) ++ x) (keys-aside es)
 keys-aside (Named.listed b ∷ es) = ap (λ (x : List (Token Name)). keysOf (Named.listed b) ++ x) (keys-aside es)
-keys-aside (Named.listedTemporary c a ∷ es) = ap (λ (x : List (Token Name)). keysOf (Named.listedTemporary c a) ++ x) (keys-aside es)
+keys-aside (Named.listedTemporary c stem a ∷ es) = ap (λ (x : List (Token Name)). keysOf (Named.listedTemporary c stem a) ++ x) (keys-aside es)
 keys-aside (Named.entry m n ∷ es) = ap (λ (x : List (Token Name)). keysOf (Named.entry m n) ++ x) (keys-aside es)
 keys-aside (Named.excluded b ∷ es) = ap (λ (x : List (Token Name)). keysOf (Named.excluded b) ++ x) (keys-aside es)
-keys-aside (Named.excludedTemporary c a ∷ es) = ap (λ (x : List (Token Name)). keysOf (Named.excludedTemporary c a) ++ x) (keys-aside es)
+keys-aside (Named.excludedTemporary c stem a ∷ es) = ap (λ (x : List (Token Name)). keysOf (Named.excludedTemporary c stem a) ++ x) (keys-aside es)
 keys-aside (Named.declarator ∷ es) = ap (λ (x : List (Token Name)). keysOf (Named.declarator) ++ x) (keys-aside es)
 
 pub entries-aside : (es : List Act) → entriesIn es ≡ entriesIn (asides es)
@@ -99,14 +99,14 @@ unfolding asides entriesIn entryIn
 entries-aside [] = refl
 entries-aside (Named.put b ∷ es) = (let h = entries-aside es in omega arith)
 entries-aside (Named.helper h ∷ es) = (let h = entries-aside es in omega arith)
-entries-aside (Named.temporary c ∷ es) = (let h = entries-aside es in omega arith)
+entries-aside (Named.temporary c stem ∷ es) = (let h = entries-aside es in omega arith)
 entries-aside (Named.newMark ∷ es) = (let h = entries-aside es in omega arith)
 entries-aside (Named.make c a ∷ es) = ap (λ (x : ℕ). entryIn {A = Name} (Named.make c a) + x) (entries-aside es)
 entries-aside (Named.listed b ∷ es) = ap (λ (x : ℕ). entryIn {A = Name} (Named.listed b) + x) (entries-aside es)
-entries-aside (Named.listedTemporary c a ∷ es) = ap (λ (x : ℕ). entryIn {A = Name} (Named.listedTemporary c a) + x) (entries-aside es)
+entries-aside (Named.listedTemporary c stem a ∷ es) = ap (λ (x : ℕ). entryIn {A = Name} (Named.listedTemporary c stem a) + x) (entries-aside es)
 entries-aside (Named.entry m n ∷ es) = ap (λ (x : ℕ). entryIn {A = Name} (Named.entry m n) + x) (entries-aside es)
 entries-aside (Named.excluded b ∷ es) = ap (λ (x : ℕ). entryIn {A = Name} (Named.excluded b) + x) (entries-aside es)
-entries-aside (Named.excludedTemporary c a ∷ es) = ap (λ (x : ℕ). entryIn {A = Name} (Named.excludedTemporary c a) + x) (entries-aside es)
+entries-aside (Named.excludedTemporary c stem a ∷ es) = ap (λ (x : ℕ). entryIn {A = Name} (Named.excludedTemporary c stem a) + x) (entries-aside es)
 entries-aside (Named.declarator ∷ es) = ap (λ (x : ℕ). entryIn {A = Name} (Named.declarator) + x) (entries-aside es)
 
 pub declarators-aside : (es : List Act) → declaratorsIn es ≡ declaratorsIn (asides es)
@@ -114,14 +114,14 @@ unfolding asides declaratorsIn declaratorIn
 declarators-aside [] = refl
 declarators-aside (Named.put b ∷ es) = (let h = declarators-aside es in omega arith)
 declarators-aside (Named.helper h ∷ es) = (let h = declarators-aside es in omega arith)
-declarators-aside (Named.temporary c ∷ es) = (let h = declarators-aside es in omega arith)
+declarators-aside (Named.temporary c stem ∷ es) = (let h = declarators-aside es in omega arith)
 declarators-aside (Named.newMark ∷ es) = (let h = declarators-aside es in omega arith)
 declarators-aside (Named.make c a ∷ es) = ap (λ (x : ℕ). declaratorIn {A = Name} (Named.make c a) + x) (declarators-aside es)
 declarators-aside (Named.listed b ∷ es) = ap (λ (x : ℕ). declaratorIn {A = Name} (Named.listed b) + x) (declarators-aside es)
-declarators-aside (Named.listedTemporary c a ∷ es) = ap (λ (x : ℕ). declaratorIn {A = Name} (Named.listedTemporary c a) + x) (declarators-aside es)
+declarators-aside (Named.listedTemporary c stem a ∷ es) = ap (λ (x : ℕ). declaratorIn {A = Name} (Named.listedTemporary c stem a) + x) (declarators-aside es)
 declarators-aside (Named.entry m n ∷ es) = ap (λ (x : ℕ). declaratorIn {A = Name} (Named.entry m n) + x) (declarators-aside es)
 declarators-aside (Named.excluded b ∷ es) = ap (λ (x : ℕ). declaratorIn {A = Name} (Named.excluded b) + x) (declarators-aside es)
-declarators-aside (Named.excludedTemporary c a ∷ es) = ap (λ (x : ℕ). declaratorIn {A = Name} (Named.excludedTemporary c a) + x) (declarators-aside es)
+declarators-aside (Named.excludedTemporary c stem a ∷ es) = ap (λ (x : ℕ). declaratorIn {A = Name} (Named.excludedTemporary c stem a) + x) (declarators-aside es)
 declarators-aside (Named.declarator ∷ es) = ap (λ (x : ℕ). declaratorIn {A = Name} (Named.declarator) + x) (declarators-aside es)
 
 -- ---- rows in turn

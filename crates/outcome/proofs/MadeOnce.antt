@@ -21,7 +21,7 @@ use Rattle.lowering.specs.Collect.{Name, nameOf, same}
 use Rattle.lowering.proofs.Cases.{by-test, by-key, by-rule}
 use Rattle.lowering.proofs.Appearance.{same-is}
 use Rattle.sink.specs.Shown.{Named, namesAfter, renamed, madeBy, madeIn}
-use Rattle.direct.specs.Events.{cellOf}
+use Rattle.direct.specs.Events.{cellOf, stemOf}
 use Rattle.outcome.specs.Named
 use Rattle.outcome.specs.Named.{Act, lists, excludes, handed, entered, handsOut, after}
 use Rattle.outcome.proofs.Tokens.{after-append}
@@ -314,11 +314,11 @@ make-does : (t : Node) (es : List Act) (ts : Items) → Does es ts → Does (Nam
 unfolding after assigned namesAfter madeIn madeBy namesIn
 make-does t es ts h = record { cells = λ names. h .cells (renamed names (cellOf t) (nameOf t)); made = ap (λ (x : List Name). nameOf t ∷ x) (h .made) }
 
-listed-does : (t : Node) (es : List Act) (ts : Items) → Does es ts → Does (Named.listedTemporary (cellOf t) (nameOf t) ∷ es) (item t ts)
+listed-does : (t : Node) (es : List Act) (ts : Items) → Does es ts → Does (Named.listedTemporary (cellOf t) (stemOf t) (nameOf t) ∷ es) (item t ts)
 unfolding after assigned namesAfter madeIn madeBy namesIn
 listed-does t es ts h = record { cells = λ names. h .cells (renamed names (cellOf t) (nameOf t)); made = ap (λ (x : List Name). nameOf t ∷ x) (h .made) }
 
-excluded-does : (t : Node) (es : List Act) (ts : Items) → Does es ts → Does (Named.excludedTemporary (cellOf t) (nameOf t) ∷ es) (item t ts)
+excluded-does : (t : Node) (es : List Act) (ts : Items) → Does es ts → Does (Named.excludedTemporary (cellOf t) (stemOf t) (nameOf t) ∷ es) (item t ts)
 unfolding after assigned namesAfter madeIn madeBy namesIn
 excluded-does t es ts h = record { cells = λ names. h .cells (renamed names (cellOf t) (nameOf t)); made = ap (λ (x : List Name). nameOf t ∷ x) (h .made) }
 
@@ -362,8 +362,8 @@ handed-does (item d ds) =
     let t = idOf d in
     let head : List ℕ = 5 ∷ cond (stands 1 d) 3 1 ∷ [] in
     let more = cond (stands 1 d) (lists (encode (nodeAt 1 d))) [] in
-    both-do (lists head ++ (Named.listedTemporary (cellOf t) (nameOf t) ∷ more)) (handed ds) (item t none) (each idOf ds)
-    (both-do (lists head) (Named.listedTemporary (cellOf t) (nameOf t) ∷ more) none (item t none) (lists-do head)
+    both-do (lists head ++ (Named.listedTemporary (cellOf t) (stemOf t) (nameOf t) ∷ more)) (handed ds) (item t none) (each idOf ds)
+    (both-do (lists head) (Named.listedTemporary (cellOf t) (stemOf t) (nameOf t) ∷ more) none (item t none) (lists-do head)
     (listed-does t more none (either-none (stands 1 d) (lists (encode (nodeAt 1 d))) (lists-do (encode (nodeAt 1 d))))))
     (handed-does ds)
 
@@ -374,7 +374,7 @@ excluded-do (hole ds) = let r = excluded-do ds in record { cells = λ names. r .
 excluded-do (item d ds) =
     let t = idOf d in
     let v = excludes (encode (nodeAt 1 d)) in
-    declarator-does (Named.excludedTemporary (cellOf t) (nameOf t) ∷ v ++ Named.excludedKeys ds) (item t (each idOf ds))
+    declarator-does (Named.excludedTemporary (cellOf t) (stemOf t) (nameOf t) ∷ v ++ Named.excludedKeys ds) (item t (each idOf ds))
     (excluded-does t (v ++ Named.excludedKeys ds) (each idOf ds)
     (both-do v (Named.excludedKeys ds) none (each idOf ds) (excludes-do (encode (nodeAt 1 d))) (excluded-do ds)))
 

@@ -31,7 +31,7 @@ pub names-joined : (ts us : List (Token Name)) → namesIn (ts ++ us) ≡ namesI
 unfolding namesIn
 names-joined [] us = refl
 names-joined (plain b ∷ ts) us = names-joined ts us
-names-joined (temp a ∷ ts) us = ap (λ (x : List Name). a ∷ x) (names-joined ts us)
+names-joined (temp a stem ∷ ts) us = ap (λ (x : List Name). a ∷ x) (names-joined ts us)
 
 pub plains-names : (bs : List ℕ) → namesIn (plains bs) ≡ []
 unfolding namesIn plains
@@ -104,14 +104,14 @@ unfolding usesHelper isHelper
 aside-helper h [] k = refl
 aside-helper h (Named.put b ∷ es) k = absurd k
 aside-helper h (Named.helper b ∷ es) k = absurd k
-aside-helper h (Named.temporary b ∷ es) k = absurd k
+aside-helper h (Named.temporary b stem ∷ es) k = absurd k
 aside-helper h (Named.newMark ∷ es) k = absurd k
 aside-helper h (Named.make c a ∷ es) k = aside-helper h es k
 aside-helper h (Named.listed b ∷ es) k = aside-helper h es k
-aside-helper h (Named.listedTemporary c a ∷ es) k = aside-helper h es k
+aside-helper h (Named.listedTemporary c stem a ∷ es) k = aside-helper h es k
 aside-helper h (Named.entry m n ∷ es) k = aside-helper h es k
 aside-helper h (Named.excluded b ∷ es) k = aside-helper h es k
-aside-helper h (Named.excludedTemporary c a ∷ es) k = aside-helper h es k
+aside-helper h (Named.excludedTemporary c stem a ∷ es) k = aside-helper h es k
 aside-helper h (Named.declarator ∷ es) k = aside-helper h es k
 
 puts-helper : (h : ℕ) (bs : List ℕ) → usesHelper h (puts bs) ≡ false
@@ -130,9 +130,9 @@ after-none h es fs b e f = helper-joined h es fs ∙ ap₂ (λ (x : Bool) (y : B
 both-helpers : (h : ℕ) (es fs : List Act) (ns ms : List Node) → usesHelper h es ≡ uses h ns → usesHelper h fs ≡ uses h ms → usesHelper h (es ++ fs) ≡ uses h (ns ++ ms)
 both-helpers h es fs ns ms e f = helper-joined h es fs ∙ ap₂ (λ (x : Bool) (y : Bool). x || y) e f ∙ sym (uses-append h ns ms)
 
-temporary-helper : (h c : ℕ) → usesHelper {A = Name} h (Named.temporary c ∷ []) ≡ false
+temporary-helper : (h c stem : ℕ) → usesHelper {A = Name} h (Named.temporary c stem ∷ []) ≡ false
 unfolding usesHelper isHelper
-temporary-helper h c = refl
+temporary-helper h c stem = refl
 
 helper-helper : (h m : ℕ) → usesHelper {A = Name} h (Named.helper m ∷ []) ≡ eqb m h || false
 unfolding usesHelper isHelper
@@ -150,7 +150,7 @@ written-helper h at j k fs es f g e =
     by-test (eqb j 20)
     (λ t.
     let z : eqb j 21 ≡ false = ap (λ (x : ℕ). eqb x 21) (eqb-true j 20 t) in
-    rw (t, z) (temporary-helper h (cell (numberIn fs) at) ∙ sym (ap (uses h) (temporary-nodes k fs (f t)))))
+    rw (t, z) (temporary-helper h (cell (numberIn fs) at) (numberIn fs) ∙ sym (ap (uses h) (temporary-nodes k fs (f t)))))
     (λ t. rw t
     (by-test (eqb j 21)
     (λ u. rw u

@@ -9,7 +9,7 @@ use lib.ListN.{length}
 use Rattle.tree.specs.Tree.{Node, Fields, Piece, Items, wideBytes, mapOf, count, encode, encodeFields, encodePiece, encodeItems}
 use Rattle.tree.specs.Tree.Node.{node}
 use Rattle.lowering.specs.Parts.{is}
-use Rattle.lowering.specs.Collect.{Name, same, except, distinct, numberIn, withNumber, numbered, numberedFields, numberedPiece, numberedItems}
+use Rattle.lowering.specs.Collect.{Name, nameOf, same, except, distinct, numberIn, withNumber, numbered, numberedFields, numberedPiece, numberedItems}
 use Rattle.lowering.proofs.Cases.{by-test}
 use Rattle.lowering.proofs.Appearance.{same-is}
 use Rattle.sink.specs.Shown.{Token, place, noted, order, shown}
@@ -20,19 +20,19 @@ use Rattle.sink.proofs.Firsts.{namesIn, number-is}
 use Rattle.outcome.specs.Named.{plains, tokens, tokensFields, tokensPiece, tokensItems}
 use Rattle.outcome.proofs.Scope.{self}
 
--- ---- bytes of a row, each name by its number
+-- ---- bytes of a row, each name by its number, with its stem
 
 module _ (number : Name → ℕ) where
   unfoldable pub bytes : List (Token Name) → List ℕ
   bytes [] = []
   bytes (plain b ∷ ts) = b ∷ bytes ts
-  bytes (temp a ∷ ts) = 20 ∷ 1 ∷ number a % 256 ∷ number a / 256 ∷ bytes ts
+  bytes (temp a stem ∷ ts) = 20 ∷ 3 ∷ number a % 256 ∷ number a / 256 ∷ stem ∷ bytes ts
 
   pub bytes-append : (ts us : List (Token Name)) → bytes (ts ++ us) ≡ bytes ts ++ bytes us
   unfolding bytes
   bytes-append [] us = refl
   bytes-append (plain b ∷ ts) us = ap (λ (x : List ℕ). b ∷ x) (bytes-append ts us)
-  bytes-append (temp a ∷ ts) us = ap (λ (x : List ℕ). 20 ∷ 1 ∷ number a % 256 ∷ number a / 256 ∷ x) (bytes-append ts us)
+  bytes-append (temp a stem ∷ ts) us = ap (λ (x : List ℕ). 20 ∷ 3 ∷ number a % 256 ∷ number a / 256 ∷ stem ∷ x) (bytes-append ts us)
 
   pub bytes-plains : (bs : List ℕ) → bytes (plains bs) ≡ bs
   unfolding bytes plains
@@ -56,14 +56,14 @@ pub bytes-same : (f g : Name → ℕ) (ts : List (Token Name)) → Every (λ a. 
 unfolding bytes namesIn
 bytes-same f g [] h = refl
 bytes-same f g (plain b ∷ ts) h = ap (λ (x : List ℕ). b ∷ x) (bytes-same f g ts h)
-bytes-same f g (temp a ∷ ts) h =
-    ap₂ (λ (n : ℕ) (x : List ℕ). 20 ∷ 1 ∷ n % 256 ∷ n / 256 ∷ x) (h .0) (bytes-same f g ts (h .1))
+bytes-same f g (temp a stem ∷ ts) h =
+    ap₂ (λ (n : ℕ) (x : List ℕ). 20 ∷ 3 ∷ n % 256 ∷ n / 256 ∷ stem ∷ x) (h .0) (bytes-same f g ts (h .1))
 
 pub shown-bytes : (o : List Name) (ts : List (Token Name)) → shown same o ts ≡ bytes (λ a. place same a o) ts
 unfolding bytes shown
 shown-bytes o [] = refl
 shown-bytes o (plain b ∷ ts) = ap (λ (x : List ℕ). b ∷ x) (shown-bytes o ts)
-shown-bytes o (temp a ∷ ts) = ap (λ (x : List ℕ). 20 ∷ 1 ∷ place same a o % 256 ∷ place same a o / 256 ∷ x) (shown-bytes o ts)
+shown-bytes o (temp a stem ∷ ts) = ap (λ (x : List ℕ). 20 ∷ 3 ∷ place same a o % 256 ∷ place same a o / 256 ∷ stem ∷ x) (shown-bytes o ts)
 
 -- ---- the bytes of a numbered tree
 
@@ -84,7 +84,7 @@ module _ (ns : List Name) where
   count-numbered (Items.item n is) = ap suc (count-numbered is)
 
   mutual
-    unfolding numbered withNumber encode tokens bytes mapOf
+    unfolding numbered withNumber nameOf encode tokens bytes mapOf
 
     pub encode-tokens : (n : Node) → encode (numbered ns n) ≡ bytes numberOf (tokens n)
     encode-tokens (node at k fs) =
@@ -142,7 +142,7 @@ placed-from : (ts : List (Token Name)) (seen : List Name) → Every (λ a. (k : 
 unfolding order namesIn
 placed-from [] seen = tt
 placed-from (plain b ∷ ts) seen = placed-from ts seen
-placed-from (temp a ∷ ts) seen =
+placed-from (temp a stem ∷ ts) seen =
     let r = place-noted same self a seen (place same a seen) refl in
     let next = noted same (place same a seen) seen a in
     ((r .0, order-kept same ts next a (r .0) (r .1)), placed-from ts next)

@@ -262,7 +262,7 @@ written-agrees : (at k : ℕ) (fs : WalkedFields) (below : List Deed) (vs : List
 unfolding written
 written-agrees at k fs below vs f g h =
     by-test (eqb k 20)
-    (λ e. rw e (subst (Agrees (does (Event.temporary (cell (numberIn fs) at)) ∷ [])) (sym (f e)) (none-agrees (does (Event.temporary (cell (numberIn fs) at)) ∷ []) tt)))
+    (λ e. rw e (subst (Agrees (does (Event.temporary (cell (numberIn fs) at) (numberIn fs)) ∷ [])) (sym (f e)) (none-agrees (does (Event.temporary (cell (numberIn fs) at) (numberIn fs)) ∷ []) tt)))
     (λ e. rw e
     (by-test (eqb k 21)
     (λ d. rw d (subst (Agrees (does (Event.helper (numberIn fs)) ∷ [])) (sym (g d)) (none-agrees (does (Event.helper (numberIn fs)) ∷ []) tt)))

@@ -14,7 +14,7 @@ use Rattle.lowering.specs.Walk.Walked.{noted}
 use Rattle.lowering.specs.Collect.{nameOf, newIn, newInPiece, isContainer, marked, markOf}
 use Rattle.sink.specs.Machine.{Event}
 use Rattle.sink.specs.Shown.{Named, eventOf, eventsOf}
-use Rattle.direct.specs.Events.{Deed, cell, cellOf, numberIn, later, countIn, mapIn, deeds, deedsFields, deedsPiece, deedsItems}
+use Rattle.direct.specs.Events.{Deed, cell, cellOf, stemOf, numberIn, later, countIn, mapIn, deeds, deedsFields, deedsPiece, deedsItems}
 use Rattle.direct.specs.Events
 use Rattle.direct.specs.Events.Deed.{does, refuses}
 use Rattle.direct.proofs.Threads.{Tidy, TidyFields, TidyPiece, TidyItems, fields-threaded, items-threaded}
@@ -80,11 +80,11 @@ handed-same (Items.hole ds) = handed-same ds
 handed-same (Items.item d ds) =
     let v = nodeAt 1 d in
     let head : List ℕ = 5 ∷ cond (stands 1 d) 3 1 ∷ [] in
-    let t = Named.listedTemporary (cellOf (idOf d)) (nameOf (idOf d)) in
+    let t = Named.listedTemporary (cellOf (idOf d)) (stemOf (idOf d)) (nameOf (idOf d)) in
     let more = cond (stands 1 d) (lists (encode v)) [] in
     let more′ = cond (stands 1 d) (Events.lists (encode v)) [] in
-    both (lists head ++ (t ∷ more)) (handed ds) (Events.lists head ++ (does (Event.listedTemporary (cellOf (idOf d))) ∷ more′)) (Events.handed ds)
-    (both (lists head) (t ∷ more) (Events.lists head) (does (Event.listedTemporary (cellOf (idOf d))) ∷ more′) (lists-same head)
+    both (lists head ++ (t ∷ more)) (handed ds) (Events.lists head ++ (does (Event.listedTemporary (cellOf (idOf d)) (stemOf (idOf d))) ∷ more′)) (Events.handed ds)
+    (both (lists head) (t ∷ more) (Events.lists head) (does (Event.listedTemporary (cellOf (idOf d)) (stemOf (idOf d))) ∷ more′) (lists-same head)
     (next-same t more more′ (either (stands 1 d) (lists (encode v)) [] (Events.lists (encode v)) [] (lists-same (encode v)) none-same)))
     (handed-same ds)
 
@@ -100,8 +100,8 @@ excluded-same Items.none = none-same
 excluded-same (Items.hole ds) = excluded-same ds
 excluded-same (Items.item d ds) =
     let v = encode (nodeAt 1 d) in
-    let t = Named.excludedTemporary (cellOf (idOf d)) (nameOf (idOf d)) in
-    let u = does (Event.excludedTemporary (cellOf (idOf d))) in
+    let t = Named.excludedTemporary (cellOf (idOf d)) (stemOf (idOf d)) (nameOf (idOf d)) in
+    let u = does (Event.excludedTemporary (cellOf (idOf d)) (stemOf (idOf d))) in
     next-same Named.declarator (t ∷ excludes v ++ excludedKeys ds) (u ∷ Events.excludes v ++ Events.excludedKeys ds)
     (next-same t (excludes v ++ excludedKeys ds) (Events.excludes v ++ Events.excludedKeys ds)
     (both (excludes v) (excludedKeys ds) (Events.excludes v) (Events.excludedKeys ds) (excludes-same v) (excluded-same ds)))
@@ -132,7 +132,7 @@ marks-same (suc b) = puts-same (wideBytes (suc b))
 written-same : (at k : ℕ) (fs : WalkedFields) (es : List Act) (ds : List Deed) → Same es ds → Same (written at k fs es) (Events.written at k fs ds)
 unfolding written Events.written eventOf
 written-same at k fs es ds h =
-    let t = Named.temporary (cell (numberIn fs) at) in
+    let t = Named.temporary (cell (numberIn fs) at) (numberIn fs) in
     let u = Named.helper (numberIn fs) in
     let b = k ∷ mapIn fs ∷ [] in
     either (eqb k 20) (t ∷ []) (cond (eqb k 21) (u ∷ []) (puts b ++ es)) (does (eventOf t) ∷ []) (cond (eqb k 21) (does (eventOf u) ∷ []) (Events.puts b ++ ds))

@@ -93,9 +93,9 @@ one-after : (names : ℕ → Name) (e : Act) → namesAfter names e ≡ names �
 unfolding after
 one-after names e h = h
 
-temporary-after : (names : ℕ → Name) (c : ℕ) → namesAfter names (Named.temporary c) ≡ names
+temporary-after : (names : ℕ → Name) (c stem : ℕ) → namesAfter names (Named.temporary c stem) ≡ names
 unfolding namesAfter
-temporary-after names c = refl
+temporary-after names c stem = refl
 
 helper-after : (names : ℕ → Name) (h : ℕ) → namesAfter names (Named.helper h) ≡ names
 unfolding namesAfter
@@ -115,7 +115,7 @@ written-left : (names : ℕ → Name) (x at k : ℕ) (fs : WalkedFields) (es : L
 unfolding written
 written-left names x at k fs es h =
     by-test (eqb k 20)
-    (λ e. rw e (ap (λ (s : ℕ → Name). s x) (one-after names (Named.temporary (cell (numberIn fs) at)) (temporary-after names (cell (numberIn fs) at)))))
+    (λ e. rw e (ap (λ (s : ℕ → Name). s x) (one-after names (Named.temporary (cell (numberIn fs) at) (numberIn fs)) (temporary-after names (cell (numberIn fs) at) (numberIn fs)))))
     (λ e. rw e
     (by-test (eqb k 21)
     (λ d. rw d (ap (λ (s : ℕ → Name). s x) (one-after names (Named.helper (numberIn fs)) (helper-after names (numberIn fs)))))

@@ -10,14 +10,14 @@ use lib.ListN.{length}
 use borrow.Author.Tests.{eqb-true}
 use Rattle.tree.specs.Tree.{Fields, Items, wideBytes, mapOf, count, encode}
 use Rattle.tree.specs.Tree.Node.{node}
-use Rattle.lowering.specs.Parts.{nodeAt, numberAt, stands, isEmpty}
+use Rattle.lowering.specs.Parts.{nodeAt, numberAt, pieceIn, stands, isEmpty}
 use Rattle.lowering.specs.Walk.{Note, Walked, WalkedFields, WalkedPiece, WalkedItems}
 use Rattle.lowering.specs.Walk.Walked.{noted}
 use Rattle.lowering.specs.Collect.{Name, nameOf, newIn, newInFields, newInPiece, newInItems, isContainer, marked, markOf, bare, bareFields, barePiece, bareItems}
 use Rattle.lowering.proofs.Cases.{by-test}
 use Rattle.sink.specs.Shown.{Named, Token, namesAfter, markAfter, treeOf, treeTokens}
 use Rattle.sink.specs.Shown.Token.{plain, temp}
-use Rattle.direct.specs.Events.{cell, cellOf, later, numberIn, countIn, mapIn}
+use Rattle.direct.specs.Events.{cell, cellOf, stemOf, later, numberIn, countIn, mapIn}
 use Rattle.outcome.specs.Named.{Act, puts, lists, excludes, made, handed, entered, excludedKeys, handsOut, marks, written, named, namedFields, namedPiece, namedItems, plains, tokens, tokensFields, tokensPiece, tokensItems, after}
 use Rattle.outcome.proofs.Refusals.{Leaf, Leafy, LeafyFields, LeafyPiece, LeafyItems}
 
@@ -86,14 +86,14 @@ abbrev pub Aside : List Act → Type 0
 Aside [] = Unit {0}
 Aside (Named.put b ∷ es) = ⊥
 Aside (Named.helper h ∷ es) = ⊥
-Aside (Named.temporary c ∷ es) = ⊥
+Aside (Named.temporary c stem ∷ es) = ⊥
 Aside (Named.newMark ∷ es) = ⊥
 Aside (Named.make c a ∷ es) = Aside es
 Aside (Named.listed b ∷ es) = Aside es
-Aside (Named.listedTemporary c a ∷ es) = Aside es
+Aside (Named.listedTemporary c stem a ∷ es) = Aside es
 Aside (Named.entry m n ∷ es) = Aside es
 Aside (Named.excluded b ∷ es) = Aside es
-Aside (Named.excludedTemporary c a ∷ es) = Aside es
+Aside (Named.excludedTemporary c stem a ∷ es) = Aside es
 Aside (Named.declarator ∷ es) = Aside es
 
 pub aside-writes : (names : ℕ → Name) (k : ℕ) (es : List Act) → Aside es → Writes names k es k []
@@ -101,20 +101,20 @@ unfolding markRun treeTokens namesAfter markAfter treeOf
 aside-writes names k [] h = record { next = refl; tree = refl }
 aside-writes names k (Named.put b ∷ es) h = absurd h
 aside-writes names k (Named.helper b ∷ es) h = absurd h
-aside-writes names k (Named.temporary b ∷ es) h = absurd h
+aside-writes names k (Named.temporary b stem ∷ es) h = absurd h
 aside-writes names k (Named.newMark ∷ es) h = absurd h
 aside-writes names k (Named.make c a ∷ es) h =
     let r = aside-writes (namesAfter names (Named.make c a)) k es h in record { next = r .next; tree = r .tree }
 aside-writes names k (Named.listed b ∷ es) h =
     let r = aside-writes (namesAfter names (Named.listed b)) k es h in record { next = r .next; tree = r .tree }
-aside-writes names k (Named.listedTemporary c a ∷ es) h =
-    let r = aside-writes (namesAfter names (Named.listedTemporary c a)) k es h in record { next = r .next; tree = r .tree }
+aside-writes names k (Named.listedTemporary c stem a ∷ es) h =
+    let r = aside-writes (namesAfter names (Named.listedTemporary c stem a)) k es h in record { next = r .next; tree = r .tree }
 aside-writes names k (Named.entry m n ∷ es) h =
     let r = aside-writes (namesAfter names (Named.entry m n)) k es h in record { next = r .next; tree = r .tree }
 aside-writes names k (Named.excluded b ∷ es) h =
     let r = aside-writes (namesAfter names (Named.excluded b)) k es h in record { next = r .next; tree = r .tree }
-aside-writes names k (Named.excludedTemporary c a ∷ es) h =
-    let r = aside-writes (namesAfter names (Named.excludedTemporary c a)) k es h in record { next = r .next; tree = r .tree }
+aside-writes names k (Named.excludedTemporary c stem a ∷ es) h =
+    let r = aside-writes (namesAfter names (Named.excludedTemporary c stem a)) k es h in record { next = r .next; tree = r .tree }
 aside-writes names k (Named.declarator ∷ es) h =
     let r = aside-writes (namesAfter names (Named.declarator)) k es h in record { next = r .next; tree = r .tree }
 
@@ -122,14 +122,14 @@ aside-both : (es fs : List Act) → Aside es → Aside fs → Aside (es ++ fs)
 aside-both [] fs h k = k
 aside-both (Named.put b ∷ es) fs h k = absurd h
 aside-both (Named.helper b ∷ es) fs h k = absurd h
-aside-both (Named.temporary b ∷ es) fs h k = absurd h
+aside-both (Named.temporary b stem ∷ es) fs h k = absurd h
 aside-both (Named.newMark ∷ es) fs h k = absurd h
 aside-both (Named.make c a ∷ es) fs h k = aside-both es fs h k
 aside-both (Named.listed b ∷ es) fs h k = aside-both es fs h k
-aside-both (Named.listedTemporary c a ∷ es) fs h k = aside-both es fs h k
+aside-both (Named.listedTemporary c stem a ∷ es) fs h k = aside-both es fs h k
 aside-both (Named.entry m n ∷ es) fs h k = aside-both es fs h k
 aside-both (Named.excluded b ∷ es) fs h k = aside-both es fs h k
-aside-both (Named.excludedTemporary c a ∷ es) fs h k = aside-both es fs h k
+aside-both (Named.excludedTemporary c stem a ∷ es) fs h k = aside-both es fs h k
 aside-both (Named.declarator ∷ es) fs h k = aside-both es fs h k
 
 either : (b : Bool) (es fs : List Act) → Aside es → Aside fs → Aside (cond b es fs)
@@ -359,9 +359,9 @@ count-same k WalkedItems.none = refl
 count-same k (WalkedItems.hole is) = ap suc (count-same k is)
 count-same k (WalkedItems.item w is) = ap suc (count-same (k + newIn w) is)
 
-temporary-writes : (names : ℕ → Name) (k c : ℕ) (a : Name) → names c ≡ a → Writes names k (Named.temporary c ∷ []) k (temp a ∷ [])
+temporary-writes : (names : ℕ → Name) (k c stem r : ℕ) (a : Name) → names c ≡ a → stem ≡ r → Writes names k (Named.temporary c stem ∷ []) k (temp a r ∷ [])
 unfolding markRun treeTokens namesAfter markAfter treeOf
-temporary-writes names k c a e = record { next = refl; tree = ap (λ (x : Name). temp x ∷ []) e }
+temporary-writes names k c stem r a e s = record { next = refl; tree = ap₂ (λ (x : Name) (y : ℕ). temp x y ∷ []) e s }
 
 helper-writes : (names : ℕ → Name) (k h : ℕ) → Writes names k (Named.helper h ∷ []) k (plain 21 ∷ plain 1 ∷ plain h ∷ [])
 unfolding markRun treeTokens namesAfter markAfter treeOf
@@ -384,7 +384,7 @@ put-after : (names : ℕ → Name) (b : ℕ) → after names (Named.put b ∷ []
 unfolding after namesAfter
 put-after names b = refl
 
-tokens-temporary : (at k : ℕ) (fs : Fields) → eqb k 20 ≡ true → tokens (node at k fs) ≡ temp (nameOf (node at k fs)) ∷ []
+tokens-temporary : (at k : ℕ) (fs : Fields) → eqb k 20 ≡ true → tokens (node at k fs) ≡ temp (nameOf (node at k fs)) (stemOf (node at k fs)) ∷ []
 unfolding tokens
 tokens-temporary at k fs e = rw e refl
 
@@ -406,6 +406,11 @@ module _ (at k′ : ℕ) (fs : WalkedFields) where
   temporary-name k h =
       ap (λ (x : WalkedFields). nameOf (node at k′ (bareFields 0 x))) (h .whole) ∙ ap (λ (x : WalkedFields). nameOf (node at k′ (bareFields k x))) (sym (h .whole))
 
+  -- the number that it begins with is its stem
+  temporary-stem : (k : ℕ) → IsTemporary fs → numberIn fs ≡ stemOf (node at k′ (bareFields k fs))
+  unfolding bare numberIn numberAt pieceIn
+  temporary-stem k h = ap numberIn (h .whole) ∙ ap (λ (x : WalkedFields). stemOf (node at k′ (bareFields k x))) (sym (h .whole))
+
   helper-tokens : (k : ℕ) → eqb k′ 20 ≡ false → eqb k′ 21 ≡ true → (h : IsHelper fs) → plain 21 ∷ plain 1 ∷ plain (numberIn fs) ∷ [] ≡ tokens (node at k′ (bareFields k fs))
   unfolding tokens bare numberIn mapOf
   helper-tokens k e d h =
@@ -422,9 +427,9 @@ module _ (at k′ : ℕ) (fs : WalkedFields) where
   written-writes names k es f g s h =
       by-test (eqb k′ 20)
       (λ e. rw e
-      (writes-to names k k (k + newInFields fs) (Named.temporary (cell (numberIn fs) at) ∷ []) (temp (nameOf (node at k′ (bareFields k fs))) ∷ []) (tokens (node at k′ (bareFields k fs)))
+      (writes-to names k k (k + newInFields fs) (Named.temporary (cell (numberIn fs) at) (numberIn fs) ∷ []) (temp (nameOf (node at k′ (bareFields k fs))) (stemOf (node at k′ (bareFields k fs))) ∷ []) (tokens (node at k′ (bareFields k fs)))
       (let z = temporary-none fs (f e) in omega arith) (tokens-20 e)
-      (temporary-writes names k (cell (numberIn fs) at) (nameOf (node at k′ (bareFields k fs))) (s e ∙ temporary-name k (f e)))))
+      (temporary-writes names k (cell (numberIn fs) at) (numberIn fs) (stemOf (node at k′ (bareFields k fs))) (nameOf (node at k′ (bareFields k fs))) (s e ∙ temporary-name k (f e)) (temporary-stem k (f e)))))
       (λ e. rw e
       (by-test (eqb k′ 21)
       (λ d. rw d
@@ -438,7 +443,7 @@ module _ (at k′ : ℕ) (fs : WalkedFields) where
       (puts-write names k (k′ ∷ mapIn fs ∷ []))
       (subst (λ (x : ℕ → Name). Writes x k es (k + newInFields fs) (tokensFields (bareFields k fs))) (sym (puts-after names (k′ ∷ mapIn fs ∷ []))) h))))))
     where
-      tokens-20 : eqb k′ 20 ≡ true → temp (nameOf (node at k′ (bareFields k fs))) ∷ [] ≡ tokens (node at k′ (bareFields k fs))
+      tokens-20 : eqb k′ 20 ≡ true → temp (nameOf (node at k′ (bareFields k fs))) (stemOf (node at k′ (bareFields k fs))) ∷ [] ≡ tokens (node at k′ (bareFields k fs))
       tokens-20 e = sym (tokens-temporary at k′ (bareFields k fs) e)
 
       tokens-other : eqb k′ 20 ≡ false → plains (k′ ∷ mapIn fs ∷ []) ++ tokensFields (bareFields k fs) ≡ tokens (node at k′ (bareFields k fs))

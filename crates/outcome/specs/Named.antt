@@ -17,7 +17,7 @@ use Rattle.sink.specs.Machine.{Event, Ended}
 use Rattle.sink.specs.Shown.{Named, Token, namesAfter}
 use Rattle.sink.specs.Shown.Named.{put, helper, temporary, newMark, make, listed, listedTemporary, entry, excluded, excludedTemporary, declarator}
 use Rattle.sink.specs.Shown.Token.{plain, temp}
-use Rattle.direct.specs.Events.{Deed, cell, cellOf, later, numberIn, countIn, mapIn}
+use Rattle.direct.specs.Events.{Deed, cell, cellOf, stemOf, later, numberIn, countIn, mapIn}
 use Rattle.direct.specs.Events.Deed.{does, refuses}
 
 -- ---- deeds apart: what is refused first, and the events
@@ -61,7 +61,7 @@ handed none = []
 handed (hole ds) = handed ds
 handed (item d ds) =
     lists (5 ∷ cond (stands 1 d) 3 1 ∷ [])
-    ++ (listedTemporary (cellOf (idOf d)) (nameOf (idOf d)) ∷ cond (stands 1 d) (lists (encode (nodeAt 1 d))) [])
+    ++ (listedTemporary (cellOf (idOf d)) (stemOf (idOf d)) (nameOf (idOf d)) ∷ cond (stands 1 d) (lists (encode (nodeAt 1 d))) [])
     ++ handed ds
 
 unfoldable pub entered : ℕ → Items → List Act
@@ -71,7 +71,7 @@ unfoldable pub excludedKeys : Items → List Act
 excludedKeys none = []
 excludedKeys (hole ds) = excludedKeys ds
 excludedKeys (item d ds) =
-    declarator ∷ excludedTemporary (cellOf (idOf d)) (nameOf (idOf d)) ∷ excludes (encode (nodeAt 1 d)) ++ excludedKeys ds
+    declarator ∷ excludedTemporary (cellOf (idOf d)) (stemOf (idOf d)) (nameOf (idOf d)) ∷ excludes (encode (nodeAt 1 d)) ++ excludedKeys ds
 
 unfoldable pub handsOut : ℕ → Note → List Act
 handsOut m note =
@@ -85,7 +85,7 @@ marks (suc m) = puts (wideBytes (suc m))
 
 unfoldable pub written : ℕ → ℕ → WalkedFields → List Act → List Act
 written at k fs below =
-    cond (eqb k 20) (temporary (cell (numberIn fs) at) ∷ [])
+    cond (eqb k 20) (temporary (cell (numberIn fs) at) (numberIn fs) ∷ [])
     (cond (eqb k 21) (helper (numberIn fs) ∷ []) (puts (k ∷ mapIn fs ∷ []) ++ below))
 
 unfoldable mutual
@@ -119,7 +119,7 @@ plains (b ∷ bs) = plain b ∷ plains bs
 
 unfoldable mutual
   pub tokens : Node → List (Token Name)
-  tokens (node at k fs) = cond (eqb k 20) (temp (nameOf (node at k fs)) ∷ []) (plain k ∷ plain (mapOf fs) ∷ tokensFields fs)
+  tokens (node at k fs) = cond (eqb k 20) (temp (nameOf (node at k fs)) (stemOf (node at k fs)) ∷ []) (plain k ∷ plain (mapOf fs) ∷ tokensFields fs)
 
   pub tokensFields : Fields → List (Token Name)
   tokensFields Fields.done = []

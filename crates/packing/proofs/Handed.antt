@@ -1,13 +1,13 @@
 -- The program's list of excluded keys gives each temporary the array that was handed out for it, and no other: a name is made once, and a
 -- number is given to one name.
 -- Assumes nothing.
-use mathlib.Core.Path.{_≡_, refl, sym, ap, subst, _∙_}
+use mathlib.Core.Path.{_≡_, refl, ap, subst, _∙_}
 use mathlib.Core.Bool.{Bool, true, false, cond, _&&_}
 use mathlib.Core.List.{List, [], _∷_, _++_}
 use Prim.Native.Nat.{ℕ, suc, _+_, _≤_, _<_}
 use native.Mathlib.Omega.{arith}
 use lib.Dec.{eqb}
-use borrow.Author.Tests.{eq-eqb, eqb-true}
+use borrow.Author.Tests.{eqb-true}
 use Rattle.tree.specs.Tree.{Node, Items}
 use Rattle.tree.specs.Tree.Items.{none, hole, item}
 use Rattle.lowering.specs.Parts.{kind, is, pieceIn, nodeAt, itemsAt, textAt, numberAt, each, gather, _+++_}
@@ -19,13 +19,13 @@ use Rattle.lowering.specs.Declarations.{sourceDeclarator, innerObjects, declara
 use Rattle.lowering.specs.Assignments.{target, isTop, restsOf, topLacksForm, topEntry, topExcludes, topMakes}
 use Rattle.lowering.specs.Walk.{Note, ruleOf, rewrite, stepDeclaration, stepTop, stepAssignment, stepFor}
 use Rattle.lowering.specs.Weight.{walked}
-use Rattle.lowering.specs.Collect.{Visit, Entry, Name, visits, namesOf, over, nodes, nodesItems, listNodes, nameOf, nameAt, samePath, same, except, distinct, numberIn, excludedIn, madeIn, numbered, numberedItems, withNumber}
+use Rattle.lowering.specs.Collect.{Visit, Entry, Name, visits, namesOf, over, nodes, nodesItems, listNodes, nameOf, nameAt, same, numberIn, excludedIn, madeIn, numbered, numberedItems, withNumber}
 use Rattle.lowering.proofs.All.{AllItems}
 use Rattle.lowering.proofs.Notes.{AllNotes, in-walked}
 use Rattle.lowering.proofs.Cases.{by-test, by-rule}
 use Rattle.lowering.proofs.MadeAtSites.{times, times-append}
 use Rattle.lowering.proofs.ItemLaws.{each-append}
-use Rattle.lowering.proofs.Appearance.{In, same-is}
+use Rattle.lowering.proofs.Appearance.{In, same-is, in-first, in-second, name-over, name-self, distinct-in, number-apart}
 use Rattle.lowering.proofs.Appearance.In.{here, there}
 use Rattle.overlay.specs.Whole.{ItemAt}
 use Rattle.packing.specs.Unpack.{sameTemporary, arrayOf}
@@ -174,70 +174,11 @@ in-list vs = collected (excludedIn vs) vs (λ y a. a)
 
 -- ---- names of the list are among those that get a number
 
-in-first : {A : Type 0} {a : A} {xs : List A} (ys : List A) → In a xs → In a (xs ++ ys)
-in-first ys (here e) = here e
-in-first ys (there i) = there (in-first ys i)
-
-in-second : {A : Type 0} {a : A} (xs : List A) {ys : List A} → In a ys → In a (xs ++ ys)
-in-second [] i = i
-in-second (x ∷ xs) i = there (in-second xs i)
-
-name-over : (t : Node) → is 20 t ≡ true → {ns : List Node} → In t ns → In (nameOf t) (over nameAt ns)
-unfolding over nameAt
-name-over t k (here {b = b} {xs = ns} e) = in-first (over nameAt ns) (subst (λ (x : Node). In (nameOf t) (cond (is 20 x) (nameOf x ∷ []) [])) e (rw k (here refl)))
-name-over t k (there {b = b} i) = in-second (cond (is 20 b) (nameOf b ∷ []) []) (name-over t k i)
-
 item-nodes : {y : Node} {xs : Items} {j : ℕ} (x : Node) → ItemAt xs j y → In x (nodes y) → In x (nodesItems xs)
 unfolding nodes
 item-nodes x (ItemAt.first {is = xs}) i = in-first (nodesItems xs) i
 item-nodes x (ItemAt.behind {n = n} a) i = in-second (nodes n) (item-nodes x a i)
 item-nodes x (ItemAt.behindHole a) i = item-nodes x a i
-
-path-self : (p : List ℕ) → samePath p p ≡ true
-unfolding samePath
-path-self [] = refl
-path-self (x ∷ p) = rw (eq-eqb x x refl) (path-self p)
-
-name-self : (a : Name) → same a a ≡ true
-unfolding same
-name-self a = rw (eq-eqb (a .place) (a .place) refl, eq-eqb (a .stem) (a .stem) refl) (path-self (a .path))
-
-except-in : (a b : Name) {xs : List Name} → same b a ≡ false → In a xs → In a (except same b xs)
-unfolding except
-except-in a b n (here {b = d} {xs = xs} e) = rw (ap (same b) (sym e) ∙ n) (here e)
-except-in a b n (there {b = d} {xs = xs} i) = go (same b d) (except-in a b n i)
-  where
-    go : (t : Bool) → In a (except same b xs) → In a (cond t (except same b xs) (d ∷ except same b xs))
-    go true i = i
-    go false i = there i
-
-distinct-in : (a : Name) {xs : List Name} → In a xs → In a (distinct same xs)
-unfolding distinct
-distinct-in a (here e) = here e
-distinct-in a (there {b = b} {xs = xs} i) = by-test (same b a) (λ t. here (sym (same-is b a t))) (λ t. there (except-in a b t (distinct-in a i)))
-
--- ---- a number is given to one name
-
-number-from : (from : ℕ) (xs : List Name) (a : Name) → from ≤ numberIn same from xs a
-unfolding numberIn
-number-from from [] a = omega arith
-number-from from (x ∷ xs) a = by-test (same a x) (λ e. rw e (omega arith)) (λ e. rw e (let r = number-from (suc from) xs a in omega arith))
-
-number-apart : (from : ℕ) {xs : List Name} (a b : Name) → In a xs → numberIn same from xs a ≡ numberIn same from xs b → same a b ≡ true
-unfolding numberIn
-number-apart from a b (here {b = x} {xs = xs} e) q =
-    by-test (same b x)
-    (λ t. subst (λ (y : Name). same a y ≡ true) (e ∙ sym (same-is b x t)) (name-self a))
-    (λ t. absurd (let f : same a x ≡ true = subst (λ (y : Name). same a y ≡ true) e (name-self a) in
-    let z : from ≡ numberIn same (suc from) xs b = simp (f, t) at q in let r = number-from (suc from) xs b in omega arith))
-number-apart from a b (there {b = x} {xs = xs} i) q =
-    by-test (same a x)
-    (λ s. by-test (same b x)
-    (λ t. subst (λ (y : Name). same a y ≡ true) (same-is a x s ∙ sym (same-is b x t)) (name-self a))
-    (λ t. absurd (let z : from ≡ numberIn same (suc from) xs b = simp (s, t) at q in let r = number-from (suc from) xs b in omega arith)))
-    (λ s. by-test (same b x)
-    (λ t. absurd (let z : numberIn same (suc from) xs a ≡ from = simp (s, t) at q in let r = number-from (suc from) xs a in omega arith))
-    (λ t. number-apart (suc from) a b i (simp (s, t) at q)))
 
 -- ---- the array of a temporary
 

@@ -51,25 +51,25 @@ module _ (l : List ℕ) where
 
   -- ---- the builder
 
-  module _ (d at cell : ℕ) (force : Bool) where
-    built : (w : Bool) → w ≡ force || not (isName (lookNode l d at .value)) → _≡_ {A = ReferenceBuilder} (record { left = d; at = at; cell = cell; wanted = w; fresh = true }) (builderOf l d at cell force)
+  module _ (d at cell stem : ℕ) (force : Bool) where
+    built : (w : Bool) → w ≡ force || not (isName (lookNode l d at .value)) → _≡_ {A = ReferenceBuilder} (record { left = d; at = at; cell = cell; stem = stem; wanted = w; fresh = true }) (builderOf l d at cell stem force)
     unfolding builderOf
-    built w e = λ j. record { left = d; at = at; cell = cell; wanted = (e) j; fresh = true }
+    built w e = λ j. record { left = d; at = at; cell = cell; stem = stem; wanted = (e) j; fresh = true }
 
-    pub built-forced : force ≡ true → _≡_ {A = ReferenceBuilder} (record { left = d; at = at; cell = cell; wanted = true; fresh = true }) (builderOf l d at cell force)
+    pub built-forced : force ≡ true → _≡_ {A = ReferenceBuilder} (record { left = d; at = at; cell = cell; stem = stem; wanted = true; fresh = true }) (builderOf l d at cell stem force)
     built-forced e = built true (ap (λ (b : Bool). b || not (isName (lookNode l d at .value))) (sym e))
 
-    pub built-name : (b : Bool) → force ≡ false → b ≡ isName (lookNode l d at .value) → b ≡ true → _≡_ {A = ReferenceBuilder} (record { left = d; at = at; cell = cell; wanted = false; fresh = true }) (builderOf l d at cell force)
+    pub built-name : (b : Bool) → force ≡ false → b ≡ isName (lookNode l d at .value) → b ≡ true → _≡_ {A = ReferenceBuilder} (record { left = d; at = at; cell = cell; stem = stem; wanted = false; fresh = true }) (builderOf l d at cell stem force)
     built-name b e n t = built false (ap₂ (λ (x y : Bool). x || not y) (sym e) (sym t ∙ n))
 
-    pub built-other : (b : Bool) → force ≡ false → b ≡ isName (lookNode l d at .value) → b ≡ false → _≡_ {A = ReferenceBuilder} (record { left = d; at = at; cell = cell; wanted = true; fresh = true }) (builderOf l d at cell force)
+    pub built-other : (b : Bool) → force ≡ false → b ≡ isName (lookNode l d at .value) → b ≡ false → _≡_ {A = ReferenceBuilder} (record { left = d; at = at; cell = cell; stem = stem; wanted = true; fresh = true }) (builderOf l d at cell stem force)
     built-other b e n t = built true (ap₂ (λ (x y : Bool). x || not y) (sym e) (sym t ∙ n))
 
 -- ---- a read
 
 module _ (b : ReferenceBuilder) where
   abbrev spent : Bool → ReferenceBuilder
-  spent w = record { left = b .left; at = b .at; cell = b .cell; wanted = w; fresh = false }
+  spent w = record { left = b .left; at = b .at; cell = b .cell; stem = b .stem; wanted = w; fresh = false }
 
   after-is : (w : Bool) → b .wanted ≡ w → spent w ≡ afterRead b
   unfolding afterRead
@@ -79,7 +79,7 @@ module _ (b : ReferenceBuilder) where
   unfolding readOf
   read-first w f = (rw (w, f), after-is true w)
 
-  pub read-later : b .wanted ≡ true → b .fresh ≡ false → (Temporary (b .cell) ≡ readOf b) × (spent true ≡ afterRead b)
+  pub read-later : b .wanted ≡ true → b .fresh ≡ false → (Temporary (b .cell) (b .stem) ≡ readOf b) × (spent true ≡ afterRead b)
   unfolding readOf
   read-later w f = (rw (w, f), after-is true w)
 

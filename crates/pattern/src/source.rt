@@ -5,17 +5,18 @@ ghost use Rattle.tree.specs.Look.{lookNode};
 ghost use Rattle.lowering.specs.Declarations.{isName};
 ghost use Rattle.pattern.specs.Source.{builderOf, readOf, afterRead};
 
-// What a read gives: the expression at a place, or the temporary of a cell.
+// What a read gives: the expression at a place, or the temporary of a cell with its stem.
 pub enum Read {
     Expression { left: usize, at: usize },
-    Temporary(usize),
+    Temporary { cell: usize, stem: u8 },
 }
 
-// The value's place, and the cell of its temporary if one is wanted. The expression is handed out once.
+// The value's place, and the cell and the stem of its temporary if one is wanted. The expression is handed out once.
 pub struct ReferenceBuilder {
     pub left: usize,
     pub at: usize,
     pub cell: usize,
+    pub stem: u8,
     pub wanted: bool,
     pub fresh: bool,
 }
@@ -42,14 +43,15 @@ pub fn is_name(tree: &[u8], left: usize, at: usize) -> bool
 
 impl ReferenceBuilder {
     // A name wants no temporary, unless one is forced.
-    pub fn new(tree: &[u8], left: usize, at: usize, cell: usize, force: bool) -> Self
-        ensures { λ r. ⌜ r ≡ builderOf (now (tree .entry)) left at cell force ⌝ }
+    pub fn new(tree: &[u8], left: usize, at: usize, cell: usize, stem: u8, force: bool) -> Self
+        ensures { λ r. ⌜ r ≡ builderOf (now (tree .entry)) left at cell stem force ⌝ }
     {
         if force {
             return ReferenceBuilder {
                 left: left,
                 at: at,
                 cell: cell,
+                stem: stem,
                 wanted: true,
                 fresh: true,
             };
@@ -59,6 +61,7 @@ impl ReferenceBuilder {
                 left: left,
                 at: at,
                 cell: cell,
+                stem: stem,
                 wanted: false,
                 fresh: true,
             };
@@ -67,6 +70,7 @@ impl ReferenceBuilder {
             left: left,
             at: at,
             cell: cell,
+            stem: stem,
             wanted: true,
             fresh: true,
         }
@@ -79,6 +83,7 @@ impl ReferenceBuilder {
         let left = self.left;
         let at = self.at;
         let cell = self.cell;
+        let stem = self.stem;
         let wanted = self.wanted;
         let fresh = self.fresh;
         if wanted {
@@ -89,17 +94,22 @@ impl ReferenceBuilder {
                         left: left,
                         at: at,
                         cell: cell,
+                        stem: stem,
                         wanted: true,
                         fresh: false,
                     },
                 };
             }
             return Taken {
-                read: Read::Temporary(cell),
+                read: Read::Temporary {
+                    cell: cell,
+                    stem: stem,
+                },
                 next: ReferenceBuilder {
                     left: left,
                     at: at,
                     cell: cell,
+                    stem: stem,
                     wanted: true,
                     fresh: false,
                 },
@@ -111,6 +121,7 @@ impl ReferenceBuilder {
                 left: left,
                 at: at,
                 cell: cell,
+                stem: stem,
                 wanted: false,
                 fresh: false,
             },

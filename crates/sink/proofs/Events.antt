@@ -19,14 +19,14 @@ use Rattle.sink.proofs.Holds.{code, Cells, shape, cells-made, cells-num
 abbrev pub helpersAfter : {A : Type 0} → Helpers → Named A → Helpers
 helpersAfter u (Named.put b) = u
 helpersAfter u (Named.helper h) = withHelper u h
-helpersAfter u (Named.temporary c) = u
+helpersAfter u (Named.temporary c stem) = u
 helpersAfter u Named.newMark = u
 helpersAfter u (Named.make c a) = u
 helpersAfter u (Named.listed b) = u
-helpersAfter u (Named.listedTemporary c a) = u
+helpersAfter u (Named.listedTemporary c stem a) = u
 helpersAfter u (Named.entry m n) = u
 helpersAfter u (Named.excluded b) = u
-helpersAfter u (Named.excludedTemporary c a) = u
+helpersAfter u (Named.excludedTemporary c stem a) = u
 helpersAfter u Named.declarator = u
 
 abbrev pub helpersOver : {A : Type 0} → Helpers → List (Named A) → Helpers
@@ -58,16 +58,16 @@ low-is : (n : ℕ) → low n ≡ n % 256
 unfolding low
 low-is n = refl
 
--- the four bytes of a temporary
-number-bytes : (n : ℕ) → n < 65536 → 20 ∷ 1 ∷ low n ∷ high n ∷ [] ≡ 20 ∷ 1 ∷ n % 256 ∷ n / 256 ∷ []
-number-bytes n h = λ j. 20 ∷ 1 ∷ (low-is n) j ∷ (high-small n h) j ∷ []
+-- the five bytes of a temporary
+number-bytes : (stem n : ℕ) → n < 65536 → 20 ∷ 3 ∷ low n ∷ high n ∷ stem ∷ [] ≡ 20 ∷ 3 ∷ n % 256 ∷ n / 256 ∷ stem ∷ []
+number-bytes stem n h = λ j. 20 ∷ 3 ∷ (low-is n) j ∷ (high-small n h) j ∷ stem ∷ []
 
 module _ {A : Type 0} (alike : A → A → Bool) (same : (a b : A) → alike a b ≡ true → a ≡ b) (self : (a : A) → alike a a ≡ true) (a b w : ℕ) where
   pub record Held (s : State) (names : ℕ → A) (o : List A) (B : List ℕ) (L X : List (Token A)) (e d m : ℕ) (u : Helpers) (later : List A) : Type 0 where
     pub cs : List ℕ
     pub is : s ≡ shape alike same self a b w B cs o L X e d m u
     pub cells : Cells alike same self names cs o L X later
-    pub few : 4 * length o ≤ length B
+    pub few : 5 * length o ≤ length B
     pub marks : 2 * m ≤ 98302 + length B
     pub entries : 4 * e ≤ size L
     pub declarators : 2 * d ≤ size X
@@ -289,14 +289,14 @@ module _ {A : Type 0} (alike : A → A → Bool) (same : (a b : A) → alike a b
 
     -- ---- a new temporary
 
-    one-name : (n : A) (y : A) → alike y n ≡ false → count alike y (temp n ∷ []) ≡ 0
-    one-name n y t = rw t
+    one-name : (n : A) (stem : ℕ) (y : A) → alike y n ≡ false → count alike y (temp n stem ∷ []) ≡ 0
+    one-name n stem y t = rw t
 
-    at-most-one : (n y : A) → count alike y (temp n ∷ []) ≤ 1
-    at-most-one n y = by-test (alike y n) (λ t. rw t (omega arith)) (λ t. rw t (omega arith))
+    at-most-one : (n : A) (stem : ℕ) (y : A) → count alike y (temp n stem ∷ []) ≤ 1
+    at-most-one n stem y = by-test (alike y n) (λ t. rw t (omega arith)) (λ t. rw t (omega arith))
 
-    is-one : (n : A) → count alike n (temp n ∷ []) ≡ 1
-    is-one n = rw (self n)
+    is-one : (n : A) (stem : ℕ) → count alike n (temp n stem ∷ []) ≡ 1
+    is-one n stem = rw (self n)
 
     set-cell-shape : (names′ : ℕ → A) (cs : List ℕ) (more : List A) (c v : ℕ) → Cells alike same self names cs o L X more → c < 16384
         → setCellIn (shape alike same self a b w B cs o L X e d m u) c v ≡ shape alike same self a b w B (setWide cs (2 * c) v) o L X e d m u
@@ -333,58 +333,58 @@ module _ {A : Type 0} (alike : A → A → Bool) (same : (a b : A) → alike a b
     excluded-at at h = rw (lt-ltb at 16381 h)
 
     -- a temporary without a number shows 0
-    shown-none : (n : A) → place alike n o ≡ 0 → shown alike o (temp n ∷ []) ≡ 20 ∷ 1 ∷ 0 ∷ 0 ∷ []
+    shown-none : (n : A) (stem : ℕ) → place alike n o ≡ 0 → shown alike o (temp n stem ∷ []) ≡ 20 ∷ 3 ∷ 0 ∷ 0 ∷ stem ∷ []
     unfolding shown
-    shown-none n e = ap (λ (v : ℕ). 20 ∷ 1 ∷ v % 256 ∷ v / 256 ∷ []) e
+    shown-none n stem e = ap (λ (v : ℕ). 20 ∷ 3 ∷ v % 256 ∷ v / 256 ∷ stem ∷ []) e
 
-    held-listed-temporary : (c : ℕ) (n : A) → c < 16384 → Held s names o B L X e d m u (n ∷ later) → Room (length B + 0) (size L + 4) (size X + 0)
-        → After s names o B L X e d m u later (Named.listedTemporary c n)
+    held-listed-temporary : (c stem : ℕ) (n : A) → c < 16384 → Held s names o B L X e d m u (n ∷ later) → Room (length B + 0) (size L + 5) (size X + 0)
+        → After s names o B L X e d m u later (Named.listedTemporary c stem n)
     unfolding step eventOf namesAfter order treeOf listOf keysOf entryIn declaratorIn markAfter shown
-    held-listed-temporary c n k h r =
+    held-listed-temporary c stem n k h r =
         let f = h .cells .free .0 in
-        let ts : List (Token A) = temp n ∷ [] in
-        let v : listedAt (2 + size L) ≡ 16386 + spot alike n (L ++ ts) = listed-at (2 + size L) (omega (arith, r .list)) ∙ omega (arith, spot-new alike self n L (f .unlisted)) in
-        let y : count alike n (L ++ ts) ≡ 1 = omega (arith, count-append alike n L ts, f .unlisted, is-one n) in
+        let ts : List (Token A) = temp n stem ∷ [] in
+        let v : listedAt (2 + size L) ≡ 16386 + spot alike n (L ++ ts) = listed-at (2 + size L) (omega (arith, r .list)) ∙ omega (arith, spot-new alike self n stem L (f .unlisted)) in
+        let y : count alike n (L ++ ts) ≡ 1 = omega (arith, count-append alike n L ts, f .unlisted, is-one n stem) in
         let z : count alike n (X ++ []) ≡ 0 = ap (count alike n) (append-nil X) ∙ f .kept in
-        let q : size (L ++ ts) ≡ size L + 4 = size-append L ts in
+        let q : size (L ++ ts) ≡ size L + 5 = size-append L ts in
         held-as (none B) refl refl (plus-none e) (plus-none d)
         (record {
           cs = setWide (h .cs) (2 * c) (listedAt (2 + size L));
-          is = ap (λ (t : State). allList (setCellIn t c (listedAt (t .sink .list))) (20 ∷ 1 ∷ 0 ∷ 0 ∷ [])) (h .is)
-              ∙ ap (λ (t : State). allList t (20 ∷ 1 ∷ 0 ∷ 0 ∷ [])) (set-cell-shape names (h .cs) (n ∷ later) c (listedAt (2 + size L)) (h .cells) k)
-              ∙ list-shape names o B L X e d m u later (setWide (h .cs) (2 * c) (listedAt (2 + size L))) ts (20 ∷ 1 ∷ 0 ∷ 0 ∷ []) (shown-none n (f .numberless)) (r .list) (r .listSlice)
+          is = ap (λ (t : State). allList (setCellIn t c (listedAt (t .sink .list))) (20 ∷ 3 ∷ 0 ∷ 0 ∷ stem ∷ [])) (h .is)
+              ∙ ap (λ (t : State). allList t (20 ∷ 3 ∷ 0 ∷ 0 ∷ stem ∷ [])) (set-cell-shape names (h .cs) (n ∷ later) c (listedAt (2 + size L)) (h .cells) k)
+              ∙ list-shape names o B L X e d m u later (setWide (h .cs) (2 * c) (listedAt (2 + size L))) ts (20 ∷ 3 ∷ 0 ∷ 0 ∷ stem ∷ []) (shown-none n stem (f .numberless)) (r .list) (r .listSlice)
               ∙ (λ j. shape alike same self a b w B (setWide (h .cs) (2 * c) (listedAt (2 + size L))) o (L ++ ts) ((none X) j) e d m u);
           cells = cells-made alike same self names (h .cs) o L X later n c (listedAt (2 + size L)) ts [] (h .cells) k
-              (omega (arith, v, spot-new alike self n L (f .unlisted), r .list)) (one-name n) (λ x t. refl)
+              (omega (arith, v, spot-new alike self n stem L (f .unlisted), r .list)) (one-name n stem) (λ x t. refl)
               (v ∙ list-code (place alike n o) (count alike n (L ++ ts)) (spot alike n (L ++ ts)) (count alike n (X ++ [])) (spot alike n (X ++ [])) (f .numberless) y)
-              (λ x. omega (arith, at-most-one n x));
+              (λ x. omega (arith, at-most-one n stem x));
           few = h .few;
           marks = h .marks;
           entries = omega (arith, h .entries);
           declarators = omega (arith, h .declarators, size-append X []);
         })
 
-    held-excluded-temporary : (c : ℕ) (n : A) → c < 16384 → Held s names o B L X e d m u (n ∷ later) → Room (length B + 0) (size L + 0) (size X + 4)
-        → After s names o B L X e d m u later (Named.excludedTemporary c n)
+    held-excluded-temporary : (c stem : ℕ) (n : A) → c < 16384 → Held s names o B L X e d m u (n ∷ later) → Room (length B + 0) (size L + 0) (size X + 5)
+        → After s names o B L X e d m u later (Named.excludedTemporary c stem n)
     unfolding step eventOf namesAfter order treeOf listOf keysOf entryIn declaratorIn markAfter shown
-    held-excluded-temporary c n k h r =
+    held-excluded-temporary c stem n k h r =
         let f = h .cells .free .0 in
-        let ts : List (Token A) = temp n ∷ [] in
-        let v : excludedAt (size X) ≡ 32768 + spot alike n (X ++ ts) = excluded-at (size X) (omega (arith, r .keys)) ∙ omega (arith, spot-new alike self n X (f .kept)) in
-        let y : count alike n (X ++ ts) ≡ 1 = omega (arith, count-append alike n X ts, f .kept, is-one n) in
+        let ts : List (Token A) = temp n stem ∷ [] in
+        let v : excludedAt (size X) ≡ 32768 + spot alike n (X ++ ts) = excluded-at (size X) (omega (arith, r .keys)) ∙ omega (arith, spot-new alike self n stem X (f .kept)) in
+        let y : count alike n (X ++ ts) ≡ 1 = omega (arith, count-append alike n X ts, f .kept, is-one n stem) in
         let z : count alike n (L ++ []) ≡ 0 = ap (count alike n) (append-nil L) ∙ f .unlisted in
-        let q : size (X ++ ts) ≡ size X + 4 = size-append X ts in
+        let q : size (X ++ ts) ≡ size X + 5 = size-append X ts in
         held-as (none B) refl refl (plus-none e) (plus-none d)
         (record {
           cs = setWide (h .cs) (2 * c) (excludedAt (size X));
-          is = ap (λ (t : State). allKeys (setCellIn t c (excludedAt (t .sink .keys))) (20 ∷ 1 ∷ 0 ∷ 0 ∷ [])) (h .is)
-              ∙ ap (λ (t : State). allKeys t (20 ∷ 1 ∷ 0 ∷ 0 ∷ [])) (set-cell-shape names (h .cs) (n ∷ later) c (excludedAt (size X)) (h .cells) k)
-              ∙ keys-shape names o B L X e d m u later (setWide (h .cs) (2 * c) (excludedAt (size X))) ts (20 ∷ 1 ∷ 0 ∷ 0 ∷ []) (length-wide (h .cs) (2 * c) (excludedAt (size X)) ∙ h .cells .long) (shown-none n (f .numberless)) (r .keys) (r .keysSlice)
+          is = ap (λ (t : State). allKeys (setCellIn t c (excludedAt (t .sink .keys))) (20 ∷ 3 ∷ 0 ∷ 0 ∷ stem ∷ [])) (h .is)
+              ∙ ap (λ (t : State). allKeys t (20 ∷ 3 ∷ 0 ∷ 0 ∷ stem ∷ [])) (set-cell-shape names (h .cs) (n ∷ later) c (excludedAt (size X)) (h .cells) k)
+              ∙ keys-shape names o B L X e d m u later (setWide (h .cs) (2 * c) (excludedAt (size X))) ts (20 ∷ 3 ∷ 0 ∷ 0 ∷ stem ∷ []) (length-wide (h .cs) (2 * c) (excludedAt (size X)) ∙ h .cells .long) (shown-none n stem (f .numberless)) (r .keys) (r .keysSlice)
               ∙ (λ j. shape alike same self a b w B (setWide (h .cs) (2 * c) (excludedAt (size X))) o ((none L) j) (X ++ ts) e d m u);
           cells = cells-made alike same self names (h .cs) o L X later n c (excludedAt (size X)) [] ts (h .cells) k
-              (omega (arith, v, spot-new alike self n X (f .kept), r .keys)) (λ x t. refl) (one-name n)
+              (omega (arith, v, spot-new alike self n stem X (f .kept), r .keys)) (λ x t. refl) (one-name n stem)
               (v ∙ keys-code (place alike n o) (count alike n (L ++ [])) (spot alike n (L ++ [])) (count alike n (X ++ ts)) (spot alike n (X ++ ts)) (f .numberless) z y)
-              (λ x. omega (arith, at-most-one n x));
+              (λ x. omega (arith, at-most-one n stem x));
           few = h .few;
           marks = h .marks;
           entries = omega (arith, h .entries, size-append L []);
@@ -394,38 +394,38 @@ module _ {A : Type 0} (alike : A → A → Bool) (same : (a b : A) → alike a b
     -- ---- a temporary of the tree
 
     -- by its place so far
-    held-temporary : (c : ℕ) → c < 16384 → Held s names o B L X e d m u later → Room (length B + 4) (size L + 0) (size X + 0)
-        → After s names o B L X e d m u later (Named.temporary c)
+    held-temporary : (c stem : ℕ) → c < 16384 → Held s names o B L X e d m u later → Room (length B + 5) (size L + 0) (size X + 0)
+        → After s names o B L X e d m u later (Named.temporary c stem)
     unfolding step eventOf namesAfter order treeOf listOf keysOf entryIn declaratorIn markAfter shown noted
-    held-temporary c k h r = go (place alike (names c) o) refl
+    held-temporary c stem k h r = go (place alike (names c) o) refl
       where
-        small : length o < 8193
+        small : length o < 6554
         small = omega (arith, h .few, r .tree)
 
         room : size L + 2 ≤ 16384
         room = omega (arith, r .list)
 
-        -- the state once the cell has its number v, and the four bytes
+        -- the state once the cell has its number v, and the five bytes
         written : (o′ : List A) (cs′ : List ℕ) (v : ℕ) → v < 65536 → place alike (names c) o′ ≡ v → numberOf (shape alike same self a b w B (h .cs) o L X e d m u) c ≡ v
             → settle (shape alike same self a b w B (h .cs) o L X e d m u) c ≡ shape alike same self a b w B cs′ o′ L X e d m u
-            → allTree (settle s c) (20 ∷ 1 ∷ low (numberOf s c) ∷ high (numberOf s c) ∷ []) ≡ shape alike same self a b w (B ++ (20 ∷ 1 ∷ place alike (names c) o′ % 256 ∷ place alike (names c) o′ / 256 ∷ [])) cs′ o′ L X e d m u
+            → allTree (settle s c) (20 ∷ 3 ∷ low (numberOf s c) ∷ high (numberOf s c) ∷ stem ∷ []) ≡ shape alike same self a b w (B ++ (20 ∷ 3 ∷ place alike (names c) o′ % 256 ∷ place alike (names c) o′ / 256 ∷ stem ∷ [])) cs′ o′ L X e d m u
         written o′ cs′ v g p q t =
-            ap (λ (z : State). allTree (settle z c) (20 ∷ 1 ∷ low (numberOf z c) ∷ high (numberOf z c) ∷ [])) (h .is)
-            ∙ (λ j. allTree ((t) j) (20 ∷ 1 ∷ low ((q) j) ∷ high ((q) j) ∷ []))
-            ∙ ap (allTree (shape alike same self a b w B cs′ o′ L X e d m u)) (number-bytes v g)
-            ∙ tree-shape names o′ B L X e d m u later cs′ (20 ∷ 1 ∷ v % 256 ∷ v / 256 ∷ []) (r .tree) (r .treeSlice)
-            ∙ ap (λ (n : ℕ). shape alike same self a b w (B ++ (20 ∷ 1 ∷ n % 256 ∷ n / 256 ∷ [])) cs′ o′ L X e d m u) (sym p)
+            ap (λ (z : State). allTree (settle z c) (20 ∷ 3 ∷ low (numberOf z c) ∷ high (numberOf z c) ∷ stem ∷ [])) (h .is)
+            ∙ (λ j. allTree ((t) j) (20 ∷ 3 ∷ low ((q) j) ∷ high ((q) j) ∷ stem ∷ []))
+            ∙ ap (allTree (shape alike same self a b w B cs′ o′ L X e d m u)) (number-bytes stem v g)
+            ∙ tree-shape names o′ B L X e d m u later cs′ (20 ∷ 3 ∷ v % 256 ∷ v / 256 ∷ stem ∷ []) (r .tree) (r .treeSlice)
+            ∙ ap (λ (n : ℕ). shape alike same self a b w (B ++ (20 ∷ 3 ∷ n % 256 ∷ n / 256 ∷ stem ∷ [])) cs′ o′ L X e d m u) (sym p)
 
-        longer : (l : List ℕ) → length l ≡ 4 → length (B ++ l) ≡ length B + 4
+        longer : (l : List ℕ) → length l ≡ 5 → length (B ++ l) ≡ length B + 5
         longer l g = length-append B l ∙ ap (λ (n : ℕ). length B + n) g
 
         go : (p : ℕ) → place alike (names c) o ≡ p
-            → Held (allTree (settle s c) (20 ∷ 1 ∷ low (numberOf s c) ∷ high (numberOf s c) ∷ [])) names (noted alike p o (names c))
-            (B ++ (20 ∷ 1 ∷ place alike (names c) (noted alike p o (names c)) % 256 ∷ place alike (names c) (noted alike p o (names c)) / 256 ∷ [])) (L ++ []) (X ++ []) (e + 0) (d + 0) m u later
+            → Held (allTree (settle s c) (20 ∷ 3 ∷ low (numberOf s c) ∷ high (numberOf s c) ∷ stem ∷ [])) names (noted alike p o (names c))
+            (B ++ (20 ∷ 3 ∷ place alike (names c) (noted alike p o (names c)) % 256 ∷ place alike (names c) (noted alike p o (names c)) / 256 ∷ stem ∷ [])) (L ++ []) (X ++ []) (e + 0) (d + 0) m u later
         go zero q =
             let o′ : List A = o ++ (names c ∷ []) in
-            let bs : List ℕ = 20 ∷ 1 ∷ place alike (names c) o′ % 256 ∷ place alike (names c) o′ / 256 ∷ [] in
-            let n : length (B ++ bs) ≡ length B + 4 = longer bs refl in
+            let bs : List ℕ = 20 ∷ 3 ∷ place alike (names c) o′ % 256 ∷ place alike (names c) o′ / 256 ∷ stem ∷ [] in
+            let n : length (B ++ bs) ≡ length B + 5 = longer bs refl in
             held-as refl (none L) (none X) (plus-none e) (plus-none d)
             (record {
               cs = setWide (h .cs) (2 * c) (suc (length o));
@@ -439,8 +439,8 @@ module _ {A : Type 0} (alike : A → A → Bool) (same : (a b : A) → alike a b
               declarators = h .declarators;
             })
         go (suc p) q =
-            let bs : List ℕ = 20 ∷ 1 ∷ place alike (names c) o % 256 ∷ place alike (names c) o / 256 ∷ [] in
-            let n : length (B ++ bs) ≡ length B + 4 = longer bs refl in
+            let bs : List ℕ = 20 ∷ 3 ∷ place alike (names c) o % 256 ∷ place alike (names c) o / 256 ∷ stem ∷ [] in
+            let n : length (B ++ bs) ≡ length B + 5 = longer bs refl in
             held-as refl (none L) (none X) (plus-none e) (plus-none d)
             (record {
               cs = h .cs;
@@ -460,14 +460,14 @@ module _ {A : Type 0} (alike : A → A → Bool) (same : (a b : A) → alike a b
     unfolding madeBy treeOf listOf keysOf
     held-event (Named.put x) k h r = held-put x h r
     held-event (Named.helper x) k h r = held-helper x h r
-    held-event (Named.temporary c) k h r = held-temporary c k h r
+    held-event (Named.temporary c stem) k h r = held-temporary c stem k h r
     held-event Named.newMark k h r = held-mark h r
     held-event (Named.make c n) k h r = held-make c n k h
     held-event (Named.listed x) k h r = held-listed x h r
-    held-event (Named.listedTemporary c n) k h r = held-listed-temporary c n k h r
+    held-event (Named.listedTemporary c stem n) k h r = held-listed-temporary c stem n k h r
     held-event (Named.entry x y) k h r = held-entry x y h r
     held-event (Named.excluded x) k h r = held-excluded x h r
-    held-event (Named.excludedTemporary c n) k h r = held-excluded-temporary c n k h r
+    held-event (Named.excludedTemporary c stem n) k h r = held-excluded-temporary c stem n k h r
     held-event Named.declarator k h r = held-declarator h r
 
   -- ---- a run of events

@@ -16,11 +16,11 @@ use Rattle.sink.proofs.Names.{place-other, place-new, order-append, ord
 unfoldable pub namesIn : {A : Type 0} → List (Token A) → List A
 namesIn [] = []
 namesIn (plain b ∷ ts) = namesIn ts
-namesIn (temp a ∷ ts) = a ∷ namesIn ts
+namesIn (temp a stem ∷ ts) = a ∷ namesIn ts
 
 temps : {A : Type 0} → List A → List (Token A)
 temps [] = []
-temps (a ∷ l) = temp a ∷ temps l
+temps (a ∷ l) = temp a 0 ∷ temps l
 
 module _ {A : Type 0} where
   names-temps : (ts : List (Token A)) (l : List A) → namesIn (ts ++ temps l) ≡ namesIn ts ++ l
@@ -28,7 +28,7 @@ module _ {A : Type 0} where
   names-temps [] [] = refl
   names-temps [] (a ∷ l) = ap (λ (r : List A). a ∷ r) (names-temps [] l)
   names-temps (plain b ∷ ts) l = names-temps ts l
-  names-temps (temp a ∷ ts) l = ap (λ (r : List A). a ∷ r) (names-temps ts l)
+  names-temps (temp a stem ∷ ts) l = ap (λ (r : List A). a ∷ r) (names-temps ts l)
 
 module _ {A : Type 0} (alike : A → A → Bool) where
   unfoldable pub except : A → List A → List A
@@ -99,7 +99,7 @@ module _ {A : Type 0} (alike : A → A → Bool) where
     unfolding order namesIn distinct
     order-is [] seen = no-more seen
     order-is (plain b ∷ ts) seen = order-is ts seen
-    order-is (temp a ∷ ts) seen =
+    order-is (temp a stem ∷ ts) seen =
         noted-is seen (distinct (namesIn ts)) (order alike (noted alike (place alike a seen) seen a) ts) a (place alike a seen) refl (order-is ts (noted alike (place alike a seen) seen a))
 
     -- the order of first appearance is that of the distinct names

@@ -19,14 +19,14 @@ unfolding eventsOf eventOf nameEach
 events-back [] k = refl
 events-back (Event.put b ∷ es) k = ap (λ (l : List Event). Event.put b ∷ l) (events-back es k)
 events-back (Event.helper h ∷ es) k = ap (λ (l : List Event). Event.helper h ∷ l) (events-back es k)
-events-back (Event.temporary c ∷ es) k = ap (λ (l : List Event). Event.temporary c ∷ l) (events-back es k)
+events-back (Event.temporary c stem ∷ es) k = ap (λ (l : List Event). Event.temporary c stem ∷ l) (events-back es k)
 events-back (Event.newMark ∷ es) k = ap (λ (l : List Event). Event.newMark ∷ l) (events-back es k)
 events-back (Event.make c ∷ es) k = ap (λ (l : List Event). Event.make c ∷ l) (events-back es (suc k))
 events-back (Event.listed b ∷ es) k = ap (λ (l : List Event). Event.listed b ∷ l) (events-back es k)
-events-back (Event.listedTemporary c ∷ es) k = ap (λ (l : List Event). Event.listedTemporary c ∷ l) (events-back es (suc k))
+events-back (Event.listedTemporary c stem ∷ es) k = ap (λ (l : List Event). Event.listedTemporary c stem ∷ l) (events-back es (suc k))
 events-back (Event.entry m n ∷ es) k = ap (λ (l : List Event). Event.entry m n ∷ l) (events-back es k)
 events-back (Event.excluded b ∷ es) k = ap (λ (l : List Event). Event.excluded b ∷ l) (events-back es k)
-events-back (Event.excludedTemporary c ∷ es) k = ap (λ (l : List Event). Event.excludedTemporary c ∷ l) (events-back es (suc k))
+events-back (Event.excludedTemporary c stem ∷ es) k = ap (λ (l : List Event). Event.excludedTemporary c stem ∷ l) (events-back es (suc k))
 events-back (Event.declarator ∷ es) k = ap (λ (l : List Event). Event.declarator ∷ l) (events-back es k)
 
 -- indices that rise from k on
@@ -50,14 +50,14 @@ unfolding above madeIn madeBy nameEach
 indices [] k = (tt, tt)
 indices (Event.put b ∷ es) k = indices es k
 indices (Event.helper h ∷ es) k = indices es k
-indices (Event.temporary c ∷ es) k = indices es k
+indices (Event.temporary c stem ∷ es) k = indices es k
 indices (Event.newMark ∷ es) k = indices es k
 indices (Event.make c ∷ es) k = one-more k (madeIn (nameEach (suc k) es)) (indices es (suc k))
 indices (Event.listed b ∷ es) k = indices es k
-indices (Event.listedTemporary c ∷ es) k = one-more k (madeIn (nameEach (suc k) es)) (indices es (suc k))
+indices (Event.listedTemporary c stem ∷ es) k = one-more k (madeIn (nameEach (suc k) es)) (indices es (suc k))
 indices (Event.entry m n ∷ es) k = indices es k
 indices (Event.excluded b ∷ es) k = indices es k
-indices (Event.excludedTemporary c ∷ es) k = one-more k (madeIn (nameEach (suc k) es)) (indices es (suc k))
+indices (Event.excludedTemporary c stem ∷ es) k = one-more k (madeIn (nameEach (suc k) es)) (indices es (suc k))
 indices (Event.declarator ∷ es) k = indices es k
 
 no-cells : (l : List ℕ) → Every (λ x. 16384 ≤ x) l → Every (λ x. (c : ℕ) → c < 16384 → eqb x (ownName c) ≡ false) l

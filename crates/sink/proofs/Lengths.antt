@@ -119,21 +119,21 @@ module _ (a b n : ℕ) where
     long-event (Named.helper c) =
         long-as refl (omega arith) (omega arith)
         (all-tree (21 ∷ 1 ∷ c ∷ []) t l x (useHelper s c) (record { tree = h .tree; list = h .list; keys = h .keys; outSlice = h .outSlice; listSlice = h .listSlice; workSlice = h .workSlice }))
-    long-event (Named.temporary c) =
-        long-as refl (omega arith) (omega arith) (all-tree (20 ∷ 1 ∷ low (numberOf s c) ∷ high (numberOf s c) ∷ []) t l x (settle s c) (long-settle t l x c s h))
+    long-event (Named.temporary c stem) =
+        long-as refl (omega arith) (omega arith) (all-tree (20 ∷ 3 ∷ low (numberOf s c) ∷ high (numberOf s c) ∷ stem ∷ []) t l x (settle s c) (long-settle t l x c s h))
     long-event Named.newMark =
         long-as refl (omega arith) (omega arith)
         (all-tree (low (s .sink .mark) ∷ high (s .sink .mark) ∷ []) t l x (nextMark s) (record { tree = h .tree; list = h .list; keys = h .keys; outSlice = h .outSlice; listSlice = h .listSlice; workSlice = h .workSlice }))
     long-event (Named.make c v) = long-cell (t + 0) (l + 0) (x + 0) c 0 s long-same
     long-event (Named.listed c) = long-as (omega arith) refl (omega arith) (long-list t l x c s h)
-    long-event (Named.listedTemporary c v) =
-        long-as (omega arith) refl (omega arith) (all-list (20 ∷ 1 ∷ 0 ∷ 0 ∷ []) t l x (setCellIn s c (listedAt (s .sink .list))) (long-cell t l x c (listedAt (s .sink .list)) s h))
+    long-event (Named.listedTemporary c stem v) =
+        long-as (omega arith) refl (omega arith) (all-list (20 ∷ 3 ∷ 0 ∷ 0 ∷ stem ∷ []) t l x (setCellIn s c (listedAt (s .sink .list))) (long-cell t l x c (listedAt (s .sink .list)) s h))
     long-event (Named.entry c v) =
         long-as (omega arith) refl (omega arith)
         (long-entry t l x c v (countEntry s) (record { tree = h .tree; list = h .list; keys = h .keys; outSlice = h .outSlice; listSlice = h .listSlice; workSlice = h .workSlice }))
     long-event (Named.excluded c) = long-as (omega arith) (omega arith) refl (long-keys t l x c s h)
-    long-event (Named.excludedTemporary c v) =
-        long-as (omega arith) (omega arith) refl (all-keys (20 ∷ 1 ∷ 0 ∷ 0 ∷ []) t l x (setCellIn s c (excludedAt (s .sink .keys))) (long-cell t l x c (excludedAt (s .sink .keys)) s h))
+    long-event (Named.excludedTemporary c stem v) =
+        long-as (omega arith) (omega arith) refl (all-keys (20 ∷ 3 ∷ 0 ∷ 0 ∷ stem ∷ []) t l x (setCellIn s c (excludedAt (s .sink .keys))) (long-cell t l x c (excludedAt (s .sink .keys)) s h))
     long-event Named.declarator =
         long-as (omega arith) (omega arith) refl
         (all-keys (5 ∷ 3 ∷ []) t l x (countDeclarator s) (record { tree = h .tree; list = h .list; keys = h .keys; outSlice = h .outSlice; listSlice = h .listSlice; workSlice = h .workSlice }))

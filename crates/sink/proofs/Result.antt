@@ -55,14 +55,14 @@ helpers-over (Named.helper h ∷ es) u =
       without = (or-swap (usesHelper 4 es) (eqb h 4) (u .without)) j;
       key = (or-swap (usesHelper 5 es) (eqb h 5) (u .key)) j;
     })
-helpers-over (Named.temporary c ∷ es) u = helpers-over es u
+helpers-over (Named.temporary c stem ∷ es) u = helpers-over es u
 helpers-over (Named.newMark ∷ es) u = helpers-over es u
 helpers-over (Named.make c a ∷ es) u = helpers-over es u
 helpers-over (Named.listed b ∷ es) u = helpers-over es u
-helpers-over (Named.listedTemporary c a ∷ es) u = helpers-over es u
+helpers-over (Named.listedTemporary c stem a ∷ es) u = helpers-over es u
 helpers-over (Named.entry m n ∷ es) u = helpers-over es u
 helpers-over (Named.excluded b ∷ es) u = helpers-over es u
-helpers-over (Named.excludedTemporary c a ∷ es) u = helpers-over es u
+helpers-over (Named.excludedTemporary c stem a ∷ es) u = helpers-over es u
 helpers-over (Named.declarator ∷ es) u = helpers-over es u
 
 helpers-all : {A : Type 0} (es : List (Named A)) → helpersOver noHelpers es ≡ helpersIn es

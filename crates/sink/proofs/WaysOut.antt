@@ -291,19 +291,26 @@ pub mark-is : (s s₁ : State) (m : ℕ) → m ≡ oneMore 65535 (s .sink .mark)
 unfolding step nextMark
 mark-is s s₁ m e p = p ∙ all-puts _ _ ∙ ap (λ (v : ℕ). allTree (stateOf (s .out) (s .list) (s .work) (withMark (s .sink) v)) (low (s .sink .mark) ∷ high (s .sink .mark) ∷ [])) e
 
-pub temporary-is : (s s₁ s₂ : State) (c n a b : ℕ) → n ≡ numberOf s c → s₁ ≡ settle s c → a ≡ low n → b ≡ high n → s₂ ≡ steps s₁ (puts (20 ∷ 1 ∷ a ∷ b ∷ [])) → s₂ ≡ step s (temporary c)
-unfolding step
-temporary-is s s₁ s₂ c n a b e p x y q = q ∙ all-puts _ _ ∙ cc
+pub temporary-is : (s s₁ s₂ s₃ : State) (c stem n a b : ℕ) → n ≡ numberOf s c → s₁ ≡ settle s c → a ≡ low n → b ≡ high n → s₂ ≡ steps s₁ (puts (20 ∷ 3 ∷ a ∷ b ∷ [])) → s₃ ≡ step s₂ (put stem) → s₃ ≡ step s (temporary c stem)
+unfolding step steps puts
+temporary-is s s₁ s₂ s₃ c stem n a b e p x y q r =
+    let z : s₃ ≡ steps s₁ (puts (20 ∷ 3 ∷ a ∷ b ∷ stem ∷ [])) = r ∙ ap (λ (t : State). putTree t stem) q in
+    let w : s₃ ≡ allTree s₁ (20 ∷ 3 ∷ a ∷ b ∷ stem ∷ []) = z ∙ all-puts s₁ (20 ∷ 3 ∷ a ∷ b ∷ stem ∷ []) in
+    cc
 
-pub listed-temporary-is : (s s₂ : State) (w : List ℕ) (c v : ℕ) → v ≡ listedAt (s .sink .list) → w ≡ setCell (s .work) c v
-    → s₂ ≡ steps (stateOf (s .out) (s .list) w (s .sink)) (lists (20 ∷ 1 ∷ 0 ∷ 0 ∷ [])) → s₂ ≡ step s (listedTemporary c)
-unfolding step setCellIn
-listed-temporary-is s s₂ w c v e p q = q ∙ all-lists _ _ ∙ ap (λ (x : List ℕ). allList (stateOf (s .out) (s .list) x (s .sink)) (20 ∷ 1 ∷ 0 ∷ 0 ∷ [])) (p ∙ ap (setCell (s .work) c) e)
+pub listed-temporary-is : (s s₂ s₃ : State) (w : List ℕ) (c stem v : ℕ) → v ≡ listedAt (s .sink .list) → w ≡ setCell (s .work) c v
+    → s₂ ≡ steps (stateOf (s .out) (s .list) w (s .sink)) (lists (20 ∷ 3 ∷ 0 ∷ 0 ∷ [])) → s₃ ≡ step s₂ (listed stem) → s₃ ≡ step s (listedTemporary c stem)
+unfolding step steps lists setCellIn
+listed-temporary-is s s₂ s₃ w c stem v e p q r =
+    let z : s₃ ≡ steps (stateOf (s .out) (s .list) w (s .sink)) (lists (20 ∷ 3 ∷ 0 ∷ 0 ∷ stem ∷ [])) = r ∙ ap (λ (t : State). putList t stem) q in
+    z ∙ all-lists _ _ ∙ ap (λ (x : List ℕ). allList (stateOf (s .out) (s .list) x (s .sink)) (20 ∷ 3 ∷ 0 ∷ 0 ∷ stem ∷ [])) (p ∙ ap (setCell (s .work) c) e)
 
-pub excluded-temporary-is : (s s₂ : State) (w : List ℕ) (c v : ℕ) → v ≡ excludedAt (s .sink .keys) → w ≡ setCell (s .work) c v
-    → s₂ ≡ steps (stateOf (s .out) (s .list) w (s .sink)) (excludes (20 ∷ 1 ∷ 0 ∷ 0 ∷ [])) → s₂ ≡ step s (excludedTemporary c)
-unfolding step setCellIn
-excluded-temporary-is s s₂ w c v e p q = q ∙ all-excludes _ _ ∙ ap (λ (x : List ℕ). allKeys (stateOf (s .out) (s .list) x (s .sink)) (20 ∷ 1 ∷ 0 ∷ 0 ∷ [])) (p ∙ ap (setCell (s .work) c) e)
+pub excluded-temporary-is : (s s₂ s₃ : State) (w : List ℕ) (c stem v : ℕ) → v ≡ excludedAt (s .sink .keys) → w ≡ setCell (s .work) c v
+    → s₂ ≡ steps (stateOf (s .out) (s .list) w (s .sink)) (excludes (20 ∷ 3 ∷ 0 ∷ 0 ∷ [])) → s₃ ≡ step s₂ (excluded stem) → s₃ ≡ step s (excludedTemporary c stem)
+unfolding step steps excludes setCellIn
+excluded-temporary-is s s₂ s₃ w c stem v e p q r =
+    let z : s₃ ≡ steps (stateOf (s .out) (s .list) w (s .sink)) (excludes (20 ∷ 3 ∷ 0 ∷ 0 ∷ stem ∷ [])) = r ∙ ap (λ (t : State). putKeys t stem) q in
+    z ∙ all-excludes _ _ ∙ ap (λ (x : List ℕ). allKeys (stateOf (s .out) (s .list) x (s .sink)) (20 ∷ 3 ∷ 0 ∷ 0 ∷ stem ∷ [])) (p ∙ ap (setCell (s .work) c) e)
 
 pub entry-in : (s : State) (l : List ℕ) (m n k : ℕ) → k ≡ oneMore 65535 (s .sink .entries) → s .sink .list < 16381 → l ≡ setWide (setWide (s .list) (s .sink .list) m) (s .sink .list + 2) n
     → stateOf (s .out) l (s .work) (withList (withEntries (s .sink) k) (s .sink .list + 4)) ≡ step s (entry m n)

@@ -12,14 +12,14 @@ use Rattle.sink.specs.declared.Written.{Written}
 pub data Event : Type 0 where
   put : ℕ → Event  -- a byte of the tree
   helper : ℕ → Event  -- the node of a helper
-  temporary : ℕ → Event  -- the node of the temporary that a cell stands for
+  temporary : ℕ → ℕ → Event  -- the node of the temporary that a cell stands for, with its stem
   newMark : Event  -- the mark of a new statement
   make : ℕ → Event  -- a new temporary, in a cell
   listed : ℕ → Event  -- a byte of the list
-  listedTemporary : ℕ → Event  -- a new temporary, in a cell, whose node stands in the list
+  listedTemporary : ℕ → ℕ → Event  -- a new temporary, in a cell and with its stem, whose node stands in the list
   entry : ℕ → ℕ → Event  -- the head of an entry: a mark, a count of declarators
   excluded : ℕ → Event  -- a byte of the excluded declarators
-  excludedTemporary : ℕ → Event  -- a new temporary, in a cell, whose node stands among them
+  excludedTemporary : ℕ → ℕ → Event  -- a new temporary, in a cell and with its stem, whose node stands among them
   declarator : Event  -- the head of an excluded declarator, with both fields
 
 -- the lent slices, and the numbers beside them
@@ -218,14 +218,14 @@ allKeys s (b ∷ bs) = allKeys (putKeys s b) bs
 unfoldable pub step : State → Event → State
 step s (put b) = putTree s b
 step s (helper h) = allTree (useHelper s h) (21 ∷ 1 ∷ h ∷ [])
-step s (temporary c) = allTree (settle s c) (20 ∷ 1 ∷ low (numberOf s c) ∷ high (numberOf s c) ∷ [])
+step s (temporary c stem) = allTree (settle s c) (20 ∷ 3 ∷ low (numberOf s c) ∷ high (numberOf s c) ∷ stem ∷ [])
 step s newMark = allTree (nextMark s) (low (s .sink .mark) ∷ high (s .sink .mark) ∷ [])
 step s (make c) = setCellIn s c 0
 step s (listed b) = putList s b
-step s (listedTemporary c) = allList (setCellIn s c (listedAt (s .sink .list))) (20 ∷ 1 ∷ 0 ∷ 0 ∷ [])
+step s (listedTemporary c stem) = allList (setCellIn s c (listedAt (s .sink .list))) (20 ∷ 3 ∷ 0 ∷ 0 ∷ stem ∷ [])
 step s (entry m n) = putEntry (countEntry s) m n
 step s (excluded b) = putKeys s b
-step s (excludedTemporary c) = allKeys (setCellIn s c (excludedAt (s .sink .keys))) (20 ∷ 1 ∷ 0 ∷ 0 ∷ [])
+step s (excludedTemporary c stem) = allKeys (setCellIn s c (excludedAt (s .sink .keys))) (20 ∷ 3 ∷ 0 ∷ 0 ∷ stem ∷ [])
 step s declarator = allKeys (countDeclarator s) (5 ∷ 3 ∷ [])
 
 unfoldable pub steps : State → List Event → State

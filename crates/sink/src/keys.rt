@@ -74,11 +74,11 @@ impl Sink {
         self.excluded2(work, 5, 3)
     }
 
-    // A new temporary, in a cell, whose node stands among the excluded declarators.
-    pub fn excluded_temporary(self, work: &mut [u8], c: usize) -> Sink
-        ensures { λ r. ⌜ ((t l : List ℕ) → stateOf t l (now (work .exit)) r ≡ step (stateOf t l (now (work .entry)) self) (excludedTemporary c)) ⌝ }
+    // A new temporary, in a cell and with its stem, whose node stands among the excluded declarators.
+    pub fn excluded_temporary(self, work: &mut [u8], c: usize, stem: u8) -> Sink
+        ensures { λ r. ⌜ ((t l : List ℕ) → stateOf t l (now (work .exit)) r ≡ step (stateOf t l (now (work .entry)) self) (excludedTemporary c stem)) ⌝ }
     {
         cells::set_cell(work, c, excluded_at(self.keys));
-        self.excluded4(work, 20, 1, 0, 0)
+        self.excluded4(work, 20, 3, 0, 0).excluded(work, stem)
     }
 }

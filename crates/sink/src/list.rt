@@ -115,11 +115,11 @@ impl Sink {
         self
     }
 
-    // A new temporary, in a cell, whose node stands in the list.
-    pub fn listed_temporary(self, list: &mut [u8], work: &mut [u8], c: usize) -> Sink
-        ensures { λ r. ⌜ ((t : List ℕ) → stateOf t (now (list .exit)) (now (work .exit)) r ≡ step (stateOf t (now (list .entry)) (now (work .entry)) self) (listedTemporary c)) ⌝ }
+    // A new temporary, in a cell and with its stem, whose node stands in the list.
+    pub fn listed_temporary(self, list: &mut [u8], work: &mut [u8], c: usize, stem: u8) -> Sink
+        ensures { λ r. ⌜ ((t : List ℕ) → stateOf t (now (list .exit)) (now (work .exit)) r ≡ step (stateOf t (now (list .entry)) (now (work .entry)) self) (listedTemporary c stem)) ⌝ }
     {
         cells::set_cell(work, c, listed_at(self.list));
-        self.listed4(list, 20, 1, 0, 0)
+        self.listed4(list, 20, 3, 0, 0).listed(list, stem)
     }
 }

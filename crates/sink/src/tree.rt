@@ -88,12 +88,20 @@ impl Sink {
         self.put_wide(out, m)
     }
 
-    // The node of the temporary that a cell stands for.
-    pub fn temporary(self, out: &mut [u8], list: &mut [u8], work: &mut [u8], c: usize) -> Sink
-        ensures { λ r. ⌜ stateOf (now (out .exit)) (now (list .exit)) (now (work .exit)) r ≡ step (stateOf (now (out .entry)) (now (list .entry)) (now (work .entry)) self) (temporary c) ⌝ }
+    // The node of the temporary that a cell stands for, with its stem.
+    pub fn temporary(
+        self,
+        out: &mut [u8],
+        list: &mut [u8],
+        work: &mut [u8],
+        c: usize,
+        stem: u8,
+    ) -> Sink
+        ensures { λ r. ⌜ stateOf (now (out .exit)) (now (list .exit)) (now (work .exit)) r ≡ step (stateOf (now (out .entry)) (now (list .entry)) (now (work .entry)) self) (temporary c stem) ⌝ }
     {
         let n = self.number(work, c);
         let k = self.settled(list, work, c);
-        k.put4(out, 20, 1, bytes::low(n), bytes::high(n))
+        k.put4(out, 20, 3, bytes::low(n), bytes::high(n))
+            .put(out, stem)
     }
 }

@@ -53,14 +53,14 @@ step-full : (s : State) (e : Event) → Full s → Full (step s e)
 unfolding step useHelper nextMark setCellIn countEntry countDeclarator
 step-full s (put b) f = tree-full s b f
 step-full s (helper h) f = all-tree-full (useHelper s h) _ f
-step-full s (temporary c) f = all-tree-full (settle s c) _ (settle-full s c f)
+step-full s (temporary c stem) f = all-tree-full (settle s c) _ (settle-full s c f)
 step-full s newMark f = all-tree-full (nextMark s) _ f
 step-full s (make c) f = f
 step-full s (listed b) f = list-full s b f
-step-full s (listedTemporary c) f = all-list-full (setCellIn s c _) _ f
+step-full s (listedTemporary c stem) f = all-list-full (setCellIn s c _) _ f
 step-full s (entry m n) f = entry-full (countEntry s) m n f
 step-full s (excluded b) f = keys-full s b f
-step-full s (excludedTemporary c) f = all-keys-full (setCellIn s c _) _ f
+step-full s (excludedTemporary c stem) f = all-keys-full (setCellIn s c _) _ f
 step-full s declarator f = all-keys-full (countDeclarator s) _ f
 
 pub stays-full : (s : State) (es : List Event) → Full s → Full (steps s es)

@@ -86,7 +86,7 @@ module _ (q : Node) where
   unfolding keyMade
   made-no e = rw e refl
 
-  hands-yes : isOther (key q) ≡ true → say (lists (5 ∷ 3 ∷ []) ++ (does (listedTemporary (events.cell 4 (position q))) ∷ lists (encode (key q)))) ≡ handsKey q
+  hands-yes : isOther (key q) ≡ true → say (lists (5 ∷ 3 ∷ []) ++ (does (listedTemporary (events.cell 4 (position q)) 4) ∷ lists (encode (key q)))) ≡ handsKey q
   unfolding handsKey
   hands-yes e = rw e refl
 
@@ -117,7 +117,7 @@ module _ (t : List ℕ) (left d at k mode : ℕ) (e : d ≡ left - 1) (a : k ≡
       does-as h (ap (λ (x : ℕ). say (does (make x) ∷ [])) c ∙ made-yes n o ∙ key-1 n ∙ ap (λ (x : ℕ). keyOf x n) (sym m)))
 
   pub key-listed : {g g₁ g₂ g′ : Going} (b : Bool) (end : ℕ) → b ≡ isOther (lookNode t d k .value) → b ≡ true → (mode ≡ 3 → ⊥) → (mode ≡ 1 → ⊥) → end ≡ lookNode t d k .next
-      → Does g g₁ (say (lists (5 ∷ 3 ∷ []))) → Does g₁ g₂ (say (does (listedTemporary at) ∷ [])) → Does g₂ g′ (say (lists (part k end t)))
+      → Does g g₁ (say (lists (5 ∷ 3 ∷ []))) → Does g₁ g₂ (say (does (listedTemporary at 4) ∷ [])) → Does g₂ g′ (say (lists (part k end t)))
       → Good t left at → byteAt t at ≡ 35 → Does g g′ (keyOf mode (lookNode t left at .value))
   key-listed {g = g} {g′ = g′} b end f y m m′ w h i j good kind =
       at-level t (λ (x : ℕ). Does g g′ (keyOf mode (lookNode t x at .value))) left d at e good
@@ -127,8 +127,8 @@ module _ (t : List ℕ) (left d at k mode : ℕ) (e : d ≡ left - 1) (a : k ≡
       let c : at ≡ events.cell 4 (position n) = cell-4 at ∙ ap (events.cell 4) (sym (position-here t (suc d) at)) in
       let bytes : part k end t ≡ encode (key n) = ap (λ (x : ℕ). part k x t) w ∙ good-copied t d k (property-key t d at here kind k a .1) ∙ ap encode (property-key t d at here kind k a .0) in
       does-as (does-then h (does-then i j))
-      (three-say (lists (5 ∷ 3 ∷ [])) (does (listedTemporary at) ∷ []) (lists (part k end t))
-      ∙ ap₂ (λ (x : ℕ) (bs : List ℕ). say (lists (5 ∷ 3 ∷ []) ++ (does (listedTemporary x) ∷ lists bs))) c bytes
+      (three-say (lists (5 ∷ 3 ∷ [])) (does (listedTemporary at 4) ∷ []) (lists (part k end t))
+      ∙ ap₂ (λ (x : ℕ) (bs : List ℕ). say (lists (5 ∷ 3 ∷ []) ++ (does (listedTemporary x 4) ∷ lists bs))) c bytes
       ∙ hands-yes n o ∙ key-else n mode m m′))
 
   pub key-none : {g : Going} (b : Bool) → b ≡ isOther (lookNode t d k .value) → b ≡ false → (mode ≡ 3 → ⊥)
@@ -302,7 +302,7 @@ module _ (t : List ℕ) where
 
 module _ (root : Bool) (o : Node) where
   excludes-yes : hoists root (properties o) ≡ true
-      → say (does declarator ∷ does (excludedTemporary (events.cell 2 (position o))) ∷ excludes (32 ∷ 1 ∷ wideBytes (entries (properties o)))) ▷ inTurn (keyOf 3) (properties o) ≡ excludesOf root o
+      → say (does declarator ∷ does (excludedTemporary (events.cell 2 (position o)) 2) ∷ excludes (32 ∷ 1 ∷ wideBytes (entries (properties o)))) ▷ inTurn (keyOf 3) (properties o) ≡ excludesOf root o
   unfolding excludesOf keyOf
   excludes-yes e = rw e refl
 
@@ -325,14 +325,14 @@ module _ (t : List ℕ) (left at : ℕ) (root b : Bool) (e : b ≡ hoists root (
       (m ∙ entries-are nameless object, omega arith)
 
   pub exclude-does : {g g₁ g₂ : Going} (k x : ℕ) → b ≡ true → ((c : Context) → k ≡ limited (count (excludedKeys c object))) → (at < 16384 → 0 < 2 → 2 < 5 → x ≡ events.cell 2 at)
-      → (k < 65536 → Does g g₁ (say (does declarator ∷ does (excludedTemporary x) ∷ excludes (32 ∷ 1 ∷ wideBytes k))))
+      → (k < 65536 → Does g g₁ (say (does declarator ∷ does (excludedTemporary x 2) ∷ excludes (32 ∷ 1 ∷ wideBytes k))))
       → (Good t left at → byteAt t at ≡ 34 → Does g₁ g₂ (inTurn (keyOf 3) (properties object)))
       → Good t left at → byteAt t at ≡ 34 → Does g g₂ (excludesOf root object)
   exclude-does k x z h c f i good kind =
       let n = number-is good k h in
       let y : x ≡ events.cell 2 (position object) = c (omega (arith, good-within t left at good)) (omega arith) (omega arith) ∙ ap (events.cell 2) (sym (position-here t left at)) in
       does-as (does-then (f (n .1)) (i good kind))
-      (ap₂ (λ (a m : ℕ). say (does declarator ∷ does (excludedTemporary a) ∷ excludes (32 ∷ 1 ∷ wideBytes m)) ▷ inTurn (keyOf 3) (properties object)) y (n .0)
+      (ap₂ (λ (a m : ℕ). say (does declarator ∷ does (excludedTemporary a 2) ∷ excludes (32 ∷ 1 ∷ wideBytes m)) ▷ inTurn (keyOf 3) (properties object)) y (n .0)
       ∙ excludes-yes root object (sym e ∙ z))
 
 -- ---- an object, by the mode
@@ -370,7 +370,7 @@ module _ (o : Node) where
   unfolding placeMade
   place-made = refl
 
-  place-handed : say (lists (5 ∷ 1 ∷ []) ++ (does (listedTemporary (events.cell 1 (position o))) ∷ [])) ≡ handsPlace o
+  place-handed : say (lists (5 ∷ 1 ∷ []) ++ (does (listedTemporary (events.cell 1 (position o)) 1) ∷ [])) ≡ handsPlace o
   unfolding handsPlace
   place-handed = refl
 
@@ -396,12 +396,12 @@ module _ (t : List ℕ) (left at mode : ℕ) where
   pub object-excludes-root : {g g′ : Going} → mode ≡ 4 → Does g g′ (excludesOf true object-at) → Does g g′ (ownOf mode object-at)
   object-excludes-root e k = by-mode 4 e (does-as k (own-4 object-at))
 
-  pub object-listed : {g g₁ g′ : Going} → mode ≡ 5 → Does g g₁ (say (lists (5 ∷ 1 ∷ []))) → Does g₁ g′ (say (does (listedTemporary at) ∷ [])) → Does g g′ (ownOf mode object-at)
+  pub object-listed : {g g₁ g′ : Going} → mode ≡ 5 → Does g g₁ (say (lists (5 ∷ 1 ∷ []))) → Does g₁ g′ (say (does (listedTemporary at 1) ∷ [])) → Does g g′ (ownOf mode object-at)
   object-listed e k l =
       by-mode 5 e
       (does-as (does-then k l)
-      (say-say (lists (5 ∷ 1 ∷ [])) (does (listedTemporary at) ∷ [])
-      ∙ ap (λ (x : ℕ). say (lists (5 ∷ 1 ∷ []) ++ (does (listedTemporary x) ∷ []))) place ∙ place-handed object-at ∙ own-5 object-at))
+      (say-say (lists (5 ∷ 1 ∷ [])) (does (listedTemporary at 1) ∷ [])
+      ∙ ap (λ (x : ℕ). say (lists (5 ∷ 1 ∷ []) ++ (does (listedTemporary x 1) ∷ []))) place ∙ place-handed object-at ∙ own-5 object-at))
 
   pub object-hands : {g g′ : Going} → (mode ≡ 1 → ⊥) → (mode ≡ 2 → ⊥) → (mode ≡ 3 → ⊥) → (mode ≡ 4 → ⊥) → (mode ≡ 5 → ⊥) → Does g g′ (inTurn (keyOf 2) (properties object-at)) → Does g g′ (ownOf mode object-at)
   object-hands a b c d e k = does-as k (hands-turn object-at ∙ own-else object-at mode a b c d e)

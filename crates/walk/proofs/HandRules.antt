@@ -214,9 +214,9 @@ module _ (t : List ℕ) where
 
 module _ (p : Node) where
   top-is : (root : Bool) (m k : ℕ) → k ≡ suc (keysBelow p)
-      → say (does (entry m k) ∷ lists (5 ∷ 1 ∷ []) ++ (does (listedTemporary (events.cell 3 (position p))) ∷ [])) ▷ overRests handsKeys p ▷ overRests (excludesOf root) p ≡ handsTop root m p
+      → say (does (entry m k) ∷ lists (5 ∷ 1 ∷ []) ++ (does (listedTemporary (events.cell 3 (position p)) 3) ∷ [])) ▷ overRests handsKeys p ▷ overRests (excludesOf root) p ≡ handsTop root m p
   unfolding handsTop
-  top-is root m k e = ap (λ (x : ℕ). say (does (entry m x) ∷ lists (5 ∷ 1 ∷ []) ++ (does (listedTemporary (events.cell 3 (position p))) ∷ [])) ▷ overRests handsKeys p ▷ overRests (excludesOf root) p) e
+  top-is root m k e = ap (λ (x : ℕ). say (does (entry m x) ∷ lists (5 ∷ 1 ∷ []) ++ (does (listedTemporary (events.cell 3 (position p)) 3) ∷ [])) ▷ overRests handsKeys p ▷ overRests (excludesOf root) p) e
 
   below-is : count (gather (keyTemporaries nameless) (throughObjects p)) ≡ keysBelow p
   unfolding keysBelow
@@ -236,17 +236,17 @@ module _ (t : List ℕ) (left at : ℕ) where
 
   -- the entry, and the value's temporary
   head-does : {g g₁ g₂ g₃ : Going} (m k x : ℕ) → Good t left at → (at < 16384 → 0 < 3 → 3 < 5 → x ≡ events.cell 3 at)
-      → Does g g₁ (say (does (entry m k) ∷ [])) → Does g₁ g₂ (say (lists (5 ∷ 1 ∷ []))) → Does g₂ g₃ (say (does (listedTemporary x) ∷ []))
-      → Does g g₃ (say (does (entry m k) ∷ lists (5 ∷ 1 ∷ []) ++ (does (listedTemporary (events.cell 3 at)) ∷ [])))
+      → Does g g₁ (say (does (entry m k) ∷ [])) → Does g₁ g₂ (say (lists (5 ∷ 1 ∷ []))) → Does g₂ g₃ (say (does (listedTemporary x 3) ∷ []))
+      → Does g g₃ (say (does (entry m k) ∷ lists (5 ∷ 1 ∷ []) ++ (does (listedTemporary (events.cell 3 at) 3) ∷ [])))
   head-does m k x good f a b c =
       let y : x ≡ events.cell 3 at = f (omega (arith, good-within t left at good)) (omega arith) (omega arith) in
       does-as (does-then a (does-then b c))
-      (three-say (does (entry m k) ∷ []) (lists (5 ∷ 1 ∷ [])) (does (listedTemporary x) ∷ [])
-      ∙ ap (λ (z : ℕ). say (does (entry m k) ∷ lists (5 ∷ 1 ∷ []) ++ (does (listedTemporary z) ∷ []))) y)
+      (three-say (does (entry m k) ∷ []) (lists (5 ∷ 1 ∷ [])) (does (listedTemporary x 3) ∷ [])
+      ∙ ap (λ (z : ℕ). say (does (entry m k) ∷ lists (5 ∷ 1 ∷ []) ++ (does (listedTemporary z 3) ∷ []))) y)
 
   pub top-does : {g g₁ g₂ g₃ g₄ g₅ : Going} (root : Bool) (m n x y : ℕ) → ((c : Context) → n ≡ limited (count (gather (keyTemporaries c) (throughObjects target)))) → y ≡ cond root 4 3
       → (at < 16384 → 0 < 3 → 3 < 5 → x ≡ events.cell 3 at)
-      → Does g g₁ (say (does (entry m (1 + n)) ∷ [])) → Does g₁ g₂ (say (lists (5 ∷ 1 ∷ []))) → Does g₂ g₃ (say (does (listedTemporary x) ∷ []))
+      → Does g g₁ (say (does (entry m (1 + n)) ∷ [])) → Does g₁ g₂ (say (lists (5 ∷ 1 ∷ []))) → Does g₂ g₃ (say (does (listedTemporary x 3) ∷ []))
       → (Good t left at → Does g₃ g₄ (overAll 6 4 target)) → (Good t left at → Does g₄ g₅ (overAll y 4 target))
       → Good t left at → Does g g₅ (handsTop root m target)
   top-does root m n x y h j f a b c k l good =
@@ -257,7 +257,7 @@ module _ (t : List ℕ) (left at : ℕ) where
       does-as
       (does-then (head-does m (1 + n) x good f a b c)
       (does-then (does-as (k good) (rests-keys target)) (does-as (l good) (ap (λ (i : ℕ). overAll i 4 target) j ∙ rests-excludes target root))))
-      (ap (λ (i : ℕ). say (does (entry m (1 + n)) ∷ lists (5 ∷ 1 ∷ []) ++ (does (listedTemporary (events.cell 3 i)) ∷ [])) ▷ overRests handsKeys target ▷ overRests (excludesOf root) target) (sym (position-here t left at))
+      (ap (λ (i : ℕ). say (does (entry m (1 + n)) ∷ lists (5 ∷ 1 ∷ []) ++ (does (listedTemporary (events.cell 3 i) 3) ∷ [])) ▷ overRests handsKeys target ▷ overRests (excludesOf root) target) (sym (position-here t left at))
       ∙ top-is target root m (1 + n) v)
 
   pub nested-does : {g g₁ g₂ : Going} (m n v v′ : ℕ) → ((v ≡ 2 → ⊥) → n ≡ limited (placesIn (viewOf v) target)) → v′ ≡ cond (eqb v 3) 3 1
@@ -268,17 +268,17 @@ module _ (t : List ℕ) (left at : ℕ) where
 
   pub inner-does : {g g₁ g₂ g₃ g₄ g₅ : Going} (root : Bool) (m n x : ℕ) → ((c : Context) → n ≡ limited (count (keyTemporaries c target)))
       → (at < 16384 → 0 < 3 → 3 < 5 → x ≡ events.cell 3 at)
-      → Does g g₁ (say (does (entry m (1 + n)) ∷ [])) → Does g₁ g₂ (say (lists (5 ∷ 1 ∷ []))) → Does g₂ g₃ (say (does (listedTemporary x) ∷ []))
+      → Does g g₁ (say (does (entry m (1 + n)) ∷ [])) → Does g₁ g₂ (say (lists (5 ∷ 1 ∷ []))) → Does g₂ g₃ (say (does (listedTemporary x 3) ∷ []))
       → (Good t left at → byteAt t at ≡ 34 → Does g₃ g₄ (inTurn (keyOf 2) (properties target))) → (Good t left at → byteAt t at ≡ 34 → Does g₄ g₅ (excludesOf root target))
       → Good t left at → byteAt t at ≡ 34
-      → Does g g₅ (say (does (entry m (suc (otherKeys (properties target)))) ∷ lists (5 ∷ 1 ∷ []) ++ (does (listedTemporary (events.cell 3 at)) ∷ [])) ▷ handsKeys target ▷ excludesOf root target)
+      → Does g g₅ (say (does (entry m (suc (otherKeys (properties target)))) ∷ lists (5 ∷ 1 ∷ []) ++ (does (listedTemporary (events.cell 3 at) 3) ∷ [])) ▷ handsKeys target ▷ excludesOf root target)
   inner-does root m n x h f a b c k l good kind =
       let s = good-short t left at good in
       let z = temporaries-fit nameless target in
       let w : n ≡ otherKeys (properties target) = h nameless ∙ counted-whole (count (keyTemporaries nameless target)) 16384 (omega arith) (omega arith) ∙ keys-counted nameless target in
       let v : 1 + n ≡ suc (otherKeys (properties target)) = omega arith in
       does-as (does-then (head-does m (1 + n) x good f a b c) (does-then (does-as (k good kind) (hands-turn target)) (l good kind)))
-      (ap (λ (i : ℕ). say (does (entry m i) ∷ lists (5 ∷ 1 ∷ []) ++ (does (listedTemporary (events.cell 3 at)) ∷ [])) ▷ handsKeys target ▷ excludesOf root target) v)
+      (ap (λ (i : ℕ). say (does (entry m i) ∷ lists (5 ∷ 1 ∷ []) ++ (does (listedTemporary (events.cell 3 at) 3) ∷ [])) ▷ handsKeys target ▷ excludesOf root target) v)
 
   -- the parts of a sequence
   rests-counted : (n : ℕ) → n ≡ limited (count (throughObjects target)) → Good t left at → n ≡ restsCount target

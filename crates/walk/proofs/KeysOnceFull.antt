@@ -79,7 +79,7 @@ source-quiet tree b = go (readOf b)
   where
     go : (r : Read) → Quiet (reads tree r)
     go (Expression left at) = let bs = part at (lookNode tree left at .next) tree in record { sound = say-sounds (puts bs) (puts-silent bs); calm = λ m. silent-none (puts bs) (puts-silent bs) }
-    go (Temporary c) = record { sound = say-sounds (does (temporary c) ∷ []) tt; calm = λ m. refl }
+    go (Temporary c stem) = record { sound = say-sounds (does (temporary c stem) ∷ []) tt; calm = λ m. refl }
 
 -- an object pattern of input
 pub record Object (p : Node) : Type 0 where

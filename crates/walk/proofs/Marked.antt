@@ -69,28 +69,28 @@ pub step-mark : (s : State) (e : Event) → markIn (step s e) ≡ later (markIn 
 unfolding step counted useHelper nextMark setCellIn countEntry countDeclarator
 step-mark s (put b) = tree-mark s b
 step-mark s (helper h) = all-tree-mark (useHelper s h) _
-step-mark s (temporary c) = all-tree-mark (settle s c) _ ∙ settle-mark s c
+step-mark s (temporary c stem) = all-tree-mark (settle s c) _ ∙ settle-mark s c
 step-mark s newMark = all-tree-mark (nextMark s) _ ∙ more-mark (markIn s)
 step-mark s (make c) = refl
 step-mark s (listed b) = list-mark s b
-step-mark s (listedTemporary c) = all-list-mark (setCellIn s c _) _
+step-mark s (listedTemporary c stem) = all-list-mark (setCellIn s c _) _
 step-mark s (entry m n) = entry-mark (countEntry s) m n
 step-mark s (excluded b) = keys-mark s b
-step-mark s (excludedTemporary c) = all-keys-mark (setCellIn s c _) _
+step-mark s (excludedTemporary c stem) = all-keys-mark (setCellIn s c _) _
 step-mark s declarator = all-keys-mark (countDeclarator s) _
 
 counted-more : (e : Event) (n : ℕ) → counted e 0 + n ≡ counted e n
 unfolding counted
 counted-more (put b) n = omega arith
 counted-more (helper h) n = omega arith
-counted-more (temporary c) n = omega arith
+counted-more (temporary c stem) n = omega arith
 counted-more newMark n = omega arith
 counted-more (make c) n = omega arith
 counted-more (listed b) n = omega arith
-counted-more (listedTemporary c) n = omega arith
+counted-more (listedTemporary c stem) n = omega arith
 counted-more (entry m k) n = omega arith
 counted-more (excluded b) n = omega arith
-counted-more (excludedTemporary c) n = omega arith
+counted-more (excludedTemporary c stem) n = omega arith
 counted-more declarator n = omega arith
 
 pub mark-after : (s : State) (ds : List Deed) → markIn (steps s (eventsIn ds)) ≡ after (markIn s) ds

@@ -90,7 +90,7 @@ hands-met r m note =
 written-met : (r at k : ℕ) (fs : WalkedFields) (ds es : List Deed) → met r ds ≡ met r es → met r (written at k fs ds) ≡ met r (written at k fs es)
 unfolding written
 written-met r at k fs ds es h =
-    let p = does (Event.temporary (cell (numberIn fs) at)) ∷ [] in
+    let p = does (Event.temporary (cell (numberIn fs) at) (numberIn fs)) ∷ [] in
     let q = does (Event.helper (numberIn fs)) ∷ [] in
     let b = puts (k ∷ mapIn fs ∷ []) in
     let below : met r (b ++ ds) ≡ met r (b ++ es) =

@@ -125,10 +125,10 @@ module _ (t : List ℕ) (s s₁ s₂ s₃ s₄ : State) (r at n q : ℕ) (small 
       (ap (λ (bs : List ℕ). say (excludes bs)) (sym (string-is t at n fits)))
 
 -- the declarator of excluded keys, up to the array's count
-pub by-excluded-head : (s s₁ s₂ s₃ s₄ : State) (r c n : ℕ) → n < 65536 → s₁ ≡ step s declarator → s₂ ≡ step s₁ (excludedTemporary c) → s₃ ≡ steps s₂ (machine.excludes (32 ∷ 1 ∷ []))
+pub by-excluded-head : (s s₁ s₂ s₃ s₄ : State) (r c n : ℕ) → n < 65536 → s₁ ≡ step s declarator → s₂ ≡ step s₁ (excludedTemporary c 2) → s₃ ≡ steps s₂ (machine.excludes (32 ∷ 1 ∷ []))
     → s₄ ≡ steps s₃ (machine.excludes (low n ∷ high n ∷ []))
-    → Does (record { state = s; refusal = r }) (record { state = s₄; refusal = r }) (say (does declarator ∷ does (excludedTemporary c) ∷ excludes (32 ∷ 1 ∷ wideBytes n)))
+    → Does (record { state = s; refusal = r }) (record { state = s₄; refusal = r }) (say (does declarator ∷ does (excludedTemporary c 2) ∷ excludes (32 ∷ 1 ∷ wideBytes n)))
 by-excluded-head s s₁ s₂ s₃ s₄ r c n h a b d e =
-    say-then (does declarator ∷ []) (does (excludedTemporary c) ∷ excludes (32 ∷ 1 ∷ wideBytes n)) (by-event s s₁ r declarator a)
-    (say-then (does (excludedTemporary c) ∷ []) (excludes (32 ∷ 1 ∷ wideBytes n)) (by-event s₁ s₂ r (excludedTemporary c) b)
+    say-then (does declarator ∷ []) (does (excludedTemporary c 2) ∷ excludes (32 ∷ 1 ∷ wideBytes n)) (by-event s s₁ r declarator a)
+    (say-then (does (excludedTemporary c 2) ∷ []) (excludes (32 ∷ 1 ∷ wideBytes n)) (by-event s₁ s₂ r (excludedTemporary c 2) b)
     (say-then (excludes (32 ∷ 1 ∷ [])) (excludes (wideBytes n)) (by-excludes s₂ s₃ r (32 ∷ 1 ∷ []) d) (by-excluded-wide s₃ s₄ r n h e)))

@@ -75,9 +75,9 @@ hole-passed m a b e = rw (ne-eqb m 1 a, ne-eqb m 16 b) (does-same e)
 
 -- ---- sources
 
-pub cell-read : (t : List ℕ) (left at cell : ℕ) → sourceOf t (record { left = left; at = at; cell = cell; wanted = true; fresh = false }) ≡ say (does (temporary cell) ∷ [])
+pub cell-read : (t : List ℕ) (left at cell stem : ℕ) → sourceOf t (record { left = left; at = at; cell = cell; stem = stem; wanted = true; fresh = false }) ≡ say (does (temporary cell stem) ∷ [])
 unfolding reads readOf
-cell-read t left at cell = refl
+cell-read t left at cell stem = refl
 
 pub source-copied : {g h h′ g′ : Going} (t : List ℕ) (b : ReferenceBuilder) (r : Read) (left p q x : ℕ) → r ≡ readOf b → r ≡ Expression left p → h ≡ g → x ≡ p → q ≡ lookNode t left p .next
     → Does h h′ (say (puts (part x q t))) → g′ ≡ h′ → Does g g′ (sourceOf t b)
@@ -86,9 +86,9 @@ source-copied t b r left p q x a e i f w d j =
     does-as (does-between i j d)
     (ap (λ (y : ℕ). say (puts (part y q t))) f ∙ ap (λ (y : ℕ). say (puts (part p y t))) w ∙ ap (reads t) (sym e ∙ a))
 
-pub source-written : {g g′ : Going} (t : List ℕ) (b : ReferenceBuilder) (r : Read) (cell : ℕ) → r ≡ readOf b → r ≡ Temporary cell → Does g g′ (say (does (temporary cell) ∷ [])) → Does g g′ (sourceOf t b)
+pub source-written : {g g′ : Going} (t : List ℕ) (b : ReferenceBuilder) (r : Read) (cell stem : ℕ) → r ≡ readOf b → r ≡ Temporary cell stem → Does g g′ (say (does (temporary cell stem) ∷ [])) → Does g g′ (sourceOf t b)
 unfolding reads
-source-written t b r cell a e d = does-as d (ap (reads t) (sym e ∙ a))
+source-written t b r cell stem a e d = does-as d (ap (reads t) (sym e ∙ a))
 
 -- ---- a loop that awaits
 

@@ -64,13 +64,13 @@ values-view v w e = ap viewOf e ∙ go (eqb v 3) ∙ sym (values-of v)
 
 -- ---- cells
 
-cell-1 : (at : ℕ) → say (does (temporary at) ∷ []) ≡ saysCell 1 at
+cell-1 : (at : ℕ) → say (does (temporary at 1) ∷ []) ≡ saysCell 1 at
 unfolding saysCell cell
-cell-1 at = let e : at ≡ at + 0 = omega arith in ap (λ (x : ℕ). say (does (temporary x) ∷ [])) e
+cell-1 at = let e : at ≡ at + 0 = omega arith in ap (λ (x : ℕ). say (does (temporary x 1) ∷ [])) e
 
-pub cell-4 : (at : ℕ) → say (does (temporary at) ∷ []) ≡ saysCell 4 at
+pub cell-4 : (at : ℕ) → say (does (temporary at 4) ∷ []) ≡ saysCell 4 at
 unfolding saysCell cell
-cell-4 at = let e : at ≡ at + 0 = omega arith in ap (λ (x : ℕ). say (does (temporary x) ∷ [])) e
+cell-4 at = let e : at ≡ at + 0 = omega arith in ap (λ (x : ℕ). say (does (temporary x 4) ∷ [])) e
 
 -- ---- the same of what is equal
 
@@ -117,7 +117,7 @@ module _ (t : List ℕ) where
 
   -- one with rest, replaced
   pub object-replaced : {g g₁ g₂ : Going} (c : Place) (d at s z v : ℕ) (b f : Bool) → b ≡ eqb (byteAt t (onward t at 1) / 2 % 2) 1 → b ≡ true → f ≡ not (takes (viewOf v)) → f ≡ true
-      → s ≡ lookNode t d at .next → z ≡ s → g₂ ≡ g₁ → Does g g₁ (say (does (temporary at) ∷ []))
+      → s ≡ lookNode t d at .next → z ≡ s → g₂ ≡ g₁ → Does g g₁ (say (does (temporary at 1) ∷ []))
       → byteAt t at ≡ 34 → Emitted t d at z g g₂ (emitsView c (viewOf v))
   object-replaced c zero at s z v b f e h i j k l m a e34 good = no-good t at good
   object-replaced c (suc d) at s z v b f e h i j k l m a e34 good =
@@ -292,7 +292,7 @@ module _ (t : List ℕ) where
 
   -- a temporary
   pub key-cell : {g g₁ g₂ : Going} (c : Place) (d at p s z : ℕ) (taken b : Bool) → taken ≡ true → b ≡ isOther (lookNode t d at .value) → b ≡ true
-      → s ≡ lookNode t d at .next → z ≡ s → g₂ ≡ g₁ → Does g g₁ (say (does (temporary p) ∷ []))
+      → s ≡ lookNode t d at .next → z ≡ s → g₂ ≡ g₁ → Does g g₁ (say (does (temporary p 4) ∷ []))
       → Emitted t d at z g g₂ (emitsKey c taken p)
   unfolding emitsKey
   key-cell c d at p s z taken b et eb h es ez eg a good =

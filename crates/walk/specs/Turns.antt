@@ -99,7 +99,7 @@ AllSuit mode ns = AllItems (λ n. suits mode n ≡ true) ns
 -- ---- sources: an expression is copied, a temporary is written
 unfoldable pub reads : List ℕ → Read → Emit
 reads tree (Expression left at) = say (puts (part at (lookNode tree left at .next) tree))
-reads tree (Temporary c) = say (does (temporary c) ∷ [])
+reads tree (Temporary c stem) = say (does (temporary c stem) ∷ [])
 
 abbrev pub sourceOf : List ℕ → ReferenceBuilder → Emit
 sourceOf tree b = reads tree (readOf b)
@@ -144,9 +144,9 @@ movesOf false n = movedFrom n
 abbrev pub AllBind : Bool → Items → Type 0
 AllBind arrays ns = arrays ≡ false → AllSuit 11 ns
 
--- what is assigned: the expression at x, or the temporary of the cell x
-unfoldable pub givenDeeds : List ℕ → ℕ → Place → Bool → ℕ → Emit
-givenDeeds tree d c input x = cond input (emits c (lookNode tree d x .value)) (say (does (temporary x) ∷ []))
+-- what is assigned: the expression at x, or the temporary of the cell x with its stem
+unfoldable pub givenDeeds : List ℕ → ℕ → Place → Bool → ℕ → ℕ → Emit
+givenDeeds tree d c input stem x = cond input (emits c (lookNode tree d x .value)) (say (does (temporary x stem) ∷ []))
 
 abbrev pub givenNode : List ℕ → ℕ → Bool → ℕ → Node
 givenNode tree d input x = cond input (lookNode tree d x .value) (made.temporary [] 1 x)

@@ -272,7 +272,7 @@ fn object(
         2 => each_key(w, t, list, work, left, at, 1),
         3 => exclude(w, t, list, work, left, at, false),
         4 => exclude(w, t, list, work, left, at, true),
-        5 => w.listed2(list, 5, 1).listed_temporary(list, work, at),
+        5 => w.listed2(list, 5, 1).listed_temporary(list, work, at, 1),
         _ => each_key(w, t, list, work, left, at, 2),
     }
 }
@@ -346,7 +346,7 @@ fn one_key(
             return w.make(work, at);
         }
         return w.listed2(list, 5, 3)
-            .listed_temporary(list, work, at)
+            .listed_temporary(list, work, at, 4)
             .listed_copy(list, t, k, skip(t, below, k));
     }
     w
@@ -572,7 +572,7 @@ pub fn top_hands(
     let n = temporaries_through_objects(t, left, at);
     let u = w.entry(list, mark, 1 + n)
         .listed2(list, 5, 1)
-        .listed_temporary(list, work, cell(3, at));
+        .listed_temporary(list, work, cell(3, at), 3);
     let u = over(u, t, list, work, left, at, 4, 6);
     over(u, t, list, work, left, at, 4, exclude_mode(root))
 }
@@ -614,12 +614,12 @@ pub fn inner_hands(
     root: bool,
     mark: usize,
 ) -> Walk
-    ensures { λ r. ⌜ (r .at ≡ w .at) × ((o : List ℕ) → Good (now (t .entry)) left at → byteAt (now (t .entry)) at ≡ 34 → Does (goingOf o (now (list .entry)) (now (work .entry)) w) (goingOf o (now (list .exit)) (now (work .exit)) r) (say (does (entry mark (suc (otherKeys (properties (lookNode (now (t .entry)) left at .value))))) ∷ lists (5 ∷ 1 ∷ []) ++ (does (listedTemporary (events.cell 3 at)) ∷ [])) ▷ handsKeys (lookNode (now (t .entry)) left at .value) ▷ excludesOf root (lookNode (now (t .entry)) left at .value))) ⌝ }
+    ensures { λ r. ⌜ (r .at ≡ w .at) × ((o : List ℕ) → Good (now (t .entry)) left at → byteAt (now (t .entry)) at ≡ 34 → Does (goingOf o (now (list .entry)) (now (work .entry)) w) (goingOf o (now (list .exit)) (now (work .exit)) r) (say (does (entry mark (suc (otherKeys (properties (lookNode (now (t .entry)) left at .value))))) ∷ lists (5 ∷ 1 ∷ []) ++ (does (listedTemporary (events.cell 3 at) 3) ∷ [])) ▷ handsKeys (lookNode (now (t .entry)) left at .value) ▷ excludesOf root (lookNode (now (t .entry)) left at .value))) ⌝ }
 {
     let n = key_temporaries(t, left, at);
     let u = w.entry(list, mark, 1 + n)
         .listed2(list, 5, 1)
-        .listed_temporary(list, work, cell(3, at));
+        .listed_temporary(list, work, cell(3, at), 3);
     let u = each_key(u, t, list, work, left, at, 2);
     exclude(u, t, list, work, left, at, root)
 }

@@ -36,13 +36,14 @@ pub fn hole(w: Walk, t: &[u8], out: &mut [u8], mode: usize) -> Walk
 }
 
 // A source that is a temporary.
-pub fn cell_source(cell: usize) -> ReferenceBuilder
-    ensures { λ r. ⌜ ((t : List ℕ) → sourceOf t r ≡ say (does (temporary cell) ∷ [])) ⌝ }
+pub fn cell_source(cell: usize, stem: u8) -> ReferenceBuilder
+    ensures { λ r. ⌜ ((t : List ℕ) → sourceOf t r ≡ say (does (temporary cell stem) ∷ [])) ⌝ }
 {
     ReferenceBuilder {
         left: 0,
         at: 0,
         cell: cell,
+        stem: stem,
         wanted: true,
         fresh: false,
     }
@@ -64,7 +65,7 @@ pub fn source(
     let read = taken.read;
     match read {
         Read::Expression { left, at: p } => w.to(p).copy(t, out, skip(t, left, p)).to(at),
-        Read::Temporary(cell) => w.temporary(out, list, work, cell),
+        Read::Temporary { cell, stem } => w.temporary(out, list, work, cell, stem),
     }
 }
 

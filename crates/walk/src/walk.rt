@@ -106,13 +106,13 @@ impl Walk {
         }
     }
 
-    // The node of the temporary that a cell stands for.
-    pub fn temporary(self, out: &mut [u8], list: &mut [u8], work: &mut [u8], c: usize) -> Walk
-        ensures { λ r. ⌜ Does (goingOf (now (out .entry)) (now (list .entry)) (now (work .entry)) self) (goingOf (now (out .exit)) (now (list .exit)) (now (work .exit)) r) (say (does (temporary c) ∷ [])) × (r .at ≡ self .at) ⌝ }
+    // The node of the temporary that a cell stands for, with its stem.
+    pub fn temporary(self, out: &mut [u8], list: &mut [u8], work: &mut [u8], c: usize, stem: u8) -> Walk
+        ensures { λ r. ⌜ Does (goingOf (now (out .entry)) (now (list .entry)) (now (work .entry)) self) (goingOf (now (out .exit)) (now (list .exit)) (now (work .exit)) r) (say (does (temporary c stem) ∷ [])) × (r .at ≡ self .at) ⌝ }
     {
         let k = self.sink;
         Walk {
-            sink: k.temporary(out, list, work, c),
+            sink: k.temporary(out, list, work, c, stem),
             at: self.at,
             refusal: self.refusal,
         }
@@ -271,12 +271,12 @@ impl Walk {
         }
     }
 
-    pub fn listed_temporary(self, list: &mut [u8], work: &mut [u8], c: usize) -> Walk
-        ensures { λ r. ⌜ ((o : List ℕ) → Does (goingOf o (now (list .entry)) (now (work .entry)) self) (goingOf o (now (list .exit)) (now (work .exit)) r) (say (does (listedTemporary c) ∷ []))) × (r .at ≡ self .at) ⌝ }
+    pub fn listed_temporary(self, list: &mut [u8], work: &mut [u8], c: usize, stem: u8) -> Walk
+        ensures { λ r. ⌜ ((o : List ℕ) → Does (goingOf o (now (list .entry)) (now (work .entry)) self) (goingOf o (now (list .exit)) (now (work .exit)) r) (say (does (listedTemporary c stem) ∷ []))) × (r .at ≡ self .at) ⌝ }
     {
         let k = self.sink;
         Walk {
-            sink: k.listed_temporary(list, work, c),
+            sink: k.listed_temporary(list, work, c, stem),
             at: self.at,
             refusal: self.refusal,
         }
@@ -306,12 +306,12 @@ impl Walk {
 
     // The declarator of excluded keys: its temporary, and the head of an array of n.
     pub fn excluded_head(self, work: &mut [u8], c: usize, n: usize) -> Walk
-        ensures { λ r. ⌜ ((o l : List ℕ) → n < 65536 → Does (goingOf o l (now (work .entry)) self) (goingOf o l (now (work .exit)) r) (say (does declarator ∷ does (excludedTemporary c) ∷ excludes (32 ∷ 1 ∷ wideBytes n)))) × (r .at ≡ self .at) ⌝ }
+        ensures { λ r. ⌜ ((o l : List ℕ) → n < 65536 → Does (goingOf o l (now (work .entry)) self) (goingOf o l (now (work .exit)) r) (say (does declarator ∷ does (excludedTemporary c 2) ∷ excludes (32 ∷ 1 ∷ wideBytes n)))) × (r .at ≡ self .at) ⌝ }
     {
         let k = self.sink;
         Walk {
             sink: k.declarator(work)
-                .excluded_temporary(work, c)
+                .excluded_temporary(work, c, 2)
                 .excluded2(work, 32, 1)
                 .excluded_wide(work, n),
             at: self.at,

@@ -182,9 +182,12 @@ fn join(declarators: Declarators) -> String {
     shown.join(", ")
 }
 
-/// `$1`, or `$2 = Call of 11 bytes`, or `$3 = ["a", "b"]`.
+/// `$value1`, or `$key2 = Call of 11 bytes`, or `$excluded3 = ["a", "b"]`.
 fn show(declarator: Declarator) -> String {
-    let name = declarator.temporary().map_or("?".into(), |number| format!("${number}"));
+    let name = match (declarator.stem(), declarator.temporary()) {
+        (Some(stem), Some(number)) => format!("${stem}{number}"),
+        _ => "?".into(),
+    };
     match declarator.value() {
         None => name,
         Some(value) => format!("{name} = {}", keys(value).unwrap_or_else(|| some(value))),
