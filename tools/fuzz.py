@@ -4,6 +4,8 @@
     tools/fuzz.py [--count N] [--seed N] [--binary FILE]
     tools/fuzz.py --grid [--binary FILE]               on the trees of grid.py, which try each rule of the grammar
     tools/fuzz.py --vectors FOLDER [--binary FILE]     on all cases of the vector files in FOLDER, of reading and of lowering
+    tools/fuzz.py --rewritten [--count N] [--seed N] [--binary FILE]
+                                                       holds the program rewrittencheck to read.py on rewritten trees
 
 The cases go to the program in batches, with the answers of read.py as the expected ones (for the lowering, those of the
 files). Each made tree has a depth limit of its own: 64, the highest, or another. Prints each difference with its tree, then the counts. The status is 1 where anything differs.
@@ -14,6 +16,7 @@ import itertools
 import os
 import random
 import re
+import resource
 import subprocess
 import sys
 
@@ -48,6 +51,8 @@ class Maker:
     """Writes a tree. `size` bounds its nodes roughly; `goal` is the depth that one path of it reaches; `wrong_at` is the
     number of the node, `wrong_below` the depth, where one mistake is made."""
 
+    places, fields, kinds = read.PLACES, read.FIELDS, read.KIND
+
     def __init__(self, rnd, size, goal=0, wrong_at=NEVER, wrong_below=NEVER):
         self.rnd, self.size, self.goal = rnd, size, goal
         self.wrong_at, self.wrong_below = wrong_at, wrong_below
@@ -64,12 +69,12 @@ class Maker:
         return self.rnd.choice(MISTAKES)
 
     def choose(self, place, goes_down):
-        forms = read.PLACES[place].split()
+        forms = self.places[place].split()
         if goes_down:
             forms = [form for form in forms if form in DEEP_FORMS]
         elif self.nodes > self.size:
-            least = min(HEIGHT[form] for form in forms)
-            forms = [form for form in forms if HEIGHT[form] == least]
+            least = min(HEIGHT.get(form, 1) for form in forms)
+            forms = [form for form in forms if HEIGHT.get(form, 1) == least]
         return self.rnd.choice(forms)
 
     def node(self, place, depth=1, on_path=True):
@@ -81,8 +86,8 @@ class Maker:
         if wrong == "made":
             self.out += self.rnd.choice([bytes([20, 3, 1, 0, 3]), bytes([21, 1, 1])])
             return
-        form = self.rnd.choice(list(read.FIELDS)) if wrong == "form" else self.choose(place, goes_down)
-        fields = read.FIELDS[form]
+        form = self.rnd.choice(list(self.fields)) if wrong == "form" else self.choose(place, goes_down)
+        fields = self.fields[form]
         down = None
         if goes_down and form in DEEP_FORMS:
             down = self.rnd.choice([field for field in fields if goes_deep(field, DEEP_PLACES)])
@@ -93,7 +98,7 @@ class Maker:
         bits = sum(1 << i for i, is_there in enumerate(stand) if is_there)
         if wrong == "extra":
             bits |= 1 << self.rnd.randrange(8)
-        self.out += bytes([read.KIND[form], bits])
+        self.out += bytes([self.kinds[form], bits])
         for field, is_there in zip(fields, stand):
             if is_there:
                 self.field(field, depth, field is down, wrong)
@@ -168,6 +173,82 @@ def long(rnd, is_wrong, limit):
         maker.out += bytes([12, 7]) + cases.wide(maker.mark) + cases.wide(len(name)) + name + cases.wide(0)
     maker.out[2:4] = cases.wide(count)
     return bytes(maker.out)
+
+
+class RewrittenMaker(Maker):
+    """Writes a rewritten tree: with Temporaries and Helpers, marks in any order. A wrong mark is one that stands already."""
+
+    places, fields, kinds = read.REWRITTEN_PLACES, read.REWRITTEN_FIELDS, read.REWRITTEN_KIND
+
+    def __init__(self, *given, **named):
+        super().__init__(*given, **named)
+        self.marks = self.rnd.sample(range(65536), 4000)
+        self.used = []
+
+    def field(self, field, depth, on_path, wrong):
+        if field.sort != "mark":
+            super().field(field, depth, on_path, wrong)
+            return
+        again = wrong == "mark" and self.used
+        self.used.append(self.rnd.choice(self.used) if again else self.marks.pop())
+        self.put(self.used[-1])
+
+
+def any_depth(rnd, is_wrong):
+    """A tree of some size and a depth up to 200: Maker goes down by calls."""
+    size, goal = rnd.choice([3, 10, 40, 150]), rnd.choice([0, 0, 20, 200])
+    maker = RewrittenMaker(rnd, size, goal, wrong_at=rnd.randint(1, size) if is_wrong else NEVER)
+    maker.node("program")
+    return bytes(maker.out)
+
+
+def around(rnd, levels, wrong):
+    """A statement of so many levels of nodes in each other, of one kind or mixed, and a name; one byte of it changed."""
+    starts = [bytes([31, 1]), bytes([32, 1, 1, 0]), bytes([28, 1, 1, 0]), bytes([33, 3, 0, 0, 1, 0])]
+    ways = starts if rnd.random() < 0.3 else [rnd.choice(starts)]
+    tree = bytearray([1, 1, 1, 0, 3, 3, 1, 0])
+    for _ in range(levels):
+        tree += rnd.choice(ways)
+    tree += bytes([18, 1, 1, 0, 97])
+    if wrong:
+        tree[rnd.randrange(len(tree))] = rnd.randrange(256)
+    return bytes(tree)
+
+
+def rewritten_trees(rnd, count):
+    """So many trees, whole, wrong and damaged, some of them deeper than input may be; and the deepest that there is."""
+    yield bytes.fromhex("0101010003030100") + bytes.fromhex("1f01") * 16377 + bytes.fromhex("120102006161")
+    for _ in range(count - 1):
+        way = rnd.randrange(3)
+        if rnd.random() < 0.02:
+            yield around(rnd, rnd.choice([130, 3000, 5460, 8189, rnd.randrange(16400)]), way)
+            continue
+        tree = any_depth(rnd, way == 1)
+        yield damaged(rnd, tree) if way == 2 else tree
+
+
+def small_stack():
+    """No depth may take the machine's stack by the level: 512 KB are enough for every tree."""
+    resource.setrlimit(resource.RLIMIT_STACK, (512 * 1024, 512 * 1024))
+
+
+def replay_rewritten(binary, source):
+    """Runs the program on each tree, with a stack of 512 KB. Prints the differences; returns how many there are."""
+    expected, different = collections.Counter(), 0
+    for tree in source:
+        number = read.answer_rewritten(tree)
+        expected[number] += 1
+        try:
+            done = subprocess.run([binary], input=tree, stdout=subprocess.PIPE, check=True, preexec_fn=small_stack)
+            wrote = done.stdout.decode()
+        except OSError as error:
+            sys.exit(f"{binary}: {error.strerror} (`rt check rewrittencheck` builds target/bin/rewrittencheck)")
+        if wrote != f"{number}\n":
+            different += 1
+            print(f"expected {number}, found {wrote.strip()}: {tree.hex()}")
+    print(f"expected: accepted {expected[0]}, refused 3: {expected[3]}")
+    print(f"{sum(expected.values())} cases, {different} different")
+    return different
 
 
 def damaged(rnd, tree):
@@ -249,10 +330,15 @@ def main():
     words = argparse.ArgumentParser(description=__doc__.splitlines()[0])
     words.add_argument("--count", type=int, default=10000)
     words.add_argument("--seed", type=int, default=1)
-    words.add_argument("--binary", default=os.path.join(cases.ROOT, "target", "bin", "vectors"))
+    words.add_argument("--binary")
     words.add_argument("--grid", action="store_true")
     words.add_argument("--vectors")
+    words.add_argument("--rewritten", action="store_true")
     given = words.parse_args()
+    program = "rewrittencheck" if given.rewritten else "vectors"
+    given.binary = given.binary or os.path.join(cases.ROOT, "target", "bin", program)
+    if given.rewritten:
+        sys.exit(1 if replay_rewritten(given.binary, rewritten_trees(random.Random(given.seed), given.count)) else 0)
     if given.vectors:
         if not os.path.isdir(given.vectors):
             sys.exit(f"{given.vectors}: no such folder")

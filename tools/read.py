@@ -2,12 +2,15 @@
 """Reads tree bytes: document 01, 'Tree bytes', with request 1, in Python. It shares nothing with the crates, which are held to it.
 
     answer(tree, limit) -> (0, next mark), (3, 0) or (4, 0)
+    answer_rewritten(tree) -> 0 or 3, for a rewritten tree (request 7)
 
-As a program it prints for a tree on standard input what the program treecheck prints.
+As a program it prints for a tree on standard input what the program treecheck prints; with --rewritten, what
+rewrittencheck prints.
 """
 import sys
 
 LONGEST = 16384
+LONGEST_REWRITTEN = 32768
 # The highest limit, and that of a caller who names none.
 DEEPEST = 128
 
@@ -67,6 +70,12 @@ Switch              43  # expression case*
 Case                44  expression? statement*
 """
 
+# What lowering makes; input has neither.
+MADE_FORMS = """
+Temporary           20  + =1-4
+Helper              21  =1-5
+"""
+
 STATEMENT = "Block ExpressionStatement Declaration For ForIn ForOf Try Return OtherStatement Empty Switch "
 EXPRESSION = (
     "Arrow Reference Literal Template Object Assignment Sequence Call Member Parenthesised Array OtherExpression Class "
@@ -106,6 +115,20 @@ PLACES = {
 }
 
 
+def with_made(forms):
+    """The forms of a place in a rewritten tree: Temporaries too where there are names, Helpers where every expression
+    may stand."""
+    here = set(forms.split())
+    if here & {"Reference", "Binding"}:
+        forms += " Temporary"
+    if here >= set(EXPRESSION.split()):
+        forms += " Helper"
+    return forms
+
+
+REWRITTEN_PLACES = {place: with_made(forms) for place, forms in PLACES.items()}
+
+
 class Field:
     """A field of a form: its sort, whether it may be absent, and the places or bounds that its sort needs."""
 
@@ -128,16 +151,21 @@ class Field:
             self.place = text
 
 
-def read_forms():
-    lines = [line.split() for line in FORMS.strip().splitlines()]
+def read_forms(text):
+    lines = [line.split() for line in text.splitlines() if line]
     kinds = {name: int(kind) for name, kind, *_ in lines}
     fields = {name: [Field(f) for f in rest] for name, _, *rest in lines}
     return kinds, fields
 
 
 # KIND and FIELDS by a form's name; FORM_AT by a place, then a kind byte.
-KIND, FIELDS = read_forms()
+KIND, FIELDS = read_forms(FORMS)
 FORM_AT = {place: {KIND[form]: form for form in forms.split()} for place, forms in PLACES.items()}
+# The same of rewritten trees.
+REWRITTEN_KIND, REWRITTEN_FIELDS = read_forms(FORMS + MADE_FORMS)
+REWRITTEN_FORM_AT = {
+    place: {REWRITTEN_KIND[form]: form for form in forms.split()} for place, forms in REWRITTEN_PLACES.items()
+}
 
 
 class Refusal(Exception):
@@ -200,6 +228,65 @@ class Reader:
             self.number()
 
 
+class RewrittenReader(Reader):
+    """Reads a rewritten tree. Each open node is a generator on a list, which yields the place of each node below it: no
+    depth is too much for Python."""
+
+    def __init__(self, tree):
+        super().__init__(tree, None)
+        self.marks = set()
+
+    def tree_of(self, place):
+        open_nodes = [self.below(place)]
+        while open_nodes:
+            inner = next(open_nodes[-1], None)
+            if inner is None:
+                open_nodes.pop()
+            else:
+                open_nodes.append(self.below(inner))
+
+    def below(self, place):
+        form = REWRITTEN_FORM_AT[place].get(self.byte())
+        if form is None:
+            raise Refusal(3)
+        fields, bits = REWRITTEN_FIELDS[form], self.byte()
+        must = sum(1 << i for i, field in enumerate(fields) if not field.optional)
+        if bits & must != must or bits >> len(fields):
+            raise Refusal(3)
+        for i, field in enumerate(fields):
+            if not bits >> i & 1:
+                continue
+            if field.sort == "node":
+                yield field.place
+            elif field.sort == "chosen":
+                yield field.places[0 if self.tree[self.at - 1] == 1 else 1]
+            elif field.sort == "list":
+                for _ in range(self.number()):
+                    if field.holes and self.tree[self.at : self.at + 1] == b"\0":
+                        self.at += 1
+                    else:
+                        yield field.place
+            elif field.sort == "mark":
+                mark = self.number()
+                if mark in self.marks:
+                    raise Refusal(3)
+                self.marks.add(mark)
+            else:
+                self.field(field, 0)
+
+
+def answer_rewritten(tree):
+    """0 for a rewritten tree, else 3."""
+    if len(tree) > LONGEST_REWRITTEN:
+        return 3
+    reader = RewrittenReader(bytes(tree))
+    try:
+        reader.tree_of("program")
+    except Refusal:
+        return 3
+    return 0 if reader.at == len(tree) else 3
+
+
 def answer(tree, deepest=DEEPEST):
     """(0, next mark) for a tree, (number, 0) for what is refused."""
     if len(tree) > LONGEST:
@@ -216,5 +303,8 @@ def answer(tree, deepest=DEEPEST):
 
 if __name__ == "__main__":
     given = sys.stdin.buffer.read()
+    if sys.argv[1:] == ["--rewritten"]:
+        print(answer_rewritten(given))
+        sys.exit()
     number, mark = answer(given)
     print(f"0 {len(given)} {mark}" if number == 0 else number)

@@ -1,0 +1,99 @@
+-- The fields of a node that are still to come, as one number.
+-- Assumes nothing.
+use mathlib.Core.Path.{_≡_, refl, sym, ap, _∙_}
+use mathlib.Core.Bool.{Bool, true, false}
+use mathlib.Core.List.{List, [], _∷_}
+use Prim.Native.Nat.{ℕ, zero, suc, _+_, _-_, _*_, _/_, _%_, _^_, _<_, _≤_}
+use native.Mathlib.Nat.{pow-suc}
+use native.Mathlib.Omega.{arith}
+use native.Mathlib.Decide.{decLt}
+use lib.Dec.{leb, leb→le}
+use lib.ListN.{length}
+use borrow.Author.Tests.{eq-eqb, ne-eqb}
+use Rattle.tree.specs.Grammar.{Sort, Field, kinds, variants, fieldsOf}
+use Rattle.tree.specs.Rows.{sortOf, fieldOf, unpacked, fieldsIn}
+use Rattle.tree.specs.Read.{sortIn}
+use Rattle.tree.proofs.Rows.{row-done, row-first, first-sort}
+use Rattle.tree.proofs.Within.{at-form, all-lists}
+use Rattle.rewritten.specs.Pending.{byBit, standing, sorts}
+use Rattle.rewritten.specs.Steps.{Planned}
+
+pub sorts-none : (v : ℕ) → v ≡ 0 → sorts (fieldsIn v) ≡ []
+unfolding sorts
+sorts-none v e = rw (row-done v e)
+
+pub sorts-first : (v : ℕ) → 0 < v → sorts (fieldsIn v) ≡ sortOf (v % 512) ∷ sorts (fieldsIn (v / 1024))
+unfolding sorts
+sorts-first v h = rw (row-first v h) (ap (λ (s : Sort). s ∷ sorts (fieldsIn (v / 1024))) (first-sort v))
+
+standing-none : (v m : ℕ) → v ≡ 0 → standing (fieldsIn v) m ≡ []
+unfolding standing
+standing-none v m e = rw (row-done v e)
+
+standing-first : (v m : ℕ) → 0 < v → standing (fieldsIn v) m ≡ byBit (m % 2) (sortOf (v % 512)) (standing (fieldsIn (v / 1024)) (m / 2))
+unfolding standing
+standing-first v m h = rw (row-first v h) (ap (λ (s : Sort). byBit (m % 2) s (standing (fieldsIn (v / 1024)) (m / 2))) (first-sort v))
+
+module _ (row map : ℕ) where
+  pub plan-none : row ≡ 0 → Planned row map 0
+  plan-none z = record { less = λ n h. omega arith; is = λ h. sorts-none 0 refl ∙ sym (standing-none row map z) }
+
+  module _ (some : row ≡ 0 → ⊥) (rest : ℕ) (p : Planned (row / 1024) (map / 2) rest) where
+    pub plan-absent : map % 2 ≡ 0 → Planned row map rest
+    plan-absent z = record { less = less; is = λ h. p .is (omega arith) ∙ sym (standing-first row map (omega arith) ∙ ap (λ (b : ℕ). byBit b (sortOf (row % 512)) (standing (fieldsIn (row / 1024)) (map / 2))) z) }
+      where
+        less : (n : ℕ) → row < 1024 ^ n → rest < 1024 ^ n
+        less zero h = absurd (some (omega arith))
+        less (suc n) h =
+            let e : 1024 ^ suc n ≡ 1024 ^ n * 1024 = pow-suc 1024 n in
+            let g : rest < 1024 ^ n = p .less n (omega arith) in
+            omega arith
+
+    pub plan-over : (map % 2 ≡ 0 → ⊥) → 18014398509481983 < rest → Planned row map 0
+    plan-over b o = record { less = λ n h. omega arith; is = λ h. absurd (let g : rest < 1024 ^ 5 = p .less 5 (omega arith) in omega arith) }
+
+    pub plan-stands : (map % 2 ≡ 0 → ⊥) → rest ≤ 18014398509481983 → Planned row map (rest * 1024 + 512 + row % 512)
+    plan-stands b o = record { less = less; is = is }
+      where
+        less : (n : ℕ) → row < 1024 ^ n → rest * 1024 + 512 + row % 512 < 1024 ^ n
+        less zero h = absurd (some (omega arith))
+        less (suc n) h =
+            let e : 1024 ^ suc n ≡ 1024 ^ n * 1024 = pow-suc 1024 n in
+            let g : rest < 1024 ^ n = p .less n (omega arith) in
+            omega arith
+
+        is : row < 1024 ^ 6 → sorts (fieldsIn (rest * 1024 + 512 + row % 512)) ≡ standing (fieldsIn row) map
+        is h =
+            let v : ℕ = rest * 1024 + 512 + row % 512 in
+            let one : map % 2 ≡ 1 = omega arith in
+            let low : (rest * 1024 + 512 + row % 512) % 512 ≡ row % 512 = omega arith in
+            let high : (rest * 1024 + 512 + row % 512) / 1024 ≡ rest = omega arith in
+            sorts-first v (omega arith)
+            ∙ ap (λ (c : ℕ). sortOf c ∷ sorts (fieldsIn (v / 1024))) low
+            ∙ ap (λ (c : ℕ). sortOf (row % 512) ∷ sorts (fieldsIn c)) high
+            ∙ ap (λ (ss : List Sort). sortOf (row % 512) ∷ ss) (p .is (omega arith))
+            ∙ sym (standing-first row map (omega arith) ∙ ap (λ (c : ℕ). byBit c (sortOf (row % 512)) (standing (fieldsIn (row / 1024)) (map / 2))) one)
+
+-- ---- a row of a form is below 2 ^ 60
+
+fits-in : (n row : ℕ) → row ≤ n → row < 1024 ^ length (unpacked n row)
+unfolding unpacked
+fits-in zero row h = omega arith
+fits-in (suc n) row h = elim (decLt 0 row) [
+  | yes g ↦
+      let e : 1024 ^ suc (length (unpacked n (row / 1024))) ≡ 1024 ^ length (unpacked n (row / 1024)) * 1024 = pow-suc 1024 (length (unpacked n (row / 1024))) in
+      let s : row / 1024 < 1024 ^ length (unpacked n (row / 1024)) = fits-in n (row / 1024) (omega arith) in
+      rw (ne-eqb row 0 (λ z. absurd (omega arith)), unpacked) (omega arith)
+  | no g ↦ rw (eq-eqb row 0 (omega arith), unpacked) (omega arith)
+]
+
+short : List Field → Bool
+short fs = leb (1024 ^ length fs) (1024 ^ 6)
+
+pub row-small : (row f : ℕ) → fieldsIn row ≡ fieldsOf f → row < 1024 ^ 6
+unfolding kinds variants all-lists short
+row-small row f e =
+    let a : row < 1024 ^ length (fieldsIn row) = fits-in row row (omega arith) in
+    let b : row < 1024 ^ length (fieldsOf f) = rw e at a in
+    let c : 1024 ^ length (fieldsOf f) ≤ 1024 ^ 6 = leb→le _ _ (at-form short tt tt tt f) in
+    omega arith

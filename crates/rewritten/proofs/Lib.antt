@@ -1,0 +1,10 @@
+pub mod Deep
+pub mod Coming
+pub mod Leaves
+pub mod Forms
+pub mod Frames
+pub mod Moves
+pub mod Pass
+pub mod Marks
+pub mod Reader
+pub mod Rewritten

@@ -1,0 +1,26 @@
+use lib.ListN.{List·getD-eq-default}
+use mathlib.Core.Path.{sym}
+use borrow.Author.Needs.{needs}
+use Rattle.rewritten.proofs.next.frame_at.Statement.{statement}
+use Rattle.rewritten.proofs.next.frame_at.Tie as tie
+use Rattle.rewritten.proofs.next.frame_at.Reads as reads
+use Rattle.rewritten.proofs.next.frame_at.Lts as lts
+
+-- src/next.rt:21:9
+mul-result : tie.Need-mul-result
+mul-result c = search needs
+
+-- src/next.rt:21:9
+shared-slice-read-result : tie.Need-shared-slice-read-result
+shared-slice-read-result c = search needs
+
+-- src/next.rt:17:1
+returns : tie.Need-returns
+returns c = search needs
+
+-- src/next.rt:17:1
+returns-2 : tie.Need-returns-2
+returns-2 c = sym (List·getD-eq-default (c .before .args .frames .now) 0 (c .if1 .left))
+
+pub frame-at-spec : {M : Type 1} → statement M
+frame-at-spec = tie.close (tie.spec mul-result shared-slice-read-result returns returns-2)

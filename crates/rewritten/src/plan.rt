@@ -1,0 +1,58 @@
+// The fields of a node that are still to come, as one number; and the forms of the rewritten stage.
+use tree::bytes;
+use tree::grammar;
+ghost use mathlib.Core.Path.{_≡_};
+ghost use Rattle.tree.specs.Grammar.{formAt};
+ghost use Rattle.tree.specs.Grammar.Stage.{rewritten};
+ghost use Rattle.tree.specs.Read.{chosenPlace};
+ghost use Rattle.rewritten.specs.Steps.{Planned};
+
+// The fields of a row whose bits stand, ten binary digits a field, the tenth always set.
+pub fn plan(row: usize, map: usize) -> usize
+    ensures { λ r. ⌜ Planned row map r ⌝ }
+{
+    if row == 0 {
+        return 0;
+    }
+    let rest = plan(row / 1024, map / 2);
+    if map % 2 == 0 {
+        return rest;
+    }
+    if 18014398509481983 < rest {
+        return 0;
+    }
+    rest * 1024 + 512 + row % 512
+}
+
+// The form of a kind at a place in a rewritten tree, 0 where the kind may not stand there.
+pub fn form_at(place: usize, kind: usize) -> usize
+    ensures { λ r. ⌜ r ≡ formAt rewritten place kind ⌝ }
+{
+    if kind == 20 {
+        if grammar::form_at(place, 18) == 0 {
+            if grammar::form_at(place, 19) == 0 {
+                return 0;
+            }
+        }
+        return 20;
+    }
+    if kind == 21 {
+        if grammar::form_at(place, 24) == 0 {
+            return 0;
+        }
+        return 21;
+    }
+    grammar::form_at(place, kind)
+}
+
+// The place of a node that goes by the byte before it: the first if that is 1, else the second.
+pub fn choose(tree: &[u8], first: usize, second: usize, at: usize) -> usize
+    ensures { λ r. ⌜ r ≡ chosenPlace (now (tree .entry)) first second at ⌝ }
+{
+    let before = if 0 < at { at - 1 } else { 0 };
+    if bytes::peek(tree, before) == 1 {
+        first
+    } else {
+        second
+    }
+}
