@@ -8,8 +8,9 @@
 
 FOLDER has the vector files, whole; they are kept outside the repository (loader/tests/data has a part of them):
 document01.txt, readings.txt, extra.txt and recorded.txt, which are the base's and run with a depth limit of 64; cr4.txt;
-cr5.txt, whose lines have seven words, the first the limit (`-` where none is named); and cr12.txt. What the base records of
-a result with a temporary is restated with its stem (request 4): as cr4.txt has it, and for recorded.txt by the reference. A case's number is the one that
+cr5.txt, whose lines have seven words, the first the limit (`-` where none is named); cr12.txt; and cr1.txt, with the base's
+limit. What a file from before request 4 records of a result with a temporary is restated with its stem: as cr4.txt has it,
+and for recorded.txt and cr1.txt by the reference. A case's number is the one that
 vectors prints. The cases of reading come first. Such a case is a zero byte; two bytes, the limit and the
 expected answer of reading; two 16-bit numbers, the tree's length and the expected next mark (0 on a refusal); then the
 tree. Expected answers are those recorded in the vector files or given here; read.py has to agree with each, and supplies
@@ -53,7 +54,7 @@ def encode_lowering(limit, options, number, helpers, mask, tree, result, listed)
 # their heads.
 BASE_LIMIT = 64
 BASE = ["document01", "readings", "extra", "recorded"]
-FILES = dict.fromkeys(BASE, BASE_LIMIT) | {"cr4": None, "cr5": None, "cr12": None}
+FILES = dict.fromkeys(BASE, BASE_LIMIT) | {"cr4": None, "cr5": None, "cr12": None, "cr1": BASE_LIMIT}
 RESTATED = "---- the cases of document01.txt, readings.txt and extra.txt whose result this request changes"
 NO_LONGER = "---- with temporaries, while request 4 is not in force"
 # The option that is no longer shown in the mask (request 12). The base's files record masks that show it, and are restated.
@@ -146,14 +147,8 @@ def lines_of(folder, name, part=None):
             elif line.strip() and holds:
                 words = line.split()
                 limit = words.pop(0) if len(words) == 7 else "-"
-                if not is_later(words):
-                    yield f"{name}:{at} {what}".strip(), FILES[name] if limit == "-" else int(limit), words
+                yield f"{name}:{at} {what}".strip(), FILES[name] if limit == "-" else int(limit), words
                 what = ""
-
-
-def is_later(words):
-    """Whether a case stands on a request that has not landed: it is walked, and to read.py it is no tree."""
-    return words[1] in ("0", "5", "6", "7") and read.answer(bytes.fromhex(words[0])[1:], read.DEEPEST)[0] == 3
 
 
 def load(folder, name):
@@ -181,10 +176,10 @@ def has_temporary(case):
 
 
 def restated(folder, name, some, reference):
-    """Cases of the base, those whose result has a temporary as they are with its stem."""
+    """Cases from before request 4, those whose result has a temporary as they are with its stem."""
     known = {(case[1], case[5]): case[2:] for _, case in load_lowerings(folder, "cr4", "----")}
     changed = [case for _, case in some if has_temporary(case)]
-    if name == "recorded":
+    if name in ("recorded", "cr1"):
         known = dict(zip(((case[1], case[5]) for case in changed), asked(reference, changed)))
     for what, case in some:
         if has_temporary(case):
@@ -196,7 +191,7 @@ def restated(folder, name, some, reference):
 
 def asked(reference, changed):
     """What the reference gives for these cases: answer, masks, tree, result and list."""
-    words = [reference, "--batch", "--template-key=node", "--retired", "--stems", f"--limit={BASE_LIMIT}"]
+    words = [reference, "--batch", "--template-key=node", "--retired", "--classes", "--stems", f"--limit={BASE_LIMIT}"]
     lines = "".join(f"{case[1]:02x}{case[5].hex()}\n" for case in changed)
     wrote = subprocess.run(words, input=lines.encode(), stdout=subprocess.PIPE, check=True).stdout.decode().splitlines()
     for case, line in zip(changed, wrote, strict=True):
@@ -377,7 +372,7 @@ def stored_lowerings(folder, reference):
         some = list(load_lowerings(folder, name))
         if name == "recorded":
             some = sample_lowerings(some)
-        cases += restated(folder, name, some, reference) if name in BASE else some
+        cases += restated(folder, name, some, reference) if name in BASE or name == "cr1" else some
     return cases
 
 
@@ -416,7 +411,7 @@ def main():
     words.add_argument("--show", action="store_true", help="print stored cases")
     words.add_argument("--write", action="store_true", help="store the list that is made")
     words.add_argument("--list", action="store_true", help="say what each case is")
-    words.add_argument("--reference", metavar="FILE", help="the Rust reference, which restates recorded.txt")
+    words.add_argument("--reference", metavar="FILE", help="the Rust reference, which restates results with temporaries")
     words.add_argument("given", nargs="+", metavar="FOLDER or N")
     given = words.parse_args()
     if given.show:

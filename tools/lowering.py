@@ -6,7 +6,8 @@
     tools/lowering.py --reference FILE --self-test [--count N] [--seed N]   whether the comparison sees what it should
 
 The reference is the Rust module over stand-ins (docs/DIFFERENCES.md); it is run with --batch --template-key=node --retired
---stems, so it is given the options without the retired 8 and writes the stem of each temporary. The program is `lower`, run once for each case; with --stream it is one
+--classes --stems, so it is given the options without the retired 8, reads classes and switches, and writes the stem of each
+temporary. The program is `lower`, run once for each case; with --stream it is one
 that takes many cases: options byte, 16-bit length, tree, and so on. It names no depth limit, which means 128, and the
 reference is given 128. With --limit N, or --limit draw for another limit with each batch, both are given that limit, and the
 program is the loader's command.
@@ -59,13 +60,16 @@ WEIGHT = {
     "FunctionDeclaration": 3, "FunctionEither": 2, "Declaration": 6, "ExpressionStatement": 6, "ForOf": 3, "Try": 2,
     "Sequence": 0.7, "OtherExpression": 0.7, "OtherStatement": 0.7, "Empty": 0.5, "BindObject": 4, "TargetObject": 4,
     "BindArray": 1.5, "TargetArray": 1.5, "BindDefault": 2, "TargetDefault": 2, "Member": 0.7, "Parenthesised": 0.7,
-    "Spread": 1.5, "StaticKey": 10, "PrivateKey": 1, "FunctionBody": 10,
+    "Spread": 1.5, "StaticKey": 10, "PrivateKey": 1, "FunctionBody": 10, "ClassMember": 3,
 }
 WEIGHT_AT = {
     ("key", "Literal"): 5, ("key", "Template"): 4, ("key", "Reference"): 5, ("key", "Assignment"): 1, ("key", "Object"): 1,
     ("key", "Arrow"): 1, ("key", "FunctionExpression"): 1, ("head", "Declaration"): 5, ("init", "Declaration"): 12,
     ("leaf", "Parenthesised"): 1, ("child", "Spread"): 0.5,
 }
+# Other weights in trees that are to have classes and switches, and in those that are to have none.
+CLASSES = {"Class": 6, "Switch": 6}
+NO_CLASSES = {"Class": 0, "Switch": 0}
 # Other weights in trees that are to be rich in patterns.
 RICH = {
     "BindObject": 9, "TargetObject": 9, "BindArray": 4, "TargetArray": 4, "BindDefault": 3, "TargetDefault": 3, "Reference": 8,
@@ -93,6 +97,7 @@ class Maker:
         self.rnd, self.size, self.goal, self.refused = rnd, size, goal, refused
         self.flat = rnd.choice([8, 12, 16, 24, 40, 70])
         self.weight = {**WEIGHT, **RICH} if rnd.random() < 0.4 else WEIGHT
+        self.weight = {**self.weight, **(CLASSES if rnd.random() < 0.6 else NO_CLASSES)}
         self.out, self.marks, self.nodes, self.last = bytearray(), [], 0, 0
 
     def is_done(self, depth):
@@ -411,7 +416,7 @@ class Refused(tuple):
 def reference_at(path, limit):
     def run(batch):
         lines = "".join(f"{options:02x}{tree.hex()}\n" for options, tree in batch)
-        words = [path, "--batch", "--template-key=node", "--retired", "--stems", f"--limit={limit or read.DEEPEST}"]
+        words = [path, "--batch", "--template-key=node", "--retired", "--classes", "--stems", f"--limit={limit or read.DEEPEST}"]
         wrote = subprocess.run(words, input=lines.encode(), stdout=subprocess.PIPE, check=True).stdout.decode().splitlines()
         if len(wrote) != len(batch):
             sys.exit(f"{path}: {len(batch)} cases were sent, {len(wrote)} lines came back")
@@ -457,6 +462,14 @@ def expected(batch, reference, limit):
         otherwise += number != (answer[0] if answer[0] in (1, 3, 4) else 0)
         wanted.append(Refused(number) if number else answer)
     return wanted, otherwise
+
+
+def has_classes(tree):
+    """Whether a node of kinds 40 to 44 stands in an accepted tree."""
+    waiting = [Parser(tree, 0).node("program", 0)]
+    for node in waiting:
+        waiting.extend(node.below())
+    return any(read.KIND[node.form] >= read.KIND["Class"] for node in waiting)
 
 
 # ---- making a tree smaller
@@ -681,7 +694,7 @@ def main():
         source = (("grid", 0, tree) for tree in grid.grid())
     else:
         source = trees(rnd, given.count, reference_at(given.reference, None), given.deep)
-    counts, total, unequal, different, otherwise, far = collections.defaultdict(collections.Counter), 0, 0, 0, 0, 0
+    counts, total, unequal, different, otherwise, far, newer = collections.defaultdict(collections.Counter), 0, 0, 0, 0, 0, 0
     while some := list(itertools.islice(source, BATCH)):
         limit = random_limit(rnd) if given.limit == "draw" else int(given.limit) if given.limit else None
         reference, program = reference_at(given.reference, limit), program_at(given.binary, given.stream, limit)
@@ -689,6 +702,7 @@ def main():
         wanted, others = expected(batch, reference, limit)
         otherwise += others
         far += sum(read.answer(tree, 64)[0] == 4 for _, tree in batch)
+        newer += sum(read.answer(tree)[0] == 0 and has_classes(tree) for _, tree in batch)
         for (shape, *_), case, want, got in zip(some, batch, wanted, program(batch)):
             total += 1
             counts[shape][want[0]] += 1
@@ -708,7 +722,10 @@ def main():
     for shape, by in counts.items():
         print(shape.ljust(10), *(f"{by[name]:8}" for name in columns), f"{sum(by.values()) - by['lowered']:8}")
     print(f"the reference reads {otherwise} otherwise than read.py")
-    print(f"{total} cases, {unequal} unequal, {different} with other bytes; {far} have a node at depth 65")
+    print(
+        f"{total} cases, {unequal} unequal, {different} with other bytes; {far} have a node at depth 65, "
+        f"{newer} are trees with kinds 40 to 44"
+    )
     sys.exit(1 if unequal or different or not total else 0)
 
 

@@ -23,7 +23,8 @@ KINDS = {1: "var", 2: "let", 3: "const"}
 NAMES = (
     "Program Block ExpressionStatement Declaration Declarator For ForIn ForOf Try Catch Return OtherStatement Empty Function Param "
     "FunctionBody Arrow Reference Binding Temporary Helper Literal Template Object Property Spread Assignment Sequence Call Member "
-    "Parenthesised Array OtherExpression ObjectPattern PatternProperty ArrayPattern Default StaticKey PrivateKey"
+    "Parenthesised Array OtherExpression ObjectPattern PatternProperty ArrayPattern Default StaticKey PrivateKey "
+    "Class ClassMember StaticBlock Switch Case"
 ).split()
 # The sorts of the fields of each kind, bit 0 first. Forms of one kind differ in their places alone.
 SORTS = {read.KIND[form]: [field.sort for field in fields] for form, fields in read.FIELDS.items()}
@@ -99,7 +100,8 @@ class Printer:
         return ", ".join("" if item is None else self.text(item) for item in items)
 
     def statements(self, items):
-        return "".join(self.text(item) + " " for item in items)
+        # of bytes that are no tree a list may be missing
+        return "".join(self.text(item) + " " for item in items or [])
 
     def text(self, n):
         return getattr(self, f"kind_{n.kind}")(n, *n.fields)
@@ -263,6 +265,27 @@ class Printer:
 
     def kind_39(self, n, name):
         return f"#{name_text(name)}"
+
+    def kind_40(self, n, name, parent, members):
+        head = "class" + (f" {name_text(name)}" if name is not None else "") + (f" extends {self.text(parent)}" if parent else "")
+        return head + " { " + self.statements(members) + "}"
+
+    def kind_41(self, n, key, value, flags):
+        word = "static " if flags & 2 else ""
+        key = self.key(key, flags)
+        if flags & 28 and value and value.kind == 14:
+            word += "get " if flags & 8 else "set " if flags & 16 else ""
+            return word + key + self.text(value).partition("function")[2]
+        return word + key + (f" = {self.text(value)}" if value else "") + (f"{{{{{flags}}}}}" if flags & 28 else "") + ";"
+
+    def kind_42(self, n, body):
+        return "static { " + self.statements(body) + "}"
+
+    def kind_43(self, n, mark, discriminant, cases):
+        return f"{self.mark(mark)}switch ({self.text(discriminant)}) " + "{ " + self.statements(cases) + "}"
+
+    def kind_44(self, n, test, body):
+        return (f"case {self.text(test)}:" if test else "default:") + "".join(" " + self.text(item) for item in body)
 
 
 def kinds(n):

@@ -251,6 +251,8 @@ fn allows(place: Place, side: Side, kind: Kind) -> bool {
         Place::Pattern => pattern(side),
         Place::ObjectRest if side == Side::Binding => kind == Kind::Binding,
         Place::ObjectRest => is_leaf(kind),
+        Place::ClassMember => matches!(kind, Kind::ClassMember | Kind::StaticBlock),
+        Place::Case => kind == Kind::Case,
     }
 }
 
@@ -269,13 +271,14 @@ fn is_statement(kind: Kind) -> bool {
             | OtherStatement
             | Empty
             | Function
+            | Switch
     )
 }
 
 fn is_expression(kind: Kind) -> bool {
     use Kind::*;
     is_leaf(kind)
-        || matches!(kind, Function | Arrow | Literal | Template | Object | Assignment | Sequence | Call | Array)
+        || matches!(kind, Function | Arrow | Literal | Template | Object | Assignment | Sequence | Call | Array | Class)
 }
 
 fn is_leaf(kind: Kind) -> bool {

@@ -86,6 +86,11 @@ kinds! {
     37 Default [node("left", Place::Pattern), node("right", Place::Expression)],
     38 StaticKey [text("name")],
     39 PrivateKey [text("name")],
+    40 Class [text("name").or_none(), node("super", Place::Expression).or_none(), list("members", Place::ClassMember)],
+    41 ClassMember [node("key", Place::Key), node("value", Place::Expression).or_none(), byte("flags", 0, 31)],
+    42 StaticBlock [list("body", Place::Statement)],
+    43 Switch [MARK, node("discriminant", Place::Expression), list("cases", Place::Case)],
+    44 Case [node("test", Place::Expression).or_none(), list("body", Place::Statement)],
 }
 
 /// A field of a kind.
@@ -139,6 +144,8 @@ pub(crate) enum Place {
     PatternItem,
     Pattern,
     ObjectRest,
+    ClassMember,
+    Case,
 }
 
 const MARK: Slot = slot("mark", Sort::Mark);

@@ -1249,7 +1249,17 @@ fn ip(
         work,
         inside(c, less(c.left)),
     );
-    let u = rest(u, t, out, list, work, d, p, cell_source(cell(3, p), 3), true);
+    let u = rest(
+        u,
+        t,
+        out,
+        list,
+        work,
+        d,
+        p,
+        cell_source(cell(3, p), 3),
+        true,
+    );
     u.temporary(out, list, work, cell(3, p), 3)
 }
 

@@ -107,7 +107,14 @@ impl Walk {
     }
 
     // The node of the temporary that a cell stands for, with its stem.
-    pub fn temporary(self, out: &mut [u8], list: &mut [u8], work: &mut [u8], c: usize, stem: u8) -> Walk
+    pub fn temporary(
+        self,
+        out: &mut [u8],
+        list: &mut [u8],
+        work: &mut [u8],
+        c: usize,
+        stem: u8,
+    ) -> Walk
         ensures { λ r. ⌜ Does (goingOf (now (out .entry)) (now (list .entry)) (now (work .entry)) self) (goingOf (now (out .exit)) (now (list .exit)) (now (work .exit)) r) (say (does (temporary c stem) ∷ [])) × (r .at ≡ self .at) ⌝ }
     {
         let k = self.sink;

@@ -79,14 +79,19 @@ TargetProperty 35 key target_item =0..3
 TargetArray 36 target_item~ target?
 TargetDefault 37 target expression
 StaticKey 38 '
-PrivateKey 39 '";
+PrivateKey 39 '
+Class 40 '? expression? class_member*
+ClassMember 41 key expression? =0..31
+StaticBlock 42 statement*
+Switch 43 # expression case*
+Case 44 expression? statement*";
 
 /// What may stand at a place, the shortest first. What stands twice is drawn more often.
 const PLACES: &str = "
 statement Empty ExpressionStatement ExpressionStatement Declaration Declaration Block For ForIn ForOf Try Return \
-    OtherStatement FunctionDeclaration
+    OtherStatement FunctionDeclaration Switch
 expression Reference Reference Formed Literal Object Object Assign Assign Assign Change Arrow Template Sequence Call \
-    Member Parenthesised Array OtherExpression FunctionExpression
+    Member Parenthesised Array OtherExpression FunctionExpression Class
 child Reference Empty Block Object Assign Declaration Spread FunctionDeclaration FunctionExpression
 argument Reference Call Spread Object Assign Arrow
 key StaticKey StaticKey StaticKey Formed Formed Reference Call PrivateKey Template Literal Assign
@@ -107,7 +112,9 @@ block Block
 catch Catch
 param Param
 body FunctionBody
-literal Formed";
+literal Formed
+class_member StaticBlock ClassMember ClassMember
+case Case";
 
 /// Draws trees by the grammar.
 pub struct Grammar {
