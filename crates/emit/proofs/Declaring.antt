@@ -8,13 +8,13 @@ use native.Mathlib.Omega.{arith}
 use lib.Dec.{eqb}
 use lib.ListN.{length}
 use borrow.Author.Tests.{eqb-true, eq-eqb}
-use Rattle.tree.specs.Tree.{Node, Items, wideBytes, count, encode}
+use Rattle.tree.specs.Tree.{Node, Fields, Items, wideBytes, mapOf, count, encode, encodeFields, encodePiece}
 use Rattle.tree.specs.Tree.Node.{node}
 use Rattle.tree.specs.Tree.Fields.{done, absent, field}
 use Rattle.tree.specs.Tree.Piece.{one}
-use Rattle.tree.specs.Grammar.{fieldsOf}
+use Rattle.tree.specs.Grammar.{Sort, fieldsOf, kinds}
 use Rattle.tree.specs.Read.{byteAt, wideAt}
-use Rattle.tree.specs.Look.{Seen, seen, onward, lookItems, lookFields, lookNode}
+use Rattle.tree.specs.Look.{Seen, seen, onward, lookItems, lookField, lookSlot, lookFields, lookNode}
 use Rattle.tree.specs.Answer.{Wide}
 use Rattle.lowering.specs.Parts.{position, kind, is, standsIn, stands, nodeAt, itemsAt, pieceIn, gather}
 use Rattle.lowering.specs.Made.{Context}
@@ -31,22 +31,23 @@ use Rattle.pattern.specs.Tally.{limited}
 use Rattle.pattern.specs.declared.source.ReferenceBuilder.{ReferenceBuilder}
 use Rattle.pattern.specs.Source.{builderOf, readOf, afterRead}
 use Rattle.pattern.proofs.CountsFit.{counted-whole, declarations-fit}
+use Rattle.lowering.specs.Collect.{isContainer}
 use Rattle.direct.specs.Events.{Place, Emit, puts, cell, marks, refused, contextOf, emits}
 use Rattle.direct.specs.Events.Deed.{does, refuses}
-use Rattle.direct.specs.Emit.{say, _▷_, inner, inTurn}
+use Rattle.direct.specs.Emit.{say, _▷_, inner, inTurn, below, stays, emitsPiece, emitsParts}
 use Rattle.direct.specs.Views.{objectAt, objectRestAt, saysCell, emitsView}
 use Rattle.direct.specs.Views.View.{replacing, taking}
 use Rattle.direct.specs.Keys.{emitsRest}
 use Rattle.direct.specs.Handed.{declaratorMade, declaratorExcludes}
 use Rattle.direct.specs.Declared.{declarationAt, emitsKeyValue, emitsOwnKeys, emitsOwnPattern, emitsOwnRest, emitsFound, emitsPattern, emitsLowered, emitsDeclarator, declaratorCount}
-use Rattle.direct.proofs.Threads.{then-assoc, say-nothing, say-say}
+use Rattle.direct.proofs.Threads.{then-assoc, say-nothing, say-say, say-puts}
 use Rattle.direct.proofs.OneLevel.{emits-nowhere}
 use Rattle.direct.proofs.ListsInTurn.{turn-same}
 use Rattle.direct.proofs.DeclarationsByPart.{pattern-object, pattern-array, declaration-refused, declaration-done}
 use Rattle.direct.proofs.Ways.{declarator-lowered, declarator-left, lowered-name, lowered-value, own-keys-none, own-keys-some, own-pattern-none, own-pattern-some, own-rest-none, own-rest-some}
 use Rattle.walk.specs.Run.{Going, Does, Clear}
 use Rattle.walk.specs.Whole.{GoodItems, Good}
-use Rattle.walk.specs.Turns.{leafKind, viewOf, deepMode, suits, turnOf, turnsOf, sourceOf, reads, startOf}
+use Rattle.walk.specs.Turns.{viewOf, deepMode, suits, turnOf, turnsOf, sourceOf, reads, startOf}
 use Rattle.walk.specs.declared.look.Start.{Start}
 use Rattle.walk.specs.declared.look.Start.the-variants.{Value, Missing}
 use Rattle.walk.proofs.Running.{does-then, does-nothing, does-as, does-to, clear-after, clear-still}
@@ -55,7 +56,6 @@ use Rattle.walk.proofs.KeysOnceFull.{Quiet, own-again}
 use Rattle.walk.proofs.SpreadArguments.{does-from}
 use Rattle.walk.proofs.Opened.{BinderOpen, DeclarationOpen, no-good, kind-here, is-here, position-here, good-copied, good-short, good-two, declarator-open, declaration-open}
 use Rattle.walk.proofs.Turning.{turn-8, turns-7, turns-9, turns-10, suit-7, suit-9, suit-10}
-use Rattle.emit.proofs.LeavesCopied.{leaf-stays}
 use Rattle.emit.proofs.Finding.{object-as, level-up, lifted, rest-stands, Turned, Deep}
 use Rattle.lowering.proofs.Cases.{not-false, not-true}
 
@@ -292,10 +292,28 @@ module _ (t : List ℕ) where
       let n : Node = lookNode t (suc d) at .value in
       eqb-true (byteAt t at) 18 (sym (is-here t d at 18) ∙ or-first (is 18 n) (is 20 n) (is-here t d at 20 ∙ good .temporary) h)
 
+  -- 18 Reference(name' symbol+?)
+  text-written : (R : ℕ → Seen Node) (l : Bool) (c : ℕ → Place) (bit q : ℕ) (fs : Fields) → emitsParts l (λ i. c (suc i)) fs ≡ say (puts (encodeFields fs))
+      → emitsParts l c (lookSlot t R Sort.text bit q .value fs) ≡ say (puts (encodeFields (lookSlot t R Sort.text bit q .value fs)))
+  unfolding lookSlot lookField emitsParts emitsPiece encodeFields encodePiece
+  text-written R l c zero q fs h = h
+  text-written R l c (suc bit) q fs h = ap (λ (e : Emit). emitsPiece l (c 0) (lookField t R Sort.text q .value) ▷ e) h ∙ say-puts (encodePiece (lookField t R Sort.text q .value)) (encodeFields fs)
+
+  number-written : (R : ℕ → Seen Node) (l : Bool) (c : ℕ → Place) (bit q : ℕ) → emitsParts l c (lookSlot t R Sort.number bit q .value Fields.done) ≡ say (puts (encodeFields (lookSlot t R Sort.number bit q .value Fields.done)))
+  unfolding lookSlot lookField emitsParts emitsPiece encodeFields encodePiece
+  number-written R l c zero q = refl
+  number-written R l c (suc bit) q = say-puts (encodePiece (lookField t R Sort.number q .value)) []
+
+  name-fields : (R : ℕ → Seen Node) (l : Bool) (c : ℕ → Place) (m q : ℕ) → emitsParts l c (lookFields t R (fieldsOf 18) m q .value) ≡ say (puts (encodeFields (lookFields t R (fieldsOf 18) m q .value)))
+  unfolding lookFields fieldsOf kinds
+  name-fields R l c m q = text-written R l c (m % 2) q _ (number-written R l (λ i. c (suc i)) (m / 2 % 2) _)
+
   name-emits : (c : Place) (d at : ℕ) → byteAt t at ≡ 18 → emits c (lookNode t (suc d) at .value) ≡ say (puts (encode (lookNode t (suc d) at .value)))
-  unfolding lookNode ruleOf leafKind
+  unfolding lookNode ruleOf stays encode
   name-emits c d at k =
-      rw k (emits-nowhere c (node at 18 (lookFields t (λ q. lookNode t d q) (fieldsOf 18) (byteAt t (onward t at 1)) (onward t at 2) .value)) refl ∙ leaf-stays t (λ q. lookNode t d q) c 18 at (byteAt t (onward t at 1)) (onward t at 2) refl)
+      let fs : Fields = lookFields t (λ q. lookNode t d q) (fieldsOf 18) (byteAt t (onward t at 1)) (onward t at 2) .value in
+      rw k (emits-nowhere c (node at 18 fs) refl
+      ∙ ap (λ (e : Emit). say (puts (18 ∷ mapOf fs ∷ [])) ▷ e) (name-fields (λ q. lookNode t d q) (isContainer 18) (below c (node at 18 fs)) (byteAt t (onward t at 1)) (onward t at 2)) ∙ say-puts (18 ∷ mapOf fs ∷ []) (encodeFields fs))
 
   -- a name is copied
   pub name-copied : (c : Place) (d at : ℕ) → Good t d at → isName (lookNode t d at .value) ≡ true → say (puts (part at (lookNode t d at .next) t)) ≡ emits c (lookNode t d at .value)

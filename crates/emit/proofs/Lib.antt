@@ -1,4 +1,3 @@
-pub mod LeavesCopied
 pub mod MovesFit
 pub mod Excluding
 pub mod Finding

@@ -20,7 +20,7 @@ use Rattle.pattern.proofs.CountsFit.{limited-is, from-fits}
 use Rattle.direct.specs.Moved.{number}
 use Rattle.direct.proofs.MovedMade.{number-item, number-empty}
 use Rattle.walk.specs.Whole.{holeAt, GoodItems, Good}
-use Rattle.walk.proofs.Opened.{encode-two, good-copied, good-room, good-limit}
+use Rattle.walk.proofs.Opened.{encode-two, good-next, good-end}
 
 -- ---- how many patterns are moved out
 
@@ -76,18 +76,6 @@ module _ (t : List ℕ) where
   unfolding onward
   on-more at n h = by-test (leb (at + n) (length t)) (λ e. rw e (omega arith)) (λ e. rw e h)
 
-  -- ---- where a good node ends
-
-  part-size : (a b : ℕ) → length (part a b t) ≡ min b (length t) - a
-  unfolding part
-  part-size a b = length-drop a (take b t) ∙ ap (λ (n : ℕ). n - a) (length-take b t)
-
-  good-ends : (d at : ℕ) → Good t d at → lookNode t d at .next ≤ length t → lookNode t d at .next ≡ at + length (encode (lookNode t d at .value))
-  good-ends d at g h =
-      let a : min (lookNode t d at .next) (length t) - at ≡ length (encode (lookNode t d at .value)) = sym (part-size at (lookNode t d at .next)) ∙ ap length (good-copied t d at g) in
-      let b : 2 ≤ length (encode (lookNode t d at .value)) = encode-two (lookNode t d at .value) in
-      omega arith
-
   -- ---- good items are no longer than the tree
 
   good-node : (d : ℕ) (l : Bool) (n at : ℕ) → GoodItems t (lookNode t d) (Good t d) l false (suc n) at → Good t d at
@@ -99,17 +87,17 @@ module _ (t : List ℕ) where
   good-more d l n at g = g .1
 
   items-room : (d : ℕ) (l : Bool) (n at : ℕ) → GoodItems t (lookNode t d) (Good t d) l false (suc n) at
-      → at + length (encodeItems (lookItems t (lookNode t d) false (suc n) at .value)) ≤ length t
+      → at + length (encodeItems (lookItems t (lookNode t d) false (suc n) at .value)) ≤ 16384
   unfolding lookItems lookItem encodeItems
   items-room d l zero at g =
-      let a = good-room t d at (good-node d l zero at g) in
+      let a = good-end t d at (good-node d l zero at g) in
       let b = length-append (encode (lookNode t d at .value)) [] in
       omega arith
   items-room d l (suc n) at g =
       let q : ℕ = lookNode t d at .next in
       let x : Good t d at = good-node d l (suc n) at g in
       let a = items-room d l n q (good-more d l (suc n) at g) in
-      let b : q ≡ at + length (encode (lookNode t d at .value)) = good-ends d at x (omega arith) in
+      let b : q ≡ at + length (encode (lookNode t d at .value)) = good-next t d at x in
       let c = length-append (encode (lookNode t d at .value)) (encodeItems (lookItems t (lookNode t d) false (suc n) q .value)) in
       omega arith
 
@@ -118,7 +106,6 @@ module _ (t : List ℕ) where
   items-within d l zero at g = omega arith
   items-within d l (suc n) at g =
       let a = items-room d l n at g in
-      let b = good-limit t d at (good-node d l n at g) in
       omega arith
 
   -- ---- so nothing is cut off, and all counts are small

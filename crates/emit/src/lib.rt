@@ -32,6 +32,7 @@ use pattern::tally::plus;
 use tree::bytes::peek;
 use tree::bytes::wide_at;
 use tree::grammar::row;
+use tree::skip::quiet;
 use tree::skip::skip;
 use tree::skip::skip_items;
 use tree::skip::skip_slot;
@@ -76,7 +77,6 @@ use walk::pieces::string;
 use walk::place::Place;
 use walk::place::container;
 use walk::place::inside;
-use walk::place::is_leaf;
 use walk::place::less;
 use walk::place::marked;
 use walk::place::parts_of;
@@ -124,9 +124,13 @@ const SWITCH_FRONT: usize = 0x8cc0;
 
 const SWITCH_CASES: usize = 0x79;
 
+// A node: one in which nothing is to be lowered is copied whole.
 pub fn node(w: Walk, t: &[u8], out: &mut [u8], list: &mut [u8], work: &mut [u8], c: Place) -> Walk
     ensures { λ r. ⌜ (r .at ≡ lookNode (now (t .entry)) (c .left) (w .at) .next) × (Good (now (t .entry)) (c .left) (w .at) → Does (goingOf (now (out .entry)) (now (list .entry)) (now (work .entry)) w) (goingOf (now (out .exit)) (now (list .exit)) (now (work .exit)) r) (emits (placeOf c) (lookNode (now (t .entry)) (c .left) (w .at) .value))) ⌝ }
 {
+    if quiet(t, w.at) {
+        return w.copy(t, out, skip(t, c.left, w.at));
+    }
     let kind = peek(t, w.at);
     match kind {
         4 => decl(w, t, out, list, work, c),
@@ -151,7 +155,7 @@ fn lit(w: Walk, t: &[u8], out: &mut [u8], list: &mut [u8], work: &mut [u8], c: P
         let n = wide_at(t, q);
         let left = less(c.left);
         let v = opening(w, t, out, left, n, first).to(first);
-        return ps(v, t, out, list, work, inside(c, left), n);
+        return ps(v, t, out, list, work, inside(c, left), n).to(skip(t, c.left, w.at));
     }
     plain(w, t, out, list, work, c)
 }
@@ -193,7 +197,11 @@ fn pt(
     if is_spread(t, c.left, p) {
         if has_first(t, p) {
             let left = less(c.left);
-            let v = node(w.to(step(t, p, 2)), t, out, list, work, under(c, left));
+            let v = node(w.to(step(t, p, 2)), t, out, list, work, under(c, left)).to(skip(
+                t,
+                c.left,
+                p,
+            ));
             let k = run_of(t, c.left, n, v.at);
             return pending(v, out, k);
         }
@@ -202,7 +210,7 @@ fn pt(
     node(w, t, out, list, work, c)
 }
 
-// A node as it stands; one without nodes in it is copied whole.
+// A node as it stands.
 fn plain(w: Walk, t: &[u8], out: &mut [u8], list: &mut [u8], work: &mut [u8], c: Place) -> Walk
     ensures { λ r. ⌜ (r .at ≡ lookNode (now (t .entry)) (c .left) (w .at) .next) × (Good (now (t .entry)) (c .left) (w .at) → Does (goingOf (now (out .entry)) (now (list .entry)) (now (work .entry)) w) (goingOf (now (out .exit)) (now (list .exit)) (now (work .exit)) r) (stays (placeOf c) (lookNode (now (t .entry)) (c .left) (w .at) .value))) ⌝ }
 {
@@ -212,16 +220,17 @@ fn plain(w: Walk, t: &[u8], out: &mut [u8], list: &mut [u8], work: &mut [u8], c:
     }
     let start = w.at;
     let kind = peek(t, start);
-    if is_leaf(kind) {
-        return w.copy(t, out, skip(t, left, start));
-    }
     let map = peek(t, step(t, start, 1));
     let v = w.copy(t, out, step(t, start, 2));
     let inner = parts_of(c, kind, 0, left - 1);
     if kind == SWITCH {
         let u = fs(v, t, out, list, work, inner, SWITCH_FRONT, map, false);
         let cases = parts_of(c, kind, 2, left - 1);
-        return fs(u, t, out, list, work, cases, SWITCH_CASES, map / 4, false);
+        return fs(u, t, out, list, work, cases, SWITCH_CASES, map / 4, false).to(skip(
+            t,
+            left,
+            start,
+        ));
     }
     fs(
         v,
@@ -233,7 +242,7 @@ fn plain(w: Walk, t: &[u8], out: &mut [u8], list: &mut [u8], work: &mut [u8], c:
         row(kind),
         map,
         container(kind),
-    )
+    ).to(skip(t, left, start))
 }
 
 fn fs(

@@ -29,6 +29,7 @@ pub mod Accepted
 pub mod DistinctNames
 pub mod Simple
 pub mod Occurs
+pub mod Quiet
 pub mod SoundKeys
 pub mod SoundRules
 pub mod SoundSteps

@@ -3,11 +3,12 @@
 use mathlib.Core.Path.{_≡_, refl, sym, ap, _∙_, subst}
 use mathlib.Core.Bool.{Bool, true, false, cond, _||_}
 use mathlib.Core.List.{List, [], _∷_, append-nil}
-use Prim.Native.Nat.{ℕ, zero, suc, _-_, _%_, _<_, _≤_}
+use Prim.Native.Nat.{ℕ, zero, suc, _+_, _-_, _*_, _%_, _<_, _≤_}
 use native.Mathlib.Omega.{arith}
 use lib.Dec.{eqb, ltb}
-use lib.ListN.{length, getD, replicate, length-append}
-use borrow.Author.Tests.{eq-eqb, ne-eqb}
+use lib.ListN.{length, getD, take, replicate, length-append, length-replicate}
+use lib.Seq.{length-take-le}
+use borrow.Author.Tests.{eq-eqb, ne-eqb, lt-leb}
 use Rattle.tree.specs.Tree.{Node}
 use Rattle.tree.specs.Grammar.Stage.{input}
 use Rattle.tree.specs.Read.{Got, Refusal, numberOf, readTree}
@@ -16,8 +17,11 @@ use Rattle.tree.specs.Answer.{answer}
 use Rattle.tree.specs.declared.read.Answer.{Answer}
 use Rattle.tree.specs.declared.read.Answer.the-variants.{Read, Refused}
 use Rattle.tree.specs.WellFormed.{Bytes}
-use Rattle.tree.specs.Look.{lookNode, Seen}
-use Rattle.tree.proofs.Look as look
+use Rattle.tree.specs.Look.{lookNode, Seen, seen}
+use Rattle.tree.specs.Note as note
+use Rattle.tree.specs.Read.Refusal.{notATree}
+use Rattle.tree.proofs.Noted.{Noted, filled-law, within-limit}
+use Rattle.tree.proofs.Look.{tree-node}
 use Rattle.lowering.specs.Weight.{walked}
 use Rattle.lowering.specs.Refusals.{limitOutside, unknownOptions, smallWork}
 use Rattle.lowering.specs.Answer.{Lent, Result, Outcome, top, highestLimit, limitRefused, inForce, afterReading, filled, lowering, outcomeOf, outcome}
@@ -37,7 +41,7 @@ use Rattle.sink.proofs.Indices.{full-nothing}
 use Rattle.walk.specs.Whole.{Good}
 use Rattle.rest_spread.specs.Entry.{lentOf, handedBack}
 use Rattle.rest_spread.specs.declared.Lowered.{Lowered}
-use Rattle.walk.proofs.AcceptedIsGood.{accepted-good}
+use Rattle.walk.proofs.AcceptedIsGood.{noted-good}
 
 -- ---- from the root
 
@@ -134,6 +138,21 @@ limit-zero limit e = rw (eq-eqb limit 0 e) refl
 pub limit-some : (limit : ℕ) → (limit ≡ 0 → ⊥) → ltb highestLimit limit ≡ limitRefused limit
 limit-some limit e = rw (ne-eqb limit 0 e) refl
 
+-- ---- a tree with its notes
+
+-- a room of which twice the tree's length is lent
+pub room-part : (k m : ℕ) → k ≤ m → k ≡ length {A = ℕ} (take k (replicate m 0))
+room-part k m h = sym (length-take-le k (replicate m 0) (subst (λ (j : ℕ). k ≤ j) (sym (length-replicate m 0)) h))
+
+pub room-twice : (n m : ℕ) → n + n ≤ m → length {A = ℕ} (take (2 * n) (replicate m 0)) ≡ n + n
+room-twice n m h = let e : 2 * n ≡ n + n = omega arith in sym (room-part (2 * n) m (omega arith)) ∙ e
+
+read-short : (d : ℕ) (l : List ℕ) (n : Node) (q j : ℕ) → readTree input d l ≡ got n q j → q ≤ 16384
+read-short d l n q j e = omega (arith, within-limit input d l n q j e, tree-node l input d n q j e .1)
+
+slice-stands : (d : ℕ) (l : List ℕ) (n : Node) (q j : ℕ) → Noted d l n q j → lookNode l d 0 ≡ seen n q
+slice-stands d l n q j w = let z : d + 0 ≡ d = omega arith in ap (λ (x : ℕ). lookNode l x 0) (sym z) ∙ w .looks 0
+
 -- ---- the call
 
 module _ (limit options : ℕ) (tree out list work : List ℕ) where
@@ -141,53 +160,53 @@ module _ (limit options : ℕ) (tree out list work : List ℕ) where
   s = lentOf out list work
 
   -- the walk of an accepted tree
-  module _ (mark : ℕ) (each : (i : ℕ) → getD tree i 0 < 256)
+  module _ (mark : ℕ) (slice : List ℕ) (each : (i : ℕ) → getD slice i 0 < 256)
       (o l w : List ℕ) (k : Sink) (begun : stateOf o l w k ≡ start (length out) (length list) (length work) mark)
       (o′ l′ w′ : List ℕ) (k′ : Sink) (r′ : ℕ)
-      (does : Good tree limit 0 → Does (record { state = stateOf o l w k; refusal = 0 }) (record { state = stateOf o′ l′ w′ k′; refusal = r′ })
-      (emits (record { root = true; statement = false; mark = 0 }) (lookNode tree limit 0 .value)))
+      (does : Good slice limit 0 → Does (record { state = stateOf o l w k; refusal = 0 }) (record { state = stateOf o′ l′ w′ k′; refusal = r′ })
+      (emits (record { root = true; statement = false; mark = 0 }) (lookNode slice limit 0 .value)))
     where
-      module _ (n : Node) (q : ℕ) (read : readTree input limit tree ≡ got n q mark) where
+      module _ (given : List ℕ) (n : Node) (q : ℕ) (read : readTree input limit given ≡ got n q mark) (known : Noted limit slice n q mark) where
         ends : Way (start (length out) (length list) (length work) mark) (stateOf o′ l′ w′ k′) (eventsIn (deeds mark 0 (walked top n))) × (r′ ≡ firstRefused (deeds mark 0 (walked top n)))
         ends =
             let c : Place = record { root = true; statement = false; mark = 0 } in
             let d : Does (record { state = stateOf o l w k; refusal = 0 }) (record { state = stateOf o′ l′ w′ k′; refusal = r′ }) (emits c n) =
             subst (λ (x : Seen Node). Does (record { state = stateOf o l w k; refusal = 0 }) (record { state = stateOf o′ l′ w′ k′; refusal = r′ }) (emits c (x .value)))
-            (look.tree-stands tree input limit n q mark read)
-            (does (accepted-good limit tree n q mark (each-byte tree each) read)) in
+            (slice-stands limit slice n q mark known)
+            (does (noted-good limit slice n q mark (each-byte slice each) (read-short limit given n q mark read) known)) in
             walked-to (length out) (length list) (length work) mark c n (stateOf o l w k) (stateOf o′ l′ w′ k′) 0 r′ refl begun refl d
 
       -- something is refused
       pub ends-refused : (x : Outcome) → 0 < r′ → length o′ ≡ length out → length l′ ≡ length list → length w′ ≡ length work
           → x ≡ outcomeOf (lentOf o′ l′ w′) (Result.refusal r′)
-          → (n : Node) (q : ℕ) → 65536 ≤ length work → readTree input limit tree ≡ got n q mark
+          → (given : List ℕ) (n : Node) (q : ℕ) → Bytes given → 65536 ≤ length work → readTree input limit given ≡ got n q mark → Noted limit slice n q mark
           → x ≡ outcomeOf s (afterReading options s (got n q mark))
       unfolding afterReading
-      ends-refused x some a b c e n q big read =
+      ends-refused x some a b c e given n q bytes big read known =
           e ∙ ap (λ (u : Lent). outcomeOf u (Result.refusal r′)) (lent-kept (length out) (length list) (length work) (length o′) (length l′) (length w′) a b c)
-          ∙ ap (outcomeOf s) (sym (by-number r′ some (ends n q read .1)))
+          ∙ ap (outcomeOf s) (sym (by-number r′ some (ends given n q read known .1)))
         where
           by-number : (r : ℕ) → 0 < r → r ≡ firstRefused (deeds mark 0 (walked top n)) → afterReading options s (got n q mark) ≡ Result.refusal r
           by-number zero h f = absurd (omega arith)
-          by-number (suc r) h f = accepted-refusal limit tree (each-byte tree each) n q mark read options s r (sym f)
+          by-number (suc r) h f = accepted-refusal limit given bytes n q mark read options s r (sym f)
 
       -- nothing is
       ends-handed : (x : Outcome) → r′ ≡ 0 → x ≡ outcomeFrom options (finished (stateOf o′ l′ w′ k′))
-          → (n : Node) (q : ℕ) → 65536 ≤ length work → readTree input limit tree ≡ got n q mark
+          → (given : List ℕ) (n : Node) (q : ℕ) → Bytes given → 65536 ≤ length work → readTree input limit given ≡ got n q mark → Noted limit slice n q mark
           → x ≡ outcomeOf s (afterReading options s (got n q mark))
       unfolding afterReading
-      ends-handed x none′ e n q big read =
-          e ∙ ap (outcomeFrom options) (way-ends (length out) (length list) (length work) mark (stateOf o′ l′ w′ k′) _ (omega arith) (ends n q read .0))
-          ∙ accepted-outcome limit tree (each-byte tree each) n q mark read options s (omega arith) (sym (ends n q read .1) ∙ none′)
+      ends-handed x none′ e given n q bytes big read known =
+          e ∙ ap (outcomeFrom options) (way-ends (length out) (length list) (length work) mark (stateOf o′ l′ w′ k′) _ (omega arith) (ends given n q read known .0))
+          ∙ accepted-outcome limit given bytes n q mark read options s (omega arith) (sym (ends given n q read known .1) ∙ none′)
 
       pub ends-fits : (o″ l″ w″ : List ℕ) (v : Written) → r′ ≡ 0 → endOf o″ l″ w″ v ≡ finished (stateOf o′ l′ w′ k′) → v .fits ≡ true
-          → (n : Node) (q : ℕ) → 65536 ≤ length work → readTree input limit tree ≡ got n q mark
+          → (given : List ℕ) (n : Node) (q : ℕ) → Bytes given → 65536 ≤ length work → readTree input limit given ≡ got n q mark → Noted limit slice n q mark
           → handedBack (record { answer = 0; helpers = v .helpers; options = options; «tree_len» = v .tree; «list_len» = v .list }) o″ l″ w″
           ≡ outcomeOf s (afterReading options s (got n q mark))
       ends-fits o″ l″ w″ v none′ e f = ends-handed _ none′ (handed-fits options o″ l″ w″ v (finished (stateOf o′ l′ w′ k′)) e f)
 
       pub ends-over : (o″ l″ w″ : List ℕ) (v : Written) → r′ ≡ 0 → endOf o″ l″ w″ v ≡ finished (stateOf o′ l′ w′ k′) → v .fits ≡ false
-          → (n : Node) (q : ℕ) → 65536 ≤ length work → readTree input limit tree ≡ got n q mark
+          → (given : List ℕ) (n : Node) (q : ℕ) → Bytes given → 65536 ≤ length work → readTree input limit given ≡ got n q mark → Noted limit slice n q mark
           → handedBack (record { answer = 7; helpers = v .helpers; options = 0; «tree_len» = v .tree; «list_len» = v .list }) o″ l″ w″
           ≡ outcomeOf s (afterReading options s (got n q mark))
       ends-over o″ l″ w″ v none′ e f = ends-handed _ none′ (handed-over options o″ l″ w″ v (finished (stateOf o′ l′ w′ k′)) e f)
@@ -206,29 +225,36 @@ module _ (limit options : ℕ) (tree out list work : List ℕ) where
     unfolding outcome
     entry-work t k u h = h ∙ ap (outcomeOf s) (sym (work-small limit options tree s (sym tested ∙ t) k u))
 
-    -- and where the reader answers
-    module _ (free : refused ≡ false) (known : options ≤ 15) (big : 65536 ≤ length work) (a : Answer) (answered : a ≡ answer (readTree input limit tree)) where
-      decided : (g : Got Node) → readTree input limit tree ≡ g → outcome limit options tree s ≡ outcomeOf s (afterReading (inForce options) s g)
-      unfolding outcome
-      decided g e =
-          ap (outcomeOf s) (reading-decides limit options tree s (record { allowed = sym tested ∙ free; known = known; roomy = big }))
-          ∙ ap (λ (h : Got Node). outcomeOf s (afterReading (inForce options) s h)) e
+    -- and what the reading gives
+    pub entry-read : refused ≡ false → options ≤ 15 → 65536 ≤ length work → x ≡ outcomeOf s (afterReading (options % 8) s (readTree input limit tree)) → x ≡ outcome limit options tree s
+    unfolding outcome inForce
+    entry-read t k big h = h ∙ ap (outcomeOf s) (sym (reading-decides limit options tree s (record { allowed = sym tested ∙ t; known = k; roomy = big })))
 
-      -- no tree, or one too deep
-      pub entry-refused : (m : ℕ) → a ≡ Refused m → x ≡ outcomeOf s (Result.refusal m) → x ≡ outcome limit options tree s
-      unfolding afterReading
-      entry-refused m e h =
-          let g : (r : Refusal) × ((readTree input limit tree ≡ Got.refused r) × (m ≡ numberOf r)) = refused-by (readTree input limit tree) m (sym e ∙ answered) in
-          h ∙ ap (λ (k : ℕ). outcomeOf s (Result.refusal k)) (g .1 .1) ∙ sym (decided (Got.refused (g .0)) (g .1 .0))
+    -- a tree that is too long is none
+    pub entry-long : refused ≡ false → options ≤ 15 → 65536 ≤ length work → 16384 < length tree → x ≡ outcomeOf s (Result.refusal (numberOf notATree)) → x ≡ outcome limit options tree s
+    unfolding afterReading readTree
+    entry-long t k big long h = entry-read t k big (h ∙ rw (lt-leb (length tree) 16384 long) refl)
 
-      -- a tree: it is lowered with the options in force
-      pub entry-lowered : (q j : ℕ) → a ≡ Read q j
-          → ((n : Node) (q : ℕ) → 65536 ≤ length work → readTree input limit tree ≡ got n q j → x ≡ outcomeOf s (afterReading (options % 8) s (got n q j)))
-          → x ≡ outcome limit options tree s
-      unfolding inForce
-      entry-lowered q j e h =
-          let g : (n : Node) × (readTree input limit tree ≡ got n q j) = read-by (readTree input limit tree) q j (sym e ∙ answered) in
-          h (g .0) q big (g .1) ∙ sym (decided (got (g .0) q j) (g .1))
+-- ---- the reading
+
+module _ (limit options : ℕ) (tree room out list work : List ℕ) (x : Outcome) (a : Answer) (answered : a ≡ answer (readTree input limit tree)) where
+  -- no tree, or one too deep
+  pub read-refused : (m : ℕ) → a ≡ Refused m → x ≡ outcomeOf (lentOf out list work) (Result.refusal m) → x ≡ outcomeOf (lentOf out list work) (afterReading options (lentOf out list work) (readTree input limit tree))
+  unfolding afterReading
+  read-refused m e h =
+      let g : (r : Refusal) × ((readTree input limit tree ≡ Got.refused r) × (m ≡ numberOf r)) = refused-by (readTree input limit tree) m (sym e ∙ answered) in
+      h ∙ ap (λ (k : ℕ). outcomeOf (lentOf out list work) (Result.refusal k)) (g .1 .1)
+      ∙ ap (λ (z : Got Node). outcomeOf (lentOf out list work) (afterReading options (lentOf out list work) z)) (sym (g .1 .0))
+
+  -- a tree: it is noted and walked
+  pub read-lowered : (q j : ℕ) (noted : List ℕ) → a ≡ Read q j → ((i : ℕ) → getD tree i 0 < 256) → ((i : ℕ) → getD noted i 0 < 256) → noted ≡ note.filled limit tree room
+      → ((l : List ℕ) (n : Node) (q : ℕ) → Bytes l → 65536 ≤ length work → readTree input limit l ≡ got n q j → Noted limit noted n q j → x ≡ outcomeOf (lentOf out list work) (afterReading options (lentOf out list work) (got n q j)))
+      → length room ≡ length tree + length tree → 65536 ≤ length work → x ≡ outcomeOf (lentOf out list work) (afterReading options (lentOf out list work) (readTree input limit tree))
+  read-lowered q j noted e each all f h long big =
+      let g : (n : Node) × (readTree input limit tree ≡ got n q j) = read-by (readTree input limit tree) q j (sym e ∙ answered) in
+      let known : Noted limit noted (g .0) q j =
+      subst (λ (z : List ℕ). Noted limit z (g .0) q j) (sym f) (filled-law limit tree room (g .0) q j long (g .1) (subst Bytes f (each-byte noted all))) in
+      h tree (g .0) q (each-byte tree each) big (g .1) known ∙ ap (λ (z : Got Node). outcomeOf (lentOf out list work) (afterReading options (lentOf out list work) z)) (sym (g .1))
 
 -- ---- for callers
 

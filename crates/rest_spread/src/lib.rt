@@ -4,19 +4,21 @@ pub mod version;
 
 use emit::node;
 use sink::ends;
+use tree::note;
 use tree::read;
 use tree::read::Answer;
 use walk::place::Place;
 use walk::walk::Walk;
 ghost use mathlib.Core.Path.{_≡_};
 ghost use mathlib.Core.List.{List};
-ghost use Prim.Native.Nat.{ℕ, _<_, _≤_};
+ghost use Prim.Native.Nat.{ℕ, _+_, _<_, _≤_};
 ghost use lib.ListN.{length};
 ghost use Rattle.tree.specs.Tree.{Node};
 ghost use Rattle.tree.specs.Grammar.Stage.{input};
 ghost use Rattle.tree.specs.Read.{readTree};
 ghost use Rattle.tree.specs.Read.Got.{got};
 ghost use Rattle.tree.specs.WellFormed.{Bytes};
+ghost use Rattle.tree.proofs.Noted.{Noted};
 ghost use Rattle.lowering.specs.Answer.{Result, highestLimit, limitRefused, afterReading, outcomeOf, outcome};
 ghost use Rattle.rest_spread.specs.Entry.{lentOf, handedBack};
 
@@ -44,7 +46,7 @@ fn refuse(answer: u8, out: &mut [u8], list: &mut [u8], work: &mut [u8]) -> Lower
     }
 }
 
-// The walk of a tree that is accepted within the limit, whose next mark is given.
+// The walk of a tree that is accepted within the limit, whose next mark is given. Its notes stand behind it.
 fn lower(
     limit: usize,
     options: u8,
@@ -54,7 +56,7 @@ fn lower(
     work: &mut [u8],
     mark: usize,
 ) -> Lowered
-    ensures { λ r. ⌜ ((n : Node) (q : ℕ) → 65536 ≤ length (now (work .entry)) → readTree input limit (now (tree .entry)) ≡ got n q mark → handedBack r (now (out .exit)) (now (list .exit)) (now (work .exit)) ≡ outcomeOf (lentOf (now (out .entry)) (now (list .entry)) (now (work .entry))) (afterReading options (lentOf (now (out .entry)) (now (list .entry)) (now (work .entry))) (got n q mark))) ⌝ }
+    ensures { λ r. ⌜ ((l : List ℕ) (n : Node) (q : ℕ) → Bytes l → 65536 ≤ length (now (work .entry)) → readTree input limit l ≡ got n q mark → Noted limit (now (tree .entry)) n q mark → handedBack r (now (out .exit)) (now (list .exit)) (now (work .exit)) ≡ outcomeOf (lentOf (now (out .entry)) (now (list .entry)) (now (work .entry))) (afterReading options (lentOf (now (out .entry)) (now (list .entry)) (now (work .entry))) (got n q mark))) ⌝ }
 {
     let k = ends::begin(out, list, work, mark);
     let w = Walk {
@@ -93,6 +95,27 @@ fn lower(
     }
 }
 
+// The tree is read, noted in `room`, which is twice as long, and walked there.
+fn read_and_lower(
+    limit: usize,
+    options: u8,
+    tree: &[u8],
+    room: &mut [u8],
+    out: &mut [u8],
+    list: &mut [u8],
+    work: &mut [u8],
+) -> Lowered
+    ensures { λ r. ⌜ (length (now (room .entry)) ≡ length (now (tree .entry)) + length (now (tree .entry)) → 65536 ≤ length (now (work .entry)) → handedBack r (now (out .exit)) (now (list .exit)) (now (work .exit)) ≡ outcomeOf (lentOf (now (out .entry)) (now (list .entry)) (now (work .entry))) (afterReading options (lentOf (now (out .entry)) (now (list .entry)) (now (work .entry))) (readTree input limit (now (tree .entry))))) ⌝ }
+{
+    match read::read_tree(tree, limit) {
+        Answer::Refused(n) => refuse(n, out, list, work),
+        Answer::Read(_, mark) => {
+            note::fill(tree, room, limit);
+            lower(limit, options, room, out, list, work, mark)
+        }
+    }
+}
+
 // The highest limit, which is also that of a caller who names none (request 5).
 const HIGHEST_LIMIT: u32 = 128;
 
@@ -125,18 +148,33 @@ pub extern "C" fn rest_spread_lower_within(
         return refuse(2, tree_out, list_out, work);
     }
     let limit = depth as usize;
-    match read::read_tree(tree, limit) {
-        Answer::Refused(n) => refuse(n, tree_out, list_out, work),
-        Answer::Read(_, mark) => lower(
+    let options = (options % 8) as u8;
+    let n = tree.len();
+    if 16384 < n {
+        return refuse(3, tree_out, list_out, work);
+    }
+    if n <= 1024 {
+        let mut room = [0u8; 2048];
+        return read_and_lower(
             limit,
-            (options % 8) as u8,
+            options,
             tree,
+            &mut room[..2 * n],
             tree_out,
             list_out,
             work,
-            mark,
-        ),
+        );
     }
+    let mut room = [0u8; 32768];
+    read_and_lower(
+        limit,
+        options,
+        tree,
+        &mut room[..2 * n],
+        tree_out,
+        list_out,
+        work,
+    )
 }
 
 // The same where no limit is named.

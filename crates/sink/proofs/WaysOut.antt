@@ -7,11 +7,11 @@ use Prim.Native.Nat.{ℕ, zero, suc, _+_, _-_, _*_, _/_, _%_, _<_, _≤_, min}
 use native.Mathlib.Nat.{add-zero}
 use native.Mathlib.Omega.{arith}
 use native.Mathlib.Numerals.{add-one, unary-clauses}
-use lib.Dec.{ltb}
-use lib.ListN.{length, getD, set, take, drop, replicate, length-drop, List·getD-eq-default, drop-of-length-le, replicate-append-replicate, take-append-drop}
+use lib.Dec.{ltb, leb}
+use lib.ListN.{length, getD, set, take, drop, replicate, length-drop, length-set, List·getD-eq-default, drop-of-length-le, replicate-append-replicate, take-append-drop}
 use lib.Seq.{set-out, slice, slice-cons, take-all, take-suc-set, length-take-le}
 use borrow.Rule.Slice.PartMut.{putMid, midOf, mid-len, set-mid-at}
-use borrow.Author.Tests.{lt-ltb, le-ltb, ne-eqb}
+use borrow.Author.Tests.{lt-ltb, le-ltb, ne-eqb, leb-true}
 use Rattle.sink.specs.Machine.{State, Event, stateOf, withTree, withList, withKeys, withEntries, withDeclarators, withNext, withMark, withHelpers, low, high, part, oneMore, wideIn, setWide, putTree, putList, putKeys, putEntry, cellOf, setCell, known, patchList, patchWork, numberOf, settle, listedAt, excludedAt, setCellIn, withHelper, maskOf, useHelper, nextMark, countEntry, countDeclarator, allTree, allList, allKeys, step, steps, puts, lists, excludes, start, closed, Ended, endOf, over, nothing, ended, finished}
 use Rattle.sink.specs.Machine.Event.{put, helper, temporary, newMark, make, listed, listedTemporary, entry, excluded, excludedTemporary, declarator}
 use Rattle.sink.proofs.Runs.{wide-right}
@@ -395,6 +395,19 @@ module _ (l : List ℕ) (s₀ : State) (i n : ℕ) (s : State) where
   pub excluded-copy-more : (s₁ : State) → i < n → n ≤ length l → s₁ ≡ step s (excluded (getD l i 0)) → steps s (excludes (part i n l)) ≡ s₀ → steps s₁ (excludes (part (i + 1) n l)) ≡ s₀
   unfolding steps excludes
   excluded-copy-more s₁ h k p e = ap (λ (z : State). steps z (excludes (part (i + 1) n l))) p ∙ ap (λ (b : List ℕ). steps s (excludes b)) (sym (part-next i n l h k)) ∙ e
+
+-- a byte of a block that has room
+pub copied-on : (out₀ out from : List ℕ) (at p first stop i : ℕ) → stop ≤ length from → i < stop → length out ≡ length out₀ → p + (stop - i) ≤ length out → p + (stop - i) ≤ 32768
+    → ((k : Sink) (l w : List ℕ) → steps (stateOf out l w (withTree k p)) (puts (part i stop from)) ≡ steps (stateOf out₀ l w (withTree k at)) (puts (part first stop from)))
+    → (length (set out p (getD from i 0)) ≡ length out₀) × (p + 1 + (stop - (i + 1)) ≤ length (set out p (getD from i 0))) × (p + 1 + (stop - (i + 1)) ≤ 32768)
+    × ((k : Sink) (l w : List ℕ) → steps (stateOf (set out p (getD from i 0)) l w (withTree k (p + 1))) (puts (part (i + 1) stop from)) ≡ steps (stateOf out₀ l w (withTree k at)) (puts (part first stop from)))
+copied-on out₀ out from at p first stop i h g e a b r =
+    let n : length (set out p (getD from i 0)) ≡ length out = length-set out p (getD from i 0) in
+    (n ∙ e, omega arith, omega arith, λ k l w. copy-more from _ i stop _ _ g h (put-in (stateOf out l w (withTree k p)) _ _ (omega arith) refl) (r k l w))
+
+-- room for the bytes from `first` up to `stop` behind `at`
+pub room-left : (at first stop slice most : ℕ) → most ≡ min slice 32768 → at ≤ most → first ≤ stop → leb (stop - first) (most - at) ≡ true → (at + (stop - first) ≤ slice) × (at + (stop - first) ≤ 32768)
+room-left at first stop slice most e h g t = let w = leb-true (stop - first) (most - at) t in (omega arith, omega arith)
 
 module _ (l : List ℕ) (s : State) (i n e : ℕ) (q : n ≡ min e (length l)) where
   least-end : part i n l ≡ part i e l

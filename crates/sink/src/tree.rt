@@ -3,9 +3,11 @@ use crate::Sink;
 use crate::bytes;
 use crate::cells;
 ghost use mathlib.Core.Path.{_≡_};
-ghost use Prim.Native.Nat.{ℕ};
+ghost use Prim.Native.Nat.{ℕ, _+_, _-_, _≤_};
 ghost use lib.Dec.{ltb};
+ghost use mathlib.Core.Bool.{true};
 ghost use mathlib.Core.List.{List, [], _∷_};
+ghost use lib.ListN.{length};
 ghost use Rattle.sink.specs.declared.Sink.{Sink};
 ghost use Rattle.sink.specs.Machine.{treeLimit, withTree, stateOf, step, steps, puts, low, high, part};
 ghost use Rattle.sink.specs.Machine.Event.{put, helper, temporary, newMark};
@@ -19,6 +21,49 @@ fn put_at(out: &mut [u8], at: usize, b: u8) -> usize
         return at + 1;
     }
     32769
+}
+
+// Whether the bytes from a position up to another have room behind `at`, within the limit and the slice.
+fn has_room(at: usize, start: usize, stop: usize, slice: usize) -> bool
+    ensures { λ r. ⌜ (r ≡ true → (at + (stop - start) ≤ slice) × (at + (stop - start) ≤ treeLimit)) ⌝ }
+{
+    let most = bytes::least(slice, 32768);
+    if most < at {
+        return false;
+    }
+    if stop < start {
+        return true;
+    }
+    stop - start <= most - at
+}
+
+// Bytes that have room, in one block.
+fn copy_whole(out: &mut [u8], at: usize, from: &[u8], start: usize, stop: usize) -> usize
+    requires { ⌜ (stop ≤ length (now from)) × (at + (stop - start) ≤ length (now out)) × (at + (stop - start) ≤ treeLimit) ⌝ }
+    ensures { λ r. ⌜ ((k : Sink) (l w : List ℕ) → stateOf (now (out .exit)) l w (withTree k r) ≡ steps (stateOf (now (out .entry)) l w (withTree k at)) (puts (part start stop (now (from .entry))))) ⌝ }
+{
+    let mut p = at;
+    let mut i = start;
+    while i < stop {
+        out[p] = from[i];
+        p += 1;
+        i += 1;
+    }
+    p
+}
+
+// Bytes one by one, as far as they go.
+fn copy_some(out: &mut [u8], at: usize, from: &[u8], start: usize, stop: usize) -> usize
+    requires { ⌜ stop ≤ length (now from) ⌝ }
+    ensures { λ r. ⌜ ((k : Sink) (l w : List ℕ) → stateOf (now (out .exit)) l w (withTree k r) ≡ steps (stateOf (now (out .entry)) l w (withTree k at)) (puts (part start stop (now (from .entry))))) ⌝ }
+{
+    let mut p = at;
+    let mut i = start;
+    while i < stop {
+        p = put_at(out, p, from[i]);
+        i += 1;
+    }
+    p
 }
 
 impl Sink {
@@ -59,14 +104,13 @@ impl Sink {
     pub fn copy(mut self, out: &mut [u8], from: &[u8], start: usize, end: usize) -> Sink
         ensures { λ r. ⌜ ((l w : List ℕ) → stateOf (now (out .exit)) l w r ≡ steps (stateOf (now (out .entry)) l w self) (puts (part start end (now (from .entry))))) ⌝ }
     {
-        let mut at = self.tree;
-        let mut i = start;
         let stop = bytes::least(end, from.len());
-        while i < stop {
-            at = put_at(out, at, from[i]);
-            i += 1;
+        let at = self.tree;
+        if has_room(at, start, stop, out.len()) {
+            self.tree = copy_whole(out, at, from, start, stop);
+            return self;
         }
-        self.tree = at;
+        self.tree = copy_some(out, at, from, start, stop);
         self
     }
 

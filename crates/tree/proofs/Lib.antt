@@ -11,3 +11,9 @@ pub mod Complete
 pub mod Limit
 pub mod Deep
 pub mod Look
+pub mod Noting
+pub mod Laid
+pub mod Passed
+pub mod Further
+pub mod Told
+pub mod Noted

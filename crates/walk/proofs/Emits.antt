@@ -12,7 +12,7 @@ use Rattle.tree.specs.Tree.Node.{node}
 use Rattle.tree.specs.Grammar.{Sort, Field, fieldsOf, kinds}
 use Rattle.tree.specs.Read.{byteAt, wideAt, sortIn}
 use Rattle.tree.specs.Rows.{fieldsIn, fieldOf, sortOf, sortFrom, unpacked}
-use Rattle.tree.specs.Look.{Seen, onward, lookItem, lookItems, lookField, lookSlot, lookFields, lookNode}
+use Rattle.tree.specs.Look.{Seen, onward, quietAt, lookItem, lookItems, lookField, lookSlot, lookFields, lookNode}
 use Rattle.tree.specs.Answer.{Peeked, Wide}
 use Rattle.tree.proofs.Rows.{NoKey, no-key, row-done, row-first, first-sort}
 use Rattle.tree.specs.Look as Look
@@ -28,7 +28,6 @@ use Rattle.direct.proofs.Threads.{say-nothing, then-nothing, then-assoc}
 use Rattle.direct.proofs.OneLevel.{emits-nowhere}
 use Rattle.direct.proofs.StatementMarks.{emits-item}
 use Rattle.walk.specs.Run.{Going, Does}
-use Rattle.walk.specs.Turns.{leafKind}
 use Rattle.walk.specs.Whole.{holeAt, itemDeeds, slotDeeds, GoodItem, GoodItems, GoodList, GoodField, GoodSlot, GoodFields, GoodHere, Good}
 use Rattle.walk.proofs.Running.{does-then, does-nothing, does-as}
 
@@ -373,18 +372,17 @@ module _ (t : List ℕ) where
   plain-does c c′ zero at k m row p q e x l z a b f s r h i j v u = absurd (z refl)
   plain-does c c′ (suc d) at k m row p q e x l z a b f s r h i j v u = plain-here c c′ d at k m row p q e x l a b f r h i j (all-below c c′ k s v) (omega arith)
 
-  pub plain-next : (d at k m row p q e x s : ℕ) → (d ≡ 0 → ⊥) → k ≡ byteAt t at → p ≡ onward t at 1 → m ≡ byteAt t p
-      → fieldsIn row ≡ fieldsOf k → q ≡ onward t at 2 → x ≡ q → e ≡ d - 1 → s ≡ lookFields t (lookNode t e) (fieldsIn row) m x .next → s ≡ lookNode t d at .next
-  plain-next d at k m row p q e x s z a b f r h i u v =
-      skipping.node-fields t d at k m row p x s z a b f r (i ∙ h) (v ∙ ap (λ (y : ℕ). lookFields t (lookNode t y) (fieldsIn row) m x .next) u)
+  -- what is noted as quiet is copied whole
+  pub quiet-does : {g g′ : Going} (c : Place) (d at q : ℕ) (b : Bool) → b ≡ quietAt t at → b ≡ true → q ≡ lookNode t d at .next → Does g g′ (say (puts (part at q t))) → Good t d at
+      → Does g g′ (emits c (lookNode t d at .value))
+  unfolding Good lookNode
+  quiet-does c zero at q b e h i does good = absurd good
+  quiet-does c (suc d) at q b e h i does good =
+      does-as does (ap (λ (x : ℕ). say (puts (part at x t))) (i ∙ good .noted) ∙ ap (λ (bs : List ℕ). say (puts bs)) (good .bytes) ∙ sym (good .quiet (sym e ∙ h) c))
 
   -- ---- a Switch: what stands before its cases is at another place than they are
 
   module _ (R : ℕ → Seen Node) (m at : ℕ) where
-    cases-next : lookFields t R (fieldsIn switchCases) (m / 4) (lookFields t R (fieldsIn switchFront) m at .next) .next ≡ lookFields t R (fieldsOf 43) m at .next
-    unfolding lookFields fieldsOf kinds unpacked
-    cases-next = let h : m / 4 ≡ m / 2 / 2 = omega arith in rw h refl
-
     module _ (G : ℕ → Type 0) (good : GoodFields t R G false (fieldsOf 43) m at) where
       front-good : GoodFields t R G false (fieldsIn switchFront) m at
       unfolding GoodFields fieldsOf kinds unpacked
@@ -466,16 +464,6 @@ module _ (t : List ℕ) where
       (subst (λ (j : ℕ). GoodFields t (lookNode t j) (Good t j) false (fieldsIn switchFront) m x → Does g₁ g₂ (emitsFields false a (lookFields t (lookNode t j) (fieldsIn switchFront) m x .value))) e first)
       (subst (λ (j : ℕ). GoodFields t (lookNode t j) (Good t j) false (fieldsIn switchCases) (m / 4) y → Does g₂ g′ (emitsFields false b (lookFields t (lookNode t j) (fieldsIn switchCases) (m / 4) y .value))) l rest)
 
-  pub switch-next : (d at k m p q e₁ e₂ x y s : ℕ) → (d ≡ 0 → ⊥) → k ≡ byteAt t at → k ≡ 43 → p ≡ onward t at 1 → m ≡ byteAt t p → q ≡ onward t at 2 → x ≡ q → e₁ ≡ d - 1 → e₂ ≡ d - 1
-      → y ≡ lookFields t (lookNode t e₁) (fieldsIn switchFront) m x .next → s ≡ lookFields t (lookNode t e₂) (fieldsIn switchCases) (m / 4) y .next → s ≡ lookNode t d at .next
-  unfolding lookNode
-  switch-next zero at k m p q e₁ e₂ x y s z i n u v w o e l f h = absurd (z refl)
-  switch-next (suc d) at k m p q e₁ e₂ x y s z i n u v w o e l f h =
-      let e : e₁ ≡ d = omega arith in
-      let l : e₂ ≡ d = omega arith in
-      let a : s ≡ lookFields t (lookNode t d) (fieldsIn switchCases) (m / 4) (lookFields t (lookNode t d) (fieldsIn switchFront) m x .next) .next = h ∙ rw (l, f, e) refl in
-      a ∙ cases-next (lookNode t d) m x ∙ rw (sym n, o, w, v, u, i) refl
-
 -- ---- tests of the code
 
 pub and-no : (a b : Bool) → b ≡ true → false ≡ a && not b
@@ -517,7 +505,3 @@ no-scope k i a b c d e f g h j l =
 pub no-container : (k : ℕ) → (k ≡ 1 → ⊥) → (k ≡ 2 → ⊥) → (k ≡ 16 → ⊥) → (k ≡ 42 → ⊥) → (k ≡ 44 → ⊥) → false ≡ isContainer k
 unfolding isContainer
 no-container k a b c d e = rw (ne-eqb k 1 a, ne-eqb k 2 b, ne-eqb k 16 c, ne-eqb k 42 d, ne-eqb k 44 e) refl
-
-pub leaf-is : (k : ℕ) → eqb k 18 || (eqb k 38 || (eqb k 22 || eqb k 19)) ≡ leafKind k
-unfolding leafKind
-leaf-is k = refl

@@ -1,6 +1,6 @@
 -- What stands at a position where a good node of a kind stands: its bytes, its parts, and what is known of them.
 -- Assumes nothing.
-use mathlib.Core.Path.{_≡_, refl, sym, ap, _∙_, subst}
+use mathlib.Core.Path.{_≡_, refl, sym, ap, ap₂, _∙_, subst}
 use mathlib.Core.Bool.{Bool, true, false, cond, not, _||_, false≢true}
 use mathlib.Core.List.{List, [], _∷_, _++_}
 use mathlib.Core.Option.{Option}
@@ -341,17 +341,16 @@ module _ (t : List ℕ) where
   pub good-copied : (d at : ℕ) → Good t d at → part at (lookNode t d at .next) t ≡ encode (lookNode t d at .value)
   unfolding Good lookNode
   good-copied zero at g = absurd g
-  good-copied (suc d) at g = g .bytes
+  good-copied (suc d) at g = ap (λ (x : ℕ). part at x t) (g .noted) ∙ g .bytes
+
+  -- it ends within the longest tree
+  pub good-end : (d at : ℕ) → Good t d at → at + length (encode (lookNode t d at .value)) ≤ 16384
+  unfolding Good lookNode
+  good-end zero at g = absurd g
+  good-end (suc d) at g = g .limit
 
   pub good-short : (d at : ℕ) → Good t d at → length (encode (lookNode t d at .value)) ≤ 16384
-  unfolding Good lookNode
-  good-short zero at g = absurd g
-  good-short (suc d) at g = g .short
-
-  pub good-limit : (d at : ℕ) → Good t d at → length t ≤ 16384
-  unfolding Good
-  good-limit zero at g = absurd g
-  good-limit (suc d) at g = g .limit
+  good-short d at g = omega (arith, good-end d at g)
 
   pub good-fits : (d at : ℕ) → Good t d at → (p : ℕ) × Fits input p (lookNode t d at .value)
   unfolding Good lookNode
@@ -369,8 +368,11 @@ module _ (t : List ℕ) where
       let n : 2 ≤ length (encode (lookNode t d at .value)) = encode-two (lookNode t d at .value) in
       front-room at (encode (lookNode t d at .value)) (f .more) (f .cut) (omega arith)
 
-  pub good-end : (d at : ℕ) → Good t d at → at + length (encode (lookNode t d at .value)) ≤ 16384
-  good-end d at g = omega (arith, good-room d at g, good-limit d at g)
+  -- and ends where its bytes do
+  pub good-next : (d at : ℕ) → Good t d at → lookNode t d at .next ≡ at + length (encode (lookNode t d at .value))
+  unfolding Good lookNode
+  good-next zero at g = absurd g
+  good-next (suc d) at g = g .stop
 
   pub good-within : (d at : ℕ) → Good t d at → at + 2 ≤ 16384
   good-within d at g = omega (arith, good-end d at g, encode-two (lookNode t d at .value))
@@ -405,16 +407,18 @@ module _ (t : List ℕ) (d at : ℕ) where
     abbrev fieldsSeen : Seen Fields
     fieldsSeen = lookFields t (λ q. lookNode t d q) (fieldsOf k) m (onward t at 2)
 
-    node-as : lookNode t (suc d) at ≡ seenAs (node at k) fieldsSeen
-    unfolding lookNode
-    node-as = rw (e, f) refl
+    node-as : Good t (suc d) at → lookNode t (suc d) at ≡ seenAs (node at k) fieldsSeen
+    unfolding lookNode Good
+    node-as g =
+        ap (λ (x : ℕ). seen (node at (byteAt t at) (lookFields t (λ q. lookNode t d q) (fieldsOf (byteAt t at)) (byteAt t (onward t at 1)) (onward t at 2) .value)) x) (g .noted)
+        ∙ ap₂ (λ (x y : ℕ). seenAs (node at x) (lookFields t (λ q. lookNode t d q) (fieldsOf x) y (onward t at 2))) e f
 
     below-as : Good t (suc d) at → GoodFields t (λ q. lookNode t d q) (λ q. Good t d q) (isContainer k) (fieldsOf k) m (onward t at 2)
     unfolding Good
     below-as g = rw (← e, ← f) (g .below)
 
     fits-as : (g : Good t (suc d) at) → (p : ℕ) × Fits input p (node at k (fieldsSeen .value))
-    fits-as g = let w = good-fits t (suc d) at g in (w .0, subst (λ (x : Seen Node). Fits input (w .0) (x .value)) node-as (w .1))
+    fits-as g = let w = good-fits t (suc d) at g in (w .0, subst (λ (x : Seen Node). Fits input (w .0) (x .value)) (node-as g) (w .1))
 
     known-as : Good t (suc d) at → Known k (fieldsSeen .value)
     known-as g = fits-known (fits-as g .1)
@@ -445,7 +449,6 @@ module _ (t : List ℕ) (d at : ℕ) where
 
   -- a list whose count stands at q: of a container if l, with holes if h
   pub record ListOpen (l h : Bool) (q : ℕ) : Type 0 where
-    pub within : q + 2 ≤ 16384
     pub next2 : onward t q 2 ≡ q + 2
     pub small : wideAt t q < 65536
     pub head : part q (onward t q 2) t ≡ wideBytes (wideAt t q)
@@ -472,7 +475,6 @@ module _ (t : List ℕ) (d at : ℕ) where
 
   -- 36 ArrayPattern(items* rest?)
   pub record ArrayOpen : Type 0 where
-    pub within : at + 4 ≤ 16384
     pub next2 : onward t at 2 ≡ at + 2
     pub next4 : onward t (onward t at 2) 2 ≡ at + 4
     pub list : ListOpen false true (onward t at 2)
@@ -494,7 +496,6 @@ module _ (t : List ℕ) (d at : ℕ) where
   flagsPlace = lookNode t d (lookNode t d (onward t at 2) .next) .next
 
   pub record PropertyOpen : Type 0 where
-    pub within : at + 3 ≤ 16384
     pub head : part at (onward t at 2) t ≡ 35 ∷ 7 ∷ []
     pub whole : lookNode t (suc d) at ≡ seen (propertyAt at (lookNode t d keyPlace .value) (lookNode t d valuePlace .value) (byteAt t flagsPlace)) (onward t flagsPlace 1)
     pub flags : part flagsPlace (onward t flagsPlace 1) t ≡ byteAt t flagsPlace ∷ []
@@ -503,7 +504,6 @@ module _ (t : List ℕ) (d at : ℕ) where
 
   -- 37 Default(left right)
   pub record DefaultOpen : Type 0 where
-    pub within : at + 4 ≤ 16384
     pub head : part at (onward t at 2) t ≡ 37 ∷ 3 ∷ []
     pub whole : lookNode t (suc d) at ≡ seen (defaultAt at (lookNode t d keyPlace .value) (lookNode t d valuePlace .value)) flagsPlace
     pub left : Good t d keyPlace
@@ -521,7 +521,6 @@ module _ (t : List ℕ) (d at : ℕ) where
 
   -- 4 Declaration(# kind= declarators*)
   pub record DeclarationOpen : Type 0 where
-    pub within : at + 7 ≤ 16384
     pub head : part at (onward t at 5) t ≡ 4 ∷ 7 ∷ wideBytes (wideAt t (onward t at 2)) ++ (byteAt t (onward t at 4) ∷ [])
     pub marked : 0 < wideAt t (onward t at 2)
     pub list : ListOpen false false (onward t at 5)
@@ -537,7 +536,6 @@ module _ (t : List ℕ) (d at : ℕ) where
   assignedPlace = lookNode t d (onward t at 3) .next
 
   pub record AssignmentOpen : Type 0 where
-    pub within : at + 3 ≤ 16384
     pub head : part at (onward t at 3) t ≡ 27 ∷ 7 ∷ byteAt t (onward t at 2) ∷ []
     pub op : byteAt t (onward t at 2) < 256
     pub whole : lookNode t (suc d) at
@@ -547,7 +545,6 @@ module _ (t : List ℕ) (d at : ℕ) where
 
   -- 2 Block(# body*)
   pub record BlockOpen : Type 0 where
-    pub within : at + 6 ≤ 16384
     pub head : part at (onward t at 4) t ≡ 2 ∷ 3 ∷ wideBytes (wideAt t (onward t at 2))
     pub marked : 0 < wideAt t (onward t at 2)
     pub list : ListOpen true false (onward t at 4)
@@ -559,7 +556,6 @@ module _ (t : List ℕ) (d at : ℕ) where
   bodyPlace = cond bit1 (itemsFrom false (onward t at 2) .next) (onward t at 2)
 
   pub record BodyOpen : Type 0 where
-    pub within : at + 4 ≤ 16384
     pub head : part at (onward t at 2) t ≡ 16 ∷ cond bit1 3 2 ∷ []
     pub directives : bit1 ≡ true → ListOpen true false (onward t at 2)
     pub list : ListOpen true false bodyPlace
@@ -590,7 +586,6 @@ module _ (t : List ℕ) (d at : ℕ) where
   functionBodyPlace = endIf functionRestBit (itemsFrom false paramsPlace .next)
 
   pub record FunctionOpen : Type 0 where
-    pub within : at + 5 ≤ 16384
     pub head : part at (onward t at 5) t ≡ 14 ∷ byteAt t (onward t at 1) ∷ wideBytes (wideAt t (onward t at 2)) ++ (byteAt t (onward t at 4) ∷ [])
     pub marked : 0 < wideAt t (onward t at 2)
     pub name : namedBit ≡ true → Good t d (onward t at 5)
@@ -610,7 +605,6 @@ module _ (t : List ℕ) (d at : ℕ) where
   arrowBodyPlace = endIf bit2 (itemsFrom false (onward t at 2) .next)
 
   pub record ArrowOpen : Type 0 where
-    pub within : at + 4 ≤ 16384
     pub head : part at (onward t at 2) t ≡ 17 ∷ byteAt t (onward t at 1) ∷ []
     pub list : ListOpen false false (onward t at 2)
     pub params : AllItems (λ q. is 15 q ≡ true) (itemsFrom false (onward t at 2) .value)
@@ -623,7 +617,6 @@ module _ (t : List ℕ) (d at : ℕ) where
 
   -- 10 Catch(param? body), with a param
   pub record CatchOpen : Type 0 where
-    pub within : at + 4 ≤ 16384
     pub head : part at (onward t at 2) t ≡ 10 ∷ 3 ∷ []
     pub param : Good t d keyPlace
     pub kind15 : is 15 (lookNode t d keyPlace .value) ≡ true
@@ -646,7 +639,6 @@ module _ (t : List ℕ) (d at : ℕ) where
 
   pub record LoopOpen (k : ℕ) (awaited : Bool) : Type 0 where
     pub more : Fields
-    pub within : at + 4 ≤ 16384
     pub head : part at (onward t at 4) t ≡ k ∷ byteAt t (onward t at 1) ∷ wideBytes (wideAt t (onward t at 2))
     pub marked : 0 < wideAt t (onward t at 2)
     pub left : Good t d leftPlace
@@ -667,12 +659,9 @@ module _ (t : List ℕ) (d at : ℕ) where
       let e : part q (onward t q 2) t ≡ wideBytes (wideAt t q) = w .head ∙ ap (λ (x : ℕ). wideBytes x) c in
       let f = part-front t q (onward t q 2) (wideBytes (wideAt t q)) e in
       let room : q + 2 ≤ length t = front-room t q (wideBytes (wideAt t q)) (f .more) (f .cut) (omega arith) in
-      record { within = omega (arith, good-limit t (suc d) at g); next2 = on-fits t q 2 room; small = w .small; head = e; many = c; good = w .items }
+      record { next2 = on-fits t q 2 room; small = w .small; head = e; many = c; good = w .items }
 
   -- the first bytes of the node
-  bytes-within : (bs : List ℕ) → Good t (suc d) at → Front t at bs → 0 < length bs → at + length bs ≤ 16384
-  bytes-within bs g f h = omega (arith, front-room t at bs (f .more) (f .cut) h, good-limit t (suc d) at g)
-
   bytes-next : (bs : List ℕ) → Front t at bs → 0 < length bs → onward t at (length bs) ≡ at + length bs
   bytes-next bs f h = on-fits t at (length bs) (front-room t at bs (f .more) (f .cut) h)
 
@@ -681,6 +670,10 @@ module _ (t : List ℕ) (d at : ℕ) where
 
   child-within : (k : ℕ) (n : Node) (fs : Fields) → lookNode t (suc d) at .value ≡ node at k (Fields.field (Piece.one n) fs) → Good t (suc d) at → at + 4 ≤ 16384
   child-within k n fs e g = omega (arith, encode-four at k n fs, end-as t (suc d) at (node at k (Fields.field (Piece.one n) fs)) e g)
+
+  list-within : (k : ℕ) (is : Items) (fs : Fields) → lookNode t (suc d) at .value ≡ node at k (Fields.field (Piece.list is) fs) → Good t (suc d) at → at + 4 ≤ 16384
+  unfolding encode encodeFields encodePiece
+  list-within k is fs e g = omega (arith, end-as t (suc d) at (node at k (Fields.field (Piece.list is) fs)) e g)
 
   -- ---- 34 ObjectPattern(properties* rest?)
 
@@ -697,13 +690,13 @@ module _ (t : List ℕ) (d at : ℕ) where
 
     object-node : bit2 ≡ false → lookNode t (suc d) at ≡ seen (objectAt at (itemsFrom false (onward t at 2) .value)) (itemsFrom false (onward t at 2) .next)
     unfolding lookFields lookSlot lookField fieldsOf kinds
-    object-node b = node-as t d at 34 1 k (object-plain b)
+    object-node b = node-as t d at 34 1 k (object-plain b) g
 
     object-rest : bit2 ≡ true
         → lookNode t (suc d) at
         ≡ seen (objectRestAt at (itemsFrom false (onward t at 2) .value) (lookNode t d (itemsFrom false (onward t at 2) .next) .value)) (lookNode t d (itemsFrom false (onward t at 2) .next) .next)
     unfolding lookFields lookSlot lookField fieldsOf kinds
-    object-rest b = node-as t d at 34 3 k (object-resting b)
+    object-rest b = node-as t d at 34 3 k (object-resting b) g
 
     object-list : GoodList t (λ q. lookNode t d q) (λ q. Good t d q) false false (onward t at 2)
     unfolding GoodFields GoodSlot GoodField fieldsOf kinds isContainer
@@ -737,11 +730,17 @@ module _ (t : List ℕ) (d at : ℕ) where
         (λ b. let f = front-as t d at (objectRestAt at _ _) (ap (λ (s : Seen Node). s .value) (object-rest b)) g in rw (b, ← c) (record { more = _; cut = f .cut }))
         (λ b. let f = front-as t d at (objectAt at _) (ap (λ (s : Seen Node). s .value) (object-node b)) g in rw (b, ← c) (record { more = _; cut = f .cut }))
 
+    object-within : at + 4 ≤ 16384
+    object-within =
+        by-test bit2
+        (λ b. list-within 34 _ _ (ap (λ (s : Seen Node). s .value) (object-rest b)) g)
+        (λ b. list-within 34 _ _ (ap (λ (s : Seen Node). s .value) (object-node b)) g)
+
   pub object-open : Good t (suc d) at → byteAt t at ≡ 34 → ObjectOpen
   object-open g k =
       let f = object-front g k in
       record {
-        within = bytes-within _ g f (omega arith);
+        within = object-within g k;
         next2 = good-two t (suc d) at g;
         next4 = on-on t at 2 2 ∙ bytes-next _ f (omega arith);
         head = ap (λ (x : ℕ). part at x t) (on-on t at 2 2) ∙ bytes-head _ f (omega arith);
@@ -768,13 +767,13 @@ module _ (t : List ℕ) (d at : ℕ) where
 
     array-node : bit2 ≡ false → lookNode t (suc d) at ≡ seen (arrayAt at (itemsFrom true (onward t at 2) .value)) (itemsFrom true (onward t at 2) .next)
     unfolding lookFields lookSlot lookField fieldsOf kinds
-    array-node b = node-as t d at 36 1 k (array-plain b)
+    array-node b = node-as t d at 36 1 k (array-plain b) g
 
     array-rest : bit2 ≡ true
         → lookNode t (suc d) at
         ≡ seen (arrayRestAt at (itemsFrom true (onward t at 2) .value) (lookNode t d (itemsFrom true (onward t at 2) .next) .value)) (lookNode t d (itemsFrom true (onward t at 2) .next) .next)
     unfolding lookFields lookSlot lookField fieldsOf kinds
-    array-rest b = node-as t d at 36 3 k (array-resting b)
+    array-rest b = node-as t d at 36 3 k (array-resting b) g
 
     array-list : GoodList t (λ q. lookNode t d q) (λ q. Good t d q) false true (onward t at 2)
     unfolding GoodFields GoodSlot GoodField fieldsOf kinds isContainer
@@ -800,7 +799,6 @@ module _ (t : List ℕ) (d at : ℕ) where
   array-open g k =
       let f = array-front g k in
       record {
-        within = bytes-within _ g f (omega arith);
         next2 = good-two t (suc d) at g;
         next4 = on-on t at 2 2 ∙ bytes-next _ f (omega arith);
         list = list-open false true (onward t at 2) g (array-list g k);
@@ -820,7 +818,7 @@ module _ (t : List ℕ) (d at : ℕ) where
     property-node : lookNode t (suc d) at
         ≡ seen (propertyAt at (lookNode t d keyPlace .value) (lookNode t d valuePlace .value) (byteAt t flagsPlace)) (onward t flagsPlace 1)
     unfolding lookFields lookSlot lookField fieldsOf kinds
-    property-node = node-as t d at 35 7 k property-bits
+    property-node = node-as t d at 35 7 k property-bits g
 
     property-value : lookNode t (suc d) at .value ≡ propertyAt at (lookNode t d keyPlace .value) (lookNode t d valuePlace .value) (byteAt t flagsPlace)
     property-value = ap (λ (s : Seen Node). s .value) property-node
@@ -834,7 +832,6 @@ module _ (t : List ℕ) (d at : ℕ) where
   property-open g k =
       let w = below-as t d at 35 7 k (property-bits g k) g in
       record {
-        within = let h : at + 4 ≤ 16384 = child-within 35 _ _ (property-value g k) g in omega arith;
         head = property-head g k;
         whole = property-node g k;
         flags = w .1 .1 .0 .bytes;
@@ -858,7 +855,7 @@ module _ (t : List ℕ) (d at : ℕ) where
 
     default-node : lookNode t (suc d) at ≡ seen (defaultAt at (lookNode t d keyPlace .value) (lookNode t d valuePlace .value)) flagsPlace
     unfolding lookFields lookSlot lookField fieldsOf kinds
-    default-node = node-as t d at 37 3 k default-bits
+    default-node = node-as t d at 37 3 k default-bits g
 
     default-value : lookNode t (suc d) at .value ≡ defaultAt at (lookNode t d keyPlace .value) (lookNode t d valuePlace .value)
     default-value = ap (λ (s : Seen Node). s .value) default-node
@@ -872,7 +869,6 @@ module _ (t : List ℕ) (d at : ℕ) where
   default-open g k =
       let w = below-as t d at 37 3 k (default-bits g k) g in
       record {
-        within = child-within 37 _ _ (default-value g k) g;
         head = default-head g k;
         whole = default-node g k;
         left = w .0;
@@ -898,7 +894,7 @@ module _ (t : List ℕ) (d at : ℕ) where
     binder-valued b = binder-bits ∙ ap (λ (x : Bool). cond x 3 1) b
 
     binder-as : (m : ℕ) → byteAt t (onward t at 1) ≡ m → lookNode t (suc d) at ≡ seenAs (node at k) (lookFields t (λ q. lookNode t d q) binderFields m (onward t at 2))
-    binder-as m f = node-as t d at k m e f ∙ ap (λ (ts : List Field). seenAs (node at k) (lookFields t (λ q. lookNode t d q) ts m (onward t at 2))) s
+    binder-as m f = node-as t d at k m e f g ∙ ap (λ (ts : List Field). seenAs (node at k) (lookFields t (λ q. lookNode t d q) ts m (onward t at 2))) s
 
     binder-bare : bit2 ≡ false → lookNode t (suc d) at ≡ seen (node at k (Fields.field (Piece.one (lookNode t d keyPlace .value)) (Fields.absent Fields.done))) valuePlace
     unfolding lookFields lookSlot lookField
@@ -965,7 +961,7 @@ module _ (t : List ℕ) (d at : ℕ) where
     declaration-node : lookNode t (suc d) at
         ≡ seen (declarationAt at (wideAt t (onward t at 2)) (byteAt t (onward t at 4)) (itemsFrom false (onward t at 5) .value)) (itemsFrom false (onward t at 5) .next)
     unfolding lookFields lookSlot lookField fieldsOf kinds
-    declaration-node = rw (← on-five, ← on-four) (node-as t d at 4 7 k declaration-bits)
+    declaration-node = rw (← on-five, ← on-four) (node-as t d at 4 7 k declaration-bits g)
 
     declaration-value : lookNode t (suc d) at .value ≡ declarationAt at (wideAt t (onward t at 2)) (byteAt t (onward t at 4)) (itemsFrom false (onward t at 5) .value)
     declaration-value = ap (λ (s : Seen Node). s .value) declaration-node
@@ -985,7 +981,6 @@ module _ (t : List ℕ) (d at : ℕ) where
       let f = declaration-front g k in
       let w = below-as t d at 4 7 k (declaration-bits g k) g in
       record {
-        within = bytes-within _ g f (omega arith);
         head = bytes-head (4 ∷ 7 ∷ wideBytes (wideAt t (onward t at 2)) ++ (byteAt t (onward t at 4) ∷ [])) (record { more = _; cut = f .cut }) (omega arith);
         marked = w .0 .positive (wideAt t (onward t at 2)) refl;
         list = list-open false false (onward t at 5) g (subst (λ (q : ℕ). GoodList t (λ q. lookNode t d q) (λ q. Good t d q) false false q) on-five (w .1 .1 .0));
@@ -1005,7 +1000,7 @@ module _ (t : List ℕ) (d at : ℕ) where
     unfolding lookFields lookSlot lookField fieldsOf kinds
     assignment-node =
         subst (λ (q : ℕ). lookNode t (suc d) at ≡ seen (assignmentAt at (byteAt t (onward t at 2)) (lookNode t d q .value) (lookNode t d (lookNode t d q .next) .value)) (lookNode t d (lookNode t d q .next) .next))
-        (on-on t at 2 1) (node-as t d at 27 7 k assignment-bits)
+        (on-on t at 2 1) (node-as t d at 27 7 k assignment-bits g)
 
     assignment-value : lookNode t (suc d) at .value ≡ assignmentAt at (byteAt t (onward t at 2)) (lookNode t d targetPlace .value) (lookNode t d assignedPlace .value)
     assignment-value = ap (λ (s : Seen Node). s .value) assignment-node
@@ -1024,7 +1019,6 @@ module _ (t : List ℕ) (d at : ℕ) where
       let f = assignment-front g k in
       let w = below-as t d at 27 7 k (assignment-bits g k) g in
       record {
-        within = bytes-within _ g f (omega arith);
         head = bytes-head _ f (omega arith);
         op = assignment-op g k;
         whole = assignment-node g k;
@@ -1042,7 +1036,7 @@ module _ (t : List ℕ) (d at : ℕ) where
     block-node : lookNode t (suc d) at
         ≡ seen (node at 2 (Fields.field (Piece.mark (wideAt t (onward t at 2))) (Fields.field (Piece.list (itemsFrom false (onward t at 4) .value)) Fields.done))) (itemsFrom false (onward t at 4) .next)
     unfolding lookFields lookSlot lookField fieldsOf kinds
-    block-node = rw (← on-four) (node-as t d at 2 3 k block-bits)
+    block-node = rw (← on-four) (node-as t d at 2 3 k block-bits g)
 
     block-front : Front t at ((2 ∷ 3 ∷ wideBytes (wideAt t (onward t at 2))) ++ wideBytes (count (itemsFrom false (onward t at 4) .value)))
     unfolding encode encodeFields encodePiece mapOf
@@ -1054,7 +1048,6 @@ module _ (t : List ℕ) (d at : ℕ) where
       let f = block-front g k in
       let w = below-as t d at 2 3 k (block-bits g k) g in
       record {
-        within = bytes-within _ g f (omega arith);
         head = bytes-head (2 ∷ 3 ∷ wideBytes (wideAt t (onward t at 2))) (record { more = _; cut = f .cut }) (omega arith);
         marked = w .0 .positive (wideAt t (onward t at 2)) refl;
         list = list-open true false (onward t at 4) g (subst (λ (q : ℕ). GoodList t (λ q. lookNode t d q) (λ q. Good t d q) true false q) on-four (w .1 .0));
@@ -1082,7 +1075,7 @@ module _ (t : List ℕ) (d at : ℕ) where
     unfolding lookFields lookSlot lookField fieldsOf kinds
     body-bare b =
         subst (λ (x : Bool). lookNode t (suc d) at ≡ seen (node at 16 (Fields.absent (Fields.field (Piece.list (itemsFrom false (bodyFrom x) .value)) Fields.done))) (itemsFrom false (bodyFrom x) .next))
-        (sym b) (node-as t d at 16 2 k (body-plain b))
+        (sym b) (node-as t d at 16 2 k (body-plain b) g)
 
     body-both : bit1 ≡ true
         → lookNode t (suc d) at
@@ -1093,7 +1086,7 @@ module _ (t : List ℕ) (d at : ℕ) where
         (λ (x : Bool).
         lookNode t (suc d) at
         ≡ seen (node at 16 (Fields.field (Piece.list (itemsFrom false (onward t at 2) .value)) (Fields.field (Piece.list (itemsFrom false (bodyFrom x) .value)) Fields.done))) (itemsFrom false (bodyFrom x) .next))
-        (sym b) (node-as t d at 16 3 k (body-directed b))
+        (sym b) (node-as t d at 16 3 k (body-directed b) g)
 
     body-directives : bit1 ≡ true → GoodList t (λ q. lookNode t d q) (λ q. Good t d q) true false (onward t at 2)
     unfolding GoodFields GoodSlot GoodField lookSlot lookField fieldsOf kinds isContainer
@@ -1117,20 +1110,8 @@ module _ (t : List ℕ) (d at : ℕ) where
         let f = front-as t d at (node at 16 _) (ap (λ (s : Seen Node). s .value) (body-bare b)) g in
         rw b (bytes-head (16 ∷ 2 ∷ []) (record { more = _; cut = f .cut }) (omega arith)))
 
-    body-within : at + 4 ≤ 16384
-    unfolding encode encodeFields encodePiece mapOf
-    body-within =
-        by-test bit1
-        (λ b.
-        let f = front-as t d at (node at 16 _) (ap (λ (s : Seen Node). s .value) (body-both b)) g in
-        bytes-within (16 ∷ 3 ∷ wideBytes (count (itemsFrom false (onward t at 2) .value))) g (record { more = _; cut = f .cut }) (omega arith))
-        (λ b.
-        let f = front-as t d at (node at 16 _) (ap (λ (s : Seen Node). s .value) (body-bare b)) g in
-        bytes-within (16 ∷ 2 ∷ wideBytes (count (itemsFrom false bodyPlace .value))) g (record { more = _; cut = f .cut }) (omega arith))
-
   pub body-open : Good t (suc d) at → byteAt t at ≡ 16 → BodyOpen
   body-open g k = record {
-    within = body-within g k;
     head = body-head g k;
     directives = λ b. list-open true false (onward t at 2) g (body-directives g k b);
     list = list-open true false bodyPlace g (body-list g k);
@@ -1163,10 +1144,10 @@ module _ (t : List ℕ) (d at : ℕ) where
         ≡ seen (node at 14 (functionFields (wideAt t (onward t at 2)) (byteAt t (onward t at 4)) (givenIf n (onward t at 5)) (itemsFrom false (paramsAt n) .value) (givenIf r (itemsFrom false (paramsAt n) .next)) (lookNode t d (bodyAt n r) .value)))
         (lookNode t d (bodyAt n r) .next)
     unfolding lookFields lookSlot lookField fieldsOf kinds
-    function-node true true e = rw (← on-five, ← on-four) (node-as t d at 14 63 k e)
-    function-node true false e = rw (← on-five, ← on-four) (node-as t d at 14 47 k e)
-    function-node false true e = rw (← on-five, ← on-four) (node-as t d at 14 59 k e)
-    function-node false false e = rw (← on-five, ← on-four) (node-as t d at 14 43 k e)
+    function-node true true e = rw (← on-five, ← on-four) (node-as t d at 14 63 k e g)
+    function-node true false e = rw (← on-five, ← on-four) (node-as t d at 14 47 k e g)
+    function-node false true e = rw (← on-five, ← on-four) (node-as t d at 14 59 k e g)
+    function-node false false e = rw (← on-five, ← on-four) (node-as t d at 14 43 k e g)
 
     function-params : (n r : Bool) → byteAt t (onward t at 1) ≡ functionMap n r → AllItems (λ q. is 15 q ≡ true) (itemsFrom false (paramsAt n) .value)
     unfolding pieceIn
@@ -1213,7 +1194,6 @@ module _ (t : List ℕ) (d at : ℕ) where
       let w = function-parts g k namedBit functionRestBit e in
       let f = function-front g k _ (ap (λ (s : Seen Node). s .value) n) in
       record {
-        within = bytes-within _ g f (omega arith);
         head = bytes-head _ f (omega arith);
         marked = function-mark g k namedBit functionRestBit e;
         name = w .name;
@@ -1241,8 +1221,8 @@ module _ (t : List ℕ) (d at : ℕ) where
         → lookNode t (suc d) at
         ≡ seen (node at 17 (arrowFields (itemsFrom false (onward t at 2) .value) (givenIf r (itemsFrom false (onward t at 2) .next)) (lookNode t d (arrowAt r) .value))) (lookNode t d (arrowAt r) .next)
     unfolding lookFields lookSlot lookField fieldsOf kinds
-    arrow-node true e = node-as t d at 17 7 k e
-    arrow-node false e = node-as t d at 17 5 k e
+    arrow-node true e = node-as t d at 17 7 k e g
+    arrow-node false e = node-as t d at 17 5 k e g
 
     arrow-parts : (r : Bool) → byteAt t (onward t at 1) ≡ cond r 7 5 → ArrowParts r
     unfolding GoodFields GoodSlot GoodField lookSlot lookField fieldsOf kinds isContainer
@@ -1269,7 +1249,6 @@ module _ (t : List ℕ) (d at : ℕ) where
       let f = arrow-front g k in
       let w = arrow-parts g k bit2 (arrow-bits g k) in
       record {
-        within = bytes-within _ g f (omega arith);
         head = bytes-head (17 ∷ byteAt t (onward t at 1) ∷ []) (record { more = _; cut = f .cut }) (omega arith);
         list = list-open false false (onward t at 2) g (w .list);
         params = arrow-params g k;
@@ -1290,7 +1269,7 @@ module _ (t : List ℕ) (d at : ℕ) where
 
     catch-node : lookNode t (suc d) at ≡ seen (node at 10 (Fields.field (Piece.one (lookNode t d keyPlace .value)) (Fields.field (Piece.one (lookNode t d valuePlace .value)) Fields.done))) flagsPlace
     unfolding lookFields lookSlot lookField fieldsOf kinds
-    catch-node = node-as t d at 10 3 k catch-bits
+    catch-node = node-as t d at 10 3 k catch-bits g
 
     catch-value : lookNode t (suc d) at .value ≡ node at 10 (catchFields (lookNode t d keyPlace .value) (lookNode t d valuePlace .value))
     catch-value = ap (λ (s : Seen Node). s .value) catch-node
@@ -1305,7 +1284,6 @@ module _ (t : List ℕ) (d at : ℕ) where
       let w = below-as t d at 10 3 k (catch-bits g k b) g in
       let f = value-fits t d at 10 _ (catch-value g k b) g in
       record {
-        within = child-within 10 _ _ (catch-value g k b) g;
         head = catch-head g k b;
         param = w .0;
         kind15 = catch-param (f .1);
@@ -1336,7 +1314,7 @@ module _ (t : List ℕ) (d at : ℕ) where
         let r : ℕ = lookNode t d q .next in
         let b : ℕ = lookNode t d r .next in
         lookNode t (suc d) at ≡ seen (node at 7 (forFields (wideAt t (onward t at 2)) (lookNode t d q .value) (lookNode t d r .value) (lookNode t d b .value) Fields.done)) (lookNode t d b .next))
-        on-four (node-as t d at 7 15 k for-in-bits)
+        on-four (node-as t d at 7 15 k for-in-bits g)
 
   pub for-in-open : Good t (suc d) at → byteAt t at ≡ 7 → LoopOpen 7 false
   unfolding GoodFields GoodSlot GoodField lookSlot lookField fieldsOf kinds isContainer
@@ -1346,7 +1324,6 @@ module _ (t : List ℕ) (d at : ℕ) where
       let f = loop-front 7 _ _ _ _ e g in
       record {
         more = Fields.done;
-        within = bytes-within _ g f (omega arith);
         head = bytes-head _ f (omega arith);
         marked = w .0 .positive (wideAt t (onward t at 2)) refl;
         left = subst (λ (q : ℕ). Good t d q) on-four (w .1 .0);
@@ -1394,14 +1371,14 @@ module _ (t : List ℕ) (d at : ℕ) where
         let x : ℕ = lookNode t d b .next in
         lookNode t (suc d) at
         ≡ seen (node at 8 (forFields (wideAt t (onward t at 2)) (lookNode t d q .value) (lookNode t d r .value) (lookNode t d b .value) (Fields.field (Piece.byte (byteAt t x)) Fields.done))) (onward t x 1))
-        on-four (node-as t d at 8 31 k e)
+        on-four (node-as t d at 8 31 k e g)
     for-of-node false e =
         subst
         (λ (q : ℕ).
         let r : ℕ = lookNode t d q .next in
         let b : ℕ = lookNode t d r .next in
         lookNode t (suc d) at ≡ seen (node at 8 (forFields (wideAt t (onward t at 2)) (lookNode t d q .value) (lookNode t d r .value) (lookNode t d b .value) (Fields.absent Fields.done))) (lookNode t d b .next))
-        on-four (node-as t d at 8 15 k e)
+        on-four (node-as t d at 8 15 k e g)
 
     for-of-parts : (a : Bool) → byteAt t (onward t at 1) ≡ cond a 31 15 → LoopParts a
     unfolding GoodFields GoodSlot GoodField lookSlot lookField fieldsOf kinds isContainer encodePiece
@@ -1423,7 +1400,6 @@ module _ (t : List ℕ) (d at : ℕ) where
       let f = loop-front 8 _ _ _ _ e g in
       record {
         more = awaitIf a;
-        within = bytes-within _ g f (omega arith);
         head = bytes-head _ f (omega arith);
         marked = w .marked;
         left = w .left;

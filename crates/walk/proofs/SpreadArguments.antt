@@ -43,24 +43,18 @@ module _ (t : List ℕ) where
   spread-kind d at h = eqb-true (byteAt t at) 26 h
 
   spread-node : (d at : ℕ) → isSpread (lookNode t (suc d) at .value) ≡ true → byteAt t (onward t at 1) % 2 ≡ 1
-      → lookNode t (suc d) at ≡ seen (node at (byteAt t at) (Fields.field (Piece.one (lookNode t d (onward t at 2) .value)) Fields.done)) (lookNode t d (onward t at 2) .next)
+      → lookNode t (suc d) at .value ≡ node at (byteAt t at) (Fields.field (Piece.one (lookNode t d (onward t at 2) .value)) Fields.done)
   unfolding lookNode
   spread-node d at h m =
-      ap (λ (s : Seen Fields). seen (node at (byteAt t at) (s .value)) (s .next))
+      ap (λ (s : Seen Fields). node at (byteAt t at) (s .value))
       (spread-fields (λ q. lookNode t d q) (byteAt t at) (byteAt t (onward t at 1)) (onward t at 2) (spread-kind d at h) m)
-
-  pub arg-next : (d e at q : ℕ) → isSpread (lookNode t d at .value) ≡ true → byteAt t (onward t at 1) % 2 ≡ 1 → q ≡ onward t at 2 → e ≡ d - 1 → lookNode t e q .next ≡ lookNode t d at .next
-  arg-next zero e at q h m u v = no-spread at h
-  arg-next (suc d) e at q h m u v =
-      let i : e ≡ d = omega arith in
-      ap (λ (x : ℕ). lookNode t x q .next) i ∙ ap (λ (x : ℕ). lookNode t d x .next) u ∙ ap (λ (s : Seen Node). s .next) (sym (spread-node d at h m))
 
   pub arg-node : (d e at q : ℕ) → isSpread (lookNode t d at .value) ≡ true → byteAt t (onward t at 1) % 2 ≡ 1 → q ≡ onward t at 2 → e ≡ d - 1 → lookNode t e q .value ≡ nodeAt 0 (lookNode t d at .value)
   unfolding nodeAt pieceIn
   arg-node zero e at q h m u v = no-spread at h
   arg-node (suc d) e at q h m u v =
       let i : e ≡ d = omega arith in
-      ap (λ (x : ℕ). lookNode t x q .value) i ∙ ap (λ (x : ℕ). lookNode t d x .value) u ∙ ap (λ (s : Seen Node). nodeAt 0 (s .value)) (sym (spread-node d at h m))
+      ap (λ (x : ℕ). lookNode t x q .value) i ∙ ap (λ (x : ℕ). lookNode t d x .value) u ∙ ap (λ (s : Node). nodeAt 0 s) (sym (spread-node d at h m))
 
   child-good : (R : ℕ → Seen Node) (G : ℕ → Type 0) (l : Bool) (b m q : ℕ) → b ≡ 26 → m % 2 ≡ 1 → GoodFields t R G l (fieldsOf b) m q → G q
   unfolding GoodFields GoodSlot GoodField fieldsOf kinds
@@ -120,20 +114,19 @@ module _ (t : List ℕ) where
       → (Good t d at → Does g g′ (emits c (lookNode t d at .value))) → Good t d at → Does g g′ (part c (lookNode t d at .value) r)
   part-node c d at r b e h k good = part-other c (lookNode t d at .value) r (sym e ∙ h) (k good)
 
-  pub part-arg : {g h g₁ g′ : Going} (c c′ : Place) (d e at s q x n k : ℕ) (b f : Bool) → b ≡ isSpread (lookNode t d at .value) → f ≡ eqb (byteAt t (onward t at 1) % 2) 1 → b ≡ true → f ≡ true
-      → s ≡ onward t at 2 → q ≡ s → e ≡ d - 1 → c′ ≡ c → x ≡ lookNode t e q .next → k ≡ run (lookItems t (lookNode t d) false n x .value) → h ≡ g
-      → (Good t e q → Does h g₁ (emits c′ (lookNode t e q .value))) → (k < 65536 → Does g₁ g′ (say (pendingHead k))) → n < 65536 → Good t d at
+  pub part-arg : {g h g₁ g₂ g′ : Going} (c c′ : Place) (d e at s q x n k : ℕ) (b f : Bool) → b ≡ isSpread (lookNode t d at .value) → f ≡ eqb (byteAt t (onward t at 1) % 2) 1 → b ≡ true → f ≡ true
+      → s ≡ onward t at 2 → q ≡ s → e ≡ d - 1 → c′ ≡ c → x ≡ lookNode t d at .next → k ≡ run (lookItems t (lookNode t d) false n x .value) → h ≡ g
+      → (Good t e q → Does h g₁ (emits c′ (lookNode t e q .value))) → g₂ ≡ g₁ → (k < 65536 → Does g₂ g′ (say (pendingHead k))) → n < 65536 → Good t d at
       → Does g g′ (part c (lookNode t d at .value) (run (lookItems t (lookNode t d) false n (lookNode t d at .next) .value)))
-  part-arg c c′ d e at s q x n k b f i u y w a o v z j l m₁ nd pd small good =
+  part-arg c c′ d e at s q x n k b f i u y w a o v z xx l m₁ nd m₂ pd small good =
       let sp : isSpread (lookNode t d at .value) ≡ true = sym i ∙ y in
       let m : byteAt t (onward t at 1) % 2 ≡ 1 = eqb-true (byteAt t (onward t at 1) % 2) 1 (sym u ∙ w) in
       let oo : q ≡ onward t at 2 = o ∙ a in
-      let xx : x ≡ lookNode t d at .next = j ∙ arg-next t d e at q sp m oo v in
       let kk : k ≡ run (lookItems t (lookNode t d) false n (lookNode t d at .next) .value) = l ∙ ap (λ (y : ℕ). run (lookItems t (lookNode t d) false n y .value)) xx in
       let bound : run (lookItems t (lookNode t d) false n x .value) ≤ n = run-bound t (lookNode t d) n x in
       let kz : k < 65536 = omega arith in
       part-spread c (lookNode t d at .value) (lookNode t e q .value) k _ sp (arg-node t d e at q sp m oo v) kk
-      (does-from m₁ (does-as (nd (arg-good t d e at q sp m oo v good)) (ap (λ (y : Place). emits y (lookNode t e q .value)) z))) (pd kz)
+      (does-from m₁ (does-as (nd (arg-good t d e at q sp m oo v good)) (ap (λ (y : Place). emits y (lookNode t e q .value)) z))) (does-from m₂ (pd kz))
 
   -- ---- a literal
 
@@ -150,10 +143,10 @@ module _ (t : List ℕ) where
           absurd (false≢true (z ∙ h))
 
   object-node : (d at : ℕ) → byteAt t at ≡ 24 → byteAt t (onward t at 1) % 2 ≡ 1
-      → lookNode t (suc d) at ≡ seen (node at (byteAt t at) (Fields.field (Piece.list (lookItems t (λ q. lookNode t d q) false (wideAt t (onward t at 2)) (onward t (onward t at 2) 2) .value)) Fields.done)) (lookItems t (λ q. lookNode t d q) false (wideAt t (onward t at 2)) (onward t (onward t at 2) 2) .next)
+      → lookNode t (suc d) at .value ≡ node at (byteAt t at) (Fields.field (Piece.list (lookItems t (λ q. lookNode t d q) false (wideAt t (onward t at 2)) (onward t (onward t at 2) 2) .value)) Fields.done)
   unfolding lookNode
   object-node d at k m =
-      ap (λ (s : Seen Fields). seen (node at (byteAt t at) (s .value)) (s .next))
+      ap (λ (s : Seen Fields). node at (byteAt t at) (s .value))
       (object-fields t (λ q. lookNode t d q) (byteAt t at) (byteAt t (onward t at 1)) (onward t at 2) k m)
 
   list-good : (R : ℕ → Seen Node) (G : ℕ → Type 0) (b m q : ℕ) → b ≡ 24 → m % 2 ≡ 1 → GoodFields t R G (isContainer b) (fieldsOf b) m q → GoodList t R G false false q
@@ -171,13 +164,6 @@ module _ (t : List ℕ) where
   object-plain c zero at b e h k f good = good-none t zero at refl good
   object-plain c (suc d) at b e h k f good = does-as (f good) (sym (emits-literal c (lookNode t (suc d) at .value) (kind-24 d at k) (sym (e k) ∙ h)))
 
-  pub object-next : (d e at q p n x s : ℕ) (b : Bool) → (byteAt t at ≡ 24 → b ≡ any isSpread (itemsAt 0 (lookNode t d at .value))) → b ≡ true → byteAt t at ≡ 24 → q ≡ onward t at 2 → p ≡ onward t q 2 → Wide t q n → e ≡ d - 1 → x ≡ p
-      → s ≡ lookItems t (lookNode t e) false n x .next → s ≡ lookNode t d at .next
-  object-next zero e at q p n x s b f h k u v w i o r = absurd (false≢true (literal-none t 0 at refl ∙ sym (f k) ∙ h))
-  object-next (suc d) e at q p n x s b f h k u v w i o r =
-      let j : e ≡ d = omega arith in
-      r ∙ rw (o, v, w .value, u, j) refl ∙ ap (λ (z : Seen Node). z .next) (sym (object-node d at k (literal-view d at k (sym (f k) ∙ h))))
-
   pub object-does : {g g₁ h g′ : Going} (c c′ : Place) (d e at q p n x : ℕ) (b : Bool) → (byteAt t at ≡ 24 → b ≡ any isSpread (itemsAt 0 (lookNode t d at .value))) → b ≡ true → byteAt t at ≡ 24 → q ≡ onward t at 2 → p ≡ onward t q 2 → Wide t q n → e ≡ d - 1 → x ≡ p
       → c′ ≡ inner c → h ≡ g₁
       → (n < 65536 → Does g g₁ (say (heads 0 (lookItems t (lookNode t e) false n p .value)) ▷ say (puts (24 ∷ 1 ∷ wideBytes (run (lookItems t (lookNode t e) false n p .value))))))
@@ -194,7 +180,7 @@ module _ (t : List ℕ) where
       let pp : p ≡ onward t (onward t at 2) 2 = v ∙ ap (λ (z : ℕ). onward t z 2) u in
       let gi : GoodItems t (lookNode t e) (Good t e) false false n x = rw (j, nn, o, pp) (gl .items) in
       let ps : Items = lookItems t (lookNode t e) false n p .value in
-      let same : ps ≡ itemsAt 0 (lookNode t (suc d) at .value) = rw (j, nn, pp) refl ∙ ap (λ (z : Seen Node). itemsAt 0 (z .value)) (sym (object-node d at k m)) in
+      let same : ps ≡ itemsAt 0 (lookNode t (suc d) at .value) = rw (j, nn, pp) refl ∙ ap (λ (z : Node). itemsAt 0 z) (sym (object-node d at k m)) in
       let last : Does g₁ g′ (parts (inner c) ps) = does-as (does-from z (r small gi)) (ap (λ (y : Place). parts y (lookItems t (lookNode t e) false n x .value)) y ∙ ap (λ (y : ℕ). parts (inner c) (lookItems t (lookNode t e) false n y .value)) o) in
       does-as {e = (say (heads 0 ps) ▷ say (puts (24 ∷ 1 ∷ wideBytes (run ps)))) ▷ parts (inner c) ps} (does-then (a small) last)
       (then-assoc (say (heads 0 ps)) (say (puts (24 ∷ 1 ∷ wideBytes (run ps)))) (parts (inner c) ps)
@@ -202,10 +188,6 @@ module _ (t : List ℕ) where
       ∙ sym (emits-spreads c (lookNode t (suc d) at .value) (kind-24 d at k) (sym (f k) ∙ h)))
 
   -- ---- as the code has them
-
-  pub arg-at : (d e at s q : ℕ) (b f : Bool) → b ≡ isSpread (lookNode t d at .value) → f ≡ eqb (byteAt t (onward t at 1) % 2) 1 → b ≡ true → f ≡ true → s ≡ onward t at 2 → q ≡ s → e ≡ d - 1
-      → lookNode t e q .next ≡ lookNode t d at .next
-  arg-at d e at s q b f i u y w a o v = arg-next t d e at q (sym i ∙ y) (eqb-true (byteAt t (onward t at 1) % 2) 1 (sym u ∙ w)) (o ∙ a) v
 
   pub items-next : (R : ℕ → Seen Node) (n at q : ℕ) → 0 < n → q ≡ R at .next → lookItems t R false (n - 1) q .next ≡ lookItems t R false n at .next
   unfolding lookItems lookItem

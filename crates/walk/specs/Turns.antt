@@ -113,10 +113,6 @@ keyClass k = elim (entryOf (keySort k)) [ spelt ↦ 1 | itself ↦ 2 | omitted �
 unfoldable pub keyString : Node → List ℕ
 keyString k = elim (entryOf (keySort k)) [ spelt ↦ stringBytes (keyText k) | itself ↦ [] | omitted ↦ [] | saved ↦ [] ]
 
--- a kind without nodes and marks in it: names, literals, keys
-unfoldable pub leafKind : ℕ → Bool
-leafKind k = eqb k 18 || (eqb k 38 || (eqb k 22 || eqb k 19))
-
 -- the level of parameters or declarators
 abbrev pub levelOf : Bool → ℕ → ℕ
 levelOf inner left = cond inner (left - 1) left

@@ -1,5 +1,5 @@
 -- What the emitters ask of the bytes of a node: the node fits the grammar of input, each part's bytes are those of its encoding, and no mark is 0.
-use Prim.Native.Nat.{ℕ, zero, suc, _/_, _%_, _<_, _≤_}
+use Prim.Native.Nat.{ℕ, zero, suc, _+_, _/_, _%_, _<_, _≤_}
 use mathlib.Core.Path.{_≡_}
 use mathlib.Core.Bool.{Bool, true, false, cond, _&&_}
 use mathlib.Core.List.{List, [], _∷_}
@@ -12,7 +12,7 @@ use Rattle.tree.specs.Grammar.Stage.{input}
 use Rattle.tree.specs.WellFormed.{Fits}
 use Rattle.tree.specs.Grammar.Sort.{child, chosen, many, gaps, text, byte, mark, number}
 use Rattle.tree.specs.Read.{byteAt, wideAt, sortIn}
-use Rattle.tree.specs.Look.{Seen, onward, lookItem, lookItems, lookField, lookSlot, lookFields, lookNode}
+use Rattle.tree.specs.Look.{Seen, onward, endAt, quietAt, lookItem, lookItems, lookField, lookSlot, lookFields, lookNode}
 use Rattle.lowering.specs.Collect.{isContainer}
 use Rattle.sink.specs.Machine.{part}
 use Rattle.direct.specs.Events as events
@@ -83,9 +83,13 @@ module _ (tree : List ℕ) where
     pub place : ℕ
     pub fits : Fits input place (node at (byteAt tree at) (lookFields tree R (fieldsOf (byteAt tree at)) (byteAt tree (onward tree at 1)) (onward tree at 2) .value))
     pub bytes : part at (lookFields tree R (fieldsOf (byteAt tree at)) (byteAt tree (onward tree at 1)) (onward tree at 2) .next) tree ≡ encode (node at (byteAt tree at) (lookFields tree R (fieldsOf (byteAt tree at)) (byteAt tree (onward tree at 1)) (onward tree at 2) .value))
-    pub short : length (encode (node at (byteAt tree at) (lookFields tree R (fieldsOf (byteAt tree at)) (byteAt tree (onward tree at 1)) (onward tree at 2) .value))) ≤ 16384
-    -- the whole tree is short too, so every position in it is small
-    pub limit : length tree ≤ 16384
+    -- its end is noted: where its fields end, and where its bytes do
+    pub noted : endAt tree at ≡ lookFields tree R (fieldsOf (byteAt tree at)) (byteAt tree (onward tree at 1)) (onward tree at 2) .next
+    pub stop : endAt tree at ≡ at + length (encode (node at (byteAt tree at) (lookFields tree R (fieldsOf (byteAt tree at)) (byteAt tree (onward tree at 1)) (onward tree at 2) .value)))
+    -- and it stands within the longest tree, so every position in it is small
+    pub limit : at + length (encode (node at (byteAt tree at) (lookFields tree R (fieldsOf (byteAt tree at)) (byteAt tree (onward tree at 1)) (onward tree at 2) .value))) ≤ 16384
+    -- noted as quiet it is written as its bytes, wherever it stands
+    pub quiet : quietAt tree at ≡ true → (c : events.Place) → emits c (node at (byteAt tree at) (lookFields tree R (fieldsOf (byteAt tree at)) (byteAt tree (onward tree at 1)) (onward tree at 2) .value)) ≡ say (puts (encode (node at (byteAt tree at) (lookFields tree R (fieldsOf (byteAt tree at)) (byteAt tree (onward tree at 1)) (onward tree at 2) .value))))
     pub arg : eqb (byteAt tree at) 26 ≡ true → byteAt tree (onward tree at 1) % 2 ≡ 1
     pub temporary : eqb (byteAt tree at) 20 ≡ false
     pub helper : eqb (byteAt tree at) 21 ≡ false

@@ -10,7 +10,6 @@ ghost use Rattle.lowering.specs.Walk.{opensScope};
 ghost use Rattle.direct.specs.Emit as emit;
 ghost use Rattle.direct.specs.Emit.{inner, unused, below, marking};
 ghost use Rattle.walk.specs.Whole.{placeOf};
-ghost use Rattle.walk.specs.Turns.{leafKind};
 
 // Where a node stands: at root, all of an expression statement, the mark of the containing statement, levels left.
 pub struct Place {
@@ -50,13 +49,6 @@ pub fn container(kind: usize) -> bool
         44 => true,
         _ => false,
     }
-}
-
-// Whether a kind has no nodes in it.
-pub fn is_leaf(kind: usize) -> bool
-    ensures { λ r. ⌜ r ≡ leafKind kind ⌝ }
-{
-    kind == 18 || (kind == 38 || (kind == 22 || kind == 19))
 }
 
 fn but_not(a: bool, b: bool) -> bool

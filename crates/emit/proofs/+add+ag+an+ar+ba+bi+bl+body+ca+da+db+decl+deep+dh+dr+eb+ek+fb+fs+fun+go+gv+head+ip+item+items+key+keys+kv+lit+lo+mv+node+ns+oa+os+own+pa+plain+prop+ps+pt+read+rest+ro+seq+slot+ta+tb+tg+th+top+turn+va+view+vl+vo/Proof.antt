@@ -18,12 +18,12 @@ use Rattle.tree.proofs.Skipping.{node-none}
 use Rattle.walk.proofs.Emits.{good-none}
 use Rattle.direct.specs.Literals as literals
 use Rattle.walk.proofs.SpreadArguments as args
+use Rattle.walk.proofs.Running as running
 use Rattle.tree.proofs.Skipping as skipping
 use Rattle.walk.proofs.Emits as law
 use Rattle.walk.proofs.place.container.Reads as container-reads
 use Rattle.walk.proofs.place.inside.Reads as inside-reads
-use Rattle.walk.proofs.place.is_leaf.Reads as is-leaf-reads
-use Rattle.emit.proofs.LeavesCopied as leaves
+use Rattle.tree.proofs.skip.quiet.Reads as quiet-reads
 use Rattle.walk.proofs.place.less.Reads as less-reads
 use Rattle.walk.proofs.place.marked.Reads as marked-reads
 use Rattle.walk.proofs.place.parts_of.Reads as parts-of-reads
@@ -439,7 +439,7 @@ abbrev kv-claims : ℕ → cycle.Lts-kv.Claims
 kv-claims t = (less-reads.Asked, less-reads.Learnt, skip-reads.Asked, skip-reads.Learnt, step-reads.Asked, step-reads.Learnt, is-other-reads.Asked, is-other-reads.Learnt, put2-reads.Asked, put2-reads.Learnt, temporary-reads.Asked, temporary-reads.Learnt, to-reads.Asked, to-reads.Learnt, inside-reads.Asked, inside-reads.Learnt, below-measure node.Kinds.ps μ-node node.Reads.Pre t, node.Reads.Post)
 
 abbrev lit-claims : ℕ → cycle.Lts-lit.Claims
-lit-claims t = (has-spread-reads.Asked, has-spread-reads.Learnt, step-reads.Asked, step-reads.Learnt, wide-at-reads.Asked, wide-at-reads.Learnt, less-reads.Asked, less-reads.Learnt, opening-reads.Asked, opening-reads.Learnt, to-reads.Asked, to-reads.Learnt, inside-reads.Asked, inside-reads.Learnt, below-measure ps.Kinds.ps μ-ps ps.Reads.Pre t, ps.Reads.Post, below-measure plain.Kinds.ps μ-plain plain.Reads.Pre t, plain.Reads.Post)
+lit-claims t = (has-spread-reads.Asked, has-spread-reads.Learnt, step-reads.Asked, step-reads.Learnt, wide-at-reads.Asked, wide-at-reads.Learnt, less-reads.Asked, less-reads.Learnt, opening-reads.Asked, opening-reads.Learnt, to-reads.Asked, to-reads.Learnt, inside-reads.Asked, inside-reads.Learnt, below-measure ps.Kinds.ps μ-ps ps.Reads.Pre t, ps.Reads.Post, skip-reads.Asked, skip-reads.Learnt, below-measure plain.Kinds.ps μ-plain plain.Reads.Pre t, plain.Reads.Post)
 
 abbrev lo-claims : ℕ → cycle.Lts-lo.Claims
 lo-claims t = (put2-reads.Asked, put2-reads.Learnt, temporary-reads.Asked, temporary-reads.Learnt, to-reads.Asked, to-reads.Learnt, inside-reads.Asked, inside-reads.Learnt, below-measure node.Kinds.ps μ-node node.Reads.Pre t, node.Reads.Post, create-read-expression-reads.Asked, create-read-expression-reads.Learnt, below-measure pa.Kinds.ps μ-pa pa.Reads.Pre t, pa.Reads.Post)
@@ -448,7 +448,7 @@ abbrev mv-claims : ℕ → cycle.Lts-mv.Claims
 mv-claims t = (less-reads.Asked, less-reads.Learnt, peek-reads.Asked, peek-reads.Learnt, below-measure add.Kinds.ps μ-add add.Reads.Pre t, add.Reads.Post, step-reads.Asked, step-reads.Learnt, wide-at-reads.Asked, wide-at-reads.Learnt, has-second-reads.Asked, has-second-reads.Learnt, skip-items-reads.Asked, skip-items-reads.Learnt, under-reads.Asked, under-reads.Learnt, below-measure mv.Kinds.ps μ-mv mv.Reads.Pre t, mv.Reads.Post, below-measure ba.Kinds.ps μ-ba ba.Reads.Pre t, ba.Reads.Post)
 
 abbrev node-claims : ℕ → cycle.Lts-node.Claims
-node-claims t = (peek-reads.Asked, peek-reads.Learnt, below-measure decl.Kinds.ps μ-decl decl.Reads.Pre t, decl.Reads.Post, below-measure head.Kinds.ps μ-head head.Reads.Pre t, head.Reads.Post, below-measure ca.Kinds.ps μ-ca ca.Reads.Pre t, ca.Reads.Post, below-measure fun.Kinds.ps μ-fun fun.Reads.Pre t, fun.Reads.Post, below-measure ar.Kinds.ps μ-ar ar.Reads.Pre t, ar.Reads.Post, below-measure lit.Kinds.ps μ-lit lit.Reads.Pre t, lit.Reads.Post, below-measure ag.Kinds.ps μ-ag ag.Reads.Pre t, ag.Reads.Post, below-measure plain.Kinds.ps μ-plain plain.Reads.Pre t, plain.Reads.Post)
+node-claims t = (quiet-reads.Asked, quiet-reads.Learnt, skip-reads.Asked, skip-reads.Learnt, copy-reads.Asked, copy-reads.Learnt, peek-reads.Asked, peek-reads.Learnt, below-measure decl.Kinds.ps μ-decl decl.Reads.Pre t, decl.Reads.Post, below-measure head.Kinds.ps μ-head head.Reads.Pre t, head.Reads.Post, below-measure ca.Kinds.ps μ-ca ca.Reads.Pre t, ca.Reads.Post, below-measure fun.Kinds.ps μ-fun fun.Reads.Pre t, fun.Reads.Post, below-measure ar.Kinds.ps μ-ar ar.Reads.Pre t, ar.Reads.Post, below-measure lit.Kinds.ps μ-lit lit.Reads.Pre t, lit.Reads.Post, below-measure ag.Kinds.ps μ-ag ag.Reads.Pre t, ag.Reads.Post, below-measure plain.Kinds.ps μ-plain plain.Reads.Pre t, plain.Reads.Post)
 
 abbrev ns-claims : ℕ → cycle.Lts-ns.Claims
 ns-claims t = (places-in-reads.Asked, places-in-reads.Learnt, nested-hands-reads.Asked, nested-hands-reads.Learnt, put2-reads.Asked, put2-reads.Learnt, plus-reads.Asked, plus-reads.Learnt, wide-reads.Asked, wide-reads.Learnt, assign-reads.Asked, assign-reads.Learnt, to-reads.Asked, to-reads.Learnt, inside-reads.Asked, inside-reads.Learnt, below-measure view.Kinds.ps μ-view view.Reads.Pre t, view.Reads.Post, below-measure gv.Kinds.ps μ-gv gv.Reads.Pre t, gv.Reads.Post, inner-mode-reads.Asked, inner-mode-reads.Learnt, below-measure deep.Kinds.ps μ-deep deep.Reads.Pre t, deep.Reads.Post)
@@ -466,13 +466,13 @@ abbrev pa-claims : ℕ → cycle.Lts-pa.Claims
 pa-claims t = (peek-reads.Asked, peek-reads.Learnt, step-reads.Asked, step-reads.Learnt, wide-at-reads.Asked, wide-at-reads.Learnt, below-measure own.Kinds.ps μ-own own.Reads.Pre t, own.Reads.Post, to-reads.Asked, to-reads.Learnt, less-reads.Asked, less-reads.Learnt, under-reads.Asked, under-reads.Learnt, below-measure seq.Kinds.ps μ-seq seq.Reads.Pre t, seq.Reads.Post, below-measure os.Kinds.ps μ-os os.Reads.Pre t, os.Reads.Post, put2-reads.Asked, put2-reads.Learnt, inside-reads.Asked, inside-reads.Learnt, below-measure view.Kinds.ps μ-view view.Reads.Pre t, view.Reads.Post, source-reads.Asked, source-reads.Learnt, below-measure deep.Kinds.ps μ-deep deep.Reads.Pre t, deep.Reads.Post)
 
 abbrev plain-claims : ℕ → cycle.Lts-plain.Claims
-plain-claims t = (peek-reads.Asked, peek-reads.Learnt, is-leaf-reads.Asked, is-leaf-reads.Learnt, skip-reads.Asked, skip-reads.Learnt, copy-reads.Asked, copy-reads.Learnt, step-reads.Asked, step-reads.Learnt, parts-of-reads.Asked, parts-of-reads.Learnt, below-measure fs.Kinds.ps μ-fs fs.Reads.Pre t, fs.Reads.Post, row-reads.Asked, row-reads.Learnt, container-reads.Asked, container-reads.Learnt)
+plain-claims t = (peek-reads.Asked, peek-reads.Learnt, step-reads.Asked, step-reads.Learnt, copy-reads.Asked, copy-reads.Learnt, parts-of-reads.Asked, parts-of-reads.Learnt, below-measure fs.Kinds.ps μ-fs fs.Reads.Pre t, fs.Reads.Post, skip-reads.Asked, skip-reads.Learnt, to-reads.Asked, to-reads.Learnt, row-reads.Asked, row-reads.Learnt, container-reads.Asked, container-reads.Learnt)
 
 abbrev prop-claims : ℕ → cycle.Lts-prop.Claims
 prop-claims t = (less-reads.Asked, less-reads.Learnt, step-reads.Asked, step-reads.Learnt, copy-reads.Asked, copy-reads.Learnt, inside-reads.Asked, inside-reads.Learnt, below-measure key.Kinds.ps μ-key key.Reads.Pre t, key.Reads.Post, below-measure view.Kinds.ps μ-view view.Reads.Pre t, view.Reads.Post)
 
 abbrev pt-claims : ℕ → cycle.Lts-pt.Claims
-pt-claims t = (is-spread-reads.Asked, is-spread-reads.Learnt, has-first-reads.Asked, has-first-reads.Learnt, less-reads.Asked, less-reads.Learnt, step-reads.Asked, step-reads.Learnt, to-reads.Asked, to-reads.Learnt, under-reads.Asked, under-reads.Learnt, below-measure node.Kinds.ps μ-node node.Reads.Pre t, node.Reads.Post, run-of-reads.Asked, run-of-reads.Learnt, pending-reads.Asked, pending-reads.Learnt)
+pt-claims t = (is-spread-reads.Asked, is-spread-reads.Learnt, has-first-reads.Asked, has-first-reads.Learnt, less-reads.Asked, less-reads.Learnt, step-reads.Asked, step-reads.Learnt, to-reads.Asked, to-reads.Learnt, under-reads.Asked, under-reads.Learnt, below-measure node.Kinds.ps μ-node node.Reads.Pre t, node.Reads.Post, skip-reads.Asked, skip-reads.Learnt, run-of-reads.Asked, run-of-reads.Learnt, pending-reads.Asked, pending-reads.Learnt)
 
 abbrev ps-claims : ℕ → cycle.Lts-ps.Claims
 ps-claims t = (below-measure pt.Kinds.ps μ-pt pt.Reads.Pre t, pt.Reads.Post)
@@ -935,10 +935,7 @@ lit-ps-requires : (t : ℕ) → cycle.Lts-lit.Need-ps-requires (lit-claims t) (a
 lit-ps-requires t c κs = (omega (arith, c .before .before .before .before .before .before .before .before .before .before .before .before .before .before .before .before .before .before .before .pre .0, c .inside .ensures .1, c .before .before .before .before .before .before .before .before .before .less .ensures, c .before .before .before .before .before .before .before .before .before .before .before .before .before .before .has-spread .ensures .0 (c .before .before .before .before .before .before .before .before .before .before .before .before .before .if1 .taken)), tt)
 
 lit-returns : (t : ℕ) → cycle.Lts-lit.Need-returns (lit-claims t) (at-measure lit.Kinds.ps μ-lit lit.Reads.Pre t) lit.Reads.Post
-lit-returns t c = λ h. (
-  args.object-next _ _ _ _ _ _ _ _ _ _ (c .before .before .before .before .before .before .before .before .before .before .before .before .before .before .before .before .before .before .before .before .before .has-spread .ensures .1) (c .before .before .before .before .before .before .before .before .before .before .before .before .before .before .before .before .before .before .before .before .if1 .taken) h (c .before .before .before .before .before .before .before .before .before .before .before .before .before .before .before .before .before .before .before .step .ensures) (c .before .before .before .before .before .before .before .before .before .before .before .before .before .before .before .before .before .before .step2 .ensures) (c .before .before .before .before .before .before .before .before .before .before .before .before .before .before .before .before .before .wide-at .ensures) (c .before .before .before .before .before .before .before .inside .ensures .1 ∙ c .before .before .before .before .before .before .before .before .before .before .before .before .before .before .before .before .less .ensures) (c .before .before .before .before .before .before .before .before .before .before .before .to .ensures .1) (c .before .before .before .before .before .before .ps .ensures .0),
-  args.object-does _ _ _ _ _ _ _ _ _ _ _ (c .before .before .before .before .before .before .before .before .before .before .before .before .before .before .before .before .before .before .before .before .before .has-spread .ensures .1) (c .before .before .before .before .before .before .before .before .before .before .before .before .before .before .before .before .before .before .before .before .if1 .taken) h (c .before .before .before .before .before .before .before .before .before .before .before .before .before .before .before .before .before .before .before .step .ensures) (c .before .before .before .before .before .before .before .before .before .before .before .before .before .before .before .before .before .before .step2 .ensures) (c .before .before .before .before .before .before .before .before .before .before .before .before .before .before .before .before .before .wide-at .ensures) (c .before .before .before .before .before .before .before .inside .ensures .1 ∙ c .before .before .before .before .before .before .before .before .before .before .before .before .before .before .before .before .less .ensures) (c .before .before .before .before .before .before .before .before .before .before .before .to .ensures .1) (c .before .before .before .before .before .before .before .inside .ensures .0) (c .before .before .before .before .before .before .before .before .before .before .before .to .ensures .0 _ _ _) (args.levels _ _ _ _ _ (c .before .before .before .before .before .before .before .inside .ensures .1) (c .before .before .before .before .before .before .before .before .before .before .before .before .before .before .opening .ensures .0 _ _)) (c .before .before .before .before .before .before .ps .ensures .1),
-)
+lit-returns t c = λ h. (c .to2 .ensures .1 ∙ c .before .skip .ensures, λ good. running.does-to (c .to2 .ensures .0 _ _ _) (args.object-does _ _ _ _ _ _ _ _ _ _ _ (c .before .before .before .before .before .before .before .before .before .before .before .before .before .before .before .before .before .before .before .before .before .before .before .has-spread .ensures .1) (c .before .before .before .before .before .before .before .before .before .before .before .before .before .before .before .before .before .before .before .before .before .before .if1 .taken) h (c .before .before .before .before .before .before .before .before .before .before .before .before .before .before .before .before .before .before .before .before .before .step .ensures) (c .before .before .before .before .before .before .before .before .before .before .before .before .before .before .before .before .before .before .before .before .step2 .ensures) (c .before .before .before .before .before .before .before .before .before .before .before .before .before .before .before .before .before .before .before .wide-at .ensures) (c .before .before .before .before .before .before .before .before .before .inside .ensures .1 ∙ c .before .before .before .before .before .before .before .before .before .before .before .before .before .before .before .before .before .before .less .ensures) (c .before .before .before .before .before .before .before .before .before .before .before .before .before .to .ensures .1) (c .before .before .before .before .before .before .before .before .before .inside .ensures .0) (c .before .before .before .before .before .before .before .before .before .before .before .before .before .to .ensures .0 _ _ _) (args.levels _ _ _ _ _ (c .before .before .before .before .before .before .before .before .before .inside .ensures .1) (c .before .before .before .before .before .before .before .before .before .before .before .before .before .before .before .before .opening .ensures .0 _ _)) (c .before .before .before .before .before .before .before .before .ps .ensures .1) good))
 
 lit-returns-2 : (t : ℕ) → cycle.Lts-lit.Need-returns-2 (lit-claims t) (at-measure lit.Kinds.ps μ-lit lit.Reads.Pre t) lit.Reads.Post
 lit-returns-2 t c = λ h. (c .before .before .before .before .before .before .plain .ensures .0, args.object-plain _ _ _ _ _ (c .before .before .before .before .before .before .before .before .before .before .before .has-spread .ensures .1) (c .before .before .before .before .before .before .before .before .before .before .if1 .left) h (c .before .before .before .before .before .before .plain .ensures .1))
@@ -974,31 +971,34 @@ mv-returns-6 : (t : ℕ) → cycle.Lts-mv.Need-returns-6 (mv-claims t) (at-measu
 mv-returns-6 t c = moving.moved-leaf _ _ _ _ _ (c .before .before .before .if1 .left) (c .before .peek .ensures) (c .match .rest .0 .0 .1) (c .match .rest .0 .1) (c .match .rest .1)
 
 node-returns : (t : ℕ) → cycle.Lts-node.Need-returns (node-claims t) (at-measure node.Kinds.ps μ-node node.Reads.Pre t) node.Reads.Post
-node-returns t c = c .before .before .before .before .before .before .decl .ensures (sym (c .before .before .before .before .before .before .before .before .before .before .before .peek .ensures .value) ∙ c .before .before .before .before .before .before .before .before .before .before .match .keys1)
+node-returns t c = (c .before .before .copy .ensures .1 ∙ c .before .before .before .skip .ensures, law.quiet-does _ _ _ _ _ _ (c .before .before .before .before .before .before .quiet .ensures) (c .before .before .before .before .before .if1 .taken) (c .before .before .before .skip .ensures) (c .before .before .copy .ensures .0 _ _))
 
 node-returns-2 : (t : ℕ) → cycle.Lts-node.Need-returns-2 (node-claims t) (at-measure node.Kinds.ps μ-node node.Reads.Pre t) node.Reads.Post
-node-returns-2 t c = c .before .before .before .before .before .before .head .ensures (law.loop-in _ (sym (c .before .before .before .before .before .before .before .before .before .before .before .peek .ensures .value) ∙ c .before .before .before .before .before .before .before .before .before .before .match .keys2))
+node-returns-2 t c = c .before .before .before .before .before .before .decl .ensures (sym (c .before .before .before .before .before .before .before .before .before .before .before .peek .ensures .value) ∙ c .before .before .before .before .before .before .before .before .before .before .match .keys1)
 
 node-returns-3 : (t : ℕ) → cycle.Lts-node.Need-returns-3 (node-claims t) (at-measure node.Kinds.ps μ-node node.Reads.Pre t) node.Reads.Post
-node-returns-3 t c = c .before .before .before .before .before .before .head2 .ensures (law.loop-of _ (sym (c .before .before .before .before .before .before .before .before .before .before .before .peek .ensures .value) ∙ c .before .before .before .before .before .before .before .before .before .before .match .keys3))
+node-returns-3 t c = c .before .before .before .before .before .before .head .ensures (law.loop-in _ (sym (c .before .before .before .before .before .before .before .before .before .before .before .peek .ensures .value) ∙ c .before .before .before .before .before .before .before .before .before .before .match .keys2))
 
 node-returns-4 : (t : ℕ) → cycle.Lts-node.Need-returns-4 (node-claims t) (at-measure node.Kinds.ps μ-node node.Reads.Pre t) node.Reads.Post
-node-returns-4 t c = c .before .before .before .before .before .before .ca .ensures (sym (c .before .before .before .before .before .before .before .before .before .before .before .peek .ensures .value) ∙ c .before .before .before .before .before .before .before .before .before .before .match .keys4)
+node-returns-4 t c = c .before .before .before .before .before .before .head2 .ensures (law.loop-of _ (sym (c .before .before .before .before .before .before .before .before .before .before .before .peek .ensures .value) ∙ c .before .before .before .before .before .before .before .before .before .before .match .keys3))
 
 node-returns-5 : (t : ℕ) → cycle.Lts-node.Need-returns-5 (node-claims t) (at-measure node.Kinds.ps μ-node node.Reads.Pre t) node.Reads.Post
-node-returns-5 t c = c .before .before .before .before .before .before .fun .ensures (sym (c .before .before .before .before .before .before .before .before .before .before .before .peek .ensures .value) ∙ c .before .before .before .before .before .before .before .before .before .before .match .keys5)
+node-returns-5 t c = c .before .before .before .before .before .before .ca .ensures (sym (c .before .before .before .before .before .before .before .before .before .before .before .peek .ensures .value) ∙ c .before .before .before .before .before .before .before .before .before .before .match .keys4)
 
 node-returns-6 : (t : ℕ) → cycle.Lts-node.Need-returns-6 (node-claims t) (at-measure node.Kinds.ps μ-node node.Reads.Pre t) node.Reads.Post
-node-returns-6 t c = c .before .before .before .before .before .before .ar .ensures (sym (c .before .before .before .before .before .before .before .before .before .before .before .peek .ensures .value) ∙ c .before .before .before .before .before .before .before .before .before .before .match .keys6)
+node-returns-6 t c = c .before .before .before .before .before .before .fun .ensures (sym (c .before .before .before .before .before .before .before .before .before .before .before .peek .ensures .value) ∙ c .before .before .before .before .before .before .before .before .before .before .match .keys5)
 
 node-returns-7 : (t : ℕ) → cycle.Lts-node.Need-returns-7 (node-claims t) (at-measure node.Kinds.ps μ-node node.Reads.Pre t) node.Reads.Post
-node-returns-7 t c = c .before .before .before .before .before .before .lit .ensures (sym (c .before .before .before .before .before .before .before .before .before .before .before .peek .ensures .value) ∙ c .before .before .before .before .before .before .before .before .before .before .match .keys7)
+node-returns-7 t c = c .before .before .before .before .before .before .ar .ensures (sym (c .before .before .before .before .before .before .before .before .before .before .before .peek .ensures .value) ∙ c .before .before .before .before .before .before .before .before .before .before .match .keys6)
 
 node-returns-8 : (t : ℕ) → cycle.Lts-node.Need-returns-8 (node-claims t) (at-measure node.Kinds.ps μ-node node.Reads.Pre t) node.Reads.Post
-node-returns-8 t c = c .before .before .before .before .before .before .ag .ensures (sym (c .before .before .before .before .before .before .before .before .before .before .before .peek .ensures .value) ∙ c .before .before .before .before .before .before .before .before .before .before .match .keys8)
+node-returns-8 t c = c .before .before .before .before .before .before .lit .ensures (sym (c .before .before .before .before .before .before .before .before .before .before .before .peek .ensures .value) ∙ c .before .before .before .before .before .before .before .before .before .before .match .keys7)
 
 node-returns-9 : (t : ℕ) → cycle.Lts-node.Need-returns-9 (node-claims t) (at-measure node.Kinds.ps μ-node node.Reads.Pre t) node.Reads.Post
-node-returns-9 t c = (c .before .before .before .before .before .before .plain .ensures .0, law.emits-does _ _ _ _ _ (c .before .before .before .before .before .before .before .before .before .before .before .peek .ensures) (law.nowhere-else _ (c .before .before .before .before .before .before .before .before .before .before .match .rest .0 .0 .0 .0 .0 .0 .0 .1) (c .before .before .before .before .before .before .before .before .before .before .match .rest .0 .0 .0 .0 .0 .0 .1) (c .before .before .before .before .before .before .before .before .before .before .match .rest .0 .0 .0 .0 .0 .1) (c .before .before .before .before .before .before .before .before .before .before .match .rest .0 .0 .0 .0 .1) (c .before .before .before .before .before .before .before .before .before .before .match .rest .0 .0 .0 .1) (c .before .before .before .before .before .before .before .before .before .before .match .rest .0 .0 .1) (c .before .before .before .before .before .before .before .before .before .before .match .rest .0 .1) (c .before .before .before .before .before .before .before .before .before .before .match .rest .1)) (c .before .before .before .before .before .before .plain .ensures .1))
+node-returns-9 t c = c .before .before .before .before .before .before .ag .ensures (sym (c .before .before .before .before .before .before .before .before .before .before .before .peek .ensures .value) ∙ c .before .before .before .before .before .before .before .before .before .before .match .keys8)
+
+node-returns-10 : (t : ℕ) → cycle.Lts-node.Need-returns-10 (node-claims t) (at-measure node.Kinds.ps μ-node node.Reads.Pre t) node.Reads.Post
+node-returns-10 t c = (c .before .before .before .before .before .before .plain .ensures .0, law.emits-does _ _ _ _ _ (c .before .before .before .before .before .before .before .before .before .before .before .peek .ensures) (law.nowhere-else _ (c .before .before .before .before .before .before .before .before .before .before .match .rest .0 .0 .0 .0 .0 .0 .0 .1) (c .before .before .before .before .before .before .before .before .before .before .match .rest .0 .0 .0 .0 .0 .0 .1) (c .before .before .before .before .before .before .before .before .before .before .match .rest .0 .0 .0 .0 .0 .1) (c .before .before .before .before .before .before .before .before .before .before .match .rest .0 .0 .0 .0 .1) (c .before .before .before .before .before .before .before .before .before .before .match .rest .0 .0 .0 .1) (c .before .before .before .before .before .before .before .before .before .before .match .rest .0 .0 .1) (c .before .before .before .before .before .before .before .before .before .before .match .rest .0 .1) (c .before .before .before .before .before .before .before .before .before .before .match .rest .1)) (c .before .before .before .before .before .before .plain .ensures .1))
 
 ns-same-length : (t : ℕ) → cycle.Lts-ns.Need-same-length (ns-claims t) (at-measure ns.Kinds.ps μ-ns ns.Reads.Pre t) ns.Reads.Post
 ns-same-length t c = omega (arith, c .before .before .before .before .before .before .deep .kept, c .before .before .before .before .before .before .before .before .before .before .before .before .before .before .before .before .before .before .gv .kept, c .before .before .before .before .before .before .before .before .before .before .before .before .before .before .before .before .before .before .before .before .before .before .before .before .before .before .before .before .before .view .kept, c .before .before .before .before .before .before .before .before .before .before .before .before .before .before .before .before .before .before .before .before .before .before .before .before .before .before .before .before .before .before .before .before .before .before .before .before .before .assign .kept, c .before .before .before .before .before .before .before .before .before .before .before .before .before .before .before .before .before .before .before .before .before .before .before .before .before .before .before .before .before .before .before .before .before .before .before .before .before .before .before .before .before .wide .kept, c .before .before .before .before .before .before .before .before .before .before .before .before .before .before .before .before .before .before .before .before .before .before .before .before .before .before .before .before .before .before .before .before .before .before .before .before .before .before .before .before .before .before .before .before .before .before .put2 .kept)
@@ -1046,13 +1046,10 @@ plain-returns : (t : ℕ) → cycle.Lts-plain.Need-returns (plain-claims t) (at-
 plain-returns t c = (skipping.node-none _ _ _ (c .if1 .taken), law.good-none _ _ _ (c .if1 .taken))
 
 plain-returns-2 : (t : ℕ) → cycle.Lts-plain.Need-returns-2 (plain-claims t) (at-measure plain.Kinds.ps μ-plain plain.Reads.Pre t) plain.Reads.Post
-plain-returns-2 t c = (c .before .before .copy .ensures .1 ∙ c .before .before .before .skip .ensures, leaves.leaf-does _ _ _ _ _ _ _ (c .before .before .before .before .before .before .before .peek .ensures .value) (c .before .before .before .before .before .before .is-leaf .ensures) (c .before .before .before .before .before .if2 .taken) (c .before .before .before .skip .ensures) (c .before .before .copy .ensures .0 _ _))
+plain-returns-2 t c = (c .to .ensures .1 ∙ c .before .skip .ensures, λ good. running.does-to (c .to .ensures .0 _ _ _) (law.switch-does _ _ _ _ _ _ _ _ _ _ _ _ _ _ (c .before .before .before .before .before .before .before .before .before .before .before .before .before .before .before .before .before .before .before .before .before .before .before .before .before .before .before .before .before .before .before .before .before .if1 .left) (c .before .before .before .before .before .before .before .before .before .before .before .before .before .before .before .before .before .before .before .before .before .before .before .before .before .before .before .before .before .before .before .before .peek .ensures .value) (c .before .before .before .before .before .before .before .before .before .before .before .before .before .before .before .before .before .before .before .before .before .before .before .if2 .taken) (c .before .before .before .before .before .before .before .before .before .before .before .before .before .before .before .before .before .before .before .before .before .before .before .before .before .before .before .before .before .before .before .step .ensures) (c .before .before .before .before .before .before .before .before .before .before .before .before .before .before .before .before .before .before .before .before .before .before .before .before .before .before .before .before .before .before .peek2 .ensures .value) (c .before .before .before .before .before .before .before .before .before .before .before .before .before .before .before .before .before .before .before .before .before .before .before .before .before .before .before .before .step2 .ensures) (c .before .before .before .before .before .before .before .before .before .before .before .before .before .before .before .before .before .before .before .before .before .before .before .before .before .before .before .copy .ensures .1) (c .before .before .before .before .before .before .before .before .before .before .before .before .before .before .before .before .before .before .before .before .before .before .before .before .parts-of .ensures .0) (c .before .before .before .before .before .before .before .before .before .before .before .before .parts-of2 .ensures .0) (c .before .before .before .before .before .before .before .before .before .before .before .before .before .before .before .before .before .before .before .before .before .before .before .before .parts-of .ensures .1) (c .before .before .before .before .before .before .before .before .before .before .before .before .parts-of2 .ensures .1) (c .before .before .before .before .before .before .before .before .before .before .before .before .before .before .before .before .before .before .before .before .before .before .before .before .before .before .before .copy .ensures .0 _ _) (c .before .before .before .before .before .before .before .before .before .before .before .before .before .before .before .before .before .before .before .fs .ensures .1) (c .before .before .before .before .before .before .before .before .before .before .before .before .before .before .before .before .before .before .before .fs .ensures .0) (c .before .before .before .before .before .before .before .before .fs2 .ensures .1) good))
 
 plain-returns-3 : (t : ℕ) → cycle.Lts-plain.Need-returns-3 (plain-claims t) (at-measure plain.Kinds.ps μ-plain plain.Reads.Pre t) plain.Reads.Post
-plain-returns-3 t c = (law.switch-next _ _ _ _ _ _ _ _ _ _ _ _ (c .before .before .before .before .before .before .before .before .before .before .before .before .before .before .before .before .before .before .before .before .before .before .before .before .before .before .before .before .before .before .before .before .before .if1 .left) (c .before .before .before .before .before .before .before .before .before .before .before .before .before .before .before .before .before .before .before .before .before .before .before .before .before .before .before .before .before .before .before .before .peek .ensures .value) (c .before .before .before .before .before .before .before .before .before .before .before .before .before .before .before .before .before .before .before .before .before .if3 .taken) (c .before .before .before .before .before .before .before .before .before .before .before .before .before .before .before .before .before .before .before .before .before .before .before .before .before .before .before .before .before .step .ensures) (c .before .before .before .before .before .before .before .before .before .before .before .before .before .before .before .before .before .before .before .before .before .before .before .before .before .before .before .before .peek2 .ensures .value) (c .before .before .before .before .before .before .before .before .before .before .before .before .before .before .before .before .before .before .before .before .before .before .before .before .before .before .step2 .ensures) (c .before .before .before .before .before .before .before .before .before .before .before .before .before .before .before .before .before .before .before .before .before .before .before .before .before .copy2 .ensures .1) (c .before .before .before .before .before .before .before .before .before .before .before .before .before .before .before .before .before .before .before .before .before .before .parts-of .ensures .1) (c .before .before .before .before .before .before .before .before .before .before .parts-of2 .ensures .1) (c .before .before .before .before .before .before .before .before .before .before .before .before .before .before .before .before .before .fs .ensures .0) (c .before .before .before .before .before .before .fs2 .ensures .0), law.switch-does _ _ _ _ _ _ _ _ _ _ _ _ _ _ (c .before .before .before .before .before .before .before .before .before .before .before .before .before .before .before .before .before .before .before .before .before .before .before .before .before .before .before .before .before .before .before .before .before .if1 .left) (c .before .before .before .before .before .before .before .before .before .before .before .before .before .before .before .before .before .before .before .before .before .before .before .before .before .before .before .before .before .before .before .before .peek .ensures .value) (c .before .before .before .before .before .before .before .before .before .before .before .before .before .before .before .before .before .before .before .before .before .if3 .taken) (c .before .before .before .before .before .before .before .before .before .before .before .before .before .before .before .before .before .before .before .before .before .before .before .before .before .before .before .before .before .step .ensures) (c .before .before .before .before .before .before .before .before .before .before .before .before .before .before .before .before .before .before .before .before .before .before .before .before .before .before .before .before .peek2 .ensures .value) (c .before .before .before .before .before .before .before .before .before .before .before .before .before .before .before .before .before .before .before .before .before .before .before .before .before .before .step2 .ensures) (c .before .before .before .before .before .before .before .before .before .before .before .before .before .before .before .before .before .before .before .before .before .before .before .before .before .copy2 .ensures .1) (c .before .before .before .before .before .before .before .before .before .before .before .before .before .before .before .before .before .before .before .before .before .before .parts-of .ensures .0) (c .before .before .before .before .before .before .before .before .before .before .parts-of2 .ensures .0) (c .before .before .before .before .before .before .before .before .before .before .before .before .before .before .before .before .before .before .before .before .before .before .parts-of .ensures .1) (c .before .before .before .before .before .before .before .before .before .before .parts-of2 .ensures .1) (c .before .before .before .before .before .before .before .before .before .before .before .before .before .before .before .before .before .before .before .before .before .before .before .before .before .copy2 .ensures .0 _ _) (c .before .before .before .before .before .before .before .before .before .before .before .before .before .before .before .before .before .fs .ensures .1) (c .before .before .before .before .before .before .before .before .before .before .before .before .before .before .before .before .before .fs .ensures .0) (c .before .before .before .before .before .before .fs2 .ensures .1))
-
-plain-returns-4 : (t : ℕ) → cycle.Lts-plain.Need-returns-4 (plain-claims t) (at-measure plain.Kinds.ps μ-plain plain.Reads.Pre t) plain.Reads.Post
-plain-returns-4 t c = (law.plain-next _ _ _ _ _ _ _ _ _ _ _ (c .before .before .before .before .before .before .before .before .before .before .before .before .before .before .before .before .before .before .before .before .before .before .before .before .if1 .left) (c .before .before .before .before .before .before .before .before .before .before .before .before .before .before .before .before .before .before .before .before .before .before .before .peek .ensures .value) (c .before .before .before .before .before .before .before .before .before .before .before .before .before .before .before .before .before .before .before .before .step .ensures) (c .before .before .before .before .before .before .before .before .before .before .before .before .before .before .before .before .before .before .before .peek2 .ensures .value) (c .before .before .before .before .before .before .before .before .row .ensures) (c .before .before .before .before .before .before .before .before .before .before .before .before .before .before .before .before .before .step2 .ensures) (c .before .before .before .before .before .before .before .before .before .before .before .before .before .before .before .before .copy2 .ensures .1) (c .before .before .before .before .before .before .before .before .before .before .before .before .before .parts-of .ensures .1) (c .before .before .before .before .before .before .fs3 .ensures .0), law.plain-does _ _ _ _ _ _ _ _ _ _ _ _ _ (c .before .before .before .before .before .before .before .before .before .before .before .before .before .before .before .before .before .before .before .before .before .before .before .before .if1 .left) (c .before .before .before .before .before .before .before .before .before .before .before .before .before .before .before .before .before .before .before .before .before .before .before .peek .ensures .value) (c .before .before .before .before .before .before .before .before .before .before .before .before .before .before .before .before .before .before .before .before .step .ensures) (c .before .before .before .before .before .before .before .before .before .before .before .before .before .before .before .before .before .before .before .peek2 .ensures .value) (c .before .before .before .before .before .before .before .before .before .before .before .before .if3 .left) (c .before .before .before .before .before .before .before .before .row .ensures) (c .before .before .before .before .before .before .before .before .before .before .before .before .before .before .before .before .before .step2 .ensures) (c .before .before .before .before .before .before .before .before .before .before .before .before .before .before .before .before .copy2 .ensures .1) (c .before .before .before .before .before .before .before .container .ensures) (c .before .before .before .before .before .before .before .before .before .before .before .before .before .parts-of .ensures .0) (c .before .before .before .before .before .before .before .before .before .before .before .before .before .parts-of .ensures .1) (c .before .before .before .before .before .before .before .before .before .before .before .before .before .before .before .before .copy2 .ensures .0 _ _) (c .before .before .before .before .before .before .fs3 .ensures .1))
+plain-returns-3 t c = (c .to2 .ensures .1 ∙ c .before .skip2 .ensures, λ good. running.does-to (c .to2 .ensures .0 _ _ _) (law.plain-does _ _ _ _ _ _ _ _ _ _ _ _ _ (c .before .before .before .before .before .before .before .before .before .before .before .before .before .before .before .before .before .before .before .before .before .before .before .before .if1 .left) (c .before .before .before .before .before .before .before .before .before .before .before .before .before .before .before .before .before .before .before .before .before .before .before .peek .ensures .value) (c .before .before .before .before .before .before .before .before .before .before .before .before .before .before .before .before .before .before .before .before .before .before .step .ensures) (c .before .before .before .before .before .before .before .before .before .before .before .before .before .before .before .before .before .before .before .before .before .peek2 .ensures .value) (c .before .before .before .before .before .before .before .before .before .before .before .before .before .before .if2 .left) (c .before .before .before .before .before .before .before .before .before .before .row .ensures) (c .before .before .before .before .before .before .before .before .before .before .before .before .before .before .before .before .before .before .before .step2 .ensures) (c .before .before .before .before .before .before .before .before .before .before .before .before .before .before .before .before .before .before .copy .ensures .1) (c .before .before .before .before .before .before .before .before .before .container .ensures) (c .before .before .before .before .before .before .before .before .before .before .before .before .before .before .before .parts-of .ensures .0) (c .before .before .before .before .before .before .before .before .before .before .before .before .before .before .before .parts-of .ensures .1) (c .before .before .before .before .before .before .before .before .before .before .before .before .before .before .before .before .before .before .copy .ensures .0 _ _) (c .before .before .before .before .before .before .before .before .fs3 .ensures .1) good))
 
 prop-view-requires : (t : ℕ) → cycle.Lts-prop.Need-view-requires (prop-claims t) (at-measure prop.Kinds.ps μ-prop prop.Reads.Pre t) prop.Reads.Post
 prop-view-requires t c κs = (omega (arith, c .before .before .before .before .before .before .before .before .before .before .before .before .before .before .before .before .before .before .before .before .before .before .before .before .before .pre .0, c .inside2 .ensures .1, c .before .before .before .before .before .before .before .before .before .before .before .inside .ensures .1, c .before .before .before .before .before .before .before .before .before .before .before .before .before .before .before .before .before .before .before .before .less .ensures), tt)
@@ -1062,8 +1059,8 @@ prop-returns t c = viewing.property-does _ _ _ _ _ _ _ _ _ _ _ _ _ _ _ _ (c .bef
 
 pt-returns : (t : ℕ) → cycle.Lts-pt.Need-returns (pt-claims t) (at-measure pt.Kinds.ps μ-pt pt.Reads.Pre t) pt.Reads.Post
 pt-returns t c = (
-  c .before .before .pending .ensures .1 ∙ c .before .before .before .before .before .before .before .before .before .before .before .node .ensures .0 ∙ args.arg-at _ _ _ _ _ _ _ _ (c .before .before .before .before .before .before .before .before .before .before .before .before .before .before .before .before .before .before .before .before .before .before .is-spread .ensures) (c .before .before .before .before .before .before .before .before .before .before .before .before .before .before .before .before .before .before .before .before .has-first .ensures) (c .before .before .before .before .before .before .before .before .before .before .before .before .before .before .before .before .before .before .before .before .before .if1 .taken) (c .before .before .before .before .before .before .before .before .before .before .before .before .before .before .before .before .before .before .before .if2 .taken) (c .before .before .before .before .before .before .before .before .before .before .before .before .before .before .before .before .before .step .ensures) (c .before .before .before .before .before .before .before .before .before .before .before .before .before .before .before .before .to .ensures .1) (c .before .before .before .before .before .before .before .before .before .before .before .before .under .ensures .1 ∙ c .before .before .before .before .before .before .before .before .before .before .before .before .before .before .before .before .before .before .less .ensures),
-  λ small good. args.part-arg _ _ _ _ _ _ _ _ _ _ _ _ _ (c .before .before .before .before .before .before .before .before .before .before .before .before .before .before .before .before .before .before .before .before .before .before .is-spread .ensures) (c .before .before .before .before .before .before .before .before .before .before .before .before .before .before .before .before .before .before .before .before .has-first .ensures) (c .before .before .before .before .before .before .before .before .before .before .before .before .before .before .before .before .before .before .before .before .before .if1 .taken) (c .before .before .before .before .before .before .before .before .before .before .before .before .before .before .before .before .before .before .before .if2 .taken) (c .before .before .before .before .before .before .before .before .before .before .before .before .before .before .before .before .before .step .ensures) (c .before .before .before .before .before .before .before .before .before .before .before .before .before .before .before .before .to .ensures .1) (c .before .before .before .before .before .before .before .before .before .before .before .before .under .ensures .1 ∙ c .before .before .before .before .before .before .before .before .before .before .before .before .before .before .before .before .before .before .less .ensures) (c .before .before .before .before .before .before .before .before .before .before .before .before .under .ensures .0) (c .before .before .before .before .before .before .before .before .before .before .before .node .ensures .0) (c .before .before .before .before .run-of .ensures) (c .before .before .before .before .before .before .before .before .before .before .before .before .before .before .before .before .to .ensures .0 _ _ _) (c .before .before .before .before .before .before .before .before .before .before .before .node .ensures .1) (λ z. c .before .before .pending .ensures .0 _ _ z) small good,
+  c .before .before .pending .ensures .1 ∙ c .before .before .before .before .before .to2 .ensures .1 ∙ c .before .before .before .before .before .before .skip .ensures,
+  λ small good. args.part-arg _ _ _ _ _ _ _ _ _ _ _ _ _ (c .before .before .before .before .before .before .before .before .before .before .before .before .before .before .before .before .before .before .before .before .before .before .before .before .is-spread .ensures) (c .before .before .before .before .before .before .before .before .before .before .before .before .before .before .before .before .before .before .before .before .before .before .has-first .ensures) (c .before .before .before .before .before .before .before .before .before .before .before .before .before .before .before .before .before .before .before .before .before .before .before .if1 .taken) (c .before .before .before .before .before .before .before .before .before .before .before .before .before .before .before .before .before .before .before .before .before .if2 .taken) (c .before .before .before .before .before .before .before .before .before .before .before .before .before .before .before .before .before .before .before .step .ensures) (c .before .before .before .before .before .before .before .before .before .before .before .before .before .before .before .before .before .before .to .ensures .1) (c .before .before .before .before .before .before .before .before .before .before .before .before .before .before .under .ensures .1 ∙ c .before .before .before .before .before .before .before .before .before .before .before .before .before .before .before .before .before .before .before .before .less .ensures) (c .before .before .before .before .before .before .before .before .before .before .before .before .before .before .under .ensures .0) (c .before .before .before .before .before .to2 .ensures .1 ∙ c .before .before .before .before .before .before .skip .ensures) (c .before .before .before .before .run-of .ensures) (c .before .before .before .before .before .before .before .before .before .before .before .before .before .before .before .before .before .before .to .ensures .0 _ _ _) (c .before .before .before .before .before .before .before .before .before .before .before .before .before .node .ensures .1) (c .before .before .before .before .before .to2 .ensures .0 _ _ _) (λ z. c .before .before .pending .ensures .0 _ _ z) small good,
 )
 
 pt-returns-2 : (t : ℕ) → cycle.Lts-pt.Need-returns-2 (pt-claims t) (at-measure pt.Kinds.ps μ-pt pt.Reads.Pre t) pt.Reads.Post
@@ -2090,9 +2087,11 @@ lit-spec t = cycle.Lts-lit.spec (lit-claims t) (at-measure lit.Kinds.ps μ-lit l
     (λ c κs. tt)
     (λ c κs. tt)
     (lit-ps-requires t)
-    (λ c. search needs)
-    (λ c. search needs)
-    (λ c. search needs)
+    (λ c κs. tt)
+    (λ c κs. tt)
+    (λ c. omega (arith, c .before .before .before .before .before .before .before .before .ps .kept, c .before .before .before .before .before .before .before .before .before .before .before .before .before .before .before .before .opening .kept))
+    (λ c. omega (arith, c .before .before .before .before .before .before .before .before .ps .kept, c .before .before .before .before .before .before .before .before .before .before .before .before .before .before .before .before .opening .kept))
+    (λ c. omega (arith, c .before .before .before .before .before .before .before .before .ps .kept, c .before .before .before .before .before .before .before .before .before .before .before .before .before .before .before .before .opening .kept))
     (lit-returns t)
     (λ c κs. (omega (arith, c .before .before .before .before .before .before .before .before .before .pre .0), tt))
     (λ c. search needs)
@@ -2162,19 +2161,20 @@ mv-spec t = cycle.Lts-mv.spec (mv-claims t) (at-measure mv.Kinds.ps μ-mv mv.Rea
 node-spec : {M : Type 1} (t : ℕ) → cycle.Lts-node.Closed (node-claims t) (at-measure node.Kinds.ps μ-node node.Reads.Pre t) node.Reads.Post M
 node-spec t = cycle.Lts-node.spec (node-claims t) (at-measure node.Kinds.ps μ-node node.Reads.Pre t) node.Reads.Post
     (λ c κs. tt)
-    (λ c κs. (omega (arith, c .before .before .before .before .before .before .before .before .before .pre .0), tt))
-    (λ c κs. (omega (arith, c .before .before .before .before .before .before .before .before .before .pre .0), tt))
-    (λ c κs. (omega (arith, c .before .before .before .before .before .before .before .before .before .pre .0), tt))
-    (λ c κs. (omega (arith, c .before .before .before .before .before .before .before .before .before .pre .0), tt))
-    (λ c κs. (omega (arith, c .before .before .before .before .before .before .before .before .before .pre .0), tt))
-    (λ c κs. (omega (arith, c .before .before .before .before .before .before .before .before .before .pre .0), tt))
-    (λ c κs. (omega (arith, c .before .before .before .before .before .before .before .before .before .pre .0), tt))
-    (λ c κs. (omega (arith, c .before .before .before .before .before .before .before .before .before .pre .0), tt))
-    (λ c κs. (omega (arith, c .before .before .before .before .before .before .before .before .before .pre .0), tt))
-    (λ c. search needs)
-    (λ c. search needs)
+    (λ c κs. tt)
+    (λ c κs. tt)
     (λ c. search needs)
     (node-returns t)
+    (λ c κs. tt)
+    (λ c κs. (omega (arith, c .before .before .before .before .before .before .before .before .before .before .before .pre .0), tt))
+    (λ c κs. (omega (arith, c .before .before .before .before .before .before .before .before .before .before .before .pre .0), tt))
+    (λ c κs. (omega (arith, c .before .before .before .before .before .before .before .before .before .before .before .pre .0), tt))
+    (λ c κs. (omega (arith, c .before .before .before .before .before .before .before .before .before .before .before .pre .0), tt))
+    (λ c κs. (omega (arith, c .before .before .before .before .before .before .before .before .before .before .before .pre .0), tt))
+    (λ c κs. (omega (arith, c .before .before .before .before .before .before .before .before .before .before .before .pre .0), tt))
+    (λ c κs. (omega (arith, c .before .before .before .before .before .before .before .before .before .before .before .pre .0), tt))
+    (λ c κs. (omega (arith, c .before .before .before .before .before .before .before .before .before .before .before .pre .0), tt))
+    (λ c κs. (omega (arith, c .before .before .before .before .before .before .before .before .before .before .before .pre .0), tt))
     (λ c. search needs)
     (λ c. search needs)
     (λ c. search needs)
@@ -2207,6 +2207,10 @@ node-spec t = cycle.Lts-node.spec (node-claims t) (at-measure node.Kinds.ps μ-n
     (λ c. search needs)
     (λ c. search needs)
     (node-returns-9 t)
+    (λ c. search needs)
+    (λ c. search needs)
+    (λ c. search needs)
+    (node-returns-10 t)
 
 ns-spec : {M : Type 1} (t : ℕ) → cycle.Lts-ns.Closed (ns-claims t) (at-measure ns.Kinds.ps μ-ns ns.Reads.Pre t) ns.Reads.Post M
 ns-spec t = cycle.Lts-ns.spec (ns-claims t) (at-measure ns.Kinds.ps μ-ns ns.Reads.Pre t) ns.Reads.Post
@@ -2324,29 +2328,28 @@ plain-spec t = cycle.Lts-plain.spec (plain-claims t) (at-measure plain.Kinds.ps 
     (λ c κs. tt)
     (λ c κs. tt)
     (λ c κs. tt)
-    (λ c. search needs)
+    (λ c κs. tt)
+    (λ c. omega (arith, c .before .before .before .before .before .before .before .before .if1 .left))
+    (λ c κs. tt)
+    (λ c κs. (omega (arith, c .before .before .before .before .before .before .before .before .before .before .before .before .before .before .before .before .before .before .pre .0, c .before .before .before .before .parts-of .ensures .1, c .before .before .before .before .before .before .before .before .before .before .before .before .before .if1 .left), tt))
+    (λ c. omega (arith, c .before .before .before .before .before .before .before .before .before .before .before .before .before .before .before .before .before .before .before .before .if1 .left))
+    (λ c κs. tt)
+    (λ c κs. (omega (arith, c .before .before .before .before .before .before .before .before .before .before .before .before .before .before .before .before .before .before .before .before .before .before .before .before .before .before .before .before .before .pre .0, c .before .before .before .parts-of2 .ensures .1, c .before .before .before .before .before .before .before .before .before .before .before .before .before .before .before .before .before .before .before .before .before .before .before .before .if1 .left), tt))
+    (λ c κs. tt)
+    (λ c κs. tt)
+    (λ c. omega (arith, c .before .before .before .before .before .before .before .before .fs2 .kept, c .before .before .before .before .before .before .before .before .before .before .before .before .before .before .before .before .before .before .before .fs .kept, c .before .before .before .before .before .before .before .before .before .before .before .before .before .before .before .before .before .before .before .before .before .before .before .before .before .before .before .copy .kept))
+    (λ c. omega (arith, c .before .before .before .before .before .before .before .before .fs2 .kept, c .before .before .before .before .before .before .before .before .before .before .before .before .before .before .before .before .before .before .before .fs .kept, c .before .before .before .before .before .before .before .before .before .before .before .before .before .before .before .before .before .before .before .before .before .before .before .before .before .before .before .copy .kept))
+    (λ c. omega (arith, c .before .before .before .before .before .before .before .before .fs2 .kept, c .before .before .before .before .before .before .before .before .before .before .before .before .before .before .before .before .before .before .before .fs .kept, c .before .before .before .before .before .before .before .before .before .before .before .before .before .before .before .before .before .before .before .before .before .before .before .before .before .before .before .copy .kept))
     (plain-returns-2 t)
     (λ c κs. tt)
     (λ c κs. tt)
+    (λ c κs. (omega (arith, c .before .before .before .before .before .before .before .before .before .before .before .before .before .before .before .before .before .before .before .before .pre .0, c .before .before .before .before .before .before .parts-of .ensures .1, c .before .before .before .before .before .before .before .before .before .before .before .before .before .before .before .if1 .left), tt))
     (λ c κs. tt)
     (λ c κs. tt)
-    (λ c. omega (arith, c .before .before .before .before .before .before .before .before .before .before .if1 .left))
-    (λ c κs. tt)
-    (λ c κs. (omega (arith, c .before .before .before .before .before .before .before .before .before .before .before .before .before .before .before .before .before .before .before .before .pre .0, c .before .before .before .before .parts-of .ensures .1, c .before .before .before .before .before .before .before .before .before .before .before .before .before .before .before .if1 .left), tt))
-    (λ c. omega (arith, c .before .before .before .before .before .before .before .before .before .before .before .before .before .before .before .before .before .before .before .before .before .before .if1 .left))
-    (λ c κs. tt)
-    (λ c κs. (omega (arith, c .before .before .before .before .before .before .before .before .before .before .before .before .before .before .before .before .before .before .before .before .before .before .before .before .before .before .before .before .before .before .before .pre .0, c .before .before .before .parts-of2 .ensures .1, c .before .before .before .before .before .before .before .before .before .before .before .before .before .before .before .before .before .before .before .before .before .before .before .before .before .before .if1 .left), tt))
-    (λ c. omega (arith, c .before .before .before .before .before .before .fs2 .kept, c .before .before .before .before .before .before .before .before .before .before .before .before .before .before .before .before .before .fs .kept, c .before .before .before .before .before .before .before .before .before .before .before .before .before .before .before .before .before .before .before .before .before .before .before .before .before .copy2 .kept))
-    (λ c. omega (arith, c .before .before .before .before .before .before .fs2 .kept, c .before .before .before .before .before .before .before .before .before .before .before .before .before .before .before .before .before .fs .kept, c .before .before .before .before .before .before .before .before .before .before .before .before .before .before .before .before .before .before .before .before .before .before .before .before .before .copy2 .kept))
-    (λ c. omega (arith, c .before .before .before .before .before .before .fs2 .kept, c .before .before .before .before .before .before .before .before .before .before .before .before .before .before .before .before .before .fs .kept, c .before .before .before .before .before .before .before .before .before .before .before .before .before .before .before .before .before .before .before .before .before .before .before .before .before .copy2 .kept))
+    (λ c. omega (arith, c .before .before .before .before .before .before .before .before .fs3 .kept, c .before .before .before .before .before .before .before .before .before .before .before .before .before .before .before .before .before .before .copy .kept))
+    (λ c. omega (arith, c .before .before .before .before .before .before .before .before .fs3 .kept, c .before .before .before .before .before .before .before .before .before .before .before .before .before .before .before .before .before .before .copy .kept))
+    (λ c. omega (arith, c .before .before .before .before .before .before .before .before .fs3 .kept, c .before .before .before .before .before .before .before .before .before .before .before .before .before .before .before .before .before .before .copy .kept))
     (plain-returns-3 t)
-    (λ c κs. tt)
-    (λ c κs. tt)
-    (λ c κs. (omega (arith, c .before .before .before .before .before .before .before .before .before .before .before .before .before .before .before .before .before .before .before .before .before .before .pre .0, c .before .before .before .before .before .before .parts-of .ensures .1, c .before .before .before .before .before .before .before .before .before .before .before .before .before .before .before .before .before .if1 .left), tt))
-    (λ c. search needs)
-    (λ c. search needs)
-    (λ c. search needs)
-    (plain-returns-4 t)
 
 prop-spec : {M : Type 1} (t : ℕ) → cycle.Lts-prop.Closed (prop-claims t) (at-measure prop.Kinds.ps μ-prop prop.Reads.Pre t) prop.Reads.Post M
 prop-spec t = cycle.Lts-prop.spec (prop-claims t) (at-measure prop.Kinds.ps μ-prop prop.Reads.Pre t) prop.Reads.Post
@@ -2388,6 +2391,8 @@ pt-spec t = cycle.Lts-pt.spec (pt-claims t) (at-measure pt.Kinds.ps μ-pt pt.Rea
     (λ c κs. tt)
     (λ c κs. tt)
     (λ c κs. (omega (arith, c .before .before .before .before .before .before .before .before .before .before .before .before .before .before .before .pre .0, c .under .ensures .1, c .before .before .before .before .before .before .less .ensures), tt))
+    (λ c κs. tt)
+    (λ c κs. tt)
     (λ c κs. tt)
     (λ c κs. tt)
     (λ c. search needs)

@@ -13,7 +13,7 @@ returns c =
     let b = n .before .before .before .before .before .before .before .before .before .before in
     let s = b .before .before .before .before .before .before .before in
     let a = s .before .args in
-    law.ends-refused _ _ (a .tree .now) (a .out .now) (a .list .now) (a .work .now) _ (λ i. omega (arith, s .shared-slice-known .given i)) _ _ _ _ (b .begin .ensures) _ _ _ _ _ (n .node .ensures .1) _ (c .before .before .before .before .before .before .before .before .before .before .if1 .taken)
+    law.ends-refused _ _ (a .tree .now) (a .out .now) (a .list .now) (a .work .now) _ (a .tree .now) (λ i. omega (arith, s .shared-slice-known .given i)) _ _ _ _ (b .begin .ensures) _ _ _ _ _ (n .node .ensures .1) _ (c .before .before .before .before .before .before .before .before .before .before .if1 .taken)
     (n .node .kept .1 .1 .0 ∙ b .begin .kept .0)
     (n .node .kept .1 .1 .1 .0 ∙ b .begin .kept .1 .0)
     (n .node .kept .1 .1 .1 .1 .0 ∙ b .begin .kept .1 .1 .0)
@@ -25,7 +25,7 @@ returns-2 c =
     let b = n .before .before .before .before .before .before .before .before .before .before in
     let s = b .before .before .before .before .before .before .before in
     let a = s .before .args in
-    law.ends-fits _ _ (a .tree .now) (a .out .now) (a .list .now) (a .work .now) _ (λ i. omega (arith, s .shared-slice-known .given i)) _ _ _ _ (b .begin .ensures) _ _ _ _ _ (n .node .ensures .1) _ _ _ _ (omega (arith, c .before .before .before .before .before .before .before .before .before .before .before .before .if1 .left)) (c .before .before .before .before .before .before .before .finish .ensures) (c .if2 .taken)
+    law.ends-fits _ _ (a .tree .now) (a .out .now) (a .list .now) (a .work .now) _ (a .tree .now) (λ i. omega (arith, s .shared-slice-known .given i)) _ _ _ _ (b .begin .ensures) _ _ _ _ _ (n .node .ensures .1) _ _ _ _ (omega (arith, c .before .before .before .before .before .before .before .before .before .before .before .before .if1 .left)) (c .before .before .before .before .before .before .before .finish .ensures) (c .if2 .taken)
 
 returns-3 : tie.Need-returns-3
 returns-3 c =
@@ -33,7 +33,7 @@ returns-3 c =
     let b = n .before .before .before .before .before .before .before .before .before .before in
     let s = b .before .before .before .before .before .before .before in
     let a = s .before .args in
-    law.ends-over _ _ (a .tree .now) (a .out .now) (a .list .now) (a .work .now) _ (λ i. omega (arith, s .shared-slice-known .given i)) _ _ _ _ (b .begin .ensures) _ _ _ _ _ (n .node .ensures .1) _ _ _ _ (omega (arith, c .before .before .before .before .before .before .before .before .before .before .before .before .if1 .left)) (c .before .before .before .before .before .before .before .finish .ensures) (c .if2 .left)
+    law.ends-over _ _ (a .tree .now) (a .out .now) (a .list .now) (a .work .now) _ (a .tree .now) (λ i. omega (arith, s .shared-slice-known .given i)) _ _ _ _ (b .begin .ensures) _ _ _ _ _ (n .node .ensures .1) _ _ _ _ (omega (arith, c .before .before .before .before .before .before .before .before .before .before .before .before .if1 .left)) (c .before .before .before .before .before .before .before .finish .ensures) (c .if2 .left)
 
 pub lower-spec : {M : Type 1} → statement M
 lower-spec =
