@@ -1,0 +1,9 @@
+pub mod Steps
+pub mod Tables
+pub mod Writing
+pub mod Ways
+pub mod Entry
+pub mod Hold
+pub mod Asks
+pub mod Good
+pub mod Taken

@@ -1,0 +1,5 @@
+pub mod Xorshift
+pub mod Draw
+pub mod Pen
+pub mod Outcome
+pub mod Examples
