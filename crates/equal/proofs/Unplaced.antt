@@ -22,7 +22,7 @@ use Rattle.equal.proofs.Renumber.{written, listed, each-same, each-twic
 abbrev joined : List ℕ → List ℕ → List ℕ
 joined xs ys = xs ++ ys
 
-map-unplaced : (fs : Fields) → mapOf (unplacedFields fs) ≡ mapOf fs
+pub map-unplaced : (fs : Fields) → mapOf (unplacedFields fs) ≡ mapOf fs
 unfolding mapOf unplaced
 map-unplaced done = refl
 map-unplaced (absent fs) = ap (λ (m : ℕ). 2 * m) (map-unplaced fs)

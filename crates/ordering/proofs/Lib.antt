@@ -1,0 +1,9 @@
+pub mod Laws
+pub mod Bridge
+pub mod Same
+pub mod Order
+pub mod Texts
+pub mod Keys
+pub mod Places
+pub mod Sides
+pub mod Pairs

@@ -1,0 +1,184 @@
+-- Two sides, step by step: what is left of both decides as the trees do.
+-- Assumes nothing.
+use mathlib.Core.Path.{_≡_, refl, sym, ap, ap₂, subst, _∙_}
+use mathlib.Core.Bool.{Bool, true, false, cond, not}
+use mathlib.Core.List.{List, [], _∷_}
+use Prim.Native.Nat.{ℕ, _+_, _-_, _<_, _≤_}
+use lib.ListN.{length, getD}
+use Rattle.tree.specs.Tree.{Node}
+use Rattle.tree.specs.Grammar.Stage.{rewritten}
+use Rattle.tree.specs.Read.{Got, readTree}
+use Rattle.tree.specs.Read.Got.{got, refused}
+use Rattle.tree.proofs.Sound.{never}
+use Rattle.rewritten.specs.Rewritten.{readRewritten, isGot, isRewritten}
+use Rattle.rewritten.specs.Events.{Event, events}
+use Rattle.rewritten.specs.Steps.{start, eventIn}
+use Rattle.rewritten.specs.declared.step.Cursor.{Cursor}
+use Rattle.rewritten.specs.declared.step.Event as told
+use Rattle.rewritten.proofs.Rewritten.{checked-got}
+use Rattle.ordering.specs.Verdicts.{orElse, isEqual, lexical}
+use Rattle.ordering.specs.Order.{order, byEvent, firstDifference, placedAll}
+use Rattle.ordering.specs.Sides.{Within, Coming, Went, Moved}
+use Rattle.ordering.specs.Outcome.{pairOf, isRefused, answerOf}
+use Rattle.ordering.specs.declared.verdict.Verdict.{Verdict}
+use Rattle.ordering.specs.declared.verdict.Verdict.the-variants.{Less, Equal, Greater}
+use Rattle.ordering.specs.declared.side.Side.{Side}
+use Rattle.ordering.specs.declared.side.Move.{Move}
+use Rattle.ordering.specs.declared.side.Move.the-variants.{Met, Ended}
+use Rattle.ordering.specs.declared.compare.Pair.{Pair}
+use Rattle.ordering.specs.declared.compare.Pair.the-variants.{Both, Over}
+use Rattle.ordering.specs.declared.compare.Answer.{Answer}
+use Rattle.ordering.specs.declared.compare.Answer.the-variants.{Said, Refused}
+use Rattle.ordering.proofs.Order.{order-events}
+use Rattle.ordering.proofs.Sides.{fresh, side-start}
+
+-- ---- what was read
+
+-- the code's ways out
+module _ (l k : List ℕ) (a : Bool) (is : a ≡ isRewritten l) where
+  pub first-refused : a ≡ false → true ≡ isRefused l k
+  unfolding isRefused
+  first-refused e = rw (sym is ∙ e)
+
+  module _ (b : Bool) (is' : b ≡ isRewritten k) (t : a ≡ true) where
+    pub second-refused : b ≡ false → true ≡ isRefused l k
+    unfolding isRefused
+    second-refused e = rw (sym is ∙ t, sym is' ∙ e)
+
+    pub none-refused : b ≡ true → false ≡ isRefused l k
+    unfolding isRefused
+    none-refused e = rw (sym is ∙ t, sym is' ∙ e)
+
+pub refused-either : (l k : List ℕ) → isRefused l k ≡ true → Refused ≡ answerOf (readRewritten l) (readRewritten k)
+unfolding isRefused isRewritten
+refused-either l k e = go (readRewritten l) (readRewritten k) e
+  where
+    go : (g h : Got Node) → cond (isGot g) (not (isGot h)) true ≡ true → Refused ≡ answerOf g h
+    go (got n q j) (got m p i) w = absurd (never w)
+    go (got n q j) (refused r) w = refl
+    go (refused r) h w = refl
+
+both-read : (l k : List ℕ) → isRefused l k ≡ false → (isRewritten l ≡ true) × (isRewritten k ≡ true)
+unfolding isRefused
+both-read l k e = go (isRewritten l) (isRewritten k) e
+  where
+    go : (a b : Bool) → cond a (not b) true ≡ false → (a ≡ true) × (b ≡ true)
+    go true true w = (refl, refl)
+    go true false w = absurd (never (sym w))
+    go false b w = absurd (never (sym w))
+
+record ReadAs (l : List ℕ) : Type 0 where
+  pub tree : Node
+  pub end : ℕ
+  pub next : ℕ
+  pub is : readRewritten l ≡ got tree end next
+
+read-as : (l : List ℕ) → isRewritten l ≡ true → ReadAs l
+unfolding isRewritten
+read-as l e = go (readRewritten l) refl e
+  where
+    go : (g : Got Node) → readRewritten l ≡ g → isGot g ≡ true → ReadAs l
+    go (got n q k) w t = record { tree = n; end = q; next = k; is = w }
+    go (refused r) w t = absurd (never t)
+
+-- ---- two sides
+
+pub record Going (l k : List ℕ) (fs gs table places : List ℕ) (a b : Side) (answer : Answer) : Type 0 where
+  pub first : List Event
+  pub second : List Event
+  pub left : Coming l fs table a first
+  pub right : Coming k gs places b second
+  pub will : Said (firstDifference first second) ≡ answer
+
+pub going-start : (l k fs gs table places : List ℕ) → isRefused l k ≡ false → 16384 ≤ length fs → 16384 ≤ length gs → 65536 ≤ length table → ((x : ℕ) → getD table x 0 ≡ 0) → 65536 ≤ length places → ((x : ℕ) → getD places x 0 ≡ 0) → (c d : Cursor) → c ≡ start → d ≡ start → Going l k fs gs table places (fresh c) (fresh d) (answerOf (readRewritten l) (readRewritten k))
+unfolding readRewritten
+going-start l k fs gs table places x f g t z u v c d e h =
+    let y = both-read l k x in
+    let m = read-as l (y .0) in
+    let n = read-as k (y .1) in
+    record {
+      first = placedAll false [] (events (m .tree));
+      second = placedAll false [] (events (n .tree));
+      left = side-start l fs table (m .tree) (m .end) (m .next) (checked-got (readTree rewritten (length l) l) (m .tree) (m .end) (m .next) (m .is) .0) f t z c e;
+      right = side-start k gs places (n .tree) (n .end) (n .next) (checked-got (readTree rewritten (length k) k) (n .tree) (n .end) (n .next) (n .is) .0) g u v d h;
+      will = ap Said (sym (order-events (m .tree) (n .tree))) ∙ sym (ap₂ answerOf (m .is) (n .is));
+    }
+
+-- what a pair was made of
+firstOf : Pair → Move
+firstOf (Both e s f t) = Met e s
+firstOf (Over v) = Ended
+
+secondOf : Pair → Move
+secondOf (Both e s f t) = Met f t
+secondOf (Over v) = Ended
+
+isBoth : Pair → Bool
+isBoth (Both e s f t) = true
+isBoth (Over v) = false
+
+verdictIn : Pair → Verdict
+verdictIn (Both e s f t) = Equal
+verdictIn (Over v) = v
+
+both-of : (m n : Move) (e : told.Event) (s : Side) (f : told.Event) (t : Side) → pairOf m n ≡ Both e s f t → (m ≡ Met e s) × (n ≡ Met f t)
+unfolding firstOf secondOf isBoth
+both-of (Met e' s') (Met f' t') e s f t w = (ap firstOf w, ap secondOf w)
+both-of (Met e' s') Ended e s f t w = absurd (never (ap isBoth w))
+both-of Ended (Met f' t') e s f t w = absurd (never (ap isBoth w))
+both-of Ended Ended e s f t w = absurd (never (ap isBoth w))
+
+module _ (l k fs gs table places : List ℕ) (a b : Side) (answer : Answer) (g : Going l k fs gs table places a b answer) (later after noted marked : List ℕ) (m n : Move) (moved : Moved l later noted a (g .first) m) (other : Moved k after marked b (g .second) n) (p : Pair) (is : p ≡ pairOf m n) where
+  module _ (e : told.Event) (s : Side) (f : told.Event) (t : Side) (both : p ≡ Both e s f t) where
+    parts : (m ≡ Met e s) × (n ≡ Met f t)
+    parts = both-of m n e s f t (sym is ∙ both)
+
+    went : Went l later noted a (g .first) e s
+    went = subst (λ (x : Move). Moved l later noted a (g .first) x) (parts .0) moved .so
+
+    went-too : Went k after marked b (g .second) f t
+    went-too = subst (λ (x : Move). Moved k after marked b (g .second) x) (parts .1) other .so
+
+    pub pair-falls : (length l - s .cursor .at) + s .cursor .deep < (length l - a .cursor .at) + a .cursor .deep
+    pair-falls = went .falls
+
+    module _ (v : Verdict) (by : Within l e → Within k f → v ≡ byEvent (eventIn l e) (eventIn k f)) where
+      decides : Said (orElse v (firstDifference (went .rest) (went-too .rest))) ≡ answer
+      unfolding firstDifference lexical
+      decides =
+          ap (λ (x : Verdict). Said (orElse x (firstDifference (went .rest) (went-too .rest)))) (by (went .within) (went-too .within))
+          ∙ ap₂ (λ (xs ys : List Event). Said (firstDifference xs ys)) (sym (went .is)) (sym (went-too .is))
+          ∙ g .will
+
+      pub pair-equal : (r : Bool) → r ≡ isEqual v → r ≡ true → Going l k later after noted marked s t answer
+      pair-equal r h w = record {
+        first = went .rest;
+        second = went-too .rest;
+        left = went .then;
+        right = went-too .then;
+        will = go v (sym h ∙ w) decides;
+      }
+        where
+          go : (u : Verdict) → isEqual u ≡ true → Said (orElse u (firstDifference (went .rest) (went-too .rest))) ≡ answer → Said (firstDifference (went .rest) (went-too .rest)) ≡ answer
+          go Less i x = absurd (never i)
+          go Equal i x = x
+          go Greater i x = absurd (never i)
+
+      pub pair-parts : (r : Bool) → r ≡ isEqual v → r ≡ false → Said v ≡ answer
+      pair-parts r h w = go v (sym h ∙ w) decides
+        where
+          go : (u : Verdict) → isEqual u ≡ false → Said (orElse u (firstDifference (went .rest) (went-too .rest))) ≡ answer → Said u ≡ answer
+          go Less i x = x
+          go Equal i x = absurd (never (sym i))
+          go Greater i x = x
+
+  -- one of them has ended
+  pub pair-over : (v : Verdict) → p ≡ Over v → Said v ≡ answer
+  unfolding firstDifference lexical verdictIn isBoth
+  pair-over v w = go m n moved other (sym is ∙ w)
+    where
+      go : (x y : Move) → Moved l later noted a (g .first) x → Moved k after marked b (g .second) y → pairOf x y ≡ Over v → Said v ≡ answer
+      go (Met e s) (Met f t) i j q = absurd (never (sym (ap isBoth q)))
+      go (Met e s) Ended i j q = ap Said (sym (ap verdictIn q)) ∙ ap₂ (λ (xs ys : List Event). Said (firstDifference xs ys)) (sym (i .so .is)) (sym (j .so)) ∙ g .will
+      go Ended (Met f t) i j q = ap Said (sym (ap verdictIn q)) ∙ ap₂ (λ (xs ys : List Event). Said (firstDifference xs ys)) (sym (i .so)) (sym (j .so .is)) ∙ g .will
+      go Ended Ended i j q = ap Said (sym (ap verdictIn q)) ∙ ap₂ (λ (xs ys : List Event). Said (firstDifference xs ys)) (sym (i .so)) (sym (j .so)) ∙ g .will
