@@ -1,7 +1,7 @@
-/* Object rest and spread, lowered from tree bytes to tree bytes: the functions of librest_spread.a, and one of
- * libcounting.a.
+/* Object rest and spread, lowered from tree bytes to tree bytes: the functions of librest_spread.a, one of libcounting.a
+ * and two of libdrawing.a.
  *
- * The archives are made by `rt staticlib rest_spread` and `rt staticlib counting`, are for x86-64 Linux, and can be linked
+ * The archives are made by `rt staticlib rest_spread`, `counting` and `drawing`, are for x86-64 Linux, and can be linked
  * together. They need memcpy, memmove and memset of the C library and nothing else: they allocate nothing, keep nothing
  * between calls, and read and write no file.
  *
@@ -20,8 +20,11 @@ extern "C" {
  * version may be linked and then do something else. An archive from before there were versions does not link. */
 #define REST_SPREAD_VERSION 2
 
-/* The longest tree that is read, and the deepest: the Program is at level 1, a node in a field of another one below it. */
+/* The longest tree that is read. */
 #define REST_SPREAD_TREE_IN 16384
+
+/* The highest depth limit, and the one where none is named. The Program is at level 1, a node in a field of another one
+ * below it. */
 #define REST_SPREAD_LEVELS 128
 
 /* The longest tree and list that are written, and the work that a call needs, in bytes. */
@@ -29,11 +32,11 @@ extern "C" {
 #define REST_SPREAD_LIST_OUT 16384
 #define REST_SPREAD_WORK 65536
 
-/* Options, to be added up. None is implemented: they are reported back and change nothing else. */
+/* Options, to be added up. None is implemented: they are reported back and change nothing else. 8 may be set and does
+ * nothing: that option is retired. */
 #define REST_SPREAD_LOOSE 1
 #define REST_SPREAD_USE_BUILT_INS 2
 #define REST_SPREAD_OBJECT_REST_NO_SYMBOLS 4
-#define REST_SPREAD_IGNORE_FUNCTION_LENGTH 8
 
 /* Bits of the helper mask. A Helper node (kind 21) in the tree has the number of the bit, from 1. The functions
  * themselves are in helpers/helpers.js. */
@@ -51,7 +54,7 @@ extern "C" {
 #define REST_SPREAD_SHORT_WORK 2
 /* tree_len above 16,384, which is looked at first; or the bytes are no tree, by the rules of docs/FORMAT.md */
 #define REST_SPREAD_NOT_A_TREE 3
-/* a node at level 129. Of 3 and 4 the one that is met first in byte order is given, at one byte 3 */
+/* a node deeper than the limit. Of 3 and 4 the one that is met first in byte order is given, at one byte 3 */
 #define REST_SPREAD_TOO_DEEP 4
 /* an assignment, or the head of a for loop, whose target has an array rest with an object rest below it, as in
  * [...[{...a}]] = b */
@@ -61,11 +64,13 @@ extern "C" {
 #define REST_SPREAD_KEY_WITHOUT_FORM 6
 /* the lowered tree is longer than 32,768 bytes or than tree_out_len, or the list longer than 16,384 or than list_out_len */
 #define REST_SPREAD_TOO_LONG 7
+/* a depth limit of 0 or above 128, which is looked at before all else */
+#define REST_SPREAD_LIMIT_OUTSIDE 9
 
 struct rest_spread_lowered {
     uint8_t answer;  /* 0, or the number of the refusal; at a refusal all else is 0 */
     uint8_t helpers; /* the helpers that the written tree calls */
-    uint8_t options; /* the options that were given */
+    uint8_t options; /* those of the given options that are in force: 1, 2 and 4 */
     size_t tree_len; /* the bytes of tree_out that are the tree */
     size_t list_len; /* the bytes of list_out that are the list */
 };
@@ -73,17 +78,20 @@ struct rest_spread_lowered {
 /* The version of the archive. It is REST_SPREAD_VERSION where header and archive belong together. */
 uint32_t rest_spread_version(void);
 
-/* Lowers a tree.
+/* Lowers a tree. The depth limit is 128.
  *
  * What the caller owes
  *   Each pointer is that of an array of so many bytes and not NULL, not even for a length of 0.
  *   The four arrays do not overlap, and nobody else writes them during the call.
- *   The stack has room for the call: the deepest trees take about 0.3 MB, and a thread with 1 MB will do.
- *   Nothing is asked of the options, of the lengths, of what the bytes of tree are, or of what the others held before.
+ *   The stack has room for the call: every call takes some 50 KB, 32 of them for the notes of a tree; of the deepest trees
+ *   that were tried none takes more than 0.7 MB, and a thread with 1 MB will do. Within a limit of 64 levels it is half of
+ *   that.
+ *   Nothing is asked of the limit, of the options, of the lengths, of what the bytes of tree are, or of what the others
+ *   held before.
  *
  * What the caller gets, for every input
  *   The call ends. It reads tree and nothing else, and writes tree_out, list_out and work and nothing else.
- *   The answer is 0 to 7, by the table above, and depends on the arguments alone.
+ *   The answer is 0 to 7, or 9 for a limit, by the table above, and depends on the arguments alone.
  *   If it is 0, tree_out begins with the lowered tree, which has tree_len bytes, and list_out with its list, which has
  *   list_len; all bytes behind them are zero; helpers and options say what they say above.
  *   If it is not, tree_len, list_len, helpers and options are 0, and all bytes of tree_out and list_out are zero.
@@ -102,6 +110,14 @@ struct rest_spread_lowered rest_spread_lower(uint32_t options, const uint8_t *tr
                                              size_t tree_out_len, uint8_t *list_out, size_t list_out_len,
                                              uint8_t *work, size_t work_len);
 
+/* The same within a depth limit: a tree of more levels is refused with 4. 1 to REST_SPREAD_LEVELS; 0 and everything above
+ * is 9. What is answered otherwise than with 4 and 9 is answered alike at every higher limit up to REST_SPREAD_LEVELS, with
+ * the same bytes. */
+struct rest_spread_lowered rest_spread_lower_within(uint32_t depth, uint32_t options, const uint8_t *tree,
+                                                    size_t tree_len, uint8_t *tree_out, size_t tree_out_len,
+                                                    uint8_t *list_out, size_t list_out_len, uint8_t *work,
+                                                    size_t work_len);
+
 /* The answer of rest_spread_calls for an n above 32. */
 #define REST_SPREAD_PATTERN_TOO_LONG 14
 
@@ -118,6 +134,33 @@ struct rest_spread_counted {
  *
  * Nothing is asked of n and c. The call ends, reads and writes nothing else, and depends on n and c alone. */
 struct rest_spread_counted rest_spread_calls(uint32_t n, uint32_t c);
+
+/* The answer of rest_spread_draw for a zero seed. */
+#define REST_SPREAD_ZERO_SEED 8
+
+/* The bytes that have room for every drawn tree. */
+#define REST_SPREAD_DRAWN 5121
+
+struct rest_spread_drawn {
+    uint8_t answer;  /* 0; 8 for a zero seed; else 7 if the tree is longer than tree_out_len */
+    uint32_t next;   /* the generator's state after the tree, which is never 0; 0 at a refusal */
+    size_t tree_len; /* the bytes of tree_out that are the tree; 0 at a refusal */
+};
+
+/* Draws the tree of a seed, the same everywhere. Every drawn tree is one that rest_spread_lower reads, at every limit from
+ * 13 on. A series goes on from next. It stands in libdrawing.a.
+ *
+ * tree_out is not NULL, not even for a length of 0; nothing else is asked. The call ends and writes tree_out and nothing
+ * else: the tree, and zeros behind it; at a refusal zeros. */
+struct rest_spread_drawn rest_spread_draw(uint32_t seed, uint8_t *tree_out, size_t tree_out_len);
+
+/* Marsaglia's 32-bit xorshift: left 13, right 17, left 5. xorshift_next advances it in place and returns its next number,
+ * which is then its state. It stands in libdrawing.a. */
+struct rest_spread_xorshift {
+    uint32_t state;
+};
+
+uint32_t xorshift_next(struct rest_spread_xorshift *g);
 
 #ifdef __cplusplus
 }

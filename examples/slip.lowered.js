@@ -1,2 +1,2 @@
-// What slip.js becomes. _objectSpread2 is Babel's helper objectSpread2, which the loader supplies.
-const next = (state, now) => (_objectSpread2({deadline: now + 200, slips: 0}, state));
+// What slip.js becomes. ObjectSpread2 is Babel's helper objectSpread2, in helpers/helpers.js, which a loader runs first.
+const next = (state, now) => (ObjectSpread2({deadline: now + 200, slips: 0}, state));

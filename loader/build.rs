@@ -15,9 +15,13 @@ struct Archive {
     functions: &'static [&'static str],
 }
 
-const ARCHIVES: [Archive; 2] = [
-    Archive { name: "rest_spread", functions: &["rest_spread_lower", "rest_spread_version"] },
+const ARCHIVES: [Archive; 3] = [
+    Archive {
+        name: "rest_spread",
+        functions: &["rest_spread_lower", "rest_spread_lower_within", "rest_spread_version"],
+    },
     Archive { name: "counting", functions: &["rest_spread_calls"] },
+    Archive { name: "drawing", functions: &["rest_spread_draw", "xorshift_next"] },
 ];
 
 /// How long `rt staticlib` takes for all of them, from nothing.

@@ -1,3 +1,4 @@
+#!/usr/bin/env python3
 """Counts nested calls: in what `lower` writes, and as the entry says.
 
     tools/calls.py [--longest N] [--binary FILE]     one literal for each pattern of up to N items (12: 8,191 literals)
@@ -91,7 +92,10 @@ def expected(pattern):
 
 
 def counted(binary, pattern):
-    wrote = subprocess.run([binary], input=b"\0" + tree_of(pattern), stdout=subprocess.PIPE, check=True).stdout.decode()
+    try:
+        wrote = subprocess.run([binary], input=b"\0" + tree_of(pattern), stdout=subprocess.PIPE, check=True).stdout.decode()
+    except OSError as error:
+        sys.exit(f"{binary}: {error.strerror} (`rt check lower` builds target/bin/lower)")
     head, tree, listed = wrote.splitlines()
     if head.split()[0] != "0":
         sys.exit(f"{binary} refuses {tree_of(pattern).hex()}: {head}")
@@ -130,6 +134,8 @@ class Counted(ctypes.Structure):
 
 
 def entry_of(archive):
+    if not os.path.exists(archive):
+        sys.exit(f"{archive}: not there (`rt staticlib counting` makes target/staticlib/libcounting.a)")
     with tempfile.TemporaryDirectory() as folder:
         shared = os.path.join(folder, "counting.so")
         subprocess.run(["cc", "-shared", "-o", shared, "-Wl,--whole-archive", archive, "-Wl,--no-whole-archive"], check=True)

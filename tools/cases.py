@@ -63,6 +63,12 @@ RETIRED = 8
 REF, EXCLUDED, VALUE = 1, 2, 3
 
 
+def there(folder):
+    """The vector files that a folder has, by name."""
+    names = [name for name in FILES if os.path.isfile(os.path.join(folder, name + ".txt"))]
+    return names or sys.exit(f"{folder}: no vector file is there")
+
+
 class Reading:
     """A stored case of reading."""
 

@@ -6,7 +6,17 @@
 // know is counted as a SyntaxError. With --rust the Rust reference has to give the same bytes. With -v each case is printed.
 'use strict';
 
-const acorn = require('internal/deps/acorn/acorn/dist/acorn');
+function end(line) {
+  console.error(line);
+  process.exit(1);
+}
+
+let acorn;
+try {
+  acorn = require('internal/deps/acorn/acorn/dist/acorn');
+} catch {
+  end('the parser inside node is wanted: node --expose-internals tools/departures.js');
+}
 const { spawnSync } = require('child_process');
 const fs = require('fs');
 const path = require('path');
@@ -386,7 +396,9 @@ async function shown(c, program, helpers) {
 
 function lower(words, tree) {
   const given = Buffer.concat([Buffer.from([0]), tree]);
-  const lines = spawnSync(words[0], words.slice(1), { input: given }).stdout.toString().split('\n');
+  const ran = spawnSync(words[0], words.slice(1), { input: given });
+  if (ran.error) end(`${words[0]}: ${ran.error.code} (\`rt check lower\` builds target/bin/lower)`);
+  const lines = ran.stdout.toString().split('\n');
   if (lines[0].split(' ')[0] != '0') throw new Error(`${words[0]} answers ${lines[0]} for ${tree.toString('hex')}`);
   return { lines: lines.slice(0, 3).join('\n'), tree: Buffer.from(lines[1], 'hex'), list: Buffer.from(lines[2], 'hex') };
 }

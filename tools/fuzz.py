@@ -340,9 +340,7 @@ def main():
     if given.rewritten:
         sys.exit(1 if replay_rewritten(given.binary, rewritten_trees(random.Random(given.seed), given.count)) else 0)
     if given.vectors:
-        if not os.path.isdir(given.vectors):
-            sys.exit(f"{given.vectors}: no such folder")
-        names = list(cases.FILES)
+        names = cases.there(given.vectors)
         source = cases.expected(case for name in names for case in cases.load(given.vectors, name))
     else:
         whole = ((read.DEEPEST, tree) for tree in grid())

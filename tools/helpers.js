@@ -12,6 +12,10 @@ const TEXT = fs.readFileSync(path.join(__dirname, '..', 'helpers', 'helpers.js')
 const NAMES = { objectSpread2: 'ObjectSpread2', extends: 'Extends', objectDestructuringEmpty: 'ObjectDestructuringEmpty', objectWithoutProperties: 'ObjectWithoutProperties', toPropertyKey: 'ToPropertyKey' };
 const own = {}, babel = {};
 const folder = path.resolve(process.argv[2] || '/usr/share/nodejs/@babel/runtime');
+if (!fs.existsSync(path.join(folder, 'helpers'))) {
+  console.error(`${folder}: no @babel/runtime is there; node tools/helpers.js FOLDER names another`);
+  process.exit(1);
+}
 for (const [name, called] of Object.entries(NAMES)) {
   own[name] = new Function(`${TEXT}return ${called};`)();
   const module = require(path.join(folder, 'helpers', name + '.js'));

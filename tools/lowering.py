@@ -1,3 +1,4 @@
+#!/usr/bin/env python3
 """Holds a program that lowers to the Rust reference on made trees: valid ones, damaged ones, and ones at the limits.
 
     tools/lowering.py --reference FILE [--binary FILE] [--stream] [--count N] [--seed N] [--shown N] [--deep N] [--limit N]
@@ -37,6 +38,7 @@ import grid
 import read
 
 BATCH = 2000
+MADE_BY = "`rt check lower` builds target/bin/lower"
 TREE, LIST = 32768, 16384
 NAMES = [b"a", b"b", b"c", b"k", b"s", b"", b"state", b"deadline"]
 # Literals by sort: a form, and spellings of it. A boolean and a null have their words.
@@ -413,11 +415,21 @@ class Refused(tuple):
         return super().__new__(cls, (number, 0, 0, "", ""))
 
 
+def ran(words, given, made_by):
+    """What a program prints; one line and the end if it is not there or fails."""
+    try:
+        return subprocess.run(words, input=given, stdout=subprocess.PIPE, check=True).stdout.decode()
+    except OSError as error:
+        sys.exit(f"{words[0]}: {error.strerror} ({made_by})")
+    except subprocess.CalledProcessError as error:
+        sys.exit(f"{words[0]}: ended with status {error.returncode}")
+
+
 def reference_at(path, limit):
     def run(batch):
         lines = "".join(f"{options:02x}{tree.hex()}\n" for options, tree in batch)
         words = [path, "--batch", "--template-key=node", "--retired", "--classes", "--stems", f"--limit={limit or read.DEEPEST}"]
-        wrote = subprocess.run(words, input=lines.encode(), stdout=subprocess.PIPE, check=True).stdout.decode().splitlines()
+        wrote = ran(words, lines.encode(), "docs/DIFFERENCES.md says what the reference program is").splitlines()
         if len(wrote) != len(batch):
             sys.exit(f"{path}: {len(batch)} cases were sent, {len(wrote)} lines came back")
         for line in wrote:
@@ -437,8 +449,14 @@ def program_at(path, is_stream, limit):
 
     def once(case):
         options, tree = case
-        wrote = subprocess.run(words, input=bytes([options]) + tree, stdout=subprocess.PIPE, check=True).stdout.decode()
-        return printed(wrote.split("\n"))
+        try:
+            wrote = subprocess.run(words, input=bytes([options]) + tree, stdout=subprocess.PIPE).stdout.decode()
+        except OSError as error:
+            sys.exit(f"{path}: {error.strerror} ({MADE_BY})")
+        lines = wrote.split("\n")
+        if len(lines) != 4:
+            sys.exit(f"{path}: three lines are due, and it printed {wrote!r}")
+        return printed(lines)
 
     def singly(batch):
         with concurrent.futures.ThreadPoolExecutor(2) as pool:
@@ -446,7 +464,7 @@ def program_at(path, is_stream, limit):
 
     def stream(batch):
         given = b"".join(bytes([options]) + cases.wide(len(tree)) + tree for options, tree in batch)
-        wrote = subprocess.run(words, input=given, stdout=subprocess.PIPE, check=True).stdout.decode().split("\n")
+        wrote = ran(words, given, MADE_BY).split("\n")
         if len(wrote) != 3 * len(batch) + 1:
             sys.exit(f"{path}: {len(batch)} cases were sent, {len(wrote) - 1} lines came back")
         return [printed(wrote[3 * i : 3 * i + 3]) for i in range(len(batch))]
@@ -688,7 +706,7 @@ def main():
         return [a != b or not is_equal(a, b) for a, b in zip(wanted, program(batch))]
 
     if given.vectors:
-        names = list(cases.FILES)
+        names = cases.there(given.vectors)
         source = (case for name in names for case in recorded(given.vectors, name))
     elif given.grid:
         source = (("grid", 0, tree) for tree in grid.grid())

@@ -3,10 +3,10 @@
 
     tools/names.py [--renumber]
 
-Read are README.md, CONTRIBUTING.md and the pages in docs/, tools/, examples/ and loader/. For each of them:
+Read are README.md, CONTRIBUTING.md and the pages in docs/, tools/, examples/, loader/, c/ and drafts/. For each of them:
 
 - a link to a file of the repository leads to one, and to a heading of it if it names one;
-- a file or folder that is named in a code span is there;
+- a file or folder that is named in a code span or in a command is there;
 - in a table with the columns Theorem (or Definition, or Contract) and File each name is declared in one of the files, and
   a column Lines has the number of its lines;
 - in a table that begins with Case, and behind the word 'Case' in a text, the script and what it becomes are those of the
@@ -29,12 +29,12 @@ import cases
 import show
 
 ROOT = cases.ROOT
-PAGES = ["README.md", "CONTRIBUTING.md", "docs/*.md", "tools/*.md", "examples/*.md", "loader/*.md"]
+PAGES = ["README.md", "CONTRIBUTING.md", "docs/*.md", "tools/*.md", "examples/*.md", "loader/*.md", "c/*.md", "drafts/*.md"]
 # The endings by which a code span is known to name a file.
 ENDINGS = "antt rt py js rs c h md txt edit toml tree list sh"
 # Files that the pages name and that are not here: those of the Rust module's crate, and what is made.
 OUTSIDE = {"object_rest_spread.rs", "context.rs", "ast_builder.rs", "helper_loader.rs", "document01.txt", "Proof.antt", "Cargo.toml", "src/entry.rs", "lowered.tree", "lowered.list"}
-TOPS = ("crates", "docs", "tools", "loader", "examples", ".ci")
+TOPS = ("crates", "docs", "tools", "loader", "examples", "c", "helpers", ".ci")
 NAMED = ("Theorem", "Definition", "Contract")
 CODE = r"`` .+? ``|`[^`]+`"
 
@@ -83,6 +83,14 @@ class Checker:
             self.counts["file names"] += 1
             if not self.exists(page, span):
                 self.bad(page, f"`{span}` is not there")
+
+    def commands(self, page, text):
+        """Files in blocks of commands, which have no language behind the signs that begin them."""
+        for block in re.findall(r"^```\n(.*?)^```$", text, re.M | re.S):
+            for word in re.findall(rf"(?<![\w./-])(?:\.\./)?(?:{'|'.join(map(re.escape, TOPS))})/[\w./+-]+", block):
+                self.counts["file names"] += 1
+                if not os.path.exists(os.path.join(ROOT, os.path.dirname(page), word)) and not os.path.exists(os.path.join(ROOT, word)):
+                    self.bad(page, f"{word} in a command is not there")
 
     def exists(self, page, name):
         places = [ROOT, os.path.join(ROOT, os.path.dirname(page)), *glob.glob(os.path.join(ROOT, "crates")), *glob.glob(os.path.join(ROOT, "crates", "*"))]
@@ -257,6 +265,7 @@ def main():
         page, text = os.path.relpath(path, ROOT), text_of(path)
         checker.links(page, without_blocks(text))
         checker.paths(page, without_blocks(text))
+        checker.commands(page, text)
         checker.theorems(page, text)
         checker.lines(page, text)
         checker.departures(page, text)

@@ -103,7 +103,7 @@ fn of_reference(program: &OsStr, tree: &[u8]) -> f64 {
 fn run(program: &OsStr, lines: String) -> Duration {
     let begin = Instant::now();
     let mut child = Command::new(program)
-        .args(["--batch", "--template-key=node"])
+        .args(["--batch", "--template-key=node", "--classes", "--stems", "--limit=128"])
         .stdin(Stdio::piped())
         .stdout(Stdio::piped())
         .spawn()

@@ -3,7 +3,7 @@
 
 use crate::grammar::{first_fault, Fault, Trouble};
 use crate::parts::Asking;
-use crate::{Lowerer, Refusal, LIST_OUT, TREE_IN, TREE_OUT};
+use crate::{Lowerer, Refusal, LEVELS, LIST_OUT, TREE_IN, TREE_OUT};
 use std::fmt;
 
 /// Where a refused input is at fault. It is tested and not proved.
@@ -68,9 +68,11 @@ pub struct Explained {
 impl Lowerer {
     /// Looks a second time at a tree that this refusal was given for. It may take some hundred calls, and uses the buffers.
     pub fn explain(&mut self, tree: &[u8], refusal: Refusal) -> Explained {
+        // A limit above 128 has a refusal of its own, and no tree is looked at.
+        let limit = self.depth().min(LEVELS);
         let advice = match refusal {
-            Refusal::NotATree => no_tree(tree),
-            Refusal::TooDeep => first_fault(tree).filter(|fault| fault.trouble == Trouble::Deep).map(Advice::Deep),
+            Refusal::NotATree => no_tree(tree, limit),
+            Refusal::TooDeep => first_fault(tree, limit).filter(is_deep).map(Advice::Deep),
             Refusal::RestBelowArrayRest | Refusal::KeyWithoutForm => {
                 Asking::new(self).statement(tree, refusal).map(|mark| Advice::Statement { mark })
             }
@@ -83,12 +85,16 @@ impl Lowerer {
     }
 }
 
-fn no_tree(tree: &[u8]) -> Option<Advice> {
+fn no_tree(tree: &[u8], limit: u32) -> Option<Advice> {
     match tree.len() {
         0 => Some(Advice::Empty),
         length if length > TREE_IN => Some(Advice::TooManyBytes { length: Some(length as u64) }),
-        _ => first_fault(tree).filter(|fault| fault.trouble != Trouble::Deep).map(Advice::NoTree),
+        _ => first_fault(tree, limit).filter(|fault| !is_deep(fault)).map(Advice::NoTree),
     }
+}
+
+fn is_deep(fault: &Fault) -> bool {
+    matches!(fault.trouble, Trouble::Deep { .. })
 }
 
 /// Whether a result passes a limit: with whole buffers it does, or the advice is wrong.
@@ -114,6 +120,9 @@ impl Explained {
                 format!("the input goes on and on, and a tree has at most {} bytes", grouped(TREE_IN as u64))
             }
             Some(Advice::NoTree(_)) => "the input is not a tree".into(),
+            Some(Advice::Deep(Fault { trouble: Trouble::Deep { limit }, .. })) => {
+                format!("the tree is nested deeper than the limit of {limit}")
+            }
             _ => self.refusal.fault().into(),
         }
     }
@@ -143,6 +152,10 @@ impl Explained {
             Some(Advice::Empty) => "see that the exporter came to its end and that the file was copied",
             Some(Advice::TooManyBytes { .. }) => "split the script into smaller ones",
             Some(Advice::NoTree(_)) => "see that it is a tree file and was copied whole, and export it again",
+            Some(Advice::Deep(Fault { trouble: Trouble::Deep { limit }, .. })) if limit < LEVELS => {
+                "give a higher limit, up to 128; or move inner functions and long nested expressions out, into functions \
+                 or variables of their own"
+            }
             _ => self.refusal.remedy(),
         }
     }

@@ -4,7 +4,7 @@
 
 use std::mem::{offset_of, size_of};
 
-/// What [`lower`] returns. The bytes that it writes are in the slices.
+/// What [`lower`] and [`lower_within`] return. The bytes that it writes are in the slices.
 ///
 /// ```
 /// use rest_spread::entry;
@@ -21,7 +21,7 @@ pub struct Outcome {
     pub answer: u8,
     /// The helpers that the written tree calls: bit 0 for number 1, and so on.
     pub helpers: u8,
-    /// The options that were asked for, none of which is implemented.
+    /// Those of the given options that are in force: 1, 2 and 4. None of them is implemented.
     pub options: u8,
     /// How many bytes of the tree slice are the lowered tree.
     pub tree_len: usize,
@@ -44,7 +44,46 @@ pub struct Counted {
     pub number: u32,
 }
 
+/// What [`draw`] returns. The bytes of the tree are in the slice.
+///
+/// ```
+/// use rest_spread::entry;
+///
+/// let mut tree = [1; 10];
+/// let drawn = entry::draw(9_000_000, &mut tree);
+/// assert_eq!((drawn.answer, drawn.next, drawn.tree_len), (0, 1_781_098_816, 4));
+/// assert_eq!(tree, [1, 1, 0, 0, 0, 0, 0, 0, 0, 0]);
+/// ```
+#[repr(C)]
+#[derive(Clone, Copy, Debug, PartialEq, Eq)]
+pub struct Drawn {
+    /// 0, 7 if the tree is longer than the slice, or 8 for a zero seed. At a refusal all else here is 0.
+    pub answer: u8,
+    /// The generator's state after the tree.
+    pub next: u32,
+    /// How many bytes of the slice are the tree.
+    pub tree_len: usize,
+}
+
+/// Marsaglia's generator of 32-bit numbers, which [`advance`] advances in place.
+///
+/// ```
+/// use rest_spread::entry::{advance, Xorshift};
+///
+/// let mut g = Xorshift { state: 1 };
+/// assert_eq!((advance(&mut g), g.state), (270_369, 270_369));
+/// ```
+#[repr(C)]
+#[derive(Clone, Copy, Debug, PartialEq, Eq)]
+pub struct Xorshift {
+    /// Its state: the number that it gave last, or the seed. From 0 it gives nothing but 0.
+    pub state: u32,
+}
+
 // The layouts that the archives were compiled with.
+const _: () = assert!(size_of::<Drawn>() == 16 && offset_of!(Drawn, answer) == 0);
+const _: () = assert!(offset_of!(Drawn, next) == 4 && offset_of!(Drawn, tree_len) == 8);
+const _: () = assert!(size_of::<Xorshift>() == 4 && offset_of!(Xorshift, state) == 0);
 const _: () = assert!(size_of::<Counted>() == 8);
 const _: () = assert!(offset_of!(Counted, answer) == 0 && offset_of!(Counted, number) == 4);
 const _: () = assert!(size_of::<Outcome>() == 24);
@@ -58,8 +97,26 @@ extern "C" {
     // In libcounting.a.
     fn rest_spread_calls(n: u32, c: u32) -> Counted;
 
+    // In libdrawing.a.
+    fn rest_spread_draw(seed: u32, tree_out: *mut u8, tree_out_len: usize) -> Drawn;
+
+    fn xorshift_next(g: *mut Xorshift) -> u32;
+
     // In Rattle each slice is one parameter. It is passed as its address and its length.
     fn rest_spread_lower(
+        options: u32,
+        tree: *const u8,
+        tree_len: usize,
+        tree_out: *mut u8,
+        tree_out_len: usize,
+        list_out: *mut u8,
+        list_out_len: usize,
+        work: *mut u8,
+        work_len: usize,
+    ) -> Outcome;
+
+    fn rest_spread_lower_within(
+        depth: u32,
         options: u32,
         tree: *const u8,
         tree_len: usize,
@@ -80,7 +137,7 @@ pub fn version() -> u32 {
     unsafe { rest_spread_version() }
 }
 
-/// Lowers `tree` into `tree_out` and `list_out`.
+/// Lowers `tree`, of at most 128 levels, into `tree_out` and `list_out`.
 ///
 /// Any options, any bytes and slices of any lengths will do; whatever the slices held before is of no account. After
 /// success both outputs are zero behind their lengths. After a refusal they are zero throughout. `work` is zero after
@@ -104,9 +161,60 @@ pub fn lower(options: u32, tree: &[u8], tree_out: &mut [u8], list_out: &mut [u8]
     }
 }
 
+/// The same within a depth limit: a tree of more levels than `depth` is refused with 4. Any number will do; 0 and
+/// everything above 128 is refused with 9.
+#[must_use]
+pub fn lower_within(
+    depth: u32,
+    options: u32,
+    tree: &[u8],
+    tree_out: &mut [u8],
+    list_out: &mut [u8],
+    work: &mut [u8],
+) -> Outcome {
+    // SAFETY: as of `lower`.
+    unsafe {
+        rest_spread_lower_within(
+            depth,
+            options,
+            tree.as_ptr(),
+            tree.len(),
+            tree_out.as_mut_ptr(),
+            tree_out.len(),
+            list_out.as_mut_ptr(),
+            list_out.len(),
+            work.as_mut_ptr(),
+            work.len(),
+        )
+    }
+}
+
 /// Counts patterns of `n` items that give `c` nested calls. [`calls`](crate::calls()) has the same with a refusal by name.
 #[must_use]
 pub fn calls(n: u32, c: u32) -> Counted {
     // SAFETY: the function takes any two numbers, reads and writes nothing else, and ends.
     unsafe { rest_spread_calls(n, c) }
+}
+
+/// Draws the tree of a seed into `tree_out`. [`draw`](crate::draw()) has the same with a refusal by name.
+///
+/// Any seed and a slice of any length will do. After success the slice is zero behind the tree, after a refusal it is
+/// zero throughout.
+#[must_use]
+pub fn draw(seed: u32, tree_out: &mut [u8]) -> Drawn {
+    // SAFETY: the function is proved for every seed and every slice: it writes the slice, stays inside it and ends.
+    unsafe { rest_spread_draw(seed, tree_out.as_mut_ptr(), tree_out.len()) }
+}
+
+/// Advances a generator, and gives its next number.
+///
+/// ```
+/// use rest_spread::entry::{advance, Xorshift};
+///
+/// let mut g = Xorshift { state: 2_463_534_242 };
+/// assert_eq!([advance(&mut g), advance(&mut g)], [723_471_715, 2_497_366_906]);
+/// ```
+pub fn advance(g: &mut Xorshift) -> u32 {
+    // SAFETY: the function reads and writes the generator, which is lent to it alone, and ends.
+    unsafe { xorshift_next(g) }
 }

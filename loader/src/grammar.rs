@@ -3,7 +3,7 @@
 
 use crate::kind::{Kind, Place, Slot, Sort};
 use crate::walk::{Path, Turn};
-use crate::{LEVELS, TREE_IN};
+use crate::TREE_IN;
 use std::fmt;
 
 /// The first byte at which an input is no tree, or is nested too deep.
@@ -58,8 +58,11 @@ pub enum Trouble {
         /// The one that should.
         due: u16,
     },
-    /// The node is one level too deep.
-    Deep,
+    /// The node is one level below the limit.
+    Deep {
+        /// The depth limit.
+        limit: u32,
+    },
 }
 
 impl fmt::Display for Fault {
@@ -78,7 +81,7 @@ impl fmt::Display for Trouble {
             Trouble::Map(kind, map) => write!(f, "the bit map {map:08b} does not fit {kind}"),
             Trouble::Byte(byte) => write!(f, "{byte} is not among the values of this field"),
             Trouble::Mark { found, due } => write!(f, "the mark is {found}, and {due} is the next"),
-            Trouble::Deep => write!(f, "the node is at level {}, and {LEVELS} are allowed", LEVELS + 1),
+            Trouble::Deep { limit } => write!(f, "the node is at level {}, and the limit is {limit}", limit + 1),
         }
     }
 }
@@ -91,10 +94,10 @@ fn article(kind: Kind) -> &'static str {
     }
 }
 
-/// The first fault of an input that is not too long, or none.
-pub(crate) fn first_fault(bytes: &[u8]) -> Option<Fault> {
+/// The first fault of an input that is not too long, or none, within a depth limit of at most 128.
+pub(crate) fn first_fault(bytes: &[u8], limit: u32) -> Option<Fault> {
     debug_assert!(bytes.len() <= TREE_IN);
-    let mut reader = Reader { bytes, at: 0, mark: 1, path: Vec::new() };
+    let mut reader = Reader { bytes, limit, at: 0, mark: 1, path: Vec::new() };
     let met = match reader.node(Place::Root, Side::Binding) {
         Err(met) => Some(met),
         Ok(()) => (reader.at < bytes.len()).then_some((reader.at, Trouble::Behind)),
@@ -111,6 +114,7 @@ enum Side {
 
 struct Reader<'a> {
     bytes: &'a [u8],
+    limit: u32,
     at: usize,
     /// The next mark.
     mark: u16,
@@ -128,8 +132,8 @@ impl Reader<'_> {
         if !allows(place, side, kind) {
             return Err((at, Trouble::Misplaced(kind)));
         }
-        if self.path.len() >= LEVELS {
-            return Err((at, Trouble::Deep));
+        if self.path.len() >= self.limit as usize {
+            return Err((at, Trouble::Deep { limit: self.limit }));
         }
         let map = self.byte()?;
         if !kind.takes_map(map) {
@@ -296,9 +300,10 @@ fn is_target(kind: Kind) -> bool {
 #[cfg(test)]
 mod tests {
     use super::*;
+    use crate::LEVELS;
 
     fn told(bytes: &[u8]) -> String {
-        first_fault(bytes).map_or("none".into(), |fault| fault.to_string())
+        first_fault(bytes, LEVELS).map_or("none".into(), |fault| fault.to_string())
     }
 
     #[test]

@@ -26,6 +26,7 @@
 //! | [`Make`] | making trees |
 //! | [`Leftover`] | object rest and spread that stay in a result |
 //! | [`calls()`] | how many literals lead to how many calls |
+//! | [`draw()`], [`Series`] | trees drawn from seeds, for a load that is the same everywhere |
 //!
 //! `docs/FORMAT.md` of the repository describes the tree bytes.
 
@@ -38,6 +39,7 @@ mod calls;
 #[path = "../tests/common/draw.rs"]
 #[allow(dead_code)]
 mod draw;
+mod drawing;
 pub mod entry;
 mod grammar;
 mod helpers;
@@ -55,6 +57,7 @@ mod walk;
 
 pub use advice::{Advice, Explained};
 pub use calls::calls;
+pub use drawing::{draw, Drawing, Series};
 pub use grammar::{Fault, Trouble};
 pub use helpers::{Helper, Helpers};
 pub use kind::Kind;
@@ -72,13 +75,15 @@ pub use walk::{Path, Step, Turn, Walk};
 pub const ARCHIVE: u32 = 2;
 /// The longest tree that is read.
 pub const TREE_IN: usize = 16_384;
-/// The deepest: the Program is at level 1.
-pub const LEVELS: usize = 128;
+/// The highest depth limit, and the one where none is named. The Program is at level 1.
+pub const LEVELS: u32 = 128;
 /// The longest tree that is written.
 pub const TREE_OUT: usize = 32_768;
 /// The longest list that is written.
 pub const LIST_OUT: usize = 16_384;
 /// The bytes of work that a call needs.
 pub const WORK: usize = 65_536;
+/// The bytes that have room for every drawn tree.
+pub const DRAWN: usize = 5_121;
 /// The most items of a literal that [`calls()`] counts patterns of.
 pub const LONGEST_PATTERN: u32 = 32;

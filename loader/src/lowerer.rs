@@ -1,6 +1,6 @@
 //! The safe layer over the entry.
 
-use crate::{entry, Helpers, List, Options, Refusal, ARCHIVE, LIST_OUT, TREE_OUT, WORK};
+use crate::{entry, Helpers, List, Options, Refusal, ARCHIVE, LEVELS, LIST_OUT, TREE_OUT, WORK};
 use std::fmt;
 
 /// The lowering with its own three buffers, which every call uses again.
@@ -19,6 +19,8 @@ use std::fmt;
 /// }
 /// ```
 pub struct Lowerer {
+    /// The depth limit, if one was named.
+    depth: Option<u32>,
     tree: Box<[u8]>,
     list: Box<[u8]>,
     work: Box<[u8]>,
@@ -45,29 +47,63 @@ pub struct Lowered<'a> {
     pub list: List<'a>,
     /// The helpers that it calls.
     pub helpers: Helpers,
-    /// The options that were asked for. None of them is implemented; the tree is the same without them.
+    /// Those of the given options that are in force: not the 8. None of them is implemented; the tree is the same without
+    /// them.
     pub options: Options,
 }
 
 impl Lowerer {
-    /// Makes the buffers, 114,688 bytes in all.
+    /// Makes the buffers, 114,688 bytes in all. The depth limit is 128.
     ///
     /// # Panics
     /// If the archive that was linked is of another version than this crate is for.
     #[must_use]
     pub fn new() -> Self {
+        Self::within(None)
+    }
+
+    /// The same with another depth limit: a tree of more levels is refused with 4. Any number will do; with 0, and with
+    /// everything above 128, each call is refused with 9.
+    ///
+    /// ```
+    /// use rest_spread::{Lowerer, Options, Refusal};
+    ///
+    /// // A Program with an Empty in it has two levels.
+    /// let tree = b"\x01\x01\x01\x00\x0d\x01\x01\x00";
+    /// let refusal = |depth| Lowerer::with_depth(depth).lower(Options::NONE, tree).err();
+    /// assert_eq!([2, 1, 0].map(refusal), [None, Some(Refusal::TooDeep), Some(Refusal::LimitOutside)]);
+    /// ```
+    ///
+    /// # Panics
+    /// As [`new`](Self::new) does.
+    #[must_use]
+    pub fn with_depth(depth: u32) -> Self {
+        Self::within(Some(depth))
+    }
+
+    fn within(depth: Option<u32>) -> Self {
         compare(entry::version());
         let zeros = |length| vec![0; length].into_boxed_slice();
-        Self { tree: zeros(TREE_OUT), list: zeros(LIST_OUT), work: zeros(WORK) }
+        Self { depth, tree: zeros(TREE_OUT), list: zeros(LIST_OUT), work: zeros(WORK) }
+    }
+
+    /// The depth limit: the one that was named, or 128.
+    #[must_use]
+    pub fn depth(&self) -> u32 {
+        self.depth.unwrap_or(LEVELS)
     }
 
     /// Lowers a tree.
     ///
     /// # Errors
-    /// The refusal that document 01 has for this input. Then the buffers are zero, and nothing is to be loaded;
+    /// The refusal that the documents have for this input. Then the buffers are zero, and nothing is to be loaded;
     /// [`explain`](Self::explain) tells more about it.
     pub fn lower(&mut self, options: Options, tree: &[u8]) -> Result<Lowered<'_>, Refusal> {
-        let outcome = entry::lower(options.bits(), tree, &mut self.tree, &mut self.list, &mut self.work);
+        let (options, tree_out, list_out, work) = (options.bits(), &mut self.tree, &mut self.list, &mut self.work);
+        let outcome = match self.depth {
+            None => entry::lower(options, tree, tree_out, list_out, work),
+            Some(depth) => entry::lower_within(depth, options, tree, tree_out, list_out, work),
+        };
         match Refusal::from_number(outcome.answer) {
             Some(refusal) => Err(refusal),
             None => Ok(Lowered {
@@ -92,7 +128,7 @@ impl Default for Lowerer {
 
 impl fmt::Debug for Lowerer {
     fn fmt(&self, f: &mut fmt::Formatter<'_>) -> fmt::Result {
-        f.debug_struct("Lowerer").finish_non_exhaustive()
+        f.debug_struct("Lowerer").field("depth", &self.depth()).finish_non_exhaustive()
     }
 }
 

@@ -93,7 +93,7 @@ pub struct Items<'a> {
 /// let (node, _) = Node::read(b"\x0b\x01\x04\x00").unwrap();
 /// assert_eq!(node.fields().collect::<Vec<_>>(), [(0, Field::Mark(4))]);
 /// ```
-#[derive(Clone, Debug)]
+#[derive(Clone, Debug, PartialEq, Eq)]
 pub struct Fields<'a> {
     kind: Kind,
     map: u8,

@@ -6,7 +6,8 @@ use std::ops::BitOr;
 
 /// A sum of options. None of them is implemented: a call reports those that it was given, and lowers as without them.
 ///
-/// Any number can be held, and a call refuses those above 15.
+/// Any number can be held, and a call refuses those above 15. 8 may be set and does nothing: that option is retired, and
+/// what a call reports is without it.
 ///
 /// ```
 /// use rest_spread::Options;
@@ -26,14 +27,11 @@ impl Options {
     pub const USE_BUILT_INS: Options = Options(2);
     /// `objectRestNoSymbols`
     pub const OBJECT_REST_NO_SYMBOLS: Options = Options(4);
-    /// `ignoreFunctionLength`
-    pub const IGNORE_FUNCTION_LENGTH: Options = Options(8);
 
-    const NAMES: [(Options, &'static str); 4] = [
+    const NAMES: [(Options, &'static str); 3] = [
         (Options::LOOSE, "loose"),
         (Options::USE_BUILT_INS, "useBuiltIns"),
         (Options::OBJECT_REST_NO_SYMBOLS, "objectRestNoSymbols"),
-        (Options::IGNORE_FUNCTION_LENGTH, "ignoreFunctionLength"),
     ];
 
     /// The options with this sum.
@@ -80,11 +78,12 @@ mod tests {
 
     #[test]
     fn sums_have_the_names_of_their_bits() {
-        let two = Options::USE_BUILT_INS | Options::IGNORE_FUNCTION_LENGTH;
-        assert_eq!(two.bits(), 10);
-        assert_eq!(two.to_string(), "useBuiltIns, ignoreFunctionLength");
+        let two = Options::USE_BUILT_INS | Options::OBJECT_REST_NO_SYMBOLS;
+        assert_eq!(two.bits(), 6);
+        assert_eq!(two.to_string(), "useBuiltIns, objectRestNoSymbols");
         assert!(two.contains(Options::USE_BUILT_INS) && !two.contains(Options::LOOSE | Options::USE_BUILT_INS));
         assert_eq!(Options::NONE.to_string(), "none");
-        assert_eq!(Options::from_bits(15).names().count(), 4);
+        assert_eq!(Options::from_bits(15).to_string(), "loose, useBuiltIns, objectRestNoSymbols");
+        assert_eq!(Options::from_bits(8).names().count(), 0, "retired");
     }
 }

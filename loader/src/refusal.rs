@@ -3,7 +3,7 @@
 use std::error::Error;
 use std::fmt;
 
-/// Why a call gave no result, with document 01's numbers.
+/// Why a call gave no result, with the numbers of document 01 and of the requests.
 ///
 /// ```
 /// use rest_spread::{Lowerer, Options, Refusal};
@@ -21,7 +21,7 @@ pub enum Refusal {
     ShortWork,
     /// The input is too long, or is not a tree.
     NotATree,
-    /// A node stands deeper than 128 levels.
+    /// A node stands deeper than the limit.
     TooDeep,
     /// An assignment or the head of a loop has an object rest below an array rest.
     RestBelowArrayRest,
@@ -29,6 +29,10 @@ pub enum Refusal {
     KeyWithoutForm,
     /// The result passes a limit or a slice.
     TooLong,
+    /// The seed is 0, from which nothing can be drawn.
+    ZeroSeed,
+    /// The depth limit is 0 or above 128.
+    LimitOutside,
     /// More items than [`calls()`](crate::calls()) counts patterns of.
     PatternTooLong,
     /// A number that this version has no name for: the archive is newer. Such a value is made by
@@ -44,8 +48,8 @@ const TABLE: &[(Refusal, u8, &str, &str)] = &[
     (
         UnknownOptions,
         1,
-        "the options are above 15, and only the bits 1, 2, 4 and 8 have a meaning",
-        "give the sum of those that you want: 1 loose, 2 useBuiltIns, 4 objectRestNoSymbols, 8 ignoreFunctionLength",
+        "the options are above 15, and only the bits 1, 2 and 4 have a meaning",
+        "give the sum of those that you want: 1 loose, 2 useBuiltIns, 4 objectRestNoSymbols",
     ),
     (ShortWork, 2, "the work buffer is shorter than 65,536 bytes", "lend the call 65,536 bytes of work"),
     (
@@ -57,7 +61,7 @@ const TABLE: &[(Refusal, u8, &str, &str)] = &[
     (
         TooDeep,
         4,
-        "the tree is nested deeper than 128 levels",
+        "the tree is nested deeper than the limit allows (128 levels if none was given)",
         "move inner functions and long nested expressions out, into functions or variables of their own",
     ),
     (
@@ -79,6 +83,8 @@ const TABLE: &[(Refusal, u8, &str, &str)] = &[
         "the result is too long: the tree may have 32,768 bytes, the list 16,384, and neither more than its buffer",
         "split the script into smaller ones",
     ),
+    (ZeroSeed, 8, "the seed is 0, from which no tree can be drawn", "give a seed from 1 to 4,294,967,295"),
+    (LimitOutside, 9, "the depth limit is 0 or above 128", "give a limit from 1 to 128, or none, which means 128"),
     (
         PatternTooLong,
         14,
@@ -108,7 +114,7 @@ impl Refusal {
         (number > 0).then(|| named.unwrap_or(Unknown(number)))
     }
 
-    /// Document 01's number.
+    /// Its number.
     #[must_use]
     pub fn number(self) -> u8 {
         match self {
@@ -161,7 +167,7 @@ mod tests {
             assert_eq!(refusal == Unknown(number), !Refusal::ALL.contains(&refusal));
         }
         let numbers: Vec<u8> = Refusal::ALL.iter().map(|refusal| refusal.number()).collect();
-        assert_eq!(numbers, [1, 2, 3, 4, 5, 6, 7, 14]);
+        assert_eq!(numbers, [1, 2, 3, 4, 5, 6, 7, 8, 9, 14]);
     }
 
     #[test]

@@ -46,7 +46,7 @@ pub enum Step<'a> {
 /// let holes = walk.by_ref().filter(|step| *step == Step::Hole).count();
 /// assert!(walk.is_whole() && holes == 1 && walk.at() == bytes.len());
 /// ```
-#[derive(Clone, Debug)]
+#[derive(Clone, Debug, PartialEq, Eq)]
 pub struct Walk<'a> {
     bytes: &'a [u8],
     at: usize,
@@ -55,7 +55,7 @@ pub struct Walk<'a> {
 }
 
 /// A node that has begun and not ended.
-#[derive(Clone, Copy, Debug)]
+#[derive(Clone, Copy, Debug, PartialEq, Eq)]
 struct Open {
     kind: Kind,
     map: u8,

@@ -2,7 +2,7 @@
 
 mod common;
 
-use common::cases::stored;
+use common::cases::{stored, Lowerers};
 use common::draw::{damage, Chance, Grammar};
 use common::make::{
     assign, blocks, expression, function, key_twice, key_without_form, nested, other, padded, program, reference,
@@ -28,7 +28,10 @@ fn agrees(lowerer: &mut Lowerer, tree: &[u8]) -> Option<Fault> {
     let found = fault(lowerer, tree);
     let expected = match &found {
         _ if tree.is_empty() || tree.len() > TREE_IN => 3,
-        Some(fault) if fault.trouble == Trouble::Deep => 4,
+        Some(Fault { trouble: Trouble::Deep { limit }, .. }) => {
+            assert_eq!(*limit, lowerer.depth());
+            4
+        }
         Some(_) => 3,
         None => 0,
     };
@@ -39,10 +42,10 @@ fn agrees(lowerer: &mut Lowerer, tree: &[u8]) -> Option<Fault> {
 
 #[test]
 fn stored_and_drawn_trees_have_no_fault_and_damaged_ones_that_of_the_archive() {
-    let (mut lowerer, grammar) = (Lowerer::new(), Grammar::new());
+    let (mut lowerers, grammar) = (Lowerers::default(), Grammar::new());
     let cases: Vec<Vec<u8>> = stored().into_iter().map(|case| case.tree).collect();
-    cases.iter().for_each(|tree| drop(agrees(&mut lowerer, tree)));
-    let mut faults = 0;
+    cases.iter().for_each(|tree| drop(agrees(lowerers.within(None), tree)));
+    let (mut faults, mut deep) = (0, 0);
     for seed in seeds(30_000) {
         let mut chance = Chance::new(6_000_000_029 + seed);
         let mut tree = match chance.below(3) {
@@ -56,9 +59,13 @@ fn stored_and_drawn_trees_have_no_fault_and_damaged_ones_that_of_the_archive() {
             let other = &cases[chance.below(cases.len())];
             damage(&mut chance, &mut tree, other);
         }
-        faults += usize::from(agrees(&mut lowerer, &tree).is_some());
+        // Few trees go far down, so that most limits are low.
+        let depth = [None, Some(1 + chance.below(16)), Some(1 + chance.below(128))][chance.below(3)];
+        let found = agrees(lowerers.within(depth.map(|depth| depth as u32)), &tree);
+        faults += usize::from(found.is_some());
+        deep += usize::from(found.is_some_and(|fault| matches!(fault.trouble, Trouble::Deep { .. })));
     }
-    assert!(faults > 0);
+    assert!(faults > 0 && deep > 0, "{faults} {deep}");
 }
 
 /// The byte is the first that is wrong: what stands before it can be gone on with, by another byte in its place.
@@ -86,7 +93,7 @@ fn the_byte_is_the_first_that_is_wrong() {
         };
         let sort = match found.trouble {
             // Nothing may follow a tree, and no node may be deeper.
-            Trouble::Behind | Trouble::Deep => continue,
+            Trouble::Behind | Trouble::Deep { .. } => continue,
             Trouble::Mark { due, .. } => {
                 assert!(goes_on(&due.to_le_bytes()), "seed {seed}: {found}");
                 0
@@ -107,16 +114,19 @@ fn the_byte_is_the_first_that_is_wrong() {
 
 #[test]
 fn a_path_leads_to_the_node_that_is_too_deep() {
-    let mut lowerer = Lowerer::new();
-    let tree = blocks(128, []);
+    let mut lowerer = Lowerer::with_depth(64);
+    let tree = blocks(64, []);
     let told = lowerer.explain(&tree, Refusal::TooDeep).to_string();
-    let place = "byte 766, at Program.body[0] > Block.body[0] > Block.body[0] > (122 more) > Block.body[0] > \
-                 Block.body[0] > Block.body[0]: the node is at level 129, and 128 are allowed";
+    let place = "byte 382, at Program.body[0] > Block.body[0] > Block.body[0] > (58 more) > Block.body[0] > \
+                 Block.body[0] > Block.body[0]: the node is at level 65, and the limit is 64";
     assert!(told.contains(place), "{told}");
 }
 
 fn statement(tree: &[u8]) -> Option<u16> {
-    let mut lowerer = Lowerer::new();
+    statement_within(&mut Lowerer::new(), tree)
+}
+
+fn statement_within(lowerer: &mut Lowerer, tree: &[u8]) -> Option<u16> {
     let refusal = lowerer.lower(Options::NONE, tree).unwrap_err();
     match lowerer.explain(tree, refusal).advice {
         Some(Advice::Statement { mark }) => Some(mark),
@@ -151,10 +161,10 @@ fn the_statement_is_that_of_the_refusal() {
 
 #[test]
 fn every_stored_refusal_in_the_walk_has_its_statement() {
-    let mut count = 0;
+    let (mut lowerers, mut count) = (Lowerers::default(), 0);
     for case in stored().into_iter().filter(|case| [5, 6].contains(&case.answer)) {
         let marks = Walk::new(&case.tree).filter(|step| matches!(step, Step::Mark(_))).count();
-        let mark = statement(&case.tree).unwrap();
+        let mark = statement_within(lowerers.within(case.depth), &case.tree).unwrap();
         assert!((1..=marks).contains(&mark.into()), "{}", case.name);
         count += 1;
     }
@@ -179,12 +189,12 @@ fn lengths_are_told_of_results_that_are_too_long() {
     }
     for name in [8_164, 8_165, 8_200] {
         let told = lengths(&program([key_twice(name)])).unwrap();
-        assert_eq!(told.1, 58 + 2 * name, "a text decides");
+        assert_eq!(told.1, 63 + 2 * name, "a text decides");
     }
     // Both, and neither by itself.
     assert_eq!(lengths(&program([rests(400), rests(439), other(29)])), Some((TREE_OUT + 1 + 7, 4)));
     let both = lengths(&program([key_twice(8_100), rests(400), key_twice(100), other(0)])).unwrap();
-    assert_eq!(both.1, 58 + 58 - 4 + 16_400);
+    assert_eq!(both.1, 63 + 63 - 4 + 16_400);
     // { x, ...function() { var {...r} = s, .. }, .. }: a literal that is cut behind its spreads.
     let property = || Kind::Property.make().node(Kind::StaticKey.make().text("x")).node(reference("x")).byte(2);
     let pairs = |count: usize| {
@@ -207,8 +217,8 @@ fn the_words_say_which_and_by_how_much() {
         lowerer.explain(tree, Refusal::TooLong).place()
     };
     assert_eq!(told(&program([rests(839), other(29)])).unwrap(), "the tree would have 32,769 bytes, 1 too many");
-    assert_eq!(told(&program([key_twice(8_164)])).unwrap(), "the list would have 16,386 bytes, 2 too many");
-    assert_eq!(LIST_OUT + 2, 16_386);
+    assert_eq!(told(&program([key_twice(8_161)])).unwrap(), "the list would have 16,385 bytes, 1 too many");
+    assert_eq!(LIST_OUT + 1, 16_385);
 }
 
 /// Template keys in template keys double at each level. Then the look gives up, and says nothing.
@@ -223,7 +233,9 @@ fn what_can_not_be_told_is_not() {
 #[test]
 fn a_refusal_that_has_no_place_has_no_advice() {
     let mut lowerer = Lowerer::new();
-    for refusal in [Refusal::UnknownOptions, Refusal::ShortWork, Refusal::from_number(200).unwrap()] {
+    for refusal in
+        [Refusal::UnknownOptions, Refusal::ShortWork, Refusal::LimitOutside, Refusal::from_number(200).unwrap()]
+    {
         let explained = lowerer.explain(b"", refusal);
         assert_eq!((explained.advice.clone(), explained.place()), (None, None));
         assert_eq!(explained.fault(), refusal.fault());

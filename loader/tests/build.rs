@@ -9,8 +9,10 @@ use std::path::{Path, PathBuf};
 use std::process::{Command, Output};
 use std::time::{Duration, SystemTime};
 
-const ARCHIVES: [(&str, &str); 2] =
-    [("librest_spread.a", "rest_spread_lower rest_spread_version"), ("libcounting.a", "rest_spread_calls")];
+const FUNCTIONS: &str = "rest_spread_lower rest_spread_lower_within rest_spread_version";
+const DRAWING: &str = "rest_spread_draw xorshift_next";
+const ARCHIVES: [(&str, &str); 3] =
+    [("librest_spread.a", FUNCTIONS), ("libcounting.a", "rest_spread_calls"), ("libdrawing.a", DRAWING)];
 
 /// A repository without archives: the script, compiled, and an `rt` that writes them.
 struct Made {
@@ -33,10 +35,12 @@ fn made(name: &str) -> Option<Made> {
     fs::create_dir_all(root.join("loader")).unwrap();
     fs::create_dir_all(root.join("crates/rest_spread/src")).unwrap();
     fs::write(root.join("crates/rest_spread/src/lib.rt"), "").unwrap();
-    fs::write(root.join("crates.txt"), "rest_spread: emit\ncounting:\n").unwrap();
+    fs::write(root.join("crates.txt"), "rest_spread: emit\ncounting:\ndrawing:\n").unwrap();
     fs::create_dir(root.join("bin")).unwrap();
-    let rt = "#!/bin/sh\nset -eu\necho \"words: $*\"; echo 'rt: proved' >&2\n[ -f refuse ] && exit 1\nmkdir -p target/staticlib\n\
-              echo 'rest_spread_lower rest_spread_version rest_spread_calls' >target/staticlib/lib$2.a\n";
+    let rt = format!(
+        "#!/bin/sh\nset -eu\necho \"words: $*\"; echo 'rt: proved' >&2\n[ -f refuse ] && exit 1\nmkdir -p target/staticlib\n\
+         echo '{FUNCTIONS} rest_spread_calls {DRAWING}' >target/staticlib/lib$2.a\n"
+    );
     fs::write(root.join("bin/rt"), rt).unwrap();
     fs::set_permissions(root.join("bin/rt"), Permissions::from_mode(0o755)).unwrap();
     Some(Made { root, script })
@@ -101,8 +105,8 @@ fn it_proves_on_request_and_passes_on_what_is_said() {
     let Some(made) = made("build_prove") else { return };
     let ran = made.run(&[("REST_SPREAD_PROVE", "1")]);
     assert!(ran.well, "{}", ran.err);
-    for (name, words) in [("rest_spread", "words: staticlib rest_spread"), ("counting", "words: staticlib counting")] {
-        assert!(ran.err.contains(words), "{}", ran.err);
+    for name in ["rest_spread", "counting", "drawing"] {
+        assert!(ran.err.contains(&format!("words: staticlib {name}")), "{}", ran.err);
         assert!(ran.out.contains(&format!("cargo:rustc-link-lib=static:+verbatim=lib{name}.a")), "{}", ran.out);
     }
     assert!(ran.out.contains("cargo:warning=rt: proved"), "{}", ran.out);
@@ -134,10 +138,12 @@ fn archives_may_be_named_and_are_looked_at() {
     let ran = made.run(&[("REST_SPREAD_LIB", "/no/such/folder")]);
     assert!(!ran.well && ran.err.contains("can't be found"), "{}", ran.err);
 
-    // One from before there was a version.
-    fs::write(elsewhere.join("librest_spread.a"), "rest_spread_lower").unwrap();
-    let ran = made.run(&[("REST_SPREAD_LIB", elsewhere.to_str().unwrap())]);
-    assert!(!ran.well && ran.err.contains("has no function rest_spread_version: it is older"), "{}", ran.err);
+    // One from before there was a limit, and one from before there was a version.
+    for lacks in ["rest_spread_lower_within", "rest_spread_version"] {
+        fs::write(elsewhere.join("librest_spread.a"), FUNCTIONS.replace(lacks, "")).unwrap();
+        let ran = made.run(&[("REST_SPREAD_LIB", elsewhere.to_str().unwrap())]);
+        assert!(!ran.well && ran.err.contains(&format!("has no function {lacks}: it is older")), "{}", ran.err);
+    }
 }
 
 #[test]

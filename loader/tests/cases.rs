@@ -2,24 +2,24 @@
 
 mod common;
 
-use common::cases::{stored, to_hex, Case};
+use common::cases::{stored, to_hex, Case, Lowerers};
 use common::rig::Rig;
-use rest_spread::{Field, Kind, Lowered, Lowerer, Node, Options, Refusal};
+use rest_spread::{Field, Kind, Lowered, Node, Options, Refusal};
 
-/// One `Lowerer` takes all cases, so what a case leaves in its buffers would show in the next.
+/// One `Lowerer` takes all cases of a limit, so what a case leaves in its buffers would show in the next.
 #[test]
 fn the_safe_layer_gives_what_is_stored() {
-    let mut lowerer = Lowerer::new();
+    let mut lowerers = Lowerers::default();
     let cases = stored();
     for case in &cases {
         let options = Options::from_bits(case.options.into());
-        match lowerer.lower(options, &case.tree) {
+        match lowerers.within(case.depth).lower(options, &case.tree) {
             Ok(lowered) => gives(case, lowered),
             Err(refusal) => assert_eq!(refusal.number(), case.answer, "{}", case.name),
         }
     }
-    assert!(cases.len() >= 400, "{} cases", cases.len());
-    let elsewhere = [Refusal::ShortWork, Refusal::TooDeep, Refusal::PatternTooLong];
+    assert!(cases.len() >= 700, "{} cases", cases.len());
+    let elsewhere = [Refusal::ShortWork, Refusal::ZeroSeed, Refusal::PatternTooLong];
     for refusal in Refusal::ALL.iter().filter(|refusal| !elsewhere.contains(refusal)) {
         assert!(cases.iter().any(|case| case.answer == refusal.number()), "no case has {refusal}");
     }
@@ -37,7 +37,7 @@ fn gives(case: &Case, lowered: Lowered) {
 fn the_entry_gives_what_is_stored_and_zeros() {
     let mut rig = Rig::whole();
     for case in stored() {
-        let ran = rig.run(case.options.into(), &case.tree);
+        let ran = rig.run_within(case.depth, case.options.into(), &case.tree);
         assert_eq!(ran.outcome.answer, case.answer, "{}", case.name);
         assert_eq!(to_hex(ran.tree_out()), to_hex(&case.tree_out), "{}", case.name);
         assert_eq!(to_hex(ran.list_out()), to_hex(&case.list_out), "{}", case.name);
@@ -47,10 +47,11 @@ fn the_entry_gives_what_is_stored_and_zeros() {
 /// Counts the entries, declarators and excluded keys, and takes the list apart to its last byte.
 #[test]
 fn every_stored_list_is_gone_through() {
-    let mut lowerer = Lowerer::new();
+    let mut lowerers = Lowerers::default();
     let (mut entries, mut declared, mut excluded) = (0, 0, 0);
     for case in stored() {
-        let Ok(lowered) = lowerer.lower(Options::from_bits(case.options.into()), &case.tree) else { continue };
+        let lowered = lowerers.within(case.depth).lower(Options::from_bits(case.options.into()), &case.tree);
+        let Ok(lowered) = lowered else { continue };
         let list = lowered.list;
         assert!(list.is_whole(), "{}", case.name);
         let mut bytes = 4;

@@ -5,7 +5,7 @@ mod command;
 mod common;
 
 use command::loader;
-use common::cases::{stored, to_hex};
+use common::cases::{stored, to_hex, Case};
 use common::folder;
 use common::json::Json;
 use common::make::{
@@ -21,8 +21,8 @@ fn one_input_gets_a_summary() {
     assert_eq!(
         ran.out,
         "standard input: lowered\n  \
-           tree      87 bytes in, 260 bytes out\n  \
-           list      78 bytes out\n  \
+           tree      87 bytes in, 275 bytes out\n  \
+           list      83 bytes out\n  \
            helpers   objectWithoutProperties, toPropertyKey\n  \
            entries   3\n            \
                      before statement 1: $value1\n            \
@@ -59,11 +59,23 @@ fn a_long_summary_is_cut() {
     assert!(ran.out.contains("  excluded  30\n") && ran.out.contains("            and 10 more\n"), "{}", ran.out);
 }
 
+/// The limit of a case, as words, behind these.
+fn words<'a>(mut words: Vec<&'a str>, depth: &'a str) -> Vec<&'a str> {
+    if !depth.is_empty() {
+        words.extend(["--depth", depth]);
+    }
+    words
+}
+
+fn depth(case: &Case) -> String {
+    case.depth.map_or(String::new(), |depth| depth.to_string())
+}
+
 #[test]
 fn a_refusal_is_explained_and_its_number_is_the_status() {
     for case in stored().iter().filter(|case| case.answer > 0 && case.tree.len() < 500) {
         let input = [&[case.options][..], &case.tree].concat();
-        let ran = loader(&["--options-first"], &input);
+        let ran = loader(&words(vec!["--options-first"], &depth(case)), &input);
         assert_eq!((ran.status, ran.out.as_str()), (case.answer.into(), ""), "{}", case.name);
         let begins = format!("standard input: refused with {}\n  what      ", case.answer);
         assert!(ran.err.starts_with(&begins) && ran.err.contains("\n  to do     "), "{}", ran.err);
@@ -77,11 +89,13 @@ fn a_refusal_says_where() {
         (&b""[..], "what      the input is empty"),
         (&[1; 70_000], "what      the input has 70,000 bytes, and a tree has at most 16,384"),
         (b"\x01\x01\x00\x00!", "where     byte 4, at the root: the tree has ended, and bytes follow it"),
-        (&blocks(128, []), "> Block.body[0]: the node is at level 129, and 128 are allowed"),
+        (&blocks(128, []), "> Block.body[0]: the node is at level 129, and the limit is 128"),
+        (&blocks(128, []), "what      the tree is nested deeper than the limit of 128\n"),
+        (&blocks(128, []), "to do     move inner functions"),
         (&program([spreads(1), expression(rest_below_array_rest())]), "where     statement 2"),
         (&program([spreads(1), expression(key_without_form())]), "where     statement 2"),
         (&program([rests(900)]), "where     the tree would have 35,111 bytes, 2,343 too many"),
-        (&program([key_twice(8_164)]), "where     the list would have 16,386 bytes, 2 too many"),
+        (&program([key_twice(8_161)]), "where     the list would have 16,385 bytes, 1 too many"),
     ];
     for (input, words) in told {
         let ran = loader(&[], input);
@@ -89,6 +103,17 @@ fn a_refusal_says_where() {
         let is_advice = ran.err.contains("(by a second look, which is not proved)");
         assert_eq!(is_advice, ran.err.contains("  where "), "{}", ran.err);
     }
+    let ran = loader(&["--depth", "64"], &blocks(64, []));
+    for words in [
+        "what      the tree is nested deeper than the limit of 64\n",
+        "> Block.body[0]: the node is at level 65, and the limit is 64\n",
+        "to do     give a higher limit, up to 128; or move inner functions",
+    ] {
+        assert!(ran.status == 4 && ran.err.contains(words), "{}", ran.err);
+    }
+    let ran = loader(&["--depth=0"], b"");
+    let told = "refused with 9\n  what      the depth limit is 0 or above 128\n  to do     give a limit from 1 to 128";
+    assert!(ran.status == 9 && ran.err.contains(told), "{}", ran.err);
     let ran = loader(&["--options-first"], &[0; 70_001]);
     assert!(ran.err.contains("the input has 70,000 bytes"), "the options are no part of it: {}", ran.err);
 }
@@ -97,7 +122,7 @@ fn a_refusal_says_where() {
 fn hexadecimal_is_that_of_the_program_lower() {
     for case in stored().iter().filter(|case| case.tree.len() < 200).step_by(4) {
         let input = [&[case.options][..], &case.tree].concat();
-        let ran = loader(&["--hex", "--options-first"], &input);
+        let ran = loader(&words(vec!["--hex", "--options-first"], &depth(case)), &input);
         let (tree, list) = (to_hex(&case.tree_out), to_hex(&case.list_out));
         let lines = format!("{} {} {}\n{tree}\n{list}\n", case.answer, case.helpers, case.reported);
         assert_eq!((ran.status, ran.out), (case.answer.into(), lines), "{}", case.name);
@@ -121,7 +146,9 @@ fn several_inputs_get_a_line_each_a_table_of_failures_and_a_count() {
     assert_eq!(ran.out, format!("{good}: {line}\n{good}: {line}\n{count}\n"));
     let table: Vec<&str> = ran.err.lines().collect();
     assert_eq!((table.len(), table[0]), (3, "failed, each with its status:"), "{}", ran.err);
-    assert!(table[1].starts_with(&format!("    4  {deep}  the tree is nested deeper than 128 levels (byte 766, ")));
+    assert!(
+        table[1].starts_with(&format!("    4  {deep}  the tree is nested deeper than the limit of 128 (byte 766, "))
+    );
     assert!(table[2].starts_with(&format!("   74  {none}  can't be read: ")), "{}", table[2]);
 
     let ran = loader(&[&good, &good], b"");
@@ -234,7 +261,9 @@ fn more_than_a_tree_may_have_is_refused() {
 #[test]
 fn help_and_what_is_not_understood() {
     let ran = loader(&["--help"], b"");
-    assert!(ran.status == 0 && ran.out.contains("--options-first") && ran.err.is_empty());
+    assert!(
+        ran.status == 0 && ran.out.contains("--options-first") && ran.out.contains("--depth N") && ran.err.is_empty()
+    );
     assert!(ran.out.lines().all(|line| line.len() <= 80), "within 80 columns");
     for refusal in Refusal::ALL {
         assert_ne!(refusal.number(), 64, "a status of its own");
@@ -251,6 +280,10 @@ fn help_and_what_is_not_understood() {
         &["--what=1"],
         &["--hex", "--json"],
         &["--options=loose"],
+        &["--depth"],
+        &["--depth", "deep"],
+        &["--depth", "-1"],
+        &["--depth=4294967296"],
     ] {
         let ran = loader(words, b"");
         assert_eq!((ran.status, ran.out.as_str()), (64, ""), "{words:?}");

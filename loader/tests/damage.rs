@@ -7,11 +7,11 @@ use common::draw::{damage, Chance, Grammar};
 use common::make::blocks;
 use common::rig::Rig;
 use common::seeds;
-use rest_spread::{List, Node};
+use rest_spread::{List, Node, LEVELS};
 
 /// How many calls gave each answer.
 #[derive(Debug, Default)]
-struct Answers([usize; 8]);
+struct Answers([usize; 10]);
 
 impl Answers {
     fn add(&mut self, answer: u8) {
@@ -47,7 +47,8 @@ fn drawn_trees_are_trees() {
 
 #[test]
 fn damaged_trees_are_lowered_or_refused() {
-    let mut cases: Vec<Vec<u8>> = stored().into_iter().map(|case| case.tree).filter(|tree| tree.len() < 3_000).collect();
+    let mut cases: Vec<Vec<u8>> =
+        stored().into_iter().map(|case| case.tree).filter(|tree| tree.len() < 3_000).collect();
     cases.extend([blocks(130, []), blocks(200, [])]);
     let (grammar, mut rig, mut answers) = (Grammar::new(), Rig::whole(), Answers::default());
     for seed in seeds(300_000) {
@@ -62,13 +63,46 @@ fn damaged_trees_are_lowered_or_refused() {
         let other = &cases[chance.below(cases.len())];
         damage(&mut chance, &mut tree, other);
         let options = if chance.once_in(50) { chance.below(1 << 20) } else { chance.below(16) };
-        let ran = rig.run(options as u32, &tree);
+        let depth = chance.once_in(2).then(|| chance.below(132) as u32);
+        let ran = rig.run_within(depth, options as u32, &tree);
         answers.add(ran.outcome.answer);
         if ran.outcome.answer == 0 {
             assert!(List::new(ran.list_out()).is_whole(), "seed {seed}: {:02x?}", ran.list_out());
         }
     }
-    answers.have(&[0, 1, 3, 4, 5, 6]);
+    answers.have(&[0, 1, 3, 4, 5, 6, 9]);
+}
+
+/// An answer other than 4 stays at every higher limit, with every byte, and no limit is one of 128.
+#[test]
+fn a_higher_limit_changes_4_alone() {
+    let cases: Vec<Vec<u8>> = stored().into_iter().map(|case| case.tree).filter(|tree| tree.len() < 1_000).collect();
+    let (grammar, mut rig, mut answers) = (Grammar::new(), Rig::whole(), Answers::default());
+    for seed in seeds(20_000) {
+        let mut chance = Chance::new(9_000_000_043 + seed);
+        let mut tree = match chance.below(4) {
+            0 => {
+                let room = 20 + chance.below(400);
+                grammar.tree(&mut chance, room)
+            }
+            _ => cases[chance.below(cases.len())].clone(),
+        };
+        if chance.once_in(4) {
+            damage(&mut chance, &mut tree, &[]);
+        }
+        let highest = if chance.once_in(2) { 16 } else { LEVELS as usize };
+        let depth = 1 + chance.below(highest);
+        let higher = depth + chance.below(LEVELS as usize + 1 - depth);
+        let mut run = |depth: Option<usize>| {
+            let ran = rig.run_within(depth.map(|depth| depth as u32), 0, &tree);
+            (ran.outcome, ran.tree_out().to_vec(), ran.list_out().to_vec())
+        };
+        let (low, high) = (run(Some(depth)), run(Some(higher)));
+        answers.add(low.0.answer);
+        assert!(low.0.answer == 4 || low == high, "seed {seed}: {depth} and {higher}: {tree:02x?}");
+        assert!(run(Some(LEVELS as usize)) == run(None), "seed {seed}: {tree:02x?}");
+    }
+    answers.have(&[0, 3, 4, 5, 6]);
 }
 
 /// Damaged trees in slices of lengths by chance, so that the output is full anywhere.

@@ -4,7 +4,9 @@ mod common;
 
 use common::make::{blocks, expression, key_without_form, program, rest_below_array_rest, rests, spreads};
 use common::{folder, skip};
-use rest_spread::{Helper, Options, Refusal, ARCHIVE, LEVELS, LIST_OUT, LONGEST_PATTERN, TREE_IN, TREE_OUT, WORK};
+use rest_spread::{
+    Helper, Options, Refusal, ARCHIVE, DRAWN, LEVELS, LIST_OUT, LONGEST_PATTERN, TREE_IN, TREE_OUT, WORK,
+};
 use std::collections::HashMap;
 use std::io::Write;
 use std::path::{Path, PathBuf};
@@ -27,16 +29,16 @@ fn the_header_has_the_numbers_of_the_safe_layer() {
     }
     let mut has = |name: &str, number: usize| assert_eq!(numbers.remove(name), Some(number), "{name}");
     has("VERSION", ARCHIVE as usize);
-    has("LEVELS", LEVELS);
+    has("LEVELS", LEVELS as usize);
     has("LONGEST_PATTERN", LONGEST_PATTERN as usize);
     has("TREE_IN", TREE_IN);
     has("TREE_OUT", TREE_OUT);
     has("LIST_OUT", LIST_OUT);
     has("WORK", WORK);
+    has("DRAWN", DRAWN);
     has("LOOSE", Options::LOOSE.bits() as usize);
     has("USE_BUILT_INS", Options::USE_BUILT_INS.bits() as usize);
     has("OBJECT_REST_NO_SYMBOLS", Options::OBJECT_REST_NO_SYMBOLS.bits() as usize);
-    has("IGNORE_FUNCTION_LENGTH", Options::IGNORE_FUNCTION_LENGTH.bits() as usize);
     has("LOWERED", 0);
     for refusal in Refusal::ALL {
         has(&upper(&format!("{refusal:?}")), refusal.number().into());
@@ -99,8 +101,9 @@ fn the_c_example_compares_versions() {
 #[test]
 fn the_c_example_works() {
     let Some(program_file) = compiled(Path::new(C), "lower_in_c") else { return };
-    let run = |input: &[u8]| {
+    let run_with = |words: &[&str], input: &[u8]| {
         let mut child = Command::new(&program_file)
+            .args(words)
             .stdin(Stdio::piped())
             .stdout(Stdio::piped())
             .stderr(Stdio::piped())
@@ -111,6 +114,7 @@ fn the_c_example_works() {
         let [out, err] = [output.stdout, output.stderr].map(|bytes| String::from_utf8(bytes).unwrap());
         (output.status.code().unwrap(), out, err)
     };
+    let run = |input: &[u8]| run_with(&[], input);
     let lowered = "lowered: helpers 1, tree of 24 bytes, list of 4\n";
     assert_eq!(run(&program([spreads(1)])), (0, lowered.into(), String::new()));
     let refused = [
@@ -128,6 +132,10 @@ fn the_c_example_works() {
         let (begins, rest) = err.split_at("refused with 3: ".len());
         assert!(begins == format!("refused with {number}: ") && rest.len() > 10, "{err}");
     }
+    let listing = program([spreads(1)]);
+    let statuses = ["0", "1", "4", "5", "128", "129", "4294967301"].map(|depth| run_with(&[depth], &listing).0);
+    assert_eq!(statuses, [9, 4, 4, 0, 0, 9, 9]);
+    assert_eq!(run_with(&["5"], &listing), (0, lowered.into(), String::new()));
 }
 
 #[test]

@@ -5,6 +5,7 @@ mod common;
 use common::cases::stored;
 use common::make::{key_twice, program, rests, spreads};
 use common::rig::Rig;
+use common::seeds;
 use rest_spread::{LIST_OUT, TREE_OUT, WORK};
 
 /// Around every length at which something changes, and around the powers of two.
@@ -22,13 +23,14 @@ fn awkward(needed: &[usize], longest: usize) -> Vec<usize> {
 #[test]
 fn small_results_in_slices_of_every_length() {
     let mut calls = 0;
-    for case in stored().into_iter().filter(|case| case.answer == 0 && case.tree_out.len() < 100) {
+    let small = stored().into_iter().filter(|case| case.answer == 0 && case.tree_out.len() < 100);
+    for case in small.take(seeds(10_000).end as usize) {
         let (tree, list) = (case.tree_out.len(), case.list_out.len());
         for tree_slice in 0..tree + 3 {
             let near = tree_slice + 3 > tree;
             for list_slice in (0..list + 3).filter(|&length| near || length < 3 || length + 3 > list) {
                 let mut rig = Rig::new(tree_slice, list_slice, WORK);
-                let ran = rig.run(case.options.into(), &case.tree);
+                let ran = rig.run_within(case.depth, case.options.into(), &case.tree);
                 let fits = tree <= tree_slice && list <= list_slice;
                 assert_eq!(ran.outcome.answer, if fits { 0 } else { 7 }, "{tree_slice} {list_slice}: {}", case.name);
                 if fits {
@@ -83,9 +85,10 @@ fn work_of_awkward_lengths() {
 #[test]
 fn slices_of_no_length() {
     for case in stored() {
-        let answer = Rig::new(0, 0, WORK).run(case.options.into(), &case.tree).outcome.answer;
+        let run = |mut rig: Rig| rig.run_within(case.depth, case.options.into(), &case.tree).outcome.answer;
+        let answer = run(Rig::new(0, 0, WORK));
         assert_eq!(answer, if case.answer == 0 { 7 } else { case.answer }, "{}", case.name);
-        let answer = Rig::new(0, 0, 0).run(case.options.into(), &case.tree).outcome.answer;
-        assert_eq!(answer, if case.answer == 1 { 1 } else { 2 }, "{}", case.name);
+        let answer = run(Rig::new(0, 0, 0));
+        assert_eq!(answer, if [9, 1].contains(&case.answer) { case.answer } else { 2 }, "{}", case.name);
     }
 }

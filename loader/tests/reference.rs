@@ -5,7 +5,7 @@ mod common;
 use common::cases::to_hex;
 use common::draw::{damage, Chance, Grammar};
 use common::{seeds, skip};
-use rest_spread::{Lowerer, Options};
+use rest_spread::{Lowerer, Options, LEVELS};
 use std::env;
 use std::io::Write;
 use std::process::{Command, Stdio};
@@ -21,7 +21,7 @@ fn drawn_trees_are_lowered_as_the_reference_does() {
     let lines: String = cases.iter().map(|case| to_hex(case) + "\n").collect();
     // Document 01 copies a template key as it stands, and so does the program if it is told to.
     let mut child = Command::new(&program)
-        .args(["--batch", "--template-key=node", "--stems"])
+        .args(["--batch", "--template-key=node", "--retired", "--classes", "--stems", &format!("--limit={LEVELS}")])
         .stdin(Stdio::piped())
         .stdout(Stdio::piped())
         .spawn()

@@ -1,11 +1,11 @@
-//! Each refusal, by document 01's small input for it, and which of two is given.
+//! Each refusal, by the documents' small input for it, and which of two is given.
 
 mod common;
 
 use common::cases::from_hex;
-use common::make::{blocks, key_twice, nested, other, padded, program, rests};
+use common::make::{assign, blocks, expression, key_twice, nested, other, padded, program, reference, rests};
 use common::rig::Rig;
-use rest_spread::{Lowerer, Options, Refusal, LIST_OUT, TREE_IN, TREE_OUT, WORK};
+use rest_spread::{Kind, Lowerer, Options, Refusal, LEVELS, LIST_OUT, TREE_IN, TREE_OUT, WORK};
 
 /// `({...a})`: a result of 24 bytes, and a list of 4.
 const LISTING: &[u8] = b"\x01\x01\x01\x00\x03\x03\x01\x00\x18\x01\x01\x00\x1a\x01\x12\x01\x01\x00a";
@@ -28,6 +28,18 @@ fn options_above_15_are_refused_with_1() {
     }
 }
 
+/// The retired option may be set, and shows nowhere.
+#[test]
+fn options_with_the_8_and_without_it_are_one() {
+    let (mut with, mut without) = (Lowerer::new(), Lowerer::new());
+    for options in 0..8 {
+        let with = with.lower(Options::from_bits(options + 8), LISTING).unwrap();
+        assert_eq!(with, without.lower(Options::from_bits(options), LISTING).unwrap());
+        assert_eq!(with.options.bits(), options);
+    }
+    assert_eq!(refused(24, LISTING), Some(Refusal::UnknownOptions));
+}
+
 #[test]
 fn short_work_is_refused_with_2() {
     assert_eq!(Rig::new(TREE_OUT, LIST_OUT, WORK - 1).run(0, LISTING).outcome.answer, 2);
@@ -45,10 +57,31 @@ fn what_is_no_tree_is_refused_with_3() {
     assert_eq!(refused(0, &padded(&[], TREE_IN + 1)), Some(Refusal::NotATree));
 }
 
+fn refused_within(depth: u32, tree: &[u8]) -> Option<Refusal> {
+    Lowerer::with_depth(depth).lower(Options::NONE, tree).err()
+}
+
 #[test]
-fn depth_65_is_refused_with_4() {
+fn what_is_deeper_than_the_limit_is_refused_with_4() {
     assert_eq!(refused(0, &blocks(127, [])), None);
     assert_eq!(refused(0, &blocks(128, [])), Some(Refusal::TooDeep));
+    assert_eq!(refused_within(1, &program([])), None);
+    assert_eq!(refused_within(1, &blocks(1, [])), Some(Refusal::TooDeep));
+    for depth in 2..=LEVELS {
+        assert_eq!(refused_within(depth, &blocks(depth as usize - 1, [])), None, "{depth}");
+        assert_eq!(refused_within(depth, &blocks(depth as usize, [])), Some(Refusal::TooDeep), "{depth}");
+    }
+}
+
+#[test]
+fn a_limit_of_0_or_above_128_is_refused_with_9() {
+    for depth in [0, 129, 130, 255, 256, 257, 384, 1 << 16, (1 << 16) + 64, u32::MAX] {
+        for tree in [LISTING, b""] {
+            assert_eq!(refused_within(depth, tree), Some(Refusal::LimitOutside), "{depth}");
+        }
+    }
+    let depths = [Lowerer::new(), Lowerer::default(), Lowerer::with_depth(64), Lowerer::with_depth(0)];
+    assert_eq!(depths.map(|lowerer| lowerer.depth()), [LEVELS, LEVELS, 64, 0]);
 }
 
 #[test]
@@ -81,10 +114,12 @@ fn a_tree_over_32768_bytes_is_refused_with_7() {
     assert_eq!(refused(0, &tree(TREE_OUT + 1)), Some(Refusal::TooLong));
 }
 
-/// A key that is handed out twice makes a list of twice its length.
+/// A key that is handed out twice makes a list of twice its length and 63 bytes, `{...a} = b` one of 11 more.
 #[test]
 fn a_list_over_16384_bytes_is_refused_with_7() {
-    let tree = |length: usize| program([key_twice((length - 58) / 2)]);
+    let rest = Kind::ObjectPattern.make().list([]).node(reference("a"));
+    let more = expression(assign(rest, reference("b")));
+    let tree = |length: usize| program([key_twice((length - 63 - 11) / 2), more.clone()]);
     for slice in [LIST_OUT, LIST_OUT + 1, 40_000] {
         let mut rig = Rig::new(TREE_OUT, slice, WORK);
         assert_eq!(rig.run(0, &tree(LIST_OUT)).outcome.list_len, LIST_OUT);
@@ -94,15 +129,18 @@ fn a_list_over_16384_bytes_is_refused_with_7() {
     assert_eq!(refused(0, &tree(LIST_OUT + 2)), Some(Refusal::TooLong));
 }
 
-/// Document 01's order: 1, 2, over-length, 3 or 4 by place, 5 or 6 by walk, 7.
+/// The documents' order: 9, 1, 2, over-length, 3 or 4 by place, 5 or 6 by walk, 7.
 #[test]
 fn the_first_refusal_is_given() {
     let five = from_hex(FIVE);
     let six = from_hex(SIX);
     let long = padded(&[nested(128, [])], TREE_IN + 1);
-    let answer = |options, slices: [usize; 3], tree: &[u8]| {
-        Rig::new(slices[0], slices[1], slices[2]).run(options, tree).outcome.answer
+    let within = |depth, options, slices: [usize; 3], tree: &[u8]| {
+        Rig::new(slices[0], slices[1], slices[2]).run_within(depth, options, tree).outcome.answer
     };
+    let answer = |options, slices, tree: &[u8]| within(None, options, slices, tree);
+    assert_eq!(within(Some(129), 16, [0, 0, 0], &long), 9);
+    assert_eq!(within(Some(1), 16, [0, 0, 0], &long), 1);
     assert_eq!(answer(16, [0, 0, 0], &long), 1);
     assert_eq!(answer(15, [0, 0, 0], &long), 2);
     assert_eq!(answer(15, [0, 0, WORK], &long), 3);

@@ -131,7 +131,7 @@ fn every_stored_tree_and_every_stored_result_is_read() {
     let (mut read, mut holes) = (0, 0);
     for case in stored() {
         // Of a refusal 5, 6 or 7 the input is a tree.
-        let input = (case.answer == 0 || case.answer >= 5).then_some(&case.tree);
+        let input = [0, 5, 6, 7].contains(&case.answer).then_some(&case.tree);
         for bytes in input.into_iter().chain((case.answer == 0).then_some(&case.tree_out)) {
             let (program, behind) = Node::read(bytes).unwrap_or_else(|| panic!("{}", case.name));
             assert_eq!((program.kind(), behind.len()), (Kind::Program, 0), "{}", case.name);
@@ -151,11 +151,11 @@ fn every_stored_tree_and_every_stored_result_is_read() {
     assert!(read > 800 && holes > 100, "{read} {holes}");
 }
 
-/// From 62 spreads in one literal on, a result is deeper than any input.
+/// From 126 spreads in one literal on, a result is deeper than any input.
 #[test]
 fn deep_results_are_read() {
     let mut lowerer = Lowerer::new();
-    for count in [60, 61, 62, 63, 100, 2_300] {
+    for count in [60, 124, 125, 126, 127, 2_300] {
         let tree = program([spreads(count)]);
         let lowered = lowerer.lower(Options::NONE, &tree).unwrap();
         let (node, behind) = Node::read(lowered.tree).unwrap();

@@ -57,8 +57,8 @@ static struct lowered first_call(const char *name) {
     return got;
 }
 
-// What any lowering has to do to the buffers: all cleared, the tree written, work cleared. So many times together, since
-// it takes little longer than reading the clock.
+// What any lowering has to do to the buffers: all cleared, the tree written. So many times together, since it takes little
+// longer than reading the clock.
 static uint64_t cleared_and_copied(void) {
     uint64_t start = now();
     for (int i = 0; i < TOGETHER; i++) {
@@ -67,8 +67,6 @@ static uint64_t cleared_and_copied(void) {
         memset(work, 0, WORK);
         __asm__ volatile("" ::: "memory");
         memcpy(out, tree, len);
-        __asm__ volatile("" ::: "memory");
-        memset(work, 0, WORK);
         __asm__ volatile("" ::: "memory");
     }
     return (now() - start) / TOGETHER;

@@ -1,8 +1,10 @@
 #!/usr/bin/env python3
 """Makes the trees that are measured: trees.py FOLDER writes one file each. Ordinary ones, the largest, and hostile ones."""
 import os
+import pathlib
 import sys
 
+EXAMPLES = pathlib.Path(__file__).resolve().parent.parent.parent / "examples"
 LONGEST = 16384
 
 
@@ -292,6 +294,7 @@ def template_keys(levels, length=0, declared=False):
 
 
 TREES = {
+    "slip": (EXAMPLES / "slip.tree").read_bytes,
     "ordinary-1k": lambda: ordinary(1024),
     "ordinary-2k": lambda: ordinary(2048),
     "ordinary-4k": lambda: ordinary(4096),
@@ -308,12 +311,12 @@ TREES = {
     **{f"loops-{d}": lambda d=d: loops(d) for d in (15, 30, 60, 124)},
     # 30 keys in each other reach level 124
     **{f"templates-{n}": lambda n=n: template_keys(n) for n in (4, 6, 8, 10, 12, 14, 30)},
-    **{f"templates-{n}-16k": lambda n=n: template_keys(n, LONGEST) for n in (4, 6, 8, 10, 12, 14)},
+    **{f"templates-{n}-16k": lambda n=n: template_keys(n, LONGEST) for n in (4, 6, 8, 10, 12, 14, 30)},
     **{f"templates-declared-{n}-16k": lambda n=n: template_keys(n, LONGEST, True) for n in (2, 4, 6, 8)},
 }
 
 # the reference would take seconds or minutes for one call
-ALONE = {"templates-10-16k", "templates-12-16k", "templates-14-16k", "templates-30"}
+ALONE = {"templates-10-16k", "templates-12-16k", "templates-14-16k", "templates-30-16k", "templates-30"}
 
 
 def main():

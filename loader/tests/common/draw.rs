@@ -147,7 +147,7 @@ impl Grammar {
         let mut growth = Growth { chance, tree: vec![1, 1, 0, 0], mark: 0, room };
         let mut count: u16 = 0;
         while growth.tree.len() < room {
-            let levels = if growth.chance.once_in(8) { 63 } else { 4 + growth.chance.below(12) };
+            let levels = if growth.chance.once_in(8) { 127 } else { 4 + growth.chance.below(12) };
             self.node(&mut growth, "statement", levels);
             count += 1;
         }

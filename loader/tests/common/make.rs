@@ -25,7 +25,7 @@ pub fn spreads(count: usize) -> Make {
 }
 
 /// `({[TEMPLATE]: a, ...b} = c)`, where the Template has one quasi and among its expressions `{[KEY]: a, ...b} = c`. A
-/// Template of one quasi is written twice, as key and as excluded key, so KEY is handed out twice: the list has 58 bytes
+/// Template of one quasi is written twice, as key and as excluded key, so KEY is handed out twice: the list has 63 bytes
 /// and twice the name's.
 pub fn key_twice(name: usize) -> Make {
     let key = Kind::OtherExpression.make().text(x(name)).list([]);

@@ -1,10 +1,12 @@
 //! The entry, called over dirty slices of any lengths with guard bytes around them.
 
 use rest_spread::entry::{self, Outcome};
-use rest_spread::{LIST_OUT, TREE_OUT, WORK};
+use rest_spread::{LEVELS, LIST_OUT, TREE_OUT, WORK};
 
 /// How many guard bytes stand before, between and behind the slices.
 const GUARD: usize = 64;
+/// The options that a call reports. 8 may be set and is retired.
+const IN_FORCE: u32 = 1 + 2 + 4;
 /// What every byte holds before a call.
 const DIRT: u8 = 0xa5;
 
@@ -33,18 +35,27 @@ impl Rig {
         Self::new(TREE_OUT, LIST_OUT, WORK)
     }
 
-    /// Calls the entry, and sees that it touched no guard byte and kept its contract on the others.
+    /// Calls the entry that takes no limit.
     pub fn run(&mut self, options: u32, input: &[u8]) -> Ran<'_> {
+        self.run_within(None, options, input)
+    }
+
+    /// Calls the entry that takes a limit, or the other, and sees that it touched no guard byte and kept its contract on the
+    /// others.
+    pub fn run_within(&mut self, depth: Option<u32>, options: u32, input: &[u8]) -> Ran<'_> {
         // A copy that is no longer than the input, so that a memory checker would see a read behind it.
         let input = &Box::<[u8]>::from(input)[..];
         self.bytes.fill(DIRT);
         let [guard_0, tree, guard_1, list, guard_2, work, guard_3] = parts(&mut self.bytes, self.lengths);
-        let outcome = entry::lower(options, input, tree, list, work);
+        let outcome = match depth {
+            None => entry::lower(options, input, tree, list, work),
+            Some(depth) => entry::lower_within(depth, options, input, tree, list, work),
+        };
         for guard in [guard_0, guard_1, guard_2, guard_3] {
             assert!(guard.iter().all(|&byte| byte == DIRT), "a guard byte was written: {input:02x?}");
         }
         let ran = Ran { outcome, tree, list, work };
-        ran.keep_contract(options, input);
+        ran.keep_contract(depth, options, input);
         ran
     }
 }
@@ -60,16 +71,17 @@ impl Ran<'_> {
         &self.list[..self.outcome.list_len]
     }
 
-    fn keep_contract(&self, options: u32, input: &[u8]) {
+    fn keep_contract(&self, depth: Option<u32>, options: u32, input: &[u8]) {
         let Outcome { answer, helpers, options: reported, tree_len, list_len } = self.outcome;
-        let say = || format!("{:?} for options {options} and {input:02x?}", self.outcome);
+        let say = || format!("{:?} for limit {depth:?}, options {options} and {input:02x?}", self.outcome);
         assert!(is_zero(self.work), "work is not zero: {}", say());
         assert!(is_zero(&self.tree[tree_len..]), "the tree slice is not zero behind the tree: {}", say());
         assert!(is_zero(&self.list[list_len..]), "the list slice is not zero behind the list: {}", say());
-        assert!(answer <= 7, "{}", say());
+        let is_limit = depth.is_none_or(|depth| (1..=LEVELS).contains(&depth));
+        assert!(if is_limit { answer <= 7 } else { answer == 9 }, "{}", say());
         if answer == 0 {
             assert!(tree_len <= TREE_OUT && list_len <= LIST_OUT, "{}", say());
-            assert!(u32::from(reported) == options & 7 && helpers < 32, "{}", say());
+            assert!(u32::from(reported) == options & IN_FORCE && helpers < 32, "{}", say());
             assert!(tree_len >= 4 && list_len >= 4, "{}", say());
         } else {
             assert_eq!((helpers, reported, tree_len, list_len), (0, 0, 0, 0), "{}", say());

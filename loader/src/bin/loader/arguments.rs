@@ -1,6 +1,6 @@
 //! What the command is asked to do.
 
-use rest_spread::Options;
+use rest_spread::{Lowerer, Options};
 use std::ffi::{OsStr, OsString};
 use std::fmt;
 use std::os::unix::ffi::{OsStrExt, OsStringExt};
@@ -26,11 +26,18 @@ that failed and a count. What failed is told on standard error.
                        does: answer, helper mask and options mask; the tree;
                        the list
   -j, --json           print a line of JSON for each input
-  -o, --options N      1 loose + 2 useBuiltIns + 4 objectRestNoSymbols
-                       + 8 ignoreFunctionLength; 0 if not given. They are
-                       reported and have no effect
+  -o, --options N      1 loose + 2 useBuiltIns + 4 objectRestNoSymbols; 8 may be
+                       set and does nothing. 0 if not given. They are reported
+                       and have no effect
   -f, --options-first  the first byte of each input is its options, as `lower`
                        has it
+      --depth N        the depth limit, 1 to 128; 128 if not given. A tree of
+                       more levels is refused with 4, another limit with 9
+      --draw SEED      lower nothing, and draw trees to the FOLDER of --into:
+                       that of the seed to SEED.tree, then each from the state
+                       after the one before it, which is its own seed. A zero
+                       seed is refused with 8
+      --count N        how many trees; 1 if not given
       --helpers        print the helpers that lowered code calls, as JavaScript
   -V, --version        print the versions of loader and archive
   -h, --help           print this
@@ -50,7 +57,15 @@ pub enum Wish {
     Help,
     Version,
     Helpers,
+    Draw(Load),
     Lower(Arguments),
+}
+
+/// Trees to be drawn.
+pub struct Load {
+    pub seed: u32,
+    pub count: u32,
+    pub into: PathBuf,
 }
 
 #[derive(Default)]
@@ -64,6 +79,11 @@ pub struct Arguments {
     pub json: bool,
     pub options: Options,
     pub options_first: bool,
+    /// The depth limit, if one is named.
+    pub depth: Option<u32>,
+    /// The seed of trees to be drawn, and how many.
+    pub draw: Option<u32>,
+    pub count: Option<u32>,
 }
 
 /// How results are told: one input's summary, a line for each of several, hexadecimal, or JSON.
@@ -113,7 +133,10 @@ pub fn parse(words: impl Iterator<Item = OsString>) -> Result<Wish, String> {
             "-t" | "--tree" => wish.tree = Some(next()?.into()),
             "-l" | "--list" => wish.list = Some(next()?.into()),
             "-d" | "--into" => wish.into = Some(next()?.into()),
-            "-o" | "--options" => wish.options = number(&next()?)?,
+            "-o" | "--options" => wish.options = Options::from_bits(number("--options", &next()?)?),
+            "--depth" => wish.depth = Some(number("--depth", &next()?)?),
+            "--draw" => wish.draw = Some(number("--draw", &next()?)?),
+            "--count" => wish.count = Some(number("--count", &next()?)?),
             _ if has_word => return Err(format!("{flag} is not known, or takes no word")),
             "-h" | "--help" => return Ok(Wish::Help),
             "-V" | "--version" => return Ok(Wish::Version),
@@ -127,6 +150,9 @@ pub fn parse(words: impl Iterator<Item = OsString>) -> Result<Wish, String> {
             _ if flag.starts_with('-') => return Err(format!("{flag} is not known")),
             _ => wish.inputs.push(Input::File(word.into())),
         }
+    }
+    if wish.draw.is_some() || wish.count.is_some() {
+        return wish.load().map(Wish::Draw);
     }
     if wish.inputs.is_empty() {
         wish.inputs.push(Input::Standard);
@@ -145,18 +171,35 @@ fn split(word: &OsStr) -> (String, Option<OsString>) {
     }
 }
 
-fn number(word: &OsStr) -> Result<Options, String> {
+fn number(flag: &str, word: &OsStr) -> Result<u32, String> {
     let number = word.to_str().and_then(|word| word.parse().ok());
-    number.map(Options::from_bits).ok_or(format!("--options wants a number, and {} is none", word.to_string_lossy()))
+    number.ok_or(format!("{flag} wants a number, and {} is none", word.to_string_lossy()))
 }
 
 impl Arguments {
+    pub fn lowerer(&self) -> Lowerer {
+        self.depth.map_or_else(Lowerer::new, Lowerer::with_depth)
+    }
+
     pub fn manner(&self) -> Manner {
         match self.inputs.len() {
             _ if self.hex => Manner::Hex,
             _ if self.json => Manner::Json,
             1 => Manner::Alone,
             _ => Manner::Several,
+        }
+    }
+
+    /// What is to be drawn, if nothing else is asked for.
+    fn load(self) -> Result<Load, String> {
+        let alone = self.inputs.is_empty() && self.tree.is_none() && self.list.is_none() && self.depth.is_none();
+        if !alone || self.strict || self.hex || self.json || self.options_first || self.options != Options::NONE {
+            return Err("--draw goes with --count and --into alone".into());
+        }
+        match (self.draw, self.into) {
+            (Some(seed), Some(into)) => Ok(Load { seed, count: self.count.unwrap_or(1), into }),
+            (None, _) => Err("--count wants --draw SEED".into()),
+            (_, None) => Err("--draw wants --into FOLDER".into()),
         }
     }
 

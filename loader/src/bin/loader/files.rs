@@ -176,6 +176,17 @@ impl Files {
     }
 }
 
+/// Writes one file, whole or not at all.
+pub fn write_whole(path: &Path, bytes: &[u8]) -> Result<(), Failure> {
+    let output = Output { path: path.to_path_buf(), real: real(path), part: Part::Tree };
+    let beside = output.write_beside(bytes).map_err(|why| not_written(&output, why))?;
+    let put = put_in_place(&[&output], std::slice::from_ref(&beside));
+    if put.is_err() {
+        let _ = fs::remove_file(beside);
+    }
+    put
+}
+
 /// Old files go first, all of them: whenever this is cut short, no new tree stands beside an old list.
 fn put_in_place(files: &[&Output], beside: &[PathBuf]) -> Result<(), Failure> {
     for output in files.iter().filter(|output| output.real.is_file()) {

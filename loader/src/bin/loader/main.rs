@@ -6,11 +6,11 @@ mod files;
 mod json;
 mod report;
 
-use arguments::{Arguments, Input, Manner, Wish, HELP};
+use arguments::{Arguments, Input, Load, Manner, Wish, HELP};
 use failure::Failure;
 use files::{Earlier, Files};
 use report::Done;
-use rest_spread::{entry, Advice, Explained, Helpers, Lowerer, Options, Refusal, Step, Walk, TREE_IN};
+use rest_spread::{entry, Advice, Explained, Helpers, Lowerer, Options, Refusal, Series, Step, Walk, TREE_IN};
 use std::fs::File;
 use std::io::{self, Read, Write};
 use std::process::ExitCode;
@@ -27,6 +27,7 @@ fn main() -> ExitCode {
             print(&format!("loader {}, archive {}\n", env!("CARGO_PKG_VERSION"), entry::version())).map(|()| 0)
         }
         Ok(Wish::Helpers) => print(&Helpers::ALL.source()).map(|()| 0),
+        Ok(Wish::Draw(load)) => draw_all(&load),
         Ok(Wish::Lower(arguments)) => match files::plan(&arguments) {
             Ok(files) => lower_all(&arguments, &files),
             Err(why) => Ok(not_understood(&why)),
@@ -44,9 +45,26 @@ fn not_understood(why: &str) -> u8 {
     NOT_UNDERSTOOD
 }
 
+/// Draws trees into files that are named by their seeds, and tells of each. Gives the exit status.
+fn draw_all(load: &Load) -> Result<u8, Failure> {
+    let series = match Series::from_seed(load.seed) {
+        Ok(series) => series,
+        Err(refusal) => {
+            eprintln!("loader: {refusal}");
+            return Ok(refusal.number());
+        }
+    };
+    for drawing in series.take(load.count as usize) {
+        let path = load.into.join(format!("{}.tree", drawing.seed));
+        files::write_whole(&path, &drawing.tree)?;
+        print(&format!("{}: {} bytes\n", path.display(), drawing.tree.len()))?;
+    }
+    Ok(0)
+}
+
 /// Lowers every input, and gives the exit status: 0, or that of the first failure.
 fn lower_all(arguments: &Arguments, files: &[Files]) -> Result<u8, Failure> {
-    let mut lowerer = Lowerer::new();
+    let mut lowerer = arguments.lowerer();
     let mut failures = Vec::new();
     let manner = arguments.manner();
     for (input, files) in arguments.inputs.iter().zip(files) {
@@ -78,7 +96,8 @@ fn lower_one<'a>(
     let (bytes, length) = read(input).map_err(Failure::NotRead)?;
     let (options, tree) = split(arguments, &bytes);
     let length = length.map(|length| length - (bytes.len() - tree.len()) as u64);
-    let lowered = lowerer.lower(options, tree).map_err(|refusal| Failure::Refused(explain(tree, refusal, length)))?;
+    let lowered =
+        lowerer.lower(options, tree).map_err(|refusal| Failure::Refused(explain(arguments, tree, refusal, length)))?;
     let left = lowered.leftovers();
     let next = 1 + Walk::new(tree).filter(|step| matches!(step, Step::Mark(_))).count() as u16;
     if arguments.strict && !left.is_empty() {
@@ -89,8 +108,8 @@ fn lower_one<'a>(
 }
 
 /// A refusal with advice. Of an input that is too long only the beginning was kept, so its length is added.
-fn explain(tree: &[u8], refusal: Refusal, length: Option<u64>) -> Explained {
-    let explained = Lowerer::new().explain(tree, refusal);
+fn explain(arguments: &Arguments, tree: &[u8], refusal: Refusal, length: Option<u64>) -> Explained {
+    let explained = arguments.lowerer().explain(tree, refusal);
     match explained.advice {
         Some(Advice::TooManyBytes { .. }) => explained.with(Advice::TooManyBytes { length }),
         _ => explained,
