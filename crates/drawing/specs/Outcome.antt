@@ -18,6 +18,14 @@ pub record Handed : Type 0 where
 abbrev pub handed : Result → List ℕ → Handed
 handed r l = record { answer = r .answer; next = r .next; long = r .«tree_len»; bytes = l }
 
+-- 8: 'a zero seed, checked before anything else in the generator'
+abbrev pub zeroSeed : ℕ
+zeroSeed = 8
+
+-- 7: 'last there, its slice too short'
+abbrev pub sliceTooShort : ℕ
+sliceTooShort = 7
+
 -- a refusal: its number, and zeros
 unfoldable pub refused : ℕ → ℕ → Handed
 refused size number = record { answer = number; next = 0; long = 0; bytes = replicate size 0 }
@@ -27,8 +35,8 @@ unfoldable pub fitted : ℕ → Drawn Node → Handed
 fitted size (drawn n s b k) =
     cond (leb (length (encode n)) size)
     (record { answer = 0; next = s; long = length (encode n); bytes = encode n ++ replicate (size - length (encode n)) 0 })
-    (refused size 7)
+    (refused size sliceTooShort)
 
 -- 8 for a zero seed comes before anything else
 unfoldable pub outcome : ℕ → ℕ → Handed
-outcome seed size = cond (eqb seed 0) (refused size 8) (fitted size (drawTree seed))
+outcome seed size = cond (eqb seed 0) (refused size zeroSeed) (fitted size (drawTree seed))

@@ -2,6 +2,7 @@
 -- Assumes nothing.
 use mathlib.Core.Path.{_≡_, refl, sym, ap, ap₂, _∙_}
 use mathlib.Core.Bool.{Bool, true, false, cond}
+use mathlib.Core.Logic.{_⊎_, inl, inr}
 use mathlib.Core.List.{List, [], _∷_, _++_, append-assoc, append-nil}
 use Prim.Native.Nat.{ℕ, zero, suc, _+_, _*_}
 use lib.Dec.{eqb}
@@ -23,7 +24,7 @@ use Rattle.equal.specs.Renaming.{unplaced, Formed}
 use Rattle.equal.proofs.Turn.{in-turn-canonical}
 use Rattle.equal.proofs.Back.{equal-unplaced}
 use Rattle.ordering.specs.Order.{compare, order, Key, keyOf, byKey, byEvent, firstDifference, placedAll}
-use Rattle.ordering.proofs.Laws.{Orders, lists-order, image-orders, text-orders, self, back, less-then-equal, equal-then-less, equal-then-equal}
+use Rattle.ordering.proofs.Laws.{less-not-equal, greater-not-less, greater-not-equal, Orders, lists-order, image-orders, text-orders, self, back, less-then-equal, equal-then-less, equal-then-equal}
 use Rattle.ordering.proofs.Bridge.{compare-events}
 use Rattle.ordering.proofs.Same.{node-bytes, node-unplaced}
 
@@ -51,6 +52,27 @@ pub order-orders : Orders order
 unfolding order
 order-orders = image-orders compare compare-orders canonical order (λ m n. refl)
 
+-- exactly one of the three comes out
+pub record One (v : Verdict) : Type 0 where
+  pub some : (v ≡ Less) ⊎ ((v ≡ Equal) ⊎ (v ≡ Greater))
+  pub not-less-and-equal : v ≡ Less → v ≡ Equal → ⊥
+  pub not-less-and-greater : v ≡ Less → v ≡ Greater → ⊥
+  pub not-equal-and-greater : v ≡ Equal → v ≡ Greater → ⊥
+
+pub one-verdict : (a b : Node) → One (order a b)
+one-verdict a b = record {
+  some = go (order a b);
+  not-less-and-equal = λ e f. less-not-equal (sym e ∙ f);
+  not-less-and-greater = λ e f. greater-not-less (sym f ∙ e);
+  not-equal-and-greater = λ e f. greater-not-equal (sym f ∙ e);
+}
+  where
+    go : (v : Verdict) → (v ≡ Less) ⊎ ((v ≡ Equal) ⊎ (v ≡ Greater))
+    go Less = inl refl
+    go Equal = inr (inl refl)
+    go Greater = inr (inr refl)
+
+-- and the other way round the opposite
 pub turned : (a b : Node) → order b a ≡ turn (order a b)
 turned a b = order-orders .turned a b
 

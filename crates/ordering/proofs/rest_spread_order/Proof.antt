@@ -8,27 +8,21 @@ use Rattle.ordering.proofs.rest_spread_order.Lts as lts
 use Rattle.ordering.proofs.compare.order.Reads as order-reads
 use Rattle.ordering.proofs.said.Reads as said-reads
 
--- src/lib.rt:38:11
 order-requires : tie.Need-order-requires
 order-requires c κs = search needs
 
--- src/lib.rt:39:22
 enum-known-v : tie.Need-enum-known-v
 enum-known-v c = search needs
 
--- src/lib.rt:39:28
 said-requires : tie.Need-said-requires
 said-requires c κs = search needs
 
--- src/lib.rt:40:28
 enum-told : tie.Need-enum-told
 enum-told c = search needs
 
--- src/lib.rt:34:1
 returns : tie.Need-returns
 returns c = (c .said .ensures .0 ∙ sym (ap answerNumber (sym (c .before .before .before .before .order .ensures) ∙ c .before .before .v .given .1)), c .said .ensures .1 ∙ sym (ap orderNumber (sym (c .before .before .before .before .order .ensures) ∙ c .before .before .v .given .1)))
 
--- src/lib.rt:34:1
 returns-2 : tie.Need-returns-2
 returns-2 c = (sym (ap answerNumber (sym (c .before .before .order .ensures) ∙ c .enum-told .given .1)), sym (ap orderNumber (sym (c .before .before .order .ensures) ∙ c .enum-told .given .1)))
 

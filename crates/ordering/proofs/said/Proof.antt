@@ -6,27 +6,21 @@ use Rattle.ordering.proofs.said.Tie as tie
 use Rattle.ordering.proofs.said.Reads as reads
 use Rattle.ordering.proofs.said.Lts as lts
 
--- src/lib.rt:27:26
 enum-told : tie.Need-enum-told
 enum-told c = search needs
 
--- src/lib.rt:28:27
 enum-told-2 : tie.Need-enum-told-2
 enum-told-2 c = search needs
 
--- src/lib.rt:29:29
 enum-told-3 : tie.Need-enum-told-3
 enum-told-3 c = search needs
 
--- src/lib.rt:23:1
 returns : tie.Need-returns
 returns c = (refl, sym (ap numberOf (c .enum-told .given .1)))
 
--- src/lib.rt:23:1
 returns-2 : tie.Need-returns-2
 returns-2 c = search needs
 
--- src/lib.rt:23:1
 returns-3 : tie.Need-returns-3
 returns-3 c = search needs
 

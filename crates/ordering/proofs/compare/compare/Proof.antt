@@ -29,123 +29,93 @@ Inv-loop first second frames₀ others₀ table₀ places₀ a₀ b₀ frames ot
 abbrev μ-loop : tie.MeasureT-loop
 μ-loop first second frames₀ others₀ table₀ places₀ a₀ b₀ frames others table places a b = (length first - a .cursor .at) + a .cursor .deep
 
--- src/compare.rt:69:9
 returns : tie.Need-returns Inv-loop μ-loop
 returns c = λ a b c' d. absurd (omega (arith, a, c .if1 .taken))
 
--- src/compare.rt:72:9
 returns-2 : tie.Need-returns-2 Inv-loop μ-loop
 returns-2 c = λ a b c' d. absurd (omega (arith, b, c .if2 .taken))
 
--- src/compare.rt:75:9
 returns-3 : tie.Need-returns-3 Inv-loop μ-loop
 returns-3 c = λ a b c' d. absurd (omega (arith, c', c .if3 .taken))
 
--- src/compare.rt:78:9
 returns-4 : tie.Need-returns-4 Inv-loop μ-loop
 returns-4 c = λ a b c' d. absurd (omega (arith, d, c .if4 .taken))
 
--- src/compare.rt:80:8
 is-refused-requires : tie.Need-is-refused-requires Inv-loop μ-loop
 is-refused-requires c κs = tt
 
--- src/compare.rt:81:9
 returns-5 : tie.Need-returns-5 Inv-loop μ-loop
 returns-5 c = λ _ _ _ _. law.refused-either _ _ (sym (c .before .is-refused .ensures) ∙ c .if5 .taken)
 
--- src/compare.rt:83:5
 clear-requires : tie.Need-clear-requires Inv-loop μ-loop
 clear-requires c κs = tt
 
--- src/compare.rt:84:5
 clear-requires-2 : tie.Need-clear-requires-2 Inv-loop μ-loop
 clear-requires-2 c κs = tt
 
--- src/compare.rt:86:17
 begin-requires : tie.Need-begin-requires Inv-loop μ-loop
 begin-requires c κs = tt
 
--- src/compare.rt:91:17
 begin-requires-2 : tie.Need-begin-requires-2 Inv-loop μ-loop
 begin-requires-2 c κs = tt
 
--- src/compare.rt:95:5
 loop-holds : tie.Need-loop-holds Inv-loop μ-loop
 loop-holds c = (law.going-start (c .before .before .before .before .before .before .before .before .before .before .before .before .before .before .before .before .before .before .before .before .before .before .args .first .now) (c .before .before .before .before .before .before .before .before .before .before .before .before .before .before .before .before .before .before .before .before .before .before .args .second .now) (c .before .before .before .before .before .before .before .before .before .before .before .before .before .before .before .before .before .before .before .before .before .before .args .frames .now) (c .before .before .before .before .before .before .before .before .before .before .before .before .before .before .before .before .before .before .before .before .before .before .args .others .now) _ _ (sym (c .before .before .before .before .before .before .before .before .before .before .before .is-refused .ensures) ∙ c .before .before .before .before .before .before .before .before .before .before .if5 .left) (c .before .before .before .before .before .before .before .before .before .before .before .before .before .before .before .if1 .left) (c .before .before .before .before .before .before .before .before .before .before .before .before .before .before .if2 .left) (omega (arith, c .before .before .before .before .before .before .before .before .clear .ensures .0, c .before .before .before .before .before .before .before .before .before .before .before .before .before .if3 .left)) (c .before .before .before .before .before .before .before .before .clear .ensures .1) (omega (arith, c .before .before .before .before .clear2 .ensures .0, c .before .before .before .before .before .before .before .before .before .before .before .before .if4 .left)) (c .before .before .before .before .clear2 .ensures .1) _ _ (c .before .begin .ensures) (c .begin2 .ensures), refl, refl, refl, refl)
 
--- src/compare.rt:96:13
 advance-requires : tie.Need-advance-requires Inv-loop μ-loop
 advance-requires c κs = tt
 
--- src/compare.rt:97:13
 advance-requires-2 : tie.Need-advance-requires-2 Inv-loop μ-loop
 advance-requires-2 c κs = tt
 
--- src/compare.rt:98:15
 paired-requires : tie.Need-paired-requires Inv-loop μ-loop
 paired-requires c κs = tt
 
--- src/compare.rt:99:24
 enum-known-e : tie.Need-enum-known-e Inv-loop μ-loop
 enum-known-e c = search needs
 
--- src/compare.rt:100:21
 by-event-requires : tie.Need-by-event-requires Inv-loop μ-loop
 by-event-requires c κs = tt
 
--- src/compare.rt:101:20
 is-equal-requires : tie.Need-is-equal-requires Inv-loop μ-loop
 is-equal-requires c κs = tt
 
--- src/compare.rt:95:5
 loop-less : tie.Need-loop-less Inv-loop μ-loop
 loop-less c = law.pair-falls _ _ _ _ _ _ _ _ _ (c .before .before .before .before .before .before .before .before .before .before .before .before .before .before .before .before .before .before .before .before .before .loop .inv .0) _ _ _ _ _ _ (c .before .before .before .before .before .before .before .before .before .before .before .before .before .before .before .before .before .before .advance .ensures .2 _ (c .before .before .before .before .before .before .before .before .before .before .before .before .before .before .before .before .before .before .before .before .before .loop .inv .0 .left)) (c .before .before .before .before .before .before .before .before .before .before .before .advance2 .ensures .2 _ (c .before .before .before .before .before .before .before .before .before .before .before .before .before .before .before .before .before .before .before .before .before .loop .inv .0 .right)) _ (c .before .before .before .before .before .before .paired .ensures) (c .before .before .before .before .e .given .0 .0) (c .before .before .before .before .e .given .0 .1 .0) (c .before .before .before .before .e .given .0 .1 .1 .0) (c .before .before .before .before .e .given .0 .1 .1 .1 .0) (c .before .before .before .before .e .given .1)
 
--- src/compare.rt:95:5
 loop-again : tie.Need-loop-again Inv-loop μ-loop
 loop-again c = (law.pair-equal _ _ _ _ _ _ _ _ _ (c .before .before .before .before .before .before .before .before .before .before .before .before .before .before .before .before .before .before .before .before .before .loop .inv .0) _ _ _ _ _ _ (c .before .before .before .before .before .before .before .before .before .before .before .before .before .before .before .before .before .before .advance .ensures .2 _ (c .before .before .before .before .before .before .before .before .before .before .before .before .before .before .before .before .before .before .before .before .before .loop .inv .0 .left)) (c .before .before .before .before .before .before .before .before .before .before .before .advance2 .ensures .2 _ (c .before .before .before .before .before .before .before .before .before .before .before .before .before .before .before .before .before .before .before .before .before .loop .inv .0 .right)) _ (c .before .before .before .before .before .before .paired .ensures) (c .before .before .before .before .e .given .0 .0) (c .before .before .before .before .e .given .0 .1 .0) (c .before .before .before .before .e .given .0 .1 .1 .0) (c .before .before .before .before .e .given .0 .1 .1 .1 .0) (c .before .before .before .before .e .given .1) _ (c .before .before .by-event .ensures) _ (c .before .is-equal .ensures) (c .if6 .taken), c .before .before .before .before .before .before .before .before .before .before .before .before .before .before .before .before .before .before .advance .ensures .0 ∙ c .before .before .before .before .before .before .before .before .before .before .before .before .before .before .before .before .before .before .before .before .before .loop .inv .1, c .before .before .before .before .before .before .before .before .before .before .before .advance2 .ensures .0 ∙ c .before .before .before .before .before .before .before .before .before .before .before .before .before .before .before .before .before .before .before .before .before .loop .inv .2, c .before .before .before .before .before .before .before .before .before .before .before .before .before .before .before .before .before .before .advance .ensures .1 ∙ c .before .before .before .before .before .before .before .before .before .before .before .before .before .before .before .before .before .before .before .before .before .loop .inv .3, c .before .before .before .before .before .before .before .before .before .before .before .advance2 .ensures .1 ∙ c .before .before .before .before .before .before .before .before .before .before .before .before .before .before .before .before .before .before .before .before .before .loop .inv .4)
 
--- src/compare.rt:105:21
 same-length : tie.Need-same-length Inv-loop μ-loop
 same-length c = c .before .before .before .before .before .before .before .before .before .before .before .before .before .before .before .before .before .before .advance .ensures .0 ∙ c .before .before .before .before .before .before .before .before .before .before .before .before .before .before .before .before .before .before .before .before .before .loop .inv .1
 
--- src/compare.rt:105:21
 same-length-2 : tie.Need-same-length-2 Inv-loop μ-loop
 same-length-2 c = c .before .before .before .before .before .before .before .before .before .before .before .advance2 .ensures .0 ∙ c .before .before .before .before .before .before .before .before .before .before .before .before .before .before .before .before .before .before .before .before .before .loop .inv .2
 
--- src/compare.rt:105:21
 same-length-3 : tie.Need-same-length-3 Inv-loop μ-loop
 same-length-3 c = c .before .before .before .before .before .before .before .before .before .before .before .before .before .before .before .before .before .before .advance .ensures .1 ∙ c .before .before .before .before .before .before .before .before .before .before .before .before .before .before .before .before .before .before .before .before .before .loop .inv .3 ∙ c .before .before .before .before .before .before .before .before .before .before .before .before .before .before .before .before .before .before .before .before .before .before .before .before .before .before .before .before .before .before .clear .ensures .0
 
--- src/compare.rt:105:21
 same-length-4 : tie.Need-same-length-4 Inv-loop μ-loop
 same-length-4 c = c .before .before .before .before .before .before .before .before .before .before .before .advance2 .ensures .1 ∙ c .before .before .before .before .before .before .before .before .before .before .before .before .before .before .before .before .before .before .before .before .before .loop .inv .4 ∙ c .before .before .before .before .before .before .before .before .before .before .before .before .before .before .before .before .before .before .before .before .before .before .before .before .before .before .clear2 .ensures .0
 
--- src/compare.rt:105:21
 returns-6 : tie.Need-returns-6 Inv-loop μ-loop
 returns-6 c = λ _ _ _ _. law.pair-parts _ _ _ _ _ _ _ _ _ (c .before .before .before .before .before .before .before .before .before .before .before .before .before .before .before .before .before .before .before .before .before .loop .inv .0) _ _ _ _ _ _ (c .before .before .before .before .before .before .before .before .before .before .before .before .before .before .before .before .before .before .advance .ensures .2 _ (c .before .before .before .before .before .before .before .before .before .before .before .before .before .before .before .before .before .before .before .before .before .loop .inv .0 .left)) (c .before .before .before .before .before .before .before .before .before .before .before .advance2 .ensures .2 _ (c .before .before .before .before .before .before .before .before .before .before .before .before .before .before .before .before .before .before .before .before .before .loop .inv .0 .right)) _ (c .before .before .before .before .before .before .paired .ensures) (c .before .before .before .before .e .given .0 .0) (c .before .before .before .before .e .given .0 .1 .0) (c .before .before .before .before .e .given .0 .1 .1 .0) (c .before .before .before .before .e .given .0 .1 .1 .1 .0) (c .before .before .before .before .e .given .1) _ (c .before .before .by-event .ensures) _ (c .before .is-equal .ensures) (c .if6 .left)
 
--- src/compare.rt:108:24
 enum-known-v : tie.Need-enum-known-v Inv-loop μ-loop
 enum-known-v c = search needs
 
--- src/compare.rt:109:17
 same-length-5 : tie.Need-same-length-5 Inv-loop μ-loop
 same-length-5 c = c .before .before .before .before .before .before .before .before .before .before .before .before .before .before .before .advance .ensures .0 ∙ c .before .before .before .before .before .before .before .before .before .before .before .before .before .before .before .before .before .before .loop .inv .1
 
--- src/compare.rt:109:17
 same-length-6 : tie.Need-same-length-6 Inv-loop μ-loop
 same-length-6 c = c .before .before .before .before .before .before .before .before .advance2 .ensures .0 ∙ c .before .before .before .before .before .before .before .before .before .before .before .before .before .before .before .before .before .before .loop .inv .2
 
--- src/compare.rt:109:17
 same-length-7 : tie.Need-same-length-7 Inv-loop μ-loop
 same-length-7 c = c .before .before .before .before .before .before .before .before .before .before .before .before .before .before .before .advance .ensures .1 ∙ c .before .before .before .before .before .before .before .before .before .before .before .before .before .before .before .before .before .before .loop .inv .3 ∙ c .before .before .before .before .before .before .before .before .before .before .before .before .before .before .before .before .before .before .before .before .before .before .before .before .before .before .before .clear .ensures .0
 
--- src/compare.rt:109:17
 same-length-8 : tie.Need-same-length-8 Inv-loop μ-loop
 same-length-8 c = c .before .before .before .before .before .before .before .before .advance2 .ensures .1 ∙ c .before .before .before .before .before .before .before .before .before .before .before .before .before .before .before .before .before .before .loop .inv .4 ∙ c .before .before .before .before .before .before .before .before .before .before .before .before .before .before .before .before .before .before .before .before .before .before .before .clear2 .ensures .0
 
--- src/compare.rt:109:17
 returns-7 : tie.Need-returns-7 Inv-loop μ-loop
 returns-7 c = λ _ _ _ _. law.pair-over _ _ _ _ _ _ _ _ _ (c .before .before .before .before .before .before .before .before .before .before .before .before .before .before .before .before .before .before .loop .inv .0) _ _ _ _ _ _ (c .before .before .before .before .before .before .before .before .before .before .before .before .before .before .before .advance .ensures .2 _ (c .before .before .before .before .before .before .before .before .before .before .before .before .before .before .before .before .before .before .loop .inv .0 .left)) (c .before .before .before .before .before .before .before .before .advance2 .ensures .2 _ (c .before .before .before .before .before .before .before .before .before .before .before .before .before .before .before .before .before .before .loop .inv .0 .right)) _ (c .before .before .before .paired .ensures) _ (c .before .v .given .1)
 

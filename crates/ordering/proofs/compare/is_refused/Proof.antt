@@ -6,23 +6,18 @@ use Rattle.ordering.proofs.compare.is_refused.Reads as reads
 use Rattle.ordering.proofs.compare.is_refused.Lts as lts
 use Rattle.rewritten.proofs.read.is_rewritten.Reads as is-rewritten-reads
 
--- src/compare.rt:49:8
 is-rewritten-requires : tie.Need-is-rewritten-requires
 is-rewritten-requires c κs = search needs
 
--- src/compare.rt:50:12
 is-rewritten-requires-2 : tie.Need-is-rewritten-requires-2
 is-rewritten-requires-2 c κs = search needs
 
--- src/compare.rt:51:13
 returns : tie.Need-returns
 returns c = law.none-refused _ _ _ (c .before .before .before .is-rewritten .ensures) _ (c .before .is-rewritten2 .ensures) (c .before .before .if1 .taken) (c .if2 .taken)
 
--- src/compare.rt:46:1
 returns-2 : tie.Need-returns-2
 returns-2 c = law.second-refused _ _ _ (c .before .before .before .is-rewritten .ensures) _ (c .before .is-rewritten2 .ensures) (c .before .before .if1 .taken) (c .if2 .left)
 
--- src/compare.rt:46:1
 returns-3 : tie.Need-returns-3
 returns-3 c = law.first-refused _ _ _ (c .before .is-rewritten .ensures) (c .if1 .left)
 

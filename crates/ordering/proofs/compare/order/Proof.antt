@@ -6,27 +6,21 @@ use Rattle.ordering.proofs.compare.order.Reads as reads
 use Rattle.ordering.proofs.compare.order.Lts as lts
 use Rattle.ordering.proofs.compare.compare.Reads as compare-reads
 
--- src/compare.rt:117:9
 slice-aggregate-compare : tie.Need-slice-aggregate-compare
 slice-aggregate-compare c = search needs
 
--- src/compare.rt:118:9
 slice-aggregate-compare-2 : tie.Need-slice-aggregate-compare-2
 slice-aggregate-compare-2 c = search needs
 
--- src/compare.rt:119:9
 slice-aggregate-compare-3 : tie.Need-slice-aggregate-compare-3
 slice-aggregate-compare-3 c = search needs
 
--- src/compare.rt:120:9
 slice-aggregate-compare-4 : tie.Need-slice-aggregate-compare-4
 slice-aggregate-compare-4 c = search needs
 
--- src/compare.rt:114:5
 compare-requires : tie.Need-compare-requires
 compare-requires c κs = search needs
 
--- src/compare.rt:107:1
 returns : tie.Need-returns
 returns c = c .before .before .before .before .compare .ensures (le-of-eq (slice-aggregate-compare (c .before .before .before .before .before .before .before .before))) (le-of-eq (slice-aggregate-compare-2 (c .before .before .before .before .before .before .before))) (le-of-eq (slice-aggregate-compare-3 (c .before .before .before .before .before .before))) (le-of-eq (slice-aggregate-compare-4 (c .before .before .before .before .before)))
 

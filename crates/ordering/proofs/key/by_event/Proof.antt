@@ -9,43 +9,33 @@ use Rattle.ordering.proofs.text.by_text.Reads as by-text-reads
 use Rattle.ordering.proofs.verdict.by_value.Reads as by-value-reads
 use Rattle.ordering.proofs.verdict.or_else.Reads as or-else-reads
 
--- src/key.rt:42:9
 key-of-requires : tie.Need-key-of-requires
 key-of-requires c κs = search needs
 
--- src/key.rt:43:9
 key-of-requires-2 : tie.Need-key-of-requires-2
 key-of-requires-2 c κs = search needs
 
--- src/key.rt:44:9
 by-text-requires : tie.Need-by-text-requires
 by-text-requires c κs = search needs
 
--- src/key.rt:45:33
 by-value-requires : tie.Need-by-value-requires
 by-value-requires c κs = search needs
 
--- src/key.rt:45:9
 or-else-requires : tie.Need-or-else-requires
 or-else-requires c κs = search needs
 
--- src/key.rt:46:33
 by-value-requires-2 : tie.Need-by-value-requires-2
 by-value-requires-2 c κs = search needs
 
--- src/key.rt:46:9
 or-else-requires-2 : tie.Need-or-else-requires-2
 or-else-requires-2 c κs = search needs
 
--- src/key.rt:47:22
 by-value-requires-3 : tie.Need-by-value-requires-3
 by-value-requires-3 c κs = search needs
 
--- src/key.rt:47:5
 or-else-requires-3 : tie.Need-or-else-requires-3
 or-else-requires-3 c κs = search needs
 
--- src/key.rt:39:1
 returns : tie.Need-returns
 returns c = λ a b. law.event-by (c .before .before .before .before .before .before .before .before .before .before .before .args .first .now) (c .before .before .before .before .before .before .before .before .before .before .before .args .second .now) _ _ _ _ (c .before .before .before .before .before .before .before .before .key-of .ensures (c .before .before .before .before .before .before .before .before .before .before .before .args .first .now)) (c .before .before .before .before .before .before .before .key-of2 .ensures (c .before .before .before .before .before .before .before .before .before .before .before .args .second .now)) _ _ _ _ _ _ _ (c .before .before .before .before .before .before .by-text .ensures) (c .before .before .before .before .before .by-value .ensures) (c .before .before .before .before .or-else .ensures) (c .before .before .before .by-value2 .ensures) (c .before .before .or-else2 .ensures) (c .before .by-value3 .ensures) (c .or-else3 .ensures) a b
 

@@ -7,75 +7,57 @@ use Rattle.ordering.proofs.key.key_of.Tie as tie
 use Rattle.ordering.proofs.key.key_of.Reads as reads
 use Rattle.ordering.proofs.key.key_of.Lts as lts
 
--- src/key.rt:26:26
 enum-told : tie.Need-enum-told
 enum-told c = search needs
 
--- src/key.rt:27:24
 enum-told-2 : tie.Need-enum-told-2
 enum-told-2 c = search needs
 
--- src/key.rt:28:26
 enum-known-e : tie.Need-enum-known-e
 enum-known-e c = search needs
 
--- src/key.rt:29:28
 enum-told-3 : tie.Need-enum-told-3
 enum-told-3 c = search needs
 
--- src/key.rt:30:21
 enum-known-e-2 : tie.Need-enum-known-e-2
 enum-known-e-2 c = search needs
 
--- src/key.rt:31:21
 enum-known-e-3 : tie.Need-enum-known-e-3
 enum-known-e-3 c = search needs
 
--- src/key.rt:32:21
 enum-known-e-4 : tie.Need-enum-known-e-4
 enum-known-e-4 c = search needs
 
--- src/key.rt:33:23
 enum-known-e-5 : tie.Need-enum-known-e-5
 enum-known-e-5 c = search needs
 
--- src/key.rt:34:24
 enum-told-4 : tie.Need-enum-told-4
 enum-told-4 c = search needs
 
--- src/key.rt:22:1
 returns : tie.Need-returns
 returns c = λ tree. law.key-as _ _ _ _ (c .enum-told .given .1) (record { is = refl; within = λ h. omega arith })
 
--- src/key.rt:22:1
 returns-2 : tie.Need-returns-2
 returns-2 c = λ tree. law.key-as _ _ _ _ (c .enum-told2 .given .1) (record { is = refl; within = λ h. omega arith })
 
--- src/key.rt:22:1
 returns-3 : tie.Need-returns-3
 returns-3 c = λ tree. law.key-as _ _ _ _ (c .before .e .given .1) (record { is = refl; within = λ h. omega arith })
 
--- src/key.rt:22:1
 returns-4 : tie.Need-returns-4
 returns-4 c = λ tree. law.key-as _ _ _ _ (c .enum-told3 .given .1) (record { is = refl; within = λ h. omega arith })
 
--- src/key.rt:22:1
 returns-5 : tie.Need-returns-5
 returns-5 c = λ tree. law.key-as _ _ _ _ (c .before .e2 .given .1) (record { is = refl; within = λ h. h })
 
--- src/key.rt:22:1
 returns-6 : tie.Need-returns-6
 returns-6 c = λ tree. law.key-as _ _ _ _ (c .before .e3 .given .1) (record { is = refl; within = λ h. omega arith })
 
--- src/key.rt:22:1
 returns-7 : tie.Need-returns-7
 returns-7 c = λ tree. law.key-as _ _ _ _ (c .before .e4 .given .1) (record { is = refl; within = λ h. omega arith })
 
--- src/key.rt:22:1
 returns-8 : tie.Need-returns-8
 returns-8 c = λ tree. law.key-as _ _ _ _ (c .before .e5 .given .1) (record { is = refl; within = λ h. omega arith })
 
--- src/key.rt:22:1
 returns-9 : tie.Need-returns-9
 returns-9 c = λ tree. law.key-as _ _ _ _ (c .enum-told4 .given .1) (record { is = refl; within = λ h. omega arith })
 

@@ -9,71 +9,54 @@ use Rattle.ordering.proofs.place.place.Reads as reads
 use Rattle.ordering.proofs.place.place.Lts as lts
 use Rattle.ordering.proofs.place.place_at.Reads as place-at-reads
 
--- src/place.rt:34:9
 place-at-requires : tie.Need-place-at-requires
 place-at-requires c κs = search needs
 
--- src/place.rt:38:29
 add-table : tie.Need-add-table
 add-table c = search needs
 
--- src/place.rt:38:28
 cast-table : tie.Need-cast-table
 cast-table c = search needs
 
--- src/place.rt:38:17
 mul-table : tie.Need-mul-table
 mul-table c = search needs
 
--- src/place.rt:38:17
 slice-write-table : tie.Need-slice-write-table
 slice-write-table c = search needs
 
--- src/place.rt:40:28
 add-t11 : tie.Need-add-t11
 add-t11 c = search needs
 
--- src/place.rt:41:26
 add-t13 : tie.Need-add-t13
 add-t13 c = search needs
 
--- src/place.rt:39:17
 same-length : tie.Need-same-length
 same-length c = search needs
 
--- src/place.rt:39:17
 returns : tie.Need-returns
 returns c = (length-set (c .before .before .before .before .before .before .args .table .now) _ _, λ h. law.placed-new _ _ _ _ (c .before .before .before .place-at .ensures) (c .before .before .if1 .taken))
 
--- src/place.rt:45:24
 add-t9 : tie.Need-add-t9
 add-t9 c = search needs
 
--- src/place.rt:46:22
 add-t15 : tie.Need-add-t15
 add-t15 c = search needs
 
--- src/place.rt:44:13
 same-length-2 : tie.Need-same-length-2
 same-length-2 c = search needs
 
--- src/place.rt:44:13
 returns-2 : tie.Need-returns-2
 returns-2 c = (refl, λ h. law.placed-past _ _ _ _ (c .before .before .before .place-at .ensures) (c .before .before .if1 .taken) (c .if3 .left))
 
--- src/place.rt:49:9
 same-length-3 : tie.Need-same-length-3
 same-length-3 c = search needs
 
--- src/place.rt:49:9
 returns-3 : tie.Need-returns-3
 returns-3 c = (refl, λ h. absurd (omega (arith, h, c .if2 .left)))
 
--- src/place.rt:31:1
 same-length-4 : tie.Need-same-length-4
 same-length-4 c = search needs
 
--- src/place.rt:31:1
 returns-4 : tie.Need-returns-4
 returns-4 c = (refl, λ h. law.placed-old _ _ _ _ (c .before .place-at .ensures) (c .if1 .left))
 

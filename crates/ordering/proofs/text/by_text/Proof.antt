@@ -15,63 +15,48 @@ Inv-loop first at n second start m i₀ j₀ left₀ right₀ i j left right = l
 abbrev μ-loop : tie.MeasureT-loop
 μ-loop first at n second start m i₀ j₀ left₀ right₀ i j left right = left
 
--- src/text.rt:17:5
 loop-holds : tie.Need-loop-holds Inv-loop μ-loop
 loop-holds c = law.along-start _ _ _ _ _ _
 
--- src/text.rt:19:13
 returns : tie.Need-returns Inv-loop μ-loop
 returns c = law.along-short _ _ _ _ _ _ _ _ _ _ (c .before .before .loop .inv) (c .before .loop-test .taken) (c .if1 .taken)
 
--- src/text.rt:21:13
 peek-requires : tie.Need-peek-requires Inv-loop μ-loop
 peek-requires c κs = tt
 
--- src/text.rt:22:13
 peek-requires-2 : tie.Need-peek-requires-2 Inv-loop μ-loop
 peek-requires-2 c κs = tt
 
--- src/text.rt:24:13
 returns-2 : tie.Need-returns-2 Inv-loop μ-loop
 returns-2 c = law.along-less _ _ _ _ _ _ _ _ _ _ (c .before .before .before .before .before .loop .inv) (c .before .before .before .before .loop-test .taken) (c .before .before .before .if1 .left) _ _ (c .before .before .peek .ensures) (c .before .peek2 .ensures) (c .if2 .taken)
 
--- src/text.rt:27:13
 returns-3 : tie.Need-returns-3 Inv-loop μ-loop
 returns-3 c = law.along-greater _ _ _ _ _ _ _ _ _ _ (c .before .before .before .before .before .before .loop .inv) (c .before .before .before .before .before .loop-test .taken) (c .before .before .before .before .if1 .left) _ _ (c .before .before .before .peek .ensures) (c .before .before .peek2 .ensures) (c .if3 .taken)
 
--- src/text.rt:30:13
 returns-4 : tie.Need-returns-4 Inv-loop μ-loop
 returns-4 c = law.along-past _ _ _ _ _ _ _ _ _ _ (c .before .before .before .before .before .before .before .loop .inv) (c .before .before .before .before .before .before .loop-test .taken) (c .before .before .before .before .before .if1 .left) _ _ (c .before .before .before .before .peek .ensures) (c .before .before .before .peek2 .ensures) (c .if4 .taken)
 
--- src/text.rt:32:9
 add-i : tie.Need-add-i Inv-loop μ-loop
 add-i c = let h : c .before .before .before .before .before .before .before .loop .i < length (c .before .before .before .before .before .before .before .before .before .before .args .first .now) = c .before .before .before .before .peek .ensures .within (omega (arith, c .if4 .left)) in omega arith
 
--- src/text.rt:33:9
 add-j : tie.Need-add-j Inv-loop μ-loop
 add-j c = let h : c .before .before .before .before .before .before .before .loop .j < length (c .before .before .before .before .before .before .before .before .before .before .args .second .now) = c .before .before .before .peek2 .ensures .within (omega (arith, c .if4 .left, c .before .before .if2 .left)) in omega arith
 
--- src/text.rt:34:9
 sub-left : tie.Need-sub-left Inv-loop μ-loop
 sub-left c = c .before .before .before .before .before .before .loop-test .taken
 
--- src/text.rt:35:9
 sub-right : tie.Need-sub-right Inv-loop μ-loop
 sub-right c = omega (arith, c .before .before .before .before .before .if1 .left)
 
--- src/text.rt:17:5
 loop-less : tie.Need-loop-less Inv-loop μ-loop
 loop-less c = omega (arith, c .before .before .before .before .before .before .loop-test .taken)
 
--- src/text.rt:17:5
 loop-again : tie.Need-loop-again Inv-loop μ-loop
 loop-again c = law.along-next _ _ _ _ _ _ _ _ _ _ (c .before .before .before .before .before .before .before .loop .inv) (c .before .before .before .before .before .before .loop-test .taken) (c .before .before .before .before .before .if1 .left) _ _ (c .before .before .before .before .peek .ensures) (c .before .before .before .peek2 .ensures) (c .before .before .if2 .left) (c .before .if3 .left)
 
--- src/text.rt:10:1
 returns-5 : tie.Need-returns-5 Inv-loop μ-loop
 returns-5 c = law.along-end _ _ _ _ _ _ _ _ _ _ (c .before .before .loop .inv) (c .before .loop-test .left) (c .if5 .taken)
 
--- src/text.rt:10:1
 returns-6 : tie.Need-returns-6 Inv-loop μ-loop
 returns-6 c = law.along-longer _ _ _ _ _ _ _ _ _ _ (c .before .before .loop .inv) (c .before .loop-test .left) (c .if5 .left)
 

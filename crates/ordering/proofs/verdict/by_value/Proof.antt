@@ -4,15 +4,12 @@ use Rattle.ordering.proofs.verdict.by_value.Tie as tie
 use Rattle.ordering.proofs.verdict.by_value.Reads as reads
 use Rattle.ordering.proofs.verdict.by_value.Lts as lts
 
--- src/verdict.rt:15:9
 returns : tie.Need-returns
 returns c = law.value-less _ _ (c .if1 .taken)
 
--- src/verdict.rt:18:9
 returns-2 : tie.Need-returns-2
 returns-2 c = law.value-greater _ _ (c .if2 .taken)
 
--- src/verdict.rt:11:1
 returns-3 : tie.Need-returns-3
 returns-3 c = law.value-equal _ _ (c .if2 .left) (c .before .if1 .left)
 
