@@ -1,0 +1,11 @@
+pub mod Noted
+pub mod Fold
+pub mod Tables
+pub mod Bits
+pub mod Around
+pub mod Written
+pub mod Named
+pub mod Held
+pub mod Laws
+pub mod Apart
+pub mod Children

@@ -1,0 +1,58 @@
+use mathlib.Core.Path.{sym, ap}
+use Rattle.printer.specs.Layout.{layout}
+use Rattle.printer.specs.Rows.{packed, mannersOf}
+use Rattle.printer.proofs.Tables.{no-manners}
+use Rattle.printer.proofs.layout.manners.Statement.{statement}
+use Rattle.printer.proofs.layout.manners.Tie as tie
+
+-- each number is what the layout works out to
+pub manners-spec : {M : Type 1} → statement M
+unfolding packed mannersOf layout
+manners-spec =
+    tie.close
+    (tie.spec
+    (λ c. ap mannersOf (sym (c .match .keys1)))
+    (λ c. ap mannersOf (sym (c .match .keys2)))
+    (λ c. ap mannersOf (sym (c .match .keys3)))
+    (λ c. ap mannersOf (sym (c .match .keys4)))
+    (λ c. ap mannersOf (sym (c .match .keys5)))
+    (λ c. ap mannersOf (sym (c .match .keys6)))
+    (λ c. ap mannersOf (sym (c .match .keys7)))
+    (λ c. ap mannersOf (sym (c .match .keys8)))
+    (λ c. ap mannersOf (sym (c .match .keys9)))
+    (λ c. ap mannersOf (sym (c .match .keys10)))
+    (λ c. ap mannersOf (sym (c .match .keys11)))
+    (λ c. ap mannersOf (sym (c .match .keys12)))
+    (λ c. ap mannersOf (sym (c .match .keys13)))
+    (λ c. ap mannersOf (sym (c .match .keys14)))
+    (λ c. ap mannersOf (sym (c .match .keys15)))
+    (λ c. ap mannersOf (sym (c .match .keys16)))
+    (λ c. ap mannersOf (sym (c .match .keys17)))
+    (λ c. ap mannersOf (sym (c .match .keys18)))
+    (λ c. ap mannersOf (sym (c .match .keys19)))
+    (λ c. ap mannersOf (sym (c .match .keys20)))
+    (λ c. ap mannersOf (sym (c .match .keys21)))
+    (λ c. ap mannersOf (sym (c .match .keys22)))
+    (λ c. ap mannersOf (sym (c .match .keys23)))
+    (λ c. ap mannersOf (sym (c .match .keys24)))
+    (λ c. ap mannersOf (sym (c .match .keys25)))
+    (λ c. ap mannersOf (sym (c .match .keys26)))
+    (λ c. ap mannersOf (sym (c .match .keys27)))
+    (λ c. ap mannersOf (sym (c .match .keys28)))
+    (λ c. ap mannersOf (sym (c .match .keys29)))
+    (λ c. ap mannersOf (sym (c .match .keys30)))
+    (λ c. ap mannersOf (sym (c .match .keys31)))
+    (λ c. ap mannersOf (sym (c .match .keys32)))
+    (λ c. ap mannersOf (sym (c .match .keys33)))
+    (λ c. ap mannersOf (sym (c .match .keys34)))
+    (λ c. ap mannersOf (sym (c .match .keys35)))
+    (λ c. ap mannersOf (sym (c .match .keys36)))
+    (λ c. ap mannersOf (sym (c .match .keys37)))
+    (λ c. ap mannersOf (sym (c .match .keys38)))
+    (λ c. ap mannersOf (sym (c .match .keys39)))
+    (λ c. ap mannersOf (sym (c .match .keys40)))
+    (λ c. ap mannersOf (sym (c .match .keys41)))
+    (λ c. ap mannersOf (sym (c .match .keys42)))
+    (λ c. ap mannersOf (sym (c .match .keys43)))
+    (λ c. ap mannersOf (sym (c .match .keys44)))
+    (λ c. no-manners _ (c .match .rest)))

@@ -1,0 +1,10 @@
+pub mod Layout
+pub mod Names
+pub mod Places
+pub mod Text
+pub mod Machine
+pub mod Rows
+pub mod Stacks
+pub mod Turns
+pub mod Children
+pub mod Examples

@@ -1,0 +1,158 @@
+// The text as it is written: what fits in the lent slice.
+use crate::words;
+ghost use mathlib.Core.Path.{_≡_};
+ghost use mathlib.Core.List.{_∷_, []};
+ghost use Prim.Native.Nat.{_≤_, _<_};
+ghost use lib.ListN.{take, drop};
+ghost use Rattle.printer.specs.Layout.{word};
+ghost use Rattle.printer.specs.Names.{hexDigit, needsEscape, escapedByte, escaped, inQuotes, decimal};
+ghost use Rattle.printer.specs.Stacks.{put, write, bufferIn, bytesIn, EndIs};
+
+// How many bytes are written, and whether there are more than fit.
+pub struct Spot {
+    pub len: usize,
+    pub over: bool,
+}
+
+fn wide(b: u8) -> usize
+    ensures { λ r. ⌜ r ≡ b ⌝ }
+{
+    b as usize
+}
+
+pub fn put(out: &mut [u8], spot: Spot, b: u8) -> Spot
+    ensures { λ r. ⌜ bufferIn (now (out .exit)) r ≡ put (bufferIn (now (out .entry)) spot) b ⌝ }
+{
+    let len = spot.len;
+    let over = spot.over;
+    if over {
+        return spot;
+    }
+    if len < out.len() {
+        out[len] = b;
+        return Spot {
+            len: len + 1,
+            over: false,
+        };
+    }
+    Spot {
+        len: len,
+        over: true,
+    }
+}
+
+// The bytes of a number, the lowest first.
+fn put_digits(out: &mut [u8], spot: Spot, digits: usize) -> Spot
+    ensures { λ r. ⌜ bufferIn (now (out .exit)) r ≡ write (bufferIn (now (out .entry)) spot) (bytesIn digits) ⌝ }
+{
+    let mut s = spot;
+    let mut w = digits;
+    while 0 < w {
+        s = put(out, s, (w % 256) as u8);
+        w = w / 256;
+    }
+    s
+}
+
+// A word by its number.
+pub fn say(out: &mut [u8], spot: Spot, id: usize) -> Spot
+    ensures { λ r. ⌜ bufferIn (now (out .exit)) r ≡ write (bufferIn (now (out .entry)) spot) (word id) ⌝ }
+{
+    let a = put_digits(out, spot, words::low(id));
+    let b = put_digits(out, a, words::middle(id));
+    put_digits(out, b, words::high(id))
+}
+
+// Where n bytes from a position on end, or the tree does.
+pub fn end_of(tree: &[u8], at: usize, n: usize) -> usize
+    ensures { λ r. ⌜ EndIs (now (tree .entry)) at n r ⌝ }
+{
+    if tree.len() <= at {
+        return at;
+    }
+    if n < tree.len() - at {
+        return at + n;
+    }
+    tree.len()
+}
+
+// Bytes of the tree as they are.
+pub fn copy(tree: &[u8], at: usize, n: usize, out: &mut [u8], spot: Spot) -> Spot
+    ensures { λ r. ⌜ bufferIn (now (out .exit)) r ≡ write (bufferIn (now (out .entry)) spot) (take n (drop at (now (tree .entry)))) ⌝ }
+{
+    let end = end_of(tree, at, n);
+    let mut s = spot;
+    let mut i = at;
+    while i < end {
+        s = put(out, s, tree[i]);
+        i += 1;
+    }
+    s
+}
+
+fn hex_digit(d: usize) -> u8
+    ensures { λ r. ⌜ (d < 16 → r ≡ hexDigit d) ⌝ }
+{
+    if d < 10 {
+        return (48 + d) as u8;
+    }
+    (87 + d % 16) as u8
+}
+
+fn needs_escape(b: u8) -> bool
+    ensures { λ r. ⌜ r ≡ needsEscape b ⌝ }
+{
+    if b < 32 {
+        return true;
+    }
+    if b == 34 {
+        return true;
+    }
+    b == 92
+}
+
+fn put_escaped(out: &mut [u8], spot: Spot, b: u8) -> Spot
+    ensures { λ r. ⌜ bufferIn (now (out .exit)) r ≡ write (bufferIn (now (out .entry)) spot) (escapedByte b) ⌝ }
+{
+    if needs_escape(b) {
+        let high = hex_digit(wide(b) / 16);
+        let low = hex_digit(wide(b) % 16);
+        let p = put(out, spot, 92);
+        let q = put(out, p, 120);
+        let r = put(out, q, high);
+        return put(out, r, low);
+    }
+    put(out, spot, b)
+}
+
+fn copy_escaped(tree: &[u8], at: usize, n: usize, out: &mut [u8], spot: Spot) -> Spot
+    ensures { λ r. ⌜ bufferIn (now (out .exit)) r ≡ write (bufferIn (now (out .entry)) spot) (escaped (take n (drop at (now (tree .entry))))) ⌝ }
+{
+    let end = end_of(tree, at, n);
+    let mut s = spot;
+    let mut i = at;
+    while i < end {
+        s = put_escaped(out, s, tree[i]);
+        i += 1;
+    }
+    s
+}
+
+// Bytes of the tree in double quotes.
+pub fn quote(tree: &[u8], at: usize, n: usize, out: &mut [u8], spot: Spot) -> Spot
+    ensures { λ r. ⌜ bufferIn (now (out .exit)) r ≡ write (bufferIn (now (out .entry)) spot) (inQuotes (take n (drop at (now (tree .entry))))) ⌝ }
+{
+    let a = put(out, spot, 34);
+    let b = copy_escaped(tree, at, n, out, a);
+    put(out, b, 34)
+}
+
+pub fn decimal(out: &mut [u8], spot: Spot, n: usize) -> Spot
+    ensures { λ r. ⌜ bufferIn (now (out .exit)) r ≡ write (bufferIn (now (out .entry)) spot) (decimal n) ⌝ }
+{
+    if n < 10 {
+        return put(out, spot, (48 + n) as u8);
+    }
+    let s = decimal(out, spot, n / 10);
+    put(out, s, (48 + n % 10) as u8)
+}

@@ -1,0 +1,262 @@
+// Where a node stands in its parent, and which words it prints by that.
+use crate::frame;
+use crate::frame::Frame;
+use crate::layout;
+ghost use mathlib.Core.Path.{_≡_};
+ghost use mathlib.Core.Bool.{cond};
+ghost use Prim.Native.Nat.{_≤_};
+ghost use lib.Dec.{eqb};
+ghost use Rattle.printer.specs.Layout.{chosenWord, headOf, tailOf, closeOf, leadOf};
+ghost use Rattle.printer.specs.Places.{fieldIn, mannerIn, isStatement, isWrapped, inMethodForm, wrapping, separator, leading, joining, following, notedAt, begun, computed, around, isQuasis, isFilled, leaves, trailing};
+
+// The manner of the next field.
+pub fn manner_in(f: Frame) -> usize
+    ensures { λ r. ⌜ r ≡ mannerIn f ⌝ }
+{
+    layout::manner(f.kind, frame::lowest(f.rem))
+}
+
+pub fn is_statement(kind: usize, note: usize) -> bool
+    ensures { λ r. ⌜ r ≡ isStatement kind note ⌝ }
+{
+    if 63 < kind {
+        return false;
+    }
+    if kind == 14 {
+        return note == 1;
+    }
+    let mask: usize = 0x80000003bdc;
+    (mask >> kind) % 2 == 1
+}
+
+// An expression that is not a name or literal.
+pub fn is_wrapped(kind: usize, note: usize) -> bool
+    ensures { λ r. ⌜ r ≡ isWrapped kind note ⌝ }
+{
+    if 63 < kind {
+        return false;
+    }
+    if kind == 14 {
+        return note == 2;
+    }
+    let mask: usize = 0x103f9820000;
+    (mask >> kind) % 2 == 1
+}
+
+// 1 in method form, else 0.
+pub fn method(p: Frame, kind: usize, map: usize) -> usize
+    ensures { λ r. ⌜ r ≡ inMethodForm p kind map ⌝ }
+{
+    if manner_in(p) == 12 {
+        if kind == 14 {
+            if map / 4 % 2 == 0 {
+                if 3 < p.note {
+                    return 1;
+                }
+            }
+        }
+    }
+    0
+}
+
+// 1 in parentheses, else 0.
+pub fn wrapping(p: Frame, kind: usize, map: usize, note: usize) -> usize
+    ensures { λ r. ⌜ (r ≡ wrapping p kind map note) × (r ≤ 1) ⌝ }
+{
+    if method(p, kind, map) == 0 {
+        if is_wrapped(kind, note) {
+            return 1;
+        }
+    }
+    0
+}
+
+pub fn parenthesis(wrapped: usize) -> usize
+    ensures { λ r. ⌜ r ≡ cond (eqb wrapped 1) 64 0 ⌝ }
+{
+    if wrapped == 1 { 64 } else { 0 }
+}
+
+// What parts an item from the one before.
+pub fn separator(p: Frame) -> usize
+    ensures { λ r. ⌜ r ≡ separator p ⌝ }
+{
+    let m = manner_in(p);
+    if 0 < p.seen {
+        if m == 7 {
+            return 70;
+        }
+        if m == 11 {
+            return 70;
+        }
+    }
+    0
+}
+
+// What leads the next field.
+pub fn lead_word(f: Frame, method: usize) -> usize
+    ensures { λ r. ⌜ r ≡ chosenWord (leadOf (f .kind) (fieldIn f)) (f .note) (f .map) (f .seen) method ⌝ }
+{
+    layout::choose(
+        layout::lead(f.kind, frame::lowest(f.rem)),
+        f.note,
+        f.map,
+        f.seen,
+        method,
+    )
+}
+
+pub fn leading(p: Frame, kind: usize, map: usize) -> usize
+    ensures { λ r. ⌜ r ≡ leading p kind map ⌝ }
+{
+    if p.list == 1 {
+        return separator(p);
+    }
+    lead_word(p, method(p, kind, map))
+}
+
+pub fn joining(p: Frame, kind: usize, note: usize) -> usize
+    ensures { λ r. ⌜ r ≡ joining p kind note ⌝ }
+{
+    let statement = is_statement(kind, note);
+    match manner_in(p) {
+        6 => 74,
+        7 => { if statement { 52 } else { 0 } }
+        8 => { if kind == 2 { 71 } else { 52 } }
+        _ => 0,
+    }
+}
+
+// What stands behind a child, but for the parenthesis.
+fn trail(p: Frame, statement: bool) -> usize
+    ensures { λ r. ⌜ (r ≡ trailing p statement) × (r ≤ 62) ⌝ }
+{
+    match manner_in(p) {
+        1 => 52,
+        2 => 54,
+        3 => 56,
+        4 => 58,
+        5 => { if p.note % 2 == 0 { 50 } else { 60 } }
+        6 => 62,
+        7 => { if statement { 52 } else { 50 } }
+        _ => 50,
+    }
+}
+
+pub fn following(p: Frame, kind: usize, map: usize, note: usize) -> usize
+    ensures { λ r. ⌜ (r ≡ following p kind map note) × (r ≤ 63) ⌝ }
+{
+    wrapping(p, kind, map, note) + trail(p, is_statement(kind, note))
+}
+
+pub fn noted_at(p: Frame) -> usize
+    ensures { λ r. ⌜ (r ≡ notedAt p) × (r ≤ 2) ⌝ }
+{
+    let m = manner_in(p);
+    if m == 9 {
+        return 1;
+    }
+    if m == 10 {
+        return 2;
+    }
+    0
+}
+
+pub fn begun(p: Frame, kind: usize, map: usize, note: usize) -> Frame
+    ensures { λ r. ⌜ (r ≡ begun p kind map note) × (r .how ≤ 63) × (r .seen ≤ 2) ⌝ }
+{
+    let how = following(p, kind, map, note);
+    let seen = noted_at(p);
+    Frame {
+        kind: kind,
+        map: map,
+        note: note,
+        how: how,
+        seen: seen,
+        rem: map,
+        list: 0,
+    }
+}
+
+pub fn head_word(p: Frame, kind: usize, map: usize, note: usize) -> usize
+    ensures { λ r. ⌜ r ≡ chosenWord (headOf kind) note map (notedAt p) (inMethodForm p kind map) ⌝ }
+{
+    layout::choose(
+        layout::head(kind),
+        note,
+        map,
+        noted_at(p),
+        method(p, kind, map),
+    )
+}
+
+// `[` before a computed key.
+pub fn computed(kind: usize, note: usize) -> usize
+    ensures { λ r. ⌜ r ≡ computed kind note ⌝ }
+{
+    if note % 2 == 1 {
+        if kind == 25 {
+            return 67;
+        }
+        if kind == 35 {
+            return 67;
+        }
+        if kind == 41 {
+            return 67;
+        }
+    }
+    0
+}
+
+pub fn tail_word(f: Frame) -> usize
+    ensures { λ r. ⌜ r ≡ chosenWord (tailOf (f .kind)) (f .note) (f .map) (f .seen) 0 ⌝ }
+{
+    layout::choose(layout::tail(f.kind), f.note, f.map, f.seen, 0)
+}
+
+pub fn close_word(f: Frame) -> usize
+    ensures { λ r. ⌜ r ≡ chosenWord (closeOf (f .kind)) (f .note) (f .map) (f .seen) 0 ⌝ }
+{
+    layout::choose(layout::close(f.kind), f.note, f.map, f.seen, 0)
+}
+
+// The parent after a child.
+pub fn around(p: Frame, kind: usize, map: usize) -> Frame
+    ensures { λ r. ⌜ r ≡ around p kind map ⌝ }
+{
+    if p.list == 1 {
+        return frame::item_seen(p, 1);
+    }
+    if method(p, kind, map) == 1 {
+        return frame::noting(p, 1);
+    }
+    frame::noting(p, p.seen)
+}
+
+pub fn is_quasis(l: Frame) -> bool
+    ensures { λ r. ⌜ r ≡ isQuasis l ⌝ }
+{
+    manner_in(l) == 10
+}
+
+pub fn is_filled(l: Frame) -> bool
+    ensures { λ r. ⌜ r ≡ isFilled l ⌝ }
+{
+    if manner_in(l) == 6 {
+        return l.list == 1;
+    }
+    false
+}
+
+pub fn leaves(l: Frame) -> bool
+    ensures { λ r. ⌜ r ≡ leaves l ⌝ }
+{
+    let m = manner_in(l);
+    if m == 6 {
+        return true;
+    }
+    if m == 10 {
+        return l.map / 2 % 2 == 0;
+    }
+    false
+}
