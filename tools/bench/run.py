@@ -55,7 +55,7 @@ def measured(bench, other, reference, tree, rounds, seconds):
         if reference is None:
             continue
         with open(tree, "rb") as given:
-            command = [reference, "--template-key=node", "--limit=128", f"--bench={seconds}"]
+            command = [reference, "--template-key=node", "--limit=128", "--classes", "--stems", f"--bench={seconds}"]
             words = run(command, stdin=given, stdout=subprocess.PIPE).stdout.decode().split()
         if int(words[0]) != facts[1]:
             sys.exit(f"{tree}: the answer is {facts[1]}, the reference's {words[0]}")

@@ -179,6 +179,39 @@ def ordinary(length, lowered=True):
         made.append(more)
 
 
+def channel(i):
+    """A class that holds a channel: a slip handler as a method, a static block, and a switch in another method."""
+    name = f"Channel{i}"
+
+    def method(key, params, *statements):
+        value = node(14, [MARK], byte(2), None, listed([node(15, p) for p in params]), None, node(16, None, listed(statements)))
+        return node(41, static(key), value, byte(4))
+
+    taking = pattern([taken("deadline", binding("deadline"), 2)], binding("state"))
+    again = literal(prop("deadline", other("+", ref("now"), number(200))), spread(ref("state")))
+    members = [
+        method("onSlip", [binding("now"), taking], returned(again)),
+        node(42, listed([statement(call(member(ref("bench"), "register"), ref(name)))])),
+        method(
+            "gain",
+            [binding("mode")],
+            node(43, [MARK], ref("mode"), listed([node(44, number(n), listed([returned(number(10 * n))])) for n in (1, 2)] + [node(44, None, listed([returned(number(0))]))])),
+        ),
+    ]
+    return node(12, [MARK], text("class"), listed([node(40, text(name), None, listed(members))]))
+
+
+def classes(length):
+    """Such classes and plain functions by turns, up to that length."""
+    made, i = [], 0
+    while True:
+        i += 1
+        more = channel(i) if i % 2 == 1 else plain(i)
+        if len(program(made + [more])) > length:
+            return program(made)
+        made.append(more)
+
+
 # ---- hostile
 
 
@@ -299,6 +332,7 @@ TREES = {
     "ordinary-2k": lambda: ordinary(2048),
     "ordinary-4k": lambda: ordinary(4096),
     "plain-4k": lambda: ordinary(4096, False),
+    "classes-4k": lambda: classes(4096),
     "ordinary-16k": lambda: ordinary(LONGEST),
     "plain-16k": lambda: ordinary(LONGEST, False),
     **{f"spreads-{n}": lambda n=n: spreads(n) for n in (337, 675, 1350, 2700)},

@@ -9,27 +9,21 @@ use Rattle.rewritten.proofs.leaf.byte.Reads as reads
 use Rattle.rewritten.proofs.leaf.byte.Lts as lts
 use Rattle.tree.proofs.bytes.peek.Reads as peek-reads
 
--- src/leaf.rt:26:9
 peek-requires : tie.Need-peek-requires
 peek-requires c κs = search needs
 
--- src/leaf.rt:30:53
 add-t10 : tie.Need-add-t10
 add-t10 c = let h : c .before .before .before .before .before .args .at < length (c .before .before .before .before .before .args .tree .now) = c .before .before .before .peek .ensures .within (c .before .before .if1 .taken) in omega arith
 
--- src/leaf.rt:30:17
 returns : tie.Need-returns
 returns c = law.byte-found _ _ _ _ _ (c .before .before .before .peek .ensures) (c .before .before .if1 .taken) (c .before .if2 .taken) (c .if3 .taken)
 
--- src/leaf.rt:23:1
 returns-2 : tie.Need-returns-2
 returns-2 c = law.byte-high _ _ _ _ _ (c .before .before .before .peek .ensures) (c .before .before .if1 .taken) (c .before .if2 .taken) (c .if3 .left)
 
--- src/leaf.rt:23:1
 returns-3 : tie.Need-returns-3
 returns-3 c = law.byte-low _ _ _ _ _ (c .before .before .peek .ensures) (c .before .if1 .taken) (c .if2 .left)
 
--- src/leaf.rt:23:1
 returns-4 : tie.Need-returns-4
 returns-4 c = law.byte-missing _ _ _ _ _ (c .before .peek .ensures) (c .if1 .left)
 

@@ -9,19 +9,15 @@ use Rattle.rewritten.proofs.leaf.mark.Reads as reads
 use Rattle.rewritten.proofs.leaf.mark.Lts as lts
 use Rattle.tree.proofs.bytes.wide_at.Reads as wide-at-reads
 
--- src/leaf.rt:40:9
 wide-at-requires : tie.Need-wide-at-requires
 wide-at-requires c κs = search needs
 
--- src/leaf.rt:42:46
 add-t6 : tie.Need-add-t6
 add-t6 c = let h : c .before .before .before .args .at + 1 < length (c .before .before .before .args .tree .now) = c .before .wide-at .ensures .within (omega arith) in omega arith
 
--- src/leaf.rt:42:9
 returns : tie.Need-returns
 returns c = law.mark-found _ _ _ (c .before .wide-at .ensures) (c .if1 .taken)
 
--- src/leaf.rt:37:1
 returns-2 : tie.Need-returns-2
 returns-2 c = law.mark-missing _ _ _ (c .before .wide-at .ensures) (c .if1 .left)
 

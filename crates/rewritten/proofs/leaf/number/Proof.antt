@@ -9,19 +9,15 @@ use Rattle.rewritten.proofs.leaf.number.Reads as reads
 use Rattle.rewritten.proofs.leaf.number.Lts as lts
 use Rattle.tree.proofs.bytes.wide_at.Reads as wide-at-reads
 
--- src/leaf.rt:50:9
 wide-at-requires : tie.Need-wide-at-requires
 wide-at-requires c κs = search needs
 
--- src/leaf.rt:52:46
 add-t6 : tie.Need-add-t6
 add-t6 c = let h : c .before .before .before .args .at + 1 < length (c .before .before .before .args .tree .now) = c .before .wide-at .ensures .within (omega arith) in omega arith
 
--- src/leaf.rt:52:9
 returns : tie.Need-returns
 returns c = law.number-found _ _ _ (c .before .wide-at .ensures) (c .if1 .taken)
 
--- src/leaf.rt:47:1
 returns-2 : tie.Need-returns-2
 returns-2 c = law.number-missing _ _ _ (c .before .wide-at .ensures) (c .if1 .left)
 

@@ -9,31 +9,24 @@ use Rattle.rewritten.proofs.leaf.text.Reads as reads
 use Rattle.rewritten.proofs.leaf.text.Lts as lts
 use Rattle.tree.proofs.bytes.wide_at.Reads as wide-at-reads
 
--- src/leaf.rt:11:9
 wide-at-requires : tie.Need-wide-at-requires
 wide-at-requires c κs = search needs
 
--- src/leaf.rt:13:9
 returns : tie.Need-returns
 returns c = law.text-missing _ _ _ (c .before .wide-at .ensures) (c .if1 .taken)
 
--- src/leaf.rt:15:17
 add-start : tie.Need-add-start
 add-start c = let h : c .before .before .before .args .at + 1 < length (c .before .before .before .args .tree .now) = c .before .wide-at .ensures .within (omega arith) in omega arith
 
--- src/leaf.rt:16:13
 sub-if2 : tie.Need-sub-if2
 sub-if2 c = let h : c .before .before .before .args .at + 1 < length (c .before .before .before .args .tree .now) = c .before .wide-at .ensures .within (omega arith) in omega arith
 
--- src/leaf.rt:17:46
 add-t10 : tie.Need-add-t10
 add-t10 c = let h : c .before .before .before .before .args .at + 1 < length (c .before .before .before .before .args .tree .now) = c .before .before .wide-at .ensures .within (omega arith) in omega arith
 
--- src/leaf.rt:8:1
 returns-2 : tie.Need-returns-2
 returns-2 c = law.text-found _ _ _ (c .before .before .wide-at .ensures) (c .before .if1 .left) (c .if2 .taken)
 
--- src/leaf.rt:8:1
 returns-3 : tie.Need-returns-3
 returns-3 c = law.text-short _ _ _ (c .before .before .wide-at .ensures) (c .before .if1 .left) (c .if2 .left)
 

@@ -6,19 +6,15 @@ use Rattle.rewritten.proofs.next.after.Tie as tie
 use Rattle.rewritten.proofs.next.after.Reads as reads
 use Rattle.rewritten.proofs.next.after.Lts as lts
 
--- src/next.rt:32:21
 enum-known-leaf : tie.Need-enum-known-leaf
 enum-known-leaf c = search needs
 
--- src/next.rt:40:26
 enum-told : tie.Need-enum-told
 enum-told c = search needs
 
--- src/next.rt:28:1
 returns : tie.Need-returns
 returns c = sym (ap (λ x. stepAfter x (c .before .before .before .args .deep) (c .before .before .before .args .rest)) (c .before .leaf .given .1))
 
--- src/next.rt:28:1
 returns-2 : tie.Need-returns-2
 returns-2 c = search needs
 

@@ -9,27 +9,21 @@ use Rattle.rewritten.proofs.next.close.Reads as reads
 use Rattle.rewritten.proofs.next.close.Lts as lts
 use Rattle.rewritten.proofs.next.frame_at.Reads as frame-at-reads
 
--- src/next.rt:49:9
 returns : tie.Need-returns
 returns c = search needs
 
--- src/next.rt:51:32
 sub-frame-at : tie.Need-sub-frame-at
 sub-frame-at c = search needs
 
--- src/next.rt:51:9
 frame-at-requires : tie.Need-frame-at-requires
 frame-at-requires c κs = search needs
 
--- src/next.rt:54:15
 sub-t8 : tie.Need-sub-t8
 sub-t8 c = search needs
 
--- src/next.rt:45:1
 returns-2 : tie.Need-returns-2
 returns-2 c = close-some (c .before .before .before .before .args .frames .now) (c .before .before .before .before .args .frames .now) _ _ _ true (c .before .before .if1 .left) (c .before .frame-at .ensures) ∙ ap (λ x. stepClosed (c .before .before .before .before .args .frames .now) (c .before .before .before .before .args .at) (c .before .before .before .before .args .deep) x) (sym (c .if2 .taken))
 
--- src/next.rt:45:1
 returns-3 : tie.Need-returns-3
 returns-3 c = close-some (c .before .before .before .before .args .frames .now) (c .before .before .before .before .args .frames .now) _ _ _ false (c .before .before .if1 .left) (c .before .frame-at .ensures) ∙ ap (λ x. stepClosed (c .before .before .before .before .args .frames .now) (c .before .before .before .before .args .at) (c .before .before .before .before .args .deep) x) (sym (c .if2 .left))
 

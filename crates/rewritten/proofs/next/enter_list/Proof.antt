@@ -13,55 +13,42 @@ use Rattle.rewritten.proofs.next.enter_list.Reads as reads
 use Rattle.rewritten.proofs.next.enter_list.Lts as lts
 use Rattle.tree.proofs.bytes.wide_at.Reads as wide-at-reads
 
--- src/next.rt:98:9
 wide-at-requires : tie.Need-wide-at-requires
 wide-at-requires c κs = search needs
 
--- src/next.rt:100:9
 returns : tie.Need-returns
 returns c = (refl, law.enter-list-missing _ _ (c .before .before .before .before .args .place) (c .before .before .before .before .args .holes) _ _ (c .before .before .before .before .args .rest) _ (c .before .wide-at .ensures) (c .if1 .taken))
 
--- src/next.rt:103:9
 mul-frames : tie.Need-mul-frames
 mul-frames c = search needs
 
--- src/next.rt:103:9
 slice-write-frames : tie.Need-slice-write-frames
 slice-write-frames c = search needs
 
--- src/next.rt:108:21
 add-t12 : tie.Need-add-t12
 add-t12 c = let h : c .before .before .before .before .before .before .args .at + 1 < length (c .before .before .before .before .before .before .args .tree .now) = c .before .before .before .wide-at .ensures .within (omega arith) in omega arith
 
--- src/next.rt:109:23
 add-t17 : tie.Need-add-t17
 add-t17 c = search needs
 
--- src/next.rt:110:22
 mul-t18 : tie.Need-mul-t18
 mul-t18 c = search needs
 
--- src/next.rt:110:32
 mul-t20 : tie.Need-mul-t20
 mul-t20 c = search needs
 
--- src/next.rt:110:22
 add-t21 : tie.Need-add-t21
 add-t21 c = search needs
 
--- src/next.rt:110:22
 add-t22 : tie.Need-add-t22
 add-t22 c = ⊎-elim (λ w. omega arith) (λ w. omega arith) (c .before .if3 .came)
 
--- src/next.rt:105:9
 same-length : tie.Need-same-length
 same-length c = search needs
 
--- src/next.rt:105:9
 returns-2 : tie.Need-returns-2
 returns-2 c = (length-set (c .before .before .before .before .before .before .before .args .frames .now) _ _, law.enter-list _ _ (c .before .before .before .before .before .before .before .args .place) (c .before .before .before .before .before .before .before .args .holes) _ _ (c .before .before .before .before .before .before .before .args .rest) _ (c .before .before .before .before .wide-at .ensures) (c .before .before .before .if1 .left) (c .before .before .if2 .taken) (c .before .if3 .low) (⊎-elim (λ w. w .1 ∙ ap (λ (b : Bool). cond b 3 1) (sym (w .0 .taken))) (λ w. w .1 ∙ ap (λ (b : Bool). cond b 3 1) (sym (w .0 .left))) (c .before .if3 .came)))
 
--- src/next.rt:95:1
 returns-3 : tie.Need-returns-3
 returns-3 c = (refl, law.full _ _ _ _ _ (c .if2 .left) (c .before .before .wide-at .ensures .within (omega arith)))
 

@@ -6,19 +6,15 @@ use Rattle.rewritten.proofs.next.frame_at.Tie as tie
 use Rattle.rewritten.proofs.next.frame_at.Reads as reads
 use Rattle.rewritten.proofs.next.frame_at.Lts as lts
 
--- src/next.rt:21:9
 mul-result : tie.Need-mul-result
 mul-result c = search needs
 
--- src/next.rt:21:9
 shared-slice-read-result : tie.Need-shared-slice-read-result
 shared-slice-read-result c = search needs
 
--- src/next.rt:17:1
 returns : tie.Need-returns
 returns c = search needs
 
--- src/next.rt:17:1
 returns-2 : tie.Need-returns-2
 returns-2 c = sym (List·getD-eq-default (c .before .args .frames .now) 0 (c .if1 .left))
 

@@ -13,47 +13,36 @@ use Rattle.rewritten.proofs.next.close.Reads as close-reads
 use Rattle.rewritten.proofs.next.enter.Reads as enter-reads
 use Rattle.tree.proofs.bytes.peek.Reads as peek-reads
 
--- src/next.rt:155:9
 close-requires : tie.Need-close-requires
 close-requires c κs = search needs
 
--- src/next.rt:155:9
 same-length : tie.Need-same-length
 same-length c = search needs
 
--- src/next.rt:155:9
 returns : tie.Need-returns
 returns c = (refl, law.closed-list _ _ _ _ _ _ (c .before .before .if1 .taken) (c .close .ensures))
 
--- src/next.rt:157:16
 mul-rest : tie.Need-mul-rest
 mul-rest c = search needs
 
--- src/next.rt:157:16
 add-rest : tie.Need-add-rest
 add-rest c = search needs
 
--- src/next.rt:159:12
 peek-requires : tie.Need-peek-requires
 peek-requires c κs = search needs
 
--- src/next.rt:163:25
 add-t16 : tie.Need-add-t16
 add-t16 c = let h : c .before .before .before .before .before .before .args .at < length (c .before .before .before .before .before .before .args .tree .now) = c .before .peek .ensures .within (omega arith) in omega arith
 
--- src/next.rt:160:13
 returns-2 : tie.Need-returns-2
 returns-2 c = (refl, law.item-is-hole _ _ _ _ _ (c .before .before .before .if1 .left) (c .before .before .if2 .taken) _ (c .before .peek .ensures) (c .if3 .taken))
 
--- src/next.rt:170:5
 enter-requires : tie.Need-enter-requires
 enter-requires c κs = search needs
 
--- src/next.rt:150:1
 same-length-2 : tie.Need-same-length-2
 same-length-2 c = search needs
 
--- src/next.rt:150:1
 returns-3 : tie.Need-returns-3
 returns-3 c = (c .before .before .enter .ensures .0, law.took-as (⊎-elim (λ w. law.item-other _ _ _ _ _ (c .before .before .before .before .before .if1 .left) (w .0 .taken) _ (w .1 .ensures) (w .2 .left)) (λ w. law.item-plain _ _ _ _ _ (c .before .before .before .before .before .if1 .left) (w .left)) (c .before .before .before .before .if2 .came)) (c .before .before .enter .ensures .1))
 

@@ -7,27 +7,21 @@ use Rattle.rewritten.proofs.next.next.Lts as lts
 use Rattle.rewritten.proofs.next.in_list.Reads as in-list-reads
 use Rattle.rewritten.proofs.next.in_node.Reads as in-node-reads
 
--- src/next.rt:181:9
 in-node-requires : tie.Need-in-node-requires
 in-node-requires c κs = search needs
 
--- src/next.rt:181:9
 same-length : tie.Need-same-length
 same-length c = search needs
 
--- src/next.rt:181:9
 returns : tie.Need-returns
 returns c = (c .before .before .in-node .ensures .0, law.took-as (law.top-node _ _ _ _ _ (c .before .before .before .before .if1 .taken)) (c .before .before .in-node .ensures .1))
 
--- src/next.rt:183:5
 in-list-requires : tie.Need-in-list-requires
 in-list-requires c κs = search needs
 
--- src/next.rt:174:1
 same-length-2 : tie.Need-same-length-2
 same-length-2 c = search needs
 
--- src/next.rt:174:1
 returns-2 : tie.Need-returns-2
 returns-2 c = (c .before .before .in-list .ensures .0, law.took-as (law.top-list _ _ _ _ _ (c .before .before .before .before .if1 .left)) (c .before .before .in-list .ensures .1))
 

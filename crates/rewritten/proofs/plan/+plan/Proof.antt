@@ -18,39 +18,31 @@ plan-at t = and 0 plan-kinds.ps (is 0 plan-kinds.ps μ-plan t) plan.Pre
 abbrev plan-below : ℕ → In 0 plan-kinds.ps
 plan-below t = and 0 plan-kinds.ps (falls 0 plan-kinds.ps _<_ μ-plan t) plan.Pre
 
--- src/plan.rt:15:9
 plan-returns : (t : ℕ) → plan-lts.Need-returns (plan-below t, plan.Post) (plan-at t) plan.Post
 plan-returns t c = law.plan-none _ _ (c .if1 .taken)
 
--- src/plan.rt:17:9
 plan-plan-requires :
     (t : ℕ) → plan-lts.Need-plan-requires (plan-below t, plan.Post) (plan-at t) plan.Post
 plan-plan-requires t c κs = (omega (arith, c .before .pre .0, c .if1 .left), tt)
 
--- src/plan.rt:19:9
 plan-returns-2 : (t : ℕ) → plan-lts.Need-returns-2 (plan-below t, plan.Post) (plan-at t) plan.Post
 plan-returns-2 t c = law.plan-absent _ _ (c .before .before .if1 .left) _ (c .before .plan .ensures) (c .if2 .taken)
 
--- src/plan.rt:22:9
 plan-returns-3 : (t : ℕ) → plan-lts.Need-returns-3 (plan-below t, plan.Post) (plan-at t) plan.Post
 plan-returns-3 t c = law.plan-over _ _ (c .before .before .before .if1 .left) _ (c .before .before .plan .ensures) (c .before .if2 .left) (c .if3 .taken)
 
--- src/plan.rt:24:5
 plan-mul-result :
     (t : ℕ) → plan-lts.Need-mul-result (plan-below t, plan.Post) (plan-at t) plan.Post
 plan-mul-result t c = omega arith
 
--- src/plan.rt:24:5
 plan-add-result :
     (t : ℕ) → plan-lts.Need-add-result (plan-below t, plan.Post) (plan-at t) plan.Post
 plan-add-result t c = omega arith
 
--- src/plan.rt:24:5
 plan-add-result-2 :
     (t : ℕ) → plan-lts.Need-add-result-2 (plan-below t, plan.Post) (plan-at t) plan.Post
 plan-add-result-2 t c = omega arith
 
--- src/plan.rt:11:1
 plan-returns-4 : (t : ℕ) → plan-lts.Need-returns-4 (plan-below t, plan.Post) (plan-at t) plan.Post
 plan-returns-4 t c = law.plan-stands _ _ (c .before .before .before .if1 .left) _ (c .before .before .plan .ensures) (c .before .if2 .left) (c .if3 .left)
 

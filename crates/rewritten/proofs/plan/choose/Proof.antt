@@ -10,19 +10,15 @@ use Rattle.rewritten.proofs.plan.choose.Reads as reads
 use Rattle.rewritten.proofs.plan.choose.Lts as lts
 use Rattle.tree.proofs.bytes.peek.Reads as peek-reads
 
--- src/plan.rt:52:30
 sub-before : tie.Need-sub-before
 sub-before c = search needs
 
--- src/plan.rt:53:8
 peek-requires : tie.Need-peek-requires
 peek-requires c κs = search needs
 
--- src/plan.rt:49:1
 returns : tie.Need-returns
 returns c = let e : c .before .before .if1 .before ≡ c .before .before .before .before .args .at - 1 = ⊎-elim (λ w. omega arith) (λ w. omega arith) (c .before .before .if1 .came) in chosen-first _ _ _ _ _ (rw e at (c .before .peek .ensures)) (c .if2 .taken)
 
--- src/plan.rt:49:1
 returns-2 : tie.Need-returns-2
 returns-2 c = let e : c .before .before .if1 .before ≡ c .before .before .before .before .args .at - 1 = ⊎-elim (λ w. omega arith) (λ w. omega arith) (c .before .before .if1 .came) in chosen-second _ _ _ _ _ (rw e at (c .before .peek .ensures)) (c .if2 .left)
 

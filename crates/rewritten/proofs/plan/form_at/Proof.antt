@@ -6,43 +6,33 @@ use Rattle.rewritten.proofs.plan.form_at.Reads as reads
 use Rattle.rewritten.proofs.plan.form_at.Lts as lts
 use Rattle.tree.proofs.grammar.form_at.Reads as form-at-reads
 
--- src/plan.rt:32:12
 form-at-requires : tie.Need-form-at-requires
 form-at-requires c κs = search needs
 
--- src/plan.rt:33:16
 form-at-requires-2 : tie.Need-form-at-requires-2
 form-at-requires-2 c κs = search needs
 
--- src/plan.rt:34:17
 returns : tie.Need-returns
 returns c = law.form-temporary-none _ _ (c .before .before .before .before .if1 .taken) _ _ (c .before .before .before .form-at .ensures) (c .before .before .if2 .taken) (c .before .form-at2 .ensures) (c .if3 .taken)
 
--- src/plan.rt:37:9
 returns-2 : tie.Need-returns-2
 returns-2 c = law.form-temporary-binding _ _ (c .before .before .before .before .if1 .taken) _ _ (c .before .before .before .form-at .ensures) (c .before .before .if2 .taken) (c .before .form-at2 .ensures) (c .if3 .left)
 
--- src/plan.rt:37:9
 returns-3 : tie.Need-returns-3
 returns-3 c = law.form-temporary _ _ (c .before .before .if1 .taken) _ (c .before .form-at .ensures) (c .if2 .left)
 
--- src/plan.rt:40:12
 form-at-requires-3 : tie.Need-form-at-requires-3
 form-at-requires-3 c κs = search needs
 
--- src/plan.rt:41:13
 returns-4 : tie.Need-returns-4
 returns-4 c = law.form-helper-none _ _ (c .before .before .before .if1 .left) (c .before .before .if4 .taken) _ (c .before .form-at3 .ensures) (c .if5 .taken)
 
--- src/plan.rt:43:9
 returns-5 : tie.Need-returns-5
 returns-5 c = law.form-helper _ _ (c .before .before .before .if1 .left) (c .before .before .if4 .taken) _ (c .before .form-at3 .ensures) (c .if5 .left)
 
--- src/plan.rt:45:5
 form-at-requires-4 : tie.Need-form-at-requires-4
 form-at-requires-4 c κs = search needs
 
--- src/plan.rt:28:1
 returns-6 : tie.Need-returns-6
 returns-6 c = law.form-other _ _ (c .before .before .if1 .left) (c .before .if4 .left) _ (c .form-at4 .ensures)
 

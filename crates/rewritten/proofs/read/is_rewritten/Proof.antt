@@ -6,19 +6,15 @@ use Rattle.rewritten.proofs.read.is_rewritten.Reads as reads
 use Rattle.rewritten.proofs.read.is_rewritten.Lts as lts
 use Rattle.rewritten.proofs.read.read.Reads as read-reads
 
--- src/read.rt:54:16
 slice-aggregate-read : tie.Need-slice-aggregate-read
 slice-aggregate-read c = search needs
 
--- src/read.rt:54:29
 slice-aggregate-read-2 : tie.Need-slice-aggregate-read-2
 slice-aggregate-read-2 c = search needs
 
--- src/read.rt:54:5
 read-requires : tie.Need-read-requires
 read-requires c κs = search needs
 
--- src/read.rt:49:1
 returns : tie.Need-returns
 returns c = c .before .before .read .ensures (le-of-eq (slice-aggregate-read (c .before .before .before .before))) (le-of-eq (slice-aggregate-read-2 (c .before .before .before)))
 

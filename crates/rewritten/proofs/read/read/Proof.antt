@@ -22,111 +22,84 @@ Inv-loop tree frames₀ seen₀ cursor₀ frames seen cursor = law.Reading tree 
 abbrev μ-loop : tie.MeasureT-loop
 μ-loop tree frames₀ seen₀ cursor₀ frames seen cursor = (length tree - cursor .at) + cursor .deep
 
--- src/read.rt:15:9
 returns : tie.Need-returns Inv-loop μ-loop
 returns c = λ _ _. law.too-long (c .before .before .before .before .args .tree .now) (c .if1 .taken)
 
--- src/read.rt:18:9
 returns-2 : tie.Need-returns-2 Inv-loop μ-loop
 returns-2 c = λ a b. absurd (omega (arith, a, c .if2 .taken))
 
--- src/read.rt:21:9
 returns-3 : tie.Need-returns-3 Inv-loop μ-loop
 returns-3 c = λ a b. absurd (omega (arith, b, c .if3 .taken))
 
--- src/read.rt:23:5
 clear-requires : tie.Need-clear-requires Inv-loop μ-loop
 clear-requires c κs = tt
 
--- src/read.rt:24:9
 begin-requires : tie.Need-begin-requires Inv-loop μ-loop
 begin-requires c κs = tt
 
--- src/read.rt:25:5
 loop-holds : tie.Need-loop-holds Inv-loop μ-loop
 loop-holds c = (law.reading-start (c .before .before .before .before .before .before .before .before .before .before .before .args .tree .now) (c .before .before .before .before .before .before .before .before .before .before .before .args .frames .now) _ (c .before .before .before .before .before .before .before .if1 .left) (omega (arith, c .before .before .before .clear .ensures .0, c .before .before .before .before .before .if3 .left)) (c .before .before .before .clear .ensures .1) _ (c .begin .ensures), refl)
 
--- src/read.rt:26:15
 next-requires : tie.Need-next-requires Inv-loop μ-loop
 next-requires c κs = tt
 
--- src/read.rt:27:24
 enum-known-e : tie.Need-enum-known-e Inv-loop μ-loop
 enum-known-e c = search needs
 
--- src/read.rt:28:20
 is-new-requires : tie.Need-is-new-requires Inv-loop μ-loop
 is-new-requires c κs = tt
 
--- src/read.rt:29:21
 note-requires : tie.Need-note-requires Inv-loop μ-loop
 note-requires c κs = tt
 
--- src/read.rt:25:5
 loop-less : tie.Need-loop-less Inv-loop μ-loop
 loop-less c = law.reading-falls _ _ _ _ _ _ _ (c .before .before .before .before .before .before .before .before .before .before .before .before .before .before .loop .inv .0) _ (c .before .before .before .before .before .before .before .before .before .before .before .before .next .ensures .1) (c .before .before .before .before .before .before .before .before .e .given .0 .0) _ (c .before .before .before .before .before .before .before .before .e .given .1)
 
--- src/read.rt:25:5
 loop-again : tie.Need-loop-again Inv-loop μ-loop
 loop-again c = (law.reading-next _ _ _ _ _ _ _ (c .before .before .before .before .before .before .before .before .before .before .before .before .before .before .loop .inv .0) _ (c .before .before .before .before .before .before .before .before .before .before .before .before .next .ensures .1) (c .before .before .before .before .before .before .before .before .e .given .0 .0) _ (c .before .before .before .before .before .before .before .before .e .given .1) _ (c .before .before .before .before .before .is-new .ensures) (c .before .before .before .before .before .before .before .before .before .before .before .before .next .ensures .0) (c .before .before .before .before .if4 .taken) _ (c .before .before .note .ensures), c .before .before .note .kept .0 ∙ c .before .before .before .before .before .before .before .before .before .before .before .before .before .before .loop .inv .1)
 
--- src/read.rt:32:21
 same-length : tie.Need-same-length Inv-loop μ-loop
 same-length c = c .before .before .before .before .before .before .before .before .next .ensures .0 ∙ c .before .before .before .before .before .before .before .before .before .before .loop .inv .0 .tour .size
 
--- src/read.rt:32:21
 same-length-2 : tie.Need-same-length-2 Inv-loop μ-loop
 same-length-2 c = c .before .before .before .before .before .before .before .before .before .before .loop .inv .1 ∙ c .before .before .before .before .before .before .before .before .before .before .before .before .before .before .clear .ensures .0
 
--- src/read.rt:32:21
 returns-4 : tie.Need-returns-4 Inv-loop μ-loop
 returns-4 c = λ _ _. law.reading-twice _ _ _ _ _ _ _ (c .before .before .before .before .before .before .before .before .before .before .loop .inv .0) _ (c .before .before .before .before .before .before .before .before .next .ensures .1) (c .before .before .before .before .e .given .0 .0) _ (c .before .before .before .before .e .given .1) _ (c .before .is-new .ensures) (c .if4 .left)
 
--- src/read.rt:36:37
 enum-told : tie.Need-enum-told Inv-loop μ-loop
 enum-told c = search needs
 
--- src/read.rt:36:17
 same-length-3 : tie.Need-same-length-3 Inv-loop μ-loop
 same-length-3 c = c .before .before .before .before .before .next .ensures .0 ∙ c .before .before .before .before .before .before .before .loop .inv .0 .tour .size
 
--- src/read.rt:36:17
 same-length-4 : tie.Need-same-length-4 Inv-loop μ-loop
 same-length-4 c = c .before .before .before .before .before .before .before .loop .inv .1 ∙ c .before .before .before .before .before .before .before .before .before .before .before .clear .ensures .0
 
--- src/read.rt:36:17
 returns-5 : tie.Need-returns-5 Inv-loop μ-loop
 returns-5 c = λ _ _. law.reading-ends _ _ _ _ _ _ _ (c .before .before .before .before .before .before .before .loop .inv .0) _ (c .before .before .before .before .before .next .ensures .1) (c .before .enum-told .given .1)
 
--- src/read.rt:39:17
 enum-told-2 : tie.Need-enum-told-2 Inv-loop μ-loop
 enum-told-2 c = search needs
 
--- src/read.rt:39:17
 same-length-5 : tie.Need-same-length-5 Inv-loop μ-loop
 same-length-5 c = c .before .before .before .before .next .ensures .0 ∙ c .before .before .before .before .before .before .loop .inv .0 .tour .size
 
--- src/read.rt:39:17
 same-length-6 : tie.Need-same-length-6 Inv-loop μ-loop
 same-length-6 c = c .before .before .before .before .before .before .loop .inv .1 ∙ c .before .before .before .before .before .before .before .before .before .before .clear .ensures .0
 
--- src/read.rt:39:17
 returns-6 : tie.Need-returns-6 Inv-loop μ-loop
 returns-6 c = λ _ _. law.reading-refused _ _ _ _ _ _ _ (c .before .before .before .before .before .before .loop .inv .0) _ (c .before .before .before .before .next .ensures .1) (c .enum-told2 .given .1)
 
--- src/read.rt:42:17
 enum-told-3 : tie.Need-enum-told-3 Inv-loop μ-loop
 enum-told-3 c = search needs
 
--- src/read.rt:42:17
 same-length-7 : tie.Need-same-length-7 Inv-loop μ-loop
 same-length-7 c = c .before .before .before .before .next .ensures .0 ∙ c .before .before .before .before .before .before .loop .inv .0 .tour .size
 
--- src/read.rt:42:17
 same-length-8 : tie.Need-same-length-8 Inv-loop μ-loop
 same-length-8 c = c .before .before .before .before .before .before .loop .inv .1 ∙ c .before .before .before .before .before .before .before .before .before .before .clear .ensures .0
 
--- src/read.rt:42:17
 returns-7 : tie.Need-returns-7 Inv-loop μ-loop
 returns-7 c = λ _ _. absurd (pass.frames-suffice _ _ _ _ _ (c .before .before .before .before .before .before .loop .inv .0 .tour) _ (c .before .before .before .before .next .ensures .1) (c .enum-told3 .given .1) (c .before .before .before .before .before .before .before .before .before .before .before .before .before .before .if1 .left) (c .before .before .before .before .before .before .before .before .before .before .before .before .before .if2 .left))
 

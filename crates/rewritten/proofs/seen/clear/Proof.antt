@@ -14,31 +14,24 @@ Inv-loop seen₀ i₀ seen i = (length seen ≡ length seen₀) × (i ≤ length
 abbrev μ-loop : tie.MeasureT-loop
 μ-loop seen₀ i₀ seen i = i
 
--- src/seen.rt:16:5
 loop-holds : tie.Need-loop-holds Inv-loop μ-loop
 loop-holds c = (refl, omega arith, λ x h. List·getD-eq-default (c .args .seen .now) 0 {n = x} h)
 
--- src/seen.rt:17:9
 sub-i : tie.Need-sub-i Inv-loop μ-loop
 sub-i c = omega (arith, c .loop-test .taken)
 
--- src/seen.rt:18:9
 slice-write-seen : tie.Need-slice-write-seen Inv-loop μ-loop
 slice-write-seen c = omega (arith, c .loop-test .taken, c .before .loop .inv .1)
 
--- src/seen.rt:16:5
 loop-less : tie.Need-loop-less Inv-loop μ-loop
 loop-less c = omega (arith, c .loop-test .taken)
 
--- src/seen.rt:16:5
 loop-again : tie.Need-loop-again Inv-loop μ-loop
 loop-again c = (length-set (c .before .loop .seen) (c .before .loop .i - 1) 0 ∙ c .before .loop .inv .0, omega (arith, c .before .loop .inv .1, length-set (c .before .loop .seen) (c .before .loop .i - 1) 0), cleared-one (c .before .loop .seen) (c .before .loop .i) (c .loop-test .taken) (c .before .loop .inv .1) (c .before .loop .inv .2))
 
--- src/seen.rt:12:1
 same-length : tie.Need-same-length Inv-loop μ-loop
 same-length c = c .before .loop .inv .0
 
--- src/seen.rt:12:1
 returns : tie.Need-returns Inv-loop μ-loop
 returns c = (c .before .loop .inv .0, λ x. c .before .loop .inv .2 x (omega (arith, c .loop-test .left)))
 

@@ -12,92 +12,72 @@ use Rattle.rewritten.proofs.seen.is_new.Tie as tie
 use Rattle.rewritten.proofs.seen.is_new.Reads as reads
 use Rattle.rewritten.proofs.seen.is_new.Lts as lts
 
--- src/seen.rt:27:35
 enum-told : tie.Need-enum-told
 enum-told c = search needs
 
--- src/seen.rt:28:24
 enum-told-2 : tie.Need-enum-told-2
 enum-told-2 c = search needs
 
--- src/seen.rt:29:28
 enum-told-3 : tie.Need-enum-told-3
 enum-told-3 c = search needs
 
--- src/seen.rt:30:26
 enum-told-4 : tie.Need-enum-told-4
 enum-told-4 c = search needs
 
--- src/seen.rt:31:23
 enum-told-5 : tie.Need-enum-told-5
 enum-told-5 c = search needs
 
--- src/seen.rt:32:32
 enum-told-6 : tie.Need-enum-told-6
 enum-told-6 c = search needs
 
--- src/seen.rt:33:28
 enum-told-7 : tie.Need-enum-told-7
 enum-told-7 c = search needs
 
--- src/seen.rt:34:23
 enum-known-e : tie.Need-enum-known-e
 enum-known-e c = search needs
 
--- src/seen.rt:36:17
 shared-slice-read-result : tie.Need-shared-slice-read-result
 shared-slice-read-result c = search needs
 
--- src/seen.rt:41:29
 enum-told-8 : tie.Need-enum-told-8
 enum-told-8 c = search needs
 
--- src/seen.rt:23:1
 returns : tie.Need-returns
 unfolding newIn
 returns c = λ tree. sym (ap (λ (x : told.Event). newIn (c .before .before .args .seen .now) (eventIn tree x)) (c .enum-told .given .1))
 
--- src/seen.rt:23:1
 returns-2 : tie.Need-returns-2
 unfolding newIn
 returns-2 c = λ tree. sym (ap (λ (x : told.Event). newIn (c .before .before .args .seen .now) (eventIn tree x)) (c .enum-told2 .given .1))
 
--- src/seen.rt:23:1
 returns-3 : tie.Need-returns-3
 unfolding newIn
 returns-3 c = λ tree. sym (ap (λ (x : told.Event). newIn (c .before .before .args .seen .now) (eventIn tree x)) (c .enum-told3 .given .1))
 
--- src/seen.rt:23:1
 returns-4 : tie.Need-returns-4
 unfolding newIn
 returns-4 c = λ tree. sym (ap (λ (x : told.Event). newIn (c .before .before .args .seen .now) (eventIn tree x)) (c .enum-told4 .given .1))
 
--- src/seen.rt:23:1
 returns-5 : tie.Need-returns-5
 unfolding newIn
 returns-5 c = λ tree. sym (ap (λ (x : told.Event). newIn (c .before .before .args .seen .now) (eventIn tree x)) (c .enum-told5 .given .1))
 
--- src/seen.rt:23:1
 returns-6 : tie.Need-returns-6
 unfolding newIn
 returns-6 c = λ tree. sym (ap (λ (x : told.Event). newIn (c .before .before .args .seen .now) (eventIn tree x)) (c .enum-told6 .given .1))
 
--- src/seen.rt:23:1
 returns-7 : tie.Need-returns-7
 unfolding newIn
 returns-7 c = λ tree. sym (ap (λ (x : told.Event). newIn (c .before .before .args .seen .now) (eventIn tree x)) (c .enum-told7 .given .1))
 
--- src/seen.rt:23:1
 returns-8 : tie.Need-returns-8
 unfolding newIn
 returns-8 c = λ tree. sym (ap (λ (x : told.Event). newIn (c .before .before .before .before .before .args .seen .now) (eventIn tree x)) (c .before .before .before .e .given .1))
 
--- src/seen.rt:23:1
 returns-9 : tie.Need-returns-9
 unfolding newIn
 returns-9 c = λ tree. sym (ap (λ (x : told.Event). newIn (c .before .before .before .before .args .seen .now) (eventIn tree x)) (c .before .before .e .given .1) ∙ eq-eqb (getD (c .before .before .before .before .args .seen .now) (c .before .before .e .given .0 .0) 0) 0 (List·getD-eq-default (c .before .before .before .before .args .seen .now) 0 {n = c .before .before .e .given .0 .0} (c .if1 .left)))
 
--- src/seen.rt:23:1
 returns-10 : tie.Need-returns-10
 unfolding newIn
 returns-10 c = λ tree. sym (ap (λ (x : told.Event). newIn (c .before .before .args .seen .now) (eventIn tree x)) (c .enum-told8 .given .1))
