@@ -10,8 +10,9 @@ FOLDER has the vector files, whole; they are kept outside the repository (loader
 document01.txt, readings.txt, extra.txt and recorded.txt, which are the base's and run with a depth limit of 64; cr4.txt;
 cr5.txt, whose lines have seven words, the first the limit (`-` where none is named); cr12.txt; and cr1.txt, with the base's
 limit. What a file from before request 4 records of a result with a temporary is restated with its stem: as cr4.txt has it,
-and for recorded.txt and cr1.txt by the reference. A case's number is the one that
-vectors prints. The cases of reading come first. Such a case is a zero byte; two bytes, the limit and the
+and for recorded.txt and cr1.txt by the reference. cr6.txt is the last: a case of an earlier file with an object with a rest
+below another one in a target, where request 6 is another rule, is restated as cr6.txt has it, and left out where it does not
+have it. A case's number is the one that vectors prints. The cases of reading come first. Such a case is a zero byte; two bytes, the limit and the
 expected answer of reading; two 16-bit numbers, the tree's length and the expected next mark (0 on a refusal); then the
 tree. Expected answers are those recorded in the vector files or given here; read.py has to agree with each, and supplies
 the marks.
@@ -27,6 +28,7 @@ import subprocess
 import sys
 
 import equal
+import nodes
 import read
 import show
 
@@ -50,11 +52,11 @@ def encode_lowering(limit, options, number, helpers, mask, tree, result, listed)
 
 
 # The base's limit. The vector files with the limit of their cases where the lines name none; None is for a caller who names
-# none either. A part of cr4.txt that restates cases of the base, and one of cr5.txt that holds no longer, by the first words of
-# their heads.
+# none either. A part of cr4.txt, and of cr6.txt, that restates cases of the base, and one of cr5.txt that holds no longer, by the
+# first words of their heads.
 BASE_LIMIT = 64
 BASE = ["document01", "readings", "extra", "recorded"]
-FILES = dict.fromkeys(BASE, BASE_LIMIT) | {"cr4": None, "cr5": None, "cr12": None, "cr1": BASE_LIMIT}
+FILES = dict.fromkeys(BASE, BASE_LIMIT) | {"cr4": None, "cr5": None, "cr12": None, "cr1": BASE_LIMIT, "cr6": None}
 RESTATED = "---- the cases of document01.txt, readings.txt and extra.txt whose result this request changes"
 NO_LONGER = "---- with temporaries, while request 4 is not in force"
 # The option that is no longer shown in the mask (request 12). The base's files record masks that show it, and are restated.
@@ -193,6 +195,16 @@ def restated(folder, name, some, reference):
                 sys.exit(f"{what}: its result has a temporary, and cr4.txt does not have it")
             case = case[:2] + tuple(known[case[1], case[5]])
         yield what, case
+
+
+def by_parts(folder, some):
+    """Cases from before request 6 as it has them. Before the lowering come the answers 1, 3, 4 and 9."""
+    known = {(case[1], case[5]): case[2:] for _, case in load_lowerings(folder, "cr6", "----")}
+    for what, case in some:
+        if case[2] in (1, 3, 4, 9) or not nodes.has_rest_below_rest(case[5]):
+            yield what, case
+        elif (case[1], case[5]) in known:
+            yield what, case[:2] + known[case[1], case[5]]
 
 
 def asked(reference, changed):
@@ -378,7 +390,9 @@ def stored_lowerings(folder, reference):
         some = list(load_lowerings(folder, name))
         if name == "recorded":
             some = sample_lowerings(some)
-        cases += restated(folder, name, some, reference) if name in BASE or name == "cr1" else some
+        if name in BASE or name == "cr1":
+            some = list(restated(folder, name, some, reference))
+        cases += some if name == "cr6" else by_parts(folder, some)
     return cases
 
 

@@ -9,12 +9,12 @@ use lib.Dec.{eqb}
 use borrow.Author.Tests.{eqb-true}
 use Rattle.tree.specs.Tree.{Node, depth}
 use Rattle.tree.specs.Tree.Node.{node}
-use Rattle.lowering.specs.Parts.{position, kind, is, itemsAt, change, onNode, changeNode, only, each}
+use Rattle.lowering.specs.Parts.{position, kind, is, itemsAt, change, onNode, changeNode, only, each, gather}
 use Rattle.lowering.specs.Made.{Context, temporary, reference, keyOf, string}
 use Rattle.lowering.specs.Patterns.{Shape, shape, properties, hasRest, key, value, withItems, withValues, hasNestedObjectRest, hasObjectRest, hasNestedArrayRest, hasArrayRestOverObjectRest, replaced, objectsWithRest, replacedBelow, objectsBelow}
 use Rattle.lowering.specs.Patterns.Shape.{objectPattern, arrayPattern, default, leaf}
 use Rattle.lowering.specs.Keys.{keySort, isPrimitive, lacksForm, excludedKey, keptKey, keyTemporary, allPrimitive, anyLacksForm, excludedKeys, keyTemporaries, taken, keyText}
-use Rattle.lowering.specs.Assignments.{restsThroughObjects, withoutRests}
+use Rattle.lowering.specs.Assignments.{target, nearest, outermost, partsOf, partsReplaced, targetLeft}
 use Rattle.lowering.specs.Heads.{moved, movedPattern, movedOut}
 use Rattle.lowering.proofs.Cases.{by-shape, by-key, object-is}
 use Rattle.direct.proofs.Alike.{SameKey, same, temporaries, Alike, AlikeItems, Linked, string-alike, temporary-alike, position-alike, shape-alike, node-at, items-at, stands-at, depth-alike, loose, recast, only-alike, append-alike, each-alike, gather-alike, any-alike, cond-alike, cond-items, changeNode-alike, changeItems-alike, without-alike, key-kept, key-put, declares-alike}
@@ -67,22 +67,27 @@ array-alike (suc d) {p = p} {q = q} a =
 pub over-alike : {ok : Bool} {p q : Node} → Alike ok p q → hasArrayRestOverObjectRest p ≡ hasArrayRestOverObjectRest q
 over-alike {p = p} {q = q} a = ap (λ (x : ℕ). hasNestedArrayRest x p) (depth-alike a) ∙ array-alike (depth q) a
 
--- the objects with rest through objects
-rests-at : {ok : Bool} (d : ℕ) {p q : Node} → Alike ok p q → AlikeItems ok 0 (restsThroughObjects d p) (restsThroughObjects d q)
-unfolding restsThroughObjects
-rests-at zero a = AlikeItems.none
-rests-at (suc d) {p = p} {q = q} a =
+-- the objects with rest that stand nearest
+pub nearest-at : {ok : Bool} (arrays : Bool) (d : ℕ) {p q : Node} → Alike ok p q → AlikeItems ok 0 (nearest arrays d p) (nearest arrays d q)
+unfolding nearest
+nearest-at arrays zero a = AlikeItems.none
+nearest-at arrays (suc d) {p = p} {q = q} a =
     by-shape (shape p)
-    (λ e. rw (e, shaped a e, restsThroughObjects)
-    (append-alike
-    (gather-alike 0 0 (λ m. restsThroughObjects d (value m)) (λ m. restsThroughObjects d (value m)) (λ n m l. rests-at d (node-at 1 (l .0))) (parts 0 a))
-    (cond-items (hasRest p) (hasRest q) (stands-at 1 a) (λ h. only-alike a) (λ h. AlikeItems.none))))
-    (λ e. rw (e, shaped a e, restsThroughObjects) AlikeItems.none)
-    (λ e. rw (e, shaped a e, restsThroughObjects) (rests-at d (node-at 0 a)))
-    (λ e. rw (e, shaped a e, restsThroughObjects) AlikeItems.none)
+    (λ e. rw (e, shaped a e, nearest)
+    (cond-items (hasRest p) (hasRest q) (stands-at 1 a) (λ h. only-alike a)
+    (λ h. gather-alike 0 0 (λ m. nearest arrays d (value m)) (λ m. nearest arrays d (value m)) (λ n m l. nearest-at arrays d (node-at 1 (l .0))) (parts 0 a))))
+    (λ e. rw (e, shaped a e, nearest)
+    (cond-items arrays arrays refl (λ h. gather-alike 0 0 (λ m. nearest arrays d m) (λ m. nearest arrays d m) (λ n m l. nearest-at arrays d (l .0)) (parts 0 a)) (λ h. AlikeItems.none)))
+    (λ e. rw (e, shaped a e, nearest) (nearest-at arrays d (node-at 0 a)))
+    (λ e. rw (e, shaped a e, nearest) AlikeItems.none)
 
-pub rests-alike : {ok : Bool} {p q : Node} → Alike ok p q → AlikeItems ok 0 (restsThroughObjects (depth p) p) (restsThroughObjects (depth q) q)
-rests-alike {ok = ok} {p = p} {q = q} a = subst (λ (x : ℕ). AlikeItems ok 0 (restsThroughObjects (depth p) p) (restsThroughObjects x q)) (depth-alike a) (rests-at (depth p) a)
+pub outermost-alike : {ok : Bool} {p q : Node} → Alike ok p q → AlikeItems ok 0 (outermost p) (outermost q)
+outermost-alike {ok = ok} {p = p} {q = q} a = subst (λ (x : ℕ). AlikeItems ok 0 (outermost p) (nearest true x q)) (depth-alike a) (nearest-at true (depth p) a)
+
+pub parts-alike : {ok : Bool} {p q : Node} → Alike ok p q → AlikeItems ok 0 (partsOf p) (partsOf q)
+parts-alike {ok = ok} {p = p} {q = q} a =
+    subst (λ (x : ℕ). AlikeItems ok 0 (partsOf p) (gather (λ m. nearest false x (value m)) (properties q))) (depth-alike a)
+    (gather-alike 0 0 (λ m. nearest false (depth p) (value m)) (λ m. nearest false (depth p) (value m)) (λ n m l. nearest-at false (depth p) (node-at 1 (l .0))) (parts 0 a))
 
 -- ---- keys
 
@@ -261,20 +266,25 @@ module _ (c d : Context) where
   pub objects-alike : {ok : Bool} {p q : Node} → Alike ok p q → AlikeItems ok 0 (objectsBelow c p) (objectsBelow d q)
   objects-alike {ok = ok} {p = p} {q = q} a = subst (λ (x : ℕ). AlikeItems ok 0 (objectsBelow c p) (objectsWithRest d x q)) (depth-alike a) (objects-at (depth p) a)
 
-  without-at : {ok : Bool} (b : ℕ) {p q : Node} → Alike ok p q → Alike ok (withoutRests c b p) (withoutRests d b q)
-  unfolding withoutRests
-  without-at zero a = a
-  without-at {ok = ok} (suc b) {p = p} {q = q} a =
-      let h : (n m : Node) → Alike ok n m → Alike ok (withoutRests c b n) (withoutRests d b m) = λ n m z. without-at b z in
+  parts-at : {ok : Bool} (b : ℕ) {p q : Node} → Alike ok p q → Alike ok (partsReplaced c b p) (partsReplaced d b q)
+  unfolding partsReplaced
+  parts-at zero a = a
+  parts-at {ok = ok} (suc b) {p = p} {q = q} a =
+      let h : (n m : Node) → Alike ok n m → Alike ok (partsReplaced c b n) (partsReplaced d b m) = λ n m z. parts-at b z in
       by-shape (shape p)
-      (λ e. rw (e, shaped a e, withoutRests)
-      (taken-alike c d (shape-values (λ v. withoutRests c b v) p ∙ e) (values-alike (λ v. withoutRests c b v) (λ v. withoutRests d b v) h a)))
-      (λ e. rw (e, shaped a e, withoutRests) a)
-      (λ e. rw (e, shaped a e, withoutRests) (changeNode-alike 0 (λ v. withoutRests c b v) (λ v. withoutRests d b v) h a))
-      (λ e. rw (e, shaped a e, withoutRests) a)
+      (λ e. rw (e, shaped a e, partsReplaced)
+      (cond-alike (hasRest p) (hasRest q) (stands-at 1 a) (λ t. reference-alike c d a)
+      (λ t. values-alike (λ v. partsReplaced c b v) (λ v. partsReplaced d b v) h a)))
+      (λ e. rw (e, shaped a e, partsReplaced) a)
+      (λ e. rw (e, shaped a e, partsReplaced) (changeNode-alike 0 (λ v. partsReplaced c b v) (λ v. partsReplaced d b v) h a))
+      (λ e. rw (e, shaped a e, partsReplaced) a)
 
-  pub withoutRests-alike : {ok : Bool} {p q : Node} → Alike ok p q → Alike ok (withoutRests c (depth p) p) (withoutRests d (depth q) q)
-  withoutRests-alike {ok = ok} {p = p} {q = q} a = subst (λ (x : ℕ). Alike ok (withoutRests c (depth p) p) (withoutRests d x q)) (depth-alike a) (without-at (depth p) a)
+  pub left-alike : {ok : Bool} (n m : Node) → shape (target n) ≡ objectPattern → Alike ok (target n) (target m) → Alike ok (targetLeft c n) (targetLeft d m)
+  left-alike {ok = ok} n m e a =
+      let w : ℕ → Node = λ x. taken d (withValues (λ v. partsReplaced d x v) (target m)) in
+      subst (λ (x : ℕ). Alike ok (targetLeft c n) (w x)) (depth-alike a)
+      (taken-alike c d (shape-values (λ v. partsReplaced c (depth (target n)) v) (target n) ∙ e)
+      (values-alike (λ v. partsReplaced c (depth (target n)) v) (λ v. partsReplaced d (depth (target n)) v) (λ x y z. parts-at (depth (target n)) z) a))
 
   moved-out : {ok : Bool} (b : ℕ) {p q : Node} → Alike ok p q → Alike ok (movedOut c b p) (movedOut d b q)
   unfolding movedOut

@@ -13,7 +13,6 @@ use Rattle.lowering.specs.Patterns.Shape.{objectPattern}
 use Rattle.lowering.specs.Keys.{isPrimitive, excludedKey, allPrimitive, anyLacksForm, excludedKeys}
 use Rattle.lowering.specs.Rests.{hasNoProperties, mapped, isHoisted, keysRead, restValue, excludedFor, restMakes}
 use Rattle.lowering.specs.Declarations.{isName, source, sourceDeclarator, keysBefore, patternDeclarator, restDeclarator, own, nested, nestedBelow, objectDeclarators, patternDeclarators, lowerDeclarator, innerObjects, declaratorMakes, isLowered, declarators, loweredIn, declaration, declarationMakes, declarationExcludes, declarationLacksForm}
-use Rattle.lowering.specs.Assignments.{restsThroughObjects}
 use Rattle.lowering.proofs.All.{AllItems, all-append, all-gather, all-unit}
 use Rattle.lowering.proofs.Cases.{by-test, by-shape, not-true}
 use Rattle.direct.specs.Events.{Deed, cellOf, stemOf, excludes, excludedKeys as excludedDeeds}
@@ -32,19 +31,6 @@ cond-all : (P : Node → Type 0) (b : Bool) (is : Items) → (b ≡ true → All
 cond-all P true is h = h refl
 cond-all P false is h = tt
 
-pub rests-objects : (d : ℕ) (p : Node) → AllItems Object (restsThroughObjects d p)
-unfolding restsThroughObjects
-rests-objects zero p = tt
-rests-objects (suc d) p =
-    by-shape (shape p)
-    (λ e. rw (e, restsThroughObjects, AllItems)
-    (all-append Object (gather (λ q. restsThroughObjects d (value q)) (properties p)) (cond (hasRest p) (only p) Items.none)
-    (all-gather (λ q. Unit {0}) Object (λ q. restsThroughObjects d (value q)) (λ q u. rests-objects d (value q)) (properties p) (all-unit (properties p)))
-    (cond-all Object (hasRest p) (only p) (λ h. (e, tt)))))
-    (λ e. rw (e, restsThroughObjects, AllItems) tt)
-    (λ e. rw (e, restsThroughObjects, AllItems) (rests-objects d (nodeAt 0 p)))
-    (λ e. rw (e, restsThroughObjects, AllItems) tt)
-
 pub objects-objects : (c : Context) (d : ℕ) (p : Node) → AllItems Object (objectsWithRest c d p)
 unfolding objectsWithRest
 objects-objects c zero p = tt
@@ -59,12 +45,6 @@ objects-objects c (suc d) p =
     (λ e. rw (e, objectsWithRest, AllItems) tt)
 
 module _ (P : Node → Type 0) where
-  pub each-with : {ok : Bool} {is js : Items} (f g : Node → Node) → ((n m : Node) → P n → Alike ok n m → Alike ok (f n) (g m)) → AllItems P is → AlikeItems ok 0 is js → AlikeItems ok 0 (each f is) (each g js)
-  unfolding each
-  each-with f g h z AlikeItems.none = AlikeItems.none
-  each-with f g h z (AlikeItems.hole is) = AlikeItems.hole (each-with f g h z is)
-  each-with f g h z (AlikeItems.item {n = n} {m = m} a s is) = more-alike (h n m (z .0) a) (each-with f g h (z .1) is)
-
   pub gather-with : {ok : Bool} {is js : Items} (f g : Node → Items) → ((n m : Node) → P n → Alike ok n m → AlikeItems ok 0 (f n) (g m)) → AllItems P is → AlikeItems ok 0 is js → AlikeItems ok 0 (gather f is) (gather g js)
   unfolding gather
   gather-with f g h z AlikeItems.none = AlikeItems.none

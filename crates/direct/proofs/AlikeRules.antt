@@ -15,19 +15,19 @@ use Rattle.lowering.specs.Keys.{keySort, keyTemporary, keyTemporaries, anyLacks
 use Rattle.lowering.specs.Rests.{restValue, excludedFor}
 use Rattle.lowering.specs.Literals.{Call, opened, closed, scan, literal}
 use Rattle.lowering.specs.Declarations.{declaration, declarationMakes, declarationExcludes, declarationLacksForm}
-use Rattle.lowering.specs.Assignments.{target, isTop, restsOf, topLacksForm, topSequence, topEntry, topExcludes, topMakes, nestedSequence, nestedEntry, nestedMakes}
+use Rattle.lowering.specs.Assignments.{target, isTop, partsOf, fromReference, topLacksForm, topSequence, topEntry, topExcludes, topMakes, nestedSequence, nestedEntry, nestedMakes}
 use Rattle.lowering.specs.Heads.{isMoved, movedFrom, movedOut, leftBehind, inFront, inBody, asFunctionBody, asBlock, references, function, functionMakes, arrow, arrowMakes, catch, catchMakes, declaringHead, declaringMakes, assigningHead, assigningMakes}
 use Rattle.lowering.specs.Walk.{Step, Rule, rewritten, unchanged, refuse, stepDeclaration, stepTop, stepAssignment, stepFor, ruleOf, rewrite}
 use Rattle.lowering.specs.Refusals.{restBelowArrayRest, keyWithoutForm}
 use Rattle.lowering.specs.Walk.Rule.{literals, declarations, assignments, functions, arrows, catches, fors, nowhere}
 use Rattle.lowering.proofs.All.{AllItems, all-unit}
-use Rattle.lowering.proofs.Cases.{by-test, by-key, by-rule, functionBody-is, block-is, declarations-4}
+use Rattle.lowering.proofs.Cases.{by-test, by-key, by-rule, shape-34, functionBody-is, block-is, declarations-4}
 use Rattle.direct.specs.Events.{Deed, cell, cellOf, stemOf, lists, made, handed, entered, refused, handsOut, excludedKeys as excludedDeeds}
 use Rattle.direct.specs.Events.Deed.{does}
 use Rattle.direct.proofs.Alike.{SameKey, same, temporaries, Alike, AlikeItems, Linked, helper-alike, nothing-alike, kind-alike, position-alike, is-alike, node-at, number-at, stands-at, empty-alike, count-alike, loose, tight, only-alike, more-alike, append-alike, each-alike, gather-alike, any-alike, cond-alike, cond-items, changeNode-alike, changeNode-here, changeItems-alike, declared-alike, assign-alike, call-alike, object-alike, sequence-alike, let-alike, var-alike, assigning-alike, returning-alike, block-alike, body-alike}
-use Rattle.direct.proofs.AlikePatterns.{props, parts, below-alike, over-alike, rests-alike, anyLacks-alike, reference-alike, temporaries-alike, replaced-alike, objects-alike, withoutRests-alike, movedOut-alike, moved-alike, pattern-alike}
-use Rattle.direct.proofs.AlikeRests.{Object, rests-objects, each-with, gather-with, any-with, deeds-gather, excluded-none, excluded-append, valueOf-alike, restValue-alike, excludedFor-alike, excludedFor-deeds, ids-alike, declaration-alike, declarationMakes-alike, declarationLacks-alike, declarationExcludes-deeds}
-use Rattle.lowering.proofs.Clauses.{again-temporary}
+use Rattle.direct.proofs.AlikePatterns.{props, parts, below-alike, over-alike, outermost-alike, parts-alike, left-alike, anyLacks-alike, reference-alike, temporaries-alike, replaced-alike, movedOut-alike, moved-alike, pattern-alike}
+use Rattle.direct.proofs.AlikeRests.{Object, deeds-gather, valueOf-alike, restValue-alike, excludedFor-alike, excludedFor-deeds, ids-alike, declaration-alike, declarationMakes-alike, declarationLacks-alike, declarationExcludes-deeds}
+use Rattle.lowering.proofs.Clauses.{again-temporary, top-34}
 
 -- ---- what is handed out
 
@@ -95,34 +95,44 @@ pub top-alike : {ok : Bool} {p q : Node} → Alike ok p q → isTop p ≡ isTop 
 unfolding isTop
 top-alike a = ap₂ (λ (x y : Bool). x && y) (is-alike 34 a) (stands-at 1 a)
 
-restsOf-alike : {ok : Bool} {n m : Node} → Alike ok n m → AlikeItems ok 0 (restsOf n) (restsOf m)
-restsOf-alike a = rests-alike (node-at 1 a)
-
-restsOf-objects : (n : Node) → AllItems Object (restsOf n)
-restsOf-objects n = rests-objects (depth (target n)) (target n)
-
-pub topLacks-alike : {ok : Bool} {n m : Node} → Alike ok n m → topLacksForm n ≡ topLacksForm m
+pub topLacks-alike : {ok : Bool} {n m : Node} → Object (target n) → Alike ok n m → topLacksForm n ≡ topLacksForm m
 unfolding topLacksForm
-topLacks-alike {n = n} a = any-with Object (λ p. anyLacksForm p) (λ p. anyLacksForm p) (λ p q o z. anyLacks-alike o z) (restsOf-objects n) (restsOf-alike a)
+topLacks-alike o a = anyLacks-alike o (node-at 1 a)
 
 module _ (c d : Context) (root : c .root ≡ d .root) (stat : c .statement ≡ d .statement) where
-  topSequence-alike : {ok : Bool} {n m : Node} → Alike ok n m → Alike ok (topSequence c n) (topSequence d m)
+  -- assignments from temporaries, and their declarators
+  from-alike : {ok : Bool} {is js : Items} → AlikeItems ok 0 is js → AlikeItems ok 0 (each (fromReference c) is) (each (fromReference d) js)
+  from-alike a =
+      each-alike 0 0 (fromReference c) (fromReference d) (λ x y l. (assign-alike (l .0) (reference-alike c d (l .0)), λ z. absurd (false≢true z))) a
+
+  refs-alike : {ok : Bool} {is js : Items} → AlikeItems ok 0 is js → AlikeItems ok 0 (each (λ p. declared (reference c p)) is) (each (λ p. declared (reference d p)) js)
+  refs-alike a =
+      each-alike 0 0 (λ p. declared (reference c p)) (λ p. declared (reference d p)) (λ x y l. (declared-alike (reference-alike c d (l .0)), λ z. absurd (false≢true z))) a
+
+  refs-handed : {ok : Bool} {is js : Items} → AlikeItems ok 0 is js → handed (each (λ p. declared (reference c p)) is) ≡ handed (each (λ p. declared (reference d p)) js)
+  unfolding each handed cellOf nodeAt pieceIn stands standsIn numberAt
+  refs-handed AlikeItems.none = refl
+  refs-handed (AlikeItems.hole is) = refs-handed is
+  refs-handed (AlikeItems.item a s is) =
+      ap₂ (λ (x : ℕ) (y : List Deed). handed (only (declared (temporary [] 1 x))) ++ y) (position-alike a) (refs-handed is)
+
+  topSequence-alike : {ok : Bool} {n m : Node} → Object (target n) → Alike ok n m → Alike ok (topSequence c n) (topSequence d m)
   unfolding topSequence
-  topSequence-alike {n = n} {m = m} a =
-      let t = valueOf-alike c d root (node-at 1 a) in
+  topSequence-alike {n = n} {m = m} o a =
+      let p = node-at 1 a in
+      let t = valueOf-alike c d root p in
       sequence-alike
       (more-alike (assign-alike t (node-at 2 a))
-      (more-alike (assign-alike (withoutRests-alike c d (node-at 1 a)) t)
-      (append-alike
-      (each-with Object (λ p. assign (rest p) (restValue c p (valueOf c (target n)))) (λ p. assign (rest p) (restValue d p (valueOf d (target m))))
-      (λ p q o z. assign-alike (node-at 1 z) (restValue-alike c d root o z t)) (restsOf-objects n) (restsOf-alike a))
-      (cond-items (c .statement) (d .statement) stat (λ h. AlikeItems.none) (λ h. only-alike t)))))
+      (more-alike (assign-alike (left-alike c d n m o p) t)
+      (append-alike (from-alike (parts-alike p))
+      (more-alike (assign-alike (node-at 1 p) (restValue-alike c d root o p t))
+      (cond-items (c .statement) (d .statement) stat (λ h. AlikeItems.none) (λ h. only-alike t))))))
 
-  topEntry-alike : {ok : Bool} {n m : Node} → Alike ok n m → AlikeItems ok 0 (topEntry c n) (topEntry d m)
+  topEntry-alike : {ok : Bool} {n m : Node} → Object (target n) → Alike ok n m → AlikeItems ok 0 (topEntry c n) (topEntry d m)
   unfolding topEntry
-  topEntry-alike {n = n} a =
-      more-alike (declared-alike (valueOf-alike c d root (node-at 1 a)))
-      (gather-with Object (keyTemporaries c) (keyTemporaries d) (λ p q o z. temporaries-alike c d o z) (restsOf-objects n) (restsOf-alike a))
+  topEntry-alike o a =
+      let p = node-at 1 a in
+      more-alike (declared-alike (valueOf-alike c d root p)) (append-alike (refs-alike (parts-alike p)) (temporaries-alike c d o p))
 
   key-handed : {ok : Bool} {p q : Node} → Linked ok 34 p q → SameKey (key p) (key q) → handed (keyTemporary c p) ≡ handed (keyTemporary d q)
   unfolding keyTemporary handed cellOf nodeAt pieceIn stands standsIn numberAt
@@ -142,49 +152,40 @@ module _ (c d : Context) (root : c .root ≡ d .root) (stat : c .statement ≡ d
   keys-handed {p = p} o a =
       deeds-gather handed handed-none handed-append (λ x. Unit {0}) 34 (keyTemporary c) (keyTemporary d) (λ n m u l. key-handed l (l .1 refl)) (all-unit (properties p)) (props o a)
 
-  topEntry-deeds : {ok : Bool} {n m : Node} → Alike ok n m → handed (topEntry c n) ≡ handed (topEntry d m)
+  topEntry-deeds : {ok : Bool} {n m : Node} → Object (target n) → Alike ok n m → handed (topEntry c n) ≡ handed (topEntry d m)
   unfolding topEntry handed cellOf nodeAt pieceIn stands standsIn numberAt
-  topEntry-deeds {n = n} {m = m} a =
-      ap₂ (λ (x : ℕ) (y : List Deed). handed (only (declared (temporary [] 3 x))) ++ y) (position-alike (node-at 1 a))
-      (deeds-gather handed handed-none handed-append Object 0 (keyTemporaries c) (keyTemporaries d) (λ p q o l. keys-handed o (l .0)) (restsOf-objects n) (restsOf-alike a))
+  topEntry-deeds {n = n} {m = m} o a =
+      let p = node-at 1 a in
+      ap₂ (λ (x : ℕ) (y : List Deed). handed (only (declared (temporary [] 3 x))) ++ y) (position-alike p)
+      (handed-append (each (λ q. declared (reference c q)) (partsOf (target n))) (keyTemporaries c (target n))
+      ∙ ap₂ (λ (x y : List Deed). x ++ y) (refs-handed (parts-alike p)) (keys-handed o p)
+      ∙ sym (handed-append (each (λ q. declared (reference d q)) (partsOf (target m))) (keyTemporaries d (target m))))
 
-  topExcludes-alike : {ok : Bool} {n m : Node} → Alike ok n m → AlikeItems ok 0 (topExcludes c n) (topExcludes d m)
+  topExcludes-alike : {ok : Bool} {n m : Node} → Object (target n) → Alike ok n m → AlikeItems ok 0 (topExcludes c n) (topExcludes d m)
   unfolding topExcludes
-  topExcludes-alike {n = n} a = gather-with Object (excludedFor c) (excludedFor d) (λ p q o z. excludedFor-alike c d root o z) (restsOf-objects n) (restsOf-alike a)
+  topExcludes-alike o a = excludedFor-alike c d root o (node-at 1 a)
 
-  topExcludes-deeds : {ok : Bool} {n m : Node} → Alike ok n m → excludedDeeds (topExcludes c n) ≡ excludedDeeds (topExcludes d m)
+  topExcludes-deeds : {ok : Bool} {n m : Node} → Object (target n) → Alike ok n m → excludedDeeds (topExcludes c n) ≡ excludedDeeds (topExcludes d m)
   unfolding topExcludes
-  topExcludes-deeds {n = n} a =
-      deeds-gather excludedDeeds excluded-none excluded-append Object 0 (excludedFor c) (excludedFor d) (λ p q o l. excludedFor-deeds c d root o (l .0)) (restsOf-objects n) (restsOf-alike a)
+  topExcludes-deeds o a = excludedFor-deeds c d root o (node-at 1 a)
 
-  topMakes-alike : {ok : Bool} {n m : Node} → Alike ok n m → AlikeItems ok 0 (topMakes c n) (topMakes d m)
+  topMakes-alike : {ok : Bool} {n m : Node} → Object (target n) → Alike ok n m → AlikeItems ok 0 (topMakes c n) (topMakes d m)
   unfolding topMakes
-  topMakes-alike a = append-alike (ids-alike c d root (topEntry-alike a)) (ids-alike c d root (topExcludes-alike a))
+  topMakes-alike o a = append-alike (ids-alike c d root (topEntry-alike o a)) (ids-alike c d root (topExcludes-alike o a))
 
   nestedSequence-alike : {ok : Bool} {n m : Node} → Alike ok n m → Alike ok (nestedSequence c n) (nestedSequence d m)
   unfolding nestedSequence
-  nestedSequence-alike {n = n} a =
+  nestedSequence-alike a =
       sequence-alike
-      (more-alike (changeNode-alike 1 (λ p. replacedBelow c p) (λ p. replacedBelow d p) (λ x y z. replaced-alike c d z) a)
-      (each-alike 0 0 (λ p. assign p (reference c p)) (λ p. assign p (reference d p))
-      (λ x y l. (assign-alike (l .0) (reference-alike c d (l .0)), λ z. absurd (false≢true z))) (objects-alike c d (node-at 1 a))))
+      (more-alike (changeNode-alike 1 (λ p. replacedBelow c p) (λ p. replacedBelow d p) (λ x y z. replaced-alike c d z) a) (from-alike (outermost-alike (node-at 1 a))))
 
   nestedEntry-alike : {ok : Bool} {n m : Node} → Alike ok n m → AlikeItems ok 0 (nestedEntry c n) (nestedEntry d m)
   unfolding nestedEntry
-  nestedEntry-alike a =
-      each-alike 0 0 (λ p. declared (reference c p)) (λ p. declared (reference d p))
-      (λ x y l. (declared-alike (reference-alike c d (l .0)), λ z. absurd (false≢true z))) (objects-alike c d (node-at 1 a))
-
-  refs-handed : {ok : Bool} {is js : Items} → AlikeItems ok 0 is js → handed (each (λ p. declared (reference c p)) is) ≡ handed (each (λ p. declared (reference d p)) js)
-  unfolding each handed cellOf nodeAt pieceIn stands standsIn numberAt
-  refs-handed AlikeItems.none = refl
-  refs-handed (AlikeItems.hole is) = refs-handed is
-  refs-handed (AlikeItems.item a s is) =
-      ap₂ (λ (x : ℕ) (y : List Deed). handed (only (declared (temporary [] 1 x))) ++ y) (position-alike a) (refs-handed is)
+  nestedEntry-alike a = refs-alike (outermost-alike (node-at 1 a))
 
   nestedEntry-deeds : {ok : Bool} {n m : Node} → Alike ok n m → handed (nestedEntry c n) ≡ handed (nestedEntry d m)
   unfolding nestedEntry
-  nestedEntry-deeds a = refs-handed (objects-alike c d (node-at 1 a))
+  nestedEntry-deeds a = refs-handed (outermost-alike (node-at 1 a))
 
   nestedMakes-alike : {ok : Bool} {n m : Node} → Alike ok n m → AlikeItems ok 0 (nestedMakes c n) (nestedMakes d m)
   unfolding nestedMakes
@@ -389,14 +390,14 @@ module _ (c d : Context) (root : c .root ≡ d .root) (stat : c .statement ≡ d
       (noted-alike (declaration c n) (declaration d m) (declarationMakes c n) (declarationMakes d m) (declarationExcludes c n) (declarationExcludes d m)
       (declaration-alike c d root e a) (declarationMakes-alike c d root a) (declarationExcludes-deeds c d root a)))
 
-  top-step : {ok : Bool} {n m : Node} → Alike ok n m → AlikeStep ok (stepTop c n) (stepTop d m)
+  top-step : {ok : Bool} {n m : Node} → Object (target n) → Alike ok n m → AlikeStep ok (stepTop c n) (stepTop d m)
   unfolding stepTop
-  top-step {n = n} {m = m} a =
+  top-step {n = n} {m = m} o a =
       by-test (topLacksForm n)
-      (λ h. rw (h, sym (topLacks-alike a) ∙ h, stepTop) (refuse-alike keyWithoutForm))
-      (λ h. rw (h, sym (topLacks-alike a) ∙ h, stepTop)
+      (λ h. rw (h, sym (topLacks-alike {n = n} {m = m} o a) ∙ h, stepTop) (refuse-alike keyWithoutForm))
+      (λ h. rw (h, sym (topLacks-alike {n = n} {m = m} o a) ∙ h, stepTop)
       (entry-alike (topSequence c n) (topSequence d m) (topMakes c n) (topMakes d m) (topExcludes c n) (topExcludes d m) (topEntry c n) (topEntry d m)
-      (topSequence-alike c d root stat a) (topMakes-alike c d root stat a) (topEntry-alike c d root stat a) (topEntry-deeds c d root stat a) (topExcludes-deeds c d root stat a)))
+      (topSequence-alike c d root stat o a) (topMakes-alike c d root stat o a) (topEntry-alike c d root stat o a) (topEntry-deeds c d root stat o a) (topExcludes-deeds c d root stat o a)))
 
   nested-step : {ok : Bool} {n m : Node} → Alike ok n m
       → AlikeStep ok (record { note = record { refusal = 0; made = nestedMakes c n; entry = nestedEntry c n; excluded = Items.none }; result = nestedSequence c n })
@@ -416,7 +417,7 @@ module _ (c d : Context) (root : c .root ≡ d .root) (stat : c .statement ≡ d
       (λ h. rw (h, sym (over-alike t) ∙ h, stepAssignment) (refuse-alike restBelowArrayRest))
       (λ h. rw (h, sym (over-alike t) ∙ h, stepAssignment)
       (by-test (isTop (target n))
-      (λ e. rw (e, sym (top-alike t) ∙ e, stepAssignment) (top-step a))
+      (λ e. rw (e, sym (top-alike t) ∙ e, stepAssignment) (top-step (shape-34 (target n) (top-34 (target n) e)) a))
       (λ e. rw (e, sym (top-alike t) ∙ e, stepAssignment)
       (by-test (hasObjectRest (target n))
       (λ o. rw (o, sym (below-alike t) ∙ o, stepAssignment) (nested-step a))

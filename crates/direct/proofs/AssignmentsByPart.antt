@@ -1,7 +1,7 @@
 -- Assignments with an object rest below the target, part by part.
 -- Assumes nothing.
 use mathlib.Core.Path.{_≡_, refl, sym, ap, ap₂, _∙_}
-use mathlib.Core.Bool.{Bool, true, false, cond}
+use mathlib.Core.Bool.{Bool, true, false, cond, not}
 use mathlib.Core.List.{List, [], _∷_, _++_}
 use Prim.Native.Nat.{ℕ, zero, suc}
 use native.Mathlib.Omega.{arith}
@@ -10,73 +10,40 @@ use Rattle.tree.specs.Tree.Fields.{done, field}
 use Rattle.tree.specs.Tree.Piece.{one, byte}
 use Rattle.lowering.specs.Parts.{position, is, pieceIn, standsIn, changeIn, nodeAt, itemsAt, stands, isEmpty, change, onNode, changeNode, only, each, gather, _+++_}
 use Rattle.lowering.specs.Made.{Context, temporary, assign, sequence, reference, valueOf}
-use Rattle.lowering.specs.Patterns.{shape, properties, value, rest, hasRest, withValues, hasNestedObjectRest, hasObjectRest, hasArrayRestOverObjectRest, replaced, replacedBelow, objectsWithRest, objectsBelow}
+use Rattle.lowering.specs.Patterns.{shape, rest, hasNestedObjectRest, hasObjectRest, hasArrayRestOverObjectRest, replacedBelow}
 use Rattle.lowering.specs.Patterns.Shape.{leaf}
-use Rattle.lowering.specs.Keys.{taken, keptKey}
+use Rattle.lowering.specs.Keys.{anyLacksForm}
 use Rattle.lowering.specs.Rests.{restValue}
-use Rattle.lowering.specs.Assignments.{target, isTop, restsThroughObjects, topLacksForm, topSequence, topEntry, topExcludes, topMakes, nestedSequence, nestedEntry, nestedMakes}
+use Rattle.lowering.specs.Assignments.{target, isTop, partsOf, outermost, fromReference, topLacksForm, topSequence, topEntry, topExcludes, topMakes, nestedSequence, nestedEntry, nestedMakes}
 use Rattle.lowering.specs.Walk.{rewrite, refuse, ruleOf, opensScope, stepAssignment, stepTop}
 use Rattle.lowering.specs.Collect.{isContainer}
 use Rattle.lowering.proofs.Cases.{by-test, by-shape, rule-27}
 use Rattle.lowering.proofs.Accepted.{NoHoles}
 use Rattle.direct.specs.Events.{Place, Emit, puts, refused, contextOf, emits}
 use Rattle.direct.specs.Emit.{say, _▷_, below, inner, emitsItems, emitsPiece, stays, inTurn}
-use Rattle.direct.specs.Views.{View, objectAt, objectRestAt, withoutRestsBelow, nameless, viewed, eachDoes, saysCell, emitsView}
-use Rattle.direct.specs.Views.View.{replacing, leaving}
+use Rattle.direct.specs.Views.{View, objectRestAt, viewed, eachDoes, saysCell, emitsView}
+use Rattle.direct.specs.Views.View.{replacing, taking}
 use Rattle.direct.specs.Keys.{emitsRest}
-use Rattle.direct.specs.Objects.{objectsIn, restsIn, overObjects, overRests}
-use Rattle.direct.specs.Handed.{placesIn}
-use Rattle.direct.specs.Assigned.{assignmentAt, assignHead, restInArrays, emitsRestOf, emitsInner, emitsNest, emitsTarget, topCount, emitsTop}
+use Rattle.direct.specs.Objects.{reachedIn, replacedIn, overReplaced, overParts}
+use Rattle.direct.specs.Objects.Reach.{straight, inArrays}
+use Rattle.direct.specs.Handed.{placesIn, partsCount}
+use Rattle.direct.specs.Assigned.{assignmentAt, assignHead, emitsRestOf, emitsInner, emitsNest, emitsTarget, topCount, emitsTop}
 use Rattle.direct.proofs.Threads.{then-assoc}
 use Rattle.direct.proofs.OneLevel.{emits-as, emits-refused, emits-unchanged, emits-nowhere}
 use Rattle.direct.proofs.RulesKeep.{assignment-kept}
 use Rattle.direct.proofs.MadeNodes.{say-then, below-inner, three-fields, only-item, no-items, more-items, emits-sequence}
-use Rattle.direct.proofs.ListsInTurn.{items-append, holes-append, items-each}
-use Rattle.direct.proofs.PatternViews.{emits-viewed, says-cell, without-object, taken-rest, values-rest}
+use Rattle.direct.proofs.ListsInTurn.{items-append, items-each}
+use Rattle.direct.proofs.PatternViews.{emits-viewed, says-cell}
 use Rattle.direct.proofs.RestValues.{rest-value}
-use Rattle.direct.proofs.ObjectsByLevel.{objects-same-path, replaced-same-path, without-same-path}
+use Rattle.direct.proofs.ObjectsByLevel.{replaced-same-path}
 use Rattle.direct.proofs.HandedByObject.{top-handed, nested-handed}
-use Rattle.direct.proofs.Targets.{replaced-nothing, replaced-clear, over-without, found-some}
+use Rattle.direct.proofs.Targets.{replaced-nothing, replaced-clear}
+use Rattle.direct.proofs.Reached.{outermost-reached, parts-reached, nearest-solid, parts-solid, found-or-none, leftOver, left-viewed, left-found, left-no-top, left-over}
 use Rattle.lowering.proofs.ItemLaws.{count-append, count-each}
 use Rattle.lowering.proofs.Clauses.{has-leaf-at}
 use Rattle.direct.proofs.DeclarationsByPart.{inner-inner}
 
--- ---- the lists of objects have no holes
-
-holes-gather : (f : Node → Items) → ((n : Node) → NoHoles (f n)) → (is : Items) → NoHoles (gather f is)
-unfolding NoHoles gather
-holes-gather f h Items.none = tt
-holes-gather f h (Items.hole is) = holes-gather f h is
-holes-gather f h (Items.item n is) = holes-append (f n) (gather f is) (h n) (holes-gather f h is)
-
-holes-cond : (b : Bool) (n : Node) → NoHoles (cond b (only n) Items.none)
-unfolding NoHoles
-holes-cond true n = tt
-holes-cond false n = tt
-
-rests-solid : (d : ℕ) (p : Node) → NoHoles (restsThroughObjects d p)
-unfolding restsThroughObjects NoHoles
-rests-solid zero p = tt
-rests-solid (suc d) p =
-    by-shape (shape p)
-    (λ e. rw (e, restsThroughObjects, NoHoles)
-    (holes-append (gather (λ q. restsThroughObjects d (value q)) (properties p)) (cond (hasRest p) (only p) Items.none)
-    (holes-gather (λ q. restsThroughObjects d (value q)) (λ q. rests-solid d (value q)) (properties p)) (holes-cond (hasRest p) p)))
-    (λ e. rw (e, restsThroughObjects, NoHoles) tt)
-    (λ e. rw (e, restsThroughObjects, NoHoles) (rests-solid d (nodeAt 0 p)))
-    (λ e. rw (e, restsThroughObjects, NoHoles) tt)
-
-objects-solid : (κ : Context) (d : ℕ) (p : Node) → NoHoles (objectsWithRest κ d p)
-unfolding objectsWithRest NoHoles
-objects-solid κ zero p = tt
-objects-solid κ (suc d) p =
-    by-shape (shape p)
-    (λ e. rw (e, objectsWithRest, NoHoles)
-    (holes-append (gather (λ q. objectsWithRest κ d (value q)) (properties p)) (cond (hasRest p) (only (withValues (λ v. replaced κ d v) p)) Items.none)
-    (holes-gather (λ q. objectsWithRest κ d (value q)) (λ q. objects-solid κ d (value q)) (properties p)) (holes-cond (hasRest p) (withValues (λ v. replaced κ d v) p))))
-    (λ e. rw (e, objectsWithRest, NoHoles) (holes-gather (λ x. objectsWithRest κ d x) (λ x. objects-solid κ d x) (itemsAt 0 p)))
-    (λ e. rw (e, objectsWithRest, NoHoles) (objects-solid κ d (nodeAt 0 p)))
-    (λ e. rw (e, objectsWithRest, NoHoles) tt)
+-- ---- lists without holes
 
 solid-does : (f : Node → Emit) (is : Items) → NoHoles is → eachDoes f is ≡ inTurn f is
 unfolding NoHoles eachDoes inTurn
@@ -151,187 +118,173 @@ temporary-has path stem at = refl
 
 -- ---- objects replaced, then an assignment for each
 
+from-gathered : (c : Place) (is : Items) → NoHoles is → emitsItems false (inner c) (each (fromReference (contextOf c)) is) ≡ inTurn (emitsInner c) is
+unfolding emitsInner
+from-gathered c is h = items-each (inner c) (fromReference (contextOf c)) is ∙ solid-does (λ o. emits (inner c) (fromReference (contextOf c) o)) is h
+
 module _ (c : Place) where
   nested-result : (at op : ℕ) (q x : Node)
       → nestedSequence (contextOf c) (assignmentAt at op q x)
-      ≡ sequence (Items.item (assignmentAt at op (replacedBelow (contextOf c) q) x) (each (λ o. assign o (reference (contextOf c) o)) (objectsBelow (contextOf c) q)))
+      ≡ sequence (Items.item (assignmentAt at op (replacedBelow (contextOf c) q) x) (each (fromReference (contextOf c)) (outermost q)))
   unfolding nestedSequence change changeIn onNode nodeAt pieceIn
   nested-result at op q x = refl
 
-  inner-gathered : (is : Items) → NoHoles is → emitsItems false (inner c) (each (λ o. assign o (reference (contextOf c) o)) is) ≡ inTurn (emitsInner c) is
-  unfolding emitsInner
-  inner-gathered is h =
-      items-each (inner c) (λ o. assign o (reference (contextOf c) o)) is ∙ solid-does (λ o. emits (inner c) (assign o (reference (contextOf c) o))) is h
-
+  -- q is left of p, by the view v of p
   nest-done : (v : View) (at op : ℕ) (q x p : Node) → hasArrayRestOverObjectRest q ≡ false → isTop q ≡ false → hasObjectRest q ≡ true
-      → objectsBelow (contextOf c) q ≡ objectsIn nameless v p → emits (inner c) (replacedBelow (contextOf c) q) ≡ emitsView (inner c) v p
+      → outermost q ≡ replacedIn v p → emits (inner c) (replacedBelow (contextOf c) q) ≡ emitsView (inner c) v p
       → emits c (assignmentAt at op q x) ≡ emitsNest c v op p (emits (inner c) x)
-  unfolding emitsNest overObjects placesIn is nodeAt pieceIn count
+  unfolding emitsNest overReplaced placesIn is nodeAt pieceIn count
   nest-done v at op q x p h t o a b =
       let κ = contextOf c in
       let n = assignmentAt at op q x in
-      let f : Node → Node = λ m. assign m (reference κ m) in
-      let os = objectsBelow κ q in
+      let os = outermost q in
       let left = assignmentAt at op (replacedBelow κ q) x in
       let seen = emitsView (inner c) v p in
       let X = emits (inner c) x in
-      let R = inTurn (emitsInner c) (objectsIn nameless v p) in
-      emits-as c n (record { note = record { refusal = 0; made = nestedMakes (contextOf c) n; entry = nestedEntry (contextOf c) n; excluded = Items.none }; result = nestedSequence (contextOf c) n }) (step-nested c n refl h t o)
+      let R = inTurn (emitsInner c) (replacedIn v p) in
+      emits-as c n (record { note = record { refusal = 0; made = nestedMakes κ n; entry = nestedEntry κ n; excluded = Items.none }; result = nestedSequence κ n }) (step-nested c n refl h t o)
       ∙ ap₂ (λ (e d : Emit). e ▷ d)
-      (nested-handed κ refl (c .mark) n v p a (ap isEmpty (sym a) ∙ found-some κ q h o))
+      (nested-handed κ refl (c .mark) n v p a (ap isEmpty (sym a) ∙ found-or-none q h ∙ ap not o))
       (ap (stays c) (nested-result at op q x)
-      ∙ stays-sequence c (Items.item left (each f os))
-      ∙ ap₂ (λ (k : ℕ) (e : Emit). say (puts (28 ∷ 1 ∷ wideBytes (suc k))) ▷ e) (count-each f os ∙ ap count a)
-      (more-items (inner c) left (each f os)
+      ∙ stays-sequence c (Items.item left (each (fromReference κ) os))
+      ∙ ap₂ (λ (k : ℕ) (e : Emit). say (puts (28 ∷ 1 ∷ wideBytes (suc k))) ▷ e) (count-each (fromReference κ) os ∙ ap count a)
+      (more-items (inner c) left (each (fromReference κ) os)
       ∙ ap₂ (λ (e d : Emit). e ▷ d)
       (inside-assigns c at op (replacedBelow κ q) x (replaced-clear κ q h) ∙ ap (λ (e : Emit). assignHead op ▷ e ▷ X) b)
-      (inner-gathered os (objects-solid κ (depth q) q) ∙ ap (inTurn (emitsInner c)) a)
+      (from-gathered c os (nearest-solid true (depth q) q) ∙ ap (inTurn (emitsInner c)) a)
       ∙ then-assoc (assignHead op) (seen ▷ X) R
       ∙ ap (λ (e : Emit). assignHead op ▷ e) (then-assoc seen X R)))
-
-  in-replacing : (p : Node) → objectsBelow (contextOf c) p ≡ objectsIn nameless replacing p
-  unfolding objectsIn
-  in-replacing p = objects-same-path (contextOf c) nameless refl replacing p
-
-  view-replacing : (p : Node) → emits (inner c) (replacedBelow (contextOf c) p) ≡ emitsView (inner c) replacing p
-  unfolding viewed
-  view-replacing p = emits-viewed (inner c) (contextOf c) replacing p
 
   -- a target that is no object with rest, with one below
   pub assignment-nested : (at op : ℕ) (p x : Node) → hasArrayRestOverObjectRest p ≡ false → isTop p ≡ false → hasObjectRest p ≡ true
       → emits c (assignmentAt at op p x) ≡ emitsNest c replacing op p (emits (inner c) x)
-  assignment-nested at op p x h t o = nest-done replacing at op p x p h t o (in-replacing p) (view-replacing p)
+  unfolding viewed
+  assignment-nested at op p x h t o = nest-done replacing at op p x p h t o (outermost-reached p) (emits-viewed (inner c) (contextOf c) replacing p)
 
-  in-leaving : (p : Node) → objectsBelow (contextOf c) (withoutRestsBelow nameless p) ≡ objectsIn nameless leaving p
-  unfolding objectsIn
-  in-leaving p = objects-same-path (contextOf c) nameless refl replacing (withoutRestsBelow nameless p)
-
-  view-leaving : (p : Node) → emits (inner c) (replacedBelow (contextOf c) (withoutRestsBelow nameless p)) ≡ emitsView (inner c) leaving p
-  unfolding emitsView viewed
-  view-leaving p = ap (emits (inner c)) (replaced-same-path (contextOf c) nameless refl (withoutRestsBelow nameless p))
-
-  left-leaving : (p : Node) → restInArrays p ≡ false → emits (inner c) (withoutRestsBelow nameless p) ≡ emitsView (inner c) leaving p
-  unfolding emitsView viewed restInArrays
-  left-leaving p h = ap (emits (inner c)) (sym (replaced-nothing nameless (withoutRestsBelow nameless p) h))
-
--- ---- the target without its rests
-
-left-rest : (at : ℕ) (ps : Items) (r : Node)
-    → withoutRestsBelow nameless (objectRestAt at ps r) ≡ objectAt at (each (keptKey nameless) (each (λ q. changeNode 1 (λ v. withoutRestsBelow nameless v) q) ps))
-left-rest at ps r =
-    let w : Node → Node = λ v. withoutRestsBelow nameless v in
-    without-object nameless at ps (field (one r) done) ∙ ap (taken nameless) (values-rest nameless w at ps r) ∙ taken-rest nameless at (each (λ q. changeNode 1 w q) ps) r
-
-object-top : (at : ℕ) (ps : Items) → isTop (objectAt at ps) ≡ false
-unfolding isTop is stands standsIn
-object-top at ps = refl
-
-left-top : (at : ℕ) (ps : Items) (r : Node) → isTop (withoutRestsBelow nameless (objectRestAt at ps r)) ≡ false
-left-top at ps r =
-    ap isTop (left-rest at ps r) ∙ object-top at (each (keptKey nameless) (each (λ q. changeNode 1 (λ v. withoutRestsBelow nameless v) q) ps))
+-- ---- a target that is an object with rest
 
 module _ (c : Place) where
-  kept-target : (p t : Node) → restInArrays p ≡ false → emits (inner c) (assign (withoutRestsBelow nameless p) t) ≡ assignHead 1 ▷ emitsView (inner c) leaving p ▷ emits (inner c) t
-  unfolding restInArrays
-  kept-target p t h =
-      inside-assigns c 0 1 (withoutRestsBelow nameless p) t h ∙ ap (λ (e : Emit). assignHead 1 ▷ e ▷ emits (inner c) t) (left-leaving c p h)
-
-  nest-target : (at : ℕ) (ps : Items) (r t : Node) → hasArrayRestOverObjectRest (objectRestAt at ps r) ≡ false → restInArrays (objectRestAt at ps r) ≡ true
-      → emits c (assign (withoutRestsBelow nameless (objectRestAt at ps r)) t) ≡ emitsNest c leaving 1 (objectRestAt at ps r) (emits (inner c) t)
-  unfolding restInArrays
-  nest-target at ps r t h b =
-      let p = objectRestAt at ps r in
-      nest-done c leaving 0 1 (withoutRestsBelow nameless p) t p (over-without nameless p h) (left-top at ps r) b (in-leaving c p) (view-leaving c p)
-
-module _ (c : Place) where
+  -- without its rest, its parts replaced: some objects below arrays are left, or none
   target-done : (at : ℕ) (ps : Items) (r : Node) → hasArrayRestOverObjectRest (objectRestAt at ps r) ≡ false
-      → emits (inner c) (assign (withoutRestsBelow (contextOf c) (objectRestAt at ps r)) (temporary [] 3 at)) ≡ emitsTarget c (objectRestAt at ps r)
+      → emits (inner c) (assign (leftOver (contextOf c) (objectRestAt at ps r)) (temporary [] 3 at)) ≡ emitsTarget c (objectRestAt at ps r)
   unfolding emitsTarget
   target-done at ps r h =
+      let κ = contextOf c in
       let p = objectRestAt at ps r in
+      let x = leftOver κ p in
       let t = temporary [] 3 at in
-      ap (λ (q : Node). emits (inner c) (assign q t)) (without-same-path (contextOf c) nameless refl p)
-      ∙ by-test (restInArrays p)
-      (λ b. rw b
-      (nest-target (inner c) at ps r t h b ∙ ap (λ (s : Emit). emitsNest (inner c) leaving 1 p s) (says-cell (inner (inner c)) [] 3 at)))
-      (λ b. rw b
-      (kept-target c p t b ∙ ap (λ (s : Emit). assignHead 1 ▷ emitsView (inner c) leaving p ▷ s) (says-cell (inner c) [] 3 at)))
+      let o = left-over κ at ps r h in
+      let found : not (hasObjectRest x) ≡ isEmpty (reachedIn inArrays p) = sym (found-or-none x o) ∙ ap isEmpty (left-found κ at ps r) in
+      by-test (hasObjectRest x)
+      (λ b. rw (sym (sym (ap not b) ∙ found))
+      (nest-done (inner c) taking 0 1 x t p o (left-no-top κ at ps r) b (left-found κ at ps r)
+      (ap (emits (inner (inner c))) (replaced-same-path (contextOf (inner c)) κ refl x ∙ left-viewed κ at ps r) ∙ emits-viewed (inner (inner c)) κ taking p)
+      ∙ ap (λ (s : Emit). emitsNest (inner c) taking 1 p s) (says-cell (inner (inner c)) [] 3 at)))
+      (λ b. rw (sym (sym (ap not b) ∙ found))
+      (inside-assigns c 0 1 x t b
+      ∙ ap₂ (λ (e s : Emit). assignHead 1 ▷ e ▷ s)
+      (ap (emits (inner c)) (sym (replaced-nothing κ x b) ∙ left-viewed κ at ps r) ∙ emits-viewed (inner c) κ taking p)
+      (says-cell (inner c) [] 3 at)))
 
   -- one way each
-  pub target-nested : (p : Node) → restInArrays p ≡ true → emitsTarget c p ≡ emitsNest (inner c) leaving 1 p (saysCell 3 (position p))
+  pub target-nested : (p : Node) → isEmpty (reachedIn inArrays p) ≡ false → emitsTarget c p ≡ emitsNest (inner c) taking 1 p (saysCell 3 (position p))
   unfolding emitsTarget
   target-nested p b = rw b refl
 
-  pub target-kept : (p : Node) → restInArrays p ≡ false → emitsTarget c p ≡ assignHead 1 ▷ emitsView (inner c) leaving p ▷ saysCell 3 (position p)
+  pub target-kept : (p : Node) → isEmpty (reachedIn inArrays p) ≡ true → emitsTarget c p ≡ assignHead 1 ▷ emitsView (inner c) taking p ▷ saysCell 3 (position p)
   unfolding emitsTarget
   target-kept p b = rw b refl
 
-  -- a rest through objects; it is no pattern
-  pub rest-done : (t at : ℕ) (ps : Items) (r : Node) → shape r ≡ leaf
-      → emitsRestOf c t (objectRestAt at ps r) ≡ assignHead 1 ▷ emits (inner c) r ▷ emitsRest (inner c) at ps (saysCell 3 t)
+  -- its rest; it is no pattern
+  pub rest-done : (at : ℕ) (ps : Items) (r : Node) → shape r ≡ leaf
+      → emitsRestOf c (objectRestAt at ps r) ≡ assignHead 1 ▷ emits (inner c) r ▷ emitsRest (inner c) at ps (saysCell 3 at)
   unfolding emitsRestOf nodeAt itemsAt pieceIn inner
-  rest-done t at ps r e =
+  rest-done at ps r e =
       let o = objectRestAt at ps r in
-      inside-assigns c 0 1 r (restValue (contextOf c) o (temporary [] 3 t)) (has-leaf-at r e)
+      inside-assigns c 0 1 r (restValue (contextOf c) o (temporary [] 3 at)) (has-leaf-at r e)
       ∙ ap (λ (x : Emit). assignHead 1 ▷ emits (inner c) r ▷ x)
-      (rest-value (inner c) (contextOf c) o (temporary [] 3 t) refl ∙ ap (λ (s : Emit). emitsRest (inner c) at ps s) (says-cell (inner (inner c)) [] 3 t))
+      (rest-value (inner c) (contextOf c) o (temporary [] 3 at) refl ∙ ap (λ (s : Emit). emitsRest (inner c) at ps s) (says-cell (inner (inner c)) [] 3 at))
 
-  -- ---- a target that is an object with rest
+  -- ---- the whole of it
 
   top-result : (at op : ℕ) (p x : Node)
       → topSequence (contextOf c) (assignmentAt at op p x)
-      ≡ sequence (Items.item (assign (valueOf (contextOf c) p) x) (Items.item (assign (withoutRestsBelow (contextOf c) p) (valueOf (contextOf c) p))
-      (each (λ o. assign (rest o) (restValue (contextOf c) o (valueOf (contextOf c) p))) (restsIn p) +++ cond (c .statement) Items.none (only (valueOf (contextOf c) p)))))
+      ≡ sequence (Items.item (assign (valueOf (contextOf c) p) x) (Items.item (assign (leftOver (contextOf c) p) (valueOf (contextOf c) p))
+      (each (fromReference (contextOf c)) (partsOf p)
+      +++ Items.item (assign (rest p) (restValue (contextOf c) p (valueOf (contextOf c) p))) (cond (c .statement) Items.none (only (valueOf (contextOf c) p))))))
   unfolding topSequence nodeAt pieceIn
   top-result at op p x = refl
 
-  count-tail : (f : Node → Node) (is : Items) (t : Node) (s : Bool) → count (each f is +++ cond s Items.none (only t)) ≡ cond s (count is) (suc (count is))
+  count-tail : (f : Node → Node) (is : Items) (m t : Node) (s : Bool) → count (each f is +++ Items.item m (cond s Items.none (only t))) ≡ suc (cond s (count is) (suc (count is)))
   unfolding count
-  count-tail f is t true = let a = count-append (each f is) Items.none in let b = count-each f is in let z : count Items.none ≡ 0 = refl in omega arith
-  count-tail f is t false = let a = count-append (each f is) (only t) in let b = count-each f is in let z : count (only t) ≡ 1 = refl in omega arith
+  count-tail f is m t true = let a = count-append (each f is) (Items.item m Items.none) in let b = count-each f is in let z : count (Items.item m Items.none) ≡ 1 = refl in omega arith
+  count-tail f is m t false = let a = count-append (each f is) (Items.item m (only t)) in let b = count-each f is in let z : count (Items.item m (only t)) ≡ 2 = refl in omega arith
 
   read-done : (path : List ℕ) (at : ℕ) (s : Bool) → emitsItems false (inner c) (cond s Items.none (only (temporary path 3 at))) ≡ cond s (say []) (saysCell 3 at)
   read-done path at true = no-items false (inner c)
   read-done path at false = only-item (inner c) (temporary path 3 at) ∙ says-cell (inner c) path 3 at
 
-  rests-done : (t : ℕ) (p : Node) → emitsItems false (inner c) (each (λ o. assign (rest o) (restValue (contextOf c) o (temporary [] 3 t))) (restsIn p)) ≡ overRests (emitsRestOf c t) p
-  unfolding overRests emitsRestOf
-  rests-done t p =
-      let f : Node → Node = λ o. assign (rest o) (restValue (contextOf c) o (temporary [] 3 t)) in
-      items-each (inner c) f (restsIn p) ∙ solid-does (λ o. emits (inner c) (f o)) (restsIn p) (rests-solid (depth p) p)
-
   value-done : (at : ℕ) (x : Node) → emits (inner c) (assign (temporary [] 3 at) x) ≡ assignHead 1 ▷ saysCell 3 at ▷ emits (inner c) x
   value-done at x =
       inside-assigns c 0 1 (temporary [] 3 at) x (temporary-has [] 3 at) ∙ ap (λ (e : Emit). assignHead 1 ▷ e ▷ emits (inner c) x) (says-cell (inner c) [] 3 at)
+
+  parts-done : (p : Node) → emitsItems false (inner c) (each (fromReference (contextOf c)) (partsOf p)) ≡ overParts (emitsInner c) p
+  unfolding overParts
+  parts-done p = from-gathered c (partsOf p) (parts-solid p) ∙ ap (inTurn (emitsInner c)) (parts-reached p)
+
+  rest-said : (p : Node) → emits (inner c) (assign (rest p) (restValue (contextOf c) p (temporary [] 3 (position p)))) ≡ emitsRestOf c p
+  unfolding emitsRestOf
+  rest-said p = refl
 
   rest-top : (at : ℕ) (ps : Items) (r : Node) → isTop (objectRestAt at ps r) ≡ true
   unfolding isTop is stands standsIn
   rest-top at ps r = refl
 
   pub assignment-top : (at op pat : ℕ) (ps : Items) (r x : Node) → hasArrayRestOverObjectRest (objectRestAt pat ps r) ≡ false
-      → topLacksForm (assignmentAt at op (objectRestAt pat ps r) x) ≡ false
+      → anyLacksForm (objectRestAt pat ps r) ≡ false
       → emits c (assignmentAt at op (objectRestAt pat ps r) x) ≡ emitsTop c (objectRestAt pat ps r) (emits (inner c) x)
-  unfolding emitsTop topCount is nodeAt pieceIn count
+  unfolding emitsTop topCount partsCount topLacksForm is nodeAt pieceIn count
   assignment-top at op pat ps r x h l =
       let κ = contextOf c in
       let p = objectRestAt pat ps r in
       let n = assignmentAt at op p x in
       let t = valueOf κ p in
-      let f : Node → Node = λ o. assign (rest o) (restValue κ o t) in
-      let tail = each f (restsIn p) +++ cond (c .statement) Items.none (only t) in
-      let R = overRests (emitsRestOf c pat) p ▷ cond (c .statement) (say []) (saysCell 3 pat) in
-      emits-as c n (record { note = record { refusal = 0; made = topMakes (contextOf c) n; entry = topEntry (contextOf c) n; excluded = topExcludes (contextOf c) n }; result = topSequence (contextOf c) n })
+      let m = assign (rest p) (restValue κ p t) in
+      let qs = each (fromReference κ) (partsOf p) in
+      let last = Items.item m (cond (c .statement) Items.none (only t)) in
+      let R = overParts (emitsInner c) p ▷ emitsRestOf c p ▷ cond (c .statement) (say []) (saysCell 3 pat) in
+      emits-as c n (record { note = record { refusal = 0; made = topMakes κ n; entry = topEntry κ n; excluded = topExcludes κ n }; result = topSequence κ n })
       (step-top c n refl h (rest-top pat ps r) ∙ top-steps c n refl l)
       ∙ ap₂ (λ (e d : Emit). e ▷ d)
-      (top-handed κ refl (c .mark) n)
+      (top-handed κ refl (c .mark) n (parts-reached p))
       (ap (stays c) (top-result at op p x)
-      ∙ stays-sequence c (Items.item (assign t x) (Items.item (assign (withoutRestsBelow κ p) t) tail))
-      ∙ ap₂ (λ (k : ℕ) (e : Emit). say (puts (28 ∷ 1 ∷ wideBytes (suc (suc k)))) ▷ e) (count-tail f (restsIn p) t (c .statement))
-      (more-items (inner c) (assign t x) (Items.item (assign (withoutRestsBelow κ p) t) tail)
+      ∙ stays-sequence c (Items.item (assign t x) (Items.item (assign (leftOver κ p) t) (qs +++ last)))
+      ∙ ap₂ (λ (k : ℕ) (e : Emit). say (puts (28 ∷ 1 ∷ wideBytes (suc (suc k)))) ▷ e)
+      (count-tail (fromReference κ) (partsOf p) m t (c .statement) ∙ ap (λ (is : Items). suc (cond (c .statement) (count is) (suc (count is)))) (parts-reached p))
+      (more-items (inner c) (assign t x) (Items.item (assign (leftOver κ p) t) (qs +++ last))
       ∙ ap₂ (λ (e d : Emit). e ▷ d) (value-done pat x)
-      (more-items (inner c) (assign (withoutRestsBelow κ p) t) tail
+      (more-items (inner c) (assign (leftOver κ p) t) (qs +++ last)
       ∙ ap₂ (λ (e d : Emit). e ▷ d) (target-done pat ps r h)
-      (items-append false (inner c) (each f (restsIn p)) (cond (c .statement) Items.none (only t))
-      ∙ ap₂ (λ (e d : Emit). e ▷ d) (rests-done pat p) (read-done [] pat (c .statement))))
+      (items-append false (inner c) qs last
+      ∙ ap₂ (λ (e d : Emit). e ▷ d) (parts-done p)
+      (more-items (inner c) m (cond (c .statement) Items.none (only t)) ∙ ap₂ (λ (e d : Emit). e ▷ d) (rest-said p) (read-done [] pat (c .statement)))))
       ∙ then-assoc (assignHead 1) (saysCell 3 pat ▷ emits (inner c) x) (emitsTarget c p ▷ R)
       ∙ ap (λ (e : Emit). assignHead 1 ▷ e) (then-assoc (saysCell 3 pat) (emits (inner c) x) (emitsTarget c p ▷ R))))
+
+-- ---- an object's own assignment is the same rule, with the temporary in its place for the value
+
+module _ (c : Place) where
+  pub inner-done : (at : ℕ) (ps : Items) (r : Node) → hasArrayRestOverObjectRest (objectRestAt at ps r) ≡ false → anyLacksForm (objectRestAt at ps r) ≡ false
+      → emitsInner c (objectRestAt at ps r) ≡ emitsTop (inner c) (objectRestAt at ps r) (saysCell 1 at)
+  unfolding emitsInner
+  inner-done at ps r h l =
+      let p = objectRestAt at ps r in
+      assignment-top (inner c) 0 1 at ps r (temporary [] 1 at) h l
+      ∙ ap (λ (s : Emit). emitsTop (inner c) p s) (says-cell (inner (inner c)) [] 1 at)
+
+  pub inner-refused : (at : ℕ) (ps : Items) (r : Node) → hasArrayRestOverObjectRest (objectRestAt at ps r) ≡ false → anyLacksForm (objectRestAt at ps r) ≡ true
+      → emitsInner c (objectRestAt at ps r) ≡ say (refused 6 ++ puts (0 ∷ 0 ∷ []))
+  unfolding emitsInner topLacksForm is nodeAt pieceIn
+  inner-refused at ps r h l =
+      let n = assign (objectRestAt at ps r) (temporary [] 1 at) in
+      assignment-refused-6 (inner c) n refl h (rest-top c at ps r) l

@@ -16,11 +16,11 @@ use Rattle.lowering.proofs.Cases.{by-test, by-shape}
 use Rattle.lowering.proofs.WeightKeys.{rest-changed}
 use Rattle.direct.specs.Events.{Place, contextOf}
 use Rattle.direct.specs.Views.{nameless}
-use Rattle.direct.specs.Inner.{otherKeys}
+use Rattle.direct.specs.Handed.{otherKeys}
 use Rattle.direct.specs.Declared.{declaratorCount}
 use Rattle.direct.specs.Counts.{sumOf, ownCount, foundCount, patternCount, declaratorsOf}
 use Rattle.direct.proofs.DeclarationsByPart.{properties-changed}
-use Rattle.direct.proofs.InnerAssignments.{keys-counted, other-values}
+use Rattle.direct.proofs.HandedByObject.{keys-counted, other-values}
 use Rattle.direct.proofs.Tests.{count-gather}
 use Rattle.lowering.proofs.ItemLaws.{count-append, empty-each}
 

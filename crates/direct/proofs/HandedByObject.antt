@@ -3,7 +3,8 @@
 use mathlib.Core.Path.{_≡_, refl, sym, ap, ap₂, _∙_, fun-ext}
 use mathlib.Core.Bool.{Bool, true, false, cond, not, _&&_, _||_, false≢true}
 use mathlib.Core.List.{List, [], _∷_, _++_, append-nil, append-assoc}
-use Prim.Native.Nat.{ℕ, suc}
+use Prim.Native.Nat.{ℕ, suc, _+_}
+use native.Mathlib.Omega.{arith}
 use lib.Dec.{eqb}
 use lib.ListN.{length}
 use Rattle.tree.specs.Tree.{Node, Items, wideBytes, mapOf, count, encode, encodeItems}
@@ -14,7 +15,7 @@ use Rattle.lowering.specs.Keys.{keySort, isPrimitive, excludedKey, excludedKeys
 use Rattle.lowering.specs.Keys.Key.{name, literal, template, private}
 use Rattle.lowering.specs.Rests.{isHoisted, excludedFor, restMakes}
 use Rattle.lowering.specs.Declarations.{isName, isLowered, sourceDeclarator, innerObjects, declaratorMakes, loweredIn, declarationMakes, declarationExcludes}
-use Rattle.lowering.specs.Assignments.{target, restsOf, topEntry, topExcludes, topMakes, nestedEntry, nestedMakes}
+use Rattle.lowering.specs.Assignments.{target, partsOf, outermost, topEntry, topExcludes, topMakes, nestedEntry, nestedMakes}
 use Rattle.lowering.proofs.Cases.{by-test, by-key, and-right, or-left, or-right, not-true, not-false}
 use Rattle.lowering.proofs.All.{AllItems}
 use Rattle.sink.specs.Machine.{Event}
@@ -24,15 +25,16 @@ use Rattle.direct.specs.Emit.{say, _▷_, inTurn}
 use Rattle.direct.specs.Views.{View, nameless, isOther}
 use Rattle.direct.specs.Views.View.{replacing, taking}
 use Rattle.direct.specs.Keys.{stringBytes, entries, primitives, hoists}
-use Rattle.direct.specs.Objects.{objectsIn, restsIn, overObjects, overRests}
-use Rattle.direct.specs.Handed.{placeMade, keyMade, keysMade, keyBytes, excludesOf, handsKey, handsKeys, handsPlace, keysBelow, placesIn, declaratorMade, declaratorExcludes, handsTop, handsNested, keyBytesOf}
+use Rattle.direct.specs.Objects.{objectsIn, reachedIn, replacedIn, overObjects, overReplaced, overParts}
+use Rattle.direct.specs.Objects.Reach.{straight}
+use Rattle.direct.specs.Handed.{placeMade, keyMade, keysMade, keyBytes, excludesOf, handsKey, handsKeys, handsPlace, otherKeys, placesIn, partsCount, declaratorMade, declaratorExcludes, handsTop, handsNested, keyBytesOf}
 use Rattle.direct.proofs.Threads.{then-assoc, then-nothing, say-say}
 use Rattle.direct.proofs.Alike.{key-kept}
 use Rattle.direct.proofs.AlikeRests.{excluded-none, excluded-append}
 use Rattle.direct.proofs.ListsInTurn.{turn-same}
 use Rattle.direct.proofs.RestValues.{key-spelt, key-itself, key-omitted, entries-in, hoisted-are, hoists-values, entries-values, does-each}
 use Rattle.direct.proofs.ObjectsByLevel.{Keyed, objects-same-path}
-use Rattle.lowering.proofs.ItemLaws.{each-gather, count-each, empty-each}
+use Rattle.lowering.proofs.ItemLaws.{each-gather, count-append, count-each, empty-each}
 use Rattle.lowering.proofs.ChangeLaws.{position-changed}
 use Rattle.direct.proofs.AlikeRules.{handed-append}
 
@@ -260,6 +262,33 @@ module _ (κ : Context) where
       ap (λ (b : Bool). say (excludedDeeds (cond b (only (declares (excludedOf κ o) (array (excludedKeys κ o)))) Items.none))) (hoisted-are κ o)
       ∙ by-test (hoists (κ .root) (properties o)) (λ h. rw h (hoisted-excludes o h)) (λ h. rw h (ap say excluded-none))
 
+-- ---- how many keys of an object become temporaries
+
+key-counted : (b : Bool) (n : Node) (is : Items) → count (cond b (only n) Items.none +++ is) ≡ cond b (suc (count is)) (count is)
+unfolding count _+++_
+key-counted true n is = refl
+key-counted false n is = refl
+
+count-keys : (κ : Context) (qs : Items) → count (gather (keyTemporary κ) qs) ≡ otherKeys qs
+unfolding gather count otherKeys
+count-keys κ Items.none = refl
+count-keys κ (Items.hole qs) = count-keys κ qs
+count-keys κ (Items.item q qs) =
+    ap (λ (is : Items). count (is +++ gather (keyTemporary κ) qs)) (keyTemporary-is κ q)
+    ∙ key-counted (isOther (key q)) (declares (keyOf κ q) (key q)) (gather (keyTemporary κ) qs)
+    ∙ ap (λ (n : ℕ). cond (isOther (key q)) (suc n) n) (count-keys κ qs)
+
+pub keys-counted : (κ : Context) (p : Node) → count (keyTemporaries κ p) ≡ otherKeys (properties p)
+unfolding keyTemporaries
+keys-counted κ p = count-keys κ (properties p)
+
+pub other-values : (g : Node → Node) (qs : Items) → otherKeys (each (λ q. changeNode 1 g q) qs) ≡ otherKeys qs
+unfolding otherKeys each
+other-values g Items.none = refl
+other-values g (Items.hole qs) = other-values g qs
+other-values g (Items.item q qs) =
+    ap₂ (λ (b : Bool) (n : ℕ). cond b (suc n) n) (ap isOther (key-kept (onNode g) q)) (other-values g qs)
+
 -- ---- what is done does not look at the values of an object
 
 pub place-keyed : Keyed placeMade
@@ -362,28 +391,6 @@ module _ (κ : Context) (unnamed : κ .path ≡ []) where
 
   -- ---- an assignment to an object with rest
 
-  pub rests-handed : (is : Items) → say (handed (gather (keyTemporaries κ) is)) ≡ inTurn handsKeys is
-  rests-handed is =
-      listed-gather handed handed-listed (keyTemporaries κ) is ∙ turn-same (λ o. say (handed (keyTemporaries κ o))) handsKeys (λ o. keys-handed κ o) is
-
-  pub rests-excluded : (is : Items) → say (excludedDeeds (gather (excludedFor κ) is)) ≡ inTurn (excludesOf (κ .root)) is
-  rests-excluded is =
-      listed-gather excludedDeeds excluded-listed (excludedFor κ) is
-      ∙ turn-same (λ o. say (excludedDeeds (excludedFor κ o))) (excludesOf (κ .root)) (λ o. excluded-handed κ o) is
-
-  temporaries-same : (o : Node) → keyTemporaries κ o ≡ keyTemporaries nameless o
-  unfolding keyTemporaries
-  temporaries-same o =
-      ap (λ (f : Node → Items). gather f (properties o))
-      (fun-ext (λ q.
-      keyTemporary-is κ q
-      ∙ ap (λ (x : List ℕ). cond (isOther (key q)) (only (declares (temporary x 4 (position q)) (key q))) Items.none) unnamed
-      ∙ sym (keyTemporary-is nameless q)))
-
-  keys-counted : (p : Node) → count (gather (keyTemporaries κ) (restsIn p)) ≡ keysBelow p
-  unfolding keysBelow
-  keys-counted p = ap (λ (f : Node → Items). count (gather f (restsIn p))) (fun-ext temporaries-same)
-
   entry-first : (m : ℕ) (t : Node) (ds : Items)
       → entered m (Items.item (declared t) ds) ≡ does (Event.entry m (suc (count ds))) ∷ lists (5 ∷ 1 ∷ []) ++ (does (Event.listedTemporary (cellOf t) (stemOf t)) ∷ []) ++ handed ds
   unfolding entered handed isEmpty count stands standsIn nodeAt pieceIn
@@ -393,37 +400,57 @@ module _ (κ : Context) (unnamed : κ .path ≡ []) where
   unfolding cellOf numberAt pieceIn
   cell-3 p = refl
 
-  pub top-handed : (m : ℕ) (n : Node)
-      → say (handsOut m (record { refusal = 0; made = topMakes κ n; entry = topEntry κ n; excluded = topExcludes κ n })) ≡ handsTop (κ .root) m (target n)
-  unfolding handsOut refused isEmpty topEntry topExcludes handsTop overRests numberAt pieceIn
-  top-handed m n =
-      let p = target n in
-      let ds = gather (keyTemporaries κ) (restsOf n) in
-      let es = excludedDeeds (gather (excludedFor κ) (restsOf n)) in
-      let head : ℕ → ℕ → List Deed = λ k t. does (Event.entry m (suc k)) ∷ lists (5 ∷ 1 ∷ []) ++ (does (Event.listedTemporary t 3) ∷ []) in
-      ap (λ (x : List Deed). say (x ++ es)) (entry-first m (valueOf κ p) ds)
-      ∙ ap₂ (λ (k t : ℕ). say ((head k t ++ handed ds) ++ es)) (keys-counted p) (cell-3 p)
-      ∙ sym (say-say (head (keysBelow p) (cell 3 (position p)) ++ handed ds) es)
-      ∙ ap (λ (e : Emit). e ▷ say es) (sym (say-say (head (keysBelow p) (cell 3 (position p))) (handed ds)))
-      ∙ then-assoc (say (head (keysBelow p) (cell 3 (position p)))) (say (handed ds)) (say es)
-      ∙ ap₂ (λ (e f : Emit). say (head (keysBelow p) (cell 3 (position p))) ▷ e ▷ f) (rests-handed (restsOf n)) (rests-excluded (restsOf n))
-
-  -- ---- an assignment to any other target
-
   place-handed : (o : Node) → say (handed (only (declared (reference κ o)))) ≡ handsPlace o
   unfolding handed handsPlace stands standsIn nodeAt pieceIn cellOf numberAt
   place-handed o = refl
 
-  pub nested-handed : (m : ℕ) (n : Node) (v : View) (p : Node) → objectsBelow κ (target n) ≡ objectsIn nameless v p → isEmpty (objectsIn nameless v p) ≡ false
+  places-handed : (os : Items) → say (handed (each (λ o. declared (reference κ o)) os)) ≡ inTurn handsPlace os
+  places-handed os =
+      let f : Node → Node = λ o. declared (reference κ o) in
+      listed-each handed handed-listed f os ∙ turn-same (λ o. say (handed (only (f o)))) handsPlace place-handed os
+
+  pub top-handed : (m : ℕ) (n : Node) → partsOf (target n) ≡ reachedIn straight (target n)
+      → say (handsOut m (record { refusal = 0; made = topMakes κ n; entry = topEntry κ n; excluded = topExcludes κ n })) ≡ handsTop (κ .root) m (target n)
+  unfolding handsOut refused isEmpty topEntry topExcludes handsTop overParts partsCount numberAt pieceIn
+  top-handed m n e =
+      let p = target n in
+      let f : Node → Node = λ o. declared (reference κ o) in
+      let os = reachedIn straight p in
+      let ks = keyTemporaries κ p in
+      let es = excludedDeeds (excludedFor κ p) in
+      let N = count os + otherKeys (properties p) in
+      let head : ℕ → ℕ → List Deed = λ k t. does (Event.entry m (suc k)) ∷ lists (5 ∷ 1 ∷ []) ++ (does (Event.listedTemporary t 3) ∷ []) in
+      let H = say (head N (cell 3 (position p))) in
+      let X = excludesOf (κ .root) p in
+      ap (λ (x : List Deed). say (x ++ es)) (entry-first m (valueOf κ p) (each f (partsOf p) +++ ks))
+      ∙ ap (λ (is : Items). say ((head (count (each f is +++ ks)) (cellOf (valueOf κ p)) ++ handed (each f is +++ ks)) ++ es)) e
+      ∙ ap₂ (λ (k t : ℕ). say ((head k t ++ handed (each f os +++ ks)) ++ es)) (counted os) (cell-3 p)
+      ∙ sym (say-say (head N (cell 3 (position p)) ++ handed (each f os +++ ks)) es)
+      ∙ ap₂ (λ (x y : Emit). x ▷ y)
+      (sym (say-say (head N (cell 3 (position p))) (handed (each f os +++ ks)))
+      ∙ ap (λ (x : Emit). H ▷ x) (listed-append handed handed-listed (each f os) ks ∙ ap₂ (λ (x y : Emit). x ▷ y) (places-handed os) (keys-handed κ p)))
+      (excluded-handed κ p)
+      ∙ then-assoc H (inTurn handsPlace os ▷ handsKeys p) X
+      ∙ ap (λ (x : Emit). H ▷ x) (then-assoc (inTurn handsPlace os) (handsKeys p) X)
+    where
+      counted : (os : Items) → count (each (λ o. declared (reference κ o)) os +++ keyTemporaries κ (target n)) ≡ count os + otherKeys (properties (target n))
+      counted os =
+          let a = count-append (each (λ o. declared (reference κ o)) os) (keyTemporaries κ (target n)) in
+          let b = count-each (λ o. declared (reference κ o)) os in
+          let c = keys-counted κ (target n) in
+          omega arith
+
+  -- ---- an assignment to any other target
+
+  pub nested-handed : (m : ℕ) (n : Node) (v : View) (p : Node) → outermost (target n) ≡ replacedIn v p → isEmpty (replacedIn v p) ≡ false
       → say (handsOut m (record { refusal = 0; made = nestedMakes κ n; entry = nestedEntry κ n; excluded = Items.none })) ≡ handsNested v m p
-  unfolding handsOut refused entered excludedDeeds nestedEntry nestedMakes handsNested overObjects placesIn
+  unfolding handsOut refused entered excludedDeeds nestedEntry nestedMakes handsNested overReplaced placesIn
   nested-handed m n v p e h =
       let f : Node → Node = λ o. declared (reference κ o) in
-      let os = objectsIn nameless v p in
+      let os = replacedIn v p in
       ap (λ (is : Items). say (((([] ++ cond (isEmpty (each f is)) (made (each idOf (each f is))) []) ++ cond (isEmpty (each f is)) [] (does (Event.entry m (count (each f is))) ∷ handed (each f is))) ++ []))) e
       ∙ ap (λ (b : Bool). say (((([] ++ cond b (made (each idOf (each f os))) []) ++ cond b [] (does (Event.entry m (count (each f os))) ∷ handed (each f os))) ++ []))) (empty-each f os ∙ h)
       ∙ ap say (append-nil (does (Event.entry m (count (each f os))) ∷ handed (each f os)))
       ∙ ap (λ (k : ℕ). say (does (Event.entry m k) ∷ handed (each f os))) (count-each f os)
       ∙ sym (say-say (does (Event.entry m (count os)) ∷ []) (handed (each f os)))
-      ∙ ap (λ (x : Emit). say (does (Event.entry m (count os)) ∷ []) ▷ x)
-      (listed-each handed handed-listed f os ∙ turn-same (λ o. say (handed (only (f o)))) handsPlace place-handed os)
+      ∙ ap (λ (x : Emit). say (does (Event.entry m (count os)) ∷ []) ▷ x) (places-handed os)

@@ -17,8 +17,8 @@ pub mod ObjectsByLevel
 pub mod HandedByObject
 pub mod DeclarationsByPart
 pub mod Targets
+pub mod Reached
 pub mod AssignmentsByPart
-pub mod InnerAssignments
 pub mod Tests
 pub mod DeclaratorCounts
 pub mod Ways

@@ -13,17 +13,16 @@ use Rattle.lowering.specs.Parts.{nothing, position, is, asNode, pieceIn, stands
 use Rattle.lowering.specs.Made.{Context, temporary, keyOf}
 use Rattle.lowering.specs.Patterns.{shape, properties, key, value, hasRest, withItems, withLeft, withValues, withProperties, replaced, replacedBelow, objectsWithRest, objectsBelow}
 use Rattle.lowering.specs.Patterns.Shape.{objectPattern, arrayPattern, default, leaf}
-use Rattle.lowering.specs.Keys.{keptKey, taken}
+use Rattle.lowering.specs.Keys.{keptKey}
 use Rattle.lowering.specs.Declarations.{innerObjects}
-use Rattle.lowering.specs.Assignments.{restsThroughObjects, withoutRests}
-use Rattle.lowering.proofs.Levels.{gather-agrees, node-in, values-agree, objects-nothing, replaced-levels, objects-levels, rests-levels, rests-nothing, below-leaf}
+use Rattle.lowering.proofs.Levels.{gather-agrees, node-in, values-agree, objects-nothing, replaced-levels, objects-levels, below-leaf}
 use Rattle.direct.specs.Events.{Emit}
 use Rattle.direct.specs.Emit.{say, _▷_, inTurn}
-use Rattle.direct.specs.Views.{View, valuesOf, takes, objectAt, objectRestAt, withoutRestsBelow, nameless, isOther}
-use Rattle.direct.specs.Views.View.{replacing, taking, leaving}
-use Rattle.direct.specs.Objects.{objectsIn, restsIn, overObjects, overRests}
+use Rattle.direct.specs.Views.{View, takes, objectAt, objectRestAt, nameless, isOther}
+use Rattle.direct.specs.Views.View.{replacing, taking}
+use Rattle.direct.specs.Objects.{objectsIn, overObjects}
 use Rattle.direct.proofs.ListsInTurn.{turn-append, turn-gather, turn-only}
-use Rattle.direct.proofs.PatternViews.{keptKey-is, taken-object, taken-rest, values-object, values-rest, without-object, without-array-at, without-default-at, without-leaf-at}
+use Rattle.direct.proofs.PatternViews.{keptKey-is}
 use Rattle.lowering.proofs.ItemLaws.{items-none, gather-same, gather-each}
 use Rattle.lowering.proofs.ChangeLaws.{node-on}
 
@@ -48,10 +47,6 @@ value-beside f (node at k (absent fs)) = refl
 value-beside f (node at k (field p fs)) = refl
 
 module _ (κ : Context) where
-  pub without-nothing : withoutRestsBelow κ nothing ≡ nothing
-  unfolding withoutRests depth shape
-  without-nothing = refl
-
   pub value-kept : (q : Node) → value (keptKey κ q) ≡ value q
   value-kept q = ap (λ (n : Node). value n) (keptKey-is κ q) ∙ go (isOther (key q))
     where
@@ -92,21 +87,10 @@ module _ (κ : Context) where
   unfolding objectsWithRest shape depth nodeAt pieceIn
   found-default at l fs = objects-levels (max (depth l) (depthFields fs)) l (omega arith) κ
 
-  -- the values, when rests are taken
-  without-values : (q : Node) → value (changeNode 1 (λ v. withoutRestsBelow κ v) q) ≡ withoutRestsBelow κ (value q)
-  without-values q = value-changed (λ v. withoutRestsBelow κ v) without-nothing q
-
-  pub objects-object : (v : View) (at : ℕ) (ps : Items) → objectsIn κ v (objectAt at ps) ≡ gather (λ q. objectsIn κ (valuesOf v) (value q)) ps
+  pub objects-object : (v : View) (at : ℕ) (ps : Items) → objectsIn κ v (objectAt at ps) ≡ gather (λ q. objectsIn κ replacing (value q)) ps
   unfolding objectsIn innerObjects shape itemsAt pieceIn
   objects-object replacing at ps = found-object at ps
   objects-object taking at ps = refl
-  objects-object leaving at ps =
-      let w : Node → Node = λ v. withoutRestsBelow κ v in
-      let f : Node → Items = λ q. objectsBelow κ (value q) in
-      ap (λ (p : Node). objectsBelow κ p) (without-object κ at ps (absent done) ∙ ap (taken κ) (values-object κ w at ps) ∙ taken-object κ at (each (λ q. changeNode 1 w q) ps))
-      ∙ found-object at (each (λ q. changeNode 1 w q) ps)
-      ∙ gather-each f (λ q. changeNode 1 w q) ps
-      ∙ gather-same (λ q. f (changeNode 1 w q)) (λ q. objectsBelow κ (withoutRestsBelow κ (value q))) (λ q. ap (λ (p : Node). objectsBelow κ p) (without-values q)) ps
 
   pub objects-rest : (at : ℕ) (ps : Items) (r : Node)
       → objectsIn κ replacing (objectRestAt at ps r)
@@ -114,70 +98,25 @@ module _ (κ : Context) where
   unfolding objectsIn
   objects-rest at ps r = found-rest at ps r
 
-  pub objects-taken : (v : View) → takes v ≡ true → (at : ℕ) (ps : Items) (r : Node) → objectsIn κ v (objectRestAt at ps r) ≡ gather (λ q. objectsIn κ (valuesOf v) (value q)) ps
+  pub objects-taken : (v : View) → takes v ≡ true → (at : ℕ) (ps : Items) (r : Node) → objectsIn κ v (objectRestAt at ps r) ≡ gather (λ q. objectsIn κ replacing (value q)) ps
   unfolding objectsIn innerObjects shape itemsAt pieceIn
   objects-taken replacing h at ps r = absurd (false≢true h)
   objects-taken taking h at ps r = refl
-  objects-taken leaving h at ps r =
-      let w : Node → Node = λ v. withoutRestsBelow κ v in
-      let f : Node → Items = λ q. objectsBelow κ (value q) in
-      ap (λ (p : Node). objectsBelow κ p) (without-object κ at ps (field (one r) done) ∙ ap (taken κ) (values-rest κ w at ps r) ∙ taken-rest κ at (each (λ q. changeNode 1 w q) ps) r)
-      ∙ found-object at (each (keptKey κ) (each (λ q. changeNode 1 w q) ps))
-      ∙ gather-each f (keptKey κ) (each (λ q. changeNode 1 w q) ps)
-      ∙ gather-each (λ q. f (keptKey κ q)) (λ q. changeNode 1 w q) ps
-      ∙ gather-same (λ q. f (keptKey κ (changeNode 1 w q))) (λ q. objectsBelow κ (withoutRestsBelow κ (value q)))
-      (λ q. ap (λ (p : Node). objectsBelow κ p) (value-kept (changeNode 1 w q) ∙ without-values q)) ps
 
   pub objects-array : (v : View) (at : ℕ) (is : Items) (fs : Fields) → objectsIn κ v (node at 36 (field (list is) fs)) ≡ gather (objectsIn κ replacing) is
   unfolding objectsIn innerObjects shape
   objects-array replacing at is fs = found-array at is fs
   objects-array taking at is fs = found-array at is fs
-  objects-array leaving at is fs = ap (λ (p : Node). objectsBelow κ p) (without-array-at κ at (field (list is) fs)) ∙ found-array at is fs
 
-  pub objects-default : (v : View) (at : ℕ) (l : Node) (fs : Fields) → objectsIn κ v (node at 37 (field (one l) fs)) ≡ objectsIn κ (valuesOf v) l
+  pub objects-default : (v : View) (at : ℕ) (l : Node) (fs : Fields) → objectsIn κ v (node at 37 (field (one l) fs)) ≡ objectsIn κ replacing l
   unfolding objectsIn innerObjects shape
   objects-default replacing at l fs = found-default at l fs
   objects-default taking at l fs = found-default at l fs
-  objects-default leaving at l fs = ap (λ (p : Node). objectsBelow κ p) (without-default-at κ at l fs) ∙ found-default at (withoutRestsBelow κ l) fs
 
   pub objects-leaf : (v : View) (p : Node) → shape p ≡ leaf → objectsIn κ v p ≡ Items.none
   unfolding objectsIn innerObjects
   objects-leaf replacing p e = below-leaf κ p e
   objects-leaf taking p e = rw (e, innerObjects) refl
-  objects-leaf leaving p e = ap (λ (x : Node). objectsBelow κ x) (without-leaf-at κ p e) ∙ below-leaf κ p e
-
--- ---- objects that are reached through objects alone
-
-rests-value : (d : ℕ) (q : Node) → depth q ≤ d → restsThroughObjects d (value q) ≡ restsIn (value q)
-rests-value d q l =
-    node-in (λ m. restsThroughObjects d m) (λ m. restsIn m) d (λ m h. rests-levels d m h)
-    (rests-nothing d ∙ sym (rests-nothing (depth nothing))) 1 q (omega arith)
-
-pub rests-object : (at : ℕ) (ps : Items) → restsIn (objectAt at ps) ≡ gather (λ q. restsIn (value q)) ps
-unfolding restsThroughObjects shape depth stands standsIn itemsAt pieceIn
-rests-object at ps =
-    let d = max (depthItems ps) 0 in
-    items-none (gather (λ q. restsThroughObjects d (value q)) ps)
-    ∙ gather-agrees (λ q. restsThroughObjects d (value q)) (λ q. restsIn (value q)) d (λ q l. rests-value d q l) ps (omega arith)
-
-pub rests-rest : (at : ℕ) (ps : Items) (r : Node) → restsIn (objectRestAt at ps r) ≡ gather (λ q. restsIn (value q)) ps +++ only (objectRestAt at ps r)
-unfolding restsThroughObjects shape depth stands standsIn itemsAt pieceIn
-rests-rest at ps r =
-    let d = max (depthItems ps) (max (depth r) 0) in
-    ap (λ (x : Items). x +++ only (objectRestAt at ps r))
-    (gather-agrees (λ q. restsThroughObjects d (value q)) (λ q. restsIn (value q)) d (λ q l. rests-value d q l) ps (omega arith))
-
-pub rests-array : (at : ℕ) (fs : Fields) → restsIn (node at 36 fs) ≡ Items.none
-unfolding restsThroughObjects shape depth
-rests-array at fs = refl
-
-pub rests-default : (at : ℕ) (l : Node) (fs : Fields) → restsIn (node at 37 (field (one l) fs)) ≡ restsIn l
-unfolding restsThroughObjects shape depth nodeAt pieceIn
-rests-default at l fs = rests-levels (max (depth l) (depthFields fs)) l (omega arith)
-
-pub rests-leaf : (p : Node) → shape p ≡ leaf → restsIn p ≡ Items.none
-unfolding restsThroughObjects depth
-rests-leaf (node at k fs) e = rw (e, restsThroughObjects) refl
 
 -- ---- only the path of a context is used
 
@@ -214,32 +153,6 @@ module _ (κ μ : Context) (same : κ .path ≡ μ .path) where
   found-same : (p : Node) → objectsBelow κ p ≡ objectsBelow μ p
   found-same p = ap (λ (f : Node → Items). f p) (found-path (depth p))
 
-  kept-same : (q : Node) → keptKey κ q ≡ keptKey μ q
-  kept-same q =
-      keptKey-is κ q
-      ∙ ap (λ (x : List ℕ). cond (isOther (key q)) (changeNode 0 (λ k. temporary x 4 (position q)) q) q) same
-      ∙ sym (keptKey-is μ q)
-
-  taken-same : (p : Node) → taken κ p ≡ taken μ p
-  unfolding taken
-  taken-same p = ap (λ (f : Node → Node). cond (hasRest p) (without 1 (withProperties f p)) p) (fun-ext kept-same)
-
-  without-path : (d : ℕ) → _≡_ {A = Node → Node} (λ p. withoutRests κ d p) (λ p. withoutRests μ d p)
-  unfolding withoutRests
-  without-path zero = refl
-  without-path (suc d) =
-      fun-ext (λ p.
-      ap₂ (λ (t : Node → Node) (f : Node → Node).
-      elim (shape p) [
-        | objectPattern ↦ t (withValues (λ v. f v) p)
-        | arrayPattern ↦ p
-        | default ↦ withLeft (λ l. f l) p
-        | leaf ↦ p
-      ]) (fun-ext taken-same) (without-path d))
-
-  pub without-same-path : (p : Node) → withoutRestsBelow κ p ≡ withoutRestsBelow μ p
-  without-same-path p = ap (λ (f : Node → Node). f p) (without-path (depth p))
-
   inner-same : (p : Node) → innerObjects κ p ≡ innerObjects μ p
   unfolding innerObjects
   inner-same p =
@@ -255,7 +168,6 @@ module _ (κ μ : Context) (same : κ .path ≡ μ .path) where
   unfolding objectsIn
   objects-same-path replacing p = found-same p
   objects-same-path taking p = inner-same p
-  objects-same-path leaving p = ap (λ (x : Node). objectsBelow κ x) (without-same-path p) ∙ found-same (withoutRestsBelow μ p)
 
 -- ---- what is done for them, one level
 
@@ -267,9 +179,9 @@ module _ (f : Node → Emit) where
   over-gather : (g : Node → Items) (is : Items) (e : Items) → e ≡ gather g is → inTurn f e ≡ inTurn (λ q. inTurn f (g q)) is
   over-gather g is e h = ap (inTurn f) h ∙ turn-gather f g is
 
-  pub over-object : (v : View) (at : ℕ) (ps : Items) → overObjects f v (objectAt at ps) ≡ inTurn (λ q. overObjects f (valuesOf v) (value q)) ps
+  pub over-object : (v : View) (at : ℕ) (ps : Items) → overObjects f v (objectAt at ps) ≡ inTurn (λ q. overObjects f replacing (value q)) ps
   unfolding overObjects
-  over-object v at ps = over-gather (λ q. objectsIn nameless (valuesOf v) (value q)) ps (objectsIn nameless v (objectAt at ps)) (objects-object nameless v at ps)
+  over-object v at ps = over-gather (λ q. objectsIn nameless replacing (value q)) ps (objectsIn nameless v (objectAt at ps)) (objects-object nameless v at ps)
 
   pub over-rest : (at : ℕ) (ps : Items) (r : Node)
       → overObjects f replacing (objectRestAt at ps r)
@@ -288,42 +200,18 @@ module _ (f : Node → Emit) where
       over-rest at ps r ∙ ap (λ (x : Emit). inTurn (λ q. overObjects f replacing (value q)) ps ▷ x) (k (λ v. replacedBelow nameless v) at ps r)
 
   pub over-taken : (v : View) → takes v ≡ true → (at : ℕ) (ps : Items) (r : Node)
-      → overObjects f v (objectRestAt at ps r) ≡ inTurn (λ q. overObjects f (valuesOf v) (value q)) ps
+      → overObjects f v (objectRestAt at ps r) ≡ inTurn (λ q. overObjects f replacing (value q)) ps
   unfolding overObjects
-  over-taken v h at ps r = over-gather (λ q. objectsIn nameless (valuesOf v) (value q)) ps (objectsIn nameless v (objectRestAt at ps r)) (objects-taken nameless v h at ps r)
+  over-taken v h at ps r = over-gather (λ q. objectsIn nameless replacing (value q)) ps (objectsIn nameless v (objectRestAt at ps r)) (objects-taken nameless v h at ps r)
 
   pub over-array : (v : View) (at : ℕ) (is : Items) (fs : Fields) → overObjects f v (node at 36 (field (list is) fs)) ≡ inTurn (overObjects f replacing) is
   unfolding overObjects
   over-array v at is fs = over-gather (objectsIn nameless replacing) is (objectsIn nameless v (node at 36 (field (list is) fs))) (objects-array nameless v at is fs)
 
-  pub over-default : (v : View) (at : ℕ) (l : Node) (fs : Fields) → overObjects f v (node at 37 (field (one l) fs)) ≡ overObjects f (valuesOf v) l
+  pub over-default : (v : View) (at : ℕ) (l : Node) (fs : Fields) → overObjects f v (node at 37 (field (one l) fs)) ≡ overObjects f replacing l
   unfolding overObjects
   over-default v at l fs = ap (inTurn f) (objects-default nameless v at l fs)
 
   pub over-leaf : (v : View) (p : Node) → shape p ≡ leaf → overObjects f v p ≡ say []
   unfolding overObjects inTurn
   over-leaf v p e = ap (inTurn f) (objects-leaf nameless v p e)
-
-  pub through-object : (at : ℕ) (ps : Items) → overRests f (objectAt at ps) ≡ inTurn (λ q. overRests f (value q)) ps
-  unfolding overRests
-  through-object at ps = over-gather (λ q. restsIn (value q)) ps (restsIn (objectAt at ps)) (rests-object at ps)
-
-  pub through-rest : (at : ℕ) (ps : Items) (r : Node)
-      → overRests f (objectRestAt at ps r) ≡ inTurn (λ q. overRests f (value q)) ps ▷ f (objectRestAt at ps r)
-  unfolding overRests
-  through-rest at ps r =
-      ap (inTurn f) (rests-rest at ps r)
-      ∙ turn-append f (gather (λ q. restsIn (value q)) ps) (only (objectRestAt at ps r))
-      ∙ ap₂ (λ (x y : Emit). x ▷ y) (turn-gather f (λ q. restsIn (value q)) ps) (turn-only f (objectRestAt at ps r))
-
-  pub through-array : (at : ℕ) (fs : Fields) → overRests f (node at 36 fs) ≡ say []
-  unfolding overRests inTurn
-  through-array at fs = ap (inTurn f) (rests-array at fs)
-
-  pub through-default : (at : ℕ) (l : Node) (fs : Fields) → overRests f (node at 37 (field (one l) fs)) ≡ overRests f l
-  unfolding overRests
-  through-default at l fs = ap (inTurn f) (rests-default at l fs)
-
-  pub through-leaf : (p : Node) → shape p ≡ leaf → overRests f p ≡ say []
-  unfolding overRests inTurn
-  through-leaf p e = ap (inTurn f) (rests-leaf p e)

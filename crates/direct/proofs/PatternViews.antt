@@ -15,20 +15,19 @@ use Rattle.lowering.specs.Made.{Context, temporary, keyOf}
 use Rattle.lowering.specs.Patterns.{shape, key, withValues, replaced, replacedBelow}
 use Rattle.lowering.specs.Patterns.Shape.{objectPattern, arrayPattern, default, leaf}
 use Rattle.lowering.specs.Keys.{keySort, keptKey, taken}
-use Rattle.lowering.specs.Assignments.{withoutRests}
 use Rattle.lowering.specs.Walk.{ruleOf, opensScope}
 use Rattle.lowering.specs.Collect.{isContainer}
 use Rattle.lowering.proofs.Cases.{by-test, by-key, shape-34}
-use Rattle.lowering.proofs.Levels.{values-agree, replaced-levels, without-levels, each-agrees}
+use Rattle.lowering.proofs.Levels.{values-agree, replaced-levels, each-agrees}
 use Rattle.sink.specs.Machine.{Event}
 use Rattle.direct.specs.Events.{Place, Emit, puts, cell, emits}
 use Rattle.direct.specs.Events.Deed.{does}
 use Rattle.direct.specs.Emit.{say, _▷_, below, inner, emitsItems, emitsPiece, emitsParts, stays}
-use Rattle.direct.specs.Views.{View, valuesOf, takes, objectAt, objectRestAt, propertyAt, arrayAt, arrayRestAt, defaultAt, withoutRestsBelow, viewed, viewedProperty, nameless, eachDoes, saysCell, emitsView, emitsProperty, isOther, emitsKey}
-use Rattle.direct.specs.Views.View.{replacing, taking, leaving}
+use Rattle.direct.specs.Views.{View, takes, objectAt, objectRestAt, propertyAt, arrayAt, arrayRestAt, defaultAt, viewed, viewedProperty, nameless, eachDoes, saysCell, emitsView, emitsProperty, isOther, emitsKey}
+use Rattle.direct.specs.Views.View.{replacing, taking}
 use Rattle.direct.proofs.Threads.{then-assoc, then-nothing}
 use Rattle.direct.proofs.Alike.{Alike, alike-refl, key-kept}
-use Rattle.direct.proofs.AlikePatterns.{replaced-alike, withoutRests-alike, taken-alike, values-alike, shape-values}
+use Rattle.direct.proofs.AlikePatterns.{replaced-alike, taken-alike, values-alike, shape-values}
 use Rattle.direct.proofs.PathFree.{names-free}
 use Rattle.direct.proofs.OneLevel.{emits-nowhere}
 use Rattle.direct.proofs.MadeNodes.{say-then, below-inner, two-fields, three-fields, emits-temporary}
@@ -187,46 +186,20 @@ module _ (κ : Context) where
   unfolding change changeIn onItems
   values-rest f at ps r = refl
 
-  pub without-object : (at : ℕ) (ps : Items) (fs : Fields) → withoutRestsBelow κ (node at 34 (field (list ps) fs)) ≡ taken κ (withValues (λ v. withoutRestsBelow κ v) (node at 34 (field (list ps) fs)))
-  unfolding withoutRests shape depth
-  without-object at ps fs =
-      let d = max (depthItems ps) (depthFields fs) in
-      ap (taken κ) (values-agree (λ v. withoutRests κ d v) (λ v. withoutRestsBelow κ v) d (λ m l. without-levels d m l κ) (node at 34 (field (list ps) fs)) (omega arith))
-
-  pub without-array-at : (at : ℕ) (fs : Fields) → withoutRestsBelow κ (node at 36 fs) ≡ node at 36 fs
-  unfolding withoutRests shape depth
-  without-array-at at fs = refl
-
-  pub without-default-at : (at : ℕ) (l : Node) (fs : Fields) → withoutRestsBelow κ (node at 37 (field (one l) fs)) ≡ node at 37 (field (one (withoutRestsBelow κ l)) fs)
-  unfolding withoutRests shape depth change changeIn onNode
-  without-default-at at l fs =
-      ap (λ (x : Node). node at 37 (field (one x) fs)) (without-levels (max (depth l) (depthFields fs)) l (omega arith) κ)
-
-  pub without-leaf-at : (p : Node) → shape p ≡ leaf → withoutRestsBelow κ p ≡ p
-  unfolding withoutRests depth
-  without-leaf-at (node at k fs) e = rw (e, withoutRests) refl
-
   -- ---- the viewed node, one level
 
-  pub viewed-object : (v : View) (at : ℕ) (ps : Items) → viewed κ v (objectAt at ps) ≡ objectAt at (each (viewedProperty κ false (valuesOf v)) ps)
+  pub viewed-object : (v : View) (at : ℕ) (ps : Items) → viewed κ v (objectAt at ps) ≡ objectAt at (each (viewedProperty κ false replacing) ps)
   unfolding viewed viewedProperty is
   viewed-object replacing at ps = replaced-object-at at ps
   viewed-object taking at ps =
       ap (taken κ) (values-object (λ v. replacedBelow κ v) at ps) ∙ taken-object at (each (λ q. changeNode 1 (λ v. replacedBelow κ v) q) ps)
-  viewed-object leaving at ps =
-      let w : Node → Node = λ v. withoutRestsBelow κ v in
-      let r : Node → Node = λ v. replacedBelow κ v in
-      ap (λ (x : Node). replacedBelow κ x)
-      (without-object at ps (absent done) ∙ ap (taken κ) (values-object w at ps) ∙ taken-object at (each (λ q. changeNode 1 w q) ps))
-      ∙ replaced-object-at at (each (λ q. changeNode 1 w q) ps)
-      ∙ ap (objectAt at) (each-each (λ q. changeNode 1 r q) (λ q. changeNode 1 w q) ps ∙ each-same (λ q. changeNode 1 r (changeNode 1 w q)) (λ q. changeNode 1 (λ v. r (w v)) q) (λ q. value-twice r w q) ps)
 
   pub viewed-replaced : (at : ℕ) (ps : Items) (r : Node) → viewed κ replacing (objectRestAt at ps r) ≡ temporary (κ .path) 1 at
   unfolding viewed
   viewed-replaced at ps r = replaced-rest-at at ps r
 
   pub viewed-rest : (v : View) → takes v ≡ true → (at : ℕ) (ps : Items) (r : Node)
-      → viewed κ v (objectRestAt at ps r) ≡ objectAt at (each (viewedProperty κ true (valuesOf v)) ps)
+      → viewed κ v (objectRestAt at ps r) ≡ objectAt at (each (viewedProperty κ true replacing) ps)
   unfolding viewed viewedProperty is
   viewed-rest replacing h at ps r = absurd (false≢true h)
   viewed-rest taking h at ps r =
@@ -234,38 +207,23 @@ module _ (κ : Context) where
       ap (taken κ) (values-rest f at ps r)
       ∙ taken-rest at (each (λ q. changeNode 1 f q) ps) r
       ∙ ap (objectAt at) (each-each (keptKey κ) (λ q. changeNode 1 f q) ps)
-  viewed-rest leaving h at ps r =
-      let w : Node → Node = λ v. withoutRestsBelow κ v in
-      let f : Node → Node = λ v. replacedBelow κ v in
-      ap (λ (x : Node). replacedBelow κ x)
-      (without-object at ps (field (one r) done) ∙ ap (taken κ) (values-rest w at ps r) ∙ taken-rest at (each (λ q. changeNode 1 w q) ps) r)
-      ∙ replaced-object-at at (each (keptKey κ) (each (λ q. changeNode 1 w q) ps))
-      ∙ ap (objectAt at)
-      (ap (each (λ q. changeNode 1 f q)) (each-each (keptKey κ) (λ q. changeNode 1 w q) ps)
-      ∙ each-each (λ q. changeNode 1 f q) (λ q. keptKey κ (changeNode 1 w q)) ps
-      ∙ each-same (λ q. changeNode 1 f (keptKey κ (changeNode 1 w q))) (λ q. keptKey κ (changeNode 1 (λ v. f (w v)) q))
-      (λ q. kept-value f (changeNode 1 w q) ∙ ap (keptKey κ) (value-twice f w q)) ps)
 
   pub viewed-array : (v : View) (at : ℕ) (is : Items) (fs : Fields)
       → viewed κ v (node at 36 (field (list is) fs)) ≡ node at 36 (field (list (each (viewed κ replacing) is)) fs)
   unfolding viewed is
   viewed-array replacing at is fs = replaced-array-at at is fs
   viewed-array taking at is fs = replaced-array-at at is fs
-  viewed-array leaving at is fs = ap (λ (x : Node). replacedBelow κ x) (without-array-at at (field (list is) fs)) ∙ replaced-array-at at is fs
 
   pub viewed-default : (v : View) (at : ℕ) (l : Node) (fs : Fields)
-      → viewed κ v (node at 37 (field (one l) fs)) ≡ node at 37 (field (one (viewed κ (valuesOf v) l)) fs)
+      → viewed κ v (node at 37 (field (one l) fs)) ≡ node at 37 (field (one (viewed κ replacing l)) fs)
   unfolding viewed is
   viewed-default replacing at l fs = replaced-default-at at l fs
   viewed-default taking at l fs = replaced-default-at at l fs
-  viewed-default leaving at l fs =
-      ap (λ (x : Node). replacedBelow κ x) (without-default-at at l fs) ∙ replaced-default-at at (withoutRestsBelow κ l) fs
 
   pub viewed-leaf : (v : View) (p : Node) → shape p ≡ leaf → viewed κ v p ≡ p
   unfolding viewed
   viewed-leaf replacing p e = replaced-leaf-at p e
   viewed-leaf taking p e = ap (λ (b : Bool). cond b (taken κ (withValues (λ v. replacedBelow κ v) p)) (replacedBelow κ p)) (leaf-34 p e) ∙ replaced-leaf-at p e
-  viewed-leaf leaving p e = ap (λ (x : Node). replacedBelow κ x) (without-leaf-at p e) ∙ replaced-leaf-at p e
 
 -- ---- the names of temporaries play no part
 
@@ -279,7 +237,6 @@ module _ (κ μ : Context) where
       (taken-alike κ μ (shape-values (λ v. replacedBelow κ v) p ∙ shape-34 p e)
       (values-alike (λ v. replacedBelow κ v) (λ v. replacedBelow μ v) (λ n m a. replaced-alike κ μ a) (alike-refl p))))
       (λ e. rw e (replaced-alike κ μ (alike-refl p)))
-  viewed-alike leaving p = replaced-alike κ μ (withoutRests-alike κ μ (alike-refl p))
 
 -- ---- what is done for a pattern, one level
 
@@ -305,9 +262,9 @@ module _ (c : Place) where
 
   -- an object without rest
   pub view-object : (v : View) (at : ℕ) (ps : Items)
-      → emitsView c v (objectAt at ps) ≡ say (puts (34 ∷ 1 ∷ wideBytes (count ps))) ▷ eachDoes (emitsProperty (inner c) false (valuesOf v)) ps
+      → emitsView c v (objectAt at ps) ≡ say (puts (34 ∷ 1 ∷ wideBytes (count ps))) ▷ eachDoes (emitsProperty (inner c) false replacing) ps
   unfolding emitsView
-  view-object v at ps = ap (emits c) (viewed-object nameless v at ps) ∙ properties-done false (valuesOf v) at ps
+  view-object v at ps = ap (emits c) (viewed-object nameless v at ps) ∙ properties-done false replacing at ps
 
   -- one with rest: replaced, or without its rest
   pub view-replaced : (at : ℕ) (ps : Items) (r : Node) → emitsView c replacing (objectRestAt at ps r) ≡ saysCell 1 at
@@ -315,9 +272,9 @@ module _ (c : Place) where
   view-replaced at ps r = ap (emits c) (viewed-replaced nameless at ps r) ∙ says-cell [] 1 at
 
   pub view-rest : (v : View) → takes v ≡ true → (at : ℕ) (ps : Items) (r : Node)
-      → emitsView c v (objectRestAt at ps r) ≡ say (puts (34 ∷ 1 ∷ wideBytes (count ps))) ▷ eachDoes (emitsProperty (inner c) true (valuesOf v)) ps
+      → emitsView c v (objectRestAt at ps r) ≡ say (puts (34 ∷ 1 ∷ wideBytes (count ps))) ▷ eachDoes (emitsProperty (inner c) true replacing) ps
   unfolding emitsView
-  view-rest v h at ps r = ap (emits c) (viewed-rest nameless v h at ps r) ∙ properties-done true (valuesOf v) at ps
+  view-rest v h at ps r = ap (emits c) (viewed-rest nameless v h at ps r) ∙ properties-done true replacing at ps
 
   -- an array; its rest as it stands
   pub view-array : (v : View) (at : ℕ) (is : Items)
@@ -338,10 +295,10 @@ module _ (c : Place) where
 
   -- a default
   pub view-default : (v : View) (at : ℕ) (l r : Node)
-      → emitsView c v (defaultAt at l r) ≡ say (puts (37 ∷ 3 ∷ [])) ▷ emitsView (inner c) (valuesOf v) l ▷ emits (inner c) r
+      → emitsView c v (defaultAt at l r) ≡ say (puts (37 ∷ 3 ∷ [])) ▷ emitsView (inner c) replacing l ▷ emits (inner c) r
   unfolding emitsView
   view-default v at l r =
-      ap (emits c) (viewed-default nameless v at l (field (one r) done)) ∙ emits-default-at c at (viewed nameless (valuesOf v) l) r
+      ap (emits c) (viewed-default nameless v at l (field (one r) done)) ∙ emits-default-at c at (viewed nameless replacing l) r
 
   -- anything else
   pub view-leaf : (v : View) (p : Node) → shape p ≡ leaf → emitsView c v p ≡ emits c p

@@ -1,31 +1,27 @@
 -- Targets seen through views: where nothing is left to be replaced or taken.
 -- Assumes nothing.
 use mathlib.Core.Path.{_≡_, refl, sym, ap, ap₂, _∙_, fun-ext}
-use mathlib.Core.Bool.{Bool, true, false, cond, not, _&&_, _||_}
+use mathlib.Core.Bool.{Bool, true, false, _||_}
 use Prim.Native.Nat.{ℕ, zero, suc, _+_}
 use native.Mathlib.Omega.{arith}
 use Rattle.tree.specs.Tree.{Node, Fields, Piece, Items, depth}
 use Rattle.tree.specs.Tree.Node.{node}
 use Rattle.tree.specs.Tree.Fields.{done, absent, field}
 use Rattle.tree.specs.Tree.Piece.{one, list, text, byte, mark, number}
-use Rattle.lowering.specs.Parts.{nothing, is, asNode, pieceIn, changeIn, nodeAt, isEmpty, change, onNode, onItems, changeNode, changeItems, without, only, each, gather, any, _+++_}
+use Rattle.lowering.specs.Parts.{nothing, is, asNode, pieceIn, changeIn, nodeAt, change, onNode, onItems, changeNode, changeItems, without, each, any}
 use Rattle.lowering.specs.Made.{Context, reference}
-use Rattle.lowering.specs.Patterns.{shape, properties, itemsOf, rest, hasRest, leftOf, value, withLeft, withItems, withValues, withProperties, hasNestedObjectRest, hasNestedArrayRest, hasObjectRest, hasArrayRestOverObjectRest, replaced, replacedBelow, objectsWithRest, objectsBelow}
+use Rattle.lowering.specs.Patterns.{shape, properties, itemsOf, rest, hasRest, leftOf, value, withLeft, withItems, withValues, withProperties, hasNestedObjectRest, hasNestedArrayRest, hasObjectRest, hasArrayRestOverObjectRest, replaced, replacedBelow}
 use Rattle.lowering.specs.Patterns.Shape.{objectPattern, arrayPattern, default, leaf}
 use Rattle.lowering.specs.Keys.{keptKey, taken}
-use Rattle.lowering.specs.Assignments.{withoutRests, restsThroughObjects}
 use Rattle.lowering.proofs.Cases.{by-test, by-shape, or-left, or-right}
 use Rattle.lowering.proofs.WeightKeys.{rest-changed}
-use Rattle.lowering.proofs.Levels.{has-levels, array-levels, replaced-levels, without-levels, rests-levels}
-use Rattle.lowering.proofs.NoRestsLeft.{replaced-rests}
-use Rattle.direct.specs.Views.{withoutRestsBelow}
-use Rattle.direct.specs.Objects.{restsIn}
+use Rattle.lowering.proofs.Levels.{has-levels, array-levels, replaced-levels}
 use Rattle.direct.proofs.PatternViews.{value-twice}
 use Rattle.direct.proofs.ObjectsByLevel.{value-changed, value-kept}
 use Rattle.direct.proofs.DeclarationsByPart.{properties-changed, rest-beside}
 use Rattle.lowering.proofs.ItemLaws.{each-each, any-none}
 use Rattle.lowering.proofs.ChangeLaws.{shape-changed, changeItems-same, node-on, node-on-twice, items-without}
-use Rattle.lowering.proofs.Clauses.{objects-object, objects-array, objects-default, objects-leaf, taken-none, replaced-plain, replaced-top, replaced-array, replaced-default, replaced-leaf, without-object, without-array, without-default, without-leaf}
+use Rattle.lowering.proofs.Clauses.{replaced-plain, replaced-top, replaced-array, replaced-default, replaced-leaf}
 
 -- ---- lists and fields
 
@@ -68,7 +64,7 @@ first-changed f h (node at k done) = sym h
 first-changed f h (node at k (absent fs)) = sym h
 first-changed f h (node at k (field p fs)) = node-on f h p
 
-left-twice : (f g : Node → Node) (p : Node) → withLeft f (withLeft g p) ≡ withLeft (λ n. f (g n)) p
+pub left-twice : (f g : Node → Node) (p : Node) → withLeft f (withLeft g p) ≡ withLeft (λ n. f (g n)) p
 unfolding change changeIn
 left-twice f g (node at k done) = refl
 left-twice f g (node at k (absent fs)) = refl
@@ -101,15 +97,15 @@ module _ (d : ℕ) (p : Node) where
   unfolding hasNestedObjectRest
   has-object e = rw (e, hasNestedObjectRest) refl
 
-  has-array : shape p ≡ arrayPattern → hasNestedObjectRest (suc d) p ≡ any (λ x. hasNestedObjectRest d x) (itemsOf p) || hasNestedObjectRest d (rest p)
+  pub has-array : shape p ≡ arrayPattern → hasNestedObjectRest (suc d) p ≡ any (λ x. hasNestedObjectRest d x) (itemsOf p) || hasNestedObjectRest d (rest p)
   unfolding hasNestedObjectRest
   has-array e = rw (e, hasNestedObjectRest) refl
 
-  has-default : shape p ≡ default → hasNestedObjectRest (suc d) p ≡ hasNestedObjectRest d (leftOf p)
+  pub has-default : shape p ≡ default → hasNestedObjectRest (suc d) p ≡ hasNestedObjectRest d (leftOf p)
   unfolding hasNestedObjectRest
   has-default e = rw (e, hasNestedObjectRest) refl
 
-  has-leaf : shape p ≡ leaf → hasNestedObjectRest (suc d) p ≡ false
+  pub has-leaf : shape p ≡ leaf → hasNestedObjectRest (suc d) p ≡ false
   unfolding hasNestedObjectRest
   has-leaf e = rw (e, hasNestedObjectRest) refl
 
@@ -117,11 +113,11 @@ module _ (d : ℕ) (p : Node) where
   unfolding hasNestedArrayRest
   over-object e = rw (e, hasNestedArrayRest) refl
 
-  over-array : shape p ≡ arrayPattern → hasNestedArrayRest (suc d) p ≡ any (λ x. hasNestedArrayRest d x) (itemsOf p) || hasNestedObjectRest d (rest p)
+  pub over-array : shape p ≡ arrayPattern → hasNestedArrayRest (suc d) p ≡ any (λ x. hasNestedArrayRest d x) (itemsOf p) || hasNestedObjectRest d (rest p)
   unfolding hasNestedArrayRest
   over-array e = rw (e, hasNestedArrayRest) refl
 
-  over-default : shape p ≡ default → hasNestedArrayRest (suc d) p ≡ hasNestedArrayRest d (leftOf p)
+  pub over-default : shape p ≡ default → hasNestedArrayRest (suc d) p ≡ hasNestedArrayRest d (leftOf p)
   unfolding hasNestedArrayRest
   over-default e = rw (e, hasNestedArrayRest) refl
 
@@ -131,20 +127,10 @@ module _ (κ : Context) where
   rep-nothing zero = refl
   rep-nothing (suc d) = refl
 
-  pub left-nothing : (d : ℕ) → withoutRests κ d nothing ≡ nothing
-  unfolding withoutRests shape
-  left-nothing zero = refl
-  left-nothing (suc d) = refl
-
   reference-has : (d : ℕ) (p : Node) → hasNestedObjectRest d (reference κ p) ≡ false
   unfolding hasNestedObjectRest shape
   reference-has zero p = refl
   reference-has (suc d) p = refl
-
-  reference-left : (μ : Context) (d : ℕ) (p : Node) → withoutRests μ d (reference κ p) ≡ reference κ p
-  unfolding withoutRests shape
-  reference-left μ zero p = refl
-  reference-left μ (suc d) p = refl
 
   -- ---- no object rest below: nothing is replaced
 
@@ -223,52 +209,7 @@ module _ (κ : Context) where
       ∙ ap (hasNestedObjectRest b) (sym (replaced-levels b p (omega arith) κ))
       ∙ has-replaced b p (array-levels b p (omega arith) ∙ h)
 
-  -- ---- rests taken of what is replaced: nothing
-
-  left-replaced : (μ : Context) (d : ℕ) (p : Node) → withoutRests μ d (replaced κ d p) ≡ replaced κ d p
-  unfolding withoutRests
-  left-replaced μ zero p = refl
-  left-replaced μ (suc d) p =
-      let f : Node → Node = λ v. replaced κ d v in
-      let w : Node → Node = λ v. withoutRests μ d v in
-      by-shape (shape p)
-      (λ e.
-      by-test (hasRest p)
-      (λ r. ap (withoutRests μ (suc d)) (replaced-top κ d p e r) ∙ reference-left μ (suc d) p ∙ sym (replaced-top κ d p e r))
-      (λ r.
-      let g : Piece → Piece = onItems (each (λ q. changeNode 1 f q)) in
-      ap (withoutRests μ (suc d)) (replaced-plain κ d p e r)
-      ∙ without-object μ d (withValues f p) (shape-changed 0 g p ∙ e)
-      ∙ ap (taken μ) (values-twice w f p ∙ ap (λ (h : Node → Node). withValues h p) (fun-ext (λ v. left-replaced μ d v)))
-      ∙ taken-none μ (withValues f p) (rest-changed 0 g p ∙ r)
-      ∙ sym (replaced-plain κ d p e r)))
-      (λ e. ap (withoutRests μ (suc d)) (replaced-array κ d p e) ∙ without-array μ d (withItems f p) (shape-changed 0 (onItems (each f)) p ∙ e) ∙ sym (replaced-array κ d p e))
-      (λ e.
-      ap (withoutRests μ (suc d)) (replaced-default κ d p e)
-      ∙ without-default μ d (withLeft f p) (shape-changed 0 (onNode f) p ∙ e)
-      ∙ left-twice w f p
-      ∙ ap (λ (h : Node → Node). withLeft h p) (fun-ext (λ v. left-replaced μ d v))
-      ∙ sym (replaced-default κ d p e))
-      (λ e. ap (withoutRests μ (suc d)) (replaced-leaf κ d p e) ∙ without-leaf μ d p e ∙ sym (replaced-leaf κ d p e))
-
-  pub without-replaced : (μ : Context) (p : Node) → withoutRestsBelow μ (replacedBelow κ p) ≡ replacedBelow κ p
-  without-replaced μ p =
-      let x = replacedBelow κ p in
-      let b = depth p + depth x in
-      sym (without-levels b x (omega arith) μ)
-      ∙ ap (withoutRests μ b) (sym (replaced-levels b p (omega arith) κ))
-      ∙ left-replaced μ b p
-      ∙ replaced-levels b p (omega arith) κ
-
-  pub rests-replaced : (p : Node) → restsIn (replacedBelow κ p) ≡ Items.none
-  rests-replaced p =
-      let x = replacedBelow κ p in
-      let b = depth p + depth x in
-      sym (rests-levels b x (omega arith))
-      ∙ ap (restsThroughObjects b) (sym (replaced-levels b p (omega arith) κ))
-      ∙ replaced-rests κ b p
-
--- ---- rests taken: what stands below arrays stays
+-- ---- the rest of an object taken
 
 shape-left : (n : Node) → shape (without 1 n) ≡ shape n
 unfolding shape without
@@ -289,93 +230,3 @@ module _ (κ : Context) where
       ∙ any-each (λ q. t (value q)) (keptKey κ) (properties p)
       ∙ ap (λ (g : Node → Bool). any g (properties p)) (fun-ext (λ q. ap t (value-kept κ q)))))
       (λ r. rw r refl)
-
-  over-left : (d : ℕ) (p : Node) → hasNestedArrayRest d p ≡ false → hasNestedArrayRest d (withoutRests κ d p) ≡ false
-  unfolding hasNestedArrayRest
-  over-left zero p h = refl
-  over-left (suc d) p h =
-      let w : Node → Node = λ v. withoutRests κ d v in
-      let t : Node → Bool = λ v. hasNestedArrayRest d v in
-      by-shape (shape p)
-      (λ e.
-      let g : Piece → Piece = onItems (each (λ q. changeNode 1 w q)) in
-      ap (hasNestedArrayRest (suc d)) (without-object κ d p e)
-      ∙ over-object d (taken κ (withValues w p)) (shape-taken (withValues w p) ∙ shape-changed 0 g p ∙ e)
-      ∙ any-taken t (withValues w p)
-      ∙ values-changed κ t w (left-nothing κ d) p
-      ∙ any-none (λ q. t (value q)) (λ q. t (w (value q))) (λ q y. over-left d (value q) y) (properties p) (sym (over-object d p e) ∙ h))
-      (λ e. ap (hasNestedArrayRest (suc d)) (without-array κ d p e) ∙ h)
-      (λ e.
-      ap (hasNestedArrayRest (suc d)) (without-default κ d p e)
-      ∙ over-default d (withLeft w p) (shape-changed 0 (onNode w) p ∙ e)
-      ∙ ap t (left-changed κ w (left-nothing κ d) p)
-      ∙ over-left d (leftOf p) (sym (over-default d p e) ∙ h))
-      (λ e. ap (hasNestedArrayRest (suc d)) (without-leaf κ d p e) ∙ h)
-
-  pub over-without : (p : Node) → hasArrayRestOverObjectRest p ≡ false → hasArrayRestOverObjectRest (withoutRestsBelow κ p) ≡ false
-  over-without p h =
-      let x = withoutRestsBelow κ p in
-      let b = depth p + depth x in
-      sym (array-levels b x (omega arith))
-      ∙ ap (hasNestedArrayRest b) (sym (without-levels b p (omega arith) κ))
-      ∙ over-left b p (array-levels b p (omega arith) ∙ h)
-
-  -- ---- an object is found where an object rest is, if none is below an array rest
-
-  empty-append : (is js : Items) → isEmpty (is +++ js) ≡ isEmpty is && isEmpty js
-  unfolding isEmpty _+++_
-  empty-append Items.none js = refl
-  empty-append (Items.hole is) js = refl
-  empty-append (Items.item n is) js = refl
-
-  and-not : (a b : Bool) → not a && not b ≡ not (a || b)
-  and-not true b = refl
-  and-not false b = refl
-
-  empty-gather : (u t : Node → Bool) (f : Node → Items) → ((n : Node) → u n ≡ false → isEmpty (f n) ≡ not (t n)) → (is : Items) → any u is ≡ false
-      → isEmpty (gather f is) ≡ not (any t is)
-  unfolding gather any isEmpty
-  empty-gather u t f h Items.none e = refl
-  empty-gather u t f h (Items.hole is) e = empty-gather u t f h is e
-  empty-gather u t f h (Items.item n is) e =
-      empty-append (f n) (gather f is)
-      ∙ ap₂ (λ (x y : Bool). x && y) (h n (or-left (u n) (any u is) e)) (empty-gather u t f h is (or-right (u n) (any u is) e))
-      ∙ and-not (t n) (any t is)
-
-  own-found : (r x : Bool) (o : Node) → not x && isEmpty (cond r (only o) Items.none) ≡ not (r || x)
-  unfolding isEmpty
-  own-found true true o = refl
-  own-found true false o = refl
-  own-found false true o = refl
-  own-found false false o = refl
-
-  or-false : (a : Bool) → a ≡ a || false
-  or-false true = refl
-  or-false false = refl
-
-  pub found-iff : (d : ℕ) (p : Node) → hasNestedArrayRest d p ≡ false → isEmpty (objectsWithRest κ d p) ≡ not (hasNestedObjectRest d p)
-  unfolding hasNestedObjectRest objectsWithRest isEmpty
-  found-iff zero p h = refl
-  found-iff (suc d) p h =
-      let f : Node → Items = λ v. objectsWithRest κ d v in
-      let t : Node → Bool = λ v. hasNestedObjectRest d v in
-      let u : Node → Bool = λ v. hasNestedArrayRest d v in
-      by-shape (shape p)
-      (λ e.
-      let o = withValues (λ v. replaced κ d v) p in
-      ap isEmpty (objects-object κ d p e)
-      ∙ empty-append (gather (λ q. f (value q)) (properties p)) (cond (hasRest p) (only o) Items.none)
-      ∙ ap (λ (b : Bool). b && isEmpty (cond (hasRest p) (only o) Items.none))
-      (empty-gather (λ q. u (value q)) (λ q. t (value q)) (λ q. f (value q)) (λ q y. found-iff d (value q) y) (properties p) (sym (over-object d p e) ∙ h))
-      ∙ own-found (hasRest p) (any (λ q. t (value q)) (properties p)) o
-      ∙ ap not (sym (has-object d p e)))
-      (λ e.
-      let z = sym (over-array d p e) ∙ h in
-      ap isEmpty (objects-array κ d p e)
-      ∙ empty-gather u t f (λ x y. found-iff d x y) (itemsOf p) (or-left (any u (itemsOf p)) (t (rest p)) z)
-      ∙ ap not (or-false (any t (itemsOf p)) ∙ ap (λ (b : Bool). any t (itemsOf p) || b) (sym (or-right (any u (itemsOf p)) (t (rest p)) z)) ∙ sym (has-array d p e)))
-      (λ e. ap isEmpty (objects-default κ d p e) ∙ found-iff d (leftOf p) (sym (over-default d p e) ∙ h) ∙ ap not (sym (has-default d p e)))
-      (λ e. ap isEmpty (objects-leaf κ d p e) ∙ ap not (sym (has-leaf d p e)))
-
-  pub found-some : (p : Node) → hasArrayRestOverObjectRest p ≡ false → hasObjectRest p ≡ true → isEmpty (objectsBelow κ p) ≡ false
-  found-some p h k = found-iff (depth p) p h ∙ ap not k

@@ -10,11 +10,9 @@ use Rattle.tree.specs.Tree.Fields.{field}
 use Rattle.tree.specs.Tree.Piece.{one, list}
 use Rattle.lowering.specs.Parts.{nothing, is, pieceIn, nodeAt, itemsAt, gather, any}
 use Rattle.lowering.specs.Patterns.{shape, value, hasNestedArrayRest, hasObjectRest, hasArrayRestOverObjectRest}
-use Rattle.lowering.specs.Assignments.{topLacksForm}
 use Rattle.lowering.proofs.Levels.{node-in, has-levels, array-levels, has-nothing, array-nothing, any-agrees}
 use Rattle.direct.specs.Views.{arrayAt, arrayRestAt}
-use Rattle.direct.specs.Assigned.{assignmentAt}
-use Rattle.direct.specs.Counts.{sumOf, lacksRests}
+use Rattle.direct.specs.Counts.{sumOf}
 use Rattle.lowering.proofs.ItemLaws.{count-append}
 
 -- ---- whether an object rest is below
@@ -55,10 +53,3 @@ unfolding gather sumOf count
 count-gather g Items.none = refl
 count-gather g (Items.hole is) = count-gather g is
 count-gather g (Items.item n is) = count-append (g n) (gather g is) ∙ ap (λ (k : ℕ). count (g n) + k) (count-gather g is)
-
--- ---- keys that lack their form
-
--- whether a rule refuses
-pub top-lacks-form : (at op : ℕ) (p x : Node) → topLacksForm (assignmentAt at op p x) ≡ lacksRests p
-unfolding topLacksForm lacksRests nodeAt pieceIn
-top-lacks-form at op p x = refl

@@ -1,30 +1,20 @@
 -- Counts and tests over the parts of a pattern, as the emitters need them before they write.
 use Prim.Native.Nat.{ℕ, suc, _+_}
-use mathlib.Core.Bool.{Bool, cond}
+use mathlib.Core.Bool.{cond}
 use Rattle.tree.specs.Tree.{Node, Items, count}
 use Rattle.tree.specs.Tree.Items.{none, hole, item}
-use Rattle.lowering.specs.Parts.{nodeAt, isEmpty, any}
+use Rattle.lowering.specs.Parts.{nodeAt, isEmpty}
 use Rattle.lowering.specs.Patterns.{shape, properties, value, hasRest}
 use Rattle.lowering.specs.Patterns.Shape.{objectPattern, arrayPattern, default, leaf}
-use Rattle.lowering.specs.Keys.{anyLacksForm}
 use Rattle.lowering.specs.Declarations.{isName, isLowered, nestedBelow}
 use Rattle.direct.specs.Views.{nameless}
-use Rattle.direct.specs.Objects.{restsIn}
-use Rattle.direct.specs.Inner.{otherKeys}
+use Rattle.direct.specs.Handed.{otherKeys}
 
 -- the sum over all items
 unfoldable pub sumOf : (Node → ℕ) → Items → ℕ
 sumOf f none = 0
 sumOf f (hole is) = sumOf f is
 sumOf f (item n is) = f n + sumOf f is
-
--- how many rests are reached through objects
-unfoldable pub restsCount : Node → ℕ
-restsCount p = count (restsIn p)
-
--- whether a key of them lacks its form; one of the objects that are found
-unfoldable pub lacksRests : Node → Bool
-lacksRests p = any (λ o. anyLacksForm o) (restsIn p)
 
 -- how many declarators: of an object of its own, but for its rest; of what is found below a pattern; of a pattern; of a declarator
 unfoldable pub ownCount : Node → ℕ

@@ -1,21 +1,23 @@
 -- What is handed out for the objects with rest of a pattern.
-use Prim.Native.Nat.{ℕ, suc}
+use Prim.Native.Nat.{ℕ, suc, _+_}
 use mathlib.Core.Bool.{Bool, cond}
 use mathlib.Core.List.{List, [], _∷_, _++_}
-use Rattle.tree.specs.Tree.{Node, wideBytes, count, encode}
-use Rattle.lowering.specs.Parts.{position, nodeAt, gather}
+use Rattle.tree.specs.Tree.{Node, Items, wideBytes, count, encode}
+use Rattle.tree.specs.Tree.Items.{none, hole, item}
+use Rattle.lowering.specs.Parts.{position, nodeAt}
 use Rattle.lowering.specs.Patterns.{properties, key}
-use Rattle.lowering.specs.Keys.{keySort, keyTemporaries, keyText}
+use Rattle.lowering.specs.Keys.{keySort, keyText}
 use Rattle.lowering.specs.Keys.Key.{name, literal, template, private, again, other}
 use Rattle.lowering.specs.Declarations.{isName, isLowered}
 use Rattle.sink.specs.Machine.Event.{make, listedTemporary, excludedTemporary, declarator, entry}
 use Rattle.direct.specs.Events.{Emit, cell, lists, excludes}
 use Rattle.direct.specs.Events.Deed.{does}
 use Rattle.direct.specs.Emit.{say, _▷_, inTurn}
-use Rattle.direct.specs.Views.{View, nameless, isOther}
+use Rattle.direct.specs.Views.{View, isOther}
 use Rattle.direct.specs.Views.View.{replacing, taking}
 use Rattle.direct.specs.Keys.{stringBytes, entries, hoists}
-use Rattle.direct.specs.Objects.{objectsIn, restsIn, overObjects, overRests}
+use Rattle.direct.specs.Objects.{Reach, reachedIn, replacedIn, overObjects, overReplaced, overParts}
+use Rattle.direct.specs.Objects.Reach.{straight}
 
 -- ---- temporaries that stand in no list
 
@@ -70,12 +72,17 @@ handsKeys o = inTurn handsKey (properties o)
 unfoldable pub handsPlace : Node → Emit
 handsPlace o = say (lists (5 ∷ 1 ∷ []) ++ (does (listedTemporary (cell 1 (position o)) 1) ∷ []))
 
--- how many keys, and how many places
-unfoldable pub keysBelow : Node → ℕ
-keysBelow p = count (gather (keyTemporaries nameless) (restsIn p))
+-- how many keys of an object become temporaries; how many places, and how many parts
+unfoldable pub otherKeys : Items → ℕ
+otherKeys none = 0
+otherKeys (hole qs) = otherKeys qs
+otherKeys (item q qs) = cond (isOther (key q)) (suc (otherKeys qs)) (otherKeys qs)
 
 unfoldable pub placesIn : View → Node → ℕ
-placesIn v p = count (objectsIn nameless v p)
+placesIn v p = count (replacedIn v p)
+
+unfoldable pub partsCount : Node → ℕ
+partsCount p = count (reachedIn straight p)
 
 -- ---- of whole nodes
 
@@ -90,12 +97,13 @@ declaratorMade d =
 unfoldable pub declaratorExcludes : Bool → Node → Emit
 declaratorExcludes root d = cond (isLowered d) (overObjects (excludesOf root) replacing (nodeAt 0 d)) (say [])
 
--- an assignment to the object with rest p, in a statement with the mark m
+-- an assignment to the object with rest p, in a statement with the mark m: the temporary of the value, those of the parts, those of the keys with
+-- their values; the excluded keys
 unfoldable pub handsTop : Bool → ℕ → Node → Emit
 handsTop root m p =
-    say (does (entry m (suc (keysBelow p))) ∷ lists (5 ∷ 1 ∷ []) ++ (does (listedTemporary (cell 3 (position p)) 3) ∷ []))
-    ▷ overRests handsKeys p ▷ overRests (excludesOf root) p
+    say (does (entry m (suc (partsCount p + otherKeys (properties p)))) ∷ lists (5 ∷ 1 ∷ []) ++ (does (listedTemporary (cell 3 (position p)) 3) ∷ []))
+    ▷ overParts handsPlace p ▷ handsKeys p ▷ excludesOf root p
 
 -- one to any other target
 unfoldable pub handsNested : View → ℕ → Node → Emit
-handsNested v m p = say (does (entry m (placesIn v p)) ∷ []) ▷ overObjects handsPlace v p
+handsNested v m p = say (does (entry m (placesIn v p)) ∷ []) ▷ overReplaced handsPlace v p

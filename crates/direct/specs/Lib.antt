@@ -7,6 +7,5 @@ pub mod Objects
 pub mod Handed
 pub mod Declared
 pub mod Assigned
-pub mod Inner
 pub mod Counts
 pub mod Moved

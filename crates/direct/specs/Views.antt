@@ -2,7 +2,7 @@
 use Prim.Native.Nat.{ℕ}
 use mathlib.Core.Bool.{Bool, true, false, cond, _&&_}
 use mathlib.Core.List.{[], _∷_}
-use Rattle.tree.specs.Tree.{Node, Items, depth}
+use Rattle.tree.specs.Tree.{Node, Items}
 use Rattle.tree.specs.Tree.Node.{node}
 use Rattle.tree.specs.Tree.Fields.{done, absent, field}
 use Rattle.tree.specs.Tree.Piece.{one, list, byte}
@@ -11,7 +11,6 @@ use Rattle.lowering.specs.Parts.{is, changeNode}
 use Rattle.lowering.specs.Made.{Context}
 use Rattle.lowering.specs.Patterns.{replacedBelow, withValues}
 use Rattle.lowering.specs.Keys.{keySort, keptKey, taken, entryOf}
-use Rattle.lowering.specs.Assignments.{withoutRests}
 use Rattle.sink.specs.Machine.Event.{put, temporary}
 use Rattle.direct.specs.Events.{Place, Emit, cell, emits}
 use Rattle.direct.specs.Events.Deed.{does}
@@ -51,32 +50,19 @@ defaultAt at l r = node at 37 (field (one l) (field (one r) done))
 
 -- ---- views
 
--- objects with rest replaced; the object's own rest taken, and those below replaced; the rests reached through objects taken, and the
--- objects with rest below arrays replaced
+-- objects with rest replaced; the object's own rest taken, and those below replaced
 pub data View : Type 0 where
-  replacing taking leaving : View
-
--- the view of the values of an object, and of the left of a default
-abbrev pub valuesOf : View → View
-valuesOf replacing = replacing
-valuesOf taking = replacing
-valuesOf leaving = leaving
+  replacing taking : View
 
 -- whether an object with rest is written at all
 abbrev pub takes : View → Bool
 takes replacing = false
 takes taking = true
-takes leaving = true
 
 module _ (κ : Context) where
-  -- the target without the rests that are reached through objects
-  abbrev pub withoutRestsBelow : Node → Node
-  withoutRestsBelow p = withoutRests κ (depth p) p
-
   unfoldable pub viewed : View → Node → Node
   viewed replacing p = replacedBelow κ p
   viewed taking p = cond (is 34 p) (taken κ (withValues (λ v. replacedBelow κ v) p)) (replacedBelow κ p)
-  viewed leaving p = replacedBelow κ (withoutRestsBelow p)
 
   -- a property of an object, whose rest is taken or not
   unfoldable pub viewedProperty : Bool → View → Node → Node

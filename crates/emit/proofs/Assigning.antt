@@ -5,51 +5,51 @@ use mathlib.Core.Bool.{Bool, true, false, cond, not, _&&_, false≢true}
 use mathlib.Core.List.{List, [], _∷_, _++_}
 use Prim.Native.Nat.{ℕ, zero, suc, _+_, _-_, _/_, _%_, _≤_, _<_}
 use native.Mathlib.Omega.{arith}
-use lib.Dec.{eqb, ltb}
-use borrow.Author.Tests.{ne-eqb, eq-eqb, eqb-true, ltb-true}
-use Rattle.tree.specs.Tree.{Node, Items, wideBytes, depth}
+use lib.Dec.{eqb}
+use borrow.Author.Tests.{ne-eqb, eq-eqb, eqb-true}
+use Rattle.tree.specs.Tree.{Node, Fields, Items, wideBytes, count, depth}
+use Rattle.tree.specs.Tree.Node.{node}
+use Rattle.tree.specs.Tree.Fields.{field}
+use Rattle.tree.specs.Tree.Piece.{list}
 use Rattle.tree.specs.Read.{byteAt, wideAt}
 use Rattle.tree.specs.Look.{Seen, onward, lookItems, lookNode}
 use Rattle.tree.specs.Answer.{Peeked}
-use Rattle.lowering.specs.Parts.{is, pieceIn, standsIn, nodeAt, itemsAt, stands, any}
-use Rattle.lowering.specs.Patterns.{shape, properties, rest, hasRest, withValues, hasNestedObjectRest, hasObjectRest, hasArrayRestOverObjectRest, replacedBelow}
+use Rattle.lowering.specs.Parts.{is, isEmpty, pieceIn, standsIn, nodeAt, itemsAt, stands, any}
+use Rattle.lowering.specs.Patterns.{shape, properties, value, hasRest, hasNestedObjectRest, hasObjectRest, hasArrayRestOverObjectRest}
 use Rattle.lowering.specs.Patterns.Shape.{leaf}
 use Rattle.lowering.specs.Keys.{anyLacksForm}
-use Rattle.lowering.specs.Assignments.{target, isTop}
+use Rattle.lowering.specs.Assignments.{target, isTop, topLacksForm}
+use Rattle.lowering.proofs.All.{AllItems}
 use Rattle.lowering.proofs.Cases.{by-test, and-left, and-right}
-use Rattle.sink.specs.Machine.{treeLimit}
-use Rattle.sink.specs.Machine.Event.{temporary, entry, listedTemporary}
+use Rattle.sink.specs.Machine.Event.{temporary}
 use Rattle.pattern.specs.declared.source.ReferenceBuilder.{ReferenceBuilder}
 use Rattle.pattern.specs.Tally.{limited}
-use Rattle.pattern.specs.Objects.{throughObjects}
-use Rattle.direct.specs.Events.{Place, Emit, puts, cell, lists, refused, emits}
+use Rattle.pattern.proofs.CountsFit.{parts-fit}
+use Rattle.direct.specs.Events.{Place, Emit, puts, cell, refused, emits}
 use Rattle.direct.specs.Events.Deed.{does, refuses}
 use Rattle.direct.specs.Emit.{say, _▷_, inner, stays}
 use Rattle.direct.specs.Views.{View, objectAt, objectRestAt, nameless, saysCell, emitsView}
-use Rattle.direct.specs.Views.View.{replacing, taking, leaving}
+use Rattle.direct.specs.Views.View.{replacing, taking}
 use Rattle.direct.specs.Keys.{emitsRest}
-use Rattle.direct.specs.Objects.{overObjects, overRests}
-use Rattle.direct.specs.Handed.{placesIn, excludesOf, handsKeys, handsTop, handsNested}
-use Rattle.direct.specs.Counts.{restsCount, lacksRests}
-use Rattle.direct.specs.Inner.{otherKeys, emitsInnerTop}
-use Rattle.direct.specs.Assigned.{assignmentAt, assignHead, restInArrays, emitsRestOf, emitsInner, emitsNest, emitsTarget, topCount, emitsTop}
-use Rattle.direct.proofs.Threads.{then-assoc, say-say}
-use Rattle.direct.proofs.PatternViews.{values-rest, says-cell}
-use Rattle.direct.proofs.Tests.{top-lacks-form}
-use Rattle.direct.proofs.AssignmentsByPart.{assignment-refused-5, assignment-refused-6, assignment-stays, assignment-nested, assignment-top, target-nested, target-kept, rest-done}
-use Rattle.direct.proofs.InnerAssignments.{inner-refused, inner-done}
+use Rattle.direct.specs.Objects.{reachedIn, overReplaced, overParts}
+use Rattle.direct.specs.Objects.Reach.{inArrays}
+use Rattle.direct.specs.Handed.{placesIn, partsCount, handsTop, handsNested}
+use Rattle.direct.specs.Assigned.{assignmentAt, assignHead, emitsRestOf, emitsInner, emitsNest, emitsTarget, topCount, emitsTop}
+use Rattle.direct.proofs.Threads.{say-say}
+use Rattle.direct.proofs.PatternViews.{says-cell}
+use Rattle.direct.proofs.Tests.{over-object-at}
+use Rattle.direct.proofs.Reached.{parts-reached, over-parts, over-arrays, over-anywhere}
+use Rattle.direct.proofs.AssignmentsByPart.{assignment-refused-5, assignment-refused-6, assignment-stays, assignment-nested, assignment-top, target-nested, target-kept, rest-done, inner-refused, inner-done}
 use Rattle.walk.specs.Run.{Going, Does, Clear}
 use Rattle.walk.specs.Whole.{Good}
-use Rattle.walk.specs.Turns.{restFrom, viewOf, turnOf, deepMode, suits, sourceOf, givenDeeds, givenNode}
-use Rattle.walk.proofs.PlacesFit.{rests-count-small}
-use Rattle.walk.proofs.HandRules.{places-within}
+use Rattle.walk.specs.Turns.{viewOf, reachOf, turnOf, turnsOf, deepMode, suits, AllSuit, sourceOf, givenDeeds, givenNode}
+use Rattle.walk.proofs.PlacesFit.{places-small}
 use Rattle.walk.proofs.Running.{does-then, does-as, does-to, clear-after, clear-still}
-use Rattle.outcome.proofs.Calm.{rest-inner}
 use Rattle.walk.proofs.KeysOnceFull as walked
-use Rattle.walk.proofs.KeysOnceFull.{source-quiet, taking-again, target-again}
+use Rattle.walk.proofs.KeysOnceFull.{source-quiet, target-again}
 use Rattle.walk.proofs.SpreadArguments.{does-from}
 use Rattle.emit.proofs.MovedPatterns.{cell-one}
-use Rattle.walk.proofs.Turning.{turn-12, turn-17, turn-18}
+use Rattle.walk.proofs.Turning.{turn-12, turns-14, turns-15, suit-14, suit-15}
 use Rattle.walk.proofs.Opened.{ObjectOpen, AssignmentOpen, object-open, assignment-open, no-good, is-here, position-here, good-short, good-within}
 
 -- ---- the same at another place, level and position
@@ -58,7 +58,6 @@ carry : (E : Place → ℕ → ℕ → Type 0) {c c′ : Place} {d d′ p p′ :
 carry E {c = c} {c′ = c′} {d = d} {d′ = d′} {p = p} {p′ = p′} u v w e =
     subst (λ (x : Place). E x d p) u (subst (λ (x : ℕ). E c′ x p) v (subst (λ (x : ℕ). E c′ d′ x) w e))
 
--- only the root of a place plays a part in the value of a rest
 -- the cell of a temporary as the code finds it
 abbrev CellIs : ℕ → ℕ → ℕ → Type 0
 CellIs z stem at = at < 16384 → 0 < stem → stem < 5 → z ≡ cell stem at
@@ -66,6 +65,15 @@ CellIs z stem at = at < 16384 → 0 < stem → stem < 5 → z ≡ cell stem at
 cell-says : {g g′ : Going} (z stem at : ℕ) → z ≡ cell stem at → Does g g′ (say (does (temporary z stem) ∷ [])) → Does g g′ (saysCell stem at)
 unfolding saysCell
 cell-says z stem at e d = does-as d (ap (λ (x : ℕ). say (does (temporary x stem) ∷ [])) e)
+
+-- a view by its number
+view-2 : (v : ℕ) → v ≡ 2 → viewOf v ≡ taking
+unfolding viewOf
+view-2 v e = rw (eq-eqb v 2 e) refl
+
+view-else : (v : ℕ) → (v ≡ 2 → ⊥) → viewOf v ≡ replacing
+unfolding viewOf
+view-else v e = rw (ne-eqb v 2 e) refl
 
 -- the head of a sequence
 sequence-says : {g g₁ g₂ : Going} (k m : ℕ) → k ≡ m → m < 65536 → Does g g₁ (say (puts (28 ∷ 1 ∷ []))) → (k < 65536 → Does g₁ g₂ (say (puts (wideBytes k)))) → Does g g₂ (say (puts (28 ∷ 1 ∷ wideBytes m)))
@@ -82,6 +90,20 @@ read-none b p e = rw e refl
 
 pub read-some : (b : Bool) (p : ℕ) → b ≡ false → saysCell 3 p ≡ cond b (say []) (saysCell 3 p)
 read-some b p e = rw e refl
+
+-- ---- lists that hold something
+
+some-counted : (is : Items) → 0 < count is → isEmpty is ≡ false
+unfolding isEmpty count
+some-counted Items.none h = absurd (omega (arith, h))
+some-counted (Items.hole is) h = refl
+some-counted (Items.item n is) h = refl
+
+none-counted : (is : Items) → count is ≡ 0 → isEmpty is ≡ true
+unfolding isEmpty count
+none-counted Items.none h = refl
+none-counted (Items.hole is) h = absurd (omega (arith, h))
+none-counted (Items.item n is) h = absurd (omega (arith, h))
 
 module _ (t : List ℕ) where
   -- ---- an object with rest where it stands
@@ -128,6 +150,29 @@ module _ (t : List ℕ) where
   no-second zero p g k b = no-good t p g
   no-second (suc d) p g k b = ap (λ (s : Seen Node). hasRest (s .value)) (object-open t d p g k .plain b)
 
+  object-values : (at : ℕ) (ps : Items) (fs : Fields) → properties (node at 34 (field (list ps) fs)) ≡ ps
+  unfolding itemsAt pieceIn
+  object-values at ps fs = refl
+
+  -- what the values of an object suit
+  values-clear : (d p : ℕ) → Good t d p → byteAt t p ≡ 34 → hasArrayRestOverObjectRest (lookNode t d p .value) ≡ false
+      → AllItems (λ q. is 35 q ≡ true) (properties (lookNode t d p .value)) × (any (λ q. hasArrayRestOverObjectRest (value q)) (properties (lookNode t d p .value)) ≡ false)
+  values-clear zero p g k h = no-good t p g
+  values-clear (suc d) p g k h =
+      let o : ObjectOpen t d p = object-open t d p g k in
+      let ps = listAt d p .value in
+      let n = lookNode t (suc d) p .value in
+      let by : (fs : Fields) → n ≡ node p 34 (field (list ps) fs)
+      → AllItems (λ q. is 35 q ≡ true) (properties n) × (any (λ q. hasArrayRestOverObjectRest (value q)) (properties n) ≡ false) =
+      λ fs whole.
+      let these : ps ≡ properties n = sym (object-values p ps fs) ∙ ap (λ (m : Node). properties m) (sym whole) in (
+        subst (λ (xs : Items). AllItems (λ q. is 35 q ≡ true) xs) these (o .properties),
+        ap (λ (xs : Items). any (λ q. hasArrayRestOverObjectRest (value q)) xs) (sym these) ∙ sym (over-object-at p ps fs) ∙ ap (λ (m : Node). hasArrayRestOverObjectRest m) (sym whole) ∙ h,
+      ) in
+      by-test (eqb (byteAt t (onward t p 1) / 2 % 2) 1)
+      (λ b. by _ (ap (λ (s : Seen Node). s .value) (o .resting b)))
+      (λ b. by _ (ap (λ (s : Seen Node). s .value) (o .plain b)))
+
   -- ---- what is assigned
 
   pub giv-node : {g h g′ : Going} (c : Place) (d x q stem : ℕ) (input : Bool) → input ≡ true → h ≡ g → q ≡ x
@@ -160,49 +205,6 @@ module _ (t : List ℕ) where
   node-does : {g h g′ : Going} (c c′ : Place) (d d′ p q : ℕ) → h ≡ g → c′ ≡ c → d′ ≡ d → q ≡ p → (Good t d′ q → Does h g′ (emits c′ (lookNode t d′ q .value))) → Good t d p → Does g g′ (emits c (lookNode t d p .value))
   node-does {h = h} {g′ = g′} c c′ d d′ p q m u v w n good = does-from m (carry (λ y f z. Good t f z → Does h g′ (emits y (lookNode t f z .value))) u v w n good)
 
-  -- the value is read from a target, or left out
-  from-value : (c : Place) (x : ℕ) → (x ≡ 16383 → ⊥) → restFrom c x ≡ emitsRestOf c x
-  unfolding restFrom
-  from-value c x h = let f : Bool → Node → Emit = λ b o. cond b (emits (inner c) (rest o)) (emitsRestOf c x o) in ap f (ne-eqb x 16383 h)
-
-  from-none : (c : Place) (x : ℕ) → x ≡ 16383 → _≡_ {A = Node → Emit} (restFrom c x) (λ o. emits (inner c) (rest o))
-  unfolding restFrom
-  from-none c x h = let f : Bool → Node → Emit = λ b o. cond b (emits (inner c) (rest o)) (emitsRestOf c x o) in ap f (eq-eqb x 16383 h)
-
-  pub rof-done : {g₀ g₁ h g₂ g₃ : Going} (c c₁ c₂ : Place) (d d₁ d₂ e p r q x z : ℕ) (b : ReferenceBuilder)
-      → (1 < 256 → Does g₀ g₁ (assignHead 1)) → h ≡ g₁ → q ≡ r → e ≡ d - 1 → (c₁ ≡ inner c) × (d₁ ≡ e)
-      → (Good t d₁ q → Does h g₂ (emits c₁ (lookNode t d₁ q .value)))
-      → CellIs z 3 x → ((u : List ℕ) → sourceOf u b ≡ say (does (temporary z 3) ∷ [])) → (c₂ ≡ inner c) × (d₂ ≡ d)
-      → (Good t d₂ p → byteAt t p ≡ 34 → (false ≡ true → Clear g₂ (emitsRest c₂ p (properties (lookNode t d₂ p .value)) (sourceOf t b))) → Does g₂ g₃ (emitsRest c₂ p (properties (lookNode t d₂ p .value)) (sourceOf t b)))
-      → (x ≡ 16383 → ⊥) → x < 16384 → byteAt t p ≡ 34 → hasRest (lookNode t d p .value) ≡ true → r ≡ listAt (d - 1) p .next → Good t d p
-      → Does g₀ g₃ (restFrom c x (lookNode t d p .value))
-  unfolding itemsAt pieceIn
-  rof-done c c₁ c₂ d d₁ d₂ e p r q x z b a m w le i n ce s j v other lx k h rr good =
-      let o : RestHere d (d - 1) p = rest-here d p good k h in
-      let ps = listAt (d - 1) p .value in
-      let y = restNode (d - 1) p in
-      let N = node-does (inner c) c₁ (d - 1) d₁ (listAt (d - 1) p .next) q m (i .0) (i .1 ∙ le) (w ∙ rr) n (o .good) in
-      let Y = rest-does (inner c) c₂ d d₂ p z 3 x b (j .0) (j .1) (ce lx (omega arith) (omega arith)) s (λ g e. v g e (λ f. absurd (false≢true f))) good k in
-      does-as (does-then (a (omega arith)) (does-then N Y))
-      (ap (λ (n : Node). assignHead 1 ▷ emits (inner c) y ▷ emitsRest (inner c) p (properties n) (saysCell 3 x)) (o .whole)
-      ∙ sym (rest-done c x p ps y (o .leafy)) ∙ ap (emitsRestOf c x) (sym (o .whole)) ∙ ap (λ (f : Node → Emit). f (lookNode t d p .value)) (sym (from-value c x other)))
-
-  rest-at : (at : ℕ) (ps : Items) (r : Node) → rest (objectRestAt at ps r) ≡ r
-  unfolding nodeAt pieceIn
-  rest-at at ps r = refl
-
-  -- only what it is assigned to
-  pub rof-only : {g₀ h g₁ : Going} (c c₁ : Place) (d d₁ e p r q x : ℕ) → x ≡ 16383 → h ≡ g₀ → q ≡ r → e ≡ d - 1 → (c₁ ≡ inner c) × (d₁ ≡ e)
-      → (Good t d₁ q → Does h g₁ (emits c₁ (lookNode t d₁ q .value)))
-      → x < 16384 → byteAt t p ≡ 34 → hasRest (lookNode t d p .value) ≡ true → r ≡ listAt (d - 1) p .next → Good t d p
-      → Does g₀ g₁ (restFrom c x (lookNode t d p .value))
-  rof-only c c₁ d d₁ e p r q x none m w le i n lx k h rr good =
-      let o : RestHere d (d - 1) p = rest-here d p good k h in
-      let N = node-does (inner c) c₁ (d - 1) d₁ (listAt (d - 1) p .next) q m (i .0) (i .1 ∙ le) (w ∙ rr) n (o .good) in
-      does-as N
-      (ap (emits (inner c)) (sym (rest-at p (listAt (d - 1) p .value) (restNode (d - 1) p)) ∙ ap (λ (y : Node). rest y) (sym (o .whole)))
-      ∙ ap (λ (f : Node → Emit). f (lookNode t d p .value)) (sym (from-none c x none)))
-
   -- ---- objects replaced, then an assignment for each
 
   view-does : {g h g′ : Going} (v : View) (c c′ : Place) (d d′ p q r : ℕ) → h ≡ g → c′ ≡ c → d′ ≡ d → q ≡ p
@@ -214,62 +216,65 @@ module _ (t : List ℕ) where
       → (input ≡ true → Good t d x) → Does g g′ (givenDeeds t d c input stem x)
   given-does {g = g} {g′ = g′} c c′ d d′ x stem input u w n good = carry (λ y f z. (input ≡ true → Good t f z) → Does g g′ (givenDeeds t f y input stem z)) u w refl n good
 
-  deep-does : {g h g′ : Going} (c c′ : Place) (d d′ p q r mode x : ℕ) → h ≡ g → c′ ≡ c → d′ ≡ d → q ≡ p → x < 16384
-      → (x < 16384 → Good t d′ q → deepMode mode ≡ true → suits mode (lookNode t d′ q .value) ≡ true → (r ≡ lookNode t d′ q .next) × Does h g′ (turnOf mode x c′ (lookNode t d′ q .value)))
-      → Good t d p → deepMode mode ≡ true → suits mode (lookNode t d p .value) ≡ true → Does g g′ (turnOf mode x c (lookNode t d p .value))
-  deep-does {h = h} {g′ = g′} c c′ d d′ p q r mode x m u w e l n good dm su =
-      does-from m
-      (carry (λ y f z. Good t f z → deepMode mode ≡ true → suits mode (lookNode t f z .value) ≡ true → (r ≡ lookNode t f z .next) × Does h g′ (turnOf mode x y (lookNode t f z .value))) u w e (n l) good dm su .1)
+  -- what is done for the objects that were replaced
+  abbrev pub Replaced : Place → ℕ → ℕ → ℕ → Going → Going → Type 0
+  Replaced c d v p g g′ =
+      (v ≡ 2 → byteAt t p ≡ 34) → Good t d p → hasArrayRestOverObjectRest (lookNode t d p .value) ≡ false → Does g g′ (overReplaced (emitsInner c) (viewOf v) (lookNode t d p .value))
 
-  mode-deep : (b : Bool) → deepMode (cond b 17 12) ≡ true
+  deep-12 : deepMode 12 ≡ true
   unfolding deepMode
-  mode-deep true = refl
-  mode-deep false = refl
+  deep-12 = refl
 
-  mode-suits : (b : Bool) (n : Node) → hasArrayRestOverObjectRest n ≡ false → suits (cond b 17 12) n ≡ true
+  suits-12 : (n : Node) → hasArrayRestOverObjectRest n ≡ false → suits 12 n ≡ true
   unfolding suits
-  mode-suits true n h = ap not h
-  mode-suits false n h = ap not h
+  suits-12 n h = ap not h
 
-  mode-turn : (b : Bool) (c : Place) (n : Node) → turnOf (cond b 17 12) 0 c n ≡ overObjects (emitsInner c) (cond b leaving replacing) n
-  mode-turn true c n = turn-17 0 c n
-  mode-turn false c n = turn-12 0 c n
+  -- wherever they are
+  pub nst-below : {g h g′ : Going} (c : Place) (d v p q r : ℕ) → (v ≡ 2 → ⊥) → h ≡ g → q ≡ p
+      → (Good t d q → deepMode 12 ≡ true → suits 12 (lookNode t d q .value) ≡ true → (r ≡ lookNode t d q .next) × Does h g′ (turnOf 12 c (lookNode t d q .value)))
+      → Replaced c d v p g g′
+  nst-below {h = h} {g′ = g′} c d v p q r other m w deep kind good ar =
+      let n = lookNode t d p .value in
+      let D = subst (λ (z : ℕ). Good t d z → deepMode 12 ≡ true → suits 12 (lookNode t d z .value) ≡ true → (r ≡ lookNode t d z .next) × Does h g′ (turnOf 12 c (lookNode t d z .value))) w deep good deep-12 (suits-12 n ar) in
+      does-from m (does-as (D .1) (turn-12 c n ∙ sym (over-anywhere (emitsInner c) n) ∙ ap (λ (y : View). overReplaced (emitsInner c) y n) (sym (view-else v other))))
 
-  view-is : (v : ℕ) → (v ≡ 2 → ⊥) → viewOf v ≡ cond (eqb v 3) leaving replacing
-  unfolding viewOf
-  view-is v h = rw (ne-eqb v 2 h) refl
+  -- below arrays alone
+  pub nst-arrays : {g g′ : Going} (c : Place) (d v p r e : ℕ) → v ≡ 2
+      → (byteAt t p ≡ 34 → Good t d p → AllSuit 14 (properties (lookNode t d p .value)) → (r ≡ e) × Does g g′ (turnsOf 14 c (properties (lookNode t d p .value))))
+      → Replaced c d v p g g′
+  nst-arrays c d v p r e two values kind good ar =
+      let n = lookNode t d p .value in
+      let k : byteAt t p ≡ 34 = kind two in
+      let o = values-clear d p good k ar in
+      does-as (values k good (suit-14 (properties n) (o .0) (o .1)) .1)
+      (turns-14 c (properties n) ∙ sym (over-arrays (emitsInner c) n) ∙ ap (λ (y : View). overReplaced (emitsInner c) y n) (sym (view-2 v two)))
 
   one-more : (a k m : ℕ) → a ≤ 16384 → k ≡ limited a → m ≡ limited (k + 1) → m ≡ suc a
   unfolding limited
   one-more a k m h e f = omega arith
 
-  pub nst-done : {g₀ g₁ g₂ g₃ g₄ h₄ g₅ g₆ h₆ g₇ : Going} (c c₁ c₂ : Place) (d d₁ d₂ v op p q q₂ r₅ r₇ k m x mode stem : ℕ) (input : Bool)
-      → ((v ≡ 2 → ⊥) → k ≡ limited (placesIn (viewOf v) (lookNode t d p .value)))
-      → ((v ≡ 2 → ⊥) → Good t d p → Does g₀ g₁ (handsNested (viewOf v) (c .mark) (lookNode t d p .value)))
+  pub nst-done : {g₀ g₁ g₂ g₃ g₄ h₄ g₅ g₆ g₇ : Going} (c c₁ c₂ : Place) (d d₁ d₂ v op p q r₅ k m x stem : ℕ) (input : Bool)
+      → ((v ≡ 2 → byteAt t p ≡ 34) → k ≡ limited (placesIn (viewOf v) (lookNode t d p .value)))
+      → (Good t d p → (v ≡ 2 → byteAt t p ≡ 34) → Does g₀ g₁ (handsNested (viewOf v) (c .mark) (lookNode t d p .value)))
       → Does g₁ g₂ (say (puts (28 ∷ 1 ∷ []))) → m ≡ limited (k + 1) → (m < 65536 → Does g₂ g₃ (say (puts (wideBytes m)))) → (op < 256 → Does g₃ g₄ (assignHead op))
       → h₄ ≡ g₄ → q ≡ p → (c₁ ≡ inner c) × (d₁ ≡ d)
       → (Good t d₁ q → (r₅ ≡ lookNode t d₁ q .next) × Does h₄ g₅ (emitsView c₁ (viewOf v) (lookNode t d₁ q .value)))
       → (c₂ ≡ inner c) × (d₂ ≡ d) → ((input ≡ true → Good t d₂ x) → Does g₅ g₆ (givenDeeds t d₂ c₂ input stem x))
-      → h₆ ≡ g₆ → q₂ ≡ p → mode ≡ cond (eqb v 3) 17 12
-      → (0 < 16384 → Good t d q₂ → deepMode mode ≡ true → suits mode (lookNode t d q₂ .value) ≡ true → (r₇ ≡ lookNode t d q₂ .next) × Does h₆ g₇ (turnOf mode 0 c (lookNode t d q₂ .value)))
-      → (v ≡ 2 → ⊥) → Good t d p → (input ≡ true → Good t d x) → hasArrayRestOverObjectRest (lookNode t d p .value) ≡ false → op < 256
+      → Replaced c d v p g₆ g₇
+      → (v ≡ 2 → byteAt t p ≡ 34) → Good t d p → (input ≡ true → Good t d x) → hasArrayRestOverObjectRest (lookNode t d p .value) ≡ false → op < 256
       → Does g₀ g₇ (emitsNest c (viewOf v) op (lookNode t d p .value) (givenDeeds t d (inner c) input stem x))
   unfolding emitsNest
-  nst-done {h₆ = h₆} {g₇ = g₇} c c₁ c₂ d d₁ d₂ v op p q q₂ r₅ r₇ k m x mode stem input pk hands two pm wide ass t₄ w₄ i₁ view i₂ giv t₆ w₆ md deep nv good gx ar lo =
+  nst-done c c₁ c₂ d d₁ d₂ v op p q r₅ k m x stem input pk hands two pm wide ass t₄ w₄ i₁ view i₂ giv last kind good gx ar lo =
       let n = lookNode t d p .value in
-      let b = eqb v 3 in
-      let pl : placesIn (viewOf v) n ≤ 16384 = places-within t v d p nv good in
-      let mm : m ≡ suc (placesIn (viewOf v) n) = one-more (placesIn (viewOf v) n) k m pl (pk nv) pm in
-      let dd = subst (λ (z : ℕ). 0 < 16384 → Good t d q₂ → deepMode z ≡ true → suits z (lookNode t d q₂ .value) ≡ true → (r₇ ≡ lookNode t d q₂ .next) × Does h₆ g₇ (turnOf z 0 c (lookNode t d q₂ .value))) md deep in
-      let D = does-as (deep-does c c d d p q₂ r₇ (cond b 17 12) 0 t₆ refl refl w₆ (omega arith) dd good (mode-deep b) (mode-suits b n ar))
-      (mode-turn b c n ∙ ap (λ (y : View). overObjects (emitsInner c) y n) (sym (view-is v nv))) in
-      does-then (hands nv good)
+      let pl : placesIn (viewOf v) n ≤ 16384 = omega (arith, places-small (viewOf v) n, good-short t d p good) in
+      let mm : m ≡ suc (placesIn (viewOf v) n) = one-more (placesIn (viewOf v) n) k m pl (pk kind) pm in
+      does-then (hands good kind)
       (does-then (sequence-says m (suc (placesIn (viewOf v) n)) mm (omega arith) two wide)
       (does-then (ass lo)
       (does-then (view-does (viewOf v) (inner c) c₁ d d₁ p q r₅ t₄ (i₁ .0) (i₁ .1) w₄ view good)
-      (does-then (given-does (inner c) c₂ d d₂ x stem input (i₂ .0) (i₂ .1) giv gx) D))))
+      (does-then (given-does (inner c) c₂ d d₂ x stem input (i₂ .0) (i₂ .1) giv gx) (last kind good ar)))))
 
-  -- ---- the target without its rests
+  -- ---- the target without its rest
 
   -- what is assigned to it: the temporary of its value
   value-given : (c : Place) (d p z : ℕ) → z ≡ cell 3 p → givenDeeds t d c false 3 z ≡ saysCell 3 p
@@ -277,135 +282,146 @@ module _ (t : List ℕ) where
   value-given c d p z e = ap (λ (x : ℕ). say (does (temporary x 3) ∷ [])) e
 
   nest-as : {g g′ : Going} (c c′ : Place) (d d′ p z : ℕ) → c′ ≡ c → d′ ≡ d → z ≡ cell 3 p
-      → ((_≡_ {A = ℕ} 3 2 → ⊥) → Good t d′ p → (false ≡ true → Good t d′ z) → hasArrayRestOverObjectRest (lookNode t d′ p .value) ≡ false → 1 < 256
-      → Does g g′ (emitsNest c′ (viewOf 3) 1 (lookNode t d′ p .value) (givenDeeds t d′ (inner c′) false 3 z)))
-      → Good t d p → hasArrayRestOverObjectRest (lookNode t d p .value) ≡ false → Does g g′ (emitsNest c leaving 1 (lookNode t d p .value) (saysCell 3 p))
+      → ((_≡_ {A = ℕ} 2 2 → byteAt t p ≡ 34) → Good t d′ p → (false ≡ true → Good t d′ z) → hasArrayRestOverObjectRest (lookNode t d′ p .value) ≡ false → 1 < 256
+      → Does g g′ (emitsNest c′ (viewOf 2) 1 (lookNode t d′ p .value) (givenDeeds t d′ (inner c′) false 3 z)))
+      → byteAt t p ≡ 34 → Good t d p → hasArrayRestOverObjectRest (lookNode t d p .value) ≡ false → Does g g′ (emitsNest c taking 1 (lookNode t d p .value) (saysCell 3 p))
   unfolding viewOf
-  nest-as {g = g} {g′ = g′} c c′ d d′ p z u w e n good ar =
+  nest-as {g = g} {g′ = g′} c c′ d d′ p z u w e n k good ar =
       does-as
-      (carry (λ y f q. (_≡_ {A = ℕ} 3 2 → ⊥) → Good t f q → (false ≡ true → Good t f z) → hasArrayRestOverObjectRest (lookNode t f q .value) ≡ false → 1 < 256
-      → Does g g′ (emitsNest y leaving 1 (lookNode t f q .value) (givenDeeds t f (inner y) false 3 z))) u w refl n
-      (λ x. omega (arith, x)) good (λ x. absurd (false≢true x)) ar (omega arith))
-      (ap (λ (s : Emit). emitsNest c leaving 1 (lookNode t d p .value) s) (value-given (inner c) d p z e))
+      (carry (λ y f q. (_≡_ {A = ℕ} 2 2 → byteAt t q ≡ 34) → Good t f q → (false ≡ true → Good t f z) → hasArrayRestOverObjectRest (lookNode t f q .value) ≡ false → 1 < 256
+      → Does g g′ (emitsNest y taking 1 (lookNode t f q .value) (givenDeeds t f (inner y) false 3 z))) u w refl n
+      (λ _. k) good (λ x. absurd (false≢true x)) ar (omega arith))
+      (ap (λ (s : Emit). emitsNest c taking 1 (lookNode t d p .value) s) (value-given (inner c) d p z e))
 
   object-within : (d p : ℕ) → Good t d p → p < 16384
   object-within d p g = omega (arith, good-within t d p g)
 
-  pub tgt-nested : {g g′ : Going} (c c₁ : Place) (d d₁ p z : ℕ) (b : Bool) → b ≡ restInArrays (lookNode t d p .value) → b ≡ true → (c₁ ≡ inner c) × (d₁ ≡ d) → CellIs z 3 p
-      → ((_≡_ {A = ℕ} 3 2 → ⊥) → Good t d₁ p → (false ≡ true → Good t d₁ z) → hasArrayRestOverObjectRest (lookNode t d₁ p .value) ≡ false → 1 < 256
-      → Does g g′ (emitsNest c₁ (viewOf 3) 1 (lookNode t d₁ p .value) (givenDeeds t d₁ (inner c₁) false 3 z)))
-      → byteAt t p ≡ 34 → Good t d p → hasArrayRestOverObjectRest (lookNode t d p .value) ≡ false → Does g g′ (emitsTarget c (lookNode t d p .value))
-  tgt-nested c c₁ d d₁ p z b e h i ce n k good ar =
-      let y = lookNode t d p .value in
-      does-as (nest-as (inner c) c₁ d d₁ p z (i .0) (i .1) (ce (object-within d p good) (omega arith) (omega arith)) n good ar)
-      (ap (λ (x : ℕ). emitsNest (inner c) leaving 1 y (saysCell 3 x)) (sym (position-here t d p)) ∙ sym (target-nested c y (sym e ∙ h)))
+  -- whether objects are replaced below its arrays
+  some-replaced : (n : Node) (k : ℕ) → k ≡ limited (count (reachedIn (reachOf 3) n)) → 0 < k → isEmpty (reachedIn inArrays n) ≡ false
+  unfolding reachOf limited
+  some-replaced n k e h = some-counted (reachedIn inArrays n) (omega arith)
 
-  pub tgt-kept : {g₀ g₁ h₁ g₂ g₃ : Going} (c c₁ : Place) (d d₁ p q r z : ℕ) (b : Bool) → b ≡ restInArrays (lookNode t d p .value) → b ≡ false → (c₁ ≡ inner c) × (d₁ ≡ d)
+  none-replaced : (n : Node) (k : ℕ) → k ≡ limited (count (reachedIn (reachOf 3) n)) → k ≤ 0 → isEmpty (reachedIn inArrays n) ≡ true
+  unfolding reachOf limited
+  none-replaced n k e h = none-counted (reachedIn inArrays n) (omega arith)
+
+  pub tgt-nested : {g g′ : Going} (c c₁ : Place) (d d₁ p z k : ℕ) → (byteAt t p ≡ 34 → k ≡ limited (count (reachedIn (reachOf 3) (lookNode t d p .value)))) → 0 < k → (c₁ ≡ inner c) × (d₁ ≡ d) → CellIs z 3 p
+      → ((_≡_ {A = ℕ} 2 2 → byteAt t p ≡ 34) → Good t d₁ p → (false ≡ true → Good t d₁ z) → hasArrayRestOverObjectRest (lookNode t d₁ p .value) ≡ false → 1 < 256
+      → Does g g′ (emitsNest c₁ (viewOf 2) 1 (lookNode t d₁ p .value) (givenDeeds t d₁ (inner c₁) false 3 z)))
+      → byteAt t p ≡ 34 → Good t d p → hasArrayRestOverObjectRest (lookNode t d p .value) ≡ false → Does g g′ (emitsTarget c (lookNode t d p .value))
+  tgt-nested c c₁ d d₁ p z k e h i ce n by good ar =
+      let y = lookNode t d p .value in
+      does-as (nest-as (inner c) c₁ d d₁ p z (i .0) (i .1) (ce (object-within d p good) (omega arith) (omega arith)) n by good ar)
+      (ap (λ (x : ℕ). emitsNest (inner c) taking 1 y (saysCell 3 x)) (sym (position-here t d p)) ∙ sym (target-nested c y (some-replaced y k (e by) h)))
+
+  pub tgt-kept : {g₀ g₁ h₁ g₂ g₃ : Going} (c c₁ : Place) (d d₁ p q r z k : ℕ) → (byteAt t p ≡ 34 → k ≡ limited (count (reachedIn (reachOf 3) (lookNode t d p .value)))) → k ≤ 0 → (c₁ ≡ inner c) × (d₁ ≡ d)
       → (1 < 256 → Does g₀ g₁ (assignHead 1)) → h₁ ≡ g₁ → q ≡ p
-      → (Good t d₁ q → (r ≡ lookNode t d₁ q .next) × Does h₁ g₂ (emitsView c₁ (viewOf 3) (lookNode t d₁ q .value)))
+      → (Good t d₁ q → (r ≡ lookNode t d₁ q .next) × Does h₁ g₂ (emitsView c₁ (viewOf 2) (lookNode t d₁ q .value)))
       → CellIs z 3 p → Does g₂ g₃ (say (does (temporary z 3) ∷ []))
       → byteAt t p ≡ 34 → Good t d p → hasArrayRestOverObjectRest (lookNode t d p .value) ≡ false → Does g₀ g₃ (emitsTarget c (lookNode t d p .value))
   unfolding viewOf
-  tgt-kept c c₁ d d₁ p q r z b e h i ass m w view ce last k good ar =
+  tgt-kept c c₁ d d₁ p q r z k e h i ass m w view ce last by good ar =
       let y = lookNode t d p .value in
       does-as
       (does-then (ass (omega arith))
-      (does-then (view-does leaving (inner c) c₁ d d₁ p q r m (i .0) (i .1) w view good)
+      (does-then (view-does taking (inner c) c₁ d d₁ p q r m (i .0) (i .1) w view good)
       (cell-says z 3 p (ce (object-within d p good) (omega arith) (omega arith)) last)))
-      (ap (λ (x : ℕ). assignHead 1 ▷ emitsView (inner c) leaving y ▷ saysCell 3 x) (sym (position-here t d p)) ∙ sym (target-kept c y (sym e ∙ h)))
+      (ap (λ (x : ℕ). assignHead 1 ▷ emitsView (inner c) taking y ▷ saysCell 3 x) (sym (position-here t d p)) ∙ sym (target-kept c y (none-replaced y k (e by) h)))
 
   -- ---- the target is an object with rest
 
-  top-way : {g g′ : Going} (c : Place) (n : Node) (s : Emit) (b : Bool) → lacksRests n ≡ b → Does g g′ (cond b (say (refuses 6 ∷ puts (0 ∷ 0 ∷ []))) (emitsTop c n s))
-      → Does g g′ (cond (lacksRests n) (say (refuses 6 ∷ puts (0 ∷ 0 ∷ []))) (emitsTop c n s))
+  abbrev pub Topped : Place → ℕ → ℕ → Bool → ℕ → ℕ → Going → Going → Type 0
+  Topped c d p input stem x g g′ =
+      Does g g′ (cond (anyLacksForm (lookNode t d p .value)) (say (refuses 6 ∷ puts (0 ∷ 0 ∷ []))) (emitsTop c (lookNode t d p .value) (givenDeeds t d (inner c) input stem x)))
+
+  top-way : {g g′ : Going} (c : Place) (n : Node) (s : Emit) (b : Bool) → anyLacksForm n ≡ b → Does g g′ (cond b (say (refuses 6 ∷ puts (0 ∷ 0 ∷ []))) (emitsTop c n s))
+      → Does g g′ (cond (anyLacksForm n) (say (refuses 6 ∷ puts (0 ∷ 0 ∷ []))) (emitsTop c n s))
   top-way c n s b e d = does-as d (ap (λ (x : Bool). cond x (say (refuses 6 ∷ puts (0 ∷ 0 ∷ []))) (emitsTop c n s)) (sym e))
 
-  lacks-is : (n : Node) (b : Bool) → b ≡ any anyLacksForm (throughObjects n) → lacksRests n ≡ b
-  unfolding lacksRests
-  lacks-is n b e = sym e
+  pub top-refused : {g g′ : Going} (c : Place) (d p stem x : ℕ) (input b : Bool) → b ≡ anyLacksForm (lookNode t d p .value) → b ≡ true
+      → Does g g′ (say (refuses 6 ∷ puts (0 ∷ 0 ∷ []))) → Topped c d p input stem x g g′
+  top-refused c d p stem x input b e h r = top-way c (lookNode t d p .value) (givenDeeds t d (inner c) input stem x) true (sym e ∙ h) r
 
-  pub top-refused : {g g′ : Going} (c : Place) (d p x : ℕ) (input b : Bool) → b ≡ any anyLacksForm (throughObjects (lookNode t d p .value)) → b ≡ true
-      → Does g g′ (say (refuses 6 ∷ puts (0 ∷ 0 ∷ [])))
-      → Does g g′ (cond (lacksRests (lookNode t d p .value)) (say (refuses 6 ∷ puts (0 ∷ 0 ∷ []))) (emitsTop c (lookNode t d p .value) (givenDeeds t d (inner c) input 1 x)))
-  top-refused c d p x input b e h r = let n = lookNode t d p .value in top-way c n (givenDeeds t d (inner c) input 1 x) true (lacks-is n b e ∙ h) r
-
-  count-is : (c : Place) (d p k : ℕ) → Good t d p
-      → (Good t d p → k ≡ suc (suc (cond (c .statement) (restsCount (lookNode t d p .value)) (suc (restsCount (lookNode t d p .value)))))) → (k ≡ topCount c (lookNode t d p .value)) × (topCount c (lookNode t d p .value) < 65536)
-  unfolding topCount restsCount
-  count-is c d p k g h =
+  parts-small : (d p : ℕ) → Good t d p → partsCount (lookNode t d p .value) ≤ 16384
+  unfolding partsCount
+  parts-small d p good =
       let n = lookNode t d p .value in
-      let a : restsCount n ≤ 16384 = omega (arith, rests-count-small n, good-short t d p g) in
-      (h g, go (c .statement) (restsCount n) a)
+      let s = good-short t d p good in
+      let z = parts-fit nameless n in
+      let y = ap count (parts-reached n) in
+      omega arith
+
+  count-is : (c : Place) (d p k : ℕ) → Good t d p → k ≡ suc (suc (suc (cond (c .statement) (partsCount (lookNode t d p .value)) (suc (partsCount (lookNode t d p .value))))))
+      → (k ≡ topCount c (lookNode t d p .value)) × (topCount c (lookNode t d p .value) < 65536)
+  unfolding topCount
+  count-is c d p k g h =
+      (h, go (c .statement) (partsCount (lookNode t d p .value)) (parts-small d p g))
     where
-      go : (b : Bool) (m : ℕ) → m ≤ 16384 → suc (suc (cond b m (suc m))) < 65536
+      go : (b : Bool) (m : ℕ) → m ≤ 16384 → suc (suc (suc (cond b m (suc m)))) < 65536
       go true m l = omega arith
       go false m l = omega arith
 
-  suits-18 : (n : Node) → suits 18 n ≡ true
-  unfolding suits
-  suits-18 n = refl
-
-  deep-18 : deepMode 18 ≡ true
-  unfolding deepMode
-  deep-18 = refl
-
-  -- a pattern ends after its start
-  object-early : (d p : ℕ) → Good t d p → p ≡ 16383 → ⊥
-  object-early d p good h = let w = good-within t d p good in omega (arith, w, h)
-
-  twice-inner : (c : Place) → _≡_ {A = Node → Emit} (λ o. emits (inner (inner c)) (rest o)) (λ o. emits (inner c) (rest o))
-  unfolding inner
-  twice-inner c = refl
-
-  -- the rests of the target; once the tree is full, only what they are assigned to
-  rests-does : {g g′ : Going} (c : Place) (d p y : ℕ) (b : Bool) → b ≡ ltb treeLimit (g .state .sink .tree) → y ≡ cond (ltb treeLimit (g .state .sink .tree)) 16383 p → Good t d p → byteAt t p ≡ 34
-      → Clear g (emitsTarget c (lookNode t d p .value)) → (y < 16384 → Does g g′ (overRests (restFrom (inner c) y) (lookNode t d p .value))) → Does g g′ (overRests (emitsRestOf c p) (lookNode t d p .value))
-  rests-does c d p y true e from good k clear done =
-      let v : y ≡ 16383 = from ∙ ap (λ (b : Bool). cond b 16383 p) (sym e) in
-      target-again c (lookNode t d p .value) (walked.object-here t d p good k) p (ltb-true treeLimit _ (sym e)) clear
-      (does-as (done (omega arith)) (ap (λ (f : Node → Emit). overRests f (lookNode t d p .value)) (from-none (inner c) y v ∙ twice-inner c)))
-  rests-does c d p y false e from good k clear done =
-      let v : y ≡ p = from ∙ ap (λ (b : Bool). cond b 16383 p) (sym e) in
-      let w : p < 16384 = object-within d p good in
-      does-as (done (omega arith))
-      (ap (λ (z : ℕ). overRests (restFrom (inner c) z) (lookNode t d p .value)) v
-      ∙ ap (λ (f : Node → Emit). overRests f (lookNode t d p .value)) (from-value (inner c) p (object-early d p good) ∙ rest-inner c p))
+  -- the rest, behind the target and the parts: what is written for the target refuses nothing, so its value does not
+  rest-last : {g₇ i₀ i₁ i₂ : Going} (c c₁ c₂ : Place) (d d₁ d₂ e p r y z : ℕ) (f : ReferenceBuilder) → Clear g₇ (emitsTarget c (lookNode t d p .value))
+      → (1 < 256 → Does g₇ i₀ (assignHead 1)) → y ≡ r → r ≡ listAt (d - 1) p .next → e ≡ d - 1 → (c₂ ≡ inner c) × (d₂ ≡ e)
+      → (Good t d₂ y → Does i₀ i₁ (emits c₂ (lookNode t d₂ y .value)))
+      → CellIs z 3 p → ((u : List ℕ) → sourceOf u f ≡ say (does (temporary z 3) ∷ [])) → (c₁ ≡ inner c) × (d₁ ≡ d)
+      → (Good t d₁ p → byteAt t p ≡ 34 → Clear i₁ (emitsRest c₁ p (properties (lookNode t d₁ p .value)) (sourceOf t f)) → Does i₁ i₂ (emitsRest c₁ p (properties (lookNode t d₁ p .value)) (sourceOf t f)))
+      → byteAt t p ≡ 34 → hasRest (lookNode t d p .value) ≡ true → Good t d p → Does g₇ i₂ (emitsRestOf c (lookNode t d p .value))
+  unfolding itemsAt pieceIn
+  rest-last {i₁ = i₁} c c₁ c₂ d d₁ d₂ e p r w z f clear ass ww rr le in₂ nod ce so in₁ res k hr good =
+      let o : RestHere d (d - 1) p = rest-here d p good k hr in
+      let ps = listAt (d - 1) p .value in
+      let y = restNode (d - 1) p in
+      let N = node-does (inner c) c₂ (d - 1) d₂ (listAt (d - 1) p .next) w refl (in₂ .0) (in₂ .1 ∙ le) (ww ∙ rr) nod (o .good) in
+      let again : Clear i₁ (emitsRest (inner c) p (properties (lookNode t d p .value)) (sourceOf t f)) =
+      target-again c (lookNode t d p .value) (walked.object-here t d p good k) hr (sourceOf t f) (source-quiet t f) p (clear-still (clear-still clear (ass (omega arith))) N) in
+      let there : Clear i₁ (emitsRest c₁ p (properties (lookNode t d₁ p .value)) (sourceOf t f)) =
+      subst (λ (m : Place). Clear i₁ (emitsRest m p (properties (lookNode t d₁ p .value)) (sourceOf t f))) (sym (in₁ .0))
+      (subst (λ (y : ℕ). Clear i₁ (emitsRest (inner c) p (properties (lookNode t y p .value)) (sourceOf t f))) (sym (in₁ .1)) again) in
+      let Y = rest-does (inner c) c₁ d d₁ p z 3 p f (in₁ .0) (in₁ .1) (ce (o .within) (omega arith) (omega arith)) so (λ g e. res g e there) good k in
+      does-as (does-then (ass (omega arith)) (does-then N Y))
+      (ap (λ (n : Node). assignHead 1 ▷ emits (inner c) y ▷ emitsRest (inner c) p (properties n) (saysCell 3 p)) (o .whole)
+      ∙ sym (rest-done c p ps y (o .leafy)) ∙ ap (emitsRestOf c) (sym (o .whole)))
 
   -- whatever is last
-  pub top-does : {g₀ g₁ g₂ g₃ g₄ g₅ g₆ g₇ h₇ g₈ g₉ : Going} (c c₁ c₂ : Place) (d d₁ d₂ p q r x y k z : ℕ) (input b : Bool) (last : Emit)
-      → b ≡ any anyLacksForm (throughObjects (lookNode t d p .value)) → b ≡ false
+  pub top-does : {g₀ g₁ g₂ g₃ g₄ g₅ g₆ g₇ g₈ i₀ i₁ i₂ g₉ : Going} (c c₁ c₂ : Place) (d d₁ d₂ e p r y stem x k z z₂ : ℕ) (input b : Bool) (f : ReferenceBuilder) (last : Emit)
+      → b ≡ anyLacksForm (lookNode t d p .value) → b ≡ false → (c₁ ≡ inner c) × (d₁ ≡ d)
       → (Good t d p → byteAt t p ≡ 34 → Does g₀ g₁ (handsTop (c .root) (c .mark) (lookNode t d p .value)))
-      → (Good t d p → k ≡ suc (suc (cond (c .statement) (restsCount (lookNode t d p .value)) (suc (restsCount (lookNode t d p .value))))))
+      → (Good t d p → byteAt t p ≡ 34 → k ≡ suc (suc (suc (cond (c .statement) (partsCount (lookNode t d p .value)) (suc (partsCount (lookNode t d p .value)))))))
       → Does g₁ g₂ (say (puts (28 ∷ 1 ∷ []))) → (k < 65536 → Does g₂ g₃ (say (puts (wideBytes k)))) → (1 < 256 → Does g₃ g₄ (assignHead 1))
       → CellIs z 3 p → Does g₄ g₅ (say (does (temporary z 3) ∷ []))
-      → (c₁ ≡ inner c) × (d₁ ≡ d) → ((input ≡ true → Good t d₁ x) → Does g₅ g₆ (givenDeeds t d₁ c₁ input 1 x))
+      → ((input ≡ true → Good t d₁ x) → Does g₅ g₆ (givenDeeds t d₁ c₁ input stem x))
       → (byteAt t p ≡ 34 → Good t d p → hasArrayRestOverObjectRest (lookNode t d p .value) ≡ false → Does g₆ g₇ (emitsTarget c (lookNode t d p .value)))
-      → h₇ ≡ g₇ → q ≡ p → (c₂ ≡ inner c) × (d₂ ≡ d)
-      → y ≡ cond (ltb treeLimit (g₇ .state .sink .tree)) 16383 p
-      → (y < 16384 → Good t d₂ q → deepMode 18 ≡ true → suits 18 (lookNode t d₂ q .value) ≡ true → (r ≡ lookNode t d₂ q .next) × Does h₇ g₈ (turnOf 18 y c₂ (lookNode t d₂ q .value)))
-      → (p < 16384 → Does g₈ g₉ last) → last ≡ cond (c .statement) (say []) (saysCell 3 p)
-      → byteAt t p ≡ 34 → Good t d p → (input ≡ true → Good t d x) → hasArrayRestOverObjectRest (lookNode t d p .value) ≡ false
-      → Does g₀ g₉ (cond (lacksRests (lookNode t d p .value)) (say (refuses 6 ∷ puts (0 ∷ 0 ∷ []))) (emitsTop c (lookNode t d p .value) (givenDeeds t d (inner c) input 1 x)))
+      → (byteAt t p ≡ 34 → Good t d p → AllSuit 15 (properties (lookNode t d p .value)) → (r ≡ listAt (d - 1) p .next) × Does g₇ g₈ (turnsOf 15 c (properties (lookNode t d p .value))))
+      → (1 < 256 → Does g₈ i₀ (assignHead 1)) → y ≡ r → e ≡ d - 1 → (c₂ ≡ inner c) × (d₂ ≡ e)
+      → (Good t d₂ y → Does i₀ i₁ (emits c₂ (lookNode t d₂ y .value)))
+      → CellIs z₂ 3 p → ((u : List ℕ) → sourceOf u f ≡ say (does (temporary z₂ 3) ∷ []))
+      → (Good t d₁ p → byteAt t p ≡ 34 → Clear i₁ (emitsRest c₁ p (properties (lookNode t d₁ p .value)) (sourceOf t f)) → Does i₁ i₂ (emitsRest c₁ p (properties (lookNode t d₁ p .value)) (sourceOf t f)))
+      → (p < 16384 → Does i₂ g₉ last) → last ≡ cond (c .statement) (say []) (saysCell 3 p)
+      → byteAt t p ≡ 34 → hasRest (lookNode t d p .value) ≡ true → Good t d p → (input ≡ true → Good t d x) → hasArrayRestOverObjectRest (lookNode t d p .value) ≡ false
+      → Topped c d p input stem x g₀ g₉
   unfolding emitsTop
-  top-does {g₇ = g₇} {g₈ = g₈} c c₁ c₂ d d₁ d₂ p q r x y k z input b last e h hands kk two wide ass ce temp i₁ giv tgt m w i₂ from deep end ends by good gx ar =
+  top-does c c₁ c₂ d d₁ d₂ e p r y stem x k z z₂ input b f last lacks h in₁ hands kk two wide ass ce temp giv tgt parts as₂ yy le in₂ nod ce₂ so res end ends by hr good gx ar =
       let n = lookNode t d p .value in
-      let X = givenDeeds t d (inner c) input 1 x in
+      let X = givenDeeds t d (inner c) input stem x in
       let wi : p < 16384 = object-within d p good in
-      let co = count-is c d p k good kk in
+      let co = count-is c d p k good (kk good by) in
       let T = tgt by good ar in
-      let D : Does g₇ g₈ (overRests (emitsRestOf c p) n) =
-      rests-does c d p y (ltb treeLimit (g₇ .state .sink .tree)) refl from good by (clear-after T)
-      (λ v. does-as (deep-does (inner c) c₂ d d₂ p q r 18 y m (i₂ .0) (i₂ .1) w v deep good deep-18 (suits-18 n)) (turn-18 y (inner c) n)) in
-      top-way c n X false (lacks-is n b e ∙ h)
+      let o = values-clear d p good by ar in
+      let P = parts by good (suit-15 (properties n) (o .0) (o .1)) in
+      let R = rest-last c c₁ c₂ d d₁ d₂ e p r y z₂ f (clear-still (clear-after T) (P .1)) as₂ yy (P .0) le in₂ nod ce₂ so in₁ res by hr good in
+      top-way c n X false (sym lacks ∙ h)
       (does-as
       (does-then (hands good by)
       (does-then (sequence-says k (topCount c n) (co .0) (co .1) two wide)
       (does-then (ass (omega arith))
       (does-then (cell-says z 3 p (ce wi (omega arith) (omega arith)) temp)
-      (does-then (given-does (inner c) c₁ d d₁ x 1 input (i₁ .0) (i₁ .1) giv gx)
+      (does-then (given-does (inner c) c₁ d d₁ x stem input (in₁ .0) (in₁ .1) giv gx)
       (does-then T
-      (does-then D (does-as (end wi) ends))))))))
-      (ap (λ (y : ℕ). handsTop (c .root) (c .mark) n ▷ say (puts (28 ∷ 1 ∷ wideBytes (topCount c n))) ▷ assignHead 1 ▷ saysCell 3 y ▷ X ▷ emitsTarget c n ▷ overRests (emitsRestOf c y) n ▷ cond (c .statement) (say []) (saysCell 3 y))
+      (does-then (does-as (P .1) (turns-15 c (properties n) ∙ sym (over-parts (emitsInner c) n)))
+      (does-then R (does-as (end wi) ends)))))))))
+      (ap (λ (y : ℕ). handsTop (c .root) (c .mark) n ▷ say (puts (28 ∷ 1 ∷ wideBytes (topCount c n))) ▷ assignHead 1 ▷ saysCell 3 y ▷ X ▷ emitsTarget c n ▷ overParts (emitsInner c) n ▷ emitsRestOf c n ▷ cond (c .statement) (say []) (saysCell 3 y))
       (sym (position-here t d p))))
 
   -- ---- an assignment
@@ -425,15 +441,14 @@ module _ (t : List ℕ) where
   -- wherever it stands: of a target that is an object with rest
   top-is : (c : Place) (at op pat : ℕ) (ps : Items) (r x : Node) → hasArrayRestOverObjectRest (objectRestAt pat ps r) ≡ false
       → emits c (assignmentAt at op (objectRestAt pat ps r) x)
-      ≡ cond (lacksRests (objectRestAt pat ps r)) (say (refuses 6 ∷ puts (0 ∷ 0 ∷ []))) (emitsTop c (objectRestAt pat ps r) (emits (inner c) x))
-  unfolding is nodeAt pieceIn
+      ≡ cond (anyLacksForm (objectRestAt pat ps r)) (say (refuses 6 ∷ puts (0 ∷ 0 ∷ []))) (emitsTop c (objectRestAt pat ps r) (emits (inner c) x))
+  unfolding is nodeAt pieceIn topLacksForm
   top-is c at op pat ps r x h =
       let p = objectRestAt pat ps r in
       let n = assignmentAt at op p x in
-      let l = top-lacks-form at op p x in
-      by-test (lacksRests p)
-      (λ b. rw b (assignment-refused-6 c n refl h (rest-top pat ps r) (l ∙ b) ∙ refused-6))
-      (λ b. rw b (assignment-top c at op pat ps r x h (l ∙ b)))
+      by-test (anyLacksForm p)
+      (λ b. rw b (assignment-refused-6 c n refl h (rest-top pat ps r) b ∙ refused-6))
+      (λ b. rw b (assignment-top c at op pat ps r x h b))
 
   kind-34 : (d p : ℕ) → Good t d p → is 34 (lookNode t d p .value) ≡ true → byteAt t p ≡ 34
   kind-34 zero p g h = no-good t p g
@@ -477,8 +492,7 @@ module _ (t : List ℕ) where
       (λ b. assignment-nested c 0 op n x h b o ∙ sym (assignment-nested c at op n x h b o))
 
   pub asn-top : {g g′ : Going} (c : Place) (d op p x k : ℕ) (input s : Bool) → Peeked t p k → k ≡ 34 → s ≡ eqb (byteAt t (onward t p 1) / 2 % 2) 1 → s ≡ true
-      → (byteAt t p ≡ 34 → hasRest (lookNode t d p .value) ≡ true → Good t d p → (input ≡ true → Good t d x) → hasArrayRestOverObjectRest (lookNode t d p .value) ≡ false
-      → Does g g′ (cond (lacksRests (lookNode t d p .value)) (say (refuses 6 ∷ puts (0 ∷ 0 ∷ []))) (emitsTop c (lookNode t d p .value) (givenDeeds t d (inner c) input 1 x))))
+      → (byteAt t p ≡ 34 → hasRest (lookNode t d p .value) ≡ true → Good t d p → (input ≡ true → Good t d x) → hasArrayRestOverObjectRest (lookNode t d p .value) ≡ false → Topped c d p input 1 x g g′)
       → Good t d p → (input ≡ true → Good t d x) → hasArrayRestOverObjectRest (lookNode t d p .value) ≡ false → hasObjectRest (lookNode t d p .value) ≡ true → op < 256
       → Does g g′ (emits c (assignmentAt 0 op (lookNode t d p .value) (givenNode t d input x)))
   asn-top c d op p x k input s pk kk se sh top good gx ar ob lo =
@@ -490,22 +504,22 @@ module _ (t : List ℕ) where
       let X = givenNode t d input x in
       let h′ : hasArrayRestOverObjectRest (objectRestAt p ps y) ≡ false = ap (λ (m : Node). hasArrayRestOverObjectRest m) (sym (r .whole)) ∙ ar in
       does-as (top by hr good gx ar)
-      (ap₂ (λ (m : Node) (s : Emit). cond (lacksRests m) (say (refuses 6 ∷ puts (0 ∷ 0 ∷ []))) (emitsTop c m s)) (r .whole) (sym (given-is (inner c) d x input))
+      (ap₂ (λ (m : Node) (s : Emit). cond (anyLacksForm m) (say (refuses 6 ∷ puts (0 ∷ 0 ∷ []))) (emitsTop c m s)) (r .whole) (sym (given-is (inner c) d x input))
       ∙ sym (top-is c 0 op p ps y X h′) ∙ ap (λ (m : Node). emits c (assignmentAt 0 op m X)) (sym (r .whole)))
 
   asn-nest : {g g′ : Going} (c : Place) (d op p x : ℕ) (input : Bool) → isTop (lookNode t d p .value) ≡ false
-      → ((_≡_ {A = ℕ} 1 2 → ⊥) → Good t d p → (input ≡ true → Good t d x) → hasArrayRestOverObjectRest (lookNode t d p .value) ≡ false → op < 256
+      → ((_≡_ {A = ℕ} 1 2 → byteAt t p ≡ 34) → Good t d p → (input ≡ true → Good t d x) → hasArrayRestOverObjectRest (lookNode t d p .value) ≡ false → op < 256
       → Does g g′ (emitsNest c (viewOf 1) op (lookNode t d p .value) (givenDeeds t d (inner c) input 1 x)))
       → Good t d p → (input ≡ true → Good t d x) → hasArrayRestOverObjectRest (lookNode t d p .value) ≡ false → hasObjectRest (lookNode t d p .value) ≡ true → op < 256
       → Does g g′ (emits c (assignmentAt 0 op (lookNode t d p .value) (givenNode t d input x)))
   unfolding viewOf
   asn-nest c d op p x input h n good gx ar ob lo =
       let m = lookNode t d p .value in
-      does-as (n (λ e. omega (arith, e)) good gx ar lo)
+      does-as (n (λ e. absurd (omega (arith, e))) good gx ar lo)
       (ap (λ (s : Emit). emitsNest c replacing op m s) (sym (given-is (inner c) d x input)) ∙ sym (assignment-nested c 0 op m (givenNode t d input x) ar h ob))
 
   pub asn-plain : {g g′ : Going} (c : Place) (d op p x k : ℕ) (input s : Bool) → Peeked t p k → k ≡ 34 → s ≡ eqb (byteAt t (onward t p 1) / 2 % 2) 1 → s ≡ false
-      → ((_≡_ {A = ℕ} 1 2 → ⊥) → Good t d p → (input ≡ true → Good t d x) → hasArrayRestOverObjectRest (lookNode t d p .value) ≡ false → op < 256
+      → ((_≡_ {A = ℕ} 1 2 → byteAt t p ≡ 34) → Good t d p → (input ≡ true → Good t d x) → hasArrayRestOverObjectRest (lookNode t d p .value) ≡ false → op < 256
       → Does g g′ (emitsNest c (viewOf 1) op (lookNode t d p .value) (givenDeeds t d (inner c) input 1 x)))
       → Good t d p → (input ≡ true → Good t d x) → hasArrayRestOverObjectRest (lookNode t d p .value) ≡ false → hasObjectRest (lookNode t d p .value) ≡ true → op < 256
       → Does g g′ (emits c (assignmentAt 0 op (lookNode t d p .value) (givenNode t d input x)))
@@ -513,7 +527,7 @@ module _ (t : List ℕ) where
       asn-nest c d op p x input (no-rest-top (lookNode t d p .value) (no-second d p good (sym (pk .value) ∙ kk) (sym se ∙ sh))) n good gx ar ob lo
 
   pub asn-other : {g g′ : Going} (c : Place) (d op p x k : ℕ) (input : Bool) → Peeked t p k → (k ≡ 34 → ⊥)
-      → ((_≡_ {A = ℕ} 1 2 → ⊥) → Good t d p → (input ≡ true → Good t d x) → hasArrayRestOverObjectRest (lookNode t d p .value) ≡ false → op < 256
+      → ((_≡_ {A = ℕ} 1 2 → byteAt t p ≡ 34) → Good t d p → (input ≡ true → Good t d x) → hasArrayRestOverObjectRest (lookNode t d p .value) ≡ false → op < 256
       → Does g g′ (emitsNest c (viewOf 1) op (lookNode t d p .value) (givenDeeds t d (inner c) input 1 x)))
       → Good t d p → (input ≡ true → Good t d x) → hasArrayRestOverObjectRest (lookNode t d p .value) ≡ false → hasObjectRest (lookNode t d p .value) ≡ true → op < 256
       → Does g g′ (emits c (assignmentAt 0 op (lookNode t d p .value) (givenNode t d input x)))
@@ -606,72 +620,27 @@ module _ (t : List ℕ) where
 
   -- ---- the assignment of an object from the temporary in its place
 
-  abbrev innerHere : ℕ → ℕ → Node
-  innerHere d p = withValues (λ v. replacedBelow nameless v) (lookNode t d p .value)
+  inner-given : (c : Place) (d x at : ℕ) → x ≡ cell 1 at → givenDeeds t d c false 1 x ≡ saysCell 1 at
+  unfolding givenDeeds saysCell
+  inner-given c d x at e = ap (λ (z : ℕ). say (does (temporary z 1) ∷ [])) e
 
-  inner-is : (d p : ℕ) (ps : Items) (r : Node) → lookNode t d p .value ≡ objectRestAt p ps r → innerHere d p ≡ withValues (λ v. replacedBelow nameless v) (objectRestAt p ps r)
-  inner-is d p ps r e = ap (λ (n : Node). withValues (λ v. replacedBelow nameless v) n) e
-
-  pub itp-refused : {g g′ : Going} (c : Place) (d p r : ℕ) (b : Bool) → b ≡ anyLacksForm (lookNode t d p .value) → b ≡ true → Does g g′ (say (refuses 6 ∷ puts (0 ∷ 0 ∷ [])))
-      → byteAt t p ≡ 34 → hasRest (lookNode t d p .value) ≡ true → r ≡ listAt (d - 1) p .next → Good t d p → hasArrayRestOverObjectRest (lookNode t d p .value) ≡ false
-      → Does g g′ (emitsInner c (innerHere d p))
-  itp-refused c d p r b u h w k hr rr good ar =
+  pub own-top : {g g′ : Going} (c c₁ : Place) (d d₁ p x : ℕ) → (c₁ ≡ inner c) × (d₁ ≡ d) → CellIs x 1 p
+      → (byteAt t p ≡ 34 → hasRest (lookNode t d₁ p .value) ≡ true → Good t d₁ p → (false ≡ true → Good t d₁ x) → hasArrayRestOverObjectRest (lookNode t d₁ p .value) ≡ false → Topped c₁ d₁ p false 1 x g g′)
+      → byteAt t p ≡ 34 → hasRest (lookNode t d p .value) ≡ true → Good t d p → hasArrayRestOverObjectRest (lookNode t d p .value) ≡ false → Does g g′ (emitsInner c (lookNode t d p .value))
+  own-top {g = g} {g′ = g′} c c₁ d d₁ p x i ce top k hr good ar =
+      let n = lookNode t d p .value in
       let o : RestHere d (d - 1) p = rest-here d p good k hr in
       let ps = listAt (d - 1) p .value in
       let y = restNode (d - 1) p in
-      does-as w
-      (sym refused-6
-      ∙ sym (inner-refused p ps y c (ap (λ (n : Node). hasArrayRestOverObjectRest n) (sym (o .whole)) ∙ ar) (ap (λ (n : Node). anyLacksForm n) (sym (o .whole)) ∙ sym u ∙ h))
-      ∙ ap (emitsInner c) (sym (inner-is d p ps y (o .whole) ∙ values-rest nameless (λ v. replacedBelow nameless v) p ps y)))
-
-  pub itp-done : {g₀ g₁ g₂ g₃ g₄ g₅ g₆ g₇ h₇ g₈ g₉ i₀ j₀ i₁ i₂ i₃ : Going} (c c₁ c₂ : Place) (d d₁ d₂ e p q r s y z₁ z₂ z₃ z₄ z₅ : ℕ) (b : Bool) (f : ReferenceBuilder)
-      → b ≡ anyLacksForm (lookNode t d p .value) → b ≡ false → (c₁ ≡ inner c) × (d₁ ≡ d)
-      → (Good t d p → byteAt t p ≡ 34
-      → Does g₀ g₁ (say (does (entry (c .mark) (suc (otherKeys (properties (lookNode t d p .value))))) ∷ lists (5 ∷ 1 ∷ []) ++ (does (listedTemporary (cell 3 p) 3) ∷ [])) ▷ handsKeys (lookNode t d p .value) ▷ excludesOf (c .root) (lookNode t d p .value)))
-      → Does g₁ g₂ (say (puts (28 ∷ 1 ∷ []))) → (4 < 65536 → Does g₂ g₃ (say (puts (wideBytes 4)))) → (1 < 256 → Does g₃ g₄ (assignHead 1))
-      → CellIs z₁ 3 p → Does g₄ g₅ (say (does (temporary z₁ 3) ∷ [])) → CellIs z₂ 1 p → Does g₅ g₆ (say (does (temporary z₂ 1) ∷ [])) → (1 < 256 → Does g₆ g₇ (assignHead 1))
-      → h₇ ≡ g₇ → q ≡ p → (Good t d₁ q → (s ≡ lookNode t d₁ q .next) × Does h₇ g₈ (emitsView c₁ (viewOf 2) (lookNode t d₁ q .value)))
-      → CellIs z₃ 3 p → Does g₈ g₉ (say (does (temporary z₃ 3) ∷ [])) → (1 < 256 → Does g₉ i₀ (assignHead 1)) → j₀ ≡ i₀ → y ≡ r → e ≡ d - 1 → (c₂ ≡ inner c) × (d₂ ≡ e)
-      → (Good t d₂ y → Does j₀ i₁ (emits c₂ (lookNode t d₂ y .value)))
-      → CellIs z₄ 3 p → ((u : List ℕ) → sourceOf u f ≡ say (does (temporary z₄ 3) ∷ []))
-      → (Good t d₁ p → byteAt t p ≡ 34 → (true ≡ true → Clear i₁ (emitsRest c₁ p (properties (lookNode t d₁ p .value)) (sourceOf t f))) → Does i₁ i₂ (emitsRest c₁ p (properties (lookNode t d₁ p .value)) (sourceOf t f)))
-      → CellIs z₅ 3 p → Does i₂ i₃ (say (does (temporary z₅ 3) ∷ []))
-      → byteAt t p ≡ 34 → hasRest (lookNode t d p .value) ≡ true → r ≡ listAt (d - 1) p .next → Good t d p → hasArrayRestOverObjectRest (lookNode t d p .value) ≡ false
-      → Does g₀ i₃ (emitsInner c (innerHere d p))
-  unfolding emitsInnerTop viewOf nodeAt itemsAt pieceIn
-  itp-done {i₁ = i₁} c c₁ c₂ d d₁ d₂ e p q r s y z₁ z₂ z₃ z₄ z₅ b f u h in₁ hands two four as₁ ce₁ te₁ ce₂ te₂ as₂ m₁ w₁ view ce₃ te₃ as₃ m₂ w₂ le in₂ nod ce₄ so res ce₅ te₅ k hr rr good ar =
-      let o : RestHere d (d - 1) p = rest-here d p good k hr in
-      let ps = listAt (d - 1) p .value in
-      let x = restNode (d - 1) p in
-      let a = objectRestAt p ps x in
-      let l : p < 16384 = o .within in
-      let H : Node → Emit = λ m. say (does (entry (c .mark) (suc (otherKeys (properties m)))) ∷ lists (5 ∷ 1 ∷ []) ++ (does (listedTemporary (cell 3 p) 3) ∷ [])) in
-      let T : Node → Emit =
-      λ m. say (puts (28 ∷ 1 ∷ wideBytes 4)) ▷ assignHead 1 ▷ saysCell 3 p ▷ saysCell 1 p ▷ assignHead 1 ▷ emitsView (inner c) taking m ▷ saysCell 3 p
-      ▷ assignHead 1 ▷ emits (inner c) x ▷ emitsRest (inner c) p (properties m) (saysCell 3 p) ▷ saysCell 3 p in
-      let N = node-does (inner c) c₂ (d - 1) d₂ (listAt (d - 1) p .next) y m₂ (in₂ .0) (in₂ .1 ∙ le) (w₂ ∙ rr) nod (o .good) in
-      let seen = view-does taking (inner c) c₁ d d₁ p q s m₁ (in₁ .0) (in₁ .1) w₁ view good in
-      let again : Clear i₁ (emitsRest (inner c) p (properties (lookNode t d p .value)) (sourceOf t f)) =
-      taking-again c (lookNode t d p .value) (walked.object-here t d p good k) hr (sourceOf t f) (source-quiet t f) p
-      (clear-still (clear-still (clear-still (clear-after seen) te₃) (as₃ (omega arith))) N) in
-      let clear : Clear i₁ (emitsRest c₁ p (properties (lookNode t d₁ p .value)) (sourceOf t f)) =
-      subst (λ (m : Place). Clear i₁ (emitsRest m p (properties (lookNode t d₁ p .value)) (sourceOf t f))) (sym (in₁ .0))
-      (subst (λ (y : ℕ). Clear i₁ (emitsRest (inner c) p (properties (lookNode t y p .value)) (sourceOf t f))) (sym (in₁ .1)) again) in
-      does-as
-      (does-then (hands good k)
-      (does-then (sequence-says 4 4 refl (omega arith) two four)
-      (does-then (as₁ (omega arith))
-      (does-then (cell-says z₁ 3 p (ce₁ l (omega arith) (omega arith)) te₁)
-      (does-then (cell-says z₂ 1 p (ce₂ l (omega arith) (omega arith)) te₂)
-      (does-then (as₂ (omega arith))
-      (does-then seen
-      (does-then (cell-says z₃ 3 p (ce₃ l (omega arith) (omega arith)) te₃)
-      (does-then (as₃ (omega arith))
-      (does-then N
-      (does-then (rest-does (inner c) c₁ d d₁ p z₄ 3 p f (in₁ .0) (in₁ .1) (ce₄ l (omega arith) (omega arith)) so (λ g e. res g e (λ _. clear)) good k)
-      (cell-says z₅ 3 p (ce₅ l (omega arith) (omega arith)) te₅))))))))))))
-      (ap (λ (m : Node). (H m ▷ handsKeys m ▷ excludesOf (c .root) m) ▷ T m) (o .whole)
-      ∙ then-assoc (H a) (handsKeys a ▷ excludesOf (c .root) a) (T a)
-      ∙ ap (λ (w : Emit). H a ▷ w) (then-assoc (handsKeys a) (excludesOf (c .root) a) (T a))
-      ∙ sym (inner-done p ps x c (ap (λ (m : Node). hasArrayRestOverObjectRest m) (sym (o .whole)) ∙ ar) (ap (λ (m : Node). anyLacksForm m) (sym (o .whole)) ∙ sym u ∙ h) (o .leafy))
-      ∙ ap (emitsInner c) (sym (inner-is d p ps x (o .whole) ∙ values-rest nameless (λ v. replacedBelow nameless v) p ps x)))
+      let q = objectRestAt p ps y in
+      let T : Topped (inner c) d p false 1 x g g′ =
+      carry (λ m f z. byteAt t z ≡ 34 → hasRest (lookNode t f z .value) ≡ true → Good t f z → (false ≡ true → Good t f x) → hasArrayRestOverObjectRest (lookNode t f z .value) ≡ false → Topped m f z false 1 x g g′)
+      (i .0) (i .1) refl top k hr good (λ b. absurd (false≢true b)) ar in
+      let ar′ : hasArrayRestOverObjectRest q ≡ false = ap (λ (m : Node). hasArrayRestOverObjectRest m) (sym (o .whole)) ∙ ar in
+      let same : cond (anyLacksForm q) (say (refuses 6 ∷ puts (0 ∷ 0 ∷ []))) (emitsTop (inner c) q (saysCell 1 p)) ≡ emitsInner c q =
+      by-test (anyLacksForm q)
+      (λ b. rw b (sym refused-6 ∙ sym (inner-refused c p ps y ar′ b)))
+      (λ b. rw b (sym (inner-done c p ps y ar′ b))) in
+      does-as T
+      (ap₂ (λ (m : Node) (s : Emit). cond (anyLacksForm m) (say (refuses 6 ∷ puts (0 ∷ 0 ∷ []))) (emitsTop (inner c) m s)) (o .whole) (inner-given (inner (inner c)) d x p (ce (o .within) (omega arith) (omega arith)))
+      ∙ same ∙ ap (emitsInner c) (sym (o .whole)))

@@ -269,7 +269,7 @@ module _ (t : List ℕ) where
         ▷ say (puts (part at (onward t at 5) t))
         ▷ slotDeeds t (lookNode t d) false (scoped c) (sortOf 32) (byteAt t (onward t at 1) / 4 % 2) (onward t at 5)
         ▷ say (puts (part params (onward t params 2) t))
-        ▷ turnsOf 11 0 (scoped c) (bound .value)
+        ▷ turnsOf 11 (scoped c) (bound .value)
         ▷ slotDeeds t (lookNode t d) false (scoped c) (sortOf 32) (byteAt t (onward t at 1) / 16 % 2) (bound .next)
         ▷ emits (scoped c) (bodyIn (gather movedFrom (bound .value)) (lookNode t d written .value))
         ≡ emits c (lookNode t (suc d) at .value)
@@ -287,10 +287,10 @@ module _ (t : List ℕ) where
         let head : puts (part at (onward t at 5) t) ≡ puts (14 ∷ mapOf fs ∷ []) ++ (marks m ++ puts (sort ∷ [])) =
         ap puts (op .head ∙ ap (λ (x : ℕ). 14 ∷ x ∷ wideBytes m ++ (sort ∷ [])) map) ∙ ap (λ (x : List Deed). puts (14 ∷ mapOf fs ∷ []) ++ (x ++ puts (sort ∷ []))) (sym (marks-own m (op .marked))) in
         let body : Emit = emits (scoped c) (bodyIn (gather movedFrom qs) b) in
-        ap₂ (λ (x : List Deed) (y : Emit). say (makes (gather movedFrom qs)) ▷ say x ▷ y ▷ say (puts (part params (onward t params 2) t)) ▷ turnsOf 11 0 (scoped c) qs ▷ slotDeeds t (lookNode t d) false (scoped c) (sortOf 32) (byteAt t (onward t at 1) / 16 % 2) (bound .next) ▷ body)
+        ap₂ (λ (x : List Deed) (y : Emit). say (makes (gather movedFrom qs)) ▷ say x ▷ y ▷ say (puts (part params (onward t params 2) t)) ▷ turnsOf 11 (scoped c) qs ▷ slotDeeds t (lookNode t d) false (scoped c) (sortOf 32) (byteAt t (onward t at 1) / 16 % 2) (bound .next) ▷ body)
         head (given-deeds (scoped c) d (byteAt t (onward t at 1) / 4 % 2) (onward t at 5) (omega arith))
         ∙ ap₂ (λ (x : List ℕ) (y : Emit). say (makes (gather movedFrom qs)) ▷ say (puts (14 ∷ mapOf fs ∷ []) ++ (marks m ++ puts (sort ∷ []))) ▷ emitsGiven (emits (scoped c)) name ▷ say (puts x) ▷ y ▷ slotDeeds t (lookNode t d) false (scoped c) (sortOf 32) (byteAt t (onward t at 1) / 16 % 2) (bound .next) ▷ body)
-        (op .list .head ∙ ap (λ (x : ℕ). wideBytes x) (sym (op .list .many))) (turns-11 0 (scoped c) qs (look-solid t (lookNode t d) (wideAt t params) (onward t params 2)))
+        (op .list .head ∙ ap (λ (x : ℕ). wideBytes x) (sym (op .list .many))) (turns-11 (scoped c) qs (look-solid t (lookNode t d) (wideAt t params) (onward t params 2)))
         ∙ ap (λ (y : Emit). say (makes (gather movedFrom qs)) ▷ say (puts (14 ∷ mapOf fs ∷ []) ++ (marks m ++ puts (sort ∷ []))) ▷ emitsGiven (emits (scoped c)) name ▷ say (puts (wideBytes (count qs))) ▷ emitsItems false (scoped c) (each behind qs) ▷ y ▷ body)
         (given-deeds (scoped c) d (byteAt t (onward t at 1) / 16 % 2) (bound .next) (omega arith))
         ∙ sym (emits-function c at m sort name qs rest b some)
@@ -301,7 +301,7 @@ module _ (t : List ℕ) where
       → q ≡ onward t at 5 → p ≡ onward t at 1 → Peeked t p bits → s ≡ lookSlot t (lookNode t l) (sortOf 32) (bits / 4 % 2) q .next → Wide t s n → first ≡ onward t s 2
       → y₀ ≡ at → (GoodItems t (lookNode t l) (Good t l) false false n first → AllSuit 11 (lookItems t (lookNode t l) false n first .value) → Does g g₁ (say (makes (gather movedFrom (lookItems t (lookNode t l) false n first .value)))))
       → y₁ ≡ q → Does g₁ g₂ (say (puts (part y₀ q t))) → Slotted t 32 (bits / 4 % 2) e y₁ y₂ g₂ g₃ false c₁ → y₃ ≡ first → Does g₃ g₄ (say (puts (part y₂ first t)))
-      → Through t 11 0 e false n y₃ y₄ g₄ g₅ c₁ → Slotted t 32 (bits / 16 % 2) e y₄ y₅ g₅ g₆ false c₁ → (byteAt t y₅ ≡ 16 → Bodied e y₅ z first n g₆ g₇ c₁)
+      → Through t 11 e false n y₃ y₄ g₄ g₅ c₁ → Slotted t 32 (bits / 16 % 2) e y₄ y₅ g₅ g₆ false c₁ → (byteAt t y₅ ≡ 16 → Bodied e y₅ z first n g₆ g₇ c₁)
       → g′ ≡ g₇ → w ≡ lookNode t d at .next → x ≡ w → byteAt t at ≡ 14 → Ruled t d at x g g′ (emits c)
   function-moved c c₁ zero l e at q p bits s n first y₀ y₁ y₂ y₃ y₄ y₅ z w x b f bb bt ff ft ll cc ee qq pp bi ss nn fi h₀ mk h₁ cp sl h₃ cq sq st bd to ww xx kind = (xx ∙ ww, λ good. no-good t at good)
   function-moved c c₁ (suc d) l e at q p bits s n first y₀ y₁ y₂ y₃ y₄ y₅ z w x b f bb bt ff ft ll cc ee qq pp bi ss nn fi h₀ mk h₁ cp sl h₃ cq sq st bd to ww xx kind = (
@@ -324,7 +324,7 @@ module _ (t : List ℕ) where
         let suitl : AllSuit 11 (lookItems t (lookNode t l) false n first .value) = subst (λ (is : Seen Items). AllSuit 11 (is .value)) (sym (look-as t false l d n _ first _ ld np fp)) suit in
         let suite : AllSuit 11 (lookItems t (lookNode t e) false n first .value) = subst (λ (is : Seen Items). AllSuit 11 (is .value)) (sym (look-as t false e d n _ first _ ed np fp)) suit in
         let suity : AllSuit 11 (lookItems t (lookNode t e) false n y₃ .value) = subst (λ (is : Seen Items). AllSuit 11 (is .value)) (sym (look-as t false e d n _ y₃ _ ed np q₃)) suit in
-        let run = sq (omega arith) goody suity in
+        let run = sq goody suity in
         let q₄ : y₄ ≡ bound d at .next = run .0 ∙ ap (λ (is : Seen Items). is .next) (look-as t false e d n _ y₃ _ ed np q₃) in
         let q₅ : y₅ ≡ written d at = st .0 ∙ rw (ed, mm, q₄) (given-end d (byteAt t (onward t at 1) / 16 % 2) (bound d at .next) (omega arith)) in
         let b16 : byteAt t y₅ ≡ 16 = ap (λ (x : ℕ). byteAt t x) q₅ ∙ kind-byte t d (written d at) 16 (op .body) (op .kind16) in
@@ -353,7 +353,7 @@ module _ (t : List ℕ) where
     arrow-deeds : (c : Place) → Good t (suc d) at → ArrowOpen t d at → any isMoved (itemsAt 0 (lookNode t (suc d) at .value)) ≡ true
         → say (makes (gather movedFrom (taken .value)))
         ▷ say (puts (part at (onward t (onward t at 2) 2) t))
-        ▷ turnsOf 11 0 (scoped c) (taken .value)
+        ▷ turnsOf 11 (scoped c) (taken .value)
         ▷ slotDeeds t (lookNode t d) false (scoped c) (sortOf 32) (byteAt t (onward t at 1) / 2 % 2) (taken .next)
         ▷ emits (scoped c) (bodyIn (gather movedFrom (taken .value)) (lookNode t d body .value))
         ≡ emits c (lookNode t (suc d) at .value)
@@ -366,7 +366,7 @@ module _ (t : List ℕ) where
         let some : any isMoved qs ≡ true = ap (λ (x : Node). any isMoved (itemsAt 0 x)) (sym value) ∙ h in
         let last : Emit = emits (scoped c) (bodyIn (gather movedFrom qs) b) in
         ap₂ (λ (x : List ℕ) (y : Emit). say (makes (gather movedFrom qs)) ▷ say (puts x) ▷ y ▷ slotDeeds t (lookNode t d) false (scoped c) (sortOf 32) (byteAt t (onward t at 1) / 2 % 2) (taken .next) ▷ last)
-        (arrow-head good op ∙ ap₂ (λ (x y : ℕ). 17 ∷ x ∷ wideBytes y) (op .map) (sym (op .list .many))) (turns-11 0 (scoped c) qs (look-solid t (lookNode t d) (wideAt t (onward t at 2)) (onward t (onward t at 2) 2)))
+        (arrow-head good op ∙ ap₂ (λ (x y : ℕ). 17 ∷ x ∷ wideBytes y) (op .map) (sym (op .list .many))) (turns-11 (scoped c) qs (look-solid t (lookNode t d) (wideAt t (onward t at 2)) (onward t (onward t at 2) 2)))
         ∙ ap (λ (y : Emit). say (makes (gather movedFrom qs)) ▷ say (puts (17 ∷ mapOf (arrowFields qs rest b) ∷ wideBytes (count qs))) ▷ emitsItems false (scoped c) (each behind qs) ▷ y ▷ last)
         (given-deeds (scoped c) d (byteAt t (onward t at 1) / 2 % 2) (taken .next) (omega arith))
         ∙ sym (emits-arrow c at qs rest b some)
@@ -375,7 +375,7 @@ module _ (t : List ℕ) where
   pub arrow-moved : {g g₁ g₂ g₃ g₄ g₅ g′ : Going} (c c₁ : Place) (d l e at q n first y₀ y₁ y₂ y₃ bit z w x : ℕ) (b : Bool)
       → b ≡ any isMoved (itemsAt 0 (lookNode t d at .value)) → b ≡ true → l ≡ d - 1 → c₁ ≡ scoped c → e ≡ l → q ≡ onward t at 2 → Wide t q n → first ≡ onward t q 2
       → y₀ ≡ at → (GoodItems t (lookNode t l) (Good t l) false false n first → AllSuit 11 (lookItems t (lookNode t l) false n first .value) → Does g g₁ (say (makes (gather movedFrom (lookItems t (lookNode t l) false n first .value)))))
-      → y₁ ≡ first → Does g₁ g₂ (say (puts (part y₀ first t))) → Through t 11 0 e false n y₁ y₂ g₂ g₃ c₁ → bit ≡ byteAt t (onward t at 1) / 2 % 2 → Slotted t 32 bit e y₂ y₃ g₃ g₄ false c₁
+      → y₁ ≡ first → Does g₁ g₂ (say (puts (part y₀ first t))) → Through t 11 e false n y₁ y₂ g₂ g₃ c₁ → bit ≡ byteAt t (onward t at 1) / 2 % 2 → Slotted t 32 bit e y₂ y₃ g₃ g₄ false c₁
       → Bodied e y₃ z first n g₄ g₅ c₁ → g′ ≡ g₅ → w ≡ lookNode t d at .next → x ≡ w → byteAt t at ≡ 17 → Ruled t d at x g g′ (emits c)
   arrow-moved c c₁ zero l e at q n first y₀ y₁ y₂ y₃ bit z w x b bb bt ll cc ee qq nn fi h₀ mk h₁ cp sq bi st bd to ww xx kind = (xx ∙ ww, λ good. no-good t at good)
   arrow-moved c c₁ (suc d) l e at q n first y₀ y₁ y₂ y₃ bit z w x b bb bt ll cc ee qq nn fi h₀ mk h₁ cp sq bi st bd to ww xx kind = (
@@ -394,7 +394,7 @@ module _ (t : List ℕ) where
         let suitl : AllSuit 11 (lookItems t (lookNode t l) false n first .value) = subst (λ (is : Seen Items). AllSuit 11 (is .value)) (sym (look-as t false l d n _ first _ ld np fp)) suit in
         let suite : AllSuit 11 (lookItems t (lookNode t e) false n first .value) = subst (λ (is : Seen Items). AllSuit 11 (is .value)) (sym (look-as t false e d n _ first _ ed np fp)) suit in
         let suity : AllSuit 11 (lookItems t (lookNode t e) false n y₁ .value) = subst (λ (is : Seen Items). AllSuit 11 (is .value)) (sym (look-as t false e d n _ y₁ _ ed np q₁)) suit in
-        let run = sq (omega arith) goody suity in
+        let run = sq goody suity in
         let q₂ : y₂ ≡ taken d at .next = run .0 ∙ ap (λ (is : Seen Items). is .next) (look-as t false e d n _ y₁ _ ed np q₁) in
         let q₃ : y₃ ≡ body d at = st .0 ∙ rw (ed, bi, q₂) (given-end d (byteAt t (onward t at 1) / 2 % 2) (taken d at .next) (omega arith)) in
         let done = bd (scoped-place c c₁ cc) (stands-as t e d y₃ (body d at) ed q₃ (op .body)) goode (λ r. suite) in

@@ -128,7 +128,7 @@ module _ (t : List ℕ) where
       → Does g g₁ (say (puts (5 ∷ 3 ∷ []))) → g₂ ≡ g₁ → i ≡ r → c₁ ≡ inner c → e ≡ left
       → (u ≡ lookNode t e i .next) × (Good t e i → Does g₂ g₃ (emits c₁ (lookNode t e i .value)))
       → c₂ ≡ inner c → h ≡ d
-      → (p ≡ u) × (Good t h at → byteAt t at ≡ 34 → (true ≡ true → Clear g₃ (emitsRest c₂ at (properties (lookNode t h at .value)) src)) → Does g₃ g₄ (emitsRest c₂ at (properties (lookNode t h at .value)) src))
+      → (p ≡ u) × (Good t h at → byteAt t at ≡ 34 → Clear g₃ (emitsRest c₂ at (properties (lookNode t h at .value)) src) → Does g₃ g₄ (emitsRest c₂ at (properties (lookNode t h at .value)) src))
       → g′ ≡ g₄ → s ≡ at
       → Quiet src → (s ≡ at) × (byteAt t at ≡ 34 → Good t d at → Clear g (emitsOwnKeys c (lookNode t d at .value) ▷ emitsOwnPattern c (lookNode t d at .value) src) → Does g g′ (emitsOwnRest c (lookNode t d at .value) src))
   own-rest-done {g₃ = g₃} c c₁ c₂ d left e h at q n f p r i u s b src bit stood levels second many first ends head from move place₁ level given place₂ same-level last upto moved quiet = (
@@ -143,7 +143,7 @@ module _ (t : List ℕ) where
         let again : Clear g₃ (emitsRest (inner c) at (properties (lookNode t d at .value)) src) =
         own-again c (lookNode t d at .value) (walked.object-here t d at good k) (ap (λ (y : Node). hasRest y) value-is ∙ rest-stands at ps _) src quiet at (clear-still (clear-still clear head) target) in
         let there = last .1 (subst (λ (y : ℕ). Good t y at) (sym same-level) good) k
-        (λ _. subst (λ (m : Place). Clear g₃ (emitsRest m at (properties (lookNode t h at .value)) src)) (sym place₂)
+        (subst (λ (m : Place). Clear g₃ (emitsRest m at (properties (lookNode t h at .value)) src)) (sym place₂)
         (subst (λ (y : ℕ). Clear g₃ (emitsRest (inner c) at (properties (lookNode t y at .value)) src)) (sym same-level) again)) in
         does-to upto (does-as (does-then head (does-then target there))
         (ap₂ (λ (m : Place) (y : ℕ). say (puts (5 ∷ 3 ∷ [])) ▷ emits m (lookNode t e y .value) ▷ emitsRest c₂ at (properties (lookNode t h at .value)) src) place₁ ii
@@ -190,7 +190,7 @@ module _ (t : List ℕ) where
 
   pub own-keyed : {g g₁ g₂ g₃ g′ : Going} (c c′ : Place) (d left e at q n p f u i s : ℕ) (b : Bool) (src : Emit) → b ≡ eqb (byteAt t (onward t at 1) / 2 % 2) 1 → b ≡ true
       → q ≡ onward t at 2 → Wide t q n → p ≡ onward t q 2 → f ≡ p → g₁ ≡ g → left ≡ d - 1 → e ≡ left → c′ ≡ inner c
-      → Turned t e false n f u 7 0 c′ g₁ g₂ → g₃ ≡ g₂ → i ≡ at
+      → Turned t e false n f u 7 c′ g₁ g₂ → g₃ ≡ g₂ → i ≡ at
       → (s ≡ i) × (byteAt t i ≡ 34 → Good t d i → Does g₃ g′ (emitsOwnPattern c (lookNode t d i .value) src))
       → (s ≡ at) × (byteAt t at ≡ 34 → Good t d at → Does g g′ (emitsOwnKeys c (lookNode t d at .value) ▷ emitsOwnPattern c (lookNode t d at .value) src))
   own-keyed c c′ d left e at q n p f u i s b src bit stood second many first move from levels level place keys again back last = (
@@ -199,10 +199,10 @@ module _ (t : List ℕ) where
         let o = object-as t d left e at q n f levels level second (many .value) (move ∙ first) good k in
         let ps : Items = lookItems t (lookNode t e) false n f .value in
         let value-is = ap (λ (y : Seen Node). y .value) (o .resting (sym bit ∙ stood)) in
-        let r = keys (omega arith) (o .goods) (suit-7 ps (o .kinds)) in
+        let r = keys (o .goods) (suit-7 ps (o .kinds)) in
         let there = last .1 (ap (byteAt t) back ∙ k) (subst (λ (y : ℕ). Good t d y) (sym back) good) in
-        let keys-as : turnsOf 7 0 c′ ps ≡ emitsOwnKeys c (lookNode t d at .value) =
-        ap (λ (y : Place). turnsOf 7 0 y ps) place ∙ turns-7 0 (inner c) ps ∙ turn-same (emitsKeyValue (inner c)) (emitsKeyValue c) (key-value-inner c) ps
+        let keys-as : turnsOf 7 c′ ps ≡ emitsOwnKeys c (lookNode t d at .value) =
+        ap (λ (y : Place). turnsOf 7 y ps) place ∙ turns-7 (inner c) ps ∙ turn-same (emitsKeyValue (inner c)) (emitsKeyValue c) (key-value-inner c) ps
         ∙ sym (own-keys-some c at ps _) ∙ ap (λ (y : Node). emitsOwnKeys c y) (sym value-is) in
         does-as (does-then (does-from from (r .1)) (does-from again there))
         (ap₂ (λ (x : Emit) (y : ℕ). x ▷ emitsOwnPattern c (lookNode t d y .value) src) keys-as back),
@@ -239,7 +239,7 @@ module _ (t : List ℕ) where
   pub pattern-array-done : {g g₁ g₂ g₃ g₄ g′ : Going} (c c′ : Place) (d h at k i u j p s : ℕ) (src : Emit) → k ≡ byteAt t at → k ≡ 36
       → Does g g₁ (say (puts (5 ∷ 3 ∷ []))) → i ≡ at → c′ ≡ inner c → h ≡ d
       → (Good t h i → (u ≡ lookNode t h i .next) × Does g₁ g₂ (emitsView c′ (viewOf 1) (lookNode t h i .value)))
-      → (j ≡ u) × Does g₂ g₃ src → g₄ ≡ g₃ → p ≡ at → (0 < 16384 → Deep t d p s 8 0 c g₄ g′)
+      → (j ≡ u) × Does g₂ g₃ src → g₄ ≡ g₃ → p ≡ at → Deep t d p s 8 c g₄ g′
       → Good t d at → Does g g′ (emitsPattern c (lookNode t d at .value) src)
   unfolding viewOf deepMode
   pattern-array-done c c′ zero h at k i u j p s src kk a head move place same-level view read from back found good = no-good t at good
@@ -247,16 +247,16 @@ module _ (t : List ℕ) where
       let n : Node = lookNode t (suc d) at .value in
       let node-as : lookNode t h i .value ≡ n = ap₂ (λ (x y : ℕ). lookNode t x y .value) same-level move in
       let v = view (subst (λ (y : ℕ). Good t h y) (sym move) (subst (λ (y : ℕ). Good t y at) (sym same-level) good)) in
-      let r = found (omega arith) (subst (λ (y : ℕ). Good t (suc d) y) (sym back) good) refl (suits-8 (lookNode t (suc d) p .value)) in
+      let r = found (subst (λ (y : ℕ). Good t (suc d) y) (sym back) good) refl (suits-8 (lookNode t (suc d) p .value)) in
       does-as (does-then head (does-then (v .1) (does-then (read .1) (does-from from (r .1)))))
-      (ap₂ (λ (m : Place) (y : Node). say (puts (5 ∷ 3 ∷ [])) ▷ emitsView m replacing y ▷ src ▷ turnOf 8 0 c (lookNode t (suc d) p .value)) place node-as
-      ∙ ap (λ (x : Emit). say (puts (5 ∷ 3 ∷ [])) ▷ emitsView (inner c) replacing n ▷ src ▷ x) (turn-8 0 c (lookNode t (suc d) p .value) ∙ ap (λ (y : ℕ). emitsFound c (lookNode t (suc d) y .value)) back)
+      (ap₂ (λ (m : Place) (y : Node). say (puts (5 ∷ 3 ∷ [])) ▷ emitsView m replacing y ▷ src ▷ turnOf 8 c (lookNode t (suc d) p .value)) place node-as
+      ∙ ap (λ (x : Emit). say (puts (5 ∷ 3 ∷ [])) ▷ emitsView (inner c) replacing n ▷ src ▷ x) (turn-8 c (lookNode t (suc d) p .value) ∙ ap (λ (y : ℕ). emitsFound c (lookNode t (suc d) y .value)) back)
       ∙ sym (pattern-array c n src (array-here d at k kk a)))
 
   pub pattern-object-done : {g g₁ g₂ g₃ g₄ g′ : Going} (c c′ : Place) (d left e at k q n p f i u j s : ℕ) (src : Emit) → k ≡ byteAt t at → k ≡ 34
       → q ≡ onward t at 2 → Wide t q n
       → (i ≡ at) × (byteAt t at ≡ 34 → Good t d at → Does g g₁ (emitsOwnKeys c (lookNode t d at .value) ▷ emitsOwnPattern c (lookNode t d at .value) src))
-      → p ≡ onward t q 2 → f ≡ p → g₂ ≡ g₁ → left ≡ d - 1 → e ≡ left → c′ ≡ c → Turned t e false n f u 9 0 c′ g₂ g₃ → g₄ ≡ g₃ → j ≡ at
+      → p ≡ onward t q 2 → f ≡ p → g₂ ≡ g₁ → left ≡ d - 1 → e ≡ left → c′ ≡ c → Turned t e false n f u 9 c′ g₂ g₃ → g₄ ≡ g₃ → j ≡ at
       → (s ≡ j) × (byteAt t j ≡ 34 → Good t d j → Clear g₄ (emitsOwnKeys c (lookNode t d j .value) ▷ emitsOwnPattern c (lookNode t d j .value) src) → Does g₄ g′ (emitsOwnRest c (lookNode t d j .value) src))
       → Good t d at → Does g g′ (emitsPattern c (lookNode t d at .value) src)
   pattern-object-done {g₄ = g₄} c c′ d left e at k q n p f i u j s src kk a second many own first move from levels level place values again back last good =
@@ -270,7 +270,7 @@ module _ (t : List ℕ) where
       let P : Emit = emitsOwnPattern c w src in
       let R : Emit = emitsOwnRest c w src in
       let F : Emit = inTurn (λ y. emitsFound c (value y)) (properties w) in
-      let r = values (omega arith) (o .goods) (suit-9 ps (o .kinds)) in
+      let r = values (o .goods) (suit-9 ps (o .kinds)) in
       let properties-are : ps ≡ properties w =
       by-test (eqb (byteAt t (onward t at 1) / 2 % 2) 1)
       (λ b. sym (ap (λ (y : Seen Node). properties (y .value)) (o .resting b) ∙ properties-at at ps _))
@@ -280,7 +280,7 @@ module _ (t : List ℕ) where
       (subst (λ (y : ℕ). Clear g₄ (emitsOwnKeys c (lookNode t d y .value) ▷ emitsOwnPattern c (lookNode t d y .value) src)) (sym back) clear) in
       does-as (does-then (own .1 kind-is good) (does-then (does-from from (r .1)) (does-from again there)))
       (ap₂ (λ (x : Emit) (y : ℕ). (K ▷ P) ▷ x ▷ emitsOwnRest c (lookNode t d y .value) src)
-      (ap (λ (y : Place). turnsOf 9 0 y ps) place ∙ turns-9 0 c ps ∙ ap (λ (y : Items). inTurn (λ x. emitsFound c (value x)) y) properties-are) back
+      (ap (λ (y : Place). turnsOf 9 y ps) place ∙ turns-9 c ps ∙ ap (λ (y : Items). inTurn (λ x. emitsFound c (value x)) y) properties-are) back
       ∙ then-assoc K P (F ▷ R)
       ∙ sym (pattern-object c w src shape-is))
 
@@ -482,7 +482,7 @@ module _ (t : List ℕ) where
       → i ≡ at → (Good t d at → byteAt t at ≡ 4 → Does g g₁ (inTurn declaratorMade (itemsAt 2 (lookNode t d at .value)) ▷ inTurn (declaratorExcludes (c .root)) (itemsAt 2 (lookNode t d at .value))))
       → q ≡ onward t at 5 → ((κ : Context) → k ≡ limited (count (gather (declarators κ) (itemsAt 2 (lookNode t d at .value)))))
       → Does g₁ g₂ (say (puts (part i q t))) → (k < 65536 → Does g₂ g₃ (say (puts (wideBytes k)))) → p ≡ onward t q 2 → f ≡ p → g₄ ≡ g₃ → z ≡ lookNode t d at .next
-      → left ≡ d - 1 → c′ ≡ c → e ≡ left → Wide t q n → Turned t e false n f u 10 0 c′ g₄ g₅ → s ≡ z → g′ ≡ g₅
+      → left ≡ d - 1 → c′ ≡ c → e ≡ left → Wide t q n → Turned t e false n f u 10 c′ g₄ g₅ → s ≡ z → g′ ≡ g₅
       → byteAt t at ≡ 4 → (s ≡ lookNode t d at .next) × (Good t d at → Does g g′ (emits c (lookNode t d at .value)))
   declaration-writes c c′ d left e at i q k n p f u z s b test fine same hands fifth counts copied wide first move from next levels place level many items moved upto kk = (
     moved ∙ next,
@@ -507,13 +507,13 @@ module _ (t : List ℕ) where
         let M : Emit = inTurn declaratorMade ds in
         let X : Emit = inTurn (declaratorExcludes (c .root)) ds in
         let D : Emit = inTurn (emitsDeclarator c) ds in
-        let r = items (omega arith) goods (suit-10 ds kinds-are) in
+        let r = items goods (suit-10 ds kinds-are) in
         let bytes : part i q t ≡ 4 ∷ 7 ∷ wideBytes m ++ (x ∷ []) = ap₂ (λ (y v : ℕ). part y v t) same fifth ∙ o .head in
         let head : say (puts (part i q t)) ▷ say (puts (wideBytes k)) ≡ say (puts (4 ∷ 7 ∷ []) ++ (marks m ++ puts (x ∷ wideBytes (declaratorCount c ds)))) =
         ap₂ (λ (bs : List ℕ) (y : ℕ). say (puts bs) ▷ say (puts (wideBytes y))) bytes k-as ∙ say-say (puts (4 ∷ 7 ∷ wideBytes m ++ (x ∷ []))) (puts (wideBytes (declaratorCount c ds))) ∙ ap say (head-is m x (declaratorCount c ds) (o .marked)) in
         does-to upto (does-as (does-then (hands good kk) (does-then (does-then copied (wide small)) (does-from from (r .1))))
-        (ap₂ (λ (y : Items) (v : Emit). (inTurn declaratorMade y ▷ inTurn (declaratorExcludes (c .root)) y) ▷ v ▷ turnsOf 10 0 c′ ds) ds-are head
-        ∙ ap (λ (v : Emit). (M ▷ X) ▷ say (puts (4 ∷ 7 ∷ []) ++ (marks m ++ puts (x ∷ wideBytes (declaratorCount c ds)))) ▷ v) (ap (λ (y : Place). turnsOf 10 0 y ds) place ∙ turns-10 0 c ds)
+        (ap₂ (λ (y : Items) (v : Emit). (inTurn declaratorMade y ▷ inTurn (declaratorExcludes (c .root)) y) ▷ v ▷ turnsOf 10 c′ ds) ds-are head
+        ∙ ap (λ (v : Emit). (M ▷ X) ▷ say (puts (4 ∷ 7 ∷ []) ++ (marks m ++ puts (x ∷ wideBytes (declaratorCount c ds)))) ▷ v) (ap (λ (y : Place). turnsOf 10 y ds) place ∙ turns-10 c ds)
         ∙ then-assoc M X (say (puts (4 ∷ 7 ∷ []) ++ (marks m ++ puts (x ∷ wideBytes (declaratorCount c ds)))) ▷ D)
         ∙ sym (declaration-done c at m x ds (ap (declarationLacksForm (contextOf c)) (sym whole) ∙ sym (test (contextOf c)) ∙ fine))
         ∙ ap (emits c) (sym whole))),

@@ -118,7 +118,7 @@ entries-few (Items.item q qs) = go (isPrivate (key q)) (entries-few qs)
 module _ (t : List ℕ) where
   pub keys-does : {g g₁ g₂ g₃ g₄ g₅ : Going} (c c₁ : Place) (d d₁ p q n k f x y : ℕ) → q ≡ onward t p 2 → Wide t q n
       → ((κ : Context) → k ≡ limited (count (excludedKeys κ (lookNode t d p .value)))) → f ≡ onward t q 2 → x ≡ f → c₁ ≡ c → d₁ ≡ d - 1 → g₃ ≡ g₂ → g₅ ≡ g₄
-      → Does g g₁ (say (puts (32 ∷ 1 ∷ []))) → (k < 65536 → Does g₁ g₂ (say (puts (wideBytes k)))) → Sequenced t 6 0 c₁ d₁ false n x y g₃ g₄
+      → Does g g₁ (say (puts (32 ∷ 1 ∷ []))) → (k < 65536 → Does g₁ g₂ (say (puts (wideBytes k)))) → Sequenced t 6 c₁ d₁ false n x y g₃ g₄
       → Good t d p → byteAt t p ≡ 34 → Does g g₅ (emitsKeys c (properties (lookNode t d p .value)))
   unfolding emitsKeys limited
   keys-does c c₁ zero d₁ p q n k f x y eq w ek ef ex ec ed eg eh a b sq good e34 = no-good t p good
@@ -134,10 +134,10 @@ module _ (t : List ℕ) where
       let kk : k ≡ min (entries qs) 65536 = ek nameless ∙ ap (λ (z : ℕ). limited z) (entries-are nameless whole ∙ ap entries here) in
       let small : k < 65536 = omega (arith, o .list .small) in
       let same : k ≡ entries qs = omega (arith, o .list .small) in
-      let r = sequenced-as t 0 false 6 6 c c₁ d d₁ (wideAt t (onward t p 2)) n (onward t (onward t p 2) 2) x y refl ec xd nn ff sq (omega arith) (o .list .good) (suit-6 qs (o .properties)) in
+      let r = sequenced-as t false 6 6 c c₁ d d₁ (wideAt t (onward t p 2)) n (onward t (onward t p 2) 2) x y refl ec xd nn ff sq (o .list .good) (suit-6 qs (o .properties)) in
       let turns : Emit = inTurn (emitsExcluded c) qs in
       does-to eh
-      (does-as (does-then a (does-then (b small) (does-from eg (does-as (r .1) (turns-6 0 c qs)))))
+      (does-as (does-then a (does-then (b small) (does-from eg (does-as (r .1) (turns-6 c qs)))))
       (sym (then-assoc (say (puts (32 ∷ 1 ∷ []))) (say (puts (wideBytes k))) turns)
       ∙ ap (λ (z : Emit). z ▷ turns) (say-puts (32 ∷ 1 ∷ []) (wideBytes k))
       ∙ ap (λ (z : ℕ). say (puts (32 ∷ 1 ∷ wideBytes z)) ▷ turns) same

@@ -539,7 +539,7 @@ module _ (t : List ℕ) where
         (declaration-bytes d q (v .seen .left) four)
 
     declaring-law : any isMoved (itemsAt 2 (nodeAt 1 (lookNode t (suc (suc d)) at .value))) ≡ true
-        → say (makes (gather movedFrom qs)) ▷ say (puts (part at (onward t (declaratorsAt at) 2) t)) ▷ turnsOf 11 0 (scoped c) qs ▷ emits (scoped c) right
+        → say (makes (gather movedFrom qs)) ▷ say (puts (part at (onward t (declaratorsAt at) 2) t)) ▷ turnsOf 11 (scoped c) qs ▷ emits (scoped c) right
         ▷ emits (scoped c) (blockIn (gather movedFrom qs) under) ▷ say (puts (cond (awaits t at) (part (awaitAt (suc d) at) (onward t (awaitAt (suc d) at) 1) t) []))
         ≡ emits c (lookNode t (suc (suc d)) at .value)
     unfolding nodeAt itemsAt pieceIn
@@ -549,7 +549,7 @@ module _ (t : List ℕ) where
         let is : any isMoved qs ≡ true = ap (λ (z : Node). any isMoved (itemsAt 2 (nodeAt 1 z))) (sym declaring-is) ∙ moved in
         let tail : Emit = emitsItems false (scoped c) (each behind qs) ▷ emits (scoped c) right ▷ emits (scoped c) (blockIn ps under) ▷ emitsFields false (scoped c) (v .seen .more) in
         ap₂ (λ (x y : Emit). say (makes ps) ▷ say (puts (part at (onward t (declaratorsAt at) 2) t)) ▷ x ▷ emits (scoped c) right ▷ emits (scoped c) (blockIn ps under) ▷ y)
-        (turns-11 0 (scoped c) qs solid) (behind-body (scoped c) (suc d) at v)
+        (turns-11 (scoped c) qs solid) (behind-body (scoped c) (suc d) at v)
         ∙ ap (λ (ds : List Deed). say (makes ps) ▷ say ds ▷ tail) declaring-bytes
         ∙ ap (λ (x : Emit). say (makes ps) ▷ x) (sym (say-then loopHead declarationHeadAt tail))
         ∙ sym (emits-declaring-head c at (v .loop) (wideAt t (onward t at 2)) (onward t at 4) markAt sortAt qs right under (v .seen .more) solid is)
@@ -566,8 +566,8 @@ module _ (t : List ℕ) where
       → (GoodItems t (lookNode t u) (Good t u) false false n first → AllSuit 11 (lookItems t (lookNode t u) false n first .value)
       → Does g g₁ (say (makes (gather movedFrom (lookItems t (lookNode t u) false n first .value)))))
       → Does g₁ g₂ (say (puts (part x₀ first t)))
-      → (0 < 16384 → GoodItems t (lookNode t e₁) (Good t e₁) false false n x₁ → AllSuit 11 (lookItems t (lookNode t e₁) false n x₁ .value)
-      → (x₂ ≡ lookItems t (lookNode t e₁) false n x₁ .next) × Does g₂ g₃ (turnsOf 11 0 c₁ (lookItems t (lookNode t e₁) false n x₁ .value)))
+      → (GoodItems t (lookNode t e₁) (Good t e₁) false false n x₁ → AllSuit 11 (lookItems t (lookNode t e₁) false n x₁ .value)
+      → (x₂ ≡ lookItems t (lookNode t e₁) false n x₁ .next) × Does g₂ g₃ (turnsOf 11 c₁ (lookItems t (lookNode t e₁) false n x₁ .value)))
       → (x₃ ≡ lookNode t e₂ x₂ .next) × (Good t e₂ x₂ → Does g₃ g₄ (emits c₂ (lookNode t e₂ x₂ .value)))
       → (GoodItem t (lookNode t e₃) (Good t e₃) true false x₃ → GoodItems t (lookNode t (e₃ - 1)) (Good t (e₃ - 1)) false false n first
       → AllBind false (lookItems t (lookNode t (e₃ - 1)) false n first .value)
@@ -599,7 +599,7 @@ module _ (t : List ℕ) where
       let mk′ : GoodItems t (lookNode t d) (Good t d) false false N F → AllSuit 11 ns → Does g g₁ (say (makes (gather movedFrom ns))) = rw (u′, n′, f′) at mk in
       let cp′ : Does g₁ g₂ (say (puts (part at F t))) = rw (xx₀, f′) at cp in
       let sq′ : GoodItems t (lookNode t d) (Good t d) false false N F → AllSuit 11 ns
-      → (x₂ ≡ lookItems t (lookNode t d) false N F .next) × Does g₂ g₃ (turnsOf 11 0 (scoped c) ns) = rw (ee₁, u′, n′, xx₁, f′, cc₁) at (sq (omega arith)) in
+      → (x₂ ≡ lookItems t (lookNode t d) false N F .next) × Does g₂ g₃ (turnsOf 11 (scoped c) ns) = rw (ee₁, u′, n′, xx₁, f′, cc₁) at sq in
       let two = sq′ gi suit in
       let x₂′ : x₂ ≡ rightAt (suc d) at = two .0 ∙ ap (λ (z : Seen Node). z .next) (sym (o .whole)) in
       let nd′ : (x₃ ≡ bodyAt (suc d) at) × (Good t (suc d) (rightAt (suc d) at) → Does g₃ g₄ (emits (scoped c) (lookNode t (suc d) (rightAt (suc d) at) .value))) = rw (ee₂, e′, cc₂, x₂′) at nd in
@@ -808,12 +808,12 @@ module _ (t : List ℕ) where
     inner-block = lookNode t d (lookNode t d (onward t at 2) .next) .value
 
     catch-law : isMoved (lookNode t d (onward t at 2) .value) ≡ true
-        → say (makes (gather movedFrom ones)) ▷ say (puts (part at (onward t at 2) t)) ▷ turnsOf 11 0 (scoped c) ones ▷ emits (scoped c) (blockIn (gather movedFrom ones) inner-block)
+        → say (makes (gather movedFrom ones)) ▷ say (puts (part at (onward t at 2) t)) ▷ turnsOf 11 (scoped c) ones ▷ emits (scoped c) (blockIn (gather movedFrom ones) inner-block)
         ≡ emits c (lookNode t (suc d) at .value)
     catch-law moved =
         let q : Node = lookNode t d (onward t at 2) .value in
         ap₂ (λ (x : List ℕ) (y : Emit). say (makes (gather movedFrom ones)) ▷ say (puts x) ▷ y ▷ emits (scoped c) (blockIn (gather movedFrom ones) inner-block))
-        (v .head) (turns-11 0 (scoped c) ones (look-solid t (lookNode t d) 1 (onward t at 2)))
+        (v .head) (turns-11 (scoped c) ones (look-solid t (lookNode t d) 1 (onward t at 2)))
         ∙ ap (λ (x : Items). say (makes (gather movedFrom x)) ▷ say (puts (10 ∷ 3 ∷ [])) ▷ emitsItems false (scoped c) (each behind x) ▷ emits (scoped c) (blockIn (gather movedFrom x) inner-block))
         (ap (λ (z : Seen Items). z .value) (param-list d (onward t at 2)))
         ∙ sym (emits-catch-list c at q inner-block moved)
@@ -825,8 +825,8 @@ module _ (t : List ℕ) where
       → (GoodItems t (lookNode t e) (Good t e) false false 1 q → AllSuit 11 (lookItems t (lookNode t e) false 1 q .value)
       → Does g g₁ (say (makes (gather movedFrom (lookItems t (lookNode t e) false 1 q .value)))))
       → Does g₁ g₂ (say (puts (part x₀ q t)))
-      → (0 < 16384 → GoodItems t (lookNode t e′) (Good t e′) false false 1 x₁ → AllSuit 11 (lookItems t (lookNode t e′) false 1 x₁ .value)
-      → (x₂ ≡ lookItems t (lookNode t e′) false 1 x₁ .next) × Does g₂ g₃ (turnsOf 11 0 c′ (lookItems t (lookNode t e′) false 1 x₁ .value)))
+      → (GoodItems t (lookNode t e′) (Good t e′) false false 1 x₁ → AllSuit 11 (lookItems t (lookNode t e′) false 1 x₁ .value)
+      → (x₂ ≡ lookItems t (lookNode t e′) false 1 x₁ .next) × Does g₂ g₃ (turnsOf 11 c′ (lookItems t (lookNode t e′) false 1 x₁ .value)))
       → (GoodItem t (lookNode t e′) (Good t e′) true false x₂ → GoodItems t (lookNode t e′) (Good t e′) false false 1 q → AllBind false (lookItems t (lookNode t e′) false 1 q .value)
       → (x₃ ≡ lookNode t e′ x₂ .next) × Does g₃ g₄ (emits c′ (blockIn (gather movedFrom (lookItems t (lookNode t e′) false 1 q .value)) (lookNode t e′ x₂ .value))))
       → byteAt t at ≡ 10 → (r ≡ lookNode t d at .next) × (Good t d at → Does g g′ (emits c (lookNode t d at .value)))
@@ -844,7 +844,7 @@ module _ (t : List ℕ) where
         let suit : AllSuit 11 ns = param-suits d l (v .kind15) in
         let mk′ : GoodItems t (lookNode t d) (Good t d) false false 1 l → AllSuit 11 ns → Does g g₁ (say (makes (gather movedFrom ns))) = rw (e″, qq) at mk in
         let cp′ : Does g₁ g₂ (say (puts (part at l t))) = rw (xx₀, qq) at cp in
-        let sq′ : GoodItems t (lookNode t d) (Good t d) false false 1 l → AllSuit 11 ns → (x₂ ≡ lookItems t (lookNode t d) false 1 l .next) × Does g₂ g₃ (turnsOf 11 0 (scoped c) ns) = rw (ee′, e″, xx₁, qq, cc′) at (sq (omega arith)) in
+        let sq′ : GoodItems t (lookNode t d) (Good t d) false false 1 l → AllSuit 11 ns → (x₂ ≡ lookItems t (lookNode t d) false 1 l .next) × Does g₂ g₃ (turnsOf 11 (scoped c) ns) = rw (ee′, e″, xx₁, qq, cc′) at sq in
         let two = sq′ gi suit in
         let x₂′ : x₂ ≡ lookNode t d l .next = two .0 ∙ ap (λ (z : Seen Items). z .next) (param-list d l) in
         let bk′ : GoodItem t (lookNode t d) (Good t d) true false (lookNode t d l .next) → GoodItems t (lookNode t d) (Good t d) false false 1 l → AllBind false ns

@@ -202,28 +202,28 @@ module _ (t : List ℕ) where
     array-head b e = opened .head ∙ ap₂ (λ (x : Bool) (n : ℕ). 36 ∷ cond x 3 1 ∷ wideBytes n) e (sym (opened .list .many))
 
     array-out : eqb (byteAt t (onward t at 1) / 2 % 2) 1 ≡ false
-        → say (puts (part at (onward t (onward t at 2) 2) t)) ▷ turnsOf 16 0 (inner c) (items .value) ≡ emits c (outOf (lookNode t (suc d) at .value))
+        → say (puts (part at (onward t (onward t at 2) 2) t)) ▷ turnsOf 16 (inner c) (items .value) ≡ emits c (outOf (lookNode t (suc d) at .value))
     array-out e =
-        ap₂ (λ (x : List ℕ) (y : Emit). say (puts x) ▷ y) (array-head false e) (turns-16 0 (inner c) (items .value))
+        ap₂ (λ (x : List ℕ) (y : Emit). say (puts x) ▷ y) (array-head false e) (turns-16 (inner c) (items .value))
         ∙ sym (emits-out-array c at (items .value))
         ∙ ap (λ (x : Seen Node). emits c (outOf (x .value))) (sym (opened .plain e))
 
     array-rest-out : eqb (byteAt t (onward t at 1) / 2 % 2) 1 ≡ true
-        → say (puts (part at (onward t (onward t at 2) 2) t)) ▷ turnsOf 16 0 (inner c) (items .value) ▷ emits (inner c) (outOf (lookNode t d (items .next) .value)) ≡ emits c (outOf (lookNode t (suc d) at .value))
+        → say (puts (part at (onward t (onward t at 2) 2) t)) ▷ turnsOf 16 (inner c) (items .value) ▷ emits (inner c) (outOf (lookNode t d (items .next) .value)) ≡ emits c (outOf (lookNode t (suc d) at .value))
     array-rest-out e =
-        ap₂ (λ (x : List ℕ) (y : Emit). say (puts x) ▷ y ▷ emits (inner c) (outOf (lookNode t d (items .next) .value))) (array-head true e) (turns-16 0 (inner c) (items .value))
+        ap₂ (λ (x : List ℕ) (y : Emit). say (puts x) ▷ y ▷ emits (inner c) (outOf (lookNode t d (items .next) .value))) (array-head true e) (turns-16 (inner c) (items .value))
         ∙ sym (emits-out-array-rest c at (items .value) (lookNode t d (items .next) .value))
         ∙ ap (λ (x : Seen Node). emits c (outOf (x .value))) (sym (opened .resting e))
 
   -- what is said of the items by the code that goes through them
-  abbrev pub Through : ℕ → ℕ → ℕ → Bool → ℕ → ℕ → ℕ → Going → Going → Place → Type 0
-  Through mode x d h n at q g g′ c =
-      x < 16384 → GoodItems t (lookNode t d) (Good t d) false h n at → AllSuit mode (lookItems t (lookNode t d) h n at .value)
-      → (q ≡ lookItems t (lookNode t d) h n at .next) × Does g g′ (turnsOf mode x c (lookItems t (lookNode t d) h n at .value))
+  abbrev pub Through : ℕ → ℕ → Bool → ℕ → ℕ → ℕ → Going → Going → Place → Type 0
+  Through mode d h n at q g g′ c =
+      GoodItems t (lookNode t d) (Good t d) false h n at → AllSuit mode (lookItems t (lookNode t d) h n at .value)
+      → (q ≡ lookItems t (lookNode t d) h n at .next) × Does g g′ (turnsOf mode c (lookItems t (lookNode t d) h n at .value))
 
   pub gone-array : {g g₁ g′ : Going} (c c₁ : Place) (d l e at k q n s y x : ℕ) (b : Bool) → (d ≡ 0 → ⊥) → Peeked t at k → k ≡ 36 → l ≡ d - 1 → q ≡ onward t at 2 → Wide t q n → s ≡ onward t q 2 → y ≡ s
       → c₁ ≡ inner c → e ≡ l → b ≡ eqb (byteAt t (onward t at 1) / 2 % 2) 1 → b ≡ false → Does g g₁ (say (puts (part at s t)))
-      → Through 16 0 e true n y x g₁ g′ c₁ → Emitted t d at x g g′ (λ p. emits c (outOf p))
+      → Through 16 e true n y x g₁ g′ c₁ → Emitted t d at x g g′ (λ p. emits c (outOf p))
   gone-array c c₁ zero l e at k q n s y x b z p f a h w i j u v m o r sq good = absurd (z refl)
   gone-array c c₁ (suc d) l e at k q n s y x b z p f a h w i j u v m o r sq good =
       let kind : byteAt t at ≡ 36 = sym (p .value) ∙ f in
@@ -233,17 +233,17 @@ module _ (t : List ℕ) where
       let ss : s ≡ onward t (onward t at 2) 2 = i ∙ ap (λ (x : ℕ). onward t x 2) h in
       let op = array-open t d at good kind in
       let same = look-as true e d n _ y _ ee nn (j ∙ ss) in
-      let run = sq (omega arith) (good-as false true e d n _ y _ ee nn (j ∙ ss) (op .list .good)) (suit-16 (lookItems t (lookNode t e) true n y .value)) in (
+      let run = sq (good-as false true e d n _ y _ ee nn (j ∙ ss) (op .list .good)) (suit-16 (lookItems t (lookNode t e) true n y .value)) in (
         run .0 ∙ ap (λ (x : Seen Items). x .next) same ∙ ap (λ (x : Seen Node). x .next) (sym (op .plain bit)),
         does-as (does-then r (run .1))
-            (ap (λ (x : ℕ). say (puts (part at x t)) ▷ turnsOf 16 0 c₁ (lookItems t (lookNode t e) true n y .value)) ss
-            ∙ ap₂ (λ (x : Place) (is : Seen Items). say (puts (part at (onward t (onward t at 2) 2) t)) ▷ turnsOf 16 0 x (is .value)) u same
+            (ap (λ (x : ℕ). say (puts (part at x t)) ▷ turnsOf 16 c₁ (lookItems t (lookNode t e) true n y .value)) ss
+            ∙ ap₂ (λ (x : Place) (is : Seen Items). say (puts (part at (onward t (onward t at 2) 2) t)) ▷ turnsOf 16 x (is .value)) u same
             ∙ array-out c d at good kind bit),
       )
 
   pub gone-array-rest : {g g₁ g₂ g′ : Going} (c c₁ c₂ : Place) (d l e f at k q n s y v x : ℕ) (b : Bool) → (d ≡ 0 → ⊥) → Peeked t at k → k ≡ 36 → l ≡ d - 1 → q ≡ onward t at 2 → Wide t q n → s ≡ onward t q 2 → y ≡ s
       → c₁ ≡ inner c → e ≡ l → c₂ ≡ inner c → f ≡ l → b ≡ eqb (byteAt t (onward t at 1) / 2 % 2) 1 → b ≡ true → Does g g₁ (say (puts (part at s t)))
-      → Through 16 0 e true n y v g₁ g₂ c₁ → Emitted t f v x g₂ g′ (λ p. emits c₂ (outOf p)) → Emitted t d at x g g′ (λ p. emits c (outOf p))
+      → Through 16 e true n y v g₁ g₂ c₁ → Emitted t f v x g₂ g′ (λ p. emits c₂ (outOf p)) → Emitted t d at x g g′ (λ p. emits c (outOf p))
   gone-array-rest c c₁ c₂ zero l e f at k q n s y v x b z p h a i w j u m o m₂ o₂ bb bt r sq gn good = absurd (z refl)
   gone-array-rest c c₁ c₂ (suc d) l e f at k q n s y v x b z p h a i w j u m o m₂ o₂ bb bt r sq gn good =
       let kind : byteAt t at ≡ 36 = sym (p .value) ∙ h in
@@ -254,15 +254,15 @@ module _ (t : List ℕ) where
       let ss : s ≡ onward t (onward t at 2) 2 = j ∙ ap (λ (x : ℕ). onward t x 2) i in
       let op = array-open t d at good kind in
       let same = look-as true e d n _ y _ ee nn (u ∙ ss) in
-      let run = sq (omega arith) (good-as false true e d n _ y _ ee nn (u ∙ ss) (op .list .good)) (suit-16 (lookItems t (lookNode t e) true n y .value)) in
+      let run = sq (good-as false true e d n _ y _ ee nn (u ∙ ss) (op .list .good)) (suit-16 (lookItems t (lookNode t e) true n y .value)) in
       let vv = run .0 ∙ ap (λ (x : Seen Items). x .next) same in
       let last = node-as f d v _ ff vv in
       let rest = gn (stands-as f d v _ ff vv (op .rest bit)) in (
         rest .0 ∙ ap (λ (x : Seen Node). x .next) last ∙ ap (λ (x : Seen Node). x .next) (sym (op .resting bit)),
         does-as (does-then r (does-then (run .1) (rest .1)))
-            (ap (λ (x : ℕ). say (puts (part at x t)) ▷ turnsOf 16 0 c₁ (lookItems t (lookNode t e) true n y .value) ▷ emits c₂ (outOf (lookNode t f v .value))) ss
-            ∙ ap₂ (λ (x : Place) (is : Seen Items). say (puts (part at (onward t (onward t at 2) 2) t)) ▷ turnsOf 16 0 x (is .value) ▷ emits c₂ (outOf (lookNode t f v .value))) m same
-            ∙ ap₂ (λ (x : Place) (n : Seen Node). say (puts (part at (onward t (onward t at 2) 2) t)) ▷ turnsOf 16 0 (inner c) (lookItems t (lookNode t d) true (wideAt t (onward t at 2)) (onward t (onward t at 2) 2) .value) ▷ emits x (outOf (n .value))) m₂ last
+            (ap (λ (x : ℕ). say (puts (part at x t)) ▷ turnsOf 16 c₁ (lookItems t (lookNode t e) true n y .value) ▷ emits c₂ (outOf (lookNode t f v .value))) ss
+            ∙ ap₂ (λ (x : Place) (is : Seen Items). say (puts (part at (onward t (onward t at 2) 2) t)) ▷ turnsOf 16 x (is .value) ▷ emits c₂ (outOf (lookNode t f v .value))) m same
+            ∙ ap₂ (λ (x : Place) (n : Seen Node). say (puts (part at (onward t (onward t at 2) 2) t)) ▷ turnsOf 16 (inner c) (lookItems t (lookNode t d) true (wideAt t (onward t at 2)) (onward t (onward t at 2) 2) .value) ▷ emits x (outOf (n .value))) m₂ last
             ∙ array-rest-out c d at good kind bit),
       )
 

@@ -9,7 +9,7 @@
 // rest read keys ek kv       the value of a rest: the keys that are left out, their array, one of them; the value of a key's temporary
 // deep db fb da vl           what is below a pattern: in an object, the declarators found there, in an array, in a property's value
 // decl dr lo pa own oa os    a declaration: declarator, value, pattern; an object's keys with its pattern, its pattern, its rest
-// ag an top gv tg ns ip ro   an assignment: to a target; to an object with rest: value, target, nested ones, one of them, a rest
+// ag an top gv tg ns pr      an assignment: to a target; to an object with rest: value, target, nested ones; properties by a mode
 // bi go ba mv add            a parameter or declarator whose pattern is moved out, what stays of it, new statements in front
 // fun ar eb ca body bl       function, arrow and its body, catch; a body or a block with new statements in front
 // head dh th tb ta           a for head: one that declares, one that assigns; its body, the statement in front
@@ -24,7 +24,6 @@ use pattern::moves::any_moved;
 use pattern::moves::is_moved;
 use pattern::parts::stands;
 use pattern::rests::below_lacks_form;
-use pattern::rests::through_objects_lacks_form;
 use pattern::search::has_nested_object_rest;
 use pattern::search::has_rest_below_array_rest;
 use pattern::source::ReferenceBuilder;
@@ -38,10 +37,10 @@ use tree::skip::skip_items;
 use tree::skip::skip_slot;
 use tree::skip::step;
 use walk::hand::declaration_hands;
-use walk::hand::inner_hands;
 use walk::hand::moves_make;
 use walk::hand::nested_hands;
 use walk::hand::pattern_hands;
+use walk::hand::places_in;
 use walk::hand::top_count;
 use walk::hand::top_hands;
 use walk::literal::has_first;
@@ -55,20 +54,16 @@ use walk::look::cell;
 use walk::look::first_bit;
 use walk::look::has_second;
 use walk::look::hoisted;
-use walk::look::inner_mode;
 use walk::look::is_other;
 use walk::look::item_mode;
 use walk::look::key_sort;
 use walk::look::level;
 use walk::look::moved_in;
-use walk::look::places_in;
 use walk::look::property_mode;
 use walk::look::replaces;
-use walk::look::rest_in_arrays;
 use walk::look::second;
 use walk::look::start_of;
 use walk::look::value_mode;
-use walk::look::values_of;
 use walk::pieces::await_of;
 use walk::pieces::cell_source;
 use walk::pieces::hole;
@@ -83,6 +78,7 @@ use walk::place::parts_of;
 use walk::place::scoped;
 use walk::place::statement;
 use walk::place::under;
+use walk::target::object_count;
 use walk::walk::Walk;
 ghost use mathlib.Core.Path.{_≡_};
 ghost use mathlib.Core.Bool.{true, false, cond, _||_};
@@ -96,7 +92,8 @@ ghost use Rattle.tree.specs.Look.{onward, lookItem, lookItems, lookSlot, lookFi
 ghost use Rattle.lowering.specs.Parts.{any, gather, nodeAt, itemsAt};
 ghost use Rattle.lowering.specs.Made as made;
 ghost use Rattle.lowering.specs.Made.{letOf, assigning};
-ghost use Rattle.lowering.specs.Patterns.{withValues, replacedBelow, value, properties, hasRest, hasObjectRest, hasArrayRestOverObjectRest};
+ghost use Rattle.lowering.specs.Patterns.{value, properties, hasRest, hasObjectRest, hasArrayRestOverObjectRest};
+ghost use Rattle.lowering.specs.Keys.{anyLacksForm};
 ghost use Rattle.lowering.specs.Heads.{isMoved, movedFrom};
 ghost use Rattle.sink.specs.Machine.Event.{temporary};
 ghost use Rattle.pattern.specs.Source.{builderOf};
@@ -107,15 +104,15 @@ ghost use Rattle.direct.specs.Emit as emit;
 ghost use Rattle.direct.specs.Emit.{say, _▷_, inner, below, stays, emitsStatement, emitsItems, emitsFields};
 ghost use Rattle.direct.specs.Literals as literals;
 ghost use Rattle.direct.specs.Literals.{run};
-ghost use Rattle.direct.specs.Views.{nameless, emitsView, emitsProperty, emitsKey};
+ghost use Rattle.direct.specs.Views.View.{replacing};
+ghost use Rattle.direct.specs.Views.{emitsView, emitsProperty, emitsKey};
 ghost use Rattle.direct.specs.Keys.{emitsExcluded, emitsKeys, emitsKeysRead, emitsRest};
-ghost use Rattle.direct.specs.Counts.{lacksRests};
 ghost use Rattle.direct.specs.Declared.{emitsKeyValue, emitsOwnKeys, emitsOwnPattern, emitsOwnRest, emitsFound, emitsPattern, emitsLowered, emitsDeclarator};
-ghost use Rattle.direct.specs.Assigned.{assignmentAt, emitsInner, emitsNest, emitsTarget, emitsTop};
+ghost use Rattle.direct.specs.Assigned.{assignmentAt, emitsNest, emitsTarget, emitsTop};
 ghost use Rattle.direct.specs.Moved.{outOf, movedIn, behind, fronts, bodyIn, blockIn, targetIn};
 ghost use Rattle.walk.specs.Run.{goingOf, Does, Clear};
 ghost use Rattle.walk.specs.Whole.{placeOf, holeAt, itemDeeds, slotDeeds, GoodItem, GoodItems, GoodSlot, GoodFields, Good, Ruled, Emitted, Done};
-ghost use Rattle.walk.specs.Turns.{viewOf, turnOf, deepMode, suits, turnsOf, restFrom, AllSuit, sourceOf, levelOf, spotDeeds, movesOf, AllBind, givenDeeds, givenNode};
+ghost use Rattle.walk.specs.Turns.{viewOf, turnOf, deepMode, suits, turnsOf, AllSuit, sourceOf, levelOf, spotDeeds, movesOf, AllBind, givenDeeds, givenNode};
 
 // A Switch, and its fields in two parts: mark and discriminant, then the cases, which alone lie in its scope.
 const SWITCH: usize = 43;
@@ -375,16 +372,15 @@ fn seq(
     work: &mut [u8],
     c: Place,
     mode: usize,
-    x: usize,
     holes: bool,
     count: usize,
 ) -> Walk
-    ensures { λ r. ⌜ (x < 16384 → GoodItems (now (t .entry)) (lookNode (now (t .entry)) (c .left)) (Good (now (t .entry)) (c .left)) false holes count (w .at) → AllSuit mode (lookItems (now (t .entry)) (lookNode (now (t .entry)) (c .left)) holes count (w .at) .value) → (r .at ≡ lookItems (now (t .entry)) (lookNode (now (t .entry)) (c .left)) holes count (w .at) .next) × Does (goingOf (now (out .entry)) (now (list .entry)) (now (work .entry)) w) (goingOf (now (out .exit)) (now (list .exit)) (now (work .exit)) r) (turnsOf mode x (placeOf c) (lookItems (now (t .entry)) (lookNode (now (t .entry)) (c .left)) holes count (w .at) .value))) ⌝ }
+    ensures { λ r. ⌜ (GoodItems (now (t .entry)) (lookNode (now (t .entry)) (c .left)) (Good (now (t .entry)) (c .left)) false holes count (w .at) → AllSuit mode (lookItems (now (t .entry)) (lookNode (now (t .entry)) (c .left)) holes count (w .at) .value) → (r .at ≡ lookItems (now (t .entry)) (lookNode (now (t .entry)) (c .left)) holes count (w .at) .next) × Does (goingOf (now (out .entry)) (now (list .entry)) (now (work .entry)) w) (goingOf (now (out .exit)) (now (list .exit)) (now (work .exit)) r) (turnsOf mode (placeOf c) (lookItems (now (t .entry)) (lookNode (now (t .entry)) (c .left)) holes count (w .at) .value))) ⌝ }
 {
     let mut v = w;
     let mut n = count;
     while 0 < n {
-        v = turn(v, t, out, list, work, c, mode, x, holes);
+        v = turn(v, t, out, list, work, c, mode, holes);
         n -= 1;
     }
     v
@@ -399,10 +395,9 @@ fn turn(
     work: &mut [u8],
     c: Place,
     mode: usize,
-    x: usize,
     holes: bool,
 ) -> Walk
-    ensures { λ r. ⌜ (x < 16384 → GoodItem (now (t .entry)) (lookNode (now (t .entry)) (c .left)) (Good (now (t .entry)) (c .left)) false holes (w .at) → (holeAt (now (t .entry)) holes (w .at) ≡ false → suits mode (lookNode (now (t .entry)) (c .left) (w .at) .value) ≡ true) → (r .at ≡ lookItem (now (t .entry)) (lookNode (now (t .entry)) (c .left)) holes (w .at) .next) × Does (goingOf (now (out .entry)) (now (list .entry)) (now (work .entry)) w) (goingOf (now (out .exit)) (now (list .exit)) (now (work .exit)) r) (spotDeeds (now (t .entry)) (lookNode (now (t .entry)) (c .left)) mode x (placeOf c) holes (w .at))) ⌝ }
+    ensures { λ r. ⌜ (GoodItem (now (t .entry)) (lookNode (now (t .entry)) (c .left)) (Good (now (t .entry)) (c .left)) false holes (w .at) → (holeAt (now (t .entry)) holes (w .at) ≡ false → suits mode (lookNode (now (t .entry)) (c .left) (w .at) .value) ≡ true) → (r .at ≡ lookItem (now (t .entry)) (lookNode (now (t .entry)) (c .left)) holes (w .at) .next) × Does (goingOf (now (out .entry)) (now (list .entry)) (now (work .entry)) w) (goingOf (now (out .exit)) (now (list .exit)) (now (work .exit)) r) (spotDeeds (now (t .entry)) (lookNode (now (t .entry)) (c .left)) mode (placeOf c) holes (w .at))) ⌝ }
 {
     if holes {
         if peek(t, w.at) == 0 {
@@ -411,24 +406,22 @@ fn turn(
     }
     match mode {
         1 => view(w, t, out, list, work, c, 1),
-        2 => prop(w, t, out, list, work, c, false, 1),
-        3 => prop(w, t, out, list, work, c, false, 3),
-        4 => prop(w, t, out, list, work, c, true, 1),
-        5 => prop(w, t, out, list, work, c, true, 3),
+        2 => prop(w, t, out, list, work, c, false),
+        4 => prop(w, t, out, list, work, c, true),
         6 => ek(w, t, out, list, work, c),
         7 => kv(w, t, out, list, work, c),
-        9 => vl(w, t, out, list, work, c, 8, x),
+        9 => vl(w, t, out, list, work, c, 8),
         10 => dr(w, t, out, list, work, c),
         11 => bi(w, t, out, list, work, c),
-        13 => vl(w, t, out, list, work, c, 12, x),
-        14 => vl(w, t, out, list, work, c, 17, x),
-        15 => vl(w, t, out, list, work, c, 18, x),
+        13 => vl(w, t, out, list, work, c, 12),
+        14 => vl(w, t, out, list, work, c, 17),
+        15 => vl(w, t, out, list, work, c, 18),
         16 => go(w, t, out, list, work, c),
-        _ => deep(w, t, out, list, work, c, mode, x),
+        _ => deep(w, t, out, list, work, c, mode),
     }
 }
 
-// ---- patterns in a view: 1 replacing, 2 taking, 3 leaving
+// ---- patterns in a view: 1 replacing, 2 taking
 
 fn view(
     w: Walk,
@@ -451,7 +444,7 @@ fn view(
         37 => {
             let left = less(c.left);
             let u = w.copy(t, out, step(t, w.at, 2));
-            let u = view(u, t, out, list, work, inside(c, left), values_of(v));
+            let u = view(u, t, out, list, work, inside(c, left), 1);
             node(u, t, out, list, work, inside(c, left))
         }
         _ => node(w, t, out, list, work, c),
@@ -491,8 +484,7 @@ fn vo(
         list,
         work,
         inside(c, left),
-        property_mode(rest, v),
-        0,
+        property_mode(rest),
         false,
         n,
     );
@@ -522,7 +514,7 @@ fn va(
     let q = step(t, p, 2);
     let n = wide_at(t, q);
     let u = w.copy(t, out, step(t, q, 2));
-    let u = seq(u, t, out, list, work, inside(c, left), 1, 0, true, n);
+    let u = seq(u, t, out, list, work, inside(c, left), 1, true, n);
     if has_second(t, p) {
         return node(u, t, out, list, work, inside(c, left));
     }
@@ -538,9 +530,8 @@ fn prop(
     work: &mut [u8],
     c: Place,
     taken: bool,
-    v: usize,
 ) -> Walk
-    ensures { λ r. ⌜ (byteAt (now (t .entry)) (w .at) ≡ 35 → Emitted (now (t .entry)) (c .left) (w .at) (r .at) (goingOf (now (out .entry)) (now (list .entry)) (now (work .entry)) w) (goingOf (now (out .exit)) (now (list .exit)) (now (work .exit)) r) (emitsProperty (placeOf c) taken (viewOf v))) ⌝ }
+    ensures { λ r. ⌜ (byteAt (now (t .entry)) (w .at) ≡ 35 → Emitted (now (t .entry)) (c .left) (w .at) (r .at) (goingOf (now (out .entry)) (now (list .entry)) (now (work .entry)) w) (goingOf (now (out .exit)) (now (list .exit)) (now (work .exit)) r) (emitsProperty (placeOf c) taken replacing)) ⌝ }
 {
     let p = w.at;
     let left = less(c.left);
@@ -554,7 +545,7 @@ fn prop(
         taken,
         p,
     );
-    let u = view(u, t, out, list, work, inside(c, left), v);
+    let u = view(u, t, out, list, work, inside(c, left), 1);
     u.copy(t, out, step(t, u.at, 1))
 }
 
@@ -582,8 +573,7 @@ fn key(
 
 // ---- the value of a rest
 
-// That of the object pattern at p, read from b. `again` says that the pattern was written before: once the tree is full its keys are not
-// written again.
+// That of the object pattern at p, read from b. The pattern was written before: once the tree is full its keys are not written again.
 fn rest(
     w: Walk,
     t: &[u8],
@@ -593,11 +583,10 @@ fn rest(
     c: Place,
     p: usize,
     b: ReferenceBuilder,
-    again: bool,
 ) -> Walk
-    ensures { λ r. ⌜ (r .at ≡ w .at) × (Good (now (t .entry)) (c .left) p → byteAt (now (t .entry)) p ≡ 34 → (again ≡ true → Clear (goingOf (now (out .entry)) (now (list .entry)) (now (work .entry)) w) (emitsRest (placeOf c) p (properties (lookNode (now (t .entry)) (c .left) p .value)) (sourceOf (now (t .entry)) b))) → Does (goingOf (now (out .entry)) (now (list .entry)) (now (work .entry)) w) (goingOf (now (out .exit)) (now (list .exit)) (now (work .exit)) r) (emitsRest (placeOf c) p (properties (lookNode (now (t .entry)) (c .left) p .value)) (sourceOf (now (t .entry)) b))) ⌝ }
+    ensures { λ r. ⌜ (r .at ≡ w .at) × (Good (now (t .entry)) (c .left) p → byteAt (now (t .entry)) p ≡ 34 → Clear (goingOf (now (out .entry)) (now (list .entry)) (now (work .entry)) w) (emitsRest (placeOf c) p (properties (lookNode (now (t .entry)) (c .left) p .value)) (sourceOf (now (t .entry)) b)) → Does (goingOf (now (out .entry)) (now (list .entry)) (now (work .entry)) w) (goingOf (now (out .exit)) (now (list .exit)) (now (work .exit)) r) (emitsRest (placeOf c) p (properties (lookNode (now (t .entry)) (c .left) p .value)) (sourceOf (now (t .entry)) b))) ⌝ }
 {
-    if w.passes(again) {
+    if w.passes(true) {
         return w;
     }
     if has_no_properties(t, c.left, p) {
@@ -649,18 +638,7 @@ fn keys(
     let n = wide_at(t, q);
     let k = excluded_keys(t, c.left, p);
     let u = w.put2(out, 32, 1).wide(out, k).to(step(t, q, 2));
-    seq(
-        u,
-        t,
-        out,
-        list,
-        work,
-        under(c, less(c.left)),
-        6,
-        0,
-        false,
-        n,
-    ).to(at)
+    seq(u, t, out, list, work, under(c, less(c.left)), 6, false, n).to(at)
 }
 
 // The key of a property among them.
@@ -695,7 +673,8 @@ fn kv(w: Walk, t: &[u8], out: &mut [u8], list: &mut [u8], work: &mut [u8], c: Pl
     w.to(end)
 }
 
-// ---- what is below a pattern, by a mode: 8 the declarators that are found, 12 and 17 inner assignments, 18 the rests of the target at x
+// ---- what is below a pattern, by a mode: 8 the declarators that are found; 12, 17 and 18 the assignments of the objects that are found
+// anywhere, below arrays, through objects
 
 fn deep(
     w: Walk,
@@ -705,28 +684,27 @@ fn deep(
     work: &mut [u8],
     c: Place,
     mode: usize,
-    x: usize,
 ) -> Walk
-    ensures { λ r. ⌜ (x < 16384 → Good (now (t .entry)) (c .left) (w .at) → deepMode mode ≡ true → suits mode (lookNode (now (t .entry)) (c .left) (w .at) .value) ≡ true → (r .at ≡ lookNode (now (t .entry)) (c .left) (w .at) .next) × Does (goingOf (now (out .entry)) (now (list .entry)) (now (work .entry)) w) (goingOf (now (out .exit)) (now (list .exit)) (now (work .exit)) r) (turnOf mode x (placeOf c) (lookNode (now (t .entry)) (c .left) (w .at) .value))) ⌝ }
+    ensures { λ r. ⌜ (Good (now (t .entry)) (c .left) (w .at) → deepMode mode ≡ true → suits mode (lookNode (now (t .entry)) (c .left) (w .at) .value) ≡ true → (r .at ≡ lookNode (now (t .entry)) (c .left) (w .at) .next) × Does (goingOf (now (out .entry)) (now (list .entry)) (now (work .entry)) w) (goingOf (now (out .exit)) (now (list .exit)) (now (work .exit)) r) (turnOf mode (placeOf c) (lookNode (now (t .entry)) (c .left) (w .at) .value))) ⌝ }
 {
     if c.left == 0 {
         return w;
     }
     let kind = peek(t, w.at);
     match kind {
-        34 => db(w, t, out, list, work, c, mode, x),
-        36 => da(w, t, out, list, work, c, mode, x),
+        34 => db(w, t, out, list, work, c, mode),
+        36 => da(w, t, out, list, work, c, mode),
         37 => {
             let left = less(c.left);
             let u = w.to(step(t, w.at, 2));
-            let u = deep(u, t, out, list, work, under(c, left), mode, x);
+            let u = deep(u, t, out, list, work, under(c, left), mode);
             u.to(skip(t, left, u.at))
         }
         _ => w.to(skip(t, c.left, w.at)),
     }
 }
 
-// Its values, then the object itself.
+// The object itself, or its values.
 fn db(
     w: Walk,
     t: &[u8],
@@ -735,9 +713,8 @@ fn db(
     work: &mut [u8],
     c: Place,
     mode: usize,
-    x: usize,
 ) -> Walk
-    ensures { λ r. ⌜ (byteAt (now (t .entry)) (w .at) ≡ 34 → (x < 16384 → Good (now (t .entry)) (c .left) (w .at) → deepMode mode ≡ true → suits mode (lookNode (now (t .entry)) (c .left) (w .at) .value) ≡ true → (r .at ≡ lookNode (now (t .entry)) (c .left) (w .at) .next) × Does (goingOf (now (out .entry)) (now (list .entry)) (now (work .entry)) w) (goingOf (now (out .exit)) (now (list .exit)) (now (work .exit)) r) (turnOf mode x (placeOf c) (lookNode (now (t .entry)) (c .left) (w .at) .value)))) ⌝ }
+    ensures { λ r. ⌜ (byteAt (now (t .entry)) (w .at) ≡ 34 → (Good (now (t .entry)) (c .left) (w .at) → deepMode mode ≡ true → suits mode (lookNode (now (t .entry)) (c .left) (w .at) .value) ≡ true → (r .at ≡ lookNode (now (t .entry)) (c .left) (w .at) .next) × Does (goingOf (now (out .entry)) (now (list .entry)) (now (work .entry)) w) (goingOf (now (out .exit)) (now (list .exit)) (now (work .exit)) r) (turnOf mode (placeOf c) (lookNode (now (t .entry)) (c .left) (w .at) .value)))) ⌝ }
 {
     if c.left == 0 {
         return w;
@@ -746,33 +723,25 @@ fn db(
         return fb(w, t, out, list, work, c);
     }
     let p = w.at;
-    let left = less(c.left);
-    let q = step(t, p, 2);
-    let n = wide_at(t, q);
-    let u = seq(
-        w.to(step(t, q, 2)),
-        t,
-        out,
-        list,
-        work,
-        under(c, left),
-        value_mode(mode),
-        x,
-        false,
-        n,
-    );
-    let r = u.at;
     if has_second(t, p) {
-        let end = skip(t, left, r);
-        if mode == 12 {
-            return ip(u, t, out, list, work, c, p, r).to(end);
+        let end = skip(t, c.left, p);
+        if mode == 17 {
+            return w.to(end);
         }
-        if mode == 18 {
-            return ro(u, t, out, list, work, c, p, r, x).to(end);
-        }
-        return u.to(end);
+        return top(
+            w,
+            t,
+            out,
+            list,
+            work,
+            inside(c, c.left),
+            p,
+            false,
+            1,
+            cell(1, p),
+        ).to(end);
     }
-    u
+    pr(w, t, out, list, work, c, p, value_mode(mode))
 }
 
 // The declarators of an object with rest, then those of its values.
@@ -790,32 +759,10 @@ fn fb(w: Walk, t: &[u8], out: &mut [u8], list: &mut [u8], work: &mut [u8], c: Pl
     if has_second(t, p) {
         let u = own(w, t, out, list, work, c, cell_source(cell(1, p), 1));
         let u = os(u, t, out, list, work, c, cell_source(cell(1, p), 1));
-        let u = seq(
-            u.to(first),
-            t,
-            out,
-            list,
-            work,
-            under(c, left),
-            9,
-            0,
-            false,
-            n,
-        );
+        let u = seq(u.to(first), t, out, list, work, under(c, left), 9, false, n);
         return u.to(skip(t, left, u.at));
     }
-    seq(
-        w.to(first),
-        t,
-        out,
-        list,
-        work,
-        under(c, left),
-        9,
-        0,
-        false,
-        n,
-    )
+    seq(w.to(first), t, out, list, work, under(c, left), 9, false, n)
 }
 
 fn da(
@@ -826,9 +773,8 @@ fn da(
     work: &mut [u8],
     c: Place,
     mode: usize,
-    x: usize,
 ) -> Walk
-    ensures { λ r. ⌜ (byteAt (now (t .entry)) (w .at) ≡ 36 → (Good (now (t .entry)) (c .left) (w .at) → deepMode mode ≡ true → suits mode (lookNode (now (t .entry)) (c .left) (w .at) .value) ≡ true → (r .at ≡ lookNode (now (t .entry)) (c .left) (w .at) .next) × Does (goingOf (now (out .entry)) (now (list .entry)) (now (work .entry)) w) (goingOf (now (out .exit)) (now (list .exit)) (now (work .exit)) r) (turnOf mode x (placeOf c) (lookNode (now (t .entry)) (c .left) (w .at) .value)))) ⌝ }
+    ensures { λ r. ⌜ (byteAt (now (t .entry)) (w .at) ≡ 36 → (Good (now (t .entry)) (c .left) (w .at) → deepMode mode ≡ true → suits mode (lookNode (now (t .entry)) (c .left) (w .at) .value) ≡ true → (r .at ≡ lookNode (now (t .entry)) (c .left) (w .at) .next) × Does (goingOf (now (out .entry)) (now (list .entry)) (now (work .entry)) w) (goingOf (now (out .exit)) (now (list .exit)) (now (work .exit)) r) (turnOf mode (placeOf c) (lookNode (now (t .entry)) (c .left) (w .at) .value)))) ⌝ }
 {
     if c.left == 0 {
         return w;
@@ -847,7 +793,6 @@ fn da(
         work,
         under(c, less(c.left)),
         item_mode(mode),
-        0,
         true,
         n,
     ).to(end)
@@ -862,13 +807,12 @@ fn vl(
     work: &mut [u8],
     c: Place,
     mode: usize,
-    x: usize,
 ) -> Walk
-    ensures { λ r. ⌜ (byteAt (now (t .entry)) (w .at) ≡ 35 → x < 16384 → Good (now (t .entry)) (c .left) (w .at) → deepMode mode ≡ true → suits mode (value (lookNode (now (t .entry)) (c .left) (w .at) .value)) ≡ true → (r .at ≡ lookNode (now (t .entry)) (c .left) (w .at) .next) × Does (goingOf (now (out .entry)) (now (list .entry)) (now (work .entry)) w) (goingOf (now (out .exit)) (now (list .exit)) (now (work .exit)) r) (turnOf mode x (placeOf c) (value (lookNode (now (t .entry)) (c .left) (w .at) .value)))) ⌝ }
+    ensures { λ r. ⌜ (byteAt (now (t .entry)) (w .at) ≡ 35 → Good (now (t .entry)) (c .left) (w .at) → deepMode mode ≡ true → suits mode (value (lookNode (now (t .entry)) (c .left) (w .at) .value)) ≡ true → (r .at ≡ lookNode (now (t .entry)) (c .left) (w .at) .next) × Does (goingOf (now (out .entry)) (now (list .entry)) (now (work .entry)) w) (goingOf (now (out .exit)) (now (list .exit)) (now (work .exit)) r) (turnOf mode (placeOf c) (value (lookNode (now (t .entry)) (c .left) (w .at) .value)))) ⌝ }
 {
     let left = less(c.left);
     let v = skip(t, left, step(t, w.at, 2));
-    let u = deep(w.to(v), t, out, list, work, under(c, left), mode, x);
+    let u = deep(w.to(v), t, out, list, work, under(c, left), mode);
     u.to(step(t, u.at, 1))
 }
 
@@ -898,7 +842,6 @@ fn decl(w: Walk, t: &[u8], out: &mut [u8], list: &mut [u8], work: &mut [u8], c: 
         work,
         under(c, less(c.left)),
         10,
-        0,
         false,
         wide_at(t, q),
     ).to(end)
@@ -969,25 +912,14 @@ fn pa(
             let q = step(t, p, 2);
             let n = wide_at(t, q);
             let u = own(w, t, out, list, work, c, b).to(step(t, q, 2));
-            let u = seq(
-                u,
-                t,
-                out,
-                list,
-                work,
-                under(c, less(c.left)),
-                9,
-                0,
-                false,
-                n,
-            ).to(p);
+            let u = seq(u, t, out, list, work, under(c, less(c.left)), 9, false, n).to(p);
             os(u, t, out, list, work, c, b)
         }
         36 => {
             let p = w.at;
             let u = view(w.put2(out, 5, 3), t, out, list, work, inside(c, c.left), 1);
             let u = source(u, t, out, list, work, b).to(p);
-            deep(u, t, out, list, work, c, 8, 0)
+            deep(u, t, out, list, work, c, 8)
         }
         _ => w,
     }
@@ -1020,7 +952,6 @@ fn own(
             work,
             inside(c, less(c.left)),
             7,
-            0,
             false,
             n,
         );
@@ -1066,7 +997,7 @@ fn os(
         let q = step(t, p, 2);
         let r = skip_items(t, false, wide_at(t, q), left, step(t, q, 2));
         let u = node(w.put2(out, 5, 3).to(r), t, out, list, work, inside(c, left));
-        return rest(u, t, out, list, work, inside(c, c.left), p, b, true).to(p);
+        return rest(u, t, out, list, work, inside(c, c.left), p, b).to(p);
     }
     w
 }
@@ -1109,13 +1040,13 @@ fn an(
 {
     if peek(t, p) == 34 {
         if has_second(t, p) {
-            return top(w, t, out, list, work, c, p, input, x);
+            return top(w, t, out, list, work, c, p, input, 1, x);
         }
     }
     ns(w, t, out, list, work, c, 1, op, p, input, 1, x)
 }
 
-// The target is an object with rest.
+// The target is an object with rest: of an assignment, or of an object's own, from the temporary in its place.
 fn top(
     w: Walk,
     t: &[u8],
@@ -1125,31 +1056,33 @@ fn top(
     c: Place,
     p: usize,
     input: bool,
+    stem: u8,
     x: usize,
 ) -> Walk
-    ensures { λ r. ⌜ (byteAt (now (t .entry)) p ≡ 34 → hasRest (lookNode (now (t .entry)) (c .left) p .value) ≡ true → Good (now (t .entry)) (c .left) p → (input ≡ true → Good (now (t .entry)) (c .left) x) → hasArrayRestOverObjectRest (lookNode (now (t .entry)) (c .left) p .value) ≡ false → Does (goingOf (now (out .entry)) (now (list .entry)) (now (work .entry)) w) (goingOf (now (out .exit)) (now (list .exit)) (now (work .exit)) r) (cond (lacksRests (lookNode (now (t .entry)) (c .left) p .value)) (say (refuses 6 ∷ puts (0 ∷ 0 ∷ []))) (emitsTop (placeOf c) (lookNode (now (t .entry)) (c .left) p .value) (givenDeeds (now (t .entry)) (c .left) (inner (placeOf c)) input 1 x)))) ⌝ }
+    ensures { λ r. ⌜ (byteAt (now (t .entry)) p ≡ 34 → hasRest (lookNode (now (t .entry)) (c .left) p .value) ≡ true → Good (now (t .entry)) (c .left) p → (input ≡ true → Good (now (t .entry)) (c .left) x) → hasArrayRestOverObjectRest (lookNode (now (t .entry)) (c .left) p .value) ≡ false → Does (goingOf (now (out .entry)) (now (list .entry)) (now (work .entry)) w) (goingOf (now (out .exit)) (now (list .exit)) (now (work .exit)) r) (cond (anyLacksForm (lookNode (now (t .entry)) (c .left) p .value)) (say (refuses 6 ∷ puts (0 ∷ 0 ∷ []))) (emitsTop (placeOf c) (lookNode (now (t .entry)) (c .left) p .value) (givenDeeds (now (t .entry)) (c .left) (inner (placeOf c)) input stem x)))) ⌝ }
 {
-    if through_objects_lacks_form(t, c.left, p) {
+    if lacks_form(t, c.left, p) {
         return w.refuse(out, 6);
     }
+    let d = inside(c, c.left);
     let u = top_hands(w, t, list, work, c.left, p, c.root, c.mark);
     let k = top_count(t, c.left, p, c.statement);
     let u = u.put2(out, 28, 1)
         .wide(out, k)
         .assign(out, 1)
         .temporary(out, list, work, cell(3, p), 3);
-    let u = gv(u, t, out, list, work, inside(c, c.left), input, 1, x);
+    let u = gv(u, t, out, list, work, d, input, stem, x);
     let u = tg(u, t, out, list, work, c, p);
-    let u = deep(
-        u.to(p),
+    let u = pr(u, t, out, list, work, c, p, 15);
+    let u = node(
+        u.assign(out, 1),
         t,
         out,
         list,
         work,
-        inside(c, c.left),
-        18,
-        u.target(p),
+        inside(c, less(c.left)),
     );
+    let u = rest(u, t, out, list, work, d, p, cell_source(cell(3, p), 3));
     if c.statement {
         return u;
     }
@@ -1176,7 +1109,7 @@ fn gv(
     w.temporary(out, list, work, x, stem)
 }
 
-// The target without its rests.
+// The target without its rest.
 fn tg(
     w: Walk,
     t: &[u8],
@@ -1189,10 +1122,10 @@ fn tg(
     ensures { λ r. ⌜ (byteAt (now (t .entry)) p ≡ 34 → Good (now (t .entry)) (c .left) p → hasArrayRestOverObjectRest (lookNode (now (t .entry)) (c .left) p .value) ≡ false → Does (goingOf (now (out .entry)) (now (list .entry)) (now (work .entry)) w) (goingOf (now (out .exit)) (now (list .exit)) (now (work .exit)) r) (emitsTarget (placeOf c) (lookNode (now (t .entry)) (c .left) p .value))) ⌝ }
 {
     let d = inside(c, c.left);
-    if rest_in_arrays(t, c.left, p) {
-        return ns(w, t, out, list, work, d, 3, 1, p, false, 3, cell(3, p));
+    if 0 < object_count(t, c.left, p, 3) {
+        return ns(w, t, out, list, work, d, 2, 1, p, false, 3, cell(3, p));
     }
-    let u = view(w.assign(out, 1).to(p), t, out, list, work, d, 3);
+    let u = view(w.assign(out, 1).to(p), t, out, list, work, d, 2);
     u.temporary(out, list, work, cell(3, p), 3)
 }
 
@@ -1211,7 +1144,7 @@ fn ns(
     stem: u8,
     x: usize,
 ) -> Walk
-    ensures { λ r. ⌜ ((v ≡ 2 → ⊥) → Good (now (t .entry)) (c .left) p → (input ≡ true → Good (now (t .entry)) (c .left) x) → hasArrayRestOverObjectRest (lookNode (now (t .entry)) (c .left) p .value) ≡ false → op < 256 → Does (goingOf (now (out .entry)) (now (list .entry)) (now (work .entry)) w) (goingOf (now (out .exit)) (now (list .exit)) (now (work .exit)) r) (emitsNest (placeOf c) (viewOf v) op (lookNode (now (t .entry)) (c .left) p .value) (givenDeeds (now (t .entry)) (c .left) (inner (placeOf c)) input stem x))) ⌝ }
+    ensures { λ r. ⌜ ((v ≡ 2 → byteAt (now (t .entry)) p ≡ 34) → Good (now (t .entry)) (c .left) p → (input ≡ true → Good (now (t .entry)) (c .left) x) → hasArrayRestOverObjectRest (lookNode (now (t .entry)) (c .left) p .value) ≡ false → op < 256 → Does (goingOf (now (out .entry)) (now (list .entry)) (now (work .entry)) w) (goingOf (now (out .exit)) (now (list .exit)) (now (work .exit)) r) (emitsNest (placeOf c) (viewOf v) op (lookNode (now (t .entry)) (c .left) p .value) (givenDeeds (now (t .entry)) (c .left) (inner (placeOf c)) input stem x))) ⌝ }
 {
     let k = places_in(t, c.left, p, v);
     let u = nested_hands(w, t, list, work, c.left, p, v, c.mark);
@@ -1221,11 +1154,14 @@ fn ns(
         .to(p);
     let u = view(u, t, out, list, work, inside(c, c.left), v);
     let u = gv(u, t, out, list, work, inside(c, c.left), input, stem, x);
-    deep(u.to(p), t, out, list, work, c, inner_mode(v), 0)
+    if v == 2 {
+        return pr(u, t, out, list, work, c, p, 14);
+    }
+    deep(u.to(p), t, out, list, work, c, 12)
 }
 
-// The assignment of the object at p, whose rest stands at r, from the temporary in its place.
-fn ip(
+// The properties of the object at p, by a mode.
+fn pr(
     w: Walk,
     t: &[u8],
     out: &mut [u8],
@@ -1233,81 +1169,25 @@ fn ip(
     work: &mut [u8],
     c: Place,
     p: usize,
-    r: usize,
+    mode: usize,
 ) -> Walk
-    ensures { λ z. ⌜ (byteAt (now (t .entry)) p ≡ 34 → hasRest (lookNode (now (t .entry)) (c .left) p .value) ≡ true → r ≡ lookItems (now (t .entry)) (lookNode (now (t .entry)) (c .left - 1)) false (wideAt (now (t .entry)) (onward (now (t .entry)) p 2)) (onward (now (t .entry)) (onward (now (t .entry)) p 2) 2) .next → Good (now (t .entry)) (c .left) p → hasArrayRestOverObjectRest (lookNode (now (t .entry)) (c .left) p .value) ≡ false → Does (goingOf (now (out .entry)) (now (list .entry)) (now (work .entry)) w) (goingOf (now (out .exit)) (now (list .exit)) (now (work .exit)) z) (emitsInner (placeOf c) (withValues (λ v. replacedBelow nameless v) (lookNode (now (t .entry)) (c .left) p .value)))) ⌝ }
+    ensures { λ r. ⌜ (byteAt (now (t .entry)) p ≡ 34 → Good (now (t .entry)) (c .left) p → AllSuit mode (properties (lookNode (now (t .entry)) (c .left) p .value)) → (r .at ≡ lookItems (now (t .entry)) (lookNode (now (t .entry)) (c .left - 1)) false (wideAt (now (t .entry)) (onward (now (t .entry)) p 2)) (onward (now (t .entry)) (onward (now (t .entry)) p 2) 2) .next) × Does (goingOf (now (out .entry)) (now (list .entry)) (now (work .entry)) w) (goingOf (now (out .exit)) (now (list .exit)) (now (work .exit)) r) (turnsOf mode (placeOf c) (properties (lookNode (now (t .entry)) (c .left) p .value)))) ⌝ }
 {
-    if lacks_form(t, c.left, p) {
-        return w.refuse(out, 6);
+    if c.left == 0 {
+        return w;
     }
-    let d = inside(c, c.left);
-    let u = inner_hands(w, t, list, work, c.left, p, c.root, c.mark);
-    let u = u.put2(out, 28, 1)
-        .wide(out, 4)
-        .assign(out, 1)
-        .temporary(out, list, work, cell(3, p), 3);
-    let u = u.temporary(out, list, work, cell(1, p), 1)
-        .assign(out, 1)
-        .to(p);
-    let u = view(u, t, out, list, work, d, 2).temporary(out, list, work, cell(3, p), 3);
-    let u = node(
-        u.assign(out, 1).to(r),
+    let q = step(t, p, 2);
+    let n = wide_at(t, q);
+    seq(
+        w.to(step(t, q, 2)),
         t,
         out,
         list,
         work,
-        inside(c, less(c.left)),
-    );
-    let u = rest(
-        u,
-        t,
-        out,
-        list,
-        work,
-        d,
-        p,
-        cell_source(cell(3, p), 3),
-        true,
-    );
-    u.temporary(out, list, work, cell(3, p), 3)
-}
-
-// The rest of the object at p, which stands at r, from the value of the target at x; where no target starts there, only what it
-// is assigned to.
-fn ro(
-    w: Walk,
-    t: &[u8],
-    out: &mut [u8],
-    list: &mut [u8],
-    work: &mut [u8],
-    c: Place,
-    p: usize,
-    r: usize,
-    x: usize,
-) -> Walk
-    ensures { λ z. ⌜ (x < 16384 → byteAt (now (t .entry)) p ≡ 34 → hasRest (lookNode (now (t .entry)) (c .left) p .value) ≡ true → r ≡ lookItems (now (t .entry)) (lookNode (now (t .entry)) (c .left - 1)) false (wideAt (now (t .entry)) (onward (now (t .entry)) p 2)) (onward (now (t .entry)) (onward (now (t .entry)) p 2) 2) .next → Good (now (t .entry)) (c .left) p → Does (goingOf (now (out .entry)) (now (list .entry)) (now (work .entry)) w) (goingOf (now (out .exit)) (now (list .exit)) (now (work .exit)) z) (restFrom (placeOf c) x (lookNode (now (t .entry)) (c .left) p .value))) ⌝ }
-{
-    if x == 16383 {
-        return node(w.to(r), t, out, list, work, inside(c, less(c.left)));
-    }
-    let u = node(
-        w.assign(out, 1).to(r),
-        t,
-        out,
-        list,
-        work,
-        inside(c, less(c.left)),
-    );
-    rest(
-        u,
-        t,
-        out,
-        list,
-        work,
-        inside(c, c.left),
-        p,
-        cell_source(cell(3, x), 3),
+        under(c, less(c.left)),
+        mode,
         false,
+        n,
     )
 }
 
@@ -1353,7 +1233,7 @@ fn go(w: Walk, t: &[u8], out: &mut [u8], list: &mut [u8], work: &mut [u8], c: Pl
             let q = step(t, p, 2);
             let n = wide_at(t, q);
             let u = w.copy(t, out, step(t, q, 2));
-            let u = seq(u, t, out, list, work, inside(c, left), 16, 0, true, n);
+            let u = seq(u, t, out, list, work, inside(c, left), 16, true, n);
             if has_second(t, p) {
                 return go(u, t, out, list, work, inside(c, left));
             }
@@ -1607,7 +1487,7 @@ fn fun(w: Walk, t: &[u8], out: &mut [u8], list: &mut [u8], work: &mut [u8], c: P
             let first = step(t, s, 2);
             let u = moves_make(w, t, work, left, first, n).copy(t, out, q);
             let u = slot(u, t, out, list, work, d, 32, bits / 4 % 2, false).copy(t, out, first);
-            let u = seq(u, t, out, list, work, d, 11, 0, false, n);
+            let u = seq(u, t, out, list, work, d, 11, false, n);
             let u = slot(u, t, out, list, work, d, 32, bits / 16 % 2, false);
             return body(u, t, out, list, work, d, first, n).to(skip(t, c.left, p));
         }
@@ -1627,7 +1507,7 @@ fn ar(w: Walk, t: &[u8], out: &mut [u8], list: &mut [u8], work: &mut [u8], c: Pl
         let n = wide_at(t, q);
         let first = step(t, q, 2);
         let u = moves_make(w, t, work, left, first, n).copy(t, out, first);
-        let u = seq(u, t, out, list, work, d, 11, 0, false, n);
+        let u = seq(u, t, out, list, work, d, 11, false, n);
         let u = slot(u, t, out, list, work, d, 32, second(t, p), false);
         return eb(u, t, out, list, work, d, first, n).to(skip(t, c.left, p));
     }
@@ -1679,7 +1559,7 @@ fn ca(w: Walk, t: &[u8], out: &mut [u8], list: &mut [u8], work: &mut [u8], c: Pl
         if is_moved(t, left, q) {
             let d = scoped(c, left);
             let u = moves_make(w, t, work, left, q, 1).copy(t, out, q);
-            let u = seq(u, t, out, list, work, d, 11, 0, false, 1);
+            let u = seq(u, t, out, list, work, d, 11, false, 1);
             return bl(u, t, out, list, work, d, false, q, 1).to(skip(t, c.left, p));
         }
         return plain(w, t, out, list, work, c);
@@ -1723,7 +1603,7 @@ fn dh(w: Walk, t: &[u8], out: &mut [u8], list: &mut [u8], work: &mut [u8], c: Pl
     let n = wide_at(t, s);
     let first = step(t, s, 2);
     let u = moves_make(w, t, work, under, first, n).copy(t, out, first);
-    let u = seq(u, t, out, list, work, scoped(c, under), 11, 0, false, n);
+    let u = seq(u, t, out, list, work, scoped(c, under), 11, false, n);
     let u = node(u, t, out, list, work, scoped(c, left));
     let u = bl(u, t, out, list, work, scoped(c, left), true, first, n);
     await_of(u, t, out, p)

@@ -16,10 +16,11 @@ use Rattle.lowering.specs.Rests.{hasNoProperties, restValue, excludedFor}
 use Rattle.lowering.specs.Literals.{Call, opened, closed, scan, literal}
 use Rattle.lowering.specs.Literals.Call.{no-call, call}
 use Rattle.lowering.specs.Declarations.{isName, source, sourceDeclarator, keysBefore, patternDeclarator, restDeclarator, own, nested, nestedBelow, objectDeclarators, patternDeclarators, lowerDeclarator, isLowered, declarators, loweredIn, declaration, declarationExcludes, declarationLacksForm}
-use Rattle.lowering.specs.Assignments.{target, assigned, isTop, restsOf, topLacksForm, targetLeft, topSequence, topEntry, topExcludes, nestedSequence, nestedEntry}
+use Rattle.lowering.specs.Assignments.{target, assigned, isTop, partsOf, topLacksForm, targetLeft, fromReference, topSequence, topEntry, topExcludes, outermost, nestedSequence, nestedEntry}
 use Rattle.lowering.specs.Heads.{moved, movedPattern, isMoved, movedFrom, movedOut, leftBehind, inFront, inBody, asFunctionBody, asBlock, function, arrow, catch, declaringHead, assigningHead}
 use Rattle.lowering.specs.Walk.{Note, Step, rewritten, refuse, ruleOf, rewrite, stepDeclaration, stepTop, stepAssignment, stepFor}
 use Rattle.lowering.proofs.Cases.{by-test, by-shape, by-rule, object-is, is-changed}
+use Rattle.lowering.proofs.Clauses.{top-34}
 use Rattle.equal.proofs.LeafViews.{Makes, Good, GoodItems}
 use Rattle.equal.proofs.LeafParts
 use Rattle.equal.proofs.LeafViews as Views
@@ -227,56 +228,70 @@ module _ (Q : Node → Type 0) (makes : Makes Q) where
 
     -- ---- assignments
 
-    targets-good : (n : Node) → G n → GI (restsOf n)
-    targets-good n h = Views.rests-good Q makes c (depth (target n)) (target n) (part 1 n h)
+    -- assignments from temporaries, and their declarators
+    from-good : (ps : Items) → GI ps → GI (each (fromReference c) ps)
+    from-good ps g = LeafParts.each-leaves Q (fromReference c) (λ p k. Views.assign-good Q makes p (reference c p) k (ref p)) ps g
 
-    topSequence-good : (n : Node) → G n → G (topSequence c n)
+    declared-good : (ps : Items) → GI ps → GI (each (λ p. declared (reference c p)) ps)
+    declared-good ps g = LeafParts.each-leaves Q (λ p. declared (reference c p)) (λ p k. Views.declared-good Q makes (reference c p) (ref p)) ps g
+
+    topSequence-good : (n : Node) → isTop (target n) ≡ true → G n → G (topSequence c n)
     unfolding topSequence
-    topSequence-good n h =
-        let t = valueOf c (target n) in
-        let rs : Items = each (λ p. assign (rest p) (restValue c p t)) (restsOf n) in
+    topSequence-good n top h =
+        let p = target n in
+        let t = valueOf c p in
+        let g : G p = part 1 n h in
+        let ps : Items = each (fromReference c) (partsOf p) in
+        let last : Items = item (assign (rest p) (restValue c p t)) (cond (c .statement) none (only t)) in
         Views.sequence-good Q makes
-        (item (assign t (assigned n)) (item (assign (targetLeft c n) t) (rs +++ cond (c .statement) none (only t)))) (
-          Views.assign-good Q makes t (assigned n) (val (target n)) (part 2 n h),
+        (item (assign t (assigned n)) (item (assign (targetLeft c n) t) (ps +++ last))) (
+          Views.assign-good Q makes t (assigned n) (val p) (part 2 n h),
           (
-            Views.assign-good Q makes (targetLeft c n) t (Views.withoutRests-good Q makes c (depth (target n)) (target n) (part 1 n h)) (val (target n)),
-            append rs (cond (c .statement) none (only t))
-                (LeafParts.each-leaves Q (λ p. assign (rest p) (restValue c p t))
-                (λ p g. Views.assign-good Q makes (rest p) (restValue c p t) (part 1 p g) (Views.restValue-good Q makes c p t g (val (target n)))) (restsOf n) (targets-good n h))
-                (one-or-none (c .statement) none (only t) tt (val (target n), tt)),
+            Views.assign-good Q makes (targetLeft c n) t (Views.targetLeft-good Q makes c n (top-34 p top) g) (val p),
+            append ps last (from-good (partsOf p) (Views.parts-good Q makes c p g)) (
+              Views.assign-good Q makes (rest p) (restValue c p t) (part 1 p g) (Views.restValue-good Q makes c p t g (val p)),
+              one-or-none (c .statement) none (only t) tt (val p, tt),
+            ),
           ),
         )
 
     topEntry-good : (n : Node) → G n → GI (topEntry c n)
     unfolding topEntry
-    topEntry-good n h = (
-      Views.declared-good Q makes (valueOf c (target n)) (val (target n)),
-      LeafParts.gather-leaves Q (keyTemporaries c) (Views.keyTemporaries-good Q makes c) (restsOf n) (targets-good n h),
-    )
+    topEntry-good n h =
+        let p = target n in
+        let g : G p = part 1 n h in (
+          Views.declared-good Q makes (valueOf c p) (val p),
+          append (each (λ q. declared (reference c q)) (partsOf p)) (keyTemporaries c p)
+              (declared-good (partsOf p) (Views.parts-good Q makes c p g)) (Views.keyTemporaries-good Q makes c p g),
+        )
 
-    top-step : (n : Node) → G n → GoodStep (stepTop c n)
-    unfolding stepTop topExcludes
-    top-step n h =
+    topExcludes-good : (n : Node) → G n → GI (topExcludes c n)
+    unfolding topExcludes
+    topExcludes-good n h = Views.excludedFor-good Q makes c (target n) (part 1 n h)
+
+    top-step : (n : Node) → isTop (target n) ≡ true → G n → GoodStep (stepTop c n)
+    unfolding stepTop
+    top-step n top h =
         by-test (topLacksForm n)
         (λ e. rw (e, stepTop) (refused 6))
         (λ e. rw (e, stepTop)
-        (record { note = record { entry = topEntry-good n h; excluded = excluded-good (restsOf n) (targets-good n h) }; result = topSequence-good n h }))
+        (record { note = record { entry = topEntry-good n h; excluded = topExcludes-good n h }; result = topSequence-good n top h }))
+
+    outermost-good : (n : Node) → G n → GI (outermost (target n))
+    outermost-good n h = Views.nearest-good Q makes c true (depth (target n)) (target n) (part 1 n h)
 
     nestedSequence-good : (n : Node) → G n → G (nestedSequence c n)
     unfolding nestedSequence
     nestedSequence-good n h =
         Views.sequence-good Q makes
-        (item (changeNode 1 (λ p. replacedBelow c p) n) (each (λ p. assign p (reference c p)) (objectsBelow c (target n)))) (
+        (item (changeNode 1 (λ p. replacedBelow c p) n) (each (fromReference c) (outermost (target n)))) (
           LeafParts.change-node Q 1 (λ p. replacedBelow c p) replacedBelow-good n h,
-          LeafParts.each-leaves Q (λ p. assign p (reference c p)) (λ p g. Views.assign-good Q makes p (reference c p) g (ref p)) (objectsBelow c (target n))
-              (objectsBelow-good (target n) (part 1 n h)),
+          from-good (outermost (target n)) (outermost-good n h),
         )
 
     nestedEntry-good : (n : Node) → G n → GI (nestedEntry c n)
     unfolding nestedEntry
-    nestedEntry-good n h =
-        LeafParts.each-leaves Q (λ p. declared (reference c p)) (λ p g. Views.declared-good Q makes (reference c p) (ref p)) (objectsBelow c (target n))
-        (objectsBelow-good (target n) (part 1 n h))
+    nestedEntry-good n h = declared-good (outermost (target n)) (outermost-good n h)
 
     assignment-step : (n : Node) → G n → GoodStep (stepAssignment c n)
     unfolding stepAssignment
@@ -285,7 +300,7 @@ module _ (Q : Node → Type 0) (makes : Makes Q) where
         (λ e. rw (e, stepAssignment) (refused 5))
         (λ e.
         by-test (isTop (target n))
-        (λ f. rw (e, stepAssignment, f) (top-step n h))
+        (λ f. rw (e, stepAssignment, f) (top-step n f h))
         (λ f.
         by-test (hasObjectRest (target n))
         (λ g. rw (e, stepAssignment, f, g) (record { note = record { entry = nestedEntry-good n h; excluded = tt }; result = nestedSequence-good n h }))

@@ -7,7 +7,7 @@ use Prim.Native.Nat.{ℕ, zero, suc}
 use native.Mathlib.Omega.{arith}
 use lib.Dec.{eqb}
 use borrow.Author.Tests.{eqb-true}
-use Rattle.tree.specs.Tree.{Node, Items, count}
+use Rattle.tree.specs.Tree.{Node, Items, count, depth}
 use Rattle.tree.specs.Tree.Fields.{done, absent, field}
 use Rattle.tree.specs.Tree.Piece.{one, list, text, byte}
 use Rattle.tree.specs.Tree.Items.{none, item}
@@ -18,7 +18,7 @@ use Rattle.lowering.specs.Patterns.{shape, properties, itemsOf, rest, hasRest, 
 use Rattle.lowering.specs.Keys.{keySort, excludedKey, keptKey, keyTemporary, allPrimitive, excludedKeys, keyTemporaries, taken}
 use Rattle.lowering.specs.Keys.Key.{name, literal, template, private, again, other}
 use Rattle.lowering.specs.Rests.{hasNoProperties, mapped, isHoisted, keysRead, restValue, excludedFor}
-use Rattle.lowering.specs.Assignments.{restsThroughObjects, withoutRests}
+use Rattle.lowering.specs.Assignments.{target, nearest, partsOf, partsReplaced, targetLeft}
 use Rattle.lowering.specs.Heads.{moved, movedPattern, movedOut}
 use Rattle.lowering.proofs.Cases.{by-test, by-shape, by-key, object-is, is-changed}
 use Rattle.equal.proofs.LeafParts
@@ -230,30 +230,42 @@ module _ (Q : Node → Type 0) (makes : Makes Q) where
 
     -- ---- targets
 
-    pub withoutRests-good : (d : ℕ) (p : Node) → Good p → Good (withoutRests c d p)
-    unfolding withoutRests
-    withoutRests-good zero p h = h
-    withoutRests-good (suc d) p h =
-        let f : Node → Node = λ v. withoutRests c d v in
+    pub partsReplaced-good : (d : ℕ) (p : Node) → Good p → Good (partsReplaced c d p)
+    unfolding partsReplaced
+    partsReplaced-good zero p h = h
+    partsReplaced-good (suc d) p h =
+        let f : Node → Node = λ v. partsReplaced c d v in
         by-shape (shape p)
-        (λ e. rw (e, withoutRests)
-        (taken-good (withValues f p) (is-changed 0 (onItems (each (λ q. changeNode 1 f q))) p 34 ∙ object-is p e) (values-good f (withoutRests-good d) p h)))
-        (λ e. rw (e, withoutRests) h)
-        (λ e. rw (e, withoutRests) (LeafParts.change-node Q 0 f (withoutRests-good d) p h))
-        (λ e. rw (e, withoutRests) h)
+        (λ e. rw (e, partsReplaced)
+        (by-test (hasRest p) (λ r. rw r (reference-good p)) (λ r. rw r (values-good f (partsReplaced-good d) p h))))
+        (λ e. rw (e, partsReplaced) h)
+        (λ e. rw (e, partsReplaced) (LeafParts.change-node Q 0 f (partsReplaced-good d) p h))
+        (λ e. rw (e, partsReplaced) h)
 
-    pub rests-good : (d : ℕ) (p : Node) → Good p → GoodItems (restsThroughObjects d p)
-    unfolding restsThroughObjects
-    rests-good zero p h = tt
-    rests-good (suc d) p h =
-        let f : Node → Items = λ v. restsThroughObjects d v in
+    pub targetLeft-good : (n : Node) → is 34 (target n) ≡ true → Good (target n) → Good (targetLeft c n)
+    targetLeft-good n e h =
+        let p = target n in
+        let f : Node → Node = λ v. partsReplaced c (depth p) v in
+        taken-good (withValues f p) (is-changed 0 (onItems (each (λ q. changeNode 1 f q))) p 34 ∙ e) (values-good f (partsReplaced-good (depth p)) p h)
+
+    pub nearest-good : (arrays : Bool) (d : ℕ) (p : Node) → Good p → GoodItems (nearest arrays d p)
+    unfolding nearest
+    nearest-good arrays zero p h = tt
+    nearest-good arrays (suc d) p h =
+        let f : Node → Items = λ v. nearest arrays d v in
         by-shape (shape p)
-        (λ e. rw (e, restsThroughObjects)
-        (LeafParts.append-leaves Q (gather (λ q. f (value q)) (properties p)) (cond (hasRest p) (only p) none) (values-found f (rests-good d) p h)
-        (by-test (hasRest p) (λ r. rw r (h, tt)) (λ r. rw r tt))))
-        (λ e. rw (e, restsThroughObjects) tt)
-        (λ e. rw (e, restsThroughObjects) (rests-good d (leftOf p) (LeafParts.node-leaves Q 0 p h)))
-        (λ e. rw (e, restsThroughObjects) tt)
+        (λ e. rw (e, nearest) (by-test (hasRest p) (λ r. rw r (h, tt)) (λ r. rw r (values-found f (nearest-good arrays d) p h))))
+        (λ e. rw (e, nearest) (some-good arrays (gather f (itemsOf p)) (LeafParts.gather-leaves Q f (nearest-good arrays d) (itemsOf p) (LeafParts.items-leaves Q 0 p h))))
+        (λ e. rw (e, nearest) (nearest-good arrays d (leftOf p) (LeafParts.node-leaves Q 0 p h)))
+        (λ e. rw (e, nearest) tt)
+      where
+        some-good : (b : Bool) (is : Items) → GoodItems is → GoodItems (cond b is none)
+        some-good true is g = g
+        some-good false is g = tt
+
+    -- the parts of a target that is an object with rest
+    pub parts-good : (p : Node) → Good p → GoodItems (partsOf p)
+    parts-good p h = values-found (λ v. nearest false (depth p) v) (nearest-good false (depth p)) p h
 
     -- ---- what is moved out of a head
 

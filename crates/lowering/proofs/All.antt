@@ -10,7 +10,7 @@ use Rattle.tree.specs.Tree.Items.{none, hole, item}
 use Rattle.lowering.specs.Parts.{pieceIn, is, each, gather, _+++_, changeIn, any}
 use Rattle.lowering.specs.Walk.{Note, Walked, WalkedFields, WalkedPiece, WalkedItems, eachItem, eachPiece, eachField, inside}
 use Rattle.lowering.specs.Walk.Walked.{noted}
-use mathlib.Core.Bool.{Bool, false}
+use mathlib.Core.Bool.{Bool, cond, false, true}
 use Rattle.lowering.proofs.Cases.{or-left, or-right}
 
 abbrev pub AllItems : (Node → Type 0) → Items → Type 0
@@ -66,6 +66,10 @@ unfolding _+++_
 all-append P none js h k = k
 all-append P (hole is) js h k = all-append P is js h k
 all-append P (item n is) js h k = (h .0, all-append P is js (h .1) k)
+
+pub all-cond : (P : Node → Type 0) (b : Bool) (is js : Items) → AllItems P is → AllItems P js → AllItems P (cond b is js)
+all-cond P true is js h k = h
+all-cond P false is js h k = k
 
 pub all-gather : (P Q : Node → Type 0) (f : Node → Items) → ((n : Node) → P n → AllItems Q (f n)) → (is : Items) → AllItems P is → AllItems Q (gather f is)
 unfolding gather

@@ -1,7 +1,7 @@
 -- The clauses of the searches below patterns, and of what they leave, as equations.
 -- Assumes nothing.
 use mathlib.Core.Path.{_≡_, refl}
-use mathlib.Core.Bool.{cond, false, true, not, _&&_}
+use mathlib.Core.Bool.{Bool, cond, false, true, not, _&&_}
 use Prim.Native.Nat.{ℕ, suc, zero}
 use Rattle.tree.specs.Tree.{Node, depth, Items}
 use Rattle.tree.specs.Tree.Items.{none}
@@ -11,7 +11,7 @@ use Rattle.lowering.specs.Patterns.{shape, properties, itemsOf, hasRest,
 use Rattle.lowering.specs.Patterns.Shape.{objectPattern, arrayPattern, default, leaf}
 use Rattle.lowering.specs.Keys.{taken, keySort, allPrimitive, keyText}
 use Rattle.lowering.specs.Declarations.{innerObjects, isLowered}
-use Rattle.lowering.specs.Assignments.{restsThroughObjects, withoutRests, isTop}
+use Rattle.lowering.specs.Assignments.{nearest, partsReplaced, isTop}
 use Rattle.tree.specs.Tree.Node.{node}
 use Rattle.lowering.specs.Literals.{Call, opened, scan}
 use Rattle.lowering.proofs.Cases.{and-right, and-left}
@@ -61,21 +61,22 @@ module _ (c : Context) where
   unfolding replaced
   replaced-leaf d p e = rw (e, replaced)
 
-  pub without-object : (d : ℕ) (p : Node) → shape p ≡ objectPattern → withoutRests c (suc d) p ≡ taken c (withValues (λ v. withoutRests c d v) p)
-  unfolding withoutRests
-  without-object d p e = rw (e, withoutRests)
+  pub parts-object : (d : ℕ) (p : Node) → shape p ≡ objectPattern
+      → partsReplaced c (suc d) p ≡ cond (hasRest p) (reference c p) (withValues (λ v. partsReplaced c d v) p)
+  unfolding partsReplaced
+  parts-object d p e = rw (e, partsReplaced)
 
-  pub without-array : (d : ℕ) (p : Node) → shape p ≡ arrayPattern → withoutRests c (suc d) p ≡ p
-  unfolding withoutRests
-  without-array d p e = rw (e, withoutRests)
+  pub parts-array : (d : ℕ) (p : Node) → shape p ≡ arrayPattern → partsReplaced c (suc d) p ≡ p
+  unfolding partsReplaced
+  parts-array d p e = rw (e, partsReplaced)
 
-  pub without-default : (d : ℕ) (p : Node) → shape p ≡ default → withoutRests c (suc d) p ≡ withLeft (λ v. withoutRests c d v) p
-  unfolding withoutRests
-  without-default d p e = rw (e, withoutRests)
+  pub parts-default : (d : ℕ) (p : Node) → shape p ≡ default → partsReplaced c (suc d) p ≡ withLeft (λ v. partsReplaced c d v) p
+  unfolding partsReplaced
+  parts-default d p e = rw (e, partsReplaced)
 
-  pub without-leaf : (d : ℕ) (p : Node) → shape p ≡ leaf → withoutRests c (suc d) p ≡ p
-  unfolding withoutRests
-  without-leaf d p e = rw (e, withoutRests)
+  pub parts-leaf : (d : ℕ) (p : Node) → shape p ≡ leaf → partsReplaced c (suc d) p ≡ p
+  unfolding partsReplaced
+  parts-leaf d p e = rw (e, partsReplaced)
 
   pub taken-none : (p : Node) → hasRest p ≡ false → taken c p ≡ p
   unfolding taken
@@ -89,22 +90,24 @@ module _ (c : Context) where
   unfolding innerObjects
   inner-array p e = rw (e, innerObjects)
 
-pub rests-object : (d : ℕ) (p : Node) → shape p ≡ objectPattern
-    → restsThroughObjects (suc d) p ≡ gather (λ q. restsThroughObjects d (value q)) (properties p) +++ cond (hasRest p) (only p) none
-unfolding restsThroughObjects
-rests-object d p e = rw (e, restsThroughObjects)
+module _ (arrays : Bool) where
+  pub nearest-object : (d : ℕ) (p : Node) → shape p ≡ objectPattern
+      → nearest arrays (suc d) p ≡ cond (hasRest p) (only p) (gather (λ q. nearest arrays d (value q)) (properties p))
+  unfolding nearest
+  nearest-object d p e = rw (e, nearest)
 
-pub rests-array : (d : ℕ) (p : Node) → shape p ≡ arrayPattern → restsThroughObjects (suc d) p ≡ none
-unfolding restsThroughObjects
-rests-array d p e = rw (e, restsThroughObjects)
+  pub nearest-array : (d : ℕ) (p : Node) → shape p ≡ arrayPattern
+      → nearest arrays (suc d) p ≡ cond arrays (gather (λ m. nearest arrays d m) (itemsOf p)) none
+  unfolding nearest
+  nearest-array d p e = rw (e, nearest)
 
-pub rests-default : (d : ℕ) (p : Node) → shape p ≡ default → restsThroughObjects (suc d) p ≡ restsThroughObjects d (leftOf p)
-unfolding restsThroughObjects
-rests-default d p e = rw (e, restsThroughObjects)
+  pub nearest-default : (d : ℕ) (p : Node) → shape p ≡ default → nearest arrays (suc d) p ≡ nearest arrays d (leftOf p)
+  unfolding nearest
+  nearest-default d p e = rw (e, nearest)
 
-pub rests-leaf : (d : ℕ) (p : Node) → shape p ≡ leaf → restsThroughObjects (suc d) p ≡ none
-unfolding restsThroughObjects
-rests-leaf d p e = rw (e, restsThroughObjects)
+  pub nearest-leaf : (d : ℕ) (p : Node) → shape p ≡ leaf → nearest arrays (suc d) p ≡ none
+  unfolding nearest
+  nearest-leaf d p e = rw (e, nearest)
 
 pub has-leaf : (e : ℕ) (p : Node) → shape p ≡ leaf → hasNestedObjectRest e p ≡ false
 unfolding hasNestedObjectRest

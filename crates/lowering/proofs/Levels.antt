@@ -16,7 +16,7 @@ use Rattle.lowering.specs.Patterns.{shape, properties, itemsOf, hasRest,
 use Rattle.lowering.specs.Patterns.Shape.{objectPattern, leaf}
 use Rattle.lowering.specs.Keys.{taken}
 use Rattle.lowering.specs.Declarations.{own, nested}
-use Rattle.lowering.specs.Assignments.{restsThroughObjects, withoutRests}
+use Rattle.lowering.specs.Assignments.{nearest, partsReplaced}
 use Rattle.lowering.specs.Heads.{moved, movedOut}
 use Rattle.lowering.proofs.Cases.{by-shape}
 use Rattle.lowering.proofs.Clauses.{objects-object, objects-leaf}
@@ -156,10 +156,10 @@ unfolding hasNestedArrayRest shape
 array-nothing zero = refl
 array-nothing (suc d) = refl
 
-pub rests-nothing : (d : ℕ) → restsThroughObjects d nothing ≡ none
-unfolding restsThroughObjects shape
-rests-nothing zero = refl
-rests-nothing (suc d) = refl
+pub nearest-nothing : (arrays : Bool) (d : ℕ) → nearest arrays d nothing ≡ none
+unfolding nearest shape
+nearest-nothing arrays zero = refl
+nearest-nothing arrays (suc d) = refl
 
 pub moved-nothing : (d : ℕ) → moved d nothing ≡ none
 unfolding moved shape
@@ -211,21 +211,21 @@ array-same (suc b) (suc d) (suc e) p h k l =
     (λ s. rw (s, hasNestedArrayRest) (node-in (λ m. hasNestedArrayRest d m) (λ m. hasNestedArrayRest e m) b agree z 0 p l))
     (λ s. rw (s, hasNestedArrayRest) refl)
 
-rests-same : (b d e : ℕ) (p : Node) → b ≤ d → b ≤ e → depth p ≤ b → restsThroughObjects d p ≡ restsThroughObjects e p
-unfolding restsThroughObjects
-rests-same zero d e p h k l = let z = depth-pos p in absurd (omega arith)
-rests-same (suc b) zero e p h k l = absurd (omega arith)
-rests-same (suc b) (suc d) zero p h k l = absurd (omega arith)
-rests-same (suc b) (suc d) (suc e) p h k l =
-    let agree : (m : Node) → depth m ≤ b → restsThroughObjects d m ≡ restsThroughObjects e m = λ m z. rests-same b d e m (omega arith) (omega arith) z in
-    let z = rests-nothing d ∙ sym (rests-nothing e) in
+nearest-same : (arrays : Bool) (b d e : ℕ) (p : Node) → b ≤ d → b ≤ e → depth p ≤ b → nearest arrays d p ≡ nearest arrays e p
+unfolding nearest
+nearest-same arrays zero d e p h k l = let z = depth-pos p in absurd (omega arith)
+nearest-same arrays (suc b) zero e p h k l = absurd (omega arith)
+nearest-same arrays (suc b) (suc d) zero p h k l = absurd (omega arith)
+nearest-same arrays (suc b) (suc d) (suc e) p h k l =
+    let agree : (m : Node) → depth m ≤ b → nearest arrays d m ≡ nearest arrays e m = λ m z. nearest-same arrays b d e m (omega arith) (omega arith) z in
+    let z = nearest-nothing arrays d ∙ sym (nearest-nothing arrays e) in
     let i = items-depth 0 p in
     by-shape (shape p)
-    (λ s. rw (s, restsThroughObjects) (ap (λ (x : Items). x +++ cond (hasRest p) (only p) none) (gather-agrees (λ q. restsThroughObjects d (value q)) (λ q. restsThroughObjects e (value q)) b
-    (λ q y. node-in (λ m. restsThroughObjects d m) (λ m. restsThroughObjects e m) b agree z 1 q (omega arith)) (properties p) (omega arith))))
-    (λ s. rw (s, restsThroughObjects) (refl))
-    (λ s. rw (s, restsThroughObjects) (node-in (λ m. restsThroughObjects d m) (λ m. restsThroughObjects e m) b agree z 0 p l))
-    (λ s. rw (s, restsThroughObjects) refl)
+    (λ s. rw (s, nearest) (ap (λ (x : Items). cond (hasRest p) (only p) x) (gather-agrees (λ q. nearest arrays d (value q)) (λ q. nearest arrays e (value q)) b
+    (λ q y. node-in (λ m. nearest arrays d m) (λ m. nearest arrays e m) b agree z 1 q (omega arith)) (properties p) (omega arith))))
+    (λ s. rw (s, nearest) (ap (λ (x : Items). cond arrays x none) (gather-agrees (λ m. nearest arrays d m) (λ m. nearest arrays e m) b agree (itemsOf p) (omega arith))))
+    (λ s. rw (s, nearest) (node-in (λ m. nearest arrays d m) (λ m. nearest arrays e m) b agree z 0 p l))
+    (λ s. rw (s, nearest) refl)
 
 moved-same : (b d e : ℕ) (p : Node) → b ≤ d → b ≤ e → depth p ≤ b → moved d p ≡ moved e p
 unfolding moved
@@ -291,19 +291,19 @@ module _ (c : Context) where
       (λ s. rw (s, nested) (node-in (λ m. nested c d m) (λ m. nested c e m) b agree z 0 p l))
       (λ s. rw (s, nested) refl)
 
-  without-same : (b d e : ℕ) (p : Node) → b ≤ d → b ≤ e → depth p ≤ b → withoutRests c d p ≡ withoutRests c e p
-  unfolding withoutRests
-  without-same zero d e p h k l = let z = depth-pos p in absurd (omega arith)
-  without-same (suc b) zero e p h k l = absurd (omega arith)
-  without-same (suc b) (suc d) zero p h k l = absurd (omega arith)
-  without-same (suc b) (suc d) (suc e) p h k l =
-      let agree : (m : Node) → depth m ≤ b → withoutRests c d m ≡ withoutRests c e m = λ m z. without-same b d e m (omega arith) (omega arith) z in
+  parts-same : (b d e : ℕ) (p : Node) → b ≤ d → b ≤ e → depth p ≤ b → partsReplaced c d p ≡ partsReplaced c e p
+  unfolding partsReplaced
+  parts-same zero d e p h k l = let z = depth-pos p in absurd (omega arith)
+  parts-same (suc b) zero e p h k l = absurd (omega arith)
+  parts-same (suc b) (suc d) zero p h k l = absurd (omega arith)
+  parts-same (suc b) (suc d) (suc e) p h k l =
+      let agree : (m : Node) → depth m ≤ b → partsReplaced c d m ≡ partsReplaced c e m = λ m z. parts-same b d e m (omega arith) (omega arith) z in
       let i = items-depth 0 p in
       by-shape (shape p)
-      (λ s. rw (s, withoutRests) (ap (taken c) (values-agree (λ m. withoutRests c d m) (λ m. withoutRests c e m) b agree p l)))
-      (λ s. rw (s, withoutRests) (refl))
-      (λ s. rw (s, withoutRests) (changeNode-agrees (λ m. withoutRests c d m) (λ m. withoutRests c e m) b agree 0 p l))
-      (λ s. rw (s, withoutRests) refl)
+      (λ s. rw (s, partsReplaced) (ap (λ (x : Node). cond (hasRest p) (reference c p) x) (values-agree (λ m. partsReplaced c d m) (λ m. partsReplaced c e m) b agree p l)))
+      (λ s. rw (s, partsReplaced) (refl))
+      (λ s. rw (s, partsReplaced) (changeNode-agrees (λ m. partsReplaced c d m) (λ m. partsReplaced c e m) b agree 0 p l))
+      (λ s. rw (s, partsReplaced) refl)
 
   movedOut-same : (b d e : ℕ) (p : Node) → b ≤ d → b ≤ e → depth p ≤ b → movedOut c d p ≡ movedOut c e p
   unfolding movedOut
@@ -328,8 +328,8 @@ module _ (d : ℕ) (p : Node) (enough : depth p ≤ d) where
   pub array-levels : hasNestedArrayRest d p ≡ hasNestedArrayRest (depth p) p
   array-levels = array-same (depth p) d (depth p) p enough (omega arith) (omega arith)
 
-  pub rests-levels : restsThroughObjects d p ≡ restsThroughObjects (depth p) p
-  rests-levels = rests-same (depth p) d (depth p) p enough (omega arith) (omega arith)
+  pub nearest-levels : (arrays : Bool) → nearest arrays d p ≡ nearest arrays (depth p) p
+  nearest-levels arrays = nearest-same arrays (depth p) d (depth p) p enough (omega arith) (omega arith)
 
   pub moved-levels : moved d p ≡ moved (depth p) p
   moved-levels = moved-same (depth p) d (depth p) p enough (omega arith) (omega arith)
@@ -344,8 +344,8 @@ module _ (d : ℕ) (p : Node) (enough : depth p ≤ d) where
     pub nested-levels : nested c d p ≡ nested c (depth p) p
     nested-levels = nested-same c (depth p) d (depth p) p enough (omega arith) (omega arith)
 
-    pub without-levels : withoutRests c d p ≡ withoutRests c (depth p) p
-    without-levels = without-same c (depth p) d (depth p) p enough (omega arith) (omega arith)
+    pub parts-levels : partsReplaced c d p ≡ partsReplaced c (depth p) p
+    parts-levels = parts-same c (depth p) d (depth p) p enough (omega arith) (omega arith)
 
     pub movedOut-levels : movedOut c d p ≡ movedOut c (depth p) p
     movedOut-levels = movedOut-same c (depth p) d (depth p) p enough (omega arith) (omega arith)

@@ -1,6 +1,7 @@
 pub mod ItemLaws
 pub mod ChangeLaws
 pub mod All
+pub mod PartsAt
 pub mod Cases
 pub mod Clauses
 pub mod Weights
@@ -12,7 +13,6 @@ pub mod WeightHeads
 pub mod WeightAssignments
 pub mod Falls
 pub mod Levels
-pub mod NoRestsLeft
 pub mod Notes
 pub mod Order
 pub mod Answers

@@ -15,13 +15,13 @@ use Rattle.lowering.specs.Patterns.{shape, properties, key, value, hasOb
 use Rattle.lowering.specs.Keys.{keySort, keyTemporary, keyTemporaries}
 use Rattle.lowering.specs.Rests.{isHoisted, excludedFor, restMakes}
 use Rattle.lowering.specs.Declarations.{isName, sourceDeclarator, innerObjects, declaratorMakes, isLowered, declarationMakes, declarationLacksForm}
-use Rattle.lowering.specs.Assignments.{isTop, target, restsOf, topLacksForm, topEntry, topExcludes, topMakes, nestedEntry, nestedMakes}
+use Rattle.lowering.specs.Assignments.{isTop, target, nearest, partsOf, topLacksForm, topEntry, topExcludes, topMakes, outermost, nestedEntry, nestedMakes}
 use Rattle.lowering.specs.Heads.{isMoved, movedFrom, references, functionMakes, arrowMakes, catchMakes, declaringMakes, assigningMakes}
 use Rattle.lowering.specs.Walk.{ruleOf, rewrite, stepDeclaration, stepTop, stepAssignment, stepFor}
 use Rattle.lowering.specs.Collect.{Name, nameOf, samePath, same}
 use Rattle.lowering.proofs.Cases.{by-test, by-shape, by-key, by-rule}
-use Rattle.lowering.proofs.Sites.{here, hereItems, sites, sitesItems, node-in, items-in, shell, shells, gather-here, shells-in, here-in}
-use Rattle.lowering.proofs.SiteViews.{object-here, rest-here, moved-here, rests-shells, objects-sum, objects-are}
+use Rattle.lowering.proofs.Sites.{here, hereItems, sites, sitesItems, node-in, items-in, shell, shells, gather-here, shells-in, here-in, object-whole}
+use Rattle.lowering.proofs.SiteViews.{object-here, rest-here, moved-here, nearest-sites, nearest-are, objects-sum, objects-are}
 use Rattle.lowering.proofs.ItemLaws.{each-append}
 use Rattle.lowering.proofs.Clauses.{lowered-rest, top-34}
 
@@ -294,61 +294,77 @@ module _ (a : Name) where
 
     -- ---- assignments
 
-    both-once : (ps : Items) → times a (each idOf (gather (keyTemporaries c) ps)) + times a (each idOf (gather (excludedFor c) ps)) ≤ shells (a .place) ps
-    unfolding gather shells
-    both-once none = let z = no-ids in omega arith
-    both-once (hole ps) = both-once ps
-    both-once (item p ps) =
-        let h = both-once ps in
-        let k = keys-here p in
-        let e = excluded-here p in
-        let s = ap (times a) (each-append idOf (keyTemporaries c p) (gather (keyTemporaries c) ps)) in
-        let t = times-append a (each idOf (keyTemporaries c p)) (each idOf (gather (keyTemporaries c) ps)) in
-        let u = ap (times a) (each-append idOf (excludedFor c p) (gather (excludedFor c) ps)) in
-        let v = times-append a (each idOf (excludedFor c p)) (each idOf (gather (excludedFor c) ps)) in
-        omega arith
-
-    both-none : eqb (a .stem) 2 ≡ false → eqb (a .stem) 4 ≡ false → (ps : Items)
-        → times a (each idOf (gather (keyTemporaries c) ps)) + times a (each idOf (gather (excludedFor c) ps)) ≡ 0
-    both-none u v ps =
-        let k = ids-none (keyTemporaries c) (keys-none v) ps in let e = ids-none (excludedFor c) (excluded-none u) ps in omega arith
-
-    pub entry-times : (n : Node) → times a (each idOf (topEntry c n)) ≡ once (same a (nameOf (valueOf c (target n)))) + times a (each idOf (gather (keyTemporaries c) (restsOf n)))
-    unfolding topEntry each times nodeAt pieceIn
-    entry-times n = refl
-
-    top-once : (n : Node) → isTop (target n) ≡ true → times a (topMakes c n) ≤ sites (a .place) n
-    unfolding topMakes topExcludes
-    top-once n h =
-        let p = target n in
-        let w = node-in (a .place) 1 n in
-        let s = times-append a (each idOf (topEntry c n)) (each idOf (gather (excludedFor c) (restsOf n))) in
-        let t = entry-times n in
-        by-test (eqb (a .stem) 3)
-        (λ e.
-        let q : a .stem ≡ 3 = eqb-true (a .stem) 3 e in
-        let o = one-here (c .path) 3 (position p) in
-        let i = object-here (a .place) p (top-34 p h) in
-        let k = both-none (stem-not 3 2 q refl) (stem-not 3 4 q refl) (restsOf n) in
-        omega arith)
-        (λ e.
-        let o = other-stem (c .path) 3 (position p) e in
-        let k = both-once (restsOf n) in
-        let i = rests-shells (a .place) (depth p) p in
-        omega arith)
-
     pub entry-refs : (ps : Items) → each idOf (each (λ p. declared (reference c p)) ps) ≡ each (λ p. reference c p) ps
     unfolding each nodeAt pieceIn
     entry-refs none = refl
     entry-refs (hole ps) = ap hole (entry-refs ps)
     entry-refs (item p ps) = ap (item (reference c p)) (entry-refs ps)
 
+    nearest-here : (arrays : Bool) (d : ℕ) (p : Node) → hereItems (a .place) (nearest arrays d p) ≤ sites (a .place) p
+    nearest-here arrays d p =
+        let h = here-in (a .place) (nearest arrays d p) in
+        let i = shells-in (a .place) (nearest arrays d p) (nearest-are (a .place) arrays d p) in
+        let j = nearest-sites (a .place) arrays d p in
+        omega arith
+
+    parts-here : (p : Node) → hereItems (a .place) (partsOf p) ≤ sites (a .place) p
+    parts-here p =
+        let g = gather-here (a .place) (λ q. nearest false (depth p) (value q))
+        (λ q. let h = nearest-here false (depth p) (value q) in let v = node-in (a .place) 1 q in omega arith) (properties p) in
+        let i = items-in (a .place) 0 p in
+        omega arith
+
+    pub entry-times : (n : Node) → times a (each idOf (topEntry c n))
+        ≡ once (same a (nameOf (valueOf c (target n)))) + (times a (each (λ p. reference c p) (partsOf (target n))) + times a (each idOf (keyTemporaries c (target n))))
+    unfolding topEntry each times nodeAt pieceIn
+    entry-times n =
+        let p = target n in
+        let ds = each (λ q. declared (reference c q)) (partsOf p) in
+        let s = ap (times a) (each-append idOf ds (keyTemporaries c p)) in
+        let t = times-append a (each idOf ds) (each idOf (keyTemporaries c p)) in
+        let r = ap (times a) (entry-refs (partsOf p)) in
+        omega arith
+
+    top-once : (n : Node) → isTop (target n) ≡ true → times a (topMakes c n) ≤ sites (a .place) n
+    unfolding topMakes topExcludes
+    top-once n h =
+        let p = target n in
+        let w = node-in (a .place) 1 n in
+        let s = times-append a (each idOf (topEntry c n)) (each idOf (excludedFor c p)) in
+        let t = entry-times n in
+        by-test (eqb (a .stem) 3)
+        (λ e.
+        let q : a .stem ≡ 3 = eqb-true (a .stem) 3 e in
+        let o = one-here (c .path) 3 (position p) in
+        let i = object-here (a .place) p (top-34 p h) in
+        let r = refs-none (stem-not 3 1 q refl) (partsOf p) in
+        let k = keys-none (stem-not 3 4 q refl) p in
+        let u = excluded-none (stem-not 3 2 q refl) p in
+        omega arith)
+        (λ e.
+        let o = other-stem (c .path) 3 (position p) e in
+        by-test (eqb (a .stem) 1)
+        (λ f.
+        let q : a .stem ≡ 1 = eqb-true (a .stem) 1 f in
+        let r = refs-here (partsOf p) in
+        let g = parts-here p in
+        let k = keys-none (stem-not 1 4 q refl) p in
+        let u = excluded-none (stem-not 1 2 q refl) p in
+        omega arith)
+        (λ f.
+        let r = refs-none f (partsOf p) in
+        let k = keys-here p in
+        let u = excluded-here p in
+        let i = object-whole (a .place) p (top-34 p h) in
+        omega arith))
+
     nested-once : (n : Node) → times a (nestedMakes c n) ≤ sites (a .place) n
     unfolding nestedMakes nestedEntry
     nested-once n =
-        let e = ap (times a) (entry-refs (objectsBelow c (target n))) in
-        let r = refs-here (objectsBelow c (target n)) in
-        let h = objects-here (target n) in
+        let p = target n in
+        let e = ap (times a) (entry-refs (outermost p)) in
+        let r = refs-here (outermost p) in
+        let h = nearest-here true (depth p) p in
         let w = node-in (a .place) 1 n in
         omega arith
 

@@ -9,12 +9,12 @@ use lib.Dec.{eqb}
 use Rattle.tree.specs.Tree.{Node, Items}
 use Rattle.tree.specs.Tree.Items.{none, hole, item}
 use Rattle.lowering.specs.Parts.{position, kind, is, nodeAt, itemsAt, stands, pieceIn, each, gather, _+++_}
-use Rattle.lowering.specs.Made.{Context, temporary, reference, idOf}
+use Rattle.lowering.specs.Made.{Context, temporary, reference, idOf, declared}
 use Rattle.lowering.specs.Patterns.{properties, key, hasObjectRest, hasArrayRestOverObjectRest, objectsBelow}
 use Rattle.lowering.specs.Keys.{keySort, keyTemporary, keyTemporaries}
 use Rattle.lowering.specs.Rests.{isHoisted, excludedFor, restMakes}
 use Rattle.lowering.specs.Declarations.{isName, sourceDeclarator, innerObjects, declaratorMakes, isLowered, declarationMakes, declarationLacksForm}
-use Rattle.lowering.specs.Assignments.{isTop, target, restsOf, topLacksForm, topEntry, topExcludes, topMakes, nestedEntry, nestedMakes}
+use Rattle.lowering.specs.Assignments.{isTop, target, partsOf, topLacksForm, topEntry, topExcludes, topMakes, outermost, nestedEntry, nestedMakes}
 use Rattle.lowering.specs.Heads.{movedFrom, functionMakes, arrowMakes, catchMakes, declaringMakes, assigningMakes}
 use Rattle.lowering.specs.Walk.{ruleOf, rewrite, stepDeclaration, stepTop, stepAssignment, stepFor}
 use Rattle.lowering.specs.Collect.{Name, nameOf, samePath, same}
@@ -88,19 +88,28 @@ module _ (c : Context) where
       (λ d u. by-test (isLowered d) (λ e. rw (e, AllItems) (declarator-from (nodeAt 0 d) (nodeAt 1 d))) (λ e. rw (e, AllItems) tt))
       (itemsAt 2 n) (all-unit (itemsAt 2 n))
 
+  declared-from : (ps : Items) → AllItems Ours (each idOf (each (λ q. declared (reference c q)) ps))
+  declared-from ps = subst (AllItems Ours) (sym (entry-refs (record { path = c .path; stem = 0; place = 0 }) c ps)) (refs-from ps)
+
   entry-from : (n : Node) → AllItems Ours (each idOf (topEntry c n))
   unfolding topEntry each nodeAt pieceIn
-  entry-from n = (From.for-value (target n), ids-from (keyTemporaries c) keys-from (restsOf n))
+  entry-from n =
+      let p = target n in
+      let ds = each (λ q. declared (reference c q)) (partsOf p) in (
+        From.for-value p,
+        subst (AllItems Ours) (sym (each-append idOf ds (keyTemporaries c p)))
+            (all-append Ours (each idOf ds) (each idOf (keyTemporaries c p)) (declared-from (partsOf p)) (keys-from p)),
+      )
 
   top-from : (n : Node) → AllItems Ours (topMakes c n)
   unfolding topMakes topExcludes
   top-from n =
-      all-append Ours (each idOf (topEntry c n)) (each idOf (gather (excludedFor c) (restsOf n))) (entry-from n) (ids-from (excludedFor c) excluded-from (restsOf n))
+      all-append Ours (each idOf (topEntry c n)) (each idOf (excludedFor c (target n))) (entry-from n) (excluded-from (target n))
 
   nested-from : (n : Node) → AllItems Ours (nestedMakes c n)
   unfolding nestedMakes nestedEntry
   nested-from n =
-      subst (AllItems Ours) (sym (entry-refs (record { path = c .path; stem = 0; place = 0 }) c (objectsBelow c (target n)))) (refs-from (objectsBelow c (target n)))
+      declared-from (outermost (target n))
 
   function-from : (n : Node) → AllItems Ours (functionMakes c n)
   unfolding functionMakes

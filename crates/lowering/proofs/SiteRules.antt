@@ -1,7 +1,7 @@
 -- The rules keep sites apart: if a position is a site of a node once at most, so it is of each part of what the node's rewriting leaves.
 -- Assumes nothing.
 use mathlib.Core.Path.{_≡_, refl, sym, ap, _∙_, subst}
-use mathlib.Core.Bool.{true, cond, _&&_}
+use mathlib.Core.Bool.{true, cond, _&&_, false}
 use Prim.Native.Nat.{ℕ, zero, suc, _+_, _*_, _≤_}
 use native.Mathlib.Omega.{arith}
 use lib.Dec.{eqb}
@@ -19,13 +19,13 @@ use Rattle.lowering.specs.Rests.{hasNoProperties, mapped, isHoisted, key
 use Rattle.lowering.specs.Literals.{Call, opened, closed, scan, literal}
 use Rattle.lowering.specs.Literals.Call.{no-call}
 use Rattle.lowering.specs.Declarations.{isName, source, sourceDeclarator, keysBefore, patternDeclarator, restDeclarator, own, nested, nestedBelow, objectDeclarators, patternDeclarators, lowerDeclarator, isLowered, declarators, declaration, declarationLacksForm}
-use Rattle.lowering.specs.Assignments.{isTop, target, assigned, restsOf, targetLeft, topSequence, topLacksForm, nestedSequence}
+use Rattle.lowering.specs.Assignments.{isTop, target, assigned, partsOf, targetLeft, fromReference, topSequence, topLacksForm, outermost, nestedSequence}
 use Rattle.lowering.specs.Heads.{movedPattern, movedOut, isMoved, leftBehind, movedFrom, inFront, inBody, asFunctionBody, asBlock, function, arrow, catch, declaringHead, assigningHead}
 use Rattle.lowering.specs.Walk.{ruleOf, rewrite, stepDeclaration, stepTop, stepAssignment, stepFor}
 use Rattle.lowering.proofs.All.{AllItems, AllPiece, AllFields, Each, all-append, all-gather, all-each, all-changed, other-changed}
 use Rattle.lowering.proofs.Cases.{by-test, by-shape, by-key, by-rule, functionBody-is, block-is}
 use Rattle.lowering.proofs.Sites.{isNameKind, own as ownSites, sites, sitesFields, sitesPiece, sitesItems, fields-in, piece-in, two-pieces, as-node, as-items, node-in, items-in, node-and-node, items-and-node, AtMost, each-item, each-piece, each-field, each-part, sites-append, gather-light, Light, on-items, changeNode-light, changeEach-light, temporary-sites}
-use Rattle.lowering.proofs.SiteViews.{only-sites, moved-sites, movedPattern-sites, rests-in, Rest, replaced-light, objects-sum, movedOut-light, excludedKeys-sites, taken-fewer, withoutRests-fewer, none-sites}
+use Rattle.lowering.proofs.SiteViews.{only-sites, moved-sites, movedPattern-sites, nearest-sites, parts-sites, replaced-light, objects-sum, movedOut-light, excludedKeys-sites, taken-fewer, left-fewer-than, none-sites}
 
 module _ (x : ℕ) where
   -- ---- nodes that the rules make have the sites of their parts
@@ -382,6 +382,13 @@ module _ (x : ℕ) where
 
     -- ---- assignments
 
+    -- from their temporaries
+    from-kept : (is : Items) → sitesItems x is ≤ 1 → AllItems (AtMost x 1) (each (fromReference c) is)
+    from-kept is h =
+        all-each (AtMost x 1) (AtMost x 1) (fromReference c)
+        (λ q m. let a = assign-sites q (reference c q) in let y = temporary-sites x (c .path) 1 (position q) in omega arith)
+        is (each-item x 1 is h)
+
     top-kept : (n : Node) → sites x n ≤ 1 → Each (AtMost x 1) (topSequence c n)
     unfolding topSequence
     top-kept n h =
@@ -389,25 +396,24 @@ module _ (x : ℕ) where
         let t = valueOf c p in
         let z = temporary-sites x (c .path) 3 (position p) in
         let a = node-and-node x 1 2 (omega arith) n in
-        let l = withoutRests-fewer x c (depth p) p in
+        let l = left-fewer-than x c n in
         let d = assign-sites t (assigned n) in
-        let e = assign-sites (targetLeft c n) t in (
+        let e = assign-sites (targetLeft c n) t in
+        let y = rest-sites p t z in
+        let w = assign-sites (rest p) (restValue c p t) in
+        let g = parts-sites x false (depth p) p in
+        let i = items-in x 0 p in (
           (
             omega arith,
             (
               omega arith,
-              all-append (AtMost x 1) (each (λ q. assign (rest q) (restValue c q t)) (restsOf n)) (cond (c .statement) none (only t))
-                  (all-each (Rest x 1) (AtMost x 1) (λ q. assign (rest q) (restValue c q t))
-                  (λ q g. let y = rest-sites q t z in let w = assign-sites (rest q) (restValue c q t) in let m = g .1 in omega arith)
-                  (restsOf n) (rests-in x 1 (depth p) p (omega arith)))
-                  (by-test (c .statement) (λ s. rw (s, AllItems) tt) (λ s. rw (s, AllItems) (omega arith, tt))),
+              all-append (AtMost x 1) (each (fromReference c) (partsOf p)) (item (assign (rest p) (restValue c p t)) (cond (c .statement) none (only t)))
+                  (from-kept (partsOf p) (omega arith))
+                  (omega arith, by-test (c .statement) (λ s. rw (s, AllItems) tt) (λ s. rw (s, AllItems) (omega arith, tt))),
             ),
           ),
           tt,
         )
-
-    objects-kept : (p : Node) → sites x p ≤ 1 → AllItems (AtMost x 1) (objectsBelow c p)
-    objects-kept p h = let s = objects-sum x c (depth p) p in each-item x 1 (objectsBelow c p) (omega arith)
 
     nested-kept : (n : Node) → sites x n ≤ 1 → Each (AtMost x 1) (nestedSequence c n)
     unfolding nestedSequence
@@ -416,9 +422,7 @@ module _ (x : ℕ) where
         let t = node-in x 1 n in (
           (
             omega arith,
-            all-each (AtMost x 1) (AtMost x 1) (λ q. assign q (reference c q))
-                (λ q m. let a = assign-sites q (reference c q) in let y = temporary-sites x (c .path) 1 (position q) in omega arith)
-                (objectsBelow c (target n)) (objects-kept (target n) (omega arith)),
+            let s = nearest-sites x true (depth (target n)) (target n) in from-kept (outermost (target n)) (omega arith),
           ),
           tt,
         )

@@ -1,7 +1,7 @@
 -- The views of patterns have at most as many sites as the patterns, and what is found below them no more than there is.
 -- Assumes nothing.
 use mathlib.Core.Path.{_≡_, refl, ap, _∙_}
-use mathlib.Core.Bool.{true, false, cond, false≢true}
+use mathlib.Core.Bool.{Bool, true, false, cond, false≢true}
 use mathlib.Core.List.{List}
 use Prim.Native.Nat.{ℕ, zero, suc, _+_, _≤_}
 use native.Mathlib.Omega.{arith}
@@ -12,9 +12,9 @@ use Rattle.lowering.specs.Parts.{nothing, position, is, pieceIn, changeI
 use Rattle.lowering.specs.Made.{Context, reference, keyOf, string}
 use Rattle.lowering.specs.Patterns.{shape, properties, itemsOf, rest, hasRest, leftOf, key, value, withItems, withProperties, withValues, hasNestedObjectRest, replaced, objectsWithRest}
 use Rattle.lowering.specs.Keys.{keySort, excludedKey, keptKey, excludedKeys, taken, entryOf, keyText}
-use Rattle.lowering.specs.Assignments.{restsThroughObjects, withoutRests}
+use Rattle.lowering.specs.Assignments.{target, nearest, partsReplaced, targetLeft}
 use Rattle.lowering.specs.Heads.{moved, movedPattern, movedOut}
-use Rattle.lowering.proofs.All.{AllItems, all-append, all-gather, all-unit}
+use Rattle.lowering.proofs.All.{AllItems, all-append, all-cond, all-gather, all-unit}
 use Rattle.lowering.proofs.Clauses.{objects-object, objects-array, objects-default, objects-leaf, replaced-object, replaced-array, replaced-default, replaced-leaf}
 use Rattle.lowering.proofs.Cases.{by-test, by-shape, object-is, array-is, default-is, by-key, is-changed, by-entry}
 use Rattle.lowering.proofs.Sites.{isNameKind, direct, directPiece, own, other-fields, here, hereItems, sites, sitesFields, sitesItems, Light, node-in, items-in, items-and-node, each-item, sites-append, here-append, gather-light, changeNode-light, changeEach-light, without-fewer, temporary-sites, items-sum, node-sum, shell, shells, shells-append, object-whole, array-here, default-here, gather-shells, gather-here, Object}
@@ -78,6 +78,10 @@ module _ (x : ℕ) where
   unfolding shells
   none-shells = refl
 
+  cond-at-most : (b : Bool) (is js : Items) (m : ℕ) → sitesItems x is ≤ m → sitesItems x js ≤ m → sitesItems x (cond b is js) ≤ m
+  cond-at-most true is js m h k = h
+  cond-at-most false is js m h k = k
+
   -- ---- a pattern with an object rest below it is no leaf
 
   pub object-here : (p : Node) → is 34 p ≡ true → here x (position p) ≤ sites x p
@@ -138,43 +142,46 @@ module _ (x : ℕ) where
       (λ e. rw (e, movedPattern) (node-in x 0 p))
       (λ e. rw (e, movedPattern) (omega arith))
 
-  -- ---- rests reached through objects
+  -- ---- the objects with rest nearest below a pattern
 
-  pub rests-shells : (d : ℕ) (p : Node) → shells x (restsThroughObjects d p) ≤ sites x p
-  unfolding restsThroughObjects
-  rests-shells zero p = let z = none-shells in omega arith
-  rests-shells (suc d) p =
-      let z = none-shells in
-      let o = only-shells p in
-      by-shape (shape p)
-      (λ e. rw (e, restsThroughObjects)
-      (let inner = gather (λ q. restsThroughObjects d (value q)) (properties p) in
-      let a = gather-shells x (λ q. restsThroughObjects d (value q)) (λ q. let r = rests-shells d (value q) in let v = node-in x 1 q in omega arith) (properties p) in
-      let b = object-whole x p (object-is p e) in
-      by-test (hasRest p)
-      (λ r. rw r (let w = shells-append x inner (only p) in omega arith))
-      (λ r. rw r (let w = shells-append x inner none in omega arith))))
-      (λ e. rw (e, restsThroughObjects) (omega arith))
-      (λ e. rw (e, restsThroughObjects) (let r = rests-shells d (leftOf p) in let v = node-in x 0 p in omega arith))
-      (λ e. rw (e, restsThroughObjects) (omega arith))
+  module _ (arrays : Bool) where
+    pub nearest-sites : (d : ℕ) (p : Node) → sitesItems x (nearest arrays d p) ≤ sites x p
+    unfolding nearest
+    nearest-sites zero p = let z = none-sites in omega arith
+    nearest-sites (suc d) p =
+        let z = none-sites in
+        let o = only-sites p in
+        let i = items-in x 0 p in
+        by-shape (shape p)
+        (λ e. rw (e, nearest)
+        (let a = gather-light x (λ q. nearest arrays d (value q)) (λ q. let r = nearest-sites d (value q) in let v = node-in x 1 q in omega arith) (properties p) in
+        by-test (hasRest p) (λ r. rw r (omega arith)) (λ r. rw r (omega arith))))
+        (λ e. rw (e, nearest)
+        (let a = gather-light x (λ m. nearest arrays d m) (nearest-sites d) (itemsOf p) in
+        cond-at-most arrays (gather (λ m. nearest arrays d m) (itemsOf p)) none (sites x p) (omega arith) (omega arith)))
+        (λ e. rw (e, nearest) (let r = nearest-sites d (leftOf p) in let v = node-in x 0 p in omega arith))
+        (λ e. rw (e, nearest) (omega arith))
 
-  -- each of them is an object pattern, with at most as many sites
-  abbrev pub Rest : ℕ → Node → Type 0
-  Rest b q = (is 34 q ≡ true) × (sites x q ≤ b)
+    -- those below the values of an object
+    pub parts-sites : (d : ℕ) (p : Node) → sitesItems x (gather (λ q. nearest arrays d (value q)) (properties p)) ≤ sitesItems x (properties p)
+    parts-sites d p =
+        gather-light x (λ q. nearest arrays d (value q)) (λ q. let r = nearest-sites d (value q) in let v = node-in x 1 q in omega arith) (properties p)
 
-  pub rests-in : (b d : ℕ) (p : Node) → sites x p ≤ b → AllItems (Rest b) (restsThroughObjects d p)
-  unfolding restsThroughObjects
-  rests-in b zero p h = tt
-  rests-in b (suc d) p h =
-      by-shape (shape p)
-      (λ e. rw (e, restsThroughObjects, AllItems)
-      (all-append (Rest b) (gather (λ q. restsThroughObjects d (value q)) (properties p)) (cond (hasRest p) (only p) none)
-      (all-gather (λ q. sites x q ≤ b) (Rest b) (λ q. restsThroughObjects d (value q))
-      (λ q l. let v = node-in x 1 q in rests-in b d (value q) (omega arith)) (properties p) (let i = items-in x 0 p in each-item x b (properties p) (omega arith)))
-      (by-test (hasRest p) (λ r. rw (r, AllItems) ((object-is p e, h), tt)) (λ r. rw (r, AllItems) tt))))
-      (λ e. rw (e, restsThroughObjects, AllItems) tt)
-      (λ e. rw (e, restsThroughObjects, AllItems) (let v = node-in x 0 p in rests-in b d (leftOf p) (omega arith)))
-      (λ e. rw (e, restsThroughObjects, AllItems) tt)
+    pub nearest-are : (d : ℕ) (p : Node) → AllItems (Object x) (nearest arrays d p)
+    unfolding nearest
+    nearest-are zero p = tt
+    nearest-are (suc d) p =
+        by-shape (shape p)
+        (λ e. rw (e, nearest, AllItems)
+        (all-cond (Object x) (hasRest p) (only p) (gather (λ q. nearest arrays d (value q)) (properties p)) (object-is p e, tt) (parts-are d p (nearest-are d))))
+        (λ e. rw (e, nearest, AllItems)
+        (all-cond (Object x) arrays (gather (λ m. nearest arrays d m) (itemsOf p)) none
+        (all-gather (λ q. Unit {0}) (Object x) (λ m. nearest arrays d m) (λ q l. nearest-are d q) (itemsOf p) (all-unit (itemsOf p))) tt))
+        (λ e. rw (e, nearest, AllItems) (nearest-are d (leftOf p)))
+        (λ e. rw (e, nearest, AllItems) tt)
+      where
+        parts-are : (d : ℕ) (p : Node) → ((m : Node) → AllItems (Object x) (nearest arrays d m)) → AllItems (Object x) (gather (λ q. nearest arrays d (value q)) (properties p))
+        parts-are d p are = all-gather (λ q. Unit {0}) (Object x) (λ q. nearest arrays d (value q)) (λ q l. are (value q)) (properties p) (all-unit (properties p))
 
   string-sites : (bs : List ℕ) → sites x (string bs) ≡ 0
   unfolding sites own isNameKind
@@ -368,27 +375,38 @@ module _ (x : ℕ) where
     unfolding taken change without
     taken-stays (node at k fs) = by-test (hasRest (node at k fs)) (λ e. rw e refl) (λ e. rw e refl)
 
-    -- ---- a target without its rests
+    -- ---- a target without its rest, a temporary in place of each part
 
-    without-stays : (d : ℕ) (p : Node) → position (withoutRests c d p) ≡ position p
-    unfolding withoutRests change
-    without-stays zero p = refl
-    without-stays (suc d) (node at k fs) =
+    parts-stays : (d : ℕ) (p : Node) → position (partsReplaced c d p) ≡ position p
+    unfolding partsReplaced change
+    parts-stays zero p = refl
+    parts-stays (suc d) (node at k fs) =
         by-shape (shape (node at k fs))
-        (λ e. rw (e, withoutRests) (taken-stays (withValues (λ v. withoutRests c d v) (node at k fs))))
-        (λ e. rw (e, withoutRests) refl)
-        (λ e. rw (e, withoutRests) refl)
-        (λ e. rw (e, withoutRests) refl)
+        (λ e. rw (e, partsReplaced) (by-test (hasRest (node at k fs)) (λ r. rw r refl) (λ r. rw r refl)))
+        (λ e. rw (e, partsReplaced) refl)
+        (λ e. rw (e, partsReplaced) refl)
+        (λ e. rw (e, partsReplaced) refl)
 
-    pub withoutRests-fewer : (d : ℕ) (p : Node) → sites x (withoutRests c d p) ≤ sites x p
-    unfolding withoutRests
-    withoutRests-fewer zero p = omega arith
-    withoutRests-fewer (suc d) p =
-        let f : Node → Node = λ v. withoutRests c d v in
-        let l : Light x f = record { fewer = withoutRests-fewer d; stays = without-stays d } in
+    partsReplaced-fewer : (d : ℕ) (p : Node) → sites x (partsReplaced c d p) ≤ sites x p
+    unfolding partsReplaced
+    partsReplaced-fewer zero p = omega arith
+    partsReplaced-fewer (suc d) p =
+        let f : Node → Node = λ v. partsReplaced c d v in
+        let l : Light x f = record { fewer = partsReplaced-fewer d; stays = parts-stays d } in
         by-shape (shape p)
-        (λ e. rw (e, withoutRests)
-        (let a = taken-fewer (withValues f p) in let b = changeEach-light x 0 (λ q. changeNode 1 f q) (changeNode-light x 1 f l) .fewer p in omega arith))
-        (λ e. rw (e, withoutRests) (omega arith))
-        (λ e. rw (e, withoutRests) (changeNode-light x 0 f l .fewer p))
-        (λ e. rw (e, withoutRests) (omega arith))
+        (λ e. rw (e, partsReplaced)
+        (by-test (hasRest p)
+        (λ r. rw r (reference-light p))
+        (λ r. rw r (changeEach-light x 0 (λ q. changeNode 1 f q) (changeNode-light x 1 f l) .fewer p))))
+        (λ e. rw (e, partsReplaced) (omega arith))
+        (λ e. rw (e, partsReplaced) (changeNode-light x 0 f l .fewer p))
+        (λ e. rw (e, partsReplaced) (omega arith))
+
+    pub left-fewer-than : (n : Node) → sites x (targetLeft c n) ≤ sites x (target n)
+    left-fewer-than n =
+        let p = target n in
+        let f : Node → Node = λ v. partsReplaced c (depth p) v in
+        let l : Light x f = record { fewer = partsReplaced-fewer (depth p); stays = parts-stays (depth p) } in
+        let a = taken-fewer (withValues f p) in
+        let b = changeEach-light x 0 (λ q. changeNode 1 f q) (changeNode-light x 1 f l) .fewer p in
+        omega arith

@@ -1,7 +1,7 @@
 -- Declarations and assignments put no temporary into the tree, the entries or the excluded keys but those that they make; and so no
 -- rewriting does.
 -- Assumes nothing.
-use mathlib.Core.Path.{_≡_, refl, ap, _∙_}
+use mathlib.Core.Path.{_≡_, sym, refl, ap, _∙_}
 use mathlib.Core.Bool.{Bool, true, false, cond}
 use Prim.Native.Nat.{ℕ, zero, suc, _+_, _≤_}
 use native.Mathlib.Omega.{arith}
@@ -10,12 +10,12 @@ use Rattle.tree.specs.Tree.Node.{node}
 use Rattle.tree.specs.Tree.Items.{none, hole, item}
 use Rattle.lowering.specs.Parts.{position, kind, is, pieceIn, nodeAt, itemsAt, onItems, changeNode, only, each, gather, _+++_}
 use Rattle.lowering.specs.Made.{Context, reference, valueOf, sequence, assign, declares, declared, idOf}
-use Rattle.lowering.specs.Patterns.{shape, properties, rest, hasRest, leftOf, value, withValues, hasObjectRest, hasArrayRestOverObjectRest, objectsWithRest, replacedBelow, objectsBelow}
+use Rattle.lowering.specs.Patterns.{shape, properties, itemsOf, rest, hasRest, leftOf, value, withValues, hasObjectRest, hasArrayRestOverObjectRest, objectsWithRest, replaced, replacedBelow, objectsBelow}
 use Rattle.lowering.specs.Patterns.Shape.{objectPattern, arrayPattern, default, leaf}
 use Rattle.lowering.specs.Keys.{keyTemporaries, taken}
 use Rattle.lowering.specs.Rests.{hasNoProperties, restValue, excludedFor, restMakes}
 use Rattle.lowering.specs.Declarations.{isName, source, sourceDeclarator, keysBefore, patternDeclarator, restDeclarator, nestedBelow, objectDeclarators, patternDeclarators, lowerDeclarator, innerObjects, declaratorMakes, isLowered, declarators, loweredIn, declaration, declarationMakes, declarationExcludes, declarationLacksForm}
-use Rattle.lowering.specs.Assignments.{isTop, target, assigned, restsThroughObjects, restsOf, withoutRests, targetLeft, topSequence, topEntry, topExcludes, topMakes, topLacksForm, nestedSequence, nestedEntry, nestedMakes}
+use Rattle.lowering.specs.Assignments.{isTop, target, assigned, nearest, partsOf, partsReplaced, targetLeft, fromReference, outermost, topSequence, topEntry, topExcludes, topMakes, topLacksForm, nestedSequence, nestedEntry, nestedMakes}
 use Rattle.lowering.specs.Heads.{function, functionMakes, arrow, arrowMakes, catch, catchMakes, declaringHead, declaringMakes, assigningHead, assigningMakes}
 use Rattle.lowering.specs.Walk.{Step, rewritten, ruleOf, rewrite, stepDeclaration, stepTop, stepAssignment, stepFor}
 use Rattle.lowering.specs.Collect.{Name}
@@ -23,9 +23,9 @@ use Rattle.lowering.proofs.All.{AllItems, all-gather}
 use Rattle.lowering.proofs.Cases.{by-test, by-shape, by-rule, object-is, is-changed}
 use Rattle.lowering.proofs.WeightKeys.{rest-changed}
 use Rattle.lowering.proofs.Levels.{below-object}
-use Rattle.lowering.proofs.Clauses.{without-object, without-default, taken-none, inner-object, inner-array, rests-object, rests-default}
+use Rattle.lowering.proofs.Clauses.{parts-object, parts-array, parts-default, parts-leaf, nearest-object, nearest-array, nearest-default, replaced-object, replaced-array, replaced-default, replaced-leaf, inner-object, inner-array, top-34}
 use Rattle.lowering.proofs.MadeAtSites.{times, times-append, only-times, entry-refs, entry-times, no-ids}
-use Rattle.lowering.proofs.Occurs.{occurs, occursItems, node-in, items-in, Free, each-item, occurs-append, only-occurs, none-occurs, nothing-occurs, temporary-occurs, items-more, node-more, gathered, refs, objects-sum, replaced-more}
+use Rattle.lowering.proofs.Occurs.{occurs, occursItems, node-in, items-in, Free, each-item, occurs-append, only-occurs, none-occurs, nothing-occurs, temporary-occurs, items-more, node-more, gathered, refs, ref-times, objects-sum, replaced-more}
 use Rattle.lowering.proofs.SoundKeys.{assign-occurs, declares-occurs, declared-occurs, all-free, gather-zero, keys-free, taken-more, rest-split, rest-free, excluded-free, keysBefore-free, pattern-free, restDeclarator-free, Unmade, unmade-each, one-made, nested-free}
 use Rattle.lowering.proofs.SoundRules.{keys-value, items-free-at, node-free-at, literal-free, function-free, arrow-free, catch-free, declaring-free, assigning-free}
 use Rattle.lowering.proofs.ItemLaws.{each-append, gather-append, gather-gather}
@@ -291,169 +291,112 @@ module _ (a : Name) where
         let w = occurs-append a (h n) (gather h is) in
         omega arith
 
-    rests-free : (d : ℕ) (p : Node) → Free a p → occursItems a (restsThroughObjects d p) ≡ 0
-    unfolding restsThroughObjects
-    rests-free zero p f = none-occurs a
-    rests-free (suc d) p f =
+    cond-free : (b : Bool) (is js : Items) → occursItems a is ≡ 0 → occursItems a js ≡ 0 → occursItems a (cond b is js) ≡ 0
+    cond-free true is js u v = u
+    cond-free false is js u v = v
+
+    nearest-free : (arrays : Bool) (d : ℕ) (p : Node) → Free a p → occursItems a (nearest arrays d p) ≡ 0
+    unfolding nearest
+    nearest-free arrays zero p f = none-occurs a
+    nearest-free arrays (suc d) p f =
         let i = items-in a 0 p in
         let o = only-occurs a p in
         let n = none-occurs a in
         by-shape (shape p)
-        (λ e. rw (e, restsThroughObjects)
-        (let inner = gather (λ q. restsThroughObjects d (value q)) (properties p) in
-        let u = gather-free (λ q. restsThroughObjects d (value q)) (λ q g. let v = node-in a 1 q in rests-free d (value q) (omega arith)) (properties p) (omega arith) in
-        by-test (hasRest p)
-        (λ r. rw r (let w = occurs-append a inner (only p) in omega arith))
-        (λ r. rw r (let w = occurs-append a inner none in omega arith))))
-        (λ e. rw (e, restsThroughObjects) n)
-        (λ e. rw (e, restsThroughObjects) (let v = node-in a 0 p in rests-free d (leftOf p) (omega arith)))
-        (λ e. rw (e, restsThroughObjects) n)
+        (λ e. rw (e, nearest)
+        (let u = gather-free (λ q. nearest arrays d (value q)) (λ q g. let v = node-in a 1 q in nearest-free arrays d (value q) (omega arith)) (properties p) (omega arith) in
+        by-test (hasRest p) (λ r. rw r (omega arith)) (λ r. rw r u)))
+        (λ e. rw (e, nearest)
+        (cond-free arrays (gather (λ m. nearest arrays d m) (itemsOf p)) none
+        (gather-free (λ m. nearest arrays d m) (λ m g. nearest-free arrays d m g) (itemsOf p) (omega arith)) n))
+        (λ e. rw (e, nearest) (let v = node-in a 0 p in nearest-free arrays d (leftOf p) (omega arith)))
+        (λ e. rw (e, nearest) n)
 
-    -- what is made for rests: keys, and excluded keys
-    rests-split : (ps : Items) → times a (gather (restMakes c) ps) ≡ times a (each idOf (gather (keyTemporaries c) ps)) + times a (each idOf (gather (excludedFor c) ps))
-    unfolding gather each times
-    rests-split none = refl
-    rests-split (hole ps) = rests-split ps
-    rests-split (item p ps) =
-        let h = rests-split ps in
-        let r = rest-split a c p in
-        let g = times-append a (restMakes c p) (gather (restMakes c) ps) in
-        let s = ap (times a) (each-append idOf (keyTemporaries c p) (gather (keyTemporaries c) ps)) in
-        let t = times-append a (each idOf (keyTemporaries c p)) (each idOf (gather (keyTemporaries c) ps)) in
-        let u = ap (times a) (each-append idOf (excludedFor c p) (gather (excludedFor c) ps)) in
-        let v = times-append a (each idOf (excludedFor c p)) (each idOf (gather (excludedFor c) ps)) in
-        omega arith
+    parts-free : (p : Node) → Free a p → occursItems a (partsOf p) ≡ 0
+    parts-free p f =
+        let i = items-in a 0 p in
+        gather-free (λ q. nearest false (depth p) (value q)) (λ q g. let v = node-in a 1 q in nearest-free false (depth p) (value q) (omega arith)) (properties p) (omega arith)
 
-    -- the keys made for the rests below p
-    abbrev below : ℕ → Node → Items
-    below d p = each idOf (gather (keyTemporaries c) (restsThroughObjects d p))
+    -- ---- a pattern with objects replaced has more of a only if their temporaries are a
 
-    without-other : (d : ℕ) (p : Node) → (shape p ≡ arrayPattern → withoutRests c (suc d) p ≡ p) × (shape p ≡ leaf → withoutRests c (suc d) p ≡ p)
-    unfolding withoutRests
-    without-other d p = ((λ e. rw (e, withoutRests)), (λ e. rw (e, withoutRests)))
+    abbrev nearestRefs : Bool → ℕ → Node → Items
+    nearestRefs arrays d v = refs a c (nearest arrays d v)
 
-    -- keys of the values, and of the object itself
-    below-split : (d : ℕ) (p : Node) (ps : Items) → times a (each idOf (gather (keyTemporaries c) (gather (λ q. restsThroughObjects d (value q)) (properties p) +++ ps)))
-        ≡ times a (gather (λ q. below d (value q)) (properties p)) + times a (each idOf (gather (keyTemporaries c) ps))
-    below-split d p ps =
-        let h : Node → Items = λ q. restsThroughObjects d (value q) in
-        let inner = gather h (properties p) in
-        let g = ap (λ (is : Items). times a (each idOf is)) (gather-append (keyTemporaries c) inner ps) in
-        let s = ap (times a) (each-append idOf (gather (keyTemporaries c) inner) (gather (keyTemporaries c) ps)) in
-        let t = times-append a (each idOf (gather (keyTemporaries c) inner)) (each idOf (gather (keyTemporaries c) ps)) in
-        let k = ap (λ (is : Items). times a (each idOf is)) (gather-gather (keyTemporaries c) h (properties p)) in
-        let m = gathered a idOf (λ q. gather (keyTemporaries c) (h q)) (properties p) in
-        omega arith
+    values-refs : (arrays : Bool) (d : ℕ) (p : Node) → times a (refs a c (gather (λ q. nearest arrays d (value q)) (properties p))) ≡ times a (gather (λ q. nearestRefs arrays d (value q)) (properties p))
+    values-refs arrays d p = sym (gathered a (λ q. reference c q) (λ q. nearest arrays d (value q)) (properties p))
 
-    only-keys : (p : Node) → times a (each idOf (gather (keyTemporaries c) (only p))) ≡ times a (each idOf (keyTemporaries c p))
-    unfolding gather
-    only-keys p =
-        let s = ap (times a) (each-append idOf (keyTemporaries c p) none) in
-        let t = times-append a (each idOf (keyTemporaries c p)) (each idOf none) in
-        let z = no-ids a in
-        omega arith
+    parts-none : (p : Node) → occurs a (partsReplaced c 0 p) ≤ occurs a p
+    unfolding partsReplaced
+    parts-none p = omega arith
 
-    without-more : (d : ℕ) (p : Node) → occurs a (withoutRests c d p) ≤ occurs a p + times a (below d p)
-    unfolding withoutRests
-    without-more zero p = omega arith
-    without-more (suc d) p =
-        let f : Node → Node = λ v. withoutRests c d v in
+    parts-more : (d : ℕ) (p : Node) → occurs a (partsReplaced c d p) ≤ occurs a p + times a (nearestRefs false d p)
+    parts-more zero p = let h = parts-none p in omega arith
+    parts-more (suc d) p =
+        let f : Node → Node = λ v. partsReplaced c d v in
         by-shape (shape p)
         (λ e.
-        let w = withValues f p in
-        let h : Piece → Piece = onItems (each (λ y. changeNode 1 f y)) in
-        let u = items-more a (λ q. changeNode 1 f q) (λ q. below d (value q)) (λ q. node-more a f (λ v. below d v) (without-more d) 1 q) 0 p in
-        let k = ap (λ (is : Items). times a (each idOf is)) (keys-value c f p) in
-        let o = ap (occurs a) (without-object c d p e) in
-        let b = ap (λ (is : Items). times a (each idOf (gather (keyTemporaries c) is))) (rests-object d p e) in
-        let s = below-split d p (cond (hasRest p) (only p) none) in
+        let o = ap (occurs a) (parts-object c d p e) in
+        let m = ap (λ (is : Items). times a (refs a c is)) (nearest-object false d p e) in
         by-test (hasRest p)
         (λ r.
-        let t = taken-more a c w (is-changed 0 h p 34 ∙ object-is p e) in
-        let x = only-keys p in
-        let s′ : times a (each idOf (gather (keyTemporaries c) (gather (λ q. restsThroughObjects d (value q)) (properties p) +++ cond (hasRest p) (only p) none)))
-        ≡ times a (gather (λ q. below d (value q)) (properties p)) + times a (each idOf (gather (keyTemporaries c) (only p))) =
-        s ∙ ap (λ (t : Bool). times a (gather (λ q. below d (value q)) (properties p)) + times a (each idOf (gather (keyTemporaries c) (cond t (only p) none)))) r in
+        let o′ : occurs a (partsReplaced c (suc d) p) ≡ occurs a (reference c p) = rw r at o in
+        let m′ : times a (nearestRefs false (suc d) p) ≡ times a (refs a c (only p)) = rw r at m in
+        let t = ref-times a c p in
         omega arith)
         (λ r.
-        let t = ap (occurs a) (taken-none c w (rest-changed 0 h p ∙ r)) in
+        let o′ : occurs a (partsReplaced c (suc d) p) ≡ occurs a (withValues f p) = rw r at o in
+        let m′ : times a (nearestRefs false (suc d) p) ≡ times a (refs a c (gather (λ q. nearest false d (value q)) (properties p))) = rw r at m in
+        let g = values-refs false d p in
+        let u = items-more a (λ q. changeNode 1 f q) (λ q. nearestRefs false d (value q)) (λ q. node-more a f (λ v. nearestRefs false d v) (parts-more d) 1 q) 0 p in
         omega arith))
-        (λ e. let o = ap (occurs a) (without-other d p .0 e) in omega arith)
+        (λ e. let o = ap (occurs a) (parts-array c d p e) in omega arith)
         (λ e.
-        let u = node-more a f (λ v. below d v) (without-more d) 0 p in
-        let o = ap (occurs a) (without-default c d p e) in
-        let b = ap (λ (is : Items). times a (each idOf (gather (keyTemporaries c) is))) (rests-default d p e) in
+        let o = ap (occurs a) (parts-default c d p e) in
+        let m = ap (λ (is : Items). times a (refs a c is)) (nearest-default false d p e) in
+        let u = node-more a f (λ v. nearestRefs false d v) (parts-more d) 0 p in
         omega arith)
-        (λ e. let o = ap (occurs a) (without-other d p .1 e) in omega arith)
+        (λ e. let o = ap (occurs a) (parts-leaf c d p e) in omega arith)
 
-    -- the assignments of the rests
-    assigned-free : (t : Node) → Free a t → (ps : Items) → occursItems a ps ≡ 0 → times a (gather (restMakes c) ps) ≡ 0 → occursItems a (each (λ p. assign (rest p) (restValue c p t)) ps) ≡ 0
-    unfolding gather each occurs
-    assigned-free t f none y z = refl
-    assigned-free t f (hole ps) y z = assigned-free t f ps y z
-    assigned-free t f (item p ps) y z =
-        let g = times-append a (restMakes c p) (gather (restMakes c) ps) in
-        let u = assigned-free t f ps (omega arith) (omega arith) in
-        let v = rest-free a c p t (omega arith) f (omega arith) in
-        let w = assign-occurs a (rest p) (restValue c p t) in
-        let n = node-in a 1 p in
-        omega arith
+    nearest-none : (p : Node) → occurs a (replaced c 0 p) ≤ occurs a p
+    unfolding replaced
+    nearest-none p = omega arith
 
-    top-split : (n : Node) → times a (topMakes c n)
-        ≡ occurs a (valueOf c (target n)) + (times a (each idOf (gather (keyTemporaries c) (restsOf n))) + times a (each idOf (gather (excludedFor c) (restsOf n))))
-    unfolding topMakes topExcludes
-    top-split n =
-        let s = times-append a (each idOf (topEntry c n)) (each idOf (gather (excludedFor c) (restsOf n))) in
-        let t = entry-times a c n in
-        let u = temporary-occurs a (c .path) 3 (position (target n)) in
-        omega arith
+    nearest-more : (d : ℕ) (p : Node) → occurs a (replaced c d p) ≤ occurs a p + times a (nearestRefs true d p)
+    nearest-more zero p = let h = nearest-none p in omega arith
+    nearest-more (suc d) p =
+        let f : Node → Node = λ v. replaced c d v in
+        by-shape (shape p)
+        (λ e.
+        let o = ap (occurs a) (replaced-object c d p e) in
+        let m = ap (λ (is : Items). times a (refs a c is)) (nearest-object true d p e) in
+        by-test (hasRest p)
+        (λ r.
+        let o′ : occurs a (replaced c (suc d) p) ≡ occurs a (reference c p) = rw r at o in
+        let m′ : times a (nearestRefs true (suc d) p) ≡ times a (refs a c (only p)) = rw r at m in
+        let t = ref-times a c p in
+        omega arith)
+        (λ r.
+        let o′ : occurs a (replaced c (suc d) p) ≡ occurs a (withValues f p) = rw r at o in
+        let m′ : times a (nearestRefs true (suc d) p) ≡ times a (refs a c (gather (λ q. nearest true d (value q)) (properties p))) = rw r at m in
+        let g = values-refs true d p in
+        let u = items-more a (λ q. changeNode 1 f q) (λ q. nearestRefs true d (value q)) (λ q. node-more a f (λ v. nearestRefs true d v) (nearest-more d) 1 q) 0 p in
+        omega arith))
+        (λ e.
+        let o = ap (occurs a) (replaced-array c d p e) in
+        let m = ap (λ (is : Items). times a (refs a c is)) (nearest-array true d p e) in
+        let g = gathered a (λ q. reference c q) (λ q. nearest true d q) (itemsOf p) in
+        let u = items-more a f (λ q. nearestRefs true d q) (nearest-more d) 0 p in
+        omega arith)
+        (λ e.
+        let o = ap (occurs a) (replaced-default c d p e) in
+        let m = ap (λ (is : Items). times a (refs a c is)) (nearest-default true d p e) in
+        let u = node-more a f (λ v. nearestRefs true d v) (nearest-more d) 0 p in
+        omega arith)
+        (λ e. let o = ap (occurs a) (replaced-leaf c d p e) in omega arith)
 
-    top-free : (n : Node) → Free a n → times a (topMakes c n) ≡ 0 → Free a (topSequence c n)
-    unfolding topSequence
-    top-free n f z =
-        let p = target n in
-        let t = valueOf c p in
-        let s = top-split n in
-        let r = rests-split (restsOf n) in
-        let i = node-in a 1 n in
-        let j = node-in a 2 n in
-        let w = without-more (depth p) p in
-        let y = rests-free (depth p) p (omega arith) in
-        let v = assigned-free t (omega arith) (restsOf n) y (omega arith) in
-        let d = assign-occurs a t (assigned n) in
-        let e = assign-occurs a (targetLeft c n) t in
-        let rs = each (λ q. assign (rest q) (restValue c q t)) (restsOf n) in
-        let last = cond (c .statement) none (only t) in
-        let k = occurs-append a rs last in
-        let l = last-free t (c .statement) (omega arith) in
-        let m = sequence-occurs (item (assign t (assigned n)) (item (assign (targetLeft c n) t) (rs +++ last))) in
-        let o = item-occurs (assign t (assigned n)) (item (assign (targetLeft c n) t) (rs +++ last)) in
-        let q = item-occurs (assign (targetLeft c n) t) (rs +++ last) in
-        omega arith
+    -- ---- assignments from temporaries, and their declarators
 
-    topEntry-free : (n : Node) → Free a n → times a (topMakes c n) ≡ 0 → occursItems a (topEntry c n) ≡ 0
-    unfolding topEntry
-    topEntry-free n f z =
-        let s = top-split n in
-        let i = node-in a 1 n in
-        let y = rests-free (depth (target n)) (target n) (omega arith) in
-        let g = gathered a idOf (keyTemporaries c) (restsOf n) in
-        let k = gather-zero a (keyTemporaries c) (λ p. each idOf (keyTemporaries c p)) (λ p u v. keys-free a c p u v) (restsOf n) y (omega arith) in
-        let d = declared-occurs a (valueOf c (target n)) in
-        let o = item-occurs (declared (valueOf c (target n))) (gather (keyTemporaries c) (restsOf n)) in
-        omega arith
-
-    topExcludes-free : (n : Node) → Free a n → times a (topMakes c n) ≡ 0 → occursItems a (topExcludes c n) ≡ 0
-    unfolding topExcludes
-    topExcludes-free n f z =
-        let s = top-split n in
-        let r = rests-split (restsOf n) in
-        let i = node-in a 1 n in
-        excluded-all (restsOf n) (rests-free (depth (target n)) (target n) (omega arith)) (omega arith)
-
-    -- ---- other assignments
-
-    refs-assigned : (ps : Items) → occursItems a ps ≡ 0 → times a (refs a c ps) ≡ 0 → occursItems a (each (λ p. assign p (reference c p)) ps) ≡ 0
+    refs-assigned : (ps : Items) → occursItems a ps ≡ 0 → times a (refs a c ps) ≡ 0 → occursItems a (each (fromReference c) ps) ≡ 0
     unfolding each occurs times
     refs-assigned none y z = refl
     refs-assigned (hole ps) y z = refs-assigned ps y z
@@ -473,9 +416,87 @@ module _ (a : Name) where
         let w = declared-occurs a (reference c p) in
         omega arith
 
-    nested-times : (n : Node) → times a (nestedMakes c n) ≡ times a (refs a c (objectsBelow c (target n)))
+    -- ---- an assignment to an object with rest
+
+    top-split : (n : Node) → times a (topMakes c n)
+        ≡ occurs a (valueOf c (target n)) + (times a (refs a c (partsOf (target n))) + times a (restMakes c (target n)))
+    unfolding topMakes topExcludes
+    top-split n =
+        let p = target n in
+        let s = times-append a (each idOf (topEntry c n)) (each idOf (excludedFor c p)) in
+        let t = entry-times a c n in
+        let r = rest-split a c p in
+        let u = temporary-occurs a (c .path) 3 (position p) in
+        omega arith
+
+    -- what is left of the target
+    left-more : (n : Node) → is 34 (target n) ≡ true
+        → occurs a (targetLeft c n) ≤ occurs a (target n) + (times a (refs a c (partsOf (target n))) + times a (each idOf (keyTemporaries c (target n))))
+    left-more n e =
+        let p = target n in
+        let f : Node → Node = λ v. partsReplaced c (depth p) v in
+        let h : Piece → Piece = onItems (each (λ y. changeNode 1 f y)) in
+        let u = items-more a (λ q. changeNode 1 f q) (λ q. nearestRefs false (depth p) (value q)) (λ q. node-more a f (λ v. nearestRefs false (depth p) v) (parts-more (depth p)) 1 q) 0 p in
+        let g = values-refs false (depth p) p in
+        let k = ap (λ (is : Items). times a (each idOf is)) (keys-value c f p) in
+        let t = taken-more a c (withValues f p) (is-changed 0 h p 34 ∙ e) in
+        omega arith
+
+    top-free : (n : Node) → isTop (target n) ≡ true → Free a n → times a (topMakes c n) ≡ 0 → Free a (topSequence c n)
+    unfolding topSequence
+    top-free n top f z =
+        let p = target n in
+        let t = valueOf c p in
+        let s = top-split n in
+        let r = rest-split a c p in
+        let i = node-in a 1 n in
+        let j = node-in a 2 n in
+        let w = left-more n (top-34 p top) in
+        let y = parts-free p (omega arith) in
+        let v = refs-assigned (partsOf p) y (omega arith) in
+        let x = rest-free a c p t (omega arith) (omega arith) (omega arith) in
+        let b = node-in a 1 p in
+        let g = assign-occurs a (rest p) (restValue c p t) in
+        let d = assign-occurs a t (assigned n) in
+        let e = assign-occurs a (targetLeft c n) t in
+        let rs = each (fromReference c) (partsOf p) in
+        let end = cond (c .statement) none (only t) in
+        let last = item (assign (rest p) (restValue c p t)) end in
+        let k = occurs-append a rs last in
+        let l = last-free t (c .statement) (omega arith) in
+        let m = sequence-occurs (item (assign t (assigned n)) (item (assign (targetLeft c n) t) (rs +++ last))) in
+        let o = item-occurs (assign t (assigned n)) (item (assign (targetLeft c n) t) (rs +++ last)) in
+        let q = item-occurs (assign (targetLeft c n) t) (rs +++ last) in
+        let h = item-occurs (assign (rest p) (restValue c p t)) end in
+        omega arith
+
+    topEntry-free : (n : Node) → Free a n → times a (topMakes c n) ≡ 0 → occursItems a (topEntry c n) ≡ 0
+    unfolding topEntry
+    topEntry-free n f z =
+        let p = target n in
+        let s = top-split n in
+        let r = rest-split a c p in
+        let i = node-in a 1 n in
+        let ds = each (λ q. declared (reference c q)) (partsOf p) in
+        let u = refs-declared (partsOf p) (omega arith) in
+        let k = keys-free a c p (omega arith) (omega arith) in
+        let d = declared-occurs a (valueOf c p) in
+        let w = occurs-append a ds (keyTemporaries c p) in
+        let o = item-occurs (declared (valueOf c p)) (ds +++ keyTemporaries c p) in
+        omega arith
+
+    topExcludes-free : (n : Node) → Free a n → times a (topMakes c n) ≡ 0 → occursItems a (topExcludes c n) ≡ 0
+    unfolding topExcludes
+    topExcludes-free n f z =
+        let s = top-split n in
+        let i = node-in a 1 n in
+        excluded-free a c (target n) (omega arith) (omega arith)
+
+    -- ---- other assignments
+
+    nested-times : (n : Node) → times a (nestedMakes c n) ≡ times a (refs a c (outermost (target n)))
     unfolding nestedMakes nestedEntry
-    nested-times n = ap (times a) (entry-refs a c (objectsBelow c (target n)))
+    nested-times n = ap (times a) (entry-refs a c (outermost (target n)))
 
     nestedSequence-free : (n : Node) → Free a n → times a (nestedMakes c n) ≡ 0 → Free a (nestedSequence c n)
     unfolding nestedSequence
@@ -483,17 +504,18 @@ module _ (a : Name) where
         let p = target n in
         let t = nested-times n in
         let i = node-in a 1 n in
-        let s = objects-sum a c (depth p) p in
+        let s = nearest-more (depth p) p in
+        let y = nearest-free true (depth p) p (omega arith) in
         let u = node-free-at a 1 (λ q. replacedBelow c q) n f (omega arith) in
-        let os = each (λ q. assign q (reference c q)) (objectsBelow c p) in
-        let v = refs-assigned (objectsBelow c p) (omega arith) (omega arith) in
+        let os = each (fromReference c) (outermost p) in
+        let v = refs-assigned (outermost p) y (omega arith) in
         let m = sequence-occurs (item (changeNode 1 (λ q. replacedBelow c q) n) os) in
         let o = item-occurs (changeNode 1 (λ q. replacedBelow c q) n) os in
         omega arith
 
     nestedEntry-free : (n : Node) → times a (nestedMakes c n) ≡ 0 → occursItems a (nestedEntry c n) ≡ 0
     unfolding nestedEntry
-    nestedEntry-free n z = let t = nested-times n in refs-declared (objectsBelow c (target n)) (omega arith)
+    nestedEntry-free n z = let t = nested-times n in refs-declared (outermost (target n)) (omega arith)
 
     -- ---- one rewriting
 
@@ -513,12 +535,12 @@ module _ (a : Name) where
         (λ e. rw (e, stepDeclaration) (λ z. (nothing-occurs a, none-occurs a, none-occurs a)))
         (λ e. rw (e, stepDeclaration) (λ z. (declaration-free n f z, none-occurs a, declarationExcludes-free n f z)))
 
-    tops-sound : (n : Node) → Free a n → IfUnmade (stepTop c n)
+    tops-sound : (n : Node) → isTop (target n) ≡ true → Free a n → IfUnmade (stepTop c n)
     unfolding stepTop
-    tops-sound n f =
+    tops-sound n top f =
         by-test (topLacksForm n)
         (λ e. rw (e, stepTop) (λ z. (nothing-occurs a, none-occurs a, none-occurs a)))
-        (λ e. rw (e, stepTop) (λ z. (top-free n f z, topEntry-free n f z, topExcludes-free n f z)))
+        (λ e. rw (e, stepTop) (λ z. (top-free n top f z, topEntry-free n f z, topExcludes-free n f z)))
 
     assignments-sound : (n : Node) → Free a n → IfUnmade (stepAssignment c n)
     unfolding stepAssignment
@@ -527,7 +549,7 @@ module _ (a : Name) where
         (λ e. rw (e, stepAssignment) (λ z. (nothing-occurs a, none-occurs a, none-occurs a)))
         (λ e. rw (e, stepAssignment)
         (by-test (isTop (target n))
-        (λ t. rw t (tops-sound n f))
+        (λ t. rw t (tops-sound n t f))
         (λ t. rw t
         (by-test (hasObjectRest (target n))
         (λ r. rw r (λ z. (nestedSequence-free n f z, nestedEntry-free n z, none-occurs a)))

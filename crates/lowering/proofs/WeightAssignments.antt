@@ -1,50 +1,33 @@
 -- Assignments and declarations: each part of what they leave weighs less than the node.
 -- Assumes nothing.
 use mathlib.Core.Path.{_≡_, _∙_}
-use mathlib.Core.Bool.{true, false, cond}
+use mathlib.Core.Bool.{Bool, true, false, cond}
 use Prim.Native.Nat.{ℕ, zero, suc, _+_, _*_, _≤_, _<_}
 use native.Mathlib.Omega.{arith}
-use Rattle.tree.specs.Tree.{Node, Piece, depth, depthFields}
+use Rattle.tree.specs.Tree.{Node, Piece, Items, depth}
 use Rattle.tree.specs.Tree.Node.{node}
 use Rattle.tree.specs.Tree.Piece.{one, list, text, byte, mark, number}
-use Rattle.tree.specs.Tree.Items.{none}
+use Rattle.tree.specs.Tree.Items.{none, item}
 use Rattle.lowering.specs.Parts.{position, pieceIn, change, onItems, changeNode, nodeAt, is, only, each, gather, _+++_}
 use Rattle.lowering.specs.Made.{Context, reference, valueOf, keyOf, assign, declares}
 use Rattle.lowering.specs.Patterns.{shape, properties, itemsOf, rest, hasRest, leftOf, value, key, withValues, hasObjectRest, hasArrayRestOverObjectRest, replaced, replacedBelow, objectsBelow}
 use Rattle.lowering.specs.Keys.{keySort, keyTemporary, keyTemporaries, taken}
 use Rattle.lowering.specs.Rests.{hasNoProperties, restValue}
-use Rattle.lowering.specs.Assignments.{isTop, target, assigned, withoutRests, restsThroughObjects, restsOf, targetLeft, topSequence, nestedSequence}
+use Rattle.lowering.specs.Assignments.{isTop, target, assigned, nearest, partsOf, partsReplaced, targetLeft, fromReference, topSequence, outermost, nestedSequence}
 use Rattle.lowering.specs.Declarations.{isName, source, sourceDeclarator, keysBefore, patternDeclarator, restDeclarator, own, nested, nestedBelow, objectDeclarators, patternDeclarators, lowerDeclarator, isLowered, declarators, declaration}
 use Rattle.lowering.specs.Weight.{isHead, extra, factor, weight, weightPiece, weightItems}
 use Rattle.lowering.proofs.All.{AllItems, AllPiece, Each, weaker-items, all-append, all-gather, all-each, all-changed}
 use Rattle.lowering.proofs.Cases.{by-test, by-shape, object-is, by-key, is-changed, and-left, and-right, shape-34}
 use Rattle.lowering.proofs.Weights.{weight-pos, weight-of, weight-whole, items-light, parts-fall, node-piece, piece-light-in}
 use Rattle.lowering.proofs.WeightChange.{changeNode-light, changeEach-light, two-light}
-use Rattle.lowering.proofs.WeightPatterns.{temporary-weight, node-in, within, within-light, parts-within, replaced-light, inner-light, replaced-less, changeNode-less}
+use Rattle.lowering.proofs.WeightPatterns.{temporary-weight, node-in, within, within-light, parts-within, replaced-light, parts-light, outermost-light, replaced-less, changeNode-less}
 use Rattle.lowering.proofs.WeightKeys.{taken-light, taken-top, rest-changed, top-weight, rest-pays}
 
 abbrev Falling : Node → Node → Type 0
 Falling n m = weight m < weight n
 
--- ---- the rests reached through objects
-
-abbrev Top : ℕ → Node → Type 0
-Top b q = (is 34 q ≡ true) × (hasRest q ≡ true) × (weight q ≤ b)
-
-rests-light : (b d : ℕ) (p : Node) → weight p ≤ b → AllItems (Top b) (restsThroughObjects d p)
-unfolding restsThroughObjects
-rests-light b zero p h = tt
-rests-light b (suc d) p h =
-    let w = within-light p in
-    by-shape (shape p)
-    (λ e. rw (e, restsThroughObjects, AllItems)
-    (all-append (Top b) (gather (λ q. restsThroughObjects d (value q)) (properties p)) (cond (hasRest p) (only p) none)
-    (all-gather (λ q. weight q ≤ within p) (Top b) (λ q. restsThroughObjects d (value q))
-    (λ q l. let v = node-in 1 q in rests-light b d (value q) (omega arith)) (properties p) (parts-within 0 p))
-    (by-test (hasRest p) (λ r. rw (r, AllItems) ((object-is p e, r, h), tt)) (λ r. rw (r, AllItems) tt))))
-    (λ e. rw (e, restsThroughObjects, AllItems) tt)
-    (λ e. rw (e, restsThroughObjects, AllItems) (let l = node-in 0 p in rests-light b d (leftOf p) (omega arith)))
-    (λ e. rw (e, restsThroughObjects, AllItems) tt)
+abbrev Le : ℕ → Node → Type 0
+Le b m = weight m ≤ b
 
 -- ---- assignments
 
@@ -63,9 +46,6 @@ assignment-weighs (node at k fs) e =
 
 -- ---- declarators
 
-abbrev Le : ℕ → Node → Type 0
-Le b m = weight m ≤ b
-
 declares-weight : (a b : Node) → weight (declares a b) ≡ 1 + weight a + weight b
 unfolding weight extra factor isHead
 declares-weight a b = omega arith
@@ -82,32 +62,35 @@ declarator-weighs (node at k fs) =
 -- ---- a Declaration
 
 module _ (c : Context) where
-  pub withoutRests-light : (d : ℕ) (p : Node) → weight (withoutRests c d p) ≤ weight p
-  unfolding withoutRests
-  withoutRests-light zero p = omega arith
-  withoutRests-light (suc d) p =
-      let f : Node → Node = λ v. withoutRests c d v in
+  pub partsReplaced-light : (d : ℕ) (p : Node) → weight (partsReplaced c d p) ≤ weight p
+  unfolding partsReplaced
+  partsReplaced-light zero p = omega arith
+  partsReplaced-light (suc d) p =
+      let f : Node → Node = λ v. partsReplaced c d v in
+      let t = temporary-weight (c .path) 1 (position p) in
+      let u = weight-pos p in
       by-shape (shape p)
-      (λ e. rw (e, withoutRests)
-      (let a = taken-light c (withValues f p) in
-      let b = changeEach-light 0 (λ q. changeNode 1 f q) (changeNode-light 1 f (withoutRests-light d)) p in
-      omega arith))
-      (λ e. rw (e, withoutRests) (omega arith))
-      (λ e. rw (e, withoutRests) (changeNode-light 0 f (withoutRests-light d) p))
-      (λ e. rw (e, withoutRests) (omega arith))
+      (λ e. rw (e, partsReplaced)
+      (by-test (hasRest p) (λ r. rw r (omega arith))
+      (λ r. rw r (changeEach-light 0 (λ q. changeNode 1 f q) (changeNode-light 1 f (partsReplaced-light d)) p))))
+      (λ e. rw (e, partsReplaced) (omega arith))
+      (λ e. rw (e, partsReplaced) (changeNode-light 0 f (partsReplaced-light d) p))
+      (λ e. rw (e, partsReplaced) (omega arith))
 
-  levels-step : (d : ℕ) (p : Node) → is 34 p ≡ true → hasRest p ≡ true → weight (withoutRests c (suc d) p) + 10 ≤ weight p
-  unfolding withoutRests
-  levels-step d p e r =
-      let f : Node → Node = λ v. withoutRests c d v in
+  left-light : (n : Node) → is 34 (target n) ≡ true → hasRest (target n) ≡ true → weight (targetLeft c n) + 10 ≤ weight (target n)
+  left-light n e r =
+      let p = target n in
+      let f : Node → Node = λ v. partsReplaced c (depth p) v in
       let g : Piece → Piece = onItems (each (λ q. changeNode 1 f q)) in
       let a = taken-top c (withValues f p) (is-changed 0 g p 34 ∙ e) (rest-changed 0 g p ∙ r) in
-      let b = changeEach-light 0 (λ q. changeNode 1 f q) (changeNode-light 1 f (withoutRests-light d)) p in
-      rw (shape-34 p e, withoutRests) (omega arith)
+      let b = changeEach-light 0 (λ q. changeNode 1 f q) (changeNode-light 1 f (partsReplaced-light (depth p))) p in
+      omega arith
 
-  withoutRests-top : (p : Node) → is 34 p ≡ true → hasRest p ≡ true → weight (withoutRests c (depth p) p) + 10 ≤ weight p
-  unfolding depth
-  withoutRests-top (node at k fs) e r = levels-step (depthFields fs) (node at k fs) e r
+  -- an assignment to an object from its temporary
+  from-light : (b : ℕ) (is : Items) → AllItems (Le b) is → AllItems (λ m. weight m < b + 5) (each (fromReference c) is)
+  from-light b is =
+      all-each (Le b) (λ m. weight m < b + 5) (fromReference c)
+      (λ q l. let a = assign-weight q (reference c q) in let x = temporary-weight (c .path) 1 (position q) in omega arith) is
 
   pub top-falls : (n : Node) → is 27 n ≡ true → isTop (target n) ≡ true → Each (Falling n) (topSequence c n)
   unfolding topSequence isTop
@@ -122,16 +105,18 @@ module _ (c : Context) where
       let x = temporary-weight (c .path) 3 (position p) in
       let a = assign-weight t (assigned n) in
       let b = assign-weight (targetLeft c n) t in
-      let l = withoutRests-top p o r in (
+      let l = left-light n o r in
+      let y = rest-pays c p t o r in
+      let z = assign-weight (rest p) (restValue c p t) in
+      let i = within-light p in (
         (
           omega arith,
           (
             omega arith,
-            all-append (Falling n) (each (λ q. assign (rest q) (restValue c q t)) (restsOf n)) (cond (c .statement) none (only t))
-                (all-each (Top (weight p)) (Falling n) (λ q. assign (rest q) (restValue c q t))
-                (λ q g. let y = rest-pays c q t (g .0) (g .1) in let z = assign-weight (rest q) (restValue c q t) in let k = g .2 in omega arith)
-                (restsOf n) (rests-light (weight p) (depth p) p (omega arith)))
-                (by-test (c .statement) (λ s. rw (s, AllItems) tt) (λ s. rw (s, AllItems) (omega arith, tt))),
+            all-append (Falling n) (each (fromReference c) (partsOf p)) (item (assign (rest p) (restValue c p t)) (cond (c .statement) none (only t)))
+                (weaker-items (λ m. weight m < within p + 5) (Falling n) (λ m k. omega arith) (each (fromReference c) (partsOf p))
+                (from-light (within p) (partsOf p) (parts-light false (depth p) p)))
+                (omega arith, by-test (c .statement) (λ s. rw (s, AllItems) tt) (λ s. rw (s, AllItems) (omega arith, tt))),
           ),
         ),
         tt,
@@ -144,9 +129,9 @@ module _ (c : Context) where
       let w = assignment-weighs n e in (
         (
           changeNode-less 1 (λ p. replacedBelow c p) n (replaced-less c (depth (target n)) (target n) h k),
-          all-each (λ q. weight q + 4 ≤ weight (target n)) (Falling n) (λ q. assign q (reference c q))
+          all-each (λ q. weight q + 4 ≤ weight (target n)) (Falling n) (fromReference c)
               (λ q l. let a = assign-weight q (reference c q) in let x = temporary-weight (c .path) 1 (position q) in omega arith)
-              (objectsBelow c (target n)) (inner-light c (depth (target n)) (target n) f),
+              (outermost (target n)) (outermost-light true (depth (target n)) (target n) f),
         ),
         tt,
       )

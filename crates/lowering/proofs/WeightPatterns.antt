@@ -11,11 +11,11 @@ use Rattle.tree.specs.Tree.Piece.{one, list, text, byte, mark, number}
 use Rattle.tree.specs.Tree.Items.{none, hole, item}
 use Rattle.lowering.specs.Parts.{nothing, position, pieceIn, standsIn, onNode, onItems, changeNode, changeItems, asNode, asItems, nodeAt, itemsAt, is, only, each, gather, any, _+++_}
 use Rattle.lowering.specs.Made.{Context, temporary, reference}
-use Rattle.lowering.specs.Patterns.{shape, properties, itemsOf, rest, hasRest, leftOf, value, withItems, withValues, hasNestedObjectRest, hasNestedArrayRest, replaced, objectsWithRest}
+use Rattle.lowering.specs.Patterns.{shape, properties, itemsOf, rest, hasRest, leftOf, value, withItems, withValues, hasNestedObjectRest, hasNestedArrayRest, replaced}
 use Rattle.lowering.specs.Heads.{movedOut, moved}
-use Rattle.lowering.specs.Assignments.{isTop}
+use Rattle.lowering.specs.Assignments.{isTop, nearest}
 use Rattle.lowering.specs.Weight.{isHead, extra, factor, weight, weightFields, weightPiece, weightItems}
-use Rattle.lowering.proofs.All.{AllItems, weaker-items, all-append, all-gather}
+use Rattle.lowering.proofs.All.{AllItems, weaker-items, all-cond, all-gather}
 use Rattle.lowering.proofs.Cases.{by-test, by-shape, or-left, or-right, or-other, or-first, object-is, array-is, default-is}
 use Rattle.lowering.proofs.Weights.{weight-pos, weight-of, weight-whole, weight-append, items-light, node-piece, items-piece, piece-light-in}
 use Rattle.lowering.proofs.WeightChange.{each-light, gather-light, change-less, changeNode-light, changeEach-light, two-light}
@@ -169,6 +169,63 @@ module _ (f : Node → Node) (light : (n : Node) → weight (f n) ≤ weight n) 
       (λ e. let l = less n e (or-left (h n) (any h is) b) in let m = each-light f light is in omega arith)
       (λ e. let l = light n in let m = each-less is (or-other (g n) (any g is) e a) (or-right (h n) (any h is) b) in omega arith)
 
+-- ---- the objects with rest nearest below a pattern
+
+module _ (arrays : Bool) where
+  values-light : (b d : ℕ) (light : (p : Node) → weight p ≤ b → AllItems (AtMost b) (nearest arrays d p)) (p : Node) → within p ≤ b
+      → AllItems (AtMost b) (gather (λ q. nearest arrays d (value q)) (properties p))
+  values-light b d light p h =
+      all-gather (λ q. weight q ≤ within p) (AtMost b) (λ q. nearest arrays d (value q))
+      (λ q l. let v = node-in 1 q in light (value q) (omega arith)) (properties p) (parts-within 0 p)
+
+  items-of-light : (b d : ℕ) (light : (p : Node) → weight p ≤ b → AllItems (AtMost b) (nearest arrays d p)) (p : Node) → within p ≤ b
+      → AllItems (AtMost b) (cond arrays (gather (λ e. nearest arrays d e) (itemsOf p)) none)
+  items-of-light b d light p h =
+      all-cond (AtMost b) arrays (gather (λ e. nearest arrays d e) (itemsOf p)) none
+      (all-gather (λ q. weight q ≤ within p) (AtMost b) (λ e. nearest arrays d e) (λ q l. light q (omega arith)) (itemsOf p) (parts-within 0 p)) tt
+
+  pub nearest-light : (b d : ℕ) (p : Node) → weight p ≤ b → AllItems (AtMost b) (nearest arrays d p)
+  unfolding nearest
+  nearest-light b zero p h = tt
+  nearest-light b (suc d) p h =
+      let w = within-light p in
+      by-shape (shape p)
+      (λ e. rw (e, nearest, AllItems)
+      (all-cond (AtMost b) (hasRest p) (only p) (gather (λ q. nearest arrays d (value q)) (properties p)) (h, tt) (values-light b d (nearest-light b d) p (omega arith))))
+      (λ e. rw (e, nearest, AllItems) (items-of-light b d (nearest-light b d) p (omega arith)))
+      (λ e. rw (e, nearest, AllItems) (let l = node-in 0 p in nearest-light b d (leftOf p) (omega arith)))
+      (λ e. rw (e, nearest, AllItems) tt)
+
+  -- those below the values of an object
+  pub parts-light : (d : ℕ) (p : Node) → AllItems (AtMost (within p)) (gather (λ q. nearest arrays d (value q)) (properties p))
+  parts-light d p = values-light (within p) d (nearest-light (within p) d) p (omega arith)
+
+  -- of a target that is no object with rest, each of them weighs less by 4
+  pub outermost-light : (d : ℕ) (p : Node) → isTop p ≡ false → AllItems (λ q. weight q + 4 ≤ weight p) (nearest arrays d p)
+  unfolding nearest isTop
+  outermost-light zero p h = tt
+  outermost-light (suc d) p h =
+      let b = suc (within p) in
+      by-shape (shape p)
+      (λ e.
+      let o = object-is p e in
+      let w = object-weighs p o in
+      let r : hasRest p ≡ false = rw o at h in
+      rw (e, nearest, r, AllItems)
+      (weaker-items (AtMost b) (λ q. weight q + 4 ≤ weight p) (λ q l. omega arith)
+      (gather (λ q. nearest arrays d (value q)) (properties p)) (values-light b d (nearest-light b d) p (omega arith))))
+      (λ e.
+      let w = array-weighs p (array-is p e) in
+      rw (e, nearest, AllItems)
+      (weaker-items (AtMost b) (λ q. weight q + 4 ≤ weight p) (λ q l. omega arith) (cond arrays (gather (λ x. nearest arrays d x) (itemsOf p)) none)
+      (items-of-light b d (nearest-light b d) p (omega arith))))
+      (λ e.
+      let w = default-weighs p (default-is p e) in
+      rw (e, nearest, AllItems)
+      (weaker-items (AtMost b) (λ q. weight q + 4 ≤ weight p) (λ q l. omega arith) (nearest arrays d (leftOf p))
+      (nearest-light b d (leftOf p) (left-within p))))
+      (λ e. rw (e, nearest, AllItems) tt)
+
 module _ (c : Context) where
   pub replaced-light : (d : ℕ) (p : Node) → weight (replaced c d p) ≤ weight p
   unfolding replaced
@@ -197,62 +254,6 @@ module _ (c : Context) where
       (λ e. rw (e, movedOut)
       (changeNode-light 0 (λ l. reference c p) (λ l. let t = temporary-weight (c .path) 1 (position p) in let w = weight-pos l in omega arith) p))
       (λ e. rw (e, movedOut) (omega arith))
-
-  values-light : (b d : ℕ) (light : (p : Node) → weight p ≤ b → AllItems (AtMost b) (objectsWithRest c d p)) (p : Node) → within p ≤ b
-      → AllItems (AtMost b) (gather (λ q. objectsWithRest c d (value q)) (properties p))
-  values-light b d light p h =
-      all-gather (λ q. weight q ≤ within p) (AtMost b) (λ q. objectsWithRest c d (value q))
-      (λ q l. let v = node-in 1 q in light (value q) (omega arith)) (properties p) (parts-within 0 p)
-
-  items-of-light : (b d : ℕ) (light : (p : Node) → weight p ≤ b → AllItems (AtMost b) (objectsWithRest c d p)) (p : Node) → within p ≤ b
-      → AllItems (AtMost b) (gather (λ e. objectsWithRest c d e) (itemsOf p))
-  items-of-light b d light p h =
-      all-gather (λ q. weight q ≤ within p) (AtMost b) (λ e. objectsWithRest c d e) (λ q l. light q (omega arith)) (itemsOf p) (parts-within 0 p)
-
-  pub objects-light : (b d : ℕ) (p : Node) → weight p ≤ b → AllItems (AtMost b) (objectsWithRest c d p)
-  unfolding objectsWithRest
-  objects-light b zero p h = tt
-  objects-light b (suc d) p h =
-      let w = within-light p in
-      by-shape (shape p)
-      (λ e. rw (e, objectsWithRest, AllItems)
-      (all-append (AtMost b) (gather (λ q. objectsWithRest c d (value q)) (properties p)) (cond (hasRest p) (only (withValues (λ v. replaced c d v) p)) none)
-      (values-light b d (objects-light b d) p (omega arith))
-      (by-test (hasRest p)
-      (λ f. rw (f, AllItems)
-      (let l = changeEach-light 0 (λ q. changeNode 1 (λ v. replaced c d v) q) (changeNode-light 1 (λ v. replaced c d v) (replaced-light d)) p in
-      (omega arith, tt)))
-      (λ f. rw (f, AllItems) tt))))
-      (λ e. rw (e, objectsWithRest, AllItems) (items-of-light b d (objects-light b d) p (omega arith)))
-      (λ e. rw (e, objectsWithRest, AllItems) (let l = node-in 0 p in objects-light b d (leftOf p) (omega arith)))
-      (λ e. rw (e, objectsWithRest, AllItems) tt)
-
-  -- of a target that is no object with rest, each object within weighs less by 4
-  pub inner-light : (d : ℕ) (p : Node) → isTop p ≡ false → AllItems (λ q. weight q + 4 ≤ weight p) (objectsWithRest c d p)
-  unfolding objectsWithRest isTop
-  inner-light zero p h = tt
-  inner-light (suc d) p h =
-      let b = suc (within p) in
-      by-shape (shape p)
-      (λ e.
-      let o = object-is p e in
-      let w = object-weighs p o in
-      let r : hasRest p ≡ false = rw o at h in
-      rw (e, objectsWithRest, r, AllItems)
-      (weaker-items (AtMost b) (λ q. weight q + 4 ≤ weight p) (λ q l. omega arith)
-      (gather (λ q. objectsWithRest c d (value q)) (properties p) +++ none)
-      (all-append (AtMost b) (gather (λ q. objectsWithRest c d (value q)) (properties p)) none (values-light b d (objects-light b d) p (omega arith)) tt)))
-      (λ e.
-      let w = array-weighs p (array-is p e) in
-      rw (e, objectsWithRest, AllItems)
-      (weaker-items (AtMost b) (λ q. weight q + 4 ≤ weight p) (λ q l. omega arith) (gather (λ x. objectsWithRest c d x) (itemsOf p))
-      (items-of-light b d (objects-light b d) p (omega arith))))
-      (λ e.
-      let w = default-weighs p (default-is p e) in
-      rw (e, objectsWithRest, AllItems)
-      (weaker-items (AtMost b) (λ q. weight q + 4 ≤ weight p) (λ q l. omega arith) (objectsWithRest c d (leftOf p))
-      (objects-light b d (leftOf p) (left-within p))))
-      (λ e. rw (e, objectsWithRest, AllItems) tt)
 
   pub replaced-less : (d : ℕ) (p : Node) → hasNestedObjectRest d p ≡ true → hasNestedArrayRest d p ≡ false → weight (replaced c d p) < weight p
   unfolding replaced hasNestedObjectRest hasNestedArrayRest

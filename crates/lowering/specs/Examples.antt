@@ -209,8 +209,106 @@ pub record Table : Type 0 where
       (declaring 1 2 (only (declares (takingRest none (bind r)) (call (ref f) none)))) 6
       (declaring 1 2 (all (declares (temp 1 3) (call (ref f) none) ∷ declares (bind r) (copied (temp 1 3)) ∷ [])))
 
+-- request 6: the parts of a nested assignment, both sides as bytes
+pub record Parts : Type 0 where
+  -- `({left: {gain, ...tuning}, ...rest} = bench)`: `tuning` is taken from the part, `bench.left`
+  coach-script : lowering highestLimit 0
+      (1 ∷ 1 ∷ 1 ∷ 0 ∷ 3 ∷ 3 ∷ 1 ∷ 0 ∷ 31 ∷ 1 ∷ 27 ∷ 7 ∷ 1 ∷ 34 ∷ 3 ∷ 1 ∷ 0 ∷ 35 ∷ 7 ∷ 38 ∷ 1 ∷ 4 ∷ 0 ∷ 108 ∷ 101 ∷ 102 ∷ 116
+      ∷ 34 ∷ 3 ∷ 1 ∷ 0 ∷ 35 ∷ 7 ∷ 38 ∷ 1 ∷ 4 ∷ 0 ∷ 103 ∷ 97 ∷ 105 ∷ 110 ∷ 18 ∷ 1 ∷ 4 ∷ 0 ∷ 103 ∷ 97 ∷ 105 ∷ 110 ∷ 2 ∷ 18 ∷ 1 ∷ 6
+      ∷ 0 ∷ 116 ∷ 117 ∷ 110 ∷ 105 ∷ 110 ∷ 103 ∷ 0 ∷ 18 ∷ 1 ∷ 4 ∷ 0 ∷ 114 ∷ 101 ∷ 115 ∷ 116 ∷ 18 ∷ 1 ∷ 5 ∷ 0 ∷ 98 ∷ 101 ∷ 110
+      ∷ 99 ∷ 104 ∷ []) plenty
+      ≡ lowered 8 0
+      (1 ∷ 1 ∷ 1 ∷ 0 ∷ 3 ∷ 3 ∷ 1 ∷ 0 ∷ 31 ∷ 1 ∷ 28 ∷ 1 ∷ 4 ∷ 0 ∷ 27 ∷ 7 ∷ 1 ∷ 20 ∷ 3 ∷ 1 ∷ 0 ∷ 3 ∷ 18 ∷ 1 ∷ 5 ∷ 0 ∷ 98 ∷ 101
+      ∷ 110 ∷ 99 ∷ 104 ∷ 27 ∷ 7 ∷ 1 ∷ 34 ∷ 1 ∷ 1 ∷ 0 ∷ 35 ∷ 7 ∷ 38 ∷ 1 ∷ 4 ∷ 0 ∷ 108 ∷ 101 ∷ 102 ∷ 116 ∷ 20 ∷ 3 ∷ 2 ∷ 0 ∷ 1 ∷ 0
+      ∷ 20 ∷ 3 ∷ 1 ∷ 0 ∷ 3 ∷ 28 ∷ 1 ∷ 4 ∷ 0 ∷ 27 ∷ 7 ∷ 1 ∷ 20 ∷ 3 ∷ 3 ∷ 0 ∷ 3 ∷ 20 ∷ 3 ∷ 2 ∷ 0 ∷ 1 ∷ 27 ∷ 7 ∷ 1 ∷ 34 ∷ 1 ∷ 1 ∷ 0
+      ∷ 35 ∷ 7 ∷ 38 ∷ 1 ∷ 4 ∷ 0 ∷ 103 ∷ 97 ∷ 105 ∷ 110 ∷ 18 ∷ 1 ∷ 4 ∷ 0 ∷ 103 ∷ 97 ∷ 105 ∷ 110 ∷ 2 ∷ 20 ∷ 3 ∷ 3 ∷ 0 ∷ 3 ∷ 27 ∷ 7
+      ∷ 1 ∷ 18 ∷ 1 ∷ 6 ∷ 0 ∷ 116 ∷ 117 ∷ 110 ∷ 105 ∷ 110 ∷ 103 ∷ 29 ∷ 3 ∷ 21 ∷ 1 ∷ 4 ∷ 2 ∷ 0 ∷ 20 ∷ 3 ∷ 3 ∷ 0 ∷ 3 ∷ 32 ∷ 1 ∷ 1
+      ∷ 0 ∷ 22 ∷ 7 ∷ 1 ∷ 0 ∷ 0 ∷ 4 ∷ 0 ∷ 103 ∷ 97 ∷ 105 ∷ 110 ∷ 20 ∷ 3 ∷ 3 ∷ 0 ∷ 3 ∷ 27 ∷ 7 ∷ 1 ∷ 18 ∷ 1 ∷ 4 ∷ 0 ∷ 114 ∷ 101
+      ∷ 115 ∷ 116 ∷ 29 ∷ 3 ∷ 21 ∷ 1 ∷ 4 ∷ 2 ∷ 0 ∷ 20 ∷ 3 ∷ 1 ∷ 0 ∷ 3 ∷ 32 ∷ 1 ∷ 1 ∷ 0 ∷ 22 ∷ 7 ∷ 1 ∷ 0 ∷ 0 ∷ 4 ∷ 0 ∷ 108 ∷ 101
+      ∷ 102 ∷ 116 ∷ [])
+      (2 ∷ 0 ∷ 1 ∷ 0 ∷ 2 ∷ 0 ∷ 5 ∷ 1 ∷ 20 ∷ 3 ∷ 1 ∷ 0 ∷ 3 ∷ 5 ∷ 1 ∷ 20 ∷ 3 ∷ 2 ∷ 0 ∷ 1 ∷ 1 ∷ 0 ∷ 1 ∷ 0 ∷ 5 ∷ 1 ∷ 20 ∷ 3 ∷ 3 ∷ 0
+      ∷ 3 ∷ 0 ∷ 0 ∷ [])
+  -- `{ ({a: {b, ...c}, ...d} = e); }`: excluded keys: the outer object's first
+  parts-keys-later : lowering highestLimit 0
+      (1 ∷ 1 ∷ 1 ∷ 0 ∷ 2 ∷ 3 ∷ 1 ∷ 0 ∷ 1 ∷ 0 ∷ 3 ∷ 3 ∷ 2 ∷ 0 ∷ 31 ∷ 1 ∷ 27 ∷ 7 ∷ 1 ∷ 34 ∷ 3 ∷ 1 ∷ 0 ∷ 35 ∷ 7 ∷ 38 ∷ 1 ∷ 1 ∷ 0
+      ∷ 97 ∷ 34 ∷ 3 ∷ 1 ∷ 0 ∷ 35 ∷ 7 ∷ 38 ∷ 1 ∷ 1 ∷ 0 ∷ 98 ∷ 18 ∷ 1 ∷ 1 ∷ 0 ∷ 98 ∷ 2 ∷ 18 ∷ 1 ∷ 1 ∷ 0 ∷ 99 ∷ 0 ∷ 18 ∷ 1 ∷ 1 ∷ 0
+      ∷ 100 ∷ 18 ∷ 1 ∷ 1 ∷ 0 ∷ 101 ∷ []) plenty
+      ≡ lowered 8 0
+      (1 ∷ 1 ∷ 1 ∷ 0 ∷ 2 ∷ 3 ∷ 1 ∷ 0 ∷ 1 ∷ 0 ∷ 3 ∷ 3 ∷ 2 ∷ 0 ∷ 31 ∷ 1 ∷ 28 ∷ 1 ∷ 4 ∷ 0 ∷ 27 ∷ 7 ∷ 1 ∷ 20 ∷ 3 ∷ 1 ∷ 0 ∷ 3 ∷ 18 ∷ 1
+      ∷ 1 ∷ 0 ∷ 101 ∷ 27 ∷ 7 ∷ 1 ∷ 34 ∷ 1 ∷ 1 ∷ 0 ∷ 35 ∷ 7 ∷ 38 ∷ 1 ∷ 1 ∷ 0 ∷ 97 ∷ 20 ∷ 3 ∷ 2 ∷ 0 ∷ 1 ∷ 0 ∷ 20 ∷ 3 ∷ 1 ∷ 0 ∷ 3
+      ∷ 28 ∷ 1 ∷ 4 ∷ 0 ∷ 27 ∷ 7 ∷ 1 ∷ 20 ∷ 3 ∷ 3 ∷ 0 ∷ 3 ∷ 20 ∷ 3 ∷ 2 ∷ 0 ∷ 1 ∷ 27 ∷ 7 ∷ 1 ∷ 34 ∷ 1 ∷ 1 ∷ 0 ∷ 35 ∷ 7 ∷ 38 ∷ 1
+      ∷ 1 ∷ 0 ∷ 98 ∷ 18 ∷ 1 ∷ 1 ∷ 0 ∷ 98 ∷ 2 ∷ 20 ∷ 3 ∷ 3 ∷ 0 ∷ 3 ∷ 27 ∷ 7 ∷ 1 ∷ 18 ∷ 1 ∷ 1 ∷ 0 ∷ 99 ∷ 29 ∷ 3 ∷ 21 ∷ 1 ∷ 4 ∷ 2
+      ∷ 0 ∷ 20 ∷ 3 ∷ 3 ∷ 0 ∷ 3 ∷ 20 ∷ 3 ∷ 4 ∷ 0 ∷ 2 ∷ 20 ∷ 3 ∷ 3 ∷ 0 ∷ 3 ∷ 27 ∷ 7 ∷ 1 ∷ 18 ∷ 1 ∷ 1 ∷ 0 ∷ 100 ∷ 29 ∷ 3 ∷ 21 ∷ 1
+      ∷ 4 ∷ 2 ∷ 0 ∷ 20 ∷ 3 ∷ 1 ∷ 0 ∷ 3 ∷ 20 ∷ 3 ∷ 5 ∷ 0 ∷ 2 ∷ [])
+      (2 ∷ 0 ∷ 2 ∷ 0 ∷ 2 ∷ 0 ∷ 5 ∷ 1 ∷ 20 ∷ 3 ∷ 1 ∷ 0 ∷ 3 ∷ 5 ∷ 1 ∷ 20 ∷ 3 ∷ 2 ∷ 0 ∷ 1 ∷ 2 ∷ 0 ∷ 1 ∷ 0 ∷ 5 ∷ 1 ∷ 20 ∷ 3 ∷ 3 ∷ 0
+      ∷ 3 ∷ 2 ∷ 0 ∷ 5 ∷ 3 ∷ 20 ∷ 3 ∷ 5 ∷ 0 ∷ 2 ∷ 32 ∷ 1 ∷ 1 ∷ 0 ∷ 22 ∷ 7 ∷ 1 ∷ 0 ∷ 0 ∷ 1 ∷ 0 ∷ 97 ∷ 5 ∷ 3 ∷ 20 ∷ 3 ∷ 4 ∷ 0 ∷ 2
+      ∷ 32 ∷ 1 ∷ 1 ∷ 0 ∷ 22 ∷ 7 ∷ 1 ∷ 0 ∷ 0 ∷ 1 ∷ 0 ∷ 98 ∷ [])
+  -- `{[k()]: {...a}, b: {...c}, ...d} = e`: in the entry the parts' temporaries come before the keys'
+  parts-before-keys : lowering highestLimit 0
+      (1 ∷ 1 ∷ 1 ∷ 0 ∷ 3 ∷ 3 ∷ 1 ∷ 0 ∷ 27 ∷ 7 ∷ 1 ∷ 34 ∷ 3 ∷ 2 ∷ 0 ∷ 35 ∷ 7 ∷ 29 ∷ 3 ∷ 18 ∷ 1 ∷ 1 ∷ 0 ∷ 107 ∷ 0 ∷ 0 ∷ 34 ∷ 3 ∷ 0
+      ∷ 0 ∷ 18 ∷ 1 ∷ 1 ∷ 0 ∷ 97 ∷ 1 ∷ 35 ∷ 7 ∷ 38 ∷ 1 ∷ 1 ∷ 0 ∷ 98 ∷ 34 ∷ 3 ∷ 0 ∷ 0 ∷ 18 ∷ 1 ∷ 1 ∷ 0 ∷ 99 ∷ 0 ∷ 18 ∷ 1 ∷ 1 ∷ 0
+      ∷ 100 ∷ 18 ∷ 1 ∷ 1 ∷ 0 ∷ 101 ∷ []) plenty
+      ≡ lowered 30 0
+      (1 ∷ 1 ∷ 1 ∷ 0 ∷ 3 ∷ 3 ∷ 1 ∷ 0 ∷ 28 ∷ 1 ∷ 5 ∷ 0 ∷ 27 ∷ 7 ∷ 1 ∷ 20 ∷ 3 ∷ 1 ∷ 0 ∷ 3 ∷ 18 ∷ 1 ∷ 1 ∷ 0 ∷ 101 ∷ 27 ∷ 7 ∷ 1 ∷ 34
+      ∷ 1 ∷ 2 ∷ 0 ∷ 35 ∷ 7 ∷ 20 ∷ 3 ∷ 2 ∷ 0 ∷ 4 ∷ 20 ∷ 3 ∷ 3 ∷ 0 ∷ 1 ∷ 1 ∷ 35 ∷ 7 ∷ 38 ∷ 1 ∷ 1 ∷ 0 ∷ 98 ∷ 20 ∷ 3 ∷ 4 ∷ 0 ∷ 1 ∷ 0
+      ∷ 20 ∷ 3 ∷ 1 ∷ 0 ∷ 3 ∷ 28 ∷ 1 ∷ 4 ∷ 0 ∷ 27 ∷ 7 ∷ 1 ∷ 20 ∷ 3 ∷ 5 ∷ 0 ∷ 3 ∷ 20 ∷ 3 ∷ 3 ∷ 0 ∷ 1 ∷ 27 ∷ 7 ∷ 1 ∷ 34 ∷ 1 ∷ 0 ∷ 0
+      ∷ 20 ∷ 3 ∷ 5 ∷ 0 ∷ 3 ∷ 27 ∷ 7 ∷ 1 ∷ 18 ∷ 1 ∷ 1 ∷ 0 ∷ 97 ∷ 29 ∷ 3 ∷ 21 ∷ 1 ∷ 2 ∷ 2 ∷ 0 ∷ 24 ∷ 1 ∷ 0 ∷ 0 ∷ 28 ∷ 1 ∷ 2 ∷ 0
+      ∷ 29 ∷ 3 ∷ 21 ∷ 1 ∷ 3 ∷ 1 ∷ 0 ∷ 20 ∷ 3 ∷ 5 ∷ 0 ∷ 3 ∷ 20 ∷ 3 ∷ 5 ∷ 0 ∷ 3 ∷ 20 ∷ 3 ∷ 5 ∷ 0 ∷ 3 ∷ 28 ∷ 1 ∷ 4 ∷ 0 ∷ 27 ∷ 7 ∷ 1
+      ∷ 20 ∷ 3 ∷ 6 ∷ 0 ∷ 3 ∷ 20 ∷ 3 ∷ 4 ∷ 0 ∷ 1 ∷ 27 ∷ 7 ∷ 1 ∷ 34 ∷ 1 ∷ 0 ∷ 0 ∷ 20 ∷ 3 ∷ 6 ∷ 0 ∷ 3 ∷ 27 ∷ 7 ∷ 1 ∷ 18 ∷ 1 ∷ 1 ∷ 0
+      ∷ 99 ∷ 29 ∷ 3 ∷ 21 ∷ 1 ∷ 2 ∷ 2 ∷ 0 ∷ 24 ∷ 1 ∷ 0 ∷ 0 ∷ 28 ∷ 1 ∷ 2 ∷ 0 ∷ 29 ∷ 3 ∷ 21 ∷ 1 ∷ 3 ∷ 1 ∷ 0 ∷ 20 ∷ 3 ∷ 6 ∷ 0 ∷ 3
+      ∷ 20 ∷ 3 ∷ 6 ∷ 0 ∷ 3 ∷ 20 ∷ 3 ∷ 6 ∷ 0 ∷ 3 ∷ 27 ∷ 7 ∷ 1 ∷ 18 ∷ 1 ∷ 1 ∷ 0 ∷ 100 ∷ 29 ∷ 3 ∷ 21 ∷ 1 ∷ 4 ∷ 2 ∷ 0 ∷ 20 ∷ 3 ∷ 1
+      ∷ 0 ∷ 3 ∷ 29 ∷ 3 ∷ 30 ∷ 3 ∷ 32 ∷ 1 ∷ 2 ∷ 0 ∷ 20 ∷ 3 ∷ 2 ∷ 0 ∷ 4 ∷ 22 ∷ 7 ∷ 1 ∷ 0 ∷ 0 ∷ 1 ∷ 0 ∷ 98 ∷ 3 ∷ 0 ∷ 109 ∷ 97 ∷ 112
+      ∷ 1 ∷ 0 ∷ 21 ∷ 1 ∷ 5 ∷ [])
+      (3 ∷ 0 ∷ 1 ∷ 0 ∷ 4 ∷ 0 ∷ 5 ∷ 1 ∷ 20 ∷ 3 ∷ 1 ∷ 0 ∷ 3 ∷ 5 ∷ 1 ∷ 20 ∷ 3 ∷ 3 ∷ 0 ∷ 1 ∷ 5 ∷ 1 ∷ 20 ∷ 3 ∷ 4 ∷ 0 ∷ 1 ∷ 5 ∷ 3 ∷ 20
+      ∷ 3 ∷ 2 ∷ 0 ∷ 4 ∷ 29 ∷ 3 ∷ 18 ∷ 1 ∷ 1 ∷ 0 ∷ 107 ∷ 0 ∷ 0 ∷ 1 ∷ 0 ∷ 1 ∷ 0 ∷ 5 ∷ 1 ∷ 20 ∷ 3 ∷ 5 ∷ 0 ∷ 3 ∷ 1 ∷ 0 ∷ 1 ∷ 0 ∷ 5
+      ∷ 1 ∷ 20 ∷ 3 ∷ 6 ∷ 0 ∷ 3 ∷ 0 ∷ 0 ∷ [])
+  -- `{a: {...x}, b: [{...y}], ...z} = v`: y is assigned first, in the pattern's own sequence
+  array-beside-part : lowering highestLimit 0
+      (1 ∷ 1 ∷ 1 ∷ 0 ∷ 3 ∷ 3 ∷ 1 ∷ 0 ∷ 27 ∷ 7 ∷ 1 ∷ 34 ∷ 3 ∷ 2 ∷ 0 ∷ 35 ∷ 7 ∷ 38 ∷ 1 ∷ 1 ∷ 0 ∷ 97 ∷ 34 ∷ 3 ∷ 0 ∷ 0 ∷ 18 ∷ 1 ∷ 1
+      ∷ 0 ∷ 120 ∷ 0 ∷ 35 ∷ 7 ∷ 38 ∷ 1 ∷ 1 ∷ 0 ∷ 98 ∷ 36 ∷ 1 ∷ 1 ∷ 0 ∷ 34 ∷ 3 ∷ 0 ∷ 0 ∷ 18 ∷ 1 ∷ 1 ∷ 0 ∷ 121 ∷ 0 ∷ 18 ∷ 1 ∷ 1 ∷ 0
+      ∷ 122 ∷ 18 ∷ 1 ∷ 1 ∷ 0 ∷ 118 ∷ []) plenty
+      ≡ lowered 14 0
+      (1 ∷ 1 ∷ 1 ∷ 0 ∷ 3 ∷ 3 ∷ 1 ∷ 0 ∷ 28 ∷ 1 ∷ 4 ∷ 0 ∷ 27 ∷ 7 ∷ 1 ∷ 20 ∷ 3 ∷ 1 ∷ 0 ∷ 3 ∷ 18 ∷ 1 ∷ 1 ∷ 0 ∷ 118 ∷ 28 ∷ 1 ∷ 2 ∷ 0
+      ∷ 27 ∷ 7 ∷ 1 ∷ 34 ∷ 1 ∷ 2 ∷ 0 ∷ 35 ∷ 7 ∷ 38 ∷ 1 ∷ 1 ∷ 0 ∷ 97 ∷ 20 ∷ 3 ∷ 2 ∷ 0 ∷ 1 ∷ 0 ∷ 35 ∷ 7 ∷ 38 ∷ 1 ∷ 1 ∷ 0 ∷ 98 ∷ 36
+      ∷ 1 ∷ 1 ∷ 0 ∷ 20 ∷ 3 ∷ 3 ∷ 0 ∷ 1 ∷ 0 ∷ 20 ∷ 3 ∷ 1 ∷ 0 ∷ 3 ∷ 28 ∷ 1 ∷ 4 ∷ 0 ∷ 27 ∷ 7 ∷ 1 ∷ 20 ∷ 3 ∷ 4 ∷ 0 ∷ 3 ∷ 20 ∷ 3 ∷ 3
+      ∷ 0 ∷ 1 ∷ 27 ∷ 7 ∷ 1 ∷ 34 ∷ 1 ∷ 0 ∷ 0 ∷ 20 ∷ 3 ∷ 4 ∷ 0 ∷ 3 ∷ 27 ∷ 7 ∷ 1 ∷ 18 ∷ 1 ∷ 1 ∷ 0 ∷ 121 ∷ 29 ∷ 3 ∷ 21 ∷ 1 ∷ 2 ∷ 2
+      ∷ 0 ∷ 24 ∷ 1 ∷ 0 ∷ 0 ∷ 28 ∷ 1 ∷ 2 ∷ 0 ∷ 29 ∷ 3 ∷ 21 ∷ 1 ∷ 3 ∷ 1 ∷ 0 ∷ 20 ∷ 3 ∷ 4 ∷ 0 ∷ 3 ∷ 20 ∷ 3 ∷ 4 ∷ 0 ∷ 3 ∷ 20 ∷ 3 ∷ 4
+      ∷ 0 ∷ 3 ∷ 28 ∷ 1 ∷ 4 ∷ 0 ∷ 27 ∷ 7 ∷ 1 ∷ 20 ∷ 3 ∷ 5 ∷ 0 ∷ 3 ∷ 20 ∷ 3 ∷ 2 ∷ 0 ∷ 1 ∷ 27 ∷ 7 ∷ 1 ∷ 34 ∷ 1 ∷ 0 ∷ 0 ∷ 20 ∷ 3 ∷ 5
+      ∷ 0 ∷ 3 ∷ 27 ∷ 7 ∷ 1 ∷ 18 ∷ 1 ∷ 1 ∷ 0 ∷ 120 ∷ 29 ∷ 3 ∷ 21 ∷ 1 ∷ 2 ∷ 2 ∷ 0 ∷ 24 ∷ 1 ∷ 0 ∷ 0 ∷ 28 ∷ 1 ∷ 2 ∷ 0 ∷ 29 ∷ 3 ∷ 21
+      ∷ 1 ∷ 3 ∷ 1 ∷ 0 ∷ 20 ∷ 3 ∷ 5 ∷ 0 ∷ 3 ∷ 20 ∷ 3 ∷ 5 ∷ 0 ∷ 3 ∷ 20 ∷ 3 ∷ 5 ∷ 0 ∷ 3 ∷ 27 ∷ 7 ∷ 1 ∷ 18 ∷ 1 ∷ 1 ∷ 0 ∷ 122 ∷ 29
+      ∷ 3 ∷ 21 ∷ 1 ∷ 4 ∷ 2 ∷ 0 ∷ 20 ∷ 3 ∷ 1 ∷ 0 ∷ 3 ∷ 32 ∷ 1 ∷ 2 ∷ 0 ∷ 22 ∷ 7 ∷ 1 ∷ 0 ∷ 0 ∷ 1 ∷ 0 ∷ 97 ∷ 22 ∷ 7 ∷ 1 ∷ 0 ∷ 0 ∷ 1
+      ∷ 0 ∷ 98 ∷ [])
+      (4 ∷ 0 ∷ 1 ∷ 0 ∷ 2 ∷ 0 ∷ 5 ∷ 1 ∷ 20 ∷ 3 ∷ 1 ∷ 0 ∷ 3 ∷ 5 ∷ 1 ∷ 20 ∷ 3 ∷ 2 ∷ 0 ∷ 1 ∷ 1 ∷ 0 ∷ 1 ∷ 0 ∷ 5 ∷ 1 ∷ 20 ∷ 3 ∷ 3 ∷ 0
+      ∷ 1 ∷ 1 ∷ 0 ∷ 1 ∷ 0 ∷ 5 ∷ 1 ∷ 20 ∷ 3 ∷ 4 ∷ 0 ∷ 3 ∷ 1 ∷ 0 ∷ 1 ∷ 0 ∷ 5 ∷ 1 ∷ 20 ∷ 3 ∷ 5 ∷ 0 ∷ 3 ∷ 0 ∷ 0 ∷ [])
+  -- `[{a: [{...b}], ...c}, {...d}] = e`: the outermost in walk order, what lies below one when its assignment is walked
+  outermost-through-arrays : lowering highestLimit 0
+      (1 ∷ 1 ∷ 1 ∷ 0 ∷ 3 ∷ 3 ∷ 1 ∷ 0 ∷ 27 ∷ 7 ∷ 1 ∷ 36 ∷ 1 ∷ 2 ∷ 0 ∷ 34 ∷ 3 ∷ 1 ∷ 0 ∷ 35 ∷ 7 ∷ 38 ∷ 1 ∷ 1 ∷ 0 ∷ 97 ∷ 36 ∷ 1 ∷ 1
+      ∷ 0 ∷ 34 ∷ 3 ∷ 0 ∷ 0 ∷ 18 ∷ 1 ∷ 1 ∷ 0 ∷ 98 ∷ 0 ∷ 18 ∷ 1 ∷ 1 ∷ 0 ∷ 99 ∷ 34 ∷ 3 ∷ 0 ∷ 0 ∷ 18 ∷ 1 ∷ 1 ∷ 0 ∷ 100 ∷ 18 ∷ 1 ∷ 1
+      ∷ 0 ∷ 101 ∷ []) plenty
+      ≡ lowered 14 0
+      (1 ∷ 1 ∷ 1 ∷ 0 ∷ 3 ∷ 3 ∷ 1 ∷ 0 ∷ 28 ∷ 1 ∷ 3 ∷ 0 ∷ 27 ∷ 7 ∷ 1 ∷ 36 ∷ 1 ∷ 2 ∷ 0 ∷ 20 ∷ 3 ∷ 1 ∷ 0 ∷ 1 ∷ 20 ∷ 3 ∷ 2 ∷ 0 ∷ 1
+      ∷ 18 ∷ 1 ∷ 1 ∷ 0 ∷ 101 ∷ 28 ∷ 1 ∷ 4 ∷ 0 ∷ 27 ∷ 7 ∷ 1 ∷ 20 ∷ 3 ∷ 3 ∷ 0 ∷ 3 ∷ 20 ∷ 3 ∷ 1 ∷ 0 ∷ 1 ∷ 28 ∷ 1 ∷ 2 ∷ 0 ∷ 27 ∷ 7
+      ∷ 1 ∷ 34 ∷ 1 ∷ 1 ∷ 0 ∷ 35 ∷ 7 ∷ 38 ∷ 1 ∷ 1 ∷ 0 ∷ 97 ∷ 36 ∷ 1 ∷ 1 ∷ 0 ∷ 20 ∷ 3 ∷ 4 ∷ 0 ∷ 1 ∷ 0 ∷ 20 ∷ 3 ∷ 3 ∷ 0 ∷ 3 ∷ 28
+      ∷ 1 ∷ 4 ∷ 0 ∷ 27 ∷ 7 ∷ 1 ∷ 20 ∷ 3 ∷ 5 ∷ 0 ∷ 3 ∷ 20 ∷ 3 ∷ 4 ∷ 0 ∷ 1 ∷ 27 ∷ 7 ∷ 1 ∷ 34 ∷ 1 ∷ 0 ∷ 0 ∷ 20 ∷ 3 ∷ 5 ∷ 0 ∷ 3 ∷ 27
+      ∷ 7 ∷ 1 ∷ 18 ∷ 1 ∷ 1 ∷ 0 ∷ 98 ∷ 29 ∷ 3 ∷ 21 ∷ 1 ∷ 2 ∷ 2 ∷ 0 ∷ 24 ∷ 1 ∷ 0 ∷ 0 ∷ 28 ∷ 1 ∷ 2 ∷ 0 ∷ 29 ∷ 3 ∷ 21 ∷ 1 ∷ 3 ∷ 1
+      ∷ 0 ∷ 20 ∷ 3 ∷ 5 ∷ 0 ∷ 3 ∷ 20 ∷ 3 ∷ 5 ∷ 0 ∷ 3 ∷ 20 ∷ 3 ∷ 5 ∷ 0 ∷ 3 ∷ 27 ∷ 7 ∷ 1 ∷ 18 ∷ 1 ∷ 1 ∷ 0 ∷ 99 ∷ 29 ∷ 3 ∷ 21 ∷ 1
+      ∷ 4 ∷ 2 ∷ 0 ∷ 20 ∷ 3 ∷ 3 ∷ 0 ∷ 3 ∷ 32 ∷ 1 ∷ 1 ∷ 0 ∷ 22 ∷ 7 ∷ 1 ∷ 0 ∷ 0 ∷ 1 ∷ 0 ∷ 97 ∷ 20 ∷ 3 ∷ 3 ∷ 0 ∷ 3 ∷ 28 ∷ 1 ∷ 4 ∷ 0
+      ∷ 27 ∷ 7 ∷ 1 ∷ 20 ∷ 3 ∷ 6 ∷ 0 ∷ 3 ∷ 20 ∷ 3 ∷ 2 ∷ 0 ∷ 1 ∷ 27 ∷ 7 ∷ 1 ∷ 34 ∷ 1 ∷ 0 ∷ 0 ∷ 20 ∷ 3 ∷ 6 ∷ 0 ∷ 3 ∷ 27 ∷ 7 ∷ 1
+      ∷ 18 ∷ 1 ∷ 1 ∷ 0 ∷ 100 ∷ 29 ∷ 3 ∷ 21 ∷ 1 ∷ 2 ∷ 2 ∷ 0 ∷ 24 ∷ 1 ∷ 0 ∷ 0 ∷ 28 ∷ 1 ∷ 2 ∷ 0 ∷ 29 ∷ 3 ∷ 21 ∷ 1 ∷ 3 ∷ 1 ∷ 0 ∷ 20
+      ∷ 3 ∷ 6 ∷ 0 ∷ 3 ∷ 20 ∷ 3 ∷ 6 ∷ 0 ∷ 3 ∷ 20 ∷ 3 ∷ 6 ∷ 0 ∷ 3 ∷ [])
+      (5 ∷ 0 ∷ 1 ∷ 0 ∷ 2 ∷ 0 ∷ 5 ∷ 1 ∷ 20 ∷ 3 ∷ 1 ∷ 0 ∷ 1 ∷ 5 ∷ 1 ∷ 20 ∷ 3 ∷ 2 ∷ 0 ∷ 1 ∷ 1 ∷ 0 ∷ 1 ∷ 0 ∷ 5 ∷ 1 ∷ 20 ∷ 3 ∷ 3 ∷ 0
+      ∷ 3 ∷ 1 ∷ 0 ∷ 1 ∷ 0 ∷ 5 ∷ 1 ∷ 20 ∷ 3 ∷ 4 ∷ 0 ∷ 1 ∷ 1 ∷ 0 ∷ 1 ∷ 0 ∷ 5 ∷ 1 ∷ 20 ∷ 3 ∷ 5 ∷ 0 ∷ 3 ∷ 1 ∷ 0 ∷ 1 ∷ 0 ∷ 5 ∷ 1 ∷ 20
+      ∷ 3 ∷ 6 ∷ 0 ∷ 3 ∷ 0 ∷ 0 ∷ [])
+  -- `({a: {1.5: x, ...y}, ...z} = ([...{...q}] = w))`: the key without a form is met when the part is walked, behind 5 in the value
+  five-before-six : lowering highestLimit 0
+      (1 ∷ 1 ∷ 1 ∷ 0 ∷ 3 ∷ 3 ∷ 1 ∷ 0 ∷ 31 ∷ 1 ∷ 27 ∷ 7 ∷ 1 ∷ 34 ∷ 3 ∷ 1 ∷ 0 ∷ 35 ∷ 7 ∷ 38 ∷ 1 ∷ 1 ∷ 0 ∷ 97 ∷ 34 ∷ 3 ∷ 1 ∷ 0 ∷ 35
+      ∷ 7 ∷ 22 ∷ 3 ∷ 2 ∷ 3 ∷ 0 ∷ 49 ∷ 46 ∷ 53 ∷ 18 ∷ 1 ∷ 1 ∷ 0 ∷ 120 ∷ 0 ∷ 18 ∷ 1 ∷ 1 ∷ 0 ∷ 121 ∷ 0 ∷ 18 ∷ 1 ∷ 1 ∷ 0 ∷ 122 ∷ 31
+      ∷ 1 ∷ 27 ∷ 7 ∷ 1 ∷ 36 ∷ 3 ∷ 0 ∷ 0 ∷ 34 ∷ 3 ∷ 0 ∷ 0 ∷ 18 ∷ 1 ∷ 1 ∷ 0 ∷ 113 ∷ 18 ∷ 1 ∷ 1 ∷ 0 ∷ 119 ∷ []) plenty
+      ≡ refusal 5
+
 pub record Examples : Type 0 where
   table : Table
+  parts : Parts
   -- ---- the listing
 
   the-listing : lowering highestLimit 0 listing plenty ≡ lowered 1 0 listed empty
@@ -261,16 +359,17 @@ pub record Examples : Type 0 where
   array-rest-stays : Becomes
       (declaring 1 1 (only (declares (itemsRest (items (only (takingRest none (bind a))))) (ref b)))) 0
       (declaring 1 1 (only (declares (itemsRest (items (only (takingRest none (bind a))))) (ref b))))
-  -- `({a: {...b}, ...c} = d)`: (t = d, {a: {}} = t, b = X({}, (E(t), t)), c = W(t, ["a"])), so b is copied from d's temporary; before statement 1: t
+  -- `({a: {...b}, ...c} = d)`: (t = d, {a: p} = t, (u = p, {} = u, b = X({}, (E(u), u)), u), c = W(t, ["a"])): b is copied from d.a (request
+  -- 6); before statement 1: t, p, then u
   nested-rest : lowering highestLimit 0 (program (only (says 1 (parens (assign (takingRest (only (part (name a) (takingRest none (ref b)) 0)) (ref c)) (ref d)))))) plenty
       ≡ lowered 14 0
       (program (only (says 1 (parens (sequence (all (
       assign (temp 1 3) (ref d)
-      ∷ assign (taking (only (part (name a) (taking none) 0))) (temp 1 3)
-      ∷ assign (ref b) (copied (temp 1 3))
+      ∷ assign (taking (only (part (name a) (temp 2 1) 0))) (temp 1 3)
+      ∷ sequence (all (assign (temp 3 3) (temp 2 1) ∷ assign (taking none) (temp 3 3) ∷ assign (ref b) (copied (temp 3 3)) ∷ temp 3 3 ∷ []))
       ∷ assign (ref c) (W (temp 1 3) (array (only (string (a ∷ [])))))
       ∷ [])))))))
-      (1 ∷ 0 ∷ 1 ∷ 0 ∷ 1 ∷ 0 ∷ 5 ∷ 1 ∷ 20 ∷ 3 ∷ 1 ∷ 0 ∷ 3 ∷ 0 ∷ 0 ∷ [])
+      (2 ∷ 0 ∷ 1 ∷ 0 ∷ 2 ∷ 0 ∷ 5 ∷ 1 ∷ 20 ∷ 3 ∷ 1 ∷ 0 ∷ 3 ∷ 5 ∷ 1 ∷ 20 ∷ 3 ∷ 2 ∷ 0 ∷ 1 ∷ 1 ∷ 0 ∷ 1 ∷ 0 ∷ 5 ∷ 1 ∷ 20 ∷ 3 ∷ 3 ∷ 0 ∷ 3 ∷ 0 ∷ 0 ∷ [])
   -- `{ let {a, ...r} = s; }`: not at root the keys go to the list, t = ["a"]
   hoisted-keys : lowering highestLimit 0 (program (only (blockOf 1 (only (declaring 2 2 (only (declares (takingRest (only (part (name a) (bind a) 2)) (bind r)) (ref s)))))))) plenty
       ≡ lowered 8 0
@@ -400,8 +499,8 @@ unfolding
     Rattle.lowering.specs.Declarations.declarators Rattle.lowering.specs.Declarations.loweredIn
     Rattle.lowering.specs.Declarations.declaration Rattle.lowering.specs.Declarations.declarationMakes
     Rattle.lowering.specs.Declarations.declarationExcludes Rattle.lowering.specs.Declarations.declarationLacksForm
-    Rattle.lowering.specs.Assignments.isTop Rattle.lowering.specs.Assignments.restsThroughObjects
-    Rattle.lowering.specs.Assignments.topLacksForm Rattle.lowering.specs.Assignments.withoutRests
+    Rattle.lowering.specs.Assignments.isTop Rattle.lowering.specs.Assignments.nearest
+    Rattle.lowering.specs.Assignments.topLacksForm Rattle.lowering.specs.Assignments.partsReplaced
     Rattle.lowering.specs.Assignments.topSequence Rattle.lowering.specs.Assignments.topEntry
     Rattle.lowering.specs.Assignments.topExcludes Rattle.lowering.specs.Assignments.topMakes
     Rattle.lowering.specs.Assignments.nestedSequence Rattle.lowering.specs.Assignments.nestedEntry
@@ -443,4 +542,4 @@ unfolding
     Rattle.lowering.specs.Answer.afterReading Rattle.lowering.specs.Answer.lowering
     Rattle.lowering.specs.Answer.filled Rattle.lowering.specs.Answer.outcomeOf
     Rattle.lowering.specs.Answer.outcome Rattle.lowering.specs.Answer.inForce
-examples = record { table = record { empty-literal = refl; plain-literal = refl; two-spreads = refl; spread-last = refl; spread-first = refl; spread-around = refl; rest = refl; rest-only = refl }; the-listing = refl; retired-option = refl; all-options = refl; one-options = refl; one-retired = refl; two-work = refl; three-empty = refl; four-deep = refl; not-so-deep = refl; five-array-rest = refl; six-no-form = refl; seven-short = refl; just-fits = refl; deeper = refl; deepest = refl; too-deep = refl; nine-zero = refl; nine-above = refl; nine-first = refl; one-next = refl; one-level = refl; one-level-deep = refl; one-level-no-tree = refl; tree-slice = refl; list-slice = refl; refused-slice = refl; array-rest-stays = refl; nested-rest = refl; hoisted-keys = refl; switch-scope = refl; class-scope = refl; static-block-contains = refl; case-contains = refl; method-parameter = refl; stem-of-a-pattern = refl; stem-of-a-key = refl; stems-in-the-list = refl; template-copied = refl; mark-twice = refl }
+examples = record { table = record { empty-literal = refl; plain-literal = refl; two-spreads = refl; spread-last = refl; spread-first = refl; spread-around = refl; rest = refl; rest-only = refl }; parts = record { coach-script = refl; parts-keys-later = refl; parts-before-keys = refl; array-beside-part = refl; outermost-through-arrays = refl; five-before-six = refl }; the-listing = refl; retired-option = refl; all-options = refl; one-options = refl; one-retired = refl; two-work = refl; three-empty = refl; four-deep = refl; not-so-deep = refl; five-array-rest = refl; six-no-form = refl; seven-short = refl; just-fits = refl; deeper = refl; deepest = refl; too-deep = refl; nine-zero = refl; nine-above = refl; nine-first = refl; one-next = refl; one-level = refl; one-level-deep = refl; one-level-no-tree = refl; tree-slice = refl; list-slice = refl; refused-slice = refl; array-rest-stays = refl; nested-rest = refl; hoisted-keys = refl; switch-scope = refl; class-scope = refl; static-block-contains = refl; case-contains = refl; method-parameter = refl; stem-of-a-pattern = refl; stem-of-a-key = refl; stems-in-the-list = refl; template-copied = refl; mark-twice = refl }

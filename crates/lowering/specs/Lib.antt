@@ -9,6 +9,7 @@ pub mod Assignments
 pub mod Heads
 pub mod Refusals
 pub mod Walk
+pub mod Visits
 pub mod Weight
 pub mod Collect
 pub mod Answer

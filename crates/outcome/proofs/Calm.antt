@@ -35,15 +35,15 @@ use Rattle.sink.specs.Machine.{Event}
 use Rattle.direct.specs.Events.{Deed, Place, Emit, puts, lists, cell, numberIn, handsOut, after, marks, countIn, mapIn, written, deeds, deedsFields, deedsPiece, deedsItems, contextOf, emits}
 use Rattle.direct.specs.Events.Deed.{does, refuses}
 use Rattle.direct.specs.Emit.{say, _▷_, inner, inTurn, callHead}
-use Rattle.direct.specs.Views.{View, valuesOf, takes, objectAt, objectRestAt, propertyAt, defaultAt, viewedProperty, nameless, eachDoes, saysCell, emitsView, emitsProperty, isOther, emitsKey}
-use Rattle.direct.specs.Views.View.{taking, leaving}
+use Rattle.direct.specs.Views.{View, takes, objectAt, objectRestAt, propertyAt, defaultAt, viewedProperty, nameless, eachDoes, saysCell, emitsView, emitsProperty, isOther, emitsKey}
+use Rattle.direct.specs.Views.View.{replacing, taking}
 use Rattle.direct.specs.Keys.{stringBytes, emitsExcluded, entries, primitives, hoists, emitsKeys, emitsKeysRead, emitsRest}
-use Rattle.direct.specs.Objects.{objectsIn, restsIn, overObjects, overRests}
+use Rattle.direct.specs.Objects.{reachedIn, replacedIn, overReplaced, overParts}
+use Rattle.direct.specs.Objects.Reach.{straight}
 use Rattle.direct.specs.Handed.{placesIn, handsPlace, handsNested}
-use Rattle.direct.specs.Assigned.{restInArrays, emitsRestOf, emitsNest, emitsTarget}
+use Rattle.direct.specs.Assigned.{emitsRestOf, emitsNest, emitsTarget}
 use Rattle.direct.specs.Declared.{emitsKeyValue, emitsOwnKeys, emitsOwnPattern}
 use Rattle.direct.proofs.PatternViews.{view-object, view-rest, view-default, view-property}
-use Rattle.direct.proofs.ObjectsByLevel.{through-object, through-rest, through-array, through-default, through-leaf}
 use Rattle.direct.proofs.RestValues.{excluded-spelt, excluded-itself, excluded-omitted, excluded-saved, rest-none, rest-some}
 use Rattle.direct.proofs.AssignmentsByPart.{target-nested, target-kept, rest-done}
 use Rattle.direct.proofs.Ways.{key-plain, own-pattern-some}
@@ -461,7 +461,7 @@ module _ (c d : Place) (v : View) (t : takes v ≡ true) (same : c .root ≡ d .
   unfolding inner
   taken-quiet h =
       let head = puts (34 ∷ 1 ∷ wideBytes (count ps)) in
-      keys-quiet (inner c) d (valuesOf v) same w (once-right (say-sounds head tt) (subst Once (view-rest c v t at ps r) h))
+      keys-quiet (inner c) d replacing same w (once-right (say-sounds head tt) (subst Once (view-rest c v t at ps r) h))
 
 not-object : (p : Node) → Leaf p → is 34 p ≡ true → ⊥
 unfolding shape is
@@ -473,12 +473,12 @@ not-object p l e = go (eqb (kind p) 34) l e
 
 -- an object with rest by its parts
 data Resting : Node → Type 0 where
-  parts : {at : ℕ} {ps : Items} {r : Node} → Properties ps → Resting (objectRestAt at ps r)
+  parts : {at : ℕ} {ps : Items} {r : Node} → Properties ps → Leaf r → Resting (objectRestAt at ps r)
 
 resting : {p : Node} → Pattern p → is 34 p ≡ true → hasRest p ≡ true → Resting p
 unfolding is stands standsIn
 resting (Pattern.object w) e h = absurd (false≢true h)
-resting (Pattern.objectRest w l) e h = Resting.parts w
+resting (Pattern.objectRest w l) e h = Resting.parts w l
 resting Pattern.array e h = absurd (false≢true e)
 resting (Pattern.default w) e h = absurd (false≢true e)
 resting (Pattern.other {p = p} l) e h = absurd (not-object p l e)
@@ -487,7 +487,7 @@ resting (Pattern.other {p = p} l) e h = absurd (not-object p l e)
 value-quiet : (c d : Place) {p : Node} → Resting p → c .root ≡ d .root → (s : Emit) → Quiet s → (isEmpty (properties p) ≡ false → Once (emitsView c taking p))
     → (at : ℕ) → Quiet (emitsRest d at (properties p) s)
 unfolding itemsAt pieceIn
-value-quiet c d (Resting.parts {at = i} {ps = ps} {r = r} w) same s k h at =
+value-quiet c d (Resting.parts {at = i} {ps = ps} {r = r} w l) same s k h at =
     rest-has quiets d at ps s k (λ e. taken-quiet c d taking refl same i r w (h e))
 
 -- the pattern refuses nothing, so the value of its rest does not
@@ -529,21 +529,6 @@ own-calm c place p f e h s k m z at m′ =
 
 -- ---- the rests of a target
 
-then-steadily : {e f e′ f′ : Emit} → Steadily e e′ → Steadily f f′ → Steadily (e ▷ f) (e′ ▷ f′)
-unfolding _▷_
-then-steadily {e = e} {f = f} {e′ = e′} {f′ = f′} h k =
-    record {
-      always = λ m m′.
-          both-steady (e m) (f (after m (e m))) (e′ m′) (f′ (after m′ (e′ m′))) (h .always m m′) (k .always (after m (e m)) (after m′ (e′ m′)));
-    }
-
-steadily-as : {e f e′ f′ : Emit} → e ≡ e′ → f ≡ f′ → Steadily e′ f′ → Steadily e f
-steadily-as {e = e} {f′ = f′} x y h = subst (λ (f : Emit). Steadily e f) (sym y) (subst (λ (e : Emit). Steadily e f′) (sym x) h)
-
-nothing-steadily : Steadily (say []) (say [])
-unfolding say
-nothing-steadily = record { always = λ m m′. silent-steady [] [] tt tt }
-
 -- a part between others that refuse nothing
 between : (ds : List Deed) (e : Emit) {f : Emit} → Silent ds → Quiet f → (m : ℕ) → firstRefused ((say ds ▷ e ▷ f) m) ≡ firstRefused (e (after m ds))
 unfolding _▷_ say
@@ -551,87 +536,65 @@ between ds e {f = f} h k m =
     let n = after m ds in
     after-silent ds (e n ++ f (after n (e n))) h ∙ then-none (e n) (f (after n (e n))) (k .always (after n (e n)))
 
-module _ (c : Place) (x : ℕ) where
-  pub of-sounds : (o : Node) → Sounds (emitsRestOf c x o)
+module _ (c : Place) where
+  pub of-sounds : (o : Node) → Sounds (emitsRestOf c o)
   unfolding emitsRestOf
-  of-sounds o = node-sounds (inner c) (assign (rest o) (restValue (contextOf c) o (temporary [] 3 x)))
+  of-sounds o = node-sounds (inner c) (assign (rest o) (restValue (contextOf c) o (temporary [] 3 (position o))))
 
-  -- what is assigned to the rest of an object refuses nothing
-  one-steadily : {ps : Items} (at : ℕ) (r : Node) → Properties ps → Leaf r → Once (emitsView (inner c) leaving (objectRestAt at ps r))
-      → Steadily (emitsRestOf c x (objectRestAt at ps r)) (emits (inner c) r)
-  one-steadily {ps = ps} at r w l h =
+  -- what is assigned to the rest of an object refuses nothing: only what it is assigned to does
+  rest-steadily : {ps : Items} (at : ℕ) (r : Node) → Properties ps → Leaf r → Once (emitsView (inner c) taking (objectRestAt at ps r))
+      → Steadily (emitsRestOf c (objectRestAt at ps r)) (emits (inner c) r)
+  rest-steadily {ps = ps} at r w l h =
       let o = objectRestAt at ps r in
-      let k = rest-has quiets (inner c) at ps (saysCell 3 x) (cell-has quiets 3 x) (λ _. taken-quiet (inner c) (inner c) leaving refl refl at r w h) in
+      let k = rest-has quiets (inner c) at ps (saysCell 3 at) (cell-has quiets 3 at) (λ _. taken-quiet (inner c) (inner c) taking refl refl at r w h) in
       let head = puts (27 ∷ 7 ∷ 1 ∷ []) in
       record {
         always = λ m m′.
             record {
               left = of-sounds o .always m;
               right = emits-sound (inner c) r m′;
-              same = ap (λ (e : Emit). firstRefused (e m)) (rest-done c x at ps r l) ∙ between head (emits (inner c) r) tt k m ∙ steady (inner c) (inner c) r refl refl (after m head) m′;
+              same = ap (λ (e : Emit). firstRefused (e m)) (rest-done c at ps r l) ∙ between head (emits (inner c) r) tt k m ∙ steady (inner c) (inner c) r refl refl (after m head) m′;
             };
       }
-
-  -- only what it is assigned to
-  abbrev kept : Node → Emit
-  kept o = emits (inner c) (rest o)
-
-  mutual
-    unfolding inTurn eachDoes nodeAt pieceIn inner
-
-    rests-steadily : {p : Node} → Pattern p → Once (emitsView (inner c) leaving p) → Steadily (overRests (emitsRestOf c x) p) (overRests kept p)
-    rests-steadily (Pattern.object {at = at} {ps = ps} w) h =
-        let head = puts (34 ∷ 1 ∷ wideBytes (count ps)) in
-        steadily-as (through-object (emitsRestOf c x) at ps) (through-object kept at ps)
-        (values-steadily w false (once-right (say-sounds head tt) (subst Once (view-object (inner c) leaving at ps) h)))
-    rests-steadily (Pattern.objectRest {at = at} {ps = ps} {r = r} w l) h =
-        let head = puts (34 ∷ 1 ∷ wideBytes (count ps)) in
-        steadily-as (through-rest (emitsRestOf c x) at ps r) (through-rest kept at ps r)
-        (then-steadily (values-steadily w true (once-right (say-sounds head tt) (subst Once (view-rest (inner c) leaving refl at ps r) h))) (one-steadily at r w l h))
-    rests-steadily (Pattern.array {at = at} {fs = fs}) h =
-        steadily-as (through-array (emitsRestOf c x) at fs) (through-array kept at fs) nothing-steadily
-    rests-steadily (Pattern.default {at = at} {l = l} {r = r} w) h =
-        let more = Fields.field (Piece.one r) Fields.done in
-        steadily-as (through-default (emitsRestOf c x) at l more) (through-default kept at l more)
-        (rests-steadily w (once-left _ (once-right (say-sounds (puts (37 ∷ 3 ∷ [])) tt) (subst Once (view-default (inner c) leaving at l r) h))))
-    rests-steadily (Pattern.other {p = p} l) h =
-        steadily-as (through-leaf (emitsRestOf c x) p l) (through-leaf kept p l) nothing-steadily
-
-    values-steadily : {ps : Items} → Properties ps → (t : Bool) → Once (eachDoes (emitsProperty (inner c) t leaving) ps)
-        → Steadily (inTurn (λ q. overRests (emitsRestOf c x) (value q)) ps) (inTurn (λ q. overRests kept (value q)) ps)
-    values-steadily Properties.none t h = nothing-steadily
-    values-steadily (Properties.item {at = at} {b = b} {k = k} {x = v} {qs = qs} w ws) t h =
-        then-steadily (rests-steadily w (property-parts (inner c) t leaving at k v b (once-left _ h) .1))
-        (values-steadily ws t (once-right (property-sounds (inner c) t leaving (propertyAt at k v b)) h))
 
 -- ---- the whole target
 
 place-sounds : (v : View) (m : ℕ) (p : Node) → Sounds (handsNested v m p)
-unfolding handsNested overObjects handsPlace
+unfolding handsNested overReplaced handsPlace
 place-sounds v m p =
     sounds-then (say-sounds (does (Event.entry m (placesIn v p)) ∷ []) tt)
-    (turn-sounds handsPlace (λ o. say-sounds (lists (5 ∷ 1 ∷ []) ++ (does (Event.listedTemporary (cell 1 (position o)) 1) ∷ [])) tt) (objectsIn nameless v p))
+    (turn-sounds handsPlace (λ o. say-sounds (lists (5 ∷ 1 ∷ []) ++ (does (Event.listedTemporary (cell 1 (position o)) 1) ∷ [])) tt) (replacedIn v p))
 
-pub over-sounds : (f : Node → Emit) → ((o : Node) → Sounds (f o)) → (p : Node) → Sounds (overRests f p)
-unfolding overRests
-over-sounds f h p = turn-sounds f h (restsIn p)
+pub parts-sound : (f : Node → Emit) → ((o : Node) → Sounds (f o)) → (p : Node) → Sounds (overParts f p)
+unfolding overParts
+parts-sound f h p = turn-sounds f h (reachedIn straight p)
 
 -- its view is written in either way
-target-view : (c : Place) (p : Node) → Once (emitsTarget c p) → Once (emitsView (inner c) leaving p)
+target-view : (c : Place) (p : Node) → Once (emitsTarget c p) → Once (emitsView (inner c) taking p)
 unfolding emitsNest inner
 target-view c p h =
-    by-test (restInArrays p)
-    (λ e.
-    let head = puts (28 ∷ 1 ∷ wideBytes (suc (placesIn leaving p))) in
-    once-left _ (once-right (say-sounds (puts (27 ∷ 7 ∷ 1 ∷ [])) tt) (once-right (say-sounds head tt) (once-right (place-sounds leaving (c .mark) p) (subst Once (target-nested c p e) h)))))
+    by-test (isEmpty (replacedIn taking p))
     (λ e. once-left _ (once-right (say-sounds (puts (27 ∷ 7 ∷ 1 ∷ [])) tt) (subst Once (target-kept c p e) h)))
+    (λ e.
+    let head = puts (28 ∷ 1 ∷ wideBytes (suc (placesIn taking p))) in
+    once-left _ (once-right (say-sounds (puts (27 ∷ 7 ∷ 1 ∷ [])) tt) (once-right (say-sounds head tt) (once-right (place-sounds taking (c .mark) p) (subst Once (target-nested c p e) h)))))
 
--- the same by all that is written for the target
-pub target-calm : (c : Place) (place : ℕ) (p : Node) → Fits input place p → (m : ℕ) → firstRefused (emitsTarget c p m) ≡ 0
-    → (x m′ m″ : ℕ) → firstRefused (overRests (emitsRestOf c x) p m′) ≡ firstRefused (overRests (λ o. emits (inner c) (rest o)) p m″)
-target-calm c place p f m z x m′ m″ = rests-steadily c x (drawn p f) (target-view c p (record { next = m; none = z })) .always m′ m″ .same
+-- where all that is written for the target of an object with rest refuses nothing, its rest refuses what it is assigned to
+target-steadily : (c : Place) {p : Node} → Resting p → Once (emitsView (inner c) taking p) → Steadily (emitsRestOf c p) (emits (inner c) (rest p))
+unfolding nodeAt pieceIn
+target-steadily c (Resting.parts {at = at} {r = r} w l) h = rest-steadily c at r w l h
+
+pub target-calm : (c : Place) (place : ℕ) (p : Node) → Fits input place p → is 34 p ≡ true → hasRest p ≡ true → (m : ℕ) → firstRefused (emitsTarget c p m) ≡ 0
+    → (m′ m″ : ℕ) → firstRefused (emitsRestOf c p m′) ≡ firstRefused (emits (inner c) (rest p) m″)
+target-calm c place p f e r m z m′ m″ = target-steadily c (resting (drawn p f) e r) (target-view c p (record { next = m; none = z })) .always m′ m″ .same
+
+-- and the value of its rest refuses nothing
+pub target-value-calm : (c : Place) (place : ℕ) (p : Node) → Fits input place p → is 34 p ≡ true → hasRest p ≡ true → (m : ℕ) → firstRefused (emitsTarget c p m) ≡ 0
+    → (at : ℕ) (s : Emit) → ((k : ℕ) → firstRefused (s k) ≡ 0) → (m′ : ℕ) → firstRefused (emitsRest (inner c) at (properties p) s m′) ≡ 0
+target-value-calm c place p f e h m z at s k m′ =
+    value-quiet (inner c) (inner c) (resting (drawn p f) e h) refl s (record { always = k }) (λ _. target-view c p (record { next = m; none = z })) at .always m′
 
 -- the same inside
-pub rest-inner : (c : Place) (x : ℕ) → emitsRestOf (inner c) x ≡ emitsRestOf c x
+pub rest-inner : (c : Place) → emitsRestOf (inner c) ≡ emitsRestOf c
 unfolding emitsRestOf inner restValue keysRead isHoisted excludedKeys excludedKey
-rest-inner c x = refl
+rest-inner c = refl

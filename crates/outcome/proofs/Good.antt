@@ -10,14 +10,14 @@ use Prim.Native.Nat.{ℕ, zero, suc}
 use native.Mathlib.Omega.{arith}
 use lib.Dec.{eqb}
 use borrow.Author.Tests.{eqb-true}
-use Rattle.tree.specs.Tree.{Node, Fields, Piece, Items}
+use Rattle.tree.specs.Tree.{Node, Fields, Piece, Items, depth}
 use Rattle.tree.specs.Tree.Node.{node}
 use Rattle.lowering.specs.Parts.{nothing, position, kind, is, pieceIn, changeIn, dropIn, asNode, asItems, nodeAt, itemsAt, change, onNode, onItems, changeNode, changeItems, without, only, each, gather, _+++_}
 use Rattle.lowering.specs.Made.{Context, temporary, reference, keyOf}
 use Rattle.lowering.specs.Patterns.{shape, properties, itemsOf, rest, hasRest, leftOf, key, value, withItems, withProperties, withValues, replaced, objectsWithRest}
 use Rattle.lowering.specs.Patterns.Shape.{objectPattern, arrayPattern, default, leaf}
 use Rattle.lowering.specs.Keys.{keySort, keptKey, taken}
-use Rattle.lowering.specs.Assignments.{restsThroughObjects, withoutRests}
+use Rattle.lowering.specs.Assignments.{nearest, partsOf, partsReplaced}
 use Rattle.lowering.specs.Heads.{moved, movedPattern, movedOut}
 use Rattle.lowering.proofs.All.{AllItems, AllFields, Each, all-append, all-gather, all-each, other-changed}
 use Rattle.lowering.proofs.Cases.{by-test, by-shape, by-key, object-is, array-is, default-is, is-changed}
@@ -665,23 +665,36 @@ module _ (c : Context) where
       (λ e. rw (e, objectsWithRest, AllItems) (objects-good d (leftOf p) (node-good 0 p h)))
       (λ e. rw (e, objectsWithRest, AllItems) tt)
 
-  pub rests-good : (d : ℕ) (p : Node) → Good p → AllItems GoodObject (restsThroughObjects d p)
-  unfolding restsThroughObjects
-  rests-good zero p h = tt
-  rests-good (suc d) p h =
-      by-shape (shape p)
-      (λ e. rw (e, restsThroughObjects, AllItems)
-      (all-append GoodObject (gather (λ q. restsThroughObjects d (value q)) (properties p)) (cond (hasRest p) (only p) Items.none)
-      (all-gather Good GoodObject (λ q. restsThroughObjects d (value q)) (λ q g. rests-good d (value q) (node-good 1 q g)) (properties p) (to-all (properties p) (items-good 0 p h)))
-      (by-test (hasRest p) (λ r. rw (r, AllItems) ((object-is p e, h), tt)) (λ r. rw (r, AllItems) tt))))
-      (λ e. rw (e, restsThroughObjects, AllItems) tt)
-      (λ e. rw (e, restsThroughObjects, AllItems) (rests-good d (leftOf p) (node-good 0 p h)))
-      (λ e. rw (e, restsThroughObjects, AllItems) tt)
+  -- of an assignment
+  some-all : (P : Node → Type 0) (b : Bool) (is js : Items) → AllItems P is → AllItems P js → AllItems P (cond b is js)
+  some-all P true is js h k = h
+  some-all P false is js h k = k
 
-  pub without-fixes : (d : ℕ) (p : Node) → Leaf p → withoutRests c d p ≡ p
-  unfolding withoutRests
-  without-fixes zero p l = refl
-  without-fixes (suc d) p l = rw (l, withoutRests) refl
+  nearest-values : (arrays : Bool) (d : ℕ) → ((p : Node) → Good p → AllItems GoodObject (nearest arrays d p)) → (p : Node) → Good p
+      → AllItems GoodObject (gather (λ q. nearest arrays d (value q)) (properties p))
+  nearest-values arrays d r p h =
+      all-gather Good GoodObject (λ q. nearest arrays d (value q)) (λ q g. r (value q) (node-good 1 q g)) (properties p) (to-all (properties p) (items-good 0 p h))
+
+  pub nearest-good : (arrays : Bool) (d : ℕ) (p : Node) → Good p → AllItems GoodObject (nearest arrays d p)
+  unfolding nearest
+  nearest-good arrays zero p h = tt
+  nearest-good arrays (suc d) p h =
+      by-shape (shape p)
+      (λ e. rw (e, nearest)
+      (some-all GoodObject (hasRest p) (only p) (gather (λ q. nearest arrays d (value q)) (properties p)) ((object-is p e, h), tt) (nearest-values arrays d (nearest-good arrays d) p h)))
+      (λ e. rw (e, nearest)
+      (some-all GoodObject arrays (gather (λ q. nearest arrays d q) (itemsOf p)) Items.none
+      (all-gather Good GoodObject (λ q. nearest arrays d q) (λ q g. nearest-good arrays d q g) (itemsOf p) (to-all (itemsOf p) (items-good 0 p h))) tt))
+      (λ e. rw (e, nearest) (nearest-good arrays d (leftOf p) (node-good 0 p h)))
+      (λ e. rw (e, nearest) tt)
+
+  pub parts-good : (p : Node) → Good p → AllItems GoodObject (partsOf p)
+  parts-good p h = nearest-values false (depth p) (nearest-good false (depth p)) p h
+
+  pub parts-fixes : (d : ℕ) (p : Node) → Leaf p → partsReplaced c d p ≡ p
+  unfolding partsReplaced
+  parts-fixes zero p l = refl
+  parts-fixes (suc d) p l = rw (l, partsReplaced) refl
 
   pub taken-simple : (p : Node) → NotDefault p → NotDefault (taken c p)
   unfolding taken
@@ -690,29 +703,39 @@ module _ (c : Context) where
       (λ r. rw r (is-without (withProperties (keptKey c) p) 37 ∙ is-changed 0 (onItems (each (keptKey c))) p 37 ∙ h))
       (λ r. rw r h)
 
-  without-simple : (d : ℕ) (p : Node) → NotDefault p → NotDefault (withoutRests c d p)
-  unfolding withoutRests
-  without-simple zero p h = h
-  without-simple (suc d) p h =
-      let f : Node → Node = λ v. withoutRests c d v in
+  parts-simple : (d : ℕ) (p : Node) → NotDefault p → NotDefault (partsReplaced c d p)
+  unfolding partsReplaced
+  parts-simple zero p h = h
+  parts-simple (suc d) p h =
+      let f : Node → Node = λ v. partsReplaced c d v in
       by-shape (shape p)
-      (λ e. rw (e, withoutRests) (taken-simple (withValues f p) (is-changed 0 (onItems (each (λ q. changeNode 1 f q))) p 37 ∙ h)))
-      (λ e. rw (e, withoutRests) h)
+      (λ e. rw (e, partsReplaced)
+      (by-test (hasRest p) (λ r. rw r (reference-simple p)) (λ r. rw r (is-changed 0 (onItems (each (λ q. changeNode 1 f q))) p 37 ∙ h))))
+      (λ e. rw (e, partsReplaced) h)
       (λ e. not-default p h e)
-      (λ e. rw (e, withoutRests) h)
+      (λ e. rw (e, partsReplaced) h)
 
-  pub withoutRests-good : (d : ℕ) (p : Node) → Good p → Good (withoutRests c d p)
-  unfolding withoutRests
-  withoutRests-good zero p h = h
-  withoutRests-good (suc d) p h =
-      let f : Node → Node = λ v. withoutRests c d v in
-      let v : View f = record { keeps = withoutRests-good d; fixes = without-fixes d; simple = without-simple d } in
+  partsReplaced-good : (d : ℕ) (p : Node) → Good p → Good (partsReplaced c d p)
+  unfolding partsReplaced
+  partsReplaced-good zero p h = h
+  partsReplaced-good (suc d) p h =
+      let f : Node → Node = λ v. partsReplaced c d v in
+      let v : View f = record { keeps = partsReplaced-good d; fixes = parts-fixes d; simple = parts-simple d } in
       by-shape (shape p)
-      (λ e. rw (e, withoutRests, Good)
-      (taken-good (withValues f p) (is-changed 0 (onItems (each (λ q. changeNode 1 f q))) p 34 ∙ object-is p e) (each-items (λ q. changeNode 1 f q) (view-node f v 1) (changed-35 1 (onNode f)) 0 p h)))
-      (λ e. rw (e, withoutRests, Good) h)
-      (λ e. rw (e, withoutRests, Good) (view-node f v 0 p h))
-      (λ e. rw (e, withoutRests, Good) h)
+      (λ e. rw (e, partsReplaced, Good)
+      (by-test (hasRest p)
+      (λ r. rw (r, Good) (reference-good p))
+      (λ r. rw (r, Good) (each-items (λ q. changeNode 1 f q) (view-node f v 1) (changed-35 1 (onNode f)) 0 p h))))
+      (λ e. rw (e, partsReplaced, Good) h)
+      (λ e. rw (e, partsReplaced, Good) (view-node f v 0 p h))
+      (λ e. rw (e, partsReplaced, Good) h)
+
+  -- what is left of an object with rest
+  pub left-good : (p : Node) → is 34 p ≡ true → Good p → Good (taken c (withValues (λ v. partsReplaced c (depth p) v) p))
+  left-good p e h =
+      let f : Node → Node = λ v. partsReplaced c (depth p) v in
+      let v : View f = record { keeps = partsReplaced-good (depth p); fixes = parts-fixes (depth p); simple = parts-simple (depth p) } in
+      taken-good (withValues f p) (is-changed 0 (onItems (each (λ q. changeNode 1 f q))) p 34 ∙ e) (each-items (λ q. changeNode 1 f q) (view-node f v 1) (changed-35 1 (onNode f)) 0 p h)
 
   movedOut-fixes : (d : ℕ) (p : Node) → Leaf p → movedOut c d p ≡ p
   unfolding movedOut

@@ -16,13 +16,14 @@ use Rattle.lowering.specs.Keys.{keySort, excludedKey, excludedKeys, keyTemporar
 use Rattle.lowering.specs.Rests.{hasNoProperties, mapped, isHoisted, keysRead, restValue}
 use Rattle.lowering.specs.Literals.{Call, opened, closed, scan, literal}
 use Rattle.lowering.specs.Declarations.{isName, source, sourceDeclarator, keysBefore, patternDeclarator, restDeclarator, own, nested, nestedBelow, objectDeclarators, patternDeclarators, lowerDeclarator, isLowered, declarators, declaration, declarationLacksForm}
-use Rattle.lowering.specs.Assignments.{isTop, target, assigned, restsOf, topLacksForm, targetLeft, topSequence, nestedSequence}
+use Rattle.lowering.specs.Assignments.{isTop, target, assigned, partsOf, outermost, fromReference, topLacksForm, targetLeft, topSequence, nestedSequence}
 use Rattle.lowering.specs.Heads.{isMoved, movedFrom, movedPattern, movedOut, leftBehind, inFront, inBody, asFunctionBody, asBlock, function, arrow, catch, declaringHead, assigningHead}
 use Rattle.lowering.specs.Walk.{Rule, ruleOf, rewrite, stepDeclaration, stepTop, stepAssignment, stepFor}
 use Rattle.lowering.specs.Walk.Rule.{literals, declarations, assignments, functions, arrows, catches, fors, nowhere}
-use Rattle.lowering.proofs.All.{all-each}
+use Rattle.lowering.proofs.All.{AllItems, all-each}
 use Rattle.lowering.proofs.Cases.{by-test, by-shape, by-key, by-rule, object-is, array-is, is-changed, functionBody-is, block-is, by-entry}
-use Rattle.outcome.proofs.Good.{NotDefault, temporary-20, temporary-simple, leaf-simple, object-simple, array-simple, rest-leaf, taken-simple, replaced-simple, reference-simple, movedPattern-simple, Is35, changed-35, Good, GoodItems, GoodObject, free, nothing-good, from-all, node-good, items-good, append-good, gather-good, view-node, change-items, each-items, change-free, temporary-good, reference-good, taken-good, replaced-view, values-good, objects-good, rests-good, withoutRests-good, movedOut-view, moved-good, movedPattern-good}
+use Rattle.outcome.proofs.Good.{NotDefault, temporary-20, temporary-simple, leaf-simple, object-simple, array-simple, rest-leaf, taken-simple, replaced-simple, reference-simple, movedPattern-simple, Is35, changed-35, Good, GoodItems, GoodObject, free, nothing-good, from-all, node-good, items-good, append-good, gather-good, view-node, change-items, each-items, change-free, temporary-good, reference-good, taken-good, replaced-view, values-good, movedOut-view, moved-good, movedPattern-good, nearest-good, parts-good, left-good}
+use Rattle.lowering.proofs.Clauses.{top-34}
 use Rattle.tree.proofs.Sound.{never}
 use Rattle.direct.proofs.AlikeRules.{functionBody-kind, block-kind}
 
@@ -354,31 +355,36 @@ module _ (c : Context) where
 
   -- ---- assignments
 
-  top-good : (n : Node) → Good n → Good (topSequence c n)
+  from-good : (ps : Items) → AllItems (GoodObject c) ps → GoodItems (each (fromReference c) ps)
+  from-good ps h =
+      from-all (each (fromReference c) ps) (all-each (GoodObject c) Good (fromReference c) (λ q o. assign-good q (reference c q) (o .1) (reference-good c q)) ps h)
+
+  top-good : (n : Node) → isTop (target n) ≡ true → Good n → Good (topSequence c n)
   unfolding topSequence
-  top-good n h =
-      let t = valueOf c (target n) in
-      let g = temporary-good (c .path) 3 (position (target n)) in
-      let p = node-good 1 n h in
-      sequence-good (item (assign t (assigned n)) (item (assign (targetLeft c n) t) (each (λ q. assign (rest q) (restValue c q t)) (restsOf n) +++ cond (c .statement) none (only t)))) (
+  top-good n e h =
+      let p = target n in
+      let t = valueOf c p in
+      let g = temporary-good (c .path) 3 (position p) in
+      let k = node-good 1 n h in
+      let ps = each (fromReference c) (partsOf p) in
+      let last = item (assign (rest p) (restValue c p t)) (cond (c .statement) none (only t)) in
+      sequence-good (item (assign t (assigned n)) (item (assign (targetLeft c n) t) (ps +++ last))) (
         assign-good t (assigned n) g (node-good 2 n h),
         (
-          assign-good (targetLeft c n) t (withoutRests-good c (depth (target n)) (target n) p) g,
-          append-good (each (λ q. assign (rest q) (restValue c q t)) (restsOf n)) (cond (c .statement) none (only t))
-              (from-all (each (λ q. assign (rest q) (restValue c q t)) (restsOf n))
-              (all-each (GoodObject c) Good (λ q. assign (rest q) (restValue c q t)) (λ q o. assign-good (rest q) (restValue c q t) (node-good 1 q (o .1)) (restValue-good q t (o .1) g)) (restsOf n) (rests-good c (depth (target n)) (target n) p)))
-              (by-test (c .statement) (λ e. rw (e, GoodItems) tt) (λ e. rw (e, GoodItems) (g, tt))),
+          assign-good (targetLeft c n) t (left-good c p (top-34 p e) k) g,
+          append-good ps last (from-good (partsOf p) (parts-good c p k)) (
+            assign-good (rest p) (restValue c p t) (node-good 1 p k) (restValue-good p t k g),
+            by-test (c .statement) (λ e. rw (e, GoodItems) tt) (λ e. rw (e, GoodItems) (g, tt)),
+          ),
         ),
       )
 
   nested-sequence-good : (n : Node) → Free n → Good n → Good (nestedSequence c n)
   unfolding nestedSequence
   nested-sequence-good n f h =
-      let p = node-good 1 n h in
-      sequence-good (item (changeNode 1 (λ m. replacedBelow c m) n) (each (λ q. assign q (reference c q)) (objectsBelow c (target n)))) (
+      sequence-good (item (changeNode 1 (λ m. replacedBelow c m) n) (each (fromReference c) (outermost (target n)))) (
         change-free (λ m. replacedBelow c m) (λ m g. replaced-view c (depth m) .keeps m g) (λ m g. replaced-view c (depth m) .simple m g) 1 n (f .0) (f .1) h,
-        from-all (each (λ q. assign q (reference c q)) (objectsBelow c (target n)))
-            (all-each (GoodObject c) Good (λ q. assign q (reference c q)) (λ q o. assign-good q (reference c q) (o .1) (reference-good c q)) (objectsBelow c (target n)) (objects-good c (depth (target n)) (target n) p)),
+        from-good (outermost (target n)) (nearest-good c true (depth (target n)) (target n) (node-good 1 n h)),
       )
 
   -- ---- heads
@@ -506,9 +512,9 @@ module _ (c : Context) where
   unfolding stepDeclaration
   declarations-good n f h = by-test (declarationLacksForm c n) (λ e. rw (e, Good) nothing-good) (λ e. rw (e, Good) (declaration-good n f h))
 
-  tops-good : (n : Node) → Good n → Good (stepTop c n .result)
+  tops-good : (n : Node) → isTop (target n) ≡ true → Good n → Good (stepTop c n .result)
   unfolding stepTop
-  tops-good n h = by-test (topLacksForm n) (λ e. rw (e, Good) nothing-good) (λ e. rw (e, Good) (top-good n h))
+  tops-good n t h = by-test (topLacksForm n) (λ e. rw (e, Good) nothing-good) (λ e. rw (e, Good) (top-good n t h))
 
   assignments-good : (n : Node) → Free n → Good n → Good (stepAssignment c n .result)
   unfolding stepAssignment
@@ -517,7 +523,7 @@ module _ (c : Context) where
       (λ a. rw (a, Good) nothing-good)
       (λ a. rw (a, Good)
       (by-test (isTop (target n))
-      (λ t. rw (t, Good) (tops-good n h))
+      (λ t. rw (t, Good) (tops-good n t h))
       (λ t. rw (t, Good) (by-test (hasObjectRest (target n)) (λ r. rw (r, Good) (nested-sequence-good n f h)) (λ r. rw (r, Good) h)))))
 
   fors-good : (n : Node) → Free n → Good n → Good (stepFor c n .result)

@@ -2,7 +2,7 @@
 -- bytes of these declarators, a name for each temporary.
 -- Assumes nothing.
 use mathlib.Core.Path.{_≡_, refl, sym, ap, ap₂, _∙_, subst}
-use mathlib.Core.Bool.{true, false, cond, not, false≢true}
+use mathlib.Core.Bool.{Bool, true, false, cond, not, false≢true}
 use mathlib.Core.List.{List, [], _∷_, _++_, append-nil}
 use mathlib.Core.Logic.{_⊎_, ⊎-elim}
 use mathlib.Core.Logic._⊎_.{inl, inr}
@@ -17,7 +17,7 @@ use Rattle.lowering.specs.Patterns.{shape, properties, itemsOf, leftOf, value, 
 use Rattle.lowering.specs.Keys.{Key, keySort, isPrimitive, allPrimitive, excludedKey, excludedKeys, keyTemporary, keyTemporaries, keyText}
 use Rattle.lowering.specs.Rests.{isHoisted, excludedFor}
 use Rattle.lowering.specs.Declarations.{isLowered, loweredIn, declarationExcludes, declarationLacksForm}
-use Rattle.lowering.specs.Assignments.{isTop, target, restsOf, topLacksForm, topEntry, topExcludes, nestedEntry}
+use Rattle.lowering.specs.Assignments.{isTop, target, nearest, partsOf, outermost, topLacksForm, topEntry, topExcludes, nestedEntry}
 use Rattle.lowering.specs.Walk.{Note, ruleOf, rewrite, unchanged, stepDeclaration, stepTop, stepAssignment, stepFor}
 use Rattle.lowering.specs.Collect.{Name, nameOf}
 use Rattle.lowering.proofs.All.{AllItems, all-gather, all-unit, none-passes}
@@ -28,8 +28,8 @@ use Rattle.direct.specs.Events.{cellOf, stemOf}
 use Rattle.outcome.specs.Named
 use Rattle.outcome.specs.Named.{Act, lists, excludes, handed, plains, tokens, tokensFields, tokensPiece, tokensItems}
 use Rattle.outcome.proofs.Listed.{list-append, keys-append, declarators-append}
-use Rattle.outcome.proofs.Good.{Pure, PureFields, PurePiece, PureItems, Is35, KeyOk, Good, GoodItems, GoodObject, to-all, node-good, items-good, properties-35, key-ok, objects-good, rests-good}
-use Rattle.lowering.proofs.Clauses.{again-temporary, hoisted-primitive}
+use Rattle.outcome.proofs.Good.{Pure, PureFields, PurePiece, PureItems, Is35, KeyOk, Good, GoodItems, GoodObject, to-all, node-good, items-good, properties-35, key-ok, objects-good}
+use Rattle.lowering.proofs.Clauses.{again-temporary, hoisted-primitive, top-34}
 
 -- ---- what is handed out
 
@@ -199,20 +199,46 @@ module _ (c : Context) where
 
   -- ---- the rules
 
-  top-hands : (n : Node) → Good n → Full Declares (topEntry c n) × Full Valued (topExcludes c n)
-  unfolding topEntry topExcludes
-  top-hands n h =
-      let r = rests-good c (depth (target n)) (target n) (node-good 1 n h) in (
-        (
-          inr (record { path = c .path; stem = 3; place = position (target n); whole = refl }),
-          full-gather Declares (GoodObject c) (keyTemporaries c) keyTemporaries-full (restsOf n) r,
-        ),
-        full-gather Valued (GoodObject c) (excludedFor c) excludedFor-full (restsOf n) r,
-      )
-
   refs-full : (ps : Items) → Full (λ p. Unit {0}) ps → Full Declares (each (λ p. declared (reference c p)) ps)
   refs-full ps h =
       full-each Declares (λ p. Unit {0}) (λ p. declared (reference c p)) (λ p u. inr (record { path = c .path; stem = 1; place = position p; whole = refl })) ps h
+
+  -- what is found has no holes
+  abbrev Any : Node → Type 0
+  Any p = Unit {0}
+
+  some-full : (b : Bool) (is js : Items) → Full Any is → Full Any js → Full Any (cond b is js)
+  some-full true is js h k = h
+  some-full false is js h k = k
+
+  nearest-full : (arrays : Bool) (d : ℕ) (p : Node) → Full Any (nearest arrays d p)
+  unfolding nearest
+  nearest-full arrays zero p = tt
+  nearest-full arrays (suc d) p =
+      by-shape (shape p)
+      (λ e. rw (e, nearest)
+      (some-full (hasRest p) (only p) (gather (λ q. nearest arrays d (value q)) (properties p)) (tt, tt)
+      (full-gather Any Any (λ q. nearest arrays d (value q)) (λ q u. nearest-full arrays d (value q)) (properties p) (all-unit (properties p)))))
+      (λ e. rw (e, nearest)
+      (some-full arrays (gather (λ q. nearest arrays d q) (itemsOf p)) Items.none
+      (full-gather Any Any (λ q. nearest arrays d q) (λ q u. nearest-full arrays d q) (itemsOf p) (all-unit (itemsOf p))) tt))
+      (λ e. rw (e, nearest) (nearest-full arrays d (leftOf p)))
+      (λ e. rw (e, nearest) tt)
+
+  parts-full : (p : Node) → Full Any (partsOf p)
+  parts-full p = full-gather Any Any (λ q. nearest false (depth p) (value q)) (λ q u. nearest-full false (depth p) (value q)) (properties p) (all-unit (properties p))
+
+  top-hands : (n : Node) → isTop (target n) ≡ true → Good n → Full Declares (topEntry c n) × Full Valued (topExcludes c n)
+  unfolding topEntry topExcludes
+  top-hands n e h =
+      let p = target n in
+      let g : GoodObject c p = (top-34 p e, node-good 1 n h) in (
+        (
+          inr (record { path = c .path; stem = 3; place = position p; whole = refl }),
+          full-append Declares (each (λ q. declared (reference c q)) (partsOf p)) (keyTemporaries c p) (refs-full (partsOf p) (parts-full p)) (keyTemporaries-full p g),
+        ),
+        excludedFor-full p g,
+      )
 
   lowered-good : (d : Node) → Good d → AllItems (GoodObject c) (loweredIn c d)
   unfolding loweredIn
@@ -224,26 +250,9 @@ module _ (c : Context) where
       full-gather Valued Good (λ d. gather (excludedFor c) (loweredIn c d)) (λ d g. full-gather Valued (GoodObject c) (excludedFor c) excludedFor-full (loweredIn c d) (lowered-good d g))
       (itemsAt 2 n) (to-all (itemsAt 2 n) (items-good 2 n h))
 
-  -- what is found has no holes
-  abbrev Any : Node → Type 0
-  Any p = Unit {0}
-
-  objects-full : (d : ℕ) (p : Node) → Full Any (objectsWithRest c d p)
-  unfolding objectsWithRest
-  objects-full zero p = tt
-  objects-full (suc d) p =
-      by-shape (shape p)
-      (λ e. rw (e, objectsWithRest, Full)
-      (full-append Any (gather (λ q. objectsWithRest c d (value q)) (properties p)) (cond (hasRest p) (only (withValues (λ v. replaced c d v) p)) Items.none)
-      (full-gather Any Any (λ q. objectsWithRest c d (value q)) (λ q u. objects-full d (value q)) (properties p) (all-unit (properties p)))
-      (by-test (hasRest p) (λ r. rw (r, Full) (tt, tt)) (λ r. rw (r, Full) tt))))
-      (λ e. rw (e, objectsWithRest, Full) (full-gather Any Any (λ q. objectsWithRest c d q) (λ q u. objects-full d q) (itemsOf p) (all-unit (itemsOf p))))
-      (λ e. rw (e, objectsWithRest, Full) (objects-full d (leftOf p)))
-      (λ e. rw (e, objectsWithRest, Full) tt)
-
   nested-hands : (n : Node) → Full Declares (nestedEntry c n)
   unfolding nestedEntry
-  nested-hands n = refs-full (objectsBelow c (target n)) (objects-full (depth (target n)) (target n))
+  nested-hands n = refs-full (outermost (target n)) (nearest-full true (depth (target n)) (target n))
 
   quiet-hands : (r : ℕ) (made : Items) → Hands (record { refusal = r; made = made; entry = Items.none; excluded = Items.none })
   quiet-hands r made = record { entry = tt; excluded = tt }
@@ -255,12 +264,12 @@ module _ (c : Context) where
       (λ e. rw (e, stepDeclaration) (quiet-hands 6 Items.none))
       (λ e. rw (e, stepDeclaration) (record { entry = tt; excluded = declaration-hands n h }))
 
-  tops-hand : (n : Node) → Good n → Hands (stepTop c n .note)
+  tops-hand : (n : Node) → isTop (target n) ≡ true → Good n → Hands (stepTop c n .note)
   unfolding stepTop
-  tops-hand n h =
+  tops-hand n t h =
       by-test (topLacksForm n)
       (λ e. rw (e, stepTop) (quiet-hands 6 Items.none))
-      (λ e. rw (e, stepTop) (let t = top-hands n h in record { entry = t .0; excluded = t .1 }))
+      (λ e. rw (e, stepTop) (let k = top-hands n t h in record { entry = k .0; excluded = k .1 }))
 
   assignments-hand : (n : Node) → Good n → Hands (stepAssignment c n .note)
   unfolding stepAssignment
@@ -269,7 +278,7 @@ module _ (c : Context) where
       (λ a. rw (a, stepAssignment) (quiet-hands 5 Items.none))
       (λ a. rw (a, stepAssignment)
       (by-test (isTop (target n))
-      (λ t. rw t (tops-hand n h))
+      (λ t. rw t (tops-hand n t h))
       (λ t. rw t
       (by-test (hasObjectRest (target n))
       (λ r. rw r (record { entry = nested-hands n; excluded = tt }))

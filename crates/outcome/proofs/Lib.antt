@@ -27,3 +27,4 @@ pub mod Room
 pub mod MarksInOrder
 pub mod Every
 pub mod Calm
+pub mod Sources

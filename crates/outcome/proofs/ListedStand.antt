@@ -18,7 +18,7 @@ use Rattle.lowering.specs.Patterns.Shape.{objectPattern, arrayPattern, default,
 use Rattle.lowering.specs.Keys.{keySort, isPrimitive, allPrimitive, excludedKey, excludedKeys, keyTemporary, keyTemporaries}
 use Rattle.lowering.specs.Rests.{hasNoProperties, mapped, isHoisted, keysRead, restValue, excludedFor}
 use Rattle.lowering.specs.Declarations.{source, sourceDeclarator, keysBefore, patternDeclarator, restDeclarator, own, nested, nestedBelow, objectDeclarators, patternDeclarators, lowerDeclarator, isLowered, loweredIn, declarators, declaration, declarationExcludes, declarationLacksForm}
-use Rattle.lowering.specs.Assignments.{isTop, target, assigned, restsOf, topLacksForm, topSequence, topEntry, topExcludes, nestedSequence, nestedEntry}
+use Rattle.lowering.specs.Assignments.{isTop, target, assigned, nearest, partsOf, outermost, fromReference, topLacksForm, topSequence, topEntry, topExcludes, nestedSequence, nestedEntry}
 use Rattle.lowering.specs.Walk.{Note, Step, Walked, WalkedFields, WalkedPiece, WalkedItems, eachItem, eachPiece, eachField, inside, ruleOf, rewrite, unchanged, stepDeclaration, stepTop, stepAssignment, stepFor, within}
 use Rattle.lowering.specs.Walk.Rule.{nowhere}
 use Rattle.lowering.specs.Walk.Walked.{noted}
@@ -30,8 +30,8 @@ use Rattle.lowering.proofs.Falls.{walked-is}
 use Rattle.lowering.proofs.Levels.{below-object, below-leaf}
 use Rattle.lowering.proofs.MadeAtSites.{times, times-append, no-ids}
 use Rattle.lowering.proofs.Occurs.{occurs, occursFields, occursPiece, occursItems}
-use Rattle.lowering.proofs.Clauses.{objects-object, objects-array, objects-default, objects-leaf, has-leaf}
-use Rattle.outcome.proofs.Good.{Leaf, NotDefault, first-simple, Good, GoodObject, rest-leaf, node-good, items-good, to-all, rests-good}
+use Rattle.lowering.proofs.Clauses.{objects-object, objects-array, objects-default, objects-leaf, has-leaf, top-34}
+use Rattle.outcome.proofs.Good.{Leaf, NotDefault, first-simple, Good, GoodObject, rest-leaf, node-good, items-good, to-all}
 use Rattle.lowering.proofs.ItemLaws.{each-append, gather-none, gather-append}
 use Rattle.lowering.proofs.ChangeLaws.{stands-changed}
 
@@ -266,6 +266,34 @@ pub values-top : (f : Node → Node) (p : Node) → is 34 p ≡ true → hasRest
 unfolding isTop
 values-top f p e r = rw (is-changed 0 (onItems (each (λ q. changeNode 1 f q))) p 34 ∙ e) (values-rest f p ∙ r)
 
+-- the objects with rest of an assignment
+some-tops : (b : Bool) (is js : Items) → (b ≡ true → AllItems (λ o. isTop o ≡ true) is) → (b ≡ false → AllItems (λ o. isTop o ≡ true) js) → AllItems (λ o. isTop o ≡ true) (cond b is js)
+some-tops true is js h k = h refl
+some-tops false is js h k = k refl
+
+own-top : (p : Node) → shape p ≡ objectPattern → hasRest p ≡ true → isTop p ≡ true
+unfolding isTop
+own-top p e r = rw (object-is p e) r
+
+pub nearest-top : (arrays : Bool) (d : ℕ) (p : Node) → AllItems (λ o. isTop o ≡ true) (nearest arrays d p)
+unfolding nearest
+nearest-top arrays zero p = tt
+nearest-top arrays (suc d) p =
+    let T : Node → Type 0 = λ o. isTop o ≡ true in
+    by-shape (shape p)
+    (λ e. rw (e, nearest)
+    (some-tops (hasRest p) (only p) (gather (λ q. nearest arrays d (value q)) (properties p)) (λ r. (own-top p e r, tt))
+    (λ r. all-gather (λ q. Unit {0}) T (λ q. nearest arrays d (value q)) (λ q u. nearest-top arrays d (value q)) (properties p) (all-unit (properties p)))))
+    (λ e. rw (e, nearest)
+    (some-tops arrays (gather (λ q. nearest arrays d q) (itemsOf p)) Items.none
+    (λ r. all-gather (λ q. Unit {0}) T (λ q. nearest arrays d q) (λ q u. nearest-top arrays d q) (itemsOf p) (all-unit (itemsOf p))) (λ r. tt)))
+    (λ e. rw (e, nearest) (nearest-top arrays d (leftOf p)))
+    (λ e. rw (e, nearest) tt)
+
+pub parts-top : (p : Node) → AllItems (λ o. isTop o ≡ true) (partsOf p)
+parts-top p =
+    all-gather (λ q. Unit {0}) (λ o. isTop o ≡ true) (λ q. nearest false (depth p) (value q)) (λ q u. nearest-top false (depth p) (value q)) (properties p) (all-unit (properties p))
+
 module _ (c : Context) where
   pub objects-zero : (p : Node) → objectsWithRest c 0 p ≡ Items.none
   unfolding objectsWithRest
@@ -461,30 +489,7 @@ module _ (a : Name) where
         let k = excluded-some p h in
         rw (hoisted-props p (k .0), k .0, Stays) (stays-argument (helper 4) s (excludedOf c p) (stays-temporary (c .path) 2 (position p) (k .1)))
 
-    -- ---- a target with rest
-
-    top-used : (n : Node) → Good n → 0 < times a (each idOf (topEntry c n)) + times a (each idOf (topExcludes c n)) → Some Stays (topSequence c n)
-    unfolding topSequence topEntry topExcludes each times nodeAt pieceIn
-    top-used n g h =
-        let t = valueOf c (target n) in
-        let objects = rests-good c (depth (target n)) (target n) (node-good 1 n g) in
-        let tail = cond (c .statement) Items.none (only t) in
-        let put : SomeItems (λ p. GoodObject c p × ((s : Node) → Stays (restValue c p s))) (restsOf n) → Some Stays (topSequence c n) =
-        λ s. inl (inr (inr (some-left Stays (each (λ p. assign (rest p) (restValue c p t)) (restsOf n)) tail
-        (some-each Stays (λ p. GoodObject c p × ((s : Node) → Stays (restValue c p s))) (λ p. assign (rest p) (restValue c p t))
-        (λ p u. stays-assign (rest p) (restValue c p t) (rest-leaf p (u .0 .0) (u .0 .1)) (inr (u .1 t))) (restsOf n) s)))) in
-        by-test (same a (nameOf t))
-        (λ e. inl (inl (stays-assign t (assigned n) (temporary-leaf (c .path) 3 (position (target n))) (inl (stays-temporary (c .path) 3 (position (target n)) e)))))
-        (λ e.
-        let z : 0 < 0 + times a (each idOf (gather (keyTemporaries c) (restsOf n))) + times a (each idOf (gather (excludedFor c) (restsOf n))) = rw e at h in
-        ⊎-elim
-        (λ u. put (some-items (λ p. GoodObject c p × (0 < times a (each idOf (keyTemporaries c p)))) (λ p. GoodObject c p × ((s : Node) → Stays (restValue c p s)))
-        (λ p v. (v .0, λ s. keys-stay p s (v .1))) (restsOf n) (ids-some (GoodObject c) (keyTemporaries c) (restsOf n) objects u)))
-        (λ u. put (some-items (λ p. GoodObject c p × (0 < times a (each idOf (excludedFor c p)))) (λ p. GoodObject c p × ((s : Node) → Stays (restValue c p s)))
-        (λ p v. (v .0, λ s. excluded-stays p s (v .1))) (restsOf n) (ids-some (GoodObject c) (excludedFor c) (restsOf n) objects u)))
-        (sum-some (times a (each idOf (gather (keyTemporaries c) (restsOf n)))) (times a (each idOf (gather (excludedFor c) (restsOf n)))) (omega arith)))
-
-    -- ---- any other target
+    -- ---- assignments from temporaries
 
     refs-some : (Q : Node → Type 0) (ps : Items) → AllItems Q ps → 0 < times a (each idOf (each (λ p. declared (reference c p)) ps)) → SomeItems (λ p. Q p × (same a (nameOf (reference c p)) ≡ true)) ps
     unfolding each times nodeAt pieceIn
@@ -495,13 +500,43 @@ module _ (a : Name) where
         (λ e. inl (q .0, e))
         (λ e. let z : 0 < 0 + times a (each idOf (each (λ m. declared (reference c m)) ps)) = rw e at h in inr (refs-some Q ps (q .1) (omega arith)))
 
+    refs-stay : (ps : Items) → AllItems (λ p. isTop p ≡ true) ps → 0 < times a (each idOf (each (λ p. declared (reference c p)) ps)) → SomeItems Stays (each (fromReference c) ps)
+    refs-stay ps t h =
+        some-each Stays (λ p. (isTop p ≡ true) × (same a (nameOf (reference c p)) ≡ true)) (fromReference c)
+        (λ p u. stays-top p (reference c p) (u .0) (stays-temporary (c .path) 1 (position p) (u .1))) ps
+        (refs-some (λ p. isTop p ≡ true) ps t h)
+
+    -- ---- a target with rest
+
+    top-used : (n : Node) → isTop (target n) ≡ true → Good n → 0 < times a (each idOf (topEntry c n)) + times a (each idOf (topExcludes c n)) → Some Stays (topSequence c n)
+    unfolding topSequence topEntry topExcludes each times nodeAt pieceIn
+    top-used n top g h =
+        let p = target n in
+        let t = valueOf c p in
+        let ds = each (λ q. declared (reference c q)) (partsOf p) in
+        let ks = keyTemporaries c p in
+        let es = excludedFor c p in
+        let ps = each (fromReference c) (partsOf p) in
+        let last = Items.item (assign (rest p) (restValue c p t)) (cond (c .statement) Items.none (only t)) in
+        let l = rest-leaf p (top-34 p top) (node-good 1 n g) in
+        let put : ((s : Node) → Stays (restValue c p s)) → Some Stays (topSequence c n) =
+        λ s. inl (inr (inr (some-right Stays ps last (inl (stays-assign (rest p) (restValue c p t) l (inr (s t))))))) in
+        let u = ap (times a) (each-append idOf ds ks) in
+        let v = times-append a (each idOf ds) (each idOf ks) in
+        by-test (same a (nameOf t))
+        (λ e. inl (inl (stays-assign t (assigned n) (temporary-leaf (c .path) 3 (position p)) (inl (stays-temporary (c .path) 3 (position p) e)))))
+        (λ e.
+        let z : 0 < 0 + times a (each idOf (ds +++ ks)) + times a (each idOf es) = rw e at h in
+        ⊎-elim
+        (λ w. inl (inr (inr (some-left Stays ps last (refs-stay (partsOf p) (parts-top p) w)))))
+        (λ w. ⊎-elim (λ k. put (λ s. keys-stay p s k)) (λ k. put (λ s. excluded-stays p s k)) (sum-some (times a (each idOf ks)) (times a (each idOf es)) w))
+        (sum-some (times a (each idOf ds)) (times a (each idOf ks) + times a (each idOf es)) (omega arith)))
+
+    -- ---- any other target
+
     nested-used : (n : Node) → 0 < times a (each idOf (nestedEntry c n)) → Some Stays (nestedSequence c n)
     unfolding nestedSequence nestedEntry
-    nested-used n h =
-        let os = objectsBelow c (target n) in
-        inl (inr (some-each Stays (λ p. (isTop p ≡ true) × (same a (nameOf (reference c p)) ≡ true)) (λ p. assign p (reference c p))
-        (λ p u. stays-top p (reference c p) (u .0) (stays-temporary (c .path) 1 (position p) (u .1))) os
-        (refs-some (λ p. isTop p ≡ true) os (objects-top c (depth (target n)) (target n)) h)))
+    nested-used n h = inl (inr (refs-stay (outermost (target n)) (nearest-top true (depth (target n)) (target n)) h))
 
     -- ---- declarations
 
@@ -629,12 +664,12 @@ module _ (a : Name) where
         (λ e. rw (e, stepDeclaration) (nothing-used Items.none 6 nothing))
         (λ e. rw (e, stepDeclaration) (λ h. let z = no-ids a in declaration-used n g (omega arith)))
 
-    tops-used : (n : Node) → Good n → Used (stepTop c n)
+    tops-used : (n : Node) → isTop (target n) ≡ true → Good n → Used (stepTop c n)
     unfolding stepTop
-    tops-used n g =
+    tops-used n t g =
         by-test (topLacksForm n)
         (λ e. rw (e, stepTop) (nothing-used Items.none 6 nothing))
-        (λ e. rw (e, stepTop) (top-used n g))
+        (λ e. rw (e, stepTop) (top-used n t g))
 
     assignments-used : (n : Node) → Good n → Used (stepAssignment c n)
     unfolding stepAssignment
@@ -643,7 +678,7 @@ module _ (a : Name) where
         (λ e. rw (e, stepAssignment) (nothing-used Items.none 5 nothing))
         (λ e. rw (e, stepAssignment)
         (by-test (isTop (target n))
-        (λ t. rw t (tops-used n g))
+        (λ t. rw t (tops-used n t g))
         (λ t. rw t
         (by-test (hasObjectRest (target n))
         (λ r. rw r (λ h. let z = no-ids a in nested-used n (omega arith)))

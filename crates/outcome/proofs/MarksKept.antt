@@ -1,6 +1,6 @@
 -- What holds of 0 and of every mark of a tree holds of every mark that a rewriting leaves, and of every mark after the walk.
 -- Assumes nothing.
-use mathlib.Core.Bool.{cond, _&&_}
+use mathlib.Core.Bool.{Bool, true, false, cond, _&&_}
 use Prim.Native.Nat.{ℕ, zero, suc}
 use Rattle.tree.specs.Tree.{Node, Fields, Piece, Items, depth}
 use Rattle.tree.specs.Tree.Node.{node}
@@ -12,7 +12,7 @@ use Rattle.lowering.specs.Keys.{keySort, excludedKey, excludedKeys, keptKey, ke
 use Rattle.lowering.specs.Rests.{hasNoProperties, mapped, isHoisted, keysRead, restValue}
 use Rattle.lowering.specs.Literals.{Call, opened, closed, scan, literal}
 use Rattle.lowering.specs.Declarations.{isName, source, sourceDeclarator, keysBefore, patternDeclarator, restDeclarator, own, nested, nestedBelow, objectDeclarators, patternDeclarators, lowerDeclarator, isLowered, declarators, declaration, declarationLacksForm}
-use Rattle.lowering.specs.Assignments.{isTop, target, restsThroughObjects, restsOf, topLacksForm, withoutRests, topSequence, nestedSequence}
+use Rattle.lowering.specs.Assignments.{isTop, target, nearest, partsOf, partsReplaced, outermost, fromReference, topLacksForm, topSequence, nestedSequence}
 use Rattle.lowering.specs.Heads.{isMoved, moved, movedFrom, movedPattern, movedOut, leftBehind, inFront, inBody, asFunctionBody, asBlock, function, arrow, catch, declaringHead, assigningHead}
 use Rattle.lowering.specs.Walk.{Note, Walked, WalkedFields, WalkedPiece, WalkedItems, eachItem, eachPiece, eachField, inside, ruleOf, rewrite, stepDeclaration, stepTop, stepAssignment, stepFor, within, walk}
 use Rattle.lowering.specs.Walk.Walked.{noted}
@@ -231,18 +231,27 @@ module _ (P : ℕ → Type 0) where
     unfolding movedFrom
     movedFrom-held q h = by-test (isMoved q) (λ e. rw (e, HeldItems) (moved-held (depth (nodeAt 0 q)) (nodeAt 0 q) (node-held 0 q h))) (λ e. rw (e, HeldItems) tt)
 
-    rests-held : (d : ℕ) (p : Node) → Held p → HeldItems (restsThroughObjects d p)
-    unfolding restsThroughObjects
-    rests-held zero p h = tt
-    rests-held (suc d) p h =
+    some-held : (b : Bool) (is js : Items) → HeldItems is → HeldItems js → HeldItems (cond b is js)
+    some-held true is js h k = h
+    some-held false is js h k = k
+
+    nearest-held : (arrays : Bool) (d : ℕ) (p : Node) → Held p → HeldItems (nearest arrays d p)
+    unfolding nearest
+    nearest-held arrays zero p h = tt
+    nearest-held arrays (suc d) p h =
         by-shape (shape p)
-        (λ e. rw (e, restsThroughObjects, HeldItems)
-        (append-held (gather (λ q. restsThroughObjects d (value q)) (properties p)) (cond (hasRest p) (only p) none)
-        (gather-held (λ q. restsThroughObjects d (value q)) (λ q g. rests-held d (value q) (node-held 1 q g)) (properties p) (items-held 0 p h))
-        (by-test (hasRest p) (λ r. rw (r, HeldItems) (h, tt)) (λ r. rw (r, HeldItems) tt))))
-        (λ e. rw (e, restsThroughObjects, HeldItems) tt)
-        (λ e. rw (e, restsThroughObjects, HeldItems) (rests-held d (leftOf p) (node-held 0 p h)))
-        (λ e. rw (e, restsThroughObjects, HeldItems) tt)
+        (λ e. rw (e, nearest)
+        (some-held (hasRest p) (only p) (gather (λ q. nearest arrays d (value q)) (properties p)) (h, tt)
+        (gather-held (λ q. nearest arrays d (value q)) (λ q g. nearest-held arrays d (value q) (node-held 1 q g)) (properties p) (items-held 0 p h))))
+        (λ e. rw (e, nearest)
+        (some-held arrays (gather (λ q. nearest arrays d q) (itemsOf p)) none
+        (gather-held (λ q. nearest arrays d q) (λ q g. nearest-held arrays d q g) (itemsOf p) (items-held 0 p h)) tt))
+        (λ e. rw (e, nearest) (nearest-held arrays d (leftOf p) (node-held 0 p h)))
+        (λ e. rw (e, nearest) tt)
+
+    parts-held : (p : Node) → Held p → HeldItems (partsOf p)
+    parts-held p h =
+        gather-held (λ q. nearest false (depth p) (value q)) (λ q g. nearest-held false (depth p) (value q) (node-held 1 q g)) (properties p) (items-held 0 p h)
 
     asFunctionBody-held : (b : Node) → Held b → Held (asFunctionBody b)
     unfolding asFunctionBody
@@ -295,29 +304,19 @@ module _ (P : ℕ → Type 0) where
       replacedBelow-held : (p : Node) → Held p → Held (replacedBelow c p)
       replacedBelow-held p h = replaced-held (depth p) p h
 
-      objects-held : (d : ℕ) (p : Node) → Held p → HeldItems (objectsWithRest c d p)
-      unfolding objectsWithRest
-      objects-held zero p h = tt
-      objects-held (suc d) p h =
+      partsReplaced-held : (d : ℕ) (p : Node) → Held p → Held (partsReplaced c d p)
+      unfolding partsReplaced
+      partsReplaced-held zero p h = h
+      partsReplaced-held (suc d) p h =
+          let f : Node → Node = λ v. partsReplaced c d v in
           by-shape (shape p)
-          (λ e. rw (e, objectsWithRest, HeldItems)
-          (append-held (gather (λ q. objectsWithRest c d (value q)) (properties p)) (cond (hasRest p) (only (withValues (λ v. replaced c d v) p)) none)
-          (gather-held (λ q. objectsWithRest c d (value q)) (λ q g. objects-held d (value q) (node-held 1 q g)) (properties p) (items-held 0 p h))
-          (by-test (hasRest p) (λ r. rw (r, HeldItems) (values-held (λ v. replaced c d v) (replaced-held d) p h, tt)) (λ r. rw (r, HeldItems) tt))))
-          (λ e. rw (e, objectsWithRest, HeldItems) (gather-held (λ q. objectsWithRest c d q) (λ q g. objects-held d q g) (itemsOf p) (items-held 0 p h)))
-          (λ e. rw (e, objectsWithRest, HeldItems) (objects-held d (leftOf p) (node-held 0 p h)))
-          (λ e. rw (e, objectsWithRest, HeldItems) tt)
+          (λ e. rw (e, partsReplaced, Held) (by-test (hasRest p) (λ r. rw (r, Held) (tt, (tt, tt))) (λ r. rw (r, Held) (values-held f (partsReplaced-held d) p h))))
+          (λ e. rw (e, partsReplaced, Held) h)
+          (λ e. rw (e, partsReplaced, Held) (change-node 0 f (partsReplaced-held d) p h))
+          (λ e. rw (e, partsReplaced, Held) h)
 
-      withoutRests-held : (d : ℕ) (p : Node) → Held p → Held (withoutRests c d p)
-      unfolding withoutRests
-      withoutRests-held zero p h = h
-      withoutRests-held (suc d) p h =
-          let f : Node → Node = λ v. withoutRests c d v in
-          by-shape (shape p)
-          (λ e. rw (e, withoutRests, Held) (taken-held (withValues f p) (values-held f (withoutRests-held d) p h)))
-          (λ e. rw (e, withoutRests, Held) h)
-          (λ e. rw (e, withoutRests, Held) (change-node 0 f (withoutRests-held d) p h))
-          (λ e. rw (e, withoutRests, Held) h)
+      left-held : (p : Node) → Held p → Held (taken c (withValues (λ v. partsReplaced c (depth p) v) p))
+      left-held p h = taken-held (withValues (λ v. partsReplaced c (depth p) v) p) (values-held (λ v. partsReplaced c (depth p) v) (partsReplaced-held (depth p)) p h)
 
       movedOut-held : (d : ℕ) (p : Node) → Held p → Held (movedOut c d p)
       unfolding movedOut
@@ -454,18 +453,22 @@ module _ (P : ℕ → Type 0) where
 
       -- ---- assignments
 
+      from-held : (ps : Items) → HeldItems ps → HeldItems (each (fromReference c) ps)
+      from-held ps h = each-held (fromReference c) (λ q o. (tt, (o, ((tt, (tt, tt)), tt)))) ps h
+
       top-held : (n : Node) → Held n → Held (topSequence c n)
       unfolding topSequence
       top-held n h =
-          let t = valueOf c (target n) in
-          let p = node-held 1 n h in (
+          let p = target n in
+          let t = valueOf c p in
+          let k = node-held 1 n h in (
             (
               (tt, ((tt, (tt, tt)), (node-held 2 n h, tt))),
               (
-                (tt, (withoutRests-held (depth (target n)) (target n) p, ((tt, (tt, tt)), tt))),
-                append-held (each (λ q. assign (rest q) (restValue c q t)) (restsOf n)) (cond (c .statement) none (only t))
-                    (each-held (λ q. assign (rest q) (restValue c q t)) (λ q o. (tt, (node-held 1 q o, (restValue-held q t o (tt, (tt, tt)), tt)))) (restsOf n) (rests-held (depth (target n)) (target n) p))
-                    (by-test (c .statement) (λ e. rw (e, HeldItems) tt) (λ e. rw (e, HeldItems) ((tt, (tt, tt)), tt))),
+                (tt, (left-held p k, ((tt, (tt, tt)), tt))),
+                append-held (each (fromReference c) (partsOf p)) (item (assign (rest p) (restValue c p t)) (cond (c .statement) none (only t)))
+                    (from-held (partsOf p) (parts-held p k))
+                    ((tt, (node-held 1 p k, (restValue-held p t k (tt, (tt, tt)), tt))), by-test (c .statement) (λ e. rw (e, HeldItems) tt) (λ e. rw (e, HeldItems) ((tt, (tt, tt)), tt))),
               ),
             ),
             tt,
@@ -476,7 +479,7 @@ module _ (P : ℕ → Type 0) where
       nested-sequence-held n h = (
         (
           change-node 1 (λ m. replacedBelow c m) replacedBelow-held n h,
-          each-held (λ q. assign q (reference c q)) (λ q o. (tt, (o, ((tt, (tt, tt)), tt)))) (objectsBelow c (target n)) (objects-held (depth (target n)) (target n) (node-held 1 n h)),
+          from-held (outermost (target n)) (nearest-held true (depth (target n)) (target n) (node-held 1 n h)),
         ),
         tt,
       )

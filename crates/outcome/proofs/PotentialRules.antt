@@ -19,21 +19,21 @@ use Rattle.lowering.specs.Rests.{hasNoProperties, mapped, isHoisted, keysRead, 
 use Rattle.lowering.specs.Literals.{Call, opened, closed, scan, literal}
 use Rattle.lowering.specs.Declarations.{isName, source, sourceDeclarator, keysBefore, patternDeclarator, restDeclarator, nested, nestedBelow, objectDeclarators, patternDeclarators, lowerDeclarator, innerObjects, declaratorMakes, isLowered, declarators, declaration, declarationMakes, declarationLacksForm}
 use Rattle.lowering.specs.Declarations
-use Rattle.lowering.specs.Assignments.{isTop, target, assigned, restsOf, topLacksForm, targetLeft, withoutRests, topSequence, topEntry, topExcludes, topMakes, nestedSequence, nestedEntry, nestedMakes}
+use Rattle.lowering.specs.Assignments.{isTop, target, assigned, partsOf, partsReplaced, outermost, fromReference, topLacksForm, targetLeft, topSequence, topEntry, topExcludes, topMakes, nestedSequence, nestedEntry, nestedMakes}
 use Rattle.lowering.specs.Heads.{isMoved, moved, movedFrom, movedPattern, movedOut, leftBehind, inFront, inBody, asFunctionBody, asBlock, references, function, functionMakes, arrow, arrowMakes, catch, catchMakes, declaringHead, declaringMakes, assigningHead, assigningMakes}
 use Rattle.lowering.specs.Walk.{Rule, ruleOf, rewrite, stepDeclaration, stepTop, stepAssignment, stepFor}
 use Rattle.lowering.specs.Walk.Rule.{literals, declarations, assignments, functions, arrows, catches, fors, nowhere}
 use Rattle.lowering.proofs.All.{AllItems, AllPiece, AllFields, Each, all-append, all-gather, all-each, weaker-items, other-changed, none-passes}
 use Rattle.lowering.proofs.Cases.{by-test, by-shape, by-key, by-rule, and-left, and-none, object-is, array-is, default-is, is-changed, functionBody-is, block-is}
 use Rattle.lowering.proofs.Sites.{here, hereItems}
-use Rattle.lowering.proofs.Clauses.{objects-object, objects-array, objects-default, without-object, taken-none, inner-object, inner-array, has-leaf, lowered-rest, top-34, top-rest, top-rest as top-rest′}
+use Rattle.lowering.proofs.Clauses.{objects-object, objects-array, objects-default, taken-none, inner-object, inner-array, has-leaf, lowered-rest, top-34, top-rest, top-rest as top-rest′}
 use Rattle.direct.specs.Events.{cell, cellOf}
 use Rattle.outcome.proofs.MadeOnce.{number, number-append, number-none, inCell}
-use Rattle.outcome.proofs.Good.{NoParts, Leaf, NotDefault, Good, GoodItems, GoodObject, to-all, node-good, items-good, properties-35, rest-leaf, first-simple, values-good, rests-good, movedOut-view, named-parts}
+use Rattle.outcome.proofs.Good.{NoParts, Leaf, NotDefault, Good, GoodItems, GoodObject, to-all, node-good, items-good, properties-35, rest-leaf, first-simple, values-good, movedOut-view, named-parts}
 use Rattle.outcome.proofs.GoodRules.{below-good}
-use Rattle.outcome.proofs.ListedStand.{values-rest, objects-top, temporary-leaf, values-top, leaf-top}
+use Rattle.outcome.proofs.ListedStand.{values-rest, objects-top, nearest-top, parts-top, temporary-leaf, values-top, leaf-top}
 use Rattle.outcome.proofs.Potential.{isPattern, gone, slot, slotMoved, slotValue, slotTop, slots, slotValues, odds, head, heads, headCatch, headFor, aliens, resting, declaring, own, pot, potFields, potPiece, potItems, inner, pot-34, pot-14, pot-17, pot-10, pot-7, pot-8, pot-27, pot-5, pot-4, inner-in, piece-in, two-pieces, as-node, as-items, node-in, items-in, node-and-node, items-and-node, pot-append, only-pot, none-pot, nothing-pot, temporary-pot, each-item, node-exchange, items-exchange, node-exchange-in}
-use Rattle.outcome.proofs.PotentialViews.{node-changed, node-changed-in, gone-in, slot-nothing, slot-temporary, slot-changed, slot-34, whole, wholes, wholes-append, nil, nil-sum, nil-is, wholes-sum, object-sum, objects-sum, targets-sum, taken-sum, excludedKeys-pot, restings, restings-append, restings-none, only-restings, none-wholes, only-wholes, rests-left, rests-pot, rests-beside, Beside, moves, moves-append, moves-none, moved-sum, left-less}
+use Rattle.outcome.proofs.PotentialViews.{node-changed, node-changed-in, gone-in, slot-nothing, slot-temporary, slot-changed, slot-34, whole, wholes, wholes-append, nil, nil-sum, nil-is, wholes-sum, object-sum, objects-sum, targets-sum, taken-sum, excludedKeys-pot, restings, restings-append, restings-none, only-restings, none-wholes, only-wholes, outermost-sum, left-over-sum, rest-beside, moves, moves-append, moves-none, moved-sum, left-less}
 use Rattle.lowering.proofs.ItemLaws.{each-append}
 use Rattle.lowering.proofs.ChangeLaws.{stands-changed, stands-without, items-changed}
 use Rattle.lowering.proofs.Levels.{below-object, below-leaf}
@@ -92,16 +92,10 @@ taken-rest : (c : Context) (p : Node) → hasRest p ≡ true → hasRest (taken 
 unfolding taken
 taken-rest c p r = rw r (stands-without 1 (withProperties (keptKey c) p))
 
-top-shape : (p : Node) → isTop p ≡ true → shape p ≡ objectPattern
-unfolding isTop shape is
-top-shape p t = rw (and-left (eqb (kind p) 34) (hasRest p) t) refl
-
-left-rest : (c : Context) (p : Node) → isTop p ≡ true → hasRest (withoutRests c (depth p) p) ≡ false
-unfolding depth
-left-rest c (node at k fs) t =
-    let p = node at k fs in
-    let d = depthFields fs in
-    ap hasRest (without-object c d p (top-shape p t)) ∙ taken-rest c (withValues (λ v. withoutRests c d v) p) (values-rest (λ v. withoutRests c d v) p ∙ top-rest p t)
+left-rest : (c : Context) (p : Node) → isTop p ≡ true → hasRest (taken c (withValues (λ v. partsReplaced c (depth p) v) p)) ≡ false
+left-rest c p t =
+    let f : Node → Node = λ v. partsReplaced c (depth p) v in
+    taken-rest c (withValues f p) (values-rest f p ∙ top-rest p t)
 
 stands-kept : (i : ℕ) (f : Piece → Piece) (n : Node) → stands 1 (change i f n) ≡ stands 1 n
 unfolding stands change
@@ -952,38 +946,61 @@ module _ (x : ℕ) where
     unfolding number
     first-number t ts = refl
 
-    split-number : (os : Items) → number (inCell x) (each idOf (gather (keyTemporaries c) os)) + number (inCell x) (each idOf (gather (excludedFor c) os)) ≤ restings x c os
-    unfolding gather restings
-    split-number Items.none = let z = no-ids in omega arith
-    split-number (Items.hole os) = split-number os
-    split-number (Items.item o os) =
-        let r = split-number os in
-        let k = keys-number o in
-        let e = excluded-number o in
-        let q = resting-is o in
-        let a = ap (number (inCell x)) (each-append idOf (keyTemporaries c o) (gather (keyTemporaries c) os)) in
-        let b = number-append (inCell x) (each idOf (keyTemporaries c o)) (each idOf (gather (keyTemporaries c) os)) in
-        let d = ap (number (inCell x)) (each-append idOf (excludedFor c o) (gather (excludedFor c) os)) in
-        let f = number-append (inCell x) (each idOf (excludedFor c o)) (each idOf (gather (excludedFor c) os)) in
-        omega arith
+    ids-refs : (ps : Items) → number (inCell x) (each idOf (each (λ p. declared (reference c p)) ps)) ≡ number (inCell x) (each (λ p. reference c p) ps)
+    unfolding each number nodeAt pieceIn
+    ids-refs Items.none = refl
+    ids-refs (Items.hole ps) = ids-refs ps
+    ids-refs (Items.item p ps) = ap (λ (k : ℕ). cond (inCell x (reference c p)) 1 0 + k) (ids-refs ps)
 
-    both-all : (P Q : Node → Type 0) (ps : Items) → AllItems P ps → AllItems Q ps → AllItems (λ p. P p × Q p) ps
-    both-all P Q Items.none h k = tt
-    both-all P Q (Items.hole ps) h k = both-all P Q ps h k
-    both-all P Q (Items.item p ps) h k = ((h .0, k .0), both-all P Q ps (h .1) (k .1))
-
-    top-number : (n : Node) → number (inCell x) (topMakes c n) ≤ here x (position (target n) + 2) + restings x c (restsOf n)
+    top-number : (n : Node) → number (inCell x) (topMakes c n) ≤ here x (position (target n) + 2) + (hereItems x (partsOf (target n)) + resting x (position (target n)) true (properties (target n)))
     unfolding topMakes topEntry topExcludes each nodeAt pieceIn
     top-number n =
-        let os = restsOf n in
-        let t = valueOf c (target n) in
-        let a = number-append (inCell x) (Items.item t (each idOf (gather (keyTemporaries c) os))) (each idOf (gather (excludedFor c) os)) in
-        let b = first-number t (each idOf (gather (keyTemporaries c) os)) in
-        let d = temporary-number (c .path) 3 (position (target n)) in
-        let e = ap (here x) (cell-3 (position (target n))) in
-        let k = split-number os in
+        let p = target n in
+        let t = valueOf c p in
+        let ds = each (λ q. declared (reference c q)) (partsOf p) in
+        let ks = keyTemporaries c p in
+        let es = each idOf (excludedFor c p) in
+        let a = number-append (inCell x) (Items.item t (each idOf (ds +++ ks))) es in
+        let b = first-number t (each idOf (ds +++ ks)) in
+        let d = temporary-number (c .path) 3 (position p) in
+        let e = ap (here x) (cell-3 (position p)) in
+        let u = ap (number (inCell x)) (each-append idOf ds ks) in
+        let v = number-append (inCell x) (each idOf ds) (each idOf ks) in
+        let w = ids-refs (partsOf p) ∙ refs-number (partsOf p) in
+        let k = keys-number p in
+        let m = excluded-number p in
+        let q = resting-is p in
         let o = only-number t in
         omega arith
+
+    -- all that are replaced have their places
+    here-less : (os : Items) → AllItems (λ o. isTop o ≡ true) os → hereItems x os ≤ wholes x os
+    here-less os t = let l = cost-less os t in omega arith
+
+    -- an object with rest, beside all that are replaced
+    object-fit : (os : Items) → AllItems (λ o. isTop o ≡ true) os → AllItems (λ o. (isTop o ≡ true) × (hereItems x os + (here x (position o + 2) + pot x o) ≤ wholes x os)) os
+    unfolding hereItems wholes
+    object-fit Items.none t = tt
+    object-fit (Items.hole os) t = object-fit os t
+    object-fit (Items.item o os) t =
+        let w = whole-cost o (t .0) in
+        let h = here-less os (t .1) in (
+          (t .0, omega arith),
+          weaker-items (λ m. (isTop m ≡ true) × (hereItems x os + (here x (position m + 2) + pot x m) ≤ wholes x os))
+              (λ m. (isTop m ≡ true) × (here x (position o) + hereItems x os + (here x (position m + 2) + pot x m) ≤ whole x o + wholes x os)) (λ m k. let l = k .1 in (k .0, omega arith)) os (object-fit os (t .1)),
+        )
+
+    -- the assignment of each from the temporary in its place
+    from-fit : (a b : ℕ) (os : Items) → AllItems (λ o. isTop o ≡ true) os → a + wholes x os ≤ b → AllItems (Fit (a + hereItems x os) b) (each (fromReference c) os)
+    from-fit a b os t h =
+        all-each (λ o. (isTop o ≡ true) × (hereItems x os + (here x (position o + 2) + pot x o) ≤ wholes x os)) (Fit (a + hereItems x os) b) (fromReference c)
+        (λ o k.
+        let u = assign-pot o (reference c o) in
+        let q = slot-top-is o (k .0) in
+        let f = temporary-pot x (c .path) 1 (position o) in
+        let l = k .1 in
+        omega arith)
+        os (object-fit os t)
 
     without-top : (n : Node) → isTop (target n) ≡ true → isTop (targetLeft c n) ≡ false
     unfolding isTop
@@ -999,17 +1016,23 @@ module _ (x : ℕ) where
         let p = target n in
         let v = valueOf c p in
         let pg = node-good 1 n g in
+        let os = partsOf p in
         let m = top-number n in
         let k = pot-27 x n e in
         let s = slot-top-is p t in
         let nn = node-and-node x 1 2 (omega arith) n in
         let z = temporary-pot x (c .path) 3 (position p) in
-        let r = rests-pot x c (depth p) p pg in
-        let l = rests-left x c (depth p) p pg in
+        let r = left-over-sum x c p (top-34 p t) (top-rest p t) pg in
+        let y = rest-beside x c p (top-34 p t) (top-rest p t) pg in
+        let h = here-less os (parts-top p) in
         let a0 = assign-pot v (assigned n) in
         let s0 = slot-top-not v (leaf-top v (temporary-leaf (c .path) 3 (position p))) in
         let a1 = assign-pot (targetLeft c n) v in
         let s1 = slot-top-not (targetLeft c n) (without-top n t) in
+        let a2 = assign-pot (rest p) (restValue c p v) in
+        let s2 = slot-top-not (rest p) (leaf-top (rest p) (rest-leaf p (top-34 p t) pg)) in
+        let w = restValue-pot p v z in
+        let R = here x (position p + 2) + resting x (position p) true (properties p) in
         let made = number (inCell x) (topMakes c n) in (
           omega arith,
           (
@@ -1017,16 +1040,9 @@ module _ (x : ℕ) where
               omega arith,
               (
                 omega arith,
-                all-append (Fit made (pot x n)) (each (λ q. assign (rest q) (restValue c q v)) (restsOf n)) (cond (c .statement) Items.none (only v))
-                    (all-each (λ q. GoodObject c q × Beside x c (restsOf n) (pot x p) q) (Fit made (pot x n)) (λ q. assign (rest q) (restValue c q v))
-                    (λ q h.
-                    let b = h .1 in
-                    let a2 = assign-pot (rest q) (restValue c q v) in
-                    let s2 = slot-top-not (rest q) (leaf-top (rest q) (rest-leaf q (h .0 .0) (h .0 .1))) in
-                    let w = restValue-pot q v z in
-                    omega arith)
-                    (restsOf n) (both-all (GoodObject c) (Beside x c (restsOf n) (pot x p)) (restsOf n) (rests-good c (depth p) p pg) (rests-beside x c (depth p) p pg)))
-                    (last-fit (c .statement) v made (pot x n) (omega arith)),
+                all-append (Fit made (pot x n)) (each (fromReference c) os) (Items.item (assign (rest p) (restValue c p v)) (cond (c .statement) Items.none (only v)))
+                    (weaker-items (Fit (R + hereItems x os) (pot x n)) (Fit made (pot x n)) (λ q l. omega arith) (each (fromReference c) os) (from-fit R (pot x n) os (parts-top p) (omega arith)))
+                    (omega arith, last-fit (c .statement) v made (pot x n) (omega arith)),
               ),
             ),
             tt,
@@ -1035,65 +1051,36 @@ module _ (x : ℕ) where
 
     -- ---- any other target
 
-    here-less : (os : Items) → AllItems (λ o. isTop o ≡ true) os → hereItems x os ≤ wholes x os
-    here-less os t = let l = cost-less os t in omega arith
-
-    ids-refs : (ps : Items) → number (inCell x) (each idOf (each (λ p. declared (reference c p)) ps)) ≡ number (inCell x) (each (λ p. reference c p) ps)
-    unfolding each number nodeAt pieceIn
-    ids-refs Items.none = refl
-    ids-refs (Items.hole ps) = ids-refs ps
-    ids-refs (Items.item p ps) = ap (λ (k : ℕ). cond (inCell x (reference c p)) 1 0 + k) (ids-refs ps)
-
-    nested-number : (n : Node) → number (inCell x) (nestedMakes c n) ≡ hereItems x (objectsBelow c (target n))
+    nested-number : (n : Node) → number (inCell x) (nestedMakes c n) ≡ hereItems x (outermost (target n))
     unfolding nestedMakes nestedEntry
-    nested-number n = ids-refs (objectsBelow c (target n)) ∙ refs-number (objectsBelow c (target n))
+    nested-number n = ids-refs (outermost (target n)) ∙ refs-number (outermost (target n))
 
     slot-top-nothing : slotTop x nothing ≡ 0
     unfolding slotTop isTop is
     slot-top-nothing = refl
 
-    -- an object with rest, beside all that are replaced
-    object-fit : (os : Items) → AllItems (λ o. isTop o ≡ true) os → AllItems (λ o. (isTop o ≡ true) × (hereItems x os + (here x (position o + 2) + pot x o) ≤ wholes x os)) os
-    unfolding hereItems wholes
-    object-fit Items.none t = tt
-    object-fit (Items.hole os) t = object-fit os t
-    object-fit (Items.item o os) t =
-        let w = whole-cost o (t .0) in
-        let h = here-less os (t .1) in (
-          (t .0, omega arith),
-          weaker-items (λ m. (isTop m ≡ true) × (hereItems x os + (here x (position m + 2) + pot x m) ≤ wholes x os))
-              (λ m. (isTop m ≡ true) × (here x (position o) + hereItems x os + (here x (position m + 2) + pot x m) ≤ whole x o + wholes x os)) (λ m k. let l = k .1 in (k .0, omega arith)) os (object-fit os (t .1)),
-        )
-
     nested-spent : (n : Node) → is 27 n ≡ true → isTop (target n) ≡ false → Good n → Spent n (nestedMakes c n) (nestedSequence c n)
     unfolding nestedSequence
     nested-spent n e t g =
         let p = target n in
-        let os = objectsBelow c p in
+        let os = outermost p in
         let pg = node-good 1 n g in
         let m = nested-number n in
         let k = pot-27 x n e in
-        let s = targets-sum x c (depth p) p t pg in
+        let s = outermost-sum x c (depth p) p t pg in
         let nn = node-in x 1 n in
         let n′ = changeNode 1 (λ q. replacedBelow c q) n in
         let k′ = pot-27 x n′ (is-changed 1 (onNode (λ q. replacedBelow c q)) n 27 ∙ e) in
         let y = node-exchange x 1 (λ q. replacedBelow c q) n in
         let z = node-changed (slotTop x) slot-top-nothing 1 (λ q. replacedBelow c q) n in
         let w = slot-top-not (replacedBelow c p) (replaced-top c (depth p) p t) in
-        let h = here-less os (objects-top c (depth p) p) in
+        let h = here-less os (nearest-top true (depth p) p) in
         let made = number (inCell x) (nestedMakes c n) in (
           omega arith,
           (
             (
               omega arith,
-              all-each (λ o. (isTop o ≡ true) × (hereItems x os + (here x (position o + 2) + pot x o) ≤ wholes x os)) (Fit made (pot x n)) (λ o. assign o (reference c o))
-                  (λ o b.
-                  let a = assign-pot o (reference c o) in
-                  let q = slot-top-is o (b .0) in
-                  let f = temporary-pot x (c .path) 1 (position o) in
-                  let l = b .1 in
-                  omega arith)
-                  os (object-fit os (objects-top c (depth p) p)),
+              weaker-items (Fit (0 + hereItems x os) (pot x n)) (Fit made (pot x n)) (λ q l. omega arith) (each (fromReference c) os) (from-fit 0 (pot x n) os (nearest-top true (depth p) p) (omega arith)),
             ),
             tt,
           ),

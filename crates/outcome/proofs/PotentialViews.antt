@@ -7,20 +7,20 @@ use Prim.Native.Nat.{ℕ, zero, suc, _+_, _≤_}
 use native.Mathlib.Omega.{arith}
 use lib.Dec.{eqb}
 use borrow.Author.Tests.{eqb-true}
-use Rattle.tree.specs.Tree.{Node, Fields, Piece, Items}
+use Rattle.tree.specs.Tree.{Node, Fields, Piece, Items, depth}
 use Rattle.tree.specs.Tree.Node.{node}
 use Rattle.lowering.specs.Parts.{nothing, position, is, pieceIn, changeIn, dropIn, asNode, asItems, nodeAt, itemsAt, stands, change, onNode, onItems, changeNode, without, only, each, gather, _+++_}
 use Rattle.lowering.specs.Made.{Context, temporary, reference, keyOf, string}
 use Rattle.lowering.specs.Patterns.{shape, properties, itemsOf, rest, hasRest, leftOf, key, value, withLeft, withItems, withRest, withProperties, withValues, replaced, objectsWithRest}
 use Rattle.lowering.specs.Patterns.Shape.{objectPattern, arrayPattern, default, leaf}
 use Rattle.lowering.specs.Keys.{keySort, excludedKey, excludedKeys, keptKey, taken, entryOf, keyText}
-use Rattle.lowering.specs.Assignments.{isTop, restsThroughObjects, withoutRests}
+use Rattle.lowering.specs.Assignments.{isTop, nearest, partsOf, partsReplaced}
 use Rattle.lowering.specs.Heads.{moved, movedPattern, movedOut}
 use Rattle.lowering.proofs.All.{AllItems, all-append, weaker-items, other-changed}
 use Rattle.lowering.proofs.Cases.{by-test, by-shape, by-key, object-is, array-is, default-is, is-changed, by-entry}
 use Rattle.lowering.proofs.Sites.{here, hereItems}
-use Rattle.lowering.proofs.Clauses.{objects-object, objects-array, objects-default, objects-leaf, replaced-object, replaced-array, replaced-default, without-object, without-array, without-default, without-leaf, taken-none, rests-object, rests-array, rests-default, rests-leaf}
-use Rattle.outcome.proofs.Good.{Leaf, Is35, Good, GoodItems, to-all, node-good, items-good, properties-35, replaced-view, without-fixes}
+use Rattle.lowering.proofs.Clauses.{objects-object, objects-array, objects-default, objects-leaf, replaced-object, replaced-array, replaced-default, parts-object, parts-array, parts-default, parts-leaf, nearest-object, nearest-array, nearest-default, nearest-leaf}
+use Rattle.outcome.proofs.Good.{Leaf, Is35, Good, GoodItems, to-all, node-good, items-good, properties-35, replaced-view, parts-fixes}
 use Rattle.outcome.proofs.ListedStand.{values-rest, objects-zero}
 use Rattle.outcome.proofs.Potential.{gone, slot, slotMoved, slots, slotValues, odd, odds, resting, own, pot, potItems, pot-34, pot-35, pot-36, pot-37, inner-in, node-in, items-in, node-and-node, items-and-node, pot-append, only-pot, none-pot, temporary-pot, node-exchange, items-exchange, drop-exchange, odds-append, odds-none, only-odds, moved-less}
 use Rattle.lowering.proofs.ChangeLaws.{position-changed, is-without, items-without, stands-without, items-changed}
@@ -356,6 +356,100 @@ module _ (x : ℕ) where
     pub targets-sum : (d : ℕ) (p : Node) → isTop p ≡ false → Good p → wholes (objectsWithRest c d p) + pot x (replaced c d p) ≤ pot x p
     targets-sum d p t g = let s = objects-sum d p g in let k = slot-kept d p t in omega arith
 
+    -- ---- the objects with rest of an assignment
+
+    near-zero : (arrays : Bool) (p : Node) → nearest arrays 0 p ≡ Items.none
+    unfolding nearest
+    near-zero arrays p = refl
+
+    -- with what is left when all are replaced
+    near-sum : (d : ℕ) (p : Node) → Good p → wholes (nearest true d p) + whole (replaced c d p) ≤ whole p
+    unfolding replaced
+    near-sum zero p g = let z = ap wholes (near-zero true p) in let n = none-wholes in omega arith
+    near-sum (suc d) p g =
+        let f : Node → Node = λ v. replaced c d v in
+        let h : Node → Items = λ v. nearest true d v in
+        let n = none-wholes in
+        let together : (v : Node) → Good v → wholes (nearest true d v) + whole (replaced c d v) ≤ whole v + nil (nearest true d v) = λ v k. let o = near-sum d v k in let z = nil-is (nearest true d v) in omega arith in
+        by-shape (shape p)
+        (λ e.
+        let inside = gather (λ q. h (value q)) (properties p) in
+        let i = ap wholes (nearest-object true d p e) in
+        let j = ap whole (replaced-object c d p e) in
+        by-test (hasRest p)
+        (λ r.
+        let i′ : wholes (nearest true (suc d) p) ≡ wholes (only p) = rw r at i in
+        let j′ : whole (replaced c (suc d) p) ≡ whole (reference c p) = rw r at j in
+        let o = only-wholes p in
+        let t = reference-whole p in
+        omega arith)
+        (λ r.
+        let i′ : wholes (nearest true (suc d) p) ≡ wholes inside = rw r at i in
+        let j′ : whole (replaced c (suc d) p) ≡ whole (withValues f p) = rw r at j in
+        let s = object-sum wholes nil wholes-sum nil-sum h f together p (object-is p e) g in
+        let z = nil-is inside in
+        let k = slot-changed 0 (onItems (each (λ q. changeNode 1 f q))) p in
+        omega arith))
+        (λ e.
+        let s = array-sum wholes nil wholes-sum nil-sum h f together p (array-is p e) g in
+        let z = nil-is (gather h (itemsOf p)) in
+        let i = ap wholes (nearest-array true d p e) in
+        let j = ap whole (replaced-array c d p e) in
+        let k = slot-changed 0 (onItems (each f)) p in
+        omega arith)
+        (λ e.
+        let s = default-sum wholes nil wholes-sum nil-sum h f together (replaced-view c d .fixes) p (default-is p e) g in
+        let z = nil-is (h (leftOf p)) in
+        let i = ap wholes (nearest-default true d p e) in
+        let j = ap whole (replaced-default c d p e) in
+        let k = slot-changed 0 (onNode f) p in
+        omega arith)
+        (λ e.
+        let i = ap wholes (nearest-leaf true d p e) in
+        let j = ap whole (replaced-view c (suc d) .fixes p e) in
+        omega arith)
+
+    pub outermost-sum : (d : ℕ) (p : Node) → isTop p ≡ false → Good p → wholes (nearest true d p) + pot x (replaced c d p) ≤ pot x p
+    outermost-sum d p t g = let s = near-sum d p g in let k = slot-kept d p t in omega arith
+
+    -- with what is left when those reached through objects are
+    pub parts-sum : (d : ℕ) (p : Node) → Good p → wholes (nearest false d p) + whole (partsReplaced c d p) ≤ whole p
+    unfolding partsReplaced
+    parts-sum zero p g = let z = ap wholes (near-zero false p) in let n = none-wholes in omega arith
+    parts-sum (suc d) p g =
+        let f : Node → Node = λ v. partsReplaced c d v in
+        let h : Node → Items = λ v. nearest false d v in
+        let n = none-wholes in
+        let together : (v : Node) → Good v → wholes (nearest false d v) + whole (partsReplaced c d v) ≤ whole v + nil (nearest false d v) = λ v k. let o = parts-sum d v k in let z = nil-is (nearest false d v) in omega arith in
+        by-shape (shape p)
+        (λ e.
+        let inside = gather (λ q. h (value q)) (properties p) in
+        let i = ap wholes (nearest-object false d p e) in
+        let j = ap whole (parts-object c d p e) in
+        by-test (hasRest p)
+        (λ r.
+        let i′ : wholes (nearest false (suc d) p) ≡ wholes (only p) = rw r at i in
+        let j′ : whole (partsReplaced c (suc d) p) ≡ whole (reference c p) = rw r at j in
+        let o = only-wholes p in
+        let t = reference-whole p in
+        omega arith)
+        (λ r.
+        let i′ : wholes (nearest false (suc d) p) ≡ wholes inside = rw r at i in
+        let j′ : whole (partsReplaced c (suc d) p) ≡ whole (withValues f p) = rw r at j in
+        let s = object-sum wholes nil wholes-sum nil-sum h f together p (object-is p e) g in
+        let z = nil-is inside in
+        let k = slot-changed 0 (onItems (each (λ q. changeNode 1 f q))) p in
+        omega arith))
+        (λ e. let i = ap wholes (nearest-array false d p e) in let j = ap whole (parts-array c d p e) in omega arith)
+        (λ e.
+        let s = default-sum wholes nil wholes-sum nil-sum h f together (parts-fixes c d) p (default-is p e) g in
+        let z = nil-is (h (leftOf p)) in
+        let i = ap wholes (nearest-default false d p e) in
+        let j = ap whole (parts-default c d p e) in
+        let k = slot-changed 0 (onNode f) p in
+        omega arith)
+        (λ e. let i = ap wholes (nearest-leaf false d p e) in let j = ap whole (parts-leaf c d p e) in omega arith)
+
     -- ---- keys
 
     string-pot : (bs : List ℕ) → pot x (string bs) ≡ 0
@@ -431,7 +525,7 @@ module _ (x : ℕ) where
         let m = ap (pot x) (node-other 0 1 (λ w. omega arith) (onItems (each (keptKey c))) p) in
         omega arith)
 
-    -- ---- rests reached through objects
+    -- ---- what rests may make
 
     unfoldable pub restings : Items → ℕ
     restings Items.none = 0
@@ -455,121 +549,39 @@ module _ (x : ℕ) where
     restings-sum : Sum restings
     restings-sum = record { none = restings-none; append = restings-append }
 
-    rests-zero : (p : Node) → restsThroughObjects 0 p ≡ Items.none
-    unfolding restsThroughObjects
-    rests-zero p = refl
-
-    slot-without : (n : Node) → slot x (without 1 n) ≡ slot x n
-    unfolding slot is without
-    slot-without (node at k fs) = refl
-
-    slot-taken : (p : Node) → slot x (taken c p) ≡ slot x p
-    unfolding taken
-    slot-taken p =
-        by-test (hasRest p)
-        (λ r. rw r (slot-without (withProperties (keptKey c) p) ∙ slot-changed 0 (onItems (each (keptKey c))) p))
-        (λ r. rw r refl)
-
     values-properties : (f : Node → Node) (is : Items) → AllItems Is35 is → AllItems Is35 (each (λ q. changeNode 1 f q) is)
     unfolding each
     values-properties f Items.none h = tt
     values-properties f (Items.hole is) h = values-properties f is h
     values-properties f (Items.item q is) h = (is-changed 1 (onNode f) q 35 ∙ h .0, values-properties f is (h .1))
 
-    pub without-sum : (d : ℕ) (p : Node) → Good p → restings (restsThroughObjects d p) + whole (withoutRests c d p) ≤ whole p
-    unfolding withoutRests
-    without-sum zero p g = let z = ap restings (rests-zero p) in let n = restings-none in omega arith
-    without-sum (suc d) p g =
-        let f : Node → Node = λ v. withoutRests c d v in
-        let h : Node → Items = λ v. restsThroughObjects d v in
-        let n = restings-none in
-        let together : (v : Node) → Good v → restings (restsThroughObjects d v) + whole (withoutRests c d v) ≤ whole v + nil (restsThroughObjects d v) = λ v k. let o = without-sum d v k in let z = nil-is (restsThroughObjects d v) in omega arith in
-        by-shape (shape p)
-        (λ e.
+    -- an object with rest: its parts, what its rest may make, and what is left of it
+    pub left-over-sum : (p : Node) → is 34 p ≡ true → hasRest p ≡ true → Good p
+        → wholes (partsOf p) + (resting x (position p) true (properties p) + pot x (taken c (withValues (λ v. partsReplaced c (depth p) v) p))) ≤ pot x p
+    left-over-sum p e r g =
+        let d = depth p in
+        let f : Node → Node = λ v. partsReplaced c d v in
+        let h : Node → Items = λ v. nearest false d v in
         let p′ = withValues f p in
-        let inside = gather (λ q. h (value q)) (properties p) in
-        let s = object-sum restings nil restings-sum nil-sum h f together p (object-is p e) g in
-        let z = nil-is inside in
-        let i = ap restings (rests-object d p e) in
-        let j = ap whole (without-object c d p e) in
-        let k = slot-changed 0 (onItems (each (λ q. changeNode 1 f q))) p in
-        let t = slot-taken p′ in
-        let e′ : is 34 p′ ≡ true = is-changed 0 (onItems (each (λ q. changeNode 1 f q))) p 34 ∙ object-is p e in
-        by-test (hasRest p)
-        (λ r.
-        let i′ : restings (restsThroughObjects (suc d) p) ≡ restings (inside +++ only p) = rw r at i in
-        let a = restings-append inside (only p) in
-        let o = only-restings p in
-        let m = taken-sum p′ e′ (subst (AllItems Is35) (sym (items-changed 0 (λ q. changeNode 1 f q) p)) (values-properties f (properties p) (properties-35 p (object-is p e) g))) (values-rest f p ∙ r) in
+        let together : (v : Node) → Good v → wholes (nearest false d v) + whole (partsReplaced c d v) ≤ whole v + nil (nearest false d v) = λ v k. let o = parts-sum d v k in let z = nil-is (nearest false d v) in omega arith in
+        let s = object-sum wholes nil wholes-sum nil-sum h f together p e g in
+        let z = nil-is (partsOf p) in
+        let e′ : is 34 p′ ≡ true = is-changed 0 (onItems (each (λ q. changeNode 1 f q))) p 34 ∙ e in
+        let m = taken-sum p′ e′ (subst (AllItems Is35) (sym (items-changed 0 (λ q. changeNode 1 f q) p)) (values-properties f (properties p) (properties-35 p e g))) (values-rest f p ∙ r) in
         let q = resting-same (position p′) (position p) true true (properties p′) (properties p) (position-changed 0 (onItems (each (λ m. changeNode 1 f m))) p) refl
         (ap (hereItems x) (items-changed 0 (λ m. changeNode 1 f m) p) ∙ here-each (λ m. changeNode 1 f m) (λ m. position-changed 1 (onNode f) m) (itemsAt 0 p)) in
-        omega arith)
-        (λ r.
-        let i′ : restings (restsThroughObjects (suc d) p) ≡ restings (inside +++ Items.none) = rw r at i in
-        let a = restings-append inside Items.none in
-        let m = ap (pot x) (taken-none c p′ (values-rest f p ∙ r)) in
-        omega arith))
-        (λ e. let i = ap restings (rests-array d p e) in let j = ap whole (without-array c d p e) in omega arith)
-        (λ e.
-        let s = default-sum restings nil restings-sum nil-sum h f together (without-fixes c d) p (default-is p e) g in
-        let z = nil-is (h (leftOf p)) in
-        let i = ap restings (rests-default d p e) in
-        let j = ap whole (without-default c d p e) in
-        let k = slot-changed 0 (onNode f) p in
-        omega arith)
-        (λ e. let i = ap restings (rests-leaf d p e) in let j = ap whole (without-leaf c d p e) in omega arith)
+        omega arith
 
-    -- what each rest and its keys have beside all that rests may make
-    abbrev pub Beside : Items → ℕ → Node → Type 0
-    Beside os b r = restings os + (pot x (rest r) + potItems x (excludedKeys c r)) ≤ b
-
-    restings-all : (h : Node → Items) (is : Items) → ((n : Node) → Good n → restings (h n) ≤ pot x n) → AllItems Good is → restings (gather h is) ≤ potItems x is
-    unfolding gather pot
-    restings-all h Items.none l g = let z = restings-none in omega arith
-    restings-all h (Items.hole is) l g = restings-all h is l g
-    restings-all h (Items.item n is) l g =
-        let a = restings-append (h n) (gather h is) in let t = l n (g .0) in let u = restings-all h is l (g .1) in omega arith
-
-    gathered : (h : Node → Items) (is : Items) → ((n : Node) → Good n → restings (h n) ≤ pot x n) → ((n : Node) → Good n → AllItems (Beside (h n) (pot x n)) (h n))
-        → AllItems Good is → AllItems (Beside (gather h is) (potItems x is)) (gather h is)
-    unfolding gather pot
-    gathered h Items.none l b g = tt
-    gathered h (Items.hole is) l b g = gathered h is l b g
-    gathered h (Items.item n is) l b g =
-        let a = restings-append (h n) (gather h is) in
-        let t = l n (g .0) in
-        let u = restings-all h is l (g .1) in
-        all-append (Beside (h n +++ gather h is) (pot x n + potItems x is)) (h n) (gather h is)
-        (weaker-items (Beside (h n) (pot x n)) (Beside (h n +++ gather h is) (pot x n + potItems x is)) (λ r k. omega arith) (h n) (b n (g .0)))
-        (weaker-items (Beside (gather h is) (potItems x is)) (Beside (h n +++ gather h is) (pot x n + potItems x is)) (λ r k. omega arith) (gather h is) (gathered h is l b (g .1)))
-
-    slot-rests : (d : ℕ) (p : Node) → slot x (withoutRests c d p) ≡ slot x p
-    unfolding withoutRests
-    slot-rests zero p = refl
-    slot-rests (suc d) p =
-        let f : Node → Node = λ v. withoutRests c d v in
-        by-shape (shape p)
-        (λ e. ap (slot x) (without-object c d p e) ∙ slot-taken (withValues f p) ∙ slot-changed 0 (onItems (each (λ q. changeNode 1 f q))) p)
-        (λ e. ap (slot x) (without-array c d p e))
-        (λ e. ap (slot x) (without-default c d p e) ∙ slot-changed 0 (onNode f) p)
-        (λ e. ap (slot x) (without-leaf c d p e))
-
-    pub rests-left : (d : ℕ) (p : Node) → Good p → restings (restsThroughObjects d p) + pot x (withoutRests c d p) ≤ pot x p
-    rests-left d p g = let s = without-sum d p g in let k = slot-rests d p in omega arith
-
-    pub rests-pot : (d : ℕ) (p : Node) → Good p → restings (restsThroughObjects d p) ≤ pot x p
-    rests-pot d p g = let s = rests-left d p g in omega arith
-
-    -- the keys of a pattern beside the rests below its values
-    keys-beside : (d : ℕ) (is : Items) → AllItems Good is → restings (gather (λ q. restsThroughObjects d (value q)) is) + potItems x (gather (excludedKey c) is) ≤ potItems x is
-    unfolding gather pot
-    keys-beside d Items.none g = let z = restings-none in omega arith
+    -- the keys of a pattern beside the parts below its values
+    keys-beside : (d : ℕ) (is : Items) → AllItems Good is → wholes (gather (λ q. nearest false d (value q)) is) + potItems x (gather (excludedKey c) is) ≤ slotValues x is + potItems x is
+    unfolding gather slotValues pot
+    keys-beside d Items.none g = let z = none-wholes in omega arith
     keys-beside d (Items.hole is) g = keys-beside d is g
     keys-beside d (Items.item q is) g =
-        let a = restings-append (restsThroughObjects d (value q)) (gather (λ m. restsThroughObjects d (value m)) is) in
+        let a = wholes-append (nearest false d (value q)) (gather (λ m. nearest false d (value m)) is) in
         let b = pot-append x (excludedKey c q) (gather (excludedKey c) is) in
         let k = excludedKey-pot q in
-        let v = rests-pot d (value q) (node-good 1 q (g .0)) in
+        let v = parts-sum d (value q) (node-good 1 q (g .0)) in
         let n = node-and-node x 0 1 (omega arith) q in
         let o = inner-in x q in
         let r = keys-beside d is (g .1) in
@@ -594,46 +606,16 @@ module _ (x : ℕ) where
     pub excludedKeys-pot : (p : Node) → potItems x (excludedKeys c p) ≤ potItems x (properties p)
     excludedKeys-pot p = let e = excluded-is p in let k = keys-all (properties p) in omega arith
 
-    pub rests-beside : (d : ℕ) (p : Node) → Good p → AllItems (Beside (restsThroughObjects d p) (pot x p)) (restsThroughObjects d p)
-    rests-beside zero p g = subst (λ (os : Items). AllItems (Beside os (pot x p)) os) (sym (rests-zero p)) tt
-    rests-beside (suc d) p g =
-        let i = inner-in x p in
-        by-shape (shape p)
-        (λ e.
-        let h : Node → Items = λ q. restsThroughObjects d (value q) in
-        let found = gather h (properties p) in
-        let os = found +++ cond (hasRest p) (only p) Items.none in
-        let good = to-all (properties p) (items-good 0 p g) in
-        let t = items-in x 0 p in
-        let a = pot-34 x p (object-is p e) in
-        let each = gathered h (properties p)
-        (λ q k. let r = rests-pot d (value q) (node-good 1 q k) in let n = node-in x 1 q in let o = inner-in x q in omega arith)
-        (λ q k. let n = node-in x 1 q in let o = inner-in x q in
-        weaker-items (Beside (h q) (pot x (value q))) (Beside (h q) (pot x q)) (λ r l. omega arith) (h q) (rests-beside d (value q) (node-good 1 q k))) good in
-        subst (λ (ys : Items). AllItems (Beside ys (pot x p)) ys) (sym (rests-object d p e))
-        (by-test (hasRest p)
-        (λ r. rw (r, AllItems)
-        (let b = restings-append found (only p) in
-        let o = only-restings p in
+    -- an object with rest: its parts, what its rest may make, its rest and its keys
+    pub rest-beside : (p : Node) → is 34 p ≡ true → hasRest p ≡ true → Good p
+        → wholes (partsOf p) + (resting x (position p) true (properties p) + (pot x (rest p) + potItems x (excludedKeys c p))) ≤ pot x p
+    rest-beside p e r g =
+        let a = pot-34 x p e in
         let y : resting x (position p) (stands 1 p) (itemsAt 0 p) ≡ resting x (position p) true (itemsAt 0 p) = ap (λ (u : Bool). resting x (position p) u (itemsAt 0 p)) r in
-        let k = keys-beside d (properties p) good in
+        let k = keys-beside (depth p) (properties p) (to-all (properties p) (items-good 0 p g)) in
         let m = items-and-node x 0 1 (omega arith) p in
         let n = excluded-is p in
-        all-append (Beside (found +++ only p) (pot x p)) found (only p)
-        (weaker-items (Beside found (potItems x (properties p))) (Beside (found +++ only p) (pot x p)) (λ q l. omega arith) found each)
-        (omega arith, tt)))
-        (λ r. rw (r, AllItems)
-        (let b = restings-append found Items.none in
-        let z = restings-none in
-        all-append (Beside (found +++ Items.none) (pot x p)) found Items.none
-        (weaker-items (Beside found (potItems x (properties p))) (Beside (found +++ Items.none) (pot x p)) (λ q l. omega arith) found each) tt))))
-        (λ e. subst (λ (ys : Items). AllItems (Beside ys (pot x p)) ys) (sym (rests-array d p e)) tt)
-        (λ e.
-        let n = node-in x 0 p in
-        subst (λ (ys : Items). AllItems (Beside ys (pot x p)) ys) (sym (rests-default d p e))
-        (weaker-items (Beside (restsThroughObjects d (leftOf p)) (pot x (leftOf p))) (Beside (restsThroughObjects d (leftOf p)) (pot x p)) (λ r l. omega arith) (restsThroughObjects d (leftOf p))
-        (rests-beside d (leftOf p) (node-good 0 p g))))
-        (λ e. subst (λ (ys : Items). AllItems (Beside ys (pot x p)) ys) (sym (rests-leaf d p e)) tt)
+        omega arith
 
     -- ---- moved out of a head
 

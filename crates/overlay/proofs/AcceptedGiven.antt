@@ -16,7 +16,7 @@ use Rattle.tree.specs.Read.{sortIn}
 use Rattle.tree.specs.WellFormed.{Fits, FitFields, FitPiece, FitItems, Counts, WellFormed}
 use Rattle.lowering.specs.Parts.{is, pieceIn, asItems, itemsAt}
 use Rattle.overlay.specs.Plain.{free, freeFields, freePiece, freeItems, isForeign, isNew, hasHole, given}
-use Rattle.overlay.specs.Whole.{ItemAt, NodeIn, FieldAt, PartAt, Stands}
+use Rattle.lowering.specs.Visits.{ItemAt, NodeIn, FieldAt, PartAt, Stands}
 use Rattle.overlay.proofs.LaidOn.{differ}
 use Rattle.overlay.proofs.Free.{free-below}
 use Rattle.lowering.proofs.Cases.{by-test, and-left, and-right}

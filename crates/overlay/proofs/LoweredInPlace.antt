@@ -19,7 +19,8 @@ use Rattle.lowering.proofs.Falls.{walked-is}
 use Rattle.lowering.proofs.Order.{by-order}
 use Rattle.overlay.specs.Plain.{given}
 use Rattle.overlay.specs.Law.{Overlay, Faithful}
-use Rattle.overlay.specs.Whole.{leaves, ItemAt, NodeIn, FieldAt, PartAt, Stands, Visits, lowered, Left, InPlace, Writes}
+use Rattle.lowering.specs.Visits.{ItemAt, NodeIn, FieldAt, PartAt, Stands, Visits}
+use Rattle.overlay.specs.Whole.{leaves, lowered, Left, InPlace, Writes}
 use Rattle.overlay.proofs.Plainly.{Plain, plain-rule}
 use Rattle.overlay.proofs.Lowered.{plain-turns}
 use Rattle.overlay.proofs.Overlay.{faithful, overlays}

@@ -23,7 +23,8 @@ use Rattle.lowering.specs.Answer.{top}
 use Rattle.lowering.proofs.Notes.{AllNotes}
 use Rattle.lowering.proofs.Falls.{walked-is}
 use Rattle.overlay.specs.Plain.{plain}
-use Rattle.overlay.specs.Whole.{ItemAt, NodeIn, FieldAt, PartAt, Stands, Visits, leaves, Comes, Reached, Lowered, Everywhere, OverlayEverywhere}
+use Rattle.lowering.specs.Visits.{ItemAt, NodeIn, FieldAt, PartAt, Stands, Visits}
+use Rattle.overlay.specs.Whole.{leaves, Comes, Reached, Lowered, Everywhere, OverlayEverywhere}
 use Rattle.overlay.specs.Law.{literalOf}
 use Rattle.overlay.proofs.LaidOn.{differ}
 use Rattle.overlay.proofs.TreesCompared.{same, same-is, same-self}

@@ -13,21 +13,21 @@ use Rattle.tree.specs.Tree.Fields.{done, absent, field}
 use Rattle.tree.specs.Tree.Piece.{one, list, text, byte, mark, number}
 use Rattle.tree.specs.Tree.Items.{none, hole, item}
 use Rattle.lowering.specs.Parts.{is, pieceIn, standsIn, changeIn, asNode, asItems, nodeAt, itemsAt, stands, change, onNode, onItems, changeItems, only, each, gather, any, _+++_}
-use Rattle.lowering.specs.Made.{Context, S, object, reference, valueOf, assign, assigning, sequence, varOf, letOf, returning, block, functionBody}
+use Rattle.lowering.specs.Made.{Context, S, object, reference, valueOf, assign, assigning, declared, sequence, varOf, letOf, returning, block, functionBody}
 use Rattle.lowering.specs.Literals.{opened, closed, scan, literal}
 use Rattle.lowering.specs.Literals.Call.{no-call, call}
-use Rattle.lowering.specs.Patterns.{shape, hasObjectRest, hasArrayRestOverObjectRest, rest, replacedBelow, objectsBelow}
-use Rattle.lowering.specs.Keys.{keyTemporaries}
+use Rattle.lowering.specs.Patterns.{shape, hasObjectRest, hasArrayRestOverObjectRest, rest, hasRest, withValues, replacedBelow}
+use Rattle.lowering.specs.Keys.{keyTemporaries, taken}
 use Rattle.lowering.specs.Rests.{restValue}
 use Rattle.lowering.specs.Declarations.{declarators, declaration, declarationLacksForm}
-use Rattle.lowering.specs.Assignments.{target, assigned, isTop, restsOf, topLacksForm, targetLeft, topSequence, topEntry, nestedSequence}
+use Rattle.lowering.specs.Assignments.{target, assigned, isTop, partsOf, topLacksForm, partsReplaced, targetLeft, fromReference, topSequence, topEntry, outermost, nestedSequence}
 use Rattle.lowering.specs.Heads.{isMoved, moved, movedFrom, movedOut, movedPattern, leftBehind, inFront, inBody, asFunctionBody, asBlock, function, arrow, catch, declaringHead, assigningHead}
 use Rattle.lowering.specs.Walk.{Step, unchanged, ruleOf, rewrite, stepDeclaration, stepTop, stepAssignment, stepFor}
 use Rattle.lowering.proofs.All.{other-changed}
 use Rattle.overlay.specs.Plain.{hasHole}
 use Rattle.overlay.proofs.LaidOn.{differ}
 use Rattle.overlay.proofs.Held.{isList, takesIn, takes, areParams, hasBody, isAtom, changesIt, held, heldAll, heldPiece, heldItems, heldParts, heldPattern, heldDeclarators, heldDeclarator, at-24, at-26, at-27, at-34, at-37, at-4, declarator-held, held-append, piece-all, change-less, change-more, node-most, only-held, two-all}
-use Rattle.overlay.proofs.ViewsKeep.{View, view, object-view, array-view, default-view, leaf-view, pattern-most, declarator-most, declarator-kept, replaced-kept, heldRests, top-kept, heldLets, lets-add, moved-kept}
+use Rattle.overlay.proofs.ViewsKeep.{View, view, object-view, array-view, default-view, leaf-view, pattern-most, declarator-most, declarator-kept, replaced-kept, top-kept, heldLets, lets-add, moved-kept}
 use Rattle.lowering.proofs.ChangeLaws.{stands-changed, items-changed-in}
 use Rattle.lowering.proofs.Cases.{not-false, by-test, or-left, or-right, and-left, and-right}
 
@@ -284,42 +284,48 @@ module _ (wanted : Node → Bool) where
     unfolding held partsHeld
     sequence-parts xs = omega arith
 
-    rests-kept : (t : Node) (ps : Items) → heldRests wanted c ps ≤ HI (each (λ p. assign (rest p) (restValue c p t)) ps) + HI (gather (keyTemporaries c) ps)
-    unfolding held heldRests each gather
-    rests-kept t none = omega arith
-    rests-kept t (hole ps) = rests-kept t ps
-    rests-kept t (item p ps) =
-        let r = rests-kept t ps in
-        let a = assign-held (rest p) (restValue c p t) in
-        let b = held-append wanted (keyTemporaries c p) (gather (keyTemporaries c) ps) in
-        omega arith
-
     at-assign : (at : ℕ) (fs : Fields) → H (node at 27 fs) ≡ H (target (node at 27 fs)) + H (assigned (node at 27 fs))
     unfolding nodeAt
     at-assign at fs = at-27 wanted at fs
 
-    pub top-all : (at : ℕ) (fs : Fields) → let n = node at 27 fs in H n ≤ partsHeld (topSequence c n) + HI (topEntry c n)
-    unfolding topSequence topEntry held
-    top-all at fs =
-        let n = node at 27 fs in
-        let t = valueOf c (target n) in
-        let rs = restsOf n in
-        let tail = each (λ p. assign (rest p) (restValue c p t)) rs in
-        let end = cond (c .statement) none (only t) in
-        let h = at-assign at fs in
-        let k = top-kept wanted c (depth (target n)) (target n) in
-        let r = rests-kept t rs in
-        let s = sequence-parts (item (assign t (assigned n)) (item (assign (targetLeft c n) t) (tail +++ end))) in
-        let a = held-append wanted tail end in
-        let x = assign-held t (assigned n) in
-        let y = assign-held (targetLeft c n) t in
-        omega arith
-
-    each-assign : (ps : Items) → HI ps ≤ HI (each (λ p. assign p (reference c p)) ps)
+    each-assign : (ps : Items) → HI ps ≤ HI (each (fromReference c) ps)
     unfolding held each
     each-assign none = omega arith
     each-assign (hole ps) = each-assign ps
     each-assign (item p ps) = let r = each-assign ps in let a = assign-held p (reference c p) in omega arith
+
+    -- a target that is an object with rest
+    left-all : (n : Node) → isTop (target n) ≡ true
+        → H (target n) ≤ H (targetLeft c n) + (HI (partsOf (target n)) + (H (rest (target n)) + HI (keyTemporaries c (target n))))
+    unfolding isTop is
+    left-all n top = go (target n) (and-left (is 34 (target n)) (hasRest (target n)) top) (and-right (is 34 (target n)) (hasRest (target n)) top)
+      where
+        go : (p : Node) → is 34 p ≡ true → hasRest p ≡ true
+            → H p ≤ H (taken c (withValues (λ v. partsReplaced c (depth p) v) p)) + (HI (partsOf p) + (H (rest p) + HI (keyTemporaries c p)))
+        go (node at k fs) e r =
+            subst (λ (k : ℕ). hasRest (node at k fs) ≡ true
+            → H (node at k fs) ≤ H (taken c (withValues (λ v. partsReplaced c (depth (node at k fs)) v) (node at k fs))) + (HI (partsOf (node at k fs)) + (H (rest (node at k fs)) + HI (keyTemporaries c (node at k fs)))))
+            (sym (eqb-true k 34 e)) (λ r. top-kept wanted c (depth (node at 34 fs)) at fs r) r
+
+    pub top-all : (at : ℕ) (fs : Fields) → let n = node at 27 fs in isTop (target n) ≡ true → H n ≤ partsHeld (topSequence c n) + HI (topEntry c n)
+    unfolding topSequence topEntry held
+    top-all at fs top =
+        let n = node at 27 fs in
+        let p = target n in
+        let t = valueOf c p in
+        let ps = each (fromReference c) (partsOf p) in
+        let end = cond (c .statement) none (only t) in
+        let last = item (assign (rest p) (restValue c p t)) end in
+        let h = at-assign at fs in
+        let k = left-all n top in
+        let r = each-assign (partsOf p) in
+        let s = sequence-parts (item (assign t (assigned n)) (item (assign (targetLeft c n) t) (ps +++ last))) in
+        let a = held-append wanted ps last in
+        let b = assign-held (rest p) (restValue c p t) in
+        let x = assign-held t (assigned n) in
+        let y = assign-held (targetLeft c n) t in
+        let z = held-append wanted (each (λ q. declared (reference c q)) (partsOf p)) (keyTemporaries c p) in
+        omega arith
 
     -- the target, with some of it in a list
     target-kept : (fs : Fields) (f : Node → Node) (g : Node → Items) → ((v : Node) → H v ≤ H (f v) + HI (g v)) → H (asNode (pieceIn fs 1)) ≤ H (asNode (pieceIn (changeIn fs 1 (onNode f)) 1)) + HI (g (asNode (pieceIn fs 1)))
@@ -347,12 +353,12 @@ module _ (wanted : Node → Bool) where
     nested-all at fs =
         let n = node at 27 fs in
         let gs : Fields = changeIn fs 1 (onNode (λ p. replacedBelow c p)) in
-        let os = objectsBelow c (target n) in
+        let os = outermost (target n) in
         let h = at-27 wanted at fs in
         let b = at-27 wanted at gs in
-        let t = target-kept fs (λ p. replacedBelow c p) (λ p. objectsBelow c p) (λ v. replaced-kept wanted c (depth v) v) in
+        let t = target-kept fs (λ p. replacedBelow c p) (λ p. outermost p) (λ v. replaced-kept wanted c (depth v) v) in
         let d : H (asNode (pieceIn gs 2)) ≡ H (asNode (pieceIn fs 2)) = ap (λ (p : Piece). H (asNode p)) (other-changed fs 1 (onNode (λ p. replacedBelow c p)) 2 (λ z. omega arith)) in
-        let s = sequence-parts (item (node at 27 gs) (each (λ p. assign p (reference c p)) os)) in
+        let s = sequence-parts (item (node at 27 gs) (each (fromReference c) os)) in
         let a = each-assign os in
         omega arith
 
@@ -713,7 +719,7 @@ module _ (wanted : Node → Bool) where
         (λ a. by-test (isTop (target n))
         (λ t. by-test (topLacksForm n)
         (λ l. refuses (rw (a, stepAssignment) (rw t (rw (l, stepTop) (omega arith)))))
-        (λ l. kept (rw (a, stepAssignment) (rw t (rw (l, stepTop) (let k = top-all at fs in omega arith))))))
+        (λ l. kept (rw (a, stepAssignment) (rw t (rw (l, stepTop) (let k = top-all at fs t in omega arith))))))
         (λ t. by-test (hasObjectRest (target n))
         (λ o. kept (rw (a, stepAssignment) (rw t (rw o (let k = nested-all at fs in omega arith)))))
         (λ o. kept (rw (a, stepAssignment) (rw t (rw o (let k = stays-27 at fs in omega arith)))))))

@@ -19,7 +19,7 @@ use Rattle.lowering.specs.Patterns.Shape.{leaf}
 use Rattle.lowering.specs.Keys.{Key, keySort, keptKey, keyTemporary, keyTemporaries, taken}
 use Rattle.lowering.specs.Rests.{hasNoProperties, restValue}
 use Rattle.lowering.specs.Declarations.{isName, source, sourceDeclarator, keysBefore, patternDeclarator, restDeclarator, own, nested, nestedBelow, objectDeclarators, patternDeclarators, lowerDeclarator, isLowered, declarators}
-use Rattle.lowering.specs.Assignments.{restsThroughObjects, withoutRests}
+use Rattle.lowering.specs.Assignments.{nearest, partsReplaced}
 use Rattle.lowering.specs.Heads.{moved, movedPattern, movedOut}
 use Rattle.lowering.proofs.All.{other-changed}
 use Rattle.overlay.proofs.LaidOn.{differ}
@@ -194,23 +194,21 @@ module _ (wanted : Node → Bool) where
         go default-view e = differ e
         go (leaf-view z y) e = rw (z, replaced) e
 
-    pub replaced-kept : (d : ℕ) (p : Node) → H p ≤ H (replaced c d p) + HI (objectsWithRest c d p)
-    unfolding replaced objectsWithRest shape held
+    pub replaced-kept : (d : ℕ) (p : Node) → H p ≤ H (replaced c d p) + HI (nearest true d p)
+    unfolding replaced nearest shape held
     replaced-kept zero p = omega arith
     replaced-kept (suc d) p = go (view p) (λ v. replaced-kept d v)
       where
-        go : {p : Node} → View p → ((v : Node) → H v ≤ H (replaced c d v) + HI (objectsWithRest c d v)) → H p ≤ H (replaced c (suc d) p) + HI (objectsWithRest c (suc d) p)
+        go : {p : Node} → View p → ((v : Node) → H v ≤ H (replaced c d v) + HI (nearest true d v)) → H p ≤ H (replaced c (suc d) p) + HI (nearest true (suc d) p)
         go (object-view {at = at} {fs = fs}) k =
             let p = node at 34 fs in
-            let gs = gather (λ q. objectsWithRest c d (value q)) (properties p) in
-            let o = withValues (λ v. replaced c d v) p in
-            let r = object-kept (heldItems wanted) held-adds (λ v. replaced c d v) (λ v. objectsWithRest c d v) k at fs in
+            let r = object-kept (heldItems wanted) held-adds (λ v. replaced c d v) (λ v. nearest true d v) k at fs in
             by-test (hasRest p)
-            (λ e. rw (e, replaced) (let a = held-append wanted gs (only o) in omega arith))
-            (λ e. rw (e, replaced) (let a = held-append wanted gs none in omega arith))
-        go (array-view {at = at} {fs = fs}) k = array-kept (heldItems wanted) held-adds (λ v. replaced c d v) (λ v. objectsWithRest c d v) k at fs
-        go (default-view {at = at} {fs = fs}) k = default-kept (heldItems wanted) held-adds (λ v. replaced c d v) (λ v. objectsWithRest c d v) k (replaced-default d) at fs
-        go (leaf-view {p = p} z y) k = rw (z, replaced, objectsWithRest) (omega arith)
+            (λ e. rw (e, replaced, nearest) (let o = only-held wanted p in omega arith))
+            (λ e. rw (e, replaced, nearest) (omega arith))
+        go (array-view {at = at} {fs = fs}) k = array-kept (heldItems wanted) held-adds (λ v. replaced c d v) (λ v. nearest true d v) k at fs
+        go (default-view {at = at} {fs = fs}) k = default-kept (heldItems wanted) held-adds (λ v. replaced c d v) (λ v. nearest true d v) k (replaced-default d) at fs
+        go (leaf-view {p = p} z y) k = rw (z, replaced, nearest) (omega arith)
 
     -- ---- keys
 
@@ -449,23 +447,7 @@ module _ (wanted : Node → Bool) where
         upper true x = omega arith
         upper false x = omega arith
 
-    -- ---- the rests that are reached through objects alone
-
-    -- each with the keys that are handed out for it
-    unfoldable pub heldRests : Items → ℕ
-    heldRests none = 0
-    heldRests (hole ps) = heldRests ps
-    heldRests (item p ps) = H (rest p) + HI (keyTemporaries c p) + heldRests ps
-
-    rests-append : (is js : Items) → heldRests (is +++ js) ≡ heldRests is + heldRests js
-    unfolding heldRests _+++_
-    rests-append none js = omega arith
-    rests-append (hole is) js = rests-append is js
-    rests-append (item n is) js = let h = rests-append is js in omega arith
-
-    rests-add : Adds heldRests
-    unfolding heldRests
-    rests-add = record { append = rests-append }
+    -- ---- a target that is an object with rest
 
     keys-same : (f : Node → Node) (qs : Items) → gather (keyTemporary c) (each (λ q. changeNode 1 f q) qs) ≡ gather (keyTemporary c) qs
     unfolding gather each
@@ -499,42 +481,42 @@ module _ (wanted : Node → Bool) where
         let b : HI (gather (keyTemporary c) (properties q)) ≡ HI (gather (keyTemporary c) (properties p)) = ap (heldItems wanted) (ap (gather (keyTemporary c)) (values-properties at fs f) ∙ keys-same f (properties p)) in
         omega arith
 
-    without-default : (d : ℕ) (l : Node) → is 37 l ≡ false → is 37 (withoutRests c d l) ≡ false
-    unfolding withoutRests shape is change taken without
-    without-default zero l e = e
-    without-default (suc d) l e = go (view l) e
+    parts-default : (d : ℕ) (l : Node) → is 37 l ≡ false → is 37 (partsReplaced c d l) ≡ false
+    unfolding partsReplaced shape is change
+    parts-default zero l e = e
+    parts-default (suc d) l e = go (view l) e
       where
-        go : {l : Node} → View l → is 37 l ≡ false → is 37 (withoutRests c (suc d) l) ≡ false
-        go (object-view {at = at} {fs = fs}) e =
-            by-test (hasRest (withValues (λ v. withoutRests c d v) (node at 34 fs))) (λ r. rw (r, taken) refl) (λ r. rw (r, taken) refl)
+        go : {l : Node} → View l → is 37 l ≡ false → is 37 (partsReplaced c (suc d) l) ≡ false
+        go (object-view {at = at} {fs = fs}) e = by-test (hasRest (node at 34 fs)) (λ r. rw (r, partsReplaced) refl) (λ r. rw (r, partsReplaced) refl)
         go array-view e = refl
         go default-view e = differ e
-        go (leaf-view z y) e = rw (z, withoutRests) e
+        go (leaf-view z y) e = rw (z, partsReplaced) e
 
-    pub top-kept : (d : ℕ) (p : Node) → H p ≤ H (withoutRests c d p) + heldRests (restsThroughObjects d p)
-    unfolding withoutRests restsThroughObjects shape heldRests
-    top-kept zero p = omega arith
-    top-kept (suc d) p = go (view p) (λ v. top-kept d v)
+    parts-kept : (d : ℕ) (p : Node) → H p ≤ H (partsReplaced c d p) + HI (nearest false d p)
+    unfolding partsReplaced nearest shape held
+    parts-kept zero p = omega arith
+    parts-kept (suc d) p = go (view p) (λ v. parts-kept d v)
       where
-        go : {p : Node} → View p → ((v : Node) → H v ≤ H (withoutRests c d v) + heldRests (restsThroughObjects d v)) → H p ≤ H (withoutRests c (suc d) p) + heldRests (restsThroughObjects (suc d) p)
+        go : {p : Node} → View p → ((v : Node) → H v ≤ H (partsReplaced c d v) + HI (nearest false d v)) → H p ≤ H (partsReplaced c (suc d) p) + HI (nearest false (suc d) p)
         go (object-view {at = at} {fs = fs}) k =
             let p = node at 34 fs in
-            let gs = gather (λ q. restsThroughObjects d (value q)) (properties p) in
+            let r = object-kept (heldItems wanted) held-adds (λ v. partsReplaced c d v) (λ v. nearest false d v) k at fs in
             by-test (hasRest p)
-            (λ e. rw (e, restsThroughObjects)
-            (let h = at-pattern at fs in
-            let v = values-kept heldRests rests-add (λ v. withoutRests c d v) (λ v. restsThroughObjects d v) k (properties p) in
-            let t = values-taken at fs (λ v. withoutRests c d v) e in
-            let a = rests-append gs (only p) in
-            omega arith))
-            (λ e. rw (e, restsThroughObjects)
-            (let o = object-kept heldRests rests-add (λ v. withoutRests c d v) (λ v. restsThroughObjects d v) k at fs in
-            let t : H (taken c (withValues (λ v. withoutRests c d v) p)) ≡ H (withValues (λ v. withoutRests c d v) p) = ap (held wanted) (taken-none c (withValues (λ v. withoutRests c d v) p) (values-rest at fs (λ v. withoutRests c d v) ∙ e)) in
-            let a = rests-append gs none in
-            omega arith))
+            (λ e. rw (e, partsReplaced, nearest) (let o = only-held wanted p in omega arith))
+            (λ e. rw (e, partsReplaced, nearest) (omega arith))
         go (array-view {at = at} {fs = fs}) k = omega arith
-        go (default-view {at = at} {fs = fs}) k = default-kept heldRests rests-add (λ v. withoutRests c d v) (λ v. restsThroughObjects d v) k (without-default d) at fs
-        go (leaf-view {p = p} z y) k = rw (z, withoutRests, restsThroughObjects) (omega arith)
+        go (default-view {at = at} {fs = fs}) k = default-kept (heldItems wanted) held-adds (λ v. partsReplaced c d v) (λ v. nearest false d v) k (parts-default d) at fs
+        go (leaf-view {p = p} z y) k = rw (z, partsReplaced, nearest) (omega arith)
+
+    -- what is left of it, its parts, its rest and the keys that are handed out
+    pub top-kept : (d : ℕ) (at : ℕ) (fs : Fields) → hasRest (node at 34 fs) ≡ true → let p = node at 34 fs in
+        H p ≤ H (taken c (withValues (λ v. partsReplaced c d v) p)) + (HI (gather (λ q. nearest false d (value q)) (properties p)) + (H (rest p) + HI (keyTemporaries c p)))
+    top-kept d at fs e =
+        let p = node at 34 fs in
+        let h = at-pattern at fs in
+        let v = values-kept (heldItems wanted) held-adds (λ v. partsReplaced c d v) (λ v. nearest false d v) (parts-kept d) (properties p) in
+        let t = values-taken at fs (λ v. partsReplaced c d v) e in
+        omega arith
 
     -- ---- what is moved out of a head
 

@@ -12,32 +12,13 @@ use Rattle.lowering.specs.Parts.{is}
 use Rattle.lowering.specs.Made.{Context}
 use Rattle.lowering.specs.Walk.{rewrite, within}
 use Rattle.lowering.specs.Weight.{weight}
-use Rattle.lowering.proofs.All.{AllItems, AllPiece, AllFields, Each}
 use Rattle.lowering.proofs.Weights.{weight-pos, parts-fall}
 use Rattle.lowering.proofs.Falls.{falls}
-use Rattle.overlay.specs.Whole.{ItemAt, NodeIn, FieldAt, PartAt, Stands, Visits}
+use Rattle.lowering.specs.Visits.{ItemAt, NodeIn, FieldAt, PartAt, Stands, Visits}
 use Rattle.overlay.proofs.Held.{held, heldAll, heldPiece, heldItems}
 use Rattle.overlay.proofs.RulesKeepLiterals.{own, partsHeld, stays, Kept, kept, refuses, keeps}
 use Rattle.lowering.proofs.Cases.{by-test}
-
--- ---- what holds of each part holds of the part at a place
-
-item-at : (P : Node → Type 0) {is : Items} {j : ℕ} {x : Node} → ItemAt is j x → AllItems P is → P x
-item-at P ItemAt.first h = h .0
-item-at P (ItemAt.behind a) h = item-at P a (h .1)
-item-at P (ItemAt.behindHole a) h = item-at P a h
-
-piece-at : (P : Node → Type 0) {p : Piece} {j : ℕ} {x : Node} → NodeIn p j x → AllPiece P p → P x
-piece-at P NodeIn.one h = h
-piece-at P (NodeIn.list a) h = item-at P a h
-
-field-at : (P : Node → Type 0) {fs : Fields} {i j : ℕ} {x : Node} → FieldAt fs i j x → AllFields P fs → P x
-field-at P (FieldAt.first a) h = piece-at P a (h .0)
-field-at P (FieldAt.behind a) h = field-at P a (h .1)
-field-at P (FieldAt.behindAbsent a) h = field-at P a h
-
-part-at : (P : Node → Type 0) {n x : Node} {i j : ℕ} → PartAt n i j x → Each P n → P x
-part-at P (PartAt.part a) h = field-at P a h
+use Rattle.lowering.proofs.PartsAt.{part-at}
 
 by-zero : {A : Type 0} (n : ℕ) → (n ≡ 0 → A) → (0 < n → A) → A
 by-zero zero f g = f refl

@@ -16,7 +16,7 @@ use Rattle.lowering.specs.Patterns.{hasObjectRest, hasArrayRestOverObjectRest, 
 use Rattle.lowering.specs.Keys.{keyTemporaries}
 use Rattle.lowering.specs.Rests.{isHoisted, excludedFor, restMakes}
 use Rattle.lowering.specs.Declarations.{sourceDeclarator, innerObjects, declaratorMakes, isLowered, loweredIn, declarationMakes, declarationExcludes, declarationLacksForm}
-use Rattle.lowering.specs.Assignments.{target, isTop, restsOf, topLacksForm, topEntry, topExcludes, topMakes}
+use Rattle.lowering.specs.Assignments.{target, isTop, topLacksForm, topEntry, topExcludes, topMakes}
 use Rattle.lowering.specs.Walk.{Note, ruleOf, rewrite, stepDeclaration, stepTop, stepAssignment, stepFor}
 use Rattle.lowering.specs.Weight.{walked}
 use Rattle.lowering.specs.Collect.{Visit, Entry, Name, visits, namesOf, over, nodes, nodesItems, listNodes, nameOf, nameAt, same, numberIn, excludedIn, madeIn, numbered, numberedItems, withNumber}
@@ -27,7 +27,7 @@ use Rattle.lowering.proofs.MadeAtSites.{times, times-append}
 use Rattle.lowering.proofs.ItemLaws.{each-append}
 use Rattle.lowering.proofs.Appearance.{In, same-is, in-first, in-second, name-over, name-self, distinct-in, number-apart}
 use Rattle.lowering.proofs.Appearance.In.{here, there}
-use Rattle.overlay.specs.Whole.{ItemAt}
+use Rattle.lowering.specs.Visits.{ItemAt}
 use Rattle.packing.specs.Unpack.{sameTemporary, arrayOf}
 use Rattle.packing.proofs.Declared.{same-self}
 
@@ -110,7 +110,7 @@ module _ (c : Context) where
   unfolding stepTop topMakes topExcludes
   top-hands n = by-test (topLacksForm n)
       (λ e. rw (e, stepTop) (nothing-hoisted none))
-      (λ e. rw (e, stepTop) (after-hoisted (each idOf (topEntry c n)) (ids-hoisted (rests-shaped (restsOf n)))))
+      (λ e. rw (e, stepTop) (after-hoisted (each idOf (topEntry c n)) (ids-hoisted (keys-shaped (target n)))))
 
   assignment-hands : (n : Node) → Hands (stepAssignment c n .note)
   unfolding stepAssignment

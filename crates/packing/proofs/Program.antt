@@ -19,7 +19,8 @@ use Rattle.lowering.specs.Parts.{itemsAt}
 use Rattle.lowering.specs.Collect.{bare, visits, entries, excludedIn, namesOf, numberedItems, firstRefusal}
 use Rattle.lowering.specs.Answer.{top}
 use Rattle.overlay.specs.Objects.Key.{name}
-use Rattle.overlay.specs.Whole.{leaves, ItemAt, NodeIn, FieldAt, PartAt, Stands, Visits}
+use Rattle.lowering.specs.Visits.{ItemAt, NodeIn, FieldAt, PartAt, Stands, Visits}
+use Rattle.overlay.specs.Whole.{leaves}
 use Rattle.packing.specs.Unpack.{formsOf}
 use Rattle.packing.specs.Unpack.Take.{taking}
 use Rattle.packing.specs.Unpack.Form.{pattern, without}

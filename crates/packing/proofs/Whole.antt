@@ -19,7 +19,8 @@ use Rattle.lowering.specs.Collect.{over, bare, entries, excludedIn, declaratorB
 use Rattle.lowering.specs.Answer.{top}
 use Rattle.lowering.proofs.DistinctNames.{accepted-names-apart}
 use Rattle.lowering.proofs.Cases.{by-test, and-left}
-use Rattle.overlay.specs.Whole.{leaves, ItemAt, Visits, Comes}
+use Rattle.lowering.specs.Visits.{ItemAt, Visits}
+use Rattle.overlay.specs.Whole.{leaves, Comes}
 use Rattle.overlay.proofs.TreesCompared.{same, same-is}
 use Rattle.overlay.proofs.LoweredInPlace.{left, call-writes}
 use Rattle.overlay.proofs.Reached.{visit-noted, comes-to}

@@ -19,7 +19,8 @@ use Rattle.overlay.specs.Objects.Value.{inner}
 use Rattle.overlay.specs.Run.{History as Read}
 use Rattle.overlay.specs.Run.{Out as Laid}
 use Rattle.overlay.specs.Run.Reply.{gives}
-use Rattle.overlay.specs.Whole.{leaves, ItemAt, Stands, Visits}
+use Rattle.lowering.specs.Visits.{ItemAt, Stands, Visits}
+use Rattle.overlay.specs.Whole.{leaves}
 use Rattle.packing.specs.World.{History, World, seen, look}
 use Rattle.packing.specs.World.Held.{lost, held}
 use Rattle.packing.specs.World.Out.{ok}

@@ -18,13 +18,12 @@ use Rattle.lowering.specs.Patterns.Shape.{objectPattern, arrayPattern}
 use Rattle.lowering.specs.Keys.{keySort, anyLacksForm, keyTemporaries, taken}
 use Rattle.lowering.specs.Keys as keys
 use Rattle.lowering.specs.Rests.{hasNoProperties, restValue}
-use Rattle.lowering.specs.Assignments.{restsThroughObjects}
 use Rattle.lowering.specs.Declarations.{keysBefore, patternDeclarator, restDeclarator, own, nested, nestedBelow, objectDeclarators, patternDeclarators}
 use Rattle.pattern.specs.declared.tally.Tally.{Tally}
 use Rattle.pattern.specs.Tally as tally
 use Rattle.pattern.specs.Tally.{limited, both, sum}
 use Rattle.pattern.specs.Keys.{keyTally, keysOf, countsBy}
-use Rattle.pattern.specs.Objects.{objectItself, objectTally, ownTally, objectsTally, throughObjects, found, restsTally}
+use Rattle.pattern.specs.Objects.{objectItself, objectTally, ownTally, objectsTally, restsTally}
 use Rattle.pattern.specs.Declarators.{made}
 use Rattle.pattern.proofs.CappedSums.{tallies, sumOf, sum-append, sum-gather, plus-limited, plus-right, plus-both}
 use Rattle.pattern.proofs.KeyCases.{some-not, more-than, temporaries-law, lacking-law}
@@ -62,16 +61,6 @@ solid-gather f h (item n is) = solid-append (f n) (gather f is) (h n) (solid-gat
 solid-own : (b : Bool) (p : Node) → Solid (cond b (only p) none)
 solid-own true p = tt
 solid-own false p = tt
-
-solid-rests : (d : ℕ) (p : Node) → Solid (restsThroughObjects d p)
-unfolding restsThroughObjects
-solid-rests zero p = tt
-solid-rests (suc d) p =
-    by-shape (shape p)
-    (λ s. rw (s, restsThroughObjects) (solid-append (gather (λ q. restsThroughObjects d (value q)) (properties p)) (cond (hasRest p) (only p) none) (solid-gather (λ q. restsThroughObjects d (value q)) (λ q. solid-rests d (value q)) (properties p)) (solid-own (hasRest p) p)))
-    (λ s. rw (s, restsThroughObjects) tt)
-    (λ s. rw (s, restsThroughObjects) (solid-rests d (leftOf p)))
-    (λ s. rw (s, restsThroughObjects) tt)
 
 solid-objects : (c : Context) (d : ℕ) (p : Node) → Solid (objectsWithRest c d p)
 unfolding objectsWithRest
@@ -155,39 +144,16 @@ objects-count (item p is) h =
     let b = objects-count is h in
     omega arith
 
-temporaries-count : (c : Context) (is : Items) → objectsTally is .temporaries ≡ limited (count (gather (keyTemporaries c) is))
-unfolding sum both gather count limited
-temporaries-count c none = refl
-temporaries-count c (hole is) = temporaries-count c is
-temporaries-count c (item p is) =
-    let a = its-keys p c in
-    let b = temporaries-count c is in
-    let d = count-append (keyTemporaries c p) (gather (keyTemporaries c) is) in
-    omega arith
-
 -- ---- what the thin functions answer
 
 module _ (n : Node) (t : Tally) where
-  pub objects-below : (c : Context) → ((c : Context) → t ≡ restsTally c true n) → t .objects ≡ limited (count (objectsBelow c n))
-  unfolding restsTally found
+  pub objects-below : (c : Context) → ((c : Context) → t ≡ restsTally c n) → t .objects ≡ limited (count (objectsBelow c n))
+  unfolding restsTally
   objects-below c e = ap (λ (x : Tally). x .objects) (e c) ∙ objects-count (objectsBelow c n) (solid-objects c (depth n) n)
 
-  pub below-lacks : (c : Context) → ((c : Context) → t ≡ restsTally c true n) → ltb 0 (t .lacking) ≡ any anyLacksForm (objectsBelow c n)
-  unfolding restsTally found
+  pub below-lacks : (c : Context) → ((c : Context) → t ≡ restsTally c n) → ltb 0 (t .lacking) ≡ any anyLacksForm (objectsBelow c n)
+  unfolding restsTally
   below-lacks c e = ap (λ (x : Tally). ltb 0 (x .lacking)) (e c) ∙ lacking-any (objectsBelow c n)
-
-  module _ (e : (c : Context) → t ≡ restsTally c false n) where
-    pub rests-through : t .objects ≡ limited (count (throughObjects n))
-    unfolding restsTally found
-    rests-through = ap (λ (x : Tally). x .objects) (e somewhere) ∙ objects-count (throughObjects n) (solid-rests (depth n) n)
-
-    pub through-lacks : ltb 0 (t .lacking) ≡ any anyLacksForm (throughObjects n)
-    unfolding restsTally found
-    through-lacks = ap (λ (x : Tally). ltb 0 (x .lacking)) (e somewhere) ∙ lacking-any (throughObjects n)
-
-    pub through-temporaries : (c : Context) → t .temporaries ≡ limited (count (gather (keyTemporaries c) (throughObjects n)))
-    unfolding restsTally found
-    through-temporaries c = ap (λ (x : Tally). x .temporaries) (e c) ∙ temporaries-count c (throughObjects n)
 
 -- ---- declarators
 
@@ -316,12 +282,12 @@ module _ (c : Context) where
       (λ s. rw (s, nested, objectsWithRest) nothing-made)
 
   -- with the pattern's own depth
-  pub nested-below : (p : Node) → limited (count (nestedBelow c p)) ≡ made (restsTally c true p)
-  unfolding restsTally found
+  pub nested-below : (p : Node) → limited (count (nestedBelow c p)) ≡ made (restsTally c p)
+  unfolding restsTally
   nested-below p = nested-made (depth p) p
 
   -- an array pattern: one more, for the pattern
-  pub array-declarators : (p s : Node) → shape p ≡ arrayPattern → limited (made (restsTally c true p) + 1) ≡ limited (count (patternDeclarators c p s))
+  pub array-declarators : (p s : Node) → shape p ≡ arrayPattern → limited (made (restsTally c p) + 1) ≡ limited (count (patternDeclarators c p s))
   unfolding patternDeclarators count
   array-declarators p s e =
       let o : count (nestedBelow c p) + 1 ≡ 1 + count (nestedBelow c p) = omega arith in
@@ -342,15 +308,15 @@ module _ (c : Context) where
     abbrev emptied : Node
     emptied = withValues (λ v. replacedBelow c v) p
 
-    inner-made : limited (count inner) ≡ made (sumOf tallies (λ q. restsTally c true (value q)) (properties p))
-    unfolding restsTally found
+    inner-made : limited (count inner) ≡ made (sumOf tallies (λ q. restsTally c (value q)) (properties p))
+    unfolding restsTally
     inner-made =
         gather-made (λ r. nestedBelow c (value r)) (λ r. objectsBelow c (value r)) (λ r. nested-made (depth (value r)) (value r)) (properties p)
         ∙ ap made (sum-gather tallies objectTally (λ r. objectsBelow c (value r)) (properties p))
 
-    all-made : shape p ≡ objectPattern → made (restsTally c true p) ≡ limited (count inner + made (ownTally p))
+    all-made : shape p ≡ objectPattern → made (restsTally c p) ≡ limited (count inner + made (ownTally p))
     all-made e =
-        ap made (rests-object c true p e) ∙ made-both (sumOf tallies (λ q. restsTally c true (value q)) (properties p)) (ownTally p)
+        ap made (rests-object c p e) ∙ made-both (sumOf tallies (λ q. restsTally c (value q)) (properties p)) (ownTally p)
         ∙ ap (λ (x : ℕ). limited (x + made (ownTally p))) (sym inner-made) ∙ plus-limited (count inner) (made (ownTally p))
 
     object-count : (r b : Bool) → hasRest p ≡ r → hasNoProperties p ≡ b → count (objectDeclarators c p s) ≡ cond r (count (keyTemporaries c emptied)) 0 + (cond b 0 1 + (count inner + cond r 1 0))
@@ -364,7 +330,7 @@ module _ (c : Context) where
     unfolding patternDeclarators
     object-is e = rw (e, patternDeclarators)
 
-    pub object-with-rest : shape p ≡ objectPattern → hasRest p ≡ true → made (restsTally c true p) ≡ limited (count (patternDeclarators c p s))
+    pub object-with-rest : shape p ≡ objectPattern → hasRest p ≡ true → made (restsTally c p) ≡ limited (count (patternDeclarators c p s))
     unfolding ownTally
     object-with-rest e r =
         all-made e ∙ rw (r, ownTally) (ap (λ (x : ℕ). limited (count inner + x)) (ap made (sym (tally-kept (λ v. replacedBelow c v) p)) ∙ made-one c emptied)
@@ -377,13 +343,13 @@ module _ (c : Context) where
             ap (λ (x : Bool). limited (count inner + (k + cond x 0 1 + 1))) (no-properties-kept (λ v. replacedBelow c v) p ∙ f)
             ∙ ap limited (o ∙ sym (ap count (object-is e) ∙ object-count true b r f))
 
-    pub object-bare : shape p ≡ objectPattern → hasRest p ≡ false → hasNoProperties p ≡ true → made (restsTally c true p) ≡ limited (count (patternDeclarators c p s))
+    pub object-bare : shape p ≡ objectPattern → hasRest p ≡ false → hasNoProperties p ≡ true → made (restsTally c p) ≡ limited (count (patternDeclarators c p s))
     unfolding ownTally
     object-bare e r f =
         let o : count inner + 0 ≡ 0 + (0 + (count inner + 0)) = omega arith in
         all-made e ∙ rw (r, ownTally) (ap (λ (x : ℕ). limited (count inner + x)) made-none ∙ ap limited (o ∙ sym (ap count (object-is e) ∙ object-count false true r f)))
 
-    pub object-pattern : shape p ≡ objectPattern → hasRest p ≡ false → hasNoProperties p ≡ false → limited (made (restsTally c true p) + 1) ≡ limited (count (patternDeclarators c p s))
+    pub object-pattern : shape p ≡ objectPattern → hasRest p ≡ false → hasNoProperties p ≡ false → limited (made (restsTally c p) + 1) ≡ limited (count (patternDeclarators c p s))
     unfolding ownTally
     object-pattern e r f =
         let o : count inner + 0 + 1 ≡ 0 + (1 + (count inner + 0)) = omega arith in

@@ -16,11 +16,10 @@ use Rattle.lowering.specs.Patterns.Shape.{arrayPattern}
 use Rattle.lowering.specs.Patterns.{shape, properties, itemsOf, rest, hasRest, leftOf, value, key, withValues, replaced, replacedBelow, objectsWithRest, objectsBelow}
 use Rattle.lowering.specs.Keys.{keySort, excludedKey, keyTemporary, excludedKeys, keyTemporaries, taken}
 use Rattle.lowering.specs.Rests.{hasNoProperties, restValue}
-use Rattle.lowering.specs.Assignments.{restsThroughObjects}
+use Rattle.lowering.specs.Assignments.{nearest, partsOf}
 use Rattle.lowering.specs.Declarations.{isName, source, sourceDeclarator, keysBefore, patternDeclarator, restDeclarator, own, nested, nestedBelow, objectDeclarators, patternDeclarators, lowerDeclarator, isLowered, declarators}
 use Rattle.lowering.specs.Heads.{moved, isMoved, movedFrom}
 use Rattle.pattern.specs.Tally.{limited}
-use Rattle.pattern.specs.Objects.{throughObjects}
 use Rattle.pattern.specs.Moves.{movedBelow}
 use Rattle.pattern.proofs.KeyCases.{by-sort}
 use Rattle.pattern.proofs.RestsFound.{values-changed}
@@ -287,49 +286,6 @@ module _ (c : Context) where
   pub objects-fit : (p : Node) → count (objectsBelow c p) ≤ size p
   objects-fit p = small-objects (depth p) .fits p
 
-  -- ---- key temporaries of the rests that are reached through objects alone
-
-  abbrev keysThrough : ℕ → Node → Items
-  keysThrough d p = gather (keyTemporaries c) (restsThroughObjects d p)
-
-  through-bare : (d : ℕ) → count (keysThrough d nothing) ≡ 0
-  unfolding restsThroughObjects shape gather count
-  through-bare zero = refl
-  through-bare (suc d) = refl
-
-  none-through : (p : Node) → count (gather (keyTemporaries c) none) ≤ size p
-  unfolding gather count
-  none-through p = omega arith
-
-  own-keys : (b : Bool) (p : Node) → count (gather (keyTemporaries c) (cond b (only p) none)) ≤ count (keyTemporaries c p)
-  unfolding gather count
-  own-keys true p = let h = count-append (keyTemporaries c p) none in let z = none-counted in omega arith
-  own-keys false p = omega arith
-
-  through-step : (d : ℕ) → Small (keysThrough d) → (p : Node) → count (keysThrough (suc d) p) ≤ size p
-  unfolding restsThroughObjects keyTemporaries
-  through-step d small p =
-      let i = items-small 0 p in
-      by-shape (shape p)
-      (λ s. rw (s, restsThroughObjects)
-      (let k = own-keys (hasRest p) p in
-      let t = gather-two (λ q. keysThrough d (value q)) (keyTemporary c) (λ q. (let x = node-small (keysThrough d) small 1 q in let y = temporary-one q in omega arith)) (properties p) in
-      let g = ap count (gather-append (keyTemporaries c) (gather (λ q. restsThroughObjects d (value q)) (properties p)) (cond (hasRest p) (only p) none)) in
-      let e = count-append (gather (keyTemporaries c) (gather (λ q. restsThroughObjects d (value q)) (properties p))) (gather (keyTemporaries c) (cond (hasRest p) (only p) none)) in
-      let f = ap count (gather-gather (keyTemporaries c) (λ q. restsThroughObjects d (value q)) (properties p)) in
-      omega arith))
-      (λ s. rw (s, restsThroughObjects) (none-through p))
-      (λ s. rw (s, restsThroughObjects) (let a = node-small (keysThrough d) small 0 p in omega arith))
-      (λ s. rw (s, restsThroughObjects) (none-through p))
-
-  small-through : (d : ℕ) → Small (keysThrough d)
-  unfolding restsThroughObjects
-  small-through zero = record { fits = λ p. none-through p; bare = through-bare zero }
-  small-through (suc d) = record { fits = through-step d (small-through d); bare = through-bare (suc d) }
-
-  pub through-fit : (p : Node) → count (gather (keyTemporaries c) (throughObjects p)) ≤ size p
-  through-fit p = small-through (depth p) .fits p
-
   -- ---- declarators
 
   keys-each : (f : Node → Node) (p : Node) → count (keyTemporaries c (withValues f p)) ≡ count (gather (λ q. keyTemporary c (changeNode 1 f q)) (properties p))
@@ -444,29 +400,49 @@ module _ (c : Context) where
   pub declarations-fit : (i : ℕ) (n : Node) → count (gather (declarators c) (itemsAt i n)) ≤ size n
   declarations-fit i n = let h = gather-small (declarators c) declarator-fits (itemsAt i n) in let g = items-small i n in omega arith
 
--- ---- rests that are reached through objects alone
+-- ---- the objects with rest of an assignment
 
-rests-bare : (d : ℕ) → count (restsThroughObjects d nothing) ≡ 0
-unfolding restsThroughObjects shape count
-rests-bare zero = refl
-rests-bare (suc d) = refl
+module _ (arrays : Bool) where
+  nearest-bare : (d : ℕ) → count (nearest arrays d nothing) ≡ 0
+  unfolding nearest shape count
+  nearest-bare zero = refl
+  nearest-bare (suc d) = refl
 
-rests-step : (d : ℕ) → Small (λ p. restsThroughObjects d p) → (p : Node) → count (restsThroughObjects (suc d) p) ≤ size p
-unfolding restsThroughObjects
-rests-step d small p =
-    by-shape (shape p)
-    (λ s. rw (s, restsThroughObjects) (object-small (λ p. restsThroughObjects d p) small p p (hasRest p)))
-    (λ s. rw (s, restsThroughObjects) (nothing-counted p))
-    (λ s. rw (s, restsThroughObjects) (left-small (λ p. restsThroughObjects d p) small p))
-    (λ s. rw (s, restsThroughObjects) (nothing-counted p))
+  one-or-inside : (b : Bool) (p : Node) (is : Items) → count is + 2 ≤ size p → count (cond b (only p) is) ≤ size p
+  one-or-inside true p is h = let o = one-if true p in omega arith
+  one-or-inside false p is h = omega arith
 
-small-rests : (d : ℕ) → Small (λ p. restsThroughObjects d p)
-unfolding restsThroughObjects
-small-rests zero = record { fits = λ p. nothing-counted p; bare = none-counted }
-small-rests (suc d) = record { fits = rests-step d (small-rests d); bare = rests-bare (suc d) }
+  nearest-values : (d : ℕ) → Small (λ p. nearest arrays d p) → (p : Node) → count (gather (λ q. nearest arrays d (value q)) (properties p)) + 2 ≤ size p
+  nearest-values d small p =
+      let h = gather-small (λ q. nearest arrays d (value q)) (λ q. (let a = node-small (λ p. nearest arrays d p) small 1 q in omega arith)) (properties p) in let g = items-small 0 p in omega arith
 
-pub rests-fit : (p : Node) → count (throughObjects p) ≤ size p
-rests-fit p = small-rests (depth p) .fits p
+  nearest-step : (d : ℕ) → Small (λ p. nearest arrays d p) → (p : Node) → count (nearest arrays (suc d) p) ≤ size p
+  unfolding nearest
+  nearest-step d small p =
+      by-shape (shape p)
+      (λ s. rw (s, nearest) (one-or-inside (hasRest p) p (gather (λ q. nearest arrays d (value q)) (properties p)) (nearest-values d small p)))
+      (λ s. rw (s, nearest)
+      (let a = some-if arrays (gather (λ e. nearest arrays d e) (itemsOf p)) in let b = gather-small (λ e. nearest arrays d e) (small .fits) (itemsOf p) in let g = items-small 0 p in omega arith))
+      (λ s. rw (s, nearest) (left-small (λ p. nearest arrays d p) small p))
+      (λ s. rw (s, nearest) (nothing-counted p))
+
+  small-nearest : (d : ℕ) → Small (λ p. nearest arrays d p)
+  unfolding nearest
+  small-nearest zero = record { fits = λ p. nothing-counted p; bare = none-counted }
+  small-nearest (suc d) = record { fits = nearest-step d (small-nearest d); bare = nearest-bare (suc d) }
+
+pub nearest-fit : (arrays : Bool) (d : ℕ) (p : Node) → count (nearest arrays d p) ≤ size p
+nearest-fit arrays d p = small-nearest arrays d .fits p
+
+-- the parts of an object and its keys together
+pub parts-fit : (c : Context) (p : Node) → count (partsOf p) + count (keyTemporaries c p) + 2 ≤ size p
+unfolding keyTemporaries
+parts-fit c p =
+    let d = depth p in
+    let t = gather-two (λ q. nearest false d (value q)) (keyTemporary c)
+    (λ q. (let x = node-small (λ m. nearest false d m) (small-nearest false d) 1 q in let y = temporary-one c q in omega arith)) (properties p) in
+    let i = items-small 0 p in
+    omega arith
 
 -- ---- what is moved
 

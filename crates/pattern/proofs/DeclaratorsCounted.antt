@@ -75,17 +75,17 @@ module _ (l : List ℕ) where
     abbrev here : Node
     here = lookNode l d at .value
 
-    pub object-rest : (t : Tally) (n : ℕ) (b : Bool) → k ≡ 34 → ((c : Context) → t ≡ restsTally c true here) → n ≡ made t → b ≡ stands 1 here → b ≡ true → (c : Context) (s : Node) → n ≡ patternCount c s here
+    pub object-rest : (t : Tally) (n : ℕ) (b : Bool) → k ≡ 34 → ((c : Context) → t ≡ restsTally c here) → n ≡ made t → b ≡ stands 1 here → b ≡ true → (c : Context) (s : Node) → n ≡ patternCount c s here
     object-rest t n b y w v r i c s = v ∙ ap made (w c) ∙ counting.object-with-rest c here s (search.object-shape l d at k z e y) (sym r ∙ i)
 
-    pub object-empty : (t : Tally) (n : ℕ) (b f : Bool) → k ≡ 34 → ((c : Context) → t ≡ restsTally c true here) → n ≡ made t → b ≡ stands 1 here → b ≡ false → f ≡ hasNoProperties here → f ≡ true → (c : Context) (s : Node) → n ≡ patternCount c s here
+    pub object-empty : (t : Tally) (n : ℕ) (b f : Bool) → k ≡ 34 → ((c : Context) → t ≡ restsTally c here) → n ≡ made t → b ≡ stands 1 here → b ≡ false → f ≡ hasNoProperties here → f ≡ true → (c : Context) (s : Node) → n ≡ patternCount c s here
     object-empty t n b f y w v r i g h c s = v ∙ ap made (w c) ∙ counting.object-bare c here s (search.object-shape l d at k z e y) (sym r ∙ i) (sym g ∙ h)
 
-    pub object-filled : (t : Tally) (n u : ℕ) (b f : Bool) → k ≡ 34 → ((c : Context) → t ≡ restsTally c true here) → n ≡ made t → b ≡ stands 1 here → b ≡ false → f ≡ hasNoProperties here → f ≡ false → u ≡ limited (n + 1) → (c : Context) (s : Node) → u ≡ patternCount c s here
+    pub object-filled : (t : Tally) (n u : ℕ) (b f : Bool) → k ≡ 34 → ((c : Context) → t ≡ restsTally c here) → n ≡ made t → b ≡ stands 1 here → b ≡ false → f ≡ hasNoProperties here → f ≡ false → u ≡ limited (n + 1) → (c : Context) (s : Node) → u ≡ patternCount c s here
     object-filled t n u b f y w v r i g h o c s =
         o ∙ ap (λ (x : ℕ). limited (x + 1)) (v ∙ ap made (w c)) ∙ counting.object-pattern c here s (search.object-shape l d at k z e y) (sym r ∙ i) (sym g ∙ h)
 
-    pub array-one : (t : Tally) (n u : ℕ) → k ≡ 36 → ((c : Context) → t ≡ restsTally c true here) → n ≡ made t → u ≡ limited (n + 1) → (c : Context) (s : Node) → u ≡ patternCount c s here
+    pub array-one : (t : Tally) (n u : ℕ) → k ≡ 36 → ((c : Context) → t ≡ restsTally c here) → n ≡ made t → u ≡ limited (n + 1) → (c : Context) (s : Node) → u ≡ patternCount c s here
     array-one t n u y w v o c s = o ∙ ap (λ (x : ℕ). limited (x + 1)) (v ∙ ap made (w c)) ∙ counting.array-declarators c here s (search.array-shape l d at k z e y)
 
     pub other-none : (k ≡ 34 → ⊥) → (k ≡ 36 → ⊥) → (c : Context) (s : Node) → 0 ≡ patternCount c s here

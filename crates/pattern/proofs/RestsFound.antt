@@ -17,8 +17,7 @@ use Rattle.lowering.specs.Made.{Context}
 use Rattle.lowering.specs.Patterns.{shape, properties, itemsOf, hasRest, leftOf, value, key, withValues, replaced, objectsWithRest, objectsBelow}
 use Rattle.lowering.specs.Patterns.Shape.{objectPattern, arrayPattern, default, leaf}
 use Rattle.lowering.specs.Rests.{hasNoProperties}
-use Rattle.lowering.specs.Assignments.{restsThroughObjects}
-use Rattle.lowering.proofs.Levels.{objects-levels, rests-levels}
+use Rattle.lowering.proofs.Levels.{objects-levels}
 use Rattle.pattern.specs.declared.parts.Place.{Place}
 use Rattle.pattern.specs.declared.parts.Run.{Run}
 use Rattle.pattern.specs.declared.tally.Tally.{Tally}
@@ -26,13 +25,13 @@ use Rattle.pattern.specs.Parts.{partAt, itemPlace, placeOf, runOf, nodeH
 use Rattle.pattern.specs.Tally as tally
 use Rattle.pattern.specs.Tally.{both, sum}
 use Rattle.pattern.specs.Keys.{keyTally, keysOf}
-use Rattle.pattern.specs.Objects.{objectItself, objectTally, ownTally, objectsTally, throughObjects, found, restsTally}
+use Rattle.pattern.specs.Objects.{objectItself, objectTally, ownTally, objectsTally, restsTally}
 use Rattle.pattern.proofs.Places.{Blank, child-is, object-list, array-list, kind-is, no-levels}
 use Rattle.pattern.proofs.Below as below
 use Rattle.pattern.proofs.Below.{node-free, gather-free, gather-values}
 use Rattle.pattern.proofs.CappedSums.{tallies, Adds, sumOf, listSum, sum-append, sum-gather, sum-start, sum-more, sum-end, item-place, both-right}
 use Rattle.lowering.proofs.ItemLaws.{empty-each}
-use Rattle.lowering.proofs.Levels.{rests-nothing, objects-nothing}
+use Rattle.lowering.proofs.Levels.{objects-nothing}
 use Rattle.lowering.proofs.SoundKeys.{key-kept}
 
 -- ---- an object's own count is that of its keys: its values play no part
@@ -87,64 +86,41 @@ own-is f p = go (hasRest p)
     go true = only-tally (withValues f p) ∙ tally-kept f p
     go false = refl
 
-own-only : (p : Node) → objectsTally (cond (hasRest p) (only p) none) ≡ ownTally p
-unfolding ownTally sum
-own-only p = go (hasRest p)
-  where
-    go : (b : Bool) → objectsTally (cond b (only p) none) ≡ cond b (objectTally p) tally.zero
-    go true = only-tally p
-    go false = refl
-
 module _ (c : Context) where
   pub levels : (d : ℕ) (p : Node) → depth p ≤ d → objectsWithRest c d p ≡ objectsWithRest c (depth p) p
   levels d p h = objects-levels d p h c
 
-  pub rests-blank : (a : Bool) → Blank (restsTally c a)
-  unfolding restsTally found objectsWithRest restsThroughObjects shape depth sum
-  rests-blank true at = refl
-  rests-blank false at = refl
+  pub rests-blank : Blank (restsTally c)
+  unfolding restsTally objectsWithRest shape depth sum
+  rests-blank at = refl
 
-  pub tally-nothing : (a : Bool) → restsTally c a nothing ≡ tally.zero
-  unfolding restsTally found objectsWithRest restsThroughObjects shape depth sum
-  tally-nothing true = refl
-  tally-nothing false = refl
+  pub tally-nothing : restsTally c nothing ≡ tally.zero
+  unfolding restsTally objectsWithRest shape depth sum
+  tally-nothing = refl
 
-  pub rests-object : (a : Bool) (p : Node) → shape p ≡ objectPattern → restsTally c a p ≡ both (sumOf tallies (λ q. restsTally c a (value q)) (properties p)) (ownTally p)
-  unfolding restsTally found objectsWithRest restsThroughObjects depth
-  rests-object true (node at k fs) s =
+  pub rests-object : (p : Node) → shape p ≡ objectPattern → restsTally c p ≡ both (sumOf tallies (λ q. restsTally c (value q)) (properties p)) (ownTally p)
+  unfolding restsTally objectsWithRest depth
+  rests-object (node at k fs) s =
       rw (s, objectsWithRest)
       (sum-append tallies objectTally (gather (λ q. objectsWithRest c (depthFields fs) (value q)) (properties (node at k fs))) (cond (hasRest (node at k fs)) (only (withValues (λ v. replaced c (depthFields fs) v) (node at k fs))) none)
       ∙ ap₂ both
       (ap objectsTally (gather-values (λ d p. objectsWithRest c d p) levels (objects-nothing c) 0 at k fs) ∙ sum-gather tallies objectTally (λ q. objectsBelow c (value q)) (properties (node at k fs)))
       (own-is (λ v. replaced c (depthFields fs) v) (node at k fs)))
-  rests-object false (node at k fs) s =
-      rw (s, restsThroughObjects)
-      (sum-append tallies objectTally (gather (λ q. restsThroughObjects (depthFields fs) (value q)) (properties (node at k fs))) (cond (hasRest (node at k fs)) (only (node at k fs)) none)
-      ∙ ap₂ both
-      (ap objectsTally (gather-values (λ d p. restsThroughObjects d p) rests-levels rests-nothing 0 at k fs) ∙ sum-gather tallies objectTally (λ q. throughObjects (value q)) (properties (node at k fs)))
-      (own-only (node at k fs)))
 
-  pub rests-array : (p : Node) → shape p ≡ arrayPattern → restsTally c true p ≡ sumOf tallies (λ e. restsTally c true e) (itemsOf p)
-  unfolding restsTally found objectsWithRest depth
+  pub rests-array : (p : Node) → shape p ≡ arrayPattern → restsTally c p ≡ sumOf tallies (λ e. restsTally c e) (itemsOf p)
+  unfolding restsTally objectsWithRest depth
   rests-array (node at k fs) s =
       rw (s, objectsWithRest)
       (ap objectsTally (gather-free (λ d p. objectsWithRest c d p) levels (objects-nothing c) 0 at k fs) ∙ sum-gather tallies objectTally (λ e. objectsBelow c e) (itemsOf (node at k fs)))
 
-  rests-unentered : (p : Node) → shape p ≡ arrayPattern → restsTally c false p ≡ tally.zero
-  unfolding restsTally found restsThroughObjects depth sum
-  rests-unentered (node at k fs) s = rw (s, restsThroughObjects)
-
-  rests-default : (a : Bool) (p : Node) → shape p ≡ default → restsTally c a p ≡ restsTally c a (leftOf p)
-  unfolding restsTally found objectsWithRest restsThroughObjects depth
-  rests-default true (node at k fs) s =
+  rests-default : (p : Node) → shape p ≡ default → restsTally c p ≡ restsTally c (leftOf p)
+  unfolding restsTally objectsWithRest depth
+  rests-default (node at k fs) s =
       rw (s, objectsWithRest) (ap objectsTally (node-free (λ d p. objectsWithRest c d p) none levels (objects-nothing c) (depthFields fs) 0 at k fs (omega arith)))
-  rests-default false (node at k fs) s =
-      rw (s, restsThroughObjects) (ap objectsTally (node-free (λ d p. restsThroughObjects d p) none rests-levels rests-nothing (depthFields fs) 0 at k fs (omega arith)))
 
-  rests-leaf : (a : Bool) (p : Node) → shape p ≡ leaf → restsTally c a p ≡ tally.zero
-  unfolding restsTally found objectsWithRest restsThroughObjects depth sum
-  rests-leaf true (node at k fs) s = rw (s, objectsWithRest)
-  rests-leaf false (node at k fs) s = rw (s, restsThroughObjects)
+  rests-leaf : (p : Node) → shape p ≡ leaf → restsTally c p ≡ tally.zero
+  unfolding restsTally objectsWithRest depth sum
+  rests-leaf (node at k fs) s = rw (s, objectsWithRest)
 
 -- ---- as the code makes them
 
@@ -165,54 +141,48 @@ module _ (l : List ℕ) where
   own-none d at b r s y w = rw (sym s ∙ y) w
 
   -- what is left of the properties' values, or of the items
-  abbrev pub ValuesLeft : Bool → ℕ → ℕ → ℕ → ℕ → ℕ → Tally → Type 0
-  ValuesLeft a left at below n p t = (c : Context) → Adds tallies t (listSum tallies l (λ q. restsTally c a (value q)) below false n p) (sumOf tallies (λ q. restsTally c a (value q)) (itemsAt 0 (lookNode l left at .value)))
+  abbrev pub ValuesLeft : ℕ → ℕ → ℕ → ℕ → ℕ → Tally → Type 0
+  ValuesLeft left at below n p t = (c : Context) → Adds tallies t (listSum tallies l (λ q. restsTally c (value q)) below false n p) (sumOf tallies (λ q. restsTally c (value q)) (itemsAt 0 (lookNode l left at .value)))
 
-  abbrev pub ItemsLeft : Bool → ℕ → ℕ → ℕ → ℕ → ℕ → Tally → Type 0
-  ItemsLeft a left at below n p t = (c : Context) → Adds tallies t (listSum tallies l (λ e. restsTally c a e) below true n p) (sumOf tallies (λ e. restsTally c a e) (itemsAt 0 (lookNode l left at .value)))
+  abbrev pub ItemsLeft : ℕ → ℕ → ℕ → ℕ → ℕ → Tally → Type 0
+  ItemsLeft left at below n p t = (c : Context) → Adds tallies t (listSum tallies l (λ e. restsTally c e) below true n p) (sumOf tallies (λ e. restsTally c e) (itemsAt 0 (lookNode l left at .value)))
 
-  pub value-more : (a : Bool) (left at d n p q : ℕ) (s : Place) (t x u : Tally) → 0 < n → s ≡ placeOf d p (partAt l d p 1) → ((c : Context) → x ≡ restsTally c a (nodeHere l s)) → q ≡ lookNode l d p .next → u ≡ both t x → ValuesLeft a left at d n p t → ValuesLeft a left at d (n - 1) q u
+  pub value-more : (left at d n p q : ℕ) (s : Place) (t x u : Tally) → 0 < n → s ≡ placeOf d p (partAt l d p 1) → ((c : Context) → x ≡ restsTally c (nodeHere l s)) → q ≡ lookNode l d p .next → u ≡ both t x → ValuesLeft left at d n p t → ValuesLeft left at d (n - 1) q u
   unfolding lookItem
-  value-more a left at d n p q s t x u z e y g v w c =
-      sum-more tallies l (λ q. restsTally c a (value q)) d false n p q t x u _ z (y c ∙ child-is l (restsTally c a) (rests-blank c a) d p 1 s e) g v (w c)
+  value-more left at d n p q s t x u z e y g v w c =
+      sum-more tallies l (λ q. restsTally c (value q)) d false n p q t x u _ z (y c ∙ child-is l (restsTally c) (rests-blank c) d p 1 s e) g v (w c)
 
-  pub item-more : (a : Bool) (left at d n p q : ℕ) (s : Place) (t x u : Tally) → 0 < n → s ≡ itemPlace l true d p → ((c : Context) → x ≡ restsTally c a (nodeHere l s)) → q ≡ lookItem l (lookNode l d) true p .next → u ≡ both t x → ItemsLeft a left at d n p t → ItemsLeft a left at d (n - 1) q u
-  item-more a left at d n p q s t x u z e y g v w c =
-      sum-more tallies l (λ e. restsTally c a e) d true n p q t x u _ z (item-place tallies l (λ e. restsTally c a e) (λ at. rests-blank c a at ∙ tally-nothing c a) d true p s x e (y c)) g v (w c)
+  pub item-more : (left at d n p q : ℕ) (s : Place) (t x u : Tally) → 0 < n → s ≡ itemPlace l true d p → ((c : Context) → x ≡ restsTally c (nodeHere l s)) → q ≡ lookItem l (lookNode l d) true p .next → u ≡ both t x → ItemsLeft left at d n p t → ItemsLeft left at d (n - 1) q u
+  item-more left at d n p q s t x u z e y g v w c =
+      sum-more tallies l (λ e. restsTally c e) d true n p q t x u _ z (item-place tallies l (λ e. restsTally c e) (λ at. rests-blank c at ∙ tally-nothing c) d true p s x e (y c)) g v (w c)
 
-  pub rests-none : (c : Context) (a : Bool) (d at : ℕ) (r : Tally) → d ≡ 0 → r ≡ tally.zero → r ≡ restsTally c a (lookNode l d at .value)
-  rests-none c a d at r z e = e ∙ sym (ap (restsTally c a) (no-levels l d at z) ∙ rests-blank c a at ∙ tally-nothing c a)
+  pub rests-none : (c : Context) (d at : ℕ) (r : Tally) → d ≡ 0 → r ≡ tally.zero → r ≡ restsTally c (lookNode l d at .value)
+  rests-none c d at r z e = e ∙ sym (ap (restsTally c) (no-levels l d at z) ∙ rests-blank c at ∙ tally-nothing c)
 
   module _ (d at k : ℕ) (z : d ≡ 0 → ⊥) (e : k ≡ byteAt l at) where
     abbrev here : Node
     here = lookNode l d at .value
 
-    pub values-start : (a : Bool) (r : Run) (t : Tally) → k ≡ 34 → r ≡ runOf at (partAt l d at 0) → t ≡ tally.zero → ValuesLeft a d at (d - 1) (r .count) (r .from) t
-    values-start a r t y w s c =
-        sum-start tallies l (λ q. restsTally c a (value q)) (d - 1) false (r .count) (r .from) t _ s (ap (sumOf tallies (λ q. restsTally c a (value q))) (object-list l d at r (sym e ∙ y) w))
+    pub values-start : (r : Run) (t : Tally) → k ≡ 34 → r ≡ runOf at (partAt l d at 0) → t ≡ tally.zero → ValuesLeft d at (d - 1) (r .count) (r .from) t
+    values-start r t y w s c =
+        sum-start tallies l (λ q. restsTally c (value q)) (d - 1) false (r .count) (r .from) t _ s (ap (sumOf tallies (λ q. restsTally c (value q))) (object-list l d at r (sym e ∙ y) w))
 
-    pub object-end : (c : Context) (a : Bool) (b n p : ℕ) (t o r : Tally) → k ≡ 34 → n ≤ 0 → ValuesLeft a d at b n p t → o ≡ ownTally here → r ≡ both t o → r ≡ restsTally c a here
-    object-end c a b n p t o r y m w v u =
-        u ∙ ap₂ both (sum-end tallies l (λ q. restsTally c a (value q)) b false n p t _ m (w c)) v ∙ sym (rests-object c a here (below.is-object here (kind-is l d at k z e ∙ y)))
+    pub object-end : (c : Context) (b n p : ℕ) (t o r : Tally) → k ≡ 34 → n ≤ 0 → ValuesLeft d at b n p t → o ≡ ownTally here → r ≡ both t o → r ≡ restsTally c here
+    object-end c b n p t o r y m w v u =
+        u ∙ ap₂ both (sum-end tallies l (λ q. restsTally c (value q)) b false n p t _ m (w c)) v ∙ sym (rests-object c here (below.is-object here (kind-is l d at k z e ∙ y)))
 
-    pub items-start : (a : Bool) (r : Run) (t : Tally) → k ≡ 36 → r ≡ runOf at (partAt l d at 0) → t ≡ tally.zero → ItemsLeft a d at (d - 1) (r .count) (r .from) t
-    items-start a r t y w s c =
-        sum-start tallies l (λ e. restsTally c a e) (d - 1) true (r .count) (r .from) t _ s (ap (sumOf tallies (λ e. restsTally c a e)) (array-list l d at r (sym e ∙ y) w))
+    pub items-start : (r : Run) (t : Tally) → k ≡ 36 → r ≡ runOf at (partAt l d at 0) → t ≡ tally.zero → ItemsLeft d at (d - 1) (r .count) (r .from) t
+    items-start r t y w s c =
+        sum-start tallies l (λ e. restsTally c e) (d - 1) true (r .count) (r .from) t _ s (ap (sumOf tallies (λ e. restsTally c e)) (array-list l d at r (sym e ∙ y) w))
 
-    pub array-end : (c : Context) (a : Bool) (b n p : ℕ) (t : Tally) → k ≡ 36 → a ≡ true → n ≤ 0 → ItemsLeft a d at b n p t → t ≡ restsTally c a here
-    array-end c a b n p t y i m w =
-        sum-end tallies l (λ e. restsTally c a e) b true n p t _ m (w c)
-        ∙ ap (λ (x : Bool). sumOf tallies (λ e. restsTally c x e) (itemsAt 0 here)) i
-        ∙ sym (rests-array c here (below.is-array here (kind-is l d at k z e ∙ y))) ∙ ap (λ (x : Bool). restsTally c x here) (sym i)
+    pub array-end : (c : Context) (b n p : ℕ) (t : Tally) → k ≡ 36 → n ≤ 0 → ItemsLeft d at b n p t → t ≡ restsTally c here
+    array-end c b n p t y m w =
+        sum-end tallies l (λ e. restsTally c e) b true n p t _ m (w c) ∙ sym (rests-array c here (below.is-array here (kind-is l d at k z e ∙ y)))
 
-    pub array-unentered : (c : Context) (a : Bool) (r : Tally) → k ≡ 36 → a ≡ false → r ≡ tally.zero → r ≡ restsTally c a here
-    array-unentered c a r y i w =
-        w ∙ sym (rests-unentered c here (below.is-array here (kind-is l d at k z e ∙ y))) ∙ ap (λ (x : Bool). restsTally c x here) (sym i)
+    pub default-left : (c : Context) (s : Place) (r : Tally) → k ≡ 37 → s ≡ placeOf d at (partAt l d at 0) → ((c : Context) → r ≡ restsTally c (nodeHere l s)) → r ≡ restsTally c here
+    default-left c s r y w v =
+        v c ∙ child-is l (restsTally c) (rests-blank c) d at 0 s w ∙ sym (rests-default c here (below.is-default here (kind-is l d at k z e ∙ y)))
 
-    pub default-left : (c : Context) (a : Bool) (s : Place) (r : Tally) → k ≡ 37 → s ≡ placeOf d at (partAt l d at 0) → ((c : Context) → r ≡ restsTally c a (nodeHere l s)) → r ≡ restsTally c a here
-    default-left c a s r y w v =
-        v c ∙ child-is l (restsTally c a) (rests-blank c a) d at 0 s w ∙ sym (rests-default c a here (below.is-default here (kind-is l d at k z e ∙ y)))
-
-    pub leaf-none : (c : Context) (a : Bool) (r : Tally) → (k ≡ 34 → ⊥) → (k ≡ 36 → ⊥) → (k ≡ 37 → ⊥) → r ≡ tally.zero → r ≡ restsTally c a here
-    leaf-none c a r f g h w =
-        w ∙ sym (rests-leaf c a here (below.is-leaf here (λ y. f (sym (kind-is l d at k z e) ∙ y)) (λ y. g (sym (kind-is l d at k z e) ∙ y)) (λ y. h (sym (kind-is l d at k z e) ∙ y))))
+    pub leaf-none : (c : Context) (r : Tally) → (k ≡ 34 → ⊥) → (k ≡ 36 → ⊥) → (k ≡ 37 → ⊥) → r ≡ tally.zero → r ≡ restsTally c here
+    leaf-none c r f g h w =
+        w ∙ sym (rests-leaf c here (below.is-leaf here (λ y. f (sym (kind-is l d at k z e) ∙ y)) (λ y. g (sym (kind-is l d at k z e) ∙ y)) (λ y. h (sym (kind-is l d at k z e) ∙ y))))

@@ -1,10 +1,9 @@
 -- Counts over the objects with rest that are found below a pattern.
-use mathlib.Core.Bool.{Bool, true, false, cond}
-use Rattle.tree.specs.Tree.{Node, Items, depth}
+use mathlib.Core.Bool.{Bool, cond}
+use Rattle.tree.specs.Tree.{Node, Items}
 use Rattle.lowering.specs.Made.{Context}
 use Rattle.lowering.specs.Patterns.{hasRest, objectsBelow}
 use Rattle.lowering.specs.Rests.{hasNoProperties}
-use Rattle.lowering.specs.Assignments.{restsThroughObjects}
 use Rattle.pattern.specs.declared.tally.Tally.{Tally}
 use Rattle.pattern.specs.Tally.{zero, both, sum}
 use Rattle.pattern.specs.Keys.{keysOf}
@@ -26,14 +25,6 @@ ownTally p = cond (hasRest p) (objectTally p) zero
 abbrev pub objectsTally : Items → Tally
 objectsTally is = sum zero both objectTally is
 
--- the rests that are reached through objects alone
-abbrev pub throughObjects : Node → Items
-throughObjects p = restsThroughObjects (depth p) p
-
--- those that are found, through arrays too or through objects alone
-unfoldable pub found : Context → Bool → Node → Items
-found c true p = objectsBelow c p
-found c false p = throughObjects p
-
-unfoldable pub restsTally : Context → Bool → Node → Tally
-restsTally c arrays p = objectsTally (found c arrays p)
+-- those below a pattern
+unfoldable pub restsTally : Context → Node → Tally
+restsTally c p = objectsTally (objectsBelow c p)

@@ -35,7 +35,7 @@ pub fn pattern_declarators(tree: &[u8], left: usize, at: usize) -> usize
     let kind = bytes::peek(tree, at);
     match kind {
         34 => {
-            let n = made(rests::rests(tree, true, left, at));
+            let n = made(rests::rests(tree, left, at));
             if parts::stands(tree, left, at, 1) {
                 return n;
             }
@@ -44,7 +44,7 @@ pub fn pattern_declarators(tree: &[u8], left: usize, at: usize) -> usize
             }
             tally::plus(n, 1)
         }
-        36 => tally::plus(made(rests::rests(tree, true, left, at)), 1),
+        36 => tally::plus(made(rests::rests(tree, left, at)), 1),
         _ => 0,
     }
 }

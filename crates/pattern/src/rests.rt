@@ -8,12 +8,12 @@ use tree::skip;
 ghost use mathlib.Core.Path.{_≡_};
 ghost use Rattle.tree.specs.Tree.{count};
 ghost use Rattle.tree.specs.Look.{lookNode};
-ghost use Rattle.lowering.specs.Parts.{any, gather};
+ghost use Rattle.lowering.specs.Parts.{any};
 ghost use Rattle.lowering.specs.Made.{Context};
 ghost use Rattle.lowering.specs.Patterns.{objectsBelow};
-ghost use Rattle.lowering.specs.Keys.{anyLacksForm, keyTemporaries};
+ghost use Rattle.lowering.specs.Keys.{anyLacksForm};
 ghost use Rattle.pattern.specs.Tally.{limited};
-ghost use Rattle.pattern.specs.Objects.{objectItself, ownTally, restsTally, throughObjects};
+ghost use Rattle.pattern.specs.Objects.{objectItself, ownTally, restsTally};
 
 fn itself(empty: bool) -> Tally
     ensures { λ r. ⌜ r ≡ objectItself empty ⌝ }
@@ -51,9 +51,9 @@ pub fn own(tree: &[u8], left: usize, at: usize) -> Tally
     tally::none()
 }
 
-// All that are found, through arrays too or through objects alone. Array rests are not searched.
-pub fn rests(tree: &[u8], arrays: bool, left: usize, at: usize) -> Tally
-    ensures { λ r. ⌜ ((c : Context) → r ≡ restsTally c arrays (lookNode (now (tree .entry)) left at .value)) ⌝ }
+// All that are found. Array rests are not searched.
+pub fn rests(tree: &[u8], left: usize, at: usize) -> Tally
+    ensures { λ r. ⌜ ((c : Context) → r ≡ restsTally c (lookNode (now (tree .entry)) left at .value)) ⌝ }
 {
     if left == 0 {
         return tally::none();
@@ -68,31 +68,28 @@ pub fn rests(tree: &[u8], arrays: bool, left: usize, at: usize) -> Tally
             let mut t = tally::none();
             while 0 < n {
                 let v = parts::child(tree, below, p, 1);
-                t = tally::both(t, rests(tree, arrays, v.left, v.at));
+                t = tally::both(t, rests(tree, v.left, v.at));
                 p = skip::skip(tree, below, p);
                 n -= 1;
             }
             tally::both(t, own(tree, left, at))
         }
         36 => {
-            if arrays {
-                let run = parts::list(tree, left, at, 0);
-                let mut n = run.count;
-                let mut p = run.from;
-                let mut t = tally::none();
-                while 0 < n {
-                    let e = parts::item(tree, true, below, p);
-                    t = tally::both(t, rests(tree, arrays, e.left, e.at));
-                    p = skip::skip_item(tree, true, below, p);
-                    n -= 1;
-                }
-                return t;
+            let run = parts::list(tree, left, at, 0);
+            let mut n = run.count;
+            let mut p = run.from;
+            let mut t = tally::none();
+            while 0 < n {
+                let e = parts::item(tree, true, below, p);
+                t = tally::both(t, rests(tree, e.left, e.at));
+                p = skip::skip_item(tree, true, below, p);
+                n -= 1;
             }
-            tally::none()
+            t
         }
         37 => {
             let l = parts::child(tree, left, at, 0);
-            rests(tree, arrays, l.left, l.at)
+            rests(tree, l.left, l.at)
         }
         _ => tally::none(),
     }
@@ -102,7 +99,7 @@ pub fn rests(tree: &[u8], arrays: bool, left: usize, at: usize) -> Tally
 pub fn objects_below(tree: &[u8], left: usize, at: usize) -> usize
     ensures { λ r. ⌜ ((c : Context) → r ≡ limited (count (objectsBelow c (lookNode (now (tree .entry)) left at .value)))) ⌝ }
 {
-    let t = rests(tree, true, left, at);
+    let t = rests(tree, left, at);
     t.objects
 }
 
@@ -110,30 +107,6 @@ pub fn objects_below(tree: &[u8], left: usize, at: usize) -> usize
 pub fn below_lacks_form(tree: &[u8], left: usize, at: usize) -> bool
     ensures { λ r. ⌜ ((c : Context) → r ≡ any anyLacksForm (objectsBelow c (lookNode (now (tree .entry)) left at .value))) ⌝ }
 {
-    let t = rests(tree, true, left, at);
+    let t = rests(tree, left, at);
     0 < t.lacking
-}
-
-// How many rests are reached through objects alone.
-pub fn rests_through_objects(tree: &[u8], left: usize, at: usize) -> usize
-    ensures { λ r. ⌜ r ≡ limited (count (throughObjects (lookNode (now (tree .entry)) left at .value))) ⌝ }
-{
-    let t = rests(tree, false, left, at);
-    t.objects
-}
-
-// Whether one of these has a literal key without a form.
-pub fn through_objects_lacks_form(tree: &[u8], left: usize, at: usize) -> bool
-    ensures { λ r. ⌜ r ≡ any anyLacksForm (throughObjects (lookNode (now (tree .entry)) left at .value)) ⌝ }
-{
-    let t = rests(tree, false, left, at);
-    0 < t.lacking
-}
-
-// How many key temporaries these have together.
-pub fn temporaries_through_objects(tree: &[u8], left: usize, at: usize) -> usize
-    ensures { λ r. ⌜ ((c : Context) → r ≡ limited (count (gather (keyTemporaries c) (throughObjects (lookNode (now (tree .entry)) left at .value))))) ⌝ }
-{
-    let t = rests(tree, false, left, at);
-    t.temporaries
 }

@@ -350,21 +350,13 @@ module _ (o : Node) where
   unfolding ownOf
   own-3 = refl
 
-  own-4 : excludesOf true o ≡ ownOf 4 o
-  unfolding ownOf
-  own-4 = refl
-
-  own-5 : handsPlace o ≡ ownOf 5 o
-  unfolding ownOf
-  own-5 = refl
-
   pub hands-turn : inTurn (keyOf 2) (properties o) ≡ handsKeys o
   unfolding handsKeys keyOf
   hands-turn = refl
 
-  own-else : (mode : ℕ) → (mode ≡ 1 → ⊥) → (mode ≡ 2 → ⊥) → (mode ≡ 3 → ⊥) → (mode ≡ 4 → ⊥) → (mode ≡ 5 → ⊥) → handsKeys o ≡ ownOf mode o
+  own-else : (mode : ℕ) → (mode ≡ 1 → ⊥) → (mode ≡ 2 → ⊥) → (mode ≡ 3 → ⊥) → excludesOf true o ≡ ownOf mode o
   unfolding ownOf
-  own-else mode a b c d e = rw (ne-eqb mode 1 a, ne-eqb mode 2 b, ne-eqb mode 3 c, ne-eqb mode 4 d, ne-eqb mode 5 e) refl
+  own-else mode a b c = rw (ne-eqb mode 1 a, ne-eqb mode 2 b, ne-eqb mode 3 c) refl
 
   place-made : say (does (make (events.cell 1 (position o))) ∷ []) ≡ placeMade o
   unfolding placeMade
@@ -393,15 +385,12 @@ module _ (t : List ℕ) (left at mode : ℕ) where
   pub object-excludes : {g g′ : Going} → mode ≡ 3 → Does g g′ (excludesOf false object-at) → Does g g′ (ownOf mode object-at)
   object-excludes e k = by-mode 3 e (does-as k (own-3 object-at))
 
-  pub object-excludes-root : {g g′ : Going} → mode ≡ 4 → Does g g′ (excludesOf true object-at) → Does g g′ (ownOf mode object-at)
-  object-excludes-root e k = by-mode 4 e (does-as k (own-4 object-at))
+  pub object-excludes-root : {g g′ : Going} → (mode ≡ 1 → ⊥) → (mode ≡ 2 → ⊥) → (mode ≡ 3 → ⊥) → Does g g′ (excludesOf true object-at) → Does g g′ (ownOf mode object-at)
+  object-excludes-root a b c k = does-as k (own-else object-at mode a b c)
 
-  pub object-listed : {g g₁ g′ : Going} → mode ≡ 5 → Does g g₁ (say (lists (5 ∷ 1 ∷ []))) → Does g₁ g′ (say (does (listedTemporary at 1) ∷ [])) → Does g g′ (ownOf mode object-at)
-  object-listed e k l =
-      by-mode 5 e
-      (does-as (does-then k l)
+  -- its place is listed
+  pub object-listed : {g g₁ g′ : Going} → Does g g₁ (say (lists (5 ∷ 1 ∷ []))) → Does g₁ g′ (say (does (listedTemporary at 1) ∷ [])) → Does g g′ (handsPlace object-at)
+  object-listed k l =
+      does-as (does-then k l)
       (say-say (lists (5 ∷ 1 ∷ [])) (does (listedTemporary at 1) ∷ [])
-      ∙ ap (λ (x : ℕ). say (lists (5 ∷ 1 ∷ []) ++ (does (listedTemporary x 1) ∷ []))) place ∙ place-handed object-at ∙ own-5 object-at))
-
-  pub object-hands : {g g′ : Going} → (mode ≡ 1 → ⊥) → (mode ≡ 2 → ⊥) → (mode ≡ 3 → ⊥) → (mode ≡ 4 → ⊥) → (mode ≡ 5 → ⊥) → Does g g′ (inTurn (keyOf 2) (properties object-at)) → Does g g′ (ownOf mode object-at)
-  object-hands a b c d e k = does-as k (hands-turn object-at ∙ own-else object-at mode a b c d e)
+      ∙ ap (λ (x : ℕ). say (lists (5 ∷ 1 ∷ []) ++ (does (listedTemporary x 1) ∷ []))) place ∙ place-handed object-at)

@@ -6,7 +6,7 @@ use mathlib.Core.List.{List, [], _∷_, _++_}
 use Prim.Native.Nat.{ℕ, suc, _+_, _-_, _/_, _%_, _≤_, _<_}
 use native.Mathlib.Omega.{arith}
 use lib.Dec.{eqb}
-use borrow.Author.Tests.{ne-eqb}
+use borrow.Author.Tests.{eq-eqb, ne-eqb}
 use Rattle.tree.specs.Tree.{Node, count}
 use Rattle.tree.specs.Tree.Node.{node}
 use Rattle.tree.specs.Tree.Fields.{done, absent, field}
@@ -16,30 +16,29 @@ use Rattle.tree.specs.Answer.{Wide}
 use Rattle.tree.specs.Look.{Seen, onward, lookItems, lookNode}
 use Rattle.lowering.specs.Parts.{position, is, nodeAt, itemsAt, stands, standsIn, pieceIn, gather}
 use Rattle.lowering.specs.Made.{Context}
-use Rattle.lowering.specs.Patterns.{properties}
+use Rattle.lowering.specs.Patterns.{properties, value}
 use Rattle.lowering.specs.Keys.{keyTemporaries}
 use Rattle.lowering.specs.Declarations.{isName, isLowered}
 use Rattle.lowering.proofs.All.{AllItems}
 use Rattle.lowering.proofs.Cases.{by-test}
 use Rattle.sink.specs.Machine.Event.{make, listedTemporary, entry}
 use Rattle.pattern.specs.Tally.{limited}
-use Rattle.pattern.specs.Objects.{throughObjects}
-use Rattle.pattern.proofs.CountsFit.{counted-whole, temporaries-fit, through-fit, rests-fit}
+use Rattle.pattern.proofs.CountsFit.{counted-whole, parts-fit}
 use Rattle.direct.specs.Events as events
 use Rattle.direct.specs.Events.{Emit, lists}
 use Rattle.direct.specs.Events.Deed.{does}
 use Rattle.direct.specs.Emit.{say, _▷_, inTurn}
 use Rattle.direct.specs.Views.{View, nameless}
-use Rattle.direct.specs.Views.View.{replacing, taking, leaving}
-use Rattle.direct.specs.Objects.{overObjects, overRests}
-use Rattle.direct.specs.Inner.{otherKeys}
-use Rattle.direct.specs.Counts.{restsCount}
-use Rattle.direct.specs.Handed.{placeMade, keysMade, excludesOf, handsKeys, handsPlace, keysBelow, placesIn, declaratorMade, declaratorExcludes, handsTop, handsNested}
+use Rattle.direct.specs.Views.View.{replacing, taking}
+use Rattle.direct.specs.Objects.{overObjects, reached, reachedIn, overReached, overReplaced, overParts}
+use Rattle.direct.specs.Objects.Reach.{straight}
+use Rattle.direct.specs.Handed.{placeMade, keysMade, excludesOf, handsKeys, handsPlace, otherKeys, placesIn, partsCount, declaratorMade, declaratorExcludes, handsTop, handsNested}
 use Rattle.direct.proofs.Threads.{then-assoc, say-nothing}
-use Rattle.direct.proofs.InnerAssignments.{keys-counted}
+use Rattle.direct.proofs.HandedByObject.{keys-counted}
+use Rattle.direct.proofs.Reached.{over-parts, over-arrays, over-anywhere, parts-reached}
 use Rattle.walk.specs.Run.{Going, Does}
-use Rattle.walk.specs.Whole.{GoodItems, Good}
-use Rattle.walk.specs.Turns.{viewOf, ownOf, overAll, keyOf}
+use Rattle.walk.specs.Whole.{holeAt, GoodItems, Good}
+use Rattle.walk.specs.Turns.{viewOf, reachOf, ownOf, overAll, keyOf}
 use Rattle.walk.proofs.Running.{does-then, does-nothing, does-as}
 use Rattle.walk.proofs.PlacesFit.{places-small}
 use Rattle.walk.proofs.Opened.{position-here, good-short, good-within, declarator-open, declaration-open}
@@ -61,23 +60,6 @@ module _ (p : Node) where
   unfolding overAll ownOf viewOf
   over-excludes true = refl
   over-excludes false = refl
-
-  rests-keys : overAll 6 4 p ≡ overRests handsKeys p
-  unfolding overAll ownOf viewOf
-  rests-keys = refl
-
-  rests-excludes : (root : Bool) → overAll (cond root 4 3) 4 p ≡ overRests (excludesOf root) p
-  unfolding overAll ownOf viewOf
-  rests-excludes true = refl
-  rests-excludes false = refl
-
-  over-listed : (v : ℕ) → (v ≡ 2 → ⊥) → overAll 5 (cond (eqb v 3) 3 1) p ≡ overObjects handsPlace (viewOf v) p
-  unfolding overAll ownOf viewOf
-  over-listed v z = rw (ne-eqb v 2 z) (go (eqb v 3))
-    where
-      go : (b : Bool) → overAll 5 (cond b 3 1) p ≡ overObjects handsPlace (cond b leaving replacing) p
-      go true = refl
-      go false = refl
 
   -- ---- the ways out of `pattern_makes` and `pattern_hands`
 
@@ -200,39 +182,34 @@ module _ (t : List ℕ) (left d at q p n : ℕ) (e : d ≡ left - 1) (a : q ≡ 
       does-as (does-then (f′ (u .list .good) (u .declarators)) (h′ (u .list .good) (u .declarators)))
       (ap (λ (s : Seen Node). inTurn declaratorMade (itemsAt 2 (s .value)) ▷ inTurn (declaratorExcludes root) (itemsAt 2 (s .value))) (sym (u .whole))))
 
--- ---- counts
+-- ---- assignments
+
+view-2 : (v : ℕ) → v ≡ 2 → viewOf v ≡ taking
+unfolding viewOf
+view-2 v e = rw (eq-eqb v 2 e) refl
+
+view-else : (v : ℕ) → (v ≡ 2 → ⊥) → viewOf v ≡ replacing
+unfolding viewOf
+view-else v e = rw (ne-eqb v 2 e) refl
 
 pub any-place : Context
 any-place = nameless
 
-module _ (t : List ℕ) where
-  -- in any view but `taking`
-  pub places-within : (v d at : ℕ) → (v ≡ 2 → ⊥) → Good t d at → placesIn (viewOf v) (lookNode t d at .value) ≤ 16384
-  places-within v d at z g = omega (arith, places-small v z (lookNode t d at .value), good-short t d at g)
-
--- ---- assignments
-
-module _ (p : Node) where
-  top-is : (root : Bool) (m k : ℕ) → k ≡ suc (keysBelow p)
-      → say (does (entry m k) ∷ lists (5 ∷ 1 ∷ []) ++ (does (listedTemporary (events.cell 3 (position p)) 3) ∷ [])) ▷ overRests handsKeys p ▷ overRests (excludesOf root) p ≡ handsTop root m p
-  unfolding handsTop
-  top-is root m k e = ap (λ (x : ℕ). say (does (entry m x) ∷ lists (5 ∷ 1 ∷ []) ++ (does (listedTemporary (events.cell 3 (position p)) 3) ∷ [])) ▷ overRests handsKeys p ▷ overRests (excludesOf root) p) e
-
-  below-is : count (gather (keyTemporaries nameless) (throughObjects p)) ≡ keysBelow p
-  unfolding keysBelow
-  below-is = refl
-
-  nested-is : (v : View) (m k : ℕ) → k ≡ placesIn v p → say (does (entry m k) ∷ []) ▷ overObjects handsPlace v p ≡ handsNested v m p
-  unfolding handsNested
-  nested-is v m k e = ap (λ (x : ℕ). say (does (entry m x) ∷ []) ▷ overObjects handsPlace v p) e
-
-  rests-are : count (throughObjects p) ≡ restsCount p
-  unfolding restsCount
-  rests-are = refl
-
 module _ (t : List ℕ) (left at : ℕ) where
   abbrev target : Node
   target = lookNode t left at .value
+
+  places-within : (v : View) → Good t left at → placesIn v target ≤ 16384
+  places-within v g = omega (arith, places-small v target, good-short t left at g)
+
+  -- how many parts there are
+  parts-counted : (n : ℕ) → n ≡ limited (count (reachedIn straight target)) → Good t left at → n ≡ partsCount target
+  unfolding partsCount
+  parts-counted n h good =
+      let s = good-short t left at good in
+      let z = parts-fit nameless target in
+      let y = ap count (parts-reached target) in
+      h ∙ counted-whole (count (reachedIn straight target)) 16384 (omega arith) (omega arith)
 
   -- the entry, and the value's temporary
   head-does : {g g₁ g₂ g₃ : Going} (m k x : ℕ) → Good t left at → (at < 16384 → 0 < 3 → 3 < 5 → x ≡ events.cell 3 at)
@@ -244,51 +221,94 @@ module _ (t : List ℕ) (left at : ℕ) where
       (three-say (does (entry m k) ∷ []) (lists (5 ∷ 1 ∷ [])) (does (listedTemporary x 3) ∷ [])
       ∙ ap (λ (z : ℕ). say (does (entry m k) ∷ lists (5 ∷ 1 ∷ []) ++ (does (listedTemporary z 3) ∷ []))) y)
 
-  pub top-does : {g g₁ g₂ g₃ g₄ g₅ : Going} (root : Bool) (m n x y : ℕ) → ((c : Context) → n ≡ limited (count (gather (keyTemporaries c) (throughObjects target)))) → y ≡ cond root 4 3
+  entry-length : (n p k : ℕ) → p ≡ limited (count (reachedIn straight target)) → ((c : Context) → k ≡ limited (count (keyTemporaries c target))) → n ≡ limited (p + k) → Good t left at
+      → 1 + n ≡ suc (partsCount target + otherKeys (properties target))
+  unfolding partsCount
+  entry-length n p k a b e good =
+      let s = good-short t left at good in
+      let z = parts-fit nameless target in
+      let y = ap count (parts-reached target) in
+      let x : p ≡ count (reachedIn straight target) = a ∙ counted-whole (count (reachedIn straight target)) 16384 (omega arith) (omega arith) in
+      let w : k ≡ count (keyTemporaries nameless target) = b nameless ∙ counted-whole (count (keyTemporaries nameless target)) 16384 (omega arith) (omega arith) in
+      let v : n ≡ p + k = e ∙ counted-whole (p + k) 16384 (omega arith) (omega arith) in
+      let u = keys-counted nameless target in
+      omega arith
+
+  top-is : (root : Bool) (m k : ℕ) → k ≡ suc (partsCount target + otherKeys (properties target))
+      → say (does (entry m k) ∷ lists (5 ∷ 1 ∷ []) ++ (does (listedTemporary (events.cell 3 at) 3) ∷ [])) ▷ overParts handsPlace target ▷ handsKeys target ▷ excludesOf root target ≡ handsTop root m target
+  unfolding handsTop
+  top-is root m k e =
+      ap (λ (x : ℕ). say (does (entry m x) ∷ lists (5 ∷ 1 ∷ []) ++ (does (listedTemporary (events.cell 3 at) 3) ∷ [])) ▷ overParts handsPlace target ▷ handsKeys target ▷ excludesOf root target) e
+      ∙ ap (λ (x : ℕ). say (does (entry m (suc (partsCount target + otherKeys (properties target)))) ∷ lists (5 ∷ 1 ∷ []) ++ (does (listedTemporary (events.cell 3 x) 3) ∷ [])) ▷ overParts handsPlace target ▷ handsKeys target ▷ excludesOf root target) (sym (position-here t left at))
+
+  straight-2 : inTurn (λ q. overReached handsPlace (reachOf 2) (value q)) (properties target) ≡ overParts handsPlace target
+  unfolding reachOf
+  straight-2 = sym (over-parts handsPlace target)
+
+  arrays-3 : inTurn (λ q. overReached handsPlace (reachOf 3) (value q)) (properties target) ≡ overReplaced handsPlace taking target
+  unfolding reachOf
+  arrays-3 = sym (over-arrays handsPlace target)
+
+  anywhere-1 : overReached handsPlace (reachOf 1) target ≡ overReplaced handsPlace replacing target
+  unfolding reachOf
+  anywhere-1 = sym (over-anywhere handsPlace target)
+
+  pub top-does : {g g₁ g₂ g₃ g₄ g₅ g₆ : Going} (root : Bool) (m n p k x : ℕ) → (byteAt t at ≡ 34 → p ≡ limited (count (reachedIn (reachOf 2) target)))
+      → ((c : Context) → k ≡ limited (count (keyTemporaries c target))) → n ≡ limited (p + k)
       → (at < 16384 → 0 < 3 → 3 < 5 → x ≡ events.cell 3 at)
       → Does g g₁ (say (does (entry m (1 + n)) ∷ [])) → Does g₁ g₂ (say (lists (5 ∷ 1 ∷ []))) → Does g₂ g₃ (say (does (listedTemporary x 3) ∷ []))
-      → (Good t left at → Does g₃ g₄ (overAll 6 4 target)) → (Good t left at → Does g₄ g₅ (overAll y 4 target))
-      → Good t left at → Does g g₅ (handsTop root m target)
-  top-does root m n x y h j f a b c k l good =
-      let s = good-short t left at good in
-      let z = through-fit nameless target in
-      let w : n ≡ keysBelow target = h nameless ∙ counted-whole (count (gather (keyTemporaries nameless) (throughObjects target))) 16384 (omega arith) (omega arith) ∙ below-is target in
-      let v : 1 + n ≡ suc (keysBelow target) = omega arith in
+      → (Good t left at → byteAt t at ≡ 34 → Does g₃ g₄ (inTurn (λ q. overReached handsPlace (reachOf 2) (value q)) (properties target)))
+      → (Good t left at → byteAt t at ≡ 34 → Does g₄ g₅ (inTurn (keyOf 2) (properties target)))
+      → (Good t left at → byteAt t at ≡ 34 → Does g₅ g₆ (excludesOf root target))
+      → Good t left at → byteAt t at ≡ 34 → Does g g₆ (handsTop root m target)
+  unfolding reachOf
+  top-does root m n p k x h j e f a b c u v w good kind =
       does-as
-      (does-then (head-does m (1 + n) x good f a b c)
-      (does-then (does-as (k good) (rests-keys target)) (does-as (l good) (ap (λ (i : ℕ). overAll i 4 target) j ∙ rests-excludes target root))))
-      (ap (λ (i : ℕ). say (does (entry m (1 + n)) ∷ lists (5 ∷ 1 ∷ []) ++ (does (listedTemporary (events.cell 3 i) 3) ∷ [])) ▷ overRests handsKeys target ▷ overRests (excludesOf root) target) (sym (position-here t left at))
-      ∙ top-is target root m (1 + n) v)
+      (does-then (head-does m (1 + n) x good f a b c) (does-then (does-as (u good kind) straight-2) (does-then (does-as (v good kind) (hands-turn target)) (w good kind))))
+      (top-is root m (1 + n) (entry-length n p k (h kind) j e good))
 
-  pub nested-does : {g g₁ g₂ : Going} (m n v v′ : ℕ) → ((v ≡ 2 → ⊥) → n ≡ limited (placesIn (viewOf v) target)) → v′ ≡ cond (eqb v 3) 3 1
-      → Does g g₁ (say (does (entry m n) ∷ [])) → (Good t left at → Does g₁ g₂ (overAll 5 v′ target)) → (v ≡ 2 → ⊥) → Good t left at → Does g g₂ (handsNested (viewOf v) m target)
-  nested-does m n v v′ h j a k z good =
-      let w : n ≡ placesIn (viewOf v) target = h z ∙ counted-whole (placesIn (viewOf v) target) 16384 (places-within t v left at z good) (omega arith) in
-      does-as (does-then a (does-as (k good) (ap (λ (i : ℕ). overAll 5 i target) j ∙ over-listed target v z))) (nested-is target (viewOf v) m n w)
+  nested-is : (v : View) (m k : ℕ) → k ≡ placesIn v target → say (does (entry m k) ∷ []) ▷ overReplaced handsPlace v target ≡ handsNested v m target
+  unfolding handsNested
+  nested-is v m k e = ap (λ (x : ℕ). say (does (entry m x) ∷ []) ▷ overReplaced handsPlace v target) e
 
-  pub inner-does : {g g₁ g₂ g₃ g₄ g₅ : Going} (root : Bool) (m n x : ℕ) → ((c : Context) → n ≡ limited (count (keyTemporaries c target)))
-      → (at < 16384 → 0 < 3 → 3 < 5 → x ≡ events.cell 3 at)
-      → Does g g₁ (say (does (entry m (1 + n)) ∷ [])) → Does g₁ g₂ (say (lists (5 ∷ 1 ∷ []))) → Does g₂ g₃ (say (does (listedTemporary x 3) ∷ []))
-      → (Good t left at → byteAt t at ≡ 34 → Does g₃ g₄ (inTurn (keyOf 2) (properties target))) → (Good t left at → byteAt t at ≡ 34 → Does g₄ g₅ (excludesOf root target))
-      → Good t left at → byteAt t at ≡ 34
-      → Does g g₅ (say (does (entry m (suc (otherKeys (properties target)))) ∷ lists (5 ∷ 1 ∷ []) ++ (does (listedTemporary (events.cell 3 at) 3) ∷ [])) ▷ handsKeys target ▷ excludesOf root target)
-  inner-does root m n x h f a b c k l good kind =
-      let s = good-short t left at good in
-      let z = temporaries-fit nameless target in
-      let w : n ≡ otherKeys (properties target) = h nameless ∙ counted-whole (count (keyTemporaries nameless target)) 16384 (omega arith) (omega arith) ∙ keys-counted nameless target in
-      let v : 1 + n ≡ suc (otherKeys (properties target)) = omega arith in
-      does-as (does-then (head-does m (1 + n) x good f a b c) (does-then (does-as (k good kind) (hands-turn target)) (l good kind)))
-      (ap (λ (i : ℕ). say (does (entry m i) ∷ lists (5 ∷ 1 ∷ []) ++ (does (listedTemporary (events.cell 3 at) 3) ∷ [])) ▷ handsKeys target ▷ excludesOf root target) v)
+  nested-by : {g g₁ g₂ : Going} (m n : ℕ) (v : View) → n ≡ limited (placesIn v target)
+      → Does g g₁ (say (does (entry m n) ∷ [])) → Does g₁ g₂ (overReplaced handsPlace v target) → Good t left at → Does g g₂ (handsNested v m target)
+  nested-by m n v h a k good =
+      does-as (does-then a k) (nested-is v m n (h ∙ counted-whole (placesIn v target) 16384 (places-within v good) (omega arith)))
 
-  -- the parts of a sequence
-  rests-counted : (n : ℕ) → n ≡ limited (count (throughObjects target)) → Good t left at → n ≡ restsCount target
-  rests-counted n h good =
-      let s = good-short t left at good in
-      let z = rests-fit target in
-      h ∙ counted-whole (count (throughObjects target)) 16384 (omega arith) (omega arith) ∙ rests-are target
+  pub nested-taking : {g g₁ g₂ : Going} (m n v : ℕ) → v ≡ 2 → ((v ≡ 2 → byteAt t at ≡ 34) → n ≡ limited (placesIn (viewOf v) target))
+      → Does g g₁ (say (does (entry m n) ∷ [])) → (Good t left at → byteAt t at ≡ 34 → Does g₁ g₂ (inTurn (λ q. overReached handsPlace (reachOf 3) (value q)) (properties target)))
+      → Good t left at → (v ≡ 2 → byteAt t at ≡ 34) → Does g g₂ (handsNested (viewOf v) m target)
+  nested-taking {g = g} {g₂ = g₂} m n v e h a k good kind =
+      let x : viewOf v ≡ taking = view-2 v e in
+      subst (λ (w : View). Does g g₂ (handsNested w m target)) (sym x)
+      (nested-by m n taking (h kind ∙ ap (λ (w : View). limited (placesIn w target)) x) a (does-as (k good (kind e)) arrays-3) good)
 
-  pub count-statement : (statement : Bool) (n : ℕ) → n ≡ limited (count (throughObjects target)) → statement ≡ true → Good t left at → 2 + n ≡ suc (suc (cond statement (restsCount target) (suc (restsCount target))))
-  count-statement statement n h e good = let w = rests-counted n h good in rw e (omega arith)
+  pub nested-replacing : {g g₁ g₂ : Going} (m n v : ℕ) → (v ≡ 2 → ⊥) → ((v ≡ 2 → byteAt t at ≡ 34) → n ≡ limited (placesIn (viewOf v) target))
+      → Does g g₁ (say (does (entry m n) ∷ []))
+      → ((h : Bool) → (holeAt t h at ≡ false → Good t left at) → Does g₁ g₂ (cond (holeAt t h at) (say []) (overReached handsPlace (reachOf 1) target)))
+      → Good t left at → (v ≡ 2 → byteAt t at ≡ 34) → Does g g₂ (handsNested (viewOf v) m target)
+  unfolding holeAt
+  nested-replacing {g = g} {g₂ = g₂} m n v e h a k good kind =
+      let x : viewOf v ≡ replacing = view-else v e in
+      subst (λ (w : View). Does g g₂ (handsNested w m target)) (sym x)
+      (nested-by m n replacing (h kind ∙ ap (λ (w : View). limited (placesIn w target)) x) a (does-as (k false (λ z. good)) anywhere-1) good)
 
-  pub count-read : (statement : Bool) (n : ℕ) → n ≡ limited (count (throughObjects target)) → statement ≡ false → Good t left at → 3 + n ≡ suc (suc (cond statement (restsCount target) (suc (restsCount target))))
-  count-read statement n h e good = let w = rests-counted n h good in rw e (omega arith)
+  -- how long a sequence is
+  pub count-statement : (statement : Bool) (n : ℕ) → n ≡ limited (count (reachedIn (reachOf 2) target)) → statement ≡ true → Good t left at → 3 + n ≡ suc (suc (suc (cond statement (partsCount target) (suc (partsCount target)))))
+  unfolding reachOf
+  count-statement statement n h e good = let w = parts-counted n h good in rw e (omega arith)
+
+  pub count-read : (statement : Bool) (n : ℕ) → n ≡ limited (count (reachedIn (reachOf 2) target)) → statement ≡ false → Good t left at → 4 + n ≡ suc (suc (suc (cond statement (partsCount target) (suc (partsCount target)))))
+  unfolding reachOf
+  count-read statement n h e good = let w = parts-counted n h good in rw e (omega arith)
+
+-- how many places there are in a view
+module _ (v : ℕ) (p : Node) where
+  pub places-2 : (n : ℕ) → v ≡ 2 → n ≡ limited (count (reachedIn (reachOf 3) p)) → n ≡ limited (placesIn (viewOf v) p)
+  unfolding reachOf placesIn
+  places-2 n e h = h ∙ ap (λ (w : View). limited (placesIn w p)) (sym (view-2 v e))
+
+  pub places-else : (n : ℕ) → (v ≡ 2 → ⊥) → n ≡ limited (count (reached (reachOf 1) p)) → n ≡ limited (placesIn (viewOf v) p)
+  unfolding reachOf placesIn
+  places-else n e h = h ∙ ap (λ (w : View). limited (placesIn w p)) (sym (view-else v e))

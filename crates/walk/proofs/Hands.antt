@@ -6,7 +6,7 @@ use mathlib.Core.List.{List, []}
 use Prim.Native.Nat.{ℕ, zero, suc, _-_, _/_, _%_, _≤_, _<_}
 use native.Mathlib.Omega.{arith}
 use lib.Dec.{eqb}
-use borrow.Author.Tests.{eqb-true, eq-eqb, ne-eqb}
+use borrow.Author.Tests.{eq-eqb, ne-eqb}
 use Rattle.tree.specs.Tree.{Node, Fields, Items}
 use Rattle.tree.specs.Tree.Node.{node}
 use Rattle.tree.specs.Tree.Fields.{field}
@@ -22,13 +22,12 @@ use Rattle.lowering.proofs.All.{AllItems, all-unit}
 use Rattle.lowering.proofs.Cases.{by-test}
 use Rattle.direct.specs.Events.{Emit}
 use Rattle.direct.specs.Emit.{say, _▷_, inTurn}
-use Rattle.direct.specs.Views.{View, valuesOf, takes, objectAt, objectRestAt, defaultAt}
-use Rattle.direct.specs.Views.View.{replacing, taking, leaving}
-use Rattle.direct.specs.Objects.{overObjects, overRests}
+use Rattle.direct.specs.Views.{View, takes, objectAt, objectRestAt, defaultAt}
+use Rattle.direct.specs.Views.View.{replacing, taking}
+use Rattle.direct.specs.Objects.{overObjects}
 use Rattle.direct.proofs.Threads.{say-nothing}
-use Rattle.direct.proofs.ObjectsByLevel.{Keyed, over-object, over-keyed, over-taken, over-array, over-default, over-leaf, through-object, through-rest, through-array, through-default, through-leaf}
-use Rattle.direct.proofs.HandedByObject.{place-keyed, hands-keyed, keys-keyed, excludes-keyed}
-use Rattle.direct.proofs.InnerAssignments.{handsKeys-keyed}
+use Rattle.direct.proofs.ObjectsByLevel.{Keyed, over-object, over-keyed, over-taken, over-array, over-default, over-leaf}
+use Rattle.direct.proofs.HandedByObject.{place-keyed, keys-keyed, excludes-keyed}
 use Rattle.walk.specs.Run.{Going, Does}
 use Rattle.walk.specs.Whole.{holeAt, GoodItem, GoodItems, Good}
 use Rattle.walk.specs.Turns.{viewOf, ownOf, overAll}
@@ -130,123 +129,76 @@ own-keyed : (mode : ℕ) → Keyed (ownOf mode)
 unfolding ownOf
 own-keyed mode g at ps r = λ i.
     cond (eqb mode 1) ((place-keyed g at ps r) i)
-    (cond (eqb mode 2) ((keys-keyed g at ps r) i)
-    (cond (eqb mode 3) ((excludes-keyed false g at ps r) i) (cond (eqb mode 4) ((excludes-keyed true g at ps r) i) (cond (eqb mode 5) ((hands-keyed g at ps r) i) ((handsKeys-keyed g at ps r) i)))))
+    (cond (eqb mode 2) ((keys-keyed g at ps r) i) (cond (eqb mode 3) ((excludes-keyed false g at ps r) i) ((excludes-keyed true g at ps r) i)))
 
 -- views by number
 abbrev valuesIn : ℕ → ℕ
 valuesIn v = cond (eqb v 2) 1 v
 
-view-values : (v : ℕ) → viewOf (valuesIn v) ≡ valuesOf (viewOf v)
+values-in : (v : ℕ) → viewOf (valuesIn v) ≡ replacing
 unfolding viewOf
-view-values v = by-test (eqb v 2) (λ e. rw e refl) (λ e. rw (e, e) (go (eqb v 3)))
-  where
-    go : (b : Bool) → cond b leaving replacing ≡ valuesOf (cond b leaving replacing)
-    go true = refl
-    go false = refl
+values-in v = by-test (eqb v 2) (λ e. rw e refl) (λ e. rw (e, e) refl)
 
-values-4 : (v : ℕ) → eqb v 4 ≡ false → eqb (valuesIn v) 4 ≡ false
-values-4 v e = go (eqb v 2)
-  where
-    go : (b : Bool) → eqb (cond b 1 v) 4 ≡ false
-    go true = refl
-    go false = e
-
-replaced-view : (v : ℕ) → cond (eqb v 2) false (cond (eqb v 3) false true) ≡ true → viewOf v ≡ replacing
+replaced-view : (v : ℕ) → cond (eqb v 2) false true ≡ true → viewOf v ≡ replacing
 unfolding viewOf
-replaced-view v = go (eqb v 2) (eqb v 3)
+replaced-view v = go (eqb v 2)
   where
-    go : (a b : Bool) → cond a false (cond b false true) ≡ true → cond a taking (cond b leaving replacing) ≡ replacing
-    go true b h = absurd (false≢true h)
-    go false true h = absurd (false≢true h)
-    go false false h = refl
+    go : (a : Bool) → cond a false true ≡ true → cond a taking replacing ≡ replacing
+    go true h = absurd (false≢true h)
+    go false h = refl
 
-taken-view : (v : ℕ) → cond (eqb v 2) false (cond (eqb v 3) false true) ≡ false → takes (viewOf v) ≡ true
+taken-view : (v : ℕ) → cond (eqb v 2) false true ≡ false → takes (viewOf v) ≡ true
 unfolding viewOf
-taken-view v = go (eqb v 2) (eqb v 3)
+taken-view v = go (eqb v 2)
   where
-    go : (a b : Bool) → cond a false (cond b false true) ≡ false → takes (cond a taking (cond b leaving replacing)) ≡ true
-    go true b h = refl
-    go false true h = refl
-    go false false h = absurd (true≢false h)
+    go : (a : Bool) → cond a false true ≡ false → takes (cond a taking replacing) ≡ true
+    go true h = refl
+    go false h = absurd (true≢false h)
+
+all-view : (mode v : ℕ) (p : Node) → overAll mode v p ≡ overObjects (ownOf mode) (viewOf v) p
+unfolding overAll
+all-view mode v p = refl
 
 module _ (mode v : ℕ) where
-  all-view : eqb v 4 ≡ false → overAll mode v ≡ overObjects (ownOf mode) (viewOf v)
-  unfolding overAll
-  all-view e = fun-ext (λ p. rw e refl)
+  values-view : (p : Node) → overObjects (ownOf mode) replacing p ≡ overAll mode (valuesIn v) p
+  values-view p = ap (λ (x : View). overObjects (ownOf mode) x p) (sym (values-in v)) ∙ sym (all-view mode (valuesIn v) p)
 
-  all-rests : eqb v 4 ≡ true → overAll mode v ≡ overRests (ownOf mode)
-  unfolding overAll
-  all-rests e = fun-ext (λ p. rw e refl)
-
--- the view of the values
-module _ (mode v : ℕ) where
-  values-view : eqb v 4 ≡ false → overAll mode (valuesIn v) ≡ overObjects (ownOf mode) (valuesOf (viewOf v))
-  values-view e = all-view mode (valuesIn v) (values-4 v e) ∙ ap (overObjects (ownOf mode)) (view-values v)
-
-  values-rests : eqb v 4 ≡ true → overAll mode (valuesIn v) ≡ overRests (ownOf mode)
-  values-rests e = ap (λ (x : ℕ). overAll mode (valuesIn x)) (eqb-true v 4 e) ∙ all-rests mode 4 refl
-
-  in-values : (F : Node → Emit) → overAll mode (valuesIn v) ≡ F → (ps : Items) → inTurn (λ q. F (value q)) ps ≡ inTurn (λ q. overAll mode (valuesIn v) (value q)) ps
-  in-values F e ps = ap (λ (x : Node → Emit). inTurn (λ q. x (value q)) ps) (sym e)
+  in-values : (ps : Items) → inTurn (λ q. overObjects (ownOf mode) replacing (value q)) ps ≡ inTurn (λ q. overAll mode (valuesIn v) (value q)) ps
+  in-values ps = ap (λ (x : Node → Emit). inTurn (λ q. x (value q)) ps) (fun-ext values-view)
 
   all-object : (at : ℕ) (ps : Items) → overAll mode v (objectAt at ps) ≡ inTurn (λ q. overAll mode (valuesIn v) (value q)) ps
-  all-object at ps =
-      by-test (eqb v 4)
-      (λ e. ap (λ (x : Node → Emit). x (objectAt at ps)) (all-rests mode v e) ∙ through-object (ownOf mode) at ps ∙ in-values (overRests (ownOf mode)) (values-rests e) ps)
-      (λ e. ap (λ (x : Node → Emit). x (objectAt at ps)) (all-view mode v e) ∙ over-object (ownOf mode) (viewOf v) at ps ∙ in-values (overObjects (ownOf mode) (valuesOf (viewOf v))) (values-view e) ps)
+  all-object at ps = all-view mode v (objectAt at ps) ∙ over-object (ownOf mode) (viewOf v) at ps ∙ in-values ps
 
-  all-rest : cond (eqb v 2) false (cond (eqb v 3) false true) ≡ true → (at : ℕ) (ps : Items) (r : Node)
+  all-rest : cond (eqb v 2) false true ≡ true → (at : ℕ) (ps : Items) (r : Node)
       → overAll mode v (objectRestAt at ps r) ≡ inTurn (λ q. overAll mode (valuesIn v) (value q)) ps ▷ ownOf mode (objectRestAt at ps r)
   all-rest h at ps r =
       let o = objectRestAt at ps r in
-      by-test (eqb v 4)
-      (λ e. ap (λ (x : Node → Emit). x o) (all-rests mode v e) ∙ through-rest (ownOf mode) at ps r ∙ ap (λ (x : Emit). x ▷ ownOf mode o) (in-values (overRests (ownOf mode)) (values-rests e) ps))
-      (λ e.
-      let w : overAll mode (valuesIn v) ≡ overObjects (ownOf mode) replacing = values-view e ∙ ap (λ (x : View). overObjects (ownOf mode) (valuesOf x)) (replaced-view v h) in
-      ap (λ (x : Node → Emit). x o) (all-view mode v e)
+      all-view mode v o
       ∙ ap (λ (x : View). overObjects (ownOf mode) x o) (replaced-view v h)
       ∙ over-keyed (ownOf mode) (own-keyed mode) at ps r
-      ∙ ap (λ (x : Emit). x ▷ ownOf mode o) (in-values (overObjects (ownOf mode) replacing) w ps))
+      ∙ ap (λ (x : Emit). x ▷ ownOf mode o) (in-values ps)
 
-  all-taken : cond (eqb v 2) false (cond (eqb v 3) false true) ≡ false → (at : ℕ) (ps : Items) (r : Node)
+  all-taken : cond (eqb v 2) false true ≡ false → (at : ℕ) (ps : Items) (r : Node)
       → overAll mode v (objectRestAt at ps r) ≡ inTurn (λ q. overAll mode (valuesIn v) (value q)) ps
-  all-taken h at ps r =
-      by-test (eqb v 4)
-      (λ e. let z : cond (eqb v 2) false (cond (eqb v 3) false true) ≡ true = rw (eqb-true v 4 e) refl in absurd (true≢false (sym z ∙ h)))
-      (λ e. ap (λ (x : Node → Emit). x (objectRestAt at ps r)) (all-view mode v e) ∙ over-taken (ownOf mode) (viewOf v) (taken-view v h) at ps r ∙ in-values (overObjects (ownOf mode) (valuesOf (viewOf v))) (values-view e) ps)
+  all-taken h at ps r = all-view mode v (objectRestAt at ps r) ∙ over-taken (ownOf mode) (viewOf v) (taken-view v h) at ps r ∙ in-values ps
 
-  all-array : eqb v 4 ≡ false → (at : ℕ) (ns : Items) (fs : Fields) → overAll mode v (node at 36 (field (list ns) fs)) ≡ inTurn (overAll mode 1) ns
-  all-array e at ns fs =
-      ap (λ (x : Node → Emit). x (node at 36 (field (list ns) fs))) (all-view mode v e)
+  all-array : (at : ℕ) (ns : Items) (fs : Fields) → overAll mode v (node at 36 (field (list ns) fs)) ≡ inTurn (overAll mode 1) ns
+  all-array at ns fs =
+      all-view mode v (node at 36 (field (list ns) fs))
       ∙ over-array (ownOf mode) (viewOf v) at ns fs
-      ∙ ap (λ (x : Node → Emit). inTurn x ns) (sym (all-view mode 1 refl ∙ one-view))
-    where
-      one-view : overObjects (ownOf mode) (viewOf 1) ≡ overObjects (ownOf mode) replacing
-      one-view = ap (overObjects (ownOf mode)) (replaced-view 1 refl)
-
-  all-arrays : eqb v 4 ≡ true → (at : ℕ) (fs : Fields) → overAll mode v (node at 36 fs) ≡ say []
-  all-arrays e at fs = ap (λ (x : Node → Emit). x (node at 36 fs)) (all-rests mode v e) ∙ through-array (ownOf mode) at fs
+      ∙ ap (λ (x : Node → Emit). inTurn x ns) (fun-ext (λ p. ap (λ (x : View). overObjects (ownOf mode) x p) (sym (replaced-view 1 refl)) ∙ sym (all-view mode 1 p)))
 
   all-default : (at : ℕ) (l r : Node) → overAll mode v (defaultAt at l r) ≡ overAll mode (valuesIn v) l
-  all-default at l r =
-      let p = defaultAt at l r in
-      by-test (eqb v 4)
-      (λ e. ap (λ (x : Node → Emit). x p) (all-rests mode v e) ∙ through-default (ownOf mode) at l _ ∙ ap (λ (x : Node → Emit). x l) (sym (values-rests e)))
-      (λ e. ap (λ (x : Node → Emit). x p) (all-view mode v e) ∙ over-default (ownOf mode) (viewOf v) at l _ ∙ ap (λ (x : Node → Emit). x l) (sym (values-view e)))
+  all-default at l r = all-view mode v (defaultAt at l r) ∙ over-default (ownOf mode) (viewOf v) at l _ ∙ values-view l
 
   all-leaf : (p : Node) → shape p ≡ leaf → overAll mode v p ≡ say []
-  all-leaf p s =
-      by-test (eqb v 4)
-      (λ e. ap (λ (x : Node → Emit). x p) (all-rests mode v e) ∙ through-leaf (ownOf mode) p s)
-      (λ e. ap (λ (x : Node → Emit). x p) (all-view mode v e) ∙ over-leaf (ownOf mode) (viewOf v) p s)
+  all-leaf p s = all-view mode v p ∙ over-leaf (ownOf mode) (viewOf v) p s
 
 -- ---- the ways out of `over`
 
-bit-of : (a b c : Bool) → cond a false (cond b false c) ≡ true → c ≡ true
-bit-of true b c h = absurd (false≢true h)
-bit-of false true c h = absurd (false≢true h)
-bit-of false false c h = h
+bit-of : (a c : Bool) → cond a false c ≡ true → c ≡ true
+bit-of true c h = absurd (false≢true h)
+bit-of false c h = h
 
 module _ (t : List ℕ) where
   -- a good node has a level
@@ -279,19 +231,12 @@ module _ (t : List ℕ) where
       let k′ = subst (λ (y : ℕ). Good t d y → Does g g′ (overAll mode v (lookNode t d y .value))) place k in
       does-as (k′ (u .value)) (ap (λ (y : Seen Node). overAll mode v (value (y .value))) (sym (u .whole))))
 
-  pub array-left : {g : Going} (left at v mode : ℕ) → v ≡ 4 → Good t left at → byteAt t at ≡ 36 → Does g g (overAll mode v (lookNode t left at .value))
-  unfolding lookNode
-  array-left zero at v mode z good kind = no-good t at good
-  array-left {g = g} (suc d) at v mode z good kind =
-      let fs : Fields = lookFields t (λ q. lookNode t d q) (fieldsOf (byteAt t at)) (byteAt t (onward t at 1)) (onward t at 2) .value in
-      does-as (does-nothing g) (sym (all-arrays mode v (eq-eqb v 4 z) at fs) ∙ ap (λ (k : ℕ). overAll mode v (node at k fs)) (sym kind))
-
   -- the list of a node stands behind its head
   module _ (left d at q p n : ℕ) (e : d ≡ left - 1) (a : q ≡ onward t at 2) (b : p ≡ onward t q 2) (w : Wide t q n) where
     pub list-from : (F : ℕ → ℕ → Type 0) → F n p → F (wideAt t (onward t at 2)) (onward t (onward t at 2) 2)
     list-from F x = subst (λ (m : ℕ). F m (onward t (onward t at 2) 2)) (w .value ∙ ap (λ (y : ℕ). wideAt t y) a) (subst (λ (y : ℕ). F n y) (b ∙ ap (λ (y : ℕ). onward t y 2) a) x)
 
-    module _ {g g₁ : Going} (v v′ mode : ℕ) (r : Bool) (c : v′ ≡ cond (eqb v 2) 1 v) (f : r ≡ cond (eqb v 2) false (cond (eqb v 3) false (eqb (byteAt t (onward t at 1) / 2 % 2) 1)))
+    module _ {g g₁ : Going} (v v′ mode : ℕ) (r : Bool) (c : v′ ≡ cond (eqb v 2) 1 v) (f : r ≡ cond (eqb v 2) false (eqb (byteAt t (onward t at 1) / 2 % 2) 1))
         (k : GoodItems t (lookNode t d) (Good t d) false false n p → AllItems (λ q. is 35 q ≡ true) (lookItems t (lookNode t d) false n p .value)
         → Does g g₁ (inTurn (λ q. overAll mode v′ (value q)) (lookItems t (lookNode t d) false n p .value))) where
       abbrev N : ℕ
@@ -314,8 +259,8 @@ module _ (t : List ℕ) where
           → Good t left at → byteAt t at ≡ 34 → Does g g₂ (overAll mode v (lookNode t left at .value))
       own-does {g₂ = g₂} z o good kind =
           let h = sym f ∙ z in
-          let bit : eqb (byteAt t (onward t at 1) / 2 % 2) 1 ≡ true = bit-of (eqb v 2) (eqb v 3) (eqb (byteAt t (onward t at 1) / 2 % 2) 1) h in
-          let h′ : cond (eqb v 2) false (cond (eqb v 3) false true) ≡ true = ap (λ (x : Bool). cond (eqb v 2) false (cond (eqb v 3) false x)) (sym bit) ∙ h in
+          let bit : eqb (byteAt t (onward t at 1) / 2 % 2) 1 ≡ true = bit-of (eqb v 2) (eqb (byteAt t (onward t at 1) / 2 % 2) 1) h in
+          let h′ : cond (eqb v 2) false true ≡ true = ap (λ (x : Bool). cond (eqb v 2) false x) (sym bit) ∙ h in
           at-level (λ (m : ℕ). Does g₁ g₂ (ownOf mode (lookNode t m at .value)) → Does g g₂ (overAll mode v (lookNode t m at .value))) left d at e good
           (λ here own.
           let u = object-open t d at here kind in
@@ -333,23 +278,22 @@ module _ (t : List ℕ) where
           let done = values (u .list .good) (u .properties) in
           by-test (eqb (byteAt t (onward t at 1) / 2 % 2) 1)
           (λ bit.
-          let h : cond (eqb v 2) false (cond (eqb v 3) false true) ≡ false = ap (λ (x : Bool). cond (eqb v 2) false (cond (eqb v 3) false x)) (sym bit) ∙ sym f ∙ z in
+          let h : cond (eqb v 2) false true ≡ false = ap (λ (x : Bool). cond (eqb v 2) false x) (sym bit) ∙ sym f ∙ z in
           does-as done (sym (all-taken mode v h at ps _) ∙ ap (λ (s : Seen Node). overAll mode v (s .value)) (sym (u .resting bit))))
           (λ bit. does-as done (sym (all-object mode v at ps) ∙ ap (λ (s : Seen Node). overAll mode v (s .value)) (sym (u .plain bit)))))
 
-    pub array-does : {g g₁ : Going} (v mode : ℕ) → (v ≡ 4 → ⊥)
+    pub array-does : {g g₁ : Going} (v mode : ℕ)
         → (GoodItems t (lookNode t d) (Good t d) false true n p → Does g g₁ (inTurn (overAll mode 1) (lookItems t (lookNode t d) true n p .value)))
         → Good t left at → byteAt t at ≡ 36 → Does g g₁ (overAll mode v (lookNode t left at .value))
-    array-does {g = g} {g₁ = g₁} v mode z k good kind =
-        let h : eqb v 4 ≡ false = ne-eqb v 4 z in
+    array-does {g = g} {g₁ = g₁} v mode k good kind =
         at-level (λ (m : ℕ). Does g g₁ (overAll mode v (lookNode t m at .value))) left d at e good
         (λ here.
         let u = array-open t d at here kind in
         let ns = lookItems t (lookNode t d) true (wideAt t (onward t at 2)) (onward t (onward t at 2) 2) .value in
         let done : Does g g₁ (inTurn (overAll mode 1) ns) = list-from (λ (m y : ℕ). GoodItems t (lookNode t d) (Good t d) false true m y → Does g g₁ (inTurn (overAll mode 1) (lookItems t (lookNode t d) true m y .value))) k (u .list .good) in
         by-test (eqb (byteAt t (onward t at 1) / 2 % 2) 1)
-        (λ bit. does-as done (sym (all-array mode v h at ns _) ∙ ap (λ (s : Seen Node). overAll mode v (s .value)) (sym (u .resting bit))))
-        (λ bit. does-as done (sym (all-array mode v h at ns _) ∙ ap (λ (s : Seen Node). overAll mode v (s .value)) (sym (u .plain bit)))))
+        (λ bit. does-as done (sym (all-array mode v at ns _) ∙ ap (λ (s : Seen Node). overAll mode v (s .value)) (sym (u .resting bit))))
+        (λ bit. does-as done (sym (all-array mode v at ns _) ∙ ap (λ (s : Seen Node). overAll mode v (s .value)) (sym (u .plain bit)))))
 
   -- an item of a list with holes
   pub hole-does : {g : Going} (at n : ℕ) (e : Emit) → Peeked t at n → n ≡ 0 → Does g g (cond (holeAt t true at) (say []) e)
@@ -368,11 +312,8 @@ values-taking v e = rw (eq-eqb v 2 e) refl
 pub values-same : (v : ℕ) → (v ≡ 2 → ⊥) → v ≡ cond (eqb v 2) 1 v
 values-same v e = rw (ne-eqb v 2 e) refl
 
-pub replaces-taking : (v : ℕ) (b : Bool) → v ≡ 2 → false ≡ cond (eqb v 2) false (cond (eqb v 3) false b)
+pub replaces-taking : (v : ℕ) (b : Bool) → v ≡ 2 → false ≡ cond (eqb v 2) false b
 replaces-taking v b e = rw (eq-eqb v 2 e) refl
 
-pub replaces-leaving : (v : ℕ) (b : Bool) → (v ≡ 2 → ⊥) → v ≡ 3 → false ≡ cond (eqb v 2) false (cond (eqb v 3) false b)
-replaces-leaving v b x e = rw (ne-eqb v 2 x, eq-eqb v 3 e) refl
-
-pub replaces-rest : (v : ℕ) (r b : Bool) → (v ≡ 2 → ⊥) → (v ≡ 3 → ⊥) → r ≡ b → r ≡ cond (eqb v 2) false (cond (eqb v 3) false b)
-replaces-rest v r b x y e = rw (ne-eqb v 2 x, ne-eqb v 3 y) e
+pub replaces-rest : (v : ℕ) (r b : Bool) → (v ≡ 2 → ⊥) → r ≡ b → r ≡ cond (eqb v 2) false b
+replaces-rest v r b x e = rw (ne-eqb v 2 x) e

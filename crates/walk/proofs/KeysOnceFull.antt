@@ -15,8 +15,8 @@ use Rattle.tree.specs.Read.{byteAt}
 use Rattle.tree.specs.Look.{lookNode}
 use Rattle.tree.specs.WellFormed.{Fits}
 use Rattle.lowering.specs.Parts.{is}
-use Rattle.lowering.specs.Patterns.{rest, properties, hasRest}
-use Rattle.direct.specs.Events.{Deed, Place, Emit, puts, emits}
+use Rattle.lowering.specs.Patterns.{properties, hasRest}
+use Rattle.direct.specs.Events.{Deed, Place, Emit, puts}
 use Rattle.direct.specs.Events.Deed.{does, refuses}
 use Rattle.pattern.specs.declared.source.Read.{Read}
 use Rattle.pattern.specs.declared.source.Read.the-variants.{Expression, Temporary}
@@ -26,17 +26,16 @@ use Rattle.direct.specs.Emit.{say, _▷_, inner}
 use Rattle.direct.specs.Views.{emitsView}
 use Rattle.direct.specs.Views.View.{taking}
 use Rattle.direct.specs.Keys.{emitsRest}
-use Rattle.direct.specs.Objects.{overRests}
 use Rattle.direct.specs.Declared.{emitsOwnKeys, emitsOwnPattern}
-use Rattle.direct.specs.Assigned.{emitsRestOf, emitsTarget}
+use Rattle.direct.specs.Assigned.{emitsTarget}
 use Rattle.outcome.specs.Named.{firstRefused}
 use Rattle.outcome.proofs.Refusals.{Sound, silent-none, puts-silent}
-use Rattle.outcome.proofs.Calm.{Sounds, say-sounds, rest-sounds, of-sounds, over-sounds, node-sounds, taking-calm, own-calm, target-calm}
-use Rattle.walk.specs.Run.{Going, met, Full, Does, Clear}
+use Rattle.outcome.proofs.Calm.{Sounds, say-sounds, rest-sounds, taking-calm, own-calm, target-value-calm}
+use Rattle.walk.specs.Run.{Going, met, Does, Clear}
 use Rattle.walk.specs.Whole.{Good}
 use Rattle.walk.specs.Turns.{reads, sourceOf}
 use Rattle.walk.proofs.Opened.{is-here}
-use Rattle.walk.proofs.Running.{met-later, does-instead, does-without}
+use Rattle.walk.proofs.Running.{met-later, does-without}
 
 -- ---- the first refusal, told in two ways
 
@@ -105,13 +104,7 @@ module _ (c : Place) (p : Node) (here : Object p) where
     taking-again k =
         record { calm = λ z. again-calm (taking-calm (inner c) (inner c) (here .place) p (here .fits) (here .object) resting refl 0 (none-first _ (k .calm z 0)) at s (quiet .calm)) }
 
-  -- ---- the rests of a target, behind the target without them
-
-  pub target-again : {g g′ : Going} (x : ℕ) → Full (g .state) → Clear g (emitsTarget c p) → Does g g′ (overRests (λ o. emits (inner c) (rest o)) p) → Does g g′ (overRests (emitsRestOf c x) p)
-  target-again x full k d =
-      does-instead full
-      (λ z m j.
-      met-first (overRests (λ o. emits (inner c) (rest o)) p m) (over-sounds (λ o. emits (inner c) (rest o)) (λ o. node-sounds (inner c) (rest o)) p .always m)
-      ∙ sym (target-calm c (here .place) p (here .fits) 0 (none-first _ (k .calm z 0)) x j m)
-      ∙ sym (met-first (overRests (emitsRestOf c x) p j) (over-sounds (emitsRestOf c x) (λ o. of-sounds c x o) p .always j)))
-      d
+    -- behind the target without it
+    pub target-again : {g : Going} → Clear g (emitsTarget c p) → Clear g (emitsRest (inner c) at (properties p) s)
+    target-again k =
+        record { calm = λ z. again-calm (target-value-calm c (here .place) p (here .fits) (here .object) resting 0 (none-first _ (k .calm z 0)) at s (quiet .calm)) }

@@ -13,7 +13,8 @@ pub mod KeysOnceFull
 pub mod Turning
 pub mod SmallSteps
 pub mod Lookups
-pub mod Leaving
+pub mod TargetCounts
+pub mod TargetWalk
 pub mod Sources
 pub mod Viewing
 pub mod Hands

@@ -1,96 +1,75 @@
 -- No more is handed out than the target has bytes.
 -- Assumes nothing.
-use mathlib.Core.Path.{_≡_, ap, _∙_}
+use mathlib.Core.Path.{_≡_, refl, ap, _∙_, subst}
 use mathlib.Core.Bool.{Bool, true, false, cond}
 use Prim.Native.Nat.{ℕ, zero, suc, _≤_}
 use native.Mathlib.Omega.{arith}
-use lib.Dec.{eqb}
 use lib.ListN.{length}
-use borrow.Author.Tests.{ne-eqb}
 use Rattle.tree.specs.Tree.{Node, Items, count, encode, depth}
-use Rattle.lowering.specs.Parts.{nothing, onNode, onItems, changeNode, each, gather}
-use Rattle.lowering.specs.Made.{Context}
-use Rattle.lowering.specs.Patterns.{shape, properties, hasRest, value, withLeft, withValues, replaced, objectsWithRest}
-use Rattle.lowering.specs.Patterns.Shape.{objectPattern, default}
-use Rattle.lowering.specs.Keys.{taken}
-use Rattle.lowering.specs.Assignments.{withoutRests}
-use Rattle.direct.specs.Views.{withoutRestsBelow, nameless}
-use Rattle.direct.specs.Views.View.{replacing, leaving}
-use Rattle.direct.specs.Objects.{objectsIn}
-use Rattle.direct.specs.Handed.{placesIn}
-use Rattle.direct.specs.Counts.{restsCount}
-use Rattle.direct.proofs.ObjectsByLevel.{value-changed}
-use Rattle.direct.proofs.DeclarationsByPart.{properties-changed}
-use Rattle.direct.proofs.Targets.{shape-taken, left-nothing, left-changed}
-use Rattle.pattern.proofs.CountsFit.{size, Small, object-small, left-small, small-objects, objects-fit, rests-fit}
-use Rattle.lowering.proofs.Clauses.{objects-object, objects-default, without-object, without-array, without-default, without-leaf}
-use Rattle.walk.proofs.Leaving.{taken-gather}
-use Rattle.walk.specs.Turns.{viewOf}
-use Rattle.lowering.proofs.ItemLaws.{gather-same, gather-each}
-use Rattle.lowering.proofs.ChangeLaws.{shape-changed}
+use Rattle.tree.specs.Tree.Items.{none, hole, item}
+use Rattle.lowering.specs.Parts.{nothing, only, gather}
+use Rattle.lowering.specs.Patterns.{shape, properties, itemsOf, hasRest, leftOf, value}
 use Rattle.lowering.proofs.Cases.{by-shape}
+use Rattle.lowering.proofs.ItemLaws.{items-none, count-append}
+use Rattle.pattern.proofs.CountsFit.{size, Small, object-small, nearest-fit}
+use Rattle.direct.specs.Views.{View}
+use Rattle.direct.specs.Views.View.{replacing, taking}
+use Rattle.direct.specs.Objects.{Reach, counts, enters, reachedAt, reached}
+use Rattle.direct.specs.Objects.Reach.{anywhere, inArrays}
+use Rattle.direct.specs.Handed.{placesIn}
+use Rattle.direct.proofs.Reached.{reached-nothing, outermost-reached}
 
-module _ (c : Context) where
-  -- an object whose values are changed and whose rest is taken has the objects of its values
-  gather-values : (F : Node → Items) (f : Node → Node) → f nothing ≡ nothing → (p : Node)
-      → gather (λ q. F (value q)) (properties (taken c (withValues f p))) ≡ gather (λ q. F (f (value q))) (properties p)
-  gather-values F f z p =
-      taken-gather c F (withValues f p)
-      ∙ ap (gather (λ q. F (value q))) (properties-changed (λ q. changeNode 1 f q) p)
-      ∙ gather-each (λ q. F (value q)) (λ q. changeNode 1 f q) (properties p)
-      ∙ gather-same (λ q. F (value (changeNode 1 f q))) (λ q. F (f (value q))) (λ q. ap F (value-changed f z q)) (properties p)
+-- ---- no more below arrays than anywhere
 
-  module _ (d : ℕ) (rec : (e : ℕ) (n : Node) → count (objectsWithRest c e (withoutRests c d n)) ≤ size n) where
-    abbrev below : ℕ → Node → Items
-    below e n = objectsWithRest c e (withoutRests c d n)
+gather-fewer : (f g : Node → Items) → ((n : Node) → count (f n) ≤ count (g n)) → (is : Items) → count (gather f is) ≤ count (gather g is)
+unfolding gather count
+gather-fewer f g h none = omega arith
+gather-fewer f g h (hole is) = gather-fewer f g h is
+gather-fewer f g h (item n is) =
+    let a = h n in
+    let b = gather-fewer f g h is in
+    let c = count-append (f n) (gather f is) in
+    let d = count-append (g n) (gather g is) in
+    omega arith
 
-    small-below : (e : ℕ) → Small (λ n. below e n)
-    small-below e = record {
-      fits = rec e;
-      bare = ap (λ (n : Node). count (objectsWithRest c e n)) (left-nothing c d) ∙ small-objects c e .bare;
-    }
+some-if : (b : Bool) (is js : Items) → count is ≤ count js → count (cond b is none) ≤ count js
+unfolding count
+some-if true is js h = h
+some-if false is js h = omega arith
 
-    left-values : (e : ℕ) (n : Node) → shape n ≡ objectPattern → count (objectsWithRest c e (taken c (withValues (λ v. withoutRests c d v) n))) ≤ size n
-    unfolding objectsWithRest count
-    left-values zero n s = omega arith
-    left-values (suc e) n s =
-        let f : Node → Node = λ v. withoutRests c d v in
-        let x = taken c (withValues f n) in
-        let h = objects-object c e x (shape-taken c (withValues f n) ∙ shape-changed 0 (onItems (each (λ q. changeNode 1 f q))) n ∙ s) in
-        let g = gather-values (λ m. objectsWithRest c e m) f (left-nothing c d) n in
-        rw (h, g) (object-small (λ m. below e m) (small-below e) n (withValues (λ v. replaced c e v) x) (hasRest x))
+own-if : (b c : Bool) (o : Node) (is js : Items) → count is ≤ count js → count (cond b (cond c (only o) none) is) ≤ count (cond b (only o) js)
+own-if true c o is js h = some-if c (only o) (only o) (omega arith)
+own-if false c o is js h = h
 
-    left-left : (e : ℕ) (n : Node) → shape n ≡ default → count (objectsWithRest c e (withLeft (λ v. withoutRests c d v) n)) ≤ size n
-    unfolding objectsWithRest count
-    left-left zero n s = omega arith
-    left-left (suc e) n s =
-        let f : Node → Node = λ v. withoutRests c d v in
-        let h = objects-default c e (withLeft f n) (shape-changed 0 (onNode f) n ∙ s) in
-        let g = left-changed c f (left-nothing c d) n in
-        rw (h, g) (left-small (λ m. below e m) (small-below e) n)
+fewer : (r : Reach) (d : ℕ) (p : Node) → count (reachedAt r d p) ≤ count (reachedAt anywhere d p)
+unfolding reachedAt
+fewer r zero p = omega arith
+fewer r (suc d) p =
+    by-shape (shape p)
+    (λ s. rw (s, reachedAt)
+    (own-if (hasRest p) (counts r) p (gather (λ q. reachedAt r d (value q)) (properties p)) (gather (λ q. reachedAt anywhere d (value q)) (properties p))
+    (gather-fewer (λ q. reachedAt r d (value q)) (λ q. reachedAt anywhere d (value q)) (λ q. fewer r d (value q)) (properties p))))
+    (λ s. rw (s, reachedAt) (some-if (enters r) (gather (λ x. reachedAt anywhere d x) (itemsOf p)) (gather (λ x. reachedAt anywhere d x) (itemsOf p)) (omega arith)))
+    (λ s. rw (s, reachedAt) (fewer r d (leftOf p)))
+    (λ s. rw (s, reachedAt) (omega arith))
 
-  rests-left : (d e : ℕ) (n : Node) → count (objectsWithRest c e (withoutRests c d n)) ≤ size n
-  unfolding withoutRests
-  rests-left zero e n = small-objects c e .fits n
-  rests-left (suc d) e n =
-      by-shape (shape n)
-      (λ s. rw (without-object c d n s) (left-values d (λ e m. rests-left d e m) e n s))
-      (λ s. rw (without-array c d n s) (small-objects c e .fits n))
-      (λ s. rw (without-default c d n s) (left-left d (λ e m. rests-left d e m) e n s))
-      (λ s. rw (without-leaf c d n s) (small-objects c e .fits n))
+-- ---- in bytes
 
--- ---- as they are counted
+none-counted : count none ≡ 0
+unfolding count
+none-counted = refl
 
-pub rests-count-small : (n : Node) → restsCount n ≤ length (encode n)
-unfolding restsCount
-rests-count-small n = rests-fit n
+anywhere-small : Small (λ p. reached anywhere p)
+anywhere-small = record {
+  fits = λ p. subst (λ (is : Items). count is ≤ size p) (outermost-reached p) (nearest-fit true (depth p) p);
+  bare = ap count (reached-nothing anywhere (depth nothing)) ∙ none-counted;
+}
 
-replaced-small : (b : Bool) (n : Node) → placesIn (cond b leaving replacing) n ≤ length (encode n)
-unfolding placesIn objectsIn
-replaced-small true n = rests-left nameless (depth n) (depth (withoutRestsBelow nameless n)) n
-replaced-small false n = objects-fit nameless n
-
--- in any view but the one that takes the object's own rest
-pub places-small : (v : ℕ) → (v ≡ 2 → ⊥) → (n : Node) → placesIn (viewOf v) n ≤ length (encode n)
-unfolding viewOf
-places-small v h n = rw (ne-eqb v 2 h) (replaced-small (eqb v 3) n)
+pub places-small : (v : View) (n : Node) → placesIn v n ≤ length (encode n)
+unfolding placesIn
+places-small replacing n = anywhere-small .fits n
+places-small taking n =
+    let a = gather-fewer (λ q. reached inArrays (value q)) (λ q. reached anywhere (value q)) (λ q. fewer inArrays (depth (value q)) (value q)) (properties n) in
+    let b : count (gather (λ q. reached anywhere (value q)) (properties n)) ≤ size n =
+    subst (λ (is : Items). count is ≤ size n) (items-none (gather (λ q. reached anywhere (value q)) (properties n))) (object-small (λ p. reached anywhere p) anywhere-small n n false) in
+    omega arith

@@ -17,8 +17,8 @@ use Rattle.sink.specs.Machine.Event.{temporary}
 use Rattle.direct.specs.Events.{Place, Emit, puts, cell, emits}
 use Rattle.direct.specs.Events.Deed.{does}
 use Rattle.direct.specs.Emit.{say, _▷_, inner}
-use Rattle.direct.specs.Views.{View, valuesOf, takes, objectRestAt, eachDoes, saysCell, emitsView, emitsProperty, isOther, emitsKey}
-use Rattle.direct.specs.Views.View.{replacing, taking, leaving}
+use Rattle.direct.specs.Views.{View, takes, objectRestAt, eachDoes, saysCell, emitsView, emitsProperty, isOther, emitsKey}
+use Rattle.direct.specs.Views.View.{replacing, taking}
 use Rattle.direct.proofs.Threads.{then-assoc, say-puts}
 use Rattle.direct.proofs.PatternViews.{view-object, view-replaced, view-rest, view-array, view-array-rest, view-default, view-leaf, view-property}
 use Rattle.walk.specs.Run.{Going, Does}
@@ -27,7 +27,7 @@ use Rattle.walk.specs.Turns.{viewOf}
 use Rattle.walk.proofs.Running.{does-then, does-as, does-to}
 use Rattle.walk.proofs.SpreadArguments.{does-from}
 use Rattle.walk.proofs.Opened.{look-solid, ObjectOpen, ArrayOpen, leaf-here, no-good, object-open, array-open, property-open, default-open}
-use Rattle.walk.proofs.Turning.{Sequenced, sequenced-as, turns-1, turns-properties, values-of, suit-1, suit-properties}
+use Rattle.walk.proofs.Turning.{Sequenced, sequenced-as, turns-1, turns-properties, suit-1, suit-properties}
 
 -- ---- views by number
 
@@ -35,32 +35,22 @@ pub replaces-2 : (v : ℕ) → v ≡ 2 → false ≡ not (takes (viewOf v))
 unfolding viewOf
 replaces-2 v e = rw e refl
 
-pub replaces-3 : (v : ℕ) → v ≡ 3 → false ≡ not (takes (viewOf v))
+pub replaces-else : (v : ℕ) → (v ≡ 2 → ⊥) → true ≡ not (takes (viewOf v))
 unfolding viewOf
-replaces-3 v e = rw e refl
-
-pub replaces-else : (v : ℕ) → (v ≡ 2 → ⊥) → (v ≡ 3 → ⊥) → true ≡ not (takes (viewOf v))
-unfolding viewOf
-replaces-else v e f = rw (ne-eqb v 2 e, ne-eqb v 3 f) refl
+replaces-else v e = rw (ne-eqb v 2 e) refl
 
 not-takes : (v : View) → true ≡ not (takes v) → v ≡ replacing
 not-takes replacing e = refl
 not-takes taking e = absurd (false≢true (sym e))
-not-takes leaving e = absurd (false≢true (sym e))
 
 does-takes : (v : View) → false ≡ not (takes v) → takes v ≡ true
 does-takes replacing e = absurd (false≢true e)
 does-takes taking e = refl
-does-takes leaving e = refl
 
 -- the view of values
-values-view : (v w : ℕ) → w ≡ cond (eqb v 3) 3 1 → viewOf w ≡ valuesOf (viewOf v)
+one-view : viewOf 1 ≡ replacing
 unfolding viewOf
-values-view v w e = ap viewOf e ∙ go (eqb v 3) ∙ sym (values-of v)
-  where
-    go : (b : Bool) → viewOf (cond b 3 1) ≡ cond b leaving replacing
-    go true = refl
-    go false = refl
+one-view = refl
 
 -- ---- cells
 
@@ -92,23 +82,23 @@ module _ (t : List ℕ) where
   view-other c (suc d) at k q v p a b e r good = (r .0, does-as (r .1 good) (sym (view-leaf c (viewOf v) (lookNode t (suc d) at .value) (leaf-here t d at k (p .value) a b e))))
 
   -- a default: its head, its pattern, its value
-  pub view-37 : {g g₁ g₂ g₃ : Going} (c c₁ c₂ : Place) (d d₁ d₂ at k s u w r v vv : ℕ) → Peeked t at k → k ≡ 37 → s ≡ onward t at 2 → u ≡ s
-      → c₁ ≡ inner c → d₁ ≡ d - 1 → vv ≡ cond (eqb v 3) 3 1 → c₂ ≡ inner c → d₂ ≡ d - 1
-      → Does g g₁ (say (puts (part at s t))) → Emitted t d₁ u w g₁ g₂ (emitsView c₁ (viewOf vv)) → Ruled t d₂ w r g₂ g₃ (emits c₂)
+  pub view-37 : {g g₁ g₂ g₃ : Going} (c c₁ c₂ : Place) (d d₁ d₂ at k s u w r v : ℕ) → Peeked t at k → k ≡ 37 → s ≡ onward t at 2 → u ≡ s
+      → c₁ ≡ inner c → d₁ ≡ d - 1 → c₂ ≡ inner c → d₂ ≡ d - 1
+      → Does g g₁ (say (puts (part at s t))) → Emitted t d₁ u w g₁ g₂ (emitsView c₁ (viewOf 1)) → Ruled t d₂ w r g₂ g₃ (emits c₂)
       → Emitted t d at r g g₃ (emitsView c (viewOf v))
-  view-37 c c₁ c₂ zero d₁ d₂ at k s u w r v vv p e f h i j l m n a b nd good = no-good t at good
-  view-37 c c₁ c₂ (suc d) d₁ d₂ at k s u w r v vv p e f h i j l m n a b nd good =
+  view-37 c c₁ c₂ zero d₁ d₂ at k s u w r v p e f h i j m n a b nd good = no-good t at good
+  view-37 c c₁ c₂ (suc d) d₁ d₂ at k s u w r v p e f h i j m n a b nd good =
       let o = default-open t d at good (sym (p .value) ∙ e) in
       let x : d₁ ≡ d = omega arith in
       let x₂ : d₂ ≡ d = omega arith in
       let left : Node = lookNode t d (onward t at 2) .value in
       let right : Node = lookNode t d (lookNode t d (onward t at 2) .next) .value in
-      let y = emitted-as (λ c. emitsView c (viewOf vv)) (inner c) c₁ d d₁ (onward t at 2) u w i x (h ∙ f) b (o .left) in
+      let y = emitted-as (λ c. emitsView c (viewOf 1)) (inner c) c₁ d d₁ (onward t at 2) u w i x (h ∙ f) b (o .left) in
       let z = ruled-as (λ c. emits c) (inner c) c₂ d d₂ (lookNode t d (onward t at 2) .next) w r m x₂ (y .0) nd in
       let hd : say (puts (part at s t)) ≡ say (puts (37 ∷ 3 ∷ [])) = ap (λ (q : ℕ). say (puts (part at q t))) f ∙ ap (λ (bs : List ℕ). say (puts bs)) (o .head) in (
         z .0 ∙ sym (ap (λ (n : Seen Node). n .next) (o .whole)),
         does-as (does-then (does-as a hd) (does-then (y .1) (z .1 (o .right))))
-            (ap (λ (q : View). say (puts (37 ∷ 3 ∷ [])) ▷ emitsView (inner c) q left ▷ emits (inner c) right) (values-view v vv l)
+            (ap (λ (q : View). say (puts (37 ∷ 3 ∷ [])) ▷ emitsView (inner c) q left ▷ emits (inner c) right) one-view
             ∙ sym (view-default c (viewOf v) at left right)
             ∙ ap (λ (n : Seen Node). emitsView c (viewOf v) (n .value)) (sym (o .whole))),
       )
@@ -133,22 +123,21 @@ module _ (t : List ℕ) where
       )
 
   -- the head and the properties of any other
-  object-written : {g g₁ g₂ g₃ g₄ : Going} (c c₁ : Place) (d d₁ at q n f x y v mode : ℕ) (rest : Bool) → ObjectOpen t d at
-      → q ≡ onward t at 2 → Wide t q n → f ≡ onward t q 2 → x ≡ f → c₁ ≡ inner c → d₁ ≡ d → mode ≡ cond (eqb v 3) (cond rest 5 3) (cond rest 4 2) → g₃ ≡ g₂
-      → Does g g₁ (say (puts (34 ∷ 1 ∷ []))) → (n < 65536 → Does g₁ g₂ (say (puts (wideBytes n)))) → Sequenced t mode 0 c₁ d₁ false n x y g₃ g₄
+  object-written : {g g₁ g₂ g₃ g₄ : Going} (c c₁ : Place) (d d₁ at q n f x y mode : ℕ) (rest : Bool) → ObjectOpen t d at
+      → q ≡ onward t at 2 → Wide t q n → f ≡ onward t q 2 → x ≡ f → c₁ ≡ inner c → d₁ ≡ d → mode ≡ cond rest 4 2 → g₃ ≡ g₂
+      → Does g g₁ (say (puts (34 ∷ 1 ∷ []))) → (n < 65536 → Does g₁ g₂ (say (puts (wideBytes n)))) → Sequenced t mode c₁ d₁ false n x y g₃ g₄
       → (y ≡ lookItems t (lookNode t d) false (wideAt t (onward t at 2)) (onward t (onward t at 2) 2) .next)
       × Does g g₄ (say (puts (34 ∷ 1 ∷ wideBytes (count (lookItems t (lookNode t d) false (wideAt t (onward t at 2)) (onward t (onward t at 2) 2) .value))))
-      ▷ eachDoes (emitsProperty (inner c) rest (valuesOf (viewOf v))) (lookItems t (lookNode t d) false (wideAt t (onward t at 2)) (onward t (onward t at 2) 2) .value))
-  object-written c c₁ d d₁ at q n f x y v mode rest o eq w ef ex ec ed em eg a b sq =
+      ▷ eachDoes (emitsProperty (inner c) rest replacing) (lookItems t (lookNode t d) false (wideAt t (onward t at 2)) (onward t (onward t at 2) 2) .value))
+  object-written c c₁ d d₁ at q n f x y mode rest o eq w ef ex ec ed em eg a b sq =
       let nn : n ≡ wideAt t (onward t at 2) = w .value ∙ ap (λ (z : ℕ). wideAt t z) eq in
       let ff : x ≡ onward t (onward t at 2) 2 = ex ∙ ef ∙ ap (λ (z : ℕ). onward t z 2) eq in
       let ps : Items = lookItems t (lookNode t d) false (wideAt t (onward t at 2)) (onward t (onward t at 2) 2) .value in
       let small : n < 65536 = subst (λ (z : ℕ). z < 65536) (sym nn) (o .list .small) in
-      let r = sequenced-as t 0 false (cond (eqb v 3) (cond rest 5 3) (cond rest 4 2)) mode (inner c) c₁ d d₁ (wideAt t (onward t at 2)) n (onward t (onward t at 2) 2) x y em ec ed nn ff sq
-      (omega arith) (o .list .good) (suit-properties ps (o .properties) rest v) in
-      let each : Emit = eachDoes (emitsProperty (inner c) rest (valuesOf (viewOf v))) ps in
-      let turns = turns-properties rest v 0 (inner c) ps (look-solid t (lookNode t d) (wideAt t (onward t at 2)) (onward t (onward t at 2) 2))
-      ∙ ap (λ (z : View). eachDoes (emitsProperty (inner c) rest z) ps) (sym (values-of v)) in (
+      let r = sequenced-as t false (cond rest 4 2) mode (inner c) c₁ d d₁ (wideAt t (onward t at 2)) n (onward t (onward t at 2) 2) x y em ec ed nn ff sq
+      (o .list .good) (suit-properties ps (o .properties) rest) in
+      let each : Emit = eachDoes (emitsProperty (inner c) rest replacing) ps in
+      let turns = turns-properties rest (inner c) ps (look-solid t (lookNode t d) (wideAt t (onward t at 2)) (onward t (onward t at 2) 2)) in (
         r .0,
         does-as (does-then a (does-then (b small) (does-from eg (does-as (r .1) turns))))
             (sym (then-assoc (say (puts (34 ∷ 1 ∷ []))) (say (puts (wideBytes n))) each)
@@ -158,27 +147,27 @@ module _ (t : List ℕ) where
 
   -- one without rest
   pub object-plain : {g g₁ g₂ g₃ g₄ : Going} (c c₁ : Place) (d d₁ at q n f x y v mode : ℕ) (rest : Bool) → rest ≡ eqb (byteAt t (onward t at 1) / 2 % 2) 1 → rest ≡ false
-      → q ≡ onward t at 2 → Wide t q n → f ≡ onward t q 2 → x ≡ f → c₁ ≡ inner c → d₁ ≡ d - 1 → mode ≡ cond (eqb v 3) (cond rest 5 3) (cond rest 4 2) → g₃ ≡ g₂
-      → Does g g₁ (say (puts (34 ∷ 1 ∷ []))) → (n < 65536 → Does g₁ g₂ (say (puts (wideBytes n)))) → Sequenced t mode 0 c₁ d₁ false n x y g₃ g₄
+      → q ≡ onward t at 2 → Wide t q n → f ≡ onward t q 2 → x ≡ f → c₁ ≡ inner c → d₁ ≡ d - 1 → mode ≡ cond rest 4 2 → g₃ ≡ g₂
+      → Does g g₁ (say (puts (34 ∷ 1 ∷ []))) → (n < 65536 → Does g₁ g₂ (say (puts (wideBytes n)))) → Sequenced t mode c₁ d₁ false n x y g₃ g₄
       → byteAt t at ≡ 34 → Emitted t d at y g g₄ (emitsView c (viewOf v))
   object-plain c c₁ zero d₁ at q n f x y v mode rest er h eq w ef ex ec ed em eg a b sq e34 good = no-good t at good
   object-plain c c₁ (suc d) d₁ at q n f x y v mode rest er h eq w ef ex ec ed em eg a b sq e34 good =
       let o = object-open t d at good e34 in
       let xd : d₁ ≡ d = omega arith in
       let whole = o .plain (sym er ∙ h) in
-      let r = object-written c c₁ d d₁ at q n f x y v mode rest o eq w ef ex ec xd em eg a b sq in
+      let r = object-written c c₁ d d₁ at q n f x y mode rest o eq w ef ex ec xd em eg a b sq in
       let ps : Items = lookItems t (lookNode t d) false (wideAt t (onward t at 2)) (onward t (onward t at 2) 2) .value in (
         r .0 ∙ sym (ap (λ (n : Seen Node). n .next) whole),
         does-as (r .1)
-            (ap (λ (z : Bool). say (puts (34 ∷ 1 ∷ wideBytes (count ps))) ▷ eachDoes (emitsProperty (inner c) z (valuesOf (viewOf v))) ps) h
+            (ap (λ (z : Bool). say (puts (34 ∷ 1 ∷ wideBytes (count ps))) ▷ eachDoes (emitsProperty (inner c) z replacing) ps) h
             ∙ sym (view-object c (viewOf v) at ps)
             ∙ ap (λ (n : Seen Node). emitsView c (viewOf v) (n .value)) (sym whole)),
       )
 
   -- one with rest, without it
   pub object-rest : {g g₁ g₂ g₃ g₄ g₅ : Going} (c c₁ : Place) (d d₁ e at q n f x y s z v mode : ℕ) (rest : Bool) → rest ≡ eqb (byteAt t (onward t at 1) / 2 % 2) 1 → rest ≡ true → not (takes (viewOf v)) ≡ false
-      → q ≡ onward t at 2 → Wide t q n → f ≡ onward t q 2 → x ≡ f → c₁ ≡ inner c → d₁ ≡ d - 1 → e ≡ d - 1 → mode ≡ cond (eqb v 3) (cond rest 5 3) (cond rest 4 2) → g₃ ≡ g₂
-      → Does g g₁ (say (puts (34 ∷ 1 ∷ []))) → (n < 65536 → Does g₁ g₂ (say (puts (wideBytes n)))) → Sequenced t mode 0 c₁ d₁ false n x y g₃ g₄
+      → q ≡ onward t at 2 → Wide t q n → f ≡ onward t q 2 → x ≡ f → c₁ ≡ inner c → d₁ ≡ d - 1 → e ≡ d - 1 → mode ≡ cond rest 4 2 → g₃ ≡ g₂
+      → Does g g₁ (say (puts (34 ∷ 1 ∷ []))) → (n < 65536 → Does g₁ g₂ (say (puts (wideBytes n)))) → Sequenced t mode c₁ d₁ false n x y g₃ g₄
       → s ≡ lookNode t e y .next → z ≡ s → g₅ ≡ g₄
       → byteAt t at ≡ 34 → Emitted t d at z g g₅ (emitsView c (viewOf v))
   object-rest c c₁ zero d₁ e at q n f x y s z v mode rest er h hb eq w ef ex ec ed ee em eg a k sq es ez eh e34 good = no-good t at good
@@ -187,12 +176,12 @@ module _ (t : List ℕ) where
       let xd : d₁ ≡ d = omega arith in
       let xe : e ≡ d = omega arith in
       let whole = o .resting (sym er ∙ h) in
-      let r = object-written c c₁ d d₁ at q n f x y v mode rest o eq w ef ex ec xd em eg a k sq in
+      let r = object-written c c₁ d d₁ at q n f x y mode rest o eq w ef ex ec xd em eg a k sq in
       let ps : Items = lookItems t (lookNode t d) false (wideAt t (onward t at 2)) (onward t (onward t at 2) 2) .value in
       let last : Node = lookNode t d (lookItems t (lookNode t d) false (wideAt t (onward t at 2)) (onward t (onward t at 2) 2) .next) .value in (
         ez ∙ es ∙ ap (λ (x : ℕ). lookNode t x y .next) xe ∙ ap (λ (x : ℕ). lookNode t d x .next) (r .0) ∙ sym (ap (λ (n : Seen Node). n .next) whole),
         does-to eh (does-as (r .1)
-            (ap (λ (x : Bool). say (puts (34 ∷ 1 ∷ wideBytes (count ps))) ▷ eachDoes (emitsProperty (inner c) x (valuesOf (viewOf v))) ps) h
+            (ap (λ (x : Bool). say (puts (34 ∷ 1 ∷ wideBytes (count ps))) ▷ eachDoes (emitsProperty (inner c) x replacing) ps) h
             ∙ sym (view-rest c (viewOf v) (does-takes (viewOf v) (sym hb)) at ps last)
             ∙ ap (λ (n : Seen Node). emitsView c (viewOf v) (n .value)) (sym whole))),
       )
@@ -202,7 +191,7 @@ module _ (t : List ℕ) where
   module _ (c c₁ : Place) (d d₁ at q n f x y : ℕ) where
     -- the head and the items
     array-written : {g g₁ g₂ : Going} (o : ArrayOpen t d at) → q ≡ onward t at 2 → Wide t q n → f ≡ onward t q 2 → x ≡ f → c₁ ≡ inner c → d₁ ≡ d
-        → Does g g₁ (say (puts (part at f t))) → Sequenced t 1 0 c₁ d₁ true n x y g₁ g₂
+        → Does g g₁ (say (puts (part at f t))) → Sequenced t 1 c₁ d₁ true n x y g₁ g₂
         → (y ≡ lookItems t (lookNode t d) true (wideAt t (onward t at 2)) (onward t (onward t at 2) 2) .next)
         × Does g g₂ (say (puts (36 ∷ cond (eqb (byteAt t (onward t at 1) / 2 % 2) 1) 3 1 ∷ wideBytes (count (lookItems t (lookNode t d) true (wideAt t (onward t at 2)) (onward t (onward t at 2) 2) .value))))
         ▷ eachDoes (emitsView (inner c) replacing) (lookItems t (lookNode t d) true (wideAt t (onward t at 2)) (onward t (onward t at 2) 2) .value))
@@ -211,18 +200,18 @@ module _ (t : List ℕ) where
         let nn : n ≡ wideAt t (onward t at 2) = w .value ∙ ap (λ (z : ℕ). wideAt t z) eq in
         let ff : f ≡ onward t (onward t at 2) 2 = ef ∙ ap (λ (z : ℕ). onward t z 2) eq in
         let ns : Items = lookItems t (lookNode t d) true (wideAt t (onward t at 2)) (onward t (onward t at 2) 2) .value in
-        let r = sequenced-as t 0 true 1 1 (inner c) c₁ d d₁ (wideAt t (onward t at 2)) n (onward t (onward t at 2) 2) x y refl ec ed nn (ex ∙ ff) sq (omega arith) (o .list .good) (suit-1 ns) in (
+        let r = sequenced-as t true 1 1 (inner c) c₁ d d₁ (wideAt t (onward t at 2)) n (onward t (onward t at 2) 2) x y refl ec ed nn (ex ∙ ff) sq (o .list .good) (suit-1 ns) in (
           r .0,
           does-then
               (does-as a
               (ap (λ (z : ℕ). say (puts (part at z t))) ff ∙ ap (λ (bs : List ℕ). say (puts bs)) (o .head)
               ∙ ap (λ (z : ℕ). say (puts (36 ∷ cond bit 3 1 ∷ wideBytes z))) (sym (o .list .many))))
-              (does-as (r .1) (turns-1 0 (inner c) ns)),
+              (does-as (r .1) (turns-1 (inner c) ns)),
         )
 
   pub array-plain : {g g₁ g₂ : Going} (c c₁ : Place) (d d₁ at q n f x y v : ℕ) (b : Bool) → b ≡ eqb (byteAt t (onward t at 1) / 2 % 2) 1 → b ≡ false
       → q ≡ onward t at 2 → Wide t q n → f ≡ onward t q 2 → x ≡ f → c₁ ≡ inner c → d₁ ≡ d - 1
-      → Does g g₁ (say (puts (part at f t))) → Sequenced t 1 0 c₁ d₁ true n x y g₁ g₂
+      → Does g g₁ (say (puts (part at f t))) → Sequenced t 1 c₁ d₁ true n x y g₁ g₂
       → byteAt t at ≡ 36 → Emitted t d at y g g₂ (emitsView c (viewOf v))
   array-plain c c₁ zero d₁ at q n f x y v b eb h eq w ef ex ec ed a sq e36 good = no-good t at good
   array-plain c c₁ (suc d) d₁ at q n f x y v b eb h eq w ef ex ec ed a sq e36 good =
@@ -241,7 +230,7 @@ module _ (t : List ℕ) where
 
   pub array-rest : {g g₁ g₂ g₃ : Going} (c c₁ c₂ : Place) (d d₁ d₂ at q n f x y r v : ℕ) (b : Bool) → b ≡ eqb (byteAt t (onward t at 1) / 2 % 2) 1 → b ≡ true
       → q ≡ onward t at 2 → Wide t q n → f ≡ onward t q 2 → x ≡ f → c₁ ≡ inner c → d₁ ≡ d - 1 → c₂ ≡ inner c → d₂ ≡ d - 1
-      → Does g g₁ (say (puts (part at f t))) → Sequenced t 1 0 c₁ d₁ true n x y g₁ g₂ → Ruled t d₂ y r g₂ g₃ (emits c₂)
+      → Does g g₁ (say (puts (part at f t))) → Sequenced t 1 c₁ d₁ true n x y g₁ g₂ → Ruled t d₂ y r g₂ g₃ (emits c₂)
       → byteAt t at ≡ 36 → Emitted t d at r g g₃ (emitsView c (viewOf v))
   array-rest c c₁ c₂ zero d₁ d₂ at q n f x y r v b eb h eq w ef ex ec ed ec₂ ed₂ a sq k e36 good = no-good t at good
   array-rest c c₁ c₂ (suc d) d₁ d₂ at q n f x y r v b eb h eq w ef ex ec ed ec₂ ed₂ a sq k e36 good =
@@ -265,12 +254,12 @@ module _ (t : List ℕ) where
 
   -- ---- properties: the head, the key, the value, the flags
 
-  pub property-does : {g g₁ g₂ g₃ g₄ : Going} (c c₁ c₂ : Place) (d d₁ d₂ at s u w x e z v : ℕ) (taken : Bool) → s ≡ onward t at 2 → u ≡ s
+  pub property-does : {g g₁ g₂ g₃ g₄ : Going} (c c₁ c₂ : Place) (d d₁ d₂ at s u w x e z : ℕ) (taken : Bool) → s ≡ onward t at 2 → u ≡ s
       → c₁ ≡ inner c → d₁ ≡ d - 1 → c₂ ≡ inner c → d₂ ≡ d - 1 → e ≡ onward t x 1 → z ≡ e
-      → Does g g₁ (say (puts (part at s t))) → Emitted t d₁ u w g₁ g₂ (emitsKey c₁ taken at) → Emitted t d₂ w x g₂ g₃ (emitsView c₂ (viewOf v)) → Does g₃ g₄ (say (puts (part x e t)))
-      → byteAt t at ≡ 35 → Emitted t d at z g g₄ (emitsProperty c taken (viewOf v))
-  property-does c c₁ c₂ zero d₁ d₂ at s u w x e z v taken es eu ec ed ec₂ ed₂ ee ez a k m b e35 good = no-good t at good
-  property-does c c₁ c₂ (suc d) d₁ d₂ at s u w x e z v taken es eu ec ed ec₂ ed₂ ee ez a k m b e35 good =
+      → Does g g₁ (say (puts (part at s t))) → Emitted t d₁ u w g₁ g₂ (emitsKey c₁ taken at) → Emitted t d₂ w x g₂ g₃ (emitsView c₂ (viewOf 1)) → Does g₃ g₄ (say (puts (part x e t)))
+      → byteAt t at ≡ 35 → Emitted t d at z g g₄ (emitsProperty c taken replacing)
+  property-does c c₁ c₂ zero d₁ d₂ at s u w x e z taken es eu ec ed ec₂ ed₂ ee ez a k m b e35 good = no-good t at good
+  property-does c c₁ c₂ (suc d) d₁ d₂ at s u w x e z taken es eu ec ed ec₂ ed₂ ee ez a k m b e35 good =
       let o = property-open t d at good e35 in
       let xd : d₁ ≡ d = omega arith in
       let xd₂ : d₂ ≡ d = omega arith in
@@ -278,14 +267,15 @@ module _ (t : List ℕ) where
       let valueAt : ℕ = lookNode t d keyAt .next in
       let flagsAt : ℕ = lookNode t d valueAt .next in
       let kk = emitted-as (λ c. emitsKey c taken at) (inner c) c₁ d d₁ keyAt u w ec xd (eu ∙ es) k (o .key) in
-      let mm = emitted-as (λ c. emitsView c (viewOf v)) (inner c) c₂ d d₂ valueAt w x ec₂ xd₂ (kk .0) m (o .value) in
+      let mm = emitted-as (λ c. emitsView c (viewOf 1)) (inner c) c₂ d d₂ valueAt w x ec₂ xd₂ (kk .0) m (o .value) in
       let xe : e ≡ onward t flagsAt 1 = ee ∙ ap (λ (y : ℕ). onward t y 1) (mm .0) in
       let hd : say (puts (part at s t)) ≡ say (puts (35 ∷ 7 ∷ [])) = ap (λ (y : ℕ). say (puts (part at y t))) es ∙ ap (λ (bs : List ℕ). say (puts bs)) (o .head) in
       let fl : say (puts (part x e t)) ≡ say (puts (byteAt t flagsAt ∷ [])) = ap₂ (λ (y i : ℕ). say (puts (part y i t))) (mm .0) xe ∙ ap (λ (bs : List ℕ). say (puts bs)) (o .flags) in (
         ez ∙ xe ∙ sym (ap (λ (n : Seen Node). n .next) (o .whole)),
         does-as (does-then (does-as a hd) (does-then (kk .1) (does-then (mm .1) (does-as b fl))))
-            (sym (view-property c taken (viewOf v) at (lookNode t d keyAt .value) (lookNode t d valueAt .value) (byteAt t flagsAt))
-            ∙ ap (λ (n : Seen Node). emitsProperty c taken (viewOf v) (n .value)) (sym (o .whole))),
+            (ap (λ (y : View). say (puts (35 ∷ 7 ∷ [])) ▷ emitsKey (inner c) taken at (lookNode t d keyAt .value) ▷ emitsView (inner c) y (lookNode t d valueAt .value) ▷ say (puts (byteAt t flagsAt ∷ []))) one-view
+            ∙ sym (view-property c taken replacing at (lookNode t d keyAt .value) (lookNode t d valueAt .value) (byteAt t flagsAt))
+            ∙ ap (λ (n : Seen Node). emitsProperty c taken replacing (n .value)) (sym (o .whole))),
       )
 
   -- ---- keys

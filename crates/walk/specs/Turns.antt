@@ -10,7 +10,7 @@ use Rattle.tree.specs.Read.{byteAt}
 use Rattle.tree.specs.Look.{Seen, onward, lookNode}
 use Rattle.lowering.specs.Parts.{is}
 use Rattle.lowering.specs.Made as made
-use Rattle.lowering.specs.Patterns.{value, rest, hasArrayRestOverObjectRest}
+use Rattle.lowering.specs.Patterns.{value, hasArrayRestOverObjectRest}
 use Rattle.lowering.specs.Heads.{movedFrom}
 use Rattle.lowering.specs.Keys.{keySort, entryOf, keyText}
 use Rattle.lowering.proofs.All.{AllItems}
@@ -22,54 +22,52 @@ use Rattle.pattern.specs.declared.source.ReferenceBuilder.{ReferenceBuilder}
 use Rattle.pattern.specs.Source.{readOf}
 use Rattle.direct.specs.Events.{Deed, Place, Emit, puts, excludes, emits}
 use Rattle.direct.specs.Events.Deed.{does}
-use Rattle.direct.specs.Emit.{say, _▷_, inner}
+use Rattle.direct.specs.Emit.{say, _▷_}
 use Rattle.direct.specs.Views.{View, emitsView, emitsProperty}
-use Rattle.direct.specs.Views.View.{replacing, taking, leaving}
+use Rattle.direct.specs.Views.View.{replacing, taking}
 use Rattle.direct.specs.Keys.{stringBytes, emitsExcluded}
-use Rattle.direct.specs.Objects.{overObjects, overRests}
-use Rattle.direct.specs.Handed.{placeMade, keyMade, keysMade, keyBytes, excludesOf, handsKey, handsKeys, handsPlace}
+use Rattle.direct.specs.Objects.{Reach, overObjects, overReached}
+use Rattle.direct.specs.Objects.Reach.{anywhere, straight, inArrays}
+use Rattle.direct.specs.Handed.{placeMade, keyMade, keysMade, keyBytes, excludesOf, handsKey}
 use Rattle.direct.specs.Declared.{emitsKeyValue, emitsFound, emitsDeclarator}
-use Rattle.direct.specs.Assigned.{emitsRestOf, emitsInner}
+use Rattle.direct.specs.Assigned.{emitsInner}
 use Rattle.direct.specs.Moved.{outOf, movedIn, behind}
 use Rattle.walk.specs.declared.look.Start.{Start}
 use Rattle.walk.specs.declared.look.Start.the-variants.{Value, Missing}
 use Rattle.walk.specs.Whole.{holeAt}
 use Rattle.lowering.specs.Keys.Entry.{spelt, itself, omitted, saved}
 
--- a view by its number
+-- a view by its number, and where objects are looked for
 unfoldable pub viewOf : ℕ → View
-viewOf v = cond (eqb v 2) taking (cond (eqb v 3) leaving replacing)
+viewOf v = cond (eqb v 2) taking replacing
 
--- the rest of an object, from the value of the target at x; where x is 16383, no start of a pattern, only what it is assigned to
-unfoldable pub restFrom : Place → ℕ → Node → Emit
-restFrom c x o = cond (eqb x 16383) (emits (inner c) (rest o)) (emitsRestOf c x o)
+unfoldable pub reachOf : ℕ → Reach
+reachOf r = cond (eqb r 2) straight (cond (eqb r 3) inArrays anywhere)
 
 -- ---- modes
 
--- patterns: 1 in the view that replaces, 8 what is found below, 12 and 17 the assignments of objects that were replaced, 16 moved out,
--- 18 the rests of the target at x. Properties: 2 to 5 in a view, 6 an excluded key, 7 a key's value, 9, 13, 14, 15 as 8, 12, 17, 18 for the
--- property's value. 10 a declarator, 11 a parameter or a declarator whose pattern is moved out
-unfoldable pub turnOf : ℕ → ℕ → Place → Node → Emit
-turnOf mode x c n =
+-- patterns: 1 in the view that replaces, 8 what is found below, 12, 17 and 18 the assignments of the objects that are found anywhere, below
+-- arrays, through objects, 16 moved out. Properties: 2 and 4 in a view, 6 an excluded key, 7 a key's value, 9, 13, 14, 15 as 8, 12, 17, 18 for
+-- the property's value. 10 a declarator, 11 a parameter or a declarator whose pattern is moved out
+unfoldable pub turnOf : ℕ → Place → Node → Emit
+turnOf mode c n =
     cond (eqb mode 1) (emitsView c replacing n)
     (cond (eqb mode 2) (emitsProperty c false replacing n)
-    (cond (eqb mode 3) (emitsProperty c false leaving n)
     (cond (eqb mode 4) (emitsProperty c true replacing n)
-    (cond (eqb mode 5) (emitsProperty c true leaving n)
     (cond (eqb mode 6) (emitsExcluded c n)
     (cond (eqb mode 7) (emitsKeyValue c n)
     (cond (eqb mode 8) (emitsFound c n)
     (cond (eqb mode 9) (emitsFound c (value n))
     (cond (eqb mode 10) (emitsDeclarator c n)
     (cond (eqb mode 11) (emits c (behind n))
-    (cond (eqb mode 12) (overObjects (emitsInner c) replacing n)
-    (cond (eqb mode 13) (overObjects (emitsInner c) replacing (value n))
-    (cond (eqb mode 14) (overObjects (emitsInner c) leaving (value n))
-    (cond (eqb mode 15) (overRests (restFrom c x) (value n))
+    (cond (eqb mode 12) (overReached (emitsInner c) anywhere n)
+    (cond (eqb mode 13) (overReached (emitsInner c) anywhere (value n))
+    (cond (eqb mode 14) (overReached (emitsInner c) inArrays (value n))
+    (cond (eqb mode 15) (overReached (emitsInner c) straight (value n))
     (cond (eqb mode 16) (emits c (outOf n))
-    (cond (eqb mode 17) (overObjects (emitsInner c) leaving n)
-    (cond (eqb mode 18) (overRests (restFrom c x) n)
-    (say []))))))))))))))))))
+    (cond (eqb mode 17) (overReached (emitsInner c) inArrays n)
+    (cond (eqb mode 18) (overReached (emitsInner c) straight n)
+    (say []))))))))))))))))
 
 -- those that go below a pattern
 unfoldable pub deepMode : ℕ → Bool
@@ -78,20 +76,20 @@ deepMode mode = eqb mode 8 || (eqb mode 12 || (eqb mode 17 || eqb mode 18))
 -- what may stand in the list: patterns, those without an object rest below an array rest, properties, declarators, parameters or declarators
 unfoldable pub suits : ℕ → Node → Bool
 suits mode n =
-    cond (eqb mode 1 || (eqb mode 8 || (eqb mode 16 || eqb mode 18))) true
-    (cond (eqb mode 12 || eqb mode 17) (not (hasArrayRestOverObjectRest n))
-    (cond (leb 2 mode && leb mode 7 || (eqb mode 9 || eqb mode 15)) (is 35 n)
-    (cond (eqb mode 13 || eqb mode 14) (is 35 n && not (hasArrayRestOverObjectRest (value n)))
+    cond (eqb mode 1 || (eqb mode 8 || eqb mode 16)) true
+    (cond (eqb mode 12 || (eqb mode 17 || eqb mode 18)) (not (hasArrayRestOverObjectRest n))
+    (cond (eqb mode 2 || (eqb mode 4 || (eqb mode 6 || (eqb mode 7 || eqb mode 9)))) (is 35 n)
+    (cond (eqb mode 13 || (eqb mode 14 || eqb mode 15)) (is 35 n && not (hasArrayRestOverObjectRest (value n)))
     (cond (eqb mode 10) (is 5 n) (cond (eqb mode 11) (is 15 n || is 5 n) false)))))
 
 -- a hole is written where the list is
 unfoldable pub holeOf : ℕ → Emit
 holeOf mode = cond (eqb mode 1 || eqb mode 16) (say (does (put 0) ∷ [])) (say [])
 
-unfoldable pub turnsOf : ℕ → ℕ → Place → Items → Emit
-turnsOf mode x c none = say []
-turnsOf mode x c (hole ns) = holeOf mode ▷ turnsOf mode x c ns
-turnsOf mode x c (item n ns) = turnOf mode x c n ▷ turnsOf mode x c ns
+unfoldable pub turnsOf : ℕ → Place → Items → Emit
+turnsOf mode c none = say []
+turnsOf mode c (hole ns) = holeOf mode ▷ turnsOf mode c ns
+turnsOf mode c (item n ns) = turnOf mode c n ▷ turnsOf mode c ns
 
 abbrev pub AllSuit : ℕ → Items → Type 0
 AllSuit mode ns = AllItems (λ n. suits mode n ≡ true) ns
@@ -129,8 +127,8 @@ awaits tree at = eqb (byteAt tree at) 8 && eqb (byteAt tree (onward tree at 1) /
 -- ---- items and what is given
 
 -- an item of a list, or a hole
-unfoldable pub spotDeeds : List ℕ → (ℕ → Seen Node) → ℕ → ℕ → Place → Bool → ℕ → Emit
-spotDeeds tree R mode x c h at = cond (holeAt tree h at) (holeOf mode) (turnOf mode x c (R at .value))
+unfoldable pub spotDeeds : List ℕ → (ℕ → Seen Node) → ℕ → Place → Bool → ℕ → Emit
+spotDeeds tree R mode c h at = cond (holeAt tree h at) (holeOf mode) (turnOf mode c (R at .value))
 
 -- the patterns that are moved out of an item of an array, of a parameter or a declarator
 abbrev pub movesOf : Bool → Node → Items
@@ -157,16 +155,13 @@ blockHead n = puts (2 ∷ 3 ∷ []) ++ (does newMark ∷ puts (wideBytes n))
 
 -- ---- what is handed out for an object, by a mode
 
--- 1 its place is made, 2 its keys are made, 3 its excluded keys go out, 4 the same at root, 5 its place is listed, 6 its keys are listed
+-- 1 its place is made, 2 its keys are made, 3 its excluded keys go out, 4 the same at root
 unfoldable pub ownOf : ℕ → Node → Emit
-ownOf mode o =
-    cond (eqb mode 1) (placeMade o)
-    (cond (eqb mode 2) (keysMade o)
-    (cond (eqb mode 3) (excludesOf false o) (cond (eqb mode 4) (excludesOf true o) (cond (eqb mode 5) (handsPlace o) (handsKeys o)))))
+ownOf mode o = cond (eqb mode 1) (placeMade o) (cond (eqb mode 2) (keysMade o) (cond (eqb mode 3) (excludesOf false o) (excludesOf true o)))
 
--- for all objects that the view replaces; 4 for those with a rest that are reached through objects
+-- for all objects that the view replaces
 unfoldable pub overAll : ℕ → ℕ → Node → Emit
-overAll mode v p = cond (eqb v 4) (overRests (ownOf mode) p) (overObjects (ownOf mode) (viewOf v) p)
+overAll mode v p = overObjects (ownOf mode) (viewOf v) p
 
 -- for a property: 1 its key is made, 3 it is excluded, else it is listed
 unfoldable pub keyOf : ℕ → Node → Emit

@@ -3,19 +3,20 @@ use crate::look::cell;
 use crate::look::has_second;
 use crate::look::hoisted;
 use crate::look::is_other;
-use crate::look::places_in;
-use crate::look::values_of;
 use crate::place::less;
+use crate::target::object_count;
+use crate::target::target_count;
+use crate::target::target_item;
+use crate::target::target_values;
 use crate::walk::Walk;
 use pattern::declarators::is_lowered;
 use pattern::keys::Key;
 use pattern::keys::excluded_keys;
 use pattern::keys::key_temporaries;
 use pattern::keys::transform_property_key;
-use pattern::rests::rests_through_objects;
-use pattern::rests::temporaries_through_objects;
 use pattern::search::has_nested_object_rest;
 use pattern::source::is_name;
+use pattern::tally::plus;
 use tree::bytes::peek;
 use tree::bytes::wide_at;
 use tree::skip::skip;
@@ -33,16 +34,14 @@ ghost use Rattle.lowering.specs.Parts.{is, itemsAt, gather};
 ghost use Rattle.lowering.specs.Patterns.{properties, value};
 ghost use Rattle.lowering.specs.Heads.{movedFrom};
 ghost use Rattle.lowering.proofs.All.{AllItems};
-ghost use Rattle.sink.specs.Machine.Event.{entry, listedTemporary};
 ghost use Rattle.direct.specs.Events as events;
 ghost use Rattle.direct.specs.Events.{lists, excludes};
 ghost use Rattle.direct.specs.Events.Deed.{does};
 ghost use Rattle.direct.specs.Emit.{say, _▷_, inTurn};
 ghost use Rattle.direct.specs.Views.View.{replacing, taking};
 ghost use Rattle.direct.specs.Objects.{overObjects};
-ghost use Rattle.direct.specs.Inner.{otherKeys};
-ghost use Rattle.direct.specs.Counts.{restsCount};
-ghost use Rattle.direct.specs.Handed.{placeMade, keysMade, keyBytesOf, excludesOf, handsKeys, declaratorMade, declaratorExcludes, handsTop, handsNested};
+ghost use Rattle.pattern.specs.Tally.{limited};
+ghost use Rattle.direct.specs.Handed.{placeMade, keysMade, keyBytesOf, excludesOf, handsKeys, declaratorMade, declaratorExcludes, placesIn, partsCount, handsTop, handsNested};
 ghost use Rattle.direct.specs.Moved as moved;
 ghost use Rattle.direct.specs.Moved.{movedIn};
 ghost use Rattle.walk.specs.Run.{goingOf, Does};
@@ -51,9 +50,8 @@ ghost use Rattle.walk.specs.Turns.{viewOf, suits, AllSuit, ownOf, overAl
 
 // ---- over the objects of a pattern
 
-// The objects that the view v replaces (4: those with a rest that are reached through objects), inner ones first, and what is done for each by
-// the mode: 1 its place is made, 2 its keys are made, 3 its excluded keys go out (4 the same at root), 5 its place is listed, 6 its keys
-// are listed.
+// The objects with rest of a declaration that the view v replaces, inner ones first, and what is done for each by the mode: 1 its place is
+// made, 2 its keys are made, 3 its excluded keys go out (4 the same at root).
 pub fn over(
     w: Walk,
     t: &[u8],
@@ -98,12 +96,9 @@ fn values(v: usize) -> usize
 
 // Whether an object has a rest, and the view puts a temporary in its place.
 fn replaces(t: &[u8], at: usize, v: usize) -> bool
-    ensures { λ r. ⌜ r ≡ cond (eqb v 2) false (cond (eqb v 3) false (eqb (byteAt (now (t .entry)) (onward (now (t .entry)) at 1) / 2 % 2) 1)) ⌝ }
+    ensures { λ r. ⌜ r ≡ cond (eqb v 2) false (eqb (byteAt (now (t .entry)) (onward (now (t .entry)) at 1) / 2 % 2) 1) ⌝ }
 {
     if v == 2 {
-        return false;
-    }
-    if v == 3 {
         return false;
     }
     has_second(t, at)
@@ -199,9 +194,6 @@ fn over_array(
     if left == 0 {
         return w;
     }
-    if v == 4 {
-        return w;
-    }
     let q = step(t, at, 2);
     over_items(
         w,
@@ -271,9 +263,7 @@ fn object(
         1 => w.make(work, at),
         2 => each_key(w, t, list, work, left, at, 1),
         3 => exclude(w, t, list, work, left, at, false),
-        4 => exclude(w, t, list, work, left, at, true),
-        5 => w.listed2(list, 5, 1).listed_temporary(list, work, at, 1),
-        _ => each_key(w, t, list, work, left, at, 2),
+        _ => exclude(w, t, list, work, left, at, true),
     }
 }
 
@@ -569,12 +559,13 @@ pub fn top_hands(
 ) -> Walk
     ensures { λ r. ⌜ (r .at ≡ w .at) × ((o : List ℕ) → Good (now (t .entry)) left at → byteAt (now (t .entry)) at ≡ 34 → Does (goingOf o (now (list .entry)) (now (work .entry)) w) (goingOf o (now (list .exit)) (now (work .exit)) r) (handsTop root mark (lookNode (now (t .entry)) left at .value))) ⌝ }
 {
-    let n = temporaries_through_objects(t, left, at);
+    let n = plus(object_count(t, left, at, 2), key_temporaries(t, left, at));
     let u = w.entry(list, mark, 1 + n)
         .listed2(list, 5, 1)
         .listed_temporary(list, work, cell(3, at), 3);
-    let u = over(u, t, list, work, left, at, 4, 6);
-    over(u, t, list, work, left, at, 4, exclude_mode(root))
+    let u = target_values(u, t, list, work, left, at, 2);
+    let u = each_key(u, t, list, work, left, at, 2);
+    exclude(u, t, list, work, left, at, root)
 }
 
 // One to any other target, or to what an assignment leaves of it.
@@ -588,51 +579,34 @@ pub fn nested_hands(
     v: usize,
     mark: usize,
 ) -> Walk
-    ensures { λ r. ⌜ (r .at ≡ w .at) × ((o : List ℕ) → (v ≡ 2 → ⊥) → Good (now (t .entry)) left at → Does (goingOf o (now (list .entry)) (now (work .entry)) w) (goingOf o (now (list .exit)) (now (work .exit)) r) (handsNested (viewOf v) mark (lookNode (now (t .entry)) left at .value))) ⌝ }
+    ensures { λ r. ⌜ (r .at ≡ w .at) × ((o : List ℕ) → Good (now (t .entry)) left at → (v ≡ 2 → byteAt (now (t .entry)) at ≡ 34) → Does (goingOf o (now (list .entry)) (now (work .entry)) w) (goingOf o (now (list .exit)) (now (work .exit)) r) (handsNested (viewOf v) mark (lookNode (now (t .entry)) left at .value))) ⌝ }
 {
-    let n = places_in(t, left, at, v);
-    over(
-        w.entry(list, mark, n),
-        t,
-        list,
-        work,
-        left,
-        at,
-        values_of(v),
-        5,
-    )
-}
-
-// The assignment of an object that was replaced.
-pub fn inner_hands(
-    w: Walk,
-    t: &[u8],
-    list: &mut [u8],
-    work: &mut [u8],
-    left: usize,
-    at: usize,
-    root: bool,
-    mark: usize,
-) -> Walk
-    ensures { λ r. ⌜ (r .at ≡ w .at) × ((o : List ℕ) → Good (now (t .entry)) left at → byteAt (now (t .entry)) at ≡ 34 → Does (goingOf o (now (list .entry)) (now (work .entry)) w) (goingOf o (now (list .exit)) (now (work .exit)) r) (say (does (entry mark (suc (otherKeys (properties (lookNode (now (t .entry)) left at .value))))) ∷ lists (5 ∷ 1 ∷ []) ++ (does (listedTemporary (events.cell 3 at) 3) ∷ [])) ▷ handsKeys (lookNode (now (t .entry)) left at .value) ▷ excludesOf root (lookNode (now (t .entry)) left at .value))) ⌝ }
-{
-    let n = key_temporaries(t, left, at);
-    let u = w.entry(list, mark, 1 + n)
-        .listed2(list, 5, 1)
-        .listed_temporary(list, work, cell(3, at), 3);
-    let u = each_key(u, t, list, work, left, at, 2);
-    exclude(u, t, list, work, left, at, root)
-}
-
-// How many parts the sequence of an assignment has.
-pub fn top_count(t: &[u8], left: usize, at: usize, statement: bool) -> usize
-    ensures { λ r. ⌜ (Good (now (t .entry)) left at → r ≡ suc (suc (cond statement (restsCount (lookNode (now (t .entry)) left at .value)) (suc (restsCount (lookNode (now (t .entry)) left at .value)))))) × (r < 65540) ⌝ }
-{
-    let n = rests_through_objects(t, left, at);
-    if statement {
-        return 2 + n;
+    let u = w.entry(list, mark, places_in(t, left, at, v));
+    if v == 2 {
+        return target_values(u, t, list, work, left, at, 3);
     }
-    3 + n
+    target_item(u, t, list, work, left, at, 1)
+}
+
+// How many objects of a target the nested rule replaces.
+pub fn places_in(t: &[u8], left: usize, at: usize, v: usize) -> usize
+    ensures { λ r. ⌜ ((v ≡ 2 → byteAt (now (t .entry)) at ≡ 34) → r ≡ limited (placesIn (viewOf v) (lookNode (now (t .entry)) left at .value))) ⌝ }
+{
+    if v == 2 {
+        return object_count(t, left, at, 3);
+    }
+    target_count(t, left, at, 1)
+}
+
+// How long the sequence of an assignment is.
+pub fn top_count(t: &[u8], left: usize, at: usize, statement: bool) -> usize
+    ensures { λ r. ⌜ (Good (now (t .entry)) left at → byteAt (now (t .entry)) at ≡ 34 → r ≡ suc (suc (suc (cond statement (partsCount (lookNode (now (t .entry)) left at .value)) (suc (partsCount (lookNode (now (t .entry)) left at .value))))))) × (r < 65541) ⌝ }
+{
+    let n = object_count(t, left, at, 2);
+    if statement {
+        return 3 + n;
+    }
+    4 + n
 }
 
 // A place for each pattern that is moved out of parameters or declarators.

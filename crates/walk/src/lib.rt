@@ -4,4 +4,5 @@ pub mod literal;
 pub mod look;
 pub mod pieces;
 pub mod place;
+pub mod target;
 pub mod walk;

@@ -4,9 +4,6 @@ use pattern::keys::all_primitive;
 use pattern::keys::has_no_properties;
 use pattern::keys::transform_property_key;
 use pattern::moves::moved_from;
-use pattern::parts;
-use pattern::rests;
-use pattern::search::has_nested_object_rest;
 use pattern::tally::plus;
 use tree::bytes::peek;
 use tree::skip::skip;
@@ -24,9 +21,7 @@ ghost use Rattle.pattern.specs.Tally.{limited};
 ghost use Rattle.direct.specs.Events as events;
 ghost use Rattle.direct.specs.Views.{isOther, takes};
 ghost use Rattle.direct.specs.Keys.{hoists};
-ghost use Rattle.direct.specs.Handed.{placesIn};
 ghost use Rattle.direct.specs.Moved.{number};
-ghost use Rattle.direct.specs.Assigned.{restInArrays};
 ghost use Rattle.walk.specs.Turns.{viewOf, keyClass, levelOf, startOf};
 
 // The first bit of the bit map of the node at a position, and the second.
@@ -48,16 +43,10 @@ pub fn has_second(t: &[u8], at: usize) -> bool
     second(t, at) == 1
 }
 
-// The modes that go with a view and with a mode.
-pub fn property_mode(rest: bool, v: usize) -> usize
-    ensures { λ r. ⌜ r ≡ cond (eqb v 3) (cond rest 5 3) (cond rest 4 2) ⌝ }
+// The modes of a turn: of a property in a view, of a property's value, of an item.
+pub fn property_mode(rest: bool) -> usize
+    ensures { λ r. ⌜ r ≡ cond rest 4 2 ⌝ }
 {
-    if v == 3 {
-        if rest {
-            return 5;
-        }
-        return 3;
-    }
     if rest {
         return 4;
     }
@@ -71,19 +60,7 @@ pub fn replaces(v: usize) -> bool
     if v == 2 {
         return false;
     }
-    if v == 3 {
-        return false;
-    }
     true
-}
-
-pub fn values_of(v: usize) -> usize
-    ensures { λ r. ⌜ r ≡ cond (eqb v 3) 3 1 ⌝ }
-{
-    if v == 3 {
-        return 3;
-    }
-    1
 }
 
 pub fn value_mode(mode: usize) -> usize
@@ -103,15 +80,6 @@ pub fn item_mode(mode: usize) -> usize
 {
     if mode == 8 {
         return 8;
-    }
-    12
-}
-
-pub fn inner_mode(v: usize) -> usize
-    ensures { λ r. ⌜ r ≡ cond (eqb v 3) 17 12 ⌝ }
-{
-    if v == 3 {
-        return 17;
     }
     12
 }
@@ -195,81 +163,6 @@ pub fn start_of(t: &[u8], left: usize, at: usize) -> Start
         return Start::Value(skip(t, left - 1, step(t, at, 2)));
     }
     Start::Missing
-}
-
-// Whether an object rest is left when those reached through objects are taken.
-pub fn rest_in_arrays(t: &[u8], left: usize, at: usize) -> bool
-    ensures { λ r. ⌜ r ≡ restInArrays (lookNode (now (t .entry)) left at .value) ⌝ }
-{
-    if left == 0 {
-        return false;
-    }
-    let below = left - 1;
-    let kind = peek(t, at);
-    match kind {
-        34 => {
-            let run = parts::list(t, left, at, 0);
-            let mut n = run.count;
-            let mut p = run.from;
-            while 0 < n {
-                let v = parts::child(t, below, p, 1);
-                if rest_in_arrays(t, v.left, v.at) {
-                    return true;
-                }
-                p = skip(t, below, p);
-                n -= 1;
-            }
-            false
-        }
-        36 => has_nested_object_rest(t, left, at),
-        37 => {
-            let l = parts::child(t, left, at, 0);
-            rest_in_arrays(t, l.left, l.at)
-        }
-        _ => false,
-    }
-}
-
-// How many objects a view replaces.
-pub fn places_in(t: &[u8], left: usize, at: usize, v: usize) -> usize
-    ensures { λ r. ⌜ ((v ≡ 2 → ⊥) → r ≡ limited (placesIn (viewOf v) (lookNode (now (t .entry)) left at .value))) ⌝ }
-{
-    if v == 3 {
-        return places_left(t, left, at);
-    }
-    rests::objects_below(t, left, at)
-}
-
-// Those below arrays.
-fn places_left(t: &[u8], left: usize, at: usize) -> usize
-    ensures { λ r. ⌜ r ≡ limited (placesIn (viewOf 3) (lookNode (now (t .entry)) left at .value)) ⌝ }
-{
-    if left == 0 {
-        return 0;
-    }
-    let below = left - 1;
-    let kind = peek(t, at);
-    match kind {
-        34 => {
-            let run = parts::list(t, left, at, 0);
-            let mut n = run.count;
-            let mut p = run.from;
-            let mut k = 0;
-            while 0 < n {
-                let v = parts::child(t, below, p, 1);
-                k = plus(k, places_left(t, v.left, v.at));
-                p = skip(t, below, p);
-                n -= 1;
-            }
-            k
-        }
-        36 => rests::objects_below(t, left, at),
-        37 => {
-            let l = parts::child(t, left, at, 0);
-            places_left(t, l.left, l.at)
-        }
-        _ => 0,
-    }
 }
 
 // How many patterns are moved out of parameters or declarators.

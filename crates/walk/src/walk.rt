@@ -48,17 +48,6 @@ impl Walk {
         false
     }
 
-    // The start of a target whose value is to be read; 16383, where no pattern starts, once the tree is full.
-    pub fn target(self, p: usize) -> usize
-        ensures { λ r. ⌜ r ≡ cond (ltb treeLimit (self .sink .tree)) 16383 p ⌝ }
-    {
-        let k = self.sink;
-        if k.full() {
-            return 16383;
-        }
-        p
-    }
-
     pub fn put2(self, out: &mut [u8], a: u8, b: u8) -> Walk
         ensures { λ r. ⌜ ((l w : List ℕ) → Does (goingOf (now (out .entry)) l w self) (goingOf (now (out .exit)) l w r) (say (puts (a ∷ b ∷ [])))) × (r .at ≡ self .at) ⌝ }
     {

@@ -29,8 +29,8 @@ const BASE_DEPTH: u32 = 64;
 const RETIRED: u8 = 8;
 /// The files of the requests that are in force: those in `tests/data`, and those that hold as they are elsewhere.
 /// `tools/cases.py` says of all of them what holds.
-const REQUESTS: [&str; 2] = ["classes", "stems"];
-const WHOLE: [&str; 3] = ["cr12", "cr4", "cr5"];
+const REQUESTS: [&str; 3] = ["classes", "parts", "stems"];
+const WHOLE: [&str; 3] = ["cr12", "cr5", "cr6"];
 /// A part of a file that holds no longer, by the first words of its head.
 const NO_LONGER: &str = "---- with temporaries, while request 4 is not in force";
 

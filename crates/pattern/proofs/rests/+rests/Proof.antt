@@ -21,61 +21,58 @@ use Rattle.pattern.proofs.rests.+rests.{statement}
 use Rattle.pattern.proofs.rests.+rests.Tie.{close}
 
 abbrev μ-rests : Measures 1 rests-kinds.ps ℕ
-μ-rests κs a = a .1 .1 .0
+μ-rests κs a = a .1 .0
 
 abbrev rests-claims : ℕ → rests-lts.Claims
 rests-claims t = (none-reads.Asked, none-reads.Learnt, peek-reads.Asked, peek-reads.Learnt, list-reads.Asked, list-reads.Learnt, child-reads.Asked, child-reads.Learnt, below-measure rests-kinds.ps μ-rests rests.Pre t, rests.Post, both-reads.Asked, both-reads.Learnt, skip-reads.Asked, skip-reads.Learnt, own-reads.Asked, own-reads.Learnt, item-reads.Asked, item-reads.Learnt, skip-item-reads.Asked, skip-item-reads.Learnt)
 
 abbrev rests-Inv-loop : rests-lts.InvT-loop
-rests-Inv-loop tree arrays left at below kind n₀ p₀ t₀ n p t = law.ValuesLeft tree arrays left at below n p t
+rests-Inv-loop tree left at below kind n₀ p₀ t₀ n p t = law.ValuesLeft tree left at below n p t
 
 abbrev rests-μ-loop : rests-lts.MeasureT-loop
-rests-μ-loop tree arrays left at below kind n₀ p₀ t₀ n p t = n
+rests-μ-loop tree left at below kind n₀ p₀ t₀ n p t = n
 
 abbrev rests-Inv-loop2 : rests-lts.InvT-loop2
-rests-Inv-loop2 tree arrays left at below kind n₀ p₀ t₀ n p t = law.ItemsLeft tree arrays left at below n p t
+rests-Inv-loop2 tree left at below kind n₀ p₀ t₀ n p t = law.ItemsLeft tree left at below n p t
 
 abbrev rests-μ-loop2 : rests-lts.MeasureT-loop2
-rests-μ-loop2 tree arrays left at below kind n₀ p₀ t₀ n p t = n
+rests-μ-loop2 tree left at below kind n₀ p₀ t₀ n p t = n
 
 rests-returns : (t : ℕ) → rests-lts.Need-returns (rests-claims t) (at-measure rests-kinds.ps μ-rests rests.Pre t) rests.Post rests-Inv-loop rests-μ-loop rests-Inv-loop2 rests-μ-loop2
-rests-returns t c = λ k. law.rests-none _ k _ _ _ _ (c .before .if1 .taken) (c .none .ensures)
+rests-returns t c = λ k. law.rests-none _ k _ _ _ (c .before .if1 .taken) (c .none .ensures)
 
 rests-loop-holds : (t : ℕ) → rests-lts.Need-loop-holds (rests-claims t) (at-measure rests-kinds.ps μ-rests rests.Pre t) rests.Post rests-Inv-loop rests-μ-loop rests-Inv-loop2 rests-μ-loop2
-rests-loop-holds t c = law.values-start _ _ _ _ (c .before .before .before .before .if1 .left) (c .before .before .before .peek .ensures .value) _ _ _ (c .before .before .match .keys1) (c .before .list .ensures) (c .none2 .ensures)
+rests-loop-holds t c = law.values-start _ _ _ _ (c .before .before .before .before .if1 .left) (c .before .before .before .peek .ensures .value) _ _ (c .before .before .match .keys1) (c .before .list .ensures) (c .none2 .ensures)
 
 rests-rests-requires : (t : ℕ) → rests-lts.Need-rests-requires (rests-claims t) (at-measure rests-kinds.ps μ-rests rests.Pre t) rests.Post rests-Inv-loop rests-μ-loop rests-Inv-loop2 rests-μ-loop2
 rests-rests-requires t c κs = (let h = search.value-falls _ _ _ _ (c .before .before .before .before .before .before .before .if1 .left) (c .child .ensures) in omega (arith, c .before .before .before .before .before .before .before .before .before .pre .0), tt)
 
 rests-loop-again : (t : ℕ) → rests-lts.Need-loop-again (rests-claims t) (at-measure rests-kinds.ps μ-rests rests.Pre t) rests.Post rests-Inv-loop rests-μ-loop rests-Inv-loop2 rests-μ-loop2
-rests-loop-again t c = law.value-more _ _ _ _ _ _ _ _ _ _ _ _ (c .before .before .before .before .loop-test .taken) (c .before .before .before .child .ensures) (c .before .before .rests .ensures) (c .skip .ensures) (c .before .both .ensures) (c .before .before .before .before .before .loop .inv)
+rests-loop-again t c = law.value-more _ _ _ _ _ _ _ _ _ _ _ (c .before .before .before .before .loop-test .taken) (c .before .before .before .child .ensures) (c .before .before .rests .ensures) (c .skip .ensures) (c .before .both .ensures) (c .before .before .before .before .before .loop .inv)
 
 rests-loop2-holds : (t : ℕ) → rests-lts.Need-loop2-holds (rests-claims t) (at-measure rests-kinds.ps μ-rests rests.Pre t) rests.Post rests-Inv-loop rests-μ-loop rests-Inv-loop2 rests-μ-loop2
-rests-loop2-holds t c = law.items-start _ _ _ _ (c .before .before .before .before .before .if1 .left) (c .before .before .before .before .peek .ensures .value) _ _ _ (c .before .before .before .match .keys2) (c .before .list2 .ensures) (c .none3 .ensures)
+rests-loop2-holds t c = law.items-start _ _ _ _ (c .before .before .before .before .if1 .left) (c .before .before .before .peek .ensures .value) _ _ (c .before .before .match .keys2) (c .before .list2 .ensures) (c .none3 .ensures)
 
 rests-rests-requires-2 : (t : ℕ) → rests-lts.Need-rests-requires-2 (rests-claims t) (at-measure rests-kinds.ps μ-rests rests.Pre t) rests.Post rests-Inv-loop rests-μ-loop rests-Inv-loop2 rests-μ-loop2
-rests-rests-requires-2 t c κs = (let h = search.item-falls _ _ _ true _ (c .before .before .before .before .before .before .before .before .if1 .left) (c .item .ensures) in omega (arith, c .before .before .before .before .before .before .before .before .before .before .pre .0), tt)
+rests-rests-requires-2 t c κs = (let h = search.item-falls _ _ _ true _ (c .before .before .before .before .before .before .before .if1 .left) (c .item .ensures) in omega (arith, c .before .before .before .before .before .before .before .before .before .pre .0), tt)
 
 rests-loop2-again : (t : ℕ) → rests-lts.Need-loop2-again (rests-claims t) (at-measure rests-kinds.ps μ-rests rests.Pre t) rests.Post rests-Inv-loop rests-μ-loop rests-Inv-loop2 rests-μ-loop2
-rests-loop2-again t c = law.item-more _ _ _ _ _ _ _ _ _ _ _ _ (c .before .before .before .before .loop2-test .taken) (c .before .before .before .item .ensures) (c .before .before .rests2 .ensures) (c .skip-item .ensures) (c .before .both3 .ensures) (c .before .before .before .before .before .loop2 .inv)
-
-rests-returns-2 : (t : ℕ) → rests-lts.Need-returns-2 (rests-claims t) (at-measure rests-kinds.ps μ-rests rests.Pre t) rests.Post rests-Inv-loop rests-μ-loop rests-Inv-loop2 rests-μ-loop2
-rests-returns-2 t c = λ k. law.array-end _ _ _ _ (c .before .before .before .before .before .before .before .if1 .left) (c .before .before .before .before .before .before .peek .ensures .value) k _ _ _ _ _ (c .before .before .before .before .before .match .keys2) (c .before .before .before .before .if2 .taken) (c .loop2-test .left) (c .before .loop2 .inv)
+rests-loop2-again t c = law.item-more _ _ _ _ _ _ _ _ _ _ _ (c .before .before .before .before .loop2-test .taken) (c .before .before .before .item .ensures) (c .before .before .rests2 .ensures) (c .skip-item .ensures) (c .before .both3 .ensures) (c .before .before .before .before .before .loop2 .inv)
 
 rests-rests-requires-3 : (t : ℕ) → rests-lts.Need-rests-requires-3 (rests-claims t) (at-measure rests-kinds.ps μ-rests rests.Pre t) rests.Post rests-Inv-loop rests-μ-loop rests-Inv-loop2 rests-μ-loop2
 rests-rests-requires-3 t c κs = (let h = search.part-falls _ _ _ 0 _ (c .before .before .before .if1 .left) (c .child2 .ensures) in omega (arith, c .before .before .before .before .before .pre .0), tt)
 
+rests-returns-2 : (t : ℕ) → rests-lts.Need-returns-2 (rests-claims t) (at-measure rests-kinds.ps μ-rests rests.Pre t) rests.Post rests-Inv-loop rests-μ-loop rests-Inv-loop2 rests-μ-loop2
+rests-returns-2 t c = λ k. law.object-end _ _ _ _ (c .before .before .before .before .before .before .before .before .if1 .left) (c .before .before .before .before .before .before .before .peek .ensures .value) k _ _ _ _ _ _ (c .before .before .before .before .before .before .match .keys1) (c .before .before .loop-test .left) (c .before .before .before .loop .inv) (c .before .own .ensures) (c .both2 .ensures)
+
 rests-returns-3 : (t : ℕ) → rests-lts.Need-returns-3 (rests-claims t) (at-measure rests-kinds.ps μ-rests rests.Pre t) rests.Post rests-Inv-loop rests-μ-loop rests-Inv-loop2 rests-μ-loop2
-rests-returns-3 t c = λ k. law.object-end _ _ _ _ (c .before .before .before .before .before .before .before .before .if1 .left) (c .before .before .before .before .before .before .before .peek .ensures .value) k _ _ _ _ _ _ _ (c .before .before .before .before .before .before .match .keys1) (c .before .before .loop-test .left) (c .before .before .before .loop .inv) (c .before .own .ensures) (c .both2 .ensures)
+rests-returns-3 t c = λ k. law.array-end _ _ _ _ (c .before .before .before .before .before .before .if1 .left) (c .before .before .before .before .before .peek .ensures .value) k _ _ _ _ (c .before .before .before .before .match .keys2) (c .loop2-test .left) (c .before .loop2 .inv)
 
 rests-returns-4 : (t : ℕ) → rests-lts.Need-returns-4 (rests-claims t) (at-measure rests-kinds.ps μ-rests rests.Pre t) rests.Post rests-Inv-loop rests-μ-loop rests-Inv-loop2 rests-μ-loop2
-rests-returns-4 t c = λ k. law.array-unentered _ _ _ _ (c .before .before .before .before .if1 .left) (c .before .before .before .peek .ensures .value) k _ _ (c .before .before .match .keys2) (c .before .if2 .left) (c .none4 .ensures)
+rests-returns-4 t c = λ k. law.default-left _ _ _ _ (c .before .before .before .before .if1 .left) (c .before .before .before .peek .ensures .value) k _ _ (c .before .before .match .keys3) (c .before .child2 .ensures) (c .rests3 .ensures)
 
 rests-returns-5 : (t : ℕ) → rests-lts.Need-returns-5 (rests-claims t) (at-measure rests-kinds.ps μ-rests rests.Pre t) rests.Post rests-Inv-loop rests-μ-loop rests-Inv-loop2 rests-μ-loop2
-rests-returns-5 t c = λ k. law.default-left _ _ _ _ (c .before .before .before .before .if1 .left) (c .before .before .before .peek .ensures .value) k _ _ _ (c .before .before .match .keys3) (c .before .child2 .ensures) (c .rests3 .ensures)
-
-rests-returns-6 : (t : ℕ) → rests-lts.Need-returns-6 (rests-claims t) (at-measure rests-kinds.ps μ-rests rests.Pre t) rests.Post rests-Inv-loop rests-μ-loop rests-Inv-loop2 rests-μ-loop2
-rests-returns-6 t c = λ k. law.leaf-none _ _ _ _ (c .before .before .before .if1 .left) (c .before .before .peek .ensures .value) k _ _ (c .before .match .rest .0 .0 .1) (c .before .match .rest .0 .1) (c .before .match .rest .1) (c .none5 .ensures)
+rests-returns-5 t c = λ k. law.leaf-none _ _ _ _ (c .before .before .before .if1 .left) (c .before .before .peek .ensures .value) k _ (c .before .match .rest .0 .0 .1) (c .before .match .rest .0 .1) (c .before .match .rest .1) (c .none4 .ensures)
 
 pub +rests-spec : {M : Type 1} → statement M
 +rests-spec = close μ-rests λ t. rests-lts.spec (rests-claims t) (at-measure rests-kinds.ps μ-rests rests.Pre t) rests.Post
@@ -109,12 +106,10 @@ pub +rests-spec : {M : Type 1} → statement M
     (λ c. omega arith)
     (λ c. omega arith)
     (rests-loop2-again t)
-    (rests-returns-2 t)
-    (λ c κs. tt)
     (λ c κs. tt)
     (rests-rests-requires-3 t)
     (λ c κs. tt)
+    (rests-returns-2 t)
     (rests-returns-3 t)
     (rests-returns-4 t)
     (rests-returns-5 t)
-    (rests-returns-6 t)

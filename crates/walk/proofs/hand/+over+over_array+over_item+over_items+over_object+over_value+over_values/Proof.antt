@@ -97,10 +97,7 @@ over-array-returns : (t : ℕ) → cycle.Lts-over_array.Need-returns (over-array
 over-array-returns t c = (refl, λ o g k. good-none _ _ _ (c .if1 .taken) g)
 
 over-array-returns-2 : (t : ℕ) → cycle.Lts-over_array.Need-returns-2 (over-array-claims t) (at-measure over-array.Kinds.ps μ-over-array over-array.Reads.Pre t) over-array.Reads.Post
-over-array-returns-2 t c = (refl, λ o g k. law.array-left _ _ _ _ _ (c .if2 .taken) g k)
-
-over-array-returns-3 : (t : ℕ) → cycle.Lts-over_array.Need-returns-3 (over-array-claims t) (at-measure over-array.Kinds.ps μ-over-array over-array.Reads.Pre t) over-array.Reads.Post
-over-array-returns-3 t c = (c .before .before .before .before .over-items .ensures .0, λ o g k. law.array-does _ _ _ _ _ _ _ (c .before .before .before .before .before .before .before .less .ensures) (c .before .before .before .before .before .before .before .before .before .before .step .ensures) (c .before .before .before .before .before .before .step2 .ensures) (c .before .before .before .before .before .wide-at .ensures) _ _ (c .before .before .before .before .before .before .before .before .before .before .before .if2 .left) (c .before .before .before .before .over-items .ensures .1 o) g k)
+over-array-returns-2 t c = (c .before .before .before .before .over-items .ensures .0, λ o g k. law.array-does _ _ _ _ _ _ _ (c .before .before .before .before .before .before .before .less .ensures) (c .before .before .before .before .before .before .before .before .before .before .step .ensures) (c .before .before .before .before .before .before .step2 .ensures) (c .before .before .before .before .before .wide-at .ensures) _ _ (c .before .before .before .before .over-items .ensures .1 o) g k)
 
 over-item-returns : (t : ℕ) → cycle.Lts-over_item.Need-returns (over-item-claims t) (at-measure over-item.Kinds.ps μ-over-item over-item.Reads.Pre t) over-item.Reads.Post
 over-item-returns t c = (refl, λ o g. law.hole-does _ _ _ _ (c .before .peek .ensures) (c .if1 .taken))
@@ -204,15 +201,14 @@ pub +over+over-array+over-item+over-items+over-object+over-value+over-values-spe
     (over-returns-5 t))
     (λ t. cycle.Lts-over_array.spec (over-array-claims t) (at-measure over-array.Kinds.ps μ-over-array over-array.Reads.Pre t) over-array.Reads.Post
     (over-array-returns t)
-    (over-array-returns-2 t)
     (λ c κs. tt)
     (λ c κs. tt)
     (λ c κs. tt)
     (λ c κs. tt)
-    (λ c κs. (omega (arith, c .before .before .before .before .before .before .before .before .before .before .before .pre .0, c .before .before .less .ensures, c .before .before .before .before .before .before .before .if1 .left), tt))
+    (λ c κs. (omega (arith, c .before .before .before .before .before .before .before .before .before .before .pre .0, c .before .before .less .ensures, c .before .before .before .before .before .before .if1 .left), tt))
     (λ c. search needs)
     (λ c. search needs)
-    (over-array-returns-3 t))
+    (over-array-returns-2 t))
     (λ t. cycle.Lts-over_item.spec (over-item-claims t) (at-measure over-item.Kinds.ps μ-over-item over-item.Reads.Pre t) over-item.Reads.Post
     (λ c κs. tt)
     (over-item-returns t)

@@ -14,21 +14,12 @@ returns-3 : tie.Need-returns-3
 returns-3 c = (c .before .before .before .before .exclude .ensures .0, λ o g k. law.object-excludes _ _ _ _ (c .before .before .before .before .before .before .before .match .keys3) (c .before .before .before .before .exclude .ensures .1 o g k))
 
 returns-4 : tie.Need-returns-4
-returns-4 c = (c .before .before .before .before .exclude2 .ensures .0, λ o g k. law.object-excludes-root _ _ _ _ (c .before .before .before .before .before .before .before .match .keys4) (c .before .before .before .before .exclude2 .ensures .1 o g k))
-
-returns-5 : tie.Need-returns-5
-returns-5 c = (c .before .before .before .before .listed-temporary .ensures .1 ∙ c .before .before .before .before .before .before .before .before .before .listed2 .ensures .1, λ o g k. law.object-listed _ _ _ _ (c .before .before .before .before .before .before .before .before .before .before .before .match .keys5) (c .before .before .before .before .before .before .before .before .before .listed2 .ensures .0 o _) (c .before .before .before .before .listed-temporary .ensures .0 o))
-
-returns-6 : tie.Need-returns-6
-returns-6 c = (c .before .before .before .before .each-key2 .ensures .0, λ o g k. law.object-hands _ _ _ _ (c .before .before .before .before .before .before .before .match .rest .0 .0 .0 .0 .1) (c .before .before .before .before .before .before .before .match .rest .0 .0 .0 .1) (c .before .before .before .before .before .before .before .match .rest .0 .0 .1) (c .before .before .before .before .before .before .before .match .rest .0 .1) (c .before .before .before .before .before .before .before .match .rest .1) (c .before .before .before .before .each-key2 .ensures .1 o g k))
+returns-4 c = (c .before .before .before .before .exclude2 .ensures .0, λ o g k. law.object-excludes-root _ _ _ _ (c .before .before .before .before .before .before .before .match .rest .0 .0 .1) (c .before .before .before .before .before .before .before .match .rest .0 .1) (c .before .before .before .before .before .before .before .match .rest .1) (c .before .before .before .before .exclude2 .ensures .1 o g k))
 
 pub object-spec : {M : Type 1} → statement M
 object-spec =
     tie.close
     (tie.spec
-    (λ c κs. search needs)
-    (λ c κs. search needs)
-    (λ c κs. search needs)
     (λ c κs. search needs)
     (λ c κs. search needs)
     (λ c κs. search needs)
@@ -43,10 +34,4 @@ object-spec =
     returns-3
     (λ c. search needs)
     (λ c. search needs)
-    returns-4
-    (λ c. search needs)
-    (λ c. search needs)
-    returns-5
-    (λ c. search needs)
-    (λ c. search needs)
-    returns-6)
+    returns-4)

@@ -7,10 +7,7 @@ returns : tie.Need-returns
 returns c = law.replaces-taking _ _ (c .if1 .taken)
 
 returns-2 : tie.Need-returns-2
-returns-2 c = law.replaces-leaving _ _ (c .before .if1 .left) (c .if2 .taken)
-
-returns-3 : tie.Need-returns-3
-returns-3 c = law.replaces-rest _ _ _ (c .before .before .if1 .left) (c .before .if2 .left) (c .has-second .ensures)
+returns-2 c = law.replaces-rest _ _ _ (c .before .if1 .left) (c .has-second .ensures)
 
 pub replaces-spec : {M : Type 1} → statement M
-replaces-spec = tie.close (tie.spec returns returns-2 (λ c κs. search needs) returns-3)
+replaces-spec = tie.close (tie.spec returns (λ c κs. search needs) returns-2)

@@ -1,15 +1,12 @@
 use Rattle.walk.proofs.look.replaces.Statement.{statement}
 use Rattle.walk.proofs.look.replaces.Tie as tie
-use Rattle.walk.proofs.Viewing.{replaces-2, replaces-3, replaces-else}
+use Rattle.walk.proofs.Viewing.{replaces-2, replaces-else}
 
 returns : tie.Need-returns
 returns c = replaces-2 _ (c .if1 .taken)
 
 returns-2 : tie.Need-returns-2
-returns-2 c = replaces-3 _ (c .if2 .taken)
-
-returns-3 : tie.Need-returns-3
-returns-3 c = replaces-else _ (c .before .if1 .left) (c .if2 .left)
+returns-2 c = replaces-else _ (c .if1 .left)
 
 pub replaces-spec : {M : Type 1} → statement M
-replaces-spec = tie.close (tie.spec returns returns-2 returns-3)
+replaces-spec = tie.close (tie.spec returns returns-2)

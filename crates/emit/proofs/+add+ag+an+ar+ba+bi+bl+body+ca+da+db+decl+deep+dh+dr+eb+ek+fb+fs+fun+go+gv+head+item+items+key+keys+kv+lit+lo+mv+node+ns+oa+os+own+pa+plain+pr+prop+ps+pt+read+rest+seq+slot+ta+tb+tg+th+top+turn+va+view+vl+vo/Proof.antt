@@ -1,10 +1,10 @@
-use Prim.Native.Nat.{ℕ, _<_, _≤_, _+_, _*_}
+use Prim.Native.Nat.{ℕ, _<_, _≤_, _+_, _-_, _*_, min}
 use borrow.Fn.PlainCycle.{Measures}
 use Rattle.tree.proofs.Cycle.{at-measure, below-measure}
 use lib.ListN.{length}
 use borrow.Author.Needs.{needs}
 use native.Mathlib.Omega.{arith}
-use mathlib.Core.Bool.{false, false≢true}
+use mathlib.Core.Bool.{true, false, false≢true}
 use mathlib.Core.Logic.{⊎-elim}
 use mathlib.Core.Path.{_≡_, refl, sym, _∙_}
 use Rattle.walk.specs.Whole.{placeOf, holeAt, GoodItems, GoodFields, Good}
@@ -37,7 +37,6 @@ use Rattle.walk.proofs.literal.run_of.Reads as run-of-reads
 use Rattle.walk.proofs.walk.Walk.copy.Reads as copy-reads
 use Rattle.walk.proofs.walk.Walk.to.Reads as to-reads
 use Rattle.walk.proofs.walk.Walk.passes.Reads as passes-reads
-use Rattle.walk.proofs.walk.Walk.target.Reads as target-reads
 use Rattle.walk.proofs.KeysOnceFull as walked
 use Rattle.tree.proofs.bytes.peek.Reads as peek-reads
 use Rattle.tree.proofs.bytes.wide_at.Reads as wide-at-reads
@@ -61,7 +60,6 @@ use Rattle.walk.proofs.look.is_other.Reads as is-other-reads
 use Rattle.walk.proofs.look.key_sort.Reads as key-sort-reads
 use Rattle.walk.proofs.look.property_mode.Reads as property-mode-reads
 use Rattle.walk.proofs.look.replaces.Reads as replaces-reads
-use Rattle.walk.proofs.look.values_of.Reads as values-of-reads
 use Rattle.walk.proofs.walk.Walk.call.Reads as call-reads
 use Rattle.walk.proofs.walk.Walk.empty_rest.Reads as empty-rest-reads
 use Rattle.walk.proofs.walk.Walk.mapped.Reads as mapped-reads
@@ -89,15 +87,12 @@ use Rattle.walk.proofs.walk.Walk.new_mark.Reads as new-mark-reads
 use Rattle.walk.proofs.walk.Walk.refuse.Reads as refuse-reads
 use Rattle.emit.proofs.Assigning as assigning
 use Rattle.pattern.proofs.keys.lacks_form.Reads as lacks-form-reads
-use Rattle.pattern.proofs.rests.through_objects_lacks_form.Reads as through-objects-lacks-form-reads
 use Rattle.pattern.proofs.tally.plus.Reads as plus-reads
-use Rattle.walk.proofs.hand.inner_hands.Reads as inner-hands-reads
 use Rattle.walk.proofs.hand.nested_hands.Reads as nested-hands-reads
+use Rattle.walk.proofs.hand.places_in.Reads as places-in-reads
+use Rattle.walk.proofs.target.object_count.Reads as object-count-reads
 use Rattle.walk.proofs.hand.top_count.Reads as top-count-reads
 use Rattle.walk.proofs.hand.top_hands.Reads as top-hands-reads
-use Rattle.walk.proofs.look.inner_mode.Reads as inner-mode-reads
-use Rattle.walk.proofs.look.places_in.Reads as places-in-reads
-use Rattle.walk.proofs.look.rest_in_arrays.Reads as rest-in-arrays-reads
 use Rattle.walk.proofs.walk.Walk.assign.Reads as assign-reads
 use Rattle.emit.proofs.MovedPatterns as moving
 use Rattle.emit.proofs.Bodying as bodying
@@ -144,7 +139,6 @@ use Rattle.emit.proofs.go as go
 use Rattle.emit.proofs.head as head
 use Rattle.emit.proofs.item as item
 use Rattle.emit.proofs.items as items
-use Rattle.emit.proofs.ip as ip
 use Rattle.emit.proofs.key as key
 use Rattle.emit.proofs.keys as keys
 use Rattle.emit.proofs.kv as kv
@@ -158,12 +152,12 @@ use Rattle.emit.proofs.os as os
 use Rattle.emit.proofs.own as own
 use Rattle.emit.proofs.pa as pa
 use Rattle.emit.proofs.plain as plain
+use Rattle.emit.proofs.pr as pr
 use Rattle.emit.proofs.prop as prop
 use Rattle.emit.proofs.pt as pt
 use Rattle.emit.proofs.ps as ps
 use Rattle.emit.proofs.read as read
 use Rattle.emit.proofs.rest as rest
-use Rattle.emit.proofs.ro as ro
 use Rattle.emit.proofs.seq as seq
 use Rattle.emit.proofs.slot as slot
 use Rattle.emit.proofs.tb as tb
@@ -175,7 +169,7 @@ use Rattle.emit.proofs.vl as vl
 use Rattle.emit.proofs.va as va
 use Rattle.emit.proofs.view as view
 use Rattle.emit.proofs.vo as vo
-use Rattle.emit.proofs.+add+ag+an+ar+ba+bi+bl+body+ca+da+db+decl+deep+dh+dr+eb+ek+fb+fs+fun+go+gv+head+ip+item+items+key+keys+kv+lit+lo+mv+node+ns+oa+os+own+pa+plain+prop+ps+pt+read+rest+ro+seq+slot+ta+tb+tg+th+top+turn+va+view+vl+vo as cycle
+use Rattle.emit.proofs.+add+ag+an+ar+ba+bi+bl+body+ca+da+db+decl+deep+dh+dr+eb+ek+fb+fs+fun+go+gv+head+item+items+key+keys+kv+lit+lo+mv+node+ns+oa+os+own+pa+plain+pr+prop+ps+pt+read+rest+seq+slot+ta+tb+tg+th+top+turn+va+view+vl+vo as cycle
 
 abbrev μ-add : Measures 4 add.Kinds.ps ℕ
 μ-add κs a = 131072 * (64 * a .1 .1 .1 .1 .1 .0 .left + 36)
@@ -255,9 +249,6 @@ abbrev μ-item : Measures 4 item.Kinds.ps ℕ
 abbrev μ-items : Measures 4 items.Kinds.ps ℕ
 μ-items κs a = 131072 * (64 * a .1 .1 .1 .1 .1 .0 .left + 48)
 
-abbrev μ-ip : Measures 4 ip.Kinds.ps ℕ
-μ-ip κs a = 131072 * (64 * a .1 .1 .1 .1 .1 .0 .left + 30)
-
 abbrev μ-key : Measures 4 key.Kinds.ps ℕ
 μ-key κs a = 131072 * (64 * a .1 .1 .1 .1 .1 .0 .left + 28)
 
@@ -279,8 +270,9 @@ abbrev μ-mv : Measures 4 mv.Kinds.ps ℕ
 abbrev μ-node : Measures 4 node.Kinds.ps ℕ
 μ-node κs a = 131072 * (64 * a .1 .1 .1 .1 .1 .0 .left + 20)
 
+-- the target without its rest is below an object that is found, so the rank goes by the view
 abbrev μ-ns : Measures 4 ns.Kinds.ps ℕ
-μ-ns κs a = 131072 * (64 * a .1 .1 .1 .1 .1 .0 .left + 39)
+μ-ns κs a = 131072 * (64 * a .1 .1 .1 .1 .1 .0 .left + (29 + 10 * min 1 ((a .1 .1 .1 .1 .1 .1 .0 - 2) + (2 - a .1 .1 .1 .1 .1 .1 .0))))
 
 abbrev μ-oa : Measures 4 oa.Kinds.ps ℕ
 μ-oa κs a = 131072 * (64 * a .1 .1 .1 .1 .1 .0 .left + 29)
@@ -297,6 +289,9 @@ abbrev μ-pa : Measures 4 pa.Kinds.ps ℕ
 abbrev μ-plain : Measures 4 plain.Kinds.ps ℕ
 μ-plain κs a = 131072 * (64 * a .1 .1 .1 .1 .1 .0 .left + 10)
 
+abbrev μ-pr : Measures 4 pr.Kinds.ps ℕ
+μ-pr κs a = 131072 * (64 * a .1 .1 .1 .1 .1 .0 .left + 27)
+
 abbrev μ-prop : Measures 4 prop.Kinds.ps ℕ
 μ-prop κs a = 131072 * (64 * a .1 .1 .1 .1 .1 .0 .left + 44)
 
@@ -312,9 +307,6 @@ abbrev μ-read : Measures 4 read.Kinds.ps ℕ
 abbrev μ-rest : Measures 4 rest.Kinds.ps ℕ
 μ-rest κs a = 131072 * (64 * a .1 .1 .1 .1 .1 .0 .left + 28)
 
-abbrev μ-ro : Measures 4 ro.Kinds.ps ℕ
-μ-ro κs a = 131072 * (64 * a .1 .1 .1 .1 .1 .0 .left + 30)
-
 abbrev μ-seq : Measures 4 seq.Kinds.ps ℕ
 μ-seq κs a = 131072 * (64 * a .1 .1 .1 .1 .1 .0 .left + 46)
 
@@ -325,13 +317,13 @@ abbrev μ-tb : Measures 4 tb.Kinds.ps ℕ
 μ-tb κs a = 131072 * (64 * a .1 .1 .1 .1 .1 .0 .left + 51)
 
 abbrev μ-tg : Measures 4 tg.Kinds.ps ℕ
-μ-tg κs a = 131072 * (64 * a .1 .1 .1 .1 .1 .0 .left + 40)
+μ-tg κs a = 131072 * (64 * a .1 .1 .1 .1 .1 .0 .left + 30)
 
 abbrev μ-th : Measures 4 th.Kinds.ps ℕ
 μ-th κs a = 131072 * (64 * a .1 .1 .1 .1 .1 .0 .left + 18)
 
 abbrev μ-top : Measures 4 top.Kinds.ps ℕ
-μ-top κs a = 131072 * (64 * a .1 .1 .1 .1 .1 .0 .left + 41)
+μ-top κs a = 131072 * (64 * a .1 .1 .1 .1 .1 .0 .left + 31)
 
 abbrev μ-turn : Measures 4 turn.Kinds.ps ℕ
 μ-turn κs a = 131072 * (64 * a .1 .1 .1 .1 .1 .0 .left + 45)
@@ -391,7 +383,7 @@ abbrev dh-claims : ℕ → cycle.Lts-dh.Claims
 dh-claims t = (less-reads.Asked, less-reads.Learnt, step-reads.Asked, step-reads.Learnt, wide-at-reads.Asked, wide-at-reads.Learnt, moves-make-reads.Asked, moves-make-reads.Learnt, copy-reads.Asked, copy-reads.Learnt, scoped-reads.Asked, scoped-reads.Learnt, below-measure seq.Kinds.ps μ-seq seq.Reads.Pre t, seq.Reads.Post, below-measure node.Kinds.ps μ-node node.Reads.Pre t, node.Reads.Post, below-measure bl.Kinds.ps μ-bl bl.Reads.Pre t, bl.Reads.Post, await-of-reads.Asked, await-of-reads.Learnt)
 
 abbrev db-claims : ℕ → cycle.Lts-db.Claims
-db-claims t = (below-measure fb.Kinds.ps μ-fb fb.Reads.Pre t, fb.Reads.Post, less-reads.Asked, less-reads.Learnt, step-reads.Asked, step-reads.Learnt, wide-at-reads.Asked, wide-at-reads.Learnt, to-reads.Asked, to-reads.Learnt, under-reads.Asked, under-reads.Learnt, value-mode-reads.Asked, value-mode-reads.Learnt, below-measure seq.Kinds.ps μ-seq seq.Reads.Pre t, seq.Reads.Post, has-second-reads.Asked, has-second-reads.Learnt, skip-reads.Asked, skip-reads.Learnt, below-measure ip.Kinds.ps μ-ip ip.Reads.Pre t, ip.Reads.Post, below-measure ro.Kinds.ps μ-ro ro.Reads.Pre t, ro.Reads.Post)
+db-claims t = (below-measure fb.Kinds.ps μ-fb fb.Reads.Pre t, fb.Reads.Post, has-second-reads.Asked, has-second-reads.Learnt, skip-reads.Asked, skip-reads.Learnt, to-reads.Asked, to-reads.Learnt, inside-reads.Asked, inside-reads.Learnt, cell-reads.Asked, cell-reads.Learnt, below-measure top.Kinds.ps μ-top top.Reads.Pre t, top.Reads.Post, value-mode-reads.Asked, value-mode-reads.Learnt, below-measure pr.Kinds.ps μ-pr pr.Reads.Pre t, pr.Reads.Post)
 
 abbrev dr-claims : ℕ → cycle.Lts-dr.Claims
 dr-claims t = (less-reads.Asked, less-reads.Learnt, step-reads.Asked, step-reads.Learnt, start-of-reads.Asked, start-of-reads.Learnt, inside-reads.Asked, inside-reads.Learnt, below-measure node.Kinds.ps μ-node node.Reads.Pre t, node.Reads.Post, has-nested-object-rest-reads.Asked, has-nested-object-rest-reads.Learnt, skip-reads.Asked, skip-reads.Learnt, cell-reads.Asked, cell-reads.Learnt, new-reads.Asked, new-reads.Learnt, under-reads.Asked, under-reads.Learnt, below-measure lo.Kinds.ps μ-lo lo.Reads.Pre t, lo.Reads.Post, to-reads.Asked, to-reads.Learnt)
@@ -426,9 +418,6 @@ item-claims t = (peek-reads.Asked, peek-reads.Learnt, step-reads.Asked, step-rea
 abbrev items-claims : ℕ → cycle.Lts-items.Claims
 items-claims t = (below-measure item.Kinds.ps μ-item item.Reads.Pre t, item.Reads.Post)
 
-abbrev ip-claims : ℕ → cycle.Lts-ip.Claims
-ip-claims t = (lacks-form-reads.Asked, lacks-form-reads.Learnt, refuse-reads.Asked, refuse-reads.Learnt, inside-reads.Asked, inside-reads.Learnt, inner-hands-reads.Asked, inner-hands-reads.Learnt, put2-reads.Asked, put2-reads.Learnt, wide-reads.Asked, wide-reads.Learnt, assign-reads.Asked, assign-reads.Learnt, cell-reads.Asked, cell-reads.Learnt, temporary-reads.Asked, temporary-reads.Learnt, to-reads.Asked, to-reads.Learnt, below-measure view.Kinds.ps μ-view view.Reads.Pre t, view.Reads.Post, less-reads.Asked, less-reads.Learnt, below-measure node.Kinds.ps μ-node node.Reads.Pre t, node.Reads.Post, cell-source-reads.Asked, cell-source-reads.Learnt, below-measure rest.Kinds.ps μ-rest rest.Reads.Pre t, rest.Reads.Post)
-
 abbrev key-claims : ℕ → cycle.Lts-key.Claims
 key-claims t = (is-other-reads.Asked, is-other-reads.Learnt, temporary-reads.Asked, temporary-reads.Learnt, skip-reads.Asked, skip-reads.Learnt, to-reads.Asked, to-reads.Learnt, below-measure node.Kinds.ps μ-node node.Reads.Pre t, node.Reads.Post)
 
@@ -451,7 +440,7 @@ abbrev node-claims : ℕ → cycle.Lts-node.Claims
 node-claims t = (quiet-reads.Asked, quiet-reads.Learnt, skip-reads.Asked, skip-reads.Learnt, copy-reads.Asked, copy-reads.Learnt, peek-reads.Asked, peek-reads.Learnt, below-measure decl.Kinds.ps μ-decl decl.Reads.Pre t, decl.Reads.Post, below-measure head.Kinds.ps μ-head head.Reads.Pre t, head.Reads.Post, below-measure ca.Kinds.ps μ-ca ca.Reads.Pre t, ca.Reads.Post, below-measure fun.Kinds.ps μ-fun fun.Reads.Pre t, fun.Reads.Post, below-measure ar.Kinds.ps μ-ar ar.Reads.Pre t, ar.Reads.Post, below-measure lit.Kinds.ps μ-lit lit.Reads.Pre t, lit.Reads.Post, below-measure ag.Kinds.ps μ-ag ag.Reads.Pre t, ag.Reads.Post, below-measure plain.Kinds.ps μ-plain plain.Reads.Pre t, plain.Reads.Post)
 
 abbrev ns-claims : ℕ → cycle.Lts-ns.Claims
-ns-claims t = (places-in-reads.Asked, places-in-reads.Learnt, nested-hands-reads.Asked, nested-hands-reads.Learnt, put2-reads.Asked, put2-reads.Learnt, plus-reads.Asked, plus-reads.Learnt, wide-reads.Asked, wide-reads.Learnt, assign-reads.Asked, assign-reads.Learnt, to-reads.Asked, to-reads.Learnt, inside-reads.Asked, inside-reads.Learnt, below-measure view.Kinds.ps μ-view view.Reads.Pre t, view.Reads.Post, below-measure gv.Kinds.ps μ-gv gv.Reads.Pre t, gv.Reads.Post, inner-mode-reads.Asked, inner-mode-reads.Learnt, below-measure deep.Kinds.ps μ-deep deep.Reads.Pre t, deep.Reads.Post)
+ns-claims t = (places-in-reads.Asked, places-in-reads.Learnt, nested-hands-reads.Asked, nested-hands-reads.Learnt, put2-reads.Asked, put2-reads.Learnt, plus-reads.Asked, plus-reads.Learnt, wide-reads.Asked, wide-reads.Learnt, assign-reads.Asked, assign-reads.Learnt, to-reads.Asked, to-reads.Learnt, inside-reads.Asked, inside-reads.Learnt, below-measure view.Kinds.ps μ-view view.Reads.Pre t, view.Reads.Post, below-measure gv.Kinds.ps μ-gv gv.Reads.Pre t, gv.Reads.Post, below-measure pr.Kinds.ps μ-pr pr.Reads.Pre t, pr.Reads.Post, below-measure deep.Kinds.ps μ-deep deep.Reads.Pre t, deep.Reads.Post)
 
 abbrev oa-claims : ℕ → cycle.Lts-oa.Claims
 oa-claims t = (has-no-properties-reads.Asked, has-no-properties-reads.Learnt, put2-reads.Asked, put2-reads.Learnt, inside-reads.Asked, inside-reads.Learnt, below-measure view.Kinds.ps μ-view view.Reads.Pre t, view.Reads.Post, source-reads.Asked, source-reads.Learnt, to-reads.Asked, to-reads.Learnt)
@@ -468,6 +457,9 @@ pa-claims t = (peek-reads.Asked, peek-reads.Learnt, step-reads.Asked, step-reads
 abbrev plain-claims : ℕ → cycle.Lts-plain.Claims
 plain-claims t = (peek-reads.Asked, peek-reads.Learnt, step-reads.Asked, step-reads.Learnt, copy-reads.Asked, copy-reads.Learnt, parts-of-reads.Asked, parts-of-reads.Learnt, below-measure fs.Kinds.ps μ-fs fs.Reads.Pre t, fs.Reads.Post, skip-reads.Asked, skip-reads.Learnt, to-reads.Asked, to-reads.Learnt, row-reads.Asked, row-reads.Learnt, container-reads.Asked, container-reads.Learnt)
 
+abbrev pr-claims : ℕ → cycle.Lts-pr.Claims
+pr-claims t = (step-reads.Asked, step-reads.Learnt, wide-at-reads.Asked, wide-at-reads.Learnt, to-reads.Asked, to-reads.Learnt, less-reads.Asked, less-reads.Learnt, under-reads.Asked, under-reads.Learnt, below-measure seq.Kinds.ps μ-seq seq.Reads.Pre t, seq.Reads.Post)
+
 abbrev prop-claims : ℕ → cycle.Lts-prop.Claims
 prop-claims t = (less-reads.Asked, less-reads.Learnt, step-reads.Asked, step-reads.Learnt, copy-reads.Asked, copy-reads.Learnt, inside-reads.Asked, inside-reads.Learnt, below-measure key.Kinds.ps μ-key key.Reads.Pre t, key.Reads.Post, below-measure view.Kinds.ps μ-view view.Reads.Pre t, view.Reads.Post)
 
@@ -483,9 +475,6 @@ read-claims t = (hoisted-reads.Asked, hoisted-reads.Learnt, cell-reads.Asked, ce
 abbrev rest-claims : ℕ → cycle.Lts-rest.Claims
 rest-claims t = (passes-reads.Asked, passes-reads.Learnt, has-no-properties-reads.Asked, has-no-properties-reads.Learnt, empty-rest-reads.Asked, empty-rest-reads.Learnt, source-reads.Asked, source-reads.Learnt, call-reads.Asked, call-reads.Learnt, inside-reads.Asked, inside-reads.Learnt, below-measure read.Kinds.ps μ-read read.Reads.Pre t, read.Reads.Post)
 
-abbrev ro-claims : ℕ → cycle.Lts-ro.Claims
-ro-claims t = (to-reads.Asked, to-reads.Learnt, less-reads.Asked, less-reads.Learnt, inside-reads.Asked, inside-reads.Learnt, below-measure node.Kinds.ps μ-node node.Reads.Pre t, node.Reads.Post, assign-reads.Asked, assign-reads.Learnt, cell-reads.Asked, cell-reads.Learnt, cell-source-reads.Asked, cell-source-reads.Learnt, below-measure rest.Kinds.ps μ-rest rest.Reads.Pre t, rest.Reads.Post)
-
 abbrev seq-claims : ℕ → cycle.Lts-seq.Claims
 seq-claims t = (below-measure turn.Kinds.ps μ-turn turn.Reads.Pre t, turn.Reads.Post)
 
@@ -496,13 +485,13 @@ abbrev tb-claims : ℕ → cycle.Lts-tb.Claims
 tb-claims t = (peek-reads.Asked, peek-reads.Learnt, step-reads.Asked, step-reads.Learnt, wide-at-reads.Asked, wide-at-reads.Learnt, copy-reads.Asked, copy-reads.Learnt, wide-reads.Asked, wide-reads.Learnt, scoped-reads.Asked, scoped-reads.Learnt, below-measure ta.Kinds.ps μ-ta ta.Reads.Pre t, ta.Reads.Post, to-reads.Asked, to-reads.Learnt, less-reads.Asked, less-reads.Learnt, below-measure items.Kinds.ps μ-items items.Reads.Pre t, items.Reads.Post, block-reads.Asked, block-reads.Learnt, skip-reads.Asked, skip-reads.Learnt, below-measure item.Kinds.ps μ-item item.Reads.Pre t, item.Reads.Post)
 
 abbrev tg-claims : ℕ → cycle.Lts-tg.Claims
-tg-claims t = (inside-reads.Asked, inside-reads.Learnt, rest-in-arrays-reads.Asked, rest-in-arrays-reads.Learnt, cell-reads.Asked, cell-reads.Learnt, below-measure ns.Kinds.ps μ-ns ns.Reads.Pre t, ns.Reads.Post, assign-reads.Asked, assign-reads.Learnt, to-reads.Asked, to-reads.Learnt, below-measure view.Kinds.ps μ-view view.Reads.Pre t, view.Reads.Post, temporary-reads.Asked, temporary-reads.Learnt)
+tg-claims t = (inside-reads.Asked, inside-reads.Learnt, object-count-reads.Asked, object-count-reads.Learnt, cell-reads.Asked, cell-reads.Learnt, below-measure ns.Kinds.ps μ-ns ns.Reads.Pre t, ns.Reads.Post, assign-reads.Asked, assign-reads.Learnt, to-reads.Asked, to-reads.Learnt, below-measure view.Kinds.ps μ-view view.Reads.Pre t, view.Reads.Post, temporary-reads.Asked, temporary-reads.Learnt)
 
 abbrev th-claims : ℕ → cycle.Lts-th.Claims
 th-claims t = (less-reads.Asked, less-reads.Learnt, step-reads.Asked, step-reads.Learnt, scoped-reads.Asked, scoped-reads.Learnt, make-reads.Asked, make-reads.Learnt, copy-reads.Asked, copy-reads.Learnt, declaration-reads.Asked, declaration-reads.Learnt, put2-reads.Asked, put2-reads.Learnt, temporary-reads.Asked, temporary-reads.Learnt, skip-reads.Asked, skip-reads.Learnt, to-reads.Asked, to-reads.Learnt, below-measure node.Kinds.ps μ-node node.Reads.Pre t, node.Reads.Post, below-measure tb.Kinds.ps μ-tb tb.Reads.Pre t, tb.Reads.Post, await-of-reads.Asked, await-of-reads.Learnt)
 
 abbrev top-claims : ℕ → cycle.Lts-top.Claims
-top-claims t = (through-objects-lacks-form-reads.Asked, through-objects-lacks-form-reads.Learnt, refuse-reads.Asked, refuse-reads.Learnt, top-hands-reads.Asked, top-hands-reads.Learnt, top-count-reads.Asked, top-count-reads.Learnt, put2-reads.Asked, put2-reads.Learnt, wide-reads.Asked, wide-reads.Learnt, assign-reads.Asked, assign-reads.Learnt, cell-reads.Asked, cell-reads.Learnt, temporary-reads.Asked, temporary-reads.Learnt, inside-reads.Asked, inside-reads.Learnt, below-measure gv.Kinds.ps μ-gv gv.Reads.Pre t, gv.Reads.Post, below-measure tg.Kinds.ps μ-tg tg.Reads.Pre t, tg.Reads.Post, to-reads.Asked, to-reads.Learnt, target-reads.Asked, target-reads.Learnt, below-measure deep.Kinds.ps μ-deep deep.Reads.Pre t, deep.Reads.Post)
+top-claims t = (lacks-form-reads.Asked, lacks-form-reads.Learnt, refuse-reads.Asked, refuse-reads.Learnt, inside-reads.Asked, inside-reads.Learnt, top-hands-reads.Asked, top-hands-reads.Learnt, top-count-reads.Asked, top-count-reads.Learnt, put2-reads.Asked, put2-reads.Learnt, wide-reads.Asked, wide-reads.Learnt, assign-reads.Asked, assign-reads.Learnt, cell-reads.Asked, cell-reads.Learnt, temporary-reads.Asked, temporary-reads.Learnt, below-measure gv.Kinds.ps μ-gv gv.Reads.Pre t, gv.Reads.Post, below-measure tg.Kinds.ps μ-tg tg.Reads.Pre t, tg.Reads.Post, below-measure pr.Kinds.ps μ-pr pr.Reads.Pre t, pr.Reads.Post, less-reads.Asked, less-reads.Learnt, below-measure node.Kinds.ps μ-node node.Reads.Pre t, node.Reads.Post, cell-source-reads.Asked, cell-source-reads.Learnt, below-measure rest.Kinds.ps μ-rest rest.Reads.Pre t, rest.Reads.Post)
 
 abbrev turn-claims : ℕ → cycle.Lts-turn.Claims
 turn-claims t = (peek-reads.Asked, peek-reads.Learnt, hole-reads.Asked, hole-reads.Learnt, below-measure view.Kinds.ps μ-view view.Reads.Pre t, view.Reads.Post, below-measure prop.Kinds.ps μ-prop prop.Reads.Pre t, prop.Reads.Post, below-measure ek.Kinds.ps μ-ek ek.Reads.Pre t, ek.Reads.Post, below-measure kv.Kinds.ps μ-kv kv.Reads.Pre t, kv.Reads.Post, below-measure vl.Kinds.ps μ-vl vl.Reads.Pre t, vl.Reads.Post, below-measure dr.Kinds.ps μ-dr dr.Reads.Pre t, dr.Reads.Post, below-measure bi.Kinds.ps μ-bi bi.Reads.Pre t, bi.Reads.Post, below-measure go.Kinds.ps μ-go go.Reads.Pre t, go.Reads.Post, below-measure deep.Kinds.ps μ-deep deep.Reads.Pre t, deep.Reads.Post)
@@ -514,7 +503,7 @@ abbrev va-claims : ℕ → cycle.Lts-va.Claims
 va-claims t = (less-reads.Asked, less-reads.Learnt, step-reads.Asked, step-reads.Learnt, wide-at-reads.Asked, wide-at-reads.Learnt, copy-reads.Asked, copy-reads.Learnt, inside-reads.Asked, inside-reads.Learnt, below-measure seq.Kinds.ps μ-seq seq.Reads.Pre t, seq.Reads.Post, has-second-reads.Asked, has-second-reads.Learnt, below-measure node.Kinds.ps μ-node node.Reads.Pre t, node.Reads.Post)
 
 abbrev view-claims : ℕ → cycle.Lts-view.Claims
-view-claims t = (peek-reads.Asked, peek-reads.Learnt, below-measure vo.Kinds.ps μ-vo vo.Reads.Pre t, vo.Reads.Post, below-measure va.Kinds.ps μ-va va.Reads.Pre t, va.Reads.Post, less-reads.Asked, less-reads.Learnt, step-reads.Asked, step-reads.Learnt, copy-reads.Asked, copy-reads.Learnt, inside-reads.Asked, inside-reads.Learnt, values-of-reads.Asked, values-of-reads.Learnt, below-measure view.Kinds.ps μ-view view.Reads.Pre t, view.Reads.Post, below-measure node.Kinds.ps μ-node node.Reads.Pre t, node.Reads.Post)
+view-claims t = (peek-reads.Asked, peek-reads.Learnt, below-measure vo.Kinds.ps μ-vo vo.Reads.Pre t, vo.Reads.Post, below-measure va.Kinds.ps μ-va va.Reads.Pre t, va.Reads.Post, less-reads.Asked, less-reads.Learnt, step-reads.Asked, step-reads.Learnt, copy-reads.Asked, copy-reads.Learnt, inside-reads.Asked, inside-reads.Learnt, below-measure view.Kinds.ps μ-view view.Reads.Pre t, view.Reads.Post, below-measure node.Kinds.ps μ-node node.Reads.Pre t, node.Reads.Post)
 
 abbrev vo-claims : ℕ → cycle.Lts-vo.Claims
 vo-claims t = (less-reads.Asked, less-reads.Learnt, has-second-reads.Asked, has-second-reads.Learnt, replaces-reads.Asked, replaces-reads.Learnt, temporary-reads.Asked, temporary-reads.Learnt, skip-reads.Asked, skip-reads.Learnt, to-reads.Asked, to-reads.Learnt, step-reads.Asked, step-reads.Learnt, wide-at-reads.Asked, wide-at-reads.Learnt, put2-reads.Asked, put2-reads.Learnt, wide-reads.Asked, wide-reads.Learnt, inside-reads.Asked, inside-reads.Learnt, property-mode-reads.Asked, property-mode-reads.Learnt, below-measure seq.Kinds.ps μ-seq seq.Reads.Pre t, seq.Reads.Post)
@@ -645,10 +634,10 @@ da-returns : (t : ℕ) → cycle.Lts-da.Need-returns (da-claims t) (at-measure d
 da-returns t c = λ k good mode suit. good-none _ _ _ (c .if1 .taken) good
 
 da-returns-2 : (t : ℕ) → cycle.Lts-da.Need-returns-2 (da-claims t) (at-measure da.Kinds.ps μ-da da.Reads.Pre t) da.Reads.Post
-da-returns-2 t c = finding.array-taken _ _ _ _ _ _ _ _ (c .before .before .skip .ensures) (c .before .if2 .taken) (c .to .ensures .1) (c .to .ensures .0 _ _ _)
+da-returns-2 t c = finding.array-taken _ _ _ _ _ _ _ (c .before .before .skip .ensures) (c .before .if2 .taken) (c .to .ensures .1) (c .to .ensures .0 _ _ _)
 
 da-returns-3 : (t : ℕ) → cycle.Lts-da.Need-returns-3 (da-claims t) (at-measure da.Kinds.ps μ-da da.Reads.Pre t) da.Reads.Post
-da-returns-3 t c = finding.array-items _ _ _ _ _ _ _ _ _ _ _ _ _ _ _ _ _ (c .before .before .before .before .before .before .before .before .before .before .before .before .before .before .before .before .before .before .before .skip .ensures) (c .before .before .before .before .before .before .before .before .before .before .before .before .before .before .before .before .before .before .if2 .left) (c .before .before .before .before .before .before .before .before .before .before .before .before .before .before .before .before .before .step .ensures) (c .before .before .before .before .before .before .before .before .before .before .before .before .before .before .before .before .wide-at .ensures) (c .before .before .before .before .before .before .before .before .before .before .before .before .before .before .before .step2 .ensures) (c .before .before .before .before .before .before .before .before .before .before .before .before .before .before .to2 .ensures .1) (c .before .before .before .before .before .before .before .before .before .before .before .before .before .before .to2 .ensures .0 _ _ _) (c .before .before .before .before .before .before .before .before .before .before .less .ensures) (c .before .before .before .before .before .before .before .before .before .under .ensures .1) (c .before .before .before .before .before .before .before .before .before .under .ensures .0) (c .before .before .before .before .before .before .before .before .item-mode .ensures) (c .before .before .before .before .before .before .before .seq .ensures) (c .to3 .ensures .1) (c .to3 .ensures .0 _ _ _)
+da-returns-3 t c = finding.array-items _ _ _ _ _ _ _ _ _ _ _ _ _ _ _ _ (c .before .before .before .before .before .before .before .before .before .before .before .before .before .before .before .before .before .before .before .skip .ensures) (c .before .before .before .before .before .before .before .before .before .before .before .before .before .before .before .before .before .before .if2 .left) (c .before .before .before .before .before .before .before .before .before .before .before .before .before .before .before .before .before .step .ensures) (c .before .before .before .before .before .before .before .before .before .before .before .before .before .before .before .before .wide-at .ensures) (c .before .before .before .before .before .before .before .before .before .before .before .before .before .before .before .step2 .ensures) (c .before .before .before .before .before .before .before .before .before .before .before .before .before .before .to2 .ensures .1) (c .before .before .before .before .before .before .before .before .before .before .before .before .before .before .to2 .ensures .0 _ _ _) (c .before .before .before .before .before .before .before .before .before .before .less .ensures) (c .before .before .before .before .before .before .before .before .before .under .ensures .1) (c .before .before .before .before .before .before .before .before .before .under .ensures .0) (c .before .before .before .before .before .before .before .before .item-mode .ensures) (c .before .before .before .before .before .before .before .seq .ensures) (c .to3 .ensures .1) (c .to3 .ensures .0 _ _ _)
 
 decl-returns : (t : ℕ) → cycle.Lts-decl.Need-returns (decl-claims t) (at-measure decl.Kinds.ps μ-decl decl.Reads.Pre t) decl.Reads.Post
 decl-returns t c = λ k. (node-none _ _ _ (c .if1 .taken), λ good. good-none _ _ _ (c .if1 .taken) good)
@@ -660,19 +649,19 @@ decl-returns-3 : (t : ℕ) → cycle.Lts-decl.Need-returns-3 (decl-claims t) (at
 decl-returns-3 t c = declaring.declaration-writes _ _ _ _ _ _ _ _ _ _ _ _ _ _ _ _ _ (c .before .before .before .before .before .before .before .before .before .before .before .before .before .before .before .before .before .before .before .before .before .before .before .before .before .before .before .before .before .before .before .before .before .before .before .declaration-lacks-form .ensures) (c .before .before .before .before .before .before .before .before .before .before .before .before .before .before .before .before .before .before .before .before .before .before .before .before .before .before .before .before .before .before .before .before .before .before .if2 .left) (c .before .before .before .before .before .before .before .before .before .before .before .before .before .before .before .before .before .before .before .before .before .before .before .before .before .before .before .before .before .before .before .declaration-hands .ensures .0) (c .before .before .before .before .before .before .before .before .before .before .before .before .before .before .before .before .before .before .before .before .before .before .before .before .before .before .before .before .before .before .before .declaration-hands .ensures .1 _) (c .before .before .before .before .before .before .before .before .before .before .before .before .before .before .before .before .before .before .before .before .before .before .before .before .before .before .step .ensures) (c .before .before .before .before .before .before .before .before .before .before .before .before .before .before .before .before .before .before .before .before .before .before .before .before .before .declaration-becomes .ensures) (c .before .before .before .before .before .before .before .before .before .before .before .before .before .before .before .before .before .before .before .before .before .before .before .copy .ensures .0 _ _) (c .before .before .before .before .before .before .before .before .before .before .before .before .before .before .before .before .before .before .before .wide .ensures .0 _ _) (c .before .before .before .before .before .before .before .before .before .before .before .before .before .before .before .before .step2 .ensures) (c .before .before .before .before .before .before .before .before .before .before .before .before .before .before .before .to2 .ensures .1) (c .before .before .before .before .before .before .before .before .before .before .before .before .before .before .before .to2 .ensures .0 _ _ _) (c .before .before .before .before .before .before .before .before .before .before .before .before .before .before .skip2 .ensures) (c .before .before .before .before .before .before .before .before .before .before .less .ensures) (c .before .before .before .before .before .before .before .before .before .under .ensures .0) (c .before .before .before .before .before .before .before .before .before .under .ensures .1) (c .before .before .before .before .before .before .before .before .wide-at .ensures) (c .before .before .before .before .before .before .before .seq .ensures) (c .to3 .ensures .1) (c .to3 .ensures .0 _ _ _)
 
 deep-returns : (t : ℕ) → cycle.Lts-deep.Need-returns (deep-claims t) (at-measure deep.Kinds.ps μ-deep deep.Reads.Pre t) deep.Reads.Post
-deep-returns t c = λ small good mode suit. good-none _ _ _ (c .if1 .taken) good
+deep-returns t c = λ good mode suit. good-none _ _ _ (c .if1 .taken) good
 
 deep-returns-2 : (t : ℕ) → cycle.Lts-deep.Need-returns-2 (deep-claims t) (at-measure deep.Kinds.ps μ-deep deep.Reads.Pre t) deep.Reads.Post
 deep-returns-2 t c = c .before .before .before .before .before .before .db .ensures (sym (c .before .before .before .before .before .before .before .before .before .before .before .peek .ensures .value) ∙ c .before .before .before .before .before .before .before .before .before .before .match .keys1)
 
 deep-returns-3 : (t : ℕ) → cycle.Lts-deep.Need-returns-3 (deep-claims t) (at-measure deep.Kinds.ps μ-deep deep.Reads.Pre t) deep.Reads.Post
-deep-returns-3 t c = λ small. c .before .before .before .before .before .before .da .ensures (sym (c .before .before .before .before .before .before .before .before .before .before .before .peek .ensures .value) ∙ c .before .before .before .before .before .before .before .before .before .before .match .keys2)
+deep-returns-3 t c = c .before .before .before .before .before .before .da .ensures (sym (c .before .before .before .before .before .before .before .before .before .before .before .peek .ensures .value) ∙ c .before .before .before .before .before .before .before .before .before .before .match .keys2)
 
 deep-returns-4 : (t : ℕ) → cycle.Lts-deep.Need-returns-4 (deep-claims t) (at-measure deep.Kinds.ps μ-deep deep.Reads.Pre t) deep.Reads.Post
-deep-returns-4 t c = finding.deep-default _ _ _ _ _ _ _ _ _ _ _ _ _ _ _ (c .before .before .before .before .before .before .before .before .before .before .before .before .before .before .before .before .before .peek .ensures .value) (c .before .before .before .before .before .before .before .before .before .before .before .before .before .before .before .before .match .keys3) (c .before .before .before .before .before .before .before .before .before .before .before .before .before .before .before .less .ensures) (c .before .before .before .before .before .before .before .before .before .under .ensures .1) (c .before .before .before .before .before .before .before .before .before .under .ensures .0) (c .before .before .before .before .before .before .before .before .before .before .before .before .before .before .step .ensures) (c .before .before .before .before .before .before .before .before .before .before .before .before .before .to .ensures .1) (c .before .before .before .before .before .before .before .before .before .before .before .before .before .to .ensures .0 _ _ _) (c .before .before .before .before .before .before .before .before .deep .ensures) (c .before .skip .ensures) (c .to2 .ensures .1) (c .to2 .ensures .0 _ _ _)
+deep-returns-4 t c = finding.deep-default _ _ _ _ _ _ _ _ _ _ _ _ _ _ (c .before .before .before .before .before .before .before .before .before .before .before .before .before .before .before .before .before .peek .ensures .value) (c .before .before .before .before .before .before .before .before .before .before .before .before .before .before .before .before .match .keys3) (c .before .before .before .before .before .before .before .before .before .before .before .before .before .before .before .less .ensures) (c .before .before .before .before .before .before .before .before .before .under .ensures .1) (c .before .before .before .before .before .before .before .before .before .under .ensures .0) (c .before .before .before .before .before .before .before .before .before .before .before .before .before .before .step .ensures) (c .before .before .before .before .before .before .before .before .before .before .before .before .before .to .ensures .1) (c .before .before .before .before .before .before .before .before .before .before .before .before .before .to .ensures .0 _ _ _) (c .before .before .before .before .before .before .before .before .deep .ensures) (c .before .skip .ensures) (c .to2 .ensures .1) (c .to2 .ensures .0 _ _ _)
 
 deep-returns-5 : (t : ℕ) → cycle.Lts-deep.Need-returns-5 (deep-claims t) (at-measure deep.Kinds.ps μ-deep deep.Reads.Pre t) deep.Reads.Post
-deep-returns-5 t c = finding.deep-leaf _ _ _ _ _ _ _ _ _ (c .before .before .before .peek .ensures .value) (c .before .before .match .rest .0 .0 .1) (c .before .before .match .rest .0 .1) (c .before .before .match .rest .1) (c .before .skip2 .ensures) (c .to3 .ensures .1) (c .to3 .ensures .0 _ _ _)
+deep-returns-5 t c = finding.deep-leaf _ _ _ _ _ _ _ _ (c .before .before .before .peek .ensures .value) (c .before .before .match .rest .0 .0 .1) (c .before .before .match .rest .0 .1) (c .before .before .match .rest .1) (c .before .skip2 .ensures) (c .to3 .ensures .1) (c .to3 .ensures .0 _ _ _)
 
 dh-returns : (t : ℕ) → cycle.Lts-dh.Need-returns (dh-claims t) (at-measure dh.Kinds.ps μ-dh dh.Reads.Pre t) dh.Reads.Post
 dh-returns t c = λ loop four moved good. law.good-none _ _ _ (c .if1 .taken) good
@@ -696,22 +685,19 @@ dh-returns-2 : (t : ℕ) → cycle.Lts-dh.Need-returns-2 (dh-claims t) (at-measu
 dh-returns-2 t c = looping.declaring-does _ _ _ _ _ _ _ _ _ _ _ _ _ _ _ _ _ _ _ _ _ (c .before .before .before .before .before .before .before .before .before .before .before .before .before .before .before .before .before .before .before .before .before .before .before .before .before .before .before .before .before .before .before .before .before .before .before .before .before .before .before .before .before .before .before .before .before .before .before .before .before .before .less .ensures) (c .before .before .before .before .before .before .before .before .before .before .before .before .before .before .before .before .before .before .before .before .before .before .before .before .before .before .before .before .before .before .before .before .before .before .before .before .before .before .before .before .before .before .before .before .before .before .before .before .before .less2 .ensures) (c .before .before .before .before .before .before .before .before .before .before .before .before .before .before .before .before .before .before .before .before .before .before .before .before .before .before .before .before .before .before .before .before .before .before .before .before .before .before .before .before .before .before .before .before .before .before .before .before .step .ensures) (c .before .before .before .before .before .before .before .before .before .before .before .before .before .before .before .before .before .before .before .before .before .before .before .before .before .before .before .before .before .before .before .before .before .before .before .before .before .before .before .before .before .before .before .before .before .before .before .step2 .ensures) (c .before .before .before .before .before .before .before .before .before .before .before .before .before .before .before .before .before .before .before .before .before .before .before .before .before .before .before .before .before .before .before .before .before .before .before .before .before .before .before .before .before .before .before .before .before .before .wide-at .ensures) (c .before .before .before .before .before .before .before .before .before .before .before .before .before .before .before .before .before .before .before .before .before .before .before .before .before .before .before .before .before .before .before .before .before .before .before .before .before .before .before .before .before .before .before .before .before .step3 .ensures) (c .before .before .before .before .before .before .before .before .before .before .before .before .before .before .before .before .before .before .before .before .before .before .before .before .before .before .before .before .before .before .before .before .before .scoped .ensures .0) (c .before .before .before .before .before .before .before .before .before .before .before .before .before .before .before .before .before .before .before .before .before .before .before .before .before .before .before .before .before .before .before .before .before .scoped .ensures .1) (c .before .before .before .before .before .before .before .before .before .before .before .before .before .before .before .before .before .before .before .before .before .before .scoped2 .ensures .0) (c .before .before .before .before .before .before .before .before .before .before .before .before .before .before .before .before .before .before .before .before .before .before .scoped2 .ensures .1) (c .before .before .before .before .before .before .before .before .before .before .before .scoped3 .ensures .0) (c .before .before .before .before .before .before .before .before .before .before .before .scoped3 .ensures .1) (c .before .before .before .before .before .before .before .before .before .before .before .before .before .before .before .before .before .before .before .before .before .before .before .before .before .before .before .before .before .before .before .before .before .before .before .before .before .before .before .before .before .before .before .moves-make .ensures .0) (c .before .before .before .before .before .before .before .before .before .before .before .before .before .before .before .before .before .before .before .before .before .before .before .before .before .before .before .before .before .before .before .before .before .before .before .before .before .before .before .copy .ensures .1) (c .before .before .before .before .before .before .before .before .before .before .before .before .before .before .before .before .before .before .before .before .before .before .before .before .before .before .before .before .before .before .before .before .before .before .before .before .before .before .before .before .before .before .before .moves-make .ensures .1 _ _) (c .before .before .before .before .before .before .before .before .before .before .before .before .before .before .before .before .before .before .before .before .before .before .before .before .before .before .before .before .before .before .before .before .before .before .before .before .before .before .before .copy .ensures .0 _ _) (c .before .before .before .before .before .before .before .before .before .before .before .before .before .before .before .before .before .before .before .before .before .before .before .before .before .before .before .before .before .before .before .before .seq .ensures) (c .before .before .before .before .before .before .before .before .before .before .before .before .before .before .before .before .before .before .before .before .before .node .ensures) (c .before .before .before .before .before .before .before .before .before .before .bl .ensures) (c .before .before .await-of .ensures _ _)
 
 db-returns : (t : ℕ) → cycle.Lts-db.Need-returns (db-claims t) (at-measure db.Kinds.ps μ-db db.Reads.Pre t) db.Reads.Post
-db-returns t c = λ k small good mode suit. good-none _ _ _ (c .if1 .taken) good
+db-returns t c = λ k good mode suit. good-none _ _ _ (c .if1 .taken) good
 
 db-returns-2 : (t : ℕ) → cycle.Lts-db.Need-returns-2 (db-claims t) (at-measure db.Kinds.ps μ-db db.Reads.Pre t) db.Reads.Post
-db-returns-2 t c = finding.object-found _ _ _ _ _ _ _ (c .before .before .before .before .before .before .before .before .before .before .if2 .taken) (c .before .before .before .before .before .before .fb .ensures)
+db-returns-2 t c = finding.object-found _ _ _ _ _ _ (c .before .before .before .before .before .before .before .before .before .before .if2 .taken) (c .before .before .before .before .before .before .fb .ensures)
 
 db-returns-3 : (t : ℕ) → cycle.Lts-db.Need-returns-3 (db-claims t) (at-measure db.Kinds.ps μ-db db.Reads.Pre t) db.Reads.Post
-db-returns-3 t c = finding.object-inner _ _ _ _ _ _ _ _ _ _ _ _ _ _ _ (c .before .before .before .before .before .before .before .before .before .before .before .before .before .before .before .before .before .before .before .before .before .before .before .before .before .before .before .before .before .before .before .before .if2 .left) (c .before .before .before .before .before .before .before .before .before .before .before .before .before .before .before .before .before .before .before .before .before .before .before .before .before .before .before .before .before .before .before .less .ensures) (c .before .before .before .before .before .before .before .before .before .before .before .before .before .before .before .before .before .before .before .before .before .before .before .under .ensures .1) (c .before .before .before .before .before .before .before .before .before .before .before .before .before .before .before .before .before .before .before .before .before .before .before .under .ensures .0) (c .before .before .before .before .before .before .before .before .before .before .before .before .before .before .before .before .before .before .before .before .before .before .before .before .before .before .before .before .before .before .step .ensures) (c .before .before .before .before .before .before .before .before .before .before .before .before .before .before .before .before .before .before .before .before .before .before .before .before .before .before .before .before .before .wide-at .ensures) (c .before .before .before .before .before .before .before .before .before .before .before .before .before .before .before .before .before .before .before .before .before .before .before .before .before .before .before .to .ensures .1 ∙ c .before .before .before .before .before .before .before .before .before .before .before .before .before .before .before .before .before .before .before .before .before .before .before .before .before .before .before .before .step2 .ensures) (c .before .before .before .before .before .before .before .before .before .before .before .before .before .before .before .before .before .before .before .before .before .before .before .before .before .before .before .to .ensures .0 _ _ _) (c .before .before .before .before .before .before .before .before .before .before .before .before .before .before .before .before .before .before .before .before .before .before .value-mode .ensures) (c .before .before .before .before .before .before .before .before .before .before .before .before .before .before .before .before .before .before .before .before .before .seq .ensures) (c .before .before .before .before .before .before .before .before .before .before .before .before .before .before .has-second .ensures) _ _ (c .before .before .before .before .before .before .before .before .before .before .before .before .before .if3 .taken) (c .before .before .before .before .before .before .before .before .before .before .before .before .skip .ensures) (c .to2 .ensures .1) (c .before .before .before .before .before .before .before .before .before .before .before .if4 .taken) (c .before .before .before .before .before .before .before .ip .ensures) (c .to2 .ensures .0 _ _ _)
+db-returns-3 t c = finding.object-passed _ _ _ _ _ _ _ _ (c .before .if4 .taken) (c .before .before .before .before .has-second .ensures) (c .before .before .before .if3 .taken) (c .before .before .skip .ensures) (c .to .ensures .1) (c .to .ensures .0 _ _ _)
 
 db-returns-4 : (t : ℕ) → cycle.Lts-db.Need-returns-4 (db-claims t) (at-measure db.Kinds.ps μ-db db.Reads.Pre t) db.Reads.Post
-db-returns-4 t c = finding.object-taken _ _ _ _ _ _ _ _ _ _ _ _ _ _ _ (c .before .before .before .before .before .before .before .before .before .before .before .before .before .before .before .before .before .before .before .before .before .before .before .before .before .before .before .before .before .before .before .before .before .if2 .left) (c .before .before .before .before .before .before .before .before .before .before .before .before .before .before .before .before .before .before .before .before .before .before .before .before .before .before .before .before .before .before .before .before .less .ensures) (c .before .before .before .before .before .before .before .before .before .before .before .before .before .before .before .before .before .before .before .before .before .before .before .before .under .ensures .1) (c .before .before .before .before .before .before .before .before .before .before .before .before .before .before .before .before .before .before .before .before .before .before .before .before .under .ensures .0) (c .before .before .before .before .before .before .before .before .before .before .before .before .before .before .before .before .before .before .before .before .before .before .before .before .before .before .before .before .before .before .before .step .ensures) (c .before .before .before .before .before .before .before .before .before .before .before .before .before .before .before .before .before .before .before .before .before .before .before .before .before .before .before .before .before .before .wide-at .ensures) (c .before .before .before .before .before .before .before .before .before .before .before .before .before .before .before .before .before .before .before .before .before .before .before .before .before .before .before .before .to .ensures .1 ∙ c .before .before .before .before .before .before .before .before .before .before .before .before .before .before .before .before .before .before .before .before .before .before .before .before .before .before .before .before .before .step2 .ensures) (c .before .before .before .before .before .before .before .before .before .before .before .before .before .before .before .before .before .before .before .before .before .before .before .before .before .before .before .before .to .ensures .0 _ _ _) (c .before .before .before .before .before .before .before .before .before .before .before .before .before .before .before .before .before .before .before .before .before .before .before .value-mode .ensures) (c .before .before .before .before .before .before .before .before .before .before .before .before .before .before .before .before .before .before .before .before .before .before .seq .ensures) (c .before .before .before .before .before .before .before .before .before .before .before .before .before .before .before .has-second .ensures) _ _ (c .before .before .before .before .before .before .before .before .before .before .before .before .before .before .if3 .taken) (c .before .before .before .before .before .before .before .before .before .before .before .before .before .skip .ensures) (c .to3 .ensures .1) (c .before .before .before .before .before .before .before .before .before .before .before .if5 .taken) (c .before .before .before .before .before .before .before .ro .ensures) (c .to3 .ensures .0 _ _ _)
+db-returns-4 t c = finding.object-own _ _ _ _ _ _ _ _ (c .before .before .before .before .before .before .before .before .before .before .before .before .before .before .before .before .before .if2 .left) (c .before .before .before .before .before .before .before .before .before .before .before .before .before .if4 .left) (c .before .before .before .before .before .before .before .before .before .before .before .before .before .before .before .before .has-second .ensures) (c .before .before .before .before .before .before .before .before .before .before .before .before .before .before .before .if3 .taken) (assigning.own-top _ _ _ _ _ _ _ (c .before .before .before .before .before .before .before .before .before .inside .ensures) (c .before .before .before .before .before .before .before .before .cell .ensures) (c .before .before .before .before .before .before .before .top .ensures)) (c .before .before .before .before .before .before .before .before .before .before .before .before .before .before .skip .ensures) (c .to2 .ensures .1) (c .to2 .ensures .0 _ _ _)
 
 db-returns-5 : (t : ℕ) → cycle.Lts-db.Need-returns-5 (db-claims t) (at-measure db.Kinds.ps μ-db db.Reads.Pre t) db.Reads.Post
-db-returns-5 t c = finding.object-left _ _ _ _ _ _ _ _ _ _ _ _ _ _ _ (c .before .before .before .before .before .before .before .before .before .before .before .before .before .before .before .before .before .before .before .before .before .before .before .if2 .left) (c .before .before .before .before .before .before .before .before .before .before .before .before .before .before .before .before .before .before .before .before .before .before .less .ensures) (c .before .before .before .before .before .before .before .before .before .before .before .before .before .before .under .ensures .1) (c .before .before .before .before .before .before .before .before .before .before .before .before .before .before .under .ensures .0) (c .before .before .before .before .before .before .before .before .before .before .before .before .before .before .before .before .before .before .before .before .before .step .ensures) (c .before .before .before .before .before .before .before .before .before .before .before .before .before .before .before .before .before .before .before .before .wide-at .ensures) (c .before .before .before .before .before .before .before .before .before .before .before .before .before .before .before .before .before .before .to .ensures .1 ∙ c .before .before .before .before .before .before .before .before .before .before .before .before .before .before .before .before .before .before .before .step2 .ensures) (c .before .before .before .before .before .before .before .before .before .before .before .before .before .before .before .before .before .before .to .ensures .0 _ _ _) (c .before .before .before .before .before .before .before .before .before .before .before .before .before .value-mode .ensures) (c .before .before .before .before .before .before .before .before .before .before .before .before .seq .ensures) (c .before .before .before .before .before .has-second .ensures) _ _ (c .before .before .before .before .if3 .taken) (c .before .before .before .skip .ensures) (c .to4 .ensures .1) (c .before .before .if4 .left) (c .before .if5 .left) (c .to4 .ensures .0 _ _ _)
-
-db-returns-6 : (t : ℕ) → cycle.Lts-db.Need-returns-6 (db-claims t) (at-measure db.Kinds.ps μ-db db.Reads.Pre t) db.Reads.Post
-db-returns-6 t c = finding.object-plain _ _ _ _ _ _ _ _ _ _ _ _ _ _ _ (c .before .before .before .before .before .before .before .before .before .before .before .before .before .before .before .before .before .before .before .if2 .left) (c .before .before .before .before .before .before .before .before .before .before .before .before .before .before .before .before .before .before .less .ensures) (c .before .before .before .before .before .before .before .before .before .before .under .ensures .1) (c .before .before .before .before .before .before .before .before .before .before .under .ensures .0) (c .before .before .before .before .before .before .before .before .before .before .before .before .before .before .before .before .before .step .ensures) (c .before .before .before .before .before .before .before .before .before .before .before .before .before .before .before .before .wide-at .ensures) (c .before .before .before .before .before .before .before .before .before .before .before .before .before .before .to .ensures .1 ∙ c .before .before .before .before .before .before .before .before .before .before .before .before .before .before .before .step2 .ensures) (c .before .before .before .before .before .before .before .before .before .before .before .before .before .before .to .ensures .0 _ _ _) (c .before .before .before .before .before .before .before .before .before .value-mode .ensures) (c .before .before .before .before .before .before .before .before .seq .ensures) (c .before .has-second .ensures) (c .if3 .left)
+db-returns-5 t c = finding.object-plain _ _ _ _ _ _ _ _ (c .before .before .before .before .before .before .before .before .before .before .before .before .before .if2 .left) (c .before .before .before .before .before .before .before .value-mode .ensures) (c .before .before .before .before .before .before .before .before .before .before .before .before .has-second .ensures) (c .before .before .before .before .before .before .before .before .before .before .before .if3 .left) (c .before .before .before .before .before .before .pr .ensures)
 
 dr-returns : (t : ℕ) → cycle.Lts-dr.Need-returns (dr-claims t) (at-measure dr.Kinds.ps μ-dr dr.Reads.Pre t) dr.Reads.Post
 dr-returns t c = declaring.declarator-bare _ _ _ _ _ _ _ _ (c .before .before .before .before .before .before .before .before .before .before .before .before .before .start-of .ensures) (c .before .before .before .before .before .before .before .before .before .before .before .enum-told .given .1) (c .before .before .before .before .before .before .before .inside .ensures .0) (c .before .before .before .before .before .before .before .inside .ensures .1) (c .before .before .before .before .before .before .node .ensures)
@@ -892,27 +878,6 @@ items-loop-again t c = (
 items-returns : (t : ℕ) → cycle.Lts-items.Need-returns (items-claims t) (at-measure items.Kinds.ps μ-items items.Reads.Pre t) items.Reads.Post items-Inv-loop items-μ-loop
 items-returns t c = (skipping.items-end _ _ _ _ _ (c .loop-test .left) ∙ c .before .loop .inv .3, λ g. law.onto-end (c .before .loop .inv .4 g .1) (law.items-none _ _ _ _ _ _ _ (c .loop-test .left)))
 
-ip-returns : (t : ℕ) → cycle.Lts-ip.Need-returns (ip-claims t) (at-measure ip.Kinds.ps μ-ip ip.Reads.Pre t) ip.Reads.Post
-ip-returns t c = assigning.itp-refused _ _ _ _ _ _ (c .before .before .before .before .before .lacks-form .ensures) (c .before .before .before .before .if1 .taken) (c .before .before .refuse .ensures .0 _ _)
-
-ip-node-requires : (t : ℕ) → cycle.Lts-ip.Need-node-requires (ip-claims t) (at-measure ip.Kinds.ps μ-ip ip.Reads.Pre t) ip.Reads.Post
-ip-node-requires t c κs = (omega (arith, c .before .before .before .before .before .before .before .before .before .before .before .before .before .before .before .before .before .before .before .before .before .before .before .before .before .before .before .before .before .before .before .before .before .before .before .before .before .before .before .before .before .before .before .before .before .before .before .before .before .before .before .before .before .before .before .before .before .before .before .before .before .before .before .before .before .before .before .before .before .before .before .before .before .before .before .before .before .before .before .before .before .before .before .before .pre .0, c .inside2 .ensures .1, c .before .less .ensures, c .before .before .before .before .before .before .before .before .before .before .before .before .before .before .before .before .before .before .before .before .before .before .before .before .before .before .before .before .before .before .before .before .before .before .before .before .before .before .before .before .before .before .before .before .before .before .before .before .before .before .before .before .before .before .before .before .before .before .before .before .before .before .before .before .before .before .before .before .before .before .before .before .before .before .before .before .before .inside .ensures .1), tt)
-
-ip-rest-requires : (t : ℕ) → cycle.Lts-ip.Need-rest-requires (ip-claims t) (at-measure ip.Kinds.ps μ-ip ip.Reads.Pre t) ip.Reads.Post
-ip-rest-requires t c κs = (omega (arith, c .before .before .before .before .before .before .before .before .before .before .before .before .before .before .before .before .before .before .before .before .before .before .before .before .before .before .before .before .before .before .before .before .before .before .before .before .before .before .before .before .before .before .before .before .before .before .before .before .before .before .before .before .before .before .before .before .before .before .before .before .before .before .before .before .before .before .before .before .before .before .before .before .before .before .before .before .before .before .before .before .before .before .before .before .before .before .before .before .before .before .before .before .before .before .before .before .pre .0, c .before .before .before .before .before .before .before .before .before .before .before .before .inside2 .ensures .1, c .before .before .before .before .before .before .before .before .before .before .before .before .before .less .ensures, c .before .before .before .before .before .before .before .before .before .before .before .before .before .before .before .before .before .before .before .before .before .before .before .before .before .before .before .before .before .before .before .before .before .before .before .before .before .before .before .before .before .before .before .before .before .before .before .before .before .before .before .before .before .before .before .before .before .before .before .before .before .before .before .before .before .before .before .before .before .before .before .before .before .before .before .before .before .before .before .before .before .before .before .before .before .before .before .before .before .inside .ensures .1), tt)
-
-ip-same-length-2 : (t : ℕ) → cycle.Lts-ip.Need-same-length-2 (ip-claims t) (at-measure ip.Kinds.ps μ-ip ip.Reads.Pre t) ip.Reads.Post
-ip-same-length-2 t c = omega (arith, c .before .before .before .before .before .before .temporary4 .kept, c .before .before .before .before .before .before .before .before .before .before .before .before .before .before .before .before .before .rest .kept, c .before .before .before .before .before .before .before .before .before .before .before .before .before .before .before .before .before .before .before .before .before .before .before .before .before .before .before .before .before .node .kept, c .before .before .before .before .before .before .before .before .before .before .before .before .before .before .before .before .before .before .before .before .before .before .before .before .before .before .before .before .before .before .before .before .before .before .before .before .before .before .assign3 .kept, c .before .before .before .before .before .before .before .before .before .before .before .before .before .before .before .before .before .before .before .before .before .before .before .before .before .before .before .before .before .before .before .before .before .before .before .before .before .before .before .before .before .before .before .before .before .before .temporary3 .kept, c .before .before .before .before .before .before .before .before .before .before .before .before .before .before .before .before .before .before .before .before .before .before .before .before .before .before .before .before .before .before .before .before .before .before .before .before .before .before .before .before .before .before .before .before .before .before .before .before .before .before .before .before .before .before .before .before .before .view .kept, c .before .before .before .before .before .before .before .before .before .before .before .before .before .before .before .before .before .before .before .before .before .before .before .before .before .before .before .before .before .before .before .before .before .before .before .before .before .before .before .before .before .before .before .before .before .before .before .before .before .before .before .before .before .before .before .before .before .before .before .before .before .before .before .before .assign2 .kept, c .before .before .before .before .before .before .before .before .before .before .before .before .before .before .before .before .before .before .before .before .before .before .before .before .before .before .before .before .before .before .before .before .before .before .before .before .before .before .before .before .before .before .before .before .before .before .before .before .before .before .before .before .before .before .before .before .before .before .before .before .before .before .before .before .before .before .before .before .before .before .before .before .temporary2 .kept, c .before .before .before .before .before .before .before .before .before .before .before .before .before .before .before .before .before .before .before .before .before .before .before .before .before .before .before .before .before .before .before .before .before .before .before .before .before .before .before .before .before .before .before .before .before .before .before .before .before .before .before .before .before .before .before .before .before .before .before .before .before .before .before .before .before .before .before .before .before .before .before .before .before .before .before .before .before .before .before .before .before .before .before .temporary .kept, c .before .before .before .before .before .before .before .before .before .before .before .before .before .before .before .before .before .before .before .before .before .before .before .before .before .before .before .before .before .before .before .before .before .before .before .before .before .before .before .before .before .before .before .before .before .before .before .before .before .before .before .before .before .before .before .before .before .before .before .before .before .before .before .before .before .before .before .before .before .before .before .before .before .before .before .before .before .before .before .before .before .before .before .before .before .before .before .before .before .before .assign .kept, c .before .before .before .before .before .before .before .before .before .before .before .before .before .before .before .before .before .before .before .before .before .before .before .before .before .before .before .before .before .before .before .before .before .before .before .before .before .before .before .before .before .before .before .before .before .before .before .before .before .before .before .before .before .before .before .before .before .before .before .before .before .before .before .before .before .before .before .before .before .before .before .before .before .before .before .before .before .before .before .before .before .before .before .before .before .before .before .before .before .before .before .before .before .before .wide .kept, c .before .before .before .before .before .before .before .before .before .before .before .before .before .before .before .before .before .before .before .before .before .before .before .before .before .before .before .before .before .before .before .before .before .before .before .before .before .before .before .before .before .before .before .before .before .before .before .before .before .before .before .before .before .before .before .before .before .before .before .before .before .before .before .before .before .before .before .before .before .before .before .before .before .before .before .before .before .before .before .before .before .before .before .before .before .before .before .before .before .before .before .before .before .before .before .before .before .before .put2 .kept)
-
-ip-same-length-3 : (t : ℕ) → cycle.Lts-ip.Need-same-length-3 (ip-claims t) (at-measure ip.Kinds.ps μ-ip ip.Reads.Pre t) ip.Reads.Post
-ip-same-length-3 t c = omega (arith, c .before .before .before .before .before .before .temporary4 .kept, c .before .before .before .before .before .before .before .before .before .before .before .before .before .before .before .before .before .rest .kept, c .before .before .before .before .before .before .before .before .before .before .before .before .before .before .before .before .before .before .before .before .before .before .before .before .before .before .before .before .before .node .kept, c .before .before .before .before .before .before .before .before .before .before .before .before .before .before .before .before .before .before .before .before .before .before .before .before .before .before .before .before .before .before .before .before .before .before .before .before .before .before .before .before .before .before .before .before .before .before .temporary3 .kept, c .before .before .before .before .before .before .before .before .before .before .before .before .before .before .before .before .before .before .before .before .before .before .before .before .before .before .before .before .before .before .before .before .before .before .before .before .before .before .before .before .before .before .before .before .before .before .before .before .before .before .before .before .before .before .before .before .before .view .kept, c .before .before .before .before .before .before .before .before .before .before .before .before .before .before .before .before .before .before .before .before .before .before .before .before .before .before .before .before .before .before .before .before .before .before .before .before .before .before .before .before .before .before .before .before .before .before .before .before .before .before .before .before .before .before .before .before .before .before .before .before .before .before .before .before .before .before .before .before .before .before .before .before .temporary2 .kept, c .before .before .before .before .before .before .before .before .before .before .before .before .before .before .before .before .before .before .before .before .before .before .before .before .before .before .before .before .before .before .before .before .before .before .before .before .before .before .before .before .before .before .before .before .before .before .before .before .before .before .before .before .before .before .before .before .before .before .before .before .before .before .before .before .before .before .before .before .before .before .before .before .before .before .before .before .before .before .before .before .before .before .before .temporary .kept, c .before .before .before .before .before .before .before .before .before .before .before .before .before .before .before .before .before .before .before .before .before .before .before .before .before .before .before .before .before .before .before .before .before .before .before .before .before .before .before .before .before .before .before .before .before .before .before .before .before .before .before .before .before .before .before .before .before .before .before .before .before .before .before .before .before .before .before .before .before .before .before .before .before .before .before .before .before .before .before .before .before .before .before .before .before .before .before .before .before .before .before .before .before .before .before .before .before .before .before .before .before .before .before .before .inner-hands .kept)
-
-ip-same-length-4 : (t : ℕ) → cycle.Lts-ip.Need-same-length-4 (ip-claims t) (at-measure ip.Kinds.ps μ-ip ip.Reads.Pre t) ip.Reads.Post
-ip-same-length-4 t c = omega (arith, c .before .before .before .before .before .before .temporary4 .kept, c .before .before .before .before .before .before .before .before .before .before .before .before .before .before .before .before .before .rest .kept, c .before .before .before .before .before .before .before .before .before .before .before .before .before .before .before .before .before .before .before .before .before .before .before .before .before .before .before .before .before .node .kept, c .before .before .before .before .before .before .before .before .before .before .before .before .before .before .before .before .before .before .before .before .before .before .before .before .before .before .before .before .before .before .before .before .before .before .before .before .before .before .before .before .before .before .before .before .before .before .temporary3 .kept, c .before .before .before .before .before .before .before .before .before .before .before .before .before .before .before .before .before .before .before .before .before .before .before .before .before .before .before .before .before .before .before .before .before .before .before .before .before .before .before .before .before .before .before .before .before .before .before .before .before .before .before .before .before .before .before .before .before .view .kept, c .before .before .before .before .before .before .before .before .before .before .before .before .before .before .before .before .before .before .before .before .before .before .before .before .before .before .before .before .before .before .before .before .before .before .before .before .before .before .before .before .before .before .before .before .before .before .before .before .before .before .before .before .before .before .before .before .before .before .before .before .before .before .before .before .before .before .before .before .before .before .before .before .temporary2 .kept, c .before .before .before .before .before .before .before .before .before .before .before .before .before .before .before .before .before .before .before .before .before .before .before .before .before .before .before .before .before .before .before .before .before .before .before .before .before .before .before .before .before .before .before .before .before .before .before .before .before .before .before .before .before .before .before .before .before .before .before .before .before .before .before .before .before .before .before .before .before .before .before .before .before .before .before .before .before .before .before .before .before .before .before .temporary .kept, c .before .before .before .before .before .before .before .before .before .before .before .before .before .before .before .before .before .before .before .before .before .before .before .before .before .before .before .before .before .before .before .before .before .before .before .before .before .before .before .before .before .before .before .before .before .before .before .before .before .before .before .before .before .before .before .before .before .before .before .before .before .before .before .before .before .before .before .before .before .before .before .before .before .before .before .before .before .before .before .before .before .before .before .before .before .before .before .before .before .before .before .before .before .before .before .before .before .before .before .before .before .before .before .before .inner-hands .kept)
-
-ip-returns-2 : (t : ℕ) → cycle.Lts-ip.Need-returns-2 (ip-claims t) (at-measure ip.Kinds.ps μ-ip ip.Reads.Pre t) ip.Reads.Post
-ip-returns-2 t c = assigning.itp-done _ _ _ _ _ _ _ _ _ _ _ _ _ _ _ _ _ _ _ _ (c .before .before .before .before .before .before .before .before .before .before .before .before .before .before .before .before .before .before .before .before .before .before .before .before .before .before .before .before .before .before .before .before .before .before .before .before .before .before .before .before .before .before .before .before .before .before .before .before .before .before .before .before .before .before .before .before .before .before .before .before .before .before .before .before .before .before .before .before .before .before .before .before .before .before .before .before .before .before .before .before .before .before .before .before .before .before .before .before .before .before .before .before .before .before .before .before .before .before .before .before .before .before .before .before .before .before .before .before .before .lacks-form .ensures) (c .before .before .before .before .before .before .before .before .before .before .before .before .before .before .before .before .before .before .before .before .before .before .before .before .before .before .before .before .before .before .before .before .before .before .before .before .before .before .before .before .before .before .before .before .before .before .before .before .before .before .before .before .before .before .before .before .before .before .before .before .before .before .before .before .before .before .before .before .before .before .before .before .before .before .before .before .before .before .before .before .before .before .before .before .before .before .before .before .before .before .before .before .before .before .before .before .before .before .before .before .before .before .before .before .before .before .before .before .if1 .left) (c .before .before .before .before .before .before .before .before .before .before .before .before .before .before .before .before .before .before .before .before .before .before .before .before .before .before .before .before .before .before .before .before .before .before .before .before .before .before .before .before .before .before .before .before .before .before .before .before .before .before .before .before .before .before .before .before .before .before .before .before .before .before .before .before .before .before .before .before .before .before .before .before .before .before .before .before .before .before .before .before .before .before .before .before .before .before .before .before .before .before .before .before .before .before .before .before .before .before .before .before .before .before .before .before .before .before .before .inside .ensures) (c .before .before .before .before .before .before .before .before .before .before .before .before .before .before .before .before .before .before .before .before .before .before .before .before .before .before .before .before .before .before .before .before .before .before .before .before .before .before .before .before .before .before .before .before .before .before .before .before .before .before .before .before .before .before .before .before .before .before .before .before .before .before .before .before .before .before .before .before .before .before .before .before .before .before .before .before .before .before .before .before .before .before .before .before .before .before .before .before .before .before .before .before .before .before .before .before .before .before .before .before .before .before .before .before .inner-hands .ensures .1 _) (c .before .before .before .before .before .before .before .before .before .before .before .before .before .before .before .before .before .before .before .before .before .before .before .before .before .before .before .before .before .before .before .before .before .before .before .before .before .before .before .before .before .before .before .before .before .before .before .before .before .before .before .before .before .before .before .before .before .before .before .before .before .before .before .before .before .before .before .before .before .before .before .before .before .before .before .before .before .before .before .before .before .before .before .before .before .before .before .before .before .before .before .before .before .before .before .before .before .before .put2 .ensures .0 _ _) (c .before .before .before .before .before .before .before .before .before .before .before .before .before .before .before .before .before .before .before .before .before .before .before .before .before .before .before .before .before .before .before .before .before .before .before .before .before .before .before .before .before .before .before .before .before .before .before .before .before .before .before .before .before .before .before .before .before .before .before .before .before .before .before .before .before .before .before .before .before .before .before .before .before .before .before .before .before .before .before .before .before .before .before .before .before .before .before .before .before .before .before .before .before .before .wide .ensures .0 _ _) (c .before .before .before .before .before .before .before .before .before .before .before .before .before .before .before .before .before .before .before .before .before .before .before .before .before .before .before .before .before .before .before .before .before .before .before .before .before .before .before .before .before .before .before .before .before .before .before .before .before .before .before .before .before .before .before .before .before .before .before .before .before .before .before .before .before .before .before .before .before .before .before .before .before .before .before .before .before .before .before .before .before .before .before .before .before .before .before .before .before .before .assign .ensures .0 _ _) (c .before .before .before .before .before .before .before .before .before .before .before .before .before .before .before .before .before .before .before .before .before .before .before .before .before .before .before .before .before .before .before .before .before .before .before .before .before .before .before .before .before .before .before .before .before .before .before .before .before .before .before .before .before .before .before .before .before .before .before .before .before .before .before .before .before .before .before .before .before .before .before .before .before .before .before .before .before .before .before .before .before .before .before .before .cell .ensures) (c .before .before .before .before .before .before .before .before .before .before .before .before .before .before .before .before .before .before .before .before .before .before .before .before .before .before .before .before .before .before .before .before .before .before .before .before .before .before .before .before .before .before .before .before .before .before .before .before .before .before .before .before .before .before .before .before .before .before .before .before .before .before .before .before .before .before .before .before .before .before .before .before .before .before .before .before .before .before .before .before .before .before .before .temporary .ensures .0) (c .before .before .before .before .before .before .before .before .before .before .before .before .before .before .before .before .before .before .before .before .before .before .before .before .before .before .before .before .before .before .before .before .before .before .before .before .before .before .before .before .before .before .before .before .before .before .before .before .before .before .before .before .before .before .before .before .before .before .before .before .before .before .before .before .before .before .before .before .before .before .before .before .before .cell2 .ensures) (c .before .before .before .before .before .before .before .before .before .before .before .before .before .before .before .before .before .before .before .before .before .before .before .before .before .before .before .before .before .before .before .before .before .before .before .before .before .before .before .before .before .before .before .before .before .before .before .before .before .before .before .before .before .before .before .before .before .before .before .before .before .before .before .before .before .before .before .before .before .before .before .before .temporary2 .ensures .0) (c .before .before .before .before .before .before .before .before .before .before .before .before .before .before .before .before .before .before .before .before .before .before .before .before .before .before .before .before .before .before .before .before .before .before .before .before .before .before .before .before .before .before .before .before .before .before .before .before .before .before .before .before .before .before .before .before .before .before .before .before .before .before .before .before .assign2 .ensures .0 _ _) (c .before .before .before .before .before .before .before .before .before .before .before .before .before .before .before .before .before .before .before .before .before .before .before .before .before .before .before .before .before .before .before .before .before .before .before .before .before .before .before .before .before .before .before .before .before .before .before .before .before .before .before .before .before .before .before .before .before .before .before .before .before .to .ensures .0 _ _ _) (c .before .before .before .before .before .before .before .before .before .before .before .before .before .before .before .before .before .before .before .before .before .before .before .before .before .before .before .before .before .before .before .before .before .before .before .before .before .before .before .before .before .before .before .before .before .before .before .before .before .before .before .before .before .before .before .before .before .before .before .before .before .to .ensures .1) (c .before .before .before .before .before .before .before .before .before .before .before .before .before .before .before .before .before .before .before .before .before .before .before .before .before .before .before .before .before .before .before .before .before .before .before .before .before .before .before .before .before .before .before .before .before .before .before .before .before .before .before .before .before .before .before .before .before .view .ensures) (c .before .before .before .before .before .before .before .before .before .before .before .before .before .before .before .before .before .before .before .before .before .before .before .before .before .before .before .before .before .before .before .before .before .before .before .before .before .before .before .before .before .before .before .before .before .before .before .cell3 .ensures) (c .before .before .before .before .before .before .before .before .before .before .before .before .before .before .before .before .before .before .before .before .before .before .before .before .before .before .before .before .before .before .before .before .before .before .before .before .before .before .before .before .before .before .before .before .before .before .temporary3 .ensures .0) (c .before .before .before .before .before .before .before .before .before .before .before .before .before .before .before .before .before .before .before .before .before .before .before .before .before .before .before .before .before .before .before .before .before .before .before .before .before .before .assign3 .ensures .0 _ _) (c .before .before .before .before .before .before .before .before .before .before .before .before .before .before .before .before .before .before .before .before .before .before .before .before .before .before .before .before .before .before .before .before .before .before .before .to2 .ensures .0 _ _ _) (c .before .before .before .before .before .before .before .before .before .before .before .before .before .before .before .before .before .before .before .before .before .before .before .before .before .before .before .before .before .before .before .before .before .before .before .to2 .ensures .1) (c .before .before .before .before .before .before .before .before .before .before .before .before .before .before .before .before .before .before .before .before .before .before .before .before .before .before .before .before .before .before .before .less .ensures) (c .before .before .before .before .before .before .before .before .before .before .before .before .before .before .before .before .before .before .before .before .before .before .before .before .before .before .before .before .before .before .inside2 .ensures) (c .before .before .before .before .before .before .before .before .before .before .before .before .before .before .before .before .before .before .before .before .before .before .before .before .before .before .before .before .before .node .ensures .1) (c .before .before .before .before .before .before .before .before .before .before .before .before .before .before .before .before .before .before .before .cell4 .ensures) (c .before .before .before .before .before .before .before .before .before .before .before .before .before .before .before .before .before .before .cell-source .ensures) (c .before .before .before .before .before .before .before .before .before .before .before .before .before .before .before .before .before .rest .ensures .1) (c .before .before .before .before .before .before .before .cell5 .ensures) (c .before .before .before .before .before .before .temporary4 .ensures .0)
-
 key-returns : (t : ℕ) → cycle.Lts-key.Need-returns (key-claims t) (at-measure key.Kinds.ps μ-key key.Reads.Pre t) key.Reads.Post
 key-returns t c = viewing.key-cell _ _ _ _ _ _ _ _ _ (c .before .before .before .before .before .before .before .before .before .before .before .before .before .before .if1 .taken) (c .before .before .before .before .before .before .before .before .before .before .before .before .before .is-other .ensures) (c .before .before .before .before .before .before .before .before .before .before .before .before .if2 .taken) (c .before .skip .ensures) (c .to .ensures .1) (c .to .ensures .0 _ _ _) (c .before .before .before .before .before .before .before .before .temporary .ensures .0)
 
@@ -1001,10 +966,16 @@ node-returns-10 : (t : ℕ) → cycle.Lts-node.Need-returns-10 (node-claims t) (
 node-returns-10 t c = (c .before .before .before .before .before .before .plain .ensures .0, law.emits-does _ _ _ _ _ (c .before .before .before .before .before .before .before .before .before .before .before .peek .ensures) (law.nowhere-else _ (c .before .before .before .before .before .before .before .before .before .before .match .rest .0 .0 .0 .0 .0 .0 .0 .1) (c .before .before .before .before .before .before .before .before .before .before .match .rest .0 .0 .0 .0 .0 .0 .1) (c .before .before .before .before .before .before .before .before .before .before .match .rest .0 .0 .0 .0 .0 .1) (c .before .before .before .before .before .before .before .before .before .before .match .rest .0 .0 .0 .0 .1) (c .before .before .before .before .before .before .before .before .before .before .match .rest .0 .0 .0 .1) (c .before .before .before .before .before .before .before .before .before .before .match .rest .0 .0 .1) (c .before .before .before .before .before .before .before .before .before .before .match .rest .0 .1) (c .before .before .before .before .before .before .before .before .before .before .match .rest .1)) (c .before .before .before .before .before .before .plain .ensures .1))
 
 ns-same-length : (t : ℕ) → cycle.Lts-ns.Need-same-length (ns-claims t) (at-measure ns.Kinds.ps μ-ns ns.Reads.Pre t) ns.Reads.Post
-ns-same-length t c = omega (arith, c .before .before .before .before .before .before .deep .kept, c .before .before .before .before .before .before .before .before .before .before .before .before .before .before .before .before .before .before .gv .kept, c .before .before .before .before .before .before .before .before .before .before .before .before .before .before .before .before .before .before .before .before .before .before .before .before .before .before .before .before .before .view .kept, c .before .before .before .before .before .before .before .before .before .before .before .before .before .before .before .before .before .before .before .before .before .before .before .before .before .before .before .before .before .before .before .before .before .before .before .before .before .assign .kept, c .before .before .before .before .before .before .before .before .before .before .before .before .before .before .before .before .before .before .before .before .before .before .before .before .before .before .before .before .before .before .before .before .before .before .before .before .before .before .before .before .before .wide .kept, c .before .before .before .before .before .before .before .before .before .before .before .before .before .before .before .before .before .before .before .before .before .before .before .before .before .before .before .before .before .before .before .before .before .before .before .before .before .before .before .before .before .before .before .before .before .before .put2 .kept)
+ns-same-length t c = omega (arith, c .before .before .before .before .before .before .pr .kept, c .before .before .before .before .before .before .before .before .before .before .before .before .before .before .before .before .before .gv .kept, c .before .before .before .before .before .before .before .before .before .before .before .before .before .before .before .before .before .before .before .before .before .before .before .before .before .before .before .before .view .kept, c .before .before .before .before .before .before .before .before .before .before .before .before .before .before .before .before .before .before .before .before .before .before .before .before .before .before .before .before .before .before .before .before .before .before .before .before .assign .kept, c .before .before .before .before .before .before .before .before .before .before .before .before .before .before .before .before .before .before .before .before .before .before .before .before .before .before .before .before .before .before .before .before .before .before .before .before .before .before .before .before .wide .kept, c .before .before .before .before .before .before .before .before .before .before .before .before .before .before .before .before .before .before .before .before .before .before .before .before .before .before .before .before .before .before .before .before .before .before .before .before .before .before .before .before .before .before .before .before .before .put2 .kept)
 
 ns-returns : (t : ℕ) → cycle.Lts-ns.Need-returns (ns-claims t) (at-measure ns.Kinds.ps μ-ns ns.Reads.Pre t) ns.Reads.Post
-ns-returns t c = assigning.nst-done _ _ _ _ _ _ _ _ _ _ _ _ _ _ _ _ _ _ _ _ (c .before .before .before .before .before .before .before .before .before .before .before .before .before .before .before .before .before .before .before .before .before .before .before .before .before .before .before .before .before .before .before .before .before .before .before .before .before .before .before .before .before .before .before .before .before .before .before .before .before .before .before .before .before .before .before .places-in .ensures) (c .before .before .before .before .before .before .before .before .before .before .before .before .before .before .before .before .before .before .before .before .before .before .before .before .before .before .before .before .before .before .before .before .before .before .before .before .before .before .before .before .before .before .before .before .before .before .before .before .before .before .before .before .nested-hands .ensures .1 _) (c .before .before .before .before .before .before .before .before .before .before .before .before .before .before .before .before .before .before .before .before .before .before .before .before .before .before .before .before .before .before .before .before .before .before .before .before .before .before .before .before .before .before .before .before .before .before .put2 .ensures .0 _ _) (c .before .before .before .before .before .before .before .before .before .before .before .before .before .before .before .before .before .before .before .before .before .before .before .before .before .before .before .before .before .before .before .before .before .before .before .before .before .before .before .before .before .before .plus .ensures) (c .before .before .before .before .before .before .before .before .before .before .before .before .before .before .before .before .before .before .before .before .before .before .before .before .before .before .before .before .before .before .before .before .before .before .before .before .before .before .before .before .before .wide .ensures .0 _ _) (c .before .before .before .before .before .before .before .before .before .before .before .before .before .before .before .before .before .before .before .before .before .before .before .before .before .before .before .before .before .before .before .before .before .before .before .before .before .assign .ensures .0 _ _) (c .before .before .before .before .before .before .before .before .before .before .before .before .before .before .before .before .before .before .before .before .before .before .before .before .before .before .before .before .before .before .before .before .before .before .to .ensures .0 _ _ _) (c .before .before .before .before .before .before .before .before .before .before .before .before .before .before .before .before .before .before .before .before .before .before .before .before .before .before .before .before .before .before .before .before .before .before .to .ensures .1) (c .before .before .before .before .before .before .before .before .before .before .before .before .before .before .before .before .before .before .before .before .before .before .before .before .before .before .before .before .before .before .inside .ensures) (c .before .before .before .before .before .before .before .before .before .before .before .before .before .before .before .before .before .before .before .before .before .before .before .before .before .before .before .before .before .view .ensures) (c .before .before .before .before .before .before .before .before .before .before .before .before .before .before .before .before .before .before .before .inside2 .ensures) (c .before .before .before .before .before .before .before .before .before .before .before .before .before .before .before .before .before .before .gv .ensures) (c .before .before .before .before .before .before .before .before .before .before .before .to2 .ensures .0 _ _ _) (c .before .before .before .before .before .before .before .before .before .before .before .to2 .ensures .1) (c .before .before .before .before .before .before .before .inner-mode .ensures) (c .before .before .before .before .before .before .deep .ensures)
+ns-returns t c = assigning.nst-done _ _ _ _ _ _ _ _ _ _ _ _ _ _ _ _ _ (c .before .before .before .before .before .before .before .before .before .before .before .before .before .before .before .before .before .before .before .before .before .before .before .before .before .before .before .before .before .before .before .before .before .before .before .before .before .before .before .before .before .before .before .before .before .before .before .before .before .before .before .before .before .before .places-in .ensures) (c .before .before .before .before .before .before .before .before .before .before .before .before .before .before .before .before .before .before .before .before .before .before .before .before .before .before .before .before .before .before .before .before .before .before .before .before .before .before .before .before .before .before .before .before .before .before .before .before .before .before .before .nested-hands .ensures .1 _) (c .before .before .before .before .before .before .before .before .before .before .before .before .before .before .before .before .before .before .before .before .before .before .before .before .before .before .before .before .before .before .before .before .before .before .before .before .before .before .before .before .before .before .before .before .before .put2 .ensures .0 _ _) (c .before .before .before .before .before .before .before .before .before .before .before .before .before .before .before .before .before .before .before .before .before .before .before .before .before .before .before .before .before .before .before .before .before .before .before .before .before .before .before .before .before .plus .ensures) (c .before .before .before .before .before .before .before .before .before .before .before .before .before .before .before .before .before .before .before .before .before .before .before .before .before .before .before .before .before .before .before .before .before .before .before .before .before .before .before .before .wide .ensures .0 _ _) (c .before .before .before .before .before .before .before .before .before .before .before .before .before .before .before .before .before .before .before .before .before .before .before .before .before .before .before .before .before .before .before .before .before .before .before .before .assign .ensures .0 _ _) (c .before .before .before .before .before .before .before .before .before .before .before .before .before .before .before .before .before .before .before .before .before .before .before .before .before .before .before .before .before .before .before .before .before .to .ensures .0 _ _ _) (c .before .before .before .before .before .before .before .before .before .before .before .before .before .before .before .before .before .before .before .before .before .before .before .before .before .before .before .before .before .before .before .before .before .to .ensures .1) (c .before .before .before .before .before .before .before .before .before .before .before .before .before .before .before .before .before .before .before .before .before .before .before .before .before .before .before .before .before .inside .ensures) (c .before .before .before .before .before .before .before .before .before .before .before .before .before .before .before .before .before .before .before .before .before .before .before .before .before .before .before .before .view .ensures) (c .before .before .before .before .before .before .before .before .before .before .before .before .before .before .before .before .before .before .inside2 .ensures) (c .before .before .before .before .before .before .before .before .before .before .before .before .before .before .before .before .before .gv .ensures) (assigning.nst-arrays _ _ _ _ _ _ _ (c .before .before .before .before .before .before .before .before .before .before .if1 .taken) (c .before .before .before .before .before .before .pr .ensures))
+
+ns-same-length-4 : (t : ℕ) → cycle.Lts-ns.Need-same-length-4 (ns-claims t) (at-measure ns.Kinds.ps μ-ns ns.Reads.Pre t) ns.Reads.Post
+ns-same-length-4 t c = omega (arith, c .before .before .before .before .before .before .deep .kept, c .before .before .before .before .before .before .before .before .before .before .before .before .before .before .before .before .before .before .gv .kept, c .before .before .before .before .before .before .before .before .before .before .before .before .before .before .before .before .before .before .before .before .before .before .before .before .before .before .before .before .before .view .kept, c .before .before .before .before .before .before .before .before .before .before .before .before .before .before .before .before .before .before .before .before .before .before .before .before .before .before .before .before .before .before .before .before .before .before .before .before .before .assign .kept, c .before .before .before .before .before .before .before .before .before .before .before .before .before .before .before .before .before .before .before .before .before .before .before .before .before .before .before .before .before .before .before .before .before .before .before .before .before .before .before .before .before .wide .kept, c .before .before .before .before .before .before .before .before .before .before .before .before .before .before .before .before .before .before .before .before .before .before .before .before .before .before .before .before .before .before .before .before .before .before .before .before .before .before .before .before .before .before .before .before .before .before .put2 .kept)
+
+ns-returns-2 : (t : ℕ) → cycle.Lts-ns.Need-returns-2 (ns-claims t) (at-measure ns.Kinds.ps μ-ns ns.Reads.Pre t) ns.Reads.Post
+ns-returns-2 t c = assigning.nst-done _ _ _ _ _ _ _ _ _ _ _ _ _ _ _ _ _ (c .before .before .before .before .before .before .before .before .before .before .before .before .before .before .before .before .before .before .before .before .before .before .before .before .before .before .before .before .before .before .before .before .before .before .before .before .before .before .before .before .before .before .before .before .before .before .before .before .before .before .before .before .before .before .before .places-in .ensures) (c .before .before .before .before .before .before .before .before .before .before .before .before .before .before .before .before .before .before .before .before .before .before .before .before .before .before .before .before .before .before .before .before .before .before .before .before .before .before .before .before .before .before .before .before .before .before .before .before .before .before .before .before .nested-hands .ensures .1 _) (c .before .before .before .before .before .before .before .before .before .before .before .before .before .before .before .before .before .before .before .before .before .before .before .before .before .before .before .before .before .before .before .before .before .before .before .before .before .before .before .before .before .before .before .before .before .before .put2 .ensures .0 _ _) (c .before .before .before .before .before .before .before .before .before .before .before .before .before .before .before .before .before .before .before .before .before .before .before .before .before .before .before .before .before .before .before .before .before .before .before .before .before .before .before .before .before .before .plus .ensures) (c .before .before .before .before .before .before .before .before .before .before .before .before .before .before .before .before .before .before .before .before .before .before .before .before .before .before .before .before .before .before .before .before .before .before .before .before .before .before .before .before .before .wide .ensures .0 _ _) (c .before .before .before .before .before .before .before .before .before .before .before .before .before .before .before .before .before .before .before .before .before .before .before .before .before .before .before .before .before .before .before .before .before .before .before .before .before .assign .ensures .0 _ _) (c .before .before .before .before .before .before .before .before .before .before .before .before .before .before .before .before .before .before .before .before .before .before .before .before .before .before .before .before .before .before .before .before .before .before .to .ensures .0 _ _ _) (c .before .before .before .before .before .before .before .before .before .before .before .before .before .before .before .before .before .before .before .before .before .before .before .before .before .before .before .before .before .before .before .before .before .before .to .ensures .1) (c .before .before .before .before .before .before .before .before .before .before .before .before .before .before .before .before .before .before .before .before .before .before .before .before .before .before .before .before .before .before .inside .ensures) (c .before .before .before .before .before .before .before .before .before .before .before .before .before .before .before .before .before .before .before .before .before .before .before .before .before .before .before .before .before .view .ensures) (c .before .before .before .before .before .before .before .before .before .before .before .before .before .before .before .before .before .before .before .inside2 .ensures) (c .before .before .before .before .before .before .before .before .before .before .before .before .before .before .before .before .before .before .gv .ensures) (assigning.nst-below _ _ _ _ _ _ _ (c .before .before .before .before .before .before .before .before .before .before .before .if1 .left) (c .before .before .before .before .before .before .before .before .before .before .to2 .ensures .0 _ _ _) (c .before .before .before .before .before .before .before .before .before .before .to2 .ensures .1) (c .before .before .before .before .before .before .deep .ensures))
 
 oa-returns : (t : ℕ) → cycle.Lts-oa.Need-returns (oa-claims t) (at-measure oa.Kinds.ps μ-oa oa.Reads.Pre t) oa.Reads.Post
 oa-returns t c = declaring.own-pattern-left _ _ _ _ _ _ (c .before .has-no-properties .ensures) (c .if1 .taken)
@@ -1051,11 +1022,17 @@ plain-returns-2 t c = (c .to .ensures .1 ∙ c .before .skip .ensures, λ good. 
 plain-returns-3 : (t : ℕ) → cycle.Lts-plain.Need-returns-3 (plain-claims t) (at-measure plain.Kinds.ps μ-plain plain.Reads.Pre t) plain.Reads.Post
 plain-returns-3 t c = (c .to2 .ensures .1 ∙ c .before .skip2 .ensures, λ good. running.does-to (c .to2 .ensures .0 _ _ _) (law.plain-does _ _ _ _ _ _ _ _ _ _ _ _ _ (c .before .before .before .before .before .before .before .before .before .before .before .before .before .before .before .before .before .before .before .before .before .before .before .before .if1 .left) (c .before .before .before .before .before .before .before .before .before .before .before .before .before .before .before .before .before .before .before .before .before .before .before .peek .ensures .value) (c .before .before .before .before .before .before .before .before .before .before .before .before .before .before .before .before .before .before .before .before .before .before .step .ensures) (c .before .before .before .before .before .before .before .before .before .before .before .before .before .before .before .before .before .before .before .before .before .peek2 .ensures .value) (c .before .before .before .before .before .before .before .before .before .before .before .before .before .before .if2 .left) (c .before .before .before .before .before .before .before .before .before .before .row .ensures) (c .before .before .before .before .before .before .before .before .before .before .before .before .before .before .before .before .before .before .before .step2 .ensures) (c .before .before .before .before .before .before .before .before .before .before .before .before .before .before .before .before .before .before .copy .ensures .1) (c .before .before .before .before .before .before .before .before .before .container .ensures) (c .before .before .before .before .before .before .before .before .before .before .before .before .before .before .before .parts-of .ensures .0) (c .before .before .before .before .before .before .before .before .before .before .before .before .before .before .before .parts-of .ensures .1) (c .before .before .before .before .before .before .before .before .before .before .before .before .before .before .before .before .before .before .copy .ensures .0 _ _) (c .before .before .before .before .before .before .before .before .fs3 .ensures .1) good))
 
+pr-returns : (t : ℕ) → cycle.Lts-pr.Need-returns (pr-claims t) (at-measure pr.Kinds.ps μ-pr pr.Reads.Pre t) pr.Reads.Post
+pr-returns t c = λ k good suit. good-none _ _ _ (c .if1 .taken) good
+
+pr-returns-2 : (t : ℕ) → cycle.Lts-pr.Need-returns-2 (pr-claims t) (at-measure pr.Kinds.ps μ-pr pr.Reads.Pre t) pr.Reads.Post
+pr-returns-2 t c = finding.properties-done _ _ _ _ _ _ _ _ _ _ _ _ _ (c .before .before .before .before .before .before .before .before .less .ensures) (c .before .before .before .before .before .before .before .under .ensures .1) (c .before .before .before .before .before .before .before .under .ensures .0) (c .before .before .before .before .before .before .before .before .before .before .before .before .before .before .before .step .ensures) (c .before .before .before .before .before .before .before .before .before .before .before .before .before .before .wide-at .ensures) (c .before .before .before .before .before .before .before .before .before .before .before .before .before .step2 .ensures) (c .before .before .before .before .before .before .before .before .before .before .before .before .to .ensures .1) (c .before .before .before .before .before .before .before .before .before .before .before .before .to .ensures .0 _ _ _) (c .before .before .before .before .before .before .seq .ensures)
+
 prop-view-requires : (t : ℕ) → cycle.Lts-prop.Need-view-requires (prop-claims t) (at-measure prop.Kinds.ps μ-prop prop.Reads.Pre t) prop.Reads.Post
 prop-view-requires t c κs = (omega (arith, c .before .before .before .before .before .before .before .before .before .before .before .before .before .before .before .before .before .before .before .before .before .before .before .before .before .pre .0, c .inside2 .ensures .1, c .before .before .before .before .before .before .before .before .before .before .before .inside .ensures .1, c .before .before .before .before .before .before .before .before .before .before .before .before .before .before .before .before .before .before .before .before .less .ensures), tt)
 
 prop-returns : (t : ℕ) → cycle.Lts-prop.Need-returns (prop-claims t) (at-measure prop.Kinds.ps μ-prop prop.Reads.Pre t) prop.Reads.Post
-prop-returns t c = viewing.property-does _ _ _ _ _ _ _ _ _ _ _ _ _ _ _ _ (c .before .before .before .before .before .before .before .before .before .before .before .before .before .before .before .before .before .before .before .before .before .before .before .before .before .before .before .before .before .before .step .ensures) (c .before .before .before .before .before .before .before .before .before .before .before .before .before .before .before .before .before .before .before .before .before .before .before .before .before .before .before .before .before .copy .ensures .1) (c .before .before .before .before .before .before .before .before .before .before .before .before .before .before .before .before .before .before .before .before .before .before .before .inside .ensures .0) (c .before .before .before .before .before .before .before .before .before .before .before .before .before .before .before .before .before .before .before .before .before .before .before .inside .ensures .1 ∙ c .before .before .before .before .before .before .before .before .before .before .before .before .before .before .before .before .before .before .before .before .before .before .before .before .before .before .before .before .before .before .before .before .less .ensures) (c .before .before .before .before .before .before .before .before .before .before .before .before .inside2 .ensures .0) (c .before .before .before .before .before .before .before .before .before .before .before .before .inside2 .ensures .1 ∙ c .before .before .before .before .before .before .before .before .before .before .before .before .before .before .before .before .before .before .before .before .before .before .before .before .before .before .before .before .before .before .before .before .less .ensures) (c .before .before .before .step2 .ensures) (c .before .before .copy2 .ensures .1) (c .before .before .before .before .before .before .before .before .before .before .before .before .before .before .before .before .before .before .before .before .before .before .before .before .before .before .before .before .before .copy .ensures .0 _ _) (c .before .before .before .before .before .before .before .before .before .before .before .before .before .before .before .before .before .before .before .before .before .before .key .ensures) (c .before .before .before .before .before .before .before .before .before .before .before .view .ensures) (c .before .before .copy2 .ensures .0 _ _)
+prop-returns t c = viewing.property-does _ _ _ _ _ _ _ _ _ _ _ _ _ _ _ (c .before .before .before .before .before .before .before .before .before .before .before .before .before .before .before .before .before .before .before .before .before .before .before .before .before .before .before .before .before .before .step .ensures) (c .before .before .before .before .before .before .before .before .before .before .before .before .before .before .before .before .before .before .before .before .before .before .before .before .before .before .before .before .before .copy .ensures .1) (c .before .before .before .before .before .before .before .before .before .before .before .before .before .before .before .before .before .before .before .before .before .before .before .inside .ensures .0) (c .before .before .before .before .before .before .before .before .before .before .before .before .before .before .before .before .before .before .before .before .before .before .before .inside .ensures .1 ∙ c .before .before .before .before .before .before .before .before .before .before .before .before .before .before .before .before .before .before .before .before .before .before .before .before .before .before .before .before .before .before .before .before .less .ensures) (c .before .before .before .before .before .before .before .before .before .before .before .before .inside2 .ensures .0) (c .before .before .before .before .before .before .before .before .before .before .before .before .inside2 .ensures .1 ∙ c .before .before .before .before .before .before .before .before .before .before .before .before .before .before .before .before .before .before .before .before .before .before .before .before .before .before .before .before .before .before .before .before .less .ensures) (c .before .before .before .step2 .ensures) (c .before .before .copy2 .ensures .1) (c .before .before .before .before .before .before .before .before .before .before .before .before .before .before .before .before .before .before .before .before .before .before .before .before .before .before .before .before .before .copy .ensures .0 _ _) (c .before .before .before .before .before .before .before .before .before .before .before .before .before .before .before .before .before .before .before .before .before .before .key .ensures) (c .before .before .before .before .before .before .before .before .before .before .before .view .ensures) (c .before .before .copy2 .ensures .0 _ _)
 
 pt-returns : (t : ℕ) → cycle.Lts-pt.Need-returns (pt-claims t) (at-measure pt.Kinds.ps μ-pt pt.Reads.Pre t) pt.Reads.Post
 pt-returns t c = (
@@ -1111,7 +1088,7 @@ read-returns-3 : (t : ℕ) → cycle.Lts-read.Need-returns-3 (read-claims t) (at
 read-returns-3 t c = (c .before .before .mapped .ensures .1 ∙ c .before .before .before .before .before .before .before .before .before .before .keys2 .ensures .0 ∙ c .before .before .before .before .before .before .before .before .before .before .before .before .before .before .before .before .put22 .ensures .1 ∙ c .before .before .before .before .before .before .before .before .before .before .before .before .before .before .before .before .before .before .before .before .put2 .ensures .1, excluding.read-any _ _ _ _ _ _ (c .before .before .before .before .before .before .before .before .before .before .before .before .before .before .before .before .before .before .before .before .before .before .before .before .before .hoisted .ensures) (c .before .before .before .before .before .before .before .before .before .before .before .before .before .before .before .before .before .before .before .before .before .before .before .before .if1 .left) (c .before .before .before .before .before .before .before .before .before .before .before .before .before .before .before .before .before .before .before .before .before .before .before .all-primitive .ensures) (c .before .before .before .before .before .before .before .before .before .before .before .before .before .before .before .before .before .before .before .before .before .before .if2 .left) (c .before .before .before .before .before .before .before .before .before .before .before .before .before .before .before .before .before .before .before .before .put2 .ensures .0 _ _) (c .before .before .before .before .before .before .before .before .before .before .before .before .before .before .before .before .put22 .ensures .0 _ _) (c .before .before .before .before .before .before .before .before .before .before .keys2 .ensures .1) (c .before .before .mapped .ensures .0 _ _))
 
 rest-returns : (t : ℕ) → cycle.Lts-rest.Need-returns (rest-claims t) (at-measure rest.Kinds.ps μ-rest rest.Reads.Pre t) rest.Reads.Post
-rest-returns t c = (refl, λ good k clear. walked.passed _ _ (c .before .passes .ensures) (c .if1 .taken) clear)
+rest-returns t c = (refl, λ good k clear. walked.passed true _ (c .before .passes .ensures) (c .if1 .taken) (λ _. clear))
 
 rest-returns-2 : (t : ℕ) → cycle.Lts-rest.Need-returns-2 (rest-claims t) (at-measure rest.Kinds.ps μ-rest rest.Reads.Pre t) rest.Reads.Post
 rest-returns-2 t c = (c .before .before .before .before .before .before .source2 .ensures .0 ∙ c .before .before .before .before .before .before .before .before .before .before .before .before .before .before .before .before .source .ensures .0 ∙ c .before .before .before .before .before .before .before .before .before .before .before .before .before .before .before .before .before .before .before .before .before .before .empty-rest .ensures .1, λ good k _. excluding.rest-whole _ _ _ _ _ (c .before .before .before .before .before .before .before .before .before .before .before .before .before .before .before .before .before .before .before .before .before .before .before .before .before .has-no-properties .ensures) (c .before .before .before .before .before .before .before .before .before .before .before .before .before .before .before .before .before .before .before .before .before .before .before .before .if2 .taken) (c .before .before .before .before .before .before .before .before .before .before .before .before .before .before .before .before .before .before .before .before .before .before .empty-rest .ensures .0 _ _) (c .before .before .before .before .before .before .before .before .before .before .before .before .before .before .before .before .source .ensures .1) (c .before .before .before .before .before .before .source2 .ensures .1))
@@ -1119,35 +1096,26 @@ rest-returns-2 t c = (c .before .before .before .before .before .before .source2
 rest-returns-3 : (t : ℕ) → cycle.Lts-rest.Need-returns-3 (rest-claims t) (at-measure rest.Kinds.ps μ-rest rest.Reads.Pre t) rest.Reads.Post
 rest-returns-3 t c = (c .before .before .before .before .before .before .read .ensures .0 ∙ c .before .before .before .before .before .before .before .before .before .before .before .before .before .before .before .before .before .source3 .ensures .0 ∙ c .before .before .before .before .before .before .before .before .before .before .before .before .before .before .before .before .before .before .before .before .before .before .before .call .ensures .1, λ good k _. excluding.rest-keys _ _ _ _ _ _ _ _ (c .before .before .before .before .before .before .before .before .before .before .before .before .before .before .before .before .before .before .before .before .before .before .before .before .before .before .has-no-properties .ensures) (c .before .before .before .before .before .before .before .before .before .before .before .before .before .before .before .before .before .before .before .before .before .before .before .before .before .if2 .left) (c .before .before .before .before .before .before .before .inside .ensures .0) (c .before .before .before .before .before .before .before .inside .ensures .1) (c .before .before .before .before .before .before .before .before .before .before .before .before .before .before .before .before .before .before .before .before .before .before .before .call .ensures .0 _ _) (c .before .before .before .before .before .before .before .before .before .before .before .before .before .before .before .before .before .source3 .ensures .1) (c .before .before .before .before .before .before .read .ensures .1) good k)
 
-ro-returns : (t : ℕ) → cycle.Lts-ro.Need-returns (ro-claims t) (at-measure ro.Kinds.ps μ-ro ro.Reads.Pre t) ro.Reads.Post
-ro-returns t c = assigning.rof-only _ _ _ _ _ _ _ _ _ _ (c .before .before .before .before .before .before .before .before .before .before .before .before .before .if1 .taken) (c .before .before .before .before .before .before .before .before .before .before .before .before .to .ensures .0 _ _ _) (c .before .before .before .before .before .before .before .before .before .before .before .before .to .ensures .1) (c .before .before .before .before .before .before .before .before .less .ensures) (c .before .before .before .before .before .before .before .inside .ensures) (c .before .before .before .before .before .before .node .ensures .1)
-
-ro-rest-requires : (t : ℕ) → cycle.Lts-ro.Need-rest-requires (ro-claims t) (at-measure ro.Kinds.ps μ-ro ro.Reads.Pre t) ro.Reads.Post
-ro-rest-requires t c κs = (omega (arith, c .before .before .before .before .before .before .before .before .before .before .before .before .before .before .before .before .before .before .before .before .before .before .before .before .before .before .before .before .pre .0, c .before .before .inside3 .ensures .1, c .before .before .before .before .before .before .before .before .before .before .before .before .before .inside2 .ensures .1, c .before .before .before .before .before .before .before .before .before .before .before .before .before .before .less2 .ensures), tt)
-
-ro-returns-2 : (t : ℕ) → cycle.Lts-ro.Need-returns-2 (ro-claims t) (at-measure ro.Kinds.ps μ-ro ro.Reads.Pre t) ro.Reads.Post
-ro-returns-2 t c = assigning.rof-done _ _ _ _ _ _ _ _ _ _ _ _ _ _ (c .before .before .before .before .before .before .before .before .before .before .before .before .before .before .before .before .before .before .before .before .before .before .before .before .before .before .before .before .assign .ensures .0 _ _) (c .before .before .before .before .before .before .before .before .before .before .before .before .before .before .before .before .before .before .before .before .before .before .before .before .before .to2 .ensures .0 _ _ _) (c .before .before .before .before .before .before .before .before .before .before .before .before .before .before .before .before .before .before .before .before .before .before .before .before .before .to2 .ensures .1) (c .before .before .before .before .before .before .before .before .before .before .before .before .before .before .before .before .before .before .before .before .before .less2 .ensures) (c .before .before .before .before .before .before .before .before .before .before .before .before .before .before .before .before .before .before .before .before .inside2 .ensures) (c .before .before .before .before .before .before .before .before .before .before .before .before .before .before .before .before .before .before .before .node2 .ensures .1) (c .before .before .before .before .before .before .before .before .cell .ensures) (c .before .before .before .before .before .before .before .cell-source .ensures) (c .before .before .before .before .before .before .before .before .before .inside3 .ensures) (c .before .before .before .before .before .before .rest .ensures .1) (c .before .before .before .before .before .before .before .before .before .before .before .before .before .before .before .before .before .before .before .before .before .before .before .before .before .before .before .before .before .before .if1 .left)
-
 abbrev seq-Inv-loop : cycle.Lts-seq.InvT-loop
-seq-Inv-loop t out₀ list₀ work₀ c mode x holes count v₀ n₀ out list work v n = (length out ≡ length out₀) × (length list ≡ length list₀) × (length work ≡ length work₀) × (x < 16384 → GoodItems t (lookNode t (c .left)) (Good t (c .left)) false holes count (v₀ .at) → AllSuit mode (lookItems t (lookNode t (c .left)) holes count (v₀ .at) .value) → turning.Along t mode x (placeOf c) (c .left) holes count (v₀ .at) n (v .at) (goingOf out₀ list₀ work₀ v₀) (goingOf out list work v))
+seq-Inv-loop t out₀ list₀ work₀ c mode holes count v₀ n₀ out list work v n = (length out ≡ length out₀) × (length list ≡ length list₀) × (length work ≡ length work₀) × (GoodItems t (lookNode t (c .left)) (Good t (c .left)) false holes count (v₀ .at) → AllSuit mode (lookItems t (lookNode t (c .left)) holes count (v₀ .at) .value) → turning.Along t mode (placeOf c) (c .left) holes count (v₀ .at) n (v .at) (goingOf out₀ list₀ work₀ v₀) (goingOf out list work v))
 
 abbrev seq-μ-loop : cycle.Lts-seq.MeasureT-loop
-seq-μ-loop t out₀ list₀ work₀ c mode x holes count v₀ n₀ out list work v n = n
+seq-μ-loop t out₀ list₀ work₀ c mode holes count v₀ n₀ out list work v n = n
 
 seq-loop-holds :
     (t : ℕ) →
     cycle.Lts-seq.Need-loop-holds (seq-claims t) (at-measure seq.Kinds.ps μ-seq seq.Reads.Pre t) seq.Reads.Post seq-Inv-loop seq-μ-loop
-seq-loop-holds t c = (refl, refl, refl, λ s g a. turning.along-start _ _ _ _ _ _ _ _ _ g a)
+seq-loop-holds t c = (refl, refl, refl, λ g a. turning.along-start _ _ _ _ _ _ _ _ g a)
 
 seq-loop-again :
     (t : ℕ) →
     cycle.Lts-seq.Need-loop-again (seq-claims t) (at-measure seq.Kinds.ps μ-seq seq.Reads.Pre t) seq.Reads.Post seq-Inv-loop seq-μ-loop
-seq-loop-again t c = (omega (arith, c .before .before .before .before .before .before .before .before .before .before .before .loop .inv .0, c .before .before .before .before .before .before .turn .kept), omega (arith, c .before .before .before .before .before .before .before .before .before .before .before .loop .inv .1, c .before .before .before .before .before .before .turn .kept), omega (arith, c .before .before .before .before .before .before .before .before .before .before .before .loop .inv .2, c .before .before .before .before .before .before .turn .kept), λ s g a. turning.along-more _ _ _ _ _ _ _ s (c .before .before .before .before .before .before .before .before .before .before .loop-test .taken) (c .before .before .before .before .before .before .turn .ensures) (c .before .before .before .before .before .before .before .before .before .before .before .loop .inv .3 s g a))
+seq-loop-again t c = (omega (arith, c .before .before .before .before .before .before .before .before .before .before .before .loop .inv .0, c .before .before .before .before .before .before .turn .kept), omega (arith, c .before .before .before .before .before .before .before .before .before .before .before .loop .inv .1, c .before .before .before .before .before .before .turn .kept), omega (arith, c .before .before .before .before .before .before .before .before .before .before .before .loop .inv .2, c .before .before .before .before .before .before .turn .kept), λ g a. turning.along-more _ _ _ _ _ _ (c .before .before .before .before .before .before .before .before .before .before .loop-test .taken) (c .before .before .before .before .before .before .turn .ensures) (c .before .before .before .before .before .before .before .before .before .before .before .loop .inv .3 g a))
 
 seq-returns :
     (t : ℕ) →
     cycle.Lts-seq.Need-returns (seq-claims t) (at-measure seq.Kinds.ps μ-seq seq.Reads.Pre t) seq.Reads.Post seq-Inv-loop seq-μ-loop
-seq-returns t c = λ s g a. turning.along-end _ _ _ _ _ _ (c .loop-test .left) (c .before .loop .inv .3 s g a)
+seq-returns t c = λ g a. turning.along-end _ _ _ _ _ (c .loop-test .left) (c .before .loop .inv .3 g a)
 
 slot-returns : (t : ℕ) → cycle.Lts-slot.Need-returns (slot-claims t) (at-measure slot.Kinds.ps μ-slot slot.Reads.Pre t) slot.Reads.Post
 slot-returns t c = (skipping.slot-absent _ _ _ _ _ (c .if1 .taken), λ g. law.slot-none _ _ _ _ _ _ _ (c .if1 .taken))
@@ -1177,10 +1145,10 @@ tb-returns-3 : (t : ℕ) → cycle.Lts-tb.Need-returns-3 (tb-claims t) (at-measu
 tb-returns-3 t c = looping.target-statement _ _ _ _ _ _ _ _ _ _ _ _ (c .before .before .before .before .before .before .before .before .before .before .before .before .before .before .before .before .before .before .before .before .before .before .before .before .before .before .before .before .peek .ensures) (c .before .before .before .before .before .before .before .before .before .before .before .before .before .before .before .before .before .before .before .before .before .before .before .before .before .before .before .match .rest .0 .1) (c .before .before .before .before .before .before .before .before .before .before .before .before .before .before .before .before .before .before .before .before .before .before .before .before .before .before .before .match .rest .1) (c .before .before .before .before .before .before .before .before .before .before .before .before .before .before .before .before .before .before .before .scoped4 .ensures .0) (c .before .before .before .before .before .before .before .before .before .before .before .before .before .before .before .before .before .before .before .scoped4 .ensures .1) (c .before .before .before .before .before .before .before .scoped5 .ensures .0) (c .before .before .before .before .before .before .before .scoped5 .ensures .1) (c .before .before .before .before .before .before .before .before .before .before .before .to3 .ensures .1) (c .before .before .before .before .before .before .before .before .before .before .before .to3 .ensures .0 _ _ _) (c .before .before .before .before .before .before .before .before .before .before .before .before .before .before .before .before .before .before .before .before .before .before .before .before .before .block2 .ensures .0 _ _) (c .before .before .before .before .before .before .before .before .before .before .before .before .before .before .before .before .before .before .ta3 .ensures) (c .before .before .before .before .before .before .item .ensures)
 
 tg-returns : (t : ℕ) → cycle.Lts-tg.Need-returns (tg-claims t) (at-measure tg.Kinds.ps μ-tg tg.Reads.Pre t) tg.Reads.Post
-tg-returns t c = assigning.tgt-nested _ _ _ _ _ _ _ _ (c .before .before .before .before .before .before .before .before .before .before .before .before .rest-in-arrays .ensures) (c .before .before .before .before .before .before .before .before .before .before .before .if1 .taken) (c .before .before .before .before .before .before .before .before .before .before .before .before .before .inside .ensures) (c .before .before .before .before .before .before .before .cell .ensures) (c .before .before .before .before .before .before .ns .ensures)
+tg-returns t c = assigning.tgt-nested _ _ _ _ _ _ _ _ (c .before .before .before .before .before .before .before .before .before .before .before .before .object-count .ensures .0) (c .before .before .before .before .before .before .before .before .before .before .before .if1 .taken) (c .before .before .before .before .before .before .before .before .before .before .before .before .before .inside .ensures) (c .before .before .before .before .before .before .before .cell .ensures) (c .before .before .before .before .before .before .ns .ensures)
 
 tg-returns-2 : (t : ℕ) → cycle.Lts-tg.Need-returns-2 (tg-claims t) (at-measure tg.Kinds.ps μ-tg tg.Reads.Pre t) tg.Reads.Post
-tg-returns-2 t c = assigning.tgt-kept _ _ _ _ _ _ _ _ _ _ (c .before .before .before .before .before .before .before .before .before .before .before .before .before .before .before .before .before .before .before .before .before .before .before .before .before .before .before .rest-in-arrays .ensures) (c .before .before .before .before .before .before .before .before .before .before .before .before .before .before .before .before .before .before .before .before .before .before .before .before .before .before .if1 .left) (c .before .before .before .before .before .before .before .before .before .before .before .before .before .before .before .before .before .before .before .before .before .before .before .before .before .before .before .before .inside .ensures) (c .before .before .before .before .before .before .before .before .before .before .before .before .before .before .before .before .before .before .before .before .before .before .before .before .assign .ensures .0 _ _) (c .before .before .before .before .before .before .before .before .before .before .before .before .before .before .before .before .before .before .before .before .before .to .ensures .0 _ _ _) (c .before .before .before .before .before .before .before .before .before .before .before .before .before .before .before .before .before .before .before .before .before .to .ensures .1) (c .before .before .before .before .before .before .before .before .before .before .before .before .before .before .before .before .before .view .ensures) (c .before .before .before .before .before .before .before .cell2 .ensures) (c .before .before .before .before .before .before .temporary .ensures .0)
+tg-returns-2 t c = assigning.tgt-kept _ _ _ _ _ _ _ _ _ _ (c .before .before .before .before .before .before .before .before .before .before .before .before .before .before .before .before .before .before .before .before .before .before .before .before .before .before .before .object-count .ensures .0) (c .before .before .before .before .before .before .before .before .before .before .before .before .before .before .before .before .before .before .before .before .before .before .before .before .before .before .if1 .left) (c .before .before .before .before .before .before .before .before .before .before .before .before .before .before .before .before .before .before .before .before .before .before .before .before .before .before .before .before .inside .ensures) (c .before .before .before .before .before .before .before .before .before .before .before .before .before .before .before .before .before .before .before .before .before .before .before .before .assign .ensures .0 _ _) (c .before .before .before .before .before .before .before .before .before .before .before .before .before .before .before .before .before .before .before .before .before .to .ensures .0 _ _ _) (c .before .before .before .before .before .before .before .before .before .before .before .before .before .before .before .before .before .before .before .before .before .to .ensures .1) (c .before .before .before .before .before .before .before .before .before .before .before .before .before .before .before .before .before .view .ensures) (c .before .before .before .before .before .before .before .cell2 .ensures) (c .before .before .before .before .before .before .temporary .ensures .0)
 
 th-returns : (t : ℕ) → cycle.Lts-th.Need-returns (th-claims t) (at-measure th.Kinds.ps μ-th th.Reads.Pre t) th.Reads.Post
 th-returns t c = λ loop four na ob good. law.good-none _ _ _ (c .if1 .taken) good
@@ -1198,82 +1166,79 @@ th-returns-2 : (t : ℕ) → cycle.Lts-th.Need-returns-2 (th-claims t) (at-measu
 th-returns-2 t c = looping.assigning-does _ _ _ _ _ _ _ _ _ _ _ _ _ (c .before .before .before .before .before .before .before .before .before .before .before .before .before .before .before .before .before .before .before .before .before .before .before .before .before .before .before .before .before .before .before .before .before .before .before .before .before .before .before .before .before .before .before .before .before .before .before .before .before .before .before .before .before .before .less .ensures) (c .before .before .before .before .before .before .before .before .before .before .before .before .before .before .before .before .before .before .before .before .before .before .before .before .before .before .before .before .before .before .before .before .before .before .before .before .before .before .before .before .before .before .before .before .before .before .before .before .before .before .before .before .before .step .ensures) (c .before .before .before .before .before .before .before .before .before .before .before .before .before .before .before .before .before .before .before .before .before .before .before .before .before .before .before .before .before .before .before .before .before .before .before .before .before .before .before .before .before .before .before .before .before .before .before .before .before .before .before .before .scoped .ensures .0) (c .before .before .before .before .before .before .before .before .before .before .before .before .before .before .before .before .before .before .before .before .before .before .before .before .before .before .before .before .before .before .before .before .before .before .before .before .before .before .before .before .before .before .before .before .before .before .before .before .before .before .before .before .scoped .ensures .1) (c .before .before .before .before .before .before .before .before .before .before .before .before .before .before .before .before .before .before .before .before .before .before .before .before .before .before .before .before .before .before .before .before .before .before .before .before .before .before .before .before .before .before .before .before .before .before .before .before .before .before .make .ensures .1) (c .before .before .before .before .before .before .before .before .before .before .before .before .before .before .before .before .before .before .before .before .before .before .before .before .before .skip .ensures) (c .before .before .before .before .before .before .before .before .before .before .before .before .before .before .before .before .before .before .before .before .before .before .before .before .to .ensures .1) (c .before .before .before .before .before .before .before .before .before .before .before .before .before .before .before .before .before .before .before .before .before .before .before .before .to .ensures .0 _ _ _) (c .before .before .before .before .before .before .before .before .before .before .before .before .before .before .before .before .before .before .before .before .before .before .before .before .before .before .before .before .before .before .before .before .before .before .before .before .before .before .before .before .before .before .before .before .before .before .before .before .before .before .make .ensures .0 _ _) (c .before .before .before .before .before .before .before .before .before .before .before .before .before .before .before .before .before .before .before .before .before .before .before .before .before .before .before .before .before .before .before .before .before .before .before .before .before .before .before .before .before .before .before .before .before .before .copy .ensures .0 _ _) (c .before .before .before .before .before .before .before .before .before .before .before .before .before .before .before .before .before .before .before .before .before .before .before .before .before .before .before .before .before .before .before .before .before .before .before .before .before .before .before .before .before .before .declaration .ensures .0 _ _) (c .before .before .before .before .before .before .before .before .before .before .before .before .before .before .before .before .before .before .before .before .before .before .before .before .before .before .before .before .before .before .before .before .before .before .before .before .before .before .put2 .ensures .0 _ _) (c .before .before .before .before .before .before .before .before .before .before .before .before .before .before .before .before .before .before .before .before .before .before .before .before .before .before .before .before .before .before .before .before .temporary .ensures .0) (c .before .before .before .before .before .before .before .before .before .before .before .before .before .before .before .before .before .before .before .before .node .ensures) (c .before .before .before .before .before .before .before .before .before .before .tb .ensures) (c .before .before .await-of .ensures _ _)
 
 top-returns : (t : ℕ) → cycle.Lts-top.Need-returns (top-claims t) (at-measure top.Kinds.ps μ-top top.Reads.Pre t) top.Reads.Post
-top-returns t c = λ k h g x a. assigning.top-refused _ _ _ _ _ _ _ (c .before .before .before .before .before .through-objects-lacks-form .ensures) (c .before .before .before .before .if1 .taken) (c .before .before .refuse .ensures .0 _ _)
+top-returns t c = λ k h g x a. assigning.top-refused _ _ _ _ _ _ _ _ (c .before .before .before .before .before .lacks-form .ensures) (c .before .before .before .before .if1 .taken) (c .before .before .refuse .ensures .0 _ _)
+
+top-rest-requires : (t : ℕ) → cycle.Lts-top.Need-rest-requires (top-claims t) (at-measure top.Kinds.ps μ-top top.Reads.Pre t) top.Reads.Post
+top-rest-requires t c κs = (omega (arith, c .before .before .before .before .before .before .before .before .before .before .before .before .before .before .before .before .before .before .before .before .before .before .before .before .before .before .before .before .before .before .before .before .before .before .before .before .before .before .before .before .before .before .before .before .before .before .before .before .before .before .before .before .before .before .before .before .before .before .before .before .before .before .before .before .before .before .before .before .before .before .before .before .before .before .before .before .before .before .before .before .before .before .before .before .before .before .before .before .before .pre .0, c .before .before .before .before .before .before .before .before .before .before .before .before .before .before .before .before .before .before .before .before .before .before .before .before .before .before .before .before .before .before .before .before .before .before .before .before .before .before .before .before .before .before .before .before .before .before .before .before .before .before .before .before .before .before .before .before .before .before .before .before .before .before .before .before .before .before .before .before .before .before .before .before .before .before .before .before .before .before .before .before .before .before .inside .ensures .1), tt)
 
 top-same-length-2 : (t : ℕ) → cycle.Lts-top.Need-same-length-2 (top-claims t) (at-measure top.Kinds.ps μ-top top.Reads.Pre t) top.Reads.Post
-top-same-length-2 t c = omega (arith, c .before .before .before .before .before .before .before .deep .kept, c .before .before .before .before .before .before .before .before .before .before .before .before .before .before .before .before .before .before .before .before .tg .kept, c .before .before .before .before .before .before .before .before .before .before .before .before .before .before .before .before .before .before .before .before .before .before .before .before .before .before .before .before .before .before .gv .kept, c .before .before .before .before .before .before .before .before .before .before .before .before .before .before .before .before .before .before .before .before .before .before .before .before .before .before .before .before .before .before .before .before .before .before .before .before .before .before .before .before .before .temporary .kept, c .before .before .before .before .before .before .before .before .before .before .before .before .before .before .before .before .before .before .before .before .before .before .before .before .before .before .before .before .before .before .before .before .before .before .before .before .before .before .before .before .before .before .before .before .before .before .before .before .assign .kept, c .before .before .before .before .before .before .before .before .before .before .before .before .before .before .before .before .before .before .before .before .before .before .before .before .before .before .before .before .before .before .before .before .before .before .before .before .before .before .before .before .before .before .before .before .before .before .before .before .before .before .before .before .wide .kept, c .before .before .before .before .before .before .before .before .before .before .before .before .before .before .before .before .before .before .before .before .before .before .before .before .before .before .before .before .before .before .before .before .before .before .before .before .before .before .before .before .before .before .before .before .before .before .before .before .before .before .before .before .before .before .before .before .put2 .kept)
+top-same-length-2 t c = omega (arith, c .before .before .before .before .before .before .before .rest .kept, c .before .before .before .before .before .before .before .before .before .before .before .before .before .before .before .before .before .before .before .node .kept, c .before .before .before .before .before .before .before .before .before .before .before .before .before .before .before .before .before .before .before .before .before .before .before .before .before .before .before .assign2 .kept, c .before .before .before .before .before .before .before .before .before .before .before .before .before .before .before .before .before .before .before .before .before .before .before .before .before .before .before .before .before .before .before .before .before .before .before .pr .kept, c .before .before .before .before .before .before .before .before .before .before .before .before .before .before .before .before .before .before .before .before .before .before .before .before .before .before .before .before .before .before .before .before .before .before .before .before .before .before .before .before .before .before .before .before .before .tg .kept, c .before .before .before .before .before .before .before .before .before .before .before .before .before .before .before .before .before .before .before .before .before .before .before .before .before .before .before .before .before .before .before .before .before .before .before .before .before .before .before .before .before .before .before .before .before .before .before .before .before .before .before .before .before .before .before .gv .kept, c .before .before .before .before .before .before .before .before .before .before .before .before .before .before .before .before .before .before .before .before .before .before .before .before .before .before .before .before .before .before .before .before .before .before .before .before .before .before .before .before .before .before .before .before .before .before .before .before .before .before .before .before .before .before .before .before .before .before .before .before .before .before .before .before .before .temporary .kept, c .before .before .before .before .before .before .before .before .before .before .before .before .before .before .before .before .before .before .before .before .before .before .before .before .before .before .before .before .before .before .before .before .before .before .before .before .before .before .before .before .before .before .before .before .before .before .before .before .before .before .before .before .before .before .before .before .before .before .before .before .before .before .before .before .before .before .before .before .before .before .before .before .assign .kept, c .before .before .before .before .before .before .before .before .before .before .before .before .before .before .before .before .before .before .before .before .before .before .before .before .before .before .before .before .before .before .before .before .before .before .before .before .before .before .before .before .before .before .before .before .before .before .before .before .before .before .before .before .before .before .before .before .before .before .before .before .before .before .before .before .before .before .before .before .before .before .before .before .before .before .before .before .wide .kept, c .before .before .before .before .before .before .before .before .before .before .before .before .before .before .before .before .before .before .before .before .before .before .before .before .before .before .before .before .before .before .before .before .before .before .before .before .before .before .before .before .before .before .before .before .before .before .before .before .before .before .before .before .before .before .before .before .before .before .before .before .before .before .before .before .before .before .before .before .before .before .before .before .before .before .before .before .before .before .before .before .put2 .kept)
 
 top-same-length-3 : (t : ℕ) → cycle.Lts-top.Need-same-length-3 (top-claims t) (at-measure top.Kinds.ps μ-top top.Reads.Pre t) top.Reads.Post
-top-same-length-3 t c = omega (arith, c .before .before .before .before .before .before .before .deep .kept, c .before .before .before .before .before .before .before .before .before .before .before .before .before .before .before .before .before .before .before .before .tg .kept, c .before .before .before .before .before .before .before .before .before .before .before .before .before .before .before .before .before .before .before .before .before .before .before .before .before .before .before .before .before .before .gv .kept, c .before .before .before .before .before .before .before .before .before .before .before .before .before .before .before .before .before .before .before .before .before .before .before .before .before .before .before .before .before .before .before .before .before .before .before .before .before .before .before .before .before .temporary .kept, c .before .before .before .before .before .before .before .before .before .before .before .before .before .before .before .before .before .before .before .before .before .before .before .before .before .before .before .before .before .before .before .before .before .before .before .before .before .before .before .before .before .before .before .before .before .before .before .before .before .before .before .before .before .before .before .before .before .before .before .before .before .before .before .top-hands .kept)
+top-same-length-3 t c = omega (arith, c .before .before .before .before .before .before .before .rest .kept, c .before .before .before .before .before .before .before .before .before .before .before .before .before .before .before .before .before .before .before .node .kept, c .before .before .before .before .before .before .before .before .before .before .before .before .before .before .before .before .before .before .before .before .before .before .before .before .before .before .before .before .before .before .before .before .before .before .before .pr .kept, c .before .before .before .before .before .before .before .before .before .before .before .before .before .before .before .before .before .before .before .before .before .before .before .before .before .before .before .before .before .before .before .before .before .before .before .before .before .before .before .before .before .before .before .before .before .tg .kept, c .before .before .before .before .before .before .before .before .before .before .before .before .before .before .before .before .before .before .before .before .before .before .before .before .before .before .before .before .before .before .before .before .before .before .before .before .before .before .before .before .before .before .before .before .before .before .before .before .before .before .before .before .before .before .before .gv .kept, c .before .before .before .before .before .before .before .before .before .before .before .before .before .before .before .before .before .before .before .before .before .before .before .before .before .before .before .before .before .before .before .before .before .before .before .before .before .before .before .before .before .before .before .before .before .before .before .before .before .before .before .before .before .before .before .before .before .before .before .before .before .before .before .before .before .temporary .kept, c .before .before .before .before .before .before .before .before .before .before .before .before .before .before .before .before .before .before .before .before .before .before .before .before .before .before .before .before .before .before .before .before .before .before .before .before .before .before .before .before .before .before .before .before .before .before .before .before .before .before .before .before .before .before .before .before .before .before .before .before .before .before .before .before .before .before .before .before .before .before .before .before .before .before .before .before .before .before .before .before .before .before .before .before .before .before .before .top-hands .kept)
 
 top-same-length-4 : (t : ℕ) → cycle.Lts-top.Need-same-length-4 (top-claims t) (at-measure top.Kinds.ps μ-top top.Reads.Pre t) top.Reads.Post
-top-same-length-4 t c = omega (arith, c .before .before .before .before .before .before .before .deep .kept, c .before .before .before .before .before .before .before .before .before .before .before .before .before .before .before .before .before .before .before .before .tg .kept, c .before .before .before .before .before .before .before .before .before .before .before .before .before .before .before .before .before .before .before .before .before .before .before .before .before .before .before .before .before .before .gv .kept, c .before .before .before .before .before .before .before .before .before .before .before .before .before .before .before .before .before .before .before .before .before .before .before .before .before .before .before .before .before .before .before .before .before .before .before .before .before .before .before .before .before .temporary .kept, c .before .before .before .before .before .before .before .before .before .before .before .before .before .before .before .before .before .before .before .before .before .before .before .before .before .before .before .before .before .before .before .before .before .before .before .before .before .before .before .before .before .before .before .before .before .before .before .before .before .before .before .before .before .before .before .before .before .before .before .before .before .before .before .top-hands .kept)
+top-same-length-4 t c = omega (arith, c .before .before .before .before .before .before .before .rest .kept, c .before .before .before .before .before .before .before .before .before .before .before .before .before .before .before .before .before .before .before .node .kept, c .before .before .before .before .before .before .before .before .before .before .before .before .before .before .before .before .before .before .before .before .before .before .before .before .before .before .before .before .before .before .before .before .before .before .before .pr .kept, c .before .before .before .before .before .before .before .before .before .before .before .before .before .before .before .before .before .before .before .before .before .before .before .before .before .before .before .before .before .before .before .before .before .before .before .before .before .before .before .before .before .before .before .before .before .tg .kept, c .before .before .before .before .before .before .before .before .before .before .before .before .before .before .before .before .before .before .before .before .before .before .before .before .before .before .before .before .before .before .before .before .before .before .before .before .before .before .before .before .before .before .before .before .before .before .before .before .before .before .before .before .before .before .before .gv .kept, c .before .before .before .before .before .before .before .before .before .before .before .before .before .before .before .before .before .before .before .before .before .before .before .before .before .before .before .before .before .before .before .before .before .before .before .before .before .before .before .before .before .before .before .before .before .before .before .before .before .before .before .before .before .before .before .before .before .before .before .before .before .before .before .before .before .temporary .kept, c .before .before .before .before .before .before .before .before .before .before .before .before .before .before .before .before .before .before .before .before .before .before .before .before .before .before .before .before .before .before .before .before .before .before .before .before .before .before .before .before .before .before .before .before .before .before .before .before .before .before .before .before .before .before .before .before .before .before .before .before .before .before .before .before .before .before .before .before .before .before .before .before .before .before .before .before .before .before .before .before .before .before .before .before .before .before .before .top-hands .kept)
 
 top-returns-2 : (t : ℕ) → cycle.Lts-top.Need-returns-2 (top-claims t) (at-measure top.Kinds.ps μ-top top.Reads.Pre t) top.Reads.Post
-top-returns-2 t c = λ k h. assigning.top-does _ _ _ _ _ _ _ _ _ _ _ _ _ _ _ _ _ (c .before .before .before .before .before .before .before .before .before .before .before .before .before .before .before .before .before .before .before .before .before .before .before .before .before .before .before .before .before .before .before .before .before .before .before .before .before .before .before .before .before .before .before .before .before .before .before .before .before .before .before .before .before .before .before .before .before .before .before .before .before .before .before .before .before .before .before .through-objects-lacks-form .ensures) (c .before .before .before .before .before .before .before .before .before .before .before .before .before .before .before .before .before .before .before .before .before .before .before .before .before .before .before .before .before .before .before .before .before .before .before .before .before .before .before .before .before .before .before .before .before .before .before .before .before .before .before .before .before .before .before .before .before .before .before .before .before .before .before .before .before .before .if1 .left) (c .before .before .before .before .before .before .before .before .before .before .before .before .before .before .before .before .before .before .before .before .before .before .before .before .before .before .before .before .before .before .before .before .before .before .before .before .before .before .before .before .before .before .before .before .before .before .before .before .before .before .before .before .before .before .before .before .before .before .before .before .before .before .before .top-hands .ensures .1 _) (c .before .before .before .before .before .before .before .before .before .before .before .before .before .before .before .before .before .before .before .before .before .before .before .before .before .before .before .before .before .before .before .before .before .before .before .before .before .before .before .before .before .before .before .before .before .before .before .before .before .before .before .before .before .before .before .before .before .before .top-count .ensures .0) (c .before .before .before .before .before .before .before .before .before .before .before .before .before .before .before .before .before .before .before .before .before .before .before .before .before .before .before .before .before .before .before .before .before .before .before .before .before .before .before .before .before .before .before .before .before .before .before .before .before .before .before .before .before .before .before .before .put2 .ensures .0 _ _) (c .before .before .before .before .before .before .before .before .before .before .before .before .before .before .before .before .before .before .before .before .before .before .before .before .before .before .before .before .before .before .before .before .before .before .before .before .before .before .before .before .before .before .before .before .before .before .before .before .before .before .before .before .wide .ensures .0 _ _) (c .before .before .before .before .before .before .before .before .before .before .before .before .before .before .before .before .before .before .before .before .before .before .before .before .before .before .before .before .before .before .before .before .before .before .before .before .before .before .before .before .before .before .before .before .before .before .before .before .assign .ensures .0 _ _) (c .before .before .before .before .before .before .before .before .before .before .before .before .before .before .before .before .before .before .before .before .before .before .before .before .before .before .before .before .before .before .before .before .before .before .before .before .before .before .before .before .before .before .cell .ensures) (c .before .before .before .before .before .before .before .before .before .before .before .before .before .before .before .before .before .before .before .before .before .before .before .before .before .before .before .before .before .before .before .before .before .before .before .before .before .before .before .before .before .temporary .ensures .0) (c .before .before .before .before .before .before .before .before .before .before .before .before .before .before .before .before .before .before .before .before .before .before .before .before .before .before .before .before .before .before .before .inside .ensures) (c .before .before .before .before .before .before .before .before .before .before .before .before .before .before .before .before .before .before .before .before .before .before .before .before .before .before .before .before .before .before .gv .ensures) (c .before .before .before .before .before .before .before .before .before .before .before .before .before .before .before .before .before .before .before .before .tg .ensures) (c .before .before .before .before .before .before .before .before .before .before .before .before .before .to .ensures .0 _ _ _) (c .before .before .before .before .before .before .before .before .before .before .before .before .before .to .ensures .1) (c .before .before .before .before .before .before .before .before .before .inside2 .ensures) (c .before .before .before .before .before .before .before .before .target .ensures) (c .before .before .before .before .before .before .before .deep .ensures) (λ w. does-nothing _) (assigning.read-none _ _ (c .if2 .taken)) k
+top-returns-2 t c = λ k h. assigning.top-does _ _ _ _ _ _ _ _ _ _ _ _ _ _ _ _ _ _ _ _ (c .before .before .before .before .before .before .before .before .before .before .before .before .before .before .before .before .before .before .before .before .before .before .before .before .before .before .before .before .before .before .before .before .before .before .before .before .before .before .before .before .before .before .before .before .before .before .before .before .before .before .before .before .before .before .before .before .before .before .before .before .before .before .before .before .before .before .before .before .before .before .before .before .before .before .before .before .before .before .before .before .before .before .before .before .before .before .before .before .before .before .before .before .lacks-form .ensures) (c .before .before .before .before .before .before .before .before .before .before .before .before .before .before .before .before .before .before .before .before .before .before .before .before .before .before .before .before .before .before .before .before .before .before .before .before .before .before .before .before .before .before .before .before .before .before .before .before .before .before .before .before .before .before .before .before .before .before .before .before .before .before .before .before .before .before .before .before .before .before .before .before .before .before .before .before .before .before .before .before .before .before .before .before .before .before .before .before .before .before .before .if1 .left) (c .before .before .before .before .before .before .before .before .before .before .before .before .before .before .before .before .before .before .before .before .before .before .before .before .before .before .before .before .before .before .before .before .before .before .before .before .before .before .before .before .before .before .before .before .before .before .before .before .before .before .before .before .before .before .before .before .before .before .before .before .before .before .before .before .before .before .before .before .before .before .before .before .before .before .before .before .before .before .before .before .before .before .before .before .before .before .before .before .before .before .inside .ensures) (c .before .before .before .before .before .before .before .before .before .before .before .before .before .before .before .before .before .before .before .before .before .before .before .before .before .before .before .before .before .before .before .before .before .before .before .before .before .before .before .before .before .before .before .before .before .before .before .before .before .before .before .before .before .before .before .before .before .before .before .before .before .before .before .before .before .before .before .before .before .before .before .before .before .before .before .before .before .before .before .before .before .before .before .before .before .before .before .top-hands .ensures .1 _) (c .before .before .before .before .before .before .before .before .before .before .before .before .before .before .before .before .before .before .before .before .before .before .before .before .before .before .before .before .before .before .before .before .before .before .before .before .before .before .before .before .before .before .before .before .before .before .before .before .before .before .before .before .before .before .before .before .before .before .before .before .before .before .before .before .before .before .before .before .before .before .before .before .before .before .before .before .before .before .before .before .before .before .top-count .ensures .0) (c .before .before .before .before .before .before .before .before .before .before .before .before .before .before .before .before .before .before .before .before .before .before .before .before .before .before .before .before .before .before .before .before .before .before .before .before .before .before .before .before .before .before .before .before .before .before .before .before .before .before .before .before .before .before .before .before .before .before .before .before .before .before .before .before .before .before .before .before .before .before .before .before .before .before .before .before .before .before .before .before .put2 .ensures .0 _ _) (c .before .before .before .before .before .before .before .before .before .before .before .before .before .before .before .before .before .before .before .before .before .before .before .before .before .before .before .before .before .before .before .before .before .before .before .before .before .before .before .before .before .before .before .before .before .before .before .before .before .before .before .before .before .before .before .before .before .before .before .before .before .before .before .before .before .before .before .before .before .before .before .before .before .before .before .before .wide .ensures .0 _ _) (c .before .before .before .before .before .before .before .before .before .before .before .before .before .before .before .before .before .before .before .before .before .before .before .before .before .before .before .before .before .before .before .before .before .before .before .before .before .before .before .before .before .before .before .before .before .before .before .before .before .before .before .before .before .before .before .before .before .before .before .before .before .before .before .before .before .before .before .before .before .before .before .before .assign .ensures .0 _ _) (c .before .before .before .before .before .before .before .before .before .before .before .before .before .before .before .before .before .before .before .before .before .before .before .before .before .before .before .before .before .before .before .before .before .before .before .before .before .before .before .before .before .before .before .before .before .before .before .before .before .before .before .before .before .before .before .before .before .before .before .before .before .before .before .before .before .before .cell .ensures) (c .before .before .before .before .before .before .before .before .before .before .before .before .before .before .before .before .before .before .before .before .before .before .before .before .before .before .before .before .before .before .before .before .before .before .before .before .before .before .before .before .before .before .before .before .before .before .before .before .before .before .before .before .before .before .before .before .before .before .before .before .before .before .before .before .before .temporary .ensures .0) (c .before .before .before .before .before .before .before .before .before .before .before .before .before .before .before .before .before .before .before .before .before .before .before .before .before .before .before .before .before .before .before .before .before .before .before .before .before .before .before .before .before .before .before .before .before .before .before .before .before .before .before .before .before .before .before .gv .ensures) (c .before .before .before .before .before .before .before .before .before .before .before .before .before .before .before .before .before .before .before .before .before .before .before .before .before .before .before .before .before .before .before .before .before .before .before .before .before .before .before .before .before .before .before .before .before .tg .ensures) (c .before .before .before .before .before .before .before .before .before .before .before .before .before .before .before .before .before .before .before .before .before .before .before .before .before .before .before .before .before .before .before .before .before .before .before .pr .ensures) (c .before .before .before .before .before .before .before .before .before .before .before .before .before .before .before .before .before .before .before .before .before .before .before .before .before .before .before .assign2 .ensures .0 _ _) (c .before .before .before .before .before .before .before .before .before .before .before .before .before .before .before .before .before .before .before .before .before .before .before .before .before .before .before .assign2 .ensures .1) (c .before .before .before .before .before .before .before .before .before .before .before .before .before .before .before .before .before .before .before .before .before .less .ensures) (c .before .before .before .before .before .before .before .before .before .before .before .before .before .before .before .before .before .before .before .before .inside2 .ensures) (c .before .before .before .before .before .before .before .before .before .before .before .before .before .before .before .before .before .before .before .node .ensures .1) (c .before .before .before .before .before .before .before .before .before .cell2 .ensures) (c .before .before .before .before .before .before .before .before .cell-source .ensures) (c .before .before .before .before .before .before .before .rest .ensures .1) (λ w. does-nothing _) (assigning.read-none _ _ (c .if2 .taken)) k h
 
 top-same-length-5 : (t : ℕ) → cycle.Lts-top.Need-same-length-5 (top-claims t) (at-measure top.Kinds.ps μ-top top.Reads.Pre t) top.Reads.Post
-top-same-length-5 t c = omega (arith, c .before .before .before .before .before .before .temporary2 .kept, c .before .before .before .before .before .before .before .before .before .before .before .before .before .before .before .before .before .before .deep .kept, c .before .before .before .before .before .before .before .before .before .before .before .before .before .before .before .before .before .before .before .before .before .before .before .before .before .before .before .before .before .before .before .tg .kept, c .before .before .before .before .before .before .before .before .before .before .before .before .before .before .before .before .before .before .before .before .before .before .before .before .before .before .before .before .before .before .before .before .before .before .before .before .before .before .before .before .before .gv .kept, c .before .before .before .before .before .before .before .before .before .before .before .before .before .before .before .before .before .before .before .before .before .before .before .before .before .before .before .before .before .before .before .before .before .before .before .before .before .before .before .before .before .before .before .before .before .before .before .before .before .before .before .before .temporary .kept, c .before .before .before .before .before .before .before .before .before .before .before .before .before .before .before .before .before .before .before .before .before .before .before .before .before .before .before .before .before .before .before .before .before .before .before .before .before .before .before .before .before .before .before .before .before .before .before .before .before .before .before .before .before .before .before .before .before .before .before .assign .kept, c .before .before .before .before .before .before .before .before .before .before .before .before .before .before .before .before .before .before .before .before .before .before .before .before .before .before .before .before .before .before .before .before .before .before .before .before .before .before .before .before .before .before .before .before .before .before .before .before .before .before .before .before .before .before .before .before .before .before .before .before .before .before .before .wide .kept, c .before .before .before .before .before .before .before .before .before .before .before .before .before .before .before .before .before .before .before .before .before .before .before .before .before .before .before .before .before .before .before .before .before .before .before .before .before .before .before .before .before .before .before .before .before .before .before .before .before .before .before .before .before .before .before .before .before .before .before .before .before .before .before .before .before .before .before .put2 .kept)
+top-same-length-5 t c = omega (arith, c .before .before .before .before .before .before .temporary2 .kept, c .before .before .before .before .before .before .before .before .before .before .before .before .before .before .before .before .before .before .rest .kept, c .before .before .before .before .before .before .before .before .before .before .before .before .before .before .before .before .before .before .before .before .before .before .before .before .before .before .before .before .before .before .node .kept, c .before .before .before .before .before .before .before .before .before .before .before .before .before .before .before .before .before .before .before .before .before .before .before .before .before .before .before .before .before .before .before .before .before .before .before .before .before .before .assign2 .kept, c .before .before .before .before .before .before .before .before .before .before .before .before .before .before .before .before .before .before .before .before .before .before .before .before .before .before .before .before .before .before .before .before .before .before .before .before .before .before .before .before .before .before .before .before .before .before .pr .kept, c .before .before .before .before .before .before .before .before .before .before .before .before .before .before .before .before .before .before .before .before .before .before .before .before .before .before .before .before .before .before .before .before .before .before .before .before .before .before .before .before .before .before .before .before .before .before .before .before .before .before .before .before .before .before .before .before .tg .kept, c .before .before .before .before .before .before .before .before .before .before .before .before .before .before .before .before .before .before .before .before .before .before .before .before .before .before .before .before .before .before .before .before .before .before .before .before .before .before .before .before .before .before .before .before .before .before .before .before .before .before .before .before .before .before .before .before .before .before .before .before .before .before .before .before .before .before .gv .kept, c .before .before .before .before .before .before .before .before .before .before .before .before .before .before .before .before .before .before .before .before .before .before .before .before .before .before .before .before .before .before .before .before .before .before .before .before .before .before .before .before .before .before .before .before .before .before .before .before .before .before .before .before .before .before .before .before .before .before .before .before .before .before .before .before .before .before .before .before .before .before .before .before .before .before .before .before .temporary .kept, c .before .before .before .before .before .before .before .before .before .before .before .before .before .before .before .before .before .before .before .before .before .before .before .before .before .before .before .before .before .before .before .before .before .before .before .before .before .before .before .before .before .before .before .before .before .before .before .before .before .before .before .before .before .before .before .before .before .before .before .before .before .before .before .before .before .before .before .before .before .before .before .before .before .before .before .before .before .before .before .before .before .before .before .assign .kept, c .before .before .before .before .before .before .before .before .before .before .before .before .before .before .before .before .before .before .before .before .before .before .before .before .before .before .before .before .before .before .before .before .before .before .before .before .before .before .before .before .before .before .before .before .before .before .before .before .before .before .before .before .before .before .before .before .before .before .before .before .before .before .before .before .before .before .before .before .before .before .before .before .before .before .before .before .before .before .before .before .before .before .before .before .before .before .before .wide .kept, c .before .before .before .before .before .before .before .before .before .before .before .before .before .before .before .before .before .before .before .before .before .before .before .before .before .before .before .before .before .before .before .before .before .before .before .before .before .before .before .before .before .before .before .before .before .before .before .before .before .before .before .before .before .before .before .before .before .before .before .before .before .before .before .before .before .before .before .before .before .before .before .before .before .before .before .before .before .before .before .before .before .before .before .before .before .before .before .before .before .before .before .put2 .kept)
 
 top-same-length-6 : (t : ℕ) → cycle.Lts-top.Need-same-length-6 (top-claims t) (at-measure top.Kinds.ps μ-top top.Reads.Pre t) top.Reads.Post
-top-same-length-6 t c = omega (arith, c .before .before .before .before .before .before .temporary2 .kept, c .before .before .before .before .before .before .before .before .before .before .before .before .before .before .before .before .before .before .deep .kept, c .before .before .before .before .before .before .before .before .before .before .before .before .before .before .before .before .before .before .before .before .before .before .before .before .before .before .before .before .before .before .before .tg .kept, c .before .before .before .before .before .before .before .before .before .before .before .before .before .before .before .before .before .before .before .before .before .before .before .before .before .before .before .before .before .before .before .before .before .before .before .before .before .before .before .before .before .gv .kept, c .before .before .before .before .before .before .before .before .before .before .before .before .before .before .before .before .before .before .before .before .before .before .before .before .before .before .before .before .before .before .before .before .before .before .before .before .before .before .before .before .before .before .before .before .before .before .before .before .before .before .before .before .temporary .kept, c .before .before .before .before .before .before .before .before .before .before .before .before .before .before .before .before .before .before .before .before .before .before .before .before .before .before .before .before .before .before .before .before .before .before .before .before .before .before .before .before .before .before .before .before .before .before .before .before .before .before .before .before .before .before .before .before .before .before .before .before .before .before .before .before .before .before .before .before .before .before .before .before .before .before .top-hands .kept)
+top-same-length-6 t c = omega (arith, c .before .before .before .before .before .before .temporary2 .kept, c .before .before .before .before .before .before .before .before .before .before .before .before .before .before .before .before .before .before .rest .kept, c .before .before .before .before .before .before .before .before .before .before .before .before .before .before .before .before .before .before .before .before .before .before .before .before .before .before .before .before .before .before .node .kept, c .before .before .before .before .before .before .before .before .before .before .before .before .before .before .before .before .before .before .before .before .before .before .before .before .before .before .before .before .before .before .before .before .before .before .before .before .before .before .before .before .before .before .before .before .before .before .pr .kept, c .before .before .before .before .before .before .before .before .before .before .before .before .before .before .before .before .before .before .before .before .before .before .before .before .before .before .before .before .before .before .before .before .before .before .before .before .before .before .before .before .before .before .before .before .before .before .before .before .before .before .before .before .before .before .before .before .tg .kept, c .before .before .before .before .before .before .before .before .before .before .before .before .before .before .before .before .before .before .before .before .before .before .before .before .before .before .before .before .before .before .before .before .before .before .before .before .before .before .before .before .before .before .before .before .before .before .before .before .before .before .before .before .before .before .before .before .before .before .before .before .before .before .before .before .before .before .gv .kept, c .before .before .before .before .before .before .before .before .before .before .before .before .before .before .before .before .before .before .before .before .before .before .before .before .before .before .before .before .before .before .before .before .before .before .before .before .before .before .before .before .before .before .before .before .before .before .before .before .before .before .before .before .before .before .before .before .before .before .before .before .before .before .before .before .before .before .before .before .before .before .before .before .before .before .before .before .temporary .kept, c .before .before .before .before .before .before .before .before .before .before .before .before .before .before .before .before .before .before .before .before .before .before .before .before .before .before .before .before .before .before .before .before .before .before .before .before .before .before .before .before .before .before .before .before .before .before .before .before .before .before .before .before .before .before .before .before .before .before .before .before .before .before .before .before .before .before .before .before .before .before .before .before .before .before .before .before .before .before .before .before .before .before .before .before .before .before .before .before .before .before .before .before .before .before .before .before .before .before .top-hands .kept)
 
 top-same-length-7 : (t : ℕ) → cycle.Lts-top.Need-same-length-7 (top-claims t) (at-measure top.Kinds.ps μ-top top.Reads.Pre t) top.Reads.Post
-top-same-length-7 t c = omega (arith, c .before .before .before .before .before .before .temporary2 .kept, c .before .before .before .before .before .before .before .before .before .before .before .before .before .before .before .before .before .before .deep .kept, c .before .before .before .before .before .before .before .before .before .before .before .before .before .before .before .before .before .before .before .before .before .before .before .before .before .before .before .before .before .before .before .tg .kept, c .before .before .before .before .before .before .before .before .before .before .before .before .before .before .before .before .before .before .before .before .before .before .before .before .before .before .before .before .before .before .before .before .before .before .before .before .before .before .before .before .before .gv .kept, c .before .before .before .before .before .before .before .before .before .before .before .before .before .before .before .before .before .before .before .before .before .before .before .before .before .before .before .before .before .before .before .before .before .before .before .before .before .before .before .before .before .before .before .before .before .before .before .before .before .before .before .before .temporary .kept, c .before .before .before .before .before .before .before .before .before .before .before .before .before .before .before .before .before .before .before .before .before .before .before .before .before .before .before .before .before .before .before .before .before .before .before .before .before .before .before .before .before .before .before .before .before .before .before .before .before .before .before .before .before .before .before .before .before .before .before .before .before .before .before .before .before .before .before .before .before .before .before .before .before .before .top-hands .kept)
+top-same-length-7 t c = omega (arith, c .before .before .before .before .before .before .temporary2 .kept, c .before .before .before .before .before .before .before .before .before .before .before .before .before .before .before .before .before .before .rest .kept, c .before .before .before .before .before .before .before .before .before .before .before .before .before .before .before .before .before .before .before .before .before .before .before .before .before .before .before .before .before .before .node .kept, c .before .before .before .before .before .before .before .before .before .before .before .before .before .before .before .before .before .before .before .before .before .before .before .before .before .before .before .before .before .before .before .before .before .before .before .before .before .before .before .before .before .before .before .before .before .before .pr .kept, c .before .before .before .before .before .before .before .before .before .before .before .before .before .before .before .before .before .before .before .before .before .before .before .before .before .before .before .before .before .before .before .before .before .before .before .before .before .before .before .before .before .before .before .before .before .before .before .before .before .before .before .before .before .before .before .before .tg .kept, c .before .before .before .before .before .before .before .before .before .before .before .before .before .before .before .before .before .before .before .before .before .before .before .before .before .before .before .before .before .before .before .before .before .before .before .before .before .before .before .before .before .before .before .before .before .before .before .before .before .before .before .before .before .before .before .before .before .before .before .before .before .before .before .before .before .before .gv .kept, c .before .before .before .before .before .before .before .before .before .before .before .before .before .before .before .before .before .before .before .before .before .before .before .before .before .before .before .before .before .before .before .before .before .before .before .before .before .before .before .before .before .before .before .before .before .before .before .before .before .before .before .before .before .before .before .before .before .before .before .before .before .before .before .before .before .before .before .before .before .before .before .before .before .before .before .before .temporary .kept, c .before .before .before .before .before .before .before .before .before .before .before .before .before .before .before .before .before .before .before .before .before .before .before .before .before .before .before .before .before .before .before .before .before .before .before .before .before .before .before .before .before .before .before .before .before .before .before .before .before .before .before .before .before .before .before .before .before .before .before .before .before .before .before .before .before .before .before .before .before .before .before .before .before .before .before .before .before .before .before .before .before .before .before .before .before .before .before .before .before .before .before .before .before .before .before .before .before .before .top-hands .kept)
 
 top-returns-3 : (t : ℕ) → cycle.Lts-top.Need-returns-3 (top-claims t) (at-measure top.Kinds.ps μ-top top.Reads.Pre t) top.Reads.Post
-top-returns-3 t c = λ k h. assigning.top-does _ _ _ _ _ _ _ _ _ _ _ _ _ _ _ _ _ (c .before .before .before .before .before .before .before .before .before .before .before .before .before .before .before .before .before .before .before .before .before .before .before .before .before .before .before .before .before .before .before .before .before .before .before .before .before .before .before .before .before .before .before .before .before .before .before .before .before .before .before .before .before .before .before .before .before .before .before .before .before .before .before .before .before .before .before .before .before .before .before .before .before .before .before .before .before .before .through-objects-lacks-form .ensures) (c .before .before .before .before .before .before .before .before .before .before .before .before .before .before .before .before .before .before .before .before .before .before .before .before .before .before .before .before .before .before .before .before .before .before .before .before .before .before .before .before .before .before .before .before .before .before .before .before .before .before .before .before .before .before .before .before .before .before .before .before .before .before .before .before .before .before .before .before .before .before .before .before .before .before .before .before .before .if1 .left) (c .before .before .before .before .before .before .before .before .before .before .before .before .before .before .before .before .before .before .before .before .before .before .before .before .before .before .before .before .before .before .before .before .before .before .before .before .before .before .before .before .before .before .before .before .before .before .before .before .before .before .before .before .before .before .before .before .before .before .before .before .before .before .before .before .before .before .before .before .before .before .before .before .before .before .top-hands .ensures .1 _) (c .before .before .before .before .before .before .before .before .before .before .before .before .before .before .before .before .before .before .before .before .before .before .before .before .before .before .before .before .before .before .before .before .before .before .before .before .before .before .before .before .before .before .before .before .before .before .before .before .before .before .before .before .before .before .before .before .before .before .before .before .before .before .before .before .before .before .before .before .before .top-count .ensures .0) (c .before .before .before .before .before .before .before .before .before .before .before .before .before .before .before .before .before .before .before .before .before .before .before .before .before .before .before .before .before .before .before .before .before .before .before .before .before .before .before .before .before .before .before .before .before .before .before .before .before .before .before .before .before .before .before .before .before .before .before .before .before .before .before .before .before .before .before .put2 .ensures .0 _ _) (c .before .before .before .before .before .before .before .before .before .before .before .before .before .before .before .before .before .before .before .before .before .before .before .before .before .before .before .before .before .before .before .before .before .before .before .before .before .before .before .before .before .before .before .before .before .before .before .before .before .before .before .before .before .before .before .before .before .before .before .before .before .before .before .wide .ensures .0 _ _) (c .before .before .before .before .before .before .before .before .before .before .before .before .before .before .before .before .before .before .before .before .before .before .before .before .before .before .before .before .before .before .before .before .before .before .before .before .before .before .before .before .before .before .before .before .before .before .before .before .before .before .before .before .before .before .before .before .before .before .before .assign .ensures .0 _ _) (c .before .before .before .before .before .before .before .before .before .before .before .before .before .before .before .before .before .before .before .before .before .before .before .before .before .before .before .before .before .before .before .before .before .before .before .before .before .before .before .before .before .before .before .before .before .before .before .before .before .before .before .before .before .cell .ensures) (c .before .before .before .before .before .before .before .before .before .before .before .before .before .before .before .before .before .before .before .before .before .before .before .before .before .before .before .before .before .before .before .before .before .before .before .before .before .before .before .before .before .before .before .before .before .before .before .before .before .before .before .before .temporary .ensures .0) (c .before .before .before .before .before .before .before .before .before .before .before .before .before .before .before .before .before .before .before .before .before .before .before .before .before .before .before .before .before .before .before .before .before .before .before .before .before .before .before .before .before .before .inside .ensures) (c .before .before .before .before .before .before .before .before .before .before .before .before .before .before .before .before .before .before .before .before .before .before .before .before .before .before .before .before .before .before .before .before .before .before .before .before .before .before .before .before .before .gv .ensures) (c .before .before .before .before .before .before .before .before .before .before .before .before .before .before .before .before .before .before .before .before .before .before .before .before .before .before .before .before .before .before .before .tg .ensures) (c .before .before .before .before .before .before .before .before .before .before .before .before .before .before .before .before .before .before .before .before .before .before .before .before .to .ensures .0 _ _ _) (c .before .before .before .before .before .before .before .before .before .before .before .before .before .before .before .before .before .before .before .before .before .before .before .before .to .ensures .1) (c .before .before .before .before .before .before .before .before .before .before .before .before .before .before .before .before .before .before .before .before .inside2 .ensures) (c .before .before .before .before .before .before .before .before .before .before .before .before .before .before .before .before .before .before .before .target .ensures) (c .before .before .before .before .before .before .before .before .before .before .before .before .before .before .before .before .before .before .deep .ensures) (assigning.value-read _ _ (c .before .before .before .before .before .before .before .cell2 .ensures) (c .before .before .before .before .before .before .temporary2 .ensures .0)) (assigning.read-some _ _ (c .before .before .before .before .before .before .before .before .before .before .before .if2 .left)) k
+top-returns-3 t c = λ k h. assigning.top-does _ _ _ _ _ _ _ _ _ _ _ _ _ _ _ _ _ _ _ _ (c .before .before .before .before .before .before .before .before .before .before .before .before .before .before .before .before .before .before .before .before .before .before .before .before .before .before .before .before .before .before .before .before .before .before .before .before .before .before .before .before .before .before .before .before .before .before .before .before .before .before .before .before .before .before .before .before .before .before .before .before .before .before .before .before .before .before .before .before .before .before .before .before .before .before .before .before .before .before .before .before .before .before .before .before .before .before .before .before .before .before .before .before .before .before .before .before .before .before .before .before .before .before .before .lacks-form .ensures) (c .before .before .before .before .before .before .before .before .before .before .before .before .before .before .before .before .before .before .before .before .before .before .before .before .before .before .before .before .before .before .before .before .before .before .before .before .before .before .before .before .before .before .before .before .before .before .before .before .before .before .before .before .before .before .before .before .before .before .before .before .before .before .before .before .before .before .before .before .before .before .before .before .before .before .before .before .before .before .before .before .before .before .before .before .before .before .before .before .before .before .before .before .before .before .before .before .before .before .before .before .before .before .if1 .left) (c .before .before .before .before .before .before .before .before .before .before .before .before .before .before .before .before .before .before .before .before .before .before .before .before .before .before .before .before .before .before .before .before .before .before .before .before .before .before .before .before .before .before .before .before .before .before .before .before .before .before .before .before .before .before .before .before .before .before .before .before .before .before .before .before .before .before .before .before .before .before .before .before .before .before .before .before .before .before .before .before .before .before .before .before .before .before .before .before .before .before .before .before .before .before .before .before .before .before .before .before .before .inside .ensures) (c .before .before .before .before .before .before .before .before .before .before .before .before .before .before .before .before .before .before .before .before .before .before .before .before .before .before .before .before .before .before .before .before .before .before .before .before .before .before .before .before .before .before .before .before .before .before .before .before .before .before .before .before .before .before .before .before .before .before .before .before .before .before .before .before .before .before .before .before .before .before .before .before .before .before .before .before .before .before .before .before .before .before .before .before .before .before .before .before .before .before .before .before .before .before .before .before .before .before .top-hands .ensures .1 _) (c .before .before .before .before .before .before .before .before .before .before .before .before .before .before .before .before .before .before .before .before .before .before .before .before .before .before .before .before .before .before .before .before .before .before .before .before .before .before .before .before .before .before .before .before .before .before .before .before .before .before .before .before .before .before .before .before .before .before .before .before .before .before .before .before .before .before .before .before .before .before .before .before .before .before .before .before .before .before .before .before .before .before .before .before .before .before .before .before .before .before .before .before .before .top-count .ensures .0) (c .before .before .before .before .before .before .before .before .before .before .before .before .before .before .before .before .before .before .before .before .before .before .before .before .before .before .before .before .before .before .before .before .before .before .before .before .before .before .before .before .before .before .before .before .before .before .before .before .before .before .before .before .before .before .before .before .before .before .before .before .before .before .before .before .before .before .before .before .before .before .before .before .before .before .before .before .before .before .before .before .before .before .before .before .before .before .before .before .before .before .before .put2 .ensures .0 _ _) (c .before .before .before .before .before .before .before .before .before .before .before .before .before .before .before .before .before .before .before .before .before .before .before .before .before .before .before .before .before .before .before .before .before .before .before .before .before .before .before .before .before .before .before .before .before .before .before .before .before .before .before .before .before .before .before .before .before .before .before .before .before .before .before .before .before .before .before .before .before .before .before .before .before .before .before .before .before .before .before .before .before .before .before .before .before .before .before .wide .ensures .0 _ _) (c .before .before .before .before .before .before .before .before .before .before .before .before .before .before .before .before .before .before .before .before .before .before .before .before .before .before .before .before .before .before .before .before .before .before .before .before .before .before .before .before .before .before .before .before .before .before .before .before .before .before .before .before .before .before .before .before .before .before .before .before .before .before .before .before .before .before .before .before .before .before .before .before .before .before .before .before .before .before .before .before .before .before .before .assign .ensures .0 _ _) (c .before .before .before .before .before .before .before .before .before .before .before .before .before .before .before .before .before .before .before .before .before .before .before .before .before .before .before .before .before .before .before .before .before .before .before .before .before .before .before .before .before .before .before .before .before .before .before .before .before .before .before .before .before .before .before .before .before .before .before .before .before .before .before .before .before .before .before .before .before .before .before .before .before .before .before .before .before .cell .ensures) (c .before .before .before .before .before .before .before .before .before .before .before .before .before .before .before .before .before .before .before .before .before .before .before .before .before .before .before .before .before .before .before .before .before .before .before .before .before .before .before .before .before .before .before .before .before .before .before .before .before .before .before .before .before .before .before .before .before .before .before .before .before .before .before .before .before .before .before .before .before .before .before .before .before .before .before .before .temporary .ensures .0) (c .before .before .before .before .before .before .before .before .before .before .before .before .before .before .before .before .before .before .before .before .before .before .before .before .before .before .before .before .before .before .before .before .before .before .before .before .before .before .before .before .before .before .before .before .before .before .before .before .before .before .before .before .before .before .before .before .before .before .before .before .before .before .before .before .before .before .gv .ensures) (c .before .before .before .before .before .before .before .before .before .before .before .before .before .before .before .before .before .before .before .before .before .before .before .before .before .before .before .before .before .before .before .before .before .before .before .before .before .before .before .before .before .before .before .before .before .before .before .before .before .before .before .before .before .before .before .before .tg .ensures) (c .before .before .before .before .before .before .before .before .before .before .before .before .before .before .before .before .before .before .before .before .before .before .before .before .before .before .before .before .before .before .before .before .before .before .before .before .before .before .before .before .before .before .before .before .before .before .pr .ensures) (c .before .before .before .before .before .before .before .before .before .before .before .before .before .before .before .before .before .before .before .before .before .before .before .before .before .before .before .before .before .before .before .before .before .before .before .before .before .before .assign2 .ensures .0 _ _) (c .before .before .before .before .before .before .before .before .before .before .before .before .before .before .before .before .before .before .before .before .before .before .before .before .before .before .before .before .before .before .before .before .before .before .before .before .before .before .assign2 .ensures .1) (c .before .before .before .before .before .before .before .before .before .before .before .before .before .before .before .before .before .before .before .before .before .before .before .before .before .before .before .before .before .before .before .before .less .ensures) (c .before .before .before .before .before .before .before .before .before .before .before .before .before .before .before .before .before .before .before .before .before .before .before .before .before .before .before .before .before .before .before .inside2 .ensures) (c .before .before .before .before .before .before .before .before .before .before .before .before .before .before .before .before .before .before .before .before .before .before .before .before .before .before .before .before .before .before .node .ensures .1) (c .before .before .before .before .before .before .before .before .before .before .before .before .before .before .before .before .before .before .before .before .cell2 .ensures) (c .before .before .before .before .before .before .before .before .before .before .before .before .before .before .before .before .before .before .before .cell-source .ensures) (c .before .before .before .before .before .before .before .before .before .before .before .before .before .before .before .before .before .before .rest .ensures .1) (assigning.value-read _ _ (c .before .before .before .before .before .before .before .cell3 .ensures) (c .before .before .before .before .before .before .temporary2 .ensures .0)) (assigning.read-some _ _ (c .before .before .before .before .before .before .before .before .before .before .before .if2 .left)) k h
 
 turn-returns : (t : ℕ) → cycle.Lts-turn.Need-returns (turn-claims t) (at-measure turn.Kinds.ps μ-turn turn.Reads.Pre t) turn.Reads.Post
-turn-returns t c = turning.turned-hole _ _ _ _ _ _ _ _ _ (c .before .before .before .before .before .before .if1 .taken) (c .before .before .before .before .before .peek .ensures) (c .before .before .before .before .if2 .taken) (c .before .before .hole .ensures .0) (c .before .before .hole .ensures .1 _ _)
+turn-returns t c = turning.turned-hole _ _ _ _ _ _ _ _ (c .before .before .before .before .before .before .if1 .taken) (c .before .before .before .before .before .peek .ensures) (c .before .before .before .before .if2 .taken) (c .before .before .hole .ensures .0) (c .before .before .hole .ensures .1 _ _)
 
 turn-returns-2 : (t : ℕ) → cycle.Lts-turn.Need-returns-2 (turn-claims t) (at-measure turn.Kinds.ps μ-turn turn.Reads.Pre t) turn.Reads.Post
-turn-returns-2 t c = turning.turned-1 _ _ _ _ _ _ _ _ (⊎-elim (λ w. law.no-hole _ _ _ _ (w .0 .taken) (w .1 .ensures) (w .2 .left)) (λ w. law.full _ _ _ (w .left)) (c .before .before .before .before .before .before .before .before .before .before .before .if1 .came)) (c .before .before .before .before .before .before .before .before .before .before .match .keys1) (c .before .before .before .before .before .before .view .ensures)
+turn-returns-2 t c = turning.turned-1 _ _ _ _ _ _ _ (⊎-elim (λ w. law.no-hole _ _ _ _ (w .0 .taken) (w .1 .ensures) (w .2 .left)) (λ w. law.full _ _ _ (w .left)) (c .before .before .before .before .before .before .before .before .before .before .before .if1 .came)) (c .before .before .before .before .before .before .before .before .before .before .match .keys1) (c .before .before .before .before .before .before .view .ensures)
 
 turn-returns-3 : (t : ℕ) → cycle.Lts-turn.Need-returns-3 (turn-claims t) (at-measure turn.Kinds.ps μ-turn turn.Reads.Pre t) turn.Reads.Post
-turn-returns-3 t c = turning.turned-2 _ _ _ _ _ _ _ _ (⊎-elim (λ w. law.no-hole _ _ _ _ (w .0 .taken) (w .1 .ensures) (w .2 .left)) (λ w. law.full _ _ _ (w .left)) (c .before .before .before .before .before .before .before .before .before .before .before .if1 .came)) (c .before .before .before .before .before .before .before .before .before .before .match .keys2) (c .before .before .before .before .before .before .prop .ensures)
+turn-returns-3 t c = turning.turned-2 _ _ _ _ _ _ _ (⊎-elim (λ w. law.no-hole _ _ _ _ (w .0 .taken) (w .1 .ensures) (w .2 .left)) (λ w. law.full _ _ _ (w .left)) (c .before .before .before .before .before .before .before .before .before .before .before .if1 .came)) (c .before .before .before .before .before .before .before .before .before .before .match .keys2) (c .before .before .before .before .before .before .prop .ensures)
 
 turn-returns-4 : (t : ℕ) → cycle.Lts-turn.Need-returns-4 (turn-claims t) (at-measure turn.Kinds.ps μ-turn turn.Reads.Pre t) turn.Reads.Post
-turn-returns-4 t c = turning.turned-3 _ _ _ _ _ _ _ _ (⊎-elim (λ w. law.no-hole _ _ _ _ (w .0 .taken) (w .1 .ensures) (w .2 .left)) (λ w. law.full _ _ _ (w .left)) (c .before .before .before .before .before .before .before .before .before .before .before .if1 .came)) (c .before .before .before .before .before .before .before .before .before .before .match .keys3) (c .before .before .before .before .before .before .prop2 .ensures)
+turn-returns-4 t c = turning.turned-4 _ _ _ _ _ _ _ (⊎-elim (λ w. law.no-hole _ _ _ _ (w .0 .taken) (w .1 .ensures) (w .2 .left)) (λ w. law.full _ _ _ (w .left)) (c .before .before .before .before .before .before .before .before .before .before .before .if1 .came)) (c .before .before .before .before .before .before .before .before .before .before .match .keys3) (c .before .before .before .before .before .before .prop2 .ensures)
 
 turn-returns-5 : (t : ℕ) → cycle.Lts-turn.Need-returns-5 (turn-claims t) (at-measure turn.Kinds.ps μ-turn turn.Reads.Pre t) turn.Reads.Post
-turn-returns-5 t c = turning.turned-4 _ _ _ _ _ _ _ _ (⊎-elim (λ w. law.no-hole _ _ _ _ (w .0 .taken) (w .1 .ensures) (w .2 .left)) (λ w. law.full _ _ _ (w .left)) (c .before .before .before .before .before .before .before .before .before .before .before .if1 .came)) (c .before .before .before .before .before .before .before .before .before .before .match .keys4) (c .before .before .before .before .before .before .prop3 .ensures)
+turn-returns-5 t c = turning.turned-6 _ _ _ _ _ _ _ (⊎-elim (λ w. law.no-hole _ _ _ _ (w .0 .taken) (w .1 .ensures) (w .2 .left)) (λ w. law.full _ _ _ (w .left)) (c .before .before .before .before .before .before .before .before .before .before .before .if1 .came)) (c .before .before .before .before .before .before .before .before .before .before .match .keys4) (c .before .before .before .before .before .before .ek .ensures)
 
 turn-returns-6 : (t : ℕ) → cycle.Lts-turn.Need-returns-6 (turn-claims t) (at-measure turn.Kinds.ps μ-turn turn.Reads.Pre t) turn.Reads.Post
-turn-returns-6 t c = turning.turned-5 _ _ _ _ _ _ _ _ (⊎-elim (λ w. law.no-hole _ _ _ _ (w .0 .taken) (w .1 .ensures) (w .2 .left)) (λ w. law.full _ _ _ (w .left)) (c .before .before .before .before .before .before .before .before .before .before .before .if1 .came)) (c .before .before .before .before .before .before .before .before .before .before .match .keys5) (c .before .before .before .before .before .before .prop4 .ensures)
+turn-returns-6 t c = turning.turned-7 _ _ _ _ _ _ _ (⊎-elim (λ w. law.no-hole _ _ _ _ (w .0 .taken) (w .1 .ensures) (w .2 .left)) (λ w. law.full _ _ _ (w .left)) (c .before .before .before .before .before .before .before .before .before .before .before .if1 .came)) (c .before .before .before .before .before .before .before .before .before .before .match .keys5) (c .before .before .before .before .before .before .kv .ensures)
 
 turn-returns-7 : (t : ℕ) → cycle.Lts-turn.Need-returns-7 (turn-claims t) (at-measure turn.Kinds.ps μ-turn turn.Reads.Pre t) turn.Reads.Post
-turn-returns-7 t c = turning.turned-6 _ _ _ _ _ _ _ _ (⊎-elim (λ w. law.no-hole _ _ _ _ (w .0 .taken) (w .1 .ensures) (w .2 .left)) (λ w. law.full _ _ _ (w .left)) (c .before .before .before .before .before .before .before .before .before .before .before .if1 .came)) (c .before .before .before .before .before .before .before .before .before .before .match .keys6) (c .before .before .before .before .before .before .ek .ensures)
+turn-returns-7 t c = turning.turned-9 _ _ _ _ _ _ _ (⊎-elim (λ w. law.no-hole _ _ _ _ (w .0 .taken) (w .1 .ensures) (w .2 .left)) (λ w. law.full _ _ _ (w .left)) (c .before .before .before .before .before .before .before .before .before .before .before .if1 .came)) (c .before .before .before .before .before .before .before .before .before .before .match .keys6) (c .before .before .before .before .before .before .vl .ensures)
 
 turn-returns-8 : (t : ℕ) → cycle.Lts-turn.Need-returns-8 (turn-claims t) (at-measure turn.Kinds.ps μ-turn turn.Reads.Pre t) turn.Reads.Post
-turn-returns-8 t c = turning.turned-7 _ _ _ _ _ _ _ _ (⊎-elim (λ w. law.no-hole _ _ _ _ (w .0 .taken) (w .1 .ensures) (w .2 .left)) (λ w. law.full _ _ _ (w .left)) (c .before .before .before .before .before .before .before .before .before .before .before .if1 .came)) (c .before .before .before .before .before .before .before .before .before .before .match .keys7) (c .before .before .before .before .before .before .kv .ensures)
+turn-returns-8 t c = turning.turned-10 _ _ _ _ _ _ _ (⊎-elim (λ w. law.no-hole _ _ _ _ (w .0 .taken) (w .1 .ensures) (w .2 .left)) (λ w. law.full _ _ _ (w .left)) (c .before .before .before .before .before .before .before .before .before .before .before .if1 .came)) (c .before .before .before .before .before .before .before .before .before .before .match .keys7) (c .before .before .before .before .before .before .dr .ensures)
 
 turn-returns-9 : (t : ℕ) → cycle.Lts-turn.Need-returns-9 (turn-claims t) (at-measure turn.Kinds.ps μ-turn turn.Reads.Pre t) turn.Reads.Post
-turn-returns-9 t c = turning.turned-9 _ _ _ _ _ _ _ _ (⊎-elim (λ w. law.no-hole _ _ _ _ (w .0 .taken) (w .1 .ensures) (w .2 .left)) (λ w. law.full _ _ _ (w .left)) (c .before .before .before .before .before .before .before .before .before .before .before .if1 .came)) (c .before .before .before .before .before .before .before .before .before .before .match .keys8) (c .before .before .before .before .before .before .vl .ensures)
+turn-returns-9 t c = turning.turned-11 _ _ _ _ _ _ _ (⊎-elim (λ w. law.no-hole _ _ _ _ (w .0 .taken) (w .1 .ensures) (w .2 .left)) (λ w. law.full _ _ _ (w .left)) (c .before .before .before .before .before .before .before .before .before .before .before .if1 .came)) (c .before .before .before .before .before .before .before .before .before .before .match .keys8) (c .before .before .before .before .before .before .bi .ensures)
 
 turn-returns-10 : (t : ℕ) → cycle.Lts-turn.Need-returns-10 (turn-claims t) (at-measure turn.Kinds.ps μ-turn turn.Reads.Pre t) turn.Reads.Post
-turn-returns-10 t c = turning.turned-10 _ _ _ _ _ _ _ _ (⊎-elim (λ w. law.no-hole _ _ _ _ (w .0 .taken) (w .1 .ensures) (w .2 .left)) (λ w. law.full _ _ _ (w .left)) (c .before .before .before .before .before .before .before .before .before .before .before .if1 .came)) (c .before .before .before .before .before .before .before .before .before .before .match .keys9) (c .before .before .before .before .before .before .dr .ensures)
+turn-returns-10 t c = turning.turned-13 _ _ _ _ _ _ _ (⊎-elim (λ w. law.no-hole _ _ _ _ (w .0 .taken) (w .1 .ensures) (w .2 .left)) (λ w. law.full _ _ _ (w .left)) (c .before .before .before .before .before .before .before .before .before .before .before .if1 .came)) (c .before .before .before .before .before .before .before .before .before .before .match .keys9) (c .before .before .before .before .before .before .vl2 .ensures)
 
 turn-returns-11 : (t : ℕ) → cycle.Lts-turn.Need-returns-11 (turn-claims t) (at-measure turn.Kinds.ps μ-turn turn.Reads.Pre t) turn.Reads.Post
-turn-returns-11 t c = turning.turned-11 _ _ _ _ _ _ _ _ (⊎-elim (λ w. law.no-hole _ _ _ _ (w .0 .taken) (w .1 .ensures) (w .2 .left)) (λ w. law.full _ _ _ (w .left)) (c .before .before .before .before .before .before .before .before .before .before .before .if1 .came)) (c .before .before .before .before .before .before .before .before .before .before .match .keys10) (c .before .before .before .before .before .before .bi .ensures)
+turn-returns-11 t c = turning.turned-14 _ _ _ _ _ _ _ (⊎-elim (λ w. law.no-hole _ _ _ _ (w .0 .taken) (w .1 .ensures) (w .2 .left)) (λ w. law.full _ _ _ (w .left)) (c .before .before .before .before .before .before .before .before .before .before .before .if1 .came)) (c .before .before .before .before .before .before .before .before .before .before .match .keys10) (c .before .before .before .before .before .before .vl3 .ensures)
 
 turn-returns-12 : (t : ℕ) → cycle.Lts-turn.Need-returns-12 (turn-claims t) (at-measure turn.Kinds.ps μ-turn turn.Reads.Pre t) turn.Reads.Post
-turn-returns-12 t c = turning.turned-13 _ _ _ _ _ _ _ _ (⊎-elim (λ w. law.no-hole _ _ _ _ (w .0 .taken) (w .1 .ensures) (w .2 .left)) (λ w. law.full _ _ _ (w .left)) (c .before .before .before .before .before .before .before .before .before .before .before .if1 .came)) (c .before .before .before .before .before .before .before .before .before .before .match .keys11) (c .before .before .before .before .before .before .vl2 .ensures)
+turn-returns-12 t c = turning.turned-15 _ _ _ _ _ _ _ (⊎-elim (λ w. law.no-hole _ _ _ _ (w .0 .taken) (w .1 .ensures) (w .2 .left)) (λ w. law.full _ _ _ (w .left)) (c .before .before .before .before .before .before .before .before .before .before .before .if1 .came)) (c .before .before .before .before .before .before .before .before .before .before .match .keys11) (c .before .before .before .before .before .before .vl4 .ensures)
 
 turn-returns-13 : (t : ℕ) → cycle.Lts-turn.Need-returns-13 (turn-claims t) (at-measure turn.Kinds.ps μ-turn turn.Reads.Pre t) turn.Reads.Post
-turn-returns-13 t c = turning.turned-14 _ _ _ _ _ _ _ _ (⊎-elim (λ w. law.no-hole _ _ _ _ (w .0 .taken) (w .1 .ensures) (w .2 .left)) (λ w. law.full _ _ _ (w .left)) (c .before .before .before .before .before .before .before .before .before .before .before .if1 .came)) (c .before .before .before .before .before .before .before .before .before .before .match .keys12) (c .before .before .before .before .before .before .vl3 .ensures)
+turn-returns-13 t c = turning.turned-16 _ _ _ _ _ _ _ (⊎-elim (λ w. law.no-hole _ _ _ _ (w .0 .taken) (w .1 .ensures) (w .2 .left)) (λ w. law.full _ _ _ (w .left)) (c .before .before .before .before .before .before .before .before .before .before .before .if1 .came)) (c .before .before .before .before .before .before .before .before .before .before .match .keys12) (c .before .before .before .before .before .before .go .ensures)
 
 turn-returns-14 : (t : ℕ) → cycle.Lts-turn.Need-returns-14 (turn-claims t) (at-measure turn.Kinds.ps μ-turn turn.Reads.Pre t) turn.Reads.Post
-turn-returns-14 t c = turning.turned-15 _ _ _ _ _ _ _ _ (⊎-elim (λ w. law.no-hole _ _ _ _ (w .0 .taken) (w .1 .ensures) (w .2 .left)) (λ w. law.full _ _ _ (w .left)) (c .before .before .before .before .before .before .before .before .before .before .before .if1 .came)) (c .before .before .before .before .before .before .before .before .before .before .match .keys13) (c .before .before .before .before .before .before .vl4 .ensures)
-
-turn-returns-15 : (t : ℕ) → cycle.Lts-turn.Need-returns-15 (turn-claims t) (at-measure turn.Kinds.ps μ-turn turn.Reads.Pre t) turn.Reads.Post
-turn-returns-15 t c = turning.turned-16 _ _ _ _ _ _ _ _ (⊎-elim (λ w. law.no-hole _ _ _ _ (w .0 .taken) (w .1 .ensures) (w .2 .left)) (λ w. law.full _ _ _ (w .left)) (c .before .before .before .before .before .before .before .before .before .before .before .if1 .came)) (c .before .before .before .before .before .before .before .before .before .before .match .keys14) (c .before .before .before .before .before .before .go .ensures)
-
-turn-returns-16 : (t : ℕ) → cycle.Lts-turn.Need-returns-16 (turn-claims t) (at-measure turn.Kinds.ps μ-turn turn.Reads.Pre t) turn.Reads.Post
-turn-returns-16 t c = turning.turned-deep _ _ _ _ _ _ _ _ (⊎-elim (λ w. law.no-hole _ _ _ _ (w .0 .taken) (w .1 .ensures) (w .2 .left)) (λ w. law.full _ _ _ (w .left)) (c .before .before .before .before .before .before .before .before .before .before .before .if1 .came)) (c .before .before .before .before .before .before .before .before .before .before .match .rest) (c .before .before .before .before .before .before .deep .ensures)
+turn-returns-14 t c = turning.turned-deep _ _ _ _ _ _ _ (⊎-elim (λ w. law.no-hole _ _ _ _ (w .0 .taken) (w .1 .ensures) (w .2 .left)) (λ w. law.full _ _ _ (w .left)) (c .before .before .before .before .before .before .before .before .before .before .before .if1 .came)) (c .before .before .before .before .before .before .before .before .before .before .match .rest) (c .before .before .before .before .before .before .deep .ensures)
 
 vl-returns : (t : ℕ) → cycle.Lts-vl.Need-returns (vl-claims t) (at-measure vl.Kinds.ps μ-vl vl.Reads.Pre t) vl.Reads.Post
-vl-returns t c = finding.value-done _ _ _ _ _ _ _ _ _ _ _ _ _ _ _ (c .before .before .before .before .before .before .before .before .before .before .before .before .before .before .before .before .less .ensures) (c .before .before .before .before .before .before .before .before .before .before .before .before .before .before .before .step .ensures) (c .before .before .before .before .before .before .before .before .before .before .before .before .before .before .skip .ensures) (c .before .before .before .before .before .before .before .before .before .before .before .before .before .to .ensures .1) (c .before .before .before .before .before .before .before .before .before .before .before .before .before .to .ensures .0 _ _ _) (c .before .before .before .before .before .before .before .before .before .under .ensures .1) (c .before .before .before .before .before .before .before .before .before .under .ensures .0) (c .before .before .before .before .before .before .before .before .deep .ensures) (c .before .step2 .ensures) (c .to2 .ensures .1) (c .to2 .ensures .0 _ _ _)
+vl-returns t c = finding.value-done _ _ _ _ _ _ _ _ _ _ _ _ _ _ (c .before .before .before .before .before .before .before .before .before .before .before .before .before .before .before .before .less .ensures) (c .before .before .before .before .before .before .before .before .before .before .before .before .before .before .before .step .ensures) (c .before .before .before .before .before .before .before .before .before .before .before .before .before .before .skip .ensures) (c .before .before .before .before .before .before .before .before .before .before .before .before .before .to .ensures .1) (c .before .before .before .before .before .before .before .before .before .before .before .before .before .to .ensures .0 _ _ _) (c .before .before .before .before .before .before .before .before .before .under .ensures .1) (c .before .before .before .before .before .before .before .before .before .under .ensures .0) (c .before .before .before .before .before .before .before .before .deep .ensures) (c .before .step2 .ensures) (c .to2 .ensures .1) (c .to2 .ensures .0 _ _ _)
 
 va-returns : (t : ℕ) → cycle.Lts-va.Need-returns (va-claims t) (at-measure va.Kinds.ps μ-va va.Reads.Pre t) va.Reads.Post
 va-returns t c = λ h good. law.good-none _ _ _ (c .if1 .taken) good
@@ -1290,9 +1255,6 @@ va-returns-3 t c = viewing.array-plain _ _ _ _ _ _ _ _ _ _ _ _ _ (c .before .has
 view-returns : (t : ℕ) → cycle.Lts-view.Need-returns (view-claims t) (at-measure view.Kinds.ps μ-view view.Reads.Pre t) view.Reads.Post
 view-returns t c = λ good. law.good-none _ _ _ (c .if1 .taken) good
 
-view-node-requires : (t : ℕ) → cycle.Lts-view.Need-node-requires (view-claims t) (at-measure view.Kinds.ps μ-view view.Reads.Pre t) view.Reads.Post
-view-node-requires t c κs = (omega (arith, c .before .before .before .before .before .before .before .before .before .before .before .before .before .before .before .before .before .before .before .before .before .before .before .before .before .before .before .before .before .before .pre .0, c .inside2 .ensures .1, c .before .before .before .before .before .before .before .before .before .before .before .before .inside .ensures .1, c .before .before .before .before .before .before .before .before .before .before .before .before .before .before .before .before .before .before .before .before .before .less .ensures, c .before .before .before .before .before .before .before .before .before .before .before .before .before .before .before .before .before .before .before .before .before .before .before .before .if1 .left), tt)
-
 view-returns-2 : (t : ℕ) → cycle.Lts-view.Need-returns-2 (view-claims t) (at-measure view.Kinds.ps μ-view view.Reads.Pre t) view.Reads.Post
 view-returns-2 t c = c .before .before .before .before .before .before .vo .ensures (sym (c .before .before .before .before .before .before .before .before .before .before .before .peek .ensures .value) ∙ c .before .before .before .before .before .before .before .before .before .before .match .keys1)
 
@@ -1300,7 +1262,7 @@ view-returns-3 : (t : ℕ) → cycle.Lts-view.Need-returns-3 (view-claims t) (at
 view-returns-3 t c = c .before .before .before .before .before .before .va .ensures (sym (c .before .before .before .before .before .before .before .before .before .before .before .peek .ensures .value) ∙ c .before .before .before .before .before .before .before .before .before .before .match .keys2)
 
 view-returns-4 : (t : ℕ) → cycle.Lts-view.Need-returns-4 (view-claims t) (at-measure view.Kinds.ps μ-view view.Reads.Pre t) view.Reads.Post
-view-returns-4 t c = viewing.view-37 _ _ _ _ _ _ _ _ _ _ _ _ _ _ _ (c .before .before .before .before .before .before .before .before .before .before .before .before .before .before .before .before .before .before .before .before .before .before .before .before .before .before .before .before .before .before .peek .ensures) (c .before .before .before .before .before .before .before .before .before .before .before .before .before .before .before .before .before .before .before .before .before .before .before .before .before .before .before .before .before .match .keys3) (c .before .before .before .before .before .before .before .before .before .before .before .before .before .before .before .before .before .before .before .before .before .before .before .before .before .before .step .ensures) (c .before .before .before .before .before .before .before .before .before .before .before .before .before .before .before .before .before .before .before .before .before .before .before .before .before .copy .ensures .1) (c .before .before .before .before .before .before .before .before .before .before .before .before .before .before .before .before .before .before .before .inside .ensures .0) (c .before .before .before .before .before .before .before .before .before .before .before .before .before .before .before .before .before .before .before .inside .ensures .1 ∙ c .before .before .before .before .before .before .before .before .before .before .before .before .before .before .before .before .before .before .before .before .before .before .before .before .before .before .before .before .less .ensures) (c .before .before .before .before .before .before .before .before .before .before .before .before .before .before .before .before .before .before .values-of .ensures) (c .before .before .before .before .before .before .before .inside2 .ensures .0) (c .before .before .before .before .before .before .before .inside2 .ensures .1 ∙ c .before .before .before .before .before .before .before .before .before .before .before .before .before .before .before .before .before .before .before .before .before .before .before .before .before .before .before .before .less .ensures) (c .before .before .before .before .before .before .before .before .before .before .before .before .before .before .before .before .before .before .before .before .before .before .before .before .before .copy .ensures .0 _ _) (c .before .before .before .before .before .before .before .before .before .before .before .before .before .before .before .before .before .view .ensures) (c .before .before .before .before .before .before .node .ensures)
+view-returns-4 t c = viewing.view-37 _ _ _ _ _ _ _ _ _ _ _ _ _ _ (c .before .before .before .before .before .before .before .before .before .before .before .before .before .before .before .before .before .before .before .before .before .before .before .before .before .before .before .before .before .peek .ensures) (c .before .before .before .before .before .before .before .before .before .before .before .before .before .before .before .before .before .before .before .before .before .before .before .before .before .before .before .before .match .keys3) (c .before .before .before .before .before .before .before .before .before .before .before .before .before .before .before .before .before .before .before .before .before .before .before .before .before .step .ensures) (c .before .before .before .before .before .before .before .before .before .before .before .before .before .before .before .before .before .before .before .before .before .before .before .before .copy .ensures .1) (c .before .before .before .before .before .before .before .before .before .before .before .before .before .before .before .before .before .before .inside .ensures .0) (c .before .before .before .before .before .before .before .before .before .before .before .before .before .before .before .before .before .before .inside .ensures .1 ∙ c .before .before .before .before .before .before .before .before .before .before .before .before .before .before .before .before .before .before .before .before .before .before .before .before .before .before .before .less .ensures) (c .before .before .before .before .before .before .before .inside2 .ensures .0) (c .before .before .before .before .before .before .before .inside2 .ensures .1 ∙ c .before .before .before .before .before .before .before .before .before .before .before .before .before .before .before .before .before .before .before .before .before .before .before .before .before .before .before .less .ensures) (c .before .before .before .before .before .before .before .before .before .before .before .before .before .before .before .before .before .before .before .before .before .before .before .before .copy .ensures .0 _ _) (c .before .before .before .before .before .before .before .before .before .before .before .before .before .before .before .before .before .view .ensures) (c .before .before .before .before .before .before .node .ensures)
 
 view-returns-5 : (t : ℕ) → cycle.Lts-view.Need-returns-5 (view-claims t) (at-measure view.Kinds.ps μ-view view.Reads.Pre t) view.Reads.Post
 view-returns-5 t c = viewing.view-other _ _ _ _ _ _ _ (c .before .before .before .before .before .before .before .before .before .before .before .peek .ensures) (c .before .before .before .before .before .before .before .before .before .before .match .rest .0 .0 .1) (c .before .before .before .before .before .before .before .before .before .before .match .rest .0 .1) (c .before .before .before .before .before .before .before .before .before .before .match .rest .1) (c .before .before .before .before .before .before .node2 .ensures)
@@ -1589,34 +1551,21 @@ db-spec t = cycle.Lts-db.spec (db-claims t) (at-measure db.Kinds.ps μ-db db.Rea
     (λ c κs. tt)
     (λ c κs. tt)
     (λ c κs. tt)
-    (λ c κs. tt)
-    (λ c κs. tt)
-    (λ c κs. tt)
-    (λ c κs. tt)
-    (λ c κs. (omega (arith, c .before .before .before .before .before .before .before .before .before .before .before .before .before .before .before .before .before .pre .0, c .before .before .before .before .before .before .before .before .before .less .ensures, c .before .under .ensures .1), tt))
-    (λ c κs. tt)
-    (λ c κs. tt)
-    (λ c κs. (omega (arith, c .before .before .before .before .before .before .before .before .before .before .before .before .before .before .before .before .before .before .before .before .before .before .before .before .before .before .before .before .before .before .before .pre .0, c .before .before .before .before .before .before .before .before .before .before .before .before .before .before .before .before .before .before .before .before .before .before .before .less .ensures, c .before .before .before .before .before .before .before .before .before .before .before .before .before .before .before .under .ensures .1), tt))
-    (λ c κs. tt)
-    (λ c. omega (arith, c .before .before .before .before .before .before .before .ip .kept, c .before .before .before .before .before .before .before .before .before .before .before .before .before .before .before .before .before .before .before .before .before .seq .kept))
-    (λ c. omega (arith, c .before .before .before .before .before .before .before .ip .kept, c .before .before .before .before .before .before .before .before .before .before .before .before .before .before .before .before .before .before .before .before .before .seq .kept))
-    (λ c. omega (arith, c .before .before .before .before .before .before .before .ip .kept, c .before .before .before .before .before .before .before .before .before .before .before .before .before .before .before .before .before .before .before .before .before .seq .kept))
     (db-returns-3 t)
-    (λ c κs. (omega (arith, c .before .before .before .before .before .before .before .before .before .before .before .before .before .before .before .before .before .before .before .before .before .before .before .before .before .before .before .before .before .before .before .before .pre .0, c .before .before .before .before .before .before .before .before .before .before .before .before .before .before .before .before .before .before .before .before .before .before .before .before .less .ensures, c .before .before .before .before .before .before .before .before .before .before .before .before .before .before .before .before .under .ensures .1), tt))
     (λ c κs. tt)
-    (λ c. omega (arith, c .before .before .before .before .before .before .before .ro .kept, c .before .before .before .before .before .before .before .before .before .before .before .before .before .before .before .before .before .before .before .before .before .before .seq .kept))
-    (λ c. omega (arith, c .before .before .before .before .before .before .before .ro .kept, c .before .before .before .before .before .before .before .before .before .before .before .before .before .before .before .before .before .before .before .before .before .before .seq .kept))
-    (λ c. omega (arith, c .before .before .before .before .before .before .before .ro .kept, c .before .before .before .before .before .before .before .before .before .before .before .before .before .before .before .before .before .before .before .before .before .before .seq .kept))
+    (λ c κs. tt)
+    (λ c κs. (omega (arith, c .before .before .before .before .before .before .before .before .before .before .before .before .before .before .before .before .pre .0, c .before .inside .ensures .1), tt))
+    (λ c κs. tt)
+    (λ c. omega (arith, c .before .before .before .before .before .before .before .top .kept))
+    (λ c. omega (arith, c .before .before .before .before .before .before .before .top .kept))
+    (λ c. omega (arith, c .before .before .before .before .before .before .before .top .kept))
     (db-returns-4 t)
     (λ c κs. tt)
-    (λ c. omega (arith, c .before .before .before .before .before .before .before .before .before .before .before .before .seq .kept))
-    (λ c. omega (arith, c .before .before .before .before .before .before .before .before .before .before .before .before .seq .kept))
-    (λ c. omega (arith, c .before .before .before .before .before .before .before .before .before .before .before .before .seq .kept))
+    (λ c κs. (omega (arith, c .before .before .before .before .before .before .before .before .before .before .before .before .before .pre .0), tt))
+    (λ c. omega (arith, c .before .before .before .before .before .before .pr .kept))
+    (λ c. omega (arith, c .before .before .before .before .before .before .pr .kept))
+    (λ c. omega (arith, c .before .before .before .before .before .before .pr .kept))
     (db-returns-5 t)
-    (λ c. omega (arith, c .before .before .before .before .before .before .before .before .seq .kept))
-    (λ c. omega (arith, c .before .before .before .before .before .before .before .before .seq .kept))
-    (λ c. omega (arith, c .before .before .before .before .before .before .before .before .seq .kept))
-    (db-returns-6 t)
 
 decl-spec : {M : Type 1} (t : ℕ) → cycle.Lts-decl.Closed (decl-claims t) (at-measure decl.Kinds.ps μ-decl decl.Reads.Pre t) decl.Reads.Post M
 decl-spec t = cycle.Lts-decl.spec (decl-claims t) (at-measure decl.Kinds.ps μ-decl decl.Reads.Pre t) decl.Reads.Post
@@ -1952,41 +1901,6 @@ head-spec t = cycle.Lts-head.spec (head-claims t) (at-measure head.Kinds.ps μ-h
     (λ c. omega (arith, c .before .before .before .before .before .before .plain2 .kept))
     (head-returns-5 t)
 
-ip-spec : {M : Type 1} (t : ℕ) → cycle.Lts-ip.Closed (ip-claims t) (at-measure ip.Kinds.ps μ-ip ip.Reads.Pre t) ip.Reads.Post M
-ip-spec t = cycle.Lts-ip.spec (ip-claims t) (at-measure ip.Kinds.ps μ-ip ip.Reads.Pre t) ip.Reads.Post
-    (λ c κs. tt)
-    (λ c κs. tt)
-    (λ c. omega (arith, c .before .before .refuse .kept))
-    (ip-returns t)
-    (λ c κs. tt)
-    (λ c κs. tt)
-    (λ c κs. tt)
-    (λ c κs. tt)
-    (λ c κs. tt)
-    (λ c κs. tt)
-    (λ c κs. tt)
-    (λ c κs. tt)
-    (λ c κs. tt)
-    (λ c κs. tt)
-    (λ c κs. tt)
-    (λ c κs. (omega (arith, c .before .before .before .before .before .before .before .before .before .before .before .before .before .before .before .before .before .before .before .before .before .before .before .before .before .before .before .before .before .before .before .before .before .before .before .before .before .before .before .before .before .before .before .before .before .before .before .before .before .before .before .before .before .before .before .before .pre .0, c .before .before .before .before .before .before .before .before .before .before .before .before .before .before .before .before .before .before .before .before .before .before .before .before .before .before .before .before .before .before .before .before .before .before .before .before .before .before .before .before .before .before .before .before .before .before .before .before .before .inside .ensures .1), tt))
-    (λ c κs. tt)
-    (λ c κs. tt)
-    (λ c κs. tt)
-    (λ c κs. tt)
-    (λ c κs. tt)
-    (λ c κs. tt)
-    (ip-node-requires t)
-    (λ c κs. tt)
-    (λ c κs. tt)
-    (ip-rest-requires t)
-    (λ c κs. tt)
-    (λ c κs. tt)
-    (ip-same-length-2 t)
-    (ip-same-length-3 t)
-    (ip-same-length-4 t)
-    (ip-returns-2 t)
-
 item-spec : {M : Type 1} (t : ℕ) → cycle.Lts-item.Closed (item-claims t) (at-measure item.Kinds.ps μ-item item.Reads.Pre t) item.Reads.Post M
 item-spec t = cycle.Lts-item.spec (item-claims t) (at-measure item.Kinds.ps μ-item item.Reads.Pre t) item.Reads.Post
     (λ c κs. tt)
@@ -2225,13 +2139,17 @@ ns-spec t = cycle.Lts-ns.spec (ns-claims t) (at-measure ns.Kinds.ps μ-ns ns.Rea
     (λ c κs. (omega (arith, c .before .before .before .before .before .before .before .before .before .before .before .before .before .before .before .before .before .before .before .before .before .before .before .before .before .before .before .before .before .before .pre .0, c .inside .ensures .1), tt))
     (λ c κs. tt)
     (λ c κs. (omega (arith, c .before .before .before .before .before .before .before .before .before .before .before .before .before .before .before .before .before .before .before .before .before .before .before .before .before .before .before .before .before .before .before .before .before .before .before .before .before .before .before .before .before .pre .0, c .inside2 .ensures .1, c .before .before .before .before .before .before .before .before .before .before .before .inside .ensures .1), tt))
-    (λ c κs. tt)
-    (λ c κs. tt)
-    (λ c κs. (omega (arith, c .before .before .before .before .before .before .before .before .before .before .before .before .before .before .before .before .before .before .before .before .before .before .before .before .before .before .before .before .before .before .before .before .before .before .before .before .before .before .before .before .before .before .before .before .before .before .before .before .before .before .before .before .before .pre .0, c .before .before .before .before .before .before .before .before .before .before .before .before .inside2 .ensures .1, c .before .before .before .before .before .before .before .before .before .before .before .before .before .before .before .before .before .before .before .before .before .before .before .inside .ensures .1), tt))
+    (λ c κs. (omega (arith, c .before .before .before .before .before .before .before .before .before .before .before .before .before .before .before .before .before .before .before .before .before .before .before .before .before .before .before .before .before .before .before .before .before .before .before .before .before .before .before .before .before .before .before .before .before .before .before .before .before .before .before .before .pre .0, c .before .before .before .if1 .taken), tt))
     (ns-same-length t)
-    (λ c. omega (arith, c .before .before .before .before .before .before .deep .kept, c .before .before .before .before .before .before .before .before .before .before .before .before .before .before .before .before .before .before .gv .kept, c .before .before .before .before .before .before .before .before .before .before .before .before .before .before .before .before .before .before .before .before .before .before .before .before .before .before .before .before .before .view .kept, c .before .before .before .before .before .before .before .before .before .before .before .before .before .before .before .before .before .before .before .before .before .before .before .before .before .before .before .before .before .before .before .before .before .before .before .before .before .before .before .before .before .before .before .before .before .before .before .before .before .before .before .before .nested-hands .kept))
-    (λ c. omega (arith, c .before .before .before .before .before .before .deep .kept, c .before .before .before .before .before .before .before .before .before .before .before .before .before .before .before .before .before .before .gv .kept, c .before .before .before .before .before .before .before .before .before .before .before .before .before .before .before .before .before .before .before .before .before .before .before .before .before .before .before .before .before .view .kept, c .before .before .before .before .before .before .before .before .before .before .before .before .before .before .before .before .before .before .before .before .before .before .before .before .before .before .before .before .before .before .before .before .before .before .before .before .before .before .before .before .before .before .before .before .before .before .before .before .before .before .before .before .nested-hands .kept))
+    (λ c. omega (arith, c .before .before .before .before .before .before .pr .kept, c .before .before .before .before .before .before .before .before .before .before .before .before .before .before .before .before .before .gv .kept, c .before .before .before .before .before .before .before .before .before .before .before .before .before .before .before .before .before .before .before .before .before .before .before .before .before .before .before .before .view .kept, c .before .before .before .before .before .before .before .before .before .before .before .before .before .before .before .before .before .before .before .before .before .before .before .before .before .before .before .before .before .before .before .before .before .before .before .before .before .before .before .before .before .before .before .before .before .before .before .before .before .before .before .nested-hands .kept))
+    (λ c. omega (arith, c .before .before .before .before .before .before .pr .kept, c .before .before .before .before .before .before .before .before .before .before .before .before .before .before .before .before .before .gv .kept, c .before .before .before .before .before .before .before .before .before .before .before .before .before .before .before .before .before .before .before .before .before .before .before .before .before .before .before .before .view .kept, c .before .before .before .before .before .before .before .before .before .before .before .before .before .before .before .before .before .before .before .before .before .before .before .before .before .before .before .before .before .before .before .before .before .before .before .before .before .before .before .before .before .before .before .before .before .before .before .before .before .before .before .nested-hands .kept))
     (ns-returns t)
+    (λ c κs. tt)
+    (λ c κs. (omega (arith, c .before .before .before .before .before .before .before .before .before .before .before .before .before .before .before .before .before .before .before .before .before .before .before .before .before .before .before .before .before .before .before .before .before .before .before .before .before .before .before .before .before .before .before .before .before .before .before .before .before .before .before .before .before .pre .0, c .before .before .before .before .if1 .left), tt))
+    (ns-same-length-4 t)
+    (λ c. omega (arith, c .before .before .before .before .before .before .deep .kept, c .before .before .before .before .before .before .before .before .before .before .before .before .before .before .before .before .before .before .gv .kept, c .before .before .before .before .before .before .before .before .before .before .before .before .before .before .before .before .before .before .before .before .before .before .before .before .before .before .before .before .before .view .kept, c .before .before .before .before .before .before .before .before .before .before .before .before .before .before .before .before .before .before .before .before .before .before .before .before .before .before .before .before .before .before .before .before .before .before .before .before .before .before .before .before .before .before .before .before .before .before .before .before .before .before .before .before .nested-hands .kept))
+    (λ c. omega (arith, c .before .before .before .before .before .before .deep .kept, c .before .before .before .before .before .before .before .before .before .before .before .before .before .before .before .before .before .before .gv .kept, c .before .before .before .before .before .before .before .before .before .before .before .before .before .before .before .before .before .before .before .before .before .before .before .before .before .before .before .before .before .view .kept, c .before .before .before .before .before .before .before .before .before .before .before .before .before .before .before .before .before .before .before .before .before .before .before .before .before .before .before .before .before .before .before .before .before .before .before .before .before .before .before .before .before .before .before .before .before .before .before .before .before .before .before .before .nested-hands .kept))
+    (ns-returns-2 t)
 
 oa-spec : {M : Type 1} (t : ℕ) → cycle.Lts-oa.Closed (oa-claims t) (at-measure oa.Kinds.ps μ-oa oa.Reads.Pre t) oa.Reads.Post M
 oa-spec t = cycle.Lts-oa.spec (oa-claims t) (at-measure oa.Kinds.ps μ-oa oa.Reads.Pre t) oa.Reads.Post
@@ -2351,6 +2269,21 @@ plain-spec t = cycle.Lts-plain.spec (plain-claims t) (at-measure plain.Kinds.ps 
     (λ c. omega (arith, c .before .before .before .before .before .before .before .before .fs3 .kept, c .before .before .before .before .before .before .before .before .before .before .before .before .before .before .before .before .before .before .copy .kept))
     (plain-returns-3 t)
 
+pr-spec : {M : Type 1} (t : ℕ) → cycle.Lts-pr.Closed (pr-claims t) (at-measure pr.Kinds.ps μ-pr pr.Reads.Pre t) pr.Reads.Post M
+pr-spec t = cycle.Lts-pr.spec (pr-claims t) (at-measure pr.Kinds.ps μ-pr pr.Reads.Pre t) pr.Reads.Post
+    (pr-returns t)
+    (λ c κs. tt)
+    (λ c κs. tt)
+    (λ c κs. tt)
+    (λ c κs. tt)
+    (λ c κs. tt)
+    (λ c κs. tt)
+    (λ c κs. (omega (arith, c .before .before .before .before .before .before .before .before .before .before .before .before .before .before .before .pre .0, c .before .less .ensures, c .under .ensures .1, c .before .before .before .before .before .before .before .before .before .if1 .left), tt))
+    (λ c. omega (arith, c .before .before .before .before .before .before .seq .kept))
+    (λ c. omega (arith, c .before .before .before .before .before .before .seq .kept))
+    (λ c. omega (arith, c .before .before .before .before .before .before .seq .kept))
+    (pr-returns-2 t)
+
 prop-spec : {M : Type 1} (t : ℕ) → cycle.Lts-prop.Closed (prop-claims t) (at-measure prop.Kinds.ps μ-prop prop.Reads.Pre t) prop.Reads.Post M
 prop-spec t = cycle.Lts-prop.spec (prop-claims t) (at-measure prop.Kinds.ps μ-prop prop.Reads.Pre t) prop.Reads.Post
     (λ c κs. tt)
@@ -2454,30 +2387,6 @@ rest-spec t = cycle.Lts-rest.spec (rest-claims t) (at-measure rest.Kinds.ps μ-r
     (λ c. search needs)
     (λ c. search needs)
     (rest-returns-3 t)
-
-ro-spec : {M : Type 1} (t : ℕ) → cycle.Lts-ro.Closed (ro-claims t) (at-measure ro.Kinds.ps μ-ro ro.Reads.Pre t) ro.Reads.Post M
-ro-spec t = cycle.Lts-ro.spec (ro-claims t) (at-measure ro.Kinds.ps μ-ro ro.Reads.Pre t) ro.Reads.Post
-    (λ c κs. tt)
-    (λ c κs. tt)
-    (λ c κs. tt)
-    (λ c κs. (omega (arith, c .before .before .before .before .before .before .before .before .before .before .before .pre .0, c .inside .ensures .1, c .before .less .ensures), tt))
-    (λ c. omega (arith, c .before .before .before .before .before .before .node .kept))
-    (λ c. omega (arith, c .before .before .before .before .before .before .node .kept))
-    (λ c. omega (arith, c .before .before .before .before .before .before .node .kept))
-    (ro-returns t)
-    (λ c κs. tt)
-    (λ c κs. tt)
-    (λ c κs. tt)
-    (λ c κs. tt)
-    (λ c κs. (omega (arith, c .before .before .before .before .before .before .before .before .before .before .before .before .before .before .before .pre .0, c .inside2 .ensures .1, c .before .less2 .ensures), tt))
-    (λ c κs. tt)
-    (λ c κs. tt)
-    (λ c κs. tt)
-    (ro-rest-requires t)
-    (λ c. omega (arith, c .before .before .before .before .before .before .rest .kept, c .before .before .before .before .before .before .before .before .before .before .before .before .before .before .before .before .before .before .before .node2 .kept, c .before .before .before .before .before .before .before .before .before .before .before .before .before .before .before .before .before .before .before .before .before .before .before .before .before .before .before .before .assign .kept))
-    (λ c. omega (arith, c .before .before .before .before .before .before .rest .kept, c .before .before .before .before .before .before .before .before .before .before .before .before .before .before .before .before .before .before .before .node2 .kept))
-    (λ c. omega (arith, c .before .before .before .before .before .before .rest .kept, c .before .before .before .before .before .before .before .before .before .before .before .before .before .before .before .before .before .before .before .node2 .kept))
-    (ro-returns-2 t)
 
 seq-spec : {M : Type 1} (t : ℕ) → cycle.Lts-seq.Closed (seq-claims t) (at-measure seq.Kinds.ps μ-seq seq.Reads.Pre t) seq.Reads.Post M
 seq-spec t = cycle.Lts-seq.spec (seq-claims t) (at-measure seq.Kinds.ps μ-seq seq.Reads.Pre t) seq.Reads.Post
@@ -2633,12 +2542,16 @@ top-spec t = cycle.Lts-top.spec (top-claims t) (at-measure top.Kinds.ps μ-top t
     (λ c κs. tt)
     (λ c κs. tt)
     (λ c κs. tt)
-    (λ c κs. (omega (arith, c .before .before .before .before .before .before .before .before .before .before .before .before .before .before .before .before .before .before .before .before .before .before .before .before .before .before .before .before .before .before .before .before .before .before .before .before .before .before .before .before .before .pre .0, c .inside .ensures .1), tt))
-    (λ c κs. (omega (arith, c .before .before .before .before .before .before .before .before .before .before .before .before .before .before .before .before .before .before .before .before .before .before .before .before .before .before .before .before .before .before .before .before .before .before .before .before .before .before .before .before .before .before .before .before .before .before .before .before .before .before .before .pre .0, c .before .before .before .before .before .before .before .before .before .before .inside .ensures .1), tt))
+    (λ c κs. (omega (arith, c .before .before .before .before .before .before .before .before .before .before .before .before .before .before .before .before .before .before .before .before .before .before .before .before .before .before .before .before .before .before .before .before .before .before .before .before .before .before .before .before .before .pre .0, c .before .before .before .before .before .before .before .before .before .before .before .before .before .before .before .before .before .before .before .before .before .before .before .before .before .before .before .before .before .before .before .before .before .before .inside .ensures .1), tt))
+    (λ c κs. (omega (arith, c .before .before .before .before .before .before .before .before .before .before .before .before .before .before .before .before .before .before .before .before .before .before .before .before .before .before .before .before .before .before .before .before .before .before .before .before .before .before .before .before .before .before .before .before .before .before .before .before .before .before .before .pre .0), tt))
+    (λ c κs. (omega (arith, c .before .before .before .before .before .before .before .before .before .before .before .before .before .before .before .before .before .before .before .before .before .before .before .before .before .before .before .before .before .before .before .before .before .before .before .before .before .before .before .before .before .before .before .before .before .before .before .before .before .before .before .before .before .before .before .before .before .before .before .before .before .pre .0), tt))
     (λ c κs. tt)
     (λ c κs. tt)
     (λ c κs. tt)
-    (λ c κs. (omega (arith, c .before .before .before .before .before .before .before .before .before .before .before .before .before .before .before .before .before .before .before .before .before .before .before .before .before .before .before .before .before .before .before .before .before .before .before .before .before .before .before .before .before .before .before .before .before .before .before .before .before .before .before .before .before .before .before .before .before .before .before .before .before .before .before .before .pre .0, c .before .inside2 .ensures .1, c .before .before .before .before .before .before .before .before .before .before .before .before .before .before .before .before .before .before .before .before .before .before .before .inside .ensures .1), tt))
+    (λ c κs. (omega (arith, c .before .before .before .before .before .before .before .before .before .before .before .before .before .before .before .before .before .before .before .before .before .before .before .before .before .before .before .before .before .before .before .before .before .before .before .before .before .before .before .before .before .before .before .before .before .before .before .before .before .before .before .before .before .before .before .before .before .before .before .before .before .before .before .before .before .before .before .before .before .before .before .before .before .before .before .before .before .pre .0, c .inside2 .ensures .1, c .before .less .ensures), tt))
+    (λ c κs. tt)
+    (λ c κs. tt)
+    (top-rest-requires t)
     (top-same-length-2 t)
     (top-same-length-3 t)
     (top-same-length-4 t)
@@ -2656,8 +2569,6 @@ turn-spec t = cycle.Lts-turn.spec (turn-claims t) (at-measure turn.Kinds.ps μ-t
     (λ c κs. tt)
     (λ c. search needs)
     (turn-returns t)
-    (λ c κs. (omega (arith, c .before .before .before .before .before .before .before .before .before .pre .0), tt))
-    (λ c κs. (omega (arith, c .before .before .before .before .before .before .before .before .before .pre .0), tt))
     (λ c κs. (omega (arith, c .before .before .before .before .before .before .before .before .before .pre .0), tt))
     (λ c κs. (omega (arith, c .before .before .before .before .before .before .before .before .before .pre .0), tt))
     (λ c κs. (omega (arith, c .before .before .before .before .before .before .before .before .before .pre .0), tt))
@@ -2723,14 +2634,6 @@ turn-spec t = cycle.Lts-turn.spec (turn-claims t) (at-measure turn.Kinds.ps μ-t
     (λ c. search needs)
     (λ c. search needs)
     (turn-returns-14 t)
-    (λ c. search needs)
-    (λ c. search needs)
-    (λ c. search needs)
-    (turn-returns-15 t)
-    (λ c. search needs)
-    (λ c. search needs)
-    (λ c. search needs)
-    (turn-returns-16 t)
 
 va-spec : {M : Type 1} (t : ℕ) → cycle.Lts-va.Closed (va-claims t) (at-measure va.Kinds.ps μ-va va.Reads.Pre t) va.Reads.Post M
 va-spec t = cycle.Lts-va.spec (va-claims t) (at-measure va.Kinds.ps μ-va va.Reads.Pre t) va.Reads.Post
@@ -2764,10 +2667,9 @@ view-spec t = cycle.Lts-view.spec (view-claims t) (at-measure view.Kinds.ps μ-v
     (λ c κs. tt)
     (λ c κs. tt)
     (λ c κs. tt)
+    (λ c κs. (omega (arith, c .before .before .before .before .before .before .before .before .before .before .before .before .before .before .before .before .before .before .pre .0, c .inside .ensures .1, c .before .before .before .before .before .before .before .before .before .less .ensures, c .before .before .before .before .before .before .before .before .before .before .before .before .if1 .left), tt))
     (λ c κs. tt)
-    (λ c κs. (omega (arith, c .before .before .before .before .before .before .before .before .before .before .before .before .before .before .before .before .before .before .before .pre .0, c .before .inside .ensures .1, c .before .before .before .before .before .before .before .before .before .before .less .ensures, c .before .before .before .before .before .before .before .before .before .before .before .before .before .if1 .left), tt))
-    (λ c κs. tt)
-    (view-node-requires t)
+    (λ c κs. (omega (arith, c .before .before .before .before .before .before .before .before .before .before .before .before .before .before .before .before .before .before .before .before .before .before .before .before .before .before .before .before .before .pre .0, c .inside2 .ensures .1, c .before .before .before .before .before .before .before .before .before .before .before .inside .ensures .1, c .before .before .before .before .before .before .before .before .before .before .before .before .before .before .before .before .before .before .before .before .less .ensures, c .before .before .before .before .before .before .before .before .before .before .before .before .before .before .before .before .before .before .before .before .before .before .before .if1 .left), tt))
     (λ c κs. (omega (arith, c .before .before .before .before .before .before .before .before .before .before .before .pre .0, c .before .before .before .before .before .if1 .left), tt))
     (λ c. search needs)
     (λ c. search needs)
@@ -2777,7 +2679,7 @@ view-spec t = cycle.Lts-view.spec (view-claims t) (at-measure view.Kinds.ps μ-v
     (λ c. search needs)
     (λ c. search needs)
     (view-returns-3 t)
-    (λ c. omega (arith, c .before .before .before .before .before .before .node .kept, c .before .before .before .before .before .before .before .before .before .before .before .before .before .before .before .before .before .view .kept, c .before .before .before .before .before .before .before .before .before .before .before .before .before .before .before .before .before .before .before .before .before .before .before .before .before .copy .kept))
+    (λ c. omega (arith, c .before .before .before .before .before .before .node .kept, c .before .before .before .before .before .before .before .before .before .before .before .before .before .before .before .before .before .view .kept, c .before .before .before .before .before .before .before .before .before .before .before .before .before .before .before .before .before .before .before .before .before .before .before .before .copy .kept))
     (λ c. search needs)
     (λ c. search needs)
     (view-returns-4 t)
@@ -2834,8 +2736,8 @@ vo-spec t = cycle.Lts-vo.spec (vo-claims t) (at-measure vo.Kinds.ps μ-vo vo.Rea
     (λ c. search needs)
     (vo-returns-4 t)
 
-pub +add+ag+an+ar+ba+bi+bl+body+ca+da+db+decl+deep+dh+dr+eb+ek+fb+fs+fun+go+gv+head+ip+item+items+key+keys+kv+lit+lo+mv+node+ns+oa+os+own+pa+plain+prop+ps+pt+read+rest+ro+seq+slot+ta+tb+tg+th+top+turn+va+view+vl+vo-spec : {M : Type 1} → cycle.statement M
-+add+ag+an+ar+ba+bi+bl+body+ca+da+db+decl+deep+dh+dr+eb+ek+fb+fs+fun+go+gv+head+ip+item+items+key+keys+kv+lit+lo+mv+node+ns+oa+os+own+pa+plain+prop+ps+pt+read+rest+ro+seq+slot+ta+tb+tg+th+top+turn+va+view+vl+vo-spec =
+pub +add+ag+an+ar+ba+bi+bl+body+ca+da+db+decl+deep+dh+dr+eb+ek+fb+fs+fun+go+gv+head+item+items+key+keys+kv+lit+lo+mv+node+ns+oa+os+own+pa+plain+pr+prop+ps+pt+read+rest+seq+slot+ta+tb+tg+th+top+turn+va+view+vl+vo-spec : {M : Type 1} → cycle.statement M
++add+ag+an+ar+ba+bi+bl+body+ca+da+db+decl+deep+dh+dr+eb+ek+fb+fs+fun+go+gv+head+item+items+key+keys+kv+lit+lo+mv+node+ns+oa+os+own+pa+plain+pr+prop+ps+pt+read+rest+seq+slot+ta+tb+tg+th+top+turn+va+view+vl+vo-spec =
     cycle.Tie.close
     μ-add
     μ-ag
@@ -2860,7 +2762,6 @@ pub +add+ag+an+ar+ba+bi+bl+body+ca+da+db+decl+deep+dh+dr+eb+ek+fb+fs+fun+go+gv+h
     μ-go
     μ-gv
     μ-head
-    μ-ip
     μ-item
     μ-items
     μ-key
@@ -2876,12 +2777,12 @@ pub +add+ag+an+ar+ba+bi+bl+body+ca+da+db+decl+deep+dh+dr+eb+ek+fb+fs+fun+go+gv+h
     μ-own
     μ-pa
     μ-plain
+    μ-pr
     μ-prop
     μ-ps
     μ-pt
     μ-read
     μ-rest
-    μ-ro
     μ-seq
     μ-slot
     μ-ta
@@ -2917,7 +2818,6 @@ pub +add+ag+an+ar+ba+bi+bl+body+ca+da+db+decl+deep+dh+dr+eb+ek+fb+fs+fun+go+gv+h
     go-spec
     gv-spec
     head-spec
-    ip-spec
     item-spec
     items-spec
     key-spec
@@ -2933,12 +2833,12 @@ pub +add+ag+an+ar+ba+bi+bl+body+ca+da+db+decl+deep+dh+dr+eb+ek+fb+fs+fun+go+gv+h
     own-spec
     pa-spec
     plain-spec
+    pr-spec
     prop-spec
     ps-spec
     pt-spec
     read-spec
     rest-spec
-    ro-spec
     seq-spec
     slot-spec
     ta-spec

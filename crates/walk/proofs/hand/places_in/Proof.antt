@@ -1,0 +1,13 @@
+use Rattle.walk.proofs.HandRules as law
+use borrow.Author.Needs.{needs}
+use Rattle.walk.proofs.hand.places_in.Statement.{statement}
+use Rattle.walk.proofs.hand.places_in.Tie as tie
+
+returns : tie.Need-returns
+returns c = λ z. law.places-2 _ _ _ (c .before .if1 .taken) (c .object-count .ensures .0 (z (c .before .if1 .taken)))
+
+returns-2 : tie.Need-returns-2
+returns-2 c = λ z. law.places-else _ _ _ (c .before .if1 .left) (c .target-count .ensures)
+
+pub places-in-spec : {M : Type 1} → statement M
+places-in-spec = tie.close (tie.spec (λ c κs. search needs) returns (λ c κs. search needs) returns-2)
