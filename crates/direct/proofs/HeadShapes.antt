@@ -10,8 +10,7 @@ use Prim.Native.Nat.{ℕ, zero, suc, _-_, _<_, _≤_}
 use native.Mathlib.Omega.{arith}
 use native.Mathlib.Decide.{decLt}
 use lib.Dec.{eqb, ltb}
-use lib.ListN.{getD}
-use borrow.Author.Tests.{eqb-true, le-ltb}
+use borrow.Author.Tests.{eqb-true}
 use Rattle.tree.specs.Tree.{Node, Fields, Piece, Items, mapOf}
 use Rattle.tree.specs.Tree.Node.{node}
 use Rattle.tree.specs.Grammar.{Sort, Field, places, allowed, kindOf, formIn, formAt, fieldsOf, kinds, variants}
@@ -27,13 +26,10 @@ use Rattle.lowering.proofs.Cases.{by-test, and-left, and-right}
 use Rattle.direct.specs.Events.{Place, Emit, puts, emits}
 use Rattle.direct.specs.Emit.{say, _▷_, below, emitsPiece, emitsParts, stays}
 use Rattle.direct.proofs.OneLevel.{emits-nowhere}
-use Rattle.direct.specs.Moved.{given, forFields, declarationFields}
-use Rattle.lowering.proofs.Accepted.{early}
+use Rattle.direct.specs.Moved.{given, forFields}
+use Rattle.lowering.proofs.Accepted.{late, early, lately}
 
 -- ---- forms
-
-abbrev late : ℕ → ℕ
-late i = getD (14 ∷ 14 ∷ 34 ∷ 35 ∷ 36 ∷ 37 ∷ []) i 0
 
 late-kind : (i k : ℕ) → late i ≡ k → 0 < k → k < 34 → (k ≡ 14) × (i < 2)
 late-kind zero k e a b = (sym e, omega arith)
@@ -43,10 +39,6 @@ late-kind (suc (suc (suc zero))) k e a b = absurd (omega arith)
 late-kind (suc (suc (suc (suc zero)))) k e a b = absurd (omega arith)
 late-kind (suc (suc (suc (suc (suc zero))))) k e a b = absurd (omega arith)
 late-kind (suc (suc (suc (suc (suc (suc i)))))) k e a b = absurd (omega arith)
-
-lately : (f : ℕ) → 64 ≤ f → kindOf f ≡ late (f - 64)
-unfolding kindOf
-lately f h = rw (le-ltb f 64 h)
 
 pub form-is : (f k : ℕ) → kindOf f ≡ k → 0 < k → k < 34 → (k ≡ 14 → ⊥) → f ≡ k
 form-is f k e a b c = elim (decLt f 64) [
@@ -63,7 +55,7 @@ form-14 f e = elim (decLt f 64) [
 ]
 
 -- the fields of a node of a kind with one form
-fields-in : {p at k : ℕ} {fs : Fields} → Fits input p (node at k fs) → 0 < k → k < 34 → (k ≡ 14 → ⊥) → FitFields input 0 (fieldsOf k) fs
+pub fields-in : {p at k : ℕ} {fs : Fields} → Fits input p (node at k fs) → 0 < k → k < 34 → (k ≡ 14 → ⊥) → FitFields input 0 (fieldsOf k) fs
 fields-in (Fits.fits {p = p} {k = k} {fs = fs} pos ff) a b c =
     subst (λ (f : ℕ). FitFields input 0 (fieldsOf f) fs) (form-is (formAt input p k) k (kind-at input p k pos) a b c) ff
 
@@ -141,9 +133,6 @@ pub record FunctionFits (fs : Fields) : Type 0 where
   pub rest : Option Node
   pub body : Option Node
   pub fields : fs ≡ Fields.field (Piece.mark mark) (Fields.field (Piece.byte sort) (given name (Fields.field (Piece.list params) (given rest (given body Fields.done)))))
-  pub nameFits : FitGiven 16 name
-  pub paramsFit : FitItems input 7 false params
-  pub restFits : FitGiven 15 rest
   pub bodyFits : FitGiven 8 body
 
 function-in : {i low high : ℕ} {fs : Fields}
@@ -174,9 +163,6 @@ function-in f =
           (n .same
           ∙ ap (given (n .part))
           (q .same ∙ ap₂ Fields.field (qs .same) (r .same ∙ ap (given (r .part)) (d .same ∙ ap (given (d .part)) (ended (d .moreFit)))))));
-      nameFits = n .partFits;
-      paramsFit = qs .partFits;
-      restFits = r .partFits;
       bodyFits = d .partFits;
     }
 
@@ -238,8 +224,6 @@ pub record ForFits (fs : Fields) : Type 0 where
   pub body : Node
   pub more : Fields
   pub fields : fs ≡ forFields mark left right body more
-  pub leftFits : Fits input 21 left
-  pub rightFits : Fits input 3 right
   pub bodyFits : Fits input 1 body
   pub awaits : Await more
 
@@ -265,8 +249,6 @@ for-in w f =
           a .same
           ∙ ap₂ Fields.field (m .same)
           (b .same ∙ ap₂ Fields.field (l .same) (c .same ∙ ap₂ Fields.field (r .same) (d .same ∙ ap (λ (x : Piece). Fields.field x (d .more)) (n .same))));
-      leftFits = l .partFits;
-      rightFits = r .partFits;
       bodyFits = n .partFits;
       awaits = w (byteIn (d .piece)) (d .more) (d .moreFit);
     }
@@ -288,13 +270,6 @@ pub forOf-fits : {p at : ℕ} {fs : Fields} → Fits input p (node at 8 fs) → 
 unfolding fieldsOf kinds
 forOf-fits f = for-in (λ j gs. await-in) (fields-in f (omega arith) (omega arith) (λ e. omega arith))
 
-pub record DeclarationFits (fs : Fields) : Type 0 where
-  pub mark : ℕ
-  pub sort : ℕ
-  pub declarators : Items
-  pub fields : fs ≡ declarationFields mark sort declarators
-  pub declaratorsFit : FitItems input 4 false declarators
-
 -- ---- Params and Declarators
 
 one-form : (j k : ℕ) → 0 < cond (ltb k 64) (cond (eqb j k) j 0) 0 → k ≡ j
@@ -315,13 +290,6 @@ param-kind {k = k} f = one-form 15 k (form-there f)
 pub functionBody-kind : {at k : ℕ} {fs : Fields} → Fits input 8 (node at k fs) → k ≡ 16
 unfolding formAt allowed places formIn kindOf
 functionBody-kind {k = k} f = one-form 16 k (form-there f)
-
--- 2 Block(# body*)
-pub record BlockFits (fs : Fields) : Type 0 where
-  pub mark : ℕ
-  pub body : Items
-  pub fields : fs ≡ Fields.field (Piece.mark mark) (Fields.field (Piece.list body) Fields.done)
-  pub bodyFit : FitItems input 1 false body
 
 pub catchBody-kind : {at k : ℕ} {fs : Fields} → Fits input 5 (node at k fs) → k ≡ 2
 unfolding formAt allowed places formIn kindOf
@@ -428,22 +396,6 @@ statement-leads k h = go (ltb k 64) h
 
 pub statement-fits : {at k : ℕ} {fs : Fields} → Fits input 1 (node at k fs) → StatementFits fs
 statement-fits {k = k} f = mark-first (fields-at f) (statement-leads k (form-there f))
-
--- ---- patterns that bind
-
-pub record ArrayFits (fs : Fields) : Type 0 where
-  pub items : Items
-  pub rest : Option Node
-  pub fields : fs ≡ Fields.field (Piece.list items) (given rest Fields.done)
-  pub itemsFit : FitItems input 18 true items
-  pub restFits : FitGiven 15 rest
-
-pub record DefaultFits (fs : Fields) : Type 0 where
-  pub left : Node
-  pub right : Node
-  pub fields : fs ≡ Fields.field (Piece.one left) (Fields.field (Piece.one right) Fields.done)
-  pub leftFits : Fits input 15 left
-  pub rightFits : Fits input 3 right
 
 -- ---- directives, which are Literals
 

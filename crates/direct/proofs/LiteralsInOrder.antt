@@ -27,12 +27,6 @@ use Rattle.lowering.proofs.Clauses.{scan-spread, scan-other}
 
 -- ---- heads
 
-pub mode-append : (m : ℕ) (ps qs : Items) → modeAfter m (ps +++ qs) ≡ modeAfter (modeAfter m ps) qs
-unfolding modeAfter _+++_
-mode-append m Items.none qs = refl
-mode-append m (Items.hole ps) qs = mode-append m ps qs
-mode-append m (Items.item p ps) qs = mode-append (modeNext m p) ps qs
-
 -- the heads of a list that is cut in two: those of the second part, in the mode that the first ends in, come first
 pub heads-append : (m : ℕ) (ps qs : Items) → innerHeads m (ps +++ qs) ≡ innerHeads (modeAfter m ps) qs ++ innerHeads m ps
 unfolding modeAfter innerHeads _+++_

@@ -22,12 +22,6 @@ use Rattle.lowering.proofs.ItemLaws.{items-none, gather-none}
 
 -- ---- lists
 
-pub join-assoc : (is js ks : Items) → (is +++ js) +++ ks ≡ is +++ js +++ ks
-unfolding _+++_
-join-assoc Items.none js ks = refl
-join-assoc (Items.hole ns) js ks = ap Items.hole (join-assoc ns js ks)
-join-assoc (Items.item n ns) js ks = ap (Items.item n) (join-assoc ns js ks)
-
 pub gather-hole : (f : Node → Items) (is : Items) → gather f (Items.hole is) ≡ gather f is
 unfolding gather
 gather-hole f ns = refl

@@ -15,7 +15,7 @@ use Rattle.lowering.specs.Collect.{isContainer, marked, markIn, markOf}
 use Rattle.lowering.proofs.Cases.{by-test}
 use Rattle.lowering.proofs.Falls.{walk-more}
 use Rattle.direct.specs.Events.{Deed, Place, handsOut, after, numberIn, countIn, mapIn, written, deeds, deedsFields, deedsPiece, deedsItems, puts, contextOf, emits}
-use Rattle.direct.proofs.Alike.{Alike, alike, AlikeFields, AlikePiece, AlikeItems, alike-refl, is-alike, kind-alike}
+use Rattle.direct.proofs.Alike.{Alike, alike, AlikeFields, AlikePiece, AlikeItems, is-alike, kind-alike}
 use Rattle.direct.proofs.AlikeRules.{rewrite-alike}
 
 -- two walked nodes that do the same wherever they stand
@@ -143,12 +143,7 @@ walked-alike c d n m e a =
 
 -- ---- places
 
--- the path to a node plays no part in what it does
-pub path-free : (k : Context) (c : Place) (n : Node) (next : ℕ) → k .root ≡ c .root → k .statement ≡ c .statement → deeds next (c .mark) (walked k n) ≡ emits c n next
-unfolding emits
-path-free k c n next r s = walked-alike k (contextOf c) n n (record { root = r; statement = s }) (alike-refl n) .does next (c .mark)
-
--- nor do the names of the temporaries in it
+-- the names of the temporaries in a node play no part in what it does
 pub names-free : {ok : Bool} (c : Place) (n m : Node) → Alike ok n m → emits c n ≡ emits c m
 unfolding emits
 names-free c n m a = fun-ext (λ next. walked-alike (contextOf c) (contextOf c) n m (record { root = refl; statement = refl }) a .does next (c .mark))

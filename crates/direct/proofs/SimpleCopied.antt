@@ -19,7 +19,7 @@ use Rattle.direct.specs.Emit.{say, _▷_, below, marking, markHere, emit
 use Rattle.direct.proofs.Threads.{say-puts}
 use Rattle.direct.proofs.OneLevel.{emits-unchanged}
 
-mark-bytes : (m : ℕ) → 0 < m → marks m ≡ puts (wideBytes m)
+pub mark-bytes : (m : ℕ) → 0 < m → marks m ≡ puts (wideBytes m)
 unfolding marks
 mark-bytes zero h = absurd (omega arith)
 mark-bytes (suc m) h = refl

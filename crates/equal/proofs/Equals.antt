@@ -7,14 +7,14 @@ use mathlib.Core.Logic.{_↔_}
 use Prim.Native.Nat.{ℕ}
 use Rattle.tree.specs.Tree.{Node, encode}
 use Rattle.lowering.specs.Collect.{samePath}
-use Rattle.lowering.proofs.Appearance.{same-path}
+use Rattle.lowering.proofs.Appearance.{same-path, path-self}
 use Rattle.lowering.proofs.Cases.{and-left, and-right}
 use Rattle.equal.specs.Canonical.{Written, numbers, renumbered, placeOf, canonical, numbersWritten, renumberedWritten, canonicalWritten}
 use Rattle.equal.specs.Equal.{Equal, isEqual, listEncoded, EqualWritten, isEqualWritten, EqualBefore, isEqualBefore}
 use Rattle.equal.specs.Unspelled.{unspelled}
 use Rattle.equal.specs.Renaming.{KeepsApart, unplaced, unplacedWritten, Renamed, RenamedWritten}
 use Rattle.equal.specs.Examples.{hexadecimal, decimal, apart-examples}
-use Rattle.equal.proofs.PlacesByAppearance.{own-number, place-changed}
+use Rattle.equal.proofs.PlacesByAppearance.{place-changed}
 use Rattle.equal.proofs.Renumber.{Renumbers, trees, results}
 use Rattle.equal.proofs.Unplaced.{encode-unplaced, numbers-unplaced, renumbered-unplaced, list-unplaced, written-numbers-unplaced, written-renumbered-unplaced}
 
@@ -43,13 +43,8 @@ equal-written-equivalence =
 
 -- ---- the tests decide
 
-pub own-text : (p : List ℕ) → samePath p p ≡ true
-unfolding samePath
-own-text [] = refl
-own-text (a ∷ p) = ap₂ (λ (x y : Bool). x && y) (own-number a) (own-text p)
-
 text-same : (p q : List ℕ) → p ≡ q → samePath p q ≡ true
-text-same p q e = ap (samePath p) (sym e) ∙ own-text p
+text-same p q e = ap (samePath p) (sym e) ∙ path-self p
 
 -- a test says yes exactly if it is so
 pub equal-decides : (m n : Node) → (isEqual m n ≡ true) ↔ Equal m n

@@ -20,7 +20,7 @@ use Rattle.lowering.specs.Keys.Key.{name, literal, template, private, again, ot
 use Rattle.lowering.specs.Rests.{hasNoProperties, mapped, isHoisted, keysRead, restValue, excludedFor}
 use Rattle.lowering.specs.Assignments.{target, nearest, partsOf, partsReplaced, targetLeft}
 use Rattle.lowering.specs.Heads.{moved, movedPattern, movedOut}
-use Rattle.lowering.proofs.Cases.{by-test, by-shape, by-key, object-is, is-changed}
+use Rattle.lowering.proofs.Cases.{by-test, by-shape, by-key, object-is, is-changed, is-literal}
 use Rattle.equal.proofs.LeafParts
 
 -- ---- keys by sort
@@ -32,18 +32,6 @@ name-is k e = go (is 38 k) (is 22 k) (is 23 k && eqb (count (itemsAt 0 k)) 1) (i
     go : (a b c d f : Bool) → cond a name (cond b literal (cond c template (cond d private (cond f again other)))) ≡ name → a ≡ true
     go true b c d f e = refl
     go false true c d f e = let z : _≡_ {A = ℕ} 0 1 = cc in absurd (omega arith)
-    go false false true d f e = let z : _≡_ {A = ℕ} 0 1 = cc in absurd (omega arith)
-    go false false false true f e = let z : _≡_ {A = ℕ} 0 1 = cc in absurd (omega arith)
-    go false false false false true e = let z : _≡_ {A = ℕ} 0 1 = cc in absurd (omega arith)
-    go false false false false false e = let z : _≡_ {A = ℕ} 0 1 = cc in absurd (omega arith)
-
-literal-is : (k : Node) → keySort k ≡ literal → is 22 k ≡ true
-unfolding keySort
-literal-is k e = go (is 38 k) (is 22 k) (is 23 k && eqb (count (itemsAt 0 k)) 1) (is 39 k) (is 20 k || (is 18 k && stands 1 k)) e
-  where
-    go : (a b c d f : Bool) → cond a name (cond b literal (cond c template (cond d private (cond f again other)))) ≡ literal → b ≡ true
-    go true b c d f e = let z : _≡_ {A = ℕ} 0 1 = cc in absurd (omega arith)
-    go false true c d f e = refl
     go false false true d f e = let z : _≡_ {A = ℕ} 0 1 = cc in absurd (omega arith)
     go false false false true f e = let z : _≡_ {A = ℕ} 0 1 = cc in absurd (omega arith)
     go false false false false true e = let z : _≡_ {A = ℕ} 0 1 = cc in absurd (omega arith)
@@ -110,7 +98,7 @@ module _ (Q : Node → Type 0) (makes : Makes Q) where
         let i = name-is (key q) e in
         rw (e, excludedKey, text-name (key q) e) (LeafParts.string-leaves Q (textAt 0 (key q)) (makes .named (key q) i (LeafParts.own Q (key q) (leaf-kind (key q) 38 i) k)), tt))
         (λ e.
-        let i = literal-is (key q) e in
+        let i = is-literal (key q) e in
         rw (e, excludedKey, text-literal (key q) e) (LeafParts.string-leaves Q (textAt 2 (key q)) (makes .formed (key q) i (LeafParts.own Q (key q) (leaf-kind (key q) 22 i) k)), tt))
         (λ e. rw (e, excludedKey) (k, tt))
         (λ e. rw (e, excludedKey) tt)

@@ -2,10 +2,10 @@
 -- Assumes nothing.
 use mathlib.Core.Path.{_≡_, refl, sym, ap, ap₂, _∙_, subst}
 use mathlib.Core.Bool.{Bool, true, false, cond}
-use mathlib.Core.List.{List, [], _∷_, _++_, append-assoc}
+use mathlib.Core.List.{List, [], _∷_, _++_}
 use Prim.Native.Nat.{ℕ, zero, suc}
 use native.Mathlib.Omega.{arith}
-use lib.Dec.{eqb, ltb}
+use lib.Dec.{eqb}
 use Rattle.tree.specs.Tree.{Node, Fields, Piece, Items, wideBytes, count, encode, encodeItems}
 use Rattle.tree.specs.Tree.Node.{node}
 use Rattle.tree.specs.Tree.Fields.{done, absent, field}
@@ -20,20 +20,16 @@ use Rattle.lowering.specs.Collect.{Name, Entry, over, visits, firstRefusal, sam
 use Rattle.lowering.specs.Refusals.{limitOutside, unknownOptions, smallWork}
 use Rattle.lowering.specs.Answer.{Lent, Result, fits, fitted, collected, afterWalk, afterReading, inForce, lowering, top}
 use Rattle.lowering.specs.Answer.Result.{refusal, lowered}
-use Rattle.lowering.proofs.Appearance.{In, here, there, renamed, Keeps, same-is}
+use Rattle.lowering.proofs.Appearance.{In, here, there, renamed, Keeps, same-is, name-self}
 use Rattle.lowering.proofs.Cases.{by-test}
 use Rattle.lowering.proofs.Order.{by-order}
+use Rattle.lowering.proofs.ItemLaws.{over-append}
 use Rattle.equal.specs.Canonical.{Written, numbers, numbersFields, numbersPiece, numbersItems, renumbered, renumberedFields, renumberedPiece, renumberedItems, placeOf, numbersList, numbersWritten, eachEntry, renumberedWritten, canonicalWritten}
 use Rattle.equal.specs.Equal.{entryEncoded, listEncoded, EqualWritten}
 use Rattle.equal.specs.Results.{writtenBy, NamesAll, treeOf, entriesOf, excludedOf, resultBy, ownNames}
-use Rattle.equal.proofs.PlacesByAppearance.{in-left, in-right, among, numbers-keep, place-renamed, own-number}
+use Rattle.equal.proofs.PlacesByAppearance.{in-left, in-right, among, numbers-keep, place-renamed}
 use Rattle.equal.proofs.Renumber.{written, listed}
 use Rattle.equal.proofs.Unplaced.{each-length}
-use Rattle.equal.proofs.Equals.{own-text}
-
-own-name : (a : Name) → same a a ≡ true
-unfolding same
-own-name a = rw (own-number (a .place), own-number (a .stem), own-text (a .path))
 
 -- ---- the names of the temporaries that get a number, in byte order
 
@@ -66,11 +62,6 @@ abbrev namesAll : Node → List Entry → Items → List Name
 namesAll n es excluded = names n ++ (namesEntries es ++ namesItems excluded)
 
 -- they are names that stand in tree and list
-
-over-append : {A B : Type 0} (f : A → List B) (xs ys : List A) → over f (xs ++ ys) ≡ over f xs ++ over f ys
-unfolding over
-over-append f [] ys = refl
-over-append f (x ∷ xs) ys = ap (λ (zs : List _). f x ++ zs) (over-append f xs ys) ∙ sym (append-assoc (f x) (over f xs) (over f ys))
 
 joined : (a : Name) (xs ys : List Name) (us vs : List Node) → (In a xs → In a (over nameAt us)) → (In a ys → In a (over nameAt vs)) → In a (xs ++ ys) → In a (over nameAt (us ++ vs))
 joined a xs ys us vs f g i = subst (In a) (sym (over-append nameAt us vs)) (go xs f i)
@@ -256,9 +247,9 @@ module _ (ns : List Name) where
   canonical-by n es excluded h =
       let xs = namesAll n es excluded in
       let within : (a : Name) → In a xs → In a ns = λ a i. h a (all-standing a n es excluded i) in
-      let keeps : Keeps same eqb φ xs = λ a b i j. numbers-keep same own-name same-is 1 ns a b (within a i) (within b j) in
+      let keeps : Keeps same eqb φ xs = λ a b i j. numbers-keep same name-self same-is 1 ns a b (within a i) (within b j) in
       all-other (distinct same xs) (placeOf (numbersWritten (writtenBy ns n es excluded))) n es excluded
-      (λ a i. ap (λ (ys : List ℕ). placeOf ys (φ a)) (all-given n es excluded) ∙ place-renamed same own-name same-is φ xs keeps a i)
+      (λ a i. ap (λ (ys : List ℕ). placeOf ys (φ a)) (all-given n es excluded) ∙ place-renamed same name-self same-is φ xs keeps a i)
 
 same-results : (ns ms : List Name) (n : Node) (es : List Entry) (excluded : Items) → NamesAll ns n es excluded → NamesAll ms n es excluded
     → EqualWritten (writtenBy ns n es excluded) (writtenBy ms n es excluded)
@@ -272,7 +263,7 @@ same-results ns ms n es excluded g h =
 -- its own list has all names
 pub own-names-all : (n : Node) (es : List Entry) (excluded : Items) → NamesAll (namesOf n es excluded) n es excluded
 unfolding NamesAll namesOf
-own-names-all n es excluded a i = among same own-name same-is a (over nameAt (nodes n ++ listNodes es excluded)) i
+own-names-all n es excluded a i = among same name-self same-is a (over nameAt (nodes n ++ listNodes es excluded)) i
 
 count-numbered : (ns : List Name) (is : Items) → count (numberedItems ns is) ≡ count is
 unfolding count numbered

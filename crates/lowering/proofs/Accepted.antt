@@ -16,38 +16,14 @@ use Rattle.tree.specs.Tree.{Node, Fields, Piece, Items}
 use Rattle.tree.specs.Tree.Node.{node}
 use Rattle.tree.specs.Grammar.{Sort, Field, root, places, allowed, kindOf, formIn, formAt, fieldsOf, kinds, variants, mapOk}
 use Rattle.tree.specs.Grammar.Stage.{input}
-use Rattle.tree.specs.Read.{Got, mapped, joined, accepted, sortIn, byteAt, wideAt, readText, readByte, readMark, readNumber, chosenPlace, readItem, readItems, readList, readField, readSlot, readFields, readNode, whole, readTree}
+use Rattle.tree.specs.Read.{Got, mapped, accepted, sortIn, byteAt, wideAt, readText, readByte, readMark, readNumber, chosenPlace, readItem, readItems, readList, readField, readSlot, readFields, readNode, whole, readTree}
 use Rattle.tree.specs.Read.Got.{got, refused}
 use Rattle.lowering.specs.Parts.{position, kind, is, pieceIn, asItems}
 use Rattle.lowering.proofs.All.{AllItems, weaker-items}
 use Rattle.lowering.proofs.Cases.{by-test, and-left, and-right, or-first}
 use Rattle.lowering.proofs.Sites.{isNameKind, direct, directPiece, directItems, here, hereItems, own, sites, sitesFields, sitesPiece, sitesItems}
-
--- ---- what holds of whatever a reader gives
-
-abbrev Holds : {A : Type 0} → (A → ℕ → ℕ → Type 0) → Got A → Type 0
-Holds P (got a q k) = P a q k
-Holds P (refused n) = Unit {0}
-
-holds : {A : Type 0} (P : A → ℕ → ℕ → Type 0) (g : Got A) (a : A) (q k : ℕ) → Holds P g → g ≡ got a q k → P a q k
-holds P g a q k h e = subst (Holds P) e h
-
-of-mapped : {A B : Type 0} (P : B → ℕ → ℕ → Type 0) (f : A → B) (g : Got A) → Holds (λ a q k. P (f a) q k) g → Holds P (mapped f g)
-of-mapped P f (got a q k) h = h
-of-mapped P f (refused n) h = tt
-
-of-accepted : {A : Type 0} (P : A → ℕ → ℕ → Type 0) (b : Bool) (g : Got A) → (b ≡ true → Holds P g) → Holds P (accepted b g)
-of-accepted P true g h = h refl
-of-accepted P false g h = tt
-
-of-joined : {A B C : Type 0} (P : C → ℕ → ℕ → Type 0) (f : A → B → C) (g : Got A) (rest : ℕ → ℕ → Got B)
-    → Holds (λ a q k. Holds (λ b q' k'. P (f a b) q' k') (rest q k)) g → Holds P (joined f g rest)
-of-joined P f (got a q k) rest h = of-mapped P (f a) (rest q k) h
-of-joined P f (refused n) rest h = tt
-
-weaker : {A : Type 0} (P Q : A → ℕ → ℕ → Type 0) (g : Got A) → ((a : A) (q k : ℕ) → P a q k → Q a q k) → Holds P g → Holds Q g
-weaker P Q (got a q k) f h = f a q k h
-weaker P Q (refused n) f h = tt
+use Rattle.tree.proofs.Hold.{Holds, holds, of-mapped, of-accepted, of-joined, weaker}
+use Rattle.tree.proofs.Look.{kind-at}
 
 -- ---- nodes at a position
 
@@ -122,25 +98,8 @@ nothing-there at q h x = let l = on-later x at q h in omega arith
 unfoldable pub isPattern : ℕ → Bool
 isPattern k = eqb k 34 || (eqb k 36 || eqb k 37)
 
-form-in : (fs : List ℕ) (k : ℕ) → 0 < formIn fs k → kindOf (formIn fs k) ≡ k
-unfolding formIn
-form-in [] k h = absurd (omega arith)
-form-in (f ∷ fs) k h = go (eqb (kindOf f) k) refl (λ z. form-in fs k z) h
-  where
-    go : (b : Bool) → eqb (kindOf f) k ≡ b → (0 < formIn fs k → kindOf (formIn fs k) ≡ k) → 0 < cond b f (formIn fs k) → kindOf (cond b f (formIn fs k)) ≡ k
-    go true e r z = eqb-true (kindOf f) k e
-    go false e r z = r z
-
-pub form-kind : (p k : ℕ) → 0 < formAt input p k → kindOf (formAt input p k) ≡ k
-unfolding formAt
-form-kind p k h = go (ltb k 64) h
-  where
-    go : (b : Bool) → 0 < cond b (formIn (allowed input p) k) 0 → kindOf (cond b (formIn (allowed input p) k) 0) ≡ k
-    go true z = form-in (allowed input p) k z
-    go false z = absurd (omega arith)
-
 -- the kinds of the forms from 64 on
-abbrev late : ℕ → ℕ
+abbrev pub late : ℕ → ℕ
 late m = getD (14 ∷ 14 ∷ 34 ∷ 35 ∷ 36 ∷ 37 ∷ []) m 0
 
 -- of these a 34 is 66 only, and none is a name or a Declaration
@@ -157,7 +116,7 @@ pub early : (f : ℕ) → f < 64 → kindOf f ≡ f
 unfolding kindOf
 early f h = rw (lt-ltb f 64 h)
 
-lately : (f : ℕ) → 64 ≤ f → kindOf f ≡ late (f - 64)
+pub lately : (f : ℕ) → 64 ≤ f → kindOf f ≡ late (f - 64)
 unfolding kindOf
 lately f h = rw (le-ltb f 64 h)
 
@@ -684,7 +643,7 @@ module _ (tree : List ℕ) where
       (λ fs q j h.
       record {
         here-fits = z;
-        fine = node-proper f at b fs (form-kind p b z) (none-at 20 temporaries-checked p b z) (none-at 21 helpers-checked p b z) (h .sorts) (h .fine);
+        fine = node-proper f at b fs (kind-at input p b z) (none-at 20 temporaries-checked p b z) (none-at 21 helpers-checked p b z) (h .sorts) (h .fine);
         span = node-span at b fs q (h .span);
         later = h .later;
       })

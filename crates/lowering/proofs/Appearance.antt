@@ -15,7 +15,7 @@ use Rattle.lowering.proofs.Cases.{by-test}
 
 -- ---- `same` tells names apart
 
-both : (a b : Bool) → a && b ≡ true → (a ≡ true) × (b ≡ true)
+pub both : (a b : Bool) → a && b ≡ true → (a ≡ true) × (b ≡ true)
 both true true h = (refl, refl)
 both true false h = absurd (false≢true h)
 both false b h = absurd (false≢true h)
@@ -116,7 +116,7 @@ unfolding over nameAt
 name-over t k (here {b = b} {xs = ns} e) = in-first (over nameAt ns) (subst (λ (x : Node). In (nameOf t) (cond (is 20 x) (nameOf x ∷ []) [])) e (rw k (here refl)))
 name-over t k (there {b = b} i) = in-second (cond (is 20 b) (nameOf b ∷ []) []) (name-over t k i)
 
-path-self : (p : List ℕ) → samePath p p ≡ true
+pub path-self : (p : List ℕ) → samePath p p ≡ true
 unfolding samePath
 path-self [] = refl
 path-self (x ∷ p) = rw (eq-eqb x x refl) (path-self p)

@@ -5,12 +5,12 @@ use mathlib.Core.Bool.{Bool, true, false, cond, _||_, _&&_, false≢true, true�
 use Prim.Native.Nat.{ℕ}
 use native.Mathlib.Omega.{arith}
 use lib.Dec.{eqb}
-use Rattle.tree.specs.Tree.{Node, Piece, Items}
+use Rattle.tree.specs.Tree.{Node, Piece, Items, count}
 use Rattle.tree.specs.Tree.Node.{node}
-use Rattle.lowering.specs.Parts.{is, kind, change}
+use Rattle.lowering.specs.Parts.{is, kind, change, itemsAt, stands}
 use Rattle.lowering.specs.Patterns.{Shape, shape}
 use Rattle.lowering.specs.Patterns.Shape.{objectPattern, arrayPattern, default, leaf}
-use Rattle.lowering.specs.Keys.{Key, Entry}
+use Rattle.lowering.specs.Keys.{Key, Entry, keySort}
 use Rattle.lowering.specs.Keys.Entry.{spelt, itself, omitted, saved}
 use Rattle.lowering.specs.Keys.Key.{name, literal, template, private, again, other}
 use Rattle.lowering.specs.Walk.{Rule, ruleOf, Step, unchanged, rewritten}
@@ -192,3 +192,17 @@ step-same m e r n p q s = λ j. record { note = record { refusal = 0; made = (p)
 
 pub rewritten-same : (m : Items) (r n : Node) → m ≡ none → r ≡ n → rewritten m r ≡ unchanged n
 rewritten-same m r n p s = step-same m none r n p refl s
+
+-- ---- keys
+
+pub is-literal : (k : Node) → keySort k ≡ literal → is 22 k ≡ true
+unfolding keySort
+is-literal k e = go (is 38 k) (is 22 k) (is 23 k && eqb (count (itemsAt 0 k)) 1) (is 39 k) (is 20 k || (is 18 k && stands 1 k)) e
+  where
+    go : (a b c d f : Bool) → cond a name (cond b literal (cond c template (cond d private (cond f again other)))) ≡ literal → b ≡ true
+    go true b c d f w = let z : _≡_ {A = ℕ} 0 1 = cc in absurd (omega arith)
+    go false true c d f w = refl
+    go false false true d f w = let z : _≡_ {A = ℕ} 0 1 = cc in absurd (omega arith)
+    go false false false true f w = let z : _≡_ {A = ℕ} 0 1 = cc in absurd (omega arith)
+    go false false false false true w = let z : _≡_ {A = ℕ} 0 1 = cc in absurd (omega arith)
+    go false false false false false w = let z : _≡_ {A = ℕ} 0 1 = cc in absurd (omega arith)

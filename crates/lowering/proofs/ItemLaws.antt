@@ -2,11 +2,13 @@
 -- Assumes nothing.
 use mathlib.Core.Path.{_≡_, refl, ap, fun-ext, sym, _∙_}
 use mathlib.Core.Bool.{Bool, _||_, false, or-assoc}
+use mathlib.Core.List.{List, [], _∷_, _++_, append-assoc}
 use Prim.Native.Nat.{_+_, suc}
 use native.Mathlib.Omega.{arith}
 use Rattle.tree.specs.Tree.{Items, Node, count}
 use Rattle.tree.specs.Tree.Items.{none, hole, item}
 use Rattle.lowering.specs.Parts.{_+++_, each, gather, only, any, isEmpty}
+use Rattle.lowering.specs.Collect.{over}
 use Rattle.lowering.proofs.Cases.{or-left, or-right}
 
 pub items-assoc : (is js ks : Items) → (is +++ js) +++ ks ≡ is +++ (js +++ ks)
@@ -104,3 +106,10 @@ unfolding isEmpty each
 empty-each g Items.none = refl
 empty-each g (Items.hole qs) = refl
 empty-each g (Items.item q qs) = refl
+
+-- ---- what a list of anything leads to
+
+pub over-append : {A B : Type 0} (f : A → List B) (us vs : List A) → over f (us ++ vs) ≡ over f us ++ over f vs
+unfolding over
+over-append f [] vs = refl
+over-append f (u ∷ us) vs = ap (λ (x : List _). f u ++ x) (over-append f us vs) ∙ sym (append-assoc (f u) (over f us) (over f vs))

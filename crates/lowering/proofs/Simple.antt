@@ -296,7 +296,7 @@ module _ (c : Context) where
 
 -- ---- the tree comes back
 
-positive : (next m : ℕ) → 0 < m → marked next m ≡ m
+pub positive : (next m : ℕ) → 0 < m → marked next m ≡ m
 positive next zero h = absurd (omega arith)
 positive next (suc m) h = refl
 

@@ -18,12 +18,14 @@ use Rattle.lowering.specs.Collect
 use Rattle.lowering.proofs.Cases.{by-test}
 use Rattle.lowering.proofs.Notes.{AllNotes, in-walked}
 use Rattle.lowering.proofs.MadeAtSites.{times, times-append}
+use Rattle.lowering.proofs.Appearance.{name-self}
+use Rattle.lowering.proofs.ItemLaws.{over-append}
 use Rattle.sink.specs.Shown.{Named, madeBy, madeIn, Apart}
 use Rattle.sink.specs.Shown
 use Rattle.direct.specs.Events.{cell, later, numberIn, countIn, mapIn}
 use Rattle.outcome.specs.Named.{Act, puts, marks, handsOut, written, named, namedFields, namedPiece, namedItems}
 use Rattle.outcome.proofs.Refusals.{Leafy, LeafyFields, LeafyPiece, LeafyItems, leaf-visits}
-use Rattle.outcome.proofs.Listed.{made-append, over-append}
+use Rattle.outcome.proofs.Listed.{made-append}
 use Rattle.outcome.proofs.MadeOnce.{makes, others, number, makes-all, namesIn, hands-made}
 
 -- ---- the names that are made
@@ -177,17 +179,17 @@ none-like a (b ∷ l) h =
     (λ e. let z : 1 + often a l ≡ 0 = rw e at h in absurd (omega arith))
     (λ e. let z : 0 + often a l ≡ 0 = rw e at h in (e, none-like a l (omega arith)))
 
-apart-from : (self : (a : Name) → same a a ≡ true) (l : List Name) → ((a : Name) → often a l ≤ 1) → Apart same l
+apart-from : (l : List Name) → ((a : Name) → often a l ≤ 1) → Apart same l
 unfolding often
-apart-from self [] h = tt
-apart-from self (b ∷ l) h =
-    let z : 1 + often b l ≤ 1 = rw (self b) at (h b) in
-    (none-like b l (omega arith), apart-from self l (λ a. let y = h a in omega arith))
+apart-from [] h = tt
+apart-from (b ∷ l) h =
+    let z : 1 + often b l ≤ 1 = rw (name-self b) at (h b) in
+    (none-like b l (omega arith), apart-from l (λ a. let y = h a in omega arith))
 
 -- the names that are made are apart, if those of the visits are
-pub made-apart : (self : (a : Name) → same a a ≡ true) (c : Context) (n : Node) → Leafy (walked c n) → (next m next′ m′ : ℕ)
+pub made-apart : (c : Context) (n : Node) → Leafy (walked c n) → (next m next′ m′ : ℕ)
     → ((a : Name) → times a (Collect.madeIn (visits next′ m′ (walked c n))) ≤ 1) → Apart same (madeIn (named next m (walked c n)))
-made-apart self c n l next m next′ m′ h =
+made-apart c n l next m next′ m′ h =
     subst (Apart same) (sym (named-made (walked c n) l next m next′ m′))
-    (apart-from self (over makesOf (visits next′ m′ (walked c n)))
+    (apart-from (over makesOf (visits next′ m′ (walked c n)))
     (λ a. let e = visits-often a (visits next′ m′ (walked c n)) (all-whole c n next′ m′) in let k = h a in omega arith))

@@ -18,9 +18,9 @@ use Rattle.tree.specs.Grammar.Stage.{input}
 use Rattle.tree.specs.Read.{sortIn}
 use Rattle.tree.specs.WellFormed.{Fits, FitFields, FitPiece, FitItems}
 use Rattle.tree.proofs.Table.{below, below-at}
+use Rattle.tree.proofs.Look.{kind-at}
 use Rattle.lowering.specs.Parts.{nothing, kind, pieceIn, asNode, asItems}
 use Rattle.lowering.proofs.All.{AllItems}
-use Rattle.lowering.proofs.Accepted.{form-kind}
 use Rattle.lowering.proofs.Cases.{by-test, and-left, and-right}
 use Rattle.outcome.proofs.Good.{NoPart, NoParts}
 
@@ -401,4 +401,4 @@ module _ (k : ℕ) (ts : List Field) (fs : Fields) (r : FitFields input 0 ts fs)
 pub known : (p at k : ℕ) (fs : Fields) → 0 < formAt input p k → FitFields input 0 (fieldsOf (formAt input p k)) fs → Known k fs
 known p at k fs h r =
     let f = formAt input p k in
-    known-fields k (fieldsOf f) fs r (subst (λ (j : ℕ). asks j (fieldsOf f) ≡ true) (form-kind p k h) (form-asks f)) (not-made p k h)
+    known-fields k (fieldsOf f) fs r (subst (λ (j : ℕ). asks j (fieldsOf f) ≡ true) (kind-at input p k h) (form-asks f)) (not-made p k h)

@@ -28,7 +28,8 @@ use Rattle.direct.specs.Events.{cellOf, stemOf}
 use Rattle.outcome.specs.Named
 use Rattle.outcome.specs.Named.{Act, lists, excludes, handed, plains, tokens, tokensFields, tokensPiece, tokensItems}
 use Rattle.outcome.proofs.Listed.{list-append, keys-append, declarators-append}
-use Rattle.outcome.proofs.Good.{Pure, PureFields, PurePiece, PureItems, Is35, KeyOk, Good, GoodItems, GoodObject, to-all, node-good, items-good, properties-35, key-ok, objects-good}
+use Rattle.outcome.proofs.Good.{Pure, PureFields, PurePiece, PureItems, KeyOk, Good, GoodObject, to-all, node-good, items-good, key-ok, objects-good}
+use Rattle.outcome.proofs.PotentialViews.{Property, properties-are}
 use Rattle.lowering.proofs.Clauses.{again-temporary, hoisted-primitive, top-34}
 
 -- ---- what is handed out
@@ -112,18 +113,6 @@ pure-from (Items.item n is) h = (h .0, pure-from is (h .1))
 
 array-pure : (is : Items) → PureItems is → Pure (array is)
 array-pure is h = (refl, (h, tt))
-
--- a good property
-abbrev Property : Node → Type 0
-Property q = Is35 q × Good q
-
-properties-all : (is : Items) → AllItems Is35 is → GoodItems is → AllItems Property is
-properties-all Items.none h k = tt
-properties-all (Items.hole is) h k = properties-all is h k
-properties-all (Items.item n is) h k = ((h .0, k .0), properties-all is (h .1) (k .1))
-
-properties-are : (p : Node) → is 34 p ≡ true → Good p → AllItems Property (properties p)
-properties-are p e h = properties-all (properties p) (properties-35 p e h) (items-good 0 p h)
 
 both-all : (P Q R : Node → Type 0) → ((n : Node) → P n → Q n → R n) → (is : Items) → AllItems P is → AllItems Q is → AllItems R is
 both-all P Q R f Items.none h k = tt

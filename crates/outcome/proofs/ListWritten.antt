@@ -24,10 +24,10 @@ use Rattle.direct.specs.Events.{cellOf, stemOf}
 use Rattle.outcome.specs.Named
 use Rattle.outcome.specs.Named.{Act, lists, excludes, handed, entered, excludedKeys, handsOut, plains, tokens, tokensItems}
 use Rattle.outcome.proofs.MarksKept.{Walks, WalksFields, WalksPiece, WalksItems}
-use Rattle.outcome.proofs.Listed.{list-append, keys-append, entries-append, declarators-append, over-append, hands}
+use Rattle.outcome.proofs.Listed.{list-append, keys-append, entries-append, declarators-append, hands}
 use Rattle.outcome.proofs.HandedDeclarators.{Hands, Declares, Valued, Full, handed-listed, excluded-listed, excluded-counted}
 use Rattle.outcome.proofs.Numbers.{bytes, bytes-append, bytes-plains, encode-items}
-use Rattle.lowering.proofs.ItemLaws.{count-append}
+use Rattle.lowering.proofs.ItemLaws.{count-append, over-append}
 
 -- ---- the parts of a note that say nothing of a list
 

@@ -12,6 +12,7 @@ use Rattle.lowering.specs.Walk.{Note, Walked, WalkedFields, WalkedPiece, Walked
 use Rattle.lowering.specs.Walk.Walked.{noted}
 use Rattle.lowering.specs.Collect.{Name, Visit, over, newIn, newInFields, newInPiece, newInItems, isContainer, marked, markOf, visits, visitsFields, visitsPiece, visitsItems}
 use Rattle.lowering.proofs.Cases.{by-test}
+use Rattle.lowering.proofs.ItemLaws.{over-append}
 use Rattle.sink.specs.Shown.{Named, Token, listOf, keysOf, listTokens, keysTokens, entryIn, declaratorIn, entriesIn, declaratorsIn, madeBy, madeIn}
 use Rattle.direct.specs.Events.{later, countIn, mapIn}
 use Rattle.outcome.specs.Named.{Act, puts, handsOut, marks, written, named, namedFields, namedPiece, namedItems}
@@ -150,11 +151,6 @@ pub made-append : (es fs : List Act) → madeIn (es ++ fs) ≡ madeIn es ++ made
 unfolding madeIn
 made-append [] fs = refl
 made-append (e ∷ es) fs = ap (λ (x : List Name). madeBy e ++ x) (made-append es fs) ∙ sym (append-assoc (madeBy e) (madeIn es) (madeIn fs))
-
-pub over-append : {A B : Type 0} (f : A → List B) (us vs : List A) → over f (us ++ vs) ≡ over f us ++ over f vs
-unfolding over
-over-append f [] vs = refl
-over-append f (u ∷ us) vs = ap (λ (x : List _). f u ++ x) (over-append f us vs) ∙ sym (append-assoc (f u) (over f us) (over f vs))
 
 -- ---- the notes
 

@@ -15,6 +15,7 @@ use Rattle.lowering.specs.Walk.{Walked, WalkedFields, WalkedPiece, WalkedItems}
 use Rattle.lowering.specs.Walk.Walked.{noted}
 use Rattle.lowering.specs.Collect.{Name, nameOf, nameAt, over, newIn, newInPiece, isContainer, marked, markOf, bare, bareFields, barePiece, bareItems, nodes, nodesFields, nodesPiece, nodesItems, uses, maskFrom, helperMask}
 use Rattle.lowering.proofs.Cases.{by-test}
+use Rattle.lowering.proofs.ItemLaws.{over-append}
 use Rattle.sink.specs.Machine.{maskOf}
 use Rattle.sink.specs.Shown.{Named, Token, isHelper, usesHelper, helpersIn}
 use Rattle.sink.specs.Shown.Token.{plain, temp}
@@ -23,7 +24,6 @@ use Rattle.sink.proofs.Joined.{helper-joined}
 use Rattle.direct.specs.Events.{cell, later, numberIn, countIn, mapIn}
 use Rattle.outcome.specs.Named.{Act, puts, handsOut, marks, written, named, namedFields, namedPiece, namedItems, plains, tokens, tokensFields, tokensPiece, tokensItems}
 use Rattle.outcome.proofs.Tokens.{Aside, hands-aside, IsTemporary, IsHelper, Formed, FormedFields, FormedPiece, FormedItems}
-use Rattle.outcome.proofs.Listed.{over-append}
 
 -- ---- names
 

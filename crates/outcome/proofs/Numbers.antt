@@ -11,14 +11,13 @@ use Rattle.tree.specs.Tree.Node.{node}
 use Rattle.lowering.specs.Parts.{is}
 use Rattle.lowering.specs.Collect.{Name, nameOf, same, except, distinct, numberIn, withNumber, numbered, numberedFields, numberedPiece, numberedItems}
 use Rattle.lowering.proofs.Cases.{by-test}
-use Rattle.lowering.proofs.Appearance.{same-is}
+use Rattle.lowering.proofs.Appearance.{same-is, name-self}
 use Rattle.sink.specs.Shown.{Token, place, noted, order, shown}
 use Rattle.sink.specs.Shown.Token.{plain, temp}
 use Rattle.sink.proofs.Names.{place-noted, order-kept}
 use Rattle.sink.proofs.Firsts
 use Rattle.sink.proofs.Firsts.{namesIn, number-is}
 use Rattle.outcome.specs.Named.{plains, tokens, tokensFields, tokensPiece, tokensItems}
-use Rattle.outcome.proofs.Scope.{self}
 
 -- ---- bytes of a row, each name by its number, with its stem
 
@@ -143,7 +142,7 @@ unfolding order namesIn
 placed-from [] seen = tt
 placed-from (plain b ∷ ts) seen = placed-from ts seen
 placed-from (temp a stem ∷ ts) seen =
-    let r = place-noted same self a seen (place same a seen) refl in
+    let r = place-noted same name-self a seen (place same a seen) refl in
     let next = noted same (place same a seen) seen a in
     ((r .0, order-kept same ts next a (r .0) (r .1)), placed-from ts next)
 
@@ -153,7 +152,7 @@ all-placed ts = placed-from ts []
 -- so the machine's number is the definition's, whatever names come after those of the tree
 pub number-agrees : (ts : List (Token Name)) (more : List Name) (a : Name) → Placed ts a → place same a (order same [] ts) ≡ numberIn same 1 (distinct same (namesIn ts ++ more)) a
 number-agrees ts more a h =
-    h .1 ∙ sym (number-is same same-is self ts more a (h .0) (h .1)) ∙ numberIn-same 1 (Firsts.distinct same (namesIn ts ++ more)) a
+    h .1 ∙ sym (number-is same same-is name-self ts more a (h .0) (h .1)) ∙ numberIn-same 1 (Firsts.distinct same (namesIn ts ++ more)) a
     ∙ ap (λ (l : List Name). numberIn same 1 l a) (distinct-same (namesIn ts ++ more))
 
 -- ---- a name that occurs

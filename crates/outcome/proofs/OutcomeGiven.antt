@@ -21,9 +21,10 @@ use Rattle.lowering.specs.Answer
 use Rattle.lowering.proofs.All.{Each}
 use Rattle.lowering.proofs.Cases.{by-test}
 use Rattle.lowering.proofs.Notes.{AllNotes}
-use Rattle.lowering.proofs.Appearance.{same-is}
+use Rattle.lowering.proofs.Appearance.{same-is, name-self}
 use Rattle.lowering.proofs.MadeAtSites.{times}
 use Rattle.lowering.proofs.Occurs.{occurs}
+use Rattle.lowering.proofs.ItemLaws.{over-append}
 use Rattle.sink.specs.Machine.{Event, endOf, nothing, steps, start, finished, maskOf}
 use Rattle.sink.specs.Machine
 use Rattle.sink.specs.Shown.{Token, eventsOf, treeTokens, listTokens, keysTokens, entriesIn, declaratorsIn, madeIn, helpersIn, order, orderOf, shown, place, treeBytes, handedBack}
@@ -37,9 +38,9 @@ use Rattle.outcome.proofs.FormedTidy.{formed-tidy}
 use Rattle.outcome.proofs.Refusals.{Leafy, first-refusal}
 use Rattle.outcome.proofs.SameEvents.{named-same}
 use Rattle.outcome.proofs.Tokens.{Formed, FormedFields, FormedPiece, FormedItems, formed-leafy, tree-writes, temporary-none}
-use Rattle.outcome.proofs.Listed.{asides, over-append, hands, named-hands, list-aside, keys-aside, entries-aside, declarators-aside}
+use Rattle.outcome.proofs.Listed.{asides, hands, named-hands, list-aside, keys-aside, entries-aside, declarators-aside}
 use Rattle.outcome.proofs.MadeOnce.{number, inCell}
-use Rattle.outcome.proofs.Scope.{self, cellAt, walked-scoped}
+use Rattle.outcome.proofs.Scope.{cellAt, walked-scoped}
 use Rattle.outcome.proofs.Good.{Good, parts}
 use Rattle.outcome.proofs.GoodRules.{rewrite-good}
 use Rattle.outcome.proofs.Forms.{walked-formed, good-notes}
@@ -347,9 +348,9 @@ module _ (pot : ℕ → Node → ℕ)
   module _ (a b k : ℕ) (big : 49152 ≤ k) where
     handed : finished (steps (start a b k next) (eventsOf es)) ≡ handedBack a b k (maskOf (helpersIn es)) (treeBytes same first next es) (Shown.listBytes same first next es)
     handed =
-        handed-back same same-is self a b k next first es big (omega arith) (ok .cells) first-differ
+        handed-back same same-is name-self a b k next first es big (omega arith) (ok .cells) first-differ
         (to-shown (λ x. (c : ℕ) → c < 16384 → same x (first c) ≡ false) (madeIn es) (every-weaker (λ x. cellAt x < 16384) (λ x. (c : ℕ) → c < 16384 → same x (first c) ≡ false) unlike (madeIn es) (ok .names)))
-        (made-apart self top n leafy next 0 next 0 apart)
+        (made-apart top n leafy next 0 next 0 apart)
 
   -- the run of the deeds ends in the outcome of the definition, where nothing is refused
   pub outcome-is : (options : ℕ) (s : Lent) → 49152 ≤ s .workSlice → firstRefused (deeds next 0 w) ≡ 0

@@ -42,7 +42,7 @@ use Rattle.direct.proofs.MovedMade.{from-kept}
 
 -- ---- what is made in a cell
 
-cell-1 : (at : ℕ) → cell 1 at ≡ at
+pub cell-1 : (at : ℕ) → cell 1 at ≡ at
 unfolding cell
 cell-1 at = omega arith
 

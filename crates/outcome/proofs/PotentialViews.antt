@@ -9,7 +9,7 @@ use lib.Dec.{eqb}
 use borrow.Author.Tests.{eqb-true}
 use Rattle.tree.specs.Tree.{Node, Fields, Piece, Items, depth}
 use Rattle.tree.specs.Tree.Node.{node}
-use Rattle.lowering.specs.Parts.{nothing, position, is, pieceIn, changeIn, dropIn, asNode, asItems, nodeAt, itemsAt, stands, change, onNode, onItems, changeNode, without, only, each, gather, _+++_}
+use Rattle.lowering.specs.Parts.{nothing, position, is, pieceIn, changeIn, asNode, asItems, nodeAt, itemsAt, stands, change, onNode, onItems, changeNode, without, only, each, gather, _+++_}
 use Rattle.lowering.specs.Made.{Context, temporary, reference, keyOf, string}
 use Rattle.lowering.specs.Patterns.{shape, properties, itemsOf, rest, hasRest, leftOf, key, value, withLeft, withItems, withRest, withProperties, withValues, replaced, objectsWithRest}
 use Rattle.lowering.specs.Patterns.Shape.{objectPattern, arrayPattern, default, leaf}
@@ -114,12 +114,6 @@ top-rest : (p : Node) → is 34 p ≡ true → isTop p ≡ false → hasRest p �
 unfolding isTop
 top-rest p e t = let z : true && hasRest p ≡ false = rw e at t in z
 
-dropped-items : (fs : Fields) → asItems (pieceIn (dropIn fs 1) 0) ≡ asItems (pieceIn fs 0)
-unfolding dropIn pieceIn
-dropped-items Fields.done = refl
-dropped-items (Fields.absent fs) = refl
-dropped-items (Fields.field p fs) = refl
-
 pub left-less : (h : ℕ) (b d : Bool) → (b ≡ true → d ≡ true) → cond d 0 h ≤ cond b 0 h
 left-less h true true f = omega arith
 left-less h true false f = absurd (false≢true (f refl))
@@ -127,7 +121,7 @@ left-less h false true f = omega arith
 left-less h false false f = omega arith
 
 -- a good property
-abbrev Property : Node → Type 0
+abbrev pub Property : Node → Type 0
 Property q = Is35 q × Good q
 
 properties-all : (is : Items) → AllItems Is35 is → GoodItems is → AllItems Property is

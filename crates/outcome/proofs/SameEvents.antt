@@ -20,7 +20,7 @@ use Rattle.direct.specs.Events.Deed.{does, refuses}
 use Rattle.direct.proofs.Threads.{Tidy, TidyFields, TidyPiece, TidyItems, fields-threaded, items-threaded}
 use Rattle.outcome.specs.Named.{Act, eventsIn, puts, lists, excludes, made, handed, entered, excludedKeys, handsOut, marks, written, named, namedFields, namedPiece, namedItems}
 
-in-append : (ds bs : List Deed) → eventsIn (ds ++ bs) ≡ eventsIn ds ++ eventsIn bs
+pub in-append : (ds bs : List Deed) → eventsIn (ds ++ bs) ≡ eventsIn ds ++ eventsIn bs
 unfolding eventsIn
 in-append [] bs = refl
 in-append (does e ∷ ds) bs = ap (λ (x : List Event). e ∷ x) (in-append ds bs)

@@ -18,10 +18,10 @@ use Rattle.lowering.specs.Made.{Context}
 use Rattle.lowering.specs.Walk.{Note, Walked, WalkedFields, WalkedPiece, WalkedItems, eachItem, eachPiece, eachField, inside, rewrite, within, walk, unchanged}
 use Rattle.lowering.specs.Walk.Walked.{noted}
 use Rattle.lowering.specs.Weight.{weight, walked}
-use Rattle.lowering.specs.Collect.{Name, nameOf, samePath, same, newIn, newInPiece, isContainer, bare, bareFields}
+use Rattle.lowering.specs.Collect.{Name, nameOf, same, newIn, newInPiece, isContainer, bare, bareFields}
 use Rattle.lowering.proofs.All.{AllItems, AllPiece, AllFields, Each, weaker-fields}
 use Rattle.lowering.proofs.Cases.{by-test}
-use Rattle.lowering.proofs.Appearance.{same-is}
+use Rattle.lowering.proofs.Appearance.{same-is, name-self}
 use Rattle.lowering.proofs.MadeAtSites.{times}
 use Rattle.lowering.proofs.Occurs.{occurs, occursFields, occursPiece, occursItems, fields-in}
 use Rattle.lowering.proofs.SoundSteps.{rewrite-sound}
@@ -37,15 +37,6 @@ use Rattle.outcome.proofs.MadeOnce.{makes, number, makes-all, hands-nam
 -- the cell of a name
 abbrev pub cellAt : Name → ℕ
 cellAt a = cell (a .stem) (a .place)
-
-self-path : (p : List ℕ) → samePath p p ≡ true
-unfolding samePath
-self-path [] = refl
-self-path (a ∷ p) = rw (eq-eqb a a refl) (self-path p)
-
-pub self : (a : Name) → same a a ≡ true
-unfolding same
-self a = rw (eq-eqb (a .place) (a .place) refl, eq-eqb (a .stem) (a .stem) refl) (self-path (a .path))
 
 pub cell-name : (t : Node) → cellOf t ≡ cellAt (nameOf t)
 unfolding cellOf nameOf
@@ -77,7 +68,7 @@ pub record IsNamed (fs : Fields) : Type 0 where
 
 pub occurs-here : (at k : ℕ) (fs : Fields) → eqb k 20 ≡ true → 0 < occurs (nameOf (node at k fs)) (node at k fs)
 unfolding occurs
-occurs-here at k fs e = rw (e, self (nameOf (node at k fs))) (omega arith)
+occurs-here at k fs e = rw (e, name-self (nameOf (node at k fs))) (omega arith)
 
 walked-name : (w : ℕ → ℕ → Node → Walked) (at k : ℕ) (fs : Fields) → IsNamed fs → nameOf (node at k fs) ≡ nameOf (node at k (bareFields 0 (eachField w 0 fs)))
 unfolding bare eachField eachPiece

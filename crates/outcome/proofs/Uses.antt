@@ -23,14 +23,13 @@ use Rattle.lowering.proofs.Cases.{by-test}
 use Rattle.lowering.proofs.Weights.{weight-pos}
 use Rattle.lowering.proofs.Falls.{falls, walked-is}
 use Rattle.lowering.proofs.MadeAtSites.{times, times-append, no-ids}
-use Rattle.lowering.proofs.Appearance.{same-is}
+use Rattle.lowering.proofs.Appearance.{same-is, name-self}
 use Rattle.lowering.proofs.Occurs.{occurs, occursFields, occursPiece, occursItems}
 use Rattle.sink.specs.Shown.{Token}
 use Rattle.sink.proofs.Firsts.{namesIn}
 use Rattle.outcome.specs.Named.{plains, tokens, tokensFields, tokensPiece, tokensItems}
 use Rattle.outcome.proofs.Tokens.{IsTemporary, Formed, FormedFields, FormedPiece, FormedItems}
-use Rattle.outcome.proofs.Listed.{over-append}
-use Rattle.outcome.proofs.Scope.{self, both-each}
+use Rattle.outcome.proofs.Scope.{both-each}
 use Rattle.outcome.proofs.Good.{Pure, Good, parts}
 use Rattle.outcome.proofs.GoodRules.{rewrite-good}
 use Rattle.outcome.proofs.HandedDeclarators.{Hands, Declares, Valued, Full, full-append, full-weaker, pure-tokens}
@@ -38,7 +37,7 @@ use Rattle.outcome.proofs.Numbers.{Every, every-append, In, in-left, in
 use Rattle.outcome.proofs.Nodes.{names-joined, plains-names}
 use Rattle.outcome.proofs.ListWritten.{machineEntry}
 use Rattle.outcome.proofs.ListedStand.{Calm, CalmFields, CalmPiece, CalmItems, stays-result, rewrite-used, sum-some}
-use Rattle.lowering.proofs.ItemLaws.{each-append}
+use Rattle.lowering.proofs.ItemLaws.{each-append, over-append}
 
 -- ---- no refusal in the visits is none in the walk
 
@@ -292,7 +291,7 @@ module _ (P : Name → Type 0) where
   items-every (Items.hole ds) f h = absurd f
   items-every (Items.item d ds) f h =
       subst (Every P) (sym (names-joined (tokens d) (tokensItems ds) ∙ ap (λ (x : List Name). x ++ namesIn (tokensItems ds)) (declares-names d (f .0))))
-      (h (nameOf (idOf d)) (rw (self (nameOf (idOf d))) (omega arith)), items-every ds (f .1) (λ a u. h a (omega arith)))
+      (h (nameOf (idOf d)) (rw (name-self (nameOf (idOf d))) (omega arith)), items-every ds (f .1) (λ a u. h a (omega arith)))
 
   entry-every : (v : Visit) → Full Declares (v .note .entry) → ((a : Name) → 0 < times a (each idOf (v .note .entry)) → P a) → Every P (namesIn (over machineEntry (entryAt v)))
   unfolding entryAt over namesIn

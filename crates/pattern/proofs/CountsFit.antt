@@ -483,7 +483,3 @@ from-fits q =
     let a = some-if (isMoved q) (movedBelow (nodeAt 0 q)) in
     let b = node-small (λ p. movedBelow p) small-movedBelow 0 q in
     omega arith
-
--- out of all of those in field i of a node
-pub moves-fit : (i : ℕ) (n : Node) → count (gather movedFrom (itemsAt i n)) ≤ size n
-moves-fit i n = let h = gather-small movedFrom from-fits (itemsAt i n) in let g = items-small i n in omega arith

@@ -12,7 +12,7 @@ use Rattle.tree.specs.Tree.Items.{none, hole, item}
 use Rattle.tree.specs.Read.{byteAt}
 use Rattle.tree.specs.Answer.{Peeked}
 use Rattle.tree.specs.Look.{seen, seenAs, onward, lookItem, lookItems, lookNode}
-use Rattle.lowering.specs.Parts.{kind, is, itemsAt, textAt, stands, only, gather, any, isEmpty, pieceIn}
+use Rattle.lowering.specs.Parts.{kind, is, itemsAt, stands, only, gather, any, isEmpty, pieceIn}
 use Rattle.lowering.specs.Made.{Context, string}
 use Rattle.lowering.specs.Patterns.{key, properties}
 use Rattle.lowering.specs.Keys as keys
@@ -34,6 +34,7 @@ use Rattle.pattern.proofs.Places.{Blank, child-is, list-is, kind-is, no
 use Rattle.pattern.proofs.CappedSums.{tallies, Adds, sumOf, listSum, sum-start, sum-more, sum-end}
 use Rattle.lowering.proofs.ItemLaws.{count-append}
 use Rattle.lowering.proofs.Clauses.{text-name, text-literal}
+use Rattle.lowering.proofs.Cases.{is-literal}
 
 pub some-not : (n : ℕ) → eqb (suc n) 0 ≡ false
 some-not n = ne-eqb (suc n) 0 (λ e. absurd (omega arith))
@@ -162,18 +163,6 @@ module _ (l : List ℕ) where
 literal-kind : (k : Node) → is 22 k ≡ true → kind k ≡ 22
 unfolding is
 literal-kind k e = eqb-true (kind k) 22 e
-
-is-literal : (k : Node) → keySort k ≡ literal → is 22 k ≡ true
-unfolding keySort
-is-literal k e = go (is 38 k) (is 22 k) (is 23 k && eqb (count (itemsAt 0 k)) 1) (is 39 k) (is 20 k || (is 18 k && stands 1 k)) e
-  where
-    go : (a b c d f : Bool) → cond a name (cond b literal (cond c template (cond d private (cond f again other)))) ≡ literal → b ≡ true
-    go true b c d f w = let z : _≡_ {A = ℕ} 0 1 = cc in absurd (omega arith)
-    go false true c d f w = refl
-    go false false true d f w = let z : _≡_ {A = ℕ} 0 1 = cc in absurd (omega arith)
-    go false false false true f w = let z : _≡_ {A = ℕ} 0 1 = cc in absurd (omega arith)
-    go false false false false true w = let z : _≡_ {A = ℕ} 0 1 = cc in absurd (omega arith)
-    go false false false false false w = let z : _≡_ {A = ℕ} 0 1 = cc in absurd (omega arith)
 
 -- only a literal can lack one
 pub lacking-is : (k : Node) → keyTally k .lacking ≡ cond (lacksForm k) 1 0

@@ -18,7 +18,7 @@ use Rattle.lowering.specs.Patterns.Shape.{objectPattern, arrayPattern, default,
 use Rattle.pattern.specs.declared.parts.Place.{Place}
 use Rattle.pattern.specs.declared.parts.Run.{Run}
 use Rattle.pattern.specs.Parts.{partAt, itemPlace, placeOf, runOf, nodeHere}
-use Rattle.pattern.proofs.Places.{Blank, child-is, child-falls, child-below, item-below, object-list, array-list, kind-is, no-levels}
+use Rattle.pattern.proofs.Places.{Blank, child-is, child-below, object-list, array-list, kind-is, no-levels}
 use Rattle.pattern.proofs.Below as below
 
 abbrev pub has : Node → Bool
@@ -106,12 +106,6 @@ module _ (l : List ℕ) where
 
   pub value-falls : (d at : ℕ) (s : Place) → (d ≡ 0 → ⊥) → s ≡ placeOf (d - 1) at (partAt l (d - 1) at 1) → s .left < d
   value-falls d at s z e = child-below l d (d - 1) at 1 s z e
-
-  pub item-falls : (d at : ℕ) (h : Bool) (s : Place) → (d ≡ 0 → ⊥) → s ≡ itemPlace l h (d - 1) at → s .left < d
-  item-falls d at h s z e = item-below l d at h s z e
-
-  pub part-falls : (d at i : ℕ) (s : Place) → (d ≡ 0 → ⊥) → s ≡ placeOf d at (partAt l d at i) → s .left < d
-  part-falls d at i s z e = child-falls l d at i s z e
 
   -- ---- the nodes themselves
 

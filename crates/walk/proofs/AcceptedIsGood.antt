@@ -37,6 +37,7 @@ use Rattle.lowering.proofs.Quiet.{quiet-simple}
 use Rattle.lowering.proofs.Accepted as lowering
 use Rattle.lowering.proofs.Accepted.{Proper, NodeGood}
 use Rattle.lowering.proofs.Accepted.Proper.{proper}
+use Rattle.lowering.proofs.Simple.{positive}
 use Rattle.pattern.proofs.KeyCases.{items-count}
 use Rattle.sink.specs.Machine.{part}
 use Rattle.direct.specs.Events.{Place, Emit, emits}
@@ -161,13 +162,9 @@ no-helper (proper a b c t u f) = u
 
 -- ---- marks
 
-marked-is : (next m : ℕ) → 0 < m → marked next m ≡ m
-marked-is next zero h = absurd (omega arith)
-marked-is next (suc m) h = refl
-
 statement-is : (c : Place) (n : Node) → 0 < startMark n → emitsStatement c n ≡ emits (marking c (startMark n)) n
 unfolding emitsStatement
-statement-is c n h = fun-ext (λ next. ap (λ (x : ℕ). emits (marking c x) n next) (marked-is next (startMark n) h))
+statement-is c n h = fun-ext (λ next. ap (λ (x : ℕ). emits (marking c x) n next) (positive next (startMark n) h))
 
 module _ (l : List ℕ) where
   -- bytes that stand in l from `at` on

@@ -35,7 +35,7 @@ use Rattle.direct.specs.Views.{objectAt, objectRestAt, propertyAt, arrayAt, arr
 use Rattle.direct.specs.Declared.{declarationAt}
 use Rattle.direct.specs.Assigned.{assignmentAt}
 use Rattle.direct.specs.Moved.{given, functionFields, arrowFields, catchFields, forFields}
-use Rattle.direct.proofs.HeadShapes.{form-is, FitGiven, function-fits, catch-fits, functionBody-kind, param-kind, catchBody-kind}
+use Rattle.direct.proofs.HeadShapes.{FitGiven, function-fits, catch-fits, functionBody-kind, param-kind, catchBody-kind, fields-in}
 use Rattle.walk.specs.Whole.{GoodItems, GoodList, GoodField, GoodSlot, GoodFields, Good}
 use Rattle.walk.proofs.CutBytes.{part-cut}
 
@@ -188,10 +188,6 @@ leaf-shape n h = go (eqb (kind n) 34) (eqb (kind n) 36) (eqb (kind n) 37) h
 all-of : (k : ℕ) (ns : Items) → AllItems (λ n. eqb k (kind n) ≡ true) ns → AllItems (λ n. is k n ≡ true) ns
 unfolding is
 all-of k ns h = weaker-items (λ n. eqb k (kind n) ≡ true) (λ n. eqb (kind n) k ≡ true) (λ n e. eq-eqb (kind n) k (sym (eqb-true k (kind n) e))) ns h
-
--- the fields of a node of a kind with one form
-fields-in : {p at k : ℕ} {fs : Fields} → Fits input p (node at k fs) → 0 < k → k < 34 → (k ≡ 14 → ⊥) → FitFields input 0 (fieldsOf k) fs
-fields-in (Fits.fits {p = p} {k = k} {fs = fs} h r) a b c = subst (λ (f : ℕ). FitFields input 0 (fieldsOf f) fs) (form-is (formAt input p k) k (kind-at input p k h) a b c) r
 
 -- a byte that stands first
 byte-fits : {b low high v : ℕ} → FitPiece input b (Sort.byte low high) (Piece.byte v) → v < 256
@@ -462,7 +458,6 @@ module _ (t : List ℕ) (d at : ℕ) where
   pub record ObjectOpen : Type 0 where
     pub within : at + 4 ≤ 16384
     pub next2 : onward t at 2 ≡ at + 2
-    pub next4 : onward t (onward t at 2) 2 ≡ at + 4
     pub head : part at (onward t (onward t at 2) 2) t ≡ 34 ∷ cond bit2 3 1 ∷ wideBytes (wideAt t (onward t at 2))
     pub list : ListOpen false false (onward t at 2)
     pub properties : AllItems (λ q. is 35 q ≡ true) (itemsFrom false (onward t at 2) .value)
@@ -476,7 +471,6 @@ module _ (t : List ℕ) (d at : ℕ) where
   -- 36 ArrayPattern(items* rest?)
   pub record ArrayOpen : Type 0 where
     pub next2 : onward t at 2 ≡ at + 2
-    pub next4 : onward t (onward t at 2) 2 ≡ at + 4
     pub list : ListOpen false true (onward t at 2)
     pub head : part at (onward t (onward t at 2) 2) t ≡ 36 ∷ cond bit2 3 1 ∷ wideBytes (wideAt t (onward t at 2))
     pub plain : bit2 ≡ false → lookNode t (suc d) at ≡ seen (arrayAt at (itemsFrom true (onward t at 2) .value)) (itemsFrom true (onward t at 2) .next)
@@ -742,7 +736,6 @@ module _ (t : List ℕ) (d at : ℕ) where
       record {
         within = object-within g k;
         next2 = good-two t (suc d) at g;
-        next4 = on-on t at 2 2 ∙ bytes-next _ f (omega arith);
         head = ap (λ (x : ℕ). part at x t) (on-on t at 2 2) ∙ bytes-head _ f (omega arith);
         list = list-open false false (onward t at 2) g (object-list g k);
         properties = object-properties g k;
@@ -800,7 +793,6 @@ module _ (t : List ℕ) (d at : ℕ) where
       let f = array-front g k in
       record {
         next2 = good-two t (suc d) at g;
-        next4 = on-on t at 2 2 ∙ bytes-next _ f (omega arith);
         list = list-open false true (onward t at 2) g (array-list g k);
         head = ap (λ (x : ℕ). part at x t) (on-on t at 2 2) ∙ bytes-head _ f (omega arith);
         plain = array-node g k;

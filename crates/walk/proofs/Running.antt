@@ -22,6 +22,7 @@ use Rattle.walk.specs.Run.{Going, met, Full, Way, Does, Clear}
 use Rattle.walk.specs.Run.Way.{whole, full}
 use Rattle.walk.proofs.Marked.{markIn, mark-after}
 use Rattle.walk.proofs.FullStaysFull.{stays-full}
+use Rattle.outcome.proofs.SameEvents.{in-append}
 
 -- ---- refusals
 
@@ -48,12 +49,6 @@ pub record Agree (e f : Emit) : Type 0 where
   pub same : (r k j : ℕ) → met r (e k) ≡ met r (f j)
 
 -- ---- events
-
-in-append : (ds es : List Deed) → eventsIn (ds ++ es) ≡ eventsIn ds ++ eventsIn es
-unfolding eventsIn
-in-append [] es = refl
-in-append (does e ∷ ds) es = ap (λ (l : List Event). e ∷ l) (in-append ds es)
-in-append (refuses n ∷ ds) es = in-append ds es
 
 in-events : (es : List Event) → eventsIn (all es) ≡ es
 unfolding eventsIn

@@ -4,9 +4,6 @@ use borrow.Author.Needs.{needs}
 use Rattle.pattern.proofs.keys.formed.Statement.{statement}
 use Rattle.pattern.proofs.keys.formed.Tie as tie
 
-enum-told : tie.Need-enum-told
-enum-told c = search needs
-
 returns : tie.Need-returns
 unfolding formIn
 returns c = ap formIn (sym (c .before .p .given .1))
@@ -32,7 +29,7 @@ formed-spec =
     tie.close
     (tie.spec
     (λ c. search needs)
-    enum-told
+    (λ c. search needs)
     (λ c. search needs)
     (λ c. search needs)
     (λ c. search needs)

@@ -4,9 +4,6 @@ use borrow.Author.Needs.{needs}
 use Rattle.pattern.proofs.keys.key_counts.Statement.{statement}
 use Rattle.pattern.proofs.keys.key_counts.Tie as tie
 
-enum-told : tie.Need-enum-told
-enum-told c = search needs
-
 returns : tie.Need-returns
 unfolding keyCounts
 returns c = c .counted .ensures ∙ ap keyCounts (sym (c .before .enum-told .given .1))
@@ -39,7 +36,7 @@ pub key-counts-spec : {M : Type 1} → statement M
 key-counts-spec =
     tie.close
     (tie.spec
-    enum-told
+    (λ c. search needs)
     (λ c κs. tt)
     (λ c. search needs)
     (λ c κs. tt)

@@ -4,9 +4,6 @@ use borrow.Author.Needs.{needs}
 use Rattle.pattern.proofs.keys.named.Statement.{statement}
 use Rattle.pattern.proofs.keys.named.Tie as tie
 
-enum-told : tie.Need-enum-told
-enum-told c = search needs
-
 returns : tie.Need-returns
 unfolding nameIn
 returns c = ap nameIn (sym (c .before .p .given .1))
@@ -32,7 +29,7 @@ named-spec =
     tie.close
     (tie.spec
     (λ c. search needs)
-    enum-told
+    (λ c. search needs)
     (λ c. search needs)
     (λ c. search needs)
     (λ c. search needs)

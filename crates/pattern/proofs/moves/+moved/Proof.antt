@@ -1,7 +1,7 @@
 use mathlib.Core.Bool.{true}
 use native.Mathlib.Omega.{arith}
 use Rattle.pattern.proofs.MovesCounted as law
-use Rattle.pattern.proofs.Searches as search
+use Rattle.pattern.proofs.Places as places
 use Prim.Native.Nat.{ℕ}
 use borrow.Fn.PlainCycle.{Measures}
 use Rattle.tree.proofs.Cycle.{at-measure, below-measure}
@@ -36,13 +36,13 @@ moved-loop-holds : (t : ℕ) → moved-lts.Need-loop-holds (moved-claims t) (at-
 moved-loop-holds t c = law.items-start _ _ _ _ (c .before .before .before .if1 .left) (c .before .before .peek .ensures .value) _ (c .before .match .keys2) (c .list .ensures)
 
 moved-moved-requires : (t : ℕ) → moved-lts.Need-moved-requires (moved-claims t) (at-measure moved-kinds.ps μ-moved moved.Pre t) moved.Post moved-Inv-loop moved-μ-loop
-moved-moved-requires t c κs = (let h = search.item-falls _ _ _ true _ (c .before .before .before .before .before .before .if1 .left) (c .item .ensures) in omega (arith, c .before .before .before .before .before .before .before .before .pre .0), tt)
+moved-moved-requires t c κs = (let h = places.item-below _ _ _ true _ (c .before .before .before .before .before .before .if1 .left) (c .item .ensures) in omega (arith, c .before .before .before .before .before .before .before .before .pre .0), tt)
 
 moved-loop-again : (t : ℕ) → moved-lts.Need-loop-again (moved-claims t) (at-measure moved-kinds.ps μ-moved moved.Pre t) moved.Post moved-Inv-loop moved-μ-loop
 moved-loop-again t c = law.item-more _ _ _ _ _ _ _ _ _ _ _ (c .before .before .before .before .loop-test .taken) (c .before .before .before .item .ensures) (c .before .before .moved .ensures) (c .skip-item .ensures) (c .before .plus .ensures) (c .before .before .before .before .before .loop .inv)
 
 moved-moved-requires-2 : (t : ℕ) → moved-lts.Need-moved-requires-2 (moved-claims t) (at-measure moved-kinds.ps μ-moved moved.Pre t) moved.Post moved-Inv-loop moved-μ-loop
-moved-moved-requires-2 t c κs = (let h = search.part-falls _ _ _ 1 _ (c .before .before .before .before .before .before .if1 .left) (c .child .ensures) in omega (arith, c .before .before .before .before .before .before .before .before .pre .0), tt)
+moved-moved-requires-2 t c κs = (let h = places.child-falls _ _ _ 1 _ (c .before .before .before .before .before .before .if1 .left) (c .child .ensures) in omega (arith, c .before .before .before .before .before .before .before .before .pre .0), tt)
 
 moved-returns-2 : (t : ℕ) → moved-lts.Need-returns-2 (moved-claims t) (at-measure moved-kinds.ps μ-moved moved.Pre t) moved.Post moved-Inv-loop moved-μ-loop
 moved-returns-2 t c = law.moved-object _ _ _ _ (c .before .before .if1 .left) (c .before .peek .ensures .value) (c .match .keys1)

@@ -4,9 +4,6 @@ use borrow.Author.Needs.{needs}
 use Rattle.pattern.proofs.parts.child.Statement.{statement}
 use Rattle.pattern.proofs.parts.child.Tie as tie
 
-enum-told : tie.Need-enum-told
-enum-told c = search needs
-
 returns : tie.Need-returns
 unfolding placeOf
 returns c = law.placed _ _ _ _ _ _ (c .before .p .given .1) (c .before .before .before .field .ensures)
@@ -34,7 +31,7 @@ child-spec =
     (λ c κs. tt)
     (λ c. search needs)
     (λ c. law.one-levels _ _ _ _ _ _ (c .before .p .given .1) (c .before .before .before .field .ensures))
-    enum-told
+    (λ c. search needs)
     (λ c. search needs)
     (λ c. search needs)
     (λ c. search needs)

@@ -7,9 +7,6 @@ use Rattle.pattern.proofs.parts.field.Tie as tie
 returns : tie.Need-returns
 returns c = law.field-none _ _ _ _ (c .if1 .taken)
 
-enum-told : tie.Need-enum-told
-enum-told c = search needs
-
 returns-2 : tie.Need-returns-2
 returns-2 c = law.field-at _ _ _ _ _ _ _ _ _ (c .before .before .before .before .before .before .before .before .before .before .before .if1 .left) (c .before .before .before .before .before .before .before .before .before .before .peek .ensures .value) (c .before .before .before .before .before .before .before .before .step .ensures) (c .before .before .before .before .before .before .before .peek2 .ensures .value) (c .before .before .before .before .before .before .before .before .before .row .ensures) (c .before .before .before .before .before .before .step2 .ensures) _ (c .before .code-at .result) _ _ (c .before .before .before .before .before .seek .ensures) (c .before .before .before .f .given .1) (c .before .code-at .ensures) (c .held .ensures)
 
@@ -31,6 +28,6 @@ field-spec =
     (λ c. search needs)
     (λ c κs. tt)
     (λ c κs. tt)
-    enum-told
+    (λ c. search needs)
     returns-2
     returns-3)

@@ -4,9 +4,6 @@ use borrow.Author.Needs.{needs}
 use Rattle.pattern.proofs.parts.list.Statement.{statement}
 use Rattle.pattern.proofs.parts.list.Tie as tie
 
-enum-told : tie.Need-enum-told
-enum-told c = search needs
-
 returns : tie.Need-returns
 unfolding runOf
 returns c = law.run _ _ _ _ _ _ (c .before .p .given .1) (c .before .before .before .field .ensures)
@@ -33,7 +30,7 @@ list-spec =
     (tie.spec
     (λ c κs. tt)
     (λ c. search needs)
-    enum-told
+    (λ c. search needs)
     (λ c. search needs)
     (λ c. search needs)
     (λ c. search needs)

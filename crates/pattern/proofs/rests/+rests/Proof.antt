@@ -1,6 +1,7 @@
 use mathlib.Core.Bool.{true}
 use native.Mathlib.Omega.{arith}
 use Rattle.pattern.proofs.RestsFound as law
+use Rattle.pattern.proofs.Places as places
 use Rattle.pattern.proofs.Searches as search
 use Prim.Native.Nat.{ℕ}
 use borrow.Fn.PlainCycle.{Measures}
@@ -54,13 +55,13 @@ rests-loop2-holds : (t : ℕ) → rests-lts.Need-loop2-holds (rests-claims t) (a
 rests-loop2-holds t c = law.items-start _ _ _ _ (c .before .before .before .before .if1 .left) (c .before .before .before .peek .ensures .value) _ _ (c .before .before .match .keys2) (c .before .list2 .ensures) (c .none3 .ensures)
 
 rests-rests-requires-2 : (t : ℕ) → rests-lts.Need-rests-requires-2 (rests-claims t) (at-measure rests-kinds.ps μ-rests rests.Pre t) rests.Post rests-Inv-loop rests-μ-loop rests-Inv-loop2 rests-μ-loop2
-rests-rests-requires-2 t c κs = (let h = search.item-falls _ _ _ true _ (c .before .before .before .before .before .before .before .if1 .left) (c .item .ensures) in omega (arith, c .before .before .before .before .before .before .before .before .before .pre .0), tt)
+rests-rests-requires-2 t c κs = (let h = places.item-below _ _ _ true _ (c .before .before .before .before .before .before .before .if1 .left) (c .item .ensures) in omega (arith, c .before .before .before .before .before .before .before .before .before .pre .0), tt)
 
 rests-loop2-again : (t : ℕ) → rests-lts.Need-loop2-again (rests-claims t) (at-measure rests-kinds.ps μ-rests rests.Pre t) rests.Post rests-Inv-loop rests-μ-loop rests-Inv-loop2 rests-μ-loop2
 rests-loop2-again t c = law.item-more _ _ _ _ _ _ _ _ _ _ _ (c .before .before .before .before .loop2-test .taken) (c .before .before .before .item .ensures) (c .before .before .rests2 .ensures) (c .skip-item .ensures) (c .before .both3 .ensures) (c .before .before .before .before .before .loop2 .inv)
 
 rests-rests-requires-3 : (t : ℕ) → rests-lts.Need-rests-requires-3 (rests-claims t) (at-measure rests-kinds.ps μ-rests rests.Pre t) rests.Post rests-Inv-loop rests-μ-loop rests-Inv-loop2 rests-μ-loop2
-rests-rests-requires-3 t c κs = (let h = search.part-falls _ _ _ 0 _ (c .before .before .before .if1 .left) (c .child2 .ensures) in omega (arith, c .before .before .before .before .before .pre .0), tt)
+rests-rests-requires-3 t c κs = (let h = places.child-falls _ _ _ 0 _ (c .before .before .before .if1 .left) (c .child2 .ensures) in omega (arith, c .before .before .before .before .before .pre .0), tt)
 
 rests-returns-2 : (t : ℕ) → rests-lts.Need-returns-2 (rests-claims t) (at-measure rests-kinds.ps μ-rests rests.Pre t) rests.Post rests-Inv-loop rests-μ-loop rests-Inv-loop2 rests-μ-loop2
 rests-returns-2 t c = λ k. law.object-end _ _ _ _ (c .before .before .before .before .before .before .before .before .if1 .left) (c .before .before .before .before .before .before .before .peek .ensures .value) k _ _ _ _ _ _ (c .before .before .before .before .before .before .match .keys1) (c .before .before .loop-test .left) (c .before .before .before .loop .inv) (c .before .own .ensures) (c .both2 .ensures)

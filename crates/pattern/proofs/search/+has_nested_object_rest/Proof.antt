@@ -4,6 +4,7 @@ use native.Mathlib.Omega.{arith}
 use Rattle.tree.specs.Look.{lookItems, lookNode}
 use Rattle.lowering.specs.Parts.{nodeAt, any}
 use Rattle.lowering.specs.Patterns.{value}
+use Rattle.pattern.proofs.Places as places
 use Rattle.pattern.proofs.Searches as law
 use Rattle.pattern.proofs.Below as below
 use Prim.Native.Nat.{ℕ}
@@ -96,7 +97,7 @@ has-nested-object-rest-has-nested-object-rest-requires-2 :
     has-nested-object-rest-μ-loop
     has-nested-object-rest-Inv-loop2
     has-nested-object-rest-μ-loop2
-has-nested-object-rest-has-nested-object-rest-requires-2 t c κs = (let h = law.item-falls _ _ _ true _ (c .before .before .before .before .before .before .if1 .left) (c .item .ensures) in omega (arith, c .before .before .before .before .before .before .before .before .pre .0), tt)
+has-nested-object-rest-has-nested-object-rest-requires-2 t c κs = (let h = places.item-below _ _ _ true _ (c .before .before .before .before .before .before .if1 .left) (c .item .ensures) in omega (arith, c .before .before .before .before .before .before .before .before .pre .0), tt)
 
 has-nested-object-rest-returns-4 : (t : ℕ) → has-nested-object-rest-lts.Need-returns-4 (has-nested-object-rest-claims t) (at-measure has-nested-object-rest-kinds.ps μ-has-nested-object-rest has-nested-object-rest.Pre t) has-nested-object-rest.Post
     has-nested-object-rest-Inv-loop
@@ -118,7 +119,7 @@ has-nested-object-rest-has-nested-object-rest-requires-3 :
     has-nested-object-rest-μ-loop
     has-nested-object-rest-Inv-loop2
     has-nested-object-rest-μ-loop2
-has-nested-object-rest-has-nested-object-rest-requires-3 t c κs = (let h = law.part-falls _ _ _ 1 _ (c .before .before .before .before .before .before .if1 .left) (c .child2 .ensures) in omega (arith, c .before .before .before .before .before .before .before .before .pre .0), tt)
+has-nested-object-rest-has-nested-object-rest-requires-3 t c κs = (let h = places.child-falls _ _ _ 1 _ (c .before .before .before .before .before .before .if1 .left) (c .child2 .ensures) in omega (arith, c .before .before .before .before .before .before .before .before .pre .0), tt)
 
 has-nested-object-rest-has-nested-object-rest-requires-4 :
     (t : ℕ) → has-nested-object-rest-lts.Need-has-nested-object-rest-requires-4 (has-nested-object-rest-claims t) (at-measure has-nested-object-rest-kinds.ps μ-has-nested-object-rest has-nested-object-rest.Pre t) has-nested-object-rest.Post
@@ -126,7 +127,7 @@ has-nested-object-rest-has-nested-object-rest-requires-4 :
     has-nested-object-rest-μ-loop
     has-nested-object-rest-Inv-loop2
     has-nested-object-rest-μ-loop2
-has-nested-object-rest-has-nested-object-rest-requires-4 t c κs = (let h = law.part-falls _ _ _ 0 _ (c .before .before .before .if1 .left) (c .child3 .ensures) in omega (arith, c .before .before .before .before .before .pre .0), tt)
+has-nested-object-rest-has-nested-object-rest-requires-4 t c κs = (let h = places.child-falls _ _ _ 0 _ (c .before .before .before .if1 .left) (c .child3 .ensures) in omega (arith, c .before .before .before .before .before .pre .0), tt)
 
 has-nested-object-rest-returns-5 : (t : ℕ) → has-nested-object-rest-lts.Need-returns-5 (has-nested-object-rest-claims t) (at-measure has-nested-object-rest-kinds.ps μ-has-nested-object-rest has-nested-object-rest.Pre t) has-nested-object-rest.Post
     has-nested-object-rest-Inv-loop

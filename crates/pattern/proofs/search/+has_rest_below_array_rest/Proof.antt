@@ -4,6 +4,7 @@ use native.Mathlib.Omega.{arith}
 use Rattle.tree.specs.Look.{lookItems, lookNode}
 use Rattle.lowering.specs.Parts.{nodeAt, any}
 use Rattle.lowering.specs.Patterns.{value}
+use Rattle.pattern.proofs.Places as places
 use Rattle.pattern.proofs.Searches as law
 use Rattle.pattern.proofs.Below as below
 use Prim.Native.Nat.{ℕ}
@@ -89,7 +90,7 @@ has-rest-below-array-rest-has-rest-below-array-rest-requires-2 :
     has-rest-below-array-rest-μ-loop
     has-rest-below-array-rest-Inv-loop2
     has-rest-below-array-rest-μ-loop2
-has-rest-below-array-rest-has-rest-below-array-rest-requires-2 t c κs = (let h = law.item-falls _ _ _ true _ (c .before .before .before .before .before .before .if1 .left) (c .item .ensures) in omega (arith, c .before .before .before .before .before .before .before .before .pre .0), tt)
+has-rest-below-array-rest-has-rest-below-array-rest-requires-2 t c κs = (let h = places.item-below _ _ _ true _ (c .before .before .before .before .before .before .if1 .left) (c .item .ensures) in omega (arith, c .before .before .before .before .before .before .before .before .pre .0), tt)
 
 has-rest-below-array-rest-returns-3 : (t : ℕ) → has-rest-below-array-rest-lts.Need-returns-3 (has-rest-below-array-rest-claims t) (at-measure has-rest-below-array-rest-kinds.ps μ-has-rest-below-array-rest has-rest-below-array-rest.Pre t) has-rest-below-array-rest.Post
     has-rest-below-array-rest-Inv-loop
@@ -111,7 +112,7 @@ has-rest-below-array-rest-has-rest-below-array-rest-requires-3 :
     has-rest-below-array-rest-μ-loop
     has-rest-below-array-rest-Inv-loop2
     has-rest-below-array-rest-μ-loop2
-has-rest-below-array-rest-has-rest-below-array-rest-requires-3 t c κs = (let h = law.part-falls _ _ _ 0 _ (c .before .before .before .if1 .left) (c .child3 .ensures) in omega (arith, c .before .before .before .before .before .pre .0), tt)
+has-rest-below-array-rest-has-rest-below-array-rest-requires-3 t c κs = (let h = places.child-falls _ _ _ 0 _ (c .before .before .before .if1 .left) (c .child3 .ensures) in omega (arith, c .before .before .before .before .before .pre .0), tt)
 
 has-rest-below-array-rest-returns-4 : (t : ℕ) → has-rest-below-array-rest-lts.Need-returns-4 (has-rest-below-array-rest-claims t) (at-measure has-rest-below-array-rest-kinds.ps μ-has-rest-below-array-rest has-rest-below-array-rest.Pre t) has-rest-below-array-rest.Post
     has-rest-below-array-rest-Inv-loop

@@ -4,9 +4,6 @@ use borrow.Author.Needs.{needs}
 use Rattle.walk.proofs.hand.exclude_key.Statement.{statement}
 use Rattle.walk.proofs.hand.exclude_key.Tie as tie
 
-enum-told : tie.Need-enum-told
-enum-told c = search needs
-
 returns : tie.Need-returns
 returns c = (c .before .before .excluded-string .ensures .1, λ o l. law.name-does _ _ _ _ (c .before .before .before .before .before .before .before .transform-property-key .ensures .variant) _ _ (c .before .before .before .before .before .from .given .1) (c .before .before .excluded-string .ensures .0 o l))
 
@@ -37,7 +34,7 @@ exclude-key-spec =
     (λ c κs. search needs)
     (λ c. search needs)
     (λ c κs. search needs)
-    enum-told
+    (λ c. search needs)
     (λ c κs. search needs)
     (λ c. search needs)
     (λ c κs. search needs)

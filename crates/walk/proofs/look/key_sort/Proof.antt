@@ -3,9 +3,6 @@ use borrow.Author.Needs.{needs}
 use Rattle.walk.proofs.look.key_sort.Statement.{statement}
 use Rattle.walk.proofs.look.key_sort.Tie as tie
 
-enum-told : tie.Need-enum-told
-enum-told c = search needs
-
 returns : tie.Need-returns
 returns c = law.key-class _ _ _ _ _ (c .before .before .transform-property-key .ensures) (c .enum-told .given .1)
 
@@ -32,7 +29,7 @@ key-sort-spec =
     tie.close
     (tie.spec
     (λ c κs. search needs)
-    enum-told
+    (λ c. search needs)
     (λ c. search needs)
     (λ c. search needs)
     (λ c. search needs)

@@ -5,9 +5,6 @@ use borrow.Author.Needs.{needs}
 use Rattle.walk.proofs.pieces.string.Statement.{statement}
 use Rattle.walk.proofs.pieces.string.Tie as tie
 
-enum-told : tie.Need-enum-told
-enum-told c = search needs
-
 returns : tie.Need-returns
 returns c = (c .before .before .string .ensures .1, λ l k g h. law.string-written _ _ _ _ (law.name-spelt _ _ _ _ (c .before .before .before .before .before .before .before .transform-property-key .ensures) g _ _ (c .before .before .before .before .before .from .given .1)) (c .before .before .string .ensures .0 l k))
 
@@ -38,7 +35,7 @@ string-spec =
     (λ c κs. search needs)
     (λ c. search needs)
     (λ c κs. search needs)
-    enum-told
+    (λ c. search needs)
     (λ c κs. search needs)
     (λ c. search needs)
     (λ c. search needs)

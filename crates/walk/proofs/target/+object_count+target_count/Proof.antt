@@ -3,6 +3,7 @@ use mathlib.Core.Path.{_≡_, refl, sym, _∙_}
 use native.Mathlib.Omega.{arith}
 use Rattle.tree.specs.Read.{byteAt}
 use Rattle.pattern.proofs.CountsFit.{limited-below}
+use Rattle.pattern.proofs.Places as places
 use Rattle.pattern.proofs.Searches as search
 use Rattle.walk.specs.Turns.{reachOf}
 use Rattle.walk.proofs.TargetCounts as law
@@ -89,13 +90,13 @@ target-count-loop-holds : (t : ℕ) → target-count-lts.Need-loop-holds (target
 target-count-loop-holds t c = law.items-start _ _ _ _ _ (c .before .before .before .before .if1 .left) (c .before .before .before .peek .ensures .value) _ (c .before .before .match .keys2) (law.enters-else _ (c .before .if3 .left)) (c .list .ensures)
 
 target-count-target-count-requires : (t : ℕ) → target-count-lts.Need-target-count-requires (target-count-claims t) (at-measure target-count-kinds.ps μ-target-count target-count.Pre t) target-count.Post target-count-Inv-loop target-count-μ-loop
-target-count-target-count-requires t c κs = (let h = search.item-falls _ _ _ true _ (c .before .before .before .before .before .before .before .if1 .left) (c .item .ensures) in omega (arith, c .before .before .before .before .before .before .before .before .before .pre .0), tt)
+target-count-target-count-requires t c κs = (let h = places.item-below _ _ _ true _ (c .before .before .before .before .before .before .before .if1 .left) (c .item .ensures) in omega (arith, c .before .before .before .before .before .before .before .before .before .pre .0), tt)
 
 target-count-loop-again : (t : ℕ) → target-count-lts.Need-loop-again (target-count-claims t) (at-measure target-count-kinds.ps μ-target-count target-count.Pre t) target-count.Post target-count-Inv-loop target-count-μ-loop
 target-count-loop-again t c = law.items-more _ _ _ _ _ _ _ _ _ _ _ _ (c .before .before .before .before .loop-test .taken) (c .before .before .before .item .ensures) (c .before .before .target-count .ensures ∙ law.by-one _) (c .skip-item .ensures) (c .before .plus .ensures) (c .before .before .before .before .before .loop .inv)
 
 target-count-target-count-requires-2 : (t : ℕ) → target-count-lts.Need-target-count-requires-2 (target-count-claims t) (at-measure target-count-kinds.ps μ-target-count target-count.Pre t) target-count.Post target-count-Inv-loop target-count-μ-loop
-target-count-target-count-requires-2 t c κs = (let h = search.part-falls _ _ _ 0 _ (c .before .before .before .if1 .left) (c .child .ensures) in omega (arith, c .before .before .before .before .before .pre .0), tt)
+target-count-target-count-requires-2 t c κs = (let h = places.child-falls _ _ _ 0 _ (c .before .before .before .if1 .left) (c .child .ensures) in omega (arith, c .before .before .before .before .before .pre .0), tt)
 
 target-count-returns-4 : (t : ℕ) → target-count-lts.Need-returns-4 (target-count-claims t) (at-measure target-count-kinds.ps μ-target-count target-count.Pre t) target-count.Post target-count-Inv-loop target-count-μ-loop
 target-count-returns-4 t c = law.count-values _ _ _ _ _ (c .before .before .before .before .before .if1 .left) (c .before .before .before .before .peek .ensures .value) _ _ (c .before .before .before .match .keys1) (c .before .before .stands .ensures) (c .before .if2 .left) (c .object-count .ensures .0 (sym (c .before .before .before .before .peek .ensures .value) ∙ c .before .before .before .match .keys1))
