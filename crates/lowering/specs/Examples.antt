@@ -1,4 +1,5 @@
--- Examples, by computation: document 01's table, its listing, the small inputs of its refusal table, and others that it names.
+-- Examples, by computation: document 01's table, its listing, the small inputs of its refusal table, and others that it names. What comes
+-- out stands as bytes, beside it in words, so that it owes nothing to the definitions that make it.
 use mathlib.Core.Path.{_≡_, refl}
 use mathlib.Core.List.{List, [], _∷_, _++_}
 use Prim.Native.Nat.{ℕ, zero, suc}
@@ -9,7 +10,7 @@ use Rattle.tree.specs.Tree.Fields.{done, absent, field}
 use Rattle.tree.specs.Tree.Piece.{one, list, text, byte, mark, number}
 use Rattle.tree.specs.Tree.Items.{none, item}
 use Rattle.lowering.specs.Parts.{only}
-use Rattle.lowering.specs.Made.{call, S, X, E, W, K, object, array, sequence, member, assign, string, declares}
+use Rattle.lowering.specs.Made.{call, W, object, array, assign, declares}
 use Rattle.lowering.specs.Answer.{Lent, highestLimit, lowering, outcome}
 use Rattle.lowering.specs.Answer.Result.{refusal, lowered}
 
@@ -57,10 +58,6 @@ ref letter = node 0 18 (field (text (letter ∷ [])) (absent done))
 abbrev bind : ℕ → Node
 bind letter = node 0 19 (field (text (letter ∷ [])) (absent done))
 
--- a temporary with its number and its stem: 1 in place of a pattern, 2 excluded keys, 3 a value, 4 a key
-abbrev temp : ℕ → ℕ → Node
-temp n stem = node 0 20 (field (number n) (field (byte stem) done))
-
 abbrev name : ℕ → Node
 name letter = node 0 38 (field (text (letter ∷ [])) done)
 
@@ -71,10 +68,6 @@ num = node 0 22 (field (byte 2) (field (text (49 ∷ [])) (field (text (49 ∷ [
 -- `/q/`, without a form
 abbrev regexp : Node
 regexp = node 0 22 (field (byte 6) (field (text (47 ∷ 113 ∷ 47 ∷ [])) (absent done)))
-
--- X({}, (E(t), t))
-abbrev copied : Node → Node
-copied t = X (object none) (sequence (item (E t) (only t)))
 
 -- `letter: value` in a literal, `...e`
 abbrev prop : ℕ → Node → Node
@@ -157,9 +150,9 @@ plenty = lent 32768 16384 65536
 abbrev empty : List ℕ
 empty = 0 ∷ 0 ∷ 0 ∷ 0 ∷ []
 
--- one statement becomes another with these helpers, and an empty list
-abbrev Becomes : Node → ℕ → Node → Type 0
-Becomes before helpers after = lowering highestLimit 0 (program (only before)) plenty ≡ lowered helpers 0 (program (only after)) empty
+-- a statement becomes the tree of these bytes with these helpers, and an empty list
+abbrev Becomes : Node → ℕ → List ℕ → Type 0
+Becomes before helpers after = lowering highestLimit 0 (program (only before)) plenty ≡ lowered helpers 0 after empty
 
 abbrev Refused : Node → ℕ → Type 0
 Refused n r = lowering highestLimit 0 (program (only n)) plenty ≡ refusal r
@@ -181,33 +174,46 @@ listed = 1 ∷ 1 ∷ 1 ∷ 0 ∷ 3 ∷ 3 ∷ 1 ∷ 0 ∷ 29 ∷ 3 ∷ 21 ∷ 1 �
 -- document 01, 'Literals and declarations, to be proved'
 pub record Table : Type 0 where
   -- `{}`
-  empty-literal : Becomes (says 1 (object none)) 0 (says 1 (object none))
+  empty-literal : Becomes
+      (says 1 (object none)) 0
+      (1 ∷ 1 ∷ 1 ∷ 0 ∷ 3 ∷ 3 ∷ 1 ∷ 0 ∷ 24 ∷ 1 ∷ 0 ∷ 0 ∷ [])
   -- `{a: 1}`
-  plain-literal : Becomes (says 1 (object (only (prop a num)))) 0 (says 1 (object (only (prop a num))))
+  plain-literal : Becomes
+      (says 1 (object (only (prop a num)))) 0
+      (1 ∷ 1 ∷ 1 ∷ 0 ∷ 3 ∷ 3 ∷ 1 ∷ 0 ∷ 24 ∷ 1 ∷ 1 ∷ 0 ∷ 25 ∷ 7 ∷ 38 ∷ 1 ∷ 1 ∷ 0 ∷ 97 ∷ 22 ∷ 7 ∷ 2 ∷ 1 ∷ 0 ∷ 49 ∷ 1 ∷ 0 ∷ 49 ∷ 0 ∷ [])
   -- `{...a, ...b}`: S(S({}, a), b)
   two-spreads : Becomes
       (says 1 (object (all (spread (ref a) ∷ spread (ref b) ∷ [])))) 1
-      (says 1 (S (all (S (all (object none ∷ ref a ∷ [])) ∷ ref b ∷ []))))
+      (1 ∷ 1 ∷ 1 ∷ 0 ∷ 3 ∷ 3 ∷ 1 ∷ 0 ∷ 29 ∷ 3 ∷ 21 ∷ 1 ∷ 1 ∷ 2 ∷ 0 ∷ 29 ∷ 3 ∷ 21 ∷ 1 ∷ 1 ∷ 2 ∷ 0 ∷ 24 ∷ 1 ∷ 0 ∷ 0 ∷ 18 ∷ 1 ∷ 1 ∷ 0
+      ∷ 97 ∷ 18 ∷ 1 ∷ 1 ∷ 0 ∷ 98 ∷ [])
   -- `{x: 1, ...a}`: S({x: 1}, a)
   spread-last : Becomes
       (says 1 (object (all (prop x num ∷ spread (ref a) ∷ [])))) 1
-      (says 1 (S (all (object (only (prop x num)) ∷ ref a ∷ []))))
+      (1 ∷ 1 ∷ 1 ∷ 0 ∷ 3 ∷ 3 ∷ 1 ∷ 0 ∷ 29 ∷ 3 ∷ 21 ∷ 1 ∷ 1 ∷ 2 ∷ 0 ∷ 24 ∷ 1 ∷ 1 ∷ 0 ∷ 25 ∷ 7 ∷ 38 ∷ 1 ∷ 1 ∷ 0 ∷ 120 ∷ 22 ∷ 7 ∷ 2 ∷ 1
+      ∷ 0 ∷ 49 ∷ 1 ∷ 0 ∷ 49 ∷ 0 ∷ 18 ∷ 1 ∷ 1 ∷ 0 ∷ 97 ∷ [])
   -- `{...a, x: 1}`: S(S({}, a), {}, {x: 1})
   spread-first : Becomes
       (says 1 (object (all (spread (ref a) ∷ prop x num ∷ [])))) 1
-      (says 1 (S (all (S (all (object none ∷ ref a ∷ [])) ∷ object none ∷ object (only (prop x num)) ∷ []))))
+      (1 ∷ 1 ∷ 1 ∷ 0 ∷ 3 ∷ 3 ∷ 1 ∷ 0 ∷ 29 ∷ 3 ∷ 21 ∷ 1 ∷ 1 ∷ 3 ∷ 0 ∷ 29 ∷ 3 ∷ 21 ∷ 1 ∷ 1 ∷ 2 ∷ 0 ∷ 24 ∷ 1 ∷ 0 ∷ 0 ∷ 18 ∷ 1 ∷ 1 ∷ 0
+      ∷ 97 ∷ 24 ∷ 1 ∷ 0 ∷ 0 ∷ 24 ∷ 1 ∷ 1 ∷ 0 ∷ 25 ∷ 7 ∷ 38 ∷ 1 ∷ 1 ∷ 0 ∷ 120 ∷ 22 ∷ 7 ∷ 2 ∷ 1 ∷ 0 ∷ 49 ∷ 1 ∷ 0 ∷ 49 ∷ 0 ∷ [])
   -- `{...a, x: 1, ...b}`: S(S({}, a), {}, {x: 1}, b)
   spread-around : Becomes
       (says 1 (object (all (spread (ref a) ∷ prop x num ∷ spread (ref b) ∷ [])))) 1
-      (says 1 (S (all (S (all (object none ∷ ref a ∷ [])) ∷ object none ∷ object (only (prop x num)) ∷ ref b ∷ []))))
+      (1 ∷ 1 ∷ 1 ∷ 0 ∷ 3 ∷ 3 ∷ 1 ∷ 0 ∷ 29 ∷ 3 ∷ 21 ∷ 1 ∷ 1 ∷ 4 ∷ 0 ∷ 29 ∷ 3 ∷ 21 ∷ 1 ∷ 1 ∷ 2 ∷ 0 ∷ 24 ∷ 1 ∷ 0 ∷ 0 ∷ 18 ∷ 1 ∷ 1 ∷ 0
+      ∷ 97 ∷ 24 ∷ 1 ∷ 0 ∷ 0 ∷ 24 ∷ 1 ∷ 1 ∷ 0 ∷ 25 ∷ 7 ∷ 38 ∷ 1 ∷ 1 ∷ 0 ∷ 120 ∷ 22 ∷ 7 ∷ 2 ∷ 1 ∷ 0 ∷ 49 ∷ 1 ∷ 0 ∷ 49 ∷ 0 ∷ 18 ∷ 1 ∷ 1
+      ∷ 0 ∷ 98 ∷ [])
   -- `let {a, ...r} = s` at root: {a} = s, r = W(s, ["a"])
   rest : Becomes
       (declaring 1 2 (only (declares (takingRest (only (part (name a) (bind a) 2)) (bind r)) (ref s)))) 8
-      (declaring 1 2 (all (declares (taking (only (part (name a) (bind a) 2))) (ref s) ∷ declares (bind r) (W (ref s) (array (only (string (a ∷ []))))) ∷ [])))
+      (1 ∷ 1 ∷ 1 ∷ 0 ∷ 4 ∷ 7 ∷ 1 ∷ 0 ∷ 2 ∷ 2 ∷ 0 ∷ 5 ∷ 3 ∷ 34 ∷ 1 ∷ 1 ∷ 0 ∷ 35 ∷ 7 ∷ 38 ∷ 1 ∷ 1 ∷ 0 ∷ 97 ∷ 19 ∷ 1 ∷ 1 ∷ 0 ∷ 97 ∷ 2
+      ∷ 18 ∷ 1 ∷ 1 ∷ 0 ∷ 115 ∷ 5 ∷ 3 ∷ 19 ∷ 1 ∷ 1 ∷ 0 ∷ 114 ∷ 29 ∷ 3 ∷ 21 ∷ 1 ∷ 4 ∷ 2 ∷ 0 ∷ 18 ∷ 1 ∷ 1 ∷ 0 ∷ 115 ∷ 32 ∷ 1 ∷ 1 ∷ 0
+      ∷ 22 ∷ 7 ∷ 1 ∷ 0 ∷ 0 ∷ 1 ∷ 0 ∷ 97 ∷ [])
   -- `let {...r} = f()`: t = f(), r = X({}, (E(t), t))
   rest-only : Becomes
       (declaring 1 2 (only (declares (takingRest none (bind r)) (call (ref f) none)))) 6
-      (declaring 1 2 (all (declares (temp 1 3) (call (ref f) none) ∷ declares (bind r) (copied (temp 1 3)) ∷ [])))
+      (1 ∷ 1 ∷ 1 ∷ 0 ∷ 4 ∷ 7 ∷ 1 ∷ 0 ∷ 2 ∷ 2 ∷ 0 ∷ 5 ∷ 3 ∷ 20 ∷ 3 ∷ 1 ∷ 0 ∷ 3 ∷ 29 ∷ 3 ∷ 18 ∷ 1 ∷ 1 ∷ 0 ∷ 102 ∷ 0 ∷ 0 ∷ 5 ∷ 3 ∷ 19
+      ∷ 1 ∷ 1 ∷ 0 ∷ 114 ∷ 29 ∷ 3 ∷ 21 ∷ 1 ∷ 2 ∷ 2 ∷ 0 ∷ 24 ∷ 1 ∷ 0 ∷ 0 ∷ 28 ∷ 1 ∷ 2 ∷ 0 ∷ 29 ∷ 3 ∷ 21 ∷ 1 ∷ 3 ∷ 1 ∷ 0 ∷ 20 ∷ 3 ∷ 1
+      ∷ 0 ∷ 3 ∷ 20 ∷ 3 ∷ 1 ∷ 0 ∷ 3 ∷ [])
 
 -- request 6: the parts of a nested assignment, both sides as bytes
 pub record Parts : Type 0 where
@@ -343,7 +349,8 @@ pub record Examples : Type 0 where
   nine-first : lowering 0 16 listing plenty ≡ refusal 9
   one-next : lowering 1 16 listing plenty ≡ refusal 1
   -- a limit of 1 leaves the empty Program; a statement in it is met as 4, a byte that is no statement's kind as 3
-  one-level : lowering 1 0 (program none) plenty ≡ lowered 0 0 (program none) empty
+  one-level : lowering 1 0 (program none) plenty ≡ lowered 0 0
+      (1 ∷ 1 ∷ 0 ∷ 0 ∷ []) empty
   one-level-deep : lowering 1 0 listing plenty ≡ refusal 4
   one-level-no-tree : lowering 1 0 (1 ∷ 1 ∷ 1 ∷ 0 ∷ 20 ∷ []) plenty ≡ refusal 3
   -- ---- every lent byte
@@ -358,22 +365,25 @@ pub record Examples : Type 0 where
   -- `var [...[{...a}]] = b` keeps its rest
   array-rest-stays : Becomes
       (declaring 1 1 (only (declares (itemsRest (items (only (takingRest none (bind a))))) (ref b)))) 0
-      (declaring 1 1 (only (declares (itemsRest (items (only (takingRest none (bind a))))) (ref b))))
+      (1 ∷ 1 ∷ 1 ∷ 0 ∷ 4 ∷ 7 ∷ 1 ∷ 0 ∷ 1 ∷ 1 ∷ 0 ∷ 5 ∷ 3 ∷ 36 ∷ 3 ∷ 0 ∷ 0 ∷ 36 ∷ 1 ∷ 1 ∷ 0 ∷ 34 ∷ 3 ∷ 0 ∷ 0 ∷ 19 ∷ 1 ∷ 1 ∷ 0 ∷ 97
+      ∷ 18 ∷ 1 ∷ 1 ∷ 0 ∷ 98 ∷ [])
   -- `({a: {...b}, ...c} = d)`: (t = d, {a: p} = t, (u = p, {} = u, b = X({}, (E(u), u)), u), c = W(t, ["a"])): b is copied from d.a (request
   -- 6); before statement 1: t, p, then u
   nested-rest : lowering highestLimit 0 (program (only (says 1 (parens (assign (takingRest (only (part (name a) (takingRest none (ref b)) 0)) (ref c)) (ref d)))))) plenty
       ≡ lowered 14 0
-      (program (only (says 1 (parens (sequence (all (
-      assign (temp 1 3) (ref d)
-      ∷ assign (taking (only (part (name a) (temp 2 1) 0))) (temp 1 3)
-      ∷ sequence (all (assign (temp 3 3) (temp 2 1) ∷ assign (taking none) (temp 3 3) ∷ assign (ref b) (copied (temp 3 3)) ∷ temp 3 3 ∷ []))
-      ∷ assign (ref c) (W (temp 1 3) (array (only (string (a ∷ [])))))
-      ∷ [])))))))
+      (1 ∷ 1 ∷ 1 ∷ 0 ∷ 3 ∷ 3 ∷ 1 ∷ 0 ∷ 31 ∷ 1 ∷ 28 ∷ 1 ∷ 4 ∷ 0 ∷ 27 ∷ 7 ∷ 1 ∷ 20 ∷ 3 ∷ 1 ∷ 0 ∷ 3 ∷ 18 ∷ 1 ∷ 1 ∷ 0 ∷ 100 ∷ 27 ∷ 7 ∷ 1
+      ∷ 34 ∷ 1 ∷ 1 ∷ 0 ∷ 35 ∷ 7 ∷ 38 ∷ 1 ∷ 1 ∷ 0 ∷ 97 ∷ 20 ∷ 3 ∷ 2 ∷ 0 ∷ 1 ∷ 0 ∷ 20 ∷ 3 ∷ 1 ∷ 0 ∷ 3 ∷ 28 ∷ 1 ∷ 4 ∷ 0 ∷ 27 ∷ 7 ∷ 1
+      ∷ 20 ∷ 3 ∷ 3 ∷ 0 ∷ 3 ∷ 20 ∷ 3 ∷ 2 ∷ 0 ∷ 1 ∷ 27 ∷ 7 ∷ 1 ∷ 34 ∷ 1 ∷ 0 ∷ 0 ∷ 20 ∷ 3 ∷ 3 ∷ 0 ∷ 3 ∷ 27 ∷ 7 ∷ 1 ∷ 18 ∷ 1 ∷ 1 ∷ 0 ∷ 98
+      ∷ 29 ∷ 3 ∷ 21 ∷ 1 ∷ 2 ∷ 2 ∷ 0 ∷ 24 ∷ 1 ∷ 0 ∷ 0 ∷ 28 ∷ 1 ∷ 2 ∷ 0 ∷ 29 ∷ 3 ∷ 21 ∷ 1 ∷ 3 ∷ 1 ∷ 0 ∷ 20 ∷ 3 ∷ 3 ∷ 0 ∷ 3 ∷ 20 ∷ 3 ∷ 3
+      ∷ 0 ∷ 3 ∷ 20 ∷ 3 ∷ 3 ∷ 0 ∷ 3 ∷ 27 ∷ 7 ∷ 1 ∷ 18 ∷ 1 ∷ 1 ∷ 0 ∷ 99 ∷ 29 ∷ 3 ∷ 21 ∷ 1 ∷ 4 ∷ 2 ∷ 0 ∷ 20 ∷ 3 ∷ 1 ∷ 0 ∷ 3 ∷ 32 ∷ 1 ∷ 1
+      ∷ 0 ∷ 22 ∷ 7 ∷ 1 ∷ 0 ∷ 0 ∷ 1 ∷ 0 ∷ 97 ∷ [])
       (2 ∷ 0 ∷ 1 ∷ 0 ∷ 2 ∷ 0 ∷ 5 ∷ 1 ∷ 20 ∷ 3 ∷ 1 ∷ 0 ∷ 3 ∷ 5 ∷ 1 ∷ 20 ∷ 3 ∷ 2 ∷ 0 ∷ 1 ∷ 1 ∷ 0 ∷ 1 ∷ 0 ∷ 5 ∷ 1 ∷ 20 ∷ 3 ∷ 3 ∷ 0 ∷ 3 ∷ 0 ∷ 0 ∷ [])
   -- `{ let {a, ...r} = s; }`: not at root the keys go to the list, t = ["a"]
   hoisted-keys : lowering highestLimit 0 (program (only (blockOf 1 (only (declaring 2 2 (only (declares (takingRest (only (part (name a) (bind a) 2)) (bind r)) (ref s)))))))) plenty
       ≡ lowered 8 0
-      (program (only (blockOf 1 (only (declaring 2 2 (all (declares (taking (only (part (name a) (bind a) 2))) (ref s) ∷ declares (bind r) (W (ref s) (temp 1 2)) ∷ [])))))))
+      (1 ∷ 1 ∷ 1 ∷ 0 ∷ 2 ∷ 3 ∷ 1 ∷ 0 ∷ 1 ∷ 0 ∷ 4 ∷ 7 ∷ 2 ∷ 0 ∷ 2 ∷ 2 ∷ 0 ∷ 5 ∷ 3 ∷ 34 ∷ 1 ∷ 1 ∷ 0 ∷ 35 ∷ 7 ∷ 38 ∷ 1 ∷ 1 ∷ 0 ∷ 97 ∷ 19
+      ∷ 1 ∷ 1 ∷ 0 ∷ 97 ∷ 2 ∷ 18 ∷ 1 ∷ 1 ∷ 0 ∷ 115 ∷ 5 ∷ 3 ∷ 19 ∷ 1 ∷ 1 ∷ 0 ∷ 114 ∷ 29 ∷ 3 ∷ 21 ∷ 1 ∷ 4 ∷ 2 ∷ 0 ∷ 18 ∷ 1 ∷ 1 ∷ 0 ∷ 115
+      ∷ 20 ∷ 3 ∷ 1 ∷ 0 ∷ 2 ∷ [])
       (0 ∷ 0 ∷ 1 ∷ 0 ∷ 5 ∷ 3 ∷ 20 ∷ 3 ∷ 1 ∷ 0 ∷ 2 ∷ 32 ∷ 1 ∷ 1 ∷ 0 ∷ 22 ∷ 7 ∷ 1 ∷ 0 ∷ 0 ∷ 1 ∷ 0 ∷ 97 ∷ [])
   -- ---- classes and switch (request 1)
 
@@ -383,76 +393,75 @@ pub record Examples : Type 0 where
       (only (caseOf (assign (takingRest (only (part (name d) (ref d) 2)) (ref e)) (ref f)) (only (says 2 (ref g))))))))
       plenty
       ≡ lowered 8 0
-      (program (only (switching 1
-      (sequence (all (
-      assign (temp 1 3) (ref c)
-      ∷ assign (taking (only (part (name a) (ref a) 2))) (temp 1 3)
-      ∷ assign (ref b) (W (temp 1 3) (array (only (string (a ∷ [])))))
-      ∷ temp 1 3
-      ∷ [])))
-      (only (caseOf
-      (sequence (all (
-      assign (temp 2 3) (ref f)
-      ∷ assign (taking (only (part (name d) (ref d) 2))) (temp 2 3)
-      ∷ assign (ref e) (W (temp 2 3) (temp 3 2))
-      ∷ temp 2 3
-      ∷ [])))
-      (only (says 2 (ref g))))))))
+      (1 ∷ 1 ∷ 1 ∷ 0 ∷ 43 ∷ 7 ∷ 1 ∷ 0 ∷ 28 ∷ 1 ∷ 4 ∷ 0 ∷ 27 ∷ 7 ∷ 1 ∷ 20 ∷ 3 ∷ 1 ∷ 0 ∷ 3 ∷ 18 ∷ 1 ∷ 1 ∷ 0 ∷ 99 ∷ 27 ∷ 7 ∷ 1 ∷ 34 ∷ 1
+      ∷ 1 ∷ 0 ∷ 35 ∷ 7 ∷ 38 ∷ 1 ∷ 1 ∷ 0 ∷ 97 ∷ 18 ∷ 1 ∷ 1 ∷ 0 ∷ 97 ∷ 2 ∷ 20 ∷ 3 ∷ 1 ∷ 0 ∷ 3 ∷ 27 ∷ 7 ∷ 1 ∷ 18 ∷ 1 ∷ 1 ∷ 0 ∷ 98 ∷ 29
+      ∷ 3 ∷ 21 ∷ 1 ∷ 4 ∷ 2 ∷ 0 ∷ 20 ∷ 3 ∷ 1 ∷ 0 ∷ 3 ∷ 32 ∷ 1 ∷ 1 ∷ 0 ∷ 22 ∷ 7 ∷ 1 ∷ 0 ∷ 0 ∷ 1 ∷ 0 ∷ 97 ∷ 20 ∷ 3 ∷ 1 ∷ 0 ∷ 3 ∷ 1 ∷ 0
+      ∷ 44 ∷ 3 ∷ 28 ∷ 1 ∷ 4 ∷ 0 ∷ 27 ∷ 7 ∷ 1 ∷ 20 ∷ 3 ∷ 2 ∷ 0 ∷ 3 ∷ 18 ∷ 1 ∷ 1 ∷ 0 ∷ 102 ∷ 27 ∷ 7 ∷ 1 ∷ 34 ∷ 1 ∷ 1 ∷ 0 ∷ 35 ∷ 7 ∷ 38
+      ∷ 1 ∷ 1 ∷ 0 ∷ 100 ∷ 18 ∷ 1 ∷ 1 ∷ 0 ∷ 100 ∷ 2 ∷ 20 ∷ 3 ∷ 2 ∷ 0 ∷ 3 ∷ 27 ∷ 7 ∷ 1 ∷ 18 ∷ 1 ∷ 1 ∷ 0 ∷ 101 ∷ 29 ∷ 3 ∷ 21 ∷ 1 ∷ 4 ∷ 2
+      ∷ 0 ∷ 20 ∷ 3 ∷ 2 ∷ 0 ∷ 3 ∷ 20 ∷ 3 ∷ 3 ∷ 0 ∷ 2 ∷ 20 ∷ 3 ∷ 2 ∷ 0 ∷ 3 ∷ 1 ∷ 0 ∷ 3 ∷ 3 ∷ 2 ∷ 0 ∷ 18 ∷ 1 ∷ 1 ∷ 0 ∷ 103 ∷ [])
       (2 ∷ 0 ∷ 1 ∷ 0 ∷ 1 ∷ 0 ∷ 5 ∷ 1 ∷ 20 ∷ 3 ∷ 1 ∷ 0 ∷ 3 ∷ 1 ∷ 0 ∷ 1 ∷ 0 ∷ 5 ∷ 1 ∷ 20 ∷ 3 ∷ 2 ∷ 0 ∷ 3
       ∷ 1 ∷ 0 ∷ 5 ∷ 3 ∷ 20 ∷ 3 ∷ 3 ∷ 0 ∷ 2 ∷ 32 ∷ 1 ∷ 1 ∷ 0 ∷ 22 ∷ 7 ∷ 1 ∷ 0 ∷ 0 ∷ 1 ∷ 0 ∷ 100 ∷ [])
   -- `class extends ({a, ...b} = c) { }`: `super` is not at root, t = ["a"]
   class-scope : lowering highestLimit 0 (program (only (says 1 (extending (assign (takingRest (only (part (name a) (ref a) 2)) (ref b)) (ref c)))))) plenty
       ≡ lowered 8 0
-      (program (only (says 1 (extending (sequence (all (
-      assign (temp 1 3) (ref c)
-      ∷ assign (taking (only (part (name a) (ref a) 2))) (temp 1 3)
-      ∷ assign (ref b) (W (temp 1 3) (temp 2 2))
-      ∷ temp 1 3
-      ∷ [])))))))
+      (1 ∷ 1 ∷ 1 ∷ 0 ∷ 3 ∷ 3 ∷ 1 ∷ 0 ∷ 40 ∷ 6 ∷ 28 ∷ 1 ∷ 4 ∷ 0 ∷ 27 ∷ 7 ∷ 1 ∷ 20 ∷ 3 ∷ 1 ∷ 0 ∷ 3 ∷ 18 ∷ 1 ∷ 1 ∷ 0 ∷ 99 ∷ 27 ∷ 7 ∷ 1
+      ∷ 34 ∷ 1 ∷ 1 ∷ 0 ∷ 35 ∷ 7 ∷ 38 ∷ 1 ∷ 1 ∷ 0 ∷ 97 ∷ 18 ∷ 1 ∷ 1 ∷ 0 ∷ 97 ∷ 2 ∷ 20 ∷ 3 ∷ 1 ∷ 0 ∷ 3 ∷ 27 ∷ 7 ∷ 1 ∷ 18 ∷ 1 ∷ 1 ∷ 0
+      ∷ 98 ∷ 29 ∷ 3 ∷ 21 ∷ 1 ∷ 4 ∷ 2 ∷ 0 ∷ 20 ∷ 3 ∷ 1 ∷ 0 ∷ 3 ∷ 20 ∷ 3 ∷ 2 ∷ 0 ∷ 2 ∷ 20 ∷ 3 ∷ 1 ∷ 0 ∷ 3 ∷ 0 ∷ 0 ∷ [])
       (1 ∷ 0 ∷ 1 ∷ 0 ∷ 1 ∷ 0 ∷ 5 ∷ 1 ∷ 20 ∷ 3 ∷ 1 ∷ 0 ∷ 3 ∷ 1 ∷ 0 ∷ 5 ∷ 3 ∷ 20 ∷ 3 ∷ 2 ∷ 0 ∷ 2 ∷ 32 ∷ 1 ∷ 1 ∷ 0 ∷ 22 ∷ 7 ∷ 1 ∷ 0 ∷ 0 ∷ 1 ∷ 0 ∷ 97 ∷ [])
   -- `class { static { {...a} = b; } }`: before statement 2: t
   static-block-contains : lowering highestLimit 0 (program (only (says 1 (classOf (only (staticBlock (only (says 2 (assign (takingRest none (ref a)) (ref b)))))))))) plenty
       ≡ lowered 6 0
-      (program (only (says 1 (classOf (only (staticBlock (only (says 2 (sequence (all (
-      assign (temp 1 3) (ref b) ∷ assign (taking none) (temp 1 3) ∷ assign (ref a) (copied (temp 1 3)) ∷ [])))))))))))
+      (1 ∷ 1 ∷ 1 ∷ 0 ∷ 3 ∷ 3 ∷ 1 ∷ 0 ∷ 40 ∷ 4 ∷ 1 ∷ 0 ∷ 42 ∷ 1 ∷ 1 ∷ 0 ∷ 3 ∷ 3 ∷ 2 ∷ 0 ∷ 28 ∷ 1 ∷ 3 ∷ 0 ∷ 27 ∷ 7 ∷ 1 ∷ 20 ∷ 3 ∷ 1 ∷ 0
+      ∷ 3 ∷ 18 ∷ 1 ∷ 1 ∷ 0 ∷ 98 ∷ 27 ∷ 7 ∷ 1 ∷ 34 ∷ 1 ∷ 0 ∷ 0 ∷ 20 ∷ 3 ∷ 1 ∷ 0 ∷ 3 ∷ 27 ∷ 7 ∷ 1 ∷ 18 ∷ 1 ∷ 1 ∷ 0 ∷ 97 ∷ 29 ∷ 3 ∷ 21
+      ∷ 1 ∷ 2 ∷ 2 ∷ 0 ∷ 24 ∷ 1 ∷ 0 ∷ 0 ∷ 28 ∷ 1 ∷ 2 ∷ 0 ∷ 29 ∷ 3 ∷ 21 ∷ 1 ∷ 3 ∷ 1 ∷ 0 ∷ 20 ∷ 3 ∷ 1 ∷ 0 ∷ 3 ∷ 20 ∷ 3 ∷ 1 ∷ 0 ∷ 3 ∷ [])
       (1 ∷ 0 ∷ 2 ∷ 0 ∷ 1 ∷ 0 ∷ 5 ∷ 1 ∷ 20 ∷ 3 ∷ 1 ∷ 0 ∷ 3 ∷ 0 ∷ 0 ∷ [])
   -- `switch (x) { case s: {...a} = b; }`: before statement 2: t
   case-contains : lowering highestLimit 0 (program (only (switching 1 (ref x) (only (caseOf (ref s) (only (says 2 (assign (takingRest none (ref a)) (ref b))))))))) plenty
       ≡ lowered 6 0
-      (program (only (switching 1 (ref x) (only (caseOf (ref s) (only (says 2 (sequence (all (
-      assign (temp 1 3) (ref b) ∷ assign (taking none) (temp 1 3) ∷ assign (ref a) (copied (temp 1 3)) ∷ []))))))))))
+      (1 ∷ 1 ∷ 1 ∷ 0 ∷ 43 ∷ 7 ∷ 1 ∷ 0 ∷ 18 ∷ 1 ∷ 1 ∷ 0 ∷ 120 ∷ 1 ∷ 0 ∷ 44 ∷ 3 ∷ 18 ∷ 1 ∷ 1 ∷ 0 ∷ 115 ∷ 1 ∷ 0 ∷ 3 ∷ 3 ∷ 2 ∷ 0 ∷ 28 ∷ 1
+      ∷ 3 ∷ 0 ∷ 27 ∷ 7 ∷ 1 ∷ 20 ∷ 3 ∷ 1 ∷ 0 ∷ 3 ∷ 18 ∷ 1 ∷ 1 ∷ 0 ∷ 98 ∷ 27 ∷ 7 ∷ 1 ∷ 34 ∷ 1 ∷ 0 ∷ 0 ∷ 20 ∷ 3 ∷ 1 ∷ 0 ∷ 3 ∷ 27 ∷ 7 ∷ 1
+      ∷ 18 ∷ 1 ∷ 1 ∷ 0 ∷ 97 ∷ 29 ∷ 3 ∷ 21 ∷ 1 ∷ 2 ∷ 2 ∷ 0 ∷ 24 ∷ 1 ∷ 0 ∷ 0 ∷ 28 ∷ 1 ∷ 2 ∷ 0 ∷ 29 ∷ 3 ∷ 21 ∷ 1 ∷ 3 ∷ 1 ∷ 0 ∷ 20 ∷ 3
+      ∷ 1 ∷ 0 ∷ 3 ∷ 20 ∷ 3 ∷ 1 ∷ 0 ∷ 3 ∷ [])
       (1 ∷ 0 ∷ 2 ∷ 0 ∷ 1 ∷ 0 ∷ 5 ∷ 1 ∷ 20 ∷ 3 ∷ 1 ∷ 0 ∷ 3 ∷ 0 ∷ 0 ∷ [])
   -- `class { x({a, ...r}) { } }`: x(t) { let {a} = t, r = W(t, u); }, with u = ["a"]
   method-parameter : lowering highestLimit 0 (program (only (says 1 (classOf (only (method 2 (name x) (only (param (takingRest (only (part (name a) (bind a) 2)) (bind r)))) none)))))) plenty
       ≡ lowered 8 0
-      (program (only (says 1 (classOf (only (method 2 (name x) (only (param (temp 1 1)))
-      (only (declaring 3 2 (all (declares (taking (only (part (name a) (bind a) 2))) (temp 1 1) ∷ declares (bind r) (W (temp 1 1) (temp 2 2)) ∷ []))))))))))
+      (1 ∷ 1 ∷ 1 ∷ 0 ∷ 3 ∷ 3 ∷ 1 ∷ 0 ∷ 40 ∷ 4 ∷ 1 ∷ 0 ∷ 41 ∷ 7 ∷ 38 ∷ 1 ∷ 1 ∷ 0 ∷ 120 ∷ 14 ∷ 43 ∷ 2 ∷ 0 ∷ 2 ∷ 1 ∷ 0 ∷ 15 ∷ 1 ∷ 20 ∷ 3
+      ∷ 1 ∷ 0 ∷ 1 ∷ 16 ∷ 2 ∷ 1 ∷ 0 ∷ 4 ∷ 7 ∷ 3 ∷ 0 ∷ 2 ∷ 2 ∷ 0 ∷ 5 ∷ 3 ∷ 34 ∷ 1 ∷ 1 ∷ 0 ∷ 35 ∷ 7 ∷ 38 ∷ 1 ∷ 1 ∷ 0 ∷ 97 ∷ 19 ∷ 1 ∷ 1
+      ∷ 0 ∷ 97 ∷ 2 ∷ 20 ∷ 3 ∷ 1 ∷ 0 ∷ 1 ∷ 5 ∷ 3 ∷ 19 ∷ 1 ∷ 1 ∷ 0 ∷ 114 ∷ 29 ∷ 3 ∷ 21 ∷ 1 ∷ 4 ∷ 2 ∷ 0 ∷ 20 ∷ 3 ∷ 1 ∷ 0 ∷ 1 ∷ 20 ∷ 3
+      ∷ 2 ∷ 0 ∷ 2 ∷ 4 ∷ [])
       (0 ∷ 0 ∷ 1 ∷ 0 ∷ 5 ∷ 3 ∷ 20 ∷ 3 ∷ 2 ∷ 0 ∷ 2 ∷ 32 ∷ 1 ∷ 1 ∷ 0 ∷ 22 ∷ 7 ∷ 1 ∷ 0 ∷ 0 ∷ 1 ∷ 0 ∷ 97 ∷ [])
   -- ---- the stem of a temporary (request 4): 3 in `rest-only`, 2 in `hoisted-keys`
 
   -- `let [{...a}] = s`: [t] = s, a = X({}, (E(t), t)); t stands in place of a pattern
   stem-of-a-pattern : Becomes
       (declaring 1 2 (only (declares (items (only (takingRest none (bind a)))) (ref s)))) 6
-      (declaring 1 2 (all (declares (items (only (temp 1 1))) (ref s) ∷ declares (bind a) (copied (temp 1 1)) ∷ [])))
+      (1 ∷ 1 ∷ 1 ∷ 0 ∷ 4 ∷ 7 ∷ 1 ∷ 0 ∷ 2 ∷ 2 ∷ 0 ∷ 5 ∷ 3 ∷ 36 ∷ 1 ∷ 1 ∷ 0 ∷ 20 ∷ 3 ∷ 1 ∷ 0 ∷ 1 ∷ 18 ∷ 1 ∷ 1 ∷ 0 ∷ 115 ∷ 5 ∷ 3 ∷ 19
+      ∷ 1 ∷ 1 ∷ 0 ∷ 97 ∷ 29 ∷ 3 ∷ 21 ∷ 1 ∷ 2 ∷ 2 ∷ 0 ∷ 24 ∷ 1 ∷ 0 ∷ 0 ∷ 28 ∷ 1 ∷ 2 ∷ 0 ∷ 29 ∷ 3 ∷ 21 ∷ 1 ∷ 3 ∷ 1 ∷ 0 ∷ 20 ∷ 3 ∷ 1 ∷ 0
+      ∷ 1 ∷ 20 ∷ 3 ∷ 1 ∷ 0 ∷ 1 ∷ [])
   -- `let {[f()]: a, ...r} = s`: t = f(), {[t]: a} = s, r = W(s, [t].map(K)); t is a key
   stem-of-a-key : Becomes
       (declaring 1 2 (only (declares (takingRest (only (part (call (ref f) none) (bind a) 1)) (bind r)) (ref s)))) 24
-      (declaring 1 2 (all (declares (temp 1 4) (call (ref f) none) ∷ declares (taking (only (part (temp 1 4) (bind a) 1))) (ref s) ∷ declares (bind r) (W (ref s) (call (member (array (only (temp 1 4))) (109 ∷ 97 ∷ 112 ∷ [])) (only K))) ∷ [])))
+      (1 ∷ 1 ∷ 1 ∷ 0 ∷ 4 ∷ 7 ∷ 1 ∷ 0 ∷ 2 ∷ 3 ∷ 0 ∷ 5 ∷ 3 ∷ 20 ∷ 3 ∷ 1 ∷ 0 ∷ 4 ∷ 29 ∷ 3 ∷ 18 ∷ 1 ∷ 1 ∷ 0 ∷ 102 ∷ 0 ∷ 0 ∷ 5 ∷ 3 ∷ 34
+      ∷ 1 ∷ 1 ∷ 0 ∷ 35 ∷ 7 ∷ 20 ∷ 3 ∷ 1 ∷ 0 ∷ 4 ∷ 19 ∷ 1 ∷ 1 ∷ 0 ∷ 97 ∷ 1 ∷ 18 ∷ 1 ∷ 1 ∷ 0 ∷ 115 ∷ 5 ∷ 3 ∷ 19 ∷ 1 ∷ 1 ∷ 0 ∷ 114 ∷ 29
+      ∷ 3 ∷ 21 ∷ 1 ∷ 4 ∷ 2 ∷ 0 ∷ 18 ∷ 1 ∷ 1 ∷ 0 ∷ 115 ∷ 29 ∷ 3 ∷ 30 ∷ 3 ∷ 32 ∷ 1 ∷ 1 ∷ 0 ∷ 20 ∷ 3 ∷ 1 ∷ 0 ∷ 4 ∷ 3 ∷ 0 ∷ 109 ∷ 97
+      ∷ 112 ∷ 1 ∷ 0 ∷ 21 ∷ 1 ∷ 5 ∷ [])
   -- `{ ({a, ...r} = s); }`: (t = s, {a} = t, r = W(t, u)); before statement 2: t, and u = ["a"]
   stems-in-the-list : lowering highestLimit 0 (program (only (blockOf 1 (only (says 2 (parens (assign (takingRest (only (part (name a) (ref a) 2)) (ref r)) (ref s)))))))) plenty
       ≡ lowered 8 0
-      (program (only (blockOf 1 (only (says 2 (parens (sequence (all (
-      assign (temp 1 3) (ref s)
-      ∷ assign (taking (only (part (name a) (ref a) 2))) (temp 1 3)
-      ∷ assign (ref r) (W (temp 1 3) (temp 2 2))
-      ∷ [])))))))))
+      (1 ∷ 1 ∷ 1 ∷ 0 ∷ 2 ∷ 3 ∷ 1 ∷ 0 ∷ 1 ∷ 0 ∷ 3 ∷ 3 ∷ 2 ∷ 0 ∷ 31 ∷ 1 ∷ 28 ∷ 1 ∷ 3 ∷ 0 ∷ 27 ∷ 7 ∷ 1 ∷ 20 ∷ 3 ∷ 1 ∷ 0 ∷ 3 ∷ 18 ∷ 1 ∷ 1
+      ∷ 0 ∷ 115 ∷ 27 ∷ 7 ∷ 1 ∷ 34 ∷ 1 ∷ 1 ∷ 0 ∷ 35 ∷ 7 ∷ 38 ∷ 1 ∷ 1 ∷ 0 ∷ 97 ∷ 18 ∷ 1 ∷ 1 ∷ 0 ∷ 97 ∷ 2 ∷ 20 ∷ 3 ∷ 1 ∷ 0 ∷ 3 ∷ 27 ∷ 7
+      ∷ 1 ∷ 18 ∷ 1 ∷ 1 ∷ 0 ∷ 114 ∷ 29 ∷ 3 ∷ 21 ∷ 1 ∷ 4 ∷ 2 ∷ 0 ∷ 20 ∷ 3 ∷ 1 ∷ 0 ∷ 3 ∷ 20 ∷ 3 ∷ 2 ∷ 0 ∷ 2 ∷ [])
       (1 ∷ 0 ∷ 2 ∷ 0 ∷ 1 ∷ 0 ∷ 5 ∷ 1 ∷ 20 ∷ 3 ∷ 1 ∷ 0 ∷ 3 ∷ 1 ∷ 0 ∷ 5 ∷ 3 ∷ 20 ∷ 3 ∷ 2 ∷ 0 ∷ 2 ∷ 32 ∷ 1 ∷ 1 ∷ 0 ∷ 22 ∷ 7 ∷ 1 ∷ 0 ∷ 0 ∷ 1 ∷ 0 ∷ 97 ∷ [])
   -- ---- marks of a result need not be distinct
 
   -- `` let {[`a`[function() { }]]: b, ...c} = d ``: {[`a`[function() { }]]: b} = d, c = W(d, [`a`[function() { }]])
   template-copied : Becomes
       (declaring 1 2 (only (declares (takingRest (only (part templated (bind b) 1)) (bind c)) (ref d)))) 8
-      (declaring 1 2 (all (declares (taking (only (part templated (bind b) 1))) (ref d) ∷ declares (bind c) (W (ref d) (array (only templated))) ∷ [])))
+      (1 ∷ 1 ∷ 1 ∷ 0 ∷ 4 ∷ 7 ∷ 1 ∷ 0 ∷ 2 ∷ 2 ∷ 0 ∷ 5 ∷ 3 ∷ 34 ∷ 1 ∷ 1 ∷ 0 ∷ 35 ∷ 7 ∷ 23 ∷ 3 ∷ 1 ∷ 0 ∷ 22 ∷ 7 ∷ 1 ∷ 1 ∷ 0 ∷ 97 ∷ 1 ∷ 0
+      ∷ 97 ∷ 1 ∷ 0 ∷ 14 ∷ 43 ∷ 2 ∷ 0 ∷ 2 ∷ 0 ∷ 0 ∷ 16 ∷ 2 ∷ 0 ∷ 0 ∷ 19 ∷ 1 ∷ 1 ∷ 0 ∷ 98 ∷ 1 ∷ 18 ∷ 1 ∷ 1 ∷ 0 ∷ 100 ∷ 5 ∷ 3 ∷ 19 ∷ 1
+      ∷ 1 ∷ 0 ∷ 99 ∷ 29 ∷ 3 ∷ 21 ∷ 1 ∷ 4 ∷ 2 ∷ 0 ∷ 18 ∷ 1 ∷ 1 ∷ 0 ∷ 100 ∷ 32 ∷ 1 ∷ 1 ∷ 0 ∷ 23 ∷ 3 ∷ 1 ∷ 0 ∷ 22 ∷ 7 ∷ 1 ∷ 1 ∷ 0 ∷ 97
+      ∷ 1 ∷ 0 ∷ 97 ∷ 1 ∷ 0 ∷ 14 ∷ 43 ∷ 2 ∷ 0 ∷ 2 ∷ 0 ∷ 0 ∷ 16 ∷ 2 ∷ 0 ∷ 0 ∷ [])
   -- the function's mark stands in it twice
   mark-twice : marks (declaring 1 2 (all (declares (taking (only (part templated (bind b) 1))) (ref d) ∷ declares (bind c) (W (ref d) (array (only templated))) ∷ [])))
       ≡ 1 ∷ 2 ∷ 2 ∷ []
