@@ -5,7 +5,7 @@ mod common;
 use common::cases::to_hex;
 use common::draw::{damage, Chance, Grammar};
 use common::{seeds, skip};
-use rest_spread::{Lowerer, Options, LEVELS};
+use rest_spread::{Field, Kind, Lowerer, Node, Options, LEVELS};
 use std::env;
 use std::io::Write;
 use std::process::{Command, Stdio};
@@ -17,7 +17,8 @@ fn drawn_trees_are_lowered_as_the_reference_does() {
         return skip("RUST_REFERENCE names no program, so no tree is compared with the reference's");
     };
     let grammar = Grammar::new();
-    let cases: Vec<Vec<u8>> = seeds(20_000).map(|seed| draw(&grammar, seed)).collect();
+    let drawn = seeds(20_000).map(|seed| draw(&grammar, seed));
+    let cases: Vec<Vec<u8>> = drawn.filter(|case| !has_rest_below_rest(&case[1..])).collect();
     let lines: String = cases.iter().map(|case| to_hex(case) + "\n").collect();
     // Document 01 copies a template key as it stands, and so does the program if it is told to.
     let mut child = Command::new(&program)
@@ -48,6 +49,52 @@ fn draw(grammar: &Grammar, seed: u64) -> Vec<u8> {
         damage(&mut chance, &mut tree, &[]);
     }
     [&[chance.below(17) as u8][..], &tree].concat()
+}
+
+/// Whether in the target of an assignment, or of a head that assigns, an object with a rest stands below another one. There
+/// request 6 has another rule than the reference.
+fn has_rest_below_rest(tree: &[u8]) -> bool {
+    Node::read(tree).is_some_and(|(root, _)| has_such_target(root))
+}
+
+fn has_such_target(node: Node) -> bool {
+    let assigns = matches!(node.kind(), Kind::Assignment | Kind::ForIn | Kind::ForOf);
+    assigns && child(node, 1).is_some_and(|target| nests(target, false))
+        || node.fields().any(|(_, field)| match field {
+            Field::Node(below) => has_such_target(below),
+            Field::List(items) => items.nodes().any(has_such_target),
+            _ => false,
+        })
+}
+
+/// Whether an object with a rest stands below another one; `inside` says that one is around the target.
+fn nests(target: Node, inside: bool) -> bool {
+    match target.kind() {
+        Kind::ObjectPattern => {
+            let rests = target.field(1).is_some();
+            inside && rests
+                || items(target).any(|property| child(property, 1).is_some_and(|value| nests(value, inside || rests)))
+        }
+        Kind::ArrayPattern => items(target).any(|item| nests(item, inside)),
+        Kind::Default => child(target, 0).is_some_and(|left| nests(left, inside)),
+        _ => false,
+    }
+}
+
+fn child(node: Node, number: usize) -> Option<Node> {
+    match node.field(number) {
+        Some(Field::Node(child)) => Some(child),
+        _ => None,
+    }
+}
+
+fn items(node: Node) -> impl Iterator<Item = Node> {
+    match node.field(0) {
+        Some(Field::List(items)) => Some(items),
+        _ => None,
+    }
+    .into_iter()
+    .flat_map(|items| items.nodes())
 }
 
 /// What the reference program prints for a case.
