@@ -1,4 +1,4 @@
--- The walk of an accepted tree from its root, begun on cleared slices and ended, gives the definition's outcome.
+-- The walk of an accepted tree from its root, begun with cleared cells and ended, gives the definition's outcome.
 -- Assumes nothing.
 use mathlib.Core.Path.{_≡_, refl, sym, ap, _∙_, subst}
 use mathlib.Core.Bool.{Bool, true, false, cond, _||_}
@@ -19,6 +19,7 @@ use Rattle.tree.specs.declared.read.Answer.the-variants.{Read, Refused}
 use Rattle.tree.specs.WellFormed.{Bytes}
 use Rattle.tree.specs.Look.{lookNode, Seen, seen}
 use Rattle.tree.specs.Note as note
+use Rattle.tree.specs.Reading.{readInto}
 use Rattle.tree.specs.Read.Refusal.{notATree}
 use Rattle.tree.proofs.Noted.{Noted, filled-law, within-limit}
 use Rattle.tree.proofs.Look.{tree-node}
@@ -42,6 +43,7 @@ use Rattle.walk.specs.Whole.{Good}
 use Rattle.rest_spread.specs.Entry.{lentOf, handedBack}
 use Rattle.rest_spread.specs.declared.Lowered.{Lowered}
 use Rattle.walk.proofs.AcceptedIsGood.{noted-good}
+use Rattle.rest_spread.proofs.Uncleared.{Twins, finished-same, sink-same, tree-same}
 
 -- ---- from the root
 
@@ -52,26 +54,31 @@ root-emits : (c : Place) → c ≡ record { root = true; statement = false; mark
 unfolding emits
 root-emits c e n next = ap (λ (x : Place). deeds next (x .mark) (walked (contextOf x) n)) e
 
--- where the walk ends, from a cleared start
-walked-to : (a b k next : ℕ) (c : Place) (n : Node) (s s′ : State) (r r′ : ℕ) → c ≡ record { root = true; statement = false; mark = 0 } → s ≡ start a b k next → r ≡ 0
+-- where the walk ends
+walked-to : (next : ℕ) (c : Place) (n : Node) (s s′ : State) (r r′ : ℕ) → c ≡ record { root = true; statement = false; mark = 0 } → s .sink .mark ≡ next → r ≡ 0
     → Does (record { state = s; refusal = r }) (record { state = s′; refusal = r′ }) (emits c n)
-    → Way (start a b k next) s′ (eventsIn (deeds next 0 (walked top n))) × (r′ ≡ firstRefused (deeds next 0 (walked top n)))
-unfolding start
-walked-to a b k next c n s s′ r r′ e f g d =
+    → Way s s′ (eventsIn (deeds next 0 (walked top n))) × (r′ ≡ firstRefused (deeds next 0 (walked top n)))
+walked-to next c n s s′ r r′ e f g d =
     let ds = deeds next 0 (walked top n) in
     let same : emits c n next ≡ ds = root-emits c e n next in
-    let way : Way (start a b k next) s′ (eventsIn (emits c n next)) = subst (λ (u : State). Way u s′ (eventsIn (emits c n (u .sink .mark)))) f (d .output) in (
-      subst (λ (l : List Deed). Way (start a b k next) s′ (eventsIn l)) same way,
+    let way : Way s s′ (eventsIn (emits c n next)) = subst (λ (m : ℕ). Way s s′ (eventsIn (emits c n m))) f (d .output) in (
+      subst (λ (l : List Deed). Way s s′ (eventsIn l)) same way,
       d .refusal next ∙ ap (λ (z : ℕ). met z (emits c n next)) g ∙ met-first (emits c n next) (emits-sound c n next) ∙ ap firstRefused same,
     )
 
--- nothing is handed back where the tree is full, whatever was done
-way-ends : (a b k next : ℕ) (s′ : State) (es : List Event) → 49152 ≤ k → Way (start a b k next) s′ es → finished s′ ≡ finished (steps (start a b k next) es)
-way-ends a b k next s′ es big (whole p) = ap finished p
-way-ends a b k next s′ es big (full fs p f g) = ap finished p ∙ none fs (subst Full p f) ∙ sym (none es g)
+-- what is handed back is what a cleared start gives; nothing, where the tree is full, whatever was done
+way-ends : (a b k next : ℕ) (s s′ : State) (es : List Event) → 49152 ≤ k → Twins s (start a b k next) → Way s s′ es → finished s′ ≡ finished (steps (start a b k next) es)
+way-ends a b k next s s′ es big t (whole p) = ap finished p ∙ finished-same es s (start a b k next) t
+way-ends a b k next s s′ es big t (full fs p f g) = ap finished p ∙ finished-same fs s (start a b k next) t ∙ none fs (subst Full p f) ∙ sym (none es g)
   where
-    none : (xs : List Event) → Full (steps (start a b k next) xs) → finished (steps (start a b k next) xs) ≡ nothing a b k
-    none xs h = ap (λ (l : List Event). finished (steps (start a b k next) l)) (sym (append-nil xs)) ∙ full-nothing a b k next xs [] big h
+    none : (xs : List Event) → Full (steps s xs) → finished (steps (start a b k next) xs) ≡ nothing a b k
+    none xs h =
+        ap (λ (l : List Event). finished (steps (start a b k next) l)) (sym (append-nil xs))
+        ∙ full-nothing a b k next xs [] big (subst (λ (z : Sink). 32768 < z .tree) (tree-same xs s (start a b k next) t) h)
+
+begun-mark : (a b k next : ℕ) (s : State) → Twins s (start a b k next) → s .sink .mark ≡ next
+unfolding start
+begun-mark a b k next s t = ap (λ (z : Sink). z .mark) (sink-same s (start a b k next) t)
 
 -- ---- what is lent
 
@@ -161,20 +168,20 @@ module _ (limit options : ℕ) (tree out list work : List ℕ) where
 
   -- the walk of an accepted tree
   module _ (mark : ℕ) (slice : List ℕ) (each : (i : ℕ) → getD slice i 0 < 256)
-      (o l w : List ℕ) (k : Sink) (begun : stateOf o l w k ≡ start (length out) (length list) (length work) mark)
+      (o l w : List ℕ) (k : Sink) (begun : 65536 ≤ length work → Twins (stateOf o l w k) (start (length out) (length list) (length work) mark))
       (o′ l′ w′ : List ℕ) (k′ : Sink) (r′ : ℕ)
       (does : Good slice limit 0 → Does (record { state = stateOf o l w k; refusal = 0 }) (record { state = stateOf o′ l′ w′ k′; refusal = r′ })
       (emits (record { root = true; statement = false; mark = 0 }) (lookNode slice limit 0 .value)))
     where
-      module _ (given : List ℕ) (n : Node) (q : ℕ) (read : readTree input limit given ≡ got n q mark) (known : Noted limit slice n q mark) where
-        ends : Way (start (length out) (length list) (length work) mark) (stateOf o′ l′ w′ k′) (eventsIn (deeds mark 0 (walked top n))) × (r′ ≡ firstRefused (deeds mark 0 (walked top n)))
+      module _ (given : List ℕ) (n : Node) (q : ℕ) (big : 65536 ≤ length work) (read : readTree input limit given ≡ got n q mark) (known : Noted limit slice n q mark) where
+        ends : Way (stateOf o l w k) (stateOf o′ l′ w′ k′) (eventsIn (deeds mark 0 (walked top n))) × (r′ ≡ firstRefused (deeds mark 0 (walked top n)))
         ends =
             let c : Place = record { root = true; statement = false; mark = 0 } in
             let d : Does (record { state = stateOf o l w k; refusal = 0 }) (record { state = stateOf o′ l′ w′ k′; refusal = r′ }) (emits c n) =
             subst (λ (x : Seen Node). Does (record { state = stateOf o l w k; refusal = 0 }) (record { state = stateOf o′ l′ w′ k′; refusal = r′ }) (emits c (x .value)))
             (slice-stands limit slice n q mark known)
             (does (noted-good limit slice n q mark (each-byte slice each) (read-short limit given n q mark read) known)) in
-            walked-to (length out) (length list) (length work) mark c n (stateOf o l w k) (stateOf o′ l′ w′ k′) 0 r′ refl begun refl d
+            walked-to mark c n (stateOf o l w k) (stateOf o′ l′ w′ k′) 0 r′ refl (begun-mark (length out) (length list) (length work) mark (stateOf o l w k) (begun big)) refl d
 
       -- something is refused
       pub ends-refused : (x : Outcome) → 0 < r′ → length o′ ≡ length out → length l′ ≡ length list → length w′ ≡ length work
@@ -184,7 +191,7 @@ module _ (limit options : ℕ) (tree out list work : List ℕ) where
       unfolding afterReading
       ends-refused x some a b c e given n q bytes big read known =
           e ∙ ap (λ (u : Lent). outcomeOf u (Result.refusal r′)) (lent-kept (length out) (length list) (length work) (length o′) (length l′) (length w′) a b c)
-          ∙ ap (outcomeOf s) (sym (by-number r′ some (ends given n q read known .1)))
+          ∙ ap (outcomeOf s) (sym (by-number r′ some (ends given n q big read known .1)))
         where
           by-number : (r : ℕ) → 0 < r → r ≡ firstRefused (deeds mark 0 (walked top n)) → afterReading options s (got n q mark) ≡ Result.refusal r
           by-number zero h f = absurd (omega arith)
@@ -196,8 +203,8 @@ module _ (limit options : ℕ) (tree out list work : List ℕ) where
           → x ≡ outcomeOf s (afterReading options s (got n q mark))
       unfolding afterReading
       ends-handed x none′ e given n q bytes big read known =
-          e ∙ ap (outcomeFrom options) (way-ends (length out) (length list) (length work) mark (stateOf o′ l′ w′ k′) _ (omega arith) (ends given n q read known .0))
-          ∙ accepted-outcome limit given bytes n q mark read options s (omega arith) (sym (ends given n q read known .1) ∙ none′)
+          e ∙ ap (outcomeFrom options) (way-ends (length out) (length list) (length work) mark (stateOf o l w k) (stateOf o′ l′ w′ k′) _ (omega arith) (begun big) (ends given n q big read known .0))
+          ∙ accepted-outcome limit given bytes n q mark read options s (omega arith) (sym (ends given n q big read known .1) ∙ none′)
 
       pub ends-fits : (o″ l″ w″ : List ℕ) (v : Written) → r′ ≡ 0 → endOf o″ l″ w″ v ≡ finished (stateOf o′ l′ w′ k′) → v .fits ≡ true
           → (given : List ℕ) (n : Node) (q : ℕ) → Bytes given → 65536 ≤ length work → readTree input limit given ≡ got n q mark → Noted limit slice n q mark
@@ -246,14 +253,16 @@ module _ (limit options : ℕ) (tree room out list work : List ℕ) (x : Outcome
       h ∙ ap (λ (k : ℕ). outcomeOf (lentOf out list work) (Result.refusal k)) (g .1 .1)
       ∙ ap (λ (z : Got Node). outcomeOf (lentOf out list work) (afterReading options (lentOf out list work) z)) (sym (g .1 .0))
 
-  -- a tree: it is noted and walked
-  pub read-lowered : (q j : ℕ) (noted : List ℕ) → a ≡ Read q j → ((i : ℕ) → getD tree i 0 < 256) → ((i : ℕ) → getD noted i 0 < 256) → noted ≡ note.filled limit tree room
+  -- a tree: it is walked with its notes
+  pub read-lowered : (q j : ℕ) (noted : List ℕ) → a ≡ Read q j → ((i : ℕ) → getD tree i 0 < 256) → ((i : ℕ) → getD noted i 0 < 256) → noted ≡ readInto (readTree input limit tree) limit tree room
       → ((l : List ℕ) (n : Node) (q : ℕ) → Bytes l → 65536 ≤ length work → readTree input limit l ≡ got n q j → Noted limit noted n q j → x ≡ outcomeOf (lentOf out list work) (afterReading options (lentOf out list work) (got n q j)))
       → length room ≡ length tree + length tree → 65536 ≤ length work → x ≡ outcomeOf (lentOf out list work) (afterReading options (lentOf out list work) (readTree input limit tree))
+  unfolding readInto
   read-lowered q j noted e each all f h long big =
       let g : (n : Node) × (readTree input limit tree ≡ got n q j) = read-by (readTree input limit tree) q j (sym e ∙ answered) in
+      let into : noted ≡ note.filled limit tree room = f ∙ ap (λ (z : Got Node). readInto z limit tree room) (g .1) in
       let known : Noted limit noted (g .0) q j =
-      subst (λ (z : List ℕ). Noted limit z (g .0) q j) (sym f) (filled-law limit tree room (g .0) q j long (g .1) (subst Bytes f (each-byte noted all))) in
+      subst (λ (z : List ℕ). Noted limit z (g .0) q j) (sym into) (filled-law limit tree room (g .0) q j long (g .1) (subst Bytes into (each-byte noted all))) in
       h tree (g .0) q (each-byte tree each) big (g .1) known ∙ ap (λ (z : Got Node). outcomeOf (lentOf out list work) (afterReading options (lentOf out list work) z)) (sym (g .1))
 
 -- ---- for callers

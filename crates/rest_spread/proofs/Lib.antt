@@ -1,1 +1,2 @@
+pub mod Uncleared
 pub mod Entry

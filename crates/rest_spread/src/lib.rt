@@ -3,8 +3,8 @@
 pub mod version;
 
 use emit::node;
+use sink::bytes::least;
 use sink::ends;
-use tree::note;
 use tree::read;
 use tree::read::Answer;
 use walk::place::Place;
@@ -46,7 +46,8 @@ fn refuse(answer: u8, out: &mut [u8], list: &mut [u8], work: &mut [u8]) -> Lower
     }
 }
 
-// The walk of a tree that is accepted within the limit, whose next mark is given. Its notes stand behind it.
+// The walk of a tree that is accepted within the limit, whose next mark is given. Its notes stand behind it. Of the work slice the
+// cells alone are cleared at the beginning, and all of it at the end.
 fn lower(
     limit: usize,
     options: u8,
@@ -58,7 +59,8 @@ fn lower(
 ) -> Lowered
     ensures { λ r. ⌜ ((l : List ℕ) (n : Node) (q : ℕ) → Bytes l → 65536 ≤ length (now (work .entry)) → readTree input limit l ≡ got n q mark → Noted limit (now (tree .entry)) n q mark → handedBack r (now (out .exit)) (now (list .exit)) (now (work .exit)) ≡ outcomeOf (lentOf (now (out .entry)) (now (list .entry)) (now (work .entry))) (afterReading options (lentOf (now (out .entry)) (now (list .entry)) (now (work .entry))) (got n q mark))) ⌝ }
 {
-    let k = ends::begin(out, list, work, mark);
+    let cells = least(work.len(), 32768);
+    let k = ends::begin(out, list, &mut work[..cells], mark);
     let w = Walk {
         sink: k,
         at: 0,
@@ -107,12 +109,9 @@ fn read_and_lower(
 ) -> Lowered
     ensures { λ r. ⌜ (length (now (room .entry)) ≡ length (now (tree .entry)) + length (now (tree .entry)) → 65536 ≤ length (now (work .entry)) → handedBack r (now (out .exit)) (now (list .exit)) (now (work .exit)) ≡ outcomeOf (lentOf (now (out .entry)) (now (list .entry)) (now (work .entry))) (afterReading options (lentOf (now (out .entry)) (now (list .entry)) (now (work .entry))) (readTree input limit (now (tree .entry))))) ⌝ }
 {
-    match read::read_tree(tree, limit) {
+    match read::read_into(tree, room, limit) {
         Answer::Refused(n) => refuse(n, out, list, work),
-        Answer::Read(_, mark) => {
-            note::fill(tree, room, limit);
-            lower(limit, options, room, out, list, work, mark)
-        }
+        Answer::Read(_, mark) => lower(limit, options, room, out, list, work, mark),
     }
 }
 

@@ -14,6 +14,7 @@ pub mod Look
 pub mod Noting
 pub mod Laid
 pub mod Passed
+pub mod Reading
 pub mod Further
 pub mod Told
 pub mod Noted
