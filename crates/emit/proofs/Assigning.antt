@@ -385,7 +385,7 @@ module _ (t : List ℕ) where
       ∙ sym (rest-done c p ps y (o .leafy)) ∙ ap (emitsRestOf c) (sym (o .whole)))
 
   -- whatever is last
-  pub top-does : {g₀ g₁ g₂ g₃ g₄ g₅ g₆ g₇ g₈ i₀ i₁ i₂ g₉ : Going} (c c₁ c₂ : Place) (d d₁ d₂ e p r y stem x k z z₂ : ℕ) (input b : Bool) (f : ReferenceBuilder) (last : Emit)
+  pub top-does : {g₀ g₁ g₂ g₃ g₄ g₅ g₆ g₇ g₈ i₀ i₁ i₂ g₉ : Going} (c c₁ c₂ c₃ : Place) (d d₁ d₂ e p r y stem x k z z₂ : ℕ) (input b : Bool) (f : ReferenceBuilder) (last : Emit)
       → b ≡ anyLacksForm (lookNode t d p .value) → b ≡ false → (c₁ ≡ inner c) × (d₁ ≡ d)
       → (Good t d p → byteAt t p ≡ 34 → Does g₀ g₁ (handsTop (c .root) (c .mark) (lookNode t d p .value)))
       → (Good t d p → byteAt t p ≡ 34 → k ≡ suc (suc (suc (cond (c .statement) (partsCount (lookNode t d p .value)) (suc (partsCount (lookNode t d p .value)))))))
@@ -396,13 +396,13 @@ module _ (t : List ℕ) where
       → (byteAt t p ≡ 34 → Good t d p → AllSuit 15 (properties (lookNode t d p .value)) → (r ≡ listAt (d - 1) p .next) × Does g₇ g₈ (turnsOf 15 c (properties (lookNode t d p .value))))
       → (1 < 256 → Does g₈ i₀ (assignHead 1)) → y ≡ r → e ≡ d - 1 → (c₂ ≡ inner c) × (d₂ ≡ e)
       → (Good t d₂ y → Does i₀ i₁ (emits c₂ (lookNode t d₂ y .value)))
-      → CellIs z₂ 3 p → ((u : List ℕ) → sourceOf u f ≡ say (does (temporary z₂ 3) ∷ []))
-      → (Good t d₁ p → byteAt t p ≡ 34 → Clear i₁ (emitsRest c₁ p (properties (lookNode t d₁ p .value)) (sourceOf t f)) → Does i₁ i₂ (emitsRest c₁ p (properties (lookNode t d₁ p .value)) (sourceOf t f)))
+      → CellIs z₂ 3 p → ((u : List ℕ) → sourceOf u f ≡ say (does (temporary z₂ 3) ∷ [])) → c₃ ≡ inner c
+      → (Good t d₁ p → byteAt t p ≡ 34 → Clear i₁ (emitsRest c₃ p (properties (lookNode t d₁ p .value)) (sourceOf t f)) → Does i₁ i₂ (emitsRest c₃ p (properties (lookNode t d₁ p .value)) (sourceOf t f)))
       → (p < 16384 → Does i₂ g₉ last) → last ≡ cond (c .statement) (say []) (saysCell 3 p)
       → byteAt t p ≡ 34 → hasRest (lookNode t d p .value) ≡ true → Good t d p → (input ≡ true → Good t d x) → hasArrayRestOverObjectRest (lookNode t d p .value) ≡ false
       → Topped c d p input stem x g₀ g₉
   unfolding emitsTop
-  top-does c c₁ c₂ d d₁ d₂ e p r y stem x k z z₂ input b f last lacks h in₁ hands kk two wide ass ce temp giv tgt parts as₂ yy le in₂ nod ce₂ so res end ends by hr good gx ar =
+  top-does c c₁ c₂ c₃ d d₁ d₂ e p r y stem x k z z₂ input b f last lacks h in₁ hands kk two wide ass ce temp giv tgt parts as₂ yy le in₂ nod ce₂ so in₃ res end ends by hr good gx ar =
       let n = lookNode t d p .value in
       let X = givenDeeds t d (inner c) input stem x in
       let wi : p < 16384 = object-within d p good in
@@ -410,7 +410,7 @@ module _ (t : List ℕ) where
       let T = tgt by good ar in
       let o = values-clear d p good by ar in
       let P = parts by good (suit-15 (properties n) (o .0) (o .1)) in
-      let R = rest-last c c₁ c₂ d d₁ d₂ e p r y z₂ f (clear-still (clear-after T) (P .1)) as₂ yy (P .0) le in₂ nod ce₂ so in₁ res by hr good in
+      let R = rest-last c c₃ c₂ d d₁ d₂ e p r y z₂ f (clear-still (clear-after T) (P .1)) as₂ yy (P .0) le in₂ nod ce₂ so (in₃, in₁ .1) res by hr good in
       top-way c n X false (sym lacks ∙ h)
       (does-as
       (does-then (hands good by)

@@ -478,13 +478,13 @@ module _ (t : List ℕ) where
       go zero test good = no-good t at good
       go (suc d) test good = does-to upto (does-as said (sym (declaration-refused c (lookNode t (suc d) at .value) (is-here t d at 4 ∙ eq-eqb (byteAt t at) 4 k) (sym (test (contextOf c)) ∙ lacks))))
 
-  pub declaration-writes : {g g₁ g₂ g₃ g₄ g₅ g′ : Going} (c c′ : Place) (d left e at i q k n p f u z s : ℕ) (b : Bool) → ((κ : Context) → b ≡ declarationLacksForm κ (lookNode t d at .value)) → b ≡ false
-      → i ≡ at → (Good t d at → byteAt t at ≡ 4 → Does g g₁ (inTurn declaratorMade (itemsAt 2 (lookNode t d at .value)) ▷ inTurn (declaratorExcludes (c .root)) (itemsAt 2 (lookNode t d at .value))))
+  pub declaration-writes : {g g₁ g₂ g₃ g₄ g₅ g′ : Going} (c c′ : Place) (root : Bool) (d left e at i q k n p f u z s : ℕ) (b : Bool) → ((κ : Context) → b ≡ declarationLacksForm κ (lookNode t d at .value)) → b ≡ false → root ≡ c .root
+      → i ≡ at → (Good t d at → byteAt t at ≡ 4 → Does g g₁ (inTurn declaratorMade (itemsAt 2 (lookNode t d at .value)) ▷ inTurn (declaratorExcludes root) (itemsAt 2 (lookNode t d at .value))))
       → q ≡ onward t at 5 → ((κ : Context) → k ≡ limited (count (gather (declarators κ) (itemsAt 2 (lookNode t d at .value)))))
       → Does g₁ g₂ (say (puts (part i q t))) → (k < 65536 → Does g₂ g₃ (say (puts (wideBytes k)))) → p ≡ onward t q 2 → f ≡ p → g₄ ≡ g₃ → z ≡ lookNode t d at .next
       → left ≡ d - 1 → c′ ≡ c → e ≡ left → Wide t q n → Turned t e false n f u 10 c′ g₄ g₅ → s ≡ z → g′ ≡ g₅
       → byteAt t at ≡ 4 → (s ≡ lookNode t d at .next) × (Good t d at → Does g g′ (emits c (lookNode t d at .value)))
-  declaration-writes c c′ d left e at i q k n p f u z s b test fine same hands fifth counts copied wide first move from next levels place level many items moved upto kk = (
+  declaration-writes c c′ root d left e at i q k n p f u z s b test fine asked same hands fifth counts copied wide first move from next levels place level many items moved upto kk = (
     moved ∙ next,
     λ good.
         let h : d ≡ suc e = level-up t d left e at levels level good in
@@ -512,7 +512,8 @@ module _ (t : List ℕ) where
         let head : say (puts (part i q t)) ▷ say (puts (wideBytes k)) ≡ say (puts (4 ∷ 7 ∷ []) ++ (marks m ++ puts (x ∷ wideBytes (declaratorCount c ds)))) =
         ap₂ (λ (bs : List ℕ) (y : ℕ). say (puts bs) ▷ say (puts (wideBytes y))) bytes k-as ∙ say-say (puts (4 ∷ 7 ∷ wideBytes m ++ (x ∷ []))) (puts (wideBytes (declaratorCount c ds))) ∙ ap say (head-is m x (declaratorCount c ds) (o .marked)) in
         does-to upto (does-as (does-then (hands good kk) (does-then (does-then copied (wide small)) (does-from from (r .1))))
-        (ap₂ (λ (y : Items) (v : Emit). (inTurn declaratorMade y ▷ inTurn (declaratorExcludes (c .root)) y) ▷ v ▷ turnsOf 10 c′ ds) ds-are head
+        (ap₂ (λ (y : Items) (v : Emit). (inTurn declaratorMade y ▷ inTurn (declaratorExcludes root) y) ▷ v ▷ turnsOf 10 c′ ds) ds-are head
+        ∙ ap (λ (y : Bool). (M ▷ inTurn (declaratorExcludes y) ds) ▷ say (puts (4 ∷ 7 ∷ []) ++ (marks m ++ puts (x ∷ wideBytes (declaratorCount c ds)))) ▷ turnsOf 10 c′ ds) asked
         ∙ ap (λ (v : Emit). (M ▷ X) ▷ say (puts (4 ∷ 7 ∷ []) ++ (marks m ++ puts (x ∷ wideBytes (declaratorCount c ds)))) ▷ v) (ap (λ (y : Place). turnsOf 10 y ds) place ∙ turns-10 c ds)
         ∙ then-assoc M X (say (puts (4 ∷ 7 ∷ []) ++ (marks m ++ puts (x ∷ wideBytes (declaratorCount c ds)))) ▷ D)
         ∙ sym (declaration-done c at m x ds (ap (declarationLacksForm (contextOf c)) (sym whole) ∙ sym (test (contextOf c)) ∙ fine))

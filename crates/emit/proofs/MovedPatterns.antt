@@ -640,14 +640,14 @@ module _ (t : List ℕ) where
       (λ j. agree-then (agree-say (newDeclaration 2 ++ puts (5 ∷ 3 ∷ []))) (agree-then (agree-marked (inner c) id m j) (agree-say (stand o)))) body)
       (sym (front-kept c id (node o 0 Fields.done) (sym bb ∙ bt)))
 
-  pub add-lowered : {g g₁ g₂ g₃ g′ : Going} (c c₁ c₂ : Place) (d e at o m k y : ℕ) (b f : Bool) (source : Emit) → b ≡ hasObjectRest (lookNode t d at .value) → b ≡ true
-      → ((κ : Context) → f ≡ any anyLacksForm (objectsBelow κ (lookNode t d at .value))) → f ≡ false → c₁ ≡ inner c → m ≡ g .state .sink .mark → c₂ ≡ marking c₁ m → e ≡ d
-      → (Good t d at → Does g g₁ (overObjects placeMade taking (lookNode t d at .value) ▷ overObjects keysMade replacing (lookNode t d at .value) ▷ overObjects (excludesOf (c .root)) replacing (lookNode t d at .value)))
+  pub add-lowered : {g g₁ g₂ g₃ g′ : Going} (c c₁ c₂ : Place) (root : Bool) (d e at o m k y : ℕ) (b f : Bool) (source : Emit) → b ≡ hasObjectRest (lookNode t d at .value) → b ≡ true
+      → ((κ : Context) → f ≡ any anyLacksForm (objectsBelow κ (lookNode t d at .value))) → f ≡ false → root ≡ c .root → c₁ ≡ inner c → m ≡ g .state .sink .mark → c₂ ≡ marking c₁ m → e ≡ d
+      → (Good t d at → Does g g₁ (overObjects placeMade taking (lookNode t d at .value) ▷ overObjects keysMade replacing (lookNode t d at .value) ▷ overObjects (excludesOf root) replacing (lookNode t d at .value)))
       → ((κ : Context) (z : Node) → k ≡ limited (count (patternDeclarators κ (lookNode t d at .value) z)))
       → (k < 65536 → Does g₁ g₂ (say (declarationHead 2 k))) → g₃ ≡ g₂ → y ≡ at → source ≡ say (does (temporary o 1) ∷ [])
       → (Good t e y → Does g₃ g′ (emitsPattern c₂ (lookNode t e y .value) source)) → Added t d at o g g′ c
   unfolding marking
-  add-lowered {g = g} {g′ = g′} c c₁ c₂ d e at o m k y b f source bb bt l w v mk v₂ ee hands cn hd to yy src pt s good small =
+  add-lowered {g = g} {g′ = g′} c c₁ c₂ root d e at o m k y b f source bb bt l w asked v mk v₂ ee hands cn hd to yy src pt s good small =
       let id : Node = lookNode t d at .value in
       let κ : Context = contextOf (marking c m) in
       let below : hasObjectRest id ≡ true = sym bb ∙ bt in
@@ -659,7 +659,8 @@ module _ (t : List ℕ) where
       let lacks : any (λ p. anyLacksForm p) (objectsBelow κ id) ≡ false = sym (l κ) ∙ w in
       let whole : Does g g′ (emits (marking c m) (letOf id (made.temporary [] 1 o))) =
       does-as (does-then (hands good) (does-then (hd (omega arith)) (does-from to (pt (stands-as t e d y at ee yy good)))))
-      (ap₂ (λ (z : ℕ) (x : Emit). (overObjects placeMade taking id ▷ overObjects keysMade replacing id ▷ overObjects (excludesOf (c .root)) replacing id) ▷ say (declarationHead 2 z) ▷ x) kn
+      (ap₂ (λ (z : ℕ) (x : Emit). (overObjects placeMade taking id ▷ overObjects keysMade replacing id ▷ overObjects (excludesOf root) replacing id) ▷ say (declarationHead 2 z) ▷ x) kn
       (ap₂ (λ (p : Place) (z : Seen Node). emitsPattern p (z .value) source) (statement-place c c₁ c₂ m v v₂ s) same ∙ ap (λ (x : Emit). emitsPattern (marking c m) id x) src)
+      ∙ ap (λ (r : Bool). (overObjects placeMade taking id ▷ overObjects keysMade replacing id ▷ overObjects (excludesOf r) replacing id) ▷ say (declarationHead 2 n) ▷ emitsPattern (marking c m) id (say (does (temporary o 1) ∷ []))) asked
       ∙ let-done id o below (marking c m) κ id lacks) in
       does-as (does-fresh (λ m. emits (marking c m) (letOf id (made.temporary [] 1 o))) m mk (λ k. agree-marked c (letOf id (made.temporary [] 1 o)) m k) whole) (sym (marked-let c id (made.temporary [] 1 o)))

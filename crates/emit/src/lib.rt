@@ -13,6 +13,10 @@
 // bi go ba mv add            a parameter or declarator whose pattern is moved out, what stays of it, new statements in front
 // fun ar eb ca body bl       function, arrow and its body, catch; a body or a block with new statements in front
 // head dh th tb ta           a for head: one that declares, one that assigns; its body, the statement in front
+//
+// Whether the scope is the root is looked up once, `at_root` of `walk::place`, where the walk comes to an assignment (`ag`) or a declaration
+// (`decl`), and where one is put into a body (`ta`, `add`). The code for its rests, keys and parts is told the answer, `root`, and its contract
+// holds for either: `placeWith root c` reads nothing of the root of c. What is walked inside asks for itself.
 use pattern::declarators::declaration_becomes;
 use pattern::declarators::declaration_lacks_form;
 use pattern::declarators::pattern_declarators;
@@ -70,6 +74,7 @@ use walk::pieces::hole;
 use walk::pieces::source;
 use walk::pieces::string;
 use walk::place::Place;
+use walk::place::at_root;
 use walk::place::container;
 use walk::place::inside;
 use walk::place::less;
@@ -77,6 +82,8 @@ use walk::place::marked;
 use walk::place::parts_of;
 use walk::place::scoped;
 use walk::place::statement;
+use walk::place::told_inside;
+use walk::place::told_under;
 use walk::place::under;
 use walk::target::object_count;
 use walk::walk::Walk;
@@ -111,8 +118,8 @@ ghost use Rattle.direct.specs.Declared.{emitsKeyValue, emitsOwnKeys, emitsOwnPa
 ghost use Rattle.direct.specs.Assigned.{assignmentAt, emitsNest, emitsTarget, emitsTop};
 ghost use Rattle.direct.specs.Moved.{outOf, movedIn, behind, fronts, bodyIn, blockIn, targetIn};
 ghost use Rattle.walk.specs.Run.{goingOf, Does, Clear};
-ghost use Rattle.walk.specs.Whole.{placeOf, holeAt, itemDeeds, slotDeeds, GoodItem, GoodItems, GoodSlot, GoodFields, Good, Ruled, Emitted, Done};
-ghost use Rattle.walk.specs.Turns.{viewOf, turnOf, deepMode, suits, turnsOf, AllSuit, sourceOf, levelOf, spotDeeds, movesOf, AllBind, givenDeeds, givenNode};
+ghost use Rattle.walk.specs.Whole.{placeOf, placeWith, holeAt, itemDeeds, slotDeeds, GoodItem, GoodItems, GoodSlot, GoodFields, Good, Ruled, Emitted, Done};
+ghost use Rattle.walk.specs.Turns.{viewOf, turnOf, deepMode, isTold, toldPlace, suits, turnsOf, AllSuit, sourceOf, levelOf, spotDeeds, movesOf, AllBind, givenDeeds, givenNode};
 
 // A Switch, and its fields in two parts: mark and discriminant, then the cases, which alone lie in its scope.
 const SWITCH: usize = 43;
@@ -363,7 +370,7 @@ fn item(
 
 // ---- lists by a mode
 
-// The items of a list.
+// The items of a list. The modes of what has rests are told `root` (`isTold`); in any other it plays no part.
 fn seq(
     w: Walk,
     t: &[u8],
@@ -371,16 +378,17 @@ fn seq(
     list: &mut [u8],
     work: &mut [u8],
     c: Place,
+    root: bool,
     mode: usize,
     holes: bool,
     count: usize,
 ) -> Walk
-    ensures { λ r. ⌜ (GoodItems (now (t .entry)) (lookNode (now (t .entry)) (c .left)) (Good (now (t .entry)) (c .left)) false holes count (w .at) → AllSuit mode (lookItems (now (t .entry)) (lookNode (now (t .entry)) (c .left)) holes count (w .at) .value) → (r .at ≡ lookItems (now (t .entry)) (lookNode (now (t .entry)) (c .left)) holes count (w .at) .next) × Does (goingOf (now (out .entry)) (now (list .entry)) (now (work .entry)) w) (goingOf (now (out .exit)) (now (list .exit)) (now (work .exit)) r) (turnsOf mode (placeOf c) (lookItems (now (t .entry)) (lookNode (now (t .entry)) (c .left)) holes count (w .at) .value))) ⌝ }
+    ensures { λ r. ⌜ (GoodItems (now (t .entry)) (lookNode (now (t .entry)) (c .left)) (Good (now (t .entry)) (c .left)) false holes count (w .at) → AllSuit mode (lookItems (now (t .entry)) (lookNode (now (t .entry)) (c .left)) holes count (w .at) .value) → (r .at ≡ lookItems (now (t .entry)) (lookNode (now (t .entry)) (c .left)) holes count (w .at) .next) × Does (goingOf (now (out .entry)) (now (list .entry)) (now (work .entry)) w) (goingOf (now (out .exit)) (now (list .exit)) (now (work .exit)) r) (turnsOf mode (toldPlace mode root c) (lookItems (now (t .entry)) (lookNode (now (t .entry)) (c .left)) holes count (w .at) .value))) ⌝ }
 {
     let mut v = w;
     let mut n = count;
     while 0 < n {
-        v = turn(v, t, out, list, work, c, mode, holes);
+        v = turn(v, t, out, list, work, c, root, mode, holes);
         n -= 1;
     }
     v
@@ -394,10 +402,11 @@ fn turn(
     list: &mut [u8],
     work: &mut [u8],
     c: Place,
+    root: bool,
     mode: usize,
     holes: bool,
 ) -> Walk
-    ensures { λ r. ⌜ (GoodItem (now (t .entry)) (lookNode (now (t .entry)) (c .left)) (Good (now (t .entry)) (c .left)) false holes (w .at) → (holeAt (now (t .entry)) holes (w .at) ≡ false → suits mode (lookNode (now (t .entry)) (c .left) (w .at) .value) ≡ true) → (r .at ≡ lookItem (now (t .entry)) (lookNode (now (t .entry)) (c .left)) holes (w .at) .next) × Does (goingOf (now (out .entry)) (now (list .entry)) (now (work .entry)) w) (goingOf (now (out .exit)) (now (list .exit)) (now (work .exit)) r) (spotDeeds (now (t .entry)) (lookNode (now (t .entry)) (c .left)) mode (placeOf c) holes (w .at))) ⌝ }
+    ensures { λ r. ⌜ (GoodItem (now (t .entry)) (lookNode (now (t .entry)) (c .left)) (Good (now (t .entry)) (c .left)) false holes (w .at) → (holeAt (now (t .entry)) holes (w .at) ≡ false → suits mode (lookNode (now (t .entry)) (c .left) (w .at) .value) ≡ true) → (r .at ≡ lookItem (now (t .entry)) (lookNode (now (t .entry)) (c .left)) holes (w .at) .next) × Does (goingOf (now (out .entry)) (now (list .entry)) (now (work .entry)) w) (goingOf (now (out .exit)) (now (list .exit)) (now (work .exit)) r) (spotDeeds (now (t .entry)) (lookNode (now (t .entry)) (c .left)) mode (toldPlace mode root c) holes (w .at))) ⌝ }
 {
     if holes {
         if peek(t, w.at) == 0 {
@@ -410,14 +419,14 @@ fn turn(
         4 => prop(w, t, out, list, work, c, true),
         6 => ek(w, t, out, list, work, c),
         7 => kv(w, t, out, list, work, c),
-        9 => vl(w, t, out, list, work, c, 8),
-        10 => dr(w, t, out, list, work, c),
+        9 => vl(w, t, out, list, work, c, root, 8),
+        10 => dr(w, t, out, list, work, c, root),
         11 => bi(w, t, out, list, work, c),
-        13 => vl(w, t, out, list, work, c, 12),
-        14 => vl(w, t, out, list, work, c, 17),
-        15 => vl(w, t, out, list, work, c, 18),
+        13 => vl(w, t, out, list, work, c, root, 12),
+        14 => vl(w, t, out, list, work, c, root, 17),
+        15 => vl(w, t, out, list, work, c, root, 18),
         16 => go(w, t, out, list, work, c),
-        _ => deep(w, t, out, list, work, c, mode),
+        _ => deep(w, t, out, list, work, c, root, mode),
     }
 }
 
@@ -484,6 +493,7 @@ fn vo(
         list,
         work,
         inside(c, left),
+        false,
         property_mode(rest),
         false,
         n,
@@ -514,7 +524,7 @@ fn va(
     let q = step(t, p, 2);
     let n = wide_at(t, q);
     let u = w.copy(t, out, step(t, q, 2));
-    let u = seq(u, t, out, list, work, inside(c, left), 1, true, n);
+    let u = seq(u, t, out, list, work, inside(c, left), false, 1, true, n);
     if has_second(t, p) {
         return node(u, t, out, list, work, inside(c, left));
     }
@@ -581,10 +591,11 @@ fn rest(
     list: &mut [u8],
     work: &mut [u8],
     c: Place,
+    root: bool,
     p: usize,
     b: ReferenceBuilder,
 ) -> Walk
-    ensures { λ r. ⌜ (r .at ≡ w .at) × (Good (now (t .entry)) (c .left) p → byteAt (now (t .entry)) p ≡ 34 → Clear (goingOf (now (out .entry)) (now (list .entry)) (now (work .entry)) w) (emitsRest (placeOf c) p (properties (lookNode (now (t .entry)) (c .left) p .value)) (sourceOf (now (t .entry)) b)) → Does (goingOf (now (out .entry)) (now (list .entry)) (now (work .entry)) w) (goingOf (now (out .exit)) (now (list .exit)) (now (work .exit)) r) (emitsRest (placeOf c) p (properties (lookNode (now (t .entry)) (c .left) p .value)) (sourceOf (now (t .entry)) b))) ⌝ }
+    ensures { λ r. ⌜ (r .at ≡ w .at) × (Good (now (t .entry)) (c .left) p → byteAt (now (t .entry)) p ≡ 34 → Clear (goingOf (now (out .entry)) (now (list .entry)) (now (work .entry)) w) (emitsRest (placeWith root c) p (properties (lookNode (now (t .entry)) (c .left) p .value)) (sourceOf (now (t .entry)) b)) → Does (goingOf (now (out .entry)) (now (list .entry)) (now (work .entry)) w) (goingOf (now (out .exit)) (now (list .exit)) (now (work .exit)) r) (emitsRest (placeWith root c) p (properties (lookNode (now (t .entry)) (c .left) p .value)) (sourceOf (now (t .entry)) b))) ⌝ }
 {
     if w.passes(true) {
         return w;
@@ -594,7 +605,7 @@ fn rest(
         return source(u, t, out, list, work, b);
     }
     let u = source(w.call(out, 4, 2), t, out, list, work, b);
-    read(u, t, out, list, work, inside(c, c.left), p)
+    read(u, t, out, list, work, inside(c, c.left), root, p)
 }
 
 // The keys that are left out: a temporary, their array, or that array mapped by the helper.
@@ -605,18 +616,19 @@ fn read(
     list: &mut [u8],
     work: &mut [u8],
     c: Place,
+    root: bool,
     p: usize,
 ) -> Walk
-    ensures { λ r. ⌜ (r .at ≡ w .at) × (Good (now (t .entry)) (c .left) p → byteAt (now (t .entry)) p ≡ 34 → Does (goingOf (now (out .entry)) (now (list .entry)) (now (work .entry)) w) (goingOf (now (out .exit)) (now (list .exit)) (now (work .exit)) r) (emitsKeysRead (placeOf c) p (properties (lookNode (now (t .entry)) (c .left) p .value)))) ⌝ }
+    ensures { λ r. ⌜ (r .at ≡ w .at) × (Good (now (t .entry)) (c .left) p → byteAt (now (t .entry)) p ≡ 34 → Does (goingOf (now (out .entry)) (now (list .entry)) (now (work .entry)) w) (goingOf (now (out .exit)) (now (list .exit)) (now (work .exit)) r) (emitsKeysRead (placeWith root c) p (properties (lookNode (now (t .entry)) (c .left) p .value)))) ⌝ }
 {
-    if hoisted(t, c.left, c.root, p) {
+    if hoisted(t, c.left, root, p) {
         return w.temporary(out, list, work, cell(2, p), 2);
     }
     if all_primitive(t, c.left, p) {
-        return keys(w, t, out, list, work, c, p);
+        return keys(w, t, out, list, work, c, root, p);
     }
     let u = w.put2(out, 29, 3).put2(out, 30, 3);
-    keys(u, t, out, list, work, c, p).mapped(out)
+    keys(u, t, out, list, work, c, root, p).mapped(out)
 }
 
 fn keys(
@@ -626,9 +638,10 @@ fn keys(
     list: &mut [u8],
     work: &mut [u8],
     c: Place,
+    root: bool,
     p: usize,
 ) -> Walk
-    ensures { λ r. ⌜ (r .at ≡ w .at) × (Good (now (t .entry)) (c .left) p → byteAt (now (t .entry)) p ≡ 34 → Does (goingOf (now (out .entry)) (now (list .entry)) (now (work .entry)) w) (goingOf (now (out .exit)) (now (list .exit)) (now (work .exit)) r) (emitsKeys (placeOf c) (properties (lookNode (now (t .entry)) (c .left) p .value)))) ⌝ }
+    ensures { λ r. ⌜ (r .at ≡ w .at) × (Good (now (t .entry)) (c .left) p → byteAt (now (t .entry)) p ≡ 34 → Does (goingOf (now (out .entry)) (now (list .entry)) (now (work .entry)) w) (goingOf (now (out .exit)) (now (list .exit)) (now (work .exit)) r) (emitsKeys (placeWith root c) (properties (lookNode (now (t .entry)) (c .left) p .value)))) ⌝ }
 {
     if c.left == 0 {
         return w;
@@ -638,7 +651,18 @@ fn keys(
     let n = wide_at(t, q);
     let k = excluded_keys(t, c.left, p);
     let u = w.put2(out, 32, 1).wide(out, k).to(step(t, q, 2));
-    seq(u, t, out, list, work, under(c, less(c.left)), 6, false, n).to(at)
+    seq(
+        u,
+        t,
+        out,
+        list,
+        work,
+        told_under(c, root, less(c.left)),
+        root,
+        6,
+        false,
+        n,
+    ).to(at)
 }
 
 // The key of a property among them.
@@ -683,21 +707,22 @@ fn deep(
     list: &mut [u8],
     work: &mut [u8],
     c: Place,
+    root: bool,
     mode: usize,
 ) -> Walk
-    ensures { λ r. ⌜ (Good (now (t .entry)) (c .left) (w .at) → deepMode mode ≡ true → suits mode (lookNode (now (t .entry)) (c .left) (w .at) .value) ≡ true → (r .at ≡ lookNode (now (t .entry)) (c .left) (w .at) .next) × Does (goingOf (now (out .entry)) (now (list .entry)) (now (work .entry)) w) (goingOf (now (out .exit)) (now (list .exit)) (now (work .exit)) r) (turnOf mode (placeOf c) (lookNode (now (t .entry)) (c .left) (w .at) .value))) ⌝ }
+    ensures { λ r. ⌜ (Good (now (t .entry)) (c .left) (w .at) → deepMode mode ≡ true → suits mode (lookNode (now (t .entry)) (c .left) (w .at) .value) ≡ true → (r .at ≡ lookNode (now (t .entry)) (c .left) (w .at) .next) × Does (goingOf (now (out .entry)) (now (list .entry)) (now (work .entry)) w) (goingOf (now (out .exit)) (now (list .exit)) (now (work .exit)) r) (turnOf mode (placeWith root c) (lookNode (now (t .entry)) (c .left) (w .at) .value))) ⌝ }
 {
     if c.left == 0 {
         return w;
     }
     let kind = peek(t, w.at);
     match kind {
-        34 => db(w, t, out, list, work, c, mode),
-        36 => da(w, t, out, list, work, c, mode),
+        34 => db(w, t, out, list, work, c, root, mode),
+        36 => da(w, t, out, list, work, c, root, mode),
         37 => {
             let left = less(c.left);
             let u = w.to(step(t, w.at, 2));
-            let u = deep(u, t, out, list, work, under(c, left), mode);
+            let u = deep(u, t, out, list, work, under(c, left), root, mode);
             u.to(skip(t, left, u.at))
         }
         _ => w.to(skip(t, c.left, w.at)),
@@ -712,15 +737,16 @@ fn db(
     list: &mut [u8],
     work: &mut [u8],
     c: Place,
+    root: bool,
     mode: usize,
 ) -> Walk
-    ensures { λ r. ⌜ (byteAt (now (t .entry)) (w .at) ≡ 34 → (Good (now (t .entry)) (c .left) (w .at) → deepMode mode ≡ true → suits mode (lookNode (now (t .entry)) (c .left) (w .at) .value) ≡ true → (r .at ≡ lookNode (now (t .entry)) (c .left) (w .at) .next) × Does (goingOf (now (out .entry)) (now (list .entry)) (now (work .entry)) w) (goingOf (now (out .exit)) (now (list .exit)) (now (work .exit)) r) (turnOf mode (placeOf c) (lookNode (now (t .entry)) (c .left) (w .at) .value)))) ⌝ }
+    ensures { λ r. ⌜ (byteAt (now (t .entry)) (w .at) ≡ 34 → (Good (now (t .entry)) (c .left) (w .at) → deepMode mode ≡ true → suits mode (lookNode (now (t .entry)) (c .left) (w .at) .value) ≡ true → (r .at ≡ lookNode (now (t .entry)) (c .left) (w .at) .next) × Does (goingOf (now (out .entry)) (now (list .entry)) (now (work .entry)) w) (goingOf (now (out .exit)) (now (list .exit)) (now (work .exit)) r) (turnOf mode (placeWith root c) (lookNode (now (t .entry)) (c .left) (w .at) .value)))) ⌝ }
 {
     if c.left == 0 {
         return w;
     }
     if mode == 8 {
-        return fb(w, t, out, list, work, c);
+        return fb(w, t, out, list, work, c, root);
     }
     let p = w.at;
     if has_second(t, p) {
@@ -735,18 +761,27 @@ fn db(
             list,
             work,
             inside(c, c.left),
+            root,
             p,
             false,
             1,
             cell(1, p),
         ).to(end);
     }
-    pr(w, t, out, list, work, c, p, value_mode(mode))
+    pr(w, t, out, list, work, c, root, p, value_mode(mode))
 }
 
 // The declarators of an object with rest, then those of its values.
-fn fb(w: Walk, t: &[u8], out: &mut [u8], list: &mut [u8], work: &mut [u8], c: Place) -> Walk
-    ensures { λ r. ⌜ (byteAt (now (t .entry)) (w .at) ≡ 34 → Emitted (now (t .entry)) (c .left) (w .at) (r .at) (goingOf (now (out .entry)) (now (list .entry)) (now (work .entry)) w) (goingOf (now (out .exit)) (now (list .exit)) (now (work .exit)) r) (emitsFound (placeOf c))) ⌝ }
+fn fb(
+    w: Walk,
+    t: &[u8],
+    out: &mut [u8],
+    list: &mut [u8],
+    work: &mut [u8],
+    c: Place,
+    root: bool,
+) -> Walk
+    ensures { λ r. ⌜ (byteAt (now (t .entry)) (w .at) ≡ 34 → Emitted (now (t .entry)) (c .left) (w .at) (r .at) (goingOf (now (out .entry)) (now (list .entry)) (now (work .entry)) w) (goingOf (now (out .exit)) (now (list .exit)) (now (work .exit)) r) (emitsFound (placeWith root c))) ⌝ }
 {
     if c.left == 0 {
         return w;
@@ -757,12 +792,34 @@ fn fb(w: Walk, t: &[u8], out: &mut [u8], list: &mut [u8], work: &mut [u8], c: Pl
     let n = wide_at(t, q);
     let first = step(t, q, 2);
     if has_second(t, p) {
-        let u = own(w, t, out, list, work, c, cell_source(cell(1, p), 1));
-        let u = os(u, t, out, list, work, c, cell_source(cell(1, p), 1));
-        let u = seq(u.to(first), t, out, list, work, under(c, left), 9, false, n);
+        let u = own(w, t, out, list, work, c, root, cell_source(cell(1, p), 1));
+        let u = os(u, t, out, list, work, c, root, cell_source(cell(1, p), 1));
+        let u = seq(
+            u.to(first),
+            t,
+            out,
+            list,
+            work,
+            under(c, left),
+            root,
+            9,
+            false,
+            n,
+        );
         return u.to(skip(t, left, u.at));
     }
-    seq(w.to(first), t, out, list, work, under(c, left), 9, false, n)
+    seq(
+        w.to(first),
+        t,
+        out,
+        list,
+        work,
+        under(c, left),
+        root,
+        9,
+        false,
+        n,
+    )
 }
 
 fn da(
@@ -772,9 +829,10 @@ fn da(
     list: &mut [u8],
     work: &mut [u8],
     c: Place,
+    root: bool,
     mode: usize,
 ) -> Walk
-    ensures { λ r. ⌜ (byteAt (now (t .entry)) (w .at) ≡ 36 → (Good (now (t .entry)) (c .left) (w .at) → deepMode mode ≡ true → suits mode (lookNode (now (t .entry)) (c .left) (w .at) .value) ≡ true → (r .at ≡ lookNode (now (t .entry)) (c .left) (w .at) .next) × Does (goingOf (now (out .entry)) (now (list .entry)) (now (work .entry)) w) (goingOf (now (out .exit)) (now (list .exit)) (now (work .exit)) r) (turnOf mode (placeOf c) (lookNode (now (t .entry)) (c .left) (w .at) .value)))) ⌝ }
+    ensures { λ r. ⌜ (byteAt (now (t .entry)) (w .at) ≡ 36 → (Good (now (t .entry)) (c .left) (w .at) → deepMode mode ≡ true → suits mode (lookNode (now (t .entry)) (c .left) (w .at) .value) ≡ true → (r .at ≡ lookNode (now (t .entry)) (c .left) (w .at) .next) × Does (goingOf (now (out .entry)) (now (list .entry)) (now (work .entry)) w) (goingOf (now (out .exit)) (now (list .exit)) (now (work .exit)) r) (turnOf mode (placeWith root c) (lookNode (now (t .entry)) (c .left) (w .at) .value)))) ⌝ }
 {
     if c.left == 0 {
         return w;
@@ -792,6 +850,7 @@ fn da(
         list,
         work,
         under(c, less(c.left)),
+        root,
         item_mode(mode),
         true,
         n,
@@ -806,13 +865,14 @@ fn vl(
     list: &mut [u8],
     work: &mut [u8],
     c: Place,
+    root: bool,
     mode: usize,
 ) -> Walk
-    ensures { λ r. ⌜ (byteAt (now (t .entry)) (w .at) ≡ 35 → Good (now (t .entry)) (c .left) (w .at) → deepMode mode ≡ true → suits mode (value (lookNode (now (t .entry)) (c .left) (w .at) .value)) ≡ true → (r .at ≡ lookNode (now (t .entry)) (c .left) (w .at) .next) × Does (goingOf (now (out .entry)) (now (list .entry)) (now (work .entry)) w) (goingOf (now (out .exit)) (now (list .exit)) (now (work .exit)) r) (turnOf mode (placeOf c) (value (lookNode (now (t .entry)) (c .left) (w .at) .value)))) ⌝ }
+    ensures { λ r. ⌜ (byteAt (now (t .entry)) (w .at) ≡ 35 → Good (now (t .entry)) (c .left) (w .at) → deepMode mode ≡ true → suits mode (value (lookNode (now (t .entry)) (c .left) (w .at) .value)) ≡ true → (r .at ≡ lookNode (now (t .entry)) (c .left) (w .at) .next) × Does (goingOf (now (out .entry)) (now (list .entry)) (now (work .entry)) w) (goingOf (now (out .exit)) (now (list .exit)) (now (work .exit)) r) (turnOf mode (placeWith root c) (value (lookNode (now (t .entry)) (c .left) (w .at) .value)))) ⌝ }
 {
     let left = less(c.left);
     let v = skip(t, left, step(t, w.at, 2));
-    let u = deep(w.to(v), t, out, list, work, under(c, left), mode);
+    let u = deep(w.to(v), t, out, list, work, under(c, left), root, mode);
     u.to(step(t, u.at, 1))
 }
 
@@ -822,6 +882,7 @@ fn vl(
 fn decl(w: Walk, t: &[u8], out: &mut [u8], list: &mut [u8], work: &mut [u8], c: Place) -> Walk
     ensures { λ r. ⌜ (byteAt (now (t .entry)) (w .at) ≡ 4 → Ruled (now (t .entry)) (c .left) (w .at) (r .at) (goingOf (now (out .entry)) (now (list .entry)) (now (work .entry)) w) (goingOf (now (out .exit)) (now (list .exit)) (now (work .exit)) r) (emits (placeOf c))) ⌝ }
 {
+    let root = at_root(c);
     if c.left == 0 {
         return w;
     }
@@ -829,7 +890,7 @@ fn decl(w: Walk, t: &[u8], out: &mut [u8], list: &mut [u8], work: &mut [u8], c: 
     if declaration_lacks_form(t, c.left, p) {
         return w.refuse(out, 6).to(skip(t, c.left, p));
     }
-    let u = declaration_hands(w, t, list, work, c.left, p, c.root);
+    let u = declaration_hands(w, t, list, work, c.left, p, root);
     let q = step(t, p, 5);
     let k = declaration_becomes(t, c.left, p);
     let u = u.copy(t, out, q).wide(out, k).to(step(t, q, 2));
@@ -841,6 +902,7 @@ fn decl(w: Walk, t: &[u8], out: &mut [u8], list: &mut [u8], work: &mut [u8], c: 
         list,
         work,
         under(c, less(c.left)),
+        root,
         10,
         false,
         wide_at(t, q),
@@ -848,21 +910,29 @@ fn decl(w: Walk, t: &[u8], out: &mut [u8], list: &mut [u8], work: &mut [u8], c: 
 }
 
 // A declarator: as it stands without a starting value or an object rest.
-fn dr(w: Walk, t: &[u8], out: &mut [u8], list: &mut [u8], work: &mut [u8], c: Place) -> Walk
-    ensures { λ r. ⌜ (byteAt (now (t .entry)) (w .at) ≡ 5 → Emitted (now (t .entry)) (c .left) (w .at) (r .at) (goingOf (now (out .entry)) (now (list .entry)) (now (work .entry)) w) (goingOf (now (out .exit)) (now (list .exit)) (now (work .exit)) r) (emitsDeclarator (placeOf c))) ⌝ }
+fn dr(
+    w: Walk,
+    t: &[u8],
+    out: &mut [u8],
+    list: &mut [u8],
+    work: &mut [u8],
+    c: Place,
+    root: bool,
+) -> Walk
+    ensures { λ r. ⌜ (byteAt (now (t .entry)) (w .at) ≡ 5 → Emitted (now (t .entry)) (c .left) (w .at) (r .at) (goingOf (now (out .entry)) (now (list .entry)) (now (work .entry)) w) (goingOf (now (out .exit)) (now (list .exit)) (now (work .exit)) r) (emitsDeclarator (placeWith root c))) ⌝ }
 {
     let p = w.at;
     let left = less(c.left);
     let id = step(t, p, 2);
     let Start::Value(init) = start_of(t, c.left, p) else {
-        return node(w, t, out, list, work, inside(c, c.left));
+        return node(w, t, out, list, work, told_inside(c, root, c.left));
     };
     if has_nested_object_rest(t, left, id) {
         let end = skip(t, left, init);
         let b = ReferenceBuilder::new(t, left, init, cell(3, id), 3, false);
-        return lo(w, t, out, list, work, under(c, left), id, init, b).to(end);
+        return lo(w, t, out, list, work, under(c, left), root, id, init, b).to(end);
     }
-    node(w, t, out, list, work, inside(c, c.left))
+    node(w, t, out, list, work, told_inside(c, root, c.left))
 }
 
 // A value that is no name goes into a temporary first.
@@ -873,21 +943,22 @@ fn lo(
     list: &mut [u8],
     work: &mut [u8],
     c: Place,
+    root: bool,
     id: usize,
     init: usize,
     b: ReferenceBuilder,
 ) -> Walk
-    ensures { λ r. ⌜ (b ≡ builderOf (now (t .entry)) (c .left) init (events.cell 3 id) 3 false → Good (now (t .entry)) (c .left) id → Good (now (t .entry)) (c .left) init → Does (goingOf (now (out .entry)) (now (list .entry)) (now (work .entry)) w) (goingOf (now (out .exit)) (now (list .exit)) (now (work .exit)) r) (emitsLowered (placeOf c) (lookNode (now (t .entry)) (c .left) id .value) (lookNode (now (t .entry)) (c .left) init .value))) ⌝ }
+    ensures { λ r. ⌜ (b ≡ builderOf (now (t .entry)) (c .left) init (events.cell 3 id) 3 false → Good (now (t .entry)) (c .left) id → Good (now (t .entry)) (c .left) init → Does (goingOf (now (out .entry)) (now (list .entry)) (now (work .entry)) w) (goingOf (now (out .exit)) (now (list .exit)) (now (work .exit)) r) (emitsLowered (placeWith root c) (lookNode (now (t .entry)) (c .left) id .value) (lookNode (now (t .entry)) (c .left) init .value))) ⌝ }
 {
     if b.wanted {
         let u = w.put2(out, 5, 3)
             .temporary(out, list, work, b.cell, b.stem)
             .to(init);
-        let u = node(u, t, out, list, work, inside(c, c.left));
+        let u = node(u, t, out, list, work, told_inside(c, root, c.left));
         let taken = b.create_read_expression();
-        return pa(u.to(id), t, out, list, work, c, taken.next);
+        return pa(u.to(id), t, out, list, work, c, root, taken.next);
     }
-    pa(w.to(id), t, out, list, work, c, b)
+    pa(w.to(id), t, out, list, work, c, root, b)
 }
 
 // The declarators of a pattern, read from b.
@@ -898,9 +969,10 @@ fn pa(
     list: &mut [u8],
     work: &mut [u8],
     c: Place,
+    root: bool,
     b: ReferenceBuilder,
 ) -> Walk
-    ensures { λ r. ⌜ Done (now (t .entry)) (c .left) (w .at) (goingOf (now (out .entry)) (now (list .entry)) (now (work .entry)) w) (goingOf (now (out .exit)) (now (list .exit)) (now (work .exit)) r) (λ n. emitsPattern (placeOf c) n (sourceOf (now (t .entry)) b)) ⌝ }
+    ensures { λ r. ⌜ Done (now (t .entry)) (c .left) (w .at) (goingOf (now (out .entry)) (now (list .entry)) (now (work .entry)) w) (goingOf (now (out .exit)) (now (list .exit)) (now (work .exit)) r) (λ n. emitsPattern (placeWith root c) n (sourceOf (now (t .entry)) b)) ⌝ }
 {
     if c.left == 0 {
         return w;
@@ -911,15 +983,34 @@ fn pa(
             let p = w.at;
             let q = step(t, p, 2);
             let n = wide_at(t, q);
-            let u = own(w, t, out, list, work, c, b).to(step(t, q, 2));
-            let u = seq(u, t, out, list, work, under(c, less(c.left)), 9, false, n).to(p);
-            os(u, t, out, list, work, c, b)
+            let u = own(w, t, out, list, work, c, root, b).to(step(t, q, 2));
+            let u = seq(
+                u,
+                t,
+                out,
+                list,
+                work,
+                under(c, less(c.left)),
+                root,
+                9,
+                false,
+                n,
+            ).to(p);
+            os(u, t, out, list, work, c, root, b)
         }
         36 => {
             let p = w.at;
-            let u = view(w.put2(out, 5, 3), t, out, list, work, inside(c, c.left), 1);
+            let u = view(
+                w.put2(out, 5, 3),
+                t,
+                out,
+                list,
+                work,
+                told_inside(c, root, c.left),
+                1,
+            );
             let u = source(u, t, out, list, work, b).to(p);
-            deep(u, t, out, list, work, c, 8)
+            deep(u, t, out, list, work, c, root, 8)
         }
         _ => w,
     }
@@ -933,9 +1024,10 @@ fn own(
     list: &mut [u8],
     work: &mut [u8],
     c: Place,
+    root: bool,
     b: ReferenceBuilder,
 ) -> Walk
-    ensures { λ r. ⌜ (r .at ≡ w .at) × (byteAt (now (t .entry)) (w .at) ≡ 34 → Good (now (t .entry)) (c .left) (w .at) → Does (goingOf (now (out .entry)) (now (list .entry)) (now (work .entry)) w) (goingOf (now (out .exit)) (now (list .exit)) (now (work .exit)) r) (emitsOwnKeys (placeOf c) (lookNode (now (t .entry)) (c .left) (w .at) .value) ▷ emitsOwnPattern (placeOf c) (lookNode (now (t .entry)) (c .left) (w .at) .value) (sourceOf (now (t .entry)) b))) ⌝ }
+    ensures { λ r. ⌜ (r .at ≡ w .at) × (byteAt (now (t .entry)) (w .at) ≡ 34 → Good (now (t .entry)) (c .left) (w .at) → Does (goingOf (now (out .entry)) (now (list .entry)) (now (work .entry)) w) (goingOf (now (out .exit)) (now (list .exit)) (now (work .exit)) r) (emitsOwnKeys (placeWith root c) (lookNode (now (t .entry)) (c .left) (w .at) .value) ▷ emitsOwnPattern (placeWith root c) (lookNode (now (t .entry)) (c .left) (w .at) .value) (sourceOf (now (t .entry)) b))) ⌝ }
 {
     if c.left == 0 {
         return w;
@@ -950,14 +1042,15 @@ fn own(
             out,
             list,
             work,
-            inside(c, less(c.left)),
+            told_inside(c, root, less(c.left)),
+            root,
             7,
             false,
             n,
         );
-        return oa(u.to(p), t, out, list, work, c, b);
+        return oa(u.to(p), t, out, list, work, c, root, b);
     }
-    oa(w, t, out, list, work, c, b)
+    oa(w, t, out, list, work, c, root, b)
 }
 
 fn oa(
@@ -967,15 +1060,24 @@ fn oa(
     list: &mut [u8],
     work: &mut [u8],
     c: Place,
+    root: bool,
     b: ReferenceBuilder,
 ) -> Walk
-    ensures { λ r. ⌜ (r .at ≡ w .at) × (byteAt (now (t .entry)) (w .at) ≡ 34 → Good (now (t .entry)) (c .left) (w .at) → Does (goingOf (now (out .entry)) (now (list .entry)) (now (work .entry)) w) (goingOf (now (out .exit)) (now (list .exit)) (now (work .exit)) r) (emitsOwnPattern (placeOf c) (lookNode (now (t .entry)) (c .left) (w .at) .value) (sourceOf (now (t .entry)) b))) ⌝ }
+    ensures { λ r. ⌜ (r .at ≡ w .at) × (byteAt (now (t .entry)) (w .at) ≡ 34 → Good (now (t .entry)) (c .left) (w .at) → Does (goingOf (now (out .entry)) (now (list .entry)) (now (work .entry)) w) (goingOf (now (out .exit)) (now (list .exit)) (now (work .exit)) r) (emitsOwnPattern (placeWith root c) (lookNode (now (t .entry)) (c .left) (w .at) .value) (sourceOf (now (t .entry)) b))) ⌝ }
 {
     let p = w.at;
     if has_no_properties(t, c.left, p) {
         return w;
     }
-    let u = view(w.put2(out, 5, 3), t, out, list, work, inside(c, c.left), 2);
+    let u = view(
+        w.put2(out, 5, 3),
+        t,
+        out,
+        list,
+        work,
+        told_inside(c, root, c.left),
+        2,
+    );
     source(u, t, out, list, work, b).to(p)
 }
 
@@ -987,17 +1089,25 @@ fn os(
     list: &mut [u8],
     work: &mut [u8],
     c: Place,
+    root: bool,
     b: ReferenceBuilder,
 ) -> Walk
-    ensures { λ r. ⌜ (r .at ≡ w .at) × (byteAt (now (t .entry)) (w .at) ≡ 34 → Good (now (t .entry)) (c .left) (w .at) → Clear (goingOf (now (out .entry)) (now (list .entry)) (now (work .entry)) w) (emitsOwnKeys (placeOf c) (lookNode (now (t .entry)) (c .left) (w .at) .value) ▷ emitsOwnPattern (placeOf c) (lookNode (now (t .entry)) (c .left) (w .at) .value) (sourceOf (now (t .entry)) b)) → Does (goingOf (now (out .entry)) (now (list .entry)) (now (work .entry)) w) (goingOf (now (out .exit)) (now (list .exit)) (now (work .exit)) r) (emitsOwnRest (placeOf c) (lookNode (now (t .entry)) (c .left) (w .at) .value) (sourceOf (now (t .entry)) b))) ⌝ }
+    ensures { λ r. ⌜ (r .at ≡ w .at) × (byteAt (now (t .entry)) (w .at) ≡ 34 → Good (now (t .entry)) (c .left) (w .at) → Clear (goingOf (now (out .entry)) (now (list .entry)) (now (work .entry)) w) (emitsOwnKeys (placeWith root c) (lookNode (now (t .entry)) (c .left) (w .at) .value) ▷ emitsOwnPattern (placeWith root c) (lookNode (now (t .entry)) (c .left) (w .at) .value) (sourceOf (now (t .entry)) b)) → Does (goingOf (now (out .entry)) (now (list .entry)) (now (work .entry)) w) (goingOf (now (out .exit)) (now (list .exit)) (now (work .exit)) r) (emitsOwnRest (placeWith root c) (lookNode (now (t .entry)) (c .left) (w .at) .value) (sourceOf (now (t .entry)) b))) ⌝ }
 {
     let p = w.at;
     if has_second(t, p) {
         let left = less(c.left);
         let q = step(t, p, 2);
         let r = skip_items(t, false, wide_at(t, q), left, step(t, q, 2));
-        let u = node(w.put2(out, 5, 3).to(r), t, out, list, work, inside(c, left));
-        return rest(u, t, out, list, work, inside(c, c.left), p, b).to(p);
+        let u = node(
+            w.put2(out, 5, 3).to(r),
+            t,
+            out,
+            list,
+            work,
+            told_inside(c, root, left),
+        );
+        return rest(u, t, out, list, work, inside(c, c.left), root, p, b).to(p);
     }
     w
 }
@@ -1008,6 +1118,7 @@ fn os(
 fn ag(w: Walk, t: &[u8], out: &mut [u8], list: &mut [u8], work: &mut [u8], c: Place) -> Walk
     ensures { λ r. ⌜ (byteAt (now (t .entry)) (w .at) ≡ 27 → Ruled (now (t .entry)) (c .left) (w .at) (r .at) (goingOf (now (out .entry)) (now (list .entry)) (now (work .entry)) w) (goingOf (now (out .exit)) (now (list .exit)) (now (work .exit)) r) (emits (placeOf c))) ⌝ }
 {
+    let root = at_root(c);
     let p = w.at;
     let left = less(c.left);
     let q = step(t, p, 3);
@@ -1017,7 +1128,11 @@ fn ag(w: Walk, t: &[u8], out: &mut [u8], list: &mut [u8], work: &mut [u8], c: Pl
     if has_nested_object_rest(t, left, q) {
         let v = skip(t, left, q);
         let op = peek(t, step(t, p, 2));
-        return an(w, t, out, list, work, under(c, left), op, q, true, v).to(skip(t, c.left, p));
+        return an(w, t, out, list, work, under(c, left), root, op, q, true, v).to(skip(
+            t,
+            c.left,
+            p,
+        ));
     }
     plain(w, t, out, list, work, c)
 }
@@ -1031,19 +1146,20 @@ fn an(
     list: &mut [u8],
     work: &mut [u8],
     c: Place,
+    root: bool,
     op: usize,
     p: usize,
     input: bool,
     x: usize,
 ) -> Walk
-    ensures { λ r. ⌜ (Good (now (t .entry)) (c .left) p → (input ≡ true → Good (now (t .entry)) (c .left) x) → hasArrayRestOverObjectRest (lookNode (now (t .entry)) (c .left) p .value) ≡ false → hasObjectRest (lookNode (now (t .entry)) (c .left) p .value) ≡ true → op < 256 → Does (goingOf (now (out .entry)) (now (list .entry)) (now (work .entry)) w) (goingOf (now (out .exit)) (now (list .exit)) (now (work .exit)) r) (emits (placeOf c) (assignmentAt 0 op (lookNode (now (t .entry)) (c .left) p .value) (givenNode (now (t .entry)) (c .left) input x)))) ⌝ }
+    ensures { λ r. ⌜ (Good (now (t .entry)) (c .left) p → (input ≡ true → Good (now (t .entry)) (c .left) x) → hasArrayRestOverObjectRest (lookNode (now (t .entry)) (c .left) p .value) ≡ false → hasObjectRest (lookNode (now (t .entry)) (c .left) p .value) ≡ true → op < 256 → Does (goingOf (now (out .entry)) (now (list .entry)) (now (work .entry)) w) (goingOf (now (out .exit)) (now (list .exit)) (now (work .exit)) r) (emits (placeWith root c) (assignmentAt 0 op (lookNode (now (t .entry)) (c .left) p .value) (givenNode (now (t .entry)) (c .left) input x)))) ⌝ }
 {
     if peek(t, p) == 34 {
         if has_second(t, p) {
-            return top(w, t, out, list, work, c, p, input, 1, x);
+            return top(w, t, out, list, work, c, root, p, input, 1, x);
         }
     }
-    ns(w, t, out, list, work, c, 1, op, p, input, 1, x)
+    ns(w, t, out, list, work, c, root, 1, op, p, input, 1, x)
 }
 
 // The target is an object with rest: of an assignment, or of an object's own, from the temporary in its place.
@@ -1054,35 +1170,46 @@ fn top(
     list: &mut [u8],
     work: &mut [u8],
     c: Place,
+    root: bool,
     p: usize,
     input: bool,
     stem: u8,
     x: usize,
 ) -> Walk
-    ensures { λ r. ⌜ (byteAt (now (t .entry)) p ≡ 34 → hasRest (lookNode (now (t .entry)) (c .left) p .value) ≡ true → Good (now (t .entry)) (c .left) p → (input ≡ true → Good (now (t .entry)) (c .left) x) → hasArrayRestOverObjectRest (lookNode (now (t .entry)) (c .left) p .value) ≡ false → Does (goingOf (now (out .entry)) (now (list .entry)) (now (work .entry)) w) (goingOf (now (out .exit)) (now (list .exit)) (now (work .exit)) r) (cond (anyLacksForm (lookNode (now (t .entry)) (c .left) p .value)) (say (refuses 6 ∷ puts (0 ∷ 0 ∷ []))) (emitsTop (placeOf c) (lookNode (now (t .entry)) (c .left) p .value) (givenDeeds (now (t .entry)) (c .left) (inner (placeOf c)) input stem x)))) ⌝ }
+    ensures { λ r. ⌜ (byteAt (now (t .entry)) p ≡ 34 → hasRest (lookNode (now (t .entry)) (c .left) p .value) ≡ true → Good (now (t .entry)) (c .left) p → (input ≡ true → Good (now (t .entry)) (c .left) x) → hasArrayRestOverObjectRest (lookNode (now (t .entry)) (c .left) p .value) ≡ false → Does (goingOf (now (out .entry)) (now (list .entry)) (now (work .entry)) w) (goingOf (now (out .exit)) (now (list .exit)) (now (work .exit)) r) (cond (anyLacksForm (lookNode (now (t .entry)) (c .left) p .value)) (say (refuses 6 ∷ puts (0 ∷ 0 ∷ []))) (emitsTop (placeWith root c) (lookNode (now (t .entry)) (c .left) p .value) (givenDeeds (now (t .entry)) (c .left) (inner (placeWith root c)) input stem x)))) ⌝ }
 {
     if lacks_form(t, c.left, p) {
         return w.refuse(out, 6);
     }
-    let d = inside(c, c.left);
-    let u = top_hands(w, t, list, work, c.left, p, c.root, c.mark);
+    let d = told_inside(c, root, c.left);
+    let u = top_hands(w, t, list, work, c.left, p, root, c.mark);
     let k = top_count(t, c.left, p, c.statement);
     let u = u.put2(out, 28, 1)
         .wide(out, k)
         .assign(out, 1)
         .temporary(out, list, work, cell(3, p), 3);
     let u = gv(u, t, out, list, work, d, input, stem, x);
-    let u = tg(u, t, out, list, work, c, p);
-    let u = pr(u, t, out, list, work, c, p, 15);
+    let u = tg(u, t, out, list, work, c, root, p);
+    let u = pr(u, t, out, list, work, c, root, p, 15);
     let u = node(
         u.assign(out, 1),
         t,
         out,
         list,
         work,
-        inside(c, less(c.left)),
+        told_inside(c, root, less(c.left)),
     );
-    let u = rest(u, t, out, list, work, d, p, cell_source(cell(3, p), 3));
+    let u = rest(
+        u,
+        t,
+        out,
+        list,
+        work,
+        d,
+        root,
+        p,
+        cell_source(cell(3, p), 3),
+    );
     if c.statement {
         return u;
     }
@@ -1117,13 +1244,15 @@ fn tg(
     list: &mut [u8],
     work: &mut [u8],
     c: Place,
+    root: bool,
     p: usize,
 ) -> Walk
-    ensures { λ r. ⌜ (byteAt (now (t .entry)) p ≡ 34 → Good (now (t .entry)) (c .left) p → hasArrayRestOverObjectRest (lookNode (now (t .entry)) (c .left) p .value) ≡ false → Does (goingOf (now (out .entry)) (now (list .entry)) (now (work .entry)) w) (goingOf (now (out .exit)) (now (list .exit)) (now (work .exit)) r) (emitsTarget (placeOf c) (lookNode (now (t .entry)) (c .left) p .value))) ⌝ }
+    ensures { λ r. ⌜ (byteAt (now (t .entry)) p ≡ 34 → Good (now (t .entry)) (c .left) p → hasArrayRestOverObjectRest (lookNode (now (t .entry)) (c .left) p .value) ≡ false → Does (goingOf (now (out .entry)) (now (list .entry)) (now (work .entry)) w) (goingOf (now (out .exit)) (now (list .exit)) (now (work .exit)) r) (emitsTarget (placeWith root c) (lookNode (now (t .entry)) (c .left) p .value))) ⌝ }
 {
-    let d = inside(c, c.left);
+    let d = told_inside(c, root, c.left);
     if 0 < object_count(t, c.left, p, 3) {
-        return ns(w, t, out, list, work, d, 2, 1, p, false, 3, cell(3, p));
+        let x = cell(3, p);
+        return ns(w, t, out, list, work, d, root, 2, 1, p, false, 3, x);
     }
     let u = view(w.assign(out, 1).to(p), t, out, list, work, d, 2);
     u.temporary(out, list, work, cell(3, p), 3)
@@ -1137,6 +1266,7 @@ fn ns(
     list: &mut [u8],
     work: &mut [u8],
     c: Place,
+    root: bool,
     v: usize,
     op: usize,
     p: usize,
@@ -1144,7 +1274,7 @@ fn ns(
     stem: u8,
     x: usize,
 ) -> Walk
-    ensures { λ r. ⌜ ((v ≡ 2 → byteAt (now (t .entry)) p ≡ 34) → Good (now (t .entry)) (c .left) p → (input ≡ true → Good (now (t .entry)) (c .left) x) → hasArrayRestOverObjectRest (lookNode (now (t .entry)) (c .left) p .value) ≡ false → op < 256 → Does (goingOf (now (out .entry)) (now (list .entry)) (now (work .entry)) w) (goingOf (now (out .exit)) (now (list .exit)) (now (work .exit)) r) (emitsNest (placeOf c) (viewOf v) op (lookNode (now (t .entry)) (c .left) p .value) (givenDeeds (now (t .entry)) (c .left) (inner (placeOf c)) input stem x))) ⌝ }
+    ensures { λ r. ⌜ ((v ≡ 2 → byteAt (now (t .entry)) p ≡ 34) → Good (now (t .entry)) (c .left) p → (input ≡ true → Good (now (t .entry)) (c .left) x) → hasArrayRestOverObjectRest (lookNode (now (t .entry)) (c .left) p .value) ≡ false → op < 256 → Does (goingOf (now (out .entry)) (now (list .entry)) (now (work .entry)) w) (goingOf (now (out .exit)) (now (list .exit)) (now (work .exit)) r) (emitsNest (placeWith root c) (viewOf v) op (lookNode (now (t .entry)) (c .left) p .value) (givenDeeds (now (t .entry)) (c .left) (inner (placeWith root c)) input stem x))) ⌝ }
 {
     let k = places_in(t, c.left, p, v);
     let u = nested_hands(w, t, list, work, c.left, p, v, c.mark);
@@ -1152,12 +1282,22 @@ fn ns(
         .wide(out, plus(k, 1))
         .assign(out, op)
         .to(p);
-    let u = view(u, t, out, list, work, inside(c, c.left), v);
-    let u = gv(u, t, out, list, work, inside(c, c.left), input, stem, x);
+    let u = view(u, t, out, list, work, told_inside(c, root, c.left), v);
+    let u = gv(
+        u,
+        t,
+        out,
+        list,
+        work,
+        told_inside(c, root, c.left),
+        input,
+        stem,
+        x,
+    );
     if v == 2 {
-        return pr(u, t, out, list, work, c, p, 14);
+        return pr(u, t, out, list, work, c, root, p, 14);
     }
-    deep(u.to(p), t, out, list, work, c, 12)
+    deep(u.to(p), t, out, list, work, c, root, 12)
 }
 
 // The properties of the object at p, by a mode.
@@ -1168,10 +1308,11 @@ fn pr(
     list: &mut [u8],
     work: &mut [u8],
     c: Place,
+    root: bool,
     p: usize,
     mode: usize,
 ) -> Walk
-    ensures { λ r. ⌜ (byteAt (now (t .entry)) p ≡ 34 → Good (now (t .entry)) (c .left) p → AllSuit mode (properties (lookNode (now (t .entry)) (c .left) p .value)) → (r .at ≡ lookItems (now (t .entry)) (lookNode (now (t .entry)) (c .left - 1)) false (wideAt (now (t .entry)) (onward (now (t .entry)) p 2)) (onward (now (t .entry)) (onward (now (t .entry)) p 2) 2) .next) × Does (goingOf (now (out .entry)) (now (list .entry)) (now (work .entry)) w) (goingOf (now (out .exit)) (now (list .exit)) (now (work .exit)) r) (turnsOf mode (placeOf c) (properties (lookNode (now (t .entry)) (c .left) p .value)))) ⌝ }
+    ensures { λ r. ⌜ (isTold mode ≡ true → byteAt (now (t .entry)) p ≡ 34 → Good (now (t .entry)) (c .left) p → AllSuit mode (properties (lookNode (now (t .entry)) (c .left) p .value)) → (r .at ≡ lookItems (now (t .entry)) (lookNode (now (t .entry)) (c .left - 1)) false (wideAt (now (t .entry)) (onward (now (t .entry)) p 2)) (onward (now (t .entry)) (onward (now (t .entry)) p 2) 2) .next) × Does (goingOf (now (out .entry)) (now (list .entry)) (now (work .entry)) w) (goingOf (now (out .exit)) (now (list .exit)) (now (work .exit)) r) (turnsOf mode (placeWith root c) (properties (lookNode (now (t .entry)) (c .left) p .value)))) ⌝ }
 {
     if c.left == 0 {
         return w;
@@ -1185,6 +1326,7 @@ fn pr(
         list,
         work,
         under(c, less(c.left)),
+        root,
         mode,
         false,
         n,
@@ -1233,7 +1375,7 @@ fn go(w: Walk, t: &[u8], out: &mut [u8], list: &mut [u8], work: &mut [u8], c: Pl
             let q = step(t, p, 2);
             let n = wide_at(t, q);
             let u = w.copy(t, out, step(t, q, 2));
-            let u = seq(u, t, out, list, work, inside(c, left), 16, true, n);
+            let u = seq(u, t, out, list, work, inside(c, left), false, 16, true, n);
             if has_second(t, p) {
                 return go(u, t, out, list, work, inside(c, left));
             }
@@ -1333,15 +1475,16 @@ fn add(
 ) -> Walk
     ensures { λ r. ⌜ (placeOf c ≡ emit.scoped (placeOf c) → Good (now (t .entry)) (c .left) p → o < 16384 → Does (goingOf (now (out .entry)) (now (list .entry)) (now (work .entry)) w) (goingOf (now (out .exit)) (now (list .exit)) (now (work .exit)) r) (emitsStatement (placeOf c) (letOf (lookNode (now (t .entry)) (c .left) p .value) (made.temporary [] 1 o)))) ⌝ }
 {
+    let root = at_root(c);
     let d = marked(inside(c, c.left), w.mark());
     if has_nested_object_rest(t, c.left, p) {
         if below_lacks_form(t, c.left, p) {
             return w.refuse(out, 6);
         }
-        let u = pattern_hands(w, t, list, work, c.left, p, c.root);
+        let u = pattern_hands(w, t, list, work, c.left, p, root);
         let k = pattern_declarators(t, c.left, p);
         let u = u.declaration(out, 2, k).to(p);
-        return pa(u, t, out, list, work, d, cell_source(o, 1));
+        return pa(u, t, out, list, work, d, root, cell_source(o, 1));
     }
     let u = w.declaration(out, 2, 1).put2(out, 5, 3).to(p);
     node(u, t, out, list, work, d).temporary(out, list, work, o, 1)
@@ -1487,7 +1630,7 @@ fn fun(w: Walk, t: &[u8], out: &mut [u8], list: &mut [u8], work: &mut [u8], c: P
             let first = step(t, s, 2);
             let u = moves_make(w, t, work, left, first, n).copy(t, out, q);
             let u = slot(u, t, out, list, work, d, 32, bits / 4 % 2, false).copy(t, out, first);
-            let u = seq(u, t, out, list, work, d, 11, false, n);
+            let u = seq(u, t, out, list, work, d, false, 11, false, n);
             let u = slot(u, t, out, list, work, d, 32, bits / 16 % 2, false);
             return body(u, t, out, list, work, d, first, n).to(skip(t, c.left, p));
         }
@@ -1507,7 +1650,7 @@ fn ar(w: Walk, t: &[u8], out: &mut [u8], list: &mut [u8], work: &mut [u8], c: Pl
         let n = wide_at(t, q);
         let first = step(t, q, 2);
         let u = moves_make(w, t, work, left, first, n).copy(t, out, first);
-        let u = seq(u, t, out, list, work, d, 11, false, n);
+        let u = seq(u, t, out, list, work, d, false, 11, false, n);
         let u = slot(u, t, out, list, work, d, 32, second(t, p), false);
         return eb(u, t, out, list, work, d, first, n).to(skip(t, c.left, p));
     }
@@ -1559,7 +1702,7 @@ fn ca(w: Walk, t: &[u8], out: &mut [u8], list: &mut [u8], work: &mut [u8], c: Pl
         if is_moved(t, left, q) {
             let d = scoped(c, left);
             let u = moves_make(w, t, work, left, q, 1).copy(t, out, q);
-            let u = seq(u, t, out, list, work, d, 11, false, 1);
+            let u = seq(u, t, out, list, work, d, false, 11, false, 1);
             return bl(u, t, out, list, work, d, false, q, 1).to(skip(t, c.left, p));
         }
         return plain(w, t, out, list, work, c);
@@ -1603,7 +1746,7 @@ fn dh(w: Walk, t: &[u8], out: &mut [u8], list: &mut [u8], work: &mut [u8], c: Pl
     let n = wide_at(t, s);
     let first = step(t, s, 2);
     let u = moves_make(w, t, work, under, first, n).copy(t, out, first);
-    let u = seq(u, t, out, list, work, scoped(c, under), 11, false, n);
+    let u = seq(u, t, out, list, work, scoped(c, under), false, 11, false, n);
     let u = node(u, t, out, list, work, scoped(c, left));
     let u = bl(u, t, out, list, work, scoped(c, left), true, first, n);
     await_of(u, t, out, p)
@@ -1688,7 +1831,8 @@ fn ta(
 ) -> Walk
     ensures { λ r. ⌜ (Good (now (t .entry)) (c .left) p → hasArrayRestOverObjectRest (lookNode (now (t .entry)) (c .left) p .value) ≡ false → hasObjectRest (lookNode (now (t .entry)) (c .left) p .value) ≡ true → Does (goingOf (now (out .entry)) (now (list .entry)) (now (work .entry)) w) (goingOf (now (out .exit)) (now (list .exit)) (now (work .exit)) r) (emitsStatement (placeOf c) (assigning (lookNode (now (t .entry)) (c .left) p .value) (made.temporary [] 1 p)))) ⌝ }
 {
+    let root = at_root(c);
     let d = statement(c, w.mark());
     let u = w.put2(out, 3, 3).new_mark(out);
-    an(u, t, out, list, work, d, 1, p, false, p)
+    an(u, t, out, list, work, d, root, 1, p, false, p)
 }

@@ -11,6 +11,7 @@ pub mod AcceptedIsGood
 pub mod Opened
 pub mod KeysOnceFull
 pub mod Turning
+pub mod Told
 pub mod SmallSteps
 pub mod Lookups
 pub mod TargetCounts

@@ -296,7 +296,7 @@ suit-15 ns a h = clear-values ns a h
 abbrev pub Others : ℕ → Type 0
 Others mode = NoKey (NoKey (NoKey (NoKey (NoKey Unit 1 2 mode) 4 1 mode) 6 2 mode) 9 3 mode) 13 4 mode
 
-deep-left : (mode : ℕ) (n : Node) → Others mode → suits mode n ≡ true → deepMode mode ≡ true
+pub deep-left : (mode : ℕ) (n : Node) → Others mode → suits mode n ≡ true → deepMode mode ≡ true
 unfolding suits deepMode
 deep-left mode n k s =
     by-test (eqb mode 8) (λ e. rw e refl) (λ e8.

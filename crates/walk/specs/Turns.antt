@@ -34,7 +34,8 @@ use Rattle.direct.specs.Assigned.{emitsInner}
 use Rattle.direct.specs.Moved.{outOf, movedIn, behind}
 use Rattle.walk.specs.declared.look.Start.{Start}
 use Rattle.walk.specs.declared.look.Start.the-variants.{Value, Missing}
-use Rattle.walk.specs.Whole.{holeAt}
+use Rattle.walk.specs.declared.place.Place as place
+use Rattle.walk.specs.Whole.{placeOf, placeWith, holeAt}
 use Rattle.lowering.specs.Keys.Entry.{spelt, itself, omitted, saved}
 
 -- a view by its number, and where objects are looked for
@@ -72,6 +73,13 @@ turnOf mode c n =
 -- those that go below a pattern
 unfoldable pub deepMode : ℕ → Bool
 deepMode mode = eqb mode 8 || (eqb mode 12 || (eqb mode 17 || eqb mode 18))
+
+-- those whose items have rests of their own: they are told whether the scope is the root. In any other mode an item asks for itself
+unfoldable pub isTold : ℕ → Bool
+isTold mode = deepMode mode || (eqb mode 9 || (eqb mode 10 || (eqb mode 13 || (eqb mode 14 || eqb mode 15))))
+
+unfoldable pub toldPlace : ℕ → Bool → place.Place → Place
+toldPlace mode root c = cond (isTold mode) (placeWith root c) (placeOf c)
 
 -- what may stand in the list: patterns, those without an object rest below an array rest, properties, declarators, parameters or declarators
 unfoldable pub suits : ℕ → Node → Bool

@@ -25,6 +25,10 @@ use Rattle.walk.specs.Run.{Going, Does}
 abbrev pub placeOf : Place → events.Place
 placeOf c = record { root = c .root; statement = c .statement; mark = c .mark }
 
+-- the same, told whether it is at root: nothing is read of its own root
+abbrev pub placeWith : Bool → Place → events.Place
+placeWith root c = record { root = root; statement = c .statement; mark = c .mark }
+
 module _ (tree : List ℕ) where
   -- a piece without nodes: its bytes, from `at` up to q
   pub record Leaf (at q : ℕ) (p : Piece) : Type 0 where

@@ -9,7 +9,7 @@ ghost use Rattle.lowering.specs.Collect.{isContainer};
 ghost use Rattle.lowering.specs.Walk.{opensScope};
 ghost use Rattle.direct.specs.Emit as emit;
 ghost use Rattle.direct.specs.Emit.{inner, unused, below, marking};
-ghost use Rattle.walk.specs.Whole.{placeOf};
+ghost use Rattle.walk.specs.Whole.{placeOf, placeWith};
 
 // Where a node stands: at root, all of an expression statement, the mark of the containing statement, levels left.
 pub struct Place {
@@ -17,6 +17,14 @@ pub struct Place {
     pub statement: bool,
     pub mark: usize,
     pub left: usize,
+}
+
+// Whether the scope of a place is the root. This is the one lookup: it is made where the walk comes to an assignment or a declaration, and where
+// one is put into a body. The code for its rests, keys and parts is told the answer.
+pub fn at_root(c: Place) -> bool
+    ensures { λ r. ⌜ r ≡ placeOf c .root ⌝ }
+{
+    c.root
 }
 
 // Whether a field of a node lies in a scope that the node opens; of a Switch the cases alone do.
@@ -124,6 +132,29 @@ pub fn under(c: Place, left: usize) -> Place
 {
     Place {
         root: c.root,
+        statement: c.statement,
+        mark: c.mark,
+        left: left,
+    }
+}
+
+// The place of the parts of an expression, and the same place with other levels left, told whether they are at root.
+pub fn told_inside(c: Place, root: bool, left: usize) -> Place
+    ensures { λ r. ⌜ (placeOf r ≡ inner (placeWith root c)) × (r .left ≡ left) ⌝ }
+{
+    Place {
+        root: root,
+        statement: false,
+        mark: c.mark,
+        left: left,
+    }
+}
+
+pub fn told_under(c: Place, root: bool, left: usize) -> Place
+    ensures { λ r. ⌜ (placeOf r ≡ placeWith root c) × (r .left ≡ left) ⌝ }
+{
+    Place {
+        root: root,
         statement: c.statement,
         mark: c.mark,
         left: left,

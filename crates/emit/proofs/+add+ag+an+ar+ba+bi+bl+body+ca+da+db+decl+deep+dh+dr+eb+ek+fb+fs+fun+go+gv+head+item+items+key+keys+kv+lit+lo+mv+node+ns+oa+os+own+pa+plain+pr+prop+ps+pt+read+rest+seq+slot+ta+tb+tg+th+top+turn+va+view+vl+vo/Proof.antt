@@ -4,15 +4,15 @@ use Rattle.tree.proofs.Cycle.{at-measure, below-measure}
 use lib.ListN.{length}
 use borrow.Author.Needs.{needs}
 use native.Mathlib.Omega.{arith}
-use mathlib.Core.Bool.{true, false, false≢true}
+use mathlib.Core.Bool.{Bool, true, false, cond, false≢true}
 use mathlib.Core.Logic.{⊎-elim}
-use mathlib.Core.Path.{_≡_, refl, sym, _∙_}
+use mathlib.Core.Path.{_≡_, refl, sym, ap, _∙_}
 use Rattle.walk.specs.Whole.{placeOf, holeAt, GoodItems, GoodFields, Good}
 use Rattle.walk.specs.Run.{goingOf}
 use Rattle.direct.specs.Emit.{emitsItems, emitsFields}
 use Rattle.tree.specs.Look.{lookItems, lookFields, lookNode}
 use Rattle.tree.specs.Rows.{fieldsIn}
-use Rattle.walk.specs.Turns.{AllSuit}
+use Rattle.walk.specs.Turns.{AllSuit, isTold, toldPlace}
 use Rattle.walk.proofs.Running.{does-nothing}
 use Rattle.tree.proofs.Skipping.{node-none}
 use Rattle.walk.proofs.Emits.{good-none}
@@ -28,6 +28,9 @@ use Rattle.walk.proofs.place.less.Reads as less-reads
 use Rattle.walk.proofs.place.marked.Reads as marked-reads
 use Rattle.walk.proofs.place.parts_of.Reads as parts-of-reads
 use Rattle.walk.proofs.place.under.Reads as under-reads
+use Rattle.walk.proofs.place.at_root.Reads as at-root-reads
+use Rattle.walk.proofs.place.told_inside.Reads as told-inside-reads
+use Rattle.walk.proofs.place.told_under.Reads as told-under-reads
 use Rattle.walk.proofs.literal.has_first.Reads as has-first-reads
 use Rattle.walk.proofs.literal.has_spread.Reads as has-spread-reads
 use Rattle.walk.proofs.literal.is_spread.Reads as is-spread-reads
@@ -46,6 +49,7 @@ use Rattle.tree.proofs.skip.step.Reads as step-reads
 use Rattle.emit.proofs.Excluding as excluding
 use Rattle.walk.proofs.Viewing as viewing
 use Rattle.walk.proofs.Turning as turning
+use Rattle.walk.proofs.Told as told
 use Rattle.pattern.proofs.keys.all_primitive.Reads as all-primitive-reads
 use Rattle.pattern.proofs.keys.excluded_keys.Reads as excluded-keys-reads
 use Rattle.pattern.proofs.keys.has_no_properties.Reads as has-no-properties-reads
@@ -272,7 +276,7 @@ abbrev μ-node : Measures 4 node.Kinds.ps ℕ
 
 -- the target without its rest is below an object that is found, so the rank goes by the view
 abbrev μ-ns : Measures 4 ns.Kinds.ps ℕ
-μ-ns κs a = 131072 * (64 * a .1 .1 .1 .1 .1 .0 .left + (29 + 10 * min 1 ((a .1 .1 .1 .1 .1 .1 .0 - 2) + (2 - a .1 .1 .1 .1 .1 .1 .0))))
+μ-ns κs a = 131072 * (64 * a .1 .1 .1 .1 .1 .0 .left + (29 + 10 * min 1 ((a .1 .1 .1 .1 .1 .1 .1 .0 - 2) + (2 - a .1 .1 .1 .1 .1 .1 .1 .0))))
 
 abbrev μ-oa : Measures 4 oa.Kinds.ps ℕ
 μ-oa κs a = 131072 * (64 * a .1 .1 .1 .1 .1 .0 .left + 29)
@@ -341,16 +345,16 @@ abbrev μ-vo : Measures 4 vo.Kinds.ps ℕ
 μ-vo κs a = 131072 * (64 * a .1 .1 .1 .1 .1 .0 .left + 26)
 
 abbrev add-claims : ℕ → cycle.Lts-add.Claims
-add-claims t = (inside-reads.Asked, inside-reads.Learnt, mark-reads.Asked, mark-reads.Learnt, marked-reads.Asked, marked-reads.Learnt, has-nested-object-rest-reads.Asked, has-nested-object-rest-reads.Learnt, below-lacks-form-reads.Asked, below-lacks-form-reads.Learnt, refuse-reads.Asked, refuse-reads.Learnt, pattern-hands-reads.Asked, pattern-hands-reads.Learnt, pattern-declarators-reads.Asked, pattern-declarators-reads.Learnt, declaration-reads.Asked, declaration-reads.Learnt, to-reads.Asked, to-reads.Learnt, cell-source-reads.Asked, cell-source-reads.Learnt, below-measure pa.Kinds.ps μ-pa pa.Reads.Pre t, pa.Reads.Post, put2-reads.Asked, put2-reads.Learnt, below-measure node.Kinds.ps μ-node node.Reads.Pre t, node.Reads.Post, temporary-reads.Asked, temporary-reads.Learnt)
+add-claims t = (at-root-reads.Asked, at-root-reads.Learnt, inside-reads.Asked, inside-reads.Learnt, mark-reads.Asked, mark-reads.Learnt, marked-reads.Asked, marked-reads.Learnt, has-nested-object-rest-reads.Asked, has-nested-object-rest-reads.Learnt, below-lacks-form-reads.Asked, below-lacks-form-reads.Learnt, refuse-reads.Asked, refuse-reads.Learnt, pattern-hands-reads.Asked, pattern-hands-reads.Learnt, pattern-declarators-reads.Asked, pattern-declarators-reads.Learnt, declaration-reads.Asked, declaration-reads.Learnt, to-reads.Asked, to-reads.Learnt, cell-source-reads.Asked, cell-source-reads.Learnt, below-measure pa.Kinds.ps μ-pa pa.Reads.Pre t, pa.Reads.Post, put2-reads.Asked, put2-reads.Learnt, below-measure node.Kinds.ps μ-node node.Reads.Pre t, node.Reads.Post, temporary-reads.Asked, temporary-reads.Learnt)
 
 abbrev ta-claims : ℕ → cycle.Lts-ta.Claims
-ta-claims t = (mark-reads.Asked, mark-reads.Learnt, statement-reads.Asked, statement-reads.Learnt, put2-reads.Asked, put2-reads.Learnt, new-mark-reads.Asked, new-mark-reads.Learnt, below-measure an.Kinds.ps μ-an an.Reads.Pre t, an.Reads.Post)
+ta-claims t = (at-root-reads.Asked, at-root-reads.Learnt, mark-reads.Asked, mark-reads.Learnt, statement-reads.Asked, statement-reads.Learnt, put2-reads.Asked, put2-reads.Learnt, new-mark-reads.Asked, new-mark-reads.Learnt, below-measure an.Kinds.ps μ-an an.Reads.Pre t, an.Reads.Post)
 
 abbrev ar-claims : ℕ → cycle.Lts-ar.Claims
 ar-claims t = (less-reads.Asked, less-reads.Learnt, scoped-reads.Asked, scoped-reads.Learnt, any-moved-reads.Asked, any-moved-reads.Learnt, step-reads.Asked, step-reads.Learnt, wide-at-reads.Asked, wide-at-reads.Learnt, moves-make-reads.Asked, moves-make-reads.Learnt, copy-reads.Asked, copy-reads.Learnt, below-measure seq.Kinds.ps μ-seq seq.Reads.Pre t, seq.Reads.Post, second-reads.Asked, second-reads.Learnt, below-measure slot.Kinds.ps μ-slot slot.Reads.Pre t, slot.Reads.Post, below-measure eb.Kinds.ps μ-eb eb.Reads.Pre t, eb.Reads.Post, skip-reads.Asked, skip-reads.Learnt, to-reads.Asked, to-reads.Learnt, below-measure plain.Kinds.ps μ-plain plain.Reads.Pre t, plain.Reads.Post)
 
 abbrev ag-claims : ℕ → cycle.Lts-ag.Claims
-ag-claims t = (less-reads.Asked, less-reads.Learnt, step-reads.Asked, step-reads.Learnt, has-rest-below-array-rest-reads.Asked, has-rest-below-array-rest-reads.Learnt, refuse-reads.Asked, refuse-reads.Learnt, skip-reads.Asked, skip-reads.Learnt, to-reads.Asked, to-reads.Learnt, has-nested-object-rest-reads.Asked, has-nested-object-rest-reads.Learnt, peek-reads.Asked, peek-reads.Learnt, under-reads.Asked, under-reads.Learnt, below-measure an.Kinds.ps μ-an an.Reads.Pre t, an.Reads.Post, below-measure plain.Kinds.ps μ-plain plain.Reads.Pre t, plain.Reads.Post)
+ag-claims t = (at-root-reads.Asked, at-root-reads.Learnt, less-reads.Asked, less-reads.Learnt, step-reads.Asked, step-reads.Learnt, has-rest-below-array-rest-reads.Asked, has-rest-below-array-rest-reads.Learnt, refuse-reads.Asked, refuse-reads.Learnt, skip-reads.Asked, skip-reads.Learnt, to-reads.Asked, to-reads.Learnt, has-nested-object-rest-reads.Asked, has-nested-object-rest-reads.Learnt, peek-reads.Asked, peek-reads.Learnt, under-reads.Asked, under-reads.Learnt, below-measure an.Kinds.ps μ-an an.Reads.Pre t, an.Reads.Post, below-measure plain.Kinds.ps μ-plain plain.Reads.Pre t, plain.Reads.Post)
 
 abbrev an-claims : ℕ → cycle.Lts-an.Claims
 an-claims t = (peek-reads.Asked, peek-reads.Learnt, has-second-reads.Asked, has-second-reads.Learnt, below-measure top.Kinds.ps μ-top top.Reads.Pre t, top.Reads.Post, below-measure ns.Kinds.ps μ-ns ns.Reads.Pre t, ns.Reads.Post)
@@ -374,7 +378,7 @@ abbrev da-claims : ℕ → cycle.Lts-da.Claims
 da-claims t = (skip-reads.Asked, skip-reads.Learnt, to-reads.Asked, to-reads.Learnt, step-reads.Asked, step-reads.Learnt, wide-at-reads.Asked, wide-at-reads.Learnt, less-reads.Asked, less-reads.Learnt, under-reads.Asked, under-reads.Learnt, item-mode-reads.Asked, item-mode-reads.Learnt, below-measure seq.Kinds.ps μ-seq seq.Reads.Pre t, seq.Reads.Post)
 
 abbrev decl-claims : ℕ → cycle.Lts-decl.Claims
-decl-claims t = (declaration-lacks-form-reads.Asked, declaration-lacks-form-reads.Learnt, refuse-reads.Asked, refuse-reads.Learnt, skip-reads.Asked, skip-reads.Learnt, to-reads.Asked, to-reads.Learnt, declaration-hands-reads.Asked, declaration-hands-reads.Learnt, step-reads.Asked, step-reads.Learnt, declaration-becomes-reads.Asked, declaration-becomes-reads.Learnt, copy-reads.Asked, copy-reads.Learnt, wide-reads.Asked, wide-reads.Learnt, less-reads.Asked, less-reads.Learnt, under-reads.Asked, under-reads.Learnt, wide-at-reads.Asked, wide-at-reads.Learnt, below-measure seq.Kinds.ps μ-seq seq.Reads.Pre t, seq.Reads.Post)
+decl-claims t = (at-root-reads.Asked, at-root-reads.Learnt, declaration-lacks-form-reads.Asked, declaration-lacks-form-reads.Learnt, refuse-reads.Asked, refuse-reads.Learnt, skip-reads.Asked, skip-reads.Learnt, to-reads.Asked, to-reads.Learnt, declaration-hands-reads.Asked, declaration-hands-reads.Learnt, step-reads.Asked, step-reads.Learnt, declaration-becomes-reads.Asked, declaration-becomes-reads.Learnt, copy-reads.Asked, copy-reads.Learnt, wide-reads.Asked, wide-reads.Learnt, less-reads.Asked, less-reads.Learnt, under-reads.Asked, under-reads.Learnt, wide-at-reads.Asked, wide-at-reads.Learnt, below-measure seq.Kinds.ps μ-seq seq.Reads.Pre t, seq.Reads.Post)
 
 abbrev deep-claims : ℕ → cycle.Lts-deep.Claims
 deep-claims t = (peek-reads.Asked, peek-reads.Learnt, below-measure db.Kinds.ps μ-db db.Reads.Pre t, db.Reads.Post, below-measure da.Kinds.ps μ-da da.Reads.Pre t, da.Reads.Post, less-reads.Asked, less-reads.Learnt, step-reads.Asked, step-reads.Learnt, to-reads.Asked, to-reads.Learnt, under-reads.Asked, under-reads.Learnt, below-measure deep.Kinds.ps μ-deep deep.Reads.Pre t, deep.Reads.Post, skip-reads.Asked, skip-reads.Learnt)
@@ -386,7 +390,7 @@ abbrev db-claims : ℕ → cycle.Lts-db.Claims
 db-claims t = (below-measure fb.Kinds.ps μ-fb fb.Reads.Pre t, fb.Reads.Post, has-second-reads.Asked, has-second-reads.Learnt, skip-reads.Asked, skip-reads.Learnt, to-reads.Asked, to-reads.Learnt, inside-reads.Asked, inside-reads.Learnt, cell-reads.Asked, cell-reads.Learnt, below-measure top.Kinds.ps μ-top top.Reads.Pre t, top.Reads.Post, value-mode-reads.Asked, value-mode-reads.Learnt, below-measure pr.Kinds.ps μ-pr pr.Reads.Pre t, pr.Reads.Post)
 
 abbrev dr-claims : ℕ → cycle.Lts-dr.Claims
-dr-claims t = (less-reads.Asked, less-reads.Learnt, step-reads.Asked, step-reads.Learnt, start-of-reads.Asked, start-of-reads.Learnt, inside-reads.Asked, inside-reads.Learnt, below-measure node.Kinds.ps μ-node node.Reads.Pre t, node.Reads.Post, has-nested-object-rest-reads.Asked, has-nested-object-rest-reads.Learnt, skip-reads.Asked, skip-reads.Learnt, cell-reads.Asked, cell-reads.Learnt, new-reads.Asked, new-reads.Learnt, under-reads.Asked, under-reads.Learnt, below-measure lo.Kinds.ps μ-lo lo.Reads.Pre t, lo.Reads.Post, to-reads.Asked, to-reads.Learnt)
+dr-claims t = (less-reads.Asked, less-reads.Learnt, step-reads.Asked, step-reads.Learnt, start-of-reads.Asked, start-of-reads.Learnt, told-inside-reads.Asked, told-inside-reads.Learnt, below-measure node.Kinds.ps μ-node node.Reads.Pre t, node.Reads.Post, has-nested-object-rest-reads.Asked, has-nested-object-rest-reads.Learnt, skip-reads.Asked, skip-reads.Learnt, cell-reads.Asked, cell-reads.Learnt, new-reads.Asked, new-reads.Learnt, under-reads.Asked, under-reads.Learnt, below-measure lo.Kinds.ps μ-lo lo.Reads.Pre t, lo.Reads.Post, to-reads.Asked, to-reads.Learnt)
 
 abbrev eb-claims : ℕ → cycle.Lts-eb.Claims
 eb-claims t = (peek-reads.Asked, peek-reads.Learnt, below-measure body.Kinds.ps μ-body body.Reads.Pre t, body.Reads.Post, moved-in-reads.Asked, moved-in-reads.Learnt, put2-reads.Asked, put2-reads.Learnt, wide-reads.Asked, wide-reads.Learnt, below-measure ba.Kinds.ps μ-ba ba.Reads.Pre t, ba.Reads.Post, mark-reads.Asked, mark-reads.Learnt, marked-reads.Asked, marked-reads.Learnt, new-mark-reads.Asked, new-mark-reads.Learnt, to-reads.Asked, to-reads.Learnt, below-measure node.Kinds.ps μ-node node.Reads.Pre t, node.Reads.Post)
@@ -422,7 +426,7 @@ abbrev key-claims : ℕ → cycle.Lts-key.Claims
 key-claims t = (is-other-reads.Asked, is-other-reads.Learnt, temporary-reads.Asked, temporary-reads.Learnt, skip-reads.Asked, skip-reads.Learnt, to-reads.Asked, to-reads.Learnt, below-measure node.Kinds.ps μ-node node.Reads.Pre t, node.Reads.Post)
 
 abbrev keys-claims : ℕ → cycle.Lts-keys.Claims
-keys-claims t = (step-reads.Asked, step-reads.Learnt, wide-at-reads.Asked, wide-at-reads.Learnt, excluded-keys-reads.Asked, excluded-keys-reads.Learnt, put2-reads.Asked, put2-reads.Learnt, wide-reads.Asked, wide-reads.Learnt, to-reads.Asked, to-reads.Learnt, less-reads.Asked, less-reads.Learnt, under-reads.Asked, under-reads.Learnt, below-measure seq.Kinds.ps μ-seq seq.Reads.Pre t, seq.Reads.Post)
+keys-claims t = (step-reads.Asked, step-reads.Learnt, wide-at-reads.Asked, wide-at-reads.Learnt, excluded-keys-reads.Asked, excluded-keys-reads.Learnt, put2-reads.Asked, put2-reads.Learnt, wide-reads.Asked, wide-reads.Learnt, to-reads.Asked, to-reads.Learnt, less-reads.Asked, less-reads.Learnt, told-under-reads.Asked, told-under-reads.Learnt, below-measure seq.Kinds.ps μ-seq seq.Reads.Pre t, seq.Reads.Post)
 
 abbrev kv-claims : ℕ → cycle.Lts-kv.Claims
 kv-claims t = (less-reads.Asked, less-reads.Learnt, skip-reads.Asked, skip-reads.Learnt, step-reads.Asked, step-reads.Learnt, is-other-reads.Asked, is-other-reads.Learnt, put2-reads.Asked, put2-reads.Learnt, temporary-reads.Asked, temporary-reads.Learnt, to-reads.Asked, to-reads.Learnt, inside-reads.Asked, inside-reads.Learnt, below-measure node.Kinds.ps μ-node node.Reads.Pre t, node.Reads.Post)
@@ -431,7 +435,7 @@ abbrev lit-claims : ℕ → cycle.Lts-lit.Claims
 lit-claims t = (has-spread-reads.Asked, has-spread-reads.Learnt, step-reads.Asked, step-reads.Learnt, wide-at-reads.Asked, wide-at-reads.Learnt, less-reads.Asked, less-reads.Learnt, opening-reads.Asked, opening-reads.Learnt, to-reads.Asked, to-reads.Learnt, inside-reads.Asked, inside-reads.Learnt, below-measure ps.Kinds.ps μ-ps ps.Reads.Pre t, ps.Reads.Post, skip-reads.Asked, skip-reads.Learnt, below-measure plain.Kinds.ps μ-plain plain.Reads.Pre t, plain.Reads.Post)
 
 abbrev lo-claims : ℕ → cycle.Lts-lo.Claims
-lo-claims t = (put2-reads.Asked, put2-reads.Learnt, temporary-reads.Asked, temporary-reads.Learnt, to-reads.Asked, to-reads.Learnt, inside-reads.Asked, inside-reads.Learnt, below-measure node.Kinds.ps μ-node node.Reads.Pre t, node.Reads.Post, create-read-expression-reads.Asked, create-read-expression-reads.Learnt, below-measure pa.Kinds.ps μ-pa pa.Reads.Pre t, pa.Reads.Post)
+lo-claims t = (put2-reads.Asked, put2-reads.Learnt, temporary-reads.Asked, temporary-reads.Learnt, to-reads.Asked, to-reads.Learnt, told-inside-reads.Asked, told-inside-reads.Learnt, below-measure node.Kinds.ps μ-node node.Reads.Pre t, node.Reads.Post, create-read-expression-reads.Asked, create-read-expression-reads.Learnt, below-measure pa.Kinds.ps μ-pa pa.Reads.Pre t, pa.Reads.Post)
 
 abbrev mv-claims : ℕ → cycle.Lts-mv.Claims
 mv-claims t = (less-reads.Asked, less-reads.Learnt, peek-reads.Asked, peek-reads.Learnt, below-measure add.Kinds.ps μ-add add.Reads.Pre t, add.Reads.Post, step-reads.Asked, step-reads.Learnt, wide-at-reads.Asked, wide-at-reads.Learnt, has-second-reads.Asked, has-second-reads.Learnt, skip-items-reads.Asked, skip-items-reads.Learnt, under-reads.Asked, under-reads.Learnt, below-measure mv.Kinds.ps μ-mv mv.Reads.Pre t, mv.Reads.Post, below-measure ba.Kinds.ps μ-ba ba.Reads.Pre t, ba.Reads.Post)
@@ -440,19 +444,19 @@ abbrev node-claims : ℕ → cycle.Lts-node.Claims
 node-claims t = (quiet-reads.Asked, quiet-reads.Learnt, skip-reads.Asked, skip-reads.Learnt, copy-reads.Asked, copy-reads.Learnt, peek-reads.Asked, peek-reads.Learnt, below-measure decl.Kinds.ps μ-decl decl.Reads.Pre t, decl.Reads.Post, below-measure head.Kinds.ps μ-head head.Reads.Pre t, head.Reads.Post, below-measure ca.Kinds.ps μ-ca ca.Reads.Pre t, ca.Reads.Post, below-measure fun.Kinds.ps μ-fun fun.Reads.Pre t, fun.Reads.Post, below-measure ar.Kinds.ps μ-ar ar.Reads.Pre t, ar.Reads.Post, below-measure lit.Kinds.ps μ-lit lit.Reads.Pre t, lit.Reads.Post, below-measure ag.Kinds.ps μ-ag ag.Reads.Pre t, ag.Reads.Post, below-measure plain.Kinds.ps μ-plain plain.Reads.Pre t, plain.Reads.Post)
 
 abbrev ns-claims : ℕ → cycle.Lts-ns.Claims
-ns-claims t = (places-in-reads.Asked, places-in-reads.Learnt, nested-hands-reads.Asked, nested-hands-reads.Learnt, put2-reads.Asked, put2-reads.Learnt, plus-reads.Asked, plus-reads.Learnt, wide-reads.Asked, wide-reads.Learnt, assign-reads.Asked, assign-reads.Learnt, to-reads.Asked, to-reads.Learnt, inside-reads.Asked, inside-reads.Learnt, below-measure view.Kinds.ps μ-view view.Reads.Pre t, view.Reads.Post, below-measure gv.Kinds.ps μ-gv gv.Reads.Pre t, gv.Reads.Post, below-measure pr.Kinds.ps μ-pr pr.Reads.Pre t, pr.Reads.Post, below-measure deep.Kinds.ps μ-deep deep.Reads.Pre t, deep.Reads.Post)
+ns-claims t = (places-in-reads.Asked, places-in-reads.Learnt, nested-hands-reads.Asked, nested-hands-reads.Learnt, put2-reads.Asked, put2-reads.Learnt, plus-reads.Asked, plus-reads.Learnt, wide-reads.Asked, wide-reads.Learnt, assign-reads.Asked, assign-reads.Learnt, to-reads.Asked, to-reads.Learnt, told-inside-reads.Asked, told-inside-reads.Learnt, below-measure view.Kinds.ps μ-view view.Reads.Pre t, view.Reads.Post, below-measure gv.Kinds.ps μ-gv gv.Reads.Pre t, gv.Reads.Post, below-measure pr.Kinds.ps μ-pr pr.Reads.Pre t, pr.Reads.Post, below-measure deep.Kinds.ps μ-deep deep.Reads.Pre t, deep.Reads.Post)
 
 abbrev oa-claims : ℕ → cycle.Lts-oa.Claims
-oa-claims t = (has-no-properties-reads.Asked, has-no-properties-reads.Learnt, put2-reads.Asked, put2-reads.Learnt, inside-reads.Asked, inside-reads.Learnt, below-measure view.Kinds.ps μ-view view.Reads.Pre t, view.Reads.Post, source-reads.Asked, source-reads.Learnt, to-reads.Asked, to-reads.Learnt)
+oa-claims t = (has-no-properties-reads.Asked, has-no-properties-reads.Learnt, put2-reads.Asked, put2-reads.Learnt, told-inside-reads.Asked, told-inside-reads.Learnt, below-measure view.Kinds.ps μ-view view.Reads.Pre t, view.Reads.Post, source-reads.Asked, source-reads.Learnt, to-reads.Asked, to-reads.Learnt)
 
 abbrev os-claims : ℕ → cycle.Lts-os.Claims
-os-claims t = (has-second-reads.Asked, has-second-reads.Learnt, less-reads.Asked, less-reads.Learnt, step-reads.Asked, step-reads.Learnt, wide-at-reads.Asked, wide-at-reads.Learnt, skip-items-reads.Asked, skip-items-reads.Learnt, put2-reads.Asked, put2-reads.Learnt, to-reads.Asked, to-reads.Learnt, inside-reads.Asked, inside-reads.Learnt, below-measure node.Kinds.ps μ-node node.Reads.Pre t, node.Reads.Post, below-measure rest.Kinds.ps μ-rest rest.Reads.Pre t, rest.Reads.Post)
+os-claims t = (has-second-reads.Asked, has-second-reads.Learnt, less-reads.Asked, less-reads.Learnt, step-reads.Asked, step-reads.Learnt, wide-at-reads.Asked, wide-at-reads.Learnt, skip-items-reads.Asked, skip-items-reads.Learnt, put2-reads.Asked, put2-reads.Learnt, to-reads.Asked, to-reads.Learnt, told-inside-reads.Asked, told-inside-reads.Learnt, below-measure node.Kinds.ps μ-node node.Reads.Pre t, node.Reads.Post, inside-reads.Asked, inside-reads.Learnt, below-measure rest.Kinds.ps μ-rest rest.Reads.Pre t, rest.Reads.Post)
 
 abbrev own-claims : ℕ → cycle.Lts-own.Claims
-own-claims t = (has-second-reads.Asked, has-second-reads.Learnt, step-reads.Asked, step-reads.Learnt, wide-at-reads.Asked, wide-at-reads.Learnt, to-reads.Asked, to-reads.Learnt, less-reads.Asked, less-reads.Learnt, inside-reads.Asked, inside-reads.Learnt, below-measure seq.Kinds.ps μ-seq seq.Reads.Pre t, seq.Reads.Post, below-measure oa.Kinds.ps μ-oa oa.Reads.Pre t, oa.Reads.Post)
+own-claims t = (has-second-reads.Asked, has-second-reads.Learnt, step-reads.Asked, step-reads.Learnt, wide-at-reads.Asked, wide-at-reads.Learnt, to-reads.Asked, to-reads.Learnt, less-reads.Asked, less-reads.Learnt, told-inside-reads.Asked, told-inside-reads.Learnt, below-measure seq.Kinds.ps μ-seq seq.Reads.Pre t, seq.Reads.Post, below-measure oa.Kinds.ps μ-oa oa.Reads.Pre t, oa.Reads.Post)
 
 abbrev pa-claims : ℕ → cycle.Lts-pa.Claims
-pa-claims t = (peek-reads.Asked, peek-reads.Learnt, step-reads.Asked, step-reads.Learnt, wide-at-reads.Asked, wide-at-reads.Learnt, below-measure own.Kinds.ps μ-own own.Reads.Pre t, own.Reads.Post, to-reads.Asked, to-reads.Learnt, less-reads.Asked, less-reads.Learnt, under-reads.Asked, under-reads.Learnt, below-measure seq.Kinds.ps μ-seq seq.Reads.Pre t, seq.Reads.Post, below-measure os.Kinds.ps μ-os os.Reads.Pre t, os.Reads.Post, put2-reads.Asked, put2-reads.Learnt, inside-reads.Asked, inside-reads.Learnt, below-measure view.Kinds.ps μ-view view.Reads.Pre t, view.Reads.Post, source-reads.Asked, source-reads.Learnt, below-measure deep.Kinds.ps μ-deep deep.Reads.Pre t, deep.Reads.Post)
+pa-claims t = (peek-reads.Asked, peek-reads.Learnt, step-reads.Asked, step-reads.Learnt, wide-at-reads.Asked, wide-at-reads.Learnt, below-measure own.Kinds.ps μ-own own.Reads.Pre t, own.Reads.Post, to-reads.Asked, to-reads.Learnt, less-reads.Asked, less-reads.Learnt, under-reads.Asked, under-reads.Learnt, below-measure seq.Kinds.ps μ-seq seq.Reads.Pre t, seq.Reads.Post, below-measure os.Kinds.ps μ-os os.Reads.Pre t, os.Reads.Post, put2-reads.Asked, put2-reads.Learnt, told-inside-reads.Asked, told-inside-reads.Learnt, below-measure view.Kinds.ps μ-view view.Reads.Pre t, view.Reads.Post, source-reads.Asked, source-reads.Learnt, below-measure deep.Kinds.ps μ-deep deep.Reads.Pre t, deep.Reads.Post)
 
 abbrev plain-claims : ℕ → cycle.Lts-plain.Claims
 plain-claims t = (peek-reads.Asked, peek-reads.Learnt, step-reads.Asked, step-reads.Learnt, copy-reads.Asked, copy-reads.Learnt, parts-of-reads.Asked, parts-of-reads.Learnt, below-measure fs.Kinds.ps μ-fs fs.Reads.Pre t, fs.Reads.Post, skip-reads.Asked, skip-reads.Learnt, to-reads.Asked, to-reads.Learnt, row-reads.Asked, row-reads.Learnt, container-reads.Asked, container-reads.Learnt)
@@ -485,13 +489,13 @@ abbrev tb-claims : ℕ → cycle.Lts-tb.Claims
 tb-claims t = (peek-reads.Asked, peek-reads.Learnt, step-reads.Asked, step-reads.Learnt, wide-at-reads.Asked, wide-at-reads.Learnt, copy-reads.Asked, copy-reads.Learnt, wide-reads.Asked, wide-reads.Learnt, scoped-reads.Asked, scoped-reads.Learnt, below-measure ta.Kinds.ps μ-ta ta.Reads.Pre t, ta.Reads.Post, to-reads.Asked, to-reads.Learnt, less-reads.Asked, less-reads.Learnt, below-measure items.Kinds.ps μ-items items.Reads.Pre t, items.Reads.Post, block-reads.Asked, block-reads.Learnt, skip-reads.Asked, skip-reads.Learnt, below-measure item.Kinds.ps μ-item item.Reads.Pre t, item.Reads.Post)
 
 abbrev tg-claims : ℕ → cycle.Lts-tg.Claims
-tg-claims t = (inside-reads.Asked, inside-reads.Learnt, object-count-reads.Asked, object-count-reads.Learnt, cell-reads.Asked, cell-reads.Learnt, below-measure ns.Kinds.ps μ-ns ns.Reads.Pre t, ns.Reads.Post, assign-reads.Asked, assign-reads.Learnt, to-reads.Asked, to-reads.Learnt, below-measure view.Kinds.ps μ-view view.Reads.Pre t, view.Reads.Post, temporary-reads.Asked, temporary-reads.Learnt)
+tg-claims t = (told-inside-reads.Asked, told-inside-reads.Learnt, object-count-reads.Asked, object-count-reads.Learnt, cell-reads.Asked, cell-reads.Learnt, below-measure ns.Kinds.ps μ-ns ns.Reads.Pre t, ns.Reads.Post, assign-reads.Asked, assign-reads.Learnt, to-reads.Asked, to-reads.Learnt, below-measure view.Kinds.ps μ-view view.Reads.Pre t, view.Reads.Post, temporary-reads.Asked, temporary-reads.Learnt)
 
 abbrev th-claims : ℕ → cycle.Lts-th.Claims
 th-claims t = (less-reads.Asked, less-reads.Learnt, step-reads.Asked, step-reads.Learnt, scoped-reads.Asked, scoped-reads.Learnt, make-reads.Asked, make-reads.Learnt, copy-reads.Asked, copy-reads.Learnt, declaration-reads.Asked, declaration-reads.Learnt, put2-reads.Asked, put2-reads.Learnt, temporary-reads.Asked, temporary-reads.Learnt, skip-reads.Asked, skip-reads.Learnt, to-reads.Asked, to-reads.Learnt, below-measure node.Kinds.ps μ-node node.Reads.Pre t, node.Reads.Post, below-measure tb.Kinds.ps μ-tb tb.Reads.Pre t, tb.Reads.Post, await-of-reads.Asked, await-of-reads.Learnt)
 
 abbrev top-claims : ℕ → cycle.Lts-top.Claims
-top-claims t = (lacks-form-reads.Asked, lacks-form-reads.Learnt, refuse-reads.Asked, refuse-reads.Learnt, inside-reads.Asked, inside-reads.Learnt, top-hands-reads.Asked, top-hands-reads.Learnt, top-count-reads.Asked, top-count-reads.Learnt, put2-reads.Asked, put2-reads.Learnt, wide-reads.Asked, wide-reads.Learnt, assign-reads.Asked, assign-reads.Learnt, cell-reads.Asked, cell-reads.Learnt, temporary-reads.Asked, temporary-reads.Learnt, below-measure gv.Kinds.ps μ-gv gv.Reads.Pre t, gv.Reads.Post, below-measure tg.Kinds.ps μ-tg tg.Reads.Pre t, tg.Reads.Post, below-measure pr.Kinds.ps μ-pr pr.Reads.Pre t, pr.Reads.Post, less-reads.Asked, less-reads.Learnt, below-measure node.Kinds.ps μ-node node.Reads.Pre t, node.Reads.Post, cell-source-reads.Asked, cell-source-reads.Learnt, below-measure rest.Kinds.ps μ-rest rest.Reads.Pre t, rest.Reads.Post)
+top-claims t = (lacks-form-reads.Asked, lacks-form-reads.Learnt, refuse-reads.Asked, refuse-reads.Learnt, told-inside-reads.Asked, told-inside-reads.Learnt, top-hands-reads.Asked, top-hands-reads.Learnt, top-count-reads.Asked, top-count-reads.Learnt, put2-reads.Asked, put2-reads.Learnt, wide-reads.Asked, wide-reads.Learnt, assign-reads.Asked, assign-reads.Learnt, cell-reads.Asked, cell-reads.Learnt, temporary-reads.Asked, temporary-reads.Learnt, below-measure gv.Kinds.ps μ-gv gv.Reads.Pre t, gv.Reads.Post, below-measure tg.Kinds.ps μ-tg tg.Reads.Pre t, tg.Reads.Post, below-measure pr.Kinds.ps μ-pr pr.Reads.Pre t, pr.Reads.Post, less-reads.Asked, less-reads.Learnt, below-measure node.Kinds.ps μ-node node.Reads.Pre t, node.Reads.Post, cell-source-reads.Asked, cell-source-reads.Learnt, below-measure rest.Kinds.ps μ-rest rest.Reads.Pre t, rest.Reads.Post)
 
 abbrev turn-claims : ℕ → cycle.Lts-turn.Claims
 turn-claims t = (peek-reads.Asked, peek-reads.Learnt, hole-reads.Asked, hole-reads.Learnt, below-measure view.Kinds.ps μ-view view.Reads.Pre t, view.Reads.Post, below-measure prop.Kinds.ps μ-prop prop.Reads.Pre t, prop.Reads.Post, below-measure ek.Kinds.ps μ-ek ek.Reads.Pre t, ek.Reads.Post, below-measure kv.Kinds.ps μ-kv kv.Reads.Pre t, kv.Reads.Post, below-measure vl.Kinds.ps μ-vl vl.Reads.Pre t, vl.Reads.Post, below-measure dr.Kinds.ps μ-dr dr.Reads.Pre t, dr.Reads.Post, below-measure bi.Kinds.ps μ-bi bi.Reads.Pre t, bi.Reads.Post, below-measure go.Kinds.ps μ-go go.Reads.Pre t, go.Reads.Post, below-measure deep.Kinds.ps μ-deep deep.Reads.Pre t, deep.Reads.Post)
@@ -512,13 +516,13 @@ add-returns : (t : ℕ) → cycle.Lts-add.Need-returns (add-claims t) (at-measur
 add-returns t c = moving.add-refused _ _ _ _ _ _ _ (c .before .before .before .before .before .before .before .has-nested-object-rest .ensures) (c .before .before .before .before .before .before .if1 .taken) (c .before .before .before .before .before .below-lacks-form .ensures) (c .before .before .before .before .if2 .taken) (c .before .before .refuse .ensures .0 _ _)
 
 add-returns-2 : (t : ℕ) → cycle.Lts-add.Need-returns-2 (add-claims t) (at-measure add.Kinds.ps μ-add add.Reads.Pre t) add.Reads.Post
-add-returns-2 t c = moving.add-lowered _ _ _ _ _ _ _ _ _ _ _ _ _ _ (c .before .before .before .before .before .before .before .before .before .before .before .before .before .before .before .before .before .before .before .before .before .before .before .before .before .before .before .has-nested-object-rest .ensures) (c .before .before .before .before .before .before .before .before .before .before .before .before .before .before .before .before .before .before .before .before .before .before .before .before .before .before .if1 .taken) (c .before .before .before .before .before .before .before .before .before .before .before .before .before .before .before .before .before .before .before .before .before .before .before .before .before .below-lacks-form .ensures) (c .before .before .before .before .before .before .before .before .before .before .before .before .before .before .before .before .before .before .before .before .before .before .before .before .if2 .left) (c .before .before .before .before .before .before .before .before .before .before .before .before .before .before .before .before .before .before .before .before .before .before .before .before .before .before .before .before .before .before .inside .ensures .0) (c .before .before .before .before .before .before .before .before .before .before .before .before .before .before .before .before .before .before .before .before .before .before .before .before .before .before .before .before .before .mark .ensures) (c .before .before .before .before .before .before .before .before .before .before .before .before .before .before .before .before .before .before .before .before .before .before .before .before .before .before .before .before .marked .ensures .0) (c .before .before .before .before .before .before .before .before .before .before .before .before .before .before .before .before .before .before .before .before .before .before .before .before .before .before .before .before .marked .ensures .1 ∙ c .before .before .before .before .before .before .before .before .before .before .before .before .before .before .before .before .before .before .before .before .before .before .before .before .before .before .before .before .before .before .inside .ensures .1) (c .before .before .before .before .before .before .before .before .before .before .before .before .before .before .before .before .before .before .before .before .before .pattern-hands .ensures .1 _) (c .before .before .before .before .before .before .before .before .before .before .before .before .before .before .before .before .pattern-declarators .ensures) (c .before .before .before .before .before .before .before .before .before .before .before .before .before .before .declaration .ensures .0 _ _) (c .before .before .before .before .before .before .before .before .before .before .before .to .ensures .0 _ _ _) (c .before .before .before .before .before .before .before .before .before .before .before .to .ensures .1) (c .before .before .before .before .before .before .before .cell-source .ensures _) (c .before .before .before .before .before .before .pa .ensures)
+add-returns-2 t c = moving.add-lowered _ _ _ _ _ _ _ _ _ _ _ _ _ _ _ (c .before .before .before .before .before .before .before .before .before .before .before .before .before .before .before .before .before .before .before .before .before .before .before .before .before .before .before .has-nested-object-rest .ensures) (c .before .before .before .before .before .before .before .before .before .before .before .before .before .before .before .before .before .before .before .before .before .before .before .before .before .before .if1 .taken) (c .before .before .before .before .before .before .before .before .before .before .before .before .before .before .before .before .before .before .before .before .before .before .before .before .before .below-lacks-form .ensures) (c .before .before .before .before .before .before .before .before .before .before .before .before .before .before .before .before .before .before .before .before .before .before .before .before .if2 .left) (c .before .before .before .before .before .before .before .before .before .before .before .before .before .before .before .before .before .before .before .before .before .before .before .before .before .before .before .before .before .before .before .at-root .ensures) (c .before .before .before .before .before .before .before .before .before .before .before .before .before .before .before .before .before .before .before .before .before .before .before .before .before .before .before .before .before .before .inside .ensures .0) (c .before .before .before .before .before .before .before .before .before .before .before .before .before .before .before .before .before .before .before .before .before .before .before .before .before .before .before .before .before .mark .ensures) (told.own-marked _ _ (c .before .before .before .before .before .before .before .before .before .before .before .before .before .before .before .before .before .before .before .before .before .before .before .before .before .before .before .before .before .before .before .at-root .ensures) _ (c .before .before .before .before .before .before .before .before .before .before .before .before .before .before .before .before .before .before .before .before .before .before .before .before .before .before .before .before .before .before .inside .ensures .0) (c .before .before .before .before .before .before .before .before .before .before .before .before .before .before .before .before .before .before .before .before .before .before .before .before .before .before .before .before .marked .ensures .0)) (c .before .before .before .before .before .before .before .before .before .before .before .before .before .before .before .before .before .before .before .before .before .before .before .before .before .before .before .before .marked .ensures .1 ∙ c .before .before .before .before .before .before .before .before .before .before .before .before .before .before .before .before .before .before .before .before .before .before .before .before .before .before .before .before .before .before .inside .ensures .1) (c .before .before .before .before .before .before .before .before .before .before .before .before .before .before .before .before .before .before .before .before .before .pattern-hands .ensures .1 _) (c .before .before .before .before .before .before .before .before .before .before .before .before .before .before .before .before .pattern-declarators .ensures) (c .before .before .before .before .before .before .before .before .before .before .before .before .before .before .declaration .ensures .0 _ _) (c .before .before .before .before .before .before .before .before .before .before .before .to .ensures .0 _ _ _) (c .before .before .before .before .before .before .before .before .before .before .before .to .ensures .1) (c .before .before .before .before .before .before .before .cell-source .ensures _) (c .before .before .before .before .before .before .pa .ensures)
 
 add-returns-3 : (t : ℕ) → cycle.Lts-add.Need-returns-3 (add-claims t) (at-measure add.Kinds.ps μ-add add.Reads.Pre t) add.Reads.Post
 add-returns-3 t c = moving.add-kept _ _ _ _ _ _ _ _ _ _ _ _ (c .before .before .before .before .before .before .before .before .before .before .before .before .before .before .before .before .before .before .before .before .before .before .before .before .before .before .before .before .before .before .has-nested-object-rest .ensures) (c .before .before .before .before .before .before .before .before .before .before .before .before .before .before .before .before .before .before .before .before .before .before .before .before .before .before .before .before .before .if1 .left) (c .before .before .before .before .before .before .before .before .before .before .before .before .before .before .before .before .before .before .before .before .before .before .before .before .before .before .before .before .before .before .before .before .before .inside .ensures .0) (c .before .before .before .before .before .before .before .before .before .before .before .before .before .before .before .before .before .before .before .before .before .before .before .before .before .before .before .before .before .before .before .before .mark .ensures) (c .before .before .before .before .before .before .before .before .before .before .before .before .before .before .before .before .before .before .before .before .before .before .before .before .before .before .before .before .before .before .before .marked .ensures .0) (c .before .before .before .before .before .before .before .before .before .before .before .before .before .before .before .before .before .before .before .before .before .before .before .before .before .before .before .before .before .before .before .marked .ensures .1 ∙ c .before .before .before .before .before .before .before .before .before .before .before .before .before .before .before .before .before .before .before .before .before .before .before .before .before .before .before .before .before .before .before .before .before .inside .ensures .1) (c .before .before .before .before .before .before .before .before .before .before .before .before .before .before .before .before .before .before .before .before .before .before .before .before .before .before .before .declaration2 .ensures .0 _ _) (c .before .before .before .before .before .before .before .before .before .before .before .before .before .before .before .before .before .before .before .before .before .before .before .put2 .ensures .0 _ _) (c .before .before .before .before .before .before .before .before .before .before .before .before .before .before .before .before .before .before .before .before .to2 .ensures .0 _ _ _) (c .before .before .before .before .before .before .before .before .before .before .before .before .before .before .before .before .before .before .before .before .to2 .ensures .1) (c .before .before .before .before .before .before .before .before .before .before .before .before .before .before .before .before .node .ensures) (c .before .before .before .before .before .before .temporary .ensures .0)
 
 ta-returns : (t : ℕ) → cycle.Lts-ta.Need-returns (ta-claims t) (at-measure ta.Kinds.ps μ-ta ta.Reads.Pre t) ta.Reads.Post
-ta-returns t c = looping.assigned-does _ _ _ _ _ _ _ (c .before .before .before .before .before .before .before .before .before .before .before .before .before .before .before .before .before .before .before .mark .ensures) (c .before .before .before .before .before .before .before .before .before .before .before .before .before .before .before .before .before .before .statement .ensures .0) (c .before .before .before .before .before .before .before .before .before .before .before .before .before .before .before .before .before .before .statement .ensures .1) (c .before .before .before .before .before .before .before .before .before .before .before .before .before .before .before .before .put2 .ensures .0 _ _) (c .before .before .before .before .before .before .before .before .before .before .before .before .new-mark .ensures .0 _ _) (c .before .before .before .before .before .before .an .ensures)
+ta-returns t c = looping.assigned-does _ _ _ _ _ _ _ (c .before .before .before .before .before .before .before .before .before .before .before .before .before .before .before .before .before .before .before .mark .ensures) (told.own-statement _ _ (c .before .before .before .before .before .before .before .before .before .before .before .before .before .before .before .before .before .before .before .before .at-root .ensures) _ (c .before .before .before .before .before .before .before .before .before .before .before .before .before .before .before .before .before .before .statement .ensures .0)) (c .before .before .before .before .before .before .before .before .before .before .before .before .before .before .before .before .before .before .statement .ensures .1) (c .before .before .before .before .before .before .before .before .before .before .before .before .before .before .before .before .put2 .ensures .0 _ _) (c .before .before .before .before .before .before .before .before .before .before .before .before .new-mark .ensures .0 _ _) (c .before .before .before .before .before .before .an .ensures)
 
 ar-seq-requires : (t : ℕ) → cycle.Lts-ar.Need-seq-requires (ar-claims t) (at-measure ar.Kinds.ps μ-ar ar.Reads.Pre t) ar.Reads.Post
 ar-seq-requires t c κs = let z : 0 < c .before .before .before .before .before .before .before .before .before .before .before .before .before .before .before .before .before .before .before .before .before .before .args .c .left = moving.moved-levels _ _ _ _ _ (c .before .before .before .before .before .before .before .before .before .before .before .before .before .before .before .any-moved .ensures) (c .before .before .before .before .before .before .before .before .before .before .before .before .before .before .if1 .taken) in
@@ -542,7 +546,7 @@ ar-same-length-3 : (t : ℕ) → cycle.Lts-ar.Need-same-length-3 (ar-claims t) (
 ar-same-length-3 t c = omega (arith, c .before .before .before .before .before .before .before .before .before .before .before .before .before .before .before .before .before .before .before .before .before .before .before .before .before .before .before .before .before .before .before .before .before .before .before .before .before .before .before .moves-make .kept, c .before .before .before .before .before .before .before .before .before .before .before .before .before .before .before .before .before .before .before .before .before .before .before .before .before .before .before .before .before .before .before .before .before .before .before .copy .kept, c .before .before .before .before .before .before .before .before .before .before .before .before .before .before .before .before .before .before .before .before .before .before .before .before .before .before .before .before .before .seq .kept, c .before .before .before .before .before .before .before .before .before .before .before .before .before .before .before .before .before .before .slot .kept, c .before .before .before .before .before .before .before .before .eb .kept)
 
 ar-returns : (t : ℕ) → cycle.Lts-ar.Need-returns (ar-claims t) (at-measure ar.Kinds.ps μ-ar ar.Reads.Pre t) ar.Reads.Post
-ar-returns t c = bodying.arrow-moved _ _ _ _ _ _ _ _ _ _ _ _ _ _ _ _ _ _ _ (c .before .before .before .before .before .before .before .before .before .before .before .before .before .before .before .before .before .before .before .before .before .before .before .before .before .before .before .before .before .before .before .before .before .before .before .before .before .before .before .before .before .before .before .before .before .any-moved .ensures) (c .before .before .before .before .before .before .before .before .before .before .before .before .before .before .before .before .before .before .before .before .before .before .before .before .before .before .before .before .before .before .before .before .before .before .before .before .before .before .before .before .before .before .before .before .if1 .taken) (c .before .before .before .before .before .before .before .before .before .before .before .before .before .before .before .before .before .before .before .before .before .before .before .before .before .before .before .before .before .before .before .before .before .before .before .before .before .before .before .before .before .before .before .before .before .before .before .less .ensures) (c .before .before .before .before .before .before .before .before .before .before .before .before .before .before .before .before .before .before .before .before .before .before .before .before .before .before .before .before .before .before .before .before .before .before .before .before .before .before .before .before .before .before .before .before .before .before .scoped .ensures .0) (c .before .before .before .before .before .before .before .before .before .before .before .before .before .before .before .before .before .before .before .before .before .before .before .before .before .before .before .before .before .before .before .before .before .before .before .before .before .before .before .before .before .before .before .before .before .before .scoped .ensures .1) (c .before .before .before .before .before .before .before .before .before .before .before .before .before .before .before .before .before .before .before .before .before .before .before .before .before .before .before .before .before .before .before .before .before .before .before .before .before .before .before .before .before .before .before .step .ensures) (c .before .before .before .before .before .before .before .before .before .before .before .before .before .before .before .before .before .before .before .before .before .before .before .before .before .before .before .before .before .before .before .before .before .before .before .before .before .before .before .before .before .before .wide-at .ensures) (c .before .before .before .before .before .before .before .before .before .before .before .before .before .before .before .before .before .before .before .before .before .before .before .before .before .before .before .before .before .before .before .before .before .before .before .before .before .before .before .before .before .step2 .ensures) (c .before .before .before .before .before .before .before .before .before .before .before .before .before .before .before .before .before .before .before .before .before .before .before .before .before .before .before .before .before .before .before .before .before .before .before .before .before .before .before .moves-make .ensures .0) (c .before .before .before .before .before .before .before .before .before .before .before .before .before .before .before .before .before .before .before .before .before .before .before .before .before .before .before .before .before .before .before .before .before .before .before .before .before .before .before .moves-make .ensures .1 _ _) (c .before .before .before .before .before .before .before .before .before .before .before .before .before .before .before .before .before .before .before .before .before .before .before .before .before .before .before .before .before .before .before .before .before .before .before .copy .ensures .1) (c .before .before .before .before .before .before .before .before .before .before .before .before .before .before .before .before .before .before .before .before .before .before .before .before .before .before .before .before .before .before .before .before .before .before .before .copy .ensures .0 _ _) (c .before .before .before .before .before .before .before .before .before .before .before .before .before .before .before .before .before .before .before .before .before .before .before .before .before .before .before .before .before .seq .ensures) (c .before .before .before .before .before .before .before .before .before .before .before .before .before .before .before .before .before .before .before .second .ensures) (c .before .before .before .before .before .before .before .before .before .before .before .before .before .before .before .before .before .before .slot .ensures) (c .before .before .before .before .before .before .before .before .eb .ensures) (c .to .ensures .0 _ _ _) (c .before .skip .ensures) (c .to .ensures .1)
+ar-returns t c = bodying.arrow-moved _ _ _ _ _ _ _ _ _ _ _ _ _ _ _ _ _ _ _ (c .before .before .before .before .before .before .before .before .before .before .before .before .before .before .before .before .before .before .before .before .before .before .before .before .before .before .before .before .before .before .before .before .before .before .before .before .before .before .before .before .before .before .before .before .before .any-moved .ensures) (c .before .before .before .before .before .before .before .before .before .before .before .before .before .before .before .before .before .before .before .before .before .before .before .before .before .before .before .before .before .before .before .before .before .before .before .before .before .before .before .before .before .before .before .before .if1 .taken) (c .before .before .before .before .before .before .before .before .before .before .before .before .before .before .before .before .before .before .before .before .before .before .before .before .before .before .before .before .before .before .before .before .before .before .before .before .before .before .before .before .before .before .before .before .before .before .before .less .ensures) (c .before .before .before .before .before .before .before .before .before .before .before .before .before .before .before .before .before .before .before .before .before .before .before .before .before .before .before .before .before .before .before .before .before .before .before .before .before .before .before .before .before .before .before .before .before .before .scoped .ensures .0) (c .before .before .before .before .before .before .before .before .before .before .before .before .before .before .before .before .before .before .before .before .before .before .before .before .before .before .before .before .before .before .before .before .before .before .before .before .before .before .before .before .before .before .before .before .before .before .scoped .ensures .1) (c .before .before .before .before .before .before .before .before .before .before .before .before .before .before .before .before .before .before .before .before .before .before .before .before .before .before .before .before .before .before .before .before .before .before .before .before .before .before .before .before .before .before .before .step .ensures) (c .before .before .before .before .before .before .before .before .before .before .before .before .before .before .before .before .before .before .before .before .before .before .before .before .before .before .before .before .before .before .before .before .before .before .before .before .before .before .before .before .before .before .wide-at .ensures) (c .before .before .before .before .before .before .before .before .before .before .before .before .before .before .before .before .before .before .before .before .before .before .before .before .before .before .before .before .before .before .before .before .before .before .before .before .before .before .before .before .before .step2 .ensures) (c .before .before .before .before .before .before .before .before .before .before .before .before .before .before .before .before .before .before .before .before .before .before .before .before .before .before .before .before .before .before .before .before .before .before .before .before .before .before .before .moves-make .ensures .0) (c .before .before .before .before .before .before .before .before .before .before .before .before .before .before .before .before .before .before .before .before .before .before .before .before .before .before .before .before .before .before .before .before .before .before .before .before .before .before .before .moves-make .ensures .1 _ _) (c .before .before .before .before .before .before .before .before .before .before .before .before .before .before .before .before .before .before .before .before .before .before .before .before .before .before .before .before .before .before .before .before .before .before .before .copy .ensures .1) (c .before .before .before .before .before .before .before .before .before .before .before .before .before .before .before .before .before .before .before .before .before .before .before .before .before .before .before .before .before .before .before .before .before .before .before .copy .ensures .0 _ _) (told.items-own _ _ _ _ _ _ _ _ _ _ _ told.untold-11 (c .before .before .before .before .before .before .before .before .before .before .before .before .before .before .before .before .before .before .before .before .before .before .before .before .before .before .before .before .before .seq .ensures)) (c .before .before .before .before .before .before .before .before .before .before .before .before .before .before .before .before .before .before .before .second .ensures) (c .before .before .before .before .before .before .before .before .before .before .before .before .before .before .before .before .before .before .slot .ensures) (c .before .before .before .before .before .before .before .before .eb .ensures) (c .to .ensures .0 _ _ _) (c .before .skip .ensures) (c .to .ensures .1)
 
 ar-returns-2 : (t : ℕ) → cycle.Lts-ar.Need-returns-2 (ar-claims t) (at-measure ar.Kinds.ps μ-ar ar.Reads.Pre t) ar.Reads.Post
 ar-returns-2 t c = bodying.arrow-plain _ _ _ _ _ _ (c .before .before .before .before .before .before .before .before .before .before .before .any-moved .ensures) (c .before .before .before .before .before .before .before .before .before .before .if1 .left) (c .before .before .before .before .before .before .plain .ensures)
@@ -551,10 +555,10 @@ ag-returns : (t : ℕ) → cycle.Lts-ag.Need-returns (ag-claims t) (at-measure a
 ag-returns t c = λ k. (c .to .ensures .1 ∙ c .before .skip .ensures, λ g. assigning.asg-refused _ _ _ _ _ _ (c .before .before .before .before .before .before .before .before .before .less .ensures) (c .before .before .before .before .before .before .before .before .step .ensures) _ (c .before .before .before .before .before .before .before .has-rest-below-array-rest .ensures) (c .before .before .before .before .before .before .if1 .taken) (c .before .before .before .before .refuse .ensures .0 _ _) (c .to .ensures .0 _ _ _) k g)
 
 ag-an-requires : (t : ℕ) → cycle.Lts-ag.Need-an-requires (ag-claims t) (at-measure ag.Kinds.ps μ-ag ag.Reads.Pre t) ag.Reads.Post
-ag-an-requires t c κs = (omega (arith, c .before .before .before .before .before .before .before .before .before .before .before .before .before .before .before .before .before .pre .0, c .under .ensures .1, assigning.asg-falls _ _ _ _ _ (c .before .before .before .before .before .before .before .before .before .before .before .before .less .ensures) (c .before .before .before .before .before .before .before .before .has-nested-object-rest .ensures) (c .before .before .before .before .before .before .before .if2 .taken)), tt)
+ag-an-requires t c κs = (omega (arith, c .before .before .before .before .before .before .before .before .before .before .before .before .before .before .before .before .before .before .pre .0, c .under .ensures .1, assigning.asg-falls _ _ _ _ _ (c .before .before .before .before .before .before .before .before .before .before .before .before .less .ensures) (c .before .before .before .before .before .before .before .before .has-nested-object-rest .ensures) (c .before .before .before .before .before .before .before .if2 .taken)), tt)
 
 ag-returns-2 : (t : ℕ) → cycle.Lts-ag.Need-returns-2 (ag-claims t) (at-measure ag.Kinds.ps μ-ag ag.Reads.Pre t) ag.Reads.Post
-ag-returns-2 t c = λ k. (c .to2 .ensures .1 ∙ c .before .skip3 .ensures, λ g. assigning.asg-lowered _ _ _ _ _ _ (c .before .before .before .before .before .before .before .before .before .before .before .before .before .before .before .before .before .before .before .before .before .less .ensures) (c .before .before .before .before .before .before .before .before .before .before .before .before .before .before .before .before .before .before .before .before .step .ensures) _ _ _ _ _ _ _ (c .before .before .before .before .before .before .before .before .before .before .before .before .before .before .before .before .before .before .before .has-rest-below-array-rest .ensures) (c .before .before .before .before .before .before .before .before .before .before .before .before .before .before .before .before .before .before .if1 .left) (c .before .before .before .before .before .before .before .before .before .before .before .before .before .before .before .before .before .has-nested-object-rest .ensures) (c .before .before .before .before .before .before .before .before .before .before .before .before .before .before .before .before .if2 .taken) (c .before .before .before .before .before .before .before .before .before .before .before .before .before .before .before .skip2 .ensures) (c .before .before .before .before .before .before .before .before .before .before .before .before .before .before .step2 .ensures) (c .before .before .before .before .before .before .before .before .before .before .before .before .before .peek .ensures) (c .before .before .before .before .before .before .before .before .before .under .ensures) (c .before .before .before .before .before .before .before .before .an .ensures) (c .to2 .ensures .0 _ _ _) k g)
+ag-returns-2 t c = λ k. (c .to2 .ensures .1 ∙ c .before .skip3 .ensures, λ g. assigning.asg-lowered _ _ _ _ _ _ (c .before .before .before .before .before .before .before .before .before .before .before .before .before .before .before .before .before .before .before .before .before .less .ensures) (c .before .before .before .before .before .before .before .before .before .before .before .before .before .before .before .before .before .before .before .before .step .ensures) _ _ _ _ _ _ _ (c .before .before .before .before .before .before .before .before .before .before .before .before .before .before .before .before .before .before .before .has-rest-below-array-rest .ensures) (c .before .before .before .before .before .before .before .before .before .before .before .before .before .before .before .before .before .before .if1 .left) (c .before .before .before .before .before .before .before .before .before .before .before .before .before .before .before .before .before .has-nested-object-rest .ensures) (c .before .before .before .before .before .before .before .before .before .before .before .before .before .before .before .before .if2 .taken) (c .before .before .before .before .before .before .before .before .before .before .before .before .before .before .before .skip2 .ensures) (c .before .before .before .before .before .before .before .before .before .before .before .before .before .before .step2 .ensures) (c .before .before .before .before .before .before .before .before .before .before .before .before .before .peek .ensures) (told.with-own _ (c .before .before .before .before .before .before .before .before .before .under .ensures .0) (c .before .before .before .before .before .before .before .before .before .before .before .before .before .before .before .before .before .before .before .before .before .before .at-root .ensures), c .before .before .before .before .before .before .before .before .before .under .ensures .1) (c .before .before .before .before .before .before .before .before .an .ensures) (c .to2 .ensures .0 _ _ _) k g)
 
 ag-returns-3 : (t : ℕ) → cycle.Lts-ag.Need-returns-3 (ag-claims t) (at-measure ag.Kinds.ps μ-ag ag.Reads.Pre t) ag.Reads.Post
 ag-returns-3 t c = λ k. (c .before .before .before .before .before .before .plain .ensures .0, λ g. assigning.asg-plain _ _ _ _ _ _ (c .before .before .before .before .before .before .before .before .before .before .before .before .before .before .before .less .ensures) (c .before .before .before .before .before .before .before .before .before .before .before .before .before .before .step .ensures) _ (c .before .before .before .before .before .before .before .before .before .before .before .has-nested-object-rest .ensures) (c .before .before .before .before .before .before .before .before .before .before .if2 .left) (c .before .before .before .before .before .before .plain .ensures .1) k g)
@@ -622,7 +626,7 @@ ca-bl-requires : (t : ℕ) → cycle.Lts-ca.Need-bl-requires (ca-claims t) (at-m
 ca-bl-requires t c κs = (omega (arith, c .before .before .before .before .before .before .before .before .before .before .before .before .before .before .before .before .before .before .before .before .before .before .before .before .before .before .before .before .before .before .before .before .pre .0, c .before .before .before .before .before .before .before .before .before .before .before .before .before .before .before .before .before .before .before .before .before .scoped .ensures .1, c .before .before .before .before .before .before .before .before .before .before .before .before .before .before .before .before .before .before .before .before .before .before .before .before .before .before .before .less .ensures, looping.moved-level _ _ _ _ (c .before .before .before .before .before .before .before .before .before .before .before .before .before .before .before .before .before .before .before .before .before .before .before .is-moved .ensures) (c .before .before .before .before .before .before .before .before .before .before .before .before .before .before .before .before .before .before .before .before .before .before .if2 .taken)), tt)
 
 ca-returns : (t : ℕ) → cycle.Lts-ca.Need-returns (ca-claims t) (at-measure ca.Kinds.ps μ-ca ca.Reads.Pre t) ca.Reads.Post
-ca-returns t c = looping.catch-moves _ _ _ _ _ _ _ _ _ _ _ _ _ _ _ _ (c .before .before .before .before .before .before .before .before .before .before .before .before .before .before .before .before .before .before .before .before .before .before .before .before .before .before .before .before .before .before .before .before .before .before .before .before .less .ensures) (c .before .before .before .before .before .before .before .before .before .before .before .before .before .before .before .before .before .before .before .before .before .before .before .before .before .before .before .before .before .before .before .before .before .before .before .step .ensures) (c .before .before .before .before .before .before .before .before .before .before .before .before .before .before .before .before .before .before .before .before .before .before .before .before .before .before .before .before .before .before .before .before .before .before .has-first .ensures) (c .before .before .before .before .before .before .before .before .before .before .before .before .before .before .before .before .before .before .before .before .before .before .before .before .before .before .before .before .before .before .before .before .before .if1 .taken) (c .before .before .before .before .before .before .before .before .before .before .before .before .before .before .before .before .before .before .before .before .before .before .before .before .before .before .before .before .before .before .before .before .is-moved .ensures) (c .before .before .before .before .before .before .before .before .before .before .before .before .before .before .before .before .before .before .before .before .before .before .before .before .before .before .before .before .before .before .before .if2 .taken) (c .before .before .before .before .before .before .before .before .before .before .before .before .before .before .before .before .before .before .before .before .before .before .before .before .before .before .before .before .before .before .scoped .ensures .0) (c .before .before .before .before .before .before .before .before .before .before .before .before .before .before .before .before .before .before .before .before .before .before .before .before .before .before .before .before .before .before .scoped .ensures .1) (c .before .before .before .before .before .before .before .before .before .before .before .before .before .before .before .before .before .before .before .before .before .before .before .before .before .before .before .before .moves-make .ensures .0) (c .before .before .before .before .before .before .before .before .before .before .before .before .before .before .before .before .before .before .before .before .before .before .before .before .copy .ensures .1) (c .before .skip .ensures) (c .to .ensures .1) (c .to .ensures .0 _ _ _) (c .before .before .before .before .before .before .before .before .before .before .before .before .before .before .before .before .before .before .before .before .before .before .before .before .before .before .before .before .moves-make .ensures .1 _ _) (c .before .before .before .before .before .before .before .before .before .before .before .before .before .before .before .before .before .before .before .before .before .before .before .before .copy .ensures .0 _ _) (c .before .before .before .before .before .before .before .before .before .before .before .before .before .before .before .before .before .before .seq .ensures) (c .before .before .before .before .before .before .before .before .bl .ensures)
+ca-returns t c = looping.catch-moves _ _ _ _ _ _ _ _ _ _ _ _ _ _ _ _ (c .before .before .before .before .before .before .before .before .before .before .before .before .before .before .before .before .before .before .before .before .before .before .before .before .before .before .before .before .before .before .before .before .before .before .before .before .less .ensures) (c .before .before .before .before .before .before .before .before .before .before .before .before .before .before .before .before .before .before .before .before .before .before .before .before .before .before .before .before .before .before .before .before .before .before .before .step .ensures) (c .before .before .before .before .before .before .before .before .before .before .before .before .before .before .before .before .before .before .before .before .before .before .before .before .before .before .before .before .before .before .before .before .before .before .has-first .ensures) (c .before .before .before .before .before .before .before .before .before .before .before .before .before .before .before .before .before .before .before .before .before .before .before .before .before .before .before .before .before .before .before .before .before .if1 .taken) (c .before .before .before .before .before .before .before .before .before .before .before .before .before .before .before .before .before .before .before .before .before .before .before .before .before .before .before .before .before .before .before .before .is-moved .ensures) (c .before .before .before .before .before .before .before .before .before .before .before .before .before .before .before .before .before .before .before .before .before .before .before .before .before .before .before .before .before .before .before .if2 .taken) (c .before .before .before .before .before .before .before .before .before .before .before .before .before .before .before .before .before .before .before .before .before .before .before .before .before .before .before .before .before .before .scoped .ensures .0) (c .before .before .before .before .before .before .before .before .before .before .before .before .before .before .before .before .before .before .before .before .before .before .before .before .before .before .before .before .before .before .scoped .ensures .1) (c .before .before .before .before .before .before .before .before .before .before .before .before .before .before .before .before .before .before .before .before .before .before .before .before .before .before .before .before .moves-make .ensures .0) (c .before .before .before .before .before .before .before .before .before .before .before .before .before .before .before .before .before .before .before .before .before .before .before .before .copy .ensures .1) (c .before .skip .ensures) (c .to .ensures .1) (c .to .ensures .0 _ _ _) (c .before .before .before .before .before .before .before .before .before .before .before .before .before .before .before .before .before .before .before .before .before .before .before .before .before .before .before .before .moves-make .ensures .1 _ _) (c .before .before .before .before .before .before .before .before .before .before .before .before .before .before .before .before .before .before .before .before .before .before .before .before .copy .ensures .0 _ _) (told.items-own _ _ _ _ _ _ _ _ _ _ _ told.untold-11 (c .before .before .before .before .before .before .before .before .before .before .before .before .before .before .before .before .before .before .seq .ensures)) (c .before .before .before .before .before .before .before .before .bl .ensures)
 
 ca-returns-2 : (t : ℕ) → cycle.Lts-ca.Need-returns-2 (ca-claims t) (at-measure ca.Kinds.ps μ-ca ca.Reads.Pre t) ca.Reads.Post
 ca-returns-2 t c = looping.catch-keeps _ _ _ _ _ _ _ _ _ (c .before .before .before .before .before .before .before .before .before .before .before .before .before .before .before .less .ensures) (c .before .before .before .before .before .before .before .before .before .before .before .before .before .before .step .ensures) (c .before .before .before .before .before .before .before .before .before .before .before .before .before .has-first .ensures) (c .before .before .before .before .before .before .before .before .before .before .before .before .if1 .taken) (c .before .before .before .before .before .before .before .before .before .before .before .is-moved .ensures) (c .before .before .before .before .before .before .before .before .before .before .if2 .left) (c .before .before .before .before .before .before .plain .ensures)
@@ -637,7 +641,7 @@ da-returns-2 : (t : ℕ) → cycle.Lts-da.Need-returns-2 (da-claims t) (at-measu
 da-returns-2 t c = finding.array-taken _ _ _ _ _ _ _ (c .before .before .skip .ensures) (c .before .if2 .taken) (c .to .ensures .1) (c .to .ensures .0 _ _ _)
 
 da-returns-3 : (t : ℕ) → cycle.Lts-da.Need-returns-3 (da-claims t) (at-measure da.Kinds.ps μ-da da.Reads.Pre t) da.Reads.Post
-da-returns-3 t c = finding.array-items _ _ _ _ _ _ _ _ _ _ _ _ _ _ _ _ (c .before .before .before .before .before .before .before .before .before .before .before .before .before .before .before .before .before .before .before .skip .ensures) (c .before .before .before .before .before .before .before .before .before .before .before .before .before .before .before .before .before .before .if2 .left) (c .before .before .before .before .before .before .before .before .before .before .before .before .before .before .before .before .before .step .ensures) (c .before .before .before .before .before .before .before .before .before .before .before .before .before .before .before .before .wide-at .ensures) (c .before .before .before .before .before .before .before .before .before .before .before .before .before .before .before .step2 .ensures) (c .before .before .before .before .before .before .before .before .before .before .before .before .before .before .to2 .ensures .1) (c .before .before .before .before .before .before .before .before .before .before .before .before .before .before .to2 .ensures .0 _ _ _) (c .before .before .before .before .before .before .before .before .before .before .less .ensures) (c .before .before .before .before .before .before .before .before .before .under .ensures .1) (c .before .before .before .before .before .before .before .before .before .under .ensures .0) (c .before .before .before .before .before .before .before .before .item-mode .ensures) (c .before .before .before .before .before .before .before .seq .ensures) (c .to3 .ensures .1) (c .to3 .ensures .0 _ _ _)
+da-returns-3 t c = finding.array-items _ _ _ _ _ _ _ _ _ _ _ _ _ _ _ _ (c .before .before .before .before .before .before .before .before .before .before .before .before .before .before .before .before .before .before .before .skip .ensures) (c .before .before .before .before .before .before .before .before .before .before .before .before .before .before .before .before .before .before .if2 .left) (c .before .before .before .before .before .before .before .before .before .before .before .before .before .before .before .before .before .step .ensures) (c .before .before .before .before .before .before .before .before .before .before .before .before .before .before .before .before .wide-at .ensures) (c .before .before .before .before .before .before .before .before .before .before .before .before .before .before .before .step2 .ensures) (c .before .before .before .before .before .before .before .before .before .before .before .before .before .before .to2 .ensures .1) (c .before .before .before .before .before .before .before .before .before .before .before .before .before .before .to2 .ensures .0 _ _ _) (c .before .before .before .before .before .before .before .before .before .before .less .ensures) (c .before .before .before .before .before .before .before .before .before .under .ensures .1) (told.with-same _ (c .before .before .before .before .before .before .before .before .before .under .ensures .0)) (c .before .before .before .before .before .before .before .before .item-mode .ensures) (told.items-with _ _ _ _ _ _ _ _ _ _ _ (told.item-told (c .before .before .before .before .before .before .before .before .before .before .before .before .before .before .before .before .before .before .before .before .before .before .before .before .before .before .args .mode) _ (c .before .before .before .before .before .before .before .before .item-mode .ensures)) (c .before .before .before .before .before .before .before .seq .ensures)) (c .to3 .ensures .1) (c .to3 .ensures .0 _ _ _)
 
 decl-returns : (t : ℕ) → cycle.Lts-decl.Need-returns (decl-claims t) (at-measure decl.Kinds.ps μ-decl decl.Reads.Pre t) decl.Reads.Post
 decl-returns t c = λ k. (node-none _ _ _ (c .if1 .taken), λ good. good-none _ _ _ (c .if1 .taken) good)
@@ -646,7 +650,7 @@ decl-returns-2 : (t : ℕ) → cycle.Lts-decl.Need-returns-2 (decl-claims t) (at
 decl-returns-2 t c = declaring.declaration-refuses _ _ _ _ _ _ _ (c .before .before .before .before .before .before .before .declaration-lacks-form .ensures) (c .before .before .before .before .before .before .if2 .taken) (c .before .before .before .before .refuse .ensures .0 _ _) (c .before .skip .ensures) (c .to .ensures .1) (c .to .ensures .0 _ _ _)
 
 decl-returns-3 : (t : ℕ) → cycle.Lts-decl.Need-returns-3 (decl-claims t) (at-measure decl.Kinds.ps μ-decl decl.Reads.Pre t) decl.Reads.Post
-decl-returns-3 t c = declaring.declaration-writes _ _ _ _ _ _ _ _ _ _ _ _ _ _ _ _ _ (c .before .before .before .before .before .before .before .before .before .before .before .before .before .before .before .before .before .before .before .before .before .before .before .before .before .before .before .before .before .before .before .before .before .before .before .declaration-lacks-form .ensures) (c .before .before .before .before .before .before .before .before .before .before .before .before .before .before .before .before .before .before .before .before .before .before .before .before .before .before .before .before .before .before .before .before .before .before .if2 .left) (c .before .before .before .before .before .before .before .before .before .before .before .before .before .before .before .before .before .before .before .before .before .before .before .before .before .before .before .before .before .before .before .declaration-hands .ensures .0) (c .before .before .before .before .before .before .before .before .before .before .before .before .before .before .before .before .before .before .before .before .before .before .before .before .before .before .before .before .before .before .before .declaration-hands .ensures .1 _) (c .before .before .before .before .before .before .before .before .before .before .before .before .before .before .before .before .before .before .before .before .before .before .before .before .before .before .step .ensures) (c .before .before .before .before .before .before .before .before .before .before .before .before .before .before .before .before .before .before .before .before .before .before .before .before .before .declaration-becomes .ensures) (c .before .before .before .before .before .before .before .before .before .before .before .before .before .before .before .before .before .before .before .before .before .before .before .copy .ensures .0 _ _) (c .before .before .before .before .before .before .before .before .before .before .before .before .before .before .before .before .before .before .before .wide .ensures .0 _ _) (c .before .before .before .before .before .before .before .before .before .before .before .before .before .before .before .before .step2 .ensures) (c .before .before .before .before .before .before .before .before .before .before .before .before .before .before .before .to2 .ensures .1) (c .before .before .before .before .before .before .before .before .before .before .before .before .before .before .before .to2 .ensures .0 _ _ _) (c .before .before .before .before .before .before .before .before .before .before .before .before .before .before .skip2 .ensures) (c .before .before .before .before .before .before .before .before .before .before .less .ensures) (c .before .before .before .before .before .before .before .before .before .under .ensures .0) (c .before .before .before .before .before .before .before .before .before .under .ensures .1) (c .before .before .before .before .before .before .before .before .wide-at .ensures) (c .before .before .before .before .before .before .before .seq .ensures) (c .to3 .ensures .1) (c .to3 .ensures .0 _ _ _)
+decl-returns-3 t c = declaring.declaration-writes _ _ _ _ _ _ _ _ _ _ _ _ _ _ _ _ _ _ (c .before .before .before .before .before .before .before .before .before .before .before .before .before .before .before .before .before .before .before .before .before .before .before .before .before .before .before .before .before .before .before .before .before .before .before .declaration-lacks-form .ensures) (c .before .before .before .before .before .before .before .before .before .before .before .before .before .before .before .before .before .before .before .before .before .before .before .before .before .before .before .before .before .before .before .before .before .before .if2 .left) (c .before .before .before .before .before .before .before .before .before .before .before .before .before .before .before .before .before .before .before .before .before .before .before .before .before .before .before .before .before .before .before .before .before .before .before .before .before .before .at-root .ensures) (c .before .before .before .before .before .before .before .before .before .before .before .before .before .before .before .before .before .before .before .before .before .before .before .before .before .before .before .before .before .before .before .declaration-hands .ensures .0) (c .before .before .before .before .before .before .before .before .before .before .before .before .before .before .before .before .before .before .before .before .before .before .before .before .before .before .before .before .before .before .before .declaration-hands .ensures .1 _) (c .before .before .before .before .before .before .before .before .before .before .before .before .before .before .before .before .before .before .before .before .before .before .before .before .before .before .step .ensures) (c .before .before .before .before .before .before .before .before .before .before .before .before .before .before .before .before .before .before .before .before .before .before .before .before .before .declaration-becomes .ensures) (c .before .before .before .before .before .before .before .before .before .before .before .before .before .before .before .before .before .before .before .before .before .before .before .copy .ensures .0 _ _) (c .before .before .before .before .before .before .before .before .before .before .before .before .before .before .before .before .before .before .before .wide .ensures .0 _ _) (c .before .before .before .before .before .before .before .before .before .before .before .before .before .before .before .before .step2 .ensures) (c .before .before .before .before .before .before .before .before .before .before .before .before .before .before .before .to2 .ensures .1) (c .before .before .before .before .before .before .before .before .before .before .before .before .before .before .before .to2 .ensures .0 _ _ _) (c .before .before .before .before .before .before .before .before .before .before .before .before .before .before .skip2 .ensures) (c .before .before .before .before .before .before .before .before .before .before .less .ensures) (told.with-own _ (c .before .before .before .before .before .before .before .before .before .under .ensures .0) (c .before .before .before .before .before .before .before .before .before .before .before .before .before .before .before .before .before .before .before .before .before .before .before .before .before .before .before .before .before .before .before .before .before .before .before .before .before .before .at-root .ensures)) (c .before .before .before .before .before .before .before .before .before .under .ensures .1) (c .before .before .before .before .before .before .before .before .wide-at .ensures) (told.items-with _ _ _ _ _ _ _ _ _ _ _ told.told-10 (c .before .before .before .before .before .before .before .seq .ensures)) (c .to3 .ensures .1) (c .to3 .ensures .0 _ _ _)
 
 deep-returns : (t : ℕ) → cycle.Lts-deep.Need-returns (deep-claims t) (at-measure deep.Kinds.ps μ-deep deep.Reads.Pre t) deep.Reads.Post
 deep-returns t c = λ good mode suit. good-none _ _ _ (c .if1 .taken) good
@@ -658,7 +662,7 @@ deep-returns-3 : (t : ℕ) → cycle.Lts-deep.Need-returns-3 (deep-claims t) (at
 deep-returns-3 t c = c .before .before .before .before .before .before .da .ensures (sym (c .before .before .before .before .before .before .before .before .before .before .before .peek .ensures .value) ∙ c .before .before .before .before .before .before .before .before .before .before .match .keys2)
 
 deep-returns-4 : (t : ℕ) → cycle.Lts-deep.Need-returns-4 (deep-claims t) (at-measure deep.Kinds.ps μ-deep deep.Reads.Pre t) deep.Reads.Post
-deep-returns-4 t c = finding.deep-default _ _ _ _ _ _ _ _ _ _ _ _ _ _ (c .before .before .before .before .before .before .before .before .before .before .before .before .before .before .before .before .before .peek .ensures .value) (c .before .before .before .before .before .before .before .before .before .before .before .before .before .before .before .before .match .keys3) (c .before .before .before .before .before .before .before .before .before .before .before .before .before .before .before .less .ensures) (c .before .before .before .before .before .before .before .before .before .under .ensures .1) (c .before .before .before .before .before .before .before .before .before .under .ensures .0) (c .before .before .before .before .before .before .before .before .before .before .before .before .before .before .step .ensures) (c .before .before .before .before .before .before .before .before .before .before .before .before .before .to .ensures .1) (c .before .before .before .before .before .before .before .before .before .before .before .before .before .to .ensures .0 _ _ _) (c .before .before .before .before .before .before .before .before .deep .ensures) (c .before .skip .ensures) (c .to2 .ensures .1) (c .to2 .ensures .0 _ _ _)
+deep-returns-4 t c = finding.deep-default _ _ _ _ _ _ _ _ _ _ _ _ _ _ (c .before .before .before .before .before .before .before .before .before .before .before .before .before .before .before .before .before .peek .ensures .value) (c .before .before .before .before .before .before .before .before .before .before .before .before .before .before .before .before .match .keys3) (c .before .before .before .before .before .before .before .before .before .before .before .before .before .before .before .less .ensures) (c .before .before .before .before .before .before .before .before .before .under .ensures .1) (told.with-same _ (c .before .before .before .before .before .before .before .before .before .under .ensures .0)) (c .before .before .before .before .before .before .before .before .before .before .before .before .before .before .step .ensures) (c .before .before .before .before .before .before .before .before .before .before .before .before .before .to .ensures .1) (c .before .before .before .before .before .before .before .before .before .before .before .before .before .to .ensures .0 _ _ _) (c .before .before .before .before .before .before .before .before .deep .ensures) (c .before .skip .ensures) (c .to2 .ensures .1) (c .to2 .ensures .0 _ _ _)
 
 deep-returns-5 : (t : ℕ) → cycle.Lts-deep.Need-returns-5 (deep-claims t) (at-measure deep.Kinds.ps μ-deep deep.Reads.Pre t) deep.Reads.Post
 deep-returns-5 t c = finding.deep-leaf _ _ _ _ _ _ _ _ (c .before .before .before .peek .ensures .value) (c .before .before .match .rest .0 .0 .1) (c .before .before .match .rest .0 .1) (c .before .before .match .rest .1) (c .before .skip2 .ensures) (c .to3 .ensures .1) (c .to3 .ensures .0 _ _ _)
@@ -682,7 +686,7 @@ dh-same-length-3 : (t : ℕ) → cycle.Lts-dh.Need-same-length-3 (dh-claims t) (
 dh-same-length-3 t c = omega (arith, c .before .before .await-of .kept, c .before .before .before .before .before .before .before .before .before .before .bl .kept, c .before .before .before .before .before .before .before .before .before .before .before .before .before .before .before .before .before .before .before .before .before .node .kept, c .before .before .before .before .before .before .before .before .before .before .before .before .before .before .before .before .before .before .before .before .before .before .before .before .before .before .before .before .before .before .before .before .seq .kept, c .before .before .before .before .before .before .before .before .before .before .before .before .before .before .before .before .before .before .before .before .before .before .before .before .before .before .before .before .before .before .before .before .before .before .before .before .before .before .before .copy .kept, c .before .before .before .before .before .before .before .before .before .before .before .before .before .before .before .before .before .before .before .before .before .before .before .before .before .before .before .before .before .before .before .before .before .before .before .before .before .before .before .before .before .before .before .moves-make .kept)
 
 dh-returns-2 : (t : ℕ) → cycle.Lts-dh.Need-returns-2 (dh-claims t) (at-measure dh.Kinds.ps μ-dh dh.Reads.Pre t) dh.Reads.Post
-dh-returns-2 t c = looping.declaring-does _ _ _ _ _ _ _ _ _ _ _ _ _ _ _ _ _ _ _ _ _ (c .before .before .before .before .before .before .before .before .before .before .before .before .before .before .before .before .before .before .before .before .before .before .before .before .before .before .before .before .before .before .before .before .before .before .before .before .before .before .before .before .before .before .before .before .before .before .before .before .before .before .less .ensures) (c .before .before .before .before .before .before .before .before .before .before .before .before .before .before .before .before .before .before .before .before .before .before .before .before .before .before .before .before .before .before .before .before .before .before .before .before .before .before .before .before .before .before .before .before .before .before .before .before .before .less2 .ensures) (c .before .before .before .before .before .before .before .before .before .before .before .before .before .before .before .before .before .before .before .before .before .before .before .before .before .before .before .before .before .before .before .before .before .before .before .before .before .before .before .before .before .before .before .before .before .before .before .before .step .ensures) (c .before .before .before .before .before .before .before .before .before .before .before .before .before .before .before .before .before .before .before .before .before .before .before .before .before .before .before .before .before .before .before .before .before .before .before .before .before .before .before .before .before .before .before .before .before .before .before .step2 .ensures) (c .before .before .before .before .before .before .before .before .before .before .before .before .before .before .before .before .before .before .before .before .before .before .before .before .before .before .before .before .before .before .before .before .before .before .before .before .before .before .before .before .before .before .before .before .before .before .wide-at .ensures) (c .before .before .before .before .before .before .before .before .before .before .before .before .before .before .before .before .before .before .before .before .before .before .before .before .before .before .before .before .before .before .before .before .before .before .before .before .before .before .before .before .before .before .before .before .before .step3 .ensures) (c .before .before .before .before .before .before .before .before .before .before .before .before .before .before .before .before .before .before .before .before .before .before .before .before .before .before .before .before .before .before .before .before .before .scoped .ensures .0) (c .before .before .before .before .before .before .before .before .before .before .before .before .before .before .before .before .before .before .before .before .before .before .before .before .before .before .before .before .before .before .before .before .before .scoped .ensures .1) (c .before .before .before .before .before .before .before .before .before .before .before .before .before .before .before .before .before .before .before .before .before .before .scoped2 .ensures .0) (c .before .before .before .before .before .before .before .before .before .before .before .before .before .before .before .before .before .before .before .before .before .before .scoped2 .ensures .1) (c .before .before .before .before .before .before .before .before .before .before .before .scoped3 .ensures .0) (c .before .before .before .before .before .before .before .before .before .before .before .scoped3 .ensures .1) (c .before .before .before .before .before .before .before .before .before .before .before .before .before .before .before .before .before .before .before .before .before .before .before .before .before .before .before .before .before .before .before .before .before .before .before .before .before .before .before .before .before .before .before .moves-make .ensures .0) (c .before .before .before .before .before .before .before .before .before .before .before .before .before .before .before .before .before .before .before .before .before .before .before .before .before .before .before .before .before .before .before .before .before .before .before .before .before .before .before .copy .ensures .1) (c .before .before .before .before .before .before .before .before .before .before .before .before .before .before .before .before .before .before .before .before .before .before .before .before .before .before .before .before .before .before .before .before .before .before .before .before .before .before .before .before .before .before .before .moves-make .ensures .1 _ _) (c .before .before .before .before .before .before .before .before .before .before .before .before .before .before .before .before .before .before .before .before .before .before .before .before .before .before .before .before .before .before .before .before .before .before .before .before .before .before .before .copy .ensures .0 _ _) (c .before .before .before .before .before .before .before .before .before .before .before .before .before .before .before .before .before .before .before .before .before .before .before .before .before .before .before .before .before .before .before .before .seq .ensures) (c .before .before .before .before .before .before .before .before .before .before .before .before .before .before .before .before .before .before .before .before .before .node .ensures) (c .before .before .before .before .before .before .before .before .before .before .bl .ensures) (c .before .before .await-of .ensures _ _)
+dh-returns-2 t c = looping.declaring-does _ _ _ _ _ _ _ _ _ _ _ _ _ _ _ _ _ _ _ _ _ (c .before .before .before .before .before .before .before .before .before .before .before .before .before .before .before .before .before .before .before .before .before .before .before .before .before .before .before .before .before .before .before .before .before .before .before .before .before .before .before .before .before .before .before .before .before .before .before .before .before .before .less .ensures) (c .before .before .before .before .before .before .before .before .before .before .before .before .before .before .before .before .before .before .before .before .before .before .before .before .before .before .before .before .before .before .before .before .before .before .before .before .before .before .before .before .before .before .before .before .before .before .before .before .before .less2 .ensures) (c .before .before .before .before .before .before .before .before .before .before .before .before .before .before .before .before .before .before .before .before .before .before .before .before .before .before .before .before .before .before .before .before .before .before .before .before .before .before .before .before .before .before .before .before .before .before .before .before .step .ensures) (c .before .before .before .before .before .before .before .before .before .before .before .before .before .before .before .before .before .before .before .before .before .before .before .before .before .before .before .before .before .before .before .before .before .before .before .before .before .before .before .before .before .before .before .before .before .before .before .step2 .ensures) (c .before .before .before .before .before .before .before .before .before .before .before .before .before .before .before .before .before .before .before .before .before .before .before .before .before .before .before .before .before .before .before .before .before .before .before .before .before .before .before .before .before .before .before .before .before .before .wide-at .ensures) (c .before .before .before .before .before .before .before .before .before .before .before .before .before .before .before .before .before .before .before .before .before .before .before .before .before .before .before .before .before .before .before .before .before .before .before .before .before .before .before .before .before .before .before .before .before .step3 .ensures) (c .before .before .before .before .before .before .before .before .before .before .before .before .before .before .before .before .before .before .before .before .before .before .before .before .before .before .before .before .before .before .before .before .before .scoped .ensures .0) (c .before .before .before .before .before .before .before .before .before .before .before .before .before .before .before .before .before .before .before .before .before .before .before .before .before .before .before .before .before .before .before .before .before .scoped .ensures .1) (c .before .before .before .before .before .before .before .before .before .before .before .before .before .before .before .before .before .before .before .before .before .before .scoped2 .ensures .0) (c .before .before .before .before .before .before .before .before .before .before .before .before .before .before .before .before .before .before .before .before .before .before .scoped2 .ensures .1) (c .before .before .before .before .before .before .before .before .before .before .before .scoped3 .ensures .0) (c .before .before .before .before .before .before .before .before .before .before .before .scoped3 .ensures .1) (c .before .before .before .before .before .before .before .before .before .before .before .before .before .before .before .before .before .before .before .before .before .before .before .before .before .before .before .before .before .before .before .before .before .before .before .before .before .before .before .before .before .before .before .moves-make .ensures .0) (c .before .before .before .before .before .before .before .before .before .before .before .before .before .before .before .before .before .before .before .before .before .before .before .before .before .before .before .before .before .before .before .before .before .before .before .before .before .before .before .copy .ensures .1) (c .before .before .before .before .before .before .before .before .before .before .before .before .before .before .before .before .before .before .before .before .before .before .before .before .before .before .before .before .before .before .before .before .before .before .before .before .before .before .before .before .before .before .before .moves-make .ensures .1 _ _) (c .before .before .before .before .before .before .before .before .before .before .before .before .before .before .before .before .before .before .before .before .before .before .before .before .before .before .before .before .before .before .before .before .before .before .before .before .before .before .before .copy .ensures .0 _ _) (told.items-own _ _ _ _ _ _ _ _ _ _ _ told.untold-11 (c .before .before .before .before .before .before .before .before .before .before .before .before .before .before .before .before .before .before .before .before .before .before .before .before .before .before .before .before .before .before .before .before .seq .ensures)) (c .before .before .before .before .before .before .before .before .before .before .before .before .before .before .before .before .before .before .before .before .before .node .ensures) (c .before .before .before .before .before .before .before .before .before .before .bl .ensures) (c .before .before .await-of .ensures _ _)
 
 db-returns : (t : ℕ) → cycle.Lts-db.Need-returns (db-claims t) (at-measure db.Kinds.ps μ-db db.Reads.Pre t) db.Reads.Post
 db-returns t c = λ k good mode suit. good-none _ _ _ (c .if1 .taken) good
@@ -694,19 +698,19 @@ db-returns-3 : (t : ℕ) → cycle.Lts-db.Need-returns-3 (db-claims t) (at-measu
 db-returns-3 t c = finding.object-passed _ _ _ _ _ _ _ _ (c .before .if4 .taken) (c .before .before .before .before .has-second .ensures) (c .before .before .before .if3 .taken) (c .before .before .skip .ensures) (c .to .ensures .1) (c .to .ensures .0 _ _ _)
 
 db-returns-4 : (t : ℕ) → cycle.Lts-db.Need-returns-4 (db-claims t) (at-measure db.Kinds.ps μ-db db.Reads.Pre t) db.Reads.Post
-db-returns-4 t c = finding.object-own _ _ _ _ _ _ _ _ (c .before .before .before .before .before .before .before .before .before .before .before .before .before .before .before .before .before .if2 .left) (c .before .before .before .before .before .before .before .before .before .before .before .before .before .if4 .left) (c .before .before .before .before .before .before .before .before .before .before .before .before .before .before .before .before .has-second .ensures) (c .before .before .before .before .before .before .before .before .before .before .before .before .before .before .before .if3 .taken) (assigning.own-top _ _ _ _ _ _ _ (c .before .before .before .before .before .before .before .before .before .inside .ensures) (c .before .before .before .before .before .before .before .before .cell .ensures) (c .before .before .before .before .before .before .before .top .ensures)) (c .before .before .before .before .before .before .before .before .before .before .before .before .before .before .skip .ensures) (c .to2 .ensures .1) (c .to2 .ensures .0 _ _ _)
+db-returns-4 t c = finding.object-own _ _ _ _ _ _ _ _ (c .before .before .before .before .before .before .before .before .before .before .before .before .before .before .before .before .before .if2 .left) (c .before .before .before .before .before .before .before .before .before .before .before .before .before .if4 .left) (c .before .before .before .before .before .before .before .before .before .before .before .before .before .before .before .before .has-second .ensures) (c .before .before .before .before .before .before .before .before .before .before .before .before .before .before .before .if3 .taken) (assigning.own-top _ _ _ _ _ _ _ (told.with-inner _ _ (c .before .before .before .before .before .before .before .before .before .inside .ensures .0), c .before .before .before .before .before .before .before .before .before .inside .ensures .1) (c .before .before .before .before .before .before .before .before .cell .ensures) (c .before .before .before .before .before .before .before .top .ensures)) (c .before .before .before .before .before .before .before .before .before .before .before .before .before .before .skip .ensures) (c .to2 .ensures .1) (c .to2 .ensures .0 _ _ _)
 
 db-returns-5 : (t : ℕ) → cycle.Lts-db.Need-returns-5 (db-claims t) (at-measure db.Kinds.ps μ-db db.Reads.Pre t) db.Reads.Post
-db-returns-5 t c = finding.object-plain _ _ _ _ _ _ _ _ (c .before .before .before .before .before .before .before .before .before .before .before .before .before .if2 .left) (c .before .before .before .before .before .before .before .value-mode .ensures) (c .before .before .before .before .before .before .before .before .before .before .before .before .has-second .ensures) (c .before .before .before .before .before .before .before .before .before .before .before .if3 .left) (c .before .before .before .before .before .before .pr .ensures)
+db-returns-5 t c = finding.object-plain _ _ _ _ _ _ _ _ (c .before .before .before .before .before .before .before .before .before .before .before .before .before .if2 .left) (c .before .before .before .before .before .before .before .value-mode .ensures) (c .before .before .before .before .before .before .before .before .before .before .before .before .has-second .ensures) (c .before .before .before .before .before .before .before .before .before .before .before .if3 .left) (c .before .before .before .before .before .before .pr .ensures (told.value-told (c .before .before .before .before .before .before .before .before .before .before .before .before .before .before .before .before .before .before .before .before .args .mode) _ (c .before .before .before .before .before .before .before .value-mode .ensures)))
 
 dr-returns : (t : ℕ) → cycle.Lts-dr.Need-returns (dr-claims t) (at-measure dr.Kinds.ps μ-dr dr.Reads.Pre t) dr.Reads.Post
-dr-returns t c = declaring.declarator-bare _ _ _ _ _ _ _ _ (c .before .before .before .before .before .before .before .before .before .before .before .before .before .start-of .ensures) (c .before .before .before .before .before .before .before .before .before .before .before .enum-told .given .1) (c .before .before .before .before .before .before .before .inside .ensures .0) (c .before .before .before .before .before .before .before .inside .ensures .1) (c .before .before .before .before .before .before .node .ensures)
+dr-returns t c = declaring.declarator-bare _ _ _ _ _ _ _ _ (c .before .before .before .before .before .before .before .before .before .before .before .before .before .start-of .ensures) (c .before .before .before .before .before .before .before .before .before .before .before .enum-told .given .1) (c .before .before .before .before .before .before .before .told-inside .ensures .0) (c .before .before .before .before .before .before .before .told-inside .ensures .1) (c .before .before .before .before .before .before .node .ensures)
 
 dr-returns-2 : (t : ℕ) → cycle.Lts-dr.Need-returns-2 (dr-claims t) (at-measure dr.Kinds.ps μ-dr dr.Reads.Pre t) dr.Reads.Post
-dr-returns-2 t c = declaring.declarator-done _ _ _ _ _ _ _ _ _ _ _ _ _ _ _ (c .before .before .before .before .before .before .before .before .before .before .before .before .before .before .before .before .before .before .before .before .before .before .less .ensures) (c .before .before .before .before .before .before .before .before .before .before .before .before .before .before .before .before .before .before .before .before .before .step .ensures) (c .before .before .before .before .before .before .before .before .before .before .before .before .before .before .before .before .before .before .before .before .start-of .ensures) (c .before .before .before .before .before .before .before .before .before .before .before .before .before .before .before .before .before .before .init .given .1) (c .before .before .before .before .before .before .before .before .before .before .before .before .before .before .before .before .has-nested-object-rest .ensures) (c .before .before .before .before .before .before .before .before .before .before .before .before .before .before .before .if1 .taken) (c .before .before .before .before .before .before .before .before .before .before .before .before .before .before .skip .ensures) (c .before .before .before .before .before .before .before .before .before .before .before .before .before .cell .ensures) (c .before .before .before .before .before .before .before .before .before .before .before .before .new .ensures) (c .before .before .before .before .before .before .before .before .under .ensures .0) (c .before .before .before .before .before .before .before .before .under .ensures .1) (c .before .before .before .before .before .before .before .lo .ensures) (c .to .ensures .0 _ _ _) (c .to .ensures .1)
+dr-returns-2 t c = declaring.declarator-done _ _ _ _ _ _ _ _ _ _ _ _ _ _ _ (c .before .before .before .before .before .before .before .before .before .before .before .before .before .before .before .before .before .before .before .before .before .before .less .ensures) (c .before .before .before .before .before .before .before .before .before .before .before .before .before .before .before .before .before .before .before .before .before .step .ensures) (c .before .before .before .before .before .before .before .before .before .before .before .before .before .before .before .before .before .before .before .before .start-of .ensures) (c .before .before .before .before .before .before .before .before .before .before .before .before .before .before .before .before .before .before .init .given .1) (c .before .before .before .before .before .before .before .before .before .before .before .before .before .before .before .before .has-nested-object-rest .ensures) (c .before .before .before .before .before .before .before .before .before .before .before .before .before .before .before .if1 .taken) (c .before .before .before .before .before .before .before .before .before .before .before .before .before .before .skip .ensures) (c .before .before .before .before .before .before .before .before .before .before .before .before .before .cell .ensures) (c .before .before .before .before .before .before .before .before .before .before .before .before .new .ensures) (told.with-same _ (c .before .before .before .before .before .before .before .before .under .ensures .0)) (c .before .before .before .before .before .before .before .before .under .ensures .1) (c .before .before .before .before .before .before .before .lo .ensures) (c .to .ensures .0 _ _ _) (c .to .ensures .1)
 
 dr-returns-3 : (t : ℕ) → cycle.Lts-dr.Need-returns-3 (dr-claims t) (at-measure dr.Kinds.ps μ-dr dr.Reads.Pre t) dr.Reads.Post
-dr-returns-3 t c = declaring.declarator-stays _ _ _ _ _ _ _ _ _ _ _ _ (c .before .before .before .before .before .before .before .before .before .before .before .before .before .before .before .before .before .before .less .ensures) (c .before .before .before .before .before .before .before .before .before .before .before .before .before .before .before .before .before .step .ensures) (c .before .before .before .before .before .before .before .before .before .before .before .before .before .before .before .before .start-of .ensures) (c .before .before .before .before .before .before .before .before .before .before .before .before .before .before .init .given .1) (c .before .before .before .before .before .before .before .before .before .before .before .before .has-nested-object-rest .ensures) (c .before .before .before .before .before .before .before .before .before .before .before .if1 .left) (c .before .before .before .before .before .before .before .inside2 .ensures .0) (c .before .before .before .before .before .before .before .inside2 .ensures .1) (c .before .before .before .before .before .before .node2 .ensures)
+dr-returns-3 t c = declaring.declarator-stays _ _ _ _ _ _ _ _ _ _ _ _ (c .before .before .before .before .before .before .before .before .before .before .before .before .before .before .before .before .before .before .less .ensures) (c .before .before .before .before .before .before .before .before .before .before .before .before .before .before .before .before .before .step .ensures) (c .before .before .before .before .before .before .before .before .before .before .before .before .before .before .before .before .start-of .ensures) (c .before .before .before .before .before .before .before .before .before .before .before .before .before .before .init .given .1) (c .before .before .before .before .before .before .before .before .before .before .before .before .has-nested-object-rest .ensures) (c .before .before .before .before .before .before .before .before .before .before .before .if1 .left) (c .before .before .before .before .before .before .before .told-inside2 .ensures .0) (c .before .before .before .before .before .before .before .told-inside2 .ensures .1) (c .before .before .before .before .before .before .node2 .ensures)
 
 eb-returns : (t : ℕ) → cycle.Lts-eb.Need-returns (eb-claims t) (at-measure eb.Kinds.ps μ-eb eb.Reads.Pre t) eb.Reads.Post
 eb-returns t c = c .before .before .before .before .before .before .body .ensures (sym (c .before .before .before .before .before .before .before .before .before .before .before .peek .ensures .value) ∙ c .before .before .before .before .before .before .before .before .before .before .if1 .taken)
@@ -767,10 +771,10 @@ fb-returns : (t : ℕ) → cycle.Lts-fb.Need-returns (fb-claims t) (at-measure f
 fb-returns t c = λ k good. good-none _ _ _ (c .if1 .taken) good
 
 fb-returns-2 : (t : ℕ) → cycle.Lts-fb.Need-returns-2 (fb-claims t) (at-measure fb.Kinds.ps μ-fb fb.Reads.Pre t) fb.Reads.Post
-fb-returns-2 t c = finding.found-resting _ _ _ _ _ _ _ _ _ _ _ _ _ _ _ _ _ _ _ _ _ (c .before .before .before .before .before .before .before .before .before .before .before .before .before .before .before .before .before .before .before .before .before .before .before .before .before .before .before .before .before .before .before .before .before .before .before .before .before .before .before .before .before .before .before .less .ensures) (c .before .before .before .before .before .before .before .before .before .under .ensures .1) (c .before .before .before .before .before .before .before .before .before .under .ensures .0) (c .before .before .before .before .before .before .before .before .before .before .before .before .before .before .before .before .before .before .before .before .before .before .before .before .before .before .before .before .before .before .before .before .before .before .before .before .before .before .before .before .before .before .step .ensures) (c .before .before .before .before .before .before .before .before .before .before .before .before .before .before .before .before .before .before .before .before .before .before .before .before .before .before .before .before .before .before .before .before .before .before .before .before .before .before .before .before .before .wide-at .ensures) (c .before .before .before .before .before .before .before .before .before .before .before .before .before .before .before .before .before .before .before .before .before .before .before .before .before .before .before .before .before .before .before .before .before .before .before .before .before .before .before .before .step2 .ensures) (c .before .before .before .before .before .before .before .before .before .before .before .before .before .to .ensures .1) (c .before .before .before .before .before .before .before .before .before .before .before .before .before .before .before .before .before .before .before .before .before .before .before .before .before .before .before .before .before .before .before .before .before .before .before .before .before .before .before .has-second .ensures) (c .before .before .before .before .before .before .before .before .before .before .before .before .before .before .before .before .before .before .before .before .before .before .before .before .before .before .before .before .before .before .before .before .before .before .before .before .before .before .if2 .taken) (c .before .before .before .before .before .before .before .before .before .before .before .before .before .before .before .before .before .before .before .before .before .before .before .before .before .before .before .before .before .before .before .before .before .before .cell .ensures) (c .before .before .before .before .before .before .before .before .before .before .before .before .before .before .before .before .before .before .before .before .before .before .before .before .before .before .before .before .before .before .before .before .before .cell-source .ensures _) (c .before .before .before .before .before .before .before .before .before .before .before .before .before .before .before .before .before .before .before .before .before .before .before .before .before .before .before .before .before .before .before .before .own .ensures) (c .before .before .before .before .before .before .before .before .before .before .before .before .before .before .before .before .before .before .before .before .before .before .cell2 .ensures) (c .before .before .before .before .before .before .before .before .before .before .before .before .before .before .before .before .before .before .before .before .before .cell-source2 .ensures _) (c .before .before .before .before .before .before .before .before .before .before .before .before .before .before .before .before .before .before .before .before .os .ensures) (c .before .before .before .before .before .before .before .before .before .before .before .before .before .to .ensures .0 _ _ _) (c .before .before .before .before .before .before .before .before .seq .ensures) (c .before .skip .ensures) (c .to2 .ensures .1) (c .to2 .ensures .0 _ _ _)
+fb-returns-2 t c = finding.found-resting _ _ _ _ _ _ _ _ _ _ _ _ _ _ _ _ _ _ _ _ _ (c .before .before .before .before .before .before .before .before .before .before .before .before .before .before .before .before .before .before .before .before .before .before .before .before .before .before .before .before .before .before .before .before .before .before .before .before .before .before .before .before .before .before .before .less .ensures) (c .before .before .before .before .before .before .before .before .before .under .ensures .1) (told.with-same _ (c .before .before .before .before .before .before .before .before .before .under .ensures .0)) (c .before .before .before .before .before .before .before .before .before .before .before .before .before .before .before .before .before .before .before .before .before .before .before .before .before .before .before .before .before .before .before .before .before .before .before .before .before .before .before .before .before .before .step .ensures) (c .before .before .before .before .before .before .before .before .before .before .before .before .before .before .before .before .before .before .before .before .before .before .before .before .before .before .before .before .before .before .before .before .before .before .before .before .before .before .before .before .before .wide-at .ensures) (c .before .before .before .before .before .before .before .before .before .before .before .before .before .before .before .before .before .before .before .before .before .before .before .before .before .before .before .before .before .before .before .before .before .before .before .before .before .before .before .before .step2 .ensures) (c .before .before .before .before .before .before .before .before .before .before .before .before .before .to .ensures .1) (c .before .before .before .before .before .before .before .before .before .before .before .before .before .before .before .before .before .before .before .before .before .before .before .before .before .before .before .before .before .before .before .before .before .before .before .before .before .before .before .has-second .ensures) (c .before .before .before .before .before .before .before .before .before .before .before .before .before .before .before .before .before .before .before .before .before .before .before .before .before .before .before .before .before .before .before .before .before .before .before .before .before .before .if2 .taken) (c .before .before .before .before .before .before .before .before .before .before .before .before .before .before .before .before .before .before .before .before .before .before .before .before .before .before .before .before .before .before .before .before .before .before .cell .ensures) (c .before .before .before .before .before .before .before .before .before .before .before .before .before .before .before .before .before .before .before .before .before .before .before .before .before .before .before .before .before .before .before .before .before .cell-source .ensures _) (c .before .before .before .before .before .before .before .before .before .before .before .before .before .before .before .before .before .before .before .before .before .before .before .before .before .before .before .before .before .before .before .before .own .ensures) (c .before .before .before .before .before .before .before .before .before .before .before .before .before .before .before .before .before .before .before .before .before .before .cell2 .ensures) (c .before .before .before .before .before .before .before .before .before .before .before .before .before .before .before .before .before .before .before .before .before .cell-source2 .ensures _) (c .before .before .before .before .before .before .before .before .before .before .before .before .before .before .before .before .before .before .before .before .os .ensures) (c .before .before .before .before .before .before .before .before .before .before .before .before .before .to .ensures .0 _ _ _) (told.items-with _ _ _ _ _ _ _ _ _ _ _ told.told-9 (c .before .before .before .before .before .before .before .before .seq .ensures)) (c .before .skip .ensures) (c .to2 .ensures .1) (c .to2 .ensures .0 _ _ _)
 
 fb-returns-3 : (t : ℕ) → cycle.Lts-fb.Need-returns-3 (fb-claims t) (at-measure fb.Kinds.ps μ-fb fb.Reads.Pre t) fb.Reads.Post
-fb-returns-3 t c = finding.found-plain _ _ _ _ _ _ _ _ _ _ _ _ _ (c .before .before .before .before .before .before .before .before .before .before .before .before .before .before .before .before .before .less .ensures) (c .before .before .before .before .before .before .before .under2 .ensures .1) (c .before .before .before .before .before .before .before .under2 .ensures .0) (c .before .before .before .before .before .before .before .before .before .before .before .before .before .before .before .before .step .ensures) (c .before .before .before .before .before .before .before .before .before .before .before .before .before .before .before .wide-at .ensures) (c .before .before .before .before .before .before .before .before .before .before .before .before .before .before .step2 .ensures) (c .before .before .before .before .before .before .before .before .before .before .before .to3 .ensures .1) (c .before .before .before .before .before .before .before .before .before .before .before .to3 .ensures .0 _ _ _) (c .before .before .before .before .before .before .seq2 .ensures) (c .before .before .before .before .before .before .before .before .before .before .before .before .before .has-second .ensures) (c .before .before .before .before .before .before .before .before .before .before .before .before .if2 .left)
+fb-returns-3 t c = finding.found-plain _ _ _ _ _ _ _ _ _ _ _ _ _ (c .before .before .before .before .before .before .before .before .before .before .before .before .before .before .before .before .before .less .ensures) (c .before .before .before .before .before .before .before .under2 .ensures .1) (told.with-same _ (c .before .before .before .before .before .before .before .under2 .ensures .0)) (c .before .before .before .before .before .before .before .before .before .before .before .before .before .before .before .before .step .ensures) (c .before .before .before .before .before .before .before .before .before .before .before .before .before .before .before .wide-at .ensures) (c .before .before .before .before .before .before .before .before .before .before .before .before .before .before .step2 .ensures) (c .before .before .before .before .before .before .before .before .before .before .before .to3 .ensures .1) (c .before .before .before .before .before .before .before .before .before .before .before .to3 .ensures .0 _ _ _) (told.items-with _ _ _ _ _ _ _ _ _ _ _ told.told-9 (c .before .before .before .before .before .before .seq2 .ensures)) (c .before .before .before .before .before .before .before .before .before .before .before .before .before .has-second .ensures) (c .before .before .before .before .before .before .before .before .before .before .before .before .if2 .left)
 
 fun-slot-requires : (t : ℕ) → cycle.Lts-fun.Need-slot-requires (fun-claims t) (at-measure fun.Kinds.ps μ-fun fun.Reads.Pre t) fun.Reads.Post
 fun-slot-requires t c κs = let z : 0 < c .before .before .before .before .before .before .before .before .before .before .before .before .before .before .before .before .before .before .before .before .before .before .before .before .before .before .before .args .c .left = moving.moved-levels _ _ _ _ _ (c .before .before .before .before .before .before .before .before .before .before .before .before .before .before .before .before .before .before .before .before .any-moved .ensures) (c .before .before .before .before .before .before .before .before .before .before .before .before .before .before .before .before .before .before .before .if1 .taken) in
@@ -798,7 +802,7 @@ fun-same-length-3 : (t : ℕ) → cycle.Lts-fun.Need-same-length-3 (fun-claims t
 fun-same-length-3 t c = omega (arith, c .before .before .before .before .before .before .before .before .before .before .before .before .before .before .before .before .before .before .before .before .before .before .before .before .before .before .before .before .before .before .before .before .before .before .before .before .before .before .before .before .before .before .before .before .before .before .before .before .before .before .before .before .moves-make .kept, c .before .before .before .before .before .before .before .before .before .before .before .before .before .before .before .before .before .before .before .before .before .before .before .before .before .before .before .before .before .before .before .before .before .before .before .before .before .before .before .before .before .before .before .before .before .before .before .before .copy .kept, c .before .before .before .before .before .before .before .before .before .before .before .before .before .before .before .before .before .before .before .before .before .before .before .before .before .before .before .before .before .before .before .before .before .before .before .before .before .before .before .before .before .before .slot .kept, c .before .before .before .before .before .before .before .before .before .before .before .before .before .before .before .before .before .before .before .before .before .before .before .before .before .before .before .before .before .before .before .before .before .before .copy2 .kept, c .before .before .before .before .before .before .before .before .before .before .before .before .before .before .before .before .before .before .before .before .before .before .before .before .before .before .before .before .seq .kept, c .before .before .before .before .before .before .before .before .before .before .before .before .before .before .before .before .before .before .slot2 .kept, c .before .before .before .before .before .before .before .before .body .kept)
 
 fun-returns : (t : ℕ) → cycle.Lts-fun.Need-returns (fun-claims t) (at-measure fun.Kinds.ps μ-fun fun.Reads.Pre t) fun.Reads.Post
-fun-returns t c = bodying.function-moved _ _ _ _ _ _ _ _ _ _ _ _ _ _ _ _ _ _ _ _ _ _ _ _ (c .before .before .before .before .before .before .before .before .before .before .before .before .before .before .before .before .before .before .before .before .before .before .before .before .before .before .before .before .before .before .before .before .before .before .before .before .before .before .before .before .before .before .before .before .before .before .before .before .before .before .before .before .before .before .before .before .before .before .before .before .before .before .before .any-moved .ensures) (c .before .before .before .before .before .before .before .before .before .before .before .before .before .before .before .before .before .before .before .before .before .before .before .before .before .before .before .before .before .before .before .before .before .before .before .before .before .before .before .before .before .before .before .before .before .before .before .before .before .before .before .before .before .before .before .before .before .before .before .before .before .before .if1 .taken) (c .before .before .before .before .before .before .before .before .before .before .before .before .before .before .before .before .before .before .before .before .before .before .before .before .before .before .before .before .before .before .before .before .before .before .before .before .before .before .before .before .before .before .before .before .before .before .before .before .before .before .before .before .before .before .before .before .before .before .before .before .before .stands .ensures) (c .before .before .before .before .before .before .before .before .before .before .before .before .before .before .before .before .before .before .before .before .before .before .before .before .before .before .before .before .before .before .before .before .before .before .before .before .before .before .before .before .before .before .before .before .before .before .before .before .before .before .before .before .before .before .before .before .before .before .before .before .if2 .taken) (c .before .before .before .before .before .before .before .before .before .before .before .before .before .before .before .before .before .before .before .before .before .before .before .before .before .before .before .before .before .before .before .before .before .before .before .before .before .before .before .before .before .before .before .before .before .before .before .before .before .before .before .before .before .before .before .before .before .before .before .before .before .before .before .before .before .less .ensures) (c .before .before .before .before .before .before .before .before .before .before .before .before .before .before .before .before .before .before .before .before .before .before .before .before .before .before .before .before .before .before .before .before .before .before .before .before .before .before .before .before .before .before .before .before .before .before .before .before .before .before .before .before .before .before .before .before .before .before .before .before .before .before .before .before .scoped .ensures .0) (c .before .before .before .before .before .before .before .before .before .before .before .before .before .before .before .before .before .before .before .before .before .before .before .before .before .before .before .before .before .before .before .before .before .before .before .before .before .before .before .before .before .before .before .before .before .before .before .before .before .before .before .before .before .before .before .before .before .before .before .before .before .before .before .before .scoped .ensures .1) (c .before .before .before .before .before .before .before .before .before .before .before .before .before .before .before .before .before .before .before .before .before .before .before .before .before .before .before .before .before .before .before .before .before .before .before .before .before .before .before .before .before .before .before .before .before .before .before .before .before .before .before .before .before .before .before .before .before .before .before .step .ensures) (c .before .before .before .before .before .before .before .before .before .before .before .before .before .before .before .before .before .before .before .before .before .before .before .before .before .before .before .before .before .before .before .before .before .before .before .before .before .before .before .before .before .before .before .before .before .before .before .before .before .before .before .before .before .before .before .before .before .before .step2 .ensures) (c .before .before .before .before .before .before .before .before .before .before .before .before .before .before .before .before .before .before .before .before .before .before .before .before .before .before .before .before .before .before .before .before .before .before .before .before .before .before .before .before .before .before .before .before .before .before .before .before .before .before .before .before .before .before .before .before .before .peek .ensures) (c .before .before .before .before .before .before .before .before .before .before .before .before .before .before .before .before .before .before .before .before .before .before .before .before .before .before .before .before .before .before .before .before .before .before .before .before .before .before .before .before .before .before .before .before .before .before .before .before .before .before .before .before .before .before .before .before .skip-slot .ensures) (c .before .before .before .before .before .before .before .before .before .before .before .before .before .before .before .before .before .before .before .before .before .before .before .before .before .before .before .before .before .before .before .before .before .before .before .before .before .before .before .before .before .before .before .before .before .before .before .before .before .before .before .before .before .before .before .wide-at .ensures) (c .before .before .before .before .before .before .before .before .before .before .before .before .before .before .before .before .before .before .before .before .before .before .before .before .before .before .before .before .before .before .before .before .before .before .before .before .before .before .before .before .before .before .before .before .before .before .before .before .before .before .before .before .before .before .step3 .ensures) (c .before .before .before .before .before .before .before .before .before .before .before .before .before .before .before .before .before .before .before .before .before .before .before .before .before .before .before .before .before .before .before .before .before .before .before .before .before .before .before .before .before .before .before .before .before .before .before .before .before .before .before .before .moves-make .ensures .0) (c .before .before .before .before .before .before .before .before .before .before .before .before .before .before .before .before .before .before .before .before .before .before .before .before .before .before .before .before .before .before .before .before .before .before .before .before .before .before .before .before .before .before .before .before .before .before .before .before .before .before .before .before .moves-make .ensures .1 _ _) (c .before .before .before .before .before .before .before .before .before .before .before .before .before .before .before .before .before .before .before .before .before .before .before .before .before .before .before .before .before .before .before .before .before .before .before .before .before .before .before .before .before .before .before .before .before .before .before .before .copy .ensures .1) (c .before .before .before .before .before .before .before .before .before .before .before .before .before .before .before .before .before .before .before .before .before .before .before .before .before .before .before .before .before .before .before .before .before .before .before .before .before .before .before .before .before .before .before .before .before .before .before .before .copy .ensures .0 _ _) (c .before .before .before .before .before .before .before .before .before .before .before .before .before .before .before .before .before .before .before .before .before .before .before .before .before .before .before .before .before .before .before .before .before .before .before .before .before .before .before .before .before .before .slot .ensures) (c .before .before .before .before .before .before .before .before .before .before .before .before .before .before .before .before .before .before .before .before .before .before .before .before .before .before .before .before .before .before .before .before .before .before .copy2 .ensures .1) (c .before .before .before .before .before .before .before .before .before .before .before .before .before .before .before .before .before .before .before .before .before .before .before .before .before .before .before .before .before .before .before .before .before .before .copy2 .ensures .0 _ _) (c .before .before .before .before .before .before .before .before .before .before .before .before .before .before .before .before .before .before .before .before .before .before .before .before .before .before .before .before .seq .ensures) (c .before .before .before .before .before .before .before .before .before .before .before .before .before .before .before .before .before .before .slot2 .ensures) (c .before .before .before .before .before .before .before .before .body .ensures) (c .to .ensures .0 _ _ _) (c .before .skip .ensures) (c .to .ensures .1)
+fun-returns t c = bodying.function-moved _ _ _ _ _ _ _ _ _ _ _ _ _ _ _ _ _ _ _ _ _ _ _ _ (c .before .before .before .before .before .before .before .before .before .before .before .before .before .before .before .before .before .before .before .before .before .before .before .before .before .before .before .before .before .before .before .before .before .before .before .before .before .before .before .before .before .before .before .before .before .before .before .before .before .before .before .before .before .before .before .before .before .before .before .before .before .before .before .any-moved .ensures) (c .before .before .before .before .before .before .before .before .before .before .before .before .before .before .before .before .before .before .before .before .before .before .before .before .before .before .before .before .before .before .before .before .before .before .before .before .before .before .before .before .before .before .before .before .before .before .before .before .before .before .before .before .before .before .before .before .before .before .before .before .before .before .if1 .taken) (c .before .before .before .before .before .before .before .before .before .before .before .before .before .before .before .before .before .before .before .before .before .before .before .before .before .before .before .before .before .before .before .before .before .before .before .before .before .before .before .before .before .before .before .before .before .before .before .before .before .before .before .before .before .before .before .before .before .before .before .before .before .stands .ensures) (c .before .before .before .before .before .before .before .before .before .before .before .before .before .before .before .before .before .before .before .before .before .before .before .before .before .before .before .before .before .before .before .before .before .before .before .before .before .before .before .before .before .before .before .before .before .before .before .before .before .before .before .before .before .before .before .before .before .before .before .before .if2 .taken) (c .before .before .before .before .before .before .before .before .before .before .before .before .before .before .before .before .before .before .before .before .before .before .before .before .before .before .before .before .before .before .before .before .before .before .before .before .before .before .before .before .before .before .before .before .before .before .before .before .before .before .before .before .before .before .before .before .before .before .before .before .before .before .before .before .before .less .ensures) (c .before .before .before .before .before .before .before .before .before .before .before .before .before .before .before .before .before .before .before .before .before .before .before .before .before .before .before .before .before .before .before .before .before .before .before .before .before .before .before .before .before .before .before .before .before .before .before .before .before .before .before .before .before .before .before .before .before .before .before .before .before .before .before .before .scoped .ensures .0) (c .before .before .before .before .before .before .before .before .before .before .before .before .before .before .before .before .before .before .before .before .before .before .before .before .before .before .before .before .before .before .before .before .before .before .before .before .before .before .before .before .before .before .before .before .before .before .before .before .before .before .before .before .before .before .before .before .before .before .before .before .before .before .before .before .scoped .ensures .1) (c .before .before .before .before .before .before .before .before .before .before .before .before .before .before .before .before .before .before .before .before .before .before .before .before .before .before .before .before .before .before .before .before .before .before .before .before .before .before .before .before .before .before .before .before .before .before .before .before .before .before .before .before .before .before .before .before .before .before .before .step .ensures) (c .before .before .before .before .before .before .before .before .before .before .before .before .before .before .before .before .before .before .before .before .before .before .before .before .before .before .before .before .before .before .before .before .before .before .before .before .before .before .before .before .before .before .before .before .before .before .before .before .before .before .before .before .before .before .before .before .before .before .step2 .ensures) (c .before .before .before .before .before .before .before .before .before .before .before .before .before .before .before .before .before .before .before .before .before .before .before .before .before .before .before .before .before .before .before .before .before .before .before .before .before .before .before .before .before .before .before .before .before .before .before .before .before .before .before .before .before .before .before .before .before .peek .ensures) (c .before .before .before .before .before .before .before .before .before .before .before .before .before .before .before .before .before .before .before .before .before .before .before .before .before .before .before .before .before .before .before .before .before .before .before .before .before .before .before .before .before .before .before .before .before .before .before .before .before .before .before .before .before .before .before .before .skip-slot .ensures) (c .before .before .before .before .before .before .before .before .before .before .before .before .before .before .before .before .before .before .before .before .before .before .before .before .before .before .before .before .before .before .before .before .before .before .before .before .before .before .before .before .before .before .before .before .before .before .before .before .before .before .before .before .before .before .before .wide-at .ensures) (c .before .before .before .before .before .before .before .before .before .before .before .before .before .before .before .before .before .before .before .before .before .before .before .before .before .before .before .before .before .before .before .before .before .before .before .before .before .before .before .before .before .before .before .before .before .before .before .before .before .before .before .before .before .before .step3 .ensures) (c .before .before .before .before .before .before .before .before .before .before .before .before .before .before .before .before .before .before .before .before .before .before .before .before .before .before .before .before .before .before .before .before .before .before .before .before .before .before .before .before .before .before .before .before .before .before .before .before .before .before .before .before .moves-make .ensures .0) (c .before .before .before .before .before .before .before .before .before .before .before .before .before .before .before .before .before .before .before .before .before .before .before .before .before .before .before .before .before .before .before .before .before .before .before .before .before .before .before .before .before .before .before .before .before .before .before .before .before .before .before .before .moves-make .ensures .1 _ _) (c .before .before .before .before .before .before .before .before .before .before .before .before .before .before .before .before .before .before .before .before .before .before .before .before .before .before .before .before .before .before .before .before .before .before .before .before .before .before .before .before .before .before .before .before .before .before .before .before .copy .ensures .1) (c .before .before .before .before .before .before .before .before .before .before .before .before .before .before .before .before .before .before .before .before .before .before .before .before .before .before .before .before .before .before .before .before .before .before .before .before .before .before .before .before .before .before .before .before .before .before .before .before .copy .ensures .0 _ _) (c .before .before .before .before .before .before .before .before .before .before .before .before .before .before .before .before .before .before .before .before .before .before .before .before .before .before .before .before .before .before .before .before .before .before .before .before .before .before .before .before .before .before .slot .ensures) (c .before .before .before .before .before .before .before .before .before .before .before .before .before .before .before .before .before .before .before .before .before .before .before .before .before .before .before .before .before .before .before .before .before .before .copy2 .ensures .1) (c .before .before .before .before .before .before .before .before .before .before .before .before .before .before .before .before .before .before .before .before .before .before .before .before .before .before .before .before .before .before .before .before .before .before .copy2 .ensures .0 _ _) (told.items-own _ _ _ _ _ _ _ _ _ _ _ told.untold-11 (c .before .before .before .before .before .before .before .before .before .before .before .before .before .before .before .before .before .before .before .before .before .before .before .before .before .before .before .before .seq .ensures)) (c .before .before .before .before .before .before .before .before .before .before .before .before .before .before .before .before .before .before .slot2 .ensures) (c .before .before .before .before .before .before .before .before .body .ensures) (c .to .ensures .0 _ _ _) (c .before .skip .ensures) (c .to .ensures .1)
 
 fun-returns-2 : (t : ℕ) → cycle.Lts-fun.Need-returns-2 (fun-claims t) (at-measure fun.Kinds.ps μ-fun fun.Reads.Pre t) fun.Reads.Post
 fun-returns-2 t c = bodying.function-plain _ _ _ _ _ (⊎-elim (λ w. bodying.bodiless _ _ _ _ (w .1 .ensures) (w .2 .left)) (λ w. bodying.unmoved _ _ _ _ (c .before .before .before .before .before .before .before .before .before .before .before .any-moved .ensures) (w .left)) (c .before .before .before .before .before .before .before .before .before .before .if1 .came)) (c .before .before .before .before .before .before .plain .ensures)
@@ -813,13 +817,13 @@ go-returns : (t : ℕ) → cycle.Lts-go.Need-returns (go-claims t) (at-measure g
 go-returns t c = λ good. law.good-none _ _ _ (c .if1 .taken) good
 
 go-returns-2 : (t : ℕ) → cycle.Lts-go.Need-returns-2 (go-claims t) (at-measure go.Kinds.ps μ-go go.Reads.Pre t) go.Reads.Post
-go-returns-2 t c = moving.gone-array-rest _ _ _ _ _ _ _ _ _ _ _ _ _ _ _ _ _ (c .before .before .before .before .before .before .before .before .before .before .before .before .before .before .before .before .before .before .before .before .before .before .before .before .before .before .before .before .before .before .before .before .before .before .if1 .left) (c .before .before .before .before .before .before .before .before .before .before .before .before .before .before .before .before .before .before .before .before .before .before .before .before .before .before .before .before .before .before .before .before .peek .ensures) (c .before .before .before .before .before .before .before .before .before .before .before .before .before .before .before .before .before .before .before .before .before .before .before .before .before .before .before .before .before .before .before .match .keys2) (c .before .before .before .before .before .before .before .before .before .before .before .before .before .before .before .before .before .before .before .before .before .before .before .before .before .before .before .before .before .before .before .before .before .less .ensures) (c .before .before .before .before .before .before .before .before .before .before .before .before .before .before .before .before .before .before .before .before .before .before .before .before .before .before .before .before .before .before .step .ensures) (c .before .before .before .before .before .before .before .before .before .before .before .before .before .before .before .before .before .before .before .before .before .before .before .before .before .before .before .before .before .wide-at .ensures) (c .before .before .before .before .before .before .before .before .before .before .before .before .before .before .before .before .before .before .before .before .before .before .before .before .before .before .before .step2 .ensures) (c .before .before .before .before .before .before .before .before .before .before .before .before .before .before .before .before .before .before .before .before .before .before .before .before .before .before .copy .ensures .1) (c .before .before .before .before .before .before .before .before .before .before .before .before .before .before .before .before .before .before .before .before .inside .ensures .0) (c .before .before .before .before .before .before .before .before .before .before .before .before .before .before .before .before .before .before .before .before .inside .ensures .1) (c .before .before .before .before .before .before .before .inside2 .ensures .0) (c .before .before .before .before .before .before .before .inside2 .ensures .1) (c .before .before .before .before .before .before .before .before .before .before .before .before .has-second .ensures) (c .before .before .before .before .before .before .before .before .before .before .before .if2 .taken) (c .before .before .before .before .before .before .before .before .before .before .before .before .before .before .before .before .before .before .before .before .before .before .before .before .before .before .copy .ensures .0 _ _) (c .before .before .before .before .before .before .before .before .before .before .before .before .before .before .before .before .before .before .before .seq .ensures) (c .before .before .before .before .before .before .go .ensures)
+go-returns-2 t c = moving.gone-array-rest _ _ _ _ _ _ _ _ _ _ _ _ _ _ _ _ _ (c .before .before .before .before .before .before .before .before .before .before .before .before .before .before .before .before .before .before .before .before .before .before .before .before .before .before .before .before .before .before .before .before .before .before .if1 .left) (c .before .before .before .before .before .before .before .before .before .before .before .before .before .before .before .before .before .before .before .before .before .before .before .before .before .before .before .before .before .before .before .before .peek .ensures) (c .before .before .before .before .before .before .before .before .before .before .before .before .before .before .before .before .before .before .before .before .before .before .before .before .before .before .before .before .before .before .before .match .keys2) (c .before .before .before .before .before .before .before .before .before .before .before .before .before .before .before .before .before .before .before .before .before .before .before .before .before .before .before .before .before .before .before .before .before .less .ensures) (c .before .before .before .before .before .before .before .before .before .before .before .before .before .before .before .before .before .before .before .before .before .before .before .before .before .before .before .before .before .before .step .ensures) (c .before .before .before .before .before .before .before .before .before .before .before .before .before .before .before .before .before .before .before .before .before .before .before .before .before .before .before .before .before .wide-at .ensures) (c .before .before .before .before .before .before .before .before .before .before .before .before .before .before .before .before .before .before .before .before .before .before .before .before .before .before .before .step2 .ensures) (c .before .before .before .before .before .before .before .before .before .before .before .before .before .before .before .before .before .before .before .before .before .before .before .before .before .before .copy .ensures .1) (c .before .before .before .before .before .before .before .before .before .before .before .before .before .before .before .before .before .before .before .before .inside .ensures .0) (c .before .before .before .before .before .before .before .before .before .before .before .before .before .before .before .before .before .before .before .before .inside .ensures .1) (c .before .before .before .before .before .before .before .inside2 .ensures .0) (c .before .before .before .before .before .before .before .inside2 .ensures .1) (c .before .before .before .before .before .before .before .before .before .before .before .before .has-second .ensures) (c .before .before .before .before .before .before .before .before .before .before .before .if2 .taken) (c .before .before .before .before .before .before .before .before .before .before .before .before .before .before .before .before .before .before .before .before .before .before .before .before .before .before .copy .ensures .0 _ _) (told.items-own _ _ _ _ _ _ _ _ _ _ _ told.untold-16 (c .before .before .before .before .before .before .before .before .before .before .before .before .before .before .before .before .before .before .before .seq .ensures)) (c .before .before .before .before .before .before .go .ensures)
 
 go-returns-3 : (t : ℕ) → cycle.Lts-go.Need-returns-3 (go-claims t) (at-measure go.Kinds.ps μ-go go.Reads.Pre t) go.Reads.Post
 go-returns-3 t c = moving.gone-object _ _ _ _ _ _ _ (c .before .before .before .before .before .before .before .before .before .before .before .before .before .before .before .if1 .left) (c .before .before .before .before .before .before .before .before .before .before .before .before .before .peek .ensures) (c .before .before .before .before .before .before .before .before .before .before .before .before .match .keys1) (c .before .skip .ensures) (c .to .ensures .1) (c .before .before .before .before .before .before .before .before .temporary .ensures .0) (c .to .ensures .0 _ _ _)
 
 go-returns-4 : (t : ℕ) → cycle.Lts-go.Need-returns-4 (go-claims t) (at-measure go.Kinds.ps μ-go go.Reads.Pre t) go.Reads.Post
-go-returns-4 t c = moving.gone-array _ _ _ _ _ _ _ _ _ _ _ _ _ _ (c .before .before .before .before .before .before .before .before .before .before .before .before .before .before .before .before .before .before .before .before .before .before .before .if1 .left) (c .before .before .before .before .before .before .before .before .before .before .before .before .before .before .before .before .before .before .before .before .before .peek .ensures) (c .before .before .before .before .before .before .before .before .before .before .before .before .before .before .before .before .before .before .before .before .match .keys2) (c .before .before .before .before .before .before .before .before .before .before .before .before .before .before .before .before .before .before .before .before .before .before .less .ensures) (c .before .before .before .before .before .before .before .before .before .before .before .before .before .before .before .before .before .before .before .step .ensures) (c .before .before .before .before .before .before .before .before .before .before .before .before .before .before .before .before .before .before .wide-at .ensures) (c .before .before .before .before .before .before .before .before .before .before .before .before .before .before .before .before .step2 .ensures) (c .before .before .before .before .before .before .before .before .before .before .before .before .before .before .before .copy .ensures .1) (c .before .before .before .before .before .before .before .before .before .inside .ensures .0) (c .before .before .before .before .before .before .before .before .before .inside .ensures .1) (c .before .has-second .ensures) (c .if2 .left) (c .before .before .before .before .before .before .before .before .before .before .before .before .before .before .before .copy .ensures .0 _ _) (c .before .before .before .before .before .before .before .before .seq .ensures)
+go-returns-4 t c = moving.gone-array _ _ _ _ _ _ _ _ _ _ _ _ _ _ (c .before .before .before .before .before .before .before .before .before .before .before .before .before .before .before .before .before .before .before .before .before .before .before .if1 .left) (c .before .before .before .before .before .before .before .before .before .before .before .before .before .before .before .before .before .before .before .before .before .peek .ensures) (c .before .before .before .before .before .before .before .before .before .before .before .before .before .before .before .before .before .before .before .before .match .keys2) (c .before .before .before .before .before .before .before .before .before .before .before .before .before .before .before .before .before .before .before .before .before .before .less .ensures) (c .before .before .before .before .before .before .before .before .before .before .before .before .before .before .before .before .before .before .before .step .ensures) (c .before .before .before .before .before .before .before .before .before .before .before .before .before .before .before .before .before .before .wide-at .ensures) (c .before .before .before .before .before .before .before .before .before .before .before .before .before .before .before .before .step2 .ensures) (c .before .before .before .before .before .before .before .before .before .before .before .before .before .before .before .copy .ensures .1) (c .before .before .before .before .before .before .before .before .before .inside .ensures .0) (c .before .before .before .before .before .before .before .before .before .inside .ensures .1) (c .before .has-second .ensures) (c .if2 .left) (c .before .before .before .before .before .before .before .before .before .before .before .before .before .before .before .copy .ensures .0 _ _) (told.items-own _ _ _ _ _ _ _ _ _ _ _ told.untold-16 (c .before .before .before .before .before .before .before .before .seq .ensures))
 
 go-returns-5 : (t : ℕ) → cycle.Lts-go.Need-returns-5 (go-claims t) (at-measure go.Kinds.ps μ-go go.Reads.Pre t) go.Reads.Post
 go-returns-5 t c = moving.gone-default _ _ _ _ _ _ _ _ _ _ _ _ (c .before .before .before .before .before .before .before .before .before .before .before .before .before .before .before .before .before .before .before .before .before .before .before .before .before .before .before .before .before .before .before .if1 .left) (c .before .before .before .before .before .before .before .before .before .before .before .before .before .before .before .before .before .before .before .before .before .before .before .before .before .before .before .before .before .peek .ensures) (c .before .before .before .before .before .before .before .before .before .before .before .before .before .before .before .before .before .before .before .before .before .before .before .before .before .before .before .before .match .keys3) (c .before .before .before .before .before .before .before .before .before .before .before .before .before .before .before .before .before .before .before .before .before .before .before .before .before .before .before .before .before .before .less .ensures) (c .before .before .before .before .before .before .before .before .before .before .before .before .before .step3 .ensures) (c .before .before .before .before .before .before .before .before .before .before .before .before .skip2 .ensures) (c .before .before .before .before .before .before .before .before .before .before .before .to2 .ensures .1) (c .before .before .before .before .before .before .before .inside3 .ensures .0) (c .before .before .before .before .before .before .before .inside3 .ensures .1) (c .before .before .before .before .before .before .before .before .before .before .before .before .before .before .before .before .before .before .before .before .before .before .before .before .before .before .put2 .ensures .0 _ _) (c .before .before .before .before .before .before .before .before .before .before .before .before .before .before .before .before .before .before .before .before .temporary2 .ensures .0) (c .before .before .before .before .before .before .before .before .before .before .before .to2 .ensures .0 _ _ _) (c .before .before .before .before .before .before .node .ensures)
@@ -888,7 +892,7 @@ keys-returns : (t : ℕ) → cycle.Lts-keys.Need-returns (keys-claims t) (at-mea
 keys-returns t c = (refl, λ good h. law.good-none _ _ _ (c .if1 .taken) good)
 
 keys-returns-2 : (t : ℕ) → cycle.Lts-keys.Need-returns-2 (keys-claims t) (at-measure keys.Kinds.ps μ-keys keys.Reads.Pre t) keys.Reads.Post
-keys-returns-2 t c = (c .to2 .ensures .1, excluding.keys-does _ _ _ _ _ _ _ _ _ _ _ _ (c .before .before .before .before .before .before .before .before .before .before .before .before .before .before .before .before .before .before .before .before .before .before .before .before .before .step .ensures) (c .before .before .before .before .before .before .before .before .before .before .before .before .before .before .before .before .before .before .before .before .before .before .before .before .wide-at .ensures) (c .before .before .before .before .before .before .before .before .before .before .before .before .before .before .before .before .before .before .before .before .before .before .before .excluded-keys .ensures) (c .before .before .before .before .before .before .before .before .before .before .before .before .before .before .step2 .ensures) (c .before .before .before .before .before .before .before .before .before .before .before .before .before .to .ensures .1) (c .before .before .before .before .before .before .before .before .under .ensures .0) (c .before .before .before .before .before .before .before .before .under .ensures .1 ∙ c .before .before .before .before .before .before .before .before .before .less .ensures) (c .before .before .before .before .before .before .before .before .before .before .before .before .before .to .ensures .0 _ _ _) (c .to2 .ensures .0 _ _ _) (c .before .before .before .before .before .before .before .before .before .before .before .before .before .before .before .before .before .before .before .before .before .put2 .ensures .0 _ _) (c .before .before .before .before .before .before .before .before .before .before .before .before .before .before .before .before .before .wide .ensures .0 _ _) (c .before .before .before .before .before .before .before .seq .ensures))
+keys-returns-2 t c = (c .to2 .ensures .1, excluding.keys-does _ _ _ _ _ _ _ _ _ _ _ _ (c .before .before .before .before .before .before .before .before .before .before .before .before .before .before .before .before .before .before .before .before .before .before .before .before .before .step .ensures) (c .before .before .before .before .before .before .before .before .before .before .before .before .before .before .before .before .before .before .before .before .before .before .before .before .wide-at .ensures) (c .before .before .before .before .before .before .before .before .before .before .before .before .before .before .before .before .before .before .before .before .before .before .before .excluded-keys .ensures) (c .before .before .before .before .before .before .before .before .before .before .before .before .before .before .step2 .ensures) (c .before .before .before .before .before .before .before .before .before .before .before .before .before .to .ensures .1) (c .before .before .before .before .before .before .before .before .told-under .ensures .0) (c .before .before .before .before .before .before .before .before .told-under .ensures .1 ∙ c .before .before .before .before .before .before .before .before .before .less .ensures) (c .before .before .before .before .before .before .before .before .before .before .before .before .before .to .ensures .0 _ _ _) (c .to2 .ensures .0 _ _ _) (c .before .before .before .before .before .before .before .before .before .before .before .before .before .before .before .before .before .before .before .before .before .put2 .ensures .0 _ _) (c .before .before .before .before .before .before .before .before .before .before .before .before .before .before .before .before .before .wide .ensures .0 _ _) (told.items-own _ _ _ _ _ _ _ _ _ _ _ told.untold-6 (c .before .before .before .before .before .before .before .seq .ensures)))
 
 kv-returns : (t : ℕ) → cycle.Lts-kv.Need-returns (kv-claims t) (at-measure kv.Kinds.ps μ-kv kv.Reads.Pre t) kv.Reads.Post
 kv-returns t c = excluding.key-value _ _ _ _ _ _ _ _ _ _ _ _ _ (c .before .before .before .before .before .before .before .before .before .before .before .before .before .before .before .before .before .before .before .before .before .before .before .before .before .before .before .before .before .before .before .less .ensures) (c .before .before .before .before .before .before .before .before .before .before .before .before .before .before .before .before .before .before .before .before .before .before .before .before .before .before .before .before .before .step .ensures) (c .before .before .before .before .before .before .before .before .before .before .before .before .before .before .before .before .before .before .before .before .before .before .before .before .before .before .before .before .before .before .skip .ensures) (c .to2 .ensures .1) (c .before .before .before .before .before .before .before .before .inside .ensures .0) (c .before .before .before .before .before .before .before .before .inside .ensures .1) (c .before .before .before .before .before .before .before .before .before .before .before .before .to .ensures .1) (c .before .before .before .before .before .before .before .before .before .before .before .before .to .ensures .0 _ _ _) (c .to2 .ensures .0 _ _ _) (c .before .before .before .before .before .before .before .before .before .before .before .before .before .before .before .before .before .before .before .before .before .before .before .before .before .before .before .before .is-other .ensures) (c .before .before .before .before .before .before .before .before .before .before .before .before .before .before .before .before .before .before .before .before .before .before .before .before .before .before .before .if1 .taken) (c .before .before .before .before .before .before .before .before .before .before .before .before .before .before .before .before .before .before .before .before .before .before .before .before .before .put2 .ensures .0 _ _) (c .before .before .before .before .before .before .before .before .before .before .before .before .before .before .before .before .before .before .before .temporary .ensures .0) (c .before .before .before .before .before .before .before .node .ensures)
@@ -906,7 +910,7 @@ lit-returns-2 : (t : ℕ) → cycle.Lts-lit.Need-returns-2 (lit-claims t) (at-me
 lit-returns-2 t c = λ h. (c .before .before .before .before .before .before .plain .ensures .0, args.object-plain _ _ _ _ _ (c .before .before .before .before .before .before .before .before .before .before .before .has-spread .ensures .1) (c .before .before .before .before .before .before .before .before .before .before .if1 .left) h (c .before .before .before .before .before .before .plain .ensures .1))
 
 lo-returns : (t : ℕ) → cycle.Lts-lo.Need-returns (lo-claims t) (at-measure lo.Kinds.ps μ-lo lo.Reads.Pre t) lo.Reads.Post
-lo-returns t c = declaring.lowered-kept _ _ _ _ _ _ _ _ _ _ _ _ (c .before .before .before .before .before .before .before .before .before .before .before .before .before .before .before .before .before .before .before .before .before .before .before .before .before .before .before .before .before .before .before .before .before .before .before .before .before .before .if1 .taken) (c .before .before .before .before .before .before .before .before .before .before .before .before .before .before .before .before .before .before .before .before .before .before .before .before .before .before .before .before .before .before .before .before .before .before .before .before .put2 .ensures .0 _ _) (c .before .before .before .before .before .before .before .before .before .before .before .before .before .before .before .before .before .before .before .before .before .before .before .before .before .before .before .before .before .before .temporary .ensures .0) (c .before .before .before .before .before .before .before .before .before .before .before .before .before .before .before .before .before .before .before .before .before .before .before .to .ensures .0 _ _ _) (c .before .before .before .before .before .before .before .before .before .before .before .before .before .before .before .before .before .before .before .before .before .before .before .to .ensures .1) (c .before .before .before .before .before .before .before .before .before .before .before .before .before .before .before .before .before .before .before .inside .ensures .0) (c .before .before .before .before .before .before .before .before .before .before .before .before .before .before .before .before .before .before .before .inside .ensures .1) (c .before .before .before .before .before .before .before .before .before .before .before .before .before .before .before .before .before .before .node .ensures) (c .before .before .before .before .before .before .before .before .before .before .before .create-read-expression .ensures .1) (c .before .before .before .before .before .before .before .before .before .before .to2 .ensures .0 _ _ _) (c .before .before .before .before .before .before .before .before .before .before .to2 .ensures .1) (c .before .before .before .before .before .before .pa .ensures)
+lo-returns t c = declaring.lowered-kept _ _ _ _ _ _ _ _ _ _ _ _ (c .before .before .before .before .before .before .before .before .before .before .before .before .before .before .before .before .before .before .before .before .before .before .before .before .before .before .before .before .before .before .before .before .before .before .before .before .before .before .if1 .taken) (c .before .before .before .before .before .before .before .before .before .before .before .before .before .before .before .before .before .before .before .before .before .before .before .before .before .before .before .before .before .before .before .before .before .before .before .before .put2 .ensures .0 _ _) (c .before .before .before .before .before .before .before .before .before .before .before .before .before .before .before .before .before .before .before .before .before .before .before .before .before .before .before .before .before .before .temporary .ensures .0) (c .before .before .before .before .before .before .before .before .before .before .before .before .before .before .before .before .before .before .before .before .before .before .before .to .ensures .0 _ _ _) (c .before .before .before .before .before .before .before .before .before .before .before .before .before .before .before .before .before .before .before .before .before .before .before .to .ensures .1) (c .before .before .before .before .before .before .before .before .before .before .before .before .before .before .before .before .before .before .before .told-inside .ensures .0) (c .before .before .before .before .before .before .before .before .before .before .before .before .before .before .before .before .before .before .before .told-inside .ensures .1) (c .before .before .before .before .before .before .before .before .before .before .before .before .before .before .before .before .before .before .node .ensures) (c .before .before .before .before .before .before .before .before .before .before .before .create-read-expression .ensures .1) (c .before .before .before .before .before .before .before .before .before .before .to2 .ensures .0 _ _ _) (c .before .before .before .before .before .before .before .before .before .before .to2 .ensures .1) (c .before .before .before .before .before .before .pa .ensures)
 
 lo-returns-2 : (t : ℕ) → cycle.Lts-lo.Need-returns-2 (lo-claims t) (at-measure lo.Kinds.ps μ-lo lo.Reads.Pre t) lo.Reads.Post
 lo-returns-2 t c = declaring.lowered-read _ _ _ _ _ _ _ (c .before .before .before .before .before .before .before .before .before .before .before .if1 .left) (c .before .before .before .before .before .before .before .before .before .before .to3 .ensures .0 _ _ _) (c .before .before .before .before .before .before .before .before .before .before .to3 .ensures .1) (c .before .before .before .before .before .before .pa2 .ensures)
@@ -969,25 +973,25 @@ ns-same-length : (t : ℕ) → cycle.Lts-ns.Need-same-length (ns-claims t) (at-m
 ns-same-length t c = omega (arith, c .before .before .before .before .before .before .pr .kept, c .before .before .before .before .before .before .before .before .before .before .before .before .before .before .before .before .before .gv .kept, c .before .before .before .before .before .before .before .before .before .before .before .before .before .before .before .before .before .before .before .before .before .before .before .before .before .before .before .before .view .kept, c .before .before .before .before .before .before .before .before .before .before .before .before .before .before .before .before .before .before .before .before .before .before .before .before .before .before .before .before .before .before .before .before .before .before .before .before .assign .kept, c .before .before .before .before .before .before .before .before .before .before .before .before .before .before .before .before .before .before .before .before .before .before .before .before .before .before .before .before .before .before .before .before .before .before .before .before .before .before .before .before .wide .kept, c .before .before .before .before .before .before .before .before .before .before .before .before .before .before .before .before .before .before .before .before .before .before .before .before .before .before .before .before .before .before .before .before .before .before .before .before .before .before .before .before .before .before .before .before .before .put2 .kept)
 
 ns-returns : (t : ℕ) → cycle.Lts-ns.Need-returns (ns-claims t) (at-measure ns.Kinds.ps μ-ns ns.Reads.Pre t) ns.Reads.Post
-ns-returns t c = assigning.nst-done _ _ _ _ _ _ _ _ _ _ _ _ _ _ _ _ _ (c .before .before .before .before .before .before .before .before .before .before .before .before .before .before .before .before .before .before .before .before .before .before .before .before .before .before .before .before .before .before .before .before .before .before .before .before .before .before .before .before .before .before .before .before .before .before .before .before .before .before .before .before .before .before .places-in .ensures) (c .before .before .before .before .before .before .before .before .before .before .before .before .before .before .before .before .before .before .before .before .before .before .before .before .before .before .before .before .before .before .before .before .before .before .before .before .before .before .before .before .before .before .before .before .before .before .before .before .before .before .before .nested-hands .ensures .1 _) (c .before .before .before .before .before .before .before .before .before .before .before .before .before .before .before .before .before .before .before .before .before .before .before .before .before .before .before .before .before .before .before .before .before .before .before .before .before .before .before .before .before .before .before .before .before .put2 .ensures .0 _ _) (c .before .before .before .before .before .before .before .before .before .before .before .before .before .before .before .before .before .before .before .before .before .before .before .before .before .before .before .before .before .before .before .before .before .before .before .before .before .before .before .before .before .plus .ensures) (c .before .before .before .before .before .before .before .before .before .before .before .before .before .before .before .before .before .before .before .before .before .before .before .before .before .before .before .before .before .before .before .before .before .before .before .before .before .before .before .before .wide .ensures .0 _ _) (c .before .before .before .before .before .before .before .before .before .before .before .before .before .before .before .before .before .before .before .before .before .before .before .before .before .before .before .before .before .before .before .before .before .before .before .before .assign .ensures .0 _ _) (c .before .before .before .before .before .before .before .before .before .before .before .before .before .before .before .before .before .before .before .before .before .before .before .before .before .before .before .before .before .before .before .before .before .to .ensures .0 _ _ _) (c .before .before .before .before .before .before .before .before .before .before .before .before .before .before .before .before .before .before .before .before .before .before .before .before .before .before .before .before .before .before .before .before .before .to .ensures .1) (c .before .before .before .before .before .before .before .before .before .before .before .before .before .before .before .before .before .before .before .before .before .before .before .before .before .before .before .before .before .inside .ensures) (c .before .before .before .before .before .before .before .before .before .before .before .before .before .before .before .before .before .before .before .before .before .before .before .before .before .before .before .before .view .ensures) (c .before .before .before .before .before .before .before .before .before .before .before .before .before .before .before .before .before .before .inside2 .ensures) (c .before .before .before .before .before .before .before .before .before .before .before .before .before .before .before .before .before .gv .ensures) (assigning.nst-arrays _ _ _ _ _ _ _ (c .before .before .before .before .before .before .before .before .before .before .if1 .taken) (c .before .before .before .before .before .before .pr .ensures))
+ns-returns t c = assigning.nst-done _ _ _ _ _ _ _ _ _ _ _ _ _ _ _ _ _ (c .before .before .before .before .before .before .before .before .before .before .before .before .before .before .before .before .before .before .before .before .before .before .before .before .before .before .before .before .before .before .before .before .before .before .before .before .before .before .before .before .before .before .before .before .before .before .before .before .before .before .before .before .before .before .places-in .ensures) (c .before .before .before .before .before .before .before .before .before .before .before .before .before .before .before .before .before .before .before .before .before .before .before .before .before .before .before .before .before .before .before .before .before .before .before .before .before .before .before .before .before .before .before .before .before .before .before .before .before .before .before .nested-hands .ensures .1 _) (c .before .before .before .before .before .before .before .before .before .before .before .before .before .before .before .before .before .before .before .before .before .before .before .before .before .before .before .before .before .before .before .before .before .before .before .before .before .before .before .before .before .before .before .before .before .put2 .ensures .0 _ _) (c .before .before .before .before .before .before .before .before .before .before .before .before .before .before .before .before .before .before .before .before .before .before .before .before .before .before .before .before .before .before .before .before .before .before .before .before .before .before .before .before .before .plus .ensures) (c .before .before .before .before .before .before .before .before .before .before .before .before .before .before .before .before .before .before .before .before .before .before .before .before .before .before .before .before .before .before .before .before .before .before .before .before .before .before .before .before .wide .ensures .0 _ _) (c .before .before .before .before .before .before .before .before .before .before .before .before .before .before .before .before .before .before .before .before .before .before .before .before .before .before .before .before .before .before .before .before .before .before .before .before .assign .ensures .0 _ _) (c .before .before .before .before .before .before .before .before .before .before .before .before .before .before .before .before .before .before .before .before .before .before .before .before .before .before .before .before .before .before .before .before .before .to .ensures .0 _ _ _) (c .before .before .before .before .before .before .before .before .before .before .before .before .before .before .before .before .before .before .before .before .before .before .before .before .before .before .before .before .before .before .before .before .before .to .ensures .1) (c .before .before .before .before .before .before .before .before .before .before .before .before .before .before .before .before .before .before .before .before .before .before .before .before .before .before .before .before .before .told-inside .ensures) (c .before .before .before .before .before .before .before .before .before .before .before .before .before .before .before .before .before .before .before .before .before .before .before .before .before .before .before .before .view .ensures) (c .before .before .before .before .before .before .before .before .before .before .before .before .before .before .before .before .before .before .told-inside2 .ensures) (c .before .before .before .before .before .before .before .before .before .before .before .before .before .before .before .before .before .gv .ensures) (assigning.nst-arrays _ _ _ _ _ _ _ (c .before .before .before .before .before .before .before .before .before .before .if1 .taken) (c .before .before .before .before .before .before .pr .ensures told.told-14))
 
 ns-same-length-4 : (t : ℕ) → cycle.Lts-ns.Need-same-length-4 (ns-claims t) (at-measure ns.Kinds.ps μ-ns ns.Reads.Pre t) ns.Reads.Post
 ns-same-length-4 t c = omega (arith, c .before .before .before .before .before .before .deep .kept, c .before .before .before .before .before .before .before .before .before .before .before .before .before .before .before .before .before .before .gv .kept, c .before .before .before .before .before .before .before .before .before .before .before .before .before .before .before .before .before .before .before .before .before .before .before .before .before .before .before .before .before .view .kept, c .before .before .before .before .before .before .before .before .before .before .before .before .before .before .before .before .before .before .before .before .before .before .before .before .before .before .before .before .before .before .before .before .before .before .before .before .before .assign .kept, c .before .before .before .before .before .before .before .before .before .before .before .before .before .before .before .before .before .before .before .before .before .before .before .before .before .before .before .before .before .before .before .before .before .before .before .before .before .before .before .before .before .wide .kept, c .before .before .before .before .before .before .before .before .before .before .before .before .before .before .before .before .before .before .before .before .before .before .before .before .before .before .before .before .before .before .before .before .before .before .before .before .before .before .before .before .before .before .before .before .before .before .put2 .kept)
 
 ns-returns-2 : (t : ℕ) → cycle.Lts-ns.Need-returns-2 (ns-claims t) (at-measure ns.Kinds.ps μ-ns ns.Reads.Pre t) ns.Reads.Post
-ns-returns-2 t c = assigning.nst-done _ _ _ _ _ _ _ _ _ _ _ _ _ _ _ _ _ (c .before .before .before .before .before .before .before .before .before .before .before .before .before .before .before .before .before .before .before .before .before .before .before .before .before .before .before .before .before .before .before .before .before .before .before .before .before .before .before .before .before .before .before .before .before .before .before .before .before .before .before .before .before .before .before .places-in .ensures) (c .before .before .before .before .before .before .before .before .before .before .before .before .before .before .before .before .before .before .before .before .before .before .before .before .before .before .before .before .before .before .before .before .before .before .before .before .before .before .before .before .before .before .before .before .before .before .before .before .before .before .before .before .nested-hands .ensures .1 _) (c .before .before .before .before .before .before .before .before .before .before .before .before .before .before .before .before .before .before .before .before .before .before .before .before .before .before .before .before .before .before .before .before .before .before .before .before .before .before .before .before .before .before .before .before .before .before .put2 .ensures .0 _ _) (c .before .before .before .before .before .before .before .before .before .before .before .before .before .before .before .before .before .before .before .before .before .before .before .before .before .before .before .before .before .before .before .before .before .before .before .before .before .before .before .before .before .before .plus .ensures) (c .before .before .before .before .before .before .before .before .before .before .before .before .before .before .before .before .before .before .before .before .before .before .before .before .before .before .before .before .before .before .before .before .before .before .before .before .before .before .before .before .before .wide .ensures .0 _ _) (c .before .before .before .before .before .before .before .before .before .before .before .before .before .before .before .before .before .before .before .before .before .before .before .before .before .before .before .before .before .before .before .before .before .before .before .before .before .assign .ensures .0 _ _) (c .before .before .before .before .before .before .before .before .before .before .before .before .before .before .before .before .before .before .before .before .before .before .before .before .before .before .before .before .before .before .before .before .before .before .to .ensures .0 _ _ _) (c .before .before .before .before .before .before .before .before .before .before .before .before .before .before .before .before .before .before .before .before .before .before .before .before .before .before .before .before .before .before .before .before .before .before .to .ensures .1) (c .before .before .before .before .before .before .before .before .before .before .before .before .before .before .before .before .before .before .before .before .before .before .before .before .before .before .before .before .before .before .inside .ensures) (c .before .before .before .before .before .before .before .before .before .before .before .before .before .before .before .before .before .before .before .before .before .before .before .before .before .before .before .before .before .view .ensures) (c .before .before .before .before .before .before .before .before .before .before .before .before .before .before .before .before .before .before .before .inside2 .ensures) (c .before .before .before .before .before .before .before .before .before .before .before .before .before .before .before .before .before .before .gv .ensures) (assigning.nst-below _ _ _ _ _ _ _ (c .before .before .before .before .before .before .before .before .before .before .before .if1 .left) (c .before .before .before .before .before .before .before .before .before .before .to2 .ensures .0 _ _ _) (c .before .before .before .before .before .before .before .before .before .before .to2 .ensures .1) (c .before .before .before .before .before .before .deep .ensures))
+ns-returns-2 t c = assigning.nst-done _ _ _ _ _ _ _ _ _ _ _ _ _ _ _ _ _ (c .before .before .before .before .before .before .before .before .before .before .before .before .before .before .before .before .before .before .before .before .before .before .before .before .before .before .before .before .before .before .before .before .before .before .before .before .before .before .before .before .before .before .before .before .before .before .before .before .before .before .before .before .before .before .before .places-in .ensures) (c .before .before .before .before .before .before .before .before .before .before .before .before .before .before .before .before .before .before .before .before .before .before .before .before .before .before .before .before .before .before .before .before .before .before .before .before .before .before .before .before .before .before .before .before .before .before .before .before .before .before .before .before .nested-hands .ensures .1 _) (c .before .before .before .before .before .before .before .before .before .before .before .before .before .before .before .before .before .before .before .before .before .before .before .before .before .before .before .before .before .before .before .before .before .before .before .before .before .before .before .before .before .before .before .before .before .before .put2 .ensures .0 _ _) (c .before .before .before .before .before .before .before .before .before .before .before .before .before .before .before .before .before .before .before .before .before .before .before .before .before .before .before .before .before .before .before .before .before .before .before .before .before .before .before .before .before .before .plus .ensures) (c .before .before .before .before .before .before .before .before .before .before .before .before .before .before .before .before .before .before .before .before .before .before .before .before .before .before .before .before .before .before .before .before .before .before .before .before .before .before .before .before .before .wide .ensures .0 _ _) (c .before .before .before .before .before .before .before .before .before .before .before .before .before .before .before .before .before .before .before .before .before .before .before .before .before .before .before .before .before .before .before .before .before .before .before .before .before .assign .ensures .0 _ _) (c .before .before .before .before .before .before .before .before .before .before .before .before .before .before .before .before .before .before .before .before .before .before .before .before .before .before .before .before .before .before .before .before .before .before .to .ensures .0 _ _ _) (c .before .before .before .before .before .before .before .before .before .before .before .before .before .before .before .before .before .before .before .before .before .before .before .before .before .before .before .before .before .before .before .before .before .before .to .ensures .1) (c .before .before .before .before .before .before .before .before .before .before .before .before .before .before .before .before .before .before .before .before .before .before .before .before .before .before .before .before .before .before .told-inside .ensures) (c .before .before .before .before .before .before .before .before .before .before .before .before .before .before .before .before .before .before .before .before .before .before .before .before .before .before .before .before .before .view .ensures) (c .before .before .before .before .before .before .before .before .before .before .before .before .before .before .before .before .before .before .before .told-inside2 .ensures) (c .before .before .before .before .before .before .before .before .before .before .before .before .before .before .before .before .before .before .gv .ensures) (assigning.nst-below _ _ _ _ _ _ _ (c .before .before .before .before .before .before .before .before .before .before .before .if1 .left) (c .before .before .before .before .before .before .before .before .before .before .to2 .ensures .0 _ _ _) (c .before .before .before .before .before .before .before .before .before .before .to2 .ensures .1) (c .before .before .before .before .before .before .deep .ensures))
 
 oa-returns : (t : ℕ) → cycle.Lts-oa.Need-returns (oa-claims t) (at-measure oa.Kinds.ps μ-oa oa.Reads.Pre t) oa.Reads.Post
 oa-returns t c = declaring.own-pattern-left _ _ _ _ _ _ (c .before .has-no-properties .ensures) (c .if1 .taken)
 
 oa-returns-2 : (t : ℕ) → cycle.Lts-oa.Need-returns-2 (oa-claims t) (at-measure oa.Kinds.ps μ-oa oa.Reads.Pre t) oa.Reads.Post
-oa-returns-2 t c = declaring.own-pattern-done _ _ _ _ _ _ _ _ _ _ _ _ (c .before .before .before .before .before .before .before .before .before .before .before .before .before .before .before .before .before .before .before .before .before .before .before .before .before .before .before .has-no-properties .ensures) (c .before .before .before .before .before .before .before .before .before .before .before .before .before .before .before .before .before .before .before .before .before .before .before .before .before .before .if1 .left) (c .before .before .before .before .before .before .before .before .before .before .before .before .before .before .before .before .before .before .before .before .before .before .before .before .put2 .ensures .0 _ _) (c .before .before .before .before .before .before .before .before .before .before .before .before .before .before .before .before .before .before .before .before .before .before .before .before .put2 .ensures .1) (c .before .before .before .before .before .before .before .before .before .before .before .before .before .before .before .before .before .before .inside .ensures .0) (c .before .before .before .before .before .before .before .before .before .before .before .before .before .before .before .before .before .before .inside .ensures .1) (c .before .before .before .before .before .before .before .before .before .before .before .before .before .before .before .before .before .view .ensures) (c .before .before .before .before .before .before .before .source .ensures) (c .to .ensures .0 _ _ _) (c .to .ensures .1)
+oa-returns-2 t c = declaring.own-pattern-done _ _ _ _ _ _ _ _ _ _ _ _ (c .before .before .before .before .before .before .before .before .before .before .before .before .before .before .before .before .before .before .before .before .before .before .before .before .before .before .before .has-no-properties .ensures) (c .before .before .before .before .before .before .before .before .before .before .before .before .before .before .before .before .before .before .before .before .before .before .before .before .before .before .if1 .left) (c .before .before .before .before .before .before .before .before .before .before .before .before .before .before .before .before .before .before .before .before .before .before .before .before .put2 .ensures .0 _ _) (c .before .before .before .before .before .before .before .before .before .before .before .before .before .before .before .before .before .before .before .before .before .before .before .before .put2 .ensures .1) (c .before .before .before .before .before .before .before .before .before .before .before .before .before .before .before .before .before .before .told-inside .ensures .0) (c .before .before .before .before .before .before .before .before .before .before .before .before .before .before .before .before .before .before .told-inside .ensures .1) (c .before .before .before .before .before .before .before .before .before .before .before .before .before .before .before .before .before .view .ensures) (c .before .before .before .before .before .before .before .source .ensures) (c .to .ensures .0 _ _ _) (c .to .ensures .1)
 
 os-rest-requires : (t : ℕ) → cycle.Lts-os.Need-rest-requires (os-claims t) (at-measure os.Kinds.ps μ-os os.Reads.Pre t) os.Reads.Post
-os-rest-requires t c κs = (omega (arith, c .before .before .before .before .before .before .before .before .before .before .before .before .before .before .before .before .before .before .before .before .before .before .before .before .before .before .before .before .before .before .before .pre .0, c .before .before .before .before .before .before .before .before .before .before .before .before .before .before .before .before .before .before .before .before .before .before .before .before .less .ensures, c .inside2 .ensures .1, c .before .before .before .before .before .before .before .before .before .before .before .inside .ensures .1), tt)
+os-rest-requires t c κs = (omega (arith, c .before .before .before .before .before .before .before .before .before .before .before .before .before .before .before .before .before .before .before .before .before .before .before .before .before .before .before .before .before .before .before .pre .0, c .before .before .before .before .before .before .before .before .before .before .before .before .before .before .before .before .before .before .before .before .before .before .before .before .less .ensures, c .inside .ensures .1, c .before .before .before .before .before .before .before .before .before .before .before .told-inside .ensures .1), tt)
 
 os-returns : (t : ℕ) → cycle.Lts-os.Need-returns (os-claims t) (at-measure os.Kinds.ps μ-os os.Reads.Pre t) os.Reads.Post
-os-returns t c = declaring.own-rest-done _ _ _ _ _ _ _ _ _ _ _ _ _ _ _ _ _ _ _ (c .before .before .before .before .before .before .before .before .before .before .before .before .before .before .before .before .before .before .before .before .before .before .before .before .before .before .before .before .before .before .before .before .before .before .has-second .ensures) (c .before .before .before .before .before .before .before .before .before .before .before .before .before .before .before .before .before .before .before .before .before .before .before .before .before .before .before .before .before .before .before .before .before .if1 .taken) (c .before .before .before .before .before .before .before .before .before .before .before .before .before .before .before .before .before .before .before .before .before .before .before .before .before .before .before .before .before .before .before .before .less .ensures) (c .before .before .before .before .before .before .before .before .before .before .before .before .before .before .before .before .before .before .before .before .before .before .before .before .before .before .before .before .before .before .before .step .ensures) (c .before .before .before .before .before .before .before .before .before .before .before .before .before .before .before .before .before .before .before .before .before .before .before .before .before .before .before .before .before .before .wide-at .ensures) (c .before .before .before .before .before .before .before .before .before .before .before .before .before .before .before .before .before .before .before .before .before .before .before .before .before .before .before .before .before .step2 .ensures) (c .before .before .before .before .before .before .before .before .before .before .before .before .before .before .before .before .before .before .before .before .before .before .before .before .before .before .before .before .skip-items .ensures) (c .before .before .before .before .before .before .before .before .before .before .before .before .before .before .before .before .before .before .before .before .before .before .before .before .before .before .put2 .ensures .0 _ _) (c .before .before .before .before .before .before .before .before .before .before .before .before .before .before .before .before .before .before .before .before .before .before .before .to .ensures .0 _ _ _) (c .before .before .before .before .before .before .before .before .before .before .before .before .before .before .before .before .before .before .before .before .before .before .before .to .ensures .1) (c .before .before .before .before .before .before .before .before .before .before .before .before .before .before .before .before .before .before .before .inside .ensures .0) (c .before .before .before .before .before .before .before .before .before .before .before .before .before .before .before .before .before .before .before .inside .ensures .1) (c .before .before .before .before .before .before .before .before .before .before .before .before .before .before .before .before .before .before .node .ensures) (c .before .before .before .before .before .before .before .before .inside2 .ensures .0) (c .before .before .before .before .before .before .before .before .inside2 .ensures .1) (c .before .before .before .before .before .before .before .rest .ensures) (c .to2 .ensures .0 _ _ _) (c .to2 .ensures .1) (walked.source-quiet _ _)
+os-returns t c = declaring.own-rest-done _ _ _ _ _ _ _ _ _ _ _ _ _ _ _ _ _ _ _ (c .before .before .before .before .before .before .before .before .before .before .before .before .before .before .before .before .before .before .before .before .before .before .before .before .before .before .before .before .before .before .before .before .before .before .has-second .ensures) (c .before .before .before .before .before .before .before .before .before .before .before .before .before .before .before .before .before .before .before .before .before .before .before .before .before .before .before .before .before .before .before .before .before .if1 .taken) (c .before .before .before .before .before .before .before .before .before .before .before .before .before .before .before .before .before .before .before .before .before .before .before .before .before .before .before .before .before .before .before .before .less .ensures) (c .before .before .before .before .before .before .before .before .before .before .before .before .before .before .before .before .before .before .before .before .before .before .before .before .before .before .before .before .before .before .before .step .ensures) (c .before .before .before .before .before .before .before .before .before .before .before .before .before .before .before .before .before .before .before .before .before .before .before .before .before .before .before .before .before .before .wide-at .ensures) (c .before .before .before .before .before .before .before .before .before .before .before .before .before .before .before .before .before .before .before .before .before .before .before .before .before .before .before .before .before .step2 .ensures) (c .before .before .before .before .before .before .before .before .before .before .before .before .before .before .before .before .before .before .before .before .before .before .before .before .before .before .before .before .skip-items .ensures) (c .before .before .before .before .before .before .before .before .before .before .before .before .before .before .before .before .before .before .before .before .before .before .before .before .before .before .put2 .ensures .0 _ _) (c .before .before .before .before .before .before .before .before .before .before .before .before .before .before .before .before .before .before .before .before .before .before .before .to .ensures .0 _ _ _) (c .before .before .before .before .before .before .before .before .before .before .before .before .before .before .before .before .before .before .before .before .before .before .before .to .ensures .1) (c .before .before .before .before .before .before .before .before .before .before .before .before .before .before .before .before .before .before .before .told-inside .ensures .0) (c .before .before .before .before .before .before .before .before .before .before .before .before .before .before .before .before .before .before .before .told-inside .ensures .1) (c .before .before .before .before .before .before .before .before .before .before .before .before .before .before .before .before .before .before .node .ensures) (told.with-inner _ _ (c .before .before .before .before .before .before .before .before .inside .ensures .0)) (c .before .before .before .before .before .before .before .before .inside .ensures .1) (c .before .before .before .before .before .before .before .rest .ensures) (c .to2 .ensures .0 _ _ _) (c .to2 .ensures .1) (walked.source-quiet _ _)
 
 os-returns-2 : (t : ℕ) → cycle.Lts-os.Need-returns-2 (os-claims t) (at-measure os.Kinds.ps μ-os os.Reads.Pre t) os.Reads.Post
 os-returns-2 t c = declaring.own-rest-left _ _ _ _ _ _ (c .before .has-second .ensures) (c .if1 .left)
@@ -996,7 +1000,7 @@ own-returns : (t : ℕ) → cycle.Lts-own.Need-returns (own-claims t) (at-measur
 own-returns t c = (refl, λ k good. good-none _ _ _ (c .if1 .taken) good)
 
 own-returns-2 : (t : ℕ) → cycle.Lts-own.Need-returns-2 (own-claims t) (at-measure own.Kinds.ps μ-own own.Reads.Pre t) own.Reads.Post
-own-returns-2 t c = declaring.own-keyed _ _ _ _ _ _ _ _ _ _ _ _ _ _ _ _ (c .before .before .before .before .before .before .before .before .before .before .before .before .before .before .before .before .before .before .before .before .before .before .before .before .before .before .before .before .has-second .ensures) (c .before .before .before .before .before .before .before .before .before .before .before .before .before .before .before .before .before .before .before .before .before .before .before .before .before .before .before .if2 .taken) (c .before .before .before .before .before .before .before .before .before .before .before .before .before .before .before .before .before .before .before .before .before .before .before .before .before .before .step .ensures) (c .before .before .before .before .before .before .before .before .before .before .before .before .before .before .before .before .before .before .before .before .before .before .before .before .before .wide-at .ensures) (c .before .before .before .before .before .before .before .before .before .before .before .before .before .before .before .before .before .before .before .before .before .before .before .before .step2 .ensures) (c .before .before .before .before .before .before .before .before .before .before .before .before .before .before .before .before .before .before .before .before .before .before .before .to .ensures .1) (c .before .before .before .before .before .before .before .before .before .before .before .before .before .before .before .before .before .before .before .before .before .before .before .to .ensures .0 _ _ _) (c .before .before .before .before .before .before .before .before .before .before .before .before .before .before .before .before .before .before .before .less .ensures) (c .before .before .before .before .before .before .before .before .before .before .before .before .before .before .before .before .before .before .inside .ensures .1) (c .before .before .before .before .before .before .before .before .before .before .before .before .before .before .before .before .before .before .inside .ensures .0) (c .before .before .before .before .before .before .before .before .before .before .before .before .before .before .before .before .before .seq .ensures) (c .before .before .before .before .before .before .before .before .before .before .to2 .ensures .0 _ _ _) (c .before .before .before .before .before .before .before .before .before .before .to2 .ensures .1) (c .before .before .before .before .before .before .oa .ensures)
+own-returns-2 t c = declaring.own-keyed _ _ _ _ _ _ _ _ _ _ _ _ _ _ _ _ (c .before .before .before .before .before .before .before .before .before .before .before .before .before .before .before .before .before .before .before .before .before .before .before .before .before .before .before .before .has-second .ensures) (c .before .before .before .before .before .before .before .before .before .before .before .before .before .before .before .before .before .before .before .before .before .before .before .before .before .before .before .if2 .taken) (c .before .before .before .before .before .before .before .before .before .before .before .before .before .before .before .before .before .before .before .before .before .before .before .before .before .before .step .ensures) (c .before .before .before .before .before .before .before .before .before .before .before .before .before .before .before .before .before .before .before .before .before .before .before .before .before .wide-at .ensures) (c .before .before .before .before .before .before .before .before .before .before .before .before .before .before .before .before .before .before .before .before .before .before .before .before .step2 .ensures) (c .before .before .before .before .before .before .before .before .before .before .before .before .before .before .before .before .before .before .before .before .before .before .before .to .ensures .1) (c .before .before .before .before .before .before .before .before .before .before .before .before .before .before .before .before .before .before .before .before .before .before .before .to .ensures .0 _ _ _) (c .before .before .before .before .before .before .before .before .before .before .before .before .before .before .before .before .before .before .before .less .ensures) (c .before .before .before .before .before .before .before .before .before .before .before .before .before .before .before .before .before .before .told-inside .ensures .1) (c .before .before .before .before .before .before .before .before .before .before .before .before .before .before .before .before .before .before .told-inside .ensures .0) (told.items-own _ _ _ _ _ _ _ _ _ _ _ told.untold-7 (c .before .before .before .before .before .before .before .before .before .before .before .before .before .before .before .before .before .seq .ensures)) (c .before .before .before .before .before .before .before .before .before .before .to2 .ensures .0 _ _ _) (c .before .before .before .before .before .before .before .before .before .before .to2 .ensures .1) (c .before .before .before .before .before .before .oa .ensures)
 
 own-returns-3 : (t : ℕ) → cycle.Lts-own.Need-returns-3 (own-claims t) (at-measure own.Kinds.ps μ-own own.Reads.Pre t) own.Reads.Post
 own-returns-3 t c = declaring.own-plain _ _ _ _ _ _ _ (c .before .before .before .before .before .before .before .before .before .before .before .has-second .ensures) (c .before .before .before .before .before .before .before .before .before .before .if2 .left) (c .before .before .before .before .before .before .oa2 .ensures)
@@ -1005,10 +1009,10 @@ pa-returns : (t : ℕ) → cycle.Lts-pa.Need-returns (pa-claims t) (at-measure p
 pa-returns t c = λ good. good-none _ _ _ (c .if1 .taken) good
 
 pa-returns-2 : (t : ℕ) → cycle.Lts-pa.Need-returns-2 (pa-claims t) (at-measure pa.Kinds.ps μ-pa pa.Reads.Pre t) pa.Reads.Post
-pa-returns-2 t c = declaring.pattern-object-done _ _ _ _ _ _ _ _ _ _ _ _ _ _ _ _ _ (c .before .before .before .before .before .before .before .before .before .before .before .before .before .before .before .before .before .before .before .before .before .before .before .before .before .before .before .before .before .before .before .before .before .before .before .before .before .before .peek .ensures .value) (c .before .before .before .before .before .before .before .before .before .before .before .before .before .before .before .before .before .before .before .before .before .before .before .before .before .before .before .before .before .before .before .before .before .before .before .before .before .match .keys1) (c .before .before .before .before .before .before .before .before .before .before .before .before .before .before .before .before .before .before .before .before .before .before .before .before .before .before .before .before .before .before .before .before .before .before .before .before .step .ensures) (c .before .before .before .before .before .before .before .before .before .before .before .before .before .before .before .before .before .before .before .before .before .before .before .before .before .before .before .before .before .before .before .before .before .before .before .wide-at .ensures) (c .before .before .before .before .before .before .before .before .before .before .before .before .before .before .before .before .before .before .before .before .before .before .before .before .before .before .before .before .before .before .before .own .ensures) (c .before .before .before .before .before .before .before .before .before .before .before .before .before .before .before .before .before .before .before .before .before .before .before .before .step2 .ensures) (c .before .before .before .before .before .before .before .before .before .before .before .before .before .before .before .before .before .before .before .before .before .before .before .to .ensures .1) (c .before .before .before .before .before .before .before .before .before .before .before .before .before .before .before .before .before .before .before .before .before .before .before .to .ensures .0 _ _ _) (c .before .before .before .before .before .before .before .before .before .before .before .before .before .before .before .before .before .before .before .less .ensures) (c .before .before .before .before .before .before .before .before .before .before .before .before .before .before .before .before .before .before .under .ensures .1) (c .before .before .before .before .before .before .before .before .before .before .before .before .before .before .before .before .before .before .under .ensures .0) (c .before .before .before .before .before .before .before .before .before .before .before .before .before .before .before .before .before .seq .ensures) (c .before .before .before .before .before .before .before .before .before .before .to2 .ensures .0 _ _ _) (c .before .before .before .before .before .before .before .before .before .before .to2 .ensures .1) (c .before .before .before .before .before .before .os .ensures)
+pa-returns-2 t c = declaring.pattern-object-done _ _ _ _ _ _ _ _ _ _ _ _ _ _ _ _ _ (c .before .before .before .before .before .before .before .before .before .before .before .before .before .before .before .before .before .before .before .before .before .before .before .before .before .before .before .before .before .before .before .before .before .before .before .before .before .before .peek .ensures .value) (c .before .before .before .before .before .before .before .before .before .before .before .before .before .before .before .before .before .before .before .before .before .before .before .before .before .before .before .before .before .before .before .before .before .before .before .before .before .match .keys1) (c .before .before .before .before .before .before .before .before .before .before .before .before .before .before .before .before .before .before .before .before .before .before .before .before .before .before .before .before .before .before .before .before .before .before .before .before .step .ensures) (c .before .before .before .before .before .before .before .before .before .before .before .before .before .before .before .before .before .before .before .before .before .before .before .before .before .before .before .before .before .before .before .before .before .before .before .wide-at .ensures) (c .before .before .before .before .before .before .before .before .before .before .before .before .before .before .before .before .before .before .before .before .before .before .before .before .before .before .before .before .before .before .before .own .ensures) (c .before .before .before .before .before .before .before .before .before .before .before .before .before .before .before .before .before .before .before .before .before .before .before .before .step2 .ensures) (c .before .before .before .before .before .before .before .before .before .before .before .before .before .before .before .before .before .before .before .before .before .before .before .to .ensures .1) (c .before .before .before .before .before .before .before .before .before .before .before .before .before .before .before .before .before .before .before .before .before .before .before .to .ensures .0 _ _ _) (c .before .before .before .before .before .before .before .before .before .before .before .before .before .before .before .before .before .before .before .less .ensures) (c .before .before .before .before .before .before .before .before .before .before .before .before .before .before .before .before .before .before .under .ensures .1) (told.with-same _ (c .before .before .before .before .before .before .before .before .before .before .before .before .before .before .before .before .before .before .under .ensures .0)) (told.items-with _ _ _ _ _ _ _ _ _ _ _ told.told-9 (c .before .before .before .before .before .before .before .before .before .before .before .before .before .before .before .before .before .seq .ensures)) (c .before .before .before .before .before .before .before .before .before .before .to2 .ensures .0 _ _ _) (c .before .before .before .before .before .before .before .before .before .before .to2 .ensures .1) (c .before .before .before .before .before .before .os .ensures)
 
 pa-returns-3 : (t : ℕ) → cycle.Lts-pa.Need-returns-3 (pa-claims t) (at-measure pa.Kinds.ps μ-pa pa.Reads.Pre t) pa.Reads.Post
-pa-returns-3 t c = declaring.pattern-array-done _ _ _ _ _ _ _ _ _ _ _ _ _ (c .before .before .before .before .before .before .before .before .before .before .before .before .before .before .before .before .before .before .before .before .before .before .before .before .before .before .before .before .before .before .before .before .before .before .before .before .before .peek .ensures .value) (c .before .before .before .before .before .before .before .before .before .before .before .before .before .before .before .before .before .before .before .before .before .before .before .before .before .before .before .before .before .before .before .before .before .before .before .before .match .keys2) (c .before .before .before .before .before .before .before .before .before .before .before .before .before .before .before .before .before .before .before .before .before .before .before .before .before .before .before .before .before .before .before .before .before .before .put2 .ensures .0 _ _) (c .before .before .before .before .before .before .before .before .before .before .before .before .before .before .before .before .before .before .before .before .before .before .before .before .before .before .before .before .before .before .before .before .before .before .put2 .ensures .1) (c .before .before .before .before .before .before .before .before .before .before .before .before .before .before .before .before .before .before .before .before .before .before .before .before .before .before .before .before .inside .ensures .0) (c .before .before .before .before .before .before .before .before .before .before .before .before .before .before .before .before .before .before .before .before .before .before .before .before .before .before .before .before .inside .ensures .1) (c .before .before .before .before .before .before .before .before .before .before .before .before .before .before .before .before .before .before .before .before .before .before .before .before .before .before .before .view .ensures) (c .before .before .before .before .before .before .before .before .before .before .before .before .before .before .before .before .before .source .ensures) (c .before .before .before .before .before .before .before .before .before .before .to3 .ensures .0 _ _ _) (c .before .before .before .before .before .before .before .before .before .before .to3 .ensures .1) (c .before .before .before .before .before .before .deep .ensures)
+pa-returns-3 t c = declaring.pattern-array-done _ _ _ _ _ _ _ _ _ _ _ _ _ (c .before .before .before .before .before .before .before .before .before .before .before .before .before .before .before .before .before .before .before .before .before .before .before .before .before .before .before .before .before .before .before .before .before .before .before .before .before .peek .ensures .value) (c .before .before .before .before .before .before .before .before .before .before .before .before .before .before .before .before .before .before .before .before .before .before .before .before .before .before .before .before .before .before .before .before .before .before .before .before .match .keys2) (c .before .before .before .before .before .before .before .before .before .before .before .before .before .before .before .before .before .before .before .before .before .before .before .before .before .before .before .before .before .before .before .before .before .before .put2 .ensures .0 _ _) (c .before .before .before .before .before .before .before .before .before .before .before .before .before .before .before .before .before .before .before .before .before .before .before .before .before .before .before .before .before .before .before .before .before .before .put2 .ensures .1) (c .before .before .before .before .before .before .before .before .before .before .before .before .before .before .before .before .before .before .before .before .before .before .before .before .before .before .before .before .told-inside .ensures .0) (c .before .before .before .before .before .before .before .before .before .before .before .before .before .before .before .before .before .before .before .before .before .before .before .before .before .before .before .before .told-inside .ensures .1) (c .before .before .before .before .before .before .before .before .before .before .before .before .before .before .before .before .before .before .before .before .before .before .before .before .before .before .before .view .ensures) (c .before .before .before .before .before .before .before .before .before .before .before .before .before .before .before .before .before .source .ensures) (c .before .before .before .before .before .before .before .before .before .before .to3 .ensures .0 _ _ _) (c .before .before .before .before .before .before .before .before .before .before .to3 .ensures .1) (c .before .before .before .before .before .before .deep .ensures)
 
 pa-returns-4 : (t : ℕ) → cycle.Lts-pa.Need-returns-4 (pa-claims t) (at-measure pa.Kinds.ps μ-pa pa.Reads.Pre t) pa.Reads.Post
 pa-returns-4 t c = declaring.pattern-other _ _ _ _ _ _ (c .before .peek .ensures .value) (c .match .rest .0 .1) (c .match .rest .1)
@@ -1023,10 +1027,10 @@ plain-returns-3 : (t : ℕ) → cycle.Lts-plain.Need-returns-3 (plain-claims t) 
 plain-returns-3 t c = (c .to2 .ensures .1 ∙ c .before .skip2 .ensures, λ good. running.does-to (c .to2 .ensures .0 _ _ _) (law.plain-does _ _ _ _ _ _ _ _ _ _ _ _ _ (c .before .before .before .before .before .before .before .before .before .before .before .before .before .before .before .before .before .before .before .before .before .before .before .before .if1 .left) (c .before .before .before .before .before .before .before .before .before .before .before .before .before .before .before .before .before .before .before .before .before .before .before .peek .ensures .value) (c .before .before .before .before .before .before .before .before .before .before .before .before .before .before .before .before .before .before .before .before .before .before .step .ensures) (c .before .before .before .before .before .before .before .before .before .before .before .before .before .before .before .before .before .before .before .before .before .peek2 .ensures .value) (c .before .before .before .before .before .before .before .before .before .before .before .before .before .before .if2 .left) (c .before .before .before .before .before .before .before .before .before .before .row .ensures) (c .before .before .before .before .before .before .before .before .before .before .before .before .before .before .before .before .before .before .before .step2 .ensures) (c .before .before .before .before .before .before .before .before .before .before .before .before .before .before .before .before .before .before .copy .ensures .1) (c .before .before .before .before .before .before .before .before .before .container .ensures) (c .before .before .before .before .before .before .before .before .before .before .before .before .before .before .before .parts-of .ensures .0) (c .before .before .before .before .before .before .before .before .before .before .before .before .before .before .before .parts-of .ensures .1) (c .before .before .before .before .before .before .before .before .before .before .before .before .before .before .before .before .before .before .copy .ensures .0 _ _) (c .before .before .before .before .before .before .before .before .fs3 .ensures .1) good))
 
 pr-returns : (t : ℕ) → cycle.Lts-pr.Need-returns (pr-claims t) (at-measure pr.Kinds.ps μ-pr pr.Reads.Pre t) pr.Reads.Post
-pr-returns t c = λ k good suit. good-none _ _ _ (c .if1 .taken) good
+pr-returns t c = λ m k good suit. good-none _ _ _ (c .if1 .taken) good
 
 pr-returns-2 : (t : ℕ) → cycle.Lts-pr.Need-returns-2 (pr-claims t) (at-measure pr.Kinds.ps μ-pr pr.Reads.Pre t) pr.Reads.Post
-pr-returns-2 t c = finding.properties-done _ _ _ _ _ _ _ _ _ _ _ _ _ (c .before .before .before .before .before .before .before .before .less .ensures) (c .before .before .before .before .before .before .before .under .ensures .1) (c .before .before .before .before .before .before .before .under .ensures .0) (c .before .before .before .before .before .before .before .before .before .before .before .before .before .before .before .step .ensures) (c .before .before .before .before .before .before .before .before .before .before .before .before .before .before .wide-at .ensures) (c .before .before .before .before .before .before .before .before .before .before .before .before .before .step2 .ensures) (c .before .before .before .before .before .before .before .before .before .before .before .before .to .ensures .1) (c .before .before .before .before .before .before .before .before .before .before .before .before .to .ensures .0 _ _ _) (c .before .before .before .before .before .before .seq .ensures)
+pr-returns-2 t c = λ m. finding.properties-done _ _ _ _ _ _ _ _ _ _ _ _ _ (c .before .before .before .before .before .before .before .before .less .ensures) (c .before .before .before .before .before .before .before .under .ensures .1) (told.with-same _ (c .before .before .before .before .before .before .before .under .ensures .0)) (c .before .before .before .before .before .before .before .before .before .before .before .before .before .before .before .step .ensures) (c .before .before .before .before .before .before .before .before .before .before .before .before .before .before .wide-at .ensures) (c .before .before .before .before .before .before .before .before .before .before .before .before .before .step2 .ensures) (c .before .before .before .before .before .before .before .before .before .before .before .before .to .ensures .1) (c .before .before .before .before .before .before .before .before .before .before .before .before .to .ensures .0 _ _ _) (told.items-with _ _ _ _ _ _ _ _ _ _ _ m (c .before .before .before .before .before .before .seq .ensures))
 
 prop-view-requires : (t : ℕ) → cycle.Lts-prop.Need-view-requires (prop-claims t) (at-measure prop.Kinds.ps μ-prop prop.Reads.Pre t) prop.Reads.Post
 prop-view-requires t c κs = (omega (arith, c .before .before .before .before .before .before .before .before .before .before .before .before .before .before .before .before .before .before .before .before .before .before .before .before .before .pre .0, c .inside2 .ensures .1, c .before .before .before .before .before .before .before .before .before .before .before .inside .ensures .1, c .before .before .before .before .before .before .before .before .before .before .before .before .before .before .before .before .before .before .before .before .less .ensures), tt)
@@ -1094,13 +1098,13 @@ rest-returns-2 : (t : ℕ) → cycle.Lts-rest.Need-returns-2 (rest-claims t) (at
 rest-returns-2 t c = (c .before .before .before .before .before .before .source2 .ensures .0 ∙ c .before .before .before .before .before .before .before .before .before .before .before .before .before .before .before .before .source .ensures .0 ∙ c .before .before .before .before .before .before .before .before .before .before .before .before .before .before .before .before .before .before .before .before .before .before .empty-rest .ensures .1, λ good k _. excluding.rest-whole _ _ _ _ _ (c .before .before .before .before .before .before .before .before .before .before .before .before .before .before .before .before .before .before .before .before .before .before .before .before .before .has-no-properties .ensures) (c .before .before .before .before .before .before .before .before .before .before .before .before .before .before .before .before .before .before .before .before .before .before .before .before .if2 .taken) (c .before .before .before .before .before .before .before .before .before .before .before .before .before .before .before .before .before .before .before .before .before .before .empty-rest .ensures .0 _ _) (c .before .before .before .before .before .before .before .before .before .before .before .before .before .before .before .before .source .ensures .1) (c .before .before .before .before .before .before .source2 .ensures .1))
 
 rest-returns-3 : (t : ℕ) → cycle.Lts-rest.Need-returns-3 (rest-claims t) (at-measure rest.Kinds.ps μ-rest rest.Reads.Pre t) rest.Reads.Post
-rest-returns-3 t c = (c .before .before .before .before .before .before .read .ensures .0 ∙ c .before .before .before .before .before .before .before .before .before .before .before .before .before .before .before .before .before .source3 .ensures .0 ∙ c .before .before .before .before .before .before .before .before .before .before .before .before .before .before .before .before .before .before .before .before .before .before .before .call .ensures .1, λ good k _. excluding.rest-keys _ _ _ _ _ _ _ _ (c .before .before .before .before .before .before .before .before .before .before .before .before .before .before .before .before .before .before .before .before .before .before .before .before .before .before .has-no-properties .ensures) (c .before .before .before .before .before .before .before .before .before .before .before .before .before .before .before .before .before .before .before .before .before .before .before .before .before .if2 .left) (c .before .before .before .before .before .before .before .inside .ensures .0) (c .before .before .before .before .before .before .before .inside .ensures .1) (c .before .before .before .before .before .before .before .before .before .before .before .before .before .before .before .before .before .before .before .before .before .before .before .call .ensures .0 _ _) (c .before .before .before .before .before .before .before .before .before .before .before .before .before .before .before .before .before .source3 .ensures .1) (c .before .before .before .before .before .before .read .ensures .1) good k)
+rest-returns-3 t c = (c .before .before .before .before .before .before .read .ensures .0 ∙ c .before .before .before .before .before .before .before .before .before .before .before .before .before .before .before .before .before .source3 .ensures .0 ∙ c .before .before .before .before .before .before .before .before .before .before .before .before .before .before .before .before .before .before .before .before .before .before .before .call .ensures .1, λ good k _. excluding.rest-keys _ _ _ _ _ _ _ _ (c .before .before .before .before .before .before .before .before .before .before .before .before .before .before .before .before .before .before .before .before .before .before .before .before .before .before .has-no-properties .ensures) (c .before .before .before .before .before .before .before .before .before .before .before .before .before .before .before .before .before .before .before .before .before .before .before .before .before .if2 .left) (told.with-inner _ _ (c .before .before .before .before .before .before .before .inside .ensures .0)) (c .before .before .before .before .before .before .before .inside .ensures .1) (c .before .before .before .before .before .before .before .before .before .before .before .before .before .before .before .before .before .before .before .before .before .before .before .call .ensures .0 _ _) (c .before .before .before .before .before .before .before .before .before .before .before .before .before .before .before .before .before .source3 .ensures .1) (c .before .before .before .before .before .before .read .ensures .1) good k)
 
 abbrev seq-Inv-loop : cycle.Lts-seq.InvT-loop
-seq-Inv-loop t out₀ list₀ work₀ c mode holes count v₀ n₀ out list work v n = (length out ≡ length out₀) × (length list ≡ length list₀) × (length work ≡ length work₀) × (GoodItems t (lookNode t (c .left)) (Good t (c .left)) false holes count (v₀ .at) → AllSuit mode (lookItems t (lookNode t (c .left)) holes count (v₀ .at) .value) → turning.Along t mode (placeOf c) (c .left) holes count (v₀ .at) n (v .at) (goingOf out₀ list₀ work₀ v₀) (goingOf out list work v))
+seq-Inv-loop t out₀ list₀ work₀ c root mode holes count v₀ n₀ out list work v n = (length out ≡ length out₀) × (length list ≡ length list₀) × (length work ≡ length work₀) × (GoodItems t (lookNode t (c .left)) (Good t (c .left)) false holes count (v₀ .at) → AllSuit mode (lookItems t (lookNode t (c .left)) holes count (v₀ .at) .value) → turning.Along t mode (toldPlace mode root c) (c .left) holes count (v₀ .at) n (v .at) (goingOf out₀ list₀ work₀ v₀) (goingOf out list work v))
 
 abbrev seq-μ-loop : cycle.Lts-seq.MeasureT-loop
-seq-μ-loop t out₀ list₀ work₀ c mode holes count v₀ n₀ out list work v n = n
+seq-μ-loop t out₀ list₀ work₀ c root mode holes count v₀ n₀ out list work v n = n
 
 seq-loop-holds :
     (t : ℕ) →
@@ -1145,10 +1149,10 @@ tb-returns-3 : (t : ℕ) → cycle.Lts-tb.Need-returns-3 (tb-claims t) (at-measu
 tb-returns-3 t c = looping.target-statement _ _ _ _ _ _ _ _ _ _ _ _ (c .before .before .before .before .before .before .before .before .before .before .before .before .before .before .before .before .before .before .before .before .before .before .before .before .before .before .before .before .peek .ensures) (c .before .before .before .before .before .before .before .before .before .before .before .before .before .before .before .before .before .before .before .before .before .before .before .before .before .before .before .match .rest .0 .1) (c .before .before .before .before .before .before .before .before .before .before .before .before .before .before .before .before .before .before .before .before .before .before .before .before .before .before .before .match .rest .1) (c .before .before .before .before .before .before .before .before .before .before .before .before .before .before .before .before .before .before .before .scoped4 .ensures .0) (c .before .before .before .before .before .before .before .before .before .before .before .before .before .before .before .before .before .before .before .scoped4 .ensures .1) (c .before .before .before .before .before .before .before .scoped5 .ensures .0) (c .before .before .before .before .before .before .before .scoped5 .ensures .1) (c .before .before .before .before .before .before .before .before .before .before .before .to3 .ensures .1) (c .before .before .before .before .before .before .before .before .before .before .before .to3 .ensures .0 _ _ _) (c .before .before .before .before .before .before .before .before .before .before .before .before .before .before .before .before .before .before .before .before .before .before .before .before .before .block2 .ensures .0 _ _) (c .before .before .before .before .before .before .before .before .before .before .before .before .before .before .before .before .before .before .ta3 .ensures) (c .before .before .before .before .before .before .item .ensures)
 
 tg-returns : (t : ℕ) → cycle.Lts-tg.Need-returns (tg-claims t) (at-measure tg.Kinds.ps μ-tg tg.Reads.Pre t) tg.Reads.Post
-tg-returns t c = assigning.tgt-nested _ _ _ _ _ _ _ _ (c .before .before .before .before .before .before .before .before .before .before .before .before .object-count .ensures .0) (c .before .before .before .before .before .before .before .before .before .before .before .if1 .taken) (c .before .before .before .before .before .before .before .before .before .before .before .before .before .inside .ensures) (c .before .before .before .before .before .before .before .cell .ensures) (c .before .before .before .before .before .before .ns .ensures)
+tg-returns t c = assigning.tgt-nested _ _ _ _ _ _ _ _ (c .before .before .before .before .before .before .before .before .before .before .before .before .object-count .ensures .0) (c .before .before .before .before .before .before .before .before .before .before .before .if1 .taken) (told.own-inner _ _ refl (c .before .before .before .before .before .before .before .before .before .before .before .before .before .told-inside .ensures .0), c .before .before .before .before .before .before .before .before .before .before .before .before .before .told-inside .ensures .1) (c .before .before .before .before .before .before .before .before .before .before .cell .ensures) (c .before .before .before .before .before .before .ns .ensures)
 
 tg-returns-2 : (t : ℕ) → cycle.Lts-tg.Need-returns-2 (tg-claims t) (at-measure tg.Kinds.ps μ-tg tg.Reads.Pre t) tg.Reads.Post
-tg-returns-2 t c = assigning.tgt-kept _ _ _ _ _ _ _ _ _ _ (c .before .before .before .before .before .before .before .before .before .before .before .before .before .before .before .before .before .before .before .before .before .before .before .before .before .before .before .object-count .ensures .0) (c .before .before .before .before .before .before .before .before .before .before .before .before .before .before .before .before .before .before .before .before .before .before .before .before .before .before .if1 .left) (c .before .before .before .before .before .before .before .before .before .before .before .before .before .before .before .before .before .before .before .before .before .before .before .before .before .before .before .before .inside .ensures) (c .before .before .before .before .before .before .before .before .before .before .before .before .before .before .before .before .before .before .before .before .before .before .before .before .assign .ensures .0 _ _) (c .before .before .before .before .before .before .before .before .before .before .before .before .before .before .before .before .before .before .before .before .before .to .ensures .0 _ _ _) (c .before .before .before .before .before .before .before .before .before .before .before .before .before .before .before .before .before .before .before .before .before .to .ensures .1) (c .before .before .before .before .before .before .before .before .before .before .before .before .before .before .before .before .before .view .ensures) (c .before .before .before .before .before .before .before .cell2 .ensures) (c .before .before .before .before .before .before .temporary .ensures .0)
+tg-returns-2 t c = assigning.tgt-kept _ _ _ _ _ _ _ _ _ _ (c .before .before .before .before .before .before .before .before .before .before .before .before .before .before .before .before .before .before .before .before .before .before .before .before .before .before .before .object-count .ensures .0) (c .before .before .before .before .before .before .before .before .before .before .before .before .before .before .before .before .before .before .before .before .before .before .before .before .before .before .if1 .left) (c .before .before .before .before .before .before .before .before .before .before .before .before .before .before .before .before .before .before .before .before .before .before .before .before .before .before .before .before .told-inside .ensures) (c .before .before .before .before .before .before .before .before .before .before .before .before .before .before .before .before .before .before .before .before .before .before .before .before .assign .ensures .0 _ _) (c .before .before .before .before .before .before .before .before .before .before .before .before .before .before .before .before .before .before .before .before .before .to .ensures .0 _ _ _) (c .before .before .before .before .before .before .before .before .before .before .before .before .before .before .before .before .before .before .before .before .before .to .ensures .1) (c .before .before .before .before .before .before .before .before .before .before .before .before .before .before .before .before .before .view .ensures) (c .before .before .before .before .before .before .before .cell2 .ensures) (c .before .before .before .before .before .before .temporary .ensures .0)
 
 th-returns : (t : ℕ) → cycle.Lts-th.Need-returns (th-claims t) (at-measure th.Kinds.ps μ-th th.Reads.Pre t) th.Reads.Post
 th-returns t c = λ loop four na ob good. law.good-none _ _ _ (c .if1 .taken) good
@@ -1169,7 +1173,7 @@ top-returns : (t : ℕ) → cycle.Lts-top.Need-returns (top-claims t) (at-measur
 top-returns t c = λ k h g x a. assigning.top-refused _ _ _ _ _ _ _ _ (c .before .before .before .before .before .lacks-form .ensures) (c .before .before .before .before .if1 .taken) (c .before .before .refuse .ensures .0 _ _)
 
 top-rest-requires : (t : ℕ) → cycle.Lts-top.Need-rest-requires (top-claims t) (at-measure top.Kinds.ps μ-top top.Reads.Pre t) top.Reads.Post
-top-rest-requires t c κs = (omega (arith, c .before .before .before .before .before .before .before .before .before .before .before .before .before .before .before .before .before .before .before .before .before .before .before .before .before .before .before .before .before .before .before .before .before .before .before .before .before .before .before .before .before .before .before .before .before .before .before .before .before .before .before .before .before .before .before .before .before .before .before .before .before .before .before .before .before .before .before .before .before .before .before .before .before .before .before .before .before .before .before .before .before .before .before .before .before .before .before .before .before .pre .0, c .before .before .before .before .before .before .before .before .before .before .before .before .before .before .before .before .before .before .before .before .before .before .before .before .before .before .before .before .before .before .before .before .before .before .before .before .before .before .before .before .before .before .before .before .before .before .before .before .before .before .before .before .before .before .before .before .before .before .before .before .before .before .before .before .before .before .before .before .before .before .before .before .before .before .before .before .before .before .before .before .before .before .inside .ensures .1), tt)
+top-rest-requires t c κs = (omega (arith, c .before .before .before .before .before .before .before .before .before .before .before .before .before .before .before .before .before .before .before .before .before .before .before .before .before .before .before .before .before .before .before .before .before .before .before .before .before .before .before .before .before .before .before .before .before .before .before .before .before .before .before .before .before .before .before .before .before .before .before .before .before .before .before .before .before .before .before .before .before .before .before .before .before .before .before .before .before .before .before .before .before .before .before .before .before .before .before .before .before .pre .0, c .before .before .before .before .before .before .before .before .before .before .before .before .before .before .before .before .before .before .before .before .before .before .before .before .before .before .before .before .before .before .before .before .before .before .before .before .before .before .before .before .before .before .before .before .before .before .before .before .before .before .before .before .before .before .before .before .before .before .before .before .before .before .before .before .before .before .before .before .before .before .before .before .before .before .before .before .before .before .before .before .before .before .told-inside .ensures .1), tt)
 
 top-same-length-2 : (t : ℕ) → cycle.Lts-top.Need-same-length-2 (top-claims t) (at-measure top.Kinds.ps μ-top top.Reads.Pre t) top.Reads.Post
 top-same-length-2 t c = omega (arith, c .before .before .before .before .before .before .before .rest .kept, c .before .before .before .before .before .before .before .before .before .before .before .before .before .before .before .before .before .before .before .node .kept, c .before .before .before .before .before .before .before .before .before .before .before .before .before .before .before .before .before .before .before .before .before .before .before .before .before .before .before .assign2 .kept, c .before .before .before .before .before .before .before .before .before .before .before .before .before .before .before .before .before .before .before .before .before .before .before .before .before .before .before .before .before .before .before .before .before .before .before .pr .kept, c .before .before .before .before .before .before .before .before .before .before .before .before .before .before .before .before .before .before .before .before .before .before .before .before .before .before .before .before .before .before .before .before .before .before .before .before .before .before .before .before .before .before .before .before .before .tg .kept, c .before .before .before .before .before .before .before .before .before .before .before .before .before .before .before .before .before .before .before .before .before .before .before .before .before .before .before .before .before .before .before .before .before .before .before .before .before .before .before .before .before .before .before .before .before .before .before .before .before .before .before .before .before .before .before .gv .kept, c .before .before .before .before .before .before .before .before .before .before .before .before .before .before .before .before .before .before .before .before .before .before .before .before .before .before .before .before .before .before .before .before .before .before .before .before .before .before .before .before .before .before .before .before .before .before .before .before .before .before .before .before .before .before .before .before .before .before .before .before .before .before .before .before .before .temporary .kept, c .before .before .before .before .before .before .before .before .before .before .before .before .before .before .before .before .before .before .before .before .before .before .before .before .before .before .before .before .before .before .before .before .before .before .before .before .before .before .before .before .before .before .before .before .before .before .before .before .before .before .before .before .before .before .before .before .before .before .before .before .before .before .before .before .before .before .before .before .before .before .before .before .assign .kept, c .before .before .before .before .before .before .before .before .before .before .before .before .before .before .before .before .before .before .before .before .before .before .before .before .before .before .before .before .before .before .before .before .before .before .before .before .before .before .before .before .before .before .before .before .before .before .before .before .before .before .before .before .before .before .before .before .before .before .before .before .before .before .before .before .before .before .before .before .before .before .before .before .before .before .before .before .wide .kept, c .before .before .before .before .before .before .before .before .before .before .before .before .before .before .before .before .before .before .before .before .before .before .before .before .before .before .before .before .before .before .before .before .before .before .before .before .before .before .before .before .before .before .before .before .before .before .before .before .before .before .before .before .before .before .before .before .before .before .before .before .before .before .before .before .before .before .before .before .before .before .before .before .before .before .before .before .before .before .before .before .put2 .kept)
@@ -1181,7 +1185,7 @@ top-same-length-4 : (t : ℕ) → cycle.Lts-top.Need-same-length-4 (top-claims t
 top-same-length-4 t c = omega (arith, c .before .before .before .before .before .before .before .rest .kept, c .before .before .before .before .before .before .before .before .before .before .before .before .before .before .before .before .before .before .before .node .kept, c .before .before .before .before .before .before .before .before .before .before .before .before .before .before .before .before .before .before .before .before .before .before .before .before .before .before .before .before .before .before .before .before .before .before .before .pr .kept, c .before .before .before .before .before .before .before .before .before .before .before .before .before .before .before .before .before .before .before .before .before .before .before .before .before .before .before .before .before .before .before .before .before .before .before .before .before .before .before .before .before .before .before .before .before .tg .kept, c .before .before .before .before .before .before .before .before .before .before .before .before .before .before .before .before .before .before .before .before .before .before .before .before .before .before .before .before .before .before .before .before .before .before .before .before .before .before .before .before .before .before .before .before .before .before .before .before .before .before .before .before .before .before .before .gv .kept, c .before .before .before .before .before .before .before .before .before .before .before .before .before .before .before .before .before .before .before .before .before .before .before .before .before .before .before .before .before .before .before .before .before .before .before .before .before .before .before .before .before .before .before .before .before .before .before .before .before .before .before .before .before .before .before .before .before .before .before .before .before .before .before .before .before .temporary .kept, c .before .before .before .before .before .before .before .before .before .before .before .before .before .before .before .before .before .before .before .before .before .before .before .before .before .before .before .before .before .before .before .before .before .before .before .before .before .before .before .before .before .before .before .before .before .before .before .before .before .before .before .before .before .before .before .before .before .before .before .before .before .before .before .before .before .before .before .before .before .before .before .before .before .before .before .before .before .before .before .before .before .before .before .before .before .before .before .top-hands .kept)
 
 top-returns-2 : (t : ℕ) → cycle.Lts-top.Need-returns-2 (top-claims t) (at-measure top.Kinds.ps μ-top top.Reads.Pre t) top.Reads.Post
-top-returns-2 t c = λ k h. assigning.top-does _ _ _ _ _ _ _ _ _ _ _ _ _ _ _ _ _ _ _ _ (c .before .before .before .before .before .before .before .before .before .before .before .before .before .before .before .before .before .before .before .before .before .before .before .before .before .before .before .before .before .before .before .before .before .before .before .before .before .before .before .before .before .before .before .before .before .before .before .before .before .before .before .before .before .before .before .before .before .before .before .before .before .before .before .before .before .before .before .before .before .before .before .before .before .before .before .before .before .before .before .before .before .before .before .before .before .before .before .before .before .before .before .before .lacks-form .ensures) (c .before .before .before .before .before .before .before .before .before .before .before .before .before .before .before .before .before .before .before .before .before .before .before .before .before .before .before .before .before .before .before .before .before .before .before .before .before .before .before .before .before .before .before .before .before .before .before .before .before .before .before .before .before .before .before .before .before .before .before .before .before .before .before .before .before .before .before .before .before .before .before .before .before .before .before .before .before .before .before .before .before .before .before .before .before .before .before .before .before .before .before .if1 .left) (c .before .before .before .before .before .before .before .before .before .before .before .before .before .before .before .before .before .before .before .before .before .before .before .before .before .before .before .before .before .before .before .before .before .before .before .before .before .before .before .before .before .before .before .before .before .before .before .before .before .before .before .before .before .before .before .before .before .before .before .before .before .before .before .before .before .before .before .before .before .before .before .before .before .before .before .before .before .before .before .before .before .before .before .before .before .before .before .before .before .before .inside .ensures) (c .before .before .before .before .before .before .before .before .before .before .before .before .before .before .before .before .before .before .before .before .before .before .before .before .before .before .before .before .before .before .before .before .before .before .before .before .before .before .before .before .before .before .before .before .before .before .before .before .before .before .before .before .before .before .before .before .before .before .before .before .before .before .before .before .before .before .before .before .before .before .before .before .before .before .before .before .before .before .before .before .before .before .before .before .before .before .before .top-hands .ensures .1 _) (c .before .before .before .before .before .before .before .before .before .before .before .before .before .before .before .before .before .before .before .before .before .before .before .before .before .before .before .before .before .before .before .before .before .before .before .before .before .before .before .before .before .before .before .before .before .before .before .before .before .before .before .before .before .before .before .before .before .before .before .before .before .before .before .before .before .before .before .before .before .before .before .before .before .before .before .before .before .before .before .before .before .before .top-count .ensures .0) (c .before .before .before .before .before .before .before .before .before .before .before .before .before .before .before .before .before .before .before .before .before .before .before .before .before .before .before .before .before .before .before .before .before .before .before .before .before .before .before .before .before .before .before .before .before .before .before .before .before .before .before .before .before .before .before .before .before .before .before .before .before .before .before .before .before .before .before .before .before .before .before .before .before .before .before .before .before .before .before .before .put2 .ensures .0 _ _) (c .before .before .before .before .before .before .before .before .before .before .before .before .before .before .before .before .before .before .before .before .before .before .before .before .before .before .before .before .before .before .before .before .before .before .before .before .before .before .before .before .before .before .before .before .before .before .before .before .before .before .before .before .before .before .before .before .before .before .before .before .before .before .before .before .before .before .before .before .before .before .before .before .before .before .before .before .wide .ensures .0 _ _) (c .before .before .before .before .before .before .before .before .before .before .before .before .before .before .before .before .before .before .before .before .before .before .before .before .before .before .before .before .before .before .before .before .before .before .before .before .before .before .before .before .before .before .before .before .before .before .before .before .before .before .before .before .before .before .before .before .before .before .before .before .before .before .before .before .before .before .before .before .before .before .before .before .assign .ensures .0 _ _) (c .before .before .before .before .before .before .before .before .before .before .before .before .before .before .before .before .before .before .before .before .before .before .before .before .before .before .before .before .before .before .before .before .before .before .before .before .before .before .before .before .before .before .before .before .before .before .before .before .before .before .before .before .before .before .before .before .before .before .before .before .before .before .before .before .before .before .cell .ensures) (c .before .before .before .before .before .before .before .before .before .before .before .before .before .before .before .before .before .before .before .before .before .before .before .before .before .before .before .before .before .before .before .before .before .before .before .before .before .before .before .before .before .before .before .before .before .before .before .before .before .before .before .before .before .before .before .before .before .before .before .before .before .before .before .before .before .temporary .ensures .0) (c .before .before .before .before .before .before .before .before .before .before .before .before .before .before .before .before .before .before .before .before .before .before .before .before .before .before .before .before .before .before .before .before .before .before .before .before .before .before .before .before .before .before .before .before .before .before .before .before .before .before .before .before .before .before .before .gv .ensures) (c .before .before .before .before .before .before .before .before .before .before .before .before .before .before .before .before .before .before .before .before .before .before .before .before .before .before .before .before .before .before .before .before .before .before .before .before .before .before .before .before .before .before .before .before .before .tg .ensures) (c .before .before .before .before .before .before .before .before .before .before .before .before .before .before .before .before .before .before .before .before .before .before .before .before .before .before .before .before .before .before .before .before .before .before .before .pr .ensures) (c .before .before .before .before .before .before .before .before .before .before .before .before .before .before .before .before .before .before .before .before .before .before .before .before .before .before .before .assign2 .ensures .0 _ _) (c .before .before .before .before .before .before .before .before .before .before .before .before .before .before .before .before .before .before .before .before .before .before .before .before .before .before .before .assign2 .ensures .1) (c .before .before .before .before .before .before .before .before .before .before .before .before .before .before .before .before .before .before .before .before .before .less .ensures) (c .before .before .before .before .before .before .before .before .before .before .before .before .before .before .before .before .before .before .before .before .inside2 .ensures) (c .before .before .before .before .before .before .before .before .before .before .before .before .before .before .before .before .before .before .before .node .ensures .1) (c .before .before .before .before .before .before .before .before .before .cell2 .ensures) (c .before .before .before .before .before .before .before .before .cell-source .ensures) (c .before .before .before .before .before .before .before .rest .ensures .1) (λ w. does-nothing _) (assigning.read-none _ _ (c .if2 .taken)) k h
+top-returns-2 t c = λ k h. assigning.top-does _ _ _ _ _ _ _ _ _ _ _ _ _ _ _ _ _ _ _ _ _ (c .before .before .before .before .before .before .before .before .before .before .before .before .before .before .before .before .before .before .before .before .before .before .before .before .before .before .before .before .before .before .before .before .before .before .before .before .before .before .before .before .before .before .before .before .before .before .before .before .before .before .before .before .before .before .before .before .before .before .before .before .before .before .before .before .before .before .before .before .before .before .before .before .before .before .before .before .before .before .before .before .before .before .before .before .before .before .before .before .before .before .before .before .lacks-form .ensures) (c .before .before .before .before .before .before .before .before .before .before .before .before .before .before .before .before .before .before .before .before .before .before .before .before .before .before .before .before .before .before .before .before .before .before .before .before .before .before .before .before .before .before .before .before .before .before .before .before .before .before .before .before .before .before .before .before .before .before .before .before .before .before .before .before .before .before .before .before .before .before .before .before .before .before .before .before .before .before .before .before .before .before .before .before .before .before .before .before .before .before .before .if1 .left) (c .before .before .before .before .before .before .before .before .before .before .before .before .before .before .before .before .before .before .before .before .before .before .before .before .before .before .before .before .before .before .before .before .before .before .before .before .before .before .before .before .before .before .before .before .before .before .before .before .before .before .before .before .before .before .before .before .before .before .before .before .before .before .before .before .before .before .before .before .before .before .before .before .before .before .before .before .before .before .before .before .before .before .before .before .before .before .before .before .before .before .told-inside .ensures) (c .before .before .before .before .before .before .before .before .before .before .before .before .before .before .before .before .before .before .before .before .before .before .before .before .before .before .before .before .before .before .before .before .before .before .before .before .before .before .before .before .before .before .before .before .before .before .before .before .before .before .before .before .before .before .before .before .before .before .before .before .before .before .before .before .before .before .before .before .before .before .before .before .before .before .before .before .before .before .before .before .before .before .before .before .before .before .before .top-hands .ensures .1 _) (c .before .before .before .before .before .before .before .before .before .before .before .before .before .before .before .before .before .before .before .before .before .before .before .before .before .before .before .before .before .before .before .before .before .before .before .before .before .before .before .before .before .before .before .before .before .before .before .before .before .before .before .before .before .before .before .before .before .before .before .before .before .before .before .before .before .before .before .before .before .before .before .before .before .before .before .before .before .before .before .before .before .before .top-count .ensures .0) (c .before .before .before .before .before .before .before .before .before .before .before .before .before .before .before .before .before .before .before .before .before .before .before .before .before .before .before .before .before .before .before .before .before .before .before .before .before .before .before .before .before .before .before .before .before .before .before .before .before .before .before .before .before .before .before .before .before .before .before .before .before .before .before .before .before .before .before .before .before .before .before .before .before .before .before .before .before .before .before .before .put2 .ensures .0 _ _) (c .before .before .before .before .before .before .before .before .before .before .before .before .before .before .before .before .before .before .before .before .before .before .before .before .before .before .before .before .before .before .before .before .before .before .before .before .before .before .before .before .before .before .before .before .before .before .before .before .before .before .before .before .before .before .before .before .before .before .before .before .before .before .before .before .before .before .before .before .before .before .before .before .before .before .before .before .wide .ensures .0 _ _) (c .before .before .before .before .before .before .before .before .before .before .before .before .before .before .before .before .before .before .before .before .before .before .before .before .before .before .before .before .before .before .before .before .before .before .before .before .before .before .before .before .before .before .before .before .before .before .before .before .before .before .before .before .before .before .before .before .before .before .before .before .before .before .before .before .before .before .before .before .before .before .before .before .assign .ensures .0 _ _) (c .before .before .before .before .before .before .before .before .before .before .before .before .before .before .before .before .before .before .before .before .before .before .before .before .before .before .before .before .before .before .before .before .before .before .before .before .before .before .before .before .before .before .before .before .before .before .before .before .before .before .before .before .before .before .before .before .before .before .before .before .before .before .before .before .before .before .cell .ensures) (c .before .before .before .before .before .before .before .before .before .before .before .before .before .before .before .before .before .before .before .before .before .before .before .before .before .before .before .before .before .before .before .before .before .before .before .before .before .before .before .before .before .before .before .before .before .before .before .before .before .before .before .before .before .before .before .before .before .before .before .before .before .before .before .before .before .temporary .ensures .0) (c .before .before .before .before .before .before .before .before .before .before .before .before .before .before .before .before .before .before .before .before .before .before .before .before .before .before .before .before .before .before .before .before .before .before .before .before .before .before .before .before .before .before .before .before .before .before .before .before .before .before .before .before .before .before .before .gv .ensures) (c .before .before .before .before .before .before .before .before .before .before .before .before .before .before .before .before .before .before .before .before .before .before .before .before .before .before .before .before .before .before .before .before .before .before .before .before .before .before .before .before .before .before .before .before .before .tg .ensures) (c .before .before .before .before .before .before .before .before .before .before .before .before .before .before .before .before .before .before .before .before .before .before .before .before .before .before .before .before .before .before .before .before .before .before .before .pr .ensures told.told-15) (c .before .before .before .before .before .before .before .before .before .before .before .before .before .before .before .before .before .before .before .before .before .before .before .before .before .before .before .assign2 .ensures .0 _ _) (c .before .before .before .before .before .before .before .before .before .before .before .before .before .before .before .before .before .before .before .before .before .before .before .before .before .before .before .assign2 .ensures .1) (c .before .before .before .before .before .before .before .before .before .before .before .before .before .before .before .before .before .before .before .before .before .less .ensures) (c .before .before .before .before .before .before .before .before .before .before .before .before .before .before .before .before .before .before .before .before .told-inside2 .ensures) (c .before .before .before .before .before .before .before .before .before .before .before .before .before .before .before .before .before .before .before .node .ensures .1) (c .before .before .before .before .before .before .before .before .before .cell2 .ensures) (c .before .before .before .before .before .before .before .before .cell-source .ensures) (told.own-inner _ _ refl (c .before .before .before .before .before .before .before .before .before .before .before .before .before .before .before .before .before .before .before .before .before .before .before .before .before .before .before .before .before .before .before .before .before .before .before .before .before .before .before .before .before .before .before .before .before .before .before .before .before .before .before .before .before .before .before .before .before .before .before .before .before .before .before .before .before .before .before .before .before .before .before .before .before .before .before .before .before .before .before .before .before .before .before .before .before .before .before .before .before .before .told-inside .ensures .0)) (c .before .before .before .before .before .before .before .rest .ensures .1) (λ w. does-nothing _) (assigning.read-none _ _ (c .if2 .taken)) k h
 
 top-same-length-5 : (t : ℕ) → cycle.Lts-top.Need-same-length-5 (top-claims t) (at-measure top.Kinds.ps μ-top top.Reads.Pre t) top.Reads.Post
 top-same-length-5 t c = omega (arith, c .before .before .before .before .before .before .temporary2 .kept, c .before .before .before .before .before .before .before .before .before .before .before .before .before .before .before .before .before .before .rest .kept, c .before .before .before .before .before .before .before .before .before .before .before .before .before .before .before .before .before .before .before .before .before .before .before .before .before .before .before .before .before .before .node .kept, c .before .before .before .before .before .before .before .before .before .before .before .before .before .before .before .before .before .before .before .before .before .before .before .before .before .before .before .before .before .before .before .before .before .before .before .before .before .before .assign2 .kept, c .before .before .before .before .before .before .before .before .before .before .before .before .before .before .before .before .before .before .before .before .before .before .before .before .before .before .before .before .before .before .before .before .before .before .before .before .before .before .before .before .before .before .before .before .before .before .pr .kept, c .before .before .before .before .before .before .before .before .before .before .before .before .before .before .before .before .before .before .before .before .before .before .before .before .before .before .before .before .before .before .before .before .before .before .before .before .before .before .before .before .before .before .before .before .before .before .before .before .before .before .before .before .before .before .before .before .tg .kept, c .before .before .before .before .before .before .before .before .before .before .before .before .before .before .before .before .before .before .before .before .before .before .before .before .before .before .before .before .before .before .before .before .before .before .before .before .before .before .before .before .before .before .before .before .before .before .before .before .before .before .before .before .before .before .before .before .before .before .before .before .before .before .before .before .before .before .gv .kept, c .before .before .before .before .before .before .before .before .before .before .before .before .before .before .before .before .before .before .before .before .before .before .before .before .before .before .before .before .before .before .before .before .before .before .before .before .before .before .before .before .before .before .before .before .before .before .before .before .before .before .before .before .before .before .before .before .before .before .before .before .before .before .before .before .before .before .before .before .before .before .before .before .before .before .before .before .temporary .kept, c .before .before .before .before .before .before .before .before .before .before .before .before .before .before .before .before .before .before .before .before .before .before .before .before .before .before .before .before .before .before .before .before .before .before .before .before .before .before .before .before .before .before .before .before .before .before .before .before .before .before .before .before .before .before .before .before .before .before .before .before .before .before .before .before .before .before .before .before .before .before .before .before .before .before .before .before .before .before .before .before .before .before .before .assign .kept, c .before .before .before .before .before .before .before .before .before .before .before .before .before .before .before .before .before .before .before .before .before .before .before .before .before .before .before .before .before .before .before .before .before .before .before .before .before .before .before .before .before .before .before .before .before .before .before .before .before .before .before .before .before .before .before .before .before .before .before .before .before .before .before .before .before .before .before .before .before .before .before .before .before .before .before .before .before .before .before .before .before .before .before .before .before .before .before .wide .kept, c .before .before .before .before .before .before .before .before .before .before .before .before .before .before .before .before .before .before .before .before .before .before .before .before .before .before .before .before .before .before .before .before .before .before .before .before .before .before .before .before .before .before .before .before .before .before .before .before .before .before .before .before .before .before .before .before .before .before .before .before .before .before .before .before .before .before .before .before .before .before .before .before .before .before .before .before .before .before .before .before .before .before .before .before .before .before .before .before .before .before .before .put2 .kept)
@@ -1193,52 +1197,52 @@ top-same-length-7 : (t : ℕ) → cycle.Lts-top.Need-same-length-7 (top-claims t
 top-same-length-7 t c = omega (arith, c .before .before .before .before .before .before .temporary2 .kept, c .before .before .before .before .before .before .before .before .before .before .before .before .before .before .before .before .before .before .rest .kept, c .before .before .before .before .before .before .before .before .before .before .before .before .before .before .before .before .before .before .before .before .before .before .before .before .before .before .before .before .before .before .node .kept, c .before .before .before .before .before .before .before .before .before .before .before .before .before .before .before .before .before .before .before .before .before .before .before .before .before .before .before .before .before .before .before .before .before .before .before .before .before .before .before .before .before .before .before .before .before .before .pr .kept, c .before .before .before .before .before .before .before .before .before .before .before .before .before .before .before .before .before .before .before .before .before .before .before .before .before .before .before .before .before .before .before .before .before .before .before .before .before .before .before .before .before .before .before .before .before .before .before .before .before .before .before .before .before .before .before .before .tg .kept, c .before .before .before .before .before .before .before .before .before .before .before .before .before .before .before .before .before .before .before .before .before .before .before .before .before .before .before .before .before .before .before .before .before .before .before .before .before .before .before .before .before .before .before .before .before .before .before .before .before .before .before .before .before .before .before .before .before .before .before .before .before .before .before .before .before .before .gv .kept, c .before .before .before .before .before .before .before .before .before .before .before .before .before .before .before .before .before .before .before .before .before .before .before .before .before .before .before .before .before .before .before .before .before .before .before .before .before .before .before .before .before .before .before .before .before .before .before .before .before .before .before .before .before .before .before .before .before .before .before .before .before .before .before .before .before .before .before .before .before .before .before .before .before .before .before .before .temporary .kept, c .before .before .before .before .before .before .before .before .before .before .before .before .before .before .before .before .before .before .before .before .before .before .before .before .before .before .before .before .before .before .before .before .before .before .before .before .before .before .before .before .before .before .before .before .before .before .before .before .before .before .before .before .before .before .before .before .before .before .before .before .before .before .before .before .before .before .before .before .before .before .before .before .before .before .before .before .before .before .before .before .before .before .before .before .before .before .before .before .before .before .before .before .before .before .before .before .before .before .top-hands .kept)
 
 top-returns-3 : (t : ℕ) → cycle.Lts-top.Need-returns-3 (top-claims t) (at-measure top.Kinds.ps μ-top top.Reads.Pre t) top.Reads.Post
-top-returns-3 t c = λ k h. assigning.top-does _ _ _ _ _ _ _ _ _ _ _ _ _ _ _ _ _ _ _ _ (c .before .before .before .before .before .before .before .before .before .before .before .before .before .before .before .before .before .before .before .before .before .before .before .before .before .before .before .before .before .before .before .before .before .before .before .before .before .before .before .before .before .before .before .before .before .before .before .before .before .before .before .before .before .before .before .before .before .before .before .before .before .before .before .before .before .before .before .before .before .before .before .before .before .before .before .before .before .before .before .before .before .before .before .before .before .before .before .before .before .before .before .before .before .before .before .before .before .before .before .before .before .before .before .lacks-form .ensures) (c .before .before .before .before .before .before .before .before .before .before .before .before .before .before .before .before .before .before .before .before .before .before .before .before .before .before .before .before .before .before .before .before .before .before .before .before .before .before .before .before .before .before .before .before .before .before .before .before .before .before .before .before .before .before .before .before .before .before .before .before .before .before .before .before .before .before .before .before .before .before .before .before .before .before .before .before .before .before .before .before .before .before .before .before .before .before .before .before .before .before .before .before .before .before .before .before .before .before .before .before .before .before .if1 .left) (c .before .before .before .before .before .before .before .before .before .before .before .before .before .before .before .before .before .before .before .before .before .before .before .before .before .before .before .before .before .before .before .before .before .before .before .before .before .before .before .before .before .before .before .before .before .before .before .before .before .before .before .before .before .before .before .before .before .before .before .before .before .before .before .before .before .before .before .before .before .before .before .before .before .before .before .before .before .before .before .before .before .before .before .before .before .before .before .before .before .before .before .before .before .before .before .before .before .before .before .before .before .inside .ensures) (c .before .before .before .before .before .before .before .before .before .before .before .before .before .before .before .before .before .before .before .before .before .before .before .before .before .before .before .before .before .before .before .before .before .before .before .before .before .before .before .before .before .before .before .before .before .before .before .before .before .before .before .before .before .before .before .before .before .before .before .before .before .before .before .before .before .before .before .before .before .before .before .before .before .before .before .before .before .before .before .before .before .before .before .before .before .before .before .before .before .before .before .before .before .before .before .before .before .before .top-hands .ensures .1 _) (c .before .before .before .before .before .before .before .before .before .before .before .before .before .before .before .before .before .before .before .before .before .before .before .before .before .before .before .before .before .before .before .before .before .before .before .before .before .before .before .before .before .before .before .before .before .before .before .before .before .before .before .before .before .before .before .before .before .before .before .before .before .before .before .before .before .before .before .before .before .before .before .before .before .before .before .before .before .before .before .before .before .before .before .before .before .before .before .before .before .before .before .before .before .top-count .ensures .0) (c .before .before .before .before .before .before .before .before .before .before .before .before .before .before .before .before .before .before .before .before .before .before .before .before .before .before .before .before .before .before .before .before .before .before .before .before .before .before .before .before .before .before .before .before .before .before .before .before .before .before .before .before .before .before .before .before .before .before .before .before .before .before .before .before .before .before .before .before .before .before .before .before .before .before .before .before .before .before .before .before .before .before .before .before .before .before .before .before .before .before .before .put2 .ensures .0 _ _) (c .before .before .before .before .before .before .before .before .before .before .before .before .before .before .before .before .before .before .before .before .before .before .before .before .before .before .before .before .before .before .before .before .before .before .before .before .before .before .before .before .before .before .before .before .before .before .before .before .before .before .before .before .before .before .before .before .before .before .before .before .before .before .before .before .before .before .before .before .before .before .before .before .before .before .before .before .before .before .before .before .before .before .before .before .before .before .before .wide .ensures .0 _ _) (c .before .before .before .before .before .before .before .before .before .before .before .before .before .before .before .before .before .before .before .before .before .before .before .before .before .before .before .before .before .before .before .before .before .before .before .before .before .before .before .before .before .before .before .before .before .before .before .before .before .before .before .before .before .before .before .before .before .before .before .before .before .before .before .before .before .before .before .before .before .before .before .before .before .before .before .before .before .before .before .before .before .before .before .assign .ensures .0 _ _) (c .before .before .before .before .before .before .before .before .before .before .before .before .before .before .before .before .before .before .before .before .before .before .before .before .before .before .before .before .before .before .before .before .before .before .before .before .before .before .before .before .before .before .before .before .before .before .before .before .before .before .before .before .before .before .before .before .before .before .before .before .before .before .before .before .before .before .before .before .before .before .before .before .before .before .before .before .before .cell .ensures) (c .before .before .before .before .before .before .before .before .before .before .before .before .before .before .before .before .before .before .before .before .before .before .before .before .before .before .before .before .before .before .before .before .before .before .before .before .before .before .before .before .before .before .before .before .before .before .before .before .before .before .before .before .before .before .before .before .before .before .before .before .before .before .before .before .before .before .before .before .before .before .before .before .before .before .before .before .temporary .ensures .0) (c .before .before .before .before .before .before .before .before .before .before .before .before .before .before .before .before .before .before .before .before .before .before .before .before .before .before .before .before .before .before .before .before .before .before .before .before .before .before .before .before .before .before .before .before .before .before .before .before .before .before .before .before .before .before .before .before .before .before .before .before .before .before .before .before .before .before .gv .ensures) (c .before .before .before .before .before .before .before .before .before .before .before .before .before .before .before .before .before .before .before .before .before .before .before .before .before .before .before .before .before .before .before .before .before .before .before .before .before .before .before .before .before .before .before .before .before .before .before .before .before .before .before .before .before .before .before .before .tg .ensures) (c .before .before .before .before .before .before .before .before .before .before .before .before .before .before .before .before .before .before .before .before .before .before .before .before .before .before .before .before .before .before .before .before .before .before .before .before .before .before .before .before .before .before .before .before .before .before .pr .ensures) (c .before .before .before .before .before .before .before .before .before .before .before .before .before .before .before .before .before .before .before .before .before .before .before .before .before .before .before .before .before .before .before .before .before .before .before .before .before .before .assign2 .ensures .0 _ _) (c .before .before .before .before .before .before .before .before .before .before .before .before .before .before .before .before .before .before .before .before .before .before .before .before .before .before .before .before .before .before .before .before .before .before .before .before .before .before .assign2 .ensures .1) (c .before .before .before .before .before .before .before .before .before .before .before .before .before .before .before .before .before .before .before .before .before .before .before .before .before .before .before .before .before .before .before .before .less .ensures) (c .before .before .before .before .before .before .before .before .before .before .before .before .before .before .before .before .before .before .before .before .before .before .before .before .before .before .before .before .before .before .before .inside2 .ensures) (c .before .before .before .before .before .before .before .before .before .before .before .before .before .before .before .before .before .before .before .before .before .before .before .before .before .before .before .before .before .before .node .ensures .1) (c .before .before .before .before .before .before .before .before .before .before .before .before .before .before .before .before .before .before .before .before .cell2 .ensures) (c .before .before .before .before .before .before .before .before .before .before .before .before .before .before .before .before .before .before .before .cell-source .ensures) (c .before .before .before .before .before .before .before .before .before .before .before .before .before .before .before .before .before .before .rest .ensures .1) (assigning.value-read _ _ (c .before .before .before .before .before .before .before .cell3 .ensures) (c .before .before .before .before .before .before .temporary2 .ensures .0)) (assigning.read-some _ _ (c .before .before .before .before .before .before .before .before .before .before .before .if2 .left)) k h
+top-returns-3 t c = λ k h. assigning.top-does _ _ _ _ _ _ _ _ _ _ _ _ _ _ _ _ _ _ _ _ _ (c .before .before .before .before .before .before .before .before .before .before .before .before .before .before .before .before .before .before .before .before .before .before .before .before .before .before .before .before .before .before .before .before .before .before .before .before .before .before .before .before .before .before .before .before .before .before .before .before .before .before .before .before .before .before .before .before .before .before .before .before .before .before .before .before .before .before .before .before .before .before .before .before .before .before .before .before .before .before .before .before .before .before .before .before .before .before .before .before .before .before .before .before .before .before .before .before .before .before .before .before .before .before .before .lacks-form .ensures) (c .before .before .before .before .before .before .before .before .before .before .before .before .before .before .before .before .before .before .before .before .before .before .before .before .before .before .before .before .before .before .before .before .before .before .before .before .before .before .before .before .before .before .before .before .before .before .before .before .before .before .before .before .before .before .before .before .before .before .before .before .before .before .before .before .before .before .before .before .before .before .before .before .before .before .before .before .before .before .before .before .before .before .before .before .before .before .before .before .before .before .before .before .before .before .before .before .before .before .before .before .before .before .if1 .left) (c .before .before .before .before .before .before .before .before .before .before .before .before .before .before .before .before .before .before .before .before .before .before .before .before .before .before .before .before .before .before .before .before .before .before .before .before .before .before .before .before .before .before .before .before .before .before .before .before .before .before .before .before .before .before .before .before .before .before .before .before .before .before .before .before .before .before .before .before .before .before .before .before .before .before .before .before .before .before .before .before .before .before .before .before .before .before .before .before .before .before .before .before .before .before .before .before .before .before .before .before .before .told-inside .ensures) (c .before .before .before .before .before .before .before .before .before .before .before .before .before .before .before .before .before .before .before .before .before .before .before .before .before .before .before .before .before .before .before .before .before .before .before .before .before .before .before .before .before .before .before .before .before .before .before .before .before .before .before .before .before .before .before .before .before .before .before .before .before .before .before .before .before .before .before .before .before .before .before .before .before .before .before .before .before .before .before .before .before .before .before .before .before .before .before .before .before .before .before .before .before .before .before .before .before .before .top-hands .ensures .1 _) (c .before .before .before .before .before .before .before .before .before .before .before .before .before .before .before .before .before .before .before .before .before .before .before .before .before .before .before .before .before .before .before .before .before .before .before .before .before .before .before .before .before .before .before .before .before .before .before .before .before .before .before .before .before .before .before .before .before .before .before .before .before .before .before .before .before .before .before .before .before .before .before .before .before .before .before .before .before .before .before .before .before .before .before .before .before .before .before .before .before .before .before .before .before .top-count .ensures .0) (c .before .before .before .before .before .before .before .before .before .before .before .before .before .before .before .before .before .before .before .before .before .before .before .before .before .before .before .before .before .before .before .before .before .before .before .before .before .before .before .before .before .before .before .before .before .before .before .before .before .before .before .before .before .before .before .before .before .before .before .before .before .before .before .before .before .before .before .before .before .before .before .before .before .before .before .before .before .before .before .before .before .before .before .before .before .before .before .before .before .before .before .put2 .ensures .0 _ _) (c .before .before .before .before .before .before .before .before .before .before .before .before .before .before .before .before .before .before .before .before .before .before .before .before .before .before .before .before .before .before .before .before .before .before .before .before .before .before .before .before .before .before .before .before .before .before .before .before .before .before .before .before .before .before .before .before .before .before .before .before .before .before .before .before .before .before .before .before .before .before .before .before .before .before .before .before .before .before .before .before .before .before .before .before .before .before .before .wide .ensures .0 _ _) (c .before .before .before .before .before .before .before .before .before .before .before .before .before .before .before .before .before .before .before .before .before .before .before .before .before .before .before .before .before .before .before .before .before .before .before .before .before .before .before .before .before .before .before .before .before .before .before .before .before .before .before .before .before .before .before .before .before .before .before .before .before .before .before .before .before .before .before .before .before .before .before .before .before .before .before .before .before .before .before .before .before .before .before .assign .ensures .0 _ _) (c .before .before .before .before .before .before .before .before .before .before .before .before .before .before .before .before .before .before .before .before .before .before .before .before .before .before .before .before .before .before .before .before .before .before .before .before .before .before .before .before .before .before .before .before .before .before .before .before .before .before .before .before .before .before .before .before .before .before .before .before .before .before .before .before .before .before .before .before .before .before .before .before .before .before .before .before .before .cell .ensures) (c .before .before .before .before .before .before .before .before .before .before .before .before .before .before .before .before .before .before .before .before .before .before .before .before .before .before .before .before .before .before .before .before .before .before .before .before .before .before .before .before .before .before .before .before .before .before .before .before .before .before .before .before .before .before .before .before .before .before .before .before .before .before .before .before .before .before .before .before .before .before .before .before .before .before .before .before .temporary .ensures .0) (c .before .before .before .before .before .before .before .before .before .before .before .before .before .before .before .before .before .before .before .before .before .before .before .before .before .before .before .before .before .before .before .before .before .before .before .before .before .before .before .before .before .before .before .before .before .before .before .before .before .before .before .before .before .before .before .before .before .before .before .before .before .before .before .before .before .before .gv .ensures) (c .before .before .before .before .before .before .before .before .before .before .before .before .before .before .before .before .before .before .before .before .before .before .before .before .before .before .before .before .before .before .before .before .before .before .before .before .before .before .before .before .before .before .before .before .before .before .before .before .before .before .before .before .before .before .before .before .tg .ensures) (c .before .before .before .before .before .before .before .before .before .before .before .before .before .before .before .before .before .before .before .before .before .before .before .before .before .before .before .before .before .before .before .before .before .before .before .before .before .before .before .before .before .before .before .before .before .before .pr .ensures told.told-15) (c .before .before .before .before .before .before .before .before .before .before .before .before .before .before .before .before .before .before .before .before .before .before .before .before .before .before .before .before .before .before .before .before .before .before .before .before .before .before .assign2 .ensures .0 _ _) (c .before .before .before .before .before .before .before .before .before .before .before .before .before .before .before .before .before .before .before .before .before .before .before .before .before .before .before .before .before .before .before .before .before .before .before .before .before .before .assign2 .ensures .1) (c .before .before .before .before .before .before .before .before .before .before .before .before .before .before .before .before .before .before .before .before .before .before .before .before .before .before .before .before .before .before .before .before .less .ensures) (c .before .before .before .before .before .before .before .before .before .before .before .before .before .before .before .before .before .before .before .before .before .before .before .before .before .before .before .before .before .before .before .told-inside2 .ensures) (c .before .before .before .before .before .before .before .before .before .before .before .before .before .before .before .before .before .before .before .before .before .before .before .before .before .before .before .before .before .before .node .ensures .1) (c .before .before .before .before .before .before .before .before .before .before .before .before .before .before .before .before .before .before .before .before .cell2 .ensures) (c .before .before .before .before .before .before .before .before .before .before .before .before .before .before .before .before .before .before .before .cell-source .ensures) (told.own-inner _ _ refl (c .before .before .before .before .before .before .before .before .before .before .before .before .before .before .before .before .before .before .before .before .before .before .before .before .before .before .before .before .before .before .before .before .before .before .before .before .before .before .before .before .before .before .before .before .before .before .before .before .before .before .before .before .before .before .before .before .before .before .before .before .before .before .before .before .before .before .before .before .before .before .before .before .before .before .before .before .before .before .before .before .before .before .before .before .before .before .before .before .before .before .before .before .before .before .before .before .before .before .before .before .before .told-inside .ensures .0)) (c .before .before .before .before .before .before .before .before .before .before .before .before .before .before .before .before .before .before .rest .ensures .1) (assigning.value-read _ _ (c .before .before .before .before .before .before .before .cell3 .ensures) (c .before .before .before .before .before .before .temporary2 .ensures .0)) (assigning.read-some _ _ (c .before .before .before .before .before .before .before .before .before .before .before .if2 .left)) k h
 
 turn-returns : (t : ℕ) → cycle.Lts-turn.Need-returns (turn-claims t) (at-measure turn.Kinds.ps μ-turn turn.Reads.Pre t) turn.Reads.Post
 turn-returns t c = turning.turned-hole _ _ _ _ _ _ _ _ (c .before .before .before .before .before .before .if1 .taken) (c .before .before .before .before .before .peek .ensures) (c .before .before .before .before .if2 .taken) (c .before .before .hole .ensures .0) (c .before .before .hole .ensures .1 _ _)
 
 turn-returns-2 : (t : ℕ) → cycle.Lts-turn.Need-returns-2 (turn-claims t) (at-measure turn.Kinds.ps μ-turn turn.Reads.Pre t) turn.Reads.Post
-turn-returns-2 t c = turning.turned-1 _ _ _ _ _ _ _ (⊎-elim (λ w. law.no-hole _ _ _ _ (w .0 .taken) (w .1 .ensures) (w .2 .left)) (λ w. law.full _ _ _ (w .left)) (c .before .before .before .before .before .before .before .before .before .before .before .if1 .came)) (c .before .before .before .before .before .before .before .before .before .before .match .keys1) (c .before .before .before .before .before .before .view .ensures)
+turn-returns-2 t c = told.item-own _ _ _ _ _ _ _ _ _ _ (ap isTold (c .before .before .before .before .before .before .before .before .before .before .match .keys1) ∙ told.untold-1) (turning.turned-1 _ _ _ _ _ _ _ (⊎-elim (λ w. law.no-hole _ _ _ _ (w .0 .taken) (w .1 .ensures) (w .2 .left)) (λ w. law.full _ _ _ (w .left)) (c .before .before .before .before .before .before .before .before .before .before .before .if1 .came)) (c .before .before .before .before .before .before .before .before .before .before .match .keys1) (c .before .before .before .before .before .before .view .ensures))
 
 turn-returns-3 : (t : ℕ) → cycle.Lts-turn.Need-returns-3 (turn-claims t) (at-measure turn.Kinds.ps μ-turn turn.Reads.Pre t) turn.Reads.Post
-turn-returns-3 t c = turning.turned-2 _ _ _ _ _ _ _ (⊎-elim (λ w. law.no-hole _ _ _ _ (w .0 .taken) (w .1 .ensures) (w .2 .left)) (λ w. law.full _ _ _ (w .left)) (c .before .before .before .before .before .before .before .before .before .before .before .if1 .came)) (c .before .before .before .before .before .before .before .before .before .before .match .keys2) (c .before .before .before .before .before .before .prop .ensures)
+turn-returns-3 t c = told.item-own _ _ _ _ _ _ _ _ _ _ (ap isTold (c .before .before .before .before .before .before .before .before .before .before .match .keys2) ∙ told.untold-2) (turning.turned-2 _ _ _ _ _ _ _ (⊎-elim (λ w. law.no-hole _ _ _ _ (w .0 .taken) (w .1 .ensures) (w .2 .left)) (λ w. law.full _ _ _ (w .left)) (c .before .before .before .before .before .before .before .before .before .before .before .if1 .came)) (c .before .before .before .before .before .before .before .before .before .before .match .keys2) (c .before .before .before .before .before .before .prop .ensures))
 
 turn-returns-4 : (t : ℕ) → cycle.Lts-turn.Need-returns-4 (turn-claims t) (at-measure turn.Kinds.ps μ-turn turn.Reads.Pre t) turn.Reads.Post
-turn-returns-4 t c = turning.turned-4 _ _ _ _ _ _ _ (⊎-elim (λ w. law.no-hole _ _ _ _ (w .0 .taken) (w .1 .ensures) (w .2 .left)) (λ w. law.full _ _ _ (w .left)) (c .before .before .before .before .before .before .before .before .before .before .before .if1 .came)) (c .before .before .before .before .before .before .before .before .before .before .match .keys3) (c .before .before .before .before .before .before .prop2 .ensures)
+turn-returns-4 t c = told.item-own _ _ _ _ _ _ _ _ _ _ (ap isTold (c .before .before .before .before .before .before .before .before .before .before .match .keys3) ∙ told.untold-4) (turning.turned-4 _ _ _ _ _ _ _ (⊎-elim (λ w. law.no-hole _ _ _ _ (w .0 .taken) (w .1 .ensures) (w .2 .left)) (λ w. law.full _ _ _ (w .left)) (c .before .before .before .before .before .before .before .before .before .before .before .if1 .came)) (c .before .before .before .before .before .before .before .before .before .before .match .keys3) (c .before .before .before .before .before .before .prop2 .ensures))
 
 turn-returns-5 : (t : ℕ) → cycle.Lts-turn.Need-returns-5 (turn-claims t) (at-measure turn.Kinds.ps μ-turn turn.Reads.Pre t) turn.Reads.Post
-turn-returns-5 t c = turning.turned-6 _ _ _ _ _ _ _ (⊎-elim (λ w. law.no-hole _ _ _ _ (w .0 .taken) (w .1 .ensures) (w .2 .left)) (λ w. law.full _ _ _ (w .left)) (c .before .before .before .before .before .before .before .before .before .before .before .if1 .came)) (c .before .before .before .before .before .before .before .before .before .before .match .keys4) (c .before .before .before .before .before .before .ek .ensures)
+turn-returns-5 t c = told.item-own _ _ _ _ _ _ _ _ _ _ (ap isTold (c .before .before .before .before .before .before .before .before .before .before .match .keys4) ∙ told.untold-6) (turning.turned-6 _ _ _ _ _ _ _ (⊎-elim (λ w. law.no-hole _ _ _ _ (w .0 .taken) (w .1 .ensures) (w .2 .left)) (λ w. law.full _ _ _ (w .left)) (c .before .before .before .before .before .before .before .before .before .before .before .if1 .came)) (c .before .before .before .before .before .before .before .before .before .before .match .keys4) (c .before .before .before .before .before .before .ek .ensures))
 
 turn-returns-6 : (t : ℕ) → cycle.Lts-turn.Need-returns-6 (turn-claims t) (at-measure turn.Kinds.ps μ-turn turn.Reads.Pre t) turn.Reads.Post
-turn-returns-6 t c = turning.turned-7 _ _ _ _ _ _ _ (⊎-elim (λ w. law.no-hole _ _ _ _ (w .0 .taken) (w .1 .ensures) (w .2 .left)) (λ w. law.full _ _ _ (w .left)) (c .before .before .before .before .before .before .before .before .before .before .before .if1 .came)) (c .before .before .before .before .before .before .before .before .before .before .match .keys5) (c .before .before .before .before .before .before .kv .ensures)
+turn-returns-6 t c = told.item-own _ _ _ _ _ _ _ _ _ _ (ap isTold (c .before .before .before .before .before .before .before .before .before .before .match .keys5) ∙ told.untold-7) (turning.turned-7 _ _ _ _ _ _ _ (⊎-elim (λ w. law.no-hole _ _ _ _ (w .0 .taken) (w .1 .ensures) (w .2 .left)) (λ w. law.full _ _ _ (w .left)) (c .before .before .before .before .before .before .before .before .before .before .before .if1 .came)) (c .before .before .before .before .before .before .before .before .before .before .match .keys5) (c .before .before .before .before .before .before .kv .ensures))
 
 turn-returns-7 : (t : ℕ) → cycle.Lts-turn.Need-returns-7 (turn-claims t) (at-measure turn.Kinds.ps μ-turn turn.Reads.Pre t) turn.Reads.Post
-turn-returns-7 t c = turning.turned-9 _ _ _ _ _ _ _ (⊎-elim (λ w. law.no-hole _ _ _ _ (w .0 .taken) (w .1 .ensures) (w .2 .left)) (λ w. law.full _ _ _ (w .left)) (c .before .before .before .before .before .before .before .before .before .before .before .if1 .came)) (c .before .before .before .before .before .before .before .before .before .before .match .keys6) (c .before .before .before .before .before .before .vl .ensures)
+turn-returns-7 t c = told.item-with _ _ _ _ _ _ _ _ _ _ (ap isTold (c .before .before .before .before .before .before .before .before .before .before .match .keys6) ∙ told.told-9) (turning.turned-9 _ _ _ _ _ _ _ (⊎-elim (λ w. law.no-hole _ _ _ _ (w .0 .taken) (w .1 .ensures) (w .2 .left)) (λ w. law.full _ _ _ (w .left)) (c .before .before .before .before .before .before .before .before .before .before .before .if1 .came)) (c .before .before .before .before .before .before .before .before .before .before .match .keys6) (c .before .before .before .before .before .before .vl .ensures))
 
 turn-returns-8 : (t : ℕ) → cycle.Lts-turn.Need-returns-8 (turn-claims t) (at-measure turn.Kinds.ps μ-turn turn.Reads.Pre t) turn.Reads.Post
-turn-returns-8 t c = turning.turned-10 _ _ _ _ _ _ _ (⊎-elim (λ w. law.no-hole _ _ _ _ (w .0 .taken) (w .1 .ensures) (w .2 .left)) (λ w. law.full _ _ _ (w .left)) (c .before .before .before .before .before .before .before .before .before .before .before .if1 .came)) (c .before .before .before .before .before .before .before .before .before .before .match .keys7) (c .before .before .before .before .before .before .dr .ensures)
+turn-returns-8 t c = told.item-with _ _ _ _ _ _ _ _ _ _ (ap isTold (c .before .before .before .before .before .before .before .before .before .before .match .keys7) ∙ told.told-10) (turning.turned-10 _ _ _ _ _ _ _ (⊎-elim (λ w. law.no-hole _ _ _ _ (w .0 .taken) (w .1 .ensures) (w .2 .left)) (λ w. law.full _ _ _ (w .left)) (c .before .before .before .before .before .before .before .before .before .before .before .if1 .came)) (c .before .before .before .before .before .before .before .before .before .before .match .keys7) (c .before .before .before .before .before .before .dr .ensures))
 
 turn-returns-9 : (t : ℕ) → cycle.Lts-turn.Need-returns-9 (turn-claims t) (at-measure turn.Kinds.ps μ-turn turn.Reads.Pre t) turn.Reads.Post
-turn-returns-9 t c = turning.turned-11 _ _ _ _ _ _ _ (⊎-elim (λ w. law.no-hole _ _ _ _ (w .0 .taken) (w .1 .ensures) (w .2 .left)) (λ w. law.full _ _ _ (w .left)) (c .before .before .before .before .before .before .before .before .before .before .before .if1 .came)) (c .before .before .before .before .before .before .before .before .before .before .match .keys8) (c .before .before .before .before .before .before .bi .ensures)
+turn-returns-9 t c = told.item-own _ _ _ _ _ _ _ _ _ _ (ap isTold (c .before .before .before .before .before .before .before .before .before .before .match .keys8) ∙ told.untold-11) (turning.turned-11 _ _ _ _ _ _ _ (⊎-elim (λ w. law.no-hole _ _ _ _ (w .0 .taken) (w .1 .ensures) (w .2 .left)) (λ w. law.full _ _ _ (w .left)) (c .before .before .before .before .before .before .before .before .before .before .before .if1 .came)) (c .before .before .before .before .before .before .before .before .before .before .match .keys8) (c .before .before .before .before .before .before .bi .ensures))
 
 turn-returns-10 : (t : ℕ) → cycle.Lts-turn.Need-returns-10 (turn-claims t) (at-measure turn.Kinds.ps μ-turn turn.Reads.Pre t) turn.Reads.Post
-turn-returns-10 t c = turning.turned-13 _ _ _ _ _ _ _ (⊎-elim (λ w. law.no-hole _ _ _ _ (w .0 .taken) (w .1 .ensures) (w .2 .left)) (λ w. law.full _ _ _ (w .left)) (c .before .before .before .before .before .before .before .before .before .before .before .if1 .came)) (c .before .before .before .before .before .before .before .before .before .before .match .keys9) (c .before .before .before .before .before .before .vl2 .ensures)
+turn-returns-10 t c = told.item-with _ _ _ _ _ _ _ _ _ _ (ap isTold (c .before .before .before .before .before .before .before .before .before .before .match .keys9) ∙ told.told-13) (turning.turned-13 _ _ _ _ _ _ _ (⊎-elim (λ w. law.no-hole _ _ _ _ (w .0 .taken) (w .1 .ensures) (w .2 .left)) (λ w. law.full _ _ _ (w .left)) (c .before .before .before .before .before .before .before .before .before .before .before .if1 .came)) (c .before .before .before .before .before .before .before .before .before .before .match .keys9) (c .before .before .before .before .before .before .vl2 .ensures))
 
 turn-returns-11 : (t : ℕ) → cycle.Lts-turn.Need-returns-11 (turn-claims t) (at-measure turn.Kinds.ps μ-turn turn.Reads.Pre t) turn.Reads.Post
-turn-returns-11 t c = turning.turned-14 _ _ _ _ _ _ _ (⊎-elim (λ w. law.no-hole _ _ _ _ (w .0 .taken) (w .1 .ensures) (w .2 .left)) (λ w. law.full _ _ _ (w .left)) (c .before .before .before .before .before .before .before .before .before .before .before .if1 .came)) (c .before .before .before .before .before .before .before .before .before .before .match .keys10) (c .before .before .before .before .before .before .vl3 .ensures)
+turn-returns-11 t c = told.item-with _ _ _ _ _ _ _ _ _ _ (ap isTold (c .before .before .before .before .before .before .before .before .before .before .match .keys10) ∙ told.told-14) (turning.turned-14 _ _ _ _ _ _ _ (⊎-elim (λ w. law.no-hole _ _ _ _ (w .0 .taken) (w .1 .ensures) (w .2 .left)) (λ w. law.full _ _ _ (w .left)) (c .before .before .before .before .before .before .before .before .before .before .before .if1 .came)) (c .before .before .before .before .before .before .before .before .before .before .match .keys10) (c .before .before .before .before .before .before .vl3 .ensures))
 
 turn-returns-12 : (t : ℕ) → cycle.Lts-turn.Need-returns-12 (turn-claims t) (at-measure turn.Kinds.ps μ-turn turn.Reads.Pre t) turn.Reads.Post
-turn-returns-12 t c = turning.turned-15 _ _ _ _ _ _ _ (⊎-elim (λ w. law.no-hole _ _ _ _ (w .0 .taken) (w .1 .ensures) (w .2 .left)) (λ w. law.full _ _ _ (w .left)) (c .before .before .before .before .before .before .before .before .before .before .before .if1 .came)) (c .before .before .before .before .before .before .before .before .before .before .match .keys11) (c .before .before .before .before .before .before .vl4 .ensures)
+turn-returns-12 t c = told.item-with _ _ _ _ _ _ _ _ _ _ (ap isTold (c .before .before .before .before .before .before .before .before .before .before .match .keys11) ∙ told.told-15) (turning.turned-15 _ _ _ _ _ _ _ (⊎-elim (λ w. law.no-hole _ _ _ _ (w .0 .taken) (w .1 .ensures) (w .2 .left)) (λ w. law.full _ _ _ (w .left)) (c .before .before .before .before .before .before .before .before .before .before .before .if1 .came)) (c .before .before .before .before .before .before .before .before .before .before .match .keys11) (c .before .before .before .before .before .before .vl4 .ensures))
 
 turn-returns-13 : (t : ℕ) → cycle.Lts-turn.Need-returns-13 (turn-claims t) (at-measure turn.Kinds.ps μ-turn turn.Reads.Pre t) turn.Reads.Post
-turn-returns-13 t c = turning.turned-16 _ _ _ _ _ _ _ (⊎-elim (λ w. law.no-hole _ _ _ _ (w .0 .taken) (w .1 .ensures) (w .2 .left)) (λ w. law.full _ _ _ (w .left)) (c .before .before .before .before .before .before .before .before .before .before .before .if1 .came)) (c .before .before .before .before .before .before .before .before .before .before .match .keys12) (c .before .before .before .before .before .before .go .ensures)
+turn-returns-13 t c = told.item-own _ _ _ _ _ _ _ _ _ _ (ap isTold (c .before .before .before .before .before .before .before .before .before .before .match .keys12) ∙ told.untold-16) (turning.turned-16 _ _ _ _ _ _ _ (⊎-elim (λ w. law.no-hole _ _ _ _ (w .0 .taken) (w .1 .ensures) (w .2 .left)) (λ w. law.full _ _ _ (w .left)) (c .before .before .before .before .before .before .before .before .before .before .before .if1 .came)) (c .before .before .before .before .before .before .before .before .before .before .match .keys12) (c .before .before .before .before .before .before .go .ensures))
 
 turn-returns-14 : (t : ℕ) → cycle.Lts-turn.Need-returns-14 (turn-claims t) (at-measure turn.Kinds.ps μ-turn turn.Reads.Pre t) turn.Reads.Post
-turn-returns-14 t c = turning.turned-deep _ _ _ _ _ _ _ (⊎-elim (λ w. law.no-hole _ _ _ _ (w .0 .taken) (w .1 .ensures) (w .2 .left)) (λ w. law.full _ _ _ (w .left)) (c .before .before .before .before .before .before .before .before .before .before .before .if1 .came)) (c .before .before .before .before .before .before .before .before .before .before .match .rest) (c .before .before .before .before .before .before .deep .ensures)
+turn-returns-14 t c = told.item-below _ _ _ _ _ _ _ _ _ _ (c .before .before .before .before .before .before .before .before .before .before .match .rest) (⊎-elim (λ w. law.no-hole _ _ _ _ (w .0 .taken) (w .1 .ensures) (w .2 .left)) (λ w. law.full _ _ _ (w .left)) (c .before .before .before .before .before .before .before .before .before .before .before .if1 .came)) (turning.turned-deep _ _ _ _ _ _ _ (⊎-elim (λ w. law.no-hole _ _ _ _ (w .0 .taken) (w .1 .ensures) (w .2 .left)) (λ w. law.full _ _ _ (w .left)) (c .before .before .before .before .before .before .before .before .before .before .before .if1 .came)) (c .before .before .before .before .before .before .before .before .before .before .match .rest) (c .before .before .before .before .before .before .deep .ensures))
 
 vl-returns : (t : ℕ) → cycle.Lts-vl.Need-returns (vl-claims t) (at-measure vl.Kinds.ps μ-vl vl.Reads.Pre t) vl.Reads.Post
-vl-returns t c = finding.value-done _ _ _ _ _ _ _ _ _ _ _ _ _ _ (c .before .before .before .before .before .before .before .before .before .before .before .before .before .before .before .before .less .ensures) (c .before .before .before .before .before .before .before .before .before .before .before .before .before .before .before .step .ensures) (c .before .before .before .before .before .before .before .before .before .before .before .before .before .before .skip .ensures) (c .before .before .before .before .before .before .before .before .before .before .before .before .before .to .ensures .1) (c .before .before .before .before .before .before .before .before .before .before .before .before .before .to .ensures .0 _ _ _) (c .before .before .before .before .before .before .before .before .before .under .ensures .1) (c .before .before .before .before .before .before .before .before .before .under .ensures .0) (c .before .before .before .before .before .before .before .before .deep .ensures) (c .before .step2 .ensures) (c .to2 .ensures .1) (c .to2 .ensures .0 _ _ _)
+vl-returns t c = finding.value-done _ _ _ _ _ _ _ _ _ _ _ _ _ _ (c .before .before .before .before .before .before .before .before .before .before .before .before .before .before .before .before .less .ensures) (c .before .before .before .before .before .before .before .before .before .before .before .before .before .before .before .step .ensures) (c .before .before .before .before .before .before .before .before .before .before .before .before .before .before .skip .ensures) (c .before .before .before .before .before .before .before .before .before .before .before .before .before .to .ensures .1) (c .before .before .before .before .before .before .before .before .before .before .before .before .before .to .ensures .0 _ _ _) (c .before .before .before .before .before .before .before .before .before .under .ensures .1) (told.with-same _ (c .before .before .before .before .before .before .before .before .before .under .ensures .0)) (c .before .before .before .before .before .before .before .before .deep .ensures) (c .before .step2 .ensures) (c .to2 .ensures .1) (c .to2 .ensures .0 _ _ _)
 
 va-returns : (t : ℕ) → cycle.Lts-va.Need-returns (va-claims t) (at-measure va.Kinds.ps μ-va va.Reads.Pre t) va.Reads.Post
 va-returns t c = λ h good. law.good-none _ _ _ (c .if1 .taken) good
@@ -1247,10 +1251,10 @@ va-node-requires : (t : ℕ) → cycle.Lts-va.Need-node-requires (va-claims t) (
 va-node-requires t c κs = (omega (arith, c .before .before .before .before .before .before .before .before .before .before .before .before .before .before .before .before .before .before .before .before .before .before .before .before .before .before .before .before .before .before .before .pre .0, c .inside2 .ensures .1, c .before .before .before .before .before .before .before .before .before .before .before .before .before .inside .ensures .1, c .before .before .before .before .before .before .before .before .before .before .before .before .before .before .before .before .before .before .before .before .before .before .before .before .less .ensures, c .before .before .before .before .before .before .before .before .before .before .before .before .before .before .before .before .before .before .before .before .before .before .before .before .before .if1 .left), tt)
 
 va-returns-2 : (t : ℕ) → cycle.Lts-va.Need-returns-2 (va-claims t) (at-measure va.Kinds.ps μ-va va.Reads.Pre t) va.Reads.Post
-va-returns-2 t c = viewing.array-rest _ _ _ _ _ _ _ _ _ _ _ _ _ _ _ _ (c .before .before .before .before .before .before .before .before .before .before .before .before .has-second .ensures) (c .before .before .before .before .before .before .before .before .before .before .before .if2 .taken) (c .before .before .before .before .before .before .before .before .before .before .before .before .before .before .before .before .before .before .before .before .before .before .before .before .before .before .before .before .before .before .step .ensures) (c .before .before .before .before .before .before .before .before .before .before .before .before .before .before .before .before .before .before .before .before .before .before .before .before .before .before .before .before .before .wide-at .ensures) (c .before .before .before .before .before .before .before .before .before .before .before .before .before .before .before .before .before .before .before .before .before .before .before .before .before .before .before .step2 .ensures) (c .before .before .before .before .before .before .before .before .before .before .before .before .before .before .before .before .before .before .before .before .before .before .before .before .before .before .copy .ensures .1) (c .before .before .before .before .before .before .before .before .before .before .before .before .before .before .before .before .before .before .before .before .inside .ensures .0) (c .before .before .before .before .before .before .before .before .before .before .before .before .before .before .before .before .before .before .before .before .inside .ensures .1 ∙ c .before .before .before .before .before .before .before .before .before .before .before .before .before .before .before .before .before .before .before .before .before .before .before .before .before .before .before .before .before .before .before .less .ensures) (c .before .before .before .before .before .before .before .inside2 .ensures .0) (c .before .before .before .before .before .before .before .inside2 .ensures .1 ∙ c .before .before .before .before .before .before .before .before .before .before .before .before .before .before .before .before .before .before .before .before .before .before .before .before .before .before .before .before .before .before .before .less .ensures) (c .before .before .before .before .before .before .before .before .before .before .before .before .before .before .before .before .before .before .before .before .before .before .before .before .before .before .copy .ensures .0 _ _) (c .before .before .before .before .before .before .before .before .before .before .before .before .before .before .before .before .before .before .before .seq .ensures) (c .before .before .before .before .before .before .node .ensures)
+va-returns-2 t c = viewing.array-rest _ _ _ _ _ _ _ _ _ _ _ _ _ _ _ _ (c .before .before .before .before .before .before .before .before .before .before .before .before .has-second .ensures) (c .before .before .before .before .before .before .before .before .before .before .before .if2 .taken) (c .before .before .before .before .before .before .before .before .before .before .before .before .before .before .before .before .before .before .before .before .before .before .before .before .before .before .before .before .before .before .step .ensures) (c .before .before .before .before .before .before .before .before .before .before .before .before .before .before .before .before .before .before .before .before .before .before .before .before .before .before .before .before .before .wide-at .ensures) (c .before .before .before .before .before .before .before .before .before .before .before .before .before .before .before .before .before .before .before .before .before .before .before .before .before .before .before .step2 .ensures) (c .before .before .before .before .before .before .before .before .before .before .before .before .before .before .before .before .before .before .before .before .before .before .before .before .before .before .copy .ensures .1) (c .before .before .before .before .before .before .before .before .before .before .before .before .before .before .before .before .before .before .before .before .inside .ensures .0) (c .before .before .before .before .before .before .before .before .before .before .before .before .before .before .before .before .before .before .before .before .inside .ensures .1 ∙ c .before .before .before .before .before .before .before .before .before .before .before .before .before .before .before .before .before .before .before .before .before .before .before .before .before .before .before .before .before .before .before .less .ensures) (c .before .before .before .before .before .before .before .inside2 .ensures .0) (c .before .before .before .before .before .before .before .inside2 .ensures .1 ∙ c .before .before .before .before .before .before .before .before .before .before .before .before .before .before .before .before .before .before .before .before .before .before .before .before .before .before .before .before .before .before .before .less .ensures) (c .before .before .before .before .before .before .before .before .before .before .before .before .before .before .before .before .before .before .before .before .before .before .before .before .before .before .copy .ensures .0 _ _) (told.items-own _ _ _ _ _ _ _ _ _ _ _ told.untold-1 (c .before .before .before .before .before .before .before .before .before .before .before .before .before .before .before .before .before .before .before .seq .ensures)) (c .before .before .before .before .before .before .node .ensures)
 
 va-returns-3 : (t : ℕ) → cycle.Lts-va.Need-returns-3 (va-claims t) (at-measure va.Kinds.ps μ-va va.Reads.Pre t) va.Reads.Post
-va-returns-3 t c = viewing.array-plain _ _ _ _ _ _ _ _ _ _ _ _ _ (c .before .has-second .ensures) (c .if2 .left) (c .before .before .before .before .before .before .before .before .before .before .before .before .before .before .before .before .before .before .before .step .ensures) (c .before .before .before .before .before .before .before .before .before .before .before .before .before .before .before .before .before .before .wide-at .ensures) (c .before .before .before .before .before .before .before .before .before .before .before .before .before .before .before .before .step2 .ensures) (c .before .before .before .before .before .before .before .before .before .before .before .before .before .before .before .copy .ensures .1) (c .before .before .before .before .before .before .before .before .before .inside .ensures .0) (c .before .before .before .before .before .before .before .before .before .inside .ensures .1 ∙ c .before .before .before .before .before .before .before .before .before .before .before .before .before .before .before .before .before .before .before .before .less .ensures) (c .before .before .before .before .before .before .before .before .before .before .before .before .before .before .before .copy .ensures .0 _ _) (c .before .before .before .before .before .before .before .before .seq .ensures)
+va-returns-3 t c = viewing.array-plain _ _ _ _ _ _ _ _ _ _ _ _ _ (c .before .has-second .ensures) (c .if2 .left) (c .before .before .before .before .before .before .before .before .before .before .before .before .before .before .before .before .before .before .before .step .ensures) (c .before .before .before .before .before .before .before .before .before .before .before .before .before .before .before .before .before .before .wide-at .ensures) (c .before .before .before .before .before .before .before .before .before .before .before .before .before .before .before .before .step2 .ensures) (c .before .before .before .before .before .before .before .before .before .before .before .before .before .before .before .copy .ensures .1) (c .before .before .before .before .before .before .before .before .before .inside .ensures .0) (c .before .before .before .before .before .before .before .before .before .inside .ensures .1 ∙ c .before .before .before .before .before .before .before .before .before .before .before .before .before .before .before .before .before .before .before .before .less .ensures) (c .before .before .before .before .before .before .before .before .before .before .before .before .before .before .before .copy .ensures .0 _ _) (told.items-own _ _ _ _ _ _ _ _ _ _ _ told.untold-1 (c .before .before .before .before .before .before .before .before .seq .ensures))
 
 view-returns : (t : ℕ) → cycle.Lts-view.Need-returns (view-claims t) (at-measure view.Kinds.ps μ-view view.Reads.Pre t) view.Reads.Post
 view-returns t c = λ good. law.good-none _ _ _ (c .if1 .taken) good
@@ -1267,6 +1271,10 @@ view-returns-4 t c = viewing.view-37 _ _ _ _ _ _ _ _ _ _ _ _ _ _ (c .before .bef
 view-returns-5 : (t : ℕ) → cycle.Lts-view.Need-returns-5 (view-claims t) (at-measure view.Kinds.ps μ-view view.Reads.Pre t) view.Reads.Post
 view-returns-5 t c = viewing.view-other _ _ _ _ _ _ _ (c .before .before .before .before .before .before .before .before .before .before .before .peek .ensures) (c .before .before .before .before .before .before .before .before .before .before .match .rest .0 .0 .1) (c .before .before .before .before .before .before .before .before .before .before .match .rest .0 .1) (c .before .before .before .before .before .before .before .before .before .before .match .rest .1) (c .before .before .before .before .before .before .node2 .ensures)
 
+-- the properties of a view, by what was seen of its rest, ask for themselves
+view-untold : (rest x : Bool) (mode : ℕ) → rest ≡ x → mode ≡ cond rest 4 2 → isTold mode ≡ false
+view-untold rest x mode h e = told.property-untold rest mode e
+
 vo-returns : (t : ℕ) → cycle.Lts-vo.Need-returns (vo-claims t) (at-measure vo.Kinds.ps μ-vo vo.Reads.Pre t) vo.Reads.Post
 vo-returns t c = λ h good. law.good-none _ _ _ (c .if1 .taken) good
 
@@ -1274,13 +1282,14 @@ vo-returns-2 : (t : ℕ) → cycle.Lts-vo.Need-returns-2 (vo-claims t) (at-measu
 vo-returns-2 t c = viewing.object-replaced _ _ _ _ _ _ _ _ _ (c .before .before .before .before .before .before .before .before .before .before .before .before .before .before .before .has-second .ensures) (c .before .before .before .before .before .before .before .before .before .before .before .before .before .before .if2 .taken) (c .before .before .before .before .before .before .before .before .before .before .before .before .before .replaces .ensures) (c .before .before .before .before .before .before .before .before .before .before .before .before .if3 .taken) (c .before .skip .ensures) (c .to .ensures .1) (c .to .ensures .0 _ _ _) (c .before .before .before .before .before .before .before .before .temporary .ensures .0)
 
 vo-returns-3 : (t : ℕ) → cycle.Lts-vo.Need-returns-3 (vo-claims t) (at-measure vo.Kinds.ps μ-vo vo.Reads.Pre t) vo.Reads.Post
-vo-returns-3 t c = viewing.object-rest _ _ _ _ _ _ _ _ _ _ _ _ _ _ _ _ _ (c .before .before .before .before .before .before .before .before .before .before .before .before .before .before .before .before .before .before .before .before .before .before .before .before .before .before .before .before .has-second .ensures) (c .before .before .if4 .taken) (⊎-elim (λ w. sym (w .1 .ensures) ∙ w .2 .left) (λ w. absurd (false≢true (sym (w .left) ∙ c .before .before .if4 .taken))) (c .before .before .before .before .before .before .before .before .before .before .before .before .before .before .before .before .before .before .before .before .before .before .before .before .before .before .before .if2 .came)) (c .before .before .before .before .before .before .before .before .before .before .before .before .before .before .before .before .before .before .before .before .before .before .before .before .before .before .step .ensures) (c .before .before .before .before .before .before .before .before .before .before .before .before .before .before .before .before .before .before .before .before .before .before .before .before .before .wide-at .ensures) (c .before .before .before .before .before .before .before .before .before .before .before .before .before .before .before .before .step2 .ensures) (c .before .before .before .before .before .before .before .before .before .before .before .before .before .before .before .to2 .ensures .1) (c .before .before .before .before .before .before .before .before .before .before .before .inside .ensures .0) (c .before .before .before .before .before .before .before .before .before .before .before .inside .ensures .1 ∙ c .before .before .before .before .before .before .before .before .before .before .before .before .before .before .before .before .before .before .before .before .before .before .before .before .before .before .before .before .before .less .ensures) (c .before .before .before .before .before .before .before .before .before .before .before .before .before .before .before .before .before .before .before .before .before .before .before .before .before .before .before .before .before .less .ensures) (c .before .before .before .before .before .before .before .before .before .before .property-mode .ensures) (c .before .before .before .before .before .before .before .before .before .before .before .before .before .before .before .to2 .ensures .0 _ _ _) (c .before .before .before .before .before .before .before .before .before .before .before .before .before .before .before .before .before .before .before .before .before .before .before .put2 .ensures .0 _ _) (c .before .before .before .before .before .before .before .before .before .before .before .before .before .before .before .before .before .before .before .wide .ensures .0 _ _) (c .before .before .before .before .before .before .before .before .before .seq .ensures) (c .before .skip2 .ensures) (c .to3 .ensures .1) (c .to3 .ensures .0 _ _ _)
+vo-returns-3 t c = viewing.object-rest _ _ _ _ _ _ _ _ _ _ _ _ _ _ _ _ _ (c .before .before .before .before .before .before .before .before .before .before .before .before .before .before .before .before .before .before .before .before .before .before .before .before .before .before .before .before .has-second .ensures) (c .before .before .if4 .taken) (⊎-elim (λ w. sym (w .1 .ensures) ∙ w .2 .left) (λ w. absurd (false≢true (sym (w .left) ∙ c .before .before .if4 .taken))) (c .before .before .before .before .before .before .before .before .before .before .before .before .before .before .before .before .before .before .before .before .before .before .before .before .before .before .before .if2 .came)) (c .before .before .before .before .before .before .before .before .before .before .before .before .before .before .before .before .before .before .before .before .before .before .before .before .before .before .step .ensures) (c .before .before .before .before .before .before .before .before .before .before .before .before .before .before .before .before .before .before .before .before .before .before .before .before .before .wide-at .ensures) (c .before .before .before .before .before .before .before .before .before .before .before .before .before .before .before .before .step2 .ensures) (c .before .before .before .before .before .before .before .before .before .before .before .before .before .before .before .to2 .ensures .1) (c .before .before .before .before .before .before .before .before .before .before .before .inside .ensures .0) (c .before .before .before .before .before .before .before .before .before .before .before .inside .ensures .1 ∙ c .before .before .before .before .before .before .before .before .before .before .before .before .before .before .before .before .before .before .before .before .before .before .before .before .before .before .before .before .before .less .ensures) (c .before .before .before .before .before .before .before .before .before .before .before .before .before .before .before .before .before .before .before .before .before .before .before .before .before .before .before .before .before .less .ensures) (c .before .before .before .before .before .before .before .before .before .before .property-mode .ensures) (c .before .before .before .before .before .before .before .before .before .before .before .before .before .before .before .to2 .ensures .0 _ _ _) (c .before .before .before .before .before .before .before .before .before .before .before .before .before .before .before .before .before .before .before .before .before .before .before .put2 .ensures .0 _ _) (c .before .before .before .before .before .before .before .before .before .before .before .before .before .before .before .before .before .before .before .wide .ensures .0 _ _) (told.items-own _ _ _ _ _ _ _ _ _ _ _ (view-untold _ _ _ (c .before .before .before .before .before .before .before .before .before .before .before .before .before .before .before .before .before .before .before .before .before .before .before .before .before .before .before .before .has-second .ensures) (c .before .before .before .before .before .before .before .before .before .before .property-mode .ensures)) (c .before .before .before .before .before .before .before .before .before .seq .ensures)) (c .before .skip2 .ensures) (c .to3 .ensures .1) (c .to3 .ensures .0 _ _ _)
 
 vo-returns-4 : (t : ℕ) → cycle.Lts-vo.Need-returns-4 (vo-claims t) (at-measure vo.Kinds.ps μ-vo vo.Reads.Pre t) vo.Reads.Post
-vo-returns-4 t c = viewing.object-plain _ _ _ _ _ _ _ _ _ _ _ _ _ _ (c .before .before .before .before .before .before .before .before .before .before .before .before .before .before .before .before .before .before .before .before .before .before .before .before .before .before .has-second .ensures) (c .if4 .left) (c .before .before .before .before .before .before .before .before .before .before .before .before .before .before .before .before .before .before .before .before .before .before .before .before .step .ensures) (c .before .before .before .before .before .before .before .before .before .before .before .before .before .before .before .before .before .before .before .before .before .before .before .wide-at .ensures) (c .before .before .before .before .before .before .before .before .before .before .before .before .before .before .step2 .ensures) (c .before .before .before .before .before .before .before .before .before .before .before .before .before .to2 .ensures .1) (c .before .before .before .before .before .before .before .before .before .inside .ensures .0) (c .before .before .before .before .before .before .before .before .before .inside .ensures .1 ∙ c .before .before .before .before .before .before .before .before .before .before .before .before .before .before .before .before .before .before .before .before .before .before .before .before .before .before .before .less .ensures) (c .before .before .before .before .before .before .before .before .property-mode .ensures) (c .before .before .before .before .before .before .before .before .before .before .before .before .before .to2 .ensures .0 _ _ _) (c .before .before .before .before .before .before .before .before .before .before .before .before .before .before .before .before .before .before .before .before .before .put2 .ensures .0 _ _) (c .before .before .before .before .before .before .before .before .before .before .before .before .before .before .before .before .before .wide .ensures .0 _ _) (c .before .before .before .before .before .before .before .seq .ensures)
+vo-returns-4 t c = viewing.object-plain _ _ _ _ _ _ _ _ _ _ _ _ _ _ (c .before .before .before .before .before .before .before .before .before .before .before .before .before .before .before .before .before .before .before .before .before .before .before .before .before .before .has-second .ensures) (c .if4 .left) (c .before .before .before .before .before .before .before .before .before .before .before .before .before .before .before .before .before .before .before .before .before .before .before .before .step .ensures) (c .before .before .before .before .before .before .before .before .before .before .before .before .before .before .before .before .before .before .before .before .before .before .before .wide-at .ensures) (c .before .before .before .before .before .before .before .before .before .before .before .before .before .before .step2 .ensures) (c .before .before .before .before .before .before .before .before .before .before .before .before .before .to2 .ensures .1) (c .before .before .before .before .before .before .before .before .before .inside .ensures .0) (c .before .before .before .before .before .before .before .before .before .inside .ensures .1 ∙ c .before .before .before .before .before .before .before .before .before .before .before .before .before .before .before .before .before .before .before .before .before .before .before .before .before .before .before .less .ensures) (c .before .before .before .before .before .before .before .before .property-mode .ensures) (c .before .before .before .before .before .before .before .before .before .before .before .before .before .to2 .ensures .0 _ _ _) (c .before .before .before .before .before .before .before .before .before .before .before .before .before .before .before .before .before .before .before .before .before .put2 .ensures .0 _ _) (c .before .before .before .before .before .before .before .before .before .before .before .before .before .before .before .before .before .wide .ensures .0 _ _) (told.items-own _ _ _ _ _ _ _ _ _ _ _ (view-untold _ _ _ (c .before .before .before .before .before .before .before .before .before .before .before .before .before .before .before .before .before .before .before .before .before .before .before .before .before .before .has-second .ensures) (c .before .before .before .before .before .before .before .before .property-mode .ensures)) (c .before .before .before .before .before .before .before .seq .ensures))
 
 add-spec : {M : Type 1} (t : ℕ) → cycle.Lts-add.Closed (add-claims t) (at-measure add.Kinds.ps μ-add add.Reads.Pre t) add.Reads.Post M
 add-spec t = cycle.Lts-add.spec (add-claims t) (at-measure add.Kinds.ps μ-add add.Reads.Pre t) add.Reads.Post
+    (λ c κs. tt)
     (λ c κs. tt)
     (λ c κs. tt)
     (λ c κs. tt)
@@ -1294,7 +1303,7 @@ add-spec t = cycle.Lts-add.spec (add-claims t) (at-measure add.Kinds.ps μ-add a
     (λ c κs. tt)
     (λ c κs. tt)
     (λ c κs. tt)
-    (λ c κs. (omega (arith, c .before .before .before .before .before .before .before .before .before .before .before .before .before .before .before .before .before .before .before .before .before .before .before .before .before .before .before .before .pre .0, c .before .before .before .before .before .before .before .before .before .before .before .before .before .before .before .before .before .before .before .before .before .before .before .inside .ensures .1, c .before .before .before .before .before .before .before .before .before .before .before .before .before .before .before .before .before .before .before .before .before .marked .ensures .1), tt))
+    (λ c κs. (omega (arith, c .before .before .before .before .before .before .before .before .before .before .before .before .before .before .before .before .before .before .before .before .before .before .before .before .before .before .before .before .before .pre .0, c .before .before .before .before .before .before .before .before .before .before .before .before .before .before .before .before .before .before .before .before .before .before .before .inside .ensures .1, c .before .before .before .before .before .before .before .before .before .before .before .before .before .before .before .before .before .before .before .before .before .marked .ensures .1), tt))
     (λ c. omega (arith, c .before .before .before .before .before .before .before .before .before .before .before .before .before .before .before .before .before .before .before .before .before .pattern-hands .kept, c .before .before .before .before .before .before .before .before .before .before .before .before .before .before .declaration .kept, c .before .before .before .before .before .before .pa .kept))
     (λ c. omega (arith, c .before .before .before .before .before .before .before .before .before .before .before .before .before .before .before .before .before .before .before .before .before .pattern-hands .kept, c .before .before .before .before .before .before .before .before .before .before .before .before .before .before .declaration .kept, c .before .before .before .before .before .before .pa .kept))
     (λ c. omega (arith, c .before .before .before .before .before .before .before .before .before .before .before .before .before .before .before .before .before .before .before .before .before .pattern-hands .kept, c .before .before .before .before .before .before .before .before .before .before .before .before .before .before .declaration .kept, c .before .before .before .before .before .before .pa .kept))
@@ -1302,7 +1311,7 @@ add-spec t = cycle.Lts-add.spec (add-claims t) (at-measure add.Kinds.ps μ-add a
     (λ c κs. tt)
     (λ c κs. tt)
     (λ c κs. tt)
-    (λ c κs. (omega (arith, c .before .before .before .before .before .before .before .before .before .before .before .before .before .before .before .before .before .before .before .before .before .pre .0, c .before .before .before .before .before .before .before .before .before .before .before .before .before .before .before .before .inside .ensures .1, c .before .before .before .before .before .before .before .before .before .before .before .before .before .before .marked .ensures .1), tt))
+    (λ c κs. (omega (arith, c .before .before .before .before .before .before .before .before .before .before .before .before .before .before .before .before .before .before .before .before .before .before .pre .0, c .before .before .before .before .before .before .before .before .before .before .before .before .before .before .before .before .inside .ensures .1, c .before .before .before .before .before .before .before .before .before .before .before .before .before .before .marked .ensures .1), tt))
     (λ c κs. tt)
     (λ c. omega (arith, c .before .before .before .before .before .before .before .before .before .before .before .before .before .before .before .before .before .before .before .before .before .before .before .before .before .before .before .declaration2 .kept, c .before .before .before .before .before .before .before .before .before .before .before .before .before .before .before .before .before .before .before .before .before .before .before .put2 .kept, c .before .before .before .before .before .before .before .before .before .before .before .before .before .before .before .before .node .kept, c .before .before .before .before .before .before .temporary .kept))
     (λ c. omega (arith, c .before .before .before .before .before .before .before .before .before .before .before .before .before .before .before .before .before .before .before .before .before .before .before .before .before .before .before .declaration2 .kept, c .before .before .before .before .before .before .before .before .before .before .before .before .before .before .before .before .before .before .before .before .before .before .before .put2 .kept, c .before .before .before .before .before .before .before .before .before .before .before .before .before .before .before .before .node .kept, c .before .before .before .before .before .before .temporary .kept))
@@ -1311,6 +1320,7 @@ add-spec t = cycle.Lts-add.spec (add-claims t) (at-measure add.Kinds.ps μ-add a
 
 ag-spec : {M : Type 1} (t : ℕ) → cycle.Lts-ag.Closed (ag-claims t) (at-measure ag.Kinds.ps μ-ag ag.Reads.Pre t) ag.Reads.Post M
 ag-spec t = cycle.Lts-ag.spec (ag-claims t) (at-measure ag.Kinds.ps μ-ag ag.Reads.Pre t) ag.Reads.Post
+    (λ c κs. tt)
     (λ c κs. tt)
     (λ c κs. tt)
     (λ c κs. tt)
@@ -1331,7 +1341,7 @@ ag-spec t = cycle.Lts-ag.spec (ag-claims t) (at-measure ag.Kinds.ps μ-ag ag.Rea
     (λ c. omega (arith, c .before .before .before .before .before .before .before .before .an .kept))
     (λ c. omega (arith, c .before .before .before .before .before .before .before .before .an .kept))
     (ag-returns-2 t)
-    (λ c κs. (omega (arith, c .before .before .before .before .before .before .before .before .before .before .before .before .before .pre .0, c .before .before .before .before .before .before .before .before .less .ensures), tt))
+    (λ c κs. (omega (arith, c .before .before .before .before .before .before .before .before .before .before .before .before .before .before .pre .0, c .before .before .before .before .before .before .before .before .less .ensures), tt))
     (λ c. omega (arith, c .before .before .before .before .before .before .plain .kept))
     (λ c. omega (arith, c .before .before .before .before .before .before .plain .kept))
     (λ c. omega (arith, c .before .before .before .before .before .before .plain .kept))
@@ -1569,6 +1579,7 @@ db-spec t = cycle.Lts-db.spec (db-claims t) (at-measure db.Kinds.ps μ-db db.Rea
 
 decl-spec : {M : Type 1} (t : ℕ) → cycle.Lts-decl.Closed (decl-claims t) (at-measure decl.Kinds.ps μ-decl decl.Reads.Pre t) decl.Reads.Post M
 decl-spec t = cycle.Lts-decl.spec (decl-claims t) (at-measure decl.Kinds.ps μ-decl decl.Reads.Pre t) decl.Reads.Post
+    (λ c κs. tt)
     (decl-returns t)
     (λ c κs. tt)
     (λ c κs. tt)
@@ -1587,7 +1598,7 @@ decl-spec t = cycle.Lts-decl.spec (decl-claims t) (at-measure decl.Kinds.ps μ-d
     (λ c κs. tt)
     (λ c κs. tt)
     (λ c κs. tt)
-    (λ c κs. (omega (arith, c .before .before .before .before .before .before .before .before .before .before .before .before .before .before .before .before .before .before .before .before .before .before .before .before .before .before .before .before .before .before .before .before .before .before .pre .0, c .before .before .less .ensures, c .before .under .ensures .1, c .before .before .before .before .before .before .before .before .before .before .before .before .before .before .before .before .before .before .before .before .before .before .before .before .before .before .before .before .if1 .left), tt))
+    (λ c κs. (omega (arith, c .before .before .before .before .before .before .before .before .before .before .before .before .before .before .before .before .before .before .before .before .before .before .before .before .before .before .before .before .before .before .before .before .before .before .before .pre .0, c .before .before .less .ensures, c .before .under .ensures .1, c .before .before .before .before .before .before .before .before .before .before .before .before .before .before .before .before .before .before .before .before .before .before .before .before .before .before .before .before .if1 .left), tt))
     (λ c κs. tt)
     (λ c. omega (arith, c .before .before .before .before .before .before .before .seq .kept, c .before .before .before .before .before .before .before .before .before .before .before .before .before .before .before .before .before .before .before .wide .kept, c .before .before .before .before .before .before .before .before .before .before .before .before .before .before .before .before .before .before .before .before .before .before .before .copy .kept, c .before .before .before .before .before .before .before .before .before .before .before .before .before .before .before .before .before .before .before .before .before .before .before .before .before .before .before .before .before .before .before .declaration-hands .kept))
     (λ c. omega (arith, c .before .before .before .before .before .before .before .seq .kept, c .before .before .before .before .before .before .before .before .before .before .before .before .before .before .before .before .before .before .before .wide .kept, c .before .before .before .before .before .before .before .before .before .before .before .before .before .before .before .before .before .before .before .before .before .before .before .copy .kept, c .before .before .before .before .before .before .before .before .before .before .before .before .before .before .before .before .before .before .before .before .before .before .before .before .before .before .before .before .before .before .before .declaration-hands .kept))
@@ -1654,7 +1665,7 @@ dr-spec t = cycle.Lts-dr.spec (dr-claims t) (at-measure dr.Kinds.ps μ-dr dr.Rea
     (λ c. search needs)
     (λ c. search needs)
     (λ c κs. tt)
-    (λ c κs. (omega (arith, c .before .before .before .before .before .before .before .before .before .before .before .before .before .pre .0, c .before .before .before .before .before .before .before .before .less .ensures, c .inside .ensures .1), tt))
+    (λ c κs. (omega (arith, c .before .before .before .before .before .before .before .before .before .before .before .before .before .pre .0, c .before .before .before .before .before .before .before .before .less .ensures, c .told-inside .ensures .1), tt))
     (λ c. omega (arith, c .before .before .before .before .before .before .node .kept))
     (λ c. omega (arith, c .before .before .before .before .before .before .node .kept))
     (λ c. omega (arith, c .before .before .before .before .before .before .node .kept))
@@ -1671,7 +1682,7 @@ dr-spec t = cycle.Lts-dr.spec (dr-claims t) (at-measure dr.Kinds.ps μ-dr dr.Rea
     (λ c. omega (arith, c .before .before .before .before .before .before .before .lo .kept))
     (dr-returns-2 t)
     (λ c κs. tt)
-    (λ c κs. (omega (arith, c .before .before .before .before .before .before .before .before .before .before .before .before .before .before .before .before .pre .0, c .before .before .before .before .before .before .before .before .before .before .before .less .ensures, c .inside2 .ensures .1), tt))
+    (λ c κs. (omega (arith, c .before .before .before .before .before .before .before .before .before .before .before .before .before .before .before .before .pre .0, c .before .before .before .before .before .before .before .before .before .before .before .less .ensures, c .told-inside2 .ensures .1), tt))
     (λ c. omega (arith, c .before .before .before .before .before .before .node2 .kept))
     (λ c. omega (arith, c .before .before .before .before .before .before .node2 .kept))
     (λ c. omega (arith, c .before .before .before .before .before .before .node2 .kept))
@@ -1964,7 +1975,7 @@ keys-spec t = cycle.Lts-keys.spec (keys-claims t) (at-measure keys.Kinds.ps μ-k
     (λ c κs. tt)
     (λ c κs. tt)
     (λ c κs. tt)
-    (λ c κs. (omega (arith, c .before .before .before .before .before .before .before .before .before .before .before .before .before .before .before .before .before .before .before .before .before .before .before .before .pre .0, c .under .ensures .1, c .before .less .ensures, c .before .before .before .before .before .before .before .before .before .before .before .before .before .before .before .before .before .before .if1 .left), tt))
+    (λ c κs. (omega (arith, c .before .before .before .before .before .before .before .before .before .before .before .before .before .before .before .before .before .before .before .before .before .before .before .before .pre .0, c .told-under .ensures .1, c .before .less .ensures, c .before .before .before .before .before .before .before .before .before .before .before .before .before .before .before .before .before .before .if1 .left), tt))
     (λ c κs. tt)
     (λ c. omega (arith, c .before .before .before .before .before .before .before .seq .kept, c .before .before .before .before .before .before .before .before .before .before .before .before .before .before .before .before .before .wide .kept, c .before .before .before .before .before .before .before .before .before .before .before .before .before .before .before .before .before .before .before .before .before .put2 .kept))
     (λ c. search needs)
@@ -2019,10 +2030,10 @@ lo-spec t = cycle.Lts-lo.spec (lo-claims t) (at-measure lo.Kinds.ps μ-lo lo.Rea
     (λ c κs. tt)
     (λ c κs. tt)
     (λ c κs. tt)
-    (λ c κs. (omega (arith, c .before .before .before .before .before .before .before .before .before .before .before .before .before .before .before .before .before .before .before .before .before .before .before .before .pre .0, c .inside .ensures .1), tt))
+    (λ c κs. (omega (arith, c .before .before .before .before .before .before .before .before .before .before .before .before .before .before .before .before .before .before .before .before .before .before .before .before .pre .0, c .told-inside .ensures .1), tt))
     (λ c κs. tt)
     (λ c κs. tt)
-    (λ c κs. (omega (arith, c .before .before .before .before .before .before .before .before .before .before .before .before .before .before .before .before .before .before .before .before .before .before .before .before .before .before .before .before .before .before .before .before .before .before .before .before .pre .0, c .before .before .before .before .before .before .before .before .before .before .before .before .inside .ensures .1), tt))
+    (λ c κs. (omega (arith, c .before .before .before .before .before .before .before .before .before .before .before .before .before .before .before .before .before .before .before .before .before .before .before .before .before .before .before .before .before .before .before .before .before .before .before .before .pre .0, c .before .before .before .before .before .before .before .before .before .before .before .before .told-inside .ensures .1), tt))
     (λ c. omega (arith, c .before .before .before .before .before .before .pa .kept, c .before .before .before .before .before .before .before .before .before .before .before .before .before .before .before .before .before .before .node .kept, c .before .before .before .before .before .before .before .before .before .before .before .before .before .before .before .before .before .before .before .before .before .before .before .before .before .before .before .before .before .before .temporary .kept, c .before .before .before .before .before .before .before .before .before .before .before .before .before .before .before .before .before .before .before .before .before .before .before .before .before .before .before .before .before .before .before .before .before .before .before .before .put2 .kept))
     (λ c. omega (arith, c .before .before .before .before .before .before .pa .kept, c .before .before .before .before .before .before .before .before .before .before .before .before .before .before .before .before .before .before .node .kept, c .before .before .before .before .before .before .before .before .before .before .before .before .before .before .before .before .before .before .before .before .before .before .before .before .before .before .before .before .before .before .temporary .kept, c .before .before .before .before .before .before .before .before .before .before .before .before .before .before .before .before .before .before .before .before .before .before .before .before .before .before .before .before .before .before .before .before .before .before .before .before .put2 .kept))
     (λ c. omega (arith, c .before .before .before .before .before .before .pa .kept, c .before .before .before .before .before .before .before .before .before .before .before .before .before .before .before .before .before .before .node .kept, c .before .before .before .before .before .before .before .before .before .before .before .before .before .before .before .before .before .before .before .before .before .before .before .before .before .before .before .before .before .before .temporary .kept, c .before .before .before .before .before .before .before .before .before .before .before .before .before .before .before .before .before .before .before .before .before .before .before .before .before .before .before .before .before .before .before .before .before .before .before .before .put2 .kept))
@@ -2136,9 +2147,9 @@ ns-spec t = cycle.Lts-ns.spec (ns-claims t) (at-measure ns.Kinds.ps μ-ns ns.Rea
     (λ c κs. tt)
     (λ c κs. tt)
     (λ c κs. tt)
-    (λ c κs. (omega (arith, c .before .before .before .before .before .before .before .before .before .before .before .before .before .before .before .before .before .before .before .before .before .before .before .before .before .before .before .before .before .before .pre .0, c .inside .ensures .1), tt))
+    (λ c κs. (omega (arith, c .before .before .before .before .before .before .before .before .before .before .before .before .before .before .before .before .before .before .before .before .before .before .before .before .before .before .before .before .before .before .pre .0, c .told-inside .ensures .1), tt))
     (λ c κs. tt)
-    (λ c κs. (omega (arith, c .before .before .before .before .before .before .before .before .before .before .before .before .before .before .before .before .before .before .before .before .before .before .before .before .before .before .before .before .before .before .before .before .before .before .before .before .before .before .before .before .before .pre .0, c .inside2 .ensures .1, c .before .before .before .before .before .before .before .before .before .before .before .inside .ensures .1), tt))
+    (λ c κs. (omega (arith, c .before .before .before .before .before .before .before .before .before .before .before .before .before .before .before .before .before .before .before .before .before .before .before .before .before .before .before .before .before .before .before .before .before .before .before .before .before .before .before .before .before .pre .0, c .told-inside2 .ensures .1, c .before .before .before .before .before .before .before .before .before .before .before .told-inside .ensures .1), tt))
     (λ c κs. (omega (arith, c .before .before .before .before .before .before .before .before .before .before .before .before .before .before .before .before .before .before .before .before .before .before .before .before .before .before .before .before .before .before .before .before .before .before .before .before .before .before .before .before .before .before .before .before .before .before .before .before .before .before .before .before .pre .0, c .before .before .before .if1 .taken), tt))
     (ns-same-length t)
     (λ c. omega (arith, c .before .before .before .before .before .before .pr .kept, c .before .before .before .before .before .before .before .before .before .before .before .before .before .before .before .before .before .gv .kept, c .before .before .before .before .before .before .before .before .before .before .before .before .before .before .before .before .before .before .before .before .before .before .before .before .before .before .before .before .view .kept, c .before .before .before .before .before .before .before .before .before .before .before .before .before .before .before .before .before .before .before .before .before .before .before .before .before .before .before .before .before .before .before .before .before .before .before .before .before .before .before .before .before .before .before .before .before .before .before .before .before .before .before .nested-hands .kept))
@@ -2157,7 +2168,7 @@ oa-spec t = cycle.Lts-oa.spec (oa-claims t) (at-measure oa.Kinds.ps μ-oa oa.Rea
     (oa-returns t)
     (λ c κs. tt)
     (λ c κs. tt)
-    (λ c κs. (omega (arith, c .before .before .before .before .before .before .before .before .before .before .before .before .before .before .pre .0, c .inside .ensures .1), tt))
+    (λ c κs. (omega (arith, c .before .before .before .before .before .before .before .before .before .before .before .before .before .before .pre .0, c .told-inside .ensures .1), tt))
     (λ c κs. tt)
     (λ c κs. tt)
     (λ c. omega (arith, c .before .before .before .before .before .before .before .source .kept, c .before .before .before .before .before .before .before .before .before .before .before .before .before .before .before .before .before .view .kept, c .before .before .before .before .before .before .before .before .before .before .before .before .before .before .before .before .before .before .before .before .before .before .before .before .put2 .kept))
@@ -2176,7 +2187,7 @@ os-spec t = cycle.Lts-os.spec (os-claims t) (at-measure os.Kinds.ps μ-os os.Rea
     (λ c κs. tt)
     (λ c κs. tt)
     (λ c κs. tt)
-    (λ c κs. (omega (arith, c .before .before .before .before .before .before .before .before .before .before .before .before .before .before .before .before .before .before .before .before .pre .0, c .before .before .before .before .before .before .before .before .before .before .before .before .before .less .ensures, c .inside .ensures .1), tt))
+    (λ c κs. (omega (arith, c .before .before .before .before .before .before .before .before .before .before .before .before .before .before .before .before .before .before .before .before .pre .0, c .before .before .before .before .before .before .before .before .before .before .before .before .before .less .ensures, c .told-inside .ensures .1), tt))
     (λ c κs. tt)
     (os-rest-requires t)
     (λ c κs. tt)
@@ -2196,9 +2207,9 @@ own-spec t = cycle.Lts-own.spec (own-claims t) (at-measure own.Kinds.ps μ-own o
     (λ c κs. tt)
     (λ c κs. tt)
     (λ c κs. tt)
-    (λ c κs. (omega (arith, c .before .before .before .before .before .before .before .before .before .before .before .before .before .before .before .before .before .pre .0, c .before .less .ensures, c .inside .ensures .1), tt))
+    (λ c κs. (omega (arith, c .before .before .before .before .before .before .before .before .before .before .before .before .before .before .before .before .before .pre .0, c .before .less .ensures, c .told-inside .ensures .1), tt))
     (λ c κs. tt)
-    (λ c κs. (omega (arith, c .before .before .before .before .before .before .before .before .before .before .before .before .before .before .before .before .before .before .before .before .before .before .before .before .before .before .before .before .pre .0, c .before .before .before .before .before .before .before .before .before .before .before .before .less .ensures, c .before .before .before .before .before .before .before .before .before .before .before .inside .ensures .1), tt))
+    (λ c κs. (omega (arith, c .before .before .before .before .before .before .before .before .before .before .before .before .before .before .before .before .before .before .before .before .before .before .before .before .before .before .before .before .pre .0, c .before .before .before .before .before .before .before .before .before .before .before .before .less .ensures, c .before .before .before .before .before .before .before .before .before .before .before .told-inside .ensures .1), tt))
     (λ c. omega (arith, c .before .before .before .before .before .before .oa .kept, c .before .before .before .before .before .before .before .before .before .before .before .before .before .before .before .before .before .seq .kept))
     (λ c. omega (arith, c .before .before .before .before .before .before .oa .kept, c .before .before .before .before .before .before .before .before .before .before .before .before .before .before .before .before .before .seq .kept))
     (λ c. omega (arith, c .before .before .before .before .before .before .oa .kept, c .before .before .before .before .before .before .before .before .before .before .before .before .before .before .before .before .before .seq .kept))
@@ -2225,10 +2236,10 @@ pa-spec t = cycle.Lts-pa.spec (pa-claims t) (at-measure pa.Kinds.ps μ-pa pa.Rea
     (λ c κs. (omega (arith, c .before .before .before .before .before .before .before .before .before .before .before .before .before .before .before .before .before .before .before .before .before .before .before .before .before .before .before .before .before .before .before .before .before .before .before .before .before .before .pre .0, c .before .before .before .before .before .before .before .before .before .before .before .before .less .ensures, c .before .before .before .before .before .before .before .before .before .before .before .under .ensures .1), tt))
     (λ c κs. tt)
     (λ c κs. tt)
-    (λ c κs. (omega (arith, c .before .before .before .before .before .before .before .before .before .before .before .before .before .before .before .before .pre .0, c .inside .ensures .1), tt))
+    (λ c κs. (omega (arith, c .before .before .before .before .before .before .before .before .before .before .before .before .before .before .before .before .pre .0, c .told-inside .ensures .1), tt))
     (λ c κs. tt)
     (λ c κs. tt)
-    (λ c κs. (omega (arith, c .before .before .before .before .before .before .before .before .before .before .before .before .before .before .before .before .before .before .before .before .before .before .before .before .before .before .before .before .before .before .before .before .before .before .before .before .before .pre .0, c .before .before .before .before .before .before .before .before .before .before .before .before .before .before .before .before .before .before .before .before .before .inside .ensures .1), tt))
+    (λ c κs. (omega (arith, c .before .before .before .before .before .before .before .before .before .before .before .before .before .before .before .before .before .before .before .before .before .before .before .before .before .before .before .before .before .before .before .before .before .before .before .before .before .pre .0, c .before .before .before .before .before .before .before .before .before .before .before .before .before .before .before .before .before .before .before .before .before .told-inside .ensures .1), tt))
     (λ c. omega (arith, c .before .before .before .before .before .before .os .kept, c .before .before .before .before .before .before .before .before .before .before .before .before .before .before .before .before .before .seq .kept, c .before .before .before .before .before .before .before .before .before .before .before .before .before .before .before .before .before .before .before .before .before .before .before .before .before .before .before .before .before .before .before .own .kept))
     (λ c. omega (arith, c .before .before .before .before .before .before .os .kept, c .before .before .before .before .before .before .before .before .before .before .before .before .before .before .before .before .before .seq .kept, c .before .before .before .before .before .before .before .before .before .before .before .before .before .before .before .before .before .before .before .before .before .before .before .before .before .before .before .before .before .before .before .own .kept))
     (λ c. omega (arith, c .before .before .before .before .before .before .os .kept, c .before .before .before .before .before .before .before .before .before .before .before .before .before .before .before .before .before .seq .kept, c .before .before .before .before .before .before .before .before .before .before .before .before .before .before .before .before .before .before .before .before .before .before .before .before .before .before .before .before .before .before .before .own .kept))
@@ -2442,7 +2453,8 @@ ta-spec t = cycle.Lts-ta.spec (ta-claims t) (at-measure ta.Kinds.ps μ-ta ta.Rea
     (λ c κs. tt)
     (λ c κs. tt)
     (λ c κs. tt)
-    (λ c κs. (omega (arith, c .before .before .before .before .before .before .before .before .before .before .before .before .before .before .before .before .before .pre .0, c .before .before .before .before .before .before .before .before .before .before .before .statement .ensures .1), tt))
+    (λ c κs. tt)
+    (λ c κs. (omega (arith, c .before .before .before .before .before .before .before .before .before .before .before .before .before .before .before .before .before .before .pre .0, c .before .before .before .before .before .before .before .before .before .before .before .statement .ensures .1), tt))
     (λ c. omega (arith, c .before .before .before .before .before .before .an .kept, c .before .before .before .before .before .before .before .before .before .before .before .before .new-mark .kept, c .before .before .before .before .before .before .before .before .before .before .before .before .before .before .before .before .put2 .kept))
     (λ c. omega (arith, c .before .before .before .before .before .before .an .kept, c .before .before .before .before .before .before .before .before .before .before .before .before .new-mark .kept, c .before .before .before .before .before .before .before .before .before .before .before .before .before .before .before .before .put2 .kept))
     (λ c. omega (arith, c .before .before .before .before .before .before .an .kept, c .before .before .before .before .before .before .before .before .before .before .before .before .new-mark .kept, c .before .before .before .before .before .before .before .before .before .before .before .before .before .before .before .before .put2 .kept))
@@ -2492,14 +2504,14 @@ tg-spec t = cycle.Lts-tg.spec (tg-claims t) (at-measure tg.Kinds.ps μ-tg tg.Rea
     (λ c κs. tt)
     (λ c κs. tt)
     (λ c κs. tt)
-    (λ c κs. (omega (arith, c .before .before .before .before .before .before .before .before .before .before .before .pre .0, c .before .before .before .before .before .before .inside .ensures .1), tt))
+    (λ c κs. (omega (arith, c .before .before .before .before .before .before .before .before .before .before .before .pre .0, c .before .before .before .before .before .before .told-inside .ensures .1), tt))
     (λ c. omega (arith, c .before .before .before .before .before .before .ns .kept))
     (λ c. omega (arith, c .before .before .before .before .before .before .ns .kept))
     (λ c. omega (arith, c .before .before .before .before .before .before .ns .kept))
     (tg-returns t)
     (λ c κs. tt)
     (λ c κs. tt)
-    (λ c κs. (omega (arith, c .before .before .before .before .before .before .before .before .before .before .before .before .before .before .before .pre .0, c .before .before .before .before .before .before .before .before .before .before .inside .ensures .1), tt))
+    (λ c κs. (omega (arith, c .before .before .before .before .before .before .before .before .before .before .before .before .before .before .before .pre .0, c .before .before .before .before .before .before .before .before .before .before .told-inside .ensures .1), tt))
     (λ c κs. tt)
     (λ c κs. tt)
     (λ c. omega (arith, c .before .before .before .before .before .before .temporary .kept, c .before .before .before .before .before .before .before .before .before .before .before .before .before .before .before .before .before .view .kept, c .before .before .before .before .before .before .before .before .before .before .before .before .before .before .before .before .before .before .before .before .before .before .before .before .assign .kept))
@@ -2542,13 +2554,13 @@ top-spec t = cycle.Lts-top.spec (top-claims t) (at-measure top.Kinds.ps μ-top t
     (λ c κs. tt)
     (λ c κs. tt)
     (λ c κs. tt)
-    (λ c κs. (omega (arith, c .before .before .before .before .before .before .before .before .before .before .before .before .before .before .before .before .before .before .before .before .before .before .before .before .before .before .before .before .before .before .before .before .before .before .before .before .before .before .before .before .before .pre .0, c .before .before .before .before .before .before .before .before .before .before .before .before .before .before .before .before .before .before .before .before .before .before .before .before .before .before .before .before .before .before .before .before .before .before .inside .ensures .1), tt))
+    (λ c κs. (omega (arith, c .before .before .before .before .before .before .before .before .before .before .before .before .before .before .before .before .before .before .before .before .before .before .before .before .before .before .before .before .before .before .before .before .before .before .before .before .before .before .before .before .before .pre .0, c .before .before .before .before .before .before .before .before .before .before .before .before .before .before .before .before .before .before .before .before .before .before .before .before .before .before .before .before .before .before .before .before .before .before .told-inside .ensures .1), tt))
     (λ c κs. (omega (arith, c .before .before .before .before .before .before .before .before .before .before .before .before .before .before .before .before .before .before .before .before .before .before .before .before .before .before .before .before .before .before .before .before .before .before .before .before .before .before .before .before .before .before .before .before .before .before .before .before .before .before .before .pre .0), tt))
     (λ c κs. (omega (arith, c .before .before .before .before .before .before .before .before .before .before .before .before .before .before .before .before .before .before .before .before .before .before .before .before .before .before .before .before .before .before .before .before .before .before .before .before .before .before .before .before .before .before .before .before .before .before .before .before .before .before .before .before .before .before .before .before .before .before .before .before .before .pre .0), tt))
     (λ c κs. tt)
     (λ c κs. tt)
     (λ c κs. tt)
-    (λ c κs. (omega (arith, c .before .before .before .before .before .before .before .before .before .before .before .before .before .before .before .before .before .before .before .before .before .before .before .before .before .before .before .before .before .before .before .before .before .before .before .before .before .before .before .before .before .before .before .before .before .before .before .before .before .before .before .before .before .before .before .before .before .before .before .before .before .before .before .before .before .before .before .before .before .before .before .before .before .before .before .before .before .pre .0, c .inside2 .ensures .1, c .before .less .ensures), tt))
+    (λ c κs. (omega (arith, c .before .before .before .before .before .before .before .before .before .before .before .before .before .before .before .before .before .before .before .before .before .before .before .before .before .before .before .before .before .before .before .before .before .before .before .before .before .before .before .before .before .before .before .before .before .before .before .before .before .before .before .before .before .before .before .before .before .before .before .before .before .before .before .before .before .before .before .before .before .before .before .before .before .before .before .before .before .pre .0, c .told-inside2 .ensures .1, c .before .less .ensures), tt))
     (λ c κs. tt)
     (λ c κs. tt)
     (top-rest-requires t)
