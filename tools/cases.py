@@ -20,6 +20,9 @@ the marks.
 A case of lowering is a byte 1 where no limit is named, or a byte 2 and the limit, a 32-bit number; the options byte, the
 expected answer, helper mask and options mask, a byte each; three 16-bit numbers, the lengths of the tree, of the expected
 tree and of the expected list; then these three. What is expected is recorded in the vector files or given here.
+
+A case of drawing is a byte 3; two 32-bit numbers, the seed and the state after its tree; the tree's length, 16 bits; then
+the tree. They are of cr2.txt, and come last.
 """
 import argparse
 import os
@@ -27,6 +30,7 @@ import signal
 import subprocess
 import sys
 
+import drawn
 import equal
 import nodes
 import read
@@ -61,6 +65,8 @@ RESTATED = "---- the cases of document01.txt, readings.txt and extra.txt whose r
 NO_LONGER = "---- with temporaries, while request 4 is not in force"
 # The option that is no longer shown in the mask (request 12). The base's files record masks that show it, and are restated.
 RETIRED = 8
+# How many cases of drawing are stored.
+DRAWINGS = 60
 # Stems of temporaries: in place of a pattern, of excluded keys, of a value.
 REF, EXCLUDED, VALUE = 1, 2, 3
 
@@ -86,6 +92,13 @@ class Lowering:
         self.tree, self.result, self.listed = tree, result, listed
 
 
+class Drawing:
+    """A stored case of drawing."""
+
+    def __init__(self, seed, state, tree):
+        self.seed, self.state, self.tree = seed, state, tree
+
+
 def load_stored():
     """The stored cases in their order; case N is the item N - 1."""
     with open(STORED, "rb") as stored:
@@ -104,6 +117,10 @@ def load_stored():
 
     while at < len(data):
         kind = take(1)
+        if kind == b"\3":
+            seed, state = (int.from_bytes(take(4), "little") for _ in range(2))
+            found.append(Drawing(seed, state, take(number())))
+            continue
         if kind == b"\0":
             limit, answer = take(2)
             length, mark = number(), number()
@@ -126,6 +143,8 @@ def shown(number, case):
             return "no tree"
 
     short = case.tree.hex() if len(case.tree) <= 2000 else f"{len(case.tree)} bytes"
+    if isinstance(case, Drawing):
+        return [f"case {number}, drawing, seed {case.seed}: {as_text(case.tree, False)}", f"  then   {case.state}", f"  tree   {short}"]
     if isinstance(case, Reading):
         answer = f"0 {len(case.tree)} {case.mark}" if case.answer == 0 else case.answer
         return [f"case {number}, reading, limit {case.limit}: {as_text(case.tree, False)}", f"  prints {answer}", f"  tree   {short}"]
@@ -405,8 +424,9 @@ def expected(cases):
         yield limit, found, mark, tree
 
 
-def summary(numbers, lowered):
-    """The last lines of the program vectors where nothing is wrong, from the answers of reading and of lowering."""
+def summary(numbers, lowered, drawings):
+    """The last lines of the program vectors where nothing is wrong, from the answers of reading and of lowering and the
+    number of drawings."""
     counts = [numbers.count(number) for number in (0, 3, 4)]
     done = lowered.count(0)
     # two calls for each case, and three more where a tree is lowered
@@ -414,7 +434,8 @@ def summary(numbers, lowered):
     return (
         f"reading: accepted {counts[0]}, refused 3: {counts[1]}, refused 4: {counts[2]}\n"
         f"lowering: lowered {done}, refused {len(lowered) - done}, calls {calls}\n"
-        f"{len(numbers) + len(lowered)} cases, 0 wrong\n"
+        f"drawing: drawn {drawings}\n"
+        f"{len(numbers) + len(lowered) + drawings} cases, 0 wrong\n"
     )
 
 
@@ -443,11 +464,13 @@ def main():
     folder = given.given[0]
     try:
         cases, lowerings = stored(folder), stored_lowerings(folder, given.reference)
+        drawings = drawn.chosen(os.path.join(folder, "cr2.txt"), DRAWINGS)
     except OSError as error:
         sys.exit(f"{error.filename}: {error.strerror}")
     answers = list(expected(cases))
     stream = b"".join(encode(*case) for case in answers) + b"".join(encode_lowering(*case) for _, case in lowerings)
-    lines = summary([number for _, number, _, _ in answers], [case[2] for _, case in lowerings])
+    stream += b"".join(b"\3" + case for case in drawings)
+    lines = summary([number for _, number, _, _ in answers], [case[2] for _, case in lowerings], len(drawings))
     if given.list:
         names = [(what, number, tree) for (what, *_), (_, number, _, tree) in zip(cases, answers)]
         names += [(what, case[2], case[5]) for what, case in lowerings]

@@ -5,7 +5,6 @@
 
     tools/drawn.py SEED                    prints the answer, the state afterwards and the tree in hex
     tools/drawn.py --vectors FILE          holds this generator to stored cases
-    tools/drawn.py --store FILE COUNT INTO writes stored cases for the program drawn
     tools/drawn.py --entry FROM COUNT      holds the entry of libdrawing.a to this generator, seed by seed, with a slice of 16,384
                                            bytes and one a byte too short, every byte of both
     tools/drawn.py --read FROM COUNT       the same, and hands each tree to the built treecheck, which has to take it
@@ -228,17 +227,15 @@ def vectors(path):
     print("%d cases, %d wrong" % (tried, wrong))
 
 
-def stored(path, count, into):
-    """Writes `count` of the cases of trees, as the program drawn reads them: spread over the file, each seed once."""
+def chosen(path, count):
+    """`count` of the cases of trees, as the program vectors reads them: spread over the file, each seed once."""
     found = {}
     for line in open(path, encoding="ascii"):
         words = line.split()
         if words[:1] == ["tree"] and words[3] != "7":
             tree = b"" if words[5] == "-" else bytes.fromhex(words[5])
             found.setdefault(words[1], struct.pack("<IIH", int(words[1]), int(words[4]), len(tree)) + tree)
-    kept = [list(found.values())[i * len(found) // count] for i in range(count)]
-    with open(into, "wb") as out:
-        out.write(b"".join(kept))
+    return [list(found.values())[i * len(found) // count] for i in range(count)]
 
 
 class Drawn(ctypes.Structure):
@@ -287,8 +284,6 @@ def compared(first, count, check, archive="target/staticlib/libdrawing.a"):
 if __name__ == "__main__":
     if sys.argv[1] == "--vectors":
         vectors(sys.argv[2])
-    elif sys.argv[1] == "--store":
-        stored(sys.argv[2], int(sys.argv[3]), sys.argv[4])
     elif sys.argv[1] in ("--entry", "--read", "--lower"):
         check = {"--entry": lambda tree: True, "--read": read_alike, "--lower": lowered}[sys.argv[1]]
         compared(int(sys.argv[2]), int(sys.argv[3]), check)

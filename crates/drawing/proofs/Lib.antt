@@ -7,3 +7,4 @@ pub mod Hold
 pub mod Asks
 pub mod Good
 pub mod Taken
+pub mod Entries

@@ -11,6 +11,7 @@ pub struct Tally {
     pub lowered: u64,
     pub refused: u64,
     pub calls: u64,
+    pub drawn: u64,
     pub more: bool,
 }
 
@@ -37,6 +38,7 @@ impl Tally {
             lowered: 0,
             refused: 0,
             calls: 0,
+            drawn: 0,
             more: true,
         }
     }
@@ -98,6 +100,11 @@ impl Tally {
         self
     }
 
+    pub fn drew(mut self) -> Tally {
+        self.drawn = one_more(self.drawn);
+        self
+    }
+
     pub fn report(self) {
         say(b"reading: accepted ");
         say_number(self.accepted);
@@ -111,6 +118,8 @@ impl Tally {
         say_number(self.refused);
         say(b", calls ");
         say_number(self.calls);
+        say(b"\ndrawing: drawn ");
+        say_number(self.drawn);
         say(b"\n");
         say_number(self.cases);
         say(b" cases, ");

@@ -1,11 +1,11 @@
--- `drawn::same` is safe and ends.
+-- `vectors::drawn::same` is safe and ends.
 -- Assumes nothing.
 use Prim.Native.Nat.{_-_, _≤_}
 use native.Mathlib.Omega.{arith}
 use lib.ListN.{length}
 use borrow.Author.Needs.{needs}
-use Rattle.drawn.proofs.same.Statement.{statement}
-use Rattle.drawn.proofs.same.Tie as tie
+use Rattle.vectors.proofs.drawn.same.Statement.{statement}
+use Rattle.vectors.proofs.drawn.same.Tie as tie
 
 abbrev Inv-loop : tie.InvT-loop
 Inv-loop tree out i₀ i = i ≤ length out

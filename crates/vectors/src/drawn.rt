@@ -1,54 +1,15 @@
-// Replays stored drawings from standard input. A case is a seed and the state after its tree (32 bits each), the length of the tree
-// (16 bits), all little-endian, then the tree. Each is drawn into slices as long as the tree, three bytes longer and a byte shorter,
-// and every byte is looked at. Prints a line for each case that is wrong, then the number of cases and of those that are wrong.
+// A case of drawing is a seed and the state after its tree (32 bits each), the length of the tree (16 bits), all little-endian,
+// then the tree. It is drawn into slices as long as the tree, three bytes longer and a byte shorter, and every byte is looked at.
+use crate::tally::Tally;
+use crate::tally::say;
+use crate::tally::wide;
 use libc::STDIN_FILENO;
-use libc::STDOUT_FILENO;
 
-// `more` until the input ends or breaks off.
-struct Tally {
-    cases: u64,
-    wrong: u64,
-    more: bool,
-}
-
+// What stands in front of a case's tree.
 struct Head {
     seed: u32,
     next: u32,
     length: usize,
-}
-
-fn say(text: &[u8]) {
-    io::write_all(STDOUT_FILENO, text);
-}
-
-fn one_more(n: u64) -> u64 {
-    std::num::wrapping_add_u64(n, 1)
-}
-
-impl Tally {
-    fn ended(mut self) -> Tally {
-        self.more = false;
-        self
-    }
-
-    fn counted(mut self, right: bool) -> Tally {
-        self.cases = one_more(self.cases);
-        if right {
-            return self;
-        }
-        self.wrong = one_more(self.wrong);
-        say(b"wrong: case ");
-        io::print_decimal(STDOUT_FILENO, self.cases);
-        say(b"\n");
-        self
-    }
-
-    fn report(self) {
-        io::print_decimal(STDOUT_FILENO, self.cases);
-        say(b" cases, ");
-        io::print_decimal(STDOUT_FILENO, self.wrong);
-        say(b" wrong\n");
-    }
 }
 
 // The bytes of `out` are those of `tree`, then zeros.
@@ -124,10 +85,6 @@ fn number(a: u8, b: u8, c: u8, d: u8) -> u32 {
     a as u32 + 256 * (b as u32) + 65536 * (c as u32) + 16777216 * (d as u32)
 }
 
-fn wide(low: u8, high: u8) -> usize {
-    low as usize + 256 * (high as usize)
-}
-
 fn head_of(bytes: &[u8; 10]) -> Head {
     Head {
         seed: number(bytes[0], bytes[1], bytes[2], bytes[3]),
@@ -140,48 +97,32 @@ fn head_of(bytes: &[u8; 10]) -> Head {
 fn filled(t: Tally, head: Head, room: &mut [u8]) -> Tally {
     let n = io::read_full(STDIN_FILENO, room);
     if n < room.len() {
-        return t.counted(false).ended();
+        return t.broken(b": the input ends in it\n");
     }
-    let right = all_right(head, room);
-    t.counted(right)
+    let t = t.drew();
+    if all_right(head, room) {
+        return t;
+    }
+    let t = t.failed();
+    say(b": another tree is drawn\n");
+    t
 }
 
+// The same with the start of `space` as its room.
 fn placed(t: Tally, head: Head, space: &mut [u8]) -> Tally {
     let length = head.length;
     if length > space.len() {
-        return t.counted(false).ended();
+        return t.broken(b": its tree is too long\n");
     }
     filled(t, head, &mut space[..length])
 }
 
-fn next_case(t: Tally) -> Tally {
+pub fn case(t: Tally) -> Tally {
     let mut bytes = [0u8; 10];
     let n = io::read_full(STDIN_FILENO, &mut bytes);
-    if n == 0 {
-        return t.ended();
-    }
     if n < 10 {
-        return t.counted(false).ended();
+        return t.broken(b": the input ends in it\n");
     }
     let mut space = [0u8; 8192];
     placed(t, head_of(&bytes), &mut space)
-}
-
-// Nothing says that the input ends, so the loop counts its turns down, from a number that no run uses up.
-fn replayed() -> Tally {
-    let mut t = Tally {
-        cases: 0,
-        wrong: 0,
-        more: true,
-    };
-    let mut turns = u64::MAX;
-    while turns > 0 && t.more {
-        t = next_case(t);
-        turns -= 1;
-    }
-    t
-}
-
-fn main() {
-    replayed().report();
 }

@@ -1,9 +1,9 @@
--- `drawn::within` is safe. A part's length is its count, since the count is at most the whole's length.
+-- `vectors::drawn::within` is safe. A part's length is its count, since the count is at most the whole's length.
 -- Assumes nothing.
 use lib.Seq.{length-take-le}
 use borrow.Author.Needs.{needs}
-use Rattle.drawn.proofs.within.Statement.{statement}
-use Rattle.drawn.proofs.within.Tie as tie
+use Rattle.vectors.proofs.drawn.within.Statement.{statement}
+use Rattle.vectors.proofs.drawn.within.Tie as tie
 
 returns : tie.Need-returns
 returns c = search needs
