@@ -4,7 +4,7 @@ use mathlib.Core.Path.{_≡_, refl, sym, ap, _∙_}
 use mathlib.Core.Bool.{Bool, true, false}
 use mathlib.Core.List.{List, [], _∷_}
 use Prim.Native.Nat.{ℕ, zero, suc, _+_, _-_, _*_, _/_, _%_, _^_, _<_, _≤_}
-use native.Mathlib.Nat.{pow-suc}
+use native.Mathlib.Nat.{pow-suc, pow-le-pow-right, one-le-pow, mul-le-mul-left, mul-add, mul-assoc, mul-comm}
 use native.Mathlib.Omega.{arith}
 use native.Mathlib.Decide.{decLt}
 use lib.Dec.{leb, leb→le}
@@ -35,11 +35,11 @@ unfolding standing
 standing-first v m h = rw (row-first v h) (ap (λ (s : Sort). byBit (m % 2) s (standing (fieldsIn (v / 1024)) (m / 2))) (first-sort v))
 
 module _ (row map : ℕ) where
-  pub plan-none : row ≡ 0 → Planned row map 0
+  plan-none : row ≡ 0 → Planned row map 0
   plan-none z = record { less = λ n h. omega arith; is = λ h. sorts-none 0 refl ∙ sym (standing-none row map z) }
 
   module _ (some : row ≡ 0 → ⊥) (rest : ℕ) (p : Planned (row / 1024) (map / 2) rest) where
-    pub plan-absent : map % 2 ≡ 0 → Planned row map rest
+    plan-absent : map % 2 ≡ 0 → Planned row map rest
     plan-absent z = record { less = less; is = λ h. p .is (omega arith) ∙ sym (standing-first row map (omega arith) ∙ ap (λ (b : ℕ). byBit b (sortOf (row % 512)) (standing (fieldsIn (row / 1024)) (map / 2))) z) }
       where
         less : (n : ℕ) → row < 1024 ^ n → rest < 1024 ^ n
@@ -49,11 +49,8 @@ module _ (row map : ℕ) where
             let g : rest < 1024 ^ n = p .less n (omega arith) in
             omega arith
 
-    pub plan-over : (map % 2 ≡ 0 → ⊥) → 18014398509481983 < rest → Planned row map 0
-    plan-over b o = record { less = λ n h. omega arith; is = λ h. absurd (let g : rest < 1024 ^ 5 = p .less 5 (omega arith) in omega arith) }
-
-    pub plan-stands : (map % 2 ≡ 0 → ⊥) → rest ≤ 18014398509481983 → Planned row map (rest * 1024 + 512 + row % 512)
-    plan-stands b o = record { less = less; is = is }
+    plan-stands : (map % 2 ≡ 0 → ⊥) → Planned row map (rest * 1024 + 512 + row % 512)
+    plan-stands b = record { less = less; is = is }
       where
         less : (n : ℕ) → row < 1024 ^ n → rest * 1024 + 512 + row % 512 < 1024 ^ n
         less zero h = absurd (some (omega arith))
@@ -73,6 +70,92 @@ module _ (row map : ℕ) where
             ∙ ap (λ (c : ℕ). sortOf (row % 512) ∷ sorts (fieldsIn c)) high
             ∙ ap (λ (ss : List Sort). sortOf (row % 512) ∷ ss) (p .is (omega arith))
             ∙ sym (standing-first row map (omega arith) ∙ ap (λ (c : ℕ). byBit c (sortOf (row % 512)) (standing (fieldsIn (row / 1024)) (map / 2))) one)
+
+-- ---- the loop: so much is made, and what is left goes above it
+
+pub record Planning (row map left bits made scale : ℕ) : Type 0 where
+  pub taken : ℕ
+  pub places : ℕ
+  pub power : scale ≡ 1024 ^ taken
+  pub few : left < 1024 ^ places
+  pub both : taken + places ≤ 6
+  pub below : made < scale
+  pub will : (q : ℕ) → Planned left bits q → Planned row map (made + scale * q)
+
+pub planning-start : (row map : ℕ) → row ≤ 1152921504606846975 → Planning row map row map 0 1
+planning-start row map h = record {
+  taken = 0;
+  places = 6;
+  power = refl;
+  few = omega arith;
+  both = omega arith;
+  below = omega arith;
+  will = λ q p. let e : 0 + 1 * q ≡ q = omega arith in rw e p;
+}
+
+-- more than six fields are none
+pub plan-long : (row map : ℕ) → 1152921504606846975 < row → Planned row map 0
+plan-long row map h = record { less = λ n g. let p : 0 < 1024 ^ n = one-le-pow n 1024 (omega arith) in omega arith; is = λ g. absurd (omega arith) }
+
+module _ (row map left bits made scale : ℕ) (g : Planning row map left bits made scale) where
+  pub planning-ends : left ≤ 0 → Planned row map made
+  planning-ends z = let e : made + scale * 0 ≡ made = omega arith in rw e at (g .will 0 (plan-none left bits (omega arith)))
+
+  module _ (some : 0 < left) where
+    place-left : (places : ℕ) → left < 1024 ^ places → (m : ℕ) × (places ≡ suc m) × (left / 1024 < 1024 ^ m)
+    place-left zero h = absurd (omega arith)
+    place-left (suc m) h = let e : 1024 ^ suc m ≡ 1024 ^ m * 1024 = pow-suc 1024 m in (m, refl, omega arith)
+
+    fewer : (m : ℕ) × (g .places ≡ suc m) × (left / 1024 < 1024 ^ m)
+    fewer = place-left (g .places) (g .few)
+
+    pub planning-scale : scale ≤ 1125899906842624
+    planning-scale =
+        let a : g .places ≡ suc (fewer .0) = fewer .1 in
+        let b : g .taken + g .places ≤ 6 = g .both in
+        let h : 1024 ^ g .taken ≤ 1024 ^ 5 = pow-le-pow-right (omega arith) {i = g .taken} {j = 5} (omega arith) in
+        let e : scale ≡ 1024 ^ g .taken = g .power in
+        omega arith
+
+    pub planning-digit : scale * (512 + left % 512) ≤ scale * 1023
+    planning-digit = mul-le-mul-left scale (omega arith)
+
+    pub planning-absent : (bits % 2 ≡ 1 → ⊥) → Planning row map (left / 1024) (bits / 2) made scale
+    planning-absent b =
+        let a : g .places ≡ suc (fewer .0) = fewer .1 in
+        let t : g .taken + g .places ≤ 6 = g .both in
+        record {
+          taken = g .taken;
+          places = fewer .0;
+          power = g .power;
+          few = fewer .2;
+          both = omega arith;
+          below = g .below;
+          will = λ q p. g .will q (plan-absent left bits (λ z. absurd (omega arith)) q p (omega arith));
+        }
+
+    pub planning-stands : bits % 2 ≡ 1 → Planning row map (left / 1024) (bits / 2) (made + scale * (512 + left % 512)) (scale * 1024)
+    planning-stands b =
+        let a : g .places ≡ suc (fewer .0) = fewer .1 in
+        let t : g .taken + g .places ≤ 6 = g .both in
+        let c : made < scale = g .below in
+        let d : scale * (512 + left % 512) ≤ scale * 1023 = planning-digit in
+        record {
+          taken = suc (g .taken);
+          places = fewer .0;
+          power = ap (λ (x : ℕ). x * 1024) (g .power) ∙ sym (pow-suc 1024 (g .taken));
+          few = fewer .2;
+          both = omega arith;
+          below = omega arith;
+          will = λ q p. rw (above q) (g .will (q * 1024 + 512 + left % 512) (plan-stands left bits (λ z. absurd (omega arith)) q p (λ z. absurd (omega arith))));
+        }
+      where
+        above : (q : ℕ) → made + scale * (512 + left % 512) + scale * 1024 * q ≡ made + scale * (q * 1024 + 512 + left % 512)
+        above q =
+            let u : q * 1024 + 512 + left % 512 ≡ q * 1024 + (512 + left % 512) = omega arith in
+            let v : scale * (q * 1024 + 512 + left % 512) ≡ scale * (q * 1024) + scale * (512 + left % 512) = ap (λ (x : ℕ). scale * x) u ∙ mul-add scale (q * 1024) (512 + left % 512) in
+            let w : scale * 1024 * q ≡ scale * (q * 1024) = mul-assoc scale 1024 q ∙ ap (λ (x : ℕ). scale * x) (mul-comm 1024 q) in
+            omega (arith, v, w)
 
 -- ---- a row of a form is below 2 ^ 60
 

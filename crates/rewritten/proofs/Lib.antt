@@ -4,6 +4,7 @@ pub mod Leaves
 pub mod Forms
 pub mod Frames
 pub mod Moves
+pub mod Ahead
 pub mod Pass
 pub mod Marks
 pub mod Reader

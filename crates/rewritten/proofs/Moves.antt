@@ -5,10 +5,11 @@ use mathlib.Core.Bool.{Bool, true, false, cond}
 use mathlib.Core.List.{List, [], _∷_, _++_}
 use Prim.Native.Nat.{ℕ, zero, suc, _+_, _-_, _*_, _/_, _%_, _^_, _<_, _≤_}
 use native.Mathlib.Omega.{arith}
+use native.Mathlib.Decide.{decLt}
 use lib.Dec.{ltb, eqb}
 use lib.ListN.{length, getD, set, List·getD-eq-default}
 use lib.Seq.{getD-set-same, getD-set-other}
-use borrow.Author.Tests.{lt-ltb, le-ltb, eq-eqb, ne-eqb}
+use borrow.Author.Tests.{lt-ltb, le-ltb, eq-eqb, ne-eqb, ltb-true, eqb-true}
 use Rattle.tree.specs.Grammar.{Sort, Field, formAt, fieldsOf, mapOk}
 use Rattle.tree.specs.Grammar.Sort.{child, chosen, many, gaps, text, byte, mark, number}
 use Rattle.tree.specs.Grammar.Stage.{rewritten}
@@ -23,12 +24,11 @@ use Rattle.rewritten.specs.Events.{Event}
 use Rattle.rewritten.specs.Events.Event.{begins, ends, opens, closes}
 use Rattle.rewritten.specs.Pending.{Task, standing, sorts, andThen, nodeComes, pieceComes, slotsCome, itemsCome, comes, pending, itemsIn, taskOf, stack}
 use Rattle.rewritten.specs.Pending.Task.{slots, items}
-use Rattle.rewritten.specs.Steps.{Planned, comingAt, comingFields, comingItems, comingPiece, comingNode, listSort, Onward, Took, LeafIs, LeafSo, stepAfter, closingIn, stepClosed, eventIn, Stands, deepAfter, framesAfter}
+use Rattle.rewritten.specs.Steps.{Planned, comingAt, comingFields, comingItems, comingPiece, comingNode, listSort, Onward, Took, closingIn, stepClosed, eventIn, Stands, deepAfter, framesAfter}
+use Rattle.rewritten.specs.Look.{Leaf, LeafSo, stepAfter, isClosed}
 use Rattle.rewritten.specs.declared.step.Event.the-variants.{Begins, Ends, Opens, Closes, Hole}
 use Rattle.rewritten.specs.declared.step.Step.{Step}
 use Rattle.rewritten.specs.declared.step.Step.the-variants.{Next, Done, Refused, Full}
-use Rattle.rewritten.specs.declared.leaf.Leaf.{Leaf}
-use Rattle.rewritten.specs.declared.leaf.Leaf.the-variants.{Found, Missing}
 use Rattle.rewritten.proofs.Coming.{led, entered, field-next, item-next, item-hole, items-plain, items-other, items-none, node-ends, list-closes, all-done, node-wrong, node-unfit, node-fits, piece-list, piece-child, piece-chosen}
 use Rattle.rewritten.proofs.Frames.{sorts-none, sorts-first, row-small}
 
@@ -117,9 +117,9 @@ module _ (l fs : List ℕ) where
       pub plan-small : (r : ℕ) → Planned row map r → r < 1024 ^ 6
       plan-small r plan = plan .less 6 (row-small row form rowed)
 
-      pub enter-node : mapOk (fieldsIn row) map ≡ true → deep < length fs → (r : ℕ) → Planned row map r → Took l fs (set fs deep rest) (comingNode l fs p at deep rest) at deep (Next (Begins at kind map) (record { at = at + 2; deep = deep + 1; top = r * 2 }))
+      enter-seen : mapOk (fieldsIn row) map ≡ true → deep < length fs → (r : ℕ) → Planned row map r → Took l fs (set fs deep rest) (comingNode l fs p at deep rest) at deep (Next (Begins at kind map) (record { at = at + 2; deep = deep + 1; top = r * 2 }))
       unfolding comingAt comes
-      enter-node ok room r plan =
+      enter-seen ok room r plan =
           let ok' : mapOk (fieldsOf form) map ≡ true = ap (λ (gs : List Field). mapOk gs map) (sym rowed) ∙ ok in
           let i : at + 1 < length l = enter-inside ok in
           let t : taskOf (r * 2) ≡ slots (standing (fieldsOf form) map) = task-even r ∙ ap slots (plan .is (row-small row form rowed)) ∙ ap (λ (gs : List Field). slots (standing gs map)) rowed in
@@ -140,6 +140,9 @@ module _ (l fs : List ℕ) where
             };
           }
 
+      pub enter-node : mapOk (fieldsIn row) map ≡ true → deep < length fs → (r : ℕ) → Planned row map r → Took l fs (set fs deep rest) (comingNode l fs p at deep rest) at deep (Next (Begins at (byteAt l at) (byteAt l (at + 1))) (record { at = at + 2; deep = deep + 1; top = r * 2 }))
+      enter-node ok room r plan = rw (sym (look .value), sym (next .value)) (enter-seen ok room r plan)
+
   pub full : (g : Got (List Event)) (at deep : ℕ) → length fs ≤ deep → at + 1 < length l → Took l fs fs g at deep Full
   full g at deep h i = record { so = (h, i, refl) }
 
@@ -153,23 +156,24 @@ module _ (l fs : List ℕ) where
         let w : pieceComes l (listSort h (p % 32)) at 1 ≡ refused notATree = piece-list l (p % 32) h at 1 ∙ rw (le-ltb (wideAt l at) 65536 (omega arith)) in
         record { so = (ap (λ (x : Got (List Event)). andThen x (λ q j. pending l (taskOf rest) (stack fs deep) q j)) w, refl) }
 
-    list-task : (low : ℕ) → low ≡ cond h 3 1 → taskOf (n * 128 + p % 32 * 4 + low) ≡ items (p % 32) h n
-    list-task low e = go h e
+    -- the frame of a list without its last digit
+    list-task : (w low : ℕ) → w ≡ 64 * n + p % 32 * 2 + low → low ≡ cond h 1 0 → taskOf (w * 2 + 1) ≡ items (p % 32) h n
+    list-task w low v e = go h e
       where
-        at-low : (b : ℕ) (c : Bool) → b < 2 → eqb b 1 ≡ c → taskOf ((n * 64 + p % 32 * 2 + b) * 2 + 1) ≡ items (p % 32) c n
-        at-low b c s t =
-            let x : (n * 64 + p % 32 * 2 + b) / 2 % 32 ≡ p % 32 = omega arith in
-            let y : (n * 64 + p % 32 * 2 + b) % 2 ≡ b = omega arith in
-            let z : (n * 64 + p % 32 * 2 + b) / 64 ≡ n = omega arith in
-            task-odd (n * 64 + p % 32 * 2 + b) ∙ rw (x, y, z, t)
+        at-low : (b : ℕ) (c : Bool) → b < 2 → w ≡ 64 * n + p % 32 * 2 + b → eqb b 1 ≡ c → taskOf (w * 2 + 1) ≡ items (p % 32) c n
+        at-low b c s u t =
+            let x : w / 2 % 32 ≡ p % 32 = omega arith in
+            let y : w % 2 ≡ b = omega arith in
+            let z : w / 64 ≡ n = omega arith in
+            task-odd w ∙ rw (x, y, z, t)
 
-        go : (c : Bool) → low ≡ cond c 3 1 → taskOf (n * 128 + p % 32 * 4 + low) ≡ items (p % 32) c n
-        go true f = let w : n * 128 + p % 32 * 4 + low ≡ (n * 64 + p % 32 * 2 + 1) * 2 + 1 = omega arith in ap taskOf w ∙ at-low 1 true (omega arith) refl
-        go false f = let w : n * 128 + p % 32 * 4 + low ≡ (n * 64 + p % 32 * 2 + 0) * 2 + 1 = omega arith in ap taskOf w ∙ at-low 0 false (omega arith) refl
+        go : (c : Bool) → low ≡ cond c 1 0 → taskOf (w * 2 + 1) ≡ items (p % 32) c n
+        go true f = at-low 1 true (omega arith) (omega arith) refl
+        go false f = at-low 0 false (omega arith) (omega arith) refl
 
-    pub enter-list : n ≤ 65535 → deep < length fs → (low : ℕ) → low ≡ cond h 3 1 → Took l fs (set fs deep rest) (comingPiece l fs (listSort h (p % 32)) at deep rest) at deep (Next (Opens n) (record { at = at + 2; deep = deep + 1; top = n * 128 + p % 32 * 4 + low }))
+    enter-counted : n ≤ 65535 → deep < length fs → (w low : ℕ) → w ≡ 64 * n + p % 32 * 2 + low → low ≡ cond h 1 0 → Took l fs (set fs deep rest) (comingPiece l fs (listSort h (p % 32)) at deep rest) at deep (Next (Opens n) (record { at = at + 2; deep = deep + 1; top = w * 2 + 1 }))
     unfolding comingPiece comingAt comes
-    enter-list m room low e =
+    enter-counted m room x low u e =
         let v : n ≡ wideAt l at = wide .value in
         let i : at + 1 < length l = wide .within (omega arith) in
         let w : pieceComes l (listSort h (p % 32)) at 1 ≡ led (opens n) (mapped (λ es. es ++ (closes ∷ [])) (itemsCome l (p % 32) h n (at + 2) 1)) = rw v (piece-list l (p % 32) h at 1 ∙ rw (lt-ltb (wideAt l at) 65536 (omega arith))) in
@@ -177,8 +181,8 @@ module _ (l fs : List ℕ) where
           so = record {
             is =
                 entered l (items (p % 32) h n) (taskOf rest) (stack fs deep) (opens n) (at + 2) 1 (pieceComes l (listSort h (p % 32)) at 1) w
-                ∙ ap (λ (x : Task). led (opens n) (pending l x (taskOf rest ∷ stack fs deep) (at + 2) 1)) (sym (list-task low e))
-                ∙ ap (λ (us : List Task). led (opens n) (pending l (taskOf (n * 128 + p % 32 * 4 + low)) us (at + 2) 1)) (sym (stack-push fs deep rest room));
+                ∙ ap (λ (x : Task). led (opens n) (pending l x (taskOf rest ∷ stack fs deep) (at + 2) 1)) (sym (list-task x low u e))
+                ∙ ap (λ (us : List Task). led (opens n) (pending l (taskOf (x * 2 + 1)) us (at + 2) 1)) (sym (stack-push fs deep rest room));
             stands = (v, omega arith, refl);
             level = refl;
             rest = rest;
@@ -188,6 +192,9 @@ module _ (l fs : List ℕ) where
             falls = λ z. omega arith;
           };
         }
+
+    pub enter-list : n ≤ 65535 → deep < length fs → (w low : ℕ) → w ≡ 64 * n + p % 32 * 2 + low → low ≡ cond h 1 0 → low < 2 → Took l fs (set fs deep rest) (comingPiece l fs (listSort h (p % 32)) at deep rest) at deep (Next (Opens (w / 64)) (record { at = at + 2; deep = deep + 1; top = w * 2 + 1 }))
+    enter-list m room w low u e f = let z : w / 64 ≡ n = omega arith in rw z (enter-counted m room w low u e)
 
   -- ---- the end of a node or a list
 
@@ -280,7 +287,7 @@ module _ (l fs : List ℕ) where
         ∙ ap (λ (x : Task). andThen (pieceComes l (sortOf (row % 512)) at 1) (λ q j. pending l x (stack fs deep) q j)) (sym (task-even (row / 1024)))
 
     -- the field's class is n
-    field-class : (n : ℕ) → row % 512 / 32 ≡ n → comingFields l fs at deep row ≡ comingPiece l fs (sortFrom n (row % 512 % 32)) at deep (row / 1024 * 2)
+    pub field-class : (n : ℕ) → row % 512 / 32 ≡ n → comingFields l fs at deep row ≡ comingPiece l fs (sortFrom n (row % 512 % 32)) at deep (row / 1024 * 2)
     field-class n e = field-first ∙ ap (λ (x : ℕ). comingPiece l fs (sortFrom x (row % 512 % 32)) at deep (row / 1024 * 2)) e
 
     as-node : (s : Sort) (p : ℕ) → pieceComes l s at 1 ≡ nodeComes l p at 1 → comingPiece l fs s at deep (row / 1024 * 2) ≡ comingNode l fs p at deep (row / 1024 * 2)
@@ -302,30 +309,28 @@ module _ (l fs : List ℕ) where
     pub field-gaps : row % 512 / 32 ≡ 4 → comingFields l fs at deep row ≡ comingPiece l fs (listSort true (row % 512 % 32 % 32)) at deep (row / 1024 * 2)
     field-gaps e = field-class 4 e ∙ ap (λ (x : ℕ). comingPiece l fs (gaps x) at deep (row / 1024 * 2)) (sym same-place)
 
-    leaf-took : (s : Sort) (leaf : Leaf) → LeafSo l s at leaf → Took l fs fs (comingPiece l fs s at deep (row / 1024 * 2)) at deep (stepAfter leaf deep (row / 1024 * 2))
-    unfolding comingPiece comingAt
-    leaf-took s (Found e q) so =
-        let a : at < q = so .2 in
-        let b : q ≤ length l = so .3 in
-        record {
-          so = record {
-            is = ap (λ (x : Got (List Event)). andThen x (λ q j. pending l (taskOf (row / 1024 * 2)) (stack fs deep) q j)) (so .0);
-            stands = so .1;
-            level = sym (so .4 deep);
-            rest = 0;
-            kept = sym (so .5 deep 0 fs);
-            inside = λ h. b;
-            room = λ h. omega arith;
-            falls = λ h. omega arith;
-          };
-        }
-    leaf-took s Missing so = record { so = (ap (λ (x : Got (List Event)). andThen x (λ q j. pending l (taskOf (row / 1024 * 2)) (stack fs deep) q j)) so, refl) }
+    pub field-other : number ≡ sortOf (row % 512) → comingFields l fs at deep row ≡ comingPiece l fs number at deep (row / 1024 * 2)
+    field-other c = field-first ∙ ap (λ (s : Sort). comingPiece l fs s at deep (row / 1024 * 2)) (sym c)
 
-    pub field-leaf : (n : ℕ) → row % 512 / 32 ≡ n → (leaf : Leaf) (r : Step) → LeafIs l (sortFrom n (row % 512 % 32)) at leaf → r ≡ stepAfter leaf deep (row / 1024 * 2) → Took l fs fs (comingFields l fs at deep row) at deep r
-    field-leaf n c leaf r is e = rw e (took-as (field-class n c) (leaf-took (sortFrom n (row % 512 % 32)) leaf (is .so)))
-
-    pub field-number : number ≡ sortOf (row % 512) → (leaf : Leaf) (r : Step) → LeafIs l number at leaf → r ≡ stepAfter leaf deep (row / 1024 * 2) → Took l fs fs (comingFields l fs at deep row) at deep r
-    field-number c leaf r is e = rw e (took-as (field-first ∙ ap (λ (s : Sort). comingPiece l fs s at deep (row / 1024 * 2)) (sym c)) (leaf-took number leaf (is .so)))
+  -- a field that holds no node, and the task around it
+  pub leaf-took : (at deep rest : ℕ) (s : Sort) (leaf : Leaf) → LeafSo l s at leaf → Took l fs fs (comingPiece l fs s at deep rest) at deep (stepAfter leaf deep rest)
+  unfolding comingPiece comingAt
+  leaf-took at deep rest s (Leaf.found e q) so =
+      let a : at < q = so .2 in
+      let b : q ≤ length l = so .3 in
+      record {
+        so = record {
+          is = ap (λ (x : Got (List Event)). andThen x (λ q j. pending l (taskOf rest) (stack fs deep) q j)) (so .0);
+          stands = so .1;
+          level = sym (so .4 deep);
+          rest = 0;
+          kept = sym (so .5 deep 0 fs);
+          inside = λ h. b;
+          room = λ h. omega arith;
+          falls = λ h. omega arith;
+        };
+      }
+  leaf-took at deep rest s Leaf.missing so = record { so = (ap (λ (x : Got (List Event)). andThen x (λ q j. pending l (taskOf rest) (stack fs deep) q j)) so, refl) }
 
   -- ---- a node or a list
 
@@ -336,3 +341,17 @@ module _ (l fs : List ℕ) where
   pub top-list : (at deep top : ℕ) → (top % 2 ≡ 0 → ⊥) → comingAt l fs at deep top ≡ comingItems l fs at deep (top / 2)
   unfolding comingAt comingItems taskOf
   top-list at deep top z = rw (ne-eqb (top % 2) 0 z)
+
+  pub closed-top : (at deep top : ℕ) (node : Bool) (r : Step) → isClosed top ≡ true → node ≡ eqb (top % 2) 0 → r ≡ stepClosed fs at deep node → Took l fs fs (comingAt l fs at deep top) at deep r
+  closed-top at deep top node r c e s = elim (decLt 0 (top % 2)) [
+    | yes o ↦
+        let z : top % 2 ≡ 0 → ⊥ = λ x. absurd (omega arith) in
+        let t : eqb (top % 2) 0 ≡ false = ne-eqb (top % 2) 0 z in
+        let y : top < 128 = ltb-true top 128 (rw t at c) in
+        took-as (top-list at deep top z) (closed-list at deep (top / 2) r (omega arith) (s ∙ ap (stepClosed fs at deep) (e ∙ t)))
+    | no o ↦
+        let z : top % 2 ≡ 0 = omega arith in
+        let t : eqb (top % 2) 0 ≡ true = eq-eqb (top % 2) 0 z in
+        let y : top ≡ 0 = eqb-true top 0 (rw t at c) in
+        took-as (top-node at deep top z) (closed-node at deep (top / 2) r (omega arith) (s ∙ ap (stepClosed fs at deep) (e ∙ t)))
+  ]

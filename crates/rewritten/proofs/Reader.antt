@@ -4,7 +4,8 @@ use mathlib.Core.Path.{_≡_, refl, sym, ap, _∙_}
 use mathlib.Core.Bool.{Bool, true, false, cond}
 use mathlib.Core.List.{List, []}
 use mathlib.Core.Option.{Option, none, some}
-use Prim.Native.Nat.{ℕ, _+_, _-_, _<_, _≤_}
+use Prim.Native.Nat.{ℕ, zero, suc, _+_, _-_, _/_, _%_, _<_, _≤_}
+use native.Mathlib.Omega.{arith}
 use lib.Dec.{eqb}
 use borrow.Author.Tests.{eq-eqb, ne-eqb}
 use lib.ListN.{length, getD}
@@ -14,14 +15,17 @@ use Rattle.tree.specs.Read.{Got, accepted, readTree}
 use Rattle.tree.specs.Read.Got.{got, refused}
 use Rattle.rewritten.specs.Rewritten.{distinct, checked, readRewritten, isGot, isRewritten}
 use Rattle.rewritten.specs.Events.{Event, events}
-use Rattle.rewritten.specs.Steps.{start, Took, Onward, eventIn}
+use Rattle.rewritten.specs.Steps.{start, comingAt, Took, Onward, eventIn, closingIn, stepClosed}
+use Rattle.rewritten.specs.Look.{isClosed, restOf, eventFor, endFor, cursorFor, framesFor, nextFor, stepFor, Ahead, newFor, notedFor}
 use Rattle.rewritten.specs.Pass.{folded, passed}
 use Rattle.rewritten.specs.Marks.{meet, isSome, newIn, noted}
 use Rattle.rewritten.specs.declared.step.Cursor.{Cursor}
 use Rattle.rewritten.specs.declared.step.Event as told
 use Rattle.rewritten.specs.declared.step.Step.{Step}
 use Rattle.rewritten.specs.declared.step.Step.the-variants.{Next, Done, Refused, Full}
-use Rattle.rewritten.proofs.Pass.{coming, onward, Inside, inside-start, inside-next, step-falls, concluded, concluded-start, concluded-next, concluded-whole, concluded-early, concluded-refused, passed-long}
+use Rattle.rewritten.proofs.Pass.{coming, onward, Inside, inside-start, inside-next, step-falls, concluded, concluded-start, concluded-next, concluded-whole, concluded-early, concluded-refused, passed-long, frames-suffice}
+use Rattle.rewritten.proofs.Moves.{close-some, closed-top}
+use Rattle.rewritten.proofs.Ahead.{step-goes, next-goes}
 use Rattle.rewritten.proofs.Marks.{by-same, marks-distinct, Knows, knows-none, metAfter, meets-new, meets-twice, met-twice, knows-next}
 
 -- what the pass answers is the definition
@@ -92,3 +96,80 @@ module _ (l fs later seen : List ℕ) (c : Cursor) (frames : ℕ) (v : Bool) (g 
 
   pub reading-refused : r ≡ Refused → false ≡ v
   reading-refused w = sym (concluded-refused meet isSome false l fs later c (some (g .met)) r t w) ∙ g .will
+
+-- ---- the reader's own loop: it has no use for events but marks
+
+module _ (l seen : List ℕ) (at n : ℕ) where
+  new-is : (tree : List ℕ) (code : ℕ) → (code ≡ 0 → ⊥) → code < 8 → newFor seen code n ≡ newIn seen (eventIn tree (eventFor l at code n))
+  unfolding newIn
+  new-is tree zero stands low = absurd (stands refl)
+  new-is tree (suc zero) stands low = refl
+  new-is tree (suc (suc zero)) stands low = refl
+  new-is tree (suc (suc (suc zero))) stands low = refl
+  new-is tree (suc (suc (suc (suc zero)))) stands low = refl
+  new-is tree (suc (suc (suc (suc (suc zero))))) stands low = refl
+  new-is tree (suc (suc (suc (suc (suc (suc zero)))))) stands low = refl
+  new-is tree (suc (suc (suc (suc (suc (suc (suc zero))))))) stands low = refl
+  new-is tree (suc (suc (suc (suc (suc (suc (suc (suc k)))))))) stands low = absurd (omega arith)
+
+  noted-is : (tree : List ℕ) (code : ℕ) → (code ≡ 0 → ⊥) → code < 8 → notedFor seen code n ≡ noted seen (eventIn tree (eventFor l at code n))
+  unfolding noted
+  noted-is tree zero stands low = absurd (stands refl)
+  noted-is tree (suc zero) stands low = refl
+  noted-is tree (suc (suc zero)) stands low = refl
+  noted-is tree (suc (suc (suc zero))) stands low = refl
+  noted-is tree (suc (suc (suc (suc zero)))) stands low = refl
+  noted-is tree (suc (suc (suc (suc (suc zero))))) stands low = refl
+  noted-is tree (suc (suc (suc (suc (suc (suc zero)))))) stands low = refl
+  noted-is tree (suc (suc (suc (suc (suc (suc (suc zero))))))) stands low = refl
+  noted-is tree (suc (suc (suc (suc (suc (suc (suc (suc k)))))))) stands low = absurd (omega arith)
+
+closing-new : (seen tree : List ℕ) (node : Bool) → true ≡ newIn seen (eventIn tree (closingIn node))
+unfolding newIn
+closing-new seen tree true = refl
+closing-new seen tree false = refl
+
+closing-noted : (seen tree : List ℕ) (node : Bool) → seen ≡ noted seen (eventIn tree (closingIn node))
+unfolding noted
+closing-noted seen tree true = refl
+closing-noted seen tree false = refl
+
+module _ (l fs seen : List ℕ) (c : Cursor) (frames : ℕ) (v : Bool) (g : Reading l fs seen c frames v) where
+  -- ---- the innermost task is done
+
+  module _ (done : isClosed (c .top) ≡ true) where
+    closes : Took l fs fs (coming l fs c) (c .at) (c .deep) (stepClosed fs (c .at) (c .deep) (eqb (c .top % 2) 0))
+    closes = closed-top l fs (c .at) (c .deep) (c .top) (eqb (c .top % 2) 0) (stepClosed fs (c .at) (c .deep) (eqb (c .top % 2) 0)) done refl refl
+
+    pub closed-ends : c .deep ≡ 0 → eqb (c .at) (length l) ≡ v
+    closed-ends z = reading-ends l fs fs seen c frames v g (stepClosed fs (c .at) (c .deep) (eqb (c .top % 2) 0)) closes (ap (λ (x : ℕ). stepClosed fs (c .at) x (eqb (c .top % 2) 0)) z)
+
+    pub closed-next : (c .deep ≡ 0 → ⊥) → (top : ℕ) → top ≡ getD fs (c .deep - 1) 0 → Reading l fs seen (record { at = c .at; deep = c .deep - 1; top = top }) frames v
+    closed-next n top e = reading-next l fs fs seen c frames v g (stepClosed fs (c .at) (c .deep) (eqb (c .top % 2) 0)) closes (closingIn (eqb (c .top % 2) 0)) (record { at = c .at; deep = c .deep - 1; top = top }) (sym (close-some l fs (c .at) (c .deep) top (eqb (c .top % 2) 0) n e)) true (λ tree. closing-new seen tree (eqb (c .top % 2) 0)) refl refl seen (λ tree. closing-noted seen tree (eqb (c .top % 2) 0))
+
+  -- ---- what stands next
+
+  module _ (more : isClosed (c .top) ≡ false) (what : ℕ) (look : isClosed (c .top) ≡ false → Ahead l (c .at) (restOf (c .top)) (λ fs deep. comingAt l fs (c .at) deep (c .top)) what) where
+    pub ahead-refused : what % 16 ≡ 0 → false ≡ v
+    ahead-refused z = reading-refused l fs (framesFor fs (c .deep) (restOf (c .top)) (what % 16)) seen c frames v g (stepFor l fs (c .at) (c .deep) (restOf (c .top)) (what % 16) (what / 16)) ((look more) .so fs (c .deep)) (ap (λ (x : ℕ). stepFor l fs (c .at) (c .deep) (restOf (c .top)) x (what / 16)) z)
+
+    module _ (stands : what % 16 ≡ 0 → ⊥) (short : length l ≤ 32768) (enough : 16384 ≤ frames) where
+      goes-on : stepFor l fs (c .at) (c .deep) (restOf (c .top)) (what % 16) (what / 16) ≡ nextFor l fs (c .at) (c .deep) (restOf (c .top)) (what % 16) (what / 16)
+      goes-on = step-goes l fs (c .at) (c .deep) (restOf (c .top)) (what % 16) (what / 16) stands ((look more) .low) (λ e. frames-suffice l fs (framesFor fs (c .deep) (restOf (c .top)) (what % 16)) c frames (g .tour) (stepFor l fs (c .at) (c .deep) (restOf (c .top)) (what % 16) (what / 16)) ((look more) .so fs (c .deep)) e short enough)
+
+      module _ (b : Bool) (new : b ≡ newFor seen (what % 16) (what / 16)) where
+        is-new : (tree : List ℕ) → b ≡ newIn seen (eventIn tree (eventFor l (c .at) (what % 16) (what / 16)))
+        is-new tree = new ∙ new-is l seen (c .at) (what / 16) tree (what % 16) stands ((look more) .low)
+
+        pub ahead-twice : b ≡ false → false ≡ v
+        ahead-twice n = reading-twice l fs (framesFor fs (c .deep) (restOf (c .top)) (what % 16)) seen c frames v g (stepFor l fs (c .at) (c .deep) (restOf (c .top)) (what % 16) (what / 16)) ((look more) .so fs (c .deep)) (eventFor l (c .at) (what % 16) (what / 16)) (cursorFor fs (c .at) (c .deep) (restOf (c .top)) (what % 16) (what / 16)) goes-on b is-new n
+
+        module _ (rest : ℕ) (left : rest ≡ restOf (c .top)) (later : List ℕ) (kept : later ≡ framesFor fs (c .deep) rest (what % 16)) (d : Cursor) (went : endFor (c .at) (what % 16) (what / 16) ≤ length l → d ≡ cursorFor fs (c .at) (c .deep) rest (what % 16) (what / 16)) where
+          steps : Took l fs later (coming l fs c) (c .at) (c .deep) (Next (eventFor l (c .at) (what % 16) (what / 16)) d)
+          steps = next-goes l fs (c .at) (c .deep) (c .top) more what look rest left later kept d went (what % 16) refl stands (eventFor l (c .at) (what % 16) (what / 16)) refl (rw left goes-on)
+
+          pub ahead-falls : (length l - d .at) + d .deep < (length l - c .at) + c .deep
+          ahead-falls = reading-falls l fs later seen c frames v g (Next (eventFor l (c .at) (what % 16) (what / 16)) d) steps (eventFor l (c .at) (what % 16) (what / 16)) d refl
+
+          pub ahead-next : length later ≡ length fs → b ≡ true → (after : List ℕ) → after ≡ notedFor seen (what % 16) (what / 16) → Reading l later after d frames v
+          ahead-next same n after so = reading-next l fs later seen c frames v g (Next (eventFor l (c .at) (what % 16) (what / 16)) d) steps (eventFor l (c .at) (what % 16) (what / 16)) d refl b is-new same n after (λ tree. so ∙ noted-is l seen (c .at) (what / 16) tree (what % 16) stands ((look more) .low))

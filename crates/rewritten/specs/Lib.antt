@@ -4,7 +4,8 @@
 -- What it answers is `passed step answer no s (readTree rewritten (length tree) tree)` (Pass), which the pass's own definition by recursion on the
 -- tree must equal: one law over Node, Fields, Piece and Items, with no code in it (for marks: `marks-distinct` in proofs/Marks).
 --
--- The code (src/read is the pattern; its proof in proofs/Reader and proofs/read):
+-- The code (proofs/Reader has the laws of one; src/read itself asks `look` in place of `next`, since it has no use for events but marks, and a
+-- step is handed over in memory wherever `next` has more than one caller):
 --   1. An entry makes the arrays, `[usize; 16384]` frames among them, and lends them to a function that has the loop. So no goal of the loop
 --      holds an array written out. Before the loop: over 32,768 bytes and under 16,384 frames are answered.
 --   2. `let mut cursor = next::begin(); loop { match next::next(tree, frames, cursor) { Next(e, c) => .., Done => .., Refused => .., Full => .. } }`,
@@ -21,6 +22,7 @@ pub mod Rewritten
 pub mod Events
 pub mod Pending
 pub mod Steps
+pub mod Look
 pub mod Pass
 pub mod Marks
 pub mod Examples

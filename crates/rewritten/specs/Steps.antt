@@ -20,8 +20,6 @@ use Rattle.rewritten.specs.declared.step.Event as told
 use Rattle.rewritten.specs.declared.step.Event.the-variants.{Begins, Ends, Opens, Closes, Hole, Text, Byte, Mark, Number}
 use Rattle.rewritten.specs.declared.step.Step.{Step}
 use Rattle.rewritten.specs.declared.step.Step.the-variants.{Next, Done, Refused, Full}
-use Rattle.rewritten.specs.declared.leaf.Leaf.{Leaf}
-use Rattle.rewritten.specs.declared.leaf.Leaf.the-variants.{Found, Missing}
 
 -- the event that the code tells
 abbrev pub eventIn : List ℕ → told.Event → Event
@@ -122,25 +120,7 @@ Stepped tree frames later g at deep Full = (length frames ≤ deep) × (at + 1 <
 pub record Took (tree frames later : List ℕ) (g : Got (List Event)) (at deep : ℕ) (r : Step) : Type 0 where
   pub so : Stepped tree frames later g at deep r
 
--- ---- parts of a step
-
--- a field that holds no node
-abbrev pub LeafSo : List ℕ → Sort → ℕ → Leaf → Type 0
-LeafSo tree s at (Found e q) =
-    (pieceComes tree s at 1 ≡ got (eventIn tree e ∷ []) q 1)
-    × Stands tree at e q
-    × (at < q)
-    × (q ≤ length tree)
-    × ((deep : ℕ) → deepAfter e deep ≡ deep)
-    × ((deep rest : ℕ) (frames : List ℕ) → framesAfter e deep rest frames ≡ frames)
-LeafSo tree s at Missing = pieceComes tree s at 1 ≡ refused notATree
-
-pub record LeafIs (tree : List ℕ) (s : Sort) (at : ℕ) (r : Leaf) : Type 0 where
-  pub so : LeafSo tree s at r
-
-abbrev pub stepAfter : Leaf → ℕ → ℕ → Step
-stepAfter (Found e q) deep rest = Next e (record { at = q; deep = deep; top = rest })
-stepAfter Missing deep rest = Refused
+-- ---- the end of a task
 
 abbrev pub closingIn : Bool → told.Event
 closingIn true = Ends

@@ -1,18 +1,15 @@
 // One step of the tour.
-use crate::leaf;
-use crate::leaf::Leaf;
-use crate::plan;
+use crate::look;
 use crate::step::Cursor;
 use crate::step::Event;
 use crate::step::Step;
 use tree::bytes;
-use tree::grammar;
+use tree::skip;
 ghost use mathlib.Core.Path.{_≡_};
-ghost use Prim.Native.Nat.{_/_, _%_};
-ghost use lib.ListN.{length, getD};
-ghost use Rattle.tree.specs.Grammar.Sort.{many, gaps};
-ghost use Rattle.rewritten.specs.Pending.{closing, taskOf};
-ghost use Rattle.rewritten.specs.Steps.{stepAfter, stepClosed, comingAt, comingFields, comingItems, comingNode, comingPiece, listSort, start, Took};
+ghost use Prim.Native.Nat.{_+_, _/_, _%_, _≤_};
+ghost use lib.ListN.{length, getD, set};
+ghost use Rattle.rewritten.specs.Steps.{stepClosed, comingAt, start, Took};
+ghost use Rattle.rewritten.specs.Look.{deeper, endFor, framesFor, cursorFor};
 
 // Where a tour starts.
 pub fn begin() -> Cursor
@@ -30,23 +27,6 @@ pub fn frame_at(frames: &[usize], i: usize) -> usize
     ensures { λ r. ⌜ r ≡ getD (now (frames .entry)) i 0 ⌝ }
 {
     if i < frames.len() { frames[i] } else { 0 }
-}
-
-// A field that holds no node, and the step that it is.
-fn after(leaf: Leaf, deep: usize, rest: usize) -> Step
-    ensures { λ r. ⌜ r ≡ stepAfter leaf deep rest ⌝ }
-{
-    match leaf {
-        Leaf::Found(e, q) => Step::Next(
-            e,
-            Cursor {
-                at: q,
-                deep: deep,
-                top: rest,
-            },
-        ),
-        Leaf::Missing => Step::Refused,
-    }
 }
 
 // The innermost task is done: e closes it.
@@ -69,127 +49,50 @@ fn close(frames: &[usize], at: usize, deep: usize, node: bool) -> Step
     }
 }
 
-// A node that may stand at the place; `rest` is the task around it.
-fn enter(
-    tree: &[u8],
-    frames: &mut [usize],
-    at: usize,
-    deep: usize,
-    rest: usize,
-    place: usize,
-) -> Step
-    ensures { λ r. ⌜ (length (now (frames .exit)) ≡ length (now (frames .entry))) × Took (now (tree .entry)) (now (frames .entry)) (now (frames .exit)) (comingNode (now (tree .entry)) (now (frames .entry)) place at deep rest) at deep r ⌝ }
+// A node or a list begins: `rest` goes into the next frame, and `top` is its own.
+fn begun(frames: &mut [usize], end: usize, deep: usize, rest: usize, top: usize) -> Cursor
+    ensures { λ r. ⌜ (length (now (frames .exit)) ≡ length (now (frames .entry))) × (now (frames .exit) ≡ set (now (frames .entry)) deep rest) × (r ≡ record { at = end; deep = deeper (now (frames .entry)) deep; top = top }) ⌝ }
 {
-    let kind = bytes::peek(tree, at);
-    let form = plan::form_at(place, kind);
-    if form == 0 {
-        return Step::Refused;
-    }
-    let map = bytes::peek(tree, at + 1);
-    let row = grammar::row(form);
-    if grammar::map_ok(row, map) {
-        if deep < frames.len() {
-            frames[deep] = rest;
-            let top = plan::plan(row, map) * 2;
-            return Step::Next(
-                Event::Begins(at, kind, map),
-                Cursor {
-                    at: at + 2,
-                    deep: deep + 1,
-                    top: top,
-                },
-            );
-        }
-        return Step::Full;
-    }
-    Step::Refused
-}
-
-// A list whose items may stand at the place; `rest` is the task around it.
-fn enter_list(
-    tree: &[u8],
-    frames: &mut [usize],
-    at: usize,
-    deep: usize,
-    rest: usize,
-    place: usize,
-    holes: bool,
-) -> Step
-    ensures { λ r. ⌜ (length (now (frames .exit)) ≡ length (now (frames .entry))) × Took (now (tree .entry)) (now (frames .entry)) (now (frames .exit)) (comingPiece (now (tree .entry)) (now (frames .entry)) (listSort holes (place % 32)) at deep rest) at deep r ⌝ }
-{
-    let n = bytes::wide_at(tree, at);
-    if 65535 < n {
-        return Step::Refused;
-    }
     if deep < frames.len() {
         frames[deep] = rest;
-        let low = if holes { 3 } else { 1 };
-        return Step::Next(
-            Event::Opens(n),
-            Cursor {
-                at: at + 2,
-                deep: deep + 1,
-                top: n * 128 + place % 32 * 4 + low,
-            },
-        );
+        return Cursor {
+            at: end,
+            deep: deep + 1,
+            top: top,
+        };
     }
-    Step::Full
-}
-
-// The next field of the innermost node, or its end.
-fn in_node(tree: &[u8], frames: &mut [usize], at: usize, deep: usize, row: usize) -> Step
-    ensures { λ r. ⌜ (length (now (frames .exit)) ≡ length (now (frames .entry))) × Took (now (tree .entry)) (now (frames .entry)) (now (frames .exit)) (comingFields (now (tree .entry)) (now (frames .entry)) at deep row) at deep r ⌝ }
-{
-    if row == 0 {
-        return close(frames, at, deep, true);
-    }
-    let rest = row / 1024 * 2;
-    let code = row % 512;
-    let class = code / 32;
-    let a = code % 32;
-    match class {
-        1 => enter(tree, frames, at, deep, rest, a),
-        2 => enter(
-            tree,
-            frames,
-            at,
-            deep,
-            rest,
-            plan::choose(tree, a, a + 1, at),
-        ),
-        3 => enter_list(tree, frames, at, deep, rest, a, false),
-        4 => enter_list(tree, frames, at, deep, rest, a, true),
-        5 => after(leaf::text(tree, at), deep, rest),
-        6 => after(leaf::mark(tree, at), deep, rest),
-        7 => after(leaf::byte(tree, 0, a, at), deep, rest),
-        8 => after(leaf::byte(tree, 1, a, at), deep, rest),
-        9 => after(leaf::byte(tree, 2, a, at), deep, rest),
-        _ => after(leaf::number(tree, at), deep, rest),
+    Cursor {
+        at: end,
+        deep: deep,
+        top: top,
     }
 }
 
-// The next item of the innermost list, or its end.
-fn in_list(tree: &[u8], frames: &mut [usize], at: usize, deep: usize, top: usize) -> Step
-    ensures { λ r. ⌜ (length (now (frames .exit)) ≡ length (now (frames .entry))) × Took (now (tree .entry)) (now (frames .entry)) (now (frames .exit)) (comingItems (now (tree .entry)) (now (frames .entry)) at deep (top / 2)) at deep r ⌝ }
+// Where the tour stands after what `look` found.
+pub fn moved(
+    tree: &[u8],
+    frames: &mut [usize],
+    at: usize,
+    deep: usize,
+    rest: usize,
+    what: usize,
+) -> Cursor
+    ensures { λ r. ⌜ (length (now (frames .exit)) ≡ length (now (frames .entry))) × (now (frames .exit) ≡ framesFor (now (frames .entry)) deep rest (what % 16)) × (endFor at (what % 16) (what / 16) ≤ length (now (tree .entry)) → r ≡ cursorFor (now (frames .entry)) at deep rest (what % 16) (what / 16)) ⌝ }
 {
-    let w = top / 2;
-    if w < 64 {
-        return close(frames, at, deep, false);
+    let end = skip::step(tree, at, look::size_of(what));
+    let code = what % 16;
+    let n = what / 16;
+    if code == 1 {
+        return begun(frames, end, deep, rest, n * 2);
     }
-    let rest = (w - 64) * 2 + 1;
-    if w % 2 == 1 {
-        if bytes::peek(tree, at) == 0 {
-            return Step::Next(
-                Event::Hole,
-                Cursor {
-                    at: at + 1,
-                    deep: deep,
-                    top: rest,
-                },
-            );
-        }
+    if code == 2 {
+        return begun(frames, end, deep, rest, n * 2 + 1);
     }
-    enter(tree, frames, at, deep, rest, w / 2 % 32)
+    Cursor {
+        at: end,
+        deep: deep,
+        top: rest,
+    }
 }
 
 // The next event, and where the tour stands then.
@@ -199,8 +102,36 @@ pub fn next(tree: &[u8], frames: &mut [usize], cursor: Cursor) -> Step
     let at = cursor.at;
     let deep = cursor.deep;
     let top = cursor.top;
-    if top % 2 == 0 {
-        return in_node(tree, frames, at, deep, top / 2);
+    if look::is_closed(top) {
+        return close(frames, at, deep, top % 2 == 0);
     }
-    in_list(tree, frames, at, deep, top)
+    let what = look::look(tree, at, top);
+    let c = moved(tree, frames, at, deep, look::rest_of(top), what);
+    let n = what / 16;
+    let code = what % 16;
+    match code {
+        1 => {
+            if deep < frames.len() {
+                Step::Next(
+                    Event::Begins(at, bytes::peek(tree, at), bytes::peek(tree, at + 1)),
+                    c,
+                )
+            } else {
+                Step::Full
+            }
+        }
+        2 => {
+            if deep < frames.len() {
+                Step::Next(Event::Opens(n / 64), c)
+            } else {
+                Step::Full
+            }
+        }
+        3 => Step::Next(Event::Text(at + 2, n), c),
+        4 => Step::Next(Event::Mark(n), c),
+        5 => Step::Next(Event::Byte(n), c),
+        6 => Step::Next(Event::Number(n), c),
+        7 => Step::Next(Event::Hole, c),
+        _ => Step::Refused,
+    }
 }

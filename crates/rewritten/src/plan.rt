@@ -11,17 +11,22 @@ ghost use Rattle.rewritten.specs.Steps.{Planned};
 pub fn plan(row: usize, map: usize) -> usize
     ensures { λ r. ⌜ Planned row map r ⌝ }
 {
-    if row == 0 {
+    if 1152921504606846975 < row {
         return 0;
     }
-    let rest = plan(row / 1024, map / 2);
-    if map % 2 == 0 {
-        return rest;
+    let mut left = row;
+    let mut bits = map;
+    let mut made = 0;
+    let mut scale = 1;
+    while 0 < left {
+        if bits % 2 == 1 {
+            made += scale * (512 + left % 512);
+            scale *= 1024;
+        }
+        left /= 1024;
+        bits /= 2;
     }
-    if 18014398509481983 < rest {
-        return 0;
-    }
-    rest * 1024 + 512 + row % 512
+    made
 }
 
 // The form of a kind at a place in a rewritten tree, 0 where the kind may not stand there.

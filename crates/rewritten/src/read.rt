@@ -1,7 +1,8 @@
 // The reader of rewritten trees: a tour with a table of the marks that were met.
+use crate::look;
 use crate::next;
 use crate::seen;
-use crate::step::Step;
+use crate::step::Cursor;
 ghost use mathlib.Core.Path.{_≡_};
 ghost use Prim.Native.Nat.{_≤_};
 ghost use lib.ListN.{length};
@@ -23,22 +24,27 @@ fn read(tree: &[u8], frames: &mut [usize], seen: &mut [u8]) -> bool
     seen::clear(seen);
     let mut cursor = next::begin();
     loop {
-        match next::next(tree, frames, cursor) {
-            Step::Next(e, c) => {
-                if seen::is_new(seen, e) {
-                    seen::note(seen, e);
-                    cursor = c;
-                } else {
-                    return false;
-                }
+        let at = cursor.at;
+        let deep = cursor.deep;
+        let top = cursor.top;
+        if look::is_closed(top) {
+            if deep == 0 {
+                return at == tree.len();
             }
-            Step::Done => {
-                return cursor.at == tree.len();
-            }
-            Step::Refused => {
+            cursor = Cursor {
+                at: at,
+                deep: deep - 1,
+                top: next::frame_at(frames, deep - 1),
+            };
+        } else {
+            let what = look::look(tree, at, top);
+            if what % 16 == 0 {
                 return false;
             }
-            Step::Full => {
+            if seen::is_new_ahead(seen, what) {
+                seen::note_ahead(seen, what);
+                cursor = next::moved(tree, frames, at, deep, look::rest_of(top), what);
+            } else {
                 return false;
             }
         }

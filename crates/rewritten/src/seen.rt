@@ -2,10 +2,11 @@
 use crate::step::Event;
 ghost use mathlib.Core.Path.{_≡_};
 ghost use mathlib.Core.List.{List};
-ghost use Prim.Native.Nat.{ℕ};
+ghost use Prim.Native.Nat.{ℕ, _/_, _%_};
 ghost use lib.Dec.{eqb};
 ghost use lib.ListN.{length, getD, set};
 ghost use Rattle.rewritten.specs.Steps.{eventIn};
+ghost use Rattle.rewritten.specs.Look.{newFor, notedFor};
 ghost use Rattle.rewritten.specs.Marks.{newIn, noted};
 
 // Every entry 0.
@@ -54,5 +55,30 @@ pub fn note(seen: &mut [u8], e: Event)
             }
         }
         Event::Number(_) => {}
+    }
+}
+
+// Whether what `look` found is no mark that was met.
+pub fn is_new_ahead(seen: &[u8], what: usize) -> bool
+    ensures { λ r. ⌜ r ≡ newFor (now (seen .entry)) (what % 16) (what / 16) ⌝ }
+{
+    if what % 16 == 4 {
+        let n = what / 16;
+        if n < seen.len() {
+            return seen[n] == 0;
+        }
+    }
+    true
+}
+
+// A mark that `look` found is noted.
+pub fn note_ahead(seen: &mut [u8], what: usize)
+    ensures { λ _. ⌜ now (seen .exit) ≡ notedFor (now (seen .entry)) (what % 16) (what / 16) ⌝ }
+{
+    if what % 16 == 4 {
+        let n = what / 16;
+        if n < seen.len() {
+            seen[n] = 1;
+        }
     }
 }

@@ -1,19 +1,20 @@
-use Rattle.rewritten.proofs.Leaves as law
-use lib.ListN.{length}
-use Prim.Native.Nat.{_+_, _<_}
+use Rattle.rewritten.proofs.Ahead as law
 use native.Mathlib.Omega.{arith}
 use borrow.Author.Needs.{needs}
-use Rattle.rewritten.proofs.leaf.byte.Statement.{statement}
-use Rattle.rewritten.proofs.leaf.byte.Tie as tie
-use Rattle.rewritten.proofs.leaf.byte.Reads as reads
-use Rattle.rewritten.proofs.leaf.byte.Lts as lts
+use Rattle.rewritten.proofs.look.byte.Statement.{statement}
+use Rattle.rewritten.proofs.look.byte.Tie as tie
+use Rattle.rewritten.proofs.look.byte.Reads as reads
+use Rattle.rewritten.proofs.look.byte.Lts as lts
 use Rattle.tree.proofs.bytes.peek.Reads as peek-reads
 
 peek-requires : tie.Need-peek-requires
 peek-requires c κs = search needs
 
-add-t10 : tie.Need-add-t10
-add-t10 c = let h : c .before .before .before .before .before .args .at < length (c .before .before .before .before .before .args .tree .now) = c .before .before .before .peek .ensures .within (c .before .before .if1 .taken) in omega arith
+mul-result : tie.Need-mul-result
+mul-result c = search needs
+
+add-result : tie.Need-add-result
+add-result c = search needs
 
 returns : tie.Need-returns
 returns c = law.byte-found _ _ _ _ _ (c .before .before .before .peek .ensures) (c .before .before .if1 .taken) (c .before .if2 .taken) (c .if3 .taken)
@@ -28,4 +29,5 @@ returns-4 : tie.Need-returns-4
 returns-4 c = law.byte-missing _ _ _ _ _ (c .before .peek .ensures) (c .if1 .left)
 
 pub byte-spec : {M : Type 1} → statement M
-byte-spec = tie.close (tie.spec peek-requires add-t10 returns returns-2 returns-3 returns-4)
+byte-spec =
+    tie.close (tie.spec peek-requires mul-result add-result returns returns-2 returns-3 returns-4)
