@@ -94,3 +94,17 @@ without-even r n e =
 pub without-odd : (r : ℕ) → (r ≡ 0 → ⊥) → (r % 2 ≡ 0 → ⊥) → without r ≡ r - 1
 unfolding without pickWithout
 without-odd r n e = without-fuel r (suc r) r (omega arith) (omega arith) ∙ without-step r r ∙ rw (ne-eqb r 0 n, ne-eqb (r % 2) 0 e)
+
+without-under : (f r : ℕ) → withoutFrom f r ≤ r
+unfolding withoutFrom pickWithout
+without-under zero r = omega arith
+without-under (suc f) r = rw (without-step f r) (go (eqb r 0) (eqb (r % 2) 0) (withoutFrom f (r / 2)) (without-under f (r / 2)))
+  where
+    go : (a b : Bool) (x : ℕ) → x ≤ r / 2 → pickWithout a b r x ≤ r
+    go true b x h = omega arith
+    go false true x h = omega arith
+    go false false x h = omega arith
+
+pub without-less : (r : ℕ) → without r ≤ r
+unfolding without
+without-less r = without-under r r

@@ -18,7 +18,7 @@ use Rattle.rewritten.specs.Events.Event.{begins, ends, opens, closes}
 use Rattle.rewritten.specs.Pass.{folded}
 use Rattle.printer.specs.Layout.{word}
 use Rattle.printer.specs.Places.{mannerIn, past, noting, separator, begun, opening, closing, itemSeen, around, listOpening, listed, unlisted, listClosing, isQuasis, isFilled, leaves, textBytes, textPast, isQuasi, numberBytes, fieldIn}
-use Rattle.printer.specs.Text.{Cell, noteOf, cellText, first, later, leftOver, aroundNode, afterPiece, heldNode, heldFields, heldPiece, heldItems, quasisFor, quasisAfter, textNode, textFields, textPiece, textItems, outside}
+use Rattle.printer.specs.Text.{Cell, noteOf, cellText, first, later, leftOver, aroundNode, afterPiece, heldNode, heldFields, heldPiece, heldItems, quasisFor, quasisAfter, textNode, textFields, textPiece, textItems, outside, textOf}
 use Rattle.printer.specs.Text.Cell.{quasi, stop}
 use Rattle.printer.specs.Machine.{Open, Printing, print, cellAt, cellsFrom, stepOver, nextAround, notesNode, notesFields, notesPiece, notesItems}
 use Rattle.printer.specs.declared.frame.Frame.{Frame}
@@ -237,9 +237,6 @@ around-item : (f : Frame) (s : ℕ) (n : Node) → aroundNode (at-item f s) n �
 unfolding around itemSeen listed
 around-item f s (node at kind fs) = refl
 
-outside-next : nextAround outside [] 0 ≡ 0
-outside-next = rw (not-filled outside refl) refl
-
 mutual
   unfolding folded print events eventsFields eventsPiece eventsItems notesNode notesFields notesPiece notesItems heldNode heldFields heldPiece heldItems textNode textFields textPiece textItems around itemSeen listed
 
@@ -292,9 +289,6 @@ mutual
       (append-assoc o (textNode (at-item f s) qs n) (textItems (at-item f 1) (cond (isFilled (at-item f s)) (later qs) qs) is)))
 
 -- the law: the pass over a tree's events, with the bytes of its nodes noted, gives its text
-pub text-folded : (n : Node) → folded print (at outside 0 [] (notesNode n) [] []) (events n) ≡ at (aroundNode outside n) 0 [] [] (heldNode outside n) (textNode outside [] n)
-unfolding isFilled
-text-folded n =
-    ap (λ (l : List ℕ). folded print (at outside 0 [] l [] []) (events n)) (sym (append-nil (notesNode n)))
-    ∙ node-printed n outside 0 [] [] [] [] [] refl
-    ∙ ap (λ (y : ℕ). at (aroundNode outside n) y [] [] (heldNode outside n) (textNode outside [] n)) (outside-next)
+pub text-led : (n : Node) (ns : List ℕ) → (folded print (at outside 0 [] (notesNode n ++ ns) [] []) (events n)) .out ≡ textOf n
+unfolding isFilled textOf
+text-led n ns = ap (λ (s : Printing). s .out) (node-printed n outside 0 [] ns [] [] [] refl)

@@ -1,4 +1,4 @@
--- Laws of the layout: its own bytes are ASCII; references and bindings print their bytes.
+-- Laws of the text: own bytes are ASCII; references and bindings print their bytes; the entry gives the text of a tree.
 -- Assumes nothing.
 use mathlib.Core.Path.{_≡_, refl, sym, ap, _∙_}
 use mathlib.Core.Bool.{Bool, true, false, cond}
@@ -7,9 +7,15 @@ use Prim.Native.Nat.{ℕ, zero, suc, _<_, _≤_}
 use native.Mathlib.Omega.{arith}
 use native.Mathlib.Decide.{decLt}
 use lib.Dec.{T, ltb, eqb}
+use Rattle.tree.specs.Tree.{Node, encode, placed}
+use Rattle.tree.specs.Read.{Got}
 use Rattle.tree.proofs.Table.{below, below-at}
+use Rattle.rewritten.specs.Rewritten.{readRewritten, Rewritten}
+use Rattle.rewritten.proofs.Rewritten.{rewritten-complete}
 use Rattle.printer.specs.Layout.{words, word, choices, chosenWord, layout, leadOf}
 use Rattle.printer.specs.Places.{textBytes, fieldIn}
+use Rattle.printer.specs.Outcome.{fitted, outcome}
+use Rattle.printer.specs.Text.{textOf}
 use Rattle.printer.specs.declared.frame.Frame.{Frame}
 use Rattle.printer.proofs.Tables.{word-none}
 
@@ -37,3 +43,7 @@ names-print f bs e = rw e
 pub bindings-print : (f : Frame) (bs : List ℕ) → (f .kind ≡ 19) → textBytes f bs ≡ bs
 unfolding textBytes chosenWord choices leadOf layout word words
 bindings-print f bs e = rw e
+
+-- the entry and the definition: what is handed back for the bytes of a rewritten tree is its text (for any bytes: the contract of rest_spread_text)
+pub text-is : (n : Node) → Rewritten n → (size : ℕ) → outcome (readRewritten (encode n)) size ≡ fitted size (textOf (placed n 0))
+text-is n w size = ap (λ (g : Got Node). outcome g size) (rewritten-complete n w)

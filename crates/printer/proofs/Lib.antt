@@ -6,6 +6,13 @@ pub mod Around
 pub mod Written
 pub mod Named
 pub mod Held
+pub mod Collecting
+pub mod Turning
+pub mod Going
+pub mod Entry
+pub mod Spelling
 pub mod Laws
+pub mod Most
+pub mod Nine
 pub mod Apart
 pub mod Children

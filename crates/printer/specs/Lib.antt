@@ -6,5 +6,7 @@ pub mod Machine
 pub mod Rows
 pub mod Stacks
 pub mod Turns
+pub mod Noted
+pub mod Outcome
 pub mod Children
 pub mod Examples

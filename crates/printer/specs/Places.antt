@@ -93,12 +93,12 @@ trailing p statement =
 unfoldable pub following : Frame → ℕ → ℕ → ℕ → ℕ
 following p kind map note = wrapping p kind map note + trailing p (isStatement kind note)
 
--- 1 in the head of a loop, 2 for a quasi
-unfoldable pub notedAt : Frame → ℕ
-notedAt p = cond (eqb (mannerIn p) headed) 1 (cond (eqb (mannerIn p) quoted) 2 0)
+-- 1 for a Declaration in the head of a loop, 2 for a quasi
+unfoldable pub notedAt : Frame → ℕ → ℕ
+notedAt p kind = cond (eqb (mannerIn p) headed) (cond (eqb kind 4) 1 0) (cond (eqb (mannerIn p) quoted) 2 0)
 
 unfoldable pub begun : Frame → ℕ → ℕ → ℕ → Frame
-begun p kind map note = record { kind = kind; map = map; note = note; how = following p kind map note; seen = notedAt p; rem = map; list = 0 }
+begun p kind map note = record { kind = kind; map = map; note = note; how = following p kind map note; seen = notedAt p kind; rem = map; list = 0 }
 
 -- `[` before a computed key
 unfoldable pub computed : ℕ → ℕ → ℕ
@@ -110,7 +110,7 @@ opening p kind map note quasi =
     ++ (quasi
     ++ (word (joining p kind note)
     ++ (word (cond (eqb (wrapping p kind map note) 1) 64 0)
-    ++ (word (chosenWord (headOf kind) note map (notedAt p) (inMethodForm p kind map)) ++ word (computed kind note)))))
+    ++ (word (chosenWord (headOf kind) note map (notedAt p kind) (inMethodForm p kind map)) ++ word (computed kind note)))))
 
 unfoldable pub closing : Frame → List ℕ
 closing f = word (chosenWord (tailOf (f .kind)) (f .note) (f .map) (f .seen) 0) ++ word (f .how)
@@ -158,8 +158,12 @@ literalText f [] =
     []
 literalText f (b ∷ bs) = cond (eqb (f .seen) 0) (cond (eqb (fieldIn f) 1) (b ∷ bs) (inQuotes (b ∷ bs))) []
 
+-- `["..."]`
+abbrev pub memberQuoted : List ℕ → List ℕ
+memberQuoted bs = 91 ∷ (inQuotes bs ++ (93 ∷ []))
+
 unfoldable pub memberName : List ℕ → List ℕ
-memberName bs = cond (bare bs) (46 ∷ bs) (91 ∷ (inQuotes bs ++ (93 ∷ [])))
+memberName bs = cond (bare bs) (46 ∷ bs) (memberQuoted bs)
 
 unfoldable pub keyName : List ℕ → List ℕ
 keyName bs = cond (bare bs) bs (inQuotes bs)

@@ -59,6 +59,10 @@ bytesFrom (suc f) w = elim (eqb w 0) [ true ↦ [] | false ↦ (w % 256) ∷ byt
 unfoldable pub bytesIn : ℕ → List ℕ
 bytesIn w = bytesFrom w w
 
+abbrev pub isEmpty : List ℕ → Bool
+isEmpty [] = true
+isEmpty (b ∷ bs) = false
+
 -- the end of a part of a list: what is past the list's end does not count
 pub record EndIs (l : List ℕ) (at n r : ℕ) : Type 0 where
   pub low : at ≤ r

@@ -149,12 +149,15 @@ pub fn following(p: Frame, kind: usize, map: usize, note: usize) -> usize
     wrapping(p, kind, map, note) + trail(p, is_statement(kind, note))
 }
 
-pub fn noted_at(p: Frame) -> usize
-    ensures { λ r. ⌜ (r ≡ notedAt p) × (r ≤ 2) ⌝ }
+pub fn noted_at(p: Frame, kind: usize) -> usize
+    ensures { λ r. ⌜ (r ≡ notedAt p kind) × (r ≤ 2) ⌝ }
 {
     let m = manner_in(p);
     if m == 9 {
-        return 1;
+        if kind == 4 {
+            return 1;
+        }
+        return 0;
     }
     if m == 10 {
         return 2;
@@ -166,7 +169,7 @@ pub fn begun(p: Frame, kind: usize, map: usize, note: usize) -> Frame
     ensures { λ r. ⌜ (r ≡ begun p kind map note) × (r .how ≤ 63) × (r .seen ≤ 2) ⌝ }
 {
     let how = following(p, kind, map, note);
-    let seen = noted_at(p);
+    let seen = noted_at(p, kind);
     Frame {
         kind: kind,
         map: map,
@@ -179,13 +182,13 @@ pub fn begun(p: Frame, kind: usize, map: usize, note: usize) -> Frame
 }
 
 pub fn head_word(p: Frame, kind: usize, map: usize, note: usize) -> usize
-    ensures { λ r. ⌜ r ≡ chosenWord (headOf kind) note map (notedAt p) (inMethodForm p kind map) ⌝ }
+    ensures { λ r. ⌜ r ≡ chosenWord (headOf kind) note map (notedAt p kind) (inMethodForm p kind map) ⌝ }
 {
     layout::choose(
         layout::head(kind),
         note,
         map,
-        noted_at(p),
+        noted_at(p, kind),
         method(p, kind, map),
     )
 }

@@ -13,20 +13,21 @@ use Rattle.printer.proofs.places.manner_in.Reads as manner-in-reads
 manner-in-requires : tie.Need-manner-in-requires
 manner-in-requires c κs = search needs
 
--- src/places.rt:156:9
 returns : tie.Need-returns
 unfolding notedAt
-returns c = (rw (eq-eqb _ _ (sym (c .before .manner-in .ensures) ∙ c .if1 .taken)), omega arith)
+returns c = (rw (eq-eqb _ _ (sym (c .before .before .manner-in .ensures) ∙ c .before .if1 .taken), eq-eqb _ _ (c .if2 .taken)), omega arith)
 
--- src/places.rt:159:9
 returns-2 : tie.Need-returns-2
 unfolding notedAt
-returns-2 c = (rw (ne-eqb _ _ (λ e. c .before .if1 .left (c .before .before .manner-in .ensures ∙ e)), eq-eqb _ _ (sym (c .before .before .manner-in .ensures) ∙ c .if2 .taken)), omega arith)
+returns-2 c = (rw (eq-eqb _ _ (sym (c .before .before .manner-in .ensures) ∙ c .before .if1 .taken), ne-eqb _ _ (c .if2 .left)), omega arith)
 
--- src/places.rt:151:1
 returns-3 : tie.Need-returns-3
 unfolding notedAt
-returns-3 c = (rw (ne-eqb _ _ (λ e. c .before .if1 .left (c .before .before .manner-in .ensures ∙ e)), ne-eqb _ _ (λ e. c .if2 .left (c .before .before .manner-in .ensures ∙ e))), omega arith)
+returns-3 c = (rw (ne-eqb _ _ (λ e. c .before .if1 .left (c .before .before .manner-in .ensures ∙ e)), eq-eqb _ _ (sym (c .before .before .manner-in .ensures) ∙ c .if3 .taken)), omega arith)
+
+returns-4 : tie.Need-returns-4
+unfolding notedAt
+returns-4 c = (rw (ne-eqb _ _ (λ e. c .before .if1 .left (c .before .before .manner-in .ensures ∙ e)), ne-eqb _ _ (λ e. c .if3 .left (c .before .before .manner-in .ensures ∙ e))), omega arith)
 
 pub noted-at-spec : {M : Type 1} → statement M
-noted-at-spec = tie.close (tie.spec manner-in-requires returns returns-2 returns-3)
+noted-at-spec = tie.close (tie.spec manner-in-requires returns returns-2 returns-3 returns-4)
