@@ -16,7 +16,7 @@ use Rattle.rewritten.specs.Steps.{start, eventIn}
 use Rattle.rewritten.specs.declared.step.Cursor.{Cursor}
 use Rattle.rewritten.specs.declared.step.Event as told
 use Rattle.rewritten.proofs.Rewritten.{checked-got}
-use Rattle.ordering.specs.Verdicts.{orElse, isEqual, lexical}
+use Rattle.ordering.specs.Verdicts.{orElse, isEqual, lexical, byText}
 use Rattle.ordering.specs.Order.{order, byEvent, firstDifference, placedAll}
 use Rattle.ordering.specs.Sides.{Within, Coming, Went, Moved}
 use Rattle.ordering.specs.Outcome.{pairOf, isRefused, answerOf}
@@ -29,7 +29,8 @@ use Rattle.ordering.specs.declared.compare.Pair.{Pair}
 use Rattle.ordering.specs.declared.compare.Pair.the-variants.{Both, Over}
 use Rattle.ordering.specs.declared.compare.Answer.{Answer}
 use Rattle.ordering.specs.declared.compare.Answer.the-variants.{Said, Refused}
-use Rattle.ordering.proofs.Order.{order-events}
+use Rattle.ordering.proofs.Order.{order-events, equal-self}
+use Rattle.ordering.proofs.Laws.{text-same}
 use Rattle.ordering.proofs.Sides.{fresh, side-start}
 
 -- ---- what was read
@@ -80,6 +81,29 @@ read-as l e = go (readRewritten l) refl e
     go : (g : Got Node) → readRewritten l ≡ g → isGot g ≡ true → ReadAs l
     go (got n q k) w t = record { tree = n; end = q; next = k; is = w }
     go (refused r) w t = absurd (never t)
+
+-- the same bytes are the same tree
+module _ (l k : List ℕ) (v : Verdict) (is : v ≡ byText l k) (e : isEqual v ≡ true) (a : Bool) (read : a ≡ isRewritten l) where
+  same-bytes : l ≡ k
+  same-bytes = text-same l k (sym is ∙ equal-verdict v e)
+    where
+      equal-verdict : (v : Verdict) → isEqual v ≡ true → v ≡ Equal
+      equal-verdict Less t = absurd (never t)
+      equal-verdict Equal t = refl
+      equal-verdict Greater t = absurd (never t)
+
+  pub same-equal : a ≡ true → Said Equal ≡ answerOf (readRewritten l) (readRewritten k)
+  same-equal t =
+      let r : ReadAs l = read-as l (sym read ∙ t) in
+      rw (sym same-bytes, r .is) (ap Said (sym (equal-self (r .tree))))
+
+  pub same-refused : a ≡ false → Refused ≡ answerOf (readRewritten l) (readRewritten k)
+  unfolding isRewritten
+  same-refused t = rw (sym same-bytes) (go (readRewritten l) (sym read ∙ t))
+    where
+      go : (g : Got Node) → isGot g ≡ false → Refused ≡ answerOf g g
+      go (got n q j) w = absurd (never (sym w))
+      go (refused r) w = refl
 
 -- ---- two sides
 

@@ -4,6 +4,7 @@ use crate::place;
 use crate::side;
 use crate::side::Move;
 use crate::side::Side;
+use crate::text;
 use crate::verdict;
 use crate::verdict::Verdict;
 use rewritten::next;
@@ -112,8 +113,8 @@ fn compare(
     }
 }
 
-// The order of two trees, of the first against the second.
-pub fn order(first: &[u8], second: &[u8]) -> Answer
+// The order of two trees by their tours.
+fn by_tours(first: &[u8], second: &[u8]) -> Answer
     ensures { λ r. ⌜ r ≡ answerOf (readRewritten (now (first .entry))) (readRewritten (now (second .entry))) ⌝ }
 {
     let mut frames: [usize; 16384] = [0; 16384];
@@ -128,4 +129,17 @@ pub fn order(first: &[u8], second: &[u8]) -> Answer
         &mut table,
         &mut places,
     )
+}
+
+// The order of two trees, of the first against the second. The same bytes are read once, and no tour is needed.
+pub fn order(first: &[u8], second: &[u8]) -> Answer
+    ensures { λ r. ⌜ r ≡ answerOf (readRewritten (now (first .entry))) (readRewritten (now (second .entry))) ⌝ }
+{
+    if verdict::is_equal(text::by_bytes(first, second)) {
+        if read::is_rewritten(first) {
+            return Answer::Said(Verdict::Equal);
+        }
+        return Answer::Refused;
+    }
+    by_tours(first, second)
 }

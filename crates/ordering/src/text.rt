@@ -1,42 +1,48 @@
 // Texts by byte value.
 use crate::verdict::Verdict;
-use tree::bytes;
 ghost use mathlib.Core.Path.{_≡_};
 ghost use Prim.Native.Nat.{_+_, _≤_};
 ghost use lib.ListN.{length, take, drop};
 ghost use Rattle.ordering.specs.Verdicts.{byText};
 
-// The n bytes from `at` on against the m from `start` on, if there are so many.
-pub fn by_text(first: &[u8], at: usize, n: usize, second: &[u8], start: usize, m: usize) -> Verdict
-    ensures { λ r. ⌜ (at + n ≤ length (now (first .entry)) → start + m ≤ length (now (second .entry)) → r ≡ byText (take n (drop at (now (first .entry)))) (take m (drop start (now (second .entry))))) ⌝ }
+// All bytes of the first against all of the second.
+pub fn by_bytes(first: &[u8], second: &[u8]) -> Verdict
+    ensures { λ r. ⌜ r ≡ byText (now (first .entry)) (now (second .entry)) ⌝ }
 {
-    let mut i = at;
-    let mut j = start;
-    let mut left = n;
-    let mut right = m;
-    while 0 < left {
-        if right == 0 {
+    let mut i = 0;
+    while i < first.len() {
+        if second.len() <= i {
             return Verdict::Greater;
         }
-        let b = bytes::peek(first, i);
-        let c = bytes::peek(second, j);
+        let b = first[i];
+        let c = second[i];
         if b < c {
             return Verdict::Less;
         }
         if c < b {
             return Verdict::Greater;
         }
-        if 255 < b {
-            return Verdict::Equal;
-        }
         i += 1;
-        j += 1;
-        left -= 1;
-        right -= 1;
     }
-    if right == 0 {
-        Verdict::Equal
-    } else {
+    if i < second.len() {
         Verdict::Less
+    } else {
+        Verdict::Equal
     }
+}
+
+// The n bytes from `at` on against the m from `start` on, if there are so many.
+pub fn by_text(first: &[u8], at: usize, n: usize, second: &[u8], start: usize, m: usize) -> Verdict
+    ensures { λ r. ⌜ (at + n ≤ length (now (first .entry)) → start + m ≤ length (now (second .entry)) → r ≡ byText (take n (drop at (now (first .entry)))) (take m (drop start (now (second .entry))))) ⌝ }
+{
+    if at <= first.len() {
+        if n <= first.len() - at {
+            if start <= second.len() {
+                if m <= second.len() - start {
+                    return by_bytes(&first[at..at + n], &second[start..start + m]);
+                }
+            }
+        }
+    }
+    Verdict::Equal
 }

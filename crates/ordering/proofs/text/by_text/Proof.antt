@@ -1,83 +1,80 @@
-use lib.ListN.{length}
-use Prim.Native.Nat.{_<_}
-use Rattle.ordering.proofs.Texts as law
+use Rattle.ordering.specs.Verdicts.{byText}
+use lib.ListN.{take, drop}
+use Prim.Native.Nat.{ℕ, _+_, _-_}
+use mathlib.Core.Path.{_≡_, ap₂, _∙_}
 use native.Mathlib.Omega.{arith}
 use borrow.Author.Needs.{needs}
 use Rattle.ordering.proofs.text.by_text.Statement.{statement}
 use Rattle.ordering.proofs.text.by_text.Tie as tie
 use Rattle.ordering.proofs.text.by_text.Reads as reads
 use Rattle.ordering.proofs.text.by_text.Lts as lts
-use Rattle.tree.proofs.bytes.peek.Reads as peek-reads
+use Rattle.ordering.proofs.text.by_bytes.Reads as by-bytes-reads
 
-abbrev Inv-loop : tie.InvT-loop
-Inv-loop first at n second start m i₀ j₀ left₀ right₀ i j left right = law.Along first second at n start m i j left right
+sub-if2 : tie.Need-sub-if2
+sub-if2 c = search needs
 
-abbrev μ-loop : tie.MeasureT-loop
-μ-loop first at n second start m i₀ j₀ left₀ right₀ i j left right = left
+sub-if4 : tie.Need-sub-if4
+sub-if4 c = search needs
 
-loop-holds : tie.Need-loop-holds Inv-loop μ-loop
-loop-holds c = law.along-start _ _ _ _ _ _
+add-by-bytes : tie.Need-add-by-bytes
+add-by-bytes c = search needs
 
-returns : tie.Need-returns Inv-loop μ-loop
-returns c = law.along-short _ _ _ _ _ _ _ _ _ _ (c .before .before .loop .inv) (c .before .loop-test .taken) (c .if1 .taken)
+sub-by-bytes : tie.Need-sub-by-bytes
+sub-by-bytes c = search needs
 
-peek-requires : tie.Need-peek-requires Inv-loop μ-loop
-peek-requires c κs = tt
+part-by-bytes-start : tie.Need-part-by-bytes-start
+part-by-bytes-start c = search needs
 
-peek-requires-2 : tie.Need-peek-requires-2 Inv-loop μ-loop
-peek-requires-2 c κs = tt
+part-by-bytes-end : tie.Need-part-by-bytes-end
+part-by-bytes-end c = search needs
 
-returns-2 : tie.Need-returns-2 Inv-loop μ-loop
-returns-2 c = law.along-less _ _ _ _ _ _ _ _ _ _ (c .before .before .before .before .before .loop .inv) (c .before .before .before .before .loop-test .taken) (c .before .before .before .if1 .left) _ _ (c .before .before .peek .ensures) (c .before .peek2 .ensures) (c .if2 .taken)
+add-by-bytes-2 : tie.Need-add-by-bytes-2
+add-by-bytes-2 c = search needs
 
-returns-3 : tie.Need-returns-3 Inv-loop μ-loop
-returns-3 c = law.along-greater _ _ _ _ _ _ _ _ _ _ (c .before .before .before .before .before .before .loop .inv) (c .before .before .before .before .before .loop-test .taken) (c .before .before .before .before .if1 .left) _ _ (c .before .before .before .peek .ensures) (c .before .before .peek2 .ensures) (c .if3 .taken)
+sub-by-bytes-2 : tie.Need-sub-by-bytes-2
+sub-by-bytes-2 c = search needs
 
-returns-4 : tie.Need-returns-4 Inv-loop μ-loop
-returns-4 c = law.along-past _ _ _ _ _ _ _ _ _ _ (c .before .before .before .before .before .before .before .loop .inv) (c .before .before .before .before .before .before .loop-test .taken) (c .before .before .before .before .before .if1 .left) _ _ (c .before .before .before .before .peek .ensures) (c .before .before .before .peek2 .ensures) (c .if4 .taken)
+part-by-bytes-start-2 : tie.Need-part-by-bytes-start-2
+part-by-bytes-start-2 c = search needs
 
-add-i : tie.Need-add-i Inv-loop μ-loop
-add-i c = let h : c .before .before .before .before .before .before .before .loop .i < length (c .before .before .before .before .before .before .before .before .before .before .args .first .now) = c .before .before .before .before .peek .ensures .within (omega (arith, c .if4 .left)) in omega arith
+part-by-bytes-end-2 : tie.Need-part-by-bytes-end-2
+part-by-bytes-end-2 c = search needs
 
-add-j : tie.Need-add-j Inv-loop μ-loop
-add-j c = let h : c .before .before .before .before .before .before .before .loop .j < length (c .before .before .before .before .before .before .before .before .before .before .args .second .now) = c .before .before .before .peek2 .ensures .within (omega (arith, c .if4 .left, c .before .before .if2 .left)) in omega arith
+by-bytes-requires : tie.Need-by-bytes-requires
+by-bytes-requires c κs = search needs
 
-sub-left : tie.Need-sub-left Inv-loop μ-loop
-sub-left c = c .before .before .before .before .before .before .loop-test .taken
+returns : tie.Need-returns
+returns c = λ _ _. let e : c .before .before .before .before .before .before .before .before .before .args .at + c .before .before .before .before .before .before .before .before .before .args .n - c .before .before .before .before .before .before .before .before .before .args .at ≡ c .before .before .before .before .before .before .before .before .before .args .n = omega arith in let f : c .before .before .before .before .before .before .before .before .before .args .start + c .before .before .before .before .before .before .before .before .before .args .m - c .before .before .before .before .before .before .before .before .before .args .start ≡ c .before .before .before .before .before .before .before .before .before .args .m = omega arith in c .by-bytes .ensures ∙ ap₂ (λ (x y : ℕ). byText (take x (drop (c .before .before .before .before .before .before .before .before .before .args .at) (c .before .before .before .before .before .before .before .before .before .args .first .now))) (take y (drop (c .before .before .before .before .before .before .before .before .before .args .start) (c .before .before .before .before .before .before .before .before .before .args .second .now)))) e f
 
-sub-right : tie.Need-sub-right Inv-loop μ-loop
-sub-right c = omega (arith, c .before .before .before .before .before .if1 .left)
+returns-2 : tie.Need-returns-2
+returns-2 c = λ g h. absurd (omega (arith, h, c .if4 .left))
 
-loop-less : tie.Need-loop-less Inv-loop μ-loop
-loop-less c = omega (arith, c .before .before .before .before .before .before .loop-test .taken)
+returns-3 : tie.Need-returns-3
+returns-3 c = λ g h. absurd (omega (arith, h, c .if3 .left))
 
-loop-again : tie.Need-loop-again Inv-loop μ-loop
-loop-again c = law.along-next _ _ _ _ _ _ _ _ _ _ (c .before .before .before .before .before .before .before .loop .inv) (c .before .before .before .before .before .before .loop-test .taken) (c .before .before .before .before .before .if1 .left) _ _ (c .before .before .before .before .peek .ensures) (c .before .before .before .peek2 .ensures) (c .before .before .if2 .left) (c .before .if3 .left)
+returns-4 : tie.Need-returns-4
+returns-4 c = λ g h. absurd (omega (arith, g, c .if2 .left))
 
-returns-5 : tie.Need-returns-5 Inv-loop μ-loop
-returns-5 c = law.along-end _ _ _ _ _ _ _ _ _ _ (c .before .before .loop .inv) (c .before .loop-test .left) (c .if5 .taken)
-
-returns-6 : tie.Need-returns-6 Inv-loop μ-loop
-returns-6 c = law.along-longer _ _ _ _ _ _ _ _ _ _ (c .before .before .loop .inv) (c .before .loop-test .left) (c .if5 .left)
+returns-5 : tie.Need-returns-5
+returns-5 c = λ g h. absurd (omega (arith, g, c .if1 .left))
 
 pub by-text-spec : {M : Type 1} → statement M
 by-text-spec =
     tie.close
     (tie.spec
-    Inv-loop
-    μ-loop
-    loop-holds
+    sub-if2
+    sub-if4
+    add-by-bytes
+    sub-by-bytes
+    part-by-bytes-start
+    part-by-bytes-end
+    add-by-bytes-2
+    sub-by-bytes-2
+    part-by-bytes-start-2
+    part-by-bytes-end-2
+    by-bytes-requires
     returns
-    peek-requires
-    peek-requires-2
     returns-2
     returns-3
     returns-4
-    add-i
-    add-j
-    sub-left
-    sub-right
-    loop-less
-    loop-again
-    returns-5
-    returns-6)
+    returns-5)
