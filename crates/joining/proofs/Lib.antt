@@ -1,0 +1,15 @@
+pub mod Tables
+pub mod Writing
+pub mod Changes
+pub mod Agree
+pub mod Times
+pub mod Walk
+pub mod Filing
+pub mod Collecting
+pub mod Listing
+pub mod Settling
+pub mod Handed
+pub mod Written
+pub mod Answering
+pub mod Fresh
+pub mod Unmoved

@@ -1,0 +1,12 @@
+pub mod List
+pub mod Join
+pub mod Tables
+pub mod Writing
+pub mod Changes
+pub mod Without
+pub mod Spots
+pub mod Files
+pub mod Entries
+pub mod Settle
+pub mod Answer
+pub mod Examples

@@ -1,0 +1,206 @@
+// A tour of the tree: its marks, its containers' lists and their statements.
+use crate::table;
+use rewritten::next;
+use rewritten::seen;
+use rewritten::step::Event;
+use rewritten::step::Step;
+ghost use mathlib.Core.Path.{_≡_};
+ghost use mathlib.Core.List.{List};
+ghost use mathlib.Core.Bool.{cond};
+ghost use Prim.Native.Nat.{ℕ, _+_, _<_, _≤_};
+ghost use lib.Dec.{ltb};
+ghost use lib.ListN.{length, getD};
+ghost use Rattle.joining.specs.Join.{isContainer};
+ghost use Rattle.joining.specs.Tables.{stored};
+ghost use Rattle.joining.specs.Files.{shelf, added, Ready, Collected};
+ghost use Rattle.tree.specs.Tree.{Node};
+ghost use Rattle.tree.specs.Read.{readTree};
+ghost use Rattle.tree.specs.Read.Got.{got};
+ghost use Rattle.tree.specs.Grammar.Stage.{rewritten};
+ghost use Rattle.rewritten.specs.declared.step.Event.the-variants.{Opens, Mark};
+
+// 1 for Program, Block, FunctionBody, StaticBlock, Case.
+fn container(kind: usize) -> usize
+    ensures { λ r. ⌜ r ≡ cond (isContainer kind) 1 0 ⌝ }
+{
+    if kind == 1 {
+        return 1;
+    }
+    if kind == 2 {
+        return 1;
+    }
+    if kind == 16 {
+        return 1;
+    }
+    if kind == 42 {
+        return 1;
+    }
+    if kind == 44 {
+        return 1;
+    }
+    0
+}
+
+// The last of the containers' lists; the item of one that has just begun, else 0.
+pub struct Bodies {
+    pub latest: usize,
+    pub begun: usize,
+}
+
+// A node. Around its fields stands 1 if it is a container. Returns its position if it is an item of a container's list.
+fn begin(around: &mut [u16], kind: usize, at: usize, deep: usize) -> usize
+    requires { ⌜ deep < 65536 ⌝ }
+    ensures { λ r. ⌜ (now (around .exit) ≡ stored (now (around .entry)) (deep + 1) (cond (isContainer kind) 1 0)) × (r ≡ cond (ltb 1 (getD (now (around .entry)) deep 0)) at 0) ⌝ }
+{
+    let list = table::at(around, deep);
+    table::put(around, deep + 1, container(kind));
+    if 1 < list { at } else { 0 }
+}
+
+// A list. Around its items stands its position if it is a container's; then it knows the one before it, and has no statement yet. Returns the latest.
+fn enter(
+    around: &mut [u16],
+    earlier: &mut [u16],
+    holds: &mut [u16],
+    latest: usize,
+    at: usize,
+    deep: usize,
+) -> usize
+    requires { ⌜ deep < 65536 ⌝ }
+    ensures { λ r. ⌜ ((b : List ℕ) (g n : ℕ) → shelf (now (around .exit)) (now (earlier .exit)) (now (holds .exit)) b r 0 ≡ added (shelf (now (around .entry)) (now (earlier .entry)) (now (holds .entry)) b latest g) at deep (Opens n)) ⌝ }
+{
+    if table::at(around, deep) == 1 {
+        table::put(around, deep + 1, at);
+        table::put(earlier, at, latest);
+        table::put(holds, at, 0);
+        return at;
+    }
+    table::put(around, deep + 1, 0);
+    latest
+}
+
+// A mark: that of the item that has just begun. It becomes the last statement of its list, and knows the one before it.
+fn mark(around: &[u16], holds: &mut [u16], before: &mut [u16], begun: usize, deep: usize)
+    ensures { λ _. ⌜ ((e : List ℕ) (l at m : ℕ) → shelf (now (around .entry)) e (now (holds .exit)) (now (before .exit)) l 0 ≡ added (shelf (now (around .entry)) e (now (holds .entry)) (now (before .entry)) l begun) at deep (Mark m)) ⌝ }
+{
+    if 0 < begun {
+        if 0 < deep {
+            let list = table::at(around, deep - 1);
+            table::put(before, begun, table::at(holds, list));
+            table::put(holds, list, begun);
+        }
+    }
+}
+
+// What an event at a position adds, with `deep` frames open before it.
+fn add(
+    around: &mut [u16],
+    earlier: &mut [u16],
+    holds: &mut [u16],
+    before: &mut [u16],
+    bodies: Bodies,
+    at: usize,
+    deep: usize,
+    e: Event,
+) -> Bodies
+    requires { ⌜ deep < 65536 ⌝ }
+    ensures { λ r. ⌜ shelf (now (around .exit)) (now (earlier .exit)) (now (holds .exit)) (now (before .exit)) (r .latest) (r .begun) ≡ added (shelf (now (around .entry)) (now (earlier .entry)) (now (holds .entry)) (now (before .entry)) (bodies .latest) (bodies .begun)) at deep e ⌝ }
+{
+    let latest = bodies.latest;
+    match e {
+        Event::Begins(_, kind, _) => {
+            let begun = begin(around, kind, at, deep);
+            Bodies {
+                latest: latest,
+                begun: begun,
+            }
+        }
+        Event::Opens(_) => {
+            let last = enter(around, earlier, holds, latest, at, deep);
+            Bodies {
+                latest: last,
+                begun: 0,
+            }
+        }
+        Event::Mark(_) => {
+            mark(around, holds, before, bodies.begun, deep);
+            Bodies {
+                latest: latest,
+                begun: 0,
+            }
+        }
+        Event::Ends => Bodies {
+            latest: latest,
+            begun: 0,
+        },
+        Event::Closes => Bodies {
+            latest: latest,
+            begun: 0,
+        },
+        Event::Hole => Bodies {
+            latest: latest,
+            begun: 0,
+        },
+        Event::Text(_, _) => Bodies {
+            latest: latest,
+            begun: 0,
+        },
+        Event::Byte(_) => Bodies {
+            latest: latest,
+            begun: 0,
+        },
+        Event::Number(_) => Bodies {
+            latest: latest,
+            begun: 0,
+        },
+    }
+}
+
+// Of a tree that was read. Returns the last of the containers' lists.
+pub fn collect(
+    tree: &[u8],
+    frames: &mut [usize],
+    seen: &mut [u8],
+    around: &mut [u16],
+    earlier: &mut [u16],
+    holds: &mut [u16],
+    before: &mut [u16],
+) -> usize
+    ensures { λ r. ⌜ ((n : Node) (q k : ℕ) → readTree rewritten (length (now (tree .entry))) (now (tree .entry)) ≡ got n q k → Ready (now (frames .entry)) (now (seen .entry)) (now (around .entry)) (now (earlier .entry)) (now (holds .entry)) (now (before .entry)) → Collected (now (tree .entry)) (now (seen .exit)) (now (earlier .exit)) (now (holds .exit)) (now (before .exit)) r n) ⌝ }
+{
+    if 32768 < tree.len() {
+        return 0;
+    }
+    let mut cursor = next::begin();
+    let mut bodies = Bodies {
+        latest: 0,
+        begun: 0,
+    };
+    loop {
+        match next::next(tree, frames, cursor) {
+            Step::Next(e, c) => {
+                seen::note(seen, e);
+                bodies = add(
+                    around,
+                    earlier,
+                    holds,
+                    before,
+                    bodies,
+                    cursor.at,
+                    cursor.deep,
+                    e,
+                );
+                cursor = c;
+            }
+            Step::Done => {
+                return bodies.latest;
+            }
+            Step::Refused => {
+                return 0;
+            }
+            Step::Full => {
+                return 0;
+            }
+        }
+    }
+}
