@@ -1,0 +1,321 @@
+-- What is handed back is a tree of the rewritten stage, in which nothing is left but the exceptions, and a list by its layout.
+-- Assumes nothing.
+use mathlib.Core.Path.{_≡_, refl, sym, ap, subst, _∙_}
+use mathlib.Core.Bool.{Bool, true, false, cond, not, _||_, true≢false}
+use mathlib.Core.List.{List, [], _∷_, _++_}
+use Prim.Native.Nat.{ℕ, zero, suc, _+_, _*_, _<_, _≤_, min}
+use native.Mathlib.Omega.{arith}
+use native.Mathlib.Nat.{add-comm}
+use lib.Dec.{eqb, ltb}
+use lib.ListN.{length, length-append}
+use borrow.Author.Tests.{ltb-false}
+use Rattle.tree.specs.Tree.{Node, Fields, Piece, Items, depth, wideBytes, encode, encodeFields, encodePiece, encodeItems, marks, marksFields, marksPiece, marksItems, placed}
+use Rattle.tree.specs.Tree.Node.{node}
+use Rattle.tree.specs.Tree.Piece.{list}
+use Rattle.tree.specs.Grammar.{root, among}
+use Rattle.tree.specs.Grammar.Stage.{input, rewritten}
+use Rattle.tree.specs.Read.{Got, readTree}
+use Rattle.tree.specs.Read.Got.{got, refused}
+use Rattle.tree.specs.WellFormed.{Bytes, Counts, WellFormed}
+use Rattle.tree.proofs.Sound.{sound}
+use Rattle.tree.proofs.Complete.{complete}
+use Rattle.tree.proofs.Limit.{tree-raised}
+use Rattle.rewritten.proofs.Deep.{tree-never-too-deep}
+use Rattle.lowering.specs.Walk.{Walked}
+use Rattle.lowering.specs.Weight.{walked}
+use Rattle.lowering.specs.Collect.{Name, same, Entry, over, nodes, nodesItems, listNodes, nameAt, namesOf, distinct, numberIn, numbered, numberedItems, bare, newIn, visits, entries, excludedIn, firstRefusal, helperMask, listBytes}
+use Rattle.lowering.specs.Answer.{Lent, Result, fits, fitted, collected, afterWalk, afterReading, inForce, lowering, top, outcome, outcomeOf}
+use Rattle.lowering.specs.Answer.Result.{refusal, lowered}
+use Rattle.lowering.specs.Refusals.{limitOutside, unknownOptions, smallWork, tooLong, isRefusal}
+use Rattle.lowering.proofs.Answers.{InTable, in-table}
+use Rattle.lowering.proofs.Cases.{by-test, or-left, or-right, not-true}
+use Rattle.lowering.proofs.Order.{by-order}
+use Rattle.equal.specs.Canonical.{Written, eachEntry}
+use Rattle.equal.specs.Equal.{entryEncoded, listEncoded}
+use Rattle.equal.specs.Results.{writtenBy, resultBy, ownNames, treeOf, entriesOf, excludedOf}
+use Rattle.equal.proofs.One.{list-bytes}
+use Rattle.result.specs.List.{FitDeclarators, FitEntries, FitList}
+use Rattle.result.specs.Left.{NothingLeft}
+use Rattle.result.specs.Leftover.{restLeft, leftIn, leftover}
+use Rattle.result.specs.Whole.{resultOf, LoweredRewritten}
+use Rattle.result.proofs.Lies.{Lies, LieItems, input-lies}
+use Rattle.result.proofs.Comes.{Comes, walked-comes}
+use Rattle.result.proofs.Bounds.{Small, names, names-append, walked-few, distinct-most, number-most}
+use Rattle.result.proofs.Fitting.{fit}
+use Rattle.result.proofs.Standing.{no-spread}
+use Rattle.result.proofs.Places.{isOutside}
+use Rattle.result.proofs.Resting.{rests-remain}
+use Rattle.result.proofs.Handing.{AllHand, EntriesLie, walked-hands, entries-lie, excluded-lie}
+use Rattle.result.proofs.Numbering.{few-items, declarators-fit, entries-fit}
+
+-- ---- marks take bytes
+
+mutual
+  unfolding marks encode
+
+  marks-bytes : (n : Node) → 2 * length (marks n) ≤ length (encode n)
+  marks-bytes (node at k fs) = let l = marks-fields fs in omega arith
+
+  marks-fields : (fs : Fields) → 2 * length (marksFields fs) ≤ length (encodeFields fs)
+  marks-fields Fields.done = omega arith
+  marks-fields (Fields.absent fs) = marks-fields fs
+  marks-fields (Fields.field p fs) =
+      let a = marks-piece p in let b = marks-fields fs in
+      let c = length-append (marksPiece p) (marksFields fs) in
+      let d = length-append (encodePiece p) (encodeFields fs) in
+      omega arith
+
+  marks-piece : (p : Piece) → 2 * length (marksPiece p) ≤ length (encodePiece p)
+  marks-piece (Piece.one n) = marks-bytes n
+  marks-piece (Piece.list is) = let l = marks-items is in omega arith
+  marks-piece (Piece.text bs) = omega arith
+  marks-piece (Piece.byte b) = omega arith
+  marks-piece (Piece.mark n) = omega arith
+  marks-piece (Piece.number n) = omega arith
+
+  marks-items : (is : Items) → 2 * length (marksItems is) ≤ length (encodeItems is)
+  marks-items Items.none = omega arith
+  marks-items (Items.hole is) = let l = marks-items is in omega arith
+  marks-items (Items.item n is) =
+      let a = marks-bytes n in let b = marks-items is in
+      let c = length-append (marks n) (marksItems is) in
+      let d = length-append (encode n) (encodeItems is) in
+      omega arith
+
+counted : (k : ℕ) (ms : List ℕ) (j : ℕ) → Counts k ms j → j ≡ k + length ms
+unfolding Counts
+counted k [] j c = let e = c in omega arith
+counted k (m ∷ ms) j c = let e = counted (k + 1) ms j (c .1) in omega arith
+
+-- ---- names and entries of a list
+
+module _ (ns : List Name) where
+  entries-few : (es : List Entry) → EntriesLie es
+      → (5 * names (over (λ e. nodesItems (e .declarators)) es) ≤ length (over entryEncoded (eachEntry (λ is. numberedItems ns is) es)))
+      × (length (eachEntry (λ is. numberedItems ns is) es) ≤ length (over entryEncoded (eachEntry (λ is. numberedItems ns is) es)))
+  unfolding over eachEntry entryEncoded encode
+  entries-few [] h = (omega arith, omega arith)
+  entries-few (e ∷ es) h =
+      let a = few-items ns (h .1) in
+      let r = entries-few es (h .2) in
+      let r₀ = r .0 in let r₁ = r .1 in
+      let b = names-append (nodesItems (e .declarators)) (over (λ e. nodesItems (e .declarators)) es) in
+      let c = length-append (wideBytes (e .containing) ++ encodePiece (list (numberedItems ns (e .declarators)))) (over entryEncoded (eachEntry (λ is. numberedItems ns is) es)) in
+      (omega arith, omega arith)
+
+-- ---- a lowering that is handed back
+
+record Came (limit : ℕ) (tree t l : List ℕ) : Type 0 where
+  n : Node
+  end : ℕ
+  next : ℕ
+  read : readTree input limit tree ≡ got n end next
+  none : firstRefusal (visits next 0 (walked top n)) ≡ 0
+  tree-bytes : t ≡ encode (resultOf next n .tree)
+  tree-short : length t ≤ 32768
+  list-bytes : l ≡ listEncoded (resultOf next n .entries) (resultOf next n .excluded)
+  list-short : length l ≤ 16384
+
+fits-short : (s : Lent) (t l : List ℕ) → fits s t l ≡ true → (length t ≤ 32768) × (length l ≤ 16384)
+unfolding fits
+fits-short s t l e =
+    let both = not-true (ltb (min 32768 (s .treeSlice)) (length t) || ltb (min 16384 (s .listSlice)) (length l)) e in
+    let a = ltb-false (min 32768 (s .treeSlice)) (length t) (or-left (ltb (min 32768 (s .treeSlice)) (length t)) (ltb (min 16384 (s .listSlice)) (length l)) both) in
+    let b = ltb-false (min 16384 (s .listSlice)) (length l) (or-right (ltb (min 32768 (s .treeSlice)) (length t)) (ltb (min 16384 (s .listSlice)) (length l)) both) in
+    (omega arith, omega arith)
+
+module _ (h o : ℕ) (t l : List ℕ) where
+  no-refusal : {A : Type 0} (r : ℕ) → refusal r ≡ lowered h o t l → A
+  no-refusal r e = let z : _≡_ {A = ℕ} 0 1 = cc in absurd (omega arith)
+
+  of-fitted : (s : Lent) (helpers options : ℕ) (t′ l′ : List ℕ) → fitted s helpers options t′ l′ ≡ lowered h o t l → (t ≡ t′) × (l ≡ l′) × (fits s t′ l′ ≡ true)
+  unfolding fitted
+  of-fitted s helpers options t′ l′ e =
+      by-test (fits s t′ l′)
+      (λ a. let z : lowered helpers options t′ l′ ≡ lowered h o t l = rw a at e in (cc, cc, a))
+      (λ a. no-refusal 7 (rw a at e))
+
+  of-walk : (r : Result) (v : ℕ) → (elim v [ zero ↦ r | suc k ↦ refusal (suc k) ]) ≡ lowered h o t l → (r ≡ lowered h o t l) × (v ≡ 0)
+  of-walk r zero e = (e, refl)
+  of-walk r (suc k) e = no-refusal (suc k) e
+
+  of-reading : (limit options : ℕ) (tree : List ℕ) (s : Lent) (g : Got Node) → readTree input limit tree ≡ g → afterReading options s g ≡ lowered h o t l → Came limit tree t l
+  unfolding afterReading afterWalk collected resultBy ownNames treeOf entriesOf excludedOf writtenBy
+  of-reading limit options tree s (refused r) k e = no-refusal _ e
+  of-reading limit options tree s (got n q next) k e =
+      let m = treeOf next n in
+      let es = entriesOf next n in
+      let ex = excludedOf next n in
+      let ns = namesOf m es ex in
+      let w = of-walk (fitted s (helperMask m) options (encode (numbered ns m)) (listBytes ns es ex)) (firstRefusal (visits next 0 (walked top n))) e in
+      let f = of-fitted s (helperMask m) options (encode (numbered ns m)) (listBytes ns es ex) (w .0) in
+      let b = fits-short s (encode (numbered ns m)) (listBytes ns es ex) (f .2) in
+      record {
+        n = n;
+        end = q;
+        next = next;
+        read = k;
+        none = w .1;
+        tree-bytes = f .0;
+        tree-short = rw (f .0) (b .0);
+        list-bytes = f .1 ∙ sym (list-bytes ns m es ex);
+        list-short = rw (f .1) (b .1);
+      }
+
+  came : (limit options : ℕ) (tree : List ℕ) (s : Lent) → lowering limit options tree s ≡ lowered h o t l → Came limit tree t l
+  came limit options tree s =
+      by-order limit options tree s (λ x. x ≡ lowered h o t l → Came limit tree t l) (no-refusal limitOutside) (no-refusal unknownOptions) (no-refusal smallWork)
+      (of-reading limit (inForce options) tree s (readTree input limit tree) refl)
+
+-- ---- the law
+
+module _ (limit : ℕ) (tree t l : List ℕ) (b : Bytes tree) (k : Came limit tree t l) where
+  abbrev n : Node
+  n = k .n
+
+  abbrev next : ℕ
+  next = k .next
+
+  abbrev w : Walked
+  w = walked top (k .n)
+
+  abbrev ns : List Name
+  ns = namesOf (bare next w) (entries (visits next 0 w)) (excludedIn (visits next 0 w))
+
+  lies : Lies root n
+  lies = input-lies (sound input limit tree n (k .end) next b (k .read) .wellFormed .fits)
+
+  next-few : next ≤ 8193
+  next-few =
+      let a = sound input limit tree n (k .end) next b (k .read) in
+      let c = counted 1 (marks n) next (a .wellFormed .marked) in
+      let d = marks-bytes n in
+      let e = a .wellFormed .short in
+      omega arith
+
+  written-tree : resultOf next n .tree ≡ numbered ns (bare next w)
+  unfolding resultBy ownNames treeOf entriesOf excludedOf writtenBy
+  written-tree = refl
+
+  tree-length : length (encode (numbered ns (bare next w))) ≤ 32768
+  tree-length = subst (λ (m : Node). length (encode m) ≤ 32768) written-tree (subst (λ (x : List ℕ). length x ≤ 32768) (k .tree-bytes) (k .tree-short))
+
+  small : Small (newIn w) (names (nodes (bare next w))) (length (encode (numbered ns (bare next w))))
+  small = walked-few ns top n root next 0 lies (k .none)
+
+  next-fits : next + newIn w ≤ 65535
+  next-fits = let a = small .marks in let c = tree-length in let d = next-few in omega arith
+
+  hands : AllHand (visits next 0 w)
+  hands = walked-hands top n root next 0 lies (k .none) next-fits (omega arith)
+
+  entries-are : EntriesLie (entries (visits next 0 w))
+  entries-are = entries-lie (visits next 0 w) hands
+
+  excluded-are : LieItems 4 false (excludedIn (visits next 0 w))
+  excluded-are = excluded-lie (visits next 0 w) hands
+
+  written-list : listEncoded (resultOf next n .entries) (resultOf next n .excluded)
+      ≡ wideBytes (length (eachEntry (λ is. numberedItems ns is) (entries (visits next 0 w))))
+      ++ over entryEncoded (eachEntry (λ is. numberedItems ns is) (entries (visits next 0 w)))
+      ++ encodePiece (list (numberedItems ns (excludedIn (visits next 0 w))))
+  unfolding resultBy ownNames treeOf entriesOf excludedOf writtenBy listEncoded
+  written-list = refl
+
+  list-length : length (over entryEncoded (eachEntry (λ is. numberedItems ns is) (entries (visits next 0 w)))) + length (encodePiece (list (numberedItems ns (excludedIn (visits next 0 w))))) ≤ 16384
+  list-length =
+      let es = over entryEncoded (eachEntry (λ is. numberedItems ns is) (entries (visits next 0 w))) in
+      let ex = encodePiece (list (numberedItems ns (excludedIn (visits next 0 w)))) in
+      let a : length l ≡ length (wideBytes (length (eachEntry (λ is. numberedItems ns is) (entries (visits next 0 w)))) ++ es ++ ex) = ap length (k .list-bytes ∙ written-list) in
+      let c = length-append es ex in
+      let d = k .list-short in
+      omega arith
+
+  few : (a : Name) → numberIn same 1 ns a < 65536
+  unfolding namesOf listNodes encode
+  few a =
+      let es = entries (visits next 0 w) in
+      let ex = excludedIn (visits next 0 w) in
+      let c = number-most same 1 ns a in
+      let d = distinct-most same (over nameAt (nodes (bare next w) ++ listNodes es ex)) in
+      let e = names-append (nodes (bare next w)) (listNodes es ex) in
+      let f = names-append (over (λ e. nodesItems (e .declarators)) es) (nodesItems ex) in
+      let g = small .temporaries in
+      let i = entries-few ns es entries-are .0 in
+      let j = few-items ns excluded-are in
+      let m = tree-length in
+      let q = list-length in
+      omega arith
+
+  tree-comes : Comes n (numbered ns (bare next w))
+  tree-comes = walked-comes ns few top n root next 0 lies (k .none) (let a = next-fits in omega arith)
+
+  tree-formed : WellFormed rewritten (depth (numbered ns (bare next w))) (numbered ns (bare next w)) 1
+  tree-formed = record { fits = fit tree-comes root lies (let a = tree-length in omega arith); marked = refl; level = omega arith; short = tree-length }
+
+  tree-decoded : readTree rewritten (length t) t ≡ got (placed (numbered ns (bare next w)) 0) (length t) 1
+  tree-decoded =
+      subst (λ (x : List ℕ). readTree rewritten (length x) x ≡ got (placed (numbered ns (bare next w)) 0) (length x) 1) (sym (k .tree-bytes ∙ ap encode written-tree))
+      (read-back (numbered ns (bare next w)) tree-formed)
+    where
+      read-back : (m : Node) → WellFormed rewritten (depth m) m 1 → readTree rewritten (length (encode m)) (encode m) ≡ got (placed m 0) (length (encode m)) 1
+      read-back m f =
+          let x : List ℕ = encode m in
+          let deep : readTree rewritten (depth m + length x) x ≡ got (placed m 0) (length x) 1 = tree-raised x rewritten (length x) (depth m) (placed m 0) (length x) 1 (complete rewritten (depth m) m 1 f) in
+          sym (tree-never-too-deep x rewritten (depth m)) ∙ ap (λ (d : ℕ). readTree rewritten d x) (add-comm (length x) (depth m)) ∙ deep
+
+  root-outside : isOutside root ≡ true
+  unfolding among
+  root-outside = refl
+
+  tree-left : NothingLeft (numbered ns (bare next w))
+  tree-left = record { spreads = λ q x s. no-spread tree-comes root lies s; rests = λ q x s k. rests-remain tree-comes root lies root-outside s k }
+
+  tree-told : leftover t ≡ restLeft (placed (numbered ns (bare next w)) 0)
+  unfolding leftover
+  tree-told = ap leftIn tree-decoded
+
+  list-fits : FitList (resultOf next n .entries) (resultOf next n .excluded)
+  unfolding resultBy ownNames treeOf entriesOf excludedOf writtenBy
+  list-fits =
+      let a = list-length in
+      let c = entries-few ns (entries (visits next 0 w)) entries-are .1 in
+      record {
+        few = omega arith;
+        entries = entries-fit ns few (entries (visits next 0 w)) entries-are (omega arith);
+        excludedKeys = declarators-fit ns few (excludedIn (visits next 0 w)) excluded-are (omega arith);
+        short = subst (λ (x : List ℕ). length x ≤ 16384) (k .list-bytes) (k .list-short);
+      }
+
+  both-are : LoweredRewritten limit tree t l
+  both-are =
+      record {
+        n = n;
+        end = k .end;
+        next = next;
+        read = k .read;
+        is-tree = k .tree-bytes;
+        formed = subst (λ (m : Node). WellFormed rewritten (depth m) m 1) (sym written-tree) tree-formed;
+        decoded = subst (λ (m : Node). readTree rewritten (length t) t ≡ got (placed m 0) (length t) 1) (sym written-tree) tree-decoded;
+        left = subst NothingLeft (sym written-tree) tree-left;
+        told = subst (λ (m : Node). leftover t ≡ restLeft (placed m 0)) (sym written-tree) tree-told;
+        is-list = k .list-bytes;
+        listed = list-fits;
+      }
+
+-- every lowering hands back a tree of the rewritten stage and a list by its layout
+pub lowered-rewritten : (limit options : ℕ) (tree : List ℕ) (s : Lent) (helpers mask : ℕ) (t l : List ℕ) → Bytes tree
+    → lowering limit options tree s ≡ lowered helpers mask t l → LoweredRewritten limit tree t l
+lowered-rewritten limit options tree s helpers mask t l b e = both-are limit tree t l b (came helpers mask t l limit options tree s e)
+
+-- the same by the answer: 0 is given for a lowering alone
+pub data Lowered (limit : ℕ) (tree : List ℕ) (r : Result) : Type 0 where
+  is-lowered : {helpers mask : ℕ} {t l : List ℕ} → r ≡ lowered helpers mask t l → LoweredRewritten limit tree t l → Lowered limit tree r
+
+pub answers-0 : (limit options : ℕ) (tree : List ℕ) (s : Lent) → Bytes tree → outcome limit options tree s .answer ≡ 0 → Lowered limit tree (lowering limit options tree s)
+unfolding outcome outcomeOf among
+answers-0 limit options tree s b z = go (lowering limit options tree s) refl (in-table limit options tree s) z
+  where
+    go : (r : Result) → lowering limit options tree s ≡ r → InTable r → outcomeOf s r .answer ≡ 0 → Lowered limit tree (lowering limit options tree s)
+    go (refusal n) e h y = absurd (true≢false (sym h ∙ ap isRefusal y))
+    go (lowered helpers mask t l) e h y = Lowered.is-lowered e (lowered-rewritten limit options tree s helpers mask t l b e)

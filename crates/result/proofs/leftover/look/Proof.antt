@@ -1,0 +1,108 @@
+use Rattle.result.proofs.Looking as law
+use Rattle.rewritten.proofs.Pass as pass
+use Rattle.result.specs.Leftover.{leftover}
+use lib.ListN.{length}
+use Prim.Native.Nat.{_+_, _-_, _≤_}
+use mathlib.Core.Path.{_≡_, refl, sym, _∙_}
+use native.Mathlib.Omega.{arith}
+use borrow.Author.Needs.{needs}
+use Rattle.result.proofs.leftover.look.Statement.{statement}
+use Rattle.result.proofs.leftover.look.Tie as tie
+use Rattle.result.proofs.leftover.look.Reads as reads
+use Rattle.result.proofs.leftover.look.Lts as lts
+use Rattle.result.proofs.leftover.meet.Reads as meet-reads
+use Rattle.rewritten.proofs.next.begin.Reads as begin-reads
+use Rattle.rewritten.proofs.next.next.Reads as next-reads
+
+abbrev Inv-loop : tie.InvT-loop
+Inv-loop tree frames₀ cursor₀ met₀ frames cursor met = law.Looking tree frames cursor met (length frames₀) (leftover tree)
+
+abbrev μ-loop : tie.MeasureT-loop
+μ-loop tree frames₀ cursor₀ met₀ frames cursor met = (length tree - cursor .at) + cursor .deep
+
+returns : tie.Need-returns Inv-loop μ-loop
+returns c = λ _. law.too-long (c .before .before .before .args .tree .now) (c .if1 .taken)
+
+returns-2 : tie.Need-returns-2 Inv-loop μ-loop
+returns-2 c = λ a. absurd (omega (arith, a, c .if2 .taken))
+
+begin-requires : tie.Need-begin-requires Inv-loop μ-loop
+begin-requires c κs = tt
+
+loop-holds : tie.Need-loop-holds Inv-loop μ-loop
+loop-holds c = law.looking-start (c .before .before .before .before .before .args .tree .now) (c .before .before .before .before .before .args .frames .now) (c .before .before .if1 .left) _ (c .begin .ensures)
+
+next-requires : tie.Need-next-requires Inv-loop μ-loop
+next-requires c κs = tt
+
+enum-known-e : tie.Need-enum-known-e Inv-loop μ-loop
+enum-known-e c = search needs
+
+meet-requires : tie.Need-meet-requires Inv-loop μ-loop
+meet-requires c κs = tt
+
+loop-less : tie.Need-loop-less Inv-loop μ-loop
+loop-less c = law.looking-falls _ _ _ _ _ _ _ (c .before .before .before .before .before .before .before .before .loop .inv) _ (c .before .before .before .before .before .before .next .ensures .1) (c .before .before .e .given .0 .0) _ (c .before .before .e .given .1)
+
+loop-again : tie.Need-loop-again Inv-loop μ-loop
+loop-again c = law.looking-next _ _ _ _ _ _ _ (c .before .before .before .before .before .before .before .before .loop .inv) _ (c .before .before .before .before .before .before .next .ensures .1) (c .before .before .e .given .0 .0) _ (c .before .before .e .given .1) (c .before .before .before .before .before .before .next .ensures .0) _ (c .meet .ensures)
+
+enum-told : tie.Need-enum-told Inv-loop μ-loop
+enum-told c = search needs
+
+same-length : tie.Need-same-length Inv-loop μ-loop
+same-length c = c .before .before .before .before .before .before .next .ensures .0 ∙ c .before .before .before .before .before .before .before .before .loop .inv .tour .size
+
+returns-3 : tie.Need-returns-3 Inv-loop μ-loop
+returns-3 c = λ _. law.looking-ends _ _ _ _ _ _ _ (c .before .before .before .before .before .before .before .before .loop .inv) _ (c .before .before .before .before .before .before .next .ensures .1) (c .before .before .enum-told .given .1) (c .if3 .taken)
+
+same-length-2 : tie.Need-same-length-2 Inv-loop μ-loop
+same-length-2 c = c .before .before .before .before .before .before .next .ensures .0 ∙ c .before .before .before .before .before .before .before .before .loop .inv .tour .size
+
+returns-4 : tie.Need-returns-4 Inv-loop μ-loop
+returns-4 c = λ _. law.looking-early _ _ _ _ _ _ _ (c .before .before .before .before .before .before .before .before .loop .inv) _ (c .before .before .before .before .before .before .next .ensures .1) (c .before .before .enum-told .given .1) (c .if3 .left)
+
+enum-told-2 : tie.Need-enum-told-2 Inv-loop μ-loop
+enum-told-2 c = search needs
+
+same-length-3 : tie.Need-same-length-3 Inv-loop μ-loop
+same-length-3 c = c .before .before .before .before .next .ensures .0 ∙ c .before .before .before .before .before .before .loop .inv .tour .size
+
+returns-5 : tie.Need-returns-5 Inv-loop μ-loop
+returns-5 c = λ _. law.looking-refused _ _ _ _ _ _ _ (c .before .before .before .before .before .before .loop .inv) _ (c .before .before .before .before .next .ensures .1) (c .enum-told2 .given .1)
+
+enum-told-3 : tie.Need-enum-told-3 Inv-loop μ-loop
+enum-told-3 c = search needs
+
+same-length-4 : tie.Need-same-length-4 Inv-loop μ-loop
+same-length-4 c = c .before .before .before .before .next .ensures .0 ∙ c .before .before .before .before .before .before .loop .inv .tour .size
+
+returns-6 : tie.Need-returns-6 Inv-loop μ-loop
+returns-6 c = λ _. absurd (pass.frames-suffice _ _ _ _ _ (c .before .before .before .before .before .before .loop .inv .tour) _ (c .before .before .before .before .next .ensures .1) (c .enum-told3 .given .1) (c .before .before .before .before .before .before .before .before .before .if1 .left) (c .before .before .before .before .before .before .before .before .if2 .left))
+
+pub look-spec : {M : Type 1} → statement M
+look-spec =
+    tie.close
+    (tie.spec
+    Inv-loop
+    μ-loop
+    returns
+    returns-2
+    begin-requires
+    loop-holds
+    next-requires
+    enum-known-e
+    meet-requires
+    loop-less
+    loop-again
+    enum-told
+    same-length
+    returns-3
+    same-length-2
+    returns-4
+    enum-told-2
+    same-length-3
+    returns-5
+    enum-told-3
+    same-length-4
+    returns-6)

@@ -1,0 +1,5 @@
+pub mod Left
+pub mod List
+pub mod Leftover
+pub mod Whole
+pub mod Examples
