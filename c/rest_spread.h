@@ -1,8 +1,8 @@
-/* Object rest and spread, lowered from tree bytes to tree bytes: the functions of librest_spread.a, one of libcounting.a
- * and two of libdrawing.a.
+/* Object rest and spread, lowered from tree bytes to tree bytes: the functions of librest_spread.a, one of libcounting.a,
+ * two of libdrawing.a, one of libordering.a and one of libprinter.a.
  *
- * The archives are made by `rt staticlib rest_spread`, `counting` and `drawing`, are for x86-64 Linux, and can be linked
- * together. They need memcpy, memmove and memset of the C library and nothing else: they allocate nothing, keep nothing
+ * The archives are made by `rt staticlib rest_spread`, `counting`, `drawing`, `ordering` and `printer`, are for x86-64 Linux, and can be
+ * linked together. They need memcpy, memmove and memset of the C library and nothing else: they allocate nothing, keep nothing
  * between calls, and read and write no file.
  *
  * Trees and lists are described in docs/FORMAT.md, lower.c is a whole program. */
@@ -18,7 +18,7 @@ extern "C" {
 
 /* The version of what is promised below. Compare it with rest_spread_version() before the first call: an archive of another
  * version may be linked and then do something else. An archive from before there were versions does not link. */
-#define REST_SPREAD_VERSION 2
+#define REST_SPREAD_VERSION 3
 
 /* The longest tree that is read. */
 #define REST_SPREAD_TREE_IN 16384
@@ -161,6 +161,37 @@ struct rest_spread_xorshift {
 };
 
 uint32_t xorshift_next(struct rest_spread_xorshift *g);
+
+struct rest_spread_ordered {
+    uint8_t answer; /* 0, or 3 if one of the two is no rewritten tree */
+    int8_t order;   /* -1, 0 or 1: the first is less than the second, equal or greater; 0 at a refusal */
+};
+
+/* The order of two rewritten trees, such as results, of at most 32,768 bytes and of any depth: by kinds, then bit maps, then
+ * fields, from the front. Temporaries go by where they first appear and not by their numbers. It stands in libordering.a.
+ *
+ * first and second are not NULL, not even for a length of 0, and may be the same; nothing else is asked. The call ends, reads
+ * both and writes nothing. It takes some 0.8 MB of the stack. */
+struct rest_spread_ordered rest_spread_order(const uint8_t *first, size_t first_len, const uint8_t *second,
+                                             size_t second_len);
+
+/* The answer of rest_spread_text for a text that is longer than its slice. */
+#define REST_SPREAD_TEXT_TOO_LONG 10
+
+/* The bytes that have room for every text. */
+#define REST_SPREAD_TEXT 294912
+
+struct rest_spread_printed {
+    uint8_t answer;  /* 0; 3 if tree is no rewritten tree; else 10 if the text is longer than text_out_len */
+    size_t text_len; /* the bytes of text_out that are the text; 0 at a refusal */
+};
+
+/* Prints a rewritten tree as JavaScript, a line a statement (docs/TEXT.md). What rest_spread_lower writes is one unless a
+ * mark stands in it twice. It stands in libprinter.a.
+ *
+ * tree and text_out are not NULL, not even for a length of 0, and do not overlap; nothing else is asked. The call ends
+ * and writes text_out and nothing else: the text, and zeros behind it; at a refusal zeros. */
+struct rest_spread_printed rest_spread_text(const uint8_t *tree, size_t tree_len, uint8_t *text_out, size_t text_out_len);
 
 #ifdef __cplusplus
 }

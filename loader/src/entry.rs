@@ -65,6 +65,40 @@ pub struct Drawn {
     pub tree_len: usize,
 }
 
+/// What [`order`] returns.
+///
+/// ```
+/// let ordered = rest_spread::entry::order(b"", b"");
+/// assert_eq!((ordered.answer, ordered.order), (3, 0));
+/// ```
+#[repr(C)]
+#[derive(Clone, Copy, Debug, PartialEq, Eq)]
+pub struct Ordered {
+    /// 0, or 3 if one of the two is no rewritten tree.
+    pub answer: u8,
+    /// -1, 0 or 1: the first is less than the second, equal or greater. 0 at a refusal.
+    pub order: i8,
+}
+
+/// What [`text`] returns. The bytes of the text are in the slice.
+///
+/// ```
+/// use rest_spread::entry;
+///
+/// let (tree, mut text) = (b"\x01\x01\x01\x00\x03\x03\x01\x00\x12\x01\x01\x00a", [1; 5]);
+/// let printed = entry::text(tree, &mut text);
+/// assert_eq!((printed.answer, printed.text_len, &text), (0, 3, b"a;\n\0\0"));
+/// assert_eq!(entry::text(tree, &mut text[..2]).answer, 10);
+/// ```
+#[repr(C)]
+#[derive(Clone, Copy, Debug, PartialEq, Eq)]
+pub struct Printed {
+    /// 0, 3 if the bytes are no rewritten tree, or 10 if the text is longer than the slice.
+    pub answer: u8,
+    /// How many bytes of the slice are the text, 0 at a refusal.
+    pub text_len: usize,
+}
+
 /// Marsaglia's generator of 32-bit numbers, which [`advance`] advances in place.
 ///
 /// ```
@@ -83,6 +117,10 @@ pub struct Xorshift {
 // The layouts that the archives were compiled with.
 const _: () = assert!(size_of::<Drawn>() == 16 && offset_of!(Drawn, answer) == 0);
 const _: () = assert!(offset_of!(Drawn, next) == 4 && offset_of!(Drawn, tree_len) == 8);
+const _: () = assert!(size_of::<Ordered>() == 2);
+const _: () = assert!(offset_of!(Ordered, answer) == 0 && offset_of!(Ordered, order) == 1);
+const _: () = assert!(size_of::<Printed>() == 16);
+const _: () = assert!(offset_of!(Printed, answer) == 0 && offset_of!(Printed, text_len) == 8);
 const _: () = assert!(size_of::<Xorshift>() == 4 && offset_of!(Xorshift, state) == 0);
 const _: () = assert!(size_of::<Counted>() == 8);
 const _: () = assert!(offset_of!(Counted, answer) == 0 && offset_of!(Counted, number) == 4);
@@ -101,6 +139,12 @@ extern "C" {
     fn rest_spread_draw(seed: u32, tree_out: *mut u8, tree_out_len: usize) -> Drawn;
 
     fn xorshift_next(g: *mut Xorshift) -> u32;
+
+    // In libordering.a.
+    fn rest_spread_order(first: *const u8, first_len: usize, second: *const u8, second_len: usize) -> Ordered;
+
+    // In libprinter.a.
+    fn rest_spread_text(tree: *const u8, tree_len: usize, text_out: *mut u8, text_out_len: usize) -> Printed;
 
     // In Rattle each slice is one parameter. It is passed as its address and its length.
     fn rest_spread_lower(
@@ -204,6 +248,23 @@ pub fn calls(n: u32, c: u32) -> Counted {
 pub fn draw(seed: u32, tree_out: &mut [u8]) -> Drawn {
     // SAFETY: the function is proved for every seed and every slice: it writes the slice, stays inside it and ends.
     unsafe { rest_spread_draw(seed, tree_out.as_mut_ptr(), tree_out.len()) }
+}
+
+/// The order of two rewritten trees, of the first against the second. Any two slices.
+#[must_use]
+pub fn order(first: &[u8], second: &[u8]) -> Ordered {
+    // SAFETY: the function is proved for every two slices: it reads them, writes nothing and ends.
+    unsafe { rest_spread_order(first.as_ptr(), first.len(), second.as_ptr(), second.len()) }
+}
+
+/// Prints a rewritten tree into `text_out`. [`Printer`](crate::Printer) has the same with a buffer and a refusal by name.
+///
+/// Any bytes and a slice of any length will do. After success the slice is zero behind the text, after a refusal it is
+/// zero throughout.
+#[must_use]
+pub fn text(tree: &[u8], text_out: &mut [u8]) -> Printed {
+    // SAFETY: the function is proved for every two slices: it reads the one, writes the other, stays inside both and ends.
+    unsafe { rest_spread_text(tree.as_ptr(), tree.len(), text_out.as_mut_ptr(), text_out.len()) }
 }
 
 /// Advances a generator, and gives its next number.

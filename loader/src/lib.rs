@@ -27,6 +27,8 @@
 //! | [`Leftover`] | object rest and spread that stay in a result |
 //! | [`calls()`] | how many literals lead to how many calls |
 //! | [`draw()`], [`Series`] | trees drawn from seeds, for a load that is the same everywhere |
+//! | [`order()`] | which of two trees comes first |
+//! | [`Printer`] | a lowered tree as JavaScript |
 //!
 //! `docs/FORMAT.md` of the repository describes the tree bytes.
 
@@ -50,7 +52,9 @@ mod lowerer;
 mod make;
 mod node;
 mod options;
+mod order;
 mod parts;
+mod printer;
 mod refusal;
 mod stem;
 mod walk;
@@ -67,12 +71,14 @@ pub use lowerer::{Lowered, Lowerer};
 pub use make::{Make, Unfit};
 pub use node::{Field, Fields, Item, Items, Node};
 pub use options::Options;
+pub use order::order;
+pub use printer::Printer;
 pub use refusal::Refusal;
 pub use stem::Stem;
 pub use walk::{Path, Step, Turn, Walk};
 
 /// The version of the archive that this crate is for. It goes up with what the archive's functions promise.
-pub const ARCHIVE: u32 = 2;
+pub const ARCHIVE: u32 = 3;
 /// The longest tree that is read.
 pub const TREE_IN: usize = 16_384;
 /// The highest depth limit, and the one where none is named. The Program is at level 1.
@@ -85,5 +91,7 @@ pub const LIST_OUT: usize = 16_384;
 pub const WORK: usize = 65_536;
 /// The bytes that have room for every drawn tree.
 pub const DRAWN: usize = 5_121;
+/// The bytes that have room for every text: nine for each byte of the longest tree that is written.
+pub const TEXT: usize = 294_912;
 /// The most items of a literal that [`calls()`] counts patterns of.
 pub const LONGEST_PATTERN: u32 = 32;

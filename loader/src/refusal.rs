@@ -33,6 +33,8 @@ pub enum Refusal {
     ZeroSeed,
     /// The depth limit is 0 or above 128.
     LimitOutside,
+    /// The text of a tree is longer than the slice. A [`Printer`](crate::Printer) has one that is long enough.
+    TextTooLong,
     /// More items than [`calls()`](crate::calls()) counts patterns of.
     PatternTooLong,
     /// A number that this version has no name for: the archive is newer. Such a value is made by
@@ -85,6 +87,12 @@ const TABLE: &[(Refusal, u8, &str, &str)] = &[
     ),
     (ZeroSeed, 8, "the seed is 0, from which no tree can be drawn", "give a seed from 1 to 4,294,967,295"),
     (LimitOutside, 9, "the depth limit is 0 or above 128", "give a limit from 1 to 128, or none, which means 128"),
+    (
+        TextTooLong,
+        10,
+        "the text of the tree is longer than the slice that was lent for it",
+        "lend the call 294,912 bytes, which hold every text",
+    ),
     (
         PatternTooLong,
         14,
@@ -167,7 +175,7 @@ mod tests {
             assert_eq!(refusal == Unknown(number), !Refusal::ALL.contains(&refusal));
         }
         let numbers: Vec<u8> = Refusal::ALL.iter().map(|refusal| refusal.number()).collect();
-        assert_eq!(numbers, [1, 2, 3, 4, 5, 6, 7, 8, 9, 14]);
+        assert_eq!(numbers, [1, 2, 3, 4, 5, 6, 7, 8, 9, 10, 14]);
     }
 
     #[test]

@@ -11,8 +11,13 @@ use std::time::{Duration, SystemTime};
 
 const FUNCTIONS: &str = "rest_spread_lower rest_spread_lower_within rest_spread_version";
 const DRAWING: &str = "rest_spread_draw xorshift_next";
-const ARCHIVES: [(&str, &str); 3] =
-    [("librest_spread.a", FUNCTIONS), ("libcounting.a", "rest_spread_calls"), ("libdrawing.a", DRAWING)];
+const ARCHIVES: [(&str, &str); 5] = [
+    ("librest_spread.a", FUNCTIONS),
+    ("libcounting.a", "rest_spread_calls"),
+    ("libdrawing.a", DRAWING),
+    ("libordering.a", "rest_spread_order"),
+    ("libprinter.a", "rest_spread_text"),
+];
 
 /// A repository without archives: the script, compiled, and an `rt` that writes them.
 struct Made {
@@ -35,11 +40,11 @@ fn made(name: &str) -> Option<Made> {
     fs::create_dir_all(root.join("loader")).unwrap();
     fs::create_dir_all(root.join("crates/rest_spread/src")).unwrap();
     fs::write(root.join("crates/rest_spread/src/lib.rt"), "").unwrap();
-    fs::write(root.join("crates.txt"), "rest_spread: emit\ncounting:\ndrawing:\n").unwrap();
+    fs::write(root.join("crates.txt"), "rest_spread: emit\ncounting:\ndrawing:\nordering:\nprinter:\n").unwrap();
     fs::create_dir(root.join("bin")).unwrap();
     let rt = format!(
         "#!/bin/sh\nset -eu\necho \"words: $*\"; echo 'rt: proved' >&2\n[ -f refuse ] && exit 1\nmkdir -p target/staticlib\n\
-         echo '{FUNCTIONS} rest_spread_calls {DRAWING}' >target/staticlib/lib$2.a\n"
+         echo '{FUNCTIONS} rest_spread_calls {DRAWING} rest_spread_order rest_spread_text' >target/staticlib/lib$2.a\n"
     );
     fs::write(root.join("bin/rt"), rt).unwrap();
     fs::set_permissions(root.join("bin/rt"), Permissions::from_mode(0o755)).unwrap();
@@ -105,7 +110,7 @@ fn it_proves_on_request_and_passes_on_what_is_said() {
     let Some(made) = made("build_prove") else { return };
     let ran = made.run(&[("REST_SPREAD_PROVE", "1")]);
     assert!(ran.well, "{}", ran.err);
-    for name in ["rest_spread", "counting", "drawing"] {
+    for name in ["rest_spread", "counting", "drawing", "ordering", "printer"] {
         assert!(ran.err.contains(&format!("words: staticlib {name}")), "{}", ran.err);
         assert!(ran.out.contains(&format!("cargo:rustc-link-lib=static:+verbatim=lib{name}.a")), "{}", ran.out);
     }

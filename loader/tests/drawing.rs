@@ -11,17 +11,25 @@ use rest_spread::{draw, Lowerer, Options, Refusal, Series, DRAWN};
 use std::fs;
 use std::path::Path;
 
-/// The cases of the program `drawn`: a seed, the state after its tree, and the tree.
+/// The cases of drawing that the program `vectors` has: a seed, the state after its tree, and the tree.
 fn stored() -> Vec<(u32, u32, Vec<u8>)> {
-    let path = Path::new(env!("CARGO_MANIFEST_DIR")).join("../crates/drawn/stdin");
+    let path = Path::new(env!("CARGO_MANIFEST_DIR")).join("../crates/vectors/stdin");
     let bytes = fs::read(&path).unwrap_or_else(|why| panic!("{}: {why}", path.display()));
     let mut rest = &bytes[..];
     let mut all = Vec::new();
-    while !rest.is_empty() {
-        let number = |at: usize| u32::from_le_bytes(rest[at..at + 4].try_into().unwrap());
-        let length = usize::from(u16::from_le_bytes([rest[8], rest[9]]));
-        all.push((number(0), number(4), rest[10..10 + length].to_vec()));
-        rest = &rest[10 + length..];
+    while let Some((&kind, case)) = rest.split_first() {
+        let wide = |at: usize| usize::from(u16::from_le_bytes([case[at], case[at + 1]]));
+        let number = |at: usize| u32::from_le_bytes(case[at..at + 4].try_into().unwrap());
+        let length = match kind {
+            0 => 6 + wide(2),
+            1 => 10 + wide(4) + wide(6) + wide(8),
+            2 => 14 + wide(8) + wide(10) + wide(12),
+            _ => 10 + wide(8),
+        };
+        if kind == 3 {
+            all.push((number(0), number(4), case[10..length].to_vec()));
+        }
+        rest = &case[length..];
     }
     all
 }

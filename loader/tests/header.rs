@@ -5,7 +5,7 @@ mod common;
 use common::make::{blocks, expression, key_without_form, program, rest_below_array_rest, rests, spreads};
 use common::{folder, skip};
 use rest_spread::{
-    Helper, Options, Refusal, ARCHIVE, DRAWN, LEVELS, LIST_OUT, LONGEST_PATTERN, TREE_IN, TREE_OUT, WORK,
+    Helper, Options, Refusal, ARCHIVE, DRAWN, LEVELS, LIST_OUT, LONGEST_PATTERN, TEXT, TREE_IN, TREE_OUT, WORK,
 };
 use std::collections::HashMap;
 use std::io::Write;
@@ -36,6 +36,7 @@ fn the_header_has_the_numbers_of_the_safe_layer() {
     has("LIST_OUT", LIST_OUT);
     has("WORK", WORK);
     has("DRAWN", DRAWN);
+    has("TEXT", TEXT);
     has("LOOSE", Options::LOOSE.bits() as usize);
     has("USE_BUILT_INS", Options::USE_BUILT_INS.bits() as usize);
     has("OBJECT_REST_NO_SYMBOLS", Options::OBJECT_REST_NO_SYMBOLS.bits() as usize);

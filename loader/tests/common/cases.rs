@@ -127,6 +127,12 @@ fn read_vectors(path: &Path) -> Vec<Case> {
             left = &left[usize::from(u16::from_le_bytes([low, high]))..];
             continue;
         }
+        if kind == 3 {
+            // A case of drawing: the seed and the state after its tree, the tree's length.
+            let [_, _, _, _, _, _, _, _, low, high] = take(&mut left);
+            left = &left[usize::from(u16::from_le_bytes([low, high]))..];
+            continue;
+        }
         let depth = (kind == 2).then(|| u32::from_le_bytes(take(&mut left)));
         let [options, answer, helpers, reported] = take(&mut left);
         let lengths: [usize; 3] = [(); 3].map(|()| u16::from_le_bytes(take(&mut left)).into());

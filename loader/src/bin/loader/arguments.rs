@@ -26,6 +26,7 @@ that failed and a count. What failed is told on standard error.
                        does: answer, helper mask and options mask; the tree;
                        the list
   -j, --json           print a line of JSON for each input
+      --text           print the lowered tree of each input as JavaScript
   -o, --options N      1 loose + 2 useBuiltIns + 4 objectRestNoSymbols; 8 may be
                        set and does nothing. 0 if not given. They are reported
                        and have no effect
@@ -38,6 +39,9 @@ that failed and a count. What failed is told on standard error.
                        after the one before it, which is its own seed. A zero
                        seed is refused with 8
       --count N        how many trees; 1 if not given
+      --sort           lower nothing, and print the names of the tree FILEs in
+                       the order of their trees, which may be results; equal
+                       ones on a line. What is no tree is refused with 3
       --helpers        print the helpers that lowered code calls, as JavaScript
   -V, --version        print the versions of loader and archive
   -h, --help           print this
@@ -58,6 +62,7 @@ pub enum Wish {
     Version,
     Helpers,
     Draw(Load),
+    Sort(Vec<PathBuf>),
     Lower(Arguments),
 }
 
@@ -77,6 +82,7 @@ pub struct Arguments {
     pub strict: bool,
     pub hex: bool,
     pub json: bool,
+    pub text: bool,
     pub options: Options,
     pub options_first: bool,
     /// The depth limit, if one is named.
@@ -84,15 +90,17 @@ pub struct Arguments {
     /// The seed of trees to be drawn, and how many.
     pub draw: Option<u32>,
     pub count: Option<u32>,
+    pub sort: bool,
 }
 
-/// How results are told: one input's summary, a line for each of several, hexadecimal, or JSON.
+/// How results are told: one input's summary, a line for each of several, hexadecimal, JSON, or JavaScript.
 #[derive(Clone, Copy, PartialEq)]
 pub enum Manner {
     Alone,
     Several,
     Hex,
     Json,
+    Text,
 }
 
 #[derive(Clone, PartialEq)]
@@ -141,15 +149,20 @@ pub fn parse(words: impl Iterator<Item = OsString>) -> Result<Wish, String> {
             "-h" | "--help" => return Ok(Wish::Help),
             "-V" | "--version" => return Ok(Wish::Version),
             "--helpers" => return Ok(Wish::Helpers),
+            "--sort" => wish.sort = true,
             "-s" | "--strict" => wish.strict = true,
             "-x" | "--hex" => wish.hex = true,
             "-j" | "--json" => wish.json = true,
+            "--text" => wish.text = true,
             "-f" | "--options-first" => wish.options_first = true,
             "--" => only_files = true,
             "-" => wish.inputs.push(Input::Standard),
             _ if flag.starts_with('-') => return Err(format!("{flag} is not known")),
             _ => wish.inputs.push(Input::File(word.into())),
         }
+    }
+    if wish.sort {
+        return wish.sorted().map(Wish::Sort);
     }
     if wish.draw.is_some() || wish.count.is_some() {
         return wish.load().map(Wish::Draw);
@@ -185,15 +198,36 @@ impl Arguments {
         match self.inputs.len() {
             _ if self.hex => Manner::Hex,
             _ if self.json => Manner::Json,
+            _ if self.text => Manner::Text,
             1 => Manner::Alone,
             _ => Manner::Several,
         }
     }
 
+    /// Nothing is asked for that has to do with lowering.
+    fn lowers_nothing(&self) -> bool {
+        let files = self.tree.is_some() || self.list.is_some();
+        let told = self.strict || self.hex || self.json || self.text;
+        !files && !told && self.depth.is_none() && !self.options_first && self.options == Options::NONE
+    }
+
+    /// The files that are to be sorted, if nothing else is asked for.
+    fn sorted(self) -> Result<Vec<PathBuf>, String> {
+        let alone = self.lowers_nothing() && self.into.is_none() && self.draw.is_none() && self.count.is_none();
+        let files = self.inputs.into_iter().map(|input| match input {
+            Input::File(path) => Ok(path),
+            Input::Standard => Err("--sort goes by the names of files".to_string()),
+        });
+        match files.collect::<Result<Vec<_>, _>>()? {
+            _ if !alone => Err("--sort goes with files alone".into()),
+            files if files.is_empty() => Err("--sort wants a FILE".into()),
+            files => Ok(files),
+        }
+    }
+
     /// What is to be drawn, if nothing else is asked for.
     fn load(self) -> Result<Load, String> {
-        let alone = self.inputs.is_empty() && self.tree.is_none() && self.list.is_none() && self.depth.is_none();
-        if !alone || self.strict || self.hex || self.json || self.options_first || self.options != Options::NONE {
+        if !self.inputs.is_empty() || !self.lowers_nothing() {
             return Err("--draw goes with --count and --into alone".into());
         }
         match (self.draw, self.into) {
@@ -204,8 +238,8 @@ impl Arguments {
     }
 
     fn agree(&self) -> Result<(), String> {
-        if self.hex && self.json {
-            return Err("--hex and --json can't both be printed".into());
+        if [self.hex, self.json, self.text].iter().filter(|&&asked| asked).count() > 1 {
+            return Err("of --hex, --json and --text only one can be printed".into());
         }
         if self.inputs.len() > 1 && (self.tree.is_some() || self.list.is_some()) {
             return Err("--tree and --list are for one input; use --into for several".into());

@@ -10,9 +10,13 @@ use arguments::{Arguments, Input, Load, Manner, Wish, HELP};
 use failure::Failure;
 use files::{Earlier, Files};
 use report::Done;
-use rest_spread::{entry, Advice, Explained, Helpers, Lowerer, Options, Refusal, Series, Step, Walk, TREE_IN};
+use rest_spread::{
+    entry, order, Advice, Explained, Helpers, Lowerer, Options, Printer, Refusal, Series, Step, Walk, TREE_IN, TREE_OUT,
+};
+use std::cmp::Ordering;
 use std::fs::File;
 use std::io::{self, Read, Write};
+use std::path::{Path, PathBuf};
 use std::process::ExitCode;
 
 const NOT_UNDERSTOOD: u8 = 64;
@@ -28,6 +32,7 @@ fn main() -> ExitCode {
         }
         Ok(Wish::Helpers) => print(&Helpers::ALL.source()).map(|()| 0),
         Ok(Wish::Draw(load)) => draw_all(&load),
+        Ok(Wish::Sort(files)) => sort_all(&files),
         Ok(Wish::Lower(arguments)) => match files::plan(&arguments) {
             Ok(files) => lower_all(&arguments, &files),
             Err(why) => Ok(not_understood(&why)),
@@ -60,6 +65,44 @@ fn draw_all(load: &Load) -> Result<u8, Failure> {
         print(&format!("{}: {} bytes\n", path.display(), drawing.tree.len()))?;
     }
     Ok(0)
+}
+
+/// Prints the names of tree files in the order of their trees, equal ones on a line, by their names. Gives the exit status: 0,
+/// or that of the first file that has no place.
+fn sort_all(files: &[PathBuf]) -> Result<u8, Failure> {
+    let mut trees = Vec::new();
+    let mut status = 0;
+    for path in files {
+        let why = match tree_in(path) {
+            Ok(tree) => match order(&tree, &tree) {
+                Ok(_) => {
+                    trees.push((path, tree));
+                    continue;
+                }
+                Err(refusal) => (refusal.number(), refusal.to_string()),
+            },
+            Err(why) => (Failure::NotRead(io::Error::from(why.kind())).status(), why.to_string()),
+        };
+        eprintln!("{}: {}", path.display(), why.1);
+        if status == 0 {
+            status = why.0;
+        }
+    }
+    // Both are trees, so nothing is refused.
+    let by_tree = |a: &[u8], b: &[u8]| order(a, b).unwrap_or(Ordering::Equal);
+    trees.sort_by(|a, b| by_tree(&a.1, &b.1).then_with(|| a.0.cmp(b.0)));
+    for equal in trees.chunk_by(|a, b| by_tree(&a.1, &b.1).is_eq()) {
+        let names: Vec<String> = equal.iter().map(|(path, _)| path.display().to_string()).collect();
+        print(&(names.join(" ") + "\n"))?;
+    }
+    Ok(status)
+}
+
+/// The bytes of a tree file, no more of them than show that it is too long.
+fn tree_in(path: &Path) -> io::Result<Vec<u8>> {
+    let mut bytes = Vec::new();
+    File::open(path)?.take(TREE_OUT as u64 + 1).read_to_end(&mut bytes)?;
+    Ok(bytes)
 }
 
 /// Lowers every input, and gives the exit status: 0, or that of the first failure.
@@ -126,6 +169,13 @@ fn tell(manner: Manner, input: &Input, done: &Done) -> Result<(), Failure> {
         Manner::Several => print(&format!("{input}: {}", report::line(done))),
         Manner::Hex => print(&report::hex(&done.lowered)),
         Manner::Json => print(&report::json(input, done)),
+        Manner::Text => match Printer::new().text(done.lowered.tree) {
+            Ok(text) => print_bytes(text),
+            Err(_) => {
+                eprintln!("{input}: a mark stands twice in the lowered tree, so it has no text");
+                Ok(())
+            }
+        },
     }
 }
 
@@ -183,7 +233,11 @@ fn split<'a>(arguments: &Arguments, bytes: &'a [u8]) -> (Options, &'a [u8]) {
 }
 
 fn print(text: &str) -> Result<(), Failure> {
+    print_bytes(text.as_bytes())
+}
+
+fn print_bytes(text: &[u8]) -> Result<(), Failure> {
     let mut out = io::stdout();
-    let printed = out.write_all(text.as_bytes()).and_then(|()| out.flush());
+    let printed = out.write_all(text).and_then(|()| out.flush());
     printed.map_err(|why| Failure::NotWritten("standard output".into(), why))
 }
