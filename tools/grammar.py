@@ -1,7 +1,7 @@
 #!/usr/bin/env python3
 """Prints the numbers of crates/tree/src/grammar.rt, worked out from crates/tree/specs/Grammar.antt.
 
-The proofs of `kinds` and `row` check each number, so nothing rests on this script.
+The proofs of `kinds`, `row` and `maps` check each number, so nothing rests on this script.
 """
 import os
 import re
@@ -47,6 +47,13 @@ def main():
             row = sum(digit(f.replace("(", "").replace(")", ""), places) << 10 * j for j, f in enumerate(fields))
             if row:
                 print("        %d => 0x%x," % (start + i, row))
+    print("maps:")
+    for start, name in ((0, "kinds"), (64, "variants")):
+        for i, line in enumerate(block(text, name)):
+            words = re.findall(r"(must|may) ", line)
+            needed = sum(1 << j for j, word in enumerate(words) if word == "must")
+            if words:
+                print("        %d => 0x%x," % (start + i, sum(1 << m for m in range(1 << len(words)) if m & needed == needed)))
 
 
 if __name__ == "__main__":
