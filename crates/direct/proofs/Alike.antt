@@ -8,7 +8,7 @@ use Prim.Native.Nat.{ℕ, zero, suc, max}
 use lib.Dec.{eqb}
 use Rattle.tree.specs.Tree.{Node, Fields, Piece, Items, depth, depthFields, depthPiece, depthItems, count}
 use Rattle.tree.specs.Tree.Node.{node}
-use Rattle.lowering.specs.Parts.{nothing, position, kind, is, pieceIn, standsIn, changeIn, dropIn, asNode, asItems, asNumber, nodeAt, itemsAt, numberAt, stands, change, onNode, onItems, changeNode, changeItems, without, only, each, gather, any, isEmpty, _+++_}
+use Rattle.lowering.specs.Parts.{nothing, position, kind, is, pieceIn, standsIn, changeIn, dropIn, asNode, asItems, asNumber, nodeAt, itemsAt, numberAt, stands, change, onNode, onItems, changeNode, changeItems, without, only, each, gather, any, isEmpty, _+++_, orElse, first}
 use Rattle.lowering.specs.Made.{temporary, helper, string, call, object, array, sequence, member, assign, declares, declared, letOf, varOf, assigning, returning, block, functionBody}
 use Rattle.lowering.specs.Patterns.{shape}
 
@@ -248,6 +248,12 @@ unfolding gather
 gather-alike k j f g h AlikeItems.none = AlikeItems.none
 gather-alike k j f g h (AlikeItems.hole is) = gather-alike k j f g h is
 gather-alike k j f g h (AlikeItems.item {n = n} {m = m} a s is) = append-alike (h n m (a, s)) (gather-alike k j f g h is)
+
+pub first-alike : {ok : Bool} {is js : Items} (k : ℕ) (f g : Node → ℕ) → ((n m : Node) → Linked ok k n m → f n ≡ g m) → AlikeItems ok k is js → first f is ≡ first g js
+unfolding first
+first-alike k f g h AlikeItems.none = refl
+first-alike k f g h (AlikeItems.hole is) = first-alike k f g h is
+first-alike k f g h (AlikeItems.item {n = n} {m = m} a s is) = ap₂ orElse (h n m (a, s)) (first-alike k f g h is)
 
 pub any-alike : {ok : Bool} {is js : Items} (k : ℕ) (f g : Node → Bool) → ((n m : Node) → Linked ok k n m → f n ≡ g m) → AlikeItems ok k is js → any f is ≡ any g js
 unfolding any

@@ -13,11 +13,11 @@ use Rattle.lowering.specs.Parts.{position, kind, is, itemsAt, change, onNode, c
 use Rattle.lowering.specs.Made.{Context, temporary, reference, keyOf, string}
 use Rattle.lowering.specs.Patterns.{Shape, shape, properties, hasRest, key, value, withItems, withValues, hasNestedObjectRest, hasObjectRest, hasNestedArrayRest, hasArrayRestOverObjectRest, replaced, objectsWithRest, replacedBelow, objectsBelow}
 use Rattle.lowering.specs.Patterns.Shape.{objectPattern, arrayPattern, default, leaf}
-use Rattle.lowering.specs.Keys.{keySort, isPrimitive, lacksForm, excludedKey, keptKey, keyTemporary, allPrimitive, anyLacksForm, excludedKeys, keyTemporaries, taken, keyText}
+use Rattle.lowering.specs.Keys.{keySort, isPrimitive, keyRefusal, excludedKey, keptKey, keyTemporary, allPrimitive, keysRefusal, excludedKeys, keyTemporaries, taken, keyText}
 use Rattle.lowering.specs.Assignments.{target, nearest, outermost, partsOf, partsReplaced, targetLeft}
 use Rattle.lowering.specs.Heads.{moved, movedPattern, movedOut}
 use Rattle.lowering.proofs.Cases.{by-shape, by-key, object-is}
-use Rattle.direct.proofs.Alike.{SameKey, same, temporaries, Alike, AlikeItems, Linked, string-alike, temporary-alike, position-alike, shape-alike, node-at, items-at, stands-at, depth-alike, loose, recast, only-alike, append-alike, each-alike, gather-alike, any-alike, cond-alike, cond-items, changeNode-alike, changeItems-alike, without-alike, key-kept, key-put, declares-alike}
+use Rattle.direct.proofs.Alike.{SameKey, same, temporaries, Alike, AlikeItems, Linked, string-alike, temporary-alike, position-alike, shape-alike, node-at, items-at, stands-at, depth-alike, loose, recast, only-alike, append-alike, each-alike, gather-alike, any-alike, first-alike, cond-alike, cond-items, changeNode-alike, changeItems-alike, without-alike, key-kept, key-put, declares-alike}
 use Rattle.lowering.proofs.Clauses.{again-temporary}
 
 -- ---- the properties of an object pattern, the parts of any pattern
@@ -104,17 +104,17 @@ not-again : (k : Node) → is 20 k ≡ true → isPrimitive k ≡ false
 unfolding isPrimitive
 not-again k e = rw (again-temporary k e, isPrimitive) refl
 
-form-temporary : (k : Node) → is 20 k ≡ true → lacksForm k ≡ false
-unfolding lacksForm is
-form-temporary (node at k fs) e = rw (eqb-true k 20 e) refl
+refusal-temporary : (k : Node) → is 20 k ≡ true → keyRefusal k ≡ 0
+unfolding keyRefusal is
+refusal-temporary (node at k fs) e = rw (eqb-true k 20 e) refl
 
-pub form-alike : {k j : Node} → SameKey k j → lacksForm k ≡ lacksForm j
-form-alike (same e) = ap lacksForm e
-form-alike {k = k} {j = j} (temporaries e h) = form-temporary k e ∙ sym (form-temporary j h)
+pub refusal-alike : {k j : Node} → SameKey k j → keyRefusal k ≡ keyRefusal j
+refusal-alike (same e) = ap keyRefusal e
+refusal-alike {k = k} {j = j} (temporaries e h) = refusal-temporary k e ∙ sym (refusal-temporary j h)
 
-pub anyLacks-alike : {ok : Bool} {p q : Node} → shape p ≡ objectPattern → Alike ok p q → anyLacksForm p ≡ anyLacksForm q
-unfolding anyLacksForm
-anyLacks-alike e a = any-alike 34 (λ m. lacksForm (key m)) (λ m. lacksForm (key m)) (λ n m l. form-alike (l .1 refl)) (props e a)
+pub keysRefusal-alike : {ok : Bool} {p q : Node} → shape p ≡ objectPattern → Alike ok p q → keysRefusal p ≡ keysRefusal q
+unfolding keysRefusal
+keysRefusal-alike e a = first-alike 34 (λ m. keyRefusal (key m)) (λ m. keyRefusal (key m)) (λ n m l. refusal-alike (l .1 refl)) (props e a)
 
 pub all-alike : {ok : Bool} {p q : Node} → shape p ≡ objectPattern → Alike ok p q → allPrimitive p ≡ allPrimitive q
 unfolding allPrimitive

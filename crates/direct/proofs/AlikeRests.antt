@@ -6,20 +6,20 @@ use mathlib.Core.List.{List, [], _∷_, _++_, append-assoc}
 use Prim.Native.Nat.{ℕ, zero, suc}
 use lib.Dec.{eqb}
 use Rattle.tree.specs.Tree.{Node, Items, depth, encode}
-use Rattle.lowering.specs.Parts.{position, kind, is, pieceIn, nodeAt, itemsAt, numberAt, only, each, gather, any, _+++_}
+use Rattle.lowering.specs.Parts.{position, kind, is, pieceIn, nodeAt, itemsAt, numberAt, only, each, gather, any, _+++_, orElse, first}
 use Rattle.lowering.specs.Made.{Context, temporary, reference, excludedOf, valueOf, array, declares, idOf}
 use Rattle.lowering.specs.Patterns.{shape, properties, hasRest, key, value, withValues, replaced, objectsWithRest, replacedBelow, objectsBelow}
 use Rattle.lowering.specs.Patterns.Shape.{objectPattern}
-use Rattle.lowering.specs.Keys.{isPrimitive, excludedKey, allPrimitive, anyLacksForm, excludedKeys}
+use Rattle.lowering.specs.Keys.{isPrimitive, excludedKey, allPrimitive, keysRefusal, excludedKeys}
 use Rattle.lowering.specs.Rests.{hasNoProperties, mapped, isHoisted, keysRead, restValue, excludedFor, restMakes}
-use Rattle.lowering.specs.Declarations.{isName, source, sourceDeclarator, keysBefore, patternDeclarator, restDeclarator, own, nested, nestedBelow, objectDeclarators, patternDeclarators, lowerDeclarator, innerObjects, declaratorMakes, isLowered, declarators, loweredIn, declaration, declarationMakes, declarationExcludes, declarationLacksForm}
+use Rattle.lowering.specs.Declarations.{isName, source, sourceDeclarator, keysBefore, patternDeclarator, restDeclarator, own, nested, nestedBelow, objectDeclarators, patternDeclarators, lowerDeclarator, innerObjects, declaratorMakes, isLowered, declarators, loweredIn, declaration, declarationMakes, declarationExcludes, declarationRefusal}
 use Rattle.lowering.proofs.All.{AllItems, all-append, all-gather, all-unit}
 use Rattle.lowering.proofs.Cases.{by-test, by-shape, not-true}
 use Rattle.direct.specs.Events.{Deed, cellOf, stemOf, excludes, excludedKeys as excludedDeeds}
 use Rattle.direct.specs.Events.Deed.{does}
 use Rattle.sink.specs.Machine.{Event}
-use Rattle.direct.proofs.Alike.{Alike, AlikeItems, Linked, helper-alike, temporary-alike, position-alike, is-alike, node-at, stands-at, depth-alike, empty-alike, tight, only-alike, more-alike, append-alike, each-alike, gather-alike, any-alike, cond-alike, cond-items, changeItems-alike, declares-alike, call-alike, object-alike, array-of-alike, sequence-alike, member-alike}
-use Rattle.direct.proofs.AlikePatterns.{props, parts, shaped, below-alike, primitive-one, anyLacks-alike, all-alike, reference-alike, temporaries-alike, keys-alike, taken-alike, values-alike, shape-values, replaced-at, replaced-alike, objects-alike}
+use Rattle.direct.proofs.Alike.{Alike, AlikeItems, Linked, helper-alike, temporary-alike, position-alike, is-alike, node-at, stands-at, depth-alike, empty-alike, tight, only-alike, more-alike, append-alike, each-alike, gather-alike, first-alike, cond-alike, cond-items, changeItems-alike, declares-alike, call-alike, object-alike, array-of-alike, sequence-alike, member-alike}
+use Rattle.direct.proofs.AlikePatterns.{props, parts, shaped, below-alike, primitive-one, keysRefusal-alike, all-alike, reference-alike, temporaries-alike, keys-alike, taken-alike, values-alike, shape-values, replaced-at, replaced-alike, objects-alike}
 use Rattle.lowering.proofs.Clauses.{hoisted-primitive}
 
 -- ---- lists of object patterns
@@ -51,11 +51,11 @@ module _ (P : Node → Type 0) where
   gather-with f g h z (AlikeItems.hole is) = gather-with f g h z is
   gather-with f g h z (AlikeItems.item {n = n} {m = m} a s is) = append-alike (h n m (z .0) a) (gather-with f g h (z .1) is)
 
-  pub any-with : {ok : Bool} {is js : Items} (f g : Node → Bool) → ((n m : Node) → P n → Alike ok n m → f n ≡ g m) → AllItems P is → AlikeItems ok 0 is js → any f is ≡ any g js
-  unfolding any
-  any-with f g h z AlikeItems.none = refl
-  any-with f g h z (AlikeItems.hole is) = any-with f g h z is
-  any-with f g h z (AlikeItems.item {n = n} {m = m} a s is) = ap₂ (λ (x y : Bool). x || y) (h n m (z .0) a) (any-with f g h (z .1) is)
+  pub first-with : {ok : Bool} {is js : Items} (f g : Node → ℕ) → ((n m : Node) → P n → Alike ok n m → f n ≡ g m) → AllItems P is → AlikeItems ok 0 is js → first f is ≡ first g js
+  unfolding first
+  first-with f g h z AlikeItems.none = refl
+  first-with f g h z (AlikeItems.hole is) = first-with f g h z is
+  first-with f g h z (AlikeItems.item {n = n} {m = m} a s is) = ap₂ orElse (h n m (z .0) a) (first-with f g h (z .1) is)
 
 -- ---- deeds of lists, one after another
 
@@ -275,11 +275,11 @@ module _ (c d : Context) (root : c .root ≡ d .root) where
       gather-alike 0 0 (λ x. cond (isLowered x) (declaratorMakes c (nodeAt 0 x) (nodeAt 1 x)) Items.none) (λ x. cond (isLowered x) (declaratorMakes d (nodeAt 0 x) (nodeAt 1 x)) Items.none)
       (λ n m l. cond-items (isLowered n) (isLowered m) (lowered-alike (l .0)) (λ h. declaratorMakes-alike (node-at 0 (l .0)) (node-at 1 (l .0))) (λ h. AlikeItems.none)) (parts 2 a)
 
-  pub declarationLacks-alike : {ok : Bool} {n m : Node} → Alike ok n m → declarationLacksForm c n ≡ declarationLacksForm d m
-  unfolding declarationLacksForm
-  declarationLacks-alike a =
-      any-alike 0 (λ x. any (λ p. anyLacksForm p) (loweredIn c x)) (λ x. any (λ p. anyLacksForm p) (loweredIn d x))
-      (λ n m l. any-with Object (λ p. anyLacksForm p) (λ p. anyLacksForm p) (λ p q o z. anyLacks-alike o z) (lowered-objects n) (loweredIn-alike (l .0))) (parts 2 a)
+  pub declarationRefusal-alike : {ok : Bool} {n m : Node} → Alike ok n m → declarationRefusal c n ≡ declarationRefusal d m
+  unfolding declarationRefusal
+  declarationRefusal-alike a =
+      first-alike 0 (λ x. first (λ p. keysRefusal p) (loweredIn c x)) (λ x. first (λ p. keysRefusal p) (loweredIn d x))
+      (λ n m l. first-with Object (λ p. keysRefusal p) (λ p. keysRefusal p) (λ p q o z. keysRefusal-alike o z) (lowered-objects n) (loweredIn-alike (l .0))) (parts 2 a)
 
   pub declarationExcludes-deeds : {ok : Bool} {n m : Node} → Alike ok n m → excludedDeeds (declarationExcludes c n) ≡ excludedDeeds (declarationExcludes d m)
   unfolding declarationExcludes

@@ -3,7 +3,7 @@
 use mathlib.Core.Path.{_≡_, refl, sym, ap, ap₂, _∙_, subst}
 use mathlib.Core.Bool.{Bool, true, false, cond, _&&_, true≢false, false≢true}
 use mathlib.Core.List.{List, [], _∷_, _++_, append-assoc}
-use Prim.Native.Nat.{ℕ}
+use Prim.Native.Nat.{ℕ, suc}
 use lib.Dec.{eqb}
 use borrow.Author.Tests.{eqb-true}
 use Rattle.sink.specs.Machine.{Event}
@@ -11,22 +11,22 @@ use Rattle.tree.specs.Tree.{Node, Items, depth, encode}
 use Rattle.lowering.specs.Parts.{position, kind, is, pieceIn, nodeAt, itemsAt, numberAt, stands, standsIn, changeItems, only, each, gather, any, isEmpty, _+++_}
 use Rattle.lowering.specs.Made.{Context, temporary, reference, valueOf, assign, declares, declared, idOf, varOf, assigning}
 use Rattle.lowering.specs.Patterns.{properties, rest, key, replacedBelow, hasObjectRest, hasArrayRestOverObjectRest}
-use Rattle.lowering.specs.Keys.{keySort, keyTemporary, keyTemporaries, anyLacksForm}
+use Rattle.lowering.specs.Keys.{keySort, keyTemporary, keyTemporaries, keysRefusal}
 use Rattle.lowering.specs.Rests.{restValue, excludedFor}
 use Rattle.lowering.specs.Literals.{Call, opened, closed, scan, literal}
-use Rattle.lowering.specs.Declarations.{declaration, declarationMakes, declarationExcludes, declarationLacksForm}
-use Rattle.lowering.specs.Assignments.{target, isTop, partsOf, fromReference, topLacksForm, topSequence, topEntry, topExcludes, topMakes, nestedSequence, nestedEntry, nestedMakes}
+use Rattle.lowering.specs.Declarations.{declaration, declarationMakes, declarationExcludes, declarationRefusal}
+use Rattle.lowering.specs.Assignments.{target, isTop, partsOf, fromReference, topRefusal, topSequence, topEntry, topExcludes, topMakes, nestedSequence, nestedEntry, nestedMakes}
 use Rattle.lowering.specs.Heads.{isMoved, movedFrom, movedOut, leftBehind, inFront, inBody, asFunctionBody, asBlock, references, function, functionMakes, arrow, arrowMakes, catch, catchMakes, declaringHead, declaringMakes, assigningHead, assigningMakes}
 use Rattle.lowering.specs.Walk.{Step, Rule, rewritten, unchanged, refuse, stepDeclaration, stepTop, stepAssignment, stepFor, ruleOf, rewrite}
-use Rattle.lowering.specs.Refusals.{restBelowArrayRest, keyWithoutForm}
+use Rattle.lowering.specs.Refusals.{restBelowArrayRest}
 use Rattle.lowering.specs.Walk.Rule.{literals, declarations, assignments, functions, arrows, catches, fors, nowhere}
 use Rattle.lowering.proofs.All.{AllItems, all-unit}
-use Rattle.lowering.proofs.Cases.{by-test, by-key, by-rule, shape-34, functionBody-is, block-is, declarations-4}
+use Rattle.lowering.proofs.Cases.{by-test, by-key, by-rule, shape-34, functionBody-is, block-is, declarations-4, by-number}
 use Rattle.direct.specs.Events.{Deed, cell, cellOf, stemOf, lists, made, handed, entered, refused, handsOut, excludedKeys as excludedDeeds}
 use Rattle.direct.specs.Events.Deed.{does}
 use Rattle.direct.proofs.Alike.{SameKey, same, temporaries, Alike, AlikeItems, Linked, helper-alike, nothing-alike, kind-alike, position-alike, is-alike, node-at, number-at, stands-at, empty-alike, count-alike, loose, tight, only-alike, more-alike, append-alike, each-alike, gather-alike, any-alike, cond-alike, cond-items, changeNode-alike, changeNode-here, changeItems-alike, declared-alike, assign-alike, call-alike, object-alike, sequence-alike, let-alike, var-alike, assigning-alike, returning-alike, block-alike, body-alike}
-use Rattle.direct.proofs.AlikePatterns.{props, parts, below-alike, over-alike, outermost-alike, parts-alike, left-alike, anyLacks-alike, reference-alike, temporaries-alike, replaced-alike, movedOut-alike, moved-alike, pattern-alike}
-use Rattle.direct.proofs.AlikeRests.{Object, deeds-gather, valueOf-alike, restValue-alike, excludedFor-alike, excludedFor-deeds, ids-alike, declaration-alike, declarationMakes-alike, declarationLacks-alike, declarationExcludes-deeds}
+use Rattle.direct.proofs.AlikePatterns.{props, parts, below-alike, over-alike, outermost-alike, parts-alike, left-alike, keysRefusal-alike, reference-alike, temporaries-alike, replaced-alike, movedOut-alike, moved-alike, pattern-alike}
+use Rattle.direct.proofs.AlikeRests.{Object, deeds-gather, valueOf-alike, restValue-alike, excludedFor-alike, excludedFor-deeds, ids-alike, declaration-alike, declarationMakes-alike, declarationRefusal-alike, declarationExcludes-deeds}
 use Rattle.lowering.proofs.Clauses.{again-temporary, top-34}
 
 -- ---- what is handed out
@@ -95,9 +95,9 @@ pub top-alike : {ok : Bool} {p q : Node} → Alike ok p q → isTop p ≡ isTop 
 unfolding isTop
 top-alike a = ap₂ (λ (x y : Bool). x && y) (is-alike 34 a) (stands-at 1 a)
 
-pub topLacks-alike : {ok : Bool} {n m : Node} → Object (target n) → Alike ok n m → topLacksForm n ≡ topLacksForm m
-unfolding topLacksForm
-topLacks-alike o a = anyLacks-alike o (node-at 1 a)
+pub topRefusal-alike : {ok : Bool} {n m : Node} → Object (target n) → Alike ok n m → topRefusal n ≡ topRefusal m
+unfolding topRefusal
+topRefusal-alike o a = keysRefusal-alike o (node-at 1 a)
 
 module _ (c d : Context) (root : c .root ≡ d .root) (stat : c .statement ≡ d .statement) where
   -- assignments from temporaries, and their declarators
@@ -384,18 +384,18 @@ module _ (c d : Context) (root : c .root ≡ d .root) (stat : c .statement ≡ d
   declaration-step : {ok : Bool} {n m : Node} → eqb (kind n) 34 ≡ false → Alike ok n m → AlikeStep ok (stepDeclaration c n) (stepDeclaration d m)
   unfolding stepDeclaration
   declaration-step {n = n} {m = m} e a =
-      by-test (declarationLacksForm c n)
-      (λ h. rw (h, sym (declarationLacks-alike c d root a) ∙ h, stepDeclaration) (refuse-alike keyWithoutForm))
-      (λ h. rw (h, sym (declarationLacks-alike c d root a) ∙ h, stepDeclaration)
+      by-number (declarationRefusal c n)
+      (λ r h. rw (h, sym (declarationRefusal-alike c d root a) ∙ h, stepDeclaration) (refuse-alike (suc r)))
+      (λ h. rw (h, sym (declarationRefusal-alike c d root a) ∙ h, stepDeclaration)
       (noted-alike (declaration c n) (declaration d m) (declarationMakes c n) (declarationMakes d m) (declarationExcludes c n) (declarationExcludes d m)
       (declaration-alike c d root e a) (declarationMakes-alike c d root a) (declarationExcludes-deeds c d root a)))
 
   top-step : {ok : Bool} {n m : Node} → Object (target n) → Alike ok n m → AlikeStep ok (stepTop c n) (stepTop d m)
   unfolding stepTop
   top-step {n = n} {m = m} o a =
-      by-test (topLacksForm n)
-      (λ h. rw (h, sym (topLacks-alike {n = n} {m = m} o a) ∙ h, stepTop) (refuse-alike keyWithoutForm))
-      (λ h. rw (h, sym (topLacks-alike {n = n} {m = m} o a) ∙ h, stepTop)
+      by-number (topRefusal n)
+      (λ r h. rw (h, sym (topRefusal-alike {n = n} {m = m} o a) ∙ h, stepTop) (refuse-alike (suc r)))
+      (λ h. rw (h, sym (topRefusal-alike {n = n} {m = m} o a) ∙ h, stepTop)
       (entry-alike (topSequence c n) (topSequence d m) (topMakes c n) (topMakes d m) (topExcludes c n) (topExcludes d m) (topEntry c n) (topEntry d m)
       (topSequence-alike c d root stat o a) (topMakes-alike c d root stat o a) (topEntry-alike c d root stat o a) (topEntry-deeds c d root stat o a) (topExcludes-deeds c d root stat o a)))
 

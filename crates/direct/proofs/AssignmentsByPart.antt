@@ -3,7 +3,7 @@
 use mathlib.Core.Path.{_≡_, refl, sym, ap, ap₂, _∙_}
 use mathlib.Core.Bool.{Bool, true, false, cond, not}
 use mathlib.Core.List.{List, [], _∷_, _++_}
-use Prim.Native.Nat.{ℕ, zero, suc}
+use Prim.Native.Nat.{ℕ, zero, suc, _<_}
 use native.Mathlib.Omega.{arith}
 use Rattle.tree.specs.Tree.{Node, Items, wideBytes, mapOf, count, depth}
 use Rattle.tree.specs.Tree.Fields.{done, field}
@@ -12,9 +12,9 @@ use Rattle.lowering.specs.Parts.{position, is, pieceIn, standsIn, changeIn, nod
 use Rattle.lowering.specs.Made.{Context, temporary, assign, sequence, reference, valueOf}
 use Rattle.lowering.specs.Patterns.{shape, rest, hasNestedObjectRest, hasObjectRest, hasArrayRestOverObjectRest, replacedBelow}
 use Rattle.lowering.specs.Patterns.Shape.{leaf}
-use Rattle.lowering.specs.Keys.{anyLacksForm}
+use Rattle.lowering.specs.Keys.{keysRefusal}
 use Rattle.lowering.specs.Rests.{restValue}
-use Rattle.lowering.specs.Assignments.{target, isTop, partsOf, outermost, fromReference, topLacksForm, topSequence, topEntry, topExcludes, topMakes, nestedSequence, nestedEntry, nestedMakes}
+use Rattle.lowering.specs.Assignments.{target, isTop, partsOf, outermost, fromReference, topRefusal, topSequence, topEntry, topExcludes, topMakes, nestedSequence, nestedEntry, nestedMakes}
 use Rattle.lowering.specs.Walk.{rewrite, refuse, ruleOf, opensScope, stepAssignment, stepTop}
 use Rattle.lowering.specs.Collect.{isContainer}
 use Rattle.lowering.proofs.Cases.{by-test, by-shape, rule-27}
@@ -62,11 +62,12 @@ module _ (c : Place) (n : Node) (k : is 27 n ≡ true) where
   unfolding rewrite stepAssignment
   step-top h t = rw (rule-27 n k, rewrite, h, stepAssignment, t) refl
 
-  top-refuses : topLacksForm n ≡ true → stepTop (contextOf c) n ≡ refuse 6
+  top-refuses : (r : ℕ) → 0 < r → topRefusal n ≡ r → stepTop (contextOf c) n ≡ refuse r
   unfolding stepTop
-  top-refuses f = rw (f, stepTop) refl
+  top-refuses zero z f = absurd (omega arith)
+  top-refuses (suc r) z f = rw (f, stepTop) refl
 
-  top-steps : topLacksForm n ≡ false
+  top-steps : topRefusal n ≡ 0
       → stepTop (contextOf c) n ≡ record { note = record { refusal = 0; made = topMakes (contextOf c) n; entry = topEntry (contextOf c) n; excluded = topExcludes (contextOf c) n }; result = topSequence (contextOf c) n }
   unfolding stepTop
   top-steps f = rw (f, stepTop) refl
@@ -80,10 +81,10 @@ module _ (c : Place) (n : Node) (k : is 27 n ≡ true) where
   pub assignment-refused-5 : hasArrayRestOverObjectRest (target n) ≡ true → emits c n ≡ say (refused 5 ++ puts (0 ∷ 0 ∷ []))
   assignment-refused-5 h = emits-refused c n 5 (step-5 h)
 
-  -- a key without form
-  pub assignment-refused-6 : hasArrayRestOverObjectRest (target n) ≡ false → isTop (target n) ≡ true → topLacksForm n ≡ true
-      → emits c n ≡ say (refused 6 ++ puts (0 ∷ 0 ∷ []))
-  assignment-refused-6 h t f = emits-refused c n 6 (step-top h t ∙ top-refuses f)
+  -- a key that is refused
+  pub assignment-refused-keys : (r : ℕ) → 0 < r → hasArrayRestOverObjectRest (target n) ≡ false → isTop (target n) ≡ true → topRefusal n ≡ r
+      → emits c n ≡ say (refused r ++ puts (0 ∷ 0 ∷ []))
+  assignment-refused-keys r z h t f = emits-refused c n r (step-top h t ∙ top-refuses r z f)
 
   -- no object rest below the target
   pub assignment-stays : hasObjectRest (target n) ≡ false → emits c n ≡ stays c n
@@ -241,9 +242,9 @@ module _ (c : Place) where
   rest-top at ps r = refl
 
   pub assignment-top : (at op pat : ℕ) (ps : Items) (r x : Node) → hasArrayRestOverObjectRest (objectRestAt pat ps r) ≡ false
-      → anyLacksForm (objectRestAt pat ps r) ≡ false
+      → keysRefusal (objectRestAt pat ps r) ≡ 0
       → emits c (assignmentAt at op (objectRestAt pat ps r) x) ≡ emitsTop c (objectRestAt pat ps r) (emits (inner c) x)
-  unfolding emitsTop topCount partsCount topLacksForm is nodeAt pieceIn count
+  unfolding emitsTop topCount partsCount topRefusal is nodeAt pieceIn count
   assignment-top at op pat ps r x h l =
       let κ = contextOf c in
       let p = objectRestAt pat ps r in
@@ -274,7 +275,7 @@ module _ (c : Place) where
 -- ---- an object's own assignment is the same rule, with the temporary in its place for the value
 
 module _ (c : Place) where
-  pub inner-done : (at : ℕ) (ps : Items) (r : Node) → hasArrayRestOverObjectRest (objectRestAt at ps r) ≡ false → anyLacksForm (objectRestAt at ps r) ≡ false
+  pub inner-done : (at : ℕ) (ps : Items) (r : Node) → hasArrayRestOverObjectRest (objectRestAt at ps r) ≡ false → keysRefusal (objectRestAt at ps r) ≡ 0
       → emitsInner c (objectRestAt at ps r) ≡ emitsTop (inner c) (objectRestAt at ps r) (saysCell 1 at)
   unfolding emitsInner
   inner-done at ps r h l =
@@ -282,9 +283,9 @@ module _ (c : Place) where
       assignment-top (inner c) 0 1 at ps r (temporary [] 1 at) h l
       ∙ ap (λ (s : Emit). emitsTop (inner c) p s) (says-cell (inner (inner c)) [] 1 at)
 
-  pub inner-refused : (at : ℕ) (ps : Items) (r : Node) → hasArrayRestOverObjectRest (objectRestAt at ps r) ≡ false → anyLacksForm (objectRestAt at ps r) ≡ true
-      → emitsInner c (objectRestAt at ps r) ≡ say (refused 6 ++ puts (0 ∷ 0 ∷ []))
-  unfolding emitsInner topLacksForm is nodeAt pieceIn
-  inner-refused at ps r h l =
+  pub inner-refused : (at : ℕ) (ps : Items) (r : Node) (number : ℕ) → 0 < number → hasArrayRestOverObjectRest (objectRestAt at ps r) ≡ false
+      → keysRefusal (objectRestAt at ps r) ≡ number → emitsInner c (objectRestAt at ps r) ≡ say (refused number ++ puts (0 ∷ 0 ∷ []))
+  unfolding emitsInner topRefusal is nodeAt pieceIn
+  inner-refused at ps r number z h l =
       let n = assign (objectRestAt at ps r) (temporary [] 1 at) in
-      assignment-refused-6 (inner c) n refl h (rest-top c at ps r) l
+      assignment-refused-keys (inner c) n refl number z h (rest-top c at ps r) l

@@ -3,7 +3,7 @@
 use mathlib.Core.Path.{_≡_, refl, sym, ap, ap₂, _∙_}
 use mathlib.Core.Bool.{Bool, true, false, cond}
 use mathlib.Core.List.{[], _∷_, _++_}
-use Prim.Native.Nat.{ℕ, _≤_, max}
+use Prim.Native.Nat.{ℕ, _≤_, max, zero, suc, _<_}
 use native.Mathlib.Omega.{arith}
 use Rattle.tree.specs.Tree.{Node, Fields, Piece, Items, wideBytes, count, depth, depthFields, depthItems}
 use Rattle.tree.specs.Tree.Node.{node}
@@ -15,7 +15,7 @@ use Rattle.lowering.specs.Patterns.{shape, properties, key, value, rest, hasRes
 use Rattle.lowering.specs.Patterns.Shape.{objectPattern, arrayPattern, leaf}
 use Rattle.lowering.specs.Keys.{keyTemporary, keyTemporaries, taken}
 use Rattle.lowering.specs.Rests.{restValue}
-use Rattle.lowering.specs.Declarations.{isName, source, sourceDeclarator, keysBefore, patternDeclarator, restDeclarator, own, nested, nestedBelow, objectDeclarators, patternDeclarators, lowerDeclarator, isLowered, declarators, declaration, declarationMakes, declarationExcludes, declarationLacksForm}
+use Rattle.lowering.specs.Declarations.{isName, source, sourceDeclarator, keysBefore, patternDeclarator, restDeclarator, own, nested, nestedBelow, objectDeclarators, patternDeclarators, lowerDeclarator, isLowered, declarators, declaration, declarationMakes, declarationExcludes, declarationRefusal}
 use Rattle.lowering.specs.Walk.{rewrite, refuse, stepDeclaration}
 use Rattle.lowering.proofs.Cases.{by-test, by-shape, object-is, rule-4}
 use Rattle.lowering.proofs.Levels.{gather-agrees, node-in, values-agree, replaced-levels, nested-levels, nested-nothing}
@@ -313,17 +313,19 @@ module _ (c : Place) where
 
   -- ---- the declaration
 
-  step-declares : (n : Node) → is 4 n ≡ true → declarationLacksForm (contextOf c) n ≡ false
+  step-declares : (n : Node) → is 4 n ≡ true → declarationRefusal (contextOf c) n ≡ 0
       → rewrite (contextOf c) n ≡ record { note = record { refusal = 0; made = declarationMakes (contextOf c) n; entry = Items.none; excluded = declarationExcludes (contextOf c) n }; result = declaration (contextOf c) n }
   unfolding rewrite stepDeclaration
   step-declares n k h = rw (rule-4 n k, rewrite, h, stepDeclaration) refl
 
-  step-refuses : (n : Node) → is 4 n ≡ true → declarationLacksForm (contextOf c) n ≡ true → rewrite (contextOf c) n ≡ refuse 6
+  step-refuses : (n : Node) (r : ℕ) → is 4 n ≡ true → 0 < r → declarationRefusal (contextOf c) n ≡ r → rewrite (contextOf c) n ≡ refuse r
   unfolding rewrite stepDeclaration
-  step-refuses n k h = rw (rule-4 n k, rewrite, h, stepDeclaration) refl
+  step-refuses n zero k z h = absurd (omega arith)
+  step-refuses n (suc r) k z h = rw (rule-4 n k, rewrite, h, stepDeclaration) refl
 
-  pub declaration-refused : (n : Node) → is 4 n ≡ true → declarationLacksForm (contextOf c) n ≡ true → emits c n ≡ say (refused 6 ++ puts (0 ∷ 0 ∷ []))
-  declaration-refused n k h = emits-refused c n 6 (step-refuses n k h)
+  -- a key that is refused
+  pub declaration-refused : (n : Node) (r : ℕ) → is 4 n ≡ true → 0 < r → declarationRefusal (contextOf c) n ≡ r → emits c n ≡ say (refused r ++ puts (0 ∷ 0 ∷ []))
+  declaration-refused n r k z h = emits-refused c n r (step-refuses n r k z h)
 
   declaration-at : (at m b : ℕ) (ds : Items) → declaration (contextOf c) (declarationAt at m b ds) ≡ declarationAt at m b (gather (declarators (contextOf c)) ds)
   unfolding declaration change changeIn onItems
@@ -333,7 +335,7 @@ module _ (c : Place) where
   unfolding itemsAt pieceIn
   items-at at m b ds = refl
 
-  pub declaration-done : (at m b : ℕ) (ds : Items) → declarationLacksForm (contextOf c) (declarationAt at m b ds) ≡ false
+  pub declaration-done : (at m b : ℕ) (ds : Items) → declarationRefusal (contextOf c) (declarationAt at m b ds) ≡ 0
       → emits c (declarationAt at m b ds)
       ≡ inTurn declaratorMade ds
       ▷ inTurn (declaratorExcludes (c .root)) ds

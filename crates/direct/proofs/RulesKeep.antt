@@ -6,20 +6,20 @@ use Prim.Native.Nat.{ℕ, zero, suc}
 use borrow.Author.Tests.{eqb-true}
 use Rattle.tree.specs.Tree.{Node, Items, depth, depthFields}
 use Rattle.tree.specs.Tree.Node.{node}
-use Rattle.lowering.specs.Parts.{kind, is, nodeAt, itemsAt, stands, only, each, gather, any, _+++_}
+use Rattle.lowering.specs.Parts.{kind, is, nodeAt, itemsAt, stands, only, each, gather, any, _+++_, first, orElse}
 use Rattle.lowering.specs.Made.{Context}
 use Rattle.lowering.specs.Patterns.{shape, properties, itemsOf, rest, hasRest, leftOf, value, hasNestedObjectRest, hasNestedArrayRest, hasObjectRest}
-use Rattle.lowering.specs.Keys.{anyLacksForm}
+use Rattle.lowering.specs.Keys.{keysRefusal}
 use Rattle.lowering.specs.Rests.{excludedFor}
 use Rattle.lowering.specs.Literals.{literal}
-use Rattle.lowering.specs.Declarations.{isLowered, declaratorMakes, declarators, loweredIn, declaration, declarationMakes, declarationExcludes, declarationLacksForm}
+use Rattle.lowering.specs.Declarations.{isLowered, declaratorMakes, declarators, loweredIn, declaration, declarationMakes, declarationExcludes, declarationRefusal}
 use Rattle.lowering.specs.Assignments.{isTop, target}
 use Rattle.lowering.specs.Heads.{isMoved, movedFrom, function, functionMakes, arrow, arrowMakes, catch, catchMakes, declaringHead, declaringMakes, assigningHead, assigningMakes}
 use Rattle.lowering.specs.Walk.{unchanged, ruleOf, rewrite, stepDeclaration, stepAssignment, stepFor}
 use Rattle.lowering.specs.Walk.Rule.{literals, fors}
 use Rattle.lowering.proofs.Cases.{by-test, by-shape, or-left, or-right, shape-34, rule-4, rule-27, rule-14, rule-17, rule-10, step-same, rewritten-same}
 use Rattle.lowering.proofs.Accepted.{NoHoles}
-use Rattle.lowering.proofs.ItemLaws.{gather-none as none-in, any-none, any-empty}
+use Rattle.lowering.proofs.ItemLaws.{gather-none as none-in, any-none, any-empty, first-empty}
 use Rattle.lowering.proofs.ChangeLaws.{changeItems-same}
 
 -- ---- rules by kind
@@ -87,6 +87,12 @@ unfolding literal
 literal-same n h = rw h refl
 
 module _ (c : Context) where
+  first-none : (u : Node → Bool) (f : Node → ℕ) → ((n : Node) → u n ≡ false → f n ≡ 0) → (is : Items) → any u is ≡ false → first f is ≡ 0
+  unfolding any first orElse
+  first-none u f h Items.none e = refl
+  first-none u f h (Items.hole is) e = first-none u f h is e
+  first-none u f h (Items.item n is) e = rw (h n (or-left (u n) (any u is) e)) (first-none u f h is (or-right (u n) (any u is) e))
+
   kept-one : (d : Node) → isLowered d ≡ false → declarators c d ≡ only d
   unfolding declarators
   kept-one d e = rw e refl
@@ -95,10 +101,10 @@ module _ (c : Context) where
   unfolding loweredIn
   lowered-in d e = rw e refl
 
-  lacks-none : (n : Node) → any isLowered (itemsAt 2 n) ≡ false → declarationLacksForm c n ≡ false
-  unfolding declarationLacksForm
-  lacks-none n h =
-      any-none isLowered (λ d. any (λ p. anyLacksForm p) (loweredIn c d)) (λ d e. ap (any (λ p. anyLacksForm p)) (lowered-in d e) ∙ any-empty (λ p. anyLacksForm p)) (itemsAt 2 n) h
+  refuses-none : (n : Node) → any isLowered (itemsAt 2 n) ≡ false → declarationRefusal c n ≡ 0
+  unfolding declarationRefusal
+  refuses-none n h =
+      first-none isLowered (λ d. first (λ p. keysRefusal p) (loweredIn c d)) (λ d e. ap (first (λ p. keysRefusal p)) (lowered-in d e) ∙ first-empty (λ p. keysRefusal p)) (itemsAt 2 n) h
 
   pub literal-kept : (n : Node) → is 24 n ≡ true → any (λ p. is 26 p) (itemsAt 0 n) ≡ false → rewrite c n ≡ unchanged n
   unfolding rewrite
@@ -108,7 +114,7 @@ module _ (c : Context) where
   pub declaration-kept : (n : Node) → is 4 n ≡ true → NoHoles (itemsAt 2 n) → any isLowered (itemsAt 2 n) ≡ false → rewrite c n ≡ unchanged n
   unfolding rewrite stepDeclaration declaration declarationMakes declarationExcludes
   declaration-kept n k w h =
-      rw (rule-4 n k, rewrite, lacks-none n h, stepDeclaration)
+      rw (rule-4 n k, rewrite, refuses-none n h, stepDeclaration)
       (step-same (declarationMakes c n) (declarationExcludes c n) (declaration c n) n
       (gather-none isLowered (λ d. cond (isLowered d) (declaratorMakes c (nodeAt 0 d) (nodeAt 1 d)) Items.none) (λ d e. rw e) (itemsAt 2 n) h)
       (gather-none isLowered (λ d. gather (excludedFor c) (loweredIn c d)) (λ d e. ap (gather (excludedFor c)) (lowered-in d e) ∙ none-in (excludedFor c)) (itemsAt 2 n) h)

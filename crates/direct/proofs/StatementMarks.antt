@@ -10,14 +10,14 @@ use Rattle.tree.specs.Tree.Node.{node}
 use Rattle.lowering.specs.Parts.{kind, is, pieceIn, changeIn, nodeAt, itemsAt, stands, change, onNode, onItems, changeNode, changeItems, each, gather, any}
 use Rattle.lowering.specs.Made.{Context, reference, varOf, assigning}
 use Rattle.lowering.specs.Patterns.{hasObjectRest, hasArrayRestOverObjectRest}
-use Rattle.lowering.specs.Declarations.{declaration, declarators, declarationLacksForm}
+use Rattle.lowering.specs.Declarations.{declaration, declarators, declarationRefusal}
 use Rattle.lowering.specs.Heads.{isMoved, movedFrom, leftBehind, inBody, asFunctionBody, asBlock, function, arrow, catch, declaringHead, assigningHead}
 use Rattle.lowering.specs.Walk.{Walked, inside, refuse, stepDeclaration, stepFor, ruleOf, rewrite, within}
-use Rattle.lowering.specs.Refusals.{restBelowArrayRest, keyWithoutForm}
+use Rattle.lowering.specs.Refusals.{restBelowArrayRest}
 use Rattle.lowering.specs.Walk.Rule.{literals, declarations, assignments, functions, arrows, catches, fors, nowhere}
 use Rattle.lowering.specs.Weight.{walked}
 use Rattle.lowering.specs.Collect.{marked, markOf}
-use Rattle.lowering.proofs.Cases.{by-test, by-rule, literals-24}
+use Rattle.lowering.proofs.Cases.{by-test, by-rule, literals-24, by-number}
 use Rattle.lowering.proofs.Falls.{walked-is}
 use Rattle.direct.specs.Events.{Place, Emit, contextOf, emits}
 use Rattle.direct.specs.Emit.{marking, markHere, asMark, startMark, emitsItem, emitsStatement}
@@ -124,8 +124,8 @@ begins-same c n (gone r e) =
 declaration-begins : (c : Context) (n : Node) → ruleOf (kind n) ≡ declarations → Begins c n
 unfolding rewrite stepDeclaration declaration
 declaration-begins c n k =
-    by-test (declarationLacksForm c n)
-    (λ h. gone keyWithoutForm (rw (k, rewrite, h, stepDeclaration) refl))
+    by-number (declarationRefusal c n)
+    (λ r h. gone (suc r) (rw (k, rewrite, h, stepDeclaration) refl))
     (λ h. kept (rw (k, rewrite, h, stepDeclaration) (changeItems-mark 2 (gather (declarators c)) n)))
 
 for-begins : (c : Context) (n : Node) → ruleOf (kind n) ≡ fors → Begins c n

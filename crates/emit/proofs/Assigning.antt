@@ -17,15 +17,15 @@ use Rattle.tree.specs.Answer.{Peeked}
 use Rattle.lowering.specs.Parts.{is, isEmpty, pieceIn, standsIn, nodeAt, itemsAt, stands, any}
 use Rattle.lowering.specs.Patterns.{shape, properties, value, hasRest, hasNestedObjectRest, hasObjectRest, hasArrayRestOverObjectRest}
 use Rattle.lowering.specs.Patterns.Shape.{leaf}
-use Rattle.lowering.specs.Keys.{anyLacksForm}
-use Rattle.lowering.specs.Assignments.{target, isTop, topLacksForm}
+use Rattle.lowering.specs.Keys.{keysRefusal}
+use Rattle.lowering.specs.Assignments.{target, isTop, topRefusal}
 use Rattle.lowering.proofs.All.{AllItems}
-use Rattle.lowering.proofs.Cases.{by-test, and-left, and-right}
+use Rattle.lowering.proofs.Cases.{by-test, and-left, and-right, by-number}
 use Rattle.sink.specs.Machine.Event.{temporary}
 use Rattle.pattern.specs.declared.source.ReferenceBuilder.{ReferenceBuilder}
 use Rattle.pattern.specs.Tally.{limited}
 use Rattle.pattern.proofs.CountsFit.{parts-fit}
-use Rattle.direct.specs.Events.{Place, Emit, puts, cell, refused, emits}
+use Rattle.direct.specs.Events.{Place, Emit, puts, cell, emits}
 use Rattle.direct.specs.Events.Deed.{does, refuses}
 use Rattle.direct.specs.Emit.{say, _▷_, inner, stays}
 use Rattle.direct.specs.Views.{View, objectAt, objectRestAt, nameless, saysCell, emitsView}
@@ -39,16 +39,16 @@ use Rattle.direct.proofs.Threads.{say-say}
 use Rattle.direct.proofs.PatternViews.{says-cell}
 use Rattle.direct.proofs.Tests.{over-object-at}
 use Rattle.direct.proofs.Reached.{parts-reached, over-parts, over-arrays, over-anywhere}
-use Rattle.direct.proofs.AssignmentsByPart.{assignment-refused-5, assignment-refused-6, assignment-stays, assignment-nested, assignment-top, target-nested, target-kept, rest-done, inner-refused, inner-done}
+use Rattle.direct.proofs.AssignmentsByPart.{assignment-refused-5, assignment-refused-keys, assignment-stays, assignment-nested, assignment-top, target-nested, target-kept, rest-done, inner-refused, inner-done}
 use Rattle.walk.specs.Run.{Going, Does, Clear}
 use Rattle.walk.specs.Whole.{Good}
-use Rattle.walk.specs.Turns.{viewOf, reachOf, turnOf, turnsOf, deepMode, suits, AllSuit, sourceOf, givenDeeds, givenNode}
+use Rattle.walk.specs.Turns.{viewOf, reachOf, turnOf, turnsOf, deepMode, suits, AllSuit, sourceOf, givenDeeds, givenNode, unlessRefused}
 use Rattle.walk.proofs.PlacesFit.{places-small}
 use Rattle.walk.proofs.Running.{does-then, does-as, does-to, clear-after, clear-still}
 use Rattle.walk.proofs.KeysOnceFull as walked
 use Rattle.walk.proofs.KeysOnceFull.{source-quiet, target-again}
 use Rattle.walk.proofs.SpreadArguments.{does-from}
-use Rattle.emit.proofs.MovedPatterns.{cell-one}
+use Rattle.emit.proofs.MovedPatterns.{cell-one, as-refused}
 use Rattle.walk.proofs.Turning.{turn-12, turns-14, turns-15, suit-14, suit-15}
 use Rattle.walk.proofs.Opened.{ObjectOpen, AssignmentOpen, object-open, assignment-open, no-good, is-here, position-here, good-short, good-within}
 
@@ -332,15 +332,19 @@ module _ (t : List ℕ) where
 
   abbrev pub Topped : Place → ℕ → ℕ → Bool → ℕ → ℕ → Going → Going → Type 0
   Topped c d p input stem x g g′ =
-      Does g g′ (cond (anyLacksForm (lookNode t d p .value)) (say (refuses 6 ∷ puts (0 ∷ 0 ∷ []))) (emitsTop c (lookNode t d p .value) (givenDeeds t d (inner c) input stem x)))
+      Does g g′ (unlessRefused (keysRefusal (lookNode t d p .value)) (emitsTop c (lookNode t d p .value) (givenDeeds t d (inner c) input stem x)))
 
-  top-way : {g g′ : Going} (c : Place) (n : Node) (s : Emit) (b : Bool) → anyLacksForm n ≡ b → Does g g′ (cond b (say (refuses 6 ∷ puts (0 ∷ 0 ∷ []))) (emitsTop c n s))
-      → Does g g′ (cond (anyLacksForm n) (say (refuses 6 ∷ puts (0 ∷ 0 ∷ []))) (emitsTop c n s))
-  top-way c n s b e d = does-as d (ap (λ (x : Bool). cond x (say (refuses 6 ∷ puts (0 ∷ 0 ∷ []))) (emitsTop c n s)) (sym e))
+  top-way : {g g′ : Going} (c : Place) (n : Node) (s : Emit) (b : ℕ) → keysRefusal n ≡ b → Does g g′ (unlessRefused b (emitsTop c n s)) → Does g g′ (unlessRefused (keysRefusal n) (emitsTop c n s))
+  top-way c n s b e d = does-as d (ap (λ (x : ℕ). unlessRefused x (emitsTop c n s)) (sym e))
 
-  pub top-refused : {g g′ : Going} (c : Place) (d p stem x : ℕ) (input b : Bool) → b ≡ anyLacksForm (lookNode t d p .value) → b ≡ true
-      → Does g g′ (say (refuses 6 ∷ puts (0 ∷ 0 ∷ []))) → Topped c d p input stem x g g′
-  top-refused c d p stem x input b e h r = top-way c (lookNode t d p .value) (givenDeeds t d (inner c) input stem x) true (sym e ∙ h) r
+  refusing : {g g′ : Going} (b : ℕ) (e : Emit) → 0 < b → Does g g′ (say (refuses b ∷ puts (0 ∷ 0 ∷ []))) → Does g g′ (unlessRefused b e)
+  refusing zero e h d = absurd (omega arith)
+  refusing (suc b) e h d = d
+
+  pub top-refused : {g g′ : Going} (c : Place) (d p stem x : ℕ) (input : Bool) (b : ℕ) → b ≡ keysRefusal (lookNode t d p .value) → 0 < b
+      → Does g g′ (say (refuses b ∷ puts (0 ∷ 0 ∷ []))) → Topped c d p input stem x g g′
+  top-refused c d p stem x input b e h r =
+      top-way c (lookNode t d p .value) (givenDeeds t d (inner c) input stem x) b (sym e) (refusing b (emitsTop c (lookNode t d p .value) (givenDeeds t d (inner c) input stem x)) h r)
 
   parts-small : (d p : ℕ) → Good t d p → partsCount (lookNode t d p .value) ≤ 16384
   unfolding partsCount
@@ -385,8 +389,8 @@ module _ (t : List ℕ) where
       ∙ sym (rest-done c p ps y (o .leafy)) ∙ ap (emitsRestOf c) (sym (o .whole)))
 
   -- whatever is last
-  pub top-does : {g₀ g₁ g₂ g₃ g₄ g₅ g₆ g₇ g₈ i₀ i₁ i₂ g₉ : Going} (c c₁ c₂ c₃ : Place) (d d₁ d₂ e p r y stem x k z z₂ : ℕ) (input b : Bool) (f : ReferenceBuilder) (last : Emit)
-      → b ≡ anyLacksForm (lookNode t d p .value) → b ≡ false → (c₁ ≡ inner c) × (d₁ ≡ d)
+  pub top-does : {g₀ g₁ g₂ g₃ g₄ g₅ g₆ g₇ g₈ i₀ i₁ i₂ g₉ : Going} (c c₁ c₂ c₃ : Place) (d d₁ d₂ e p r y stem x k z z₂ : ℕ) (input : Bool) (b : ℕ) (f : ReferenceBuilder) (last : Emit)
+      → b ≡ keysRefusal (lookNode t d p .value) → b ≤ 0 → (c₁ ≡ inner c) × (d₁ ≡ d)
       → (Good t d p → byteAt t p ≡ 34 → Does g₀ g₁ (handsTop (c .root) (c .mark) (lookNode t d p .value)))
       → (Good t d p → byteAt t p ≡ 34 → k ≡ suc (suc (suc (cond (c .statement) (partsCount (lookNode t d p .value)) (suc (partsCount (lookNode t d p .value)))))))
       → Does g₁ g₂ (say (puts (28 ∷ 1 ∷ []))) → (k < 65536 → Does g₂ g₃ (say (puts (wideBytes k)))) → (1 < 256 → Does g₃ g₄ (assignHead 1))
@@ -411,7 +415,7 @@ module _ (t : List ℕ) where
       let o = values-clear d p good by ar in
       let P = parts by good (suit-15 (properties n) (o .0) (o .1)) in
       let R = rest-last c c₃ c₂ d d₁ d₂ e p r y z₂ f (clear-still (clear-after T) (P .1)) as₂ yy (P .0) le in₂ nod ce₂ so (in₃, in₁ .1) res by hr good in
-      top-way c n X false (sym lacks ∙ h)
+      top-way c n X 0 (let w : b ≡ 0 = omega arith in sym lacks ∙ w)
       (does-as
       (does-then (hands good by)
       (does-then (sequence-says k (topCount c n) (co .0) (co .1) two wide)
@@ -430,24 +434,16 @@ module _ (t : List ℕ) where
   unfolding isTop is stands standsIn
   rest-top at ps r = refl
 
-  refused-6 : say (refused 6 ++ puts (0 ∷ 0 ∷ [])) ≡ say (refuses 6 ∷ puts (0 ∷ 0 ∷ []))
-  unfolding refused
-  refused-6 = refl
-
-  refused-5 : say (refused 5 ++ puts (0 ∷ 0 ∷ [])) ≡ say (refuses 5 ∷ puts (0 ∷ 0 ∷ []))
-  unfolding refused
-  refused-5 = refl
-
   -- wherever it stands: of a target that is an object with rest
   top-is : (c : Place) (at op pat : ℕ) (ps : Items) (r x : Node) → hasArrayRestOverObjectRest (objectRestAt pat ps r) ≡ false
       → emits c (assignmentAt at op (objectRestAt pat ps r) x)
-      ≡ cond (anyLacksForm (objectRestAt pat ps r)) (say (refuses 6 ∷ puts (0 ∷ 0 ∷ []))) (emitsTop c (objectRestAt pat ps r) (emits (inner c) x))
-  unfolding is nodeAt pieceIn topLacksForm
+      ≡ unlessRefused (keysRefusal (objectRestAt pat ps r)) (emitsTop c (objectRestAt pat ps r) (emits (inner c) x))
+  unfolding is nodeAt pieceIn topRefusal
   top-is c at op pat ps r x h =
       let p = objectRestAt pat ps r in
       let n = assignmentAt at op p x in
-      by-test (anyLacksForm p)
-      (λ b. rw b (assignment-refused-6 c n refl h (rest-top pat ps r) b ∙ refused-6))
+      by-number (keysRefusal p)
+      (λ m b. rw b (assignment-refused-keys c n refl (suc m) (omega arith) h (rest-top pat ps r) b ∙ as-refused (suc m) (omega arith)))
       (λ b. rw b (assignment-top c at op pat ps r x h b))
 
   kind-34 : (d p : ℕ) → Good t d p → is 34 (lookNode t d p .value) ≡ true → byteAt t p ≡ 34
@@ -504,7 +500,7 @@ module _ (t : List ℕ) where
       let X = givenNode t d input x in
       let h′ : hasArrayRestOverObjectRest (objectRestAt p ps y) ≡ false = ap (λ (m : Node). hasArrayRestOverObjectRest m) (sym (r .whole)) ∙ ar in
       does-as (top by hr good gx ar)
-      (ap₂ (λ (m : Node) (s : Emit). cond (anyLacksForm m) (say (refuses 6 ∷ puts (0 ∷ 0 ∷ []))) (emitsTop c m s)) (r .whole) (sym (given-is (inner c) d x input))
+      (ap₂ (λ (m : Node) (s : Emit). unlessRefused (keysRefusal m) (emitsTop c m s)) (r .whole) (sym (given-is (inner c) d x input))
       ∙ sym (top-is c 0 op p ps y X h′) ∙ ap (λ (m : Node). emits c (assignmentAt 0 op m X)) (sym (r .whole)))
 
   asn-nest : {g g′ : Going} (c : Place) (d op p x : ℕ) (input : Bool) → isTop (lookNode t d p .value) ≡ false
@@ -589,7 +585,7 @@ module _ (t : List ℕ) where
     asg-refused b u h r m k good =
         let o : AssignmentHere d e p q = assignment-here d e p q le lq good k in
         does-to m (does-as r
-        (sym refused-5
+        (sym (as-refused 5 (omega arith))
         ∙ sym (assignment-refused-5 c (assignmentAt p opHere aimed given) (assignment-27 p opHere aimed given) (at-target (λ n. hasArrayRestOverObjectRest n) true (sym u ∙ h)))
         ∙ ap (emits c) (sym (o .whole))))
 
@@ -637,10 +633,10 @@ module _ (t : List ℕ) where
       carry (λ m f z. byteAt t z ≡ 34 → hasRest (lookNode t f z .value) ≡ true → Good t f z → (false ≡ true → Good t f x) → hasArrayRestOverObjectRest (lookNode t f z .value) ≡ false → Topped m f z false 1 x g g′)
       (i .0) (i .1) refl top k hr good (λ b. absurd (false≢true b)) ar in
       let ar′ : hasArrayRestOverObjectRest q ≡ false = ap (λ (m : Node). hasArrayRestOverObjectRest m) (sym (o .whole)) ∙ ar in
-      let same : cond (anyLacksForm q) (say (refuses 6 ∷ puts (0 ∷ 0 ∷ []))) (emitsTop (inner c) q (saysCell 1 p)) ≡ emitsInner c q =
-      by-test (anyLacksForm q)
-      (λ b. rw b (sym refused-6 ∙ sym (inner-refused c p ps y ar′ b)))
+      let same : unlessRefused (keysRefusal q) (emitsTop (inner c) q (saysCell 1 p)) ≡ emitsInner c q =
+      by-number (keysRefusal q)
+      (λ m b. rw b (sym (as-refused (suc m) (omega arith)) ∙ sym (inner-refused c p ps y (suc m) (omega arith) ar′ b)))
       (λ b. rw b (sym (inner-done c p ps y ar′ b))) in
       does-as T
-      (ap₂ (λ (m : Node) (s : Emit). cond (anyLacksForm m) (say (refuses 6 ∷ puts (0 ∷ 0 ∷ []))) (emitsTop (inner c) m s)) (o .whole) (inner-given (inner (inner c)) d x p (ce (o .within) (omega arith) (omega arith)))
+      (ap₂ (λ (m : Node) (s : Emit). unlessRefused (keysRefusal m) (emitsTop (inner c) m s)) (o .whole) (inner-given (inner (inner c)) d x p (ce (o .within) (omega arith) (omega arith)))
       ∙ same ∙ ap (emitsInner c) (sym (o .whole)))

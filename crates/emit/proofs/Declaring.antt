@@ -21,7 +21,7 @@ use Rattle.lowering.specs.Made.{Context}
 use Rattle.lowering.specs.Patterns.{shape, properties, value, hasRest, hasObjectRest}
 use Rattle.lowering.specs.Patterns.Shape.{objectPattern, arrayPattern}
 use Rattle.lowering.specs.Rests.{hasNoProperties}
-use Rattle.lowering.specs.Declarations.{isName, isLowered, declarators, declarationLacksForm}
+use Rattle.lowering.specs.Declarations.{isName, isLowered, declarators, declarationRefusal}
 use Rattle.lowering.specs.Walk.{ruleOf}
 use Rattle.lowering.proofs.All.{AllItems}
 use Rattle.lowering.proofs.Cases.{by-test, by-shape, object-is, array-is, or-first}
@@ -32,7 +32,7 @@ use Rattle.pattern.specs.declared.source.ReferenceBuilder.{ReferenceBuilder}
 use Rattle.pattern.specs.Source.{builderOf, readOf, afterRead}
 use Rattle.pattern.proofs.CountsFit.{counted-whole, declarations-fit}
 use Rattle.lowering.specs.Collect.{isContainer}
-use Rattle.direct.specs.Events.{Place, Emit, puts, cell, marks, refused, contextOf, emits}
+use Rattle.direct.specs.Events.{Place, Emit, puts, cell, marks, contextOf, emits}
 use Rattle.direct.specs.Events.Deed.{does, refuses}
 use Rattle.direct.specs.Emit.{say, _▷_, inner, inTurn, below, stays, emitsPiece, emitsParts}
 use Rattle.direct.specs.Views.{objectAt, objectRestAt, saysCell, emitsView}
@@ -56,6 +56,7 @@ use Rattle.walk.proofs.KeysOnceFull.{Quiet, own-again}
 use Rattle.walk.proofs.SpreadArguments.{does-from}
 use Rattle.walk.proofs.Opened.{BinderOpen, DeclarationOpen, no-good, kind-here, is-here, position-here, good-copied, good-short, good-two, declarator-open, declaration-open}
 use Rattle.walk.proofs.Turning.{turn-8, turns-7, turns-9, turns-10, suit-7, suit-9, suit-10}
+use Rattle.emit.proofs.MovedPatterns.{as-refused}
 use Rattle.emit.proofs.Finding.{object-as, level-up, lifted, rest-stands, Turned, Deep}
 use Rattle.lowering.proofs.Cases.{not-false, not-true}
 
@@ -468,17 +469,16 @@ module _ (t : List ℕ) where
 
   -- ---- decl: a declaration
 
-  pub declaration-refuses : {g g₁ g′ : Going} (c : Place) (d at q s : ℕ) (b : Bool) → ((κ : Context) → b ≡ declarationLacksForm κ (lookNode t d at .value)) → b ≡ true
-      → Does g g₁ (say (refuses 6 ∷ puts (0 ∷ 0 ∷ []))) → q ≡ lookNode t d at .next → s ≡ q → g′ ≡ g₁
+  pub declaration-refuses : {g g₁ g′ : Going} (c : Place) (d at q s b : ℕ) → ((κ : Context) → b ≡ declarationRefusal κ (lookNode t d at .value)) → 0 < b
+      → Does g g₁ (say (refuses b ∷ puts (0 ∷ 0 ∷ []))) → q ≡ lookNode t d at .next → s ≡ q → g′ ≡ g₁
       → byteAt t at ≡ 4 → (s ≡ lookNode t d at .next) × (Good t d at → Does g g′ (emits c (lookNode t d at .value)))
-  unfolding refused
   declaration-refuses {g = g} {g₁ = g₁} {g′ = g′} c d at q s b test lacks said next moved upto k = (moved ∙ next, go d test)
     where
-      go : (d : ℕ) → ((κ : Context) → b ≡ declarationLacksForm κ (lookNode t d at .value)) → Good t d at → Does g g′ (emits c (lookNode t d at .value))
+      go : (d : ℕ) → ((κ : Context) → b ≡ declarationRefusal κ (lookNode t d at .value)) → Good t d at → Does g g′ (emits c (lookNode t d at .value))
       go zero test good = no-good t at good
-      go (suc d) test good = does-to upto (does-as said (sym (declaration-refused c (lookNode t (suc d) at .value) (is-here t d at 4 ∙ eq-eqb (byteAt t at) 4 k) (sym (test (contextOf c)) ∙ lacks))))
+      go (suc d) test good = does-to upto (does-as said (sym (declaration-refused c (lookNode t (suc d) at .value) b (is-here t d at 4 ∙ eq-eqb (byteAt t at) 4 k) lacks (sym (test (contextOf c))) ∙ as-refused b lacks)))
 
-  pub declaration-writes : {g g₁ g₂ g₃ g₄ g₅ g′ : Going} (c c′ : Place) (root : Bool) (d left e at i q k n p f u z s : ℕ) (b : Bool) → ((κ : Context) → b ≡ declarationLacksForm κ (lookNode t d at .value)) → b ≡ false → root ≡ c .root
+  pub declaration-writes : {g g₁ g₂ g₃ g₄ g₅ g′ : Going} (c c′ : Place) (root : Bool) (d left e at i q k n p f u z s b : ℕ) → ((κ : Context) → b ≡ declarationRefusal κ (lookNode t d at .value)) → b ≤ 0 → root ≡ c .root
       → i ≡ at → (Good t d at → byteAt t at ≡ 4 → Does g g₁ (inTurn declaratorMade (itemsAt 2 (lookNode t d at .value)) ▷ inTurn (declaratorExcludes root) (itemsAt 2 (lookNode t d at .value))))
       → q ≡ onward t at 5 → ((κ : Context) → k ≡ limited (count (gather (declarators κ) (itemsAt 2 (lookNode t d at .value)))))
       → Does g₁ g₂ (say (puts (part i q t))) → (k < 65536 → Does g₂ g₃ (say (puts (wideBytes k)))) → p ≡ onward t q 2 → f ≡ p → g₄ ≡ g₃ → z ≡ lookNode t d at .next
@@ -516,6 +516,6 @@ module _ (t : List ℕ) where
         ∙ ap (λ (y : Bool). (M ▷ inTurn (declaratorExcludes y) ds) ▷ say (puts (4 ∷ 7 ∷ []) ++ (marks m ++ puts (x ∷ wideBytes (declaratorCount c ds)))) ▷ turnsOf 10 c′ ds) asked
         ∙ ap (λ (v : Emit). (M ▷ X) ▷ say (puts (4 ∷ 7 ∷ []) ++ (marks m ++ puts (x ∷ wideBytes (declaratorCount c ds)))) ▷ v) (ap (λ (y : Place). turnsOf 10 y ds) place ∙ turns-10 c ds)
         ∙ then-assoc M X (say (puts (4 ∷ 7 ∷ []) ++ (marks m ++ puts (x ∷ wideBytes (declaratorCount c ds)))) ▷ D)
-        ∙ sym (declaration-done c at m x ds (ap (declarationLacksForm (contextOf c)) (sym whole) ∙ sym (test (contextOf c)) ∙ fine))
+        ∙ sym (declaration-done c at m x ds (ap (declarationRefusal (contextOf c)) (sym whole) ∙ sym (test (contextOf c)) ∙ (let w : b ≡ 0 = omega arith in w)))
         ∙ ap (emits c) (sym whole))),
   )

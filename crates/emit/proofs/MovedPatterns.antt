@@ -15,13 +15,13 @@ use Rattle.tree.specs.Read.{byteAt, wideAt}
 use Rattle.tree.specs.Rows.{sortOf}
 use Rattle.tree.specs.Look.{Seen, onward, lookItem, lookItems, lookField, lookSlot, lookNode}
 use Rattle.tree.specs.Answer.{Peeked, Wide}
-use Rattle.lowering.specs.Parts.{is, pieceIn, standsIn, nodeAt, itemsAt, stands, only, gather, any, _+++_}
+use Rattle.lowering.specs.Parts.{is, pieceIn, standsIn, nodeAt, itemsAt, stands, only, gather, any, _+++_, orElse, first}
 use Rattle.lowering.specs.Made.{Context, declares, letOf}
 use Rattle.lowering.specs.Made as made
 use Rattle.lowering.specs.Patterns.{shape, leftOf, hasObjectRest, objectsBelow}
 use Rattle.lowering.specs.Patterns.Shape.{leaf}
-use Rattle.lowering.specs.Keys.{anyLacksForm}
-use Rattle.lowering.specs.Declarations.{isName, patternDeclarators, isLowered, loweredIn, declarationLacksForm}
+use Rattle.lowering.specs.Keys.{keysRefusal}
+use Rattle.lowering.specs.Declarations.{isName, patternDeclarators, isLowered, loweredIn, declarationRefusal}
 use Rattle.lowering.specs.Heads.{isMoved, movedFrom}
 use Rattle.lowering.proofs.All.{AllItems}
 use Rattle.lowering.proofs.Cases.{by-test, or-other, shape-34}
@@ -566,13 +566,13 @@ module _ (id : Node) (o : ℕ) (below : hasObjectRest id ≡ true) where
   unfolding isName is
   let-named = refl
 
-  let-lacks : (κ : Context) → declarationLacksForm κ (letOf id read) ≡ any (λ p. anyLacksForm p) (objectsBelow κ id)
-  unfolding declarationLacksForm loweredIn itemsAt nodeAt pieceIn any
-  let-lacks κ = rw let-lowered (or-none (any (λ p. anyLacksForm p) (objectsBelow κ id)))
+  let-refusal : (κ : Context) → declarationRefusal κ (letOf id read) ≡ first (λ p. keysRefusal p) (objectsBelow κ id)
+  unfolding declarationRefusal loweredIn itemsAt nodeAt pieceIn first orElse
+  let-refusal κ = rw let-lowered (or-none (first (λ p. keysRefusal p) (objectsBelow κ id)))
     where
-      or-none : (b : Bool) → b || false ≡ b
-      or-none true = refl
-      or-none false = refl
+      or-none : (n : ℕ) → orElse n 0 ≡ n
+      or-none zero = refl
+      or-none (suc n) = refl
 
   let-made : declaratorMade (declares id read) ≡ overObjects placeMade taking id ▷ overObjects keysMade replacing id
   unfolding declaratorMade nodeAt pieceIn
@@ -591,7 +591,7 @@ module _ (id : Node) (o : ℕ) (below : hasObjectRest id ≡ true) where
   let-declares c = rw (let-lowered, let-named) (ap (emitsPattern c id) (emits-temporary (inner c) [] 1 o ∙ sym (stand-is o)))
 
   -- what it does: it hands out its temporaries and excluded keys, then come its declarators
-  let-done : (c : Place) (κ : Context) (s : Node) → any (λ p. anyLacksForm p) (objectsBelow (contextOf c) id) ≡ false
+  let-done : (c : Place) (κ : Context) (s : Node) → first (λ p. keysRefusal p) (objectsBelow (contextOf c) id) ≡ 0
       → (overObjects placeMade taking id ▷ overObjects keysMade replacing id ▷ overObjects (excludesOf (c .root)) replacing id)
       ▷ say (declarationHead 2 (count (patternDeclarators κ id s))) ▷ emitsPattern c id (say (does (temporary o 1) ∷ []))
       ≡ emits c (letOf id read)
@@ -604,7 +604,7 @@ module _ (id : Node) (o : ℕ) (below : hasObjectRest id ≡ true) where
       let e : Emit = emitsPattern c id (say (does (temporary o 1) ∷ [])) in
       let h : Emit = say (declarationHead 2 (count (patternDeclarators κ id s))) in
       sym
-      (declaration-done c 0 0 2 ds (let-lacks (contextOf c) ∙ lacks)
+      (declaration-done c 0 0 2 ds (let-refusal (contextOf c) ∙ lacks)
       ∙ ap₂ (λ (y z : Emit). y ▷ z ▷ say (declarationHead 2 (declaratorCount c ds)) ▷ inTurn (emitsDeclarator c) ds)
       (turn-only declaratorMade (declares id read) ∙ let-made) (turn-only (declaratorExcludes (c .root)) (declares id read) ∙ let-excludes (c .root))
       ∙ ap₂ (λ (n : ℕ) (y : Emit). (a ▷ b) ▷ x ▷ say (declarationHead 2 n) ▷ y) (let-count c κ s) (turn-only (emitsDeclarator c) (declares id read) ∙ let-declares c)
@@ -612,19 +612,25 @@ module _ (id : Node) (o : ℕ) (below : hasObjectRest id ≡ true) where
       ∙ ap (λ (y : Emit). a ▷ y) (sym (then-assoc b x (h ▷ e)))
       ∙ sym (then-assoc a (b ▷ x) (h ▷ e)))
 
+-- what a refusing node does, its number not being 0
+pub as-refused : (b : ℕ) → 0 < b → say (refused b ++ puts (0 ∷ 0 ∷ [])) ≡ say (refuses b ∷ puts (0 ∷ 0 ∷ []))
+unfolding refused
+as-refused zero h = absurd (omega arith)
+as-refused (suc b) h = refl
+
 module _ (t : List ℕ) where
   -- the statement's place
   statement-place : (c c₁ c₂ : Place) (m : ℕ) → c₁ ≡ inner c → c₂ ≡ marking c₁ m → c ≡ scoped c → c₂ ≡ marking c m
   statement-place c c₁ c₂ m a b s = b ∙ ap (λ (x : Place). marking x m) (a ∙ inner-place c s)
 
-  pub add-refused : {g g′ : Going} (c : Place) (d at o : ℕ) (b f : Bool) → b ≡ hasObjectRest (lookNode t d at .value) → b ≡ true
-      → ((κ : Context) → f ≡ any anyLacksForm (objectsBelow κ (lookNode t d at .value))) → f ≡ true → Does g g′ (say (refuses 6 ∷ puts (0 ∷ 0 ∷ []))) → Added t d at o g g′ c
-  unfolding is refused
+  pub add-refused : {g g′ : Going} (c : Place) (d at o : ℕ) (b : Bool) (f : ℕ) → b ≡ hasObjectRest (lookNode t d at .value) → b ≡ true
+      → ((κ : Context) → f ≡ first keysRefusal (objectsBelow κ (lookNode t d at .value))) → 0 < f → Does g g′ (say (refuses f ∷ puts (0 ∷ 0 ∷ []))) → Added t d at o g g′ c
+  unfolding is
   add-refused {g = g} {g′ = g′} c d at o b f e h l w r s good small =
       let id : Node = lookNode t d at .value in
       let m : ℕ = g .state .sink .mark in
-      let lacks : declarationLacksForm (contextOf (marking c m)) (letOf id (made.temporary [] 1 o)) ≡ true = let-lacks id o (sym e ∙ h) (contextOf (marking c m)) ∙ sym (l (contextOf (marking c m))) ∙ w in
-      does-as (does-fresh (λ m. emits (marking c m) (letOf id (made.temporary [] 1 o))) m refl (λ k. agree-marked c (letOf id (made.temporary [] 1 o)) m k) (does-as r (sym (declaration-refused (marking c m) (letOf id (made.temporary [] 1 o)) refl lacks))))
+      let lacks : declarationRefusal (contextOf (marking c m)) (letOf id (made.temporary [] 1 o)) ≡ f = let-refusal id o (sym e ∙ h) (contextOf (marking c m)) ∙ sym (l (contextOf (marking c m))) in
+      does-as (does-fresh (λ m. emits (marking c m) (letOf id (made.temporary [] 1 o))) m refl (λ k. agree-marked c (letOf id (made.temporary [] 1 o)) m k) (does-as r (sym (declaration-refused (marking c m) (letOf id (made.temporary [] 1 o)) f refl w lacks ∙ as-refused f w))))
       (sym (marked-let c id (made.temporary [] 1 o)))
 
   pub add-kept : {g g₁ g₂ g₃ g₄ g′ : Going} (c c₁ c₂ : Place) (d e at o m y x : ℕ) (b : Bool) → b ≡ hasObjectRest (lookNode t d at .value) → b ≡ false
@@ -640,8 +646,8 @@ module _ (t : List ℕ) where
       (λ j. agree-then (agree-say (newDeclaration 2 ++ puts (5 ∷ 3 ∷ []))) (agree-then (agree-marked (inner c) id m j) (agree-say (stand o)))) body)
       (sym (front-kept c id (node o 0 Fields.done) (sym bb ∙ bt)))
 
-  pub add-lowered : {g g₁ g₂ g₃ g′ : Going} (c c₁ c₂ : Place) (root : Bool) (d e at o m k y : ℕ) (b f : Bool) (source : Emit) → b ≡ hasObjectRest (lookNode t d at .value) → b ≡ true
-      → ((κ : Context) → f ≡ any anyLacksForm (objectsBelow κ (lookNode t d at .value))) → f ≡ false → root ≡ c .root → c₁ ≡ inner c → m ≡ g .state .sink .mark → c₂ ≡ marking c₁ m → e ≡ d
+  pub add-lowered : {g g₁ g₂ g₃ g′ : Going} (c c₁ c₂ : Place) (root : Bool) (d e at o m k y : ℕ) (b : Bool) (f : ℕ) (source : Emit) → b ≡ hasObjectRest (lookNode t d at .value) → b ≡ true
+      → ((κ : Context) → f ≡ first keysRefusal (objectsBelow κ (lookNode t d at .value))) → f ≤ 0 → root ≡ c .root → c₁ ≡ inner c → m ≡ g .state .sink .mark → c₂ ≡ marking c₁ m → e ≡ d
       → (Good t d at → Does g g₁ (overObjects placeMade taking (lookNode t d at .value) ▷ overObjects keysMade replacing (lookNode t d at .value) ▷ overObjects (excludesOf root) replacing (lookNode t d at .value)))
       → ((κ : Context) (z : Node) → k ≡ limited (count (patternDeclarators κ (lookNode t d at .value) z)))
       → (k < 65536 → Does g₁ g₂ (say (declarationHead 2 k))) → g₃ ≡ g₂ → y ≡ at → source ≡ say (does (temporary o 1) ∷ [])
@@ -656,7 +662,7 @@ module _ (t : List ℕ) where
       let short : length (encode id) ≤ 16384 = good-short t d at good in
       let kn : k ≡ n = cn κ id ∙ counted-whole n (length (encode id)) fits short in
       let same = node-as t e d y at ee yy in
-      let lacks : any (λ p. anyLacksForm p) (objectsBelow κ id) ≡ false = sym (l κ) ∙ w in
+      let lacks : first (λ p. keysRefusal p) (objectsBelow κ id) ≡ 0 = (let z : f ≡ 0 = omega arith in sym (l κ) ∙ z) in
       let whole : Does g g′ (emits (marking c m) (letOf id (made.temporary [] 1 o))) =
       does-as (does-then (hands good) (does-then (hd (omega arith)) (does-from to (pt (stands-as t e d y at ee yy good)))))
       (ap₂ (λ (z : ℕ) (x : Emit). (overObjects placeMade taking id ▷ overObjects keysMade replacing id ▷ overObjects (excludesOf root) replacing id) ▷ say (declarationHead 2 z) ▷ x) kn

@@ -18,16 +18,16 @@
 // (`decl`), and where one is put into a body (`ta`, `add`). The code for its rests, keys and parts is told the answer, `root`, and its contract
 // holds for either: `placeWith root c` reads nothing of the root of c. What is walked inside asks for itself.
 use pattern::declarators::declaration_becomes;
-use pattern::declarators::declaration_lacks_form;
+use pattern::declarators::declaration_refusal;
 use pattern::declarators::pattern_declarators;
 use pattern::keys::all_primitive;
 use pattern::keys::excluded_keys;
 use pattern::keys::has_no_properties;
-use pattern::keys::lacks_form;
+use pattern::keys::refusal;
 use pattern::moves::any_moved;
 use pattern::moves::is_moved;
 use pattern::parts::stands;
-use pattern::rests::below_lacks_form;
+use pattern::rests::refusal_below;
 use pattern::search::has_nested_object_rest;
 use pattern::search::has_rest_below_array_rest;
 use pattern::source::ReferenceBuilder;
@@ -100,7 +100,7 @@ ghost use Rattle.lowering.specs.Parts.{any, gather, nodeAt, itemsAt};
 ghost use Rattle.lowering.specs.Made as made;
 ghost use Rattle.lowering.specs.Made.{letOf, assigning};
 ghost use Rattle.lowering.specs.Patterns.{value, properties, hasRest, hasObjectRest, hasArrayRestOverObjectRest};
-ghost use Rattle.lowering.specs.Keys.{anyLacksForm};
+ghost use Rattle.lowering.specs.Keys.{keysRefusal};
 ghost use Rattle.lowering.specs.Heads.{isMoved, movedFrom};
 ghost use Rattle.sink.specs.Machine.Event.{temporary};
 ghost use Rattle.pattern.specs.Source.{builderOf};
@@ -119,7 +119,7 @@ ghost use Rattle.direct.specs.Assigned.{assignmentAt, emitsNest, emitsTarget, e
 ghost use Rattle.direct.specs.Moved.{outOf, movedIn, behind, fronts, bodyIn, blockIn, targetIn};
 ghost use Rattle.walk.specs.Run.{goingOf, Does, Clear};
 ghost use Rattle.walk.specs.Whole.{placeOf, placeWith, holeAt, itemDeeds, slotDeeds, GoodItem, GoodItems, GoodSlot, GoodFields, Good, Ruled, Emitted, Done};
-ghost use Rattle.walk.specs.Turns.{viewOf, turnOf, deepMode, isTold, toldPlace, suits, turnsOf, AllSuit, sourceOf, levelOf, spotDeeds, movesOf, AllBind, givenDeeds, givenNode};
+ghost use Rattle.walk.specs.Turns.{viewOf, turnOf, deepMode, isTold, toldPlace, suits, turnsOf, AllSuit, sourceOf, levelOf, spotDeeds, movesOf, AllBind, givenDeeds, givenNode, unlessRefused};
 
 // A Switch, and its fields in two parts: mark and discriminant, then the cases, which alone lie in its scope.
 const SWITCH: usize = 43;
@@ -887,8 +887,9 @@ fn decl(w: Walk, t: &[u8], out: &mut [u8], list: &mut [u8], work: &mut [u8], c: 
         return w;
     }
     let p = w.at;
-    if declaration_lacks_form(t, c.left, p) {
-        return w.refuse(out, 6).to(skip(t, c.left, p));
+    let r = declaration_refusal(t, c.left, p);
+    if 0 < r {
+        return w.refuse(out, r).to(skip(t, c.left, p));
     }
     let u = declaration_hands(w, t, list, work, c.left, p, root);
     let q = step(t, p, 5);
@@ -1176,10 +1177,11 @@ fn top(
     stem: u8,
     x: usize,
 ) -> Walk
-    ensures { λ r. ⌜ (byteAt (now (t .entry)) p ≡ 34 → hasRest (lookNode (now (t .entry)) (c .left) p .value) ≡ true → Good (now (t .entry)) (c .left) p → (input ≡ true → Good (now (t .entry)) (c .left) x) → hasArrayRestOverObjectRest (lookNode (now (t .entry)) (c .left) p .value) ≡ false → Does (goingOf (now (out .entry)) (now (list .entry)) (now (work .entry)) w) (goingOf (now (out .exit)) (now (list .exit)) (now (work .exit)) r) (cond (anyLacksForm (lookNode (now (t .entry)) (c .left) p .value)) (say (refuses 6 ∷ puts (0 ∷ 0 ∷ []))) (emitsTop (placeWith root c) (lookNode (now (t .entry)) (c .left) p .value) (givenDeeds (now (t .entry)) (c .left) (inner (placeWith root c)) input stem x)))) ⌝ }
+    ensures { λ r. ⌜ (byteAt (now (t .entry)) p ≡ 34 → hasRest (lookNode (now (t .entry)) (c .left) p .value) ≡ true → Good (now (t .entry)) (c .left) p → (input ≡ true → Good (now (t .entry)) (c .left) x) → hasArrayRestOverObjectRest (lookNode (now (t .entry)) (c .left) p .value) ≡ false → Does (goingOf (now (out .entry)) (now (list .entry)) (now (work .entry)) w) (goingOf (now (out .exit)) (now (list .exit)) (now (work .exit)) r) (unlessRefused (keysRefusal (lookNode (now (t .entry)) (c .left) p .value)) (emitsTop (placeWith root c) (lookNode (now (t .entry)) (c .left) p .value) (givenDeeds (now (t .entry)) (c .left) (inner (placeWith root c)) input stem x)))) ⌝ }
 {
-    if lacks_form(t, c.left, p) {
-        return w.refuse(out, 6);
+    let r = refusal(t, c.left, p);
+    if 0 < r {
+        return w.refuse(out, r);
     }
     let d = told_inside(c, root, c.left);
     let u = top_hands(w, t, list, work, c.left, p, root, c.mark);
@@ -1478,8 +1480,9 @@ fn add(
     let root = at_root(c);
     let d = marked(inside(c, c.left), w.mark());
     if has_nested_object_rest(t, c.left, p) {
-        if below_lacks_form(t, c.left, p) {
-            return w.refuse(out, 6);
+        let r = refusal_below(t, c.left, p);
+        if 0 < r {
+            return w.refuse(out, r);
         }
         let u = pattern_hands(w, t, list, work, c.left, p, root);
         let k = pattern_declarators(t, c.left, p);

@@ -6,8 +6,8 @@ use mathlib.Core.List.{List, [], _∷_}
 use mathlib.Core.Logic.{_↔_}
 use Prim.Native.Nat.{ℕ}
 use Rattle.tree.specs.Tree.{Node, encode}
-use Rattle.lowering.specs.Collect.{samePath}
-use Rattle.lowering.proofs.Appearance.{same-path, path-self}
+use Rattle.lowering.specs.Parts.{sameNumbers}
+use Rattle.lowering.proofs.Appearance.{same-numbers, numbers-self}
 use Rattle.lowering.proofs.Cases.{and-left, and-right}
 use Rattle.equal.specs.Canonical.{Written, numbers, renumbered, placeOf, canonical, numbersWritten, renumberedWritten, canonicalWritten}
 use Rattle.equal.specs.Equal.{Equal, isEqual, listEncoded, EqualWritten, isEqualWritten, EqualBefore, isEqualBefore}
@@ -43,19 +43,19 @@ equal-written-equivalence =
 
 -- ---- the tests decide
 
-text-same : (p q : List ℕ) → p ≡ q → samePath p q ≡ true
-text-same p q e = ap (samePath p) (sym e) ∙ path-self p
+text-same : (p q : List ℕ) → p ≡ q → sameNumbers p q ≡ true
+text-same p q e = ap (sameNumbers p) (sym e) ∙ numbers-self p
 
 -- a test says yes exactly if it is so
 pub equal-decides : (m n : Node) → (isEqual m n ≡ true) ↔ Equal m n
 unfolding isEqual Equal
 equal-decides m n =
-    (same-path (encode (canonical m)) (encode (canonical n)), text-same (encode (canonical m)) (encode (canonical n)))
+    (same-numbers (encode (canonical m)) (encode (canonical n)), text-same (encode (canonical m)) (encode (canonical n)))
 
 pub equal-before-decides : (m n : Node) → (isEqualBefore m n ≡ true) ↔ EqualBefore m n
 unfolding isEqualBefore EqualBefore
 equal-before-decides m n = (
-  same-path (encode (unspelled (canonical m))) (encode (unspelled (canonical n))),
+  same-numbers (encode (unspelled (canonical m))) (encode (unspelled (canonical n))),
   text-same (encode (unspelled (canonical m))) (encode (unspelled (canonical n))),
 )
 
@@ -66,7 +66,7 @@ equal-written-decides v w =
     let b = encode (canonicalWritten w .tree) in
     let c = listEncoded (canonicalWritten v .entries) (canonicalWritten v .excluded) in
     let d = listEncoded (canonicalWritten w .entries) (canonicalWritten w .excluded) in (
-      λ e. record { trees = same-path a b (and-left (samePath a b) (samePath c d) e); lists = same-path c d (and-right (samePath a b) (samePath c d) e) },
+      λ e. record { trees = same-numbers a b (and-left (sameNumbers a b) (sameNumbers c d) e); lists = same-numbers c d (and-right (sameNumbers a b) (sameNumbers c d) e) },
       λ h. ap₂ (λ (x y : Bool). x && y) (text-same a b (h .trees)) (text-same c d (h .lists)),
     )
 

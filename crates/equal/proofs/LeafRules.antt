@@ -15,11 +15,11 @@ use Rattle.lowering.specs.Keys.{keyTemporaries, taken}
 use Rattle.lowering.specs.Rests.{hasNoProperties, restValue, excludedFor}
 use Rattle.lowering.specs.Literals.{Call, opened, closed, scan, literal}
 use Rattle.lowering.specs.Literals.Call.{no-call, call}
-use Rattle.lowering.specs.Declarations.{isName, source, sourceDeclarator, keysBefore, patternDeclarator, restDeclarator, own, nested, nestedBelow, objectDeclarators, patternDeclarators, lowerDeclarator, isLowered, declarators, loweredIn, declaration, declarationExcludes, declarationLacksForm}
-use Rattle.lowering.specs.Assignments.{target, assigned, isTop, partsOf, topLacksForm, targetLeft, fromReference, topSequence, topEntry, topExcludes, outermost, nestedSequence, nestedEntry}
+use Rattle.lowering.specs.Declarations.{isName, source, sourceDeclarator, keysBefore, patternDeclarator, restDeclarator, own, nested, nestedBelow, objectDeclarators, patternDeclarators, lowerDeclarator, isLowered, declarators, loweredIn, declaration, declarationExcludes, declarationRefusal}
+use Rattle.lowering.specs.Assignments.{target, assigned, isTop, partsOf, topRefusal, targetLeft, fromReference, topSequence, topEntry, topExcludes, outermost, nestedSequence, nestedEntry}
 use Rattle.lowering.specs.Heads.{moved, movedPattern, isMoved, movedFrom, movedOut, leftBehind, inFront, inBody, asFunctionBody, asBlock, function, arrow, catch, declaringHead, assigningHead}
 use Rattle.lowering.specs.Walk.{Note, Step, rewritten, refuse, ruleOf, rewrite, stepDeclaration, stepTop, stepAssignment, stepFor}
-use Rattle.lowering.proofs.Cases.{by-test, by-shape, by-rule, object-is, is-changed}
+use Rattle.lowering.proofs.Cases.{by-test, by-shape, by-rule, object-is, is-changed, by-number}
 use Rattle.lowering.proofs.Clauses.{top-34}
 use Rattle.equal.proofs.LeafViews.{Makes, Good, GoodItems}
 use Rattle.equal.proofs.LeafParts
@@ -215,8 +215,8 @@ module _ (Q : Node → Type 0) (makes : Makes Q) where
     declaration-step : (n : Node) → G n → GoodStep (stepDeclaration c n)
     unfolding stepDeclaration declaration declarationExcludes
     declaration-step n h =
-        by-test (declarationLacksForm c n)
-        (λ e. rw (e, stepDeclaration) (refused 6))
+        by-number (declarationRefusal c n)
+        (λ r e. rw (e, stepDeclaration) (refused (suc r)))
         (λ e. rw (e, stepDeclaration)
         (record {
           note = record {
@@ -272,8 +272,8 @@ module _ (Q : Node → Type 0) (makes : Makes Q) where
     top-step : (n : Node) → isTop (target n) ≡ true → G n → GoodStep (stepTop c n)
     unfolding stepTop
     top-step n top h =
-        by-test (topLacksForm n)
-        (λ e. rw (e, stepTop) (refused 6))
+        by-number (topRefusal n)
+        (λ r e. rw (e, stepTop) (refused (suc r)))
         (λ e. rw (e, stepTop)
         (record { note = record { entry = topEntry-good n h; excluded = topExcludes-good n h }; result = topSequence-good n top h }))
 

@@ -15,7 +15,7 @@ use Rattle.lowering.proofs.Clauses.{text-name, text-literal}
 use Rattle.lowering.specs.Parts.{kind, is, itemsAt, textAt, stands, changeNode, onItems, only, each, gather}
 use Rattle.lowering.specs.Made.{Context, temporary, reference, excludedOf, keyOf, helper, call, E, K, object, array, sequence, member, assign, string, declares, declared}
 use Rattle.lowering.specs.Patterns.{shape, properties, itemsOf, rest, hasRest, leftOf, key, value, withItems, withProperties, withValues, replaced, objectsWithRest}
-use Rattle.lowering.specs.Keys.{keySort, excludedKey, keptKey, keyTemporary, allPrimitive, excludedKeys, keyTemporaries, taken}
+use Rattle.lowering.specs.Keys.{keySort, excludedKey, keptKey, keyTemporary, allPrimitive, excludedKeys, keyTemporaries, taken, literalText}
 use Rattle.lowering.specs.Keys.Key.{name, literal, template, private, again, other}
 use Rattle.lowering.specs.Rests.{hasNoProperties, mapped, isHoisted, keysRead, restValue, excludedFor}
 use Rattle.lowering.specs.Assignments.{target, nearest, partsOf, partsReplaced, targetLeft}
@@ -45,7 +45,7 @@ leaf-kind n j e = ap LeafParts.isLeaf (eqb-true (kind n) j e)
 -- what holds of StaticKeys and Literals holds of the strings that are made of them
 pub record Makes (Q : Node → Type 0) : Type 0 where
   pub named : (k : Node) → is 38 k ≡ true → Q k → Q (string (textAt 0 k))
-  pub formed : (k : Node) → is 22 k ≡ true → Q k → Q (string (textAt 2 k))
+  pub formed : (k : Node) → is 22 k ≡ true → Q k → Q (string (literalText k))
 
 module _ (Q : Node → Type 0) (makes : Makes Q) where
   abbrev pub Good : Node → Type 0
@@ -99,7 +99,7 @@ module _ (Q : Node → Type 0) (makes : Makes Q) where
         rw (e, excludedKey, text-name (key q) e) (LeafParts.string-leaves Q (textAt 0 (key q)) (makes .named (key q) i (LeafParts.own Q (key q) (leaf-kind (key q) 38 i) k)), tt))
         (λ e.
         let i = is-literal (key q) e in
-        rw (e, excludedKey, text-literal (key q) e) (LeafParts.string-leaves Q (textAt 2 (key q)) (makes .formed (key q) i (LeafParts.own Q (key q) (leaf-kind (key q) 22 i) k)), tt))
+        rw (e, excludedKey, text-literal (key q) e) (LeafParts.string-leaves Q (literalText (key q)) (makes .formed (key q) i (LeafParts.own Q (key q) (leaf-kind (key q) 22 i) k)), tt))
         (λ e. rw (e, excludedKey) (k, tt))
         (λ e. rw (e, excludedKey) tt)
         (λ e. rw (e, excludedKey) (k, tt))

@@ -21,14 +21,15 @@ use Rattle.tree.specs.Read.Got.{got}
 use Rattle.tree.specs.WellFormed.{Bytes, Fits, FitFields, FitPiece, FitItems}
 use Rattle.tree.proofs.Look.{kind-at}
 use Rattle.tree.proofs.Sound.{sound}
-use Rattle.lowering.specs.Parts.{kind, is, textAt, pieceIn}
+use Rattle.lowering.specs.Parts.{kind, is, textAt, pieceIn, numberAt}
+use Rattle.lowering.specs.Keys.{promised, literalText}
 use Rattle.lowering.specs.Made.{string}
 use Rattle.lowering.specs.Collect.{Name, nodes, nodesFields, nodesPiece, nodesItems}
 use Rattle.lowering.specs.Answer.{top}
 use Rattle.lowering.proofs.Appearance.{In}
 use Rattle.lowering.proofs.Cases.{by-test, or-other}
 use Rattle.equal.specs.Results.{writtenBy, treeOf, entriesOf, excludedOf, resultBy}
-use Rattle.equal.specs.Spelled.{Origin, found, ofName, ofForm, nodesWritten}
+use Rattle.equal.specs.Spelled.{Origin, found, ofName, ofLiteral, nodesWritten}
 use Rattle.equal.proofs.PlacesByAppearance.{in-left, in-right}
 use Rattle.equal.proofs.LeafParts.{isLeaf, NoPart, NoParts, Leaves, LeavesFields, LeavesPiece, LeavesItems}
 use Rattle.equal.proofs.LeafViews.{Makes}
@@ -153,13 +154,13 @@ module _ (start : Node) where
   unfolding is
   named k e (found i) = ofName i e
   named k e (ofName i f) = absurd (false≢true e)
-  named k e (ofForm i f) = absurd (false≢true e)
+  named k e (ofLiteral i f) = absurd (false≢true e)
 
-  formed : (k : Node) → is 22 k ≡ true → Origin start k → Origin start (string (textAt 2 k))
-  unfolding textAt pieceIn
-  formed k e (found i) = ofForm i e
+  formed : (k : Node) → is 22 k ≡ true → Origin start k → Origin start (string (literalText k))
+  unfolding literalText promised textAt numberAt pieceIn
+  formed k e (found i) = ofLiteral i e
   formed k e (ofName i f) = ofName i f
-  formed k e (ofForm i f) = ofForm i f
+  formed k e (ofLiteral i f) = ofLiteral i f
 
   pub origins : Makes (Origin start)
   origins = record { named = named; formed = formed }
@@ -184,7 +185,7 @@ spelled : (n m : Node) → Origin n m → In m (nodes n) ⊎ (textAt 1 m ≡ [])
 unfolding textAt pieceIn
 spelled n m (found i) = inl i
 spelled n m (ofName i e) = inr refl
-spelled n m (ofForm i e) = inr refl
+spelled n m (ofLiteral i e) = inr refl
 
 -- of every accepted tree
 pub made-empty : (limit : ℕ) (tree : List ℕ) (n : Node) (q next : ℕ) → Bytes tree → readTree input limit tree ≡ got n q next

@@ -6,7 +6,8 @@ use mathlib.Core.List.{List, _++_}
 use lib.ListN.{length}
 use Rattle.tree.specs.Tree.{Node, Items, wideBytes, encode, encodePiece}
 use Rattle.tree.specs.Tree.Piece.{list}
-use Rattle.lowering.specs.Collect.{Entry, over, samePath}
+use Rattle.lowering.specs.Parts.{sameNumbers}
+use Rattle.lowering.specs.Collect.{Entry, over}
 use Rattle.equal.specs.Canonical.{Written, canonical, canonicalWritten}
 use Rattle.equal.specs.Unspelled.{unspelled}
 
@@ -17,7 +18,7 @@ Equal m n = encode (canonical m) ≡ encode (canonical n)
 
 -- the test
 unfoldable pub isEqual : Node → Node → Bool
-isEqual m n = samePath (encode (canonical m)) (encode (canonical n))
+isEqual m n = sameNumbers (encode (canonical m)) (encode (canonical n))
 
 -- ---- equal results: tree and list, with the temporaries numbered through both
 
@@ -37,8 +38,8 @@ pub record EqualWritten (v w : Written) : Type 0 where
 -- the test
 unfoldable pub isEqualWritten : Written → Written → Bool
 isEqualWritten v w =
-    samePath (encode (canonicalWritten v .tree)) (encode (canonicalWritten w .tree))
-    && samePath
+    sameNumbers (encode (canonicalWritten v .tree)) (encode (canonicalWritten w .tree))
+    && sameNumbers
     (listEncoded (canonicalWritten v .entries) (canonicalWritten v .excluded))
     (listEncoded (canonicalWritten w .entries) (canonicalWritten w .excluded))
 
@@ -49,4 +50,4 @@ EqualBefore m n = encode (unspelled (canonical m)) ≡ encode (unspelled (canoni
 
 -- the test
 unfoldable pub isEqualBefore : Node → Node → Bool
-isEqualBefore m n = samePath (encode (unspelled (canonical m))) (encode (unspelled (canonical n)))
+isEqualBefore m n = sameNumbers (encode (unspelled (canonical m))) (encode (unspelled (canonical n)))

@@ -8,9 +8,9 @@ use Rattle.tree.specs.Tree.Node.{node}
 use Rattle.tree.specs.Tree.Fields.{done, absent, field}
 use Rattle.tree.specs.Tree.Piece.{one, list, text, byte, mark, number}
 use Rattle.tree.specs.Tree.Items.{none, item}
-use Rattle.lowering.specs.Parts.{standsIn, dropIn}
+use Rattle.lowering.specs.Parts.{standsIn, dropIn, sameNumbers}
 use Rattle.lowering.specs.Made.{array, declared}
-use Rattle.lowering.specs.Collect.{over, except, distinct, numberIn, samePath}
+use Rattle.lowering.specs.Collect.{over, except, distinct, numberIn}
 use Rattle.equal.specs.Canonical.{Written, numbers, renumbered, placeOf, canonical, numbersList, numbersWritten, eachEntry, renumberedWritten, canonicalWritten}
 use Rattle.equal.specs.Equal.{isEqual, entryEncoded, listEncoded, isEqualWritten, isEqualBefore}
 use Rattle.equal.specs.Unspelled.{unspelledLiteral, unspelled}
@@ -61,7 +61,7 @@ pub record Apart : Type 0 where
   pub formless-before : isEqualBefore (formless (49 ∷ [])) (formless (50 ∷ [])) ≡ false
 
 pub apart-examples : Apart
-unfolding isEqual isEqualBefore encode mapOf count canonical numbers renumbered placeOf distinct except numberIn samePath unspelled unspelledLiteral standsIn dropIn
+unfolding isEqual isEqualBefore encode mapOf count canonical numbers renumbered placeOf distinct except numberIn sameNumbers unspelled unspelledLiteral standsIn dropIn
 apart-examples =
     record { hexadecimal-bytes = refl; decimal-bytes = refl; equal-before = refl; not-now = refl; form-counted = refl; formless-before = refl }
 
@@ -75,6 +75,6 @@ pub record Numbered : Type 0 where
   pub list-apart : isEqualWritten (result 5 4 4) (result 1 2 1) ≡ false
 
 pub numbered-examples : Numbered
-unfolding isEqual isEqualWritten encode mapOf count canonical canonicalWritten numbers numbersList numbersWritten renumbered renumberedWritten eachEntry entryEncoded listEncoded over placeOf distinct except numberIn samePath
+unfolding isEqual isEqualWritten encode mapOf count canonical canonicalWritten numbers numbersList numbersWritten renumbered renumberedWritten eachEntry entryEncoded listEncoded over placeOf distinct except numberIn sameNumbers
 numbered-examples =
     record { same-places = refl; other-places = refl; stem-kept = refl; stem-counts = refl; through-both = refl; list-apart = refl }

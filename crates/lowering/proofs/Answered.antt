@@ -3,7 +3,6 @@
 use mathlib.Core.Path.{_≡_, refl, sym, ap, _∙_}
 use mathlib.Core.Bool.{Bool, true, false, cond}
 use mathlib.Core.List.{List}
-use mathlib.Core.Logic._⊎_.{inl, inr}
 use Prim.Native.Nat.{ℕ, zero, suc, _≤_, _<_}
 use native.Mathlib.Omega.{arith}
 use lib.Dec.{ltb}
@@ -18,11 +17,11 @@ use Rattle.lowering.specs.Collect.{bare, visits, firstRefusal, helperMas
 use Rattle.lowering.specs.Refusals.{tooLong}
 use Rattle.lowering.specs.Answer.{Lent, Result, fits, fitted, collected, afterWalk, limitRefused, inForce, afterReading, lowering, outcomeOf, outcome, top}
 use Rattle.lowering.specs.Answer.Result.{refusal, lowered}
-use Rattle.lowering.specs.Table.{Meets, Five, Six, Admitted, Accepted, met, resultTree, resultList, HandedBack, IsTable}
+use Rattle.lowering.specs.Table.{Meets, Five, Six, Eleven, Admitted, Accepted, met, resultTree, resultList, HandedBack, IsTable}
 use Rattle.lowering.proofs.Cases.{by-test}
 use Rattle.lowering.proofs.Answers.{ByWalk, walk-refuses}
 use Rattle.lowering.proofs.Order.{limit-outside, options-unknown, work-small, reading-decides}
-use Rattle.lowering.proofs.RefusalsMet.{five-where, six-where, refused-if, accepted-if}
+use Rattle.lowering.proofs.RefusalsMet.{OneMet, five-where, six-where, eleven-where, refused-if, accepted-if}
 
 -- ---- a line that applies is what the definition gives
 
@@ -47,9 +46,14 @@ module _ (limit options : ℕ) (tree : List ℕ) (s : Lent) where
   unfolding afterReading
   read-accepted a = reading-decides limit options tree s (a .admitted) ∙ ap (λ (g : Got Node). afterReading (inForce options) s g) (a .read)
 
-  fits-or-not : {n : Node} {next : ℕ} → Accepted limit options tree s n next → (Meets Five top n → ⊥) → (Meets Six top n → ⊥)
+  fits-or-not : {n : Node} {next : ℕ} → Accepted limit options tree s n next → (OneMet top n → ⊥)
       → lowering limit options tree s ≡ fitted s (helperMask (bare next (walked top n))) (inForce options) (resultTree n next) (resultList n next)
-  fits-or-not {n} {next} a f x = read-accepted a ∙ walk-passed (inForce options) s n next (accepted-if top n next 0 f x)
+  fits-or-not {n} {next} a f = read-accepted a ∙ walk-passed (inForce options) s n next (accepted-if top n next 0 f)
+
+  none-met : {n : Node} → (Meets Five top n → ⊥) → (Meets Six top n → ⊥) → (Meets Eleven top n → ⊥) → OneMet top n → ⊥
+  none-met f x y (OneMet.five m) = f m
+  none-met f x y (OneMet.six m) = x m
+  none-met f x y (OneMet.eleven m) = y m
 
   line-is : (r : Result) → HandedBack limit options tree s r → lowering limit options tree s ≡ r
   unfolding fitted
@@ -60,11 +64,12 @@ module _ (limit options : ℕ) (tree : List ℕ) (s : Lent) where
   line-is r (HandedBack.four a e) = read-refused a tooDeep e
   line-is r (HandedBack.five {n = n} {next = next} a e m) = read-accepted a ∙ walk-refused (inForce options) s n next 4 e
   line-is r (HandedBack.six {n = n} {next = next} a e m) = read-accepted a ∙ walk-refused (inForce options) s n next 5 e
-  line-is r (HandedBack.seven {n = n} {next = next} a f x e) =
-      fits-or-not a f x
+  line-is r (HandedBack.eleven {n = n} {next = next} a e m) = read-accepted a ∙ walk-refused (inForce options) s n next 10 e
+  line-is r (HandedBack.seven {n = n} {next = next} a f x y e) =
+      fits-or-not a (none-met f x y)
       ∙ ap (λ (b : Bool). cond b (lowered (helperMask (bare next (walked top n))) (inForce options) (resultTree n next) (resultList n next)) (refusal tooLong)) e
-  line-is r (HandedBack.zero {n = n} {next = next} a f x e) =
-      fits-or-not a f x
+  line-is r (HandedBack.zero {n = n} {next = next} a f x y e) =
+      fits-or-not a (none-met f x y)
       ∙ ap (λ (b : Bool). cond b (lowered (helperMask (bare next (walked top n))) (inForce options) (resultTree n next) (resultList n next)) (refusal tooLong)) e
 
   -- ---- and one applies
@@ -72,13 +77,14 @@ module _ (limit options : ℕ) (tree : List ℕ) (s : Lent) where
   some-walk : {n : Node} {next : ℕ} → Accepted limit options tree s n next → (m : ℕ) → ByWalk m → met n next ≡ m → (r : Result) × HandedBack limit options tree s r
   some-walk {n} {next} a m ByWalk.no e =
       by-test (fits s (resultTree n next) (resultList n next))
-      (λ t. (_, HandedBack.zero a (λ f. none (refused-if top n next 0 (inl f))) (λ x. none (refused-if top n next 0 (inr x))) t))
-      (λ t. (_, HandedBack.seven a (λ f. none (refused-if top n next 0 (inl f))) (λ x. none (refused-if top n next 0 (inr x))) t))
+      (λ t. (_, HandedBack.zero a (λ f. none (OneMet.five f)) (λ x. none (OneMet.six x)) (λ y. none (OneMet.eleven y)) t))
+      (λ t. (_, HandedBack.seven a (λ f. none (OneMet.five f)) (λ x. none (OneMet.six x)) (λ y. none (OneMet.eleven y)) t))
     where
-      none : 0 < met n next → ⊥
-      none h = absurd (omega arith)
+      none : OneMet top n → ⊥
+      none o = let h = refused-if top n next 0 o in absurd (omega arith)
   some-walk {n} {next} a m ByWalk.five e = (_, HandedBack.five a e (five-where top n next 0 e))
   some-walk {n} {next} a m ByWalk.six e = (_, HandedBack.six a e (six-where top n next 0 e))
+  some-walk {n} {next} a m ByWalk.eleven e = (_, HandedBack.eleven a e (eleven-where top n next 0 e))
 
   some-reading : Admitted limit options s → (g : Got Node) → readTree input limit tree ≡ g → (r : Result) × HandedBack limit options tree s r
   some-reading a (got n q next) e = some-walk (record { admitted = a; end = q; read = e }) (met n next) (walk-refuses next 0 top n) refl

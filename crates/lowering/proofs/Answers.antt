@@ -17,8 +17,8 @@ use Rattle.tree.specs.Read.Refusal.{notATree, tooDeep}
 use Rattle.lowering.specs.Made.{Context}
 use Rattle.lowering.specs.Parts.{kind, is, nodeAt}
 use Rattle.lowering.specs.Patterns.{hasObjectRest, hasArrayRestOverObjectRest}
-use Rattle.lowering.specs.Declarations.{declarationLacksForm}
-use Rattle.lowering.specs.Assignments.{isTop, target, topLacksForm}
+use Rattle.lowering.specs.Declarations.{declarationRefusal}
+use Rattle.lowering.specs.Assignments.{isTop, target, topRefusal}
 use Rattle.lowering.specs.Walk.{Note, Walked, ruleOf, rewrite, within, inside, walk, stepDeclaration, stepTop, stepAssignment, stepFor}
 use Rattle.lowering.specs.Weight.{weight, walked}
 use Rattle.lowering.specs.Collect.{Visit, bare, visits, firstRefusal, entries, excludedIn}
@@ -26,16 +26,18 @@ use Rattle.lowering.specs.Refusals.{isRefusal, isAnswer, tooLong}
 use Rattle.lowering.specs.Answer.{Lent, Result, Outcome, fits, fitted, collected, afterWalk, top, limitRefused, inForce, afterReading, lowering, filled, outcomeOf, outcome}
 use Rattle.lowering.specs.Answer.Result.{refusal, lowered}
 use Rattle.lowering.proofs.Cases.{by-test, by-rule}
+use Rattle.lowering.proofs.KeyRefusals.{by-keys, declaration-by, top-by}
 use Rattle.lowering.proofs.Falls.{walk-more, walked-only}
 use Rattle.lowering.proofs.Notes.{AllNotes, in-walked}
 use Rattle.lowering.proofs.Order.{by-order}
 
--- ---- the walk refuses by 5 or 6 and by nothing else
+-- ---- the walk refuses by 5, 6 or 11 and by nothing else
 
 pub data ByWalk : ℕ → Type 0 where
   no : ByWalk 0
   five : ByWalk 5
   six : ByWalk 6
+  eleven : ByWalk 11
 
 abbrev Refuses : Note → Type 0
 Refuses note = ByWalk (note .refusal)
@@ -43,11 +45,12 @@ Refuses note = ByWalk (note .refusal)
 module _ (c : Context) where
   declaration-refuses : (n : Node) → Refuses (stepDeclaration c n .note)
   unfolding stepDeclaration
-  declaration-refuses n = by-test (declarationLacksForm c n) (λ e. rw (e, stepDeclaration) six) (λ e. rw (e, stepDeclaration) no)
+  declaration-refuses n =
+      by-keys (declarationRefusal c n) (declaration-by c n) (λ e. rw (e, stepDeclaration) no) (λ e. rw (e, stepDeclaration) six) (λ e. rw (e, stepDeclaration) eleven)
 
   top-refuses : (n : Node) → Refuses (stepTop c n .note)
   unfolding stepTop
-  top-refuses n = by-test (topLacksForm n) (λ e. rw (e, stepTop) six) (λ e. rw (e, stepTop) no)
+  top-refuses n = by-keys (topRefusal n) (top-by n) (λ e. rw (e, stepTop) no) (λ e. rw (e, stepTop) six) (λ e. rw (e, stepTop) eleven)
 
   assignment-refuses : (n : Node) → Refuses (stepAssignment c n .note)
   unfolding stepAssignment
@@ -111,6 +114,7 @@ afterWalk-in o s next n = go (firstRefusal (visits next 0 (walked top n))) (walk
     go r no = fitted-in s _ o _ _
     go r five = refl
     go r six = refl
+    go r eleven = refl
 
 reading-in : (o : ℕ) (s : Lent) (g : Got Node) → InTable (afterReading o s g)
 unfolding afterReading among

@@ -9,8 +9,8 @@ use native.Mathlib.Omega.{arith}
 use lib.Dec.{eqb}
 use borrow.Author.Tests.{eq-eqb, eqb-true}
 use Rattle.tree.specs.Tree.{Node}
-use Rattle.lowering.specs.Parts.{is}
-use Rattle.lowering.specs.Collect.{Name, over, nameOf, nameAt, samePath, same, except, distinct, numberIn}
+use Rattle.lowering.specs.Parts.{sameNumbers, is}
+use Rattle.lowering.specs.Collect.{Name, over, nameOf, nameAt, same, except, distinct, numberIn}
 use Rattle.lowering.proofs.Cases.{by-test}
 
 -- ---- `same` tells names apart
@@ -20,21 +20,21 @@ both true true h = (refl, refl)
 both true false h = absurd (false≢true h)
 both false b h = absurd (false≢true h)
 
-pub same-path : (p q : List ℕ) → samePath p q ≡ true → p ≡ q
-unfolding samePath
-same-path [] [] h = refl
-same-path [] (b ∷ q) h = absurd (false≢true h)
-same-path (a ∷ p) [] h = absurd (false≢true h)
-same-path (a ∷ p) (b ∷ q) h =
-    let k = both (eqb a b) (samePath p q) h in
-    ap₂ (λ (x : ℕ) (y : List ℕ). x ∷ y) (eqb-true a b (k .0)) (same-path p q (k .1))
+pub same-numbers : (p q : List ℕ) → sameNumbers p q ≡ true → p ≡ q
+unfolding sameNumbers
+same-numbers [] [] h = refl
+same-numbers [] (b ∷ q) h = absurd (false≢true h)
+same-numbers (a ∷ p) [] h = absurd (false≢true h)
+same-numbers (a ∷ p) (b ∷ q) h =
+    let k = both (eqb a b) (sameNumbers p q) h in
+    ap₂ (λ (x : ℕ) (y : List ℕ). x ∷ y) (eqb-true a b (k .0)) (same-numbers p q (k .1))
 
 pub same-is : (a b : Name) → same a b ≡ true → a ≡ b
 unfolding same
 same-is a b h =
-    let k = both (eqb (a .place) (b .place)) (eqb (a .stem) (b .stem) && samePath (a .path) (b .path)) h in
-    let l = both (eqb (a .stem) (b .stem)) (samePath (a .path) (b .path)) (k .1) in
-    let p : a .path ≡ b .path = same-path (a .path) (b .path) (l .1) in
+    let k = both (eqb (a .place) (b .place)) (eqb (a .stem) (b .stem) && sameNumbers (a .path) (b .path)) h in
+    let l = both (eqb (a .stem) (b .stem)) (sameNumbers (a .path) (b .path)) (k .1) in
+    let p : a .path ≡ b .path = same-numbers (a .path) (b .path) (l .1) in
     let s : a .stem ≡ b .stem = eqb-true (a .stem) (b .stem) (l .0) in
     let x : a .place ≡ b .place = eqb-true (a .place) (b .place) (k .0) in
     λ j. record { path = (p) j; stem = (s) j; place = (x) j }
@@ -116,14 +116,14 @@ unfolding over nameAt
 name-over t k (here {b = b} {xs = ns} e) = in-first (over nameAt ns) (subst (λ (x : Node). In (nameOf t) (cond (is 20 x) (nameOf x ∷ []) [])) e (rw k (here refl)))
 name-over t k (there {b = b} i) = in-second (cond (is 20 b) (nameOf b ∷ []) []) (name-over t k i)
 
-pub path-self : (p : List ℕ) → samePath p p ≡ true
-unfolding samePath
-path-self [] = refl
-path-self (x ∷ p) = rw (eq-eqb x x refl) (path-self p)
+pub numbers-self : (p : List ℕ) → sameNumbers p p ≡ true
+unfolding sameNumbers
+numbers-self [] = refl
+numbers-self (x ∷ p) = rw (eq-eqb x x refl) (numbers-self p)
 
 pub name-self : (a : Name) → same a a ≡ true
 unfolding same
-name-self a = rw (eq-eqb (a .place) (a .place) refl, eq-eqb (a .stem) (a .stem) refl) (path-self (a .path))
+name-self a = rw (eq-eqb (a .place) (a .place) refl, eq-eqb (a .stem) (a .stem) refl) (numbers-self (a .path))
 
 except-in : (a b : Name) {xs : List Name} → same b a ≡ false → In a xs → In a (except same b xs)
 unfolding except

@@ -2,7 +2,7 @@
 -- Assumes nothing.
 use mathlib.Core.Path.{_≡_, refl, sym, _∙_}
 use mathlib.Core.Bool.{Bool, true, false, cond, _||_, _&&_, false≢true, true≢false, not}
-use Prim.Native.Nat.{ℕ}
+use Prim.Native.Nat.{ℕ, zero, suc}
 use native.Mathlib.Omega.{arith}
 use lib.Dec.{eqb}
 use Rattle.tree.specs.Tree.{Node, Piece, Items, count}
@@ -22,6 +22,10 @@ use Rattle.tree.specs.Tree.Items.{none}
 pub by-test : {A : Type 0} (b : Bool) → (b ≡ true → A) → (b ≡ false → A) → A
 by-test true f g = f refl
 by-test false f g = g refl
+
+pub by-number : {A : Type 0} (n : ℕ) → ((m : ℕ) → n ≡ suc m → A) → (n ≡ 0 → A) → A
+by-number zero f g = g refl
+by-number (suc m) f g = f m refl
 
 pub by-shape : {A : Type 0} (s : Shape) → (s ≡ objectPattern → A) → (s ≡ arrayPattern → A) → (s ≡ default → A) → (s ≡ leaf → A) → A
 by-shape objectPattern f g h i = f refl

@@ -9,7 +9,7 @@ use Rattle.lowering.specs.Parts.{only, gather, _+++_, is, nodeAt, stands
 use Rattle.lowering.specs.Made.{Context, reference, S}
 use Rattle.lowering.specs.Patterns.{shape, properties, itemsOf, hasRest, leftOf, value, withLeft, withItems, withValues, replaced, objectsWithRest, objectsBelow, hasNestedObjectRest, hasObjectRest}
 use Rattle.lowering.specs.Patterns.Shape.{objectPattern, arrayPattern, default, leaf}
-use Rattle.lowering.specs.Keys.{taken, keySort, allPrimitive, keyText}
+use Rattle.lowering.specs.Keys.{taken, keySort, allPrimitive, keyText, literalText}
 use Rattle.lowering.specs.Declarations.{innerObjects, isLowered}
 use Rattle.lowering.specs.Assignments.{nearest, partsReplaced, isTop}
 use Rattle.tree.specs.Tree.Node.{node}
@@ -151,6 +151,6 @@ pub text-name : (k : Node) → keySort k ≡ name → keyText k ≡ textAt 0 k
 unfolding keyText
 text-name k e = rw (e, keyText) refl
 
-pub text-literal : (k : Node) → keySort k ≡ literal → keyText k ≡ textAt 2 k
+pub text-literal : (k : Node) → keySort k ≡ literal → keyText k ≡ literalText k
 unfolding keyText
 text-literal k e = rw (e, keyText) refl

@@ -9,11 +9,11 @@ use native.Mathlib.Omega.{arith}
 use lib.ListN.{length, length-append}
 use Rattle.tree.specs.Tree.{Node, Fields, Piece, Items}
 use Rattle.tree.specs.Tree.Node.{node}
-use Rattle.lowering.specs.Parts.{_+++_}
+use Rattle.lowering.specs.Parts.{sameNumbers, _+++_}
 use Rattle.lowering.specs.Made.{Context}
 use Rattle.lowering.specs.Walk.{Note, Walked, eachItem, eachPiece, eachField, inside, rewrite, within, walk}
 use Rattle.lowering.specs.Weight.{weight, walked}
-use Rattle.lowering.specs.Collect.{Visit, newIn, newInPiece, isContainer, markOf, marked, visits, visitsFields, visitsPiece, visitsItems, madeIn, Name, samePath}
+use Rattle.lowering.specs.Collect.{Visit, newIn, newInPiece, isContainer, markOf, marked, visits, visitsFields, visitsPiece, visitsItems, madeIn, Name}
 use Rattle.lowering.specs.Answer.{top}
 use Rattle.tree.specs.Grammar.Stage.{input}
 use Rattle.tree.specs.Read.{readTree}
@@ -21,7 +21,7 @@ use Rattle.tree.specs.Read.Got.{got}
 use Rattle.lowering.proofs.All.{AllItems, AllPiece, AllFields, Each}
 use Rattle.lowering.proofs.Cases.{by-test}
 use Rattle.lowering.proofs.Accepted.{accepted-sites}
-use Rattle.lowering.proofs.Appearance.{same-path}
+use Rattle.lowering.proofs.Appearance.{same-numbers}
 use Rattle.lowering.proofs.Sites.{sites, AtMost}
 use Rattle.lowering.proofs.SiteRules.{kept}
 use Rattle.lowering.proofs.MadeAtSites.{times, times-append, makes-once}
@@ -184,8 +184,8 @@ module _ (a : Name) where
       record {
         most = omega arith;
         found = λ z.
-            by-test (samePath (a .path) (c .path))
-            (λ e. same-path (a .path) (c .path) e)
+            by-test (sameNumbers (a .path) (c .path))
+            (λ e. same-numbers (a .path) (c .path) e)
             (λ e. let y = not-made a (c .path) e (rewrite c n .note .made) (made-from c n) in absurd (omega arith));
       }
 

@@ -9,13 +9,13 @@ use Rattle.tree.specs.Tree.{Node}
 use Rattle.lowering.specs.Parts.{kind, is, nodeAt}
 use Rattle.lowering.specs.Made.{Context}
 use Rattle.lowering.specs.Patterns.{hasObjectRest, hasArrayRestOverObjectRest}
-use Rattle.lowering.specs.Declarations.{declarationLacksForm}
-use Rattle.lowering.specs.Assignments.{isTop, target, topLacksForm}
+use Rattle.lowering.specs.Declarations.{declarationRefusal}
+use Rattle.lowering.specs.Assignments.{isTop, target, topRefusal}
 use Rattle.lowering.specs.Walk.{Walked, Rule, ruleOf, stepDeclaration, stepTop, stepAssignment, stepFor, rewrite, within, inside, walk}
 use Rattle.lowering.specs.Walk.Rule.{literals, declarations, assignments, functions, arrows, catches, fors, nowhere}
 use Rattle.lowering.specs.Weight.{isHead, weight, walked}
 use Rattle.lowering.proofs.All.{Each, weaker-each, inside-same}
-use Rattle.lowering.proofs.Cases.{by-test, by-rule}
+use Rattle.lowering.proofs.Cases.{by-number, by-test, by-rule}
 use Rattle.lowering.proofs.Weights.{weight-pos, parts-fall}
 use Rattle.lowering.proofs.WeightLiterals.{literal-falls}
 use Rattle.lowering.proofs.WeightHeads.{function-falls, arrow-falls, catch-falls, declaring-falls, assigning-falls}
@@ -70,12 +70,12 @@ kinds-at k r e = rw e at (kinds k)
 declarations-fall : (c : Context) (n : Node) → is 4 n ≡ true → Light n (stepDeclaration c n .result)
 unfolding stepDeclaration
 declarations-fall c n e =
-    by-test (declarationLacksForm c n) (λ h. rw (h, Each) tt) (λ h. rw (h, Each) (declaration-falls c n e))
+    by-number (declarationRefusal c n) (λ r h. rw (h, Each) tt) (λ h. rw (h, Each) (declaration-falls c n e))
 
 top-fall : (c : Context) (n : Node) → is 27 n ≡ true → isTop (target n) ≡ true → Light n (stepTop c n .result)
 unfolding stepTop
 top-fall c n e h =
-    by-test (topLacksForm n) (λ l. rw (l, Each) tt) (λ l. rw (l, Each) (top-falls c n e h))
+    by-number (topRefusal n) (λ r l. rw (l, Each) tt) (λ l. rw (l, Each) (top-falls c n e h))
 
 assignments-fall : (c : Context) (n : Node) → is 27 n ≡ true → Light n (stepAssignment c n .result)
 unfolding stepAssignment

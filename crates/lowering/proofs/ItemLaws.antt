@@ -3,11 +3,11 @@
 use mathlib.Core.Path.{_≡_, refl, ap, fun-ext, sym, _∙_}
 use mathlib.Core.Bool.{Bool, _||_, false, or-assoc}
 use mathlib.Core.List.{List, [], _∷_, _++_, append-assoc}
-use Prim.Native.Nat.{_+_, suc}
+use Prim.Native.Nat.{ℕ, zero, suc, _+_}
 use native.Mathlib.Omega.{arith}
 use Rattle.tree.specs.Tree.{Items, Node, count}
 use Rattle.tree.specs.Tree.Items.{none, hole, item}
-use Rattle.lowering.specs.Parts.{_+++_, each, gather, only, any, isEmpty}
+use Rattle.lowering.specs.Parts.{_+++_, each, gather, only, any, orElse, first, isEmpty}
 use Rattle.lowering.specs.Collect.{over}
 use Rattle.lowering.proofs.Cases.{or-left, or-right}
 
@@ -100,6 +100,21 @@ any-none u t h (Items.item n is) e = rw (h n (or-left (u n) (any u is) e)) (any-
 pub any-empty : (f : Node → Bool) → any f Items.none ≡ false
 unfolding any
 any-empty f = refl
+
+pub first-empty : (f : Node → ℕ) → first f Items.none ≡ 0
+unfolding first
+first-empty f = refl
+
+or-assoc-number : (a b c : ℕ) → orElse (orElse a b) c ≡ orElse a (orElse b c)
+unfolding orElse
+or-assoc-number zero b c = refl
+or-assoc-number (suc a) b c = refl
+
+pub first-append : (f : Node → ℕ) (ns ms : Items) → first f (ns +++ ms) ≡ orElse (first f ns) (first f ms)
+unfolding first orElse _+++_
+first-append f Items.none ms = refl
+first-append f (Items.hole ns) ms = first-append f ns ms
+first-append f (Items.item n ns) ms = ap (orElse (f n)) (first-append f ns ms) ∙ sym (or-assoc-number (f n) (first f ns) (first f ms))
 
 pub empty-each : (g : Node → Node) (qs : Items) → isEmpty (each g qs) ≡ isEmpty qs
 unfolding isEmpty each

@@ -15,6 +15,8 @@ pub mod Falls
 pub mod Levels
 pub mod Notes
 pub mod Order
+pub mod NumberLaws
+pub mod KeyRefusals
 pub mod Answers
 pub mod RefusalsMet
 pub mod Answered

@@ -9,17 +9,17 @@ use lib.Dec.{eqb}
 use borrow.Author.Tests.{eqb-true}
 use Rattle.tree.specs.Tree.{Node, Items, depth}
 use Rattle.tree.specs.Tree.Items.{none, hole, item}
-use Rattle.lowering.specs.Parts.{position, kind, is, nodeAt, itemsAt, stands, textAt, numberAt, pieceIn, only, each, gather, _+++_}
+use Rattle.lowering.specs.Parts.{sameNumbers, position, kind, is, nodeAt, itemsAt, stands, textAt, numberAt, pieceIn, only, each, gather, _+++_}
 use Rattle.lowering.specs.Made.{Context, temporary, reference, valueOf, keyOf, excludedOf, declared, idOf}
 use Rattle.lowering.specs.Patterns.{shape, properties, key, value, hasObjectRest, hasArrayRestOverObjectRest, objectsBelow}
 use Rattle.lowering.specs.Keys.{keySort, keyTemporary, keyTemporaries}
 use Rattle.lowering.specs.Rests.{isHoisted, excludedFor, restMakes}
-use Rattle.lowering.specs.Declarations.{isName, sourceDeclarator, innerObjects, declaratorMakes, isLowered, declarationMakes, declarationLacksForm}
-use Rattle.lowering.specs.Assignments.{isTop, target, nearest, partsOf, topLacksForm, topEntry, topExcludes, topMakes, outermost, nestedEntry, nestedMakes}
+use Rattle.lowering.specs.Declarations.{isName, sourceDeclarator, innerObjects, declaratorMakes, isLowered, declarationMakes, declarationRefusal}
+use Rattle.lowering.specs.Assignments.{isTop, target, nearest, partsOf, topRefusal, topEntry, topExcludes, topMakes, outermost, nestedEntry, nestedMakes}
 use Rattle.lowering.specs.Heads.{isMoved, movedFrom, references, functionMakes, arrowMakes, catchMakes, declaringMakes, assigningMakes}
 use Rattle.lowering.specs.Walk.{ruleOf, rewrite, stepDeclaration, stepTop, stepAssignment, stepFor}
-use Rattle.lowering.specs.Collect.{Name, nameOf, samePath, same}
-use Rattle.lowering.proofs.Cases.{by-test, by-shape, by-key, by-rule}
+use Rattle.lowering.specs.Collect.{Name, nameOf, same}
+use Rattle.lowering.proofs.Cases.{by-number, by-test, by-shape, by-key, by-rule}
 use Rattle.lowering.proofs.Sites.{here, hereItems, sites, sitesItems, node-in, items-in, shell, shells, gather-here, shells-in, here-in, object-whole}
 use Rattle.lowering.proofs.SiteViews.{object-here, rest-here, moved-here, nearest-sites, nearest-are, objects-sum, objects-are}
 use Rattle.lowering.proofs.ItemLaws.{each-append}
@@ -43,14 +43,14 @@ module _ (a : Name) where
   abbrev once : Bool → ℕ
   once b = cond b 1 0
 
-  pub name-of : (path : List ℕ) (stem at : ℕ) → same a (nameOf (temporary path stem at)) ≡ eqb (a .place) at && (eqb (a .stem) stem && samePath (a .path) path)
+  pub name-of : (path : List ℕ) (stem at : ℕ) → same a (nameOf (temporary path stem at)) ≡ eqb (a .place) at && (eqb (a .stem) stem && sameNumbers (a .path) path)
   unfolding same nameOf textAt numberAt pieceIn
   name-of path stem at = refl
 
   -- it counts at most where its position is the name's
   one-here : (path : List ℕ) (stem at : ℕ) → once (same a (nameOf (temporary path stem at))) ≤ here (a .place) at
   unfolding here
-  one-here path stem at = rw (name-of path stem at) (go (eqb (a .place) at) (eqb (a .stem) stem && samePath (a .path) path))
+  one-here path stem at = rw (name-of path stem at) (go (eqb (a .place) at) (eqb (a .stem) stem && sameNumbers (a .path) path))
     where
       go : (b d : Bool) → cond (b && d) 1 0 ≤ cond b 1 0
       go true true = omega arith
@@ -409,11 +409,11 @@ module _ (a : Name) where
     declarations-make : (n : Node) → times a (stepDeclaration c n .note .made) ≤ sites (a .place) n
     unfolding stepDeclaration
     declarations-make n =
-        by-test (declarationLacksForm c n) (λ e. rw (e, stepDeclaration) (let z = none-times in omega arith)) (λ e. rw (e, stepDeclaration) (declaration-once n))
+        by-number (declarationRefusal c n) (λ r e. rw (e, stepDeclaration) (let z = none-times in omega arith)) (λ e. rw (e, stepDeclaration) (declaration-once n))
 
     tops-make : (n : Node) → isTop (target n) ≡ true → times a (stepTop c n .note .made) ≤ sites (a .place) n
     unfolding stepTop
-    tops-make n h = by-test (topLacksForm n) (λ e. rw (e, stepTop) (let z = none-times in omega arith)) (λ e. rw (e, stepTop) (top-once n h))
+    tops-make n h = by-number (topRefusal n) (λ r e. rw (e, stepTop) (let z = none-times in omega arith)) (λ e. rw (e, stepTop) (top-once n h))
 
     assignments-make : (n : Node) → times a (stepAssignment c n .note .made) ≤ sites (a .place) n
     unfolding stepAssignment

@@ -8,18 +8,18 @@ use native.Mathlib.Omega.{arith}
 use lib.Dec.{eqb}
 use Rattle.tree.specs.Tree.{Node, Items}
 use Rattle.tree.specs.Tree.Items.{none, hole, item}
-use Rattle.lowering.specs.Parts.{position, kind, is, nodeAt, itemsAt, stands, pieceIn, each, gather, _+++_}
+use Rattle.lowering.specs.Parts.{sameNumbers, position, kind, is, nodeAt, itemsAt, stands, pieceIn, each, gather, _+++_}
 use Rattle.lowering.specs.Made.{Context, temporary, reference, idOf, declared}
 use Rattle.lowering.specs.Patterns.{properties, key, hasObjectRest, hasArrayRestOverObjectRest, objectsBelow}
 use Rattle.lowering.specs.Keys.{keySort, keyTemporary, keyTemporaries}
 use Rattle.lowering.specs.Rests.{isHoisted, excludedFor, restMakes}
-use Rattle.lowering.specs.Declarations.{isName, sourceDeclarator, innerObjects, declaratorMakes, isLowered, declarationMakes, declarationLacksForm}
-use Rattle.lowering.specs.Assignments.{isTop, target, partsOf, topLacksForm, topEntry, topExcludes, topMakes, outermost, nestedEntry, nestedMakes}
+use Rattle.lowering.specs.Declarations.{isName, sourceDeclarator, innerObjects, declaratorMakes, isLowered, declarationMakes, declarationRefusal}
+use Rattle.lowering.specs.Assignments.{isTop, target, partsOf, topRefusal, topEntry, topExcludes, topMakes, outermost, nestedEntry, nestedMakes}
 use Rattle.lowering.specs.Heads.{movedFrom, functionMakes, arrowMakes, catchMakes, declaringMakes, assigningMakes}
 use Rattle.lowering.specs.Walk.{ruleOf, rewrite, stepDeclaration, stepTop, stepAssignment, stepFor}
-use Rattle.lowering.specs.Collect.{Name, nameOf, samePath, same}
+use Rattle.lowering.specs.Collect.{Name, nameOf, same}
 use Rattle.lowering.proofs.All.{AllItems, all-append, all-gather, all-each, all-unit}
-use Rattle.lowering.proofs.Cases.{by-test, by-key, by-rule}
+use Rattle.lowering.proofs.Cases.{by-number, by-test, by-key, by-rule}
 use Rattle.lowering.proofs.MadeAtSites.{times, name-of, entry-refs}
 use Rattle.lowering.proofs.ItemLaws.{each-append}
 
@@ -121,11 +121,11 @@ module _ (c : Context) where
 
   declarations-from : (n : Node) → AllItems Ours (stepDeclaration c n .note .made)
   unfolding stepDeclaration
-  declarations-from n = by-test (declarationLacksForm c n) (λ e. rw (e, stepDeclaration, AllItems) tt) (λ e. rw (e, stepDeclaration, AllItems) (declaration-from n))
+  declarations-from n = by-number (declarationRefusal c n) (λ r e. rw (e, stepDeclaration, AllItems) tt) (λ e. rw (e, stepDeclaration, AllItems) (declaration-from n))
 
   tops-from : (n : Node) → AllItems Ours (stepTop c n .note .made)
   unfolding stepTop
-  tops-from n = by-test (topLacksForm n) (λ e. rw (e, stepTop, AllItems) tt) (λ e. rw (e, stepTop, AllItems) (top-from n))
+  tops-from n = by-number (topRefusal n) (λ r e. rw (e, stepTop, AllItems) tt) (λ e. rw (e, stepTop, AllItems) (top-from n))
 
   assignments-from : (n : Node) → AllItems Ours (stepAssignment c n .note .made)
   unfolding stepAssignment
@@ -159,7 +159,7 @@ module _ (c : Context) where
 
 -- ---- so a name with another path is not made
 
-module _ (a : Name) (path : List ℕ) (apart : samePath (a .path) path ≡ false) where
+module _ (a : Name) (path : List ℕ) (apart : sameNumbers (a .path) path ≡ false) where
   other : (stem at : ℕ) → same a (nameOf (temporary path stem at)) ≡ false
   other stem at = rw (name-of a path stem at, apart) (go (eqb (a .place) at) (eqb (a .stem) stem))
     where

@@ -1,6 +1,6 @@
--- Refusals 5 and 6 are met where document 01's table says so, and nowhere else.
+-- Refusals 5, 6 and 11 are met where the table says so, and nowhere else.
 -- Assumes nothing.
-use mathlib.Core.Path.{_≡_, refl, sym, ap, _∙_}
+use mathlib.Core.Path.{_≡_, refl, sym, ap, subst, _∙_}
 use mathlib.Core.Bool.{Bool, true, false, cond, _||_}
 use mathlib.Core.List.{List, [], _∷_, _++_}
 use mathlib.Core.Logic.{_⊎_, ⊎-elim}
@@ -18,17 +18,18 @@ use Rattle.tree.specs.Read.Refusal.{notATree, tooDeep}
 use Rattle.lowering.specs.Made.{Context}
 use Rattle.lowering.specs.Parts.{kind, is, nodeAt}
 use Rattle.lowering.specs.Patterns.{hasObjectRest, hasArrayRestOverObjectRest}
-use Rattle.lowering.specs.Declarations.{declarationLacksForm}
-use Rattle.lowering.specs.Assignments.{isTop, target, topLacksForm}
+use Rattle.lowering.specs.Declarations.{declarationRefusal}
+use Rattle.lowering.specs.Assignments.{isTop, target, topRefusal}
 use Rattle.lowering.specs.Walk.{Note, Walked, Rule, ruleOf, rewrite, within, eachItem, eachPiece, eachField, inside, walk, stepDeclaration, stepTop, stepAssignment, stepFor}
 use Rattle.lowering.specs.Walk.Rule.{literals, declarations, assignments, functions, arrows, catches, fors, nowhere}
 use Rattle.lowering.specs.Weight.{weight, walked}
 use Rattle.lowering.specs.Collect.{Visit, newIn, newInPiece, isContainer, markOf, marked, visits, visitsFields, visitsPiece, visitsItems, bare, firstRefusal, entries, excludedIn}
 use Rattle.lowering.specs.Answer.{Lent, Result, fits, fitted, collected, afterWalk, top, inForce, afterReading, lowering, outcomeOf, outcome}
 use Rattle.lowering.specs.Answer.Result.{refusal, lowered}
-use Rattle.lowering.specs.Table.{Meets, MeetsIn, MeetsField, MeetsPiece, MeetsItem, TreeMeets, Five, Six, Admitted}
+use Rattle.lowering.specs.Table.{Meets, MeetsIn, MeetsField, MeetsPiece, MeetsItem, TreeMeets, Five, AtKeys, Six, Eleven, Admitted}
 use Rattle.lowering.specs.Table.Meets.{here, below}
-use Rattle.lowering.proofs.Cases.{by-test, by-rule, or-other, rule-4, rule-27}
+use Rattle.lowering.proofs.Cases.{by-number, by-test, by-rule, or-other, rule-4, rule-27}
+use Rattle.lowering.proofs.KeyRefusals.{ByKeys, declaration-by, top-by}
 use Rattle.lowering.proofs.Falls.{walked-is}
 use Rattle.lowering.proofs.Answers.{ByWalk, walk-refuses}
 use Rattle.lowering.proofs.Order.{by-order, reading-decides}
@@ -248,26 +249,33 @@ rule-for n h =
 
 -- where a rewriting refuses, by the number
 abbrev Says : Context → Node → ℕ → Type 0
-Says c n r = (r ≡ 5 → Five c n) × (r ≡ 6 → Six c n)
+Says c n r = (r ≡ 5 → Five c n) × (r ≡ 6 → Six c n) × (r ≡ 11 → Eleven c n)
 
 module _ (c : Context) (n : Node) where
   silent : Says c n 0
-  silent = (λ e. absurd (omega arith), λ e. absurd (omega arith))
+  silent = (λ e. absurd (omega arith), λ e. absurd (omega arith), λ e. absurd (omega arith))
 
   says-five : Five c n → Says c n 5
-  says-five h = (λ e. h, λ e. absurd (omega arith))
+  says-five h = (λ e. h, λ e. absurd (omega arith), λ e. absurd (omega arith))
 
-  says-six : Six c n → Says c n 6
-  says-six h = (λ e. absurd (omega arith), λ e. h)
+  says-keys : (r : ℕ) → ByKeys r → AtKeys r c n → Says c n r
+  says-keys r ByKeys.no h = silent
+  says-keys r ByKeys.six h = (λ e. absurd (omega arith), λ e. h, λ e. absurd (omega arith))
+  says-keys r ByKeys.eleven h = (λ e. absurd (omega arith), λ e. absurd (omega arith), λ e. h)
 
   declaration-says : is 4 n ≡ true → Says c n (stepDeclaration c n .note .refusal)
   unfolding stepDeclaration
   declaration-says k =
-      by-test (declarationLacksForm c n) (λ e. rw (e, stepDeclaration) (says-six (Six.declaration k e))) (λ e. rw (e, stepDeclaration) silent)
+      by-number (declarationRefusal c n)
+      (λ r e. rw (e, stepDeclaration) (says-keys (suc r) (subst ByKeys e (declaration-by c n)) (AtKeys.declaration k e)))
+      (λ e. rw (e, stepDeclaration) silent)
 
   top-says : is 27 n ≡ true → hasArrayRestOverObjectRest (target n) ≡ false → isTop (target n) ≡ true → Says c n (stepTop c n .note .refusal)
   unfolding stepTop
-  top-says k a t = by-test (topLacksForm n) (λ e. rw (e, stepTop) (says-six (Six.assignment k a t e))) (λ e. rw (e, stepTop) silent)
+  top-says k a t =
+      by-number (topRefusal n)
+      (λ r e. rw (e, stepTop) (says-keys (suc r) (subst ByKeys e (top-by n)) (AtKeys.assignment k a t e)))
+      (λ e. rw (e, stepTop) silent)
 
   assignment-says : is 27 n ≡ true → Says c n (stepAssignment c n .note .refusal)
   unfolding stepAssignment
@@ -305,10 +313,10 @@ module _ (c : Context) (n : Node) where
   five-refuses (Five.assignment k a) = rw (rule-27 n k, rewrite, a, stepAssignment) refl
   five-refuses (Five.head k d a) = rw (rule-for n k, rewrite, d, stepFor, a) refl
 
-  pub six-refuses : Six c n → rewrite c n .note .refusal ≡ 6
+  pub keys-refuse : (r : ℕ) → AtKeys (suc r) c n → rewrite c n .note .refusal ≡ suc r
   unfolding rewrite stepDeclaration stepAssignment stepTop
-  six-refuses (Six.declaration k e) = rw (rule-4 n k, rewrite, e, stepDeclaration) refl
-  six-refuses (Six.assignment k a t e) = rw (rule-27 n k, rewrite, a, stepAssignment, t, e, stepTop) refl
+  keys-refuse r (AtKeys.declaration k e) = rw (rule-4 n k, rewrite, e, stepDeclaration) refl
+  keys-refuse r (AtKeys.assignment k a t e) = rw (rule-27 n k, rewrite, a, stepAssignment, t, e, stepTop) refl
 
 -- ---- the table's lines
 
@@ -316,32 +324,35 @@ module _ (c : Context) (n : Node) where
 pub five-where : (c : Context) (n : Node) (next m : ℕ) → firstRefusal (visits next m (walked c n)) ≡ 5 → Meets Five c n
 five-where c n next m e = refused-where Five 5 (omega arith) (λ d k. rewrite-says d k .0) c n next m e
 
--- 6 is met only where an excluded key is a Literal without form
+-- 6 is met only where the first key that is refused is a Literal without form
 pub six-where : (c : Context) (n : Node) (next m : ℕ) → firstRefusal (visits next m (walked c n)) ≡ 6 → Meets Six c n
 six-where c n next m e = refused-where Six 6 (omega arith) (λ d k. rewrite-says d k .1) c n next m e
 
+-- 11 only where it is one whose form differs from the string that is promised
+pub eleven-where : (c : Context) (n : Node) (next m : ℕ) → firstRefusal (visits next m (walked c n)) ≡ 11 → Meets Eleven c n
+eleven-where c n next m e = refused-where Eleven 11 (omega arith) (λ d k. rewrite-says d k .2) c n next m e
+
 -- and where one of them stands the walk is refused
-pub refused-if : (c : Context) (n : Node) (next m : ℕ) → Meets Five c n ⊎ Meets Six c n → 0 < firstRefusal (visits next m (walked c n))
-refused-if c n next m h =
-    ⊎-elim
-    (λ f. meets-refused Five (λ d k q. let e = five-refuses d k q in omega arith) f next m)
-    (λ s. meets-refused Six (λ d k q. let e = six-refuses d k q in omega arith) s next m)
-    h
+pub data OneMet (c : Context) (n : Node) : Type 0 where
+  five : Meets Five c n → OneMet c n
+  six : Meets Six c n → OneMet c n
+  eleven : Meets Eleven c n → OneMet c n
 
--- 5 or 6 then
-five-or-six : (x : ℕ) → ByWalk x → 0 < x → (x ≡ 5) ⊎ (x ≡ 6)
-five-or-six x ByWalk.no h = absurd (omega arith)
-five-or-six x ByWalk.five h = inl refl
-five-or-six x ByWalk.six h = inr refl
+pub refused-if : (c : Context) (n : Node) (next m : ℕ) → OneMet c n → 0 < firstRefusal (visits next m (walked c n))
+refused-if c n next m (OneMet.five f) = meets-refused Five (λ d k q. let e = five-refuses d k q in omega arith) f next m
+refused-if c n next m (OneMet.six s) = meets-refused Six (λ d k q. let e = keys-refuse d k 5 q in omega arith) s next m
+refused-if c n next m (OneMet.eleven s) = meets-refused Eleven (λ d k q. let e = keys-refuse d k 10 q in omega arith) s next m
 
--- and where neither stands it is not
-pub accepted-if : (c : Context) (n : Node) (next m : ℕ) → (Meets Five c n → ⊥) → (Meets Six c n → ⊥) → firstRefusal (visits next m (walked c n)) ≡ 0
-accepted-if c n next m f s = go (firstRefusal (visits next m (walked c n))) (walk-refuses next m c n) (five-where c n next m) (six-where c n next m)
+-- and where none stands it is not
+pub accepted-if : (c : Context) (n : Node) (next m : ℕ) → (OneMet c n → ⊥) → firstRefusal (visits next m (walked c n)) ≡ 0
+accepted-if c n next m f =
+    go (firstRefusal (visits next m (walked c n))) (walk-refuses next m c n) (five-where c n next m) (six-where c n next m) (eleven-where c n next m)
   where
-    go : (x : ℕ) → ByWalk x → (x ≡ 5 → Meets Five c n) → (x ≡ 6 → Meets Six c n) → x ≡ 0
-    go x ByWalk.no a b = refl
-    go x ByWalk.five a b = absurd (f (a refl))
-    go x ByWalk.six a b = absurd (s (b refl))
+    go : (x : ℕ) → ByWalk x → (x ≡ 5 → Meets Five c n) → (x ≡ 6 → Meets Six c n) → (x ≡ 11 → Meets Eleven c n) → x ≡ 0
+    go x ByWalk.no a b d = refl
+    go x ByWalk.five a b d = absurd (f (OneMet.five (a refl)))
+    go x ByWalk.six a b d = absurd (f (OneMet.six (b refl)))
+    go x ByWalk.eleven a b d = absurd (f (OneMet.eleven (d refl)))
 
 -- ---- the answer
 
@@ -356,7 +367,7 @@ answer-is s (refusal r) = refl
 answer-is s (lowered h o t l) = refl
 
 -- a number that is the walk's alone
-module _ (P : Context → Node → Type 0) (r : ℕ) (low : 4 < r) (high : r < 7)
+module _ (P : Context → Node → Type 0) (r : ℕ) (low : 4 < r) (seven : r ≡ 7 → ⊥) (nine : r ≡ 9 → ⊥)
     (law : (n : Node) (next : ℕ) → firstRefusal (visits next 0 (walked top n)) ≡ r → Meets P top n) where
   fitted-not : (s : Lent) (h o : ℕ) (t l : List ℕ) → answerOf (fitted s h o t l) ≡ r → ⊥
   unfolding fitted
@@ -364,7 +375,7 @@ module _ (P : Context → Node → Type 0) (r : ℕ) (low : 4 < r) (high : r < 7
     where
       go : (b : Bool) → answerOf (cond b (lowered h o t l) (refusal 7)) ≡ r → ⊥
       go true e = absurd (omega arith)
-      go false e = absurd (omega arith)
+      go false e = seven (sym e)
 
   after-walk : (o : ℕ) (s : Lent) (next : ℕ) (n : Node) → answerOf (afterWalk o s next (walked top n)) ≡ r → Meets P top n
   unfolding afterWalk collected
@@ -390,18 +401,21 @@ module _ (P : Context → Node → Type 0) (r : ℕ) (low : 4 < r) (high : r < 7
   unfolding outcome
   of-outcome limit o tree s e =
       by-order limit o tree s (λ x. answerOf x ≡ r → TreeMeets P limit tree)
-      (λ h. absurd (omega arith))
+      (λ h. absurd (nine (sym h)))
       (λ h. absurd (omega arith))
       (λ h. absurd (omega arith))
       (after-reading limit (inForce o) s tree (readTree input limit tree) refl)
       (sym (answer-is s (lowering limit o tree s)) ∙ e)
 
--- 5 and 6 are answered only for a tree that is accepted and has what the table says
+-- 5, 6 and 11 are answered only for a tree that is accepted and has what the table says
 pub answer-five : (limit o : ℕ) (tree : List ℕ) (s : Lent) → outcome limit o tree s .answer ≡ 5 → TreeMeets Five limit tree
-answer-five limit o tree s e = of-outcome Five 5 (omega arith) (omega arith) (λ n next. five-where top n next 0) limit o tree s e
+answer-five limit o tree s e = of-outcome Five 5 (omega arith) (λ z. absurd (omega arith)) (λ z. absurd (omega arith)) (λ n next. five-where top n next 0) limit o tree s e
 
 pub answer-six : (limit o : ℕ) (tree : List ℕ) (s : Lent) → outcome limit o tree s .answer ≡ 6 → TreeMeets Six limit tree
-answer-six limit o tree s e = of-outcome Six 6 (omega arith) (omega arith) (λ n next. six-where top n next 0) limit o tree s e
+answer-six limit o tree s e = of-outcome Six 6 (omega arith) (λ z. absurd (omega arith)) (λ z. absurd (omega arith)) (λ n next. six-where top n next 0) limit o tree s e
+
+pub answer-eleven : (limit o : ℕ) (tree : List ℕ) (s : Lent) → outcome limit o tree s .answer ≡ 11 → TreeMeets Eleven limit tree
+answer-eleven limit o tree s e = of-outcome Eleven 11 (omega arith) (λ z. absurd (omega arith)) (λ z. absurd (omega arith)) (λ n next. eleven-where top n next 0) limit o tree s e
 
 -- a refusal of the walk is the answer, if limit, options and work are not refused
 after-refusal : (o : ℕ) (s : Lent) (next : ℕ) (w : Walked) → 0 < firstRefusal (visits next 0 w) → answerOf (afterWalk o s next w) ≡ firstRefusal (visits next 0 w)
@@ -422,18 +436,24 @@ answer-of limit o tree s n q next a e p =
     answer-is s (lowering limit o tree s)
     ∙ (ap answerOf (reading-decides limit o tree s a) ∙ (ap (λ (g : Got Node). answerOf (afterReading (inForce o) s g)) e ∙ after-refusal (inForce o) s next (walked top n) p))
 
--- so for a tree that is accepted and has what the table says at 5 or at 6, one of the two is answered
-pub answer-if : (limit o : ℕ) (tree : List ℕ) (s : Lent) → Admitted limit o s
-    → TreeMeets Five limit tree ⊎ TreeMeets Six limit tree → (outcome limit o tree s .answer ≡ 5) ⊎ (outcome limit o tree s .answer ≡ 6)
-answer-if limit o tree s a m =
-    ⊎-elim
-    (λ f. go f (λ n p. inl p))
-    (λ x. go x (λ n p. inr p))
-    m
+-- so for a tree that is accepted and has what the table says at 5, 6 or 11, one of the three is answered
+pub data OneInTree (limit : ℕ) (tree : List ℕ) : Type 0 where
+  five : TreeMeets Five limit tree → OneInTree limit tree
+  six : TreeMeets Six limit tree → OneInTree limit tree
+  eleven : TreeMeets Eleven limit tree → OneInTree limit tree
+
+pub answer-if : (limit o : ℕ) (tree : List ℕ) (s : Lent) → Admitted limit o s → OneInTree limit tree
+    → ByWalk (outcome limit o tree s .answer) × (0 < outcome limit o tree s .answer)
+answer-if limit o tree s a one = of-one one
   where
-    go : {P : Context → Node → Type 0} → TreeMeets P limit tree → ((n : Node) → Meets P top n → Meets Five top n ⊎ Meets Six top n)
-        → (outcome limit o tree s .answer ≡ 5) ⊎ (outcome limit o tree s .answer ≡ 6)
+    go : {P : Context → Node → Type 0} → TreeMeets P limit tree → ((n : Node) → Meets P top n → OneMet top n)
+        → ByWalk (outcome limit o tree s .answer) × (0 < outcome limit o tree s .answer)
     go (TreeMeets.accepted n q next e p) f =
         let r = refused-if top n next 0 (f n p) in
         let b = answer-of limit o tree s n q next a e r in
-        ⊎-elim (λ c. inl (b ∙ c)) (λ c. inr (b ∙ c)) (five-or-six (firstRefusal (visits next 0 (walked top n))) (walk-refuses next 0 top n) r)
+        (subst ByWalk (sym b) (walk-refuses next 0 top n), omega arith)
+
+    of-one : OneInTree limit tree → ByWalk (outcome limit o tree s .answer) × (0 < outcome limit o tree s .answer)
+    of-one (OneInTree.five m) = go m (λ n p. OneMet.five p)
+    of-one (OneInTree.six m) = go m (λ n p. OneMet.six p)
+    of-one (OneInTree.eleven m) = go m (λ n p. OneMet.eleven p)

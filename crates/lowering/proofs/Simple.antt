@@ -13,13 +13,13 @@ use Rattle.tree.specs.Read.{readTree}
 use Rattle.tree.specs.Read.Got.{got}
 use Rattle.tree.specs.WellFormed.{Bytes}
 use Rattle.tree.proofs.Sound.{sound}
-use Rattle.lowering.specs.Parts.{nothing, kind, is, pieceIn, standsIn, asNode, asItems, nodeAt, itemsAt, numberAt, stands, change, onItems, only, each, gather, any, isEmpty, _+++_}
+use Rattle.lowering.specs.Parts.{nothing, kind, is, pieceIn, standsIn, asNode, asItems, nodeAt, itemsAt, numberAt, stands, change, onItems, only, each, gather, any, orElse, first, isEmpty, _+++_}
 use Rattle.lowering.specs.Made.{Context}
 use Rattle.lowering.specs.Patterns.{shape, properties, itemsOf, rest, hasRest, leftOf, value, hasNestedObjectRest, hasNestedArrayRest, hasObjectRest}
 use Rattle.lowering.specs.Literals.{literal}
 use Rattle.lowering.specs.Rests.{excludedFor}
-use Rattle.lowering.specs.Keys.{anyLacksForm}
-use Rattle.lowering.specs.Declarations.{isLowered, declaratorMakes, declarators, loweredIn, declaration, declarationMakes, declarationExcludes, declarationLacksForm}
+use Rattle.lowering.specs.Keys.{keysRefusal}
+use Rattle.lowering.specs.Declarations.{isLowered, declaratorMakes, declarators, loweredIn, declaration, declarationMakes, declarationExcludes, declarationRefusal}
 use Rattle.lowering.specs.Assignments.{isTop, target}
 use Rattle.lowering.specs.Heads.{isMoved, movedFrom, references, function, functionMakes, arrow, arrowMakes, catch, catchMakes, declaringHead, declaringMakes, assigningHead, assigningMakes}
 use Rattle.lowering.specs.Walk.{Note, Step, Walked, eachItem, eachPiece, eachField, inside, unchanged, ruleOf, rewrite, stepDeclaration, stepAssignment, stepFor, within}
@@ -33,7 +33,7 @@ use Rattle.lowering.specs.Table.{Admitted}
 use Rattle.lowering.proofs.Order.{reading-decides}
 use Rattle.lowering.proofs.Accepted.{NoHoles, Proper, ProperFields, ProperPiece, ProperItems, accepted-good}
 use Rattle.lowering.proofs.Accepted.Proper.{proper}
-use Rattle.lowering.proofs.ItemLaws.{gather-none as none-in, any-empty}
+use Rattle.lowering.proofs.ItemLaws.{gather-none as none-in, first-empty}
 use Rattle.lowering.proofs.ChangeLaws.{change-same, list-same}
 
 -- ---- trees without object rest and spread
@@ -109,6 +109,12 @@ any-none f h Items.none SimpleItems.none = refl
 any-none f h (Items.hole is) (SimpleItems.hole s) = any-none f h is s
 any-none f h (Items.item n is) (SimpleItems.item q s) = rw (h n q, any-none f h is s)
 
+first-simple : (f : Node → ℕ) → ((n : Node) → Simple n → f n ≡ 0) → (is : Items) → SimpleItems is → first f is ≡ 0
+unfolding first orElse
+first-simple f h Items.none SimpleItems.none = refl
+first-simple f h (Items.hole is) (SimpleItems.hole s) = first-simple f h is s
+first-simple f h (Items.item n is) (SimpleItems.item q s) = rw (h n q, first-simple f h is s)
+
 gather-none : (f : Node → Items) → ((n : Node) → Simple n → f n ≡ Items.none) → (is : Items) → SimpleItems is → gather f is ≡ Items.none
 unfolding gather _+++_
 gather-none f h Items.none SimpleItems.none = refl
@@ -183,15 +189,15 @@ module _ (c : Context) where
   excludes-none n s =
       gather-none (λ d. gather (excludedFor c) (loweredIn c d)) (λ d z. ap (gather (excludedFor c)) (lowered-in d z) ∙ none-in (excludedFor c)) (itemsAt 2 n) (items-at 2 n s)
 
-  lacks-none : (n : Node) → Simple n → declarationLacksForm c n ≡ false
-  unfolding declarationLacksForm
-  lacks-none n s =
-      any-none (λ d. any (λ p. anyLacksForm p) (loweredIn c d)) (λ d z. ap (any (λ p. anyLacksForm p)) (lowered-in d z) ∙ any-empty (λ p. anyLacksForm p)) (itemsAt 2 n) (items-at 2 n s)
+  refuses-none : (n : Node) → Simple n → declarationRefusal c n ≡ 0
+  unfolding declarationRefusal
+  refuses-none n s =
+      first-simple (λ d. first (λ p. keysRefusal p) (loweredIn c d)) (λ d z. ap (first (λ p. keysRefusal p)) (lowered-in d z) ∙ first-empty (λ p. keysRefusal p)) (itemsAt 2 n) (items-at 2 n s)
 
   declarations-same : (n : Node) → Simple n → NoHoles (itemsAt 2 n) → stepDeclaration c n ≡ unchanged n
   unfolding stepDeclaration
   declarations-same n s w =
-      rw (lacks-none n s, stepDeclaration)
+      rw (refuses-none n s, stepDeclaration)
       (step-same (declarationMakes c n) (declarationExcludes c n) (declaration c n) n (makes-none n s) (excludes-none n s) (declaration-same n s w))
 
   not-top : (p : Node) → Simple p → isTop p ≡ false

@@ -18,12 +18,12 @@ use Rattle.lowering.specs.Keys.{keySort, keyTemporary, keyTemporaries, e
 use Rattle.lowering.specs.Rests.{hasNoProperties, mapped, isHoisted, keysRead, restValue}
 use Rattle.lowering.specs.Literals.{Call, opened, closed, scan, literal}
 use Rattle.lowering.specs.Literals.Call.{no-call}
-use Rattle.lowering.specs.Declarations.{isName, source, sourceDeclarator, keysBefore, patternDeclarator, restDeclarator, own, nested, nestedBelow, objectDeclarators, patternDeclarators, lowerDeclarator, isLowered, declarators, declaration, declarationLacksForm}
-use Rattle.lowering.specs.Assignments.{isTop, target, assigned, partsOf, targetLeft, fromReference, topSequence, topLacksForm, outermost, nestedSequence}
+use Rattle.lowering.specs.Declarations.{isName, source, sourceDeclarator, keysBefore, patternDeclarator, restDeclarator, own, nested, nestedBelow, objectDeclarators, patternDeclarators, lowerDeclarator, isLowered, declarators, declaration, declarationRefusal}
+use Rattle.lowering.specs.Assignments.{isTop, target, assigned, partsOf, targetLeft, fromReference, topSequence, topRefusal, outermost, nestedSequence}
 use Rattle.lowering.specs.Heads.{movedPattern, movedOut, isMoved, leftBehind, movedFrom, inFront, inBody, asFunctionBody, asBlock, function, arrow, catch, declaringHead, assigningHead}
 use Rattle.lowering.specs.Walk.{ruleOf, rewrite, stepDeclaration, stepTop, stepAssignment, stepFor}
 use Rattle.lowering.proofs.All.{AllItems, AllPiece, AllFields, Each, all-append, all-gather, all-each, all-changed, other-changed}
-use Rattle.lowering.proofs.Cases.{by-test, by-shape, by-key, by-rule, functionBody-is, block-is}
+use Rattle.lowering.proofs.Cases.{by-number, by-test, by-shape, by-key, by-rule, functionBody-is, block-is}
 use Rattle.lowering.proofs.Sites.{isNameKind, own as ownSites, sites, sitesFields, sitesPiece, sitesItems, fields-in, piece-in, two-pieces, as-node, as-items, node-in, items-in, node-and-node, items-and-node, AtMost, each-item, each-piece, each-field, each-part, sites-append, gather-light, Light, on-items, changeNode-light, changeEach-light, temporary-sites}
 use Rattle.lowering.proofs.SiteViews.{only-sites, moved-sites, movedPattern-sites, nearest-sites, parts-sites, replaced-light, objects-sum, movedOut-light, excludedKeys-sites, taken-fewer, left-fewer-than, none-sites}
 
@@ -562,11 +562,11 @@ module _ (x : ℕ) where
 
     declarations-keep : (n : Node) → sites x n ≤ 1 → Each (AtMost x 1) (stepDeclaration c n .result)
     unfolding stepDeclaration
-    declarations-keep n h = by-test (declarationLacksForm c n) (λ e. rw (e, Each) tt) (λ e. rw (e, Each) (declaration-kept n h))
+    declarations-keep n h = by-number (declarationRefusal c n) (λ r e. rw (e, Each) tt) (λ e. rw (e, Each) (declaration-kept n h))
 
     tops-keep : (n : Node) → sites x n ≤ 1 → Each (AtMost x 1) (stepTop c n .result)
     unfolding stepTop
-    tops-keep n h = by-test (topLacksForm n) (λ e. rw (e, Each) tt) (λ e. rw (e, Each) (top-kept n h))
+    tops-keep n h = by-number (topRefusal n) (λ r e. rw (e, Each) tt) (λ e. rw (e, Each) (top-kept n h))
 
     assignments-keep : (n : Node) → sites x n ≤ 1 → Each (AtMost x 1) (stepAssignment c n .result)
     unfolding stepAssignment

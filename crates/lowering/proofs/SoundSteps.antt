@@ -14,13 +14,13 @@ use Rattle.lowering.specs.Patterns.{shape, properties, itemsOf, rest, ha
 use Rattle.lowering.specs.Patterns.Shape.{objectPattern, arrayPattern, default, leaf}
 use Rattle.lowering.specs.Keys.{keyTemporaries, taken}
 use Rattle.lowering.specs.Rests.{hasNoProperties, restValue, excludedFor, restMakes}
-use Rattle.lowering.specs.Declarations.{isName, source, sourceDeclarator, keysBefore, patternDeclarator, restDeclarator, nestedBelow, objectDeclarators, patternDeclarators, lowerDeclarator, innerObjects, declaratorMakes, isLowered, declarators, loweredIn, declaration, declarationMakes, declarationExcludes, declarationLacksForm}
-use Rattle.lowering.specs.Assignments.{isTop, target, assigned, nearest, partsOf, partsReplaced, targetLeft, fromReference, outermost, topSequence, topEntry, topExcludes, topMakes, topLacksForm, nestedSequence, nestedEntry, nestedMakes}
+use Rattle.lowering.specs.Declarations.{isName, source, sourceDeclarator, keysBefore, patternDeclarator, restDeclarator, nestedBelow, objectDeclarators, patternDeclarators, lowerDeclarator, innerObjects, declaratorMakes, isLowered, declarators, loweredIn, declaration, declarationMakes, declarationExcludes, declarationRefusal}
+use Rattle.lowering.specs.Assignments.{isTop, target, assigned, nearest, partsOf, partsReplaced, targetLeft, fromReference, outermost, topSequence, topEntry, topExcludes, topMakes, topRefusal, nestedSequence, nestedEntry, nestedMakes}
 use Rattle.lowering.specs.Heads.{function, functionMakes, arrow, arrowMakes, catch, catchMakes, declaringHead, declaringMakes, assigningHead, assigningMakes}
 use Rattle.lowering.specs.Walk.{Step, rewritten, ruleOf, rewrite, stepDeclaration, stepTop, stepAssignment, stepFor}
 use Rattle.lowering.specs.Collect.{Name}
 use Rattle.lowering.proofs.All.{AllItems, all-gather}
-use Rattle.lowering.proofs.Cases.{by-test, by-shape, by-rule, object-is, is-changed}
+use Rattle.lowering.proofs.Cases.{by-number, by-test, by-shape, by-rule, object-is, is-changed}
 use Rattle.lowering.proofs.WeightKeys.{rest-changed}
 use Rattle.lowering.proofs.Levels.{below-object}
 use Rattle.lowering.proofs.Clauses.{parts-object, parts-array, parts-default, parts-leaf, nearest-object, nearest-array, nearest-default, replaced-object, replaced-array, replaced-default, replaced-leaf, inner-object, inner-array, top-34}
@@ -531,15 +531,15 @@ module _ (a : Name) where
     declarations-sound : (n : Node) → Free a n → IfUnmade (stepDeclaration c n)
     unfolding stepDeclaration
     declarations-sound n f =
-        by-test (declarationLacksForm c n)
-        (λ e. rw (e, stepDeclaration) (λ z. (nothing-occurs a, none-occurs a, none-occurs a)))
+        by-number (declarationRefusal c n)
+        (λ r e. rw (e, stepDeclaration) (λ z. (nothing-occurs a, none-occurs a, none-occurs a)))
         (λ e. rw (e, stepDeclaration) (λ z. (declaration-free n f z, none-occurs a, declarationExcludes-free n f z)))
 
     tops-sound : (n : Node) → isTop (target n) ≡ true → Free a n → IfUnmade (stepTop c n)
     unfolding stepTop
     tops-sound n top f =
-        by-test (topLacksForm n)
-        (λ e. rw (e, stepTop) (λ z. (nothing-occurs a, none-occurs a, none-occurs a)))
+        by-number (topRefusal n)
+        (λ r e. rw (e, stepTop) (λ z. (nothing-occurs a, none-occurs a, none-occurs a)))
         (λ e. rw (e, stepTop) (λ z. (top-free n top f z, topEntry-free n f z, topExcludes-free n f z)))
 
     assignments-sound : (n : Node) → Free a n → IfUnmade (stepAssignment c n)

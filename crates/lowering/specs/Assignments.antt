@@ -8,7 +8,7 @@ use Rattle.lowering.specs.Parts.{is, nodeAt, changeNode, only, each, gat
 use Rattle.lowering.specs.Made.{Context, assign, sequence, declared, idOf, reference, valueOf}
 use Rattle.lowering.specs.Patterns.{shape, properties, itemsOf, rest, hasRest, leftOf, value, withLeft, withValues, replacedBelow}
 use Rattle.lowering.specs.Patterns.Shape.{objectPattern, arrayPattern, default, leaf}
-use Rattle.lowering.specs.Keys.{keyTemporaries, anyLacksForm, taken}
+use Rattle.lowering.specs.Keys.{keyTemporaries, keysRefusal, taken}
 use Rattle.lowering.specs.Rests.{restValue, excludedFor}
 
 -- 27 Assignment(op= left right)
@@ -47,9 +47,9 @@ partsOf p = gather (λ q. nearest false (depth p) (value q)) (properties p)
 abbrev pub outermost : Node → Items
 outermost p = nearest true (depth p) p
 
--- whether refusal 6 is met; a part's keys are looked at when the part is walked
-unfoldable pub topLacksForm : Node → Bool
-topLacksForm n = anyLacksForm (target n)
+-- the first refusal that is met at its keys, or 0; a part's keys are looked at when the part is walked
+unfoldable pub topRefusal : Node → ℕ
+topRefusal n = keysRefusal (target n)
 
 module _ (c : Context) where
   -- what stands in p's place when each part has been replaced by a temporary; arrays are left as they are

@@ -9,7 +9,7 @@ use Rattle.tree.specs.Tree.Node.{node}
 use Rattle.tree.specs.Tree.Fields.{done, absent, field}
 use Rattle.tree.specs.Tree.Piece.{one, list, text, byte, mark, number}
 use Rattle.tree.specs.Tree.Items.{none, hole, item}
-use Rattle.lowering.specs.Parts.{position, is, textAt, numberAt, isEmpty, _+++_}
+use Rattle.lowering.specs.Parts.{position, is, textAt, numberAt, isEmpty, sameNumbers, _+++_}
 use Rattle.lowering.specs.Walk.{Note, Walked, WalkedFields, WalkedPiece, WalkedItems}
 use Rattle.lowering.specs.Walk.Walked.{noted}
 
@@ -204,15 +204,9 @@ pub record Name : Type 0 where
 unfoldable pub nameOf : Node → Name
 nameOf t = record { path = textAt 1 t; stem = numberAt 0 t; place = position t }
 
-unfoldable pub samePath : List ℕ → List ℕ → Bool
-samePath [] [] = true
-samePath [] (b ∷ q) = false
-samePath (a ∷ p) [] = false
-samePath (a ∷ p) (b ∷ q) = eqb a b && samePath p q
-
 -- whether two names are one
 unfoldable pub same : Name → Name → Bool
-same a b = eqb (a .place) (b .place) && (eqb (a .stem) (b .stem) && samePath (a .path) (b .path))
+same a b = eqb (a .place) (b .place) && (eqb (a .stem) (b .stem) && sameNumbers (a .path) (b .path))
 
 -- the name of a node, if it is a temporary
 unfoldable pub nameAt : Node → List Name

@@ -3,11 +3,11 @@ use Prim.Native.Nat.{ℕ, zero, suc}
 use mathlib.Core.Bool.{Bool, cond, _&&_, _||_}
 use Rattle.tree.specs.Tree.{Node, Items, depth}
 use Rattle.tree.specs.Tree.Items.{none}
-use Rattle.lowering.specs.Parts.{is, nodeAt, itemsAt, stands, changeItems, only, each, gather, any, _+++_}
+use Rattle.lowering.specs.Parts.{is, nodeAt, itemsAt, stands, changeItems, only, each, gather, first, _+++_}
 use Rattle.lowering.specs.Made.{Context, declares, idOf, reference, valueOf}
 use Rattle.lowering.specs.Patterns.{shape, properties, itemsOf, rest, hasRest, leftOf, value, withValues, hasObjectRest, replaced, replacedBelow, objectsBelow}
 use Rattle.lowering.specs.Patterns.Shape.{objectPattern, arrayPattern, default, leaf}
-use Rattle.lowering.specs.Keys.{keyTemporaries, anyLacksForm, taken}
+use Rattle.lowering.specs.Keys.{keyTemporaries, keysRefusal, taken}
 use Rattle.lowering.specs.Rests.{hasNoProperties, restValue, excludedFor, restMakes}
 
 -- ---- the source of a pattern p with the starting value init (ReferenceBuilder)
@@ -126,6 +126,6 @@ module _ (c : Context) where
   unfoldable pub declarationExcludes : Node → Items
   declarationExcludes n = gather (λ d. gather (excludedFor c) (loweredIn d)) (itemsAt 2 n)
 
-  -- whether refusal 6 is met
-  unfoldable pub declarationLacksForm : Node → Bool
-  declarationLacksForm n = any (λ d. any (λ p. anyLacksForm p) (loweredIn d)) (itemsAt 2 n)
+  -- the first refusal that is met at their keys, in that order, or 0
+  unfoldable pub declarationRefusal : Node → ℕ
+  declarationRefusal n = first (λ d. first (λ p. keysRefusal p) (loweredIn d)) (itemsAt 2 n)

@@ -3,7 +3,7 @@
 use mathlib.Core.Path.{_≡_, refl}
 use mathlib.Core.List.{List, [], _∷_, _++_}
 use Prim.Native.Nat.{ℕ, zero, suc}
-use lib.ListN.{replicate}
+use lib.ListN.{length, replicate}
 use Rattle.tree.specs.Tree.{Node, Items, encode, marks}
 use Rattle.tree.specs.Tree.Node.{node}
 use Rattle.tree.specs.Tree.Fields.{done, absent, field}
@@ -64,6 +64,36 @@ name letter = node 0 38 (field (text (letter ∷ [])) done)
 -- the number 1
 abbrev num : Node
 num = node 0 22 (field (byte 2) (field (text (49 ∷ [])) (field (text (49 ∷ [])) done)))
+
+-- a number by its spelling, without a form and with one
+abbrev unformed : List ℕ → Node
+unformed spelling = node 0 22 (field (byte 2) (field (text spelling) (absent done)))
+
+abbrev formed : List ℕ → List ℕ → Node
+formed spelling form = node 0 22 (field (byte 2) (field (text spelling) (field (text form) done)))
+
+-- `5` without a form, `5` with the form `6`, `1.5` without a form
+abbrev plainFive : Node
+plainFive = unformed (53 ∷ [])
+
+abbrev wrongFive : Node
+wrongFive = formed (53 ∷ []) (54 ∷ [])
+
+abbrev fraction : Node
+fraction = unformed (49 ∷ 46 ∷ 53 ∷ [])
+
+-- 9007199254740991, that with `0x`, and both one higher
+abbrev bound : List ℕ
+bound = 57 ∷ 48 ∷ 48 ∷ 55 ∷ 49 ∷ 57 ∷ 57 ∷ 50 ∷ 53 ∷ 52 ∷ 55 ∷ 52 ∷ 48 ∷ 57 ∷ 57 ∷ 49 ∷ []
+
+abbrev aboveBound : List ℕ
+aboveBound = 57 ∷ 48 ∷ 48 ∷ 55 ∷ 49 ∷ 57 ∷ 57 ∷ 50 ∷ 53 ∷ 52 ∷ 55 ∷ 52 ∷ 48 ∷ 57 ∷ 57 ∷ 50 ∷ []
+
+abbrev boundIn16 : List ℕ
+boundIn16 = 48 ∷ 120 ∷ 49 ∷ replicate 13 102
+
+abbrev aboveIn16 : List ℕ
+aboveIn16 = 48 ∷ 120 ∷ 50 ∷ replicate 13 48
 
 -- `/q/`, without a form
 abbrev regexp : Node
@@ -312,9 +342,54 @@ pub record Parts : Type 0 where
       ∷ 1 ∷ 27 ∷ 7 ∷ 1 ∷ 36 ∷ 3 ∷ 0 ∷ 0 ∷ 34 ∷ 3 ∷ 0 ∷ 0 ∷ 18 ∷ 1 ∷ 1 ∷ 0 ∷ 113 ∷ 18 ∷ 1 ∷ 1 ∷ 0 ∷ 119 ∷ []) plenty
       ≡ refusal 5
 
+-- `let {key: a, ...r} = s`: {key: a} = s, r = W(s, ["string"])
+abbrev Excludes : Node → List ℕ → Type 0
+Excludes key bs =
+    Becomes
+    (declaring 1 2 (only (declares (takingRest (only (part key (bind a) 0)) (bind r)) (ref s)))) 8
+    ((1 ∷ 1 ∷ 1 ∷ 0 ∷ 4 ∷ 7 ∷ 1 ∷ 0 ∷ 2 ∷ 2 ∷ 0 ∷ 5 ∷ 3 ∷ 34 ∷ 1 ∷ 1 ∷ 0 ∷ 35 ∷ 7 ∷ []) ++ encode key
+    ++ (19 ∷ 1 ∷ 1 ∷ 0 ∷ 97 ∷ 0 ∷ 18 ∷ 1 ∷ 1 ∷ 0 ∷ 115 ∷ 5 ∷ 3 ∷ 19 ∷ 1 ∷ 1 ∷ 0 ∷ 114 ∷ 29 ∷ 3 ∷ 21 ∷ 1 ∷ 4 ∷ 2 ∷ 0 ∷ 18 ∷ 1 ∷ 1 ∷ 0 ∷ 115
+    ∷ 32 ∷ 1 ∷ 1 ∷ 0 ∷ 22 ∷ 7 ∷ 1 ∷ 0 ∷ 0 ∷ length bs ∷ 0 ∷ bs))
+
+-- `let {keys, ...r} = s`, each key with `a`
+abbrev declaredKeys : Items → Node
+declaredKeys ps = declaring 1 2 (only (declares (takingRest ps (bind r)) (ref s)))
+
+abbrev RefusesKey : Node → ℕ → Type 0
+RefusesKey key n = Refused (declaredKeys (only (part key (bind a) 0))) n
+
+-- request 8: number keys worked out; the Literal in the pattern stays as it is
+pub record NumberKeys : Type 0 where
+  -- `5`, `0xfF`, `0x00`, each without a form
+  of-digits : Excludes plainFive (53 ∷ [])
+  of-hexadecimal : Excludes (unformed (48 ∷ 120 ∷ 102 ∷ 70 ∷ [])) (50 ∷ 53 ∷ 53 ∷ [])
+  of-zeros : Excludes (unformed (48 ∷ 120 ∷ 48 ∷ 48 ∷ [])) (48 ∷ [])
+  -- the bound in both spellings, and one above: nothing is promised, so it is 6, or the form whatever it is
+  at-bound : Excludes (unformed bound) bound
+  at-bound-in-16 : Excludes (unformed boundIn16) bound
+  above-bound : RefusesKey (unformed aboveBound) 6
+  above-bound-in-16 : RefusesKey (unformed aboveIn16) 6
+  above-with-form : Excludes (formed aboveBound (54 ∷ [])) (54 ∷ [])
+  -- other spellings and another sort: `0X1f`, `05`, `0x`, the empty one; a bigint spelled `5`
+  capital-x : RefusesKey (unformed (48 ∷ 88 ∷ 49 ∷ 102 ∷ [])) 6
+  leading-zero : RefusesKey (unformed (48 ∷ 53 ∷ [])) 6
+  no-digit : RefusesKey (unformed (48 ∷ 120 ∷ [])) 6
+  no-spelling : RefusesKey (unformed []) 6
+  bigint : RefusesKey (node 0 22 (field (byte 5) (field (text (53 ∷ [])) (absent done)))) 6
+  -- a form that is the string, `0x10` with `16`, and one that is not, `5` with `6`
+  same-form : Excludes (formed (48 ∷ 120 ∷ 49 ∷ 48 ∷ []) (49 ∷ 54 ∷ [])) (49 ∷ 54 ∷ [])
+  differing-form : RefusesKey wrongFive 11
+  -- 6 and 11 in one pattern, both ways round
+  six-first : Refused (declaredKeys (all (part fraction (bind a) 0 ∷ part wrongFive (bind b) 0 ∷ []))) 6
+  eleven-first : Refused (declaredKeys (all (part wrongFive (bind a) 0 ∷ part fraction (bind b) 0 ∷ []))) 11
+  -- one in each object: `let {1.5: {5: a, ...b}, ...r} = s` meets the inner object's first, `{1.5: {5: a, ...b}, ...r} = s` the outer's
+  inner-first : Refused (declaredKeys (only (part fraction (takingRest (only (part wrongFive (bind a) 0)) (bind b)) 0))) 11
+  outer-first : Refused (says 1 (assign (takingRest (only (part fraction (takingRest (only (part wrongFive (ref a) 0)) (ref b)) 0)) (ref r)) (ref s))) 6
+
 pub record Examples : Type 0 where
   table : Table
   parts : Parts
+  numberKeys : NumberKeys
   -- ---- the listing
 
   the-listing : lowering highestLimit 0 listing plenty ≡ lowered 1 0 listed empty
@@ -484,14 +559,19 @@ unfolding
     Rattle.lowering.specs.Parts.stands Rattle.lowering.specs.Parts.change
     Rattle.lowering.specs.Parts.onNode Rattle.lowering.specs.Parts.onItems
     Rattle.lowering.specs.Parts.without Rattle.lowering.specs.Parts._+++_ Rattle.lowering.specs.Parts.each
-    Rattle.lowering.specs.Parts.gather Rattle.lowering.specs.Parts.any Rattle.lowering.specs.Parts.isEmpty
+    Rattle.lowering.specs.Parts.gather Rattle.lowering.specs.Parts.any
+    Rattle.lowering.specs.Parts.orElse Rattle.lowering.specs.Parts.first Rattle.lowering.specs.Parts.isEmpty
     Rattle.lowering.specs.Patterns.shape Rattle.lowering.specs.Patterns.hasNestedObjectRest
     Rattle.lowering.specs.Patterns.hasNestedArrayRest Rattle.lowering.specs.Patterns.replaced
-    Rattle.lowering.specs.Patterns.objectsWithRest Rattle.lowering.specs.Keys.keySort
-    Rattle.lowering.specs.Keys.isPrimitive Rattle.lowering.specs.Keys.lacksForm
+    Rattle.lowering.specs.Patterns.objectsWithRest
+    Rattle.lowering.specs.Numbers.digitOf Rattle.lowering.specs.Numbers.areDigits Rattle.lowering.specs.Numbers.valueFrom Rattle.lowering.specs.Numbers.spellingOfOne Rattle.lowering.specs.Numbers.spellingBehindZero Rattle.lowering.specs.Numbers.spellingOf Rattle.lowering.specs.Numbers.digitsUpTo Rattle.lowering.specs.Numbers.digitsOf Rattle.lowering.specs.Numbers.stringOf Rattle.lowering.specs.Numbers.numberString
+    Rattle.lowering.specs.Keys.keySort
+    Rattle.lowering.specs.Keys.isPrimitive Rattle.lowering.specs.Keys.promised
+    Rattle.lowering.specs.Keys.literalText Rattle.lowering.specs.Keys.literalRefusal
+    Rattle.lowering.specs.Keys.keyRefusal
     Rattle.lowering.specs.Keys.keyText Rattle.lowering.specs.Keys.excludedKey Rattle.lowering.specs.Keys.keptKey
     Rattle.lowering.specs.Keys.keyTemporary Rattle.lowering.specs.Keys.allPrimitive
-    Rattle.lowering.specs.Keys.anyLacksForm Rattle.lowering.specs.Keys.excludedKeys
+    Rattle.lowering.specs.Keys.keysRefusal Rattle.lowering.specs.Keys.excludedKeys
     Rattle.lowering.specs.Keys.keyTemporaries Rattle.lowering.specs.Keys.taken
     Rattle.lowering.specs.Rests.mapped Rattle.lowering.specs.Rests.isHoisted
     Rattle.lowering.specs.Rests.keysRead Rattle.lowering.specs.Rests.restValue
@@ -507,9 +587,9 @@ unfolding
     Rattle.lowering.specs.Declarations.declaratorMakes Rattle.lowering.specs.Declarations.isLowered
     Rattle.lowering.specs.Declarations.declarators Rattle.lowering.specs.Declarations.loweredIn
     Rattle.lowering.specs.Declarations.declaration Rattle.lowering.specs.Declarations.declarationMakes
-    Rattle.lowering.specs.Declarations.declarationExcludes Rattle.lowering.specs.Declarations.declarationLacksForm
+    Rattle.lowering.specs.Declarations.declarationExcludes Rattle.lowering.specs.Declarations.declarationRefusal
     Rattle.lowering.specs.Assignments.isTop Rattle.lowering.specs.Assignments.nearest
-    Rattle.lowering.specs.Assignments.topLacksForm Rattle.lowering.specs.Assignments.partsReplaced
+    Rattle.lowering.specs.Assignments.topRefusal Rattle.lowering.specs.Assignments.partsReplaced
     Rattle.lowering.specs.Assignments.topSequence Rattle.lowering.specs.Assignments.topEntry
     Rattle.lowering.specs.Assignments.topExcludes Rattle.lowering.specs.Assignments.topMakes
     Rattle.lowering.specs.Assignments.nestedSequence Rattle.lowering.specs.Assignments.nestedEntry
@@ -538,7 +618,7 @@ unfolding
     Rattle.lowering.specs.Collect.madeIn Rattle.lowering.specs.Collect.listNodes
     Rattle.lowering.specs.Collect.uses Rattle.lowering.specs.Collect.maskFrom
     Rattle.lowering.specs.Collect.helperMask Rattle.lowering.specs.Collect.nameOf
-    Rattle.lowering.specs.Collect.samePath Rattle.lowering.specs.Collect.same
+    Rattle.lowering.specs.Parts.sameNumbers Rattle.lowering.specs.Collect.same
     Rattle.lowering.specs.Collect.nameAt Rattle.lowering.specs.Collect.except
     Rattle.lowering.specs.Collect.distinct Rattle.lowering.specs.Collect.numberIn
     Rattle.lowering.specs.Collect.namesOf Rattle.lowering.specs.Collect.withNumber
@@ -551,4 +631,4 @@ unfolding
     Rattle.lowering.specs.Answer.afterReading Rattle.lowering.specs.Answer.lowering
     Rattle.lowering.specs.Answer.filled Rattle.lowering.specs.Answer.outcomeOf
     Rattle.lowering.specs.Answer.outcome Rattle.lowering.specs.Answer.inForce
-examples = record { table = record { empty-literal = refl; plain-literal = refl; two-spreads = refl; spread-last = refl; spread-first = refl; spread-around = refl; rest = refl; rest-only = refl }; parts = record { coach-script = refl; parts-keys-later = refl; parts-before-keys = refl; array-beside-part = refl; outermost-through-arrays = refl; five-before-six = refl }; the-listing = refl; retired-option = refl; all-options = refl; one-options = refl; one-retired = refl; two-work = refl; three-empty = refl; four-deep = refl; not-so-deep = refl; five-array-rest = refl; six-no-form = refl; seven-short = refl; just-fits = refl; deeper = refl; deepest = refl; too-deep = refl; nine-zero = refl; nine-above = refl; nine-first = refl; one-next = refl; one-level = refl; one-level-deep = refl; one-level-no-tree = refl; tree-slice = refl; list-slice = refl; refused-slice = refl; array-rest-stays = refl; nested-rest = refl; hoisted-keys = refl; switch-scope = refl; class-scope = refl; static-block-contains = refl; case-contains = refl; method-parameter = refl; stem-of-a-pattern = refl; stem-of-a-key = refl; stems-in-the-list = refl; template-copied = refl; mark-twice = refl }
+examples = record { table = record { empty-literal = refl; plain-literal = refl; two-spreads = refl; spread-last = refl; spread-first = refl; spread-around = refl; rest = refl; rest-only = refl }; parts = record { coach-script = refl; parts-keys-later = refl; parts-before-keys = refl; array-beside-part = refl; outermost-through-arrays = refl; five-before-six = refl }; numberKeys = record { of-digits = refl; of-hexadecimal = refl; of-zeros = refl; at-bound = refl; at-bound-in-16 = refl; above-bound = refl; above-bound-in-16 = refl; above-with-form = refl; capital-x = refl; leading-zero = refl; no-digit = refl; no-spelling = refl; bigint = refl; same-form = refl; differing-form = refl; six-first = refl; eleven-first = refl; inner-first = refl; outer-first = refl }; the-listing = refl; retired-option = refl; all-options = refl; one-options = refl; one-retired = refl; two-work = refl; three-empty = refl; four-deep = refl; not-so-deep = refl; five-array-rest = refl; six-no-form = refl; seven-short = refl; just-fits = refl; deeper = refl; deepest = refl; too-deep = refl; nine-zero = refl; nine-above = refl; nine-first = refl; one-next = refl; one-level = refl; one-level-deep = refl; one-level-no-tree = refl; tree-slice = refl; list-slice = refl; refused-slice = refl; array-rest-stays = refl; nested-rest = refl; hoisted-keys = refl; switch-scope = refl; class-scope = refl; static-block-contains = refl; case-contains = refl; method-parameter = refl; stem-of-a-pattern = refl; stem-of-a-key = refl; stems-in-the-list = refl; template-copied = refl; mark-twice = refl }

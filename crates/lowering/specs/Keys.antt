@@ -1,11 +1,13 @@
 -- Keys of an object pattern whose rest is taken (document 01, 'The rewriting', Keys; transform_property_key).
 use mathlib.Core.Bool.{Bool, true, false, cond, not, _&&_, _||_}
 use mathlib.Core.List.{List, []}
+use mathlib.Core.Option.{Option, none, some}
 use Prim.Native.Nat.{ℕ}
 use lib.Dec.{eqb}
 use Rattle.tree.specs.Tree.{Node, Items, count}
-use Rattle.tree.specs.Tree.Items.{none}
-use Rattle.lowering.specs.Parts.{is, itemsAt, textAt, stands, without, only, gather, any, changeNode}
+use Rattle.lowering.specs.Parts.{is, itemsAt, textAt, numberAt, stands, sameNumbers, without, only, gather, any, first, changeNode}
+use Rattle.lowering.specs.Numbers.{numberString}
+use Rattle.lowering.specs.Refusals.{keyWithoutForm, otherForm}
 use Rattle.lowering.specs.Made.{Context, string, keyOf, declares}
 use Rattle.lowering.specs.Patterns.{properties, key, hasRest, withProperties}
 
@@ -43,13 +45,28 @@ entryOf private = omitted
 entryOf again = itself
 entryOf other = saved
 
--- the text of a key that is spelt: a name is its own, a literal has its form
-unfoldable pub keyText : Node → List ℕ
-keyText k = elim (keySort k) [ name ↦ textAt 0 k | literal ↦ textAt 2 k | template ↦ [] | private ↦ [] | again ↦ [] | other ↦ [] ]
+-- the string that is promised for a literal, if one is (request 8): it is a number, sort 2, in one of the spellings that are meant
+unfoldable pub promised : Node → Option (List ℕ)
+promised k = cond (eqb (numberAt 0 k) 2) (numberString (textAt 1 k)) none
 
--- what refusal 6 is about: there is no form to make the string of
-unfoldable pub lacksForm : Node → Bool
-lacksForm k = is 22 k && not (stands 2 k)
+-- the text of a literal: the string that is promised, else its form
+unfoldable pub literalText : Node → List ℕ
+literalText k = elim (promised k) [ some s ↦ s | none ↦ textAt 2 k ]
+
+-- the text of a key that is spelt: a name is its own
+unfoldable pub keyText : Node → List ℕ
+keyText k = elim (keySort k) [ name ↦ textAt 0 k | literal ↦ literalText k | template ↦ [] | private ↦ [] | again ↦ [] | other ↦ [] ]
+
+-- the refusal that a literal meets, or 0: 11 if its form stands and is not the string that is promised, 6 if there is neither
+unfoldable pub literalRefusal : Node → ℕ
+literalRefusal k =
+    elim (promised k) [
+      | some s ↦ cond (stands 2 k && not (sameNumbers (textAt 2 k) s)) otherForm 0
+      | none ↦ cond (stands 2 k) 0 keyWithoutForm
+    ]
+
+unfoldable pub keyRefusal : Node → ℕ
+keyRefusal k = cond (is 22 k) (literalRefusal k) 0
 
 -- ---- one property q
 
@@ -60,7 +77,7 @@ module _ (c : Context) where
       elim (entryOf (keySort (key q))) [
         | spelt ↦ only (string (keyText (key q)))
         | itself ↦ only (key q)
-        | omitted ↦ none
+        | omitted ↦ Items.none
         | saved ↦ only (keyOf c q)
       ]
 
@@ -73,11 +90,11 @@ module _ (c : Context) where
   unfoldable pub keyTemporary : Node → Items
   keyTemporary q =
       elim (keySort (key q)) [
-        | name ↦ none
-        | literal ↦ none
-        | template ↦ none
-        | private ↦ none
-        | again ↦ none
+        | name ↦ Items.none
+        | literal ↦ Items.none
+        | template ↦ Items.none
+        | private ↦ Items.none
+        | again ↦ Items.none
         | other ↦ only (declares (keyOf c q) (key q))
       ]
 
@@ -87,9 +104,9 @@ module _ (c : Context) where
 unfoldable pub allPrimitive : Node → Bool
 allPrimitive p = not (any (λ q. not (isPrimitive (key q))) (properties p))
 
--- whether refusal 6 is met at this pattern
-unfoldable pub anyLacksForm : Node → Bool
-anyLacksForm p = any (λ q. lacksForm (key q)) (properties p)
+-- the first refusal that is met at its keys, or 0
+unfoldable pub keysRefusal : Node → ℕ
+keysRefusal p = first (λ q. keyRefusal (key q)) (properties p)
 
 module _ (c : Context) where
   -- the keys that its rest leaves out

@@ -1,13 +1,14 @@
 pub mod Parts
 pub mod Made
 pub mod Patterns
+pub mod Refusals
+pub mod Numbers
 pub mod Keys
 pub mod Rests
 pub mod Literals
 pub mod Declarations
 pub mod Assignments
 pub mod Heads
-pub mod Refusals
 pub mod Walk
 pub mod Visits
 pub mod Weight

@@ -1,8 +1,8 @@
 -- The parts of a node by the number of their field, and lists of nodes. Nothing here knows a kind.
 -- Everything is total: where a part does not stand, `nothing`, an empty list, no text or 0 is read, and a change changes nothing.
 use Prim.Native.Nat.{ℕ, zero, suc}
-use mathlib.Core.Bool.{Bool, true, false, _||_}
-use mathlib.Core.List.{List, []}
+use mathlib.Core.Bool.{Bool, true, false, _&&_, _||_}
+use mathlib.Core.List.{List, [], _∷_}
 use lib.Dec.{eqb}
 use Rattle.tree.specs.Tree.{Node, Fields, Piece, Items}
 use Rattle.tree.specs.Tree.Node.{node}
@@ -164,7 +164,27 @@ any f none = false
 any f (hole is) = any f is
 any f (item n is) = f n || any f is
 
+-- the first of two numbers that is not 0
+unfoldable pub orElse : ℕ → ℕ → ℕ
+orElse zero n = n
+orElse (suc m) n = suc m
+
+-- the first number of an item that is not 0, in the order of the list; 0 if there is none
+unfoldable pub first : (Node → ℕ) → Items → ℕ
+first f none = 0
+first f (hole is) = first f is
+first f (item n is) = orElse (f n) (first f is)
+
 unfoldable pub isEmpty : Items → Bool
 isEmpty none = true
 isEmpty (hole is) = false
 isEmpty (item n is) = false
+
+-- ---- lists of numbers: texts and paths
+
+-- whether two of them are one
+unfoldable pub sameNumbers : List ℕ → List ℕ → Bool
+sameNumbers [] [] = true
+sameNumbers [] (b ∷ q) = false
+sameNumbers (a ∷ p) [] = false
+sameNumbers (a ∷ p) (b ∷ q) = eqb a b && sameNumbers p q

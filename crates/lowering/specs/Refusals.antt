@@ -1,4 +1,4 @@
--- The refusals by their numbers: document 01's table ('What the lowering hands back'), and request 5's line in front of it.
+-- The refusals by their numbers: document 01's table ('What the lowering hands back'), request 5's line in front of it and request 8's in it.
 use Prim.Native.Nat.{ℕ}
 use mathlib.Core.Bool.{Bool}
 use mathlib.Core.List.{List, [], _∷_}
@@ -30,9 +30,13 @@ deeperTree = numberOf tooDeep
 abbrev pub restBelowArrayRest : ℕ
 restBelowArrayRest = 5
 
--- 6: 'an excluded key is a Literal whose form field is absent'
+-- 6: 'an excluded key is a Literal whose form field is absent', and no string is promised for it (request 8)
 abbrev pub keyWithoutForm : ℕ
 keyWithoutForm = 6
+
+-- 11: 'an excluded key's form that differs from the promised string', met like 6, key by key
+abbrev pub otherForm : ℕ
+otherForm = 11
 
 -- 7: 'result tree over 32,768 bytes, list over 16,384, or either longer than its slice'
 abbrev pub tooLong : ℕ
@@ -40,7 +44,7 @@ tooLong = 7
 
 -- all of them, in the order in which they are asked
 abbrev pub refusals : List ℕ
-refusals = limitOutside ∷ unknownOptions ∷ smallWork ∷ noTree ∷ deeperTree ∷ restBelowArrayRest ∷ keyWithoutForm ∷ tooLong ∷ []
+refusals = limitOutside ∷ unknownOptions ∷ smallWork ∷ noTree ∷ deeperTree ∷ restBelowArrayRest ∷ keyWithoutForm ∷ otherForm ∷ tooLong ∷ []
 
 -- the number is that of a refusal
 abbrev pub isRefusal : ℕ → Bool

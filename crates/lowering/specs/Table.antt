@@ -1,4 +1,4 @@
--- The table of refusals (document 01, 'What the lowering hands back'): where 5 and 6 are met, said of the walk without its levels, and when
+-- The table of refusals (document 01, 'What the lowering hands back'): where 5, 6 and 11 are met, said of the walk without its levels, and when
 -- each number is answered. That the walk refuses there and nowhere else is shown in proofs/RefusalsMet.antt, the table in proofs/Answered.antt.
 use Prim.Native.Nat.{ℕ, suc, _≤_, _<_}
 use mathlib.Core.Path.{_≡_}
@@ -13,12 +13,12 @@ use Rattle.tree.specs.Read.Refusal.{notATree, tooDeep}
 use Rattle.lowering.specs.Parts.{is, nodeAt}
 use Rattle.lowering.specs.Made.{Context}
 use Rattle.lowering.specs.Patterns.{hasArrayRestOverObjectRest}
-use Rattle.lowering.specs.Declarations.{declarationLacksForm}
-use Rattle.lowering.specs.Assignments.{target, isTop, topLacksForm}
+use Rattle.lowering.specs.Declarations.{declarationRefusal}
+use Rattle.lowering.specs.Assignments.{target, isTop, topRefusal}
 use Rattle.lowering.specs.Walk.{rewrite, within}
 use Rattle.lowering.specs.Weight.{walked}
 use Rattle.lowering.specs.Collect.{bare, numbered, visits, firstRefusal, entries, excludedIn, helperMask, namesOf, listBytes}
-use Rattle.lowering.specs.Refusals.{limitOutside, unknownOptions, smallWork, noTree, deeperTree, restBelowArrayRest, keyWithoutForm, tooLong}
+use Rattle.lowering.specs.Refusals.{limitOutside, unknownOptions, smallWork, noTree, deeperTree, restBelowArrayRest, keyWithoutForm, otherForm, tooLong}
 use Rattle.lowering.specs.Answer.{Lent, Result, Outcome, fits, limitRefused, inForce, outcomeOf, top}
 
 -- ---- what the walk meets
@@ -63,11 +63,19 @@ pub data Five (c : Context) (n : Node) : Type 0 where
   assignment : is 27 n ≡ true → hasArrayRestOverObjectRest (target n) ≡ true → Five c n
   head : is 7 n || is 8 n ≡ true → is 4 (nodeAt 1 n) ≡ false → hasArrayRestOverObjectRest (nodeAt 1 n) ≡ true → Five c n
 
--- 6: 'an excluded key is a Literal whose form field is absent'. Keys are excluded by a Declaration and by an Assignment to an object with
+-- a node at whose excluded keys the first refusal that is met is r. Keys are excluded by a Declaration and by an Assignment to an object with
 -- rest; where 5 is met too, 5 comes first
-pub data Six (c : Context) (n : Node) : Type 0 where
-  declaration : is 4 n ≡ true → declarationLacksForm c n ≡ true → Six c n
-  assignment : is 27 n ≡ true → hasArrayRestOverObjectRest (target n) ≡ false → isTop (target n) ≡ true → topLacksForm n ≡ true → Six c n
+pub data AtKeys (r : ℕ) (c : Context) (n : Node) : Type 0 where
+  declaration : is 4 n ≡ true → declarationRefusal c n ≡ r → AtKeys r c n
+  assignment : is 27 n ≡ true → hasArrayRestOverObjectRest (target n) ≡ false → isTop (target n) ≡ true → topRefusal n ≡ r → AtKeys r c n
+
+-- 6: 'an excluded key is a Literal whose form field is absent', and no string is promised; no key before it is refused
+abbrev pub Six : Context → Node → Type 0
+Six = AtKeys keyWithoutForm
+
+-- 11: 'an excluded key's form that differs from the promised string'; no key before it is refused
+abbrev pub Eleven : Context → Node → Type 0
+Eleven = AtKeys otherForm
 
 -- ---- the table, each line with what comes before it
 
@@ -111,11 +119,13 @@ pub data HandedBack (limit options : ℕ) (tree : List ℕ) (s : Lent) : Result 
       → HandedBack limit options tree s (Result.refusal restBelowArrayRest)
   six : {n : Node} {next : ℕ} → Accepted limit options tree s n next → met n next ≡ keyWithoutForm → Meets Six top n
       → HandedBack limit options tree s (Result.refusal keyWithoutForm)
+  eleven : {n : Node} {next : ℕ} → Accepted limit options tree s n next → met n next ≡ otherForm → Meets Eleven top n
+      → HandedBack limit options tree s (Result.refusal otherForm)
   -- the last
-  seven : {n : Node} {next : ℕ} → Accepted limit options tree s n next → (Meets Five top n → ⊥) → (Meets Six top n → ⊥)
+  seven : {n : Node} {next : ℕ} → Accepted limit options tree s n next → (Meets Five top n → ⊥) → (Meets Six top n → ⊥) → (Meets Eleven top n → ⊥)
       → fits s (resultTree n next) (resultList n next) ≡ false → HandedBack limit options tree s (Result.refusal tooLong)
   -- none of them
-  zero : {n : Node} {next : ℕ} → Accepted limit options tree s n next → (Meets Five top n → ⊥) → (Meets Six top n → ⊥)
+  zero : {n : Node} {next : ℕ} → Accepted limit options tree s n next → (Meets Five top n → ⊥) → (Meets Six top n → ⊥) → (Meets Eleven top n → ⊥)
       → fits s (resultTree n next) (resultList n next) ≡ true
       → HandedBack limit options tree s (Result.lowered (helperMask (bare next (walked top n))) (inForce options) (resultTree n next) (resultList n next))
 

@@ -9,10 +9,10 @@ use Rattle.lowering.specs.Parts.{nothing, kind, is, nodeAt}
 use Rattle.lowering.specs.Made.{Context}
 use Rattle.lowering.specs.Patterns.{hasObjectRest, hasArrayRestOverObjectRest}
 use Rattle.lowering.specs.Literals.{literal}
-use Rattle.lowering.specs.Declarations.{declaration, declarationMakes, declarationExcludes, declarationLacksForm}
-use Rattle.lowering.specs.Assignments.{target, isTop, topSequence, topEntry, topExcludes, topMakes, topLacksForm, nestedSequence, nestedEntry, nestedMakes}
+use Rattle.lowering.specs.Declarations.{declaration, declarationMakes, declarationExcludes, declarationRefusal}
+use Rattle.lowering.specs.Assignments.{target, isTop, topSequence, topEntry, topExcludes, topMakes, topRefusal, nestedSequence, nestedEntry, nestedMakes}
 use Rattle.lowering.specs.Heads.{function, functionMakes, arrow, arrowMakes, catch, catchMakes, declaringHead, declaringMakes, assigningHead, assigningMakes}
-use Rattle.lowering.specs.Refusals.{restBelowArrayRest, keyWithoutForm}
+use Rattle.lowering.specs.Refusals.{restBelowArrayRest}
 
 -- ---- what the rewriting of a node gives
 
@@ -43,9 +43,9 @@ module _ (c : Context) where
   -- 4 Declaration
   unfoldable pub stepDeclaration : Node → Step
   stepDeclaration n =
-      elim (declarationLacksForm c n) [
-        | true ↦ refuse keyWithoutForm
-        | false ↦ record {
+      elim (declarationRefusal c n) [
+        | suc r ↦ refuse (suc r)
+        | zero ↦ record {
           note = record { refusal = 0; made = declarationMakes c n; entry = Items.none; excluded = declarationExcludes c n };
           result = declaration c n;
         }
@@ -54,9 +54,9 @@ module _ (c : Context) where
   -- 27 Assignment to an object with rest
   unfoldable pub stepTop : Node → Step
   stepTop n =
-      elim (topLacksForm n) [
-        | true ↦ refuse keyWithoutForm
-        | false ↦ record {
+      elim (topRefusal n) [
+        | suc r ↦ refuse (suc r)
+        | zero ↦ record {
           note = record { refusal = 0; made = topMakes c n; entry = topEntry c n; excluded = topExcludes c n };
           result = topSequence c n;
         }

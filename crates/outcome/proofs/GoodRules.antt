@@ -15,13 +15,13 @@ use Rattle.lowering.specs.Patterns.{shape, properties, rest, hasRest, leftOf, k
 use Rattle.lowering.specs.Keys.{keySort, excludedKey, excludedKeys, keyTemporary, keyTemporaries, allPrimitive, taken, entryOf, keyText}
 use Rattle.lowering.specs.Rests.{hasNoProperties, mapped, isHoisted, keysRead, restValue}
 use Rattle.lowering.specs.Literals.{Call, opened, closed, scan, literal}
-use Rattle.lowering.specs.Declarations.{isName, source, sourceDeclarator, keysBefore, patternDeclarator, restDeclarator, own, nested, nestedBelow, objectDeclarators, patternDeclarators, lowerDeclarator, isLowered, declarators, declaration, declarationLacksForm}
-use Rattle.lowering.specs.Assignments.{isTop, target, assigned, partsOf, outermost, fromReference, topLacksForm, targetLeft, topSequence, nestedSequence}
+use Rattle.lowering.specs.Declarations.{isName, source, sourceDeclarator, keysBefore, patternDeclarator, restDeclarator, own, nested, nestedBelow, objectDeclarators, patternDeclarators, lowerDeclarator, isLowered, declarators, declaration, declarationRefusal}
+use Rattle.lowering.specs.Assignments.{isTop, target, assigned, partsOf, outermost, fromReference, topRefusal, targetLeft, topSequence, nestedSequence}
 use Rattle.lowering.specs.Heads.{isMoved, movedFrom, movedPattern, movedOut, leftBehind, inFront, inBody, asFunctionBody, asBlock, function, arrow, catch, declaringHead, assigningHead}
 use Rattle.lowering.specs.Walk.{Rule, ruleOf, rewrite, stepDeclaration, stepTop, stepAssignment, stepFor}
 use Rattle.lowering.specs.Walk.Rule.{literals, declarations, assignments, functions, arrows, catches, fors, nowhere}
 use Rattle.lowering.proofs.All.{AllItems, all-each}
-use Rattle.lowering.proofs.Cases.{by-test, by-shape, by-key, by-rule, object-is, array-is, is-changed, functionBody-is, block-is, by-entry}
+use Rattle.lowering.proofs.Cases.{by-test, by-shape, by-key, by-rule, object-is, array-is, is-changed, functionBody-is, block-is, by-entry, by-number}
 use Rattle.outcome.proofs.Good.{NotDefault, temporary-20, temporary-simple, leaf-simple, object-simple, array-simple, rest-leaf, taken-simple, replaced-simple, reference-simple, movedPattern-simple, Is35, changed-35, Good, GoodItems, GoodObject, free, nothing-good, from-all, node-good, items-good, append-good, gather-good, view-node, change-items, each-items, change-free, temporary-good, reference-good, taken-good, replaced-view, values-good, movedOut-view, moved-good, movedPattern-good, nearest-good, parts-good, left-good}
 use Rattle.lowering.proofs.Clauses.{top-34}
 use Rattle.tree.proofs.Sound.{never}
@@ -510,11 +510,11 @@ module _ (c : Context) where
 
   declarations-good : (n : Node) → Free n → Good n → Good (stepDeclaration c n .result)
   unfolding stepDeclaration
-  declarations-good n f h = by-test (declarationLacksForm c n) (λ e. rw (e, Good) nothing-good) (λ e. rw (e, Good) (declaration-good n f h))
+  declarations-good n f h = by-number (declarationRefusal c n) (λ r e. rw (e, Good) nothing-good) (λ e. rw (e, Good) (declaration-good n f h))
 
   tops-good : (n : Node) → isTop (target n) ≡ true → Good n → Good (stepTop c n .result)
   unfolding stepTop
-  tops-good n t h = by-test (topLacksForm n) (λ e. rw (e, Good) nothing-good) (λ e. rw (e, Good) (top-good n t h))
+  tops-good n t h = by-number (topRefusal n) (λ r e. rw (e, Good) nothing-good) (λ e. rw (e, Good) (top-good n t h))
 
   assignments-good : (n : Node) → Free n → Good n → Good (stepAssignment c n .result)
   unfolding stepAssignment

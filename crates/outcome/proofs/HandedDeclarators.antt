@@ -16,12 +16,12 @@ use Rattle.lowering.specs.Made.{Context, temporary, reference, declares, declar
 use Rattle.lowering.specs.Patterns.{shape, properties, itemsOf, leftOf, value, hasRest, withValues, replaced, key, hasObjectRest, hasArrayRestOverObjectRest, objectsWithRest, objectsBelow}
 use Rattle.lowering.specs.Keys.{Key, keySort, isPrimitive, allPrimitive, excludedKey, excludedKeys, keyTemporary, keyTemporaries, keyText}
 use Rattle.lowering.specs.Rests.{isHoisted, excludedFor}
-use Rattle.lowering.specs.Declarations.{isLowered, loweredIn, declarationExcludes, declarationLacksForm}
-use Rattle.lowering.specs.Assignments.{isTop, target, nearest, partsOf, outermost, topLacksForm, topEntry, topExcludes, nestedEntry}
+use Rattle.lowering.specs.Declarations.{isLowered, loweredIn, declarationExcludes, declarationRefusal}
+use Rattle.lowering.specs.Assignments.{isTop, target, nearest, partsOf, outermost, topRefusal, topEntry, topExcludes, nestedEntry}
 use Rattle.lowering.specs.Walk.{Note, ruleOf, rewrite, unchanged, stepDeclaration, stepTop, stepAssignment, stepFor}
 use Rattle.lowering.specs.Collect.{Name, nameOf}
 use Rattle.lowering.proofs.All.{AllItems, all-gather, all-unit, none-passes}
-use Rattle.lowering.proofs.Cases.{by-test, by-shape, by-key, by-rule, not-false}
+use Rattle.lowering.proofs.Cases.{by-test, by-shape, by-key, by-rule, not-false, by-number}
 use Rattle.sink.specs.Shown.{Named, Token, listOf, keysOf, listTokens, keysTokens, declaratorIn, declaratorsIn}
 use Rattle.sink.specs.Shown.Token.{plain, temp}
 use Rattle.direct.specs.Events.{cellOf, stemOf}
@@ -249,15 +249,15 @@ module _ (c : Context) where
   declarations-hand : (n : Node) → Good n → Hands (stepDeclaration c n .note)
   unfolding stepDeclaration
   declarations-hand n h =
-      by-test (declarationLacksForm c n)
-      (λ e. rw (e, stepDeclaration) (quiet-hands 6 Items.none))
+      by-number (declarationRefusal c n)
+      (λ r e. rw (e, stepDeclaration) (quiet-hands (suc r) Items.none))
       (λ e. rw (e, stepDeclaration) (record { entry = tt; excluded = declaration-hands n h }))
 
   tops-hand : (n : Node) → isTop (target n) ≡ true → Good n → Hands (stepTop c n .note)
   unfolding stepTop
   tops-hand n t h =
-      by-test (topLacksForm n)
-      (λ e. rw (e, stepTop) (quiet-hands 6 Items.none))
+      by-number (topRefusal n)
+      (λ r e. rw (e, stepTop) (quiet-hands (suc r) Items.none))
       (λ e. rw (e, stepTop) (let k = top-hands n t h in record { entry = k .0; excluded = k .1 }))
 
   assignments-hand : (n : Node) → Good n → Hands (stepAssignment c n .note)

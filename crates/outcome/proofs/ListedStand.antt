@@ -17,15 +17,15 @@ use Rattle.lowering.specs.Patterns.{shape, properties, itemsOf, rest, hasRest, 
 use Rattle.lowering.specs.Patterns.Shape.{objectPattern, arrayPattern, default, leaf}
 use Rattle.lowering.specs.Keys.{keySort, isPrimitive, allPrimitive, excludedKey, excludedKeys, keyTemporary, keyTemporaries}
 use Rattle.lowering.specs.Rests.{hasNoProperties, mapped, isHoisted, keysRead, restValue, excludedFor}
-use Rattle.lowering.specs.Declarations.{source, sourceDeclarator, keysBefore, patternDeclarator, restDeclarator, own, nested, nestedBelow, objectDeclarators, patternDeclarators, lowerDeclarator, isLowered, loweredIn, declarators, declaration, declarationExcludes, declarationLacksForm}
-use Rattle.lowering.specs.Assignments.{isTop, target, assigned, nearest, partsOf, outermost, fromReference, topLacksForm, topSequence, topEntry, topExcludes, nestedSequence, nestedEntry}
+use Rattle.lowering.specs.Declarations.{source, sourceDeclarator, keysBefore, patternDeclarator, restDeclarator, own, nested, nestedBelow, objectDeclarators, patternDeclarators, lowerDeclarator, isLowered, loweredIn, declarators, declaration, declarationExcludes, declarationRefusal}
+use Rattle.lowering.specs.Assignments.{isTop, target, assigned, nearest, partsOf, outermost, fromReference, topRefusal, topSequence, topEntry, topExcludes, nestedSequence, nestedEntry}
 use Rattle.lowering.specs.Walk.{Note, Step, Walked, WalkedFields, WalkedPiece, WalkedItems, eachItem, eachPiece, eachField, inside, ruleOf, rewrite, unchanged, stepDeclaration, stepTop, stepAssignment, stepFor, within}
 use Rattle.lowering.specs.Walk.Rule.{nowhere}
 use Rattle.lowering.specs.Walk.Walked.{noted}
 use Rattle.lowering.specs.Weight.{walked}
 use Rattle.lowering.specs.Collect.{Name, nameOf, same, newIn, newInPiece, bare, bareFields, barePiece, bareItems}
 use Rattle.lowering.proofs.All.{AllItems, all-unit, all-append, all-gather}
-use Rattle.lowering.proofs.Cases.{by-test, by-shape, by-key, by-rule, and-left, and-right, and-none, is-changed, object-is, default-is}
+use Rattle.lowering.proofs.Cases.{by-test, by-shape, by-key, by-rule, and-left, and-right, and-none, is-changed, object-is, default-is, by-number}
 use Rattle.lowering.proofs.Falls.{walked-is}
 use Rattle.lowering.proofs.Levels.{below-object, below-leaf}
 use Rattle.lowering.proofs.MadeAtSites.{times, times-append, no-ids}
@@ -198,9 +198,6 @@ pub temporary-leaf : (path : List ℕ) (stem at : ℕ) → Leaf (temporary path 
 unfolding shape
 temporary-leaf path stem at = refl
 
-six : {A : Type 0} → _≡_ {A = ℕ} 6 0 → A
-six e = absurd (let z : _≡_ {A = ℕ} 6 0 = e in omega arith)
-
 five : {A : Type 0} → _≡_ {A = ℕ} 5 0 → A
 five e = absurd (let z : _≡_ {A = ℕ} 5 0 = e in omega arith)
 
@@ -212,8 +209,8 @@ top-first P c n h = inl (inl h)
 step-top : (P : Node → Type 0) (c : Context) (n : Node) → stepTop c n .note .refusal ≡ 0 → P (assign (valueOf c (target n)) (assigned n)) → Some P (stepTop c n .result)
 unfolding stepTop
 step-top P c n z h =
-    by-test (topLacksForm n)
-    (λ e. let y : _≡_ {A = ℕ} 6 0 = rw (e, stepTop) at z in six y)
+    by-number (topRefusal n)
+    (λ r e. let y : suc r ≡ 0 = rw (e, stepTop) at z in absurd (omega arith))
     (λ e. rw (e, stepTop, Some) (top-first P c n h))
 
 step-some : (P : Node → Type 0) (c : Context) (n : Node) → isTop (target n) ≡ true → stepAssignment c n .note .refusal ≡ 0
@@ -660,15 +657,15 @@ module _ (a : Name) where
     declarations-used : (n : Node) → Good n → Used (stepDeclaration c n)
     unfolding stepDeclaration
     declarations-used n g =
-        by-test (declarationLacksForm c n)
-        (λ e. rw (e, stepDeclaration) (nothing-used Items.none 6 nothing))
+        by-number (declarationRefusal c n)
+        (λ r e. rw (e, stepDeclaration) (nothing-used Items.none (suc r) nothing))
         (λ e. rw (e, stepDeclaration) (λ h. let z = no-ids a in declaration-used n g (omega arith)))
 
     tops-used : (n : Node) → isTop (target n) ≡ true → Good n → Used (stepTop c n)
     unfolding stepTop
     tops-used n t g =
-        by-test (topLacksForm n)
-        (λ e. rw (e, stepTop) (nothing-used Items.none 6 nothing))
+        by-number (topRefusal n)
+        (λ r e. rw (e, stepTop) (nothing-used Items.none (suc r) nothing))
         (λ e. rw (e, stepTop) (top-used n t g))
 
     assignments-used : (n : Node) → Good n → Used (stepAssignment c n)

@@ -13,12 +13,12 @@ use Rattle.lowering.specs.Made.{Context, temporary, reference, idOf}
 use Rattle.lowering.specs.Patterns.{key, properties, hasObjectRest, hasArrayRestOverObjectRest, objectsBelow}
 use Rattle.lowering.specs.Keys.{keySort, keyTemporary, keyTemporaries}
 use Rattle.lowering.specs.Rests.{isHoisted, excludedFor, restMakes}
-use Rattle.lowering.specs.Declarations.{isName, sourceDeclarator, innerObjects, declaratorMakes, isLowered, loweredIn, declarationMakes, declarationExcludes, declarationLacksForm}
-use Rattle.lowering.specs.Assignments.{isTop, target, topLacksForm, topEntry, topMakes, nestedEntry, nestedMakes}
+use Rattle.lowering.specs.Declarations.{isName, sourceDeclarator, innerObjects, declaratorMakes, isLowered, loweredIn, declarationMakes, declarationExcludes, declarationRefusal}
+use Rattle.lowering.specs.Assignments.{isTop, target, topRefusal, topEntry, topMakes, nestedEntry, nestedMakes}
 use Rattle.lowering.specs.Heads.{movedFrom, references, functionMakes, arrowMakes, catchMakes, declaringMakes, assigningMakes}
 use Rattle.lowering.specs.Walk.{Note, ruleOf, rewrite, stepDeclaration, stepTop, stepAssignment, stepFor}
 use Rattle.lowering.specs.Collect.{Name, nameOf, same}
-use Rattle.lowering.proofs.Cases.{by-test, by-key, by-rule}
+use Rattle.lowering.proofs.Cases.{by-test, by-key, by-rule, by-number}
 use Rattle.lowering.proofs.Appearance.{same-is}
 use Rattle.sink.specs.Shown.{Named, namesAfter, renamed, madeBy, madeIn}
 use Rattle.direct.specs.Events.{cellOf, stemOf}
@@ -203,7 +203,7 @@ module _ (f : Node → Bool) where
   module _ (c : Context) where
     top-whole : (n : Node) → Whole (stepTop c n .note)
     unfolding stepTop makes topMakes topEntry isEmpty
-    top-whole n = by-test (topLacksForm n) (λ e. rw (e, stepTop, makes) none-whole) (λ e. rw (e, stepTop, makes) refl)
+    top-whole n = by-number (topRefusal n) (λ r e. rw (e, stepTop, makes) none-whole) (λ e. rw (e, stepTop, makes) refl)
 
     nested-whole : (n : Node) → number f (cond (isEmpty (nestedEntry c n)) (others (nestedMakes c n)) (each idOf (nestedEntry c n)) +++ each idOf none) ≡ number f (nestedMakes c n)
     unfolding nestedMakes each
@@ -225,8 +225,8 @@ module _ (f : Node → Bool) where
     declaration-whole : (n : Node) → Whole (stepDeclaration c n .note)
     unfolding stepDeclaration makes isEmpty
     declaration-whole n =
-        by-test (declarationLacksForm c n)
-        (λ e. rw (e, stepDeclaration, makes) none-whole)
+        by-number (declarationRefusal c n)
+        (λ r e. rw (e, stepDeclaration, makes) none-whole)
         (λ e. rw (e, stepDeclaration, makes) (without-entry (declarationMakes c n) (declarationExcludes c n) (declaration-split c n)))
 
     function-split : (n : Node) → Split (functionMakes c n) none

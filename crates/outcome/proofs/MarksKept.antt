@@ -11,13 +11,13 @@ use Rattle.lowering.specs.Patterns.{shape, properties, itemsOf, rest, hasRest, 
 use Rattle.lowering.specs.Keys.{keySort, excludedKey, excludedKeys, keptKey, keyTemporary, keyTemporaries, allPrimitive, taken, entryOf}
 use Rattle.lowering.specs.Rests.{hasNoProperties, mapped, isHoisted, keysRead, restValue}
 use Rattle.lowering.specs.Literals.{Call, opened, closed, scan, literal}
-use Rattle.lowering.specs.Declarations.{isName, source, sourceDeclarator, keysBefore, patternDeclarator, restDeclarator, own, nested, nestedBelow, objectDeclarators, patternDeclarators, lowerDeclarator, isLowered, declarators, declaration, declarationLacksForm}
-use Rattle.lowering.specs.Assignments.{isTop, target, nearest, partsOf, partsReplaced, outermost, fromReference, topLacksForm, topSequence, nestedSequence}
+use Rattle.lowering.specs.Declarations.{isName, source, sourceDeclarator, keysBefore, patternDeclarator, restDeclarator, own, nested, nestedBelow, objectDeclarators, patternDeclarators, lowerDeclarator, isLowered, declarators, declaration, declarationRefusal}
+use Rattle.lowering.specs.Assignments.{isTop, target, nearest, partsOf, partsReplaced, outermost, fromReference, topRefusal, topSequence, nestedSequence}
 use Rattle.lowering.specs.Heads.{isMoved, moved, movedFrom, movedPattern, movedOut, leftBehind, inFront, inBody, asFunctionBody, asBlock, function, arrow, catch, declaringHead, assigningHead}
 use Rattle.lowering.specs.Walk.{Note, Walked, WalkedFields, WalkedPiece, WalkedItems, eachItem, eachPiece, eachField, inside, ruleOf, rewrite, stepDeclaration, stepTop, stepAssignment, stepFor, within, walk}
 use Rattle.lowering.specs.Walk.Walked.{noted}
 use Rattle.lowering.specs.Weight.{weight, walked}
-use Rattle.lowering.proofs.Cases.{by-test, by-shape, by-key, by-rule, by-entry}
+use Rattle.lowering.proofs.Cases.{by-test, by-shape, by-key, by-rule, by-entry, by-number}
 
 module _ (P : ℕ → Type 0) where
   -- P holds of every mark of a node
@@ -560,11 +560,11 @@ module _ (P : ℕ → Type 0) where
 
       declarations-held : (n : Node) → Held n → Held (stepDeclaration c n .result)
       unfolding stepDeclaration
-      declarations-held n h = by-test (declarationLacksForm c n) (λ e. rw (e, Held) tt) (λ e. rw (e, Held) (declaration-held n h))
+      declarations-held n h = by-number (declarationRefusal c n) (λ r e. rw (e, Held) tt) (λ e. rw (e, Held) (declaration-held n h))
 
       tops-held : (n : Node) → Held n → Held (stepTop c n .result)
       unfolding stepTop
-      tops-held n h = by-test (topLacksForm n) (λ e. rw (e, Held) tt) (λ e. rw (e, Held) (top-held n h))
+      tops-held n h = by-number (topRefusal n) (λ r e. rw (e, Held) tt) (λ e. rw (e, Held) (top-held n h))
 
       assignments-held : (n : Node) → Held n → Held (stepAssignment c n .result)
       unfolding stepAssignment

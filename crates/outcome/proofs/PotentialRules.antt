@@ -17,14 +17,14 @@ use Rattle.lowering.specs.Patterns.Shape.{objectPattern, arrayPattern, default,
 use Rattle.lowering.specs.Keys.{keySort, keptKey, excludedKeys, keyTemporary, keyTemporaries, allPrimitive, taken}
 use Rattle.lowering.specs.Rests.{hasNoProperties, mapped, isHoisted, keysRead, restValue, excludedFor, restMakes}
 use Rattle.lowering.specs.Literals.{Call, opened, closed, scan, literal}
-use Rattle.lowering.specs.Declarations.{isName, source, sourceDeclarator, keysBefore, patternDeclarator, restDeclarator, nested, nestedBelow, objectDeclarators, patternDeclarators, lowerDeclarator, innerObjects, declaratorMakes, isLowered, declarators, declaration, declarationMakes, declarationLacksForm}
+use Rattle.lowering.specs.Declarations.{isName, source, sourceDeclarator, keysBefore, patternDeclarator, restDeclarator, nested, nestedBelow, objectDeclarators, patternDeclarators, lowerDeclarator, innerObjects, declaratorMakes, isLowered, declarators, declaration, declarationMakes, declarationRefusal}
 use Rattle.lowering.specs.Declarations
-use Rattle.lowering.specs.Assignments.{isTop, target, assigned, partsOf, partsReplaced, outermost, fromReference, topLacksForm, targetLeft, topSequence, topEntry, topExcludes, topMakes, nestedSequence, nestedEntry, nestedMakes}
+use Rattle.lowering.specs.Assignments.{isTop, target, assigned, partsOf, partsReplaced, outermost, fromReference, topRefusal, targetLeft, topSequence, topEntry, topExcludes, topMakes, nestedSequence, nestedEntry, nestedMakes}
 use Rattle.lowering.specs.Heads.{isMoved, moved, movedFrom, movedPattern, movedOut, leftBehind, inFront, inBody, asFunctionBody, asBlock, references, function, functionMakes, arrow, arrowMakes, catch, catchMakes, declaringHead, declaringMakes, assigningHead, assigningMakes}
 use Rattle.lowering.specs.Walk.{Rule, ruleOf, rewrite, stepDeclaration, stepTop, stepAssignment, stepFor}
 use Rattle.lowering.specs.Walk.Rule.{literals, declarations, assignments, functions, arrows, catches, fors, nowhere}
 use Rattle.lowering.proofs.All.{AllItems, AllPiece, AllFields, Each, all-append, all-gather, all-each, weaker-items, other-changed, none-passes}
-use Rattle.lowering.proofs.Cases.{by-test, by-shape, by-key, by-rule, and-left, and-none, object-is, array-is, default-is, is-changed, functionBody-is, block-is}
+use Rattle.lowering.proofs.Cases.{by-test, by-shape, by-key, by-rule, and-left, and-none, object-is, array-is, default-is, is-changed, functionBody-is, block-is, by-number}
 use Rattle.lowering.proofs.Sites.{here, hereItems}
 use Rattle.lowering.proofs.Clauses.{objects-object, objects-array, objects-default, taken-none, inner-object, inner-array, has-leaf, lowered-rest, top-34, top-rest, top-rest as top-rest′}
 use Rattle.direct.specs.Events.{cell, cellOf}
@@ -1100,8 +1100,8 @@ module _ (x : ℕ) where
     tops-spent : (n : Node) → is 27 n ≡ true → isTop (target n) ≡ true → Good n → Spent n (stepTop c n .note .made) (stepTop c n .result)
     unfolding stepTop
     tops-spent n e t g =
-        by-test (topLacksForm n)
-        (λ l. rw (l, stepTop, Each) (refused-spent n))
+        by-number (topRefusal n)
+        (λ r l. rw (l, stepTop, Each) (refused-spent n))
         (λ l. rw (l, stepTop, Each) (top-spent n e t g))
 
     assignments-spent : (n : Node) → is 27 n ≡ true → Good n → Spent n (stepAssignment c n .note .made) (stepAssignment c n .result)
@@ -1120,8 +1120,8 @@ module _ (x : ℕ) where
     declarations-spent : (n : Node) → is 4 n ≡ true → Good n → pot x n ≤ 1 → Spent n (stepDeclaration c n .note .made) (stepDeclaration c n .result)
     unfolding stepDeclaration
     declarations-spent n e g l =
-        by-test (declarationLacksForm c n)
-        (λ h. rw (h, stepDeclaration, Each) (refused-spent n))
+        by-number (declarationRefusal c n)
+        (λ r h. rw (h, stepDeclaration, Each) (refused-spent n))
         (λ h. rw (h, stepDeclaration, Each) (declaration-spent n e g l))
 
     -- ---- heads

@@ -14,11 +14,11 @@ use Rattle.lowering.specs.Patterns.{shape, properties, itemsOf, leftOf, value, 
 use Rattle.lowering.specs.Patterns.Shape.{objectPattern, arrayPattern, default, leaf}
 use Rattle.lowering.specs.Keys.{keptKey, taken}
 use Rattle.lowering.specs.Rests.{restValue}
-use Rattle.lowering.specs.Assignments.{target, assigned, isTop, nearest, partsOf, outermost, partsReplaced, targetLeft, fromReference, topLacksForm, topSequence, nestedSequence}
+use Rattle.lowering.specs.Assignments.{target, assigned, isTop, nearest, partsOf, outermost, partsReplaced, targetLeft, fromReference, topRefusal, topSequence, nestedSequence}
 use Rattle.lowering.specs.Walk.{rewrite, within, ruleOf, stepAssignment, stepTop}
 use Rattle.lowering.specs.Weight.{weight}
 use Rattle.lowering.specs.Visits.{ItemAt, NodeIn, FieldAt, PartAt, Visits}
-use Rattle.lowering.proofs.Cases.{by-test, by-shape, rule-27, and-none, not-false, object-is, shape-34}
+use Rattle.lowering.proofs.Cases.{by-test, by-shape, rule-27, and-none, not-false, object-is, shape-34, by-number}
 use Rattle.lowering.proofs.Levels.{depth-pos, items-depth, piece-depth}
 use Rattle.lowering.proofs.Clauses.{nearest-object, nearest-array, nearest-default, parts-object, parts-array, parts-default, top-34, top-rest}
 use Rattle.lowering.proofs.ChangeLaws.{shape-changed, items-changed, items-without, stands-without}
@@ -223,11 +223,11 @@ module _ (c : Context) (n : Node) (k : is 27 n ≡ true) where
   step-5 h = rw (rule-27 n k, rewrite, h, stepAssignment) (omega arith)
 
   module _ (h : hasArrayRestOverObjectRest (target n) ≡ false) where
-    step-6 : isTop (target n) ≡ true → topLacksForm n ≡ true → 0 < rewrite c n .note .refusal
+    step-keys : (r : ℕ) → isTop (target n) ≡ true → topRefusal n ≡ suc r → 0 < rewrite c n .note .refusal
     unfolding rewrite stepAssignment stepTop
-    step-6 t f = rw (rule-27 n k, rewrite, h, stepAssignment, t, f, stepTop) (omega arith)
+    step-keys r t f = rw (rule-27 n k, rewrite, h, stepAssignment, t, f, stepTop) (omega arith)
 
-    step-top : isTop (target n) ≡ true → topLacksForm n ≡ false → rewrite c n .result ≡ topSequence c n
+    step-top : isTop (target n) ≡ true → topRefusal n ≡ 0 → rewrite c n .result ≡ topSequence c n
     unfolding rewrite stepAssignment stepTop
     step-top t f = rw (rule-27 n k, rewrite, h, stepAssignment, t, f, stepTop) refl
 
@@ -347,8 +347,8 @@ sources (suc f) c n q w k o =
     by-test (hasArrayRestOverObjectRest p)
     (λ h. Sourced.refused Visits.here (step-5 c n k h))
     (λ h. by-test (isTop p)
-    (λ t. by-test (topLacksForm n)
-    (λ l. Sourced.refused Visits.here (step-6 c n k h t l))
+    (λ t. by-number (topRefusal n)
+    (λ r l. Sourced.refused Visits.here (step-keys c n k h r t l))
     (λ l. top-case c n q t (step-top c n k h t l) from p refl o))
     (λ t.
     let s = nearest-has (depth p) p q (omega arith) o in

@@ -19,8 +19,8 @@ use Rattle.lowering.specs.Literals.Call.{no-call, call}
 use Rattle.lowering.specs.Patterns.{shape, hasObjectRest, hasArrayRestOverObjectRest, rest, hasRest, withValues, replacedBelow}
 use Rattle.lowering.specs.Keys.{keyTemporaries, taken}
 use Rattle.lowering.specs.Rests.{restValue}
-use Rattle.lowering.specs.Declarations.{declarators, declaration, declarationLacksForm}
-use Rattle.lowering.specs.Assignments.{target, assigned, isTop, partsOf, topLacksForm, partsReplaced, targetLeft, fromReference, topSequence, topEntry, outermost, nestedSequence}
+use Rattle.lowering.specs.Declarations.{declarators, declaration, declarationRefusal}
+use Rattle.lowering.specs.Assignments.{target, assigned, isTop, partsOf, topRefusal, partsReplaced, targetLeft, fromReference, topSequence, topEntry, outermost, nestedSequence}
 use Rattle.lowering.specs.Heads.{isMoved, moved, movedFrom, movedOut, movedPattern, leftBehind, inFront, inBody, asFunctionBody, asBlock, function, arrow, catch, declaringHead, assigningHead}
 use Rattle.lowering.specs.Walk.{Step, unchanged, ruleOf, rewrite, stepDeclaration, stepTop, stepAssignment, stepFor}
 use Rattle.lowering.proofs.All.{other-changed}
@@ -29,7 +29,7 @@ use Rattle.overlay.proofs.LaidOn.{differ}
 use Rattle.overlay.proofs.Held.{isList, takesIn, takes, areParams, hasBody, isAtom, changesIt, held, heldAll, heldPiece, heldItems, heldParts, heldPattern, heldDeclarators, heldDeclarator, at-24, at-26, at-27, at-34, at-37, at-4, declarator-held, held-append, piece-all, change-less, change-more, node-most, only-held, two-all}
 use Rattle.overlay.proofs.ViewsKeep.{View, view, object-view, array-view, default-view, leaf-view, pattern-most, declarator-most, declarator-kept, replaced-kept, top-kept, heldLets, lets-add, moved-kept}
 use Rattle.lowering.proofs.ChangeLaws.{stands-changed, items-changed-in}
-use Rattle.lowering.proofs.Cases.{not-false, by-test, or-left, or-right, and-left, and-right}
+use Rattle.lowering.proofs.Cases.{not-false, by-test, or-left, or-right, and-left, and-right, by-number}
 
 abbrev nowhere-context : Context
 nowhere-context = record { path = []; root = true; statement = false }
@@ -706,8 +706,8 @@ module _ (wanted : Node → Bool) where
     keeps-4 : (at : ℕ) (fs : Fields) → Kept (node at 4 fs)
     unfolding rewrite ruleOf held stepDeclaration
     keeps-4 at fs =
-        by-test (declarationLacksForm c (node at 4 fs))
-        (λ e. refuses (rw (e, stepDeclaration) (omega arith)))
+        by-number (declarationRefusal c (node at 4 fs))
+        (λ r e. refuses (rw (e, stepDeclaration) (omega arith)))
         (λ e. kept (rw (e, stepDeclaration) (let l = declaration-kept at fs in omega arith)))
 
     keeps-27 : (at : ℕ) (fs : Fields) → Kept (node at 27 fs)
@@ -717,8 +717,8 @@ module _ (wanted : Node → Bool) where
         by-test (hasArrayRestOverObjectRest (target n))
         (λ a. refuses (rw (a, stepAssignment) (omega arith)))
         (λ a. by-test (isTop (target n))
-        (λ t. by-test (topLacksForm n)
-        (λ l. refuses (rw (a, stepAssignment) (rw t (rw (l, stepTop) (omega arith)))))
+        (λ t. by-number (topRefusal n)
+        (λ r l. refuses (rw (a, stepAssignment) (rw t (rw (l, stepTop) (omega arith)))))
         (λ l. kept (rw (a, stepAssignment) (rw t (rw (l, stepTop) (let k = top-all at fs t in omega arith))))))
         (λ t. by-test (hasObjectRest (target n))
         (λ o. kept (rw (a, stepAssignment) (rw t (rw o (let k = nested-all at fs in omega arith)))))

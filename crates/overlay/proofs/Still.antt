@@ -7,12 +7,12 @@ use lib.Dec.{eqb}
 use Rattle.tree.specs.Tree.{Node, Items, depth}
 use Rattle.tree.specs.Tree.Node.{node}
 use Rattle.tree.specs.Tree.Items.{none, hole, item}
-use Rattle.lowering.specs.Parts.{kind, is, nodeAt, itemsAt, stands, gather, any, _+++_}
+use Rattle.lowering.specs.Parts.{kind, is, nodeAt, itemsAt, stands, gather, any, _+++_, orElse, first}
 use Rattle.lowering.specs.Made.{Context}
 use Rattle.lowering.specs.Patterns.{shape, itemsOf, rest, leftOf, hasNestedObjectRest, hasObjectRest, hasNestedArrayRest, hasArrayRestOverObjectRest}
 use Rattle.lowering.specs.Patterns.Shape.{objectPattern}
-use Rattle.lowering.specs.Keys.{anyLacksForm}
-use Rattle.lowering.specs.Declarations.{isLowered, declarators, loweredIn, declaration, declarationLacksForm}
+use Rattle.lowering.specs.Keys.{keysRefusal}
+use Rattle.lowering.specs.Declarations.{isLowered, declarators, loweredIn, declaration, declarationRefusal}
 use Rattle.lowering.specs.Assignments.{target, isTop}
 use Rattle.lowering.specs.Heads.{isMoved, function, arrow, catch, declaringHead, assigningHead}
 use Rattle.lowering.specs.Walk.{Rule, ruleOf, rewrite, stepDeclaration, stepAssignment, stepFor}
@@ -40,6 +40,12 @@ bare-items i n b = free-items isObject i n b
 
 not-pattern : (n : Node) → Bare n → is 34 n ≡ false
 not-pattern n b = or-right (is 24 n) (is 34 n) (free-here isObject n b)
+
+no-first : (f : Node → ℕ) → ((n : Node) → Bare n → f n ≡ 0) → (is : Items) → BareItems is → first f is ≡ 0
+unfolding first orElse
+no-first f h none b = refl
+no-first f h (hole is) b = no-first f h is b
+no-first f h (item n is) b = rw (h n (and-left (free isObject n) (freeItems isObject is) b)) (no-first f h is (and-right (free isObject n) (freeItems isObject is) b))
 
 no-any : (f : Node → Bool) → ((n : Node) → Bare n → f n ≡ false) → (is : Items) → BareItems is → any f is ≡ false
 unfolding any
@@ -92,9 +98,9 @@ module _ (c : Context) where
       rw (not-lowered d (and-left (free isObject d) (freeItems isObject is) b))
       (ap (λ (x : Items). item d x) (all-kept is (and-right (free isObject d) (freeItems isObject is) b) e))
 
-  forms-kept : (n : Node) → Bare n → declarationLacksForm c n ≡ false
-  unfolding declarationLacksForm loweredIn any
-  forms-kept n b = no-any (λ d. any (λ p. anyLacksForm p) (loweredIn c d)) (λ d b. rw (not-lowered d b) refl) (itemsAt 2 n) (bare-items 2 n b)
+  forms-kept : (n : Node) → Bare n → declarationRefusal c n ≡ 0
+  unfolding declarationRefusal loweredIn first
+  forms-kept n b = no-first (λ d. first (λ p. keysRefusal p) (loweredIn c d)) (λ d b. rw (not-lowered d b) refl) (itemsAt 2 n) (bare-items 2 n b)
 
   declaration-still : (n : Node) → Bare n → hasHole (itemsAt 2 n) ≡ false → stepDeclaration c n .result ≡ n
   unfolding stepDeclaration declaration

@@ -15,14 +15,14 @@ use Rattle.lowering.specs.Made.{Context, temporary, reference, declares, idOf, 
 use Rattle.lowering.specs.Patterns.{hasObjectRest, hasArrayRestOverObjectRest, objectsBelow}
 use Rattle.lowering.specs.Keys.{keyTemporaries}
 use Rattle.lowering.specs.Rests.{isHoisted, excludedFor, restMakes}
-use Rattle.lowering.specs.Declarations.{sourceDeclarator, innerObjects, declaratorMakes, isLowered, loweredIn, declarationMakes, declarationExcludes, declarationLacksForm}
-use Rattle.lowering.specs.Assignments.{target, isTop, topLacksForm, topEntry, topExcludes, topMakes}
+use Rattle.lowering.specs.Declarations.{sourceDeclarator, innerObjects, declaratorMakes, isLowered, loweredIn, declarationMakes, declarationExcludes, declarationRefusal}
+use Rattle.lowering.specs.Assignments.{target, isTop, topRefusal, topEntry, topExcludes, topMakes}
 use Rattle.lowering.specs.Walk.{Note, ruleOf, rewrite, stepDeclaration, stepTop, stepAssignment, stepFor}
 use Rattle.lowering.specs.Weight.{walked}
 use Rattle.lowering.specs.Collect.{Visit, Entry, Name, visits, namesOf, over, nodes, nodesItems, listNodes, nameOf, nameAt, same, numberIn, excludedIn, madeIn, numbered, numberedItems, withNumber}
 use Rattle.lowering.proofs.All.{AllItems}
 use Rattle.lowering.proofs.Notes.{AllNotes, in-walked}
-use Rattle.lowering.proofs.Cases.{by-test, by-rule}
+use Rattle.lowering.proofs.Cases.{by-test, by-rule, by-number}
 use Rattle.lowering.proofs.MadeAtSites.{times, times-append}
 use Rattle.lowering.proofs.ItemLaws.{each-append}
 use Rattle.lowering.proofs.Appearance.{In, same-is, in-first, in-second, name-over, name-self, distinct-in, number-apart}
@@ -102,14 +102,14 @@ module _ (c : Context) where
 
   declaration-hands : (n : Node) → Hands (stepDeclaration c n .note)
   unfolding stepDeclaration declarationExcludes declarationMakes
-  declaration-hands n = by-test (declarationLacksForm c n)
-      (λ e. rw (e, stepDeclaration) (nothing-hoisted none))
+  declaration-hands n = by-number (declarationRefusal c n)
+      (λ r e. rw (e, stepDeclaration) (nothing-hoisted none))
       (λ e. rw (e, stepDeclaration) (gather-hoisted (λ d. gather (excludedFor c) (loweredIn c d)) (λ d. cond (isLowered d) (declaratorMakes c (nodeAt 0 d) (nodeAt 1 d)) none) declarator-hoisted (itemsAt 2 n)))
 
   top-hands : (n : Node) → Hands (stepTop c n .note)
   unfolding stepTop topMakes topExcludes
-  top-hands n = by-test (topLacksForm n)
-      (λ e. rw (e, stepTop) (nothing-hoisted none))
+  top-hands n = by-number (topRefusal n)
+      (λ r e. rw (e, stepTop) (nothing-hoisted none))
       (λ e. rw (e, stepTop) (after-hoisted (each idOf (topEntry c n)) (ids-hoisted (keys-shaped (target n)))))
 
   assignment-hands : (n : Node) → Hands (stepAssignment c n .note)

@@ -55,8 +55,10 @@ unfolding
     Rattle.lowering.specs.Parts.any Rattle.lowering.specs.Parts.isEmpty Rattle.lowering.specs.Patterns.shape
     Rattle.lowering.specs.Patterns.hasNestedObjectRest Rattle.lowering.specs.Patterns.replaced
     Rattle.lowering.specs.Patterns.objectsWithRest Rattle.lowering.specs.Keys.keySort Rattle.lowering.specs.Keys.isPrimitive
-    Rattle.lowering.specs.Keys.lacksForm Rattle.lowering.specs.Keys.keyText Rattle.lowering.specs.Keys.excludedKey Rattle.lowering.specs.Keys.keptKey
-    Rattle.lowering.specs.Keys.keyTemporary Rattle.lowering.specs.Keys.allPrimitive Rattle.lowering.specs.Keys.anyLacksForm
+    Rattle.lowering.specs.Parts.orElse Rattle.lowering.specs.Parts.first
+    Rattle.lowering.specs.Keys.promised Rattle.lowering.specs.Keys.literalText Rattle.lowering.specs.Keys.literalRefusal
+    Rattle.lowering.specs.Keys.keyRefusal Rattle.lowering.specs.Keys.keyText Rattle.lowering.specs.Keys.excludedKey Rattle.lowering.specs.Keys.keptKey
+    Rattle.lowering.specs.Keys.keyTemporary Rattle.lowering.specs.Keys.allPrimitive Rattle.lowering.specs.Keys.keysRefusal
     Rattle.lowering.specs.Keys.excludedKeys Rattle.lowering.specs.Keys.keyTemporaries Rattle.lowering.specs.Keys.taken
     Rattle.lowering.specs.Rests.isHoisted Rattle.lowering.specs.Rests.keysRead Rattle.lowering.specs.Rests.restValue
     Rattle.lowering.specs.Rests.excludedFor Rattle.lowering.specs.Declarations.isName Rattle.lowering.specs.Declarations.source
@@ -66,7 +68,7 @@ unfolding
     Rattle.lowering.specs.Declarations.patternDeclarators Rattle.lowering.specs.Declarations.lowerDeclarator
     Rattle.lowering.specs.Declarations.isLowered Rattle.lowering.specs.Declarations.declarators
     Rattle.lowering.specs.Declarations.loweredIn Rattle.lowering.specs.Declarations.declaration
-    Rattle.lowering.specs.Declarations.declarationExcludes Rattle.lowering.specs.Declarations.declarationLacksForm
+    Rattle.lowering.specs.Declarations.declarationExcludes Rattle.lowering.specs.Declarations.declarationRefusal
     Rattle.lowering.specs.Walk.stepDeclaration Rattle.lowering.specs.Walk.ruleOf Rattle.lowering.specs.Walk.rewrite
     Rattle.lowering.specs.Walk.within Rattle.lowering.specs.Walk.eachItem Rattle.lowering.specs.Walk.eachPiece
     Rattle.lowering.specs.Walk.eachField Rattle.lowering.specs.Walk.inside Rattle.lowering.specs.Walk.walk
@@ -74,7 +76,7 @@ unfolding
     Rattle.lowering.specs.Weight.weight Rattle.lowering.specs.Collect.over Rattle.lowering.specs.Collect.isContainer
     Rattle.lowering.specs.Collect.markIn Rattle.lowering.specs.Collect.firstRefusal Rattle.lowering.specs.Collect.entryAt
     Rattle.lowering.specs.Collect.entries Rattle.lowering.specs.Collect.excludedIn Rattle.lowering.specs.Collect.listNodes
-    Rattle.lowering.specs.Collect.nameOf Rattle.lowering.specs.Collect.samePath Rattle.lowering.specs.Collect.same
+    Rattle.lowering.specs.Collect.nameOf Rattle.lowering.specs.Parts.sameNumbers Rattle.lowering.specs.Collect.same
     Rattle.lowering.specs.Collect.nameAt Rattle.lowering.specs.Collect.except Rattle.lowering.specs.Collect.distinct
     Rattle.lowering.specs.Collect.numberIn Rattle.lowering.specs.Collect.namesOf Rattle.lowering.specs.Collect.withNumber
     Rattle.lowering.specs.Collect.newIn Rattle.lowering.specs.Collect.bare Rattle.lowering.specs.Collect.visits

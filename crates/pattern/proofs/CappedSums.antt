@@ -12,7 +12,7 @@ use Rattle.tree.specs.Tree.Fields.{done}
 use Rattle.tree.specs.Tree.Items.{none, hole, item}
 use Rattle.tree.specs.Read.{byteAt}
 use Rattle.tree.specs.Look.{seen, seenAs, onward, lookItem, lookItems, lookNode}
-use Rattle.lowering.specs.Parts.{gather, _+++_}
+use Rattle.lowering.specs.Parts.{gather, orElse, first, _+++_}
 use Rattle.pattern.specs.declared.parts.Place.{Place}
 use Rattle.pattern.specs.declared.tally.Tally.{Tally}
 use Rattle.pattern.specs.Parts.{itemPlace, nodeHere}
@@ -62,6 +62,36 @@ pub plus-none : limited (0 + 0) ≡ 0
 unfolding limited
 plus-none = omega arith
 
+-- the first of two refusals
+pub or-first : (a b : ℕ) → a ≡ 0 → b ≡ orElse a b
+unfolding orElse
+or-first zero b h = refl
+or-first (suc a) b h = absurd (omega arith)
+
+pub or-itself : (a b : ℕ) → (a ≡ 0 → ⊥) → a ≡ orElse a b
+unfolding orElse
+or-itself zero b h = absurd (h refl)
+or-itself (suc a) b h = refl
+
+pub or-assoc : (a b c : ℕ) → orElse (orElse a b) c ≡ orElse a (orElse b c)
+unfolding orElse
+or-assoc zero b c = refl
+or-assoc (suc a) b c = refl
+
+pub or-left : (a b : ℕ) → orElse 0 (orElse a b) ≡ orElse a b
+unfolding orElse
+or-left a b = refl
+
+pub or-end : (a b : ℕ) → orElse (orElse a b) 0 ≡ orElse a b
+unfolding orElse
+or-end zero zero = refl
+or-end zero (suc b) = refl
+or-end (suc a) b = refl
+
+pub or-none : orElse 0 0 ≡ 0
+unfolding orElse
+or-none = refl
+
 -- ---- what can be added up
 
 pub record Adding (A : Type 0) : Type 0 where
@@ -72,6 +102,9 @@ pub record Adding (A : Type 0) : Type 0 where
   pub right : (a b : A) → add (add a b) empty ≡ add a b
   pub flat : add empty empty ≡ empty
 
+abbrev pub refusals : Adding ℕ
+refusals = record { empty = 0; add = orElse; assoc = or-assoc; left = or-left; right = or-end; flat = or-none }
+
 abbrev pub numbers : Adding ℕ
 numbers = record { empty = 0; add = λ a b. limited (a + b); assoc = plus-assoc; left = plus-left; right = plus-end; flat = plus-none }
 
@@ -81,7 +114,7 @@ both-assoc a b c = λ j. record {
   excluded = plus-assoc (a .excluded) (b .excluded) (c .excluded) j;
   temporaries = plus-assoc (a .temporaries) (b .temporaries) (c .temporaries) j;
   computed = plus-assoc (a .computed) (b .computed) (c .computed) j;
-  lacking = plus-assoc (a .lacking) (b .lacking) (c .lacking) j;
+  refusal = or-assoc (a .refusal) (b .refusal) (c .refusal) j;
   objects = plus-assoc (a .objects) (b .objects) (c .objects) j;
   patterns = plus-assoc (a .patterns) (b .patterns) (c .patterns) j;
 }
@@ -92,7 +125,7 @@ both-left a b = λ j. record {
   excluded = plus-left (a .excluded) (b .excluded) j;
   temporaries = plus-left (a .temporaries) (b .temporaries) j;
   computed = plus-left (a .computed) (b .computed) j;
-  lacking = plus-left (a .lacking) (b .lacking) j;
+  refusal = or-left (a .refusal) (b .refusal) j;
   objects = plus-left (a .objects) (b .objects) j;
   patterns = plus-left (a .patterns) (b .patterns) j;
 }
@@ -103,7 +136,7 @@ both-right a b = λ j. record {
   excluded = plus-end (a .excluded) (b .excluded) j;
   temporaries = plus-end (a .temporaries) (b .temporaries) j;
   computed = plus-end (a .computed) (b .computed) j;
-  lacking = plus-end (a .lacking) (b .lacking) j;
+  refusal = or-end (a .refusal) (b .refusal) j;
   objects = plus-end (a .objects) (b .objects) j;
   patterns = plus-end (a .patterns) (b .patterns) j;
 }
@@ -114,7 +147,7 @@ both-none = λ j. record {
   excluded = plus-none j;
   temporaries = plus-none j;
   computed = plus-none j;
-  lacking = plus-none j;
+  refusal = or-none j;
   objects = plus-none j;
   patterns = plus-none j;
 }
@@ -122,9 +155,9 @@ both-none = λ j. record {
 abbrev pub tallies : Adding Tally
 tallies = record { empty = tally.zero; add = both; assoc = both-assoc; left = both-left; right = both-right; flat = both-none }
 
-pub both-made : (a b r : Tally) → r .excluded ≡ limited (a .excluded + b .excluded) → r .temporaries ≡ limited (a .temporaries + b .temporaries) → r .computed ≡ limited (a .computed + b .computed) → r .lacking ≡ limited (a .lacking + b .lacking) → r .objects ≡ limited (a .objects + b .objects) → r .patterns ≡ limited (a .patterns + b .patterns) → r ≡ both a b
+pub both-made : (a b r : Tally) → r .excluded ≡ limited (a .excluded + b .excluded) → r .temporaries ≡ limited (a .temporaries + b .temporaries) → r .computed ≡ limited (a .computed + b .computed) → r .refusal ≡ orElse (a .refusal) (b .refusal) → r .objects ≡ limited (a .objects + b .objects) → r .patterns ≡ limited (a .patterns + b .patterns) → r ≡ both a b
 unfolding both
-both-made a b r e f g h i k = λ j. record { excluded = e j; temporaries = f j; computed = g j; lacking = h j; objects = i j; patterns = k j }
+both-made a b r e f g h i k = λ j. record { excluded = e j; temporaries = f j; computed = g j; refusal = h j; objects = i j; patterns = k j }
 
 -- ---- sums
 
@@ -204,3 +237,10 @@ module _ {A : Type 0} (M : Adding A) where
         go : (b : Bool) → f (lookNode l (cond b 0 d) at .value) ≡ cond b (M .empty) (f (lookNode l d at .value))
         go true = blank at
         go false = refl
+
+-- the first refusal of a list is a sum
+pub first-sum : (f : Node → ℕ) (is : Items) → sumOf refusals f is ≡ first f is
+unfolding sum first
+first-sum f none = refl
+first-sum f (hole is) = first-sum f is
+first-sum f (item n is) = ap (orElse (f n)) (first-sum f is)

@@ -1,4 +1,4 @@
--- What the counts say of the definition: objects, key temporaries, literals without a form, declarators.
+-- What the counts say of the definition: objects, key temporaries, the first refusal, declarators.
 -- Assumes nothing.
 use mathlib.Core.Path.{_≡_, refl, sym, ap, ap₂, _∙_}
 use mathlib.Core.Bool.{Bool, true, false, cond, not, _||_}
@@ -11,11 +11,11 @@ use Rattle.tree.specs.Tree.{Node, Items, count, depth}
 use Rattle.tree.specs.Tree.Node.{node}
 use Rattle.tree.specs.Tree.Fields.{done, absent, field}
 use Rattle.tree.specs.Tree.Items.{none, hole, item}
-use Rattle.lowering.specs.Parts.{change, changeIn, standsIn, stands, only, gather, any, _+++_}
+use Rattle.lowering.specs.Parts.{change, changeIn, standsIn, stands, only, gather, orElse, first, _+++_}
 use Rattle.lowering.specs.Made.{Context, reference, declares}
 use Rattle.lowering.specs.Patterns.{shape, properties, itemsOf, hasRest, leftOf, value, key, withValues, replaced, replacedBelow, objectsWithRest, objectsBelow}
 use Rattle.lowering.specs.Patterns.Shape.{objectPattern, arrayPattern}
-use Rattle.lowering.specs.Keys.{keySort, anyLacksForm, keyTemporaries, taken}
+use Rattle.lowering.specs.Keys.{keySort, keysRefusal, keyTemporaries, taken}
 use Rattle.lowering.specs.Keys as keys
 use Rattle.lowering.specs.Rests.{hasNoProperties, restValue}
 use Rattle.lowering.specs.Declarations.{keysBefore, patternDeclarator, restDeclarator, own, nested, nestedBelow, objectDeclarators, patternDeclarators}
@@ -26,7 +26,7 @@ use Rattle.pattern.specs.Keys.{keyTally, keysOf, countsBy}
 use Rattle.pattern.specs.Objects.{objectItself, objectTally, ownTally, objectsTally, restsTally}
 use Rattle.pattern.specs.Declarators.{made}
 use Rattle.pattern.proofs.CappedSums.{tallies, sumOf, sum-append, sum-gather, plus-limited, plus-right, plus-both}
-use Rattle.pattern.proofs.KeyCases.{some-not, more-than, temporaries-law, lacking-law}
+use Rattle.pattern.proofs.KeyCases.{temporaries-law, refusal-law}
 use Rattle.pattern.proofs.RestsFound.{no-properties-kept, tally-kept, only-tally, rests-object}
 use Rattle.lowering.proofs.ItemLaws.{count-append}
 use Rattle.lowering.proofs.Cases.{by-shape}
@@ -34,10 +34,6 @@ use Rattle.lowering.proofs.Cases.{by-shape}
 -- any context
 abbrev somewhere : Context
 somewhere = record { path = []; root = true; statement = true }
-
-or-false : (b : Bool) → b || false ≡ b
-or-false true = refl
-or-false false = refl
 
 -- ---- no item of what is found is a hole
 
@@ -75,7 +71,7 @@ solid-objects c (suc d) p =
 -- ---- one object
 
 -- keys are no objects
-keys-plain : (s : keys.Key) (b : Bool) → (countsBy s b .objects ≡ 0) × (countsBy s b .patterns ≡ 0)
+keys-plain : (s : keys.Key) (b : ℕ) → (countsBy s b .objects ≡ 0) × (countsBy s b .patterns ≡ 0)
 keys-plain keys.Key.name b = (refl, refl)
 keys-plain keys.Key.literal b = (refl, refl)
 keys-plain keys.Key.template b = (refl, refl)
@@ -93,14 +89,13 @@ plain-items none = (refl, refl)
 plain-items (hole is) = plain-items is
 plain-items (item q is) =
     let h = plain-items is in
-    let a = keys-plain (keySort (key q)) (keys.lacksForm (key q)) in
+    let a = keys-plain (keySort (key q)) (keys.keyRefusal (key q)) in
     (none-more _ _ (a .0) (h .0), none-more _ _ (a .1) (h .1))
 
-either : (a b : ℕ) → not (eqb (limited (a + b)) 0) ≡ not (eqb a 0) || not (eqb b 0)
-unfolding limited
-either zero zero = refl
-either zero (suc b) = ap not (ne-eqb (min (0 + suc b) 65536) 0 (λ e. absurd (omega arith)) ∙ sym (some-not b))
-either (suc a) b = rw (ne-eqb (min (suc a + b) 65536) 0 (λ e. absurd (omega arith)), some-not a)
+or-nothing : (a : ℕ) → orElse a 0 ≡ a
+unfolding orElse
+or-nothing zero = refl
+or-nothing (suc a) = refl
 
 module _ (p : Node) where
   one-object : objectTally p .objects ≡ 1
@@ -119,21 +114,17 @@ module _ (p : Node) where
   unfolding objectTally both objectItself limited
   its-keys c = let h = temporaries-law c p (keysOf p) refl in omega arith
 
-  its-lacking : not (eqb (objectTally p .lacking) 0) ≡ anyLacksForm p
+  its-refusal : objectTally p .refusal ≡ keysRefusal p
   unfolding objectTally both objectItself
-  its-lacking =
-      either (keysOf p .lacking) 0 ∙ or-false (not (eqb (keysOf p .lacking) 0)) ∙ sym (more-than (keysOf p .lacking)) ∙ lacking-law p (keysOf p) refl
+  its-refusal = or-nothing (keysOf p .refusal) ∙ refusal-law p (keysOf p) refl
 
 -- ---- many
 
-lacking-items : (is : Items) → not (eqb (objectsTally is .lacking) 0) ≡ any anyLacksForm is
-unfolding sum both any
-lacking-items none = refl
-lacking-items (hole is) = lacking-items is
-lacking-items (item p is) = either (objectTally p .lacking) (objectsTally is .lacking) ∙ ap₂ (λ (x y : Bool). x || y) (its-lacking p) (lacking-items is)
-
-pub lacking-any : (is : Items) → ltb 0 (objectsTally is .lacking) ≡ any anyLacksForm is
-lacking-any is = more-than (objectsTally is .lacking) ∙ lacking-items is
+refusal-items : (is : Items) → objectsTally is .refusal ≡ first keysRefusal is
+unfolding sum both first
+refusal-items none = refl
+refusal-items (hole is) = refusal-items is
+refusal-items (item p is) = ap₂ orElse (its-refusal p) (refusal-items is)
 
 objects-count : (is : Items) → Solid is → objectsTally is .objects ≡ limited (count is)
 unfolding sum both count limited
@@ -151,9 +142,9 @@ module _ (n : Node) (t : Tally) where
   unfolding restsTally
   objects-below c e = ap (λ (x : Tally). x .objects) (e c) ∙ objects-count (objectsBelow c n) (solid-objects c (depth n) n)
 
-  pub below-lacks : (c : Context) → ((c : Context) → t ≡ restsTally c n) → ltb 0 (t .lacking) ≡ any anyLacksForm (objectsBelow c n)
+  pub below-refuses : (c : Context) → ((c : Context) → t ≡ restsTally c n) → t .refusal ≡ first keysRefusal (objectsBelow c n)
   unfolding restsTally
-  below-lacks c e = ap (λ (x : Tally). ltb 0 (x .lacking)) (e c) ∙ lacking-any (objectsBelow c n)
+  below-refuses c e = ap (λ (x : Tally). x .refusal) (e c) ∙ refusal-items (objectsBelow c n)
 
 -- ---- declarators
 

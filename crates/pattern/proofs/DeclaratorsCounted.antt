@@ -1,4 +1,4 @@
--- Declarators, counted, case by case; and refusal 6 of a declaration.
+-- Declarators, counted, case by case; and the first refusal at the keys of a declaration.
 -- Assumes nothing.
 use mathlib.Core.Path.{_≡_, refl, sym, ap, _∙_}
 use mathlib.Core.Bool.{Bool, true, false, cond, _&&_}
@@ -13,22 +13,22 @@ use Rattle.tree.specs.Tree.Items.{none}
 use Rattle.tree.specs.Read.{byteAt}
 use Rattle.tree.specs.Answer.{Peeked}
 use Rattle.tree.specs.Look.{lookItem, lookItems, lookNode}
-use Rattle.lowering.specs.Parts.{nothing, pieceIn, standsIn, nodeAt, itemsAt, stands, only, gather, any}
+use Rattle.lowering.specs.Parts.{nothing, pieceIn, standsIn, nodeAt, itemsAt, stands, only, gather, orElse, first}
 use Rattle.lowering.specs.Made.{Context, declares, valueOf}
 use Rattle.lowering.specs.Patterns.{shape, objectsWithRest, objectsBelow}
-use Rattle.lowering.specs.Keys.{anyLacksForm}
+use Rattle.lowering.specs.Keys.{keysRefusal}
 use Rattle.lowering.specs.Rests.{hasNoProperties}
-use Rattle.lowering.specs.Declarations.{isName, source, sourceDeclarator, patternDeclarators, lowerDeclarator, isLowered, declarators, loweredIn, declarationLacksForm}
+use Rattle.lowering.specs.Declarations.{isName, source, sourceDeclarator, patternDeclarators, lowerDeclarator, isLowered, declarators, loweredIn, declarationRefusal}
 use Rattle.pattern.specs.declared.parts.Place.{Place}
 use Rattle.pattern.specs.declared.parts.Run.{Run}
 use Rattle.pattern.specs.declared.tally.Tally.{Tally}
 use Rattle.pattern.specs.Parts.{partAt, itemPlace, placeOf, runOf, nodeHere}
 use Rattle.pattern.specs.Tally.{limited}
 use Rattle.pattern.specs.Objects.{restsTally}
-use Rattle.pattern.specs.Declarators.{made, itemCount}
+use Rattle.pattern.specs.Declarators.{made, itemCount, declaratorRefusal, itemRefusal}
 use Rattle.pattern.proofs.Places.{Blank, child-is, list-is, kind-is, no-levels}
 use Rattle.pattern.proofs.Below as below
-use Rattle.pattern.proofs.CappedSums.{numbers, Adds, sumOf, listSum, sum-start, sum-more, sum-end, plus-right}
+use Rattle.pattern.proofs.CappedSums.{numbers, refusals, first-sum, Adds, sumOf, listSum, sum-start, sum-more, sum-end, plus-right}
 use Rattle.pattern.proofs.MovesCounted.{count-sum}
 use Rattle.pattern.proofs.SourceReads.{name-blank}
 use Rattle.pattern.proofs.Counting as counting
@@ -52,20 +52,12 @@ pattern-bare : (c : Context) (s : Node) → patternCount c s nothing ≡ 0
 unfolding patternDeclarators shape count limited
 pattern-bare c s = refl
 
-abbrev lacking : Context → Node → Bool
-lacking c p = any anyLacksForm (objectsBelow c p)
+abbrev refusing : Context → Node → ℕ
+refusing c p = first keysRefusal (objectsBelow c p)
 
-lacking-blank : (c : Context) → Blank (lacking c)
-unfolding objectsWithRest shape Rattle.tree.specs.Tree.depth any
-lacking-blank c at = refl
-
--- whether a declarator meets refusal 6
-abbrev pub declaratorLacks : Context → Node → Bool
-declaratorLacks c d = any anyLacksForm (loweredIn c d)
-
-lacks-empty : (c : Context) (at : ℕ) → declaratorLacks c (node at 0 done) ≡ false
-unfolding loweredIn isLowered stands standsIn any
-lacks-empty c at = refl
+refusing-blank : (c : Context) → Blank (refusing c)
+unfolding objectsWithRest shape Rattle.tree.specs.Tree.depth first
+refusing-blank c at = refl
 
 module _ (l : List ℕ) where
   pub pattern-none : (d at : ℕ) → d ≡ 0 → (c : Context) (s : Node) → 0 ≡ patternCount c s (lookNode l d at .value)
@@ -138,14 +130,14 @@ module _ (l : List ℕ) where
           o ∙ ap (λ (x : ℕ). limited (1 + x)) (counted c) ∙ plus-right 1 m
           ∙ ap limited (ap (λ (x : Bool). count (cond x none (only (declares (valueOf c (nodeAt 0 this)) (nodeAt 1 this)))) + m) (sym t ∙ named) ∙ sym (lowered-count c i))
 
-    -- refusal 6
-    pub lacks-yes : b ≡ true → (s : Place) (f : Bool) → s ≡ placeOf d at (partAt l d at 0) → ((c : Context) → f ≡ lacking c (nodeHere l s)) → (c : Context) → f ≡ any anyLacksForm (loweredIn c this)
+    -- the first refusal
+    pub refuses-yes : b ≡ true → (s : Place) (f : ℕ) → s ≡ placeOf d at (partAt l d at 0) → ((c : Context) → f ≡ refusing c (nodeHere l s)) → (c : Context) → f ≡ declaratorRefusal c this
     unfolding loweredIn
-    lacks-yes i s f e a c = rw (sym y ∙ i) (a c ∙ child-is l (lacking c) (lacking-blank c) d at 0 s e)
+    refuses-yes i s f e a c = rw (sym y ∙ i) (a c ∙ child-is l (refusing c) (refusing-blank c) d at 0 s e)
 
-    pub lacks-no : b ≡ false → (c : Context) → false ≡ any anyLacksForm (loweredIn c this)
-    unfolding loweredIn any
-    lacks-no i c = rw (sym y ∙ i)
+    pub refuses-no : b ≡ false → (c : Context) → 0 ≡ declaratorRefusal c this
+    unfolding loweredIn first
+    refuses-no i c = rw (sym y ∙ i)
 
   -- ---- a declaration's list
 
@@ -185,25 +177,35 @@ module _ (l : List ℕ) where
   pub all-end : (left at d : ℕ) (h : Bool) (n p t : ℕ) → n ≤ 0 → Becoming left at d h n p t → (c : Context) → t ≡ limited (count (gather (declarators c) (declaredIn left at)))
   all-end left at d h n p t z w c = sum-end numbers l (becoming c) d h n p t _ z (w c)
 
-  -- ---- refusal 6 of a declaration
+  -- ---- the first refusal of a declaration
 
-  abbrev pub LackingLeft : ℕ → ℕ → ℕ → Bool → ℕ → ℕ → Type 0
-  LackingLeft left at below h n p = (c : Context) → any (λ d. declaratorLacks c d) (lookItems l (lookNode l below) h n p .value) ≡ declarationLacksForm c (lookNode l left at .value)
+  pub hole-refuses : (h : Bool) (d at n : ℕ) → h ≡ true → Peeked l at n → n ≡ 0 → (c : Context) → 0 ≡ itemRefusal c l h d at
+  unfolding itemRefusal
+  hole-refuses h d at n t p z c = rw (t, eq-eqb (byteAt l at) 0 (sym (p .value) ∙ z))
 
-  pub lacks-none : (d at : ℕ) → d ≡ 0 → (c : Context) → false ≡ declarationLacksForm c (lookNode l d at .value)
-  unfolding declarationLacksForm itemsAt pieceIn any
-  lacks-none d at z c = rw (no-levels l d at z)
+  pub other-refuses : (h : Bool) (d at n x : ℕ) → h ≡ true → Peeked l at n → (n ≡ 0 → ⊥) → ((c : Context) → x ≡ declaratorRefusal c (lookNode l d at .value)) → (c : Context) → x ≡ itemRefusal c l h d at
+  unfolding itemRefusal
+  other-refuses h d at n x t p z a c = rw (t, ne-eqb (byteAt l at) 0 (λ y. z (p .value ∙ y))) (a c)
 
-  pub lacks-start : (d at : ℕ) (r : Run) → r ≡ runOf at (partAt l d at 2) → LackingLeft d at (d - 1) (r .holes) (r .count) (r .from)
-  unfolding declarationLacksForm
-  lacks-start d at r e c = ap (any (λ d. declaratorLacks c d)) (list-is l d at 2 r e)
+  pub node-refuses : (h : Bool) (d at x : ℕ) → h ≡ false → ((c : Context) → x ≡ declaratorRefusal c (lookNode l d at .value)) → (c : Context) → x ≡ itemRefusal c l h d at
+  unfolding itemRefusal
+  node-refuses h d at x t a c = rw t (a c)
 
-  module _ (left at d n p : ℕ) (h b : Bool) (s : Place) (more : 0 < n) (e : s ≡ itemPlace l h d p) (a : (c : Context) → b ≡ declaratorLacks c (nodeHere l s)) (w : LackingLeft left at d h n p) where
-    pub lacks-found : b ≡ true → (c : Context) → true ≡ declarationLacksForm c (lookNode l left at .value)
-    lacks-found t c = search.item-found l (λ d. declaratorLacks c d) (lacks-empty c) d n p h b s more e (a c) t ∙ w c
+  abbrev pub Refusing : ℕ → ℕ → ℕ → Bool → ℕ → ℕ → ℕ → Type 0
+  Refusing left at below h n p t = (c : Context) → Adds refusals t (listSum refusals l (declaratorRefusal c) below h n p) (declarationRefusal c (lookNode l left at .value))
 
-    pub lacks-next : (q : ℕ) → b ≡ false → q ≡ lookItem l (lookNode l d) h p .next → LackingLeft left at d h (n - 1) q
-    lacks-next q t g c = search.item-next l (λ d. declaratorLacks c d) (lacks-empty c) d n p h b s more e (a c) q t g ∙ w c
+  pub refuses-none : (d at : ℕ) → d ≡ 0 → (c : Context) → 0 ≡ declarationRefusal c (lookNode l d at .value)
+  unfolding declarationRefusal itemsAt pieceIn first
+  refuses-none d at z c = rw (no-levels l d at z)
 
-  pub lacks-end : (left at d : ℕ) (h : Bool) (n p : ℕ) → n ≤ 0 → LackingLeft left at d h n p → (c : Context) → false ≡ declarationLacksForm c (lookNode l left at .value)
-  lacks-end left at d h n p z w c = search.any-end l (λ d. declaratorLacks c d) d h n p z ∙ w c
+  pub refuses-start : (d at : ℕ) (r : Run) → r ≡ runOf at (partAt l d at 2) → Refusing d at (d - 1) (r .holes) (r .count) (r .from) 0
+  unfolding declarationRefusal
+  refuses-start d at r e c =
+      sum-start refusals l (declaratorRefusal c) (d - 1) (r .holes) (r .count) (r .from) 0 _ refl (ap (sumOf refusals (declaratorRefusal c)) (list-is l d at 2 r e) ∙ first-sum (declaratorRefusal c) (declaredIn d at))
+
+  pub refuses-more : (left at d : ℕ) (h : Bool) (n p q t x u : ℕ) → 0 < n → ((c : Context) → x ≡ itemRefusal c l h d p) → q ≡ lookItem l (lookNode l d) h p .next → u ≡ orElse t x → Refusing left at d h n p t → Refusing left at d h (n - 1) q u
+  unfolding itemRefusal
+  refuses-more left at d h n p q t x u z a g v w c = sum-more refusals l (declaratorRefusal c) d h n p q t x u _ z (a c) g v (w c)
+
+  pub refuses-end : (left at d : ℕ) (h : Bool) (n p t : ℕ) → n ≤ 0 → Refusing left at d h n p t → (c : Context) → t ≡ declarationRefusal c (lookNode l left at .value)
+  refuses-end left at d h n p t z w c = sum-end refusals l (declaratorRefusal c) d h n p t _ z (w c)

@@ -1,22 +1,27 @@
 -- Keys, case by case: what each way out answers is the definition, where the callees answer so; and what the counts say of keys.
 -- Assumes nothing.
-use mathlib.Core.Path.{_≡_, refl, sym, ap, _∙_}
+use mathlib.Core.Path.{_≡_, refl, sym, ap, ap₂, _∙_}
 use mathlib.Core.Bool.{Bool, true, false, cond, not, _&&_, _||_, true≢false}
-use mathlib.Core.List.{List}
+use mathlib.Core.List.{List, []}
+use mathlib.Core.Option.{Option, some}
 use Prim.Native.Nat.{ℕ, zero, suc, _+_, _-_, _<_, _≤_, min}
 use native.Mathlib.Omega.{arith}
-use lib.Dec.{eqb, ltb}
-use borrow.Author.Tests.{eq-eqb, ne-eqb, eqb-true, lt-ltb}
+use native.Mathlib.Decide.{decLt}
+use lib.Dec.{eqb}
+use lib.ListN.{length, take, drop, length-drop, drop-of-length-le}
+use lib.Seq.{take-all, take-nil}
+use borrow.Author.Tests.{eq-eqb, ne-eqb, eqb-true, le-leb, lt-leb}
 use Rattle.tree.specs.Tree.{Node, Items, count}
 use Rattle.tree.specs.Tree.Items.{none, hole, item}
 use Rattle.tree.specs.Read.{byteAt}
 use Rattle.tree.specs.Answer.{Peeked}
 use Rattle.tree.specs.Look.{seen, seenAs, onward, lookItem, lookItems, lookNode}
-use Rattle.lowering.specs.Parts.{kind, is, itemsAt, stands, only, gather, any, isEmpty, pieceIn}
+use Rattle.lowering.specs.Parts.{kind, is, itemsAt, textAt, numberAt, stands, sameNumbers, only, gather, any, orElse, first, isEmpty, pieceIn}
+use Rattle.lowering.specs.Numbers.{spellingOf, digitsOf, numberString, highestNumber}
 use Rattle.lowering.specs.Made.{Context, string}
 use Rattle.lowering.specs.Patterns.{key, properties}
 use Rattle.lowering.specs.Keys as keys
-use Rattle.lowering.specs.Keys.{keySort, isPrimitive, lacksForm, excludedKey, keyTemporary, allPrimitive, anyLacksForm, excludedKeys, keyTemporaries, keyText}
+use Rattle.lowering.specs.Keys.{keySort, isPrimitive, promised, literalText, literalRefusal, excludedKey, keyTemporary, allPrimitive, keysRefusal, excludedKeys, keyTemporaries, keyText}
 use Rattle.lowering.specs.Keys.Key.{name, literal, template, private, again, other}
 use Rattle.lowering.specs.Rests.{hasNoProperties}
 use Rattle.pattern.specs.declared.parts.Part.{Part}
@@ -24,14 +29,20 @@ use Rattle.pattern.specs.declared.parts.Part.the-variants.{One, Many, Te
 use Rattle.pattern.specs.declared.parts.Place.{Place}
 use Rattle.pattern.specs.declared.parts.Run.{Run}
 use Rattle.pattern.specs.declared.keys.Key.{Key}
-use Rattle.pattern.specs.declared.keys.Key.the-variants.{Template, Private, Again, Other}
+use Rattle.pattern.specs.declared.keys.Key.the-variants as variants
+use Rattle.pattern.specs.declared.keys.Key.the-variants.{Literal, OtherForm, NoForm, Template, Private, Again, Other}
+use Rattle.pattern.specs.declared.numbers.Spelling.{Spelling}
+use Rattle.pattern.specs.declared.numbers.Spelling.the-variants.{Decimal, Hexadecimal, Another}
 use Rattle.pattern.specs.declared.tally.Tally.{Tally}
-use Rattle.pattern.specs.Parts.{partAt, placeOf, runOf}
+use Rattle.pattern.specs.Parts.{partAt, textIn, standing, placeOf, runOf}
+use Rattle.pattern.specs.Numbers.{spelledAs, isStringOf}
 use Rattle.pattern.specs.Tally as tally
 use Rattle.pattern.specs.Tally.{limited, both, sum}
-use Rattle.pattern.specs.Keys.{nameIn, formIn, keyAt, Becomes, keyRefusal, keyEntry, keyBy, counts, countsBy, keyCounts, keyTally, keysOf, itemKeys}
-use Rattle.pattern.proofs.Places.{Blank, child-is, list-is, kind-is, no-levels, text-part, stands-part, standing, textIn}
-use Rattle.pattern.proofs.CappedSums.{tallies, Adds, sumOf, listSum, sum-start, sum-more, sum-end}
+use Rattle.pattern.specs.Keys.{nameIn, formIn, besideForm, literalBy, literalIn, literalAt, keyAt, Becomes, keyRefusal, keyEntry, keyBy, counts, countsBy, keyCounts, keyTally, keysOf, itemKeys}
+use Rattle.pattern.proofs.Places.{Blank, child-is, list-is, kind-is, no-levels, text-part, stands-part, sort-absent, sort-there}
+use Rattle.pattern.proofs.NumberCases.{promisedBy, promised-by, DecimalOf, decimal-string, same-string, Low, spelled-low}
+use Rattle.pattern.proofs.CappedSums.{tallies, refusals, Adds, sumOf, listSum, sum-start, sum-more, sum-end, first-sum}
+use Rattle.lowering.proofs.Cases.{by-test}
 use Rattle.lowering.proofs.ItemLaws.{count-append}
 use Rattle.lowering.proofs.Clauses.{text-name, text-literal}
 use Rattle.lowering.proofs.Cases.{is-literal}
@@ -134,9 +145,9 @@ module _ (l : List ℕ) where
     unfolding keyAt
     key-temporary t = rw (sort-temporary here (k-is 20 t))
 
-    pub key-literal : (p : Part) (r : Key) → k ≡ 22 → p ≡ partAt l d at 2 → r ≡ formIn p → r ≡ keyAt l d at
+    pub key-literal : (r : Key) → k ≡ 22 → (byteAt l at ≡ 22 → r ≡ literalAt l d at) → r ≡ keyAt l d at
     unfolding keyAt
-    key-literal p r t w v = rw (sort-literal here (k-is 22 t)) (v ∙ ap formIn w)
+    key-literal r t w = rw (sort-literal here (k-is 22 t)) (w (sym e ∙ t))
 
     pub key-template : (r : Run) → k ≡ 23 → r ≡ runOf at (partAt l d at 0) → r .count ≡ 1 → Template ≡ keyAt l d at
     unfolding keyAt
@@ -158,36 +169,273 @@ module _ (l : List ℕ) where
     unfolding keyAt
     key-other a b c f g h = rw (sort-other here (k-not 18 a) (k-not 20 b) (k-not 22 c) (k-not 23 f) (k-not 38 g) (k-not 39 h))
 
--- ---- a literal without a form
+-- ---- a literal
+
+module _ (l : List ℕ) where
+  -- its text as a number
+  text-clipped : (from len to : ℕ) → to ≡ onward l from len → from ≤ to → take (to - from) (drop from l) ≡ take len (drop from l)
+  unfolding onward
+  text-clipped from len to e h = elim (decLt (length l) (from + len)) [
+    | yes g ↦
+        let t : to ≡ length l = rw (lt-leb (from + len) (length l) g) at e in
+        take-all (to - from) (drop from l) (simp length-drop (omega arith)) ∙ sym (take-all len (drop from l) (simp length-drop (omega arith)))
+    | no g ↦
+        let t : to ≡ from + len = rw (le-leb (from + len) (length l) (omega arith)) at e in
+        let z : to - from ≡ len = omega arith in
+        ap (λ (n : ℕ). take n (drop from l)) z
+  ]
+
+  pub text-within : (from len to : ℕ) → to ≡ onward l from len → to ≤ length l
+  unfolding onward
+  text-within from len to e = elim (decLt (length l) (from + len)) [
+    | yes g ↦ let t : to ≡ length l = rw (lt-leb (from + len) (length l) g) at e in omega arith
+    | no g ↦ let t : to ≡ from + len = rw (le-leb (from + len) (length l) (omega arith)) at e in omega arith
+  ]
+
+  pub spelled-text : (from len to : ℕ) (p : Part) (r : Spelling) → p ≡ Text from len → to ≡ onward l from len → from ≤ to → r ≡ spelledAs (take (to - from) (drop from l)) → r ≡ spelledAs (textIn l p)
+  spelled-text from len to p r e f h v = v ∙ ap spelledAs (text-clipped from len to f h) ∙ ap (λ (q : Part). spelledAs (textIn l q)) (sym e)
+
+  pub spelled-past : (from len to : ℕ) (p : Part) → p ≡ Text from len → to ≡ onward l from len → to < from → Another ≡ spelledAs (textIn l p)
+  unfolding onward spelledAs spellingOf
+  spelled-past from len to p e f h = elim (decLt (length l) (from + len)) [
+    | yes g ↦
+        let t : to ≡ length l = rw (lt-leb (from + len) (length l) g) at f in
+        sym (ap (λ (q : Part). spelledAs (textIn l q)) e ∙ ap (λ (x : List ℕ). spelledAs (take len x)) (drop-of-length-le l {i = from} (omega arith)) ∙ ap spelledAs (take-nil len))
+    | no g ↦ let t : to ≡ from + len = rw (le-leb (from + len) (length l) (omega arith)) at f in absurd (omega arith)
+  ]
+
+  -- no text is read as the empty one
+  pub spelled-none : (p q : Part) → p ≡ q → textIn l q ≡ [] → Another ≡ spelledAs (textIn l p)
+  unfolding spelledAs spellingOf
+  spelled-none p q e f = sym (ap (λ (x : Part). spelledAs (textIn l x)) e ∙ ap spelledAs f)
+
+  -- ---- beside its form
+
+  module _ (v : ℕ) (alone : Key) (p : Part) (b : Bool) (w : b ≡ standing p) where
+    pub beside-none : b ≡ false → alone ≡ besideForm l v alone p
+    unfolding besideForm
+    beside-none h = rw (sym w ∙ h)
+
+    module _ (s : Spelling) (f : Bool) (e : s ≡ spelledAs (textIn l p)) (g : f ≡ isStringOf v s) where
+      tested : f ≡ isStringOf v (spelledAs (textIn l p))
+      tested = g ∙ ap (isStringOf v) e
+
+      pub beside-same : b ≡ true → f ≡ true → (r : Key) → r ≡ formIn p → r ≡ besideForm l v alone p
+      unfolding besideForm
+      beside-same h t r x = rw (sym w ∙ h, sym tested ∙ t) x
+
+      pub beside-other : b ≡ true → f ≡ false → OtherForm v ≡ besideForm l v alone p
+      unfolding besideForm
+      beside-other h t = rw (sym w ∙ h, sym tested ∙ t)
+
+  -- ---- by what its spelling is
+
+  pub by-decimal : (x : Spelling) (s p : Part) (v : ℕ) → x ≡ Decimal v → (a : Key) → a ≡ formIn s → (r : Key) → r ≡ besideForm l v a p → r ≡ literalBy l x s p
+  unfolding literalBy
+  by-decimal x s p v e a f r g = g ∙ ap (λ (k : Key). besideForm l v k p) f ∙ ap (λ (y : Spelling). literalBy l y s p) (sym e)
+
+  pub by-hexadecimal : (x : Spelling) (s p : Part) (v : ℕ) → x ≡ Hexadecimal v → (r : Key) → r ≡ besideForm l v (variants.Number v) p → r ≡ literalBy l x s p
+  unfolding literalBy
+  by-hexadecimal x s p v e r g = g ∙ ap (λ (y : Spelling). literalBy l y s p) (sym e)
+
+  pub by-another : (x : Spelling) (s p : Part) → x ≡ Another → (r : Key) → r ≡ formIn p → r ≡ literalBy l x s p
+  unfolding literalBy
+  by-another x s p e r g = g ∙ ap (λ (y : Spelling). literalBy l y s p) (sym e)
+
+  -- ---- by its sort
+
+  pub sort-peeked : (d at q x : ℕ) (b : Bool) → b ≡ stands 0 (lookNode l d at .value) → b ≡ true → q ≡ onward l at 2 → Peeked l q x → byteAt l at ≡ 22 → x ≡ numberAt 0 (lookNode l d at .value)
+  sort-peeked d at q x b e t f p k = p .value ∙ ap (byteAt l) f ∙ sort-there l d at k (sym e ∙ t)
+
+  pub sort-none : (d at : ℕ) (b : Bool) → b ≡ stands 0 (lookNode l d at .value) → b ≡ false → byteAt l at ≡ 22 → 0 ≡ numberAt 0 (lookNode l d at .value)
+  sort-none d at b e t k = sort-absent l d at (sym e ∙ t)
+
+  module _ (d at n : ℕ) (p q : Part) (w : byteAt l at ≡ 22 → n ≡ numberAt 0 (lookNode l d at .value)) (e : p ≡ partAt l d at 1) (f : q ≡ partAt l d at 2) where
+    pub literal-number : n ≡ 2 → (s : Spelling) (r : Key) → s ≡ spelledAs (textIn l p) → r ≡ literalBy l s p q → byteAt l at ≡ 22 → r ≡ literalAt l d at
+    unfolding literalAt literalIn
+    literal-number z s r g v k =
+        rw (eq-eqb (numberAt 0 (lookNode l d at .value)) 2 (sym (w k) ∙ z)) (v ∙ ap (λ (x : Spelling). literalBy l x p q) g ∙ rw (e, f))
+
+    pub literal-other : (n ≡ 2 → ⊥) → (r : Key) → r ≡ formIn q → byteAt l at ≡ 22 → r ≡ literalAt l d at
+    unfolding literalAt literalIn literalBy
+    literal-other z r v k = rw (ne-eqb (numberAt 0 (lookNode l d at .value)) 2 (λ y. z (w k ∙ y))) (v ∙ ap formIn f)
 
 literal-kind : (k : Node) → is 22 k ≡ true → kind k ≡ 22
 unfolding is
 literal-kind k e = eqb-true (kind k) 22 e
 
--- only a literal can lack one
-pub lacking-is : (k : Node) → keyTally k .lacking ≡ cond (lacksForm k) 1 0
-unfolding keyTally lacksForm
-lacking-is k = go (is 22 k) refl
+-- only a literal is refused
+pub refusing-is : (k : Node) → keyTally k .refusal ≡ keys.keyRefusal k
+unfolding keyTally keys.keyRefusal
+refusing-is k = go (is 22 k) refl
   where
-    none-lacks : (s : keys.Key) → countsBy s false .lacking ≡ 0
-    none-lacks name = refl
-    none-lacks literal = refl
-    none-lacks template = refl
-    none-lacks private = refl
-    none-lacks again = refl
-    none-lacks other = refl
+    none-refuses : (s : keys.Key) → countsBy s 0 .refusal ≡ 0
+    none-refuses name = refl
+    none-refuses literal = refl
+    none-refuses template = refl
+    none-refuses private = refl
+    none-refuses again = refl
+    none-refuses other = refl
 
-    go : (b : Bool) → is 22 k ≡ b → countsBy (keySort k) (b && not (stands 2 k)) .lacking ≡ cond (b && not (stands 2 k)) 1 0
+    go : (b : Bool) → is 22 k ≡ b → countsBy (keySort k) (cond b (literalRefusal k) 0) .refusal ≡ cond b (literalRefusal k) 0
     go true e = rw (sort-literal k (literal-kind k e))
-    go false e = none-lacks (keySort k)
+    go false e = none-refuses (keySort k)
+
+-- ---- what a literal becomes, by the definition
+
+module _ (l : List ℕ) where
+  -- a form by itself
+  form-refusal : (p : Part) → cond (standing p) 0 6 ≡ keyRefusal (formIn p)
+  unfolding formIn
+  form-refusal (One q) = refl
+  form-refusal (Many h n p) = refl
+  form-refusal (Text p n) = refl
+  form-refusal Number = refl
+  form-refusal Missing = refl
+
+  form-entry : (c : Context) (q : Node) (p : Part) → only (string (textIn l p)) ≡ keyEntry l c q (formIn p)
+  unfolding formIn
+  form-entry c q (One x) = refl
+  form-entry c q (Many h n p) = refl
+  form-entry c q (Text p n) = refl
+  form-entry c q Number = refl
+  form-entry c q Missing = refl
+
+  form-counts : (p : Part) → keyCounts (formIn p) ≡ counts 1 0 0 (keyRefusal (formIn p))
+  unfolding keyCounts formIn
+  form-counts (One q) = refl
+  form-counts (Many h n p) = refl
+  form-counts (Text p n) = refl
+  form-counts Number = refl
+  form-counts Missing = refl
+
+  -- a spelling that is a number stands
+  decimal-stands : (p : Part) (v : ℕ) → spelledAs (textIn l p) ≡ Decimal v → standing p ≡ true
+  unfolding spelledAs spellingOf
+  decimal-stands (One q) v e = refl
+  decimal-stands (Many h n p) v e = refl
+  decimal-stands (Text p n) v e = refl
+  decimal-stands Number v e = refl
+  decimal-stands Missing v e = let z : _≡_ {A = ℕ} 0 1 = cc in absurd (omega arith)
+
+  -- a number of the value v beside its form
+  module _ (v : ℕ) (low : v ≤ highestNumber) (alone : Key) (p : Part) where
+    beside-refusal : keyRefusal alone ≡ 0 → cond (standing p && not (sameNumbers (textIn l p) (digitsOf v))) 11 0 ≡ keyRefusal (besideForm l v alone p)
+    unfolding besideForm
+    beside-refusal a = ap (λ (b : Bool). cond (standing p && not b) 11 0) (same-string (textIn l p) v low) ∙ go (standing p) (isStringOf v (spelledAs (textIn l p))) (form-refusal p)
+      where
+        go : (b f : Bool) → cond b 0 6 ≡ keyRefusal (formIn p) → cond (b && not f) 11 0 ≡ keyRefusal (cond b (cond f (formIn p) (OtherForm v)) alone)
+        go true true e = e
+        go true false e = refl
+        go false f e = sym a
+
+    beside-entry : (c : Context) (q : Node) → only (string (digitsOf v)) ≡ keyEntry l c q alone → only (string (digitsOf v)) ≡ keyEntry l c q (besideForm l v alone p)
+    unfolding besideForm
+    beside-entry c q a = go (standing p) (isStringOf v (spelledAs (textIn l p))) (own (spelledAs (textIn l p)) refl)
+      where
+        own : (x : Spelling) → spelledAs (textIn l p) ≡ x → isStringOf v x ≡ true → textIn l p ≡ digitsOf v
+        own (Decimal u) e t = decimal-string (textIn l p) u e .string ∙ ap digitsOf (eqb-true u v t)
+        own (Hexadecimal u) e t = absurd (true≢false (sym t))
+        own Another e t = absurd (true≢false (sym t))
+
+        go : (b f : Bool) → (f ≡ true → textIn l p ≡ digitsOf v) → only (string (digitsOf v)) ≡ keyEntry l c q (cond b (cond f (formIn p) (OtherForm v)) alone)
+        go true true o = ap (λ (x : List ℕ). only (string x)) (sym (o refl)) ∙ form-entry c q p
+        go true false o = refl
+        go false f o = a
+
+    beside-counts : keyCounts alone ≡ counts 1 0 0 (keyRefusal alone) → keyCounts (besideForm l v alone p) ≡ counts 1 0 0 (keyRefusal (besideForm l v alone p))
+    unfolding besideForm keyCounts
+    beside-counts a = go (standing p) (isStringOf v (spelledAs (textIn l p)))
+      where
+        go : (b f : Bool) → keyCounts (cond b (cond f (formIn p) (OtherForm v)) alone) ≡ counts 1 0 0 (keyRefusal (cond b (cond f (formIn p) (OtherForm v)) alone))
+        go true true = form-counts p
+        go true false = refl
+        go false f = a
+
+  -- a literal by what its spelling is
+  abbrev refusalBy : Option (List ℕ) → Part → ℕ
+  refusalBy o p = elim o [ some s ↦ cond (standing p && not (sameNumbers (textIn l p) s)) 11 0 | Option.none ↦ cond (standing p) 0 6 ]
+
+  abbrev textBy : Option (List ℕ) → Part → List ℕ
+  textBy o p = elim o [ some s ↦ s | Option.none ↦ textIn l p ]
+
+  -- what the name of a spelling says of it
+  abbrev Named : Spelling → Part → Type 0
+  Named (Decimal v) s = (v ≤ highestNumber) × (textIn l s ≡ digitsOf v) × (standing s ≡ true)
+  Named (Hexadecimal v) s = v ≤ highestNumber
+  Named Another s = Unit {0}
+
+  by-refusal : (x : Spelling) (s p : Part) → Named x s → refusalBy (promisedBy x) p ≡ keyRefusal (literalBy l x s p)
+  unfolding literalBy
+  by-refusal (Decimal v) s p h = beside-refusal v (h .0) (formIn s) p (sym (form-refusal s) ∙ ap (λ (b : Bool). cond b 0 6) (h .2))
+  by-refusal (Hexadecimal v) s p h = beside-refusal v h (variants.Number v) p refl
+  by-refusal Another s p h = form-refusal p
+
+  by-entry : (x : Spelling) (s p : Part) → Named x s → (c : Context) (q : Node) → only (string (textBy (promisedBy x) p)) ≡ keyEntry l c q (literalBy l x s p)
+  unfolding literalBy
+  by-entry (Decimal v) s p h c q = beside-entry v (h .0) (formIn s) p c q (ap (λ (x : List ℕ). only (string x)) (sym (h .1)) ∙ form-entry c q s)
+  by-entry (Hexadecimal v) s p h c q = beside-entry v h (variants.Number v) p c q refl
+  by-entry Another s p h c q = form-entry c q p
+
+  by-counts : (x : Spelling) (s p : Part) → Named x s → keyCounts (literalBy l x s p) ≡ counts 1 0 0 (keyRefusal (literalBy l x s p))
+  unfolding literalBy keyCounts
+  by-counts (Decimal v) s p h = beside-counts v (h .0) (formIn s) p (form-counts s)
+  by-counts (Hexadecimal v) s p h = beside-counts v h (variants.Number v) p refl
+  by-counts Another s p h = form-counts p
+
+  spelled-named : (s : Part) → Named (spelledAs (textIn l s)) s
+  spelled-named s = go (spelledAs (textIn l s)) refl (spelled-low (textIn l s))
+    where
+      go : (x : Spelling) → spelledAs (textIn l s) ≡ x → Low x → Named x s
+      go (Decimal v) e h = (h, decimal-string (textIn l s) v e .string, decimal-stands s v e)
+      go (Hexadecimal v) e h = h
+      go Another e h = tt
 
 module _ (l : List ℕ) (d at : ℕ) where
   abbrev k : Node
   k = lookNode l d at .value
 
-  lacks-part : keySort k ≡ literal → lacksForm k ≡ not (standing l (partAt l d at 2))
-  unfolding lacksForm
-  lacks-part s = rw (is-literal k s) (ap not (stands-part l d at 2))
+  -- what its spelling is, if it is a number
+  abbrev pub spellingHere : Spelling
+  spellingHere = cond (eqb (numberAt 0 k) 2) (spelledAs (textIn l (partAt l d at 1))) Another
+
+  named-here : Named l spellingHere (partAt l d at 1)
+  named-here = by-test (eqb (numberAt 0 k) 2) (λ e. rw e (spelled-named l (partAt l d at 1))) (λ e. rw e tt)
+
+  promised-here : promised k ≡ promisedBy spellingHere
+  unfolding promised
+  promised-here =
+      by-test (eqb (numberAt 0 k) 2)
+      (λ e. rw e (ap numberString (text-part l d at 1) ∙ promised-by (textIn l (partAt l d at 1))))
+      (λ e. rw e)
+
+  literal-refusal : literalRefusal k ≡ keyRefusal (literalAt l d at)
+  unfolding literalRefusal literalAt literalIn
+  literal-refusal =
+      ap (λ (o : Option (List ℕ)). elim o [ some s ↦ cond (stands 2 k && not (sameNumbers (textAt 2 k) s)) 11 0 | Option.none ↦ cond (stands 2 k) 0 6 ]) promised-here
+      ∙ ap₂
+      (λ (b : Bool) (t : List ℕ). elim (promisedBy spellingHere) [ some s ↦ cond (b && not (sameNumbers t s)) 11 0 | Option.none ↦ cond b 0 6 ])
+      (stands-part l d at 2) (text-part l d at 2)
+      ∙ by-refusal l spellingHere (partAt l d at 1) (partAt l d at 2) named-here
+
+  literal-entry : (c : Context) (q : Node) → only (string (literalText k)) ≡ keyEntry l c q (literalAt l d at)
+  unfolding literalText literalAt literalIn
+  literal-entry c q =
+      ap (λ (o : Option (List ℕ)). only (string (elim o [ some s ↦ s | Option.none ↦ textAt 2 k ]))) promised-here
+      ∙ ap (λ (t : List ℕ). only (string (elim (promisedBy spellingHere) [ some s ↦ s | Option.none ↦ t ]))) (text-part l d at 2)
+      ∙ by-entry l spellingHere (partAt l d at 1) (partAt l d at 2) named-here c q
+
+  literal-counts : keyCounts (literalAt l d at) ≡ counts 1 0 0 (keyRefusal (literalAt l d at))
+  unfolding literalAt literalIn
+  literal-counts = by-counts l spellingHere (partAt l d at 1) (partAt l d at 2) named-here
+
+  refused-literal : keySort k ≡ literal → keys.keyRefusal k ≡ literalRefusal k
+  unfolding keys.keyRefusal
+  refused-literal s = rw (is-literal k s)
+
+  refused-other : (keySort k ≡ literal → ⊥) → keys.keyRefusal k ≡ 0
+  unfolding keys.keyRefusal
+  refused-other h = by-test (is 22 k) (λ e. absurd (h (sort-literal k (literal-kind k e)))) (λ e. rw e)
 
   name-counts : (p : Part) → keyCounts (nameIn p) ≡ counts 1 0 0 0
   unfolding keyCounts nameIn
@@ -197,21 +445,13 @@ module _ (l : List ℕ) (d at : ℕ) where
   name-counts Number = refl
   name-counts Missing = refl
 
-  form-counts : (p : Part) → keyCounts (formIn p) ≡ counts 1 0 0 (cond (not (standing l p)) 1 0)
-  unfolding keyCounts formIn
-  form-counts (One q) = refl
-  form-counts (Many h n p) = refl
-  form-counts (Text p n) = refl
-  form-counts Number = refl
-  form-counts Missing = refl
-
   -- what a key adds to the counts, by what it becomes and by the definition
   pub counts-are : keyCounts (keyAt l d at) ≡ keyTally k
   unfolding keyAt keyTally keyCounts
   counts-are =
       by-sort (keySort k)
       (λ s. rw s (name-counts (partAt l d at 0)))
-      (λ s. rw s (form-counts (partAt l d at 2) ∙ ap (λ (b : Bool). counts 1 0 0 (cond b 1 0)) (sym (lacks-part s))))
+      (λ s. rw s (literal-counts ∙ ap (counts 1 0 0) (sym literal-refusal ∙ sym (refused-literal s))))
       (λ s. rw s)
       (λ s. rw s)
       (λ s. rw s)
@@ -227,14 +467,6 @@ module _ (l : List ℕ) (d at : ℕ) where
   entry-name c q Number = refl
   entry-name c q Missing = refl
 
-  entry-form : (c : Context) (q : Node) (p : Part) → only (string (textIn l p)) ≡ keyEntry l c q (formIn p)
-  unfolding formIn
-  entry-form c q (One x) = refl
-  entry-form c q (Many h n p) = refl
-  entry-form c q (Text p n) = refl
-  entry-form c q Number = refl
-  entry-form c q Missing = refl
-
   -- the entry that it adds
   pub entry-is : (c : Context) (q : Node) → key q ≡ k → excludedKey c q ≡ keyEntry l c q (keyAt l d at)
   unfolding excludedKey keyAt
@@ -242,41 +474,45 @@ module _ (l : List ℕ) (d at : ℕ) where
       let s : keySort (key q) ≡ keySort k = ap keySort e in
       by-sort (keySort k)
       (λ w. rw (s, w, excludedKey) (ap (λ (x : Node). only (string (keyText x))) e ∙ ap (λ (x : List ℕ). only (string x)) (text-name k w ∙ text-part l d at 0) ∙ entry-name c q (partAt l d at 0)))
-      (λ w. rw (s, w, excludedKey) (ap (λ (x : Node). only (string (keyText x))) e ∙ ap (λ (x : List ℕ). only (string x)) (text-literal k w ∙ text-part l d at 2) ∙ entry-form c q (partAt l d at 2)))
+      (λ w. rw (s, w, excludedKey) (ap (λ (x : Node). only (string (keyText x))) e ∙ ap (λ (x : List ℕ). only (string x)) (text-literal k w) ∙ literal-entry c q))
       (λ w. rw (s, w, excludedKey))
       (λ w. rw (s, w, excludedKey))
       (λ w. rw (s, w, excludedKey))
       (λ w. rw (s, w, excludedKey))
+
+  name-refusal : (p : Part) → 0 ≡ keyRefusal (nameIn p)
+  unfolding nameIn
+  name-refusal (One q) = refl
+  name-refusal (Many h n p) = refl
+  name-refusal (Text p n) = refl
+  name-refusal Number = refl
+  name-refusal Missing = refl
 
   -- the refusal that it meets
-  pub refusal-is : lacksForm k ≡ eqb (keyRefusal (keyAt l d at)) 6
-  unfolding keyAt lacksForm formIn nameIn
-  refusal-is = go (is 22 k) refl
+  pub refusal-is : keys.keyRefusal k ≡ keyRefusal (keyAt l d at)
+  unfolding keyAt
+  refusal-is =
+      by-sort (keySort k)
+      (λ s. rw s (none (λ w. let z : _≡_ {A = ℕ} 0 1 = code (sym s ∙ w) in absurd (omega arith)) ∙ name-refusal (partAt l d at 0)))
+      (λ s. rw s (refused-literal s ∙ literal-refusal))
+      (λ s. rw s (none (λ w. let z : _≡_ {A = ℕ} 2 1 = code (sym s ∙ w) in absurd (omega arith))))
+      (λ s. rw s (none (λ w. let z : _≡_ {A = ℕ} 3 1 = code (sym s ∙ w) in absurd (omega arith))))
+      (λ s. rw s (none (λ w. let z : _≡_ {A = ℕ} 4 1 = code (sym s ∙ w) in absurd (omega arith))))
+      (λ s. rw s (none (λ w. let z : _≡_ {A = ℕ} 5 1 = code (sym s ∙ w) in absurd (omega arith))))
     where
-      of-form : (p : Part) → not (standing l p) ≡ eqb (keyRefusal (formIn p)) 6
-      of-form (One q) = refl
-      of-form (Many h n p) = refl
-      of-form (Text p n) = refl
-      of-form Number = refl
-      of-form Missing = refl
+      none : (keySort k ≡ literal → ⊥) → keys.keyRefusal k ≡ 0
+      none = refused-other
 
-      of-name : (p : Part) → false ≡ eqb (keyRefusal (nameIn p)) 6
-      of-name (One q) = refl
-      of-name (Many h n p) = refl
-      of-name (Text p n) = refl
-      of-name Number = refl
-      of-name Missing = refl
+      sortCode : keys.Key → ℕ
+      sortCode name = 0
+      sortCode literal = 1
+      sortCode template = 2
+      sortCode private = 3
+      sortCode again = 4
+      sortCode other = 5
 
-      go : (b : Bool) → is 22 k ≡ b → b && not (stands 2 k) ≡ eqb (keyRefusal (keyBy (keySort k) (partAt l d at 0) (partAt l d at 2))) 6
-      go true e = rw (sort-literal k (literal-kind k e)) (ap not (stands-part l d at 2) ∙ of-form (partAt l d at 2))
-      go false e =
-          by-sort (keySort k)
-          (λ s. rw s (of-name (partAt l d at 0)))
-          (λ s. absurd (true≢false (sym (is-literal k s) ∙ e)))
-          (λ s. rw s)
-          (λ s. rw s)
-          (λ s. rw s)
-          (λ s. rw s)
+      code : {a b : keys.Key} → a ≡ b → sortCode a ≡ sortCode b
+      code e = ap sortCode e
 
 -- what is promised of the key at a position
 pub becomes : (l : List ℕ) (d at : ℕ) (r : Key) → r ≡ keyAt l d at → Becomes l d at r
@@ -284,7 +520,7 @@ becomes l d at r e =
     record {
       variant = e;
       entry = λ c q w. entry-is l d at c q w ∙ ap (keyEntry l c q) (sym e);
-      refusal = refusal-is l d at ∙ ap (λ (x : Key). eqb (keyRefusal x) 6) (sym e);
+      refusal = refusal-is l d at ∙ ap keyRefusal (sym e);
     }
 
 -- ---- the counts of the keys of an object pattern
@@ -293,7 +529,7 @@ abbrev pub keyOfItem : Node → Tally
 keyOfItem q = keyTally (key q)
 
 tally-blank : Blank keyTally
-unfolding keyTally lacksForm keySort is stands Rattle.lowering.specs.Parts.standsIn
+unfolding keyTally keys.keyRefusal keySort is stands Rattle.lowering.specs.Parts.standsIn
 tally-blank at = refl
 
 module _ (l : List ℕ) where
@@ -383,23 +619,15 @@ pub primitive-law : (p : Node) (t : Tally) → t ≡ keysOf p → eqb (t .comput
 unfolding keysOf allPrimitive
 primitive-law p t e = ap (λ (x : Tally). eqb (x .computed) 0) e ∙ computed-none (properties p)
 
-pub more-than : (x : ℕ) → ltb 0 x ≡ not (eqb x 0)
-more-than zero = refl
-more-than (suc x) = rw (lt-ltb 0 (suc x) (omega arith), some-not x)
+refusal-first : (is : Items) → keysIn is .refusal ≡ first (λ q. keys.keyRefusal (key q)) is
+unfolding sum first both
+refusal-first none = refl
+refusal-first (hole is) = refusal-first is
+refusal-first (item q is) = ap₂ orElse (refusing-is (key q)) (refusal-first is)
 
-lacking-some : (is : Items) → not (eqb (keysIn is .lacking) 0) ≡ any (λ q. lacksForm (key q)) is
-unfolding sum any both
-lacking-some none = refl
-lacking-some (hole is) = lacking-some is
-lacking-some (item q is) = ap (λ (x : ℕ). not (eqb (limited (x + keysIn is .lacking)) 0)) (lacking-is (key q)) ∙ go (lacksForm (key q)) (lacking-some is)
-  where
-    go : (b : Bool) → not (eqb (keysIn is .lacking) 0) ≡ any (λ q. lacksForm (key q)) is → not (eqb (limited (cond b 1 0 + keysIn is .lacking)) 0) ≡ b || any (λ q. lacksForm (key q)) is
-    go true e = ap not (limited-some (keysIn is .lacking))
-    go false e = ap not (limited-none (keysIn is .lacking)) ∙ e
-
-pub lacking-law : (p : Node) (t : Tally) → t ≡ keysOf p → ltb 0 (t .lacking) ≡ anyLacksForm p
-unfolding keysOf anyLacksForm
-lacking-law p t e = ap (λ (x : Tally). ltb 0 (x .lacking)) e ∙ more-than (keysIn (properties p) .lacking) ∙ lacking-some (properties p)
+pub refusal-law : (p : Node) (t : Tally) → t ≡ keysOf p → t .refusal ≡ keysRefusal p
+unfolding keysOf keysRefusal
+refusal-law p t e = ap (λ (x : Tally). x .refusal) e ∙ refusal-first (properties p)
 
 -- ---- how many excluded keys and key temporaries there are, in any context
 

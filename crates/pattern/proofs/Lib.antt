@@ -2,6 +2,7 @@ pub mod Fields
 pub mod Places
 pub mod Below
 pub mod Searches
+pub mod NumberCases
 pub mod CappedSums
 pub mod KeyCases
 pub mod RestsFound

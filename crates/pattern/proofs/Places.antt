@@ -1,10 +1,10 @@
 -- The parts of a node that stands at a position are what its fields' positions say: for callers of the functions in parts.
 -- Assumes nothing.
-use mathlib.Core.Path.{_≡_, refl, sym, ap, _∙_}
-use mathlib.Core.Bool.{Bool, true, false, cond, _&&_}
+use mathlib.Core.Path.{_≡_, refl, sym, ap, subst, _∙_}
+use mathlib.Core.Bool.{Bool, true, false, cond, _&&_, true≢false}
 use mathlib.Core.List.{List, []}
 use mathlib.Core.Option.{Option, some, Option·map}
-use Prim.Native.Nat.{ℕ, zero, suc, _+_, _-_, _<_, _≤_}
+use Prim.Native.Nat.{ℕ, zero, suc, _+_, _-_, _%_, _<_, _≤_}
 use native.Mathlib.Omega.{arith}
 use native.Mathlib.Decide.{decLt}
 use lib.Dec.{eqb}
@@ -19,14 +19,14 @@ use Rattle.tree.specs.Grammar.{Sort, Field, fieldsOf, kinds}
 use Rattle.tree.specs.Grammar.Sort.{child, chosen, many, gaps, text, byte, mark, number}
 use Rattle.tree.specs.Read.{byteAt, wideAt}
 use Rattle.tree.specs.Look as look
-use Rattle.tree.specs.Look.{onward, lookItems, lookField, lookNode, seekFields}
+use Rattle.tree.specs.Look.{Seen, onward, lookItems, lookField, lookSlot, lookFields, lookNode, seekFields}
 use Rattle.tree.proofs.Look.{piece-law}
-use Rattle.lowering.specs.Parts.{nothing, kind, pieceIn, standsIn, asNode, asItems, asText, nodeAt, itemsAt, textAt, stands}
+use Rattle.lowering.specs.Parts.{nothing, kind, pieceIn, standsIn, asNode, asItems, asText, asNumber, nodeAt, itemsAt, textAt, numberAt, stands}
 use Rattle.pattern.specs.declared.parts.Part.{Part}
 use Rattle.pattern.specs.declared.parts.Part.the-variants.{One, Many, Text, Number, Missing}
 use Rattle.pattern.specs.declared.parts.Place.{Place}
 use Rattle.pattern.specs.declared.parts.Run.{Run}
-use Rattle.pattern.specs.Parts.{sortAt, textOf, partOf, partIn, partAt, itemPlace, placeOf, runOf, nodeHere, itemsHere}
+use Rattle.pattern.specs.Parts.{sortAt, textOf, partOf, partIn, partAt, textIn, standing, itemPlace, placeOf, runOf, nodeHere, itemsHere}
 
 -- ---- fields with and without a default
 
@@ -131,14 +131,6 @@ module _ (l : List ℕ) where
 
   -- ---- the text in a field, and whether a field stands
 
-  -- past the end there is nothing to take
-  abbrev pub textIn : Part → List ℕ
-  textIn (One q) = []
-  textIn (Many h n p) = []
-  textIn (Text p n) = take n (drop p l)
-  textIn Number = []
-  textIn Missing = []
-
   clamped : (q w : ℕ) → take w (drop (q + 2) l) ≡ take (onward l q (2 + w) - onward l q 2) (drop (onward l q 2) l)
   unfolding onward
   clamped q w = elim (decLt (length l) (q + 2)) [
@@ -155,7 +147,7 @@ module _ (l : List ℕ) where
     ]
   ]
 
-  text-of : (d : ℕ) (s : Sort) (q : ℕ) → asText (lookField l (lookNode l d) s q .value) ≡ textIn (partOf l s q)
+  text-of : (d : ℕ) (s : Sort) (q : ℕ) → asText (lookField l (lookNode l d) s q .value) ≡ textIn l (partOf l s q)
   unfolding lookField partOf textOf
   text-of d (child p) q = refl
   text-of d (chosen p r) q = refl
@@ -166,11 +158,11 @@ module _ (l : List ℕ) where
   text-of d mark q = refl
   text-of d number q = refl
 
-  text-opt : (d : ℕ) (s : Sort) (o : Option ℕ) → asText (orNone (Option·map (λ q. lookField l (lookNode l d) s q .value) o)) ≡ textIn (partIn l s o)
+  text-opt : (d : ℕ) (s : Sort) (o : Option ℕ) → asText (orNone (Option·map (λ q. lookField l (lookNode l d) s q .value) o)) ≡ textIn l (partIn l s o)
   text-opt d s Option.none = refl
   text-opt d s (some q) = text-of d s q
 
-  pub text-part : (d at i : ℕ) → textAt i (lookNode l d at .value) ≡ textIn (partAt l d at i)
+  pub text-part : (d at i : ℕ) → textAt i (lookNode l d at .value) ≡ textIn l (partAt l d at i)
   unfolding textAt lookNode partAt pieceIn
   text-part zero at i = refl
   text-part (suc d) at i =
@@ -178,13 +170,6 @@ module _ (l : List ℕ) where
       let m : ℕ = byteAt l (onward l at 1) in
       ap asText (piece-or _ i ∙ ap orNone (piece-law l (λ q. lookNode l d q) fs m (onward l at 2) i))
       ∙ text-opt d (sortAt fs i) (seekFields l (λ q. lookNode l d q) fs m (onward l at 2) i)
-
-  abbrev pub standing : Part → Bool
-  standing (One q) = true
-  standing (Many h n p) = true
-  standing (Text p n) = true
-  standing Number = true
-  standing Missing = false
 
   stands-of : (s : Sort) (q : ℕ) → true ≡ standing (partOf l s q)
   unfolding partOf textOf
@@ -326,3 +311,39 @@ module _ (l : List ℕ) where
   pub no-levels : (d at : ℕ) → d ≡ 0 → lookNode l d at .value ≡ node at 0 done
   unfolding lookNode
   no-levels d at z = rw z
+
+-- ---- the byte in the first field of a literal
+
+not-there : (fs : Fields) → standsIn fs 0 ≡ false → asNumber (pieceIn fs 0) ≡ 0
+unfolding standsIn pieceIn
+not-there done h = refl
+not-there (absent fs) h = refl
+not-there (field p fs) h = absurd (true≢false h)
+
+module _ (l : List ℕ) where
+  pub sort-absent : (d at : ℕ) → stands 0 (lookNode l d at .value) ≡ false → 0 ≡ numberAt 0 (lookNode l d at .value)
+  unfolding stands numberAt
+  sort-absent d at h = go (lookNode l d at .value) h
+    where
+      go : (n : Node) → stands 0 n ≡ false → 0 ≡ numberAt 0 n
+      go (node p k fs) h = sym (not-there fs h)
+
+  first-byte : (R : ℕ → Seen Node) (low high bit at : ℕ) (fs : Fields) → standsIn (lookSlot l R (byte low high) bit at .value fs) 0 ≡ true → byteAt l at ≡ asNumber (pieceIn (lookSlot l R (byte low high) bit at .value fs) 0)
+  unfolding lookSlot lookField standsIn pieceIn
+  first-byte R low high zero at fs h = absurd (true≢false (sym h))
+  first-byte R low high (suc bit) at fs h = refl
+
+  pub sort-there : (d at : ℕ) → byteAt l at ≡ 22 → stands 0 (lookNode l d at .value) ≡ true → byteAt l (onward l at 2) ≡ numberAt 0 (lookNode l d at .value)
+  unfolding stands numberAt lookNode lookFields fieldsOf standsIn kinds
+  sort-there zero at k h = absurd (true≢false (sym h))
+  sort-there (suc d) at k h = go (byteAt l at) k h
+    where
+      go : (kind : ℕ) → kind ≡ 22
+          → standsIn (lookFields l (λ q. lookNode l d q) (fieldsOf kind) (byteAt l (onward l at 1)) (onward l at 2) .value) 0 ≡ true
+          → byteAt l (onward l at 2) ≡ asNumber (pieceIn (lookFields l (λ q. lookNode l d q) (fieldsOf kind) (byteAt l (onward l at 1)) (onward l at 2) .value) 0)
+      go kind e =
+          subst
+          (λ (k : ℕ). standsIn (lookFields l (λ q. lookNode l d q) (fieldsOf k) (byteAt l (onward l at 1)) (onward l at 2) .value) 0 ≡ true
+          → byteAt l (onward l at 2) ≡ asNumber (pieceIn (lookFields l (λ q. lookNode l d q) (fieldsOf k) (byteAt l (onward l at 1)) (onward l at 2) .value) 0))
+          (sym e)
+          (first-byte (λ q. lookNode l d q) 1 6 (byteAt l (onward l at 1) % 2) (onward l at 2) _)

@@ -9,18 +9,24 @@ use Rattle.tree.specs.Tree.{Node, Items}
 use Rattle.tree.specs.Tree.Items.{none}
 use Rattle.tree.specs.Read.{byteAt}
 use Rattle.tree.specs.Look.{lookNode}
-use Rattle.lowering.specs.Parts.{only}
+use Rattle.lowering.specs.Parts.{only, numberAt}
 use Rattle.lowering.specs.Made.{Context, string, keyOf}
-use Rattle.lowering.specs.Patterns.{properties, key}
-use Rattle.lowering.specs.Keys.{keySort, lacksForm, excludedKey}
+use Rattle.lowering.specs.Patterns as patterns
+use Rattle.lowering.specs.Patterns.{properties}
+use Rattle.lowering.specs.Keys.{keySort, excludedKey}
+use Rattle.lowering.specs.Numbers.{digitsOf}
 use Rattle.lowering.specs.Keys as lowering
 use Rattle.pattern.specs.declared.parts.Part.{Part}
 use Rattle.pattern.specs.declared.parts.Part.the-variants.{One, Many, Text, Number, Missing}
 use Rattle.pattern.specs.declared.keys.Key.{Key}
-use Rattle.pattern.specs.declared.keys.Key.the-variants.{Name, Literal, NoForm, Template, Private, Again, Other}
+use Rattle.pattern.specs.declared.keys.Key.the-variants as key
+use Rattle.pattern.specs.declared.keys.Key.the-variants.{Name, Literal, OtherForm, NoForm, Template, Private, Again, Other}
+use Rattle.pattern.specs.declared.numbers.Spelling.{Spelling}
+use Rattle.pattern.specs.declared.numbers.Spelling.the-variants.{Decimal, Hexadecimal, Another}
 use Rattle.pattern.specs.declared.tally.Tally.{Tally}
 use Rattle.pattern.specs.Tally.{zero, both, sum}
-use Rattle.pattern.specs.Parts.{partAt}
+use Rattle.pattern.specs.Parts.{partAt, textIn, standing}
+use Rattle.pattern.specs.Numbers.{spelledAs, isStringOf}
 
 -- ---- the variants
 
@@ -40,23 +46,44 @@ formIn (Text p n) = Literal p n
 formIn Number = Literal 0 0
 formIn Missing = NoForm
 
--- a key of each sort, by what its name field and its form field hold
-abbrev pub keyBy : lowering.Key → Part → Part → Key
-keyBy lowering.Key.name p q = nameIn p
-keyBy lowering.Key.literal p q = formIn q
-keyBy lowering.Key.template p q = Template
-keyBy lowering.Key.private p q = Private
-keyBy lowering.Key.again p q = Again
-keyBy lowering.Key.other p q = Other
+module _ (tree : List ℕ) where
+  -- a number of the value v beside its form: the form if it is the string of v; without a form, the other
+  unfoldable pub besideForm : ℕ → Key → Part → Key
+  besideForm v alone p = cond (standing p) (cond (isStringOf v (spelledAs (textIn tree p))) (formIn p) (OtherForm v)) alone
+
+  -- a literal, by what its spelling is as a number; a decimal spelling is its own string
+  unfoldable pub literalBy : Spelling → Part → Part → Key
+  literalBy (Decimal v) s p = besideForm v (formIn s) p
+  literalBy (Hexadecimal v) s p = besideForm v (key.Number v) p
+  literalBy Another s p = formIn p
+
+  -- a literal, by its sort, its spelling and its form
+  unfoldable pub literalIn : ℕ → Part → Part → Key
+  literalIn sort s p = literalBy (cond (eqb sort 2) (spelledAs (textIn tree s)) Another) s p
+
+  -- the literal at a position
+  unfoldable pub literalAt : ℕ → ℕ → Key
+  literalAt d at = literalIn (numberAt 0 (lookNode tree d at .value)) (partAt tree d at 1) (partAt tree d at 2)
+
+-- a key of each sort, by what its name field holds, and what it is if it is a literal
+abbrev pub keyBy : lowering.Key → Part → Key → Key
+keyBy lowering.Key.name p k = nameIn p
+keyBy lowering.Key.literal p k = k
+keyBy lowering.Key.template p k = Template
+keyBy lowering.Key.private p k = Private
+keyBy lowering.Key.again p k = Again
+keyBy lowering.Key.other p k = Other
 
 -- the key at a position
 unfoldable pub keyAt : List ℕ → ℕ → ℕ → Key
-keyAt tree d at = keyBy (keySort (lookNode tree d at .value)) (partAt tree d at 0) (partAt tree d at 2)
+keyAt tree d at = keyBy (keySort (lookNode tree d at .value)) (partAt tree d at 0) (literalAt tree d at)
 
 -- the number of the refusal, or 0
 abbrev pub keyRefusal : Key → ℕ
 keyRefusal (Name p n) = 0
 keyRefusal (Literal p n) = 0
+keyRefusal (key.Number v) = 0
+keyRefusal (OtherForm v) = 11
 keyRefusal NoForm = 6
 keyRefusal Template = 0
 keyRefusal Private = 0
@@ -67,50 +94,54 @@ keyRefusal Other = 0
 abbrev pub keyEntry : List ℕ → Context → Node → Key → Items
 keyEntry tree c q (Name p n) = only (string (take n (drop p tree)))
 keyEntry tree c q (Literal p n) = only (string (take n (drop p tree)))
+keyEntry tree c q (key.Number v) = only (string (digitsOf v))
+keyEntry tree c q (OtherForm v) = only (string (digitsOf v))
 keyEntry tree c q NoForm = only (string [])
-keyEntry tree c q Template = only (key q)
+keyEntry tree c q Template = only (patterns.key q)
 keyEntry tree c q Private = none
-keyEntry tree c q Again = only (key q)
+keyEntry tree c q Again = only (patterns.key q)
 keyEntry tree c q Other = only (keyOf c q)
 
 -- what is promised of the key at a position: its variant, the entry of each property that has it, and the refusal
 pub record Becomes (tree : List ℕ) (d at : ℕ) (r : Key) : Type 0 where
   pub variant : r ≡ keyAt tree d at
-  pub entry : (c : Context) (q : Node) → key q ≡ lookNode tree d at .value → excludedKey c q ≡ keyEntry tree c q r
-  pub refusal : lacksForm (lookNode tree d at .value) ≡ eqb (keyRefusal r) 6
+  pub entry : (c : Context) (q : Node) → patterns.key q ≡ lookNode tree d at .value → excludedKey c q ≡ keyEntry tree c q r
+  pub refusal : lowering.keyRefusal (lookNode tree d at .value) ≡ keyRefusal r
 
 -- ---- counts
 
 abbrev pub counts : ℕ → ℕ → ℕ → ℕ → Tally
-counts excluded temporaries computed lacking =
-    record { excluded = excluded; temporaries = temporaries; computed = computed; lacking = lacking; objects = 0; patterns = 0 }
+counts excluded temporaries computed refusal =
+    record { excluded = excluded; temporaries = temporaries; computed = computed; refusal = refusal; objects = 0; patterns = 0 }
 
--- excluded keys, temporaries, keys that are not primitive, literals without a form
+-- excluded keys, temporaries, keys that are not primitive; the refusal
 unfoldable pub keyCounts : Key → Tally
 keyCounts (Name p n) = counts 1 0 0 0
 keyCounts (Literal p n) = counts 1 0 0 0
-keyCounts NoForm = counts 1 0 0 1
+keyCounts (key.Number v) = counts 1 0 0 0
+keyCounts (OtherForm v) = counts 1 0 0 11
+keyCounts NoForm = counts 1 0 0 6
 keyCounts Template = counts 1 0 0 0
 keyCounts Private = counts 0 0 0 0
 keyCounts Again = counts 1 0 1 0
 keyCounts Other = counts 1 1 1 0
 
--- the same of a key of each sort, by whether it lacks a form
-abbrev pub countsBy : lowering.Key → Bool → Tally
-countsBy lowering.Key.name b = counts 1 0 0 0
-countsBy lowering.Key.literal b = counts 1 0 0 (cond b 1 0)
-countsBy lowering.Key.template b = counts 1 0 0 0
-countsBy lowering.Key.private b = counts 0 0 0 0
-countsBy lowering.Key.again b = counts 1 0 1 0
-countsBy lowering.Key.other b = counts 1 1 1 0
+-- the same of a key of each sort, by its refusal if it is a literal
+abbrev pub countsBy : lowering.Key → ℕ → Tally
+countsBy lowering.Key.name r = counts 1 0 0 0
+countsBy lowering.Key.literal r = counts 1 0 0 r
+countsBy lowering.Key.template r = counts 1 0 0 0
+countsBy lowering.Key.private r = counts 0 0 0 0
+countsBy lowering.Key.again r = counts 1 0 1 0
+countsBy lowering.Key.other r = counts 1 1 1 0
 
 unfoldable pub keyTally : Node → Tally
-keyTally k = countsBy (keySort k) (lacksForm k)
+keyTally k = countsBy (keySort k) (lowering.keyRefusal k)
 
 -- of all keys of the object pattern p
 unfoldable pub keysOf : Node → Tally
-keysOf p = sum zero both (λ q. keyTally (key q)) (properties p)
+keysOf p = sum zero both (λ q. keyTally (patterns.key q)) (properties p)
 
 -- of an item of its list; a hole adds nothing
 unfoldable pub itemKeys : List ℕ → Bool → ℕ → ℕ → Tally
-itemKeys tree holes d at = cond (holes && eqb (byteAt tree at) 0) zero (keyTally (key (lookNode tree d at .value)))
+itemKeys tree holes d at = cond (holes && eqb (byteAt tree at) 0) zero (keyTally (patterns.key (lookNode tree d at .value)))

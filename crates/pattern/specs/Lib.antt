@@ -1,4 +1,5 @@
 pub mod Parts
+pub mod Numbers
 pub mod Tally
 pub mod Keys
 pub mod Objects

@@ -11,7 +11,7 @@ use Rattle.pattern.specs.Keys.{keysOf}
 -- an object itself, by whether it has no properties
 unfoldable pub objectItself : Bool → Tally
 objectItself empty =
-    record { excluded = 0; temporaries = 0; computed = 0; lacking = 0; objects = 1; patterns = cond empty 0 1 }
+    record { excluded = 0; temporaries = 0; computed = 0; refusal = 0; objects = 1; patterns = cond empty 0 1 }
 
 -- an object with rest: its keys and itself
 unfoldable pub objectTally : Node → Tally

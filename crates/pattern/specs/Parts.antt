@@ -1,10 +1,10 @@
 -- What the fields of a node hold, as positions: a node's position, a list's length and first item, a text's bytes.
 use Prim.Native.Nat.{ℕ, zero, suc, _+_, _-_}
 use mathlib.Core.Bool.{Bool, true, false, cond, _&&_}
-use mathlib.Core.List.{List}
+use mathlib.Core.List.{List, []}
 use mathlib.Core.Option.{Option, some}
 use lib.Dec.{eqb}
-use lib.ListN.{getD}
+use lib.ListN.{getD, take, drop}
 use Rattle.tree.specs.Tree.{Node, Items}
 use Rattle.tree.specs.Tree.Items.{none}
 use Rattle.tree.specs.Grammar.{Sort, Field, fieldsOf}
@@ -48,6 +48,14 @@ module _ (tree : List ℕ) where
       partIn (sortAt (fieldsOf (byteAt tree at)) i)
       (seekFields tree (lookNode tree d) (fieldsOf (byteAt tree at)) (byteAt tree (onward tree at 1)) (onward tree at 2) i)
 
+  -- the bytes of a text; past the end there is nothing to take
+  abbrev pub textIn : Part → List ℕ
+  textIn (One q) = []
+  textIn (Many h n p) = []
+  textIn (Text p n) = take n (drop p tree)
+  textIn Number = []
+  textIn Missing = []
+
   -- an item of a list; a hole has no node
   unfoldable pub itemPlace : Bool → ℕ → ℕ → Place
   itemPlace holes d at = record { left = cond (holes && eqb (byteAt tree at) 0) 0 d; at = at }
@@ -59,6 +67,14 @@ module _ (tree : List ℕ) where
   -- the items of a run, with d levels for each
   abbrev pub itemsHere : ℕ → Run → Items
   itemsHere d r = lookItems tree (lookNode tree d) (r .holes) (r .count) (r .from) .value
+
+-- whether a field stands
+abbrev pub standing : Part → Bool
+standing (One q) = true
+standing (Many h n p) = true
+standing (Text p n) = true
+standing Number = true
+standing Missing = false
 
 -- the place of a node that a field holds, of a node with d levels at a position; without levels where it holds none
 unfoldable pub placeOf : ℕ → ℕ → Part → Place

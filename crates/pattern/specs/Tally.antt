@@ -2,6 +2,7 @@
 use Prim.Native.Nat.{ℕ, _+_, min}
 use Rattle.tree.specs.Tree.{Node, Items}
 use Rattle.tree.specs.Tree.Items.{none, hole, item}
+use Rattle.lowering.specs.Parts.{orElse}
 use Rattle.pattern.specs.declared.tally.Tally.{Tally}
 
 -- a count, 65536 for any larger
@@ -9,15 +10,16 @@ unfoldable pub limited : ℕ → ℕ
 limited n = min n 65536
 
 abbrev pub zero : Tally
-zero = record { excluded = 0; temporaries = 0; computed = 0; lacking = 0; objects = 0; patterns = 0 }
+zero = record { excluded = 0; temporaries = 0; computed = 0; refusal = 0; objects = 0; patterns = 0 }
 
+-- two of them, one behind the other: numbers are added, and the first refusal is that of both
 unfoldable pub both : Tally → Tally → Tally
 both a b =
     record {
       excluded = limited (a .excluded + b .excluded);
       temporaries = limited (a .temporaries + b .temporaries);
       computed = limited (a .computed + b .computed);
-      lacking = limited (a .lacking + b .lacking);
+      refusal = orElse (a .refusal) (b .refusal);
       objects = limited (a .objects + b .objects);
       patterns = limited (a .patterns + b .patterns);
     }

@@ -1,4 +1,4 @@
-// How many declarators a declaration becomes, and whether it meets refusal 6.
+// How many declarators a declaration becomes, and the first refusal that it meets at its keys.
 use crate::keys;
 use crate::parts;
 use crate::rests;
@@ -11,12 +11,11 @@ use tree::skip;
 ghost use mathlib.Core.Path.{_≡_};
 ghost use Rattle.tree.specs.Tree.{Node, count};
 ghost use Rattle.tree.specs.Look.{lookNode};
-ghost use Rattle.lowering.specs.Parts.{any, gather, itemsAt};
+ghost use Rattle.lowering.specs.Parts.{gather, itemsAt};
 ghost use Rattle.lowering.specs.Made.{Context};
-ghost use Rattle.lowering.specs.Keys.{anyLacksForm};
-ghost use Rattle.lowering.specs.Declarations.{isLowered, patternDeclarators, declarators, loweredIn, declarationLacksForm};
+ghost use Rattle.lowering.specs.Declarations.{isLowered, patternDeclarators, declarators, declarationRefusal};
 ghost use Rattle.pattern.specs.Tally.{limited};
-ghost use Rattle.pattern.specs.Declarators.{made, itemCount};
+ghost use Rattle.pattern.specs.Declarators.{made, itemCount, declaratorRefusal, itemRefusal};
 
 // The declarators of the objects that were counted: keys, pattern, rest.
 pub fn made(t: Tally) -> usize
@@ -109,36 +108,46 @@ pub fn declaration_becomes(tree: &[u8], left: usize, at: usize) -> usize
     t
 }
 
-// Whether an object whose rest a declarator lowers has a literal key without a form.
-pub fn lacks_form(tree: &[u8], left: usize, at: usize) -> bool
-    ensures { λ r. ⌜ ((c : Context) → r ≡ any anyLacksForm (loweredIn c (lookNode (now (tree .entry)) left at .value))) ⌝ }
+// The first refusal at the keys of the objects whose rest a declarator lowers.
+pub fn refusal(tree: &[u8], left: usize, at: usize) -> u8
+    ensures { λ r. ⌜ ((c : Context) → r ≡ declaratorRefusal c (lookNode (now (tree .entry)) left at .value)) ⌝ }
 {
     if is_lowered(tree, left, at) {
         let p = parts::child(tree, left, at, 0);
-        return rests::below_lacks_form(tree, p.left, p.at);
+        return rests::refusal_below(tree, p.left, p.at);
     }
-    false
+    0
 }
 
-// The same of a declaration: whether it meets refusal 6.
-pub fn declaration_lacks_form(tree: &[u8], left: usize, at: usize) -> bool
-    ensures { λ r. ⌜ ((c : Context) → r ≡ declarationLacksForm c (lookNode (now (tree .entry)) left at .value)) ⌝ }
+// The same of an item of a list; a hole has none.
+pub fn item_refusal(tree: &[u8], holes: bool, left: usize, at: usize) -> u8
+    ensures { λ r. ⌜ ((c : Context) → r ≡ itemRefusal c (now (tree .entry)) holes left at) ⌝ }
+{
+    if holes {
+        if bytes::peek(tree, at) == 0 {
+            return 0;
+        }
+    }
+    refusal(tree, left, at)
+}
+
+// The same of a declaration.
+pub fn declaration_refusal(tree: &[u8], left: usize, at: usize) -> u8
+    ensures { λ r. ⌜ ((c : Context) → r ≡ declarationRefusal c (lookNode (now (tree .entry)) left at .value)) ⌝ }
 {
     if left == 0 {
-        return false;
+        return 0;
     }
     let below = left - 1;
     let run = parts::list(tree, left, at, 2);
     let holes = run.holes;
     let mut n = run.count;
     let mut p = run.from;
+    let mut t = 0;
     while 0 < n {
-        let e = parts::item(tree, holes, below, p);
-        if lacks_form(tree, e.left, e.at) {
-            return true;
-        }
+        t = tally::first(t, item_refusal(tree, holes, below, p));
         p = skip::skip_item(tree, holes, below, p);
         n -= 1;
     }
-    false
+    t
 }

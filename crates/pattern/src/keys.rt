@@ -1,4 +1,6 @@
 // Keys of an object pattern whose rest is taken.
+use crate::numbers;
+use crate::numbers::Spelling;
 use crate::parts;
 use crate::parts::Part;
 use crate::tally;
@@ -6,20 +8,27 @@ use crate::tally::Tally;
 use tree::bytes;
 use tree::skip;
 ghost use mathlib.Core.Path.{_≡_};
+ghost use Rattle.tree.specs.Read.{byteAt};
 ghost use Rattle.tree.specs.Look.{lookNode};
+ghost use Rattle.lowering.specs.Parts.{numberAt};
 ghost use Rattle.tree.specs.Tree.{count};
 ghost use Rattle.lowering.specs.Made.{Context};
-ghost use Rattle.lowering.specs.Keys.{allPrimitive, anyLacksForm, excludedKeys, keyTemporaries};
+ghost use Rattle.lowering.specs.Keys.{allPrimitive, keysRefusal, excludedKeys, keyTemporaries};
 ghost use Rattle.pattern.specs.Tally.{limited};
 ghost use Rattle.lowering.specs.Rests.{hasNoProperties};
-ghost use Rattle.pattern.specs.Keys.{nameIn, formIn, Becomes, counts, keyCounts, keysOf, itemKeys};
+ghost use Rattle.pattern.specs.Parts.{textIn, standing};
+ghost use Rattle.pattern.specs.Numbers.{spelledAs, isStringOf};
+ghost use Rattle.pattern.specs.Keys.{nameIn, formIn, besideForm, literalBy, literalAt, Becomes, counts, keyCounts, keysOf, itemKeys};
 
-// What a key becomes among the excluded keys: a string of the bytes of a name or of a literal's form; that template; the
-// name or temporary read again; a temporary that gets its value. A private key adds nothing. A literal without a form is
-// refusal 6.
+// What a key becomes among the excluded keys: a string of the bytes of a name or of a literal's form, which are also those
+// of a decimal spelling; a string of the digits of a number's value; that template; the name or temporary read again; a
+// temporary that gets its value. A private key adds nothing. A form that is not the string of its number is refusal 11, a
+// literal without a form that is no such number refusal 6.
 pub enum Key {
     Name { from: usize, len: usize },
     Literal { from: usize, len: usize },
+    Number { value: usize },
+    OtherForm { value: usize },
     NoForm,
     Template,
     Private,
@@ -65,6 +74,102 @@ fn formed(p: Part) -> Key
     }
 }
 
+// What a text is as a number.
+fn spelled_in(tree: &[u8], p: Part) -> Spelling
+    ensures { λ r. ⌜ r ≡ spelledAs (textIn (now (tree .entry)) p) ⌝ }
+{
+    match p {
+        Part::Text { from, len } => {
+            let to = skip::step(tree, from, len);
+            if from <= to {
+                return numbers::spelled(&tree[from..to]);
+            }
+            Spelling::Another
+        }
+        Part::One(_) => Spelling::Another,
+        Part::Many {
+            holes: _,
+            count: _,
+            from: _,
+        } => Spelling::Another,
+        Part::Number => Spelling::Another,
+        Part::Missing => Spelling::Another,
+    }
+}
+
+// Whether it is the string of a value.
+fn is_string(s: Spelling, value: usize) -> bool
+    ensures { λ r. ⌜ r ≡ isStringOf value s ⌝ }
+{
+    match s {
+        Spelling::Decimal(v) => v == value,
+        Spelling::Hexadecimal(_) => false,
+        Spelling::Another => false,
+    }
+}
+
+fn standing(p: Part) -> bool
+    ensures { λ r. ⌜ r ≡ standing p ⌝ }
+{
+    match p {
+        Part::One(_) => true,
+        Part::Many {
+            holes: _,
+            count: _,
+            from: _,
+        } => true,
+        Part::Text { from: _, len: _ } => true,
+        Part::Number => true,
+        Part::Missing => false,
+    }
+}
+
+// A number beside its form.
+fn beside_form(tree: &[u8], value: usize, alone: Key, form: Part) -> Key
+    ensures { λ r. ⌜ r ≡ besideForm (now (tree .entry)) value alone form ⌝ }
+{
+    if standing(form) {
+        if is_string(spelled_in(tree, form), value) {
+            return formed(form);
+        }
+        return Key::OtherForm { value: value };
+    }
+    alone
+}
+
+// A literal by what its spelling is.
+fn literal_by(tree: &[u8], s: Spelling, spelling: Part, form: Part) -> Key
+    ensures { λ r. ⌜ r ≡ literalBy (now (tree .entry)) s spelling form ⌝ }
+{
+    match s {
+        Spelling::Decimal(v) => beside_form(tree, v, formed(spelling), form),
+        Spelling::Hexadecimal(v) => beside_form(tree, v, Key::Number { value: v }, form),
+        Spelling::Another => formed(form),
+    }
+}
+
+// The sort of the literal at a position.
+fn literal_sort(tree: &[u8], left: usize, at: usize) -> usize
+    ensures { λ r. ⌜ (byteAt (now (tree .entry)) at ≡ 22 → r ≡ numberAt 0 (lookNode (now (tree .entry)) left at .value)) ⌝ }
+{
+    if parts::stands(tree, left, at, 0) {
+        return bytes::peek(tree, skip::step(tree, at, 2));
+    }
+    0
+}
+
+// The literal that stands at a position.
+fn literal(tree: &[u8], left: usize, at: usize) -> Key
+    ensures { λ r. ⌜ (byteAt (now (tree .entry)) at ≡ 22 → r ≡ literalAt (now (tree .entry)) left at) ⌝ }
+{
+    let spelling = parts::field(tree, left, at, 1);
+    let form = parts::field(tree, left, at, 2);
+    if literal_sort(tree, left, at) == 2 {
+        return literal_by(tree, spelled_in(tree, spelling), spelling, form);
+    }
+    formed(form)
+}
+
 // The key that stands at a position.
 pub fn transform_property_key(tree: &[u8], left: usize, at: usize) -> Key
     ensures { λ r. ⌜ Becomes (now (tree .entry)) left at r ⌝ }
@@ -81,7 +186,7 @@ pub fn transform_property_key(tree: &[u8], left: usize, at: usize) -> Key
             Key::Other
         }
         20 => Key::Again,
-        22 => formed(parts::field(tree, left, at, 2)),
+        22 => literal(tree, left, at),
         23 => {
             let quasis = parts::list(tree, left, at, 0);
             if quasis.count == 1 {
@@ -95,14 +200,14 @@ pub fn transform_property_key(tree: &[u8], left: usize, at: usize) -> Key
     }
 }
 
-fn counted(excluded: usize, temporaries: usize, computed: usize, lacking: usize) -> Tally
-    ensures { λ r. ⌜ r ≡ counts excluded temporaries computed lacking ⌝ }
+fn counted(excluded: usize, temporaries: usize, computed: usize, refusal: u8) -> Tally
+    ensures { λ r. ⌜ r ≡ counts excluded temporaries computed refusal ⌝ }
 {
     Tally {
         excluded: excluded,
         temporaries: temporaries,
         computed: computed,
-        lacking: lacking,
+        refusal: refusal,
         objects: 0,
         patterns: 0,
     }
@@ -115,7 +220,9 @@ pub fn key_counts(k: Key) -> Tally
     match k {
         Key::Name { from: _, len: _ } => counted(1, 0, 0, 0),
         Key::Literal { from: _, len: _ } => counted(1, 0, 0, 0),
-        Key::NoForm => counted(1, 0, 0, 1),
+        Key::Number { value: _ } => counted(1, 0, 0, 0),
+        Key::OtherForm { value: _ } => counted(1, 0, 0, 11),
+        Key::NoForm => counted(1, 0, 0, 6),
         Key::Template => counted(1, 0, 0, 0),
         Key::Private => counted(0, 0, 0, 0),
         Key::Again => counted(1, 0, 1, 0),
@@ -164,11 +271,12 @@ pub fn all_primitive(tree: &[u8], left: usize, at: usize) -> bool
     t.computed == 0
 }
 
-pub fn lacks_form(tree: &[u8], left: usize, at: usize) -> bool
-    ensures { λ r. ⌜ r ≡ anyLacksForm (lookNode (now (tree .entry)) left at .value) ⌝ }
+// The first refusal at the keys of the object pattern, 0 for none.
+pub fn refusal(tree: &[u8], left: usize, at: usize) -> u8
+    ensures { λ r. ⌜ r ≡ keysRefusal (lookNode (now (tree .entry)) left at .value) ⌝ }
 {
     let t = keys(tree, left, at);
-    0 < t.lacking
+    t.refusal
 }
 
 pub fn has_no_properties(tree: &[u8], left: usize, at: usize) -> bool

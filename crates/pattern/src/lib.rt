@@ -2,6 +2,7 @@
 pub mod declarators;
 pub mod keys;
 pub mod moves;
+pub mod numbers;
 pub mod parts;
 pub mod rests;
 pub mod search;

@@ -8,10 +8,10 @@ use tree::skip;
 ghost use mathlib.Core.Path.{_≡_};
 ghost use Rattle.tree.specs.Tree.{count};
 ghost use Rattle.tree.specs.Look.{lookNode};
-ghost use Rattle.lowering.specs.Parts.{any};
+ghost use Rattle.lowering.specs.Parts.{first};
 ghost use Rattle.lowering.specs.Made.{Context};
 ghost use Rattle.lowering.specs.Patterns.{objectsBelow};
-ghost use Rattle.lowering.specs.Keys.{anyLacksForm};
+ghost use Rattle.lowering.specs.Keys.{keysRefusal};
 ghost use Rattle.pattern.specs.Tally.{limited};
 ghost use Rattle.pattern.specs.Objects.{objectItself, ownTally, restsTally};
 
@@ -23,7 +23,7 @@ fn itself(empty: bool) -> Tally
             excluded: 0,
             temporaries: 0,
             computed: 0,
-            lacking: 0,
+            refusal: 0,
             objects: 1,
             patterns: 0,
         };
@@ -32,7 +32,7 @@ fn itself(empty: bool) -> Tally
         excluded: 0,
         temporaries: 0,
         computed: 0,
-        lacking: 0,
+        refusal: 0,
         objects: 1,
         patterns: 1,
     }
@@ -103,10 +103,10 @@ pub fn objects_below(tree: &[u8], left: usize, at: usize) -> usize
     t.objects
 }
 
-// Whether one of them has a literal key without a form.
-pub fn below_lacks_form(tree: &[u8], left: usize, at: usize) -> bool
-    ensures { λ r. ⌜ ((c : Context) → r ≡ any anyLacksForm (objectsBelow c (lookNode (now (tree .entry)) left at .value))) ⌝ }
+// The first refusal at their keys.
+pub fn refusal_below(tree: &[u8], left: usize, at: usize) -> u8
+    ensures { λ r. ⌜ ((c : Context) → r ≡ first keysRefusal (objectsBelow c (lookNode (now (tree .entry)) left at .value))) ⌝ }
 {
     let t = rests(tree, left, at);
-    0 < t.lacking
+    t.refusal
 }

@@ -1,6 +1,7 @@
 // Counts. None goes past 65536, so that adding is total; a tree that is accepted has fewer of anything.
 ghost use mathlib.Core.Path.{_≡_};
 ghost use Prim.Native.Nat.{_+_};
+ghost use Rattle.lowering.specs.Parts.{orElse};
 ghost use Rattle.pattern.specs.Tally.{limited, zero, both};
 
 // What is counted of keys, and of objects with rest.
@@ -11,8 +12,8 @@ pub struct Tally {
     pub temporaries: usize,
     // Keys that are not primitive.
     pub computed: usize,
-    // Literals without a form.
-    pub lacking: usize,
+    // The first refusal, 0 for none.
+    pub refusal: u8,
     // Objects with rest.
     pub objects: usize,
     // Those of them that have properties.
@@ -30,6 +31,16 @@ pub fn plus(a: usize, b: usize) -> usize
     65536
 }
 
+// The first of two refusals.
+pub fn first(a: u8, b: u8) -> u8
+    ensures { λ r. ⌜ r ≡ orElse a b ⌝ }
+{
+    if a == 0 {
+        return b;
+    }
+    a
+}
+
 pub fn none() -> Tally
     ensures { λ r. ⌜ r ≡ zero ⌝ }
 {
@@ -37,7 +48,7 @@ pub fn none() -> Tally
         excluded: 0,
         temporaries: 0,
         computed: 0,
-        lacking: 0,
+        refusal: 0,
         objects: 0,
         patterns: 0,
     }
@@ -50,7 +61,7 @@ pub fn both(a: Tally, b: Tally) -> Tally
         excluded: plus(a.excluded, b.excluded),
         temporaries: plus(a.temporaries, b.temporaries),
         computed: plus(a.computed, b.computed),
-        lacking: plus(a.lacking, b.lacking),
+        refusal: first(a.refusal, b.refusal),
         objects: plus(a.objects, b.objects),
         patterns: plus(a.patterns, b.patterns),
     }

@@ -7,5 +7,5 @@ ghost use Rattle.rest_spread.specs.Version.{version};
 pub extern "C" fn rest_spread_version() -> u32
     ensures { λ r. ⌜ r ≡ version ⌝ }
 {
-    3
+    4
 }

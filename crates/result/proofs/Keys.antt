@@ -25,6 +25,7 @@ use Rattle.result.proofs.Rows.{covers, at-places, no-kind}
 use Rattle.result.proofs.Lies.{Lies, LieFields, LiePiece, LieItems, make, apart, fields-of, moved, may-stand, lies-gather, lies-only, lies-if, lies-append}
 use Rattle.result.proofs.PatternViews.{wholeAt, propertyAt, patternAt, of-kind}
 use Rattle.result.proofs.Expressions.{Takes, takes-3, takes-13, argument, temporary-lies, string-lies, array-lies, object-lies, sequence-lies, member-lies, call-lies, X-lies, E-lies, W-lies, K-lies}
+use Rattle.result.proofs.LiteralTexts.{literal-bytes}
 use Rattle.result.proofs.Patterns.{properties-lies, properties-of, key-of, key-changed, rest-dropped}
 
 -- ---- texts that a node has are bytes
@@ -116,7 +117,7 @@ module _ (c : Context) where
     where
       go : KeyCase (key q) → LieItems 13 h (excludedKey c q)
       go (KeyCase.is-name e n) = rw (e, excludedKey) (lies-only (string-lies 13 takes-13 (rw (text-name (key q) e) (text-at (key q) l n 0))))
-      go (KeyCase.is-literal e n) = rw (e, excludedKey) (lies-only (string-lies 13 takes-13 (rw (text-literal (key q) e) (text-at (key q) l n 2))))
+      go (KeyCase.is-literal e n) = rw (e, excludedKey) (lies-only (string-lies 13 takes-13 (rw (text-literal (key q) e) (literal-bytes (key q) (text-at (key q) l n 2)))))
       go (KeyCase.is-template e n) = rw (e, excludedKey) (lies-only (argument (key-expression (key q) l n)))
       go (KeyCase.is-private e) = rw (e, excludedKey) LieItems.none
       go (KeyCase.is-again e n) = rw (e, excludedKey) (lies-only (argument (key-expression (key q) l n)))

@@ -3,6 +3,7 @@ pub mod Lies
 pub mod PatternViews
 pub mod Expressions
 pub mod Patterns
+pub mod LiteralTexts
 pub mod Keys
 pub mod Literals
 pub mod Declarations

@@ -14,10 +14,10 @@ use Rattle.lowering.specs.Parts.{is, nodeAt}
 use Rattle.lowering.specs.Made.{Context}
 use Rattle.lowering.specs.Patterns.{shape, hasRest, hasObjectRest, hasArrayRestOverObjectRest}
 use Rattle.lowering.specs.Patterns.Shape.{objectPattern}
-use Rattle.lowering.specs.Declarations.{declarationLacksForm}
-use Rattle.lowering.specs.Assignments.{target, isTop, topLacksForm}
+use Rattle.lowering.specs.Declarations.{declarationRefusal}
+use Rattle.lowering.specs.Assignments.{target, isTop, topRefusal}
 use Rattle.lowering.specs.Walk.{Step, rewrite, stepDeclaration, stepTop, stepAssignment, stepFor}
-use Rattle.lowering.proofs.Cases.{by-test, and-left, and-right, shape-34}
+use Rattle.lowering.proofs.Cases.{by-number, by-test, and-left, and-right, shape-34}
 use Rattle.result.proofs.Rows.{form-7, form-8}
 use Rattle.result.proofs.Lies.{Lies, LieItems, may-stand}
 use Rattle.result.proofs.Literals.{literal-lies}
@@ -53,8 +53,8 @@ module _ (c : Context) (p : ℕ) where
       by-test (hasArrayRestOverObjectRest (target n))
       (λ a. rw (a, stepAssignment) (record { tree = λ z. absurd (omega arith); entry = LieItems.none; excluded = LieItems.none }))
       (λ a. by-test (isTop (target n))
-      (λ u. by-test (topLacksForm n)
-      (λ k. rw (a, stepAssignment) (rw u (rw (k, stepTop) (record { tree = λ z. absurd (omega arith); entry = LieItems.none; excluded = LieItems.none }))))
+      (λ u. by-number (topRefusal n)
+      (λ r k. rw (a, stepAssignment) (rw u (rw (k, stepTop) (record { tree = λ z. absurd (omega arith); entry = LieItems.none; excluded = LieItems.none }))))
       (λ k. rw (a, stepAssignment) (rw u (rw (k, stepTop)
       (let o : shape (target n) ≡ objectPattern = top-shape (target n) u in
       record {
@@ -69,8 +69,8 @@ module _ (c : Context) (p : ℕ) where
   declaration-leaves : (at : ℕ) (fs : Fields) → Q (node at 4 fs) (stepDeclaration c (node at 4 fs))
   unfolding stepDeclaration is
   declaration-leaves at fs l =
-      by-test (declarationLacksForm c (node at 4 fs))
-      (λ e. rw (e, stepDeclaration) (record { tree = λ z. absurd (omega arith); entry = LieItems.none; excluded = LieItems.none }))
+      by-number (declarationRefusal c (node at 4 fs))
+      (λ r e. rw (e, stepDeclaration) (record { tree = λ z. absurd (omega arith); entry = LieItems.none; excluded = LieItems.none }))
       (λ e. rw (e, stepDeclaration) (record { tree = λ z. declaration-lies c p (node at 4 fs) l refl; entry = LieItems.none; excluded = declarationExcludes-lie c p (node at 4 fs) l refl }))
 
   for-leaves : (j : ℕ) (ts : List Field) → eqb j 20 ≡ false → 0 < j → (0 < formAt rewritten p j → formAt rewritten p j ≡ j)

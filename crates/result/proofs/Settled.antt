@@ -18,11 +18,11 @@ use Rattle.lowering.specs.Patterns.Shape.{objectPattern, arrayPattern}
 use Rattle.lowering.specs.Keys.{keySort, keyTemporary, keyTemporaries, taken}
 use Rattle.lowering.specs.Rests.{hasNoProperties, restValue}
 use Rattle.lowering.specs.Literals.{Call, opened, closed, scan, literal}
-use Rattle.lowering.specs.Declarations.{isName, source, sourceDeclarator, keysBefore, patternDeclarator, restDeclarator, own, nested, nestedBelow, objectDeclarators, patternDeclarators, lowerDeclarator, isLowered, declarators, declaration, declarationLacksForm}
-use Rattle.lowering.specs.Assignments.{target, isTop, topLacksForm, topSequence, nestedSequence, nearest}
+use Rattle.lowering.specs.Declarations.{isName, source, sourceDeclarator, keysBefore, patternDeclarator, restDeclarator, own, nested, nestedBelow, objectDeclarators, patternDeclarators, lowerDeclarator, isLowered, declarators, declaration, declarationRefusal}
+use Rattle.lowering.specs.Assignments.{target, isTop, topRefusal, topSequence, nestedSequence, nearest}
 use Rattle.lowering.specs.Heads.{isMoved, movedOut, leftBehind, function, arrow, catch, declaringHead, assigningHead}
 use Rattle.lowering.specs.Walk.{Step, rewrite, stepDeclaration, stepTop, stepAssignment, stepFor}
-use Rattle.lowering.proofs.Cases.{by-test, by-shape, by-key, and-left}
+use Rattle.lowering.proofs.Cases.{by-number, by-test, by-shape, by-key, and-left}
 use Rattle.lowering.proofs.All.{AllItems, all-append, all-gather, all-cond, all-each, none-passes, other-changed}
 use Rattle.lowering.proofs.Clauses.{has-leaf}
 use Rattle.result.proofs.Rows.{form-4, form-7, form-8, form-10, form-17}
@@ -328,8 +328,8 @@ module _ (c : Context) where
   declarations-settle : (at : ℕ) (fs : Fields) → Q (node at 4 fs) (stepDeclaration c (node at 4 fs))
   unfolding stepDeclaration
   declarations-settle at fs p l =
-      by-test (declarationLacksForm c (node at 4 fs))
-      (λ e. rw (e, stepDeclaration) (λ z. absurd (omega arith)))
+      by-number (declarationRefusal c (node at 4 fs))
+      (λ r e. rw (e, stepDeclaration) (λ z. absurd (omega arith)))
       (λ e. rw (e, stepDeclaration) (λ z. declaration-settled c p at fs l))
 
   assignments-settle : (at : ℕ) (fs : Fields) → Q (node at 27 fs) (stepAssignment c (node at 27 fs))
@@ -339,8 +339,8 @@ module _ (c : Context) where
       by-test (hasArrayRestOverObjectRest (target n))
       (λ a. rw (a, stepAssignment) (λ z. absurd (omega arith)))
       (λ a. by-test (isTop (target n))
-      (λ u. by-test (topLacksForm n)
-      (λ k. rw (a, stepAssignment) (rw u (rw (k, stepTop) (λ z. absurd (omega arith)))))
+      (λ u. by-number (topRefusal n)
+      (λ r k. rw (a, stepAssignment) (rw u (rw (k, stepTop) (λ z. absurd (omega arith)))))
       (λ k. rw (a, stepAssignment) (rw u (rw (k, stepTop) (λ z. kept-28)))))
       (λ u. by-test (hasObjectRest (target n))
       (λ o. rw (a, stepAssignment) (rw u (rw o (λ z. kept-28))))

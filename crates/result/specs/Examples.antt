@@ -105,13 +105,19 @@ unfolding
     Rattle.lowering.specs.Parts.itemsAt Rattle.lowering.specs.Parts.textAt Rattle.lowering.specs.Parts.numberAt
     Rattle.lowering.specs.Parts.stands Rattle.lowering.specs.Parts.change Rattle.lowering.specs.Parts.onNode
     Rattle.lowering.specs.Parts.onItems Rattle.lowering.specs.Parts.without Rattle.lowering.specs.Parts._+++_
-    Rattle.lowering.specs.Parts.each Rattle.lowering.specs.Parts.gather Rattle.lowering.specs.Parts.any Rattle.lowering.specs.Parts.isEmpty
+    Rattle.lowering.specs.Parts.each Rattle.lowering.specs.Parts.gather Rattle.lowering.specs.Parts.any Rattle.lowering.specs.Parts.orElse
+    Rattle.lowering.specs.Parts.first Rattle.lowering.specs.Parts.isEmpty
     Rattle.lowering.specs.Patterns.shape Rattle.lowering.specs.Patterns.hasNestedObjectRest
     Rattle.lowering.specs.Patterns.hasNestedArrayRest Rattle.lowering.specs.Patterns.replaced
-    Rattle.lowering.specs.Patterns.objectsWithRest Rattle.lowering.specs.Keys.keySort Rattle.lowering.specs.Keys.isPrimitive
-    Rattle.lowering.specs.Keys.lacksForm Rattle.lowering.specs.Keys.keyText Rattle.lowering.specs.Keys.excludedKey
+    Rattle.lowering.specs.Patterns.objectsWithRest
+    Rattle.lowering.specs.Numbers.digitOf Rattle.lowering.specs.Numbers.areDigits Rattle.lowering.specs.Numbers.valueFrom
+    Rattle.lowering.specs.Numbers.spellingOfOne Rattle.lowering.specs.Numbers.spellingBehindZero Rattle.lowering.specs.Numbers.spellingOf
+    Rattle.lowering.specs.Numbers.digitsUpTo Rattle.lowering.specs.Numbers.digitsOf Rattle.lowering.specs.Numbers.stringOf
+    Rattle.lowering.specs.Numbers.numberString Rattle.lowering.specs.Keys.keySort Rattle.lowering.specs.Keys.isPrimitive
+    Rattle.lowering.specs.Keys.promised Rattle.lowering.specs.Keys.literalText Rattle.lowering.specs.Keys.literalRefusal
+    Rattle.lowering.specs.Keys.keyRefusal Rattle.lowering.specs.Keys.keyText Rattle.lowering.specs.Keys.excludedKey
     Rattle.lowering.specs.Keys.keptKey Rattle.lowering.specs.Keys.keyTemporary Rattle.lowering.specs.Keys.allPrimitive
-    Rattle.lowering.specs.Keys.anyLacksForm Rattle.lowering.specs.Keys.excludedKeys Rattle.lowering.specs.Keys.keyTemporaries
+    Rattle.lowering.specs.Keys.keysRefusal Rattle.lowering.specs.Keys.excludedKeys Rattle.lowering.specs.Keys.keyTemporaries
     Rattle.lowering.specs.Keys.taken Rattle.lowering.specs.Rests.mapped Rattle.lowering.specs.Rests.isHoisted
     Rattle.lowering.specs.Rests.keysRead Rattle.lowering.specs.Rests.restValue Rattle.lowering.specs.Rests.excludedFor
     Rattle.lowering.specs.Rests.restMakes Rattle.lowering.specs.Literals.opened Rattle.lowering.specs.Literals.closed
@@ -124,8 +130,8 @@ unfolding
     Rattle.lowering.specs.Declarations.declaratorMakes Rattle.lowering.specs.Declarations.isLowered
     Rattle.lowering.specs.Declarations.declarators Rattle.lowering.specs.Declarations.loweredIn
     Rattle.lowering.specs.Declarations.declaration Rattle.lowering.specs.Declarations.declarationMakes
-    Rattle.lowering.specs.Declarations.declarationExcludes Rattle.lowering.specs.Declarations.declarationLacksForm
-    Rattle.lowering.specs.Assignments.isTop Rattle.lowering.specs.Assignments.nearest Rattle.lowering.specs.Assignments.topLacksForm
+    Rattle.lowering.specs.Declarations.declarationExcludes Rattle.lowering.specs.Declarations.declarationRefusal
+    Rattle.lowering.specs.Assignments.isTop Rattle.lowering.specs.Assignments.nearest Rattle.lowering.specs.Assignments.topRefusal
     Rattle.lowering.specs.Assignments.partsReplaced Rattle.lowering.specs.Assignments.topSequence
     Rattle.lowering.specs.Assignments.topEntry Rattle.lowering.specs.Assignments.topExcludes Rattle.lowering.specs.Assignments.topMakes
     Rattle.lowering.specs.Assignments.nestedSequence Rattle.lowering.specs.Assignments.nestedEntry
@@ -146,7 +152,7 @@ unfolding
     Rattle.lowering.specs.Collect.firstRefusal Rattle.lowering.specs.Collect.entryAt Rattle.lowering.specs.Collect.entries
     Rattle.lowering.specs.Collect.excludedIn Rattle.lowering.specs.Collect.madeIn Rattle.lowering.specs.Collect.listNodes
     Rattle.lowering.specs.Collect.uses Rattle.lowering.specs.Collect.maskFrom Rattle.lowering.specs.Collect.helperMask
-    Rattle.lowering.specs.Collect.nameOf Rattle.lowering.specs.Collect.samePath Rattle.lowering.specs.Collect.same
+    Rattle.lowering.specs.Collect.nameOf Rattle.lowering.specs.Parts.sameNumbers Rattle.lowering.specs.Collect.same
     Rattle.lowering.specs.Collect.nameAt Rattle.lowering.specs.Collect.except Rattle.lowering.specs.Collect.distinct
     Rattle.lowering.specs.Collect.numberIn Rattle.lowering.specs.Collect.namesOf Rattle.lowering.specs.Collect.withNumber
     Rattle.lowering.specs.Collect.declaratorBytes Rattle.lowering.specs.Collect.entryBytes Rattle.lowering.specs.Collect.listBytes

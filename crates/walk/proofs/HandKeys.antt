@@ -20,7 +20,10 @@ use Rattle.tree.proofs.Look.{on-within}
 use Rattle.lowering.specs.Parts.{position, is, itemsAt, textAt, pieceIn}
 use Rattle.lowering.specs.Made.{Context}
 use Rattle.lowering.specs.Patterns.{properties, key}
-use Rattle.lowering.specs.Keys.{keySort, excludedKeys}
+use Rattle.lowering.specs.Keys as keys
+use Rattle.lowering.specs.Keys.{keySort, excludedKeys, entryOf, keyText}
+use Rattle.lowering.specs.Keys.Key.{name, literal, template, private, again, other}
+use Rattle.lowering.specs.Keys.Entry.{spelt, itself, omitted, saved}
 use Rattle.lowering.proofs.All.{AllItems}
 use Rattle.lowering.proofs.Cases.{by-test}
 use Rattle.sink.specs.Machine.{part}
@@ -28,12 +31,12 @@ use Rattle.sink.specs.Machine.Event.{make, listedTemporary, excludedTemporary, 
 use Rattle.pattern.specs.declared.parts.Part.{Part}
 use Rattle.pattern.specs.declared.parts.Part.the-variants.{One, Many, Text, Number, Missing}
 use Rattle.pattern.specs.declared.keys.Key.{Key}
-use Rattle.pattern.specs.declared.keys.Key.the-variants.{Name, Literal, NoForm, Template, Private, Again, Other}
+use Rattle.pattern.specs.declared.keys.Key.the-variants as variants
+use Rattle.pattern.specs.declared.keys.Key.the-variants.{Name, Literal, OtherForm, NoForm, Template, Private, Again, Other}
 use Rattle.pattern.specs.Tally.{limited}
-use Rattle.pattern.specs.Parts.{sortAt, textOf, partOf, partIn, partAt}
-use Rattle.pattern.specs.Keys.{nameIn, formIn, keyAt}
+use Rattle.pattern.specs.Parts.{partAt}
+use Rattle.pattern.specs.Keys.{nameIn, literalAt, keyAt, Becomes}
 use Rattle.pattern.proofs.KeyCases.{by-sort}
-use Rattle.pattern.proofs.Places.{textIn, text-part}
 use Rattle.pattern.proofs.CountsFit.{counted-whole, excluded-fit}
 use Rattle.direct.specs.Events as events
 use Rattle.direct.specs.Events.{Emit, Deed, lists, excludes}
@@ -46,12 +49,12 @@ use Rattle.direct.proofs.Threads.{say-say}
 use Rattle.direct.proofs.RestValues.{entries-are}
 use Rattle.walk.specs.Run.{Going, Does}
 use Rattle.walk.specs.Whole.{GoodItems, Good}
-use Rattle.walk.specs.Turns.{ownOf, keyOf}
+use Rattle.walk.specs.Turns.{ownOf, keyOf, keyClass, keyString}
 use Rattle.walk.proofs.Running.{does-then, does-nothing, does-as}
 use Rattle.walk.proofs.Opened.{position-here, good-copied, good-short, good-within, object-open, property-key}
 use Rattle.walk.proofs.Hands.{at-level, list-from}
-use Rattle.walk.proofs.Sources.{text-short}
-use Rattle.lowering.proofs.Clauses.{text-name, text-literal}
+use Rattle.walk.proofs.Lookups.{classOf, class-name, class-here, key-class}
+use Rattle.walk.proofs.Sources.{Spelt, entryText, name-spelt, form-spelt, bare-spelt, string-is}
 
 -- ---- cells
 
@@ -161,108 +164,82 @@ module _ (t : List ℕ) (left d at q p n : ℕ) (e : d ≡ left - 1) (a : q ≡ 
 
 -- ---- the bytes of a key
 
-cut-list : (p n : ℕ) (l : List ℕ) → drop p (take (p + n) l) ≡ take n (drop p l)
-cut-list zero n l = let e : 0 + n ≡ n = omega arith in rw e refl
-cut-list (suc p) n [] = let e : suc p + n ≡ suc (p + n) = omega arith in rw e (sym (take-nil n))
-cut-list (suc p) n (x ∷ l) = let e : suc p + n ≡ suc (p + n) = omega arith in rw e (cut-list p n l)
-
 module _ (t : List ℕ) where
-  -- where a text stands
-  abbrev PartFits : Part → Type 0
-  PartFits (One q) = Unit {0}
-  PartFits (Many h n p) = Unit {0}
-  PartFits (Text p n) = p + n ≤ length t
-  PartFits Number = Unit {0}
-  PartFits Missing = Unit {0}
-
-  part-of : (s : Sort) (q : ℕ) → PartFits (partOf t s q)
-  unfolding partOf textOf
-  part-of (Sort.child p) q = tt
-  part-of (Sort.chosen p r) q = tt
-  part-of (Sort.many p) q = tt
-  part-of (Sort.gaps p) q = tt
-  part-of Sort.text q = let a = on-within t q 2 in let b = on-within t q (2 + wideAt t q) in omega arith
-  part-of (Sort.byte a b) q = tt
-  part-of Sort.mark q = tt
-  part-of Sort.number q = tt
-
-  part-in : (s : Sort) (o : Option ℕ) → PartFits (partIn t s o)
-  part-in s Option.none = tt
-  part-in s (some q) = part-of s q
-
-  part-at : (d at i : ℕ) → PartFits (partAt t d at i)
-  unfolding partAt
-  part-at zero at i = tt
-  part-at (suc d) at i =
-      part-in (sortAt (fieldsOf (byteAt t at)) i) (seekFields t (lookNode t d) (fieldsOf (byteAt t at)) (byteAt t (onward t at 1)) (onward t at 2) i)
-
   -- a key as the code has it: where its bytes stand, and what they are
   pub record KeyAs (k : Node) (p n : ℕ) : Type 0 where
     pub small : n < 65536
     pub room : p + n ≤ length t
     pub bytes : stringBytes (part p (p + n) t) ≡ keyBytesOf k
 
-  abbrev KeyIs : Node → Key → Type 0
-  KeyIs k (Name p n) = KeyAs k p n
-  KeyIs k (Literal p n) = KeyAs k p n
-  KeyIs k NoForm = KeyAs k 0 0
-  KeyIs k Template = encode k ≡ keyBytesOf k
-  KeyIs k Private = [] ≡ keyBytesOf k
-  KeyIs k Again = [] ≡ keyBytesOf k
-  KeyIs k Other = [] ≡ keyBytesOf k
+  -- a key that is written as a string, by its class
+  bytes-string : (k : Node) → keyClass k ≡ 1 → keyString k ≡ keyBytesOf k
+  unfolding keyClass keyString keyBytesOf
+  bytes-string k h = go (keySort k) h
+    where
+      go : (s : keys.Key) → _≡_ {A = ℕ} (elim (entryOf s) [ spelt ↦ 1 | itself ↦ 2 | omitted ↦ 3 | saved ↦ 4 ]) 1
+          → _≡_ {A = List ℕ}
+          (elim (entryOf s) [ spelt ↦ stringBytes (keyText k) | itself ↦ [] | omitted ↦ [] | saved ↦ [] ])
+          (elim s [
+            | name ↦ stringBytes (keyText k)
+            | literal ↦ stringBytes (keyText k)
+            | template ↦ encode k
+            | private ↦ []
+            | again ↦ []
+            | other ↦ []
+          ])
+      go name h = refl
+      go literal h = refl
+      go template h = absurd (omega arith)
+      go private h = absurd (omega arith)
+      go again h = absurd (omega arith)
+      go other h = absurd (omega arith)
 
-  cut-is : (p n : ℕ) → part p (p + n) t ≡ take n (drop p t)
-  unfolding part
-  cut-is p n = cut-list p n t
+  as-spelt : (k : Node) (p n : ℕ) → keyClass k ≡ 1 → Spelt t k p n → KeyAs k p n
+  as-spelt k p n h s = record { small = s .small; room = s .within; bytes = s .string ∙ bytes-string k h }
 
-  module _ (k : Node) (bs : List ℕ) (short : length bs ≤ 16384) (is-bytes : stringBytes bs ≡ keyBytesOf k) where
-    text-as : (p n : ℕ) → p + n ≤ length t → bs ≡ take n (drop p t) → KeyAs k p n
-    text-as p n h e =
-        let m : length bs ≡ min n (length t - p) = ap length e ∙ length-take n (drop p t) ∙ ap (min n) (length-drop p t) in
-        record { small = omega arith; room = h; bytes = ap (λ (x : List ℕ). stringBytes x) (cut-is p n ∙ sym e) ∙ is-bytes }
-
-    none-as : bs ≡ [] → KeyAs k 0 0
-    none-as e = text-as 0 0 (omega arith) e
-
-    name-as : (x : Part) → PartFits x → bs ≡ textIn t x → KeyIs k (nameIn x)
-    unfolding nameIn
-    name-as (One q) f e = none-as e
-    name-as (Many h n p) f e = none-as e
-    name-as (Text p n) f e = text-as p n f e
-    name-as Number f e = none-as e
-    name-as Missing f e = none-as e
-
-    form-as : (x : Part) → PartFits x → bs ≡ textIn t x → KeyIs k (formIn x)
-    unfolding formIn
-    form-as (One q) f e = none-as e
-    form-as (Many h n p) f e = none-as e
-    form-as (Text p n) f e = text-as p n f e
-    form-as Number f e = none-as e
-    form-as Missing f e = none-as e
-
-  module _ (d at : ℕ) (good : Good t d at) where
+  module _ (d at : ℕ) where
     abbrev this : Node
     this = lookNode t d at .value
 
-    short-text : (i : ℕ) → length (textAt i this) ≤ 16384
-    short-text i = let a = text-short i this in let b = good-short t d at good in omega arith
+    -- what is not a string
+    abbrev Plain : Node → Key → Type 0
+    Plain k (Name p n) = Unit {0}
+    Plain k (Literal p n) = Unit {0}
+    Plain k (variants.Number v) = Unit {0}
+    Plain k (OtherForm v) = Unit {0}
+    Plain k NoForm = Unit {0}
+    Plain k Template = encode k ≡ keyBytesOf k
+    Plain k Private = [] ≡ keyBytesOf k
+    Plain k Again = [] ≡ keyBytesOf k
+    Plain k Other = [] ≡ keyBytesOf k
 
-    key-is : KeyIs this (keyAt t d at)
+    class-plain : (k : Node) (x : Key) → classOf x ≡ 1 → Plain k x
+    class-plain k (Name p n) h = tt
+    class-plain k (Literal p n) h = tt
+    class-plain k (variants.Number v) h = tt
+    class-plain k (OtherForm v) h = tt
+    class-plain k NoForm h = tt
+    class-plain k Template h = absurd (omega arith)
+    class-plain k Private h = absurd (omega arith)
+    class-plain k Again h = absurd (omega arith)
+    class-plain k Other h = absurd (omega arith)
+
+    plain-is : Plain this (keyAt t d at)
     unfolding keyAt keyBytesOf
-    key-is =
+    plain-is =
         by-sort (keySort this)
-        (λ s. rw s (name-as this (textAt 0 this) (short-text 0) (rw (s, keyBytesOf) (ap stringBytes (sym (text-name this s)))) (partAt t d at 0) (part-at d at 0) (text-part t d at 0)))
-        (λ s. rw s (form-as this (textAt 2 this) (short-text 2) (rw (s, keyBytesOf) (ap stringBytes (sym (text-literal this s)))) (partAt t d at 2) (part-at d at 2) (text-part t d at 2)))
+        (λ s. rw s (class-plain this (nameIn (partAt t d at 0)) (class-name (partAt t d at 0))))
+        (λ s. rw s (class-plain this (literalAt t d at) (class-here t d at)))
         (λ s. rw s (rw (s, keyBytesOf) refl))
         (λ s. rw s (rw (s, keyBytesOf) refl))
         (λ s. rw s (rw (s, keyBytesOf) refl))
         (λ s. rw s (rw (s, keyBytesOf) refl))
 
-    key-as : (r x : Key) → r ≡ keyAt t d at → r ≡ x → KeyIs this x
-    key-as r x e f = subst (KeyIs this) (sym e ∙ f) key-is
+    plain-as : (r x : Key) → r ≡ keyAt t d at → r ≡ x → Plain this x
+    plain-as r x e f = subst (Plain this) (sym e ∙ f) plain-is
 
   -- the ways out of `exclude_key`
-  module _ (d at : ℕ) (r : Key) (e : r ≡ keyAt t d at) where
+  module _ (d at : ℕ) (r : Key) (b : Becomes t d at r) where
     abbrev that : Node
     that = lookNode t d at .value
 
@@ -271,32 +248,37 @@ module _ (t : List ℕ) where
 
     pub name-does : {g g′ : Going} (p n : ℕ) → r ≡ Name p n → (n < 65536 → p + n ≤ length t → Does g g′ (say (excludes (stringBytes (part p (p + n) t)))))
         → Good t d at → Does g g′ (say (excludes (keyBytesOf that)))
-    name-does p n f k good = string-does p n k (key-as d at good r (Name p n) e f)
+    name-does p n f k good = string-does p n k (as-spelt that p n (sym (key-class t d at r (Name p n) b f)) (name-spelt t d at r b good p n f))
 
     pub literal-does : {g g′ : Going} (p n : ℕ) → r ≡ Literal p n → (n < 65536 → p + n ≤ length t → Does g g′ (say (excludes (stringBytes (part p (p + n) t)))))
         → Good t d at → Does g g′ (say (excludes (keyBytesOf that)))
-    literal-does p n f k good = string-does p n k (key-as d at good r (Literal p n) e f)
+    literal-does p n f k good = string-does p n k (as-spelt that p n (sym (key-class t d at r (Literal p n) b f)) (form-spelt t d at r b good p n f))
 
     pub formless-does : {g g′ : Going} → r ≡ NoForm → (0 < 65536 → 0 + 0 ≤ length t → Does g g′ (say (excludes (stringBytes (part 0 (0 + 0) t)))))
         → Good t d at → Does g g′ (say (excludes (keyBytesOf that)))
-    formless-does f k good = string-does 0 0 k (key-as d at good r NoForm e f)
+    formless-does f k good = string-does 0 0 k (as-spelt that 0 0 (sym (key-class t d at r NoForm b f)) (bare-spelt t d at r b good f))
+
+    -- the digits of a number
+    pub number-does : {g g′ : Going} (x : Key) → r ≡ x → classOf x ≡ 1 → Does g g′ (say (excludes (stringBytes (entryText t x)))) → Good t d at → Does g g′ (say (excludes (keyBytesOf that)))
+    number-does x f h k good =
+        does-as k (ap (λ (bs : List ℕ). say (excludes bs)) (sym (string-is t d at r x b f h) ∙ bytes-string that (sym (key-class t d at r x b f) ∙ h)))
 
     pub template-does : {g g′ : Going} (end : ℕ) → r ≡ Template → end ≡ lookNode t d at .next → Does g g′ (say (excludes (part at end t)))
         → Good t d at → Does g g′ (say (excludes (keyBytesOf that)))
     template-does end f w k good =
-        does-as k (ap (λ (bs : List ℕ). say (excludes bs)) (ap (λ (x : ℕ). part at x t) w ∙ good-copied t d at good ∙ key-as d at good r Template e f))
+        does-as k (ap (λ (bs : List ℕ). say (excludes bs)) (ap (λ (x : ℕ). part at x t) w ∙ good-copied t d at good ∙ plain-as d at r Template (b .variant) f))
 
     nothing-does : {g : Going} → [] ≡ keyBytesOf that → Does g g (say (excludes (keyBytesOf that)))
     nothing-does {g = g} h = does-as (does-nothing g) (ap (λ (bs : List ℕ). say (excludes bs)) h)
 
     pub private-does : {g : Going} → r ≡ Private → Good t d at → Does g g (say (excludes (keyBytesOf that)))
-    private-does f good = nothing-does (key-as d at good r Private e f)
+    private-does f good = nothing-does (plain-as d at r Private (b .variant) f)
 
     pub again-does : {g : Going} → r ≡ Again → Good t d at → Does g g (say (excludes (keyBytesOf that)))
-    again-does f good = nothing-does (key-as d at good r Again e f)
+    again-does f good = nothing-does (plain-as d at r Again (b .variant) f)
 
     pub other-does : {g : Going} → r ≡ Other → Good t d at → Does g g (say (excludes (keyBytesOf that)))
-    other-does f good = nothing-does (key-as d at good r Other e f)
+    other-does f good = nothing-does (plain-as d at r Other (b .variant) f)
 
 -- ---- excluded keys
 

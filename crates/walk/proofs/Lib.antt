@@ -16,6 +16,7 @@ pub mod SmallSteps
 pub mod Lookups
 pub mod TargetCounts
 pub mod TargetWalk
+pub mod KeyLengths
 pub mod Sources
 pub mod Viewing
 pub mod Hands

@@ -20,9 +20,13 @@ use Rattle.lowering.specs.Keys as lowering
 use Rattle.pattern.specs.declared.parts.Part.{Part}
 use Rattle.pattern.specs.declared.parts.Part.the-variants.{One, Many, Text, Number, Missing}
 use Rattle.pattern.specs.declared.keys.Key.{Key}
-use Rattle.pattern.specs.declared.keys.Key.the-variants.{Name, Literal, NoForm, Template, Private, Again, Other}
-use Rattle.pattern.specs.Parts.{partAt}
-use Rattle.pattern.specs.Keys.{nameIn, formIn, keyBy, keyAt, Becomes}
+use Rattle.pattern.specs.declared.keys.Key.the-variants as variants
+use Rattle.pattern.specs.declared.keys.Key.the-variants.{Name, Literal, OtherForm, NoForm, Template, Private, Again, Other}
+use Rattle.pattern.specs.declared.numbers.Spelling.{Spelling}
+use Rattle.pattern.specs.declared.numbers.Spelling.the-variants.{Decimal, Hexadecimal, Another}
+use Rattle.pattern.specs.Parts.{partAt, textIn, standing}
+use Rattle.pattern.specs.Numbers.{spelledAs, isStringOf}
+use Rattle.pattern.specs.Keys.{nameIn, formIn, besideForm, literalBy, literalIn, literalAt, keyBy, keyAt, Becomes}
 use Rattle.pattern.specs.Tally.{limited}
 use Rattle.pattern.proofs.CappedSums.{numbers, Adds, listSum, sum-start, sum-more, sum-end}
 use Rattle.pattern.proofs.MovesCounted.{count-sum}
@@ -93,13 +97,15 @@ cell-here (suc (suc (suc (suc (suc s))))) at a b h = absurd (omega arith)
 abbrev pub classOf : Key → ℕ
 classOf (Name p n) = 1
 classOf (Literal p n) = 1
+classOf (variants.Number v) = 1
+classOf (OtherForm v) = 1
 classOf NoForm = 1
 classOf Template = 2
 classOf Private = 3
 classOf Again = 2
 classOf Other = 4
 
-class-name : (p : Part) → classOf (nameIn p) ≡ 1
+pub class-name : (p : Part) → classOf (nameIn p) ≡ 1
 unfolding nameIn
 class-name (One q) = refl
 class-name (Many h n p) = refl
@@ -115,16 +121,35 @@ class-form (Text p n) = refl
 class-form Number = refl
 class-form Missing = refl
 
+class-beside : (l : List ℕ) (v : ℕ) (k : Key) (p : Part) → classOf k ≡ 1 → classOf (besideForm l v k p) ≡ 1
+unfolding besideForm
+class-beside l v k p h = go (standing p) (isStringOf v (spelledAs (textIn l p)))
+  where
+    go : (b f : Bool) → classOf (cond b (cond f (formIn p) (OtherForm v)) k) ≡ 1
+    go true true = class-form p
+    go true false = refl
+    go false f = h
+
+class-literal : (l : List ℕ) (x : Spelling) (s p : Part) → classOf (literalBy l x s p) ≡ 1
+unfolding literalBy
+class-literal l (Decimal v) s p = class-beside l v (formIn s) p (class-form s)
+class-literal l (Hexadecimal v) s p = class-beside l v (variants.Number v) p refl
+class-literal l Another s p = class-form p
+
+pub class-here : (l : List ℕ) (d at : ℕ) → classOf (literalAt l d at) ≡ 1
+unfolding literalAt literalIn
+class-here l d at = class-literal l _ (partAt l d at 1) (partAt l d at 2)
+
 abbrev sortClass : lowering.Key → ℕ
 sortClass s = elim (entryOf s) [ spelt ↦ 1 | itself ↦ 2 | omitted ↦ 3 | saved ↦ 4 ]
 
-class-by : (s : lowering.Key) (p q : Part) → classOf (keyBy s p q) ≡ sortClass s
-class-by lowering.Key.name p q = class-name p
-class-by lowering.Key.literal p q = class-form q
-class-by lowering.Key.template p q = refl
-class-by lowering.Key.private p q = refl
-class-by lowering.Key.again p q = refl
-class-by lowering.Key.other p q = refl
+class-by : (s : lowering.Key) (p : Part) (k : Key) → classOf k ≡ 1 → classOf (keyBy s p k) ≡ sortClass s
+class-by lowering.Key.name p k h = class-name p
+class-by lowering.Key.literal p k h = h
+class-by lowering.Key.template p k h = refl
+class-by lowering.Key.private p k h = refl
+class-by lowering.Key.again p k h = refl
+class-by lowering.Key.other p k h = refl
 
 class-is : (k : Node) → sortClass (keySort k) ≡ keyClass k
 unfolding keyClass
@@ -133,7 +158,7 @@ class-is k = refl
 pub key-class : (l : List ℕ) (d at : ℕ) (r k : Key) → Becomes l d at r → r ≡ k → classOf k ≡ keyClass (lookNode l d at .value)
 unfolding keyAt
 key-class l d at r k b e =
-    ap classOf (sym e ∙ b .variant) ∙ class-by (keySort (lookNode l d at .value)) (partAt l d at 0) (partAt l d at 2) ∙ class-is (lookNode l d at .value)
+    ap classOf (sym e ∙ b .variant) ∙ class-by (keySort (lookNode l d at .value)) (partAt l d at 0) (literalAt l d at) (class-here l d at) ∙ class-is (lookNode l d at .value)
 
 pub other-is : (k : Node) (n : ℕ) → n ≡ keyClass k → eqb n 4 ≡ isOther k
 unfolding keyClass isOther

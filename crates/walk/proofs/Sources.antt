@@ -1,16 +1,16 @@
 -- Holes, sources, keys as strings, and the byte of a loop that awaits: one law for each way out.
 -- Assumes nothing.
-use mathlib.Core.Path.{_≡_, refl, sym, ap, _∙_}
+use mathlib.Core.Path.{_≡_, refl, sym, ap, subst, _∙_}
 use mathlib.Core.Bool.{Bool, true, false, cond, _&&_, _||_}
 use mathlib.Core.List.{List, [], _∷_}
 use mathlib.Core.Option.{Option, some}
-use Prim.Native.Nat.{ℕ, zero, suc, _+_, _/_, _≤_, _<_}
+use Prim.Native.Nat.{ℕ, zero, suc, _+_, _-_, _/_, _≤_, _<_}
 use native.Mathlib.Omega.{arith}
 use lib.Dec.{eqb}
 use lib.ListN.{length, take, drop, length-append, length-drop}
-use lib.Seq.{take-nil, length-take-le}
+use lib.Seq.{take-nil, take-all, length-take-le}
 use borrow.Author.Tests.{eq-eqb, ne-eqb}
-use Rattle.tree.specs.Tree.{Node, Fields, Piece, encode, encodeFields}
+use Rattle.tree.specs.Tree.{Node, Fields, Piece, Items, encode, encodeFields}
 use Rattle.tree.specs.Tree.Node.{node}
 use Rattle.tree.specs.Tree.Fields.{done, absent, field}
 use Rattle.tree.specs.Grammar.{Sort, fieldsOf}
@@ -19,23 +19,33 @@ use Rattle.tree.specs.Read.{byteAt, wideAt}
 use Rattle.tree.specs.Answer.{Peeked}
 use Rattle.tree.specs.Look.{onward, lookNode, seekFields}
 use Rattle.tree.proofs.Look.{on-within}
-use Rattle.lowering.specs.Parts.{pieceIn, asText, textAt}
-use Rattle.lowering.specs.Keys.{keySort, lacksForm}
+use Rattle.lowering.specs.Parts.{pieceIn, asText, textAt, nodeAt, only}
+use Rattle.lowering.specs.Made.{Context, string}
+use Rattle.lowering.specs.Patterns.{key}
+use Rattle.lowering.specs.Numbers.{digitsOf}
+use Rattle.lowering.specs.Keys.{keySort, entryOf, keyText, promised, literalText}
 use Rattle.lowering.specs.Keys as lowering
+use Rattle.lowering.specs.Keys.Entry.{spelt, itself, omitted, saved}
 use Rattle.sink.specs.Machine.{part}
 use Rattle.sink.specs.Machine.Event.{put, temporary}
 use Rattle.pattern.specs.declared.parts.Part.{Part}
 use Rattle.pattern.specs.declared.parts.Part.the-variants.{One, Many, Text, Number, Missing}
 use Rattle.pattern.specs.declared.keys.Key.{Key}
-use Rattle.pattern.specs.declared.keys.Key.the-variants.{Name, Literal, NoForm}
+use Rattle.pattern.specs.declared.keys.Key.the-variants as variants
+use Rattle.pattern.specs.declared.keys.Key.the-variants.{Name, Literal, OtherForm, NoForm, Template, Private, Again, Other}
+use Rattle.pattern.specs.declared.numbers.Spelling.{Spelling}
+use Rattle.pattern.specs.declared.numbers.Spelling.the-variants.{Decimal, Hexadecimal, Another}
 use Rattle.pattern.specs.declared.source.Read.{Read}
 use Rattle.pattern.specs.declared.source.Read.the-variants.{Expression, Temporary}
 use Rattle.pattern.specs.declared.source.ReferenceBuilder.{ReferenceBuilder}
-use Rattle.pattern.specs.Parts.{sortAt, textOf, partOf, partIn, partAt}
-use Rattle.pattern.specs.Keys.{nameIn, formIn, keyBy, keyAt, keyRefusal, Becomes}
+use Rattle.pattern.specs.Parts.{sortAt, textOf, partOf, partIn, partAt, textIn, standing}
+use Rattle.pattern.specs.Numbers.{spelledAs, isStringOf}
+use Rattle.pattern.specs.Keys.{nameIn, formIn, besideForm, literalBy, literalIn, literalAt, keyAt, keyEntry, Becomes}
 use Rattle.pattern.specs.Source.{readOf}
-use Rattle.pattern.proofs.Places.{textIn, text-part}
-use Rattle.direct.specs.Events.{Emit, puts}
+use Rattle.pattern.proofs.KeyCases.{by-sort}
+use Rattle.direct.proofs.RestValues.{key-spelt}
+use Rattle.walk.proofs.KeyLengths.{ShortString, promised-short}
+use Rattle.direct.specs.Events.{Emit, puts, excludes}
 use Rattle.direct.specs.Events.Deed.{does}
 use Rattle.direct.specs.Emit.{say}
 use Rattle.direct.specs.Keys.{stringBytes}
@@ -45,7 +55,6 @@ use Rattle.walk.specs.Turns.{holeOf, reads, sourceOf, keyClass, keyStrin
 use Rattle.walk.proofs.Running.{does-as, does-nothing}
 use Rattle.walk.proofs.Opened.{good-short}
 use Rattle.walk.proofs.Lookups.{when-yes, classOf, key-class}
-use Rattle.lowering.proofs.Clauses.{text-name, text-literal}
 
 -- the same from the same
 pub does-same : {g h : Going} → h ≡ g → Does g h (say [])
@@ -166,58 +175,102 @@ part-within t zero at i = tt
 part-within t (suc d) at i =
     sort-within t (sortAt (fieldsOf (byteAt t at)) i) (seekFields t (lookNode t d) (fieldsOf (byteAt t at)) (byteAt t (onward t at 1)) (onward t at 2) i)
 
--- a name or a form: where its bytes are, and that they are the text
-pub record Texted (t : List ℕ) (p : Part) (from n : ℕ) : Type 0 where
-  pub within : from + n ≤ length t
-  pub bytes : textIn t p ≡ take n (drop from t)
+-- where the bytes of a key stand
+abbrev Room : List ℕ → Key → Type 0
+Room t (Name p n) = p + n ≤ length t
+Room t (Literal p n) = p + n ≤ length t
+Room t (variants.Number v) = Unit {0}
+Room t (OtherForm v) = Unit {0}
+Room t NoForm = Unit {0}
+Room t Template = Unit {0}
+Room t Private = Unit {0}
+Room t Again = Unit {0}
+Room t Other = Unit {0}
 
-name-texted : (t : List ℕ) (p : Part) (from n : ℕ) → Within t p → Name from n ≡ nameIn p → Texted t p from n
+name-room : (t : List ℕ) (p : Part) → Within t p → Room t (nameIn p)
 unfolding nameIn
-name-texted t (One q) from n w e = let a : from ≡ 0 = cc in let b : n ≡ 0 = cc in record { within = omega arith; bytes = rw (a, b) refl }
-name-texted t (Many h m p) from n w e = let a : from ≡ 0 = cc in let b : n ≡ 0 = cc in record { within = omega arith; bytes = rw (a, b) refl }
-name-texted t (Text p m) from n w e = let a : from ≡ p = cc in let b : n ≡ m = cc in record { within = omega arith; bytes = rw (a, b) refl }
-name-texted t Number from n w e = let a : from ≡ 0 = cc in let b : n ≡ 0 = cc in record { within = omega arith; bytes = rw (a, b) refl }
-name-texted t Missing from n w e = let a : from ≡ 0 = cc in let b : n ≡ 0 = cc in record { within = omega arith; bytes = rw (a, b) refl }
+name-room t (One q) w = omega arith
+name-room t (Many h n p) w = omega arith
+name-room t (Text p n) w = w
+name-room t Number w = omega arith
+name-room t Missing w = omega arith
 
-form-texted : (t : List ℕ) (p : Part) (from n : ℕ) → Within t p → Literal from n ≡ formIn p → Texted t p from n
+form-room : (t : List ℕ) (p : Part) → Within t p → Room t (formIn p)
 unfolding formIn
-form-texted t (One q) from n w e = let a : from ≡ 0 = cc in let b : n ≡ 0 = cc in record { within = omega arith; bytes = rw (a, b) refl }
-form-texted t (Many h m p) from n w e = let a : from ≡ 0 = cc in let b : n ≡ 0 = cc in record { within = omega arith; bytes = rw (a, b) refl }
-form-texted t (Text p m) from n w e = let a : from ≡ p = cc in let b : n ≡ m = cc in record { within = omega arith; bytes = rw (a, b) refl }
-form-texted t Number from n w e = let a : from ≡ 0 = cc in let b : n ≡ 0 = cc in record { within = omega arith; bytes = rw (a, b) refl }
-form-texted t Missing from n w e = let z : _≡_ {A = ℕ} 0 1 = cc in absurd (omega arith)
+form-room t (One q) w = omega arith
+form-room t (Many h n p) w = omega arith
+form-room t (Text p n) w = w
+form-room t Number w = omega arith
+form-room t Missing w = tt
 
-name-no-form : (p : Part) (from n : ℕ) {A : Type 0} → Name from n ≡ formIn p → A
-unfolding formIn
-name-no-form (One q) from n e = let z : _≡_ {A = ℕ} 0 1 = cc in absurd (omega arith)
-name-no-form (Many h m p) from n e = let z : _≡_ {A = ℕ} 0 1 = cc in absurd (omega arith)
-name-no-form (Text p m) from n e = let z : _≡_ {A = ℕ} 0 1 = cc in absurd (omega arith)
-name-no-form Number from n e = let z : _≡_ {A = ℕ} 0 1 = cc in absurd (omega arith)
-name-no-form Missing from n e = let z : _≡_ {A = ℕ} 0 1 = cc in absurd (omega arith)
+beside-room : (t : List ℕ) (v : ℕ) (k : Key) (p : Part) → Within t p → Room t k → Room t (besideForm t v k p)
+unfolding besideForm
+beside-room t v k p w h = go (standing p) (isStringOf v (spelledAs (textIn t p)))
+  where
+    go : (b f : Bool) → Room t (cond b (cond f (formIn p) (OtherForm v)) k)
+    go true true = form-room t p w
+    go true false = tt
+    go false f = h
 
-form-no-name : (p : Part) (from n : ℕ) {A : Type 0} → Literal from n ≡ nameIn p → A
-unfolding nameIn
-form-no-name (One q) from n e = let z : _≡_ {A = ℕ} 0 1 = cc in absurd (omega arith)
-form-no-name (Many h m p) from n e = let z : _≡_ {A = ℕ} 0 1 = cc in absurd (omega arith)
-form-no-name (Text p m) from n e = let z : _≡_ {A = ℕ} 0 1 = cc in absurd (omega arith)
-form-no-name Number from n e = let z : _≡_ {A = ℕ} 0 1 = cc in absurd (omega arith)
-form-no-name Missing from n e = let z : _≡_ {A = ℕ} 0 1 = cc in absurd (omega arith)
+literal-room : (t : List ℕ) (x : Spelling) (s p : Part) → Within t s → Within t p → Room t (literalBy t x s p)
+unfolding literalBy
+literal-room t (Decimal v) s p a b = beside-room t v (formIn s) p b (form-room t s a)
+literal-room t (Hexadecimal v) s p a b = beside-room t v (variants.Number v) p b tt
+literal-room t Another s p a b = form-room t p b
 
-bare-texted : (t : List ℕ) (p : Part) → NoForm ≡ formIn p → Texted t p 0 0
-unfolding formIn
-bare-texted t (One q) e = let z : _≡_ {A = ℕ} 0 1 = cc in absurd (omega arith)
-bare-texted t (Many h m p) e = let z : _≡_ {A = ℕ} 0 1 = cc in absurd (omega arith)
-bare-texted t (Text p m) e = let z : _≡_ {A = ℕ} 0 1 = cc in absurd (omega arith)
-bare-texted t Number e = let z : _≡_ {A = ℕ} 0 1 = cc in absurd (omega arith)
-bare-texted t Missing e = record { within = omega arith; bytes = refl }
+key-room : (t : List ℕ) (d at : ℕ) → Room t (keyAt t d at)
+unfolding keyAt literalAt literalIn
+key-room t d at =
+    by-sort (keySort (lookNode t d at .value))
+    (λ s. rw s (name-room t (partAt t d at 0) (part-within t d at 0)))
+    (λ s. rw s (literal-room t _ (partAt t d at 1) (partAt t d at 2) (part-within t d at 1) (part-within t d at 2)))
+    (λ s. rw s tt)
+    (λ s. rw s tt)
+    (λ s. rw s tt)
+    (λ s. rw s tt)
 
-bare-no-name : (p : Part) {A : Type 0} → NoForm ≡ nameIn p → A
-unfolding nameIn
-bare-no-name (One q) e = let z : _≡_ {A = ℕ} 0 1 = cc in absurd (omega arith)
-bare-no-name (Many h m p) e = let z : _≡_ {A = ℕ} 0 1 = cc in absurd (omega arith)
-bare-no-name (Text p m) e = let z : _≡_ {A = ℕ} 0 1 = cc in absurd (omega arith)
-bare-no-name Number e = let z : _≡_ {A = ℕ} 0 1 = cc in absurd (omega arith)
-bare-no-name Missing e = let z : _≡_ {A = ℕ} 0 1 = cc in absurd (omega arith)
+-- the text of a key that is written as a string
+abbrev pub entryText : List ℕ → Key → List ℕ
+entryText t (Name p n) = take n (drop p t)
+entryText t (Literal p n) = take n (drop p t)
+entryText t (variants.Number v) = digitsOf v
+entryText t (OtherForm v) = digitsOf v
+entryText t NoForm = []
+entryText t Template = []
+entryText t Private = []
+entryText t Again = []
+entryText t Other = []
+
+entry-string : (t : List ℕ) (c : Context) (q : Node) (k : Key) → classOf k ≡ 1 → keyEntry t c q k ≡ only (string (entryText t k))
+entry-string t c q (Name p n) h = refl
+entry-string t c q (Literal p n) h = refl
+entry-string t c q (variants.Number v) h = refl
+entry-string t c q (OtherForm v) h = refl
+entry-string t c q NoForm h = refl
+entry-string t c q Template h = absurd (omega arith)
+entry-string t c q Private h = absurd (omega arith)
+entry-string t c q Again h = absurd (omega arith)
+entry-string t c q Other h = absurd (omega arith)
+
+-- the text of the first of a list
+abbrev firstText : Items → List ℕ
+firstText Items.none = []
+firstText (Items.hole is) = []
+firstText (Items.item n is) = textAt 2 n
+
+string-text : (bs : List ℕ) → firstText (only (string bs)) ≡ bs
+unfolding textAt pieceIn
+string-text bs = refl
+
+class-spelt : (k : Node) → keyClass k ≡ 1 → entryOf (keySort k) ≡ spelt
+unfolding keyClass
+class-spelt k h = go (entryOf (keySort k)) h
+  where
+    go : (s : lowering.Entry) → _≡_ {A = ℕ} (elim s [ spelt ↦ 1 | itself ↦ 2 | omitted ↦ 3 | saved ↦ 4 ]) 1 → s ≡ spelt
+    go spelt h = refl
+    go itself h = absurd (omega arith)
+    go omitted h = absurd (omega arith)
+    go saved h = absurd (omega arith)
 
 -- the bytes of a key's string
 pub record Spelt (t : List ℕ) (k : Node) (from n : ℕ) : Type 0 where
@@ -229,66 +282,101 @@ module _ (t : List ℕ) (d at : ℕ) where
   abbrev here : Node
   here = lookNode t d at .value
 
-  -- the text of field i
-  spelt : (i from n : ℕ) → Good t d at → Texted t (partAt t d at i) from n → keyString here ≡ stringBytes (textAt i here) → Spelt t here from n
-  unfolding part
-  spelt i from n g x e =
-      let y : textAt i here ≡ take n (drop from t) = text-part t d at i ∙ x .bytes in
-      let w : from + n ≤ length t = x .within in
-      let a : length (textAt i here) ≡ n = ap length y ∙ length-take-le n (drop from t) (simp length-drop (omega arith)) in
-      let b = text-short i here in
+  -- a property that has the key
+  abbrev property : Node
+  property = node 0 35 (field (Piece.one here) done)
+
+  property-key : key property ≡ here
+  unfolding nodeAt pieceIn
+  property-key = refl
+
+  -- the text by what the key becomes
+  module _ (r x : Key) (b : Becomes t d at r) (e : r ≡ x) (h : classOf x ≡ 1) where
+    class-one : keyClass here ≡ 1
+    class-one = sym (key-class t d at r x b e) ∙ h
+
+    pub key-text : keyText here ≡ entryText t x
+    key-text =
+        let c : Context = record { path = []; root = true; statement = true } in
+        sym (string-text (keyText here))
+        ∙ ap firstText
+        (ap (λ (k : Node). only (string (keyText k))) (sym property-key)
+        ∙ sym (key-spelt c property (ap (λ (k : Node). entryOf (keySort k)) property-key ∙ class-spelt here class-one))
+        ∙ b .entry c property property-key
+        ∙ ap (keyEntry t c property) e
+        ∙ entry-string t c property x h)
+        ∙ string-text (entryText t x)
+
+    pub string-is : keyString here ≡ stringBytes (entryText t x)
+    unfolding keyString
+    string-is = rw (class-spelt here class-one, keyString) (ap stringBytes key-text)
+
+  literal-short : (k : Node) → length (textAt 2 k) ≤ 16384 → length (literalText k) ≤ 16384
+  unfolding literalText
+  literal-short k h = go (promised k) (promised-short k)
+    where
+      go : (o : Option (List ℕ)) → ShortString o → length {A = ℕ} (elim o [ some s ↦ s | Option.none ↦ textAt 2 k ]) ≤ 16384
+      go (some s) w = omega arith
+      go Option.none w = h
+
+  -- it is short
+  pub text-small : Good t d at → length (keyText here) ≤ 16384
+  unfolding keyText
+  text-small g =
       let c = good-short t d at g in
-      record {
-        small = omega arith;
-        within = w;
-        string = ap stringBytes (part-take t from n ∙ sym y) ∙ sym e;
-      }
+      by-sort (keySort here)
+      (λ s. rw (s, keyText) (let b = text-short 0 here in omega arith))
+      (λ s. rw (s, keyText) (literal-short here (let b = text-short 2 here in omega arith)))
+      (λ s. rw (s, keyText) (omega arith))
+      (λ s. rw (s, keyText) (omega arith))
+      (λ s. rw (s, keyText) (omega arith))
+      (λ s. rw (s, keyText) (omega arith))
+
+  -- bytes of the input
+  spelt-at : (r x : Key) (from n : ℕ) → Becomes t d at r → r ≡ x → classOf x ≡ 1 → Good t d at → from + n ≤ length t → entryText t x ≡ take n (drop from t) → Spelt t here from n
+  unfolding part
+  spelt-at r x from n b e h g w y =
+      let a : length (keyText here) ≡ n = ap length (key-text r x b e h ∙ y) ∙ length-take-le n (drop from t) (simp length-drop (omega arith)) in
+      let m = text-small g in
+      record { small = omega arith; within = w; string = ap stringBytes (part-take t from n ∙ sym y) ∙ sym (string-is r x b e h) }
+
+  room-here : (r x : Key) → Becomes t d at r → r ≡ x → Room t x
+  room-here r x b e = subst (Room t) (sym (b .variant) ∙ e) (key-room t d at)
 
   module _ (r : Key) (b : Becomes t d at r) (g : Good t d at) (from n : ℕ) where
     pub name-spelt : r ≡ Name from n → Spelt t here from n
-    unfolding keyAt keyString
-    name-spelt e = go (keySort here) refl (sym e ∙ b .variant)
-      where
-        go : (s : lowering.Key) → keySort here ≡ s → Name from n ≡ keyBy s (partAt t d at 0) (partAt t d at 2) → Spelt t here from n
-        go lowering.Key.name w h = spelt 0 from n g (name-texted t (partAt t d at 0) from n (part-within t d at 0) h) (rw (w, keyString) (ap stringBytes (text-name here w)))
-        go lowering.Key.literal w h = name-no-form (partAt t d at 2) from n h
-        go lowering.Key.template w h = let z : _≡_ {A = ℕ} 0 1 = cc in absurd (omega arith)
-        go lowering.Key.private w h = let z : _≡_ {A = ℕ} 0 1 = cc in absurd (omega arith)
-        go lowering.Key.again w h = let z : _≡_ {A = ℕ} 0 1 = cc in absurd (omega arith)
-        go lowering.Key.other w h = let z : _≡_ {A = ℕ} 0 1 = cc in absurd (omega arith)
+    name-spelt e = spelt-at r (Name from n) from n b e refl g (room-here r (Name from n) b e) refl
 
     pub form-spelt : r ≡ Literal from n → Spelt t here from n
-    unfolding keyAt keyString
-    form-spelt e = go (keySort here) refl (sym e ∙ b .variant)
-      where
-        go : (s : lowering.Key) → keySort here ≡ s → Literal from n ≡ keyBy s (partAt t d at 0) (partAt t d at 2) → Spelt t here from n
-        go lowering.Key.name w h = form-no-name (partAt t d at 0) from n h
-        go lowering.Key.literal w h = spelt 2 from n g (form-texted t (partAt t d at 2) from n (part-within t d at 2) h) (rw (w, keyString) (ap stringBytes (text-literal here w)))
-        go lowering.Key.template w h = let z : _≡_ {A = ℕ} 0 1 = cc in absurd (omega arith)
-        go lowering.Key.private w h = let z : _≡_ {A = ℕ} 0 1 = cc in absurd (omega arith)
-        go lowering.Key.again w h = let z : _≡_ {A = ℕ} 0 1 = cc in absurd (omega arith)
-        go lowering.Key.other w h = let z : _≡_ {A = ℕ} 0 1 = cc in absurd (omega arith)
+    form-spelt e = spelt-at r (Literal from n) from n b e refl g (room-here r (Literal from n) b e) refl
 
   -- a literal without a form: the string is empty
   pub bare-spelt : (r : Key) → Becomes t d at r → Good t d at → r ≡ NoForm → Spelt t here 0 0
-  unfolding keyAt keyString
-  bare-spelt r b g e = go (keySort here) refl (sym e ∙ b .variant)
-    where
-      go : (s : lowering.Key) → keySort here ≡ s → NoForm ≡ keyBy s (partAt t d at 0) (partAt t d at 2) → Spelt t here 0 0
-      go lowering.Key.name w h = bare-no-name (partAt t d at 0) h
-      go lowering.Key.literal w h = spelt 2 0 0 g (bare-texted t (partAt t d at 2) h) (rw (w, keyString) (ap stringBytes (text-literal here w)))
-      go lowering.Key.template w h = let z : _≡_ {A = ℕ} 0 1 = cc in absurd (omega arith)
-      go lowering.Key.private w h = let z : _≡_ {A = ℕ} 0 1 = cc in absurd (omega arith)
-      go lowering.Key.again w h = let z : _≡_ {A = ℕ} 0 1 = cc in absurd (omega arith)
-      go lowering.Key.other w h = let z : _≡_ {A = ℕ} 0 1 = cc in absurd (omega arith)
+  bare-spelt r b g e = spelt-at r NoForm 0 0 b e refl g (omega arith) refl
 
   -- what has no string
-  pub no-form : {A : Type 0} (r : Key) → Becomes t d at r → r ≡ NoForm → lacksForm here ≡ false → A
-  no-form r b e h = let z : true ≡ false = ap (λ (k : Key). eqb (keyRefusal k) 6) (sym e) ∙ sym (b .refusal) ∙ h in let y : _≡_ {A = ℕ} 0 1 = cc in absurd (omega arith)
-
   pub no-string : {A : Type 0} (r k : Key) → Becomes t d at r → r ≡ k → keyClass here ≡ 1 → (classOf k ≡ 1 → ⊥) → A
   no-string r k b e h z = absurd (z (key-class t d at r k b e ∙ h))
 
 -- the string is written
 pub string-written : {g g′ : Going} (t : List ℕ) (k : Node) (from n : ℕ) → Spelt t k from n → (n < 65536 → from + n ≤ length t → Does g g′ (say (puts (stringBytes (part from (from + n) t))))) → Does g g′ (say (puts (keyString k)))
 string-written t k from n s d = does-as (d (s .small) (s .within)) (ap (λ (bs : List ℕ). say (puts bs)) (s .string))
+
+-- a number's digits are
+pub number-written : {g g′ : Going} (t : List ℕ) (d at : ℕ) (r x : Key) → Becomes t d at r → r ≡ x → classOf x ≡ 1 → Does g g′ (say (puts (stringBytes (entryText t x)))) → Does g g′ (say (puts (keyString (lookNode t d at .value))))
+number-written t d at r x b e h k = does-as k (ap (λ (bs : List ℕ). say (puts bs)) (sym (string-is t d at r x b e h)))
+
+-- the digits at the end of an array
+pub digits-part : (v from : ℕ) (bs : List ℕ) → length bs ≡ 20 → from ≤ 20 → drop from bs ≡ digitsOf v → part from (from + (20 - from)) bs ≡ digitsOf v
+unfolding part
+digits-part v from bs l h e =
+    let z : from + (20 - from) ≡ 20 = omega arith in
+    ap (λ (n : ℕ). drop from (take n bs)) z ∙ ap (drop from) (take-all 20 bs (omega arith)) ∙ e
+
+-- so a string of them is written
+module _ (v from : ℕ) (bs : List ℕ) (l : length bs ≡ 20) (h : from ≤ 20) (e : drop from bs ≡ digitsOf v) where
+  pub digits-put : {g g′ : Going} → (20 - from < 65536 → from + (20 - from) ≤ length bs → Does g g′ (say (puts (stringBytes (part from (from + (20 - from)) bs))))) → Does g g′ (say (puts (stringBytes (digitsOf v))))
+  digits-put k = does-as (k (omega arith) (omega arith)) (ap (λ (x : List ℕ). say (puts (stringBytes x))) (digits-part v from bs l h e))
+
+  pub digits-excluded : {g g′ : Going} → (20 - from < 65536 → from + (20 - from) ≤ length bs → Does g g′ (say (excludes (stringBytes (part from (from + (20 - from)) bs))))) → Does g g′ (say (excludes (stringBytes (digitsOf v))))
+  digits-excluded k = does-as (k (omega arith) (omega arith)) (ap (λ (x : List ℕ). say (excludes (stringBytes x))) (digits-part v from bs l h e))

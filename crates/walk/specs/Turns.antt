@@ -21,7 +21,7 @@ use Rattle.pattern.specs.declared.source.Read.the-variants.{Expression, Tempora
 use Rattle.pattern.specs.declared.source.ReferenceBuilder.{ReferenceBuilder}
 use Rattle.pattern.specs.Source.{readOf}
 use Rattle.direct.specs.Events.{Deed, Place, Emit, puts, excludes, emits}
-use Rattle.direct.specs.Events.Deed.{does}
+use Rattle.direct.specs.Events.Deed.{does, refuses}
 use Rattle.direct.specs.Emit.{say, _▷_}
 use Rattle.direct.specs.Views.{View, emitsView, emitsProperty}
 use Rattle.direct.specs.Views.View.{replacing, taking}
@@ -145,6 +145,11 @@ movesOf false n = movedFrom n
 
 abbrev pub AllBind : Bool → Items → Type 0
 AllBind arrays ns = arrays ≡ false → AllSuit 11 ns
+
+-- what is done if nothing is refused, the number being 0; else the refusal, and two bytes in place of the node
+abbrev pub unlessRefused : ℕ → Emit → Emit
+unlessRefused zero e = e
+unlessRefused (suc r) e = say (refuses (suc r) ∷ puts (0 ∷ 0 ∷ []))
 
 -- what is assigned: the expression at x, or the temporary of the cell x with its stem
 unfoldable pub givenDeeds : List ℕ → ℕ → Place → Bool → ℕ → ℕ → Emit

@@ -348,6 +348,8 @@ fn exclude_key(w: Walk, t: &[u8], work: &mut [u8], left: usize, at: usize) -> Wa
     match transform_property_key(t, left, at) {
         Key::Name { from, len } => w.excluded_string(work, t, from, len),
         Key::Literal { from, len } => w.excluded_string(work, t, from, len),
+        Key::Number { value } => w.excluded_number(work, value),
+        Key::OtherForm { value } => w.excluded_number(work, value),
         Key::NoForm => w.excluded_string(work, t, 0, 0),
         Key::Template => w.excluded_copy(work, t, at, skip(t, left, at)),
         Key::Private => w,

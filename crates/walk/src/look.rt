@@ -120,6 +120,8 @@ pub fn key_sort(t: &[u8], left: usize, at: usize) -> usize
     match transform_property_key(t, left, at) {
         Key::Name { from: _, len: _ } => 1,
         Key::Literal { from: _, len: _ } => 1,
+        Key::Number { value: _ } => 1,
+        Key::OtherForm { value: _ } => 1,
         Key::NoForm => 1,
         Key::Template => 2,
         Key::Private => 3,

@@ -69,13 +69,15 @@ pub fn source(
     }
 }
 
-// A key as a string of its form.
+// A key as a string.
 pub fn string(w: Walk, t: &[u8], out: &mut [u8], left: usize, at: usize) -> Walk
     ensures { λ r. ⌜ (r .at ≡ w .at) × ((l k : List ℕ) → Good (now (t .entry)) left at → keyClass (lookNode (now (t .entry)) left at .value) ≡ 1 → Does (goingOf (now (out .entry)) l k w) (goingOf (now (out .exit)) l k r) (say (puts (keyString (lookNode (now (t .entry)) left at .value))))) ⌝ }
 {
     match transform_property_key(t, left, at) {
         Key::Name { from, len } => w.string(t, out, from, len),
         Key::Literal { from, len } => w.string(t, out, from, len),
+        Key::Number { value } => w.number(out, value),
+        Key::OtherForm { value } => w.number(out, value),
         Key::NoForm => w.string(t, out, 0, 0),
         Key::Template => w,
         Key::Private => w,

@@ -1,4 +1,5 @@
 // What the walk hands on, and the small steps that emitters are made of.
+use pattern::numbers::digits_of;
 use sink::Sink;
 ghost use mathlib.Core.Path.{_≡_};
 ghost use mathlib.Core.Bool.{cond, _&&_};
@@ -7,6 +8,7 @@ ghost use lib.Dec.{ltb};
 ghost use Prim.Native.Nat.{ℕ, _+_, _<_, _≤_};
 ghost use lib.ListN.{length};
 ghost use Rattle.tree.specs.Tree.{wideBytes};
+ghost use Rattle.lowering.specs.Numbers.{digitsOf};
 ghost use Rattle.sink.specs.Machine.{part, treeLimit};
 ghost use Rattle.sink.specs.Machine.Event.{helper, temporary, newMark, make, listedTemporary, entry, excludedTemporary, declarator};
 ghost use Rattle.direct.specs.Events.{puts, lists, excludes};
@@ -243,6 +245,16 @@ impl Walk {
         }
     }
 
+    // A string of the digits of a value.
+    pub fn number(self, out: &mut [u8], value: usize) -> Walk
+        ensures { λ r. ⌜ ((l w : List ℕ) → Does (goingOf (now (out .entry)) l w self) (goingOf (now (out .exit)) l w r) (say (puts (stringBytes (digitsOf value))))) × (r .at ≡ self .at) ⌝ }
+    {
+        let d = digits_of(value);
+        let bytes = d.bytes;
+        let from = d.from;
+        self.string(&bytes, out, from, 20 - from)
+    }
+
     // ---- the list and the excluded keys
 
     pub fn entry(self, list: &mut [u8], mark: usize, n: usize) -> Walk
@@ -328,5 +340,14 @@ impl Walk {
             at: self.at,
             refusal: self.refusal,
         }
+    }
+
+    pub fn excluded_number(self, work: &mut [u8], value: usize) -> Walk
+        ensures { λ r. ⌜ ((o l : List ℕ) → Does (goingOf o l (now (work .entry)) self) (goingOf o l (now (work .exit)) r) (say (excludes (stringBytes (digitsOf value))))) × (r .at ≡ self .at) ⌝ }
+    {
+        let d = digits_of(value);
+        let bytes = d.bytes;
+        let from = d.from;
+        self.excluded_string(work, &bytes, from, 20 - from)
     }
 }

@@ -90,7 +90,7 @@ use Rattle.walk.proofs.walk.Walk.mark.Reads as mark-reads
 use Rattle.walk.proofs.walk.Walk.new_mark.Reads as new-mark-reads
 use Rattle.walk.proofs.walk.Walk.refuse.Reads as refuse-reads
 use Rattle.emit.proofs.Assigning as assigning
-use Rattle.pattern.proofs.keys.lacks_form.Reads as lacks-form-reads
+use Rattle.pattern.proofs.keys.refusal.Reads as refusal-reads
 use Rattle.pattern.proofs.tally.plus.Reads as plus-reads
 use Rattle.walk.proofs.hand.nested_hands.Reads as nested-hands-reads
 use Rattle.walk.proofs.hand.places_in.Reads as places-in-reads
@@ -102,7 +102,7 @@ use Rattle.emit.proofs.MovedPatterns as moving
 use Rattle.emit.proofs.Bodying as bodying
 use Rattle.pattern.proofs.declarators.pattern_declarators.Reads as pattern-declarators-reads
 use Rattle.pattern.proofs.parts.stands.Reads as stands-reads
-use Rattle.pattern.proofs.rests.below_lacks_form.Reads as below-lacks-form-reads
+use Rattle.pattern.proofs.rests.refusal_below.Reads as refusal-below-reads
 use Rattle.walk.proofs.hand.pattern_hands.Reads as pattern-hands-reads
 use Rattle.walk.proofs.look.first_bit.Reads as first-bit-reads
 use Rattle.walk.proofs.look.second.Reads as second-reads
@@ -110,7 +110,7 @@ use Rattle.tree.proofs.skip.skip_items.Reads as skip-items-reads
 use Rattle.emit.proofs.Finding as finding
 use Rattle.emit.proofs.Declaring as declaring
 use Rattle.pattern.proofs.declarators.declaration_becomes.Reads as declaration-becomes-reads
-use Rattle.pattern.proofs.declarators.declaration_lacks_form.Reads as declaration-lacks-form-reads
+use Rattle.pattern.proofs.declarators.declaration_refusal.Reads as declaration-refusal-reads
 use Rattle.pattern.proofs.source.ReferenceBuilder.create_read_expression.Reads as create-read-expression-reads
 use Rattle.pattern.proofs.source.ReferenceBuilder.new.Reads as new-reads
 use Rattle.walk.proofs.hand.declaration_hands.Reads as declaration-hands-reads
@@ -345,7 +345,7 @@ abbrev μ-vo : Measures 4 vo.Kinds.ps ℕ
 μ-vo κs a = 131072 * (64 * a .1 .1 .1 .1 .1 .0 .left + 26)
 
 abbrev add-claims : ℕ → cycle.Lts-add.Claims
-add-claims t = (at-root-reads.Asked, at-root-reads.Learnt, inside-reads.Asked, inside-reads.Learnt, mark-reads.Asked, mark-reads.Learnt, marked-reads.Asked, marked-reads.Learnt, has-nested-object-rest-reads.Asked, has-nested-object-rest-reads.Learnt, below-lacks-form-reads.Asked, below-lacks-form-reads.Learnt, refuse-reads.Asked, refuse-reads.Learnt, pattern-hands-reads.Asked, pattern-hands-reads.Learnt, pattern-declarators-reads.Asked, pattern-declarators-reads.Learnt, declaration-reads.Asked, declaration-reads.Learnt, to-reads.Asked, to-reads.Learnt, cell-source-reads.Asked, cell-source-reads.Learnt, below-measure pa.Kinds.ps μ-pa pa.Reads.Pre t, pa.Reads.Post, put2-reads.Asked, put2-reads.Learnt, below-measure node.Kinds.ps μ-node node.Reads.Pre t, node.Reads.Post, temporary-reads.Asked, temporary-reads.Learnt)
+add-claims t = (at-root-reads.Asked, at-root-reads.Learnt, inside-reads.Asked, inside-reads.Learnt, mark-reads.Asked, mark-reads.Learnt, marked-reads.Asked, marked-reads.Learnt, has-nested-object-rest-reads.Asked, has-nested-object-rest-reads.Learnt, refusal-below-reads.Asked, refusal-below-reads.Learnt, refuse-reads.Asked, refuse-reads.Learnt, pattern-hands-reads.Asked, pattern-hands-reads.Learnt, pattern-declarators-reads.Asked, pattern-declarators-reads.Learnt, declaration-reads.Asked, declaration-reads.Learnt, to-reads.Asked, to-reads.Learnt, cell-source-reads.Asked, cell-source-reads.Learnt, below-measure pa.Kinds.ps μ-pa pa.Reads.Pre t, pa.Reads.Post, put2-reads.Asked, put2-reads.Learnt, below-measure node.Kinds.ps μ-node node.Reads.Pre t, node.Reads.Post, temporary-reads.Asked, temporary-reads.Learnt)
 
 abbrev ta-claims : ℕ → cycle.Lts-ta.Claims
 ta-claims t = (at-root-reads.Asked, at-root-reads.Learnt, mark-reads.Asked, mark-reads.Learnt, statement-reads.Asked, statement-reads.Learnt, put2-reads.Asked, put2-reads.Learnt, new-mark-reads.Asked, new-mark-reads.Learnt, below-measure an.Kinds.ps μ-an an.Reads.Pre t, an.Reads.Post)
@@ -378,7 +378,7 @@ abbrev da-claims : ℕ → cycle.Lts-da.Claims
 da-claims t = (skip-reads.Asked, skip-reads.Learnt, to-reads.Asked, to-reads.Learnt, step-reads.Asked, step-reads.Learnt, wide-at-reads.Asked, wide-at-reads.Learnt, less-reads.Asked, less-reads.Learnt, under-reads.Asked, under-reads.Learnt, item-mode-reads.Asked, item-mode-reads.Learnt, below-measure seq.Kinds.ps μ-seq seq.Reads.Pre t, seq.Reads.Post)
 
 abbrev decl-claims : ℕ → cycle.Lts-decl.Claims
-decl-claims t = (at-root-reads.Asked, at-root-reads.Learnt, declaration-lacks-form-reads.Asked, declaration-lacks-form-reads.Learnt, refuse-reads.Asked, refuse-reads.Learnt, skip-reads.Asked, skip-reads.Learnt, to-reads.Asked, to-reads.Learnt, declaration-hands-reads.Asked, declaration-hands-reads.Learnt, step-reads.Asked, step-reads.Learnt, declaration-becomes-reads.Asked, declaration-becomes-reads.Learnt, copy-reads.Asked, copy-reads.Learnt, wide-reads.Asked, wide-reads.Learnt, less-reads.Asked, less-reads.Learnt, under-reads.Asked, under-reads.Learnt, wide-at-reads.Asked, wide-at-reads.Learnt, below-measure seq.Kinds.ps μ-seq seq.Reads.Pre t, seq.Reads.Post)
+decl-claims t = (at-root-reads.Asked, at-root-reads.Learnt, declaration-refusal-reads.Asked, declaration-refusal-reads.Learnt, refuse-reads.Asked, refuse-reads.Learnt, skip-reads.Asked, skip-reads.Learnt, to-reads.Asked, to-reads.Learnt, declaration-hands-reads.Asked, declaration-hands-reads.Learnt, step-reads.Asked, step-reads.Learnt, declaration-becomes-reads.Asked, declaration-becomes-reads.Learnt, copy-reads.Asked, copy-reads.Learnt, wide-reads.Asked, wide-reads.Learnt, less-reads.Asked, less-reads.Learnt, under-reads.Asked, under-reads.Learnt, wide-at-reads.Asked, wide-at-reads.Learnt, below-measure seq.Kinds.ps μ-seq seq.Reads.Pre t, seq.Reads.Post)
 
 abbrev deep-claims : ℕ → cycle.Lts-deep.Claims
 deep-claims t = (peek-reads.Asked, peek-reads.Learnt, below-measure db.Kinds.ps μ-db db.Reads.Pre t, db.Reads.Post, below-measure da.Kinds.ps μ-da da.Reads.Pre t, da.Reads.Post, less-reads.Asked, less-reads.Learnt, step-reads.Asked, step-reads.Learnt, to-reads.Asked, to-reads.Learnt, under-reads.Asked, under-reads.Learnt, below-measure deep.Kinds.ps μ-deep deep.Reads.Pre t, deep.Reads.Post, skip-reads.Asked, skip-reads.Learnt)
@@ -495,7 +495,7 @@ abbrev th-claims : ℕ → cycle.Lts-th.Claims
 th-claims t = (less-reads.Asked, less-reads.Learnt, step-reads.Asked, step-reads.Learnt, scoped-reads.Asked, scoped-reads.Learnt, make-reads.Asked, make-reads.Learnt, copy-reads.Asked, copy-reads.Learnt, declaration-reads.Asked, declaration-reads.Learnt, put2-reads.Asked, put2-reads.Learnt, temporary-reads.Asked, temporary-reads.Learnt, skip-reads.Asked, skip-reads.Learnt, to-reads.Asked, to-reads.Learnt, below-measure node.Kinds.ps μ-node node.Reads.Pre t, node.Reads.Post, below-measure tb.Kinds.ps μ-tb tb.Reads.Pre t, tb.Reads.Post, await-of-reads.Asked, await-of-reads.Learnt)
 
 abbrev top-claims : ℕ → cycle.Lts-top.Claims
-top-claims t = (lacks-form-reads.Asked, lacks-form-reads.Learnt, refuse-reads.Asked, refuse-reads.Learnt, told-inside-reads.Asked, told-inside-reads.Learnt, top-hands-reads.Asked, top-hands-reads.Learnt, top-count-reads.Asked, top-count-reads.Learnt, put2-reads.Asked, put2-reads.Learnt, wide-reads.Asked, wide-reads.Learnt, assign-reads.Asked, assign-reads.Learnt, cell-reads.Asked, cell-reads.Learnt, temporary-reads.Asked, temporary-reads.Learnt, below-measure gv.Kinds.ps μ-gv gv.Reads.Pre t, gv.Reads.Post, below-measure tg.Kinds.ps μ-tg tg.Reads.Pre t, tg.Reads.Post, below-measure pr.Kinds.ps μ-pr pr.Reads.Pre t, pr.Reads.Post, less-reads.Asked, less-reads.Learnt, below-measure node.Kinds.ps μ-node node.Reads.Pre t, node.Reads.Post, cell-source-reads.Asked, cell-source-reads.Learnt, below-measure rest.Kinds.ps μ-rest rest.Reads.Pre t, rest.Reads.Post)
+top-claims t = (refusal-reads.Asked, refusal-reads.Learnt, refuse-reads.Asked, refuse-reads.Learnt, told-inside-reads.Asked, told-inside-reads.Learnt, top-hands-reads.Asked, top-hands-reads.Learnt, top-count-reads.Asked, top-count-reads.Learnt, put2-reads.Asked, put2-reads.Learnt, wide-reads.Asked, wide-reads.Learnt, assign-reads.Asked, assign-reads.Learnt, cell-reads.Asked, cell-reads.Learnt, temporary-reads.Asked, temporary-reads.Learnt, below-measure gv.Kinds.ps μ-gv gv.Reads.Pre t, gv.Reads.Post, below-measure tg.Kinds.ps μ-tg tg.Reads.Pre t, tg.Reads.Post, below-measure pr.Kinds.ps μ-pr pr.Reads.Pre t, pr.Reads.Post, less-reads.Asked, less-reads.Learnt, below-measure node.Kinds.ps μ-node node.Reads.Pre t, node.Reads.Post, cell-source-reads.Asked, cell-source-reads.Learnt, below-measure rest.Kinds.ps μ-rest rest.Reads.Pre t, rest.Reads.Post)
 
 abbrev turn-claims : ℕ → cycle.Lts-turn.Claims
 turn-claims t = (peek-reads.Asked, peek-reads.Learnt, hole-reads.Asked, hole-reads.Learnt, below-measure view.Kinds.ps μ-view view.Reads.Pre t, view.Reads.Post, below-measure prop.Kinds.ps μ-prop prop.Reads.Pre t, prop.Reads.Post, below-measure ek.Kinds.ps μ-ek ek.Reads.Pre t, ek.Reads.Post, below-measure kv.Kinds.ps μ-kv kv.Reads.Pre t, kv.Reads.Post, below-measure vl.Kinds.ps μ-vl vl.Reads.Pre t, vl.Reads.Post, below-measure dr.Kinds.ps μ-dr dr.Reads.Pre t, dr.Reads.Post, below-measure bi.Kinds.ps μ-bi bi.Reads.Pre t, bi.Reads.Post, below-measure go.Kinds.ps μ-go go.Reads.Pre t, go.Reads.Post, below-measure deep.Kinds.ps μ-deep deep.Reads.Pre t, deep.Reads.Post)
@@ -513,10 +513,10 @@ abbrev vo-claims : ℕ → cycle.Lts-vo.Claims
 vo-claims t = (less-reads.Asked, less-reads.Learnt, has-second-reads.Asked, has-second-reads.Learnt, replaces-reads.Asked, replaces-reads.Learnt, temporary-reads.Asked, temporary-reads.Learnt, skip-reads.Asked, skip-reads.Learnt, to-reads.Asked, to-reads.Learnt, step-reads.Asked, step-reads.Learnt, wide-at-reads.Asked, wide-at-reads.Learnt, put2-reads.Asked, put2-reads.Learnt, wide-reads.Asked, wide-reads.Learnt, inside-reads.Asked, inside-reads.Learnt, property-mode-reads.Asked, property-mode-reads.Learnt, below-measure seq.Kinds.ps μ-seq seq.Reads.Pre t, seq.Reads.Post)
 
 add-returns : (t : ℕ) → cycle.Lts-add.Need-returns (add-claims t) (at-measure add.Kinds.ps μ-add add.Reads.Pre t) add.Reads.Post
-add-returns t c = moving.add-refused _ _ _ _ _ _ _ (c .before .before .before .before .before .before .before .has-nested-object-rest .ensures) (c .before .before .before .before .before .before .if1 .taken) (c .before .before .before .before .before .below-lacks-form .ensures) (c .before .before .before .before .if2 .taken) (c .before .before .refuse .ensures .0 _ _)
+add-returns t c = moving.add-refused _ _ _ _ _ _ _ (c .before .before .before .before .before .before .before .has-nested-object-rest .ensures) (c .before .before .before .before .before .before .if1 .taken) (c .before .before .before .before .before .refusal-below .ensures) (c .before .before .before .before .if2 .taken) (c .before .before .refuse .ensures .0 _ _)
 
 add-returns-2 : (t : ℕ) → cycle.Lts-add.Need-returns-2 (add-claims t) (at-measure add.Kinds.ps μ-add add.Reads.Pre t) add.Reads.Post
-add-returns-2 t c = moving.add-lowered _ _ _ _ _ _ _ _ _ _ _ _ _ _ _ (c .before .before .before .before .before .before .before .before .before .before .before .before .before .before .before .before .before .before .before .before .before .before .before .before .before .before .before .has-nested-object-rest .ensures) (c .before .before .before .before .before .before .before .before .before .before .before .before .before .before .before .before .before .before .before .before .before .before .before .before .before .before .if1 .taken) (c .before .before .before .before .before .before .before .before .before .before .before .before .before .before .before .before .before .before .before .before .before .before .before .before .before .below-lacks-form .ensures) (c .before .before .before .before .before .before .before .before .before .before .before .before .before .before .before .before .before .before .before .before .before .before .before .before .if2 .left) (c .before .before .before .before .before .before .before .before .before .before .before .before .before .before .before .before .before .before .before .before .before .before .before .before .before .before .before .before .before .before .before .at-root .ensures) (c .before .before .before .before .before .before .before .before .before .before .before .before .before .before .before .before .before .before .before .before .before .before .before .before .before .before .before .before .before .before .inside .ensures .0) (c .before .before .before .before .before .before .before .before .before .before .before .before .before .before .before .before .before .before .before .before .before .before .before .before .before .before .before .before .before .mark .ensures) (told.own-marked _ _ (c .before .before .before .before .before .before .before .before .before .before .before .before .before .before .before .before .before .before .before .before .before .before .before .before .before .before .before .before .before .before .before .at-root .ensures) _ (c .before .before .before .before .before .before .before .before .before .before .before .before .before .before .before .before .before .before .before .before .before .before .before .before .before .before .before .before .before .before .inside .ensures .0) (c .before .before .before .before .before .before .before .before .before .before .before .before .before .before .before .before .before .before .before .before .before .before .before .before .before .before .before .before .marked .ensures .0)) (c .before .before .before .before .before .before .before .before .before .before .before .before .before .before .before .before .before .before .before .before .before .before .before .before .before .before .before .before .marked .ensures .1 ∙ c .before .before .before .before .before .before .before .before .before .before .before .before .before .before .before .before .before .before .before .before .before .before .before .before .before .before .before .before .before .before .inside .ensures .1) (c .before .before .before .before .before .before .before .before .before .before .before .before .before .before .before .before .before .before .before .before .before .pattern-hands .ensures .1 _) (c .before .before .before .before .before .before .before .before .before .before .before .before .before .before .before .before .pattern-declarators .ensures) (c .before .before .before .before .before .before .before .before .before .before .before .before .before .before .declaration .ensures .0 _ _) (c .before .before .before .before .before .before .before .before .before .before .before .to .ensures .0 _ _ _) (c .before .before .before .before .before .before .before .before .before .before .before .to .ensures .1) (c .before .before .before .before .before .before .before .cell-source .ensures _) (c .before .before .before .before .before .before .pa .ensures)
+add-returns-2 t c = moving.add-lowered _ _ _ _ _ _ _ _ _ _ _ _ _ _ _ (c .before .before .before .before .before .before .before .before .before .before .before .before .before .before .before .before .before .before .before .before .before .before .before .before .before .before .before .has-nested-object-rest .ensures) (c .before .before .before .before .before .before .before .before .before .before .before .before .before .before .before .before .before .before .before .before .before .before .before .before .before .before .if1 .taken) (c .before .before .before .before .before .before .before .before .before .before .before .before .before .before .before .before .before .before .before .before .before .before .before .before .before .refusal-below .ensures) (c .before .before .before .before .before .before .before .before .before .before .before .before .before .before .before .before .before .before .before .before .before .before .before .before .if2 .left) (c .before .before .before .before .before .before .before .before .before .before .before .before .before .before .before .before .before .before .before .before .before .before .before .before .before .before .before .before .before .before .before .at-root .ensures) (c .before .before .before .before .before .before .before .before .before .before .before .before .before .before .before .before .before .before .before .before .before .before .before .before .before .before .before .before .before .before .inside .ensures .0) (c .before .before .before .before .before .before .before .before .before .before .before .before .before .before .before .before .before .before .before .before .before .before .before .before .before .before .before .before .before .mark .ensures) (told.own-marked _ _ (c .before .before .before .before .before .before .before .before .before .before .before .before .before .before .before .before .before .before .before .before .before .before .before .before .before .before .before .before .before .before .before .at-root .ensures) _ (c .before .before .before .before .before .before .before .before .before .before .before .before .before .before .before .before .before .before .before .before .before .before .before .before .before .before .before .before .before .before .inside .ensures .0) (c .before .before .before .before .before .before .before .before .before .before .before .before .before .before .before .before .before .before .before .before .before .before .before .before .before .before .before .before .marked .ensures .0)) (c .before .before .before .before .before .before .before .before .before .before .before .before .before .before .before .before .before .before .before .before .before .before .before .before .before .before .before .before .marked .ensures .1 ∙ c .before .before .before .before .before .before .before .before .before .before .before .before .before .before .before .before .before .before .before .before .before .before .before .before .before .before .before .before .before .before .inside .ensures .1) (c .before .before .before .before .before .before .before .before .before .before .before .before .before .before .before .before .before .before .before .before .before .pattern-hands .ensures .1 _) (c .before .before .before .before .before .before .before .before .before .before .before .before .before .before .before .before .pattern-declarators .ensures) (c .before .before .before .before .before .before .before .before .before .before .before .before .before .before .declaration .ensures .0 _ _) (c .before .before .before .before .before .before .before .before .before .before .before .to .ensures .0 _ _ _) (c .before .before .before .before .before .before .before .before .before .before .before .to .ensures .1) (c .before .before .before .before .before .before .before .cell-source .ensures _) (c .before .before .before .before .before .before .pa .ensures)
 
 add-returns-3 : (t : ℕ) → cycle.Lts-add.Need-returns-3 (add-claims t) (at-measure add.Kinds.ps μ-add add.Reads.Pre t) add.Reads.Post
 add-returns-3 t c = moving.add-kept _ _ _ _ _ _ _ _ _ _ _ _ (c .before .before .before .before .before .before .before .before .before .before .before .before .before .before .before .before .before .before .before .before .before .before .before .before .before .before .before .before .before .before .has-nested-object-rest .ensures) (c .before .before .before .before .before .before .before .before .before .before .before .before .before .before .before .before .before .before .before .before .before .before .before .before .before .before .before .before .before .if1 .left) (c .before .before .before .before .before .before .before .before .before .before .before .before .before .before .before .before .before .before .before .before .before .before .before .before .before .before .before .before .before .before .before .before .before .inside .ensures .0) (c .before .before .before .before .before .before .before .before .before .before .before .before .before .before .before .before .before .before .before .before .before .before .before .before .before .before .before .before .before .before .before .before .mark .ensures) (c .before .before .before .before .before .before .before .before .before .before .before .before .before .before .before .before .before .before .before .before .before .before .before .before .before .before .before .before .before .before .before .marked .ensures .0) (c .before .before .before .before .before .before .before .before .before .before .before .before .before .before .before .before .before .before .before .before .before .before .before .before .before .before .before .before .before .before .before .marked .ensures .1 ∙ c .before .before .before .before .before .before .before .before .before .before .before .before .before .before .before .before .before .before .before .before .before .before .before .before .before .before .before .before .before .before .before .before .before .inside .ensures .1) (c .before .before .before .before .before .before .before .before .before .before .before .before .before .before .before .before .before .before .before .before .before .before .before .before .before .before .before .declaration2 .ensures .0 _ _) (c .before .before .before .before .before .before .before .before .before .before .before .before .before .before .before .before .before .before .before .before .before .before .before .put2 .ensures .0 _ _) (c .before .before .before .before .before .before .before .before .before .before .before .before .before .before .before .before .before .before .before .before .to2 .ensures .0 _ _ _) (c .before .before .before .before .before .before .before .before .before .before .before .before .before .before .before .before .before .before .before .before .to2 .ensures .1) (c .before .before .before .before .before .before .before .before .before .before .before .before .before .before .before .before .node .ensures) (c .before .before .before .before .before .before .temporary .ensures .0)
@@ -647,10 +647,10 @@ decl-returns : (t : ℕ) → cycle.Lts-decl.Need-returns (decl-claims t) (at-mea
 decl-returns t c = λ k. (node-none _ _ _ (c .if1 .taken), λ good. good-none _ _ _ (c .if1 .taken) good)
 
 decl-returns-2 : (t : ℕ) → cycle.Lts-decl.Need-returns-2 (decl-claims t) (at-measure decl.Kinds.ps μ-decl decl.Reads.Pre t) decl.Reads.Post
-decl-returns-2 t c = declaring.declaration-refuses _ _ _ _ _ _ _ (c .before .before .before .before .before .before .before .declaration-lacks-form .ensures) (c .before .before .before .before .before .before .if2 .taken) (c .before .before .before .before .refuse .ensures .0 _ _) (c .before .skip .ensures) (c .to .ensures .1) (c .to .ensures .0 _ _ _)
+decl-returns-2 t c = declaring.declaration-refuses _ _ _ _ _ _ _ (c .before .before .before .before .before .before .before .declaration-refusal .ensures) (c .before .before .before .before .before .before .if2 .taken) (c .before .before .before .before .refuse .ensures .0 _ _) (c .before .skip .ensures) (c .to .ensures .1) (c .to .ensures .0 _ _ _)
 
 decl-returns-3 : (t : ℕ) → cycle.Lts-decl.Need-returns-3 (decl-claims t) (at-measure decl.Kinds.ps μ-decl decl.Reads.Pre t) decl.Reads.Post
-decl-returns-3 t c = declaring.declaration-writes _ _ _ _ _ _ _ _ _ _ _ _ _ _ _ _ _ _ (c .before .before .before .before .before .before .before .before .before .before .before .before .before .before .before .before .before .before .before .before .before .before .before .before .before .before .before .before .before .before .before .before .before .before .before .declaration-lacks-form .ensures) (c .before .before .before .before .before .before .before .before .before .before .before .before .before .before .before .before .before .before .before .before .before .before .before .before .before .before .before .before .before .before .before .before .before .before .if2 .left) (c .before .before .before .before .before .before .before .before .before .before .before .before .before .before .before .before .before .before .before .before .before .before .before .before .before .before .before .before .before .before .before .before .before .before .before .before .before .before .at-root .ensures) (c .before .before .before .before .before .before .before .before .before .before .before .before .before .before .before .before .before .before .before .before .before .before .before .before .before .before .before .before .before .before .before .declaration-hands .ensures .0) (c .before .before .before .before .before .before .before .before .before .before .before .before .before .before .before .before .before .before .before .before .before .before .before .before .before .before .before .before .before .before .before .declaration-hands .ensures .1 _) (c .before .before .before .before .before .before .before .before .before .before .before .before .before .before .before .before .before .before .before .before .before .before .before .before .before .before .step .ensures) (c .before .before .before .before .before .before .before .before .before .before .before .before .before .before .before .before .before .before .before .before .before .before .before .before .before .declaration-becomes .ensures) (c .before .before .before .before .before .before .before .before .before .before .before .before .before .before .before .before .before .before .before .before .before .before .before .copy .ensures .0 _ _) (c .before .before .before .before .before .before .before .before .before .before .before .before .before .before .before .before .before .before .before .wide .ensures .0 _ _) (c .before .before .before .before .before .before .before .before .before .before .before .before .before .before .before .before .step2 .ensures) (c .before .before .before .before .before .before .before .before .before .before .before .before .before .before .before .to2 .ensures .1) (c .before .before .before .before .before .before .before .before .before .before .before .before .before .before .before .to2 .ensures .0 _ _ _) (c .before .before .before .before .before .before .before .before .before .before .before .before .before .before .skip2 .ensures) (c .before .before .before .before .before .before .before .before .before .before .less .ensures) (told.with-own _ (c .before .before .before .before .before .before .before .before .before .under .ensures .0) (c .before .before .before .before .before .before .before .before .before .before .before .before .before .before .before .before .before .before .before .before .before .before .before .before .before .before .before .before .before .before .before .before .before .before .before .before .before .before .at-root .ensures)) (c .before .before .before .before .before .before .before .before .before .under .ensures .1) (c .before .before .before .before .before .before .before .before .wide-at .ensures) (told.items-with _ _ _ _ _ _ _ _ _ _ _ told.told-10 (c .before .before .before .before .before .before .before .seq .ensures)) (c .to3 .ensures .1) (c .to3 .ensures .0 _ _ _)
+decl-returns-3 t c = declaring.declaration-writes _ _ _ _ _ _ _ _ _ _ _ _ _ _ _ _ _ _ (c .before .before .before .before .before .before .before .before .before .before .before .before .before .before .before .before .before .before .before .before .before .before .before .before .before .before .before .before .before .before .before .before .before .before .before .declaration-refusal .ensures) (c .before .before .before .before .before .before .before .before .before .before .before .before .before .before .before .before .before .before .before .before .before .before .before .before .before .before .before .before .before .before .before .before .before .before .if2 .left) (c .before .before .before .before .before .before .before .before .before .before .before .before .before .before .before .before .before .before .before .before .before .before .before .before .before .before .before .before .before .before .before .before .before .before .before .before .before .before .at-root .ensures) (c .before .before .before .before .before .before .before .before .before .before .before .before .before .before .before .before .before .before .before .before .before .before .before .before .before .before .before .before .before .before .before .declaration-hands .ensures .0) (c .before .before .before .before .before .before .before .before .before .before .before .before .before .before .before .before .before .before .before .before .before .before .before .before .before .before .before .before .before .before .before .declaration-hands .ensures .1 _) (c .before .before .before .before .before .before .before .before .before .before .before .before .before .before .before .before .before .before .before .before .before .before .before .before .before .before .step .ensures) (c .before .before .before .before .before .before .before .before .before .before .before .before .before .before .before .before .before .before .before .before .before .before .before .before .before .declaration-becomes .ensures) (c .before .before .before .before .before .before .before .before .before .before .before .before .before .before .before .before .before .before .before .before .before .before .before .copy .ensures .0 _ _) (c .before .before .before .before .before .before .before .before .before .before .before .before .before .before .before .before .before .before .before .wide .ensures .0 _ _) (c .before .before .before .before .before .before .before .before .before .before .before .before .before .before .before .before .step2 .ensures) (c .before .before .before .before .before .before .before .before .before .before .before .before .before .before .before .to2 .ensures .1) (c .before .before .before .before .before .before .before .before .before .before .before .before .before .before .before .to2 .ensures .0 _ _ _) (c .before .before .before .before .before .before .before .before .before .before .before .before .before .before .skip2 .ensures) (c .before .before .before .before .before .before .before .before .before .before .less .ensures) (told.with-own _ (c .before .before .before .before .before .before .before .before .before .under .ensures .0) (c .before .before .before .before .before .before .before .before .before .before .before .before .before .before .before .before .before .before .before .before .before .before .before .before .before .before .before .before .before .before .before .before .before .before .before .before .before .before .at-root .ensures)) (c .before .before .before .before .before .before .before .before .before .under .ensures .1) (c .before .before .before .before .before .before .before .before .wide-at .ensures) (told.items-with _ _ _ _ _ _ _ _ _ _ _ told.told-10 (c .before .before .before .before .before .before .before .seq .ensures)) (c .to3 .ensures .1) (c .to3 .ensures .0 _ _ _)
 
 deep-returns : (t : ℕ) → cycle.Lts-deep.Need-returns (deep-claims t) (at-measure deep.Kinds.ps μ-deep deep.Reads.Pre t) deep.Reads.Post
 deep-returns t c = λ good mode suit. good-none _ _ _ (c .if1 .taken) good
@@ -1170,7 +1170,7 @@ th-returns-2 : (t : ℕ) → cycle.Lts-th.Need-returns-2 (th-claims t) (at-measu
 th-returns-2 t c = looping.assigning-does _ _ _ _ _ _ _ _ _ _ _ _ _ (c .before .before .before .before .before .before .before .before .before .before .before .before .before .before .before .before .before .before .before .before .before .before .before .before .before .before .before .before .before .before .before .before .before .before .before .before .before .before .before .before .before .before .before .before .before .before .before .before .before .before .before .before .before .before .less .ensures) (c .before .before .before .before .before .before .before .before .before .before .before .before .before .before .before .before .before .before .before .before .before .before .before .before .before .before .before .before .before .before .before .before .before .before .before .before .before .before .before .before .before .before .before .before .before .before .before .before .before .before .before .before .before .step .ensures) (c .before .before .before .before .before .before .before .before .before .before .before .before .before .before .before .before .before .before .before .before .before .before .before .before .before .before .before .before .before .before .before .before .before .before .before .before .before .before .before .before .before .before .before .before .before .before .before .before .before .before .before .before .scoped .ensures .0) (c .before .before .before .before .before .before .before .before .before .before .before .before .before .before .before .before .before .before .before .before .before .before .before .before .before .before .before .before .before .before .before .before .before .before .before .before .before .before .before .before .before .before .before .before .before .before .before .before .before .before .before .before .scoped .ensures .1) (c .before .before .before .before .before .before .before .before .before .before .before .before .before .before .before .before .before .before .before .before .before .before .before .before .before .before .before .before .before .before .before .before .before .before .before .before .before .before .before .before .before .before .before .before .before .before .before .before .before .before .make .ensures .1) (c .before .before .before .before .before .before .before .before .before .before .before .before .before .before .before .before .before .before .before .before .before .before .before .before .before .skip .ensures) (c .before .before .before .before .before .before .before .before .before .before .before .before .before .before .before .before .before .before .before .before .before .before .before .before .to .ensures .1) (c .before .before .before .before .before .before .before .before .before .before .before .before .before .before .before .before .before .before .before .before .before .before .before .before .to .ensures .0 _ _ _) (c .before .before .before .before .before .before .before .before .before .before .before .before .before .before .before .before .before .before .before .before .before .before .before .before .before .before .before .before .before .before .before .before .before .before .before .before .before .before .before .before .before .before .before .before .before .before .before .before .before .before .make .ensures .0 _ _) (c .before .before .before .before .before .before .before .before .before .before .before .before .before .before .before .before .before .before .before .before .before .before .before .before .before .before .before .before .before .before .before .before .before .before .before .before .before .before .before .before .before .before .before .before .before .before .copy .ensures .0 _ _) (c .before .before .before .before .before .before .before .before .before .before .before .before .before .before .before .before .before .before .before .before .before .before .before .before .before .before .before .before .before .before .before .before .before .before .before .before .before .before .before .before .before .before .declaration .ensures .0 _ _) (c .before .before .before .before .before .before .before .before .before .before .before .before .before .before .before .before .before .before .before .before .before .before .before .before .before .before .before .before .before .before .before .before .before .before .before .before .before .before .put2 .ensures .0 _ _) (c .before .before .before .before .before .before .before .before .before .before .before .before .before .before .before .before .before .before .before .before .before .before .before .before .before .before .before .before .before .before .before .before .temporary .ensures .0) (c .before .before .before .before .before .before .before .before .before .before .before .before .before .before .before .before .before .before .before .before .node .ensures) (c .before .before .before .before .before .before .before .before .before .before .tb .ensures) (c .before .before .await-of .ensures _ _)
 
 top-returns : (t : ℕ) → cycle.Lts-top.Need-returns (top-claims t) (at-measure top.Kinds.ps μ-top top.Reads.Pre t) top.Reads.Post
-top-returns t c = λ k h g x a. assigning.top-refused _ _ _ _ _ _ _ _ (c .before .before .before .before .before .lacks-form .ensures) (c .before .before .before .before .if1 .taken) (c .before .before .refuse .ensures .0 _ _)
+top-returns t c = λ k h g x a. assigning.top-refused _ _ _ _ _ _ _ _ (c .before .before .before .before .before .refusal .ensures) (c .before .before .before .before .if1 .taken) (c .before .before .refuse .ensures .0 _ _)
 
 top-rest-requires : (t : ℕ) → cycle.Lts-top.Need-rest-requires (top-claims t) (at-measure top.Kinds.ps μ-top top.Reads.Pre t) top.Reads.Post
 top-rest-requires t c κs = (omega (arith, c .before .before .before .before .before .before .before .before .before .before .before .before .before .before .before .before .before .before .before .before .before .before .before .before .before .before .before .before .before .before .before .before .before .before .before .before .before .before .before .before .before .before .before .before .before .before .before .before .before .before .before .before .before .before .before .before .before .before .before .before .before .before .before .before .before .before .before .before .before .before .before .before .before .before .before .before .before .before .before .before .before .before .before .before .before .before .before .before .before .pre .0, c .before .before .before .before .before .before .before .before .before .before .before .before .before .before .before .before .before .before .before .before .before .before .before .before .before .before .before .before .before .before .before .before .before .before .before .before .before .before .before .before .before .before .before .before .before .before .before .before .before .before .before .before .before .before .before .before .before .before .before .before .before .before .before .before .before .before .before .before .before .before .before .before .before .before .before .before .before .before .before .before .before .before .told-inside .ensures .1), tt)
@@ -1185,7 +1185,7 @@ top-same-length-4 : (t : ℕ) → cycle.Lts-top.Need-same-length-4 (top-claims t
 top-same-length-4 t c = omega (arith, c .before .before .before .before .before .before .before .rest .kept, c .before .before .before .before .before .before .before .before .before .before .before .before .before .before .before .before .before .before .before .node .kept, c .before .before .before .before .before .before .before .before .before .before .before .before .before .before .before .before .before .before .before .before .before .before .before .before .before .before .before .before .before .before .before .before .before .before .before .pr .kept, c .before .before .before .before .before .before .before .before .before .before .before .before .before .before .before .before .before .before .before .before .before .before .before .before .before .before .before .before .before .before .before .before .before .before .before .before .before .before .before .before .before .before .before .before .before .tg .kept, c .before .before .before .before .before .before .before .before .before .before .before .before .before .before .before .before .before .before .before .before .before .before .before .before .before .before .before .before .before .before .before .before .before .before .before .before .before .before .before .before .before .before .before .before .before .before .before .before .before .before .before .before .before .before .before .gv .kept, c .before .before .before .before .before .before .before .before .before .before .before .before .before .before .before .before .before .before .before .before .before .before .before .before .before .before .before .before .before .before .before .before .before .before .before .before .before .before .before .before .before .before .before .before .before .before .before .before .before .before .before .before .before .before .before .before .before .before .before .before .before .before .before .before .before .temporary .kept, c .before .before .before .before .before .before .before .before .before .before .before .before .before .before .before .before .before .before .before .before .before .before .before .before .before .before .before .before .before .before .before .before .before .before .before .before .before .before .before .before .before .before .before .before .before .before .before .before .before .before .before .before .before .before .before .before .before .before .before .before .before .before .before .before .before .before .before .before .before .before .before .before .before .before .before .before .before .before .before .before .before .before .before .before .before .before .before .top-hands .kept)
 
 top-returns-2 : (t : ℕ) → cycle.Lts-top.Need-returns-2 (top-claims t) (at-measure top.Kinds.ps μ-top top.Reads.Pre t) top.Reads.Post
-top-returns-2 t c = λ k h. assigning.top-does _ _ _ _ _ _ _ _ _ _ _ _ _ _ _ _ _ _ _ _ _ (c .before .before .before .before .before .before .before .before .before .before .before .before .before .before .before .before .before .before .before .before .before .before .before .before .before .before .before .before .before .before .before .before .before .before .before .before .before .before .before .before .before .before .before .before .before .before .before .before .before .before .before .before .before .before .before .before .before .before .before .before .before .before .before .before .before .before .before .before .before .before .before .before .before .before .before .before .before .before .before .before .before .before .before .before .before .before .before .before .before .before .before .before .lacks-form .ensures) (c .before .before .before .before .before .before .before .before .before .before .before .before .before .before .before .before .before .before .before .before .before .before .before .before .before .before .before .before .before .before .before .before .before .before .before .before .before .before .before .before .before .before .before .before .before .before .before .before .before .before .before .before .before .before .before .before .before .before .before .before .before .before .before .before .before .before .before .before .before .before .before .before .before .before .before .before .before .before .before .before .before .before .before .before .before .before .before .before .before .before .before .if1 .left) (c .before .before .before .before .before .before .before .before .before .before .before .before .before .before .before .before .before .before .before .before .before .before .before .before .before .before .before .before .before .before .before .before .before .before .before .before .before .before .before .before .before .before .before .before .before .before .before .before .before .before .before .before .before .before .before .before .before .before .before .before .before .before .before .before .before .before .before .before .before .before .before .before .before .before .before .before .before .before .before .before .before .before .before .before .before .before .before .before .before .before .told-inside .ensures) (c .before .before .before .before .before .before .before .before .before .before .before .before .before .before .before .before .before .before .before .before .before .before .before .before .before .before .before .before .before .before .before .before .before .before .before .before .before .before .before .before .before .before .before .before .before .before .before .before .before .before .before .before .before .before .before .before .before .before .before .before .before .before .before .before .before .before .before .before .before .before .before .before .before .before .before .before .before .before .before .before .before .before .before .before .before .before .before .top-hands .ensures .1 _) (c .before .before .before .before .before .before .before .before .before .before .before .before .before .before .before .before .before .before .before .before .before .before .before .before .before .before .before .before .before .before .before .before .before .before .before .before .before .before .before .before .before .before .before .before .before .before .before .before .before .before .before .before .before .before .before .before .before .before .before .before .before .before .before .before .before .before .before .before .before .before .before .before .before .before .before .before .before .before .before .before .before .before .top-count .ensures .0) (c .before .before .before .before .before .before .before .before .before .before .before .before .before .before .before .before .before .before .before .before .before .before .before .before .before .before .before .before .before .before .before .before .before .before .before .before .before .before .before .before .before .before .before .before .before .before .before .before .before .before .before .before .before .before .before .before .before .before .before .before .before .before .before .before .before .before .before .before .before .before .before .before .before .before .before .before .before .before .before .before .put2 .ensures .0 _ _) (c .before .before .before .before .before .before .before .before .before .before .before .before .before .before .before .before .before .before .before .before .before .before .before .before .before .before .before .before .before .before .before .before .before .before .before .before .before .before .before .before .before .before .before .before .before .before .before .before .before .before .before .before .before .before .before .before .before .before .before .before .before .before .before .before .before .before .before .before .before .before .before .before .before .before .before .before .wide .ensures .0 _ _) (c .before .before .before .before .before .before .before .before .before .before .before .before .before .before .before .before .before .before .before .before .before .before .before .before .before .before .before .before .before .before .before .before .before .before .before .before .before .before .before .before .before .before .before .before .before .before .before .before .before .before .before .before .before .before .before .before .before .before .before .before .before .before .before .before .before .before .before .before .before .before .before .before .assign .ensures .0 _ _) (c .before .before .before .before .before .before .before .before .before .before .before .before .before .before .before .before .before .before .before .before .before .before .before .before .before .before .before .before .before .before .before .before .before .before .before .before .before .before .before .before .before .before .before .before .before .before .before .before .before .before .before .before .before .before .before .before .before .before .before .before .before .before .before .before .before .before .cell .ensures) (c .before .before .before .before .before .before .before .before .before .before .before .before .before .before .before .before .before .before .before .before .before .before .before .before .before .before .before .before .before .before .before .before .before .before .before .before .before .before .before .before .before .before .before .before .before .before .before .before .before .before .before .before .before .before .before .before .before .before .before .before .before .before .before .before .before .temporary .ensures .0) (c .before .before .before .before .before .before .before .before .before .before .before .before .before .before .before .before .before .before .before .before .before .before .before .before .before .before .before .before .before .before .before .before .before .before .before .before .before .before .before .before .before .before .before .before .before .before .before .before .before .before .before .before .before .before .before .gv .ensures) (c .before .before .before .before .before .before .before .before .before .before .before .before .before .before .before .before .before .before .before .before .before .before .before .before .before .before .before .before .before .before .before .before .before .before .before .before .before .before .before .before .before .before .before .before .before .tg .ensures) (c .before .before .before .before .before .before .before .before .before .before .before .before .before .before .before .before .before .before .before .before .before .before .before .before .before .before .before .before .before .before .before .before .before .before .before .pr .ensures told.told-15) (c .before .before .before .before .before .before .before .before .before .before .before .before .before .before .before .before .before .before .before .before .before .before .before .before .before .before .before .assign2 .ensures .0 _ _) (c .before .before .before .before .before .before .before .before .before .before .before .before .before .before .before .before .before .before .before .before .before .before .before .before .before .before .before .assign2 .ensures .1) (c .before .before .before .before .before .before .before .before .before .before .before .before .before .before .before .before .before .before .before .before .before .less .ensures) (c .before .before .before .before .before .before .before .before .before .before .before .before .before .before .before .before .before .before .before .before .told-inside2 .ensures) (c .before .before .before .before .before .before .before .before .before .before .before .before .before .before .before .before .before .before .before .node .ensures .1) (c .before .before .before .before .before .before .before .before .before .cell2 .ensures) (c .before .before .before .before .before .before .before .before .cell-source .ensures) (told.own-inner _ _ refl (c .before .before .before .before .before .before .before .before .before .before .before .before .before .before .before .before .before .before .before .before .before .before .before .before .before .before .before .before .before .before .before .before .before .before .before .before .before .before .before .before .before .before .before .before .before .before .before .before .before .before .before .before .before .before .before .before .before .before .before .before .before .before .before .before .before .before .before .before .before .before .before .before .before .before .before .before .before .before .before .before .before .before .before .before .before .before .before .before .before .before .told-inside .ensures .0)) (c .before .before .before .before .before .before .before .rest .ensures .1) (λ w. does-nothing _) (assigning.read-none _ _ (c .if2 .taken)) k h
+top-returns-2 t c = λ k h. assigning.top-does _ _ _ _ _ _ _ _ _ _ _ _ _ _ _ _ _ _ _ _ _ (c .before .before .before .before .before .before .before .before .before .before .before .before .before .before .before .before .before .before .before .before .before .before .before .before .before .before .before .before .before .before .before .before .before .before .before .before .before .before .before .before .before .before .before .before .before .before .before .before .before .before .before .before .before .before .before .before .before .before .before .before .before .before .before .before .before .before .before .before .before .before .before .before .before .before .before .before .before .before .before .before .before .before .before .before .before .before .before .before .before .before .before .before .refusal .ensures) (c .before .before .before .before .before .before .before .before .before .before .before .before .before .before .before .before .before .before .before .before .before .before .before .before .before .before .before .before .before .before .before .before .before .before .before .before .before .before .before .before .before .before .before .before .before .before .before .before .before .before .before .before .before .before .before .before .before .before .before .before .before .before .before .before .before .before .before .before .before .before .before .before .before .before .before .before .before .before .before .before .before .before .before .before .before .before .before .before .before .before .before .if1 .left) (c .before .before .before .before .before .before .before .before .before .before .before .before .before .before .before .before .before .before .before .before .before .before .before .before .before .before .before .before .before .before .before .before .before .before .before .before .before .before .before .before .before .before .before .before .before .before .before .before .before .before .before .before .before .before .before .before .before .before .before .before .before .before .before .before .before .before .before .before .before .before .before .before .before .before .before .before .before .before .before .before .before .before .before .before .before .before .before .before .before .before .told-inside .ensures) (c .before .before .before .before .before .before .before .before .before .before .before .before .before .before .before .before .before .before .before .before .before .before .before .before .before .before .before .before .before .before .before .before .before .before .before .before .before .before .before .before .before .before .before .before .before .before .before .before .before .before .before .before .before .before .before .before .before .before .before .before .before .before .before .before .before .before .before .before .before .before .before .before .before .before .before .before .before .before .before .before .before .before .before .before .before .before .before .top-hands .ensures .1 _) (c .before .before .before .before .before .before .before .before .before .before .before .before .before .before .before .before .before .before .before .before .before .before .before .before .before .before .before .before .before .before .before .before .before .before .before .before .before .before .before .before .before .before .before .before .before .before .before .before .before .before .before .before .before .before .before .before .before .before .before .before .before .before .before .before .before .before .before .before .before .before .before .before .before .before .before .before .before .before .before .before .before .before .top-count .ensures .0) (c .before .before .before .before .before .before .before .before .before .before .before .before .before .before .before .before .before .before .before .before .before .before .before .before .before .before .before .before .before .before .before .before .before .before .before .before .before .before .before .before .before .before .before .before .before .before .before .before .before .before .before .before .before .before .before .before .before .before .before .before .before .before .before .before .before .before .before .before .before .before .before .before .before .before .before .before .before .before .before .before .put2 .ensures .0 _ _) (c .before .before .before .before .before .before .before .before .before .before .before .before .before .before .before .before .before .before .before .before .before .before .before .before .before .before .before .before .before .before .before .before .before .before .before .before .before .before .before .before .before .before .before .before .before .before .before .before .before .before .before .before .before .before .before .before .before .before .before .before .before .before .before .before .before .before .before .before .before .before .before .before .before .before .before .before .wide .ensures .0 _ _) (c .before .before .before .before .before .before .before .before .before .before .before .before .before .before .before .before .before .before .before .before .before .before .before .before .before .before .before .before .before .before .before .before .before .before .before .before .before .before .before .before .before .before .before .before .before .before .before .before .before .before .before .before .before .before .before .before .before .before .before .before .before .before .before .before .before .before .before .before .before .before .before .before .assign .ensures .0 _ _) (c .before .before .before .before .before .before .before .before .before .before .before .before .before .before .before .before .before .before .before .before .before .before .before .before .before .before .before .before .before .before .before .before .before .before .before .before .before .before .before .before .before .before .before .before .before .before .before .before .before .before .before .before .before .before .before .before .before .before .before .before .before .before .before .before .before .before .cell .ensures) (c .before .before .before .before .before .before .before .before .before .before .before .before .before .before .before .before .before .before .before .before .before .before .before .before .before .before .before .before .before .before .before .before .before .before .before .before .before .before .before .before .before .before .before .before .before .before .before .before .before .before .before .before .before .before .before .before .before .before .before .before .before .before .before .before .before .temporary .ensures .0) (c .before .before .before .before .before .before .before .before .before .before .before .before .before .before .before .before .before .before .before .before .before .before .before .before .before .before .before .before .before .before .before .before .before .before .before .before .before .before .before .before .before .before .before .before .before .before .before .before .before .before .before .before .before .before .before .gv .ensures) (c .before .before .before .before .before .before .before .before .before .before .before .before .before .before .before .before .before .before .before .before .before .before .before .before .before .before .before .before .before .before .before .before .before .before .before .before .before .before .before .before .before .before .before .before .before .tg .ensures) (c .before .before .before .before .before .before .before .before .before .before .before .before .before .before .before .before .before .before .before .before .before .before .before .before .before .before .before .before .before .before .before .before .before .before .before .pr .ensures told.told-15) (c .before .before .before .before .before .before .before .before .before .before .before .before .before .before .before .before .before .before .before .before .before .before .before .before .before .before .before .assign2 .ensures .0 _ _) (c .before .before .before .before .before .before .before .before .before .before .before .before .before .before .before .before .before .before .before .before .before .before .before .before .before .before .before .assign2 .ensures .1) (c .before .before .before .before .before .before .before .before .before .before .before .before .before .before .before .before .before .before .before .before .before .less .ensures) (c .before .before .before .before .before .before .before .before .before .before .before .before .before .before .before .before .before .before .before .before .told-inside2 .ensures) (c .before .before .before .before .before .before .before .before .before .before .before .before .before .before .before .before .before .before .before .node .ensures .1) (c .before .before .before .before .before .before .before .before .before .cell2 .ensures) (c .before .before .before .before .before .before .before .before .cell-source .ensures) (told.own-inner _ _ refl (c .before .before .before .before .before .before .before .before .before .before .before .before .before .before .before .before .before .before .before .before .before .before .before .before .before .before .before .before .before .before .before .before .before .before .before .before .before .before .before .before .before .before .before .before .before .before .before .before .before .before .before .before .before .before .before .before .before .before .before .before .before .before .before .before .before .before .before .before .before .before .before .before .before .before .before .before .before .before .before .before .before .before .before .before .before .before .before .before .before .before .told-inside .ensures .0)) (c .before .before .before .before .before .before .before .rest .ensures .1) (λ w. does-nothing _) (assigning.read-none _ _ (c .if2 .taken)) k h
 
 top-same-length-5 : (t : ℕ) → cycle.Lts-top.Need-same-length-5 (top-claims t) (at-measure top.Kinds.ps μ-top top.Reads.Pre t) top.Reads.Post
 top-same-length-5 t c = omega (arith, c .before .before .before .before .before .before .temporary2 .kept, c .before .before .before .before .before .before .before .before .before .before .before .before .before .before .before .before .before .before .rest .kept, c .before .before .before .before .before .before .before .before .before .before .before .before .before .before .before .before .before .before .before .before .before .before .before .before .before .before .before .before .before .before .node .kept, c .before .before .before .before .before .before .before .before .before .before .before .before .before .before .before .before .before .before .before .before .before .before .before .before .before .before .before .before .before .before .before .before .before .before .before .before .before .before .assign2 .kept, c .before .before .before .before .before .before .before .before .before .before .before .before .before .before .before .before .before .before .before .before .before .before .before .before .before .before .before .before .before .before .before .before .before .before .before .before .before .before .before .before .before .before .before .before .before .before .pr .kept, c .before .before .before .before .before .before .before .before .before .before .before .before .before .before .before .before .before .before .before .before .before .before .before .before .before .before .before .before .before .before .before .before .before .before .before .before .before .before .before .before .before .before .before .before .before .before .before .before .before .before .before .before .before .before .before .before .tg .kept, c .before .before .before .before .before .before .before .before .before .before .before .before .before .before .before .before .before .before .before .before .before .before .before .before .before .before .before .before .before .before .before .before .before .before .before .before .before .before .before .before .before .before .before .before .before .before .before .before .before .before .before .before .before .before .before .before .before .before .before .before .before .before .before .before .before .before .gv .kept, c .before .before .before .before .before .before .before .before .before .before .before .before .before .before .before .before .before .before .before .before .before .before .before .before .before .before .before .before .before .before .before .before .before .before .before .before .before .before .before .before .before .before .before .before .before .before .before .before .before .before .before .before .before .before .before .before .before .before .before .before .before .before .before .before .before .before .before .before .before .before .before .before .before .before .before .before .temporary .kept, c .before .before .before .before .before .before .before .before .before .before .before .before .before .before .before .before .before .before .before .before .before .before .before .before .before .before .before .before .before .before .before .before .before .before .before .before .before .before .before .before .before .before .before .before .before .before .before .before .before .before .before .before .before .before .before .before .before .before .before .before .before .before .before .before .before .before .before .before .before .before .before .before .before .before .before .before .before .before .before .before .before .before .before .assign .kept, c .before .before .before .before .before .before .before .before .before .before .before .before .before .before .before .before .before .before .before .before .before .before .before .before .before .before .before .before .before .before .before .before .before .before .before .before .before .before .before .before .before .before .before .before .before .before .before .before .before .before .before .before .before .before .before .before .before .before .before .before .before .before .before .before .before .before .before .before .before .before .before .before .before .before .before .before .before .before .before .before .before .before .before .before .before .before .before .wide .kept, c .before .before .before .before .before .before .before .before .before .before .before .before .before .before .before .before .before .before .before .before .before .before .before .before .before .before .before .before .before .before .before .before .before .before .before .before .before .before .before .before .before .before .before .before .before .before .before .before .before .before .before .before .before .before .before .before .before .before .before .before .before .before .before .before .before .before .before .before .before .before .before .before .before .before .before .before .before .before .before .before .before .before .before .before .before .before .before .before .before .before .before .put2 .kept)
@@ -1197,7 +1197,7 @@ top-same-length-7 : (t : ℕ) → cycle.Lts-top.Need-same-length-7 (top-claims t
 top-same-length-7 t c = omega (arith, c .before .before .before .before .before .before .temporary2 .kept, c .before .before .before .before .before .before .before .before .before .before .before .before .before .before .before .before .before .before .rest .kept, c .before .before .before .before .before .before .before .before .before .before .before .before .before .before .before .before .before .before .before .before .before .before .before .before .before .before .before .before .before .before .node .kept, c .before .before .before .before .before .before .before .before .before .before .before .before .before .before .before .before .before .before .before .before .before .before .before .before .before .before .before .before .before .before .before .before .before .before .before .before .before .before .before .before .before .before .before .before .before .before .pr .kept, c .before .before .before .before .before .before .before .before .before .before .before .before .before .before .before .before .before .before .before .before .before .before .before .before .before .before .before .before .before .before .before .before .before .before .before .before .before .before .before .before .before .before .before .before .before .before .before .before .before .before .before .before .before .before .before .before .tg .kept, c .before .before .before .before .before .before .before .before .before .before .before .before .before .before .before .before .before .before .before .before .before .before .before .before .before .before .before .before .before .before .before .before .before .before .before .before .before .before .before .before .before .before .before .before .before .before .before .before .before .before .before .before .before .before .before .before .before .before .before .before .before .before .before .before .before .before .gv .kept, c .before .before .before .before .before .before .before .before .before .before .before .before .before .before .before .before .before .before .before .before .before .before .before .before .before .before .before .before .before .before .before .before .before .before .before .before .before .before .before .before .before .before .before .before .before .before .before .before .before .before .before .before .before .before .before .before .before .before .before .before .before .before .before .before .before .before .before .before .before .before .before .before .before .before .before .before .temporary .kept, c .before .before .before .before .before .before .before .before .before .before .before .before .before .before .before .before .before .before .before .before .before .before .before .before .before .before .before .before .before .before .before .before .before .before .before .before .before .before .before .before .before .before .before .before .before .before .before .before .before .before .before .before .before .before .before .before .before .before .before .before .before .before .before .before .before .before .before .before .before .before .before .before .before .before .before .before .before .before .before .before .before .before .before .before .before .before .before .before .before .before .before .before .before .before .before .before .before .before .top-hands .kept)
 
 top-returns-3 : (t : ℕ) → cycle.Lts-top.Need-returns-3 (top-claims t) (at-measure top.Kinds.ps μ-top top.Reads.Pre t) top.Reads.Post
-top-returns-3 t c = λ k h. assigning.top-does _ _ _ _ _ _ _ _ _ _ _ _ _ _ _ _ _ _ _ _ _ (c .before .before .before .before .before .before .before .before .before .before .before .before .before .before .before .before .before .before .before .before .before .before .before .before .before .before .before .before .before .before .before .before .before .before .before .before .before .before .before .before .before .before .before .before .before .before .before .before .before .before .before .before .before .before .before .before .before .before .before .before .before .before .before .before .before .before .before .before .before .before .before .before .before .before .before .before .before .before .before .before .before .before .before .before .before .before .before .before .before .before .before .before .before .before .before .before .before .before .before .before .before .before .before .lacks-form .ensures) (c .before .before .before .before .before .before .before .before .before .before .before .before .before .before .before .before .before .before .before .before .before .before .before .before .before .before .before .before .before .before .before .before .before .before .before .before .before .before .before .before .before .before .before .before .before .before .before .before .before .before .before .before .before .before .before .before .before .before .before .before .before .before .before .before .before .before .before .before .before .before .before .before .before .before .before .before .before .before .before .before .before .before .before .before .before .before .before .before .before .before .before .before .before .before .before .before .before .before .before .before .before .before .if1 .left) (c .before .before .before .before .before .before .before .before .before .before .before .before .before .before .before .before .before .before .before .before .before .before .before .before .before .before .before .before .before .before .before .before .before .before .before .before .before .before .before .before .before .before .before .before .before .before .before .before .before .before .before .before .before .before .before .before .before .before .before .before .before .before .before .before .before .before .before .before .before .before .before .before .before .before .before .before .before .before .before .before .before .before .before .before .before .before .before .before .before .before .before .before .before .before .before .before .before .before .before .before .before .told-inside .ensures) (c .before .before .before .before .before .before .before .before .before .before .before .before .before .before .before .before .before .before .before .before .before .before .before .before .before .before .before .before .before .before .before .before .before .before .before .before .before .before .before .before .before .before .before .before .before .before .before .before .before .before .before .before .before .before .before .before .before .before .before .before .before .before .before .before .before .before .before .before .before .before .before .before .before .before .before .before .before .before .before .before .before .before .before .before .before .before .before .before .before .before .before .before .before .before .before .before .before .before .top-hands .ensures .1 _) (c .before .before .before .before .before .before .before .before .before .before .before .before .before .before .before .before .before .before .before .before .before .before .before .before .before .before .before .before .before .before .before .before .before .before .before .before .before .before .before .before .before .before .before .before .before .before .before .before .before .before .before .before .before .before .before .before .before .before .before .before .before .before .before .before .before .before .before .before .before .before .before .before .before .before .before .before .before .before .before .before .before .before .before .before .before .before .before .before .before .before .before .before .before .top-count .ensures .0) (c .before .before .before .before .before .before .before .before .before .before .before .before .before .before .before .before .before .before .before .before .before .before .before .before .before .before .before .before .before .before .before .before .before .before .before .before .before .before .before .before .before .before .before .before .before .before .before .before .before .before .before .before .before .before .before .before .before .before .before .before .before .before .before .before .before .before .before .before .before .before .before .before .before .before .before .before .before .before .before .before .before .before .before .before .before .before .before .before .before .before .before .put2 .ensures .0 _ _) (c .before .before .before .before .before .before .before .before .before .before .before .before .before .before .before .before .before .before .before .before .before .before .before .before .before .before .before .before .before .before .before .before .before .before .before .before .before .before .before .before .before .before .before .before .before .before .before .before .before .before .before .before .before .before .before .before .before .before .before .before .before .before .before .before .before .before .before .before .before .before .before .before .before .before .before .before .before .before .before .before .before .before .before .before .before .before .before .wide .ensures .0 _ _) (c .before .before .before .before .before .before .before .before .before .before .before .before .before .before .before .before .before .before .before .before .before .before .before .before .before .before .before .before .before .before .before .before .before .before .before .before .before .before .before .before .before .before .before .before .before .before .before .before .before .before .before .before .before .before .before .before .before .before .before .before .before .before .before .before .before .before .before .before .before .before .before .before .before .before .before .before .before .before .before .before .before .before .before .assign .ensures .0 _ _) (c .before .before .before .before .before .before .before .before .before .before .before .before .before .before .before .before .before .before .before .before .before .before .before .before .before .before .before .before .before .before .before .before .before .before .before .before .before .before .before .before .before .before .before .before .before .before .before .before .before .before .before .before .before .before .before .before .before .before .before .before .before .before .before .before .before .before .before .before .before .before .before .before .before .before .before .before .before .cell .ensures) (c .before .before .before .before .before .before .before .before .before .before .before .before .before .before .before .before .before .before .before .before .before .before .before .before .before .before .before .before .before .before .before .before .before .before .before .before .before .before .before .before .before .before .before .before .before .before .before .before .before .before .before .before .before .before .before .before .before .before .before .before .before .before .before .before .before .before .before .before .before .before .before .before .before .before .before .before .temporary .ensures .0) (c .before .before .before .before .before .before .before .before .before .before .before .before .before .before .before .before .before .before .before .before .before .before .before .before .before .before .before .before .before .before .before .before .before .before .before .before .before .before .before .before .before .before .before .before .before .before .before .before .before .before .before .before .before .before .before .before .before .before .before .before .before .before .before .before .before .before .gv .ensures) (c .before .before .before .before .before .before .before .before .before .before .before .before .before .before .before .before .before .before .before .before .before .before .before .before .before .before .before .before .before .before .before .before .before .before .before .before .before .before .before .before .before .before .before .before .before .before .before .before .before .before .before .before .before .before .before .before .tg .ensures) (c .before .before .before .before .before .before .before .before .before .before .before .before .before .before .before .before .before .before .before .before .before .before .before .before .before .before .before .before .before .before .before .before .before .before .before .before .before .before .before .before .before .before .before .before .before .before .pr .ensures told.told-15) (c .before .before .before .before .before .before .before .before .before .before .before .before .before .before .before .before .before .before .before .before .before .before .before .before .before .before .before .before .before .before .before .before .before .before .before .before .before .before .assign2 .ensures .0 _ _) (c .before .before .before .before .before .before .before .before .before .before .before .before .before .before .before .before .before .before .before .before .before .before .before .before .before .before .before .before .before .before .before .before .before .before .before .before .before .before .assign2 .ensures .1) (c .before .before .before .before .before .before .before .before .before .before .before .before .before .before .before .before .before .before .before .before .before .before .before .before .before .before .before .before .before .before .before .before .less .ensures) (c .before .before .before .before .before .before .before .before .before .before .before .before .before .before .before .before .before .before .before .before .before .before .before .before .before .before .before .before .before .before .before .told-inside2 .ensures) (c .before .before .before .before .before .before .before .before .before .before .before .before .before .before .before .before .before .before .before .before .before .before .before .before .before .before .before .before .before .before .node .ensures .1) (c .before .before .before .before .before .before .before .before .before .before .before .before .before .before .before .before .before .before .before .before .cell2 .ensures) (c .before .before .before .before .before .before .before .before .before .before .before .before .before .before .before .before .before .before .before .cell-source .ensures) (told.own-inner _ _ refl (c .before .before .before .before .before .before .before .before .before .before .before .before .before .before .before .before .before .before .before .before .before .before .before .before .before .before .before .before .before .before .before .before .before .before .before .before .before .before .before .before .before .before .before .before .before .before .before .before .before .before .before .before .before .before .before .before .before .before .before .before .before .before .before .before .before .before .before .before .before .before .before .before .before .before .before .before .before .before .before .before .before .before .before .before .before .before .before .before .before .before .before .before .before .before .before .before .before .before .before .before .before .told-inside .ensures .0)) (c .before .before .before .before .before .before .before .before .before .before .before .before .before .before .before .before .before .before .rest .ensures .1) (assigning.value-read _ _ (c .before .before .before .before .before .before .before .cell3 .ensures) (c .before .before .before .before .before .before .temporary2 .ensures .0)) (assigning.read-some _ _ (c .before .before .before .before .before .before .before .before .before .before .before .if2 .left)) k h
+top-returns-3 t c = λ k h. assigning.top-does _ _ _ _ _ _ _ _ _ _ _ _ _ _ _ _ _ _ _ _ _ (c .before .before .before .before .before .before .before .before .before .before .before .before .before .before .before .before .before .before .before .before .before .before .before .before .before .before .before .before .before .before .before .before .before .before .before .before .before .before .before .before .before .before .before .before .before .before .before .before .before .before .before .before .before .before .before .before .before .before .before .before .before .before .before .before .before .before .before .before .before .before .before .before .before .before .before .before .before .before .before .before .before .before .before .before .before .before .before .before .before .before .before .before .before .before .before .before .before .before .before .before .before .before .before .refusal .ensures) (c .before .before .before .before .before .before .before .before .before .before .before .before .before .before .before .before .before .before .before .before .before .before .before .before .before .before .before .before .before .before .before .before .before .before .before .before .before .before .before .before .before .before .before .before .before .before .before .before .before .before .before .before .before .before .before .before .before .before .before .before .before .before .before .before .before .before .before .before .before .before .before .before .before .before .before .before .before .before .before .before .before .before .before .before .before .before .before .before .before .before .before .before .before .before .before .before .before .before .before .before .before .before .if1 .left) (c .before .before .before .before .before .before .before .before .before .before .before .before .before .before .before .before .before .before .before .before .before .before .before .before .before .before .before .before .before .before .before .before .before .before .before .before .before .before .before .before .before .before .before .before .before .before .before .before .before .before .before .before .before .before .before .before .before .before .before .before .before .before .before .before .before .before .before .before .before .before .before .before .before .before .before .before .before .before .before .before .before .before .before .before .before .before .before .before .before .before .before .before .before .before .before .before .before .before .before .before .before .told-inside .ensures) (c .before .before .before .before .before .before .before .before .before .before .before .before .before .before .before .before .before .before .before .before .before .before .before .before .before .before .before .before .before .before .before .before .before .before .before .before .before .before .before .before .before .before .before .before .before .before .before .before .before .before .before .before .before .before .before .before .before .before .before .before .before .before .before .before .before .before .before .before .before .before .before .before .before .before .before .before .before .before .before .before .before .before .before .before .before .before .before .before .before .before .before .before .before .before .before .before .before .before .top-hands .ensures .1 _) (c .before .before .before .before .before .before .before .before .before .before .before .before .before .before .before .before .before .before .before .before .before .before .before .before .before .before .before .before .before .before .before .before .before .before .before .before .before .before .before .before .before .before .before .before .before .before .before .before .before .before .before .before .before .before .before .before .before .before .before .before .before .before .before .before .before .before .before .before .before .before .before .before .before .before .before .before .before .before .before .before .before .before .before .before .before .before .before .before .before .before .before .before .before .top-count .ensures .0) (c .before .before .before .before .before .before .before .before .before .before .before .before .before .before .before .before .before .before .before .before .before .before .before .before .before .before .before .before .before .before .before .before .before .before .before .before .before .before .before .before .before .before .before .before .before .before .before .before .before .before .before .before .before .before .before .before .before .before .before .before .before .before .before .before .before .before .before .before .before .before .before .before .before .before .before .before .before .before .before .before .before .before .before .before .before .before .before .before .before .before .before .put2 .ensures .0 _ _) (c .before .before .before .before .before .before .before .before .before .before .before .before .before .before .before .before .before .before .before .before .before .before .before .before .before .before .before .before .before .before .before .before .before .before .before .before .before .before .before .before .before .before .before .before .before .before .before .before .before .before .before .before .before .before .before .before .before .before .before .before .before .before .before .before .before .before .before .before .before .before .before .before .before .before .before .before .before .before .before .before .before .before .before .before .before .before .before .wide .ensures .0 _ _) (c .before .before .before .before .before .before .before .before .before .before .before .before .before .before .before .before .before .before .before .before .before .before .before .before .before .before .before .before .before .before .before .before .before .before .before .before .before .before .before .before .before .before .before .before .before .before .before .before .before .before .before .before .before .before .before .before .before .before .before .before .before .before .before .before .before .before .before .before .before .before .before .before .before .before .before .before .before .before .before .before .before .before .before .assign .ensures .0 _ _) (c .before .before .before .before .before .before .before .before .before .before .before .before .before .before .before .before .before .before .before .before .before .before .before .before .before .before .before .before .before .before .before .before .before .before .before .before .before .before .before .before .before .before .before .before .before .before .before .before .before .before .before .before .before .before .before .before .before .before .before .before .before .before .before .before .before .before .before .before .before .before .before .before .before .before .before .before .before .cell .ensures) (c .before .before .before .before .before .before .before .before .before .before .before .before .before .before .before .before .before .before .before .before .before .before .before .before .before .before .before .before .before .before .before .before .before .before .before .before .before .before .before .before .before .before .before .before .before .before .before .before .before .before .before .before .before .before .before .before .before .before .before .before .before .before .before .before .before .before .before .before .before .before .before .before .before .before .before .before .temporary .ensures .0) (c .before .before .before .before .before .before .before .before .before .before .before .before .before .before .before .before .before .before .before .before .before .before .before .before .before .before .before .before .before .before .before .before .before .before .before .before .before .before .before .before .before .before .before .before .before .before .before .before .before .before .before .before .before .before .before .before .before .before .before .before .before .before .before .before .before .before .gv .ensures) (c .before .before .before .before .before .before .before .before .before .before .before .before .before .before .before .before .before .before .before .before .before .before .before .before .before .before .before .before .before .before .before .before .before .before .before .before .before .before .before .before .before .before .before .before .before .before .before .before .before .before .before .before .before .before .before .before .tg .ensures) (c .before .before .before .before .before .before .before .before .before .before .before .before .before .before .before .before .before .before .before .before .before .before .before .before .before .before .before .before .before .before .before .before .before .before .before .before .before .before .before .before .before .before .before .before .before .before .pr .ensures told.told-15) (c .before .before .before .before .before .before .before .before .before .before .before .before .before .before .before .before .before .before .before .before .before .before .before .before .before .before .before .before .before .before .before .before .before .before .before .before .before .before .assign2 .ensures .0 _ _) (c .before .before .before .before .before .before .before .before .before .before .before .before .before .before .before .before .before .before .before .before .before .before .before .before .before .before .before .before .before .before .before .before .before .before .before .before .before .before .assign2 .ensures .1) (c .before .before .before .before .before .before .before .before .before .before .before .before .before .before .before .before .before .before .before .before .before .before .before .before .before .before .before .before .before .before .before .before .less .ensures) (c .before .before .before .before .before .before .before .before .before .before .before .before .before .before .before .before .before .before .before .before .before .before .before .before .before .before .before .before .before .before .before .told-inside2 .ensures) (c .before .before .before .before .before .before .before .before .before .before .before .before .before .before .before .before .before .before .before .before .before .before .before .before .before .before .before .before .before .before .node .ensures .1) (c .before .before .before .before .before .before .before .before .before .before .before .before .before .before .before .before .before .before .before .before .cell2 .ensures) (c .before .before .before .before .before .before .before .before .before .before .before .before .before .before .before .before .before .before .before .cell-source .ensures) (told.own-inner _ _ refl (c .before .before .before .before .before .before .before .before .before .before .before .before .before .before .before .before .before .before .before .before .before .before .before .before .before .before .before .before .before .before .before .before .before .before .before .before .before .before .before .before .before .before .before .before .before .before .before .before .before .before .before .before .before .before .before .before .before .before .before .before .before .before .before .before .before .before .before .before .before .before .before .before .before .before .before .before .before .before .before .before .before .before .before .before .before .before .before .before .before .before .before .before .before .before .before .before .before .before .before .before .before .told-inside .ensures .0)) (c .before .before .before .before .before .before .before .before .before .before .before .before .before .before .before .before .before .before .rest .ensures .1) (assigning.value-read _ _ (c .before .before .before .before .before .before .before .cell3 .ensures) (c .before .before .before .before .before .before .temporary2 .ensures .0)) (assigning.read-some _ _ (c .before .before .before .before .before .before .before .before .before .before .before .if2 .left)) k h
 
 turn-returns : (t : ℕ) → cycle.Lts-turn.Need-returns (turn-claims t) (at-measure turn.Kinds.ps μ-turn turn.Reads.Pre t) turn.Reads.Post
 turn-returns t c = turning.turned-hole _ _ _ _ _ _ _ _ (c .before .before .before .before .before .before .if1 .taken) (c .before .before .before .before .before .peek .ensures) (c .before .before .before .before .if2 .taken) (c .before .before .hole .ensures .0) (c .before .before .hole .ensures .1 _ _)

@@ -32,10 +32,22 @@ returns-7 : tie.Need-returns-7
 unfolding keyCounts
 returns-7 c = c .counted7 .ensures ∙ ap keyCounts (sym (c .before .enum-told7 .given .1))
 
+returns-8 : tie.Need-returns-8
+unfolding keyCounts
+returns-8 c = c .counted8 .ensures ∙ ap keyCounts (sym (c .before .enum-told8 .given .1))
+
+returns-9 : tie.Need-returns-9
+unfolding keyCounts
+returns-9 c = c .counted9 .ensures ∙ ap keyCounts (sym (c .before .enum-told9 .given .1))
+
 pub key-counts-spec : {M : Type 1} → statement M
 key-counts-spec =
     tie.close
     (tie.spec
+    (λ c. search needs)
+    (λ c κs. tt)
+    (λ c. search needs)
+    (λ c κs. tt)
     (λ c. search needs)
     (λ c κs. tt)
     (λ c. search needs)
@@ -56,4 +68,6 @@ key-counts-spec =
     returns-4
     returns-5
     returns-6
-    returns-7)
+    returns-7
+    returns-8
+    returns-9)

@@ -18,13 +18,13 @@ returns-5 : tie.Need-returns-5
 returns-5 c = law.becomes _ _ _ _ (law.key-temporary _ _ _ _ (c .before .before .if1 .left) (c .before .peek .ensures .value) (c .match .keys2))
 
 returns-6 : tie.Need-returns-6
-returns-6 c = law.becomes _ _ _ _ (law.key-literal _ _ _ _ (c .before .before .before .before .if1 .left) (c .before .before .before .peek .ensures .value) _ _ (c .before .before .match .keys3) (c .before .field .ensures) (c .formed .ensures))
+returns-6 c = law.becomes _ _ _ _ (law.key-literal _ _ _ _ (c .before .before .before .if1 .left) (c .before .before .peek .ensures .value) _ (c .before .match .keys3) (c .literal .ensures))
 
 returns-7 : tie.Need-returns-7
 returns-7 c = law.becomes _ _ _ _ (law.key-several _ _ _ _ (c .before .before .before .before .before .if1 .left) (c .before .before .before .before .peek .ensures .value) _ (c .before .before .before .match .keys4) (c .before .before .list .ensures) (c .if3 .left))
 
 returns-8 : tie.Need-returns-8
-returns-8 c = law.becomes _ _ _ _ (law.key-name _ _ _ _ (c .before .before .before .before .if1 .left) (c .before .before .before .peek .ensures .value) _ _ (c .before .before .match .keys5) (c .before .field2 .ensures) (c .named .ensures))
+returns-8 c = law.becomes _ _ _ _ (law.key-name _ _ _ _ (c .before .before .before .before .if1 .left) (c .before .before .before .peek .ensures .value) _ _ (c .before .before .match .keys5) (c .before .field .ensures) (c .named .ensures))
 
 returns-9 : tie.Need-returns-9
 returns-9 c = law.becomes _ _ _ _ (law.key-private _ _ _ _ (c .before .before .if1 .left) (c .before .peek .ensures .value) (c .match .keys6))
@@ -40,7 +40,6 @@ transform-property-key-spec =
     (λ c κs. tt)
     (λ c κs. tt)
     returns-2
-    (λ c κs. tt)
     (λ c κs. tt)
     (λ c κs. tt)
     returns-3

@@ -24,11 +24,19 @@ returns-6 c = law.key-class _ _ _ _ _ (c .before .before .transform-property-key
 returns-7 : tie.Need-returns-7
 returns-7 c = law.key-class _ _ _ _ _ (c .before .before .transform-property-key .ensures) (c .enum-told7 .given .1)
 
+returns-8 : tie.Need-returns-8
+returns-8 c = law.key-class _ _ _ _ _ (c .before .before .transform-property-key .ensures) (c .enum-told8 .given .1)
+
+returns-9 : tie.Need-returns-9
+returns-9 c = law.key-class _ _ _ _ _ (c .before .before .transform-property-key .ensures) (c .enum-told9 .given .1)
+
 pub key-sort-spec : {M : Type 1} → statement M
 key-sort-spec =
     tie.close
     (tie.spec
     (λ c κs. search needs)
+    (λ c. search needs)
+    (λ c. search needs)
     (λ c. search needs)
     (λ c. search needs)
     (λ c. search needs)
@@ -42,4 +50,6 @@ key-sort-spec =
     returns-4
     returns-5
     returns-6
-    returns-7)
+    returns-7
+    returns-8
+    returns-9)
