@@ -11,14 +11,15 @@ use lib.Dec.{eqb}
 use lib.ListN.{length}
 use borrow.Author.Tests.{eq-eqb, ne-eqb, le-leb, lt-leb}
 use Rattle.tree.specs.Tree.{Node, Fields}
-use Rattle.tree.specs.Grammar.{Sort, Field, fieldsOf}
+use Rattle.tree.specs.Grammar.{Sort, Field, fieldsOf, kinds}
 use Rattle.tree.specs.Rows.{sortFrom, sortOf, fieldsIn}
 use Rattle.tree.specs.Read.{byteAt, wideAt, sortIn}
 use Rattle.tree.specs.Answer.{Peeked, found}
-use Rattle.tree.specs.Look.{Seen, onward, lookSlot, lookFields, lookNode, seekFields}
+use Rattle.tree.specs.Look.{Seen, onward, lookField, lookSlot, lookFields, lookNode, seekFields}
 use Rattle.tree.specs.declared.skip.Found.{Found}
 use Rattle.tree.specs.declared.skip.Found.the-variants as found-at
 use Rattle.tree.proofs.Rows.{NoKey, row-done, row-first, first-sort}
+use Rattle.tree.proofs.Skipping.{seek-none, seek-absent, seek-here}
 use Rattle.lowering.specs.Parts.{standsIn, stands}
 use Rattle.pattern.specs.declared.parts.Part.{Part}
 use Rattle.pattern.specs.declared.parts.Part.the-variants.{One, Many, Text, Number, Missing}
@@ -138,6 +139,43 @@ module _ (l : List ℕ) where
 
     pub field-missing : (s : Found) → s ≡ found searched → s ≡ found-at.Missing → Missing ≡ partAt l d at i
     field-missing s a b = absent-there (sortAt (fieldsIn row) i) searched (sym b ∙ a) ∙ opened
+
+    -- the first field, which stands right behind the bit map
+    pub first-past : row ≡ 0 → Missing ≡ partAt l d at i
+    first-past h = field-missing found-at.Missing (seek-none l (lookNode l (d - 1)) row map q i h) refl
+
+    pub first-absent : i ≡ 0 → (row ≡ 0 → ⊥) → map % 2 ≡ 0 → Missing ≡ partAt l d at i
+    first-absent y h t = field-missing found-at.Missing (seek-absent l (lookNode l (d - 1)) row map q i h y t) refl
+
+    pub first-at : (r : Part) → i ≡ 0 → (row ≡ 0 → ⊥) → (map % 2 ≡ 0 → ⊥) → r ≡ partOf l (sortOf (row % 512)) q → r ≡ partAt l d at i
+    first-at r y h t x = field-at r (row % 512) q (found-at.At q) (seek-here l (lookNode l (d - 1)) row map q i h y t) refl (code-end row i (omega arith)) x
+
+  -- ---- the key of a property, which stands right behind the bit map, and its value behind that
+
+  pub key-at : (d at k p m q : ℕ) → 0 < d → k ≡ byteAt l at → k ≡ 35 → p ≡ onward l at 1 → m ≡ byteAt l p → m % 2 ≡ 1 → q ≡ onward l at 2 → _≡_ {A = Place} (record { left = d - 1; at = q }) (placeOf d at (partAt l d at 0))
+  unfolding partAt placeOf partOf fieldsOf kinds seekFields
+  key-at zero at k p m q z e y f g h v = absurd (omega arith)
+  key-at (suc d) at k p m q z e y f g h v =
+      let o : suc d - 1 ≡ d = omega arith in
+      let first : byteAt l (onward l at 1) % 2 ≡ 1 = rw (sym f, sym g) h in
+      rw (v, sym e ∙ y, first, o)
+
+  pub value-at : (d at k p m q r : ℕ) → 0 < d → k ≡ byteAt l at → k ≡ 35 → p ≡ onward l at 1 → m ≡ byteAt l p → m % 4 ≡ 3 → q ≡ onward l at 2 → r ≡ lookNode l (d - 1) q .next → _≡_ {A = Place} (record { left = d - 1; at = r }) (placeOf d at (partAt l d at 1))
+  unfolding partAt placeOf partOf fieldsOf kinds seekFields lookSlot lookField
+  value-at zero at k p m q r z e y f g h v w = absurd (omega arith)
+  value-at (suc d) at k p m q r z e y f g h v w =
+      let o : suc d - 1 ≡ d = omega arith in
+      let first : byteAt l (onward l at 1) % 2 ≡ 1 = rw (sym f, sym g) (omega arith) in
+      let second : byteAt l (onward l at 1) / 2 % 2 ≡ 1 = rw (sym f, sym g) (omega arith) in
+      rw (w, v, sym e ∙ y, first, second, o)
+
+  -- the name of a static key
+  pub name-at : (d at k p m q : ℕ) (r : Part) → (d ≡ 0 → ⊥) → k ≡ byteAt l at → k ≡ 38 → p ≡ onward l at 1 → m ≡ byteAt l p → m % 2 ≡ 1 → q ≡ onward l at 2 → r ≡ textOf l q → r ≡ partAt l d at 0
+  unfolding partAt partOf fieldsOf kinds seekFields
+  name-at zero at k p m q r z e y f g h v x = absurd (z refl)
+  name-at (suc d) at k p m q r z e y f g h v x =
+      let first : byteAt l (onward l at 1) % 2 ≡ 1 = rw (sym f, sym g) h in
+      x ∙ rw (v, sym e ∙ y, first)
 
   -- ---- whether a field stands, by the bit map
 

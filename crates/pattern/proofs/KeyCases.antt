@@ -540,6 +540,21 @@ module _ (l : List ℕ) where
   key-here : (d at : ℕ) (s : Place) (x : Key) (r : Tally) → s ≡ placeOf d at (partAt l d at 0) → x ≡ keyAt l (s .left) (s .at) → r ≡ keyCounts x → r ≡ keyTally (key (lookNode l d at .value))
   key-here d at s x r e a w = w ∙ ap keyCounts a ∙ counts-are l (s .left) (s .at) ∙ child-is l keyTally tally-blank d at 0 s e
 
+  -- a static key adds one
+  key-static : (d at k : ℕ) (s : Place) (r : Tally) → s ≡ placeOf d at (partAt l d at 0) → 0 < s .left → k ≡ byteAt l (s .at) → k ≡ 38 → r ≡ counts 1 0 0 0 → r ≡ keyTally (key (lookNode l d at .value))
+  unfolding keyTally
+  key-static d at k s r e z a y w =
+      w ∙ ap (λ (x : keys.Key). countsBy x (keys.keyRefusal (lookNode l (s .left) (s .at) .value))) (sym (sort-name (lookNode l (s .left) (s .at) .value) (kind-is l (s .left) (s .at) k (λ n. absurd (omega arith)) a ∙ y)))
+      ∙ child-is l keyTally tally-blank d at 0 s e
+
+  pub static-other : (h : Bool) (d at n k : ℕ) (s : Place) (r : Tally) → h ≡ true → Peeked l at n → (n ≡ 0 → ⊥) → s ≡ placeOf d at (partAt l d at 0) → 0 < s .left → k ≡ byteAt l (s .at) → k ≡ 38 → r ≡ counts 1 0 0 0 → r ≡ itemKeys l h d at
+  unfolding itemKeys
+  static-other h d at n k s r t p z e u a y w = rw (t, ne-eqb (byteAt l at) 0 (λ y. z (p .value ∙ y))) (key-static d at k s r e u a y w)
+
+  pub static-node : (h : Bool) (d at k : ℕ) (s : Place) (r : Tally) → h ≡ false → s ≡ placeOf d at (partAt l d at 0) → 0 < s .left → k ≡ byteAt l (s .at) → k ≡ 38 → r ≡ counts 1 0 0 0 → r ≡ itemKeys l h d at
+  unfolding itemKeys
+  static-node h d at k s r t e u a y w = rw t (key-static d at k s r e u a y w)
+
   pub item-other : (h : Bool) (d at n : ℕ) (s : Place) (x : Key) (r : Tally) → h ≡ true → Peeked l at n → (n ≡ 0 → ⊥) → s ≡ placeOf d at (partAt l d at 0) → x ≡ keyAt l (s .left) (s .at) → r ≡ keyCounts x → r ≡ itemKeys l h d at
   unfolding itemKeys
   item-other h d at n s x r t p z e a w = rw (t, ne-eqb (byteAt l at) 0 (λ y. z (p .value ∙ y))) (key-here d at s x r e a w)

@@ -5,6 +5,7 @@ use mathlib.Core.Bool.{Bool, true, false, cond}
 use mathlib.Core.List.{List}
 use Prim.Native.Nat.{ℕ, _-_, _<_, _≤_}
 use native.Mathlib.Omega.{arith}
+use native.Mathlib.Decide.{decLt}
 use Rattle.tree.specs.Tree.{Node, Piece, Items, depth, depthFields}
 use Rattle.tree.specs.Tree.Node.{node}
 use Rattle.tree.specs.Tree.Fields.{done, absent, field}
@@ -186,3 +187,15 @@ module _ (l : List ℕ) where
     pub leaf-none : (c : Context) (r : Tally) → (k ≡ 34 → ⊥) → (k ≡ 36 → ⊥) → (k ≡ 37 → ⊥) → r ≡ tally.zero → r ≡ restsTally c here
     leaf-none c r f g h w =
         w ∙ sym (rests-leaf c here (below.is-leaf here (λ y. f (sym (kind-is l d at k z e) ∙ y)) (λ y. g (sym (kind-is l d at k z e) ∙ y)) (λ y. h (sym (kind-is l d at k z e) ∙ y))))
+
+  -- a value that is no pattern by its kind adds nothing
+  passed-none : (c : Context) (s : Place) (k : ℕ) → k ≡ byteAt l (s .at) → k ≤ 33 → tally.zero ≡ restsTally c (nodeHere l s)
+  passed-none c s k e h = elim (decLt 0 (s .left)) [
+    | yes z ↦ leaf-none (s .left) (s .at) k (λ n. absurd (omega arith)) e c tally.zero (λ y. absurd (omega arith)) (λ y. absurd (omega arith)) (λ y. absurd (omega arith)) refl
+    | no z ↦ rests-none c (s .left) (s .at) tally.zero (omega arith) refl
+  ]
+
+  pub value-passed : (left at d n p q k : ℕ) (s : Place) (t : Tally) → 0 < n → s ≡ placeOf d p (partAt l d p 1) → k ≡ byteAt l (s .at) → k ≤ 33 → q ≡ lookNode l d p .next → ValuesLeft left at d n p t → ValuesLeft left at d (n - 1) q t
+  unfolding lookItem
+  value-passed left at d n p q k s t z e a y g w c =
+      sum-more tallies l (λ q. restsTally c (value q)) d false n p q t tally.zero t _ z (passed-none c s k a y ∙ child-is l (restsTally c) (rests-blank c) d p 1 s e) g (sym (w c .1)) (w c)

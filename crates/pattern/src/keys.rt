@@ -194,7 +194,12 @@ pub fn transform_property_key(tree: &[u8], left: usize, at: usize) -> Key
             }
             Key::Other
         }
-        38 => named(parts::field(tree, left, at, 0)),
+        38 => {
+            if bytes::peek(tree, skip::step(tree, at, 1)) % 2 == 1 {
+                return named(parts::text(tree, skip::step(tree, at, 2)));
+            }
+            named(parts::field(tree, left, at, 0))
+        }
         39 => Key::Private,
         _ => Key::Other,
     }
@@ -239,7 +244,12 @@ pub fn item_keys(tree: &[u8], holes: bool, left: usize, at: usize) -> Tally
             return tally::none();
         }
     }
-    let k = parts::child(tree, left, at, 0);
+    let k = parts::key(tree, left, at);
+    if 0 < k.left {
+        if bytes::peek(tree, k.at) == 38 {
+            return counted(1, 0, 0, 0);
+        }
+    }
     key_counts(transform_property_key(tree, k.left, k.at))
 }
 

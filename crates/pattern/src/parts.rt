@@ -95,7 +95,17 @@ pub fn field(tree: &[u8], left: usize, at: usize, i: usize) -> Part
     }
     let row = grammar::row(bytes::peek(tree, at));
     let map = bytes::peek(tree, skip::step(tree, at, 1));
-    let f = skip::seek(tree, row, map, i, left - 1, skip::step(tree, at, 2));
+    let first = skip::step(tree, at, 2);
+    if i == 0 {
+        if row == 0 {
+            return Part::Missing;
+        }
+        if map % 2 == 0 {
+            return Part::Missing;
+        }
+        return held(tree, row % 512, first);
+    }
+    let f = skip::seek(tree, row, map, i, left - 1, first);
     match f {
         Found::At(q) => held(tree, code_at(row, i), q),
         Found::Missing => Part::Missing,
@@ -121,6 +131,40 @@ pub fn child(tree: &[u8], left: usize, at: usize, i: usize) -> Place
         Part::Number => Place { left: 0, at: at },
         Part::Missing => Place { left: 0, at: at },
     }
+}
+
+// The key of the property at a position.
+pub fn key(tree: &[u8], left: usize, at: usize) -> Place
+    ensures { λ r. ⌜ r ≡ placeOf left at (partAt (now (tree .entry)) left at 0) ⌝ }
+{
+    if 0 < left {
+        if bytes::peek(tree, at) == 35 {
+            if bytes::peek(tree, skip::step(tree, at, 1)) % 2 == 1 {
+                return Place {
+                    left: left - 1,
+                    at: skip::step(tree, at, 2),
+                };
+            }
+        }
+    }
+    child(tree, left, at, 0)
+}
+
+// The value of the property at a position.
+pub fn value(tree: &[u8], left: usize, at: usize) -> Place
+    ensures { λ r. ⌜ r ≡ placeOf left at (partAt (now (tree .entry)) left at 1) ⌝ }
+{
+    if 0 < left {
+        if bytes::peek(tree, at) == 35 {
+            if bytes::peek(tree, skip::step(tree, at, 1)) % 4 == 3 {
+                return Place {
+                    left: left - 1,
+                    at: skip::skip(tree, left - 1, skip::step(tree, at, 2)),
+                };
+            }
+        }
+    }
+    child(tree, left, at, 1)
 }
 
 // The list in field i of the node at a position.

@@ -51,7 +51,7 @@ pub fn own(tree: &[u8], left: usize, at: usize) -> Tally
     tally::none()
 }
 
-// All that are found. Array rests are not searched.
+// All that are found. Array rests are not searched, and no value is entered that is no pattern by its kind.
 pub fn rests(tree: &[u8], left: usize, at: usize) -> Tally
     ensures { λ r. ⌜ ((c : Context) → r ≡ restsTally c (lookNode (now (tree .entry)) left at .value)) ⌝ }
 {
@@ -67,8 +67,10 @@ pub fn rests(tree: &[u8], left: usize, at: usize) -> Tally
             let mut p = run.from;
             let mut t = tally::none();
             while 0 < n {
-                let v = parts::child(tree, below, p, 1);
-                t = tally::both(t, rests(tree, v.left, v.at));
+                let v = parts::value(tree, below, p);
+                if 33 < bytes::peek(tree, v.at) {
+                    t = tally::both(t, rests(tree, v.left, v.at));
+                }
                 p = skip::skip(tree, below, p);
                 n -= 1;
             }

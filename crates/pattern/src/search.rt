@@ -24,7 +24,7 @@ pub fn has_nested_object_rest(tree: &[u8], left: usize, at: usize) -> bool
             let mut n = run.count;
             let mut p = run.from;
             while 0 < n {
-                let v = parts::child(tree, below, p, 1);
+                let v = parts::value(tree, below, p);
                 if has_nested_object_rest(tree, v.left, v.at) {
                     return true;
                 }
@@ -71,7 +71,7 @@ pub fn has_rest_below_array_rest(tree: &[u8], left: usize, at: usize) -> bool
             let mut n = run.count;
             let mut p = run.from;
             while 0 < n {
-                let v = parts::child(tree, below, p, 1);
+                let v = parts::value(tree, below, p);
                 if has_rest_below_array_rest(tree, v.left, v.at) {
                     return true;
                 }

@@ -12,7 +12,7 @@ use Rattle.tree.specs.Tree.Items.{none, hole, item}
 use Rattle.tree.specs.Read.{byteAt}
 use Rattle.tree.specs.Answer.{Peeked}
 use Rattle.tree.specs.Look.{onward, lookItem, lookItems, lookNode}
-use Rattle.lowering.specs.Parts.{nodeAt, isEmpty, gather}
+use Rattle.lowering.specs.Parts.{kind, is, nodeAt, isEmpty, gather}
 use Rattle.lowering.specs.Patterns.{properties, itemsOf, rest, shape}
 use Rattle.lowering.specs.Heads.{moved, isMoved, movedFrom}
 use Rattle.lowering.specs.Keys.{allPrimitive, keySort, entryOf}
@@ -28,6 +28,7 @@ use Rattle.pattern.specs.Parts.{partAt, textIn, standing}
 use Rattle.pattern.specs.Numbers.{spelledAs, isStringOf}
 use Rattle.pattern.specs.Keys.{nameIn, formIn, besideForm, literalBy, literalIn, literalAt, keyBy, keyAt, Becomes}
 use Rattle.pattern.specs.Tally.{limited}
+use Rattle.pattern.proofs.Places.{kind-is}
 use Rattle.pattern.proofs.CappedSums.{numbers, Adds, listSum, sum-start, sum-more, sum-end}
 use Rattle.pattern.proofs.MovesCounted.{count-sum}
 use Rattle.direct.specs.Events.{cell}
@@ -159,6 +160,15 @@ pub key-class : (l : List ℕ) (d at : ℕ) (r k : Key) → Becomes l d at r →
 unfolding keyAt
 key-class l d at r k b e =
     ap classOf (sym e ∙ b .variant) ∙ class-by (keySort (lookNode l d at .value)) (partAt l d at 0) (literalAt l d at) (class-here l d at) ∙ class-is (lookNode l d at .value)
+
+static-sort : (k : Node) → kind k ≡ 38 → keySort k ≡ lowering.Key.name
+unfolding keySort is
+static-sort k e = rw e
+
+-- a static key, by its kind
+pub static-class : (l : List ℕ) (d at k : ℕ) → 0 < d → k ≡ byteAt l at → k ≡ 38 → 1 ≡ keyClass (lookNode l d at .value)
+static-class l d at k z e y =
+    ap sortClass (sym (static-sort (lookNode l d at .value) (kind-is l d at k (λ n. absurd (omega arith)) e ∙ y))) ∙ class-is (lookNode l d at .value)
 
 pub other-is : (k : Node) (n : ℕ) → n ≡ keyClass k → eqb n 4 ≡ isOther k
 unfolding keyClass isOther

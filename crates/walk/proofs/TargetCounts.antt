@@ -5,6 +5,7 @@ use mathlib.Core.Bool.{Bool, true, false, cond}
 use mathlib.Core.List.{List}
 use Prim.Native.Nat.{ℕ, _+_, _-_, _<_, _≤_}
 use native.Mathlib.Omega.{arith}
+use native.Mathlib.Decide.{decLt}
 use lib.Dec.{eqb}
 use borrow.Author.Tests.{eq-eqb, ne-eqb}
 use Rattle.tree.specs.Tree.{Node, Items, count, depth, depthFields}
@@ -182,3 +183,15 @@ module _ (l : List ℕ) (r : Reach) where
 
     pub count-other : (k ≡ 34 → ⊥) → (k ≡ 36 → ⊥) → (k ≡ 37 → ⊥) → 0 ≡ places r here
     count-other a b c = sym (ap (λ (is : Items). limited (count is)) (leaf-places r here (leaf-shape l d at k z e a b c)) ∙ none-counted)
+
+  -- a value that is no pattern by its kind adds nothing
+  passed-none : (s : Place) (k : ℕ) → k ≡ byteAt l (s .at) → k ≤ 33 → 0 ≡ places r (nodeHere l s)
+  passed-none s k e h = elim (decLt 0 (s .left)) [
+    | yes z ↦ count-other (s .left) (s .at) k (λ n. absurd (omega arith)) e (λ y. absurd (omega arith)) (λ y. absurd (omega arith)) (λ y. absurd (omega arith))
+    | no z ↦ count-none (s .left) (s .at) (omega arith)
+  ]
+
+  pub values-passed : (d at e n p q k t : ℕ) (s : Place) → 0 < n → s ≡ placeOf e p (partAt l e p 1) → k ≡ byteAt l (s .at) → k ≤ 33 → q ≡ lookNode l e p .next → ValuesLeft d at e n p t → ValuesLeft d at e (n - 1) q t
+  unfolding lookItem
+  values-passed d at e n p q k t s z f a y g w =
+      sum-more numbers l (λ q. places r (value q)) e false n p q t 0 t _ z (passed-none s k a y ∙ child-is l (places r) (places-blank r) e p 1 s f) g (sym (w .1)) w

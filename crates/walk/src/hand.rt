@@ -159,6 +159,7 @@ fn over_values(
     u
 }
 
+// One of them; by its kind it may be no pattern.
 fn over_value(
     w: Walk,
     t: &[u8],
@@ -176,6 +177,9 @@ fn over_value(
     }
     let below = less(left);
     let x = skip(t, below, step(t, at, 2));
+    if peek(t, x) < 34 {
+        return w;
+    }
     over(w, t, list, work, below, x, v, mode)
 }
 

@@ -117,6 +117,11 @@ pub fn cell(stem: usize, at: usize) -> usize
 pub fn key_sort(t: &[u8], left: usize, at: usize) -> usize
     ensures { λ r. ⌜ r ≡ keyClass (lookNode (now (t .entry)) left at .value) ⌝ }
 {
+    if 0 < left {
+        if peek(t, at) == 38 {
+            return 1;
+        }
+    }
     match transform_property_key(t, left, at) {
         Key::Name { from: _, len: _ } => 1,
         Key::Literal { from: _, len: _ } => 1,

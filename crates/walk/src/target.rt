@@ -78,7 +78,7 @@ fn found(reach: usize) -> usize
     1
 }
 
-// Below the values of the object at a position.
+// Below the values of the object at a position that may be patterns by their kind.
 pub fn object_count(t: &[u8], left: usize, at: usize, reach: usize) -> usize
     ensures { λ r. ⌜ (byteAt (now (t .entry)) at ≡ 34 → r ≡ limited (count (reachedIn (reachOf reach) (lookNode (now (t .entry)) left at .value)))) × (r ≤ 65536) ⌝ }
 {
@@ -91,8 +91,10 @@ pub fn object_count(t: &[u8], left: usize, at: usize, reach: usize) -> usize
     let mut p = run.from;
     let mut k = 0;
     while 0 < n {
-        let v = parts::child(t, below, p, 1);
-        k = plus(k, target_count(t, v.left, v.at, reach));
+        let v = parts::value(t, below, p);
+        if 33 < peek(t, v.at) {
+            k = plus(k, target_count(t, v.left, v.at, reach));
+        }
         p = skip(t, below, p);
         n -= 1;
     }

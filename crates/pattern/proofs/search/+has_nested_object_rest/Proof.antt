@@ -16,6 +16,7 @@ use Rattle.pattern.proofs.search.+has_nested_object_rest.Lts-has_nested
 use Rattle.pattern.proofs.parts.child.Reads as child-reads
 use Rattle.pattern.proofs.parts.item.Reads as item-reads
 use Rattle.pattern.proofs.parts.list.Reads as list-reads
+use Rattle.pattern.proofs.parts.value.Reads as value-reads
 use Rattle.pattern.proofs.parts.stands.Reads as stands-reads
 use Rattle.tree.proofs.bytes.peek.Reads as peek-reads
 use Rattle.tree.proofs.skip.skip.Reads as skip-reads
@@ -27,7 +28,7 @@ abbrev μ-has-nested-object-rest : Measures 1 has-nested-object-rest-kinds.ps �
 μ-has-nested-object-rest κs a = a .1 .0
 
 abbrev has-nested-object-rest-claims : ℕ → has-nested-object-rest-lts.Claims
-has-nested-object-rest-claims t = (peek-reads.Asked, peek-reads.Learnt, stands-reads.Asked, stands-reads.Learnt, list-reads.Asked, list-reads.Learnt, child-reads.Asked, child-reads.Learnt, below-measure has-nested-object-rest-kinds.ps μ-has-nested-object-rest has-nested-object-rest.Pre t, has-nested-object-rest.Post, skip-reads.Asked, skip-reads.Learnt, item-reads.Asked, item-reads.Learnt, skip-item-reads.Asked, skip-item-reads.Learnt)
+has-nested-object-rest-claims t = (peek-reads.Asked, peek-reads.Learnt, stands-reads.Asked, stands-reads.Learnt, list-reads.Asked, list-reads.Learnt, value-reads.Asked, value-reads.Learnt, below-measure has-nested-object-rest-kinds.ps μ-has-nested-object-rest has-nested-object-rest.Pre t, has-nested-object-rest.Post, skip-reads.Asked, skip-reads.Learnt, item-reads.Asked, item-reads.Learnt, skip-item-reads.Asked, skip-item-reads.Learnt, child-reads.Asked, child-reads.Learnt)
 
 abbrev has-nested-object-rest-Inv-loop : has-nested-object-rest-lts.InvT-loop
 has-nested-object-rest-Inv-loop tree left at below kind n₀ p₀ n p = any (λ q. law.has (value q)) (lookItems tree (lookNode tree below) false n p .value) ≡ law.has (lookNode tree left at .value)
@@ -68,21 +69,21 @@ has-nested-object-rest-has-nested-object-rest-requires :
     has-nested-object-rest-μ-loop
     has-nested-object-rest-Inv-loop2
     has-nested-object-rest-μ-loop2
-has-nested-object-rest-has-nested-object-rest-requires t c κs = (let h = law.value-falls _ _ _ _ (c .before .before .before .before .before .before .before .before .if1 .left) (c .child .ensures) in omega (arith, c .before .before .before .before .before .before .before .before .before .before .pre .0), tt)
+has-nested-object-rest-has-nested-object-rest-requires t c κs = (let h = law.value-falls _ _ _ _ (c .before .before .before .before .before .before .before .before .if1 .left) (c .value .ensures) in omega (arith, c .before .before .before .before .before .before .before .before .before .before .pre .0), tt)
 
 has-nested-object-rest-returns-3 : (t : ℕ) → has-nested-object-rest-lts.Need-returns-3 (has-nested-object-rest-claims t) (at-measure has-nested-object-rest-kinds.ps μ-has-nested-object-rest has-nested-object-rest.Pre t) has-nested-object-rest.Post
     has-nested-object-rest-Inv-loop
     has-nested-object-rest-μ-loop
     has-nested-object-rest-Inv-loop2
     has-nested-object-rest-μ-loop2
-has-nested-object-rest-returns-3 t c = law.value-yes _ law.has below.has-blank below.has-nothing _ _ _ _ _ (c .before .before .before .loop-test .taken) (c .before .before .child .ensures) (c .before .has-nested-object-rest .ensures) (c .if3 .taken) ∙ c .before .before .before .before .loop .inv
+has-nested-object-rest-returns-3 t c = law.value-yes _ law.has below.has-blank below.has-nothing _ _ _ _ _ (c .before .before .before .loop-test .taken) (c .before .before .value .ensures) (c .before .has-nested-object-rest .ensures) (c .if3 .taken) ∙ c .before .before .before .before .loop .inv
 
 has-nested-object-rest-loop-again : (t : ℕ) → has-nested-object-rest-lts.Need-loop-again (has-nested-object-rest-claims t) (at-measure has-nested-object-rest-kinds.ps μ-has-nested-object-rest has-nested-object-rest.Pre t) has-nested-object-rest.Post
     has-nested-object-rest-Inv-loop
     has-nested-object-rest-μ-loop
     has-nested-object-rest-Inv-loop2
     has-nested-object-rest-μ-loop2
-has-nested-object-rest-loop-again t c = law.value-more _ law.has below.has-blank below.has-nothing _ _ _ _ _ (c .before .before .before .before .loop-test .taken) (c .before .before .before .child .ensures) (c .before .before .has-nested-object-rest .ensures) _ (c .before .if3 .left) (c .skip .ensures) ∙ c .before .before .before .before .before .loop .inv
+has-nested-object-rest-loop-again t c = law.value-more _ law.has below.has-blank below.has-nothing _ _ _ _ _ (c .before .before .before .before .loop-test .taken) (c .before .before .before .value .ensures) (c .before .before .has-nested-object-rest .ensures) _ (c .before .if3 .left) (c .skip .ensures) ∙ c .before .before .before .before .before .loop .inv
 
 has-nested-object-rest-loop2-holds : (t : ℕ) → has-nested-object-rest-lts.Need-loop2-holds (has-nested-object-rest-claims t) (at-measure has-nested-object-rest-kinds.ps μ-has-nested-object-rest has-nested-object-rest.Pre t) has-nested-object-rest.Post
     has-nested-object-rest-Inv-loop
@@ -119,7 +120,7 @@ has-nested-object-rest-has-nested-object-rest-requires-3 :
     has-nested-object-rest-μ-loop
     has-nested-object-rest-Inv-loop2
     has-nested-object-rest-μ-loop2
-has-nested-object-rest-has-nested-object-rest-requires-3 t c κs = (let h = places.child-falls _ _ _ 1 _ (c .before .before .before .before .before .before .if1 .left) (c .child2 .ensures) in omega (arith, c .before .before .before .before .before .before .before .before .pre .0), tt)
+has-nested-object-rest-has-nested-object-rest-requires-3 t c κs = (let h = places.child-falls _ _ _ 1 _ (c .before .before .before .before .before .before .if1 .left) (c .child .ensures) in omega (arith, c .before .before .before .before .before .before .before .before .pre .0), tt)
 
 has-nested-object-rest-has-nested-object-rest-requires-4 :
     (t : ℕ) → has-nested-object-rest-lts.Need-has-nested-object-rest-requires-4 (has-nested-object-rest-claims t) (at-measure has-nested-object-rest-kinds.ps μ-has-nested-object-rest has-nested-object-rest.Pre t) has-nested-object-rest.Post
@@ -127,7 +128,7 @@ has-nested-object-rest-has-nested-object-rest-requires-4 :
     has-nested-object-rest-μ-loop
     has-nested-object-rest-Inv-loop2
     has-nested-object-rest-μ-loop2
-has-nested-object-rest-has-nested-object-rest-requires-4 t c κs = (let h = places.child-falls _ _ _ 0 _ (c .before .before .before .if1 .left) (c .child3 .ensures) in omega (arith, c .before .before .before .before .before .pre .0), tt)
+has-nested-object-rest-has-nested-object-rest-requires-4 t c κs = (let h = places.child-falls _ _ _ 0 _ (c .before .before .before .if1 .left) (c .child2 .ensures) in omega (arith, c .before .before .before .before .before .pre .0), tt)
 
 has-nested-object-rest-returns-5 : (t : ℕ) → has-nested-object-rest-lts.Need-returns-5 (has-nested-object-rest-claims t) (at-measure has-nested-object-rest-kinds.ps μ-has-nested-object-rest has-nested-object-rest.Pre t) has-nested-object-rest.Post
     has-nested-object-rest-Inv-loop
@@ -141,14 +142,14 @@ has-nested-object-rest-returns-6 : (t : ℕ) → has-nested-object-rest-lts.Need
     has-nested-object-rest-μ-loop
     has-nested-object-rest-Inv-loop2
     has-nested-object-rest-μ-loop2
-has-nested-object-rest-returns-6 t c = law.items-done _ law.has _ _ _ _ _ _ _ (c .before .before .loop2-test .left) (c .before .child2 .ensures) (c .has-nested-object-rest3 .ensures) ∙ c .before .before .before .loop2 .inv
+has-nested-object-rest-returns-6 t c = law.items-done _ law.has _ _ _ _ _ _ _ (c .before .before .loop2-test .left) (c .before .child .ensures) (c .has-nested-object-rest3 .ensures) ∙ c .before .before .before .loop2 .inv
 
 has-nested-object-rest-returns-7 : (t : ℕ) → has-nested-object-rest-lts.Need-returns-7 (has-nested-object-rest-claims t) (at-measure has-nested-object-rest-kinds.ps μ-has-nested-object-rest has-nested-object-rest.Pre t) has-nested-object-rest.Post
     has-nested-object-rest-Inv-loop
     has-nested-object-rest-μ-loop
     has-nested-object-rest-Inv-loop2
     has-nested-object-rest-μ-loop2
-has-nested-object-rest-returns-7 t c = law.has-left _ _ _ _ (c .before .before .before .before .if1 .left) (c .before .before .before .peek .ensures .value) _ _ (c .before .before .match .keys3) (c .before .child3 .ensures) (c .has-nested-object-rest4 .ensures)
+has-nested-object-rest-returns-7 t c = law.has-left _ _ _ _ (c .before .before .before .before .if1 .left) (c .before .before .before .peek .ensures .value) _ _ (c .before .before .match .keys3) (c .before .child2 .ensures) (c .has-nested-object-rest4 .ensures)
 
 has-nested-object-rest-returns-8 : (t : ℕ) → has-nested-object-rest-lts.Need-returns-8 (has-nested-object-rest-claims t) (at-measure has-nested-object-rest-kinds.ps μ-has-nested-object-rest has-nested-object-rest.Pre t) has-nested-object-rest.Post
     has-nested-object-rest-Inv-loop

@@ -16,6 +16,7 @@ use Rattle.pattern.proofs.search.+has_rest_below_array_rest.Lts-has_res
 use Rattle.pattern.proofs.parts.child.Reads as child-reads
 use Rattle.pattern.proofs.parts.item.Reads as item-reads
 use Rattle.pattern.proofs.parts.list.Reads as list-reads
+use Rattle.pattern.proofs.parts.value.Reads as value-reads
 use Rattle.pattern.proofs.search.has_nested_object_rest.Reads as has-nested-object-rest-reads
 use Rattle.tree.proofs.bytes.peek.Reads as peek-reads
 use Rattle.tree.proofs.skip.skip.Reads as skip-reads
@@ -27,7 +28,7 @@ abbrev μ-has-rest-below-array-rest : Measures 1 has-rest-below-array-rest-kinds
 μ-has-rest-below-array-rest κs a = a .1 .0
 
 abbrev has-rest-below-array-rest-claims : ℕ → has-rest-below-array-rest-lts.Claims
-has-rest-below-array-rest-claims t = (peek-reads.Asked, peek-reads.Learnt, list-reads.Asked, list-reads.Learnt, child-reads.Asked, child-reads.Learnt, below-measure has-rest-below-array-rest-kinds.ps μ-has-rest-below-array-rest has-rest-below-array-rest.Pre t, has-rest-below-array-rest.Post, skip-reads.Asked, skip-reads.Learnt, item-reads.Asked, item-reads.Learnt, skip-item-reads.Asked, skip-item-reads.Learnt, has-nested-object-rest-reads.Asked, has-nested-object-rest-reads.Learnt)
+has-rest-below-array-rest-claims t = (peek-reads.Asked, peek-reads.Learnt, list-reads.Asked, list-reads.Learnt, value-reads.Asked, value-reads.Learnt, below-measure has-rest-below-array-rest-kinds.ps μ-has-rest-below-array-rest has-rest-below-array-rest.Pre t, has-rest-below-array-rest.Post, skip-reads.Asked, skip-reads.Learnt, item-reads.Asked, item-reads.Learnt, skip-item-reads.Asked, skip-item-reads.Learnt, child-reads.Asked, child-reads.Learnt, has-nested-object-rest-reads.Asked, has-nested-object-rest-reads.Learnt)
 
 abbrev has-rest-below-array-rest-Inv-loop : has-rest-below-array-rest-lts.InvT-loop
 has-rest-below-array-rest-Inv-loop tree left at below kind n₀ p₀ n p = any (λ q. law.deep (value q)) (lookItems tree (lookNode tree below) false n p .value) ≡ law.deep (lookNode tree left at .value)
@@ -61,21 +62,21 @@ has-rest-below-array-rest-has-rest-below-array-rest-requires :
     has-rest-below-array-rest-μ-loop
     has-rest-below-array-rest-Inv-loop2
     has-rest-below-array-rest-μ-loop2
-has-rest-below-array-rest-has-rest-below-array-rest-requires t c κs = (let h = law.value-falls _ _ _ _ (c .before .before .before .before .before .before .if1 .left) (c .child .ensures) in omega (arith, c .before .before .before .before .before .before .before .before .pre .0), tt)
+has-rest-below-array-rest-has-rest-below-array-rest-requires t c κs = (let h = law.value-falls _ _ _ _ (c .before .before .before .before .before .before .if1 .left) (c .value .ensures) in omega (arith, c .before .before .before .before .before .before .before .before .pre .0), tt)
 
 has-rest-below-array-rest-returns-2 : (t : ℕ) → has-rest-below-array-rest-lts.Need-returns-2 (has-rest-below-array-rest-claims t) (at-measure has-rest-below-array-rest-kinds.ps μ-has-rest-below-array-rest has-rest-below-array-rest.Pre t) has-rest-below-array-rest.Post
     has-rest-below-array-rest-Inv-loop
     has-rest-below-array-rest-μ-loop
     has-rest-below-array-rest-Inv-loop2
     has-rest-below-array-rest-μ-loop2
-has-rest-below-array-rest-returns-2 t c = law.value-yes _ law.deep below.below-blank below.below-nothing _ _ _ _ _ (c .before .before .before .loop-test .taken) (c .before .before .child .ensures) (c .before .has-rest-below-array-rest .ensures) (c .if2 .taken) ∙ c .before .before .before .before .loop .inv
+has-rest-below-array-rest-returns-2 t c = law.value-yes _ law.deep below.below-blank below.below-nothing _ _ _ _ _ (c .before .before .before .loop-test .taken) (c .before .before .value .ensures) (c .before .has-rest-below-array-rest .ensures) (c .if2 .taken) ∙ c .before .before .before .before .loop .inv
 
 has-rest-below-array-rest-loop-again : (t : ℕ) → has-rest-below-array-rest-lts.Need-loop-again (has-rest-below-array-rest-claims t) (at-measure has-rest-below-array-rest-kinds.ps μ-has-rest-below-array-rest has-rest-below-array-rest.Pre t) has-rest-below-array-rest.Post
     has-rest-below-array-rest-Inv-loop
     has-rest-below-array-rest-μ-loop
     has-rest-below-array-rest-Inv-loop2
     has-rest-below-array-rest-μ-loop2
-has-rest-below-array-rest-loop-again t c = law.value-more _ law.deep below.below-blank below.below-nothing _ _ _ _ _ (c .before .before .before .before .loop-test .taken) (c .before .before .before .child .ensures) (c .before .before .has-rest-below-array-rest .ensures) _ (c .before .if2 .left) (c .skip .ensures) ∙ c .before .before .before .before .before .loop .inv
+has-rest-below-array-rest-loop-again t c = law.value-more _ law.deep below.below-blank below.below-nothing _ _ _ _ _ (c .before .before .before .before .loop-test .taken) (c .before .before .before .value .ensures) (c .before .before .has-rest-below-array-rest .ensures) _ (c .before .if2 .left) (c .skip .ensures) ∙ c .before .before .before .before .before .loop .inv
 
 has-rest-below-array-rest-loop2-holds : (t : ℕ) → has-rest-below-array-rest-lts.Need-loop2-holds (has-rest-below-array-rest-claims t) (at-measure has-rest-below-array-rest-kinds.ps μ-has-rest-below-array-rest has-rest-below-array-rest.Pre t) has-rest-below-array-rest.Post
     has-rest-below-array-rest-Inv-loop
@@ -112,7 +113,7 @@ has-rest-below-array-rest-has-rest-below-array-rest-requires-3 :
     has-rest-below-array-rest-μ-loop
     has-rest-below-array-rest-Inv-loop2
     has-rest-below-array-rest-μ-loop2
-has-rest-below-array-rest-has-rest-below-array-rest-requires-3 t c κs = (let h = places.child-falls _ _ _ 0 _ (c .before .before .before .if1 .left) (c .child3 .ensures) in omega (arith, c .before .before .before .before .before .pre .0), tt)
+has-rest-below-array-rest-has-rest-below-array-rest-requires-3 t c κs = (let h = places.child-falls _ _ _ 0 _ (c .before .before .before .if1 .left) (c .child2 .ensures) in omega (arith, c .before .before .before .before .before .pre .0), tt)
 
 has-rest-below-array-rest-returns-4 : (t : ℕ) → has-rest-below-array-rest-lts.Need-returns-4 (has-rest-below-array-rest-claims t) (at-measure has-rest-below-array-rest-kinds.ps μ-has-rest-below-array-rest has-rest-below-array-rest.Pre t) has-rest-below-array-rest.Post
     has-rest-below-array-rest-Inv-loop
@@ -126,14 +127,14 @@ has-rest-below-array-rest-returns-5 : (t : ℕ) → has-rest-below-array-rest-lt
     has-rest-below-array-rest-μ-loop
     has-rest-below-array-rest-Inv-loop2
     has-rest-below-array-rest-μ-loop2
-has-rest-below-array-rest-returns-5 t c = law.items-done _ law.deep _ _ _ _ _ _ _ (c .before .before .loop2-test .left) (c .before .child2 .ensures) (c .has-nested-object-rest .ensures) ∙ c .before .before .before .loop2 .inv
+has-rest-below-array-rest-returns-5 t c = law.items-done _ law.deep _ _ _ _ _ _ _ (c .before .before .loop2-test .left) (c .before .child .ensures) (c .has-nested-object-rest .ensures) ∙ c .before .before .before .loop2 .inv
 
 has-rest-below-array-rest-returns-6 : (t : ℕ) → has-rest-below-array-rest-lts.Need-returns-6 (has-rest-below-array-rest-claims t) (at-measure has-rest-below-array-rest-kinds.ps μ-has-rest-below-array-rest has-rest-below-array-rest.Pre t) has-rest-below-array-rest.Post
     has-rest-below-array-rest-Inv-loop
     has-rest-below-array-rest-μ-loop
     has-rest-below-array-rest-Inv-loop2
     has-rest-below-array-rest-μ-loop2
-has-rest-below-array-rest-returns-6 t c = law.deep-left _ _ _ _ (c .before .before .before .before .if1 .left) (c .before .before .before .peek .ensures .value) _ _ (c .before .before .match .keys3) (c .before .child3 .ensures) (c .has-rest-below-array-rest3 .ensures)
+has-rest-below-array-rest-returns-6 t c = law.deep-left _ _ _ _ (c .before .before .before .before .if1 .left) (c .before .before .before .peek .ensures .value) _ _ (c .before .before .match .keys3) (c .before .child2 .ensures) (c .has-rest-below-array-rest3 .ensures)
 
 has-rest-below-array-rest-returns-7 : (t : ℕ) → has-rest-below-array-rest-lts.Need-returns-7 (has-rest-below-array-rest-claims t) (at-measure has-rest-below-array-rest-kinds.ps μ-has-rest-below-array-rest has-rest-below-array-rest.Pre t) has-rest-below-array-rest.Post
     has-rest-below-array-rest-Inv-loop

@@ -1,4 +1,5 @@
 use mathlib.Core.Bool.{true}
+use mathlib.Core.Logic.{⊎-elim}
 use mathlib.Core.Path.{_≡_, refl, sym, _∙_}
 use native.Mathlib.Omega.{arith}
 use Rattle.tree.specs.Read.{byteAt}
@@ -21,6 +22,7 @@ use Rattle.pattern.proofs.parts.child.Reads as child-reads
 use Rattle.pattern.proofs.parts.item.Reads as item-reads
 use Rattle.pattern.proofs.parts.list.Reads as list-reads
 use Rattle.pattern.proofs.parts.stands.Reads as stands-reads
+use Rattle.pattern.proofs.parts.value.Reads as value-reads
 use Rattle.pattern.proofs.tally.plus.Reads as plus-reads
 use Rattle.tree.proofs.bytes.peek.Reads as peek-reads
 use Rattle.tree.proofs.skip.skip.Reads as skip-reads
@@ -35,7 +37,7 @@ abbrev μ-target-count : Measures 1 target-count-kinds.ps ℕ
 μ-target-count κs a = 2 * a .1 .0 + 1
 
 abbrev object-count-claims : ℕ → object-count-lts.Claims
-object-count-claims t = (list-reads.Asked, list-reads.Learnt, child-reads.Asked, child-reads.Learnt, below-measure target-count-kinds.ps μ-target-count target-count.Pre t, target-count.Post, plus-reads.Asked, plus-reads.Learnt, skip-reads.Asked, skip-reads.Learnt)
+object-count-claims t = (list-reads.Asked, list-reads.Learnt, value-reads.Asked, value-reads.Learnt, peek-reads.Asked, peek-reads.Learnt, below-measure target-count-kinds.ps μ-target-count target-count.Pre t, target-count.Post, plus-reads.Asked, plus-reads.Learnt, skip-reads.Asked, skip-reads.Learnt)
 
 abbrev target-count-claims : ℕ → target-count-lts.Claims
 target-count-claims t = (peek-reads.Asked, peek-reads.Learnt, stands-reads.Asked, stands-reads.Learnt, found-reads.Asked, found-reads.Learnt, below-measure object-count-kinds.ps μ-object-count object-count.Pre t, object-count.Post, list-reads.Asked, list-reads.Learnt, item-reads.Asked, item-reads.Learnt, below-measure target-count-kinds.ps μ-target-count target-count.Pre t, target-count.Post, plus-reads.Asked, plus-reads.Learnt, skip-item-reads.Asked, skip-item-reads.Learnt, child-reads.Asked, child-reads.Learnt)
@@ -55,13 +57,20 @@ object-count-loop-holds : (t : ℕ) → object-count-lts.Need-loop-holds (object
 object-count-loop-holds t c = (λ k. law.values-start _ _ _ _ _ k (c .list .ensures), omega arith)
 
 object-count-target-count-requires : (t : ℕ) → object-count-lts.Need-target-count-requires (object-count-claims t) (at-measure object-count-kinds.ps μ-object-count object-count.Pre t) object-count.Post object-count-Inv-loop object-count-μ-loop
-object-count-target-count-requires t c κs = (let h = search.value-falls _ _ _ _ (c .before .before .before .before .if1 .left) (c .child .ensures) in omega (arith, c .before .before .before .before .before .before .pre .0), tt)
+object-count-target-count-requires t c κs = (let h = search.value-falls _ _ _ _ (c .before .before .before .before .before .before .if1 .left) (c .before .before .value .ensures) in omega (arith, c .before .before .before .before .before .before .before .before .pre .0), tt)
 
 object-count-loop-again : (t : ℕ) → object-count-lts.Need-loop-again (object-count-claims t) (at-measure object-count-kinds.ps μ-object-count object-count.Pre t) object-count.Post object-count-Inv-loop object-count-μ-loop
-object-count-loop-again t c = (
-  λ k. law.values-more _ _ _ _ _ _ _ _ _ _ _ _ (c .before .before .before .before .loop-test .taken) (c .before .before .before .child .ensures) (c .before .before .target-count .ensures) (c .skip .ensures) (c .before .plus .ensures) (c .before .before .before .before .before .loop .inv .0 k),
-  limited-below _ _ (c .before .plus .ensures),
-)
+object-count-loop-again t c =
+    ⊎-elim
+    (λ w. rw (w .3) (
+      λ k. law.values-more _ _ _ _ _ _ _ _ _ _ _ _ (c .before .before .before .before .loop-test .taken) (c .before .before .before .value .ensures) (w .1 .ensures) (c .skip .ensures) (w .2 .ensures) (c .before .before .before .before .before .loop .inv .0 k),
+      limited-below _ _ (w .2 .ensures),
+    ))
+    (λ w. rw (w .1) (
+      λ k. law.values-passed _ _ _ _ _ _ _ _ _ _ _ (c .before .before .before .before .loop-test .taken) (c .before .before .before .value .ensures) (c .before .before .peek .ensures .value) (w .0 .left) (c .skip .ensures) (c .before .before .before .before .before .loop .inv .0 k),
+      c .before .before .before .before .before .loop .inv .1,
+    ))
+    (c .before .if2 .came)
 
 object-count-returns-2 : (t : ℕ) → object-count-lts.Need-returns-2 (object-count-claims t) (at-measure object-count-kinds.ps μ-object-count object-count.Pre t) object-count.Post object-count-Inv-loop object-count-μ-loop
 object-count-returns-2 t c = (λ k. law.values-end _ _ _ _ _ _ _ _ (c .loop-test .left) (c .before .loop .inv .0 k), c .before .loop .inv .1)
@@ -122,6 +131,7 @@ pub +object-count+target-count-spec : {M : Type 1} → statement M
     (λ c. omega arith)
     (λ c κs. tt)
     (object-count-loop-holds t)
+    (λ c κs. tt)
     (λ c κs. tt)
     (object-count-target-count-requires t)
     (λ c κs. tt)
