@@ -295,10 +295,6 @@ pub place-keyed : Keyed placeMade
 unfolding placeMade
 place-keyed g at ps r = refl
 
-pub hands-keyed : Keyed handsPlace
-unfolding handsPlace
-hands-keyed g at ps r = refl
-
 pub keys-keyed : Keyed keysMade
 unfolding keysMade keyMade itemsAt pieceIn
 keys-keyed g at ps r =

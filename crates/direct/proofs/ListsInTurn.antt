@@ -50,6 +50,14 @@ turn-same f g h Items.none = refl
 turn-same f g h (Items.hole ns) = turn-same f g h ns
 turn-same f g h (Items.item n ns) = ap₂ (λ (x y : Emit). x ▷ y) (h n) (turn-same f g h ns)
 
+pub holes-none : NoHoles Items.none
+unfolding NoHoles
+holes-none = tt
+
+pub holes-only : (n : Node) → NoHoles (only n)
+unfolding NoHoles
+holes-only n = tt
+
 pub holes-append : (ns ms : Items) → NoHoles ns → NoHoles ms → NoHoles (ns +++ ms)
 unfolding NoHoles _+++_
 holes-append Items.none ms a b = b

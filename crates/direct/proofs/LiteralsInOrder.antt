@@ -21,8 +21,8 @@ use Rattle.direct.proofs.Threads.{then-assoc, say-nothing, then-nothing
 use Rattle.direct.proofs.OneLevel.{emits-as, nothing-handed, emits-nowhere, emits-unchanged}
 use Rattle.direct.proofs.RulesKeep.{rule-24, literal-kept}
 use Rattle.direct.proofs.MadeNodes.{say-then, more-items, only-item, no-items, emits-S, emits-object}
-use Rattle.direct.proofs.ListsInTurn.{items-append, holes-append}
-use Rattle.lowering.proofs.ItemLaws.{count-append, any-append}
+use Rattle.direct.proofs.ListsInTurn.{items-append, holes-none, holes-only, holes-append}
+use Rattle.lowering.proofs.ItemLaws.{count-append, any-behind}
 use Rattle.lowering.proofs.Clauses.{scan-spread, scan-other}
 
 -- ---- heads
@@ -116,14 +116,6 @@ unfolding modeOf _+++_ NoHoles
 mode-added Items.none p w = refl
 mode-added (Items.hole ps) p w = absurd w
 mode-added (Items.item q ps) p w = refl
-
-only-whole : (p : Node) → NoHoles (only p)
-unfolding NoHoles
-only-whole p = tt
-
-no-spread : (pending : Items) (p : Node) → any isSpread pending ≡ false → is 26 p ≡ false → any isSpread (pending +++ only p) ≡ false
-unfolding any
-no-spread pending p h e = any-append isSpread pending (only p) ∙ rw (h, e) refl
 
 count-added : (pending : Items) (p : Node) → count (pending +++ only p) ≡ suc (count pending)
 unfolding count
@@ -230,10 +222,6 @@ module _ (c : Place) where
   unfolding heads modeAfter innerHeads run parts
   hole-behind E pending ps = refl
 
-  nothing-whole : NoHoles Items.none
-  unfolding NoHoles
-  nothing-whole = tt
-
   nothing-spread : any isSpread Items.none ≡ false
   unfolding any
   nothing-spread = refl
@@ -295,11 +283,11 @@ module _ (c : Place) where
       (λ e.
       let a = nodeAt 0 p in
       ap (emits c) (scan-spread (Call.call C) pending p ps e)
-      ∙ scan-call (Next C E k pending w z a) (Ends C E k pending w z a) (next-there C E k pending w z a) (next-inside C E k pending w z a) Items.none ps nothing-whole nothing-spread
+      ∙ scan-call (Next C E k pending w z a) (Ends C E k pending w z a) (next-there C E k pending w z a) (next-inside C E k pending w z a) Items.none ps holes-none nothing-spread
       ∙ spread-behind E pending p ps e)
       (λ e.
       ap (emits c) (scan-other (Call.call C) pending p ps e)
-      ∙ scan-call C E h k (pending +++ only p) ps (holes-append pending (only p) w (only-whole p)) (no-spread pending p z e)
+      ∙ scan-call C E h k (pending +++ only p) ps (holes-append pending (only p) w (holes-only p)) (any-behind isSpread pending p z e)
       ∙ other-behind E pending p ps w e)
 
   -- the whole scan, before the first call
@@ -396,11 +384,11 @@ module _ (c : Place) where
       (λ e.
       let a = nodeAt 0 p in
       ap (emits c) (scan-spread Call.no-call pending p ps e)
-      ∙ scan-call (S (opened Call.no-call pending +++ only a)) (Opens pending z a) (first-there pending z a) (first-inside pending z a) Items.none ps nothing-whole nothing-spread
+      ∙ scan-call (S (opened Call.no-call pending +++ only a)) (Opens pending z a) (first-there pending z a) (first-inside pending z a) Items.none ps holes-none nothing-spread
       ∙ spread-first pending z p ps e)
       (λ e.
       ap (emits c) (scan-other Call.no-call pending p ps e)
-      ∙ scan-first (pending +++ only p) ps (no-spread pending p z e)
+      ∙ scan-first (pending +++ only p) ps (any-behind isSpread pending p z e)
       ∙ other-first pending p ps e)
 
 -- ---- what a scan leaves is a call: no rule is for it

@@ -2,7 +2,7 @@
 -- parts are replaced.
 -- Assumes nothing.
 use mathlib.Core.Path.{_≡_, refl, sym, ap, ap₂, _∙_, fun-ext}
-use mathlib.Core.Bool.{Bool, true, false, cond, not, _&&_, _||_}
+use mathlib.Core.Bool.{Bool, true, false, cond, not, _&&_, _||_, or-false}
 use mathlib.Core.List.{[]}
 use Prim.Native.Nat.{ℕ, zero, suc, _+_, _≤_, max}
 use native.Mathlib.Omega.{arith}
@@ -21,7 +21,7 @@ use Rattle.lowering.proofs.Cases.{by-test, by-shape, or-left, or-right}
 use Rattle.lowering.proofs.WeightKeys.{rest-changed}
 use Rattle.lowering.proofs.Levels.{depth-pos, items-depth, gather-agrees, node-in, values-agree, array-levels, nearest-levels, nearest-nothing, replaced-levels, parts-levels}
 use Rattle.lowering.proofs.Clauses.{replaced-plain, replaced-top, replaced-array, replaced-default, parts-object, parts-array, parts-default, parts-leaf, nearest-object, nearest-array, nearest-default, nearest-leaf}
-use Rattle.lowering.proofs.ItemLaws.{items-none, each-each, each-same, gather-same, gather-each, any-none}
+use Rattle.lowering.proofs.ItemLaws.{items-none, none-empty, each-each, each-same, gather-same, gather-each, any-none}
 use Rattle.lowering.proofs.ChangeLaws.{shape-changed}
 use Rattle.direct.specs.Events.{Emit}
 use Rattle.direct.specs.Emit.{say, inTurn}
@@ -29,7 +29,7 @@ use Rattle.direct.specs.Views.{objectAt, objectRestAt, viewed, viewedPro
 use Rattle.direct.specs.Views.View.{replacing, taking}
 use Rattle.direct.specs.Objects.{Reach, counts, enters, reachedAt, reached, overReached, reachedIn, overReplaced, overParts}
 use Rattle.direct.specs.Objects.Reach.{anywhere, straight, inArrays}
-use Rattle.direct.proofs.ListsInTurn.{holes-append, turn-gather, turn-only}
+use Rattle.direct.proofs.ListsInTurn.{holes-none, holes-only, holes-append, turn-gather, turn-only}
 use Rattle.direct.proofs.PatternViews.{value-twice, kept-value, taken-rest, values-rest, viewed-object, viewed-rest}
 use Rattle.direct.proofs.ObjectsByLevel.{value-changed, value-kept}
 use Rattle.direct.proofs.DeclarationsByPart.{properties-changed}
@@ -213,26 +213,18 @@ holes-cond : (b : Bool) (is js : Items) → NoHoles is → NoHoles js → NoHole
 holes-cond true is js a b = a
 holes-cond false is js a b = b
 
-none-solid : NoHoles Items.none
-unfolding NoHoles
-none-solid = tt
-
-only-solid : (n : Node) → NoHoles (only n)
-unfolding NoHoles
-only-solid n = tt
-
 pub nearest-solid : (arrays : Bool) (d : ℕ) (p : Node) → NoHoles (nearest arrays d p)
 unfolding nearest
-nearest-solid arrays zero p = none-solid
+nearest-solid arrays zero p = holes-none
 nearest-solid arrays (suc d) p =
     by-shape (shape p)
     (λ e. rw (e, nearest)
-    (holes-cond (hasRest p) (only p) (gather (λ q. nearest arrays d (value q)) (properties p)) (only-solid p)
+    (holes-cond (hasRest p) (only p) (gather (λ q. nearest arrays d (value q)) (properties p)) (holes-only p)
     (holes-gather (λ q. nearest arrays d (value q)) (λ q. nearest-solid arrays d (value q)) (properties p))))
     (λ e. rw (e, nearest)
-    (holes-cond arrays (gather (λ x. nearest arrays d x) (itemsOf p)) Items.none (holes-gather (λ x. nearest arrays d x) (λ x. nearest-solid arrays d x) (itemsOf p)) none-solid))
+    (holes-cond arrays (gather (λ x. nearest arrays d x) (itemsOf p)) Items.none (holes-gather (λ x. nearest arrays d x) (λ x. nearest-solid arrays d x) (itemsOf p)) holes-none))
     (λ e. rw (e, nearest) (nearest-solid arrays d (leftOf p)))
-    (λ e. rw (e, nearest) none-solid)
+    (λ e. rw (e, nearest) holes-none)
 
 pub parts-solid : (p : Node) → NoHoles (partsOf p)
 parts-solid p = holes-gather (λ q. nearest false (depth p) (value q)) (λ q. nearest-solid false (depth p) (value q)) (properties p)
@@ -264,14 +256,6 @@ unfolding isEmpty
 own-found true x o is h = refl
 own-found false x o is h = h
 
-or-false : (a : Bool) → a ≡ a || false
-or-false true = refl
-or-false false = refl
-
-none-empty : isEmpty Items.none ≡ true
-unfolding isEmpty
-none-empty = refl
-
 found-iff : (d : ℕ) (p : Node) → hasNestedArrayRest d p ≡ false → isEmpty (nearest true d p) ≡ not (hasNestedObjectRest d p)
 unfolding hasNestedObjectRest nearest isEmpty
 found-iff zero p h = refl
@@ -289,7 +273,7 @@ found-iff (suc d) p h =
     let z = sym (over-array d p e) ∙ h in
     ap isEmpty (nearest-array true d p e)
     ∙ empty-gather u t f (λ x y. found-iff d x y) (itemsOf p) (or-left (any u (itemsOf p)) (t (rest p)) z)
-    ∙ ap not (or-false (any t (itemsOf p)) ∙ ap (λ (b : Bool). any t (itemsOf p) || b) (sym (or-right (any u (itemsOf p)) (t (rest p)) z)) ∙ sym (has-array d p e)))
+    ∙ ap not (sym (or-false (any t (itemsOf p))) ∙ ap (λ (b : Bool). any t (itemsOf p) || b) (sym (or-right (any u (itemsOf p)) (t (rest p)) z)) ∙ sym (has-array d p e)))
     (λ e. ap isEmpty (nearest-default true d p e) ∙ found-iff d (leftOf p) (sym (over-default d p e) ∙ h) ∙ ap not (sym (has-default d p e)))
     (λ e. ap isEmpty (nearest-leaf true d p e) ∙ none-empty ∙ ap not (sym (has-leaf d p e)))
 
@@ -299,7 +283,7 @@ found-or-none p h = found-iff (depth p) p h
 -- ---- parts replaced
 
 module _ (κ : Context) where
-  parts-nothing : (d : ℕ) → partsReplaced κ d nothing ≡ nothing
+  pub parts-nothing : (d : ℕ) → partsReplaced κ d nothing ≡ nothing
   unfolding partsReplaced shape
   parts-nothing zero = refl
   parts-nothing (suc d) = refl

@@ -4,11 +4,11 @@ use mathlib.Core.Path.{_≡_, refl, sym, ap, ap₂, _∙_, fun-ext}
 use mathlib.Core.Bool.{Bool, true, false, _||_}
 use Prim.Native.Nat.{ℕ, zero, suc, _+_}
 use native.Mathlib.Omega.{arith}
-use Rattle.tree.specs.Tree.{Node, Fields, Piece, Items, depth}
+use Rattle.tree.specs.Tree.{Node, Piece, Items, depth}
 use Rattle.tree.specs.Tree.Node.{node}
 use Rattle.tree.specs.Tree.Fields.{done, absent, field}
 use Rattle.tree.specs.Tree.Piece.{one, list, text, byte, mark, number}
-use Rattle.lowering.specs.Parts.{nothing, is, asNode, pieceIn, changeIn, nodeAt, change, onNode, onItems, changeNode, changeItems, without, each, any}
+use Rattle.lowering.specs.Parts.{nothing, is, pieceIn, changeIn, nodeAt, change, onNode, onItems, changeNode, changeItems, without, each, any}
 use Rattle.lowering.specs.Made.{Context, reference}
 use Rattle.lowering.specs.Patterns.{shape, properties, itemsOf, rest, hasRest, leftOf, value, withLeft, withItems, withValues, withProperties, hasNestedObjectRest, hasNestedArrayRest, hasObjectRest, hasArrayRestOverObjectRest, replaced, replacedBelow}
 use Rattle.lowering.specs.Patterns.Shape.{objectPattern, arrayPattern, default, leaf}
@@ -20,7 +20,7 @@ use Rattle.direct.proofs.PatternViews.{value-twice}
 use Rattle.direct.proofs.ObjectsByLevel.{value-changed, value-kept}
 use Rattle.direct.proofs.DeclarationsByPart.{properties-changed, rest-beside}
 use Rattle.lowering.proofs.ItemLaws.{each-each, any-none}
-use Rattle.lowering.proofs.ChangeLaws.{shape-changed, changeItems-same, node-on, node-on-twice, items-without}
+use Rattle.lowering.proofs.ChangeLaws.{shape-changed, changeItems-same, changeNode-same, node-on, node-on-twice, items-without}
 use Rattle.lowering.proofs.Clauses.{replaced-plain, replaced-top, replaced-array, replaced-default, replaced-leaf}
 
 -- ---- lists and fields
@@ -36,27 +36,6 @@ unfolding any each
 each-kept u g h Items.none e = refl
 each-kept u g h (Items.hole is) e = ap Items.hole (each-kept u g h is e)
 each-kept u g h (Items.item n is) e = ap₂ Items.item (h n (or-left (u n) (any u is) e)) (each-kept u g h is (or-right (u n) (any u is) e))
-
-piece-same : (f : Node → Node) (p : Piece) → f (asNode p) ≡ asNode p → onNode f p ≡ p
-unfolding onNode
-piece-same f (one n) h = ap one h
-piece-same f (list is) h = refl
-piece-same f (text bs) h = refl
-piece-same f (byte b) h = refl
-piece-same f (mark b) h = refl
-piece-same f (number b) h = refl
-
-field-same : (f : Node → Node) (fs : Fields) (i : ℕ) → f (asNode (pieceIn fs i)) ≡ asNode (pieceIn fs i) → changeIn fs i (onNode f) ≡ fs
-unfolding changeIn pieceIn
-field-same f done i h = refl
-field-same f (absent fs) zero h = refl
-field-same f (absent fs) (suc i) h = ap absent (field-same f fs i h)
-field-same f (field p fs) zero h = ap (λ (q : Piece). field q fs) (piece-same f p h)
-field-same f (field p fs) (suc i) h = ap (field p) (field-same f fs i h)
-
-node-same : (f : Node → Node) (i : ℕ) (n : Node) → f (nodeAt i n) ≡ nodeAt i n → changeNode i f n ≡ n
-unfolding change nodeAt
-node-same f i (node at k fs) h = ap (node at k) (field-same f fs i h)
 
 first-changed : (f : Node → Node) → f nothing ≡ nothing → (p : Node) → nodeAt 0 (changeNode 0 f p) ≡ f (nodeAt 0 p)
 unfolding nodeAt change changeIn pieceIn
@@ -144,14 +123,14 @@ module _ (κ : Context) where
       let t : Node → Bool = λ q. hasNestedObjectRest d (value q) in
       replaced-plain κ d p e (or-left (hasRest p) (any t (properties p)) z)
       ∙ changeItems-same 0 (each (λ q. changeNode 1 (λ v. replaced κ d v) q)) p
-      (each-kept t (λ q. changeNode 1 (λ v. replaced κ d v) q) (λ q y. node-same (λ v. replaced κ d v) 1 q (replaced-none d (value q) y)) (properties p) (or-right (hasRest p) (any t (properties p)) z)))
+      (each-kept t (λ q. changeNode 1 (λ v. replaced κ d v) q) (λ q y. changeNode-same 1 (λ v. replaced κ d v) q (replaced-none d (value q) y)) (properties p) (or-right (hasRest p) (any t (properties p)) z)))
       (λ e.
       let z = sym (has-array d p e) ∙ h in
       let t : Node → Bool = λ x. hasNestedObjectRest d x in
       replaced-array κ d p e
       ∙ changeItems-same 0 (each (λ v. replaced κ d v)) p
       (each-kept t (λ v. replaced κ d v) (λ x y. replaced-none d x y) (itemsOf p) (or-left (any t (itemsOf p)) (hasNestedObjectRest d (rest p)) z)))
-      (λ e. replaced-default κ d p e ∙ node-same (λ v. replaced κ d v) 0 p (replaced-none d (leftOf p) (sym (has-default d p e) ∙ h)))
+      (λ e. replaced-default κ d p e ∙ changeNode-same 0 (λ v. replaced κ d v) p (replaced-none d (leftOf p) (sym (has-default d p e) ∙ h)))
       (λ e. replaced-leaf κ d p e)
 
   pub replaced-nothing : (p : Node) → hasObjectRest p ≡ false → replacedBelow κ p ≡ p

@@ -3,31 +3,28 @@
 use mathlib.Core.Path.{_≡_, refl, sym, ap, ap₂, _∙_, subst}
 use mathlib.Core.Bool.{Bool, true, false, cond}
 use mathlib.Core.List.{List, [], _∷_, _++_}
-use Prim.Native.Nat.{ℕ, zero, suc}
-use native.Mathlib.Omega.{arith}
+use Prim.Native.Nat.{ℕ}
 use lib.Dec.{eqb}
-use Rattle.tree.specs.Tree.{Node, Fields, Piece, Items, wideBytes, count, encode, encodeItems}
+use Rattle.tree.specs.Tree.{Node, Fields, Piece, Items, wideBytes, encode, encodeItems}
 use Rattle.tree.specs.Tree.Node.{node}
 use Rattle.tree.specs.Tree.Fields.{done, absent, field}
 use Rattle.tree.specs.Tree.Piece.{one, list, text, byte, mark, number}
 use Rattle.tree.specs.Tree.Items.{none, hole, item}
 use Rattle.tree.specs.Grammar.Stage.{input}
-use Rattle.tree.specs.Read.{Got, readTree}
-use Rattle.tree.specs.Read.Got.{got, refused}
+use Rattle.tree.specs.Read.{readTree}
+use Rattle.tree.specs.Read.Got.{got}
 use Rattle.lowering.specs.Parts.{is}
-use Rattle.lowering.specs.Weight.{walked}
-use Rattle.lowering.specs.Collect.{Name, Entry, over, visits, firstRefusal, same, nameOf, nameAt, helperMask, nodes, nodesFields, nodesPiece, nodesItems, listNodes, distinct, numberIn, namesOf, withNumber, numbered, numberedFields, numberedPiece, numberedItems, declaratorBytes, entryBytes, listBytes}
-use Rattle.lowering.specs.Refusals.{limitOutside, unknownOptions, smallWork}
-use Rattle.lowering.specs.Answer.{Lent, Result, fits, fitted, collected, afterWalk, afterReading, inForce, lowering, top}
-use Rattle.lowering.specs.Answer.Result.{refusal, lowered}
-use Rattle.lowering.proofs.Appearance.{In, here, there, renamed, Keeps, same-is, name-self}
+use Rattle.lowering.specs.Collect.{Name, Entry, over, same, nameOf, nameAt, nodes, nodesFields, nodesPiece, nodesItems, listNodes, distinct, numberIn, namesOf, withNumber, numbered, numberedFields, numberedPiece, numberedItems, declaratorBytes, entryBytes, listBytes}
+use Rattle.lowering.specs.Answer.{Lent, lowering}
+use Rattle.lowering.specs.Answer.Result.{lowered}
+use Rattle.lowering.proofs.Appearance.{In, here, there, in-first, in-second, renamed, Keeps, same-is, name-self}
 use Rattle.lowering.proofs.Cases.{by-test}
-use Rattle.lowering.proofs.Order.{by-order}
-use Rattle.lowering.proofs.ItemLaws.{over-append}
+use Rattle.lowering.proofs.CallLowers.{lowers}
+use Rattle.lowering.proofs.ItemLaws.{over-append, count-numbered}
 use Rattle.equal.specs.Canonical.{Written, numbers, numbersFields, numbersPiece, numbersItems, renumbered, renumberedFields, renumberedPiece, renumberedItems, placeOf, numbersList, numbersWritten, eachEntry, renumberedWritten, canonicalWritten}
 use Rattle.equal.specs.Equal.{entryEncoded, listEncoded, EqualWritten}
 use Rattle.equal.specs.Results.{writtenBy, NamesAll, treeOf, entriesOf, excludedOf, resultBy, ownNames}
-use Rattle.equal.proofs.PlacesByAppearance.{in-left, in-right, among, numbers-keep, place-renamed}
+use Rattle.equal.proofs.PlacesByAppearance.{among, numbers-keep, place-renamed}
 use Rattle.equal.proofs.Renumber.{written, listed}
 use Rattle.equal.proofs.Unplaced.{each-length}
 
@@ -67,8 +64,8 @@ joined : (a : Name) (xs ys : List Name) (us vs : List Node) → (In a xs → In 
 joined a xs ys us vs f g i = subst (In a) (sym (over-append nameAt us vs)) (go xs f i)
   where
     go : (zs : List Name) → (In a zs → In a (over nameAt us)) → In a (zs ++ ys) → In a (over nameAt us ++ over nameAt vs)
-    go [] f i = in-right a (over nameAt us) (over nameAt vs) (g i)
-    go (z ∷ zs) f (here e) = in-left a (over nameAt us) (over nameAt vs) (f (here e))
+    go [] f i = in-second (over nameAt us) (g i)
+    go (z ∷ zs) f (here e) = in-first (over nameAt vs) (f (here e))
     go (z ∷ zs) f (there i) = go zs (λ j. f (there j)) i
 
 module _ (a : Name) where
@@ -182,10 +179,10 @@ module _ (ns : List Name) where
     Gives xs = (a : Name) → In a xs → f (φ a) ≡ numberIn same 1 ms a
 
     front : (xs ys : List Name) → Gives (xs ++ ys) → Gives xs
-    front xs ys h a i = h a (in-left a xs ys i)
+    front xs ys h a i = h a (in-first ys i)
 
     back : (xs ys : List Name) → Gives (xs ++ ys) → Gives ys
-    back xs ys h a i = h a (in-right a xs ys i)
+    back xs ys h a i = h a (in-second xs i)
 
     mutual
       unfolding numbered withNumber renumbered names
@@ -265,12 +262,6 @@ pub own-names-all : (n : Node) (es : List Entry) (excluded : Items) → NamesAll
 unfolding NamesAll namesOf
 own-names-all n es excluded a i = among same name-self same-is a (over nameAt (nodes n ++ listNodes es excluded)) i
 
-count-numbered : (ns : List Name) (is : Items) → count (numberedItems ns is) ≡ count is
-unfolding count numbered
-count-numbered ns none = refl
-count-numbered ns (hole is) = ap suc (count-numbered ns is)
-count-numbered ns (item n is) = ap suc (count-numbered ns is)
-
 entries-bytes : (ns : List Name) (es : List Entry) → over entryEncoded (eachEntry (λ is. numberedItems ns is) es) ≡ over (entryBytes ns) es
 unfolding over eachEntry entryEncoded entryBytes declaratorBytes encode
 entries-bytes ns [] = refl
@@ -298,36 +289,12 @@ pub record Handed (limit : ℕ) (tree t l : List ℕ) : Type 0 where
   pub list-bytes : l ≡ listEncoded (resultBy (ownNames next n) next n .entries) (resultBy (ownNames next n) next n .excluded)
 
 module _ (h o : ℕ) (t l : List ℕ) where
-  no-refusal : {A : Type 0} (r : ℕ) → refusal r ≡ lowered h o t l → A
-  no-refusal r e = let z : _≡_ {A = ℕ} 0 1 = cc in absurd (omega arith)
-
-  of-fitted : (s : Lent) (helpers options : ℕ) (t′ l′ : List ℕ) → fitted s helpers options t′ l′ ≡ lowered h o t l → (t ≡ t′) × (l ≡ l′)
-  unfolding fitted
-  of-fitted s helpers options t′ l′ e =
-      by-test (fits s t′ l′)
-      (λ a. let z : lowered helpers options t′ l′ ≡ lowered h o t l = rw a at e in (cc, cc))
-      (λ a. no-refusal 7 (rw a at e))
-
-  of-walk : (r : Result) (v : ℕ) → (elim v [ zero ↦ r | suc k ↦ refusal (suc k) ]) ≡ lowered h o t l → r ≡ lowered h o t l
-  of-walk r zero e = e
-  of-walk r (suc k) e = no-refusal (suc k) e
-
-  of-reading : (limit options : ℕ) (tree : List ℕ) (s : Lent) (g : Got Node) → readTree input limit tree ≡ g → afterReading options s g ≡ lowered h o t l → Handed limit tree t l
-  unfolding afterReading afterWalk collected resultBy ownNames treeOf entriesOf excludedOf writtenBy
-  of-reading limit options tree s (refused r) k e = no-refusal _ e
-  of-reading limit options tree s (got n q next) k e =
-      let m = treeOf next n in
-      let es = entriesOf next n in
-      let ex = excludedOf next n in
-      let ns = namesOf m es ex in
-      let f = of-fitted s (helperMask m) options (encode (numbered ns m)) (listBytes ns es ex)
-      (of-walk (fitted s (helperMask m) options (encode (numbered ns m)) (listBytes ns es ex)) (firstRefusal (visits next 0 (walked top n))) e) in
-      record { n = n; end = q; next = next; read = k; tree-bytes = f .0; list-bytes = f .1 ∙ sym (list-bytes ns m es ex) }
-
   pub handed : (limit options : ℕ) (tree : List ℕ) (s : Lent) → lowering limit options tree s ≡ lowered h o t l → Handed limit tree t l
-  handed limit options tree s =
-      by-order limit options tree s (λ x. x ≡ lowered h o t l → Handed limit tree t l) (no-refusal limitOutside) (no-refusal unknownOptions) (no-refusal smallWork)
-      (of-reading limit (inForce options) tree s (readTree input limit tree) refl)
+  unfolding resultBy ownNames treeOf entriesOf excludedOf writtenBy
+  handed limit options tree s e =
+      let x = lowers h o t l limit options tree s e in
+      let b = list-bytes (ownNames (x .next) (x .n)) (treeOf (x .next) (x .n)) (entriesOf (x .next) (x .n)) (excludedOf (x .next) (x .n)) in
+      record { n = x .n; end = x .end; next = x .next; read = x .read; tree-bytes = x .tree-bytes; list-bytes = x .list-bytes ∙ sym b }
 
 -- for one input no two results under other names are unequal
 pub result-one : (next : ℕ) (n : Node) (ns ms : List Name) → NamesAll ns (treeOf next n) (entriesOf next n) (excludedOf next n)

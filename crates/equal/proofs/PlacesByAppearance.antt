@@ -2,7 +2,7 @@
 -- Assumes nothing.
 use mathlib.Core.Path.{_≡_, refl, sym, ap, _∙_}
 use mathlib.Core.Bool.{Bool, true, false, true≢false}
-use mathlib.Core.List.{List, [], _∷_, _++_}
+use mathlib.Core.List.{List, [], _∷_}
 use Prim.Native.Nat.{ℕ, suc, _+_, _≤_}
 use native.Mathlib.Omega.{arith}
 use lib.Dec.{eqb}
@@ -15,14 +15,6 @@ use Rattle.equal.specs.Canonical.{placeOf}
 use Rattle.equal.specs.Renaming.{KeepsApart}
 
 -- ---- things in lists
-
-pub in-left : {A : Type 0} (a : A) (xs ys : List A) → In a xs → In a (xs ++ ys)
-in-left a (x ∷ xs) ys (here e) = here e
-in-left a (x ∷ xs) ys (there i) = there (in-left a xs ys i)
-
-pub in-right : {A : Type 0} (a : A) (xs ys : List A) → In a ys → In a (xs ++ ys)
-in-right a [] ys i = i
-in-right a (x ∷ xs) ys i = there (in-right a xs ys i)
 
 -- ---- places of things that a test tells apart
 

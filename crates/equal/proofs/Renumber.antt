@@ -11,9 +11,9 @@ use Rattle.tree.specs.Tree.Fields.{done, absent, field}
 use Rattle.tree.specs.Tree.Piece.{one, list, text, byte, mark, number}
 use Rattle.tree.specs.Tree.Items.{none, hole, item}
 use Rattle.lowering.specs.Collect.{Entry, over}
-use Rattle.lowering.proofs.Appearance.{In, here}
+use Rattle.lowering.proofs.Appearance.{In, here, in-first, in-second}
 use Rattle.equal.specs.Canonical.{Written, numbers, numbersFields, numbersPiece, numbersItems, renumbered, renumberedFields, renumberedPiece, renumberedItems, numbersList, numbersWritten, eachEntry, renumberedWritten}
-use Rattle.equal.proofs.PlacesByAppearance.{changed, in-left, in-right}
+use Rattle.equal.proofs.PlacesByAppearance.{changed}
 
 -- what is known of things that have numbers, and of their renumbering
 pub record Renumbers {X : Type 0} (of : X → List ℕ) (to : (ℕ → ℕ) → X → X) : Type 0 where
@@ -102,10 +102,10 @@ module _ (f g : ℕ → ℕ) where
   Agree xs = (a : ℕ) → In a xs → f a ≡ g a
 
   pub first : (xs ys : List ℕ) → Agree (xs ++ ys) → Agree xs
-  first xs ys h a i = h a (in-left a xs ys i)
+  first xs ys h a i = h a (in-first ys i)
 
   pub second : (xs ys : List ℕ) → Agree (xs ++ ys) → Agree ys
-  second xs ys h a i = h a (in-right a xs ys i)
+  second xs ys h a i = h a (in-second xs i)
 
   mutual
     unfolding numbers renumbered

@@ -26,11 +26,10 @@ use Rattle.lowering.specs.Keys.{promised, literalText}
 use Rattle.lowering.specs.Made.{string}
 use Rattle.lowering.specs.Collect.{Name, nodes, nodesFields, nodesPiece, nodesItems}
 use Rattle.lowering.specs.Answer.{top}
-use Rattle.lowering.proofs.Appearance.{In}
+use Rattle.lowering.proofs.Appearance.{In, in-first, in-second}
 use Rattle.lowering.proofs.Cases.{by-test, or-other}
 use Rattle.equal.specs.Results.{writtenBy, treeOf, entriesOf, excludedOf, resultBy}
 use Rattle.equal.specs.Spelled.{Origin, found, ofName, ofLiteral, nodesWritten}
-use Rattle.equal.proofs.PlacesByAppearance.{in-left, in-right}
 use Rattle.equal.proofs.LeafParts.{isLeaf, NoPart, NoParts, Leaves, LeavesFields, LeavesPiece, LeavesItems}
 use Rattle.equal.proofs.LeafViews.{Makes}
 use Rattle.equal.proofs.LeafWalk.{tree-leaves, entries-leaves, excluded-leaves, numbered-leaves, entries-numbered, items-numbered, each-written}
@@ -128,8 +127,8 @@ module _ (start : Node) where
     fields-leaves FitFields.done h = tt
     fields-leaves (FitFields.absent g) h = fields-leaves g h
     fields-leaves (FitFields.field {p = p} {fs = fs} u g) h = (
-      piece-leaves u (λ m i. h m (in-left m (nodesPiece p) (nodesFields fs) i)),
-      fields-leaves g (λ m i. h m (in-right m (nodesPiece p) (nodesFields fs) i)),
+      piece-leaves u (λ m i. h m (in-first (nodesFields fs) i)),
+      fields-leaves g (λ m i. h m (in-second (nodesPiece p) i)),
     )
 
     piece-leaves : {b : ℕ} {t : Sort} {p : Piece} → FitPiece input b t p → Within (nodesPiece p) → LeavesPiece (Origin start) p
@@ -146,7 +145,7 @@ module _ (start : Node) where
     items-leaves FitItems.none h = tt
     items-leaves (FitItems.hole g) h = items-leaves g h
     items-leaves (FitItems.item {n = n} {is = is} u g) h =
-        (fits-leaves u (λ m i. h m (in-left m (nodes n) (nodesItems is) i)), items-leaves g (λ m i. h m (in-right m (nodes n) (nodesItems is) i)))
+        (fits-leaves u (λ m i. h m (in-first (nodesItems is) i)), items-leaves g (λ m i. h m (in-second (nodes n) i)))
 
   -- ---- strings that are made of them
 

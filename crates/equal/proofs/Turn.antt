@@ -4,10 +4,9 @@ use mathlib.Core.Path.{_≡_, refl, sym, ap, ap₂, _∙_, subst}
 use mathlib.Core.Bool.{Bool, true, false, cond, true≢false}
 use mathlib.Core.List.{List, [], _∷_, _++_}
 use Prim.Native.Nat.{ℕ, suc, _+_}
-use native.Mathlib.Omega.{arith}
-use lib.Dec.{eqb}
+use lib.Dec.{eqb, eqb·suc-zero}
 use lib.ListN.{length}
-use borrow.Author.Tests.{eqb-true, eq-eqb, ne-eqb}
+use borrow.Author.Tests.{eqb-true, eq-eqb}
 use Rattle.tree.specs.Tree.{Node, Fields, Piece, Items}
 use Rattle.tree.specs.Tree.Node.{node}
 use Rattle.tree.specs.Tree.Fields.{done, absent, field}
@@ -68,9 +67,6 @@ mutual
 
 -- ---- a place, once given, stays
 
-suc-not : (n : ℕ) → eqb (suc n) 0 ≡ false
-suc-not n = ne-eqb (suc n) 0 (λ z. absurd (omega arith))
-
 meet-new : (ms : List ℕ) (a : ℕ) → eqb (placeIn ms a) 0 ≡ true → meet ms a ≡ a ∷ ms
 unfolding meet
 meet-new ms a e = rw e
@@ -116,7 +112,7 @@ met-place ms b =
     by-test (eqb (placeIn ms b) 0)
     (λ e.
     let f : placeIn (meet ms b) b ≡ suc (length ms) = ap (λ (ns : List ℕ). placeIn ns b) (meet-new ms b e) ∙ place-first ms b b (own-number b) in
-    rw (f, e) (refl, suc-not (length ms)))
+    rw (f, e) (refl, eqb·suc-zero (length ms)))
     (λ e. rw (meet-old ms b e, e) (refl, refl))
 
 -- ---- the pass gives the places that the numbers have in the end
@@ -187,7 +183,7 @@ unfolding unmet except
 new-except ms a [] = refl
 new-except ms a (y ∷ ys) =
     by-test (eqb a y)
-    (λ e. rw (e, place-first ms a y e, suc-not (length ms)) (new-except ms a ys))
+    (λ e. rw (e, place-first ms a y e, eqb·suc-zero (length ms)) (new-except ms a ys))
     (λ e. rw (e, place-other ms a y e) (by-test (eqb (placeIn ms y) 0) (λ f. rw f (ap (λ (zs : List ℕ). y ∷ zs) (new-except ms a ys))) (λ f. rw f (new-except ms a ys))))
 
 other-way : (a b : ℕ) → eqb a b ≡ false → eqb b a ≡ false
@@ -225,7 +221,7 @@ place-later (a ∷ xs) ms x i h =
     (λ f.
     let g : eqb a x ≡ true = eq-eqb a x (sym (eqb-true x a f)) in
     let p = place-first ms a x g in
-    all-stay xs (a ∷ ms) x (ap (λ (y : ℕ). eqb y 0) p ∙ suc-not (length ms)) ∙ (p ∙ sym (number-first (suc (length ms)) a (unmet (a ∷ ms) (distinct eqb xs)) x f)))
+    all-stay xs (a ∷ ms) x (ap (λ (y : ℕ). eqb y 0) p ∙ eqb·suc-zero (length ms)) ∙ (p ∙ sym (number-first (suc (length ms)) a (unmet (a ∷ ms) (distinct eqb xs)) x f)))
     (λ f.
     place-later xs (a ∷ ms) x (in-rest x a xs f i) (ap (λ (y : ℕ). eqb y 0) (place-other ms a x (other-way x a f)) ∙ h)
     ∙ sym (number-next (suc (length ms)) a (unmet (a ∷ ms) (distinct eqb xs)) x f))))

@@ -56,6 +56,11 @@ module _ (P Q : Node → Type 0) (f : (n : Node) → P n → Q n) where
   pub weaker-each : (n : Node) → Each P n → Each Q n
   weaker-each (node at k fs) h = weaker-fields fs h
 
+pub both-items : (P Q R : Node → Type 0) → ((n : Node) → P n → Q n → R n) → (is : Items) → AllItems P is → AllItems Q is → AllItems R is
+both-items P Q R f none h k = tt
+both-items P Q R f (hole is) h k = both-items P Q R f is h k
+both-items P Q R f (item n is) h k = (f n (h .0) (k .0), both-items P Q R f is (h .1) (k .1))
+
 pub all-unit : (is : Items) → AllItems (λ q. Unit {0}) is
 all-unit none = tt
 all-unit (hole is) = all-unit is

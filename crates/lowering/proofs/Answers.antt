@@ -145,7 +145,7 @@ pub record Nothing (s : Lent) (o : Outcome) : Type 0 where
   pub treeOut : o .treeOut ≡ replicate (s .treeSlice) 0
   pub listOut : o .listOut ≡ replicate (s .listSlice) 0
 
-zeros : (n : ℕ) → filled n [] ≡ replicate n 0
+pub zeros : (n : ℕ) → filled n [] ≡ replicate n 0
 unfolding filled
 zeros n = let z : n - 0 ≡ n = omega arith in ap (λ (m : ℕ). replicate m 0) z
 

@@ -1,7 +1,7 @@
 -- Case analysis that hands out the equation, and what tests say.
 -- Assumes nothing.
 use mathlib.Core.Path.{_≡_, refl, sym, _∙_}
-use mathlib.Core.Bool.{Bool, true, false, cond, _||_, _&&_, false≢true, true≢false, not}
+use mathlib.Core.Bool.{Bool, true, false, cond, _||_, _&&_, false≢true, true≢false}
 use Prim.Native.Nat.{ℕ, zero, suc}
 use native.Mathlib.Omega.{arith}
 use lib.Dec.{eqb}
@@ -17,6 +17,7 @@ use Rattle.lowering.specs.Walk.{Rule, ruleOf, Step, unchanged, rewritten
 use Rattle.lowering.specs.Walk.Rule.{literals, declarations, assignments, functions, arrows, catches, fors, nowhere}
 use Rattle.lowering.specs.Heads.{asFunctionBody, asBlock}
 use borrow.Author.Tests.{eqb-true}
+pub use borrow.Author.Tests.{not-true, not-false}
 use Rattle.tree.specs.Tree.Items.{none}
 
 pub by-test : {A : Type 0} (b : Bool) → (b ≡ true → A) → (b ≡ false → A) → A
@@ -160,14 +161,6 @@ is-changed i f (node at k fs) j = refl
 pub shape-34 : (p : Node) → is 34 p ≡ true → shape p ≡ objectPattern
 unfolding is shape
 shape-34 p e = rw e refl
-
-pub not-true : (b : Bool) → not b ≡ true → b ≡ false
-not-true true h = absurd (false≢true h)
-not-true false h = refl
-
-pub not-false : (b : Bool) → not b ≡ false → b ≡ true
-not-false true h = refl
-not-false false h = absurd (true≢false h)
 
 pub rule-4 : (n : Node) → is 4 n ≡ true → ruleOf (kind n) ≡ declarations
 unfolding is ruleOf

@@ -7,7 +7,7 @@ use Rattle.tree.specs.Tree.{Node, Piece, Fields, Items}
 use Rattle.tree.specs.Tree.Node.{node}
 use Rattle.tree.specs.Tree.Fields.{done, absent, field}
 use Rattle.tree.specs.Tree.Piece.{one, list, text, byte, mark, number}
-use Rattle.lowering.specs.Parts.{position, change, standsIn, changeIn, dropIn, pieceIn, itemsAt, onItems, changeItems, nothing, asNode, onNode, asItems, each, is, without, stands}
+use Rattle.lowering.specs.Parts.{position, change, standsIn, changeIn, dropIn, pieceIn, itemsAt, onItems, changeItems, changeNode, nodeAt, nothing, asNode, onNode, asItems, each, is, without, stands}
 use Rattle.lowering.specs.Patterns.{shape}
 
 pub position-changed : (i : ℕ) (f : Piece → Piece) (q : Node) → position (change i f q) ≡ position q
@@ -58,6 +58,19 @@ list-same f (number b) h = refl
 pub changeItems-same : (i : ℕ) (f : Items → Items) (n : Node) → f (itemsAt i n) ≡ itemsAt i n → changeItems i f n ≡ n
 unfolding change itemsAt
 changeItems-same i f (node at k fs) h = ap (node at k) (change-same fs i (onItems f) (list-same f (pieceIn fs i) h))
+
+piece-same : (f : Node → Node) (p : Piece) → f (asNode p) ≡ asNode p → onNode f p ≡ p
+unfolding onNode
+piece-same f (one n) h = ap one h
+piece-same f (list is) h = refl
+piece-same f (text bs) h = refl
+piece-same f (byte b) h = refl
+piece-same f (mark b) h = refl
+piece-same f (number b) h = refl
+
+pub changeNode-same : (i : ℕ) (f : Node → Node) (n : Node) → f (nodeAt i n) ≡ nodeAt i n → changeNode i f n ≡ n
+unfolding change nodeAt
+changeNode-same i f (node at k fs) h = ap (node at k) (change-same fs i (onNode f) (piece-same f (pieceIn fs i) h))
 
 pub node-on : (f : Node → Node) → f nothing ≡ nothing → (p : Piece) → asNode (onNode f p) ≡ f (asNode p)
 unfolding onNode

@@ -1,14 +1,14 @@
 -- Laws of lists of nodes: one behind another, changed item by item, gathered, tested and counted.
 -- Assumes nothing.
 use mathlib.Core.Path.{_≡_, refl, ap, fun-ext, sym, _∙_}
-use mathlib.Core.Bool.{Bool, _||_, false, or-assoc}
+use mathlib.Core.Bool.{Bool, _||_, true, false, or-assoc}
 use mathlib.Core.List.{List, [], _∷_, _++_, append-assoc}
 use Prim.Native.Nat.{ℕ, zero, suc, _+_}
 use native.Mathlib.Omega.{arith}
 use Rattle.tree.specs.Tree.{Items, Node, count}
 use Rattle.tree.specs.Tree.Items.{none, hole, item}
 use Rattle.lowering.specs.Parts.{_+++_, each, gather, only, any, orElse, first, isEmpty}
-use Rattle.lowering.specs.Collect.{over}
+use Rattle.lowering.specs.Collect.{Name, over, numbered, numberedItems}
 use Rattle.lowering.proofs.Cases.{or-left, or-right}
 
 pub items-assoc : (is js ks : Items) → (is +++ js) +++ ks ≡ is +++ (js +++ ks)
@@ -37,6 +37,10 @@ each-each f g (Items.item n is) = ap (Items.item (f (g n))) (each-each f g is)
 
 pub each-same : (f g : Node → Node) → ((n : Node) → f n ≡ g n) → (is : Items) → each f is ≡ each g is
 each-same f g h is = ap (λ (k : Node → Node). each k is) (fun-ext h)
+
+pub none-empty : isEmpty Items.none ≡ true
+unfolding isEmpty
+none-empty = refl
 
 pub gather-none : (f : Node → Items) → gather f Items.none ≡ Items.none
 unfolding gather
@@ -91,6 +95,10 @@ any-append f Items.none ms = refl
 any-append f (Items.hole ns) ms = any-append f ns ms
 any-append f (Items.item n ns) ms = ap (λ (x : Bool). f n || x) (any-append f ns ms) ∙ sym (or-assoc (f n) (any f ns) (any f ms))
 
+pub any-behind : (f : Node → Bool) (is : Items) (p : Node) → any f is ≡ false → f p ≡ false → any f (is +++ only p) ≡ false
+unfolding any
+any-behind f is p h e = any-append f is (only p) ∙ rw (h, e) refl
+
 pub any-none : (u t : Node → Bool) → ((n : Node) → u n ≡ false → t n ≡ false) → (is : Items) → any u is ≡ false → any t is ≡ false
 unfolding any
 any-none u t h Items.none e = refl
@@ -128,3 +136,9 @@ pub over-append : {A B : Type 0} (f : A → List B) (us vs : List A) → over f 
 unfolding over
 over-append f [] vs = refl
 over-append f (u ∷ us) vs = ap (λ (x : List _). f u ++ x) (over-append f us vs) ∙ sym (append-assoc (f u) (over f us) (over f vs))
+
+pub count-numbered : (ns : List Name) (is : Items) → count (numberedItems ns is) ≡ count is
+unfolding count numbered
+count-numbered ns none = refl
+count-numbered ns (hole is) = ap suc (count-numbered ns is)
+count-numbered ns (item n is) = ap suc (count-numbered ns is)

@@ -15,6 +15,7 @@ pub mod Falls
 pub mod Levels
 pub mod Notes
 pub mod Order
+pub mod CallLowers
 pub mod NumberLaws
 pub mod KeyRefusals
 pub mod Answers

@@ -33,7 +33,7 @@ use Rattle.lowering.specs.Table.{Admitted}
 use Rattle.lowering.proofs.Order.{reading-decides}
 use Rattle.lowering.proofs.Accepted.{NoHoles, Proper, ProperFields, ProperPiece, ProperItems, accepted-good}
 use Rattle.lowering.proofs.Accepted.Proper.{proper}
-use Rattle.lowering.proofs.ItemLaws.{gather-none as none-in, first-empty}
+use Rattle.lowering.proofs.ItemLaws.{gather-none as none-in, none-empty, first-empty}
 use Rattle.lowering.proofs.ChangeLaws.{change-same, list-same}
 
 -- ---- trees without object rest and spread
@@ -381,14 +381,10 @@ unfolding firstRefusal
 first-none [] h = refl
 first-none (v ∷ vs) h = rw (h .0 .0, firstRefusal) (first-none vs (h .1))
 
-no-items : isEmpty Items.none ≡ true
-unfolding isEmpty
-no-items = refl
-
 entries-none : (vs : List Visit) → AllNotes Silent vs → entries vs ≡ []
 unfolding entries over entryAt
 entries-none [] h = refl
-entries-none (v ∷ vs) h = rw (ap isEmpty (h .0 .1) ∙ no-items) (entries-none vs (h .1))
+entries-none (v ∷ vs) h = rw (ap isEmpty (h .0 .1) ∙ none-empty) (entries-none vs (h .1))
 
 excluded-none : (vs : List Visit) → AllNotes Silent vs → excludedIn vs ≡ Items.none
 unfolding excludedIn _+++_

@@ -10,9 +10,9 @@ use Rattle.tree.specs.Tree.{Node, Fields, Piece, Items}
 use Rattle.tree.specs.Tree.Node.{node}
 use Rattle.tree.specs.Tree.Fields.{done, absent, field}
 use Rattle.tree.specs.Tree.Items.{none, item}
-use Rattle.lowering.specs.Parts.{position, pieceIn, standsIn, change, dropIn, without, onItems, nodeAt, itemsAt, stands, is, only, each}
+use Rattle.lowering.specs.Parts.{position, pieceIn, standsIn, change, dropIn, without, onItems, changeNode, nodeAt, itemsAt, stands, is, only, each}
 use Rattle.lowering.specs.Made.{Context, string, keyOf, X, E, W, object, array, sequence}
-use Rattle.lowering.specs.Patterns.{properties, rest, hasRest, key, withProperties}
+use Rattle.lowering.specs.Patterns.{properties, rest, hasRest, key, withProperties, withValues}
 use Rattle.lowering.specs.Keys.{keySort, excludedKey, keptKey, excludedKeys, allPrimitive, taken, entryOf, keyText}
 use Rattle.lowering.specs.Rests.{hasNoProperties, isHoisted, mapped, keysRead, restValue}
 use Rattle.lowering.specs.Weight.{isHead, extra, factor, weight, weightFields, weightItems}
@@ -62,6 +62,9 @@ without-light (node at k fs) =
 pub rest-changed : (i : ℕ) (f : Piece → Piece) (n : Node) → hasRest (change i f n) ≡ hasRest n
 unfolding change stands
 rest-changed i f (node at k fs) = stands-changed fs i f 1
+
+pub values-rest : (f : Node → Node) (p : Node) → hasRest (withValues f p) ≡ hasRest p
+values-rest f p = rest-changed 0 (onItems (each (λ q. changeNode 1 f q))) p
 
 -- an object with rest weighs 15 more than its parts
 pub top-weight : (p : Node) → is 34 p ≡ true → hasRest p ≡ true → weight p ≡ 15 + within p

@@ -11,7 +11,7 @@ use Rattle.tree.specs.Tree.Node.{node}
 use Rattle.tree.specs.Tree.Fields.{done, absent, field}
 use Rattle.tree.specs.Tree.Piece.{one, list, text, byte, mark, number}
 use Rattle.tree.specs.Tree.Items.{none, hole, item}
-use Rattle.lowering.specs.Parts.{is, pieceIn, nodeAt, itemsAt, only, any, _+++_}
+use Rattle.lowering.specs.Parts.{is, pieceIn, nodeAt, itemsAt, any, _+++_}
 use Rattle.lowering.specs.Made.{Context, S, object, helper}
 use Rattle.lowering.specs.Literals.{Call, opened, closed, scan, literal}
 use Rattle.lowering.specs.Literals.Call.{no-call, call}
@@ -19,6 +19,7 @@ use Rattle.lowering.specs.Walk.{Walked, ruleOf, rewrite, within, inside, eachIt
 use Rattle.lowering.specs.Weight.{walked}
 use Rattle.lowering.specs.Collect.{Name, newIn, newInPiece, bare, bareFields, barePiece, bareItems, numbered, numberedFields, numberedPiece, numberedItems}
 use Rattle.lowering.proofs.Falls.{walked-is}
+use Rattle.lowering.proofs.ItemLaws.{any-behind}
 use Rattle.overlay.specs.Plain.{free, freeFields, freePiece, freeItems, isObject, isForeign, isNew}
 use Rattle.overlay.specs.Law.{literalOf}
 use Rattle.overlay.specs.Whole.{leaves}
@@ -211,12 +212,6 @@ module _ (ns : List Name) where
   append-turns (turns-hole t) u = turns-hole (append-turns t u)
   append-turns (turns-item a t) u = turns-item a (append-turns t u)
 
-  any-snoc : (ps : Items) (p : Node) → any isSpread ps ≡ false → is 26 p ≡ false → any isSpread (ps +++ only p) ≡ false
-  unfolding any _+++_
-  any-snoc none p a e = rw e refl
-  any-snoc (hole ps) p a e = any-snoc ps p a e
-  any-snoc (item q ps) p a e = rw (or-left (is 26 q) (any isSpread ps) a) (any-snoc ps p (or-right (is 26 q) (any isSpread ps) a) e)
-
   data TurnsCall : Call → Call → Type 0 where
     turns-no-call : TurnsCall no-call no-call
     turns-call : {xs ys : Items} → TurnsItems xs ys → TurnsCall (call (S xs)) (call (S ys))
@@ -269,7 +264,7 @@ module _ (ns : List Name) where
   scan-turns u e t (turns-spread a r) =
       scan-turns (turns-call (append-turns (opened-turns u e t) (turns-item a turns-none))) refl turns-none r
   scan-turns {pend = pend} u e t (turns-other {p = p} {q = q} x y a r) =
-      rw (x, scan) (rw (y, scan) (scan-turns u (any-snoc pend p e x) (append-turns t (turns-item a turns-none)) r))
+      rw (x, scan) (rw (y, scan) (scan-turns u (any-behind isSpread pend p e x) (append-turns t (turns-item a turns-none)) r))
 
   -- ---- plain literals
 

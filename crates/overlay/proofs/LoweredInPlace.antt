@@ -1,22 +1,22 @@
 -- The walk leaves a plain literal lowered at its place of the whole tree.
 -- Assumes nothing.
-use mathlib.Core.Path.{_≡_, refl, sym, ap, subst, _∙_}
+use mathlib.Core.Path.{_≡_, sym, subst, _∙_}
 use mathlib.Core.Bool.{false}
 use mathlib.Core.List.{List, []}
-use Prim.Native.Nat.{ℕ, zero, suc, _+_}
+use Prim.Native.Nat.{ℕ, suc, _+_}
+use native.Mathlib.Nat.{add-zero}
 use native.Mathlib.Omega.{arith}
 use Rattle.tree.specs.Tree.{Node, Fields, Piece, Items, encode}
 use Rattle.tree.specs.Grammar.Stage.{input}
-use Rattle.tree.specs.Read.{Got, readTree}
-use Rattle.tree.specs.Read.Got.{got, refused}
+use Rattle.tree.specs.Read.{readTree}
+use Rattle.tree.specs.Read.Got.{got}
 use Rattle.lowering.specs.Parts.{is}
 use Rattle.lowering.specs.Walk.{Note, Walked, rewrite, within, inside, eachItem, eachPiece, eachField}
 use Rattle.lowering.specs.Weight.{walked}
-use Rattle.lowering.specs.Collect.{Name, newIn, newInPiece, bare, bareFields, barePiece, bareItems, numbered, numberedFields, numberedPiece, numberedItems, visits, firstRefusal, entries, excludedIn, namesOf, helperMask, listBytes}
-use Rattle.lowering.specs.Refusals.{limitOutside, unknownOptions, smallWork}
-use Rattle.lowering.specs.Answer.{Lent, Result, inForce, lowering, afterReading, afterWalk, collected, fitted, fits, top}
+use Rattle.lowering.specs.Collect.{Name, newIn, newInPiece, bare, bareFields, barePiece, bareItems, numbered, numberedFields, numberedPiece, numberedItems, visits, firstRefusal, entries, excludedIn, namesOf, listBytes}
+use Rattle.lowering.specs.Answer.{Lent, Result, lowering, top}
 use Rattle.lowering.proofs.Falls.{walked-is}
-use Rattle.lowering.proofs.Order.{by-order}
+use Rattle.lowering.proofs.CallLowers.{lowers}
 use Rattle.overlay.specs.Plain.{given}
 use Rattle.overlay.specs.Law.{Overlay, Faithful}
 use Rattle.lowering.specs.Visits.{ItemAt, NodeIn, FieldAt, PartAt, Stands, Visits}
@@ -24,10 +24,6 @@ use Rattle.overlay.specs.Whole.{leaves, lowered, Left, InPlace, Writes}
 use Rattle.overlay.proofs.Plainly.{Plain, plain-rule}
 use Rattle.overlay.proofs.Lowered.{plain-turns}
 use Rattle.overlay.proofs.Overlay.{faithful, overlays}
-use Rattle.lowering.proofs.Cases.{by-test}
-
-pub plus-zero : (n : ℕ) → n ≡ n + 0
-plus-zero n = omega arith
 
 pub zero-plus : (n : ℕ) → 0 + n ≡ n
 zero-plus n = omega arith
@@ -50,7 +46,7 @@ module _ (ns : List Name) where
   item-left : {is : Items} {j : ℕ} {x : Node} → ItemAt is j x → (w : ℕ → Node → Walked) (next j₀ : ℕ)
       → (next′ : ℕ) × ItemAt (numberedItems ns (bareItems next (eachItem w j₀ is))) j (final next′ (w (j₀ + j) x))
   unfolding eachItem bare numbered
-  item-left (ItemAt.first {x = x}) w next j₀ = (next, item-to (λ y. final next (w y x)) (plus-zero j₀) ItemAt.first)
+  item-left (ItemAt.first {x = x}) w next j₀ = (next, item-to (λ y. final next (w y x)) (sym (add-zero j₀)) ItemAt.first)
   item-left (ItemAt.behind {n = n} {x = x} {j = j} a) w next j₀ =
       let r = item-left a w (next + newIn (w j₀ n)) (suc j₀) in
       (r .0, item-to (λ y. final (r .0) (w y x)) (plus-suc j₀ j) (ItemAt.behind (r .1)))
@@ -69,7 +65,7 @@ module _ (ns : List Name) where
   unfolding eachField bare numbered
   field-left (FieldAt.first {j = j} {x = x} a) w next i₀ =
       let r = piece-left a (w i₀) next in
-      (r .0, field-to (λ y. final (r .0) (w y j x)) (plus-zero i₀) (FieldAt.first (r .1)))
+      (r .0, field-to (λ y. final (r .0) (w y j x)) (sym (add-zero i₀)) (FieldAt.first (r .1)))
   field-left (FieldAt.behind {p = p} {i = i} {j = j} {x = x} a) w next i₀ =
       let r = field-left a w (next + newInPiece (eachPiece (w i₀) p)) (suc i₀) in
       (r .0, field-to (λ y. final (r .0) (w y j x)) (plus-suc i₀ i) (FieldAt.behind (r .1)))
@@ -110,28 +106,6 @@ lowered-faithful = faithful [] 1 top
 
 -- ---- the bytes of the result
 
--- an answer that lowers, by the tests that it passed
-fitted-bytes : (s : Lent) (hs os : ℕ) (a b : List ℕ) (helpers mask : ℕ) (t l : List ℕ) → fitted s hs os a b ≡ Result.lowered helpers mask t l → (t ≡ a) × (l ≡ b)
-unfolding fitted
-fitted-bytes s hs os a b helpers mask t l e = by-test (fits s a b) (λ f. bytes-of (rw f at e)) (λ f. no-bytes (rw f at e))
-  where
-    bytes-of : Result.lowered hs os a b ≡ Result.lowered helpers mask t l → (t ≡ a) × (l ≡ b)
-    bytes-of e = (cc, cc)
-
-    no-bytes : Result.refusal 7 ≡ Result.lowered helpers mask t l → (t ≡ a) × (l ≡ b)
-    no-bytes e = (cc, cc)
-
-by-number : {A : Type 0} (n : ℕ) → (n ≡ 0 → A) → ((m : ℕ) → n ≡ suc m → A) → A
-by-number zero f g = f refl
-by-number (suc m) f g = g m refl
-
-no-refusal : {A : Type 0} (r : ℕ) (helpers mask : ℕ) (t l : List ℕ) → Result.refusal r ≡ Result.lowered helpers mask t l → A
-no-refusal r helpers mask t l e = absurd (let z : _≡_ {A = ℕ} 0 1 = ap sort e in omega arith)
-  where
-    sort : Result → ℕ
-    sort (Result.refusal r) = 0
-    sort (Result.lowered a b c d) = 1
-
 -- the tree and the list, with the names of the temporaries in the order of their numbers
 abbrev pub Bytes-of : ℕ → Walked → List ℕ → List ℕ → Type 0
 Bytes-of next w t l =
@@ -139,31 +113,11 @@ Bytes-of next w t l =
     let ns = namesOf (bare next w) (entries vs) (excludedIn vs) in
     (firstRefusal vs ≡ 0) × (t ≡ encode (numbered ns (bare next w))) × (l ≡ listBytes ns (entries vs) (excludedIn vs))
 
-walk-bytes : (options : ℕ) (s : Lent) (next : ℕ) (w : Walked) (helpers mask : ℕ) (t l : List ℕ) → afterWalk options s next w ≡ Result.lowered helpers mask t l → Bytes-of next w t l
-unfolding afterWalk collected
-walk-bytes options s next w helpers mask t l e =
-    let vs = visits next 0 w in
-    let ns = namesOf (bare next w) (entries vs) (excludedIn vs) in
-    by-number (firstRefusal vs)
-    (λ z. let f = fitted-bytes s (helperMask (bare next w)) options (encode (numbered ns (bare next w))) (listBytes ns (entries vs) (excludedIn vs)) helpers mask t l (rw (z, afterWalk) at e) in (z, f .0, f .1))
-    (λ r z. no-refusal (suc r) helpers mask t l (rw (z, afterWalk) at e))
-
 -- what a call that lowers has read, and what it writes
 pub call-writes : (limit options : ℕ) (bytes : List ℕ) (s : Lent) (helpers mask : ℕ) (t l : List ℕ) → lowering limit options bytes s ≡ Result.lowered helpers mask t l
     → (n : Node) × (q next : ℕ) × (readTree input limit bytes ≡ got n q next) × Bytes-of next (walked top n) t l
-unfolding afterReading
-call-writes limit options bytes s helpers mask t l =
-    by-order limit options bytes s (λ x. x ≡ Result.lowered helpers mask t l
-    → (n : Node) × (q next : ℕ) × (readTree input limit bytes ≡ got n q next) × Bytes-of next (walked top n) t l)
-    (no-refusal limitOutside helpers mask t l)
-    (no-refusal unknownOptions helpers mask t l)
-    (no-refusal smallWork helpers mask t l)
-    (go (readTree input limit bytes) refl)
-  where
-    go : (g : Got Node) → readTree input limit bytes ≡ g → afterReading (inForce options) s g ≡ Result.lowered helpers mask t l
-        → (n : Node) × (q next : ℕ) × (readTree input limit bytes ≡ got n q next) × Bytes-of next (walked top n) t l
-    go (got n q next) r e = (n, q, next, r, walk-bytes (inForce options) s next (walked top n) helpers mask t l e)
-    go (refused x) r e = no-refusal _ helpers mask t l e
+call-writes limit options bytes s helpers mask t l e =
+    let x = lowers helpers mask t l limit options bytes s e in (x .n, x .end, x .next, x .read, (x .unrefused, x .tree-bytes, x .list-bytes))
 
 pub writes : Writes
 unfolding leaves

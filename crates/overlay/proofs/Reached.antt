@@ -4,6 +4,7 @@ use mathlib.Core.Path.{_≡_, refl, sym, ap, subst, _∙_}
 use mathlib.Core.Bool.{Bool, true, false, cond, _||_}
 use mathlib.Core.List.{List, [], _∷_, _++_}
 use Prim.Native.Nat.{ℕ, suc, _+_}
+use native.Mathlib.Nat.{add-zero}
 use native.Mathlib.Omega.{arith}
 use lib.Dec.{eqb}
 use borrow.Author.Tests.{eqb-true, eq-eqb}
@@ -31,7 +32,7 @@ use Rattle.overlay.proofs.TreesCompared.{same, same-is, same-self}
 use Rattle.overlay.proofs.Visited.{Finds, comes}
 use Rattle.overlay.proofs.Counted.{Apart, counted}
 use Rattle.overlay.proofs.AcceptedGiven.{accepted-given}
-use Rattle.overlay.proofs.LoweredInPlace.{plus-zero, zero-plus, plus-suc, in-place, lowered-overlays, writes}
+use Rattle.overlay.proofs.LoweredInPlace.{zero-plus, plus-suc, in-place, lowered-overlays, writes}
 use Rattle.lowering.proofs.Cases.{by-test}
 
 -- ---- the note of each node that the walk comes to is among the notes that are collected
@@ -55,7 +56,7 @@ module _ (P : Note → Type 0) where
   item-noted : {is : Items} {j : ℕ} {x : Node} → ItemAt is j x → (w : ℕ → Node → Walked) (j₀ : ℕ) (l : Bool) (next m : ℕ) → All (visitsItems l next m (eachItem w j₀ is)) → Noted (w (j₀ + j) x)
   unfolding eachItem visits
   item-noted (ItemAt.first {x = x} {is = is}) w j₀ l next m h =
-      subst (λ (y : ℕ). Noted (w y x)) (plus-zero j₀)
+      subst (λ (y : ℕ). Noted (w y x)) (sym (add-zero j₀))
       (next, cond l (marked next (markOf (w j₀ x))) m, all-left (visits next (cond l (marked next (markOf (w j₀ x))) m) (w j₀ x)) (visitsItems l (next + newIn (w j₀ x)) m (eachItem w (suc j₀) is)) h)
   item-noted (ItemAt.behind {n = n} {x = x} {is = is} {j = j} a) w j₀ l next m h =
       subst (λ (y : ℕ). Noted (w y x)) (plus-suc j₀ j)
@@ -70,7 +71,7 @@ module _ (P : Note → Type 0) where
   field-noted : {fs : Fields} {i j : ℕ} {x : Node} → FieldAt fs i j x → (w : ℕ → ℕ → Node → Walked) (i₀ : ℕ) (l : Bool) (next m : ℕ) → All (visitsFields l next m (eachField w i₀ fs)) → Noted (w (i₀ + i) j x)
   unfolding eachField visits
   field-noted (FieldAt.first {p = p} {fs = fs} {j = j} {x = x} a) w i₀ l next m h =
-      subst (λ (y : ℕ). Noted (w y j x)) (plus-zero i₀)
+      subst (λ (y : ℕ). Noted (w y j x)) (sym (add-zero i₀))
       (piece-noted a (w i₀) l next m (all-left (visitsPiece l next m (eachPiece (w i₀) p)) (visitsFields l (next + newInPiece (eachPiece (w i₀) p)) m (eachField w (suc i₀) fs)) h))
   field-noted (FieldAt.behind {p = p} {fs = fs} {i = i} {j = j} {x = x} a) w i₀ l next m h =
       subst (λ (y : ℕ). Noted (w y j x)) (plus-suc i₀ i)

@@ -24,7 +24,8 @@ use Rattle.lowering.specs.Heads.{moved, movedPattern, movedOut}
 use Rattle.lowering.proofs.All.{other-changed}
 use Rattle.overlay.proofs.LaidOn.{differ}
 use Rattle.overlay.proofs.Held.{isAtom, hasBody, held, heldAll, heldPiece, heldItems, heldParts, heldPattern, heldDeclarator, at-34, at-37, declarator-held, held-append, change-less, node-most, only-held, two-all}
-use Rattle.lowering.proofs.ChangeLaws.{stands-changed, items-changed-in}
+use Rattle.lowering.proofs.ChangeLaws.{items-changed-in}
+use Rattle.lowering.proofs.WeightKeys.{values-rest}
 use Rattle.lowering.proofs.Clauses.{taken-none, has-leaf}
 use Rattle.lowering.proofs.Cases.{by-test, and-right}
 use Rattle.lowering.proofs.SoundRules.{keyTemporary-value}
@@ -466,17 +467,13 @@ module _ (wanted : Node → Bool) where
     values-properties at (field (mark n) fs) f = refl
     values-properties at (field (number n) fs) f = refl
 
-    values-rest : (at : ℕ) (fs : Fields) (f : Node → Node) → hasRest (withValues f (node at 34 fs)) ≡ hasRest (node at 34 fs)
-    unfolding change stands
-    values-rest at fs f = stands-changed fs 0 (onItems (each (λ q. changeNode 1 f q))) 1
-
     values-taken : (at : ℕ) (fs : Fields) (f : Node → Node) → hasRest (node at 34 fs) ≡ true
         → heldParts wanted (each (λ q. changeNode 1 f q) (properties (node at 34 fs))) ≤ H (taken c (withValues f (node at 34 fs))) + HI (keyTemporaries c (node at 34 fs))
     unfolding change keyTemporaries
     values-taken at fs f e =
         let p = node at 34 fs in
         let q = withValues f p in
-        let t = taken-kept at (changeIn fs 0 (onItems (each (λ q. changeNode 1 f q)))) (values-rest at fs f ∙ e) in
+        let t = taken-kept at (changeIn fs 0 (onItems (each (λ q. changeNode 1 f q)))) (values-rest f p ∙ e) in
         let a : heldParts wanted (properties q) ≡ heldParts wanted (each (λ q. changeNode 1 f q) (properties p)) = ap (heldParts wanted) (values-properties at fs f) in
         let b : HI (gather (keyTemporary c) (properties q)) ≡ HI (gather (keyTemporary c) (properties p)) = ap (heldItems wanted) (ap (gather (keyTemporary c)) (values-properties at fs f) ∙ keys-same f (properties p)) in
         omega arith
