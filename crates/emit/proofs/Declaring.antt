@@ -45,6 +45,7 @@ use Rattle.direct.proofs.OneLevel.{emits-nowhere}
 use Rattle.direct.proofs.ListsInTurn.{turn-same}
 use Rattle.direct.proofs.DeclarationsByPart.{pattern-object, pattern-array, declaration-refused, declaration-done}
 use Rattle.direct.proofs.Ways.{declarator-lowered, declarator-left, lowered-name, lowered-value, own-keys-none, own-keys-some, own-pattern-none, own-pattern-some, own-rest-none, own-rest-some}
+use Rattle.walk.specs.Modes as modes
 use Rattle.walk.specs.Run.{Going, Does, Clear}
 use Rattle.walk.specs.Whole.{GoodItems, Good}
 use Rattle.walk.specs.Turns.{viewOf, deepMode, suits, turnOf, turnsOf, sourceOf, reads, startOf}
@@ -55,7 +56,7 @@ use Rattle.walk.proofs.KeysOnceFull as walked
 use Rattle.walk.proofs.KeysOnceFull.{Quiet, own-again}
 use Rattle.walk.proofs.SpreadArguments.{does-from}
 use Rattle.walk.proofs.Opened.{BinderOpen, DeclarationOpen, no-good, kind-here, is-here, position-here, good-copied, good-short, good-two, declarator-open, declaration-open}
-use Rattle.walk.proofs.Turning.{turn-8, turns-7, turns-9, turns-10, suit-7, suit-9, suit-10}
+use Rattle.walk.proofs.Turning.{turn-found, turns-key-value, turns-value-found, turns-declarator, suit-key-value, suit-value-found, suit-declarator}
 use Rattle.emit.proofs.MovedPatterns.{as-refused}
 use Rattle.emit.proofs.Finding.{object-as, level-up, lifted, rest-stands, Turned, Deep}
 use Rattle.lowering.proofs.Cases.{not-false, not-true}
@@ -74,7 +75,7 @@ bare-properties : (at : ℕ) (ps : Items) → properties (objectAt at ps) ≡ ps
 unfolding itemsAt pieceIn
 bare-properties at ps = refl
 
-suits-8 : (n : Node) → suits 8 n ≡ true
+suits-8 : (n : Node) → suits modes.found n ≡ true
 unfolding suits
 suits-8 n = refl
 
@@ -161,7 +162,7 @@ module _ (t : List ℕ) where
 
   pub own-pattern-done : {g g₁ g₂ g₃ g′ : Going} (c c′ : Place) (d h at i u p s : ℕ) (b : Bool) (src : Emit) → b ≡ hasNoProperties (lookNode t d at .value) → b ≡ false
       → Does g g₁ (say (puts (5 ∷ 3 ∷ []))) → i ≡ at → c′ ≡ inner c → h ≡ d
-      → (Good t h i → (u ≡ lookNode t h i .next) × Does g₁ g₂ (emitsView c′ (viewOf 2) (lookNode t h i .value)))
+      → (Good t h i → (u ≡ lookNode t h i .next) × Does g₁ g₂ (emitsView c′ (viewOf modes.takingView) (lookNode t h i .value)))
       → (p ≡ u) × Does g₂ g₃ src → g′ ≡ g₃ → s ≡ at
       → (s ≡ at) × (byteAt t at ≡ 34 → Good t d at → Does g g′ (emitsOwnPattern c (lookNode t d at .value) src))
   unfolding viewOf
@@ -200,10 +201,10 @@ module _ (t : List ℕ) where
         let o = object-as t d left e at q n f levels level second (many .value) (move ∙ first) good k in
         let ps : Items = lookItems t (lookNode t e) false n f .value in
         let value-is = ap (λ (y : Seen Node). y .value) (o .resting (sym bit ∙ stood)) in
-        let r = keys (o .goods) (suit-7 ps (o .kinds)) in
+        let r = keys (o .goods) (suit-key-value ps (o .kinds)) in
         let there = last .1 (ap (byteAt t) back ∙ k) (subst (λ (y : ℕ). Good t d y) (sym back) good) in
-        let keys-as : turnsOf 7 c′ ps ≡ emitsOwnKeys c (lookNode t d at .value) =
-        ap (λ (y : Place). turnsOf 7 y ps) place ∙ turns-7 (inner c) ps ∙ turn-same (emitsKeyValue (inner c)) (emitsKeyValue c) (key-value-inner c) ps
+        let keys-as : turnsOf modes.keyValue c′ ps ≡ emitsOwnKeys c (lookNode t d at .value) =
+        ap (λ (y : Place). turnsOf modes.keyValue y ps) place ∙ turns-key-value (inner c) ps ∙ turn-same (emitsKeyValue (inner c)) (emitsKeyValue c) (key-value-inner c) ps
         ∙ sym (own-keys-some c at ps _) ∙ ap (λ (y : Node). emitsOwnKeys c y) (sym value-is) in
         does-as (does-then (does-from from (r .1)) (does-from again there))
         (ap₂ (λ (x : Emit) (y : ℕ). x ▷ emitsOwnPattern c (lookNode t d y .value) src) keys-as back),
@@ -239,7 +240,7 @@ module _ (t : List ℕ) where
 
   pub pattern-array-done : {g g₁ g₂ g₃ g₄ g′ : Going} (c c′ : Place) (d h at k i u j p s : ℕ) (src : Emit) → k ≡ byteAt t at → k ≡ 36
       → Does g g₁ (say (puts (5 ∷ 3 ∷ []))) → i ≡ at → c′ ≡ inner c → h ≡ d
-      → (Good t h i → (u ≡ lookNode t h i .next) × Does g₁ g₂ (emitsView c′ (viewOf 1) (lookNode t h i .value)))
+      → (Good t h i → (u ≡ lookNode t h i .next) × Does g₁ g₂ (emitsView c′ (viewOf modes.replacingView) (lookNode t h i .value)))
       → (j ≡ u) × Does g₂ g₃ src → g₄ ≡ g₃ → p ≡ at → Deep t d p s 8 c g₄ g′
       → Good t d at → Does g g′ (emitsPattern c (lookNode t d at .value) src)
   unfolding viewOf deepMode
@@ -250,8 +251,8 @@ module _ (t : List ℕ) where
       let v = view (subst (λ (y : ℕ). Good t h y) (sym move) (subst (λ (y : ℕ). Good t y at) (sym same-level) good)) in
       let r = found (subst (λ (y : ℕ). Good t (suc d) y) (sym back) good) refl (suits-8 (lookNode t (suc d) p .value)) in
       does-as (does-then head (does-then (v .1) (does-then (read .1) (does-from from (r .1)))))
-      (ap₂ (λ (m : Place) (y : Node). say (puts (5 ∷ 3 ∷ [])) ▷ emitsView m replacing y ▷ src ▷ turnOf 8 c (lookNode t (suc d) p .value)) place node-as
-      ∙ ap (λ (x : Emit). say (puts (5 ∷ 3 ∷ [])) ▷ emitsView (inner c) replacing n ▷ src ▷ x) (turn-8 c (lookNode t (suc d) p .value) ∙ ap (λ (y : ℕ). emitsFound c (lookNode t (suc d) y .value)) back)
+      (ap₂ (λ (m : Place) (y : Node). say (puts (5 ∷ 3 ∷ [])) ▷ emitsView m replacing y ▷ src ▷ turnOf modes.found c (lookNode t (suc d) p .value)) place node-as
+      ∙ ap (λ (x : Emit). say (puts (5 ∷ 3 ∷ [])) ▷ emitsView (inner c) replacing n ▷ src ▷ x) (turn-found c (lookNode t (suc d) p .value) ∙ ap (λ (y : ℕ). emitsFound c (lookNode t (suc d) y .value)) back)
       ∙ sym (pattern-array c n src (array-here d at k kk a)))
 
   pub pattern-object-done : {g g₁ g₂ g₃ g₄ g′ : Going} (c c′ : Place) (d left e at k q n p f i u j s : ℕ) (src : Emit) → k ≡ byteAt t at → k ≡ 34
@@ -271,7 +272,7 @@ module _ (t : List ℕ) where
       let P : Emit = emitsOwnPattern c w src in
       let R : Emit = emitsOwnRest c w src in
       let F : Emit = inTurn (λ y. emitsFound c (value y)) (properties w) in
-      let r = values (o .goods) (suit-9 ps (o .kinds)) in
+      let r = values (o .goods) (suit-value-found ps (o .kinds)) in
       let properties-are : ps ≡ properties w =
       by-test (eqb (byteAt t (onward t at 1) / 2 % 2) 1)
       (λ b. sym (ap (λ (y : Seen Node). properties (y .value)) (o .resting b) ∙ properties-at at ps _))
@@ -281,7 +282,7 @@ module _ (t : List ℕ) where
       (subst (λ (y : ℕ). Clear g₄ (emitsOwnKeys c (lookNode t d y .value) ▷ emitsOwnPattern c (lookNode t d y .value) src)) (sym back) clear) in
       does-as (does-then (own .1 kind-is good) (does-then (does-from from (r .1)) (does-from again there)))
       (ap₂ (λ (x : Emit) (y : ℕ). (K ▷ P) ▷ x ▷ emitsOwnRest c (lookNode t d y .value) src)
-      (ap (λ (y : Place). turnsOf 9 y ps) place ∙ turns-9 c ps ∙ ap (λ (y : Items). inTurn (λ x. emitsFound c (value x)) y) properties-are) back
+      (ap (λ (y : Place). turnsOf modes.valueFound y ps) place ∙ turns-value-found c ps ∙ ap (λ (y : Items). inTurn (λ x. emitsFound c (value x)) y) properties-are) back
       ∙ then-assoc K P (F ▷ R)
       ∙ sym (pattern-object c w src shape-is))
 
@@ -507,14 +508,14 @@ module _ (t : List ℕ) where
         let M : Emit = inTurn declaratorMade ds in
         let X : Emit = inTurn (declaratorExcludes (c .root)) ds in
         let D : Emit = inTurn (emitsDeclarator c) ds in
-        let r = items goods (suit-10 ds kinds-are) in
+        let r = items goods (suit-declarator ds kinds-are) in
         let bytes : part i q t ≡ 4 ∷ 7 ∷ wideBytes m ++ (x ∷ []) = ap₂ (λ (y v : ℕ). part y v t) same fifth ∙ o .head in
         let head : say (puts (part i q t)) ▷ say (puts (wideBytes k)) ≡ say (puts (4 ∷ 7 ∷ []) ++ (marks m ++ puts (x ∷ wideBytes (declaratorCount c ds)))) =
         ap₂ (λ (bs : List ℕ) (y : ℕ). say (puts bs) ▷ say (puts (wideBytes y))) bytes k-as ∙ say-say (puts (4 ∷ 7 ∷ wideBytes m ++ (x ∷ []))) (puts (wideBytes (declaratorCount c ds))) ∙ ap say (head-is m x (declaratorCount c ds) (o .marked)) in
         does-to upto (does-as (does-then (hands good kk) (does-then (does-then copied (wide small)) (does-from from (r .1))))
-        (ap₂ (λ (y : Items) (v : Emit). (inTurn declaratorMade y ▷ inTurn (declaratorExcludes root) y) ▷ v ▷ turnsOf 10 c′ ds) ds-are head
-        ∙ ap (λ (y : Bool). (M ▷ inTurn (declaratorExcludes y) ds) ▷ say (puts (4 ∷ 7 ∷ []) ++ (marks m ++ puts (x ∷ wideBytes (declaratorCount c ds)))) ▷ turnsOf 10 c′ ds) asked
-        ∙ ap (λ (v : Emit). (M ▷ X) ▷ say (puts (4 ∷ 7 ∷ []) ++ (marks m ++ puts (x ∷ wideBytes (declaratorCount c ds)))) ▷ v) (ap (λ (y : Place). turnsOf 10 y ds) place ∙ turns-10 c ds)
+        (ap₂ (λ (y : Items) (v : Emit). (inTurn declaratorMade y ▷ inTurn (declaratorExcludes root) y) ▷ v ▷ turnsOf modes.declarator c′ ds) ds-are head
+        ∙ ap (λ (y : Bool). (M ▷ inTurn (declaratorExcludes y) ds) ▷ say (puts (4 ∷ 7 ∷ []) ++ (marks m ++ puts (x ∷ wideBytes (declaratorCount c ds)))) ▷ turnsOf modes.declarator c′ ds) asked
+        ∙ ap (λ (v : Emit). (M ▷ X) ▷ say (puts (4 ∷ 7 ∷ []) ++ (marks m ++ puts (x ∷ wideBytes (declaratorCount c ds)))) ▷ v) (ap (λ (y : Place). turnsOf modes.declarator y ds) place ∙ turns-declarator c ds)
         ∙ then-assoc M X (say (puts (4 ∷ 7 ∷ []) ++ (marks m ++ puts (x ∷ wideBytes (declaratorCount c ds)))) ▷ D)
         ∙ sym (declaration-done c at m x ds (ap (declarationRefusal (contextOf c)) (sym whole) ∙ sym (test (contextOf c)) ∙ (let w : b ≡ 0 = omega arith in w)))
         ∙ ap (emits c) (sym whole))),

@@ -26,13 +26,14 @@ use Rattle.direct.specs.Keys.{stringBytes, emitsExcluded, isPrivate, entries, h
 use Rattle.direct.specs.Declared.{emitsKeyValue}
 use Rattle.direct.proofs.Threads.{then-assoc, say-puts}
 use Rattle.direct.proofs.RestValues.{excluded-spelt, excluded-itself, excluded-omitted, excluded-saved, entries-are, primitives-are, rest-none, rest-some, read-hoisted, read-inline, read-mapped}
+use Rattle.walk.specs.Modes as modes
 use Rattle.walk.specs.Run.{Going, Does}
 use Rattle.walk.specs.Whole.{Good, Ruled, Emitted}
 use Rattle.walk.specs.Turns.{keyClass, keyString}
 use Rattle.walk.proofs.Running.{does-then, does-as, does-to, does-nothing}
 use Rattle.walk.proofs.SpreadArguments.{does-from}
 use Rattle.walk.proofs.Opened.{property-key, no-good, position-here, good-within, object-open}
-use Rattle.walk.proofs.Turning.{Sequenced, sequenced-as, turns-6, suit-6}
+use Rattle.walk.proofs.Turning.{Sequenced, sequenced-as, turns-excluded-key, suit-excluded-key}
 use Rattle.walk.proofs.Viewing.{cell-4, ruled-as}
 use Rattle.lowering.specs.Keys.Entry.{spelt, itself, omitted, saved}
 
@@ -118,7 +119,7 @@ entries-few (Items.item q qs) = go (isPrivate (key q)) (entries-few qs)
 module _ (t : List ℕ) where
   pub keys-does : {g g₁ g₂ g₃ g₄ g₅ : Going} (c c₁ : Place) (d d₁ p q n k f x y : ℕ) → q ≡ onward t p 2 → Wide t q n
       → ((κ : Context) → k ≡ limited (count (excludedKeys κ (lookNode t d p .value)))) → f ≡ onward t q 2 → x ≡ f → c₁ ≡ c → d₁ ≡ d - 1 → g₃ ≡ g₂ → g₅ ≡ g₄
-      → Does g g₁ (say (puts (32 ∷ 1 ∷ []))) → (k < 65536 → Does g₁ g₂ (say (puts (wideBytes k)))) → Sequenced t 6 c₁ d₁ false n x y g₃ g₄
+      → Does g g₁ (say (puts (32 ∷ 1 ∷ []))) → (k < 65536 → Does g₁ g₂ (say (puts (wideBytes k)))) → Sequenced t modes.excludedKey c₁ d₁ false n x y g₃ g₄
       → Good t d p → byteAt t p ≡ 34 → Does g g₅ (emitsKeys c (properties (lookNode t d p .value)))
   unfolding emitsKeys limited
   keys-does c c₁ zero d₁ p q n k f x y eq w ek ef ex ec ed eg eh a b sq good e34 = no-good t p good
@@ -134,10 +135,10 @@ module _ (t : List ℕ) where
       let kk : k ≡ min (entries qs) 65536 = ek nameless ∙ ap (λ (z : ℕ). limited z) (entries-are nameless whole ∙ ap entries here) in
       let small : k < 65536 = omega (arith, o .list .small) in
       let same : k ≡ entries qs = omega (arith, o .list .small) in
-      let r = sequenced-as t false 6 6 c c₁ d d₁ (wideAt t (onward t p 2)) n (onward t (onward t p 2) 2) x y refl ec xd nn ff sq (o .list .good) (suit-6 qs (o .properties)) in
+      let r = sequenced-as t false 6 6 c c₁ d d₁ (wideAt t (onward t p 2)) n (onward t (onward t p 2) 2) x y refl ec xd nn ff sq (o .list .good) (suit-excluded-key qs (o .properties)) in
       let turns : Emit = inTurn (emitsExcluded c) qs in
       does-to eh
-      (does-as (does-then a (does-then (b small) (does-from eg (does-as (r .1) (turns-6 c qs)))))
+      (does-as (does-then a (does-then (b small) (does-from eg (does-as (r .1) (turns-excluded-key c qs)))))
       (sym (then-assoc (say (puts (32 ∷ 1 ∷ []))) (say (puts (wideBytes k))) turns)
       ∙ ap (λ (z : Emit). z ▷ turns) (say-puts (32 ∷ 1 ∷ []) (wideBytes k))
       ∙ ap (λ (z : ℕ). say (puts (32 ∷ 1 ∷ wideBytes z)) ▷ turns) same
@@ -146,19 +147,19 @@ module _ (t : List ℕ) where
 -- ---- one of them, by the class of its key
 
 module _ (k : Node) where
-  class-spelt : entryOf (keySort k) ≡ spelt → keyClass k ≡ 1
+  class-spelt : entryOf (keySort k) ≡ spelt → keyClass k ≡ modes.asString
   unfolding keyClass
   class-spelt e = rw (e, keyClass) refl
 
-  class-itself : entryOf (keySort k) ≡ itself → keyClass k ≡ 2
+  class-itself : entryOf (keySort k) ≡ itself → keyClass k ≡ modes.asItStands
   unfolding keyClass
   class-itself e = rw (e, keyClass) refl
 
-  class-omitted : entryOf (keySort k) ≡ omitted → keyClass k ≡ 3
+  class-omitted : entryOf (keySort k) ≡ omitted → keyClass k ≡ modes.leftOut
   unfolding keyClass
   class-omitted e = rw (e, keyClass) refl
 
-  class-saved : entryOf (keySort k) ≡ saved → keyClass k ≡ 4
+  class-saved : entryOf (keySort k) ≡ saved → keyClass k ≡ modes.asTemporary
   unfolding keyClass
   class-saved e = rw (e, keyClass) refl
 
@@ -167,7 +168,7 @@ module _ (k : Node) where
   string-spelt e = rw (e, keyString) refl
 
 module _ (c : Place) (q : Node) where
-  as-string : keyClass (key q) ≡ 1 → say (puts (keyString (key q))) ≡ emitsExcluded c q
+  as-string : keyClass (key q) ≡ modes.asString → say (puts (keyString (key q))) ≡ emitsExcluded c q
   as-string h =
       by-entry (entryOf (keySort (key q)))
       (λ e. ap (λ (bs : List ℕ). say (puts bs)) (string-spelt (key q) e) ∙ sym (excluded-spelt c q e))
@@ -175,7 +176,7 @@ module _ (c : Place) (q : Node) where
       (λ e. absurd (omega (arith, class-omitted (key q) e)))
       (λ e. absurd (omega (arith, class-saved (key q) e)))
 
-  as-standing : keyClass (key q) ≡ 2 → emits c (key q) ≡ emitsExcluded c q
+  as-standing : keyClass (key q) ≡ modes.asItStands → emits c (key q) ≡ emitsExcluded c q
   as-standing h =
       by-entry (entryOf (keySort (key q)))
       (λ e. absurd (omega (arith, class-spelt (key q) e)))
@@ -183,7 +184,7 @@ module _ (c : Place) (q : Node) where
       (λ e. absurd (omega (arith, class-omitted (key q) e)))
       (λ e. absurd (omega (arith, class-saved (key q) e)))
 
-  as-nothing : keyClass (key q) ≡ 3 → say [] ≡ emitsExcluded c q
+  as-nothing : keyClass (key q) ≡ modes.leftOut → say [] ≡ emitsExcluded c q
   as-nothing h =
       by-entry (entryOf (keySort (key q)))
       (λ e. absurd (omega (arith, class-spelt (key q) e)))
@@ -191,7 +192,7 @@ module _ (c : Place) (q : Node) where
       (λ e. sym (excluded-omitted c q e))
       (λ e. absurd (omega (arith, class-saved (key q) e)))
 
-  as-cell : (keyClass (key q) ≡ 1 → ⊥) → (keyClass (key q) ≡ 2 → ⊥) → (keyClass (key q) ≡ 3 → ⊥) → saysCell 4 (position q) ≡ emitsExcluded c q
+  as-cell : (keyClass (key q) ≡ modes.asString → ⊥) → (keyClass (key q) ≡ modes.asItStands → ⊥) → (keyClass (key q) ≡ modes.leftOut → ⊥) → saysCell 4 (position q) ≡ emitsExcluded c q
   as-cell a b d =
       by-entry (entryOf (keySort (key q)))
       (λ e. absurd (a (class-spelt (key q) e)))
@@ -209,15 +210,15 @@ module _ (t : List ℕ) where
     key-good good e35 = rw ee (property-key t d at good e35 k ek .1)
 
   pub excluded-string : {g g₁ g₂ : Going} (c : Place) (d e at k s z sort : ℕ) → e ≡ d - 1 → k ≡ onward t at 2 → s ≡ lookNode t d at .next → z ≡ s → g₂ ≡ g₁
-      → sort ≡ keyClass (lookNode t e k .value) → sort ≡ 1
-      → (Good t e k → keyClass (lookNode t e k .value) ≡ 1 → Does g g₁ (say (puts (keyString (lookNode t e k .value)))))
+      → sort ≡ keyClass (lookNode t e k .value) → sort ≡ modes.asString
+      → (Good t e k → keyClass (lookNode t e k .value) ≡ modes.asString → Does g g₁ (say (puts (keyString (lookNode t e k .value)))))
       → byteAt t at ≡ 35 → Emitted t d at z g g₂ (emitsExcluded c)
   excluded-string c zero e at k s z sort ee ek es ez eg h i a e35 good = no-good t at good
   excluded-string c (suc d) e at k s z sort ee ek es ez eg h i a e35 good =
       let xe : e ≡ d = omega arith in
       let q : Node = lookNode t (suc d) at .value in
       let same : lookNode t e k .value ≡ key q = key-at d e at k xe ek good e35 in
-      let class : keyClass (lookNode t e k .value) ≡ 1 = sym h ∙ i in (
+      let class : keyClass (lookNode t e k .value) ≡ modes.asString = sym h ∙ i in (
         ez ∙ es,
         does-to eg (does-as (a (key-good d e at k xe ek good e35) class)
             (ap (λ (x : Node). say (puts (keyString x))) same ∙ as-string c q (sym (ap keyClass same) ∙ class))),
@@ -225,7 +226,7 @@ module _ (t : List ℕ) where
 
   pub excluded-standing : {g g₁ g₂ g₃ : Going} (c c₁ : Place) (d e d₁ at k s u r z sort : ℕ) → e ≡ d - 1 → k ≡ onward t at 2 → s ≡ lookNode t d at .next → z ≡ s
       → c₁ ≡ c → d₁ ≡ e → u ≡ k → g₁ ≡ g → g₃ ≡ g₂
-      → sort ≡ keyClass (lookNode t e k .value) → sort ≡ 2 → Ruled t d₁ u r g₁ g₂ (emits c₁)
+      → sort ≡ keyClass (lookNode t e k .value) → sort ≡ modes.asItStands → Ruled t d₁ u r g₁ g₂ (emits c₁)
       → byteAt t at ≡ 35 → Emitted t d at z g g₃ (emitsExcluded c)
   excluded-standing c c₁ zero e d₁ at k s u r z sort ee ek es ez ec ed eu eg eh h i a e35 good = no-good t at good
   excluded-standing c c₁ (suc d) e d₁ at k s u r z sort ee ek es ez ec ed eu eg eh h i a e35 good =
@@ -239,7 +240,7 @@ module _ (t : List ℕ) where
       )
 
   pub excluded-nothing : {g g₁ : Going} (c : Place) (d e at k s z sort : ℕ) → e ≡ d - 1 → k ≡ onward t at 2 → s ≡ lookNode t d at .next → z ≡ s → g₁ ≡ g
-      → sort ≡ keyClass (lookNode t e k .value) → sort ≡ 3
+      → sort ≡ keyClass (lookNode t e k .value) → sort ≡ modes.leftOut
       → byteAt t at ≡ 35 → Emitted t d at z g g₁ (emitsExcluded c)
   excluded-nothing c zero e at k s z sort ee ek es ez eg h i e35 good = no-good t at good
   excluded-nothing {g = g} c (suc d) e at k s z sort ee ek es ez eg h i e35 good =
@@ -248,7 +249,7 @@ module _ (t : List ℕ) where
       (ez ∙ es, does-to eg (does-as (does-nothing g) (as-nothing c q (sym (ap keyClass (key-at d e at k xe ek good e35)) ∙ sym h ∙ i))))
 
   pub excluded-cell : {g g₁ g₂ : Going} (c : Place) (d e at k s z sort : ℕ) → e ≡ d - 1 → k ≡ onward t at 2 → s ≡ lookNode t d at .next → z ≡ s → g₂ ≡ g₁
-      → sort ≡ keyClass (lookNode t e k .value) → (sort ≡ 1 → ⊥) → (sort ≡ 2 → ⊥) → (sort ≡ 3 → ⊥) → Does g g₁ (say (does (temporary at 4) ∷ []))
+      → sort ≡ keyClass (lookNode t e k .value) → (sort ≡ modes.asString → ⊥) → (sort ≡ modes.asItStands → ⊥) → (sort ≡ modes.leftOut → ⊥) → Does g g₁ (say (does (temporary at 4) ∷ []))
       → byteAt t at ≡ 35 → Emitted t d at z g g₂ (emitsExcluded c)
   excluded-cell c zero e at k s z sort ee ek es ez eg h i j l a e35 good = no-good t at good
   excluded-cell c (suc d) e at k s z sort ee ek es ez eg h i j l a e35 good =

@@ -31,20 +31,21 @@ use Rattle.direct.proofs.Threads.{then-assoc}
 use Rattle.direct.proofs.Reached.{reach-over-object, reach-over-rest, reach-over-array, reach-over-default, reach-over-leaf}
 use Rattle.direct.proofs.DeclarationsByPart.{found-object, found-rest, found-array, found-default, found-leaf}
 use Rattle.direct.proofs.Tests.{over-object-at, over-array-at, over-array-rest-at, over-default-at}
+use Rattle.walk.specs.Modes as modes
 use Rattle.walk.specs.Run.{Going, Does, Clear}
 use Rattle.walk.specs.Whole.{GoodItems, Good}
-use Rattle.walk.specs.Turns.{turnOf, deepMode, suits, turnsOf, AllSuit}
+use Rattle.walk.specs.Turns.{turnOf, deepMode, suits, turnsOf, AllSuit, valueMode, itemMode}
 use Rattle.walk.proofs.Running.{does-then, does-nothing, does-as, does-to, clear-after}
 use Rattle.walk.proofs.SpreadArguments.{does-from}
 use Rattle.walk.proofs.Opened.{ObjectOpen, ArrayOpen, PropertyOpen, DefaultOpen, leaf-here, no-good, object-open, array-open, property-open, default-open}
-use Rattle.walk.proofs.Turning.{turn-8, turn-12, turn-17, turn-18, turns-8, turns-9, turns-12, turns-13, turns-14, turns-15, suit-8, suit-9, suit-12, suit-13, suit-14, suit-15}
+use Rattle.walk.proofs.Turning.{turn-found, turn-anywhere, turn-in-arrays, turn-straight, turns-found, turns-value-found, turns-anywhere, turns-value-anywhere, turns-value-in-arrays, turns-value-straight, suit-found, suit-value-found, suit-anywhere, suit-value-anywhere, suit-value-in-arrays, suit-value-straight}
 use Rattle.lowering.proofs.Cases.{not-true}
 
 -- ---- the modes that go below a pattern
 
-pub by-deep : {A : Type 0} (mode : ℕ) → deepMode mode ≡ true → (mode ≡ 8 → A) → (mode ≡ 12 → A) → (mode ≡ 17 → A) → (mode ≡ 18 → A) → A
+pub by-deep : {A : Type 0} (mode : ℕ) → deepMode mode ≡ true → (mode ≡ modes.found → A) → (mode ≡ modes.anywhere → A) → (mode ≡ modes.inArrays → A) → (mode ≡ modes.straight → A) → A
 unfolding deepMode
-by-deep {A = A} mode h p q r s = go (eqb mode 8) (eqb mode 12) (eqb mode 17) (eqb mode 18) h (λ e. p (eqb-true mode 8 e)) (λ e. q (eqb-true mode 12 e)) (λ e. r (eqb-true mode 17 e)) (λ e. s (eqb-true mode 18 e))
+by-deep {A = A} mode h p q r s = go (eqb mode modes.found) (eqb mode modes.anywhere) (eqb mode modes.inArrays) (eqb mode modes.straight) h (λ e. p (eqb-true mode 8 e)) (λ e. q (eqb-true mode 12 e)) (λ e. r (eqb-true mode 17 e)) (λ e. s (eqb-true mode 18 e))
   where
     go : (a b c d : Bool) → a || (b || (c || d)) ≡ true → (a ≡ true → A) → (b ≡ true → A) → (c ≡ true → A) → (d ≡ true → A) → A
     go true b c d e p q r s = p refl
@@ -83,77 +84,70 @@ module _ (mode : ℕ) (c : Place) (deep : deepMode mode ≡ true) where
       (λ e. rw e (ap not (over-default-at at l fs)))
       (λ e. rw e (ap not (over-default-at at l fs)))
 
--- the mode of the properties of an object, and of the items of an array
-abbrev valueMode : ℕ → ℕ
-valueMode mode = cond (eqb mode 12) 13 (cond (eqb mode 17) 14 15)
-
-abbrev itemMode : ℕ → ℕ
-itemMode mode = cond (eqb mode 8) 8 12
-
 -- no object rest below an array rest, where the mode asks for that
-clear-12 : (p : Node) → suits 12 p ≡ true → hasArrayRestOverObjectRest p ≡ false
+clear-anywhere : (p : Node) → suits modes.anywhere p ≡ true → hasArrayRestOverObjectRest p ≡ false
 unfolding suits
-clear-12 p h = not-true (hasArrayRestOverObjectRest p) h
+clear-anywhere p h = not-true (hasArrayRestOverObjectRest p) h
 
-clear-17 : (p : Node) → suits 17 p ≡ true → hasArrayRestOverObjectRest p ≡ false
+clear-in-arrays : (p : Node) → suits modes.inArrays p ≡ true → hasArrayRestOverObjectRest p ≡ false
 unfolding suits
-clear-17 p h = not-true (hasArrayRestOverObjectRest p) h
+clear-in-arrays p h = not-true (hasArrayRestOverObjectRest p) h
 
-clear-18 : (p : Node) → suits 18 p ≡ true → hasArrayRestOverObjectRest p ≡ false
+clear-straight : (p : Node) → suits modes.straight p ≡ true → hasArrayRestOverObjectRest p ≡ false
 unfolding suits
-clear-18 p h = not-true (hasArrayRestOverObjectRest p) h
+clear-straight p h = not-true (hasArrayRestOverObjectRest p) h
 
-suit-values : (mode : ℕ) → deepMode mode ≡ true → (mode ≡ 8 → ⊥) → (at : ℕ) (ps : Items) (fs : Fields) → AllItems (λ q. is 35 q ≡ true) ps
+suit-values : (mode : ℕ) → deepMode mode ≡ true → (mode ≡ modes.found → ⊥) → (at : ℕ) (ps : Items) (fs : Fields) → AllItems (λ q. is 35 q ≡ true) ps
     → suits mode (node at 34 (field (list ps) fs)) ≡ true → AllSuit (valueMode mode) ps
 suit-values mode deep other at ps fs a h =
     let p = node at 34 (field (list ps) fs) in
     by-deep mode deep
     (λ e. absurd (other e))
-    (λ e. rw e (suit-13 ps a (sym (over-object-at at ps fs) ∙ clear-12 p (subst (λ (m : ℕ). suits m p ≡ true) e h))))
-    (λ e. rw e (suit-14 ps a (sym (over-object-at at ps fs) ∙ clear-17 p (subst (λ (m : ℕ). suits m p ≡ true) e h))))
-    (λ e. rw e (suit-15 ps a (sym (over-object-at at ps fs) ∙ clear-18 p (subst (λ (m : ℕ). suits m p ≡ true) e h))))
+    (λ e. rw e (suit-value-anywhere ps a (sym (over-object-at at ps fs) ∙ clear-anywhere p (subst (λ (m : ℕ). suits m p ≡ true) e h))))
+    (λ e. rw e (suit-value-in-arrays ps a (sym (over-object-at at ps fs) ∙ clear-in-arrays p (subst (λ (m : ℕ). suits m p ≡ true) e h))))
+    (λ e. rw e (suit-value-straight ps a (sym (over-object-at at ps fs) ∙ clear-straight p (subst (λ (m : ℕ). suits m p ≡ true) e h))))
 
-suit-array : (at : ℕ) (is : Items) → hasArrayRestOverObjectRest (arrayAt at is) ≡ false → AllSuit 12 is
-suit-array at is h = suit-12 is (sym (over-array-at at is) ∙ h)
+suit-array : (at : ℕ) (is : Items) → hasArrayRestOverObjectRest (arrayAt at is) ≡ false → AllSuit modes.anywhere is
+suit-array at is h = suit-anywhere is (sym (over-array-at at is) ∙ h)
 
-suit-array-rest : (at : ℕ) (is : Items) (r : Node) → hasArrayRestOverObjectRest (arrayRestAt at is r) ≡ false → AllSuit 12 is
-suit-array-rest at is r h = suit-12 is (or-left (any (λ n. hasArrayRestOverObjectRest n) is) _ (sym (over-array-rest-at at is r) ∙ h))
+suit-array-rest : (at : ℕ) (is : Items) (r : Node) → hasArrayRestOverObjectRest (arrayRestAt at is r) ≡ false → AllSuit modes.anywhere is
+suit-array-rest at is r h = suit-anywhere is (or-left (any (λ n. hasArrayRestOverObjectRest n) is) _ (sym (over-array-rest-at at is r) ∙ h))
 
-suit-items : (mode : ℕ) → deepMode mode ≡ true → (p : Node) (is : Items) → (hasArrayRestOverObjectRest p ≡ false → AllSuit 12 is) → suits mode p ≡ true → (mode ≡ 18 → ⊥) → AllSuit (itemMode mode) is
+suit-items : (mode : ℕ) → deepMode mode ≡ true → (p : Node) (is : Items) → (hasArrayRestOverObjectRest p ≡ false → AllSuit modes.anywhere is) → suits mode p ≡ true → (mode ≡ modes.straight → ⊥) → AllSuit (itemMode mode) is
 suit-items mode deep p is a h other =
     by-deep mode deep
-    (λ e. rw e (suit-8 is))
-    (λ e. rw e (a (clear-12 p (subst (λ (m : ℕ). suits m p ≡ true) e h))))
-    (λ e. rw e (a (clear-17 p (subst (λ (m : ℕ). suits m p ≡ true) e h))))
+    (λ e. rw e (suit-found is))
+    (λ e. rw e (a (clear-anywhere p (subst (λ (m : ℕ). suits m p ≡ true) e h))))
+    (λ e. rw e (a (clear-in-arrays p (subst (λ (m : ℕ). suits m p ≡ true) e h))))
     (λ e. absurd (other e))
 
-turn-object : (mode : ℕ) (c : Place) → deepMode mode ≡ true → (mode ≡ 8 → ⊥) → (at : ℕ) (ps : Items) → turnOf mode c (objectAt at ps) ≡ turnsOf (valueMode mode) c ps
+turn-object : (mode : ℕ) (c : Place) → deepMode mode ≡ true → (mode ≡ modes.found → ⊥) → (at : ℕ) (ps : Items) → turnOf mode c (objectAt at ps) ≡ turnsOf (valueMode mode) c ps
 unfolding turnOf
 turn-object mode c deep other at ps =
     by-deep mode deep
     (λ e. absurd (other e))
-    (λ e. rw e (reach-over-object (emitsInner c) anywhere at ps ∙ sym (turns-13 c ps)))
-    (λ e. rw e (reach-over-object (emitsInner c) inArrays at ps ∙ sym (turns-14 c ps)))
-    (λ e. rw e (reach-over-object (emitsInner c) straight at ps ∙ sym (turns-15 c ps)))
+    (λ e. rw e (reach-over-object (emitsInner c) anywhere at ps ∙ sym (turns-value-anywhere c ps)))
+    (λ e. rw e (reach-over-object (emitsInner c) inArrays at ps ∙ sym (turns-value-in-arrays c ps)))
+    (λ e. rw e (reach-over-object (emitsInner c) straight at ps ∙ sym (turns-value-straight c ps)))
 
-turn-array : (mode : ℕ) (c : Place) → deepMode mode ≡ true → (mode ≡ 18 → ⊥) → (at : ℕ) (is : Items) (fs : Fields) → turnOf mode c (node at 36 (field (list is) fs)) ≡ turnsOf (itemMode mode) c is
+turn-array : (mode : ℕ) (c : Place) → deepMode mode ≡ true → (mode ≡ modes.straight → ⊥) → (at : ℕ) (is : Items) (fs : Fields) → turnOf mode c (node at 36 (field (list is) fs)) ≡ turnsOf (itemMode mode) c is
 unfolding turnOf
 turn-array mode c deep other at is fs =
     by-deep mode deep
-    (λ e. rw e (found-array c at is fs ∙ sym (turns-8 c is)))
-    (λ e. rw e (reach-over-array (emitsInner c) anywhere at is fs ∙ sym (turns-12 c is)))
-    (λ e. rw e (reach-over-array (emitsInner c) inArrays at is fs ∙ sym (turns-12 c is)))
+    (λ e. rw e (found-array c at is fs ∙ sym (turns-found c is)))
+    (λ e. rw e (reach-over-array (emitsInner c) anywhere at is fs ∙ sym (turns-anywhere c is)))
+    (λ e. rw e (reach-over-array (emitsInner c) inArrays at is fs ∙ sym (turns-anywhere c is)))
     (λ e. absurd (other e))
 
 -- an object with rest: one that is found, and one that is passed over
-turn-rest-12 : (c : Place) (at : ℕ) (ps : Items) (r : Node) → turnOf 12 c (objectRestAt at ps r) ≡ emitsInner c (objectRestAt at ps r)
-turn-rest-12 c at ps r = turn-12 c (objectRestAt at ps r) ∙ reach-over-rest (emitsInner c) anywhere at ps r
+turn-rest-anywhere : (c : Place) (at : ℕ) (ps : Items) (r : Node) → turnOf modes.anywhere c (objectRestAt at ps r) ≡ emitsInner c (objectRestAt at ps r)
+turn-rest-anywhere c at ps r = turn-anywhere c (objectRestAt at ps r) ∙ reach-over-rest (emitsInner c) anywhere at ps r
 
-turn-rest-17 : (c : Place) (at : ℕ) (ps : Items) (r : Node) → turnOf 17 c (objectRestAt at ps r) ≡ say []
-turn-rest-17 c at ps r = turn-17 c (objectRestAt at ps r) ∙ reach-over-rest (emitsInner c) inArrays at ps r
+turn-rest-in-arrays : (c : Place) (at : ℕ) (ps : Items) (r : Node) → turnOf modes.inArrays c (objectRestAt at ps r) ≡ say []
+turn-rest-in-arrays c at ps r = turn-in-arrays c (objectRestAt at ps r) ∙ reach-over-rest (emitsInner c) inArrays at ps r
 
-turn-rest-18 : (c : Place) (at : ℕ) (ps : Items) (r : Node) → turnOf 18 c (objectRestAt at ps r) ≡ emitsInner c (objectRestAt at ps r)
-turn-rest-18 c at ps r = turn-18 c (objectRestAt at ps r) ∙ reach-over-rest (emitsInner c) straight at ps r
+turn-rest-straight : (c : Place) (at : ℕ) (ps : Items) (r : Node) → turnOf modes.straight c (objectRestAt at ps r) ≡ emitsInner c (objectRestAt at ps r)
+turn-rest-straight c at ps r = turn-straight c (objectRestAt at ps r) ∙ reach-over-rest (emitsInner c) straight at ps r
 
 pub rest-stands : (at : ℕ) (ps : Items) (r : Node) → hasRest (objectRestAt at ps r) ≡ true
 unfolding stands standsIn
@@ -233,13 +227,13 @@ module _ (t : List ℕ) where
   -- ---- db, fb: below an object
 
   -- what is found
-  pub object-found : {g g′ : Going} (c : Place) (d at s mode : ℕ) → mode ≡ 8
+  pub object-found : {g g′ : Going} (c : Place) (d at s mode : ℕ) → mode ≡ modes.found
       → (byteAt t at ≡ 34 → Good t d at → (s ≡ lookNode t d at .next) × Does g g′ (emitsFound c (lookNode t d at .value)))
       → byteAt t at ≡ 34 → Deep d at s mode c g g′
   object-found c d at s mode m found k good deep suit =
       let n : Node = lookNode t d at .value in
       let r = found k good in
-      (r .0, does-as (r .1) (sym (turn-8 c n) ∙ ap (λ (y : ℕ). turnOf y c n) (sym m)))
+      (r .0, does-as (r .1) (sym (turn-found c n) ∙ ap (λ (y : ℕ). turnOf y c n) (sym m)))
 
   -- ---- pr: the properties of an object
 
@@ -264,7 +258,7 @@ module _ (t : List ℕ) where
   -- ---- db: an object
 
   -- without a rest: its values
-  pub object-plain : {g g′ : Going} (c : Place) (d at u vm mode : ℕ) (b : Bool) → (mode ≡ 8 → ⊥) → vm ≡ valueMode mode → b ≡ eqb (byteAt t (onward t at 1) / 2 % 2) 1 → b ≡ false
+  pub object-plain : {g g′ : Going} (c : Place) (d at u vm mode : ℕ) (b : Bool) → (mode ≡ modes.found → ⊥) → vm ≡ valueMode mode → b ≡ eqb (byteAt t (onward t at 1) / 2 % 2) 1 → b ≡ false
       → (byteAt t at ≡ 34 → Good t d at → AllSuit vm (properties (lookNode t d at .value))
       → (u ≡ lookItems t (lookNode t (d - 1)) false (wideAt t (onward t at 2)) (onward t (onward t at 2) 2) .next) × Does g g′ (turnsOf vm c (properties (lookNode t d at .value))))
       → byteAt t at ≡ 34 → Deep d at u mode c g g′
@@ -283,20 +277,20 @@ module _ (t : List ℕ) where
       )
 
   -- with a rest: it is passed over
-  pub object-passed : {g g′ : Going} (c : Place) (d at q s mode : ℕ) (b : Bool) → mode ≡ 17 → b ≡ eqb (byteAt t (onward t at 1) / 2 % 2) 1 → b ≡ true → q ≡ lookNode t d at .next → s ≡ q → g′ ≡ g
+  pub object-passed : {g g′ : Going} (c : Place) (d at q s mode : ℕ) (b : Bool) → mode ≡ modes.inArrays → b ≡ eqb (byteAt t (onward t at 1) / 2 % 2) 1 → b ≡ true → q ≡ lookNode t d at .next → s ≡ q → g′ ≡ g
       → byteAt t at ≡ 34 → Deep d at s mode c g g′
   object-passed c zero at q s mode b m bit stood next moved upto k good deep suit = no-good t at good
   object-passed {g = g} c (suc d) at q s mode b m bit stood next moved upto k good deep suit =
       let o = object-open t d at good k in
       let whole = o .resting (sym bit ∙ stood) in
-      (moved ∙ next, does-to upto (does-as (does-nothing g) (sym (turn-rest-17 c at _ _) ∙ ap₂ (λ (i : ℕ) (y : Seen Node). turnOf i c (y .value)) (sym m) (sym whole))))
+      (moved ∙ next, does-to upto (does-as (does-nothing g) (sym (turn-rest-in-arrays c at _ _) ∙ ap₂ (λ (i : ℕ) (y : Seen Node). turnOf i c (y .value)) (sym m) (sym whole))))
 
   -- or it has its own assignment
-  pub object-own : {g g₁ g′ : Going} (c : Place) (d at q s mode : ℕ) (b : Bool) → (mode ≡ 8 → ⊥) → (mode ≡ 17 → ⊥) → b ≡ eqb (byteAt t (onward t at 1) / 2 % 2) 1 → b ≡ true
+  pub object-own : {g g₁ g′ : Going} (c : Place) (d at q s mode : ℕ) (b : Bool) → (mode ≡ modes.found → ⊥) → (mode ≡ modes.inArrays → ⊥) → b ≡ eqb (byteAt t (onward t at 1) / 2 % 2) 1 → b ≡ true
       → (byteAt t at ≡ 34 → hasRest (lookNode t d at .value) ≡ true → Good t d at → hasArrayRestOverObjectRest (lookNode t d at .value) ≡ false → Does g g₁ (emitsInner c (lookNode t d at .value)))
       → q ≡ lookNode t d at .next → s ≡ q → g′ ≡ g₁ → byteAt t at ≡ 34 → Deep d at s mode c g g′
-  object-own c zero at q s mode b other no-17 bit stood own next moved upto k good deep suit = no-good t at good
-  object-own c (suc d) at q s mode b other no-17 bit stood own next moved upto k good deep suit =
+  object-own c zero at q s mode b other not-arrays bit stood own next moved upto k good deep suit = no-good t at good
+  object-own c (suc d) at q s mode b other not-arrays bit stood own next moved upto k good deep suit =
       let o = object-open t d at good k in
       let p : Node = lookNode t (suc d) at .value in
       let whole = ap (λ (y : Seen Node). y .value) (o .resting (sym bit ∙ stood)) in
@@ -304,11 +298,11 @@ module _ (t : List ℕ) where
         moved ∙ next,
         does-to upto (by-deep mode deep
             (λ e. absurd (other e))
-            (λ e. does-as (own k rests good (clear-12 p (subst (λ (m : ℕ). suits m p ≡ true) e suit)))
-            (ap (emitsInner c) whole ∙ sym (turn-rest-12 c at _ _) ∙ ap₂ (λ (i : ℕ) (y : Node). turnOf i c y) (sym e) (sym whole)))
-            (λ e. absurd (no-17 e))
-            (λ e. does-as (own k rests good (clear-18 p (subst (λ (m : ℕ). suits m p ≡ true) e suit)))
-            (ap (emitsInner c) whole ∙ sym (turn-rest-18 c at _ _) ∙ ap₂ (λ (i : ℕ) (y : Node). turnOf i c y) (sym e) (sym whole)))),
+            (λ e. does-as (own k rests good (clear-anywhere p (subst (λ (m : ℕ). suits m p ≡ true) e suit)))
+            (ap (emitsInner c) whole ∙ sym (turn-rest-anywhere c at _ _) ∙ ap₂ (λ (i : ℕ) (y : Node). turnOf i c y) (sym e) (sym whole)))
+            (λ e. absurd (not-arrays e))
+            (λ e. does-as (own k rests good (clear-straight p (subst (λ (m : ℕ). suits m p ≡ true) e suit)))
+            (ap (emitsInner c) whole ∙ sym (turn-rest-straight c at _ _) ∙ ap₂ (λ (i : ℕ) (y : Node). turnOf i c y) (sym e) (sym whole)))),
       )
 
   -- what is found below an object without rest
@@ -319,10 +313,10 @@ module _ (t : List ℕ) where
       let o = object-as d left e at q n f levels level second (many .value) (move ∙ first) good k in
       let ps : Items = lookItems t (lookNode t e) false n f .value in
       let whole = o .plain (sym bit ∙ bare) in
-      let r = values (o .goods) (suit-9 ps (o .kinds)) in (
+      let r = values (o .goods) (suit-value-found ps (o .kinds)) in (
         r .0 ∙ ap (λ (y : Seen Node). y .next) (sym whole),
         does-as (does-from from (r .1))
-            (ap (λ (y : Place). turnsOf 9 y ps) place ∙ turns-9 c ps ∙ sym (found-object c at ps) ∙ ap (λ (y : Seen Node). emitsFound c (y .value)) (sym whole)),
+            (ap (λ (y : Place). turnsOf modes.valueFound y ps) place ∙ turns-value-found c ps ∙ sym (found-object c at ps) ∙ ap (λ (y : Seen Node). emitsFound c (y .value)) (sym whole)),
       )
 
   -- of one with rest: its own first, read from the temporary in its place
@@ -350,8 +344,8 @@ module _ (t : List ℕ) where
       (subst (λ (x : Emit). Clear g₁ (emitsOwnKeys c (lookNode t d i .value) ▷ emitsOwnPattern c (lookNode t d i .value) x)) (s₁ ∙ sym s₂)
       (subst (λ (y : ℕ). Clear g₁ (emitsOwnKeys c (lookNode t d y .value) ▷ emitsOwnPattern c (lookNode t d y .value) e₁)) (sym (own .0)) (clear-after (own .1 k good)))) in
       let rest-as : emitsOwnRest c (lookNode t d i .value) e₂ ≡ emitsOwnRest c w (saysCell 1 at) = ap₂ (λ (y : ℕ) (x : Emit). emitsOwnRest c (lookNode t d y .value) x) (own .0) s₂ in
-      let r = values (o .goods) (suit-9 ps (o .kinds)) in
-      let found : turnsOf 9 c′ ps ≡ inTurn (λ y. emitsFound c (value y)) ps = ap (λ (y : Place). turnsOf 9 y ps) place ∙ turns-9 c ps in (
+      let r = values (o .goods) (suit-value-found ps (o .kinds)) in
+      let found : turnsOf modes.valueFound c′ ps ≡ inTurn (λ y. emitsFound c (value y)) ps = ap (λ (y : Place). turnsOf modes.valueFound y ps) place ∙ turns-value-found c ps in (
         moved ∙ next ∙ ap₂ (λ (m y : ℕ). lookNode t m y .next) (sym level) (r .0) ∙ ap (λ (y : Seen Node). y .next) (sym whole),
         does-to upto (does-as (does-then (own .1 k good) (does-then rest (does-from from (r .1))))
             (ap₂ (λ (x y : Emit). (emitsOwnKeys c w ▷ emitsOwnPattern c w x) ▷ y) s₁ (ap₂ (λ (x y : Emit). x ▷ y) rest-as found)
@@ -363,20 +357,20 @@ module _ (t : List ℕ) where
 
   -- ---- da: below an array
 
-  array-none : (c : Place) (at : ℕ) (is : Items) (fs : Fields) → turnOf 18 c (node at 36 (field (list is) fs)) ≡ say []
-  array-none c at is fs = turn-18 c (node at 36 (field (list is) fs)) ∙ reach-over-array (emitsInner c) straight at is fs
+  array-none : (c : Place) (at : ℕ) (is : Items) (fs : Fields) → turnOf modes.straight c (node at 36 (field (list is) fs)) ≡ say []
+  array-none c at is fs = turn-straight c (node at 36 (field (list is) fs)) ∙ reach-over-array (emitsInner c) straight at is fs
 
-  pub array-taken : {g g′ : Going} (c : Place) (d at q s mode : ℕ) → q ≡ lookNode t d at .next → mode ≡ 18 → s ≡ q → g′ ≡ g → byteAt t at ≡ 36 → Deep d at s mode c g g′
+  pub array-taken : {g g′ : Going} (c : Place) (d at q s mode : ℕ) → q ≡ lookNode t d at .next → mode ≡ modes.straight → s ≡ q → g′ ≡ g → byteAt t at ≡ 36 → Deep d at s mode c g g′
   array-taken c zero at q s mode next m moved upto k good deep suit = no-good t at good
   array-taken {g = g} c (suc d) at q s mode next m moved upto k good deep suit =
       let o : ArrayOpen t d at = array-open t d at good k in
-      let none : turnOf 18 c (lookNode t (suc d) at .value) ≡ say [] =
+      let none : turnOf modes.straight c (lookNode t (suc d) at .value) ≡ say [] =
       by-test (eqb (byteAt t (onward t at 1) / 2 % 2) 1)
-      (λ b. ap (λ (y : Seen Node). turnOf 18 c (y .value)) (o .resting b) ∙ array-none c at _ _)
-      (λ b. ap (λ (y : Seen Node). turnOf 18 c (y .value)) (o .plain b) ∙ array-none c at _ _) in
+      (λ b. ap (λ (y : Seen Node). turnOf modes.straight c (y .value)) (o .resting b) ∙ array-none c at _ _)
+      (λ b. ap (λ (y : Seen Node). turnOf modes.straight c (y .value)) (o .plain b) ∙ array-none c at _ _) in
       (moved ∙ next, does-to upto (does-as (does-nothing g) (sym none ∙ ap (λ (y : ℕ). turnOf y c (lookNode t (suc d) at .value)) (sym m))))
 
-  pub array-items : {g g₁ g₂ g′ : Going} (c c′ : Place) (d left e at q n p f u z s im mode : ℕ) → z ≡ lookNode t d at .next → (mode ≡ 18 → ⊥) → q ≡ onward t at 2 → Wide t q n → p ≡ onward t q 2 → f ≡ p → g₁ ≡ g
+  pub array-items : {g g₁ g₂ g′ : Going} (c c′ : Place) (d left e at q n p f u z s im mode : ℕ) → z ≡ lookNode t d at .next → (mode ≡ modes.straight → ⊥) → q ≡ onward t at 2 → Wide t q n → p ≡ onward t q 2 → f ≡ p → g₁ ≡ g
       → left ≡ d - 1 → e ≡ left → c′ ≡ c → im ≡ itemMode mode → Turned e true n f u im c′ g₁ g₂ → s ≡ z → g′ ≡ g₂ → byteAt t at ≡ 36 → Deep d at s mode c g g′
   array-items {g = g} {g₁ = g₁} {g₂ = g₂} c c′ d left e at q n p f u z s im mode next other second many first move from levels level place ims items moved upto k good deep suit =
       let h : d ≡ suc e = level-up d left e at levels level good in
@@ -386,7 +380,7 @@ module _ (t : List ℕ) where
       let is : Items = lookItems t (lookNode t e) true n f .value in
       let w : Node = lookNode t d at .value in
       let goods : GoodItems t (lookNode t e) (Good t e) false true n f = rw (nn, ff) (o .list .good) in
-      let done : (fs : Fields) → w ≡ node at 36 (field (list is) fs) → (hasArrayRestOverObjectRest (node at 36 (field (list is) fs)) ≡ false → AllSuit 12 is) → Does g g₂ (turnOf mode c w) =
+      let done : (fs : Fields) → w ≡ node at 36 (field (list is) fs) → (hasArrayRestOverObjectRest (node at 36 (field (list is) fs)) ≡ false → AllSuit modes.anywhere is) → Does g g₂ (turnOf mode c w) =
       λ fs whole fit.
       let r : (u ≡ lookItems t (lookNode t e) true n f .next) × Does g₁ g₂ (turnsOf im c′ is) =
       items goods (rw ims (suit-items mode deep (node at 36 (field (list is) fs)) is fit (ap (suits mode) (sym whole) ∙ suit) other)) in

@@ -47,12 +47,17 @@ use walk::hand::pattern_hands;
 use walk::hand::places_in;
 use walk::hand::top_count;
 use walk::hand::top_hands;
+use walk::helpers;
+use walk::kinds;
 use walk::literal::has_first;
 use walk::literal::has_spread;
 use walk::literal::is_spread;
 use walk::literal::opening;
 use walk::literal::pending;
 use walk::literal::run_of;
+use walk::look::AS_IT_STANDS;
+use walk::look::AS_STRING;
+use walk::look::LEFT_OUT;
 use walk::look::Start;
 use walk::look::cell;
 use walk::look::first_bit;
@@ -68,6 +73,7 @@ use walk::look::replaces;
 use walk::look::second;
 use walk::look::start_of;
 use walk::look::value_mode;
+use walk::modes;
 use walk::pieces::await_of;
 use walk::pieces::cell_source;
 use walk::pieces::hole;
@@ -85,8 +91,12 @@ use walk::place::statement;
 use walk::place::told_inside;
 use walk::place::told_under;
 use walk::place::under;
+use walk::reaches;
+use walk::stems;
 use walk::target::object_count;
+use walk::views;
 use walk::walk::Walk;
+use walk::written;
 ghost use mathlib.Core.Path.{_≡_};
 ghost use mathlib.Core.Bool.{true, false, cond, _||_};
 ghost use mathlib.Core.List.{[], _∷_};
@@ -119,14 +129,33 @@ ghost use Rattle.direct.specs.Assigned.{assignmentAt, emitsNest, emitsTarget, e
 ghost use Rattle.direct.specs.Moved.{outOf, movedIn, behind, fronts, bodyIn, blockIn, targetIn};
 ghost use Rattle.walk.specs.Run.{goingOf, Does, Clear};
 ghost use Rattle.walk.specs.Whole.{placeOf, placeWith, holeAt, itemDeeds, slotDeeds, GoodItem, GoodItems, GoodSlot, GoodFields, Good, Ruled, Emitted, Done};
+ghost use Rattle.walk.specs.Modes.{takingView};
 ghost use Rattle.walk.specs.Turns.{viewOf, turnOf, deepMode, isTold, toldPlace, suits, turnsOf, AllSuit, sourceOf, levelOf, spotDeeds, movesOf, AllBind, givenDeeds, givenNode, unlessRefused};
 
-// A Switch, and its fields in two parts: mark and discriminant, then the cases, which alone lie in its scope.
-const SWITCH: usize = 43;
-
+// The fields of a Switch in two parts: mark and discriminant, then the cases, which alone lie in its scope.
 const SWITCH_FRONT: usize = 0x8cc0;
 
 const SWITCH_CASES: usize = 0x79;
+
+// What a field holds, a 32nd of its code: a node, of one place or of two, a list, a list with holes.
+const CHILD: usize = 1;
+
+const CHOSEN: usize = 2;
+
+const MANY: usize = 3;
+
+const GAPS: usize = 4;
+
+// The code of a field that holds a node, and of one that holds a list.
+const NODE_FIELD: usize = 32;
+
+const LIST_FIELD: usize = 96;
+
+// The operator `=`.
+const ASSIGNS: usize = 1;
+
+// The refusal of a target with an object rest below an array rest.
+const REST_BELOW_ARRAY_REST: u8 = 5;
 
 // A node: one in which nothing is to be lowered is copied whole.
 pub fn node(w: Walk, t: &[u8], out: &mut [u8], list: &mut [u8], work: &mut [u8], c: Place) -> Walk
@@ -137,14 +166,14 @@ pub fn node(w: Walk, t: &[u8], out: &mut [u8], list: &mut [u8], work: &mut [u8],
     }
     let kind = peek(t, w.at);
     match kind {
-        4 => decl(w, t, out, list, work, c),
-        7 => head(w, t, out, list, work, c),
-        8 => head(w, t, out, list, work, c),
-        10 => ca(w, t, out, list, work, c),
-        14 => fun(w, t, out, list, work, c),
-        17 => ar(w, t, out, list, work, c),
-        24 => lit(w, t, out, list, work, c),
-        27 => ag(w, t, out, list, work, c),
+        kinds::DECLARATION => decl(w, t, out, list, work, c),
+        kinds::FOR_IN => head(w, t, out, list, work, c),
+        kinds::FOR_OF => head(w, t, out, list, work, c),
+        kinds::CATCH => ca(w, t, out, list, work, c),
+        kinds::FUNCTION => fun(w, t, out, list, work, c),
+        kinds::ARROW => ar(w, t, out, list, work, c),
+        kinds::OBJECT => lit(w, t, out, list, work, c),
+        kinds::ASSIGNMENT => ag(w, t, out, list, work, c),
         _ => plain(w, t, out, list, work, c),
     }
 }
@@ -227,7 +256,7 @@ fn plain(w: Walk, t: &[u8], out: &mut [u8], list: &mut [u8], work: &mut [u8], c:
     let map = peek(t, step(t, start, 1));
     let v = w.copy(t, out, step(t, start, 2));
     let inner = parts_of(c, kind, 0, left - 1);
-    if kind == SWITCH {
+    if kind == kinds::SWITCH {
         let u = fs(v, t, out, list, work, inner, SWITCH_FRONT, map, false);
         let cases = parts_of(c, kind, 2, left - 1);
         return fs(u, t, out, list, work, cases, SWITCH_CASES, map / 4, false).to(skip(
@@ -293,9 +322,9 @@ fn slot(
     let class = code / 32;
     let p = w.at;
     match class {
-        1 => node(w, t, out, list, work, c),
-        2 => node(w, t, out, list, work, c),
-        3 => items(
+        CHILD => node(w, t, out, list, work, c),
+        CHOSEN => node(w, t, out, list, work, c),
+        MANY => items(
             w.copy(t, out, step(t, p, 2)),
             t,
             out,
@@ -306,7 +335,7 @@ fn slot(
             false,
             l,
         ),
-        4 => items(
+        GAPS => items(
             w.copy(t, out, step(t, p, 2)),
             t,
             out,
@@ -414,23 +443,23 @@ fn turn(
         }
     }
     match mode {
-        1 => view(w, t, out, list, work, c, 1),
-        2 => prop(w, t, out, list, work, c, false),
-        4 => prop(w, t, out, list, work, c, true),
-        6 => ek(w, t, out, list, work, c),
-        7 => kv(w, t, out, list, work, c),
-        9 => vl(w, t, out, list, work, c, root, 8),
-        10 => dr(w, t, out, list, work, c, root),
-        11 => bi(w, t, out, list, work, c),
-        13 => vl(w, t, out, list, work, c, root, 12),
-        14 => vl(w, t, out, list, work, c, root, 17),
-        15 => vl(w, t, out, list, work, c, root, 18),
-        16 => go(w, t, out, list, work, c),
+        modes::VIEWED => view(w, t, out, list, work, c, views::REPLACING),
+        modes::PROPERTY => prop(w, t, out, list, work, c, false),
+        modes::TAKEN_PROPERTY => prop(w, t, out, list, work, c, true),
+        modes::EXCLUDED_KEY => ek(w, t, out, list, work, c),
+        modes::KEY_VALUE => kv(w, t, out, list, work, c),
+        modes::VALUE_FOUND => vl(w, t, out, list, work, c, root, modes::FOUND),
+        modes::DECLARATOR => dr(w, t, out, list, work, c, root),
+        modes::BINDING => bi(w, t, out, list, work, c),
+        modes::VALUE_ANYWHERE => vl(w, t, out, list, work, c, root, modes::ANYWHERE),
+        modes::VALUE_IN_ARRAYS => vl(w, t, out, list, work, c, root, modes::IN_ARRAYS),
+        modes::VALUE_STRAIGHT => vl(w, t, out, list, work, c, root, modes::STRAIGHT),
+        modes::MOVED_OUT => go(w, t, out, list, work, c),
         _ => deep(w, t, out, list, work, c, root, mode),
     }
 }
 
-// ---- patterns in a view: 1 replacing, 2 taking
+// ---- patterns in a view
 
 fn view(
     w: Walk,
@@ -448,12 +477,12 @@ fn view(
     }
     let kind = peek(t, w.at);
     match kind {
-        34 => vo(w, t, out, list, work, c, v),
-        36 => va(w, t, out, list, work, c, v),
-        37 => {
+        kinds::OBJECT_PATTERN => vo(w, t, out, list, work, c, v),
+        kinds::ARRAY_PATTERN => va(w, t, out, list, work, c, v),
+        kinds::DEFAULT => {
             let left = less(c.left);
             let u = w.copy(t, out, step(t, w.at, 2));
-            let u = view(u, t, out, list, work, inside(c, left), 1);
+            let u = view(u, t, out, list, work, inside(c, left), views::REPLACING);
             node(u, t, out, list, work, inside(c, left))
         }
         _ => node(w, t, out, list, work, c),
@@ -480,12 +509,15 @@ fn vo(
     let rest = has_second(t, p);
     if rest {
         if replaces(v) {
-            return w.temporary(out, list, work, p, 1).to(skip(t, c.left, p));
+            return w.temporary(out, list, work, p, stems::PLACE)
+                .to(skip(t, c.left, p));
         }
     }
     let q = step(t, p, 2);
     let n = wide_at(t, q);
-    let u = w.put2(out, 34, 1).wide(out, n).to(step(t, q, 2));
+    let u = w.put2(out, written::OBJECT_PATTERN, written::FIRST)
+        .wide(out, n)
+        .to(step(t, q, 2));
     let u = seq(
         u,
         t,
@@ -524,7 +556,18 @@ fn va(
     let q = step(t, p, 2);
     let n = wide_at(t, q);
     let u = w.copy(t, out, step(t, q, 2));
-    let u = seq(u, t, out, list, work, inside(c, left), false, 1, true, n);
+    let u = seq(
+        u,
+        t,
+        out,
+        list,
+        work,
+        inside(c, left),
+        false,
+        modes::VIEWED,
+        true,
+        n,
+    );
     if has_second(t, p) {
         return node(u, t, out, list, work, inside(c, left));
     }
@@ -555,7 +598,7 @@ fn prop(
         taken,
         p,
     );
-    let u = view(u, t, out, list, work, inside(c, left), 1);
+    let u = view(u, t, out, list, work, inside(c, left), views::REPLACING);
     u.copy(t, out, step(t, u.at, 1))
 }
 
@@ -574,7 +617,7 @@ fn key(
 {
     if taken {
         if is_other(t, c.left, w.at) {
-            return w.temporary(out, list, work, property, 4)
+            return w.temporary(out, list, work, property, stems::KEY)
                 .to(skip(t, c.left, w.at));
         }
     }
@@ -604,7 +647,14 @@ fn rest(
         let u = source(w.empty_rest(out), t, out, list, work, b);
         return source(u, t, out, list, work, b);
     }
-    let u = source(w.call(out, 4, 2), t, out, list, work, b);
+    let u = source(
+        w.call(out, helpers::OBJECT_WITHOUT_PROPERTIES, 2),
+        t,
+        out,
+        list,
+        work,
+        b,
+    );
     read(u, t, out, list, work, inside(c, c.left), root, p)
 }
 
@@ -622,12 +672,13 @@ fn read(
     ensures { λ r. ⌜ (r .at ≡ w .at) × (Good (now (t .entry)) (c .left) p → byteAt (now (t .entry)) p ≡ 34 → Does (goingOf (now (out .entry)) (now (list .entry)) (now (work .entry)) w) (goingOf (now (out .exit)) (now (list .exit)) (now (work .exit)) r) (emitsKeysRead (placeWith root c) p (properties (lookNode (now (t .entry)) (c .left) p .value)))) ⌝ }
 {
     if hoisted(t, c.left, root, p) {
-        return w.temporary(out, list, work, cell(2, p), 2);
+        return w.temporary(out, list, work, cell(stems::EXCLUDED, p), stems::EXCLUDED);
     }
     if all_primitive(t, c.left, p) {
         return keys(w, t, out, list, work, c, root, p);
     }
-    let u = w.put2(out, 29, 3).put2(out, 30, 3);
+    let u = w.put2(out, written::CALL, written::FIRST_TWO)
+        .put2(out, written::MEMBER, written::FIRST_TWO);
     keys(u, t, out, list, work, c, root, p).mapped(out)
 }
 
@@ -650,7 +701,9 @@ fn keys(
     let q = step(t, p, 2);
     let n = wide_at(t, q);
     let k = excluded_keys(t, c.left, p);
-    let u = w.put2(out, 32, 1).wide(out, k).to(step(t, q, 2));
+    let u = w.put2(out, written::ARRAY, written::FIRST)
+        .wide(out, k)
+        .to(step(t, q, 2));
     seq(
         u,
         t,
@@ -659,7 +712,7 @@ fn keys(
         work,
         told_under(c, root, less(c.left)),
         root,
-        6,
+        modes::EXCLUDED_KEY,
         false,
         n,
     ).to(at)
@@ -675,10 +728,10 @@ fn ek(w: Walk, t: &[u8], out: &mut [u8], list: &mut [u8], work: &mut [u8], c: Pl
     let k = step(t, p, 2);
     let sort = key_sort(t, left, k);
     match sort {
-        1 => string(w, t, out, left, k).to(end),
-        2 => node(w.to(k), t, out, list, work, under(c, left)).to(end),
-        3 => w.to(end),
-        _ => w.temporary(out, list, work, p, 4).to(end),
+        AS_STRING => string(w, t, out, left, k).to(end),
+        AS_IT_STANDS => node(w.to(k), t, out, list, work, under(c, left)).to(end),
+        LEFT_OUT => w.to(end),
+        _ => w.temporary(out, list, work, p, stems::KEY).to(end),
     }
 }
 
@@ -691,14 +744,15 @@ fn kv(w: Walk, t: &[u8], out: &mut [u8], list: &mut [u8], work: &mut [u8], c: Pl
     let end = skip(t, c.left, p);
     let k = step(t, p, 2);
     if is_other(t, left, k) {
-        let u = w.put2(out, 5, 3).temporary(out, list, work, p, 4).to(k);
+        let u = w.put2(out, written::DECLARATOR, written::FIRST_TWO)
+            .temporary(out, list, work, p, stems::KEY)
+            .to(k);
         return node(u, t, out, list, work, inside(c, left)).to(end);
     }
     w.to(end)
 }
 
-// ---- what is below a pattern, by a mode: 8 the declarators that are found; 12, 17 and 18 the assignments of the objects that are found
-// anywhere, below arrays, through objects
+// ---- what is below a pattern, by a mode: the declarators that are found, or the assignments of the objects that are found
 
 fn deep(
     w: Walk,
@@ -717,9 +771,9 @@ fn deep(
     }
     let kind = peek(t, w.at);
     match kind {
-        34 => db(w, t, out, list, work, c, root, mode),
-        36 => da(w, t, out, list, work, c, root, mode),
-        37 => {
+        kinds::OBJECT_PATTERN => db(w, t, out, list, work, c, root, mode),
+        kinds::ARRAY_PATTERN => da(w, t, out, list, work, c, root, mode),
+        kinds::DEFAULT => {
             let left = less(c.left);
             let u = w.to(step(t, w.at, 2));
             let u = deep(u, t, out, list, work, under(c, left), root, mode);
@@ -745,13 +799,13 @@ fn db(
     if c.left == 0 {
         return w;
     }
-    if mode == 8 {
+    if mode == modes::FOUND {
         return fb(w, t, out, list, work, c, root);
     }
     let p = w.at;
     if has_second(t, p) {
         let end = skip(t, c.left, p);
-        if mode == 17 {
+        if mode == modes::IN_ARRAYS {
             return w.to(end);
         }
         return top(
@@ -764,8 +818,8 @@ fn db(
             root,
             p,
             false,
-            1,
-            cell(1, p),
+            stems::PLACE,
+            cell(stems::PLACE, p),
         ).to(end);
     }
     pr(w, t, out, list, work, c, root, p, value_mode(mode))
@@ -792,8 +846,26 @@ fn fb(
     let n = wide_at(t, q);
     let first = step(t, q, 2);
     if has_second(t, p) {
-        let u = own(w, t, out, list, work, c, root, cell_source(cell(1, p), 1));
-        let u = os(u, t, out, list, work, c, root, cell_source(cell(1, p), 1));
+        let u = own(
+            w,
+            t,
+            out,
+            list,
+            work,
+            c,
+            root,
+            cell_source(cell(stems::PLACE, p), stems::PLACE),
+        );
+        let u = os(
+            u,
+            t,
+            out,
+            list,
+            work,
+            c,
+            root,
+            cell_source(cell(stems::PLACE, p), stems::PLACE),
+        );
         let u = seq(
             u.to(first),
             t,
@@ -802,7 +874,7 @@ fn fb(
             work,
             under(c, left),
             root,
-            9,
+            modes::VALUE_FOUND,
             false,
             n,
         );
@@ -816,7 +888,7 @@ fn fb(
         work,
         under(c, left),
         root,
-        9,
+        modes::VALUE_FOUND,
         false,
         n,
     )
@@ -838,7 +910,7 @@ fn da(
         return w;
     }
     let end = skip(t, c.left, w.at);
-    if mode == 18 {
+    if mode == modes::STRAIGHT {
         return w.to(end);
     }
     let q = step(t, w.at, 2);
@@ -904,7 +976,7 @@ fn decl(w: Walk, t: &[u8], out: &mut [u8], list: &mut [u8], work: &mut [u8], c: 
         work,
         under(c, less(c.left)),
         root,
-        10,
+        modes::DECLARATOR,
         false,
         wide_at(t, q),
     ).to(end)
@@ -930,7 +1002,7 @@ fn dr(
     };
     if has_nested_object_rest(t, left, id) {
         let end = skip(t, left, init);
-        let b = ReferenceBuilder::new(t, left, init, cell(3, id), 3, false);
+        let b = ReferenceBuilder::new(t, left, init, cell(stems::VALUE, id), stems::VALUE, false);
         return lo(w, t, out, list, work, under(c, left), root, id, init, b).to(end);
     }
     node(w, t, out, list, work, told_inside(c, root, c.left))
@@ -952,7 +1024,7 @@ fn lo(
     ensures { λ r. ⌜ (b ≡ builderOf (now (t .entry)) (c .left) init (events.cell 3 id) 3 false → Good (now (t .entry)) (c .left) id → Good (now (t .entry)) (c .left) init → Does (goingOf (now (out .entry)) (now (list .entry)) (now (work .entry)) w) (goingOf (now (out .exit)) (now (list .exit)) (now (work .exit)) r) (emitsLowered (placeWith root c) (lookNode (now (t .entry)) (c .left) id .value) (lookNode (now (t .entry)) (c .left) init .value))) ⌝ }
 {
     if b.wanted {
-        let u = w.put2(out, 5, 3)
+        let u = w.put2(out, written::DECLARATOR, written::FIRST_TWO)
             .temporary(out, list, work, b.cell, b.stem)
             .to(init);
         let u = node(u, t, out, list, work, told_inside(c, root, c.left));
@@ -980,7 +1052,7 @@ fn pa(
     }
     let kind = peek(t, w.at);
     match kind {
-        34 => {
+        kinds::OBJECT_PATTERN => {
             let p = w.at;
             let q = step(t, p, 2);
             let n = wide_at(t, q);
@@ -993,25 +1065,25 @@ fn pa(
                 work,
                 under(c, less(c.left)),
                 root,
-                9,
+                modes::VALUE_FOUND,
                 false,
                 n,
             ).to(p);
             os(u, t, out, list, work, c, root, b)
         }
-        36 => {
+        kinds::ARRAY_PATTERN => {
             let p = w.at;
             let u = view(
-                w.put2(out, 5, 3),
+                w.put2(out, written::DECLARATOR, written::FIRST_TWO),
                 t,
                 out,
                 list,
                 work,
                 told_inside(c, root, c.left),
-                1,
+                views::REPLACING,
             );
             let u = source(u, t, out, list, work, b).to(p);
-            deep(u, t, out, list, work, c, root, 8)
+            deep(u, t, out, list, work, c, root, modes::FOUND)
         }
         _ => w,
     }
@@ -1045,7 +1117,7 @@ fn own(
             work,
             told_inside(c, root, less(c.left)),
             root,
-            7,
+            modes::KEY_VALUE,
             false,
             n,
         );
@@ -1071,13 +1143,13 @@ fn oa(
         return w;
     }
     let u = view(
-        w.put2(out, 5, 3),
+        w.put2(out, written::DECLARATOR, written::FIRST_TWO),
         t,
         out,
         list,
         work,
         told_inside(c, root, c.left),
-        2,
+        views::TAKING,
     );
     source(u, t, out, list, work, b).to(p)
 }
@@ -1101,7 +1173,7 @@ fn os(
         let q = step(t, p, 2);
         let r = skip_items(t, false, wide_at(t, q), left, step(t, q, 2));
         let u = node(
-            w.put2(out, 5, 3).to(r),
+            w.put2(out, written::DECLARATOR, written::FIRST_TWO).to(r),
             t,
             out,
             list,
@@ -1124,7 +1196,7 @@ fn ag(w: Walk, t: &[u8], out: &mut [u8], list: &mut [u8], work: &mut [u8], c: Pl
     let left = less(c.left);
     let q = step(t, p, 3);
     if has_rest_below_array_rest(t, left, q) {
-        return w.refuse(out, 5).to(skip(t, c.left, p));
+        return w.refuse(out, REST_BELOW_ARRAY_REST).to(skip(t, c.left, p));
     }
     if has_nested_object_rest(t, left, q) {
         let v = skip(t, left, q);
@@ -1155,12 +1227,26 @@ fn an(
 ) -> Walk
     ensures { λ r. ⌜ (Good (now (t .entry)) (c .left) p → (input ≡ true → Good (now (t .entry)) (c .left) x) → hasArrayRestOverObjectRest (lookNode (now (t .entry)) (c .left) p .value) ≡ false → hasObjectRest (lookNode (now (t .entry)) (c .left) p .value) ≡ true → op < 256 → Does (goingOf (now (out .entry)) (now (list .entry)) (now (work .entry)) w) (goingOf (now (out .exit)) (now (list .exit)) (now (work .exit)) r) (emits (placeWith root c) (assignmentAt 0 op (lookNode (now (t .entry)) (c .left) p .value) (givenNode (now (t .entry)) (c .left) input x)))) ⌝ }
 {
-    if peek(t, p) == 34 {
+    if peek(t, p) == kinds::OBJECT_PATTERN {
         if has_second(t, p) {
-            return top(w, t, out, list, work, c, root, p, input, 1, x);
+            return top(w, t, out, list, work, c, root, p, input, stems::PLACE, x);
         }
     }
-    ns(w, t, out, list, work, c, root, 1, op, p, input, 1, x)
+    ns(
+        w,
+        t,
+        out,
+        list,
+        work,
+        c,
+        root,
+        views::REPLACING,
+        op,
+        p,
+        input,
+        stems::PLACE,
+        x,
+    )
 }
 
 // The target is an object with rest: of an assignment, or of an object's own, from the temporary in its place.
@@ -1186,15 +1272,15 @@ fn top(
     let d = told_inside(c, root, c.left);
     let u = top_hands(w, t, list, work, c.left, p, root, c.mark);
     let k = top_count(t, c.left, p, c.statement);
-    let u = u.put2(out, 28, 1)
+    let u = u.put2(out, written::SEQUENCE, written::FIRST)
         .wide(out, k)
-        .assign(out, 1)
-        .temporary(out, list, work, cell(3, p), 3);
+        .assign(out, ASSIGNS)
+        .temporary(out, list, work, cell(stems::VALUE, p), stems::VALUE);
     let u = gv(u, t, out, list, work, d, input, stem, x);
     let u = tg(u, t, out, list, work, c, root, p);
-    let u = pr(u, t, out, list, work, c, root, p, 15);
+    let u = pr(u, t, out, list, work, c, root, p, modes::VALUE_STRAIGHT);
     let u = node(
-        u.assign(out, 1),
+        u.assign(out, ASSIGNS),
         t,
         out,
         list,
@@ -1210,12 +1296,12 @@ fn top(
         d,
         root,
         p,
-        cell_source(cell(3, p), 3),
+        cell_source(cell(stems::VALUE, p), stems::VALUE),
     );
     if c.statement {
         return u;
     }
-    u.temporary(out, list, work, cell(3, p), 3)
+    u.temporary(out, list, work, cell(stems::VALUE, p), stems::VALUE)
 }
 
 // What is assigned: the expression at x, or the temporary of the cell x with its stem.
@@ -1252,12 +1338,34 @@ fn tg(
     ensures { λ r. ⌜ (byteAt (now (t .entry)) p ≡ 34 → Good (now (t .entry)) (c .left) p → hasArrayRestOverObjectRest (lookNode (now (t .entry)) (c .left) p .value) ≡ false → Does (goingOf (now (out .entry)) (now (list .entry)) (now (work .entry)) w) (goingOf (now (out .exit)) (now (list .exit)) (now (work .exit)) r) (emitsTarget (placeWith root c) (lookNode (now (t .entry)) (c .left) p .value))) ⌝ }
 {
     let d = told_inside(c, root, c.left);
-    if 0 < object_count(t, c.left, p, 3) {
-        let x = cell(3, p);
-        return ns(w, t, out, list, work, d, root, 2, 1, p, false, 3, x);
+    if 0 < object_count(t, c.left, p, reaches::IN_ARRAYS) {
+        let x = cell(stems::VALUE, p);
+        return ns(
+            w,
+            t,
+            out,
+            list,
+            work,
+            d,
+            root,
+            views::TAKING,
+            ASSIGNS,
+            p,
+            false,
+            stems::VALUE,
+            x,
+        );
     }
-    let u = view(w.assign(out, 1).to(p), t, out, list, work, d, 2);
-    u.temporary(out, list, work, cell(3, p), 3)
+    let u = view(
+        w.assign(out, ASSIGNS).to(p),
+        t,
+        out,
+        list,
+        work,
+        d,
+        views::TAKING,
+    );
+    u.temporary(out, list, work, cell(stems::VALUE, p), stems::VALUE)
 }
 
 // Objects with rest replaced, then an assignment for each.
@@ -1276,11 +1384,11 @@ fn ns(
     stem: u8,
     x: usize,
 ) -> Walk
-    ensures { λ r. ⌜ ((v ≡ 2 → byteAt (now (t .entry)) p ≡ 34) → Good (now (t .entry)) (c .left) p → (input ≡ true → Good (now (t .entry)) (c .left) x) → hasArrayRestOverObjectRest (lookNode (now (t .entry)) (c .left) p .value) ≡ false → op < 256 → Does (goingOf (now (out .entry)) (now (list .entry)) (now (work .entry)) w) (goingOf (now (out .exit)) (now (list .exit)) (now (work .exit)) r) (emitsNest (placeWith root c) (viewOf v) op (lookNode (now (t .entry)) (c .left) p .value) (givenDeeds (now (t .entry)) (c .left) (inner (placeWith root c)) input stem x))) ⌝ }
+    ensures { λ r. ⌜ ((v ≡ takingView → byteAt (now (t .entry)) p ≡ 34) → Good (now (t .entry)) (c .left) p → (input ≡ true → Good (now (t .entry)) (c .left) x) → hasArrayRestOverObjectRest (lookNode (now (t .entry)) (c .left) p .value) ≡ false → op < 256 → Does (goingOf (now (out .entry)) (now (list .entry)) (now (work .entry)) w) (goingOf (now (out .exit)) (now (list .exit)) (now (work .exit)) r) (emitsNest (placeWith root c) (viewOf v) op (lookNode (now (t .entry)) (c .left) p .value) (givenDeeds (now (t .entry)) (c .left) (inner (placeWith root c)) input stem x))) ⌝ }
 {
     let k = places_in(t, c.left, p, v);
     let u = nested_hands(w, t, list, work, c.left, p, v, c.mark);
-    let u = u.put2(out, 28, 1)
+    let u = u.put2(out, written::SEQUENCE, written::FIRST)
         .wide(out, plus(k, 1))
         .assign(out, op)
         .to(p);
@@ -1296,10 +1404,10 @@ fn ns(
         stem,
         x,
     );
-    if v == 2 {
-        return pr(u, t, out, list, work, c, root, p, 14);
+    if v == views::TAKING {
+        return pr(u, t, out, list, work, c, root, p, modes::VALUE_IN_ARRAYS);
     }
-    deep(u.to(p), t, out, list, work, c, root, 12)
+    deep(u.to(p), t, out, list, work, c, root, modes::ANYWHERE)
 }
 
 // The properties of the object at p, by a mode.
@@ -1353,7 +1461,7 @@ fn bi(w: Walk, t: &[u8], out: &mut [u8], list: &mut [u8], work: &mut [u8], c: Pl
             list,
             work,
             inside(c, left),
-            32,
+            NODE_FIELD,
             second(t, p),
             false,
         );
@@ -1372,19 +1480,32 @@ fn go(w: Walk, t: &[u8], out: &mut [u8], list: &mut [u8], work: &mut [u8], c: Pl
     let left = less(c.left);
     let kind = peek(t, p);
     match kind {
-        34 => w.temporary(out, list, work, p, 1).to(skip(t, c.left, p)),
-        36 => {
+        kinds::OBJECT_PATTERN => w.temporary(out, list, work, p, stems::PLACE)
+            .to(skip(t, c.left, p)),
+        kinds::ARRAY_PATTERN => {
             let q = step(t, p, 2);
             let n = wide_at(t, q);
             let u = w.copy(t, out, step(t, q, 2));
-            let u = seq(u, t, out, list, work, inside(c, left), false, 16, true, n);
+            let u = seq(
+                u,
+                t,
+                out,
+                list,
+                work,
+                inside(c, left),
+                false,
+                modes::MOVED_OUT,
+                true,
+                n,
+            );
             if has_second(t, p) {
                 return go(u, t, out, list, work, inside(c, left));
             }
             u
         }
-        37 => {
-            let u = w.put2(out, 37, 3).temporary(out, list, work, p, 1);
+        kinds::DEFAULT => {
+            let u = w.put2(out, written::DEFAULT, written::FIRST_TWO)
+                .temporary(out, list, work, p, stems::PLACE);
             let u = u.to(skip(t, left, step(t, p, 2)));
             node(u, t, out, list, work, inside(c, left))
         }
@@ -1447,8 +1568,8 @@ fn mv(
     let left = less(c.left);
     let kind = peek(t, p);
     match kind {
-        34 => add(w, t, out, list, work, c, p, p),
-        36 => {
+        kinds::OBJECT_PATTERN => add(w, t, out, list, work, c, p, p),
+        kinds::ARRAY_PATTERN => {
             let q = step(t, p, 2);
             let n = wide_at(t, q);
             let first = step(t, q, 2);
@@ -1459,7 +1580,7 @@ fn mv(
             }
             ba(w, t, out, list, work, under(c, left), true, first, n)
         }
-        37 => add(w, t, out, list, work, under(c, left), step(t, p, 2), p),
+        kinds::DEFAULT => add(w, t, out, list, work, under(c, left), step(t, p, 2), p),
         _ => w,
     }
 }
@@ -1486,11 +1607,13 @@ fn add(
         }
         let u = pattern_hands(w, t, list, work, c.left, p, root);
         let k = pattern_declarators(t, c.left, p);
-        let u = u.declaration(out, 2, k).to(p);
-        return pa(u, t, out, list, work, d, root, cell_source(o, 1));
+        let u = u.declaration(out, written::LET, k).to(p);
+        return pa(u, t, out, list, work, d, root, cell_source(o, stems::PLACE));
     }
-    let u = w.declaration(out, 2, 1).put2(out, 5, 3).to(p);
-    node(u, t, out, list, work, d).temporary(out, list, work, o, 1)
+    let u = w.declaration(out, written::LET, 1)
+        .put2(out, written::DECLARATOR, written::FIRST_TWO)
+        .to(p);
+    node(u, t, out, list, work, d).temporary(out, list, work, o, stems::PLACE)
 }
 
 // A function body with new statements in front.
@@ -1520,7 +1643,7 @@ fn body(
         list,
         work,
         d,
-        96,
+        LIST_FIELD,
         first_bit(t, p),
         true,
     );
@@ -1560,7 +1683,7 @@ fn bl(
     let more = moved_in(t, under, first, n);
     let kind = peek(t, p);
     match kind {
-        2 => {
+        kinds::BLOCK => {
             let q = step(t, p, 4);
             let k = wide_at(t, q);
             let u = ba(
@@ -1586,7 +1709,7 @@ fn bl(
                 true,
             )
         }
-        13 => {
+        kinds::EMPTY => {
             let u = ba(
                 w.block(out, more),
                 t,
@@ -1628,13 +1751,17 @@ fn fun(w: Walk, t: &[u8], out: &mut [u8], list: &mut [u8], work: &mut [u8], c: P
         if stands(t, c.left, p, 5) {
             let q = step(t, p, 5);
             let bits = peek(t, step(t, p, 1));
-            let s = skip_slot(t, 32, bits / 4 % 2, left, q);
+            let s = skip_slot(t, NODE_FIELD, bits / 4 % 2, left, q);
             let n = wide_at(t, s);
             let first = step(t, s, 2);
             let u = moves_make(w, t, work, left, first, n).copy(t, out, q);
-            let u = slot(u, t, out, list, work, d, 32, bits / 4 % 2, false).copy(t, out, first);
-            let u = seq(u, t, out, list, work, d, false, 11, false, n);
-            let u = slot(u, t, out, list, work, d, 32, bits / 16 % 2, false);
+            let u = slot(u, t, out, list, work, d, NODE_FIELD, bits / 4 % 2, false).copy(
+                t,
+                out,
+                first,
+            );
+            let u = seq(u, t, out, list, work, d, false, modes::BINDING, false, n);
+            let u = slot(u, t, out, list, work, d, NODE_FIELD, bits / 16 % 2, false);
             return body(u, t, out, list, work, d, first, n).to(skip(t, c.left, p));
         }
     }
@@ -1653,8 +1780,8 @@ fn ar(w: Walk, t: &[u8], out: &mut [u8], list: &mut [u8], work: &mut [u8], c: Pl
         let n = wide_at(t, q);
         let first = step(t, q, 2);
         let u = moves_make(w, t, work, left, first, n).copy(t, out, first);
-        let u = seq(u, t, out, list, work, d, false, 11, false, n);
-        let u = slot(u, t, out, list, work, d, 32, second(t, p), false);
+        let u = seq(u, t, out, list, work, d, false, modes::BINDING, false, n);
+        let u = slot(u, t, out, list, work, d, NODE_FIELD, second(t, p), false);
         return eb(u, t, out, list, work, d, first, n).to(skip(t, c.left, p));
     }
     plain(w, t, out, list, work, c)
@@ -1674,12 +1801,13 @@ fn eb(
     ensures { λ r. ⌜ (placeOf c ≡ emit.scoped (placeOf c) → Good (now (t .entry)) (c .left) (w .at) → GoodItems (now (t .entry)) (lookNode (now (t .entry)) (c .left)) (Good (now (t .entry)) (c .left)) false false n first → AllBind false (lookItems (now (t .entry)) (lookNode (now (t .entry)) (c .left)) false n first .value) → (r .at ≡ lookNode (now (t .entry)) (c .left) (w .at) .next) × Does (goingOf (now (out .entry)) (now (list .entry)) (now (work .entry)) w) (goingOf (now (out .exit)) (now (list .exit)) (now (work .exit)) r) (emits (placeOf c) (bodyIn (gather movedFrom (lookItems (now (t .entry)) (lookNode (now (t .entry)) (c .left)) false n first .value)) (lookNode (now (t .entry)) (c .left) (w .at) .value)))) ⌝ }
 {
     let p = w.at;
-    if peek(t, p) == 16 {
+    if peek(t, p) == kinds::FUNCTION_BODY {
         return body(w, t, out, list, work, c, first, n);
     }
     let more = moved_in(t, c.left, first, n);
     let u = ba(
-        w.put2(out, 16, 2).wide(out, more + 1),
+        w.put2(out, written::FUNCTION_BODY, written::SECOND)
+            .wide(out, more + 1),
         t,
         out,
         list,
@@ -1690,7 +1818,9 @@ fn eb(
         n,
     );
     let d = marked(c, u.mark());
-    let u = u.put2(out, 11, 3).new_mark(out).to(p);
+    let u = u.put2(out, written::RETURN, written::FIRST_TWO)
+        .new_mark(out)
+        .to(p);
     node(u, t, out, list, work, d)
 }
 
@@ -1705,7 +1835,7 @@ fn ca(w: Walk, t: &[u8], out: &mut [u8], list: &mut [u8], work: &mut [u8], c: Pl
         if is_moved(t, left, q) {
             let d = scoped(c, left);
             let u = moves_make(w, t, work, left, q, 1).copy(t, out, q);
-            let u = seq(u, t, out, list, work, d, false, 11, false, 1);
+            let u = seq(u, t, out, list, work, d, false, modes::BINDING, false, 1);
             return bl(u, t, out, list, work, d, false, q, 1).to(skip(t, c.left, p));
         }
         return plain(w, t, out, list, work, c);
@@ -1720,14 +1850,14 @@ fn head(w: Walk, t: &[u8], out: &mut [u8], list: &mut [u8], work: &mut [u8], c: 
     let p = w.at;
     let left = less(c.left);
     let q = step(t, p, 4);
-    if peek(t, q) == 4 {
+    if peek(t, q) == kinds::DECLARATION {
         if any_moved(t, left, q, 2) {
             return dh(w, t, out, list, work, c).to(skip(t, c.left, p));
         }
         return plain(w, t, out, list, work, c);
     }
     if has_rest_below_array_rest(t, left, q) {
-        return w.refuse(out, 5).to(skip(t, c.left, p));
+        return w.refuse(out, REST_BELOW_ARRAY_REST).to(skip(t, c.left, p));
     }
     if has_nested_object_rest(t, left, q) {
         return th(w, t, out, list, work, c).to(skip(t, c.left, p));
@@ -1749,7 +1879,18 @@ fn dh(w: Walk, t: &[u8], out: &mut [u8], list: &mut [u8], work: &mut [u8], c: Pl
     let n = wide_at(t, s);
     let first = step(t, s, 2);
     let u = moves_make(w, t, work, under, first, n).copy(t, out, first);
-    let u = seq(u, t, out, list, work, scoped(c, under), false, 11, false, n);
+    let u = seq(
+        u,
+        t,
+        out,
+        list,
+        work,
+        scoped(c, under),
+        false,
+        modes::BINDING,
+        false,
+        n,
+    );
     let u = node(u, t, out, list, work, scoped(c, left));
     let u = bl(u, t, out, list, work, scoped(c, left), true, first, n);
     await_of(u, t, out, p)
@@ -1767,9 +1908,9 @@ fn th(w: Walk, t: &[u8], out: &mut [u8], list: &mut [u8], work: &mut [u8], c: Pl
     let q = step(t, p, 4);
     let d = scoped(c, left);
     let u = w.make(work, q).copy(t, out, q);
-    let u = u.declaration(out, 1, 1)
-        .put2(out, 5, 1)
-        .temporary(out, list, work, q, 1);
+    let u = u.declaration(out, written::VAR, 1)
+        .put2(out, written::DECLARATOR, written::FIRST)
+        .temporary(out, list, work, q, stems::PLACE);
     let u = node(u.to(skip(t, left, q)), t, out, list, work, d);
     let u = tb(u, t, out, list, work, d, q);
     await_of(u, t, out, p)
@@ -1790,7 +1931,7 @@ fn tb(
     let b = w.at;
     let kind = peek(t, b);
     match kind {
-        2 => {
+        kinds::BLOCK => {
             let q = step(t, b, 4);
             let k = wide_at(t, q);
             let u = ta(
@@ -1814,7 +1955,11 @@ fn tb(
                 true,
             )
         }
-        13 => ta(w.block(out, 1), t, out, list, work, scoped(c, c.left), p).to(skip(t, c.left, b)),
+        kinds::EMPTY => ta(w.block(out, 1), t, out, list, work, scoped(c, c.left), p).to(skip(
+            t,
+            c.left,
+            b,
+        )),
         _ => {
             let u = ta(w.block(out, 2), t, out, list, work, scoped(c, c.left), p);
             item(u.to(b), t, out, list, work, scoped(c, c.left), false, true)
@@ -1836,6 +1981,7 @@ fn ta(
 {
     let root = at_root(c);
     let d = statement(c, w.mark());
-    let u = w.put2(out, 3, 3).new_mark(out);
-    an(u, t, out, list, work, d, root, 1, p, false, p)
+    let u = w.put2(out, written::EXPRESSION_STATEMENT, written::FIRST_TWO)
+        .new_mark(out);
+    an(u, t, out, list, work, d, root, ASSIGNS, p, false, p)
 }

@@ -47,6 +47,7 @@ use Rattle.direct.specs.Keys.{stringBytes, entries, hoists}
 use Rattle.direct.specs.Handed.{placeMade, keyMade, keysMade, keyBytes, excludesOf, handsKey, handsKeys, handsPlace, keyBytesOf}
 use Rattle.direct.proofs.Threads.{say-say}
 use Rattle.direct.proofs.RestValues.{entries-are}
+use Rattle.walk.specs.Modes as modes
 use Rattle.walk.specs.Run.{Going, Does}
 use Rattle.walk.specs.Whole.{GoodItems, Good}
 use Rattle.walk.specs.Turns.{ownOf, keyOf, keyClass, keyString}
@@ -69,17 +70,17 @@ cell-4 at = omega arith
 -- ---- one property, by a mode
 
 module _ (q : Node) where
-  key-3 : say (excludes (keyBytesOf (key q))) ≡ keyOf 3 q
+  key-excludes : say (excludes (keyBytesOf (key q))) ≡ keyOf modes.keyExcluded q
   unfolding keyOf keyBytes keyBytesOf
-  key-3 = refl
+  key-excludes = refl
 
-  key-1 : keyMade q ≡ keyOf 1 q
+  key-makes : keyMade q ≡ keyOf modes.keyMade q
   unfolding keyOf
-  key-1 = refl
+  key-makes = refl
 
-  key-else : (mode : ℕ) → (mode ≡ 3 → ⊥) → (mode ≡ 1 → ⊥) → handsKey q ≡ keyOf mode q
+  key-else : (mode : ℕ) → (mode ≡ modes.keyExcluded → ⊥) → (mode ≡ modes.keyMade → ⊥) → handsKey q ≡ keyOf mode q
   unfolding keyOf
-  key-else mode a b = rw (ne-eqb mode 3 a, ne-eqb mode 1 b) refl
+  key-else mode a b = rw (ne-eqb mode modes.keyExcluded a, ne-eqb mode modes.keyMade b) refl
 
   made-yes : isOther (key q) ≡ true → say (does (make (events.cell 4 (position q))) ∷ []) ≡ keyMade q
   unfolding keyMade
@@ -101,15 +102,15 @@ pub three-say : (a b c : List Deed) → say a ▷ say b ▷ say c ≡ say (a ++ 
 three-say a b c = ap (λ (x : Emit). say a ▷ x) (say-say b c) ∙ say-say a (b ++ c)
 
 module _ (t : List ℕ) (left d at k mode : ℕ) (e : d ≡ left - 1) (a : k ≡ onward t at 2) where
-  pub key-excluded : {g g′ : Going} → mode ≡ 3 → (Good t d k → Does g g′ (say (excludes (keyBytesOf (lookNode t d k .value)))))
+  pub key-excluded : {g g′ : Going} → mode ≡ modes.keyExcluded → (Good t d k → Does g g′ (say (excludes (keyBytesOf (lookNode t d k .value)))))
       → Good t left at → byteAt t at ≡ 35 → Does g g′ (keyOf mode (lookNode t left at .value))
   key-excluded {g = g} {g′ = g′} m f good kind =
       at-level t (λ (x : ℕ). Does g g′ (keyOf mode (lookNode t x at .value))) left d at e good
       (λ here.
       let n = lookNode t (suc d) at .value in
-      does-as (f (property-key t d at here kind k a .1)) (ap (λ (x : Node). say (excludes (keyBytesOf x))) (property-key t d at here kind k a .0) ∙ key-3 n ∙ ap (λ (x : ℕ). keyOf x n) (sym m)))
+      does-as (f (property-key t d at here kind k a .1)) (ap (λ (x : Node). say (excludes (keyBytesOf x))) (property-key t d at here kind k a .0) ∙ key-excludes n ∙ ap (λ (x : ℕ). keyOf x n) (sym m)))
 
-  pub key-made : {g g′ : Going} (b : Bool) → b ≡ isOther (lookNode t d k .value) → b ≡ true → mode ≡ 1 → Does g g′ (say (does (make at) ∷ []))
+  pub key-made : {g g′ : Going} (b : Bool) → b ≡ isOther (lookNode t d k .value) → b ≡ true → mode ≡ modes.keyMade → Does g g′ (say (does (make at) ∷ []))
       → Good t left at → byteAt t at ≡ 35 → Does g g′ (keyOf mode (lookNode t left at .value))
   key-made {g = g} {g′ = g′} b f y m h good kind =
       at-level t (λ (x : ℕ). Does g g′ (keyOf mode (lookNode t x at .value))) left d at e good
@@ -117,9 +118,9 @@ module _ (t : List ℕ) (left d at k mode : ℕ) (e : d ≡ left - 1) (a : k ≡
       let n = lookNode t (suc d) at .value in
       let o : isOther (key n) ≡ true = ap isOther (sym (property-key t d at here kind k a .0)) ∙ sym f ∙ y in
       let c : at ≡ events.cell 4 (position n) = cell-4 at ∙ ap (events.cell 4) (sym (position-here t (suc d) at)) in
-      does-as h (ap (λ (x : ℕ). say (does (make x) ∷ [])) c ∙ made-yes n o ∙ key-1 n ∙ ap (λ (x : ℕ). keyOf x n) (sym m)))
+      does-as h (ap (λ (x : ℕ). say (does (make x) ∷ [])) c ∙ made-yes n o ∙ key-makes n ∙ ap (λ (x : ℕ). keyOf x n) (sym m)))
 
-  pub key-listed : {g g₁ g₂ g′ : Going} (b : Bool) (end : ℕ) → b ≡ isOther (lookNode t d k .value) → b ≡ true → (mode ≡ 3 → ⊥) → (mode ≡ 1 → ⊥) → end ≡ lookNode t d k .next
+  pub key-listed : {g g₁ g₂ g′ : Going} (b : Bool) (end : ℕ) → b ≡ isOther (lookNode t d k .value) → b ≡ true → (mode ≡ modes.keyExcluded → ⊥) → (mode ≡ modes.keyMade → ⊥) → end ≡ lookNode t d k .next
       → Does g g₁ (say (lists (5 ∷ 3 ∷ []))) → Does g₁ g₂ (say (does (listedTemporary at 4) ∷ [])) → Does g₂ g′ (say (lists (part k end t)))
       → Good t left at → byteAt t at ≡ 35 → Does g g′ (keyOf mode (lookNode t left at .value))
   key-listed {g = g} {g′ = g′} b end f y m m′ w h i j good kind =
@@ -134,7 +135,7 @@ module _ (t : List ℕ) (left d at k mode : ℕ) (e : d ≡ left - 1) (a : k ≡
       ∙ ap₂ (λ (x : ℕ) (bs : List ℕ). say (lists (5 ∷ 3 ∷ []) ++ (does (listedTemporary x 4) ∷ lists bs))) c bytes
       ∙ hands-yes n o ∙ key-else n mode m m′))
 
-  pub key-none : {g : Going} (b : Bool) → b ≡ isOther (lookNode t d k .value) → b ≡ false → (mode ≡ 3 → ⊥)
+  pub key-none : {g : Going} (b : Bool) → b ≡ isOther (lookNode t d k .value) → b ≡ false → (mode ≡ modes.keyExcluded → ⊥)
       → Good t left at → byteAt t at ≡ 35 → Does g g (keyOf mode (lookNode t left at .value))
   key-none {g = g} b f y m good kind =
       at-level t (λ (x : ℕ). Does g g (keyOf mode (lookNode t x at .value))) left d at e good
@@ -142,9 +143,9 @@ module _ (t : List ℕ) (left d at k mode : ℕ) (e : d ≡ left - 1) (a : k ≡
       let n = lookNode t (suc d) at .value in
       let o : isOther (key n) ≡ false = ap isOther (sym (property-key t d at here kind k a .0)) ∙ sym f ∙ y in
       does-as (does-nothing g)
-      (by-test (eqb mode 1)
-      (λ x. made-no n o ∙ key-1 n ∙ ap (λ (z : ℕ). keyOf z n) (sym (eqb-true mode 1 x)))
-      (λ x. hands-no n o ∙ key-else n mode m (λ z. true≢false (sym (eq-eqb mode 1 z) ∙ x)))))
+      (by-test (eqb mode modes.keyMade)
+      (λ x. made-no n o ∙ key-makes n ∙ ap (λ (z : ℕ). keyOf z n) (sym (eqb-true mode 1 x)))
+      (λ x. hands-no n o ∙ key-else n mode m (λ z. true≢false (sym (eq-eqb mode modes.keyMade z) ∙ x)))))
 
 -- all properties of an object
 module _ (t : List ℕ) (left d at q p n : ℕ) (e : d ≡ left - 1) (a : q ≡ onward t at 2) (b : p ≡ onward t q 2) (w : Wide t q n) where
@@ -172,7 +173,7 @@ module _ (t : List ℕ) where
     pub bytes : stringBytes (part p (p + n) t) ≡ keyBytesOf k
 
   -- a key that is written as a string, by its class
-  bytes-string : (k : Node) → keyClass k ≡ 1 → keyString k ≡ keyBytesOf k
+  bytes-string : (k : Node) → keyClass k ≡ modes.asString → keyString k ≡ keyBytesOf k
   unfolding keyClass keyString keyBytesOf
   bytes-string k h = go (keySort k) h
     where
@@ -194,7 +195,7 @@ module _ (t : List ℕ) where
       go again h = absurd (omega arith)
       go other h = absurd (omega arith)
 
-  as-spelt : (k : Node) (p n : ℕ) → keyClass k ≡ 1 → Spelt t k p n → KeyAs k p n
+  as-spelt : (k : Node) (p n : ℕ) → keyClass k ≡ modes.asString → Spelt t k p n → KeyAs k p n
   as-spelt k p n h s = record { small = s .small; room = s .within; bytes = s .string ∙ bytes-string k h }
 
   module _ (d at : ℕ) where
@@ -213,7 +214,7 @@ module _ (t : List ℕ) where
     Plain k Again = [] ≡ keyBytesOf k
     Plain k Other = [] ≡ keyBytesOf k
 
-    class-plain : (k : Node) (x : Key) → classOf x ≡ 1 → Plain k x
+    class-plain : (k : Node) (x : Key) → classOf x ≡ modes.asString → Plain k x
     class-plain k (Name p n) h = tt
     class-plain k (Literal p n) h = tt
     class-plain k (variants.Number v) h = tt
@@ -259,7 +260,7 @@ module _ (t : List ℕ) where
     formless-does f k good = string-does 0 0 k (as-spelt that 0 0 (sym (key-class t d at r NoForm b f)) (bare-spelt t d at r b good f))
 
     -- the digits of a number
-    pub number-does : {g g′ : Going} (x : Key) → r ≡ x → classOf x ≡ 1 → Does g g′ (say (excludes (stringBytes (entryText t x)))) → Good t d at → Does g g′ (say (excludes (keyBytesOf that)))
+    pub number-does : {g g′ : Going} (x : Key) → r ≡ x → classOf x ≡ modes.asString → Does g g′ (say (excludes (stringBytes (entryText t x)))) → Good t d at → Does g g′ (say (excludes (keyBytesOf that)))
     number-does x f h k good =
         does-as k (ap (λ (bs : List ℕ). say (excludes bs)) (sym (string-is t d at r x b f h) ∙ bytes-string that (sym (key-class t d at r x b f) ∙ h)))
 
@@ -284,7 +285,7 @@ module _ (t : List ℕ) where
 
 module _ (root : Bool) (o : Node) where
   excludes-yes : hoists root (properties o) ≡ true
-      → say (does declarator ∷ does (excludedTemporary (events.cell 2 (position o)) 2) ∷ excludes (32 ∷ 1 ∷ wideBytes (entries (properties o)))) ▷ inTurn (keyOf 3) (properties o) ≡ excludesOf root o
+      → say (does declarator ∷ does (excludedTemporary (events.cell 2 (position o)) 2) ∷ excludes (32 ∷ 1 ∷ wideBytes (entries (properties o)))) ▷ inTurn (keyOf modes.keyExcluded) (properties o) ≡ excludesOf root o
   unfolding excludesOf keyOf
   excludes-yes e = rw e refl
 
@@ -308,37 +309,37 @@ module _ (t : List ℕ) (left at : ℕ) (root b : Bool) (e : b ≡ hoists root (
 
   pub exclude-does : {g g₁ g₂ : Going} (k x : ℕ) → b ≡ true → ((c : Context) → k ≡ limited (count (excludedKeys c object))) → (at < 16384 → 0 < 2 → 2 < 5 → x ≡ events.cell 2 at)
       → (k < 65536 → Does g g₁ (say (does declarator ∷ does (excludedTemporary x 2) ∷ excludes (32 ∷ 1 ∷ wideBytes k))))
-      → (Good t left at → byteAt t at ≡ 34 → Does g₁ g₂ (inTurn (keyOf 3) (properties object)))
+      → (Good t left at → byteAt t at ≡ 34 → Does g₁ g₂ (inTurn (keyOf modes.keyExcluded) (properties object)))
       → Good t left at → byteAt t at ≡ 34 → Does g g₂ (excludesOf root object)
   exclude-does k x z h c f i good kind =
       let n = number-is good k h in
       let y : x ≡ events.cell 2 (position object) = c (omega (arith, good-within t left at good)) (omega arith) (omega arith) ∙ ap (events.cell 2) (sym (position-here t left at)) in
       does-as (does-then (f (n .1)) (i good kind))
-      (ap₂ (λ (a m : ℕ). say (does declarator ∷ does (excludedTemporary a 2) ∷ excludes (32 ∷ 1 ∷ wideBytes m)) ▷ inTurn (keyOf 3) (properties object)) y (n .0)
+      (ap₂ (λ (a m : ℕ). say (does declarator ∷ does (excludedTemporary a 2) ∷ excludes (32 ∷ 1 ∷ wideBytes m)) ▷ inTurn (keyOf modes.keyExcluded) (properties object)) y (n .0)
       ∙ excludes-yes root object (sym e ∙ z))
 
 -- ---- an object, by the mode
 
 module _ (o : Node) where
-  own-1 : placeMade o ≡ ownOf 1 o
+  own-place : placeMade o ≡ ownOf modes.makePlace o
   unfolding ownOf
-  own-1 = refl
+  own-place = refl
 
-  own-2 : inTurn (keyOf 1) (properties o) ≡ ownOf 2 o
+  own-keys : inTurn (keyOf modes.keyMade) (properties o) ≡ ownOf modes.makeKeys o
   unfolding ownOf keysMade keyOf
-  own-2 = refl
+  own-keys = refl
 
-  own-3 : excludesOf false o ≡ ownOf 3 o
+  own-excludes : excludesOf false o ≡ ownOf modes.excludeKeys o
   unfolding ownOf
-  own-3 = refl
+  own-excludes = refl
 
-  pub hands-turn : inTurn (keyOf 2) (properties o) ≡ handsKeys o
+  pub hands-turn : inTurn (keyOf modes.keyListed) (properties o) ≡ handsKeys o
   unfolding handsKeys keyOf
   hands-turn = refl
 
-  own-else : (mode : ℕ) → (mode ≡ 1 → ⊥) → (mode ≡ 2 → ⊥) → (mode ≡ 3 → ⊥) → excludesOf true o ≡ ownOf mode o
+  own-else : (mode : ℕ) → (mode ≡ modes.makePlace → ⊥) → (mode ≡ modes.makeKeys → ⊥) → (mode ≡ modes.excludeKeys → ⊥) → excludesOf true o ≡ ownOf mode o
   unfolding ownOf
-  own-else mode a b c = rw (ne-eqb mode 1 a, ne-eqb mode 2 b, ne-eqb mode 3 c) refl
+  own-else mode a b c = rw (ne-eqb mode modes.makePlace a, ne-eqb mode modes.makeKeys b, ne-eqb mode modes.excludeKeys c) refl
 
   place-made : say (does (make (events.cell 1 (position o))) ∷ []) ≡ placeMade o
   unfolding placeMade
@@ -358,16 +359,16 @@ module _ (t : List ℕ) (left at mode : ℕ) where
   by-mode : {g g′ : Going} (m : ℕ) → mode ≡ m → Does g g′ (ownOf m object-at) → Does g g′ (ownOf mode object-at)
   by-mode m e k = does-as k (ap (λ (x : ℕ). ownOf x object-at) (sym e))
 
-  pub object-made : {g g′ : Going} → mode ≡ 1 → Does g g′ (say (does (make at) ∷ [])) → Does g g′ (ownOf mode object-at)
-  object-made e k = by-mode 1 e (does-as k (ap (λ (x : ℕ). say (does (make x) ∷ [])) place ∙ place-made object-at ∙ own-1 object-at))
+  pub object-made : {g g′ : Going} → mode ≡ modes.makePlace → Does g g′ (say (does (make at) ∷ [])) → Does g g′ (ownOf mode object-at)
+  object-made e k = by-mode 1 e (does-as k (ap (λ (x : ℕ). say (does (make x) ∷ [])) place ∙ place-made object-at ∙ own-place object-at))
 
-  pub object-keys : {g g′ : Going} → mode ≡ 2 → Does g g′ (inTurn (keyOf 1) (properties object-at)) → Does g g′ (ownOf mode object-at)
-  object-keys e k = by-mode 2 e (does-as k (own-2 object-at))
+  pub object-keys : {g g′ : Going} → mode ≡ modes.makeKeys → Does g g′ (inTurn (keyOf modes.keyMade) (properties object-at)) → Does g g′ (ownOf mode object-at)
+  object-keys e k = by-mode 2 e (does-as k (own-keys object-at))
 
-  pub object-excludes : {g g′ : Going} → mode ≡ 3 → Does g g′ (excludesOf false object-at) → Does g g′ (ownOf mode object-at)
-  object-excludes e k = by-mode 3 e (does-as k (own-3 object-at))
+  pub object-excludes : {g g′ : Going} → mode ≡ modes.excludeKeys → Does g g′ (excludesOf false object-at) → Does g g′ (ownOf mode object-at)
+  object-excludes e k = by-mode 3 e (does-as k (own-excludes object-at))
 
-  pub object-excludes-root : {g g′ : Going} → (mode ≡ 1 → ⊥) → (mode ≡ 2 → ⊥) → (mode ≡ 3 → ⊥) → Does g g′ (excludesOf true object-at) → Does g g′ (ownOf mode object-at)
+  pub object-excludes-root : {g g′ : Going} → (mode ≡ modes.makePlace → ⊥) → (mode ≡ modes.makeKeys → ⊥) → (mode ≡ modes.excludeKeys → ⊥) → Does g g′ (excludesOf true object-at) → Does g g′ (ownOf mode object-at)
   object-excludes-root a b c k = does-as k (own-else object-at mode a b c)
 
   -- its place is listed

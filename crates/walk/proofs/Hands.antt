@@ -28,9 +28,10 @@ use Rattle.direct.specs.Objects.{overObjects}
 use Rattle.direct.proofs.Threads.{say-nothing}
 use Rattle.direct.proofs.ObjectsByLevel.{Keyed, over-object, over-keyed, over-taken, over-array, over-default, over-leaf}
 use Rattle.direct.proofs.HandedByObject.{place-keyed, keys-keyed, excludes-keyed}
+use Rattle.walk.specs.Modes as modes
 use Rattle.walk.specs.Run.{Going, Does}
 use Rattle.walk.specs.Whole.{holeAt, GoodItem, GoodItems, Good}
-use Rattle.walk.specs.Turns.{viewOf, ownOf, overAll}
+use Rattle.walk.specs.Turns.{viewOf, ownOf, overAll, valuesIn}
 use Rattle.walk.proofs.Running.{does-then, does-nothing, does-as}
 use Rattle.walk.proofs.Emits.{Onto, onto-start, onto-more, onto-end, good-item, good-items, item-next, full, is-hole, no-hole}
 use Rattle.walk.proofs.Opened.{leaf-here, no-good, object-open, array-open, property-open, default-open}
@@ -128,28 +129,25 @@ solid-more t d P f {g = g} {g′ = g′} n₀ p₀ n p q z e l k =
 own-keyed : (mode : ℕ) → Keyed (ownOf mode)
 unfolding ownOf
 own-keyed mode g at ps r = λ i.
-    cond (eqb mode 1) ((place-keyed g at ps r) i)
-    (cond (eqb mode 2) ((keys-keyed g at ps r) i) (cond (eqb mode 3) ((excludes-keyed false g at ps r) i) ((excludes-keyed true g at ps r) i)))
+    cond (eqb mode modes.makePlace) ((place-keyed g at ps r) i)
+    (cond (eqb mode modes.makeKeys) ((keys-keyed g at ps r) i) (cond (eqb mode modes.excludeKeys) ((excludes-keyed false g at ps r) i) ((excludes-keyed true g at ps r) i)))
 
 -- views by number
-abbrev valuesIn : ℕ → ℕ
-valuesIn v = cond (eqb v 2) 1 v
-
 values-in : (v : ℕ) → viewOf (valuesIn v) ≡ replacing
 unfolding viewOf
-values-in v = by-test (eqb v 2) (λ e. rw e refl) (λ e. rw (e, e) refl)
+values-in v = by-test (eqb v modes.takingView) (λ e. rw e refl) (λ e. rw (e, e) refl)
 
-replaced-view : (v : ℕ) → cond (eqb v 2) false true ≡ true → viewOf v ≡ replacing
+replaced-view : (v : ℕ) → cond (eqb v modes.takingView) false true ≡ true → viewOf v ≡ replacing
 unfolding viewOf
-replaced-view v = go (eqb v 2)
+replaced-view v = go (eqb v modes.takingView)
   where
     go : (a : Bool) → cond a false true ≡ true → cond a taking replacing ≡ replacing
     go true h = absurd (false≢true h)
     go false h = refl
 
-taken-view : (v : ℕ) → cond (eqb v 2) false true ≡ false → takes (viewOf v) ≡ true
+taken-view : (v : ℕ) → cond (eqb v modes.takingView) false true ≡ false → takes (viewOf v) ≡ true
 unfolding viewOf
-taken-view v = go (eqb v 2)
+taken-view v = go (eqb v modes.takingView)
   where
     go : (a : Bool) → cond a false true ≡ false → takes (cond a taking replacing) ≡ true
     go true h = refl
@@ -169,7 +167,7 @@ module _ (mode v : ℕ) where
   all-object : (at : ℕ) (ps : Items) → overAll mode v (objectAt at ps) ≡ inTurn (λ q. overAll mode (valuesIn v) (value q)) ps
   all-object at ps = all-view mode v (objectAt at ps) ∙ over-object (ownOf mode) (viewOf v) at ps ∙ in-values ps
 
-  all-rest : cond (eqb v 2) false true ≡ true → (at : ℕ) (ps : Items) (r : Node)
+  all-rest : cond (eqb v modes.takingView) false true ≡ true → (at : ℕ) (ps : Items) (r : Node)
       → overAll mode v (objectRestAt at ps r) ≡ inTurn (λ q. overAll mode (valuesIn v) (value q)) ps ▷ ownOf mode (objectRestAt at ps r)
   all-rest h at ps r =
       let o = objectRestAt at ps r in
@@ -178,11 +176,11 @@ module _ (mode v : ℕ) where
       ∙ over-keyed (ownOf mode) (own-keyed mode) at ps r
       ∙ ap (λ (x : Emit). x ▷ ownOf mode o) (in-values ps)
 
-  all-taken : cond (eqb v 2) false true ≡ false → (at : ℕ) (ps : Items) (r : Node)
+  all-taken : cond (eqb v modes.takingView) false true ≡ false → (at : ℕ) (ps : Items) (r : Node)
       → overAll mode v (objectRestAt at ps r) ≡ inTurn (λ q. overAll mode (valuesIn v) (value q)) ps
   all-taken h at ps r = all-view mode v (objectRestAt at ps r) ∙ over-taken (ownOf mode) (viewOf v) (taken-view v h) at ps r ∙ in-values ps
 
-  all-array : (at : ℕ) (ns : Items) (fs : Fields) → overAll mode v (node at 36 (field (list ns) fs)) ≡ inTurn (overAll mode 1) ns
+  all-array : (at : ℕ) (ns : Items) (fs : Fields) → overAll mode v (node at 36 (field (list ns) fs)) ≡ inTurn (overAll mode modes.replacingView) ns
   all-array at ns fs =
       all-view mode v (node at 36 (field (list ns) fs))
       ∙ over-array (ownOf mode) (viewOf v) at ns fs
@@ -210,7 +208,7 @@ module _ (t : List ℕ) where
   leaf-does zero at b v mode e x y z good = no-good t at good
   leaf-does {g = g} (suc d) at b v mode e x y z good = does-as (does-nothing g) (sym (all-leaf mode v (lookNode t (suc d) at .value) (leaf-here t d at b e x y z)))
 
-  pub default-does : {g g′ : Going} (left d at p v v′ mode : ℕ) → d ≡ left - 1 → p ≡ onward t at 2 → v′ ≡ cond (eqb v 2) 1 v → (Good t d p → Does g g′ (overAll mode v′ (lookNode t d p .value)))
+  pub default-does : {g g′ : Going} (left d at p v v′ mode : ℕ) → d ≡ left - 1 → p ≡ onward t at 2 → v′ ≡ valuesIn v → (Good t d p → Does g g′ (overAll mode v′ (lookNode t d p .value)))
       → byteAt t at ≡ 37 → Good t left at → Does g g′ (overAll mode v (lookNode t left at .value))
   default-does {g = g} {g′ = g′} left d at p v v′ mode e a b k kind good =
       at-level (λ (m : ℕ). Does g g′ (overAll mode v (lookNode t m at .value))) left d at e good
@@ -236,7 +234,7 @@ module _ (t : List ℕ) where
     pub list-from : (F : ℕ → ℕ → Type 0) → F n p → F (wideAt t (onward t at 2)) (onward t (onward t at 2) 2)
     list-from F x = subst (λ (m : ℕ). F m (onward t (onward t at 2) 2)) (w .value ∙ ap (λ (y : ℕ). wideAt t y) a) (subst (λ (y : ℕ). F n y) (b ∙ ap (λ (y : ℕ). onward t y 2) a) x)
 
-    module _ {g g₁ : Going} (v v′ mode : ℕ) (r : Bool) (c : v′ ≡ cond (eqb v 2) 1 v) (f : r ≡ cond (eqb v 2) false (eqb (byteAt t (onward t at 1) / 2 % 2) 1))
+    module _ {g g₁ : Going} (v v′ mode : ℕ) (r : Bool) (c : v′ ≡ valuesIn v) (f : r ≡ cond (eqb v modes.takingView) false (eqb (byteAt t (onward t at 1) / 2 % 2) 1))
         (k : GoodItems t (lookNode t d) (Good t d) false false n p → AllItems (λ q. is 35 q ≡ true) (lookItems t (lookNode t d) false n p .value)
         → Does g g₁ (inTurn (λ q. overAll mode v′ (value q)) (lookItems t (lookNode t d) false n p .value))) where
       abbrev N : ℕ
@@ -259,8 +257,8 @@ module _ (t : List ℕ) where
           → Good t left at → byteAt t at ≡ 34 → Does g g₂ (overAll mode v (lookNode t left at .value))
       own-does {g₂ = g₂} z o good kind =
           let h = sym f ∙ z in
-          let bit : eqb (byteAt t (onward t at 1) / 2 % 2) 1 ≡ true = bit-of (eqb v 2) (eqb (byteAt t (onward t at 1) / 2 % 2) 1) h in
-          let h′ : cond (eqb v 2) false true ≡ true = ap (λ (x : Bool). cond (eqb v 2) false x) (sym bit) ∙ h in
+          let bit : eqb (byteAt t (onward t at 1) / 2 % 2) 1 ≡ true = bit-of (eqb v modes.takingView) (eqb (byteAt t (onward t at 1) / 2 % 2) 1) h in
+          let h′ : cond (eqb v modes.takingView) false true ≡ true = ap (λ (x : Bool). cond (eqb v modes.takingView) false x) (sym bit) ∙ h in
           at-level (λ (m : ℕ). Does g₁ g₂ (ownOf mode (lookNode t m at .value)) → Does g g₂ (overAll mode v (lookNode t m at .value))) left d at e good
           (λ here own.
           let u = object-open t d at here kind in
@@ -278,19 +276,19 @@ module _ (t : List ℕ) where
           let done = values (u .list .good) (u .properties) in
           by-test (eqb (byteAt t (onward t at 1) / 2 % 2) 1)
           (λ bit.
-          let h : cond (eqb v 2) false true ≡ false = ap (λ (x : Bool). cond (eqb v 2) false x) (sym bit) ∙ sym f ∙ z in
+          let h : cond (eqb v modes.takingView) false true ≡ false = ap (λ (x : Bool). cond (eqb v modes.takingView) false x) (sym bit) ∙ sym f ∙ z in
           does-as done (sym (all-taken mode v h at ps _) ∙ ap (λ (s : Seen Node). overAll mode v (s .value)) (sym (u .resting bit))))
           (λ bit. does-as done (sym (all-object mode v at ps) ∙ ap (λ (s : Seen Node). overAll mode v (s .value)) (sym (u .plain bit)))))
 
     pub array-does : {g g₁ : Going} (v mode : ℕ)
-        → (GoodItems t (lookNode t d) (Good t d) false true n p → Does g g₁ (inTurn (overAll mode 1) (lookItems t (lookNode t d) true n p .value)))
+        → (GoodItems t (lookNode t d) (Good t d) false true n p → Does g g₁ (inTurn (overAll mode modes.replacingView) (lookItems t (lookNode t d) true n p .value)))
         → Good t left at → byteAt t at ≡ 36 → Does g g₁ (overAll mode v (lookNode t left at .value))
     array-does {g = g} {g₁ = g₁} v mode k good kind =
         at-level (λ (m : ℕ). Does g g₁ (overAll mode v (lookNode t m at .value))) left d at e good
         (λ here.
         let u = array-open t d at here kind in
         let ns = lookItems t (lookNode t d) true (wideAt t (onward t at 2)) (onward t (onward t at 2) 2) .value in
-        let done : Does g g₁ (inTurn (overAll mode 1) ns) = list-from (λ (m y : ℕ). GoodItems t (lookNode t d) (Good t d) false true m y → Does g g₁ (inTurn (overAll mode 1) (lookItems t (lookNode t d) true m y .value))) k (u .list .good) in
+        let done : Does g g₁ (inTurn (overAll mode modes.replacingView) ns) = list-from (λ (m y : ℕ). GoodItems t (lookNode t d) (Good t d) false true m y → Does g g₁ (inTurn (overAll mode modes.replacingView) (lookItems t (lookNode t d) true m y .value))) k (u .list .good) in
         by-test (eqb (byteAt t (onward t at 1) / 2 % 2) 1)
         (λ bit. does-as done (sym (all-array mode v at ns _) ∙ ap (λ (s : Seen Node). overAll mode v (s .value)) (sym (u .resting bit))))
         (λ bit. does-as done (sym (all-array mode v at ns _) ∙ ap (λ (s : Seen Node). overAll mode v (s .value)) (sym (u .plain bit)))))
@@ -306,14 +304,14 @@ module _ (t : List ℕ) where
 
 -- ---- tests of the view
 
-pub values-taking : (v : ℕ) → v ≡ 2 → 1 ≡ cond (eqb v 2) 1 v
+pub values-taking : (v : ℕ) → v ≡ modes.takingView → modes.replacingView ≡ valuesIn v
 values-taking v e = rw (eq-eqb v 2 e) refl
 
-pub values-same : (v : ℕ) → (v ≡ 2 → ⊥) → v ≡ cond (eqb v 2) 1 v
+pub values-same : (v : ℕ) → (v ≡ modes.takingView → ⊥) → v ≡ valuesIn v
 values-same v e = rw (ne-eqb v 2 e) refl
 
-pub replaces-taking : (v : ℕ) (b : Bool) → v ≡ 2 → false ≡ cond (eqb v 2) false b
+pub replaces-taking : (v : ℕ) (b : Bool) → v ≡ modes.takingView → false ≡ cond (eqb v modes.takingView) false b
 replaces-taking v b e = rw (eq-eqb v 2 e) refl
 
-pub replaces-rest : (v : ℕ) (r b : Bool) → (v ≡ 2 → ⊥) → r ≡ b → r ≡ cond (eqb v 2) false b
+pub replaces-rest : (v : ℕ) (r b : Bool) → (v ≡ modes.takingView → ⊥) → r ≡ b → r ≡ cond (eqb v modes.takingView) false b
 replaces-rest v r b x e = rw (ne-eqb v 2 x) e

@@ -36,6 +36,7 @@ use Rattle.direct.specs.Views.{isOther}
 use Rattle.direct.specs.Keys.{primitives, hoists}
 use Rattle.direct.specs.Moved.{number}
 use Rattle.direct.proofs.MovedMade.{number-join}
+use Rattle.walk.specs.Modes as modes
 use Rattle.walk.specs.declared.look.Start.the-variants as start
 use Rattle.walk.specs.Turns.{keyClass, startOf}
 use Rattle.lowering.proofs.ItemLaws.{count-append}
@@ -96,17 +97,17 @@ cell-here (suc (suc (suc (suc (suc s))))) at a b h = absurd (omega arith)
 
 -- the class of a key that was read
 abbrev pub classOf : Key → ℕ
-classOf (Name p n) = 1
-classOf (Literal p n) = 1
-classOf (variants.Number v) = 1
-classOf (OtherForm v) = 1
-classOf NoForm = 1
-classOf Template = 2
-classOf Private = 3
-classOf Again = 2
-classOf Other = 4
+classOf (Name p n) = modes.asString
+classOf (Literal p n) = modes.asString
+classOf (variants.Number v) = modes.asString
+classOf (OtherForm v) = modes.asString
+classOf NoForm = modes.asString
+classOf Template = modes.asItStands
+classOf Private = modes.leftOut
+classOf Again = modes.asItStands
+classOf Other = modes.asTemporary
 
-pub class-name : (p : Part) → classOf (nameIn p) ≡ 1
+pub class-name : (p : Part) → classOf (nameIn p) ≡ modes.asString
 unfolding nameIn
 class-name (One q) = refl
 class-name (Many h n p) = refl
@@ -114,7 +115,7 @@ class-name (Text p n) = refl
 class-name Number = refl
 class-name Missing = refl
 
-class-form : (p : Part) → classOf (formIn p) ≡ 1
+class-form : (p : Part) → classOf (formIn p) ≡ modes.asString
 unfolding formIn
 class-form (One q) = refl
 class-form (Many h n p) = refl
@@ -122,29 +123,29 @@ class-form (Text p n) = refl
 class-form Number = refl
 class-form Missing = refl
 
-class-beside : (l : List ℕ) (v : ℕ) (k : Key) (p : Part) → classOf k ≡ 1 → classOf (besideForm l v k p) ≡ 1
+class-beside : (l : List ℕ) (v : ℕ) (k : Key) (p : Part) → classOf k ≡ modes.asString → classOf (besideForm l v k p) ≡ modes.asString
 unfolding besideForm
 class-beside l v k p h = go (standing p) (isStringOf v (spelledAs (textIn l p)))
   where
-    go : (b f : Bool) → classOf (cond b (cond f (formIn p) (OtherForm v)) k) ≡ 1
+    go : (b f : Bool) → classOf (cond b (cond f (formIn p) (OtherForm v)) k) ≡ modes.asString
     go true true = class-form p
     go true false = refl
     go false f = h
 
-class-literal : (l : List ℕ) (x : Spelling) (s p : Part) → classOf (literalBy l x s p) ≡ 1
+class-literal : (l : List ℕ) (x : Spelling) (s p : Part) → classOf (literalBy l x s p) ≡ modes.asString
 unfolding literalBy
 class-literal l (Decimal v) s p = class-beside l v (formIn s) p (class-form s)
 class-literal l (Hexadecimal v) s p = class-beside l v (variants.Number v) p refl
 class-literal l Another s p = class-form p
 
-pub class-here : (l : List ℕ) (d at : ℕ) → classOf (literalAt l d at) ≡ 1
+pub class-here : (l : List ℕ) (d at : ℕ) → classOf (literalAt l d at) ≡ modes.asString
 unfolding literalAt literalIn
 class-here l d at = class-literal l _ (partAt l d at 1) (partAt l d at 2)
 
 abbrev sortClass : lowering.Key → ℕ
-sortClass s = elim (entryOf s) [ spelt ↦ 1 | itself ↦ 2 | omitted ↦ 3 | saved ↦ 4 ]
+sortClass s = elim (entryOf s) [ spelt ↦ modes.asString | itself ↦ modes.asItStands | omitted ↦ modes.leftOut | saved ↦ modes.asTemporary ]
 
-class-by : (s : lowering.Key) (p : Part) (k : Key) → classOf k ≡ 1 → classOf (keyBy s p k) ≡ sortClass s
+class-by : (s : lowering.Key) (p : Part) (k : Key) → classOf k ≡ modes.asString → classOf (keyBy s p k) ≡ sortClass s
 class-by lowering.Key.name p k h = class-name p
 class-by lowering.Key.literal p k h = h
 class-by lowering.Key.template p k h = refl
@@ -170,11 +171,11 @@ pub static-class : (l : List ℕ) (d at k : ℕ) → 0 < d → k ≡ byteAt l at
 static-class l d at k z e y =
     ap sortClass (sym (static-sort (lookNode l d at .value) (kind-is l d at k (λ n. absurd (omega arith)) e ∙ y))) ∙ class-is (lookNode l d at .value)
 
-pub other-is : (k : Node) (n : ℕ) → n ≡ keyClass k → eqb n 4 ≡ isOther k
+pub other-is : (k : Node) (n : ℕ) → n ≡ keyClass k → eqb n modes.asTemporary ≡ isOther k
 unfolding keyClass isOther
-other-is k n e = ap (λ (x : ℕ). eqb x 4) e ∙ go (keySort k)
+other-is k n e = ap (λ (x : ℕ). eqb x modes.asTemporary) e ∙ go (keySort k)
   where
-    go : (s : lowering.Key) → eqb (sortClass s) 4 ≡ elim (entryOf s) [ spelt ↦ false | itself ↦ false | omitted ↦ false | saved ↦ true ]
+    go : (s : lowering.Key) → eqb (sortClass s) modes.asTemporary ≡ elim (entryOf s) [ spelt ↦ false | itself ↦ false | omitted ↦ false | saved ↦ true ]
     go lowering.Key.name = refl
     go lowering.Key.literal = refl
     go lowering.Key.template = refl

@@ -44,6 +44,7 @@ use Rattle.pattern.specs.Keys.{nameIn, formIn, besideForm, literalBy, literalIn
 use Rattle.pattern.specs.Source.{readOf}
 use Rattle.pattern.proofs.KeyCases.{by-sort}
 use Rattle.direct.proofs.RestValues.{key-spelt}
+use Rattle.walk.specs.Modes as modes
 use Rattle.walk.proofs.KeyLengths.{ShortString, promised-short}
 use Rattle.direct.specs.Events.{Emit, puts, excludes}
 use Rattle.direct.specs.Events.Deed.{does}
@@ -241,7 +242,7 @@ entryText t Private = []
 entryText t Again = []
 entryText t Other = []
 
-entry-string : (t : List ℕ) (c : Context) (q : Node) (k : Key) → classOf k ≡ 1 → keyEntry t c q k ≡ only (string (entryText t k))
+entry-string : (t : List ℕ) (c : Context) (q : Node) (k : Key) → classOf k ≡ modes.asString → keyEntry t c q k ≡ only (string (entryText t k))
 entry-string t c q (Name p n) h = refl
 entry-string t c q (Literal p n) h = refl
 entry-string t c q (variants.Number v) h = refl
@@ -262,7 +263,7 @@ string-text : (bs : List ℕ) → firstText (only (string bs)) ≡ bs
 unfolding textAt pieceIn
 string-text bs = refl
 
-class-spelt : (k : Node) → keyClass k ≡ 1 → entryOf (keySort k) ≡ spelt
+class-spelt : (k : Node) → keyClass k ≡ modes.asString → entryOf (keySort k) ≡ spelt
 unfolding keyClass
 class-spelt k h = go (entryOf (keySort k)) h
   where
@@ -291,8 +292,8 @@ module _ (t : List ℕ) (d at : ℕ) where
   property-key = refl
 
   -- the text by what the key becomes
-  module _ (r x : Key) (b : Becomes t d at r) (e : r ≡ x) (h : classOf x ≡ 1) where
-    class-one : keyClass here ≡ 1
+  module _ (r x : Key) (b : Becomes t d at r) (e : r ≡ x) (h : classOf x ≡ modes.asString) where
+    class-one : keyClass here ≡ modes.asString
     class-one = sym (key-class t d at r x b e) ∙ h
 
     pub key-text : keyText here ≡ entryText t x
@@ -333,7 +334,7 @@ module _ (t : List ℕ) (d at : ℕ) where
       (λ s. rw (s, keyText) (omega arith))
 
   -- bytes of the input
-  spelt-at : (r x : Key) (from n : ℕ) → Becomes t d at r → r ≡ x → classOf x ≡ 1 → Good t d at → from + n ≤ length t → entryText t x ≡ take n (drop from t) → Spelt t here from n
+  spelt-at : (r x : Key) (from n : ℕ) → Becomes t d at r → r ≡ x → classOf x ≡ modes.asString → Good t d at → from + n ≤ length t → entryText t x ≡ take n (drop from t) → Spelt t here from n
   unfolding part
   spelt-at r x from n b e h g w y =
       let a : length (keyText here) ≡ n = ap length (key-text r x b e h ∙ y) ∙ length-take-le n (drop from t) (simp length-drop (omega arith)) in
@@ -355,7 +356,7 @@ module _ (t : List ℕ) (d at : ℕ) where
   bare-spelt r b g e = spelt-at r NoForm 0 0 b e refl g (omega arith) refl
 
   -- what has no string
-  pub no-string : {A : Type 0} (r k : Key) → Becomes t d at r → r ≡ k → keyClass here ≡ 1 → (classOf k ≡ 1 → ⊥) → A
+  pub no-string : {A : Type 0} (r k : Key) → Becomes t d at r → r ≡ k → keyClass here ≡ modes.asString → (classOf k ≡ modes.asString → ⊥) → A
   no-string r k b e h z = absurd (z (key-class t d at r k b e ∙ h))
 
 -- the string is written
@@ -363,7 +364,7 @@ pub string-written : {g g′ : Going} (t : List ℕ) (k : Node) (from n : ℕ) �
 string-written t k from n s d = does-as (d (s .small) (s .within)) (ap (λ (bs : List ℕ). say (puts bs)) (s .string))
 
 -- a number's digits are
-pub number-written : {g g′ : Going} (t : List ℕ) (d at : ℕ) (r x : Key) → Becomes t d at r → r ≡ x → classOf x ≡ 1 → Does g g′ (say (puts (stringBytes (entryText t x)))) → Does g g′ (say (puts (keyString (lookNode t d at .value))))
+pub number-written : {g g′ : Going} (t : List ℕ) (d at : ℕ) (r x : Key) → Becomes t d at r → r ≡ x → classOf x ≡ modes.asString → Does g g′ (say (puts (stringBytes (entryText t x)))) → Does g g′ (say (puts (keyString (lookNode t d at .value))))
 number-written t d at r x b e h k = does-as k (ap (λ (bs : List ℕ). say (puts bs)) (sym (string-is t d at r x b e h)))
 
 -- the digits at the end of an array

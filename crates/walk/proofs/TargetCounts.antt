@@ -30,6 +30,7 @@ use Rattle.pattern.proofs.MovesCounted.{count-sum}
 use Rattle.direct.specs.Objects.{Reach, counts, enters, reachedAt, reached, reachedIn}
 use Rattle.direct.specs.Objects.Reach.{anywhere, straight, inArrays}
 use Rattle.direct.proofs.Reached.{reached-nothing, reached-levels}
+use Rattle.walk.specs.Modes as modes
 use Rattle.walk.specs.Turns.{reachOf}
 
 -- ---- one level
@@ -77,11 +78,11 @@ module _ (r : Reach) where
   places-blank at = refl
 
 -- a reach by its number
-pub passes-2 : (n : ℕ) → n ≡ 2 → enters (reachOf n) ≡ false
+pub passes-straight : (n : ℕ) → n ≡ modes.reachStraight → enters (reachOf n) ≡ false
 unfolding reachOf
-passes-2 n e = rw (eq-eqb n 2 e) refl
+passes-straight n e = rw (eq-eqb n 2 e) refl
 
-pub enters-else : (n : ℕ) → (n ≡ 2 → ⊥) → enters (reachOf n) ≡ true
+pub enters-else : (n : ℕ) → (n ≡ modes.reachStraight → ⊥) → enters (reachOf n) ≡ true
 unfolding reachOf
 enters-else n e = rw (ne-eqb n 2 e) (go (eqb n 3))
   where
@@ -89,11 +90,11 @@ enters-else n e = rw (ne-eqb n 2 e) (go (eqb n 3))
     go true = refl
     go false = refl
 
-pub found-3 : (n : ℕ) → n ≡ 3 → _≡_ {A = ℕ} 0 (cond (counts (reachOf n)) 1 0)
+pub found-in-arrays : (n : ℕ) → n ≡ modes.reachInArrays → _≡_ {A = ℕ} 0 (cond (counts (reachOf n)) 1 0)
 unfolding reachOf
-found-3 n e = rw (e, eqb) refl
+found-in-arrays n e = rw (e, eqb) refl
 
-pub found-else : (n : ℕ) → (n ≡ 3 → ⊥) → _≡_ {A = ℕ} 1 (cond (counts (reachOf n)) 1 0)
+pub found-else : (n : ℕ) → (n ≡ modes.reachInArrays → ⊥) → _≡_ {A = ℕ} 1 (cond (counts (reachOf n)) 1 0)
 unfolding reachOf
 found-else n e = rw (ne-eqb n 3 e) (go (eqb n 2))
   where
@@ -101,7 +102,7 @@ found-else n e = rw (ne-eqb n 3 e) (go (eqb n 2))
     go true = refl
     go false = refl
 
-pub by-one : (p : Node) → places (reachOf 1) p ≡ places anywhere p
+pub by-one : (p : Node) → places (reachOf modes.reachAnywhere) p ≡ places anywhere p
 unfolding reachOf
 by-one p = refl
 

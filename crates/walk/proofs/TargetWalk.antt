@@ -23,6 +23,7 @@ use Rattle.direct.specs.Objects.{counts, enters, overReached}
 use Rattle.direct.specs.Objects.Reach.{anywhere, straight, inArrays}
 use Rattle.direct.specs.Handed.{handsPlace}
 use Rattle.direct.proofs.Reached.{reach-over-object, reach-over-rest, reach-over-array, reach-over-default, reach-over-leaf}
+use Rattle.walk.specs.Modes as modes
 use Rattle.walk.specs.Run.{Going, Does}
 use Rattle.walk.specs.Whole.{holeAt, Good}
 use Rattle.walk.specs.Turns.{reachOf}
@@ -31,7 +32,7 @@ use Rattle.walk.proofs.Emits.{good-item, full}
 use Rattle.walk.proofs.Opened.{no-good, kind-byte, leaf-here, object-open, array-open, property-open, default-open}
 use Rattle.walk.proofs.Hands.{Left, left-start, left-end, left-more, solid-more, Any, any-start, at-level, list-from}
 use Rattle.walk.proofs.HandKeys.{object-listed}
-use Rattle.walk.proofs.TargetCounts.{passes-2, enters-else}
+use Rattle.walk.proofs.TargetCounts.{passes-straight, enters-else}
 
 -- what is listed of a target
 abbrev pub Found : ℕ → Node → Emit
@@ -46,11 +47,11 @@ no-zero k m e h z = omega arith
 
 -- ---- a reach by its number
 
-counts-3 : (n : ℕ) → n ≡ 3 → counts (reachOf n) ≡ false
+counts-in-arrays : (n : ℕ) → n ≡ modes.reachInArrays → counts (reachOf n) ≡ false
 unfolding reachOf
-counts-3 n e = rw e refl
+counts-in-arrays n e = rw e refl
 
-counts-else : (n : ℕ) → (n ≡ 3 → ⊥) → counts (reachOf n) ≡ true
+counts-else : (n : ℕ) → (n ≡ modes.reachInArrays → ⊥) → counts (reachOf n) ≡ true
 unfolding reachOf
 counts-else n e = rw (ne-eqb n 3 e) (go (eqb n 2))
   where
@@ -58,9 +59,9 @@ counts-else n e = rw (ne-eqb n 3 e) (go (eqb n 2))
     go true = refl
     go false = refl
 
-found-1 : (p : Node) → Found 1 p ≡ overReached handsPlace anywhere p
+found-anywhere : (p : Node) → Found modes.reachAnywhere p ≡ overReached handsPlace anywhere p
 unfolding reachOf
-found-1 p = refl
+found-anywhere p = refl
 
 module _ (t : List ℕ) where
   abbrev many : ℕ → ℕ
@@ -81,18 +82,18 @@ module _ (t : List ℕ) where
         ∙ sym (reach-over-rest handsPlace (reachOf reach) at ps x ∙ ap (λ (b : Bool). cond b (handsPlace (objectRestAt at ps x)) (say [])) e)
         ∙ ap (Found reach) (sym w)
 
-    pub object-found : {g g₁ g₂ : Going} (b : Bool) → b ≡ eqb (byteAt t (onward t at 1) / 2 % 2) 1 → b ≡ true → (reach ≡ 3 → ⊥)
+    pub object-found : {g g₁ g₂ : Going} (b : Bool) → b ≡ eqb (byteAt t (onward t at 1) / 2 % 2) 1 → b ≡ true → (reach ≡ modes.reachInArrays → ⊥)
         → Does g g₁ (say (lists (5 ∷ 1 ∷ []))) → Does g₁ g₂ (say (does (listedTemporary at 1) ∷ []))
         → Good t (suc left) at → byteAt t at ≡ 34 → Does g g₂ (Found reach object)
     object-found b e h z k l good kind =
         let o = object-open t left at good kind in
         does-as (object-listed t (suc left) at 0 k l) (rest-is true (counts-else reach z) _ _ (ap (λ (s : Seen Node). s .value) (o .resting (sym e ∙ h))))
 
-    pub object-passed : {g : Going} (b : Bool) → b ≡ eqb (byteAt t (onward t at 1) / 2 % 2) 1 → b ≡ true → reach ≡ 3
+    pub object-passed : {g : Going} (b : Bool) → b ≡ eqb (byteAt t (onward t at 1) / 2 % 2) 1 → b ≡ true → reach ≡ modes.reachInArrays
         → Good t (suc left) at → byteAt t at ≡ 34 → Does g g (Found reach object)
     object-passed {g = g} b e h z good kind =
         let o = object-open t left at good kind in
-        does-as (does-nothing g) (rest-is false (counts-3 reach z) _ _ (ap (λ (s : Seen Node). s .value) (o .resting (sym e ∙ h))))
+        does-as (does-nothing g) (rest-is false (counts-in-arrays reach z) _ _ (ap (λ (s : Seen Node). s .value) (o .resting (sym e ∙ h))))
 
     -- its properties
     abbrev pub Values : Going → Going → ℕ → ℕ → Type 0
@@ -172,20 +173,20 @@ module _ (t : List ℕ) where
 
   module _ (d at : ℕ) where
     abbrev pub ItemsLeft : Going → Going → ℕ → ℕ → Type 0
-    ItemsLeft g₀ g n i = Good t (suc d) at → byteAt t at ≡ 36 → Left t d true Any (Found 1) g₀ (many at) (first at) g n i
+    ItemsLeft g₀ g n i = Good t (suc d) at → byteAt t at ≡ 36 → Left t d true Any (Found modes.reachAnywhere) g₀ (many at) (first at) g n i
 
     pub items-start : {g : Going} (q n i : ℕ) → q ≡ onward t at 2 → Wide t q n → i ≡ onward t q 2 → ItemsLeft g g n i
     items-start {g = g} q n i a w b good kind =
         let u = array-open t d at good kind in
         let nn : many at ≡ n = sym (w .value ∙ ap (λ (z : ℕ). wideAt t z) a) in
         let ii : first at ≡ i = sym (b ∙ ap (λ (z : ℕ). onward t z 2) a) in
-        subst (λ (m : ℕ). Left t d true Any (Found 1) g (many at) (first at) g m i) nn
-        (subst (λ (z : ℕ). Left t d true Any (Found 1) g (many at) (first at) g (many at) z) ii (any-start t d true (Found 1) g (many at) (first at) (u .list .good)))
+        subst (λ (m : ℕ). Left t d true Any (Found modes.reachAnywhere) g (many at) (first at) g m i) nn
+        (subst (λ (z : ℕ). Left t d true Any (Found modes.reachAnywhere) g (many at) (first at) g (many at) z) ii (any-start t d true (Found modes.reachAnywhere) g (many at) (first at) (u .list .good)))
 
     pub items-more : {g₀ g g′ : Going} (n i q : ℕ) → 0 < n → q ≡ lookItem t (lookNode t d) true i .next → ItemsLeft g₀ g n i
-        → ((h : Bool) → (holeAt t h i ≡ false → Good t d i) → Does g g′ (cond (holeAt t h i) (say []) (Found 1 (lookNode t d i .value))))
+        → ((h : Bool) → (holeAt t h i ≡ false → Good t d i) → Does g g′ (cond (holeAt t h i) (say []) (Found modes.reachAnywhere (lookNode t d i .value))))
         → ItemsLeft g₀ g′ (n - 1) q
-    items-more n i q z y v f good kind = left-more t d true Any (Found 1) (many at) (first at) n i q z y (v good kind) (λ x a. f true x)
+    items-more n i q z y v f good kind = left-more t d true Any (Found modes.reachAnywhere) (many at) (first at) n i q z y (v good kind) (λ x a. f true x)
 
   -- ---- a target at the level `left`, by its kind
 
@@ -210,7 +211,7 @@ module _ (t : List ℕ) where
         (λ here. does-as (does-nothing g) (sym (reach-over-leaf handsPlace (reachOf reach) (lookNode t (suc d) at .value) (leaf-here t d at k p a b c))))
 
     array-is : (c : Bool) → enters (reachOf reach) ≡ c → Good t (suc d) at → byteAt t at ≡ 36
-        → cond c (inTurn (Found 1) (lookItems t (lookNode t d) true (many at) (first at) .value)) (say []) ≡ Found reach (lookNode t (suc d) at .value)
+        → cond c (inTurn (Found modes.reachAnywhere) (lookItems t (lookNode t d) true (many at) (first at) .value)) (say []) ≡ Found reach (lookNode t (suc d) at .value)
     unfolding reachOf
     array-is c y good kind =
         let u = array-open t d at good kind in
@@ -220,15 +221,15 @@ module _ (t : List ℕ) where
         (λ bit. sym (reach-over-array handsPlace (reachOf reach) at ns _) ∙ ap (λ (s : Seen Node). Found reach (s .value)) (sym (u .resting bit)))
         (λ bit. sym (reach-over-array handsPlace (reachOf reach) at ns _) ∙ ap (λ (s : Seen Node). Found reach (s .value)) (sym (u .plain bit)))
 
-    pub array-passed : {g : Going} → k ≡ 36 → reach ≡ 2 → Good t left at → Does g g (Found reach (lookNode t left at .value))
+    pub array-passed : {g : Going} → k ≡ 36 → reach ≡ modes.reachStraight → Good t left at → Does g g (Found reach (lookNode t left at .value))
     array-passed {g = g} y z good =
         at-level t (λ (m : ℕ). Does g g (Found reach (lookNode t m at .value))) left d at e good
-        (λ here. does-as (does-nothing g) (array-is false (passes-2 reach z) here (sym p ∙ y)))
+        (λ here. does-as (does-nothing g) (array-is false (passes-straight reach z) here (sym p ∙ y)))
 
-    pub items-end : {g₀ g : Going} (n i : ℕ) → k ≡ 36 → (reach ≡ 2 → ⊥) → n ≤ 0 → ItemsLeft d at g₀ g n i → Good t left at → Does g₀ g (Found reach (lookNode t left at .value))
+    pub items-end : {g₀ g : Going} (n i : ℕ) → k ≡ 36 → (reach ≡ modes.reachStraight → ⊥) → n ≤ 0 → ItemsLeft d at g₀ g n i → Good t left at → Does g₀ g (Found reach (lookNode t left at .value))
     items-end {g₀ = g₀} {g = g} n i y z m v good =
         at-level t (λ (x : ℕ). Does g₀ g (Found reach (lookNode t x at .value))) left d at e good
-        (λ here. does-as (left-end t d true Any (Found 1) (many at) (first at) n i m (v here (sym p ∙ y))) (array-is true (enters-else reach z) here (sym p ∙ y)))
+        (λ here. does-as (left-end t d true Any (Found modes.reachAnywhere) (many at) (first at) n i m (v here (sym p ∙ y))) (array-is true (enters-else reach z) here (sym p ∙ y)))
 
   -- ---- an item: it may be a hole
 

@@ -8,10 +8,11 @@ use lib.Dec.{eqb}
 use Rattle.tree.specs.Look.{lookItem, lookNode}
 use Rattle.direct.specs.Events as events
 use Rattle.direct.specs.Emit.{inner, unused, marking}
+use Rattle.walk.specs.Modes as modes
 use Rattle.walk.specs.declared.place.Place.{Place}
 use Rattle.walk.specs.Whole.{placeOf, placeWith, holeAt}
 use Rattle.walk.specs.Run.{Going, Does}
-use Rattle.walk.specs.Turns.{deepMode, isTold, toldPlace, spotDeeds}
+use Rattle.walk.specs.Turns.{deepMode, isTold, toldPlace, spotDeeds, propertyMode, valueMode, itemMode}
 use Rattle.walk.proofs.Turning.{Others, Turned, Sequenced, deep-left}
 
 -- ---- places
@@ -63,80 +64,80 @@ unfolding isTold
 deep-told mode h = rw h refl
 
 -- the modes of items and of values
-pub item-told : (mode m : ℕ) → m ≡ cond (eqb mode 8) 8 12 → isTold m ≡ true
+pub item-told : (mode m : ℕ) → m ≡ itemMode mode → isTold m ≡ true
 unfolding isTold deepMode
-item-told mode m e = ap isTold e ∙ go (eqb mode 8)
+item-told mode m e = ap isTold e ∙ go (eqb mode modes.found)
   where
-    go : (b : Bool) → isTold (cond b 8 12) ≡ true
+    go : (b : Bool) → isTold (cond b modes.found modes.anywhere) ≡ true
     go true = refl
     go false = refl
 
-pub value-told : (mode m : ℕ) → m ≡ cond (eqb mode 12) 13 (cond (eqb mode 17) 14 15) → isTold m ≡ true
+pub value-told : (mode m : ℕ) → m ≡ valueMode mode → isTold m ≡ true
 unfolding isTold deepMode
-value-told mode m e = ap isTold e ∙ go (eqb mode 12) (eqb mode 17)
+value-told mode m e = ap isTold e ∙ go (eqb mode modes.anywhere) (eqb mode modes.inArrays)
   where
-    go : (a b : Bool) → isTold (cond a 13 (cond b 14 15)) ≡ true
+    go : (a b : Bool) → isTold (cond a modes.valueAnywhere (cond b modes.valueInArrays modes.valueStraight)) ≡ true
     go true b = refl
     go false true = refl
     go false false = refl
 
 -- properties in a view ask for themselves
-pub property-untold : (rest : Bool) (m : ℕ) → m ≡ cond rest 4 2 → isTold m ≡ false
+pub property-untold : (rest : Bool) (m : ℕ) → m ≡ propertyMode rest → isTold m ≡ false
 unfolding isTold deepMode
 property-untold rest m e = ap isTold e ∙ go rest
   where
-    go : (b : Bool) → isTold (cond b 4 2) ≡ false
+    go : (b : Bool) → isTold (propertyMode b) ≡ false
     go true = refl
     go false = refl
 
 -- one mode each
-pub told-9 : isTold 9 ≡ true
+pub told-value-found : isTold modes.valueFound ≡ true
 unfolding isTold deepMode
-told-9 = refl
+told-value-found = refl
 
-pub told-10 : isTold 10 ≡ true
+pub told-declarator : isTold modes.declarator ≡ true
 unfolding isTold deepMode
-told-10 = refl
+told-declarator = refl
 
-pub told-13 : isTold 13 ≡ true
+pub told-value-anywhere : isTold modes.valueAnywhere ≡ true
 unfolding isTold deepMode
-told-13 = refl
+told-value-anywhere = refl
 
-pub told-14 : isTold 14 ≡ true
+pub told-value-in-arrays : isTold modes.valueInArrays ≡ true
 unfolding isTold deepMode
-told-14 = refl
+told-value-in-arrays = refl
 
-pub told-15 : isTold 15 ≡ true
+pub told-value-straight : isTold modes.valueStraight ≡ true
 unfolding isTold deepMode
-told-15 = refl
+told-value-straight = refl
 
-pub untold-1 : isTold 1 ≡ false
+pub untold-viewed : isTold modes.viewed ≡ false
 unfolding isTold deepMode
-untold-1 = refl
+untold-viewed = refl
 
-pub untold-2 : isTold 2 ≡ false
+pub untold-property : isTold modes.property ≡ false
 unfolding isTold deepMode
-untold-2 = refl
+untold-property = refl
 
-pub untold-4 : isTold 4 ≡ false
+pub untold-taken-property : isTold modes.takenProperty ≡ false
 unfolding isTold deepMode
-untold-4 = refl
+untold-taken-property = refl
 
-pub untold-6 : isTold 6 ≡ false
+pub untold-excluded-key : isTold modes.excludedKey ≡ false
 unfolding isTold deepMode
-untold-6 = refl
+untold-excluded-key = refl
 
-pub untold-7 : isTold 7 ≡ false
+pub untold-key-value : isTold modes.keyValue ≡ false
 unfolding isTold deepMode
-untold-7 = refl
+untold-key-value = refl
 
-pub untold-11 : isTold 11 ≡ false
+pub untold-binding : isTold modes.binding ≡ false
 unfolding isTold deepMode
-untold-11 = refl
+untold-binding = refl
 
-pub untold-16 : isTold 16 ≡ false
+pub untold-moved-out : isTold modes.movedOut ≡ false
 unfolding isTold deepMode
-untold-16 = refl
+untold-moved-out = refl
 
 -- ---- a list and one of its items, at the place that is told or at their own
 

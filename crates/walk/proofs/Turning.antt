@@ -32,9 +32,10 @@ use Rattle.direct.specs.Declared.{emitsKeyValue, emitsFound, emitsDeclarator}
 use Rattle.direct.specs.Assigned.{emitsInner}
 use Rattle.direct.specs.Moved.{outOf, behind}
 use Rattle.direct.proofs.Threads.{say-nothing}
+use Rattle.walk.specs.Modes as modes
 use Rattle.walk.specs.Run.{Going, Does}
 use Rattle.walk.specs.Whole.{holeAt, GoodItem, GoodItems, Good, Emitted}
-use Rattle.walk.specs.Turns.{viewOf, turnOf, deepMode, suits, holeOf, turnsOf, AllSuit, spotDeeds}
+use Rattle.walk.specs.Turns.{viewOf, turnOf, deepMode, suits, holeOf, turnsOf, AllSuit, spotDeeds, propertyMode}
 use Rattle.walk.proofs.Running.{does-as}
 use Rattle.walk.proofs.Opened.{no-good, kind-byte}
 use Rattle.walk.proofs.Emits.{Onto, onto-start, onto-more, onto-end, is-hole, item-next, good-item, good-items}
@@ -43,69 +44,69 @@ use Rattle.direct.proofs.ListsInTurn.{items-each}
 -- ---- what a turn does for one item
 
 module _ (c : Place) (n : Node) where
-  pub turn-1 : turnOf 1 c n ≡ emitsView c replacing n
+  pub turn-viewed : turnOf modes.viewed c n ≡ emitsView c replacing n
   unfolding turnOf
-  turn-1 = refl
+  turn-viewed = refl
 
-  pub turn-2 : turnOf 2 c n ≡ emitsProperty c false replacing n
+  pub turn-property : turnOf modes.property c n ≡ emitsProperty c false replacing n
   unfolding turnOf
-  turn-2 = refl
+  turn-property = refl
 
-  pub turn-4 : turnOf 4 c n ≡ emitsProperty c true replacing n
+  pub turn-taken-property : turnOf modes.takenProperty c n ≡ emitsProperty c true replacing n
   unfolding turnOf
-  turn-4 = refl
+  turn-taken-property = refl
 
-  pub turn-6 : turnOf 6 c n ≡ emitsExcluded c n
+  pub turn-excluded-key : turnOf modes.excludedKey c n ≡ emitsExcluded c n
   unfolding turnOf
-  turn-6 = refl
+  turn-excluded-key = refl
 
-  pub turn-7 : turnOf 7 c n ≡ emitsKeyValue c n
+  pub turn-key-value : turnOf modes.keyValue c n ≡ emitsKeyValue c n
   unfolding turnOf
-  turn-7 = refl
+  turn-key-value = refl
 
-  pub turn-8 : turnOf 8 c n ≡ emitsFound c n
+  pub turn-found : turnOf modes.found c n ≡ emitsFound c n
   unfolding turnOf
-  turn-8 = refl
+  turn-found = refl
 
-  pub turn-9 : turnOf 9 c n ≡ emitsFound c (value n)
+  pub turn-value-found : turnOf modes.valueFound c n ≡ emitsFound c (value n)
   unfolding turnOf
-  turn-9 = refl
+  turn-value-found = refl
 
-  pub turn-10 : turnOf 10 c n ≡ emitsDeclarator c n
+  pub turn-declarator : turnOf modes.declarator c n ≡ emitsDeclarator c n
   unfolding turnOf
-  turn-10 = refl
+  turn-declarator = refl
 
-  pub turn-11 : turnOf 11 c n ≡ emits c (behind n)
+  pub turn-binding : turnOf modes.binding c n ≡ emits c (behind n)
   unfolding turnOf
-  turn-11 = refl
+  turn-binding = refl
 
-  pub turn-12 : turnOf 12 c n ≡ overReached (emitsInner c) anywhere n
+  pub turn-anywhere : turnOf modes.anywhere c n ≡ overReached (emitsInner c) anywhere n
   unfolding turnOf
-  turn-12 = refl
+  turn-anywhere = refl
 
-  pub turn-13 : turnOf 13 c n ≡ overReached (emitsInner c) anywhere (value n)
+  pub turn-value-anywhere : turnOf modes.valueAnywhere c n ≡ overReached (emitsInner c) anywhere (value n)
   unfolding turnOf
-  turn-13 = refl
+  turn-value-anywhere = refl
 
-  pub turn-14 : turnOf 14 c n ≡ overReached (emitsInner c) inArrays (value n)
+  pub turn-value-in-arrays : turnOf modes.valueInArrays c n ≡ overReached (emitsInner c) inArrays (value n)
   unfolding turnOf
-  turn-14 = refl
+  turn-value-in-arrays = refl
 
-  pub turn-15 : turnOf 15 c n ≡ overReached (emitsInner c) straight (value n)
+  pub turn-value-straight : turnOf modes.valueStraight c n ≡ overReached (emitsInner c) straight (value n)
   unfolding turnOf
-  turn-15 = refl
+  turn-value-straight = refl
 
-  pub turn-16 : turnOf 16 c n ≡ emits c (outOf n)
+  pub turn-moved-out : turnOf modes.movedOut c n ≡ emits c (outOf n)
   unfolding turnOf
-  turn-16 = refl
+  turn-moved-out = refl
 
-  pub turn-17 : turnOf 17 c n ≡ overReached (emitsInner c) inArrays n
+  pub turn-in-arrays : turnOf modes.inArrays c n ≡ overReached (emitsInner c) inArrays n
   unfolding turnOf
-  turn-17 = refl
+  turn-in-arrays = refl
 
-  pub turn-18 : turnOf 18 c n ≡ overReached (emitsInner c) straight n
+  pub turn-straight : turnOf modes.straight c n ≡ overReached (emitsInner c) straight n
   unfolding turnOf
-  turn-18 = refl
+  turn-straight = refl
 
 -- ---- and for all items
 
@@ -132,63 +133,63 @@ module _ (mode : ℕ) (c : Place) (f : Node → Emit) (one : (n : Node) → turn
   turns-solid (Items.item n ns) w = ap₂ (λ (a b : Emit). a ▷ b) (one n) (turns-solid ns w)
 
 module _ (c : Place) (ns : Items) where
-  pub turns-1 : turnsOf 1 c ns ≡ eachDoes (emitsView c replacing) ns
+  pub turns-viewed : turnsOf modes.viewed c ns ≡ eachDoes (emitsView c replacing) ns
   unfolding holeOf
-  turns-1 = turns-each 1 c (emitsView c replacing) (turn-1 c) refl ns
+  turns-viewed = turns-each modes.viewed c (emitsView c replacing) (turn-viewed c) refl ns
 
-  pub turns-2 : NoHoles ns → turnsOf 2 c ns ≡ eachDoes (emitsProperty c false replacing) ns
-  turns-2 w = turns-solid 2 c (emitsProperty c false replacing) (turn-2 c) ns w
+  pub turns-property : NoHoles ns → turnsOf modes.property c ns ≡ eachDoes (emitsProperty c false replacing) ns
+  turns-property w = turns-solid modes.property c (emitsProperty c false replacing) (turn-property c) ns w
 
-  pub turns-4 : NoHoles ns → turnsOf 4 c ns ≡ eachDoes (emitsProperty c true replacing) ns
-  turns-4 w = turns-solid 4 c (emitsProperty c true replacing) (turn-4 c) ns w
+  pub turns-taken-property : NoHoles ns → turnsOf modes.takenProperty c ns ≡ eachDoes (emitsProperty c true replacing) ns
+  turns-taken-property w = turns-solid modes.takenProperty c (emitsProperty c true replacing) (turn-taken-property c) ns w
 
-  pub turns-6 : turnsOf 6 c ns ≡ inTurn (emitsExcluded c) ns
+  pub turns-excluded-key : turnsOf modes.excludedKey c ns ≡ inTurn (emitsExcluded c) ns
   unfolding holeOf
-  turns-6 = turns-in 6 c (emitsExcluded c) (turn-6 c) refl ns
+  turns-excluded-key = turns-in modes.excludedKey c (emitsExcluded c) (turn-excluded-key c) refl ns
 
-  pub turns-7 : turnsOf 7 c ns ≡ inTurn (emitsKeyValue c) ns
+  pub turns-key-value : turnsOf modes.keyValue c ns ≡ inTurn (emitsKeyValue c) ns
   unfolding holeOf
-  turns-7 = turns-in 7 c (emitsKeyValue c) (turn-7 c) refl ns
+  turns-key-value = turns-in modes.keyValue c (emitsKeyValue c) (turn-key-value c) refl ns
 
-  pub turns-8 : turnsOf 8 c ns ≡ inTurn (emitsFound c) ns
+  pub turns-found : turnsOf modes.found c ns ≡ inTurn (emitsFound c) ns
   unfolding holeOf
-  turns-8 = turns-in 8 c (emitsFound c) (turn-8 c) refl ns
+  turns-found = turns-in modes.found c (emitsFound c) (turn-found c) refl ns
 
-  pub turns-9 : turnsOf 9 c ns ≡ inTurn (λ q. emitsFound c (value q)) ns
+  pub turns-value-found : turnsOf modes.valueFound c ns ≡ inTurn (λ q. emitsFound c (value q)) ns
   unfolding holeOf
-  turns-9 = turns-in 9 c (λ q. emitsFound c (value q)) (turn-9 c) refl ns
+  turns-value-found = turns-in modes.valueFound c (λ q. emitsFound c (value q)) (turn-value-found c) refl ns
 
-  pub turns-10 : turnsOf 10 c ns ≡ inTurn (emitsDeclarator c) ns
+  pub turns-declarator : turnsOf modes.declarator c ns ≡ inTurn (emitsDeclarator c) ns
   unfolding holeOf
-  turns-10 = turns-in 10 c (emitsDeclarator c) (turn-10 c) refl ns
+  turns-declarator = turns-in modes.declarator c (emitsDeclarator c) (turn-declarator c) refl ns
 
-  pub turns-11 : NoHoles ns → turnsOf 11 c ns ≡ emitsItems false c (each behind ns)
-  turns-11 w = turns-solid 11 c (λ q. emits c (behind q)) (turn-11 c) ns w ∙ sym (items-each c behind ns)
+  pub turns-binding : NoHoles ns → turnsOf modes.binding c ns ≡ emitsItems false c (each behind ns)
+  turns-binding w = turns-solid modes.binding c (λ q. emits c (behind q)) (turn-binding c) ns w ∙ sym (items-each c behind ns)
 
-  pub turns-12 : turnsOf 12 c ns ≡ inTurn (overReached (emitsInner c) anywhere) ns
+  pub turns-anywhere : turnsOf modes.anywhere c ns ≡ inTurn (overReached (emitsInner c) anywhere) ns
   unfolding holeOf
-  turns-12 = turns-in 12 c (overReached (emitsInner c) anywhere) (turn-12 c) refl ns
+  turns-anywhere = turns-in modes.anywhere c (overReached (emitsInner c) anywhere) (turn-anywhere c) refl ns
 
-  pub turns-13 : turnsOf 13 c ns ≡ inTurn (λ q. overReached (emitsInner c) anywhere (value q)) ns
+  pub turns-value-anywhere : turnsOf modes.valueAnywhere c ns ≡ inTurn (λ q. overReached (emitsInner c) anywhere (value q)) ns
   unfolding holeOf
-  turns-13 = turns-in 13 c (λ q. overReached (emitsInner c) anywhere (value q)) (turn-13 c) refl ns
+  turns-value-anywhere = turns-in modes.valueAnywhere c (λ q. overReached (emitsInner c) anywhere (value q)) (turn-value-anywhere c) refl ns
 
-  pub turns-14 : turnsOf 14 c ns ≡ inTurn (λ q. overReached (emitsInner c) inArrays (value q)) ns
+  pub turns-value-in-arrays : turnsOf modes.valueInArrays c ns ≡ inTurn (λ q. overReached (emitsInner c) inArrays (value q)) ns
   unfolding holeOf
-  turns-14 = turns-in 14 c (λ q. overReached (emitsInner c) inArrays (value q)) (turn-14 c) refl ns
+  turns-value-in-arrays = turns-in modes.valueInArrays c (λ q. overReached (emitsInner c) inArrays (value q)) (turn-value-in-arrays c) refl ns
 
-  pub turns-15 : turnsOf 15 c ns ≡ inTurn (λ q. overReached (emitsInner c) straight (value q)) ns
+  pub turns-value-straight : turnsOf modes.valueStraight c ns ≡ inTurn (λ q. overReached (emitsInner c) straight (value q)) ns
   unfolding holeOf
-  turns-15 = turns-in 15 c (λ q. overReached (emitsInner c) straight (value q)) (turn-15 c) refl ns
+  turns-value-straight = turns-in modes.valueStraight c (λ q. overReached (emitsInner c) straight (value q)) (turn-value-straight c) refl ns
 
-  pub turns-16 : turnsOf 16 c ns ≡ emitsItems false c (each outOf ns)
+  pub turns-moved-out : turnsOf modes.movedOut c ns ≡ emitsItems false c (each outOf ns)
   unfolding holeOf
-  turns-16 = turns-each 16 c (λ q. emits c (outOf q)) (turn-16 c) refl ns ∙ sym (items-each c outOf ns)
+  turns-moved-out = turns-each modes.movedOut c (λ q. emits c (outOf q)) (turn-moved-out c) refl ns ∙ sym (items-each c outOf ns)
 
 -- the properties of an object in a view
-pub turns-properties : (rest : Bool) (c : Place) (ns : Items) → NoHoles ns → turnsOf (cond rest 4 2) c ns ≡ eachDoes (emitsProperty c rest replacing) ns
-turns-properties true c ns w = turns-4 c ns w
-turns-properties false c ns w = turns-2 c ns w
+pub turns-properties : (rest : Bool) (c : Place) (ns : Items) → NoHoles ns → turnsOf (propertyMode rest) c ns ≡ eachDoes (emitsProperty c rest replacing) ns
+turns-properties true c ns w = turns-taken-property c ns w
+turns-properties false c ns w = turns-property c ns w
 
 -- ---- which items suit a mode
 
@@ -204,68 +205,68 @@ module _ (mode : ℕ) where
   suit-kind k h ns a = weaker-items (λ q. is k q ≡ true) (λ q. suits mode q ≡ true) (λ n e. h n ∙ e) ns a
 
 module _ (ns : Items) where
-  pub suit-1 : AllSuit 1 ns
+  pub suit-viewed : AllSuit modes.viewed ns
   unfolding suits
-  suit-1 = suit-all 1 (λ n. refl) ns
+  suit-viewed = suit-all modes.viewed (λ n. refl) ns
 
-  pub suit-8 : AllSuit 8 ns
+  pub suit-found : AllSuit modes.found ns
   unfolding suits
-  suit-8 = suit-all 8 (λ n. refl) ns
+  suit-found = suit-all modes.found (λ n. refl) ns
 
-  pub suit-16 : AllSuit 16 ns
+  pub suit-moved-out : AllSuit modes.movedOut ns
   unfolding suits
-  suit-16 = suit-all 16 (λ n. refl) ns
+  suit-moved-out = suit-all modes.movedOut (λ n. refl) ns
 
   module _ (a : AllItems (λ q. is 35 q ≡ true) ns) where
-    pub suit-2 : AllSuit 2 ns
+    pub suit-property : AllSuit modes.property ns
     unfolding suits
-    suit-2 = suit-kind 2 35 (λ n. refl) ns a
+    suit-property = suit-kind modes.property 35 (λ n. refl) ns a
 
-    pub suit-4 : AllSuit 4 ns
+    pub suit-taken-property : AllSuit modes.takenProperty ns
     unfolding suits
-    suit-4 = suit-kind 4 35 (λ n. refl) ns a
+    suit-taken-property = suit-kind modes.takenProperty 35 (λ n. refl) ns a
 
-    pub suit-6 : AllSuit 6 ns
+    pub suit-excluded-key : AllSuit modes.excludedKey ns
     unfolding suits
-    suit-6 = suit-kind 6 35 (λ n. refl) ns a
+    suit-excluded-key = suit-kind modes.excludedKey 35 (λ n. refl) ns a
 
-    pub suit-7 : AllSuit 7 ns
+    pub suit-key-value : AllSuit modes.keyValue ns
     unfolding suits
-    suit-7 = suit-kind 7 35 (λ n. refl) ns a
+    suit-key-value = suit-kind modes.keyValue 35 (λ n. refl) ns a
 
-    pub suit-9 : AllSuit 9 ns
+    pub suit-value-found : AllSuit modes.valueFound ns
     unfolding suits
-    suit-9 = suit-kind 9 35 (λ n. refl) ns a
+    suit-value-found = suit-kind modes.valueFound 35 (λ n. refl) ns a
 
     -- the properties of an object in a view
-    pub suit-properties : (rest : Bool) → AllSuit (cond rest 4 2) ns
-    suit-properties true = suit-4
-    suit-properties false = suit-2
+    pub suit-properties : (rest : Bool) → AllSuit (propertyMode rest) ns
+    suit-properties true = suit-taken-property
+    suit-properties false = suit-property
 
-  pub suit-10 : AllItems (λ q. is 5 q ≡ true) ns → AllSuit 10 ns
+  pub suit-declarator : AllItems (λ q. is 5 q ≡ true) ns → AllSuit modes.declarator ns
   unfolding suits
-  suit-10 a = suit-kind 10 5 (λ n. refl) ns a
+  suit-declarator a = suit-kind modes.declarator 5 (λ n. refl) ns a
 
   -- parameters, declarators
-  pub suit-11 : AllItems (λ q. is 15 q ≡ true) ns → AllSuit 11 ns
+  pub suit-binding : AllItems (λ q. is 15 q ≡ true) ns → AllSuit modes.binding ns
   unfolding suits
-  suit-11 a = weaker-items (λ q. is 15 q ≡ true) (λ q. suits 11 q ≡ true) (λ n e. rw e refl) ns a
+  suit-binding a = weaker-items (λ q. is 15 q ≡ true) (λ q. suits modes.binding q ≡ true) (λ n e. rw e refl) ns a
 
-  pub suit-11-declarators : AllItems (λ q. is 5 q ≡ true) ns → AllSuit 11 ns
+  pub suit-binding-declarators : AllItems (λ q. is 5 q ≡ true) ns → AllSuit modes.binding ns
   unfolding suits
-  suit-11-declarators a = weaker-items (λ q. is 5 q ≡ true) (λ q. suits 11 q ≡ true) (λ n e. rw e (or-true (is 15 n))) ns a
+  suit-binding-declarators a = weaker-items (λ q. is 5 q ≡ true) (λ q. suits modes.binding q ≡ true) (λ n e. rw e (or-true (is 15 n))) ns a
     where
       or-true : (b : Bool) → b || true ≡ true
       or-true true = refl
       or-true false = refl
 
 -- no object rest below an array rest
-pub suit-12 : (ns : Items) → any (λ n. hasArrayRestOverObjectRest n) ns ≡ false → AllSuit 12 ns
+pub suit-anywhere : (ns : Items) → any (λ n. hasArrayRestOverObjectRest n) ns ≡ false → AllSuit modes.anywhere ns
 unfolding suits any
-suit-12 Items.none h = tt
-suit-12 (Items.hole ns) h = suit-12 ns h
-suit-12 (Items.item n ns) h =
-    (ap not (or-left (hasArrayRestOverObjectRest n) (any (λ n. hasArrayRestOverObjectRest n) ns) h), suit-12 ns (or-right (hasArrayRestOverObjectRest n) (any (λ n. hasArrayRestOverObjectRest n) ns) h))
+suit-anywhere Items.none h = tt
+suit-anywhere (Items.hole ns) h = suit-anywhere ns h
+suit-anywhere (Items.item n ns) h =
+    (ap not (or-left (hasArrayRestOverObjectRest n) (any (λ n. hasArrayRestOverObjectRest n) ns) h), suit-anywhere ns (or-right (hasArrayRestOverObjectRest n) (any (λ n. hasArrayRestOverObjectRest n) ns) h))
 
 -- nor below that of a value
 clear-values : (ns : Items) → AllItems (λ q. is 35 q ≡ true) ns → any (λ q. hasArrayRestOverObjectRest (value q)) ns ≡ false
@@ -277,17 +278,17 @@ clear-values (Items.item n ns) a h =
     let here : hasArrayRestOverObjectRest (value n) ≡ false = or-left (hasArrayRestOverObjectRest (value n)) (any (λ q. hasArrayRestOverObjectRest (value q)) ns) h in
     (rw (a .0, here) refl, clear-values ns (a .1) (or-right (hasArrayRestOverObjectRest (value n)) (any (λ q. hasArrayRestOverObjectRest (value q)) ns) h))
 
-pub suit-13 : (ns : Items) → AllItems (λ q. is 35 q ≡ true) ns → any (λ q. hasArrayRestOverObjectRest (value q)) ns ≡ false → AllSuit 13 ns
+pub suit-value-anywhere : (ns : Items) → AllItems (λ q. is 35 q ≡ true) ns → any (λ q. hasArrayRestOverObjectRest (value q)) ns ≡ false → AllSuit modes.valueAnywhere ns
 unfolding suits
-suit-13 ns a h = clear-values ns a h
+suit-value-anywhere ns a h = clear-values ns a h
 
-pub suit-14 : (ns : Items) → AllItems (λ q. is 35 q ≡ true) ns → any (λ q. hasArrayRestOverObjectRest (value q)) ns ≡ false → AllSuit 14 ns
+pub suit-value-in-arrays : (ns : Items) → AllItems (λ q. is 35 q ≡ true) ns → any (λ q. hasArrayRestOverObjectRest (value q)) ns ≡ false → AllSuit modes.valueInArrays ns
 unfolding suits
-suit-14 ns a h = clear-values ns a h
+suit-value-in-arrays ns a h = clear-values ns a h
 
-pub suit-15 : (ns : Items) → AllItems (λ q. is 35 q ≡ true) ns → any (λ q. hasArrayRestOverObjectRest (value q)) ns ≡ false → AllSuit 15 ns
+pub suit-value-straight : (ns : Items) → AllItems (λ q. is 35 q ≡ true) ns → any (λ q. hasArrayRestOverObjectRest (value q)) ns ≡ false → AllSuit modes.valueStraight ns
 unfolding suits
-suit-15 ns a h = clear-values ns a h
+suit-value-straight ns a h = clear-values ns a h
 
 -- ---- the ways out of one turn
 
@@ -299,30 +300,30 @@ Others mode = NoKey (NoKey (NoKey (NoKey (NoKey Unit 1 2 mode) 4 1 mode) 6 2 mod
 pub deep-left : (mode : ℕ) (n : Node) → Others mode → suits mode n ≡ true → deepMode mode ≡ true
 unfolding suits deepMode
 deep-left mode n k s =
-    by-test (eqb mode 8) (λ e. rw e refl) (λ e8.
-    by-test (eqb mode 12) (λ e. rw (e8, e) refl) (λ e12.
-    by-test (eqb mode 17) (λ e. rw (e8, e12, e) refl) (λ e17.
-    by-test (eqb mode 18) (λ e. rw (e8, e12, e17, e) refl) (λ e18.
+    by-test (eqb mode modes.found) (λ e. rw e refl) (λ e8.
+    by-test (eqb mode modes.anywhere) (λ e. rw (e8, e) refl) (λ e12.
+    by-test (eqb mode modes.inArrays) (λ e. rw (e8, e12, e) refl) (λ e17.
+    by-test (eqb mode modes.straight) (λ e. rw (e8, e12, e17, e) refl) (λ e18.
     let k9 = before-keys (NoKey (NoKey (NoKey (NoKey Unit 1 2 mode) 4 1 mode) 6 2 mode) 9 3 mode) 13 4 mode k in
     let k6 = before-keys (NoKey (NoKey (NoKey Unit 1 2 mode) 4 1 mode) 6 2 mode) 9 3 mode k9 in
     let k4 = before-keys (NoKey (NoKey Unit 1 2 mode) 4 1 mode) 6 2 mode k6 in
     let k1 = before-keys (NoKey Unit 1 2 mode) 4 1 mode k4 in
-    let e16 : eqb mode 16 ≡ false = ne-eqb mode 16 (k .1) in
-    let e15 : eqb mode 15 ≡ false = ne-eqb mode 15 (k .0 .1) in
-    let e14 : eqb mode 14 ≡ false = ne-eqb mode 14 (k .0 .0 .1) in
-    let e13 : eqb mode 13 ≡ false = ne-eqb mode 13 (k .0 .0 .0 .1) in
-    let e11 : eqb mode 11 ≡ false = ne-eqb mode 11 (k9 .1) in
-    let e10 : eqb mode 10 ≡ false = ne-eqb mode 10 (k9 .0 .1) in
-    let e9 : eqb mode 9 ≡ false = ne-eqb mode 9 (k9 .0 .0 .1) in
-    let e7 : eqb mode 7 ≡ false = ne-eqb mode 7 (k6 .1) in
-    let e6 : eqb mode 6 ≡ false = ne-eqb mode 6 (k6 .0 .1) in
-    let e4 : eqb mode 4 ≡ false = ne-eqb mode 4 (k4 .1) in
-    let e2 : eqb mode 2 ≡ false = ne-eqb mode 2 (k1 .1) in
-    let e1 : eqb mode 1 ≡ false = ne-eqb mode 1 (k1 .0 .1) in
+    let e16 : eqb mode modes.movedOut ≡ false = ne-eqb mode modes.movedOut (k .1) in
+    let e15 : eqb mode modes.valueStraight ≡ false = ne-eqb mode modes.valueStraight (k .0 .1) in
+    let e14 : eqb mode modes.valueInArrays ≡ false = ne-eqb mode modes.valueInArrays (k .0 .0 .1) in
+    let e13 : eqb mode modes.valueAnywhere ≡ false = ne-eqb mode modes.valueAnywhere (k .0 .0 .0 .1) in
+    let e11 : eqb mode modes.binding ≡ false = ne-eqb mode modes.binding (k9 .1) in
+    let e10 : eqb mode modes.declarator ≡ false = ne-eqb mode modes.declarator (k9 .0 .1) in
+    let e9 : eqb mode modes.valueFound ≡ false = ne-eqb mode modes.valueFound (k9 .0 .0 .1) in
+    let e7 : eqb mode modes.keyValue ≡ false = ne-eqb mode modes.keyValue (k6 .1) in
+    let e6 : eqb mode modes.excludedKey ≡ false = ne-eqb mode modes.excludedKey (k6 .0 .1) in
+    let e4 : eqb mode modes.takenProperty ≡ false = ne-eqb mode modes.takenProperty (k4 .1) in
+    let e2 : eqb mode modes.property ≡ false = ne-eqb mode modes.property (k1 .1) in
+    let e1 : eqb mode modes.viewed ≡ false = ne-eqb mode modes.viewed (k1 .0 .1) in
     absurd (false≢true (rw (e1, e8, e16, e12, e17, e18, e2, e4, e6, e7, e9, e13, e14, e15, e10, e11) at s))))))
 
 module _ (t : List ℕ) where
-  binds : (d at : ℕ) → Good t d at → suits 11 (lookNode t d at .value) ≡ true → eqb (byteAt t at) 15 || eqb (byteAt t at) 5 ≡ true
+  binds : (d at : ℕ) → Good t d at → suits modes.binding (lookNode t d at .value) ≡ true → eqb (byteAt t at) 15 || eqb (byteAt t at) 5 ≡ true
   unfolding suits lookNode is
   binds zero at good s = no-good t at good
   binds (suc d) at good s = s
@@ -374,64 +375,64 @@ module _ (t : List ℕ) where
         → (q ≡ lookNode t d at .next) × Does g g′ (turnOf m c (value (lookNode t d at .value)))
 
     module _ {g g′ : Going} (mode q : ℕ) (b : holeAt t h at ≡ false) where
-      pub turned-1 : mode ≡ 1 → Emitted t d at q g g′ (emitsView c (viewOf 1)) → Turned mode c d h at q g g′
+      pub turned-viewed : mode ≡ modes.viewed → Emitted t d at q g g′ (emitsView c (viewOf modes.replacingView)) → Turned mode c d h at q g g′
       unfolding viewOf
-      turned-1 e k = turned-by mode 1 q _ b e (sym (turn-1 c _)) (λ good s. k good)
+      turned-viewed e k = turned-by mode modes.viewed q _ b e (sym (turn-viewed c _)) (λ good s. k good)
 
-      pub turned-2 : mode ≡ 2 → (byteAt t at ≡ 35 → Emitted t d at q g g′ (emitsProperty c false replacing)) → Turned mode c d h at q g g′
+      pub turned-property : mode ≡ modes.property → (byteAt t at ≡ 35 → Emitted t d at q g g′ (emitsProperty c false replacing)) → Turned mode c d h at q g g′
       unfolding viewOf suits
-      turned-2 e k = turned-by mode 2 q _ b e (sym (turn-2 c _)) (λ good s. k (kind-byte t d at 35 good s) good)
+      turned-property e k = turned-by mode modes.property q _ b e (sym (turn-property c _)) (λ good s. k (kind-byte t d at 35 good s) good)
 
-      pub turned-4 : mode ≡ 4 → (byteAt t at ≡ 35 → Emitted t d at q g g′ (emitsProperty c true replacing)) → Turned mode c d h at q g g′
+      pub turned-taken-property : mode ≡ modes.takenProperty → (byteAt t at ≡ 35 → Emitted t d at q g g′ (emitsProperty c true replacing)) → Turned mode c d h at q g g′
       unfolding viewOf suits
-      turned-4 e k = turned-by mode 4 q _ b e (sym (turn-4 c _)) (λ good s. k (kind-byte t d at 35 good s) good)
+      turned-taken-property e k = turned-by mode modes.takenProperty q _ b e (sym (turn-taken-property c _)) (λ good s. k (kind-byte t d at 35 good s) good)
 
-      pub turned-6 : mode ≡ 6 → (byteAt t at ≡ 35 → Emitted t d at q g g′ (emitsExcluded c)) → Turned mode c d h at q g g′
+      pub turned-excluded-key : mode ≡ modes.excludedKey → (byteAt t at ≡ 35 → Emitted t d at q g g′ (emitsExcluded c)) → Turned mode c d h at q g g′
       unfolding suits
-      turned-6 e k = turned-by mode 6 q _ b e (sym (turn-6 c _)) (λ good s. k (kind-byte t d at 35 good s) good)
+      turned-excluded-key e k = turned-by mode modes.excludedKey q _ b e (sym (turn-excluded-key c _)) (λ good s. k (kind-byte t d at 35 good s) good)
 
-      pub turned-7 : mode ≡ 7 → (byteAt t at ≡ 35 → Emitted t d at q g g′ (emitsKeyValue c)) → Turned mode c d h at q g g′
+      pub turned-key-value : mode ≡ modes.keyValue → (byteAt t at ≡ 35 → Emitted t d at q g g′ (emitsKeyValue c)) → Turned mode c d h at q g g′
       unfolding suits
-      turned-7 e k = turned-by mode 7 q _ b e (sym (turn-7 c _)) (λ good s. k (kind-byte t d at 35 good s) good)
+      turned-key-value e k = turned-by mode modes.keyValue q _ b e (sym (turn-key-value c _)) (λ good s. k (kind-byte t d at 35 good s) good)
 
-      pub turned-9 : mode ≡ 9 → Valued 8 q g g′ → Turned mode c d h at q g g′
+      pub turned-value-found : mode ≡ modes.valueFound → Valued modes.found q g g′ → Turned mode c d h at q g g′
       unfolding suits deepMode
-      turned-9 e k =
-          turned-by mode 9 q _ b e (turn-8 c _ ∙ sym (turn-9 c _)) (λ good s. k (kind-byte t d at 35 good s) good refl refl)
+      turned-value-found e k =
+          turned-by mode modes.valueFound q _ b e (turn-found c _ ∙ sym (turn-value-found c _)) (λ good s. k (kind-byte t d at 35 good s) good refl refl)
 
-      pub turned-10 : mode ≡ 10 → (byteAt t at ≡ 5 → Emitted t d at q g g′ (emitsDeclarator c)) → Turned mode c d h at q g g′
+      pub turned-declarator : mode ≡ modes.declarator → (byteAt t at ≡ 5 → Emitted t d at q g g′ (emitsDeclarator c)) → Turned mode c d h at q g g′
       unfolding suits
-      turned-10 e k = turned-by mode 10 q _ b e (sym (turn-10 c _)) (λ good s. k (kind-byte t d at 5 good s) good)
+      turned-declarator e k = turned-by mode modes.declarator q _ b e (sym (turn-declarator c _)) (λ good s. k (kind-byte t d at 5 good s) good)
 
-      pub turned-11 : mode ≡ 11 → (eqb (byteAt t at) 15 || eqb (byteAt t at) 5 ≡ true → Emitted t d at q g g′ (λ n. emits c (behind n))) → Turned mode c d h at q g g′
-      turned-11 e k = turned-by mode 11 q _ b e (sym (turn-11 c _)) (λ good s. k (binds d at good s) good)
+      pub turned-binding : mode ≡ modes.binding → (eqb (byteAt t at) 15 || eqb (byteAt t at) 5 ≡ true → Emitted t d at q g g′ (λ n. emits c (behind n))) → Turned mode c d h at q g g′
+      turned-binding e k = turned-by mode modes.binding q _ b e (sym (turn-binding c _)) (λ good s. k (binds d at good s) good)
 
-      pub turned-13 : mode ≡ 13 → Valued 12 q g g′ → Turned mode c d h at q g g′
+      pub turned-value-anywhere : mode ≡ modes.valueAnywhere → Valued modes.anywhere q g g′ → Turned mode c d h at q g g′
       unfolding suits deepMode
-      turned-13 e k =
-          turned-by mode 13 q _ b e (turn-12 c _ ∙ sym (turn-13 c _))
+      turned-value-anywhere e k =
+          turned-by mode modes.valueAnywhere q _ b e (turn-anywhere c _ ∙ sym (turn-value-anywhere c _))
           (λ good s.
           let n : Node = lookNode t d at .value in
           k (kind-byte t d at 35 good (and-left (is 35 n) (not (hasArrayRestOverObjectRest (value n))) s)) good refl (and-right (is 35 n) (not (hasArrayRestOverObjectRest (value n))) s))
 
-      pub turned-14 : mode ≡ 14 → Valued 17 q g g′ → Turned mode c d h at q g g′
+      pub turned-value-in-arrays : mode ≡ modes.valueInArrays → Valued modes.inArrays q g g′ → Turned mode c d h at q g g′
       unfolding suits deepMode
-      turned-14 e k =
-          turned-by mode 14 q _ b e (turn-17 c _ ∙ sym (turn-14 c _))
+      turned-value-in-arrays e k =
+          turned-by mode modes.valueInArrays q _ b e (turn-in-arrays c _ ∙ sym (turn-value-in-arrays c _))
           (λ good s.
           let n : Node = lookNode t d at .value in
           k (kind-byte t d at 35 good (and-left (is 35 n) (not (hasArrayRestOverObjectRest (value n))) s)) good refl (and-right (is 35 n) (not (hasArrayRestOverObjectRest (value n))) s))
 
-      pub turned-15 : mode ≡ 15 → Valued 18 q g g′ → Turned mode c d h at q g g′
+      pub turned-value-straight : mode ≡ modes.valueStraight → Valued modes.straight q g g′ → Turned mode c d h at q g g′
       unfolding suits deepMode
-      turned-15 e k =
-          turned-by mode 15 q _ b e (turn-18 c _ ∙ sym (turn-15 c _))
+      turned-value-straight e k =
+          turned-by mode modes.valueStraight q _ b e (turn-straight c _ ∙ sym (turn-value-straight c _))
           (λ good s.
           let n : Node = lookNode t d at .value in
           k (kind-byte t d at 35 good (and-left (is 35 n) (not (hasArrayRestOverObjectRest (value n))) s)) good refl (and-right (is 35 n) (not (hasArrayRestOverObjectRest (value n))) s))
 
-      pub turned-16 : mode ≡ 16 → Emitted t d at q g g′ (λ p. emits c (outOf p)) → Turned mode c d h at q g g′
-      turned-16 e k = turned-by mode 16 q _ b e (sym (turn-16 c _)) (λ good s. k good)
+      pub turned-moved-out : mode ≡ modes.movedOut → Emitted t d at q g g′ (λ p. emits c (outOf p)) → Turned mode c d h at q g g′
+      turned-moved-out e k = turned-by mode modes.movedOut q _ b e (sym (turn-moved-out c _)) (λ good s. k good)
 
       pub turned-deep : Others mode
           → (Good t d at → deepMode mode ≡ true → suits mode (lookNode t d at .value) ≡ true

@@ -1,3 +1,4 @@
+pub mod Modes
 pub mod Run
 pub mod Whole
 pub mod Turns

@@ -32,6 +32,7 @@ use Rattle.direct.specs.Handed.{placeMade, keyMade, keysMade, keyBytes, exclude
 use Rattle.direct.specs.Declared.{emitsKeyValue, emitsFound, emitsDeclarator}
 use Rattle.direct.specs.Assigned.{emitsInner}
 use Rattle.direct.specs.Moved.{outOf, movedIn, behind}
+use Rattle.walk.specs.Modes as modes
 use Rattle.walk.specs.declared.look.Start.{Start}
 use Rattle.walk.specs.declared.look.Start.the-variants.{Value, Missing}
 use Rattle.walk.specs.declared.place.Place as place
@@ -40,43 +41,56 @@ use Rattle.lowering.specs.Keys.Entry.{spelt, itself, omitted, saved}
 
 -- a view by its number, and where objects are looked for
 unfoldable pub viewOf : ℕ → View
-viewOf v = cond (eqb v 2) taking replacing
+viewOf v = cond (eqb v modes.takingView) taking replacing
 
 unfoldable pub reachOf : ℕ → Reach
-reachOf r = cond (eqb r 2) straight (cond (eqb r 3) inArrays anywhere)
+reachOf r = cond (eqb r modes.reachStraight) straight (cond (eqb r modes.reachInArrays) inArrays anywhere)
 
--- ---- modes
+-- the view of an object's values, of an array's items and of a default's left
+abbrev pub valuesIn : ℕ → ℕ
+valuesIn v = cond (eqb v modes.takingView) modes.replacingView v
 
--- patterns: 1 in the view that replaces, 8 what is found below, 12, 17 and 18 the assignments of the objects that are found anywhere, below
--- arrays, through objects, 16 moved out. Properties: 2 and 4 in a view, 6 an excluded key, 7 a key's value, 9, 13, 14, 15 as 8, 12, 17, 18 for
--- the property's value. 10 a declarator, 11 a parameter or a declarator whose pattern is moved out
+-- ---- modes of a list
+
+-- what is done for an item
 unfoldable pub turnOf : ℕ → Place → Node → Emit
 turnOf mode c n =
-    cond (eqb mode 1) (emitsView c replacing n)
-    (cond (eqb mode 2) (emitsProperty c false replacing n)
-    (cond (eqb mode 4) (emitsProperty c true replacing n)
-    (cond (eqb mode 6) (emitsExcluded c n)
-    (cond (eqb mode 7) (emitsKeyValue c n)
-    (cond (eqb mode 8) (emitsFound c n)
-    (cond (eqb mode 9) (emitsFound c (value n))
-    (cond (eqb mode 10) (emitsDeclarator c n)
-    (cond (eqb mode 11) (emits c (behind n))
-    (cond (eqb mode 12) (overReached (emitsInner c) anywhere n)
-    (cond (eqb mode 13) (overReached (emitsInner c) anywhere (value n))
-    (cond (eqb mode 14) (overReached (emitsInner c) inArrays (value n))
-    (cond (eqb mode 15) (overReached (emitsInner c) straight (value n))
-    (cond (eqb mode 16) (emits c (outOf n))
-    (cond (eqb mode 17) (overReached (emitsInner c) inArrays n)
-    (cond (eqb mode 18) (overReached (emitsInner c) straight n)
+    cond (eqb mode modes.viewed) (emitsView c replacing n)
+    (cond (eqb mode modes.property) (emitsProperty c false replacing n)
+    (cond (eqb mode modes.takenProperty) (emitsProperty c true replacing n)
+    (cond (eqb mode modes.excludedKey) (emitsExcluded c n)
+    (cond (eqb mode modes.keyValue) (emitsKeyValue c n)
+    (cond (eqb mode modes.found) (emitsFound c n)
+    (cond (eqb mode modes.valueFound) (emitsFound c (value n))
+    (cond (eqb mode modes.declarator) (emitsDeclarator c n)
+    (cond (eqb mode modes.binding) (emits c (behind n))
+    (cond (eqb mode modes.anywhere) (overReached (emitsInner c) anywhere n)
+    (cond (eqb mode modes.valueAnywhere) (overReached (emitsInner c) anywhere (value n))
+    (cond (eqb mode modes.valueInArrays) (overReached (emitsInner c) inArrays (value n))
+    (cond (eqb mode modes.valueStraight) (overReached (emitsInner c) straight (value n))
+    (cond (eqb mode modes.movedOut) (emits c (outOf n))
+    (cond (eqb mode modes.inArrays) (overReached (emitsInner c) inArrays n)
+    (cond (eqb mode modes.straight) (overReached (emitsInner c) straight n)
     (say []))))))))))))))))
 
 -- those that go below a pattern
 unfoldable pub deepMode : ℕ → Bool
-deepMode mode = eqb mode 8 || (eqb mode 12 || (eqb mode 17 || eqb mode 18))
+deepMode mode = eqb mode modes.found || (eqb mode modes.anywhere || (eqb mode modes.inArrays || eqb mode modes.straight))
+
+-- that of the properties of an object in a view, by whether its rest is taken
+abbrev pub propertyMode : Bool → ℕ
+propertyMode rest = cond rest modes.takenProperty modes.property
+
+-- that of the values of an object, and that of the items of an array, by the mode of the pattern
+abbrev pub valueMode : ℕ → ℕ
+valueMode mode = cond (eqb mode modes.anywhere) modes.valueAnywhere (cond (eqb mode modes.inArrays) modes.valueInArrays modes.valueStraight)
+
+abbrev pub itemMode : ℕ → ℕ
+itemMode mode = cond (eqb mode modes.found) modes.found modes.anywhere
 
 -- those whose items have rests of their own: they are told whether the scope is the root. In any other mode an item asks for itself
 unfoldable pub isTold : ℕ → Bool
-isTold mode = deepMode mode || (eqb mode 9 || (eqb mode 10 || (eqb mode 13 || (eqb mode 14 || eqb mode 15))))
+isTold mode = deepMode mode || (eqb mode modes.valueFound || (eqb mode modes.declarator || (eqb mode modes.valueAnywhere || (eqb mode modes.valueInArrays || eqb mode modes.valueStraight))))
 
 unfoldable pub toldPlace : ℕ → Bool → place.Place → Place
 toldPlace mode root c = cond (isTold mode) (placeWith root c) (placeOf c)
@@ -84,15 +98,15 @@ toldPlace mode root c = cond (isTold mode) (placeWith root c) (placeOf c)
 -- what may stand in the list: patterns, those without an object rest below an array rest, properties, declarators, parameters or declarators
 unfoldable pub suits : ℕ → Node → Bool
 suits mode n =
-    cond (eqb mode 1 || (eqb mode 8 || eqb mode 16)) true
-    (cond (eqb mode 12 || (eqb mode 17 || eqb mode 18)) (not (hasArrayRestOverObjectRest n))
-    (cond (eqb mode 2 || (eqb mode 4 || (eqb mode 6 || (eqb mode 7 || eqb mode 9)))) (is 35 n)
-    (cond (eqb mode 13 || (eqb mode 14 || eqb mode 15)) (is 35 n && not (hasArrayRestOverObjectRest (value n)))
-    (cond (eqb mode 10) (is 5 n) (cond (eqb mode 11) (is 15 n || is 5 n) false)))))
+    cond (eqb mode modes.viewed || (eqb mode modes.found || eqb mode modes.movedOut)) true
+    (cond (eqb mode modes.anywhere || (eqb mode modes.inArrays || eqb mode modes.straight)) (not (hasArrayRestOverObjectRest n))
+    (cond (eqb mode modes.property || (eqb mode modes.takenProperty || (eqb mode modes.excludedKey || (eqb mode modes.keyValue || eqb mode modes.valueFound)))) (is 35 n)
+    (cond (eqb mode modes.valueAnywhere || (eqb mode modes.valueInArrays || eqb mode modes.valueStraight)) (is 35 n && not (hasArrayRestOverObjectRest (value n)))
+    (cond (eqb mode modes.declarator) (is 5 n) (cond (eqb mode modes.binding) (is 15 n || is 5 n) false)))))
 
 -- a hole is written where the list is
 unfoldable pub holeOf : ℕ → Emit
-holeOf mode = cond (eqb mode 1 || eqb mode 16) (say (does (put 0) ∷ [])) (say [])
+holeOf mode = cond (eqb mode modes.viewed || eqb mode modes.movedOut) (say (does (put 0) ∷ [])) (say [])
 
 unfoldable pub turnsOf : ℕ → Place → Items → Emit
 turnsOf mode c none = say []
@@ -112,9 +126,9 @@ sourceOf tree b = reads tree (readOf b)
 
 -- ---- what is looked up
 
--- how a key is written among the excluded keys: 1 as a string, 2 as it stands, 3 not at all, 4 as a temporary
+-- how a key is written among the excluded keys
 unfoldable pub keyClass : Node → ℕ
-keyClass k = elim (entryOf (keySort k)) [ spelt ↦ 1 | itself ↦ 2 | omitted ↦ 3 | saved ↦ 4 ]
+keyClass k = elim (entryOf (keySort k)) [ spelt ↦ modes.asString | itself ↦ modes.asItStands | omitted ↦ modes.leftOut | saved ↦ modes.asTemporary ]
 
 unfoldable pub keyString : Node → List ℕ
 keyString k = elim (entryOf (keySort k)) [ spelt ↦ stringBytes (keyText k) | itself ↦ [] | omitted ↦ [] | saved ↦ [] ]
@@ -144,7 +158,7 @@ movesOf true n = movedIn n
 movesOf false n = movedFrom n
 
 abbrev pub AllBind : Bool → Items → Type 0
-AllBind arrays ns = arrays ≡ false → AllSuit 11 ns
+AllBind arrays ns = arrays ≡ false → AllSuit modes.binding ns
 
 -- what is done if nothing is refused, the number being 0; else the refusal, and two bytes in place of the node
 abbrev pub unlessRefused : ℕ → Emit → Emit
@@ -168,14 +182,16 @@ blockHead n = puts (2 ∷ 3 ∷ []) ++ (does newMark ∷ puts (wideBytes n))
 
 -- ---- what is handed out for an object, by a mode
 
--- 1 its place is made, 2 its keys are made, 3 its excluded keys go out, 4 the same at root
+abbrev pub excludeMode : Bool → ℕ
+excludeMode root = cond root modes.excludeKeysAtRoot modes.excludeKeys
+
 unfoldable pub ownOf : ℕ → Node → Emit
-ownOf mode o = cond (eqb mode 1) (placeMade o) (cond (eqb mode 2) (keysMade o) (cond (eqb mode 3) (excludesOf false o) (excludesOf true o)))
+ownOf mode o = cond (eqb mode modes.makePlace) (placeMade o) (cond (eqb mode modes.makeKeys) (keysMade o) (cond (eqb mode modes.excludeKeys) (excludesOf false o) (excludesOf true o)))
 
 -- for all objects that the view replaces
 unfoldable pub overAll : ℕ → ℕ → Node → Emit
 overAll mode v p = overObjects (ownOf mode) (viewOf v) p
 
--- for a property: 1 its key is made, 3 it is excluded, else it is listed
+-- for a property
 unfoldable pub keyOf : ℕ → Node → Emit
-keyOf mode q = cond (eqb mode 3) (say (excludes (keyBytes q))) (cond (eqb mode 1) (keyMade q) (handsKey q))
+keyOf mode q = cond (eqb mode modes.keyExcluded) (say (excludes (keyBytes q))) (cond (eqb mode modes.keyMade) (keyMade q) (handsKey q))

@@ -1,14 +1,19 @@
 // What the rules hand out before they write: temporaries, entries, excluded keys.
+use crate::kinds;
 use crate::look::cell;
 use crate::look::has_second;
 use crate::look::hoisted;
 use crate::look::is_other;
 use crate::place::less;
+use crate::reaches;
+use crate::stems;
 use crate::target::object_count;
 use crate::target::target_count;
 use crate::target::target_item;
 use crate::target::target_values;
+use crate::views;
 use crate::walk::Walk;
+use crate::written;
 use pattern::declarators::is_lowered;
 use pattern::keys::Key;
 use pattern::keys::excluded_keys;
@@ -46,12 +51,21 @@ ghost use Rattle.direct.specs.Moved as moved;
 ghost use Rattle.direct.specs.Moved.{movedIn};
 ghost use Rattle.walk.specs.Run.{goingOf, Does};
 ghost use Rattle.walk.specs.Whole.{holeAt, GoodItems, Good};
-ghost use Rattle.walk.specs.Turns.{viewOf, suits, AllSuit, ownOf, overAll, keyOf};
+ghost use Rattle.walk.specs.Modes.{binding, replacingView, takingView};
+ghost use Rattle.walk.specs.Turns.{viewOf, valuesIn, suits, AllSuit, excludeMode, ownOf, overAll, keyOf};
 
 // ---- over the objects of a pattern
 
-// The objects with rest of a declaration that the view v replaces, inner ones first, and what is done for each by the mode: 1 its place is
-// made, 2 its keys are made, 3 its excluded keys go out (4 the same at root).
+// What is done for an object: its place is made, its keys are made, its excluded keys go out.
+const MAKE_PLACE: usize = 1;
+
+const MAKE_KEYS: usize = 2;
+
+const EXCLUDE_KEYS: usize = 3;
+
+const EXCLUDE_KEYS_AT_ROOT: usize = 4;
+
+// The objects with rest of a declaration that the view v replaces, inner ones first, and what is done for each by the mode.
 pub fn over(
     w: Walk,
     t: &[u8],
@@ -69,9 +83,9 @@ pub fn over(
     }
     let kind = peek(t, at);
     match kind {
-        34 => over_object(w, t, list, work, left, at, v, mode),
-        36 => over_array(w, t, list, work, left, at, v, mode),
-        37 => over(
+        kinds::OBJECT_PATTERN => over_object(w, t, list, work, left, at, v, mode),
+        kinds::ARRAY_PATTERN => over_array(w, t, list, work, left, at, v, mode),
+        kinds::DEFAULT => over(
             w,
             t,
             list,
@@ -86,19 +100,19 @@ pub fn over(
 }
 
 fn values(v: usize) -> usize
-    ensures { λ r. ⌜ r ≡ cond (eqb v 2) 1 v ⌝ }
+    ensures { λ r. ⌜ r ≡ valuesIn v ⌝ }
 {
-    if v == 2 {
-        return 1;
+    if v == views::TAKING {
+        return views::REPLACING;
     }
     v
 }
 
 // Whether an object has a rest, and the view puts a temporary in its place.
 fn replaces(t: &[u8], at: usize, v: usize) -> bool
-    ensures { λ r. ⌜ r ≡ cond (eqb v 2) false (eqb (byteAt (now (t .entry)) (onward (now (t .entry)) at 1) / 2 % 2) 1) ⌝ }
+    ensures { λ r. ⌜ r ≡ cond (eqb v takingView) false (eqb (byteAt (now (t .entry)) (onward (now (t .entry)) at 1) / 2 % 2) 1) ⌝ }
 {
-    if v == 2 {
+    if v == views::TAKING {
         return false;
     }
     has_second(t, at)
@@ -177,7 +191,7 @@ fn over_value(
     }
     let below = less(left);
     let x = skip(t, below, step(t, at, 2));
-    if peek(t, x) < 34 {
+    if peek(t, x) < kinds::OBJECT_PATTERN {
         return w;
     }
     over(w, t, list, work, below, x, v, mode)
@@ -222,7 +236,7 @@ fn over_items(
     count: usize,
     mode: usize,
 ) -> Walk
-    ensures { λ r. ⌜ (r .at ≡ w .at) × ((o : List ℕ) → GoodItems (now (t .entry)) (lookNode (now (t .entry)) left) (Good (now (t .entry)) left) false true count first → Does (goingOf o (now (list .entry)) (now (work .entry)) w) (goingOf o (now (list .exit)) (now (work .exit)) r) (inTurn (overAll mode 1) (lookItems (now (t .entry)) (lookNode (now (t .entry)) left) true count first .value))) ⌝ }
+    ensures { λ r. ⌜ (r .at ≡ w .at) × ((o : List ℕ) → GoodItems (now (t .entry)) (lookNode (now (t .entry)) left) (Good (now (t .entry)) left) false true count first → Does (goingOf o (now (list .entry)) (now (work .entry)) w) (goingOf o (now (list .exit)) (now (work .exit)) r) (inTurn (overAll mode replacingView) (lookItems (now (t .entry)) (lookNode (now (t .entry)) left) true count first .value))) ⌝ }
 {
     let mut u = w;
     let mut n = count;
@@ -244,12 +258,12 @@ fn over_item(
     at: usize,
     mode: usize,
 ) -> Walk
-    ensures { λ r. ⌜ (r .at ≡ w .at) × ((o : List ℕ) → (holeAt (now (t .entry)) true at ≡ false → Good (now (t .entry)) left at) → Does (goingOf o (now (list .entry)) (now (work .entry)) w) (goingOf o (now (list .exit)) (now (work .exit)) r) (cond (holeAt (now (t .entry)) true at) (say []) (overAll mode 1 (lookNode (now (t .entry)) left at .value)))) ⌝ }
+    ensures { λ r. ⌜ (r .at ≡ w .at) × ((o : List ℕ) → (holeAt (now (t .entry)) true at ≡ false → Good (now (t .entry)) left at) → Does (goingOf o (now (list .entry)) (now (work .entry)) w) (goingOf o (now (list .exit)) (now (work .exit)) r) (cond (holeAt (now (t .entry)) true at) (say []) (overAll mode replacingView (lookNode (now (t .entry)) left at .value)))) ⌝ }
 {
     if peek(t, at) == 0 {
         return w;
     }
-    over(w, t, list, work, left, at, 1, mode)
+    over(w, t, list, work, left, at, views::REPLACING, mode)
 }
 
 fn object(
@@ -264,14 +278,21 @@ fn object(
     ensures { λ r. ⌜ (r .at ≡ w .at) × ((o : List ℕ) → Good (now (t .entry)) left at → byteAt (now (t .entry)) at ≡ 34 → Does (goingOf o (now (list .entry)) (now (work .entry)) w) (goingOf o (now (list .exit)) (now (work .exit)) r) (ownOf mode (lookNode (now (t .entry)) left at .value))) ⌝ }
 {
     match mode {
-        1 => w.make(work, at),
-        2 => each_key(w, t, list, work, left, at, 1),
-        3 => exclude(w, t, list, work, left, at, false),
+        MAKE_PLACE => w.make(work, at),
+        MAKE_KEYS => each_key(w, t, list, work, left, at, KEY_MADE),
+        EXCLUDE_KEYS => exclude(w, t, list, work, left, at, false),
         _ => exclude(w, t, list, work, left, at, true),
     }
 }
 
-// The properties of an object: 1 a temporary is made for a key that wants one, 2 it is listed with its value, 3 the key is excluded.
+// What is done for a property: a temporary is made for a key that wants one, it is listed with its value, the key is excluded.
+const KEY_MADE: usize = 1;
+
+const KEY_LISTED: usize = 2;
+
+const KEY_EXCLUDED: usize = 3;
+
+// The properties of an object, by a mode.
 fn each_key(
     w: Walk,
     t: &[u8],
@@ -332,15 +353,15 @@ fn one_key(
 {
     let below = less(left);
     let k = step(t, at, 2);
-    if mode == 3 {
+    if mode == KEY_EXCLUDED {
         return exclude_key(w, t, work, below, k);
     }
     if is_other(t, below, k) {
-        if mode == 1 {
+        if mode == KEY_MADE {
             return w.make(work, at);
         }
-        return w.listed2(list, 5, 3)
-            .listed_temporary(list, work, at, 4)
+        return w.listed2(list, written::DECLARATOR, written::FIRST_TWO)
+            .listed_temporary(list, work, at, stems::KEY)
             .listed_copy(list, t, k, skip(t, below, k));
     }
     w
@@ -376,19 +397,19 @@ pub fn exclude(
 {
     if hoisted(t, left, root, at) {
         let k = excluded_keys(t, left, at);
-        let u = w.excluded_head(work, cell(2, at), k);
-        return each_key(u, t, list, work, left, at, 3);
+        let u = w.excluded_head(work, cell(stems::EXCLUDED, at), k);
+        return each_key(u, t, list, work, left, at, KEY_EXCLUDED);
     }
     w
 }
 
 fn exclude_mode(root: bool) -> usize
-    ensures { λ r. ⌜ r ≡ cond root 4 3 ⌝ }
+    ensures { λ r. ⌜ r ≡ excludeMode root ⌝ }
 {
     if root {
-        return 4;
+        return EXCLUDE_KEYS_AT_ROOT;
     }
-    3
+    EXCLUDE_KEYS
 }
 
 // ---- what a rule hands out
@@ -405,14 +426,14 @@ fn pattern_makes(
     ensures { λ r. ⌜ (r .at ≡ w .at) × ((o : List ℕ) → Good (now (t .entry)) left at → Does (goingOf o (now (list .entry)) (now (work .entry)) w) (goingOf o (now (list .exit)) (now (work .exit)) r) (overObjects placeMade taking (lookNode (now (t .entry)) left at .value) ▷ overObjects keysMade replacing (lookNode (now (t .entry)) left at .value))) ⌝ }
 {
     over(
-        over(w, t, list, work, left, at, 2, 1),
+        over(w, t, list, work, left, at, views::TAKING, MAKE_PLACE),
         t,
         list,
         work,
         left,
         at,
-        1,
-        2,
+        views::REPLACING,
+        MAKE_KEYS,
     )
 }
 
@@ -435,7 +456,7 @@ pub fn pattern_hands(
         work,
         left,
         at,
-        1,
+        views::REPLACING,
         exclude_mode(root),
     )
 }
@@ -456,7 +477,14 @@ fn declarator_makes(
         if is_name(t, below, skip(t, below, id)) {
             return pattern_makes(w, t, list, work, below, id);
         }
-        return pattern_makes(w.make(work, cell(3, id)), t, list, work, below, id);
+        return pattern_makes(
+            w.make(work, cell(stems::VALUE, id)),
+            t,
+            list,
+            work,
+            below,
+            id,
+        );
     }
     w
 }
@@ -480,7 +508,7 @@ fn declarator_excludes(
             work,
             less(left),
             step(t, at, 2),
-            1,
+            views::REPLACING,
             exclude_mode(root),
         );
     }
@@ -565,12 +593,15 @@ pub fn top_hands(
 ) -> Walk
     ensures { λ r. ⌜ (r .at ≡ w .at) × ((o : List ℕ) → Good (now (t .entry)) left at → byteAt (now (t .entry)) at ≡ 34 → Does (goingOf o (now (list .entry)) (now (work .entry)) w) (goingOf o (now (list .exit)) (now (work .exit)) r) (handsTop root mark (lookNode (now (t .entry)) left at .value))) ⌝ }
 {
-    let n = plus(object_count(t, left, at, 2), key_temporaries(t, left, at));
+    let n = plus(
+        object_count(t, left, at, reaches::STRAIGHT),
+        key_temporaries(t, left, at),
+    );
     let u = w.entry(list, mark, 1 + n)
-        .listed2(list, 5, 1)
-        .listed_temporary(list, work, cell(3, at), 3);
-    let u = target_values(u, t, list, work, left, at, 2);
-    let u = each_key(u, t, list, work, left, at, 2);
+        .listed2(list, written::DECLARATOR, written::FIRST)
+        .listed_temporary(list, work, cell(stems::VALUE, at), stems::VALUE);
+    let u = target_values(u, t, list, work, left, at, reaches::STRAIGHT);
+    let u = each_key(u, t, list, work, left, at, KEY_LISTED);
     exclude(u, t, list, work, left, at, root)
 }
 
@@ -585,30 +616,30 @@ pub fn nested_hands(
     v: usize,
     mark: usize,
 ) -> Walk
-    ensures { λ r. ⌜ (r .at ≡ w .at) × ((o : List ℕ) → Good (now (t .entry)) left at → (v ≡ 2 → byteAt (now (t .entry)) at ≡ 34) → Does (goingOf o (now (list .entry)) (now (work .entry)) w) (goingOf o (now (list .exit)) (now (work .exit)) r) (handsNested (viewOf v) mark (lookNode (now (t .entry)) left at .value))) ⌝ }
+    ensures { λ r. ⌜ (r .at ≡ w .at) × ((o : List ℕ) → Good (now (t .entry)) left at → (v ≡ takingView → byteAt (now (t .entry)) at ≡ 34) → Does (goingOf o (now (list .entry)) (now (work .entry)) w) (goingOf o (now (list .exit)) (now (work .exit)) r) (handsNested (viewOf v) mark (lookNode (now (t .entry)) left at .value))) ⌝ }
 {
     let u = w.entry(list, mark, places_in(t, left, at, v));
-    if v == 2 {
-        return target_values(u, t, list, work, left, at, 3);
+    if v == views::TAKING {
+        return target_values(u, t, list, work, left, at, reaches::IN_ARRAYS);
     }
-    target_item(u, t, list, work, left, at, 1)
+    target_item(u, t, list, work, left, at, reaches::ANYWHERE)
 }
 
 // How many objects of a target the nested rule replaces.
 pub fn places_in(t: &[u8], left: usize, at: usize, v: usize) -> usize
-    ensures { λ r. ⌜ ((v ≡ 2 → byteAt (now (t .entry)) at ≡ 34) → r ≡ limited (placesIn (viewOf v) (lookNode (now (t .entry)) left at .value))) ⌝ }
+    ensures { λ r. ⌜ ((v ≡ takingView → byteAt (now (t .entry)) at ≡ 34) → r ≡ limited (placesIn (viewOf v) (lookNode (now (t .entry)) left at .value))) ⌝ }
 {
-    if v == 2 {
-        return object_count(t, left, at, 3);
+    if v == views::TAKING {
+        return object_count(t, left, at, reaches::IN_ARRAYS);
     }
-    target_count(t, left, at, 1)
+    target_count(t, left, at, reaches::ANYWHERE)
 }
 
 // How long the sequence of an assignment is.
 pub fn top_count(t: &[u8], left: usize, at: usize, statement: bool) -> usize
     ensures { λ r. ⌜ (Good (now (t .entry)) left at → byteAt (now (t .entry)) at ≡ 34 → r ≡ suc (suc (suc (cond statement (partsCount (lookNode (now (t .entry)) left at .value)) (suc (partsCount (lookNode (now (t .entry)) left at .value))))))) × (r < 65541) ⌝ }
 {
-    let n = object_count(t, left, at, 2);
+    let n = object_count(t, left, at, reaches::STRAIGHT);
     if statement {
         return 3 + n;
     }
@@ -624,7 +655,7 @@ pub fn moves_make(
     first: usize,
     count: usize,
 ) -> Walk
-    ensures { λ r. ⌜ (r .at ≡ w .at) × ((o l : List ℕ) → GoodItems (now (t .entry)) (lookNode (now (t .entry)) left) (Good (now (t .entry)) left) false false count first → AllSuit 11 (lookItems (now (t .entry)) (lookNode (now (t .entry)) left) false count first .value) → Does (goingOf o l (now (work .entry)) w) (goingOf o l (now (work .exit)) r) (say (moved.makes (gather movedFrom (lookItems (now (t .entry)) (lookNode (now (t .entry)) left) false count first .value))))) ⌝ }
+    ensures { λ r. ⌜ (r .at ≡ w .at) × ((o l : List ℕ) → GoodItems (now (t .entry)) (lookNode (now (t .entry)) left) (Good (now (t .entry)) left) false false count first → AllSuit binding (lookItems (now (t .entry)) (lookNode (now (t .entry)) left) false count first .value) → Does (goingOf o l (now (work .entry)) w) (goingOf o l (now (work .exit)) r) (say (moved.makes (gather movedFrom (lookItems (now (t .entry)) (lookNode (now (t .entry)) left) false count first .value))))) ⌝ }
 {
     let mut u = w;
     let mut n = count;
@@ -638,7 +669,7 @@ pub fn moves_make(
 }
 
 fn move_makes(w: Walk, t: &[u8], work: &mut [u8], left: usize, at: usize) -> Walk
-    ensures { λ r. ⌜ (r .at ≡ w .at) × ((o l : List ℕ) → Good (now (t .entry)) left at → suits 11 (lookNode (now (t .entry)) left at .value) ≡ true → Does (goingOf o l (now (work .entry)) w) (goingOf o l (now (work .exit)) r) (say (moved.makes (movedFrom (lookNode (now (t .entry)) left at .value))))) ⌝ }
+    ensures { λ r. ⌜ (r .at ≡ w .at) × ((o l : List ℕ) → Good (now (t .entry)) left at → suits binding (lookNode (now (t .entry)) left at .value) ≡ true → Does (goingOf o l (now (work .entry)) w) (goingOf o l (now (work .exit)) r) (say (moved.makes (movedFrom (lookNode (now (t .entry)) left at .value))))) ⌝ }
 {
     if left == 0 {
         return w;
@@ -659,9 +690,9 @@ fn makes(w: Walk, t: &[u8], work: &mut [u8], left: usize, at: usize) -> Walk
     }
     let kind = peek(t, at);
     match kind {
-        34 => w.make(work, at),
-        36 => makes_array(w, t, work, left, at),
-        37 => w.make(work, at),
+        kinds::OBJECT_PATTERN => w.make(work, at),
+        kinds::ARRAY_PATTERN => makes_array(w, t, work, left, at),
+        kinds::DEFAULT => w.make(work, at),
         _ => w,
     }
 }

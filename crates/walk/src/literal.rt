@@ -1,5 +1,8 @@
 // Object literals with spreads: how many properties come before a spread, and the heads of the calls.
+use crate::helpers;
+use crate::kinds;
 use crate::walk::Walk;
+use crate::written;
 use tree::bytes::peek;
 use tree::bytes::wide_at;
 use tree::skip::skip;
@@ -26,7 +29,7 @@ pub fn is_spread(t: &[u8], left: usize, at: usize) -> bool
         return false;
     }
     let kind = peek(t, at);
-    kind == 26
+    kind == kinds::SPREAD
 }
 
 // How many properties there are up to the first spread.
@@ -47,17 +50,24 @@ pub fn run_of(t: &[u8], left: usize, count: usize, at: usize) -> usize
     k
 }
 
-// The call so far, after one more property.
+// The call so far: there is none, nothing is pending behind it, something is.
+const NO_CALL: usize = 0;
+
+const NOTHING_PENDING: usize = 1;
+
+const SOME_PENDING: usize = 2;
+
+// The same after one more property.
 pub fn mode_next(t: &[u8], left: usize, at: usize, mode: usize) -> usize
     ensures { λ r. ⌜ r ≡ modeNext mode (lookNode (now (t .entry)) left at .value) ⌝ }
 {
     if is_spread(t, left, at) {
-        return 1;
+        return NOTHING_PENDING;
     }
-    if mode == 0 {
-        return 0;
+    if mode == NO_CALL {
+        return NO_CALL;
     }
-    2
+    SOME_PENDING
 }
 
 pub fn mode_after(t: &[u8], left: usize, count: usize, at: usize, mode: usize) -> usize
@@ -79,10 +89,10 @@ pub fn head_at(w: Walk, t: &[u8], out: &mut [u8], left: usize, at: usize, mode: 
     ensures { λ r. ⌜ ((l k : List ℕ) → Does (goingOf (now (out .entry)) l k w) (goingOf (now (out .exit)) l k r) (say (headAt mode (lookNode (now (t .entry)) left at .value)))) × (r .at ≡ w .at) ⌝ }
 {
     if is_spread(t, left, at) {
-        if mode == 2 {
-            return w.call(out, 1, 4);
+        if mode == SOME_PENDING {
+            return w.call(out, helpers::OBJECT_SPREAD, 4);
         }
-        return w.call(out, 1, 2);
+        return w.call(out, helpers::OBJECT_SPREAD, 2);
     }
     w
 }
@@ -125,8 +135,16 @@ pub fn all_heads(
     ensures { λ r. ⌜ ((l k : List ℕ) → Does (goingOf (now (out .entry)) l k w) (goingOf (now (out .exit)) l k r) (say (heads mode (lookItems (now (t .entry)) (lookNode (now (t .entry)) left) false n at .value)))) × (r .at ≡ w .at) ⌝ }
 {
     let m = mode_after(t, left, n, at, mode);
-    if m == 2 {
-        return inner_heads(w.call(out, 1, 3), t, out, left, n, at, mode);
+    if m == SOME_PENDING {
+        return inner_heads(
+            w.call(out, helpers::OBJECT_SPREAD, 3),
+            t,
+            out,
+            left,
+            n,
+            at,
+            mode,
+        );
     }
     inner_heads(w, t, out, left, n, at, mode)
 }
@@ -138,9 +156,9 @@ pub fn pending(w: Walk, out: &mut [u8], n: usize) -> Walk
     if n == 0 {
         return w;
     }
-    w.put2(out, 24, 1)
+    w.put2(out, written::OBJECT, written::FIRST)
         .put2(out, 0, 0)
-        .put2(out, 24, 1)
+        .put2(out, written::OBJECT, written::FIRST)
         .wide(out, n)
 }
 
@@ -157,8 +175,8 @@ pub fn opening(w: Walk, t: &[u8], out: &mut [u8], left: usize, n: usize, at: usi
     ensures { λ r. ⌜ ((l k : List ℕ) → n < 65536 → Does (goingOf (now (out .entry)) l k w) (goingOf (now (out .exit)) l k r) (say (heads 0 (lookItems (now (t .entry)) (lookNode (now (t .entry)) left) false n at .value)) ▷ say (puts (24 ∷ 1 ∷ wideBytes (run (lookItems (now (t .entry)) (lookNode (now (t .entry)) left) false n at .value)))))) × (r .at ≡ w .at) ⌝ }
 {
     let k = run_of(t, left, n, at);
-    all_heads(w, t, out, left, n, at, 0)
-        .put2(out, 24, 1)
+    all_heads(w, t, out, left, n, at, NO_CALL)
+        .put2(out, written::OBJECT, written::FIRST)
         .wide(out, k)
 }
 

@@ -1,4 +1,8 @@
 // What the emitters look up before they write.
+use crate::kinds;
+use crate::modes;
+use crate::stems;
+use crate::views;
 use pattern::keys::Key;
 use pattern::keys::all_primitive;
 use pattern::keys::has_no_properties;
@@ -9,7 +13,7 @@ use tree::bytes::peek;
 use tree::skip::skip;
 use tree::skip::step;
 ghost use mathlib.Core.Path.{_≡_};
-ghost use mathlib.Core.Bool.{Bool, true, false, cond, not};
+ghost use mathlib.Core.Bool.{Bool, true, false, not};
 ghost use Prim.Native.Nat.{ℕ, _/_, _%_, _<_, _≤_};
 ghost use lib.Dec.{eqb};
 ghost use Rattle.tree.specs.Read.{byteAt};
@@ -22,7 +26,7 @@ ghost use Rattle.direct.specs.Events as events;
 ghost use Rattle.direct.specs.Views.{isOther, takes};
 ghost use Rattle.direct.specs.Keys.{hoists};
 ghost use Rattle.direct.specs.Moved.{number};
-ghost use Rattle.walk.specs.Turns.{viewOf, keyClass, levelOf, startOf};
+ghost use Rattle.walk.specs.Turns.{viewOf, propertyMode, valueMode, itemMode, keyClass, levelOf, startOf};
 
 // The first bit of the bit map of the node at a position, and the second.
 pub fn first_bit(t: &[u8], at: usize) -> usize
@@ -45,43 +49,43 @@ pub fn has_second(t: &[u8], at: usize) -> bool
 
 // The modes of a turn: of a property in a view, of a property's value, of an item.
 pub fn property_mode(rest: bool) -> usize
-    ensures { λ r. ⌜ r ≡ cond rest 4 2 ⌝ }
+    ensures { λ r. ⌜ r ≡ propertyMode rest ⌝ }
 {
     if rest {
-        return 4;
+        return modes::TAKEN_PROPERTY;
     }
-    2
+    modes::PROPERTY
 }
 
 // Whether a view puts a temporary in the place of an object with rest.
 pub fn replaces(v: usize) -> bool
     ensures { λ r. ⌜ r ≡ not (takes (viewOf v)) ⌝ }
 {
-    if v == 2 {
+    if v == views::TAKING {
         return false;
     }
     true
 }
 
 pub fn value_mode(mode: usize) -> usize
-    ensures { λ r. ⌜ r ≡ cond (eqb mode 12) 13 (cond (eqb mode 17) 14 15) ⌝ }
+    ensures { λ r. ⌜ r ≡ valueMode mode ⌝ }
 {
-    if mode == 12 {
-        return 13;
+    if mode == modes::ANYWHERE {
+        return modes::VALUE_ANYWHERE;
     }
-    if mode == 17 {
-        return 14;
+    if mode == modes::IN_ARRAYS {
+        return modes::VALUE_IN_ARRAYS;
     }
-    15
+    modes::VALUE_STRAIGHT
 }
 
 pub fn item_mode(mode: usize) -> usize
-    ensures { λ r. ⌜ r ≡ cond (eqb mode 8) 8 12 ⌝ }
+    ensures { λ r. ⌜ r ≡ itemMode mode ⌝ }
 {
-    if mode == 8 {
-        return 8;
+    if mode == modes::FOUND {
+        return modes::FOUND;
     }
-    12
+    modes::ANYWHERE
 }
 
 // The level of the parameters or declarators of a head: that of its body, or one below.
@@ -98,14 +102,14 @@ pub fn level(left: usize, inner: bool) -> usize
 }
 
 // The cell of a temporary.
-pub fn cell(stem: usize, at: usize) -> usize
+pub fn cell(stem: u8, at: usize) -> usize
     ensures { λ r. ⌜ (at < 16384 → 0 < stem → stem < 5 → r ≡ events.cell stem at) ⌝ }
 {
     if at < 16384 {
-        if stem == 2 {
+        if stem == stems::EXCLUDED {
             return at + 1;
         }
-        if stem == 3 {
+        if stem == stems::VALUE {
             return at + 2;
         }
         return at;
@@ -113,32 +117,40 @@ pub fn cell(stem: usize, at: usize) -> usize
     at
 }
 
-// How a key is written among the excluded keys: 1 as a string, 2 as it stands, 3 not at all, 4 as a temporary.
+// How a key is written among the excluded keys.
+pub const AS_STRING: usize = 1;
+
+pub const AS_IT_STANDS: usize = 2;
+
+pub const LEFT_OUT: usize = 3;
+
+pub const AS_TEMPORARY: usize = 4;
+
 pub fn key_sort(t: &[u8], left: usize, at: usize) -> usize
     ensures { λ r. ⌜ r ≡ keyClass (lookNode (now (t .entry)) left at .value) ⌝ }
 {
     if 0 < left {
-        if peek(t, at) == 38 {
-            return 1;
+        if peek(t, at) == kinds::STATIC_KEY {
+            return AS_STRING;
         }
     }
     match transform_property_key(t, left, at) {
-        Key::Name { from: _, len: _ } => 1,
-        Key::Literal { from: _, len: _ } => 1,
-        Key::Number { value: _ } => 1,
-        Key::OtherForm { value: _ } => 1,
-        Key::NoForm => 1,
-        Key::Template => 2,
-        Key::Private => 3,
-        Key::Again => 2,
-        Key::Other => 4,
+        Key::Name { from: _, len: _ } => AS_STRING,
+        Key::Literal { from: _, len: _ } => AS_STRING,
+        Key::Number { value: _ } => AS_STRING,
+        Key::OtherForm { value: _ } => AS_STRING,
+        Key::NoForm => AS_STRING,
+        Key::Template => AS_IT_STANDS,
+        Key::Private => LEFT_OUT,
+        Key::Again => AS_IT_STANDS,
+        Key::Other => AS_TEMPORARY,
     }
 }
 
 pub fn is_other(t: &[u8], left: usize, at: usize) -> bool
     ensures { λ r. ⌜ r ≡ isOther (lookNode (now (t .entry)) left at .value) ⌝ }
 {
-    key_sort(t, left, at) == 4
+    key_sort(t, left, at) == AS_TEMPORARY
 }
 
 // Whether the excluded keys of the object pattern at a position go out to the list.

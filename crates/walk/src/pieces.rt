@@ -1,4 +1,6 @@
 // Pieces that are written without a walk: holes, sources, keys as strings.
+use crate::kinds;
+use crate::modes;
 use crate::walk::Walk;
 use pattern::keys::Key;
 use pattern::keys::transform_property_key;
@@ -19,6 +21,7 @@ ghost use Rattle.direct.specs.Events.Deed.{does};
 ghost use Rattle.direct.specs.Emit.{say};
 ghost use Rattle.walk.specs.Run.{goingOf, Does};
 ghost use Rattle.walk.specs.Whole.{Good};
+ghost use Rattle.walk.specs.Modes.{asString};
 ghost use Rattle.walk.specs.Turns.{holeOf, sourceOf, keyClass, keyString, awaits};
 
 // A hole of a list, written where the list is.
@@ -26,10 +29,10 @@ pub fn hole(w: Walk, t: &[u8], out: &mut [u8], mode: usize) -> Walk
     ensures { λ r. ⌜ (r .at ≡ onward (now (t .entry)) (w .at) 1) × ((l k : List ℕ) → part (w .at) (onward (now (t .entry)) (w .at) 1) (now (t .entry)) ≡ 0 ∷ [] → Does (goingOf (now (out .entry)) l k w) (goingOf (now (out .exit)) l k r) (holeOf mode)) ⌝ }
 {
     let q = step(t, w.at, 1);
-    if mode == 1 {
+    if mode == modes::VIEWED {
         return w.copy(t, out, q);
     }
-    if mode == 16 {
+    if mode == modes::MOVED_OUT {
         return w.copy(t, out, q);
     }
     w.to(q)
@@ -71,7 +74,7 @@ pub fn source(
 
 // A key as a string.
 pub fn string(w: Walk, t: &[u8], out: &mut [u8], left: usize, at: usize) -> Walk
-    ensures { λ r. ⌜ (r .at ≡ w .at) × ((l k : List ℕ) → Good (now (t .entry)) left at → keyClass (lookNode (now (t .entry)) left at .value) ≡ 1 → Does (goingOf (now (out .entry)) l k w) (goingOf (now (out .exit)) l k r) (say (puts (keyString (lookNode (now (t .entry)) left at .value))))) ⌝ }
+    ensures { λ r. ⌜ (r .at ≡ w .at) × ((l k : List ℕ) → Good (now (t .entry)) left at → keyClass (lookNode (now (t .entry)) left at .value) ≡ asString → Does (goingOf (now (out .entry)) l k w) (goingOf (now (out .exit)) l k r) (say (puts (keyString (lookNode (now (t .entry)) left at .value))))) ⌝ }
 {
     match transform_property_key(t, left, at) {
         Key::Name { from, len } => w.string(t, out, from, len),
@@ -91,7 +94,7 @@ pub fn await_of(w: Walk, t: &[u8], out: &mut [u8], at: usize) -> Walk
     ensures { λ r. ⌜ ((l k : List ℕ) → Does (goingOf (now (out .entry)) l k w) (goingOf (now (out .exit)) l k r) (say (puts (cond (awaits (now (t .entry)) at) (part (w .at) (onward (now (t .entry)) (w .at) 1) (now (t .entry))) [])))) ⌝ }
 {
     let q = w.at;
-    if peek(t, at) == 8 {
+    if peek(t, at) == kinds::FOR_OF {
         if peek(t, step(t, at, 1)) / 16 == 1 {
             return w.copy(t, out, step(t, q, 1));
         }

@@ -1,4 +1,5 @@
 // Where a node stands.
+use crate::kinds;
 ghost use mathlib.Core.Path.{_≡_};
 ghost use mathlib.Core.Bool.{true, false, not, _&&_, _||_};
 ghost use lib.Dec.{eqb};
@@ -32,16 +33,16 @@ fn opens_scope(kind: usize, field: usize) -> bool
     ensures { λ r. ⌜ r ≡ opensScope kind field ⌝ }
 {
     match kind {
-        2 => true,
-        6 => true,
-        7 => true,
-        8 => true,
-        10 => true,
-        14 => true,
-        17 => true,
-        40 => true,
-        42 => true,
-        43 => field == 2,
+        kinds::BLOCK => true,
+        kinds::FOR => true,
+        kinds::FOR_IN => true,
+        kinds::FOR_OF => true,
+        kinds::CATCH => true,
+        kinds::FUNCTION => true,
+        kinds::ARROW => true,
+        kinds::CLASS => true,
+        kinds::STATIC_BLOCK => true,
+        kinds::SWITCH => field == 2,
         _ => false,
     }
 }
@@ -50,11 +51,11 @@ pub fn container(kind: usize) -> bool
     ensures { λ r. ⌜ r ≡ isContainer kind ⌝ }
 {
     match kind {
-        1 => true,
-        2 => true,
-        16 => true,
-        42 => true,
-        44 => true,
+        kinds::PROGRAM => true,
+        kinds::BLOCK => true,
+        kinds::FUNCTION_BODY => true,
+        kinds::STATIC_BLOCK => true,
+        kinds::CASE => true,
         _ => false,
     }
 }
@@ -72,10 +73,10 @@ fn but_not(a: bool, b: bool) -> bool
 fn whole(kind: usize, statement: bool) -> bool
     ensures { λ r. ⌜ r ≡ eqb kind 3 || (eqb kind 31 && statement) ⌝ }
 {
-    if kind == 3 {
+    if kind == kinds::EXPRESSION_STATEMENT {
         return true;
     }
-    if kind == 31 {
+    if kind == kinds::PARENTHESISED {
         return statement;
     }
     false

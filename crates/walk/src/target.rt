@@ -1,8 +1,12 @@
 // The target walk: the objects with rest that stand nearest below the target of an assignment, in walk order. A reach says where they are looked
-// for: 1 anywhere, 2 through objects alone, 3 below arrays alone. One that is found is not entered.
+// for (`reaches`). One that is found is not entered.
+use crate::kinds;
 use crate::look::has_second;
 use crate::place::less;
+use crate::reaches;
+use crate::stems;
 use crate::walk::Walk;
+use crate::written;
 use pattern::parts;
 use pattern::tally::plus;
 use tree::bytes::peek;
@@ -38,14 +42,14 @@ pub fn target_count(t: &[u8], left: usize, at: usize, reach: usize) -> usize
     let below = left - 1;
     let kind = peek(t, at);
     match kind {
-        34 => {
+        kinds::OBJECT_PATTERN => {
             if parts::stands(t, left, at, 1) {
                 return found(reach);
             }
             object_count(t, left, at, reach)
         }
-        36 => {
-            if reach == 2 {
+        kinds::ARRAY_PATTERN => {
+            if reach == reaches::STRAIGHT {
                 return 0;
             }
             let run = parts::list(t, left, at, 0);
@@ -54,13 +58,13 @@ pub fn target_count(t: &[u8], left: usize, at: usize, reach: usize) -> usize
             let mut k = 0;
             while 0 < n {
                 let e = parts::item(t, true, below, p);
-                k = plus(k, target_count(t, e.left, e.at, 1));
+                k = plus(k, target_count(t, e.left, e.at, reaches::ANYWHERE));
                 p = skip_item(t, true, below, p);
                 n -= 1;
             }
             k
         }
-        37 => {
+        kinds::DEFAULT => {
             let l = parts::child(t, left, at, 0);
             target_count(t, l.left, l.at, reach)
         }
@@ -72,7 +76,7 @@ pub fn target_count(t: &[u8], left: usize, at: usize, reach: usize) -> usize
 fn found(reach: usize) -> usize
     ensures { λ r. ⌜ r ≡ cond (counts (reachOf reach)) 1 0 ⌝ }
 {
-    if reach == 3 {
+    if reach == reaches::IN_ARRAYS {
         return 0;
     }
     1
@@ -92,7 +96,7 @@ pub fn object_count(t: &[u8], left: usize, at: usize, reach: usize) -> usize
     let mut k = 0;
     while 0 < n {
         let v = parts::value(t, below, p);
-        if 33 < peek(t, v.at) {
+        if kinds::LAST_EXPRESSION < peek(t, v.at) {
             k = plus(k, target_count(t, v.left, v.at, reach));
         }
         p = skip(t, below, p);
@@ -141,10 +145,11 @@ fn target_object(
     ensures { λ r. ⌜ (r .at ≡ w .at) × ((o : List ℕ) → Good (now (t .entry)) (suc left) at → byteAt (now (t .entry)) at ≡ 34 → Does (goingOf o (now (list .entry)) (now (work .entry)) w) (goingOf o (now (list .exit)) (now (work .exit)) r) (overReached handsPlace (reachOf reach) (lookNode (now (t .entry)) (suc left) at .value))) ⌝ }
 {
     if has_second(t, at) {
-        if reach == 3 {
+        if reach == reaches::IN_ARRAYS {
             return w;
         }
-        return w.listed2(list, 5, 1).listed_temporary(list, work, at, 1);
+        return w.listed2(list, written::DECLARATOR, written::FIRST)
+            .listed_temporary(list, work, at, stems::PLACE);
     }
     if left == 0 {
         return w;
@@ -180,9 +185,9 @@ fn target_property(
     let x = skip(t, left, step(t, at, 2));
     let kind = peek(t, x);
     match kind {
-        34 => target_object(w, t, list, work, below, x, reach),
-        36 => {
-            if reach == 2 {
+        kinds::OBJECT_PATTERN => target_object(w, t, list, work, below, x, reach),
+        kinds::ARRAY_PATTERN => {
+            if reach == reaches::STRAIGHT {
                 return w;
             }
             let q = step(t, x, 2);
@@ -190,13 +195,13 @@ fn target_property(
             let mut n = wide_at(t, q);
             let mut p = step(t, q, 2);
             while 0 < n {
-                u = target_item(u, t, list, work, below, p, 1);
+                u = target_item(u, t, list, work, below, p, reaches::ANYWHERE);
                 p = skip_item(t, true, below, p);
                 n -= 1;
             }
             u
         }
-        37 => target_item(w, t, list, work, below, step(t, x, 2), reach),
+        kinds::DEFAULT => target_item(w, t, list, work, below, step(t, x, 2), reach),
         _ => w,
     }
 }
@@ -219,9 +224,9 @@ pub fn target_item(
     let below = left - 1;
     let kind = peek(t, at);
     match kind {
-        34 => target_object(w, t, list, work, below, at, reach),
-        36 => {
-            if reach == 2 {
+        kinds::OBJECT_PATTERN => target_object(w, t, list, work, below, at, reach),
+        kinds::ARRAY_PATTERN => {
+            if reach == reaches::STRAIGHT {
                 return w;
             }
             let q = step(t, at, 2);
@@ -229,13 +234,13 @@ pub fn target_item(
             let mut n = wide_at(t, q);
             let mut p = step(t, q, 2);
             while 0 < n {
-                u = target_item(u, t, list, work, below, p, 1);
+                u = target_item(u, t, list, work, below, p, reaches::ANYWHERE);
                 p = skip_item(t, true, below, p);
                 n -= 1;
             }
             u
         }
-        37 => target_item(w, t, list, work, below, step(t, at, 2), reach),
+        kinds::DEFAULT => target_item(w, t, list, work, below, step(t, at, 2), reach),
         _ => w,
     }
 }

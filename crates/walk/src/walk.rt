@@ -1,4 +1,7 @@
 // What the walk hands on, and the small steps that emitters are made of.
+use crate::helpers;
+use crate::stems;
+use crate::written;
 use pattern::numbers::digits_of;
 use sink::Sink;
 ghost use mathlib.Core.Path.{_≡_};
@@ -91,7 +94,9 @@ impl Walk {
     {
         let k = self.sink;
         Walk {
-            sink: k.put2(out, 29, 3).helper(out, h).put_wide(out, args),
+            sink: k.put2(out, written::CALL, written::FIRST_TWO)
+                .helper(out, h)
+                .put_wide(out, args),
             at: self.at,
             refusal: self.refusal,
         }
@@ -169,7 +174,8 @@ impl Walk {
     {
         let k = self.sink;
         Walk {
-            sink: k.put2(out, 27, 7).put(out, sink::bytes::low(op)),
+            sink: k.put2(out, written::ASSIGNMENT, written::FIRST_THREE)
+                .put(out, sink::bytes::low(op)),
             at: self.at,
             refusal: self.refusal,
         }
@@ -181,7 +187,7 @@ impl Walk {
     {
         let k = self.sink;
         Walk {
-            sink: k.put2(out, 4, 7)
+            sink: k.put2(out, written::DECLARATION, written::FIRST_THREE)
                 .new_mark(out)
                 .put(out, sort)
                 .put_wide(out, n),
@@ -196,7 +202,9 @@ impl Walk {
     {
         let k = self.sink;
         Walk {
-            sink: k.put2(out, 2, 3).new_mark(out).put_wide(out, n),
+            sink: k.put2(out, written::BLOCK, written::FIRST_TWO)
+                .new_mark(out)
+                .put_wide(out, n),
             at: self.at,
             refusal: self.refusal,
         }
@@ -206,12 +214,12 @@ impl Walk {
     pub fn empty_rest(self, out: &mut [u8]) -> Walk
         ensures { λ r. ⌜ ((l w : List ℕ) → Does (goingOf (now (out .entry)) l w self) (goingOf (now (out .exit)) l w r) (say (callHead 2 2 ++ (puts (24 ∷ 1 ∷ 0 ∷ 0 ∷ 28 ∷ 1 ∷ 2 ∷ 0 ∷ []) ++ callHead 3 1)))) × (r .at ≡ self .at) ⌝ }
     {
-        self.call(out, 2, 2)
-            .put2(out, 24, 1)
+        self.call(out, helpers::EXTENDS, 2)
+            .put2(out, written::OBJECT, written::FIRST)
             .put2(out, 0, 0)
-            .put2(out, 28, 1)
+            .put2(out, written::SEQUENCE, written::FIRST)
             .put2(out, 2, 0)
-            .call(out, 3, 1)
+            .call(out, helpers::OBJECT_DESTRUCTURING_EMPTY, 1)
     }
 
     // What stands behind keys that are mapped: `.map`, and the helper.
@@ -220,10 +228,10 @@ impl Walk {
     {
         let k = self.sink;
         Walk {
-            sink: k.put4(out, 3, 0, 109, 97)
-                .put(out, 112)
+            sink: k.put4(out, 3, 0, b'm', b'a')
+                .put(out, b'p')
                 .put2(out, 1, 0)
-                .helper(out, 5),
+                .helper(out, helpers::TO_PROPERTY_KEY),
             at: self.at,
             refusal: self.refusal,
         }
@@ -236,7 +244,13 @@ impl Walk {
         let k = self.sink;
         let end = tree::skip::step(t, from, n);
         Walk {
-            sink: k.put4(out, 22, 7, 1, 0)
+            sink: k.put4(
+                    out,
+                    written::LITERAL,
+                    written::FIRST_THREE,
+                    written::STRING,
+                    0,
+                )
                 .put(out, 0)
                 .put_wide(out, n)
                 .copy(out, t, from, end),
@@ -319,8 +333,8 @@ impl Walk {
         let k = self.sink;
         Walk {
             sink: k.declarator(work)
-                .excluded_temporary(work, c, 2)
-                .excluded2(work, 32, 1)
+                .excluded_temporary(work, c, stems::EXCLUDED)
+                .excluded2(work, written::ARRAY, written::FIRST)
                 .excluded_wide(work, n),
             at: self.at,
             refusal: self.refusal,
@@ -333,7 +347,13 @@ impl Walk {
         let k = self.sink;
         let end = tree::skip::step(t, from, n);
         Walk {
-            sink: k.excluded4(work, 22, 7, 1, 0)
+            sink: k.excluded4(
+                    work,
+                    written::LITERAL,
+                    written::FIRST_THREE,
+                    written::STRING,
+                    0,
+                )
                 .excluded(work, 0)
                 .excluded_wide(work, n)
                 .excluded_copy(work, t, from, end),

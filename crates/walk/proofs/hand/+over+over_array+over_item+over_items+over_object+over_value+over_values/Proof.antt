@@ -9,6 +9,7 @@ use lib.ListN.{length}
 use Rattle.tree.specs.Look.{lookItems, lookNode}
 use Rattle.lowering.specs.Patterns.{value}
 use Rattle.lowering.specs.Parts as parts
+use Rattle.walk.specs.Modes as modes
 use Rattle.walk.specs.Whole.{GoodItems, Good}
 use Rattle.walk.specs.Run.{goingOf}
 use Rattle.walk.specs.Turns.{overAll}
@@ -109,7 +110,7 @@ abbrev over-items-Inv-loop : cycle.Lts-over_items.InvT-loop
 over-items-Inv-loop t list₀ work₀ left first count mode u₀ n₀ p₀ list work u n p =
     (length list ≡ length list₀) × (length work ≡ length work₀) × (u .at ≡ u₀ .at)
     × ((o : List ℕ) → GoodItems t (lookNode t left) (Good t left) false true count first
-    → law.Left t left true law.Any (overAll mode 1) (goingOf o list₀ work₀ u₀) count first (goingOf o list work u) n p)
+    → law.Left t left true law.Any (overAll mode modes.replacingView) (goingOf o list₀ work₀ u₀) count first (goingOf o list work u) n p)
 
 abbrev over-items-μ-loop : cycle.Lts-over_items.MeasureT-loop
 over-items-μ-loop t list₀ work₀ left first count mode u₀ n₀ p₀ list work u n p = n

@@ -1,9 +1,9 @@
 use Rattle.walk.proofs.look.replaces.Statement.{statement}
 use Rattle.walk.proofs.look.replaces.Tie as tie
-use Rattle.walk.proofs.Viewing.{replaces-2, replaces-else}
+use Rattle.walk.proofs.Viewing.{replaces-not, replaces-else}
 
 returns : tie.Need-returns
-returns c = replaces-2 _ (c .if1 .taken)
+returns c = replaces-not _ (c .if1 .taken)
 
 returns-2 : tie.Need-returns-2
 returns-2 c = replaces-else _ (c .if1 .left)

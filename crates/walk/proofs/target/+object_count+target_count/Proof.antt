@@ -93,7 +93,7 @@ target-count-object-count-requires : (t : ℕ) → target-count-lts.Need-object-
 target-count-object-count-requires t c κs = (omega (arith, c .before .before .before .before .before .before .pre .0), tt)
 
 target-count-returns-3 : (t : ℕ) → target-count-lts.Need-returns-3 (target-count-claims t) (at-measure target-count-kinds.ps μ-target-count target-count.Pre t) target-count.Post target-count-Inv-loop target-count-μ-loop
-target-count-returns-3 t c = law.count-passed _ _ _ _ _ (c .before .before .before .if1 .left) (c .before .before .peek .ensures .value) (c .before .match .keys2) (law.passes-2 _ (c .if3 .taken))
+target-count-returns-3 t c = law.count-passed _ _ _ _ _ (c .before .before .before .if1 .left) (c .before .before .peek .ensures .value) (c .before .match .keys2) (law.passes-straight _ (c .if3 .taken))
 
 target-count-loop-holds : (t : ℕ) → target-count-lts.Need-loop-holds (target-count-claims t) (at-measure target-count-kinds.ps μ-target-count target-count.Pre t) target-count.Post target-count-Inv-loop target-count-μ-loop
 target-count-loop-holds t c = law.items-start _ _ _ _ _ (c .before .before .before .before .if1 .left) (c .before .before .before .peek .ensures .value) _ (c .before .before .match .keys2) (law.enters-else _ (c .before .if3 .left)) (c .list .ensures)

@@ -3,7 +3,7 @@ use Rattle.walk.proofs.target.found.Statement.{statement}
 use Rattle.walk.proofs.target.found.Tie as tie
 
 returns : tie.Need-returns
-returns c = law.found-3 _ (c .if1 .taken)
+returns c = law.found-in-arrays _ (c .if1 .taken)
 
 returns-2 : tie.Need-returns-2
 returns-2 c = law.found-else _ (c .if1 .left)
