@@ -1,7 +1,6 @@
--- Where writing an object pattern refuses nothing, neither does writing the value of its rest, with the copies of its keys: only what the
--- rest is assigned to can be refused.
+-- Where writing an object pattern refuses nothing, neither does writing the value of its rest, with the copies of its keys.
 -- Assumes nothing.
-use mathlib.Core.Path.{_≡_, refl, sym, ap, ap₂, _∙_, subst}
+use mathlib.Core.Path.{_≡_, refl, sym, ap₂, _∙_, subst}
 use mathlib.Core.Bool.{Bool, true, false, cond, _&&_, false≢true}
 use mathlib.Core.List.{List, [], _∷_, _++_}
 use mathlib.Core.Logic.{_⊎_, ⊎-elim}
@@ -22,8 +21,8 @@ use Rattle.tree.proofs.Look.{kind-at}
 use Rattle.lowering.specs.Parts.{position, kind, is, pieceIn, nodeAt, itemsAt, stands, standsIn, isEmpty}
 use Rattle.lowering.specs.Patterns.{Shape, shape, rest, hasRest, properties, key, value}
 use Rattle.lowering.specs.Patterns.Shape.{objectPattern, arrayPattern, leaf}
-use Rattle.lowering.specs.Keys.{keySort, excludedKey, excludedKeys, entryOf, keyText}
-use Rattle.lowering.specs.Rests.{isHoisted, keysRead, restValue}
+use Rattle.lowering.specs.Keys.{keySort, entryOf, keyText}
+use Rattle.lowering.specs.Rests.{restValue}
 use Rattle.lowering.specs.Walk.{Note, Walked, WalkedFields, WalkedPiece, WalkedItems}
 use Rattle.lowering.specs.Walk.Walked.{noted}
 use Rattle.lowering.specs.Weight.{walked}
@@ -38,17 +37,16 @@ use Rattle.direct.specs.Emit.{say, _▷_, inner, inTurn, callHead}
 use Rattle.direct.specs.Views.{View, takes, objectAt, objectRestAt, propertyAt, defaultAt, viewedProperty, nameless, eachDoes, saysCell, emitsView, emitsProperty, isOther, emitsKey}
 use Rattle.direct.specs.Views.View.{replacing, taking}
 use Rattle.direct.specs.Keys.{stringBytes, emitsExcluded, entries, primitives, hoists, emitsKeys, emitsKeysRead, emitsRest}
-use Rattle.direct.specs.Objects.{reachedIn, replacedIn, overReplaced, overParts}
-use Rattle.direct.specs.Objects.Reach.{straight}
+use Rattle.direct.specs.Objects.{replacedIn, overReplaced}
 use Rattle.direct.specs.Handed.{placesIn, handsPlace, handsNested}
 use Rattle.direct.specs.Assigned.{emitsRestOf, emitsNest, emitsTarget}
 use Rattle.direct.specs.Declared.{emitsKeyValue, emitsOwnKeys, emitsOwnPattern}
 use Rattle.direct.proofs.PatternViews.{view-object, view-rest, view-default, view-property}
 use Rattle.direct.proofs.RestValues.{excluded-spelt, excluded-itself, excluded-omitted, excluded-saved, rest-none, rest-some}
-use Rattle.direct.proofs.AssignmentsByPart.{target-nested, target-kept, rest-done}
+use Rattle.direct.proofs.AssignmentsByPart.{target-nested, target-kept}
 use Rattle.direct.proofs.Ways.{key-plain, own-pattern-some}
 use Rattle.outcome.specs.Named.{firstRefused}
-use Rattle.outcome.proofs.Refusals.{first, Sound, Silent, after-silent, silent-none, sound-both, silent-sound, first-both, puts-silent, marks-silent, hands-first, hands-sound}
+use Rattle.outcome.proofs.Refusals.{first, Sound, Silent, silent-none, sound-both, silent-sound, first-both, puts-silent, marks-silent, hands-first, hands-sound}
 use Rattle.outcome.proofs.Good.{Good, Leaf, Is35, rest-leaf, properties-35}
 use Rattle.outcome.proofs.Fitting.{fits-good}
 
@@ -181,10 +179,6 @@ record Once (e : Emit) : Type 0 where
 -- no refusal is 0
 pub record Sounds (e : Emit) : Type 0 where
   pub always : (m : ℕ) → Sound (e m)
-
--- the same is refused, whatever the next marks
-record Steadily (e f : Emit) : Type 0 where
-  always : (m m′ : ℕ) → Steady (e m) (f m′)
 
 once-left : {e : Emit} (f : Emit) → Once (e ▷ f) → Once e
 unfolding _▷_
@@ -529,33 +523,10 @@ own-calm c place p f e h s k m z at m′ =
 
 -- ---- the rests of a target
 
--- a part between others that refuse nothing
-between : (ds : List Deed) (e : Emit) {f : Emit} → Silent ds → Quiet f → (m : ℕ) → firstRefused ((say ds ▷ e ▷ f) m) ≡ firstRefused (e (after m ds))
-unfolding _▷_ say
-between ds e {f = f} h k m =
-    let n = after m ds in
-    after-silent ds (e n ++ f (after n (e n))) h ∙ then-none (e n) (f (after n (e n))) (k .always (after n (e n)))
-
 module _ (c : Place) where
   pub of-sounds : (o : Node) → Sounds (emitsRestOf c o)
   unfolding emitsRestOf
   of-sounds o = node-sounds (inner c) (assign (rest o) (restValue (contextOf c) o (temporary [] 3 (position o))))
-
-  -- what is assigned to the rest of an object refuses nothing: only what it is assigned to does
-  rest-steadily : {ps : Items} (at : ℕ) (r : Node) → Properties ps → Leaf r → Once (emitsView (inner c) taking (objectRestAt at ps r))
-      → Steadily (emitsRestOf c (objectRestAt at ps r)) (emits (inner c) r)
-  rest-steadily {ps = ps} at r w l h =
-      let o = objectRestAt at ps r in
-      let k = rest-has quiets (inner c) at ps (saysCell 3 at) (cell-has quiets 3 at) (λ _. taken-quiet (inner c) (inner c) taking refl refl at r w h) in
-      let head = puts (27 ∷ 7 ∷ 1 ∷ []) in
-      record {
-        always = λ m m′.
-            record {
-              left = of-sounds o .always m;
-              right = emits-sound (inner c) r m′;
-              same = ap (λ (e : Emit). firstRefused (e m)) (rest-done c at ps r l) ∙ between head (emits (inner c) r) tt k m ∙ steady (inner c) (inner c) r refl refl (after m head) m′;
-            };
-      }
 
 -- ---- the whole target
 
@@ -564,10 +535,6 @@ unfolding handsNested overReplaced handsPlace
 place-sounds v m p =
     sounds-then (say-sounds (does (Event.entry m (placesIn v p)) ∷ []) tt)
     (turn-sounds handsPlace (λ o. say-sounds (lists (5 ∷ 1 ∷ []) ++ (does (Event.listedTemporary (cell 1 (position o)) 1) ∷ [])) tt) (replacedIn v p))
-
-pub parts-sound : (f : Node → Emit) → ((o : Node) → Sounds (f o)) → (p : Node) → Sounds (overParts f p)
-unfolding overParts
-parts-sound f h p = turn-sounds f h (reachedIn straight p)
 
 -- its view is written in either way
 target-view : (c : Place) (p : Node) → Once (emitsTarget c p) → Once (emitsView (inner c) taking p)
@@ -579,22 +546,8 @@ target-view c p h =
     let head = puts (28 ∷ 1 ∷ wideBytes (suc (placesIn taking p))) in
     once-left _ (once-right (say-sounds (puts (27 ∷ 7 ∷ 1 ∷ [])) tt) (once-right (say-sounds head tt) (once-right (place-sounds taking (c .mark) p) (subst Once (target-nested c p e) h)))))
 
--- where all that is written for the target of an object with rest refuses nothing, its rest refuses what it is assigned to
-target-steadily : (c : Place) {p : Node} → Resting p → Once (emitsView (inner c) taking p) → Steadily (emitsRestOf c p) (emits (inner c) (rest p))
-unfolding nodeAt pieceIn
-target-steadily c (Resting.parts {at = at} {r = r} w l) h = rest-steadily c at r w l h
-
-pub target-calm : (c : Place) (place : ℕ) (p : Node) → Fits input place p → is 34 p ≡ true → hasRest p ≡ true → (m : ℕ) → firstRefused (emitsTarget c p m) ≡ 0
-    → (m′ m″ : ℕ) → firstRefused (emitsRestOf c p m′) ≡ firstRefused (emits (inner c) (rest p) m″)
-target-calm c place p f e r m z m′ m″ = target-steadily c (resting (drawn p f) e r) (target-view c p (record { next = m; none = z })) .always m′ m″ .same
-
--- and the value of its rest refuses nothing
+-- where all that is written for the target of an object with rest refuses nothing, the value of its rest refuses nothing
 pub target-value-calm : (c : Place) (place : ℕ) (p : Node) → Fits input place p → is 34 p ≡ true → hasRest p ≡ true → (m : ℕ) → firstRefused (emitsTarget c p m) ≡ 0
     → (at : ℕ) (s : Emit) → ((k : ℕ) → firstRefused (s k) ≡ 0) → (m′ : ℕ) → firstRefused (emitsRest (inner c) at (properties p) s m′) ≡ 0
 target-value-calm c place p f e h m z at s k m′ =
     value-quiet (inner c) (inner c) (resting (drawn p f) e h) refl s (record { always = k }) (λ _. target-view c p (record { next = m; none = z })) at .always m′
-
--- the same inside
-pub rest-inner : (c : Place) → emitsRestOf (inner c) ≡ emitsRestOf c
-unfolding emitsRestOf inner restValue keysRead isHoisted excludedKeys excludedKey
-rest-inner c = refl

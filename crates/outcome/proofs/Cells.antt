@@ -18,7 +18,7 @@ use Rattle.lowering.specs.Walk.{Note, Walked, WalkedFields, eachItem, eachPiece
 use Rattle.lowering.specs.Walk.Walked.{noted}
 use Rattle.lowering.specs.Weight.{weight, walked}
 use Rattle.lowering.specs.Collect.{Name, nameOf, newIn, newInPiece, isContainer, marked, markOf}
-use Rattle.lowering.proofs.All.{AllItems, AllPiece, AllFields, Each}
+use Rattle.lowering.proofs.All.{AllItems, AllPiece, AllFields, Each, weaker-each}
 use Rattle.lowering.proofs.Cases.{by-test}
 use Rattle.lowering.proofs.MadeAtSites.{times}
 use Rattle.lowering.proofs.Occurs.{occurs, occursFields, occursPiece, occursItems, fields-in}
@@ -29,7 +29,7 @@ use Rattle.outcome.specs.Named
 use Rattle.outcome.specs.Named.{Act, puts, lists, excludes, handed, entered, excludedKeys, handsOut, marks, written, named, namedFields, namedPiece, namedItems}
 use Rattle.outcome.proofs.Listed.{made-append}
 use Rattle.outcome.proofs.MadeOnce.{others, makes, number, makes-all, namesIn, hands-made, inCell, named-less}
-use Rattle.outcome.proofs.Scope.{cellAt, IsNamed, origin, weaker, both-each, all-each, occurs-here, walked-cell, cell-name, named-there}
+use Rattle.outcome.proofs.Scope.{cellAt, IsNamed, origin, both-each, all-each, occurs-here, walked-cell, cell-name, named-there}
 use Rattle.outcome.proofs.Numbers.{Every, every-append}
 
 -- ---- temporaries in cells
@@ -291,7 +291,7 @@ module _ (Good : Node → Type 0) (pot : ℕ → Node → ℕ)
       (both-each (λ x. (y : ℕ) → (pot y x ≤ 1) × (16384 ≤ y → pot y x ≡ 0)) Low (λ x. ((y : ℕ) → pot y x ≤ 1) × Bound x × Low x)
       (λ x h k. ((λ y. h y .0), (λ y z. h y .1 z), k)) r
       (all-each (λ y x. (pot y x ≤ 1) × (16384 ≤ y → pot y x ≡ 0)) r
-      (λ y. weaker (λ x. number (inCell y) (s .note .made) + pot y x ≤ pot y n) (λ x. (pot y x ≤ 1) × (16384 ≤ y → pot y x ≡ 0))
+      (λ y. weaker-each (λ x. number (inCell y) (s .note .made) + pot y x ≤ pot y n) (λ x. (pot y x ≤ 1) × (16384 ≤ y → pot y x ≡ 0))
       (λ x h. let q = o y in (omega arith, λ z. let v = b y z in omega arith)) r (spent y c n g (o y) .1)))
       (low-parts r low)))
       next m

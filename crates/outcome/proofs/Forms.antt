@@ -11,10 +11,10 @@ use Rattle.lowering.specs.Made.{Context}
 use Rattle.lowering.specs.Walk.{Note, Walked, eachItem, eachPiece, eachField, inside, rewrite, within, walk, unchanged}
 use Rattle.lowering.specs.Weight.{weight, walked}
 use Rattle.lowering.specs.Collect.{newIn, newInPiece, isContainer, markOf, marked, visits, visitsFields, visitsPiece, visitsItems}
-use Rattle.lowering.proofs.All.{AllItems, AllPiece, AllFields, Each}
+use Rattle.lowering.proofs.All.{AllItems, AllPiece, AllFields, Each, weaker-each}
 use Rattle.lowering.proofs.Notes.{AllNotes, both, Everywhere}
 use Rattle.outcome.proofs.Tokens.{IsTemporary, IsHelper, Formed, FormedFields, FormedPiece, FormedItems}
-use Rattle.outcome.proofs.Scope.{IsNamed, weaker}
+use Rattle.outcome.proofs.Scope.{IsNamed}
 use Rattle.outcome.proofs.Good.{IsHelping, Good, parts}
 use Rattle.outcome.proofs.GoodRules.{rewrite-good}
 
@@ -67,7 +67,7 @@ walk-formed (suc f) c n g =
     let r = s .result in
     let w : ℕ → ℕ → Node → Walked = λ i j m. walk f (within c r i j) m in
     let h = rewrite-good c n g in
-    formed-node w (s .note) r h (weaker Good (Part w) (λ m k i j. walk-formed f (within c r i j) m k) r (parts r h))
+    formed-node w (s .note) r h (weaker-each Good (Part w) (λ m k i j. walk-formed f (within c r i j) m k) r (parts r h))
 
 pub walked-formed : (c : Context) (n : Node) → Good n → Formed (walked c n)
 unfolding walked
@@ -117,7 +117,7 @@ module _ (P : Note → Type 0) where
         let s = rewrite c n in
         let r = s .result in
         let w : ℕ → ℕ → Node → Walked = λ i j k. walk f (within c r i j) k in
-        in-node w (s .note) r (step c n g) (weaker Good (All w) (λ k h i j. in-walk f (within c r i j) k h) r (parts r (rewrite-good c n g))) next m
+        in-node w (s .note) r (step c n g) (weaker-each Good (All w) (λ k h i j. in-walk f (within c r i j) k h) r (parts r (rewrite-good c n g))) next m
 
     -- every note of the walk of a good node
     pub good-notes : (c : Context) (n : Node) → Good n → Everywhere P (walked c n)

@@ -19,7 +19,7 @@ use Rattle.lowering.specs.Patterns.Shape.{objectPattern, arrayPattern, default,
 use Rattle.lowering.specs.Keys.{keySort, keptKey, taken}
 use Rattle.lowering.specs.Assignments.{nearest, partsOf, partsReplaced}
 use Rattle.lowering.specs.Heads.{moved, movedPattern, movedOut}
-use Rattle.lowering.proofs.All.{AllItems, AllFields, Each, all-append, all-gather, all-each, other-changed}
+use Rattle.lowering.proofs.All.{AllItems, AllFields, Each, all-append, all-cond, all-gather, all-each, other-changed}
 use Rattle.lowering.proofs.Cases.{by-test, by-shape, by-key, object-is, array-is, default-is, is-changed}
 use Rattle.outcome.proofs.Scope.{IsNamed}
 use Rattle.lowering.proofs.ChangeLaws.{is-without}
@@ -666,10 +666,6 @@ module _ (c : Context) where
       (λ e. rw (e, objectsWithRest, AllItems) tt)
 
   -- of an assignment
-  some-all : (P : Node → Type 0) (b : Bool) (is js : Items) → AllItems P is → AllItems P js → AllItems P (cond b is js)
-  some-all P true is js h k = h
-  some-all P false is js h k = k
-
   nearest-values : (arrays : Bool) (d : ℕ) → ((p : Node) → Good p → AllItems GoodObject (nearest arrays d p)) → (p : Node) → Good p
       → AllItems GoodObject (gather (λ q. nearest arrays d (value q)) (properties p))
   nearest-values arrays d r p h =
@@ -681,9 +677,9 @@ module _ (c : Context) where
   nearest-good arrays (suc d) p h =
       by-shape (shape p)
       (λ e. rw (e, nearest)
-      (some-all GoodObject (hasRest p) (only p) (gather (λ q. nearest arrays d (value q)) (properties p)) ((object-is p e, h), tt) (nearest-values arrays d (nearest-good arrays d) p h)))
+      (all-cond GoodObject (hasRest p) (only p) (gather (λ q. nearest arrays d (value q)) (properties p)) ((object-is p e, h), tt) (nearest-values arrays d (nearest-good arrays d) p h)))
       (λ e. rw (e, nearest)
-      (some-all GoodObject arrays (gather (λ q. nearest arrays d q) (itemsOf p)) Items.none
+      (all-cond GoodObject arrays (gather (λ q. nearest arrays d q) (itemsOf p)) Items.none
       (all-gather Good GoodObject (λ q. nearest arrays d q) (λ q g. nearest-good arrays d q g) (itemsOf p) (to-all (itemsOf p) (items-good 0 p h))) tt))
       (λ e. rw (e, nearest) (nearest-good arrays d (leftOf p) (node-good 0 p h)))
       (λ e. rw (e, nearest) tt)

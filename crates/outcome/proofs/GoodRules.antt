@@ -208,14 +208,6 @@ var-simple : (i : Node) → NotDefault (varOf i)
 unfolding is
 var-simple i = refl
 
-body-16 : (b : Node) → eqb (kind (asFunctionBody b)) 16 ≡ true
-unfolding is
-body-16 b = functionBody-is b
-
-block-2 : (b : Node) → eqb (kind (asBlock b)) 2 ≡ true
-unfolding is
-block-2 b = block-is b
-
 module _ (c : Context) where
   -- ---- keys and rests
 

@@ -20,7 +20,7 @@ use Rattle.lowering.specs.Declarations.{isLowered, loweredIn, declarationExclud
 use Rattle.lowering.specs.Assignments.{isTop, target, nearest, partsOf, outermost, topRefusal, topEntry, topExcludes, nestedEntry}
 use Rattle.lowering.specs.Walk.{Note, ruleOf, rewrite, unchanged, stepDeclaration, stepTop, stepAssignment, stepFor}
 use Rattle.lowering.specs.Collect.{Name, nameOf}
-use Rattle.lowering.proofs.All.{AllItems, all-gather, all-unit, none-passes}
+use Rattle.lowering.proofs.All.{AllItems, both-items, all-gather, all-unit, none-passes}
 use Rattle.lowering.proofs.Cases.{by-test, by-shape, by-key, by-rule, not-false, by-number}
 use Rattle.sink.specs.Shown.{Named, Token, listOf, keysOf, listTokens, keysTokens, declaratorIn, declaratorsIn}
 use Rattle.sink.specs.Shown.Token.{plain, temp}
@@ -114,11 +114,6 @@ pure-from (Items.item n is) h = (h .0, pure-from is (h .1))
 array-pure : (is : Items) → PureItems is → Pure (array is)
 array-pure is h = (refl, (h, tt))
 
-both-all : (P Q R : Node → Type 0) → ((n : Node) → P n → Q n → R n) → (is : Items) → AllItems P is → AllItems Q is → AllItems R is
-both-all P Q R f Items.none h k = tt
-both-all P Q R f (Items.hole is) h k = both-all P Q R f is h k
-both-all P Q R f (Items.item n is) h k = (f n (h .0) (k .0), both-all P Q R f is (h .1) (k .1))
-
 not-primitive : (k : Node) → keySort k ≡ Key.again → isPrimitive k ≡ false
 unfolding isPrimitive
 not-primitive k e = rw (e, isPrimitive) refl
@@ -148,7 +143,7 @@ module _ (c : Context) where
   excludedKeys-pure p e h a =
       pure-from (gather (excludedKey c) (properties p))
       (all-gather (λ q. Property q × (not (isPrimitive (key q)) ≡ false)) Pure (excludedKey c) (λ q g. excludedKey-pure q (g .0) (g .1)) (properties p)
-      (both-all Property (λ q. not (isPrimitive (key q)) ≡ false) (λ q. Property q × (not (isPrimitive (key q)) ≡ false)) (λ q u v. (u, v)) (properties p)
+      (both-items Property (λ q. not (isPrimitive (key q)) ≡ false) (λ q. Property q × (not (isPrimitive (key q)) ≡ false)) (λ q u v. (u, v)) (properties p)
       (properties-are p e h) (none-passes (λ q. not (isPrimitive (key q))) (properties p) (not-true (any (λ q. not (isPrimitive (key q))) (properties p)) a))))
 
   excludedFor-full : (p : Node) → GoodObject c p → Full Valued (excludedFor c p)

@@ -13,12 +13,12 @@ use Rattle.tree.specs.Tree.{Node, Fields, Piece, Items, depth}
 use Rattle.tree.specs.Tree.Node.{node}
 use Rattle.lowering.specs.Parts.{nothing, position, kind, asItems, is, nodeAt, itemsAt, pieceIn, stands, changeIn, change, onItems, changeNode, changeItems, isEmpty, only, each, gather, any, _+++_}
 use Rattle.lowering.specs.Made.{Context, temporary, reference, valueOf, keyOf, excludedOf, helper, call, K, array, member, assign, declares, declared, idOf}
-use Rattle.lowering.specs.Patterns.{shape, properties, itemsOf, rest, hasRest, leftOf, key, value, withValues, hasNestedArrayRest, hasObjectRest, hasArrayRestOverObjectRest, replaced, objectsWithRest, replacedBelow, objectsBelow}
+use Rattle.lowering.specs.Patterns.{shape, properties, itemsOf, rest, hasRest, leftOf, key, value, withValues, withProperties, hasNestedArrayRest, hasObjectRest, hasArrayRestOverObjectRest, replaced, objectsWithRest, replacedBelow, objectsBelow}
 use Rattle.lowering.specs.Patterns.Shape.{objectPattern, arrayPattern, default, leaf}
-use Rattle.lowering.specs.Keys.{keySort, isPrimitive, allPrimitive, excludedKey, excludedKeys, keyTemporary, keyTemporaries}
+use Rattle.lowering.specs.Keys.{keptKey, taken, keySort, isPrimitive, allPrimitive, excludedKey, excludedKeys, keyTemporary, keyTemporaries}
 use Rattle.lowering.specs.Rests.{hasNoProperties, mapped, isHoisted, keysRead, restValue, excludedFor}
 use Rattle.lowering.specs.Declarations.{source, sourceDeclarator, keysBefore, patternDeclarator, restDeclarator, own, nested, nestedBelow, objectDeclarators, patternDeclarators, lowerDeclarator, isLowered, loweredIn, declarators, declaration, declarationExcludes, declarationRefusal}
-use Rattle.lowering.specs.Assignments.{isTop, target, assigned, nearest, partsOf, outermost, fromReference, topRefusal, topSequence, topEntry, topExcludes, nestedSequence, nestedEntry}
+use Rattle.lowering.specs.Assignments.{isTop, target, targetLeft, partsReplaced, assigned, nearest, partsOf, outermost, fromReference, topRefusal, topSequence, topEntry, topExcludes, nestedSequence, nestedEntry}
 use Rattle.lowering.specs.Walk.{Note, Step, Walked, WalkedFields, WalkedPiece, WalkedItems, eachItem, eachPiece, eachField, inside, ruleOf, rewrite, unchanged, stepDeclaration, stepTop, stepAssignment, stepFor, within}
 use Rattle.lowering.specs.Walk.Rule.{nowhere}
 use Rattle.lowering.specs.Walk.Walked.{noted}
@@ -30,10 +30,11 @@ use Rattle.lowering.proofs.Falls.{walked-is}
 use Rattle.lowering.proofs.Levels.{below-object, below-leaf}
 use Rattle.lowering.proofs.MadeAtSites.{times, times-append, no-ids}
 use Rattle.lowering.proofs.Occurs.{occurs, occursFields, occursPiece, occursItems}
-use Rattle.lowering.proofs.Clauses.{objects-object, objects-array, objects-default, objects-leaf, has-leaf, top-34}
+use Rattle.lowering.proofs.Clauses.{objects-object, objects-array, objects-default, objects-leaf, has-leaf, top-34, top-rest}
 use Rattle.outcome.proofs.Good.{Leaf, NotDefault, first-simple, Good, GoodObject, rest-leaf, node-good, items-good, to-all}
 use Rattle.lowering.proofs.ItemLaws.{each-append, gather-none, gather-append}
-use Rattle.lowering.proofs.ChangeLaws.{stands-changed}
+use Rattle.lowering.proofs.ChangeLaws.{stands-without}
+use Rattle.lowering.proofs.WeightKeys.{values-rest}
 
 -- ---- no refusal anywhere
 
@@ -233,9 +234,16 @@ top-some P c p r t z f =
 
 -- ---- objects with rest
 
-pub values-rest : (f : Node → Node) (p : Node) → hasRest (withValues f p) ≡ hasRest p
-unfolding stands change
-values-rest f (node at k fs) = stands-changed fs 0 (onItems (each (λ q. changeNode 1 f q))) 1
+-- what is left of a target with rest has none
+left-rest : (c : Context) (p : Node) → isTop p ≡ true → hasRest (taken c (withValues (λ v. partsReplaced c (depth p) v) p)) ≡ false
+unfolding taken
+left-rest c p t =
+    let f : Node → Node = λ v. partsReplaced c (depth p) v in
+    rw (values-rest f p ∙ top-rest p t) (stands-without 1 (withProperties (keptKey c) (withValues f p)))
+
+pub left-no-top : (c : Context) (n : Node) → isTop (target n) ≡ true → isTop (targetLeft c n) ≡ false
+unfolding isTop
+left-no-top c n t = and-none (is 34 (targetLeft c n)) (hasRest (targetLeft c n)) (left-rest c (target n) t)
 
 some-changed-piece : (P : Node → Type 0) (f : Items → Items) → f Items.none ≡ Items.none → (p : Piece) → SomeItems P (f (asItems p)) → SomePiece P (onItems f p)
 unfolding onItems

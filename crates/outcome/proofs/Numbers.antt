@@ -11,7 +11,8 @@ use Rattle.tree.specs.Tree.Node.{node}
 use Rattle.lowering.specs.Parts.{is}
 use Rattle.lowering.specs.Collect.{Name, nameOf, same, except, distinct, numberIn, withNumber, numbered, numberedFields, numberedPiece, numberedItems}
 use Rattle.lowering.proofs.Cases.{by-test}
-use Rattle.lowering.proofs.Appearance.{same-is, name-self}
+use Rattle.lowering.proofs.Appearance.{In, here, there, same-is, name-self}
+use Rattle.lowering.proofs.ItemLaws.{count-numbered}
 use Rattle.sink.specs.Shown.{Token, place, noted, order, shown}
 use Rattle.sink.specs.Shown.Token.{plain, temp}
 use Rattle.sink.proofs.Names.{place-noted, order-kept}
@@ -76,12 +77,6 @@ module _ (ns : List Name) where
   map-numbered (Fields.absent fs) = ap (λ (x : ℕ). 2 * x) (map-numbered fs)
   map-numbered (Fields.field p fs) = ap (λ (x : ℕ). 1 + 2 * x) (map-numbered fs)
 
-  count-numbered : (is : Items) → count (numberedItems ns is) ≡ count is
-  unfolding numbered count
-  count-numbered Items.none = refl
-  count-numbered (Items.hole is) = ap suc (count-numbered is)
-  count-numbered (Items.item n is) = ap suc (count-numbered is)
-
   mutual
     unfolding numbered withNumber nameOf encode tokens bytes mapOf
 
@@ -101,7 +96,7 @@ module _ (ns : List Name) where
     encode-piece : (p : Piece) → encodePiece (numberedPiece ns p) ≡ bytes numberOf (tokensPiece p)
     encode-piece (Piece.one n) = encode-tokens n
     encode-piece (Piece.list is) =
-        ap₂ (λ (c : ℕ) (x : List ℕ). wideBytes c ++ x) (count-numbered is) (encode-items is)
+        ap₂ (λ (c : ℕ) (x : List ℕ). wideBytes c ++ x) (count-numbered ns is) (encode-items is)
         ∙ sym (bytes-append numberOf (plains (wideBytes (count is))) (tokensItems is) ∙ ap (λ (x : List ℕ). x ++ bytes numberOf (tokensItems is)) (bytes-plains numberOf (wideBytes (count is))))
     encode-piece (Piece.text bs) = sym (bytes-plains numberOf (wideBytes (length bs) ++ bs))
     encode-piece (Piece.byte b) = refl
@@ -157,18 +152,6 @@ number-agrees ts more a h =
 
 -- ---- a name that occurs
 
-pub data In (a : Name) : List Name → Type 0 where
-  here : {b : Name} {l : List Name} → a ≡ b → In a (b ∷ l)
-  there : {b : Name} {l : List Name} → In a l → In a (b ∷ l)
-
 pub in-every : (P : Name → Type 0) (a : Name) (l : List Name) → Every P l → In a l → P a
 in-every P a (b ∷ l) h (here e) = subst P (sym e) (h .0)
 in-every P a (b ∷ l) h (there i) = in-every P a l (h .1) i
-
-pub in-left : (a : Name) (l m : List Name) → In a l → In a (l ++ m)
-in-left a (b ∷ l) m (here e) = here e
-in-left a (b ∷ l) m (there i) = there (in-left a l m i)
-
-pub in-right : (a : Name) (l m : List Name) → In a m → In a (l ++ m)
-in-right a [] m i = i
-in-right a (b ∷ l) m i = there (in-right a l m i)

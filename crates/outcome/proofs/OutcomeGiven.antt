@@ -20,6 +20,7 @@ use Rattle.lowering.specs.Answer.{Lent, Result, top, fits, fitted, collected, a
 use Rattle.lowering.specs.Answer
 use Rattle.lowering.proofs.All.{Each}
 use Rattle.lowering.proofs.Cases.{by-test}
+use Rattle.lowering.proofs.Answers.{zeros}
 use Rattle.lowering.proofs.Notes.{AllNotes}
 use Rattle.lowering.proofs.Appearance.{same-is, name-self}
 use Rattle.lowering.proofs.MadeAtSites.{times}
@@ -133,16 +134,12 @@ long-list names next es ts us e f =
 -- ---- outcomes
 
 module _ (options : ℕ) (s : Lent) where
-  zeros : (k : ℕ) → replicate k 0 ≡ Answer.filled k []
-  unfolding Answer.filled
-  zeros k = let e : k ≡ k - length {A = ℕ} [] = omega arith in ap (λ (x : ℕ). replicate x 0) e
-
   outcome-nothing : outcomeFrom options (nothing (s .treeSlice) (s .listSlice) (s .workSlice)) ≡ outcomeOf s (Result.refusal 7)
   unfolding outcomeFrom outcomeOf nothing
   outcome-nothing =
-      let t = zeros (s .treeSlice) in
-      let l = zeros (s .listSlice) in
-      let k = zeros (s .workSlice) in
+      let t = sym (zeros (s .treeSlice)) in
+      let l = sym (zeros (s .listSlice)) in
+      let k = sym (zeros (s .workSlice)) in
       λ j. record { answer = 7; helpers = 0; options = 0; treeLength = 0; listLength = 0; treeOut = (t) j; listOut = (l) j; work = (k) j }
 
   outcome-lowered : (mask : ℕ) (t l : List ℕ)
@@ -150,7 +147,7 @@ module _ (options : ℕ) (s : Lent) where
       ≡ outcomeOf s (Result.lowered mask options t l)
   unfolding outcomeFrom outcomeOf Shown.filled Answer.filled
   outcome-lowered mask t l =
-      let k = zeros (s .workSlice) in
+      let k = sym (zeros (s .workSlice)) in
       λ j. record {
         answer = 0;
         helpers = mask;

@@ -12,30 +12,31 @@ use Rattle.tree.specs.Tree.{Node, Fields, Piece, Items, depth, depthFields}
 use Rattle.tree.specs.Tree.Node.{node}
 use Rattle.lowering.specs.Parts.{nothing, position, kind, is, pieceIn, standsIn, changeIn, asNode, asItems, nodeAt, itemsAt, numberAt, stands, change, onNode, onItems, changeNode, changeItems, only, each, gather, any, _+++_}
 use Rattle.lowering.specs.Made.{Context, temporary, reference, valueOf, keyOf, S, X, E, W, object, array, sequence, assign, declares, declared, idOf, letOf, varOf, assigning, returning, block, functionBody}
-use Rattle.lowering.specs.Patterns.{shape, withProperties, properties, itemsOf, rest, hasRest, leftOf, key, value, withValues, hasNestedObjectRest, hasObjectRest, hasArrayRestOverObjectRest, replaced, objectsWithRest, replacedBelow, objectsBelow}
+use Rattle.lowering.specs.Patterns.{shape, properties, itemsOf, rest, hasRest, leftOf, key, value, withValues, hasNestedObjectRest, hasObjectRest, hasArrayRestOverObjectRest, replaced, objectsWithRest, replacedBelow, objectsBelow}
 use Rattle.lowering.specs.Patterns.Shape.{objectPattern, arrayPattern, default, leaf}
-use Rattle.lowering.specs.Keys.{keySort, keptKey, excludedKeys, keyTemporary, keyTemporaries, allPrimitive, taken}
+use Rattle.lowering.specs.Keys.{keySort, excludedKeys, keyTemporary, keyTemporaries, allPrimitive, taken}
 use Rattle.lowering.specs.Rests.{hasNoProperties, mapped, isHoisted, keysRead, restValue, excludedFor, restMakes}
 use Rattle.lowering.specs.Literals.{Call, opened, closed, scan, literal}
 use Rattle.lowering.specs.Declarations.{isName, source, sourceDeclarator, keysBefore, patternDeclarator, restDeclarator, nested, nestedBelow, objectDeclarators, patternDeclarators, lowerDeclarator, innerObjects, declaratorMakes, isLowered, declarators, declaration, declarationMakes, declarationRefusal}
 use Rattle.lowering.specs.Declarations
-use Rattle.lowering.specs.Assignments.{isTop, target, assigned, partsOf, partsReplaced, outermost, fromReference, topRefusal, targetLeft, topSequence, topEntry, topExcludes, topMakes, nestedSequence, nestedEntry, nestedMakes}
+use Rattle.lowering.specs.Assignments.{isTop, target, assigned, partsOf, outermost, fromReference, topRefusal, targetLeft, topSequence, topEntry, topExcludes, topMakes, nestedSequence, nestedEntry, nestedMakes}
 use Rattle.lowering.specs.Heads.{isMoved, moved, movedFrom, movedPattern, movedOut, leftBehind, inFront, inBody, asFunctionBody, asBlock, references, function, functionMakes, arrow, arrowMakes, catch, catchMakes, declaringHead, declaringMakes, assigningHead, assigningMakes}
 use Rattle.lowering.specs.Walk.{Rule, ruleOf, rewrite, stepDeclaration, stepTop, stepAssignment, stepFor}
 use Rattle.lowering.specs.Walk.Rule.{literals, declarations, assignments, functions, arrows, catches, fors, nowhere}
 use Rattle.lowering.proofs.All.{AllItems, AllPiece, AllFields, Each, all-append, all-gather, all-each, weaker-items, other-changed, none-passes}
-use Rattle.lowering.proofs.Cases.{by-test, by-shape, by-key, by-rule, and-left, and-none, object-is, array-is, default-is, is-changed, functionBody-is, block-is, by-number}
+use Rattle.lowering.proofs.Cases.{by-test, by-shape, by-key, by-rule, and-left, object-is, array-is, default-is, is-changed, functionBody-is, block-is, by-number}
 use Rattle.lowering.proofs.Sites.{here, hereItems}
 use Rattle.lowering.proofs.Clauses.{objects-object, objects-array, objects-default, taken-none, inner-object, inner-array, has-leaf, lowered-rest, top-34, top-rest, top-rest as top-rest′}
 use Rattle.direct.specs.Events.{cell, cellOf}
+use Rattle.lowering.proofs.WeightKeys.{rest-changed, values-rest}
 use Rattle.outcome.proofs.MadeOnce.{number, number-append, number-none, inCell}
 use Rattle.outcome.proofs.Good.{NoParts, Leaf, NotDefault, Good, GoodItems, GoodObject, to-all, node-good, items-good, properties-35, rest-leaf, first-simple, values-good, movedOut-view, named-parts}
 use Rattle.outcome.proofs.GoodRules.{below-good}
-use Rattle.outcome.proofs.ListedStand.{values-rest, objects-top, nearest-top, parts-top, temporary-leaf, values-top, leaf-top}
+use Rattle.outcome.proofs.ListedStand.{left-no-top, objects-top, nearest-top, parts-top, temporary-leaf, values-top, leaf-top}
 use Rattle.outcome.proofs.Potential.{isPattern, gone, slot, slotMoved, slotValue, slotTop, slots, slotValues, odds, head, heads, headCatch, headFor, aliens, resting, declaring, own, pot, potFields, potPiece, potItems, inner, pot-34, pot-14, pot-17, pot-10, pot-7, pot-8, pot-27, pot-5, pot-4, inner-in, piece-in, two-pieces, as-node, as-items, node-in, items-in, node-and-node, items-and-node, pot-append, only-pot, none-pot, nothing-pot, temporary-pot, each-item, node-exchange, items-exchange, node-exchange-in}
 use Rattle.outcome.proofs.PotentialViews.{node-changed, node-changed-in, gone-in, slot-nothing, slot-temporary, slot-changed, slot-34, whole, wholes, wholes-append, nil, nil-sum, nil-is, wholes-sum, object-sum, objects-sum, targets-sum, taken-sum, excludedKeys-pot, restings, restings-append, restings-none, only-restings, none-wholes, only-wholes, outermost-sum, left-over-sum, rest-beside, moves, moves-append, moves-none, moved-sum, left-less}
 use Rattle.lowering.proofs.ItemLaws.{each-append}
-use Rattle.lowering.proofs.ChangeLaws.{stands-changed, stands-without, items-changed}
+use Rattle.lowering.proofs.ChangeLaws.{stands-changed, items-changed}
 use Rattle.lowering.proofs.Levels.{below-object, below-leaf}
 use Rattle.lowering.proofs.SiteViews.{only-here, none-here}
 use Rattle.direct.proofs.MovedMade.{from-kept}
@@ -87,20 +88,6 @@ temporary-name : (path : List ℕ) (stem at : ℕ) → isName (temporary path st
 unfolding isName is
 temporary-name path stem at = refl
 
--- what is left of a target with rest has none
-taken-rest : (c : Context) (p : Node) → hasRest p ≡ true → hasRest (taken c p) ≡ false
-unfolding taken
-taken-rest c p r = rw r (stands-without 1 (withProperties (keptKey c) p))
-
-left-rest : (c : Context) (p : Node) → isTop p ≡ true → hasRest (taken c (withValues (λ v. partsReplaced c (depth p) v) p)) ≡ false
-left-rest c p t =
-    let f : Node → Node = λ v. partsReplaced c (depth p) v in
-    taken-rest c (withValues f p) (values-rest f p ∙ top-rest p t)
-
-stands-kept : (i : ℕ) (f : Piece → Piece) (n : Node) → stands 1 (change i f n) ≡ stands 1 n
-unfolding stands change
-stands-kept i f (node at k fs) = stands-changed fs i f 1
-
 -- what is left of a target without rest has none
 temporary-top : (path : List ℕ) (stem at : ℕ) → isTop (temporary path stem at) ≡ false
 unfolding isTop is
@@ -108,7 +95,7 @@ temporary-top path stem at = refl
 
 changed-top : (i : ℕ) (f : Piece → Piece) (n : Node) → isTop n ≡ false → isTop (change i f n) ≡ false
 unfolding isTop
-changed-top i f n h = ap₂ (λ (a b : Bool). a && b) (is-changed i f n 34) (stands-kept i f n) ∙ h
+changed-top i f n h = ap₂ (λ (a b : Bool). a && b) (is-changed i f n 34) (rest-changed i f n) ∙ h
 
 replaced-top : (c : Context) (d : ℕ) (p : Node) → isTop p ≡ false → isTop (replaced c d p) ≡ false
 unfolding replaced
@@ -1002,10 +989,6 @@ module _ (x : ℕ) where
         omega arith)
         os (object-fit os t)
 
-    without-top : (n : Node) → isTop (target n) ≡ true → isTop (targetLeft c n) ≡ false
-    unfolding isTop
-    without-top n t = and-none (is 34 (targetLeft c n)) (hasRest (targetLeft c n)) (left-rest c (target n) t)
-
     last-fit : (s : Bool) (t : Node) (a b : ℕ) → a + pot x t ≤ b → AllItems (Fit a b) (cond s Items.none (only t))
     last-fit true t a b h = tt
     last-fit false t a b h = (h, tt)
@@ -1028,7 +1011,7 @@ module _ (x : ℕ) where
         let a0 = assign-pot v (assigned n) in
         let s0 = slot-top-not v (leaf-top v (temporary-leaf (c .path) 3 (position p))) in
         let a1 = assign-pot (targetLeft c n) v in
-        let s1 = slot-top-not (targetLeft c n) (without-top n t) in
+        let s1 = slot-top-not (targetLeft c n) (left-no-top c n t) in
         let a2 = assign-pot (rest p) (restValue c p v) in
         let s2 = slot-top-not (rest p) (leaf-top (rest p) (rest-leaf p (top-34 p t) pg)) in
         let w = restValue-pot p v z in

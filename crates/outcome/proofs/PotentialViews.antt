@@ -21,7 +21,8 @@ use Rattle.lowering.proofs.Cases.{by-test, by-shape, by-key, object-is, array-i
 use Rattle.lowering.proofs.Sites.{here, hereItems}
 use Rattle.lowering.proofs.Clauses.{objects-object, objects-array, objects-default, objects-leaf, replaced-object, replaced-array, replaced-default, parts-object, parts-array, parts-default, parts-leaf, nearest-object, nearest-array, nearest-default, nearest-leaf}
 use Rattle.outcome.proofs.Good.{Leaf, Is35, Good, GoodItems, to-all, node-good, items-good, properties-35, replaced-view, parts-fixes}
-use Rattle.outcome.proofs.ListedStand.{values-rest, objects-zero}
+use Rattle.outcome.proofs.ListedStand.{objects-zero}
+use Rattle.lowering.proofs.WeightKeys.{values-rest}
 use Rattle.outcome.proofs.Potential.{gone, slot, slotMoved, slots, slotValues, odd, odds, resting, own, pot, potItems, pot-34, pot-35, pot-36, pot-37, inner-in, node-in, items-in, node-and-node, items-and-node, pot-append, only-pot, none-pot, temporary-pot, node-exchange, items-exchange, drop-exchange, odds-append, odds-none, only-odds, moved-less}
 use Rattle.lowering.proofs.ChangeLaws.{position-changed, is-without, items-without, stands-without, items-changed}
 
@@ -539,9 +540,6 @@ module _ (x : ℕ) where
     pub only-restings : (r : Node) → restings (only r) ≡ resting x (position r) true (properties r)
     unfolding restings
     only-restings r = omega arith
-
-    restings-sum : Sum restings
-    restings-sum = record { none = restings-none; append = restings-append }
 
     values-properties : (f : Node → Node) (is : Items) → AllItems Is35 is → AllItems Is35 (each (λ q. changeNode 1 f q) is)
     unfolding each

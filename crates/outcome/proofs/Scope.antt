@@ -19,7 +19,7 @@ use Rattle.lowering.specs.Walk.{Note, Walked, WalkedFields, WalkedPiece, Walked
 use Rattle.lowering.specs.Walk.Walked.{noted}
 use Rattle.lowering.specs.Weight.{weight, walked}
 use Rattle.lowering.specs.Collect.{Name, nameOf, same, newIn, newInPiece, isContainer, bare, bareFields}
-use Rattle.lowering.proofs.All.{AllItems, AllPiece, AllFields, Each, weaker-fields}
+use Rattle.lowering.proofs.All.{AllItems, AllPiece, AllFields, Each, weaker-each, both-items}
 use Rattle.lowering.proofs.Cases.{by-test}
 use Rattle.lowering.proofs.Appearance.{same-is, name-self}
 use Rattle.lowering.proofs.MadeAtSites.{times}
@@ -140,18 +140,10 @@ origin a c n h = go (occurs a n) (times a (rewrite c n .note .made)) refl refl
 
 -- ---- parts of a node
 
-pub weaker : (P Q : Node → Type 0) → ((m : Node) → P m → Q m) → (n : Node) → Each P n → Each Q n
-weaker P Q f (node at k fs) h = weaker-fields P Q f fs h
-
 module _ (P Q R : Node → Type 0) (f : (m : Node) → P m → Q m → R m) where
-  both-items : (is : Items) → AllItems P is → AllItems Q is → AllItems R is
-  both-items Items.none h k = tt
-  both-items (Items.hole is) h k = both-items is h k
-  both-items (Items.item n is) h k = (f n (h .0) (k .0), both-items is (h .1) (k .1))
-
   both-piece : (p : Piece) → AllPiece P p → AllPiece Q p → AllPiece R p
   both-piece (Piece.one n) h k = f n h k
-  both-piece (Piece.list is) h k = both-items is h k
+  both-piece (Piece.list is) h k = both-items P Q R f is h k
   both-piece (Piece.text bs) h k = tt
   both-piece (Piece.byte b) h k = tt
   both-piece (Piece.mark b) h k = tt
@@ -356,7 +348,7 @@ module _ (Good : Node → Type 0) (pot : ℕ → Node → ℕ) where
       nothing-left : (x : ℕ) → (pot x n ≡ 0) ⊎ (0 < number (inCell x) (rewrite c n .note .made)) → Each (λ m. pot x m ≡ 0) (rewrite c n .result)
       nothing-left x h =
           let m = most x in
-          weaker (λ k. number (inCell x) (rewrite c n .note .made) + pot x k ≤ pot x n) (λ k. pot x k ≡ 0)
+          weaker-each (λ k. number (inCell x) (rewrite c n .note .made) + pot x k ≤ pot x n) (λ k. pot x k ≡ 0)
           (λ k l. ⊎-elim (λ z. omega arith) (λ z. omega arith) h) (rewrite c n .result) (spent x c n good (most x) .1)
 
       quiet-after : (a : Name) → 0 < occurs a (rewrite c n .result) → Each (λ m. pot (cellAt a) m ≡ 0) (rewrite c n .result)
@@ -368,7 +360,7 @@ module _ (Good : Node → Type 0) (pot : ℕ → Node → ℕ) where
     each-most c n good most =
         all-each (λ x m. pot x m ≤ 1) (rewrite c n .result)
         (λ x. let l = most x in
-        weaker (λ m. number (inCell x) (rewrite c n .note .made) + pot x m ≤ pot x n) (λ m. pot x m ≤ 1) (λ m h. omega arith) (rewrite c n .result) (spent x c n good (most x) .1))
+        weaker-each (λ m. number (inCell x) (rewrite c n .note .made) + pot x m ≤ pot x n) (λ m. pot x m ≤ 1) (λ m h. omega arith) (rewrite c n .result) (spent x c n good (most x) .1))
 
     zero-fine : (n : Node) (names : ℕ → Name) → Fine names (noted (unchanged n .note) 0 0 WalkedFields.done) n
     zero-fine n names = record { scoped = ((λ e. absurd (let z : 0 ≡ 20 = eqb-true 0 20 e in omega arith)), tt); left = λ x z. zero-left n names x }

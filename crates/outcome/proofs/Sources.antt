@@ -18,10 +18,10 @@ use Rattle.lowering.specs.Assignments.{target, assigned, isTop, nearest, partsO
 use Rattle.lowering.specs.Walk.{rewrite, within, ruleOf, stepAssignment, stepTop}
 use Rattle.lowering.specs.Weight.{weight}
 use Rattle.lowering.specs.Visits.{ItemAt, NodeIn, FieldAt, PartAt, Visits}
-use Rattle.lowering.proofs.Cases.{by-test, by-shape, rule-27, and-none, not-false, object-is, shape-34, by-number}
+use Rattle.lowering.proofs.Cases.{by-test, by-shape, rule-27, not-false, object-is, shape-34, by-number}
 use Rattle.lowering.proofs.Levels.{depth-pos, items-depth, piece-depth}
 use Rattle.lowering.proofs.Clauses.{nearest-object, nearest-array, nearest-default, parts-object, parts-array, parts-default, top-34, top-rest}
-use Rattle.lowering.proofs.ChangeLaws.{shape-changed, items-changed, items-without, stands-without}
+use Rattle.lowering.proofs.ChangeLaws.{shape-changed, items-changed, items-without}
 use Rattle.lowering.proofs.PartsAt.{part-at}
 use Rattle.lowering.proofs.Weights.{weight-pos}
 use Rattle.lowering.proofs.Falls.{falls}
@@ -29,6 +29,8 @@ use Rattle.lowering.proofs.WeightKeys.{rest-changed}
 use Rattle.direct.proofs.ObjectsByLevel.{value-changed, value-kept}
 use Rattle.direct.proofs.Targets.{left-changed, shape-taken}
 use Rattle.direct.proofs.Reached.{found-or-none}
+use Rattle.direct.proofs.Reached.{parts-nothing}
+use Rattle.outcome.proofs.ListedStand.{left-no-top}
 use Rattle.outcome.specs.Sources.{ObjectOf, Apart, Sourced, EachItsOwn, ReadFromValue}
 use Rattle.outcome.specs.Sources.ObjectOf.{itself, inValue, inItem, inLeft}
 
@@ -155,17 +157,12 @@ nearest-has (suc d) p q l (inLeft e o) = let h = left-deep p q o in found-left t
 
 -- a part has it in it, or it is left when the parts are replaced
 module _ (c : Context) where
-  parts-nothing : (d : ℕ) → partsReplaced c d nothing ≡ nothing
-  unfolding partsReplaced shape
-  parts-nothing zero = refl
-  parts-nothing (suc d) = refl
-
   value-left : (d : ℕ) (p q m : Node) {j : ℕ} → shape p ≡ objectPattern → ItemAt (properties p) j m → ObjectOf (partsReplaced c d (value m)) q → ObjectOf (withValues (λ v. partsReplaced c d v) p) q
   value-left d p q m {j = j} e i o =
       let f : Node → Node = λ v. partsReplaced c d v in
       inValue (shape-changed 0 (onItems (each (λ x. changeNode 1 f x))) p ∙ e)
       (subst (λ (is : Items). ItemAt is j (changeNode 1 f m)) (sym (items-changed 0 (λ x. changeNode 1 f x) p)) (at-each (λ x. changeNode 1 f x) i))
-      (subst (λ (x : Node). ObjectOf x q) (sym (value-changed f (parts-nothing d) m)) o)
+      (subst (λ (x : Node). ObjectOf x q) (sym (value-changed f (parts-nothing c d) m)) o)
 
   part-or-left : (d : ℕ) (p q : Node) → depth p ≤ d → ObjectOf p q → Nearest false d p q ⊎ ObjectOf (partsReplaced c d p) q
   part-or-left zero p q l o = let z = depth-pos p in absurd (omega arith)
@@ -186,7 +183,7 @@ module _ (c : Context) where
       ⊎-elim
       (λ n. inl (found-left false d p q e n))
       (λ u. inr (subst (λ (x : Node). ObjectOf x q) (sym (parts-default c d p e))
-      (inLeft (shape-changed 0 (onNode f) p ∙ e) (subst (λ (x : Node). ObjectOf x q) (sym (left-changed c f (parts-nothing d) p)) u))))
+      (inLeft (shape-changed 0 (onNode f) p ∙ e) (subst (λ (x : Node). ObjectOf x q) (sym (left-changed c f (parts-nothing c d) p)) u))))
       (part-or-left d (leftOf p) q (omega arith) o)
 
   -- ---- what is left of a top
@@ -202,18 +199,10 @@ module _ (c : Context) where
       inValue (shape-taken c w ∙ shape-changed 0 (onItems (each (λ x. changeNode 1 f x))) p ∙ e)
       (subst (λ (is : Items). ItemAt is j (keptKey c (changeNode 1 f m))) (sym (taken-items w r ∙ ap (each (keptKey c)) (items-changed 0 (λ x. changeNode 1 f x) p)))
       (at-each (keptKey c) (at-each (λ x. changeNode 1 f x) i)))
-      (subst (λ (x : Node). ObjectOf x q) (sym (value-kept c (changeNode 1 f m) ∙ value-changed f (parts-nothing (depth p)) m)) o)
+      (subst (λ (x : Node). ObjectOf x q) (sym (value-kept c (changeNode 1 f m) ∙ value-changed f (parts-nothing c (depth p)) m)) o)
     where
       taken-items : (w : Node) → hasRest w ≡ true → properties (taken c w) ≡ each (keptKey c) (properties w)
       taken-items w r = rw r (items-without (withProperties (keptKey c) w) ∙ items-changed 0 (keptKey c) w)
-
-  left-no-top : (n : Node) → isTop (target n) ≡ true → isTop (targetLeft c n) ≡ false
-  unfolding isTop taken
-  left-no-top n t =
-      let f : Node → Node = λ v. partsReplaced c (depth (target n)) v in
-      let w = withValues f (target n) in
-      let r = rest-changed 0 (onItems (each (λ x. changeNode 1 f x))) (target n) ∙ top-rest (target n) t in
-      and-none (is 34 (targetLeft c n)) (hasRest (targetLeft c n)) (rw r (stands-without 1 (withProperties (keptKey c) w)))
 
 -- ---- steps of an assignment
 

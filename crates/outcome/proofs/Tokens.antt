@@ -4,6 +4,7 @@ use mathlib.Core.Path.{_≡_, refl, sym, ap, ap₂, _∙_, subst}
 use mathlib.Core.Bool.{Bool, true, false, cond}
 use mathlib.Core.List.{List, [], _∷_, _++_, append-assoc}
 use Prim.Native.Nat.{ℕ, zero, suc, _+_}
+use native.Mathlib.Nat.{add-zero}
 use native.Mathlib.Omega.{arith}
 use lib.Dec.{eqb}
 use lib.ListN.{length}
@@ -373,9 +374,6 @@ marks-write names k zero = record { next = omega arith; tree = refl }
 marks-write names k (suc b) =
     let r = puts-write names k (wideBytes (suc b)) in record { next = r .next ∙ omega arith; tree = r .tree }
 
-no-marks : (k : ℕ) → k ≡ k + 0
-no-marks k = omega arith
-
 put-writes : (names : ℕ → Name) (k b : ℕ) → Writes names k (Named.put b ∷ []) k (plain b ∷ [])
 unfolding markRun treeTokens namesAfter markAfter treeOf
 put-writes names k b = record { next = refl; tree = refl }
@@ -467,7 +465,7 @@ mutual
 
   fields-write : (names : ℕ → Name) (fs : WalkedFields) → FormedFields fs → ScopedFields names fs → (l : Bool) (next m k : ℕ)
       → Writes names k (namedFields l next m fs) (k + newInFields fs) (tokensFields (bareFields k fs))
-  fields-write names WalkedFields.done f s l next m k = writes-to names k k (k + 0) [] [] [] (no-marks k) refl (nothing-writes names k)
+  fields-write names WalkedFields.done f s l next m k = writes-to names k k (k + 0) [] [] [] (sym (add-zero k)) refl (nothing-writes names k)
   fields-write names (WalkedFields.absent fs) f s l next m k = fields-write names fs f s l next m k
   fields-write names (WalkedFields.field p fs) f s l next m k =
       let k′ = k + newInPiece p in
@@ -490,16 +488,16 @@ mutual
       (subst (λ (x : ℕ → Name). Writes x k (namedItems l next m is) (k + newInItems is) (tokensItems (bareItems k is))) (sym (puts-after names c))
       (items-write names is f s l next m k)))
   piece-writes names (WalkedPiece.text bs) f s l next m k =
-      writes-to names k k (k + 0) (puts (wideBytes (length bs) ++ bs)) (plains (wideBytes (length bs) ++ bs)) (plains (wideBytes (length bs) ++ bs)) (no-marks k) refl (puts-write names k (wideBytes (length bs) ++ bs))
+      writes-to names k k (k + 0) (puts (wideBytes (length bs) ++ bs)) (plains (wideBytes (length bs) ++ bs)) (plains (wideBytes (length bs) ++ bs)) (sym (add-zero k)) refl (puts-write names k (wideBytes (length bs) ++ bs))
   piece-writes names (WalkedPiece.byte b) f s l next m k =
-      writes-to names k k (k + 0) (Named.put b ∷ []) (plain b ∷ []) (plain b ∷ []) (no-marks k) refl (put-writes names k b)
+      writes-to names k k (k + 0) (Named.put b ∷ []) (plain b ∷ []) (plain b ∷ []) (sym (add-zero k)) refl (put-writes names k b)
   piece-writes names (WalkedPiece.mark b) f s l next m k = marks-write names k b
   piece-writes names (WalkedPiece.number b) f s l next m k =
-      writes-to names k k (k + 0) (puts (wideBytes b)) (plains (wideBytes b)) (plains (wideBytes b)) (no-marks k) refl (puts-write names k (wideBytes b))
+      writes-to names k k (k + 0) (puts (wideBytes b)) (plains (wideBytes b)) (plains (wideBytes b)) (sym (add-zero k)) refl (puts-write names k (wideBytes b))
 
   items-write : (names : ℕ → Name) (is : WalkedItems) → FormedItems is → ScopedItems names is → (l : Bool) (next m k : ℕ)
       → Writes names k (namedItems l next m is) (k + newInItems is) (tokensItems (bareItems k is))
-  items-write names WalkedItems.none f s l next m k = writes-to names k k (k + 0) [] [] [] (no-marks k) refl (nothing-writes names k)
+  items-write names WalkedItems.none f s l next m k = writes-to names k k (k + 0) [] [] [] (sym (add-zero k)) refl (nothing-writes names k)
   items-write names (WalkedItems.hole is) f s l next m k =
       then-writes names k k (k + newInItems is) (Named.put 0 ∷ []) (namedItems l next m is) (plain 0 ∷ []) (tokensItems (bareItems k is))
       (put-writes names k 0)

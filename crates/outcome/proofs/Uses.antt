@@ -23,7 +23,7 @@ use Rattle.lowering.proofs.Cases.{by-test}
 use Rattle.lowering.proofs.Weights.{weight-pos}
 use Rattle.lowering.proofs.Falls.{falls, walked-is}
 use Rattle.lowering.proofs.MadeAtSites.{times, times-append, no-ids}
-use Rattle.lowering.proofs.Appearance.{same-is, name-self}
+use Rattle.lowering.proofs.Appearance.{In, in-first, in-second, same-is, name-self}
 use Rattle.lowering.proofs.Occurs.{occurs, occursFields, occursPiece, occursItems}
 use Rattle.sink.specs.Shown.{Token}
 use Rattle.sink.proofs.Firsts.{namesIn}
@@ -33,7 +33,7 @@ use Rattle.outcome.proofs.Scope.{both-each}
 use Rattle.outcome.proofs.Good.{Pure, Good, parts}
 use Rattle.outcome.proofs.GoodRules.{rewrite-good}
 use Rattle.outcome.proofs.HandedDeclarators.{Hands, Declares, Valued, Full, full-append, full-weaker, pure-tokens}
-use Rattle.outcome.proofs.Numbers.{Every, every-append, In, in-left, in-right}
+use Rattle.outcome.proofs.Numbers.{Every, every-append}
 use Rattle.outcome.proofs.Nodes.{names-joined, plains-names}
 use Rattle.outcome.proofs.ListWritten.{machineEntry}
 use Rattle.outcome.proofs.ListedStand.{Calm, CalmFields, CalmPiece, CalmItems, stays-result, rewrite-used, sum-some}
@@ -204,14 +204,14 @@ module _ (a : Name) where
         let l = namesIn (tokensPiece (barePiece k p)) in
         let r = namesIn (tokensFields (bareFields (k + newInPiece p) fs)) in
         subst (In a) (sym (names-joined (tokensPiece (barePiece k p)) (tokensFields (bareFields (k + newInPiece p) fs))))
-        (⊎-elim (λ x. in-left a l r (in-piece k p (f .0) x)) (λ x. in-right a l r (in-fields (k + newInPiece p) fs (f .1) x))
+        (⊎-elim (λ x. in-first r (in-piece k p (f .0) x)) (λ x. in-second l (in-fields (k + newInPiece p) fs (f .1) x))
         (sum-some (occursPiece a (barePiece k p)) (occursFields a (bareFields (k + newInPiece p) fs)) h))
 
     in-piece : (k : ℕ) (p : WalkedPiece) → FormedPiece p → 0 < occursPiece a (barePiece k p) → In a (namesIn (tokensPiece (barePiece k p)))
     in-piece k (WalkedPiece.one w) f h = occurs-in k w f h
     in-piece k (WalkedPiece.list is) f h =
         subst (In a) (sym (names-joined (plains (wideBytes (count (bareItems k is)))) (tokensItems (bareItems k is))))
-        (in-right a (namesIn (plains (wideBytes (count (bareItems k is))))) (namesIn (tokensItems (bareItems k is))) (in-items k is f h))
+        (in-second (namesIn (plains (wideBytes (count (bareItems k is))))) (in-items k is f h))
     in-piece k (WalkedPiece.text bs) f h = absurd (omega arith)
     in-piece k (WalkedPiece.byte b) f h = absurd (omega arith)
     in-piece k (WalkedPiece.mark b) f h = absurd (omega arith)
@@ -224,7 +224,7 @@ module _ (a : Name) where
         let l = namesIn (tokens (bare k w)) in
         let r = namesIn (tokensItems (bareItems (k + newIn w) is)) in
         subst (In a) (sym (names-joined (tokens (bare k w)) (tokensItems (bareItems (k + newIn w) is))))
-        (⊎-elim (λ x. in-left a l r (occurs-in k w (f .0) x)) (λ x. in-right a l r (in-items (k + newIn w) is (f .1) x))
+        (⊎-elim (λ x. in-first r (occurs-in k w (f .0) x)) (λ x. in-second l (in-items (k + newIn w) is (f .1) x))
         (sum-some (occurs a (bare k w)) (occursItems a (bareItems (k + newIn w) is)) h))
 
 -- ---- the names of the list

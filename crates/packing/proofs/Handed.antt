@@ -94,12 +94,6 @@ module _ (c : Context) where
       (gather-hoisted (excludedFor c) (restMakes c) rest-hoisted (objectsBelow c (nodeAt 0 d))))))
       (λ e. rw e (nothing-hoisted none))
 
-  rests-shaped : (ps : Items) → AllItems Keys (gather (excludedFor c) ps)
-  unfolding gather
-  rests-shaped none = tt
-  rests-shaped (hole ps) = rests-shaped ps
-  rests-shaped (item p ps) = all-append (excludedFor c p) (gather (excludedFor c) ps) (keys-shaped p) (rests-shaped ps)
-
   declaration-hands : (n : Node) → Hands (stepDeclaration c n .note)
   unfolding stepDeclaration declarationExcludes declarationMakes
   declaration-hands n = by-number (declarationRefusal c n)
