@@ -5,14 +5,17 @@
     tools/cases.py --reference FILE FOLDER           makes the list anew from FOLDER, says whether it is the stored one
     tools/cases.py --reference FILE --write FOLDER   makes it and stores it
     tools/cases.py --reference FILE --list FOLDER    says what each case is, too
+    tools/cases.py --joined [--write] FOLDER         the same with the cases of joining made anew, and all before them as stored
 
 FOLDER has the vector files, whole; they are kept outside the repository (loader/tests/data has a part of them):
 document01.txt, readings.txt, extra.txt and recorded.txt, which are the base's and run with a depth limit of 64; cr4.txt;
 cr5.txt, whose lines have seven words, the first the limit (`-` where none is named); cr12.txt; and cr1.txt, with the base's
 limit. What a file from before request 4 records of a result with a temporary is restated with its stem: as cr4.txt has it,
-and for recorded.txt and cr1.txt by the reference. cr6.txt is the last: a case of an earlier file with an object with a rest
+and for recorded.txt and cr1.txt by the reference. Then comes cr6.txt: a case of an earlier file with an object with a rest
 below another one in a target, where request 6 is another rule, is restated as cr6.txt has it, and left out where it does not
-have it. A case's number is the one that vectors prints. The cases of reading come first. Such a case is a zero byte; two bytes, the limit and the
+have it. cr8.txt is the last: a case of an earlier file that is refused with 6 and has a number whose string is promised
+without its form is restated as cr8.txt has it, or by the reference, which is given the forms. A case's number is the one
+that vectors prints. The cases of reading come first, none of cr8.txt. Such a case is a zero byte; two bytes, the limit and the
 expected answer of reading; two 16-bit numbers, the tree's length and the expected next mark (0 on a refusal); then the
 tree. Expected answers are those recorded in the vector files or given here; read.py has to agree with each, and supplies
 the marks.
@@ -22,7 +25,10 @@ expected answer, helper mask and options mask, a byte each; three 16-bit numbers
 tree and of the expected list; then these three. What is expected is recorded in the vector files or given here.
 
 A case of drawing is a byte 3; two 32-bit numbers, the seed and the state after its tree; the tree's length, 16 bits; then
-the tree. They are of cr2.txt, and come last.
+the tree. They are of cr2.txt, and come behind those of lowering.
+
+A case of joining is a byte 4; the expected answer, a byte; four 16-bit numbers, the lengths of the slice that is lent, of the
+tree, of the list and of the joined tree (0 on a refusal); then the last three. They are of cr10.txt, and come last.
 """
 import argparse
 import os
@@ -32,6 +38,8 @@ import sys
 
 import drawn
 import equal
+import join
+import keys
 import nodes
 import read
 import show
@@ -60,13 +68,14 @@ def encode_lowering(limit, options, number, helpers, mask, tree, result, listed)
 # first words of their heads.
 BASE_LIMIT = 64
 BASE = ["document01", "readings", "extra", "recorded"]
-FILES = dict.fromkeys(BASE, BASE_LIMIT) | {"cr4": None, "cr5": None, "cr12": None, "cr1": BASE_LIMIT, "cr6": None}
+FILES = dict.fromkeys(BASE, BASE_LIMIT) | {"cr4": None, "cr5": None, "cr12": None, "cr1": BASE_LIMIT, "cr6": None, "cr8": None}
 RESTATED = "---- the cases of document01.txt, readings.txt and extra.txt whose result this request changes"
 NO_LONGER = "---- with temporaries, while request 4 is not in force"
 # The option that is no longer shown in the mask (request 12). The base's files record masks that show it, and are restated.
 RETIRED = 8
-# How many cases of drawing are stored.
+# How many cases of drawing and of joining are stored.
 DRAWINGS = 60
+JOININGS = 80
 # Stems of temporaries: in place of a pattern, of excluded keys, of a value.
 REF, EXCLUDED, VALUE = 1, 2, 3
 
@@ -99,6 +108,13 @@ class Drawing:
         self.seed, self.state, self.tree = seed, state, tree
 
 
+class Joining:
+    """A stored case of joining, and where it stands in the list."""
+
+    def __init__(self, start, answer, room, tree, listed, result):
+        self.start, self.answer, self.room, self.tree, self.listed, self.result = start, answer, room, tree, listed, result
+
+
 def load_stored():
     """The stored cases in their order; case N is the item N - 1."""
     with open(STORED, "rb") as stored:
@@ -120,6 +136,11 @@ def load_stored():
         if kind == b"\3":
             seed, state = (int.from_bytes(take(4), "little") for _ in range(2))
             found.append(Drawing(seed, state, take(number())))
+            continue
+        if kind == b"\4":
+            start, (answer,), room = at - 1, take(1), number()
+            lengths = number(), number(), number()
+            found.append(Joining(start, answer, room, *map(take, lengths)))
             continue
         if kind == b"\0":
             limit, answer = take(2)
@@ -148,6 +169,10 @@ def shown(number, case):
     if isinstance(case, Reading):
         answer = f"0 {len(case.tree)} {case.mark}" if case.answer == 0 else case.answer
         return [f"case {number}, reading, limit {case.limit}: {as_text(case.tree, False)}", f"  prints {answer}", f"  tree   {short}"]
+    if isinstance(case, Joining):
+        lines = [f"case {number}, joining, slice {case.room}: {as_text(case.tree, True)}"]
+        lines += [f"  gives  {case.answer or as_text(case.result, True)}", f"  tree   {short}", f"  list   {case.listed.hex()}"]
+        return lines + ([] if case.answer else [f"  result {case.result.hex()}"])
     options = f", options {case.options}" if case.options else ""
     limit = "" if case.limit is None else f", limit {case.limit}"
     lines = [f"case {number}, lowering{limit}{options}: {as_text(case.tree, False)}"]
@@ -224,6 +249,20 @@ def by_parts(folder, some):
             yield what, case
         elif (case[1], case[5]) in known:
             yield what, case[:2] + known[case[1], case[5]]
+
+
+def by_numbers(folder, some, reference):
+    """Cases from before request 8 as it has them: what was refused with 6 where a promised form is wanting is as cr8.txt has
+    it, or is asked of the reference with these forms put in; they are taken out of its result."""
+    known = {(case[1], case[5]): case[2:] for _, case in load_lowerings(folder, "cr8", "----")}
+    changed = [case for _, case in some if case[2] == 6 and keys.lacks_form(case[5]) and (case[1], case[5]) not in known]
+    # a mark that no spelling ends with
+    given = [case[:5] + (keys.with_forms(case[5], mark=b"!!"),) for case in changed]
+    for case, (number, helpers, mask, _, result, listed) in zip(changed, asked(reference, given)):
+        results = (result, listed) if number else (keys.without_marked(result, b"!!"), keys.without_marked(listed, b"!!", True))
+        known[case[1], case[5]] = number, helpers, mask, case[5], *results
+    for what, case in some:
+        yield what, case[:2] + known.get((case[1], case[5]), case[2:])
 
 
 def asked(reference, changed):
@@ -398,7 +437,8 @@ def spread(cases, counts, answer, size):
 def stored(folder):
     cases = made()
     for name in FILES:
-        some = load(folder, name)
+        # those of cr8.txt are trees like others
+        some = [] if name == "cr8" else load(folder, name)
         cases += sample(list(some)) if name == "recorded" else some
     return cases
 
@@ -411,7 +451,9 @@ def stored_lowerings(folder, reference):
             some = sample_lowerings(some)
         if name in BASE or name == "cr1":
             some = list(restated(folder, name, some, reference))
-        cases += some if name == "cr6" else by_parts(folder, some)
+        if name != "cr8":
+            some = by_numbers(folder, some if name == "cr6" else list(by_parts(folder, some)), reference)
+        cases += some
     return cases
 
 
@@ -424,9 +466,9 @@ def expected(cases):
         yield limit, found, mark, tree
 
 
-def summary(numbers, lowered, drawings):
-    """The last lines of the program vectors where nothing is wrong, from the answers of reading and of lowering and the
-    number of drawings."""
+def summary(numbers, lowered, drawings, joined):
+    """The last lines of the program vectors where nothing is wrong, from the answers of reading, of lowering and of joining
+    and the number of drawings."""
     counts = [numbers.count(number) for number in (0, 3, 4)]
     done = lowered.count(0)
     # two calls for each case, and three more where a tree is lowered
@@ -435,7 +477,8 @@ def summary(numbers, lowered, drawings):
         f"reading: accepted {counts[0]}, refused 3: {counts[1]}, refused 4: {counts[2]}\n"
         f"lowering: lowered {done}, refused {len(lowered) - done}, calls {calls}\n"
         f"drawing: drawn {drawings}\n"
-        f"{len(numbers) + len(lowered) + drawings} cases, 0 wrong\n"
+        f"joining: joined {joined.count(0)}, refused {len(joined) - joined.count(0)}\n"
+        f"{len(numbers) + len(lowered) + drawings + len(joined)} cases, 0 wrong\n"
     )
 
 
@@ -447,11 +490,38 @@ def show_stored(words):
         print("\n".join(shown(int(word), found[int(word) - 1])))
 
 
+def stored_before(joined):
+    """The stored list without its cases of joining, and the summary with these answers of joining instead."""
+    found = load_stored()
+    with open(STORED, "rb") as stored:
+        data = stored.read()
+    starts = [case.start for case in found if isinstance(case, Joining)]
+    answers = {kind: [case.answer for case in found if isinstance(case, kind)] for kind in (Reading, Lowering)}
+    drawings = sum(isinstance(case, Drawing) for case in found)
+    return data[: min(starts, default=len(data))], summary(answers[Reading], answers[Lowering], drawings, joined)
+
+
+def made_list(given, folder, joined):
+    """The list from the vector files, without its cases of joining, and the summary with these answers of joining."""
+    cases, lowerings = stored(folder), stored_lowerings(folder, given.reference)
+    drawings = drawn.chosen(os.path.join(folder, "cr2.txt"), DRAWINGS)
+    answers = list(expected(cases))
+    if given.list:
+        names = [(what, number, tree) for (what, *_), (_, number, _, tree) in zip(cases, answers)]
+        names += [(what, case[2], case[5]) for what, case in lowerings]
+        for at, (what, number, tree) in enumerate(names, 1):
+            print(f"{at}: {number}, {len(tree)} bytes, {what}")
+    stream = b"".join(encode(*case) for case in answers) + b"".join(encode_lowering(*case) for _, case in lowerings)
+    stream += b"".join(b"\3" + case for case in drawings)
+    return stream, summary([number for _, number, _, _ in answers], [case[2] for _, case in lowerings], len(drawings), joined)
+
+
 def main():
     words = argparse.ArgumentParser(description=__doc__.splitlines()[0])
     words.add_argument("--show", action="store_true", help="print stored cases")
     words.add_argument("--write", action="store_true", help="store the list that is made")
     words.add_argument("--list", action="store_true", help="say what each case is")
+    words.add_argument("--joined", action="store_true", help="make the cases of joining alone")
     words.add_argument("--reference", metavar="FILE", help="the Rust reference, which restates results with temporaries")
     words.add_argument("given", nargs="+", metavar="FOLDER or N")
     given = words.parse_args()
@@ -459,23 +529,16 @@ def main():
         return show_stored(given.given)
     if len(given.given) != 1:
         words.error("one folder is wanted")
-    if given.reference is None:
+    if given.reference is None and not given.joined:
         words.error("--reference is wanted, to restate recorded.txt")
     folder = given.given[0]
     try:
-        cases, lowerings = stored(folder), stored_lowerings(folder, given.reference)
-        drawings = drawn.chosen(os.path.join(folder, "cr2.txt"), DRAWINGS)
+        joinings = join.chosen(os.path.join(folder, "cr10.txt"), JOININGS)
+        joined = [number for number, _ in joinings]
+        stream, lines = stored_before(joined) if given.joined else made_list(given, folder, joined)
     except OSError as error:
         sys.exit(f"{error.filename}: {error.strerror}")
-    answers = list(expected(cases))
-    stream = b"".join(encode(*case) for case in answers) + b"".join(encode_lowering(*case) for _, case in lowerings)
-    stream += b"".join(b"\3" + case for case in drawings)
-    lines = summary([number for _, number, _, _ in answers], [case[2] for _, case in lowerings], len(drawings))
-    if given.list:
-        names = [(what, number, tree) for (what, *_), (_, number, _, tree) in zip(cases, answers)]
-        names += [(what, case[2], case[5]) for what, case in lowerings]
-        for at, (what, number, tree) in enumerate(names, 1):
-            print(f"{at}: {number}, {len(tree)} bytes, {what}")
+    stream += b"".join(b"\4" + case for _, case in joinings)
     print(f"{len(stream)} bytes\n{lines}", end="")
     if given.write:
         with open(STORED, "wb") as out:

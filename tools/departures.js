@@ -1,9 +1,11 @@
-// Where lowered programs depart from ECMA-262, run in node: node --expose-internals tools/departures.js [--lower FILE] [--rust FILE] [-v]
+// Where lowered programs depart from ECMA-262, run in node:
+//   node --expose-internals tools/departures.js [--lower FILE] [--join FILE] [--text FILE] [--rust FILE] [-v]
 //
-// Each case is a small program. It is made a tree (by the parser that node has inside, hence the flag), lowered by the program `lower`
-// (target/bin/lower, or FILE), written as text with its list put into place, and run over Babel's helpers beside its original. What
-// each of the two shows is stored below; the status is 1 if a run shows anything else. A lowered program that ECMAScript 2017 does not
-// know is counted as a SyntaxError. With --rust the Rust reference has to give the same bytes, but for targets that request 6 is for.
+// Each case is a small program. It is made a tree (by the parser that node has inside, hence the flag), lowered by the program `lower`,
+// joined with its list by `join`, printed by `text` (each in target/bin, or FILE), and run over Babel's helpers beside its original. A
+// program with something that has no kind of its own is printed here, since `text` makes a call of it. What each of the two shows is
+// stored below; the status is 1 if a run shows anything else. A lowered program that ECMAScript 2017 does not know is counted as a
+// SyntaxError. With --rust the Rust reference has to give the same bytes, but for targets that request 6 is for.
 // With -v each case is printed.
 'use strict';
 
@@ -167,7 +169,7 @@ function encoded(root) {
   return Buffer.from(out);
 }
 
-// ---- tree bytes to JavaScript. The short way is that of docs/DECISIONS.md; the other one can be run
+// ---- tree bytes to JavaScript. The short way is that of docs/DECISIONS.md; the other one can be run, and is for what has no kind of its own
 
 // # mark, ' text, * list, = byte, + number, . node
 const FIELDS = [
@@ -204,18 +206,16 @@ function decodedList(bytes) {
   return { entries, excluded: declarators() };
 }
 
-function printer(list, isShort) {
+function printer(isShort) {
   const mark = n => isShort ? `@${n} ` : '';
   const commas = ns => ns.map(show).join(', ');
   const simple = n => [18, 20, 21, 22, 23, 29, 30, 32].includes(n.kind) || n.kind == 33 && !n.fields[1].length;
   const inner = n => simple(n) ? show(n) : `(${show(n)})`;
   const plain = s => /^[{]|^function/.test(s) ? `(${s})` : s;
-  const body = ([directives, statements]) => '{ ' + (directives || []).map(d => show(d) + '; ').join('') + statements.map(held).join(' ') + ' }';
+  const body = ([directives, statements]) => '{ ' + (directives || []).map(d => show(d) + '; ').join('') + statements.map(show).join(' ') + ' }';
   const parameters = (ps, rest) => '(' + [...ps.map(show), ...(rest ? ['...' + show(rest)] : [])].join(', ') + ')';
   const arrow = ([ps, rest, b]) => parameters(ps, rest) + ' => ' + (b.kind == 16 ? show(b) : plain(show(b)));
   const headless = n => n.kind == 17 ? arrow(n.fields) : (n.fields[2] ? show(n.fields[2]) : '') + parameters(n.fields[3], n.fields[4]) + ' ' + show(n.fields[5]);
-  // a statement in a container, with what was handed out for it before it
-  const held = n => (isShort ? '' : list.entries.filter(e => e.mark == n.fields[0]).map(e => `var ${commas(e.declarators)}; `).join('')) + show(n);
   function other(name, children) {
     let i = 0;
     return name.replace(/@@?/g, m => m == '@@' ? headless(children[i++]) : ((c, s) => c.kind > 14 && c.kind != 26 && !simple(c) ? `(${s})` : s)(children[i], show(children[i++])));
@@ -230,8 +230,8 @@ function printer(list, isShort) {
   function show(n) {
     const f = n.fields;
     switch (n.kind) {
-      case 1: return (list.excluded.length && !isShort ? `const ${commas(list.excluded)}; ` : '') + f[0].map(held).join(' ');
-      case 2: return mark(f[0]) + '{ ' + f[1].map(held).join(' ') + ' }';
+      case 1: return f[0].map(show).join(' ');
+      case 2: return mark(f[0]) + '{ ' + f[1].map(show).join(' ') + ' }';
       case 3: return mark(f[0]) + plain(show(f[1])) + ';';
       case 4: return mark(f[0]) + ['', 'var ', 'let ', 'const '][f[1]] + commas(f[2]) + ';';
       case 5: case 37: case 15: return show(f[0]) + (f[1] ? ' = ' + show(f[1]) : '');
@@ -267,7 +267,7 @@ function printer(list, isShort) {
   return show;
 }
 function shortText(tree, list) {
-  const show = printer(list, true);
+  const show = printer(true);
   const entries = list.entries.map(e => `@${e.mark}: ` + e.declarators.map(show).join(', '));
   if (list.excluded.length) entries.push('excluded: ' + list.excluded.map(show).join(', '));
   return show(tree) + (entries.length ? '  list ' + entries.join('; ') : '');
@@ -305,7 +305,7 @@ const CASES = [
   { input: 'let {x, ...r} = s', what: 'a setter on Object.prototype', before: 'var s = {x: 0, y: 1}; Object.defineProperty(Object.prototype, "y", {set() {}})', after: 'Object.keys(r)', original: '["y"]', lowered: '[]' },
   { input: 'let {x, ...r} = s', what: 'a read-only property on Object.prototype', before: 'var s = Object.defineProperty({x: 0}, "y", {value: 1, enumerable: true}); Object.defineProperty(Object.prototype, "y", {value: 2})', after: 'Object.keys(r)', original: '["y"]', lowered: '[]' },
   { input: 'let {x, ...r} = s', what: 'a proxy', before: PROXY('s'), after: 'log', original: 'get x, keys, of y, get y', lowered: 'get x, keys, proto, of x, of x, of y, of y, get y, keys' },
-  { input: 'let {name, ...r} = () => 1', after: 'name', original: '""', lowered: '"$value1"' },
+  { input: 'let {name, ...r} = () => 1', after: 'name', original: '""', lowered: '"_value1"' },
   // parameters
   { input: 'function f({a, ...r}) { var a }', after: '1', original: '1', lowered: 'throws SyntaxError' },
   { input: 'function f({a, ...r}) { function a() { } }', after: '1', original: '1', lowered: 'throws SyntaxError' },
@@ -319,7 +319,7 @@ const CASES = [
   { input: 'function* g({...a}) { }', after: 'g(null), 1', original: 'throws TypeError', lowered: '1' },
   { input: 'function f({a, ...r}, b) { arguments[1] = 2; return b }', after: 'f({}, 1)', original: '1', lowered: '2' },
   { input: 'function f({a, ...r}, b) { b = 2; return arguments[1] }', after: 'f({}, 1)', original: '1', lowered: '2' },
-  { input: 'function f([a = () => 1, {...b}]) { return a.name }', after: 'f([, {}])', original: '"a"', lowered: '"$ref1"' },
+  { input: 'function f([a = () => 1, {...b}]) { return a.name }', after: 'f([, {}])', original: '"a"', lowered: '"_ref1"' },
   { input: 'function f(...[{...a}]) { return a }', after: 'f({b: 1})', original: '{b: 1}', lowered: 'throws SyntaxError' },
   // loops
   { input: 'for (let {a, ...b} of c) { let a }', before: 'var c = []', after: '1', original: '1', lowered: 'throws SyntaxError' },
@@ -409,6 +409,26 @@ function lower(words, tree) {
   return { lines: lines.slice(0, 3).join('\n'), tree: Buffer.from(lines[1], 'hex'), list: Buffer.from(lines[2], 'hex') };
 }
 
+// the program that is loaded: the tree with what was handed out in place
+function joined(binary, result) {
+  const length = Buffer.from([result.tree.length & 255, result.tree.length >> 8]);
+  const ran = spawnSync(binary, [], { input: Buffer.concat([length, result.tree, result.list]) });
+  if (ran.error) end(`${binary}: ${ran.error.code} (\`rt check join\` builds target/bin/join)`);
+  const [answer, tree] = ran.stdout.toString().split('\n');
+  if (answer != '0') throw new Error(`${binary} answers ${answer} for ${result.tree.toString('hex')} ${result.list.toString('hex')}`);
+  return Buffer.from(tree, 'hex');
+}
+
+const hasOther = n => n && (n.kind == 12 || n.kind == 33 || n.fields.flat().some(f => f && f.kind && hasOther(f)));
+
+function textOf(binary, tree) {
+  const root = decoded(tree);
+  if (hasOther(root)) return printer(false)(root);
+  const ran = spawnSync(binary, [], { input: tree });
+  if (ran.error) end(`${binary}: ${ran.error.code} (\`rt check text\` builds target/bin/text)`);
+  return ran.stdout.toString();
+}
+
 function isOld(text, isModule) {
   try {
     acorn.parse(text, { ecmaVersion: 2017, sourceType: isModule ? 'module' : 'script' });
@@ -421,7 +441,8 @@ function isOld(text, isModule) {
 
 async function main(words) {
   const option = name => words.includes(name) ? words[words.indexOf(name) + 1] : null;
-  const binary = option('--lower') || path.join(__dirname, '..', 'target', 'bin', 'lower');
+  const built = name => option('--' + name) || path.join(__dirname, '..', 'target', 'bin', name);
+  const binary = built('lower');
   const rust = option('--rust');
   let wrong = 0;
   for (const c of CASES) {
@@ -429,7 +450,7 @@ async function main(words) {
     const result = lower([binary], tree);
     const list = decodedList(result.list);
     if (c.text && result.tree.toString('hex') != c.bytes) throw new Error(`${c.title}: another tree`);
-    const text = c.text || printer(list, false)(decoded(result.tree));
+    const text = c.text || textOf(built('text'), joined(built('join'), result));
     const original = await shown(c, c.input, ''), lowered = isOld(text, c.isModule) ? await shown(c, text, HELPERS) : 'throws SyntaxError';
     const isRust = !rust || c.isOurs || lower([rust, '--template-key=node', '--stems'], tree).lines == result.lines;
     const isRight = original === c.original && lowered === c.lowered && isRust;
@@ -446,4 +467,4 @@ async function main(words) {
 }
 
 if (require.main === module) main(process.argv.slice(2));
-module.exports = { treeOf, decoded, decodedList, printer, shortText, HELPERS, acorn };
+module.exports = { CASES, treeOf, lower, joined, decoded, decodedList, printer, shortText, HELPERS, acorn };

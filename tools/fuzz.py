@@ -294,7 +294,7 @@ def run(binary, stream, count):
         wrote = subprocess.run([binary], input=stream, stdout=subprocess.PIPE, check=True).stdout.decode()
     except OSError as error:
         sys.exit(f"{binary}: {error.strerror} (`rt check vectors` builds target/bin/vectors)")
-    *lines, reading, lowering, _, total = wrote.splitlines()
+    *lines, reading, lowering, _, _, total = wrote.splitlines()
     if total != f"{count} cases, {len(lines)} wrong":
         sys.exit(f"{binary}: {count} cases were sent, {len(lines)} lines came back, and it says: {total}")
     differences = [re.fullmatch(r"case (\d+): (.*)", line).groups() for line in lines]

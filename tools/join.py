@@ -3,20 +3,29 @@
 
     joined(tree, list, room) -> (0, bytes), or (3, b""), (12, b""), (13, b""), (7, b"")
 
-    tools/join.py --vectors FILE [--definition] [--binary FILE]   on the cases of a vector file
-                                                                  (SLICE TREE LIST ANSWER JOINED)
+    tools/join.py --vectors FILE [--definition | --entry [FILE] | --binary FILE]
+                                             on the cases of a vector file (SLICE TREE LIST ANSWER JOINED)
+    tools/join.py --count N [--seed N] [--lower FILE] [--binary FILE]
+                                             on N made trees that are lowered by the built `lower`
 
-With --definition the cases are held to `joined` alone, with no program. Prints each difference, then the counts. The status
-is 1 where anything differs.
+The cases are run through the built program, which lends 32,768 bytes, so those with another slice are left out. With --entry
+all are run, through rest_spread_join of the archive, and every lent byte is looked at; with --definition they are held to
+`joined` alone. Of made trees each fifth lowered tree or list has a byte changed before it is joined. Prints each difference,
+then the counts. The status is 1 where anything differs.
 """
 import argparse
 import collections
+import concurrent.futures
+import ctypes
 import os
+import random
 import subprocess
 import sys
+import tempfile
 
-import cases
 import read
+
+ROOT = os.path.dirname(os.path.dirname(os.path.abspath(__file__)))
 
 LONGEST_LIST = 16384
 CONTAINERS = {"Program", "Block", "FunctionBody", "StaticBlock", "Case"}
@@ -145,29 +154,119 @@ def spelled(text):
     return b"".join(bytes.fromhex(a) * int(n or 1) for a, _, n in parts)
 
 
+def changed(rnd, given):
+    out = bytearray(given)
+    out[rnd.randrange(len(out))] = rnd.choice([0, 1, 2, 3, rnd.randrange(48), rnd.randrange(256)])
+    return bytes(out)
+
+
+def made(rnd, count, lower):
+    """(tree, list) of so many trees that are lowered."""
+    import lowering  # which imports cases, and that this file
+
+    program = lowering.program_at(lower, False, None)
+    while count:
+        makers = rnd.choices([lowering.plain, lowering.deep, lowering.copied, lowering.long], [70, 10, 19, 1], k=1000)
+        for number, _, _, tree, given in program([(0, maker(rnd)) for maker in makers]):
+            if number == 0 and count:
+                count -= 1
+                tree, given = bytes.fromhex(tree), bytes.fromhex(given)
+                if rnd.random() < 0.2:
+                    tree, given = rnd.choice([(changed(rnd, tree), given), (tree, changed(rnd, given))])
+                yield tree, given
+
+
+def held(given):
+    """Made trees through the built program, held to `joined`. Gives the status."""
+    counts, different, entries = collections.Counter(), 0, 0
+    with concurrent.futures.ThreadPoolExecutor(2) as pool:
+        pairs = list(made(random.Random(given.seed), given.count, given.lower))
+        found = pool.map(lambda pair: said(given.binary, *pair), pairs)
+        for (tree, list_), answer in zip(pairs, found):
+            expected = joined(tree, list_)
+            counts[expected[0]] += 1
+            entries += expected[0] == 0 and len(expected[1]) > len(tree)
+            if answer != expected:
+                different += 1
+                print(f"expected {expected[0]}, found {answer[0]}: {tree.hex()[:200]} {list_.hex()[:200]}")
+    print(", ".join(f"{number}: {counts[number]}" for number in sorted(counts)))
+    print(f"{sum(counts.values())} trees, {entries} with new statements, {different} different")
+    return 1 if different or not counts else 0
+
+
+def read_cases(path):
+    """(slice, tree, list, answer, joined tree) of each line."""
+    for line in open(path):
+        if not line.startswith("#") and line.strip():
+            room, tree, entries, number, text = line.split()
+            yield 32768 if room == "-" else int(room), spelled(tree), spelled(entries), int(number), spelled(text)
+
+
+def encode(room, tree, given, number, text):
+    """A case as the program vectors reads it."""
+    return bytes([number]) + b"".join(map(wide, (room, len(tree), len(given), len(text)))) + tree + given + text
+
+
+def chosen(path, count):
+    """`count` of the cases, encoded, each with its answer: slices that are exact or too short first, then some of each
+    answer."""
+    fit = [case for case in read_cases(path) if case[0] <= 32768 and sum(map(len, (case[1], case[2], case[4]))) <= 4000]
+    some = [case for case in fit if case[3] == 7 or case[3] == 0 and case[0] == len(case[4])][: count // 2]
+    for number, most in [(3, 8), (12, 14), (13, 12), (0, count)]:
+        more = [case for case in fit if case[3] == number and case not in some]
+        step = max(1, len(more) // most)
+        some += more[::step][: min(most, count - len(some))]
+    return [(case[3], encode(*case)) for case in some]
+
+
+class Joined(ctypes.Structure):
+    _fields_ = [("answer", ctypes.c_uint8), ("tree_len", ctypes.c_size_t)]
+
+
+def entry_of(archive):
+    """What the entry of the archive gives: the answer, and the tree. Every byte that it was lent is looked at."""
+    with tempfile.TemporaryDirectory() as folder:
+        shared = os.path.join(folder, "joining.so")
+        subprocess.run(["cc", "-shared", "-o", shared, "-Wl,--whole-archive", archive, "-Wl,--no-whole-archive"], check=True)
+        entry = ctypes.CDLL(shared).rest_spread_join
+    entry.argtypes, entry.restype = [ctypes.c_void_p, ctypes.c_size_t] * 3, Joined
+
+    def called(tree, given, room):
+        out = ctypes.create_string_buffer(b"\xaa" * (room + 1), room + 1)
+        answer = entry(tree, len(tree), given, len(given), out, room)
+        length, lent = answer.tree_len, out.raw
+        if lent[length:room].strip(b"\0") or lent[room:] != b"\xaa" or (answer.answer and length):
+            return answer.answer, b"bytes that are neither the tree's nor 0"
+        return answer.answer, lent[:length]
+
+    return called
+
+
 def main():
     words = argparse.ArgumentParser(description=__doc__.splitlines()[0])
-    words.add_argument("--vectors", required=True)
+    words.add_argument("--vectors")
+    words.add_argument("--count", type=int, default=20000)
+    words.add_argument("--seed", type=int, default=1)
+    words.add_argument("--lower", default=os.path.join(ROOT, "target", "bin", "lower"))
     words.add_argument("--definition", action="store_true")
-    words.add_argument("--binary", default=os.path.join(cases.ROOT, "target", "bin", "join"))
+    words.add_argument("--entry", nargs="?", metavar="FILE", const=os.path.join(ROOT, "target", "staticlib", "libjoining.a"))
+    words.add_argument("--binary", default=os.path.join(ROOT, "target", "bin", "join"))
     given = words.parse_args()
+    if not given.vectors:
+        sys.exit(held(given))
+    run = entry_of(given.entry) if given.entry else joined
     counts, different = collections.Counter(), 0
-    for line in open(given.vectors):
-        if line.startswith("#") or not line.strip():
-            continue
-        room, tree, entries, number, text = line.split()
-        if not given.definition and (room != "-" or len(spelled(tree)) > 65535):
-            continue
-        expected = int(number), spelled(text)
-        room = 32768 if room == "-" else int(room)
-        if given.definition:
-            found = joined(spelled(tree), spelled(entries), room)
+    for room, tree, entries, number, text in read_cases(given.vectors):
+        if given.definition or given.entry:
+            found = run(tree, entries, room)
+        elif room == 32768 and len(tree) <= 65535:
+            found = said(given.binary, tree, entries)
         else:
-            found = said(given.binary, spelled(tree), spelled(entries))
-        counts[expected[0]] += 1
-        if found != expected:
+            continue
+        counts[number] += 1
+        if found != (number, text):
             different += 1
-            print(f"expected {number}, found {found[0]}: {line[:200].strip()}")
+            print(f"expected {number}, found {found[0]}: {room} {tree.hex()[:80]} {entries.hex()[:80]}")
     print(", ".join(f"{number}: {counts[number]}" for number in sorted(counts)))
     print(f"{sum(counts.values())} cases, {different} different")
     sys.exit(1 if different or not counts else 0)

@@ -1,15 +1,15 @@
-// Nested assignment targets, run in node: node --expose-internals tools/targets.js [--lower FILE] [--seed N] [number of programs]
+// Nested assignment targets, run in node:
+//   node --expose-internals tools/targets.js [--lower FILE] [--join FILE] [--seed N] [number of programs]
 //
 // Random assignments and for heads whose targets have objects with a rest below one another, through objects, defaults and arrays, each
-// beside what the program `lower` (target/bin/lower, or FILE) makes of it, over Babel's helpers. Looked at behind each run: every binding
+// beside what the programs `lower` and `join` (in target/bin, or FILE) make of it, over Babel's helpers. Looked at behind each run: every binding
 // and every property that was assigned, every rest with its keys in their order, and the value of the assignment where it is used.
 //
 // A target may have a default that reads another of its bindings. There the two may differ, since a part is taken apart behind the whole
 // outer pattern (docs/DIFFERENCES.md); such programs are counted by themselves. The status is 1 if any other program differs.
 'use strict';
 
-const { treeOf, decoded, decodedList, printer, HELPERS } = require('./departures.js');
-const { spawnSync } = require('child_process');
+const { treeOf, lower, joined, decoded, printer, HELPERS } = require('./departures.js');
 const path = require('path');
 
 function rng(seed) {
@@ -141,18 +141,15 @@ function same(a, b) {
 
 function main(words) {
   const option = name => words.includes(name) ? words.splice(words.indexOf(name), 2)[1] : null;
-  const binary = option('--lower') || path.join(__dirname, '..', 'target', 'bin', 'lower');
+  const built = name => option('--' + name) || path.join(__dirname, '..', 'target', 'bin', name);
+  const binary = built('lower'), join = built('join');
   const r = rng(Number(option('--seed') || 1));
   const count = Number(words[0] || 1000);
   let wrong = 0, reading = 0, other = 0, parts = 0, arrays = 0, thrown = 0;
   for (let n = 0; n < count; n++) {
     const { text, value, maker } = drawn(r);
     const tree = treeOf(text, [], false);
-    const ran = spawnSync(binary, { input: Buffer.concat([Buffer.from([0]), tree]) });
-    if (ran.error) { console.error(`${binary}: ${ran.error.code} (\`rt check lower\` builds target/bin/lower)`); process.exit(1); }
-    const [answer, result, listed] = ran.stdout.toString().split('\n');
-    if (!answer.startsWith('0 ')) { console.error(`${answer} for ${text}`); process.exit(1); }
-    const lowered = printer(decodedList(Buffer.from(listed, 'hex')), false)(decoded(Buffer.from(result, 'hex')));
+    const lowered = printer(false)(decoded(joined(join, lower([binary], tree))));
     const given = value();
     const a = shown(text, maker.names, maker.members, given), b = shown(lowered, maker.names, maker.members, given);
     parts += maker.parts;

@@ -39,13 +39,13 @@ lost-told e = let z : _≡_ {A = ℕ} 0 1 = cc in absurd (omega arith)
 told-lost : {A : Type 0} {q : ℕ} {m : List ℕ} → told q m ≡ lost → A
 told-lost e = let z : _≡_ {A = ℕ} 0 1 = cc in absurd (omega arith)
 
-refused-got : {A B : Type 0} {r : _} {a : A} {q k : ℕ} → _≡_ {A = Got A} (refused r) (got a q k) → B
+pub refused-got : {A B : Type 0} {r : _} {a : A} {q k : ℕ} → _≡_ {A = Got A} (refused r) (got a q k) → B
 refused-got e = let z : _≡_ {A = ℕ} 0 1 = cc in absurd (omega arith)
 
 module _ (l : List ℕ) (b : Bytes l) where
   -- ---- a declarator list
 
-  declarators-sound : (at k : ℕ) (ds : Items) (q j : ℕ) → readDeclarators l at k ≡ got ds q j → SoundPiece l rewritten (length l) 0 (many declarator) at k (list ds) q j
+  pub declarators-sound : (at k : ℕ) (ds : Items) (q j : ℕ) → readDeclarators l at k ≡ got ds q j → SoundPiece l rewritten (length l) 0 (many declarator) at k (list ds) q j
   unfolding readDeclarators readField nodeIn
   declarators-sound at k ds q j e =
       holds (SoundPiece l rewritten (length l) 0 (many declarator) at k) (readField l rewritten (nodeIn l) (many declarator) at k) (list ds) q j
@@ -163,7 +163,7 @@ module _ (l : List ℕ) (b : Bytes l) where
       go true e v rest = pick e (runDeclarators l (at + 2) met) refl v rest
       go false e v rest = lost-told v
 
-  mapped-got : {A B : Type 0} (f : A → B) (g : Got A) (c : B) (q k : ℕ) → mapped f g ≡ got c q k → (a : A) × (g ≡ got a q k) × (f a ≡ c)
+  pub mapped-got : {A B : Type 0} (f : A → B) (g : Got A) (c : B) (q k : ℕ) → mapped f g ≡ got c q k → (a : A) × (g ≡ got a q k) × (f a ≡ c)
   mapped-got f (got a p j) c q k e = let x : p ≡ q = cc in let y : j ≡ k = cc in (a, (λ i. got a (x i) (y i)), cc)
   mapped-got f (refused r) c q k e = refused-got e
 
@@ -253,7 +253,7 @@ module _ (l : List ℕ) (b : Bytes l) where
       short true a v = wide a (ltb (wideAt l 0) 65536) refl v
       short false a v = lost-told v
 
-  whole-got : {A : Type 0} (g : Got A) (a : A) (q k : ℕ) → whole l g ≡ got a q k → (g ≡ got a q k) × (eqb q (length l) ≡ true)
+  pub whole-got : {A : Type 0} (g : Got A) (a : A) (q k : ℕ) → whole l g ≡ got a q k → (g ≡ got a q k) × (eqb q (length l) ≡ true)
   whole-got (got c p j) a q k e = go (eqb p (length l)) refl e
     where
       go : (t : Bool) → eqb p (length l) ≡ t → accepted t (got c p j) ≡ got a q k → (got c p j ≡ got a q k) × (eqb q (length l) ≡ true)

@@ -13,3 +13,9 @@ pub mod Written
 pub mod Answering
 pub mod Fresh
 pub mod Unmoved
+pub mod Exact
+pub mod Complete
+pub mod Declared
+pub mod Formed
+pub mod Apart
+pub mod Rewritten

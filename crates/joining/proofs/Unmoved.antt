@@ -38,16 +38,16 @@ first-in (field (mark k) fs) m e = let same : k ≡ m = cc in rw (same, eq-eqb m
 first-in (field (number k) fs) m e = let z : _≡_ {A = ℕ} 0 1 = cc in absurd (omega arith)
 
 module _ (free : ℕ → ℕ) (es : List Entry) (new : ℕ → Bool) where
-  abbrev Old : List ℕ → Type 0
+  abbrev pub Old : List ℕ → Type 0
   Old ms = (x : ℕ) → 0 < times x ms → new x ≡ false
 
-  abbrev New : ℕ → ℕ → Type 0
+  abbrev pub New : ℕ → ℕ → Type 0
   New i k = (j : ℕ) → i ≤ j → j < i + k → new (free j) ≡ true
 
-  old-left : (a b : List ℕ) → Old (a ++ b) → Old a
+  pub old-left : (a b : List ℕ) → Old (a ++ b) → Old a
   old-left a b h x g = h x (omega (arith, times-append x a b))
 
-  old-right : (a b : List ℕ) → Old (a ++ b) → Old b
+  pub old-right : (a b : List ℕ) → Old (a ++ b) → Old b
   old-right a b h x g = h x (omega (arith, times-append x a b))
 
   -- the `var`s go
@@ -69,11 +69,11 @@ module _ (free : ℕ → ℕ) (es : List Entry) (new : ℕ → Bool) where
   first-joined c i (field (mark m) fs) = refl
   first-joined c i (field (number m) fs) = refl
 
-  own-joined : (i : ℕ) (n : Node) → ownMark (join free es i n) ≡ ownMark n
+  pub own-joined : (i : ℕ) (n : Node) → ownMark (join free es i n) ≡ ownMark n
   unfolding join
   own-joined i (node at kind fs) = first-joined (isContainer kind) i fs
 
-  own-old : (n : Node) → Old (marks n) → isNew new (ownMark n) ≡ false
+  pub own-old : (n : Node) → Old (marks n) → isNew new (ownMark n) ≡ false
   unfolding marks
   own-old (node at kind fs) h = go (firstMark fs) refl
     where
@@ -119,12 +119,12 @@ module _ (free : ℕ → ℕ) (es : List Entry) (new : ℕ → Bool) where
 abbrev pub untaken : List ℕ → ℕ → Bool
 untaken ms m = not (among ms m)
 
-given-new : (ms : List ℕ) (k : ℕ) → length ms + k < 65535 → (j : ℕ) → j < k → untaken ms (fresh ms j) ≡ true
+pub given-new : (ms : List ℕ) (k : ℕ) → length ms + k < 65535 → (j : ℕ) → j < k → untaken ms (fresh ms j) ≡ true
 given-new ms k h j g =
     let b : fresh ms j ≤ length ms + suc j = fresh-below ms j in
     ap not (fresh-lowest ms j .free (omega arith) .1)
 
-marks-old : (n : Node) (h : Handed) (x : ℕ) → 0 < times x (marks n) → untaken (taken n h) x ≡ false
+pub marks-old : (n : Node) (h : Handed) (x : ℕ) → 0 < times x (marks n) → untaken (taken n h) x ≡ false
 unfolding taken
 marks-old n h x g = ap not (among-times x (marks n ++ innerMarks h) ∙ lt-ltb 0 (times x (marks n ++ innerMarks h)) (omega (arith, times-append x (marks n) (innerMarks h))))
 

@@ -5,7 +5,7 @@ use mathlib.Core.List.{List, [], _∷_, _++_}
 use mathlib.Core.Bool.{false}
 use lib.Dec.{ltb, leb}
 use lib.ListN.{length}
-use Rattle.tree.specs.Tree.{Items, count, marksItems}
+use Rattle.tree.specs.Tree.{Items, encodePiece, placedItems, marksItems}
 use Rattle.tree.specs.Tree.Piece.{list}
 use Rattle.tree.specs.Grammar.{declarator}
 use Rattle.tree.specs.Grammar.Stage.{rewritten}
@@ -14,7 +14,7 @@ use Rattle.tree.specs.WellFormed.{FitPiece}
 use Rattle.tree.specs.Read.{Got, mapped, joined, accepted, whole, wideAt, readList}
 use Rattle.tree.specs.Read.Got.{got}
 use Rattle.lowering.specs.Collect.{Entry, over}
-use Rattle.equal.specs.Equal.{listEncoded}
+use Rattle.equal.specs.Equal.{entryEncoded, listEncoded}
 use Rattle.rewritten.specs.Pending.{nodeIn}
 
 pub record Handed : Type 0 where
@@ -73,3 +73,12 @@ pub record FitHanded (h : Handed) : Type 0 where
   pub entries : FitEntries (h .entries)
   pub excluded : FitDeclarators (h .excluded)
   pub short : length (listEncoded (h .entries) (h .excluded)) ≤ longestList
+
+-- ---- the positions that its bytes give it
+
+unfoldable pub placedEntries : List Entry → ℕ → List Entry
+placedEntries [] at = []
+placedEntries (e ∷ es) at = entry (e .containing) (placedItems (e .declarators) (at + 2 + 2)) ∷ placedEntries es (at + 2 + length (encodePiece (list (e .declarators))))
+
+unfoldable pub placedHanded : Handed → Handed
+placedHanded h = handed (placedEntries (h .entries) 2) (placedItems (h .excluded) (2 + length (over entryEncoded (h .entries)) + 2))

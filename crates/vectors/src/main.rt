@@ -1,8 +1,9 @@
 // Replays stored cases from standard input. The first byte of a case says what it is of: 0 reading, 1 lowering where no limit is
-// named, 2 lowering within a limit, 3 drawing. Prints a line for each disagreement, then how many trees the reader answered how, how
-// many cases of lowering there were and how often the entries were called, how many trees were drawn, then the number of cases and of
-// disagreements.
+// named, 2 lowering within a limit, 3 drawing, 4 joining. Prints a line for each disagreement, then how many trees the reader answered
+// how, how many cases of lowering there were and how often the entries were called, how many trees were drawn, how many cases of joining
+// there were, then the number of cases and of disagreements.
 mod drawn;
+mod joined;
 mod reading;
 mod rewriting;
 mod tally;
@@ -22,6 +23,7 @@ fn next_case(t: Tally) -> Tally {
         1 => rewriting::case(t),
         2 => rewriting::case_within(t),
         3 => drawn::case(t),
+        4 => joined::case(t),
         _ => t.broken(b": it is of no kind\n"),
     }
 }

@@ -70,7 +70,7 @@ fn say_answer(answer: u8, helpers: u8, mask: u8, tree: usize, list: usize) {
 }
 
 // Whether the bytes are those of `start`, then zeros.
-fn holds(bytes: &[u8], start: &[u8]) -> bool {
+pub fn holds(bytes: &[u8], start: &[u8]) -> bool {
     let mut i = 0;
     while i < bytes.len() {
         let want = if i < start.len() { start[i] } else { 0 };

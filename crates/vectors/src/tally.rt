@@ -12,6 +12,8 @@ pub struct Tally {
     pub refused: u64,
     pub calls: u64,
     pub drawn: u64,
+    pub joined: u64,
+    pub unjoined: u64,
     pub more: bool,
 }
 
@@ -39,6 +41,8 @@ impl Tally {
             refused: 0,
             calls: 0,
             drawn: 0,
+            joined: 0,
+            unjoined: 0,
             more: true,
         }
     }
@@ -105,6 +109,16 @@ impl Tally {
         self
     }
 
+    // An expected answer of joining.
+    pub fn joins(mut self, answer: u8) -> Tally {
+        if answer == 0 {
+            self.joined = one_more(self.joined);
+        } else {
+            self.unjoined = one_more(self.unjoined);
+        }
+        self
+    }
+
     pub fn report(self) {
         say(b"reading: accepted ");
         say_number(self.accepted);
@@ -120,6 +134,10 @@ impl Tally {
         say_number(self.calls);
         say(b"\ndrawing: drawn ");
         say_number(self.drawn);
+        say(b"\njoining: joined ");
+        say_number(self.joined);
+        say(b", refused ");
+        say_number(self.unjoined);
         say(b"\n");
         say_number(self.cases);
         say(b" cases, ");
