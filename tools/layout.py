@@ -187,7 +187,8 @@ def words():
         print(name)
         for j, text in enumerate(WORDS):
             c = chunks(text)[i]
-            print("        %d => %s," % (j, hex(c) if c else "0"))
+            if c:
+                print("        %d => %s," % (j, hex(c)))
 
 
 if __name__ == "__main__":

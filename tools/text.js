@@ -1,8 +1,10 @@
-// Has printed programs read back: node --expose-internals tools/text.js [--count N] [--seed N] [--text FILE]
+// Has printed programs read back: node --expose-internals tools/text.js [--count N] [--seed N] [--text FILE] [--lower FILE] [--join FILE]
 //
 // Programs of kinds that are JavaScript (no 12, 33, op 2) are made as trees, printed by the program `text` (target/bin/text, or FILE)
-// and read by the parser that node has inside. What it reads has to be the same program, parentheses and shorthands aside. Prints each
-// difference, then the counts; the status is 1 where anything differs.
+// and read by the parser that node has inside. What it reads has to be the same program, parentheses and shorthands aside. So are the
+// sources of departures.js that have such kinds alone; lowered by `lower`, joined by `join` and printed they have to pass node --check,
+// but for those that are stored to throw the error that it says. Prints each difference, then the counts; the status is 1 where anything
+// differs.
 'use strict';
 
 let acorn;
@@ -18,7 +20,8 @@ const path = require('path');
 const words = process.argv.slice(2);
 const option = (name, otherwise) => words.includes(name) ? words[words.indexOf(name) + 1] : otherwise;
 const COUNT = Number(option('--count', 5000));
-const PROGRAM = option('--text', path.join(__dirname, '..', 'target', 'bin', 'text'));
+const program = name => option('--' + name, path.join(__dirname, '..', 'target', 'bin', name));
+const textOf = tree => spawnSync(program('text'), { input: tree, maxBuffer: 1 << 20 }).stdout.toString();
 
 // ---- a generator of numbers, the same everywhere
 
@@ -231,22 +234,57 @@ function same(n) {
   }
 }
 
+const wordsOf = (source, isModule) => JSON.stringify(same(acorn.parse(source, { ecmaVersion: 'latest', sourceType: isModule ? 'module' : 'script' })));
+
 let wrong = 0, bytes = 0;
+function differs(printed, read, wanted) {
+  if (wrong++ < 5) console.log(`${printed.slice(0, 2000)}\nread    ${read}\nwanted  ${wanted}\n`);
+}
+function isReadBack(tree, wanted, isModule) {
+  const printed = textOf(tree);
+  bytes += printed.length;
+  let read;
+  try {
+    read = wordsOf(printed, isModule);
+  } catch (error) {
+    read = String(error);
+  }
+  if (read != wanted) differs(printed, read, wanted);
+}
+
 for (let i = 0; i < COUNT; i++) {
   fresh = 0;
   const statements = several(4, () => statement(4, false));
   const tree = encoded(node(1, null, list(statements)));
-  if (tree.length > 32768) continue;
-  const printed = spawnSync(PROGRAM, { input: tree, maxBuffer: 1 << 20 }).stdout.toString();
-  bytes += printed.length;
-  let read;
-  try {
-    read = JSON.stringify(same(acorn.parse(printed, { ecmaVersion: 'latest' })));
-  } catch (error) {
-    read = String(error);
-  }
-  const wanted = JSON.stringify(statements.map(s => s.same));
-  if (read != wanted && wrong++ < 5) console.log(`${printed}\nread    ${read}\nwanted  ${wanted}\n`);
+  if (tree.length <= 32768) isReadBack(tree, JSON.stringify(statements.map(s => s.same)));
 }
 console.log(`${COUNT} programs, ${bytes} characters of text, ${wrong} read back otherwise`);
+
+// ---- the sources of departures.js
+
+const { CASES, treeOf, lower, decoded } = require('./departures.js');
+const hasOther = n => n.kind == 12 || n.kind == 33 || n.fields.flat().some(f => f && f.kind && hasOther(f));
+
+function joined(c, tree) {
+  const result = lower([program('lower')], tree);
+  const length = Buffer.from([result.tree.length & 255, result.tree.length >> 8]);
+  const [answer, whole] = spawnSync(program('join'), { input: Buffer.concat([length, result.tree, result.list]), maxBuffer: 1 << 20 }).stdout.toString().split('\n');
+  if (answer != '0') throw new Error(`join answers ${answer} for the lowered ${c.input}`);
+  return Buffer.from(whole, 'hex');
+}
+
+const sources = { all: 0, back: 0, checked: 0, refused: 0 };
+for (const c of CASES) {
+  const tree = treeOf(c.input, c.bound || [], c.isModule);
+  sources.all++;
+  if (hasOther(decoded(tree))) continue;
+  sources.back++;
+  isReadBack(tree, wordsOf(c.input, c.isModule), c.isModule);
+  const printed = textOf(joined(c, tree));
+  const told = spawnSync(process.execPath, ['--check', '-'], { input: printed }).stderr.toString();
+  const [error] = /^\w+Error/m.exec(told) || [];
+  if (told && c.lowered != 'throws ' + error) differs(printed, told, 'a program');
+  sources[told ? 'refused' : 'checked']++;
+}
+console.log(`${sources.all} sources, ${sources.back} printed; lowered, ${sources.checked} pass node --check, ${sources.refused} do not; ${wrong} wrong in all`);
 process.exitCode = wrong ? 1 : 0;

@@ -21,7 +21,7 @@ use Rattle.drawing.proofs.Writing.{next-in, next-le, put-length}
 
 -- ---- the position behind bytes
 
-reach-fits : (n at : ℕ) (xs : List ℕ) → at + length xs ≤ n → reach n at xs ≡ at + length xs
+pub reach-fits : (n at : ℕ) (xs : List ℕ) → at + length xs ≤ n → reach n at xs ≡ at + length xs
 unfolding reach
 reach-fits n at [] h = omega arith
 reach-fits n at (x ∷ xs) h = rw (next-in n at (omega arith)) (reach-fits n (suc at) xs (omega arith) ∙ omega arith)
@@ -31,7 +31,7 @@ unfolding reach
 reach-le n at [] = omega arith
 reach-le n at (x ∷ xs) = omega (arith, next-le n at, reach-le n (next n at) xs)
 
-reach-over : (n at : ℕ) (xs : List ℕ) → n < at + length xs → n < reach n at xs
+pub reach-over : (n at : ℕ) (xs : List ℕ) → n < at + length xs → n < reach n at xs
 unfolding reach
 reach-over n at [] h = omega arith
 reach-over n at (x ∷ xs) h = elim (decLt n at) [
@@ -52,7 +52,7 @@ put-onto pre (x ∷ xs) (y ∷ ys) zs e =
     rw (end, set-append-seam pre y (ys ++ zs) x)
     (rw (← append-assoc pre (x ∷ []) (ys ++ zs)) (put-onto (pre ++ (x ∷ [])) xs ys zs (omega (arith, e)) ∙ append-assoc pre (x ∷ []) (xs ++ zs)))
 
-put-zeros : (size : ℕ) (xs : List ℕ) → length xs ≤ size → put (replicate size 0) 0 xs ≡ xs ++ replicate (size - length xs) 0
+pub put-zeros : (size : ℕ) (xs : List ℕ) → length xs ≤ size → put (replicate size 0) 0 xs ≡ xs ++ replicate (size - length xs) 0
 put-zeros size xs h =
     let w : size ≡ length xs + (size - length xs) = omega arith in
     let split : replicate {A = ℕ} size 0 ≡ replicate (length xs) 0 ++ replicate (size - length xs) 0 =

@@ -9,8 +9,8 @@ use native.Mathlib.Omega.{arith}
 use native.Mathlib.Decide.{decLt}
 use native.Mathlib.Numerals.{add-one}
 use lib.Dec.{leb, eqb}
-use lib.ListN.{length, getD, set, take, replicate, length-set, replicate-append-replicate}
-use lib.Seq.{set-set, set-comm, set-out, take-all, take-suc-set}
+use lib.ListN.{length, getD, set, length-set}
+use lib.Seq.{set-set, set-comm, set-out}
 use borrow.Author.Tests.{le-leb, lt-leb, eq-eqb, ne-eqb, eqb-true, leb-true}
 use Rattle.tree.specs.Tree.{Node, Fields, Piece, Items, wideBytes, encode, encodeFields, encodePiece, encodeItems, mapOf, count}
 use Rattle.tree.specs.Tree.Node.{node}
@@ -166,17 +166,6 @@ put-over l at x h n = (rw (lt-leb at (length l) (apart at (length l) h n)), sym 
   where
     apart : (a m : ℕ) → m ≤ a → (a ≡ m → ⊥) → m < a
     apart a m g f = elim (decLt m a) [ yes w ↦ w | no w ↦ absurd (f (omega arith)) ]
-
--- ---- every byte 0
-
-pub clear-more : (s : List ℕ) (i : ℕ) → i < length s → take i s ≡ replicate i 0 → take (i + 1) (set s i 0) ≡ replicate (i + 1) 0
-clear-more s i h e =
-    ap (λ (n : ℕ). take n (set s i 0)) (add-one i) ∙ take-suc-set s i 0 h ∙ ap (λ (l : List ℕ). l ++ (0 ∷ [])) e ∙ replicate-append-replicate i 1 0
-
-pub clear-end : (s s₀ : List ℕ) (i : ℕ) → length s ≡ length s₀ → i ≤ length s → length s ≤ i → take i s ≡ replicate i 0 → s ≡ replicate (length s₀) 0
-clear-end s s₀ i p h g e =
-    let q : i ≡ length s₀ = omega arith in
-    sym (take-all i s g) ∙ e ∙ ap (λ (n : ℕ). replicate n 0) q
 
 -- ---- a drawn byte is one
 

@@ -1,4 +1,5 @@
 // Where a drawing stands, and bytes written at a position. What is past the end is not written, and is counted up to one byte.
+use tree::bytes;
 ghost use mathlib.Core.Path.{_≡_};
 ghost use lib.ListN.{length, set, replicate};
 ghost use Rattle.drawing.specs.Pen.{next, put, reach};
@@ -40,9 +41,5 @@ pub fn put_wide(out: &mut [u8], at: usize, n: u16) -> usize
 pub fn clear(s: &mut [u8])
     ensures { λ _. ⌜ now (s .exit) ≡ replicate (length (now (s .entry))) 0 ⌝ }
 {
-    let mut i = 0;
-    while i < s.len() {
-        s[i] = 0;
-        i += 1;
-    }
+    bytes::clear(s);
 }

@@ -105,32 +105,20 @@ pub fn by_event(first: &[u8], e: Event, second: &[u8], f: Event) -> Verdict
 pub fn number_in(e: Event) -> usize
     ensures { λ r. ⌜ ((tree : List ℕ) → r ≡ numberIn (eventIn tree e)) ⌝ }
 {
-    match e {
-        Event::Begins(_, _, _) => 65536,
-        Event::Ends => 65536,
-        Event::Opens(_) => 65536,
-        Event::Closes => 65536,
-        Event::Hole => 65536,
-        Event::Text(_, _) => 65536,
-        Event::Byte(_) => 65536,
-        Event::Mark(_) => 65536,
-        Event::Number(n) => n,
+    let k = key_of(e);
+    if k.rank == 7 {
+        return k.first;
     }
+    65536
 }
 
 // The next event is the number of a temporary.
 pub fn opens_temporary(e: Event) -> bool
     ensures { λ r. ⌜ ((tree : List ℕ) → r ≡ opensTemporary (eventIn tree e)) ⌝ }
 {
-    match e {
-        Event::Begins(_, kind, _) => kind == 20,
-        Event::Ends => false,
-        Event::Opens(_) => false,
-        Event::Closes => false,
-        Event::Hole => false,
-        Event::Text(_, _) => false,
-        Event::Byte(_) => false,
-        Event::Mark(_) => false,
-        Event::Number(_) => false,
+    let k = key_of(e);
+    if k.rank == 2 {
+        return k.first == 20;
     }
+    false
 }

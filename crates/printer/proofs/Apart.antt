@@ -125,7 +125,7 @@ bare-not [] b t e = false-true t
 bare-not (c ∷ a) b t e = let z : c ≡ 34 = head-same c 34 a (escaped b ++ (34 ∷ [])) e in false-true (sym (rw (begin-not c z)) ∙ t)
 
 -- a StaticKey's name
-pub key-names-apart : (a b : List ℕ) → keyName a ≡ keyName b → a ≡ b
+key-names-apart : (a b : List ℕ) → keyName a ≡ keyName b → a ≡ b
 unfolding keyName
 key-names-apart a b e =
     by-bool (bare a)
@@ -146,10 +146,14 @@ last-off (x ∷ a) (y ∷ b) e =
     ∙ ap (λ (l : List ℕ). y ∷ l) (last-off a b (tail-same x y (a ++ (93 ∷ [])) (b ++ (93 ∷ [])) e))
 
 -- a Member's name
-pub member-names-apart : (a b : List ℕ) → memberName a ≡ memberName b → a ≡ b
+member-names-apart : (a b : List ℕ) → memberName a ≡ memberName b → a ≡ b
 unfolding memberName
 member-names-apart a b e =
     by-bool (bare a)
     (λ h. by-bool (bare b) (λ g. tail-same 46 46 a b (rw (h, g) at e)) (λ g. dot-not a (inQuotes b ++ (93 ∷ [])) (rw (h, g) at e)))
     (λ h. by-bool (bare b) (λ g. dot-not b (inQuotes a ++ (93 ∷ [])) (sym (rw (h, g) at e)))
     (λ g. quotes-apart a b (last-off (inQuotes a) (inQuotes b) (tail-same 91 91 (inQuotes a ++ (93 ∷ [])) (inQuotes b ++ (93 ∷ [])) (rw (h, g) at e)))))
+
+-- two property names print alike exactly if their bytes are alike
+pub names-apart : (a b : List ℕ) → ((keyName a ≡ keyName b → a ≡ b) × (memberName a ≡ memberName b → a ≡ b)) × (a ≡ b → (keyName a ≡ keyName b) × (memberName a ≡ memberName b))
+names-apart a b = ((key-names-apart a b, member-names-apart a b), λ e. (ap keyName e, ap memberName e))

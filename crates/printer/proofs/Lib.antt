@@ -16,3 +16,4 @@ pub mod Most
 pub mod Nine
 pub mod Apart
 pub mod Children
+pub mod Ascii

@@ -12,7 +12,7 @@ use lib.ListN.{length, getD, set, take, drop, List·getD-eq-default}
 use lib.Seq.{getD-set-same, getD-set-other}
 use borrow.Author.Tests.{eq-eqb, ne-eqb}
 use Rattle.tree.proofs.Table.{both, both-left, both-right, below, below-at}
-use Rattle.printer.specs.Names.{nameBytes, entryIn, mayBegin, mayFollow, allFollow, bare, bitsOf, ruleBits, tableByte}
+use Rattle.printer.specs.Names.{nameBytes, entryIn, mayBegin, mayFollow, allFollow, bare, bitsOf, ruleBits, tableByte, tableFrom}
 use Rattle.printer.specs.Stacks.{EndIs}
 use Rattle.printer.proofs.Written.{part-step, part-end}
 
@@ -30,17 +30,10 @@ pub table-rule : (b : ℕ) → b < 256 → entryIn nameBytes b ≡ bitsOf b
 unfolding entryRight
 table-rule b h = eqb→eq (entryIn nameBytes b) (bitsOf b) (below-at entryRight 256 entries-right b h)
 
-byteRight : ℕ → Bool
-byteRight i = eqb (tableByte i) (getD nameBytes i 0)
-
-bytes-right : T (below 64 byteRight)
-unfolding byteRight tableByte nameBytes bitsOf mayBegin mayFollow
-bytes-right = tt
-
 -- the table is what the rule makes
-pub table-made : (i : ℕ) → i < 64 → tableByte i ≡ getD nameBytes i 0
-unfolding byteRight
-table-made i h = eqb→eq (tableByte i) (getD nameBytes i 0) (below-at byteRight 64 bytes-right i h)
+pub table-generated : tableFrom 64 0 ≡ nameBytes
+unfolding tableFrom tableByte nameBytes bitsOf mayBegin mayFollow
+table-generated = refl
 
 pub entry-none : (t : List ℕ) (b : ℕ) → length t ≤ b / 4 → 0 ≡ entryIn t b
 unfolding entryIn
@@ -156,6 +149,6 @@ same-getD (x ∷ s) (y ∷ t) e f =
     ∙ ap (λ (r : List ℕ). y ∷ r) (same-getD s t (omega arith) (λ k h. f (suc k) (omega arith)))
 
 -- an array of 64 entries with these bytes is the table
-pub table-generated : (t : List ℕ) → length t ≡ 64 → ((k : ℕ) → k < 64 → getD t k 0 ≡ getD nameBytes k 0) → t ≡ nameBytes
+pub same-table : (t : List ℕ) → length t ≡ 64 → ((k : ℕ) → k < 64 → getD t k 0 ≡ getD nameBytes k 0) → t ≡ nameBytes
 unfolding nameBytes
-table-generated t e f = same-getD t nameBytes e (λ k h. f k (omega arith))
+same-table t e f = same-getD t nameBytes e (λ k h. f k (omega arith))

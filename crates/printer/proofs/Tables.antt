@@ -21,17 +21,44 @@ pub word-none : (i : ℕ) → 94 ≤ i → word i ≡ []
 unfolding word words
 word-none i h = List·getD-eq-default words [] h
 
-pub no-low : (i : ℕ) → NoKey Unit 0 94 i → 0 ≡ lowOf i
-unfolding lowOf packed
-no-low i h = rw (word-none i (no-key Unit 0 94 i h (omega arith)))
+-- what the last arm of a match knows: the number is none of the keys, the last first
+abbrev pub NoneOf : List ℕ → ℕ → Type 0
+NoneOf [] v = Unit
+NoneOf (k ∷ ks) v = NoneOf ks v × (v ≡ k → ⊥)
 
-pub no-middle : (i : ℕ) → NoKey Unit 0 94 i → 0 ≡ middleOf i
-unfolding middleOf packed
-no-middle i h = rw (word-none i (no-key Unit 0 94 i h (omega arith)))
+-- 0 but at the keys
+abbrev zeroBut : (ℕ → ℕ) → List ℕ → ℕ → Bool
+zeroBut f [] i = eqb (f i) 0
+zeroBut f (k ∷ ks) i = cond (eqb i k) true (zeroBut f ks i)
 
-pub no-high : (i : ℕ) → NoKey Unit 0 94 i → 0 ≡ highOf i
-unfolding highOf packed
-no-high i h = rw (word-none i (no-key Unit 0 94 i h (omega arith)))
+zero-at : (f : ℕ → ℕ) (ks : List ℕ) (i : ℕ) → NoneOf ks i → T (zeroBut f ks i) → 0 ≡ f i
+zero-at f [] i h t = sym (eqb→eq (f i) 0 t)
+zero-at f (k ∷ ks) i h t = zero-at f ks i (h .0) (rw (ne-eqb i k (h .1)) at t)
+
+-- a number of the words that is 0 at those past the end, and at the others but the keys
+no-digits : (f : ℕ → ℕ) (ks : List ℕ) → T (below 94 (zeroBut f ks)) → ((i : ℕ) → 94 ≤ i → 0 ≡ f i) → (i : ℕ) → NoneOf ks i → 0 ≡ f i
+no-digits f ks t past i h = elim (decLt i 94) [ yes l ↦ zero-at f ks i h (below-at (zeroBut f ks) 94 t i l) | no l ↦ past i (omega arith) ]
+
+abbrev pub lows : List ℕ
+lows = 93 ∷ 92 ∷ 91 ∷ 90 ∷ 89 ∷ 88 ∷ 87 ∷ 86 ∷ 85 ∷ 84 ∷ 83 ∷ 82 ∷ 81 ∷ 80 ∷ 79 ∷ 78 ∷ 77 ∷ 76 ∷ 75 ∷ 74 ∷ 73 ∷ 72 ∷ 71 ∷ 70 ∷ 69 ∷ 68 ∷ 67 ∷ 66 ∷ 65 ∷ 64 ∷ 63 ∷ 62 ∷ 61 ∷ 60 ∷ 59 ∷ 58 ∷ 57 ∷ 56 ∷ 55 ∷ 54 ∷ 53 ∷ 52 ∷ 51 ∷ 49 ∷ 48 ∷ 47 ∷ 46 ∷ 45 ∷ 44 ∷ 43 ∷ 40 ∷ 36 ∷ 33 ∷ 31 ∷ 29 ∷ 27 ∷ 26 ∷ 25 ∷ 24 ∷ 23 ∷ 22 ∷ 21 ∷ 20 ∷ 19 ∷ 18 ∷ 17 ∷ 16 ∷ 15 ∷ 14 ∷ 13 ∷ 12 ∷ 11 ∷ 10 ∷ 9 ∷ 8 ∷ 7 ∷ 6 ∷ 5 ∷ 4 ∷ 3 ∷ 2 ∷ 1 ∷ []
+
+pub no-low : (i : ℕ) → NoneOf lows i → 0 ≡ lowOf i
+unfolding lowOf packed word words
+no-low = no-digits lowOf lows tt (λ i l. rw (word-none i l))
+
+abbrev pub middles : List ℕ
+middles = 86 ∷ 84 ∷ 81 ∷ 49 ∷ 48 ∷ 47 ∷ 23 ∷ 14 ∷ 13 ∷ 12 ∷ 10 ∷ 7 ∷ 5 ∷ []
+
+pub no-middle : (i : ℕ) → NoneOf middles i → 0 ≡ middleOf i
+unfolding middleOf packed word words
+no-middle = no-digits middleOf middles tt (λ i l. rw (word-none i l))
+
+abbrev pub highs : List ℕ
+highs = 13 ∷ 12 ∷ []
+
+pub no-high : (i : ℕ) → NoneOf highs i → 0 ≡ highOf i
+unfolding highOf packed word words
+no-high = no-digits highOf highs tt (λ i l. rw (word-none i l))
 
 -- ---- the layout
 

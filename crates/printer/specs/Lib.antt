@@ -9,4 +9,5 @@ pub mod Turns
 pub mod Noted
 pub mod Outcome
 pub mod Children
+pub mod Ascii
 pub mod Examples

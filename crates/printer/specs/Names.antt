@@ -41,6 +41,11 @@ ruleBits b =
 unfoldable pub tableByte : ℕ → ℕ
 tableByte i = bitsOf (4 * i) + (4 * bitsOf (4 * i + 1) + (16 * bitsOf (4 * i + 2) + 64 * bitsOf (4 * i + 3)))
 
+-- n bytes of it, from byte i on
+unfoldable pub tableFrom : ℕ → ℕ → List ℕ
+tableFrom zero i = []
+tableFrom (suc n) i = tableByte i ∷ tableFrom n (suc i)
+
 -- a name that is left bare: it has a byte, and every byte may stand where it does
 unfoldable pub bare : List ℕ → Bool
 bare [] = false

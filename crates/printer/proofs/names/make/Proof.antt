@@ -50,7 +50,7 @@ same-length c = c .before .loop .inv .0 ∙ sym (c .before .before .if1 .taken)
 
 -- src/names.rt:107:1
 returns : tie.Need-returns Inv-loop μ-loop
-returns c = λ h. law.table-generated _ (c .before .loop .inv .0) (λ k g. c .before .loop .inv .2 k (omega (arith, g, c .loop-test .left)))
+returns c = λ h. law.same-table _ (c .before .loop .inv .0) (λ k g. c .before .loop .inv .2 k (omega (arith, g, c .loop-test .left)))
 
 -- src/names.rt:107:1
 returns-2 : tie.Need-returns-2 Inv-loop μ-loop
