@@ -2,7 +2,7 @@
 
 use crate::kind::Kind;
 use crate::walk::{Step, Walk};
-use crate::{List, Lowered};
+use crate::{entry, List, Lowered};
 use std::fmt;
 
 /// An object rest or spread that stands in a result. An engine that knows ECMAScript up to 2017 does not take it: it is a
@@ -74,11 +74,16 @@ impl Leftover {
 impl Lowered<'_> {
     /// What document 01 leaves of object rest and spread, in the tree and then in the list: below array rests of
     /// declarations, in rest parameters, in parameters of functions without a body, in declarators without a value, and in
-    /// the values of keys that are handed to the list. It is looked for anew at each call.
+    /// keys that are handed to the list, as values or in Templates. That nothing else is left is proved (docs/RULES.md, 'What
+    /// is left'). It is looked for anew at each call. Whether a rest is left in the tree is what the proved
+    /// [`entry::leftover`] says; where it stands is looked up beside it.
     #[must_use]
     pub fn leftovers(&self) -> Vec<Leftover> {
         let mut found = Vec::new();
         look(self.tree, &[], false, &mut found);
+        if entry::leftover(self.tree) && !found.iter().any(|left| left.what == Left::Rest) {
+            found.push(Leftover { what: Left::Rest, in_list: false, marks: Vec::new() });
+        }
         in_list(self.list, &mut found);
         found
     }

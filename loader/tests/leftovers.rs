@@ -4,7 +4,7 @@ mod common;
 
 use common::cases::stored;
 use common::make::{assign, binding, expression, function, program, reference, rest_by_key, spreads};
-use rest_spread::{Kind, Left, Leftover, Lowerer, Make, Options};
+use rest_spread::{entry, Kind, Left, Leftover, Lowerer, Make, Options, Series};
 
 /// `{...a}`, a pattern.
 fn rest(leaf: Make) -> Make {
@@ -119,4 +119,22 @@ fn stored_results_have_no_spread_left_in_the_tree() {
         }
     }
     assert!(some > listed && listed > 0, "{some} {listed}");
+}
+
+/// The proved test says that a rest is left in the tree exactly where one is found, in stored results and in those of trees
+/// that are drawn.
+#[test]
+fn what_is_found_is_what_the_proved_test_says() {
+    let mut lowerer = Lowerer::new();
+    let mut kept = 0;
+    let drawn = Series::from_seed(1).unwrap().take(300).map(|drawing| drawing.tree);
+    for tree in stored().into_iter().map(|case| case.tree).chain(drawn) {
+        let Ok(lowered) = lowerer.lower(Options::NONE, &tree) else { continue };
+        let found = lowered.leftovers();
+        let rests: Vec<_> = found.iter().filter(|one| !one.in_list).collect();
+        assert!(rests.iter().all(|one| !one.marks().is_empty()), "{rests:?}");
+        assert_eq!(entry::leftover(lowered.tree), !rests.is_empty());
+        kept += usize::from(!rests.is_empty());
+    }
+    assert!(kept > 0);
 }

@@ -19,7 +19,7 @@ use Rattle.lowering.proofs.Cases.{by-test}
 use Rattle.lowering.proofs.All.{AllItems, AllPiece, AllFields, Each, weaker-each, weaker-piece}
 use Rattle.lowering.proofs.Weights.{weight-pos}
 use Rattle.lowering.proofs.Falls.{falls}
-use Rattle.result.proofs.Lies.{Lies, LieFields, LiePiece, LieItems}
+use Rattle.result.proofs.Lies.{Texts, Lies, LieFields, LiePiece, LieItems}
 use Rattle.result.proofs.Rules.{Leaves, leaves}
 use Rattle.result.proofs.Comes.{no-refusal, no-refusal-here, not-refused}
 
@@ -50,10 +50,10 @@ pub record Small (new named bytes : ℕ) : Type 0 where
   pub temporaries : 5 * named ≤ bytes
 
 module _ (ns : List Name) where
-  abbrev Few : Node → Walked → Type 0
-  Few n w = (p next m : ℕ) → Lies p n → firstRefusal (visits next m w) ≡ 0 → Small (newIn w) (names (nodes (bare next w))) (length (encode (numbered ns (bare next w))))
+  abbrev Few : (T : Texts) → Node → Walked → Type 0
+  Few T n w = (p next m : ℕ) → Lies T p n → firstRefusal (visits next m w) ≡ 0 → Small (newIn w) (names (nodes (bare next w))) (length (encode (numbered ns (bare next w))))
 
-  items-few : (w : ℕ → Node → Walked) {p : ℕ} {h : Bool} {is : Items} → LieItems p h is → AllItems (λ n. (j : ℕ) → Few n (w j n)) is → (j : ℕ) (l : Bool) (next m : ℕ)
+  items-few : {T : Texts} (w : ℕ → Node → Walked) {p : ℕ} {h : Bool} {is : Items} → LieItems T p h is → AllItems (λ n. (j : ℕ) → Few T n (w j n)) is → (j : ℕ) (l : Bool) (next m : ℕ)
       → firstRefusal (visitsItems l next m (eachItem w j is)) ≡ 0
       → Small (newInItems (eachItem w j is)) (names (nodesItems (bareItems next (eachItem w j is)))) (length (encodeItems (numberedItems ns (bareItems next (eachItem w j is)))))
   unfolding eachItem visits bare numbered newIn nodes encode over
@@ -76,7 +76,7 @@ module _ (ns : List Name) where
   mark-few next zero = record { marks = omega arith; temporaries = omega arith }
   mark-few next (suc m) = record { marks = omega arith; temporaries = omega arith }
 
-  piece-few : (w : ℕ → Node → Walked) {b d : ℕ} {s : Sort} {p : Piece} → LiePiece b s p d → AllPiece (λ n. (j : ℕ) → Few n (w j n)) p → (l : Bool) (next m : ℕ)
+  piece-few : {T : Texts} (w : ℕ → Node → Walked) {b d : ℕ} {s : Sort} {p : Piece} → LiePiece T b s p d → AllPiece (λ n. (j : ℕ) → Few T n (w j n)) p → (l : Bool) (next m : ℕ)
       → firstRefusal (visitsPiece l next m (eachPiece w p)) ≡ 0
       → Small (newInPiece (eachPiece w p)) (names (nodesPiece (barePiece next (eachPiece w p)))) (length (encodePiece (numberedPiece ns (barePiece next (eachPiece w p)))))
   unfolding eachPiece visits bare numbered newIn nodes encode over
@@ -92,23 +92,23 @@ module _ (ns : List Name) where
   piece-few w (LiePiece.number a) g l next m r = record { marks = omega arith; temporaries = omega arith }
 
   -- a field, and those after it
-  one-more : (w : ℕ → ℕ → Node → Walked) {b d : ℕ} {t : Sort} {p : Piece} (fs : Fields) → LiePiece b t p d → AllFields (λ n. (i j : ℕ) → Few n (w i j n)) (Fields.field p fs) → (i : ℕ) (l : Bool) (next m : ℕ)
+  one-more : {T : Texts} (w : ℕ → ℕ → Node → Walked) {b d : ℕ} {t : Sort} {p : Piece} (fs : Fields) → LiePiece T b t p d → AllFields (λ n. (i j : ℕ) → Few T n (w i j n)) (Fields.field p fs) → (i : ℕ) (l : Bool) (next m : ℕ)
       → firstRefusal (visitsFields l next m (eachField w i (Fields.field p fs))) ≡ 0
       → (firstRefusal (visitsFields l (next + newInPiece (eachPiece (w i) p)) m (eachField w (suc i) fs)) ≡ 0
       → Small (newInFields (eachField w (suc i) fs)) (names (nodesFields (bareFields (next + newInPiece (eachPiece (w i) p)) (eachField w (suc i) fs))))
       (length (encodeFields (numberedFields ns (bareFields (next + newInPiece (eachPiece (w i) p)) (eachField w (suc i) fs))))))
       → Small (newInFields (eachField w i (Fields.field p fs))) (names (nodesFields (bareFields next (eachField w i (Fields.field p fs))))) (length (encodeFields (numberedFields ns (bareFields next (eachField w i (Fields.field p fs))))))
   unfolding eachField visits bare numbered newIn nodes encode
-  one-more w {p = p} fs x g i l next m r more =
+  one-more {T = T} w {p = p} fs x g i l next m r more =
       let s = no-refusal (visitsPiece l next m (eachPiece (w i) p)) (visitsFields l (next + newInPiece (eachPiece (w i) p)) m (eachField w (suc i) fs)) r in
-      let c = piece-few (w i) x (weaker-piece (λ n. (i j : ℕ) → Few n (w i j n)) (λ n. (j : ℕ) → Few n (w i j n)) (λ n h. h i) p (g .0)) l next m (s .0) in
+      let c = piece-few (w i) x (weaker-piece (λ n. (i j : ℕ) → Few T n (w i j n)) (λ n. (j : ℕ) → Few T n (w i j n)) (λ n h. h i) p (g .0)) l next m (s .0) in
       let d = more (s .1) in
       let e = length-append (encodePiece (numberedPiece ns (barePiece next (eachPiece (w i) p)))) (encodeFields (numberedFields ns (bareFields (next + newInPiece (eachPiece (w i) p)) (eachField w (suc i) fs)))) in
       let f = names-append (nodesPiece (barePiece next (eachPiece (w i) p))) (nodesFields (bareFields (next + newInPiece (eachPiece (w i) p)) (eachField w (suc i) fs))) in
       let c₁ = c .marks in let c₂ = c .temporaries in let d₁ = d .marks in let d₂ = d .temporaries in
       record { marks = omega arith; temporaries = omega arith }
 
-  fields-few : (w : ℕ → ℕ → Node → Walked) {b : ℕ} {ts : List Field} {fs : Fields} → LieFields b ts fs → AllFields (λ n. (i j : ℕ) → Few n (w i j n)) fs → (i : ℕ) (l : Bool) (next m : ℕ)
+  fields-few : {T : Texts} (w : ℕ → ℕ → Node → Walked) {b : ℕ} {ts : List Field} {fs : Fields} → LieFields T b ts fs → AllFields (λ n. (i j : ℕ) → Few T n (w i j n)) fs → (i : ℕ) (l : Bool) (next m : ℕ)
       → firstRefusal (visitsFields l next m (eachField w i fs)) ≡ 0
       → Small (newInFields (eachField w i fs)) (names (nodesFields (bareFields next (eachField w i fs)))) (length (encodeFields (numberedFields ns (bareFields next (eachField w i fs)))))
   unfolding eachField visits bare numbered newIn nodes encode over
@@ -117,11 +117,11 @@ module _ (ns : List Name) where
   fields-few w (LieFields.needed {p = p} {fs = fs} x a) g i l next m r = one-more w fs x g i l next m r (λ k. fields-few w a (g .1) (suc i) l (next + newInPiece (eachPiece (w i) p)) m k)
   fields-few w (LieFields.given {p = p} {fs = fs} x a) g i l next m r = one-more w fs x g i l next m r (λ k. fields-few w a (g .1) (suc i) l (next + newInPiece (eachPiece (w i) p)) m k)
 
-  left-few : (note : Note) (w : ℕ → ℕ → Node → Walked) {p : ℕ} {r : Node} → Lies p r → Each (λ n. (i j : ℕ) → Few n (w i j n)) r → (next m : ℕ)
+  left-few : {T : Texts} (note : Note) (w : ℕ → ℕ → Node → Walked) {p : ℕ} {r : Node} → Lies T p r → Each (λ n. (i j : ℕ) → Few T n (w i j n)) r → (next m : ℕ)
       → firstRefusal (visits next m (inside note w r)) ≡ 0
       → Small (newIn (inside note w r)) (names (nodes (bare next (inside note w r)))) (length (encode (numbered ns (bare next (inside note w r)))))
   unfolding inside visits bare numbered newIn eachField eachPiece withNumber nodes over encode is
-  left-few note w (Lies.lies {at = at} {k = k} {fs = fs} z t f) g next m r =
+  left-few note w (Lies.lies {at = at} {k = k} {fs = fs} z t u f) g next m r =
       let s = no-refusal-here (record { containing = m; note = note }) (visitsFields (isContainer k) next m (eachField w 0 fs)) r in
       let c = fields-few w f g 0 (isContainer k) next m (s .1) in
       let e = no-name-here (node at k (bareFields next (eachField w 0 fs))) t in
@@ -133,16 +133,16 @@ module _ (ns : List Name) where
       let q = length-append (nameAt (node at 20 (Fields.field (Piece.number stem) (Fields.field (Piece.text path) Fields.done)))) [] in
       record { marks = omega arith; temporaries = omega arith }
 
-  walk-few : (f : ℕ) (c : Context) (n : Node) → weight n ≤ f → Few n (walk f c n)
+  walk-few : {T : Texts} (f : ℕ) (c : Context) (n : Node) → weight n ≤ f → Few T n (walk f c n)
   unfolding walk
   walk-few zero c n h p next m l r = absurd (let z = weight-pos n in omega arith)
-  walk-few (suc f) c n h p next m l r =
+  walk-few {T = T} (suc f) c n h p next m l r =
       let w : ℕ → ℕ → Node → Walked = λ i j k. walk f (within c (rewrite c n .result) i j) k in
       left-few (rewrite c n .note) w (leaves c p n l .tree (not-refused (rewrite c n .note) w (rewrite c n .result) next m r))
-      (weaker-each (λ x. weight x < weight n) (λ x. (i j : ℕ) → Few x (w i j x)) (λ x k i j. walk-few f (within c (rewrite c n .result) i j) x (omega arith)) (rewrite c n .result) (falls c n))
+      (weaker-each (λ x. weight x < weight n) (λ x. (i j : ℕ) → Few T x (w i j x)) (λ x k i j. walk-few f (within c (rewrite c n .result) i j) x (omega arith)) (rewrite c n .result) (falls c n))
       next m r
 
-  pub walked-few : (c : Context) (n : Node) → Few n (walked c n)
+  pub walked-few : {T : Texts} (c : Context) (n : Node) → Few T n (walked c n)
   unfolding walked
   walked-few c n = walk-few (weight n) c n (omega arith)
 

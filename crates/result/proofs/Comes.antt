@@ -20,7 +20,7 @@ use Rattle.lowering.proofs.Cases.{by-test}
 use Rattle.lowering.proofs.All.{AllItems, AllPiece, AllFields, Each, weaker-each, weaker-piece}
 use Rattle.lowering.proofs.Weights.{weight-pos}
 use Rattle.lowering.proofs.Falls.{falls}
-use Rattle.result.proofs.Lies.{Lies, LieFields, LiePiece, LieItems}
+use Rattle.result.proofs.Lies.{Texts, Lies, LieFields, LiePiece, LieItems}
 use Rattle.result.proofs.Rules.{Leaves, leaves}
 
 mutual
@@ -83,10 +83,10 @@ not-refused note w (node at k fs) next m r = no-refusal-here (record { containin
 
 module _ (ns : List Name) (few : (a : Name) → numberIn same 1 ns a < 65536) where
   -- what is written of a walked node, if nothing is refused in it
-  abbrev pub Good : Node → Walked → Type 0
-  Good n w = (p next m : ℕ) → Lies p n → firstRefusal (visits next m w) ≡ 0 → next + newIn w ≤ 65536 → Comes n (numbered ns (bare next w))
+  abbrev pub Good : (T : Texts) → Node → Walked → Type 0
+  Good T n w = (p next m : ℕ) → Lies T p n → firstRefusal (visits next m w) ≡ 0 → next + newIn w ≤ 65536 → Comes n (numbered ns (bare next w))
 
-  items-come : (w : ℕ → Node → Walked) {p : ℕ} {h : Bool} {is : Items} → LieItems p h is → AllItems (λ n. (j : ℕ) → Good n (w j n)) is → (j : ℕ) (l : Bool) (next m : ℕ)
+  items-come : {T : Texts} (w : ℕ → Node → Walked) {p : ℕ} {h : Bool} {is : Items} → LieItems T p h is → AllItems (λ n. (j : ℕ) → Good T n (w j n)) is → (j : ℕ) (l : Bool) (next m : ℕ)
       → firstRefusal (visitsItems l next m (eachItem w j is)) ≡ 0 → next + newInItems (eachItem w j is) ≤ 65536 → ComeItems is (numberedItems ns (bareItems next (eachItem w j is)))
   unfolding eachItem visits bare numbered newIn
   items-come w LieItems.none g j l next m r b = ComeItems.none
@@ -100,7 +100,7 @@ module _ (ns : List Name) (few : (a : Name) → numberIn same 1 ns a < 65536) wh
   mark-comes next zero a b = let z : next < 65536 = omega arith in ComePiece.mark {m = 0} z (λ (y : 0 < 0). absurd (omega arith))
   mark-comes next (suc m) a b = ComePiece.mark a (λ z. refl)
 
-  piece-comes : (w : ℕ → Node → Walked) {b d : ℕ} {s : Sort} {p : Piece} → LiePiece b s p d → AllPiece (λ n. (j : ℕ) → Good n (w j n)) p → (l : Bool) (next m : ℕ)
+  piece-comes : {T : Texts} (w : ℕ → Node → Walked) {b d : ℕ} {s : Sort} {p : Piece} → LiePiece T b s p d → AllPiece (λ n. (j : ℕ) → Good T n (w j n)) p → (l : Bool) (next m : ℕ)
       → firstRefusal (visitsPiece l next m (eachPiece w p)) ≡ 0 → next + newInPiece (eachPiece w p) ≤ 65536 → ComePiece p (numberedPiece ns (barePiece next (eachPiece w p)))
   unfolding eachPiece visits bare numbered newIn
   piece-comes w (LiePiece.child {p = p} x) g l next m r b = ComePiece.one (g 0 p next m x r b)
@@ -112,42 +112,42 @@ module _ (ns : List Name) (few : (a : Name) → numberIn same 1 ns a < 65536) wh
   piece-comes w (LiePiece.mark {m = k} a) g l next m r b = mark-comes next k a b
   piece-comes w (LiePiece.number a) g l next m r b = ComePiece.number
 
-  fields-come : (w : ℕ → ℕ → Node → Walked) {b : ℕ} {ts : List Field} {fs : Fields} → LieFields b ts fs → AllFields (λ n. (i j : ℕ) → Good n (w i j n)) fs → (i : ℕ) (l : Bool) (next m : ℕ)
+  fields-come : {T : Texts} (w : ℕ → ℕ → Node → Walked) {b : ℕ} {ts : List Field} {fs : Fields} → LieFields T b ts fs → AllFields (λ n. (i j : ℕ) → Good T n (w i j n)) fs → (i : ℕ) (l : Bool) (next m : ℕ)
       → firstRefusal (visitsFields l next m (eachField w i fs)) ≡ 0 → next + newInFields (eachField w i fs) ≤ 65536 → ComeFields fs (numberedFields ns (bareFields next (eachField w i fs)))
   unfolding eachField visits bare numbered newIn
   fields-come w LieFields.done g i l next m r b = ComeFields.done
   fields-come w (LieFields.absent a) g i l next m r b = ComeFields.absent (fields-come w a g (suc i) l next m r b)
-  fields-come w (LieFields.needed {p = p} {fs = fs} x a) g i l next m r b =
+  fields-come {T = T} w (LieFields.needed {p = p} {fs = fs} x a) g i l next m r b =
       let s = no-refusal (visitsPiece l next m (eachPiece (w i) p)) (visitsFields l (next + newInPiece (eachPiece (w i) p)) m (eachField w (suc i) fs)) r in
-      ComeFields.field (piece-comes (w i) x (weaker-piece (λ n. (i j : ℕ) → Good n (w i j n)) (λ n. (j : ℕ) → Good n (w i j n)) (λ n h. h i) p (g .0)) l next m (s .0) (omega arith))
+      ComeFields.field (piece-comes (w i) x (weaker-piece (λ n. (i j : ℕ) → Good T n (w i j n)) (λ n. (j : ℕ) → Good T n (w i j n)) (λ n h. h i) p (g .0)) l next m (s .0) (omega arith))
       (fields-come w a (g .1) (suc i) l (next + newInPiece (eachPiece (w i) p)) m (s .1) (omega arith))
-  fields-come w (LieFields.given {p = p} {fs = fs} x a) g i l next m r b =
+  fields-come {T = T} w (LieFields.given {p = p} {fs = fs} x a) g i l next m r b =
       let s = no-refusal (visitsPiece l next m (eachPiece (w i) p)) (visitsFields l (next + newInPiece (eachPiece (w i) p)) m (eachField w (suc i) fs)) r in
-      ComeFields.field (piece-comes (w i) x (weaker-piece (λ n. (i j : ℕ) → Good n (w i j n)) (λ n. (j : ℕ) → Good n (w i j n)) (λ n h. h i) p (g .0)) l next m (s .0) (omega arith))
+      ComeFields.field (piece-comes (w i) x (weaker-piece (λ n. (i j : ℕ) → Good T n (w i j n)) (λ n. (j : ℕ) → Good T n (w i j n)) (λ n h. h i) p (g .0)) l next m (s .0) (omega arith))
       (fields-come w a (g .1) (suc i) l (next + newInPiece (eachPiece (w i) p)) m (s .1) (omega arith))
 
   -- a node that was rewritten
-  left-of : (note : Note) (w : ℕ → ℕ → Node → Walked) {p : ℕ} {r : Node} → Lies p r → Each (λ n. (i j : ℕ) → Good n (w i j n)) r → (next m : ℕ)
+  left-of : {T : Texts} (note : Note) (w : ℕ → ℕ → Node → Walked) {p : ℕ} {r : Node} → Lies T p r → Each (λ n. (i j : ℕ) → Good T n (w i j n)) r → (next m : ℕ)
       → firstRefusal (visits next m (inside note w r)) ≡ 0 → next + newIn (inside note w r) ≤ 65536 → (note .refusal ≡ 0) × Left r (numbered ns (bare next (inside note w r)))
   unfolding inside visits bare numbered newIn eachField eachPiece withNumber nameOf textAt numberAt pieceIn
-  left-of note w (Lies.lies {at = at} {k = k} {fs = fs} z t f) g next m r b =
+  left-of note w (Lies.lies {at = at} {k = k} {fs = fs} z t u f) g next m r b =
       let s = no-refusal-here (record { containing = m; note = note }) (visitsFields (isContainer k) next m (eachField w 0 fs)) r in
       (s .0, rw t (Left.kept t (fields-come w f g 0 (isContainer k) next m (s .1) b)))
   left-of note w (Lies.named {at = at} {stem = stem} {path = path} z x y) g next m r b =
       let s = no-refusal-here (record { containing = m; note = note }) (visitsFields (isContainer 20) next m (eachField w 0 (Fields.field (Piece.number stem) (Fields.field (Piece.text path) Fields.done)))) r in
       (s .0, Left.named (few (record { path = path; stem = stem; place = at })))
 
-  pub walk-comes : (f : ℕ) (c : Context) (n : Node) → weight n ≤ f → Good n (walk f c n)
+  pub walk-comes : {T : Texts} (f : ℕ) (c : Context) (n : Node) → weight n ≤ f → Good T n (walk f c n)
   unfolding walk
   walk-comes zero c n h p next m l r b = absurd (let z = weight-pos n in omega arith)
-  walk-comes (suc f) c n h p next m l r b =
+  walk-comes {T = T} (suc f) c n h p next m l r b =
       let w : ℕ → ℕ → Node → Walked = λ i j k. walk f (within c (rewrite c n .result) i j) k in
       let e = not-refused (rewrite c n .note) w (rewrite c n .result) next m r in
       let g = left-of (rewrite c n .note) w (leaves c p n l .tree e)
-      (weaker-each (λ x. weight x < weight n) (λ x. (i j : ℕ) → Good x (w i j x)) (λ x k i j. walk-comes f (within c (rewrite c n .result) i j) x (omega arith)) (rewrite c n .result) (falls c n))
+      (weaker-each (λ x. weight x < weight n) (λ x. (i j : ℕ) → Good T x (w i j x)) (λ x k i j. walk-comes f (within c (rewrite c n .result) i j) x (omega arith)) (rewrite c n .result) (falls c n))
       next m r b in
       Comes.comes c e (g .1)
 
-  pub walked-comes : (c : Context) (n : Node) → Good n (walked c n)
+  pub walked-comes : {T : Texts} (c : Context) (n : Node) → Good T n (walked c n)
   unfolding walked
   walked-comes c n = walk-comes (weight n) c n (omega arith)

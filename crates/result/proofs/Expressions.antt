@@ -13,12 +13,11 @@ use Rattle.tree.specs.Tree.Node.{node}
 use Rattle.tree.specs.Tree.Fields.{done, absent, field}
 use Rattle.tree.specs.Grammar.{Sort, Field, places, allowed, also, among, kindOf, formIn, formAt, fieldsOf, kinds}
 use Rattle.tree.specs.Grammar.Stage.{rewritten}
-use Rattle.tree.specs.WellFormed.{Bytes}
 use Rattle.lowering.specs.Parts.{kind, only}
 use Rattle.lowering.specs.Made.{temporary, helper, call, S, X, E, W, K, object, array, sequence, member, assign, string}
 use Rattle.lowering.proofs.Cases.{by-test, or-other, not-false}
 use Rattle.result.proofs.Rows.{allRows, row-at, widened, covers, at-places, no-kind}
-use Rattle.result.proofs.Lies.{Lies, LieFields, LiePiece, LieItems, make, may-stand, moved, lies-only}
+use Rattle.result.proofs.Lies.{Texts, Lies, LieFields, LiePiece, LieItems, make, may-stand, moved, lies-only}
 
 -- every expression may stand at the place
 abbrev pub Takes : ℕ → Type 0
@@ -91,44 +90,44 @@ module _ (p : ℕ) (t : Takes p) where
 
   -- ---- the nodes
 
-  pub temporary-lies : {path : List ℕ} {stem at : ℕ} → 0 < stem → stem < 5 → Lies p (temporary path stem at)
+  pub temporary-lies : {T : Texts} {path : List ℕ} {stem at : ℕ} → 0 < stem → stem < 5 → Lies T p (temporary path stem at)
   temporary-lies a b = let z : 0 < formAt rewritten p 20 = omega (arith, form-20) in Lies.named z a b
 
-  pub helper-lies : {h : ℕ} → 1 ≤ h → h ≤ 5 → Lies p (helper h)
+  pub helper-lies : {T : Texts} {h : ℕ} → 1 ≤ h → h ≤ 5 → Lies T p (helper h)
   unfolding fieldsOf kinds
   helper-lies a b = make p 21 21 form-21 (omega arith) refl (LieFields.needed (LiePiece.byte a b (omega arith)) LieFields.done)
 
-  pub call-lies : {f : Node} {xs : Items} → Lies 3 f → LieItems 13 false xs → Lies p (call f xs)
+  pub call-lies : {T : Texts} {f : Node} {xs : Items} → Lies T 3 f → LieItems T 13 false xs → Lies T p (call f xs)
   unfolding fieldsOf kinds
   call-lies a b = make p 29 29 form-29 (omega arith) refl (LieFields.needed (LiePiece.child a) (LieFields.needed (LiePiece.many b) LieFields.done))
 
-  pub object-lies : {ps : Items} → LieItems 12 false ps → Lies p (object ps)
+  pub object-lies : {T : Texts} {ps : Items} → LieItems T 12 false ps → Lies T p (object ps)
   unfolding fieldsOf kinds
   object-lies a = make p 24 24 form-24 (omega arith) refl (LieFields.needed (LiePiece.many a) LieFields.done)
 
-  pub array-lies : {xs : Items} → LieItems 13 true xs → Lies p (array xs)
+  pub array-lies : {T : Texts} {xs : Items} → LieItems T 13 true xs → Lies T p (array xs)
   unfolding fieldsOf kinds
   array-lies a = make p 32 32 form-32 (omega arith) refl (LieFields.needed (LiePiece.gaps a) LieFields.done)
 
-  pub sequence-lies : {xs : Items} → LieItems 3 false xs → Lies p (sequence xs)
+  pub sequence-lies : {T : Texts} {xs : Items} → LieItems T 3 false xs → Lies T p (sequence xs)
   unfolding fieldsOf kinds
   sequence-lies a = make p 28 28 form-28 (omega arith) refl (LieFields.needed (LiePiece.many a) LieFields.done)
 
-  pub member-lies : {a : Node} {name : List ℕ} → Lies 3 a → Bytes name → Lies p (member a name)
+  pub member-lies : {T : Texts} {a : Node} {name : List ℕ} → Lies T 3 a → T .holds name → Lies T p (member a name)
   unfolding fieldsOf kinds
   member-lies a b = make p 30 30 form-30 (omega arith) refl (LieFields.needed (LiePiece.child a) (LieFields.needed (LiePiece.text b) LieFields.done))
 
-  pub assign-lies : {left right : Node} → Lies 19 left → Lies 3 right → Lies p (assign left right)
+  pub assign-lies : {T : Texts} {left right : Node} → Lies T 19 left → Lies T 3 right → Lies T p (assign left right)
   unfolding fieldsOf kinds
   assign-lies a b =
       make p 27 27 form-27 (omega arith) refl
       (LieFields.needed (LiePiece.byte (omega arith) (omega arith) (omega arith)) (LieFields.needed (LiePiece.chosen a) (LieFields.needed (LiePiece.child b) LieFields.done)))
 
-  pub string-lies : {form : List ℕ} → Bytes form → Lies p (string form)
-  unfolding fieldsOf kinds Bytes
-  string-lies b =
+  pub string-lies : {T : Texts} {form : List ℕ} → T .holds form → Lies T p (string form)
+  unfolding fieldsOf kinds
+  string-lies {T = T} b =
       make p 22 22 form-22 (omega arith) refl
-      (LieFields.needed (LiePiece.byte (omega arith) (omega arith) (omega arith)) (LieFields.needed (LiePiece.text tt) (LieFields.given (LiePiece.text b) LieFields.done)))
+      (LieFields.needed (LiePiece.byte (omega arith) (omega arith) (omega arith)) (LieFields.needed (LiePiece.text (T .empty)) (LieFields.given (LiePiece.text b) LieFields.done)))
 
 -- ---- the places of an expression and of an argument
 
@@ -141,22 +140,22 @@ unfolding places among
 takes-13 = refl
 
 -- an expression is an argument
-pub argument : {n : Node} → Lies 3 n → Lies 13 n
+pub argument : {T : Texts} {n : Node} → Lies T 3 n → Lies T 13 n
 unfolding covers allowed places also among formIn kindOf
 argument {n = n} l = moved 13 (at-places no-kind rewritten rewritten 3 13 refl (kind n) refl (may-stand l)) l
 
 module _ (p : ℕ) (t : Takes p) where
-  pub S-lies : {xs : Items} → LieItems 13 false xs → Lies p (S xs)
+  pub S-lies : {T : Texts} {xs : Items} → LieItems T 13 false xs → Lies T p (S xs)
   S-lies a = call-lies p t (helper-lies 3 takes-3 (omega arith) (omega arith)) a
 
-  pub X-lies : {a b : Node} → Lies 13 a → Lies 13 b → Lies p (X a b)
+  pub X-lies : {T : Texts} {a b : Node} → Lies T 13 a → Lies T 13 b → Lies T p (X a b)
   X-lies a b = call-lies p t (helper-lies 3 takes-3 (omega arith) (omega arith)) (LieItems.item a (lies-only b))
 
-  pub E-lies : {a : Node} → Lies 13 a → Lies p (E a)
+  pub E-lies : {T : Texts} {a : Node} → Lies T 13 a → Lies T p (E a)
   E-lies a = call-lies p t (helper-lies 3 takes-3 (omega arith) (omega arith)) (lies-only a)
 
-  pub W-lies : {a b : Node} → Lies 13 a → Lies 13 b → Lies p (W a b)
+  pub W-lies : {T : Texts} {a b : Node} → Lies T 13 a → Lies T 13 b → Lies T p (W a b)
   W-lies a b = call-lies p t (helper-lies 3 takes-3 (omega arith) (omega arith)) (LieItems.item a (lies-only b))
 
-  pub K-lies : Lies p K
+  pub K-lies : {T : Texts} → Lies T p K
   K-lies = helper-lies p t (omega arith) (omega arith)

@@ -6,6 +6,7 @@ pub mod Patterns
 pub mod LiteralTexts
 pub mod Keys
 pub mod Literals
+pub mod Valued
 pub mod Declarations
 pub mod Assignments
 pub mod Heads
@@ -15,6 +16,7 @@ pub mod Comes
 pub mod Bounds
 pub mod Fitting
 pub mod Handing
+pub mod Texts
 pub mod Numbering
 pub mod Looking
 pub mod Taken
@@ -23,4 +25,16 @@ pub mod Standing
 pub mod Searched
 pub mod Places
 pub mod Resting
+pub mod Entries
+pub mod Excluded
+pub mod Weighed
+pub mod Copies
+pub mod CopyRules
+pub mod Tallies
+pub mod Distinct
+pub mod MarksApart
+pub mod Entered
+pub mod HandedKeys
+pub mod ReadBack
+pub mod Joins
 pub mod Lowered

@@ -1,5 +1,6 @@
--- The text of a literal is bytes, be it its form or the string that is promised.
+-- The string that is promised for a number is bytes; what holds of it and of a form holds of the text of a literal.
 -- Assumes nothing.
+use mathlib.Core.Path.{_≡_, refl}
 use mathlib.Core.List.{List, [], _∷_, _++_}
 use mathlib.Core.Option.{Option, none, some}
 use Prim.Native.Nat.{ℕ, zero, suc, _+_, _/_, _%_, _<_}
@@ -52,14 +53,28 @@ spelling-bytes bs = go (spellingOf bs)
     go (hexadecimal ds) = value-bytes (valueFrom 16 0 ds)
     go another = tt
 
-promised-bytes : (k : Node) → ByteString (promised k)
-unfolding promised
-promised-bytes k = by-test (eqb (numberAt 0 k) 2) (λ e. rw (e, ByteString) (spelling-bytes (textAt 1 k))) (λ e. rw (e, ByteString) tt)
+pub number-bytes : (w s : List ℕ) → numberString w ≡ some s → Bytes s
+number-bytes w s e = rw e at (spelling-bytes w)
 
-pub literal-bytes : (k : Node) → Bytes (textAt 2 k) → Bytes (literalText k)
-unfolding literalText
-literal-bytes k h = go (promised k) (promised-bytes k)
-  where
-    go : (x : Option (List ℕ)) → ByteString x → Bytes (elim x [ some s ↦ s | none ↦ textAt 2 k ])
-    go (some s) b = b
-    go none b = h
+-- ---- the text of a literal: what holds of the string, if one is promised, and of its form, holds of it
+
+module _ (H : List ℕ → Type 0) where
+  abbrev Given : Option (List ℕ) → Type 0
+  Given none = Unit {0}
+  Given (some s) = H s
+
+  given : (x : Option (List ℕ)) → ((s : List ℕ) → x ≡ some s → H s) → Given x
+  given none f = tt
+  given (some s) f = f s refl
+
+  promised-given : (k : Node) → ((s : List ℕ) → numberString (textAt 1 k) ≡ some s → H s) → Given (promised k)
+  unfolding promised
+  promised-given k f = by-test (eqb (numberAt 0 k) 2) (λ e. rw (e, Given) (given (numberString (textAt 1 k)) f)) (λ e. rw (e, Given) tt)
+
+  pub literal-holds : (k : Node) → ((s : List ℕ) → numberString (textAt 1 k) ≡ some s → H s) → H (textAt 2 k) → H (literalText k)
+  unfolding literalText
+  literal-holds k f h = go (promised k) (promised-given k f)
+    where
+      go : (x : Option (List ℕ)) → Given x → H (elim x [ some s ↦ s | none ↦ textAt 2 k ])
+      go (some s) b = b
+      go none b = h

@@ -17,16 +17,16 @@ use Rattle.lowering.specs.Parts.{kind, is, nodeAt, itemsAt, pieceIn, only, any,
 use Rattle.lowering.specs.Made.{S, object}
 use Rattle.lowering.specs.Literals.{Call, opened, closed, scan, literal}
 use Rattle.lowering.proofs.Cases.{by-test}
-use Rattle.result.proofs.Lies.{Lies, LieFields, LiePiece, LieItems, lies-only, lies-append, may-stand, list-at, node-at, stands-at}
+use Rattle.result.proofs.Lies.{Texts, Lies, LieFields, LiePiece, LieItems, lies-only, lies-append, may-stand, list-at, node-at, stands-at}
 use Rattle.result.proofs.PatternViews.{fields-at, of-kind}
 use Rattle.result.proofs.Expressions.{Takes, takes-24, form-24, takes-13, argument, object-lies, S-lies}
 
 -- the call so far, wherever it is put
-abbrev CallLies : Call → Type 0
-CallLies Call.no-call = Unit {0}
-CallLies (Call.call m) = (q : ℕ) → Takes q → Lies q m
+abbrev CallLies : (T : Texts) → Call → Type 0
+CallLies T Call.no-call = Unit {0}
+CallLies T (Call.call m) = (q : ℕ) → Takes q → Lies T q m
 
-opened-lies : (c : Call) (ps : Items) → CallLies c → LieItems 12 false ps → LieItems 13 false (opened c ps)
+opened-lies : {T : Texts} (c : Call) (ps : Items) → CallLies T c → LieItems T 12 false ps → LieItems T 13 false (opened c ps)
 unfolding opened
 opened-lies Call.no-call ps h l = lies-only (object-lies 13 takes-13 l)
 opened-lies (Call.call m) Items.none h l = lies-only (h 13 takes-13)
@@ -34,7 +34,7 @@ opened-lies (Call.call m) (Items.hole ps) h l = lies-only (h 13 takes-13)
 opened-lies (Call.call m) (Items.item p ps) h l =
     LieItems.item (h 13 takes-13) (LieItems.item (object-lies 13 takes-13 LieItems.none) (lies-only (object-lies 13 takes-13 l)))
 
-closed-lies : (p : ℕ) → Takes p → (c : Call) (ps : Items) → CallLies c → LieItems 12 false ps → Lies p (closed c ps)
+closed-lies : {T : Texts} (p : ℕ) → Takes p → (c : Call) (ps : Items) → CallLies T c → LieItems T 12 false ps → Lies T p (closed c ps)
 unfolding closed
 closed-lies p t Call.no-call ps h l = object-lies p t l
 closed-lies p t (Call.call m) Items.none h l = h p t
@@ -42,13 +42,13 @@ closed-lies p t (Call.call m) (Items.hole ps) h l = h p t
 closed-lies p t (Call.call m) (Items.item q ps) h l = S-lies p t (opened-lies (Call.call m) (Items.item q ps) h l)
 
 -- 26 Spread(arg)
-spread-argument : (n : Node) → Lies 12 n → is 26 n ≡ true → Lies 3 (nodeAt 0 n)
+spread-argument : {T : Texts} (n : Node) → Lies T 12 n → is 26 n ≡ true → Lies T 3 (nodeAt 0 n)
 unfolding nodeAt formAt allowed places also among formIn kindOf fieldsOf kinds
 spread-argument (node at k fs) l e =
     let f = fields-at 12 26 26 (Field.must (Sort.child 3) ∷ []) refl refl refl l (of-kind 26 (node at k fs) e) in
     node-at f 0 (stands-at f 0 refl)
 
-scan-lies : (p : ℕ) → Takes p → (c : Call) (pending : Items) {ps : Items} → CallLies c → LieItems 12 false pending → LieItems 12 false ps → Lies p (scan c pending ps)
+scan-lies : {T : Texts} (p : ℕ) → Takes p → (c : Call) (pending : Items) {ps : Items} → CallLies T c → LieItems T 12 false pending → LieItems T 12 false ps → Lies T p (scan c pending ps)
 unfolding scan
 scan-lies p t c pending h a LieItems.none = closed-lies p t c pending h a
 scan-lies p t c pending h a (LieItems.item {n = n} {is = ps} m l) =
@@ -58,7 +58,7 @@ scan-lies p t c pending h a (LieItems.item {n = n} {is = ps} m l) =
     (λ e. rw (e, scan) (scan-lies p t c (pending +++ only n) h (lies-append a (lies-only m)) l))
 
 -- 24 Object(properties*)
-pub literal-lies : (p : ℕ) (n : Node) → Lies p n → is 24 n ≡ true → Lies p (literal n)
+pub literal-lies : {T : Texts} (p : ℕ) (n : Node) → Lies T p n → is 24 n ≡ true → Lies T p (literal n)
 unfolding literal itemsAt fieldsOf kinds
 literal-lies p (node at k fs) l e =
     let q : k ≡ 24 = of-kind 24 (node at k fs) e in

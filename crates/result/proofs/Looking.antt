@@ -1,7 +1,7 @@
 -- The loop of `leftover`: a pass that keeps whether a rest was met.
 -- Assumes nothing.
 use mathlib.Core.Path.{_≡_, refl, sym, ap, ap₂, _∙_}
-use mathlib.Core.Bool.{Bool, true, false, cond, _&&_, _||_}
+use mathlib.Core.Bool.{Bool, true, false, cond, _&&_, _||_, true≢false}
 use mathlib.Core.List.{List, [], _∷_, _++_}
 use Prim.Native.Nat.{ℕ, zero, suc, _+_, _-_, _*_, _/_, _%_, _<_, _≤_}
 use native.Mathlib.Omega.{arith}
@@ -157,3 +157,13 @@ module _ (l fs later : List ℕ) (c : Cursor) (met : Bool) (frames : ℕ) (v : B
 
   pub looking-refused : r ≡ Refused → false ≡ v
   looking-refused w = sym (concluded-refused meetRest answer false l fs later c met r t w) ∙ g .will
+
+-- ---- the answer as a number
+
+pub told-one : (b : Bool) → true ≡ b → _≡_ {A = ℕ} 1 (cond b 1 0)
+told-one true e = refl
+told-one false e = absurd (true≢false e)
+
+pub told-zero : (b : Bool) → false ≡ b → _≡_ {A = ℕ} 0 (cond b 1 0)
+told-zero true e = absurd (true≢false (sym e))
+told-zero false e = refl

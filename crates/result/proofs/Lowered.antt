@@ -3,6 +3,7 @@
 use mathlib.Core.Path.{_≡_, refl, sym, ap, subst, _∙_}
 use mathlib.Core.Bool.{Bool, true, false, cond, not, _||_, true≢false}
 use mathlib.Core.List.{List, [], _∷_, _++_}
+use mathlib.Core.Logic.{_⊎_}
 use Prim.Native.Nat.{ℕ, zero, suc, _+_, _*_, _<_, _≤_, min}
 use native.Mathlib.Omega.{arith}
 use native.Mathlib.Nat.{add-comm}
@@ -16,11 +17,14 @@ use Rattle.tree.specs.Grammar.{root, among}
 use Rattle.tree.specs.Grammar.Stage.{input, rewritten}
 use Rattle.tree.specs.Read.{Got, readTree}
 use Rattle.tree.specs.Read.Got.{got, refused}
-use Rattle.tree.specs.WellFormed.{Bytes, Counts, WellFormed}
+use Rattle.tree.specs.WellFormed.{Bytes, Counts, Fits, WellFormed}
 use Rattle.tree.proofs.Sound.{sound}
 use Rattle.tree.proofs.Complete.{complete}
 use Rattle.tree.proofs.Limit.{tree-raised}
+use Rattle.rewritten.specs.Rewritten.{readRewritten}
+use Rattle.rewritten.specs.Rewritten as reading
 use Rattle.rewritten.proofs.Deep.{tree-never-too-deep}
+use Rattle.rewritten.proofs.Rewritten.{rewritten-complete}
 use Rattle.lowering.specs.Walk.{Walked}
 use Rattle.lowering.specs.Weight.{walked}
 use Rattle.lowering.specs.Collect.{Name, same, Entry, over, nodes, nodesItems, listNodes, nameAt, namesOf, distinct, numberIn, numbered, numberedItems, bare, newIn, visits, entries, excludedIn, firstRefusal, helperMask, listBytes}
@@ -35,17 +39,34 @@ use Rattle.equal.specs.Equal.{entryEncoded, listEncoded}
 use Rattle.equal.specs.Results.{writtenBy, resultBy, ownNames, treeOf, entriesOf, excludedOf}
 use Rattle.equal.proofs.One.{list-bytes}
 use Rattle.result.specs.List.{FitDeclarators, FitEntries, FitList}
-use Rattle.result.specs.Left.{NothingLeft}
+use Rattle.result.specs.Left.{keepsRest, Exception, NothingLeft, EntriesLeft, ExcludedLeft}
 use Rattle.result.specs.Leftover.{restLeft, leftIn, leftover}
+use Rattle.joining.specs.List.{handed, innerMarks}
+use Rattle.joining.specs.Join.{found}
+use Rattle.joining.specs.Answer as joining
+use Rattle.joining.specs.Answer.{taken}
+use Rattle.result.specs.Marks.{copiesMarks, resultMarks, entriesFound}
+use Rattle.result.specs.Handed.{KeysOf}
 use Rattle.result.specs.Whole.{resultOf, LoweredRewritten}
-use Rattle.result.proofs.Lies.{Lies, LieItems, input-lies}
+use Rattle.result.specs.Causes.{Cause, Without, Due}
+use Rattle.result.specs.Texts.{TextIn, TextInList, Known}
+use Rattle.result.proofs.Lies.{Texts, Lies, LieItems, input-lies, input-bytes}
 use Rattle.result.proofs.Comes.{Comes, walked-comes}
 use Rattle.result.proofs.Bounds.{Small, names, names-append, walked-few, distinct-most, number-most}
 use Rattle.result.proofs.Fitting.{fit}
 use Rattle.result.proofs.Standing.{no-spread}
 use Rattle.result.proofs.Places.{isOutside}
-use Rattle.result.proofs.Resting.{rests-remain}
+use Rattle.result.proofs.Resting.{rests-remain, remains}
+use Rattle.result.proofs.Entries.{entries-left}
+use Rattle.result.proofs.Excluded.{excluded-left}
+use Rattle.lowering.specs.Visits.{ItemAt, Stands}
 use Rattle.result.proofs.Handing.{AllHand, EntriesLie, walked-hands, entries-lie, excluded-lie}
+use Rattle.result.proofs.Texts.{textsOf, text-comes, text-list}
+use Rattle.result.proofs.MarksApart.{marks-apart}
+use Rattle.result.proofs.Entered.{all-entered}
+use Rattle.result.proofs.Joins.{joins}
+use Rattle.result.proofs.HandedKeys.{keys-handed}
+use Rattle.result.proofs.Distinct.{distinct-front}
 use Rattle.result.proofs.Numbering.{few-items, declarators-fit, entries-fit}
 
 -- ---- marks take bytes
@@ -90,14 +111,14 @@ counted k (m ∷ ms) j c = let e = counted (k + 1) ms j (c .1) in omega arith
 -- ---- names and entries of a list
 
 module _ (ns : List Name) where
-  entries-few : (es : List Entry) → EntriesLie es
+  entries-few : (T : Texts) (es : List Entry) → EntriesLie T es
       → (5 * names (over (λ e. nodesItems (e .declarators)) es) ≤ length (over entryEncoded (eachEntry (λ is. numberedItems ns is) es)))
       × (length (eachEntry (λ is. numberedItems ns is) es) ≤ length (over entryEncoded (eachEntry (λ is. numberedItems ns is) es)))
   unfolding over eachEntry entryEncoded encode
-  entries-few [] h = (omega arith, omega arith)
-  entries-few (e ∷ es) h =
+  entries-few T [] h = (omega arith, omega arith)
+  entries-few T (e ∷ es) h =
       let a = few-items ns (h .1) in
-      let r = entries-few es (h .2) in
+      let r = entries-few T es (h .2) in
       let r₀ = r .0 in let r₁ = r .1 in
       let b = names-append (nodesItems (e .declarators)) (over (λ e. nodesItems (e .declarators)) es) in
       let c = length-append (wideBytes (e .containing) ++ encodePiece (list (numberedItems ns (e .declarators)))) (over entryEncoded (eachEntry (λ is. numberedItems ns is) es)) in
@@ -182,8 +203,14 @@ module _ (limit : ℕ) (tree t l : List ℕ) (b : Bytes tree) (k : Came limit tr
   abbrev ns : List Name
   ns = namesOf (bare next w) (entries (visits next 0 w)) (excludedIn (visits next 0 w))
 
-  lies : Lies root n
-  lies = input-lies (sound input limit tree n (k .end) next b (k .read) .wellFormed .fits)
+  fits-input : Fits input root n
+  fits-input = sound input limit tree n (k .end) next b (k .read) .wellFormed .fits
+
+  abbrev T : Texts
+  T = textsOf n (λ bs i. input-bytes fits-input i)
+
+  lies : Lies T root n
+  lies = input-lies fits-input (λ bs i. Known.ofInput i) (λ s b. b)
 
   next-few : next ≤ 8193
   next-few =
@@ -206,13 +233,13 @@ module _ (limit : ℕ) (tree t l : List ℕ) (b : Bytes tree) (k : Came limit tr
   next-fits : next + newIn w ≤ 65535
   next-fits = let a = small .marks in let c = tree-length in let d = next-few in omega arith
 
-  hands : AllHand (visits next 0 w)
+  hands : AllHand T (visits next 0 w)
   hands = walked-hands top n root next 0 lies (k .none) next-fits (omega arith)
 
-  entries-are : EntriesLie (entries (visits next 0 w))
-  entries-are = entries-lie (visits next 0 w) hands
+  entries-are : EntriesLie T (entries (visits next 0 w))
+  entries-are = entries-lie T (visits next 0 w) hands
 
-  excluded-are : LieItems 4 false (excludedIn (visits next 0 w))
+  excluded-are : LieItems T 4 false (excludedIn (visits next 0 w))
   excluded-are = excluded-lie (visits next 0 w) hands
 
   written-list : listEncoded (resultOf next n .entries) (resultOf next n .excluded)
@@ -241,7 +268,7 @@ module _ (limit : ℕ) (tree t l : List ℕ) (b : Bytes tree) (k : Came limit tr
       let e = names-append (nodes (bare next w)) (listNodes es ex) in
       let f = names-append (over (λ e. nodesItems (e .declarators)) es) (nodesItems ex) in
       let g = small .temporaries in
-      let i = entries-few ns es entries-are .0 in
+      let i = entries-few ns T es entries-are .0 in
       let j = few-items ns excluded-are in
       let m = tree-length in
       let q = list-length in
@@ -268,8 +295,11 @@ module _ (limit : ℕ) (tree t l : List ℕ) (b : Bytes tree) (k : Came limit tr
   unfolding among
   root-outside = refl
 
+  tree-caused : (q : List ℕ) (x : Node) → Stands [] (numbered ns (bare next w)) q x → keepsRest x ≡ true → Due (λ s. Without s n) [] (numbered ns (bare next w)) q x
+  tree-caused q x s k = rests-remain tree-comes root lies root-outside s k
+
   tree-left : NothingLeft (numbered ns (bare next w))
-  tree-left = record { spreads = λ q x s. no-spread tree-comes root lies s; rests = λ q x s k. rests-remain tree-comes root lies root-outside s k }
+  tree-left = record { spreads = λ q x s. no-spread tree-comes root lies s; rests = λ q x s k. remains (tree-caused q x s k) }
 
   tree-told : leftover t ≡ restLeft (placed (numbered ns (bare next w)) 0)
   unfolding leftover
@@ -279,13 +309,68 @@ module _ (limit : ℕ) (tree t l : List ℕ) (b : Bytes tree) (k : Came limit tr
   unfolding resultBy ownNames treeOf entriesOf excludedOf writtenBy
   list-fits =
       let a = list-length in
-      let c = entries-few ns (entries (visits next 0 w)) entries-are .1 in
+      let c = entries-few ns T (entries (visits next 0 w)) entries-are .1 in
       record {
         few = omega arith;
-        entries = entries-fit ns few (entries (visits next 0 w)) entries-are (omega arith);
+        entries = entries-fit ns few T (entries (visits next 0 w)) entries-are (omega arith);
         excludedKeys = declarators-fit ns few (excludedIn (visits next 0 w)) excluded-are (omega arith);
         short = subst (λ (x : List ℕ). length x ≤ 16384) (k .list-bytes) (k .list-short);
       }
+
+  list-left : EntriesLeft (resultOf next n .entries)
+  unfolding resultBy ownNames treeOf entriesOf excludedOf writtenBy
+  list-left = entries-left ns top n next 0
+
+  keys-left : (j : ℕ) (d : Node) → ItemAt (resultOf next n .excluded) j d → ExcludedLeft d
+  unfolding resultBy ownNames treeOf entriesOf excludedOf writtenBy
+  keys-left j d a = excluded-left ns top n next 0 j d a
+
+  tree-texts : (bs : List ℕ) → TextIn (numbered ns (bare next w)) bs → Known n bs
+  tree-texts bs i = text-comes tree-comes root lies i
+
+  list-texts : (bs : List ℕ) → TextInList (resultOf next n .entries) (resultOf next n .excluded) bs → Known n bs
+  unfolding resultBy ownNames treeOf entriesOf excludedOf writtenBy
+  list-texts bs i = text-list ns (entries (visits next 0 w)) (excludedIn (visits next 0 w)) entries-are excluded-are i
+
+  tree-counts : Counts 1 (marks n) next
+  tree-counts = sound input limit tree n (k .end) next b (k .read) .wellFormed .marked
+
+  entries-keys : KeysOf n (entriesOf next n)
+  unfolding entriesOf
+  entries-keys = keys-handed n T top next entries-are
+
+  entries-entered : entriesFound (resultOf next n) ≡ true
+  unfolding entriesFound resultBy ownNames treeOf entriesOf excludedOf writtenBy
+  entries-entered = all-entered ns top n next lies (k .none)
+
+  distinct-marks : copiesMarks n ≡ false → reading.distinct (resultMarks (resultOf next n)) ≡ true
+  unfolding resultMarks resultBy ownNames treeOf entriesOf excludedOf writtenBy
+  distinct-marks h = marks-apart ns top n next tree-counts fits-input h
+
+  tree-apart : (m : Node) (es : List Entry) (ex : Items) → reading.distinct (taken m (handed es ex)) ≡ true → reading.distinct (marks m) ≡ true
+  unfolding taken
+  tree-apart m es ex e = distinct-front (marks m) (innerMarks (handed es ex)) e
+
+  tree-accepted : copiesMarks n ≡ false → readRewritten t ≡ got (placed (resultOf next n .tree) 0) (length t) 1
+  unfolding resultMarks
+  tree-accepted h =
+      let m = resultOf next n .tree in
+      subst (λ (x : List ℕ). readRewritten x ≡ got (placed m 0) (length x) 1) (sym (k .tree-bytes))
+      (rewritten-complete m (record {
+        formed = subst (λ (m : Node). WellFormed rewritten (depth m) m 1) (sym written-tree) tree-formed;
+        apart = tree-apart m (resultOf next n .entries) (resultOf next n .excluded) (distinct-marks h);
+      }))
+
+  tree-joined : copiesMarks n ≡ false → (room : ℕ) → (joining.answerOf (joining.outcome t l room) ≡ 0) ⊎ (joining.answerOf (joining.outcome t l room) ≡ 7)
+  unfolding resultMarks entriesFound
+  tree-joined h room =
+      joins (resultOf next n .tree) (resultOf next n .entries) (resultOf next n .excluded) t l (tree-accepted h) list-fits (k .list-bytes) (as-taken (distinct-marks h)) as-found room
+    where
+      as-taken : reading.distinct (resultMarks (resultOf next n)) ≡ true → reading.distinct (taken (resultOf next n .tree) (handed (resultOf next n .entries) (resultOf next n .excluded))) ≡ true
+      as-taken e = e
+
+      as-found : joining.allFound (found (resultOf next n .tree)) (resultOf next n .entries) ≡ true
+      as-found = entries-entered
 
   both-are : LoweredRewritten limit tree t l
   both-are =
@@ -298,15 +383,36 @@ module _ (limit : ℕ) (tree t l : List ℕ) (b : Bytes tree) (k : Came limit tr
         formed = subst (λ (m : Node). WellFormed rewritten (depth m) m 1) (sym written-tree) tree-formed;
         decoded = subst (λ (m : Node). readTree rewritten (length t) t ≡ got (placed m 0) (length t) 1) (sym written-tree) tree-decoded;
         left = subst NothingLeft (sym written-tree) tree-left;
+        caused = subst (λ (m : Node). (q : List ℕ) (x : Node) → Stands [] m q x → keepsRest x ≡ true → Due (λ s. Without s n) [] m q x) (sym written-tree) tree-caused;
         told = subst (λ (m : Node). leftover t ≡ restLeft (placed m 0)) (sym written-tree) tree-told;
         is-list = k .list-bytes;
         listed = list-fits;
+        kept = list-left;
+        copied = keys-left;
+        treeTexts = subst (λ (m : Node). (bs : List ℕ) → TextIn m bs → Known n bs) (sym written-tree) tree-texts;
+        listTexts = list-texts;
+        keys = entries-keys;
+        entered = entries-entered;
+        apart = distinct-marks;
+        accepted = tree-accepted;
+        joined = tree-joined;
       }
 
 -- every lowering hands back a tree of the rewritten stage and a list by its layout
 pub lowered-rewritten : (limit options : ℕ) (tree : List ℕ) (s : Lent) (helpers mask : ℕ) (t l : List ℕ) → Bytes tree
     → lowering limit options tree s ≡ lowered helpers mask t l → LoweredRewritten limit tree t l
 lowered-rewritten limit options tree s helpers mask t l b e = both-are limit tree t l b (came helpers mask t l limit options tree s e)
+
+-- without causes in the input no rest is left in its tree
+uncaused : {B : Cause → Type 0} {p c : List ℕ} {t x : Node} → Due B p t c x → ((s : Cause) → B s) → ⊥
+uncaused (Due.due s (Exception.belowArrayRest a b d e) o) h = o (h Cause.arrayRest)
+uncaused (Due.due s (Exception.restParameter a b d) o) h = o (h Cause.restParameter)
+uncaused (Due.due s (Exception.withoutBody a b d e f) o) h = o (h Cause.withoutBody)
+uncaused (Due.due s (Exception.withoutValue a b d e) o) h = o (h Cause.withoutValue)
+
+pub nothing-at-all : {limit : ℕ} {tree t l : List ℕ} (r : LoweredRewritten limit tree t l) → ((s : Cause) → Without s (r .n)) → (q : List ℕ) (x : Node) → Stands [] (resultOf (r .next) (r .n) .tree) q x
+    → keepsRest x ≡ false
+nothing-at-all r h q x s = by-test (keepsRest x) (λ k. absurd (uncaused (r .caused q x s k) h)) (λ k. k)
 
 -- the same by the answer: 0 is given for a lowering alone
 pub data Lowered (limit : ℕ) (tree : List ℕ) (r : Result) : Type 0 where

@@ -18,7 +18,7 @@ use Rattle.lowering.specs.Collect.{Name, same, Entry, over, nameAt, nameOf, nod
 use Rattle.equal.specs.Canonical.{eachEntry}
 use Rattle.equal.specs.Equal.{entryEncoded, listEncoded}
 use Rattle.result.specs.List.{FitDeclarators, FitEntries}
-use Rattle.result.proofs.Lies.{Lies, LieFields, LiePiece, LieItems}
+use Rattle.result.proofs.Lies.{Texts, Lies, LieFields, LiePiece, LieItems}
 use Rattle.result.proofs.Fitting.{count-bytes, temporary-fits}
 use Rattle.result.proofs.Bounds.{names, names-append, name-here, no-name-here}
 use Rattle.result.proofs.Handing.{EntriesLie}
@@ -29,8 +29,8 @@ module _ (ns : List Name) where
   mutual
     unfolding numbered withNumber nodes encode over is
 
-    few-names : {p : ℕ} {n : Node} → Lies p n → 5 * names (nodes n) ≤ length (encode (numbered ns n))
-    few-names (Lies.lies {at = at} {k = k} {fs = fs} z t f) =
+    few-names : {T : Texts} {p : ℕ} {n : Node} → Lies T p n → 5 * names (nodes n) ≤ length (encode (numbered ns n))
+    few-names (Lies.lies {at = at} {k = k} {fs = fs} z t u f) =
         let c = few-fields f in
         let e = no-name-here (node at k fs) t in
         let q = length-append (nameAt (node at k fs)) (over nameAt (nodesFields fs)) in
@@ -40,7 +40,7 @@ module _ (ns : List Name) where
         let q = length-append (nameAt (node at 20 (Fields.field (Piece.number stem) (Fields.field (Piece.text path) Fields.done)))) [] in
         omega arith
 
-    few-fields : {b : ℕ} {ts : List Field} {fs : Fields} → LieFields b ts fs → 5 * names (nodesFields fs) ≤ length (encodeFields (numberedFields ns fs))
+    few-fields : {T : Texts} {b : ℕ} {ts : List Field} {fs : Fields} → LieFields T b ts fs → 5 * names (nodesFields fs) ≤ length (encodeFields (numberedFields ns fs))
     few-fields LieFields.done = omega arith
     few-fields (LieFields.absent a) = few-fields a
     few-fields (LieFields.needed {p = p} {fs = fs} x a) =
@@ -54,7 +54,7 @@ module _ (ns : List Name) where
         let f = names-append (nodesPiece p) (nodesFields fs) in
         omega arith
 
-    few-piece : {b d : ℕ} {s : Sort} {p : Piece} → LiePiece b s p d → 5 * names (nodesPiece p) ≤ length (encodePiece (numberedPiece ns p))
+    few-piece : {T : Texts} {b d : ℕ} {s : Sort} {p : Piece} → LiePiece T b s p d → 5 * names (nodesPiece p) ≤ length (encodePiece (numberedPiece ns p))
     few-piece (LiePiece.child x) = few-names x
     few-piece (LiePiece.chosen x) = few-names x
     few-piece (LiePiece.many a) = let c = few-items a in omega arith
@@ -64,7 +64,7 @@ module _ (ns : List Name) where
     few-piece (LiePiece.mark a) = omega arith
     few-piece (LiePiece.number a) = omega arith
 
-    pub few-items : {p : ℕ} {h : Bool} {is : Items} → LieItems p h is → 5 * names (nodesItems is) ≤ length (encodeItems (numberedItems ns is))
+    pub few-items : {T : Texts} {p : ℕ} {h : Bool} {is : Items} → LieItems T p h is → 5 * names (nodesItems is) ≤ length (encodeItems (numberedItems ns is))
     few-items LieItems.none = omega arith
     few-items (LieItems.hole a) = let c = few-items a in omega arith
     few-items (LieItems.item {n = n} {is = is} x a) =
@@ -79,12 +79,12 @@ module _ (ns : List Name) where
     mutual
       unfolding numbered withNumber encode nameOf textAt numberAt pieceIn
 
-      number-fits : {p : ℕ} {n : Node} → Lies p n → length (encode (numbered ns n)) < 65536 → Fits rewritten p (numbered ns n)
-      number-fits (Lies.lies {p = p} {at = at} {k = k} {fs = fs} z t f) l = rw t (Fits.fits z (number-fields f (let m : length (encode (node at k (numberedFields ns fs))) < 65536 = rw t at l in omega arith)))
+      number-fits : {T : Texts} {p : ℕ} {n : Node} → Lies T p n → length (encode (numbered ns n)) < 65536 → Fits rewritten p (numbered ns n)
+      number-fits (Lies.lies {p = p} {at = at} {k = k} {fs = fs} z t u f) l = rw t (Fits.fits z (number-fields f (let m : length (encode (node at k (numberedFields ns fs))) < 65536 = rw t at l in omega arith)))
       number-fits (Lies.named {p = p} {at = at} {stem = stem} {path = path} z a b) l =
           temporary-fits p at (numberIn same 1 ns (record { path = path; stem = stem; place = at })) stem z a b (few (record { path = path; stem = stem; place = at }))
 
-      number-fields : {b : ℕ} {ts : List Field} {fs : Fields} → LieFields b ts fs → length (encodeFields (numberedFields ns fs)) < 65536 → FitFields rewritten b ts (numberedFields ns fs)
+      number-fields : {T : Texts} {b : ℕ} {ts : List Field} {fs : Fields} → LieFields T b ts fs → length (encodeFields (numberedFields ns fs)) < 65536 → FitFields rewritten b ts (numberedFields ns fs)
       number-fields LieFields.done l = FitFields.done
       number-fields (LieFields.absent a) l = FitFields.absent (number-fields a l)
       number-fields (LieFields.needed {ts = ts} {p = p} {fs = fs} x a) l =
@@ -96,19 +96,19 @@ module _ (ns : List Name) where
           let r = number-piece x (omega arith) in
           FitFields.field (r .0) (subst (λ (d : ℕ). FitFields rewritten d ts (numberedFields ns fs)) (sym (r .1)) (number-fields a (omega arith)))
 
-      number-piece : {b d : ℕ} {s : Sort} {p : Piece} → LiePiece b s p d → length (encodePiece (numberedPiece ns p)) < 65536 → FitPiece rewritten b s (numberedPiece ns p) × (byteIn (numberedPiece ns p) ≡ d)
+      number-piece : {T : Texts} {b d : ℕ} {s : Sort} {p : Piece} → LiePiece T b s p d → length (encodePiece (numberedPiece ns p)) < 65536 → FitPiece rewritten b s (numberedPiece ns p) × (byteIn (numberedPiece ns p) ≡ d)
       number-piece (LiePiece.child x) l = (FitPiece.child (number-fits x l), refl)
       number-piece (LiePiece.chosen x) l = (FitPiece.chosen (number-fits x l), refl)
       number-piece (LiePiece.many {is = is} a) l =
           let c = count-bytes (numberedItems ns is) in let d : count (numberedItems ns is) < 65536 = omega arith in (FitPiece.many d (number-items a (omega arith)), refl)
       number-piece (LiePiece.gaps {is = is} a) l =
           let c = count-bytes (numberedItems ns is) in let d : count (numberedItems ns is) < 65536 = omega arith in (FitPiece.gaps d (number-items a (omega arith)), refl)
-      number-piece (LiePiece.text {bs = bs} a) l = let d : length bs < 65536 = omega arith in (FitPiece.text d a, refl)
+      number-piece {T = T} (LiePiece.text {bs = bs} a) l = let d : length bs < 65536 = omega arith in (FitPiece.text d (T .bytes bs a), refl)
       number-piece (LiePiece.byte x y z) l = (FitPiece.byte x y z, refl)
       number-piece (LiePiece.mark a) l = (FitPiece.mark a, refl)
       number-piece (LiePiece.number a) l = (FitPiece.number a, refl)
 
-      number-items : {p : ℕ} {h : Bool} {is : Items} → LieItems p h is → length (encodeItems (numberedItems ns is)) < 65536 → FitItems rewritten p h (numberedItems ns is)
+      number-items : {T : Texts} {p : ℕ} {h : Bool} {is : Items} → LieItems T p h is → length (encodeItems (numberedItems ns is)) < 65536 → FitItems rewritten p h (numberedItems ns is)
       number-items LieItems.none l = FitItems.none
       number-items (LieItems.hole a) l = FitItems.hole (number-items a (omega arith))
       number-items (LieItems.item {n = n} {is = is} x a) l =
@@ -117,14 +117,14 @@ module _ (ns : List Name) where
 
     -- ---- declarator lists and entries
 
-    pub declarators-fit : (is : Items) → LieItems 4 false is → length (encodePiece (list (numberedItems ns is))) < 65536 → FitDeclarators (numberedItems ns is)
+    pub declarators-fit : {T : Texts} (is : Items) → LieItems T 4 false is → length (encodePiece (list (numberedItems ns is))) < 65536 → FitDeclarators (numberedItems ns is)
     unfolding encode
     declarators-fit is a l = let c = count-bytes (numberedItems ns is) in let d : count (numberedItems ns is) < 65536 = omega arith in FitPiece.many d (number-items a (omega arith))
 
-    pub entries-fit : (es : List Entry) → EntriesLie es → length (over entryEncoded (eachEntry (λ is. numberedItems ns is) es)) < 65536 → FitEntries (eachEntry (λ is. numberedItems ns is) es)
+    pub entries-fit : (T : Texts) (es : List Entry) → EntriesLie T es → length (over entryEncoded (eachEntry (λ is. numberedItems ns is) es)) < 65536 → FitEntries (eachEntry (λ is. numberedItems ns is) es)
     unfolding eachEntry over entryEncoded
-    entries-fit [] h l = tt
-    entries-fit (e ∷ es) h l =
+    entries-fit T [] h l = tt
+    entries-fit T (e ∷ es) h l =
         let a = length-append (wideBytes (e .containing) ++ encodePiece (list (numberedItems ns (e .declarators)))) (over entryEncoded (eachEntry (λ is. numberedItems ns is) es)) in
         let b = length-append (wideBytes (e .containing)) (encodePiece (list (numberedItems ns (e .declarators)))) in
-        (h .0, declarators-fit (e .declarators) (h .1) (omega arith), entries-fit es (h .2) (omega arith))
+        (h .0, declarators-fit (e .declarators) (h .1) (omega arith), entries-fit T es (h .2) (omega arith))

@@ -15,12 +15,14 @@ use Rattle.tree.specs.Tree.Fields.{done, absent, field}
 use Rattle.tree.specs.Tree.Piece.{one, list, byte}
 use Rattle.tree.specs.Grammar.{Sort, Field, places, allowed, also, among, kindOf, formIn, formAt, fieldsOf, kinds, variants}
 use Rattle.tree.specs.Grammar.Stage.{rewritten}
-use Rattle.lowering.specs.Parts.{kind, is}
-use Rattle.lowering.specs.Patterns.{Shape, shape}
+use Rattle.lowering.specs.Parts.{kind, is, nodeAt, pieceIn, asNode}
+use Rattle.lowering.specs.Patterns.{Shape, shape, hasObjectRest}
 use Rattle.lowering.specs.Patterns.Shape.{objectPattern, arrayPattern}
 use Rattle.lowering.proofs.Cases.{object-is, array-is, default-is}
+use Rattle.lowering.proofs.Levels.{has-nothing}
+use Rattle.result.specs.Causes.{Cause, shows}
 use Rattle.result.proofs.Rows.{lone}
-use Rattle.result.proofs.Lies.{Lies, LieFields, LiePiece, LieItems, fields-of, make, apart, may-stand}
+use Rattle.result.proofs.Lies.{Texts, isMade, make-shown, shown-of, Lies, LieFields, LiePiece, LieItems, fields-of, make, apart, may-stand}
 
 -- ---- places and forms
 
@@ -133,76 +135,81 @@ property-only true k h = lone 22 67 k refl h
 -- ---- taken apart
 
 -- the fields of a node of a known kind at a place
-pub fields-at : (p j f : ℕ) (ts : List Field) → eqb j 20 ≡ false → formAt rewritten p j ≡ f → fieldsOf f ≡ ts → {at k : ℕ} {fs : Fields} → Lies p (node at k fs) → k ≡ j → LieFields 0 ts fs
-fields-at p j f ts t e g {at = at} {fs = fs} l q =
-    subst (λ (us : List Field). LieFields 0 us fs) g
-    (apart f (subst (λ (i : ℕ). Lies p (node at i fs)) q l) t e)
+pub fields-at : {T : Texts} (p j f : ℕ) (ts : List Field) → eqb j 20 ≡ false → formAt rewritten p j ≡ f → fieldsOf f ≡ ts → {at k : ℕ} {fs : Fields} → Lies T p (node at k fs) → k ≡ j → LieFields T 0 ts fs
+fields-at {T = T} p j f ts t e g {at = at} {fs = fs} l q =
+    subst (λ (us : List Field). LieFields T 0 us fs) g
+    (apart f (subst (λ (i : ℕ). Lies T p (node at i fs)) q l) t e)
 
 pub of-kind : (k : ℕ) (n : Node) → is k n ≡ true → kind n ≡ k
 unfolding is
 of-kind k n e = eqb-true (kind n) k e
 
 -- 34 ObjectPattern(properties* rest?), by the places of its properties and its rest
-pub data ObjectView (a b : ℕ) : Node → Type 0 where
-  plain : {at : ℕ} {ps : Items} → LieItems a false ps → ObjectView a b (node at 34 (field (list ps) (absent done)))
-  rested : {at : ℕ} {ps : Items} {r : Node} → LieItems a false ps → Lies b r → ObjectView a b (node at 34 (field (list ps) (field (one r) done)))
+pub data ObjectView (T : Texts) (a b : ℕ) : Node → Type 0 where
+  plain : {at : ℕ} {ps : Items} → LieItems T a false ps → ObjectView T a b (node at 34 (field (list ps) (absent done)))
+  rested : {at : ℕ} {ps : Items} {r : Node} → LieItems T a false ps → Lies T b r → ObjectView T a b (node at 34 (field (list ps) (field (one r) done)))
 
 -- 35 PatternProperty(key value flags=), by the place of its value
-pub data PropertyView (a : ℕ) : Node → Type 0 where
-  property : {at flags : ℕ} {key value : Node} → Lies 11 key → Lies a value → flags ≤ 3
-      → PropertyView a (node at 35 (field (one key) (field (one value) (field (byte flags) done))))
+pub data PropertyView (T : Texts) (a : ℕ) : Node → Type 0 where
+  property : {at flags : ℕ} {key value : Node} → Lies T 11 key → Lies T a value → flags ≤ 3
+      → PropertyView T a (node at 35 (field (one key) (field (one value) (field (byte flags) done))))
 
 -- 36 ArrayPattern(items* rest?), by the places of its items and its rest
-pub data ArrayView (a b : ℕ) : Node → Type 0 where
-  plain : {at : ℕ} {is : Items} → LieItems a true is → ArrayView a b (node at 36 (field (list is) (absent done)))
-  rested : {at : ℕ} {is : Items} {r : Node} → LieItems a true is → Lies b r → ArrayView a b (node at 36 (field (list is) (field (one r) done)))
+pub data ArrayView (T : Texts) (a b : ℕ) : Node → Type 0 where
+  plain : {at : ℕ} {is : Items} → LieItems T a true is → ArrayView T a b (node at 36 (field (list is) (absent done)))
+  rested : {at : ℕ} {is : Items} {r : Node} → LieItems T a true is → Lies T b r → (T .barred Cause.arrayRest → hasObjectRest r ≡ false) → ArrayView T a b (node at 36 (field (list is) (field (one r) done)))
 
 -- 37 Default(left right), by the place of its left
-pub data DefaultView (a : ℕ) : Node → Type 0 where
-  defaulted : {at : ℕ} {left right : Node} → Lies a left → Lies 3 right → DefaultView a (node at 37 (field (one left) (field (one right) done)))
+pub data DefaultView (T : Texts) (a : ℕ) : Node → Type 0 where
+  defaulted : {at : ℕ} {left right : Node} → Lies T a left → Lies T 3 right → DefaultView T a (node at 37 (field (one left) (field (one right) done)))
 
-object-parts : {a b at : ℕ} {gs : Fields} → LieFields 0 (Field.must (Sort.many a) ∷ Field.may (Sort.child b) ∷ []) gs → ObjectView a b (node at 34 gs)
+object-parts : {T : Texts} {a b at : ℕ} {gs : Fields} → LieFields T 0 (Field.must (Sort.many a) ∷ Field.may (Sort.child b) ∷ []) gs → ObjectView T a b (node at 34 gs)
 object-parts (LieFields.needed (LiePiece.many x) (LieFields.absent LieFields.done)) = ObjectView.plain x
 object-parts (LieFields.needed (LiePiece.many x) (LieFields.given (LiePiece.child r) LieFields.done)) = ObjectView.rested x r
 
-array-parts : {a b at : ℕ} {gs : Fields} → LieFields 0 (Field.must (Sort.gaps a) ∷ Field.may (Sort.child b) ∷ []) gs → ArrayView a b (node at 36 gs)
-array-parts (LieFields.needed (LiePiece.gaps x) (LieFields.absent LieFields.done)) = ArrayView.plain x
-array-parts (LieFields.needed (LiePiece.gaps x) (LieFields.given (LiePiece.child r) LieFields.done)) = ArrayView.rested x r
+array-parts : {T : Texts} {a b at : ℕ} {gs : Fields} → (T .barred Cause.arrayRest → hasObjectRest (asNode (pieceIn gs 1)) ≡ false) → LieFields T 0 (Field.must (Sort.gaps a) ∷ Field.may (Sort.child b) ∷ []) gs → ArrayView T a b (node at 36 gs)
+unfolding pieceIn
+array-parts u (LieFields.needed (LiePiece.gaps x) (LieFields.absent LieFields.done)) = ArrayView.plain x
+array-parts u (LieFields.needed (LiePiece.gaps x) (LieFields.given (LiePiece.child r) LieFields.done)) = ArrayView.rested x r u
 
-property-parts : {a at : ℕ} {gs : Fields} → LieFields 0 (Field.must (Sort.child 11) ∷ Field.must (Sort.child a) ∷ Field.must (Sort.byte 0 3) ∷ []) gs → PropertyView a (node at 35 gs)
+property-parts : {T : Texts} {a at : ℕ} {gs : Fields} → LieFields T 0 (Field.must (Sort.child 11) ∷ Field.must (Sort.child a) ∷ Field.must (Sort.byte 0 3) ∷ []) gs → PropertyView T a (node at 35 gs)
 property-parts (LieFields.needed (LiePiece.child k) (LieFields.needed (LiePiece.child v) (LieFields.needed (LiePiece.byte c d e) LieFields.done))) = PropertyView.property k v d
 
-default-parts : {a at : ℕ} {gs : Fields} → LieFields 0 (Field.must (Sort.child a) ∷ Field.must (Sort.child 3) ∷ []) gs → DefaultView a (node at 37 gs)
+default-parts : {T : Texts} {a at : ℕ} {gs : Fields} → LieFields T 0 (Field.must (Sort.child a) ∷ Field.must (Sort.child 3) ∷ []) gs → DefaultView T a (node at 37 gs)
 default-parts (LieFields.needed (LiePiece.child l) (LieFields.needed (LiePiece.child r) LieFields.done)) = DefaultView.defaulted l r
 
+pub array-rest : {T : Texts} {p at : ℕ} {fs : Fields} → Lies T p (node at 36 fs) → T .barred Cause.arrayRest → hasObjectRest (asNode (pieceIn fs 1)) ≡ false
+unfolding shows is nodeAt
+array-rest l v = shown-of l refl Cause.arrayRest v
+
 module _ (t w : Bool) where
-  pub object-view : (n : Node) → Lies (patternAt t w) n → shape n ≡ objectPattern → ObjectView (propertyAt t) (leafAt t) n
-  object-view (node at k fs) l e =
+  pub object-view : {T : Texts} (n : Node) → Lies T (patternAt t w) n → shape n ≡ objectPattern → ObjectView T (propertyAt t) (leafAt t) n
+  object-view {T = T} (node at k fs) l e =
       let q : k ≡ 34 = of-kind 34 (node at k fs) (object-is (node at k fs) e) in
-      subst (λ (j : ℕ). ObjectView (propertyAt t) (leafAt t) (node at j fs)) (sym q)
+      subst (λ (j : ℕ). ObjectView T (propertyAt t) (leafAt t) (node at j fs)) (sym q)
       (object-parts (fields-at (patternAt t w) 34 (formOf t 34) (objectFields t) refl (object-form t w) (object-fields t) l q))
 
-  pub array-view : (n : Node) → Lies (patternAt t w) n → shape n ≡ arrayPattern → ArrayView (valueAt t) (wholeAt t) n
-  array-view (node at k fs) l e =
+  pub array-view : {T : Texts} (n : Node) → Lies T (patternAt t w) n → shape n ≡ arrayPattern → ArrayView T (valueAt t) (wholeAt t) n
+  array-view {T = T} (node at k fs) l e =
       let q : k ≡ 36 = of-kind 36 (node at k fs) (array-is (node at k fs) e) in
-      subst (λ (j : ℕ). ArrayView (valueAt t) (wholeAt t) (node at j fs)) (sym q)
-      (array-parts (fields-at (patternAt t w) 36 (formOf t 36) (arrayFields t) refl (array-form t w) (array-fields t) l q))
+      subst (λ (j : ℕ). ArrayView T (valueAt t) (wholeAt t) (node at j fs)) (sym q)
+      (array-parts (λ v. array-rest (subst (λ (j : ℕ). Lies T (patternAt t w) (node at j fs)) q l) v) (fields-at (patternAt t w) 36 (formOf t 36) (arrayFields t) refl (array-form t w) (array-fields t) l q))
 
 module _ (t : Bool) where
-  pub property-view : (n : Node) → Lies (propertyAt t) n → PropertyView (valueAt t) n
-  property-view (node at k fs) l =
+  pub property-view : {T : Texts} (n : Node) → Lies T (propertyAt t) n → PropertyView T (valueAt t) n
+  property-view {T = T} (node at k fs) l =
       let q : k ≡ 35 = property-only t k (may-stand l) in
-      subst (λ (j : ℕ). PropertyView (valueAt t) (node at j fs)) (sym q)
+      subst (λ (j : ℕ). PropertyView T (valueAt t) (node at j fs)) (sym q)
       (property-parts (fields-at (propertyAt t) 35 (formOf t 35) (propertyFields t) refl (property-form t) (property-fields t) l q))
 
-  pub default-view : (n : Node) → Lies (valueAt t) n → shape n ≡ Shape.default → DefaultView (wholeAt t) n
-  default-view (node at k fs) l e =
+  pub default-view : {T : Texts} (n : Node) → Lies T (valueAt t) n → shape n ≡ Shape.default → DefaultView T (wholeAt t) n
+  default-view {T = T} (node at k fs) l e =
       let q : k ≡ 37 = of-kind 37 (node at k fs) (default-is (node at k fs) e) in
-      subst (λ (j : ℕ). DefaultView (wholeAt t) (node at j fs)) (sym q)
+      subst (λ (j : ℕ). DefaultView T (wholeAt t) (node at j fs)) (sym q)
       (default-parts (fields-at (valueAt t) 37 (formOf t 37) (defaultFields t) refl (default-form t) (default-fields t) l q))
 
   -- a Default stands as a value only
-  pub no-default-whole : (n : Node) → Lies (wholeAt t) n → shape n ≡ Shape.default → ⊥
+  pub no-default-whole : {T : Texts} (n : Node) → Lies T (wholeAt t) n → shape n ≡ Shape.default → ⊥
   no-default-whole (node at k fs) l e =
       let q : k ≡ 37 = of-kind 37 (node at k fs) (default-is (node at k fs) e) in
       let z : formAt rewritten (wholeAt t) k ≡ 0 = ap (formAt rewritten (wholeAt t)) q ∙ no-default t in
@@ -212,31 +219,45 @@ module _ (t : Bool) where
 -- ---- put together
 
 module _ (t w : Bool) where
-  put : (k : ℕ) (ts : List Field) → eqb k 20 ≡ false → 0 < k → formAt rewritten (patternAt t w) k ≡ formOf t k → fieldsOf (formOf t k) ≡ ts → {at : ℕ} {fs : Fields} → LieFields 0 ts fs → Lies (patternAt t w) (node at k fs)
-  put k ts e z f g {fs = fs} l = make (patternAt t w) k (formOf t k) f (form-pos t k z) e (subst (λ (us : List Field). LieFields 0 us fs) (sym g) l)
+  put : {T : Texts} (k : ℕ) (ts : List Field) → isMade k ≡ true → 0 < k → formAt rewritten (patternAt t w) k ≡ formOf t k → fieldsOf (formOf t k) ≡ ts → {at : ℕ} {fs : Fields} → LieFields T 0 ts fs → Lies T (patternAt t w) (node at k fs)
+  put {T = T} k ts e z f g {fs = fs} l = make (patternAt t w) k (formOf t k) f (form-pos t k z) e (subst (λ (us : List Field). LieFields T 0 us fs) (sym g) l)
 
-  pub object-plain : {at : ℕ} {ps : Items} → LieItems (propertyAt t) false ps → Lies (patternAt t w) (node at 34 (field (list ps) (absent done)))
+  pub object-plain : {T : Texts} {at : ℕ} {ps : Items} → LieItems T (propertyAt t) false ps → Lies T (patternAt t w) (node at 34 (field (list ps) (absent done)))
   object-plain a = put 34 (objectFields t) refl (omega arith) (object-form t w) (object-fields t) (LieFields.needed (LiePiece.many a) (LieFields.absent LieFields.done))
 
-  pub object-rested : {at : ℕ} {ps : Items} {r : Node} → LieItems (propertyAt t) false ps → Lies (leafAt t) r → Lies (patternAt t w) (node at 34 (field (list ps) (field (one r) done)))
+  pub object-rested : {T : Texts} {at : ℕ} {ps : Items} {r : Node} → LieItems T (propertyAt t) false ps → Lies T (leafAt t) r → Lies T (patternAt t w) (node at 34 (field (list ps) (field (one r) done)))
   object-rested a r = put 34 (objectFields t) refl (omega arith) (object-form t w) (object-fields t) (LieFields.needed (LiePiece.many a) (LieFields.given (LiePiece.child r) LieFields.done))
 
-  pub array-plain : {at : ℕ} {is : Items} → LieItems (valueAt t) true is → Lies (patternAt t w) (node at 36 (field (list is) (absent done)))
-  array-plain a = put 36 (arrayFields t) refl (omega arith) (array-form t w) (array-fields t) (LieFields.needed (LiePiece.gaps a) (LieFields.absent LieFields.done))
+  put-array : {T : Texts} {at : ℕ} {fs : Fields} → (T .barred Cause.arrayRest → hasObjectRest (asNode (pieceIn fs 1)) ≡ false) → LieFields T 0 (arrayFields t) fs → Lies T (patternAt t w) (node at 36 fs)
+  unfolding shows is nodeAt
+  put-array {T = T} {at = at} {fs = fs} u l =
+      make-shown (patternAt t w) 36 (formOf t 36) (array-form t w) (form-pos t 36 (omega arith)) refl shown (subst (λ (us : List Field). LieFields T 0 us fs) (sym (array-fields t)) l)
+    where
+      shown : (s : Cause) → T .barred s → shows s (node at 36 fs) ≡ false
+      shown Cause.restParameter b = refl
+      shown Cause.withoutBody b = refl
+      shown Cause.arrayRest b = u b
+      shown Cause.withoutValue b = refl
 
-  pub array-rested : {at : ℕ} {is : Items} {r : Node} → LieItems (valueAt t) true is → Lies (wholeAt t) r → Lies (patternAt t w) (node at 36 (field (list is) (field (one r) done)))
-  array-rested a r = put 36 (arrayFields t) refl (omega arith) (array-form t w) (array-fields t) (LieFields.needed (LiePiece.gaps a) (LieFields.given (LiePiece.child r) LieFields.done))
+  pub array-plain : {T : Texts} {at : ℕ} {is : Items} → LieItems T (valueAt t) true is → Lies T (patternAt t w) (node at 36 (field (list is) (absent done)))
+  unfolding pieceIn
+  array-plain a = put-array (λ u. has-nothing _) (LieFields.needed (LiePiece.gaps a) (LieFields.absent LieFields.done))
+
+  pub array-rested : {T : Texts} {at : ℕ} {is : Items} {r : Node} → LieItems T (valueAt t) true is → Lies T (wholeAt t) r → (T .barred Cause.arrayRest → hasObjectRest r ≡ false)
+      → Lies T (patternAt t w) (node at 36 (field (list is) (field (one r) done)))
+  unfolding pieceIn
+  array-rested a r u = put-array u (LieFields.needed (LiePiece.gaps a) (LieFields.given (LiePiece.child r) LieFields.done))
 
 module _ (t : Bool) where
-  pub property-made : {at flags : ℕ} {key value : Node} → Lies 11 key → Lies (valueAt t) value → flags ≤ 3
-      → Lies (propertyAt t) (node at 35 (field (one key) (field (one value) (field (byte flags) done))))
-  property-made {flags = flags} {key = key} {value = value} a b c =
+  pub property-made : {T : Texts} {at flags : ℕ} {key value : Node} → Lies T 11 key → Lies T (valueAt t) value → flags ≤ 3
+      → Lies T (propertyAt t) (node at 35 (field (one key) (field (one value) (field (byte flags) done))))
+  property-made {T = T} {flags = flags} {key = key} {value = value} a b c =
       make (propertyAt t) 35 (formOf t 35) (property-form t) (form-pos t 35 (omega arith)) refl
-      (subst (λ (us : List Field). LieFields 0 us (field (one key) (field (one value) (field (byte flags) done)))) (sym (property-fields t))
+      (subst (λ (us : List Field). LieFields T 0 us (field (one key) (field (one value) (field (byte flags) done)))) (sym (property-fields t))
       (LieFields.needed (LiePiece.child a) (LieFields.needed (LiePiece.child b) (LieFields.needed (LiePiece.byte (omega arith) c (omega arith)) LieFields.done))))
 
-  pub default-made : {at : ℕ} {left right : Node} → Lies (wholeAt t) left → Lies 3 right → Lies (valueAt t) (node at 37 (field (one left) (field (one right) done)))
-  default-made {left = left} {right = right} a b =
+  pub default-made : {T : Texts} {at : ℕ} {left right : Node} → Lies T (wholeAt t) left → Lies T 3 right → Lies T (valueAt t) (node at 37 (field (one left) (field (one right) done)))
+  default-made {T = T} {left = left} {right = right} a b =
       make (valueAt t) 37 (formOf t 37) (default-form t) (form-pos t 37 (omega arith)) refl
-      (subst (λ (us : List Field). LieFields 0 us (field (one left) (field (one right) done))) (sym (default-fields t))
+      (subst (λ (us : List Field). LieFields T 0 us (field (one left) (field (one right) done))) (sym (default-fields t))
       (LieFields.needed (LiePiece.child a) (LieFields.needed (LiePiece.child b) LieFields.done)))

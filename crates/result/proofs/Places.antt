@@ -21,7 +21,7 @@ use Rattle.lowering.specs.Walk.Rule.{literals, declarations, assignments, funct
 use Rattle.lowering.proofs.Cases.{by-test, and-left, and-right}
 use Rattle.lowering.proofs.All.{AllItems}
 use Rattle.lowering.proofs.PartsAt.{item-at}
-use Rattle.result.proofs.Lies.{Lies, LieFields, LiePiece, LieItems, sortAt, may-stand}
+use Rattle.result.proofs.Lies.{Texts, Lies, LieFields, LiePiece, LieItems, sortAt, may-stand}
 use Rattle.result.proofs.Comes.{Comes, Left}
 use Rattle.result.proofs.Standing.{or-then, lie-item}
 
@@ -148,37 +148,37 @@ still-there : (c : Context) (n : Node) → ruleOf (kind n) ≡ nowhere → rewri
 unfolding rewrite
 still-there c n e = rw (e, rewrite) refl
 
-pub quiet-left : {x y : Node} → Comes x y → (p : ℕ) → Lies p x → isQuiet p ≡ true → Left x y
+pub quiet-left : {T : Texts} {x y : Node} → Comes x y → (p : ℕ) → Lies T p x → isQuiet p ≡ true → Left x y
 quiet-left (Comes.comes c {n = n} {y = y} e l) p m q =
     let a = place-passes (λ f. isNowhere (ruleOf (kindOf f))) p (kind n) (among-passes (λ p. every (λ f. isNowhere (ruleOf (kindOf f))) (allowed rewritten p)) _ quiet-places p q) (may-stand m) in
     subst (λ (r : Node). Left r y) (still-there c n (ap ruleOf (sym (a .1)) ∙ is-nowhere (ruleOf (kindOf (formAt rewritten p (kind n)))) (a .0))) l
 
 -- ---- a part by the sort of its field
 
-abbrev pub SortLies : Sort → Node → Type 0
-SortLies (Sort.child q) x = Lies q x
-SortLies (Sort.chosen p q) x = (o : Bool) × Lies (cond o p q) x
-SortLies (Sort.many q) x = Lies q x
-SortLies (Sort.gaps q) x = Lies q x
-SortLies Sort.text x = ⊥
-SortLies (Sort.byte low high) x = ⊥
-SortLies Sort.mark x = ⊥
-SortLies Sort.number x = ⊥
+abbrev pub SortLies : (T : Texts) → Sort → Node → Type 0
+SortLies T (Sort.child q) x = Lies T q x
+SortLies T (Sort.chosen p q) x = (o : Bool) × Lies T (cond o p q) x
+SortLies T (Sort.many q) x = Lies T q x
+SortLies T (Sort.gaps q) x = Lies T q x
+SortLies T Sort.text x = ⊥
+SortLies T (Sort.byte low high) x = ⊥
+SortLies T Sort.mark x = ⊥
+SortLies T Sort.number x = ⊥
 
-sort-in : {b d : ℕ} {s : Sort} {p : Piece} → LiePiece b s p d → {j : ℕ} {x : Node} → NodeIn p j x → SortLies s x
+sort-in : {T : Texts} {b d : ℕ} {s : Sort} {p : Piece} → LiePiece T b s p d → {j : ℕ} {x : Node} → NodeIn p j x → SortLies T s x
 sort-in (LiePiece.child x) NodeIn.one = x
 sort-in (LiePiece.chosen {b = b} x) NodeIn.one = (eqb b 1, x)
 sort-in (LiePiece.many a) (NodeIn.list i) = lie-item a i
 sort-in (LiePiece.gaps a) (NodeIn.list i) = lie-item a i
 
-pub lie-sort : {b : ℕ} {ts : List Field} {fs : Fields} → LieFields b ts fs → {i j : ℕ} {x : Node} → FieldAt fs i j x → SortLies (sortAt ts i) x
+pub lie-sort : {T : Texts} {b : ℕ} {ts : List Field} {fs : Fields} → LieFields T b ts fs → {i j : ℕ} {x : Node} → FieldAt fs i j x → SortLies T (sortAt ts i) x
 lie-sort (LieFields.absent a) (FieldAt.behindAbsent f) = lie-sort a f
 lie-sort (LieFields.needed x a) (FieldAt.first f) = sort-in x f
 lie-sort (LieFields.needed x a) (FieldAt.behind f) = lie-sort a f
 lie-sort (LieFields.given x a) (FieldAt.first f) = sort-in x f
 lie-sort (LieFields.given x a) (FieldAt.behind f) = lie-sort a f
 
-pub out-place : (s : Sort) {x : Node} → outSort s ≡ true → SortLies s x → (q : ℕ) × (isOutside q ≡ true) × Lies q x
+pub out-place : {T : Texts} (s : Sort) {x : Node} → outSort s ≡ true → SortLies T s x → (q : ℕ) × (isOutside q ≡ true) × Lies T q x
 out-place (Sort.child q) e l = (q, e, l)
 out-place (Sort.chosen p q) e l = absurd (true≢false (sym e))
 out-place (Sort.many q) e l = (q, e, l)
@@ -200,13 +200,13 @@ ByNode (Sort.byte low high) p j x = Unit {0}
 ByNode Sort.mark p j x = Unit {0}
 ByNode Sort.number p j x = Unit {0}
 
-node-by : {b d : ℕ} {s : Sort} {p : Piece} → LiePiece b s p d → {j : ℕ} {x : Node} → NodeIn p j x → ByNode s p j x
+node-by : {T : Texts} {b d : ℕ} {s : Sort} {p : Piece} → LiePiece T b s p d → {j : ℕ} {x : Node} → NodeIn p j x → ByNode s p j x
 node-by (LiePiece.child x) NodeIn.one = refl
 node-by (LiePiece.chosen x) NodeIn.one = refl
 node-by (LiePiece.many a) (NodeIn.list i) = i
 node-by (LiePiece.gaps a) (NodeIn.list i) = i
 
-pub by-node : {b : ℕ} {ts : List Field} {fs : Fields} → LieFields b ts fs → {i j : ℕ} {x : Node} → FieldAt fs i j x → ByNode (sortAt ts i) (pieceIn fs i) j x
+pub by-node : {T : Texts} {b : ℕ} {ts : List Field} {fs : Fields} → LieFields T b ts fs → {i j : ℕ} {x : Node} → FieldAt fs i j x → ByNode (sortAt ts i) (pieceIn fs i) j x
 unfolding pieceIn
 by-node (LieFields.absent a) (FieldAt.behindAbsent f) = by-node a f
 by-node (LieFields.needed x a) (FieldAt.first f) = node-by x f

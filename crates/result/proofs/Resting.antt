@@ -17,14 +17,15 @@ use Rattle.lowering.specs.Visits.{ItemAt, NodeIn, FieldAt, PartAt, Stands}
 use Rattle.lowering.specs.Patterns.{Shape, shape, properties, itemsOf, rest, hasRest, leftOf, value, hasObjectRest}
 use Rattle.lowering.specs.Patterns.Shape.{objectPattern, arrayPattern}
 use Rattle.lowering.specs.Assignments.{nearest}
-use Rattle.lowering.proofs.Cases.{by-test, by-shape, and-left, and-right, or-other, shape-34, object-is, array-is, default-is}
-use Rattle.lowering.proofs.All.{AllItems}
+use Rattle.lowering.proofs.Cases.{by-test, by-shape, and-left, and-right, or-other, or-left, shape-34, object-is, array-is, default-is}
+use Rattle.lowering.proofs.All.{AllItems, none-passes}
 use Rattle.lowering.proofs.PartsAt.{item-at}
 use Rattle.result.specs.Left.{keepsRest, Below, isRestField, Exception, Remains}
 use Rattle.result.proofs.Rows.{covers, at-places, no-kind, form-4, form-7, form-8, form-10, form-17}
 use Rattle.result.proofs.Lies as lie
-use Rattle.result.proofs.Lies.{Lies, LieFields, LiePiece, LieItems, fields-of, sortAt, may-stand}
-use Rattle.result.proofs.PatternViews.{wholeAt, valueAt, propertyAt, leafAt, patternAt, formOf, objectFields, propertyFields, arrayFields, defaultFields, object-fields, property-fields, array-fields, default-fields, object-form, property-form, array-form, default-form, property-only, no-default-whole, fields-at, of-kind}
+use Rattle.result.specs.Causes.{Cause, lacksValue, shows, Open, Due}
+use Rattle.result.proofs.Lies.{Texts, shown-of, Lies, LieFields, LiePiece, LieItems, fields-of, sortAt, may-stand}
+use Rattle.result.proofs.PatternViews.{array-rest, wholeAt, valueAt, propertyAt, leafAt, patternAt, formOf, objectFields, propertyFields, arrayFields, defaultFields, object-fields, property-fields, array-fields, default-fields, object-form, property-form, array-form, default-form, property-only, no-default-whole, fields-at, of-kind}
 use Rattle.result.proofs.Expressions.{takes-27, form-27}
 use Rattle.result.proofs.Assignments.{target-of}
 use Rattle.result.proofs.Declarations.{declarator-fields}
@@ -38,13 +39,13 @@ use Rattle.result.proofs.Places.{isOutside, outSort, leads, outside-tid
 
 -- ---- what the walk leaves of a node, at its place
 
-record FromAt (p : ℕ) (y : Node) : Type 0 where
+record FromAt (T : Texts) (p : ℕ) (y : Node) : Type 0 where
   before : Node
   left : Left before y
-  lies : Lies p before
+  lies : Lies T p before
   calm : Settled before
 
-from-at : {x y : Node} → Comes x y → (p : ℕ) → Lies p x → FromAt p y
+from-at : {T : Texts} {x y : Node} → Comes x y → (p : ℕ) → Lies T p x → FromAt T p y
 from-at (Comes.comes c {n = n} e l) p x =
     record { before = Rattle.lowering.specs.Walk.rewrite c n .result; left = l; lies = leaves c p n x .tree e; calm = settled c n p x e }
 
@@ -80,47 +81,47 @@ keeps-back {x = x} {y = y} l k =
 -- ---- results of the search along a path
 
 -- in a pattern that was x: reached from it, or further on
-data In (p : List ℕ) (y o x : Node) : Type 0 where
-  spine : {b : Bool} → Below b y o → Found b x → In p y o x
-  beyond : Remains p y o → In p y o x
+data In (B : Cause → Type 0) (p : List ℕ) (y : Node) (u : List ℕ) (o x : Node) : Type 0 where
+  spine : {b : Bool} → Below b p y u o → Found b x → (B Cause.arrayRest → b ≡ true → ⊥) → In B p y u o x
+  beyond : Due B p y u o → In B p y u o x
 
 -- in a property: in its value
-data InProperty (p : List ℕ) (y o x : Node) : Type 0 where
-  spine : {b : Bool} {j : ℕ} {v : Node} → PartAt y 1 j v → Below b v o → Found b (value x) → depth (value x) < depth x → InProperty p y o x
-  beyond : Remains p y o → InProperty p y o x
+data InProperty (B : Cause → Type 0) (p : List ℕ) (y : Node) (u : List ℕ) (o x : Node) : Type 0 where
+  spine : {b : Bool} {j : ℕ} {v : Node} → PartAt y 1 j v → Below b (j ∷ 1 ∷ p) v u o → Found b (value x) → depth (value x) < depth x → (B Cause.arrayRest → b ≡ true → ⊥) → InProperty B p y u o x
+  beyond : Due B p y u o → InProperty B p y u o x
 
 -- in a declarator or a parameter: in its pattern
-data InBound (p : List ℕ) (y o x : Node) : Type 0 where
-  spine : {b : Bool} {j : ℕ} {v : Node} → PartAt y 0 j v → Below b v o → Found b (nodeAt 0 x) → InBound p y o x
-  beyond : Remains p y o → InBound p y o x
+data InBound (B : Cause → Type 0) (p : List ℕ) (y : Node) (u : List ℕ) (o x : Node) : Type 0 where
+  spine : {b : Bool} {j : ℕ} {v : Node} → PartAt y 0 j v → Below b (j ∷ 0 ∷ p) v u o → Found b (nodeAt 0 x) → (B Cause.arrayRest → b ≡ true → ⊥) → InBound B p y u o x
+  beyond : Due B p y u o → InBound B p y u o x
 
-further : {p : List ℕ} {y z o : Node} {i j : ℕ} → PartAt y i j z → Remains (j ∷ i ∷ p) z o → Remains p y o
-further a (Remains.remains s e) = Remains.remains (Stands.onward a s) e
+further : {B : Cause → Type 0} {p u : List ℕ} {y z o : Node} {i j : ℕ} → PartAt y i j z → Due B (j ∷ i ∷ p) z u o → Due B p y u o
+further a (Due.due s e o) = Due.due (Stands.onward a s) e o
 
 -- ---- fields by their number
 
-object-field : (t : Bool) (i : ℕ) {x : Node} → SortLies (sortAt (objectFields t) i) x → {A : Type 0} → (i ≡ 0 → Lies (propertyAt t) x → A) → (Lies (leafAt t) x → A) → A
+object-field : {T : Texts} (t : Bool) (i : ℕ) {x : Node} → SortLies T (sortAt (objectFields t) i) x → {A : Type 0} → (i ≡ 0 → Lies T (propertyAt t) x → A) → (Lies T (leafAt t) x → A) → A
 object-field t zero l f g = f refl l
 object-field t (suc zero) l f g = g l
 object-field t (suc (suc i)) l f g = absurd l
 
-array-field : (t : Bool) (i : ℕ) {x : Node} → SortLies (sortAt (arrayFields t) i) x → {A : Type 0} → (i ≡ 0 → Lies (valueAt t) x → A) → (i ≡ 1 → Lies (wholeAt t) x → A) → A
+array-field : {T : Texts} (t : Bool) (i : ℕ) {x : Node} → SortLies T (sortAt (arrayFields t) i) x → {A : Type 0} → (i ≡ 0 → Lies T (valueAt t) x → A) → (i ≡ 1 → Lies T (wholeAt t) x → A) → A
 array-field t zero l f g = f refl l
 array-field t (suc zero) l f g = g refl l
 array-field t (suc (suc i)) l f g = absurd l
 
-default-field : (t : Bool) (i : ℕ) {x : Node} → SortLies (sortAt (defaultFields t) i) x → {A : Type 0} → (i ≡ 0 → Lies (wholeAt t) x → A) → (Lies 3 x → A) → A
+default-field : {T : Texts} (t : Bool) (i : ℕ) {x : Node} → SortLies T (sortAt (defaultFields t) i) x → {A : Type 0} → (i ≡ 0 → Lies T (wholeAt t) x → A) → (Lies T 3 x → A) → A
 default-field t zero l f g = f refl l
 default-field t (suc zero) l f g = g l
 default-field t (suc (suc i)) l f g = absurd l
 
-property-field : (t : Bool) (i : ℕ) {x : Node} → SortLies (sortAt (propertyFields t) i) x → {A : Type 0} → (Lies 11 x → A) → (i ≡ 1 → Lies (valueAt t) x → A) → A
+property-field : {T : Texts} (t : Bool) (i : ℕ) {x : Node} → SortLies T (sortAt (propertyFields t) i) x → {A : Type 0} → (Lies T 11 x → A) → (i ≡ 1 → Lies T (valueAt t) x → A) → A
 property-field t zero l f g = f l
 property-field t (suc zero) l f g = g refl l
 property-field t (suc (suc zero)) l f g = absurd l
 property-field t (suc (suc (suc i))) l f g = absurd l
 
-bound-field : (i : ℕ) {x : Node} → SortLies (sortAt boundFields i) x → {A : Type 0} → (i ≡ 0 → Lies 15 x → A) → (Lies 3 x → A) → A
+bound-field : {T : Texts} (i : ℕ) {x : Node} → SortLies T (sortAt boundFields i) x → {A : Type 0} → (i ≡ 0 → Lies T 15 x → A) → (Lies T 3 x → A) → A
 bound-field zero l f g = f refl l
 bound-field (suc zero) l f g = g l
 bound-field (suc (suc i)) l f g = absurd l
@@ -145,7 +146,7 @@ leaf-kind x s = go (eqb (kind x) 34) (eqb (kind x) 36) (eqb (kind x) 37) s
     go false false false e = refl
 
 -- a leaf of a pattern, at the place of a leaf
-pattern-leaf : (t w : Bool) (x : Node) → Lies (patternAt t w) x → shape x ≡ Shape.leaf → Lies (leafAt t) x
+pattern-leaf : {T : Texts} (t w : Bool) (x : Node) → Lies T (patternAt t w) x → shape x ≡ Shape.leaf → Lies T (leafAt t) x
 unfolding covers allowed places also among formIn kindOf isPattern
 pattern-leaf false false x l s = lie.moved 16 (at-places isPattern rewritten rewritten 15 16 refl (kind x) (leaf-kind x s) (may-stand l)) l
 pattern-leaf false true x l s = lie.moved 16 (at-places isPattern rewritten rewritten 18 16 refl (kind x) (leaf-kind x s) (may-stand l)) l
@@ -182,206 +183,229 @@ outside-11 : isOutside 11 ≡ true
 unfolding among
 outside-11 = refl
 
-default-at : (t w : Bool) {at k : ℕ} {fs : Fields} → Lies (patternAt t w) (node at k fs) → shape (node at k fs) ≡ Shape.default → LieFields 0 (defaultFields t) fs
+default-at : {T : Texts} (t w : Bool) {at k : ℕ} {fs : Fields} → Lies T (patternAt t w) (node at k fs) → shape (node at k fs) ≡ Shape.default → LieFields T 0 (defaultFields t) fs
 default-at t false {at = at} {k = k} {fs = fs} l s = absurd (no-default-whole t (node at k fs) l s)
 default-at t true {at = at} {k = k} {fs = fs} l s =
     fields-at (valueAt t) 37 (formOf t 37) (defaultFields t) refl (default-form t) (default-fields t) l (of-kind 37 (node at k fs) (default-is (node at k fs) s))
 
 -- ---- one step along the path, by the pattern around
 
-module _ {p : List ℕ} {at k : ℕ} {fs gs : Fields} {i j : ℕ} {x y o : Node} (a : FieldAt gs i j y) (b : FieldAt fs i j x) where
-  in-object : (t : Bool) → LieFields 0 (objectFields t) fs → shape (node at k fs) ≡ objectPattern → i ≡ 0 → InProperty (j ∷ i ∷ p) y o x → In p (node at k gs) o (node at k fs)
+not-found : {A : Type 0} {b : Bool} (x : Node) → Found b x → hasObjectRest x ≡ false → A
+not-found x f h = absurd (true≢false (sym (f .has (depth x) (omega arith)) ∙ h))
+
+module _ {p u : List ℕ} {at k : ℕ} {fs gs : Fields} {i j : ℕ} {x y o : Node} (a : FieldAt gs i j y) (b : FieldAt fs i j x) where
+  in-object : {T : Texts} (t : Bool) → LieFields T 0 (objectFields t) fs → shape (node at k fs) ≡ objectPattern → i ≡ 0 → InProperty (T .barred) (j ∷ i ∷ p) y u o x → In (T .barred) p (node at k gs) u o (node at k fs)
   unfolding itemsAt is
-  in-object t f s z (InProperty.spine q w g d) =
+  in-object t f s z (InProperty.spine {b = c} {j = h} {v = v} q w g d r) =
       let n = part-depth (PartAt.part {at = at} {k = k} b) in
-      In.spine (Below.property (object-is (node at k fs) s) (PartAt.part (field-as 0 z a)) q w) (found-value (node at k fs) x s (by-node f (field-as 0 z b)) (omega arith) g)
+      In.spine (Below.property (object-is (node at k fs) s) (PartAt.part (field-as 0 z a)) q (subst (λ (n : ℕ). Below c (h ∷ 1 ∷ j ∷ n ∷ p) v u o) z w)) (found-value (node at k fs) x s (by-node f (field-as 0 z b)) (omega arith) g) r
   in-object t f s z (InProperty.beyond r) = In.beyond (further (PartAt.part a) r)
 
-  in-item : (t : Bool) → LieFields 0 (arrayFields t) fs → shape (node at k fs) ≡ arrayPattern → i ≡ 0 → In (j ∷ i ∷ p) y o x → In p (node at k gs) o (node at k fs)
+  in-item : {T : Texts} (t : Bool) → LieFields T 0 (arrayFields t) fs → shape (node at k fs) ≡ arrayPattern → i ≡ 0 → In (T .barred) (j ∷ i ∷ p) y u o x → In (T .barred) p (node at k gs) u o (node at k fs)
   unfolding itemsAt is
-  in-item t f s z (In.spine w g) =
-      In.spine (Below.item (array-is (node at k fs) s) (PartAt.part (field-as 0 z a)) w) (found-item (node at k fs) x s (by-node f (field-as 0 z b)) (part-depth (PartAt.part b)) g)
+  in-item t f s z (In.spine {b = c} w g r) =
+      In.spine (Below.item (array-is (node at k fs) s) (PartAt.part (field-as 0 z a)) (subst (λ (n : ℕ). Below c (j ∷ n ∷ p) y u o) z w)) (found-item (node at k fs) x s (by-node f (field-as 0 z b)) (part-depth (PartAt.part b)) g) r
   in-item t f s z (In.beyond r) = In.beyond (further (PartAt.part a) r)
 
-  in-rest : (t : Bool) → LieFields 0 (arrayFields t) fs → shape (node at k fs) ≡ arrayPattern → i ≡ 1 → In (j ∷ i ∷ p) y o x → In p (node at k gs) o (node at k fs)
+  in-rest : {T : Texts} (t : Bool) → LieFields T 0 (arrayFields t) fs → shape (node at k fs) ≡ arrayPattern → i ≡ 1 → (T .barred Cause.arrayRest → hasObjectRest (asNode (pieceIn fs 1)) ≡ false) → In (T .barred) (j ∷ i ∷ p) y u o x → In (T .barred) p (node at k gs) u o (node at k fs)
   unfolding nodeAt is
-  in-rest t f s z (In.spine {b = c} w g) =
+  in-rest t f s z v (In.spine {b = c} w g r) =
       let e : asNode (pieceIn fs 1) ≡ x = by-node f (field-as 1 z b) in
-      In.spine (Below.arrayRest (array-is (node at k fs) s) (PartAt.part (field-as 1 z a)) w)
+      In.spine (Below.arrayRest (array-is (node at k fs) s) (PartAt.part (field-as 1 z a)) (subst (λ (n : ℕ). Below c (j ∷ n ∷ p) y u o) z w))
       (found-rest (node at k fs) s (subst (λ (m : Node). depth m < depth (node at k fs)) (sym e) (part-depth (PartAt.part b))) (subst (λ (m : Node). Found c m) (sym e) g))
-  in-rest t f s z (In.beyond r) = In.beyond (further (PartAt.part a) r)
+      (λ d y. not-found (asNode (pieceIn fs 1)) (subst (λ (m : Node). Found c m) (sym e) g) (v d))
+  in-rest t f s z v (In.beyond r) = In.beyond (further (PartAt.part a) r)
 
-  in-left : (t : Bool) → LieFields 0 (defaultFields t) fs → shape (node at k fs) ≡ Shape.default → i ≡ 0 → In (j ∷ i ∷ p) y o x → In p (node at k gs) o (node at k fs)
+  in-left : {T : Texts} (t : Bool) → LieFields T 0 (defaultFields t) fs → shape (node at k fs) ≡ Shape.default → i ≡ 0 → In (T .barred) (j ∷ i ∷ p) y u o x → In (T .barred) p (node at k gs) u o (node at k fs)
   unfolding nodeAt is
-  in-left t f s z (In.spine {b = c} w g) =
+  in-left t f s z (In.spine {b = c} w g r) =
       let e : asNode (pieceIn fs 0) ≡ x = by-node f (field-as 0 z b) in
-      In.spine (Below.left (default-is (node at k fs) s) (PartAt.part (field-as 0 z a)) w)
-      (found-left (node at k fs) s (subst (λ (m : Node). depth m < depth (node at k fs)) (sym e) (part-depth (PartAt.part b))) (subst (λ (m : Node). Found c m) (sym e) g))
+      In.spine (Below.left (default-is (node at k fs) s) (PartAt.part (field-as 0 z a)) (subst (λ (n : ℕ). Below c (j ∷ n ∷ p) y u o) z w))
+      (found-left (node at k fs) s (subst (λ (m : Node). depth m < depth (node at k fs)) (sym e) (part-depth (PartAt.part b))) (subst (λ (m : Node). Found c m) (sym e) g)) r
   in-left t f s z (In.beyond r) = In.beyond (further (PartAt.part a) r)
 
-  in-value : (t : Bool) → LieFields 0 (propertyFields t) fs → i ≡ 1 → In (j ∷ i ∷ p) y o x → InProperty p (node at k gs) o (node at k fs)
+  in-value : {T : Texts} (t : Bool) → LieFields T 0 (propertyFields t) fs → i ≡ 1 → In (T .barred) (j ∷ i ∷ p) y u o x → InProperty (T .barred) p (node at k gs) u o (node at k fs)
   unfolding nodeAt
-  in-value t f z (In.spine {b = c} w g) =
+  in-value t f z (In.spine {b = c} w g r) =
       let e : asNode (pieceIn fs 1) ≡ x = by-node f (field-as 1 z b) in
-      InProperty.spine (PartAt.part (field-as 1 z a)) w (subst (λ (m : Node). Found c m) (sym e) g) (subst (λ (m : Node). depth m < depth (node at k fs)) (sym e) (part-depth (PartAt.part b)))
+      InProperty.spine (PartAt.part (field-as 1 z a)) (subst (λ (n : ℕ). Below c (j ∷ n ∷ p) y u o) z w) (subst (λ (m : Node). Found c m) (sym e) g) (subst (λ (m : Node). depth m < depth (node at k fs)) (sym e) (part-depth (PartAt.part b))) r
   in-value t f z (In.beyond r) = InProperty.beyond (further (PartAt.part a) r)
 
-  in-bound : LieFields 0 boundFields fs → i ≡ 0 → In (j ∷ i ∷ p) y o x → InBound p (node at k gs) o (node at k fs)
+  in-bound : {T : Texts} → LieFields T 0 boundFields fs → i ≡ 0 → In (T .barred) (j ∷ i ∷ p) y u o x → InBound (T .barred) p (node at k gs) u o (node at k fs)
   unfolding nodeAt
-  in-bound f z (In.spine {b = c} w g) =
+  in-bound f z (In.spine {b = c} w g r) =
       let e : asNode (pieceIn fs 0) ≡ x = by-node f (field-as 0 z b) in
-      InBound.spine (PartAt.part (field-as 0 z a)) w (subst (λ (m : Node). Found c m) (sym e) g)
+      InBound.spine (PartAt.part (field-as 0 z a)) (subst (λ (n : ℕ). Below c (j ∷ n ∷ p) y u o) z w) (subst (λ (m : Node). Found c m) (sym e) g) r
   in-bound f z (In.beyond r) = InBound.beyond (further (PartAt.part a) r)
 
 -- ---- holders
 
 -- a declarator or a parameter
-data Bound : Node → Type 0 where
-  bound : {at k : ℕ} {fs : Fields} → eqb k 34 ≡ false → LieFields 0 boundFields fs → Bound (node at k fs)
+data Bound (T : Texts) : Node → Type 0 where
+  bound : {at k : ℕ} {fs : Fields} → eqb k 34 ≡ false → LieFields T 0 boundFields fs → Bound T (node at k fs)
 
-declarator-kind : (x : Node) → Lies 4 x → kind x ≡ 5
+declarator-kind : {T : Texts} (x : Node) → Lies T 4 x → kind x ≡ 5
 unfolding allowed places also among kindOf
 declarator-kind x l = Rattle.result.proofs.Rows.lone 4 5 (kind x) refl (may-stand l)
 
-param-kind : (x : Node) → Lies 7 x → kind x ≡ 15
+param-kind : {T : Texts} (x : Node) → Lies T 7 x → kind x ≡ 15
 unfolding allowed places also among kindOf
 param-kind x l = Rattle.result.proofs.Rows.lone 7 15 (kind x) refl (may-stand l)
 
-declarator-bound : (x : Node) → Lies 4 x → Bound x
+declarator-bound : {T : Texts} (x : Node) → Lies T 4 x → Bound T x
 declarator-bound (node at k fs) l = Bound.bound {k = k} (rw (declarator-kind (node at k fs) l) refl) (declarator-fields Rattle.lowering.specs.Answer.top l)
 
-param-bound : (x : Node) → Lies 7 x → Bound x
+param-bound : {T : Texts} (x : Node) → Lies T 7 x → Bound T x
 param-bound (node at k fs) l = Bound.bound {k = k} (rw (param-kind (node at k fs) l) refl) (param-fields l)
-
-not-found : {A : Type 0} {b : Bool} (x : Node) → Found b x → hasObjectRest x ≡ false → A
-not-found x f h = absurd (true≢false (sym (f .has (depth x) (omega arith)) ∙ h))
 
 not-near : {A : Type 0} (x : Node) → Found false x → nearest true (depth x) x ≡ Items.none → A
 unfolding isEmpty
 not-near x f h = absurd (true≢false (sym (ap isEmpty h) ∙ f .near refl (depth x) (omega arith)))
 
 -- a declarator
-with-value : (b : Bool) {p : List ℕ} {t y o v : Node} (x : Node) {i j m : ℕ} → PartAt t i j y → is 5 y ≡ true → stands 1 y ≡ true → PartAt y 0 m v → Below b v o → Found b x
-    → nearest true (depth x) x ≡ Items.none → Remains p t o
-with-value true x a e s q w f h = Remains.remains (Stands.onward a Stands.here) (Exception.belowArrayRest e s q w)
-with-value false x a e s q w f h = not-near x f h
+with-value : {B : Cause → Type 0} (b : Bool) {p u : List ℕ} {t y o v : Node} (x : Node) {i j m : ℕ} → PartAt t i j y → is 5 y ≡ true → stands 1 y ≡ true → PartAt y 0 m v → Below b (m ∷ 0 ∷ j ∷ i ∷ p) v u o → Found b x → (B Cause.arrayRest → b ≡ true → ⊥)
+    → nearest true (depth x) x ≡ Items.none → Due B p t u o
+with-value true x a e s q w f r h = Due.due (Stands.onward a Stands.here) (Exception.belowArrayRest e s q w) (λ v. r v refl)
+with-value false x a e s q w f r h = not-near x f h
 
-declared : {p : List ℕ} {t x y o : Node} {i j : ℕ} → PartAt t i j y → Left x y → kind x ≡ 5 → Taken x → InBound (j ∷ i ∷ p) y o x → Remains p t o
+lacks-still : (x : Node) → stands 1 x ≡ false → lacksValue x ≡ false → Still x
+unfolding lacksValue
+lacks-still x s h = rw s at h
+
+declared : {B : Cause → Type 0} {p u : List ℕ} {t x y o : Node} {i j : ℕ} → PartAt t i j y → Left x y → kind x ≡ 5 → Taken x → (B Cause.withoutValue → lacksValue x ≡ false) → InBound B (j ∷ i ∷ p) y u o x → Due B p t u o
 unfolding is
-declared {x = x} {y = y} a l k h (InBound.spine {b = b} q w f) =
+declared {x = x} {y = y} a l k h g (InBound.spine {b = b} q w f r) =
     let n : is 20 x ≡ false = rw k refl in
     let e : is 5 y ≡ true = rw (left-kind l ∙ k) refl in
     by-test (stands 1 x)
-    (λ s. with-value b (nodeAt 0 x) a e (left-stands l n 1 ∙ s) q w f (h s))
-    (λ s. Remains.remains (Stands.onward a Stands.here) (Exception.withoutValue e (left-stands l n 1 ∙ s) q w))
-declared a l k h (InBound.beyond r) = further a r
+    (λ s. with-value b (nodeAt 0 x) a e (left-stands l n 1 ∙ s) q w f r (h s))
+    (λ s. Due.due (Stands.onward a Stands.here) (Exception.withoutValue e (left-stands l n 1 ∙ s) q w) (λ v. not-found (nodeAt 0 x) f (lacks-still x s (g v))))
+declared a l k h g (InBound.beyond r) = further a r
 
 -- a parameter that keeps no rest
-still-param : {p : List ℕ} {t x y o : Node} {i j : ℕ} → PartAt t i j y → Still x → InBound (j ∷ i ∷ p) y o x → Remains p t o
-still-param {x = x} a h (InBound.spine q w f) = not-found (nodeAt 0 x) f h
+still-param : {B : Cause → Type 0} {p u : List ℕ} {t x y o : Node} {i j : ℕ} → PartAt t i j y → Still x → InBound B (j ∷ i ∷ p) y u o x → Due B p t u o
+still-param {x = x} a h (InBound.spine q w f r) = not-found (nodeAt 0 x) f h
 still-param a h (InBound.beyond r) = further a r
 
 -- a target that keeps no rest
-still-target : {p : List ℕ} {t x y o : Node} {i j : ℕ} → PartAt t i j y → hasObjectRest x ≡ false → In (j ∷ i ∷ p) y o x → Remains p t o
-still-target {x = x} a h (In.spine w f) = not-found x f h
+still-target : {B : Cause → Type 0} {p u : List ℕ} {t x y o : Node} {i j : ℕ} → PartAt t i j y → hasObjectRest x ≡ false → In B (j ∷ i ∷ p) y u o x → Due B p t u o
+still-target {x = x} a h (In.spine w f r) = not-found x f h
 still-target a h (In.beyond r) = further a r
 
 -- a rest parameter
-rest-param : {p : List ℕ} {t x y o : Node} {i j : ℕ} → PartAt t i j y → isRestField t i ≡ true → In (j ∷ i ∷ p) y o x → Remains p t o
-rest-param a h (In.spine w f) = Remains.remains Stands.here (Exception.restParameter h a w)
-rest-param a h (In.beyond r) = further a r
+rest-param : {B : Cause → Type 0} {p u : List ℕ} {t x y o : Node} {i j : ℕ} → PartAt t i j y → isRestField t i ≡ true → (B Cause.restParameter → hasObjectRest x ≡ false) → In B (j ∷ i ∷ p) y u o x → Due B p t u o
+rest-param {x = x} a h g (In.spine w f r) = Due.due Stands.here (Exception.restParameter h a w) (λ b. not-found x f (g b))
+rest-param a h g (In.beyond r) = further a r
 
 -- a parameter of a function without body
-bodiless : {p : List ℕ} {t x y o : Node} {j : ℕ} → PartAt t 3 j y → is 14 t ≡ true → stands 5 t ≡ false → InBound (j ∷ 3 ∷ p) y o x → Remains p t o
-bodiless a e s (InBound.spine q w f) = Remains.remains Stands.here (Exception.withoutBody e s a q w)
-bodiless a e s (InBound.beyond r) = further a r
+bodiless : {B : Cause → Type 0} {p u : List ℕ} {t x y o : Node} {j : ℕ} → PartAt t 3 j y → is 14 t ≡ true → stands 5 t ≡ false → (B Cause.withoutBody → Still x) → InBound B (j ∷ 3 ∷ p) y u o x → Due B p t u o
+bodiless {x = x} a e s g (InBound.spine q w f r) = Due.due Stands.here (Exception.withoutBody e s a q w) (λ b. not-found (nodeAt 0 x) f (g b))
+bodiless a e s g (InBound.beyond r) = further a r
+
+-- ---- what a node that has no cause keeps
+
+function-rest : (at : ℕ) (fs : Fields) → shows Cause.restParameter (node at 14 fs) ≡ false → hasObjectRest (asNode (pieceIn fs 4)) ≡ false
+unfolding shows is nodeAt
+function-rest at fs h = or-left (hasObjectRest (asNode (pieceIn fs 4))) false h
+
+arrow-rest : (at : ℕ) (fs : Fields) → shows Cause.restParameter (node at 17 fs) ≡ false → hasObjectRest (asNode (pieceIn fs 1)) ≡ false
+unfolding shows is nodeAt
+arrow-rest at fs h = h
+
+bodiless-still : (at : ℕ) (fs : Fields) → standsIn fs 5 ≡ false → shows Cause.withoutBody (node at 14 fs) ≡ false → AllItems Still (asItems (pieceIn fs 3))
+unfolding shows is stands itemsAt
+bodiless-still at fs s h = none-passes (λ q. hasObjectRest (nodeAt 0 q)) (asItems (pieceIn fs 3)) (rw s at h)
+
+declaration-fine : (at : ℕ) (fs : Fields) → shows Cause.withoutValue (node at 4 fs) ≡ false → AllItems (λ d. lacksValue d ≡ false) (asItems (pieceIn fs 2))
+unfolding shows is itemsAt
+declaration-fine at fs h = none-passes lacksValue (asItems (pieceIn fs 2)) h
 
 -- ---- the fields that lead to patterns
 
-module _ {p : List ℕ} {at : ℕ} {gs : Fields} {i j : ℕ} {x y o : Node} (r : ℕ) (a : FieldAt gs i j y) (c : Comes x y)
-    (into : (t w : Bool) (x : Node) → Left x y → Lies (patternAt t w) x → In (j ∷ i ∷ p) y o x)
-    (intoBound : (x : Node) → Left x y → Bound x → InBound (j ∷ i ∷ p) y o x)
-    (out : (n : Node) (q : ℕ) → Left n y → Lies q n → Settled n → isOutside q ≡ true → Remains (j ∷ i ∷ p) y o) where
-  led-4 : {fs : Fields} → AllItems Taken (asItems (pieceIn fs 2)) → Lies r (node at 4 fs) → FieldAt fs i j x → i ≡ 2 → Remains p (node at 4 gs) o
+module _ {T : Texts} {p u : List ℕ} {at : ℕ} {gs : Fields} {i j : ℕ} {x y o : Node} (r : ℕ) (a : FieldAt gs i j y) (c : Comes x y)
+    (into : (t w : Bool) (x : Node) → Left x y → Lies T (patternAt t w) x → In (T .barred) (j ∷ i ∷ p) y u o x)
+    (intoBound : (x : Node) → Left x y → Bound T x → InBound (T .barred) (j ∷ i ∷ p) y u o x)
+    (out : (n : Node) (q : ℕ) → Left n y → Lies T q n → Settled n → isOutside q ≡ true → Due (T .barred) (j ∷ i ∷ p) y u o) where
+  led-4 : {fs : Fields} → AllItems Taken (asItems (pieceIn fs 2)) → Lies T r (node at 4 fs) → FieldAt fs i j x → i ≡ 2 → Due (T .barred) p (node at 4 gs) u o
   unfolding fieldsOf kinds among
   led-4 h l b z =
       let f = fields-at r 4 4 (must Sort.mark ∷ must (Sort.byte 1 3) ∷ must (Sort.many 4) ∷ []) refl (form-4 r (may-stand l)) refl l refl in
-      let m : Lies 4 x = lie-sort f (field-as 2 z b) in
+      let m : Lies T 4 x = lie-sort f (field-as 2 z b) in
       let q = quiet-left c 4 m refl in
-      declared (PartAt.part a) q (declarator-kind x m) (item-at Taken (by-node f (field-as 2 z b)) h) (intoBound x q (declarator-bound x m))
+      declared (PartAt.part a) q (declarator-kind x m) (item-at Taken (by-node f (field-as 2 z b)) h) (λ v. item-at (λ d. lacksValue d ≡ false) (by-node f (field-as 2 z b)) (declaration-fine at _ (shown-of l refl Cause.withoutValue v))) (intoBound x q (declarator-bound x m))
 
-  led-27 : {fs : Fields} → hasObjectRest (asNode (pieceIn fs 1)) ≡ false → Lies r (node at 27 fs) → FieldAt fs i j x → i ≡ 1 → Remains p (node at 27 gs) o
+  led-27 : {fs : Fields} → hasObjectRest (asNode (pieceIn fs 1)) ≡ false → Lies T r (node at 27 fs) → FieldAt fs i j x → i ≡ 1 → Due (T .barred) p (node at 27 gs) u o
   unfolding fieldsOf kinds among
   led-27 h l b z =
       let f = fields-at r 27 27 (must (Sort.byte 1 2) ∷ must (Sort.chosen 19 20) ∷ must (Sort.child 3) ∷ []) refl (form-27 r (takes-27 r (may-stand l))) refl l refl in
-      let m : Lies 19 x = chosen (lie-sort f (field-as 1 z b)) in
+      let m : Lies T 19 x = chosen (lie-sort f (field-as 1 z b)) in
       still-target (PartAt.part a) (ap hasObjectRest (sym (by-node f (field-as 1 z b))) ∙ h) (into true false x (quiet-left c 19 m refl) m)
     where
-      chosen : (o : Bool) × Lies (cond o 19 20) x → Lies 19 x
+      chosen : (o : Bool) × Lies T (cond o 19 20) x → Lies T 19 x
       chosen q = go (q .0) (q .1)
         where
-          go : (o : Bool) → Lies (cond o 19 20) x → Lies 19 x
+          go : (o : Bool) → Lies T (cond o 19 20) x → Lies T 19 x
           go true m = m
           go false m = target-of m
 
   led-for : (k : ℕ) (ts : List Field) → eqb k 20 ≡ false → (0 < formAt rewritten r k → formAt rewritten r k ≡ k) → fieldsOf k ≡ forFields Rattle.lowering.specs.Answer.top ts → {fs : Fields}
-      → (is 4 (asNode (pieceIn fs 1)) ≡ false → hasObjectRest (asNode (pieceIn fs 1)) ≡ false) → Lies r (node at k fs) → FieldAt fs i j x → i ≡ 1 → Remains p (node at k gs) o
+      → (is 4 (asNode (pieceIn fs 1)) ≡ false → hasObjectRest (asNode (pieceIn fs 1)) ≡ false) → Lies T r (node at k fs) → FieldAt fs i j x → i ≡ 1 → Due (T .barred) p (node at k gs) u o
   unfolding among formAt allowed places also formIn kindOf is
   led-for k ts t g u h l b z =
       let f = fields-at r k k (forFields Rattle.lowering.specs.Answer.top ts) t (g (may-stand l)) u l refl in
-      let m : Lies 21 x = lie-sort f (field-as 1 z b) in
+      let m : Lies T 21 x = lie-sort f (field-as 1 z b) in
       let e : asNode (pieceIn _ 1) ≡ x = by-node f (field-as 1 z b) in
       by-test (is 4 x)
       (λ d.
-      let n : Lies 1 x = lie.moved 1 (ap (formAt rewritten 1) (eqb-true (kind x) 4 d) ∙ ap (formAt rewritten 21) (sym (eqb-true (kind x) 4 d))) m in
+      let n : Lies T 1 x = lie.moved 1 (ap (formAt rewritten 1) (eqb-true (kind x) 4 d) ∙ ap (formAt rewritten 21) (sym (eqb-true (kind x) 4 d))) m in
       let v = from-at c 1 n in
       further (PartAt.part a) (out (v .before) 1 (v .left) (v .lies) (v .calm) refl))
       (λ d.
-      let n : Lies 19 x = head-target Rattle.lowering.specs.Answer.top x m d in
+      let n : Lies T 19 x = head-target Rattle.lowering.specs.Answer.top x m d in
       still-target (PartAt.part a) (ap hasObjectRest (sym e) ∙ h (ap (is 4) e ∙ d)) (into true false x (quiet-left c 19 n refl) n))
 
-  led-14 : {fs : Fields} → ComeFields fs gs → (standsIn fs 5 ≡ true → AllItems Still (asItems (pieceIn fs 3))) → Lies r (node at 14 fs) → FieldAt fs i j x → (eqb i 3 || eqb i 4) ≡ true → Remains p (node at 14 gs) o
+  led-14 : {fs : Fields} → ComeFields fs gs → (standsIn fs 5 ≡ true → AllItems Still (asItems (pieceIn fs 3))) → Lies T r (node at 14 fs) → FieldAt fs i j x → (eqb i 3 || eqb i 4) ≡ true → Due (T .barred) p (node at 14 gs) u o
   unfolding isRestField is stands among
   led-14 {fs = fs} cs h l b e = go (function-forms r (may-stand l))
     where
-      go : FunctionForm (formAt rewritten r 14) → Remains p (node at 14 gs) o
+      go : FunctionForm (formAt rewritten r 14) → Due (T .barred) p (node at 14 gs) u o
       go (FunctionForm.function-form {low = low} {high = high} g) =
           let f = fields-at r 14 (formAt rewritten r 14) (functionFields low high) refl refl g l refl in
           by-test (eqb i 3)
           (λ t.
           let z : i ≡ 3 = eqb-true i 3 t in
-          let m : Lies 7 x = lie-sort f (field-as 3 z b) in
+          let m : Lies T 7 x = lie-sort f (field-as 3 z b) in
           let q = quiet-left c 7 m refl in
           by-test (standsIn fs 5)
           (λ s. still-param (PartAt.part a) (item-at Still (by-node f (field-as 3 z b)) (h s)) (intoBound x q (param-bound x m)))
-          (λ s. bodiless (PartAt.part (field-as 3 z a)) refl (come-stands cs 5 ∙ s) (subst (λ (n : ℕ). InBound (j ∷ n ∷ p) y o x) z (intoBound x q (param-bound x m)))))
+          (λ s. bodiless (PartAt.part (field-as 3 z a)) refl (come-stands cs 5 ∙ s) (λ v. item-at Still (by-node f (field-as 3 z b)) (bodiless-still at fs s (shown-of l refl Cause.withoutBody v))) (subst (λ (n : ℕ). InBound (T .barred) (j ∷ n ∷ p) y u o x) z (intoBound x q (param-bound x m)))))
           (λ t.
           let z : i ≡ 4 = eqb-true i 4 (or-other (eqb i 3) (eqb i 4) t e) in
-          let m : Lies 15 x = lie-sort f (field-as 4 z b) in
-          rest-param (PartAt.part a) (rw z refl) (into false false x (quiet-left c 15 m refl) m))
+          let m : Lies T 15 x = lie-sort f (field-as 4 z b) in
+          rest-param (PartAt.part a) (rw z refl) (λ v. ap hasObjectRest (sym (by-node f (field-as 4 z b))) ∙ function-rest at fs (shown-of l refl Cause.restParameter v)) (into false false x (quiet-left c 15 m refl) m))
 
-  led-17 : {fs : Fields} → AllItems Still (asItems (pieceIn fs 0)) → Lies r (node at 17 fs) → FieldAt fs i j x → (eqb i 0 || eqb i 1) ≡ true → Remains p (node at 17 gs) o
+  led-17 : {fs : Fields} → AllItems Still (asItems (pieceIn fs 0)) → Lies T r (node at 17 fs) → FieldAt fs i j x → (eqb i 0 || eqb i 1) ≡ true → Due (T .barred) p (node at 17 gs) u o
   unfolding isRestField is among fieldsOf kinds
-  led-17 h l b e =
+  led-17 {fs = fs} h l b e =
       let f = fields-at r 17 17 (must (Sort.many 7) ∷ may (Sort.child 15) ∷ must (Sort.child 9) ∷ []) refl (form-17 r (may-stand l)) refl l refl in
       by-test (eqb i 0)
       (λ t.
       let z : i ≡ 0 = eqb-true i 0 t in
-      let m : Lies 7 x = lie-sort f (field-as 0 z b) in
+      let m : Lies T 7 x = lie-sort f (field-as 0 z b) in
       still-param (PartAt.part a) (item-at Still (by-node f (field-as 0 z b)) h) (intoBound x (quiet-left c 7 m refl) (param-bound x m)))
       (λ t.
       let z : i ≡ 1 = eqb-true i 1 (or-other (eqb i 0) (eqb i 1) t e) in
-      let m : Lies 15 x = lie-sort f (field-as 1 z b) in
-      rest-param (PartAt.part a) (rw z refl) (into false false x (quiet-left c 15 m refl) m))
+      let m : Lies T 15 x = lie-sort f (field-as 1 z b) in
+      rest-param (PartAt.part a) (rw z refl) (λ v. ap hasObjectRest (sym (by-node f (field-as 1 z b))) ∙ arrow-rest at fs (shown-of l refl Cause.restParameter v)) (into false false x (quiet-left c 15 m refl) m))
 
-  led-10 : {fs : Fields} → Still (asNode (pieceIn fs 0)) → Lies r (node at 10 fs) → FieldAt fs i j x → i ≡ 0 → Remains p (node at 10 gs) o
+  led-10 : {fs : Fields} → Still (asNode (pieceIn fs 0)) → Lies T r (node at 10 fs) → FieldAt fs i j x → i ≡ 0 → Due (T .barred) p (node at 10 gs) u o
   unfolding among fieldsOf kinds
   led-10 h l b z =
       let f = fields-at r 10 10 (may (Sort.child 7) ∷ must (Sort.child 5) ∷ []) refl (form-10 r (may-stand l)) refl l refl in
-      let m : Lies 7 x = lie-sort f (field-as 0 z b) in
+      let m : Lies T 7 x = lie-sort f (field-as 0 z b) in
       still-param (PartAt.part a) (subst Still (by-node f (field-as 0 z b)) h) (intoBound x (quiet-left c 7 m refl) (param-bound x m))
 
-  led : {k : ℕ} {fs : Fields} → Settled (node at k fs) → Lies r (node at k fs) → ComeFields fs gs → FieldAt fs i j x → leads k i ≡ true → Remains p (node at k gs) o
+  led : {k : ℕ} {fs : Fields} → Settled (node at k fs) → Lies T r (node at k fs) → ComeFields fs gs → FieldAt fs i j x → leads k i ≡ true → Due (T .barred) p (node at k gs) u o
   unfolding leads fieldsOf kinds
   led (Settled.ofLiteral h) l cs b e = absurd (true≢false (sym e))
   led (Settled.ofDeclaration h) l cs b e = led-4 h l b (eqb-true i 2 e)
@@ -395,22 +419,22 @@ module _ {p : List ℕ} {at : ℕ} {gs : Fields} {i j : ℕ} {x y o : Node} (r :
 
 -- ---- the path
 
-outside-not : {r y : Node} {p : ℕ} → Left r y → Lies p r → isOutside p ≡ true → is 34 y ≡ true → ⊥
+outside-not : {T : Texts} {r y : Node} {p : ℕ} → Left r y → Lies T p r → isOutside p ≡ true → is 34 y ≡ true → ⊥
 unfolding is
 outside-not {r = r} {p = p} l m o k = true≢false (sym (subst (λ (j : ℕ). eqb j 34 ≡ true) (left-kind l) k) ∙ outside-tidy p (kind r) o (may-stand m) .0)
 
-property-not : {x y : Node} (t : Bool) → Left x y → Lies (propertyAt t) x → is 34 y ≡ true → ⊥
+property-not : {T : Texts} {x y : Node} (t : Bool) → Left x y → Lies T (propertyAt t) x → is 34 y ≡ true → ⊥
 unfolding is
 property-not {x = x} t l m k = true≢false (sym (subst (λ (j : ℕ). eqb j 34 ≡ true) (left-kind l ∙ property-only t (kind x) (may-stand m)) k))
 
-bound-not : {x y : Node} → Left x y → Bound x → is 34 y ≡ true → ⊥
+bound-not : {T : Texts} {x y : Node} → Left x y → Bound T x → is 34 y ≡ true → ⊥
 unfolding is
 bound-not l (Bound.bound e f) k = true≢false (sym (subst (λ (j : ℕ). eqb j 34 ≡ true) (left-kind l) k) ∙ e)
 
 mutual
-  inside : {p q : List ℕ} {y o : Node} → Stands p y q o → (t w : Bool) {x : Node} → Left x y → Lies (patternAt t w) x → keepsRest o ≡ true → In p y o x
-  inside Stands.here t w {x = x} l m k = let h = keeps-back l k in In.spine Below.here (found-here x (h .0) (h .1))
-  inside (Stands.onward {p = p} (PartAt.part {at = at} {k = n} {fs = gs} {i = i} {j = j} a) s) t w (Left.kept {fs = fs} e cs) m k =
+  inside : {T : Texts} {p q : List ℕ} {y o : Node} → Stands p y q o → (t w : Bool) {x : Node} → Left x y → Lies T (patternAt t w) x → keepsRest o ≡ true → In (T .barred) p y q o x
+  inside Stands.here t w {x = x} l m k = let h = keeps-back l k in In.spine Below.here (found-here x (h .0) (h .1)) (λ v z. true≢false (sym z))
+  inside {T = T} (Stands.onward {p = p} (PartAt.part {at = at} {k = n} {fs = gs} {i = i} {j = j} a) s) t w (Left.kept {fs = fs} e cs) m k =
       let b = come-field cs a in
       by-shape (shape (node at n fs))
       (λ sh.
@@ -422,7 +446,7 @@ mutual
       let f = fields-at (patternAt t w) 36 (formOf t 36) (arrayFields t) refl (array-form t w) (array-fields t) m (of-kind 36 (node at n fs) (array-is (node at n fs) sh)) in
       array-field t i (lie-sort f (b .1))
       (λ z l. in-item a (b .1) t f sh z (inside s t true (quiet-left (b .2) (valueAt t) l (quiet-pattern t true)) l k))
-      (λ z l. in-rest a (b .1) t f sh z (inside s t false (quiet-left (b .2) (wholeAt t) l (quiet-pattern t false)) l k)))
+      (λ z l. in-rest a (b .1) t f sh z (λ v. array-rest (subst (λ (j : ℕ). Lies T (patternAt t w) (node at j fs)) (of-kind 36 (node at n fs) (array-is (node at n fs) sh)) m) v) (inside s t false (quiet-left (b .2) (wholeAt t) l (quiet-pattern t false)) l k)))
       (λ sh.
       let f = default-at t w m sh in
       default-field t i (lie-sort f (b .1))
@@ -436,7 +460,7 @@ mutual
       In.beyond (further (PartAt.part a) (outside s (v .left) (q .0) (v .lies) (v .calm) (q .1) k)))
   inside (Stands.onward (PartAt.part a) s) t w (Left.named c) m k = absurd (true≢false (sym (held a)))
 
-  property : {p q : List ℕ} {y o : Node} → Stands p y q o → (t : Bool) {x : Node} → Left x y → Lies (propertyAt t) x → keepsRest o ≡ true → InProperty p y o x
+  property : {T : Texts} {p q : List ℕ} {y o : Node} → Stands p y q o → (t : Bool) {x : Node} → Left x y → Lies T (propertyAt t) x → keepsRest o ≡ true → InProperty (T .barred) p y q o x
   property (Stands.here {n = y}) t l m k = absurd (property-not t l m (keeps-is y k))
   property (Stands.onward (PartAt.part {at = at} {k = n} {i = i} a) s) t (Left.kept {fs = fs} e cs) m k =
       let b = come-field cs a in
@@ -446,7 +470,7 @@ mutual
       (λ z l. in-value a (b .1) t f z (inside s t true (quiet-left (b .2) (valueAt t) l (quiet-pattern t true)) l k))
   property (Stands.onward (PartAt.part a) s) t (Left.named c) m k = absurd (true≢false (sym (held a)))
 
-  bounded : {p q : List ℕ} {y o : Node} → Stands p y q o → {x : Node} → Left x y → Bound x → keepsRest o ≡ true → InBound p y o x
+  bounded : {T : Texts} {p q : List ℕ} {y o : Node} → Stands p y q o → {x : Node} → Left x y → Bound T x → keepsRest o ≡ true → InBound (T .barred) p y q o x
   bounded (Stands.here {n = y}) l m k = absurd (bound-not l m (keeps-is y k))
   bounded (Stands.onward (PartAt.part {i = i} a) s) (Left.kept e cs) (Bound.bound n f) k =
       let b = come-field cs a in
@@ -455,7 +479,7 @@ mutual
       (λ l. let v = from-at (b .2) 3 l in InBound.beyond (further (PartAt.part a) (outside s (v .left) 3 (v .lies) (v .calm) outside-3 k)))
   bounded (Stands.onward (PartAt.part a) s) (Left.named c) m k = absurd (true≢false (sym (held a)))
 
-  outside : {p q : List ℕ} {y o : Node} → Stands p y q o → {r : Node} → Left r y → (n : ℕ) → Lies n r → Settled r → isOutside n ≡ true → keepsRest o ≡ true → Remains p y o
+  outside : {T : Texts} {p q : List ℕ} {y o : Node} → Stands p y q o → {r : Node} → Left r y → (n : ℕ) → Lies T n r → Settled r → isOutside n ≡ true → keepsRest o ≡ true → Due (T .barred) p y q o
   outside (Stands.here {n = y}) l n m st u k = absurd (outside-not l m u (keeps-is y k))
   outside (Stands.onward (PartAt.part {k = h} {i = i} a) s) (Left.kept {fs = fs} e cs) n m st u k =
       let b = come-field cs a in
@@ -472,6 +496,9 @@ mutual
       st m cs (b .1) (or-other (outSort (sortAt (fieldsOf (formAt rewritten n h)) i)) (leads h i) t d))
   outside (Stands.onward (PartAt.part a) s) (Left.named c) n m st u k = absurd (true≢false (sym (held a)))
 
--- every rest that stands in what is left of a node, at a place outside patterns, is one of the exceptions
-pub rests-remain : {x y : Node} → Comes x y → (n : ℕ) → Lies n x → isOutside n ≡ true → {p q : List ℕ} {o : Node} → Stands p y q o → keepsRest o ≡ true → Remains p y o
+-- every rest that stands in what is left of a node, at a place outside patterns, is one of the exceptions, and its cause is not barred
+pub rests-remain : {T : Texts} {x y : Node} → Comes x y → (n : ℕ) → Lies T n x → isOutside n ≡ true → {p q : List ℕ} {o : Node} → Stands p y q o → keepsRest o ≡ true → Due (T .barred) p y q o
 rests-remain c n l u s k = let v = from-at c n l in outside s (v .left) n (v .lies) (v .calm) u k
+
+pub remains : {B : Cause → Type 0} {p c : List ℕ} {t x : Node} → Due B p t c x → Remains p t c x
+remains (Due.due s e o) = Remains.remains s e

@@ -19,7 +19,7 @@ use Rattle.lowering.specs.Assignments.{target, isTop, topRefusal}
 use Rattle.lowering.specs.Walk.{Step, rewrite, stepDeclaration, stepTop, stepAssignment, stepFor}
 use Rattle.lowering.proofs.Cases.{by-number, by-test, and-left, and-right, shape-34}
 use Rattle.result.proofs.Rows.{form-7, form-8}
-use Rattle.result.proofs.Lies.{Lies, LieItems, may-stand}
+use Rattle.result.proofs.Lies.{Texts, isMade, Lies, LieItems, may-stand}
 use Rattle.result.proofs.Literals.{literal-lies}
 use Rattle.result.proofs.Declarations.{declaration-lies, declarationExcludes-lie}
 use Rattle.result.proofs.Assignments.{AssignmentView, assignment-view, assignment-takes, target-lies, value-lies, top-lies, topEntry-lies, topExcludes-lie, nested-lies, nestedEntry-lies}
@@ -27,10 +27,10 @@ use Rattle.result.proofs.Heads.{function-lies, arrow-lies, catch-lies, 
 use Rattle.result.proofs.ByRule.{Rules, by-rules}
 
 -- what a step leaves and hands out
-pub record Leaves (p : ℕ) (s : Step) : Type 0 where
-  pub tree : s .note .refusal ≡ 0 → Lies p (s .result)
-  pub entry : LieItems 4 false (s .note .entry)
-  pub excluded : LieItems 4 false (s .note .excluded)
+pub record Leaves (T : Texts) (p : ℕ) (s : Step) : Type 0 where
+  pub tree : s .note .refusal ≡ 0 → Lies T p (s .result)
+  pub entry : LieItems T 4 false (s .note .entry)
+  pub excluded : LieItems T 4 false (s .note .excluded)
 
 top-shape : (q : Node) → isTop q ≡ true → shape q ≡ objectPattern
 unfolding isTop
@@ -41,10 +41,10 @@ unfolding isTop
 top-rest q e = and-right (is 34 q) (hasRest q) e
 
 module _ (c : Context) (p : ℕ) where
-  abbrev Q : Node → Step → Type 0
-  Q n s = Lies p n → Leaves p s
+  abbrev Q : (T : Texts) → Node → Step → Type 0
+  Q T n s = Lies T p n → Leaves T p s
 
-  assignment-leaves : (at : ℕ) (fs : Fields) → Q (node at 27 fs) (stepAssignment c (node at 27 fs))
+  assignment-leaves : {T : Texts} (at : ℕ) (fs : Fields) → Q T (node at 27 fs) (stepAssignment c (node at 27 fs))
   unfolding stepAssignment stepTop is
   assignment-leaves at fs l =
       let n = node at 27 fs in
@@ -66,16 +66,16 @@ module _ (c : Context) (p : ℕ) where
       (λ o. rw (a, stepAssignment) (rw u (rw o (record { tree = λ z. nested-lies c p t n v; entry = nestedEntry-lies c n v; excluded = LieItems.none }))))
       (λ o. rw (a, stepAssignment) (rw u (rw o (record { tree = λ z. l; entry = LieItems.none; excluded = LieItems.none }))))))
 
-  declaration-leaves : (at : ℕ) (fs : Fields) → Q (node at 4 fs) (stepDeclaration c (node at 4 fs))
+  declaration-leaves : {T : Texts} (at : ℕ) (fs : Fields) → Q T (node at 4 fs) (stepDeclaration c (node at 4 fs))
   unfolding stepDeclaration is
   declaration-leaves at fs l =
       by-number (declarationRefusal c (node at 4 fs))
       (λ r e. rw (e, stepDeclaration) (record { tree = λ z. absurd (omega arith); entry = LieItems.none; excluded = LieItems.none }))
       (λ e. rw (e, stepDeclaration) (record { tree = λ z. declaration-lies c p (node at 4 fs) l refl; entry = LieItems.none; excluded = declarationExcludes-lie c p (node at 4 fs) l refl }))
 
-  for-leaves : (j : ℕ) (ts : List Field) → eqb j 20 ≡ false → 0 < j → (0 < formAt rewritten p j → formAt rewritten p j ≡ j)
+  for-leaves : {T : Texts} (j : ℕ) (ts : List Field) → isMade j ≡ true → 0 < j → (0 < formAt rewritten p j → formAt rewritten p j ≡ j)
       → fieldsOf j ≡ Field.must Sort.mark ∷ Field.must (Sort.child 21) ∷ Field.must (Sort.child 3) ∷ Field.must (Sort.child 1) ∷ ts
-      → (at : ℕ) (fs : Fields) → Q (node at j fs) (stepFor c (node at j fs))
+      → (at : ℕ) (fs : Fields) → Q T (node at j fs) (stepFor c (node at j fs))
   unfolding stepFor
   for-leaves j ts e z g u at fs l =
       by-test (is 4 (nodeAt 1 (node at j fs)))
@@ -84,9 +84,9 @@ module _ (c : Context) (p : ℕ) where
       (λ a. rw (d, stepFor) (rw a (record { tree = λ y. absurd (omega arith); entry = LieItems.none; excluded = LieItems.none })))
       (λ a. rw (d, stepFor) (rw a (record { tree = λ y. assigning-head-lies c p j ts e z (g (may-stand l)) u l refl d; entry = LieItems.none; excluded = LieItems.none }))))
 
-  pub leaves : (n : Node) → Lies p n → Leaves p (rewrite c n)
+  pub leaves : {T : Texts} (n : Node) → Lies T p n → Leaves T p (rewrite c n)
   unfolding fieldsOf kinds is
-  leaves = by-rules c Q (record {
+  leaves {T = T} = by-rules c (Q T) (record {
     literals = λ at fs l. record { tree = λ z. literal-lies p (node at 24 fs) l refl; entry = LieItems.none; excluded = LieItems.none };
     declarations = declaration-leaves;
     assignments = assignment-leaves;

@@ -26,7 +26,7 @@ use Rattle.lowering.proofs.Cases.{by-number, by-test, by-shape, by-key, and-lef
 use Rattle.lowering.proofs.All.{AllItems, all-append, all-gather, all-cond, all-each, none-passes, other-changed}
 use Rattle.lowering.proofs.Clauses.{has-leaf}
 use Rattle.result.proofs.Rows.{form-4, form-7, form-8, form-10, form-17}
-use Rattle.result.proofs.Lies.{Lies, LieFields, LiePiece, LieItems, may-stand, list-at, node-at, stands-at, all-of}
+use Rattle.result.proofs.Lies.{Texts, Lies, LieFields, LiePiece, LieItems, may-stand, list-at, node-at, stands-at, all-of}
 use Rattle.lowering.proofs.Levels.{items-depth}
 use Rattle.result.proofs.PatternViews.{patternAt, PropertyView, DefaultView, property-view, fields-at, of-kind}
 use Rattle.result.proofs.Patterns.{values-lies, replaced-lies, properties-of, items-of, value-of, left-whole, rest-of}
@@ -34,6 +34,7 @@ use Rattle.result.proofs.Keys.{same-shape}
 use Rattle.result.proofs.Declarations.{declarator-fields, inner-lies}
 use Rattle.result.proofs.Assignments.{name-shape}
 use Rattle.result.proofs.Heads.{boundFields, param-fields, functionFields, FunctionForm, function-forms, forFields}
+use Rattle.result.proofs.Valued.{changed-items}
 use Rattle.result.proofs.Taken.{by-default, leaf-clear, bare-clear, taken-clear, replaced-clear, movedOut-bare}
 use Rattle.result.proofs.ByRule.{Rules, by-rules}
 
@@ -96,19 +97,6 @@ second : (a b : Bool) → a ≡ true → a && b ≡ false → b ≡ false
 second true b h e = e
 second false b h e = absurd (true≢false (sym h))
 
-changed-items : (P : Node → Type 0) (fs : Fields) (i : ℕ) (g : Items → Items) → AllItems P (g (asItems (pieceIn fs i))) → AllItems P (asItems (pieceIn (changeIn fs i (onItems g)) i))
-unfolding pieceIn changeIn onItems
-changed-items P Fields.done i g h = tt
-changed-items P (Fields.absent fs) zero g h = tt
-changed-items P (Fields.absent fs) (suc i) g h = changed-items P fs i g h
-changed-items P (Fields.field (Piece.one n) fs) zero g h = tt
-changed-items P (Fields.field (Piece.list is) fs) zero g h = h
-changed-items P (Fields.field (Piece.text bs) fs) zero g h = tt
-changed-items P (Fields.field (Piece.byte b) fs) zero g h = tt
-changed-items P (Fields.field (Piece.mark b) fs) zero g h = tt
-changed-items P (Fields.field (Piece.number b) fs) zero g h = tt
-changed-items P (Fields.field p fs) (suc i) g h = changed-items P fs i g h
-
 five-three : _≡_ {A = ℕ} 5 3 → ⊥
 five-three z = omega arith
 
@@ -117,11 +105,11 @@ two-zero z = omega arith
 
 -- ---- depths
 
-value-depth : {a : ℕ} {q : Node} → PropertyView a q → depth (value q) < depth q
+value-depth : {T : Texts} {a : ℕ} {q : Node} → PropertyView T a q → depth (value q) < depth q
 unfolding nodeAt pieceIn depth
 value-depth (PropertyView.property x y z) = omega arith
 
-left-depth : {a : ℕ} {p : Node} → DefaultView a p → depth (leftOf p) < depth p
+left-depth : {T : Texts} {a : ℕ} {p : Node} → DefaultView T a p → depth (leftOf p) < depth p
 unfolding nodeAt pieceIn depth
 left-depth (DefaultView.defaulted a b) = omega arith
 
@@ -163,8 +151,8 @@ module _ (c : Context) where
       (λ h. rw h tt)
 
   -- the objects inside p replaced by f, which clears
-  object-taken : (f : Node → Node) (d : ℕ) → ((v : Node) → Lies 18 v → depth v ≤ d → (e : ℕ) → nearest true e (f v) ≡ Items.none) → (w : Bool) (p : Node) → Lies (patternAt false w) p → shape p ≡ objectPattern
-      → depth p ≤ suc d → Lies 15 (withValues f p) → (s : Node)
+  object-taken : {T : Texts} (f : Node → Node) (d : ℕ) → ((v : Node) → Lies T 18 v → depth v ≤ d → (e : ℕ) → nearest true e (f v) ≡ Items.none) → (w : Bool) (p : Node) → Lies T (patternAt false w) p → shape p ≡ objectPattern
+      → depth p ≤ suc d → Lies T 15 (withValues f p) → (s : Node)
       → AllItems Taken (keysBefore c (withValues f p)) × AllItems Taken (patternDeclarator c (withValues f p) s) × AllItems Taken (restDeclarator c (withValues f p) s)
   object-taken f d g w p l o k m s = (
     before-taken (withValues f p),
@@ -173,7 +161,7 @@ module _ (c : Context) where
   )
 
   -- of each property's value, and of each item
-  gather-taken : (f : Node → Items) (d : ℕ) → ((v : Node) → Lies 18 v → depth v ≤ d → AllItems Taken (f v)) → {h : Bool} {is : Items} → LieItems 17 h is → depthItems is ≤ d → AllItems Taken (gather (λ q. f (value q)) is)
+  gather-taken : {T : Texts} (f : Node → Items) (d : ℕ) → ((v : Node) → Lies T 18 v → depth v ≤ d → AllItems Taken (f v)) → {h : Bool} {is : Items} → LieItems T 17 h is → depthItems is ≤ d → AllItems Taken (gather (λ q. f (value q)) is)
   unfolding gather depth
   gather-taken f d g LieItems.none k = tt
   gather-taken f d g (LieItems.hole a) k = gather-taken f d g a k
@@ -181,13 +169,13 @@ module _ (c : Context) where
       let z = value-depth (property-view false q x) in
       all-append Taken (f (value q)) (gather (λ q. f (value q)) is) (g (value q) (value-of false q x) (omega arith)) (gather-taken f d g a (omega arith))
 
-  items-taken : (f : Node → Items) (d : ℕ) → ((v : Node) → Lies 18 v → depth v ≤ d → AllItems Taken (f v)) → {h : Bool} {is : Items} → LieItems 18 h is → depthItems is ≤ d → AllItems Taken (gather f is)
+  items-taken : {T : Texts} (f : Node → Items) (d : ℕ) → ((v : Node) → Lies T 18 v → depth v ≤ d → AllItems Taken (f v)) → {h : Bool} {is : Items} → LieItems T 18 h is → depthItems is ≤ d → AllItems Taken (gather f is)
   unfolding gather depth
   items-taken f d g LieItems.none k = tt
   items-taken f d g (LieItems.hole a) k = items-taken f d g a k
   items-taken f d g (LieItems.item {n = n} {is = is} x a) k = all-append Taken (f n) (gather f is) (g n x (omega arith)) (items-taken f d g a (omega arith))
 
-  nested-taken : (d : ℕ) (w : Bool) (p : Node) → Lies (patternAt false w) p → depth p ≤ d → AllItems Taken (nested c d p)
+  nested-taken : {T : Texts} (d : ℕ) (w : Bool) (p : Node) → Lies T (patternAt false w) p → depth p ≤ d → AllItems Taken (nested c d p)
   unfolding nested own
   nested-taken zero w p l k = tt
   nested-taken (suc d) w p l k =
@@ -204,11 +192,11 @@ module _ (c : Context) where
       (λ e. rw (e, nested) (nested-taken d false (leftOf p) (left-whole false w p l e) (let z = left-depth (by-default false w p l e) in omega arith)))
       (λ e. rw (e, nested) tt)
 
-  objects-taken : (p : Node) → Lies 15 p → (s : Node) → shape p ≡ objectPattern → AllItems Taken (objectDeclarators c p s)
+  objects-taken : {T : Texts} (p : Node) → Lies T 15 p → (s : Node) → shape p ≡ objectPattern → AllItems Taken (objectDeclarators c p s)
   unfolding objectDeclarators
-  objects-taken p l s o =
+  objects-taken {T = T} p l s o =
       let q : Node = withValues (λ v. replacedBelow c v) p in
-      let m : Lies 15 q = values-lies false false (λ v. replacedBelow c v) (λ v n. replaced-lies c false (depth v) true v n) p l o in
+      let m : Lies T 15 q = values-lies false false (λ v. replacedBelow c v) (λ v n. replaced-lies c false (depth v) true v n) p l o in
       let t = object-taken (λ v. replacedBelow c v) (depth p) (λ v n i j. replaced-clear c false (depth v) true v n (omega arith) j) false p l o (omega arith) m s in
       all-append Taken (keysBefore c q) (patternDeclarator c q s +++ gather (λ r. nestedBelow c (value r)) (properties p) +++ restDeclarator c q s) (t .0)
       (all-append Taken (patternDeclarator c q s) (gather (λ r. nestedBelow c (value r)) (properties p) +++ restDeclarator c q s) (t .1)
@@ -216,7 +204,7 @@ module _ (c : Context) where
       (gather-taken (λ x. nestedBelow c x) (depth p) (λ x n i. nested-taken (depth x) true x n (omega arith)) (properties-of false false p l o) (let z = items-depth 0 p in omega arith))
       (t .2)))
 
-  patterns-taken : (p : Node) → Lies 15 p → (s : Node) → AllItems Taken (patternDeclarators c p s)
+  patterns-taken : {T : Texts} (p : Node) → Lies T 15 p → (s : Node) → AllItems Taken (patternDeclarators c p s)
   unfolding patternDeclarators
   patterns-taken p l s =
       by-shape (shape p)
@@ -233,7 +221,7 @@ module _ (c : Context) where
   source-taken p init =
       all-cond Taken (isName init) Items.none (only (declares (valueOf c p) init)) tt (named-taken (c .path) 3 (Rattle.lowering.specs.Parts.position p) init, tt)
 
-  declarators-taken : (d : Node) → Lies 4 d → AllItems Taken (declarators c d)
+  declarators-taken : {T : Texts} (d : Node) → Lies T 4 d → AllItems Taken (declarators c d)
   unfolding declarators isLowered stands nodeAt lowerDeclarator
   declarators-taken (node at k fs) l =
       let f = declarator-fields c l in
@@ -243,33 +231,33 @@ module _ (c : Context) where
       (λ e. rw e (all-append Taken (sourceDeclarator c p init) (patternDeclarators c p (source c p init)) (source-taken p init) (patterns-taken p (node-at f 0 (stands-at f 0 refl)) (source c p init))))
       (λ e. rw e ((λ h. bare-clear (depth p) p (second (standsIn fs 1) (hasObjectRest p) h e)), tt))
 
-  declared-settled : {at : ℕ} {fs : Fields} → LieFields 0 (must Sort.mark ∷ must (Sort.byte 1 3) ∷ must (Sort.many 4) ∷ []) fs → Settled (node at 4 (changeIn fs 2 (onItems (gather (declarators c)))))
+  declared-settled : {T : Texts} {at : ℕ} {fs : Fields} → LieFields T 0 (must Sort.mark ∷ must (Sort.byte 1 3) ∷ must (Sort.many 4) ∷ []) fs → Settled (node at 4 (changeIn fs 2 (onItems (gather (declarators c)))))
   unfolding changeIn onItems pieceIn
-  declared-settled (LieFields.needed (LiePiece.mark a) (LieFields.needed (LiePiece.byte x y z) (LieFields.needed (LiePiece.many {is = ds} b) LieFields.done))) =
-      Settled.ofDeclaration (all-gather (Lies 4) Taken (declarators c) declarators-taken ds (all-of b))
+  declared-settled {T = T} (LieFields.needed (LiePiece.mark a) (LieFields.needed (LiePiece.byte x y z) (LieFields.needed (LiePiece.many {is = ds} b) LieFields.done))) =
+      Settled.ofDeclaration (all-gather (Lies T 4) Taken (declarators c) declarators-taken ds (all-of b))
 
-  declaration-settled : (p at : ℕ) (fs : Fields) → Lies p (node at 4 fs) → Settled (declaration c (node at 4 fs))
+  declaration-settled : {T : Texts} (p at : ℕ) (fs : Fields) → Lies T p (node at 4 fs) → Settled (declaration c (node at 4 fs))
   unfolding declaration change fieldsOf kinds
   declaration-settled p at fs l = declared-settled (fields-at p 4 4 (must Sort.mark ∷ must (Sort.byte 1 3) ∷ must (Sort.many 4) ∷ []) refl (form-4 p (may-stand l)) refl l refl)
 
   -- ---- heads
 
-  behind-still : (at k : ℕ) {fs : Fields} → LieFields 0 boundFields fs → Still (leftBehind c (node at k fs))
+  behind-still : {T : Texts} (at k : ℕ) {fs : Fields} → LieFields T 0 boundFields fs → Still (leftBehind c (node at k fs))
   unfolding leftBehind isMoved nodeAt change changeIn onNode pieceIn
   behind-still at k (LieFields.needed (LiePiece.child {n = p} x) f) =
       by-test (hasObjectRest p)
       (λ h. rw h (movedOut-bare c false (depth p) false p x (omega arith) (depth (movedOut c (depth p) p))))
       (λ h. rw h h)
 
-  param-still : (q : Node) → Lies 7 q → Still (leftBehind c q)
+  param-still : {T : Texts} (q : Node) → Lies T 7 q → Still (leftBehind c q)
   param-still (node at k fs) l = behind-still at k (param-fields l)
 
   unmoved-still : (is : Items) → any isMoved is ≡ false → AllItems Still is
   unfolding isMoved
   unmoved-still is h = none-passes isMoved is h
 
-  params-still : {h : Bool} (is : Items) → LieItems 7 h is → AllItems Still (each (leftBehind c) is)
-  params-still is l = all-each (Lies 7) Still (leftBehind c) param-still is (all-of l)
+  params-still : {T : Texts} {h : Bool} (is : Items) → LieItems T 7 h is → AllItems Still (each (leftBehind c) is)
+  params-still {T = T} is l = all-each (Lies T 7) Still (leftBehind c) param-still is (all-of l)
 
   -- fields 3 and 5 of a Function, 0 and 2 of an Arrow
   changed-still : (fs : Fields) (i j : ℕ) (f : Piece → Piece) → (j ≡ i → ⊥) → AllItems Still (each (leftBehind c) (asItems (pieceIn fs i)))
@@ -278,7 +266,7 @@ module _ (c : Context) where
       subst (λ (x : Piece). AllItems Still (asItems x)) (sym (other-changed (changeIn fs i (onItems (each (leftBehind c)))) j f i d))
       (changed-items Still fs i (each (leftBehind c)) h)
 
-  function-settled : (p at : ℕ) (fs : Fields) → Lies p (node at 14 fs) → Settled (function c (node at 14 fs))
+  function-settled : {T : Texts} (p at : ℕ) (fs : Fields) → Lies T p (node at 14 fs) → Settled (function c (node at 14 fs))
   unfolding function change itemsAt stands
   function-settled p at fs l = go (function-forms p (may-stand l))
     where
@@ -289,7 +277,7 @@ module _ (c : Context) where
           (λ h. rw h (Settled.ofFunction (λ b. changed-still fs 3 5 _ five-three (params-still (asItems (pieceIn fs 3)) (list-at f 3)))))
           (λ h. rw h (Settled.ofFunction (λ b. unmoved-still (asItems (pieceIn fs 3)) (second (standsIn fs 5) (any isMoved (asItems (pieceIn fs 3))) b h))))
 
-  arrow-settled : (p at : ℕ) (fs : Fields) → Lies p (node at 17 fs) → Settled (arrow c (node at 17 fs))
+  arrow-settled : {T : Texts} (p at : ℕ) (fs : Fields) → Lies T p (node at 17 fs) → Settled (arrow c (node at 17 fs))
   unfolding arrow change itemsAt fieldsOf kinds
   arrow-settled p at fs l =
       let f = fields-at p 17 17 (must (Sort.many 7) ∷ may (Sort.child 15) ∷ must (Sort.child 9) ∷ []) refl (form-17 p (may-stand l)) refl l refl in
@@ -297,7 +285,7 @@ module _ (c : Context) where
       (λ h. rw h (Settled.ofArrow (changed-still fs 0 2 _ two-zero (params-still (asItems (pieceIn fs 0)) (list-at f 0)))))
       (λ h. rw h (Settled.ofArrow (unmoved-still (asItems (pieceIn fs 0)) h)))
 
-  caught-settled : (at : ℕ) {fs : Fields} → LieFields 0 (may (Sort.child 7) ∷ must (Sort.child 5) ∷ []) fs → Settled (catch c (node at 10 fs))
+  caught-settled : {T : Texts} (at : ℕ) {fs : Fields} → LieFields T 0 (may (Sort.child 7) ∷ must (Sort.child 5) ∷ []) fs → Settled (catch c (node at 10 fs))
   unfolding catch change changeIn onNode nodeAt pieceIn isMoved hasNestedObjectRest shape depth
   caught-settled at (LieFields.absent f) = Settled.ofCatch refl
   caught-settled at (LieFields.given (LiePiece.child {n = q} x) f) =
@@ -305,7 +293,7 @@ module _ (c : Context) where
       (λ h. rw h (Settled.ofCatch (param-still q x)))
       (λ h. rw h (Settled.ofCatch h))
 
-  for-settled : (at k : ℕ) {ts : List Field} {fs : Fields} → LieFields 0 (forFields c ts) fs → ((gs : Fields) → (is 4 (asNode (pieceIn gs 1)) ≡ false → hasObjectRest (asNode (pieceIn gs 1)) ≡ false) → Settled (node at k gs))
+  for-settled : {T : Texts} (at k : ℕ) {ts : List Field} {fs : Fields} → LieFields T 0 (forFields c ts) fs → ((gs : Fields) → (is 4 (asNode (pieceIn gs 1)) ≡ false → hasObjectRest (asNode (pieceIn gs 1)) ≡ false) → Settled (node at k gs))
       → (is 4 (nodeAt 1 (node at k fs)) ≡ true → Settled (declaringHead c (node at k fs))) × (is 4 (nodeAt 1 (node at k fs)) ≡ false → Settled (assigningHead c (node at k fs)))
   unfolding declaringHead assigningHead change changeIn onNode nodeAt pieceIn is
   for-settled at k (LieFields.needed (LiePiece.mark {m = m} a) (LieFields.needed (LiePiece.child {n = x} y) f)) make = (
@@ -322,17 +310,17 @@ kept-28 : {at : ℕ} {fs : Fields} → Settled (node at 28 fs)
 kept-28 = Settled.ofOther refl refl refl refl refl refl refl refl
 
 module _ (c : Context) where
-  abbrev Q : Node → Step → Type 0
-  Q n s = (p : ℕ) → Lies p n → s .note .refusal ≡ 0 → Settled (s .result)
+  abbrev Q : (T : Texts) → Node → Step → Type 0
+  Q T n s = (p : ℕ) → Lies T p n → s .note .refusal ≡ 0 → Settled (s .result)
 
-  declarations-settle : (at : ℕ) (fs : Fields) → Q (node at 4 fs) (stepDeclaration c (node at 4 fs))
+  declarations-settle : {T : Texts} (at : ℕ) (fs : Fields) → Q T (node at 4 fs) (stepDeclaration c (node at 4 fs))
   unfolding stepDeclaration
   declarations-settle at fs p l =
       by-number (declarationRefusal c (node at 4 fs))
       (λ r e. rw (e, stepDeclaration) (λ z. absurd (omega arith)))
       (λ e. rw (e, stepDeclaration) (λ z. declaration-settled c p at fs l))
 
-  assignments-settle : (at : ℕ) (fs : Fields) → Q (node at 27 fs) (stepAssignment c (node at 27 fs))
+  assignments-settle : {T : Texts} (at : ℕ) (fs : Fields) → Q T (node at 27 fs) (stepAssignment c (node at 27 fs))
   unfolding stepAssignment stepTop topSequence nestedSequence nodeAt
   assignments-settle at fs p l =
       let n = node at 27 fs in
@@ -346,9 +334,9 @@ module _ (c : Context) where
       (λ o. rw (a, stepAssignment) (rw u (rw o (λ z. kept-28))))
       (λ o. rw (a, stepAssignment) (rw u (rw o (λ z. Settled.ofAssignment o))))))
 
-  fors-settle : (j : ℕ) (ts : List Field) → eqb j 20 ≡ false → ((p : ℕ) → 0 < formAt rewritten p j → formAt rewritten p j ≡ j) → fieldsOf j ≡ forFields c ts
+  fors-settle : {T : Texts} (j : ℕ) (ts : List Field) → eqb j 20 ≡ false → ((p : ℕ) → 0 < formAt rewritten p j → formAt rewritten p j ≡ j) → fieldsOf j ≡ forFields c ts
       → ((at : ℕ) (gs : Fields) → (is 4 (asNode (pieceIn gs 1)) ≡ false → hasObjectRest (asNode (pieceIn gs 1)) ≡ false) → Settled (node at j gs))
-      → (at : ℕ) (fs : Fields) → Q (node at j fs) (stepFor c (node at j fs))
+      → (at : ℕ) (fs : Fields) → Q T (node at j fs) (stepFor c (node at j fs))
   unfolding stepFor
   fors-settle j ts e g u make at fs p l =
       let f = fields-at p j j (forFields c ts) e (g p (may-stand l)) u l refl in
@@ -359,9 +347,9 @@ module _ (c : Context) where
       (λ a. rw (d, stepFor) (rw a (λ z. absurd (omega arith))))
       (λ a. rw (d, stepFor) (rw a (λ z. s .1 d))))
 
-  pub settled : (n : Node) (p : ℕ) → Lies p n → rewrite c n .note .refusal ≡ 0 → Settled (rewrite c n .result)
+  pub settled : {T : Texts} (n : Node) (p : ℕ) → Lies T p n → rewrite c n .note .refusal ≡ 0 → Settled (rewrite c n .result)
   unfolding fieldsOf kinds
-  settled = by-rules c Q (record {
+  settled {T = T} = by-rules c (Q T) (record {
     literals = λ at fs p l z. literal-settled at fs;
     declarations = declarations-settle;
     assignments = assignments-settle;

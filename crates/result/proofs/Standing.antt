@@ -18,7 +18,7 @@ use Rattle.lowering.specs.Visits.{ItemAt, NodeIn, FieldAt, PartAt, Stands}
 use Rattle.lowering.specs.Walk.{rewrite, ruleOf}
 use Rattle.lowering.proofs.Cases.{by-test, or-left, or-right}
 use Rattle.result.specs.Left.{keepsSpread}
-use Rattle.result.proofs.Lies.{Lies, LieFields, LiePiece, LieItems, fields-of, sortAt, may-stand, list-at}
+use Rattle.result.proofs.Lies.{Texts, Lies, LieFields, LiePiece, LieItems, fields-of, sortAt, may-stand, list-at}
 use Rattle.result.proofs.PatternViews.{fields-at}
 use Rattle.result.proofs.Expressions.{takes-24, form-24}
 use Rattle.result.proofs.Rules.{leaves}
@@ -41,18 +41,18 @@ come-field (ComeFields.absent a) (FieldAt.behindAbsent f) = let r = come-field a
 come-field (ComeFields.field c a) (FieldAt.first f) = let r = come-in c f in (r .0, FieldAt.first (r .1), r .2)
 come-field (ComeFields.field c a) (FieldAt.behind f) = let r = come-field a f in (r .0, FieldAt.behind (r .1), r .2)
 
-pub lie-item : {p : ℕ} {h : Bool} {is : Items} → LieItems p h is → {j : ℕ} {x : Node} → ItemAt is j x → Lies p x
+pub lie-item : {T : Texts} {p : ℕ} {h : Bool} {is : Items} → LieItems T p h is → {j : ℕ} {x : Node} → ItemAt is j x → Lies T p x
 lie-item (LieItems.hole a) (ItemAt.behindHole i) = lie-item a i
 lie-item (LieItems.item x a) ItemAt.first = x
 lie-item (LieItems.item x a) (ItemAt.behind i) = lie-item a i
 
-lie-in : {b d : ℕ} {s : Sort} {p : Piece} → LiePiece b s p d → {j : ℕ} {x : Node} → NodeIn p j x → (q : ℕ) × Lies q x
+lie-in : {T : Texts} {b d : ℕ} {s : Sort} {p : Piece} → LiePiece T b s p d → {j : ℕ} {x : Node} → NodeIn p j x → (q : ℕ) × Lies T q x
 lie-in (LiePiece.child {p = q} x) NodeIn.one = (q, x)
 lie-in (LiePiece.chosen {b = b} {p = p} {q = q} x) NodeIn.one = (cond (eqb b 1) p q, x)
 lie-in (LiePiece.many {p = q} a) (NodeIn.list i) = (q, lie-item a i)
 lie-in (LiePiece.gaps {p = q} a) (NodeIn.list i) = (q, lie-item a i)
 
-pub lie-field : {b : ℕ} {ts : List Field} {fs : Fields} → LieFields b ts fs → {i j : ℕ} {x : Node} → FieldAt fs i j x → (q : ℕ) × Lies q x
+pub lie-field : {T : Texts} {b : ℕ} {ts : List Field} {fs : Fields} → LieFields T b ts fs → {i j : ℕ} {x : Node} → FieldAt fs i j x → (q : ℕ) × Lies T q x
 lie-field (LieFields.absent a) (FieldAt.behindAbsent f) = lie-field a f
 lie-field (LieFields.needed x a) (FieldAt.first f) = lie-in x f
 lie-field (LieFields.needed x a) (FieldAt.behind f) = lie-field a f
@@ -86,27 +86,27 @@ held (FieldAt.behindAbsent f) = held f
 -- ---- every node
 
 -- y is left of a node that lies at a place, and is settled
-pub record From (y : Node) : Type 0 where
+pub record From (T : Texts) (y : Node) : Type 0 where
   pub place : ℕ
   pub before : Node
   pub left : Left before y
-  pub lies : Lies place before
+  pub lies : Lies T place before
   pub calm : Settled before
 
-pub from : {x y : Node} → Comes x y → (p : ℕ) → Lies p x → From y
+pub from : {T : Texts} {x y : Node} → Comes x y → (p : ℕ) → Lies T p x → From T y
 from (Comes.comes c {n = n} e l) p x = record { place = p; before = rewrite c n .result; left = l; lies = leaves c p n x .tree e; calm = settled c n p x e }
 
-below : {at k : ℕ} {gs : Fields} {i j : ℕ} {z r : Node} {p : ℕ} → FieldAt gs i j z → Left r (node at k gs) → Lies p r → From z
+below : {T : Texts} {at k : ℕ} {gs : Fields} {i j : ℕ} {z r : Node} {p : ℕ} → FieldAt gs i j z → Left r (node at k gs) → Lies T p r → From T z
 below i (Left.kept t a) l =
     let x = come-field a i in
     let q = lie-field (fields-of l t .1) (x .1) in
     from (x .2) (q .0) (q .1)
 below i (Left.named c) l = absurd (true≢false (sym (held i)))
 
-part-from : {y z : Node} {i j : ℕ} → PartAt y i j z → From y → From z
+part-from : {T : Texts} {y z : Node} {i j : ℕ} → PartAt y i j z → From T y → From T z
 part-from (PartAt.part i) f = below i (f .left) (f .lies)
 
-pub standing : {a b : List ℕ} {y z : Node} → Stands a y b z → From y → From z
+pub standing : {T : Texts} {a b : List ℕ} {y z : Node} → Stands a y b z → From T y → From T z
 standing Stands.here f = f
 standing (Stands.onward i s) f = standing s (part-from i f)
 
@@ -147,11 +147,11 @@ unchanged-25 : (c : Context) (n : Node) → kind n ≡ 25 → kind (rewrite c n 
 unfolding rewrite ruleOf
 unchanged-25 c (node at k fs) e = rw e refl
 
-property-comes : {x y : Node} → Comes x y → Lies 12 x → is 26 x ≡ false → is 26 y ≡ false
+property-comes : {T : Texts} {x y : Node} → Comes x y → Lies T 12 x → is 26 x ≡ false → is 26 y ≡ false
 unfolding is
 property-comes (Comes.comes c {n = n} e l) m h = rw (left-kind l ∙ unchanged-25 c n (property-kind (kind n) (may-stand m) h)) refl
 
-properties-come : {h : Bool} {is js : Items} → LieItems 12 h is → ComeItems is js → any (λ x. Rattle.lowering.specs.Parts.is 26 x) is ≡ false → any (λ x. Rattle.lowering.specs.Parts.is 26 x) js ≡ false
+properties-come : {T : Texts} {h : Bool} {is js : Items} → LieItems T 12 h is → ComeItems is js → any (λ x. Rattle.lowering.specs.Parts.is 26 x) is ≡ false → any (λ x. Rattle.lowering.specs.Parts.is 26 x) js ≡ false
 unfolding any
 properties-come LieItems.none ComeItems.none e = refl
 properties-come (LieItems.hole a) (ComeItems.hole b) e = properties-come a b e
@@ -159,7 +159,7 @@ properties-come (LieItems.item {n = n} {is = ns} x a) (ComeItems.item c b) e =
     rw (property-comes c x (or-left (Rattle.lowering.specs.Parts.is 26 n) (any (λ x. Rattle.lowering.specs.Parts.is 26 x) ns) e))
     (properties-come a b (or-right (Rattle.lowering.specs.Parts.is 26 n) (any (λ x. Rattle.lowering.specs.Parts.is 26 x) ns) e))
 
-literal-comes : {at k p : ℕ} {fs gs : Fields} → Settled (node at k fs) → Lies p (node at k fs) → ComeFields fs gs → eqb k 24 ≡ true → any (λ x. is 26 x) (asItems (pieceIn gs 0)) ≡ false
+literal-comes : {T : Texts} {at k p : ℕ} {fs gs : Fields} → Settled (node at k fs) → Lies T p (node at k fs) → ComeFields fs gs → eqb k 24 ≡ true → any (λ x. is 26 x) (asItems (pieceIn gs 0)) ≡ false
 unfolding fieldsOf kinds
 literal-comes {p = p} {fs = fs} (Settled.ofLiteral h) l a e =
     let f = fields-at p 24 24 (must (Sort.many 12) ∷ []) refl (form-24 p (takes-24 p (may-stand l))) refl l refl in
@@ -173,12 +173,12 @@ literal-comes (Settled.ofForIn h) l a e = absurd (true≢false (sym e))
 literal-comes (Settled.ofForOf h) l a e = absurd (true≢false (sym e))
 literal-comes (Settled.ofOther e₁ e₂ e₃ e₄ e₅ e₆ e₇ e₈) l a e = absurd (true≢false (sym e ∙ e₁))
 
-spread-none : {r y : Node} {p : ℕ} → Left r y → Lies p r → Settled r → keepsSpread y ≡ false
+spread-none : {T : Texts} {r y : Node} {p : ℕ} → Left r y → Lies T p r → Settled r → keepsSpread y ≡ false
 unfolding keepsSpread is itemsAt
 spread-none (Left.kept {k = k} {gs = gs} t a) l s =
     by-test (eqb k 24) (λ e. rw e (literal-comes s l a e)) (λ e. rw e refl)
 spread-none (Left.named c) l s = refl
 
 -- no object literal that stands in what is left of a node has a spread
-pub no-spread : {x y : Node} → Comes x y → (p : ℕ) → Lies p x → {a b : List ℕ} {z : Node} → Stands a y b z → keepsSpread z ≡ false
+pub no-spread : {T : Texts} {x y : Node} → Comes x y → (p : ℕ) → Lies T p x → {a b : List ℕ} {z : Node} → Stands a y b z → keepsSpread z ≡ false
 no-spread c p l s = let f = standing s (from c p l) in spread-none (f .left) (f .lies) (f .calm)

@@ -1,12 +1,17 @@
--- Examples, by computation: an input for each place where a rest is left, each the smallest, and what comes of it.
+-- Examples, by computation: an input for each place where a rest is left, each the smallest, and one whose marks are copied; and what comes of each.
 use mathlib.Core.Path.{_≡_, refl}
-use mathlib.Core.Bool.{true, false}
+use mathlib.Core.Bool.{Bool, true, false}
 use mathlib.Core.List.{List, [], _∷_}
 use Prim.Native.Nat.{ℕ}
+use Rattle.tree.specs.Tree.{Node}
+use Rattle.tree.specs.Grammar.Stage.{input}
+use Rattle.tree.specs.Read.{Got, readTree}
+use Rattle.tree.specs.Read.Got.{got, refused}
 use Rattle.lowering.specs.Answer.{Lent, highestLimit, lowering}
 use Rattle.lowering.specs.Answer.Result.{lowered}
 use Rattle.rewritten.specs.Rewritten.{isRewritten}
 use Rattle.result.specs.Leftover.{leftover}
+use Rattle.result.specs.Marks.{copiesMarks}
 
 abbrev plenty : Lent
 plenty = record { treeSlice = 32768; listSlice = 16384; workSlice = 65536 }
@@ -67,6 +72,23 @@ inExcludedList =
     0 ∷ 0 ∷ 1 ∷ 0 ∷ 5 ∷ 3 ∷ 20 ∷ 3 ∷ 1 ∷ 0 ∷ 2 ∷ 32 ∷ 1 ∷ 1 ∷ 0 ∷ 23 ∷ 3 ∷ 1 ∷ 0 ∷ 22 ∷ 7 ∷ 1 ∷ 1 ∷ 0 ∷ 113 ∷ 1 ∷ 0 ∷ 113 ∷ 1 ∷ 0 ∷ 24 ∷ 1 ∷ 1 ∷ 0 ∷
     26 ∷ 1 ∷ 18 ∷ 1 ∷ 1 ∷ 0 ∷ 122 ∷ []
 
+-- `` let {[`a`[function() { }]]: b, ...c} = d `` (lowering's `template-copied`), and its tree
+abbrev markCopied : List ℕ
+markCopied =
+    1 ∷ 1 ∷ 1 ∷ 0 ∷ 4 ∷ 7 ∷ 1 ∷ 0 ∷ 2 ∷ 1 ∷ 0 ∷ 5 ∷ 3 ∷ 34 ∷ 3 ∷ 1 ∷ 0 ∷ 35 ∷ 7 ∷ 23 ∷ 3 ∷ 1 ∷ 0 ∷ 22 ∷ 7 ∷ 1 ∷ 1 ∷ 0 ∷ 97 ∷ 1 ∷ 0 ∷ 97 ∷ 1 ∷ 0 ∷ 14 ∷
+    43 ∷ 2 ∷ 0 ∷ 2 ∷ 0 ∷ 0 ∷ 16 ∷ 2 ∷ 0 ∷ 0 ∷ 19 ∷ 1 ∷ 1 ∷ 0 ∷ 98 ∷ 1 ∷ 19 ∷ 1 ∷ 1 ∷ 0 ∷ 99 ∷ 18 ∷ 1 ∷ 1 ∷ 0 ∷ 100 ∷ []
+
+abbrev markCopiedTree : List ℕ
+markCopiedTree =
+    1 ∷ 1 ∷ 1 ∷ 0 ∷ 4 ∷ 7 ∷ 1 ∷ 0 ∷ 2 ∷ 2 ∷ 0 ∷ 5 ∷ 3 ∷ 34 ∷ 1 ∷ 1 ∷ 0 ∷ 35 ∷ 7 ∷ 23 ∷ 3 ∷ 1 ∷ 0 ∷ 22 ∷ 7 ∷ 1 ∷ 1 ∷ 0 ∷ 97 ∷ 1 ∷ 0 ∷ 97 ∷ 1 ∷ 0 ∷ 14 ∷
+    43 ∷ 2 ∷ 0 ∷ 2 ∷ 0 ∷ 0 ∷ 16 ∷ 2 ∷ 0 ∷ 0 ∷ 19 ∷ 1 ∷ 1 ∷ 0 ∷ 98 ∷ 1 ∷ 18 ∷ 1 ∷ 1 ∷ 0 ∷ 100 ∷ 5 ∷ 3 ∷ 19 ∷ 1 ∷ 1 ∷ 0 ∷ 99 ∷ 29 ∷ 3 ∷ 21 ∷ 1 ∷ 4 ∷ 2 ∷
+    0 ∷ 18 ∷ 1 ∷ 1 ∷ 0 ∷ 100 ∷ 32 ∷ 1 ∷ 1 ∷ 0 ∷ 23 ∷ 3 ∷ 1 ∷ 0 ∷ 22 ∷ 7 ∷ 1 ∷ 1 ∷ 0 ∷ 97 ∷ 1 ∷ 0 ∷ 97 ∷ 1 ∷ 0 ∷ 14 ∷ 43 ∷ 2 ∷ 0 ∷ 2 ∷ 0 ∷ 0 ∷ 16 ∷ 2 ∷
+    0 ∷ 0 ∷ []
+
+abbrev toldOf : Got Node → Bool
+toldOf (got n q k) = copiesMarks n
+toldOf (refused r) = false
+
 pub record Examples : Type 0 where
   -- `var [...{...a}] = b` comes back as it is, and a rest is left
   pub belowArrayRest-lowered : lowering highestLimit 0 belowArrayRest plenty ≡ lowered 0 0 belowArrayRest noList
@@ -87,6 +109,11 @@ pub record Examples : Type 0 where
   -- such a Template stands among the excluded keys of the list as in the input, its spread too
   pub inExcluded-lowered : lowering highestLimit 0 inExcluded plenty ≡ lowered 9 0 inExcludedTree inExcludedList
   pub inExcluded-none : leftover inExcludedTree ≡ false
+  -- the function's mark stands twice, and the test tells
+  pub markCopied-lowered : lowering highestLimit 0 markCopied plenty ≡ lowered 8 0 markCopiedTree noList
+  pub markCopied-twice : isRewritten markCopiedTree ≡ false
+  pub markCopied-told : toldOf (readTree input highestLimit markCopied) ≡ true
+  pub inExcluded-told : toldOf (readTree input highestLimit inExcluded) ≡ false
   -- no tree
   pub empty : leftover [] ≡ false
 
@@ -163,5 +190,6 @@ unfolding
     Rattle.lowering.specs.Answer.outcomeOf Rattle.lowering.specs.Answer.outcome Rattle.lowering.specs.Answer.inForce
     Rattle.result.specs.Leftover.leftover Rattle.result.specs.Leftover.restLeft Rattle.result.specs.Leftover.anyRest
     Rattle.result.specs.Left.keepsRest Rattle.rewritten.specs.Rewritten.isRewritten Rattle.rewritten.specs.Rewritten.readRewritten
-    Rattle.rewritten.specs.Rewritten.distinct
-examples = record { belowArrayRest-lowered = refl; belowArrayRest-left = refl; restParameter-lowered = refl; restParameter-left = refl; withoutBody-lowered = refl; withoutBody-left = refl; withoutValue-lowered = refl; withoutValue-left = refl; inKey-lowered = refl; inKey-rewritten = refl; inKey-none = refl; inExcluded-lowered = refl; inExcluded-none = refl; empty = refl }
+    Rattle.rewritten.specs.Rewritten.distinct Rattle.result.specs.Marks.holdsMark Rattle.result.specs.Marks.copiesAt
+    Rattle.result.specs.Marks.anyCopies Rattle.result.specs.Marks.copiesMarks
+examples = record { belowArrayRest-lowered = refl; belowArrayRest-left = refl; restParameter-lowered = refl; restParameter-left = refl; withoutBody-lowered = refl; withoutBody-left = refl; withoutValue-lowered = refl; withoutValue-left = refl; inKey-lowered = refl; inKey-rewritten = refl; inKey-none = refl; inExcluded-lowered = refl; inExcluded-none = refl; markCopied-lowered = refl; markCopied-twice = refl; markCopied-told = refl; inExcluded-told = refl; empty = refl }

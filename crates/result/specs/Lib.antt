@@ -1,5 +1,9 @@
 pub mod Left
 pub mod List
 pub mod Leftover
+pub mod Texts
+pub mod Causes
+pub mod Marks
+pub mod Handed
 pub mod Whole
 pub mod Examples

@@ -1,0 +1,174 @@
+-- What is left in the excluded keys of the list stands in Templates.
+-- Assumes nothing.
+use mathlib.Core.Path.{_≡_, refl, sym, ap, subst, _∙_}
+use mathlib.Core.Bool.{Bool, true, false, cond, not, _&&_, _||_, true≢false}
+use mathlib.Core.List.{List, [], _∷_, _++_}
+use Prim.Native.Nat.{ℕ, zero, suc}
+use native.Mathlib.Omega.{arith}
+use lib.Dec.{eqb}
+use Rattle.tree.specs.Tree.{Node, Fields, Piece, Items, count}
+use Rattle.tree.specs.Tree.Node.{node}
+use Rattle.lowering.specs.Parts.{is, stands, itemsAt, nodeAt, any, only, gather, _+++_}
+use Rattle.lowering.specs.Made.{Context, temporary, declares, array, string, excludedOf}
+use Rattle.lowering.specs.Visits.{ItemAt, NodeIn, FieldAt, PartAt, Stands}
+use Rattle.lowering.specs.Patterns.{key, properties, hasObjectRest, hasArrayRestOverObjectRest}
+use Rattle.lowering.specs.Keys.{Key, keySort, isPrimitive, allPrimitive, excludedKey, excludedKeys}
+use Rattle.lowering.specs.Keys.Key.{name, literal, template, private, again, other}
+use Rattle.lowering.specs.Rests.{isHoisted, hasNoProperties, excludedFor}
+use Rattle.lowering.specs.Declarations.{loweredIn, declarationExcludes, declarationRefusal}
+use Rattle.lowering.specs.Assignments.{target, isTop, topRefusal, topExcludes}
+use Rattle.lowering.specs.Walk.{Note, Step, rewrite, stepDeclaration, stepTop, stepAssignment, stepFor}
+use Rattle.lowering.specs.Weight.{walked}
+use Rattle.lowering.specs.Collect.{Name, Visit, excludedIn, visits, numbered, numberedItems, withNumber}
+use Rattle.lowering.proofs.Cases.{by-number, by-test, by-key, and-left, and-right, not-true}
+use Rattle.lowering.proofs.All.{AllItems, all-append, all-gather, all-unit, none-passes}
+use Rattle.lowering.proofs.Notes.{AllNotes, in-walked}
+use Rattle.result.specs.Left.{keepsRest, keepsSpread, InTemplate, ExcludedLeft}
+use Rattle.result.proofs.Standing.{held}
+use Rattle.result.proofs.ByRule.{Rules, by-rules}
+
+-- a string, or a Template
+data Plain : Node → Type 0 where
+  spelled : {form : List ℕ} → Plain (string form)
+  templated : {at : ℕ} {fs : Fields} → Plain (node at 23 fs)
+
+-- a declarator of such keys
+data Hoisted : Node → Type 0 where
+  hoisted : {path : List ℕ} {stem at : ℕ} {ks : Items} → AllItems Plain ks → Hoisted (declares (temporary path stem at) (array ks))
+
+template-is : (k : Node) → keySort k ≡ template → is 23 k ≡ true
+unfolding keySort
+template-is k e = go (is 38 k) (is 22 k) (is 23 k) (eqb (count (itemsAt 0 k)) 1) (is 39 k) (is 20 k || (is 18 k && stands 1 k)) e
+  where
+    go : (a b c d f g : Bool) → cond a name (cond b literal (cond (c && d) template (cond f private (cond g again other)))) ≡ template → c ≡ true
+    go true b c d f g e = let z : _≡_ {A = ℕ} 0 1 = cc in absurd (omega arith)
+    go false true c d f g e = let z : _≡_ {A = ℕ} 0 1 = cc in absurd (omega arith)
+    go false false true d f g e = refl
+    go false false false d true g e = let z : _≡_ {A = ℕ} 0 1 = cc in absurd (omega arith)
+    go false false false d false true e = let z : _≡_ {A = ℕ} 0 1 = cc in absurd (omega arith)
+    go false false false d false false e = let z : _≡_ {A = ℕ} 0 1 = cc in absurd (omega arith)
+
+template-plain : (k : Node) → is 23 k ≡ true → Plain k
+unfolding is
+template-plain (node at k fs) e = subst (λ (j : ℕ). Plain (node at j fs)) (sym (borrow.Author.Tests.eqb-true k 23 e)) Plain.templated
+
+module _ (c : Context) where
+  key-plain : (q : Node) → isPrimitive (key q) ≡ true → AllItems Plain (excludedKey c q)
+  unfolding excludedKey isPrimitive
+  key-plain q h =
+      by-key (keySort (key q))
+      (λ e. rw (e, excludedKey) (Plain.spelled, tt))
+      (λ e. rw (e, excludedKey) (Plain.spelled, tt))
+      (λ e. rw (e, excludedKey) (template-plain (key q) (template-is (key q) e), tt))
+      (λ e. rw (e, excludedKey) tt)
+      (λ e. absurd (true≢false (sym h ∙ rw (e, isPrimitive) refl)))
+      (λ e. absurd (true≢false (sym h ∙ rw (e, isPrimitive) refl)))
+
+  keys-plain : (p : Node) → allPrimitive p ≡ true → AllItems Plain (excludedKeys c p)
+  unfolding excludedKeys allPrimitive
+  keys-plain p h =
+      all-gather (λ q. not (isPrimitive (key q)) ≡ false) Plain (excludedKey c) (λ q e. key-plain q (is-true (isPrimitive (key q)) e)) (properties p)
+      (none-passes (λ q. not (isPrimitive (key q))) (properties p) (not-true (any (λ q. not (isPrimitive (key q))) (properties p)) h))
+    where
+      is-true : (b : Bool) → not b ≡ false → b ≡ true
+      is-true true e = refl
+      is-true false e = absurd (true≢false e)
+
+  excluded-plain : (p : Node) → AllItems Hoisted (excludedFor c p)
+  unfolding excludedFor isHoisted
+  excluded-plain p =
+      by-test (isHoisted c p)
+      (λ e. rw e (Hoisted.hoisted (keys-plain p (and-right (not (hasNoProperties p)) (allPrimitive p) (and-right (not (c .root)) (not (hasNoProperties p) && allPrimitive p) e))), tt))
+      (λ e. rw e tt)
+
+  declaration-plain : (n : Node) → AllItems Hoisted (declarationExcludes c n)
+  unfolding declarationExcludes
+  declaration-plain n =
+      all-gather (λ d. Unit {0}) Hoisted (λ d. gather (excludedFor c) (loweredIn c d))
+      (λ d u. all-gather (λ p. Unit {0}) Hoisted (excludedFor c) (λ p v. excluded-plain p) (loweredIn c d) (all-unit (loweredIn c d))) (itemsAt 2 n) (all-unit (itemsAt 2 n))
+
+  top-plain : (n : Node) → AllItems Hoisted (topExcludes c n)
+  unfolding topExcludes
+  top-plain n = excluded-plain (target n)
+
+  abbrev Q : Node → Step → Type 0
+  Q n s = AllItems Hoisted (s .note .excluded)
+
+  declarations-plain : (at : ℕ) (fs : Fields) → Q (node at 4 fs) (stepDeclaration c (node at 4 fs))
+  unfolding stepDeclaration
+  declarations-plain at fs = by-number (declarationRefusal c (node at 4 fs)) (λ r e. rw (e, stepDeclaration) tt) (λ e. rw (e, stepDeclaration) (declaration-plain (node at 4 fs)))
+
+  assignments-plain : (at : ℕ) (fs : Fields) → Q (node at 27 fs) (stepAssignment c (node at 27 fs))
+  unfolding stepAssignment stepTop
+  assignments-plain at fs =
+      let n = node at 27 fs in
+      by-test (hasArrayRestOverObjectRest (target n))
+      (λ a. rw (a, stepAssignment) tt)
+      (λ a. by-test (isTop (target n))
+      (λ u. by-number (topRefusal n)
+      (λ r k. rw (a, stepAssignment) (rw u (rw (k, stepTop) tt)))
+      (λ k. rw (a, stepAssignment) (rw u (rw (k, stepTop) (top-plain n)))))
+      (λ u. by-test (hasObjectRest (target n))
+      (λ o. rw (a, stepAssignment) (rw u (rw o tt)))
+      (λ o. rw (a, stepAssignment) (rw u (rw o tt)))))
+
+  fors-plain : (k at : ℕ) (fs : Fields) → Q (node at k fs) (stepFor c (node at k fs))
+  unfolding stepFor
+  fors-plain k at fs =
+      by-test (is 4 (nodeAt 1 (node at k fs)))
+      (λ d. rw (d, stepFor) tt)
+      (λ d. by-test (hasArrayRestOverObjectRest (nodeAt 1 (node at k fs))) (λ a. rw (d, stepFor) (rw a tt)) (λ a. rw (d, stepFor) (rw a tt)))
+
+  note-plain : (n : Node) → AllItems Hoisted (rewrite c n .note .excluded)
+  note-plain = by-rules c Q (record {
+    literals = λ at fs. tt;
+    declarations = declarations-plain;
+    assignments = assignments-plain;
+    functions = λ at fs. tt;
+    arrows = λ at fs. tt;
+    catches = λ at fs. tt;
+    forIns = fors-plain 7;
+    forOfs = fors-plain 8;
+    nowhere = λ at k fs e₁ e₂ e₃ e₄ e₅ e₆ e₇ e₈. tt;
+  })
+
+-- ---- with numbers
+
+module _ (ns : List Name) where
+  -- a key: it is a Template, or nothing is left in it
+  key-left : {k : Node} → Plain k → {p q : List ℕ} {x : Node} → Stands p (numbered ns k) q x → (keepsRest x || keepsSpread x) ≡ true → is 23 (numbered ns k) ≡ true
+  unfolding numbered keepsRest keepsSpread is
+  key-left Plain.spelled Stands.here k = absurd (true≢false (sym k))
+  key-left Plain.spelled (Stands.onward (PartAt.part a) s) k = absurd (true≢false (sym (held a)))
+  key-left Plain.templated s k = refl
+
+  keys-left : (ks : Items) → AllItems Plain ks → {j : ℕ} {z : Node} → ItemAt (numberedItems ns ks) j z → {p q : List ℕ} {x : Node} → Stands p z q x → (keepsRest x || keepsSpread x) ≡ true → is 23 z ≡ true
+  unfolding numbered
+  keys-left (Items.hole ks) h (ItemAt.behindHole a) s k = keys-left ks h a s k
+  keys-left (Items.item n ks) h ItemAt.first s k = key-left (h .0) s k
+  keys-left (Items.item n ks) h (ItemAt.behind a) s k = keys-left ks (h .1) a s k
+
+  hoisted-left : {d : Node} → Hoisted d → ExcludedLeft (numbered ns d)
+  unfolding numbered withNumber keepsRest keepsSpread is
+  hoisted-left (Hoisted.hoisted h) q x Stands.here k = absurd (true≢false (sym k))
+  hoisted-left (Hoisted.hoisted h) q x (Stands.onward (PartAt.part (FieldAt.first NodeIn.one)) Stands.here) k = absurd (true≢false (sym k))
+  hoisted-left (Hoisted.hoisted h) q x (Stands.onward (PartAt.part (FieldAt.first NodeIn.one)) (Stands.onward (PartAt.part a) s)) k = absurd (true≢false (sym (held a)))
+  hoisted-left (Hoisted.hoisted h) q x (Stands.onward (PartAt.part (FieldAt.behind (FieldAt.first NodeIn.one))) Stands.here) k = absurd (true≢false (sym k))
+  hoisted-left (Hoisted.hoisted {ks = ks} h) q x (Stands.onward (PartAt.part (FieldAt.behind (FieldAt.first NodeIn.one))) (Stands.onward (PartAt.part (FieldAt.first (NodeIn.list a))) s)) k =
+      InTemplate.inTemplate (PartAt.part (FieldAt.behind (FieldAt.first NodeIn.one))) (PartAt.part (FieldAt.first (NodeIn.list a))) (keys-left ks h a s k) s
+
+  items-left : (is : Items) → AllItems Hoisted is → {j : ℕ} {d : Node} → ItemAt (numberedItems ns is) j d → ExcludedLeft d
+  unfolding numbered
+  items-left (Items.hole is) h (ItemAt.behindHole a) = items-left is h a
+  items-left (Items.item n is) h ItemAt.first = hoisted-left (h .0)
+  items-left (Items.item n is) h (ItemAt.behind a) = items-left is (h .1) a
+
+  all-hoisted : (vs : List Visit) → AllNotes (λ note. AllItems Hoisted (note .excluded)) vs → AllItems Hoisted (excludedIn vs)
+  unfolding excludedIn
+  all-hoisted [] h = tt
+  all-hoisted (v ∷ vs) h = all-append Hoisted (v .note .excluded) (excludedIn vs) (h .0) (all-hoisted vs (h .1))
+
+  pub excluded-left : (c : Context) (n : Node) (next m j : ℕ) (d : Node) → ItemAt (numberedItems ns (excludedIn (visits next m (walked c n)))) j d → ExcludedLeft d
+  excluded-left c n next m j d a =
+      items-left (excludedIn (visits next m (walked c n)))
+      (all-hoisted (visits next m (walked c n)) (in-walked (λ note. AllItems Hoisted (note .excluded)) (λ n. tt) (λ d k. note-plain d k) c n next m)) a
