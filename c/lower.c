@@ -21,6 +21,7 @@ static const char *why(uint8_t answer, size_t len) {
     case REST_SPREAD_REST_BELOW_ARRAY_REST:
         return "an assignment or a for head takes an object rest from below an array rest";
     case REST_SPREAD_KEY_WITHOUT_FORM: return "an excluded key is a literal without its string form";
+    case REST_SPREAD_OTHER_FORM: return "an excluded key is a number with a string form that is not its own";
     case REST_SPREAD_TOO_LONG: return "the lowered tree is longer than 32,768 bytes, or its list than 16,384";
     case REST_SPREAD_LIMIT_OUTSIDE: return "the depth limit is 0 or above 128";
     default: return "for a reason that this program does not know";

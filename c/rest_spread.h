@@ -1,9 +1,9 @@
 /* Object rest and spread, lowered from tree bytes to tree bytes: the functions of librest_spread.a, one of libcounting.a,
- * two of libdrawing.a, one of libordering.a and one of libprinter.a.
+ * two of libdrawing.a, one of libjoining.a, one of libordering.a and one of libprinter.a.
  *
- * The archives are made by `rt staticlib rest_spread`, `counting`, `drawing`, `ordering` and `printer`, are for x86-64 Linux, and can be
- * linked together. They need memcpy, memmove and memset of the C library and nothing else: they allocate nothing, keep nothing
- * between calls, and read and write no file.
+ * The archives are made by `rt staticlib rest_spread`, `counting`, `drawing`, `joining`, `ordering` and `printer`, are for
+ * x86-64 Linux, and can be linked together. They need memcpy, memmove and memset of the C library and nothing else: they
+ * allocate nothing, keep nothing between calls, and read and write no file.
  *
  * Trees and lists are described in docs/FORMAT.md, lower.c is a whole program. */
 #ifndef REST_SPREAD_H
@@ -18,7 +18,7 @@ extern "C" {
 
 /* The version of what is promised below. Compare it with rest_spread_version() before the first call: an archive of another
  * version may be linked and then do something else. An archive from before there were versions does not link. */
-#define REST_SPREAD_VERSION 3
+#define REST_SPREAD_VERSION 4
 
 /* The longest tree that is read. */
 #define REST_SPREAD_TREE_IN 16384
@@ -59,13 +59,16 @@ extern "C" {
 /* an assignment, or the head of a for loop, whose target has an array rest with an object rest below it, as in
  * [...[{...a}]] = b */
 #define REST_SPREAD_REST_BELOW_ARRAY_REST 5
-/* an object whose rest is taken has a key that is a Literal without its form, as in var {[/q/]: a, ...r} = s. Of 5 and 6
- * the one that the walk meets first is given, 5 before the keys of its target */
+/* an object whose rest is taken has a key that is a Literal without its form, as in var {[/q/]: a, ...r} = s, and no number
+ * whose string is worked out. Of 5, 6 and 11 the one that the walk meets first is given, 5 before the keys of its target */
 #define REST_SPREAD_KEY_WITHOUT_FORM 6
 /* the lowered tree is longer than 32,768 bytes or than tree_out_len, or the list longer than 16,384 or than list_out_len */
 #define REST_SPREAD_TOO_LONG 7
 /* a depth limit of 0 or above 128, which is looked at before all else */
 #define REST_SPREAD_LIMIT_OUTSIDE 9
+/* an object whose rest is taken has a key that is a number, and its form is not the string of that number: decimal digits
+ * without a leading zero, 0, or 0x and hexadecimal digits, up to 9,007,199,254,740,991 */
+#define REST_SPREAD_OTHER_FORM 11
 
 struct rest_spread_lowered {
     uint8_t answer;  /* 0, or the number of the refusal; at a refusal all else is 0 */
@@ -91,7 +94,7 @@ uint32_t rest_spread_version(void);
  *
  * What the caller gets, for every input
  *   The call ends. It reads tree and nothing else, and writes tree_out, list_out and work and nothing else.
- *   The answer is 0 to 7, or 9 for a limit, by the table above, and depends on the arguments alone.
+ *   The answer is 0 to 7, 9 or 11, by the table above, and depends on the arguments alone.
  *   If it is 0, tree_out begins with the lowered tree, which has tree_len bytes, and list_out with its list, which has
  *   list_len; all bytes behind them are zero; helpers and options say what they say above.
  *   If it is not, tree_len, list_len, helpers and options are 0, and all bytes of tree_out and list_out are zero.
@@ -162,6 +165,29 @@ struct rest_spread_xorshift {
 
 uint32_t xorshift_next(struct rest_spread_xorshift *g);
 
+/* Answers of rest_spread_join: the list is none that goes with the tree; an entry's statement is not there. */
+#define REST_SPREAD_NOT_A_LIST 12
+#define REST_SPREAD_NO_SUCH_STATEMENT 13
+
+struct rest_spread_joined {
+    uint8_t answer;  /* 0, or the first that is due of 3, 12, 13 and 7 */
+    size_t tree_len; /* the bytes of tree_out that are the joined tree; 0 at a refusal */
+};
+
+/* Puts the declarations that a lowering handed out into place: each entry of list becomes a var before the statement of tree
+ * that has its mark, the excluded keys one const at the head of the program. New statements take the lowest marks that both
+ * leave free. It stands in libjoining.a.
+ *
+ * 3 if tree is no rewritten tree; 12 if list is off its layout, has more than 16,384 bytes, or has a mark inside that stands
+ * twice, in it or in it and tree; 13 if no statement in the body of a Program, Block, FunctionBody, StaticBlock or Case has
+ * the mark of an entry; 7 if the joined tree has more than 32,768 or tree_out_len bytes.
+ *
+ * None of the three is NULL, not even for a length of 0, and tree_out overlaps neither of the others; nothing else is asked.
+ * The call ends and writes tree_out and nothing else: the joined tree, and zeros behind it; at a refusal zeros. It takes some
+ * 0.7 MB of the stack. */
+struct rest_spread_joined rest_spread_join(const uint8_t *tree, size_t tree_len, const uint8_t *list, size_t list_len,
+                                           uint8_t *tree_out, size_t tree_out_len);
+
 struct rest_spread_ordered {
     uint8_t answer; /* 0, or 3 if one of the two is no rewritten tree */
     int8_t order;   /* -1, 0 or 1: the first is less than the second, equal or greater; 0 at a refusal */
@@ -192,6 +218,12 @@ struct rest_spread_printed {
  * tree and text_out are not NULL, not even for a length of 0, and do not overlap; nothing else is asked. The call ends
  * and writes text_out and nothing else: the text, and zeros behind it; at a refusal zeros. */
 struct rest_spread_printed rest_spread_text(const uint8_t *tree, size_t tree_len, uint8_t *text_out, size_t text_out_len);
+
+/* 1 if an object rest is left in a rewritten tree, such as a result, which an engine of ECMAScript 2017 does not take; else 0,
+ * and 0 for bytes that are none. Where one may be left: docs/RULES.md, 'What is left'. It stands in libresult.a.
+ *
+ * tree is not NULL, not even for a length of 0; nothing else is asked. The call ends, reads tree and writes nothing. */
+uint8_t rest_spread_leftover(const uint8_t *tree, size_t tree_len);
 
 #ifdef __cplusplus
 }

@@ -15,15 +15,17 @@ struct Archive {
     functions: &'static [&'static str],
 }
 
-const ARCHIVES: [Archive; 5] = [
+const ARCHIVES: [Archive; 7] = [
     Archive {
         name: "rest_spread",
         functions: &["rest_spread_lower", "rest_spread_lower_within", "rest_spread_version"],
     },
     Archive { name: "counting", functions: &["rest_spread_calls"] },
     Archive { name: "drawing", functions: &["rest_spread_draw", "xorshift_next"] },
+    Archive { name: "joining", functions: &["rest_spread_join"] },
     Archive { name: "ordering", functions: &["rest_spread_order"] },
     Archive { name: "printer", functions: &["rest_spread_text"] },
+    Archive { name: "result", functions: &["rest_spread_leftover"] },
 ];
 
 /// How long `rt staticlib` takes for all of them, from nothing.

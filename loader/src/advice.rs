@@ -65,6 +65,13 @@ pub struct Explained {
     pub advice: Option<Advice>,
 }
 
+/// A refusal with no advice.
+impl From<Refusal> for Explained {
+    fn from(refusal: Refusal) -> Self {
+        Explained { refusal, advice: None }
+    }
+}
+
 impl Lowerer {
     /// Looks a second time at a tree that this refusal was given for. It may take some hundred calls, and uses the buffers.
     pub fn explain(&mut self, tree: &[u8], refusal: Refusal) -> Explained {
@@ -73,7 +80,7 @@ impl Lowerer {
         let advice = match refusal {
             Refusal::NotATree => no_tree(tree, limit),
             Refusal::TooDeep => first_fault(tree, limit).filter(is_deep).map(Advice::Deep),
-            Refusal::RestBelowArrayRest | Refusal::KeyWithoutForm => {
+            Refusal::RestBelowArrayRest | Refusal::KeyWithoutForm | Refusal::OtherForm => {
                 Asking::new(self).statement(tree, refusal).map(|mark| Advice::Statement { mark })
             }
             Refusal::TooLong => {

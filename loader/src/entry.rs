@@ -80,6 +80,26 @@ pub struct Ordered {
     pub order: i8,
 }
 
+/// What [`join`] returns. The bytes of the tree are in the slice.
+///
+/// ```
+/// use rest_spread::entry;
+///
+/// let (tree, list, mut out) = (b"\x01\x01\x00\x00", [0; 4], [1; 5]);
+/// let joined = entry::join(tree, &list, &mut out);
+/// assert_eq!((joined.answer, joined.tree_len, out), (0, 4, [1, 1, 0, 0, 0]));
+/// assert_eq!(entry::join(tree, b"", &mut out).answer, 12);
+/// ```
+#[repr(C)]
+#[derive(Clone, Copy, Debug, PartialEq, Eq)]
+pub struct Joined {
+    /// 0, 3 if the tree is no rewritten tree, 12 if the list is none that goes with it, 13 if an entry's statement is not
+    /// there, or 7 if the joined tree is longer than the slice or than 32,768 bytes.
+    pub answer: u8,
+    /// How many bytes of the slice are the tree, 0 at a refusal.
+    pub tree_len: usize,
+}
+
 /// What [`text`] returns. The bytes of the text are in the slice.
 ///
 /// ```
@@ -117,6 +137,8 @@ pub struct Xorshift {
 // The layouts that the archives were compiled with.
 const _: () = assert!(size_of::<Drawn>() == 16 && offset_of!(Drawn, answer) == 0);
 const _: () = assert!(offset_of!(Drawn, next) == 4 && offset_of!(Drawn, tree_len) == 8);
+const _: () = assert!(size_of::<Joined>() == 16);
+const _: () = assert!(offset_of!(Joined, answer) == 0 && offset_of!(Joined, tree_len) == 8);
 const _: () = assert!(size_of::<Ordered>() == 2);
 const _: () = assert!(offset_of!(Ordered, answer) == 0 && offset_of!(Ordered, order) == 1);
 const _: () = assert!(size_of::<Printed>() == 16);
@@ -140,11 +162,24 @@ extern "C" {
 
     fn xorshift_next(g: *mut Xorshift) -> u32;
 
+    // In libjoining.a.
+    fn rest_spread_join(
+        tree: *const u8,
+        tree_len: usize,
+        list: *const u8,
+        list_len: usize,
+        tree_out: *mut u8,
+        tree_out_len: usize,
+    ) -> Joined;
+
     // In libordering.a.
     fn rest_spread_order(first: *const u8, first_len: usize, second: *const u8, second_len: usize) -> Ordered;
 
     // In libprinter.a.
     fn rest_spread_text(tree: *const u8, tree_len: usize, text_out: *mut u8, text_out_len: usize) -> Printed;
+
+    // In libresult.a.
+    fn rest_spread_leftover(tree: *const u8, tree_len: usize) -> u8;
 
     // In Rattle each slice is one parameter. It is passed as its address and its length.
     fn rest_spread_lower(
@@ -250,6 +285,19 @@ pub fn draw(seed: u32, tree_out: &mut [u8]) -> Drawn {
     unsafe { rest_spread_draw(seed, tree_out.as_mut_ptr(), tree_out.len()) }
 }
 
+/// Puts the declarations of `list` into `tree`, and writes the joined tree into `tree_out`. [`Joiner`](crate::Joiner) has the
+/// same with a buffer and refusals by name.
+///
+/// Any bytes and a slice of any length will do. After success the slice is zero behind the tree, after a refusal it is
+/// zero throughout.
+#[must_use]
+pub fn join(tree: &[u8], list: &[u8], tree_out: &mut [u8]) -> Joined {
+    // SAFETY: the function is proved for every three slices: it reads two, writes the third, stays inside each and ends.
+    unsafe {
+        rest_spread_join(tree.as_ptr(), tree.len(), list.as_ptr(), list.len(), tree_out.as_mut_ptr(), tree_out.len())
+    }
+}
+
 /// The order of two rewritten trees, of the first against the second. Any two slices.
 #[must_use]
 pub fn order(first: &[u8], second: &[u8]) -> Ordered {
@@ -265,6 +313,21 @@ pub fn order(first: &[u8], second: &[u8]) -> Ordered {
 pub fn text(tree: &[u8], text_out: &mut [u8]) -> Printed {
     // SAFETY: the function is proved for every two slices: it reads the one, writes the other, stays inside both and ends.
     unsafe { rest_spread_text(tree.as_ptr(), tree.len(), text_out.as_mut_ptr(), text_out.len()) }
+}
+
+/// Whether an object rest is left in a rewritten tree; `false` for bytes that are none. Any slice.
+/// [`leftovers`](crate::Lowered::leftovers) says where.
+///
+/// ```
+/// // var {...a};
+/// let tree = b"\x01\x01\x01\x00\x04\x07\x01\x00\x01\x01\x00\x05\x01\x22\x03\x00\x00\x13\x01\x01\x00a";
+/// assert!(rest_spread::entry::leftover(tree));
+/// assert!(!rest_spread::entry::leftover(b"\x01\x01\x00\x00"));
+/// ```
+#[must_use]
+pub fn leftover(tree: &[u8]) -> bool {
+    // SAFETY: the function is proved for every slice: it reads it, writes nothing and ends.
+    unsafe { rest_spread_leftover(tree.as_ptr(), tree.len()) == 1 }
 }
 
 /// Advances a generator, and gives its next number.

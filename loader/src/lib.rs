@@ -28,7 +28,8 @@
 //! | [`calls()`] | how many literals lead to how many calls |
 //! | [`draw()`], [`Series`] | trees drawn from seeds, for a load that is the same everywhere |
 //! | [`order()`] | which of two trees comes first |
-//! | [`Printer`] | a lowered tree as JavaScript |
+//! | [`Joiner`] | the program that is loaded: a tree with the declarations of its list in place |
+//! | [`Printer`] | a tree as JavaScript |
 //!
 //! `docs/FORMAT.md` of the repository describes the tree bytes.
 
@@ -45,6 +46,7 @@ mod drawing;
 pub mod entry;
 mod grammar;
 mod helpers;
+mod joiner;
 mod kind;
 mod leftover;
 mod list;
@@ -64,6 +66,7 @@ pub use calls::calls;
 pub use drawing::{draw, Drawing, Series};
 pub use grammar::{Fault, Trouble};
 pub use helpers::{Helper, Helpers};
+pub use joiner::Joiner;
 pub use kind::Kind;
 pub use leftover::{Left, Leftover};
 pub use list::{Declarator, Declarators, Entries, Entry, List};
@@ -78,7 +81,7 @@ pub use stem::Stem;
 pub use walk::{Path, Step, Turn, Walk};
 
 /// The version of the archive that this crate is for. It goes up with what the archive's functions promise.
-pub const ARCHIVE: u32 = 3;
+pub const ARCHIVE: u32 = 4;
 /// The longest tree that is read.
 pub const TREE_IN: usize = 16_384;
 /// The highest depth limit, and the one where none is named. The Program is at level 1.

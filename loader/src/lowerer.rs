@@ -1,6 +1,6 @@
 //! The safe layer over the entry.
 
-use crate::{entry, Helpers, List, Options, Refusal, ARCHIVE, LEVELS, LIST_OUT, TREE_OUT, WORK};
+use crate::{entry, Helpers, Joiner, List, Options, Refusal, ARCHIVE, LEVELS, LIST_OUT, TREE_OUT, WORK};
 use std::fmt;
 
 /// The lowering with its own three buffers, which every call uses again.
@@ -50,6 +50,27 @@ pub struct Lowered<'a> {
     /// Those of the given options that are in force: not the 8. None of them is implemented; the tree is the same without
     /// them.
     pub options: Options,
+}
+
+impl Lowered<'_> {
+    /// The program that is loaded: the tree with the declarations of the list in place. A [`Joiner`] that is kept does the
+    /// same over one buffer.
+    ///
+    /// ```
+    /// use rest_spread::{Lowerer, Options};
+    ///
+    /// let mut lowerer = Lowerer::new();
+    /// let lowered = lowerer.lower(Options::NONE, b"\x01\x01\x00\x00")?;
+    /// assert_eq!(lowered.joined()?, lowered.tree);
+    /// # Ok::<(), rest_spread::Refusal>(())
+    /// ```
+    ///
+    /// # Errors
+    /// As of [`Joiner::join`]: [`Refusal::TooLong`] if it has more than 32,768 bytes; [`Refusal::NotATree`] or
+    /// [`Refusal::NotAList`] if a mark stands twice in what was lowered.
+    pub fn joined(&self) -> Result<Vec<u8>, Refusal> {
+        Joiner::new().join(self.tree, self.list.bytes()).map(<[u8]>::to_vec)
+    }
 }
 
 impl Lowerer {

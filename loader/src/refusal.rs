@@ -25,7 +25,7 @@ pub enum Refusal {
     TooDeep,
     /// An assignment or the head of a loop has an object rest below an array rest.
     RestBelowArrayRest,
-    /// An excluded key is a literal without a form.
+    /// An excluded key is a literal without a form, and no number whose string is worked out.
     KeyWithoutForm,
     /// The result passes a limit or a slice.
     TooLong,
@@ -35,6 +35,12 @@ pub enum Refusal {
     LimitOutside,
     /// The text of a tree is longer than the slice. A [`Printer`](crate::Printer) has one that is long enough.
     TextTooLong,
+    /// An excluded key is a number whose form is not its string.
+    OtherForm,
+    /// The bytes are no list, or one with a mark that stands twice, in it or in it and its tree.
+    NotAList,
+    /// An entry of a list names a statement that its tree has not, or has where no declaration can stand before it.
+    NoSuchStatement,
     /// More items than [`calls()`](crate::calls()) counts patterns of.
     PatternTooLong,
     /// A number that this version has no name for: the archive is newer. Such a value is made by
@@ -92,6 +98,24 @@ const TABLE: &[(Refusal, u8, &str, &str)] = &[
         10,
         "the text of the tree is longer than the slice that was lent for it",
         "lend the call 294,912 bytes, which hold every text",
+    ),
+    (
+        OtherForm,
+        11,
+        "an object whose rest is taken has a key that is a number, with a string form that is not that number's",
+        "see that the exporter writes the form of the number that it spells, or leaves it off",
+    ),
+    (
+        NotAList,
+        12,
+        "the list is none, or has a mark that stands twice, in it or in it and the tree",
+        "give the tree and the list of one lowering, and see that both were copied whole",
+    ),
+    (
+        NoSuchStatement,
+        13,
+        "an entry of the list names a statement that does not stand in a body of the tree",
+        "give the tree and the list of one lowering",
     ),
     (
         PatternTooLong,
@@ -175,7 +199,7 @@ mod tests {
             assert_eq!(refusal == Unknown(number), !Refusal::ALL.contains(&refusal));
         }
         let numbers: Vec<u8> = Refusal::ALL.iter().map(|refusal| refusal.number()).collect();
-        assert_eq!(numbers, [1, 2, 3, 4, 5, 6, 7, 8, 9, 10, 14]);
+        assert_eq!(numbers, [1, 2, 3, 4, 5, 6, 7, 8, 9, 10, 11, 12, 13, 14]);
     }
 
     #[test]

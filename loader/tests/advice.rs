@@ -5,8 +5,8 @@ mod common;
 use common::cases::{stored, Lowerers};
 use common::draw::{damage, Chance, Grammar};
 use common::make::{
-    assign, blocks, expression, function, key_twice, key_without_form, nested, other, padded, program, reference,
-    rest_below_array_rest, rests, spreads,
+    assign, blocks, expression, function, key_twice, key_without_form, nested, other, other_form, padded, program,
+    reference, rest_below_array_rest, rests, spreads,
 };
 use common::seeds;
 use rest_spread::{
@@ -134,10 +134,10 @@ fn statement_within(lowerer: &mut Lowerer, tree: &[u8]) -> Option<u16> {
     }
 }
 
-/// Each of the two refusals, at the root, in a block, in a function in an expression, and behind others of its sort.
+/// Each refusal of the walk, at the root, in a block, in a function in an expression, and behind others of its sort.
 #[test]
 fn the_statement_is_that_of_the_refusal() {
-    for fault in [rest_below_array_rest(), key_without_form()] {
+    for fault in [rest_below_array_rest(), key_without_form(), other_form()] {
         let bad = || expression(fault.clone());
         let good = || expression(reference("a"));
         assert_eq!(statement(&program([bad()])), Some(1));
@@ -162,7 +162,7 @@ fn the_statement_is_that_of_the_refusal() {
 #[test]
 fn every_stored_refusal_in_the_walk_has_its_statement() {
     let (mut lowerers, mut count) = (Lowerers::default(), 0);
-    for case in stored().into_iter().filter(|case| [5, 6].contains(&case.answer)) {
+    for case in stored().into_iter().filter(|case| [5, 6, 11].contains(&case.answer)) {
         let marks = Walk::new(&case.tree).filter(|step| matches!(step, Step::Mark(_))).count();
         let mark = statement_within(lowerers.within(case.depth), &case.tree).unwrap();
         assert!((1..=marks).contains(&mark.into()), "{}", case.name);

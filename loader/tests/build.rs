@@ -11,12 +11,14 @@ use std::time::{Duration, SystemTime};
 
 const FUNCTIONS: &str = "rest_spread_lower rest_spread_lower_within rest_spread_version";
 const DRAWING: &str = "rest_spread_draw xorshift_next";
-const ARCHIVES: [(&str, &str); 5] = [
+const ARCHIVES: [(&str, &str); 7] = [
     ("librest_spread.a", FUNCTIONS),
     ("libcounting.a", "rest_spread_calls"),
     ("libdrawing.a", DRAWING),
+    ("libjoining.a", "rest_spread_join"),
     ("libordering.a", "rest_spread_order"),
     ("libprinter.a", "rest_spread_text"),
+    ("libresult.a", "rest_spread_leftover"),
 ];
 
 /// A repository without archives: the script, compiled, and an `rt` that writes them.
@@ -40,11 +42,15 @@ fn made(name: &str) -> Option<Made> {
     fs::create_dir_all(root.join("loader")).unwrap();
     fs::create_dir_all(root.join("crates/rest_spread/src")).unwrap();
     fs::write(root.join("crates/rest_spread/src/lib.rt"), "").unwrap();
-    fs::write(root.join("crates.txt"), "rest_spread: emit\ncounting:\ndrawing:\nordering:\nprinter:\n").unwrap();
+    fs::write(
+        root.join("crates.txt"),
+        "rest_spread: emit\ncounting:\ndrawing:\njoining:\nordering:\nprinter:\nresult:\n",
+    )
+    .unwrap();
     fs::create_dir(root.join("bin")).unwrap();
     let rt = format!(
         "#!/bin/sh\nset -eu\necho \"words: $*\"; echo 'rt: proved' >&2\n[ -f refuse ] && exit 1\nmkdir -p target/staticlib\n\
-         echo '{FUNCTIONS} rest_spread_calls {DRAWING} rest_spread_order rest_spread_text' >target/staticlib/lib$2.a\n"
+         echo '{FUNCTIONS} rest_spread_calls {DRAWING} rest_spread_join rest_spread_order rest_spread_text rest_spread_leftover' >target/staticlib/lib$2.a\n"
     );
     fs::write(root.join("bin/rt"), rt).unwrap();
     fs::set_permissions(root.join("bin/rt"), Permissions::from_mode(0o755)).unwrap();
@@ -110,7 +116,7 @@ fn it_proves_on_request_and_passes_on_what_is_said() {
     let Some(made) = made("build_prove") else { return };
     let ran = made.run(&[("REST_SPREAD_PROVE", "1")]);
     assert!(ran.well, "{}", ran.err);
-    for name in ["rest_spread", "counting", "drawing", "ordering", "printer"] {
+    for name in ["rest_spread", "counting", "drawing", "joining", "ordering", "printer", "result"] {
         assert!(ran.err.contains(&format!("words: staticlib {name}")), "{}", ran.err);
         assert!(ran.out.contains(&format!("cargo:rustc-link-lib=static:+verbatim=lib{name}.a")), "{}", ran.out);
     }

@@ -11,7 +11,7 @@ use rest_spread::{List, Node, LEVELS};
 
 /// How many calls gave each answer.
 #[derive(Debug, Default)]
-struct Answers([usize; 10]);
+struct Answers([usize; 12]);
 
 impl Answers {
     fn add(&mut self, answer: u8) {

@@ -24,7 +24,8 @@ fn stored() -> Vec<(u32, u32, Vec<u8>)> {
             0 => 6 + wide(2),
             1 => 10 + wide(4) + wide(6) + wide(8),
             2 => 14 + wide(8) + wide(10) + wide(12),
-            _ => 10 + wide(8),
+            3 => 10 + wide(8),
+            _ => 9 + wide(3) + wide(5) + wide(7),
         };
         if kind == 3 {
             all.push((number(0), number(4), case[10..length].to_vec()));
@@ -83,8 +84,8 @@ fn a_series_is_lowered() {
         assert_eq!(drawing.seed, seed);
         assert!(drawing.tree.len() <= DRAWN && drawing.next != 0);
         if let Err(refusal) = lowerer.lower(Options::NONE, &drawing.tree) {
-            use Refusal::{KeyWithoutForm, RestBelowArrayRest, TooLong};
-            assert!([RestBelowArrayRest, KeyWithoutForm, TooLong].contains(&refusal), "{seed}: {refusal}");
+            use Refusal::{KeyWithoutForm, OtherForm, RestBelowArrayRest, TooLong};
+            assert!([RestBelowArrayRest, KeyWithoutForm, OtherForm, TooLong].contains(&refusal), "{seed}: {refusal}");
         }
         seed = drawing.next;
     }

@@ -2,7 +2,7 @@
 
 mod common;
 
-use common::make::{blocks, expression, key_without_form, program, rest_below_array_rest, rests, spreads};
+use common::make::{blocks, expression, key_without_form, other_form, program, rest_below_array_rest, rests, spreads};
 use common::{folder, skip};
 use rest_spread::{
     Helper, Options, Refusal, ARCHIVE, DRAWN, LEVELS, LIST_OUT, LONGEST_PATTERN, TEXT, TREE_IN, TREE_OUT, WORK,
@@ -126,12 +126,13 @@ fn the_c_example_works() {
         (program([expression(rest_below_array_rest())]), 5),
         (program([expression(key_without_form())]), 6),
         (program([rests(900)]), 7),
+        (program([expression(other_form())]), 11),
     ];
     for (tree, number) in refused {
         let (status, out, err) = run(&tree);
         assert_eq!((status, out.as_str()), (number, ""), "{err}");
-        let (begins, rest) = err.split_at("refused with 3: ".len());
-        assert!(begins == format!("refused with {number}: ") && rest.len() > 10, "{err}");
+        let rest = err.strip_prefix(&format!("refused with {number}: "));
+        assert!(rest.is_some_and(|rest| rest.len() > 10), "{err}");
     }
     let listing = program([spreads(1)]);
     let statuses = ["0", "1", "4", "5", "128", "129", "4294967301"].map(|depth| run_with(&[depth], &listing).0);

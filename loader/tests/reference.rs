@@ -18,7 +18,7 @@ fn drawn_trees_are_lowered_as_the_reference_does() {
     };
     let grammar = Grammar::new();
     let drawn = seeds(20_000).map(|seed| draw(&grammar, seed));
-    let cases: Vec<Vec<u8>> = drawn.filter(|case| !has_rest_below_rest(&case[1..])).collect();
+    let cases: Vec<Vec<u8>> = drawn.filter(|case| !is_beyond(&case[1..])).collect();
     let lines: String = cases.iter().map(|case| to_hex(case) + "\n").collect();
     // Document 01 copies a template key as it stands, and so does the program if it is told to.
     let mut child = Command::new(&program)
@@ -51,20 +51,33 @@ fn draw(grammar: &Grammar, seed: u64) -> Vec<u8> {
     [&[chance.below(17) as u8][..], &tree].concat()
 }
 
-/// Whether in the target of an assignment, or of a head that assigns, an object with a rest stands below another one. There
-/// request 6 has another rule than the reference.
-fn has_rest_below_rest(tree: &[u8]) -> bool {
-    Node::read(tree).is_some_and(|(root, _)| has_such_target(root))
+/// Whether a request may have another rule than the reference: 6, where in the target of an assignment, or of a head that
+/// assigns, an object with a rest stands below another one; 8, where a number that is all digits has no form, or another's.
+fn is_beyond(tree: &[u8]) -> bool {
+    Node::read(tree).is_some_and(|(root, _)| is_or_has_such(root))
 }
 
-fn has_such_target(node: Node) -> bool {
+fn is_or_has_such(node: Node) -> bool {
     let assigns = matches!(node.kind(), Kind::Assignment | Kind::ForIn | Kind::ForOf);
     assigns && child(node, 1).is_some_and(|target| nests(target, false))
+        || is_such_number(node)
         || node.fields().any(|(_, field)| match field {
-            Field::Node(below) => has_such_target(below),
-            Field::List(items) => items.nodes().any(has_such_target),
+            Field::Node(below) => is_or_has_such(below),
+            Field::List(items) => items.nodes().any(is_or_has_such),
             _ => false,
         })
+}
+
+fn is_such_number(node: Node) -> bool {
+    let (Kind::Literal, Some(Field::Byte(2)), Some(Field::Text(spelling))) =
+        (node.kind(), node.field(0), node.field(1))
+    else {
+        return false;
+    };
+    let digits = spelling.strip_prefix(b"0x").unwrap_or(spelling);
+    let is_plain = spelling.first() != Some(&b'0') || spelling.len() == 1;
+    let is_own_form = is_plain && matches!(node.field(2), Some(Field::Text(form)) if form == spelling);
+    !digits.is_empty() && digits.iter().all(u8::is_ascii_hexdigit) && !is_own_form
 }
 
 /// Whether an object with a rest stands below another one; `inside` says that one is around the target.

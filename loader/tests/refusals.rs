@@ -13,6 +13,8 @@ const LISTING: &[u8] = b"\x01\x01\x01\x00\x03\x03\x01\x00\x18\x01\x01\x00\x1a\x0
 const FIVE: &str = "01010100030301001b070124030000240101002203000012010100611201010062";
 /// `var {[/q/]: a, ...r} = s`
 const SIX: &str = "0101010004070100010100050322030100230716030603002f712f13010100610113010100721201010073";
+/// `let {5: a, ...r} = s`, with the form `6`
+const ELEVEN: &str = "0101010004070100020100050322030100230716070201003501003613010100610013010100721201010073";
 
 fn refused(options: u32, tree: &[u8]) -> Option<Refusal> {
     Lowerer::new().lower(Options::from_bits(options), tree).err()
@@ -95,6 +97,11 @@ fn a_key_without_a_form_is_refused_with_6() {
 }
 
 #[test]
+fn a_form_that_is_not_its_numbers_is_refused_with_11() {
+    assert_eq!(refused(0, &from_hex(ELEVEN)), Some(Refusal::OtherForm));
+}
+
+#[test]
 fn what_does_not_fit_its_slice_is_refused_with_7() {
     assert_eq!(Rig::new(23, LIST_OUT, WORK).run(0, LISTING).outcome.answer, 7);
     assert_eq!(Rig::new(TREE_OUT, 3, WORK).run(0, LISTING).outcome.answer, 7);
@@ -129,7 +136,7 @@ fn a_list_over_16384_bytes_is_refused_with_7() {
     assert_eq!(refused(0, &tree(LIST_OUT + 2)), Some(Refusal::TooLong));
 }
 
-/// The documents' order: 9, 1, 2, over-length, 3 or 4 by place, 5 or 6 by walk, 7.
+/// The documents' order: 9, 1, 2, over-length, 3 or 4 by place, 5, 6 or 11 by walk, 7.
 #[test]
 fn the_first_refusal_is_given() {
     let five = from_hex(FIVE);

@@ -130,8 +130,8 @@ fn steps(bytes: &[u8]) -> (usize, usize) {
 fn every_stored_tree_and_every_stored_result_is_read() {
     let (mut read, mut holes) = (0, 0);
     for case in stored() {
-        // Of a refusal 5, 6 or 7 the input is a tree.
-        let input = [0, 5, 6, 7].contains(&case.answer).then_some(&case.tree);
+        // Of a refusal 5, 6, 7 or 11 the input is a tree.
+        let input = [0, 5, 6, 7, 11].contains(&case.answer).then_some(&case.tree);
         for bytes in input.into_iter().chain((case.answer == 0).then_some(&case.tree_out)) {
             let (program, behind) = Node::read(bytes).unwrap_or_else(|| panic!("{}", case.name));
             assert_eq!((program.kind(), behind.len()), (Kind::Program, 0), "{}", case.name);

@@ -29,8 +29,8 @@ const BASE_DEPTH: u32 = 64;
 const RETIRED: u8 = 8;
 /// The files of the requests that are in force: those in `tests/data`, and those that hold as they are elsewhere.
 /// `tools/cases.py` says of all of them what holds.
-const REQUESTS: [&str; 3] = ["classes", "parts", "stems"];
-const WHOLE: [&str; 3] = ["cr12", "cr5", "cr6"];
+const REQUESTS: [&str; 4] = ["classes", "numbers", "parts", "stems"];
+const WHOLE: [&str; 4] = ["cr12", "cr5", "cr6", "cr8"];
 /// A part of a file that holds no longer, by the first words of its head.
 const NO_LONGER: &str = "---- with temporaries, while request 4 is not in force";
 
@@ -131,6 +131,12 @@ fn read_vectors(path: &Path) -> Vec<Case> {
             // A case of drawing: the seed and the state after its tree, the tree's length.
             let [_, _, _, _, _, _, _, _, low, high] = take(&mut left);
             left = &left[usize::from(u16::from_le_bytes([low, high]))..];
+            continue;
+        }
+        if kind == 4 {
+            // A case of joining: the answer, the lengths of the slice, of the tree, of the list and of the joined tree.
+            let ([_, _, _], lengths) = (take(&mut left), [(); 3].map(|()| u16::from_le_bytes(take(&mut left))));
+            left = &left[lengths.map(usize::from).iter().sum()..];
             continue;
         }
         let depth = (kind == 2).then(|| u32::from_le_bytes(take(&mut left)));

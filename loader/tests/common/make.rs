@@ -51,6 +51,11 @@ pub fn key_without_form() -> Make {
     rest_by_key(Kind::Literal.make().byte(6).text("/q/"))
 }
 
+/// `{[5]: a, ...b} = c`, the `5` with the form `6`, which is refused with 11.
+pub fn other_form() -> Make {
+    rest_by_key(Kind::Literal.make().byte(2).text("5").text("6"))
+}
+
 /// A Block of these statements, and so many Blocks around it, each in the last.
 pub fn nested(count: usize, inner: impl IntoIterator<Item = Make>) -> Make {
     (1..count).fold(Kind::Block.make().list(inner), |block, _| Kind::Block.make().list([block]))

@@ -78,7 +78,7 @@ impl Ran<'_> {
         assert!(is_zero(&self.tree[tree_len..]), "the tree slice is not zero behind the tree: {}", say());
         assert!(is_zero(&self.list[list_len..]), "the list slice is not zero behind the list: {}", say());
         let is_limit = depth.is_none_or(|depth| (1..=LEVELS).contains(&depth));
-        assert!(if is_limit { answer <= 7 } else { answer == 9 }, "{}", say());
+        assert!(if is_limit { answer <= 7 || answer == 11 } else { answer == 9 }, "{}", say());
         if answer == 0 {
             assert!(tree_len <= TREE_OUT && list_len <= LIST_OUT, "{}", say());
             assert!(u32::from(reported) == options & IN_FORCE && helpers < 32, "{}", say());

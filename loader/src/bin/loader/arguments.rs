@@ -17,6 +17,8 @@ that failed and a count. What failed is told on standard error.
 
   -t, --tree FILE      write the lowered tree to FILE (one input)
   -l, --list FILE      write the list to FILE (one input)
+      --join FILE      write the lowered tree with the list's declarations in
+                       place, which is what is loaded, to FILE (one input)
   -d, --into FOLDER    write NAME.lowered and NAME.list to FOLDER for each
                        input NAME
   -s, --strict         refuse a result in which an object rest or spread is
@@ -26,7 +28,7 @@ that failed and a count. What failed is told on standard error.
                        does: answer, helper mask and options mask; the tree;
                        the list
   -j, --json           print a line of JSON for each input
-      --text           print the lowered tree of each input as JavaScript
+      --text           print each input, lowered and joined, as JavaScript
   -o, --options N      1 loose + 2 useBuiltIns + 4 objectRestNoSymbols; 8 may be
                        set and does nothing. 0 if not given. They are reported
                        and have no effect
@@ -78,6 +80,7 @@ pub struct Arguments {
     pub inputs: Vec<Input>,
     pub tree: Option<PathBuf>,
     pub list: Option<PathBuf>,
+    pub join: Option<PathBuf>,
     pub into: Option<PathBuf>,
     pub strict: bool,
     pub hex: bool,
@@ -140,6 +143,7 @@ pub fn parse(words: impl Iterator<Item = OsString>) -> Result<Wish, String> {
         match flag.as_str() {
             "-t" | "--tree" => wish.tree = Some(next()?.into()),
             "-l" | "--list" => wish.list = Some(next()?.into()),
+            "--join" => wish.join = Some(next()?.into()),
             "-d" | "--into" => wish.into = Some(next()?.into()),
             "-o" | "--options" => wish.options = Options::from_bits(number("--options", &next()?)?),
             "--depth" => wish.depth = Some(number("--depth", &next()?)?),
@@ -206,7 +210,7 @@ impl Arguments {
 
     /// Nothing is asked for that has to do with lowering.
     fn lowers_nothing(&self) -> bool {
-        let files = self.tree.is_some() || self.list.is_some();
+        let files = self.tree.is_some() || self.list.is_some() || self.join.is_some();
         let told = self.strict || self.hex || self.json || self.text;
         !files && !told && self.depth.is_none() && !self.options_first && self.options == Options::NONE
     }
@@ -237,12 +241,17 @@ impl Arguments {
         }
     }
 
+    /// Whether the joined tree is asked for.
+    pub fn joins(&self) -> bool {
+        self.join.is_some() || self.text
+    }
+
     fn agree(&self) -> Result<(), String> {
         if [self.hex, self.json, self.text].iter().filter(|&&asked| asked).count() > 1 {
             return Err("of --hex, --json and --text only one can be printed".into());
         }
-        if self.inputs.len() > 1 && (self.tree.is_some() || self.list.is_some()) {
-            return Err("--tree and --list are for one input; use --into for several".into());
+        if self.inputs.len() > 1 && (self.tree.is_some() || self.list.is_some() || self.join.is_some()) {
+            return Err("--tree, --list and --join are for one input; use --into for several".into());
         }
         if self.inputs.iter().filter(|input| **input == Input::Standard).count() > 1 {
             return Err("standard input can be read only once".into());

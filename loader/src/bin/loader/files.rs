@@ -10,7 +10,7 @@ use std::path::{absolute, Path, PathBuf};
 use std::process;
 use std::sync::atomic::{AtomicU32, Ordering};
 
-/// The files of one input, list before tree: who finds a tree finds its list.
+/// The files of one input, list before tree and both before the joined tree: who finds a tree finds its list.
 pub struct Files(Vec<Output>);
 
 struct Output {
@@ -25,6 +25,7 @@ struct Output {
 enum Part {
     List,
     Tree,
+    Joined,
 }
 
 /// What became of a file that an earlier run wrote.
@@ -76,6 +77,7 @@ fn outputs(arguments: &Arguments, input: &Input) -> Vec<Output> {
         (Part::List, made(".list")),
         (Part::Tree, arguments.tree.clone()),
         (Part::Tree, made(".lowered")),
+        (Part::Joined, arguments.join.clone()),
     ];
     let there = asked.into_iter().filter_map(|(part, path)| path.map(|path| (part, path)));
     there.map(|(part, path)| Output { real: real(&path), path, part }).collect()
@@ -134,11 +136,12 @@ impl Output {
 }
 
 impl Files {
-    /// Writes all of them, or none.
-    pub fn write(&self, lowered: &Lowered) -> Result<(), Failure> {
+    /// Writes all of them, or none. The joined tree is there if it was asked for.
+    pub fn write(&self, lowered: &Lowered, joined: &[u8]) -> Result<(), Failure> {
         let bytes = |output: &Output| match output.part {
             Part::Tree => lowered.tree,
             Part::List => lowered.list.bytes(),
+            Part::Joined => joined,
         };
         let (streams, files): (Vec<&Output>, Vec<&Output>) = self.0.iter().partition(|output| output.is_stream());
         let mut beside = Vec::new();

@@ -146,8 +146,12 @@ fn lower_one<'a>(
     if arguments.strict && !left.is_empty() {
         return Err(Failure::Left(report::left(&left, next)));
     }
-    files.write(&lowered)?;
-    Ok(Done { read: tree.len(), lowered, left, next, files })
+    let joined = match arguments.joins() {
+        true => lowered.joined().map_err(|refusal| Failure::Refused(refusal.into()))?,
+        false => Vec::new(),
+    };
+    files.write(&lowered, &joined)?;
+    Ok(Done { read: tree.len(), lowered, joined, left, next, files })
 }
 
 /// A refusal with advice. Of an input that is too long only the beginning was kept, so its length is added.
@@ -169,13 +173,8 @@ fn tell(manner: Manner, input: &Input, done: &Done) -> Result<(), Failure> {
         Manner::Several => print(&format!("{input}: {}", report::line(done))),
         Manner::Hex => print(&report::hex(&done.lowered)),
         Manner::Json => print(&report::json(input, done)),
-        Manner::Text => match Printer::new().text(done.lowered.tree) {
-            Ok(text) => print_bytes(text),
-            Err(_) => {
-                eprintln!("{input}: a mark stands twice in the lowered tree, so it has no text");
-                Ok(())
-            }
-        },
+        // A joined tree is a rewritten tree, so it has a text.
+        Manner::Text => print_bytes(Printer::new().text(&done.joined).unwrap_or_default()),
     }
 }
 

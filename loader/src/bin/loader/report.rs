@@ -14,6 +14,8 @@ pub struct Done<'a> {
     /// The length of its tree.
     pub read: usize,
     pub lowered: Lowered<'a>,
+    /// The joined tree, if it was asked for.
+    pub joined: Vec<u8>,
     pub left: Vec<Leftover>,
     /// The mark behind those of the input.
     pub next: u16,
