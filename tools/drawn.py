@@ -8,7 +8,7 @@
     tools/drawn.py --entry FROM COUNT      holds the entry of libdrawing.a to this generator, seed by seed, with a slice of 16,384
                                            bytes and one a byte too short, every byte of both
     tools/drawn.py --read FROM COUNT       the same, and hands each tree to the built treecheck, which has to take it
-    tools/drawn.py --lower FROM COUNT      the same with the built lower, which has to answer 0, 5, 6 or 7
+    tools/drawn.py --lower FROM COUNT      the same with the built lower, which has to answer 0, 5, 6, 7 or 11
 """
 import ctypes
 import os
@@ -260,7 +260,7 @@ def read_alike(tree):
 
 def lowered(tree):
     told = subprocess.run(["target/bin/lower"], input=b"\0" + tree, capture_output=True, check=True).stdout.split()
-    return told[0] in (b"0", b"5", b"6", b"7")
+    return told[0] in (b"0", b"5", b"6", b"7", b"11")
 
 
 def compared(first, count, check, archive="target/staticlib/libdrawing.a"):
@@ -281,12 +281,17 @@ def compared(first, count, check, archive="target/staticlib/libdrawing.a"):
     print("%d seeds, %d wrong; the longest tree has %d bytes, all have %d" % (count, wrong, longest, total))
 
 
+def main(words):
+    checks = {"--entry": lambda tree: True, "--read": read_alike, "--lower": lowered}
+    if len(words) == 2 and words[0] == "--vectors":
+        return vectors(words[1])
+    if len(words) == 3 and words[0] in checks and words[1].isdigit() and words[2].isdigit():
+        return compared(int(words[1]), int(words[2]), checks[words[0]])
+    if len(words) != 1 or not words[0].isdigit() or not int(words[0]):
+        sys.exit("usage: tools/drawn.py SEED | --vectors FILE | --entry FROM COUNT | --read FROM COUNT | --lower FROM COUNT")
+    drawn, x = draw(int(words[0]))
+    print("0\n%d\n%s" % (x, drawn.hex()))
+
+
 if __name__ == "__main__":
-    if sys.argv[1] == "--vectors":
-        vectors(sys.argv[2])
-    elif sys.argv[1] in ("--entry", "--read", "--lower"):
-        check = {"--entry": lambda tree: True, "--read": read_alike, "--lower": lowered}[sys.argv[1]]
-        compared(int(sys.argv[2]), int(sys.argv[3]), check)
-    else:
-        drawn, x = draw(int(sys.argv[1]))
-        print("0\n%d\n%s" % (x, drawn.hex()))
+    main(sys.argv[1:])

@@ -15,10 +15,12 @@ program is the loader's command.
 
 Compared are the answer, both masks, and tree and list as equal.py compares results: spelling counts, and temporaries by
 first appearance. How many have other bytes is counted beside that. A tree with an assignment in whose target an object with
-a rest stands below another one is left out and counted: there request 6 is another rule than the reference's. Whether an input is a tree is asked of read.py: where
-it says 3 or 4 that is what is expected. Of a hundred trees --deep go far down. Prints the first differences with their
-inputs, trees shrunk; then how many cases of each shape had which answer, and in how many a helper stands. The status is 1
-where anything differs, in either way.
+a rest stands below another one is left out and counted: there request 6 is another rule than the reference's. The reference
+takes forms alone, so it is given each tree with the promised strings as the forms of numbers that have none (request 8), and
+results are compared with these forms put in; a tree in which a number has another form than its string is left out and
+counted, since 11 may be met. Whether an input is a tree is asked of read.py: where it says 3 or 4 that is what is expected.
+Of a hundred trees --deep go far down. Prints the first differences with their inputs, trees shrunk; then how many cases of
+each shape had which answer, and in how many a helper stands. The status is 1 where anything differs, in either way.
 
 --self-test changes one spelling in a result of the reference, of a literal, a quasi, a directive or a literal in the list,
 and each change must be seen; it swaps two temporaries' numbers throughout, and that must not be seen.
@@ -26,6 +28,7 @@ and each change must be seen; it swaps two temporaries' numbers throughout, and 
 import argparse
 import collections
 import concurrent.futures
+import functools
 import itertools
 import os
 import random
@@ -38,6 +41,10 @@ import fuzz
 import grid
 import nodes
 import read
+from keys import HIGHEST, has_other_form, lacks_form, promised, with_forms
+
+# Asked several times of each tree.
+answer_of = functools.lru_cache(4 * 2000)(read.answer)
 
 BATCH = 2000
 MADE_BY = "`rt check lower` builds target/bin/lower"
@@ -52,6 +59,24 @@ SPELLINGS = {
     BIGINT: [(b"16", [b"16n", b"0x10n", b"0b10000n"])],
     REGEXP: [(b"/a/g", [b"/a/g"]), (b"/[b]/", [b"/[b]/"])],
 }
+
+
+# Spellings on either side of those for which a string is promised.
+ODD = [b"%d" % HIGHEST, b"0x%x" % HIGHEST, b"%d" % (HIGHEST + 1), b"0x%X" % (HIGHEST + 1), b"0x00" + b"0" * 40 + b"fF", b"0X1f", b"0x", b"05", b"1_0", b"0xg", b"", b"00", b"5", b"0xabc"]
+
+
+def spelled_number(rnd):
+    """A number near an edge of those for which a string is promised, or any: decimal or hexadecimal, with or without zeros."""
+    value = rnd.choice([0, 1, 9, 10, 16, HIGHEST - 1, HIGHEST, HIGHEST + 1, rnd.randrange(1 << rnd.randrange(1, 80))])
+    zeros = b"0" * rnd.choice([0, 0, 0, 0, 1, 40])
+    if rnd.random() < 0.5:
+        return zeros + b"%d" % value
+    return b"0x" + zeros + bytes(rnd.choice([digit, digit & ~32]) if digit > 57 else digit for digit in b"%x" % value)
+
+
+def other_form(rnd, form):
+    """A form that is another number's, or no number's."""
+    return rnd.choice([b"", b"017", b"7", b"0x10", form + b"0", b"0" + form, form[:-1], form + b"n"])
 
 
 def spelled_strings(name):
@@ -74,6 +99,8 @@ WEIGHT_AT = {
 # Other weights in trees that are to have classes and switches, and in those that are to have none.
 CLASSES = {"Class": 6, "Switch": 6}
 NO_CLASSES = {"Class": 0, "Switch": 0}
+# Other weights of keys in trees that are to have many numbers.
+NUMBERS = {("key", "Literal"): 30}
 # Other weights in trees that are to be rich in patterns.
 RICH = {
     "BindObject": 9, "TargetObject": 9, "BindArray": 4, "TargetArray": 4, "BindDefault": 3, "TargetDefault": 3, "Reference": 8,
@@ -102,6 +129,7 @@ class Maker:
         self.flat = rnd.choice([8, 12, 16, 24, 40, 70])
         self.weight = {**WEIGHT, **RICH} if rnd.random() < 0.4 else WEIGHT
         self.weight = {**self.weight, **(CLASSES if rnd.random() < 0.6 else NO_CLASSES)}
+        self.has_numbers = rnd.random() < 0.45
         self.out, self.marks, self.nodes, self.last = bytearray(), [], 0, 0
 
     def is_done(self, depth):
@@ -114,7 +142,8 @@ class Maker:
         elif self.is_done(depth):
             least = min(grid.HEIGHT[form] for form in forms)
             forms = [form for form in forms if grid.HEIGHT[form] == least]
-        weights = [WEIGHT_AT.get((place, form), self.weight.get(form, 1)) for form in forms]
+        at = {**WEIGHT_AT, **NUMBERS} if self.has_numbers else WEIGHT_AT
+        weights = [at.get((place, form), self.weight.get(form, 1)) for form in forms]
         return self.rnd.choices(forms, weights)[0]
 
     def node(self, place, depth=1, on_path=True):
@@ -137,14 +166,20 @@ class Maker:
 
     def literal(self):
         rnd = self.rnd
-        sort = rnd.randint(STRING, REGEXP)
+        sort = NUMBER if self.has_numbers and rnd.random() < 0.7 else rnd.randint(STRING, REGEXP)
         if sort == STRING:
             form = rnd.choice(NAMES) if rnd.random() < 0.97 else rnd.randbytes(rnd.randrange(40))
             spelled = spelled_strings(form)
         else:
             form, spelled = rnd.choice(SPELLINGS[sort])
+            if sort == NUMBER and rnd.random() < 0.6:
+                spelled = [rnd.choice(ODD) if rnd.random() < 0.5 else spelled_number(rnd)]
+                form = promised(spelled[0]) or form
+            if sort == NUMBER and rnd.random() < 0.03:
+                form = other_form(rnd, form)
         spelling = rnd.choice(spelled)
-        has_form = not self.refused or self.stands("Literal", 2, 1)
+        can_lack = self.refused or (sort == NUMBER and promised(spelling) is not None)
+        has_form = not can_lack or self.stands("Literal", 2, 1)
         self.out += bytes([read.KIND["Literal"], 7 if has_form else 3, sort]) + cases.wide(len(spelling)) + spelling
         if has_form:
             self.out += cases.wide(len(form)) + form
@@ -478,8 +513,9 @@ def program_at(path, is_stream, limit):
 def expected(batch, reference, limit):
     """What should be printed for each case, and how many trees the reference reads otherwise than read.py."""
     wanted, otherwise = [], 0
-    for (options, tree), answer in zip(batch, reference(batch)):
-        number = 1 if options > 15 else read.answer(tree, limit or read.DEEPEST)[0]
+    numbers = [1 if options > 15 else answer_of(tree, limit or read.DEEPEST)[0] for options, tree in batch]
+    given = [(options, tree if number else with_forms(tree)) for (options, tree), number in zip(batch, numbers)]
+    for number, answer in zip(numbers, reference(given)):
         otherwise += number != (answer[0] if answer[0] in (1, 3, 4) else 0)
         wanted.append(Refused(number) if number else answer)
     return wanted, otherwise
@@ -593,12 +629,30 @@ def is_equal(want, got):
     """Whether two answers are equal: number, masks, and results that are equal."""
     if want[:3] != got[:3]:
         return False
-    if want[0]:
+    if want[0] or want == got:
         return want == got
     try:
-        return equal.is_equal(result_of(want), result_of(got))
+        return equal.is_equal(formed(want), formed(got))
     except equal.Unreadable:
         return False
+
+
+def formed(answer):
+    """Tree and list of an answer, the promised strings put in as forms: the reference is given them, the program keeps none."""
+    tree, listed = result_of(answer)
+    return with_forms(tree), with_forms(listed, True)
+
+
+def is_shorter(want, got):
+    """Whether a result fits, and with the forms that the reference is given does not."""
+    if want[0] != 7 or got[0]:
+        return False
+    tree, listed = formed(got)
+    return len(tree) > TREE or len(listed) > LIST
+
+
+def has_same_bytes(want, got):
+    return want == got or (want[:3] == got[:3] and not want[0] and formed(want) == formed(got))
 
 
 def self_test(rnd, count, reference):
@@ -654,10 +708,17 @@ def main():
 
     def differs(batch):
         wanted, _ = expected(batch, reference, limit)
-        return [not is_left_out(*case) and (a != b or not is_equal(a, b)) for case, a, b in zip(batch, wanted, program(batch))]
+        return [why_left_out(*case) is None and not is_shorter(a, b) and not (has_same_bytes(a, b) and is_equal(a, b)) for case, a, b in zip(batch, wanted, program(batch))]
 
-    def is_left_out(options, tree):
-        return options <= 15 and read.answer(tree, limit or read.DEEPEST)[0] == 0 and nodes.has_rest_below_rest(tree)
+    def why_left_out(options, tree):
+        """Why the reference says nothing of a tree; None if it does."""
+        if options > 15 or answer_of(tree, limit or read.DEEPEST)[0]:
+            return None
+        if nodes.has_rest_below_rest(tree):
+            return "below"
+        if has_other_form(tree):
+            return "form"
+        return "long" if len(with_forms(tree)) > 16384 else None
 
     if given.vectors:
         names = cases.there(given.vectors)
@@ -666,26 +727,32 @@ def main():
         source = (("grid", 0, tree) for tree in grid.grid())
     else:
         source = trees(rnd, given.count, reference_at(given.reference, None), given.deep)
-    counts, total, unequal, different, otherwise, far, newer, left = collections.defaultdict(collections.Counter), 0, 0, 0, 0, 0, 0, 0
+    counts, total, unequal, different, otherwise, far, newer, formless = collections.defaultdict(collections.Counter), 0, 0, 0, 0, 0, 0, 0
+    left = collections.Counter()
     while some := list(itertools.islice(source, BATCH)):
         limit = random_limit(rnd) if given.limit == "draw" else int(given.limit) if given.limit else None
         reference, program = reference_at(given.reference, limit), program_at(given.binary, given.stream, limit)
-        drawn, some = len(some), [case for case in some if not is_left_out(*case[1:])]
-        left += drawn - len(some)
+        why = [why_left_out(*case[1:]) for case in some]
+        some = [case for case, reason in zip(some, why) if reason is None]
+        left += collections.Counter(why)
         batch = [(options, tree) for _, options, tree in some]
         wanted, others = expected(batch, reference, limit)
         otherwise += others
-        far += sum(read.answer(tree, 64)[0] == 4 for _, tree in batch)
-        newer += sum(read.answer(tree)[0] == 0 and nodes.has_classes(tree) for _, tree in batch)
+        far += sum(answer_of(tree, 64)[0] == 4 for _, tree in batch)
+        newer += sum(answer_of(tree)[0] == 0 and nodes.has_classes(tree) for _, tree in batch)
+        formless += sum(answer_of(tree)[0] == 0 and lacks_form(tree) for _, tree in batch)
         for (shape, *_), case, want, got in zip(some, batch, wanted, program(batch)):
+            if is_shorter(want, got):
+                left["long"] += 1
+                continue
             total += 1
             counts[shape][want[0]] += 1
             counts[shape]["lowered"] += want[1] > 0
-            is_other, has_other_bytes = not is_equal(want, got), want != got
+            is_other, has_other_bytes = not is_equal(want, got), not has_same_bytes(want, got)
             unequal += is_other
             different += has_other_bytes
             if (is_other or has_other_bytes) and max(unequal, different) <= given.shown:
-                if read.answer(case[1], limit or read.DEEPEST)[0] == 0:
+                if answer_of(case[1], limit or read.DEEPEST)[0] == 0:
                     case = shrunk(case, differs)
                     (want,), _ = expected([case], reference, limit)
                     (got,) = program([case])
@@ -698,7 +765,8 @@ def main():
     print(f"the reference reads {otherwise} otherwise than read.py")
     print(
         f"{total} cases, {unequal} unequal, {different} with other bytes; {far} have a node at depth 65, "
-        f"{newer} are trees with kinds 40 to 44; {left} others were left out, an object with a rest below another one"
+        f"{newer} are trees with kinds 40 to 44, {formless} have a number whose form was put in; left out were {left['below']} "
+        f"with an object with a rest below another one, {left['form']} with a number with another's form, {left['long']} too long with forms"
     )
     sys.exit(1 if unequal or different or not total else 0)
 

@@ -179,6 +179,24 @@ def ordinary(length, lowered=True):
         made.append(more)
 
 
+def assigner(i):
+    """A function that takes its state apart in an assignment, so that a temporary and the keys are handed out."""
+    return function(
+        f"onEdge{i}",
+        [binding("state")],
+        statement(assign(pattern([taken("deadline", ref("deadline"), 2)], ref("others")), ref("state"))),
+        returned(call(ref("wake"), ref("deadline"))),
+    )
+
+
+def handed(entries, length):
+    """So many assigners, and plain functions among them up to that length."""
+    made = [assigner(i) for i in range(entries)]
+    while len(program(made + [plain(0)])) <= length:
+        made.insert(2 * len(made) % (entries + 1), plain(len(made)))
+    return program(made)
+
+
 def channel(i):
     """A class that holds a channel: a slip handler as a method, a static block, and a switch in another method."""
     name = f"Channel{i}"
@@ -253,6 +271,15 @@ def array_rests(n, kind):
 
 def parameters(n):
     return program([function("", [pattern([], binding(""))] * n)])
+
+
+def number_keys(n, spelled):
+    """n keys of an object with a rest, numbers without forms, declared."""
+
+    def part(key):
+        return node(35, node(22, byte(2), text(key)), binding(""), byte(0))
+
+    return program([declare(2, (pattern([part(spelled(i)) for i in range(n)], binding("r")), ref("s")))])
 
 
 def nested_pattern(depth, length, kind):
@@ -335,10 +362,13 @@ TREES = {
     "classes-4k": lambda: classes(4096),
     "ordinary-16k": lambda: ordinary(LONGEST),
     "plain-16k": lambda: ordinary(LONGEST, False),
+    "handed-16k": lambda: handed(50, 14500),
     **{f"spreads-{n}": lambda n=n: spreads(n) for n in (337, 675, 1350, 2700)},
     **{f"mixed-{n}": lambda n=n: mixed(n) for n in (250, 500, 1000, 1900)},
     **{f"literals-{d}-{k}k": lambda d=d, k=k: nested_literals(d, 1024 * k) for d, k in ((30, 4), (60, 4), (30, 16), (60, 16), (124, 16))},
     **{f"array-{kind}-{n}": lambda n=n, kind=kind: array_rests(n, kind) for kind in ("assignment", "declaration", "parameter") for n in (250, 500, 1000, 2000)},
+    **{f"keys-hexadecimal-{n}": lambda n=n: number_keys(n, lambda i: f"0x{i % 256:02x}") for n in (250, 500, 1000)},
+    "keys-decimal-1000": lambda: number_keys(1000, lambda i: f"{1000 + i}"),
     **{f"parameters-{n}": lambda n=n: parameters(n) for n in (250, 500, 1000, 1600)},
     **{f"pattern-{kind}-{d}-{k}k": lambda d=d, k=k, kind=kind: nested_pattern(d, 1024 * k, kind) for kind in ("declaration", "assignment", "arrays") for d, k in ((30, 4), (60, 4), (30, 16), (60, 16), (124, 16))},
     **{f"arrays-{kind}-{d}": lambda d=d, kind=kind: nested_arrays(d, kind) for kind in ("assignment", "declaration", "parameter") for d in (30, 60, 124)},
@@ -349,8 +379,8 @@ TREES = {
     **{f"templates-declared-{n}-16k": lambda n=n: template_keys(n, LONGEST, True) for n in (2, 4, 6, 8)},
 }
 
-# the reference would take seconds or minutes for one call
-ALONE = {"templates-10-16k", "templates-12-16k", "templates-14-16k", "templates-30-16k", "templates-30"}
+# the reference would take seconds or minutes for one call, or has no string for a number without a form
+ALONE = {"keys-hexadecimal-250", "keys-hexadecimal-500", "keys-hexadecimal-1000", "keys-decimal-1000", "templates-10-16k", "templates-12-16k", "templates-14-16k", "templates-30-16k", "templates-30"}
 
 
 def main():
