@@ -11,11 +11,10 @@
     tools/drawn.py --lower FROM COUNT      the same with the built lower, which has to answer 0, 5, 6, 7 or 11
 """
 import ctypes
-import os
 import struct
-import subprocess
 import sys
-import tempfile
+
+import built
 
 # A kind's fields, bit 0 first. A field is a place or, with * or ~, a list of nodes at that place; A/B is a place by the byte before;
 # ' a text, # a mark, + a number, LOW-HIGH a byte; ? at the end: it may be absent. A place in the table with a colon lays a kind out
@@ -244,22 +243,19 @@ class Drawn(ctypes.Structure):
 
 def entry_of(archive):
     """The entry of the archive that `rt staticlib drawing` makes, which cc links."""
-    with tempfile.TemporaryDirectory() as folder:
-        shared = os.path.join(folder, "drawing.so")
-        subprocess.run(["cc", "-shared", "-o", shared, "-Wl,--whole-archive", archive, "-Wl,--no-whole-archive"], check=True)
-        entry = ctypes.CDLL(shared).rest_spread_draw
+    entry = built.entry(archive, "rest_spread_draw")
     entry.argtypes, entry.restype = [ctypes.c_uint32, ctypes.c_void_p, ctypes.c_size_t], Drawn
     return entry
 
 
 def read_alike(tree):
     """Whether treecheck takes the tree, and gives as many marks as it should."""
-    told = subprocess.run(["target/bin/treecheck"], input=tree, capture_output=True, check=True).stdout.split()
+    told = built.ran("target/bin/treecheck", tree).split()
     return told[:2] == [b"0", b"%d" % len(tree)]
 
 
 def lowered(tree):
-    told = subprocess.run(["target/bin/lower"], input=b"\0" + tree, capture_output=True, check=True).stdout.split()
+    told = built.ran("target/bin/lower", b"\0" + tree).split()
     return told[0] in (b"0", b"5", b"6", b"7", b"11")
 
 

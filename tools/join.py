@@ -19,10 +19,9 @@ import concurrent.futures
 import ctypes
 import os
 import random
-import subprocess
 import sys
-import tempfile
 
+import built
 import read
 
 ROOT = os.path.dirname(os.path.dirname(os.path.abspath(__file__)))
@@ -144,8 +143,7 @@ def joined(tree, given, room=32768):
 
 def said(binary, tree, given):
     """What the program prints: the answer and the tree. It lends a slice of 32,768 bytes."""
-    run = subprocess.run([binary], input=wide(len(tree)) + tree + given, capture_output=True, check=True)
-    number, text = run.stdout.decode().split("\n")[:2]
+    number, text = built.ran(binary, wide(len(tree)) + tree + given).decode().split("\n")[:2]
     return int(number), bytes.fromhex(text)
 
 
@@ -225,10 +223,7 @@ class Joined(ctypes.Structure):
 
 def entry_of(archive):
     """What the entry of the archive gives: the answer, and the tree. Every byte that it was lent is looked at."""
-    with tempfile.TemporaryDirectory() as folder:
-        shared = os.path.join(folder, "joining.so")
-        subprocess.run(["cc", "-shared", "-o", shared, "-Wl,--whole-archive", archive, "-Wl,--no-whole-archive"], check=True)
-        entry = ctypes.CDLL(shared).rest_spread_join
+    entry = built.entry(archive, "rest_spread_join")
     entry.argtypes, entry.restype = [ctypes.c_void_p, ctypes.c_size_t] * 3, Joined
 
     def called(tree, given, room):

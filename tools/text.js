@@ -21,7 +21,14 @@ const words = process.argv.slice(2);
 const option = (name, otherwise) => words.includes(name) ? words[words.indexOf(name) + 1] : otherwise;
 const COUNT = Number(option('--count', 5000));
 const program = name => option('--' + name, path.join(__dirname, '..', 'target', 'bin', name));
-const textOf = tree => spawnSync(program('text'), { input: tree, maxBuffer: 1 << 20 }).stdout.toString();
+function textOf(tree) {
+  const ran = spawnSync(program('text'), { input: tree, maxBuffer: 1 << 20 });
+  if (ran.error) {
+    console.error(`${program('text')}: ${ran.error.code} (\`rt check text\` builds target/bin/text)`);
+    process.exit(1);
+  }
+  return ran.stdout.toString();
+}
 
 // ---- a generator of numbers, the same everywhere
 

@@ -9,11 +9,10 @@ difference, then the counts. The status is 1 where anything differs.
 """
 import argparse
 import ctypes
-import os
 import re
-import subprocess
 import sys
-import tempfile
+
+import built
 
 LONGEST = 294912
 
@@ -24,10 +23,7 @@ class Printed(ctypes.Structure):
 
 def entry_of(archive):
     """The entry of the archive, which cc links."""
-    with tempfile.TemporaryDirectory() as folder:
-        shared = os.path.join(folder, "printer.so")
-        subprocess.run(["cc", "-shared", "-o", shared, "-Wl,--whole-archive", archive, "-Wl,--no-whole-archive"], check=True)
-        entry = ctypes.CDLL(shared).rest_spread_text
+    entry = built.entry(archive, "rest_spread_text")
     entry.argtypes = [ctypes.c_char_p, ctypes.c_size_t, ctypes.c_void_p, ctypes.c_size_t]
     entry.restype = Printed
     return entry
@@ -79,7 +75,7 @@ def main():
         if slice_ != "-":
             continue
         counts["runs"] += 1
-        told = subprocess.run([words.binary], input=tree, capture_output=True, check=True).stdout
+        told = built.ran(words.binary, tree)
         if told != (text if answer == 0 else b"%d\n" % answer):
             counts["wrong"] += 1
             print("wrong: program, tree %s" % tree.hex()[:200])
