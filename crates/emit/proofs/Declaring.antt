@@ -3,6 +3,7 @@
 use mathlib.Core.Path.{_≡_, refl, sym, ap, ap₂, _∙_, subst}
 use mathlib.Core.Bool.{Bool, true, false, cond, not}
 use mathlib.Core.List.{List, [], _∷_, _++_}
+use mathlib.Core.Option.{Option}
 use Prim.Native.Nat.{ℕ, zero, suc, _+_, _-_, _/_, _%_, _≤_, _<_}
 use native.Mathlib.Omega.{arith}
 use lib.Dec.{eqb}
@@ -48,7 +49,7 @@ use Rattle.direct.proofs.Ways.{declarator-lowered, declarator-left, lowered-nam
 use Rattle.walk.specs.Modes as modes
 use Rattle.walk.specs.Run.{Going, Does, Clear}
 use Rattle.walk.specs.Whole.{GoodItems, Good}
-use Rattle.walk.specs.Turns.{viewOf, deepMode, suits, turnOf, turnsOf, sourceOf, reads, startOf}
+use Rattle.walk.specs.Turns.{viewOf, deepMode, suits, turnOf, turnsOf, sourceOf, reads, startOf, startValue}
 use Rattle.walk.specs.declared.look.Start.{Start}
 use Rattle.walk.specs.declared.look.Start.the-variants.{Value, Missing}
 use Rattle.walk.proofs.Running.{does-then, does-nothing, does-as, does-to, clear-after, clear-still}
@@ -379,23 +380,23 @@ module _ (t : List ℕ) where
   -- ---- dtor: a declarator
 
   -- one without a starting value, one with it
-  bare-declarator : (d at : ℕ) (s : Start) → s ≡ startOf t (suc d) at → s ≡ Missing → eqb (byteAt t (onward t at 1) / 2 % 2) 1 ≡ false
+  bare-declarator : (d at : ℕ) (s : Start) → startValue s ≡ startOf t (suc d) at → s ≡ Missing → eqb (byteAt t (onward t at 1) / 2 % 2) 1 ≡ false
   unfolding startOf
-  bare-declarator d at s e f = go (eqb (byteAt t (onward t at 1) / 2 % 2) 1) (sym e ∙ f)
+  bare-declarator d at s e f = go (eqb (byteAt t (onward t at 1) / 2 % 2) 1) (sym e ∙ ap startValue f)
     where
-      go : (b : Bool) → cond b (Value (lookNode t d (onward t at 2) .next)) Missing ≡ Missing → b ≡ false
+      go : (b : Bool) → cond b (Option.some (lookNode t d (onward t at 2) .next)) Option.none ≡ Option.none → b ≡ false
       go true h = let z : _≡_ {A = ℕ} 0 1 = cc in absurd (omega arith)
       go false h = refl
 
-  abbrev valueIn : Start → ℕ
-  valueIn (Value n) = n
-  valueIn Missing = 0
+  abbrev valueIn : Option ℕ → ℕ
+  valueIn (Option.some n) = n
+  valueIn Option.none = 0
 
-  valued-declarator : (d at init : ℕ) (s : Start) → s ≡ startOf t (suc d) at → s ≡ Value init → (eqb (byteAt t (onward t at 1) / 2 % 2) 1 ≡ true) × (init ≡ lookNode t d (onward t at 2) .next)
+  valued-declarator : (d at init : ℕ) (s : Start) → startValue s ≡ startOf t (suc d) at → s ≡ Value init → (eqb (byteAt t (onward t at 1) / 2 % 2) 1 ≡ true) × (init ≡ lookNode t d (onward t at 2) .next)
   unfolding startOf
-  valued-declarator d at init s e f = go (eqb (byteAt t (onward t at 1) / 2 % 2) 1) (sym e ∙ f)
+  valued-declarator d at init s e f = go (eqb (byteAt t (onward t at 1) / 2 % 2) 1) (sym e ∙ ap startValue f)
     where
-      go : (b : Bool) → cond b (Value (lookNode t d (onward t at 2) .next)) Missing ≡ Value init → (b ≡ true) × (init ≡ lookNode t d (onward t at 2) .next)
+      go : (b : Bool) → cond b (Option.some (lookNode t d (onward t at 2) .next)) Option.none ≡ Option.some init → (b ≡ true) × (init ≡ lookNode t d (onward t at 2) .next)
       go true h = (refl, ap valueIn (sym h))
       go false h = let z : _≡_ {A = ℕ} 0 1 = cc in absurd (omega arith)
 
@@ -407,7 +408,7 @@ module _ (t : List ℕ) where
   unfolding isLowered stands standsIn nodeAt pieceIn
   valued-lowered at k p v = refl
 
-  pub declarator-bare : {g g′ : Going} (c c′ : Place) (d h at s : ℕ) (w : Start) → w ≡ startOf t d at → w ≡ Missing → c′ ≡ inner c → h ≡ d
+  pub declarator-bare : {g g′ : Going} (c c′ : Place) (d h at s : ℕ) (w : Start) → startValue w ≡ startOf t d at → w ≡ Missing → c′ ≡ inner c → h ≡ d
       → (s ≡ lookNode t h at .next) × (Good t h at → Does g g′ (emits c′ (lookNode t h at .value)))
       → byteAt t at ≡ 5 → Good t d at → (s ≡ lookNode t d at .next) × Does g g′ (emitsDeclarator c (lookNode t d at .value))
   declarator-bare c c′ zero h at s w start none place same-level given k good = no-good t at good
@@ -420,7 +421,7 @@ module _ (t : List ℕ) where
             (ap₂ (λ (m : Place) (y : ℕ). emits m (lookNode t y at .value)) place same-level ∙ sym (declarator-left n c left)),
       )
 
-  pub declarator-stays : {g g′ : Going} (c c′ : Place) (d left h at init id s : ℕ) (w : Start) (b : Bool) → left ≡ d - 1 → id ≡ onward t at 2 → w ≡ startOf t d at → w ≡ Value init
+  pub declarator-stays : {g g′ : Going} (c c′ : Place) (d left h at init id s : ℕ) (w : Start) (b : Bool) → left ≡ d - 1 → id ≡ onward t at 2 → startValue w ≡ startOf t d at → w ≡ Value init
       → b ≡ hasObjectRest (lookNode t left id .value) → b ≡ false → c′ ≡ inner c → h ≡ d
       → (s ≡ lookNode t h at .next) × (Good t h at → Does g g′ (emits c′ (lookNode t h at .value)))
       → byteAt t at ≡ 5 → Good t d at → (s ≡ lookNode t d at .next) × Does g g′ (emitsDeclarator c (lookNode t d at .value))
@@ -437,7 +438,7 @@ module _ (t : List ℕ) where
             (ap₂ (λ (m : Place) (y : ℕ). emits m (lookNode t y at .value)) place same-level ∙ sym (declarator-left n c left-is)),
       )
 
-  pub declarator-done : {g g₁ g′ : Going} (c c′ : Place) (d left e at init id q k₃ s : ℕ) (w : Start) (b : Bool) (r : ReferenceBuilder) → left ≡ d - 1 → id ≡ onward t at 2 → w ≡ startOf t d at → w ≡ Value init
+  pub declarator-done : {g g₁ g′ : Going} (c c′ : Place) (d left e at init id q k₃ s : ℕ) (w : Start) (b : Bool) (r : ReferenceBuilder) → left ≡ d - 1 → id ≡ onward t at 2 → startValue w ≡ startOf t d at → w ≡ Value init
       → b ≡ hasObjectRest (lookNode t left id .value) → b ≡ true → q ≡ lookNode t left init .next
       → (id < 16384 → 0 < 3 → 3 < 5 → k₃ ≡ cell 3 id) → r ≡ builderOf t left init k₃ 3 false → c′ ≡ c → e ≡ left
       → (r ≡ builderOf t e init (cell 3 id) 3 false → Good t e id → Good t e init → Does g g₁ (emitsLowered c′ (lookNode t e id .value) (lookNode t e init .value)))

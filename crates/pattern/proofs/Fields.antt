@@ -14,7 +14,7 @@ use Rattle.tree.specs.Tree.{Node, Fields}
 use Rattle.tree.specs.Grammar.{Sort, Field, fieldsOf, kinds}
 use Rattle.tree.specs.Rows.{sortFrom, sortOf, fieldsIn}
 use Rattle.tree.specs.Read.{byteAt, wideAt, sortIn}
-use Rattle.tree.specs.Answer.{Peeked, found}
+use Rattle.tree.specs.Answer.{Peeked, foundValue}
 use Rattle.tree.specs.Look.{Seen, onward, lookField, lookSlot, lookFields, lookNode, seekFields}
 use Rattle.tree.specs.declared.skip.Found.{Found}
 use Rattle.tree.specs.declared.skip.Found.the-variants as found-at
@@ -112,11 +112,11 @@ module _ (l : List ℕ) where
   unfolding partAt
   field-none d at i z = rw z
 
-  there : (s : Sort) (o : Option ℕ) (x : ℕ) → found-at.At x ≡ found o → partOf l s x ≡ partIn l s o
+  there : (s : Sort) (o : Option ℕ) (x : ℕ) → foundValue (found-at.At x) ≡ o → partOf l s x ≡ partIn l s o
   there s Option.none x e = let z : _≡_ {A = ℕ} 0 1 = cc in absurd (omega arith)
   there s (some y) x e = let z : x ≡ y = cc in ap (partOf l s) z
 
-  absent-there : (s : Sort) (o : Option ℕ) → found-at.Missing ≡ found o → Missing ≡ partIn l s o
+  absent-there : (s : Sort) (o : Option ℕ) → foundValue found-at.Missing ≡ o → Missing ≡ partIn l s o
   absent-there s Option.none e = refl
   absent-there s (some y) e = let z : _≡_ {A = ℕ} 0 1 = cc in absurd (omega arith)
 
@@ -134,11 +134,11 @@ module _ (l : List ℕ) where
             let o : suc d - 1 ≡ d = omega arith in
             ap (λ (fs : List Field). partIn l (sortAt fs i) (seekFields l (lookNode l (suc d - 1)) fs map q i)) w ∙ rw (o, e, g, f, v)
 
-    pub field-at : (r : Part) (code x : ℕ) (s : Found) → s ≡ found searched → s ≡ found-at.At x → sortOf code ≡ sortAt (fieldsIn row) i → r ≡ partOf l (sortOf code) x → r ≡ partAt l d at i
-    field-at r code x s a b c h = h ∙ ap (λ (t : Sort). partOf l t x) c ∙ there (sortAt (fieldsIn row) i) searched x (sym b ∙ a) ∙ opened
+    pub field-at : (r : Part) (code x : ℕ) (s : Found) → foundValue s ≡ searched → s ≡ found-at.At x → sortOf code ≡ sortAt (fieldsIn row) i → r ≡ partOf l (sortOf code) x → r ≡ partAt l d at i
+    field-at r code x s a b c h = h ∙ ap (λ (t : Sort). partOf l t x) c ∙ there (sortAt (fieldsIn row) i) searched x (sym (ap foundValue b) ∙ a) ∙ opened
 
-    pub field-missing : (s : Found) → s ≡ found searched → s ≡ found-at.Missing → Missing ≡ partAt l d at i
-    field-missing s a b = absent-there (sortAt (fieldsIn row) i) searched (sym b ∙ a) ∙ opened
+    pub field-missing : (s : Found) → foundValue s ≡ searched → s ≡ found-at.Missing → Missing ≡ partAt l d at i
+    field-missing s a b = absent-there (sortAt (fieldsIn row) i) searched (sym (ap foundValue b) ∙ a) ∙ opened
 
     -- the first field, which stands right behind the bit map
     pub first-past : row ≡ 0 → Missing ≡ partAt l d at i

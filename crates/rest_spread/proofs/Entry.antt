@@ -13,7 +13,7 @@ use Rattle.tree.specs.Tree.{Node}
 use Rattle.tree.specs.Grammar.Stage.{input}
 use Rattle.tree.specs.Read.{Got, Refusal, numberOf, readTree}
 use Rattle.tree.specs.Read.Got.{got}
-use Rattle.tree.specs.Answer.{answer}
+use Rattle.tree.specs.Answer.{Answers}
 use Rattle.tree.specs.declared.read.Answer.{Answer}
 use Rattle.tree.specs.declared.read.Answer.the-variants.{Read, Refused}
 use Rattle.tree.specs.WellFormed.{Bytes}
@@ -21,6 +21,7 @@ use Rattle.tree.specs.Look.{lookNode, Seen, seen}
 use Rattle.tree.specs.Note as note
 use Rattle.tree.specs.Reading.{readInto}
 use Rattle.tree.specs.Read.Refusal.{notATree}
+use Rattle.tree.proofs.AnswerByNumber.{answer, answer-is}
 use Rattle.tree.proofs.Noted.{Noted, filled-law, within-limit}
 use Rattle.tree.proofs.Look.{tree-node}
 use Rattle.lowering.specs.Weight.{walked}
@@ -244,12 +245,12 @@ module _ (limit options : ℕ) (tree out list work : List ℕ) where
 
 -- ---- the reading
 
-module _ (limit options : ℕ) (tree room out list work : List ℕ) (x : Outcome) (a : Answer) (answered : a ≡ answer (readTree input limit tree)) where
+module _ (limit options : ℕ) (tree room out list work : List ℕ) (x : Outcome) (a : Answer) (answered : Answers a (readTree input limit tree)) where
   -- no tree, or one too deep
   pub read-refused : (m : ℕ) → a ≡ Refused m → x ≡ outcomeOf (lentOf out list work) (Result.refusal m) → x ≡ outcomeOf (lentOf out list work) (afterReading options (lentOf out list work) (readTree input limit tree))
   unfolding afterReading
   read-refused m e h =
-      let g : (r : Refusal) × ((readTree input limit tree ≡ Got.refused r) × (m ≡ numberOf r)) = refused-by (readTree input limit tree) m (sym e ∙ answered) in
+      let g : (r : Refusal) × ((readTree input limit tree ≡ Got.refused r) × (m ≡ numberOf r)) = refused-by (readTree input limit tree) m (sym e ∙ answer-is a (readTree input limit tree) answered) in
       h ∙ ap (λ (k : ℕ). outcomeOf (lentOf out list work) (Result.refusal k)) (g .1 .1)
       ∙ ap (λ (z : Got Node). outcomeOf (lentOf out list work) (afterReading options (lentOf out list work) z)) (sym (g .1 .0))
 
@@ -259,7 +260,7 @@ module _ (limit options : ℕ) (tree room out list work : List ℕ) (x : Outcome
       → length room ≡ length tree + length tree → 65536 ≤ length work → x ≡ outcomeOf (lentOf out list work) (afterReading options (lentOf out list work) (readTree input limit tree))
   unfolding readInto
   read-lowered q j noted e each all f h long big =
-      let g : (n : Node) × (readTree input limit tree ≡ got n q j) = read-by (readTree input limit tree) q j (sym e ∙ answered) in
+      let g : (n : Node) × (readTree input limit tree ≡ got n q j) = read-by (readTree input limit tree) q j (sym e ∙ answer-is a (readTree input limit tree) answered) in
       let into : noted ≡ note.filled limit tree room = f ∙ ap (λ (z : Got Node). readInto z limit tree room) (g .1) in
       let known : Noted limit noted (g .0) q j =
       subst (λ (z : List ℕ). Noted limit z (g .0) q j) (sym into) (filled-law limit tree room (g .0) q j long (g .1) (subst Bytes into (each-byte noted all))) in

@@ -1,6 +1,7 @@
 pub mod Cycle
 pub mod Table
 pub mod Rows
+pub mod AnswerByNumber
 pub mod Leaves
 pub mod Reader
 pub mod Skipping

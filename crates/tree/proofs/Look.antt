@@ -1,6 +1,6 @@
 -- Of a node that the reader accepts, what stands at its position is that node, and it ends where the reader says.
 -- Assumes nothing.
-use mathlib.Core.Path.{_≡_, refl, sym, ap, _∙_, subst}
+use mathlib.Core.Path.{_≡_, refl, sym, ap, _∙_}
 use mathlib.Core.Bool.{Bool, true, false, cond}
 use mathlib.Core.List.{List, [], _∷_}
 use mathlib.Core.Option.{Option·map}
@@ -10,23 +10,18 @@ use native.Mathlib.Omega.{arith}
 use native.Mathlib.Decide.{decLt}
 use lib.Dec.{leb, ltb, eqb}
 use lib.ListN.{length, getD, take, drop}
-use borrow.Author.Tests.{lt-ltb, le-ltb, lt-leb, le-leb, ltb-true, leb-true, eqb-true}
-use Rattle.tree.specs.Tree.{Node, Fields, Piece, Items}
-use Rattle.tree.specs.Tree.Node.{node}
+use borrow.Author.Tests.{lt-ltb, le-ltb, lt-leb, le-leb, eqb-true}
+use Rattle.tree.specs.Tree.{Node, Fields, Piece}
 use Rattle.tree.specs.Tree.Fields.{field}
 use Rattle.tree.specs.Tree.Piece.{one, list, text}
-use Rattle.tree.specs.Tree.Items.{hole, item}
-use Rattle.tree.specs.Grammar.{Sort, Field, Stage, root, kindOf, allowed, formIn, formAt, kinds, variants, fieldsOf, mapOk}
+use Rattle.tree.specs.Grammar.{Sort, Field, Stage, root, kindOf, allowed, formIn, formAt, kinds, variants, fieldsOf}
 use Rattle.tree.specs.Grammar.Sort.{child, chosen, many, gaps, byte, mark, number}
 use Rattle.tree.specs.Grammar.Field.{must}
-use Rattle.tree.specs.Grammar.Stage.{input, rewritten}
-use Rattle.tree.specs.Read.{Got, mapped, joined, accepted, sortIn, byteAt, wideAt, chosenPlace, readText, readByte, readMark, readNumber, readItem, readItems, readList, readField, readSlot, readFields, readNode, readTree, whole, longest}
+use Rattle.tree.specs.Read.{Got, sortIn, byteAt, wideAt, readNode, readTree, whole, longest}
 use Rattle.tree.specs.Read.Got.{got, refused}
-use Rattle.tree.specs.Read.Refusal.{tooDeep}
-use Rattle.tree.specs.Look.{Seen, seen, seenAs, seenBoth, onward, lookItem, lookItems, lookField, lookSlot, lookFields, lookNode, pieceIn, ifStands, seekFields}
+use Rattle.tree.specs.Look.{Seen, seen, seenAs, seenBoth, onward, lookItems, lookField, lookSlot, lookFields, pieceIn, ifStands, seekFields}
 use Rattle.tree.proofs.Hold.{Holds, holds, of-accepted}
-use Rattle.tree.proofs.Within.{there, wide-there, map-byte}
-use Rattle.tree.proofs.Limit.{limit-raised}
+use Rattle.tree.proofs.Within.{there}
 use Rattle.tree.proofs.Skipping.{step-fits}
 
 -- ---- forms of one kind are laid out alike

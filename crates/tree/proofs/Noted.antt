@@ -1,16 +1,16 @@
 -- The notes of an accepted tree: the slice that holds the tree and the notes that the pass writes makes the decoder give that tree; for each node of it
 -- skipping gives its end, and it is quiet exactly if nothing is to be lowered in it.
 -- Assumes nothing.
-use mathlib.Core.Path.{_≡_, refl, sym, ap, _∙_, subst}
-use mathlib.Core.Bool.{Bool, true, false, cond, not}
+use mathlib.Core.Path.{_≡_, sym, ap, _∙_, subst}
+use mathlib.Core.Bool.{Bool, false, cond}
 use mathlib.Core.List.{List, [], _∷_, _++_}
-use Prim.Native.Nat.{ℕ, zero, suc, _+_, _-_, _/_, _%_, _<_, _≤_}
+use Prim.Native.Nat.{ℕ, _+_, _-_, _/_, _%_, _<_, _≤_}
 use native.Mathlib.Omega.{arith}
-use lib.Dec.{leb, ltb, eqb}
+use lib.Dec.{leb, ltb}
 use lib.ListN.{length, drop, length-append, length-drop, List·getD-append}
 use lib.Seq.{getD-append-add}
 use borrow.Author.Tests.{lt-ltb, leb-true, eq-eqb}
-use Rattle.tree.specs.Tree.{Node, Fields, Piece, Items, encode}
+use Rattle.tree.specs.Tree.{Node, Fields, Piece, Items}
 use Rattle.tree.specs.Tree.Node.{node}
 use Rattle.tree.specs.Tree.Fields.{done, absent, field}
 use Rattle.tree.specs.Tree.Piece.{one, list, text, byte, mark, number}
@@ -26,7 +26,7 @@ use Rattle.tree.proofs.Hold.{Holds, holds, of-accepted}
 use Rattle.tree.proofs.Look.{tree-node}
 use Rattle.tree.proofs.Sound.{bytes-at}
 use Rattle.tree.proofs.Laid.{All, all-left, all-right, all-join, Laid, Read, Between, length-all}
-use Rattle.tree.proofs.Passed.{Passes, PassesNode, node-passes}
+use Rattle.tree.proofs.Passed.{PassesNode, node-passes}
 use Rattle.tree.proofs.Further.{read-further}
 use Rattle.tree.proofs.Told.{Known, stands-deeper, word-end, word-quiet}
 

@@ -1,9 +1,9 @@
 -- The reader while it writes notes, case by case: what was read is what the definition gives, and the notes are those of the pass.
 -- Assumes nothing.
 use mathlib.Core.Path.{_≡_, refl, sym, ap, ap₂, _∙_, subst}
-use mathlib.Core.Bool.{Bool, true, false, cond, _||_}
-use mathlib.Core.List.{List, [], _∷_}
-use Prim.Native.Nat.{ℕ, zero, suc, _+_, _-_, _<_, _≤_}
+use mathlib.Core.Bool.{Bool, true, false, _||_}
+use mathlib.Core.List.{List}
+use Prim.Native.Nat.{ℕ, suc, _+_, _-_, _<_, _≤_}
 use native.Mathlib.Omega.{arith}
 use lib.Dec.{leb, ltb, eqb}
 use lib.ListN.{length, replicate, length-replicate}
@@ -16,14 +16,15 @@ use Rattle.tree.specs.Read.{Got, byteAt, wideAt, readText, readByte, rea
 use Rattle.tree.specs.Read.Got.{got, refused}
 use Rattle.tree.specs.Look.{onward}
 use Rattle.tree.specs.Note.{word, setWide, restBit, Noting, noted, moved, closed, noteItems, noteFields, noteNode, zeros, filled}
-use Rattle.tree.specs.Answer.{answer, Peeked, Wide}
+use Rattle.tree.specs.Answer.{Answers, Peeked, Wide}
 use Rattle.tree.specs.Reading.{leafOf, plain, Told, ReadWhole, readInto}
 use Rattle.tree.specs.declared.read.Answer.{Answer}
 use Rattle.tree.specs.declared.read.Answer.the-variants.{Read, Refused}
 use Rattle.tree.specs.declared.read.Part.{Part}
 use Rattle.tree.specs.declared.read.Part.the-variants as part
+use Rattle.tree.proofs.AnswerByNumber.{answer, answers-by, answer-is}
 use Rattle.tree.proofs.Hold.{Holds, of-accepted}
-use Rattle.tree.proofs.Within.{there, wide-there, map-byte}
+use Rattle.tree.proofs.Within.{wide-there, map-byte}
 use Rattle.tree.proofs.Look.{layouts, form-alike, kind-at, on-fits, on-byte, on-wide}
 use Rattle.tree.proofs.Reader.{node-fields}
 use Rattle.tree.proofs.Noting.{fill-none}
@@ -33,11 +34,11 @@ use Rattle.tree.proofs.Passed.{fields-alike}
 
 module _ {A : Type 0} where
   pub told-refused : (n : ℕ) (g : Got A) (notes : List ℕ) (t : Noting) → Refused n ≡ answer g → Told (part.Refused n) g notes t
-  told-refused n g notes t e = record { answers = e; writes = λ q k b f. let w : _≡_ {A = ℕ} 0 1 = cc in absurd (omega arith) }
+  told-refused n g notes t e = record { answers = answers-by (Refused n) g e; writes = λ q k b f. let w : _≡_ {A = ℕ} 0 1 = cc in absurd (omega arith) }
 
   pub told-read : (q k : ℕ) (b : Bool) (g : Got A) (notes : List ℕ) (t : Noting) → Read q k ≡ answer g → noted notes q b ≡ t → Told (part.Read q k b) g notes t
   told-read q k b g notes t e f = record {
-    answers = e;
+    answers = answers-by (Read q k) g e;
     writes = λ q′ k′ b′ h.
         let x : q′ ≡ q = cc in
         let y : b′ ≡ b = cc in
@@ -45,18 +46,18 @@ module _ {A : Type 0} where
   }
 
   pub told-as : {B : Type 0} (r : Part) (g : Got A) (h : Got B) (notes : List ℕ) (t u : Noting) → answer g ≡ answer h → t ≡ u → Told r g notes t → Told r h notes u
-  told-as r g h notes t u e f v = record { answers = v .answers ∙ e; writes = λ q k b z. v .writes q k b z ∙ f }
+  told-as r g h notes t u e f v = record { answers = answers-by (plain r) h (answer-is (plain r) g (v .answers) ∙ e); writes = λ q k b z. v .writes q k b z ∙ f }
 
   module _ (r : Part) (g : Got A) (notes : List ℕ) (t : Noting) (v : Told r g notes t) where
     pub told-got : (q k : ℕ) (b : Bool) → r ≡ part.Read q k b → Read q k ≡ answer g
-    told-got q k b e = sym (ap plain e) ∙ v .answers
+    told-got q k b e = sym (ap plain e) ∙ answer-is (plain r) g (v .answers)
 
     pub told-not : (n : ℕ) → r ≡ part.Refused n → Refused n ≡ answer g
-    told-not n e = sym (ap plain e) ∙ v .answers
+    told-not n e = sym (ap plain e) ∙ answer-is (plain r) g (v .answers)
 
-  pub told-leaf : (a : Answer) (r : Part) (b : Bool) (g : Got A) (notes : List ℕ) (t : Noting) → r ≡ leafOf a b → a ≡ answer g → ((q k : ℕ) → Read q k ≡ answer g → noted notes q b ≡ t) → Told r g notes t
-  told-leaf (Read q k) r b g notes t e f h = subst (λ (z : Part). Told z g notes t) (sym e) (told-read q k b g notes t f (h q k f))
-  told-leaf (Refused n) r b g notes t e f h = subst (λ (z : Part). Told z g notes t) (sym e) (told-refused n g notes t f)
+  pub told-leaf : (a : Answer) (r : Part) (b : Bool) (g : Got A) (notes : List ℕ) (t : Noting) → r ≡ leafOf a b → Answers a g → ((q k : ℕ) → Read q k ≡ answer g → noted notes q b ≡ t) → Told r g notes t
+  told-leaf (Read q k) r b g notes t e f h = subst (λ (z : Part). Told z g notes t) (sym e) (told-read q k b g notes t (answer-is (Read q k) g f) (h q k (answer-is (Read q k) g f)))
+  told-leaf (Refused n) r b g notes t e f h = subst (λ (z : Part). Told z g notes t) (sym e) (told-refused n g notes t (answer-is (Refused n) g f))
 
   -- a property of the position that is read to
   gave : (P : ℕ → Type 0) (g : Got A) (q k : ℕ) → Holds (λ a q j. P q) g → Read q k ≡ answer g → P q
@@ -146,10 +147,10 @@ module _ (l : List ℕ) where
 
   module _ (d : ℕ) (before after : List ℕ) where
     pub whole-refused : (n : ℕ) → Refused n ≡ answer (readTree input d l) → ReadWhole d l (Refused n) before after
-    whole-refused n e = record { answers = e; writes = λ q k f. let w : _≡_ {A = ℕ} 0 1 = cc in absurd (omega arith) }
+    whole-refused n e = record { answers = answers-by (Refused n) (readTree input d l) e; writes = λ q k f. let w : _≡_ {A = ℕ} 0 1 = cc in absurd (omega arith) }
 
     pub whole-read : (q k : ℕ) (b : Bool) → Read q k ≡ answer (readTree input d l) → noted after q b ≡ noteNode l d (noted before 0 false) → ReadWhole d l (Read q k) before after
-    whole-read q k b e f = record { answers = e; writes = λ _ _ _. ap (λ (t : Noting). t .notes) f }
+    whole-read q k b e f = record { answers = answers-by (Read q k) (readTree input d l) e; writes = λ _ _ _. ap (λ (t : Noting). t .notes) f }
 
 -- ---- what the tree is read into
 

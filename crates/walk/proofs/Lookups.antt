@@ -3,6 +3,7 @@
 use mathlib.Core.Path.{_≡_, refl, sym, ap, _∙_}
 use mathlib.Core.Bool.{Bool, true, false, cond}
 use mathlib.Core.List.{List}
+use mathlib.Core.Option.{some}
 use Prim.Native.Nat.{ℕ, zero, suc, _+_, _-_, _/_, _%_, _<_, _≤_}
 use native.Mathlib.Omega.{arith}
 use lib.Dec.{eqb}
@@ -38,7 +39,7 @@ use Rattle.direct.specs.Moved.{number}
 use Rattle.direct.proofs.MovedMade.{number-join}
 use Rattle.walk.specs.Modes as modes
 use Rattle.walk.specs.declared.look.Start.the-variants as start
-use Rattle.walk.specs.Turns.{keyClass, startOf}
+use Rattle.walk.specs.Turns.{keyClass, startOf, startValue}
 use Rattle.lowering.proofs.ItemLaws.{count-append}
 use Rattle.lowering.proofs.Cases.{by-shape}
 use Rattle.lowering.specs.Keys.Entry.{spelt, itself, omitted, saved}
@@ -200,21 +201,21 @@ hoisted-all r b a p e f h w = rw (e, sym f ∙ h) w
 -- ---- starting values
 
 module _ (t : List ℕ) where
-  pub start-none : (d at : ℕ) → d ≡ 0 → start.Missing ≡ startOf t d at
+  pub start-none : (d at : ℕ) → d ≡ 0 → startValue start.Missing ≡ startOf t d at
   unfolding startOf
   start-none d at e = rw e refl
 
-  pub start-value : (d at q r : ℕ) (b : Bool) → (d ≡ 0 → ⊥) → b ≡ eqb (byteAt t (onward t at 1) / 2 % 2) 1 → b ≡ true → q ≡ onward t at 2 → r ≡ lookNode t (d - 1) q .next → start.Value r ≡ startOf t d at
+  pub start-value : (d at q r : ℕ) (b : Bool) → (d ≡ 0 → ⊥) → b ≡ eqb (byteAt t (onward t at 1) / 2 % 2) 1 → b ≡ true → q ≡ onward t at 2 → r ≡ lookNode t (d - 1) q .next → startValue (start.Value r) ≡ startOf t d at
   unfolding startOf
   start-value zero at q r b z e h f g = absurd (z refl)
   start-value (suc d) at q r b z e h f g =
       let k : suc d - 1 ≡ d = omega arith in
-      ap start.Value (g ∙ rw (k, f) refl) ∙ when-yes (start.Value (lookNode t d (onward t at 2) .next)) _ _ _ (sym e ∙ h) refl
+      ap some (g ∙ rw (k, f) refl) ∙ when-yes (some (lookNode t d (onward t at 2) .next)) _ _ _ (sym e ∙ h) refl
 
-  pub start-missing : (d at : ℕ) (b : Bool) → (d ≡ 0 → ⊥) → b ≡ eqb (byteAt t (onward t at 1) / 2 % 2) 1 → b ≡ false → start.Missing ≡ startOf t d at
+  pub start-missing : (d at : ℕ) (b : Bool) → (d ≡ 0 → ⊥) → b ≡ eqb (byteAt t (onward t at 1) / 2 % 2) 1 → b ≡ false → startValue start.Missing ≡ startOf t d at
   unfolding startOf
   start-missing zero at b z e h = absurd (z refl)
-  start-missing (suc d) at b z e h = when-no start.Missing _ _ _ (sym e ∙ h) refl
+  start-missing (suc d) at b z e h = when-no (startValue start.Missing) _ _ _ (sym e ∙ h) refl
 
 -- ---- patterns that are moved out: none is a hole
 

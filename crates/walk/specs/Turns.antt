@@ -3,6 +3,7 @@ use Prim.Native.Nat.{ℕ, zero, suc, _+_, _-_, _/_, _%_}
 use mathlib.Core.Path.{_≡_}
 use mathlib.Core.Bool.{Bool, true, false, cond, not, _&&_, _||_}
 use mathlib.Core.List.{List, [], _∷_, _++_}
+use mathlib.Core.Option.{Option, some}
 use lib.Dec.{eqb, leb}
 use Rattle.tree.specs.Tree.{Node, Items, wideBytes}
 use Rattle.tree.specs.Tree.Items.{none, hole, item}
@@ -137,10 +138,15 @@ keyString k = elim (entryOf (keySort k)) [ spelt ↦ stringBytes (keyText k) | i
 abbrev pub levelOf : Bool → ℕ → ℕ
 levelOf inner left = cond inner (left - 1) left
 
--- where the starting value of the declarator at a position is
-unfoldable pub startOf : List ℕ → ℕ → ℕ → Start
-startOf tree zero at = Missing
-startOf tree (suc d) at = cond (eqb (byteAt tree (onward tree at 1) / 2 % 2) 1) (Value (lookNode tree d (onward tree at 2) .next)) Missing
+-- where the starting value of the declarator at a position is, if it has one
+unfoldable pub startOf : List ℕ → ℕ → ℕ → Option ℕ
+startOf tree zero at = Option.none
+startOf tree (suc d) at = cond (eqb (byteAt tree (onward tree at 1) / 2 % 2) 1) (some (lookNode tree d (onward tree at 2) .next)) Option.none
+
+-- the value of the answer for each case; document 01 has no number for it: a declarator without one is passed over
+abbrev pub startValue : Start → Option ℕ
+startValue (Value at) = some at
+startValue Missing = Option.none
 
 -- whether the loop at a position awaits
 unfoldable pub awaits : List ℕ → ℕ → Bool

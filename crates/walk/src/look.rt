@@ -26,7 +26,7 @@ ghost use Rattle.direct.specs.Events as events;
 ghost use Rattle.direct.specs.Views.{isOther, takes};
 ghost use Rattle.direct.specs.Keys.{hoists};
 ghost use Rattle.direct.specs.Moved.{number};
-ghost use Rattle.walk.specs.Turns.{viewOf, propertyMode, valueMode, itemMode, keyClass, levelOf, startOf};
+ghost use Rattle.walk.specs.Turns.{viewOf, propertyMode, valueMode, itemMode, keyClass, levelOf, startOf, startValue};
 
 // The first bit of the bit map of the node at a position, and the second.
 pub fn first_bit(t: &[u8], at: usize) -> usize
@@ -173,7 +173,7 @@ pub enum Start {
 }
 
 pub fn start_of(t: &[u8], left: usize, at: usize) -> Start
-    ensures { λ r. ⌜ r ≡ startOf (now (t .entry)) left at ⌝ }
+    ensures { λ r. ⌜ startValue r ≡ startOf (now (t .entry)) left at ⌝ }
 {
     if left == 0 {
         return Start::Missing;
