@@ -237,7 +237,7 @@ def table_rows(text):
 
 def declares(source, name):
     word = re.escape(name)
-    return re.search(rf"^\s*(?:(?:unfoldable|abbrev|shut|pub|data|record|mutual|type|struct|enum|extern \"C\"|fn)\s+)*{word}(?=[\s:({{<])", source, re.M)
+    return re.search(rf"^\s*(?:(?:unfoldable|abbrev|shut|pub|pub\(crate\)|data|record|mutual|type|struct|enum|extern \"C\"|fn)\s+)*{word}(?=[\s:({{<])", source, re.M)
 
 
 def fits(case, words):

@@ -23,7 +23,7 @@ fn ended(left: usize, more: usize) -> bool
 }
 
 // A kind, and the state after it.
-pub struct Choice {
+struct Choice {
     pub kind: u8,
     pub state: u32,
 }
@@ -133,7 +133,7 @@ fn fewer(n: usize) -> usize
 }
 
 // A node at a place, with `left` levels for it and what is below it.
-pub fn node(out: &mut [u8], place: usize, left: usize, g: Pen) -> Pen
+pub(crate) fn node(out: &mut [u8], place: usize, left: usize, g: Pen) -> Pen
     ensures { λ r. ⌜ page (now (out .exit)) r ≡ drewNode (now (out .entry)) (g .at) (drawNode left place (g .state) (g .more) (g .mark)) ⌝ }
 {
     if left == 0 {
@@ -175,7 +175,7 @@ pub fn node(out: &mut [u8], place: usize, left: usize, g: Pen) -> Pen
 }
 
 // Whether a field stands, and the state after that is settled.
-pub struct Settled {
+struct Settled {
     pub stands: bool,
     pub state: u32,
 }

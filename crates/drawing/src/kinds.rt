@@ -263,7 +263,7 @@ fn wide(x: u8) -> usize
     x as usize
 }
 
-pub fn count(place: usize) -> usize
+pub(crate) fn count(place: usize) -> usize
     ensures { λ r. ⌜ r ≡ length (rising place) ⌝ }
 {
     if place < 26 {
@@ -272,7 +272,7 @@ pub fn count(place: usize) -> usize
     0
 }
 
-pub fn kind(place: usize, i: usize) -> u8
+pub(crate) fn kind(place: usize, i: usize) -> u8
     ensures { λ r. ⌜ r ≡ getD (rising place) i 0 ⌝ }
 {
     if i < count(place) {
@@ -281,7 +281,7 @@ pub fn kind(place: usize, i: usize) -> u8
     0
 }
 
-pub fn shortest_kind(place: usize) -> u8
+pub(crate) fn shortest_kind(place: usize) -> u8
     ensures { λ r. ⌜ r ≡ shortest place ⌝ }
 {
     if place < 26 {

@@ -16,7 +16,7 @@ pub struct Xorshift {
 }
 
 // The state after x, which is also the number.
-pub fn advanced(x: u32) -> u32
+pub(crate) fn advanced(x: u32) -> u32
     ensures { λ r. ⌜ r ≡ step x ⌝ }
 {
     let a = x ^ (x << 13);

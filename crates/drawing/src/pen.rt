@@ -7,7 +7,7 @@ ghost use Rattle.tree.specs.Tree.{wideBytes};
 
 // The generator's state, how many nodes are still to be begun before all is cut short, the next mark, the position; and what
 // was drawn last hands on: a field its byte, fields their bit map.
-pub struct Pen {
+pub(crate) struct Pen {
     pub state: u32,
     pub more: usize,
     pub mark: u16,

@@ -17,7 +17,7 @@ ghost use Rattle.rewritten.specs.Rewritten.{readRewritten};
 ghost use Rattle.ordering.specs.Outcome.{pairOf, isRefused, answerOf};
 
 // What two sides give: an event of each; or one of them has ended, which decides.
-pub enum Pair {
+enum Pair {
     Both(Event, Side, Event, Side),
     Over(Verdict),
 }

@@ -11,7 +11,7 @@ ghost use Rattle.ordering.specs.Order.{byEvent, opensTemporary};
 ghost use Rattle.ordering.specs.Sides.{KeyIs, Within, numberIn};
 
 // Three numbers and a text, which has `size` bytes from `at` on.
-pub struct Key {
+struct Key {
     pub rank: usize,
     pub first: usize,
     pub second: usize,
@@ -90,7 +90,7 @@ fn key_of(e: Event) -> Key
 }
 
 // An event of the first tree against one of the second.
-pub fn by_event(first: &[u8], e: Event, second: &[u8], f: Event) -> Verdict
+pub(crate) fn by_event(first: &[u8], e: Event, second: &[u8], f: Event) -> Verdict
     ensures { λ r. ⌜ (Within (now (first .entry)) e → Within (now (second .entry)) f → r ≡ byEvent (eventIn (now (first .entry)) e) (eventIn (now (second .entry)) f)) ⌝ }
 {
     let k = key_of(e);
@@ -102,7 +102,7 @@ pub fn by_event(first: &[u8], e: Event, second: &[u8], f: Event) -> Verdict
 }
 
 // The number that an event is, 65,536 if it is none.
-pub fn number_in(e: Event) -> usize
+pub(crate) fn number_in(e: Event) -> usize
     ensures { λ r. ⌜ ((tree : List ℕ) → r ≡ numberIn (eventIn tree e)) ⌝ }
 {
     let k = key_of(e);
@@ -113,7 +113,7 @@ pub fn number_in(e: Event) -> usize
 }
 
 // The next event is the number of a temporary.
-pub fn opens_temporary(e: Event) -> bool
+pub(crate) fn opens_temporary(e: Event) -> bool
     ensures { λ r. ⌜ ((tree : List ℕ) → r ≡ opensTemporary (eventIn tree e)) ⌝ }
 {
     let k = key_of(e);

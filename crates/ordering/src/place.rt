@@ -5,13 +5,13 @@ ghost use lib.ListN.{length, getD};
 ghost use Rattle.ordering.specs.Places.{PlacedAs};
 
 // A place, and how many were met then.
-pub struct Placed {
+pub(crate) struct Placed {
     pub place: usize,
     pub met: usize,
 }
 
 // Every entry 0.
-pub fn clear(table: &mut [u16])
+pub(crate) fn clear(table: &mut [u16])
     ensures { λ _. ⌜ (length (now (table .exit)) ≡ length (now (table .entry))) × ((x : ℕ) → getD (now (table .exit)) x 0 ≡ 0) ⌝ }
 {
     let mut i = table.len();
@@ -32,7 +32,7 @@ fn place_at(table: &[u16], n: usize) -> usize
 }
 
 // The place of a number, of which so many were met; a new one gets the next place. Places have 16 bits.
-pub fn place(table: &mut [u16], met: usize, n: usize) -> Placed
+pub(crate) fn place(table: &mut [u16], met: usize, n: usize) -> Placed
     ensures { λ r. ⌜ (length (now (table .exit)) ≡ length (now (table .entry))) × (met < 65535 → PlacedAs (now (table .entry)) (now (table .exit)) met n r) ⌝ }
 {
     let p = place_at(table, n);

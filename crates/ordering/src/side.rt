@@ -12,19 +12,19 @@ ghost use Rattle.rewritten.specs.Events as events;
 ghost use Rattle.ordering.specs.Sides.{Coming, Moved};
 
 // Where the tour stands, whether the next event is the number of a temporary, and how many temporaries were met.
-pub struct Side {
+pub(crate) struct Side {
     pub cursor: Cursor,
     pub temporary: bool,
     pub met: usize,
 }
 
 // The next event with its place, and the side then; or nothing is left.
-pub enum Move {
+pub(crate) enum Move {
     Met(Event, Side),
     Ended,
 }
 
-pub fn advance(tree: &[u8], frames: &mut [usize], table: &mut [u16], side: Side) -> Move
+pub(crate) fn advance(tree: &[u8], frames: &mut [usize], table: &mut [u16], side: Side) -> Move
     ensures { λ r. ⌜ (length (now (frames .exit)) ≡ length (now (frames .entry))) × (length (now (table .exit)) ≡ length (now (table .entry))) × ((es : List events.Event) → Coming (now (tree .entry)) (now (frames .entry)) (now (table .entry)) side es → Moved (now (tree .entry)) (now (frames .exit)) (now (table .exit)) side es r) ⌝ }
 {
     match next::next(tree, frames, side.cursor) {

@@ -6,7 +6,7 @@ ghost use lib.ListN.{length, take, drop};
 ghost use Rattle.ordering.specs.Verdicts.{byText};
 
 // All bytes of the first against all of the second.
-pub fn by_bytes(first: &[u8], second: &[u8]) -> Verdict
+pub(crate) fn by_bytes(first: &[u8], second: &[u8]) -> Verdict
     ensures { λ r. ⌜ r ≡ byText (now (first .entry)) (now (second .entry)) ⌝ }
 {
     let mut i = 0;
@@ -32,7 +32,14 @@ pub fn by_bytes(first: &[u8], second: &[u8]) -> Verdict
 }
 
 // The n bytes from `at` on against the m from `start` on, if there are so many.
-pub fn by_text(first: &[u8], at: usize, n: usize, second: &[u8], start: usize, m: usize) -> Verdict
+pub(crate) fn by_text(
+    first: &[u8],
+    at: usize,
+    n: usize,
+    second: &[u8],
+    start: usize,
+    m: usize,
+) -> Verdict
     ensures { λ r. ⌜ (at + n ≤ length (now (first .entry)) → start + m ≤ length (now (second .entry)) → r ≡ byText (take n (drop at (now (first .entry)))) (take m (drop start (now (second .entry))))) ⌝ }
 {
     if at <= first.len() {

@@ -8,7 +8,7 @@ pub enum Verdict {
     Greater,
 }
 
-pub fn by_value(a: usize, b: usize) -> Verdict
+pub(crate) fn by_value(a: usize, b: usize) -> Verdict
     ensures { λ r. ⌜ r ≡ byValue a b ⌝ }
 {
     if a < b {
@@ -21,7 +21,7 @@ pub fn by_value(a: usize, b: usize) -> Verdict
 }
 
 // The first, unless it is equal.
-pub fn or_else(v: Verdict, w: Verdict) -> Verdict
+pub(crate) fn or_else(v: Verdict, w: Verdict) -> Verdict
     ensures { λ r. ⌜ r ≡ orElse v w ⌝ }
 {
     match v {
@@ -31,7 +31,7 @@ pub fn or_else(v: Verdict, w: Verdict) -> Verdict
     }
 }
 
-pub fn is_equal(v: Verdict) -> bool
+pub(crate) fn is_equal(v: Verdict) -> bool
     ensures { λ r. ⌜ r ≡ isEqual v ⌝ }
 {
     match v {

@@ -116,7 +116,7 @@ fn item(tree: &[u8], at: usize, w: usize) -> usize
 }
 
 // What stands next in a task that is not done.
-pub fn look(tree: &[u8], at: usize, top: usize) -> usize
+pub(crate) fn look(tree: &[u8], at: usize, top: usize) -> usize
     ensures { λ r. ⌜ (isClosed top ≡ false → Ahead (now (tree .entry)) at (restOf top) (λ frames deep. comingAt (now (tree .entry)) frames at deep top) r) ⌝ }
 {
     if top % 2 == 0 {
@@ -126,7 +126,7 @@ pub fn look(tree: &[u8], at: usize, top: usize) -> usize
 }
 
 // Nothing is left of a task.
-pub fn is_closed(top: usize) -> bool
+pub(crate) fn is_closed(top: usize) -> bool
     ensures { λ r. ⌜ r ≡ isClosed top ⌝ }
 {
     if top % 2 == 0 {
@@ -136,7 +136,7 @@ pub fn is_closed(top: usize) -> bool
 }
 
 // What is left of a task after its next field or item.
-pub fn rest_of(top: usize) -> usize
+pub(crate) fn rest_of(top: usize) -> usize
     ensures { λ r. ⌜ r ≡ restOf top ⌝ }
 {
     let w = top / 2;
@@ -147,7 +147,7 @@ pub fn rest_of(top: usize) -> usize
 }
 
 // How many bytes there are of what was found, those of a node or a list before its fields or items.
-pub fn size_of(what: usize) -> usize
+pub(crate) fn size_of(what: usize) -> usize
     ensures { λ r. ⌜ ((at : ℕ) → at + r ≡ endFor at (what % 16) (what / 16)) ⌝ }
 {
     let code = what % 16;

@@ -8,7 +8,7 @@ ghost use Rattle.tree.specs.Read.{chosenPlace};
 ghost use Rattle.rewritten.specs.Steps.{Planned};
 
 // The fields of a row whose bits stand, ten binary digits a field, the tenth always set.
-pub fn plan(row: usize, map: usize) -> usize
+pub(crate) fn plan(row: usize, map: usize) -> usize
     ensures { λ r. ⌜ Planned row map r ⌝ }
 {
     if 1152921504606846975 < row {
@@ -30,7 +30,7 @@ pub fn plan(row: usize, map: usize) -> usize
 }
 
 // The form of a kind at a place in a rewritten tree, 0 where the kind may not stand there.
-pub fn form_at(place: usize, kind: usize) -> usize
+pub(crate) fn form_at(place: usize, kind: usize) -> usize
     ensures { λ r. ⌜ r ≡ formAt rewritten place kind ⌝ }
 {
     if kind == 20 {
@@ -51,7 +51,7 @@ pub fn form_at(place: usize, kind: usize) -> usize
 }
 
 // The place of a node that goes by the byte before it: the first if that is 1, else the second.
-pub fn choose(tree: &[u8], first: usize, second: usize, at: usize) -> usize
+pub(crate) fn choose(tree: &[u8], first: usize, second: usize, at: usize) -> usize
     ensures { λ r. ⌜ r ≡ chosenPlace (now (tree .entry)) first second at ⌝ }
 {
     let before = if 0 < at { at - 1 } else { 0 };

@@ -3,8 +3,7 @@ use crate::step::Event;
 ghost use mathlib.Core.Path.{_≡_};
 ghost use mathlib.Core.List.{List};
 ghost use Prim.Native.Nat.{ℕ, _/_, _%_};
-ghost use lib.Dec.{eqb};
-ghost use lib.ListN.{length, getD, set};
+ghost use lib.ListN.{length, getD};
 ghost use Rattle.rewritten.specs.Steps.{eventIn};
 ghost use Rattle.rewritten.specs.Look.{newFor, notedFor};
 ghost use Rattle.rewritten.specs.Marks.{newIn, noted};
@@ -59,7 +58,7 @@ pub fn note(seen: &mut [u8], e: Event)
 }
 
 // Whether what `look` found is no mark that was met.
-pub fn is_new_ahead(seen: &[u8], what: usize) -> bool
+pub(crate) fn is_new_ahead(seen: &[u8], what: usize) -> bool
     ensures { λ r. ⌜ r ≡ newFor (now (seen .entry)) (what % 16) (what / 16) ⌝ }
 {
     if what % 16 == 4 {
@@ -72,7 +71,7 @@ pub fn is_new_ahead(seen: &[u8], what: usize) -> bool
 }
 
 // A mark that `look` found is noted.
-pub fn note_ahead(seen: &mut [u8], what: usize)
+pub(crate) fn note_ahead(seen: &mut [u8], what: usize)
     ensures { λ _. ⌜ now (seen .exit) ≡ notedFor (now (seen .entry)) (what % 16) (what / 16) ⌝ }
 {
     if what % 16 == 4 {

@@ -4,7 +4,7 @@ ghost use Prim.Native.Nat.{min};
 ghost use lib.ListN.{length, getD, set, replicate};
 ghost use Rattle.sink.specs.Machine.{wideIn, setWide, oneMore, low, high};
 
-pub fn byte(s: &[u8], at: usize) -> u8
+fn byte(s: &[u8], at: usize) -> u8
     ensures { λ r. ⌜ r ≡ getD (now (s .entry)) at 0 ⌝ }
 {
     if at < s.len() {
@@ -13,7 +13,7 @@ pub fn byte(s: &[u8], at: usize) -> u8
     0
 }
 
-pub fn wide(s: &[u8], at: usize) -> usize
+pub(crate) fn wide(s: &[u8], at: usize) -> usize
     ensures { λ r. ⌜ r ≡ wideIn (now (s .entry)) at ⌝ }
 {
     if at < s.len() {
@@ -22,7 +22,7 @@ pub fn wide(s: &[u8], at: usize) -> usize
     0
 }
 
-pub fn put_byte(s: &mut [u8], at: usize, b: u8)
+pub(crate) fn put_byte(s: &mut [u8], at: usize, b: u8)
     ensures { λ _. ⌜ now (s .exit) ≡ set (now (s .entry)) at b ⌝ }
 {
     if at < s.len() {
@@ -30,7 +30,7 @@ pub fn put_byte(s: &mut [u8], at: usize, b: u8)
     }
 }
 
-pub fn put_wide(s: &mut [u8], at: usize, n: usize)
+pub(crate) fn put_wide(s: &mut [u8], at: usize, n: usize)
     ensures { λ _. ⌜ now (s .exit) ≡ setWide (now (s .entry)) at n ⌝ }
 {
     if at < s.len() {
@@ -45,14 +45,14 @@ pub fn low(n: usize) -> u8
     (n % 256) as u8
 }
 
-pub fn high(n: usize) -> u8
+pub(crate) fn high(n: usize) -> u8
     ensures { λ r. ⌜ r ≡ high n ⌝ }
 {
     (n / 256 % 256) as u8
 }
 
 // One more, up to a greatest number.
-pub fn one_more(n: usize, greatest: usize) -> usize
+pub(crate) fn one_more(n: usize, greatest: usize) -> usize
     ensures { λ r. ⌜ r ≡ oneMore greatest n ⌝ }
 {
     if n < greatest {
@@ -71,7 +71,7 @@ pub fn least(a: usize, b: usize) -> usize
 }
 
 // Every byte 0.
-pub fn clear(s: &mut [u8])
+pub(crate) fn clear(s: &mut [u8])
     ensures { λ _. ⌜ now (s .exit) ≡ replicate (length (now (s .entry))) 0 ⌝ }
 {
     let mut i = 0;

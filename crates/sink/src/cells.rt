@@ -7,7 +7,7 @@ ghost use mathlib.Core.List.{List};
 ghost use Rattle.sink.specs.Machine.{stateOf, step, cellOf, setCell, known, patchList, patchWork, numberOf, settle};
 ghost use Rattle.sink.specs.Machine.Event.{make};
 
-pub fn cell(work: &[u8], c: usize) -> usize
+fn cell(work: &[u8], c: usize) -> usize
     ensures { λ r. ⌜ r ≡ cellOf (now (work .entry)) c ⌝ }
 {
     if c < 16384 {
@@ -16,7 +16,7 @@ pub fn cell(work: &[u8], c: usize) -> usize
     0
 }
 
-pub fn set_cell(work: &mut [u8], c: usize, n: usize)
+pub(crate) fn set_cell(work: &mut [u8], c: usize, n: usize)
     ensures { λ _. ⌜ now (work .exit) ≡ setCell (now (work .entry)) c n ⌝ }
 {
     if c < 16384 {
@@ -31,7 +31,7 @@ pub fn make(work: &mut [u8], c: usize)
     set_cell(work, c, 0);
 }
 
-pub fn known(v: usize) -> bool
+fn known(v: usize) -> bool
     ensures { λ r. ⌜ r ≡ known v ⌝ }
 {
     if 0 < v {
@@ -67,7 +67,7 @@ impl Sink {
     }
 
     // A cell without a number takes the next one.
-    pub fn settled(mut self, list: &mut [u8], work: &mut [u8], c: usize) -> Sink
+    pub(crate) fn settled(mut self, list: &mut [u8], work: &mut [u8], c: usize) -> Sink
         ensures { λ r. ⌜ ((t : List ℕ) → stateOf t (now (list .exit)) (now (work .exit)) r ≡ settle (stateOf t (now (list .entry)) (now (work .entry)) self) c) ⌝ }
     {
         let v = cell(work, c);

@@ -53,7 +53,7 @@ fn listed_at(at: usize) -> usize
 }
 
 impl Sink {
-    pub fn listed(mut self, list: &mut [u8], b: u8) -> Sink
+    fn listed(mut self, list: &mut [u8], b: u8) -> Sink
         ensures { λ r. ⌜ ((t w : List ℕ) → stateOf t (now (list .exit)) w r ≡ step (stateOf t (now (list .entry)) w self) (listed b)) ⌝ }
     {
         let filled = self.list;
@@ -72,14 +72,14 @@ impl Sink {
         self.listed(list, a).listed(list, b)
     }
 
-    pub fn listed4(self, list: &mut [u8], a: u8, b: u8, c: u8, d: u8) -> Sink
+    fn listed4(self, list: &mut [u8], a: u8, b: u8, c: u8, d: u8) -> Sink
         ensures { λ r. ⌜ ((t w : List ℕ) → stateOf t (now (list .exit)) w r ≡ steps (stateOf t (now (list .entry)) w self) (lists (a ∷ b ∷ c ∷ d ∷ []))) ⌝ }
     {
         self.listed2(list, a, b).listed2(list, c, d)
     }
 
     // A 16-bit number.
-    pub fn listed_wide(self, list: &mut [u8], n: usize) -> Sink
+    pub(crate) fn listed_wide(self, list: &mut [u8], n: usize) -> Sink
         ensures { λ r. ⌜ ((t w : List ℕ) → stateOf t (now (list .exit)) w r ≡ steps (stateOf t (now (list .entry)) w self) (lists (low n ∷ high n ∷ []))) ⌝ }
     {
         self.listed2(list, bytes::low(n), bytes::high(n))

@@ -12,7 +12,7 @@ fn bit(used: bool, value: u8) -> u8
 }
 
 impl Helpers {
-    pub fn with(mut self, h: u8) -> Helpers
+    pub(crate) fn with(mut self, h: u8) -> Helpers
         ensures { λ r. ⌜ r ≡ withHelper self h ⌝ }
     {
         match h {
@@ -37,7 +37,7 @@ impl Helpers {
     }
 
     // Bit h - 1 for helper h.
-    pub fn mask(self) -> u8
+    pub(crate) fn mask(self) -> u8
         ensures { λ r. ⌜ r ≡ maskOf self ⌝ }
     {
         bit(self.spread, 1)

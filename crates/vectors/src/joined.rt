@@ -86,7 +86,7 @@ fn placed(t: Tally, head: Head, tree: &mut [u8], list: &mut [u8], want: &mut [u8
     filled(t, head, &mut tree[..a], &mut list[..b], &mut want[..c])
 }
 
-pub fn case(t: Tally) -> Tally {
+pub(crate) fn case(t: Tally) -> Tally {
     let mut bytes = [0u8; 9];
     let n = io::read_full(STDIN_FILENO, &mut bytes);
     if n < 9 {

@@ -89,7 +89,7 @@ fn placed(t: Tally, head: Head, space: &mut [u8]) -> Tally {
     filled(t, head, &mut space[..length])
 }
 
-pub fn case(t: Tally) -> Tally {
+pub(crate) fn case(t: Tally) -> Tally {
     let mut bytes = [0u8; 6];
     let n = io::read_full(STDIN_FILENO, &mut bytes);
     if n < 6 {

@@ -70,7 +70,7 @@ fn say_answer(answer: u8, helpers: u8, mask: u8, tree: usize, list: usize) {
 }
 
 // Whether the bytes are those of `start`, then zeros.
-pub fn holds(bytes: &[u8], start: &[u8]) -> bool {
+pub(crate) fn holds(bytes: &[u8], start: &[u8]) -> bool {
     let mut i = 0;
     while i < bytes.len() {
         let want = if i < start.len() { start[i] } else { 0 };
@@ -323,7 +323,7 @@ fn limited(t: Tally, limit: Limit) -> Tally {
     )
 }
 
-pub fn case(t: Tally) -> Tally {
+pub(crate) fn case(t: Tally) -> Tally {
     limited(
         t,
         Limit {
@@ -333,7 +333,7 @@ pub fn case(t: Tally) -> Tally {
     )
 }
 
-pub fn case_within(t: Tally) -> Tally {
+pub(crate) fn case_within(t: Tally) -> Tally {
     let mut bytes = [0u8; 4];
     let n = io::read_full(STDIN_FILENO, &mut bytes);
     if n < 4 {

@@ -2,7 +2,7 @@
 use libc::STDOUT_FILENO;
 
 // How many cases were begun, and what came of them; how often the entry was called; `more` until the input ends or breaks off.
-pub struct Tally {
+pub(crate) struct Tally {
     pub cases: u64,
     pub wrong: u64,
     pub accepted: u64,
@@ -17,11 +17,11 @@ pub struct Tally {
     pub more: bool,
 }
 
-pub fn say(text: &[u8]) {
+pub(crate) fn say(text: &[u8]) {
     io::write_all(STDOUT_FILENO, text);
 }
 
-pub fn say_number(n: u64) {
+pub(crate) fn say_number(n: u64) {
     io::print_decimal(STDOUT_FILENO, n);
 }
 
@@ -30,7 +30,7 @@ fn one_more(n: u64) -> u64 {
 }
 
 impl Tally {
-    pub fn none() -> Tally {
+    pub(crate) fn none() -> Tally {
         Tally {
             cases: 0,
             wrong: 0,
@@ -47,18 +47,18 @@ impl Tally {
         }
     }
 
-    pub fn begun(mut self) -> Tally {
+    pub(crate) fn begun(mut self) -> Tally {
         self.cases = one_more(self.cases);
         self
     }
 
-    pub fn ended(mut self) -> Tally {
+    pub(crate) fn ended(mut self) -> Tally {
         self.more = false;
         self
     }
 
     // Counts a disagreement and begins its line.
-    pub fn failed(mut self) -> Tally {
+    pub(crate) fn failed(mut self) -> Tally {
         self.wrong = one_more(self.wrong);
         say(b"case ");
         say_number(self.cases);
@@ -66,14 +66,14 @@ impl Tally {
     }
 
     // The input makes no case from here on.
-    pub fn broken(self, why: &[u8]) -> Tally {
+    pub(crate) fn broken(self, why: &[u8]) -> Tally {
         let t = self.failed();
         say(why);
         t.ended()
     }
 
     // An answer of the reader.
-    pub fn read(mut self, answer: u8) -> Tally {
+    pub(crate) fn read(mut self, answer: u8) -> Tally {
         match answer {
             0 => {
                 self.accepted = one_more(self.accepted);
@@ -90,7 +90,7 @@ impl Tally {
     }
 
     // An expected answer of the entry.
-    pub fn answered(mut self, answer: u8) -> Tally {
+    pub(crate) fn answered(mut self, answer: u8) -> Tally {
         if answer == 0 {
             self.lowered = one_more(self.lowered);
         } else {
@@ -99,18 +99,18 @@ impl Tally {
         self
     }
 
-    pub fn called(mut self) -> Tally {
+    pub(crate) fn called(mut self) -> Tally {
         self.calls = one_more(self.calls);
         self
     }
 
-    pub fn drew(mut self) -> Tally {
+    pub(crate) fn drew(mut self) -> Tally {
         self.drawn = one_more(self.drawn);
         self
     }
 
     // An expected answer of joining.
-    pub fn joins(mut self, answer: u8) -> Tally {
+    pub(crate) fn joins(mut self, answer: u8) -> Tally {
         if answer == 0 {
             self.joined = one_more(self.joined);
         } else {
@@ -119,7 +119,7 @@ impl Tally {
         self
     }
 
-    pub fn report(self) {
+    pub(crate) fn report(self) {
         say(b"reading: accepted ");
         say_number(self.accepted);
         say(b", refused 3: ");
@@ -146,6 +146,6 @@ impl Tally {
     }
 }
 
-pub fn wide(low: u8, high: u8) -> usize {
+pub(crate) fn wide(low: u8, high: u8) -> usize {
     low as usize + 256 * (high as usize)
 }
