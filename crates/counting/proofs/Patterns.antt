@@ -1,7 +1,7 @@
 -- `patterns n` has each pattern of length n once, and no other; and laws of counting.
 -- Assumes nothing.
 use mathlib.Core.Path.{_≡_, refl, sym, ap, _∙_}
-use mathlib.Core.Bool.{Bool, true, false, false≢true}
+use mathlib.Core.Bool.{Bool, true, false}
 use mathlib.Core.List.{List, [], _∷_, _++_}
 use Prim.Native.Nat.{ℕ, zero, suc, _+_, _^_}
 use native.Mathlib.Nat.{two-pow-succ}
@@ -102,23 +102,6 @@ each-once (suc n) (false ∷ p) =
     let r = each-once n p in
     let e = ap (λ (t : Bool). number t) (eqb·suc-suc (length p) n) in
     omega arith
-
--- `same` says what it should
-pub same-self : (p : Pattern) → same p p ≡ true
-unfolding same
-same-self [] = refl
-same-self (true ∷ p) = same-self p
-same-self (false ∷ p) = same-self p
-
-pub same-equal : (p q : Pattern) → same p q ≡ true → p ≡ q
-unfolding same
-same-equal [] [] h = refl
-same-equal [] (b ∷ q) h = absurd (false≢true h)
-same-equal (a ∷ p) [] h = absurd (false≢true h)
-same-equal (true ∷ p) (true ∷ q) h = ap (λ (r : Pattern). true ∷ r) (same-equal p q h)
-same-equal (true ∷ p) (false ∷ q) h = absurd (false≢true h)
-same-equal (false ∷ p) (true ∷ q) h = absurd (false≢true h)
-same-equal (false ∷ p) (false ∷ q) h = ap (λ (r : Pattern). false ∷ r) (same-equal p q h)
 
 -- ---- there are 2 ^ n
 

@@ -9,10 +9,9 @@ use borrow.Author.Tests.{eqb-true}
 use Rattle.sink.specs.Machine.{Event}
 use Rattle.tree.specs.Tree.{Node, Items, depth, encode}
 use Rattle.lowering.specs.Parts.{position, kind, is, pieceIn, nodeAt, itemsAt, numberAt, stands, standsIn, changeItems, only, each, gather, any, isEmpty, _+++_}
-use Rattle.lowering.specs.Made.{Context, temporary, reference, valueOf, assign, declares, declared, idOf, varOf, assigning}
-use Rattle.lowering.specs.Patterns.{properties, rest, key, replacedBelow, hasObjectRest, hasArrayRestOverObjectRest}
-use Rattle.lowering.specs.Keys.{keySort, keyTemporary, keyTemporaries, keysRefusal}
-use Rattle.lowering.specs.Rests.{restValue, excludedFor}
+use Rattle.lowering.specs.Made.{Context, temporary, reference, declares, declared, idOf, varOf, assigning}
+use Rattle.lowering.specs.Patterns.{properties, key, replacedBelow, hasObjectRest, hasArrayRestOverObjectRest}
+use Rattle.lowering.specs.Keys.{keySort, keyTemporary, keyTemporaries}
 use Rattle.lowering.specs.Literals.{Call, opened, closed, scan, literal}
 use Rattle.lowering.specs.Declarations.{declaration, declarationMakes, declarationExcludes, declarationRefusal}
 use Rattle.lowering.specs.Assignments.{target, isTop, partsOf, fromReference, topRefusal, topSequence, topEntry, topExcludes, topMakes, nestedSequence, nestedEntry, nestedMakes}
@@ -20,7 +19,7 @@ use Rattle.lowering.specs.Heads.{isMoved, movedFrom, movedOut, leftBehind, inFr
 use Rattle.lowering.specs.Walk.{Step, Rule, rewritten, unchanged, refuse, stepDeclaration, stepTop, stepAssignment, stepFor, ruleOf, rewrite}
 use Rattle.lowering.specs.Refusals.{restBelowArrayRest}
 use Rattle.lowering.specs.Walk.Rule.{literals, declarations, assignments, functions, arrows, catches, fors, nowhere}
-use Rattle.lowering.proofs.All.{AllItems, all-unit}
+use Rattle.lowering.proofs.All.{all-unit}
 use Rattle.lowering.proofs.Cases.{by-test, by-key, by-rule, shape-34, functionBody-is, block-is, declarations-4, by-number}
 use Rattle.direct.specs.Events.{Deed, cell, cellOf, stemOf, lists, made, handed, entered, refused, handsOut, excludedKeys as excludedDeeds}
 use Rattle.direct.specs.Events.Deed.{does}

@@ -6,10 +6,9 @@ use mathlib.Core.List.{List, [], _∷_, _++_}
 use Prim.Native.Nat.{ℕ, zero, suc, _<_}
 use native.Mathlib.Omega.{arith}
 use Rattle.tree.specs.Tree.{Node, Items, wideBytes, mapOf, count, depth}
-use Rattle.tree.specs.Tree.Fields.{done, field}
 use Rattle.tree.specs.Tree.Piece.{one, byte}
-use Rattle.lowering.specs.Parts.{position, is, pieceIn, standsIn, changeIn, nodeAt, itemsAt, stands, isEmpty, change, onNode, changeNode, only, each, gather, _+++_}
-use Rattle.lowering.specs.Made.{Context, temporary, assign, sequence, reference, valueOf}
+use Rattle.lowering.specs.Parts.{position, is, pieceIn, standsIn, changeIn, nodeAt, itemsAt, stands, isEmpty, change, onNode, only, each, _+++_}
+use Rattle.lowering.specs.Made.{temporary, assign, sequence, valueOf}
 use Rattle.lowering.specs.Patterns.{shape, rest, hasNestedObjectRest, hasObjectRest, hasArrayRestOverObjectRest, replacedBelow}
 use Rattle.lowering.specs.Patterns.Shape.{leaf}
 use Rattle.lowering.specs.Keys.{keysRefusal}
@@ -17,7 +16,7 @@ use Rattle.lowering.specs.Rests.{restValue}
 use Rattle.lowering.specs.Assignments.{target, isTop, partsOf, outermost, fromReference, topRefusal, topSequence, topEntry, topExcludes, topMakes, nestedSequence, nestedEntry, nestedMakes}
 use Rattle.lowering.specs.Walk.{rewrite, refuse, ruleOf, opensScope, stepAssignment, stepTop}
 use Rattle.lowering.specs.Collect.{isContainer}
-use Rattle.lowering.proofs.Cases.{by-test, by-shape, rule-27}
+use Rattle.lowering.proofs.Cases.{by-test, rule-27}
 use Rattle.lowering.proofs.Accepted.{NoHoles}
 use Rattle.direct.specs.Events.{Place, Emit, puts, refused, contextOf, emits}
 use Rattle.direct.specs.Emit.{say, _▷_, below, inner, emitsItems, emitsPiece, stays, inTurn}
@@ -25,7 +24,7 @@ use Rattle.direct.specs.Views.{View, objectRestAt, viewed, eachDoes, say
 use Rattle.direct.specs.Views.View.{replacing, taking}
 use Rattle.direct.specs.Keys.{emitsRest}
 use Rattle.direct.specs.Objects.{reachedIn, replacedIn, overReplaced, overParts}
-use Rattle.direct.specs.Objects.Reach.{straight, inArrays}
+use Rattle.direct.specs.Objects.Reach.{inArrays}
 use Rattle.direct.specs.Handed.{placesIn, partsCount}
 use Rattle.direct.specs.Assigned.{assignmentAt, assignHead, emitsRestOf, emitsInner, emitsNest, emitsTarget, topCount, emitsTop}
 use Rattle.direct.proofs.Threads.{then-assoc}

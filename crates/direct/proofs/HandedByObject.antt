@@ -1,6 +1,6 @@
 -- What declarations and assignments hand out, object by object.
 -- Assumes nothing.
-use mathlib.Core.Path.{_≡_, refl, sym, ap, ap₂, _∙_, fun-ext}
+use mathlib.Core.Path.{_≡_, refl, sym, ap, ap₂, _∙_}
 use mathlib.Core.Bool.{Bool, true, false, cond, not, _&&_, _||_, false≢true}
 use mathlib.Core.List.{List, [], _∷_, _++_, append-nil, append-assoc}
 use Prim.Native.Nat.{ℕ, suc, _+_}
@@ -9,7 +9,7 @@ use lib.Dec.{eqb}
 use lib.ListN.{length}
 use Rattle.tree.specs.Tree.{Node, Items, wideBytes, mapOf, count, encode, encodeItems}
 use Rattle.lowering.specs.Parts.{position, is, nodeAt, numberAt, itemsAt, stands, standsIn, pieceIn, isEmpty, only, each, gather, any, onNode, changeNode, _+++_}
-use Rattle.lowering.specs.Made.{Context, array, string, declares, declared, idOf, reference, excludedOf, valueOf, keyOf, temporary}
+use Rattle.lowering.specs.Made.{Context, array, string, declares, declared, idOf, reference, excludedOf, valueOf, keyOf}
 use Rattle.lowering.specs.Patterns.{properties, key, objectsBelow}
 use Rattle.lowering.specs.Keys.{keySort, isPrimitive, excludedKey, excludedKeys, keyTemporary, keyTemporaries, entryOf, keyText}
 use Rattle.lowering.specs.Keys.Key.{name, literal, template, private}

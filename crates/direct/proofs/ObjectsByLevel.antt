@@ -9,9 +9,9 @@ use Rattle.tree.specs.Tree.{Node, Fields, Piece, Items, depth, depthFields, dep
 use Rattle.tree.specs.Tree.Node.{node}
 use Rattle.tree.specs.Tree.Fields.{done, absent, field}
 use Rattle.tree.specs.Tree.Piece.{one, list}
-use Rattle.lowering.specs.Parts.{nothing, position, is, asNode, pieceIn, standsIn, changeIn, nodeAt, itemsAt, stands, change, onNode, onItems, changeNode, without, only, each, gather, _+++_}
+use Rattle.lowering.specs.Parts.{nothing, position, is, asNode, pieceIn, standsIn, changeIn, nodeAt, itemsAt, stands, change, onNode, onItems, changeNode, only, each, gather, _+++_}
 use Rattle.lowering.specs.Made.{Context, temporary, keyOf}
-use Rattle.lowering.specs.Patterns.{shape, properties, key, value, hasRest, withItems, withLeft, withValues, withProperties, replaced, replacedBelow, objectsWithRest, objectsBelow}
+use Rattle.lowering.specs.Patterns.{shape, properties, key, value, hasRest, withItems, withLeft, withValues, replaced, replacedBelow, objectsWithRest, objectsBelow}
 use Rattle.lowering.specs.Patterns.Shape.{objectPattern, arrayPattern, default, leaf}
 use Rattle.lowering.specs.Keys.{keptKey}
 use Rattle.lowering.specs.Declarations.{innerObjects}
@@ -23,7 +23,7 @@ use Rattle.direct.specs.Views.View.{replacing, taking}
 use Rattle.direct.specs.Objects.{objectsIn, overObjects}
 use Rattle.direct.proofs.ListsInTurn.{turn-append, turn-gather, turn-only}
 use Rattle.direct.proofs.PatternViews.{keptKey-is}
-use Rattle.lowering.proofs.ItemLaws.{items-none, gather-same, gather-each}
+use Rattle.lowering.proofs.ItemLaws.{items-none}
 use Rattle.lowering.proofs.ChangeLaws.{node-on}
 
 -- ---- values

@@ -31,7 +31,7 @@ use Rattle.direct.proofs.AlikePatterns.{replaced-alike, taken-alike, va
 use Rattle.direct.proofs.PathFree.{names-free}
 use Rattle.direct.proofs.OneLevel.{emits-nowhere}
 use Rattle.direct.proofs.MadeNodes.{say-then, below-inner, two-fields, three-fields, emits-temporary}
-use Rattle.lowering.proofs.ItemLaws.{each-each, each-same, count-each}
+use Rattle.lowering.proofs.ItemLaws.{each-each, count-each}
 use Rattle.lowering.proofs.ChangeLaws.{position-changed, node-on-twice}
 use Rattle.direct.proofs.ListsInTurn.{items-each}
 

@@ -8,7 +8,7 @@ use Prim.Native.Nat.{ℕ, zero, suc, _+_, _≤_, max}
 use native.Mathlib.Omega.{arith}
 use Rattle.tree.specs.Tree.{Node, Fields, Piece, Items, depth, depthFields, depthItems}
 use Rattle.tree.specs.Tree.Node.{node}
-use Rattle.tree.specs.Tree.Fields.{done, field}
+use Rattle.tree.specs.Tree.Fields.{field}
 use Rattle.tree.specs.Tree.Piece.{one, list}
 use Rattle.lowering.specs.Parts.{nothing, is, pieceIn, standsIn, nodeAt, itemsAt, stands, isEmpty, onNode, onItems, changeNode, only, each, gather, any, _+++_}
 use Rattle.lowering.specs.Made.{Context, reference}
@@ -19,9 +19,9 @@ use Rattle.lowering.specs.Assignments.{isTop, nearest, outermost, partsOf, part
 use Rattle.lowering.proofs.Accepted.{NoHoles}
 use Rattle.lowering.proofs.Cases.{by-test, by-shape, or-left, or-right}
 use Rattle.lowering.proofs.WeightKeys.{rest-changed}
-use Rattle.lowering.proofs.Levels.{depth-pos, items-depth, gather-agrees, node-in, values-agree, array-levels, nearest-levels, nearest-nothing, replaced-levels, parts-levels}
-use Rattle.lowering.proofs.Clauses.{replaced-plain, replaced-top, replaced-array, replaced-default, parts-object, parts-array, parts-default, parts-leaf, nearest-object, nearest-array, nearest-default, nearest-leaf}
-use Rattle.lowering.proofs.ItemLaws.{items-none, none-empty, each-each, each-same, gather-same, gather-each, any-none}
+use Rattle.lowering.proofs.Levels.{depth-pos, items-depth, gather-agrees, node-in, values-agree, array-levels, nearest-levels, replaced-levels, parts-levels}
+use Rattle.lowering.proofs.Clauses.{replaced-plain, replaced-top, replaced-default, parts-object, parts-array, parts-default, parts-leaf, nearest-object, nearest-array, nearest-default, nearest-leaf}
+use Rattle.lowering.proofs.ItemLaws.{none-empty, each-each, each-same, gather-same, gather-each, any-none}
 use Rattle.lowering.proofs.ChangeLaws.{shape-changed}
 use Rattle.direct.specs.Events.{Emit}
 use Rattle.direct.specs.Emit.{say, inTurn}

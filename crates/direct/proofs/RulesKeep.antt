@@ -19,7 +19,7 @@ use Rattle.lowering.specs.Walk.{unchanged, ruleOf, rewrite, stepDeclaration, st
 use Rattle.lowering.specs.Walk.Rule.{literals, fors}
 use Rattle.lowering.proofs.Cases.{by-test, by-shape, or-left, or-right, shape-34, rule-4, rule-27, rule-14, rule-17, rule-10, step-same, rewritten-same}
 use Rattle.lowering.proofs.Accepted.{NoHoles}
-use Rattle.lowering.proofs.ItemLaws.{gather-none as none-in, any-none, any-empty, first-empty}
+use Rattle.lowering.proofs.ItemLaws.{gather-none as none-in, any-none, first-empty}
 use Rattle.lowering.proofs.ChangeLaws.{changeItems-same}
 
 -- ---- rules by kind

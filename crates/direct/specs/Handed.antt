@@ -16,7 +16,7 @@ use Rattle.direct.specs.Emit.{say, _▷_, inTurn}
 use Rattle.direct.specs.Views.{View, isOther}
 use Rattle.direct.specs.Views.View.{replacing, taking}
 use Rattle.direct.specs.Keys.{stringBytes, entries, hoists}
-use Rattle.direct.specs.Objects.{Reach, reachedIn, replacedIn, overObjects, overReplaced, overParts}
+use Rattle.direct.specs.Objects.{reachedIn, replacedIn, overObjects, overReplaced, overParts}
 use Rattle.direct.specs.Objects.Reach.{straight}
 
 -- ---- temporaries that stand in no list

@@ -1,16 +1,16 @@
 -- Whatever is drawn fits the grammar, its marks count on, it has no more levels than were left, and few nodes and bytes.
 -- Assumes nothing.
 use Prim.Native.Nat.{ℕ, zero, suc, _+_, _-_, _*_, _%_, _<_, _≤_, max}
-use mathlib.Core.Path.{_≡_, refl, sym, ap, subst, _∙_}
+use mathlib.Core.Path.{_≡_, refl, sym, _∙_}
 use mathlib.Core.Bool.{Bool, true, false, cond, _||_}
 use mathlib.Core.List.{List, [], _∷_, _++_}
 use native.Mathlib.Nat.{mod-lt, max-le}
 use native.Mathlib.Omega.{arith}
 use native.Mathlib.Decide.{decLt}
 use lib.Dec.{T, ltb, leb, eqb, ltb→lt, leb→le}
-use lib.ListN.{length, getD, length-append}
+use lib.ListN.{length, length-append}
 use borrow.Author.Tests.{eq-eqb, lt-leb}
-use Rattle.tree.specs.Tree.{Node, Fields, Piece, Items, encode, encodeFields, encodePiece, encodeItems, mapOf, count, depth, depthFields, depthPiece, depthItems, marks, marksFields, marksPiece, marksItems}
+use Rattle.tree.specs.Tree.{Node, Fields, Piece, Items, encode, encodeFields, encodePiece, encodeItems, count, depth, depthFields, depthPiece, depthItems, marks, marksFields, marksPiece, marksItems}
 use Rattle.tree.specs.Tree.Node.{node}
 use Rattle.tree.specs.Tree.Fields.{done, absent, field}
 use Rattle.tree.specs.Tree.Piece.{one, list, text, byte, mark, number}
@@ -21,14 +21,14 @@ use Rattle.tree.specs.Grammar.Field.{must, may}
 use Rattle.tree.specs.Grammar.Stage.{input}
 use Rattle.tree.specs.Read.{sortIn}
 use Rattle.tree.specs.WellFormed.{Bytes, byteIn, Fits, FitFields, FitPiece, FitItems, Counts}
-use Rattle.tree.proofs.Table.{both, both-left, both-right}
+use Rattle.tree.proofs.Table.{both-left, both-right}
 use Rattle.tree.proofs.Sound.{counts-append, never}
 use Rattle.drawing.specs.Xorshift.{step}
 use Rattle.drawing.specs.Draw.{Drawn, mapped, before, drawItems, drawList, drawText, drawNumber, drawMark, drawByte, drawField, drawFields, drawNode, ends, kindAt, stateAt, standsAt, settledState, rising}
 use Rattle.drawing.specs.Draw.Drawn.{drawn}
 use Rattle.drawing.proofs.Steps.{Live, never-zero}
 use Rattle.drawing.proofs.Hold.{Holds, weaker, turned, next, behind, either}
-use Rattle.drawing.proofs.Asks.{sortAsks, asks, few, late, lateSort, own, ownSort, valid, ready, lowKind, lowFields, low-right, low-late, few-small, kind-stands, kind-low, kind-cut, fields-right, late-small, own-small}
+use Rattle.drawing.proofs.Asks.{sortAsks, asks, few, late, lateSort, own, ownSort, valid, ready, lowFields, low-right, low-late, few-small, kind-stands, kind-low, kind-cut, fields-right, late-small, own-small}
 
 -- ---- how many nodes
 

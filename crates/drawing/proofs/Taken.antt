@@ -1,16 +1,16 @@
 -- What a drawn tree is: the reader takes it, it is short, and the state after it is a seed again.
 -- Assumes nothing.
-use Prim.Native.Nat.{ℕ, zero, suc, _+_, _-_, _*_, _<_, _≤_}
-use mathlib.Core.Path.{_≡_, refl, sym, ap, _∙_}
+use Prim.Native.Nat.{ℕ, suc, _+_, _-_, _<_, _≤_}
+use mathlib.Core.Path.{_≡_, refl}
 use mathlib.Core.Bool.{Bool, true, false, cond}
-use mathlib.Core.List.{List, [], _∷_, _++_}
+use mathlib.Core.List.{_++_}
 use native.Mathlib.Omega.{arith}
 use native.Mathlib.Decide.{decLt}
-use lib.Dec.{T, leb, eqb}
+use lib.Dec.{T, leb}
 use lib.ListN.{length, take, replicate}
 use lib.Seq.{take-at}
 use borrow.Author.Tests.{le-leb, ne-eqb}
-use Rattle.tree.specs.Tree.{Node, encode, placed, marks, depth}
+use Rattle.tree.specs.Tree.{Node, encode, placed}
 use Rattle.tree.specs.Grammar.{root, places}
 use Rattle.tree.specs.Grammar.Stage.{input}
 use Rattle.tree.specs.Read.{Got, readTree}
@@ -24,7 +24,7 @@ use Rattle.drawing.specs.Outcome.{Handed, outcome, fitted}
 use Rattle.drawing.proofs.Steps.{Live}
 use Rattle.drawing.proofs.Hold.{Holds, weaker}
 use Rattle.drawing.proofs.Asks.{valid}
-use Rattle.drawing.proofs.Good.{Good, Fine, GoodNode, ok, node-good}
+use Rattle.drawing.proofs.Good.{GoodNode, ok, node-good}
 
 root-ok : T (ok 13 root)
 unfolding ok valid places

@@ -5,15 +5,14 @@ use mathlib.Core.Bool.{Bool, true, false, cond}
 use mathlib.Core.List.{List, [], _∷_, _++_}
 use Prim.Native.Nat.{ℕ, zero, suc, _+_, _-_, _*_, _/_, _%_, _<_, _≤_}
 use native.Mathlib.Omega.{arith}
-use native.Mathlib.Nat.{le-trans}
-use lib.Dec.{T, ltb, leb, eqb, leb→le}
+use lib.Dec.{T, ltb, leb, leb→le}
 use lib.ListN.{length, getD, set, length-set, List·getD-eq-default}
 use borrow.Author.Tests.{eq-eqb, ne-eqb}
 use Rattle.tree.specs.Tree.{Node, Fields, Piece, Items, wideBytes, encode, encodeFields, encodePiece, encodeItems, mapOf, count}
 use Rattle.tree.specs.Tree.Node.{node}
-use Rattle.tree.specs.Tree.Fields.{done, absent, field}
+use Rattle.tree.specs.Tree.Fields.{absent, field}
 use Rattle.tree.specs.Tree.Piece.{one, list, text, byte, mark, number}
-use Rattle.tree.specs.Tree.Items.{none, item}
+use Rattle.tree.specs.Tree.Items.{item}
 use Rattle.tree.specs.Grammar.{Sort, Field, formAt, fieldsOf, kinds, variants}
 use Rattle.tree.specs.Grammar.Sort.{child, chosen, many, gaps}
 use Rattle.tree.specs.Grammar.Stage.{input}
@@ -25,7 +24,7 @@ use Rattle.tree.proofs.Rows.{NoKey, no-key, row-done, row-first, first-sort}
 use Rattle.drawing.specs.Xorshift.{step}
 use Rattle.drawing.specs.Draw.{Drawn, mapped, joined, before, ends, kindAt, stateAt, standsAt, settledState, drawItems, drawList, drawNumber, drawField, drawFields, drawNode}
 use Rattle.drawing.specs.Draw.Drawn.{drawn}
-use Rattle.drawing.specs.Pen.{next, put, reach, Page, page, drew, drewNode, drewItems, drewPiece, drewFields}
+use Rattle.drawing.specs.Pen.{put, reach, Page, page, drew, drewNode, drewItems, drewPiece, drewFields}
 use Rattle.drawing.specs.declared.pen.Pen.{Pen}
 use Rattle.drawing.proofs.Writing.{Put, Wide, pen, wrote, put-length, put-two, reach-two, put-again}
 

@@ -1,9 +1,9 @@
 -- What drawing leaves, part by part: one law for each way out of the code.
 -- Assumes nothing.
-use mathlib.Core.Path.{_≡_, refl, sym, ap, _∙_}
+use mathlib.Core.Path.{_≡_, refl, sym, _∙_}
 use mathlib.Core.Bool.{Bool, true, false, cond}
 use mathlib.Core.List.{List, [], _∷_, _++_}
-use Prim.Native.Nat.{ℕ, zero, suc, _+_, _-_, _*_, _/_, _%_, _<_, _≤_}
+use Prim.Native.Nat.{ℕ, suc, _+_, _-_, _/_, _%_, _<_, _≤_}
 use native.Mathlib.Nat.{mod-lt}
 use native.Mathlib.Omega.{arith}
 use native.Mathlib.Decide.{decLt}
@@ -11,18 +11,15 @@ use native.Mathlib.Numerals.{add-one}
 use lib.Dec.{leb, eqb}
 use lib.ListN.{length, getD, set, length-set}
 use lib.Seq.{set-set, set-comm, set-out}
-use borrow.Author.Tests.{le-leb, lt-leb, eq-eqb, ne-eqb, eqb-true, leb-true}
-use Rattle.tree.specs.Tree.{Node, Fields, Piece, Items, wideBytes, encode, encodeFields, encodePiece, encodeItems, mapOf, count}
-use Rattle.tree.specs.Tree.Node.{node}
-use Rattle.tree.specs.Tree.Fields.{done, absent, field}
-use Rattle.tree.specs.Tree.Piece.{one, list, text, byte, mark, number}
-use Rattle.tree.specs.Tree.Items.{none, item}
-use Rattle.tree.specs.Rows.{fieldOf, sortOf}
+use borrow.Author.Tests.{le-leb, lt-leb, eq-eqb, ne-eqb}
+use Rattle.tree.specs.Tree.{wideBytes, encodePiece}
+use Rattle.tree.specs.Tree.Piece.{text, byte, mark, number}
+use Rattle.tree.specs.Rows.{fieldOf}
 use Rattle.tree.specs.WellFormed.{byteIn}
 use Rattle.drawing.specs.Xorshift.{step}
-use Rattle.drawing.specs.Draw.{Drawn, mapped, joined, before, ends, rising, shortest, kindAt, stateAt, standsAt, settledState, drawText, drawNumber, drawMark, drawByte}
+use Rattle.drawing.specs.Draw.{ends, rising, shortest, kindAt, stateAt, standsAt, settledState, drawText, drawNumber, drawMark, drawByte}
 use Rattle.drawing.specs.Draw.Drawn.{drawn}
-use Rattle.drawing.specs.Pen.{next, put, reach, Page, page, drew, drewNode, drewItems, drewPiece, drewFields}
+use Rattle.drawing.specs.Pen.{next, put, reach, page, drew, drewPiece}
 use Rattle.drawing.specs.declared.pen.Pen.{Pen}
 
 -- ---- bytes one after the other

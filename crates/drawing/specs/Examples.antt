@@ -1,12 +1,10 @@
 -- Worked examples that compute.
-use Prim.Native.Nat.{ℕ}
 use mathlib.Core.Path.{_≡_, refl}
-use mathlib.Core.List.{List, [], _∷_}
-use Rattle.tree.specs.Tree.{Node, encode, encodeFields, encodePiece, encodeItems, mapOf, count}
+use mathlib.Core.List.{[], _∷_}
+use Rattle.tree.specs.Tree.{encode, encodeFields, encodePiece, encodeItems, mapOf, count}
 use Rattle.tree.specs.Grammar.{formAt, fieldsOf, kinds, variants, places, allowed, formIn, kindOf}
 use Rattle.drawing.specs.Xorshift.{step, left, right}
-use Rattle.drawing.specs.Draw.{Drawn, drawTree, drawNode, drawFields, standsAt, settledState, drawField, drawText, drawNumber, drawMark, drawByte, drawList, drawItems, ends, kindAt, stateAt, rising, kindsFrom, shortest, leastKind, leastOf, kindBytes, formBytes, sortBytes, bytesWithin, betterFrom, unknowns}
-use Rattle.drawing.specs.Draw.Drawn.{drawn}
+use Rattle.drawing.specs.Draw.{drawTree, drawNode, drawFields, standsAt, settledState, drawField, drawText, drawNumber, drawMark, drawByte, drawList, drawItems, ends, kindAt, stateAt, rising, kindsFrom, shortest, leastKind, leastOf, kindBytes, formBytes, sortBytes, bytesWithin, betterFrom, unknowns}
 use Rattle.drawing.specs.Outcome.{outcome, fitted, refused}
 
 -- the first numbers of the seed of Marsaglia's paper

@@ -20,7 +20,7 @@ use Rattle.lowering.specs.Keys.Key.{name, literal, template, private, again, ot
 use Rattle.lowering.specs.Rests.{hasNoProperties, mapped, isHoisted, keysRead, restValue, excludedFor}
 use Rattle.lowering.specs.Assignments.{target, nearest, partsOf, partsReplaced, targetLeft}
 use Rattle.lowering.specs.Heads.{moved, movedPattern, movedOut}
-use Rattle.lowering.proofs.Cases.{by-test, by-shape, by-key, object-is, is-changed, is-literal}
+use Rattle.lowering.proofs.Cases.{by-test, by-shape, by-key, is-changed, is-literal}
 use Rattle.equal.proofs.LeafParts
 
 -- ---- keys by sort

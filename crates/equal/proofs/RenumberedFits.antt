@@ -3,7 +3,7 @@
 use mathlib.Core.Path.{_≡_, refl, ap, subst}
 use mathlib.Core.Bool.{Bool, true, false, cond}
 use mathlib.Core.List.{List, [], _∷_, _++_}
-use Prim.Native.Nat.{ℕ, suc, _+_, _≤_, _<_}
+use Prim.Native.Nat.{ℕ, suc, _≤_, _<_}
 use native.Mathlib.Omega.{arith}
 use lib.Dec.{eqb}
 use lib.ListN.{length, length-append}
@@ -12,7 +12,7 @@ use Rattle.tree.specs.Tree.Node.{node}
 use Rattle.tree.specs.Grammar.{Sort, Field, Stage, root, declarator}
 use Rattle.tree.specs.Grammar.Stage.{input, rewritten}
 use Rattle.tree.specs.Read.{longest}
-use Rattle.tree.specs.WellFormed.{byteIn, Fits, FitFields, FitPiece, FitItems, WellFormed}
+use Rattle.tree.specs.WellFormed.{byteIn, Fits, FitFields, FitPiece, FitItems}
 use Rattle.lowering.specs.Collect.{Entry, over}
 use Rattle.equal.specs.Canonical.{Written, numbers, numbersFields, numbersPiece, numbersItems, renumbered, renumberedFields, renumberedPiece, renumberedItems, placeOf, canonical, numbersList, numbersWritten, eachEntry, renumberedWritten, canonicalWritten}
 use Rattle.equal.specs.Equal.{entryEncoded, listEncoded}
@@ -126,9 +126,6 @@ entries-short (e ∷ es) =
     omega (arith, length-append (numbersItems (e .declarators)) (listed es), length-append (wideBytes (e .containing) ++ encodePiece (Piece.list (e .declarators))) (over entryEncoded es))
 
 -- ---- so the canonical form fits
-
-pub formed : (stage : Stage) (d : ℕ) (n : Node) (j : ℕ) → WellFormed stage d n j → Formed stage n
-formed stage d n j w = record { fits = w .fits; short = w .short }
 
 longest-most : (stage : Stage) → longest stage ≤ 32768
 longest-most input = omega arith

@@ -1,9 +1,9 @@
 -- The table of refusals: every call hands back what the line says that applies to it, and no other line applies.
 -- Assumes nothing.
-use mathlib.Core.Path.{_≡_, refl, sym, ap, _∙_}
-use mathlib.Core.Bool.{Bool, true, false, cond}
+use mathlib.Core.Path.{_≡_, refl, ap, _∙_}
+use mathlib.Core.Bool.{Bool, cond}
 use mathlib.Core.List.{List}
-use Prim.Native.Nat.{ℕ, zero, suc, _≤_, _<_}
+use Prim.Native.Nat.{ℕ, zero, suc}
 use native.Mathlib.Omega.{arith}
 use lib.Dec.{ltb}
 use borrow.Author.Tests.{ltb-true, ltb-false}
@@ -13,7 +13,7 @@ use Rattle.tree.specs.Read.{Got, Refusal, numberOf, readTree}
 use Rattle.tree.specs.Read.Got.{got, refused}
 use Rattle.tree.specs.Read.Refusal.{notATree, tooDeep}
 use Rattle.lowering.specs.Weight.{walked}
-use Rattle.lowering.specs.Collect.{bare, visits, firstRefusal, helperMask}
+use Rattle.lowering.specs.Collect.{bare, helperMask}
 use Rattle.lowering.specs.Refusals.{tooLong}
 use Rattle.lowering.specs.Answer.{Lent, Result, fits, fitted, collected, afterWalk, limitRefused, inForce, afterReading, lowering, outcomeOf, outcome, top}
 use Rattle.lowering.specs.Answer.Result.{refusal, lowered}

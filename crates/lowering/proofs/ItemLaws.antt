@@ -3,11 +3,11 @@
 use mathlib.Core.Path.{_≡_, refl, ap, fun-ext, sym, _∙_}
 use mathlib.Core.Bool.{Bool, _||_, true, false, or-assoc}
 use mathlib.Core.List.{List, [], _∷_, _++_, append-assoc}
-use Prim.Native.Nat.{ℕ, zero, suc, _+_}
+use Prim.Native.Nat.{ℕ, suc, _+_}
 use native.Mathlib.Omega.{arith}
 use Rattle.tree.specs.Tree.{Items, Node, count}
 use Rattle.tree.specs.Tree.Items.{none, hole, item}
-use Rattle.lowering.specs.Parts.{_+++_, each, gather, only, any, orElse, first, isEmpty}
+use Rattle.lowering.specs.Parts.{_+++_, each, gather, only, any, first, isEmpty}
 use Rattle.lowering.specs.Collect.{Name, over, numbered, numberedItems}
 use Rattle.lowering.proofs.Cases.{or-left, or-right}
 
@@ -65,12 +65,6 @@ gather-each f g Items.none = refl
 gather-each f g (Items.hole is) = gather-each f g is
 gather-each f g (Items.item n is) = ap (λ (js : Items). f (g n) +++ js) (gather-each f g is)
 
-pub gather-gather : (k h : Node → Items) (is : Items) → gather k (gather h is) ≡ gather (λ n. gather k (h n)) is
-unfolding gather
-gather-gather k h none = refl
-gather-gather k h (hole is) = gather-gather k h is
-gather-gather k h (item n is) = gather-append k (h n) (gather h is) ∙ ap (λ (x : Items). gather k (h n) +++ x) (gather-gather k h is)
-
 pub each-gather : (f : Node → Node) (g : Node → Items) (is : Items) → each f (gather g is) ≡ gather (λ n. each f (g n)) is
 unfolding gather each
 each-gather f g Items.none = refl
@@ -105,24 +99,9 @@ any-none u t h Items.none e = refl
 any-none u t h (Items.hole is) e = any-none u t h is e
 any-none u t h (Items.item n is) e = rw (h n (or-left (u n) (any u is) e)) (any-none u t h is (or-right (u n) (any u is) e))
 
-pub any-empty : (f : Node → Bool) → any f Items.none ≡ false
-unfolding any
-any-empty f = refl
-
 pub first-empty : (f : Node → ℕ) → first f Items.none ≡ 0
 unfolding first
 first-empty f = refl
-
-or-assoc-number : (a b c : ℕ) → orElse (orElse a b) c ≡ orElse a (orElse b c)
-unfolding orElse
-or-assoc-number zero b c = refl
-or-assoc-number (suc a) b c = refl
-
-pub first-append : (f : Node → ℕ) (ns ms : Items) → first f (ns +++ ms) ≡ orElse (first f ns) (first f ms)
-unfolding first orElse _+++_
-first-append f Items.none ms = refl
-first-append f (Items.hole ns) ms = first-append f ns ms
-first-append f (Items.item n ns) ms = ap (orElse (f n)) (first-append f ns ms) ∙ sym (or-assoc-number (f n) (first f ns) (first f ms))
 
 pub empty-each : (g : Node → Node) (qs : Items) → isEmpty (each g qs) ≡ isEmpty qs
 unfolding isEmpty each

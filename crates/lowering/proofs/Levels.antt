@@ -14,7 +14,6 @@ use Rattle.lowering.specs.Parts.{nothing, pieceIn, changeIn, change, onN
 use Rattle.lowering.specs.Made.{Context, reference}
 use Rattle.lowering.specs.Patterns.{shape, properties, itemsOf, hasRest, value, withItems, withRest, withValues, hasNestedObjectRest, hasNestedArrayRest, replaced, objectsWithRest, replacedBelow, objectsBelow}
 use Rattle.lowering.specs.Patterns.Shape.{objectPattern, leaf}
-use Rattle.lowering.specs.Keys.{taken}
 use Rattle.lowering.specs.Declarations.{own, nested}
 use Rattle.lowering.specs.Assignments.{nearest, partsReplaced}
 use Rattle.lowering.specs.Heads.{moved, movedOut}

@@ -1,18 +1,16 @@
 -- The order of the refusals, by cases: what is asked before the tree is read, what is left then, and what a higher limit changes.
 -- Assumes nothing.
-use mathlib.Core.Path.{_≡_, refl, sym, ap, _∙_}
-use mathlib.Core.Bool.{Bool, true, false, _||_}
+use mathlib.Core.Path.{_≡_, refl, ap}
+use mathlib.Core.Bool.{true, false}
 use mathlib.Core.List.{List}
 use mathlib.Core.Logic.{⊎-elim}
 use Prim.Native.Nat.{ℕ, _+_, _≤_, _<_}
 use native.Mathlib.Omega.{arith}
-use lib.Dec.{eqb, ltb}
+use lib.Dec.{ltb}
 use borrow.Author.Tests.{lt-ltb, le-ltb, ne-eqb}
 use Rattle.tree.specs.Tree.{Node}
 use Rattle.tree.specs.Grammar.Stage.{input}
 use Rattle.tree.specs.Read.{Got, readTree}
-use Rattle.tree.specs.Read.Got.{refused}
-use Rattle.tree.specs.Read.Refusal.{tooDeep}
 use Rattle.tree.proofs.Limit.{tree-limit}
 use Rattle.lowering.specs.Refusals.{limitOutside, unknownOptions, smallWork, deeperTree}
 use Rattle.lowering.specs.Answer.{Lent, Result, highestLimit, limitRefused, inForce, afterReading, lowering, outcomeOf, outcome}

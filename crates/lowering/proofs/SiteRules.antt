@@ -13,7 +13,7 @@ use Rattle.tree.specs.Tree.Piece.{one, list, text, byte, mark, number}
 use Rattle.tree.specs.Tree.Items.{none, hole, item}
 use Rattle.lowering.specs.Parts.{position, kind, is, pieceIn, changeIn, asNode, asItems, nodeAt, itemsAt, stands, change, onNode, onItems, changeNode, changeItems, only, each, gather, any, _+++_}
 use Rattle.lowering.specs.Made.{Context, reference, valueOf, keyOf, S, X, E, W, object, array, sequence, assign, declares, letOf, varOf, assigning, returning, block, functionBody}
-use Rattle.lowering.specs.Patterns.{shape, properties, itemsOf, rest, hasRest, leftOf, key, value, withValues, hasObjectRest, hasArrayRestOverObjectRest, replaced, replacedBelow, objectsBelow}
+use Rattle.lowering.specs.Patterns.{shape, properties, itemsOf, rest, hasRest, leftOf, key, value, withValues, hasObjectRest, hasArrayRestOverObjectRest, replaced, replacedBelow}
 use Rattle.lowering.specs.Keys.{keySort, keyTemporary, keyTemporaries, excludedKeys, allPrimitive, taken}
 use Rattle.lowering.specs.Rests.{hasNoProperties, mapped, isHoisted, keysRead, restValue}
 use Rattle.lowering.specs.Literals.{Call, opened, closed, scan, literal}
@@ -25,7 +25,7 @@ use Rattle.lowering.specs.Walk.{ruleOf, rewrite, stepDeclaration, stepTo
 use Rattle.lowering.proofs.All.{AllItems, AllPiece, AllFields, Each, all-append, all-gather, all-each, all-changed, other-changed}
 use Rattle.lowering.proofs.Cases.{by-number, by-test, by-shape, by-key, by-rule, functionBody-is, block-is}
 use Rattle.lowering.proofs.Sites.{isNameKind, own as ownSites, sites, sitesFields, sitesPiece, sitesItems, fields-in, piece-in, two-pieces, as-node, as-items, node-in, items-in, node-and-node, items-and-node, AtMost, each-item, each-piece, each-field, each-part, sites-append, gather-light, Light, on-items, changeNode-light, changeEach-light, temporary-sites}
-use Rattle.lowering.proofs.SiteViews.{only-sites, moved-sites, movedPattern-sites, nearest-sites, parts-sites, replaced-light, objects-sum, movedOut-light, excludedKeys-sites, taken-fewer, left-fewer-than, none-sites}
+use Rattle.lowering.proofs.SiteViews.{only-sites, moved-sites, movedPattern-sites, nearest-sites, parts-sites, replaced-light, movedOut-light, excludedKeys-sites, taken-fewer, left-fewer-than, none-sites}
 
 module _ (x : ℕ) where
   -- ---- nodes that the rules make have the sites of their parts

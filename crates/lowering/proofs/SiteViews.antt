@@ -8,7 +8,7 @@ use native.Mathlib.Omega.{arith}
 use Rattle.tree.specs.Tree.{Node, Fields, Piece, Items, depth}
 use Rattle.tree.specs.Tree.Node.{node}
 use Rattle.tree.specs.Tree.Items.{none}
-use Rattle.lowering.specs.Parts.{nothing, position, is, pieceIn, changeIn, asItems, change, onNode, onItems, changeNode, without, only, each, gather, _+++_}
+use Rattle.lowering.specs.Parts.{nothing, position, is, pieceIn, changeIn, asItems, change, onNode, onItems, changeNode, only, each, gather, _+++_}
 use Rattle.lowering.specs.Made.{Context, reference, keyOf, string}
 use Rattle.lowering.specs.Patterns.{shape, properties, itemsOf, rest, hasRest, leftOf, key, value, withItems, withProperties, withValues, hasNestedObjectRest, replaced, objectsWithRest}
 use Rattle.lowering.specs.Keys.{keySort, excludedKey, keptKey, excludedKeys, taken, entryOf, keyText}
@@ -17,7 +17,7 @@ use Rattle.lowering.specs.Heads.{moved, movedPattern, movedOut}
 use Rattle.lowering.proofs.All.{AllItems, all-append, all-cond, all-gather, all-unit}
 use Rattle.lowering.proofs.Clauses.{objects-object, objects-array, objects-default, objects-leaf, replaced-object, replaced-array, replaced-default, replaced-leaf}
 use Rattle.lowering.proofs.Cases.{by-test, by-shape, object-is, array-is, default-is, by-key, is-changed, by-entry}
-use Rattle.lowering.proofs.Sites.{isNameKind, direct, directPiece, own, other-fields, here, hereItems, sites, sitesFields, sitesItems, Light, node-in, items-in, items-and-node, each-item, sites-append, here-append, gather-light, changeNode-light, changeEach-light, without-fewer, temporary-sites, items-sum, node-sum, shell, shells, shells-append, object-whole, array-here, default-here, gather-shells, gather-here, Object}
+use Rattle.lowering.proofs.Sites.{isNameKind, direct, directPiece, own, other-fields, here, hereItems, sites, sitesFields, sitesItems, Light, node-in, items-in, items-and-node, sites-append, here-append, gather-light, changeNode-light, changeEach-light, without-fewer, temporary-sites, items-sum, node-sum, object-whole, array-here, default-here, gather-here, Object}
 
 -- a node put in place of field 0
 put-direct : (fs : Fields) (t : Node) → direct (changeIn fs 0 (onNode (λ l. t))) ≤ direct fs
@@ -69,14 +69,6 @@ module _ (x : ℕ) where
   pub none-here : hereItems x none ≡ 0
   unfolding hereItems
   none-here = refl
-
-  only-shells : (n : Node) → shells x (only n) ≡ shell x n
-  unfolding shells
-  only-shells n = omega arith
-
-  none-shells : shells x none ≡ 0
-  unfolding shells
-  none-shells = refl
 
   cond-at-most : (b : Bool) (is js : Items) (m : ℕ) → sitesItems x is ≤ m → sitesItems x js ≤ m → sitesItems x (cond b is js) ≤ m
   cond-at-most true is js m h k = h
@@ -370,10 +362,6 @@ module _ (x : ℕ) where
         (λ e. rw e
         (let a = without-fewer x (withProperties (keptKey c) p) in let b = changeEach-light x 0 (keptKey c) keptKey-light .fewer p in omega arith))
         (λ e. rw e (omega arith))
-
-    taken-stays : (p : Node) → position (taken c p) ≡ position p
-    unfolding taken change without
-    taken-stays (node at k fs) = by-test (hasRest (node at k fs)) (λ e. rw e refl) (λ e. rw e refl)
 
     -- ---- a target without its rest, a temporary in place of each part
 

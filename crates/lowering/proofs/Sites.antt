@@ -440,12 +440,6 @@ module _ (x : ℕ) where
   shells (hole is) = shells is
   shells (item n is) = shell n + shells is
 
-  pub shells-append : (is js : Items) → shells (is +++ js) ≡ shells is + shells js
-  unfolding shells _+++_
-  shells-append none js = omega arith
-  shells-append (hole is) js = shells-append is js
-  shells-append (item n is) js = let h = shells-append is js in omega arith
-
   sites-of : (at k j : ℕ) (fs : Fields) → eqb k j ≡ true → sites (node at k fs) ≡ sites (node at j fs)
   sites-of at k j fs e = ap (λ (m : ℕ). sites (node at m fs)) (eqb-true k j e)
 
@@ -473,13 +467,6 @@ module _ (x : ℕ) where
   pub default-here : (p : Node) → is 37 p ≡ true → here (position p) ≤ sites p
   unfolding is
   default-here (node at k fs) e = let a = sites-of at k 37 fs e in let b = default-sites at fs in omega arith
-
-  pub gather-shells : (h : Node → Items) → ((n : Node) → shells (h n) ≤ sites n) → (is : Items) → shells (gather h is) ≤ sitesItems is
-  unfolding gather shells sites
-  gather-shells h light none = omega arith
-  gather-shells h light (hole is) = gather-shells h light is
-  gather-shells h light (item n is) =
-      let a = gather-shells h light is in let b = light n in let e = shells-append (h n) (gather h is) in omega arith
 
   pub gather-here : (h : Node → Items) → ((n : Node) → hereItems (h n) ≤ sites n) → (is : Items) → hereItems (gather h is) ≤ sitesItems is
   unfolding gather hereItems sites

@@ -24,11 +24,11 @@ use Rattle.lowering.proofs.Cases.{by-number, by-test, by-shape, by-rule
 use Rattle.lowering.proofs.WeightKeys.{rest-changed}
 use Rattle.lowering.proofs.Levels.{below-object}
 use Rattle.lowering.proofs.Clauses.{parts-object, parts-array, parts-default, parts-leaf, nearest-object, nearest-array, nearest-default, replaced-object, replaced-array, replaced-default, replaced-leaf, inner-object, inner-array, top-34}
-use Rattle.lowering.proofs.MadeAtSites.{times, times-append, only-times, entry-refs, entry-times, no-ids}
+use Rattle.lowering.proofs.MadeAtSites.{times, times-append, only-times, entry-refs, entry-times}
 use Rattle.lowering.proofs.Occurs.{occurs, occursItems, node-in, items-in, Free, each-item, occurs-append, only-occurs, none-occurs, nothing-occurs, temporary-occurs, items-more, node-more, gathered, refs, ref-times, objects-sum, replaced-more}
 use Rattle.lowering.proofs.SoundKeys.{assign-occurs, declares-occurs, declared-occurs, all-free, gather-zero, keys-free, taken-more, rest-split, rest-free, excluded-free, keysBefore-free, pattern-free, restDeclarator-free, Unmade, unmade-each, one-made, nested-free}
 use Rattle.lowering.proofs.SoundRules.{keys-value, items-free-at, node-free-at, literal-free, function-free, arrow-free, catch-free, declaring-free, assigning-free}
-use Rattle.lowering.proofs.ItemLaws.{each-append, gather-append, gather-gather}
+use Rattle.lowering.proofs.ItemLaws.{gather-append}
 
 module _ (a : Name) where
   sequence-occurs : (xs : Items) → occurs a (sequence xs) ≡ occursItems a xs

@@ -2,7 +2,7 @@
 -- list; and temporaries of one number have one stem.
 -- Assumes nothing.
 use mathlib.Core.Path.{_≡_, refl, sym, ap, subst, _∙_}
-use mathlib.Core.Bool.{Bool, true, false, cond, _&&_}
+use mathlib.Core.Bool.{Bool, true, false}
 use mathlib.Core.List.{List, [], _∷_, _++_}
 use Prim.Native.Nat.{ℕ, zero, suc, _+_, _<_}
 use native.Mathlib.Omega.{arith}
@@ -12,11 +12,11 @@ use Rattle.tree.specs.Tree.Node.{node}
 use Rattle.tree.specs.Grammar.Stage.{input}
 use Rattle.tree.specs.Read.{readTree}
 use Rattle.tree.specs.Read.Got.{got}
-use Rattle.lowering.specs.Parts.{position, is, pieceIn, textAt, numberAt, _+++_}
+use Rattle.lowering.specs.Parts.{position, is, pieceIn, numberAt}
 use Rattle.lowering.specs.Made.{Context, temporary}
 use Rattle.lowering.specs.Walk.{Note, rewrite, unchanged}
 use Rattle.lowering.specs.Weight.{walked}
-use Rattle.lowering.specs.Collect.{Name, nameOf, same, Visit, Entry, over, nodes, listNodes, nameAt, distinct, numberIn, namesOf, visits, bare, entries, excludedIn, madeIn, withNumber, numbered, numberedFields, numberedPiece, numberedItems}
+use Rattle.lowering.specs.Collect.{Name, nameOf, same, Visit, Entry, nodes, listNodes, namesOf, visits, bare, entries, excludedIn, madeIn, withNumber, numbered, numberedFields, numberedPiece, numberedItems}
 use Rattle.lowering.specs.Answer.{top}
 use Rattle.lowering.proofs.All.{AllItems}
 use Rattle.lowering.proofs.Cases.{by-test}

@@ -1,7 +1,7 @@
 -- Assignments and declarations: each part of what they leave weighs less than the node.
 -- Assumes nothing.
 use mathlib.Core.Path.{_≡_, _∙_}
-use mathlib.Core.Bool.{Bool, true, false, cond}
+use mathlib.Core.Bool.{true, false, cond}
 use Prim.Native.Nat.{ℕ, zero, suc, _+_, _*_, _≤_, _<_}
 use native.Mathlib.Omega.{arith}
 use Rattle.tree.specs.Tree.{Node, Piece, Items, depth}
@@ -10,14 +10,14 @@ use Rattle.tree.specs.Tree.Piece.{one, list, text, byte, mark, number}
 use Rattle.tree.specs.Tree.Items.{none, item}
 use Rattle.lowering.specs.Parts.{position, pieceIn, change, onItems, changeNode, nodeAt, is, only, each, gather, _+++_}
 use Rattle.lowering.specs.Made.{Context, reference, valueOf, keyOf, assign, declares}
-use Rattle.lowering.specs.Patterns.{shape, properties, itemsOf, rest, hasRest, leftOf, value, key, withValues, hasObjectRest, hasArrayRestOverObjectRest, replaced, replacedBelow, objectsBelow}
+use Rattle.lowering.specs.Patterns.{shape, properties, itemsOf, rest, hasRest, leftOf, value, key, withValues, hasObjectRest, hasArrayRestOverObjectRest, replaced, replacedBelow}
 use Rattle.lowering.specs.Keys.{keySort, keyTemporary, keyTemporaries, taken}
 use Rattle.lowering.specs.Rests.{hasNoProperties, restValue}
-use Rattle.lowering.specs.Assignments.{isTop, target, assigned, nearest, partsOf, partsReplaced, targetLeft, fromReference, topSequence, outermost, nestedSequence}
+use Rattle.lowering.specs.Assignments.{isTop, target, assigned, partsOf, partsReplaced, targetLeft, fromReference, topSequence, outermost, nestedSequence}
 use Rattle.lowering.specs.Declarations.{isName, source, sourceDeclarator, keysBefore, patternDeclarator, restDeclarator, own, nested, nestedBelow, objectDeclarators, patternDeclarators, lowerDeclarator, isLowered, declarators, declaration}
 use Rattle.lowering.specs.Weight.{isHead, extra, factor, weight, weightPiece, weightItems}
 use Rattle.lowering.proofs.All.{AllItems, AllPiece, Each, weaker-items, all-append, all-gather, all-each, all-changed}
-use Rattle.lowering.proofs.Cases.{by-test, by-shape, object-is, by-key, is-changed, and-left, and-right, shape-34}
+use Rattle.lowering.proofs.Cases.{by-test, by-shape, object-is, by-key, is-changed, and-left, and-right}
 use Rattle.lowering.proofs.Weights.{weight-pos, weight-of, weight-whole, items-light, parts-fall, node-piece, piece-light-in}
 use Rattle.lowering.proofs.WeightChange.{changeNode-light, changeEach-light, two-light}
 use Rattle.lowering.proofs.WeightPatterns.{temporary-weight, node-in, within, within-light, parts-within, replaced-light, parts-light, outermost-light, replaced-less, changeNode-less}

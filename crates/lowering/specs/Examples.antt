@@ -7,7 +7,7 @@ use lib.ListN.{length, replicate}
 use Rattle.tree.specs.Tree.{Node, Items, encode, marks}
 use Rattle.tree.specs.Tree.Node.{node}
 use Rattle.tree.specs.Tree.Fields.{done, absent, field}
-use Rattle.tree.specs.Tree.Piece.{one, list, text, byte, mark, number}
+use Rattle.tree.specs.Tree.Piece.{one, list, text, byte, mark}
 use Rattle.tree.specs.Tree.Items.{none, item}
 use Rattle.lowering.specs.Parts.{only}
 use Rattle.lowering.specs.Made.{call, W, object, array, assign, declares}

@@ -2,7 +2,7 @@
 -- Assumes nothing.
 use mathlib.Core.Path.{_≡_, refl, sym, ap, ap₂, _∙_}
 use mathlib.Core.List.{List, [], _∷_, _++_, append-assoc, append-nil}
-use Prim.Native.Nat.{ℕ, zero, suc, _+_, _*_}
+use Prim.Native.Nat.{ℕ, _+_, _*_}
 use native.Mathlib.Omega.{arith}
 use Rattle.tree.specs.Tree.{Node, Fields, Piece, Items, mapOf, count}
 use Rattle.tree.specs.Tree.Node.{node}
@@ -12,9 +12,9 @@ use Rattle.tree.specs.Tree.Items.{none, hole, item}
 use Rattle.rewritten.specs.Events.{Event, events, eventsFields, eventsPiece, eventsItems}
 use Rattle.rewritten.specs.Events.Event.{begins, ends, opens, closes}
 use Rattle.ordering.specs.declared.verdict.Verdict.{Verdict}
-use Rattle.ordering.specs.Verdicts.{orElse, turn, byValue, byText, lexical}
+use Rattle.ordering.specs.Verdicts.{orElse, byValue, byText, lexical}
 use Rattle.ordering.specs.declared.verdict.Verdict.the-variants.{Less, Equal, Greater}
-use Rattle.ordering.specs.Order.{compare, compareFields, comparePiece, compareItems, keyOf, byKey, byEvent, firstDifference}
+use Rattle.ordering.specs.Order.{compare, compareFields, comparePiece, compareItems, byKey, byEvent, firstDifference}
 use Rattle.ordering.proofs.Laws.{or-nothing, or-or, value-same}
 
 -- kind and bit map, then what stands

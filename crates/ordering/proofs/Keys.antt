@@ -2,7 +2,7 @@
 -- Assumes nothing.
 use mathlib.Core.Path.{_≡_, refl, sym, ap, ap₂, subst, _∙_}
 use mathlib.Core.List.{List}
-use mathlib.Core.Bool.{Bool, true, false, cond}
+use mathlib.Core.Bool.{Bool, false, cond}
 use Prim.Native.Nat.{ℕ, _+_, _≤_}
 use lib.Dec.{eqb}
 use lib.ListN.{length, take, drop}
@@ -14,7 +14,7 @@ use Rattle.rewritten.specs.declared.step.Event as told
 use Rattle.ordering.specs.declared.verdict.Verdict.{Verdict}
 use Rattle.ordering.specs.Verdicts.{orElse, byValue, byText}
 use Rattle.ordering.specs.Order.{Key, keyOf, byKey, byEvent, opensTemporary}
-use Rattle.ordering.specs.Sides.{Within, keyIn, KeyIs, numberIn}
+use Rattle.ordering.specs.Sides.{Within, KeyIs, numberIn}
 use Rattle.ordering.specs.declared.key.Key as told-key
 
 pub key-as : (tree : List ℕ) (e f : told.Event) (k : told-key.Key) → e ≡ f → KeyIs tree f k → KeyIs tree e k

@@ -42,11 +42,6 @@ turn-or Less w = refl
 turn-or Equal w = refl
 turn-or Greater w = refl
 
-pub turn-turn : (v : Verdict) → turn (turn v) ≡ v
-turn-turn Less = refl
-turn-turn Equal = refl
-turn-turn Greater = refl
-
 own-turn : (v : Verdict) → v ≡ turn v → v ≡ Equal
 own-turn Less e = absurd (greater-not-less (sym e))
 own-turn Equal e = refl

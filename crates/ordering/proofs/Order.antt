@@ -1,10 +1,10 @@
 -- The laws of the order, for all trees; and the order as the first difference of two tours, each with its own table of temporaries.
 -- Assumes nothing.
 use mathlib.Core.Path.{_≡_, refl, sym, ap, ap₂, _∙_}
-use mathlib.Core.Bool.{Bool, true, false, cond}
+use mathlib.Core.Bool.{Bool, false}
 use mathlib.Core.Logic.{_⊎_, inl, inr}
 use mathlib.Core.List.{List, [], _∷_, _++_, append-assoc, append-nil}
-use Prim.Native.Nat.{ℕ, zero, suc, _+_, _*_}
+use Prim.Native.Nat.{ℕ, suc, _+_, _*_}
 use lib.Dec.{eqb}
 use Rattle.tree.specs.Tree.{Node, Fields, Piece, Items, mapOf, count}
 use Rattle.tree.specs.Grammar.{Stage}
@@ -15,7 +15,7 @@ use Rattle.tree.specs.Tree.Items.{none, hole, item}
 use Rattle.rewritten.specs.Events.{Event, events, eventsFields, eventsPiece, eventsItems}
 use Rattle.rewritten.specs.Events.Event.{begins, ends, opens, closes}
 use Rattle.ordering.specs.declared.verdict.Verdict.{Verdict}
-use Rattle.ordering.specs.Verdicts.{orElse, turn, byValue, byText, lexical}
+use Rattle.ordering.specs.Verdicts.{turn, byText, lexical}
 use Rattle.ordering.specs.declared.verdict.Verdict.the-variants.{Less, Equal, Greater}
 use Rattle.equal.specs.Canonical.{canonical}
 use Rattle.equal.specs.Met.{met, metFields, metPiece, metItems, inTurn, inTurnFields, inTurnPiece, inTurnItems}

@@ -2,7 +2,7 @@
 -- Assumes nothing.
 use mathlib.Core.Path.{_≡_, refl, sym, ap, ap₂, subst, _∙_}
 use mathlib.Core.Bool.{Bool, true, false, cond, not}
-use mathlib.Core.List.{List, [], _∷_}
+use mathlib.Core.List.{List, []}
 use Prim.Native.Nat.{ℕ, _+_, _-_, _<_, _≤_}
 use lib.ListN.{length, getD}
 use Rattle.tree.specs.Tree.{Node}
@@ -17,7 +17,7 @@ use Rattle.rewritten.specs.declared.step.Cursor.{Cursor}
 use Rattle.rewritten.specs.declared.step.Event as told
 use Rattle.rewritten.proofs.Rewritten.{checked-got}
 use Rattle.ordering.specs.Verdicts.{orElse, isEqual, lexical, byText}
-use Rattle.ordering.specs.Order.{order, byEvent, firstDifference, placedAll}
+use Rattle.ordering.specs.Order.{byEvent, firstDifference, placedAll}
 use Rattle.ordering.specs.Sides.{Within, Coming, Went, Moved}
 use Rattle.ordering.specs.Outcome.{pairOf, isRefused, answerOf}
 use Rattle.ordering.specs.declared.verdict.Verdict.{Verdict}

@@ -2,7 +2,7 @@
 -- Assumes nothing.
 use mathlib.Core.Path.{_≡_, refl, sym, ap, ap₂, _∙_}
 use mathlib.Core.List.{List, [], _∷_, _++_}
-use Prim.Native.Nat.{ℕ, zero, suc, _+_, _*_}
+use Prim.Native.Nat.{ℕ, suc, _+_, _*_}
 use native.Mathlib.Omega.{arith}
 use Rattle.tree.specs.Tree.{Node, Fields, Piece, Items, wideBytes, mapOf, count, encode, encodeFields, encodePiece, encodeItems}
 use Rattle.tree.specs.Tree.Node.{node}
@@ -12,7 +12,7 @@ use Rattle.tree.specs.Tree.Items.{none, hole, item}
 use Rattle.equal.specs.Renaming.{unplaced, unplacedFields, unplacedPiece, unplacedItems}
 use Rattle.equal.proofs.Unplaced.{map-unplaced}
 use Rattle.ordering.specs.declared.verdict.Verdict.{Verdict}
-use Rattle.ordering.specs.declared.verdict.Verdict.the-variants.{Less, Equal, Greater}
+use Rattle.ordering.specs.declared.verdict.Verdict.the-variants.{Equal}
 use Rattle.ordering.specs.Verdicts.{orElse, byValue, byText}
 use Rattle.ordering.specs.Order.{compare, compareFields, comparePiece, compareItems}
 use Rattle.ordering.proofs.Laws.{less-not-equal, greater-not-equal, both-equal, self, value-orders, text-orders, value-same, text-same}

@@ -1,14 +1,14 @@
 -- A step of one side: its next event with the place, and what is to come then.
 -- Assumes nothing.
 use mathlib.Core.Path.{_≡_, refl, sym, ap, ap₂, subst, _∙_}
-use mathlib.Core.Bool.{Bool, true, false, cond}
+use mathlib.Core.Bool.{Bool, true, false}
 use mathlib.Core.List.{List, [], _∷_}
-use Prim.Native.Nat.{ℕ, suc, _+_, _-_, _*_, _<_, _≤_}
+use Prim.Native.Nat.{ℕ, suc, _+_, _-_, _<_, _≤_}
 use native.Mathlib.Omega.{arith}
 use lib.ListN.{length, getD}
 use Rattle.tree.specs.Tree.{Node}
 use Rattle.tree.specs.Grammar.Stage.{rewritten}
-use Rattle.tree.specs.Read.{Got, readTree}
+use Rattle.tree.specs.Read.{readTree}
 use Rattle.tree.specs.Read.Got.{got}
 use Rattle.rewritten.specs.Events.{Event, events}
 use Rattle.rewritten.specs.Events.Event.{begins, ends, opens, closes}
@@ -21,11 +21,10 @@ use Rattle.rewritten.specs.declared.step.Step.the-variants.{Next, Done, Refused
 use Rattle.rewritten.proofs.Pass.{coming, onward, Inside, inside-start, inside-next, step-falls, frames-suffice, tour-of-tree, Rest, rest-next, rest-done, rest-refused}
 use Rattle.equal.specs.Met.{meet, place}
 use Rattle.ordering.specs.Order.{opensTemporary, metBy, placedBy, placedAll}
-use Rattle.ordering.specs.Places.{Knows, PlacedAs}
-use Rattle.ordering.specs.Sides.{Within, numberIn, Coming, Went, Moved}
+use Rattle.ordering.specs.Places.{PlacedAs}
+use Rattle.ordering.specs.Sides.{Within, numberIn, Coming, Moved}
 use Rattle.ordering.specs.declared.place.Placed.{Placed}
 use Rattle.ordering.specs.declared.side.Side.{Side}
-use Rattle.ordering.specs.declared.side.Move.{Move}
 use Rattle.ordering.specs.declared.side.Move.the-variants.{Met, Ended}
 use Rattle.ordering.proofs.Places.{knows-none, place-is, count-is, knows-placed, few-more}
 

@@ -5,13 +5,12 @@ use Prim.Native.Nat.{ℕ}
 use Rattle.tree.specs.Tree.{Node, Items, mapOf}
 use Rattle.tree.specs.Tree.Node.{node}
 use Rattle.tree.specs.Tree.Fields.{done, absent, field}
-use Rattle.tree.specs.Tree.Piece.{one, list, text, byte, mark, number}
+use Rattle.tree.specs.Tree.Piece.{list, text, byte, mark, number}
 use Rattle.tree.specs.Tree.Items.{none, hole, item}
 use Rattle.lowering.specs.Collect.{except, distinct, numberIn}
 use Rattle.equal.specs.Canonical.{canonical, numbers, renumbered, placeOf}
 use Rattle.ordering.specs.Verdicts.{byValue, byText, lexical}
 use Rattle.ordering.specs.Order.{order, compare}
-use Rattle.ordering.specs.declared.verdict.Verdict.{Verdict}
 use Rattle.ordering.specs.declared.verdict.Verdict.the-variants.{Less, Equal, Greater}
 
 abbrev temporary : ℕ → ℕ → Node

@@ -1,7 +1,7 @@
 -- What is answered of two slices: the order of the trees that they are, or a refusal.
 use Prim.Native.Nat.{ℕ}
 use lib.IntN.{ℤ, pos}
-use mathlib.Core.Bool.{Bool, true, false, cond, not}
+use mathlib.Core.Bool.{Bool, true, cond, not}
 use mathlib.Core.List.{List}
 use Rattle.tree.specs.Tree.{Node}
 use Rattle.tree.specs.Read.{Got}

@@ -19,7 +19,7 @@ use Rattle.tree.specs.Grammar.Stage.{input}
 use Rattle.tree.specs.WellFormed.{byteIn, Fits, FitFields, FitPiece, FitItems}
 use Rattle.tree.proofs.Look.{kind-at}
 use Rattle.lowering.specs.Parts.{position, kind, is, pieceIn, nodeAt, itemsAt, stands, standsIn, isEmpty}
-use Rattle.lowering.specs.Patterns.{Shape, shape, rest, hasRest, properties, key, value}
+use Rattle.lowering.specs.Patterns.{Shape, shape, rest, hasRest, properties, key}
 use Rattle.lowering.specs.Patterns.Shape.{objectPattern, arrayPattern, leaf}
 use Rattle.lowering.specs.Keys.{keySort, entryOf, keyText}
 use Rattle.lowering.specs.Rests.{restValue}
@@ -41,7 +41,7 @@ use Rattle.direct.specs.Objects.{replacedIn, overReplaced}
 use Rattle.direct.specs.Handed.{placesIn, handsPlace, handsNested}
 use Rattle.direct.specs.Assigned.{emitsRestOf, emitsNest, emitsTarget}
 use Rattle.direct.specs.Declared.{emitsKeyValue, emitsOwnKeys, emitsOwnPattern}
-use Rattle.direct.proofs.PatternViews.{view-object, view-rest, view-default, view-property}
+use Rattle.direct.proofs.PatternViews.{view-rest, view-property}
 use Rattle.direct.proofs.RestValues.{excluded-spelt, excluded-itself, excluded-omitted, excluded-saved, rest-none, rest-some}
 use Rattle.direct.proofs.AssignmentsByPart.{target-nested, target-kept}
 use Rattle.direct.proofs.Ways.{key-plain, own-pattern-some}

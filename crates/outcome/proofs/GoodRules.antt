@@ -11,7 +11,7 @@ use Rattle.tree.specs.Tree.Node.{node}
 use Rattle.tree.specs.Tree.Items.{none, hole, item}
 use Rattle.lowering.specs.Parts.{position, pieceIn, kind, is, nodeAt, itemsAt, stands, change, onNode, onItems, changeNode, changeItems, only, each, gather, any, _+++_}
 use Rattle.lowering.specs.Made.{Context, temporary, reference, valueOf, keyOf, helper, call, S, X, E, W, K, object, array, sequence, member, assign, string, declares, declared, letOf, varOf, assigning, returning, block, functionBody}
-use Rattle.lowering.specs.Patterns.{shape, properties, rest, hasRest, leftOf, key, value, withValues, hasObjectRest, hasArrayRestOverObjectRest, replaced, replacedBelow, objectsBelow}
+use Rattle.lowering.specs.Patterns.{shape, properties, rest, hasRest, leftOf, key, value, withValues, hasObjectRest, hasArrayRestOverObjectRest, replaced, replacedBelow}
 use Rattle.lowering.specs.Keys.{keySort, excludedKey, excludedKeys, keyTemporary, keyTemporaries, allPrimitive, taken, entryOf, keyText}
 use Rattle.lowering.specs.Rests.{hasNoProperties, mapped, isHoisted, keysRead, restValue}
 use Rattle.lowering.specs.Literals.{Call, opened, closed, scan, literal}

@@ -13,7 +13,7 @@ use Rattle.tree.specs.Tree.{Node, Fields, Piece, Items, wideBytes, mapOf, count
 use Rattle.tree.specs.Tree.Node.{node}
 use Rattle.lowering.specs.Parts.{position, kind, is, nodeAt, itemsAt, numberAt, pieceIn, stands, standsIn, only, each, gather, any, _+++_}
 use Rattle.lowering.specs.Made.{Context, temporary, reference, declares, declared, array, string, idOf}
-use Rattle.lowering.specs.Patterns.{shape, properties, itemsOf, leftOf, value, hasRest, withValues, replaced, key, hasObjectRest, hasArrayRestOverObjectRest, objectsWithRest, objectsBelow}
+use Rattle.lowering.specs.Patterns.{shape, properties, itemsOf, leftOf, value, hasRest, key, hasObjectRest, hasArrayRestOverObjectRest}
 use Rattle.lowering.specs.Keys.{Key, keySort, isPrimitive, allPrimitive, excludedKey, excludedKeys, keyTemporary, keyTemporaries, keyText}
 use Rattle.lowering.specs.Rests.{isHoisted, excludedFor}
 use Rattle.lowering.specs.Declarations.{isLowered, loweredIn, declarationExcludes, declarationRefusal}

@@ -11,7 +11,7 @@ use lib.Dec.{eqb}
 use borrow.Author.Tests.{not-true}
 use Rattle.tree.specs.Tree.{Node, Fields, Piece, Items, depth}
 use Rattle.tree.specs.Tree.Node.{node}
-use Rattle.lowering.specs.Parts.{nothing, position, kind, asItems, is, nodeAt, itemsAt, pieceIn, stands, changeIn, change, onItems, changeNode, changeItems, isEmpty, only, each, gather, any, _+++_}
+use Rattle.lowering.specs.Parts.{nothing, position, kind, asItems, is, nodeAt, itemsAt, pieceIn, changeIn, change, onItems, changeNode, changeItems, isEmpty, only, each, gather, any, _+++_}
 use Rattle.lowering.specs.Made.{Context, temporary, reference, valueOf, keyOf, excludedOf, helper, call, K, array, member, assign, declares, declared, idOf}
 use Rattle.lowering.specs.Patterns.{shape, properties, itemsOf, rest, hasRest, leftOf, key, value, withValues, withProperties, hasNestedArrayRest, hasObjectRest, hasArrayRestOverObjectRest, replaced, objectsWithRest, replacedBelow, objectsBelow}
 use Rattle.lowering.specs.Patterns.Shape.{objectPattern, arrayPattern, default, leaf}
@@ -31,7 +31,7 @@ use Rattle.lowering.proofs.Levels.{below-object, below-leaf}
 use Rattle.lowering.proofs.MadeAtSites.{times, times-append, no-ids}
 use Rattle.lowering.proofs.Occurs.{occurs, occursFields, occursPiece, occursItems}
 use Rattle.lowering.proofs.Clauses.{objects-object, objects-array, objects-default, objects-leaf, has-leaf, top-34, top-rest}
-use Rattle.outcome.proofs.Good.{Leaf, NotDefault, first-simple, Good, GoodObject, rest-leaf, node-good, items-good, to-all}
+use Rattle.outcome.proofs.Good.{Leaf, NotDefault, first-simple, Good, rest-leaf, node-good, items-good, to-all}
 use Rattle.lowering.proofs.ItemLaws.{each-append, gather-none, gather-append}
 use Rattle.lowering.proofs.ChangeLaws.{stands-without}
 use Rattle.lowering.proofs.WeightKeys.{values-rest}

@@ -7,7 +7,7 @@ use Rattle.tree.specs.Tree.Node.{node}
 use Rattle.tree.specs.Tree.Items.{none, hole, item}
 use Rattle.lowering.specs.Parts.{pieceIn, changeIn, dropIn, asNode, asItems, kind, is, nodeAt, itemsAt, stands, change, onNode, onItems, changeNode, changeItems, without, only, each, gather, any, _+++_}
 use Rattle.lowering.specs.Made.{Context, reference, valueOf, keyOf, S, letOf, varOf, assign, assigning, declares, array}
-use Rattle.lowering.specs.Patterns.{shape, properties, itemsOf, rest, hasRest, leftOf, key, value, withItems, withValues, withProperties, hasObjectRest, hasArrayRestOverObjectRest, replaced, replacedBelow, objectsWithRest, objectsBelow}
+use Rattle.lowering.specs.Patterns.{shape, properties, itemsOf, rest, hasRest, leftOf, key, value, withItems, withValues, withProperties, hasObjectRest, hasArrayRestOverObjectRest, replaced, replacedBelow}
 use Rattle.lowering.specs.Keys.{keySort, excludedKey, excludedKeys, keptKey, keyTemporary, keyTemporaries, allPrimitive, taken, entryOf}
 use Rattle.lowering.specs.Rests.{hasNoProperties, mapped, isHoisted, keysRead, restValue}
 use Rattle.lowering.specs.Literals.{Call, opened, closed, scan, literal}

@@ -16,14 +16,14 @@ use Rattle.lowering.specs.Patterns.Shape.{objectPattern, arrayPattern, default,
 use Rattle.lowering.specs.Keys.{keySort, excludedKey, excludedKeys, keptKey, taken, entryOf, keyText}
 use Rattle.lowering.specs.Assignments.{isTop, nearest, partsOf, partsReplaced}
 use Rattle.lowering.specs.Heads.{moved, movedPattern, movedOut}
-use Rattle.lowering.proofs.All.{AllItems, all-append, weaker-items, other-changed}
+use Rattle.lowering.proofs.All.{AllItems, other-changed}
 use Rattle.lowering.proofs.Cases.{by-test, by-shape, by-key, object-is, array-is, default-is, is-changed, by-entry}
 use Rattle.lowering.proofs.Sites.{here, hereItems}
 use Rattle.lowering.proofs.Clauses.{objects-object, objects-array, objects-default, objects-leaf, replaced-object, replaced-array, replaced-default, parts-object, parts-array, parts-default, parts-leaf, nearest-object, nearest-array, nearest-default, nearest-leaf}
 use Rattle.outcome.proofs.Good.{Leaf, Is35, Good, GoodItems, to-all, node-good, items-good, properties-35, replaced-view, parts-fixes}
 use Rattle.outcome.proofs.ListedStand.{objects-zero}
 use Rattle.lowering.proofs.WeightKeys.{values-rest}
-use Rattle.outcome.proofs.Potential.{gone, slot, slotMoved, slots, slotValues, odd, odds, resting, own, pot, potItems, pot-34, pot-35, pot-36, pot-37, inner-in, node-in, items-in, node-and-node, items-and-node, pot-append, only-pot, none-pot, temporary-pot, node-exchange, items-exchange, drop-exchange, odds-append, odds-none, only-odds, moved-less}
+use Rattle.outcome.proofs.Potential.{gone, slot, slotMoved, slots, slotValues, odd, odds, resting, own, pot, potItems, pot-34, pot-35, pot-36, pot-37, inner-in, node-in, node-and-node, items-and-node, pot-append, only-pot, none-pot, temporary-pot, node-exchange, items-exchange, drop-exchange, odds-append, odds-none, only-odds, moved-less}
 use Rattle.lowering.proofs.ChangeLaws.{position-changed, is-without, items-without, stands-without, items-changed}
 
 -- ---- accessors of changed nodes

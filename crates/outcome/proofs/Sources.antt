@@ -1,24 +1,23 @@
 -- The rest of each object of a walked target is read from its own part.
 -- Assumes nothing.
 use mathlib.Core.Path.{_≡_, refl, sym, ap, _∙_, subst}
-use mathlib.Core.Bool.{Bool, true, false, cond, not, true≢false}
+use mathlib.Core.Bool.{Bool, true, false, cond, true≢false}
 use mathlib.Core.Logic.{_⊎_, ⊎-elim}
 use mathlib.Core.Logic._⊎_.{inl, inr}
 use Prim.Native.Nat.{ℕ, zero, suc, _≤_, _<_}
 use native.Mathlib.Omega.{arith}
-use Rattle.tree.specs.Tree.{Node, Fields, Piece, Items, depth, depthFields, depthPiece, depthItems}
+use Rattle.tree.specs.Tree.{Node, Piece, Items, depth, depthFields, depthPiece, depthItems}
 use Rattle.tree.specs.Tree.Node.{node}
-use Rattle.lowering.specs.Parts.{nothing, is, asNode, pieceIn, nodeAt, itemsAt, isEmpty, stands, onNode, onItems, changeNode, only, each, gather, _+++_}
+use Rattle.lowering.specs.Parts.{nothing, is, asNode, pieceIn, nodeAt, itemsAt, isEmpty, onNode, onItems, changeNode, only, each, gather, _+++_}
 use Rattle.lowering.specs.Made.{Context, assign, reference, valueOf, sequence}
-use Rattle.lowering.specs.Patterns.{shape, properties, itemsOf, leftOf, value, rest, hasRest, withValues, withLeft, withProperties, hasObjectRest, hasArrayRestOverObjectRest, replacedBelow}
+use Rattle.lowering.specs.Patterns.{shape, properties, itemsOf, leftOf, value, hasRest, withValues, withProperties, hasObjectRest, hasArrayRestOverObjectRest}
 use Rattle.lowering.specs.Patterns.Shape.{objectPattern, arrayPattern, default, leaf}
 use Rattle.lowering.specs.Keys.{keptKey, taken}
-use Rattle.lowering.specs.Rests.{restValue}
-use Rattle.lowering.specs.Assignments.{target, assigned, isTop, nearest, partsOf, outermost, partsReplaced, targetLeft, fromReference, topRefusal, topSequence, nestedSequence}
-use Rattle.lowering.specs.Walk.{rewrite, within, ruleOf, stepAssignment, stepTop}
+use Rattle.lowering.specs.Assignments.{target, isTop, nearest, partsOf, outermost, partsReplaced, targetLeft, fromReference, topRefusal, topSequence, nestedSequence}
+use Rattle.lowering.specs.Walk.{rewrite, within, stepAssignment, stepTop}
 use Rattle.lowering.specs.Weight.{weight}
 use Rattle.lowering.specs.Visits.{ItemAt, NodeIn, FieldAt, PartAt, Visits}
-use Rattle.lowering.proofs.Cases.{by-test, by-shape, rule-27, not-false, object-is, shape-34, by-number}
+use Rattle.lowering.proofs.Cases.{by-test, rule-27, not-false, shape-34, by-number}
 use Rattle.lowering.proofs.Levels.{depth-pos, items-depth, piece-depth}
 use Rattle.lowering.proofs.Clauses.{nearest-object, nearest-array, nearest-default, parts-object, parts-array, parts-default, top-34, top-rest}
 use Rattle.lowering.proofs.ChangeLaws.{shape-changed, items-changed, items-without}
@@ -31,7 +30,7 @@ use Rattle.direct.proofs.Targets.{left-changed, shape-taken}
 use Rattle.direct.proofs.Reached.{found-or-none}
 use Rattle.direct.proofs.Reached.{parts-nothing}
 use Rattle.outcome.proofs.ListedStand.{left-no-top}
-use Rattle.outcome.specs.Sources.{ObjectOf, Apart, Sourced, EachItsOwn, ReadFromValue}
+use Rattle.outcome.specs.Sources.{ObjectOf, Sourced, EachItsOwn, ReadFromValue}
 use Rattle.outcome.specs.Sources.ObjectOf.{itself, inValue, inItem, inLeft}
 
 -- ---- items at places

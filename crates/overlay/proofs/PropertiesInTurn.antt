@@ -16,7 +16,7 @@ use Rattle.lowering.specs.Literals.Call.{no-call, call}
 use Rattle.overlay.specs.Objects.{Key, Value, Props, put, overlay, keysOf, pick, isName, filter, namesFirst}
 use Rattle.overlay.specs.Objects.Value.{outer, inner}
 use Rattle.overlay.specs.Objects.Props.{empty, entry}
-use Rattle.overlay.specs.Run.{Step, History, Reply, Outside, Out, Argument, Entry, then, ask, made, putEntry, pour, create, defineS, defineAll, take, takeAll, lacksSymbol, takeListed, isBlank, copy, copyS, atOdd, spreads, callsS, defined, run, lay, layAll, runAll, layAt, runAt}
+use Rattle.overlay.specs.Run.{Step, History, Reply, Outside, Out, Entry, then, ask, made, putEntry, pour, create, defineS, defineAll, take, takeAll, lacksSymbol, takeListed, isBlank, copy, copyS, atOdd, spreads, callsS, defined, run, lay, layAll, runAll, layAt, runAt}
 use Rattle.overlay.specs.Run.Step.{evaluates, lists, reads}
 use Rattle.overlay.specs.Run.Reply.{gives, throws}
 use Rattle.overlay.specs.Run.Out.{ok, threw, beyond, stuck}

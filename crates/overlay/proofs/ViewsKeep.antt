@@ -14,7 +14,7 @@ use Rattle.tree.specs.Tree.Piece.{one, list, text, byte, mark, number}
 use Rattle.tree.specs.Tree.Items.{none, hole, item}
 use Rattle.lowering.specs.Parts.{is, pieceIn, standsIn, changeIn, dropIn, asNode, asItems, nodeAt, itemsAt, stands, change, onNode, onItems, changeNode, without, only, each, gather, isEmpty, _+++_}
 use Rattle.lowering.specs.Made.{Context, temporary, reference, keyOf, valueOf, declares, letOf}
-use Rattle.lowering.specs.Patterns.{shape, properties, itemsOf, rest, hasRest, leftOf, value, key, withLeft, withItems, withRest, withValues, hasObjectRest, replaced, objectsWithRest, replacedBelow}
+use Rattle.lowering.specs.Patterns.{shape, properties, itemsOf, rest, hasRest, leftOf, value, key, withLeft, withItems, withRest, withValues, hasObjectRest, replaced, replacedBelow}
 use Rattle.lowering.specs.Patterns.Shape.{leaf}
 use Rattle.lowering.specs.Keys.{Key, keySort, keptKey, keyTemporary, keyTemporaries, taken}
 use Rattle.lowering.specs.Rests.{hasNoProperties, restValue}

@@ -1,10 +1,9 @@
 -- Literals in a whole tree: where the walk comes to them, and what it leaves there.
 use mathlib.Core.Path.{_≡_}
-use mathlib.Core.List.{List, [], _∷_}
-use mathlib.Core.Bool.{true, false}
-use Prim.Native.Nat.{ℕ, suc}
-use Rattle.tree.specs.Tree.{Node, Fields, Piece, Items, encode}
-use Rattle.tree.specs.Tree.Node.{node}
+use mathlib.Core.List.{List, []}
+use mathlib.Core.Bool.{true}
+use Prim.Native.Nat.{ℕ}
+use Rattle.tree.specs.Tree.{Node, Items, encode}
 use Rattle.tree.specs.Grammar.Stage.{input}
 use Rattle.tree.specs.Read.{readTree}
 use Rattle.tree.specs.Read.Got.{got}

@@ -1,30 +1,28 @@
 -- What is left to come, one event at a time.
 -- Assumes nothing.
-use mathlib.Core.Path.{_≡_, refl, sym, ap, subst, _∙_, fun-ext}
+use mathlib.Core.Path.{_≡_, refl, sym, ap, _∙_, fun-ext}
 use mathlib.Core.Bool.{Bool, true, false, cond}
 use mathlib.Core.List.{List, [], _∷_, _++_, append-assoc, append-nil}
-use Prim.Native.Nat.{ℕ, zero, suc, _+_, _-_, _*_, _/_, _%_, _<_, _≤_}
+use Prim.Native.Nat.{ℕ, zero, suc, _+_, _*_, _/_, _%_, _<_}
 use native.Mathlib.Omega.{arith}
-use lib.Dec.{ltb, leb, eqb}
-use lib.ListN.{length, getD, take, drop}
-use borrow.Author.Tests.{lt-ltb, le-ltb, le-leb, lt-leb, eq-eqb, ne-eqb, eqb-true}
-use Rattle.tree.specs.Tree.{Node, Fields, Piece, Items, mapOf, count}
+use lib.Dec.{ltb, eqb}
+use borrow.Author.Tests.{lt-ltb, le-ltb, eq-eqb, ne-eqb, eqb-true}
+use Rattle.tree.specs.Tree.{Node, Fields, Items, mapOf, count}
 use Rattle.tree.specs.Tree.Node.{node}
-use Rattle.tree.specs.Tree.Fields.{done, absent, field}
+use Rattle.tree.specs.Tree.Fields.{absent, field}
 use Rattle.tree.specs.Tree.Piece.{one, list}
-use Rattle.tree.specs.Tree.Items.{none, hole, item}
+use Rattle.tree.specs.Tree.Items.{hole, item}
 use Rattle.tree.specs.Grammar.{Sort, Field, formAt, fieldsOf, mapOk}
-use Rattle.tree.specs.Grammar.Field.{must, may}
 use Rattle.tree.specs.Grammar.Stage.{rewritten}
-use Rattle.tree.specs.Grammar.Sort.{child, chosen, many, gaps, text, byte, mark, number}
-use Rattle.tree.specs.Read.{Got, mapped, joined, accepted, sortIn, byteAt, wideAt, chosenPlace, readText, readByte, readMark, readNumber, readItem, readItems, readList, readField, readSlot, readFields, readNode}
+use Rattle.tree.specs.Grammar.Sort.{child, chosen}
+use Rattle.tree.specs.Read.{Got, mapped, joined, accepted, sortIn, byteAt, wideAt, chosenPlace, readItem, readItems, readList, readField, readSlot, readFields}
 use Rattle.tree.specs.Read.Got.{got, refused}
-use Rattle.tree.specs.Read.Refusal.{notATree, tooDeep}
+use Rattle.tree.specs.Read.Refusal.{notATree}
 use Rattle.tree.proofs.Hold.{Holds, of-mapped, of-joined, weaker}
 use Rattle.tree.proofs.Within.{map-rest}
 use Rattle.rewritten.specs.Events.{Event, events, eventsFields, eventsPiece, eventsItems}
 use Rattle.rewritten.specs.Events.Event.{begins, ends, opens, closes}
-use Rattle.rewritten.specs.Pending.{Task, closing, byBit, standing, sorts, andThen, nodeIn, nodeComes, pieceComes, slotsCome, itemsCome, comes, pending}
+use Rattle.rewritten.specs.Pending.{Task, closing, byBit, standing, andThen, nodeIn, nodeComes, pieceComes, slotsCome, itemsCome, comes, pending}
 use Rattle.rewritten.specs.Pending.Task.{slots, items}
 use Rattle.rewritten.specs.Steps.{listSort}
 use Rattle.rewritten.proofs.Deep.{own-body}

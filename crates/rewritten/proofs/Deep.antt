@@ -1,16 +1,16 @@
 -- With as many levels as there are bytes left no node is too deep: so the reader of a node is its own body.
 -- Assumes nothing.
-use mathlib.Core.Path.{_≡_, refl, sym, ap, subst, _∙_, fun-ext}
+use mathlib.Core.Path.{_≡_, refl, sym, ap, subst, _∙_}
 use mathlib.Core.Bool.{Bool, true, false, cond}
 use mathlib.Core.List.{List, [], _∷_}
-use mathlib.Core.Logic.{_⊎_, ⊎-elim}
+use mathlib.Core.Logic.{⊎-elim}
 use Prim.Native.Nat.{ℕ, zero, suc, _+_, _/_, _%_, _<_, _≤_}
 use native.Mathlib.Omega.{arith}
 use native.Mathlib.Decide.{decLt}
 use lib.Dec.{ltb, leb, eqb}
-use lib.ListN.{length, getD, take, drop, List·getD-eq-default}
+use lib.ListN.{length, take, drop, List·getD-eq-default}
 use borrow.Author.Tests.{le-ltb}
-use Rattle.tree.specs.Tree.{Node, Fields, Piece, Items}
+use Rattle.tree.specs.Tree.{Node, Piece}
 use Rattle.tree.specs.Tree.Node.{node}
 use Rattle.tree.specs.Tree.Fields.{field}
 use Rattle.tree.specs.Tree.Piece.{one, list}
@@ -18,7 +18,7 @@ use Rattle.tree.specs.Tree.Items.{hole, item}
 use Rattle.tree.specs.Grammar.{Sort, Field, Stage, root, formAt, fieldsOf, mapOk}
 use Rattle.tree.specs.Grammar.Stage.{input, rewritten}
 use Rattle.tree.specs.Grammar.Sort.{child, chosen, many, gaps, text, byte, mark, number}
-use Rattle.tree.specs.Read.{Got, Refusal, mapped, joined, accepted, sortIn, byteAt, wideAt, chosenPlace, readText, readByte, readMark, readNumber, readItem, readItems, readList, readField, readSlot, readFields, readNode, readTree, whole, longest}
+use Rattle.tree.specs.Read.{Got, mapped, joined, accepted, sortIn, byteAt, wideAt, chosenPlace, readText, readByte, readMark, readNumber, readItem, readItems, readList, readField, readSlot, readFields, readNode, readTree, whole, longest}
 use Rattle.tree.specs.Read.Got.{got, refused}
 use Rattle.tree.specs.Read.Refusal.{notATree, tooDeep}
 use Rattle.tree.proofs.Limit.{limit-law}

@@ -1,9 +1,9 @@
 -- The fields of a node that are still to come, as one number.
 -- Assumes nothing.
 use mathlib.Core.Path.{_≡_, refl, sym, ap, _∙_}
-use mathlib.Core.Bool.{Bool, true, false}
+use mathlib.Core.Bool.{Bool}
 use mathlib.Core.List.{List, [], _∷_}
-use Prim.Native.Nat.{ℕ, zero, suc, _+_, _-_, _*_, _/_, _%_, _^_, _<_, _≤_}
+use Prim.Native.Nat.{ℕ, zero, suc, _+_, _*_, _/_, _%_, _^_, _<_, _≤_}
 use native.Mathlib.Nat.{pow-suc, pow-le-pow-right, one-le-pow, mul-le-mul-left, mul-add, mul-assoc, mul-comm}
 use native.Mathlib.Omega.{arith}
 use native.Mathlib.Decide.{decLt}
@@ -11,8 +11,7 @@ use lib.Dec.{leb, leb→le}
 use lib.ListN.{length}
 use borrow.Author.Tests.{eq-eqb, ne-eqb}
 use Rattle.tree.specs.Grammar.{Sort, Field, kinds, variants, fieldsOf}
-use Rattle.tree.specs.Rows.{sortOf, fieldOf, unpacked, fieldsIn}
-use Rattle.tree.specs.Read.{sortIn}
+use Rattle.tree.specs.Rows.{sortOf, unpacked, fieldsIn}
 use Rattle.tree.proofs.Rows.{row-done, row-first, first-sort}
 use Rattle.tree.proofs.Within.{at-form, all-lists}
 use Rattle.rewritten.specs.Pending.{byBit, standing, sorts}

@@ -1,14 +1,13 @@
 -- Fields that hold no node: the event that they are.
 -- Assumes nothing.
-use mathlib.Core.Path.{_≡_, refl, sym, ap, _∙_}
-use mathlib.Core.Bool.{Bool, true, false, cond}
+use mathlib.Core.Path.{_≡_, refl, sym, ap}
 use mathlib.Core.List.{List, [], _∷_}
-use Prim.Native.Nat.{ℕ, zero, suc, _+_, _-_, _*_, _<_, _≤_}
+use Prim.Native.Nat.{ℕ, _+_, _-_, _<_, _≤_}
 use native.Mathlib.Omega.{arith}
 use lib.ListN.{length, take, drop}
 use borrow.Author.Tests.{lt-ltb, le-ltb, le-leb, lt-leb}
 use Rattle.tree.specs.Grammar.Sort.{text, byte, mark, number}
-use Rattle.tree.specs.Read.{Got, byteAt, wideAt, readText, readByte, readMark, readNumber, readField}
+use Rattle.tree.specs.Read.{byteAt, wideAt, readText, readByte, readMark, readNumber, readField}
 use Rattle.tree.specs.Read.Got.{got}
 use Rattle.tree.specs.Answer.{Peeked, Wide}
 use Rattle.rewritten.specs.Events.{Event, eventsPiece}

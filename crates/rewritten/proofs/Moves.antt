@@ -6,7 +6,7 @@ use mathlib.Core.List.{List, [], _∷_, _++_}
 use Prim.Native.Nat.{ℕ, zero, suc, _+_, _-_, _*_, _/_, _%_, _^_, _<_, _≤_}
 use native.Mathlib.Omega.{arith}
 use native.Mathlib.Decide.{decLt}
-use lib.Dec.{ltb, eqb}
+use lib.Dec.{eqb}
 use lib.ListN.{length, getD, set, List·getD-eq-default}
 use lib.Seq.{getD-set-same, getD-set-other}
 use borrow.Author.Tests.{lt-ltb, le-ltb, eq-eqb, ne-eqb, ltb-true, eqb-true}
@@ -21,19 +21,16 @@ use Rattle.tree.specs.Answer.{Peeked, Wide}
 use Rattle.tree.proofs.Rows.{NoKey, no-key}
 use Rattle.tree.proofs.Within.{map-byte, known}
 use Rattle.rewritten.specs.Events.{Event}
-use Rattle.rewritten.specs.Events.Event.{begins, ends, opens, closes}
-use Rattle.rewritten.specs.Pending.{Task, standing, sorts, andThen, nodeComes, pieceComes, slotsCome, itemsCome, comes, pending, itemsIn, taskOf, stack}
+use Rattle.rewritten.specs.Events.Event.{begins, opens, closes}
+use Rattle.rewritten.specs.Pending.{Task, standing, sorts, andThen, nodeComes, pieceComes, itemsCome, comes, pending, itemsIn, taskOf, stack}
 use Rattle.rewritten.specs.Pending.Task.{slots, items}
-use Rattle.rewritten.specs.Steps.{Planned, comingAt, comingFields, comingItems, comingPiece, comingNode, listSort, Onward, Took, closingIn, stepClosed, eventIn, Stands, deepAfter, framesAfter}
+use Rattle.rewritten.specs.Steps.{Planned, comingAt, comingFields, comingItems, comingPiece, comingNode, listSort, Took, closingIn, stepClosed, eventIn, Stands, deepAfter, framesAfter}
 use Rattle.rewritten.specs.Look.{Leaf, LeafSo, stepAfter, isClosed}
-use Rattle.rewritten.specs.declared.step.Event.the-variants.{Begins, Ends, Opens, Closes, Hole}
+use Rattle.rewritten.specs.declared.step.Event.the-variants.{Begins, Opens, Hole}
 use Rattle.rewritten.specs.declared.step.Step.{Step}
-use Rattle.rewritten.specs.declared.step.Step.the-variants.{Next, Done, Refused, Full}
+use Rattle.rewritten.specs.declared.step.Step.the-variants.{Next, Refused, Full}
 use Rattle.rewritten.proofs.Coming.{led, entered, field-next, item-next, item-hole, items-plain, items-other, items-none, node-ends, list-closes, all-done, node-wrong, node-unfit, node-fits, piece-list, piece-child, piece-chosen}
 use Rattle.rewritten.proofs.Frames.{sorts-none, sorts-first, row-small}
-
-abbrev Coming : Type 0
-Coming = Got (List Event)
 
 -- ---- frames
 

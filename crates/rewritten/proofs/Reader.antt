@@ -14,15 +14,15 @@ use Rattle.tree.specs.Grammar.Stage.{rewritten}
 use Rattle.tree.specs.Read.{Got, accepted, readTree}
 use Rattle.tree.specs.Read.Got.{got, refused}
 use Rattle.rewritten.specs.Rewritten.{distinct, checked, readRewritten, isGot, isRewritten}
-use Rattle.rewritten.specs.Events.{Event, events}
+use Rattle.rewritten.specs.Events.{Event}
 use Rattle.rewritten.specs.Steps.{start, comingAt, Took, Onward, eventIn, closingIn, stepClosed}
 use Rattle.rewritten.specs.Look.{isClosed, restOf, eventFor, endFor, cursorFor, framesFor, nextFor, stepFor, Ahead, newFor, notedFor}
-use Rattle.rewritten.specs.Pass.{folded, passed}
+use Rattle.rewritten.specs.Pass.{passed}
 use Rattle.rewritten.specs.Marks.{meet, isSome, newIn, noted}
 use Rattle.rewritten.specs.declared.step.Cursor.{Cursor}
 use Rattle.rewritten.specs.declared.step.Event as told
 use Rattle.rewritten.specs.declared.step.Step.{Step}
-use Rattle.rewritten.specs.declared.step.Step.the-variants.{Next, Done, Refused, Full}
+use Rattle.rewritten.specs.declared.step.Step.the-variants.{Next, Done, Refused}
 use Rattle.rewritten.proofs.Pass.{coming, onward, Inside, inside-start, inside-next, step-falls, concluded, concluded-start, concluded-next, concluded-whole, concluded-early, concluded-refused, passed-long, frames-suffice}
 use Rattle.rewritten.proofs.Moves.{close-some, closed-top}
 use Rattle.rewritten.proofs.Ahead.{step-goes, next-goes}

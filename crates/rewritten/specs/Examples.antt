@@ -1,7 +1,7 @@
 -- Which bytes are a rewritten tree, by computation.
 use mathlib.Core.Path.{_≡_, refl}
-use mathlib.Core.Bool.{Bool, true, false}
-use mathlib.Core.List.{List, [], _∷_, _++_}
+use mathlib.Core.Bool.{true, false}
+use mathlib.Core.List.{List, [], _∷_}
 use Prim.Native.Nat.{ℕ, zero, suc}
 use Rattle.tree.specs.Tree.{marks, marksFields, marksPiece, marksItems}
 use Rattle.tree.specs.Grammar.{formAt, allowed, also, among, places, formIn, kindOf, fieldsOf, kinds, variants, mapOk}

@@ -1,7 +1,7 @@
 -- What is left to come of a rewritten tree, read off what is open.
-use Prim.Native.Nat.{ℕ, zero, suc, _+_, _/_, _%_}
+use Prim.Native.Nat.{ℕ, zero, suc, _/_, _%_}
 use mathlib.Core.List.{List, [], _∷_, _++_}
-use mathlib.Core.Bool.{Bool, true, false, cond}
+use mathlib.Core.Bool.{Bool, cond}
 use lib.Dec.{eqb}
 use lib.ListN.{length, getD}
 use Rattle.tree.specs.Tree.{Node}
@@ -11,7 +11,7 @@ use Rattle.tree.specs.Rows.{fieldsIn}
 use Rattle.tree.specs.Read.{Got, mapped, joined, sortIn, readField, readItems, readNode}
 use Rattle.tree.specs.Read.Got.{got}
 use Rattle.rewritten.specs.Events.{Event, events, eventsPiece, eventsItems}
-use Rattle.rewritten.specs.Events.Event.{begins, ends, opens, closes}
+use Rattle.rewritten.specs.Events.Event.{ends, closes}
 
 -- what is open: the fields of a node that stand and are still to come, or so many items of a list
 pub data Task : Type 0 where

@@ -1,9 +1,8 @@
 -- What a step of the tour does, in terms of what is pending.
-use Prim.Native.Nat.{ℕ, zero, suc, _+_, _-_, _*_, _/_, _%_, _^_, _<_, _≤_}
+use Prim.Native.Nat.{ℕ, zero, suc, _+_, _-_, _*_, _^_, _<_, _≤_}
 use mathlib.Core.Path.{_≡_}
-use mathlib.Core.List.{List, [], _∷_, _++_}
-use mathlib.Core.Bool.{Bool, true, false, cond}
-use lib.Dec.{eqb}
+use mathlib.Core.List.{List, [], _∷_}
+use mathlib.Core.Bool.{Bool, true, false}
 use lib.ListN.{length, getD, set, take, drop}
 use Rattle.tree.specs.Grammar.{Sort}
 use Rattle.tree.specs.Grammar.Sort.{many, gaps}
@@ -13,7 +12,7 @@ use Rattle.tree.specs.Read.Got.{got, refused}
 use Rattle.tree.specs.Read.Refusal.{notATree}
 use Rattle.rewritten.specs.Events.{Event}
 use Rattle.rewritten.specs.Events.Event.{begins, ends, opens, closes}
-use Rattle.rewritten.specs.Pending.{Task, standing, sorts, andThen, nodeComes, pieceComes, pending, itemsIn, taskOf, stack}
+use Rattle.rewritten.specs.Pending.{standing, sorts, andThen, nodeComes, pieceComes, pending, itemsIn, taskOf, stack}
 use Rattle.rewritten.specs.Pending.Task.{slots}
 use Rattle.rewritten.specs.declared.step.Cursor.{Cursor}
 use Rattle.rewritten.specs.declared.step.Event as told

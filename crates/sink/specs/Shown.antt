@@ -222,22 +222,6 @@ module _ {A : Type 0} where
 
   -- ---- bytes as events, and as tokens
 
-  unfoldable pub namedPuts : List ℕ → List (Named A)
-  namedPuts [] = []
-  namedPuts (b ∷ bs) = Named.put b ∷ namedPuts bs
-
-  unfoldable pub namedLists : List ℕ → List (Named A)
-  namedLists [] = []
-  namedLists (b ∷ bs) = Named.listed b ∷ namedLists bs
-
-  unfoldable pub namedExcludes : List ℕ → List (Named A)
-  namedExcludes [] = []
-  namedExcludes (b ∷ bs) = Named.excluded b ∷ namedExcludes bs
-
-  unfoldable pub plains : List ℕ → List (Token A)
-  plains [] = []
-  plains (b ∷ bs) = plain b ∷ plains bs
-
   -- ---- runs that are proper: cells are cells, and each temporary that is made has a name of its own
 
   abbrev pub CellOk : Named A → Type 0

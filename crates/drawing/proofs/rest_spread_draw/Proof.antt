@@ -1,4 +1,3 @@
-use mathlib.Core.Path.{_∙_}
 use borrow.Author.Needs.{needs}
 use Rattle.drawing.proofs.Entry as law
 use Rattle.drawing.proofs.rest_spread_draw.Statement.{statement}

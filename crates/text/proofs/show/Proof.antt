@@ -3,25 +3,10 @@ use lib.Seq.{length-take-le}
 use borrow.Author.Needs.{needs}
 use Rattle.text.proofs.show.Statement.{statement}
 use Rattle.text.proofs.show.Tie as tie
-use Rattle.text.proofs.show.Reads as reads
-use Rattle.text.proofs.show.Lts as lts
-use Rattle.io.proofs.write_all.Reads as write-all-reads
 
 -- src/main.rt:8:38
 slice-aggregate-write-all : tie.Need-slice-aggregate-write-all
 slice-aggregate-write-all c = sym (length-take-le (c .before .before .before .args .len) (c .before .before .before .args .text .now) (c .before .if1 .taken))
 
--- src/main.rt:8:9
-write-all-requires : tie.Need-write-all-requires
-write-all-requires c κs = search needs
-
--- src/main.rt:6:1
-returns : tie.Need-returns
-returns c = search needs
-
--- src/main.rt:6:1
-returns-2 : tie.Need-returns-2
-returns-2 c = search needs
-
 pub show-spec : {M : Type 1} → statement M
-show-spec = tie.close (tie.spec slice-aggregate-write-all write-all-requires returns returns-2)
+show-spec = tie.close (tie.spec slice-aggregate-write-all (λ c κs. search needs) (λ c. search needs) (λ c. search needs))

@@ -4,35 +4,11 @@ use borrow.Author.Needs.{needs}
 use Rattle.drawing.proofs.draw.choose.Statement.{statement}
 use Rattle.drawing.proofs.draw.choose.Tie as tie
 
-count-requires : tie.Need-count-requires
-count-requires c κs = search needs
-
-kind-requires : tie.Need-kind-requires
-kind-requires c κs = search needs
-
 returns : tie.Need-returns
 returns c = law.choose-lone _ _ _ _ _ _ (c .before .before .count .ensures) (c .before .if1 .taken) (c .kind .ensures)
 
-ended-requires : tie.Need-ended-requires
-ended-requires c κs = search needs
-
-shortest-kind-requires : tie.Need-shortest-kind-requires
-shortest-kind-requires c κs = search needs
-
 returns-2 : tie.Need-returns-2
 returns-2 c = law.choose-shortest _ _ _ _ _ _ (c .before .before .before .before .count .ensures) (c .before .before .before .if1 .left) (sym (c .before .if2 .taken) ∙ c .before .before .ended .ensures) (c .shortest-kind .ensures)
-
-advanced-requires : tie.Need-advanced-requires
-advanced-requires c κs = search needs
-
-cast-kind : tie.Need-cast-kind
-cast-kind c = search needs
-
-rem-kind : tie.Need-rem-kind
-rem-kind c = search needs
-
-kind-requires-2 : tie.Need-kind-requires-2
-kind-requires-2 c κs = search needs
 
 returns-3 : tie.Need-returns-3
 returns-3 c = law.choose-drawn _ _ _ _ _ _ (c .before .before .before .before .before .count .ensures) _ (c .before .before .before .before .if1 .left) (sym (c .before .before .if2 .left) ∙ c .before .before .before .ended .ensures) (c .before .advanced .ensures) (c .kind2 .ensures)
@@ -41,14 +17,14 @@ pub choose-spec : {M : Type 1} → statement M
 choose-spec =
     tie.close
     (tie.spec
-    count-requires
-    kind-requires
+    (λ c κs. search needs)
+    (λ c κs. search needs)
     returns
-    ended-requires
-    shortest-kind-requires
+    (λ c κs. search needs)
+    (λ c κs. search needs)
     returns-2
-    advanced-requires
-    cast-kind
-    rem-kind
-    kind-requires-2
+    (λ c κs. search needs)
+    (λ c. search needs)
+    (λ c. search needs)
+    (λ c κs. search needs)
     returns-3)

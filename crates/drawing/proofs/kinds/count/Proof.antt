@@ -1,14 +1,8 @@
-use mathlib.Core.Path.{_≡_, _∙_}
+use mathlib.Core.Path.{_∙_}
 use Rattle.drawing.proofs.Tables.{counts, count-at, no-count}
 use borrow.Author.Needs.{needs}
 use Rattle.drawing.proofs.kinds.count.Statement.{statement}
 use Rattle.drawing.proofs.kinds.count.Tie as tie
-
-array-read-wide : tie.Need-array-read-wide
-array-read-wide c = search needs
-
-wide-requires : tie.Need-wide-requires
-wide-requires c κs = search needs
 
 returns : tie.Need-returns
 unfolding counts
@@ -18,4 +12,4 @@ returns-2 : tie.Need-returns-2
 returns-2 c = no-count _ (c .if1 .left)
 
 pub count-spec : {M : Type 1} → statement M
-count-spec = tie.close (tie.spec array-read-wide wide-requires returns returns-2)
+count-spec = tie.close (tie.spec (λ c. search needs) (λ c κs. search needs) returns returns-2)

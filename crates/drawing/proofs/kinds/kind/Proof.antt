@@ -1,9 +1,8 @@
-use Prim.Native.Nat.{ℕ, _+_, _<_}
-use mathlib.Core.Path.{_≡_, _∙_, ap}
+use Prim.Native.Nat.{ℕ, _+_}
+use mathlib.Core.Path.{_∙_, ap}
 use native.Mathlib.Omega.{arith}
-use lib.ListN.{length, getD}
+use lib.ListN.{getD}
 use borrow.Author.Needs.{needs}
-use Rattle.drawing.specs.Draw.{rising}
 use Rattle.drawing.proofs.Tables.{firsts, allKinds, has-place, kind-within, kind-at, no-kind-at}
 use Rattle.drawing.proofs.kinds.kind.Statement.{statement}
 use Rattle.drawing.proofs.kinds.kind.Tie as tie

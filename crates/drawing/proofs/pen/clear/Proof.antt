@@ -2,9 +2,6 @@ use borrow.Author.Needs.{needs}
 use Rattle.tree.specs.Note.{zeros}
 use Rattle.drawing.proofs.pen.clear.Statement.{statement}
 use Rattle.drawing.proofs.pen.clear.Tie as tie
-use Rattle.drawing.proofs.pen.clear.Reads as reads
-use Rattle.drawing.proofs.pen.clear.Lts as lts
-use Rattle.tree.proofs.bytes.clear.Reads as clear-reads
 
 pub clear-spec : {M : Type 1} → statement M
 unfolding zeros

@@ -1,24 +1,10 @@
-use mathlib.Core.Path.{_≡_, refl, sym, ap, _∙_}
-use native.Mathlib.Omega.{arith}
 use Rattle.drawing.proofs.Writing as law
 use borrow.Author.Needs.{needs}
 use Rattle.drawing.proofs.pen.put.Statement.{statement}
 use Rattle.drawing.proofs.pen.put.Tie as tie
 
-slice-write-out : tie.Need-slice-write-out
-slice-write-out c = search needs
-
-add-result : tie.Need-add-result
-add-result c = search needs
-
-same-length : tie.Need-same-length
-same-length c = search needs
-
 returns : tie.Need-returns
 returns c = law.put-in (c .before .args .out .now) (c .before .args .at) (c .before .args .b) (c .if1 .taken)
-
-add-result-2 : tie.Need-add-result-2
-add-result-2 c = search needs
 
 returns-2 : tie.Need-returns-2
 returns-2 c = law.put-end (c .before .before .args .out .now) (c .before .before .args .at) (c .before .before .args .b) (c .if2 .taken)
@@ -29,4 +15,4 @@ returns-3 c = law.put-over (c .before .before .args .out .now) (c .before .befor
 pub put-spec : {M : Type 1} → statement M
 put-spec =
     tie.close
-    (tie.spec slice-write-out add-result same-length returns add-result-2 returns-2 returns-3)
+    (tie.spec (λ c. search needs) (λ c. search needs) (λ c. search needs) returns (λ c. search needs) returns-2 returns-3)

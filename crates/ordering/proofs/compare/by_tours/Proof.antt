@@ -2,9 +2,6 @@ use native.Mathlib.Nat.{le-of-eq}
 use borrow.Author.Needs.{needs}
 use Rattle.ordering.proofs.compare.by_tours.Statement.{statement}
 use Rattle.ordering.proofs.compare.by_tours.Tie as tie
-use Rattle.ordering.proofs.compare.by_tours.Reads as reads
-use Rattle.ordering.proofs.compare.by_tours.Lts as lts
-use Rattle.ordering.proofs.compare.compare.Reads as compare-reads
 
 slice-aggregate-compare : tie.Need-slice-aggregate-compare
 slice-aggregate-compare c = search needs
@@ -18,9 +15,6 @@ slice-aggregate-compare-3 c = search needs
 slice-aggregate-compare-4 : tie.Need-slice-aggregate-compare-4
 slice-aggregate-compare-4 c = search needs
 
-compare-requires : tie.Need-compare-requires
-compare-requires c κs = search needs
-
 returns : tie.Need-returns
 returns c = c .before .before .before .before .compare .ensures (le-of-eq (slice-aggregate-compare (c .before .before .before .before .before .before .before .before))) (le-of-eq (slice-aggregate-compare-2 (c .before .before .before .before .before .before .before))) (le-of-eq (slice-aggregate-compare-3 (c .before .before .before .before .before .before))) (le-of-eq (slice-aggregate-compare-4 (c .before .before .before .before .before)))
 
@@ -32,5 +26,5 @@ by-tours-spec =
     slice-aggregate-compare-2
     slice-aggregate-compare-3
     slice-aggregate-compare-4
-    compare-requires
+    (λ c κs. search needs)
     returns)

@@ -2,9 +2,6 @@ use Rattle.ordering.proofs.Keys as law
 use borrow.Author.Needs.{needs}
 use Rattle.ordering.proofs.key.number_in.Statement.{statement}
 use Rattle.ordering.proofs.key.number_in.Tie as tie
-use Rattle.ordering.proofs.key.number_in.Reads as reads
-use Rattle.ordering.proofs.key.number_in.Lts as lts
-use Rattle.ordering.proofs.key.key_of.Reads as key-of-reads
 
 pub number-in-spec : {M : Type 1} → statement M
 number-in-spec =

@@ -2,9 +2,6 @@ use Rattle.ordering.proofs.Keys as law
 use borrow.Author.Needs.{needs}
 use Rattle.ordering.proofs.key.opens_temporary.Statement.{statement}
 use Rattle.ordering.proofs.key.opens_temporary.Tie as tie
-use Rattle.ordering.proofs.key.opens_temporary.Reads as reads
-use Rattle.ordering.proofs.key.opens_temporary.Lts as lts
-use Rattle.ordering.proofs.key.key_of.Reads as key-of-reads
 
 pub opens-temporary-spec : {M : Type 1} → statement M
 opens-temporary-spec =

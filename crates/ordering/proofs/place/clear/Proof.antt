@@ -6,8 +6,6 @@ use native.Mathlib.Omega.{arith}
 use borrow.Author.Needs.{needs}
 use Rattle.ordering.proofs.place.clear.Statement.{statement}
 use Rattle.ordering.proofs.place.clear.Tie as tie
-use Rattle.ordering.proofs.place.clear.Reads as reads
-use Rattle.ordering.proofs.place.clear.Lts as lts
 
 abbrev Inv-loop : tie.InvT-loop
 Inv-loop table₀ i₀ table i = (length table ≡ length table₀) × (i ≤ length table) × ((x : ℕ) → i ≤ x → getD table x 0 ≡ 0)
@@ -20,9 +18,6 @@ loop-holds c = (refl, omega arith, λ x h. List·getD-eq-default (c .args .table
 
 sub-i : tie.Need-sub-i Inv-loop μ-loop
 sub-i c = omega (arith, c .loop-test .taken)
-
-mul-table : tie.Need-mul-table Inv-loop μ-loop
-mul-table c = search needs
 
 slice-write-table : tie.Need-slice-write-table Inv-loop μ-loop
 slice-write-table c = omega (arith, c .loop-test .taken, c .before .loop .inv .1)
@@ -47,7 +42,7 @@ clear-spec =
     μ-loop
     loop-holds
     sub-i
-    mul-table
+    (λ c. search needs)
     slice-write-table
     loop-less
     loop-again

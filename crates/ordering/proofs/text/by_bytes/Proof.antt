@@ -4,8 +4,6 @@ use Prim.Native.Nat.{_-_}
 use native.Mathlib.Omega.{arith}
 use Rattle.ordering.proofs.text.by_bytes.Statement.{statement}
 use Rattle.ordering.proofs.text.by_bytes.Tie as tie
-use Rattle.ordering.proofs.text.by_bytes.Reads as reads
-use Rattle.ordering.proofs.text.by_bytes.Lts as lts
 
 abbrev Inv-loop : tie.InvT-loop
 Inv-loop first second i₀ i = law.Along first second i

@@ -6,42 +6,6 @@ use native.Mathlib.Omega.{arith}
 use borrow.Author.Needs.{needs}
 use Rattle.ordering.proofs.text.by_text.Statement.{statement}
 use Rattle.ordering.proofs.text.by_text.Tie as tie
-use Rattle.ordering.proofs.text.by_text.Reads as reads
-use Rattle.ordering.proofs.text.by_text.Lts as lts
-use Rattle.ordering.proofs.text.by_bytes.Reads as by-bytes-reads
-
-sub-if2 : tie.Need-sub-if2
-sub-if2 c = search needs
-
-sub-if4 : tie.Need-sub-if4
-sub-if4 c = search needs
-
-add-by-bytes : tie.Need-add-by-bytes
-add-by-bytes c = search needs
-
-sub-by-bytes : tie.Need-sub-by-bytes
-sub-by-bytes c = search needs
-
-part-by-bytes-start : tie.Need-part-by-bytes-start
-part-by-bytes-start c = search needs
-
-part-by-bytes-end : tie.Need-part-by-bytes-end
-part-by-bytes-end c = search needs
-
-add-by-bytes-2 : tie.Need-add-by-bytes-2
-add-by-bytes-2 c = search needs
-
-sub-by-bytes-2 : tie.Need-sub-by-bytes-2
-sub-by-bytes-2 c = search needs
-
-part-by-bytes-start-2 : tie.Need-part-by-bytes-start-2
-part-by-bytes-start-2 c = search needs
-
-part-by-bytes-end-2 : tie.Need-part-by-bytes-end-2
-part-by-bytes-end-2 c = search needs
-
-by-bytes-requires : tie.Need-by-bytes-requires
-by-bytes-requires c κs = search needs
 
 returns : tie.Need-returns
 returns c = λ _ _. let e : c .before .before .before .before .before .before .before .before .before .args .at + c .before .before .before .before .before .before .before .before .before .args .n - c .before .before .before .before .before .before .before .before .before .args .at ≡ c .before .before .before .before .before .before .before .before .before .args .n = omega arith in let f : c .before .before .before .before .before .before .before .before .before .args .start + c .before .before .before .before .before .before .before .before .before .args .m - c .before .before .before .before .before .before .before .before .before .args .start ≡ c .before .before .before .before .before .before .before .before .before .args .m = omega arith in c .by-bytes .ensures ∙ ap₂ (λ (x y : ℕ). byText (take x (drop (c .before .before .before .before .before .before .before .before .before .args .at) (c .before .before .before .before .before .before .before .before .before .args .first .now))) (take y (drop (c .before .before .before .before .before .before .before .before .before .args .start) (c .before .before .before .before .before .before .before .before .before .args .second .now)))) e f
@@ -62,17 +26,17 @@ pub by-text-spec : {M : Type 1} → statement M
 by-text-spec =
     tie.close
     (tie.spec
-    sub-if2
-    sub-if4
-    add-by-bytes
-    sub-by-bytes
-    part-by-bytes-start
-    part-by-bytes-end
-    add-by-bytes-2
-    sub-by-bytes-2
-    part-by-bytes-start-2
-    part-by-bytes-end-2
-    by-bytes-requires
+    (λ c. search needs)
+    (λ c. search needs)
+    (λ c. search needs)
+    (λ c. search needs)
+    (λ c. search needs)
+    (λ c. search needs)
+    (λ c. search needs)
+    (λ c. search needs)
+    (λ c. search needs)
+    (λ c. search needs)
+    (λ c κs. search needs)
     returns
     returns-2
     returns-3

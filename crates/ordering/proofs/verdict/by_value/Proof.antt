@@ -1,8 +1,6 @@
 use Rattle.ordering.proofs.Laws as law
 use Rattle.ordering.proofs.verdict.by_value.Statement.{statement}
 use Rattle.ordering.proofs.verdict.by_value.Tie as tie
-use Rattle.ordering.proofs.verdict.by_value.Reads as reads
-use Rattle.ordering.proofs.verdict.by_value.Lts as lts
 
 returns : tie.Need-returns
 returns c = law.value-less _ _ (c .if1 .taken)

@@ -1,20 +1,7 @@
 use Rattle.rewritten.proofs.Ahead as law
-use native.Mathlib.Omega.{arith}
 use borrow.Author.Needs.{needs}
 use Rattle.rewritten.proofs.look.byte.Statement.{statement}
 use Rattle.rewritten.proofs.look.byte.Tie as tie
-use Rattle.rewritten.proofs.look.byte.Reads as reads
-use Rattle.rewritten.proofs.look.byte.Lts as lts
-use Rattle.tree.proofs.bytes.peek.Reads as peek-reads
-
-peek-requires : tie.Need-peek-requires
-peek-requires c κs = search needs
-
-mul-result : tie.Need-mul-result
-mul-result c = search needs
-
-add-result : tie.Need-add-result
-add-result c = search needs
 
 returns : tie.Need-returns
 returns c = law.byte-found _ _ _ _ _ (c .before .before .before .peek .ensures) (c .before .before .if1 .taken) (c .before .if2 .taken) (c .if3 .taken)
@@ -30,4 +17,4 @@ returns-4 c = law.byte-missing _ _ _ _ _ (c .before .peek .ensures) (c .if1 .lef
 
 pub byte-spec : {M : Type 1} → statement M
 byte-spec =
-    tie.close (tie.spec peek-requires mul-result add-result returns returns-2 returns-3 returns-4)
+    tie.close (tie.spec (λ c κs. search needs) (λ c. search needs) (λ c. search needs) returns returns-2 returns-3 returns-4)

@@ -3,51 +3,6 @@ use Rattle.rewritten.proofs.Moves as moves
 use borrow.Author.Needs.{needs}
 use Rattle.rewritten.proofs.look.field.Statement.{statement}
 use Rattle.rewritten.proofs.look.field.Tie as tie
-use Rattle.rewritten.proofs.look.field.Reads as reads
-use Rattle.rewritten.proofs.look.field.Lts as lts
-use Rattle.rewritten.proofs.look.byte.Reads as byte-reads
-use Rattle.rewritten.proofs.look.list.Reads as list-reads
-use Rattle.rewritten.proofs.look.mark.Reads as mark-reads
-use Rattle.rewritten.proofs.look.node.Reads as node-reads
-use Rattle.rewritten.proofs.look.number.Reads as number-reads
-use Rattle.rewritten.proofs.look.text.Reads as text-reads
-use Rattle.rewritten.proofs.plan.choose.Reads as choose-reads
-
-node-requires : tie.Need-node-requires
-node-requires c κs = search needs
-
-add-choose : tie.Need-add-choose
-add-choose c = search needs
-
-choose-requires : tie.Need-choose-requires
-choose-requires c κs = search needs
-
-node-requires-2 : tie.Need-node-requires-2
-node-requires-2 c κs = search needs
-
-list-requires : tie.Need-list-requires
-list-requires c κs = search needs
-
-list-requires-2 : tie.Need-list-requires-2
-list-requires-2 c κs = search needs
-
-text-requires : tie.Need-text-requires
-text-requires c κs = search needs
-
-mark-requires : tie.Need-mark-requires
-mark-requires c κs = search needs
-
-byte-requires : tie.Need-byte-requires
-byte-requires c κs = search needs
-
-byte-requires-2 : tie.Need-byte-requires-2
-byte-requires-2 c κs = search needs
-
-byte-requires-3 : tie.Need-byte-requires-3
-byte-requires-3 c κs = search needs
-
-number-requires : tie.Need-number-requires
-number-requires c κs = search needs
 
 returns : tie.Need-returns
 returns c = λ some. law.ahead-as (λ fs deep. moves.field-child _ fs _ deep _ some (c .before .match .keys1)) (c .node .ensures _)
@@ -83,18 +38,18 @@ pub field-spec : {M : Type 1} → statement M
 field-spec =
     tie.close
     (tie.spec
-    node-requires
-    add-choose
-    choose-requires
-    node-requires-2
-    list-requires
-    list-requires-2
-    text-requires
-    mark-requires
-    byte-requires
-    byte-requires-2
-    byte-requires-3
-    number-requires
+    (λ c κs. search needs)
+    (λ c. search needs)
+    (λ c κs. search needs)
+    (λ c κs. search needs)
+    (λ c κs. search needs)
+    (λ c κs. search needs)
+    (λ c κs. search needs)
+    (λ c κs. search needs)
+    (λ c κs. search needs)
+    (λ c κs. search needs)
+    (λ c κs. search needs)
+    (λ c κs. search needs)
     returns
     returns-2
     returns-3

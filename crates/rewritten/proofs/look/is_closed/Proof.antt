@@ -2,8 +2,6 @@ use mathlib.Core.Path.{refl}
 use borrow.Author.Tests.{eq-eqb, ne-eqb}
 use Rattle.rewritten.proofs.look.is_closed.Statement.{statement}
 use Rattle.rewritten.proofs.look.is_closed.Tie as tie
-use Rattle.rewritten.proofs.look.is_closed.Reads as reads
-use Rattle.rewritten.proofs.look.is_closed.Lts as lts
 
 returns : tie.Need-returns
 returns c = rw (eq-eqb _ 0 (c .if1 .taken)) refl

@@ -4,22 +4,12 @@ use mathlib.Core.Logic.{⊎-elim}
 use borrow.Author.Needs.{needs}
 use Rattle.rewritten.proofs.look.item.Statement.{statement}
 use Rattle.rewritten.proofs.look.item.Tie as tie
-use Rattle.rewritten.proofs.look.item.Reads as reads
-use Rattle.rewritten.proofs.look.item.Lts as lts
-use Rattle.rewritten.proofs.look.node.Reads as node-reads
-use Rattle.tree.proofs.bytes.peek.Reads as peek-reads
-
-peek-requires : tie.Need-peek-requires
-peek-requires c κs = search needs
 
 returns : tie.Need-returns
 returns c = λ some. law.hole-ahead _ _ _ _ some (c .before .before .if1 .taken) (c .before .peek .ensures) (c .if2 .taken)
-
-node-requires : tie.Need-node-requires
-node-requires c κs = search needs
 
 returns-2 : tie.Need-returns-2
 returns-2 c = λ some. law.ahead-as (λ fs deep. ⊎-elim (λ w. moves.item-other _ fs _ deep _ some (w .0 .taken) _ (w .1 .ensures) (w .2 .left)) (λ w. moves.item-plain _ fs _ deep _ some (w .left)) (c .before .if1 .came)) (c .node .ensures _)
 
 pub item-spec : {M : Type 1} → statement M
-item-spec = tie.close (tie.spec peek-requires returns node-requires returns-2)
+item-spec = tie.close (tie.spec (λ c κs. search needs) returns (λ c κs. search needs) returns-2)

@@ -6,24 +6,9 @@ use mathlib.Core.Path.{sym, ap, _∙_}
 use borrow.Author.Needs.{needs}
 use Rattle.rewritten.proofs.look.list.Statement.{statement}
 use Rattle.rewritten.proofs.look.list.Tie as tie
-use Rattle.rewritten.proofs.look.list.Reads as reads
-use Rattle.rewritten.proofs.look.list.Lts as lts
-use Rattle.tree.proofs.bytes.wide_at.Reads as wide-at-reads
-
-wide-at-requires : tie.Need-wide-at-requires
-wide-at-requires c κs = search needs
 
 returns : tie.Need-returns
 returns c = law.list-missing _ _ (c .before .before .before .args .place) (c .before .before .before .args .holes) _ (c .before .wide-at .ensures) (c .if1 .taken)
-
-mul-result : tie.Need-mul-result
-mul-result c = search needs
-
-mul-result-2 : tie.Need-mul-result-2
-mul-result-2 c = search needs
-
-add-result : tie.Need-add-result
-add-result c = search needs
 
 add-result-2 : tie.Need-add-result-2
 add-result-2 c = ⊎-elim (λ w. omega arith) (λ w. omega arith) (c .before .if2 .came)
@@ -41,11 +26,11 @@ pub list-spec : {M : Type 1} → statement M
 list-spec =
     tie.close
     (tie.spec
-    wide-at-requires
+    (λ c κs. search needs)
     returns
-    mul-result
-    mul-result-2
-    add-result
+    (λ c. search needs)
+    (λ c. search needs)
+    (λ c. search needs)
     add-result-2
     mul-result-3
     add-result-3

@@ -6,37 +6,12 @@ use native.Mathlib.Omega.{arith}
 use borrow.Author.Needs.{needs}
 use Rattle.rewritten.proofs.look.node.Statement.{statement}
 use Rattle.rewritten.proofs.look.node.Tie as tie
-use Rattle.rewritten.proofs.look.node.Reads as reads
-use Rattle.rewritten.proofs.look.node.Lts as lts
-use Rattle.rewritten.proofs.plan.form_at.Reads as form-at-reads
-use Rattle.rewritten.proofs.plan.plan.Reads as plan-reads
-use Rattle.tree.proofs.bytes.peek.Reads as peek-reads
-use Rattle.tree.proofs.grammar.map_ok.Reads as map-ok-reads
-use Rattle.tree.proofs.grammar.row.Reads as row-reads
-
-peek-requires : tie.Need-peek-requires
-peek-requires c κs = search needs
-
-form-at-requires : tie.Need-form-at-requires
-form-at-requires c κs = search needs
 
 returns : tie.Need-returns
 returns c = law.node-wrong _ _ _ _ _ (c .before .before .peek .ensures) (c .before .form-at .ensures) (c .if1 .taken)
 
 add-peek : tie.Need-add-peek
 add-peek c = let h : c .before .before .before .before .args .at < length (c .before .before .before .before .args .tree .now) = moves.enter-there _ _ _ _ _ (c .before .before .peek .ensures) (c .before .form-at .ensures) (c .if1 .left) in omega arith
-
-peek-requires-2 : tie.Need-peek-requires-2
-peek-requires-2 c κs = search needs
-
-row-requires : tie.Need-row-requires
-row-requires c κs = search needs
-
-map-ok-requires : tie.Need-map-ok-requires
-map-ok-requires c κs = search needs
-
-plan-requires : tie.Need-plan-requires
-plan-requires c κs = search needs
 
 mul-result : tie.Need-mul-result
 mul-result c = let h : c .plan .result < 1024 ^ 6 = moves.plan-small (c .before .before .before .before .before .before .before .before .before .args .tree .now) (c .before .before .before .before .before .before .before .before .before .args .tree .now) _ _ 0 0 _ _ (c .before .before .before .before .before .before .before .peek .ensures) (c .before .before .before .before .before .before .form-at .ensures) (c .before .before .before .before .before .if1 .left) _ _ (c .before .before .before .before .peek2 .ensures) (c .before .before .before .row .ensures) _ (c .plan .ensures) in omega arith
@@ -54,14 +29,14 @@ pub node-spec : {M : Type 1} → statement M
 node-spec =
     tie.close
     (tie.spec
-    peek-requires
-    form-at-requires
+    (λ c κs. search needs)
+    (λ c κs. search needs)
     returns
     add-peek
-    peek-requires-2
-    row-requires
-    map-ok-requires
-    plan-requires
+    (λ c κs. search needs)
+    (λ c κs. search needs)
+    (λ c κs. search needs)
+    (λ c κs. search needs)
     mul-result
     add-result
     returns-2

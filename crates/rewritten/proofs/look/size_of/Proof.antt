@@ -4,11 +4,6 @@ use native.Mathlib.Omega.{arith}
 use borrow.Author.Needs.{needs}
 use Rattle.rewritten.proofs.look.size_of.Statement.{statement}
 use Rattle.rewritten.proofs.look.size_of.Tie as tie
-use Rattle.rewritten.proofs.look.size_of.Reads as reads
-use Rattle.rewritten.proofs.look.size_of.Lts as lts
-
-add-result : tie.Need-add-result
-add-result c = search needs
 
 returns : tie.Need-returns
 returns c = λ at. rw (c .match .keys1) refl
@@ -34,4 +29,4 @@ returns-7 c = λ at. law.size-one at _ _ (c .match .rest)
 pub size-of-spec : {M : Type 1} → statement M
 size-of-spec =
     tie.close
-    (tie.spec add-result returns returns-2 returns-3 returns-4 returns-5 returns-6 returns-7)
+    (tie.spec (λ c. search needs) returns returns-2 returns-3 returns-4 returns-5 returns-6 returns-7)

@@ -5,12 +5,6 @@ use Prim.Native.Nat.{_+_, _<_}
 use borrow.Author.Needs.{needs}
 use Rattle.rewritten.proofs.look.text.Statement.{statement}
 use Rattle.rewritten.proofs.look.text.Tie as tie
-use Rattle.rewritten.proofs.look.text.Reads as reads
-use Rattle.rewritten.proofs.look.text.Lts as lts
-use Rattle.tree.proofs.bytes.wide_at.Reads as wide-at-reads
-
-wide-at-requires : tie.Need-wide-at-requires
-wide-at-requires c κs = search needs
 
 returns : tie.Need-returns
 returns c = law.text-missing _ _ _ (c .before .wide-at .ensures) (c .if1 .taken)
@@ -21,12 +15,6 @@ add-if2 c = let h : c .before .before .before .args .at + 1 < length (c .before 
 sub-if2 : tie.Need-sub-if2
 sub-if2 c = let h : c .before .before .before .args .at + 1 < length (c .before .before .before .args .tree .now) = c .before .wide-at .ensures .within (omega arith) in omega arith
 
-mul-result : tie.Need-mul-result
-mul-result c = search needs
-
-add-result : tie.Need-add-result
-add-result c = search needs
-
 returns-2 : tie.Need-returns-2
 returns-2 c = law.text-found _ _ _ (c .before .before .wide-at .ensures) (c .before .if1 .left) (c .if2 .taken)
 
@@ -36,4 +24,4 @@ returns-3 c = law.text-short _ _ _ (c .before .before .wide-at .ensures) (c .bef
 pub text-spec : {M : Type 1} → statement M
 text-spec =
     tie.close
-    (tie.spec wide-at-requires returns add-if2 sub-if2 mul-result add-result returns-2 returns-3)
+    (tie.spec (λ c κs. search needs) returns add-if2 sub-if2 (λ c. search needs) (λ c. search needs) returns-2 returns-3)

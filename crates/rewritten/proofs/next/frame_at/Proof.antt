@@ -3,20 +3,9 @@ use mathlib.Core.Path.{sym}
 use borrow.Author.Needs.{needs}
 use Rattle.rewritten.proofs.next.frame_at.Statement.{statement}
 use Rattle.rewritten.proofs.next.frame_at.Tie as tie
-use Rattle.rewritten.proofs.next.frame_at.Reads as reads
-use Rattle.rewritten.proofs.next.frame_at.Lts as lts
-
-mul-result : tie.Need-mul-result
-mul-result c = search needs
-
-shared-slice-read-result : tie.Need-shared-slice-read-result
-shared-slice-read-result c = search needs
-
-returns : tie.Need-returns
-returns c = search needs
 
 returns-2 : tie.Need-returns-2
 returns-2 c = sym (List·getD-eq-default (c .before .args .frames .now) 0 (c .if1 .left))
 
 pub frame-at-spec : {M : Type 1} → statement M
-frame-at-spec = tie.close (tie.spec mul-result shared-slice-read-result returns returns-2)
+frame-at-spec = tie.close (tie.spec (λ c. search needs) (λ c. search needs) (λ c. search needs) returns-2)

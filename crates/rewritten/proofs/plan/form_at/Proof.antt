@@ -2,15 +2,6 @@ use Rattle.rewritten.proofs.Forms as law
 use borrow.Author.Needs.{needs}
 use Rattle.rewritten.proofs.plan.form_at.Statement.{statement}
 use Rattle.rewritten.proofs.plan.form_at.Tie as tie
-use Rattle.rewritten.proofs.plan.form_at.Reads as reads
-use Rattle.rewritten.proofs.plan.form_at.Lts as lts
-use Rattle.tree.proofs.grammar.form_at.Reads as form-at-reads
-
-form-at-requires : tie.Need-form-at-requires
-form-at-requires c κs = search needs
-
-form-at-requires-2 : tie.Need-form-at-requires-2
-form-at-requires-2 c κs = search needs
 
 returns : tie.Need-returns
 returns c = law.form-temporary-none _ _ (c .before .before .before .before .if1 .taken) _ _ (c .before .before .before .form-at .ensures) (c .before .before .if2 .taken) (c .before .form-at2 .ensures) (c .if3 .taken)
@@ -21,17 +12,11 @@ returns-2 c = law.form-temporary-binding _ _ (c .before .before .before .before 
 returns-3 : tie.Need-returns-3
 returns-3 c = law.form-temporary _ _ (c .before .before .if1 .taken) _ (c .before .form-at .ensures) (c .if2 .left)
 
-form-at-requires-3 : tie.Need-form-at-requires-3
-form-at-requires-3 c κs = search needs
-
 returns-4 : tie.Need-returns-4
 returns-4 c = law.form-helper-none _ _ (c .before .before .before .if1 .left) (c .before .before .if4 .taken) _ (c .before .form-at3 .ensures) (c .if5 .taken)
 
 returns-5 : tie.Need-returns-5
 returns-5 c = law.form-helper _ _ (c .before .before .before .if1 .left) (c .before .before .if4 .taken) _ (c .before .form-at3 .ensures) (c .if5 .left)
-
-form-at-requires-4 : tie.Need-form-at-requires-4
-form-at-requires-4 c κs = search needs
 
 returns-6 : tie.Need-returns-6
 returns-6 c = law.form-other _ _ (c .before .before .if1 .left) (c .before .if4 .left) _ (c .form-at4 .ensures)
@@ -40,13 +25,13 @@ pub form-at-spec : {M : Type 1} → statement M
 form-at-spec =
     tie.close
     (tie.spec
-    form-at-requires
-    form-at-requires-2
+    (λ c κs. search needs)
+    (λ c κs. search needs)
     returns
     returns-2
     returns-3
-    form-at-requires-3
+    (λ c κs. search needs)
     returns-4
     returns-5
-    form-at-requires-4
+    (λ c κs. search needs)
     returns-6)

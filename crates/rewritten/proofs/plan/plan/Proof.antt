@@ -3,8 +3,6 @@ use Rattle.rewritten.proofs.Frames as law
 use native.Mathlib.Omega.{arith}
 use Rattle.rewritten.proofs.plan.plan.Statement.{statement}
 use Rattle.rewritten.proofs.plan.plan.Tie as tie
-use Rattle.rewritten.proofs.plan.plan.Reads as reads
-use Rattle.rewritten.proofs.plan.plan.Lts as lts
 
 abbrev Inv-loop : tie.InvT-loop
 Inv-loop row map left₀ bits₀ made₀ scale₀ left bits made scale = law.Planning row map left bits made scale

@@ -2,22 +2,11 @@ use Rattle.rewritten.proofs.Moves as moves
 use Rattle.rewritten.proofs.Reader as law
 use Rattle.rewritten.specs.Rewritten.{isRewritten}
 use lib.ListN.{length}
-use Prim.Native.Nat.{_+_, _-_, _≤_}
+use Prim.Native.Nat.{_+_, _-_}
 use mathlib.Core.Path.{_≡_, refl, _∙_}
 use native.Mathlib.Omega.{arith}
 use Rattle.rewritten.proofs.read.read.Statement.{statement}
 use Rattle.rewritten.proofs.read.read.Tie as tie
-use Rattle.rewritten.proofs.read.read.Reads as reads
-use Rattle.rewritten.proofs.read.read.Lts as lts
-use Rattle.rewritten.proofs.look.is_closed.Reads as is-closed-reads
-use Rattle.rewritten.proofs.look.look.Reads as look-reads
-use Rattle.rewritten.proofs.look.rest_of.Reads as rest-of-reads
-use Rattle.rewritten.proofs.next.begin.Reads as begin-reads
-use Rattle.rewritten.proofs.next.frame_at.Reads as frame-at-reads
-use Rattle.rewritten.proofs.next.moved.Reads as moved-reads
-use Rattle.rewritten.proofs.seen.clear.Reads as clear-reads
-use Rattle.rewritten.proofs.seen.is_new_ahead.Reads as is-new-ahead-reads
-use Rattle.rewritten.proofs.seen.note_ahead.Reads as note-ahead-reads
 
 abbrev Inv-loop : tie.InvT-loop
 Inv-loop tree frames₀ seen₀ cursor₀ frames seen cursor = law.Reading tree frames seen cursor (length frames₀) (isRewritten tree) × (length seen ≡ length seen₀)
@@ -34,17 +23,8 @@ returns-2 c = λ a b. absurd (omega (arith, a, c .if2 .taken))
 returns-3 : tie.Need-returns-3 Inv-loop μ-loop
 returns-3 c = λ a b. absurd (omega (arith, b, c .if3 .taken))
 
-clear-requires : tie.Need-clear-requires Inv-loop μ-loop
-clear-requires c κs = tt
-
-begin-requires : tie.Need-begin-requires Inv-loop μ-loop
-begin-requires c κs = tt
-
 loop-holds : tie.Need-loop-holds Inv-loop μ-loop
 loop-holds c = (law.reading-start (c .before .before .before .before .before .before .before .before .before .before .before .args .tree .now) (c .before .before .before .before .before .before .before .before .before .before .before .args .frames .now) _ (c .before .before .before .before .before .before .before .if1 .left) (omega (arith, c .before .before .before .clear .ensures .0, c .before .before .before .before .before .if3 .left)) (c .before .before .before .clear .ensures .1) _ (c .begin .ensures), refl)
-
-is-closed-requires : tie.Need-is-closed-requires Inv-loop μ-loop
-is-closed-requires c κs = tt
 
 same-length : tie.Need-same-length Inv-loop μ-loop
 same-length c = c .before .before .before .loop .inv .0 .tour .size
@@ -61,17 +41,11 @@ sub-t17 c = omega (arith, c .if5 .left)
 sub-frame-at : tie.Need-sub-frame-at Inv-loop μ-loop
 sub-frame-at c = omega (arith, c .before .if5 .left)
 
-frame-at-requires : tie.Need-frame-at-requires Inv-loop μ-loop
-frame-at-requires c κs = tt
-
 loop-less : tie.Need-loop-less Inv-loop μ-loop
 loop-less c = omega (arith, c .before .before .if5 .left)
 
 loop-again : tie.Need-loop-again Inv-loop μ-loop
 loop-again c = (law.closed-next _ _ _ _ _ _ (c .before .before .before .before .before .loop .inv .0) (moves.found-true (c .before .before .before .before .is-closed .ensures) (c .before .before .before .if4 .taken)) (c .before .before .if5 .left) _ (c .frame-at .ensures), c .before .before .before .before .before .loop .inv .1)
-
-look-requires : tie.Need-look-requires Inv-loop μ-loop
-look-requires c κs = tt
 
 same-length-3 : tie.Need-same-length-3 Inv-loop μ-loop
 same-length-3 c = c .before .before .before .before .loop .inv .0 .tour .size
@@ -81,18 +55,6 @@ same-length-4 c = c .before .before .before .before .loop .inv .1 ∙ c .before 
 
 returns-5 : tie.Need-returns-5 Inv-loop μ-loop
 returns-5 c = λ _ _. law.ahead-refused _ _ _ _ _ _ (c .before .before .before .before .loop .inv .0) (moves.found-true (c .before .before .before .is-closed .ensures) (c .before .before .if4 .left)) _ (c .before .look .ensures) (c .if6 .taken)
-
-is-new-ahead-requires : tie.Need-is-new-ahead-requires Inv-loop μ-loop
-is-new-ahead-requires c κs = tt
-
-note-ahead-requires : tie.Need-note-ahead-requires Inv-loop μ-loop
-note-ahead-requires c κs = tt
-
-rest-of-requires : tie.Need-rest-of-requires Inv-loop μ-loop
-rest-of-requires c κs = tt
-
-moved-requires : tie.Need-moved-requires Inv-loop μ-loop
-moved-requires c κs = tt
 
 loop-less-2 : tie.Need-loop-less-2 Inv-loop μ-loop
 loop-less-2 c = law.ahead-falls _ _ _ _ _ _ (c .before .before .before .before .before .before .before .before .before .before .before .before .before .before .before .before .loop .inv .0) (moves.found-true (c .before .before .before .before .before .before .before .before .before .before .before .before .before .before .before .is-closed .ensures) (c .before .before .before .before .before .before .before .before .before .before .before .before .before .before .if4 .left)) _ (c .before .before .before .before .before .before .before .before .before .before .before .before .before .look .ensures) (c .before .before .before .before .before .before .before .before .before .before .before .before .if6 .left) (c .before .before .before .before .before .before .before .before .before .before .before .before .before .before .before .before .before .before .before .before .before .before .before .before .if1 .left) (c .before .before .before .before .before .before .before .before .before .before .before .before .before .before .before .before .before .before .before .before .before .before .before .if2 .left) _ (c .before .before .before .before .before .before .before .before .before .before .is-new-ahead .ensures) _ (c .before .before .before .rest-of .ensures) _ (c .before .before .moved .ensures .1) _ (c .before .before .moved .ensures .2)
@@ -118,26 +80,26 @@ read-spec =
     returns
     returns-2
     returns-3
-    clear-requires
-    begin-requires
+    (λ c κs. tt)
+    (λ c κs. tt)
     loop-holds
-    is-closed-requires
+    (λ c κs. tt)
     same-length
     same-length-2
     returns-4
     sub-t17
     sub-frame-at
-    frame-at-requires
+    (λ c κs. tt)
     loop-less
     loop-again
-    look-requires
+    (λ c κs. tt)
     same-length-3
     same-length-4
     returns-5
-    is-new-ahead-requires
-    note-ahead-requires
-    rest-of-requires
-    moved-requires
+    (λ c κs. tt)
+    (λ c κs. tt)
+    (λ c κs. tt)
+    (λ c κs. tt)
     loop-less-2
     loop-again-2
     same-length-5

@@ -5,8 +5,6 @@ use mathlib.Core.Path.{_≡_, refl, _∙_}
 use native.Mathlib.Omega.{arith}
 use Rattle.rewritten.proofs.seen.clear.Statement.{statement}
 use Rattle.rewritten.proofs.seen.clear.Tie as tie
-use Rattle.rewritten.proofs.seen.clear.Reads as reads
-use Rattle.rewritten.proofs.seen.clear.Lts as lts
 
 abbrev Inv-loop : tie.InvT-loop
 Inv-loop seen₀ i₀ seen i = (length seen ≡ length seen₀) × (i ≤ length seen) × ((x : ℕ) → i ≤ x → getD seen x 0 ≡ 0)

@@ -1,46 +1,12 @@
-use Rattle.rewritten.proofs.Marks.{set-past}
 use Rattle.rewritten.specs.declared.step.Event as told
 use Rattle.rewritten.specs.Marks.{newIn}
 use Rattle.rewritten.specs.Steps.{eventIn}
 use borrow.Author.Tests.{eq-eqb}
-use lib.ListN.{getD, set, List·getD-eq-default}
-use lib.Dec.{eqb}
-use mathlib.Core.Path.{_≡_, ap, sym, _∙_}
+use lib.ListN.{getD, List·getD-eq-default}
+use mathlib.Core.Path.{ap, sym, _∙_}
 use borrow.Author.Needs.{needs}
 use Rattle.rewritten.proofs.seen.is_new.Statement.{statement}
 use Rattle.rewritten.proofs.seen.is_new.Tie as tie
-use Rattle.rewritten.proofs.seen.is_new.Reads as reads
-use Rattle.rewritten.proofs.seen.is_new.Lts as lts
-
-enum-told : tie.Need-enum-told
-enum-told c = search needs
-
-enum-told-2 : tie.Need-enum-told-2
-enum-told-2 c = search needs
-
-enum-told-3 : tie.Need-enum-told-3
-enum-told-3 c = search needs
-
-enum-told-4 : tie.Need-enum-told-4
-enum-told-4 c = search needs
-
-enum-told-5 : tie.Need-enum-told-5
-enum-told-5 c = search needs
-
-enum-told-6 : tie.Need-enum-told-6
-enum-told-6 c = search needs
-
-enum-told-7 : tie.Need-enum-told-7
-enum-told-7 c = search needs
-
-enum-known-e : tie.Need-enum-known-e
-enum-known-e c = search needs
-
-shared-slice-read-result : tie.Need-shared-slice-read-result
-shared-slice-read-result c = search needs
-
-enum-told-8 : tie.Need-enum-told-8
-enum-told-8 c = search needs
 
 returns : tie.Need-returns
 unfolding newIn
@@ -86,16 +52,16 @@ pub is-new-spec : {M : Type 1} → statement M
 is-new-spec =
     tie.close
     (tie.spec
-    enum-told
-    enum-told-2
-    enum-told-3
-    enum-told-4
-    enum-told-5
-    enum-told-6
-    enum-told-7
-    enum-known-e
-    shared-slice-read-result
-    enum-told-8
+    (λ c. search needs)
+    (λ c. search needs)
+    (λ c. search needs)
+    (λ c. search needs)
+    (λ c. search needs)
+    (λ c. search needs)
+    (λ c. search needs)
+    (λ c. search needs)
+    (λ c. search needs)
+    (λ c. search needs)
     returns
     returns-2
     returns-3

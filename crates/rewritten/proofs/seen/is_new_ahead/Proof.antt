@@ -4,11 +4,6 @@ use borrow.Author.Tests.{eq-eqb, ne-eqb}
 use borrow.Author.Needs.{needs}
 use Rattle.rewritten.proofs.seen.is_new_ahead.Statement.{statement}
 use Rattle.rewritten.proofs.seen.is_new_ahead.Tie as tie
-use Rattle.rewritten.proofs.seen.is_new_ahead.Reads as reads
-use Rattle.rewritten.proofs.seen.is_new_ahead.Lts as lts
-
-shared-slice-read-result : tie.Need-shared-slice-read-result
-shared-slice-read-result c = search needs
 
 returns : tie.Need-returns
 returns c = rw (eq-eqb _ 4 (c .before .before .if1 .taken)) refl
@@ -20,4 +15,4 @@ returns-3 : tie.Need-returns-3
 returns-3 c = rw (ne-eqb _ 4 (c .if1 .left)) refl
 
 pub is-new-ahead-spec : {M : Type 1} → statement M
-is-new-ahead-spec = tie.close (tie.spec shared-slice-read-result returns returns-2 returns-3)
+is-new-ahead-spec = tie.close (tie.spec (λ c. search needs) returns returns-2 returns-3)

@@ -2,45 +2,10 @@ use Rattle.rewritten.proofs.Marks.{set-past}
 use Rattle.rewritten.specs.declared.step.Event as told
 use Rattle.rewritten.specs.Marks.{noted}
 use Rattle.rewritten.specs.Steps.{eventIn}
-use borrow.Author.Tests.{eq-eqb}
-use lib.ListN.{getD, set, List·getD-eq-default}
-use lib.Dec.{eqb}
-use mathlib.Core.Path.{_≡_, ap, sym, _∙_}
+use mathlib.Core.Path.{ap, sym, _∙_}
 use borrow.Author.Needs.{needs}
 use Rattle.rewritten.proofs.seen.note.Statement.{statement}
 use Rattle.rewritten.proofs.seen.note.Tie as tie
-use Rattle.rewritten.proofs.seen.note.Reads as reads
-use Rattle.rewritten.proofs.seen.note.Lts as lts
-
-enum-told : tie.Need-enum-told
-enum-told c = search needs
-
-enum-told-2 : tie.Need-enum-told-2
-enum-told-2 c = search needs
-
-enum-told-3 : tie.Need-enum-told-3
-enum-told-3 c = search needs
-
-enum-told-4 : tie.Need-enum-told-4
-enum-told-4 c = search needs
-
-enum-told-5 : tie.Need-enum-told-5
-enum-told-5 c = search needs
-
-enum-told-6 : tie.Need-enum-told-6
-enum-told-6 c = search needs
-
-enum-told-7 : tie.Need-enum-told-7
-enum-told-7 c = search needs
-
-enum-known-e : tie.Need-enum-known-e
-enum-known-e c = search needs
-
-slice-write-seen : tie.Need-slice-write-seen
-slice-write-seen c = search needs
-
-enum-told-8 : tie.Need-enum-told-8
-enum-told-8 c = search needs
 
 returns : tie.Need-returns
 unfolding noted
@@ -70,9 +35,6 @@ returns-7 : tie.Need-returns-7
 unfolding noted
 returns-7 c = λ tree. sym (ap (λ (x : told.Event). noted (c .before .before .args .seen .now) (eventIn tree x)) (c .enum-told7 .given .1))
 
-same-length : tie.Need-same-length
-same-length c = search needs
-
 returns-8 : tie.Need-returns-8
 unfolding noted
 returns-8 c = λ tree. sym (ap (λ (x : told.Event). noted (c .before .before .before .before .args .seen .now) (eventIn tree x)) (c .before .before .e .given .1))
@@ -89,16 +51,16 @@ pub note-spec : {M : Type 1} → statement M
 note-spec =
     tie.close
     (tie.spec
-    enum-told
-    enum-told-2
-    enum-told-3
-    enum-told-4
-    enum-told-5
-    enum-told-6
-    enum-told-7
-    enum-known-e
-    slice-write-seen
-    enum-told-8
+    (λ c. search needs)
+    (λ c. search needs)
+    (λ c. search needs)
+    (λ c. search needs)
+    (λ c. search needs)
+    (λ c. search needs)
+    (λ c. search needs)
+    (λ c. search needs)
+    (λ c. search needs)
+    (λ c. search needs)
     returns
     returns-2
     returns-3
@@ -106,7 +68,7 @@ note-spec =
     returns-5
     returns-6
     returns-7
-    same-length
+    (λ c. search needs)
     returns-8
     returns-9
     returns-10)

@@ -4,14 +4,6 @@ use borrow.Author.Tests.{eq-eqb, ne-eqb}
 use borrow.Author.Needs.{needs}
 use Rattle.rewritten.proofs.seen.note_ahead.Statement.{statement}
 use Rattle.rewritten.proofs.seen.note_ahead.Tie as tie
-use Rattle.rewritten.proofs.seen.note_ahead.Reads as reads
-use Rattle.rewritten.proofs.seen.note_ahead.Lts as lts
-
-slice-write-seen : tie.Need-slice-write-seen
-slice-write-seen c = search needs
-
-same-length : tie.Need-same-length
-same-length c = search needs
 
 returns : tie.Need-returns
 returns c = rw (eq-eqb _ 4 (c .before .if1 .taken)) refl
@@ -23,4 +15,4 @@ returns-3 : tie.Need-returns-3
 returns-3 c = rw (ne-eqb _ 4 (c .if1 .left)) refl
 
 pub note-ahead-spec : {M : Type 1} → statement M
-note-ahead-spec = tie.close (tie.spec slice-write-seen same-length returns returns-2 returns-3)
+note-ahead-spec = tie.close (tie.spec (λ c. search needs) (λ c. search needs) returns returns-2 returns-3)

@@ -1,8 +1,8 @@
-use mathlib.Core.Path.{_≡_, refl, _∙_}
+use mathlib.Core.Path.{_≡_, refl}
 use mathlib.Core.List.{List}
 use Prim.Native.Nat.{ℕ, _+_, _-_, _≤_}
 use native.Mathlib.Omega.{arith}
-use lib.ListN.{length, length-set}
+use lib.ListN.{length}
 use Rattle.sink.specs.declared.Sink.{Sink}
 use Rattle.sink.specs.Machine.{treeLimit, withTree, stateOf, steps, puts, part}
 use Rattle.sink.proofs.WaysOut as law

@@ -22,14 +22,8 @@ shared-slice-read-if2 c = omega arith
 shared-slice-read-if2-2 : tie.Need-shared-slice-read-if2-2 Inv-loop μ-loop
 shared-slice-read-if2-2 c = omega arith
 
-returns : tie.Need-returns Inv-loop μ-loop
-returns c = search needs
-
 shared-slice-read-if3 : tie.Need-shared-slice-read-if3 Inv-loop μ-loop
 shared-slice-read-if3 c = omega arith
-
-returns-2 : tie.Need-returns-2 Inv-loop μ-loop
-returns-2 c = search needs
 
 add-i : tie.Need-add-i Inv-loop μ-loop
 add-i c = omega arith
@@ -40,9 +34,6 @@ loop-less c = omega arith
 loop-again : tie.Need-loop-again Inv-loop μ-loop
 loop-again c = omega arith
 
-returns-3 : tie.Need-returns-3 Inv-loop μ-loop
-returns-3 c = search needs
-
 pub same-spec : {M : Type 1} → statement M
 same-spec =
     tie.close
@@ -52,10 +43,10 @@ same-spec =
     loop-holds
     shared-slice-read-if2
     shared-slice-read-if2-2
-    returns
+    (λ c. search needs)
     shared-slice-read-if3
-    returns-2
+    (λ c. search needs)
     add-i
     loop-less
     loop-again
-    returns-3)
+    (λ c. search needs))

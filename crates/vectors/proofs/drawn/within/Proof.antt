@@ -5,22 +5,10 @@ use borrow.Author.Needs.{needs}
 use Rattle.vectors.proofs.drawn.within.Statement.{statement}
 use Rattle.vectors.proofs.drawn.within.Tie as tie
 
-returns : tie.Need-returns
-returns c = search needs
-
-array-borrow-prefix-space : tie.Need-array-borrow-prefix-space
-array-borrow-prefix-space c = search needs
-
 slice-aggregate-drawn : tie.Need-slice-aggregate-drawn
 slice-aggregate-drawn c = search (needs, length-take-le)
-
-drawn-requires : tie.Need-drawn-requires
-drawn-requires c κs = search needs
-
-returns-2 : tie.Need-returns-2
-returns-2 c = search needs
 
 pub within-spec : {M : Type 1} → statement M
 within-spec =
     tie.close
-    (tie.spec returns array-borrow-prefix-space slice-aggregate-drawn drawn-requires returns-2)
+    (tie.spec (λ c. search needs) (λ c. search needs) slice-aggregate-drawn (λ c κs. search needs) (λ c. search needs))
