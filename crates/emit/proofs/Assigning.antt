@@ -43,7 +43,7 @@ use Rattle.direct.proofs.AssignmentsByPart.{assignment-refused-5, assignment-re
 use Rattle.walk.specs.Modes as modes
 use Rattle.walk.specs.Run.{Going, Does, Clear}
 use Rattle.walk.specs.Whole.{Good}
-use Rattle.walk.specs.Turns.{viewOf, reachOf, turnOf, turnsOf, deepMode, suits, AllSuit, sourceOf, givenDeeds, givenNode, unlessRefused}
+use Rattle.walk.specs.Turns.{viewOf, reachOf, turnOf, turnsOf, deepMode, suits, AllSuit, sourceOf, cellAt, givenDeeds, givenNode, unlessRefused}
 use Rattle.walk.proofs.PlacesFit.{places-small}
 use Rattle.walk.proofs.Running.{does-then, does-as, does-to, clear-after, clear-still}
 use Rattle.walk.proofs.KeysOnceFull as walked
@@ -51,6 +51,7 @@ use Rattle.walk.proofs.KeysOnceFull.{source-quiet, target-again}
 use Rattle.walk.proofs.SpreadArguments.{does-from}
 use Rattle.emit.proofs.MovedPatterns.{cell-one, as-refused}
 use Rattle.walk.proofs.Turning.{turn-anywhere, turns-value-in-arrays, turns-value-straight, suit-value-in-arrays, suit-value-straight}
+use Rattle.walk.proofs.Lookups.{cell-within}
 use Rattle.walk.proofs.Opened.{ObjectOpen, AssignmentOpen, object-open, assignment-open, no-good, is-here, position-here, good-short, good-within}
 
 -- ---- the same at another place, level and position
@@ -61,7 +62,7 @@ carry E {c = c} {c′ = c′} {d = d} {d′ = d′} {p = p} {p′ = p′} u v w 
 
 -- the cell of a temporary as the code finds it
 abbrev CellIs : ℕ → ℕ → ℕ → Type 0
-CellIs z stem at = at < 16384 → 0 < stem → stem < 5 → z ≡ cell stem at
+CellIs z stem at = z ≡ cellAt stem at
 
 cell-says : {g g′ : Going} (z stem at : ℕ) → z ≡ cell stem at → Does g g′ (say (does (temporary z stem) ∷ [])) → Does g g′ (saysCell stem at)
 unfolding saysCell
@@ -84,7 +85,7 @@ sequence-says k m e h a b =
 
 -- the read of the value at the end of a sequence
 pub value-read : {g g′ : Going} (z p : ℕ) → CellIs z 3 p → Does g g′ (say (does (temporary z 3) ∷ [])) → p < 16384 → Does g g′ (saysCell 3 p)
-value-read z p ce d wi = cell-says z 3 p (ce wi (omega arith) (omega arith)) d
+value-read z p ce d wi = cell-says z 3 p (cell-within _ _ _ ce wi) d
 
 pub read-none : (b : Bool) (p : ℕ) → b ≡ true → say [] ≡ cond b (say []) (saysCell 3 p)
 read-none b p e = rw e refl
@@ -312,7 +313,7 @@ module _ (t : List ℕ) where
       → byteAt t p ≡ 34 → Good t d p → hasArrayRestOverObjectRest (lookNode t d p .value) ≡ false → Does g g′ (emitsTarget c (lookNode t d p .value))
   tgt-nested c c₁ d d₁ p z k e h i ce n by good ar =
       let y = lookNode t d p .value in
-      does-as (nest-as (inner c) c₁ d d₁ p z (i .0) (i .1) (ce (object-within d p good) (omega arith) (omega arith)) n by good ar)
+      does-as (nest-as (inner c) c₁ d d₁ p z (i .0) (i .1) (cell-within _ _ _ ce (object-within d p good)) n by good ar)
       (ap (λ (x : ℕ). emitsNest (inner c) taking 1 y (saysCell 3 x)) (sym (position-here t d p)) ∙ sym (target-nested c y (some-replaced y k (e by) h)))
 
   pub tgt-kept : {g₀ g₁ h₁ g₂ g₃ : Going} (c c₁ : Place) (d d₁ p q r z k : ℕ) → (byteAt t p ≡ 34 → k ≡ limited (count (reachedIn (reachOf modes.reachInArrays) (lookNode t d p .value)))) → k ≤ 0 → (c₁ ≡ inner c) × (d₁ ≡ d)
@@ -326,7 +327,7 @@ module _ (t : List ℕ) where
       does-as
       (does-then (ass (omega arith))
       (does-then (view-does taking (inner c) c₁ d d₁ p q r m (i .0) (i .1) w view good)
-      (cell-says z 3 p (ce (object-within d p good) (omega arith) (omega arith)) last)))
+      (cell-says z 3 p (cell-within _ _ _ ce (object-within d p good)) last)))
       (ap (λ (x : ℕ). assignHead 1 ▷ emitsView (inner c) taking y ▷ saysCell 3 x) (sym (position-here t d p)) ∙ sym (target-kept c y (none-replaced y k (e by) h)))
 
   -- ---- the target is an object with rest
@@ -384,7 +385,7 @@ module _ (t : List ℕ) where
       let there : Clear i₁ (emitsRest c₁ p (properties (lookNode t d₁ p .value)) (sourceOf t f)) =
       subst (λ (m : Place). Clear i₁ (emitsRest m p (properties (lookNode t d₁ p .value)) (sourceOf t f))) (sym (in₁ .0))
       (subst (λ (y : ℕ). Clear i₁ (emitsRest (inner c) p (properties (lookNode t y p .value)) (sourceOf t f))) (sym (in₁ .1)) again) in
-      let Y = rest-does (inner c) c₁ d d₁ p z 3 p f (in₁ .0) (in₁ .1) (ce (o .within) (omega arith) (omega arith)) so (λ g e. res g e there) good k in
+      let Y = rest-does (inner c) c₁ d d₁ p z 3 p f (in₁ .0) (in₁ .1) (cell-within _ _ _ ce (o .within)) so (λ g e. res g e there) good k in
       does-as (does-then (ass (omega arith)) (does-then N Y))
       (ap (λ (n : Node). assignHead 1 ▷ emits (inner c) y ▷ emitsRest (inner c) p (properties n) (saysCell 3 p)) (o .whole)
       ∙ sym (rest-done c p ps y (o .leafy)) ∙ ap (emitsRestOf c) (sym (o .whole)))
@@ -421,7 +422,7 @@ module _ (t : List ℕ) where
       (does-then (hands good by)
       (does-then (sequence-says k (topCount c n) (co .0) (co .1) two wide)
       (does-then (ass (omega arith))
-      (does-then (cell-says z 3 p (ce wi (omega arith) (omega arith)) temp)
+      (does-then (cell-says z 3 p (cell-within _ _ _ ce wi) temp)
       (does-then (given-does (inner c) c₁ d d₁ x stem input (in₁ .0) (in₁ .1) giv gx)
       (does-then T
       (does-then (does-as (P .1) (turns-value-straight c (properties n) ∙ sym (over-parts (emitsInner c) n)))
@@ -639,5 +640,5 @@ module _ (t : List ℕ) where
       (λ m b. rw b (sym (as-refused (suc m) (omega arith)) ∙ sym (inner-refused c p ps y (suc m) (omega arith) ar′ b)))
       (λ b. rw b (sym (inner-done c p ps y ar′ b))) in
       does-as T
-      (ap₂ (λ (m : Node) (s : Emit). unlessRefused (keysRefusal m) (emitsTop (inner c) m s)) (o .whole) (inner-given (inner (inner c)) d x p (ce (o .within) (omega arith) (omega arith)))
+      (ap₂ (λ (m : Node) (s : Emit). unlessRefused (keysRefusal m) (emitsTop (inner c) m s)) (o .whole) (inner-given (inner (inner c)) d x p (cell-within _ _ _ ce (o .within)))
       ∙ same ∙ ap (emitsInner c) (sym (o .whole)))

@@ -49,13 +49,14 @@ use Rattle.direct.proofs.Ways.{declarator-lowered, declarator-left, lowered-nam
 use Rattle.walk.specs.Modes as modes
 use Rattle.walk.specs.Run.{Going, Does, Clear}
 use Rattle.walk.specs.Whole.{GoodItems, Good}
-use Rattle.walk.specs.Turns.{viewOf, deepMode, suits, turnOf, turnsOf, sourceOf, reads, startOf, startValue}
+use Rattle.walk.specs.Turns.{viewOf, deepMode, suits, turnOf, turnsOf, sourceOf, reads, startOf, startValue, cellAt}
 use Rattle.walk.specs.declared.look.Start.{Start}
 use Rattle.walk.specs.declared.look.Start.the-variants.{Value, Missing}
 use Rattle.walk.proofs.Running.{does-then, does-nothing, does-as, does-to, clear-after, clear-still}
 use Rattle.walk.proofs.KeysOnceFull as walked
 use Rattle.walk.proofs.KeysOnceFull.{Quiet, own-again}
 use Rattle.walk.proofs.SpreadArguments.{does-from}
+use Rattle.walk.proofs.Lookups.{cell-within}
 use Rattle.walk.proofs.Opened.{BinderOpen, DeclarationOpen, no-good, kind-here, is-here, position-here, good-copied, good-short, good-two, declarator-open, declaration-open}
 use Rattle.walk.proofs.Turning.{turn-found, turns-key-value, turns-value-found, turns-declarator, suit-key-value, suit-value-found, suit-declarator}
 use Rattle.emit.proofs.MovedPatterns.{as-refused}
@@ -440,7 +441,7 @@ module _ (t : List ℕ) where
 
   pub declarator-done : {g g₁ g′ : Going} (c c′ : Place) (d left e at init id q k₃ s : ℕ) (w : Start) (b : Bool) (r : ReferenceBuilder) → left ≡ d - 1 → id ≡ onward t at 2 → startValue w ≡ startOf t d at → w ≡ Value init
       → b ≡ hasObjectRest (lookNode t left id .value) → b ≡ true → q ≡ lookNode t left init .next
-      → (id < 16384 → 0 < 3 → 3 < 5 → k₃ ≡ cell 3 id) → r ≡ builderOf t left init k₃ 3 false → c′ ≡ c → e ≡ left
+      → k₃ ≡ cellAt 3 id → r ≡ builderOf t left init k₃ 3 false → c′ ≡ c → e ≡ left
       → (r ≡ builderOf t e init (cell 3 id) 3 false → Good t e id → Good t e init → Does g g₁ (emitsLowered c′ (lookNode t e id .value) (lookNode t e init .value)))
       → g′ ≡ g₁ → s ≡ q
       → byteAt t at ≡ 5 → Good t d at → (s ≡ lookNode t d at .next) × Does g g′ (emitsDeclarator c (lookNode t d at .value))
@@ -460,7 +461,7 @@ module _ (t : List ℕ) where
       let small : id < 16384 = omega arith in
       let low : isLowered n ≡ true =
       ap (λ (y : Seen Node). isLowered (y .value)) whole ∙ valued-lowered at 5 p x ∙ ap₂ (λ (y z : ℕ). hasObjectRest (lookNode t y z .value)) level (sym second) ∙ sym test ∙ yes-rest in
-      let does-it = lowers (built ∙ ap₂ (λ (y z : ℕ). builderOf t y init z 3 false) (sym level) (cell-is small (omega arith) (omega arith))) (subst (λ (y : ℕ). Good t e y) (sym second) (o .pattern)) (subst (λ (y : ℕ). Good t e y) (sym (v .1)) (o .value (v .0))) in (
+      let does-it = lowers (built ∙ ap₂ (λ (y z : ℕ). builderOf t y init z 3 false) (sym level) (cell-within _ _ _ cell-is small)) (subst (λ (y : ℕ). Good t e y) (sym second) (o .pattern)) (subst (λ (y : ℕ). Good t e y) (sym (v .1)) (o .value (v .0))) in (
         moved ∙ next ∙ ap₂ (λ (y z : ℕ). lookNode t y z .next) (sym level) (v .1) ∙ ap (λ (y : Seen Node). y .next) (sym whole),
         does-to upto (does-as does-it
             (ap₂ (λ (y z : Node). emitsLowered c′ y z) id-as init-as

@@ -29,9 +29,10 @@ use Rattle.direct.proofs.RestValues.{excluded-spelt, excluded-itself, excluded-
 use Rattle.walk.specs.Modes as modes
 use Rattle.walk.specs.Run.{Going, Does}
 use Rattle.walk.specs.Whole.{Good, Ruled, Emitted}
-use Rattle.walk.specs.Turns.{keyClass, keyString}
+use Rattle.walk.specs.Turns.{cellAt, keyClass, keyString}
 use Rattle.walk.proofs.Running.{does-then, does-as, does-to, does-nothing}
 use Rattle.walk.proofs.SpreadArguments.{does-from}
+use Rattle.walk.proofs.Lookups.{cell-within}
 use Rattle.walk.proofs.Opened.{property-key, no-good, position-here, good-within, object-open}
 use Rattle.walk.proofs.Turning.{Sequenced, sequenced-as, turns-excluded-key, suit-excluded-key}
 use Rattle.walk.proofs.Viewing.{cell-4, ruled-as}
@@ -61,13 +62,13 @@ module _ (t : List ℕ) where
   -- ---- the keys as the helper reads them
 
   pub read-cell : {g g₁ : Going} (c : Place) (d p k : ℕ) (b : Bool) → b ≡ hoists (c .root) (properties (lookNode t d p .value)) → b ≡ true
-      → (p < 16384 → 0 < 2 → 2 < 5 → k ≡ cell 2 p) → Does g g₁ (say (does (temporary k 2) ∷ []))
+      → k ≡ cellAt 2 p → Does g g₁ (say (does (temporary k 2) ∷ []))
       → Good t d p → byteAt t p ≡ 34 → Does g g₁ (emitsKeysRead c p (properties (lookNode t d p .value)))
   unfolding saysCell
   read-cell c d p k b e h ck a good e34 =
       let small : p < 16384 = omega (arith, good-within t d p good) in
       does-as a
-      (ap (λ (x : ℕ). say (does (temporary x 2) ∷ [])) (ck small (omega arith) (omega arith)) ∙ sym (read-hoisted c p (properties (lookNode t d p .value)) (sym e ∙ h)))
+      (ap (λ (x : ℕ). say (does (temporary x 2) ∷ [])) (cell-within _ _ _ ck small) ∙ sym (read-hoisted c p (properties (lookNode t d p .value)) (sym e ∙ h)))
 
   -- all may be taken as strings
   pub read-strings : {g g₁ : Going} (c : Place) (d p : ℕ) (b f : Bool) → b ≡ hoists (c .root) (properties (lookNode t d p .value)) → b ≡ false

@@ -34,9 +34,10 @@ use Rattle.direct.proofs.Tests.{over-object-at, over-array-at, over-array-rest-
 use Rattle.walk.specs.Modes as modes
 use Rattle.walk.specs.Run.{Going, Does, Clear}
 use Rattle.walk.specs.Whole.{GoodItems, Good}
-use Rattle.walk.specs.Turns.{turnOf, deepMode, suits, turnsOf, AllSuit, valueMode, itemMode}
+use Rattle.walk.specs.Turns.{turnOf, deepMode, suits, turnsOf, AllSuit, valueMode, itemMode, cellAt}
 use Rattle.walk.proofs.Running.{does-then, does-nothing, does-as, does-to, clear-after}
 use Rattle.walk.proofs.SpreadArguments.{does-from}
+use Rattle.walk.proofs.Lookups.{cell-within}
 use Rattle.walk.proofs.Opened.{ObjectOpen, ArrayOpen, PropertyOpen, DefaultOpen, leaf-here, no-good, object-open, array-open, property-open, default-open}
 use Rattle.walk.proofs.Turning.{turn-found, turn-anywhere, turn-in-arrays, turn-straight, turns-found, turns-value-found, turns-anywhere, turns-value-anywhere, turns-value-in-arrays, turns-value-straight, suit-found, suit-value-found, suit-anywhere, suit-value-anywhere, suit-value-in-arrays, suit-value-straight}
 use Rattle.lowering.proofs.Cases.{not-true}
@@ -322,9 +323,9 @@ module _ (t : List ℕ) where
   -- of one with rest: its own first, read from the temporary in its place
   pub found-resting : {g g₁ g₂ g₃ g₄ g′ : Going} (c c′ : Place) (d left e at q n p f u z s i j k₁ k₂ : ℕ) (b : Bool) (e₁ e₂ : Emit) → left ≡ d - 1 → e ≡ left → c′ ≡ c → q ≡ onward t at 2 → Wide t q n → p ≡ onward t q 2 → f ≡ p
       → b ≡ eqb (byteAt t (onward t at 1) / 2 % 2) 1 → b ≡ true
-      → (at < 16384 → 0 < 1 → 1 < 5 → k₁ ≡ cell 1 at) → e₁ ≡ say (does (temporary k₁ 1) ∷ [])
+      → k₁ ≡ cellAt 1 at → e₁ ≡ say (does (temporary k₁ 1) ∷ [])
       → (i ≡ at) × (byteAt t at ≡ 34 → Good t d at → Does g g₁ (emitsOwnKeys c (lookNode t d at .value) ▷ emitsOwnPattern c (lookNode t d at .value) e₁))
-      → (at < 16384 → 0 < 1 → 1 < 5 → k₂ ≡ cell 1 at) → e₂ ≡ say (does (temporary k₂ 1) ∷ [])
+      → k₂ ≡ cellAt 1 at → e₂ ≡ say (does (temporary k₂ 1) ∷ [])
       → (j ≡ i) × (byteAt t i ≡ 34 → Good t d i → Clear g₁ (emitsOwnKeys c (lookNode t d i .value) ▷ emitsOwnPattern c (lookNode t d i .value) e₂) → Does g₁ g₂ (emitsOwnRest c (lookNode t d i .value) e₂))
       → g₃ ≡ g₂ → Turned e false n f u 9 c′ g₃ g₄ → z ≡ lookNode t left u .next → s ≡ z → g′ ≡ g₄
       → byteAt t at ≡ 34 → Good t d at → (s ≡ lookNode t d at .next) × Does g g′ (emitsFound c (lookNode t d at .value))
@@ -337,8 +338,8 @@ module _ (t : List ℕ) where
       let whole = o .resting (sym bit ∙ stood) in
       let w : Node = lookNode t d at .value in
       let value-is = ap (λ (y : Seen Node). y .value) whole in
-      let s₁ : e₁ ≡ saysCell 1 at = says₁ ∙ ap (λ (y : ℕ). say (does (temporary y 1) ∷ [])) (cell₁ small (omega arith) (omega arith)) in
-      let s₂ : e₂ ≡ saysCell 1 at = says₂ ∙ ap (λ (y : ℕ). say (does (temporary y 1) ∷ [])) (cell₂ small (omega arith) (omega arith)) in
+      let s₁ : e₁ ≡ saysCell 1 at = says₁ ∙ ap (λ (y : ℕ). say (does (temporary y 1) ∷ [])) (cell-within _ _ _ cell₁ small) in
+      let s₂ : e₂ ≡ saysCell 1 at = says₂ ∙ ap (λ (y : ℕ). say (does (temporary y 1) ∷ [])) (cell-within _ _ _ cell₂ small) in
       let here : byteAt t i ≡ 34 = ap (byteAt t) (own .0) ∙ k in
       let rest : Does g₁ g₂ (emitsOwnRest c (lookNode t d i .value) e₂) = last .1 here (subst (λ (y : ℕ). Good t d y) (sym (own .0)) good)
       (subst (λ (x : Emit). Clear g₁ (emitsOwnKeys c (lookNode t d i .value) ▷ emitsOwnPattern c (lookNode t d i .value) x)) (s₁ ∙ sym s₂)

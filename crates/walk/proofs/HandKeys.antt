@@ -50,11 +50,11 @@ use Rattle.direct.proofs.RestValues.{entries-are}
 use Rattle.walk.specs.Modes as modes
 use Rattle.walk.specs.Run.{Going, Does}
 use Rattle.walk.specs.Whole.{GoodItems, Good}
-use Rattle.walk.specs.Turns.{ownOf, keyOf, keyClass, keyString}
+use Rattle.walk.specs.Turns.{cellAt, ownOf, keyOf, keyClass, keyString}
 use Rattle.walk.proofs.Running.{does-then, does-nothing, does-as}
 use Rattle.walk.proofs.Opened.{position-here, good-copied, good-short, good-within, object-open, property-key}
 use Rattle.walk.proofs.Hands.{at-level, list-from}
-use Rattle.walk.proofs.Lookups.{classOf, class-name, class-here, key-class}
+use Rattle.walk.proofs.Lookups.{cell-within, classOf, class-name, class-here, key-class}
 use Rattle.walk.proofs.Sources.{Spelt, entryText, name-spelt, form-spelt, bare-spelt, string-is}
 
 -- ---- cells
@@ -307,13 +307,13 @@ module _ (t : List ℕ) (left at : ℕ) (root b : Bool) (e : b ≡ hoists root (
       let m : k ≡ count (excludedKeys nameless object) = h nameless ∙ counted-whole (count (excludedKeys nameless object)) 16384 a (omega arith) in
       (m ∙ entries-are nameless object, omega arith)
 
-  pub exclude-does : {g g₁ g₂ : Going} (k x : ℕ) → b ≡ true → ((c : Context) → k ≡ limited (count (excludedKeys c object))) → (at < 16384 → 0 < 2 → 2 < 5 → x ≡ events.cell 2 at)
+  pub exclude-does : {g g₁ g₂ : Going} (k x : ℕ) → b ≡ true → ((c : Context) → k ≡ limited (count (excludedKeys c object))) → x ≡ cellAt 2 at
       → (k < 65536 → Does g g₁ (say (does declarator ∷ does (excludedTemporary x 2) ∷ excludes (32 ∷ 1 ∷ wideBytes k))))
       → (Good t left at → byteAt t at ≡ 34 → Does g₁ g₂ (inTurn (keyOf modes.keyExcluded) (properties object)))
       → Good t left at → byteAt t at ≡ 34 → Does g g₂ (excludesOf root object)
   exclude-does k x z h c f i good kind =
       let n = number-is good k h in
-      let y : x ≡ events.cell 2 (position object) = c (omega (arith, good-within t left at good)) (omega arith) (omega arith) ∙ ap (events.cell 2) (sym (position-here t left at)) in
+      let y : x ≡ events.cell 2 (position object) = cell-within _ _ _ c (omega (arith, good-within t left at good)) ∙ ap (events.cell 2) (sym (position-here t left at)) in
       does-as (does-then (f (n .1)) (i good kind))
       (ap₂ (λ (a m : ℕ). say (does declarator ∷ does (excludedTemporary a 2) ∷ excludes (32 ∷ 1 ∷ wideBytes m)) ▷ inTurn (keyOf modes.keyExcluded) (properties object)) y (n .0)
       ∙ excludes-yes root object (sym e ∙ z))

@@ -6,7 +6,7 @@ use mathlib.Core.List.{List, [], _∷_, _++_}
 use Prim.Native.Nat.{ℕ, suc, _+_, _-_, _/_, _%_, _≤_, _<_}
 use native.Mathlib.Omega.{arith}
 use lib.Dec.{eqb}
-use borrow.Author.Tests.{eq-eqb, ne-eqb}
+use borrow.Author.Tests.{eq-eqb, ne-eqb, eqb-true}
 use Rattle.tree.specs.Tree.{Node, count}
 use Rattle.tree.specs.Tree.Node.{node}
 use Rattle.tree.specs.Tree.Fields.{done, absent, field}
@@ -31,7 +31,7 @@ use Rattle.direct.specs.Emit.{say, _▷_, inTurn}
 use Rattle.direct.specs.Views.{View, nameless}
 use Rattle.direct.specs.Views.View.{replacing, taking}
 use Rattle.direct.specs.Objects.{overObjects, reached, reachedIn, overReached, overReplaced, overParts}
-use Rattle.direct.specs.Objects.Reach.{straight}
+use Rattle.direct.specs.Objects.Reach.{anywhere, straight, inArrays}
 use Rattle.direct.specs.Handed.{placeMade, keysMade, excludesOf, handsKeys, handsPlace, otherKeys, placesIn, partsCount, declaratorMade, declaratorExcludes, handsTop, handsNested}
 use Rattle.direct.proofs.Threads.{then-assoc, say-nothing}
 use Rattle.direct.proofs.HandedByObject.{keys-counted}
@@ -39,11 +39,13 @@ use Rattle.direct.proofs.Reached.{over-parts, over-arrays, over-anywhere, parts
 use Rattle.walk.specs.Modes as modes
 use Rattle.walk.specs.Run.{Going, Does}
 use Rattle.walk.specs.Whole.{holeAt, GoodItems, Good}
-use Rattle.walk.specs.Turns.{viewOf, reachOf, ownOf, overAll, keyOf, excludeMode}
+use Rattle.walk.specs.Turns.{viewOf, reachOf, cellAt, valuesCount, placesAt, topAt, ownOf, overAll, keyOf, excludeMode}
 use Rattle.walk.proofs.Running.{does-then, does-nothing, does-as}
 use Rattle.walk.proofs.PlacesFit.{places-small}
 use Rattle.walk.proofs.Opened.{position-here, good-short, good-within, declarator-open, declaration-open}
 use Rattle.walk.proofs.Hands.{at-level}
+use Rattle.walk.proofs.Lookups.{cell-within}
+use Rattle.walk.proofs.TargetCounts.{values-object}
 use Rattle.walk.proofs.HandKeys.{three-say, hands-turn}
 
 -- ---- a pattern by mode and view
@@ -142,7 +144,7 @@ module _ (t : List ℕ) (left at : ℕ) (b : Bool) (w : b ≡ isLowered (lookNod
         let name : isName (nodeAt 1 (lookNode t left at .value)) ≡ true = ap isName (u .init ∙ ap (λ (y : ℕ). lookNode t d y .value) (sym h)) ∙ sym i ∙ j in
         does-as (k (u .good)) (ap (λ (y : Node). patternMade y) (sym (u .pattern)) ∙ made-name (lookNode t left at .value) (u .lowered) name)
 
-    pub declarator-valued : {g g₁ g₂ : Going} (x c : ℕ) (n : Bool) → x ≡ lookNode t d p .next → n ≡ isName (lookNode t d x .value) → n ≡ false → (p < 16384 → 0 < 3 → 3 < 5 → c ≡ events.cell 3 p)
+    pub declarator-valued : {g g₁ g₂ : Going} (x c : ℕ) (n : Bool) → x ≡ lookNode t d p .next → n ≡ isName (lookNode t d x .value) → n ≡ false → c ≡ cellAt 3 p
         → Does g g₁ (say (does (make c) ∷ [])) → (Good t d p → Does g₁ g₂ (overObjects placeMade taking (lookNode t d p .value) ▷ overObjects keysMade replacing (lookNode t d p .value)))
         → Good t left at → byteAt t at ≡ 5 → Does g g₂ (declaratorMade (lookNode t left at .value))
     declarator-valued x c n h i j f m k good kind =
@@ -150,7 +152,7 @@ module _ (t : List ℕ) (left at : ℕ) (b : Bool) (w : b ≡ isLowered (lookNod
         let D = lookNode t left at .value in
         let name : isName (nodeAt 1 D) ≡ false = ap isName (u .init ∙ ap (λ (y : ℕ). lookNode t d y .value) (sym h)) ∙ sym i ∙ j in
         let y : c ≡ events.cell 3 (position (nodeAt 0 D)) =
-        f (omega (arith, good-within t d p (u .good))) (omega arith) (omega arith) ∙ ap (events.cell 3) (sym (ap position (u .pattern) ∙ position-here t d p)) in
+        cell-within _ _ _ f (omega (arith, good-within t d p (u .good))) ∙ ap (events.cell 3) (sym (ap position (u .pattern) ∙ position-here t d p)) in
         does-as (does-then m (k (u .good)))
         (ap₂ (λ (a : ℕ) (o : Node). say (does (make a) ∷ []) ▷ patternMade o) y (sym (u .pattern)) ∙ made-other D (u .lowered) name)
 
@@ -213,11 +215,11 @@ module _ (t : List ℕ) (left at : ℕ) where
       h ∙ counted-whole (count (reachedIn straight target)) 16384 (omega arith) (omega arith)
 
   -- the entry, and the value's temporary
-  head-does : {g g₁ g₂ g₃ : Going} (m k x : ℕ) → Good t left at → (at < 16384 → 0 < 3 → 3 < 5 → x ≡ events.cell 3 at)
+  head-does : {g g₁ g₂ g₃ : Going} (m k x : ℕ) → Good t left at → x ≡ cellAt 3 at
       → Does g g₁ (say (does (entry m k) ∷ [])) → Does g₁ g₂ (say (lists (5 ∷ 1 ∷ []))) → Does g₂ g₃ (say (does (listedTemporary x 3) ∷ []))
       → Does g g₃ (say (does (entry m k) ∷ lists (5 ∷ 1 ∷ []) ++ (does (listedTemporary (events.cell 3 at) 3) ∷ [])))
   head-does m k x good f a b c =
-      let y : x ≡ events.cell 3 at = f (omega (arith, good-within t left at good)) (omega arith) (omega arith) in
+      let y : x ≡ events.cell 3 at = cell-within _ _ _ f (omega (arith, good-within t left at good)) in
       does-as (does-then a (does-then b c))
       (three-say (does (entry m k) ∷ []) (lists (5 ∷ 1 ∷ [])) (does (listedTemporary x 3) ∷ [])
       ∙ ap (λ (z : ℕ). say (does (entry m k) ∷ lists (5 ∷ 1 ∷ []) ++ (does (listedTemporary z 3) ∷ []))) y)
@@ -254,9 +256,9 @@ module _ (t : List ℕ) (left at : ℕ) where
   unfolding reachOf
   anywhere-below = sym (over-anywhere handsPlace target)
 
-  pub top-does : {g g₁ g₂ g₃ g₄ g₅ g₆ : Going} (root : Bool) (m n p k x : ℕ) → (byteAt t at ≡ 34 → p ≡ limited (count (reachedIn (reachOf modes.reachStraight) target)))
+  pub top-does : {g g₁ g₂ g₃ g₄ g₅ g₆ : Going} (root : Bool) (m n p k x : ℕ) → p ≡ valuesCount t (reachOf modes.reachStraight) left at
       → ((c : Context) → k ≡ limited (count (keyTemporaries c target))) → n ≡ limited (p + k)
-      → (at < 16384 → 0 < 3 → 3 < 5 → x ≡ events.cell 3 at)
+      → x ≡ cellAt 3 at
       → Does g g₁ (say (does (entry m (1 + n)) ∷ [])) → Does g₁ g₂ (say (lists (5 ∷ 1 ∷ []))) → Does g₂ g₃ (say (does (listedTemporary x 3) ∷ []))
       → (Good t left at → byteAt t at ≡ 34 → Does g₃ g₄ (inTurn (λ q. overReached handsPlace (reachOf modes.reachStraight) (value q)) (properties target)))
       → (Good t left at → byteAt t at ≡ 34 → Does g₄ g₅ (inTurn (keyOf modes.keyListed) (properties target)))
@@ -266,7 +268,16 @@ module _ (t : List ℕ) (left at : ℕ) where
   top-does root m n p k x h j e f a b c u v w good kind =
       does-as
       (does-then (head-does m (1 + n) x good f a b c) (does-then (does-as (u good kind) straight-values) (does-then (does-as (v good kind) (hands-turn target)) (w good kind))))
-      (top-is root m (1 + n) (entry-length n p k (h kind) j e good))
+      (top-is root m (1 + n) (entry-length n p k (h ∙ values-object t straight left at kind) j e good))
+
+  -- how many places there are in a view
+  pub places-counted : {n : ℕ} (v : ℕ) → n ≡ placesAt t v left at → (v ≡ modes.takingView → byteAt t at ≡ 34) → n ≡ limited (placesIn (viewOf v) target)
+  unfolding placesAt placesIn viewOf
+  places-counted v e k = e ∙ go (eqb v modes.takingView) refl
+    where
+      go : (b : Bool) → eqb v modes.takingView ≡ b → cond b (valuesCount t inArrays left at) (limited (count (reached anywhere target))) ≡ limited (placesIn (cond b taking replacing) target)
+      go true h = values-object t inArrays left at (k (eqb-true v modes.takingView h))
+      go false h = refl
 
   nested-is : (v : View) (m k : ℕ) → k ≡ placesIn v target → say (does (entry m k) ∷ []) ▷ overReplaced handsPlace v target ≡ handsNested v m target
   unfolding handsNested
@@ -277,15 +288,15 @@ module _ (t : List ℕ) (left at : ℕ) where
   nested-by m n v h a k good =
       does-as (does-then a k) (nested-is v m n (h ∙ counted-whole (placesIn v target) 16384 (places-within v good) (omega arith)))
 
-  pub nested-taking : {g g₁ g₂ : Going} (m n v : ℕ) → v ≡ modes.takingView → ((v ≡ modes.takingView → byteAt t at ≡ 34) → n ≡ limited (placesIn (viewOf v) target))
+  pub nested-taking : {g g₁ g₂ : Going} (m n v : ℕ) → v ≡ modes.takingView → n ≡ placesAt t v left at
       → Does g g₁ (say (does (entry m n) ∷ [])) → (Good t left at → byteAt t at ≡ 34 → Does g₁ g₂ (inTurn (λ q. overReached handsPlace (reachOf modes.reachInArrays) (value q)) (properties target)))
       → Good t left at → (v ≡ modes.takingView → byteAt t at ≡ 34) → Does g g₂ (handsNested (viewOf v) m target)
   nested-taking {g = g} {g₂ = g₂} m n v e h a k good kind =
       let x : viewOf v ≡ taking = view-taking v e in
       subst (λ (w : View). Does g g₂ (handsNested w m target)) (sym x)
-      (nested-by m n taking (h kind ∙ ap (λ (w : View). limited (placesIn w target)) x) a (does-as (k good (kind e)) array-values) good)
+      (nested-by m n taking (places-counted v h kind ∙ ap (λ (w : View). limited (placesIn w target)) x) a (does-as (k good (kind e)) array-values) good)
 
-  pub nested-replacing : {g g₁ g₂ : Going} (m n v : ℕ) → (v ≡ modes.takingView → ⊥) → ((v ≡ modes.takingView → byteAt t at ≡ 34) → n ≡ limited (placesIn (viewOf v) target))
+  pub nested-replacing : {g g₁ g₂ : Going} (m n v : ℕ) → (v ≡ modes.takingView → ⊥) → n ≡ placesAt t v left at
       → Does g g₁ (say (does (entry m n) ∷ []))
       → ((h : Bool) → (holeAt t h at ≡ false → Good t left at) → Does g₁ g₂ (cond (holeAt t h at) (say []) (overReached handsPlace (reachOf modes.reachAnywhere) target)))
       → Good t left at → (v ≡ modes.takingView → byteAt t at ≡ 34) → Does g g₂ (handsNested (viewOf v) m target)
@@ -293,23 +304,30 @@ module _ (t : List ℕ) (left at : ℕ) where
   nested-replacing {g = g} {g₂ = g₂} m n v e h a k good kind =
       let x : viewOf v ≡ replacing = view-replacing v e in
       subst (λ (w : View). Does g g₂ (handsNested w m target)) (sym x)
-      (nested-by m n replacing (h kind ∙ ap (λ (w : View). limited (placesIn w target)) x) a (does-as (k false (λ z. good)) anywhere-below) good)
+      (nested-by m n replacing (places-counted v h kind ∙ ap (λ (w : View). limited (placesIn w target)) x) a (does-as (k false (λ z. good)) anywhere-below) good)
 
   -- how long a sequence is
-  pub count-statement : (statement : Bool) (n : ℕ) → n ≡ limited (count (reachedIn (reachOf modes.reachStraight) target)) → statement ≡ true → Good t left at → 3 + n ≡ suc (suc (suc (cond statement (partsCount target) (suc (partsCount target)))))
-  unfolding reachOf
-  count-statement statement n h e good = let w = parts-counted n h good in rw e (omega arith)
+  pub top-counted : {n : ℕ} (statement : Bool) → n ≡ topAt t statement left at → Good t left at → byteAt t at ≡ 34 → n ≡ suc (suc (suc (cond statement (partsCount target) (suc (partsCount target)))))
+  unfolding topAt
+  top-counted statement e good k = e ∙ go statement (parts-counted (valuesCount t straight left at) (values-object t straight left at k) good)
+    where
+      go : (b : Bool) → valuesCount t straight left at ≡ partsCount target → cond b 3 4 + valuesCount t straight left at ≡ suc (suc (suc (cond b (partsCount target) (suc (partsCount target)))))
+      go true w = omega (arith, w)
+      go false w = omega (arith, w)
 
-  pub count-read : (statement : Bool) (n : ℕ) → n ≡ limited (count (reachedIn (reachOf modes.reachStraight) target)) → statement ≡ false → Good t left at → 4 + n ≡ suc (suc (suc (cond statement (partsCount target) (suc (partsCount target)))))
-  unfolding reachOf
-  count-read statement n h e good = let w = parts-counted n h good in rw e (omega arith)
+  -- as the code finds them
+  pub places-taking : (n v : ℕ) → v ≡ modes.takingView → n ≡ valuesCount t (reachOf modes.reachInArrays) left at → n ≡ placesAt t v left at
+  unfolding placesAt reachOf
+  places-taking n v e h = rw (eq-eqb v 2 e) h
 
--- how many places there are in a view
-module _ (v : ℕ) (p : Node) where
-  pub places-taking : (n : ℕ) → v ≡ modes.takingView → n ≡ limited (count (reachedIn (reachOf modes.reachInArrays) p)) → n ≡ limited (placesIn (viewOf v) p)
-  unfolding reachOf placesIn
-  places-taking n e h = h ∙ ap (λ (w : View). limited (placesIn w p)) (sym (view-taking v e))
+  pub places-replacing : (n v : ℕ) → (v ≡ modes.takingView → ⊥) → n ≡ limited (count (reached (reachOf modes.reachAnywhere) target)) → n ≡ placesAt t v left at
+  unfolding placesAt reachOf
+  places-replacing n v e h = rw (ne-eqb v 2 e) h
 
-  pub places-replacing : (n : ℕ) → (v ≡ modes.takingView → ⊥) → n ≡ limited (count (reached (reachOf modes.reachAnywhere) p)) → n ≡ limited (placesIn (viewOf v) p)
-  unfolding reachOf placesIn
-  places-replacing n e h = h ∙ ap (λ (w : View). limited (placesIn w p)) (sym (view-replacing v e))
+  pub count-statement : (statement : Bool) (n : ℕ) → n ≡ valuesCount t (reachOf modes.reachStraight) left at → statement ≡ true → 3 + n ≡ topAt t statement left at
+  unfolding topAt reachOf
+  count-statement statement n h e = rw (e, h) refl
+
+  pub count-read : (statement : Bool) (n : ℕ) → n ≡ valuesCount t (reachOf modes.reachStraight) left at → statement ≡ false → 4 + n ≡ topAt t statement left at
+  unfolding topAt reachOf
+  count-read statement n h e = rw (e, h) refl

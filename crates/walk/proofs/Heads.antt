@@ -1,7 +1,7 @@
 -- Object literals with spreads: counts, modes and heads as the code finds them.
 -- Assumes nothing.
-use mathlib.Core.Path.{_≡_, refl, sym, ap, _∙_, fun-ext}
-use mathlib.Core.Bool.{Bool, true, false, cond}
+use mathlib.Core.Path.{_≡_, refl, sym, ap, ap₂, _∙_}
+use mathlib.Core.Bool.{Bool, true, false, cond, _&&_, false≢true}
 use mathlib.Core.List.{List, [], _∷_, _++_}
 use Prim.Native.Nat.{ℕ, zero, suc, _+_, _-_, _%_, _≤_, _<_}
 use native.Mathlib.Omega.{arith}
@@ -20,8 +20,9 @@ use Rattle.direct.specs.Emit.{say, _▷_, callHead}
 use Rattle.direct.specs.Literals.{isSpread, modeNext, modeAfter, headAt, innerHeads, lastHead, heads, run, pendingHead}
 use Rattle.direct.proofs.LiteralsInOrder.{heads-append, run-all, run-some}
 use Rattle.direct.proofs.Threads.{say-say}
-use Rattle.walk.specs.Run.{Going, Does}
-use Rattle.walk.proofs.Running.{does-then, does-nothing, does-as}
+use Rattle.walk.specs.Run.{Going, Runs, Does}
+use Rattle.walk.specs.Turns.{spreadAt, pendingDeeds}
+use Rattle.walk.proofs.Running.{does-as, runs-does, runs-none, runs-then, runs-as}
 use Rattle.walk.proofs.Opened.{look-solid}
 
 -- ---- one property
@@ -41,30 +42,42 @@ unfolding modeNext
 mode-other zero n b e h z = absurd (z refl)
 mode-other (suc m) n b e h z = rw (sym e, h) refl
 
-pub head-none : {g : Going} (m : ℕ) (n : Node) (b : Bool) → b ≡ isSpread n → b ≡ false → Does g g (say (headAt m n))
+pub head-none : {g : Going} (m : ℕ) (n : Node) (b : Bool) → b ≡ isSpread n → b ≡ false → Runs g g (headAt m n)
 unfolding headAt
-head-none {g = g} m n b e h = does-as (does-nothing g) (ap (λ (x : Bool). say (cond x (callHead 1 (cond (eqb m 2) 4 2)) [])) (sym (sym e ∙ h)))
+head-none m n b e h = runs-as runs-none (ap (λ (x : Bool). cond x (callHead 1 (cond (eqb m 2) 4 2)) []) (sym (sym e ∙ h)))
 
-pub head-four : {g g′ : Going} (m : ℕ) (n : Node) (b : Bool) → b ≡ isSpread n → b ≡ true → m ≡ 2 → Does g g′ (say (callHead 1 4)) → Does g g′ (say (headAt m n))
+pub head-four : {g g′ : Going} (m : ℕ) (n : Node) (b : Bool) → b ≡ isSpread n → b ≡ true → m ≡ 2 → Runs g g′ (callHead 1 4) → Runs g g′ (headAt m n)
 unfolding headAt
 head-four m n b e h z d = rw (sym e, h, z) d
 
-pub head-two : {g g′ : Going} (m : ℕ) (n : Node) (b : Bool) → b ≡ isSpread n → b ≡ true → (m ≡ 2 → ⊥) → Does g g′ (say (callHead 1 2)) → Does g g′ (say (headAt m n))
+pub head-two : {g g′ : Going} (m : ℕ) (n : Node) (b : Bool) → b ≡ isSpread n → b ≡ true → (m ≡ 2 → ⊥) → Runs g g′ (callHead 1 2) → Runs g g′ (headAt m n)
 unfolding headAt
 head-two m n b e h z d = rw (sym e, h, ne-eqb m 2 z) d
 
-pub pending-none : {g : Going} (n : ℕ) → n ≡ 0 → Does g g (say (pendingHead n))
-unfolding pendingHead
-pending-none {g = g} n e = rw e (does-nothing g)
+pub pending-none : {g : Going} (n : ℕ) → n ≡ 0 → Runs g g (pendingDeeds n)
+unfolding pendingDeeds
+pending-none n e = rw e runs-none
 
-four-puts : (n : ℕ) → say (puts (24 ∷ 1 ∷ [])) ▷ say (puts (0 ∷ 0 ∷ [])) ▷ say (puts (24 ∷ 1 ∷ [])) ▷ say (puts (wideBytes (suc n))) ≡ say (pendingHead (suc n))
-unfolding pendingHead say _▷_
-four-puts n = fun-ext (λ next. refl)
+pub pending-some : {g g₁ g₂ g₃ g₄ : Going} (n : ℕ) → (n ≡ 0 → ⊥) → Runs g g₁ (puts (24 ∷ 1 ∷ [])) → Runs g₁ g₂ (puts (0 ∷ 0 ∷ [])) → Runs g₂ g₃ (puts (24 ∷ 1 ∷ []))
+    → Runs g₃ g₄ (puts (wideBytes (n % 65536))) → Runs g g₄ (pendingDeeds n)
+unfolding pendingDeeds
+pending-some n z a b c d =
+    let bs = wideBytes (n % 65536) in
+    rw (ne-eqb n 0 z)
+    (runs-then (puts (24 ∷ 1 ∷ [])) (puts (0 ∷ 0 ∷ 24 ∷ 1 ∷ bs)) a
+    (runs-then (puts (0 ∷ 0 ∷ [])) (puts (24 ∷ 1 ∷ bs)) b
+    (runs-then (puts (24 ∷ 1 ∷ [])) (puts bs) c d)))
 
-pub pending-some : {g g₁ g₂ g₃ g₄ : Going} (n : ℕ) → (n ≡ 0 → ⊥) → Does g g₁ (say (puts (24 ∷ 1 ∷ []))) → Does g₁ g₂ (say (puts (0 ∷ 0 ∷ []))) → Does g₂ g₃ (say (puts (24 ∷ 1 ∷ [])))
-    → Does g₃ g₄ (say (puts (wideBytes n))) → Does g g₄ (say (pendingHead n))
-pending-some zero z a b c d = absurd (z refl)
-pending-some (suc n) z a b c d = does-as (does-then a (does-then b (does-then c d))) (four-puts n)
+-- what it does where the number fits its bytes
+pending-is : (n : ℕ) → n < 65536 → pendingDeeds n ≡ pendingHead n
+unfolding pendingDeeds pendingHead
+pending-is zero h = refl
+pending-is (suc n) h =
+    let w : suc n % 65536 ≡ suc n = omega arith in
+    ap₂ (λ (b : Bool) (k : ℕ). cond b [] (puts (24 ∷ 1 ∷ 0 ∷ 0 ∷ 24 ∷ 1 ∷ wideBytes k))) (ne-eqb (suc n) 0 (λ z. omega arith)) w
+
+pub does-pending : {g g′ : Going} (n : ℕ) → Runs g g′ (pendingDeeds n) → n < 65536 → Does g g′ (say (pendingHead n))
+does-pending n e h = runs-does (runs-as e (pending-is n h))
 
 pub first-bit : (t : List ℕ) (at p m : ℕ) → p ≡ onward t at 1 → Peeked t p m → eqb (m % 2) 1 ≡ eqb (byteAt t (onward t at 1) % 2) 1
 first-bit t at p m e w = ap (λ (x : ℕ). eqb (x % 2) 1) (w .value ∙ ap (λ (x : ℕ). byteAt t x) e)
@@ -120,11 +133,11 @@ module _ (t : List ℕ) where
 
     -- ---- heads
 
-    pub inner-none : {g : Going} (m n at : ℕ) → n ≡ 0 → Does g g (say (innerHeads m (lookItems t R false n at .value)))
+    pub inner-none : {g : Going} (m n at : ℕ) → n ≡ 0 → Runs g g (innerHeads m (lookItems t R false n at .value))
     unfolding innerHeads
-    inner-none {g = g} m n at z = rw (last n at (omega arith)) (does-nothing g)
+    inner-none m n at z = rw (last n at (omega arith)) runs-none
 
-    pub inner-one : {g g′ : Going} (m n at : ℕ) → n ≡ 1 → Does g g′ (say (headAt m (R at .value))) → Does g g′ (say (innerHeads m (lookItems t R false n at .value)))
+    pub inner-one : {g g′ : Going} (m n at : ℕ) → n ≡ 1 → Runs g g′ (headAt m (R at .value)) → Runs g g′ (innerHeads m (lookItems t R false n at .value))
     unfolding innerHeads
     inner-one m n at z d =
         let o : n - 1 ≤ 0 = omega arith in
@@ -148,28 +161,27 @@ module _ (t : List ℕ) where
         ∙ add-join h at (lookItems t R h a (lookItem t R h at .next) .value) (lookItems t R h b (lookItems t R h a (lookItem t R h at .next) .next) .value)
 
     pub inner-halves : {g g₁ g′ : Going} (m n h q k : ℕ) (at : ℕ) → h ≤ n → q ≡ lookItems t R false h at .next → k ≡ modeAfter m (lookItems t R false h at .value)
-        → Does g g₁ (say (innerHeads k (lookItems t R false (n - h) q .value))) → Does g₁ g′ (say (innerHeads m (lookItems t R false h at .value)))
-        → Does g g′ (say (innerHeads m (lookItems t R false n at .value)))
+        → Runs g g₁ (innerHeads k (lookItems t R false (n - h) q .value)) → Runs g₁ g′ (innerHeads m (lookItems t R false h at .value))
+        → Runs g g′ (innerHeads m (lookItems t R false n at .value))
     inner-halves m n h q k at z e f a b =
         let w : n ≡ h + (n - h) = omega arith in
         let ps : Items = lookItems t R false h at .value in
         let qs : Items = lookItems t R false (n - h) (lookItems t R false h at .next) .value in
         let u : innerHeads k (lookItems t R false (n - h) q .value) ≡ innerHeads (modeAfter m ps) qs = rw (f, e) refl in
-        does-as (does-then a b)
-        (say-say (innerHeads k (lookItems t R false (n - h) q .value)) (innerHeads m ps)
-        ∙ ap (λ (ds : List Deed). say (ds ++ innerHeads m ps)) u
-        ∙ ap say (sym (heads-append m ps qs))
-        ∙ ap (λ (is : Items). say (innerHeads m is)) (sym (halves false h (n - h) n at w)))
+        runs-as (runs-then (innerHeads k (lookItems t R false (n - h) q .value)) (innerHeads m ps) a b)
+        (ap (λ (ds : List Deed). ds ++ innerHeads m ps) u
+        ∙ sym (heads-append m ps qs)
+        ∙ ap (λ (is : Items). innerHeads m is) (sym (halves false h (n - h) n at w)))
 
-    pub heads-last : {g g₁ g′ : Going} (m k n at : ℕ) → k ≡ modeAfter m (lookItems t R false n at .value) → k ≡ 2 → Does g g₁ (say (callHead 1 3))
-        → Does g₁ g′ (say (innerHeads m (lookItems t R false n at .value))) → Does g g′ (say (heads m (lookItems t R false n at .value)))
+    pub heads-last : {g g₁ g′ : Going} (m k n at : ℕ) → k ≡ modeAfter m (lookItems t R false n at .value) → k ≡ 2 → Runs g g₁ (callHead 1 3)
+        → Runs g₁ g′ (innerHeads m (lookItems t R false n at .value)) → Runs g g′ (heads m (lookItems t R false n at .value))
     unfolding heads lastHead
-    heads-last m k n at e z a b = does-as (does-then a b) (say-say (callHead 1 3) (innerHeads m (lookItems t R false n at .value)) ∙ rw (sym e, z) refl)
+    heads-last m k n at e z a b = runs-as (runs-then (callHead 1 3) (innerHeads m (lookItems t R false n at .value)) a b) (rw (sym e, z) refl)
 
     pub heads-inner : {g g′ : Going} (m k n at : ℕ) → k ≡ modeAfter m (lookItems t R false n at .value) → (k ≡ 2 → ⊥)
-        → Does g g′ (say (innerHeads m (lookItems t R false n at .value))) → Does g g′ (say (heads m (lookItems t R false n at .value)))
+        → Runs g g′ (innerHeads m (lookItems t R false n at .value)) → Runs g g′ (heads m (lookItems t R false n at .value))
     unfolding heads lastHead
-    heads-inner m k n at e z b = does-as b (rw (sym e, ne-eqb k 2 z) refl)
+    heads-inner m k n at e z b = runs-as b (rw (sym e, ne-eqb k 2 z) refl)
 
     -- ---- the head of the object
 
@@ -182,12 +194,21 @@ module _ (t : List ℕ) where
         go true h = omega arith
         go false h = omega arith
 
-    pub opens : {g g₁ g₂ g₃ : Going} (n at k : ℕ) → n < 65536 → k ≡ run (lookItems t R false n at .value) → Does g g₁ (say (heads 0 (lookItems t R false n at .value)))
-        → Does g₁ g₂ (say (puts (24 ∷ 1 ∷ []))) → (k < 65536 → Does g₂ g₃ (say (puts (wideBytes k))))
-        → Does g g₃ (say (heads 0 (lookItems t R false n at .value)) ▷ say (puts (24 ∷ 1 ∷ wideBytes (run (lookItems t R false n at .value)))))
-    opens n at k h e a b c =
-        let z : k < 65536 = omega (arith, run-bound n at) in
-        does-then a (does-as (does-then b (c z)) (say-say (puts (24 ∷ 1 ∷ [])) (puts (wideBytes k)) ∙ ap (λ (x : ℕ). say (puts (24 ∷ 1 ∷ wideBytes x))) e))
+    pub opens : {g g₁ g₂ g₃ : Going} (n at k : ℕ) → k ≡ run (lookItems t R false n at .value) → Runs g g₁ (heads 0 (lookItems t R false n at .value))
+        → Runs g₁ g₂ (puts (24 ∷ 1 ∷ [])) → Runs g₂ g₃ (puts (wideBytes (k % 65536)))
+        → Runs g g₃ (heads 0 (lookItems t R false n at .value) ++ puts (24 ∷ 1 ∷ wideBytes (run (lookItems t R false n at .value) % 65536)))
+    opens n at k e a b c =
+        let is = lookItems t R false n at .value in
+        runs-as (runs-then (heads 0 is) (puts (24 ∷ 1 ∷ wideBytes (k % 65536))) a (runs-then (puts (24 ∷ 1 ∷ [])) (puts (wideBytes (k % 65536))) b c))
+        (ap (λ (x : ℕ). heads 0 is ++ puts (24 ∷ 1 ∷ wideBytes (x % 65536))) e)
+
+    -- what it does where the number of items fits two bytes
+    pub does-opening : {g g′ : Going} (n at : ℕ) → Runs g g′ (heads 0 (lookItems t R false n at .value) ++ puts (24 ∷ 1 ∷ wideBytes (run (lookItems t R false n at .value) % 65536)))
+        → n < 65536 → Does g g′ (say (heads 0 (lookItems t R false n at .value)) ▷ say (puts (24 ∷ 1 ∷ wideBytes (run (lookItems t R false n at .value)))))
+    does-opening n at e h =
+        let is = lookItems t R false n at .value in
+        let w : run is % 65536 ≡ run is = omega (arith, run-bound n at) in
+        does-as (runs-does (runs-as e (ap (λ (x : ℕ). heads 0 is ++ puts (24 ∷ 1 ∷ wideBytes x)) w))) (sym (say-say (heads 0 is) (puts (24 ∷ 1 ∷ wideBytes (run is)))))
 
     -- ---- a list without holes
 
@@ -219,23 +240,49 @@ module _ (t : List ℕ) where
   unfolding lookNode itemsAt pieceIn any
   literal-none d at e = rw e refl
 
-  pub literal-bare : (d at : ℕ) → (d ≡ 0 → ⊥) → byteAt t at ≡ 24 → (b : Bool) → b ≡ eqb (byteAt t (onward t at 1) % 2) 1 → b ≡ false
-      → false ≡ any isSpread (itemsAt 0 (lookNode t d at .value))
+  literal-bare : (d at : ℕ) → byteAt t at ≡ 24 → byteAt t (onward t at 1) % 2 ≡ 0 → false ≡ any isSpread (itemsAt 0 (lookNode t (suc d) at .value))
   unfolding lookNode itemsAt pieceIn any
-  literal-bare zero at z k b e h = absurd (z refl)
-  literal-bare (suc d) at z k b e h =
-      let m : byteAt t (onward t at 1) % 2 ≡ 0 = omega (arith, eqb-false (byteAt t (onward t at 1) % 2) 1 (sym e ∙ h)) in
+  literal-bare d at k m =
       ap (λ (s : Seen Fields). any isSpread (itemsAt 0 (node at (byteAt t at) (s .value)))) (sym (no-object-fields (λ q. lookNode t d q) (byteAt t at) (byteAt t (onward t at 1)) (onward t at 2) k m))
 
-  pub literal-runs : (d at q p n e k : ℕ) → (d ≡ 0 → ⊥) → (b : Bool) → b ≡ eqb (byteAt t (onward t at 1) % 2) 1 → b ≡ true → q ≡ onward t at 2 → p ≡ onward t q 2 → Wide t q n → e ≡ d - 1
-      → k ≡ run (lookItems t (lookNode t e) false n p .value) → byteAt t at ≡ 24 → ltb k n ≡ any isSpread (itemsAt 0 (lookNode t d at .value))
+  literal-list : (d at : ℕ) → byteAt t at ≡ 24 → byteAt t (onward t at 1) % 2 ≡ 1
+      → any isSpread (lookItems t (lookNode t d) false (wideAt t (onward t at 2)) (onward t (onward t at 2) 2) .value) ≡ any isSpread (itemsAt 0 (lookNode t (suc d) at .value))
   unfolding lookNode itemsAt pieceIn
-  literal-runs zero at q p n e k z b g h u v w o r y = absurd (z refl)
-  literal-runs (suc d) at q p n e k z b g h u v w o r y =
-      let m : byteAt t (onward t at 1) % 2 ≡ 1 = eqb-true (byteAt t (onward t at 1) % 2) 1 (sym g ∙ h) in
+  literal-list d at k m =
+      ap (λ (s : Seen Fields). any isSpread (itemsAt 0 (node at (byteAt t at) (s .value)))) (sym (object-fields (λ q. lookNode t d q) (byteAt t at) (byteAt t (onward t at 1)) (onward t at 2) k m))
+
+  -- of a literal it says what the literal has
+  pub spread-literal : (d at : ℕ) → byteAt t at ≡ 24 → spreadAt t d at ≡ any isSpread (itemsAt 0 (lookNode t d at .value))
+  unfolding spreadAt
+  spread-literal zero at k = literal-none zero at refl
+  spread-literal (suc d) at k = go (eqb (byteAt t (onward t at 1) % 2) 1) refl
+    where
+      go : (b : Bool) → eqb (byteAt t (onward t at 1) % 2) 1 ≡ b
+          → b && any isSpread (lookItems t (lookNode t d) false (wideAt t (onward t at 2)) (onward t (onward t at 2) 2) .value) ≡ any isSpread (itemsAt 0 (lookNode t (suc d) at .value))
+      go true e = literal-list d at k (eqb-true (byteAt t (onward t at 1) % 2) 1 e)
+      go false e = literal-bare d at k (let h = eqb-false (byteAt t (onward t at 1) % 2) 1 e in omega arith)
+
+  -- and where it has one there are levels left
+  pub spread-levels : (d at : ℕ) → spreadAt t d at ≡ true → 0 < d
+  unfolding spreadAt
+  spread-levels zero at e = absurd (false≢true e)
+  spread-levels (suc d) at e = omega arith
+
+  -- as the code finds it
+  pub spreads-none : (d at : ℕ) → d ≡ 0 → false ≡ spreadAt t d at
+  unfolding spreadAt
+  spreads-none d at e = rw e refl
+
+  pub spreads-bare : (d at : ℕ) → (d ≡ 0 → ⊥) → (b : Bool) → b ≡ eqb (byteAt t (onward t at 1) % 2) 1 → b ≡ false → false ≡ spreadAt t d at
+  unfolding spreadAt
+  spreads-bare zero at z b e h = absurd (z refl)
+  spreads-bare (suc d) at z b e h = rw (sym e, h) refl
+
+  pub spreads-runs : (d at q p n e k : ℕ) → (d ≡ 0 → ⊥) → (b : Bool) → b ≡ eqb (byteAt t (onward t at 1) % 2) 1 → b ≡ true → q ≡ onward t at 2 → p ≡ onward t q 2 → Wide t q n → e ≡ d - 1
+      → k ≡ run (lookItems t (lookNode t e) false n p .value) → ltb k n ≡ spreadAt t d at
+  unfolding spreadAt
+  spreads-runs zero at q p n e k z b g h u v w o r = absurd (z refl)
+  spreads-runs (suc d) at q p n e k z b g h u v w o r =
       let i : e ≡ d = omega arith in
-      let R : ℕ → Seen Node = λ q. lookNode t d q in
-      let a : lookItems t (lookNode t e) false n p .value ≡ lookItems t R false (wideAt t (onward t at 2)) (onward t (onward t at 2) 2) .value = rw (i, w .value, v, u) refl in
-      run-tells (lookNode t e) n p k r
-      ∙ ap (λ (is : Items). any isSpread is) a
-      ∙ ap (λ (s : Seen Fields). any isSpread (itemsAt 0 (node at (byteAt t at) (s .value)))) (sym (object-fields R (byteAt t at) (byteAt t (onward t at 1)) (onward t at 2) y m))
+      let a : lookItems t (lookNode t e) false n p .value ≡ lookItems t (lookNode t d) false (wideAt t (onward t at 2)) (onward t (onward t at 2) 2) .value = rw (i, w .value, v, u) refl in
+      run-tells (lookNode t e) n p k r ∙ ap (λ (is : Items). any isSpread is) a ∙ rw (sym g, h) refl

@@ -76,7 +76,7 @@ pub source-quiet : (tree : List ℕ) (b : ReferenceBuilder) → Quiet (sourceOf 
 unfolding reads say firstRefused
 source-quiet tree b = go (readOf b)
   where
-    go : (r : Read) → Quiet (reads tree r)
+    go : (r : Read) → Quiet (say (reads tree r))
     go (Expression left at) = let bs = part at (lookNode tree left at .next) tree in record { sound = say-sounds (puts bs) (puts-silent bs); calm = λ m. silent-none (puts bs) (puts-silent bs) }
     go (Temporary c stem) = record { sound = say-sounds (does (temporary c stem) ∷ []) tt; calm = λ m. refl }
 

@@ -6,8 +6,8 @@ use mathlib.Core.List.{List}
 use mathlib.Core.Option.{some}
 use Prim.Native.Nat.{ℕ, zero, suc, _+_, _-_, _/_, _%_, _<_, _≤_}
 use native.Mathlib.Omega.{arith}
-use lib.Dec.{eqb}
-use borrow.Author.Tests.{eq-eqb, ne-eqb}
+use lib.Dec.{eqb, ltb}
+use borrow.Author.Tests.{eq-eqb, ne-eqb, lt-ltb, le-ltb}
 use Rattle.tree.specs.Tree.{Node, Items, count, depth}
 use Rattle.tree.specs.Tree.Items.{none, hole, item}
 use Rattle.tree.specs.Read.{byteAt}
@@ -39,7 +39,7 @@ use Rattle.direct.specs.Moved.{number}
 use Rattle.direct.proofs.MovedMade.{number-join}
 use Rattle.walk.specs.Modes as modes
 use Rattle.walk.specs.declared.look.Start.the-variants as start
-use Rattle.walk.specs.Turns.{keyClass, startOf, startValue}
+use Rattle.walk.specs.Turns.{keyClass, startOf, startValue, cellAt}
 use Rattle.lowering.proofs.ItemLaws.{count-append}
 use Rattle.lowering.proofs.Cases.{by-shape}
 use Rattle.lowering.specs.Keys.Entry.{spelt, itself, omitted, saved}
@@ -77,22 +77,37 @@ level-below left i e = (rw e refl, omega arith)
 
 -- ---- cells
 
-pub cell-one : (s at : ℕ) → s ≡ 2 → at + 1 ≡ cell s at
-unfolding cell
-cell-one s at e = rw e refl
+small : (at : ℕ) → at < 16384 → ltb at 16384 ≡ true
+small at h = lt-ltb at 16384 h
 
-pub cell-two : (s at : ℕ) → s ≡ 3 → at + 2 ≡ cell s at
-unfolding cell
-cell-two s at e = rw e refl
+pub cell-one : (s at : ℕ) → at < 16384 → s ≡ 2 → at + 1 ≡ cellAt s at
+unfolding cellAt cell
+cell-one s at h e = rw (small at h, e) refl
 
-pub cell-here : (s at : ℕ) → (s ≡ 2 → ⊥) → (s ≡ 3 → ⊥) → s < 5 → at ≡ cell s at
-unfolding cell
-cell-here zero at a b h = omega arith
-cell-here (suc zero) at a b h = omega arith
-cell-here (suc (suc zero)) at a b h = absurd (a refl)
-cell-here (suc (suc (suc zero))) at a b h = absurd (b refl)
-cell-here (suc (suc (suc (suc zero)))) at a b h = omega arith
-cell-here (suc (suc (suc (suc (suc s))))) at a b h = absurd (omega arith)
+pub cell-two : (s at : ℕ) → at < 16384 → s ≡ 3 → at + 2 ≡ cellAt s at
+unfolding cellAt cell
+cell-two s at h e = rw (small at h, e) refl
+
+pub cell-here : (s at : ℕ) → at < 16384 → (s ≡ 2 → ⊥) → (s ≡ 3 → ⊥) → at ≡ cellAt s at
+unfolding cellAt cell
+cell-here s at h a b = rw (small at h) (go s a b)
+  where
+    go : (s : ℕ) → (s ≡ 2 → ⊥) → (s ≡ 3 → ⊥) → at ≡ cell s at
+    go zero a b = omega arith
+    go (suc zero) a b = omega arith
+    go (suc (suc zero)) a b = absurd (a refl)
+    go (suc (suc (suc zero))) a b = absurd (b refl)
+    go (suc (suc (suc (suc zero)))) a b = omega arith
+    go (suc (suc (suc (suc (suc s))))) a b = omega arith
+
+pub cell-beyond : (s at : ℕ) → 16384 ≤ at → at ≡ cellAt s at
+unfolding cellAt
+cell-beyond s at h = rw (le-ltb at 16384 h) refl
+
+-- within the longest tree it is the cell
+pub cell-within : (x s at : ℕ) → x ≡ cellAt s at → at < 16384 → x ≡ cell s at
+unfolding cellAt
+cell-within x s at e h = e ∙ ap (λ (b : Bool). cond b (cell s at) at) (small at h)
 
 -- ---- keys
 

@@ -1,24 +1,24 @@
 -- Deeds one after another: what two emitters do in turn is what their emissions do, the first before the second.
 -- Assumes nothing.
-use mathlib.Core.Path.{_≡_, refl, sym, ap, _∙_, subst}
+use mathlib.Core.Path.{_≡_, refl, sym, ap, ap₂, _∙_, subst}
 use mathlib.Core.Bool.{Bool, cond}
 use mathlib.Core.List.{List, [], _∷_, _++_}
-use Prim.Native.Nat.{ℕ, zero, suc, _<_}
+use Prim.Native.Nat.{ℕ, zero, suc, _%_, _<_}
 use native.Mathlib.Omega.{arith}
 use lib.Dec.{eqb}
+use lib.Pow.{field, mod-mod-pow}
 use Rattle.sink.specs.Machine.{Event, State, step, steps, low, high}
 use Rattle.sink.specs.Machine as machine
 use Rattle.sink.specs.Machine.Event.{put, helper}
-use Rattle.sink.proofs.WaysOut.{one-step, wide-is, steps-append, chain}
+use Rattle.sink.proofs.WaysOut.{one-step, steps-append, chain}
 use Rattle.tree.specs.Tree.{wideBytes}
-use Rattle.direct.proofs.Threads.{say-say}
 use Rattle.direct.specs.Events.{Deed, Emit, puts, all, after}
 use Rattle.direct.specs.Events.Deed.{does, refuses}
 use Rattle.direct.specs.Emit.{say, _▷_, callHead}
 use borrow.Author.Tests.{ne-eqb}
 use Rattle.direct.specs.Moved.{fresh}
 use Rattle.outcome.specs.Named.{eventsIn}
-use Rattle.walk.specs.Run.{Going, met, Full, Way, Does, Clear}
+use Rattle.walk.specs.Run.{Going, met, Runs, Full, Way, Does, Clear}
 use Rattle.walk.specs.Run.Way.{whole, full}
 use Rattle.walk.proofs.Marked.{markIn, mark-after}
 use Rattle.walk.proofs.FullStaysFull.{stays-full}
@@ -80,11 +80,6 @@ both s s′ s″ ds f (full xs p h k) b =
     (after-full s s′ s″ (eventsIn ds) (eventsIn (f m)) xs (eventsIn (f (markIn s′))) p h k b)
 
 -- ---- what is done
-
--- a step of the sink is what it says
-pub by-events : (s s′ : State) (r : ℕ) (es : List Event) → s′ ≡ steps s es → Does (record { state = s; refusal = r }) (record { state = s′; refusal = r }) (say (all es))
-unfolding say
-by-events s s′ r es e = record { refusal = λ m. sym (met-events r es); output = whole (e ∙ ap (steps s) (sym (in-events es))) }
 
 -- one thing and then another
 pub does-then : {g g′ g″ : Going} {e f : Emit} → Does g g′ e → Does g′ g″ f → Does g g″ (e ▷ f)
@@ -156,37 +151,75 @@ does-as {g = g} {g′ = g′} d h = subst (λ (x : Emit). Does g g′ x) h d
 pub does-to : {g g₁ g′ : Going} {e : Emit} → g′ ≡ g₁ → Does g g₁ e → Does g g′ e
 does-to {g = g} {e = e} k d = subst (λ (x : Going). Does g x e) (sym k) d
 
+-- ---- deeds that go by no mark
+
+abbrev pub going : State → ℕ → Going
+going s r = record { state = s; refusal = r }
+
+-- what they leave is what they do
+pub runs-does : {g g′ : Going} {ds : List Deed} → Runs g g′ ds → Does g g′ (say ds)
+unfolding say
+runs-does h = record { refusal = λ m. h .refusal; output = whole (h .output) }
+
+-- and it is all that can be left
+pub runs-same : {g g′ g″ : Going} {ds : List Deed} → Runs g g′ ds → Runs g g″ ds → g′ ≡ g″
+runs-same a b = ap₂ going (a .output ∙ sym (b .output)) (a .refusal ∙ sym (b .refusal))
+
+pub runs-none : {g : Going} → Runs g g []
+unfolding met eventsIn steps
+runs-none = record { refusal = refl; output = refl }
+
+-- one thing and then another
+pub runs-then : {g g′ g″ : Going} (ds es : List Deed) → Runs g g′ ds → Runs g′ g″ es → Runs g g″ (ds ++ es)
+runs-then {g = g} {g′ = g′} {g″ = g″} ds es a b =
+    record {
+      refusal = b .refusal ∙ ap (λ (r : ℕ). met r es) (a .refusal) ∙ sym (met-append (g .refusal) ds es);
+      output = chain (g .state) (g′ .state) (g″ .state) (eventsIn ds) (eventsIn es) (a .output) (b .output) ∙ ap (steps (g .state)) (sym (in-append ds es));
+    }
+
+-- the same deeds, said in another way
+pub runs-as : {g g′ : Going} {ds es : List Deed} → Runs g g′ ds → ds ≡ es → Runs g g′ es
+runs-as {g = g} {g′ = g′} a e = subst (λ (x : List Deed). Runs g g′ x) e a
+
 -- ---- a step of the sink
+
+-- it is what it says
+pub by-events : (s s′ : State) (r : ℕ) (es : List Event) → s′ ≡ steps s es → Runs (going s r) (going s′ r) (all es)
+by-events s s′ r es e = record { refusal = sym (met-events r es); output = e ∙ ap (steps s) (sym (in-events es)) }
 
 all-puts : (bs : List ℕ) → all (machine.puts bs) ≡ puts bs
 unfolding machine.puts
 all-puts [] = refl
 all-puts (b ∷ bs) = ap (λ (ds : List Deed). does (put b) ∷ ds) (all-puts bs)
 
-pub by-puts : (s s′ : State) (r : ℕ) (bs : List ℕ) → s′ ≡ steps s (machine.puts bs) → Does (record { state = s; refusal = r }) (record { state = s′; refusal = r }) (say (puts bs))
-by-puts s s′ r bs e = does-as (by-events s s′ r (machine.puts bs) e) (ap say (all-puts bs))
+pub by-puts : (s s′ : State) (r : ℕ) (bs : List ℕ) → s′ ≡ steps s (machine.puts bs) → Runs (going s r) (going s′ r) (puts bs)
+by-puts s s′ r bs e = runs-as (by-events s s′ r (machine.puts bs) e) (all-puts bs)
 
-pub by-event : (s s′ : State) (r : ℕ) (e : Event) → s′ ≡ step s e → Does (record { state = s; refusal = r }) (record { state = s′; refusal = r }) (say (does e ∷ []))
+pub by-event : (s s′ : State) (r : ℕ) (e : Event) → s′ ≡ step s e → Runs (going s r) (going s′ r) (does e ∷ [])
 by-event s s′ r e h = by-events s s′ r (e ∷ []) (h ∙ sym (one-step s e))
 
-pub by-wide : (s s′ : State) (r n : ℕ) → n < 65536 → s′ ≡ steps s (machine.puts (low n ∷ high n ∷ [])) → Does (record { state = s; refusal = r }) (record { state = s′; refusal = r }) (say (puts (wideBytes n)))
-by-wide s s′ r n h e = by-puts s s′ r (wideBytes n) (e ∙ ap (λ (bs : List ℕ). steps s (machine.puts bs)) (wide-is n h))
+-- two bytes hold what is left of a number below 65536
+pub two-bytes : (n : ℕ) → low n ∷ high n ∷ [] ≡ wideBytes (n % 65536)
+unfolding low high
+two-bytes n = ap₂ (λ (x y : ℕ). x ∷ y ∷ []) (sym (mod-mod-pow n 8 8)) (sym (field n 8 8))
+
+pub by-wide : (s s′ : State) (r n : ℕ) → s′ ≡ steps s (machine.puts (low n ∷ high n ∷ [])) → Runs (going s r) (going s′ r) (puts (wideBytes (n % 65536)))
+by-wide s s′ r n e = by-puts s s′ r (wideBytes (n % 65536)) (e ∙ ap (λ (bs : List ℕ). steps s (machine.puts bs)) (two-bytes n))
 
 -- the head of a call, in three steps
-pub by-call : (s s₁ s₂ s₃ : State) (r h n : ℕ) → n < 65536 → s₁ ≡ steps s (machine.puts (29 ∷ 3 ∷ [])) → s₂ ≡ step s₁ (helper h) → s₃ ≡ steps s₂ (machine.puts (low n ∷ high n ∷ []))
-    → Does (record { state = s; refusal = r }) (record { state = s₃; refusal = r }) (say (callHead h n))
-by-call s s₁ s₂ s₃ r h n k a b c =
-    does-as (does-then (by-puts s s₁ r (29 ∷ 3 ∷ []) a) (does-then (by-event s₁ s₂ r (helper h) b) (by-wide s₂ s₃ r n k c)))
-    (ap (λ (e : Emit). say (puts (29 ∷ 3 ∷ [])) ▷ e) (say-say (does (helper h) ∷ []) (puts (wideBytes n))) ∙ say-say (puts (29 ∷ 3 ∷ [])) (does (helper h) ∷ puts (wideBytes n)))
+pub by-call : (s s₁ s₂ s₃ : State) (r h n : ℕ) → s₁ ≡ steps s (machine.puts (29 ∷ 3 ∷ [])) → s₂ ≡ step s₁ (helper h) → s₃ ≡ steps s₂ (machine.puts (low n ∷ high n ∷ []))
+    → Runs (going s r) (going s₃ r) (callHead h (n % 65536))
+by-call s s₁ s₂ s₃ r h n a b c =
+    runs-then (puts (29 ∷ 3 ∷ [])) (does (helper h) ∷ puts (wideBytes (n % 65536))) (by-puts s s₁ r (29 ∷ 3 ∷ []) a)
+    (runs-then (does (helper h) ∷ []) (puts (wideBytes (n % 65536))) (by-event s₁ s₂ r (helper h) b) (by-wide s₂ s₃ r n c))
 
 -- a refusal is noted if it is the first
 pub by-refusal : (s s′ : State) (r r′ n : ℕ) → r′ ≡ cond (eqb r 0) n r → s′ ≡ steps s (machine.puts (0 ∷ 0 ∷ []))
-    → Does (record { state = s; refusal = r }) (record { state = s′; refusal = r′ }) (say (refuses n ∷ puts (0 ∷ 0 ∷ [])))
-unfolding met eventsIn say
+    → Runs (going s r) (going s′ r′) (refuses n ∷ puts (0 ∷ 0 ∷ []))
+unfolding met eventsIn
 by-refusal s s′ r r′ n k e =
-    let q = cond (eqb r 0) n r in
-    let d = by-puts s s′ q (0 ∷ 0 ∷ []) e in
-    record { refusal = λ m. k ∙ d .refusal m; output = d .output }
+    let d = by-puts s s′ (cond (eqb r 0) n r) (0 ∷ 0 ∷ []) e in
+    record { refusal = k ∙ d .refusal; output = d .output }
 
 pub first-refusal : (r n : ℕ) → r ≡ 0 → n ≡ cond (eqb r 0) n r
 first-refusal r n e = rw e refl

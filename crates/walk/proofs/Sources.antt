@@ -42,27 +42,25 @@ use Rattle.pattern.specs.Parts.{sortAt, textOf, partOf, partIn, partAt, textIn,
 use Rattle.pattern.specs.Numbers.{spelledAs, isStringOf}
 use Rattle.pattern.specs.Keys.{nameIn, formIn, besideForm, literalBy, literalIn, literalAt, keyAt, keyEntry, Becomes}
 use Rattle.pattern.specs.Source.{readOf}
-use Rattle.pattern.proofs.KeyCases.{by-sort}
+use Rattle.pattern.proofs.KeyCases.{by-sort, becomes}
 use Rattle.direct.proofs.RestValues.{key-spelt}
 use Rattle.walk.specs.Modes as modes
 use Rattle.walk.proofs.KeyLengths.{ShortString, promised-short}
-use Rattle.direct.specs.Events.{Emit, puts, excludes}
+use Rattle.direct.specs.Events.{Deed, puts, excludes}
 use Rattle.direct.specs.Events.Deed.{does}
 use Rattle.direct.specs.Emit.{say}
 use Rattle.direct.specs.Keys.{stringBytes}
-use Rattle.walk.specs.Run.{Going, Does}
+use Rattle.walk.specs.Run.{Going, Runs, Does}
 use Rattle.walk.specs.Whole.{Good}
-use Rattle.walk.specs.Turns.{holeOf, reads, sourceOf, keyClass, keyString, awaits}
-use Rattle.walk.proofs.Running.{does-as, does-nothing}
+use Rattle.walk.specs.Turns.{holeDeeds, holeOf, reads, sourceOf, stringAt, stringOf, keyClass, keyString, awaits}
+use Rattle.walk.proofs.Running.{does-as, runs-does, runs-none, runs-as}
+use Rattle.walk.proofs.SmallSteps.{string-whole}
 use Rattle.walk.proofs.Opened.{good-short}
 use Rattle.walk.proofs.Lookups.{when-yes, classOf, key-class}
 
 -- the same from the same
-pub does-same : {g h : Going} → h ≡ g → Does g h (say [])
-does-same {g = g} e = rw e (does-nothing g)
-
-pub does-between : {g h h′ g′ : Going} {e : Emit} → h ≡ g → g′ ≡ h′ → Does h h′ e → Does g g′ e
-does-between {g = g} {h = h} {h′ = h′} {g′ = g′} {e = e} a b d = rw (sym a, b) d
+runs-between : {g h h′ g′ : Going} {ds : List Deed} → h ≡ g → g′ ≡ h′ → Runs h h′ ds → Runs g g′ ds
+runs-between {g = g} {h = h} {h′ = h′} {g′ = g′} {ds = ds} a b d = rw (sym a, b) d
 
 -- ---- holes
 
@@ -72,16 +70,23 @@ hole-first m e = rw e refl
 pub hole-second : (m : ℕ) → m ≡ 16 → eqb m 1 || eqb m 16 ≡ true
 hole-second m e = rw e refl
 
-pub hole-written : {g g′ : Going} (t : List ℕ) (m at q : ℕ) → eqb m 1 || eqb m 16 ≡ true → q ≡ onward t at 1 → part at (onward t at 1) t ≡ 0 ∷ []
-    → Does g g′ (say (puts (part at q t))) → Does g g′ (holeOf m)
-unfolding holeOf
-hole-written t m at q b e h d =
-    does-as d
-    (ap (λ (x : ℕ). say (puts (part at x t))) e ∙ ap (λ (bs : List ℕ). say (puts bs)) h ∙ when-yes (say (does (put 0) ∷ [])) _ _ _ b refl)
+module _ (t : List ℕ) (m at : ℕ) where
+  pub hole-written : {g g′ : Going} (q : ℕ) → eqb m 1 || eqb m 16 ≡ true → q ≡ onward t at 1 → Runs g g′ (puts (part at q t)) → Runs g g′ (holeDeeds t m at)
+  unfolding holeDeeds
+  hole-written q b e d = runs-as d (ap (λ (x : ℕ). puts (part at x t)) e ∙ when-yes (puts (part at (onward t at 1) t)) _ _ _ b refl)
 
-pub hole-passed : {g g′ : Going} (m : ℕ) → (m ≡ 1 → ⊥) → (m ≡ 16 → ⊥) → g′ ≡ g → Does g g′ (holeOf m)
-unfolding holeOf
-hole-passed m a b e = rw (ne-eqb m 1 a, ne-eqb m 16 b) (does-same e)
+  pub hole-passed : {g g′ : Going} → (m ≡ 1 → ⊥) → (m ≡ 16 → ⊥) → g′ ≡ g → Runs g g′ (holeDeeds t m at)
+  unfolding holeDeeds
+  hole-passed {g = g} {g′ = g′} a b e = rw (ne-eqb m 1 a, ne-eqb m 16 b, e) runs-none
+
+  -- where the byte is 0
+  pub does-hole : {g g′ : Going} → Runs g g′ (holeDeeds t m at) → part at (onward t at 1) t ≡ 0 ∷ [] → Does g g′ (holeOf m)
+  unfolding holeDeeds holeOf
+  does-hole e h = does-as (runs-does e) (go (eqb m 1 || eqb m 16))
+    where
+      go : (b : Bool) → say (cond b (puts (part at (onward t at 1) t)) []) ≡ cond b (say (does (put 0) ∷ [])) (say [])
+      go true = ap (λ (bs : List ℕ). say (puts bs)) h
+      go false = refl
 
 -- ---- sources
 
@@ -90,41 +95,53 @@ unfolding reads readOf
 cell-read t left at cell stem = refl
 
 pub source-copied : {g h h′ g′ : Going} (t : List ℕ) (b : ReferenceBuilder) (r : Read) (left p q x : ℕ) → r ≡ readOf b → r ≡ Expression left p → h ≡ g → x ≡ p → q ≡ lookNode t left p .next
-    → Does h h′ (say (puts (part x q t))) → g′ ≡ h′ → Does g g′ (sourceOf t b)
+    → Runs h h′ (puts (part x q t)) → g′ ≡ h′ → Runs g g′ (reads t (readOf b))
 unfolding reads
 source-copied t b r left p q x a e i f w d j =
-    does-as (does-between i j d)
-    (ap (λ (y : ℕ). say (puts (part y q t))) f ∙ ap (λ (y : ℕ). say (puts (part p y t))) w ∙ ap (reads t) (sym e ∙ a))
+    runs-as (runs-between i j d)
+    (ap (λ (y : ℕ). puts (part y q t)) f ∙ ap (λ (y : ℕ). puts (part p y t)) w ∙ ap (reads t) (sym e ∙ a))
 
-pub source-written : {g g′ : Going} (t : List ℕ) (b : ReferenceBuilder) (r : Read) (cell stem : ℕ) → r ≡ readOf b → r ≡ Temporary cell stem → Does g g′ (say (does (temporary cell stem) ∷ [])) → Does g g′ (sourceOf t b)
+pub source-written : {g g′ : Going} (t : List ℕ) (b : ReferenceBuilder) (r : Read) (cell stem : ℕ) → r ≡ readOf b → r ≡ Temporary cell stem → Runs g g′ (does (temporary cell stem) ∷ []) → Runs g g′ (reads t (readOf b))
 unfolding reads
-source-written t b r cell stem a e d = does-as d (ap (reads t) (sym e ∙ a))
+source-written t b r cell stem a e d = runs-as d (ap (reads t) (sym e ∙ a))
 
 -- ---- a loop that awaits
 
 module _ (t : List ℕ) (at : ℕ) where
-  pub awaits-yes : {g g′ : Going} (k p m x q : ℕ) → Peeked t at k → k ≡ 8 → p ≡ onward t at 1 → Peeked t p m → m / 16 ≡ 1 → q ≡ onward t x 1
-      → Does g g′ (say (puts (part x q t))) → Does g g′ (say (puts (cond (awaits t at) (part x (onward t x 1) t) [])))
+  pub await-yes : (k p m : ℕ) → Peeked t at k → k ≡ 8 → p ≡ onward t at 1 → Peeked t p m → m / 16 ≡ 1 → awaits t at ≡ true
   unfolding awaits
-  awaits-yes k p m x q a e i f h w d =
+  await-yes k p m a e i f h =
       let u : eqb (byteAt t at) 8 ≡ true = eq-eqb (byteAt t at) 8 (sym (a .value) ∙ e) in
       let v : eqb (byteAt t (onward t at 1) / 16) 1 ≡ true = eq-eqb (byteAt t (onward t at 1) / 16) 1 (ap (λ (y : ℕ). byteAt t y / 16) (sym i) ∙ ap (λ (y : ℕ). y / 16) (sym (f .value)) ∙ h) in
-      does-as d (ap (λ (y : ℕ). say (puts (part x y t))) w ∙ rw (u, v) refl)
+      rw (u, v) refl
 
-  pub awaits-no : {g : Going} (k p m : ℕ) (bs : List ℕ) → Peeked t at k → p ≡ onward t at 1 → Peeked t p m → (m / 16 ≡ 1 → ⊥) → Does g g (say (puts (cond (awaits t at) bs [])))
+  pub await-no : (k p m : ℕ) → Peeked t at k → p ≡ onward t at 1 → Peeked t p m → (m / 16 ≡ 1 → ⊥) → awaits t at ≡ false
   unfolding awaits
-  awaits-no {g = g} k p m bs a i f h =
+  await-no k p m a i f h =
       let v : eqb (byteAt t (onward t at 1) / 16) 1 ≡ false =
       ne-eqb (byteAt t (onward t at 1) / 16) 1 (λ z. h (ap (λ (y : ℕ). y / 16) (f .value) ∙ ap (λ (y : ℕ). byteAt t y / 16) i ∙ z)) in
-      does-as (does-nothing g) (ap (λ (b : Bool). say (puts (cond b bs []))) (sym (and-false (eqb (byteAt t at) 8) _ v)))
+      and-false (eqb (byteAt t at) 8) _ v
     where
       and-false : (b c : Bool) → c ≡ false → b && c ≡ false
       and-false true c e = e
       and-false false c e = refl
 
-  pub awaits-other : {g : Going} (k : ℕ) (bs : List ℕ) → Peeked t at k → (k ≡ 8 → ⊥) → Does g g (say (puts (cond (awaits t at) bs [])))
+  pub await-other : (k : ℕ) → Peeked t at k → (k ≡ 8 → ⊥) → awaits t at ≡ false
   unfolding awaits
-  awaits-other {g = g} k bs a h = rw (ne-eqb (byteAt t at) 8 (λ z. h (a .value ∙ z))) (does-nothing g)
+  await-other k a h = rw (ne-eqb (byteAt t at) 8 (λ z. h (a .value ∙ z))) refl
+
+  -- the byte is copied and passed, or there is none
+  pub passes-byte : (x q r : ℕ) → awaits t at ≡ true → q ≡ onward t x 1 → r ≡ q → r ≡ cond (awaits t at) (onward t x 1) x
+  passes-byte x q r b w e = rw b (e ∙ w)
+
+  pub copies-byte : {g g′ : Going} (x q : ℕ) → awaits t at ≡ true → q ≡ onward t x 1 → Runs g g′ (puts (part x q t)) → Runs g g′ (puts (cond (awaits t at) (part x (onward t x 1) t) []))
+  copies-byte x q b w d = rw b (runs-as d (ap (λ (y : ℕ). puts (part x y t)) w))
+
+  pub passes-none : (x : ℕ) → awaits t at ≡ false → x ≡ cond (awaits t at) (onward t x 1) x
+  passes-none x b = rw b refl
+
+  pub copies-none : {g : Going} (x : ℕ) → awaits t at ≡ false → Runs g g (puts (cond (awaits t at) (part x (onward t x 1) t) []))
+  copies-none x b = rw b runs-none
 
 -- ---- keys as strings
 
@@ -359,16 +376,78 @@ module _ (t : List ℕ) (d at : ℕ) where
   pub no-string : {A : Type 0} (r k : Key) → Becomes t d at r → r ≡ k → keyClass here ≡ modes.asString → (classOf k ≡ modes.asString → ⊥) → A
   no-string r k b e h z = absurd (z (key-class t d at r k b e ∙ h))
 
--- the string is written
-pub string-written : {g g′ : Going} (t : List ℕ) (k : Node) (from n : ℕ) → Spelt t k from n → (n < 65536 → from + n ≤ length t → Does g g′ (say (puts (stringBytes (part from (from + n) t))))) → Does g g′ (say (puts (keyString k)))
-string-written t k from n s d = does-as (d (s .small) (s .within)) (ap (λ (bs : List ℕ). say (puts bs)) (s .string))
+-- the string that is written is the key's, where the key is good and written as one
+module _ (t : List ℕ) (d at : ℕ) (good : Good t d at) where
+  abbrev written : Node
+  written = lookNode t d at .value
 
--- a number's digits are
-pub number-written : {g g′ : Going} (t : List ℕ) (d at : ℕ) (r x : Key) → Becomes t d at r → r ≡ x → classOf x ≡ modes.asString → Does g g′ (say (puts (stringBytes (entryText t x)))) → Does g g′ (say (puts (keyString (lookNode t d at .value))))
-number-written t d at r x b e h k = does-as k (ap (λ (bs : List ℕ). say (puts bs)) (sym (string-is t d at r x b e h)))
+  spelt-whole : (from n : ℕ) → Spelt t written from n → stringAt t from n ≡ keyString written
+  spelt-whole from n s = string-whole t from n (s .small) (s .within) ∙ s .string
+
+  string-found : (x : Key) → keyAt t d at ≡ x → keyClass written ≡ modes.asString → stringOf t x ≡ keyString written
+  unfolding stringOf
+  string-found (Name p n) e h = spelt-whole p n (name-spelt t d at _ (becomes t d at _ refl) good p n e)
+  string-found (Literal p n) e h = spelt-whole p n (form-spelt t d at _ (becomes t d at _ refl) good p n e)
+  string-found (variants.Number v) e h = sym (string-is t d at _ _ (becomes t d at _ refl) e refl)
+  string-found (OtherForm v) e h = sym (string-is t d at _ _ (becomes t d at _ refl) e refl)
+  string-found NoForm e h = spelt-whole 0 0 (bare-spelt t d at _ (becomes t d at _ refl) good e)
+  string-found Template e h = no-string t d at _ _ (becomes t d at _ refl) e h (λ z. omega arith)
+  string-found Private e h = no-string t d at _ _ (becomes t d at _ refl) e h (λ z. omega arith)
+  string-found Again e h = no-string t d at _ _ (becomes t d at _ refl) e h (λ z. omega arith)
+  string-found Other e h = no-string t d at _ _ (becomes t d at _ refl) e h (λ z. omega arith)
+
+pub does-string : {g g′ : Going} (t : List ℕ) (d at : ℕ) → Runs g g′ (puts (stringOf t (keyAt t d at))) → Good t d at → keyClass (lookNode t d at .value) ≡ modes.asString
+    → Does g g′ (say (puts (keyString (lookNode t d at .value))))
+does-string t d at e good h = runs-does (runs-as e (ap puts (string-found t d at good (keyAt t d at) refl h)))
+
+-- a key's string, by what the key becomes
+module _ {g g′ : Going} (t : List ℕ) (d at : ℕ) (r : Key) (b : Becomes t d at r) where
+  pub writes-key : (x : Key) → r ≡ x → Runs g g′ (puts (stringOf t x)) → Runs g g′ (puts (stringOf t (keyAt t d at)))
+  writes-key x e k = runs-as k (ap (λ (y : Key). puts (stringOf t y)) (sym e ∙ b .variant))
+
+  pub writes-name : (from n : ℕ) → r ≡ Name from n → Runs g g′ (puts (stringAt t from n)) → Runs g g′ (puts (stringOf t (keyAt t d at)))
+  unfolding stringOf
+  writes-name from n e k = writes-key (Name from n) e k
+
+  pub writes-form : (from n : ℕ) → r ≡ Literal from n → Runs g g′ (puts (stringAt t from n)) → Runs g g′ (puts (stringOf t (keyAt t d at)))
+  unfolding stringOf
+  writes-form from n e k = writes-key (Literal from n) e k
+
+  pub writes-number : (v : ℕ) → r ≡ variants.Number v → Runs g g′ (puts (stringBytes (digitsOf v))) → Runs g g′ (puts (stringOf t (keyAt t d at)))
+  unfolding stringOf
+  writes-number v e k = writes-key (variants.Number v) e k
+
+  pub writes-other : (v : ℕ) → r ≡ OtherForm v → Runs g g′ (puts (stringBytes (digitsOf v))) → Runs g g′ (puts (stringOf t (keyAt t d at)))
+  unfolding stringOf
+  writes-other v e k = writes-key (OtherForm v) e k
+
+  pub writes-none : r ≡ NoForm → Runs g g′ (puts (stringAt t 0 0)) → Runs g g′ (puts (stringOf t (keyAt t d at)))
+  unfolding stringOf
+  writes-none e k = writes-key NoForm e k
+
+-- what is not written as a string
+pub writes-nothing : {g : Going} (t : List ℕ) (d at : ℕ) (r x : Key) → Becomes t d at r → r ≡ x → stringOf t x ≡ [] → Runs g g (puts (stringOf t (keyAt t d at)))
+writes-nothing t d at r x b e h = runs-as runs-none (ap puts (sym h ∙ ap (stringOf t) (sym e ∙ b .variant)))
+
+module _ (t : List ℕ) where
+  pub no-template : stringOf t Template ≡ []
+  unfolding stringOf
+  no-template = refl
+
+  pub no-private : stringOf t Private ≡ []
+  unfolding stringOf
+  no-private = refl
+
+  pub no-again : stringOf t Again ≡ []
+  unfolding stringOf
+  no-again = refl
+
+  pub no-other : stringOf t Other ≡ []
+  unfolding stringOf
+  no-other = refl
 
 -- the digits at the end of an array
-pub digits-part : (v from : ℕ) (bs : List ℕ) → length bs ≡ 20 → from ≤ 20 → drop from bs ≡ digitsOf v → part from (from + (20 - from)) bs ≡ digitsOf v
+digits-part : (v from : ℕ) (bs : List ℕ) → length bs ≡ 20 → from ≤ 20 → drop from bs ≡ digitsOf v → part from (from + (20 - from)) bs ≡ digitsOf v
 unfolding part
 digits-part v from bs l h e =
     let z : from + (20 - from) ≡ 20 = omega arith in
@@ -376,8 +455,11 @@ digits-part v from bs l h e =
 
 -- so a string of them is written
 module _ (v from : ℕ) (bs : List ℕ) (l : length bs ≡ 20) (h : from ≤ 20) (e : drop from bs ≡ digitsOf v) where
-  pub digits-put : {g g′ : Going} → (20 - from < 65536 → from + (20 - from) ≤ length bs → Does g g′ (say (puts (stringBytes (part from (from + (20 - from)) bs))))) → Does g g′ (say (puts (stringBytes (digitsOf v))))
-  digits-put k = does-as (k (omega arith) (omega arith)) (ap (λ (x : List ℕ). say (puts (stringBytes x))) (digits-part v from bs l h e))
+  digits-string : stringAt bs from (20 - from) ≡ stringBytes (digitsOf v)
+  digits-string = string-whole bs from (20 - from) (omega arith) (omega arith) ∙ ap stringBytes (digits-part v from bs l h e)
 
-  pub digits-excluded : {g g′ : Going} → (20 - from < 65536 → from + (20 - from) ≤ length bs → Does g g′ (say (excludes (stringBytes (part from (from + (20 - from)) bs))))) → Does g g′ (say (excludes (stringBytes (digitsOf v))))
-  digits-excluded k = does-as (k (omega arith) (omega arith)) (ap (λ (x : List ℕ). say (excludes (stringBytes x))) (digits-part v from bs l h e))
+  pub digits-put : {g g′ : Going} → Runs g g′ (puts (stringAt bs from (20 - from))) → Runs g g′ (puts (stringBytes (digitsOf v)))
+  digits-put k = runs-as k (ap puts digits-string)
+
+  pub digits-excluded : {g g′ : Going} → Runs g g′ (excludes (stringAt bs from (20 - from))) → Runs g g′ (excludes (stringBytes (digitsOf v)))
+  digits-excluded k = runs-as k (ap excludes digits-string)

@@ -3,7 +3,7 @@
 use mathlib.Core.Path.{_≡_, refl, sym, ap, _∙_}
 use mathlib.Core.Bool.{Bool, true, false, cond}
 use mathlib.Core.List.{List}
-use Prim.Native.Nat.{ℕ, _+_, _-_, _<_, _≤_}
+use Prim.Native.Nat.{ℕ, zero, suc, _+_, _-_, _<_, _≤_}
 use native.Mathlib.Omega.{arith}
 use native.Mathlib.Decide.{decLt}
 use lib.Dec.{eqb}
@@ -13,7 +13,7 @@ use Rattle.tree.specs.Tree.Node.{node}
 use Rattle.tree.specs.Tree.Fields.{done}
 use Rattle.tree.specs.Tree.Items.{none}
 use Rattle.tree.specs.Read.{byteAt}
-use Rattle.tree.specs.Look.{lookItem, lookNode}
+use Rattle.tree.specs.Look.{lookItem, lookItems, lookNode}
 use Rattle.lowering.specs.Parts.{nothing, only, itemsAt, pieceIn, gather}
 use Rattle.lowering.specs.Patterns.{shape, properties, itemsOf, hasRest, leftOf, value}
 use Rattle.lowering.specs.Patterns.Shape.{objectPattern, arrayPattern, default, leaf}
@@ -27,11 +27,12 @@ use Rattle.pattern.proofs.Below.{gather-values, gather-free, node-free}
 use Rattle.pattern.proofs.Searches.{leaf-shape}
 use Rattle.pattern.proofs.CappedSums.{numbers, Adds, sumOf, listSum, sum-start, sum-more, sum-end, item-place}
 use Rattle.pattern.proofs.MovesCounted.{count-sum}
+use Rattle.pattern.proofs.CountsFit.{limited-below}
 use Rattle.direct.specs.Objects.{Reach, counts, enters, reachedAt, reached, reachedIn}
 use Rattle.direct.specs.Objects.Reach.{anywhere, straight, inArrays}
 use Rattle.direct.proofs.Reached.{reached-nothing, reached-levels}
 use Rattle.walk.specs.Modes as modes
-use Rattle.walk.specs.Turns.{reachOf}
+use Rattle.walk.specs.Turns.{reachOf, valuesCount}
 
 -- ---- one level
 
@@ -112,29 +113,38 @@ module _ (l : List ℕ) (r : Reach) where
   pub count-none : (d at : ℕ) → d ≡ 0 → 0 ≡ places r (lookNode l d at .value)
   count-none d at z = sym (ap (places r) (no-levels l d at z) ∙ places-blank r at ∙ places-nothing r)
 
-  pub inside-none : (d at : ℕ) → d ≡ 0 → 0 ≡ limited (count (reachedIn r (lookNode l d at .value)))
-  unfolding itemsAt pieceIn gather limited count
-  inside-none d at z = sym (ap (λ (n : Node). limited (count (reachedIn r n))) (no-levels l d at z) ∙ go at)
-    where
-      go : (at : ℕ) → limited (count (reachedIn r (node at 0 done))) ≡ 0
-      go at = refl
+  pub inside-none : (d at : ℕ) → d ≡ 0 → 0 ≡ valuesCount l r d at
+  unfolding valuesCount partAt runOf lookItems gather limited count
+  inside-none zero at z = refl
+  inside-none (suc d) at z = absurd (omega arith)
 
   -- what is left to be counted of the values of an object
   abbrev pub ValuesLeft : ℕ → ℕ → ℕ → ℕ → ℕ → ℕ → Type 0
-  ValuesLeft d at e n p t = Adds numbers t (listSum numbers l (λ q. places r (value q)) e false n p) (limited (count (reachedIn r (lookNode l d at .value))))
+  ValuesLeft d at e n p t = Adds numbers t (listSum numbers l (λ q. places r (value q)) e false n p) (valuesCount l r d at)
 
   pub values-more : (d at e n p q t x u : ℕ) (s : Place) → 0 < n → s ≡ placeOf e p (partAt l e p 1) → x ≡ places r (nodeHere l s) → q ≡ lookNode l e p .next → u ≡ limited (t + x) → ValuesLeft d at e n p t → ValuesLeft d at e (n - 1) q u
   unfolding lookItem
   values-more d at e n p q t x u s z f y g v w =
       sum-more numbers l (λ q. places r (value q)) e false n p q t x u _ z (y ∙ child-is l (places r) (places-blank r) e p 1 s f) g v w
 
-  pub values-end : (d at e n p t : ℕ) → n ≤ 0 → ValuesLeft d at e n p t → t ≡ limited (count (reachedIn r (lookNode l d at .value)))
+  pub values-end : (d at e n p t : ℕ) → n ≤ 0 → ValuesLeft d at e n p t → t ≡ valuesCount l r d at
   values-end d at e n p t z w = sum-end numbers l (λ q. places r (value q)) e false n p t _ z w
 
-  pub values-start : (d at : ℕ) (run : Run) → byteAt l at ≡ 34 → run ≡ runOf at (partAt l d at 0) → ValuesLeft d at (d - 1) (run .count) (run .from) 0
-  values-start d at run k w =
+  pub values-start : (d at : ℕ) (run : Run) → run ≡ runOf at (partAt l d at 0) → ValuesLeft d at (d - 1) (run .count) (run .from) 0
+  unfolding valuesCount
+  values-start d at run w =
       sum-start numbers l (λ q. places r (value q)) (d - 1) false (run .count) (run .from) 0 _ refl
-      (ap (sumOf numbers (λ q. places r (value q))) (object-list l d at run k w) ∙ count-sum (λ q. reached r (value q)) (properties (lookNode l d at .value)))
+      (count-sum (λ q. reached r (value q)) (lookItems l (lookNode l (d - 1)) false (run .count) (run .from) .value)
+      ∙ ap (λ (x : Run). limited (count (gather (λ q. reached r (value q)) (lookItems l (lookNode l (d - 1)) false (x .count) (x .from) .value)))) w)
+
+  -- of an object they are its values
+  pub values-object : (d at : ℕ) → byteAt l at ≡ 34 → valuesCount l r d at ≡ limited (count (reachedIn r (lookNode l d at .value)))
+  unfolding valuesCount
+  values-object d at k = ap (λ (is : Items). limited (count (gather (λ q. reached r (value q)) is))) (object-list l d at (runOf at (partAt l d at 0)) k refl)
+
+  pub values-below : (d at n : ℕ) → n ≡ valuesCount l r d at → n ≤ 65536
+  unfolding valuesCount
+  values-below d at n e = limited-below n _ e
 
   -- and of the items of an array
   abbrev pub ItemsLeft : ℕ → ℕ → ℕ → ℕ → ℕ → ℕ → Type 0

@@ -24,6 +24,11 @@ met r [] = r
 met r (does e ∷ ds) = met r ds
 met r (refuses n ∷ ds) = met (cond (eqb r 0) n r) ds
 
+-- from g to g′ by deeds that go by no mark, to the last byte: their events in turn, and the first refusal
+pub record Runs (g g′ : Going) (ds : List Deed) : Type 0 where
+  pub refusal : g′ .refusal ≡ met (g .refusal) ds
+  pub output : g′ .state ≡ steps (g .state) (eventsIn ds)
+
 -- the tree is longer than it may be, so no byte of it will be handed back
 abbrev pub Full : State → Type 0
 Full s = treeLimit < s .sink .tree

@@ -4,30 +4,36 @@ use mathlib.Core.Path.{_≡_}
 use mathlib.Core.Bool.{Bool, true, false, cond, not, _&&_, _||_}
 use mathlib.Core.List.{List, [], _∷_, _++_}
 use mathlib.Core.Option.{Option, some}
-use lib.Dec.{eqb, leb}
-use Rattle.tree.specs.Tree.{Node, Items, wideBytes}
+use lib.Dec.{eqb, leb, ltb}
+use Rattle.tree.specs.Tree.{Node, Items, wideBytes, count}
 use Rattle.tree.specs.Tree.Items.{none, hole, item}
-use Rattle.tree.specs.Read.{byteAt}
-use Rattle.tree.specs.Look.{Seen, onward, lookNode}
-use Rattle.lowering.specs.Parts.{is}
+use Rattle.tree.specs.Read.{byteAt, wideAt}
+use Rattle.tree.specs.Look.{Seen, onward, lookItems, lookNode}
+use Rattle.lowering.specs.Parts.{is, any, gather}
 use Rattle.lowering.specs.Made as made
 use Rattle.lowering.specs.Patterns.{value, hasArrayRestOverObjectRest}
 use Rattle.lowering.specs.Heads.{movedFrom}
 use Rattle.lowering.specs.Keys.{keySort, entryOf, keyText}
+use Rattle.lowering.specs.Numbers.{digitsOf}
 use Rattle.lowering.proofs.All.{AllItems}
 use Rattle.sink.specs.Machine.{part}
 use Rattle.sink.specs.Machine.Event.{put, temporary, newMark}
 use Rattle.pattern.specs.declared.source.Read.{Read}
 use Rattle.pattern.specs.declared.source.Read.the-variants.{Expression, Temporary}
 use Rattle.pattern.specs.declared.source.ReferenceBuilder.{ReferenceBuilder}
+use Rattle.pattern.specs.declared.keys.Key.{Key}
+use Rattle.pattern.specs.declared.keys.Key.the-variants.{Name, Literal, Number, OtherForm, NoForm, Template, Private, Again, Other}
+use Rattle.pattern.specs.Parts.{partAt, runOf}
+use Rattle.pattern.specs.Tally.{limited}
 use Rattle.pattern.specs.Source.{readOf}
-use Rattle.direct.specs.Events.{Deed, Place, Emit, puts, excludes, emits}
+use Rattle.direct.specs.Events.{Deed, Place, Emit, puts, excludes, cell, emits}
 use Rattle.direct.specs.Events.Deed.{does, refuses}
 use Rattle.direct.specs.Emit.{say, _▷_}
 use Rattle.direct.specs.Views.{View, emitsView, emitsProperty}
 use Rattle.direct.specs.Views.View.{replacing, taking}
+use Rattle.direct.specs.Literals.{isSpread}
 use Rattle.direct.specs.Keys.{stringBytes, emitsExcluded}
-use Rattle.direct.specs.Objects.{Reach, overObjects, overReached}
+use Rattle.direct.specs.Objects.{Reach, reached, overObjects, overReached}
 use Rattle.direct.specs.Objects.Reach.{anywhere, straight, inArrays}
 use Rattle.direct.specs.Handed.{placeMade, keyMade, keysMade, keyBytes, excludesOf, handsKey}
 use Rattle.direct.specs.Declared.{emitsKeyValue, emitsFound, emitsDeclarator}
@@ -105,7 +111,11 @@ suits mode n =
     (cond (eqb mode modes.valueAnywhere || (eqb mode modes.valueInArrays || eqb mode modes.valueStraight)) (is 35 n && not (hasArrayRestOverObjectRest (value n)))
     (cond (eqb mode modes.declarator) (is 5 n) (cond (eqb mode modes.binding) (is 15 n || is 5 n) false)))))
 
--- a hole is written where the list is
+-- a hole is written where the list is: the byte that stands for it is copied
+unfoldable pub holeDeeds : List ℕ → ℕ → ℕ → List Deed
+holeDeeds tree mode at = cond (eqb mode modes.viewed || eqb mode modes.movedOut) (puts (part at (onward tree at 1) tree)) []
+
+-- where that byte is 0
 unfoldable pub holeOf : ℕ → Emit
 holeOf mode = cond (eqb mode modes.viewed || eqb mode modes.movedOut) (say (does (put 0) ∷ [])) (say [])
 
@@ -118,14 +128,18 @@ abbrev pub AllSuit : ℕ → Items → Type 0
 AllSuit mode ns = AllItems (λ n. suits mode n ≡ true) ns
 
 -- ---- sources: an expression is copied, a temporary is written
-unfoldable pub reads : List ℕ → Read → Emit
-reads tree (Expression left at) = say (puts (part at (lookNode tree left at .next) tree))
-reads tree (Temporary c stem) = say (does (temporary c stem) ∷ [])
+unfoldable pub reads : List ℕ → Read → List Deed
+reads tree (Expression left at) = puts (part at (lookNode tree left at .next) tree)
+reads tree (Temporary c stem) = does (temporary c stem) ∷ []
 
 abbrev pub sourceOf : List ℕ → ReferenceBuilder → Emit
-sourceOf tree b = reads tree (readOf b)
+sourceOf tree b = say (reads tree (readOf b))
 
 -- ---- what is looked up
+
+-- the bytes of a string: its length, and as many bytes of the slice as there are from a position on
+abbrev pub stringAt : List ℕ → ℕ → ℕ → List ℕ
+stringAt t from n = 22 ∷ 7 ∷ 1 ∷ 0 ∷ 0 ∷ wideBytes (n % 65536) ++ part from (onward t from n) t
 
 -- how a key is written among the excluded keys
 unfoldable pub keyClass : Node → ℕ
@@ -133,6 +147,45 @@ keyClass k = elim (entryOf (keySort k)) [ spelt ↦ modes.asString | itself ↦ 
 
 unfoldable pub keyString : Node → List ℕ
 keyString k = elim (entryOf (keySort k)) [ spelt ↦ stringBytes (keyText k) | itself ↦ [] | omitted ↦ [] | saved ↦ [] ]
+
+-- the string of a key: its bytes in the slice, or its digits; nothing for what has none
+unfoldable pub stringOf : List ℕ → Key → List ℕ
+stringOf tree (Name from n) = stringAt tree from n
+stringOf tree (Literal from n) = stringAt tree from n
+stringOf tree (Number v) = stringBytes (digitsOf v)
+stringOf tree (OtherForm v) = stringBytes (digitsOf v)
+stringOf tree NoForm = stringAt tree 0 0
+stringOf tree Template = []
+stringOf tree Private = []
+stringOf tree Again = []
+stringOf tree Other = []
+
+-- the cell of a temporary; a position past the longest tree is left as it stands
+unfoldable pub cellAt : ℕ → ℕ → ℕ
+cellAt stem at = cond (ltb at 16384) (cell stem at) at
+
+-- whether the node at a position has a spread in the list that stands first
+unfoldable pub spreadAt : List ℕ → ℕ → ℕ → Bool
+spreadAt tree zero at = false
+spreadAt tree (suc d) at =
+    eqb (byteAt tree (onward tree at 1) % 2) 1
+    && any isSpread (lookItems tree (lookNode tree d) false (wideAt tree (onward tree at 2)) (onward tree (onward tree at 2) 2) .value)
+
+-- two objects, the second of n properties, if there are any
+unfoldable pub pendingDeeds : ℕ → List Deed
+pendingDeeds n = cond (eqb n 0) [] (puts (24 ∷ 1 ∷ 0 ∷ 0 ∷ 24 ∷ 1 ∷ wideBytes (n % 65536)))
+
+-- how many objects with rest are reached below the values of the list that field 0 of the node at a position holds
+unfoldable pub valuesCount : List ℕ → Reach → ℕ → ℕ → ℕ
+valuesCount tree r d at =
+    limited (count (gather (λ q. reached r (value q)) (lookItems tree (lookNode tree (d - 1)) false (runOf at (partAt tree d at 0) .count) (runOf at (partAt tree d at 0) .from) .value)))
+
+-- how many places the target at a position has in a view, and how long the sequence of an assignment to it is
+unfoldable pub placesAt : List ℕ → ℕ → ℕ → ℕ → ℕ
+placesAt tree v d at = cond (eqb v modes.takingView) (valuesCount tree inArrays d at) (limited (count (reached anywhere (lookNode tree d at .value))))
+
+unfoldable pub topAt : List ℕ → Bool → ℕ → ℕ → ℕ
+topAt tree statement d at = cond statement 3 4 + valuesCount tree straight d at
 
 -- the level of parameters or declarators
 abbrev pub levelOf : Bool → ℕ → ℕ

@@ -52,7 +52,7 @@ ghost use Rattle.direct.specs.Moved.{movedIn};
 ghost use Rattle.walk.specs.Run.{goingOf, Does};
 ghost use Rattle.walk.specs.Whole.{holeAt, GoodItems, Good};
 ghost use Rattle.walk.specs.Modes.{binding, replacingView, takingView};
-ghost use Rattle.walk.specs.Turns.{viewOf, valuesIn, suits, AllSuit, excludeMode, ownOf, overAll, keyOf};
+ghost use Rattle.walk.specs.Turns.{viewOf, valuesIn, suits, AllSuit, placesAt, topAt, excludeMode, ownOf, overAll, keyOf};
 
 // ---- over the objects of a pattern
 
@@ -627,7 +627,7 @@ pub fn nested_hands(
 
 // How many objects of a target the nested rule replaces.
 pub fn places_in(t: &[u8], left: usize, at: usize, v: usize) -> usize
-    ensures { λ r. ⌜ ((v ≡ takingView → byteAt (now (t .entry)) at ≡ 34) → r ≡ limited (placesIn (viewOf v) (lookNode (now (t .entry)) left at .value))) ⌝ }
+    ensures { λ r. ⌜ r ≡ placesAt (now (t .entry)) v left at ⌝ }
 {
     if v == views::TAKING {
         return object_count(t, left, at, reaches::IN_ARRAYS);
@@ -637,7 +637,7 @@ pub fn places_in(t: &[u8], left: usize, at: usize, v: usize) -> usize
 
 // How long the sequence of an assignment is.
 pub fn top_count(t: &[u8], left: usize, at: usize, statement: bool) -> usize
-    ensures { λ r. ⌜ (Good (now (t .entry)) left at → byteAt (now (t .entry)) at ≡ 34 → r ≡ suc (suc (suc (cond statement (partsCount (lookNode (now (t .entry)) left at .value)) (suc (partsCount (lookNode (now (t .entry)) left at .value))))))) × (r < 65541) ⌝ }
+    ensures { λ r. ⌜ r ≡ topAt (now (t .entry)) statement left at ⌝ }
 {
     let n = object_count(t, left, at, reaches::STRAIGHT);
     if statement {

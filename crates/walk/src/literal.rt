@@ -9,18 +9,17 @@ use tree::skip::skip;
 use tree::skip::skip_items;
 use tree::skip::step;
 ghost use mathlib.Core.Path.{_≡_};
-ghost use mathlib.Core.Bool.{true, false};
-ghost use mathlib.Core.List.{List, [], _∷_};
+ghost use mathlib.Core.Bool.{false};
+ghost use mathlib.Core.List.{List, _∷_, _++_};
 ghost use Rattle.tree.specs.Tree.{wideBytes};
-ghost use Rattle.lowering.specs.Parts.{any, itemsAt};
 ghost use Rattle.direct.specs.Events.{puts};
-ghost use Prim.Native.Nat.{ℕ, _%_, _<_};
+ghost use Prim.Native.Nat.{ℕ, _%_};
 ghost use lib.Dec.{eqb};
 ghost use Rattle.tree.specs.Read.{byteAt};
 ghost use Rattle.tree.specs.Look.{onward, lookItems, lookNode};
-ghost use Rattle.direct.specs.Emit.{say, _▷_};
-ghost use Rattle.direct.specs.Literals.{isSpread, modeNext, modeAfter, headAt, innerHeads, lastHead, heads, run, pendingHead};
-ghost use Rattle.walk.specs.Run.{goingOf, Does};
+ghost use Rattle.direct.specs.Literals.{isSpread, modeNext, modeAfter, headAt, innerHeads, lastHead, heads, run};
+ghost use Rattle.walk.specs.Run.{goingOf, Runs};
+ghost use Rattle.walk.specs.Turns.{spreadAt, pendingDeeds};
 
 pub fn is_spread(t: &[u8], left: usize, at: usize) -> bool
     ensures { λ r. ⌜ r ≡ isSpread (lookNode (now (t .entry)) left at .value) ⌝ }
@@ -86,7 +85,7 @@ pub fn mode_after(t: &[u8], left: usize, count: usize, at: usize, mode: usize) -
 
 // The head of the call that a spread ends.
 pub fn head_at(w: Walk, t: &[u8], out: &mut [u8], left: usize, at: usize, mode: usize) -> Walk
-    ensures { λ r. ⌜ ((l k : List ℕ) → Does (goingOf (now (out .entry)) l k w) (goingOf (now (out .exit)) l k r) (say (headAt mode (lookNode (now (t .entry)) left at .value)))) × (r .at ≡ w .at) ⌝ }
+    ensures { λ r. ⌜ ((l k : List ℕ) → Runs (goingOf (now (out .entry)) l k w) (goingOf (now (out .exit)) l k r) (headAt mode (lookNode (now (t .entry)) left at .value))) × (r .at ≡ w .at) ⌝ }
 {
     if is_spread(t, left, at) {
         if mode == SOME_PENDING {
@@ -107,7 +106,7 @@ pub fn inner_heads(
     at: usize,
     mode: usize,
 ) -> Walk
-    ensures { λ r. ⌜ ((l k : List ℕ) → Does (goingOf (now (out .entry)) l k w) (goingOf (now (out .exit)) l k r) (say (innerHeads mode (lookItems (now (t .entry)) (lookNode (now (t .entry)) left) false n at .value)))) × (r .at ≡ w .at) ⌝ }
+    ensures { λ r. ⌜ ((l k : List ℕ) → Runs (goingOf (now (out .entry)) l k w) (goingOf (now (out .exit)) l k r) (innerHeads mode (lookItems (now (t .entry)) (lookNode (now (t .entry)) left) false n at .value))) × (r .at ≡ w .at) ⌝ }
 {
     if n == 0 {
         return w;
@@ -132,7 +131,7 @@ pub fn all_heads(
     at: usize,
     mode: usize,
 ) -> Walk
-    ensures { λ r. ⌜ ((l k : List ℕ) → Does (goingOf (now (out .entry)) l k w) (goingOf (now (out .exit)) l k r) (say (heads mode (lookItems (now (t .entry)) (lookNode (now (t .entry)) left) false n at .value)))) × (r .at ≡ w .at) ⌝ }
+    ensures { λ r. ⌜ ((l k : List ℕ) → Runs (goingOf (now (out .entry)) l k w) (goingOf (now (out .exit)) l k r) (heads mode (lookItems (now (t .entry)) (lookNode (now (t .entry)) left) false n at .value))) × (r .at ≡ w .at) ⌝ }
 {
     let m = mode_after(t, left, n, at, mode);
     if m == SOME_PENDING {
@@ -151,7 +150,7 @@ pub fn all_heads(
 
 // Two objects, the second of r properties, if there are any.
 pub fn pending(w: Walk, out: &mut [u8], n: usize) -> Walk
-    ensures { λ r. ⌜ ((l k : List ℕ) → n < 65536 → Does (goingOf (now (out .entry)) l k w) (goingOf (now (out .exit)) l k r) (say (pendingHead n))) × (r .at ≡ w .at) ⌝ }
+    ensures { λ r. ⌜ ((l k : List ℕ) → Runs (goingOf (now (out .entry)) l k w) (goingOf (now (out .exit)) l k r) (pendingDeeds n)) × (r .at ≡ w .at) ⌝ }
 {
     if n == 0 {
         return w;
@@ -172,7 +171,7 @@ pub fn has_first(t: &[u8], at: usize) -> bool
 
 // The heads of the calls, and the head of the object that they begin with.
 pub fn opening(w: Walk, t: &[u8], out: &mut [u8], left: usize, n: usize, at: usize) -> Walk
-    ensures { λ r. ⌜ ((l k : List ℕ) → n < 65536 → Does (goingOf (now (out .entry)) l k w) (goingOf (now (out .exit)) l k r) (say (heads 0 (lookItems (now (t .entry)) (lookNode (now (t .entry)) left) false n at .value)) ▷ say (puts (24 ∷ 1 ∷ wideBytes (run (lookItems (now (t .entry)) (lookNode (now (t .entry)) left) false n at .value)))))) × (r .at ≡ w .at) ⌝ }
+    ensures { λ r. ⌜ ((l k : List ℕ) → Runs (goingOf (now (out .entry)) l k w) (goingOf (now (out .exit)) l k r) (heads 0 (lookItems (now (t .entry)) (lookNode (now (t .entry)) left) false n at .value) ++ puts (24 ∷ 1 ∷ wideBytes (run (lookItems (now (t .entry)) (lookNode (now (t .entry)) left) false n at .value) % 65536)))) × (r .at ≡ w .at) ⌝ }
 {
     let k = run_of(t, left, n, at);
     all_heads(w, t, out, left, n, at, NO_CALL)
@@ -180,9 +179,9 @@ pub fn opening(w: Walk, t: &[u8], out: &mut [u8], left: usize, n: usize, at: usi
         .wide(out, k)
 }
 
-// Whether the literal at a position has a spread.
+// Whether the literal at a position has a spread. Of another node: whether the list that stands first has.
 pub fn has_spread(t: &[u8], left: usize, at: usize) -> bool
-    ensures { λ r. ⌜ (r ≡ true → 0 < left) × (byteAt (now (t .entry)) at ≡ 24 → r ≡ any isSpread (itemsAt 0 (lookNode (now (t .entry)) left at .value))) ⌝ }
+    ensures { λ r. ⌜ r ≡ spreadAt (now (t .entry)) left at ⌝ }
 {
     if left == 0 {
         return false;

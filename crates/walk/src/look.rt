@@ -14,7 +14,7 @@ use tree::skip::skip;
 use tree::skip::step;
 ghost use mathlib.Core.Path.{_≡_};
 ghost use mathlib.Core.Bool.{Bool, true, false, not};
-ghost use Prim.Native.Nat.{ℕ, _/_, _%_, _<_, _≤_};
+ghost use Prim.Native.Nat.{ℕ, _/_, _%_, _≤_};
 ghost use lib.Dec.{eqb};
 ghost use Rattle.tree.specs.Read.{byteAt};
 ghost use Rattle.tree.specs.Look.{onward, lookItems, lookNode};
@@ -22,11 +22,10 @@ ghost use Rattle.lowering.specs.Parts.{gather};
 ghost use Rattle.lowering.specs.Patterns.{properties};
 ghost use Rattle.lowering.specs.Heads.{movedFrom};
 ghost use Rattle.pattern.specs.Tally.{limited};
-ghost use Rattle.direct.specs.Events as events;
 ghost use Rattle.direct.specs.Views.{isOther, takes};
 ghost use Rattle.direct.specs.Keys.{hoists};
 ghost use Rattle.direct.specs.Moved.{number};
-ghost use Rattle.walk.specs.Turns.{viewOf, propertyMode, valueMode, itemMode, keyClass, levelOf, startOf, startValue};
+ghost use Rattle.walk.specs.Turns.{viewOf, propertyMode, valueMode, itemMode, keyClass, levelOf, startOf, startValue, cellAt};
 
 // The first bit of the bit map of the node at a position, and the second.
 pub fn first_bit(t: &[u8], at: usize) -> usize
@@ -103,7 +102,7 @@ pub fn level(left: usize, inner: bool) -> usize
 
 // The cell of a temporary.
 pub fn cell(stem: u8, at: usize) -> usize
-    ensures { λ r. ⌜ (at < 16384 → 0 < stem → stem < 5 → r ≡ events.cell stem at) ⌝ }
+    ensures { λ r. ⌜ r ≡ cellAt stem at ⌝ }
 {
     if at < 16384 {
         if stem == stems::EXCLUDED {

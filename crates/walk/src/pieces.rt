@@ -10,23 +10,23 @@ use tree::bytes::peek;
 use tree::skip::skip;
 use tree::skip::step;
 ghost use mathlib.Core.Path.{_≡_};
-ghost use mathlib.Core.Bool.{true, false, cond};
+ghost use mathlib.Core.Bool.{cond};
 ghost use mathlib.Core.List.{List, [], _∷_};
-ghost use Prim.Native.Nat.{ℕ, _-_};
-ghost use Rattle.tree.specs.Look.{onward, lookNode};
+ghost use Prim.Native.Nat.{ℕ};
+ghost use Rattle.tree.specs.Look.{onward};
+ghost use Rattle.pattern.specs.Keys.{keyAt};
+ghost use Rattle.pattern.specs.Source.{readOf};
 ghost use Rattle.sink.specs.Machine.{part};
 ghost use Rattle.sink.specs.Machine.Event.{temporary};
 ghost use Rattle.direct.specs.Events.{puts};
 ghost use Rattle.direct.specs.Events.Deed.{does};
 ghost use Rattle.direct.specs.Emit.{say};
-ghost use Rattle.walk.specs.Run.{goingOf, Does};
-ghost use Rattle.walk.specs.Whole.{Good};
-ghost use Rattle.walk.specs.Modes.{asString};
-ghost use Rattle.walk.specs.Turns.{holeOf, sourceOf, keyClass, keyString, awaits};
+ghost use Rattle.walk.specs.Run.{goingOf, Runs};
+ghost use Rattle.walk.specs.Turns.{holeDeeds, reads, sourceOf, stringOf, awaits};
 
 // A hole of a list, written where the list is.
 pub fn hole(w: Walk, t: &[u8], out: &mut [u8], mode: usize) -> Walk
-    ensures { λ r. ⌜ (r .at ≡ onward (now (t .entry)) (w .at) 1) × ((l k : List ℕ) → part (w .at) (onward (now (t .entry)) (w .at) 1) (now (t .entry)) ≡ 0 ∷ [] → Does (goingOf (now (out .entry)) l k w) (goingOf (now (out .exit)) l k r) (holeOf mode)) ⌝ }
+    ensures { λ r. ⌜ (r .at ≡ onward (now (t .entry)) (w .at) 1) × ((l k : List ℕ) → Runs (goingOf (now (out .entry)) l k w) (goingOf (now (out .exit)) l k r) (holeDeeds (now (t .entry)) mode (w .at))) ⌝ }
 {
     let q = step(t, w.at, 1);
     if mode == modes::VIEWED {
@@ -61,7 +61,7 @@ pub fn source(
     work: &mut [u8],
     b: ReferenceBuilder,
 ) -> Walk
-    ensures { λ r. ⌜ (r .at ≡ w .at) × Does (goingOf (now (out .entry)) (now (list .entry)) (now (work .entry)) w) (goingOf (now (out .exit)) (now (list .exit)) (now (work .exit)) r) (sourceOf (now (t .entry)) b) ⌝ }
+    ensures { λ r. ⌜ (r .at ≡ w .at) × (Runs (goingOf (now (out .entry)) (now (list .entry)) (now (work .entry)) w) (goingOf (now (out .exit)) (now (list .exit)) (now (work .exit)) r) (reads (now (t .entry)) (readOf b))) ⌝ }
 {
     let at = w.at;
     let taken = b.create_read_expression();
@@ -72,9 +72,9 @@ pub fn source(
     }
 }
 
-// A key as a string.
+// A key as a string; nothing for a key that is not written as one.
 pub fn string(w: Walk, t: &[u8], out: &mut [u8], left: usize, at: usize) -> Walk
-    ensures { λ r. ⌜ (r .at ≡ w .at) × ((l k : List ℕ) → Good (now (t .entry)) left at → keyClass (lookNode (now (t .entry)) left at .value) ≡ asString → Does (goingOf (now (out .entry)) l k w) (goingOf (now (out .exit)) l k r) (say (puts (keyString (lookNode (now (t .entry)) left at .value))))) ⌝ }
+    ensures { λ r. ⌜ (r .at ≡ w .at) × ((l k : List ℕ) → Runs (goingOf (now (out .entry)) l k w) (goingOf (now (out .exit)) l k r) (puts (stringOf (now (t .entry)) (keyAt (now (t .entry)) left at)))) ⌝ }
 {
     match transform_property_key(t, left, at) {
         Key::Name { from, len } => w.string(t, out, from, len),
@@ -91,7 +91,7 @@ pub fn string(w: Walk, t: &[u8], out: &mut [u8], left: usize, at: usize) -> Walk
 
 // The byte behind the body of a for-of loop that awaits.
 pub fn await_of(w: Walk, t: &[u8], out: &mut [u8], at: usize) -> Walk
-    ensures { λ r. ⌜ ((l k : List ℕ) → Does (goingOf (now (out .entry)) l k w) (goingOf (now (out .exit)) l k r) (say (puts (cond (awaits (now (t .entry)) at) (part (w .at) (onward (now (t .entry)) (w .at) 1) (now (t .entry))) [])))) ⌝ }
+    ensures { λ r. ⌜ (r .at ≡ cond (awaits (now (t .entry)) at) (onward (now (t .entry)) (w .at) 1) (w .at)) × ((l k : List ℕ) → Runs (goingOf (now (out .entry)) l k w) (goingOf (now (out .exit)) l k r) (puts (cond (awaits (now (t .entry)) at) (part (w .at) (onward (now (t .entry)) (w .at) 1) (now (t .entry))) []))) ⌝ }
 {
     let q = w.at;
     if peek(t, at) == kinds::FOR_OF {

@@ -28,7 +28,7 @@ ghost use Rattle.direct.specs.Objects.{counts, reached, reachedIn, overReached}
 ghost use Rattle.direct.specs.Handed.{handsPlace};
 ghost use Rattle.walk.specs.Run.{goingOf, Does};
 ghost use Rattle.walk.specs.Whole.{holeAt, Good};
-ghost use Rattle.walk.specs.Turns.{reachOf};
+ghost use Rattle.walk.specs.Turns.{reachOf, valuesCount};
 
 // ---- how many there are
 
@@ -84,7 +84,7 @@ fn found(reach: usize) -> usize
 
 // Below the values of the object at a position that may be patterns by their kind.
 pub fn object_count(t: &[u8], left: usize, at: usize, reach: usize) -> usize
-    ensures { λ r. ⌜ (byteAt (now (t .entry)) at ≡ 34 → r ≡ limited (count (reachedIn (reachOf reach) (lookNode (now (t .entry)) left at .value)))) × (r ≤ 65536) ⌝ }
+    ensures { λ r. ⌜ r ≡ valuesCount (now (t .entry)) (reachOf reach) left at ⌝ }
 {
     if left == 0 {
         return 0;

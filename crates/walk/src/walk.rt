@@ -8,19 +8,17 @@ ghost use mathlib.Core.Path.{_≡_};
 ghost use mathlib.Core.Bool.{cond, _&&_};
 ghost use mathlib.Core.List.{List, [], _∷_, _++_};
 ghost use lib.Dec.{ltb};
-ghost use Prim.Native.Nat.{ℕ, _+_, _<_, _≤_};
-ghost use lib.ListN.{length};
+ghost use Prim.Native.Nat.{ℕ, _%_};
 ghost use Rattle.tree.specs.Tree.{wideBytes};
 ghost use Rattle.lowering.specs.Numbers.{digitsOf};
 ghost use Rattle.sink.specs.Machine.{part, treeLimit};
 ghost use Rattle.sink.specs.Machine.Event.{helper, temporary, newMark, make, listedTemporary, entry, excludedTemporary, declarator};
 ghost use Rattle.direct.specs.Events.{puts, lists, excludes};
 ghost use Rattle.direct.specs.Events.Deed.{does, refuses};
-ghost use Rattle.direct.specs.Emit.{say, callHead};
+ghost use Rattle.direct.specs.Emit.{callHead};
 ghost use Rattle.direct.specs.Keys.{stringBytes};
-ghost use Rattle.direct.specs.Assigned.{assignHead};
-ghost use Rattle.walk.specs.Run.{goingOf, Does};
-ghost use Rattle.walk.specs.Turns.{declarationHead, blockHead};
+ghost use Rattle.walk.specs.Run.{goingOf, Runs};
+ghost use Rattle.walk.specs.Turns.{declarationHead, blockHead, stringAt};
 
 // The output, the position in the input, the first refusal (0 for none).
 pub struct Walk {
@@ -54,7 +52,7 @@ impl Walk {
     }
 
     pub fn put2(self, out: &mut [u8], a: u8, b: u8) -> Walk
-        ensures { λ r. ⌜ ((l w : List ℕ) → Does (goingOf (now (out .entry)) l w self) (goingOf (now (out .exit)) l w r) (say (puts (a ∷ b ∷ [])))) × (r .at ≡ self .at) ⌝ }
+        ensures { λ r. ⌜ ((l w : List ℕ) → Runs (goingOf (now (out .entry)) l w self) (goingOf (now (out .exit)) l w r) (puts (a ∷ b ∷ []))) × (r .at ≡ self .at) ⌝ }
     {
         let k = self.sink;
         Walk {
@@ -64,9 +62,9 @@ impl Walk {
         }
     }
 
-    // A 16-bit number.
+    // A 16-bit number: the low bits of n.
     pub fn wide(self, out: &mut [u8], n: usize) -> Walk
-        ensures { λ r. ⌜ ((l w : List ℕ) → n < 65536 → Does (goingOf (now (out .entry)) l w self) (goingOf (now (out .exit)) l w r) (say (puts (wideBytes n)))) × (r .at ≡ self .at) ⌝ }
+        ensures { λ r. ⌜ ((l w : List ℕ) → Runs (goingOf (now (out .entry)) l w self) (goingOf (now (out .exit)) l w r) (puts (wideBytes (n % 65536)))) × (r .at ≡ self .at) ⌝ }
     {
         let k = self.sink;
         Walk {
@@ -78,7 +76,7 @@ impl Walk {
 
     // The bytes of the input up to a position.
     pub fn copy(self, t: &[u8], out: &mut [u8], end: usize) -> Walk
-        ensures { λ r. ⌜ ((l w : List ℕ) → Does (goingOf (now (out .entry)) l w self) (goingOf (now (out .exit)) l w r) (say (puts (part (self .at) end (now (t .entry)))))) × (r .at ≡ end) ⌝ }
+        ensures { λ r. ⌜ ((l w : List ℕ) → Runs (goingOf (now (out .entry)) l w self) (goingOf (now (out .exit)) l w r) (puts (part (self .at) end (now (t .entry))))) × (r .at ≡ end) ⌝ }
     {
         let k = self.sink;
         Walk {
@@ -90,7 +88,7 @@ impl Walk {
 
     // The head of a call of helper h.
     pub fn call(self, out: &mut [u8], h: u8, args: usize) -> Walk
-        ensures { λ r. ⌜ ((l w : List ℕ) → args < 65536 → Does (goingOf (now (out .entry)) l w self) (goingOf (now (out .exit)) l w r) (say (callHead h args))) × (r .at ≡ self .at) ⌝ }
+        ensures { λ r. ⌜ ((l w : List ℕ) → Runs (goingOf (now (out .entry)) l w self) (goingOf (now (out .exit)) l w r) (callHead h (args % 65536))) × (r .at ≡ self .at) ⌝ }
     {
         let k = self.sink;
         Walk {
@@ -111,7 +109,7 @@ impl Walk {
         c: usize,
         stem: u8,
     ) -> Walk
-        ensures { λ r. ⌜ Does (goingOf (now (out .entry)) (now (list .entry)) (now (work .entry)) self) (goingOf (now (out .exit)) (now (list .exit)) (now (work .exit)) r) (say (does (temporary c stem) ∷ [])) × (r .at ≡ self .at) ⌝ }
+        ensures { λ r. ⌜ (Runs (goingOf (now (out .entry)) (now (list .entry)) (now (work .entry)) self) (goingOf (now (out .exit)) (now (list .exit)) (now (work .exit)) r) (does (temporary c stem) ∷ [])) × (r .at ≡ self .at) ⌝ }
     {
         let k = self.sink;
         Walk {
@@ -123,7 +121,7 @@ impl Walk {
 
     // A refusal, and the two bytes that stand for what is refused.
     pub fn refuse(self, out: &mut [u8], n: u8) -> Walk
-        ensures { λ r. ⌜ ((l w : List ℕ) → Does (goingOf (now (out .entry)) l w self) (goingOf (now (out .exit)) l w r) (say (refuses n ∷ puts (0 ∷ 0 ∷ [])))) × (r .at ≡ self .at) ⌝ }
+        ensures { λ r. ⌜ ((l w : List ℕ) → Runs (goingOf (now (out .entry)) l w self) (goingOf (now (out .exit)) l w r) (refuses n ∷ puts (0 ∷ 0 ∷ []))) × (r .at ≡ self .at) ⌝ }
     {
         let k = self.sink;
         let first = self.refusal;
@@ -150,7 +148,7 @@ impl Walk {
     }
 
     pub fn new_mark(self, out: &mut [u8]) -> Walk
-        ensures { λ r. ⌜ ((l w : List ℕ) → Does (goingOf (now (out .entry)) l w self) (goingOf (now (out .exit)) l w r) (say (does newMark ∷ []))) × (r .at ≡ self .at) ⌝ }
+        ensures { λ r. ⌜ ((l w : List ℕ) → Runs (goingOf (now (out .entry)) l w self) (goingOf (now (out .exit)) l w r) (does newMark ∷ [])) × (r .at ≡ self .at) ⌝ }
     {
         let k = self.sink;
         Walk {
@@ -162,15 +160,15 @@ impl Walk {
 
     // A temporary is made in a cell.
     pub fn make(self, work: &mut [u8], c: usize) -> Walk
-        ensures { λ r. ⌜ ((o l : List ℕ) → Does (goingOf o l (now (work .entry)) self) (goingOf o l (now (work .exit)) r) (say (does (make c) ∷ []))) × (r .at ≡ self .at) ⌝ }
+        ensures { λ r. ⌜ ((o l : List ℕ) → Runs (goingOf o l (now (work .entry)) self) (goingOf o l (now (work .exit)) r) (does (make c) ∷ [])) × (r .at ≡ self .at) ⌝ }
     {
         sink::cells::make(work, c);
         self
     }
 
-    // An assignment's head.
+    // An assignment's head: the operator is a byte.
     pub fn assign(self, out: &mut [u8], op: usize) -> Walk
-        ensures { λ r. ⌜ ((l w : List ℕ) → op < 256 → Does (goingOf (now (out .entry)) l w self) (goingOf (now (out .exit)) l w r) (assignHead op)) × (r .at ≡ self .at) ⌝ }
+        ensures { λ r. ⌜ ((l w : List ℕ) → Runs (goingOf (now (out .entry)) l w self) (goingOf (now (out .exit)) l w r) (puts (27 ∷ 7 ∷ op % 256 ∷ []))) × (r .at ≡ self .at) ⌝ }
     {
         let k = self.sink;
         Walk {
@@ -183,7 +181,7 @@ impl Walk {
 
     // The head of a new declaration of n declarators.
     pub fn declaration(self, out: &mut [u8], sort: u8, n: usize) -> Walk
-        ensures { λ r. ⌜ ((l w : List ℕ) → n < 65536 → Does (goingOf (now (out .entry)) l w self) (goingOf (now (out .exit)) l w r) (say (declarationHead sort n))) × (r .at ≡ self .at) ⌝ }
+        ensures { λ r. ⌜ ((l w : List ℕ) → Runs (goingOf (now (out .entry)) l w self) (goingOf (now (out .exit)) l w r) (declarationHead sort (n % 65536))) × (r .at ≡ self .at) ⌝ }
     {
         let k = self.sink;
         Walk {
@@ -198,7 +196,7 @@ impl Walk {
 
     // The head of a new block of n statements.
     pub fn block(self, out: &mut [u8], n: usize) -> Walk
-        ensures { λ r. ⌜ ((l w : List ℕ) → n < 65536 → Does (goingOf (now (out .entry)) l w self) (goingOf (now (out .exit)) l w r) (say (blockHead n))) × (r .at ≡ self .at) ⌝ }
+        ensures { λ r. ⌜ ((l w : List ℕ) → Runs (goingOf (now (out .entry)) l w self) (goingOf (now (out .exit)) l w r) (blockHead (n % 65536))) × (r .at ≡ self .at) ⌝ }
     {
         let k = self.sink;
         Walk {
@@ -212,7 +210,7 @@ impl Walk {
 
     // What stands before the source where all properties are wanted: an assignment of a copy, and a check of the source.
     pub fn empty_rest(self, out: &mut [u8]) -> Walk
-        ensures { λ r. ⌜ ((l w : List ℕ) → Does (goingOf (now (out .entry)) l w self) (goingOf (now (out .exit)) l w r) (say (callHead 2 2 ++ (puts (24 ∷ 1 ∷ 0 ∷ 0 ∷ 28 ∷ 1 ∷ 2 ∷ 0 ∷ []) ++ callHead 3 1)))) × (r .at ≡ self .at) ⌝ }
+        ensures { λ r. ⌜ ((l w : List ℕ) → Runs (goingOf (now (out .entry)) l w self) (goingOf (now (out .exit)) l w r) (callHead 2 2 ++ (puts (24 ∷ 1 ∷ 0 ∷ 0 ∷ 28 ∷ 1 ∷ 2 ∷ 0 ∷ []) ++ callHead 3 1))) × (r .at ≡ self .at) ⌝ }
     {
         self.call(out, helpers::EXTENDS, 2)
             .put2(out, written::OBJECT, written::FIRST)
@@ -224,7 +222,7 @@ impl Walk {
 
     // What stands behind keys that are mapped: `.map`, and the helper.
     pub fn mapped(self, out: &mut [u8]) -> Walk
-        ensures { λ r. ⌜ ((l w : List ℕ) → Does (goingOf (now (out .entry)) l w self) (goingOf (now (out .exit)) l w r) (say (puts (3 ∷ 0 ∷ 109 ∷ 97 ∷ 112 ∷ 1 ∷ 0 ∷ []) ++ (does (helper 5) ∷ [])))) × (r .at ≡ self .at) ⌝ }
+        ensures { λ r. ⌜ ((l w : List ℕ) → Runs (goingOf (now (out .entry)) l w self) (goingOf (now (out .exit)) l w r) (puts (3 ∷ 0 ∷ 109 ∷ 97 ∷ 112 ∷ 1 ∷ 0 ∷ []) ++ (does (helper 5) ∷ []))) × (r .at ≡ self .at) ⌝ }
     {
         let k = self.sink;
         Walk {
@@ -237,9 +235,9 @@ impl Walk {
         }
     }
 
-    // A string of n bytes of the input.
+    // A string of n bytes of the input, or of as many as there are.
     pub fn string(self, t: &[u8], out: &mut [u8], from: usize, n: usize) -> Walk
-        ensures { λ r. ⌜ ((l w : List ℕ) → n < 65536 → from + n ≤ length (now (t .entry)) → Does (goingOf (now (out .entry)) l w self) (goingOf (now (out .exit)) l w r) (say (puts (stringBytes (part from (from + n) (now (t .entry))))))) × (r .at ≡ self .at) ⌝ }
+        ensures { λ r. ⌜ ((l w : List ℕ) → Runs (goingOf (now (out .entry)) l w self) (goingOf (now (out .exit)) l w r) (puts (stringAt (now (t .entry)) from n))) × (r .at ≡ self .at) ⌝ }
     {
         let k = self.sink;
         let end = tree::skip::step(t, from, n);
@@ -261,7 +259,7 @@ impl Walk {
 
     // A string of the digits of a value.
     pub fn number(self, out: &mut [u8], value: usize) -> Walk
-        ensures { λ r. ⌜ ((l w : List ℕ) → Does (goingOf (now (out .entry)) l w self) (goingOf (now (out .exit)) l w r) (say (puts (stringBytes (digitsOf value))))) × (r .at ≡ self .at) ⌝ }
+        ensures { λ r. ⌜ ((l w : List ℕ) → Runs (goingOf (now (out .entry)) l w self) (goingOf (now (out .exit)) l w r) (puts (stringBytes (digitsOf value)))) × (r .at ≡ self .at) ⌝ }
     {
         let d = digits_of(value);
         let bytes = d.bytes;
@@ -272,7 +270,7 @@ impl Walk {
     // ---- the list and the excluded keys
 
     pub fn entry(self, list: &mut [u8], mark: usize, n: usize) -> Walk
-        ensures { λ r. ⌜ ((o w : List ℕ) → Does (goingOf o (now (list .entry)) w self) (goingOf o (now (list .exit)) w r) (say (does (entry mark n) ∷ []))) × (r .at ≡ self .at) ⌝ }
+        ensures { λ r. ⌜ ((o w : List ℕ) → Runs (goingOf o (now (list .entry)) w self) (goingOf o (now (list .exit)) w r) (does (entry mark n) ∷ [])) × (r .at ≡ self .at) ⌝ }
     {
         let k = self.sink;
         Walk {
@@ -283,7 +281,7 @@ impl Walk {
     }
 
     pub fn listed2(self, list: &mut [u8], a: u8, b: u8) -> Walk
-        ensures { λ r. ⌜ ((o w : List ℕ) → Does (goingOf o (now (list .entry)) w self) (goingOf o (now (list .exit)) w r) (say (lists (a ∷ b ∷ [])))) × (r .at ≡ self .at) ⌝ }
+        ensures { λ r. ⌜ ((o w : List ℕ) → Runs (goingOf o (now (list .entry)) w self) (goingOf o (now (list .exit)) w r) (lists (a ∷ b ∷ []))) × (r .at ≡ self .at) ⌝ }
     {
         let k = self.sink;
         Walk {
@@ -294,7 +292,7 @@ impl Walk {
     }
 
     pub fn listed_temporary(self, list: &mut [u8], work: &mut [u8], c: usize, stem: u8) -> Walk
-        ensures { λ r. ⌜ ((o : List ℕ) → Does (goingOf o (now (list .entry)) (now (work .entry)) self) (goingOf o (now (list .exit)) (now (work .exit)) r) (say (does (listedTemporary c stem) ∷ []))) × (r .at ≡ self .at) ⌝ }
+        ensures { λ r. ⌜ ((o : List ℕ) → Runs (goingOf o (now (list .entry)) (now (work .entry)) self) (goingOf o (now (list .exit)) (now (work .exit)) r) (does (listedTemporary c stem) ∷ [])) × (r .at ≡ self .at) ⌝ }
     {
         let k = self.sink;
         Walk {
@@ -305,7 +303,7 @@ impl Walk {
     }
 
     pub fn listed_copy(self, list: &mut [u8], t: &[u8], from: usize, to: usize) -> Walk
-        ensures { λ r. ⌜ ((o w : List ℕ) → Does (goingOf o (now (list .entry)) w self) (goingOf o (now (list .exit)) w r) (say (lists (part from to (now (t .entry)))))) × (r .at ≡ self .at) ⌝ }
+        ensures { λ r. ⌜ ((o w : List ℕ) → Runs (goingOf o (now (list .entry)) w self) (goingOf o (now (list .exit)) w r) (lists (part from to (now (t .entry))))) × (r .at ≡ self .at) ⌝ }
     {
         let k = self.sink;
         Walk {
@@ -316,7 +314,7 @@ impl Walk {
     }
 
     pub fn excluded_copy(self, work: &mut [u8], t: &[u8], from: usize, to: usize) -> Walk
-        ensures { λ r. ⌜ ((o l : List ℕ) → Does (goingOf o l (now (work .entry)) self) (goingOf o l (now (work .exit)) r) (say (excludes (part from to (now (t .entry)))))) × (r .at ≡ self .at) ⌝ }
+        ensures { λ r. ⌜ ((o l : List ℕ) → Runs (goingOf o l (now (work .entry)) self) (goingOf o l (now (work .exit)) r) (excludes (part from to (now (t .entry))))) × (r .at ≡ self .at) ⌝ }
     {
         let k = self.sink;
         Walk {
@@ -328,7 +326,7 @@ impl Walk {
 
     // The declarator of excluded keys: its temporary, and the head of an array of n.
     pub fn excluded_head(self, work: &mut [u8], c: usize, n: usize) -> Walk
-        ensures { λ r. ⌜ ((o l : List ℕ) → n < 65536 → Does (goingOf o l (now (work .entry)) self) (goingOf o l (now (work .exit)) r) (say (does declarator ∷ does (excludedTemporary c 2) ∷ excludes (32 ∷ 1 ∷ wideBytes n)))) × (r .at ≡ self .at) ⌝ }
+        ensures { λ r. ⌜ ((o l : List ℕ) → Runs (goingOf o l (now (work .entry)) self) (goingOf o l (now (work .exit)) r) (does declarator ∷ does (excludedTemporary c 2) ∷ excludes (32 ∷ 1 ∷ wideBytes (n % 65536)))) × (r .at ≡ self .at) ⌝ }
     {
         let k = self.sink;
         Walk {
@@ -342,7 +340,7 @@ impl Walk {
     }
 
     pub fn excluded_string(self, work: &mut [u8], t: &[u8], from: usize, n: usize) -> Walk
-        ensures { λ r. ⌜ ((o l : List ℕ) → n < 65536 → from + n ≤ length (now (t .entry)) → Does (goingOf o l (now (work .entry)) self) (goingOf o l (now (work .exit)) r) (say (excludes (stringBytes (part from (from + n) (now (t .entry))))))) × (r .at ≡ self .at) ⌝ }
+        ensures { λ r. ⌜ ((o l : List ℕ) → Runs (goingOf o l (now (work .entry)) self) (goingOf o l (now (work .exit)) r) (excludes (stringAt (now (t .entry)) from n))) × (r .at ≡ self .at) ⌝ }
     {
         let k = self.sink;
         let end = tree::skip::step(t, from, n);
@@ -363,7 +361,7 @@ impl Walk {
     }
 
     pub fn excluded_number(self, work: &mut [u8], value: usize) -> Walk
-        ensures { λ r. ⌜ ((o l : List ℕ) → Does (goingOf o l (now (work .entry)) self) (goingOf o l (now (work .exit)) r) (say (excludes (stringBytes (digitsOf value))))) × (r .at ≡ self .at) ⌝ }
+        ensures { λ r. ⌜ ((o l : List ℕ) → Runs (goingOf o l (now (work .entry)) self) (goingOf o l (now (work .exit)) r) (excludes (stringBytes (digitsOf value)))) × (r .at ≡ self .at) ⌝ }
     {
         let d = digits_of(value);
         let bytes = d.bytes;

@@ -13,11 +13,16 @@ use Rattle.direct.specs.Emit.{emitsItems, emitsFields}
 use Rattle.tree.specs.Look.{lookItems, lookFields, lookNode}
 use Rattle.tree.specs.Rows.{fieldsIn}
 use Rattle.walk.specs.Turns.{AllSuit, isTold, toldPlace, propertyMode}
-use Rattle.walk.proofs.Running.{does-nothing}
+use Rattle.walk.proofs.Running.{does-nothing, runs-does}
 use Rattle.tree.proofs.Skipping.{node-none}
 use Rattle.walk.proofs.Emits.{good-none}
 use Rattle.direct.specs.Literals as literals
 use Rattle.walk.proofs.SpreadArguments as args
+use Rattle.walk.proofs.SmallSteps as steps
+use Rattle.walk.proofs.Heads as heads
+use Rattle.walk.proofs.Sources as sources
+use Rattle.walk.proofs.HandRules as hands
+use Rattle.walk.proofs.TargetCounts.{values-object}
 use Rattle.walk.proofs.Running as running
 use Rattle.tree.proofs.Skipping as skipping
 use Rattle.walk.proofs.Emits as law
@@ -513,16 +518,16 @@ abbrev vo-claims : ℕ → cycle.Lts-vo.Claims
 vo-claims t = (less-reads.Asked, less-reads.Learnt, has-second-reads.Asked, has-second-reads.Learnt, replaces-reads.Asked, replaces-reads.Learnt, temporary-reads.Asked, temporary-reads.Learnt, skip-reads.Asked, skip-reads.Learnt, to-reads.Asked, to-reads.Learnt, step-reads.Asked, step-reads.Learnt, wide-at-reads.Asked, wide-at-reads.Learnt, put2-reads.Asked, put2-reads.Learnt, wide-reads.Asked, wide-reads.Learnt, inside-reads.Asked, inside-reads.Learnt, property-mode-reads.Asked, property-mode-reads.Learnt, below-measure seq.Kinds.ps μ-seq seq.Reads.Pre t, seq.Reads.Post)
 
 add-returns : (t : ℕ) → cycle.Lts-add.Need-returns (add-claims t) (at-measure add.Kinds.ps μ-add add.Reads.Pre t) add.Reads.Post
-add-returns t c = moving.add-refused _ _ _ _ _ _ _ (c .before .before .before .before .before .before .before .has-nested-object-rest .ensures) (c .before .before .before .before .before .before .if1 .taken) (c .before .before .before .before .before .refusal-below .ensures) (c .before .before .before .before .if2 .taken) (c .before .before .refuse .ensures .0 _ _)
+add-returns t c = moving.add-refused _ _ _ _ _ _ _ (c .before .before .before .before .before .before .before .has-nested-object-rest .ensures) (c .before .before .before .before .before .before .if1 .taken) (c .before .before .before .before .before .refusal-below .ensures) (c .before .before .before .before .if2 .taken) (runs-does (c .before .before .refuse .ensures .0 _ _))
 
 add-returns-2 : (t : ℕ) → cycle.Lts-add.Need-returns-2 (add-claims t) (at-measure add.Kinds.ps μ-add add.Reads.Pre t) add.Reads.Post
-add-returns-2 t c = moving.add-lowered _ _ _ _ _ _ _ _ _ _ _ _ _ _ _ (c .before .before .before .before .before .before .before .before .before .before .before .before .before .before .before .before .before .before .before .before .before .before .before .before .before .before .before .has-nested-object-rest .ensures) (c .before .before .before .before .before .before .before .before .before .before .before .before .before .before .before .before .before .before .before .before .before .before .before .before .before .before .if1 .taken) (c .before .before .before .before .before .before .before .before .before .before .before .before .before .before .before .before .before .before .before .before .before .before .before .before .before .refusal-below .ensures) (c .before .before .before .before .before .before .before .before .before .before .before .before .before .before .before .before .before .before .before .before .before .before .before .before .if2 .left) (c .before .before .before .before .before .before .before .before .before .before .before .before .before .before .before .before .before .before .before .before .before .before .before .before .before .before .before .before .before .before .before .at-root .ensures) (c .before .before .before .before .before .before .before .before .before .before .before .before .before .before .before .before .before .before .before .before .before .before .before .before .before .before .before .before .before .before .inside .ensures .0) (c .before .before .before .before .before .before .before .before .before .before .before .before .before .before .before .before .before .before .before .before .before .before .before .before .before .before .before .before .before .mark .ensures) (told.own-marked _ _ (c .before .before .before .before .before .before .before .before .before .before .before .before .before .before .before .before .before .before .before .before .before .before .before .before .before .before .before .before .before .before .before .at-root .ensures) _ (c .before .before .before .before .before .before .before .before .before .before .before .before .before .before .before .before .before .before .before .before .before .before .before .before .before .before .before .before .before .before .inside .ensures .0) (c .before .before .before .before .before .before .before .before .before .before .before .before .before .before .before .before .before .before .before .before .before .before .before .before .before .before .before .before .marked .ensures .0)) (c .before .before .before .before .before .before .before .before .before .before .before .before .before .before .before .before .before .before .before .before .before .before .before .before .before .before .before .before .marked .ensures .1 ∙ c .before .before .before .before .before .before .before .before .before .before .before .before .before .before .before .before .before .before .before .before .before .before .before .before .before .before .before .before .before .before .inside .ensures .1) (c .before .before .before .before .before .before .before .before .before .before .before .before .before .before .before .before .before .before .before .before .before .pattern-hands .ensures .1 _) (c .before .before .before .before .before .before .before .before .before .before .before .before .before .before .before .before .pattern-declarators .ensures) (c .before .before .before .before .before .before .before .before .before .before .before .before .before .before .declaration .ensures .0 _ _) (c .before .before .before .before .before .before .before .before .before .before .before .to .ensures .0 _ _ _) (c .before .before .before .before .before .before .before .before .before .before .before .to .ensures .1) (c .before .before .before .before .before .before .before .cell-source .ensures _) (c .before .before .before .before .before .before .pa .ensures)
+add-returns-2 t c = moving.add-lowered _ _ _ _ _ _ _ _ _ _ _ _ _ _ _ (c .before .before .before .before .before .before .before .before .before .before .before .before .before .before .before .before .before .before .before .before .before .before .before .before .before .before .before .has-nested-object-rest .ensures) (c .before .before .before .before .before .before .before .before .before .before .before .before .before .before .before .before .before .before .before .before .before .before .before .before .before .before .if1 .taken) (c .before .before .before .before .before .before .before .before .before .before .before .before .before .before .before .before .before .before .before .before .before .before .before .before .before .refusal-below .ensures) (c .before .before .before .before .before .before .before .before .before .before .before .before .before .before .before .before .before .before .before .before .before .before .before .before .if2 .left) (c .before .before .before .before .before .before .before .before .before .before .before .before .before .before .before .before .before .before .before .before .before .before .before .before .before .before .before .before .before .before .before .at-root .ensures) (c .before .before .before .before .before .before .before .before .before .before .before .before .before .before .before .before .before .before .before .before .before .before .before .before .before .before .before .before .before .before .inside .ensures .0) (c .before .before .before .before .before .before .before .before .before .before .before .before .before .before .before .before .before .before .before .before .before .before .before .before .before .before .before .before .before .mark .ensures) (told.own-marked _ _ (c .before .before .before .before .before .before .before .before .before .before .before .before .before .before .before .before .before .before .before .before .before .before .before .before .before .before .before .before .before .before .before .at-root .ensures) _ (c .before .before .before .before .before .before .before .before .before .before .before .before .before .before .before .before .before .before .before .before .before .before .before .before .before .before .before .before .before .before .inside .ensures .0) (c .before .before .before .before .before .before .before .before .before .before .before .before .before .before .before .before .before .before .before .before .before .before .before .before .before .before .before .before .marked .ensures .0)) (c .before .before .before .before .before .before .before .before .before .before .before .before .before .before .before .before .before .before .before .before .before .before .before .before .before .before .before .before .marked .ensures .1 ∙ c .before .before .before .before .before .before .before .before .before .before .before .before .before .before .before .before .before .before .before .before .before .before .before .before .before .before .before .before .before .before .inside .ensures .1) (c .before .before .before .before .before .before .before .before .before .before .before .before .before .before .before .before .before .before .before .before .before .pattern-hands .ensures .1 _) (c .before .before .before .before .before .before .before .before .before .before .before .before .before .before .before .before .pattern-declarators .ensures) (steps.does-declaration _ _ (c .before .before .before .before .before .before .before .before .before .before .before .before .before .before .declaration .ensures .0 _ _)) (c .before .before .before .before .before .before .before .before .before .before .before .to .ensures .0 _ _ _) (c .before .before .before .before .before .before .before .before .before .before .before .to .ensures .1) (c .before .before .before .before .before .before .before .cell-source .ensures _) (c .before .before .before .before .before .before .pa .ensures)
 
 add-returns-3 : (t : ℕ) → cycle.Lts-add.Need-returns-3 (add-claims t) (at-measure add.Kinds.ps μ-add add.Reads.Pre t) add.Reads.Post
-add-returns-3 t c = moving.add-kept _ _ _ _ _ _ _ _ _ _ _ _ (c .before .before .before .before .before .before .before .before .before .before .before .before .before .before .before .before .before .before .before .before .before .before .before .before .before .before .before .before .before .before .has-nested-object-rest .ensures) (c .before .before .before .before .before .before .before .before .before .before .before .before .before .before .before .before .before .before .before .before .before .before .before .before .before .before .before .before .before .if1 .left) (c .before .before .before .before .before .before .before .before .before .before .before .before .before .before .before .before .before .before .before .before .before .before .before .before .before .before .before .before .before .before .before .before .before .inside .ensures .0) (c .before .before .before .before .before .before .before .before .before .before .before .before .before .before .before .before .before .before .before .before .before .before .before .before .before .before .before .before .before .before .before .before .mark .ensures) (c .before .before .before .before .before .before .before .before .before .before .before .before .before .before .before .before .before .before .before .before .before .before .before .before .before .before .before .before .before .before .before .marked .ensures .0) (c .before .before .before .before .before .before .before .before .before .before .before .before .before .before .before .before .before .before .before .before .before .before .before .before .before .before .before .before .before .before .before .marked .ensures .1 ∙ c .before .before .before .before .before .before .before .before .before .before .before .before .before .before .before .before .before .before .before .before .before .before .before .before .before .before .before .before .before .before .before .before .before .inside .ensures .1) (c .before .before .before .before .before .before .before .before .before .before .before .before .before .before .before .before .before .before .before .before .before .before .before .before .before .before .before .declaration2 .ensures .0 _ _) (c .before .before .before .before .before .before .before .before .before .before .before .before .before .before .before .before .before .before .before .before .before .before .before .put2 .ensures .0 _ _) (c .before .before .before .before .before .before .before .before .before .before .before .before .before .before .before .before .before .before .before .before .to2 .ensures .0 _ _ _) (c .before .before .before .before .before .before .before .before .before .before .before .before .before .before .before .before .before .before .before .before .to2 .ensures .1) (c .before .before .before .before .before .before .before .before .before .before .before .before .before .before .before .before .node .ensures) (c .before .before .before .before .before .before .temporary .ensures .0)
+add-returns-3 t c = moving.add-kept _ _ _ _ _ _ _ _ _ _ _ _ (c .before .before .before .before .before .before .before .before .before .before .before .before .before .before .before .before .before .before .before .before .before .before .before .before .before .before .before .before .before .before .has-nested-object-rest .ensures) (c .before .before .before .before .before .before .before .before .before .before .before .before .before .before .before .before .before .before .before .before .before .before .before .before .before .before .before .before .before .if1 .left) (c .before .before .before .before .before .before .before .before .before .before .before .before .before .before .before .before .before .before .before .before .before .before .before .before .before .before .before .before .before .before .before .before .before .inside .ensures .0) (c .before .before .before .before .before .before .before .before .before .before .before .before .before .before .before .before .before .before .before .before .before .before .before .before .before .before .before .before .before .before .before .before .mark .ensures) (c .before .before .before .before .before .before .before .before .before .before .before .before .before .before .before .before .before .before .before .before .before .before .before .before .before .before .before .before .before .before .before .marked .ensures .0) (c .before .before .before .before .before .before .before .before .before .before .before .before .before .before .before .before .before .before .before .before .before .before .before .before .before .before .before .before .before .before .before .marked .ensures .1 ∙ c .before .before .before .before .before .before .before .before .before .before .before .before .before .before .before .before .before .before .before .before .before .before .before .before .before .before .before .before .before .before .before .before .before .inside .ensures .1) (steps.does-declaration _ _ (c .before .before .before .before .before .before .before .before .before .before .before .before .before .before .before .before .before .before .before .before .before .before .before .before .before .before .before .declaration2 .ensures .0 _ _)) (runs-does (c .before .before .before .before .before .before .before .before .before .before .before .before .before .before .before .before .before .before .before .before .before .before .before .put2 .ensures .0 _ _)) (c .before .before .before .before .before .before .before .before .before .before .before .before .before .before .before .before .before .before .before .before .to2 .ensures .0 _ _ _) (c .before .before .before .before .before .before .before .before .before .before .before .before .before .before .before .before .before .before .before .before .to2 .ensures .1) (c .before .before .before .before .before .before .before .before .before .before .before .before .before .before .before .before .node .ensures) (runs-does (c .before .before .before .before .before .before .temporary .ensures .0))
 
 ta-returns : (t : ℕ) → cycle.Lts-ta.Need-returns (ta-claims t) (at-measure ta.Kinds.ps μ-ta ta.Reads.Pre t) ta.Reads.Post
-ta-returns t c = looping.assigned-does _ _ _ _ _ _ _ (c .before .before .before .before .before .before .before .before .before .before .before .before .before .before .before .before .before .before .before .mark .ensures) (told.own-statement _ _ (c .before .before .before .before .before .before .before .before .before .before .before .before .before .before .before .before .before .before .before .before .at-root .ensures) _ (c .before .before .before .before .before .before .before .before .before .before .before .before .before .before .before .before .before .before .statement .ensures .0)) (c .before .before .before .before .before .before .before .before .before .before .before .before .before .before .before .before .before .before .statement .ensures .1) (c .before .before .before .before .before .before .before .before .before .before .before .before .before .before .before .before .put2 .ensures .0 _ _) (c .before .before .before .before .before .before .before .before .before .before .before .before .new-mark .ensures .0 _ _) (c .before .before .before .before .before .before .an .ensures)
+ta-returns t c = looping.assigned-does _ _ _ _ _ _ _ (c .before .before .before .before .before .before .before .before .before .before .before .before .before .before .before .before .before .before .before .mark .ensures) (told.own-statement _ _ (c .before .before .before .before .before .before .before .before .before .before .before .before .before .before .before .before .before .before .before .before .at-root .ensures) _ (c .before .before .before .before .before .before .before .before .before .before .before .before .before .before .before .before .before .before .statement .ensures .0)) (c .before .before .before .before .before .before .before .before .before .before .before .before .before .before .before .before .before .before .statement .ensures .1) (runs-does (c .before .before .before .before .before .before .before .before .before .before .before .before .before .before .before .before .put2 .ensures .0 _ _)) (runs-does (c .before .before .before .before .before .before .before .before .before .before .before .before .new-mark .ensures .0 _ _)) (c .before .before .before .before .before .before .an .ensures)
 
 ar-seq-requires : (t : ℕ) → cycle.Lts-ar.Need-seq-requires (ar-claims t) (at-measure ar.Kinds.ps μ-ar ar.Reads.Pre t) ar.Reads.Post
 ar-seq-requires t c κs = let z : 0 < c .before .before .before .before .before .before .before .before .before .before .before .before .before .before .before .before .before .before .before .before .before .before .args .c .left = moving.moved-levels _ _ _ _ _ (c .before .before .before .before .before .before .before .before .before .before .before .before .before .before .before .any-moved .ensures) (c .before .before .before .before .before .before .before .before .before .before .before .before .before .before .if1 .taken) in
@@ -546,13 +551,13 @@ ar-same-length-3 : (t : ℕ) → cycle.Lts-ar.Need-same-length-3 (ar-claims t) (
 ar-same-length-3 t c = omega (arith, c .before .before .before .before .before .before .before .before .before .before .before .before .before .before .before .before .before .before .before .before .before .before .before .before .before .before .before .before .before .before .before .before .before .before .before .before .before .before .before .moves-make .kept, c .before .before .before .before .before .before .before .before .before .before .before .before .before .before .before .before .before .before .before .before .before .before .before .before .before .before .before .before .before .before .before .before .before .before .before .copy .kept, c .before .before .before .before .before .before .before .before .before .before .before .before .before .before .before .before .before .before .before .before .before .before .before .before .before .before .before .before .before .seq .kept, c .before .before .before .before .before .before .before .before .before .before .before .before .before .before .before .before .before .before .slot .kept, c .before .before .before .before .before .before .before .before .eb .kept)
 
 ar-returns : (t : ℕ) → cycle.Lts-ar.Need-returns (ar-claims t) (at-measure ar.Kinds.ps μ-ar ar.Reads.Pre t) ar.Reads.Post
-ar-returns t c = bodying.arrow-moved _ _ _ _ _ _ _ _ _ _ _ _ _ _ _ _ _ _ _ (c .before .before .before .before .before .before .before .before .before .before .before .before .before .before .before .before .before .before .before .before .before .before .before .before .before .before .before .before .before .before .before .before .before .before .before .before .before .before .before .before .before .before .before .before .before .any-moved .ensures) (c .before .before .before .before .before .before .before .before .before .before .before .before .before .before .before .before .before .before .before .before .before .before .before .before .before .before .before .before .before .before .before .before .before .before .before .before .before .before .before .before .before .before .before .before .if1 .taken) (c .before .before .before .before .before .before .before .before .before .before .before .before .before .before .before .before .before .before .before .before .before .before .before .before .before .before .before .before .before .before .before .before .before .before .before .before .before .before .before .before .before .before .before .before .before .before .before .less .ensures) (c .before .before .before .before .before .before .before .before .before .before .before .before .before .before .before .before .before .before .before .before .before .before .before .before .before .before .before .before .before .before .before .before .before .before .before .before .before .before .before .before .before .before .before .before .before .before .scoped .ensures .0) (c .before .before .before .before .before .before .before .before .before .before .before .before .before .before .before .before .before .before .before .before .before .before .before .before .before .before .before .before .before .before .before .before .before .before .before .before .before .before .before .before .before .before .before .before .before .before .scoped .ensures .1) (c .before .before .before .before .before .before .before .before .before .before .before .before .before .before .before .before .before .before .before .before .before .before .before .before .before .before .before .before .before .before .before .before .before .before .before .before .before .before .before .before .before .before .before .step .ensures) (c .before .before .before .before .before .before .before .before .before .before .before .before .before .before .before .before .before .before .before .before .before .before .before .before .before .before .before .before .before .before .before .before .before .before .before .before .before .before .before .before .before .before .wide-at .ensures) (c .before .before .before .before .before .before .before .before .before .before .before .before .before .before .before .before .before .before .before .before .before .before .before .before .before .before .before .before .before .before .before .before .before .before .before .before .before .before .before .before .before .step2 .ensures) (c .before .before .before .before .before .before .before .before .before .before .before .before .before .before .before .before .before .before .before .before .before .before .before .before .before .before .before .before .before .before .before .before .before .before .before .before .before .before .before .moves-make .ensures .0) (c .before .before .before .before .before .before .before .before .before .before .before .before .before .before .before .before .before .before .before .before .before .before .before .before .before .before .before .before .before .before .before .before .before .before .before .before .before .before .before .moves-make .ensures .1 _ _) (c .before .before .before .before .before .before .before .before .before .before .before .before .before .before .before .before .before .before .before .before .before .before .before .before .before .before .before .before .before .before .before .before .before .before .before .copy .ensures .1) (c .before .before .before .before .before .before .before .before .before .before .before .before .before .before .before .before .before .before .before .before .before .before .before .before .before .before .before .before .before .before .before .before .before .before .before .copy .ensures .0 _ _) (told.items-own _ _ _ _ _ _ _ _ _ _ _ told.untold-binding (c .before .before .before .before .before .before .before .before .before .before .before .before .before .before .before .before .before .before .before .before .before .before .before .before .before .before .before .before .before .seq .ensures)) (c .before .before .before .before .before .before .before .before .before .before .before .before .before .before .before .before .before .before .before .second .ensures) (c .before .before .before .before .before .before .before .before .before .before .before .before .before .before .before .before .before .before .slot .ensures) (c .before .before .before .before .before .before .before .before .eb .ensures) (c .to .ensures .0 _ _ _) (c .before .skip .ensures) (c .to .ensures .1)
+ar-returns t c = bodying.arrow-moved _ _ _ _ _ _ _ _ _ _ _ _ _ _ _ _ _ _ _ (c .before .before .before .before .before .before .before .before .before .before .before .before .before .before .before .before .before .before .before .before .before .before .before .before .before .before .before .before .before .before .before .before .before .before .before .before .before .before .before .before .before .before .before .before .before .any-moved .ensures) (c .before .before .before .before .before .before .before .before .before .before .before .before .before .before .before .before .before .before .before .before .before .before .before .before .before .before .before .before .before .before .before .before .before .before .before .before .before .before .before .before .before .before .before .before .if1 .taken) (c .before .before .before .before .before .before .before .before .before .before .before .before .before .before .before .before .before .before .before .before .before .before .before .before .before .before .before .before .before .before .before .before .before .before .before .before .before .before .before .before .before .before .before .before .before .before .before .less .ensures) (c .before .before .before .before .before .before .before .before .before .before .before .before .before .before .before .before .before .before .before .before .before .before .before .before .before .before .before .before .before .before .before .before .before .before .before .before .before .before .before .before .before .before .before .before .before .before .scoped .ensures .0) (c .before .before .before .before .before .before .before .before .before .before .before .before .before .before .before .before .before .before .before .before .before .before .before .before .before .before .before .before .before .before .before .before .before .before .before .before .before .before .before .before .before .before .before .before .before .before .scoped .ensures .1) (c .before .before .before .before .before .before .before .before .before .before .before .before .before .before .before .before .before .before .before .before .before .before .before .before .before .before .before .before .before .before .before .before .before .before .before .before .before .before .before .before .before .before .before .step .ensures) (c .before .before .before .before .before .before .before .before .before .before .before .before .before .before .before .before .before .before .before .before .before .before .before .before .before .before .before .before .before .before .before .before .before .before .before .before .before .before .before .before .before .before .wide-at .ensures) (c .before .before .before .before .before .before .before .before .before .before .before .before .before .before .before .before .before .before .before .before .before .before .before .before .before .before .before .before .before .before .before .before .before .before .before .before .before .before .before .before .before .step2 .ensures) (c .before .before .before .before .before .before .before .before .before .before .before .before .before .before .before .before .before .before .before .before .before .before .before .before .before .before .before .before .before .before .before .before .before .before .before .before .before .before .before .moves-make .ensures .0) (c .before .before .before .before .before .before .before .before .before .before .before .before .before .before .before .before .before .before .before .before .before .before .before .before .before .before .before .before .before .before .before .before .before .before .before .before .before .before .before .moves-make .ensures .1 _ _) (c .before .before .before .before .before .before .before .before .before .before .before .before .before .before .before .before .before .before .before .before .before .before .before .before .before .before .before .before .before .before .before .before .before .before .before .copy .ensures .1) (runs-does (c .before .before .before .before .before .before .before .before .before .before .before .before .before .before .before .before .before .before .before .before .before .before .before .before .before .before .before .before .before .before .before .before .before .before .before .copy .ensures .0 _ _)) (told.items-own _ _ _ _ _ _ _ _ _ _ _ told.untold-binding (c .before .before .before .before .before .before .before .before .before .before .before .before .before .before .before .before .before .before .before .before .before .before .before .before .before .before .before .before .before .seq .ensures)) (c .before .before .before .before .before .before .before .before .before .before .before .before .before .before .before .before .before .before .before .second .ensures) (c .before .before .before .before .before .before .before .before .before .before .before .before .before .before .before .before .before .before .slot .ensures) (c .before .before .before .before .before .before .before .before .eb .ensures) (c .to .ensures .0 _ _ _) (c .before .skip .ensures) (c .to .ensures .1)
 
 ar-returns-2 : (t : ℕ) → cycle.Lts-ar.Need-returns-2 (ar-claims t) (at-measure ar.Kinds.ps μ-ar ar.Reads.Pre t) ar.Reads.Post
 ar-returns-2 t c = bodying.arrow-plain _ _ _ _ _ _ (c .before .before .before .before .before .before .before .before .before .before .before .any-moved .ensures) (c .before .before .before .before .before .before .before .before .before .before .if1 .left) (c .before .before .before .before .before .before .plain .ensures)
 
 ag-returns : (t : ℕ) → cycle.Lts-ag.Need-returns (ag-claims t) (at-measure ag.Kinds.ps μ-ag ag.Reads.Pre t) ag.Reads.Post
-ag-returns t c = λ k. (c .to .ensures .1 ∙ c .before .skip .ensures, λ g. assigning.asg-refused _ _ _ _ _ _ (c .before .before .before .before .before .before .before .before .before .less .ensures) (c .before .before .before .before .before .before .before .before .step .ensures) _ (c .before .before .before .before .before .before .before .has-rest-below-array-rest .ensures) (c .before .before .before .before .before .before .if1 .taken) (c .before .before .before .before .refuse .ensures .0 _ _) (c .to .ensures .0 _ _ _) k g)
+ag-returns t c = λ k. (c .to .ensures .1 ∙ c .before .skip .ensures, λ g. assigning.asg-refused _ _ _ _ _ _ (c .before .before .before .before .before .before .before .before .before .less .ensures) (c .before .before .before .before .before .before .before .before .step .ensures) _ (c .before .before .before .before .before .before .before .has-rest-below-array-rest .ensures) (c .before .before .before .before .before .before .if1 .taken) (runs-does (c .before .before .before .before .refuse .ensures .0 _ _)) (c .to .ensures .0 _ _ _) k g)
 
 ag-an-requires : (t : ℕ) → cycle.Lts-ag.Need-an-requires (ag-claims t) (at-measure ag.Kinds.ps μ-ag ag.Reads.Pre t) ag.Reads.Post
 ag-an-requires t c κs = (omega (arith, c .before .before .before .before .before .before .before .before .before .before .before .before .before .before .before .before .before .before .pre .0, c .under .ensures .1, assigning.asg-falls _ _ _ _ _ (c .before .before .before .before .before .before .before .before .before .before .before .before .less .ensures) (c .before .before .before .before .before .before .before .before .has-nested-object-rest .ensures) (c .before .before .before .before .before .before .before .if2 .taken)), tt)
@@ -596,19 +601,19 @@ bi-slot-requires t c κs = let z : 0 < c .before .before .before .before .before
     (omega (arith, z, c .before .before .before .before .before .before .before .before .before .before .before .before .before .before .before .before .before .before .before .before .before .before .before .before .before .before .before .before .pre .0, c .before .before .before .before .before .before .before .before .before .before .before .before .before .before .before .before .before .before .before .before .before .before .before .less .ensures, c .before .inside2 .ensures .1), tt)
 
 bi-returns : (t : ℕ) → cycle.Lts-bi.Need-returns (bi-claims t) (at-measure bi.Kinds.ps μ-bi bi.Reads.Pre t) bi.Reads.Post
-bi-returns t c = moving.bind-moved _ _ _ _ _ _ _ _ _ _ _ _ _ _ _ (c .before .before .before .before .before .before .before .before .before .before .before .before .before .before .before .before .before .before .before .before .before .before .before .before .before .before .before .before .before .before .less .ensures) (c .before .before .before .before .before .before .before .before .before .before .before .before .before .before .before .before .before .before .before .before .before .before .before .before .before .before .before .before .before .step .ensures) (c .before .before .before .before .before .before .before .before .before .before .before .before .before .before .before .before .before .before .before .before .before .before .before .before .before .before .before .before .has-nested-object-rest .ensures) (c .before .before .before .before .before .before .before .before .before .before .before .before .before .before .before .before .before .before .before .before .before .before .before .before .before .before .before .if1 .taken) (c .before .before .before .before .before .before .before .before .before .before .before .before .before .before .before .before .before .before .before .before .before .before .before .before .before .copy .ensures .1) (c .before .before .before .before .before .before .before .before .before .before .before .before .before .before .before .before .before .before .before .before .before .before .before .before .before .copy .ensures .0 _ _) (c .before .before .before .before .before .before .before .before .before .before .before .before .before .before .before .before .before .before .before .inside .ensures .0) (c .before .before .before .before .before .before .before .before .before .before .before .before .before .before .before .before .before .before .before .inside .ensures .1) (c .before .before .before .before .before .before .before .before .before .before .before .before .before .before .before .before .before .before .go .ensures) (c .before .before .before .before .before .before .before .before .inside2 .ensures .0) (c .before .before .before .before .before .before .before .before .inside2 .ensures .1) (c .before .before .before .before .before .before .before .second .ensures) (c .before .before .before .before .before .before .slot .ensures)
+bi-returns t c = moving.bind-moved _ _ _ _ _ _ _ _ _ _ _ _ _ _ _ (c .before .before .before .before .before .before .before .before .before .before .before .before .before .before .before .before .before .before .before .before .before .before .before .before .before .before .before .before .before .before .less .ensures) (c .before .before .before .before .before .before .before .before .before .before .before .before .before .before .before .before .before .before .before .before .before .before .before .before .before .before .before .before .before .step .ensures) (c .before .before .before .before .before .before .before .before .before .before .before .before .before .before .before .before .before .before .before .before .before .before .before .before .before .before .before .before .has-nested-object-rest .ensures) (c .before .before .before .before .before .before .before .before .before .before .before .before .before .before .before .before .before .before .before .before .before .before .before .before .before .before .before .if1 .taken) (c .before .before .before .before .before .before .before .before .before .before .before .before .before .before .before .before .before .before .before .before .before .before .before .before .before .copy .ensures .1) (runs-does (c .before .before .before .before .before .before .before .before .before .before .before .before .before .before .before .before .before .before .before .before .before .before .before .before .before .copy .ensures .0 _ _)) (c .before .before .before .before .before .before .before .before .before .before .before .before .before .before .before .before .before .before .before .inside .ensures .0) (c .before .before .before .before .before .before .before .before .before .before .before .before .before .before .before .before .before .before .before .inside .ensures .1) (c .before .before .before .before .before .before .before .before .before .before .before .before .before .before .before .before .before .before .go .ensures) (c .before .before .before .before .before .before .before .before .inside2 .ensures .0) (c .before .before .before .before .before .before .before .before .inside2 .ensures .1) (c .before .before .before .before .before .before .before .second .ensures) (c .before .before .before .before .before .before .slot .ensures)
 
 bi-returns-2 : (t : ℕ) → cycle.Lts-bi.Need-returns-2 (bi-claims t) (at-measure bi.Kinds.ps μ-bi bi.Reads.Pre t) bi.Reads.Post
 bi-returns-2 t c = moving.bind-kept _ _ _ _ _ _ _ _ (c .before .before .before .before .before .before .before .before .before .before .before .before .before .less .ensures) (c .before .before .before .before .before .before .before .before .before .before .before .before .step .ensures) (c .before .before .before .before .before .before .before .before .before .before .before .has-nested-object-rest .ensures) (c .before .before .before .before .before .before .before .before .before .before .if1 .left) (c .before .before .before .before .before .before .node .ensures)
 
 bl-returns : (t : ℕ) → cycle.Lts-bl.Need-returns (bl-claims t) (at-measure bl.Kinds.ps μ-bl bl.Reads.Pre t) bl.Reads.Post
-bl-returns t c = looping.moves-block _ _ _ _ _ _ _ _ _ _ _ _ _ _ _ _ _ _ _ (c .before .before .before .before .before .before .before .before .before .before .before .before .before .before .before .before .before .before .before .before .before .before .before .before .before .before .before .before .before .before .before .before .before .before .before .before .before .level .ensures .0) (c .before .before .before .before .before .before .before .before .before .before .before .before .before .before .before .before .before .before .before .before .before .before .before .before .before .before .before .before .before .before .before .before .before .before .before .before .moved-in .ensures) (c .before .before .before .before .before .before .before .before .before .before .before .before .before .before .before .before .before .before .before .before .before .before .before .before .before .before .before .before .before .before .before .before .before .before .before .peek .ensures) (c .before .before .before .before .before .before .before .before .before .before .before .before .before .before .before .before .before .before .before .before .before .before .before .before .before .before .before .before .before .before .before .before .before .before .match .keys1) (c .before .before .before .before .before .before .before .before .before .before .before .before .before .before .before .before .before .before .before .before .before .before .before .before .before .before .before .before .before .before .before .before .before .step .ensures) (c .before .before .before .before .before .before .before .before .before .before .before .before .before .before .before .before .before .before .before .before .before .before .before .before .before .before .before .before .before .before .before .before .wide-at .ensures) (c .before .before .before .before .before .before .before .before .before .before .before .before .step2 .ensures) (c .before .before .before .before .before .before .before .before .before .before .before .to .ensures .1) (c .before .before .before .before .before .before .before .before .before .before .before .before .before .before .before .before .before .before .before .before .scoped .ensures .0) (c .before .before .before .before .before .before .before .before .before .before .before .before .before .before .before .before .before .before .before .before .scoped .ensures .1) (c .before .before .before .before .before .before .before .scoped2 .ensures .0) (c .before .before .before .before .before .before .before .scoped2 .ensures .1 ∙ c .before .before .before .before .before .before .before .before .before .before .before .before .before .before .before .before .before .before .before .before .before .before .before .before .before .before .before .before .before .before .before .before .before .before .before .before .before .before .less .ensures) (c .before .before .before .before .before .before .before .before .before .before .before .to .ensures .0 _ _ _) (c .before .before .before .before .before .before .before .before .before .before .before .before .before .before .before .before .before .before .before .before .before .before .before .before .before .before .before .before .before .before .copy .ensures .0 _ _) (c .before .before .before .before .before .before .before .before .before .before .before .before .before .before .before .before .before .before .before .before .before .before .before .before .before .before .wide .ensures .0 _ _) (c .before .before .before .before .before .before .before .before .before .before .before .before .before .before .before .before .before .before .before .ba .ensures) (c .before .before .before .before .before .before .items .ensures)
+bl-returns t c = looping.moves-block _ _ _ _ _ _ _ _ _ _ _ _ _ _ _ _ _ _ _ (c .before .before .before .before .before .before .before .before .before .before .before .before .before .before .before .before .before .before .before .before .before .before .before .before .before .before .before .before .before .before .before .before .before .before .before .before .before .level .ensures .0) (c .before .before .before .before .before .before .before .before .before .before .before .before .before .before .before .before .before .before .before .before .before .before .before .before .before .before .before .before .before .before .before .before .before .before .before .before .moved-in .ensures) (c .before .before .before .before .before .before .before .before .before .before .before .before .before .before .before .before .before .before .before .before .before .before .before .before .before .before .before .before .before .before .before .before .before .before .before .peek .ensures) (c .before .before .before .before .before .before .before .before .before .before .before .before .before .before .before .before .before .before .before .before .before .before .before .before .before .before .before .before .before .before .before .before .before .before .match .keys1) (c .before .before .before .before .before .before .before .before .before .before .before .before .before .before .before .before .before .before .before .before .before .before .before .before .before .before .before .before .before .before .before .before .before .step .ensures) (c .before .before .before .before .before .before .before .before .before .before .before .before .before .before .before .before .before .before .before .before .before .before .before .before .before .before .before .before .before .before .before .before .wide-at .ensures) (c .before .before .before .before .before .before .before .before .before .before .before .before .step2 .ensures) (c .before .before .before .before .before .before .before .before .before .before .before .to .ensures .1) (c .before .before .before .before .before .before .before .before .before .before .before .before .before .before .before .before .before .before .before .before .scoped .ensures .0) (c .before .before .before .before .before .before .before .before .before .before .before .before .before .before .before .before .before .before .before .before .scoped .ensures .1) (c .before .before .before .before .before .before .before .scoped2 .ensures .0) (c .before .before .before .before .before .before .before .scoped2 .ensures .1 ∙ c .before .before .before .before .before .before .before .before .before .before .before .before .before .before .before .before .before .before .before .before .before .before .before .before .before .before .before .before .before .before .before .before .before .before .before .before .before .before .less .ensures) (c .before .before .before .before .before .before .before .before .before .before .before .to .ensures .0 _ _ _) (runs-does (c .before .before .before .before .before .before .before .before .before .before .before .before .before .before .before .before .before .before .before .before .before .before .before .before .before .before .before .before .before .before .copy .ensures .0 _ _)) (steps.does-wide _ (c .before .before .before .before .before .before .before .before .before .before .before .before .before .before .before .before .before .before .before .before .before .before .before .before .before .before .wide .ensures .0 _ _)) (c .before .before .before .before .before .before .before .before .before .before .before .before .before .before .before .before .before .before .before .ba .ensures) (c .before .before .before .before .before .before .items .ensures)
 
 bl-returns-2 : (t : ℕ) → cycle.Lts-bl.Need-returns-2 (bl-claims t) (at-measure bl.Kinds.ps μ-bl bl.Reads.Pre t) bl.Reads.Post
-bl-returns-2 t c = looping.moves-empty _ _ _ _ _ _ _ _ _ _ _ _ _ _ (c .before .before .before .before .before .before .before .before .before .before .before .before .before .before .before .before .before .before .before .before .level .ensures .0) (c .before .before .before .before .before .before .before .before .before .before .before .before .before .before .before .before .before .before .before .moved-in .ensures) (c .before .before .before .before .before .before .before .before .before .before .before .before .before .before .before .before .before .before .peek .ensures) (c .before .before .before .before .before .before .before .before .before .before .before .before .before .before .before .before .before .match .keys2) (c .before .before .before .before .before .before .before .before .before .scoped3 .ensures .0) (c .before .before .before .before .before .before .before .before .before .scoped3 .ensures .1) (c .before .skip .ensures) (c .to2 .ensures .1) (c .to2 .ensures .0 _ _ _) (c .before .before .before .before .before .before .before .before .before .before .before .before .before .before .before .block .ensures .0 _ _) (c .before .before .before .before .before .before .before .before .ba2 .ensures)
+bl-returns-2 t c = looping.moves-empty _ _ _ _ _ _ _ _ _ _ _ _ _ _ (c .before .before .before .before .before .before .before .before .before .before .before .before .before .before .before .before .before .before .before .before .level .ensures .0) (c .before .before .before .before .before .before .before .before .before .before .before .before .before .before .before .before .before .before .before .moved-in .ensures) (c .before .before .before .before .before .before .before .before .before .before .before .before .before .before .before .before .before .before .peek .ensures) (c .before .before .before .before .before .before .before .before .before .before .before .before .before .before .before .before .before .match .keys2) (c .before .before .before .before .before .before .before .before .before .scoped3 .ensures .0) (c .before .before .before .before .before .before .before .before .before .scoped3 .ensures .1) (c .before .skip .ensures) (c .to2 .ensures .1) (c .to2 .ensures .0 _ _ _) (steps.does-block _ (c .before .before .before .before .before .before .before .before .before .before .before .before .before .before .before .block .ensures .0 _ _)) (c .before .before .before .before .before .before .before .before .ba2 .ensures)
 
 bl-returns-3 : (t : ℕ) → cycle.Lts-bl.Need-returns-3 (bl-claims t) (at-measure bl.Kinds.ps μ-bl bl.Reads.Pre t) bl.Reads.Post
-bl-returns-3 t c = looping.moves-statement _ _ _ _ _ _ _ _ _ _ _ _ _ _ _ _ (c .before .before .before .before .before .before .before .before .before .before .before .before .before .before .before .before .before .before .before .before .before .before .before .before .before .before .before .before .before .before .level .ensures .0) (c .before .before .before .before .before .before .before .before .before .before .before .before .before .before .before .before .before .before .before .before .before .before .before .before .before .before .before .before .before .moved-in .ensures) (c .before .before .before .before .before .before .before .before .before .before .before .before .before .before .before .before .before .before .before .before .before .before .before .before .before .before .before .before .peek .ensures) (c .before .before .before .before .before .before .before .before .before .before .before .before .before .before .before .before .before .before .before .before .before .before .before .before .before .before .before .match .rest .0 .1) (c .before .before .before .before .before .before .before .before .before .before .before .before .before .before .before .before .before .before .before .before .before .before .before .before .before .before .before .match .rest .1) (c .before .before .before .before .before .before .before .before .before .before .before .before .before .before .before .before .before .before .before .scoped4 .ensures .0) (c .before .before .before .before .before .before .before .before .before .before .before .before .before .before .before .before .before .before .before .scoped4 .ensures .1) (c .before .before .before .before .before .before .before .scoped5 .ensures .0) (c .before .before .before .before .before .before .before .scoped5 .ensures .1) (c .before .before .before .before .before .before .before .before .before .before .before .to3 .ensures .1) (c .before .before .before .before .before .before .before .before .before .before .before .to3 .ensures .0 _ _ _) (c .before .before .before .before .before .before .before .before .before .before .before .before .before .before .before .before .before .before .before .before .before .before .before .before .before .block2 .ensures .0 _ _) (c .before .before .before .before .before .before .before .before .before .before .before .before .before .before .before .before .before .before .ba3 .ensures) (c .before .before .before .before .before .before .item .ensures)
+bl-returns-3 t c = looping.moves-statement _ _ _ _ _ _ _ _ _ _ _ _ _ _ _ _ (c .before .before .before .before .before .before .before .before .before .before .before .before .before .before .before .before .before .before .before .before .before .before .before .before .before .before .before .before .before .before .level .ensures .0) (c .before .before .before .before .before .before .before .before .before .before .before .before .before .before .before .before .before .before .before .before .before .before .before .before .before .before .before .before .before .moved-in .ensures) (c .before .before .before .before .before .before .before .before .before .before .before .before .before .before .before .before .before .before .before .before .before .before .before .before .before .before .before .before .peek .ensures) (c .before .before .before .before .before .before .before .before .before .before .before .before .before .before .before .before .before .before .before .before .before .before .before .before .before .before .before .match .rest .0 .1) (c .before .before .before .before .before .before .before .before .before .before .before .before .before .before .before .before .before .before .before .before .before .before .before .before .before .before .before .match .rest .1) (c .before .before .before .before .before .before .before .before .before .before .before .before .before .before .before .before .before .before .before .scoped4 .ensures .0) (c .before .before .before .before .before .before .before .before .before .before .before .before .before .before .before .before .before .before .before .scoped4 .ensures .1) (c .before .before .before .before .before .before .before .scoped5 .ensures .0) (c .before .before .before .before .before .before .before .scoped5 .ensures .1) (c .before .before .before .before .before .before .before .before .before .before .before .to3 .ensures .1) (c .before .before .before .before .before .before .before .before .before .before .before .to3 .ensures .0 _ _ _) (steps.does-block _ (c .before .before .before .before .before .before .before .before .before .before .before .before .before .before .before .before .before .before .before .before .before .before .before .before .before .block2 .ensures .0 _ _)) (c .before .before .before .before .before .before .before .before .before .before .before .before .before .before .before .before .before .before .ba3 .ensures) (c .before .before .before .before .before .before .item .ensures)
 
 body-returns : (t : ℕ) → cycle.Lts-body.Need-returns (body-claims t) (at-measure body.Kinds.ps μ-body body.Reads.Pre t) body.Reads.Post
 body-returns t c = λ k s good items binds. law.good-none _ _ _ (c .if1 .taken) good
@@ -617,7 +622,7 @@ body-add-wide : (t : ℕ) → cycle.Lts-body.Need-add-wide (body-claims t) (at-m
 body-add-wide t c = let z : c .before .before .before .before .before .before .before .before .before .before .before .before .before .before .before .before .before .before .before .moved-in .result ≤ 65536 = limited-below _ _ (c .before .before .before .before .before .before .before .before .before .before .before .before .before .before .before .before .before .before .before .moved-in .ensures) in omega (arith, z, c .before .wide-at .ensures .bound)
 
 body-returns-2 : (t : ℕ) → cycle.Lts-body.Need-returns-2 (body-claims t) (at-measure body.Kinds.ps μ-body body.Reads.Pre t) body.Reads.Post
-body-returns-2 t c = bodying.body-done _ _ _ _ _ _ _ _ _ _ _ _ _ _ _ _ _ _ (c .before .before .before .before .before .before .before .before .before .before .before .before .before .before .before .before .before .before .before .before .before .before .before .before .before .before .before .before .before .before .before .before .before .before .before .before .before .before .before .before .before .before .before .before .before .less .ensures) (c .before .before .before .before .before .before .before .before .before .before .before .before .before .before .before .before .before .before .before .before .before .before .before .before .before .before .before .before .before .before .before .before .before .before .before .before .before .before .before .before .before .before .before .before .moved-in .ensures) (c .before .before .before .before .before .before .before .before .before .before .before .before .before .before .before .before .before .before .before .before .before .before .before .before .before .before .before .before .before .before .before .before .before .before .before .before .before .before .before .before .before .before .before .scoped .ensures .0) (c .before .before .before .before .before .before .before .before .before .before .before .before .before .before .before .before .before .before .before .before .before .before .before .before .before .before .before .before .before .before .before .before .before .before .before .before .before .before .before .before .before .before .before .scoped .ensures .1) (c .before .before .before .before .before .before .before .before .before .before .before .before .before .before .before .before .before .before .before .before .before .before .before .before .before .before .before .before .before .before .before .before .before .before .before .before .before .before .before .before .before .step .ensures) (c .before .before .before .before .before .before .before .before .before .before .before .before .before .before .before .before .before .before .before .before .before .before .before .before .before .before .before .before .before .before .before .before .before .before .before .before .before .before .before .before .copy .ensures .1) (c .before .before .before .before .before .before .before .before .before .before .before .before .before .before .before .before .before .before .before .before .before .before .before .before .before .before .before .before .before .before .before .before .before .before .before .before .before .before .before .before .copy .ensures .0 _ _) (c .before .before .before .before .before .before .before .before .before .before .before .before .before .before .before .before .before .before .before .before .before .before .before .before .before .before .before .before .before .before .before .before .before .before .first-bit .ensures) (c .before .before .before .before .before .before .before .before .before .before .before .before .before .before .before .before .before .before .before .before .before .before .before .before .before .before .before .before .before .before .before .before .before .slot .ensures) (c .before .before .before .before .before .before .before .before .before .before .before .before .before .before .before .before .before .before .before .before .before .before .before .before .before .before .wide-at .ensures) (c .before .before .before .before .before .before .before .before .before .before .before .before .before .before .before .before .before .before .before .before .before .before .before .before .wide .ensures .0 _ _) (c .before .before .before .before .before .before .before .before .before .before .before .before .before .before .before .before .before .before .ba .ensures) (c .before .before .before .before .before .before .before .before .before .before .to .ensures .0 _ _ _) (c .before .before .before .before .before .before .before .before .before .before .before .step2 .ensures) (c .before .before .before .before .before .before .before .before .before .before .to .ensures .1) (c .before .before .before .before .before .before .items .ensures)
+body-returns-2 t c = bodying.body-done _ _ _ _ _ _ _ _ _ _ _ _ _ _ _ _ _ _ (c .before .before .before .before .before .before .before .before .before .before .before .before .before .before .before .before .before .before .before .before .before .before .before .before .before .before .before .before .before .before .before .before .before .before .before .before .before .before .before .before .before .before .before .before .before .less .ensures) (c .before .before .before .before .before .before .before .before .before .before .before .before .before .before .before .before .before .before .before .before .before .before .before .before .before .before .before .before .before .before .before .before .before .before .before .before .before .before .before .before .before .before .before .before .moved-in .ensures) (c .before .before .before .before .before .before .before .before .before .before .before .before .before .before .before .before .before .before .before .before .before .before .before .before .before .before .before .before .before .before .before .before .before .before .before .before .before .before .before .before .before .before .before .scoped .ensures .0) (c .before .before .before .before .before .before .before .before .before .before .before .before .before .before .before .before .before .before .before .before .before .before .before .before .before .before .before .before .before .before .before .before .before .before .before .before .before .before .before .before .before .before .before .scoped .ensures .1) (c .before .before .before .before .before .before .before .before .before .before .before .before .before .before .before .before .before .before .before .before .before .before .before .before .before .before .before .before .before .before .before .before .before .before .before .before .before .before .before .before .before .step .ensures) (c .before .before .before .before .before .before .before .before .before .before .before .before .before .before .before .before .before .before .before .before .before .before .before .before .before .before .before .before .before .before .before .before .before .before .before .before .before .before .before .before .copy .ensures .1) (runs-does (c .before .before .before .before .before .before .before .before .before .before .before .before .before .before .before .before .before .before .before .before .before .before .before .before .before .before .before .before .before .before .before .before .before .before .before .before .before .before .before .before .copy .ensures .0 _ _)) (c .before .before .before .before .before .before .before .before .before .before .before .before .before .before .before .before .before .before .before .before .before .before .before .before .before .before .before .before .before .before .before .before .before .before .first-bit .ensures) (c .before .before .before .before .before .before .before .before .before .before .before .before .before .before .before .before .before .before .before .before .before .before .before .before .before .before .before .before .before .before .before .before .before .slot .ensures) (c .before .before .before .before .before .before .before .before .before .before .before .before .before .before .before .before .before .before .before .before .before .before .before .before .before .before .wide-at .ensures) (steps.does-wide _ (c .before .before .before .before .before .before .before .before .before .before .before .before .before .before .before .before .before .before .before .before .before .before .before .before .wide .ensures .0 _ _)) (c .before .before .before .before .before .before .before .before .before .before .before .before .before .before .before .before .before .before .ba .ensures) (c .before .before .before .before .before .before .before .before .before .before .to .ensures .0 _ _ _) (c .before .before .before .before .before .before .before .before .before .before .before .step2 .ensures) (c .before .before .before .before .before .before .before .before .before .before .to .ensures .1) (c .before .before .before .before .before .before .items .ensures)
 
 ca-seq-requires : (t : ℕ) → cycle.Lts-ca.Need-seq-requires (ca-claims t) (at-measure ca.Kinds.ps μ-ca ca.Reads.Pre t) ca.Reads.Post
 ca-seq-requires t c κs = (omega (arith, c .before .before .before .before .before .before .before .before .before .before .before .before .before .before .before .before .before .before .before .before .before .before .pre .0, c .before .before .before .before .before .before .before .before .before .before .before .scoped .ensures .1, c .before .before .before .before .before .before .before .before .before .before .before .before .before .before .before .before .before .less .ensures, looping.moved-level _ _ _ _ (c .before .before .before .before .before .before .before .before .before .before .before .before .before .is-moved .ensures) (c .before .before .before .before .before .before .before .before .before .before .before .before .if2 .taken)), tt)
@@ -626,7 +631,7 @@ ca-bl-requires : (t : ℕ) → cycle.Lts-ca.Need-bl-requires (ca-claims t) (at-m
 ca-bl-requires t c κs = (omega (arith, c .before .before .before .before .before .before .before .before .before .before .before .before .before .before .before .before .before .before .before .before .before .before .before .before .before .before .before .before .before .before .before .before .pre .0, c .before .before .before .before .before .before .before .before .before .before .before .before .before .before .before .before .before .before .before .before .before .scoped .ensures .1, c .before .before .before .before .before .before .before .before .before .before .before .before .before .before .before .before .before .before .before .before .before .before .before .before .before .before .before .less .ensures, looping.moved-level _ _ _ _ (c .before .before .before .before .before .before .before .before .before .before .before .before .before .before .before .before .before .before .before .before .before .before .before .is-moved .ensures) (c .before .before .before .before .before .before .before .before .before .before .before .before .before .before .before .before .before .before .before .before .before .before .if2 .taken)), tt)
 
 ca-returns : (t : ℕ) → cycle.Lts-ca.Need-returns (ca-claims t) (at-measure ca.Kinds.ps μ-ca ca.Reads.Pre t) ca.Reads.Post
-ca-returns t c = looping.catch-moves _ _ _ _ _ _ _ _ _ _ _ _ _ _ _ _ (c .before .before .before .before .before .before .before .before .before .before .before .before .before .before .before .before .before .before .before .before .before .before .before .before .before .before .before .before .before .before .before .before .before .before .before .before .less .ensures) (c .before .before .before .before .before .before .before .before .before .before .before .before .before .before .before .before .before .before .before .before .before .before .before .before .before .before .before .before .before .before .before .before .before .before .before .step .ensures) (c .before .before .before .before .before .before .before .before .before .before .before .before .before .before .before .before .before .before .before .before .before .before .before .before .before .before .before .before .before .before .before .before .before .before .has-first .ensures) (c .before .before .before .before .before .before .before .before .before .before .before .before .before .before .before .before .before .before .before .before .before .before .before .before .before .before .before .before .before .before .before .before .before .if1 .taken) (c .before .before .before .before .before .before .before .before .before .before .before .before .before .before .before .before .before .before .before .before .before .before .before .before .before .before .before .before .before .before .before .before .is-moved .ensures) (c .before .before .before .before .before .before .before .before .before .before .before .before .before .before .before .before .before .before .before .before .before .before .before .before .before .before .before .before .before .before .before .if2 .taken) (c .before .before .before .before .before .before .before .before .before .before .before .before .before .before .before .before .before .before .before .before .before .before .before .before .before .before .before .before .before .before .scoped .ensures .0) (c .before .before .before .before .before .before .before .before .before .before .before .before .before .before .before .before .before .before .before .before .before .before .before .before .before .before .before .before .before .before .scoped .ensures .1) (c .before .before .before .before .before .before .before .before .before .before .before .before .before .before .before .before .before .before .before .before .before .before .before .before .before .before .before .before .moves-make .ensures .0) (c .before .before .before .before .before .before .before .before .before .before .before .before .before .before .before .before .before .before .before .before .before .before .before .before .copy .ensures .1) (c .before .skip .ensures) (c .to .ensures .1) (c .to .ensures .0 _ _ _) (c .before .before .before .before .before .before .before .before .before .before .before .before .before .before .before .before .before .before .before .before .before .before .before .before .before .before .before .before .moves-make .ensures .1 _ _) (c .before .before .before .before .before .before .before .before .before .before .before .before .before .before .before .before .before .before .before .before .before .before .before .before .copy .ensures .0 _ _) (told.items-own _ _ _ _ _ _ _ _ _ _ _ told.untold-binding (c .before .before .before .before .before .before .before .before .before .before .before .before .before .before .before .before .before .before .seq .ensures)) (c .before .before .before .before .before .before .before .before .bl .ensures)
+ca-returns t c = looping.catch-moves _ _ _ _ _ _ _ _ _ _ _ _ _ _ _ _ (c .before .before .before .before .before .before .before .before .before .before .before .before .before .before .before .before .before .before .before .before .before .before .before .before .before .before .before .before .before .before .before .before .before .before .before .before .less .ensures) (c .before .before .before .before .before .before .before .before .before .before .before .before .before .before .before .before .before .before .before .before .before .before .before .before .before .before .before .before .before .before .before .before .before .before .before .step .ensures) (c .before .before .before .before .before .before .before .before .before .before .before .before .before .before .before .before .before .before .before .before .before .before .before .before .before .before .before .before .before .before .before .before .before .before .has-first .ensures) (c .before .before .before .before .before .before .before .before .before .before .before .before .before .before .before .before .before .before .before .before .before .before .before .before .before .before .before .before .before .before .before .before .before .if1 .taken) (c .before .before .before .before .before .before .before .before .before .before .before .before .before .before .before .before .before .before .before .before .before .before .before .before .before .before .before .before .before .before .before .before .is-moved .ensures) (c .before .before .before .before .before .before .before .before .before .before .before .before .before .before .before .before .before .before .before .before .before .before .before .before .before .before .before .before .before .before .before .if2 .taken) (c .before .before .before .before .before .before .before .before .before .before .before .before .before .before .before .before .before .before .before .before .before .before .before .before .before .before .before .before .before .before .scoped .ensures .0) (c .before .before .before .before .before .before .before .before .before .before .before .before .before .before .before .before .before .before .before .before .before .before .before .before .before .before .before .before .before .before .scoped .ensures .1) (c .before .before .before .before .before .before .before .before .before .before .before .before .before .before .before .before .before .before .before .before .before .before .before .before .before .before .before .before .moves-make .ensures .0) (c .before .before .before .before .before .before .before .before .before .before .before .before .before .before .before .before .before .before .before .before .before .before .before .before .copy .ensures .1) (c .before .skip .ensures) (c .to .ensures .1) (c .to .ensures .0 _ _ _) (c .before .before .before .before .before .before .before .before .before .before .before .before .before .before .before .before .before .before .before .before .before .before .before .before .before .before .before .before .moves-make .ensures .1 _ _) (runs-does (c .before .before .before .before .before .before .before .before .before .before .before .before .before .before .before .before .before .before .before .before .before .before .before .before .copy .ensures .0 _ _)) (told.items-own _ _ _ _ _ _ _ _ _ _ _ told.untold-binding (c .before .before .before .before .before .before .before .before .before .before .before .before .before .before .before .before .before .before .seq .ensures)) (c .before .before .before .before .before .before .before .before .bl .ensures)
 
 ca-returns-2 : (t : ℕ) → cycle.Lts-ca.Need-returns-2 (ca-claims t) (at-measure ca.Kinds.ps μ-ca ca.Reads.Pre t) ca.Reads.Post
 ca-returns-2 t c = looping.catch-keeps _ _ _ _ _ _ _ _ _ (c .before .before .before .before .before .before .before .before .before .before .before .before .before .before .before .less .ensures) (c .before .before .before .before .before .before .before .before .before .before .before .before .before .before .step .ensures) (c .before .before .before .before .before .before .before .before .before .before .before .before .before .has-first .ensures) (c .before .before .before .before .before .before .before .before .before .before .before .before .if1 .taken) (c .before .before .before .before .before .before .before .before .before .before .before .is-moved .ensures) (c .before .before .before .before .before .before .before .before .before .before .if2 .left) (c .before .before .before .before .before .before .plain .ensures)
@@ -647,10 +652,10 @@ decl-returns : (t : ℕ) → cycle.Lts-decl.Need-returns (decl-claims t) (at-mea
 decl-returns t c = λ k. (node-none _ _ _ (c .if1 .taken), λ good. good-none _ _ _ (c .if1 .taken) good)
 
 decl-returns-2 : (t : ℕ) → cycle.Lts-decl.Need-returns-2 (decl-claims t) (at-measure decl.Kinds.ps μ-decl decl.Reads.Pre t) decl.Reads.Post
-decl-returns-2 t c = declaring.declaration-refuses _ _ _ _ _ _ _ (c .before .before .before .before .before .before .before .declaration-refusal .ensures) (c .before .before .before .before .before .before .if2 .taken) (c .before .before .before .before .refuse .ensures .0 _ _) (c .before .skip .ensures) (c .to .ensures .1) (c .to .ensures .0 _ _ _)
+decl-returns-2 t c = declaring.declaration-refuses _ _ _ _ _ _ _ (c .before .before .before .before .before .before .before .declaration-refusal .ensures) (c .before .before .before .before .before .before .if2 .taken) (runs-does (c .before .before .before .before .refuse .ensures .0 _ _)) (c .before .skip .ensures) (c .to .ensures .1) (c .to .ensures .0 _ _ _)
 
 decl-returns-3 : (t : ℕ) → cycle.Lts-decl.Need-returns-3 (decl-claims t) (at-measure decl.Kinds.ps μ-decl decl.Reads.Pre t) decl.Reads.Post
-decl-returns-3 t c = declaring.declaration-writes _ _ _ _ _ _ _ _ _ _ _ _ _ _ _ _ _ _ (c .before .before .before .before .before .before .before .before .before .before .before .before .before .before .before .before .before .before .before .before .before .before .before .before .before .before .before .before .before .before .before .before .before .before .before .declaration-refusal .ensures) (c .before .before .before .before .before .before .before .before .before .before .before .before .before .before .before .before .before .before .before .before .before .before .before .before .before .before .before .before .before .before .before .before .before .before .if2 .left) (c .before .before .before .before .before .before .before .before .before .before .before .before .before .before .before .before .before .before .before .before .before .before .before .before .before .before .before .before .before .before .before .before .before .before .before .before .before .before .at-root .ensures) (c .before .before .before .before .before .before .before .before .before .before .before .before .before .before .before .before .before .before .before .before .before .before .before .before .before .before .before .before .before .before .before .declaration-hands .ensures .0) (c .before .before .before .before .before .before .before .before .before .before .before .before .before .before .before .before .before .before .before .before .before .before .before .before .before .before .before .before .before .before .before .declaration-hands .ensures .1 _) (c .before .before .before .before .before .before .before .before .before .before .before .before .before .before .before .before .before .before .before .before .before .before .before .before .before .before .step .ensures) (c .before .before .before .before .before .before .before .before .before .before .before .before .before .before .before .before .before .before .before .before .before .before .before .before .before .declaration-becomes .ensures) (c .before .before .before .before .before .before .before .before .before .before .before .before .before .before .before .before .before .before .before .before .before .before .before .copy .ensures .0 _ _) (c .before .before .before .before .before .before .before .before .before .before .before .before .before .before .before .before .before .before .before .wide .ensures .0 _ _) (c .before .before .before .before .before .before .before .before .before .before .before .before .before .before .before .before .step2 .ensures) (c .before .before .before .before .before .before .before .before .before .before .before .before .before .before .before .to2 .ensures .1) (c .before .before .before .before .before .before .before .before .before .before .before .before .before .before .before .to2 .ensures .0 _ _ _) (c .before .before .before .before .before .before .before .before .before .before .before .before .before .before .skip2 .ensures) (c .before .before .before .before .before .before .before .before .before .before .less .ensures) (told.with-own _ (c .before .before .before .before .before .before .before .before .before .under .ensures .0) (c .before .before .before .before .before .before .before .before .before .before .before .before .before .before .before .before .before .before .before .before .before .before .before .before .before .before .before .before .before .before .before .before .before .before .before .before .before .before .at-root .ensures)) (c .before .before .before .before .before .before .before .before .before .under .ensures .1) (c .before .before .before .before .before .before .before .before .wide-at .ensures) (told.items-with _ _ _ _ _ _ _ _ _ _ _ told.told-declarator (c .before .before .before .before .before .before .before .seq .ensures)) (c .to3 .ensures .1) (c .to3 .ensures .0 _ _ _)
+decl-returns-3 t c = declaring.declaration-writes _ _ _ _ _ _ _ _ _ _ _ _ _ _ _ _ _ _ (c .before .before .before .before .before .before .before .before .before .before .before .before .before .before .before .before .before .before .before .before .before .before .before .before .before .before .before .before .before .before .before .before .before .before .before .declaration-refusal .ensures) (c .before .before .before .before .before .before .before .before .before .before .before .before .before .before .before .before .before .before .before .before .before .before .before .before .before .before .before .before .before .before .before .before .before .before .if2 .left) (c .before .before .before .before .before .before .before .before .before .before .before .before .before .before .before .before .before .before .before .before .before .before .before .before .before .before .before .before .before .before .before .before .before .before .before .before .before .before .at-root .ensures) (c .before .before .before .before .before .before .before .before .before .before .before .before .before .before .before .before .before .before .before .before .before .before .before .before .before .before .before .before .before .before .before .declaration-hands .ensures .0) (c .before .before .before .before .before .before .before .before .before .before .before .before .before .before .before .before .before .before .before .before .before .before .before .before .before .before .before .before .before .before .before .declaration-hands .ensures .1 _) (c .before .before .before .before .before .before .before .before .before .before .before .before .before .before .before .before .before .before .before .before .before .before .before .before .before .before .step .ensures) (c .before .before .before .before .before .before .before .before .before .before .before .before .before .before .before .before .before .before .before .before .before .before .before .before .before .declaration-becomes .ensures) (runs-does (c .before .before .before .before .before .before .before .before .before .before .before .before .before .before .before .before .before .before .before .before .before .before .before .copy .ensures .0 _ _)) (steps.does-wide _ (c .before .before .before .before .before .before .before .before .before .before .before .before .before .before .before .before .before .before .before .wide .ensures .0 _ _)) (c .before .before .before .before .before .before .before .before .before .before .before .before .before .before .before .before .step2 .ensures) (c .before .before .before .before .before .before .before .before .before .before .before .before .before .before .before .to2 .ensures .1) (c .before .before .before .before .before .before .before .before .before .before .before .before .before .before .before .to2 .ensures .0 _ _ _) (c .before .before .before .before .before .before .before .before .before .before .before .before .before .before .skip2 .ensures) (c .before .before .before .before .before .before .before .before .before .before .less .ensures) (told.with-own _ (c .before .before .before .before .before .before .before .before .before .under .ensures .0) (c .before .before .before .before .before .before .before .before .before .before .before .before .before .before .before .before .before .before .before .before .before .before .before .before .before .before .before .before .before .before .before .before .before .before .before .before .before .before .at-root .ensures)) (c .before .before .before .before .before .before .before .before .before .under .ensures .1) (c .before .before .before .before .before .before .before .before .wide-at .ensures) (told.items-with _ _ _ _ _ _ _ _ _ _ _ told.told-declarator (c .before .before .before .before .before .before .before .seq .ensures)) (c .to3 .ensures .1) (c .to3 .ensures .0 _ _ _)
 
 deep-returns : (t : ℕ) → cycle.Lts-deep.Need-returns (deep-claims t) (at-measure deep.Kinds.ps μ-deep deep.Reads.Pre t) deep.Reads.Post
 deep-returns t c = λ good mode suit. good-none _ _ _ (c .if1 .taken) good
@@ -686,7 +691,7 @@ dh-same-length-3 : (t : ℕ) → cycle.Lts-dh.Need-same-length-3 (dh-claims t) (
 dh-same-length-3 t c = omega (arith, c .before .before .await-of .kept, c .before .before .before .before .before .before .before .before .before .before .bl .kept, c .before .before .before .before .before .before .before .before .before .before .before .before .before .before .before .before .before .before .before .before .before .node .kept, c .before .before .before .before .before .before .before .before .before .before .before .before .before .before .before .before .before .before .before .before .before .before .before .before .before .before .before .before .before .before .before .before .seq .kept, c .before .before .before .before .before .before .before .before .before .before .before .before .before .before .before .before .before .before .before .before .before .before .before .before .before .before .before .before .before .before .before .before .before .before .before .before .before .before .before .copy .kept, c .before .before .before .before .before .before .before .before .before .before .before .before .before .before .before .before .before .before .before .before .before .before .before .before .before .before .before .before .before .before .before .before .before .before .before .before .before .before .before .before .before .before .before .moves-make .kept)
 
 dh-returns-2 : (t : ℕ) → cycle.Lts-dh.Need-returns-2 (dh-claims t) (at-measure dh.Kinds.ps μ-dh dh.Reads.Pre t) dh.Reads.Post
-dh-returns-2 t c = looping.declaring-does _ _ _ _ _ _ _ _ _ _ _ _ _ _ _ _ _ _ _ _ _ (c .before .before .before .before .before .before .before .before .before .before .before .before .before .before .before .before .before .before .before .before .before .before .before .before .before .before .before .before .before .before .before .before .before .before .before .before .before .before .before .before .before .before .before .before .before .before .before .before .before .before .less .ensures) (c .before .before .before .before .before .before .before .before .before .before .before .before .before .before .before .before .before .before .before .before .before .before .before .before .before .before .before .before .before .before .before .before .before .before .before .before .before .before .before .before .before .before .before .before .before .before .before .before .before .less2 .ensures) (c .before .before .before .before .before .before .before .before .before .before .before .before .before .before .before .before .before .before .before .before .before .before .before .before .before .before .before .before .before .before .before .before .before .before .before .before .before .before .before .before .before .before .before .before .before .before .before .before .step .ensures) (c .before .before .before .before .before .before .before .before .before .before .before .before .before .before .before .before .before .before .before .before .before .before .before .before .before .before .before .before .before .before .before .before .before .before .before .before .before .before .before .before .before .before .before .before .before .before .before .step2 .ensures) (c .before .before .before .before .before .before .before .before .before .before .before .before .before .before .before .before .before .before .before .before .before .before .before .before .before .before .before .before .before .before .before .before .before .before .before .before .before .before .before .before .before .before .before .before .before .before .wide-at .ensures) (c .before .before .before .before .before .before .before .before .before .before .before .before .before .before .before .before .before .before .before .before .before .before .before .before .before .before .before .before .before .before .before .before .before .before .before .before .before .before .before .before .before .before .before .before .before .step3 .ensures) (c .before .before .before .before .before .before .before .before .before .before .before .before .before .before .before .before .before .before .before .before .before .before .before .before .before .before .before .before .before .before .before .before .before .scoped .ensures .0) (c .before .before .before .before .before .before .before .before .before .before .before .before .before .before .before .before .before .before .before .before .before .before .before .before .before .before .before .before .before .before .before .before .before .scoped .ensures .1) (c .before .before .before .before .before .before .before .before .before .before .before .before .before .before .before .before .before .before .before .before .before .before .scoped2 .ensures .0) (c .before .before .before .before .before .before .before .before .before .before .before .before .before .before .before .before .before .before .before .before .before .before .scoped2 .ensures .1) (c .before .before .before .before .before .before .before .before .before .before .before .scoped3 .ensures .0) (c .before .before .before .before .before .before .before .before .before .before .before .scoped3 .ensures .1) (c .before .before .before .before .before .before .before .before .before .before .before .before .before .before .before .before .before .before .before .before .before .before .before .before .before .before .before .before .before .before .before .before .before .before .before .before .before .before .before .before .before .before .before .moves-make .ensures .0) (c .before .before .before .before .before .before .before .before .before .before .before .before .before .before .before .before .before .before .before .before .before .before .before .before .before .before .before .before .before .before .before .before .before .before .before .before .before .before .before .copy .ensures .1) (c .before .before .before .before .before .before .before .before .before .before .before .before .before .before .before .before .before .before .before .before .before .before .before .before .before .before .before .before .before .before .before .before .before .before .before .before .before .before .before .before .before .before .before .moves-make .ensures .1 _ _) (c .before .before .before .before .before .before .before .before .before .before .before .before .before .before .before .before .before .before .before .before .before .before .before .before .before .before .before .before .before .before .before .before .before .before .before .before .before .before .before .copy .ensures .0 _ _) (told.items-own _ _ _ _ _ _ _ _ _ _ _ told.untold-binding (c .before .before .before .before .before .before .before .before .before .before .before .before .before .before .before .before .before .before .before .before .before .before .before .before .before .before .before .before .before .before .before .before .seq .ensures)) (c .before .before .before .before .before .before .before .before .before .before .before .before .before .before .before .before .before .before .before .before .before .node .ensures) (c .before .before .before .before .before .before .before .before .before .before .bl .ensures) (c .before .before .await-of .ensures _ _)
+dh-returns-2 t c = looping.declaring-does _ _ _ _ _ _ _ _ _ _ _ _ _ _ _ _ _ _ _ _ _ (c .before .before .before .before .before .before .before .before .before .before .before .before .before .before .before .before .before .before .before .before .before .before .before .before .before .before .before .before .before .before .before .before .before .before .before .before .before .before .before .before .before .before .before .before .before .before .before .before .before .before .less .ensures) (c .before .before .before .before .before .before .before .before .before .before .before .before .before .before .before .before .before .before .before .before .before .before .before .before .before .before .before .before .before .before .before .before .before .before .before .before .before .before .before .before .before .before .before .before .before .before .before .before .before .less2 .ensures) (c .before .before .before .before .before .before .before .before .before .before .before .before .before .before .before .before .before .before .before .before .before .before .before .before .before .before .before .before .before .before .before .before .before .before .before .before .before .before .before .before .before .before .before .before .before .before .before .before .step .ensures) (c .before .before .before .before .before .before .before .before .before .before .before .before .before .before .before .before .before .before .before .before .before .before .before .before .before .before .before .before .before .before .before .before .before .before .before .before .before .before .before .before .before .before .before .before .before .before .before .step2 .ensures) (c .before .before .before .before .before .before .before .before .before .before .before .before .before .before .before .before .before .before .before .before .before .before .before .before .before .before .before .before .before .before .before .before .before .before .before .before .before .before .before .before .before .before .before .before .before .before .wide-at .ensures) (c .before .before .before .before .before .before .before .before .before .before .before .before .before .before .before .before .before .before .before .before .before .before .before .before .before .before .before .before .before .before .before .before .before .before .before .before .before .before .before .before .before .before .before .before .before .step3 .ensures) (c .before .before .before .before .before .before .before .before .before .before .before .before .before .before .before .before .before .before .before .before .before .before .before .before .before .before .before .before .before .before .before .before .before .scoped .ensures .0) (c .before .before .before .before .before .before .before .before .before .before .before .before .before .before .before .before .before .before .before .before .before .before .before .before .before .before .before .before .before .before .before .before .before .scoped .ensures .1) (c .before .before .before .before .before .before .before .before .before .before .before .before .before .before .before .before .before .before .before .before .before .before .scoped2 .ensures .0) (c .before .before .before .before .before .before .before .before .before .before .before .before .before .before .before .before .before .before .before .before .before .before .scoped2 .ensures .1) (c .before .before .before .before .before .before .before .before .before .before .before .scoped3 .ensures .0) (c .before .before .before .before .before .before .before .before .before .before .before .scoped3 .ensures .1) (c .before .before .before .before .before .before .before .before .before .before .before .before .before .before .before .before .before .before .before .before .before .before .before .before .before .before .before .before .before .before .before .before .before .before .before .before .before .before .before .before .before .before .before .moves-make .ensures .0) (c .before .before .before .before .before .before .before .before .before .before .before .before .before .before .before .before .before .before .before .before .before .before .before .before .before .before .before .before .before .before .before .before .before .before .before .before .before .before .before .copy .ensures .1) (c .before .before .before .before .before .before .before .before .before .before .before .before .before .before .before .before .before .before .before .before .before .before .before .before .before .before .before .before .before .before .before .before .before .before .before .before .before .before .before .before .before .before .before .moves-make .ensures .1 _ _) (runs-does (c .before .before .before .before .before .before .before .before .before .before .before .before .before .before .before .before .before .before .before .before .before .before .before .before .before .before .before .before .before .before .before .before .before .before .before .before .before .before .before .copy .ensures .0 _ _)) (told.items-own _ _ _ _ _ _ _ _ _ _ _ told.untold-binding (c .before .before .before .before .before .before .before .before .before .before .before .before .before .before .before .before .before .before .before .before .before .before .before .before .before .before .before .before .before .before .before .before .seq .ensures)) (c .before .before .before .before .before .before .before .before .before .before .before .before .before .before .before .before .before .before .before .before .before .node .ensures) (c .before .before .before .before .before .before .before .before .before .before .bl .ensures) (runs-does (c .before .before .await-of .ensures .1 _ _))
 
 db-returns : (t : ℕ) → cycle.Lts-db.Need-returns (db-claims t) (at-measure db.Kinds.ps μ-db db.Reads.Pre t) db.Reads.Post
 db-returns t c = λ k good mode suit. good-none _ _ _ (c .if1 .taken) good
@@ -728,10 +733,10 @@ eb-same-length-6 : (t : ℕ) → cycle.Lts-eb.Need-same-length-6 (eb-claims t) (
 eb-same-length-6 t c = omega (arith, c .before .before .before .before .before .before .before .before .before .before .before .before .before .before .before .before .before .before .before .before .before .before .before .before .before .before .before .before .before .before .before .before .before .before .before .before .before .put2 .kept, c .before .before .before .before .before .before .before .before .before .before .before .before .before .before .before .before .before .before .before .before .before .before .before .before .before .before .before .before .before .before .before .before .before .wide .kept, c .before .before .before .before .before .before .before .before .before .before .before .before .before .before .before .before .before .before .before .before .before .before .before .before .before .before .before .ba .kept, c .before .before .before .before .before .before .before .before .before .before .before .before .before .before .before .before .before .put22 .kept, c .before .before .before .before .before .before .before .before .before .before .before .before .before .new-mark .kept, c .before .before .before .before .before .before .node .kept)
 
 eb-returns-2 : (t : ℕ) → cycle.Lts-eb.Need-returns-2 (eb-claims t) (at-measure eb.Kinds.ps μ-eb eb.Reads.Pre t) eb.Reads.Post
-eb-returns-2 t c = bodying.body-returned _ _ _ _ _ _ _ _ _ _ _ _ _ (c .before .before .before .before .before .before .before .before .before .before .before .before .before .before .before .before .before .before .before .before .before .before .before .before .before .before .before .before .before .before .before .before .before .before .before .before .before .before .before .before .before .peek .ensures) (c .before .before .before .before .before .before .before .before .before .before .before .before .before .before .before .before .before .before .before .before .before .before .before .before .before .before .before .before .before .before .before .before .before .before .before .before .before .before .before .before .if1 .left) (c .before .before .before .before .before .before .before .before .before .before .before .before .before .before .before .before .before .before .before .before .before .before .before .before .before .before .before .before .before .before .before .before .before .before .before .before .before .before .before .moved-in .ensures) (c .before .before .before .before .before .before .before .before .before .before .before .before .before .before .before .before .before .before .before .before .before .before .before .before .before .before .before .before .before .before .before .before .before .before .before .before .before .put2 .ensures .0 _ _) (c .before .before .before .before .before .before .before .before .before .before .before .before .before .before .before .before .before .before .before .before .before .before .before .before .before .before .before .before .before .before .before .before .before .wide .ensures .0 _ _) (c .before .before .before .before .before .before .before .before .before .before .before .before .before .before .before .before .before .before .before .before .before .before .before .before .before .before .before .ba .ensures) (c .before .before .before .before .before .before .before .before .before .before .before .before .before .before .before .before .before .before .before .before .mark .ensures) (c .before .before .before .before .before .before .before .before .before .before .before .before .before .before .before .before .before .before .before .marked .ensures .0) (c .before .before .before .before .before .before .before .before .before .before .before .before .before .before .before .before .before .before .before .marked .ensures .1) (c .before .before .before .before .before .before .before .before .before .before .before .before .before .before .before .before .before .put22 .ensures .0 _ _) (c .before .before .before .before .before .before .before .before .before .before .before .before .before .new-mark .ensures .0 _ _) (c .before .before .before .before .before .before .before .before .before .before .to .ensures .0 _ _ _) (c .before .before .before .before .before .before .before .before .before .before .to .ensures .1) (c .before .before .before .before .before .before .node .ensures)
+eb-returns-2 t c = bodying.body-returned _ _ _ _ _ _ _ _ _ _ _ _ _ (c .before .before .before .before .before .before .before .before .before .before .before .before .before .before .before .before .before .before .before .before .before .before .before .before .before .before .before .before .before .before .before .before .before .before .before .before .before .before .before .before .before .peek .ensures) (c .before .before .before .before .before .before .before .before .before .before .before .before .before .before .before .before .before .before .before .before .before .before .before .before .before .before .before .before .before .before .before .before .before .before .before .before .before .before .before .before .if1 .left) (c .before .before .before .before .before .before .before .before .before .before .before .before .before .before .before .before .before .before .before .before .before .before .before .before .before .before .before .before .before .before .before .before .before .before .before .before .before .before .before .moved-in .ensures) (runs-does (c .before .before .before .before .before .before .before .before .before .before .before .before .before .before .before .before .before .before .before .before .before .before .before .before .before .before .before .before .before .before .before .before .before .before .before .before .before .put2 .ensures .0 _ _)) (steps.does-wide _ (c .before .before .before .before .before .before .before .before .before .before .before .before .before .before .before .before .before .before .before .before .before .before .before .before .before .before .before .before .before .before .before .before .before .wide .ensures .0 _ _)) (c .before .before .before .before .before .before .before .before .before .before .before .before .before .before .before .before .before .before .before .before .before .before .before .before .before .before .before .ba .ensures) (c .before .before .before .before .before .before .before .before .before .before .before .before .before .before .before .before .before .before .before .before .mark .ensures) (c .before .before .before .before .before .before .before .before .before .before .before .before .before .before .before .before .before .before .before .marked .ensures .0) (c .before .before .before .before .before .before .before .before .before .before .before .before .before .before .before .before .before .before .before .marked .ensures .1) (runs-does (c .before .before .before .before .before .before .before .before .before .before .before .before .before .before .before .before .before .put22 .ensures .0 _ _)) (runs-does (c .before .before .before .before .before .before .before .before .before .before .before .before .before .new-mark .ensures .0 _ _)) (c .before .before .before .before .before .before .before .before .before .before .to .ensures .0 _ _ _) (c .before .before .before .before .before .before .before .before .before .before .to .ensures .1) (c .before .before .before .before .before .before .node .ensures)
 
 ek-returns : (t : ℕ) → cycle.Lts-ek.Need-returns (ek-claims t) (at-measure ek.Kinds.ps μ-ek ek.Reads.Pre t) ek.Reads.Post
-ek-returns t c = excluding.excluded-string _ _ _ _ _ _ _ _ _ (c .before .before .before .before .before .before .before .before .before .less .ensures) (c .before .before .before .before .before .before .before .step .ensures) (c .before .before .before .before .before .before .before .before .skip .ensures) (c .to .ensures .1) (c .to .ensures .0 _ _ _) (c .before .before .before .before .before .before .key-sort .ensures) (c .before .before .before .before .before .match .keys1) (c .before .before .before .string .ensures .1 _ _)
+ek-returns t c = excluding.excluded-string _ _ _ _ _ _ _ _ _ (c .before .before .before .before .before .before .before .before .before .less .ensures) (c .before .before .before .before .before .before .before .step .ensures) (c .before .before .before .before .before .before .before .before .skip .ensures) (c .to .ensures .1) (c .to .ensures .0 _ _ _) (c .before .before .before .before .before .before .key-sort .ensures) (c .before .before .before .before .before .match .keys1) (sources.does-string _ _ _ (c .before .before .before .string .ensures .1 _ _))
 
 ek-returns-2 : (t : ℕ) → cycle.Lts-ek.Need-returns-2 (ek-claims t) (at-measure ek.Kinds.ps μ-ek ek.Reads.Pre t) ek.Reads.Post
 ek-returns-2 t c = excluding.excluded-standing _ _ _ _ _ _ _ _ _ _ _ _ _ (c .before .before .before .before .before .before .before .before .before .before .before .before .before .before .before .before .before .less .ensures) (c .before .before .before .before .before .before .before .before .before .before .before .before .before .before .before .step .ensures) (c .before .before .before .before .before .before .before .before .before .before .before .before .before .before .before .before .skip .ensures) (c .to3 .ensures .1) (c .before .before .before .before .before .before .before .before .under .ensures .0) (c .before .before .before .before .before .before .before .before .under .ensures .1) (c .before .before .before .before .before .before .before .before .before .before .before .before .to2 .ensures .1) (c .before .before .before .before .before .before .before .before .before .before .before .before .to2 .ensures .0 _ _ _) (c .to3 .ensures .0 _ _ _) (c .before .before .before .before .before .before .before .before .before .before .before .before .before .before .key-sort .ensures) (c .before .before .before .before .before .before .before .before .before .before .before .before .before .match .keys2) (c .before .before .before .before .before .before .before .node .ensures)
@@ -740,7 +745,7 @@ ek-returns-3 : (t : ℕ) → cycle.Lts-ek.Need-returns-3 (ek-claims t) (at-measu
 ek-returns-3 t c = excluding.excluded-nothing _ _ _ _ _ _ _ _ _ (c .before .before .before .before .before .less .ensures) (c .before .before .before .step .ensures) (c .before .before .before .before .skip .ensures) (c .to4 .ensures .1) (c .to4 .ensures .0 _ _ _) (c .before .before .key-sort .ensures) (c .before .match .keys3)
 
 ek-returns-4 : (t : ℕ) → cycle.Lts-ek.Need-returns-4 (ek-claims t) (at-measure ek.Kinds.ps μ-ek ek.Reads.Pre t) ek.Reads.Post
-ek-returns-4 t c = excluding.excluded-cell _ _ _ _ _ _ _ _ _ (c .before .before .before .before .before .before .before .before .before .before .before .before .before .before .before .less .ensures) (c .before .before .before .before .before .before .before .before .before .before .before .before .before .step .ensures) (c .before .before .before .before .before .before .before .before .before .before .before .before .before .before .skip .ensures) (c .to5 .ensures .1) (c .to5 .ensures .0 _ _ _) (c .before .before .before .before .before .before .before .before .before .before .before .before .key-sort .ensures) (c .before .before .before .before .before .before .before .before .before .before .before .match .rest .0 .0 .1) (c .before .before .before .before .before .before .before .before .before .before .before .match .rest .0 .1) (c .before .before .before .before .before .before .before .before .before .before .before .match .rest .1) (c .before .before .before .before .before .before .before .temporary .ensures .0)
+ek-returns-4 t c = excluding.excluded-cell _ _ _ _ _ _ _ _ _ (c .before .before .before .before .before .before .before .before .before .before .before .before .before .before .before .less .ensures) (c .before .before .before .before .before .before .before .before .before .before .before .before .before .step .ensures) (c .before .before .before .before .before .before .before .before .before .before .before .before .before .before .skip .ensures) (c .to5 .ensures .1) (c .to5 .ensures .0 _ _ _) (c .before .before .before .before .before .before .before .before .before .before .before .before .key-sort .ensures) (c .before .before .before .before .before .before .before .before .before .before .before .match .rest .0 .0 .1) (c .before .before .before .before .before .before .before .before .before .before .before .match .rest .0 .1) (c .before .before .before .before .before .before .before .before .before .before .before .match .rest .1) (runs-does (c .before .before .before .before .before .before .before .temporary .ensures .0))
 
 abbrev fs-Inv-loop : cycle.Lts-fs.InvT-loop
 fs-Inv-loop t out₀ list₀ work₀ c row map l v₀ r₀ m₀ out list work v r m = (length out ≡ length out₀) × (length list ≡ length list₀) × (length work ≡ length work₀) × (lookFields t (lookNode t (c .left)) (fieldsIn r) m (v .at) .next ≡ lookFields t (lookNode t (c .left)) (fieldsIn row) map (v₀ .at) .next) × (GoodFields t (lookNode t (c .left)) (Good t (c .left)) l (fieldsIn row) map (v₀ .at) → GoodFields t (lookNode t (c .left)) (Good t (c .left)) l (fieldsIn r) m (v .at) × law.Onto (goingOf out₀ list₀ work₀ v₀) (goingOf out list work v) (emitsFields l (placeOf c) (lookFields t (lookNode t (c .left)) (fieldsIn r) m (v .at) .value)) (emitsFields l (placeOf c) (lookFields t (lookNode t (c .left)) (fieldsIn row) map (v₀ .at) .value)))
@@ -802,7 +807,7 @@ fun-same-length-3 : (t : ℕ) → cycle.Lts-fun.Need-same-length-3 (fun-claims t
 fun-same-length-3 t c = omega (arith, c .before .before .before .before .before .before .before .before .before .before .before .before .before .before .before .before .before .before .before .before .before .before .before .before .before .before .before .before .before .before .before .before .before .before .before .before .before .before .before .before .before .before .before .before .before .before .before .before .before .before .before .before .moves-make .kept, c .before .before .before .before .before .before .before .before .before .before .before .before .before .before .before .before .before .before .before .before .before .before .before .before .before .before .before .before .before .before .before .before .before .before .before .before .before .before .before .before .before .before .before .before .before .before .before .before .copy .kept, c .before .before .before .before .before .before .before .before .before .before .before .before .before .before .before .before .before .before .before .before .before .before .before .before .before .before .before .before .before .before .before .before .before .before .before .before .before .before .before .before .before .before .slot .kept, c .before .before .before .before .before .before .before .before .before .before .before .before .before .before .before .before .before .before .before .before .before .before .before .before .before .before .before .before .before .before .before .before .before .before .copy2 .kept, c .before .before .before .before .before .before .before .before .before .before .before .before .before .before .before .before .before .before .before .before .before .before .before .before .before .before .before .before .seq .kept, c .before .before .before .before .before .before .before .before .before .before .before .before .before .before .before .before .before .before .slot2 .kept, c .before .before .before .before .before .before .before .before .body .kept)
 
 fun-returns : (t : ℕ) → cycle.Lts-fun.Need-returns (fun-claims t) (at-measure fun.Kinds.ps μ-fun fun.Reads.Pre t) fun.Reads.Post
-fun-returns t c = bodying.function-moved _ _ _ _ _ _ _ _ _ _ _ _ _ _ _ _ _ _ _ _ _ _ _ _ (c .before .before .before .before .before .before .before .before .before .before .before .before .before .before .before .before .before .before .before .before .before .before .before .before .before .before .before .before .before .before .before .before .before .before .before .before .before .before .before .before .before .before .before .before .before .before .before .before .before .before .before .before .before .before .before .before .before .before .before .before .before .before .before .any-moved .ensures) (c .before .before .before .before .before .before .before .before .before .before .before .before .before .before .before .before .before .before .before .before .before .before .before .before .before .before .before .before .before .before .before .before .before .before .before .before .before .before .before .before .before .before .before .before .before .before .before .before .before .before .before .before .before .before .before .before .before .before .before .before .before .before .if1 .taken) (c .before .before .before .before .before .before .before .before .before .before .before .before .before .before .before .before .before .before .before .before .before .before .before .before .before .before .before .before .before .before .before .before .before .before .before .before .before .before .before .before .before .before .before .before .before .before .before .before .before .before .before .before .before .before .before .before .before .before .before .before .before .stands .ensures) (c .before .before .before .before .before .before .before .before .before .before .before .before .before .before .before .before .before .before .before .before .before .before .before .before .before .before .before .before .before .before .before .before .before .before .before .before .before .before .before .before .before .before .before .before .before .before .before .before .before .before .before .before .before .before .before .before .before .before .before .before .if2 .taken) (c .before .before .before .before .before .before .before .before .before .before .before .before .before .before .before .before .before .before .before .before .before .before .before .before .before .before .before .before .before .before .before .before .before .before .before .before .before .before .before .before .before .before .before .before .before .before .before .before .before .before .before .before .before .before .before .before .before .before .before .before .before .before .before .before .before .less .ensures) (c .before .before .before .before .before .before .before .before .before .before .before .before .before .before .before .before .before .before .before .before .before .before .before .before .before .before .before .before .before .before .before .before .before .before .before .before .before .before .before .before .before .before .before .before .before .before .before .before .before .before .before .before .before .before .before .before .before .before .before .before .before .before .before .before .scoped .ensures .0) (c .before .before .before .before .before .before .before .before .before .before .before .before .before .before .before .before .before .before .before .before .before .before .before .before .before .before .before .before .before .before .before .before .before .before .before .before .before .before .before .before .before .before .before .before .before .before .before .before .before .before .before .before .before .before .before .before .before .before .before .before .before .before .before .before .scoped .ensures .1) (c .before .before .before .before .before .before .before .before .before .before .before .before .before .before .before .before .before .before .before .before .before .before .before .before .before .before .before .before .before .before .before .before .before .before .before .before .before .before .before .before .before .before .before .before .before .before .before .before .before .before .before .before .before .before .before .before .before .before .before .step .ensures) (c .before .before .before .before .before .before .before .before .before .before .before .before .before .before .before .before .before .before .before .before .before .before .before .before .before .before .before .before .before .before .before .before .before .before .before .before .before .before .before .before .before .before .before .before .before .before .before .before .before .before .before .before .before .before .before .before .before .before .step2 .ensures) (c .before .before .before .before .before .before .before .before .before .before .before .before .before .before .before .before .before .before .before .before .before .before .before .before .before .before .before .before .before .before .before .before .before .before .before .before .before .before .before .before .before .before .before .before .before .before .before .before .before .before .before .before .before .before .before .before .before .peek .ensures) (c .before .before .before .before .before .before .before .before .before .before .before .before .before .before .before .before .before .before .before .before .before .before .before .before .before .before .before .before .before .before .before .before .before .before .before .before .before .before .before .before .before .before .before .before .before .before .before .before .before .before .before .before .before .before .before .before .skip-slot .ensures) (c .before .before .before .before .before .before .before .before .before .before .before .before .before .before .before .before .before .before .before .before .before .before .before .before .before .before .before .before .before .before .before .before .before .before .before .before .before .before .before .before .before .before .before .before .before .before .before .before .before .before .before .before .before .before .before .wide-at .ensures) (c .before .before .before .before .before .before .before .before .before .before .before .before .before .before .before .before .before .before .before .before .before .before .before .before .before .before .before .before .before .before .before .before .before .before .before .before .before .before .before .before .before .before .before .before .before .before .before .before .before .before .before .before .before .before .step3 .ensures) (c .before .before .before .before .before .before .before .before .before .before .before .before .before .before .before .before .before .before .before .before .before .before .before .before .before .before .before .before .before .before .before .before .before .before .before .before .before .before .before .before .before .before .before .before .before .before .before .before .before .before .before .before .moves-make .ensures .0) (c .before .before .before .before .before .before .before .before .before .before .before .before .before .before .before .before .before .before .before .before .before .before .before .before .before .before .before .before .before .before .before .before .before .before .before .before .before .before .before .before .before .before .before .before .before .before .before .before .before .before .before .before .moves-make .ensures .1 _ _) (c .before .before .before .before .before .before .before .before .before .before .before .before .before .before .before .before .before .before .before .before .before .before .before .before .before .before .before .before .before .before .before .before .before .before .before .before .before .before .before .before .before .before .before .before .before .before .before .before .copy .ensures .1) (c .before .before .before .before .before .before .before .before .before .before .before .before .before .before .before .before .before .before .before .before .before .before .before .before .before .before .before .before .before .before .before .before .before .before .before .before .before .before .before .before .before .before .before .before .before .before .before .before .copy .ensures .0 _ _) (c .before .before .before .before .before .before .before .before .before .before .before .before .before .before .before .before .before .before .before .before .before .before .before .before .before .before .before .before .before .before .before .before .before .before .before .before .before .before .before .before .before .before .slot .ensures) (c .before .before .before .before .before .before .before .before .before .before .before .before .before .before .before .before .before .before .before .before .before .before .before .before .before .before .before .before .before .before .before .before .before .before .copy2 .ensures .1) (c .before .before .before .before .before .before .before .before .before .before .before .before .before .before .before .before .before .before .before .before .before .before .before .before .before .before .before .before .before .before .before .before .before .before .copy2 .ensures .0 _ _) (told.items-own _ _ _ _ _ _ _ _ _ _ _ told.untold-binding (c .before .before .before .before .before .before .before .before .before .before .before .before .before .before .before .before .before .before .before .before .before .before .before .before .before .before .before .before .seq .ensures)) (c .before .before .before .before .before .before .before .before .before .before .before .before .before .before .before .before .before .before .slot2 .ensures) (c .before .before .before .before .before .before .before .before .body .ensures) (c .to .ensures .0 _ _ _) (c .before .skip .ensures) (c .to .ensures .1)
+fun-returns t c = bodying.function-moved _ _ _ _ _ _ _ _ _ _ _ _ _ _ _ _ _ _ _ _ _ _ _ _ (c .before .before .before .before .before .before .before .before .before .before .before .before .before .before .before .before .before .before .before .before .before .before .before .before .before .before .before .before .before .before .before .before .before .before .before .before .before .before .before .before .before .before .before .before .before .before .before .before .before .before .before .before .before .before .before .before .before .before .before .before .before .before .before .any-moved .ensures) (c .before .before .before .before .before .before .before .before .before .before .before .before .before .before .before .before .before .before .before .before .before .before .before .before .before .before .before .before .before .before .before .before .before .before .before .before .before .before .before .before .before .before .before .before .before .before .before .before .before .before .before .before .before .before .before .before .before .before .before .before .before .before .if1 .taken) (c .before .before .before .before .before .before .before .before .before .before .before .before .before .before .before .before .before .before .before .before .before .before .before .before .before .before .before .before .before .before .before .before .before .before .before .before .before .before .before .before .before .before .before .before .before .before .before .before .before .before .before .before .before .before .before .before .before .before .before .before .before .stands .ensures) (c .before .before .before .before .before .before .before .before .before .before .before .before .before .before .before .before .before .before .before .before .before .before .before .before .before .before .before .before .before .before .before .before .before .before .before .before .before .before .before .before .before .before .before .before .before .before .before .before .before .before .before .before .before .before .before .before .before .before .before .before .if2 .taken) (c .before .before .before .before .before .before .before .before .before .before .before .before .before .before .before .before .before .before .before .before .before .before .before .before .before .before .before .before .before .before .before .before .before .before .before .before .before .before .before .before .before .before .before .before .before .before .before .before .before .before .before .before .before .before .before .before .before .before .before .before .before .before .before .before .before .less .ensures) (c .before .before .before .before .before .before .before .before .before .before .before .before .before .before .before .before .before .before .before .before .before .before .before .before .before .before .before .before .before .before .before .before .before .before .before .before .before .before .before .before .before .before .before .before .before .before .before .before .before .before .before .before .before .before .before .before .before .before .before .before .before .before .before .before .scoped .ensures .0) (c .before .before .before .before .before .before .before .before .before .before .before .before .before .before .before .before .before .before .before .before .before .before .before .before .before .before .before .before .before .before .before .before .before .before .before .before .before .before .before .before .before .before .before .before .before .before .before .before .before .before .before .before .before .before .before .before .before .before .before .before .before .before .before .before .scoped .ensures .1) (c .before .before .before .before .before .before .before .before .before .before .before .before .before .before .before .before .before .before .before .before .before .before .before .before .before .before .before .before .before .before .before .before .before .before .before .before .before .before .before .before .before .before .before .before .before .before .before .before .before .before .before .before .before .before .before .before .before .before .before .step .ensures) (c .before .before .before .before .before .before .before .before .before .before .before .before .before .before .before .before .before .before .before .before .before .before .before .before .before .before .before .before .before .before .before .before .before .before .before .before .before .before .before .before .before .before .before .before .before .before .before .before .before .before .before .before .before .before .before .before .before .before .step2 .ensures) (c .before .before .before .before .before .before .before .before .before .before .before .before .before .before .before .before .before .before .before .before .before .before .before .before .before .before .before .before .before .before .before .before .before .before .before .before .before .before .before .before .before .before .before .before .before .before .before .before .before .before .before .before .before .before .before .before .before .peek .ensures) (c .before .before .before .before .before .before .before .before .before .before .before .before .before .before .before .before .before .before .before .before .before .before .before .before .before .before .before .before .before .before .before .before .before .before .before .before .before .before .before .before .before .before .before .before .before .before .before .before .before .before .before .before .before .before .before .before .skip-slot .ensures) (c .before .before .before .before .before .before .before .before .before .before .before .before .before .before .before .before .before .before .before .before .before .before .before .before .before .before .before .before .before .before .before .before .before .before .before .before .before .before .before .before .before .before .before .before .before .before .before .before .before .before .before .before .before .before .before .wide-at .ensures) (c .before .before .before .before .before .before .before .before .before .before .before .before .before .before .before .before .before .before .before .before .before .before .before .before .before .before .before .before .before .before .before .before .before .before .before .before .before .before .before .before .before .before .before .before .before .before .before .before .before .before .before .before .before .before .step3 .ensures) (c .before .before .before .before .before .before .before .before .before .before .before .before .before .before .before .before .before .before .before .before .before .before .before .before .before .before .before .before .before .before .before .before .before .before .before .before .before .before .before .before .before .before .before .before .before .before .before .before .before .before .before .before .moves-make .ensures .0) (c .before .before .before .before .before .before .before .before .before .before .before .before .before .before .before .before .before .before .before .before .before .before .before .before .before .before .before .before .before .before .before .before .before .before .before .before .before .before .before .before .before .before .before .before .before .before .before .before .before .before .before .before .moves-make .ensures .1 _ _) (c .before .before .before .before .before .before .before .before .before .before .before .before .before .before .before .before .before .before .before .before .before .before .before .before .before .before .before .before .before .before .before .before .before .before .before .before .before .before .before .before .before .before .before .before .before .before .before .before .copy .ensures .1) (runs-does (c .before .before .before .before .before .before .before .before .before .before .before .before .before .before .before .before .before .before .before .before .before .before .before .before .before .before .before .before .before .before .before .before .before .before .before .before .before .before .before .before .before .before .before .before .before .before .before .before .copy .ensures .0 _ _)) (c .before .before .before .before .before .before .before .before .before .before .before .before .before .before .before .before .before .before .before .before .before .before .before .before .before .before .before .before .before .before .before .before .before .before .before .before .before .before .before .before .before .before .slot .ensures) (c .before .before .before .before .before .before .before .before .before .before .before .before .before .before .before .before .before .before .before .before .before .before .before .before .before .before .before .before .before .before .before .before .before .before .copy2 .ensures .1) (runs-does (c .before .before .before .before .before .before .before .before .before .before .before .before .before .before .before .before .before .before .before .before .before .before .before .before .before .before .before .before .before .before .before .before .before .before .copy2 .ensures .0 _ _)) (told.items-own _ _ _ _ _ _ _ _ _ _ _ told.untold-binding (c .before .before .before .before .before .before .before .before .before .before .before .before .before .before .before .before .before .before .before .before .before .before .before .before .before .before .before .before .seq .ensures)) (c .before .before .before .before .before .before .before .before .before .before .before .before .before .before .before .before .before .before .slot2 .ensures) (c .before .before .before .before .before .before .before .before .body .ensures) (c .to .ensures .0 _ _ _) (c .before .skip .ensures) (c .to .ensures .1)
 
 fun-returns-2 : (t : ℕ) → cycle.Lts-fun.Need-returns-2 (fun-claims t) (at-measure fun.Kinds.ps μ-fun fun.Reads.Pre t) fun.Reads.Post
 fun-returns-2 t c = bodying.function-plain _ _ _ _ _ (⊎-elim (λ w. bodying.bodiless _ _ _ _ (w .1 .ensures) (w .2 .left)) (λ w. bodying.unmoved _ _ _ _ (c .before .before .before .before .before .before .before .before .before .before .before .any-moved .ensures) (w .left)) (c .before .before .before .before .before .before .before .before .before .before .if1 .came)) (c .before .before .before .before .before .before .plain .ensures)
@@ -811,22 +816,22 @@ gv-returns : (t : ℕ) → cycle.Lts-gv.Need-returns (gv-claims t) (at-measure g
 gv-returns t c = assigning.giv-node _ _ _ _ _ _ _ (c .before .before .before .before .before .before .before .before .before .before .before .if1 .taken) (c .before .before .before .before .before .before .before .before .before .before .to .ensures .0 _ _ _) (c .before .before .before .before .before .before .before .before .before .before .to .ensures .1) (c .before .before .before .before .before .before .node .ensures .1)
 
 gv-returns-2 : (t : ℕ) → cycle.Lts-gv.Need-returns-2 (gv-claims t) (at-measure gv.Kinds.ps μ-gv gv.Reads.Pre t) gv.Reads.Post
-gv-returns-2 t c = λ g. assigning.giv-cell _ _ _ _ _ _ (c .before .before .before .before .before .before .before .before .before .before .if1 .left) (c .before .before .before .before .before .before .temporary .ensures .0)
+gv-returns-2 t c = λ g. assigning.giv-cell _ _ _ _ _ _ (c .before .before .before .before .before .before .before .before .before .before .if1 .left) (runs-does (c .before .before .before .before .before .before .temporary .ensures .0))
 
 go-returns : (t : ℕ) → cycle.Lts-go.Need-returns (go-claims t) (at-measure go.Kinds.ps μ-go go.Reads.Pre t) go.Reads.Post
 go-returns t c = λ good. law.good-none _ _ _ (c .if1 .taken) good
 
 go-returns-2 : (t : ℕ) → cycle.Lts-go.Need-returns-2 (go-claims t) (at-measure go.Kinds.ps μ-go go.Reads.Pre t) go.Reads.Post
-go-returns-2 t c = moving.gone-array-rest _ _ _ _ _ _ _ _ _ _ _ _ _ _ _ _ _ (c .before .before .before .before .before .before .before .before .before .before .before .before .before .before .before .before .before .before .before .before .before .before .before .before .before .before .before .before .before .before .before .before .before .before .if1 .left) (c .before .before .before .before .before .before .before .before .before .before .before .before .before .before .before .before .before .before .before .before .before .before .before .before .before .before .before .before .before .before .before .before .peek .ensures) (c .before .before .before .before .before .before .before .before .before .before .before .before .before .before .before .before .before .before .before .before .before .before .before .before .before .before .before .before .before .before .before .match .keys2) (c .before .before .before .before .before .before .before .before .before .before .before .before .before .before .before .before .before .before .before .before .before .before .before .before .before .before .before .before .before .before .before .before .before .less .ensures) (c .before .before .before .before .before .before .before .before .before .before .before .before .before .before .before .before .before .before .before .before .before .before .before .before .before .before .before .before .before .before .step .ensures) (c .before .before .before .before .before .before .before .before .before .before .before .before .before .before .before .before .before .before .before .before .before .before .before .before .before .before .before .before .before .wide-at .ensures) (c .before .before .before .before .before .before .before .before .before .before .before .before .before .before .before .before .before .before .before .before .before .before .before .before .before .before .before .step2 .ensures) (c .before .before .before .before .before .before .before .before .before .before .before .before .before .before .before .before .before .before .before .before .before .before .before .before .before .before .copy .ensures .1) (c .before .before .before .before .before .before .before .before .before .before .before .before .before .before .before .before .before .before .before .before .inside .ensures .0) (c .before .before .before .before .before .before .before .before .before .before .before .before .before .before .before .before .before .before .before .before .inside .ensures .1) (c .before .before .before .before .before .before .before .inside2 .ensures .0) (c .before .before .before .before .before .before .before .inside2 .ensures .1) (c .before .before .before .before .before .before .before .before .before .before .before .before .has-second .ensures) (c .before .before .before .before .before .before .before .before .before .before .before .if2 .taken) (c .before .before .before .before .before .before .before .before .before .before .before .before .before .before .before .before .before .before .before .before .before .before .before .before .before .before .copy .ensures .0 _ _) (told.items-own _ _ _ _ _ _ _ _ _ _ _ told.untold-moved-out (c .before .before .before .before .before .before .before .before .before .before .before .before .before .before .before .before .before .before .before .seq .ensures)) (c .before .before .before .before .before .before .go .ensures)
+go-returns-2 t c = moving.gone-array-rest _ _ _ _ _ _ _ _ _ _ _ _ _ _ _ _ _ (c .before .before .before .before .before .before .before .before .before .before .before .before .before .before .before .before .before .before .before .before .before .before .before .before .before .before .before .before .before .before .before .before .before .before .if1 .left) (c .before .before .before .before .before .before .before .before .before .before .before .before .before .before .before .before .before .before .before .before .before .before .before .before .before .before .before .before .before .before .before .before .peek .ensures) (c .before .before .before .before .before .before .before .before .before .before .before .before .before .before .before .before .before .before .before .before .before .before .before .before .before .before .before .before .before .before .before .match .keys2) (c .before .before .before .before .before .before .before .before .before .before .before .before .before .before .before .before .before .before .before .before .before .before .before .before .before .before .before .before .before .before .before .before .before .less .ensures) (c .before .before .before .before .before .before .before .before .before .before .before .before .before .before .before .before .before .before .before .before .before .before .before .before .before .before .before .before .before .before .step .ensures) (c .before .before .before .before .before .before .before .before .before .before .before .before .before .before .before .before .before .before .before .before .before .before .before .before .before .before .before .before .before .wide-at .ensures) (c .before .before .before .before .before .before .before .before .before .before .before .before .before .before .before .before .before .before .before .before .before .before .before .before .before .before .before .step2 .ensures) (c .before .before .before .before .before .before .before .before .before .before .before .before .before .before .before .before .before .before .before .before .before .before .before .before .before .before .copy .ensures .1) (c .before .before .before .before .before .before .before .before .before .before .before .before .before .before .before .before .before .before .before .before .inside .ensures .0) (c .before .before .before .before .before .before .before .before .before .before .before .before .before .before .before .before .before .before .before .before .inside .ensures .1) (c .before .before .before .before .before .before .before .inside2 .ensures .0) (c .before .before .before .before .before .before .before .inside2 .ensures .1) (c .before .before .before .before .before .before .before .before .before .before .before .before .has-second .ensures) (c .before .before .before .before .before .before .before .before .before .before .before .if2 .taken) (runs-does (c .before .before .before .before .before .before .before .before .before .before .before .before .before .before .before .before .before .before .before .before .before .before .before .before .before .before .copy .ensures .0 _ _)) (told.items-own _ _ _ _ _ _ _ _ _ _ _ told.untold-moved-out (c .before .before .before .before .before .before .before .before .before .before .before .before .before .before .before .before .before .before .before .seq .ensures)) (c .before .before .before .before .before .before .go .ensures)
 
 go-returns-3 : (t : ℕ) → cycle.Lts-go.Need-returns-3 (go-claims t) (at-measure go.Kinds.ps μ-go go.Reads.Pre t) go.Reads.Post
-go-returns-3 t c = moving.gone-object _ _ _ _ _ _ _ (c .before .before .before .before .before .before .before .before .before .before .before .before .before .before .before .if1 .left) (c .before .before .before .before .before .before .before .before .before .before .before .before .before .peek .ensures) (c .before .before .before .before .before .before .before .before .before .before .before .before .match .keys1) (c .before .skip .ensures) (c .to .ensures .1) (c .before .before .before .before .before .before .before .before .temporary .ensures .0) (c .to .ensures .0 _ _ _)
+go-returns-3 t c = moving.gone-object _ _ _ _ _ _ _ (c .before .before .before .before .before .before .before .before .before .before .before .before .before .before .before .if1 .left) (c .before .before .before .before .before .before .before .before .before .before .before .before .before .peek .ensures) (c .before .before .before .before .before .before .before .before .before .before .before .before .match .keys1) (c .before .skip .ensures) (c .to .ensures .1) (runs-does (c .before .before .before .before .before .before .before .before .temporary .ensures .0)) (c .to .ensures .0 _ _ _)
 
 go-returns-4 : (t : ℕ) → cycle.Lts-go.Need-returns-4 (go-claims t) (at-measure go.Kinds.ps μ-go go.Reads.Pre t) go.Reads.Post
-go-returns-4 t c = moving.gone-array _ _ _ _ _ _ _ _ _ _ _ _ _ _ (c .before .before .before .before .before .before .before .before .before .before .before .before .before .before .before .before .before .before .before .before .before .before .before .if1 .left) (c .before .before .before .before .before .before .before .before .before .before .before .before .before .before .before .before .before .before .before .before .before .peek .ensures) (c .before .before .before .before .before .before .before .before .before .before .before .before .before .before .before .before .before .before .before .before .match .keys2) (c .before .before .before .before .before .before .before .before .before .before .before .before .before .before .before .before .before .before .before .before .before .before .less .ensures) (c .before .before .before .before .before .before .before .before .before .before .before .before .before .before .before .before .before .before .before .step .ensures) (c .before .before .before .before .before .before .before .before .before .before .before .before .before .before .before .before .before .before .wide-at .ensures) (c .before .before .before .before .before .before .before .before .before .before .before .before .before .before .before .before .step2 .ensures) (c .before .before .before .before .before .before .before .before .before .before .before .before .before .before .before .copy .ensures .1) (c .before .before .before .before .before .before .before .before .before .inside .ensures .0) (c .before .before .before .before .before .before .before .before .before .inside .ensures .1) (c .before .has-second .ensures) (c .if2 .left) (c .before .before .before .before .before .before .before .before .before .before .before .before .before .before .before .copy .ensures .0 _ _) (told.items-own _ _ _ _ _ _ _ _ _ _ _ told.untold-moved-out (c .before .before .before .before .before .before .before .before .seq .ensures))
+go-returns-4 t c = moving.gone-array _ _ _ _ _ _ _ _ _ _ _ _ _ _ (c .before .before .before .before .before .before .before .before .before .before .before .before .before .before .before .before .before .before .before .before .before .before .before .if1 .left) (c .before .before .before .before .before .before .before .before .before .before .before .before .before .before .before .before .before .before .before .before .before .peek .ensures) (c .before .before .before .before .before .before .before .before .before .before .before .before .before .before .before .before .before .before .before .before .match .keys2) (c .before .before .before .before .before .before .before .before .before .before .before .before .before .before .before .before .before .before .before .before .before .before .less .ensures) (c .before .before .before .before .before .before .before .before .before .before .before .before .before .before .before .before .before .before .before .step .ensures) (c .before .before .before .before .before .before .before .before .before .before .before .before .before .before .before .before .before .before .wide-at .ensures) (c .before .before .before .before .before .before .before .before .before .before .before .before .before .before .before .before .step2 .ensures) (c .before .before .before .before .before .before .before .before .before .before .before .before .before .before .before .copy .ensures .1) (c .before .before .before .before .before .before .before .before .before .inside .ensures .0) (c .before .before .before .before .before .before .before .before .before .inside .ensures .1) (c .before .has-second .ensures) (c .if2 .left) (runs-does (c .before .before .before .before .before .before .before .before .before .before .before .before .before .before .before .copy .ensures .0 _ _)) (told.items-own _ _ _ _ _ _ _ _ _ _ _ told.untold-moved-out (c .before .before .before .before .before .before .before .before .seq .ensures))
 
 go-returns-5 : (t : ℕ) → cycle.Lts-go.Need-returns-5 (go-claims t) (at-measure go.Kinds.ps μ-go go.Reads.Pre t) go.Reads.Post
-go-returns-5 t c = moving.gone-default _ _ _ _ _ _ _ _ _ _ _ _ (c .before .before .before .before .before .before .before .before .before .before .before .before .before .before .before .before .before .before .before .before .before .before .before .before .before .before .before .before .before .before .before .if1 .left) (c .before .before .before .before .before .before .before .before .before .before .before .before .before .before .before .before .before .before .before .before .before .before .before .before .before .before .before .before .before .peek .ensures) (c .before .before .before .before .before .before .before .before .before .before .before .before .before .before .before .before .before .before .before .before .before .before .before .before .before .before .before .before .match .keys3) (c .before .before .before .before .before .before .before .before .before .before .before .before .before .before .before .before .before .before .before .before .before .before .before .before .before .before .before .before .before .before .less .ensures) (c .before .before .before .before .before .before .before .before .before .before .before .before .before .step3 .ensures) (c .before .before .before .before .before .before .before .before .before .before .before .before .skip2 .ensures) (c .before .before .before .before .before .before .before .before .before .before .before .to2 .ensures .1) (c .before .before .before .before .before .before .before .inside3 .ensures .0) (c .before .before .before .before .before .before .before .inside3 .ensures .1) (c .before .before .before .before .before .before .before .before .before .before .before .before .before .before .before .before .before .before .before .before .before .before .before .before .before .before .put2 .ensures .0 _ _) (c .before .before .before .before .before .before .before .before .before .before .before .before .before .before .before .before .before .before .before .before .temporary2 .ensures .0) (c .before .before .before .before .before .before .before .before .before .before .before .to2 .ensures .0 _ _ _) (c .before .before .before .before .before .before .node .ensures)
+go-returns-5 t c = moving.gone-default _ _ _ _ _ _ _ _ _ _ _ _ (c .before .before .before .before .before .before .before .before .before .before .before .before .before .before .before .before .before .before .before .before .before .before .before .before .before .before .before .before .before .before .before .if1 .left) (c .before .before .before .before .before .before .before .before .before .before .before .before .before .before .before .before .before .before .before .before .before .before .before .before .before .before .before .before .before .peek .ensures) (c .before .before .before .before .before .before .before .before .before .before .before .before .before .before .before .before .before .before .before .before .before .before .before .before .before .before .before .before .match .keys3) (c .before .before .before .before .before .before .before .before .before .before .before .before .before .before .before .before .before .before .before .before .before .before .before .before .before .before .before .before .before .before .less .ensures) (c .before .before .before .before .before .before .before .before .before .before .before .before .before .step3 .ensures) (c .before .before .before .before .before .before .before .before .before .before .before .before .skip2 .ensures) (c .before .before .before .before .before .before .before .before .before .before .before .to2 .ensures .1) (c .before .before .before .before .before .before .before .inside3 .ensures .0) (c .before .before .before .before .before .before .before .inside3 .ensures .1) (runs-does (c .before .before .before .before .before .before .before .before .before .before .before .before .before .before .before .before .before .before .before .before .before .before .before .before .before .before .put2 .ensures .0 _ _)) (runs-does (c .before .before .before .before .before .before .before .before .before .before .before .before .before .before .before .before .before .before .before .before .temporary2 .ensures .0)) (c .before .before .before .before .before .before .before .before .before .before .before .to2 .ensures .0 _ _ _) (c .before .before .before .before .before .before .node .ensures)
 
 go-returns-6 : (t : ℕ) → cycle.Lts-go.Need-returns-6 (go-claims t) (at-measure go.Kinds.ps μ-go go.Reads.Pre t) go.Reads.Post
 go-returns-6 t c = moving.gone-leaf _ _ _ _ _ _ (c .before .before .before .before .before .before .before .before .before .before .before .before .before .if1 .left) (c .before .before .before .before .before .before .before .before .before .before .before .peek .ensures) (c .before .before .before .before .before .before .before .before .before .before .match .rest .0 .0 .1) (c .before .before .before .before .before .before .before .before .before .before .match .rest .0 .1) (c .before .before .before .before .before .before .before .before .before .before .match .rest .1) (c .before .before .before .before .before .before .node2 .ensures)
@@ -838,7 +843,7 @@ head-returns-2 : (t : ℕ) → cycle.Lts-head.Need-returns-2 (head-claims t) (at
 head-returns-2 t c = λ loop. looping.head-keeps _ _ _ _ _ _ _ (c .before .before .before .before .before .before .before .before .before .before .before .before .before .before .before .less .ensures) (c .before .before .before .before .before .before .before .before .before .before .before .before .before .before .step .ensures) (c .before .before .before .before .before .before .before .before .before .before .before .before .before .peek .ensures) loop _ _ (c .before .before .before .before .before .before .before .before .before .before .before .before .if1 .taken) (c .before .before .before .before .before .before .before .before .before .before .before .any-moved .ensures) (c .before .before .before .before .before .before .before .before .before .before .if2 .left) (c .before .before .before .before .before .before .plain .ensures)
 
 head-returns-3 : (t : ℕ) → cycle.Lts-head.Need-returns-3 (head-claims t) (at-measure head.Kinds.ps μ-head head.Reads.Pre t) head.Reads.Post
-head-returns-3 t c = λ loop. looping.head-refuses _ _ _ _ _ _ _ (c .before .before .before .before .before .before .before .before .before .before .before .less .ensures) (c .before .before .before .before .before .before .before .before .before .before .step .ensures) (c .before .before .before .before .before .before .before .before .before .peek .ensures) loop (c .before .before .before .before .before .before .before .before .if1 .left) _ _ _ (c .before .before .before .before .before .before .before .has-rest-below-array-rest .ensures) (c .before .before .before .before .before .before .if3 .taken) (c .before .skip2 .ensures) (c .to2 .ensures .1) (c .to2 .ensures .0 _ _ _) (c .before .before .before .before .refuse .ensures .0 _ _)
+head-returns-3 t c = λ loop. looping.head-refuses _ _ _ _ _ _ _ (c .before .before .before .before .before .before .before .before .before .before .before .less .ensures) (c .before .before .before .before .before .before .before .before .before .before .step .ensures) (c .before .before .before .before .before .before .before .before .before .peek .ensures) loop (c .before .before .before .before .before .before .before .before .if1 .left) _ _ _ (c .before .before .before .before .before .before .before .has-rest-below-array-rest .ensures) (c .before .before .before .before .before .before .if3 .taken) (c .before .skip2 .ensures) (c .to2 .ensures .1) (c .to2 .ensures .0 _ _ _) (runs-does (c .before .before .before .before .refuse .ensures .0 _ _))
 
 head-returns-4 : (t : ℕ) → cycle.Lts-head.Need-returns-4 (head-claims t) (at-measure head.Kinds.ps μ-head head.Reads.Pre t) head.Reads.Post
 head-returns-4 t c = λ loop. looping.head-assigns _ _ _ _ _ _ _ (c .before .before .before .before .before .before .before .before .before .before .before .before .before .before .before .before .before .before .before .less .ensures) (c .before .before .before .before .before .before .before .before .before .before .before .before .before .before .before .before .before .before .step .ensures) (c .before .before .before .before .before .before .before .before .before .before .before .before .before .before .before .before .before .peek .ensures) loop (c .before .before .before .before .before .before .before .before .before .before .before .before .before .before .before .before .if1 .left) _ _ _ _ (c .before .before .before .before .before .before .before .before .before .before .before .before .before .before .before .has-rest-below-array-rest .ensures) (c .before .before .before .before .before .before .before .before .before .before .before .before .before .before .if3 .left) (c .before .before .before .before .before .before .before .before .before .before .before .before .before .has-nested-object-rest .ensures) (c .before .before .before .before .before .before .before .before .before .before .before .before .if4 .taken) (c .before .skip3 .ensures) (c .to3 .ensures .1) (c .to3 .ensures .0 _ _ _) (c .before .before .before .before .before .before .before .before .th .ensures)
@@ -847,7 +852,7 @@ head-returns-5 : (t : ℕ) → cycle.Lts-head.Need-returns-5 (head-claims t) (at
 head-returns-5 t c = λ loop. looping.head-stays _ _ _ _ _ _ _ (c .before .before .before .before .before .before .before .before .before .before .before .before .before .before .before .before .before .less .ensures) (c .before .before .before .before .before .before .before .before .before .before .before .before .before .before .before .before .step .ensures) (c .before .before .before .before .before .before .before .before .before .before .before .before .before .before .before .peek .ensures) loop (c .before .before .before .before .before .before .before .before .before .before .before .before .before .before .if1 .left) _ _ (c .before .before .before .before .before .before .before .before .before .before .before .has-nested-object-rest .ensures) (c .before .before .before .before .before .before .before .before .before .before .if4 .left) (c .before .before .before .before .before .before .plain2 .ensures)
 
 item-returns : (t : ℕ) → cycle.Lts-item.Need-returns (item-claims t) (at-measure item.Kinds.ps μ-item item.Reads.Pre t) item.Reads.Post
-item-returns t c = (c .before .before .copy .ensures .1 ∙ c .before .before .before .step .ensures ∙ skipping.item-hole _ _ _ _ _ (c .before .before .before .before .before .before .before .if1 .taken) (c .before .before .before .before .before .before .peek .ensures) (c .before .before .before .before .before .if2 .taken), law.hole-does _ _ _ _ _ _ _ _ (law.is-hole _ _ _ _ (c .before .before .before .before .before .before .before .if1 .taken) (c .before .before .before .before .before .before .peek .ensures) (c .before .before .before .before .before .if2 .taken)) (c .before .before .before .step .ensures) (c .before .before .copy .ensures .0 _ _))
+item-returns t c = (c .before .before .copy .ensures .1 ∙ c .before .before .before .step .ensures ∙ skipping.item-hole _ _ _ _ _ (c .before .before .before .before .before .before .before .if1 .taken) (c .before .before .before .before .before .before .peek .ensures) (c .before .before .before .before .before .if2 .taken), law.hole-does _ _ _ _ _ _ _ _ (law.is-hole _ _ _ _ (c .before .before .before .before .before .before .before .if1 .taken) (c .before .before .before .before .before .before .peek .ensures) (c .before .before .before .before .before .if2 .taken)) (c .before .before .before .step .ensures) (runs-does (c .before .before .copy .ensures .0 _ _)))
 
 item-returns-2 : (t : ℕ) → cycle.Lts-item.Need-returns-2 (item-claims t) (at-measure item.Kinds.ps μ-item item.Reads.Pre t) item.Reads.Post
 item-returns-2 t c = let e : holeAt _ _ _ ≡ false = (⊎-elim (λ w. law.no-hole _ _ _ _ (w .0 .taken) (w .1 .ensures) (w .2 .left)) (λ w. law.full _ _ _ (w .left)) (c .before .before .before .before .before .before .before .before .before .before .before .before .before .before .if1 .came)) in
@@ -883,7 +888,7 @@ items-returns : (t : ℕ) → cycle.Lts-items.Need-returns (items-claims t) (at-
 items-returns t c = (skipping.items-end _ _ _ _ _ (c .loop-test .left) ∙ c .before .loop .inv .3, λ g. law.onto-end (c .before .loop .inv .4 g .1) (law.items-none _ _ _ _ _ _ _ (c .loop-test .left)))
 
 key-returns : (t : ℕ) → cycle.Lts-key.Need-returns (key-claims t) (at-measure key.Kinds.ps μ-key key.Reads.Pre t) key.Reads.Post
-key-returns t c = viewing.key-cell _ _ _ _ _ _ _ _ _ (c .before .before .before .before .before .before .before .before .before .before .before .before .before .before .if1 .taken) (c .before .before .before .before .before .before .before .before .before .before .before .before .before .is-other .ensures) (c .before .before .before .before .before .before .before .before .before .before .before .before .if2 .taken) (c .before .skip .ensures) (c .to .ensures .1) (c .to .ensures .0 _ _ _) (c .before .before .before .before .before .before .before .before .temporary .ensures .0)
+key-returns t c = viewing.key-cell _ _ _ _ _ _ _ _ _ (c .before .before .before .before .before .before .before .before .before .before .before .before .before .before .if1 .taken) (c .before .before .before .before .before .before .before .before .before .before .before .before .before .is-other .ensures) (c .before .before .before .before .before .before .before .before .before .before .before .before .if2 .taken) (c .before .skip .ensures) (c .to .ensures .1) (c .to .ensures .0 _ _ _) (runs-does (c .before .before .before .before .before .before .before .before .temporary .ensures .0))
 
 key-returns-2 : (t : ℕ) → cycle.Lts-key.Need-returns-2 (key-claims t) (at-measure key.Kinds.ps μ-key key.Reads.Pre t) key.Reads.Post
 key-returns-2 t c = viewing.key-node _ _ _ _ _ _ _ (⊎-elim (λ w h. sym (w .1 .ensures) ∙ w .2 .left) (λ w h. absurd (false≢true (sym (w .left) ∙ h))) (c .before .before .before .before .before .before .before .before .before .before .if1 .came)) (c .before .before .before .before .before .before .node .ensures)
@@ -892,25 +897,25 @@ keys-returns : (t : ℕ) → cycle.Lts-keys.Need-returns (keys-claims t) (at-mea
 keys-returns t c = (refl, λ good h. law.good-none _ _ _ (c .if1 .taken) good)
 
 keys-returns-2 : (t : ℕ) → cycle.Lts-keys.Need-returns-2 (keys-claims t) (at-measure keys.Kinds.ps μ-keys keys.Reads.Pre t) keys.Reads.Post
-keys-returns-2 t c = (c .to2 .ensures .1, excluding.keys-does _ _ _ _ _ _ _ _ _ _ _ _ (c .before .before .before .before .before .before .before .before .before .before .before .before .before .before .before .before .before .before .before .before .before .before .before .before .before .step .ensures) (c .before .before .before .before .before .before .before .before .before .before .before .before .before .before .before .before .before .before .before .before .before .before .before .before .wide-at .ensures) (c .before .before .before .before .before .before .before .before .before .before .before .before .before .before .before .before .before .before .before .before .before .before .before .excluded-keys .ensures) (c .before .before .before .before .before .before .before .before .before .before .before .before .before .before .step2 .ensures) (c .before .before .before .before .before .before .before .before .before .before .before .before .before .to .ensures .1) (c .before .before .before .before .before .before .before .before .told-under .ensures .0) (c .before .before .before .before .before .before .before .before .told-under .ensures .1 ∙ c .before .before .before .before .before .before .before .before .before .less .ensures) (c .before .before .before .before .before .before .before .before .before .before .before .before .before .to .ensures .0 _ _ _) (c .to2 .ensures .0 _ _ _) (c .before .before .before .before .before .before .before .before .before .before .before .before .before .before .before .before .before .before .before .before .before .put2 .ensures .0 _ _) (c .before .before .before .before .before .before .before .before .before .before .before .before .before .before .before .before .before .wide .ensures .0 _ _) (told.items-own _ _ _ _ _ _ _ _ _ _ _ told.untold-excluded-key (c .before .before .before .before .before .before .before .seq .ensures)))
+keys-returns-2 t c = (c .to2 .ensures .1, excluding.keys-does _ _ _ _ _ _ _ _ _ _ _ _ (c .before .before .before .before .before .before .before .before .before .before .before .before .before .before .before .before .before .before .before .before .before .before .before .before .before .step .ensures) (c .before .before .before .before .before .before .before .before .before .before .before .before .before .before .before .before .before .before .before .before .before .before .before .before .wide-at .ensures) (c .before .before .before .before .before .before .before .before .before .before .before .before .before .before .before .before .before .before .before .before .before .before .before .excluded-keys .ensures) (c .before .before .before .before .before .before .before .before .before .before .before .before .before .before .step2 .ensures) (c .before .before .before .before .before .before .before .before .before .before .before .before .before .to .ensures .1) (c .before .before .before .before .before .before .before .before .told-under .ensures .0) (c .before .before .before .before .before .before .before .before .told-under .ensures .1 ∙ c .before .before .before .before .before .before .before .before .before .less .ensures) (c .before .before .before .before .before .before .before .before .before .before .before .before .before .to .ensures .0 _ _ _) (c .to2 .ensures .0 _ _ _) (runs-does (c .before .before .before .before .before .before .before .before .before .before .before .before .before .before .before .before .before .before .before .before .before .put2 .ensures .0 _ _)) (steps.does-wide _ (c .before .before .before .before .before .before .before .before .before .before .before .before .before .before .before .before .before .wide .ensures .0 _ _)) (told.items-own _ _ _ _ _ _ _ _ _ _ _ told.untold-excluded-key (c .before .before .before .before .before .before .before .seq .ensures)))
 
 kv-returns : (t : ℕ) → cycle.Lts-kv.Need-returns (kv-claims t) (at-measure kv.Kinds.ps μ-kv kv.Reads.Pre t) kv.Reads.Post
-kv-returns t c = excluding.key-value _ _ _ _ _ _ _ _ _ _ _ _ _ (c .before .before .before .before .before .before .before .before .before .before .before .before .before .before .before .before .before .before .before .before .before .before .before .before .before .before .before .before .before .before .before .less .ensures) (c .before .before .before .before .before .before .before .before .before .before .before .before .before .before .before .before .before .before .before .before .before .before .before .before .before .before .before .before .before .step .ensures) (c .before .before .before .before .before .before .before .before .before .before .before .before .before .before .before .before .before .before .before .before .before .before .before .before .before .before .before .before .before .before .skip .ensures) (c .to2 .ensures .1) (c .before .before .before .before .before .before .before .before .inside .ensures .0) (c .before .before .before .before .before .before .before .before .inside .ensures .1) (c .before .before .before .before .before .before .before .before .before .before .before .before .to .ensures .1) (c .before .before .before .before .before .before .before .before .before .before .before .before .to .ensures .0 _ _ _) (c .to2 .ensures .0 _ _ _) (c .before .before .before .before .before .before .before .before .before .before .before .before .before .before .before .before .before .before .before .before .before .before .before .before .before .before .before .before .is-other .ensures) (c .before .before .before .before .before .before .before .before .before .before .before .before .before .before .before .before .before .before .before .before .before .before .before .before .before .before .before .if1 .taken) (c .before .before .before .before .before .before .before .before .before .before .before .before .before .before .before .before .before .before .before .before .before .before .before .before .before .put2 .ensures .0 _ _) (c .before .before .before .before .before .before .before .before .before .before .before .before .before .before .before .before .before .before .before .temporary .ensures .0) (c .before .before .before .before .before .before .before .node .ensures)
+kv-returns t c = excluding.key-value _ _ _ _ _ _ _ _ _ _ _ _ _ (c .before .before .before .before .before .before .before .before .before .before .before .before .before .before .before .before .before .before .before .before .before .before .before .before .before .before .before .before .before .before .before .less .ensures) (c .before .before .before .before .before .before .before .before .before .before .before .before .before .before .before .before .before .before .before .before .before .before .before .before .before .before .before .before .before .step .ensures) (c .before .before .before .before .before .before .before .before .before .before .before .before .before .before .before .before .before .before .before .before .before .before .before .before .before .before .before .before .before .before .skip .ensures) (c .to2 .ensures .1) (c .before .before .before .before .before .before .before .before .inside .ensures .0) (c .before .before .before .before .before .before .before .before .inside .ensures .1) (c .before .before .before .before .before .before .before .before .before .before .before .before .to .ensures .1) (c .before .before .before .before .before .before .before .before .before .before .before .before .to .ensures .0 _ _ _) (c .to2 .ensures .0 _ _ _) (c .before .before .before .before .before .before .before .before .before .before .before .before .before .before .before .before .before .before .before .before .before .before .before .before .before .before .before .before .is-other .ensures) (c .before .before .before .before .before .before .before .before .before .before .before .before .before .before .before .before .before .before .before .before .before .before .before .before .before .before .before .if1 .taken) (runs-does (c .before .before .before .before .before .before .before .before .before .before .before .before .before .before .before .before .before .before .before .before .before .before .before .before .before .put2 .ensures .0 _ _)) (runs-does (c .before .before .before .before .before .before .before .before .before .before .before .before .before .before .before .before .before .before .before .temporary .ensures .0)) (c .before .before .before .before .before .before .before .node .ensures)
 
 kv-returns-2 : (t : ℕ) → cycle.Lts-kv.Need-returns-2 (kv-claims t) (at-measure kv.Kinds.ps μ-kv kv.Reads.Pre t) kv.Reads.Post
 kv-returns-2 t c = excluding.key-plain _ _ _ _ _ _ _ _ _ (c .before .before .before .before .before .less .ensures) (c .before .before .before .step .ensures) (c .before .before .before .before .skip .ensures) (c .to3 .ensures .1) (c .to3 .ensures .0 _ _ _) (c .before .before .is-other .ensures) (c .before .if1 .left)
 
 lit-ps-requires : (t : ℕ) → cycle.Lts-lit.Need-ps-requires (lit-claims t) (at-measure lit.Kinds.ps μ-lit lit.Reads.Pre t) lit.Reads.Post
-lit-ps-requires t c κs = (omega (arith, c .before .before .before .before .before .before .before .before .before .before .before .before .before .before .before .before .before .before .before .pre .0, c .inside .ensures .1, c .before .before .before .before .before .before .before .before .before .less .ensures, c .before .before .before .before .before .before .before .before .before .before .before .before .before .before .has-spread .ensures .0 (c .before .before .before .before .before .before .before .before .before .before .before .before .before .if1 .taken)), tt)
+lit-ps-requires t c κs = (omega (arith, c .before .before .before .before .before .before .before .before .before .before .before .before .before .before .before .before .before .before .before .pre .0, c .inside .ensures .1, c .before .before .before .before .before .before .before .before .before .less .ensures, heads.spread-levels _ _ _ (sym (c .before .before .before .before .before .before .before .before .before .before .before .before .before .before .has-spread .ensures) ∙ c .before .before .before .before .before .before .before .before .before .before .before .before .before .if1 .taken)), tt)
 
 lit-returns : (t : ℕ) → cycle.Lts-lit.Need-returns (lit-claims t) (at-measure lit.Kinds.ps μ-lit lit.Reads.Pre t) lit.Reads.Post
-lit-returns t c = λ h. (c .to2 .ensures .1 ∙ c .before .skip .ensures, λ good. running.does-to (c .to2 .ensures .0 _ _ _) (args.object-does _ _ _ _ _ _ _ _ _ _ _ (c .before .before .before .before .before .before .before .before .before .before .before .before .before .before .before .before .before .before .before .before .before .before .before .has-spread .ensures .1) (c .before .before .before .before .before .before .before .before .before .before .before .before .before .before .before .before .before .before .before .before .before .before .if1 .taken) h (c .before .before .before .before .before .before .before .before .before .before .before .before .before .before .before .before .before .before .before .before .before .step .ensures) (c .before .before .before .before .before .before .before .before .before .before .before .before .before .before .before .before .before .before .before .before .step2 .ensures) (c .before .before .before .before .before .before .before .before .before .before .before .before .before .before .before .before .before .before .before .wide-at .ensures) (c .before .before .before .before .before .before .before .before .before .inside .ensures .1 ∙ c .before .before .before .before .before .before .before .before .before .before .before .before .before .before .before .before .before .before .less .ensures) (c .before .before .before .before .before .before .before .before .before .before .before .before .before .to .ensures .1) (c .before .before .before .before .before .before .before .before .before .inside .ensures .0) (c .before .before .before .before .before .before .before .before .before .before .before .before .before .to .ensures .0 _ _ _) (args.levels _ _ _ _ _ (c .before .before .before .before .before .before .before .before .before .inside .ensures .1) (c .before .before .before .before .before .before .before .before .before .before .before .before .before .before .before .before .opening .ensures .0 _ _)) (c .before .before .before .before .before .before .before .before .ps .ensures .1) good))
+lit-returns t c = λ h. (c .to2 .ensures .1 ∙ c .before .skip .ensures, λ good. running.does-to (c .to2 .ensures .0 _ _ _) (args.object-does _ _ _ _ _ _ _ _ _ _ _ (λ k. c .before .before .before .before .before .before .before .before .before .before .before .before .before .before .before .before .before .before .before .before .before .before .before .has-spread .ensures ∙ heads.spread-literal _ _ _ k) (c .before .before .before .before .before .before .before .before .before .before .before .before .before .before .before .before .before .before .before .before .before .before .if1 .taken) h (c .before .before .before .before .before .before .before .before .before .before .before .before .before .before .before .before .before .before .before .before .before .step .ensures) (c .before .before .before .before .before .before .before .before .before .before .before .before .before .before .before .before .before .before .before .before .step2 .ensures) (c .before .before .before .before .before .before .before .before .before .before .before .before .before .before .before .before .before .before .before .wide-at .ensures) (c .before .before .before .before .before .before .before .before .before .inside .ensures .1 ∙ c .before .before .before .before .before .before .before .before .before .before .before .before .before .before .before .before .before .before .less .ensures) (c .before .before .before .before .before .before .before .before .before .before .before .before .before .to .ensures .1) (c .before .before .before .before .before .before .before .before .before .inside .ensures .0) (c .before .before .before .before .before .before .before .before .before .before .before .before .before .to .ensures .0 _ _ _) (args.levels _ _ _ _ _ (c .before .before .before .before .before .before .before .before .before .inside .ensures .1) (heads.does-opening _ _ _ _ (c .before .before .before .before .before .before .before .before .before .before .before .before .before .before .before .before .opening .ensures .0 _ _))) (c .before .before .before .before .before .before .before .before .ps .ensures .1) good))
 
 lit-returns-2 : (t : ℕ) → cycle.Lts-lit.Need-returns-2 (lit-claims t) (at-measure lit.Kinds.ps μ-lit lit.Reads.Pre t) lit.Reads.Post
-lit-returns-2 t c = λ h. (c .before .before .before .before .before .before .plain .ensures .0, args.object-plain _ _ _ _ _ (c .before .before .before .before .before .before .before .before .before .before .before .has-spread .ensures .1) (c .before .before .before .before .before .before .before .before .before .before .if1 .left) h (c .before .before .before .before .before .before .plain .ensures .1))
+lit-returns-2 t c = λ h. (c .before .before .before .before .before .before .plain .ensures .0, args.object-plain _ _ _ _ _ (λ k. c .before .before .before .before .before .before .before .before .before .before .before .has-spread .ensures ∙ heads.spread-literal _ _ _ k) (c .before .before .before .before .before .before .before .before .before .before .if1 .left) h (c .before .before .before .before .before .before .plain .ensures .1))
 
 lo-returns : (t : ℕ) → cycle.Lts-lo.Need-returns (lo-claims t) (at-measure lo.Kinds.ps μ-lo lo.Reads.Pre t) lo.Reads.Post
-lo-returns t c = declaring.lowered-kept _ _ _ _ _ _ _ _ _ _ _ _ (c .before .before .before .before .before .before .before .before .before .before .before .before .before .before .before .before .before .before .before .before .before .before .before .before .before .before .before .before .before .before .before .before .before .before .before .before .before .before .if1 .taken) (c .before .before .before .before .before .before .before .before .before .before .before .before .before .before .before .before .before .before .before .before .before .before .before .before .before .before .before .before .before .before .before .before .before .before .before .before .put2 .ensures .0 _ _) (c .before .before .before .before .before .before .before .before .before .before .before .before .before .before .before .before .before .before .before .before .before .before .before .before .before .before .before .before .before .before .temporary .ensures .0) (c .before .before .before .before .before .before .before .before .before .before .before .before .before .before .before .before .before .before .before .before .before .before .before .to .ensures .0 _ _ _) (c .before .before .before .before .before .before .before .before .before .before .before .before .before .before .before .before .before .before .before .before .before .before .before .to .ensures .1) (c .before .before .before .before .before .before .before .before .before .before .before .before .before .before .before .before .before .before .before .told-inside .ensures .0) (c .before .before .before .before .before .before .before .before .before .before .before .before .before .before .before .before .before .before .before .told-inside .ensures .1) (c .before .before .before .before .before .before .before .before .before .before .before .before .before .before .before .before .before .before .node .ensures) (c .before .before .before .before .before .before .before .before .before .before .before .create-read-expression .ensures .1) (c .before .before .before .before .before .before .before .before .before .before .to2 .ensures .0 _ _ _) (c .before .before .before .before .before .before .before .before .before .before .to2 .ensures .1) (c .before .before .before .before .before .before .pa .ensures)
+lo-returns t c = declaring.lowered-kept _ _ _ _ _ _ _ _ _ _ _ _ (c .before .before .before .before .before .before .before .before .before .before .before .before .before .before .before .before .before .before .before .before .before .before .before .before .before .before .before .before .before .before .before .before .before .before .before .before .before .before .if1 .taken) (runs-does (c .before .before .before .before .before .before .before .before .before .before .before .before .before .before .before .before .before .before .before .before .before .before .before .before .before .before .before .before .before .before .before .before .before .before .before .before .put2 .ensures .0 _ _)) (runs-does (c .before .before .before .before .before .before .before .before .before .before .before .before .before .before .before .before .before .before .before .before .before .before .before .before .before .before .before .before .before .before .temporary .ensures .0)) (c .before .before .before .before .before .before .before .before .before .before .before .before .before .before .before .before .before .before .before .before .before .before .before .to .ensures .0 _ _ _) (c .before .before .before .before .before .before .before .before .before .before .before .before .before .before .before .before .before .before .before .before .before .before .before .to .ensures .1) (c .before .before .before .before .before .before .before .before .before .before .before .before .before .before .before .before .before .before .before .told-inside .ensures .0) (c .before .before .before .before .before .before .before .before .before .before .before .before .before .before .before .before .before .before .before .told-inside .ensures .1) (c .before .before .before .before .before .before .before .before .before .before .before .before .before .before .before .before .before .before .node .ensures) (c .before .before .before .before .before .before .before .before .before .before .before .create-read-expression .ensures .1) (c .before .before .before .before .before .before .before .before .before .before .to2 .ensures .0 _ _ _) (c .before .before .before .before .before .before .before .before .before .before .to2 .ensures .1) (c .before .before .before .before .before .before .pa .ensures)
 
 lo-returns-2 : (t : ℕ) → cycle.Lts-lo.Need-returns-2 (lo-claims t) (at-measure lo.Kinds.ps μ-lo lo.Reads.Pre t) lo.Reads.Post
 lo-returns-2 t c = declaring.lowered-read _ _ _ _ _ _ _ (c .before .before .before .before .before .before .before .before .before .before .before .if1 .left) (c .before .before .before .before .before .before .before .before .before .before .to3 .ensures .0 _ _ _) (c .before .before .before .before .before .before .before .before .before .before .to3 .ensures .1) (c .before .before .before .before .before .before .pa2 .ensures)
@@ -940,7 +945,7 @@ mv-returns-6 : (t : ℕ) → cycle.Lts-mv.Need-returns-6 (mv-claims t) (at-measu
 mv-returns-6 t c = moving.moved-leaf _ _ _ _ _ (c .before .before .before .if1 .left) (c .before .peek .ensures) (c .match .rest .0 .0 .1) (c .match .rest .0 .1) (c .match .rest .1)
 
 node-returns : (t : ℕ) → cycle.Lts-node.Need-returns (node-claims t) (at-measure node.Kinds.ps μ-node node.Reads.Pre t) node.Reads.Post
-node-returns t c = (c .before .before .copy .ensures .1 ∙ c .before .before .before .skip .ensures, law.quiet-does _ _ _ _ _ _ (c .before .before .before .before .before .before .quiet .ensures) (c .before .before .before .before .before .if1 .taken) (c .before .before .before .skip .ensures) (c .before .before .copy .ensures .0 _ _))
+node-returns t c = (c .before .before .copy .ensures .1 ∙ c .before .before .before .skip .ensures, law.quiet-does _ _ _ _ _ _ (c .before .before .before .before .before .before .quiet .ensures) (c .before .before .before .before .before .if1 .taken) (c .before .before .before .skip .ensures) (runs-does (c .before .before .copy .ensures .0 _ _)))
 
 node-returns-2 : (t : ℕ) → cycle.Lts-node.Need-returns-2 (node-claims t) (at-measure node.Kinds.ps μ-node node.Reads.Pre t) node.Reads.Post
 node-returns-2 t c = c .before .before .before .before .before .before .decl .ensures (sym (c .before .before .before .before .before .before .before .before .before .before .before .peek .ensures .value) ∙ c .before .before .before .before .before .before .before .before .before .before .match .keys1)
@@ -973,25 +978,25 @@ ns-same-length : (t : ℕ) → cycle.Lts-ns.Need-same-length (ns-claims t) (at-m
 ns-same-length t c = omega (arith, c .before .before .before .before .before .before .pr .kept, c .before .before .before .before .before .before .before .before .before .before .before .before .before .before .before .before .before .gv .kept, c .before .before .before .before .before .before .before .before .before .before .before .before .before .before .before .before .before .before .before .before .before .before .before .before .before .before .before .before .view .kept, c .before .before .before .before .before .before .before .before .before .before .before .before .before .before .before .before .before .before .before .before .before .before .before .before .before .before .before .before .before .before .before .before .before .before .before .before .assign .kept, c .before .before .before .before .before .before .before .before .before .before .before .before .before .before .before .before .before .before .before .before .before .before .before .before .before .before .before .before .before .before .before .before .before .before .before .before .before .before .before .before .wide .kept, c .before .before .before .before .before .before .before .before .before .before .before .before .before .before .before .before .before .before .before .before .before .before .before .before .before .before .before .before .before .before .before .before .before .before .before .before .before .before .before .before .before .before .before .before .before .put2 .kept)
 
 ns-returns : (t : ℕ) → cycle.Lts-ns.Need-returns (ns-claims t) (at-measure ns.Kinds.ps μ-ns ns.Reads.Pre t) ns.Reads.Post
-ns-returns t c = assigning.nst-done _ _ _ _ _ _ _ _ _ _ _ _ _ _ _ _ _ (c .before .before .before .before .before .before .before .before .before .before .before .before .before .before .before .before .before .before .before .before .before .before .before .before .before .before .before .before .before .before .before .before .before .before .before .before .before .before .before .before .before .before .before .before .before .before .before .before .before .before .before .before .before .before .places-in .ensures) (c .before .before .before .before .before .before .before .before .before .before .before .before .before .before .before .before .before .before .before .before .before .before .before .before .before .before .before .before .before .before .before .before .before .before .before .before .before .before .before .before .before .before .before .before .before .before .before .before .before .before .before .nested-hands .ensures .1 _) (c .before .before .before .before .before .before .before .before .before .before .before .before .before .before .before .before .before .before .before .before .before .before .before .before .before .before .before .before .before .before .before .before .before .before .before .before .before .before .before .before .before .before .before .before .before .put2 .ensures .0 _ _) (c .before .before .before .before .before .before .before .before .before .before .before .before .before .before .before .before .before .before .before .before .before .before .before .before .before .before .before .before .before .before .before .before .before .before .before .before .before .before .before .before .before .plus .ensures) (c .before .before .before .before .before .before .before .before .before .before .before .before .before .before .before .before .before .before .before .before .before .before .before .before .before .before .before .before .before .before .before .before .before .before .before .before .before .before .before .before .wide .ensures .0 _ _) (c .before .before .before .before .before .before .before .before .before .before .before .before .before .before .before .before .before .before .before .before .before .before .before .before .before .before .before .before .before .before .before .before .before .before .before .before .assign .ensures .0 _ _) (c .before .before .before .before .before .before .before .before .before .before .before .before .before .before .before .before .before .before .before .before .before .before .before .before .before .before .before .before .before .before .before .before .before .to .ensures .0 _ _ _) (c .before .before .before .before .before .before .before .before .before .before .before .before .before .before .before .before .before .before .before .before .before .before .before .before .before .before .before .before .before .before .before .before .before .to .ensures .1) (c .before .before .before .before .before .before .before .before .before .before .before .before .before .before .before .before .before .before .before .before .before .before .before .before .before .before .before .before .before .told-inside .ensures) (c .before .before .before .before .before .before .before .before .before .before .before .before .before .before .before .before .before .before .before .before .before .before .before .before .before .before .before .before .view .ensures) (c .before .before .before .before .before .before .before .before .before .before .before .before .before .before .before .before .before .before .told-inside2 .ensures) (c .before .before .before .before .before .before .before .before .before .before .before .before .before .before .before .before .before .gv .ensures) (assigning.nst-arrays _ _ _ _ _ _ _ (c .before .before .before .before .before .before .before .before .before .before .if1 .taken) (c .before .before .before .before .before .before .pr .ensures told.told-value-in-arrays))
+ns-returns t c = assigning.nst-done _ _ _ _ _ _ _ _ _ _ _ _ _ _ _ _ _ (hands.places-counted _ _ _ _ (c .before .before .before .before .before .before .before .before .before .before .before .before .before .before .before .before .before .before .before .before .before .before .before .before .before .before .before .before .before .before .before .before .before .before .before .before .before .before .before .before .before .before .before .before .before .before .before .before .before .before .before .before .before .before .places-in .ensures)) (c .before .before .before .before .before .before .before .before .before .before .before .before .before .before .before .before .before .before .before .before .before .before .before .before .before .before .before .before .before .before .before .before .before .before .before .before .before .before .before .before .before .before .before .before .before .before .before .before .before .before .before .nested-hands .ensures .1 _) (runs-does (c .before .before .before .before .before .before .before .before .before .before .before .before .before .before .before .before .before .before .before .before .before .before .before .before .before .before .before .before .before .before .before .before .before .before .before .before .before .before .before .before .before .before .before .before .before .put2 .ensures .0 _ _)) (c .before .before .before .before .before .before .before .before .before .before .before .before .before .before .before .before .before .before .before .before .before .before .before .before .before .before .before .before .before .before .before .before .before .before .before .before .before .before .before .before .before .plus .ensures) (steps.does-wide _ (c .before .before .before .before .before .before .before .before .before .before .before .before .before .before .before .before .before .before .before .before .before .before .before .before .before .before .before .before .before .before .before .before .before .before .before .before .before .before .before .before .wide .ensures .0 _ _)) (steps.does-assign _ (c .before .before .before .before .before .before .before .before .before .before .before .before .before .before .before .before .before .before .before .before .before .before .before .before .before .before .before .before .before .before .before .before .before .before .before .before .assign .ensures .0 _ _)) (c .before .before .before .before .before .before .before .before .before .before .before .before .before .before .before .before .before .before .before .before .before .before .before .before .before .before .before .before .before .before .before .before .before .to .ensures .0 _ _ _) (c .before .before .before .before .before .before .before .before .before .before .before .before .before .before .before .before .before .before .before .before .before .before .before .before .before .before .before .before .before .before .before .before .before .to .ensures .1) (c .before .before .before .before .before .before .before .before .before .before .before .before .before .before .before .before .before .before .before .before .before .before .before .before .before .before .before .before .before .told-inside .ensures) (c .before .before .before .before .before .before .before .before .before .before .before .before .before .before .before .before .before .before .before .before .before .before .before .before .before .before .before .before .view .ensures) (c .before .before .before .before .before .before .before .before .before .before .before .before .before .before .before .before .before .before .told-inside2 .ensures) (c .before .before .before .before .before .before .before .before .before .before .before .before .before .before .before .before .before .gv .ensures) (assigning.nst-arrays _ _ _ _ _ _ _ (c .before .before .before .before .before .before .before .before .before .before .if1 .taken) (c .before .before .before .before .before .before .pr .ensures told.told-value-in-arrays))
 
 ns-same-length-4 : (t : ℕ) → cycle.Lts-ns.Need-same-length-4 (ns-claims t) (at-measure ns.Kinds.ps μ-ns ns.Reads.Pre t) ns.Reads.Post
 ns-same-length-4 t c = omega (arith, c .before .before .before .before .before .before .deep .kept, c .before .before .before .before .before .before .before .before .before .before .before .before .before .before .before .before .before .before .gv .kept, c .before .before .before .before .before .before .before .before .before .before .before .before .before .before .before .before .before .before .before .before .before .before .before .before .before .before .before .before .before .view .kept, c .before .before .before .before .before .before .before .before .before .before .before .before .before .before .before .before .before .before .before .before .before .before .before .before .before .before .before .before .before .before .before .before .before .before .before .before .before .assign .kept, c .before .before .before .before .before .before .before .before .before .before .before .before .before .before .before .before .before .before .before .before .before .before .before .before .before .before .before .before .before .before .before .before .before .before .before .before .before .before .before .before .before .wide .kept, c .before .before .before .before .before .before .before .before .before .before .before .before .before .before .before .before .before .before .before .before .before .before .before .before .before .before .before .before .before .before .before .before .before .before .before .before .before .before .before .before .before .before .before .before .before .before .put2 .kept)
 
 ns-returns-2 : (t : ℕ) → cycle.Lts-ns.Need-returns-2 (ns-claims t) (at-measure ns.Kinds.ps μ-ns ns.Reads.Pre t) ns.Reads.Post
-ns-returns-2 t c = assigning.nst-done _ _ _ _ _ _ _ _ _ _ _ _ _ _ _ _ _ (c .before .before .before .before .before .before .before .before .before .before .before .before .before .before .before .before .before .before .before .before .before .before .before .before .before .before .before .before .before .before .before .before .before .before .before .before .before .before .before .before .before .before .before .before .before .before .before .before .before .before .before .before .before .before .before .places-in .ensures) (c .before .before .before .before .before .before .before .before .before .before .before .before .before .before .before .before .before .before .before .before .before .before .before .before .before .before .before .before .before .before .before .before .before .before .before .before .before .before .before .before .before .before .before .before .before .before .before .before .before .before .before .before .nested-hands .ensures .1 _) (c .before .before .before .before .before .before .before .before .before .before .before .before .before .before .before .before .before .before .before .before .before .before .before .before .before .before .before .before .before .before .before .before .before .before .before .before .before .before .before .before .before .before .before .before .before .before .put2 .ensures .0 _ _) (c .before .before .before .before .before .before .before .before .before .before .before .before .before .before .before .before .before .before .before .before .before .before .before .before .before .before .before .before .before .before .before .before .before .before .before .before .before .before .before .before .before .before .plus .ensures) (c .before .before .before .before .before .before .before .before .before .before .before .before .before .before .before .before .before .before .before .before .before .before .before .before .before .before .before .before .before .before .before .before .before .before .before .before .before .before .before .before .before .wide .ensures .0 _ _) (c .before .before .before .before .before .before .before .before .before .before .before .before .before .before .before .before .before .before .before .before .before .before .before .before .before .before .before .before .before .before .before .before .before .before .before .before .before .assign .ensures .0 _ _) (c .before .before .before .before .before .before .before .before .before .before .before .before .before .before .before .before .before .before .before .before .before .before .before .before .before .before .before .before .before .before .before .before .before .before .to .ensures .0 _ _ _) (c .before .before .before .before .before .before .before .before .before .before .before .before .before .before .before .before .before .before .before .before .before .before .before .before .before .before .before .before .before .before .before .before .before .before .to .ensures .1) (c .before .before .before .before .before .before .before .before .before .before .before .before .before .before .before .before .before .before .before .before .before .before .before .before .before .before .before .before .before .before .told-inside .ensures) (c .before .before .before .before .before .before .before .before .before .before .before .before .before .before .before .before .before .before .before .before .before .before .before .before .before .before .before .before .before .view .ensures) (c .before .before .before .before .before .before .before .before .before .before .before .before .before .before .before .before .before .before .before .told-inside2 .ensures) (c .before .before .before .before .before .before .before .before .before .before .before .before .before .before .before .before .before .before .gv .ensures) (assigning.nst-below _ _ _ _ _ _ _ (c .before .before .before .before .before .before .before .before .before .before .before .if1 .left) (c .before .before .before .before .before .before .before .before .before .before .to2 .ensures .0 _ _ _) (c .before .before .before .before .before .before .before .before .before .before .to2 .ensures .1) (c .before .before .before .before .before .before .deep .ensures))
+ns-returns-2 t c = assigning.nst-done _ _ _ _ _ _ _ _ _ _ _ _ _ _ _ _ _ (hands.places-counted _ _ _ _ (c .before .before .before .before .before .before .before .before .before .before .before .before .before .before .before .before .before .before .before .before .before .before .before .before .before .before .before .before .before .before .before .before .before .before .before .before .before .before .before .before .before .before .before .before .before .before .before .before .before .before .before .before .before .before .before .places-in .ensures)) (c .before .before .before .before .before .before .before .before .before .before .before .before .before .before .before .before .before .before .before .before .before .before .before .before .before .before .before .before .before .before .before .before .before .before .before .before .before .before .before .before .before .before .before .before .before .before .before .before .before .before .before .before .nested-hands .ensures .1 _) (runs-does (c .before .before .before .before .before .before .before .before .before .before .before .before .before .before .before .before .before .before .before .before .before .before .before .before .before .before .before .before .before .before .before .before .before .before .before .before .before .before .before .before .before .before .before .before .before .before .put2 .ensures .0 _ _)) (c .before .before .before .before .before .before .before .before .before .before .before .before .before .before .before .before .before .before .before .before .before .before .before .before .before .before .before .before .before .before .before .before .before .before .before .before .before .before .before .before .before .before .plus .ensures) (steps.does-wide _ (c .before .before .before .before .before .before .before .before .before .before .before .before .before .before .before .before .before .before .before .before .before .before .before .before .before .before .before .before .before .before .before .before .before .before .before .before .before .before .before .before .before .wide .ensures .0 _ _)) (steps.does-assign _ (c .before .before .before .before .before .before .before .before .before .before .before .before .before .before .before .before .before .before .before .before .before .before .before .before .before .before .before .before .before .before .before .before .before .before .before .before .before .assign .ensures .0 _ _)) (c .before .before .before .before .before .before .before .before .before .before .before .before .before .before .before .before .before .before .before .before .before .before .before .before .before .before .before .before .before .before .before .before .before .before .to .ensures .0 _ _ _) (c .before .before .before .before .before .before .before .before .before .before .before .before .before .before .before .before .before .before .before .before .before .before .before .before .before .before .before .before .before .before .before .before .before .before .to .ensures .1) (c .before .before .before .before .before .before .before .before .before .before .before .before .before .before .before .before .before .before .before .before .before .before .before .before .before .before .before .before .before .before .told-inside .ensures) (c .before .before .before .before .before .before .before .before .before .before .before .before .before .before .before .before .before .before .before .before .before .before .before .before .before .before .before .before .before .view .ensures) (c .before .before .before .before .before .before .before .before .before .before .before .before .before .before .before .before .before .before .before .told-inside2 .ensures) (c .before .before .before .before .before .before .before .before .before .before .before .before .before .before .before .before .before .before .gv .ensures) (assigning.nst-below _ _ _ _ _ _ _ (c .before .before .before .before .before .before .before .before .before .before .before .if1 .left) (c .before .before .before .before .before .before .before .before .before .before .to2 .ensures .0 _ _ _) (c .before .before .before .before .before .before .before .before .before .before .to2 .ensures .1) (c .before .before .before .before .before .before .deep .ensures))
 
 oa-returns : (t : ℕ) → cycle.Lts-oa.Need-returns (oa-claims t) (at-measure oa.Kinds.ps μ-oa oa.Reads.Pre t) oa.Reads.Post
 oa-returns t c = declaring.own-pattern-left _ _ _ _ _ _ (c .before .has-no-properties .ensures) (c .if1 .taken)
 
 oa-returns-2 : (t : ℕ) → cycle.Lts-oa.Need-returns-2 (oa-claims t) (at-measure oa.Kinds.ps μ-oa oa.Reads.Pre t) oa.Reads.Post
-oa-returns-2 t c = declaring.own-pattern-done _ _ _ _ _ _ _ _ _ _ _ _ (c .before .before .before .before .before .before .before .before .before .before .before .before .before .before .before .before .before .before .before .before .before .before .before .before .before .before .before .has-no-properties .ensures) (c .before .before .before .before .before .before .before .before .before .before .before .before .before .before .before .before .before .before .before .before .before .before .before .before .before .before .if1 .left) (c .before .before .before .before .before .before .before .before .before .before .before .before .before .before .before .before .before .before .before .before .before .before .before .before .put2 .ensures .0 _ _) (c .before .before .before .before .before .before .before .before .before .before .before .before .before .before .before .before .before .before .before .before .before .before .before .before .put2 .ensures .1) (c .before .before .before .before .before .before .before .before .before .before .before .before .before .before .before .before .before .before .told-inside .ensures .0) (c .before .before .before .before .before .before .before .before .before .before .before .before .before .before .before .before .before .before .told-inside .ensures .1) (c .before .before .before .before .before .before .before .before .before .before .before .before .before .before .before .before .before .view .ensures) (c .before .before .before .before .before .before .before .source .ensures) (c .to .ensures .0 _ _ _) (c .to .ensures .1)
+oa-returns-2 t c = declaring.own-pattern-done _ _ _ _ _ _ _ _ _ _ _ _ (c .before .before .before .before .before .before .before .before .before .before .before .before .before .before .before .before .before .before .before .before .before .before .before .before .before .before .before .has-no-properties .ensures) (c .before .before .before .before .before .before .before .before .before .before .before .before .before .before .before .before .before .before .before .before .before .before .before .before .before .before .if1 .left) (runs-does (c .before .before .before .before .before .before .before .before .before .before .before .before .before .before .before .before .before .before .before .before .before .before .before .before .put2 .ensures .0 _ _)) (c .before .before .before .before .before .before .before .before .before .before .before .before .before .before .before .before .before .before .before .before .before .before .before .before .put2 .ensures .1) (c .before .before .before .before .before .before .before .before .before .before .before .before .before .before .before .before .before .before .told-inside .ensures .0) (c .before .before .before .before .before .before .before .before .before .before .before .before .before .before .before .before .before .before .told-inside .ensures .1) (c .before .before .before .before .before .before .before .before .before .before .before .before .before .before .before .before .before .view .ensures) ((c .before .before .before .before .before .before .before .source .ensures .0, runs-does (c .before .before .before .before .before .before .before .source .ensures .1))) (c .to .ensures .0 _ _ _) (c .to .ensures .1)
 
 os-rest-requires : (t : ℕ) → cycle.Lts-os.Need-rest-requires (os-claims t) (at-measure os.Kinds.ps μ-os os.Reads.Pre t) os.Reads.Post
 os-rest-requires t c κs = (omega (arith, c .before .before .before .before .before .before .before .before .before .before .before .before .before .before .before .before .before .before .before .before .before .before .before .before .before .before .before .before .before .before .before .pre .0, c .before .before .before .before .before .before .before .before .before .before .before .before .before .before .before .before .before .before .before .before .before .before .before .before .less .ensures, c .inside .ensures .1, c .before .before .before .before .before .before .before .before .before .before .before .told-inside .ensures .1), tt)
 
 os-returns : (t : ℕ) → cycle.Lts-os.Need-returns (os-claims t) (at-measure os.Kinds.ps μ-os os.Reads.Pre t) os.Reads.Post
-os-returns t c = declaring.own-rest-done _ _ _ _ _ _ _ _ _ _ _ _ _ _ _ _ _ _ _ (c .before .before .before .before .before .before .before .before .before .before .before .before .before .before .before .before .before .before .before .before .before .before .before .before .before .before .before .before .before .before .before .before .before .before .has-second .ensures) (c .before .before .before .before .before .before .before .before .before .before .before .before .before .before .before .before .before .before .before .before .before .before .before .before .before .before .before .before .before .before .before .before .before .if1 .taken) (c .before .before .before .before .before .before .before .before .before .before .before .before .before .before .before .before .before .before .before .before .before .before .before .before .before .before .before .before .before .before .before .before .less .ensures) (c .before .before .before .before .before .before .before .before .before .before .before .before .before .before .before .before .before .before .before .before .before .before .before .before .before .before .before .before .before .before .before .step .ensures) (c .before .before .before .before .before .before .before .before .before .before .before .before .before .before .before .before .before .before .before .before .before .before .before .before .before .before .before .before .before .before .wide-at .ensures) (c .before .before .before .before .before .before .before .before .before .before .before .before .before .before .before .before .before .before .before .before .before .before .before .before .before .before .before .before .before .step2 .ensures) (c .before .before .before .before .before .before .before .before .before .before .before .before .before .before .before .before .before .before .before .before .before .before .before .before .before .before .before .before .skip-items .ensures) (c .before .before .before .before .before .before .before .before .before .before .before .before .before .before .before .before .before .before .before .before .before .before .before .before .before .before .put2 .ensures .0 _ _) (c .before .before .before .before .before .before .before .before .before .before .before .before .before .before .before .before .before .before .before .before .before .before .before .to .ensures .0 _ _ _) (c .before .before .before .before .before .before .before .before .before .before .before .before .before .before .before .before .before .before .before .before .before .before .before .to .ensures .1) (c .before .before .before .before .before .before .before .before .before .before .before .before .before .before .before .before .before .before .before .told-inside .ensures .0) (c .before .before .before .before .before .before .before .before .before .before .before .before .before .before .before .before .before .before .before .told-inside .ensures .1) (c .before .before .before .before .before .before .before .before .before .before .before .before .before .before .before .before .before .before .node .ensures) (told.with-inner _ _ (c .before .before .before .before .before .before .before .before .inside .ensures .0)) (c .before .before .before .before .before .before .before .before .inside .ensures .1) (c .before .before .before .before .before .before .before .rest .ensures) (c .to2 .ensures .0 _ _ _) (c .to2 .ensures .1) (walked.source-quiet _ _)
+os-returns t c = declaring.own-rest-done _ _ _ _ _ _ _ _ _ _ _ _ _ _ _ _ _ _ _ (c .before .before .before .before .before .before .before .before .before .before .before .before .before .before .before .before .before .before .before .before .before .before .before .before .before .before .before .before .before .before .before .before .before .before .has-second .ensures) (c .before .before .before .before .before .before .before .before .before .before .before .before .before .before .before .before .before .before .before .before .before .before .before .before .before .before .before .before .before .before .before .before .before .if1 .taken) (c .before .before .before .before .before .before .before .before .before .before .before .before .before .before .before .before .before .before .before .before .before .before .before .before .before .before .before .before .before .before .before .before .less .ensures) (c .before .before .before .before .before .before .before .before .before .before .before .before .before .before .before .before .before .before .before .before .before .before .before .before .before .before .before .before .before .before .before .step .ensures) (c .before .before .before .before .before .before .before .before .before .before .before .before .before .before .before .before .before .before .before .before .before .before .before .before .before .before .before .before .before .before .wide-at .ensures) (c .before .before .before .before .before .before .before .before .before .before .before .before .before .before .before .before .before .before .before .before .before .before .before .before .before .before .before .before .before .step2 .ensures) (c .before .before .before .before .before .before .before .before .before .before .before .before .before .before .before .before .before .before .before .before .before .before .before .before .before .before .before .before .skip-items .ensures) (runs-does (c .before .before .before .before .before .before .before .before .before .before .before .before .before .before .before .before .before .before .before .before .before .before .before .before .before .before .put2 .ensures .0 _ _)) (c .before .before .before .before .before .before .before .before .before .before .before .before .before .before .before .before .before .before .before .before .before .before .before .to .ensures .0 _ _ _) (c .before .before .before .before .before .before .before .before .before .before .before .before .before .before .before .before .before .before .before .before .before .before .before .to .ensures .1) (c .before .before .before .before .before .before .before .before .before .before .before .before .before .before .before .before .before .before .before .told-inside .ensures .0) (c .before .before .before .before .before .before .before .before .before .before .before .before .before .before .before .before .before .before .before .told-inside .ensures .1) (c .before .before .before .before .before .before .before .before .before .before .before .before .before .before .before .before .before .before .node .ensures) (told.with-inner _ _ (c .before .before .before .before .before .before .before .before .inside .ensures .0)) (c .before .before .before .before .before .before .before .before .inside .ensures .1) (c .before .before .before .before .before .before .before .rest .ensures) (c .to2 .ensures .0 _ _ _) (c .to2 .ensures .1) (walked.source-quiet _ _)
 
 os-returns-2 : (t : ℕ) → cycle.Lts-os.Need-returns-2 (os-claims t) (at-measure os.Kinds.ps μ-os os.Reads.Pre t) os.Reads.Post
 os-returns-2 t c = declaring.own-rest-left _ _ _ _ _ _ (c .before .has-second .ensures) (c .if1 .left)
@@ -1012,7 +1017,7 @@ pa-returns-2 : (t : ℕ) → cycle.Lts-pa.Need-returns-2 (pa-claims t) (at-measu
 pa-returns-2 t c = declaring.pattern-object-done _ _ _ _ _ _ _ _ _ _ _ _ _ _ _ _ _ (c .before .before .before .before .before .before .before .before .before .before .before .before .before .before .before .before .before .before .before .before .before .before .before .before .before .before .before .before .before .before .before .before .before .before .before .before .before .before .peek .ensures .value) (c .before .before .before .before .before .before .before .before .before .before .before .before .before .before .before .before .before .before .before .before .before .before .before .before .before .before .before .before .before .before .before .before .before .before .before .before .before .match .keys1) (c .before .before .before .before .before .before .before .before .before .before .before .before .before .before .before .before .before .before .before .before .before .before .before .before .before .before .before .before .before .before .before .before .before .before .before .before .step .ensures) (c .before .before .before .before .before .before .before .before .before .before .before .before .before .before .before .before .before .before .before .before .before .before .before .before .before .before .before .before .before .before .before .before .before .before .before .wide-at .ensures) (c .before .before .before .before .before .before .before .before .before .before .before .before .before .before .before .before .before .before .before .before .before .before .before .before .before .before .before .before .before .before .before .own .ensures) (c .before .before .before .before .before .before .before .before .before .before .before .before .before .before .before .before .before .before .before .before .before .before .before .before .step2 .ensures) (c .before .before .before .before .before .before .before .before .before .before .before .before .before .before .before .before .before .before .before .before .before .before .before .to .ensures .1) (c .before .before .before .before .before .before .before .before .before .before .before .before .before .before .before .before .before .before .before .before .before .before .before .to .ensures .0 _ _ _) (c .before .before .before .before .before .before .before .before .before .before .before .before .before .before .before .before .before .before .before .less .ensures) (c .before .before .before .before .before .before .before .before .before .before .before .before .before .before .before .before .before .before .under .ensures .1) (told.with-same _ (c .before .before .before .before .before .before .before .before .before .before .before .before .before .before .before .before .before .before .under .ensures .0)) (told.items-with _ _ _ _ _ _ _ _ _ _ _ told.told-value-found (c .before .before .before .before .before .before .before .before .before .before .before .before .before .before .before .before .before .seq .ensures)) (c .before .before .before .before .before .before .before .before .before .before .to2 .ensures .0 _ _ _) (c .before .before .before .before .before .before .before .before .before .before .to2 .ensures .1) (c .before .before .before .before .before .before .os .ensures)
 
 pa-returns-3 : (t : ℕ) → cycle.Lts-pa.Need-returns-3 (pa-claims t) (at-measure pa.Kinds.ps μ-pa pa.Reads.Pre t) pa.Reads.Post
-pa-returns-3 t c = declaring.pattern-array-done _ _ _ _ _ _ _ _ _ _ _ _ _ (c .before .before .before .before .before .before .before .before .before .before .before .before .before .before .before .before .before .before .before .before .before .before .before .before .before .before .before .before .before .before .before .before .before .before .before .before .before .peek .ensures .value) (c .before .before .before .before .before .before .before .before .before .before .before .before .before .before .before .before .before .before .before .before .before .before .before .before .before .before .before .before .before .before .before .before .before .before .before .before .match .keys2) (c .before .before .before .before .before .before .before .before .before .before .before .before .before .before .before .before .before .before .before .before .before .before .before .before .before .before .before .before .before .before .before .before .before .before .put2 .ensures .0 _ _) (c .before .before .before .before .before .before .before .before .before .before .before .before .before .before .before .before .before .before .before .before .before .before .before .before .before .before .before .before .before .before .before .before .before .before .put2 .ensures .1) (c .before .before .before .before .before .before .before .before .before .before .before .before .before .before .before .before .before .before .before .before .before .before .before .before .before .before .before .before .told-inside .ensures .0) (c .before .before .before .before .before .before .before .before .before .before .before .before .before .before .before .before .before .before .before .before .before .before .before .before .before .before .before .before .told-inside .ensures .1) (c .before .before .before .before .before .before .before .before .before .before .before .before .before .before .before .before .before .before .before .before .before .before .before .before .before .before .before .view .ensures) (c .before .before .before .before .before .before .before .before .before .before .before .before .before .before .before .before .before .source .ensures) (c .before .before .before .before .before .before .before .before .before .before .to3 .ensures .0 _ _ _) (c .before .before .before .before .before .before .before .before .before .before .to3 .ensures .1) (c .before .before .before .before .before .before .deep .ensures)
+pa-returns-3 t c = declaring.pattern-array-done _ _ _ _ _ _ _ _ _ _ _ _ _ (c .before .before .before .before .before .before .before .before .before .before .before .before .before .before .before .before .before .before .before .before .before .before .before .before .before .before .before .before .before .before .before .before .before .before .before .before .before .peek .ensures .value) (c .before .before .before .before .before .before .before .before .before .before .before .before .before .before .before .before .before .before .before .before .before .before .before .before .before .before .before .before .before .before .before .before .before .before .before .before .match .keys2) (runs-does (c .before .before .before .before .before .before .before .before .before .before .before .before .before .before .before .before .before .before .before .before .before .before .before .before .before .before .before .before .before .before .before .before .before .before .put2 .ensures .0 _ _)) (c .before .before .before .before .before .before .before .before .before .before .before .before .before .before .before .before .before .before .before .before .before .before .before .before .before .before .before .before .before .before .before .before .before .before .put2 .ensures .1) (c .before .before .before .before .before .before .before .before .before .before .before .before .before .before .before .before .before .before .before .before .before .before .before .before .before .before .before .before .told-inside .ensures .0) (c .before .before .before .before .before .before .before .before .before .before .before .before .before .before .before .before .before .before .before .before .before .before .before .before .before .before .before .before .told-inside .ensures .1) (c .before .before .before .before .before .before .before .before .before .before .before .before .before .before .before .before .before .before .before .before .before .before .before .before .before .before .before .view .ensures) ((c .before .before .before .before .before .before .before .before .before .before .before .before .before .before .before .before .before .source .ensures .0, runs-does (c .before .before .before .before .before .before .before .before .before .before .before .before .before .before .before .before .before .source .ensures .1))) (c .before .before .before .before .before .before .before .before .before .before .to3 .ensures .0 _ _ _) (c .before .before .before .before .before .before .before .before .before .before .to3 .ensures .1) (c .before .before .before .before .before .before .deep .ensures)
 
 pa-returns-4 : (t : ℕ) → cycle.Lts-pa.Need-returns-4 (pa-claims t) (at-measure pa.Kinds.ps μ-pa pa.Reads.Pre t) pa.Reads.Post
 pa-returns-4 t c = declaring.pattern-other _ _ _ _ _ _ (c .before .peek .ensures .value) (c .match .rest .0 .1) (c .match .rest .1)
@@ -1021,10 +1026,10 @@ plain-returns : (t : ℕ) → cycle.Lts-plain.Need-returns (plain-claims t) (at-
 plain-returns t c = (skipping.node-none _ _ _ (c .if1 .taken), law.good-none _ _ _ (c .if1 .taken))
 
 plain-returns-2 : (t : ℕ) → cycle.Lts-plain.Need-returns-2 (plain-claims t) (at-measure plain.Kinds.ps μ-plain plain.Reads.Pre t) plain.Reads.Post
-plain-returns-2 t c = (c .to .ensures .1 ∙ c .before .skip .ensures, λ good. running.does-to (c .to .ensures .0 _ _ _) (law.switch-does _ _ _ _ _ _ _ _ _ _ _ _ _ _ (c .before .before .before .before .before .before .before .before .before .before .before .before .before .before .before .before .before .before .before .before .before .before .before .before .before .before .before .before .before .before .before .before .before .if1 .left) (c .before .before .before .before .before .before .before .before .before .before .before .before .before .before .before .before .before .before .before .before .before .before .before .before .before .before .before .before .before .before .before .before .peek .ensures .value) (c .before .before .before .before .before .before .before .before .before .before .before .before .before .before .before .before .before .before .before .before .before .before .before .if2 .taken) (c .before .before .before .before .before .before .before .before .before .before .before .before .before .before .before .before .before .before .before .before .before .before .before .before .before .before .before .before .before .before .before .step .ensures) (c .before .before .before .before .before .before .before .before .before .before .before .before .before .before .before .before .before .before .before .before .before .before .before .before .before .before .before .before .before .before .peek2 .ensures .value) (c .before .before .before .before .before .before .before .before .before .before .before .before .before .before .before .before .before .before .before .before .before .before .before .before .before .before .before .before .step2 .ensures) (c .before .before .before .before .before .before .before .before .before .before .before .before .before .before .before .before .before .before .before .before .before .before .before .before .before .before .before .copy .ensures .1) (c .before .before .before .before .before .before .before .before .before .before .before .before .before .before .before .before .before .before .before .before .before .before .before .before .parts-of .ensures .0) (c .before .before .before .before .before .before .before .before .before .before .before .before .parts-of2 .ensures .0) (c .before .before .before .before .before .before .before .before .before .before .before .before .before .before .before .before .before .before .before .before .before .before .before .before .parts-of .ensures .1) (c .before .before .before .before .before .before .before .before .before .before .before .before .parts-of2 .ensures .1) (c .before .before .before .before .before .before .before .before .before .before .before .before .before .before .before .before .before .before .before .before .before .before .before .before .before .before .before .copy .ensures .0 _ _) (c .before .before .before .before .before .before .before .before .before .before .before .before .before .before .before .before .before .before .before .fs .ensures .1) (c .before .before .before .before .before .before .before .before .before .before .before .before .before .before .before .before .before .before .before .fs .ensures .0) (c .before .before .before .before .before .before .before .before .fs2 .ensures .1) good))
+plain-returns-2 t c = (c .to .ensures .1 ∙ c .before .skip .ensures, λ good. running.does-to (c .to .ensures .0 _ _ _) (law.switch-does _ _ _ _ _ _ _ _ _ _ _ _ _ _ (c .before .before .before .before .before .before .before .before .before .before .before .before .before .before .before .before .before .before .before .before .before .before .before .before .before .before .before .before .before .before .before .before .before .if1 .left) (c .before .before .before .before .before .before .before .before .before .before .before .before .before .before .before .before .before .before .before .before .before .before .before .before .before .before .before .before .before .before .before .before .peek .ensures .value) (c .before .before .before .before .before .before .before .before .before .before .before .before .before .before .before .before .before .before .before .before .before .before .before .if2 .taken) (c .before .before .before .before .before .before .before .before .before .before .before .before .before .before .before .before .before .before .before .before .before .before .before .before .before .before .before .before .before .before .before .step .ensures) (c .before .before .before .before .before .before .before .before .before .before .before .before .before .before .before .before .before .before .before .before .before .before .before .before .before .before .before .before .before .before .peek2 .ensures .value) (c .before .before .before .before .before .before .before .before .before .before .before .before .before .before .before .before .before .before .before .before .before .before .before .before .before .before .before .before .step2 .ensures) (c .before .before .before .before .before .before .before .before .before .before .before .before .before .before .before .before .before .before .before .before .before .before .before .before .before .before .before .copy .ensures .1) (c .before .before .before .before .before .before .before .before .before .before .before .before .before .before .before .before .before .before .before .before .before .before .before .before .parts-of .ensures .0) (c .before .before .before .before .before .before .before .before .before .before .before .before .parts-of2 .ensures .0) (c .before .before .before .before .before .before .before .before .before .before .before .before .before .before .before .before .before .before .before .before .before .before .before .before .parts-of .ensures .1) (c .before .before .before .before .before .before .before .before .before .before .before .before .parts-of2 .ensures .1) (runs-does (c .before .before .before .before .before .before .before .before .before .before .before .before .before .before .before .before .before .before .before .before .before .before .before .before .before .before .before .copy .ensures .0 _ _)) (c .before .before .before .before .before .before .before .before .before .before .before .before .before .before .before .before .before .before .before .fs .ensures .1) (c .before .before .before .before .before .before .before .before .before .before .before .before .before .before .before .before .before .before .before .fs .ensures .0) (c .before .before .before .before .before .before .before .before .fs2 .ensures .1) good))
 
 plain-returns-3 : (t : ℕ) → cycle.Lts-plain.Need-returns-3 (plain-claims t) (at-measure plain.Kinds.ps μ-plain plain.Reads.Pre t) plain.Reads.Post
-plain-returns-3 t c = (c .to2 .ensures .1 ∙ c .before .skip2 .ensures, λ good. running.does-to (c .to2 .ensures .0 _ _ _) (law.plain-does _ _ _ _ _ _ _ _ _ _ _ _ _ (c .before .before .before .before .before .before .before .before .before .before .before .before .before .before .before .before .before .before .before .before .before .before .before .before .if1 .left) (c .before .before .before .before .before .before .before .before .before .before .before .before .before .before .before .before .before .before .before .before .before .before .before .peek .ensures .value) (c .before .before .before .before .before .before .before .before .before .before .before .before .before .before .before .before .before .before .before .before .before .before .step .ensures) (c .before .before .before .before .before .before .before .before .before .before .before .before .before .before .before .before .before .before .before .before .before .peek2 .ensures .value) (c .before .before .before .before .before .before .before .before .before .before .before .before .before .before .if2 .left) (c .before .before .before .before .before .before .before .before .before .before .row .ensures) (c .before .before .before .before .before .before .before .before .before .before .before .before .before .before .before .before .before .before .before .step2 .ensures) (c .before .before .before .before .before .before .before .before .before .before .before .before .before .before .before .before .before .before .copy .ensures .1) (c .before .before .before .before .before .before .before .before .before .container .ensures) (c .before .before .before .before .before .before .before .before .before .before .before .before .before .before .before .parts-of .ensures .0) (c .before .before .before .before .before .before .before .before .before .before .before .before .before .before .before .parts-of .ensures .1) (c .before .before .before .before .before .before .before .before .before .before .before .before .before .before .before .before .before .before .copy .ensures .0 _ _) (c .before .before .before .before .before .before .before .before .fs3 .ensures .1) good))
+plain-returns-3 t c = (c .to2 .ensures .1 ∙ c .before .skip2 .ensures, λ good. running.does-to (c .to2 .ensures .0 _ _ _) (law.plain-does _ _ _ _ _ _ _ _ _ _ _ _ _ (c .before .before .before .before .before .before .before .before .before .before .before .before .before .before .before .before .before .before .before .before .before .before .before .before .if1 .left) (c .before .before .before .before .before .before .before .before .before .before .before .before .before .before .before .before .before .before .before .before .before .before .before .peek .ensures .value) (c .before .before .before .before .before .before .before .before .before .before .before .before .before .before .before .before .before .before .before .before .before .before .step .ensures) (c .before .before .before .before .before .before .before .before .before .before .before .before .before .before .before .before .before .before .before .before .before .peek2 .ensures .value) (c .before .before .before .before .before .before .before .before .before .before .before .before .before .before .if2 .left) (c .before .before .before .before .before .before .before .before .before .before .row .ensures) (c .before .before .before .before .before .before .before .before .before .before .before .before .before .before .before .before .before .before .before .step2 .ensures) (c .before .before .before .before .before .before .before .before .before .before .before .before .before .before .before .before .before .before .copy .ensures .1) (c .before .before .before .before .before .before .before .before .before .container .ensures) (c .before .before .before .before .before .before .before .before .before .before .before .before .before .before .before .parts-of .ensures .0) (c .before .before .before .before .before .before .before .before .before .before .before .before .before .before .before .parts-of .ensures .1) (runs-does (c .before .before .before .before .before .before .before .before .before .before .before .before .before .before .before .before .before .before .copy .ensures .0 _ _)) (c .before .before .before .before .before .before .before .before .fs3 .ensures .1) good))
 
 pr-returns : (t : ℕ) → cycle.Lts-pr.Need-returns (pr-claims t) (at-measure pr.Kinds.ps μ-pr pr.Reads.Pre t) pr.Reads.Post
 pr-returns t c = λ m k good suit. good-none _ _ _ (c .if1 .taken) good
@@ -1036,12 +1041,12 @@ prop-view-requires : (t : ℕ) → cycle.Lts-prop.Need-view-requires (prop-claim
 prop-view-requires t c κs = (omega (arith, c .before .before .before .before .before .before .before .before .before .before .before .before .before .before .before .before .before .before .before .before .before .before .before .before .before .pre .0, c .inside2 .ensures .1, c .before .before .before .before .before .before .before .before .before .before .before .inside .ensures .1, c .before .before .before .before .before .before .before .before .before .before .before .before .before .before .before .before .before .before .before .before .less .ensures), tt)
 
 prop-returns : (t : ℕ) → cycle.Lts-prop.Need-returns (prop-claims t) (at-measure prop.Kinds.ps μ-prop prop.Reads.Pre t) prop.Reads.Post
-prop-returns t c = viewing.property-does _ _ _ _ _ _ _ _ _ _ _ _ _ _ _ (c .before .before .before .before .before .before .before .before .before .before .before .before .before .before .before .before .before .before .before .before .before .before .before .before .before .before .before .before .before .before .step .ensures) (c .before .before .before .before .before .before .before .before .before .before .before .before .before .before .before .before .before .before .before .before .before .before .before .before .before .before .before .before .before .copy .ensures .1) (c .before .before .before .before .before .before .before .before .before .before .before .before .before .before .before .before .before .before .before .before .before .before .before .inside .ensures .0) (c .before .before .before .before .before .before .before .before .before .before .before .before .before .before .before .before .before .before .before .before .before .before .before .inside .ensures .1 ∙ c .before .before .before .before .before .before .before .before .before .before .before .before .before .before .before .before .before .before .before .before .before .before .before .before .before .before .before .before .before .before .before .before .less .ensures) (c .before .before .before .before .before .before .before .before .before .before .before .before .inside2 .ensures .0) (c .before .before .before .before .before .before .before .before .before .before .before .before .inside2 .ensures .1 ∙ c .before .before .before .before .before .before .before .before .before .before .before .before .before .before .before .before .before .before .before .before .before .before .before .before .before .before .before .before .before .before .before .before .less .ensures) (c .before .before .before .step2 .ensures) (c .before .before .copy2 .ensures .1) (c .before .before .before .before .before .before .before .before .before .before .before .before .before .before .before .before .before .before .before .before .before .before .before .before .before .before .before .before .before .copy .ensures .0 _ _) (c .before .before .before .before .before .before .before .before .before .before .before .before .before .before .before .before .before .before .before .before .before .before .key .ensures) (c .before .before .before .before .before .before .before .before .before .before .before .view .ensures) (c .before .before .copy2 .ensures .0 _ _)
+prop-returns t c = viewing.property-does _ _ _ _ _ _ _ _ _ _ _ _ _ _ _ (c .before .before .before .before .before .before .before .before .before .before .before .before .before .before .before .before .before .before .before .before .before .before .before .before .before .before .before .before .before .before .step .ensures) (c .before .before .before .before .before .before .before .before .before .before .before .before .before .before .before .before .before .before .before .before .before .before .before .before .before .before .before .before .before .copy .ensures .1) (c .before .before .before .before .before .before .before .before .before .before .before .before .before .before .before .before .before .before .before .before .before .before .before .inside .ensures .0) (c .before .before .before .before .before .before .before .before .before .before .before .before .before .before .before .before .before .before .before .before .before .before .before .inside .ensures .1 ∙ c .before .before .before .before .before .before .before .before .before .before .before .before .before .before .before .before .before .before .before .before .before .before .before .before .before .before .before .before .before .before .before .before .less .ensures) (c .before .before .before .before .before .before .before .before .before .before .before .before .inside2 .ensures .0) (c .before .before .before .before .before .before .before .before .before .before .before .before .inside2 .ensures .1 ∙ c .before .before .before .before .before .before .before .before .before .before .before .before .before .before .before .before .before .before .before .before .before .before .before .before .before .before .before .before .before .before .before .before .less .ensures) (c .before .before .before .step2 .ensures) (c .before .before .copy2 .ensures .1) (runs-does (c .before .before .before .before .before .before .before .before .before .before .before .before .before .before .before .before .before .before .before .before .before .before .before .before .before .before .before .before .before .copy .ensures .0 _ _)) (c .before .before .before .before .before .before .before .before .before .before .before .before .before .before .before .before .before .before .before .before .before .before .key .ensures) (c .before .before .before .before .before .before .before .before .before .before .before .view .ensures) (runs-does (c .before .before .copy2 .ensures .0 _ _))
 
 pt-returns : (t : ℕ) → cycle.Lts-pt.Need-returns (pt-claims t) (at-measure pt.Kinds.ps μ-pt pt.Reads.Pre t) pt.Reads.Post
 pt-returns t c = (
   c .before .before .pending .ensures .1 ∙ c .before .before .before .before .before .to2 .ensures .1 ∙ c .before .before .before .before .before .before .skip .ensures,
-  λ small good. args.part-arg _ _ _ _ _ _ _ _ _ _ _ _ _ (c .before .before .before .before .before .before .before .before .before .before .before .before .before .before .before .before .before .before .before .before .before .before .before .before .is-spread .ensures) (c .before .before .before .before .before .before .before .before .before .before .before .before .before .before .before .before .before .before .before .before .before .before .has-first .ensures) (c .before .before .before .before .before .before .before .before .before .before .before .before .before .before .before .before .before .before .before .before .before .before .before .if1 .taken) (c .before .before .before .before .before .before .before .before .before .before .before .before .before .before .before .before .before .before .before .before .before .if2 .taken) (c .before .before .before .before .before .before .before .before .before .before .before .before .before .before .before .before .before .before .before .step .ensures) (c .before .before .before .before .before .before .before .before .before .before .before .before .before .before .before .before .before .before .to .ensures .1) (c .before .before .before .before .before .before .before .before .before .before .before .before .before .before .under .ensures .1 ∙ c .before .before .before .before .before .before .before .before .before .before .before .before .before .before .before .before .before .before .before .before .less .ensures) (c .before .before .before .before .before .before .before .before .before .before .before .before .before .before .under .ensures .0) (c .before .before .before .before .before .to2 .ensures .1 ∙ c .before .before .before .before .before .before .skip .ensures) (c .before .before .before .before .run-of .ensures) (c .before .before .before .before .before .before .before .before .before .before .before .before .before .before .before .before .before .before .to .ensures .0 _ _ _) (c .before .before .before .before .before .before .before .before .before .before .before .before .before .node .ensures .1) (c .before .before .before .before .before .to2 .ensures .0 _ _ _) (λ z. c .before .before .pending .ensures .0 _ _ z) small good,
+  λ small good. args.part-arg _ _ _ _ _ _ _ _ _ _ _ _ _ (c .before .before .before .before .before .before .before .before .before .before .before .before .before .before .before .before .before .before .before .before .before .before .before .before .is-spread .ensures) (c .before .before .before .before .before .before .before .before .before .before .before .before .before .before .before .before .before .before .before .before .before .before .has-first .ensures) (c .before .before .before .before .before .before .before .before .before .before .before .before .before .before .before .before .before .before .before .before .before .before .before .if1 .taken) (c .before .before .before .before .before .before .before .before .before .before .before .before .before .before .before .before .before .before .before .before .before .if2 .taken) (c .before .before .before .before .before .before .before .before .before .before .before .before .before .before .before .before .before .before .before .step .ensures) (c .before .before .before .before .before .before .before .before .before .before .before .before .before .before .before .before .before .before .to .ensures .1) (c .before .before .before .before .before .before .before .before .before .before .before .before .before .before .under .ensures .1 ∙ c .before .before .before .before .before .before .before .before .before .before .before .before .before .before .before .before .before .before .before .before .less .ensures) (c .before .before .before .before .before .before .before .before .before .before .before .before .before .before .under .ensures .0) (c .before .before .before .before .before .to2 .ensures .1 ∙ c .before .before .before .before .before .before .skip .ensures) (c .before .before .before .before .run-of .ensures) (c .before .before .before .before .before .before .before .before .before .before .before .before .before .before .before .before .before .before .to .ensures .0 _ _ _) (c .before .before .before .before .before .before .before .before .before .before .before .before .before .node .ensures .1) (c .before .before .before .before .before .to2 .ensures .0 _ _ _) (heads.does-pending _ (c .before .before .pending .ensures .0 _ _)) small good,
 )
 
 pt-returns-2 : (t : ℕ) → cycle.Lts-pt.Need-returns-2 (pt-claims t) (at-measure pt.Kinds.ps μ-pt pt.Reads.Pre t) pt.Reads.Post
@@ -1083,22 +1088,22 @@ ps-returns :
 ps-returns t c = (skipping.items-end _ _ _ _ _ (c .loop-test .left) ∙ c .before .loop .inv .3, λ z g. law.onto-end (c .before .loop .inv .4 z g .1) (args.parts-none _ _ _ _ _ (c .loop-test .left)))
 
 read-returns : (t : ℕ) → cycle.Lts-read.Need-returns (read-claims t) (at-measure read.Kinds.ps μ-read read.Reads.Pre t) read.Reads.Post
-read-returns t c = (c .before .before .before .before .before .before .temporary .ensures .1, excluding.read-cell _ _ _ _ _ _ (c .before .before .before .before .before .before .before .before .before .before .before .before .hoisted .ensures) (c .before .before .before .before .before .before .before .before .before .before .before .if1 .taken) (c .before .before .before .before .before .before .before .cell .ensures) (c .before .before .before .before .before .before .temporary .ensures .0))
+read-returns t c = (c .before .before .before .before .before .before .temporary .ensures .1, excluding.read-cell _ _ _ _ _ _ (c .before .before .before .before .before .before .before .before .before .before .before .before .hoisted .ensures) (c .before .before .before .before .before .before .before .before .before .before .before .if1 .taken) (c .before .before .before .before .before .before .before .cell .ensures) (runs-does (c .before .before .before .before .before .before .temporary .ensures .0)))
 
 read-returns-2 : (t : ℕ) → cycle.Lts-read.Need-returns-2 (read-claims t) (at-measure read.Kinds.ps μ-read read.Reads.Pre t) read.Reads.Post
 read-returns-2 t c = (c .before .before .before .before .before .before .keys .ensures .0, excluding.read-strings _ _ _ _ _ _ (c .before .before .before .before .before .before .before .before .before .before .before .before .before .hoisted .ensures) (c .before .before .before .before .before .before .before .before .before .before .before .before .if1 .left) (c .before .before .before .before .before .before .before .before .before .before .before .all-primitive .ensures) (c .before .before .before .before .before .before .before .before .before .before .if2 .taken) (c .before .before .before .before .before .before .keys .ensures .1))
 
 read-returns-3 : (t : ℕ) → cycle.Lts-read.Need-returns-3 (read-claims t) (at-measure read.Kinds.ps μ-read read.Reads.Pre t) read.Reads.Post
-read-returns-3 t c = (c .before .before .mapped .ensures .1 ∙ c .before .before .before .before .before .before .before .before .before .before .keys2 .ensures .0 ∙ c .before .before .before .before .before .before .before .before .before .before .before .before .before .before .before .before .put22 .ensures .1 ∙ c .before .before .before .before .before .before .before .before .before .before .before .before .before .before .before .before .before .before .before .before .put2 .ensures .1, excluding.read-any _ _ _ _ _ _ (c .before .before .before .before .before .before .before .before .before .before .before .before .before .before .before .before .before .before .before .before .before .before .before .before .before .hoisted .ensures) (c .before .before .before .before .before .before .before .before .before .before .before .before .before .before .before .before .before .before .before .before .before .before .before .before .if1 .left) (c .before .before .before .before .before .before .before .before .before .before .before .before .before .before .before .before .before .before .before .before .before .before .before .all-primitive .ensures) (c .before .before .before .before .before .before .before .before .before .before .before .before .before .before .before .before .before .before .before .before .before .before .if2 .left) (c .before .before .before .before .before .before .before .before .before .before .before .before .before .before .before .before .before .before .before .before .put2 .ensures .0 _ _) (c .before .before .before .before .before .before .before .before .before .before .before .before .before .before .before .before .put22 .ensures .0 _ _) (c .before .before .before .before .before .before .before .before .before .before .keys2 .ensures .1) (c .before .before .mapped .ensures .0 _ _))
+read-returns-3 t c = (c .before .before .mapped .ensures .1 ∙ c .before .before .before .before .before .before .before .before .before .before .keys2 .ensures .0 ∙ c .before .before .before .before .before .before .before .before .before .before .before .before .before .before .before .before .put22 .ensures .1 ∙ c .before .before .before .before .before .before .before .before .before .before .before .before .before .before .before .before .before .before .before .before .put2 .ensures .1, excluding.read-any _ _ _ _ _ _ (c .before .before .before .before .before .before .before .before .before .before .before .before .before .before .before .before .before .before .before .before .before .before .before .before .before .hoisted .ensures) (c .before .before .before .before .before .before .before .before .before .before .before .before .before .before .before .before .before .before .before .before .before .before .before .before .if1 .left) (c .before .before .before .before .before .before .before .before .before .before .before .before .before .before .before .before .before .before .before .before .before .before .before .all-primitive .ensures) (c .before .before .before .before .before .before .before .before .before .before .before .before .before .before .before .before .before .before .before .before .before .before .if2 .left) (runs-does (c .before .before .before .before .before .before .before .before .before .before .before .before .before .before .before .before .before .before .before .before .put2 .ensures .0 _ _)) (runs-does (c .before .before .before .before .before .before .before .before .before .before .before .before .before .before .before .before .put22 .ensures .0 _ _)) (c .before .before .before .before .before .before .before .before .before .before .keys2 .ensures .1) (runs-does (c .before .before .mapped .ensures .0 _ _)))
 
 rest-returns : (t : ℕ) → cycle.Lts-rest.Need-returns (rest-claims t) (at-measure rest.Kinds.ps μ-rest rest.Reads.Pre t) rest.Reads.Post
 rest-returns t c = (refl, λ good k clear. walked.passed true _ (c .before .passes .ensures) (c .if1 .taken) (λ _. clear))
 
 rest-returns-2 : (t : ℕ) → cycle.Lts-rest.Need-returns-2 (rest-claims t) (at-measure rest.Kinds.ps μ-rest rest.Reads.Pre t) rest.Reads.Post
-rest-returns-2 t c = (c .before .before .before .before .before .before .source2 .ensures .0 ∙ c .before .before .before .before .before .before .before .before .before .before .before .before .before .before .before .before .source .ensures .0 ∙ c .before .before .before .before .before .before .before .before .before .before .before .before .before .before .before .before .before .before .before .before .before .before .empty-rest .ensures .1, λ good k _. excluding.rest-whole _ _ _ _ _ (c .before .before .before .before .before .before .before .before .before .before .before .before .before .before .before .before .before .before .before .before .before .before .before .before .before .has-no-properties .ensures) (c .before .before .before .before .before .before .before .before .before .before .before .before .before .before .before .before .before .before .before .before .before .before .before .before .if2 .taken) (c .before .before .before .before .before .before .before .before .before .before .before .before .before .before .before .before .before .before .before .before .before .before .empty-rest .ensures .0 _ _) (c .before .before .before .before .before .before .before .before .before .before .before .before .before .before .before .before .source .ensures .1) (c .before .before .before .before .before .before .source2 .ensures .1))
+rest-returns-2 t c = (c .before .before .before .before .before .before .source2 .ensures .0 ∙ c .before .before .before .before .before .before .before .before .before .before .before .before .before .before .before .before .source .ensures .0 ∙ c .before .before .before .before .before .before .before .before .before .before .before .before .before .before .before .before .before .before .before .before .before .before .empty-rest .ensures .1, λ good k _. excluding.rest-whole _ _ _ _ _ (c .before .before .before .before .before .before .before .before .before .before .before .before .before .before .before .before .before .before .before .before .before .before .before .before .before .has-no-properties .ensures) (c .before .before .before .before .before .before .before .before .before .before .before .before .before .before .before .before .before .before .before .before .before .before .before .before .if2 .taken) (runs-does (c .before .before .before .before .before .before .before .before .before .before .before .before .before .before .before .before .before .before .before .before .before .before .empty-rest .ensures .0 _ _)) (runs-does (c .before .before .before .before .before .before .before .before .before .before .before .before .before .before .before .before .source .ensures .1)) (runs-does (c .before .before .before .before .before .before .source2 .ensures .1)))
 
 rest-returns-3 : (t : ℕ) → cycle.Lts-rest.Need-returns-3 (rest-claims t) (at-measure rest.Kinds.ps μ-rest rest.Reads.Pre t) rest.Reads.Post
-rest-returns-3 t c = (c .before .before .before .before .before .before .read .ensures .0 ∙ c .before .before .before .before .before .before .before .before .before .before .before .before .before .before .before .before .before .source3 .ensures .0 ∙ c .before .before .before .before .before .before .before .before .before .before .before .before .before .before .before .before .before .before .before .before .before .before .before .call .ensures .1, λ good k _. excluding.rest-keys _ _ _ _ _ _ _ _ (c .before .before .before .before .before .before .before .before .before .before .before .before .before .before .before .before .before .before .before .before .before .before .before .before .before .before .has-no-properties .ensures) (c .before .before .before .before .before .before .before .before .before .before .before .before .before .before .before .before .before .before .before .before .before .before .before .before .before .if2 .left) (told.with-inner _ _ (c .before .before .before .before .before .before .before .inside .ensures .0)) (c .before .before .before .before .before .before .before .inside .ensures .1) (c .before .before .before .before .before .before .before .before .before .before .before .before .before .before .before .before .before .before .before .before .before .before .before .call .ensures .0 _ _) (c .before .before .before .before .before .before .before .before .before .before .before .before .before .before .before .before .before .source3 .ensures .1) (c .before .before .before .before .before .before .read .ensures .1) good k)
+rest-returns-3 t c = (c .before .before .before .before .before .before .read .ensures .0 ∙ c .before .before .before .before .before .before .before .before .before .before .before .before .before .before .before .before .before .source3 .ensures .0 ∙ c .before .before .before .before .before .before .before .before .before .before .before .before .before .before .before .before .before .before .before .before .before .before .before .call .ensures .1, λ good k _. excluding.rest-keys _ _ _ _ _ _ _ _ (c .before .before .before .before .before .before .before .before .before .before .before .before .before .before .before .before .before .before .before .before .before .before .before .before .before .before .has-no-properties .ensures) (c .before .before .before .before .before .before .before .before .before .before .before .before .before .before .before .before .before .before .before .before .before .before .before .before .before .if2 .left) (told.with-inner _ _ (c .before .before .before .before .before .before .before .inside .ensures .0)) (c .before .before .before .before .before .before .before .inside .ensures .1) (steps.does-call _ _ (c .before .before .before .before .before .before .before .before .before .before .before .before .before .before .before .before .before .before .before .before .before .before .before .call .ensures .0 _ _)) (runs-does (c .before .before .before .before .before .before .before .before .before .before .before .before .before .before .before .before .before .source3 .ensures .1)) (c .before .before .before .before .before .before .read .ensures .1) good k)
 
 abbrev seq-Inv-loop : cycle.Lts-seq.InvT-loop
 seq-Inv-loop t out₀ list₀ work₀ c root mode holes count v₀ n₀ out list work v n = (length out ≡ length out₀) × (length list ≡ length list₀) × (length work ≡ length work₀) × (GoodItems t (lookNode t (c .left)) (Good t (c .left)) false holes count (v₀ .at) → AllSuit mode (lookItems t (lookNode t (c .left)) holes count (v₀ .at) .value) → turning.Along t mode (toldPlace mode root c) (c .left) holes count (v₀ .at) n (v .at) (goingOf out₀ list₀ work₀ v₀) (goingOf out list work v))
@@ -1131,28 +1136,28 @@ slot-returns-3 : (t : ℕ) → cycle.Lts-slot.Need-returns-3 (slot-claims t) (at
 slot-returns-3 t c = (c .before .before .before .before .before .before .node2 .ensures .0 ∙ skipping.slot-class _ _ _ _ _ (c .before .before .before .before .before .before .before .before .before .before .before .if1 .left) 2 (c .before .before .before .before .before .before .before .before .before .before .match .keys2), law.chosen-does _ _ _ _ _ _ _ _ (c .before .before .before .before .before .before .before .before .before .before .before .if1 .left) (c .before .before .before .before .before .before .before .before .before .before .match .keys2) (c .before .before .before .before .before .before .node2 .ensures .1))
 
 slot-returns-4 : (t : ℕ) → cycle.Lts-slot.Need-returns-4 (slot-claims t) (at-measure slot.Kinds.ps μ-slot slot.Reads.Pre t) slot.Reads.Post
-slot-returns-4 t c = (skipping.slot-many _ _ _ _ _ (c .before .before .before .before .before .before .before .before .before .before .before .before .before .before .before .before .before .if1 .left) _ _ _ (c .before .before .before .before .before .before .before .wide-at .ensures .value) (c .before .before .before .before .before .before .before .before .before .before .before .before .before .copy .ensures .1 ∙ c .before .before .before .before .before .before .before .before .before .before .before .before .before .before .step .ensures) (c .before .before .before .before .before .before .items .ensures .0) (c .before .before .before .before .before .before .before .before .before .before .before .before .before .before .before .before .match .keys3), law.many-does _ _ _ _ _ _ _ _ (c .before .before .before .before .before .before .before .before .before .before .before .before .before .before .before .before .before .if1 .left) _ _ _ (c .before .before .before .before .before .before .before .before .before .before .before .before .before .before .before .before .match .keys3) (c .before .before .before .before .before .before .before .wide-at .ensures) (c .before .before .before .before .before .before .before .before .before .before .before .before .before .before .step .ensures) (c .before .before .before .before .before .before .before .before .before .before .before .before .before .copy .ensures .1) (c .before .before .before .before .before .before .before .before .before .before .before .before .before .copy .ensures .0 _ _) (c .before .before .before .before .before .before .items .ensures .1))
+slot-returns-4 t c = (skipping.slot-many _ _ _ _ _ (c .before .before .before .before .before .before .before .before .before .before .before .before .before .before .before .before .before .if1 .left) _ _ _ (c .before .before .before .before .before .before .before .wide-at .ensures .value) (c .before .before .before .before .before .before .before .before .before .before .before .before .before .copy .ensures .1 ∙ c .before .before .before .before .before .before .before .before .before .before .before .before .before .before .step .ensures) (c .before .before .before .before .before .before .items .ensures .0) (c .before .before .before .before .before .before .before .before .before .before .before .before .before .before .before .before .match .keys3), law.many-does _ _ _ _ _ _ _ _ (c .before .before .before .before .before .before .before .before .before .before .before .before .before .before .before .before .before .if1 .left) _ _ _ (c .before .before .before .before .before .before .before .before .before .before .before .before .before .before .before .before .match .keys3) (c .before .before .before .before .before .before .before .wide-at .ensures) (c .before .before .before .before .before .before .before .before .before .before .before .before .before .before .step .ensures) (c .before .before .before .before .before .before .before .before .before .before .before .before .before .copy .ensures .1) (runs-does (c .before .before .before .before .before .before .before .before .before .before .before .before .before .copy .ensures .0 _ _)) (c .before .before .before .before .before .before .items .ensures .1))
 
 slot-returns-5 : (t : ℕ) → cycle.Lts-slot.Need-returns-5 (slot-claims t) (at-measure slot.Kinds.ps μ-slot slot.Reads.Pre t) slot.Reads.Post
-slot-returns-5 t c = (skipping.slot-gaps _ _ _ _ _ (c .before .before .before .before .before .before .before .before .before .before .before .before .before .before .before .before .before .if1 .left) _ _ _ (c .before .before .before .before .before .before .before .wide-at2 .ensures .value) (c .before .before .before .before .before .before .before .before .before .before .before .before .before .copy2 .ensures .1 ∙ c .before .before .before .before .before .before .before .before .before .before .before .before .before .before .step2 .ensures) (c .before .before .before .before .before .before .items2 .ensures .0) (c .before .before .before .before .before .before .before .before .before .before .before .before .before .before .before .before .match .keys4), law.gaps-does _ _ _ _ _ _ _ _ (c .before .before .before .before .before .before .before .before .before .before .before .before .before .before .before .before .before .if1 .left) _ _ _ (c .before .before .before .before .before .before .before .before .before .before .before .before .before .before .before .before .match .keys4) (c .before .before .before .before .before .before .before .wide-at2 .ensures) (c .before .before .before .before .before .before .before .before .before .before .before .before .before .before .step2 .ensures) (c .before .before .before .before .before .before .before .before .before .before .before .before .before .copy2 .ensures .1) (c .before .before .before .before .before .before .before .before .before .before .before .before .before .copy2 .ensures .0 _ _) (c .before .before .before .before .before .before .items2 .ensures .1))
+slot-returns-5 t c = (skipping.slot-gaps _ _ _ _ _ (c .before .before .before .before .before .before .before .before .before .before .before .before .before .before .before .before .before .if1 .left) _ _ _ (c .before .before .before .before .before .before .before .wide-at2 .ensures .value) (c .before .before .before .before .before .before .before .before .before .before .before .before .before .copy2 .ensures .1 ∙ c .before .before .before .before .before .before .before .before .before .before .before .before .before .before .step2 .ensures) (c .before .before .before .before .before .before .items2 .ensures .0) (c .before .before .before .before .before .before .before .before .before .before .before .before .before .before .before .before .match .keys4), law.gaps-does _ _ _ _ _ _ _ _ (c .before .before .before .before .before .before .before .before .before .before .before .before .before .before .before .before .before .if1 .left) _ _ _ (c .before .before .before .before .before .before .before .before .before .before .before .before .before .before .before .before .match .keys4) (c .before .before .before .before .before .before .before .wide-at2 .ensures) (c .before .before .before .before .before .before .before .before .before .before .before .before .before .before .step2 .ensures) (c .before .before .before .before .before .before .before .before .before .before .before .before .before .copy2 .ensures .1) (runs-does (c .before .before .before .before .before .before .before .before .before .before .before .before .before .copy2 .ensures .0 _ _)) (c .before .before .before .before .before .before .items2 .ensures .1))
 
 slot-returns-6 : (t : ℕ) → cycle.Lts-slot.Need-returns-6 (slot-claims t) (at-measure slot.Kinds.ps μ-slot slot.Reads.Pre t) slot.Reads.Post
-slot-returns-6 t c = (c .before .before .copy3 .ensures .1 ∙ c .before .before .before .skip-slot .ensures, law.leaf-does _ _ _ _ _ _ _ _ _ (c .before .before .before .before .before .before .if1 .left) (c .before .before .before .before .before .match .rest) (c .before .before .before .skip-slot .ensures) (c .before .before .copy3 .ensures .0 _ _))
+slot-returns-6 t c = (c .before .before .copy3 .ensures .1 ∙ c .before .before .before .skip-slot .ensures, law.leaf-does _ _ _ _ _ _ _ _ _ (c .before .before .before .before .before .before .if1 .left) (c .before .before .before .before .before .match .rest) (c .before .before .before .skip-slot .ensures) (runs-does (c .before .before .copy3 .ensures .0 _ _)))
 
 tb-returns : (t : ℕ) → cycle.Lts-tb.Need-returns (tb-claims t) (at-measure tb.Kinds.ps μ-tb tb.Reads.Pre t) tb.Reads.Post
-tb-returns t c = looping.target-block _ _ _ _ _ _ _ _ _ _ _ _ _ _ _ (c .before .before .before .before .before .before .before .before .before .before .before .before .before .before .before .before .before .before .before .before .before .before .before .before .before .before .before .before .before .before .before .before .before .before .before .before .peek .ensures) (c .before .before .before .before .before .before .before .before .before .before .before .before .before .before .before .before .before .before .before .before .before .before .before .before .before .before .before .before .before .before .before .before .before .before .before .match .keys1) (c .before .before .before .before .before .before .before .before .before .before .before .before .before .before .before .before .before .before .before .before .before .before .before .before .before .before .before .before .before .before .before .before .before .before .step .ensures) (c .before .before .before .before .before .before .before .before .before .before .before .before .before .before .before .before .before .before .before .before .before .before .before .before .before .before .before .before .before .before .before .before .before .wide-at .ensures) (c .before .before .before .before .before .before .before .before .before .before .before .before .before .step2 .ensures) (c .before .before .before .before .before .before .before .before .before .before .before .before .to .ensures .1) (c .before .before .before .before .before .before .before .before .before .before .before .before .before .before .before .before .before .before .before .before .before .scoped .ensures .0) (c .before .before .before .before .before .before .before .before .before .before .before .before .before .before .before .before .before .before .before .before .before .scoped .ensures .1) (c .before .before .before .before .before .before .before .scoped2 .ensures .0) (c .before .before .before .before .before .before .before .scoped2 .ensures .1 ∙ c .before .before .before .before .before .before .before .before .less .ensures) (c .before .before .before .before .before .before .before .before .before .before .before .before .to .ensures .0 _ _ _) (c .before .before .before .before .before .before .before .before .before .before .before .before .before .before .before .before .before .before .before .before .before .before .before .before .before .before .before .before .before .before .before .copy .ensures .0 _ _) (c .before .before .before .before .before .before .before .before .before .before .before .before .before .before .before .before .before .before .before .before .before .before .before .before .before .before .before .wide .ensures .0 _ _) (c .before .before .before .before .before .before .before .before .before .before .before .before .before .before .before .before .before .before .before .before .ta .ensures) (c .before .before .before .before .before .before .items .ensures)
+tb-returns t c = looping.target-block _ _ _ _ _ _ _ _ _ _ _ _ _ _ _ (c .before .before .before .before .before .before .before .before .before .before .before .before .before .before .before .before .before .before .before .before .before .before .before .before .before .before .before .before .before .before .before .before .before .before .before .before .peek .ensures) (c .before .before .before .before .before .before .before .before .before .before .before .before .before .before .before .before .before .before .before .before .before .before .before .before .before .before .before .before .before .before .before .before .before .before .before .match .keys1) (c .before .before .before .before .before .before .before .before .before .before .before .before .before .before .before .before .before .before .before .before .before .before .before .before .before .before .before .before .before .before .before .before .before .before .step .ensures) (c .before .before .before .before .before .before .before .before .before .before .before .before .before .before .before .before .before .before .before .before .before .before .before .before .before .before .before .before .before .before .before .before .before .wide-at .ensures) (c .before .before .before .before .before .before .before .before .before .before .before .before .before .step2 .ensures) (c .before .before .before .before .before .before .before .before .before .before .before .before .to .ensures .1) (c .before .before .before .before .before .before .before .before .before .before .before .before .before .before .before .before .before .before .before .before .before .scoped .ensures .0) (c .before .before .before .before .before .before .before .before .before .before .before .before .before .before .before .before .before .before .before .before .before .scoped .ensures .1) (c .before .before .before .before .before .before .before .scoped2 .ensures .0) (c .before .before .before .before .before .before .before .scoped2 .ensures .1 ∙ c .before .before .before .before .before .before .before .before .less .ensures) (c .before .before .before .before .before .before .before .before .before .before .before .before .to .ensures .0 _ _ _) (runs-does (c .before .before .before .before .before .before .before .before .before .before .before .before .before .before .before .before .before .before .before .before .before .before .before .before .before .before .before .before .before .before .before .copy .ensures .0 _ _)) (steps.does-wide _ (c .before .before .before .before .before .before .before .before .before .before .before .before .before .before .before .before .before .before .before .before .before .before .before .before .before .before .before .wide .ensures .0 _ _)) (c .before .before .before .before .before .before .before .before .before .before .before .before .before .before .before .before .before .before .before .before .ta .ensures) (c .before .before .before .before .before .before .items .ensures)
 
 tb-returns-2 : (t : ℕ) → cycle.Lts-tb.Need-returns-2 (tb-claims t) (at-measure tb.Kinds.ps μ-tb tb.Reads.Pre t) tb.Reads.Post
-tb-returns-2 t c = looping.target-empty _ _ _ _ _ _ _ _ _ _ (c .before .before .before .before .before .before .before .before .before .before .before .before .before .before .before .before .before .before .peek .ensures) (c .before .before .before .before .before .before .before .before .before .before .before .before .before .before .before .before .before .match .keys2) (c .before .before .before .before .before .before .before .before .before .scoped3 .ensures .0) (c .before .before .before .before .before .before .before .before .before .scoped3 .ensures .1) (c .before .skip .ensures) (c .to2 .ensures .1) (c .to2 .ensures .0 _ _ _) (c .before .before .before .before .before .before .before .before .before .before .before .before .before .before .before .block .ensures .0 _ _) (c .before .before .before .before .before .before .before .before .ta2 .ensures)
+tb-returns-2 t c = looping.target-empty _ _ _ _ _ _ _ _ _ _ (c .before .before .before .before .before .before .before .before .before .before .before .before .before .before .before .before .before .before .peek .ensures) (c .before .before .before .before .before .before .before .before .before .before .before .before .before .before .before .before .before .match .keys2) (c .before .before .before .before .before .before .before .before .before .scoped3 .ensures .0) (c .before .before .before .before .before .before .before .before .before .scoped3 .ensures .1) (c .before .skip .ensures) (c .to2 .ensures .1) (c .to2 .ensures .0 _ _ _) (steps.does-block _ (c .before .before .before .before .before .before .before .before .before .before .before .before .before .before .before .block .ensures .0 _ _)) (c .before .before .before .before .before .before .before .before .ta2 .ensures)
 
 tb-returns-3 : (t : ℕ) → cycle.Lts-tb.Need-returns-3 (tb-claims t) (at-measure tb.Kinds.ps μ-tb tb.Reads.Pre t) tb.Reads.Post
-tb-returns-3 t c = looping.target-statement _ _ _ _ _ _ _ _ _ _ _ _ (c .before .before .before .before .before .before .before .before .before .before .before .before .before .before .before .before .before .before .before .before .before .before .before .before .before .before .before .before .peek .ensures) (c .before .before .before .before .before .before .before .before .before .before .before .before .before .before .before .before .before .before .before .before .before .before .before .before .before .before .before .match .rest .0 .1) (c .before .before .before .before .before .before .before .before .before .before .before .before .before .before .before .before .before .before .before .before .before .before .before .before .before .before .before .match .rest .1) (c .before .before .before .before .before .before .before .before .before .before .before .before .before .before .before .before .before .before .before .scoped4 .ensures .0) (c .before .before .before .before .before .before .before .before .before .before .before .before .before .before .before .before .before .before .before .scoped4 .ensures .1) (c .before .before .before .before .before .before .before .scoped5 .ensures .0) (c .before .before .before .before .before .before .before .scoped5 .ensures .1) (c .before .before .before .before .before .before .before .before .before .before .before .to3 .ensures .1) (c .before .before .before .before .before .before .before .before .before .before .before .to3 .ensures .0 _ _ _) (c .before .before .before .before .before .before .before .before .before .before .before .before .before .before .before .before .before .before .before .before .before .before .before .before .before .block2 .ensures .0 _ _) (c .before .before .before .before .before .before .before .before .before .before .before .before .before .before .before .before .before .before .ta3 .ensures) (c .before .before .before .before .before .before .item .ensures)
+tb-returns-3 t c = looping.target-statement _ _ _ _ _ _ _ _ _ _ _ _ (c .before .before .before .before .before .before .before .before .before .before .before .before .before .before .before .before .before .before .before .before .before .before .before .before .before .before .before .before .peek .ensures) (c .before .before .before .before .before .before .before .before .before .before .before .before .before .before .before .before .before .before .before .before .before .before .before .before .before .before .before .match .rest .0 .1) (c .before .before .before .before .before .before .before .before .before .before .before .before .before .before .before .before .before .before .before .before .before .before .before .before .before .before .before .match .rest .1) (c .before .before .before .before .before .before .before .before .before .before .before .before .before .before .before .before .before .before .before .scoped4 .ensures .0) (c .before .before .before .before .before .before .before .before .before .before .before .before .before .before .before .before .before .before .before .scoped4 .ensures .1) (c .before .before .before .before .before .before .before .scoped5 .ensures .0) (c .before .before .before .before .before .before .before .scoped5 .ensures .1) (c .before .before .before .before .before .before .before .before .before .before .before .to3 .ensures .1) (c .before .before .before .before .before .before .before .before .before .before .before .to3 .ensures .0 _ _ _) (steps.does-block _ (c .before .before .before .before .before .before .before .before .before .before .before .before .before .before .before .before .before .before .before .before .before .before .before .before .before .block2 .ensures .0 _ _)) (c .before .before .before .before .before .before .before .before .before .before .before .before .before .before .before .before .before .before .ta3 .ensures) (c .before .before .before .before .before .before .item .ensures)
 
 tg-returns : (t : ℕ) → cycle.Lts-tg.Need-returns (tg-claims t) (at-measure tg.Kinds.ps μ-tg tg.Reads.Pre t) tg.Reads.Post
-tg-returns t c = assigning.tgt-nested _ _ _ _ _ _ _ _ (c .before .before .before .before .before .before .before .before .before .before .before .before .object-count .ensures .0) (c .before .before .before .before .before .before .before .before .before .before .before .if1 .taken) (told.own-inner _ _ refl (c .before .before .before .before .before .before .before .before .before .before .before .before .before .told-inside .ensures .0), c .before .before .before .before .before .before .before .before .before .before .before .before .before .told-inside .ensures .1) (c .before .before .before .before .before .before .before .before .before .before .cell .ensures) (c .before .before .before .before .before .before .ns .ensures)
+tg-returns t c = assigning.tgt-nested _ _ _ _ _ _ _ _ (λ k. c .before .before .before .before .before .before .before .before .before .before .before .before .object-count .ensures ∙ values-object _ _ _ _ k) (c .before .before .before .before .before .before .before .before .before .before .before .if1 .taken) (told.own-inner _ _ refl (c .before .before .before .before .before .before .before .before .before .before .before .before .before .told-inside .ensures .0), c .before .before .before .before .before .before .before .before .before .before .before .before .before .told-inside .ensures .1) (c .before .before .before .before .before .before .before .before .before .before .cell .ensures) (c .before .before .before .before .before .before .ns .ensures)
 
 tg-returns-2 : (t : ℕ) → cycle.Lts-tg.Need-returns-2 (tg-claims t) (at-measure tg.Kinds.ps μ-tg tg.Reads.Pre t) tg.Reads.Post
-tg-returns-2 t c = assigning.tgt-kept _ _ _ _ _ _ _ _ _ _ (c .before .before .before .before .before .before .before .before .before .before .before .before .before .before .before .before .before .before .before .before .before .before .before .before .before .before .before .object-count .ensures .0) (c .before .before .before .before .before .before .before .before .before .before .before .before .before .before .before .before .before .before .before .before .before .before .before .before .before .before .if1 .left) (c .before .before .before .before .before .before .before .before .before .before .before .before .before .before .before .before .before .before .before .before .before .before .before .before .before .before .before .before .told-inside .ensures) (c .before .before .before .before .before .before .before .before .before .before .before .before .before .before .before .before .before .before .before .before .before .before .before .before .assign .ensures .0 _ _) (c .before .before .before .before .before .before .before .before .before .before .before .before .before .before .before .before .before .before .before .before .before .to .ensures .0 _ _ _) (c .before .before .before .before .before .before .before .before .before .before .before .before .before .before .before .before .before .before .before .before .before .to .ensures .1) (c .before .before .before .before .before .before .before .before .before .before .before .before .before .before .before .before .before .view .ensures) (c .before .before .before .before .before .before .before .cell2 .ensures) (c .before .before .before .before .before .before .temporary .ensures .0)
+tg-returns-2 t c = assigning.tgt-kept _ _ _ _ _ _ _ _ _ _ (λ k. c .before .before .before .before .before .before .before .before .before .before .before .before .before .before .before .before .before .before .before .before .before .before .before .before .before .before .before .object-count .ensures ∙ values-object _ _ _ _ k) (c .before .before .before .before .before .before .before .before .before .before .before .before .before .before .before .before .before .before .before .before .before .before .before .before .before .before .if1 .left) (c .before .before .before .before .before .before .before .before .before .before .before .before .before .before .before .before .before .before .before .before .before .before .before .before .before .before .before .before .told-inside .ensures) (steps.does-assign _ (c .before .before .before .before .before .before .before .before .before .before .before .before .before .before .before .before .before .before .before .before .before .before .before .before .assign .ensures .0 _ _)) (c .before .before .before .before .before .before .before .before .before .before .before .before .before .before .before .before .before .before .before .before .before .to .ensures .0 _ _ _) (c .before .before .before .before .before .before .before .before .before .before .before .before .before .before .before .before .before .before .before .before .before .to .ensures .1) (c .before .before .before .before .before .before .before .before .before .before .before .before .before .before .before .before .before .view .ensures) (c .before .before .before .before .before .before .before .cell2 .ensures) (runs-does (c .before .before .before .before .before .before .temporary .ensures .0))
 
 th-returns : (t : ℕ) → cycle.Lts-th.Need-returns (th-claims t) (at-measure th.Kinds.ps μ-th th.Reads.Pre t) th.Reads.Post
 th-returns t c = λ loop four na ob good. law.good-none _ _ _ (c .if1 .taken) good
@@ -1167,10 +1172,10 @@ th-same-length-3 : (t : ℕ) → cycle.Lts-th.Need-same-length-3 (th-claims t) (
 th-same-length-3 t c = omega (arith, c .before .before .await-of .kept, c .before .before .before .before .before .before .before .before .before .before .tb .kept, c .before .before .before .before .before .before .before .before .before .before .before .before .before .before .before .before .before .before .before .before .node .kept, c .before .before .before .before .before .before .before .before .before .before .before .before .before .before .before .before .before .before .before .before .before .before .before .before .before .before .before .before .before .before .before .before .temporary .kept, c .before .before .before .before .before .before .before .before .before .before .before .before .before .before .before .before .before .before .before .before .before .before .before .before .before .before .before .before .before .before .before .before .before .before .before .before .before .before .put2 .kept, c .before .before .before .before .before .before .before .before .before .before .before .before .before .before .before .before .before .before .before .before .before .before .before .before .before .before .before .before .before .before .before .before .before .before .before .before .before .before .before .before .before .before .declaration .kept, c .before .before .before .before .before .before .before .before .before .before .before .before .before .before .before .before .before .before .before .before .before .before .before .before .before .before .before .before .before .before .before .before .before .before .before .before .before .before .before .before .before .before .before .before .before .before .copy .kept, c .before .before .before .before .before .before .before .before .before .before .before .before .before .before .before .before .before .before .before .before .before .before .before .before .before .before .before .before .before .before .before .before .before .before .before .before .before .before .before .before .before .before .before .before .before .before .before .before .before .before .make .kept)
 
 th-returns-2 : (t : ℕ) → cycle.Lts-th.Need-returns-2 (th-claims t) (at-measure th.Kinds.ps μ-th th.Reads.Pre t) th.Reads.Post
-th-returns-2 t c = looping.assigning-does _ _ _ _ _ _ _ _ _ _ _ _ _ (c .before .before .before .before .before .before .before .before .before .before .before .before .before .before .before .before .before .before .before .before .before .before .before .before .before .before .before .before .before .before .before .before .before .before .before .before .before .before .before .before .before .before .before .before .before .before .before .before .before .before .before .before .before .before .less .ensures) (c .before .before .before .before .before .before .before .before .before .before .before .before .before .before .before .before .before .before .before .before .before .before .before .before .before .before .before .before .before .before .before .before .before .before .before .before .before .before .before .before .before .before .before .before .before .before .before .before .before .before .before .before .before .step .ensures) (c .before .before .before .before .before .before .before .before .before .before .before .before .before .before .before .before .before .before .before .before .before .before .before .before .before .before .before .before .before .before .before .before .before .before .before .before .before .before .before .before .before .before .before .before .before .before .before .before .before .before .before .before .scoped .ensures .0) (c .before .before .before .before .before .before .before .before .before .before .before .before .before .before .before .before .before .before .before .before .before .before .before .before .before .before .before .before .before .before .before .before .before .before .before .before .before .before .before .before .before .before .before .before .before .before .before .before .before .before .before .before .scoped .ensures .1) (c .before .before .before .before .before .before .before .before .before .before .before .before .before .before .before .before .before .before .before .before .before .before .before .before .before .before .before .before .before .before .before .before .before .before .before .before .before .before .before .before .before .before .before .before .before .before .before .before .before .before .make .ensures .1) (c .before .before .before .before .before .before .before .before .before .before .before .before .before .before .before .before .before .before .before .before .before .before .before .before .before .skip .ensures) (c .before .before .before .before .before .before .before .before .before .before .before .before .before .before .before .before .before .before .before .before .before .before .before .before .to .ensures .1) (c .before .before .before .before .before .before .before .before .before .before .before .before .before .before .before .before .before .before .before .before .before .before .before .before .to .ensures .0 _ _ _) (c .before .before .before .before .before .before .before .before .before .before .before .before .before .before .before .before .before .before .before .before .before .before .before .before .before .before .before .before .before .before .before .before .before .before .before .before .before .before .before .before .before .before .before .before .before .before .before .before .before .before .make .ensures .0 _ _) (c .before .before .before .before .before .before .before .before .before .before .before .before .before .before .before .before .before .before .before .before .before .before .before .before .before .before .before .before .before .before .before .before .before .before .before .before .before .before .before .before .before .before .before .before .before .before .copy .ensures .0 _ _) (c .before .before .before .before .before .before .before .before .before .before .before .before .before .before .before .before .before .before .before .before .before .before .before .before .before .before .before .before .before .before .before .before .before .before .before .before .before .before .before .before .before .before .declaration .ensures .0 _ _) (c .before .before .before .before .before .before .before .before .before .before .before .before .before .before .before .before .before .before .before .before .before .before .before .before .before .before .before .before .before .before .before .before .before .before .before .before .before .before .put2 .ensures .0 _ _) (c .before .before .before .before .before .before .before .before .before .before .before .before .before .before .before .before .before .before .before .before .before .before .before .before .before .before .before .before .before .before .before .before .temporary .ensures .0) (c .before .before .before .before .before .before .before .before .before .before .before .before .before .before .before .before .before .before .before .before .node .ensures) (c .before .before .before .before .before .before .before .before .before .before .tb .ensures) (c .before .before .await-of .ensures _ _)
+th-returns-2 t c = looping.assigning-does _ _ _ _ _ _ _ _ _ _ _ _ _ (c .before .before .before .before .before .before .before .before .before .before .before .before .before .before .before .before .before .before .before .before .before .before .before .before .before .before .before .before .before .before .before .before .before .before .before .before .before .before .before .before .before .before .before .before .before .before .before .before .before .before .before .before .before .before .less .ensures) (c .before .before .before .before .before .before .before .before .before .before .before .before .before .before .before .before .before .before .before .before .before .before .before .before .before .before .before .before .before .before .before .before .before .before .before .before .before .before .before .before .before .before .before .before .before .before .before .before .before .before .before .before .before .step .ensures) (c .before .before .before .before .before .before .before .before .before .before .before .before .before .before .before .before .before .before .before .before .before .before .before .before .before .before .before .before .before .before .before .before .before .before .before .before .before .before .before .before .before .before .before .before .before .before .before .before .before .before .before .before .scoped .ensures .0) (c .before .before .before .before .before .before .before .before .before .before .before .before .before .before .before .before .before .before .before .before .before .before .before .before .before .before .before .before .before .before .before .before .before .before .before .before .before .before .before .before .before .before .before .before .before .before .before .before .before .before .before .before .scoped .ensures .1) (c .before .before .before .before .before .before .before .before .before .before .before .before .before .before .before .before .before .before .before .before .before .before .before .before .before .before .before .before .before .before .before .before .before .before .before .before .before .before .before .before .before .before .before .before .before .before .before .before .before .before .make .ensures .1) (c .before .before .before .before .before .before .before .before .before .before .before .before .before .before .before .before .before .before .before .before .before .before .before .before .before .skip .ensures) (c .before .before .before .before .before .before .before .before .before .before .before .before .before .before .before .before .before .before .before .before .before .before .before .before .to .ensures .1) (c .before .before .before .before .before .before .before .before .before .before .before .before .before .before .before .before .before .before .before .before .before .before .before .before .to .ensures .0 _ _ _) (runs-does (c .before .before .before .before .before .before .before .before .before .before .before .before .before .before .before .before .before .before .before .before .before .before .before .before .before .before .before .before .before .before .before .before .before .before .before .before .before .before .before .before .before .before .before .before .before .before .before .before .before .before .make .ensures .0 _ _)) (runs-does (c .before .before .before .before .before .before .before .before .before .before .before .before .before .before .before .before .before .before .before .before .before .before .before .before .before .before .before .before .before .before .before .before .before .before .before .before .before .before .before .before .before .before .before .before .before .before .copy .ensures .0 _ _)) (steps.does-declaration _ _ (c .before .before .before .before .before .before .before .before .before .before .before .before .before .before .before .before .before .before .before .before .before .before .before .before .before .before .before .before .before .before .before .before .before .before .before .before .before .before .before .before .before .before .declaration .ensures .0 _ _)) (runs-does (c .before .before .before .before .before .before .before .before .before .before .before .before .before .before .before .before .before .before .before .before .before .before .before .before .before .before .before .before .before .before .before .before .before .before .before .before .before .before .put2 .ensures .0 _ _)) (runs-does (c .before .before .before .before .before .before .before .before .before .before .before .before .before .before .before .before .before .before .before .before .before .before .before .before .before .before .before .before .before .before .before .before .temporary .ensures .0)) (c .before .before .before .before .before .before .before .before .before .before .before .before .before .before .before .before .before .before .before .before .node .ensures) (c .before .before .before .before .before .before .before .before .before .before .tb .ensures) (runs-does (c .before .before .await-of .ensures .1 _ _))
 
 top-returns : (t : ℕ) → cycle.Lts-top.Need-returns (top-claims t) (at-measure top.Kinds.ps μ-top top.Reads.Pre t) top.Reads.Post
-top-returns t c = λ k h g x a. assigning.top-refused _ _ _ _ _ _ _ _ (c .before .before .before .before .before .refusal .ensures) (c .before .before .before .before .if1 .taken) (c .before .before .refuse .ensures .0 _ _)
+top-returns t c = λ k h g x a. assigning.top-refused _ _ _ _ _ _ _ _ (c .before .before .before .before .before .refusal .ensures) (c .before .before .before .before .if1 .taken) (runs-does (c .before .before .refuse .ensures .0 _ _))
 
 top-rest-requires : (t : ℕ) → cycle.Lts-top.Need-rest-requires (top-claims t) (at-measure top.Kinds.ps μ-top top.Reads.Pre t) top.Reads.Post
 top-rest-requires t c κs = (omega (arith, c .before .before .before .before .before .before .before .before .before .before .before .before .before .before .before .before .before .before .before .before .before .before .before .before .before .before .before .before .before .before .before .before .before .before .before .before .before .before .before .before .before .before .before .before .before .before .before .before .before .before .before .before .before .before .before .before .before .before .before .before .before .before .before .before .before .before .before .before .before .before .before .before .before .before .before .before .before .before .before .before .before .before .before .before .before .before .before .before .before .pre .0, c .before .before .before .before .before .before .before .before .before .before .before .before .before .before .before .before .before .before .before .before .before .before .before .before .before .before .before .before .before .before .before .before .before .before .before .before .before .before .before .before .before .before .before .before .before .before .before .before .before .before .before .before .before .before .before .before .before .before .before .before .before .before .before .before .before .before .before .before .before .before .before .before .before .before .before .before .before .before .before .before .before .before .told-inside .ensures .1), tt)
@@ -1185,7 +1190,7 @@ top-same-length-4 : (t : ℕ) → cycle.Lts-top.Need-same-length-4 (top-claims t
 top-same-length-4 t c = omega (arith, c .before .before .before .before .before .before .before .rest .kept, c .before .before .before .before .before .before .before .before .before .before .before .before .before .before .before .before .before .before .before .node .kept, c .before .before .before .before .before .before .before .before .before .before .before .before .before .before .before .before .before .before .before .before .before .before .before .before .before .before .before .before .before .before .before .before .before .before .before .pr .kept, c .before .before .before .before .before .before .before .before .before .before .before .before .before .before .before .before .before .before .before .before .before .before .before .before .before .before .before .before .before .before .before .before .before .before .before .before .before .before .before .before .before .before .before .before .before .tg .kept, c .before .before .before .before .before .before .before .before .before .before .before .before .before .before .before .before .before .before .before .before .before .before .before .before .before .before .before .before .before .before .before .before .before .before .before .before .before .before .before .before .before .before .before .before .before .before .before .before .before .before .before .before .before .before .before .gv .kept, c .before .before .before .before .before .before .before .before .before .before .before .before .before .before .before .before .before .before .before .before .before .before .before .before .before .before .before .before .before .before .before .before .before .before .before .before .before .before .before .before .before .before .before .before .before .before .before .before .before .before .before .before .before .before .before .before .before .before .before .before .before .before .before .before .before .temporary .kept, c .before .before .before .before .before .before .before .before .before .before .before .before .before .before .before .before .before .before .before .before .before .before .before .before .before .before .before .before .before .before .before .before .before .before .before .before .before .before .before .before .before .before .before .before .before .before .before .before .before .before .before .before .before .before .before .before .before .before .before .before .before .before .before .before .before .before .before .before .before .before .before .before .before .before .before .before .before .before .before .before .before .before .before .before .before .before .before .top-hands .kept)
 
 top-returns-2 : (t : ℕ) → cycle.Lts-top.Need-returns-2 (top-claims t) (at-measure top.Kinds.ps μ-top top.Reads.Pre t) top.Reads.Post
-top-returns-2 t c = λ k h. assigning.top-does _ _ _ _ _ _ _ _ _ _ _ _ _ _ _ _ _ _ _ _ _ (c .before .before .before .before .before .before .before .before .before .before .before .before .before .before .before .before .before .before .before .before .before .before .before .before .before .before .before .before .before .before .before .before .before .before .before .before .before .before .before .before .before .before .before .before .before .before .before .before .before .before .before .before .before .before .before .before .before .before .before .before .before .before .before .before .before .before .before .before .before .before .before .before .before .before .before .before .before .before .before .before .before .before .before .before .before .before .before .before .before .before .before .before .refusal .ensures) (c .before .before .before .before .before .before .before .before .before .before .before .before .before .before .before .before .before .before .before .before .before .before .before .before .before .before .before .before .before .before .before .before .before .before .before .before .before .before .before .before .before .before .before .before .before .before .before .before .before .before .before .before .before .before .before .before .before .before .before .before .before .before .before .before .before .before .before .before .before .before .before .before .before .before .before .before .before .before .before .before .before .before .before .before .before .before .before .before .before .before .before .if1 .left) (c .before .before .before .before .before .before .before .before .before .before .before .before .before .before .before .before .before .before .before .before .before .before .before .before .before .before .before .before .before .before .before .before .before .before .before .before .before .before .before .before .before .before .before .before .before .before .before .before .before .before .before .before .before .before .before .before .before .before .before .before .before .before .before .before .before .before .before .before .before .before .before .before .before .before .before .before .before .before .before .before .before .before .before .before .before .before .before .before .before .before .told-inside .ensures) (c .before .before .before .before .before .before .before .before .before .before .before .before .before .before .before .before .before .before .before .before .before .before .before .before .before .before .before .before .before .before .before .before .before .before .before .before .before .before .before .before .before .before .before .before .before .before .before .before .before .before .before .before .before .before .before .before .before .before .before .before .before .before .before .before .before .before .before .before .before .before .before .before .before .before .before .before .before .before .before .before .before .before .before .before .before .before .before .top-hands .ensures .1 _) (c .before .before .before .before .before .before .before .before .before .before .before .before .before .before .before .before .before .before .before .before .before .before .before .before .before .before .before .before .before .before .before .before .before .before .before .before .before .before .before .before .before .before .before .before .before .before .before .before .before .before .before .before .before .before .before .before .before .before .before .before .before .before .before .before .before .before .before .before .before .before .before .before .before .before .before .before .before .before .before .before .before .before .top-count .ensures .0) (c .before .before .before .before .before .before .before .before .before .before .before .before .before .before .before .before .before .before .before .before .before .before .before .before .before .before .before .before .before .before .before .before .before .before .before .before .before .before .before .before .before .before .before .before .before .before .before .before .before .before .before .before .before .before .before .before .before .before .before .before .before .before .before .before .before .before .before .before .before .before .before .before .before .before .before .before .before .before .before .before .put2 .ensures .0 _ _) (c .before .before .before .before .before .before .before .before .before .before .before .before .before .before .before .before .before .before .before .before .before .before .before .before .before .before .before .before .before .before .before .before .before .before .before .before .before .before .before .before .before .before .before .before .before .before .before .before .before .before .before .before .before .before .before .before .before .before .before .before .before .before .before .before .before .before .before .before .before .before .before .before .before .before .before .before .wide .ensures .0 _ _) (c .before .before .before .before .before .before .before .before .before .before .before .before .before .before .before .before .before .before .before .before .before .before .before .before .before .before .before .before .before .before .before .before .before .before .before .before .before .before .before .before .before .before .before .before .before .before .before .before .before .before .before .before .before .before .before .before .before .before .before .before .before .before .before .before .before .before .before .before .before .before .before .before .assign .ensures .0 _ _) (c .before .before .before .before .before .before .before .before .before .before .before .before .before .before .before .before .before .before .before .before .before .before .before .before .before .before .before .before .before .before .before .before .before .before .before .before .before .before .before .before .before .before .before .before .before .before .before .before .before .before .before .before .before .before .before .before .before .before .before .before .before .before .before .before .before .before .cell .ensures) (c .before .before .before .before .before .before .before .before .before .before .before .before .before .before .before .before .before .before .before .before .before .before .before .before .before .before .before .before .before .before .before .before .before .before .before .before .before .before .before .before .before .before .before .before .before .before .before .before .before .before .before .before .before .before .before .before .before .before .before .before .before .before .before .before .before .temporary .ensures .0) (c .before .before .before .before .before .before .before .before .before .before .before .before .before .before .before .before .before .before .before .before .before .before .before .before .before .before .before .before .before .before .before .before .before .before .before .before .before .before .before .before .before .before .before .before .before .before .before .before .before .before .before .before .before .before .before .gv .ensures) (c .before .before .before .before .before .before .before .before .before .before .before .before .before .before .before .before .before .before .before .before .before .before .before .before .before .before .before .before .before .before .before .before .before .before .before .before .before .before .before .before .before .before .before .before .before .tg .ensures) (c .before .before .before .before .before .before .before .before .before .before .before .before .before .before .before .before .before .before .before .before .before .before .before .before .before .before .before .before .before .before .before .before .before .before .before .pr .ensures told.told-value-straight) (c .before .before .before .before .before .before .before .before .before .before .before .before .before .before .before .before .before .before .before .before .before .before .before .before .before .before .before .assign2 .ensures .0 _ _) (c .before .before .before .before .before .before .before .before .before .before .before .before .before .before .before .before .before .before .before .before .before .before .before .before .before .before .before .assign2 .ensures .1) (c .before .before .before .before .before .before .before .before .before .before .before .before .before .before .before .before .before .before .before .before .before .less .ensures) (c .before .before .before .before .before .before .before .before .before .before .before .before .before .before .before .before .before .before .before .before .told-inside2 .ensures) (c .before .before .before .before .before .before .before .before .before .before .before .before .before .before .before .before .before .before .before .node .ensures .1) (c .before .before .before .before .before .before .before .before .before .cell2 .ensures) (c .before .before .before .before .before .before .before .before .cell-source .ensures) (told.own-inner _ _ refl (c .before .before .before .before .before .before .before .before .before .before .before .before .before .before .before .before .before .before .before .before .before .before .before .before .before .before .before .before .before .before .before .before .before .before .before .before .before .before .before .before .before .before .before .before .before .before .before .before .before .before .before .before .before .before .before .before .before .before .before .before .before .before .before .before .before .before .before .before .before .before .before .before .before .before .before .before .before .before .before .before .before .before .before .before .before .before .before .before .before .before .told-inside .ensures .0)) (c .before .before .before .before .before .before .before .rest .ensures .1) (λ w. does-nothing _) (assigning.read-none _ _ (c .if2 .taken)) k h
+top-returns-2 t c = λ k h. assigning.top-does _ _ _ _ _ _ _ _ _ _ _ _ _ _ _ _ _ _ _ _ _ (c .before .before .before .before .before .before .before .before .before .before .before .before .before .before .before .before .before .before .before .before .before .before .before .before .before .before .before .before .before .before .before .before .before .before .before .before .before .before .before .before .before .before .before .before .before .before .before .before .before .before .before .before .before .before .before .before .before .before .before .before .before .before .before .before .before .before .before .before .before .before .before .before .before .before .before .before .before .before .before .before .before .before .before .before .before .before .before .before .before .before .before .before .refusal .ensures) (c .before .before .before .before .before .before .before .before .before .before .before .before .before .before .before .before .before .before .before .before .before .before .before .before .before .before .before .before .before .before .before .before .before .before .before .before .before .before .before .before .before .before .before .before .before .before .before .before .before .before .before .before .before .before .before .before .before .before .before .before .before .before .before .before .before .before .before .before .before .before .before .before .before .before .before .before .before .before .before .before .before .before .before .before .before .before .before .before .before .before .before .if1 .left) (c .before .before .before .before .before .before .before .before .before .before .before .before .before .before .before .before .before .before .before .before .before .before .before .before .before .before .before .before .before .before .before .before .before .before .before .before .before .before .before .before .before .before .before .before .before .before .before .before .before .before .before .before .before .before .before .before .before .before .before .before .before .before .before .before .before .before .before .before .before .before .before .before .before .before .before .before .before .before .before .before .before .before .before .before .before .before .before .before .before .before .told-inside .ensures) (c .before .before .before .before .before .before .before .before .before .before .before .before .before .before .before .before .before .before .before .before .before .before .before .before .before .before .before .before .before .before .before .before .before .before .before .before .before .before .before .before .before .before .before .before .before .before .before .before .before .before .before .before .before .before .before .before .before .before .before .before .before .before .before .before .before .before .before .before .before .before .before .before .before .before .before .before .before .before .before .before .before .before .before .before .before .before .before .top-hands .ensures .1 _) (hands.top-counted _ _ _ _ (c .before .before .before .before .before .before .before .before .before .before .before .before .before .before .before .before .before .before .before .before .before .before .before .before .before .before .before .before .before .before .before .before .before .before .before .before .before .before .before .before .before .before .before .before .before .before .before .before .before .before .before .before .before .before .before .before .before .before .before .before .before .before .before .before .before .before .before .before .before .before .before .before .before .before .before .before .before .before .before .before .before .before .top-count .ensures)) (runs-does (c .before .before .before .before .before .before .before .before .before .before .before .before .before .before .before .before .before .before .before .before .before .before .before .before .before .before .before .before .before .before .before .before .before .before .before .before .before .before .before .before .before .before .before .before .before .before .before .before .before .before .before .before .before .before .before .before .before .before .before .before .before .before .before .before .before .before .before .before .before .before .before .before .before .before .before .before .before .before .before .before .put2 .ensures .0 _ _)) (steps.does-wide _ (c .before .before .before .before .before .before .before .before .before .before .before .before .before .before .before .before .before .before .before .before .before .before .before .before .before .before .before .before .before .before .before .before .before .before .before .before .before .before .before .before .before .before .before .before .before .before .before .before .before .before .before .before .before .before .before .before .before .before .before .before .before .before .before .before .before .before .before .before .before .before .before .before .before .before .before .before .wide .ensures .0 _ _)) (steps.does-assign _ (c .before .before .before .before .before .before .before .before .before .before .before .before .before .before .before .before .before .before .before .before .before .before .before .before .before .before .before .before .before .before .before .before .before .before .before .before .before .before .before .before .before .before .before .before .before .before .before .before .before .before .before .before .before .before .before .before .before .before .before .before .before .before .before .before .before .before .before .before .before .before .before .before .assign .ensures .0 _ _)) (c .before .before .before .before .before .before .before .before .before .before .before .before .before .before .before .before .before .before .before .before .before .before .before .before .before .before .before .before .before .before .before .before .before .before .before .before .before .before .before .before .before .before .before .before .before .before .before .before .before .before .before .before .before .before .before .before .before .before .before .before .before .before .before .before .before .before .cell .ensures) (runs-does (c .before .before .before .before .before .before .before .before .before .before .before .before .before .before .before .before .before .before .before .before .before .before .before .before .before .before .before .before .before .before .before .before .before .before .before .before .before .before .before .before .before .before .before .before .before .before .before .before .before .before .before .before .before .before .before .before .before .before .before .before .before .before .before .before .before .temporary .ensures .0)) (c .before .before .before .before .before .before .before .before .before .before .before .before .before .before .before .before .before .before .before .before .before .before .before .before .before .before .before .before .before .before .before .before .before .before .before .before .before .before .before .before .before .before .before .before .before .before .before .before .before .before .before .before .before .before .before .gv .ensures) (c .before .before .before .before .before .before .before .before .before .before .before .before .before .before .before .before .before .before .before .before .before .before .before .before .before .before .before .before .before .before .before .before .before .before .before .before .before .before .before .before .before .before .before .before .before .tg .ensures) (c .before .before .before .before .before .before .before .before .before .before .before .before .before .before .before .before .before .before .before .before .before .before .before .before .before .before .before .before .before .before .before .before .before .before .before .pr .ensures told.told-value-straight) (steps.does-assign _ (c .before .before .before .before .before .before .before .before .before .before .before .before .before .before .before .before .before .before .before .before .before .before .before .before .before .before .before .assign2 .ensures .0 _ _)) (c .before .before .before .before .before .before .before .before .before .before .before .before .before .before .before .before .before .before .before .before .before .before .before .before .before .before .before .assign2 .ensures .1) (c .before .before .before .before .before .before .before .before .before .before .before .before .before .before .before .before .before .before .before .before .before .less .ensures) (c .before .before .before .before .before .before .before .before .before .before .before .before .before .before .before .before .before .before .before .before .told-inside2 .ensures) (c .before .before .before .before .before .before .before .before .before .before .before .before .before .before .before .before .before .before .before .node .ensures .1) (c .before .before .before .before .before .before .before .before .before .cell2 .ensures) (c .before .before .before .before .before .before .before .before .cell-source .ensures) (told.own-inner _ _ refl (c .before .before .before .before .before .before .before .before .before .before .before .before .before .before .before .before .before .before .before .before .before .before .before .before .before .before .before .before .before .before .before .before .before .before .before .before .before .before .before .before .before .before .before .before .before .before .before .before .before .before .before .before .before .before .before .before .before .before .before .before .before .before .before .before .before .before .before .before .before .before .before .before .before .before .before .before .before .before .before .before .before .before .before .before .before .before .before .before .before .before .told-inside .ensures .0)) (c .before .before .before .before .before .before .before .rest .ensures .1) (λ w. does-nothing _) (assigning.read-none _ _ (c .if2 .taken)) k h
 
 top-same-length-5 : (t : ℕ) → cycle.Lts-top.Need-same-length-5 (top-claims t) (at-measure top.Kinds.ps μ-top top.Reads.Pre t) top.Reads.Post
 top-same-length-5 t c = omega (arith, c .before .before .before .before .before .before .temporary2 .kept, c .before .before .before .before .before .before .before .before .before .before .before .before .before .before .before .before .before .before .rest .kept, c .before .before .before .before .before .before .before .before .before .before .before .before .before .before .before .before .before .before .before .before .before .before .before .before .before .before .before .before .before .before .node .kept, c .before .before .before .before .before .before .before .before .before .before .before .before .before .before .before .before .before .before .before .before .before .before .before .before .before .before .before .before .before .before .before .before .before .before .before .before .before .before .assign2 .kept, c .before .before .before .before .before .before .before .before .before .before .before .before .before .before .before .before .before .before .before .before .before .before .before .before .before .before .before .before .before .before .before .before .before .before .before .before .before .before .before .before .before .before .before .before .before .before .pr .kept, c .before .before .before .before .before .before .before .before .before .before .before .before .before .before .before .before .before .before .before .before .before .before .before .before .before .before .before .before .before .before .before .before .before .before .before .before .before .before .before .before .before .before .before .before .before .before .before .before .before .before .before .before .before .before .before .before .tg .kept, c .before .before .before .before .before .before .before .before .before .before .before .before .before .before .before .before .before .before .before .before .before .before .before .before .before .before .before .before .before .before .before .before .before .before .before .before .before .before .before .before .before .before .before .before .before .before .before .before .before .before .before .before .before .before .before .before .before .before .before .before .before .before .before .before .before .before .gv .kept, c .before .before .before .before .before .before .before .before .before .before .before .before .before .before .before .before .before .before .before .before .before .before .before .before .before .before .before .before .before .before .before .before .before .before .before .before .before .before .before .before .before .before .before .before .before .before .before .before .before .before .before .before .before .before .before .before .before .before .before .before .before .before .before .before .before .before .before .before .before .before .before .before .before .before .before .before .temporary .kept, c .before .before .before .before .before .before .before .before .before .before .before .before .before .before .before .before .before .before .before .before .before .before .before .before .before .before .before .before .before .before .before .before .before .before .before .before .before .before .before .before .before .before .before .before .before .before .before .before .before .before .before .before .before .before .before .before .before .before .before .before .before .before .before .before .before .before .before .before .before .before .before .before .before .before .before .before .before .before .before .before .before .before .before .assign .kept, c .before .before .before .before .before .before .before .before .before .before .before .before .before .before .before .before .before .before .before .before .before .before .before .before .before .before .before .before .before .before .before .before .before .before .before .before .before .before .before .before .before .before .before .before .before .before .before .before .before .before .before .before .before .before .before .before .before .before .before .before .before .before .before .before .before .before .before .before .before .before .before .before .before .before .before .before .before .before .before .before .before .before .before .before .before .before .before .wide .kept, c .before .before .before .before .before .before .before .before .before .before .before .before .before .before .before .before .before .before .before .before .before .before .before .before .before .before .before .before .before .before .before .before .before .before .before .before .before .before .before .before .before .before .before .before .before .before .before .before .before .before .before .before .before .before .before .before .before .before .before .before .before .before .before .before .before .before .before .before .before .before .before .before .before .before .before .before .before .before .before .before .before .before .before .before .before .before .before .before .before .before .before .put2 .kept)
@@ -1197,10 +1202,10 @@ top-same-length-7 : (t : ℕ) → cycle.Lts-top.Need-same-length-7 (top-claims t
 top-same-length-7 t c = omega (arith, c .before .before .before .before .before .before .temporary2 .kept, c .before .before .before .before .before .before .before .before .before .before .before .before .before .before .before .before .before .before .rest .kept, c .before .before .before .before .before .before .before .before .before .before .before .before .before .before .before .before .before .before .before .before .before .before .before .before .before .before .before .before .before .before .node .kept, c .before .before .before .before .before .before .before .before .before .before .before .before .before .before .before .before .before .before .before .before .before .before .before .before .before .before .before .before .before .before .before .before .before .before .before .before .before .before .before .before .before .before .before .before .before .before .pr .kept, c .before .before .before .before .before .before .before .before .before .before .before .before .before .before .before .before .before .before .before .before .before .before .before .before .before .before .before .before .before .before .before .before .before .before .before .before .before .before .before .before .before .before .before .before .before .before .before .before .before .before .before .before .before .before .before .before .tg .kept, c .before .before .before .before .before .before .before .before .before .before .before .before .before .before .before .before .before .before .before .before .before .before .before .before .before .before .before .before .before .before .before .before .before .before .before .before .before .before .before .before .before .before .before .before .before .before .before .before .before .before .before .before .before .before .before .before .before .before .before .before .before .before .before .before .before .before .gv .kept, c .before .before .before .before .before .before .before .before .before .before .before .before .before .before .before .before .before .before .before .before .before .before .before .before .before .before .before .before .before .before .before .before .before .before .before .before .before .before .before .before .before .before .before .before .before .before .before .before .before .before .before .before .before .before .before .before .before .before .before .before .before .before .before .before .before .before .before .before .before .before .before .before .before .before .before .before .temporary .kept, c .before .before .before .before .before .before .before .before .before .before .before .before .before .before .before .before .before .before .before .before .before .before .before .before .before .before .before .before .before .before .before .before .before .before .before .before .before .before .before .before .before .before .before .before .before .before .before .before .before .before .before .before .before .before .before .before .before .before .before .before .before .before .before .before .before .before .before .before .before .before .before .before .before .before .before .before .before .before .before .before .before .before .before .before .before .before .before .before .before .before .before .before .before .before .before .before .before .before .top-hands .kept)
 
 top-returns-3 : (t : ℕ) → cycle.Lts-top.Need-returns-3 (top-claims t) (at-measure top.Kinds.ps μ-top top.Reads.Pre t) top.Reads.Post
-top-returns-3 t c = λ k h. assigning.top-does _ _ _ _ _ _ _ _ _ _ _ _ _ _ _ _ _ _ _ _ _ (c .before .before .before .before .before .before .before .before .before .before .before .before .before .before .before .before .before .before .before .before .before .before .before .before .before .before .before .before .before .before .before .before .before .before .before .before .before .before .before .before .before .before .before .before .before .before .before .before .before .before .before .before .before .before .before .before .before .before .before .before .before .before .before .before .before .before .before .before .before .before .before .before .before .before .before .before .before .before .before .before .before .before .before .before .before .before .before .before .before .before .before .before .before .before .before .before .before .before .before .before .before .before .before .refusal .ensures) (c .before .before .before .before .before .before .before .before .before .before .before .before .before .before .before .before .before .before .before .before .before .before .before .before .before .before .before .before .before .before .before .before .before .before .before .before .before .before .before .before .before .before .before .before .before .before .before .before .before .before .before .before .before .before .before .before .before .before .before .before .before .before .before .before .before .before .before .before .before .before .before .before .before .before .before .before .before .before .before .before .before .before .before .before .before .before .before .before .before .before .before .before .before .before .before .before .before .before .before .before .before .before .if1 .left) (c .before .before .before .before .before .before .before .before .before .before .before .before .before .before .before .before .before .before .before .before .before .before .before .before .before .before .before .before .before .before .before .before .before .before .before .before .before .before .before .before .before .before .before .before .before .before .before .before .before .before .before .before .before .before .before .before .before .before .before .before .before .before .before .before .before .before .before .before .before .before .before .before .before .before .before .before .before .before .before .before .before .before .before .before .before .before .before .before .before .before .before .before .before .before .before .before .before .before .before .before .before .told-inside .ensures) (c .before .before .before .before .before .before .before .before .before .before .before .before .before .before .before .before .before .before .before .before .before .before .before .before .before .before .before .before .before .before .before .before .before .before .before .before .before .before .before .before .before .before .before .before .before .before .before .before .before .before .before .before .before .before .before .before .before .before .before .before .before .before .before .before .before .before .before .before .before .before .before .before .before .before .before .before .before .before .before .before .before .before .before .before .before .before .before .before .before .before .before .before .before .before .before .before .before .before .top-hands .ensures .1 _) (c .before .before .before .before .before .before .before .before .before .before .before .before .before .before .before .before .before .before .before .before .before .before .before .before .before .before .before .before .before .before .before .before .before .before .before .before .before .before .before .before .before .before .before .before .before .before .before .before .before .before .before .before .before .before .before .before .before .before .before .before .before .before .before .before .before .before .before .before .before .before .before .before .before .before .before .before .before .before .before .before .before .before .before .before .before .before .before .before .before .before .before .before .before .top-count .ensures .0) (c .before .before .before .before .before .before .before .before .before .before .before .before .before .before .before .before .before .before .before .before .before .before .before .before .before .before .before .before .before .before .before .before .before .before .before .before .before .before .before .before .before .before .before .before .before .before .before .before .before .before .before .before .before .before .before .before .before .before .before .before .before .before .before .before .before .before .before .before .before .before .before .before .before .before .before .before .before .before .before .before .before .before .before .before .before .before .before .before .before .before .before .put2 .ensures .0 _ _) (c .before .before .before .before .before .before .before .before .before .before .before .before .before .before .before .before .before .before .before .before .before .before .before .before .before .before .before .before .before .before .before .before .before .before .before .before .before .before .before .before .before .before .before .before .before .before .before .before .before .before .before .before .before .before .before .before .before .before .before .before .before .before .before .before .before .before .before .before .before .before .before .before .before .before .before .before .before .before .before .before .before .before .before .before .before .before .before .wide .ensures .0 _ _) (c .before .before .before .before .before .before .before .before .before .before .before .before .before .before .before .before .before .before .before .before .before .before .before .before .before .before .before .before .before .before .before .before .before .before .before .before .before .before .before .before .before .before .before .before .before .before .before .before .before .before .before .before .before .before .before .before .before .before .before .before .before .before .before .before .before .before .before .before .before .before .before .before .before .before .before .before .before .before .before .before .before .before .before .assign .ensures .0 _ _) (c .before .before .before .before .before .before .before .before .before .before .before .before .before .before .before .before .before .before .before .before .before .before .before .before .before .before .before .before .before .before .before .before .before .before .before .before .before .before .before .before .before .before .before .before .before .before .before .before .before .before .before .before .before .before .before .before .before .before .before .before .before .before .before .before .before .before .before .before .before .before .before .before .before .before .before .before .before .cell .ensures) (c .before .before .before .before .before .before .before .before .before .before .before .before .before .before .before .before .before .before .before .before .before .before .before .before .before .before .before .before .before .before .before .before .before .before .before .before .before .before .before .before .before .before .before .before .before .before .before .before .before .before .before .before .before .before .before .before .before .before .before .before .before .before .before .before .before .before .before .before .before .before .before .before .before .before .before .before .temporary .ensures .0) (c .before .before .before .before .before .before .before .before .before .before .before .before .before .before .before .before .before .before .before .before .before .before .before .before .before .before .before .before .before .before .before .before .before .before .before .before .before .before .before .before .before .before .before .before .before .before .before .before .before .before .before .before .before .before .before .before .before .before .before .before .before .before .before .before .before .before .gv .ensures) (c .before .before .before .before .before .before .before .before .before .before .before .before .before .before .before .before .before .before .before .before .before .before .before .before .before .before .before .before .before .before .before .before .before .before .before .before .before .before .before .before .before .before .before .before .before .before .before .before .before .before .before .before .before .before .before .before .tg .ensures) (c .before .before .before .before .before .before .before .before .before .before .before .before .before .before .before .before .before .before .before .before .before .before .before .before .before .before .before .before .before .before .before .before .before .before .before .before .before .before .before .before .before .before .before .before .before .before .pr .ensures told.told-value-straight) (c .before .before .before .before .before .before .before .before .before .before .before .before .before .before .before .before .before .before .before .before .before .before .before .before .before .before .before .before .before .before .before .before .before .before .before .before .before .before .assign2 .ensures .0 _ _) (c .before .before .before .before .before .before .before .before .before .before .before .before .before .before .before .before .before .before .before .before .before .before .before .before .before .before .before .before .before .before .before .before .before .before .before .before .before .before .assign2 .ensures .1) (c .before .before .before .before .before .before .before .before .before .before .before .before .before .before .before .before .before .before .before .before .before .before .before .before .before .before .before .before .before .before .before .before .less .ensures) (c .before .before .before .before .before .before .before .before .before .before .before .before .before .before .before .before .before .before .before .before .before .before .before .before .before .before .before .before .before .before .before .told-inside2 .ensures) (c .before .before .before .before .before .before .before .before .before .before .before .before .before .before .before .before .before .before .before .before .before .before .before .before .before .before .before .before .before .before .node .ensures .1) (c .before .before .before .before .before .before .before .before .before .before .before .before .before .before .before .before .before .before .before .before .cell2 .ensures) (c .before .before .before .before .before .before .before .before .before .before .before .before .before .before .before .before .before .before .before .cell-source .ensures) (told.own-inner _ _ refl (c .before .before .before .before .before .before .before .before .before .before .before .before .before .before .before .before .before .before .before .before .before .before .before .before .before .before .before .before .before .before .before .before .before .before .before .before .before .before .before .before .before .before .before .before .before .before .before .before .before .before .before .before .before .before .before .before .before .before .before .before .before .before .before .before .before .before .before .before .before .before .before .before .before .before .before .before .before .before .before .before .before .before .before .before .before .before .before .before .before .before .before .before .before .before .before .before .before .before .before .before .before .told-inside .ensures .0)) (c .before .before .before .before .before .before .before .before .before .before .before .before .before .before .before .before .before .before .rest .ensures .1) (assigning.value-read _ _ (c .before .before .before .before .before .before .before .cell3 .ensures) (c .before .before .before .before .before .before .temporary2 .ensures .0)) (assigning.read-some _ _ (c .before .before .before .before .before .before .before .before .before .before .before .if2 .left)) k h
+top-returns-3 t c = λ k h. assigning.top-does _ _ _ _ _ _ _ _ _ _ _ _ _ _ _ _ _ _ _ _ _ (c .before .before .before .before .before .before .before .before .before .before .before .before .before .before .before .before .before .before .before .before .before .before .before .before .before .before .before .before .before .before .before .before .before .before .before .before .before .before .before .before .before .before .before .before .before .before .before .before .before .before .before .before .before .before .before .before .before .before .before .before .before .before .before .before .before .before .before .before .before .before .before .before .before .before .before .before .before .before .before .before .before .before .before .before .before .before .before .before .before .before .before .before .before .before .before .before .before .before .before .before .before .before .before .refusal .ensures) (c .before .before .before .before .before .before .before .before .before .before .before .before .before .before .before .before .before .before .before .before .before .before .before .before .before .before .before .before .before .before .before .before .before .before .before .before .before .before .before .before .before .before .before .before .before .before .before .before .before .before .before .before .before .before .before .before .before .before .before .before .before .before .before .before .before .before .before .before .before .before .before .before .before .before .before .before .before .before .before .before .before .before .before .before .before .before .before .before .before .before .before .before .before .before .before .before .before .before .before .before .before .before .if1 .left) (c .before .before .before .before .before .before .before .before .before .before .before .before .before .before .before .before .before .before .before .before .before .before .before .before .before .before .before .before .before .before .before .before .before .before .before .before .before .before .before .before .before .before .before .before .before .before .before .before .before .before .before .before .before .before .before .before .before .before .before .before .before .before .before .before .before .before .before .before .before .before .before .before .before .before .before .before .before .before .before .before .before .before .before .before .before .before .before .before .before .before .before .before .before .before .before .before .before .before .before .before .before .told-inside .ensures) (c .before .before .before .before .before .before .before .before .before .before .before .before .before .before .before .before .before .before .before .before .before .before .before .before .before .before .before .before .before .before .before .before .before .before .before .before .before .before .before .before .before .before .before .before .before .before .before .before .before .before .before .before .before .before .before .before .before .before .before .before .before .before .before .before .before .before .before .before .before .before .before .before .before .before .before .before .before .before .before .before .before .before .before .before .before .before .before .before .before .before .before .before .before .before .before .before .before .before .top-hands .ensures .1 _) (hands.top-counted _ _ _ _ (c .before .before .before .before .before .before .before .before .before .before .before .before .before .before .before .before .before .before .before .before .before .before .before .before .before .before .before .before .before .before .before .before .before .before .before .before .before .before .before .before .before .before .before .before .before .before .before .before .before .before .before .before .before .before .before .before .before .before .before .before .before .before .before .before .before .before .before .before .before .before .before .before .before .before .before .before .before .before .before .before .before .before .before .before .before .before .before .before .before .before .before .before .before .top-count .ensures)) (runs-does (c .before .before .before .before .before .before .before .before .before .before .before .before .before .before .before .before .before .before .before .before .before .before .before .before .before .before .before .before .before .before .before .before .before .before .before .before .before .before .before .before .before .before .before .before .before .before .before .before .before .before .before .before .before .before .before .before .before .before .before .before .before .before .before .before .before .before .before .before .before .before .before .before .before .before .before .before .before .before .before .before .before .before .before .before .before .before .before .before .before .before .before .put2 .ensures .0 _ _)) (steps.does-wide _ (c .before .before .before .before .before .before .before .before .before .before .before .before .before .before .before .before .before .before .before .before .before .before .before .before .before .before .before .before .before .before .before .before .before .before .before .before .before .before .before .before .before .before .before .before .before .before .before .before .before .before .before .before .before .before .before .before .before .before .before .before .before .before .before .before .before .before .before .before .before .before .before .before .before .before .before .before .before .before .before .before .before .before .before .before .before .before .before .wide .ensures .0 _ _)) (steps.does-assign _ (c .before .before .before .before .before .before .before .before .before .before .before .before .before .before .before .before .before .before .before .before .before .before .before .before .before .before .before .before .before .before .before .before .before .before .before .before .before .before .before .before .before .before .before .before .before .before .before .before .before .before .before .before .before .before .before .before .before .before .before .before .before .before .before .before .before .before .before .before .before .before .before .before .before .before .before .before .before .before .before .before .before .before .before .assign .ensures .0 _ _)) (c .before .before .before .before .before .before .before .before .before .before .before .before .before .before .before .before .before .before .before .before .before .before .before .before .before .before .before .before .before .before .before .before .before .before .before .before .before .before .before .before .before .before .before .before .before .before .before .before .before .before .before .before .before .before .before .before .before .before .before .before .before .before .before .before .before .before .before .before .before .before .before .before .before .before .before .before .before .cell .ensures) (runs-does (c .before .before .before .before .before .before .before .before .before .before .before .before .before .before .before .before .before .before .before .before .before .before .before .before .before .before .before .before .before .before .before .before .before .before .before .before .before .before .before .before .before .before .before .before .before .before .before .before .before .before .before .before .before .before .before .before .before .before .before .before .before .before .before .before .before .before .before .before .before .before .before .before .before .before .before .before .temporary .ensures .0)) (c .before .before .before .before .before .before .before .before .before .before .before .before .before .before .before .before .before .before .before .before .before .before .before .before .before .before .before .before .before .before .before .before .before .before .before .before .before .before .before .before .before .before .before .before .before .before .before .before .before .before .before .before .before .before .before .before .before .before .before .before .before .before .before .before .before .before .gv .ensures) (c .before .before .before .before .before .before .before .before .before .before .before .before .before .before .before .before .before .before .before .before .before .before .before .before .before .before .before .before .before .before .before .before .before .before .before .before .before .before .before .before .before .before .before .before .before .before .before .before .before .before .before .before .before .before .before .before .tg .ensures) (c .before .before .before .before .before .before .before .before .before .before .before .before .before .before .before .before .before .before .before .before .before .before .before .before .before .before .before .before .before .before .before .before .before .before .before .before .before .before .before .before .before .before .before .before .before .before .pr .ensures told.told-value-straight) (steps.does-assign _ (c .before .before .before .before .before .before .before .before .before .before .before .before .before .before .before .before .before .before .before .before .before .before .before .before .before .before .before .before .before .before .before .before .before .before .before .before .before .before .assign2 .ensures .0 _ _)) (c .before .before .before .before .before .before .before .before .before .before .before .before .before .before .before .before .before .before .before .before .before .before .before .before .before .before .before .before .before .before .before .before .before .before .before .before .before .before .assign2 .ensures .1) (c .before .before .before .before .before .before .before .before .before .before .before .before .before .before .before .before .before .before .before .before .before .before .before .before .before .before .before .before .before .before .before .before .less .ensures) (c .before .before .before .before .before .before .before .before .before .before .before .before .before .before .before .before .before .before .before .before .before .before .before .before .before .before .before .before .before .before .before .told-inside2 .ensures) (c .before .before .before .before .before .before .before .before .before .before .before .before .before .before .before .before .before .before .before .before .before .before .before .before .before .before .before .before .before .before .node .ensures .1) (c .before .before .before .before .before .before .before .before .before .before .before .before .before .before .before .before .before .before .before .before .cell2 .ensures) (c .before .before .before .before .before .before .before .before .before .before .before .before .before .before .before .before .before .before .before .cell-source .ensures) (told.own-inner _ _ refl (c .before .before .before .before .before .before .before .before .before .before .before .before .before .before .before .before .before .before .before .before .before .before .before .before .before .before .before .before .before .before .before .before .before .before .before .before .before .before .before .before .before .before .before .before .before .before .before .before .before .before .before .before .before .before .before .before .before .before .before .before .before .before .before .before .before .before .before .before .before .before .before .before .before .before .before .before .before .before .before .before .before .before .before .before .before .before .before .before .before .before .before .before .before .before .before .before .before .before .before .before .before .told-inside .ensures .0)) (c .before .before .before .before .before .before .before .before .before .before .before .before .before .before .before .before .before .before .rest .ensures .1) (assigning.value-read _ _ (c .before .before .before .before .before .before .before .cell3 .ensures) (runs-does (c .before .before .before .before .before .before .temporary2 .ensures .0))) (assigning.read-some _ _ (c .before .before .before .before .before .before .before .before .before .before .before .if2 .left)) k h
 
 turn-returns : (t : ℕ) → cycle.Lts-turn.Need-returns (turn-claims t) (at-measure turn.Kinds.ps μ-turn turn.Reads.Pre t) turn.Reads.Post
-turn-returns t c = turning.turned-hole _ _ _ _ _ _ _ _ (c .before .before .before .before .before .before .if1 .taken) (c .before .before .before .before .before .peek .ensures) (c .before .before .before .before .if2 .taken) (c .before .before .hole .ensures .0) (c .before .before .hole .ensures .1 _ _)
+turn-returns t c = turning.turned-hole _ _ _ _ _ _ _ _ (c .before .before .before .before .before .before .if1 .taken) (c .before .before .before .before .before .peek .ensures) (c .before .before .before .before .if2 .taken) (c .before .before .hole .ensures .0) (sources.does-hole _ _ _ (c .before .before .hole .ensures .1 _ _))
 
 turn-returns-2 : (t : ℕ) → cycle.Lts-turn.Need-returns-2 (turn-claims t) (at-measure turn.Kinds.ps μ-turn turn.Reads.Pre t) turn.Reads.Post
 turn-returns-2 t c = told.item-own _ _ _ _ _ _ _ _ _ _ (ap isTold (c .before .before .before .before .before .before .before .before .before .before .match .keys1) ∙ told.untold-viewed) (turning.turned-viewed _ _ _ _ _ _ _ (⊎-elim (λ w. law.no-hole _ _ _ _ (w .0 .taken) (w .1 .ensures) (w .2 .left)) (λ w. law.full _ _ _ (w .left)) (c .before .before .before .before .before .before .before .before .before .before .before .if1 .came)) (c .before .before .before .before .before .before .before .before .before .before .match .keys1) (c .before .before .before .before .before .before .view .ensures))
@@ -1251,10 +1256,10 @@ va-node-requires : (t : ℕ) → cycle.Lts-va.Need-node-requires (va-claims t) (
 va-node-requires t c κs = (omega (arith, c .before .before .before .before .before .before .before .before .before .before .before .before .before .before .before .before .before .before .before .before .before .before .before .before .before .before .before .before .before .before .before .pre .0, c .inside2 .ensures .1, c .before .before .before .before .before .before .before .before .before .before .before .before .before .inside .ensures .1, c .before .before .before .before .before .before .before .before .before .before .before .before .before .before .before .before .before .before .before .before .before .before .before .before .less .ensures, c .before .before .before .before .before .before .before .before .before .before .before .before .before .before .before .before .before .before .before .before .before .before .before .before .before .if1 .left), tt)
 
 va-returns-2 : (t : ℕ) → cycle.Lts-va.Need-returns-2 (va-claims t) (at-measure va.Kinds.ps μ-va va.Reads.Pre t) va.Reads.Post
-va-returns-2 t c = viewing.array-rest _ _ _ _ _ _ _ _ _ _ _ _ _ _ _ _ (c .before .before .before .before .before .before .before .before .before .before .before .before .has-second .ensures) (c .before .before .before .before .before .before .before .before .before .before .before .if2 .taken) (c .before .before .before .before .before .before .before .before .before .before .before .before .before .before .before .before .before .before .before .before .before .before .before .before .before .before .before .before .before .before .step .ensures) (c .before .before .before .before .before .before .before .before .before .before .before .before .before .before .before .before .before .before .before .before .before .before .before .before .before .before .before .before .before .wide-at .ensures) (c .before .before .before .before .before .before .before .before .before .before .before .before .before .before .before .before .before .before .before .before .before .before .before .before .before .before .before .step2 .ensures) (c .before .before .before .before .before .before .before .before .before .before .before .before .before .before .before .before .before .before .before .before .before .before .before .before .before .before .copy .ensures .1) (c .before .before .before .before .before .before .before .before .before .before .before .before .before .before .before .before .before .before .before .before .inside .ensures .0) (c .before .before .before .before .before .before .before .before .before .before .before .before .before .before .before .before .before .before .before .before .inside .ensures .1 ∙ c .before .before .before .before .before .before .before .before .before .before .before .before .before .before .before .before .before .before .before .before .before .before .before .before .before .before .before .before .before .before .before .less .ensures) (c .before .before .before .before .before .before .before .inside2 .ensures .0) (c .before .before .before .before .before .before .before .inside2 .ensures .1 ∙ c .before .before .before .before .before .before .before .before .before .before .before .before .before .before .before .before .before .before .before .before .before .before .before .before .before .before .before .before .before .before .before .less .ensures) (c .before .before .before .before .before .before .before .before .before .before .before .before .before .before .before .before .before .before .before .before .before .before .before .before .before .before .copy .ensures .0 _ _) (told.items-own _ _ _ _ _ _ _ _ _ _ _ told.untold-viewed (c .before .before .before .before .before .before .before .before .before .before .before .before .before .before .before .before .before .before .before .seq .ensures)) (c .before .before .before .before .before .before .node .ensures)
+va-returns-2 t c = viewing.array-rest _ _ _ _ _ _ _ _ _ _ _ _ _ _ _ _ (c .before .before .before .before .before .before .before .before .before .before .before .before .has-second .ensures) (c .before .before .before .before .before .before .before .before .before .before .before .if2 .taken) (c .before .before .before .before .before .before .before .before .before .before .before .before .before .before .before .before .before .before .before .before .before .before .before .before .before .before .before .before .before .before .step .ensures) (c .before .before .before .before .before .before .before .before .before .before .before .before .before .before .before .before .before .before .before .before .before .before .before .before .before .before .before .before .before .wide-at .ensures) (c .before .before .before .before .before .before .before .before .before .before .before .before .before .before .before .before .before .before .before .before .before .before .before .before .before .before .before .step2 .ensures) (c .before .before .before .before .before .before .before .before .before .before .before .before .before .before .before .before .before .before .before .before .before .before .before .before .before .before .copy .ensures .1) (c .before .before .before .before .before .before .before .before .before .before .before .before .before .before .before .before .before .before .before .before .inside .ensures .0) (c .before .before .before .before .before .before .before .before .before .before .before .before .before .before .before .before .before .before .before .before .inside .ensures .1 ∙ c .before .before .before .before .before .before .before .before .before .before .before .before .before .before .before .before .before .before .before .before .before .before .before .before .before .before .before .before .before .before .before .less .ensures) (c .before .before .before .before .before .before .before .inside2 .ensures .0) (c .before .before .before .before .before .before .before .inside2 .ensures .1 ∙ c .before .before .before .before .before .before .before .before .before .before .before .before .before .before .before .before .before .before .before .before .before .before .before .before .before .before .before .before .before .before .before .less .ensures) (runs-does (c .before .before .before .before .before .before .before .before .before .before .before .before .before .before .before .before .before .before .before .before .before .before .before .before .before .before .copy .ensures .0 _ _)) (told.items-own _ _ _ _ _ _ _ _ _ _ _ told.untold-viewed (c .before .before .before .before .before .before .before .before .before .before .before .before .before .before .before .before .before .before .before .seq .ensures)) (c .before .before .before .before .before .before .node .ensures)
 
 va-returns-3 : (t : ℕ) → cycle.Lts-va.Need-returns-3 (va-claims t) (at-measure va.Kinds.ps μ-va va.Reads.Pre t) va.Reads.Post
-va-returns-3 t c = viewing.array-plain _ _ _ _ _ _ _ _ _ _ _ _ _ (c .before .has-second .ensures) (c .if2 .left) (c .before .before .before .before .before .before .before .before .before .before .before .before .before .before .before .before .before .before .before .step .ensures) (c .before .before .before .before .before .before .before .before .before .before .before .before .before .before .before .before .before .before .wide-at .ensures) (c .before .before .before .before .before .before .before .before .before .before .before .before .before .before .before .before .step2 .ensures) (c .before .before .before .before .before .before .before .before .before .before .before .before .before .before .before .copy .ensures .1) (c .before .before .before .before .before .before .before .before .before .inside .ensures .0) (c .before .before .before .before .before .before .before .before .before .inside .ensures .1 ∙ c .before .before .before .before .before .before .before .before .before .before .before .before .before .before .before .before .before .before .before .before .less .ensures) (c .before .before .before .before .before .before .before .before .before .before .before .before .before .before .before .copy .ensures .0 _ _) (told.items-own _ _ _ _ _ _ _ _ _ _ _ told.untold-viewed (c .before .before .before .before .before .before .before .before .seq .ensures))
+va-returns-3 t c = viewing.array-plain _ _ _ _ _ _ _ _ _ _ _ _ _ (c .before .has-second .ensures) (c .if2 .left) (c .before .before .before .before .before .before .before .before .before .before .before .before .before .before .before .before .before .before .before .step .ensures) (c .before .before .before .before .before .before .before .before .before .before .before .before .before .before .before .before .before .before .wide-at .ensures) (c .before .before .before .before .before .before .before .before .before .before .before .before .before .before .before .before .step2 .ensures) (c .before .before .before .before .before .before .before .before .before .before .before .before .before .before .before .copy .ensures .1) (c .before .before .before .before .before .before .before .before .before .inside .ensures .0) (c .before .before .before .before .before .before .before .before .before .inside .ensures .1 ∙ c .before .before .before .before .before .before .before .before .before .before .before .before .before .before .before .before .before .before .before .before .less .ensures) (runs-does (c .before .before .before .before .before .before .before .before .before .before .before .before .before .before .before .copy .ensures .0 _ _)) (told.items-own _ _ _ _ _ _ _ _ _ _ _ told.untold-viewed (c .before .before .before .before .before .before .before .before .seq .ensures))
 
 view-returns : (t : ℕ) → cycle.Lts-view.Need-returns (view-claims t) (at-measure view.Kinds.ps μ-view view.Reads.Pre t) view.Reads.Post
 view-returns t c = λ good. law.good-none _ _ _ (c .if1 .taken) good
@@ -1266,7 +1271,7 @@ view-returns-3 : (t : ℕ) → cycle.Lts-view.Need-returns-3 (view-claims t) (at
 view-returns-3 t c = c .before .before .before .before .before .before .va .ensures (sym (c .before .before .before .before .before .before .before .before .before .before .before .peek .ensures .value) ∙ c .before .before .before .before .before .before .before .before .before .before .match .keys2)
 
 view-returns-4 : (t : ℕ) → cycle.Lts-view.Need-returns-4 (view-claims t) (at-measure view.Kinds.ps μ-view view.Reads.Pre t) view.Reads.Post
-view-returns-4 t c = viewing.view-37 _ _ _ _ _ _ _ _ _ _ _ _ _ _ (c .before .before .before .before .before .before .before .before .before .before .before .before .before .before .before .before .before .before .before .before .before .before .before .before .before .before .before .before .before .peek .ensures) (c .before .before .before .before .before .before .before .before .before .before .before .before .before .before .before .before .before .before .before .before .before .before .before .before .before .before .before .before .match .keys3) (c .before .before .before .before .before .before .before .before .before .before .before .before .before .before .before .before .before .before .before .before .before .before .before .before .before .step .ensures) (c .before .before .before .before .before .before .before .before .before .before .before .before .before .before .before .before .before .before .before .before .before .before .before .before .copy .ensures .1) (c .before .before .before .before .before .before .before .before .before .before .before .before .before .before .before .before .before .before .inside .ensures .0) (c .before .before .before .before .before .before .before .before .before .before .before .before .before .before .before .before .before .before .inside .ensures .1 ∙ c .before .before .before .before .before .before .before .before .before .before .before .before .before .before .before .before .before .before .before .before .before .before .before .before .before .before .before .less .ensures) (c .before .before .before .before .before .before .before .inside2 .ensures .0) (c .before .before .before .before .before .before .before .inside2 .ensures .1 ∙ c .before .before .before .before .before .before .before .before .before .before .before .before .before .before .before .before .before .before .before .before .before .before .before .before .before .before .before .less .ensures) (c .before .before .before .before .before .before .before .before .before .before .before .before .before .before .before .before .before .before .before .before .before .before .before .before .copy .ensures .0 _ _) (c .before .before .before .before .before .before .before .before .before .before .before .before .before .before .before .before .before .view .ensures) (c .before .before .before .before .before .before .node .ensures)
+view-returns-4 t c = viewing.view-37 _ _ _ _ _ _ _ _ _ _ _ _ _ _ (c .before .before .before .before .before .before .before .before .before .before .before .before .before .before .before .before .before .before .before .before .before .before .before .before .before .before .before .before .before .peek .ensures) (c .before .before .before .before .before .before .before .before .before .before .before .before .before .before .before .before .before .before .before .before .before .before .before .before .before .before .before .before .match .keys3) (c .before .before .before .before .before .before .before .before .before .before .before .before .before .before .before .before .before .before .before .before .before .before .before .before .before .step .ensures) (c .before .before .before .before .before .before .before .before .before .before .before .before .before .before .before .before .before .before .before .before .before .before .before .before .copy .ensures .1) (c .before .before .before .before .before .before .before .before .before .before .before .before .before .before .before .before .before .before .inside .ensures .0) (c .before .before .before .before .before .before .before .before .before .before .before .before .before .before .before .before .before .before .inside .ensures .1 ∙ c .before .before .before .before .before .before .before .before .before .before .before .before .before .before .before .before .before .before .before .before .before .before .before .before .before .before .before .less .ensures) (c .before .before .before .before .before .before .before .inside2 .ensures .0) (c .before .before .before .before .before .before .before .inside2 .ensures .1 ∙ c .before .before .before .before .before .before .before .before .before .before .before .before .before .before .before .before .before .before .before .before .before .before .before .before .before .before .before .less .ensures) (runs-does (c .before .before .before .before .before .before .before .before .before .before .before .before .before .before .before .before .before .before .before .before .before .before .before .before .copy .ensures .0 _ _)) (c .before .before .before .before .before .before .before .before .before .before .before .before .before .before .before .before .before .view .ensures) (c .before .before .before .before .before .before .node .ensures)
 
 view-returns-5 : (t : ℕ) → cycle.Lts-view.Need-returns-5 (view-claims t) (at-measure view.Kinds.ps μ-view view.Reads.Pre t) view.Reads.Post
 view-returns-5 t c = viewing.view-other _ _ _ _ _ _ _ (c .before .before .before .before .before .before .before .before .before .before .before .peek .ensures) (c .before .before .before .before .before .before .before .before .before .before .match .rest .0 .0 .1) (c .before .before .before .before .before .before .before .before .before .before .match .rest .0 .1) (c .before .before .before .before .before .before .before .before .before .before .match .rest .1) (c .before .before .before .before .before .before .node2 .ensures)
@@ -1279,13 +1284,13 @@ vo-returns : (t : ℕ) → cycle.Lts-vo.Need-returns (vo-claims t) (at-measure v
 vo-returns t c = λ h good. law.good-none _ _ _ (c .if1 .taken) good
 
 vo-returns-2 : (t : ℕ) → cycle.Lts-vo.Need-returns-2 (vo-claims t) (at-measure vo.Kinds.ps μ-vo vo.Reads.Pre t) vo.Reads.Post
-vo-returns-2 t c = viewing.object-replaced _ _ _ _ _ _ _ _ _ (c .before .before .before .before .before .before .before .before .before .before .before .before .before .before .before .has-second .ensures) (c .before .before .before .before .before .before .before .before .before .before .before .before .before .before .if2 .taken) (c .before .before .before .before .before .before .before .before .before .before .before .before .before .replaces .ensures) (c .before .before .before .before .before .before .before .before .before .before .before .before .if3 .taken) (c .before .skip .ensures) (c .to .ensures .1) (c .to .ensures .0 _ _ _) (c .before .before .before .before .before .before .before .before .temporary .ensures .0)
+vo-returns-2 t c = viewing.object-replaced _ _ _ _ _ _ _ _ _ (c .before .before .before .before .before .before .before .before .before .before .before .before .before .before .before .has-second .ensures) (c .before .before .before .before .before .before .before .before .before .before .before .before .before .before .if2 .taken) (c .before .before .before .before .before .before .before .before .before .before .before .before .before .replaces .ensures) (c .before .before .before .before .before .before .before .before .before .before .before .before .if3 .taken) (c .before .skip .ensures) (c .to .ensures .1) (c .to .ensures .0 _ _ _) (runs-does (c .before .before .before .before .before .before .before .before .temporary .ensures .0))
 
 vo-returns-3 : (t : ℕ) → cycle.Lts-vo.Need-returns-3 (vo-claims t) (at-measure vo.Kinds.ps μ-vo vo.Reads.Pre t) vo.Reads.Post
-vo-returns-3 t c = viewing.object-rest _ _ _ _ _ _ _ _ _ _ _ _ _ _ _ _ _ (c .before .before .before .before .before .before .before .before .before .before .before .before .before .before .before .before .before .before .before .before .before .before .before .before .before .before .before .before .has-second .ensures) (c .before .before .if4 .taken) (⊎-elim (λ w. sym (w .1 .ensures) ∙ w .2 .left) (λ w. absurd (false≢true (sym (w .left) ∙ c .before .before .if4 .taken))) (c .before .before .before .before .before .before .before .before .before .before .before .before .before .before .before .before .before .before .before .before .before .before .before .before .before .before .before .if2 .came)) (c .before .before .before .before .before .before .before .before .before .before .before .before .before .before .before .before .before .before .before .before .before .before .before .before .before .before .step .ensures) (c .before .before .before .before .before .before .before .before .before .before .before .before .before .before .before .before .before .before .before .before .before .before .before .before .before .wide-at .ensures) (c .before .before .before .before .before .before .before .before .before .before .before .before .before .before .before .before .step2 .ensures) (c .before .before .before .before .before .before .before .before .before .before .before .before .before .before .before .to2 .ensures .1) (c .before .before .before .before .before .before .before .before .before .before .before .inside .ensures .0) (c .before .before .before .before .before .before .before .before .before .before .before .inside .ensures .1 ∙ c .before .before .before .before .before .before .before .before .before .before .before .before .before .before .before .before .before .before .before .before .before .before .before .before .before .before .before .before .before .less .ensures) (c .before .before .before .before .before .before .before .before .before .before .before .before .before .before .before .before .before .before .before .before .before .before .before .before .before .before .before .before .before .less .ensures) (c .before .before .before .before .before .before .before .before .before .before .property-mode .ensures) (c .before .before .before .before .before .before .before .before .before .before .before .before .before .before .before .to2 .ensures .0 _ _ _) (c .before .before .before .before .before .before .before .before .before .before .before .before .before .before .before .before .before .before .before .before .before .before .before .put2 .ensures .0 _ _) (c .before .before .before .before .before .before .before .before .before .before .before .before .before .before .before .before .before .before .before .wide .ensures .0 _ _) (told.items-own _ _ _ _ _ _ _ _ _ _ _ (view-untold _ _ _ (c .before .before .before .before .before .before .before .before .before .before .before .before .before .before .before .before .before .before .before .before .before .before .before .before .before .before .before .before .has-second .ensures) (c .before .before .before .before .before .before .before .before .before .before .property-mode .ensures)) (c .before .before .before .before .before .before .before .before .before .seq .ensures)) (c .before .skip2 .ensures) (c .to3 .ensures .1) (c .to3 .ensures .0 _ _ _)
+vo-returns-3 t c = viewing.object-rest _ _ _ _ _ _ _ _ _ _ _ _ _ _ _ _ _ (c .before .before .before .before .before .before .before .before .before .before .before .before .before .before .before .before .before .before .before .before .before .before .before .before .before .before .before .before .has-second .ensures) (c .before .before .if4 .taken) (⊎-elim (λ w. sym (w .1 .ensures) ∙ w .2 .left) (λ w. absurd (false≢true (sym (w .left) ∙ c .before .before .if4 .taken))) (c .before .before .before .before .before .before .before .before .before .before .before .before .before .before .before .before .before .before .before .before .before .before .before .before .before .before .before .if2 .came)) (c .before .before .before .before .before .before .before .before .before .before .before .before .before .before .before .before .before .before .before .before .before .before .before .before .before .before .step .ensures) (c .before .before .before .before .before .before .before .before .before .before .before .before .before .before .before .before .before .before .before .before .before .before .before .before .before .wide-at .ensures) (c .before .before .before .before .before .before .before .before .before .before .before .before .before .before .before .before .step2 .ensures) (c .before .before .before .before .before .before .before .before .before .before .before .before .before .before .before .to2 .ensures .1) (c .before .before .before .before .before .before .before .before .before .before .before .inside .ensures .0) (c .before .before .before .before .before .before .before .before .before .before .before .inside .ensures .1 ∙ c .before .before .before .before .before .before .before .before .before .before .before .before .before .before .before .before .before .before .before .before .before .before .before .before .before .before .before .before .before .less .ensures) (c .before .before .before .before .before .before .before .before .before .before .before .before .before .before .before .before .before .before .before .before .before .before .before .before .before .before .before .before .before .less .ensures) (c .before .before .before .before .before .before .before .before .before .before .property-mode .ensures) (c .before .before .before .before .before .before .before .before .before .before .before .before .before .before .before .to2 .ensures .0 _ _ _) (runs-does (c .before .before .before .before .before .before .before .before .before .before .before .before .before .before .before .before .before .before .before .before .before .before .before .put2 .ensures .0 _ _)) (steps.does-wide _ (c .before .before .before .before .before .before .before .before .before .before .before .before .before .before .before .before .before .before .before .wide .ensures .0 _ _)) (told.items-own _ _ _ _ _ _ _ _ _ _ _ (view-untold _ _ _ (c .before .before .before .before .before .before .before .before .before .before .before .before .before .before .before .before .before .before .before .before .before .before .before .before .before .before .before .before .has-second .ensures) (c .before .before .before .before .before .before .before .before .before .before .property-mode .ensures)) (c .before .before .before .before .before .before .before .before .before .seq .ensures)) (c .before .skip2 .ensures) (c .to3 .ensures .1) (c .to3 .ensures .0 _ _ _)
 
 vo-returns-4 : (t : ℕ) → cycle.Lts-vo.Need-returns-4 (vo-claims t) (at-measure vo.Kinds.ps μ-vo vo.Reads.Pre t) vo.Reads.Post
-vo-returns-4 t c = viewing.object-plain _ _ _ _ _ _ _ _ _ _ _ _ _ _ (c .before .before .before .before .before .before .before .before .before .before .before .before .before .before .before .before .before .before .before .before .before .before .before .before .before .before .has-second .ensures) (c .if4 .left) (c .before .before .before .before .before .before .before .before .before .before .before .before .before .before .before .before .before .before .before .before .before .before .before .before .step .ensures) (c .before .before .before .before .before .before .before .before .before .before .before .before .before .before .before .before .before .before .before .before .before .before .before .wide-at .ensures) (c .before .before .before .before .before .before .before .before .before .before .before .before .before .before .step2 .ensures) (c .before .before .before .before .before .before .before .before .before .before .before .before .before .to2 .ensures .1) (c .before .before .before .before .before .before .before .before .before .inside .ensures .0) (c .before .before .before .before .before .before .before .before .before .inside .ensures .1 ∙ c .before .before .before .before .before .before .before .before .before .before .before .before .before .before .before .before .before .before .before .before .before .before .before .before .before .before .before .less .ensures) (c .before .before .before .before .before .before .before .before .property-mode .ensures) (c .before .before .before .before .before .before .before .before .before .before .before .before .before .to2 .ensures .0 _ _ _) (c .before .before .before .before .before .before .before .before .before .before .before .before .before .before .before .before .before .before .before .before .before .put2 .ensures .0 _ _) (c .before .before .before .before .before .before .before .before .before .before .before .before .before .before .before .before .before .wide .ensures .0 _ _) (told.items-own _ _ _ _ _ _ _ _ _ _ _ (view-untold _ _ _ (c .before .before .before .before .before .before .before .before .before .before .before .before .before .before .before .before .before .before .before .before .before .before .before .before .before .before .has-second .ensures) (c .before .before .before .before .before .before .before .before .property-mode .ensures)) (c .before .before .before .before .before .before .before .seq .ensures))
+vo-returns-4 t c = viewing.object-plain _ _ _ _ _ _ _ _ _ _ _ _ _ _ (c .before .before .before .before .before .before .before .before .before .before .before .before .before .before .before .before .before .before .before .before .before .before .before .before .before .before .has-second .ensures) (c .if4 .left) (c .before .before .before .before .before .before .before .before .before .before .before .before .before .before .before .before .before .before .before .before .before .before .before .before .step .ensures) (c .before .before .before .before .before .before .before .before .before .before .before .before .before .before .before .before .before .before .before .before .before .before .before .wide-at .ensures) (c .before .before .before .before .before .before .before .before .before .before .before .before .before .before .step2 .ensures) (c .before .before .before .before .before .before .before .before .before .before .before .before .before .to2 .ensures .1) (c .before .before .before .before .before .before .before .before .before .inside .ensures .0) (c .before .before .before .before .before .before .before .before .before .inside .ensures .1 ∙ c .before .before .before .before .before .before .before .before .before .before .before .before .before .before .before .before .before .before .before .before .before .before .before .before .before .before .before .less .ensures) (c .before .before .before .before .before .before .before .before .property-mode .ensures) (c .before .before .before .before .before .before .before .before .before .before .before .before .before .to2 .ensures .0 _ _ _) (runs-does (c .before .before .before .before .before .before .before .before .before .before .before .before .before .before .before .before .before .before .before .before .before .put2 .ensures .0 _ _)) (steps.does-wide _ (c .before .before .before .before .before .before .before .before .before .before .before .before .before .before .before .before .before .wide .ensures .0 _ _)) (told.items-own _ _ _ _ _ _ _ _ _ _ _ (view-untold _ _ _ (c .before .before .before .before .before .before .before .before .before .before .before .before .before .before .before .before .before .before .before .before .before .before .before .before .before .before .has-second .ensures) (c .before .before .before .before .before .before .before .before .property-mode .ensures)) (c .before .before .before .before .before .before .before .seq .ensures))
 
 add-spec : {M : Type 1} (t : ℕ) → cycle.Lts-add.Closed (add-claims t) (at-measure add.Kinds.ps μ-add add.Reads.Pre t) add.Reads.Post M
 add-spec t = cycle.Lts-add.spec (add-claims t) (at-measure add.Kinds.ps μ-add add.Reads.Pre t) add.Reads.Post

@@ -1,3 +1,4 @@
+use Rattle.walk.proofs.Running.{runs-does}
 use borrow.Author.Needs.{needs}
 use mathlib.Core.Path.{_≡_, refl, sym, _∙_}
 use mathlib.Core.Bool.{true, false}
@@ -59,13 +60,13 @@ makes-returns : (t : ℕ) → cycle.Lts-makes.Need-returns (makes-claims t) (at-
 makes-returns t c = (refl, λ o l g. good-none _ _ _ (c .if1 .taken) g)
 
 makes-returns-2 : (t : ℕ) → cycle.Lts-makes.Need-returns-2 (makes-claims t) (at-measure makes.Kinds.ps μ-makes makes.Reads.Pre t) makes.Reads.Post
-makes-returns-2 t c = (c .before .before .make .ensures .1, λ o l g. law.makes-34 _ _ _ _ (c .before .before .before .before .before .peek .ensures .value) (c .before .before .before .before .match .keys1) (c .before .before .make .ensures .0 o l) g)
+makes-returns-2 t c = (c .before .before .make .ensures .1, λ o l g. law.makes-34 _ _ _ _ (c .before .before .before .before .before .peek .ensures .value) (c .before .before .before .before .match .keys1) (runs-does (c .before .before .make .ensures .0 o l)) g)
 
 makes-returns-3 : (t : ℕ) → cycle.Lts-makes.Need-returns-3 (makes-claims t) (at-measure makes.Kinds.ps μ-makes makes.Reads.Pre t) makes.Reads.Post
 makes-returns-3 t c = (c .before .before .makes-array .ensures .0, λ o l g. c .before .before .makes-array .ensures .1 o l g (sym (c .before .before .before .before .before .peek .ensures .value) ∙ c .before .before .before .before .match .keys2))
 
 makes-returns-4 : (t : ℕ) → cycle.Lts-makes.Need-returns-4 (makes-claims t) (at-measure makes.Kinds.ps μ-makes makes.Reads.Pre t) makes.Reads.Post
-makes-returns-4 t c = (c .before .before .make2 .ensures .1, λ o l g. law.makes-37 _ _ _ _ (c .before .before .before .before .before .peek .ensures .value) (c .before .before .before .before .match .keys3) (c .before .before .make2 .ensures .0 o l) g)
+makes-returns-4 t c = (c .before .before .make2 .ensures .1, λ o l g. law.makes-37 _ _ _ _ (c .before .before .before .before .before .peek .ensures .value) (c .before .before .before .before .match .keys3) (runs-does (c .before .before .make2 .ensures .0 o l)) g)
 
 makes-returns-5 : (t : ℕ) → cycle.Lts-makes.Need-returns-5 (makes-claims t) (at-measure makes.Kinds.ps μ-makes makes.Reads.Pre t) makes.Reads.Post
 makes-returns-5 t c = (refl, λ o l g. law.makes-nothing _ _ _ _ (c .before .peek .ensures .value) (c .match .rest .0 .0 .1) (c .match .rest .0 .1) (c .match .rest .1) g)

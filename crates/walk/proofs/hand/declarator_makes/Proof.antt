@@ -1,3 +1,4 @@
+use Rattle.walk.proofs.Running.{runs-does}
 use mathlib.Core.Path.{refl, _∙_}
 use Rattle.walk.proofs.HandRules as law
 use borrow.Author.Needs.{needs}
@@ -10,7 +11,7 @@ returns c = (c .before .before .before .before .pattern-makes .ensures .0, λ o.
 returns-2 : tie.Need-returns-2
 returns-2 c = (
   c .before .before .before .before .pattern-makes2 .ensures .0 ∙ c .before .before .before .before .before .before .before .before .before .make .ensures .1,
-  λ o. law.declarator-valued _ _ _ _ (c .before .before .before .before .before .before .before .before .before .before .before .before .before .before .before .before .before .before .is-lowered .ensures) _ _ (c .before .before .before .before .before .before .before .before .before .before .before .before .before .before .before .before .less .ensures) (c .before .before .before .before .before .before .before .before .before .before .before .before .before .before .before .step .ensures) (c .before .before .before .before .before .before .before .before .before .before .before .before .before .before .before .before .before .if1 .taken) _ _ _ (c .before .before .before .before .before .before .before .before .before .before .before .before .before .before .skip .ensures) (c .before .before .before .before .before .before .before .before .before .before .before .before .before .is-name .ensures) (c .before .before .before .before .before .before .before .before .before .before .before .before .if2 .left) (c .before .before .before .before .before .before .before .before .before .before .cell .ensures) (c .before .before .before .before .before .before .before .before .before .make .ensures .0 o _) (c .before .before .before .before .pattern-makes2 .ensures .1 o),
+  λ o. law.declarator-valued _ _ _ _ (c .before .before .before .before .before .before .before .before .before .before .before .before .before .before .before .before .before .before .is-lowered .ensures) _ _ (c .before .before .before .before .before .before .before .before .before .before .before .before .before .before .before .before .less .ensures) (c .before .before .before .before .before .before .before .before .before .before .before .before .before .before .before .step .ensures) (c .before .before .before .before .before .before .before .before .before .before .before .before .before .before .before .before .before .if1 .taken) _ _ _ (c .before .before .before .before .before .before .before .before .before .before .before .before .before .before .skip .ensures) (c .before .before .before .before .before .before .before .before .before .before .before .before .before .is-name .ensures) (c .before .before .before .before .before .before .before .before .before .before .before .before .if2 .left) (c .before .before .before .before .before .before .before .before .before .before .cell .ensures) (runs-does (c .before .before .before .before .before .before .before .before .before .make .ensures .0 o _)) (c .before .before .before .before .pattern-makes2 .ensures .1 o),
 )
 
 returns-3 : tie.Need-returns-3

@@ -1,3 +1,4 @@
+use Rattle.walk.proofs.Running.{runs-does}
 use mathlib.Core.Path.{_∙_}
 use Rattle.walk.proofs.HandKeys as law
 use borrow.Author.Needs.{needs}
@@ -5,7 +6,7 @@ use Rattle.walk.proofs.hand.object.Statement.{statement}
 use Rattle.walk.proofs.hand.object.Tie as tie
 
 returns : tie.Need-returns
-returns c = (c .before .before .make .ensures .1, λ o g k. law.object-made _ _ _ _ (c .before .before .before .before .match .keys1) (c .before .before .make .ensures .0 o _))
+returns c = (c .before .before .make .ensures .1, λ o g k. law.object-made _ _ _ _ (c .before .before .before .before .match .keys1) (runs-does (c .before .before .make .ensures .0 o _)))
 
 returns-2 : tie.Need-returns-2
 returns-2 c = (c .before .before .before .before .each-key .ensures .0, λ o g k. law.object-keys _ _ _ _ (c .before .before .before .before .before .before .before .match .keys2) (c .before .before .before .before .each-key .ensures .1 o g k))

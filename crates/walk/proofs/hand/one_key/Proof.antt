@@ -1,3 +1,4 @@
+use Rattle.walk.proofs.Running.{runs-does}
 use mathlib.Core.Path.{refl, _∙_}
 use Rattle.walk.proofs.HandKeys as law
 use borrow.Author.Needs.{needs}
@@ -8,12 +9,12 @@ returns : tie.Need-returns
 returns c = (c .before .before .exclude-key .ensures .0, λ o. law.key-excluded _ _ _ _ _ _ (c .before .before .before .before .before .before .less .ensures) (c .before .before .before .before .before .step .ensures) (c .before .before .before .before .if1 .taken) (c .before .before .exclude-key .ensures .1 o _))
 
 returns-2 : tie.Need-returns-2
-returns-2 c = (c .before .before .make .ensures .1, λ o. law.key-made _ _ _ _ _ _ (c .before .before .before .before .before .before .before .before .before .less .ensures) (c .before .before .before .before .before .before .before .before .step .ensures) _ (c .before .before .before .before .before .before .is-other .ensures) (c .before .before .before .before .before .if2 .taken) (c .before .before .before .before .if3 .taken) (c .before .before .make .ensures .0 o _))
+returns-2 c = (c .before .before .make .ensures .1, λ o. law.key-made _ _ _ _ _ _ (c .before .before .before .before .before .before .before .before .before .less .ensures) (c .before .before .before .before .before .before .before .before .step .ensures) _ (c .before .before .before .before .before .before .is-other .ensures) (c .before .before .before .before .before .if2 .taken) (c .before .before .before .before .if3 .taken) (runs-does (c .before .before .make .ensures .0 o _)))
 
 returns-3 : tie.Need-returns-3
 returns-3 c = (
   c .before .before .listed-copy .ensures .1 ∙ c .before .before .before .before .before .before .before .before .before .listed-temporary .ensures .1 ∙ c .before .before .before .before .before .before .before .before .before .before .before .before .before .before .listed2 .ensures .1,
-  λ o. law.key-listed _ _ _ _ _ _ (c .before .before .before .before .before .before .before .before .before .before .before .before .before .before .before .before .before .before .before .before .before .less .ensures) (c .before .before .before .before .before .before .before .before .before .before .before .before .before .before .before .before .before .before .before .before .step .ensures) _ _ (c .before .before .before .before .before .before .before .before .before .before .before .before .before .before .before .before .before .before .is-other .ensures) (c .before .before .before .before .before .before .before .before .before .before .before .before .before .before .before .before .before .if2 .taken) (c .before .before .before .before .before .before .before .before .before .before .before .before .before .before .before .before .before .before .before .if1 .left) (c .before .before .before .before .before .before .before .before .before .before .before .before .before .before .before .before .if3 .left) (c .before .before .before .skip .ensures) (c .before .before .before .before .before .before .before .before .before .before .before .before .before .before .listed2 .ensures .0 o _) (c .before .before .before .before .before .before .before .before .before .listed-temporary .ensures .0 o) (c .before .before .listed-copy .ensures .0 o _),
+  λ o. law.key-listed _ _ _ _ _ _ (c .before .before .before .before .before .before .before .before .before .before .before .before .before .before .before .before .before .before .before .before .before .less .ensures) (c .before .before .before .before .before .before .before .before .before .before .before .before .before .before .before .before .before .before .before .before .step .ensures) _ _ (c .before .before .before .before .before .before .before .before .before .before .before .before .before .before .before .before .before .before .is-other .ensures) (c .before .before .before .before .before .before .before .before .before .before .before .before .before .before .before .before .before .if2 .taken) (c .before .before .before .before .before .before .before .before .before .before .before .before .before .before .before .before .before .before .before .if1 .left) (c .before .before .before .before .before .before .before .before .before .before .before .before .before .before .before .before .if3 .left) (c .before .before .before .skip .ensures) (runs-does (c .before .before .before .before .before .before .before .before .before .before .before .before .before .before .listed2 .ensures .0 o _)) (runs-does (c .before .before .before .before .before .before .before .before .before .listed-temporary .ensures .0 o)) (runs-does (c .before .before .listed-copy .ensures .0 o _)),
 )
 
 returns-4 : tie.Need-returns-4

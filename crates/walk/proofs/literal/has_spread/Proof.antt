@@ -1,5 +1,3 @@
-use mathlib.Core.Bool.{false≢true}
-use native.Mathlib.Omega.{arith}
 use mathlib.Core.Path.{refl}
 use Rattle.walk.proofs.Heads as law
 use borrow.Author.Needs.{needs}
@@ -7,13 +5,13 @@ use Rattle.walk.proofs.literal.has_spread.Statement.{statement}
 use Rattle.walk.proofs.literal.has_spread.Tie as tie
 
 returns : tie.Need-returns
-returns c = ((λ e. absurd (false≢true e)), λ h. law.literal-none _ _ _ (c .if1 .taken))
+returns c = law.spreads-none _ _ _ (c .if1 .taken)
 
 returns-2 : tie.Need-returns-2
-returns-2 c = ((λ e. omega (arith, c .before .before .before .before .before .before .if1 .left)), λ h. law.literal-runs _ _ _ _ _ _ _ _ (c .before .before .before .before .before .before .if1 .left) _ (c .before .before .before .before .before .has-first .ensures) (c .before .before .before .before .if2 .taken) (c .before .before .before .step .ensures) (c .before .step2 .ensures) (c .before .before .wide-at .ensures) refl (c .run-of .ensures) h)
+returns-2 c = law.spreads-runs _ _ _ _ _ _ _ _ (c .before .before .before .before .before .before .if1 .left) _ (c .before .before .before .before .before .has-first .ensures) (c .before .before .before .before .if2 .taken) (c .before .before .before .step .ensures) (c .before .step2 .ensures) (c .before .before .wide-at .ensures) refl (c .run-of .ensures)
 
 returns-3 : tie.Need-returns-3
-returns-3 c = ((λ e. absurd (false≢true e)), λ h. law.literal-bare _ _ _ (c .before .before .if1 .left) h _ (c .before .has-first .ensures) (c .if2 .left))
+returns-3 c = law.spreads-bare _ _ _ (c .before .before .if1 .left) _ (c .before .has-first .ensures) (c .if2 .left)
 
 pub has-spread-spec : {M : Type 1} → statement M
 has-spread-spec =

@@ -1,4 +1,3 @@
-use native.Mathlib.Omega.{arith}
 use mathlib.Core.Path.{refl}
 use Rattle.walk.proofs.Heads as law
 use borrow.Author.Needs.{needs}
@@ -6,10 +5,10 @@ use Rattle.walk.proofs.literal.head_at.Statement.{statement}
 use Rattle.walk.proofs.literal.head_at.Tie as tie
 
 returns : tie.Need-returns
-returns c = ((λ l k. law.head-four _ _ _ (c .before .before .before .before .before .before .is-spread .ensures) (c .before .before .before .before .before .if1 .taken) (c .before .before .before .before .if2 .taken) (c .before .before .call .ensures .0 l k (omega arith))), c .before .before .call .ensures .1)
+returns c = ((λ l k. law.head-four _ _ _ (c .before .before .before .before .before .before .is-spread .ensures) (c .before .before .before .before .before .if1 .taken) (c .before .before .before .before .if2 .taken) (c .before .before .call .ensures .0 l k)), c .before .before .call .ensures .1)
 
 returns-2 : tie.Need-returns-2
-returns-2 c = ((λ l k. law.head-two _ _ _ (c .before .before .before .before .before .before .is-spread .ensures) (c .before .before .before .before .before .if1 .taken) (c .before .before .before .before .if2 .left) (c .before .before .call2 .ensures .0 l k (omega arith))), c .before .before .call2 .ensures .1)
+returns-2 c = ((λ l k. law.head-two _ _ _ (c .before .before .before .before .before .before .is-spread .ensures) (c .before .before .before .before .before .if1 .taken) (c .before .before .before .before .if2 .left) (c .before .before .call2 .ensures .0 l k)), c .before .before .call2 .ensures .1)
 
 returns-3 : tie.Need-returns-3
 returns-3 c = ((λ l k. law.head-none _ _ _ (c .before .is-spread .ensures) (c .if1 .left)), refl)

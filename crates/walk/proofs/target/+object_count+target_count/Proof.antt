@@ -2,13 +2,11 @@ use mathlib.Core.Bool.{true}
 use mathlib.Core.Logic.{⊎-elim}
 use mathlib.Core.Path.{_≡_, refl, sym, _∙_}
 use native.Mathlib.Omega.{arith}
-use Rattle.tree.specs.Read.{byteAt}
-use Rattle.pattern.proofs.CountsFit.{limited-below}
 use Rattle.pattern.proofs.Places as places
 use Rattle.pattern.proofs.Searches as search
 use Rattle.walk.specs.Turns.{reachOf}
 use Rattle.walk.proofs.TargetCounts as law
-use Prim.Native.Nat.{ℕ, _+_, _*_, _≤_}
+use Prim.Native.Nat.{ℕ, _+_, _*_}
 use borrow.Fn.PlainCycle.{Measures}
 use Rattle.tree.proofs.Cycle.{at-measure, below-measure}
 use Rattle.walk.proofs.target.object_count.Reads as object-count
@@ -45,16 +43,16 @@ target-count-claims t = (peek-reads.Asked, peek-reads.Learnt, stands-reads.Asked
 -- ---- the values of an object
 
 abbrev object-count-Inv-loop : object-count-lts.InvT-loop
-object-count-Inv-loop t left at reach below n₀ p₀ k₀ n p k = (byteAt t at ≡ 34 → law.ValuesLeft t (reachOf reach) left at below n p k) × (k ≤ 65536)
+object-count-Inv-loop t left at reach below n₀ p₀ k₀ n p k = law.ValuesLeft t (reachOf reach) left at below n p k
 
 abbrev object-count-μ-loop : object-count-lts.MeasureT-loop
 object-count-μ-loop t left at reach below n₀ p₀ k₀ n p k = n
 
 object-count-returns : (t : ℕ) → object-count-lts.Need-returns (object-count-claims t) (at-measure object-count-kinds.ps μ-object-count object-count.Pre t) object-count.Post object-count-Inv-loop object-count-μ-loop
-object-count-returns t c = (λ k. law.inside-none _ _ _ _ (c .if1 .taken), omega arith)
+object-count-returns t c = law.inside-none _ _ _ _ (c .if1 .taken)
 
 object-count-loop-holds : (t : ℕ) → object-count-lts.Need-loop-holds (object-count-claims t) (at-measure object-count-kinds.ps μ-object-count object-count.Pre t) object-count.Post object-count-Inv-loop object-count-μ-loop
-object-count-loop-holds t c = (λ k. law.values-start _ _ _ _ _ k (c .list .ensures), omega arith)
+object-count-loop-holds t c = law.values-start _ _ _ _ _ (c .list .ensures)
 
 object-count-target-count-requires : (t : ℕ) → object-count-lts.Need-target-count-requires (object-count-claims t) (at-measure object-count-kinds.ps μ-object-count object-count.Pre t) object-count.Post object-count-Inv-loop object-count-μ-loop
 object-count-target-count-requires t c κs = (let h = search.value-falls _ _ _ _ (c .before .before .before .before .before .before .if1 .left) (c .before .before .value .ensures) in omega (arith, c .before .before .before .before .before .before .before .before .pre .0), tt)
@@ -62,18 +60,12 @@ object-count-target-count-requires t c κs = (let h = search.value-falls _ _ _ _
 object-count-loop-again : (t : ℕ) → object-count-lts.Need-loop-again (object-count-claims t) (at-measure object-count-kinds.ps μ-object-count object-count.Pre t) object-count.Post object-count-Inv-loop object-count-μ-loop
 object-count-loop-again t c =
     ⊎-elim
-    (λ w. rw (w .3) (
-      λ k. law.values-more _ _ _ _ _ _ _ _ _ _ _ _ (c .before .before .before .before .loop-test .taken) (c .before .before .before .value .ensures) (w .1 .ensures) (c .skip .ensures) (w .2 .ensures) (c .before .before .before .before .before .loop .inv .0 k),
-      limited-below _ _ (w .2 .ensures),
-    ))
-    (λ w. rw (w .1) (
-      λ k. law.values-passed _ _ _ _ _ _ _ _ _ _ _ (c .before .before .before .before .loop-test .taken) (c .before .before .before .value .ensures) (c .before .before .peek .ensures .value) (w .0 .left) (c .skip .ensures) (c .before .before .before .before .before .loop .inv .0 k),
-      c .before .before .before .before .before .loop .inv .1,
-    ))
+    (λ w. rw (w .3) (law.values-more _ _ _ _ _ _ _ _ _ _ _ _ (c .before .before .before .before .loop-test .taken) (c .before .before .before .value .ensures) (w .1 .ensures) (c .skip .ensures) (w .2 .ensures) (c .before .before .before .before .before .loop .inv)))
+    (λ w. rw (w .1) (law.values-passed _ _ _ _ _ _ _ _ _ _ _ (c .before .before .before .before .loop-test .taken) (c .before .before .before .value .ensures) (c .before .before .peek .ensures .value) (w .0 .left) (c .skip .ensures) (c .before .before .before .before .before .loop .inv)))
     (c .before .if2 .came)
 
 object-count-returns-2 : (t : ℕ) → object-count-lts.Need-returns-2 (object-count-claims t) (at-measure object-count-kinds.ps μ-object-count object-count.Pre t) object-count.Post object-count-Inv-loop object-count-μ-loop
-object-count-returns-2 t c = (λ k. law.values-end _ _ _ _ _ _ _ _ (c .loop-test .left) (c .before .loop .inv .0 k), c .before .loop .inv .1)
+object-count-returns-2 t c = law.values-end _ _ _ _ _ _ _ _ (c .loop-test .left) (c .before .loop .inv)
 
 -- ---- a target
 
@@ -108,7 +100,7 @@ target-count-target-count-requires-2 : (t : ℕ) → target-count-lts.Need-targe
 target-count-target-count-requires-2 t c κs = (let h = places.child-falls _ _ _ 0 _ (c .before .before .before .if1 .left) (c .child .ensures) in omega (arith, c .before .before .before .before .before .pre .0), tt)
 
 target-count-returns-4 : (t : ℕ) → target-count-lts.Need-returns-4 (target-count-claims t) (at-measure target-count-kinds.ps μ-target-count target-count.Pre t) target-count.Post target-count-Inv-loop target-count-μ-loop
-target-count-returns-4 t c = law.count-values _ _ _ _ _ (c .before .before .before .before .before .if1 .left) (c .before .before .before .before .peek .ensures .value) _ _ (c .before .before .before .match .keys1) (c .before .before .stands .ensures) (c .before .if2 .left) (c .object-count .ensures .0 (sym (c .before .before .before .before .peek .ensures .value) ∙ c .before .before .before .match .keys1))
+target-count-returns-4 t c = law.count-values _ _ _ _ _ (c .before .before .before .before .before .if1 .left) (c .before .before .before .before .peek .ensures .value) _ _ (c .before .before .before .match .keys1) (c .before .before .stands .ensures) (c .before .if2 .left) (c .object-count .ensures ∙ law.values-object _ _ _ _ (sym (c .before .before .before .before .peek .ensures .value) ∙ c .before .before .before .match .keys1))
 
 target-count-returns-5 : (t : ℕ) → target-count-lts.Need-returns-5 (target-count-claims t) (at-measure target-count-kinds.ps μ-target-count target-count.Pre t) target-count.Post target-count-Inv-loop target-count-μ-loop
 target-count-returns-5 t c = law.items-end _ _ _ _ _ _ _ _ (c .loop-test .left) (c .before .loop .inv)

@@ -1,3 +1,4 @@
+use Rattle.walk.proofs.Running.{runs-does}
 use borrow.Author.Needs.{needs}
 use mathlib.Core.Path.{_≡_, refl, sym, _∙_}
 use mathlib.Core.Bool.{Bool, true, false}
@@ -90,7 +91,7 @@ object-returns : (t : ℕ) → cycle.Lts-target_object.Need-returns (object-clai
 object-returns t c = (refl, λ o g k. law.object-passed _ _ _ _ _ (c .before .before .has-second .ensures) (c .before .if1 .taken) (c .if2 .taken) g k)
 
 object-returns-2 : (t : ℕ) → cycle.Lts-target_object.Need-returns-2 (object-claims t) (at-measure target-object.Kinds.ps μ-object target-object.Reads.Pre t) target-object.Reads.Post object-Inv-loop object-μ-loop
-object-returns-2 t c = (c .before .before .before .before .listed-temporary .ensures .1 ∙ c .before .before .before .before .before .before .before .before .before .listed2 .ensures .1, λ o g k. law.object-found _ _ _ _ _ (c .before .before .before .before .before .before .before .before .before .before .before .before .before .has-second .ensures) (c .before .before .before .before .before .before .before .before .before .before .before .before .if1 .taken) (c .before .before .before .before .before .before .before .before .before .before .before .if2 .left) (c .before .before .before .before .before .before .before .before .before .listed2 .ensures .0 o _) (c .before .before .before .before .listed-temporary .ensures .0 o) g k)
+object-returns-2 t c = (c .before .before .before .before .listed-temporary .ensures .1 ∙ c .before .before .before .before .before .before .before .before .before .listed2 .ensures .1, λ o g k. law.object-found _ _ _ _ _ (c .before .before .before .before .before .before .before .before .before .before .before .before .before .has-second .ensures) (c .before .before .before .before .before .before .before .before .before .before .before .before .if1 .taken) (c .before .before .before .before .before .before .before .before .before .before .before .if2 .left) (runs-does (c .before .before .before .before .before .before .before .before .before .listed2 .ensures .0 o _)) (runs-does (c .before .before .before .before .listed-temporary .ensures .0 o)) g k)
 
 object-returns-3 : (t : ℕ) → cycle.Lts-target_object.Need-returns-3 (object-claims t) (at-measure target-object.Kinds.ps μ-object target-object.Reads.Pre t) target-object.Reads.Post object-Inv-loop object-μ-loop
 object-returns-3 t c = (refl, λ o g k. law.object-bare _ _ _ _ _ (c .before .before .has-second .ensures) (c .before .if1 .left) (c .if3 .taken) g k)

@@ -5,7 +5,7 @@ use Rattle.walk.proofs.walk.Walk.block.Statement.{statement}
 use Rattle.walk.proofs.walk.Walk.block.Tie as tie
 
 returns : tie.Need-returns
-returns c = ((λ l w h. steps.by-block _ _ _ _ _ _ h (c .before .before .before .before .before .before .before .before .before .before .put2 .ensures l w) (c .before .before .before .before .before .before .new-mark .ensures l w) (c .before .before .put-wide .ensures l w)), refl)
+returns c = ((λ l w. steps.by-block _ _ _ _ _ _ (c .before .before .before .before .before .before .before .before .before .before .put2 .ensures l w) (c .before .before .before .before .before .before .new-mark .ensures l w) (c .before .before .put-wide .ensures l w)), refl)
 
 pub block-spec : {M : Type 1} → statement M
 block-spec =

@@ -5,7 +5,7 @@ use Rattle.walk.proofs.walk.Walk.call.Statement.{statement}
 use Rattle.walk.proofs.walk.Walk.call.Tie as tie
 
 returns : tie.Need-returns
-returns c = (((λ l w h. law.by-call _ _ _ _ _ _ _ h (c .before .before .before .before .before .before .before .before .before .before .put2 .ensures l w) (c .before .before .before .before .before .before .helper .ensures l w) (c .before .before .put-wide .ensures l w))), refl)
+returns c = (((λ l w. law.by-call _ _ _ _ _ _ _ (c .before .before .before .before .before .before .before .before .before .before .put2 .ensures l w) (c .before .before .before .before .before .before .helper .ensures l w) (c .before .before .put-wide .ensures l w))), refl)
 
 pub call-spec : {M : Type 1} → statement M
 call-spec =

@@ -5,7 +5,7 @@ use Rattle.walk.proofs.walk.Walk.declaration.Statement.{statement}
 use Rattle.walk.proofs.walk.Walk.declaration.Tie as tie
 
 returns : tie.Need-returns
-returns c = ((λ l w h. steps.by-declaration _ _ _ _ _ _ _ _ h (c .before .before .before .before .before .before .before .before .before .before .before .before .before .before .put2 .ensures l w) (c .before .before .before .before .before .before .before .before .before .before .new-mark .ensures l w) (c .before .before .before .before .before .before .put .ensures l w) (c .before .before .put-wide .ensures l w)), refl)
+returns c = ((λ l w. steps.by-declaration _ _ _ _ _ _ _ _ (c .before .before .before .before .before .before .before .before .before .before .before .before .before .before .put2 .ensures l w) (c .before .before .before .before .before .before .before .before .before .before .new-mark .ensures l w) (c .before .before .before .before .before .before .put .ensures l w) (c .before .before .put-wide .ensures l w)), refl)
 
 pub declaration-spec : {M : Type 1} → statement M
 declaration-spec =

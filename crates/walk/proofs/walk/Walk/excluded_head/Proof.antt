@@ -5,7 +5,7 @@ use Rattle.walk.proofs.walk.Walk.excluded_head.Statement.{statement}
 use Rattle.walk.proofs.walk.Walk.excluded_head.Tie as tie
 
 returns : tie.Need-returns
-returns c = ((λ o l h. steps.by-excluded-head _ _ _ _ _ _ _ _ h (c .before .before .before .before .before .before .before .before .before .before .before .before .before .before .declarator .ensures o l) (c .before .before .before .before .before .before .before .before .before .before .excluded-temporary .ensures o l) (c .before .before .before .before .before .before .excluded2 .ensures o l) (c .before .before .excluded-wide .ensures o l)), refl)
+returns c = ((λ o l. steps.by-excluded-head _ _ _ _ _ _ _ _ (c .before .before .before .before .before .before .before .before .before .before .before .before .before .before .declarator .ensures o l) (c .before .before .before .before .before .before .before .before .before .before .excluded-temporary .ensures o l) (c .before .before .before .before .before .before .excluded2 .ensures o l) (c .before .before .excluded-wide .ensures o l)), refl)
 
 pub excluded-head-spec : {M : Type 1} → statement M
 excluded-head-spec =

@@ -5,7 +5,7 @@ use Rattle.walk.proofs.walk.Walk.excluded_string.Statement.{statement}
 use Rattle.walk.proofs.walk.Walk.excluded_string.Tie as tie
 
 returns : tie.Need-returns
-returns c = ((λ o l h f. steps.by-excluded-string _ _ _ _ _ _ _ _ _ _ h f (c .before .before .before .before .before .before .before .before .before .before .before .before .before .before .before .before .step .ensures) (c .before .before .before .before .before .before .before .before .before .before .before .before .before .before .excluded4 .ensures o l) (c .before .before .before .before .before .before .before .before .before .before .excluded .ensures o l) (c .before .before .before .before .before .before .excluded-wide .ensures o l) (c .before .before .excluded-copy .ensures o l)), refl)
+returns c = ((λ o l. steps.by-excluded-string _ _ _ _ _ _ _ _ _ _ (c .before .before .before .before .before .before .before .before .before .before .before .before .before .before .before .before .step .ensures) (c .before .before .before .before .before .before .before .before .before .before .before .before .before .before .excluded4 .ensures o l) (c .before .before .before .before .before .before .before .before .before .before .excluded .ensures o l) (c .before .before .before .before .before .before .excluded-wide .ensures o l) (c .before .before .excluded-copy .ensures o l)), refl)
 
 pub excluded-string-spec : {M : Type 1} → statement M
 excluded-string-spec =

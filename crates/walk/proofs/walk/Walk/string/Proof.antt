@@ -5,7 +5,7 @@ use Rattle.walk.proofs.walk.Walk.string.Statement.{statement}
 use Rattle.walk.proofs.walk.Walk.string.Tie as tie
 
 returns : tie.Need-returns
-returns c = ((λ l w h f. steps.by-string _ _ _ _ _ _ _ _ _ _ h f (c .before .before .before .before .before .before .before .before .before .before .before .before .before .before .before .before .step .ensures) (c .before .before .before .before .before .before .before .before .before .before .before .before .before .before .put4 .ensures l w) (c .before .before .before .before .before .before .before .before .before .before .put .ensures l w) (c .before .before .before .before .before .before .put-wide .ensures l w) (c .before .before .copy .ensures l w)), refl)
+returns c = ((λ l w. steps.by-string _ _ _ _ _ _ _ _ _ _ (c .before .before .before .before .before .before .before .before .before .before .before .before .before .before .before .before .step .ensures) (c .before .before .before .before .before .before .before .before .before .before .before .before .before .before .put4 .ensures l w) (c .before .before .before .before .before .before .before .before .before .before .put .ensures l w) (c .before .before .before .before .before .before .put-wide .ensures l w) (c .before .before .copy .ensures l w)), refl)
 
 pub string-spec : {M : Type 1} → statement M
 string-spec =

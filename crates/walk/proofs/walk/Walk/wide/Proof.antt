@@ -5,7 +5,7 @@ use Rattle.walk.proofs.walk.Walk.wide.Statement.{statement}
 use Rattle.walk.proofs.walk.Walk.wide.Tie as tie
 
 returns : tie.Need-returns
-returns c = (((λ l w h. law.by-wide _ _ _ _ h (c .before .before .put-wide .ensures l w))), refl)
+returns c = (((λ l w. law.by-wide _ _ _ _ (c .before .before .put-wide .ensures l w))), refl)
 
 pub wide-spec : {M : Type 1} → statement M
 wide-spec = tie.close (tie.spec (λ c κs. search needs) (λ c. search needs) returns)
