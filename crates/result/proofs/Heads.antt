@@ -24,6 +24,7 @@ use Rattle.lowering.proofs.Cases.{by-test, by-shape, and-left, and-right, shape
 use Rattle.lowering.proofs.All.{AllItems, other-changed, all-append, all-gather, all-cond}
 use Rattle.result.proofs.Rows.{allRows, row-at, widened, covers, at-places, no-kind, skips, lone, form-4, form-7, form-8, form-10, form-17}
 use Rattle.result.proofs.Lies as lie
+use Rattle.result.specs.Left.{keepsRest}
 use Rattle.result.specs.Causes.{Cause, shows, lacksValue}
 use Rattle.result.proofs.Valued.{behind-shown}
 use Rattle.lowering.proofs.ChangeLaws.{stands-changed}
@@ -148,11 +149,13 @@ declarator-left = leftBehind-lies 4 5 refl (omega arith) declarator-only refl re
 -- ---- statements that are made
 
 statement-shown : (b : ℕ) (d : Node) → lacksValue d ≡ false → (s : Cause) → shows s (node 0 4 (field (Piece.mark 0) (field (byte b) (field (list (only d)) done)))) ≡ false
-unfolding shows is itemsAt pieceIn any
+unfolding shows keepsRest is itemsAt pieceIn any
 statement-shown b d n Cause.restParameter = refl
 statement-shown b d n Cause.withoutBody = refl
 statement-shown b d n Cause.arrayRest = refl
 statement-shown b d n Cause.withoutValue = rw n refl
+statement-shown b d n Cause.inKey = refl
+statement-shown b d n Cause.inTemplate = refl
 
 statement-made : {T : Texts} (p : ℕ) → formAt rewritten p 4 ≡ 4 → (b : ℕ) → 1 ≤ b → b ≤ 3 → {d : Node} → lacksValue d ≡ false → Lies T 4 d → Lies T p (node 0 4 (field (Piece.mark 0) (field (byte b) (field (list (only d)) done))))
 unfolding fieldsOf kinds
@@ -261,7 +264,7 @@ kind-is j n e = eq-eqb (kind n) j e
 -- ---- a function whose parameters and body are changed
 
 function-shown : (at : ℕ) (fs : Fields) (f g : Piece → Piece) → standsIn fs 5 ≡ true → (s : Cause) → shows s (node at 14 fs) ≡ false → shows s (node at 14 (changeIn (changeIn fs 3 f) 5 g)) ≡ false
-unfolding shows is nodeAt stands
+unfolding shows keepsRest is nodeAt stands
 function-shown at fs f g b Cause.restParameter h =
     let e : pieceIn (changeIn (changeIn fs 3 f) 5 g) 4 ≡ pieceIn fs 4 = other-changed (changeIn fs 3 f) 5 g 4 (λ z. omega arith) ∙ other-changed fs 3 f 4 (λ z. omega arith) in
     ap (λ x. hasObjectRest (asNode x) || false) e ∙ h
@@ -270,15 +273,19 @@ function-shown at fs f g b Cause.withoutBody h =
     rw e refl
 function-shown at fs f g b Cause.arrayRest h = refl
 function-shown at fs f g b Cause.withoutValue h = refl
+function-shown at fs f g b Cause.inKey h = refl
+function-shown at fs f g b Cause.inTemplate h = refl
 
 arrow-shown : (at : ℕ) (fs : Fields) (f g : Piece → Piece) → (s : Cause) → shows s (node at 17 fs) ≡ false → shows s (node at 17 (changeIn (changeIn fs 0 f) 2 g)) ≡ false
-unfolding shows is nodeAt
+unfolding shows keepsRest is nodeAt
 arrow-shown at fs f g Cause.restParameter h =
     let e : pieceIn (changeIn (changeIn fs 0 f) 2 g) 1 ≡ pieceIn fs 1 = other-changed (changeIn fs 0 f) 2 g 1 (λ z. omega arith) ∙ other-changed fs 0 f 1 (λ z. omega arith) in
     ap (λ x. hasObjectRest (asNode x)) e ∙ h
 arrow-shown at fs f g Cause.withoutBody h = refl
 arrow-shown at fs f g Cause.arrayRest h = refl
 arrow-shown at fs f g Cause.withoutValue h = refl
+arrow-shown at fs f g Cause.inKey h = refl
+arrow-shown at fs f g Cause.inTemplate h = refl
 
 module _ (c : Context) where
   inBody-8 : {T : Texts} (ps : Items) → AllItems (Movable T) ps → (b : Node) → Lies T 8 b → Lies T 8 (inBody c ps (asFunctionBody b))

@@ -32,14 +32,14 @@ use Rattle.lowering.specs.Answer.{Lent, Result, fits, fitted, collected, afterW
 use Rattle.lowering.specs.Answer.Result.{refusal, lowered}
 use Rattle.lowering.specs.Refusals.{limitOutside, unknownOptions, smallWork, tooLong, isRefusal}
 use Rattle.lowering.proofs.Answers.{InTable, in-table}
-use Rattle.lowering.proofs.Cases.{by-test, or-left, or-right, not-true}
+use Rattle.lowering.proofs.Cases.{by-test, or-left, or-right, or-first, not-true}
 use Rattle.lowering.proofs.Order.{by-order}
 use Rattle.equal.specs.Canonical.{Written, eachEntry}
 use Rattle.equal.specs.Equal.{entryEncoded, listEncoded}
 use Rattle.equal.specs.Results.{writtenBy, resultBy, ownNames, treeOf, entriesOf, excludedOf}
 use Rattle.equal.proofs.One.{list-bytes}
 use Rattle.result.specs.List.{FitDeclarators, FitEntries, FitList}
-use Rattle.result.specs.Left.{keepsRest, Exception, NothingLeft, EntriesLeft, ExcludedLeft}
+use Rattle.result.specs.Left.{keepsRest, keepsSpread, keeps, Part, Of, Remains, NothingLeft}
 use Rattle.result.specs.Leftover.{restLeft, leftIn, leftover}
 use Rattle.joining.specs.List.{handed, innerMarks}
 use Rattle.joining.specs.Join.{found}
@@ -48,18 +48,19 @@ use Rattle.joining.specs.Answer.{taken}
 use Rattle.result.specs.Marks.{copiesMarks, resultMarks, entriesFound}
 use Rattle.result.specs.Handed.{KeysOf}
 use Rattle.result.specs.Whole.{resultOf, LoweredRewritten}
-use Rattle.result.specs.Causes.{Cause, Without, Due}
+use Rattle.result.specs.Causes.{Cause, Without, causeOf, Caused}
 use Rattle.result.specs.Texts.{TextIn, TextInList, Known}
 use Rattle.result.proofs.Lies.{Texts, Lies, LieItems, input-lies, input-bytes}
 use Rattle.result.proofs.Comes.{Comes, walked-comes}
 use Rattle.result.proofs.Bounds.{Small, names, names-append, walked-few, distinct-most, number-most}
 use Rattle.result.proofs.Fitting.{fit}
 use Rattle.result.proofs.Standing.{no-spread}
+use Rattle.result.proofs.Occurring.{occurs-not}
 use Rattle.result.proofs.Places.{isOutside}
-use Rattle.result.proofs.Resting.{rests-remain, remains}
-use Rattle.result.proofs.Entries.{entries-left}
-use Rattle.result.proofs.Excluded.{excluded-left}
-use Rattle.lowering.specs.Visits.{ItemAt, Stands}
+use Rattle.result.proofs.Resting.{rests-remain, due-caused}
+use Rattle.result.proofs.Entries.{entries-caused}
+use Rattle.result.proofs.Excluded.{excluded-caused}
+use Rattle.lowering.specs.Visits.{Stands}
 use Rattle.result.proofs.Handing.{AllHand, EntriesLie, walked-hands, entries-lie, excluded-lie}
 use Rattle.result.proofs.Texts.{textsOf, text-comes, text-list}
 use Rattle.result.proofs.MarksApart.{marks-apart}
@@ -188,6 +189,9 @@ module _ (h o : ℕ) (t l : List ℕ) where
       by-order limit options tree s (λ x. x ≡ lowered h o t l → Came limit tree t l) (no-refusal limitOutside) (no-refusal unknownOptions) (no-refusal smallWork)
       (of-reading limit (inForce options) tree s (readTree input limit tree) refl)
 
+remains : {n : Node} {part : Part} {p c : List ℕ} {t x : Node} → Caused n part p t c x → Remains part p t c x
+remains (Caused.caused s e o) = Remains.remains s e
+
 -- ---- the law
 
 module _ (limit : ℕ) (tree t l : List ℕ) (b : Bytes tree) (k : Came limit tree t l) where
@@ -210,7 +214,7 @@ module _ (limit : ℕ) (tree t l : List ℕ) (b : Bytes tree) (k : Came limit tr
   T = textsOf n (λ bs i. input-bytes fits-input i)
 
   lies : Lies T root n
-  lies = input-lies fits-input (λ bs i. Known.ofInput i) (λ s b. b)
+  lies = input-lies fits-input (λ bs i. Known.ofInput i) (λ s b. b .1)
 
   next-few : next ≤ 8193
   next-few =
@@ -295,11 +299,21 @@ module _ (limit : ℕ) (tree t l : List ℕ) (b : Bytes tree) (k : Came limit tr
   unfolding among
   root-outside = refl
 
-  tree-caused : (q : List ℕ) (x : Node) → Stands [] (numbered ns (bare next w)) q x → keepsRest x ≡ true → Due (λ s. Without s n) [] (numbered ns (bare next w)) q x
-  tree-caused q x s k = rests-remain tree-comes root lies root-outside s k
+  tree-spreads : (q : List ℕ) (x : Node) → Stands [] (numbered ns (bare next w)) q x → keepsSpread x ≡ false
+  tree-spreads q x s = no-spread tree-comes root lies s
 
-  tree-left : NothingLeft (numbered ns (bare next w))
-  tree-left = record { spreads = λ q x s. no-spread tree-comes root lies s; rests = λ q x s k. remains (tree-caused q x s k) }
+  tree-caused : {q : List ℕ} {x : Node} → Stands [] (numbered ns (bare next w)) q x → keeps x ≡ true → Caused n Part.tree [] (numbered ns (bare next w)) q x
+  unfolding keeps
+  tree-caused {q = q} {x = x} s k = due-caused (rests-remain tree-comes root lies root-outside s (or-first (keepsRest x) (keepsSpread x) (tree-spreads q x s) k))
+
+  all-caused : (part : Part) (m : Node) → Of (resultOf next n) part m → (q : List ℕ) (x : Node) → Stands [] m q x → keeps x ≡ true → Caused n part [] m q x
+  unfolding resultBy ownNames treeOf entriesOf excludedOf writtenBy
+  all-caused Part.tree m Of.tree q x s k = tree-caused s k
+  all-caused Part.entry m (Of.entry i) q x s k = entries-caused ns top n next i s k
+  all-caused Part.excluded m (Of.excluded a) q x s k = excluded-caused ns top n next a s k
+
+  all-left : NothingLeft (resultOf next n)
+  all-left = record { spreads = subst (λ (m : Node). (q : List ℕ) (x : Node) → Stands [] m q x → keepsSpread x ≡ false) (sym written-tree) tree-spreads; others = λ part m o q x s k. remains (all-caused part m o q x s k) }
 
   tree-told : leftover t ≡ restLeft (placed (numbered ns (bare next w)) 0)
   unfolding leftover
@@ -316,14 +330,6 @@ module _ (limit : ℕ) (tree t l : List ℕ) (b : Bytes tree) (k : Came limit tr
         excludedKeys = declarators-fit ns few (excludedIn (visits next 0 w)) excluded-are (omega arith);
         short = subst (λ (x : List ℕ). length x ≤ 16384) (k .list-bytes) (k .list-short);
       }
-
-  list-left : EntriesLeft (resultOf next n .entries)
-  unfolding resultBy ownNames treeOf entriesOf excludedOf writtenBy
-  list-left = entries-left ns top n next 0
-
-  keys-left : (j : ℕ) (d : Node) → ItemAt (resultOf next n .excluded) j d → ExcludedLeft d
-  unfolding resultBy ownNames treeOf entriesOf excludedOf writtenBy
-  keys-left j d a = excluded-left ns top n next 0 j d a
 
   tree-texts : (bs : List ℕ) → TextIn (numbered ns (bare next w)) bs → Known n bs
   tree-texts bs i = text-comes tree-comes root lies i
@@ -382,13 +388,11 @@ module _ (limit : ℕ) (tree t l : List ℕ) (b : Bytes tree) (k : Came limit tr
         is-tree = k .tree-bytes;
         formed = subst (λ (m : Node). WellFormed rewritten (depth m) m 1) (sym written-tree) tree-formed;
         decoded = subst (λ (m : Node). readTree rewritten (length t) t ≡ got (placed m 0) (length t) 1) (sym written-tree) tree-decoded;
-        left = subst NothingLeft (sym written-tree) tree-left;
-        caused = subst (λ (m : Node). (q : List ℕ) (x : Node) → Stands [] m q x → keepsRest x ≡ true → Due (λ s. Without s n) [] m q x) (sym written-tree) tree-caused;
+        left = all-left;
+        caused = all-caused;
         told = subst (λ (m : Node). leftover t ≡ restLeft (placed m 0)) (sym written-tree) tree-told;
         is-list = k .list-bytes;
         listed = list-fits;
-        kept = list-left;
-        copied = keys-left;
         treeTexts = subst (λ (m : Node). (bs : List ℕ) → TextIn m bs → Known n bs) (sym written-tree) tree-texts;
         listTexts = list-texts;
         keys = entries-keys;
@@ -403,16 +407,13 @@ pub lowered-rewritten : (limit options : ℕ) (tree : List ℕ) (s : Lent) (help
     → lowering limit options tree s ≡ lowered helpers mask t l → LoweredRewritten limit tree t l
 lowered-rewritten limit options tree s helpers mask t l b e = both-are limit tree t l b (came helpers mask t l limit options tree s e)
 
--- without causes in the input no rest is left in its tree
-uncaused : {B : Cause → Type 0} {p c : List ℕ} {t x : Node} → Due B p t c x → ((s : Cause) → B s) → ⊥
-uncaused (Due.due s (Exception.belowArrayRest a b d e) o) h = o (h Cause.arrayRest)
-uncaused (Due.due s (Exception.restParameter a b d) o) h = o (h Cause.restParameter)
-uncaused (Due.due s (Exception.withoutBody a b d e f) o) h = o (h Cause.withoutBody)
-uncaused (Due.due s (Exception.withoutValue a b d e) o) h = o (h Cause.withoutValue)
-
-pub nothing-at-all : {limit : ℕ} {tree t l : List ℕ} (r : LoweredRewritten limit tree t l) → ((s : Cause) → Without s (r .n)) → (q : List ℕ) (x : Node) → Stands [] (resultOf (r .next) (r .n) .tree) q x
-    → keepsRest x ≡ false
-nothing-at-all r h q x s = by-test (keepsRest x) (λ k. absurd (uncaused (r .caused q x s k) h)) (λ k. k)
+-- without causes in the input nothing at all is left, in tree and list
+pub nothing-at-all : {limit : ℕ} {tree t l : List ℕ} (r : LoweredRewritten limit tree t l) → ((s : Cause) → Without s (r .n)) → (part : Part) (m : Node) → Of (resultOf (r .next) (r .n)) part m
+    → (q : List ℕ) (x : Node) → Stands [] m q x → keeps x ≡ false
+nothing-at-all r h part m o q x s = by-test (keeps x) (λ k. absurd (uncaused (r .caused part m o q x s k))) (λ k. k)
+  where
+    uncaused : Caused (r .n) part [] m q x → ⊥
+    uncaused (Caused.caused a e u) = occurs-not u (h (causeOf e))
 
 -- the same by the answer: 0 is given for a lowering alone
 pub data Lowered (limit : ℕ) (tree : List ℕ) (r : Result) : Type 0 where

@@ -65,14 +65,13 @@ module _ (out : ℕ → ℕ) (kin : Node → ℕ) where
 
 -- ---- the measure of what is handed out: its marks, by `hit`
 
-unfoldable pub by-marks : {out : ℕ → ℕ} {kin : Node → ℕ} (hit : ℕ → ℕ) → out 0 ≡ 0 → kin nothing ≡ 0 → ((path : List ℕ) (stem at : ℕ) → kin (temporary path stem at) ≡ 0)
+unfoldable pub by-marks : {out : ℕ → ℕ} {kin : Node → ℕ} (hit : ℕ → ℕ) → out 0 ≡ 0 → kin nothing ≡ 0
     → ((k : Node) → tally hit (marks k) ≤ weigh out kin k + kin k) → Measure out kin
 unfolding tally marks total
-by-marks hit z y t h =
+by-marks hit z y h =
     record {
       new = z;
       none-kin = y;
-      temporary-kin = t;
       entry = λ d. tally hit (marks d);
       excluded = λ d. tally hit (marks d);
       excludedItem = λ k. tally hit (marks k);

@@ -17,6 +17,7 @@ use Rattle.lowering.specs.Heads.{isMoved, movedOut, leftBehind}
 use Rattle.lowering.proofs.Cases.{by-test, by-shape, by-key}
 use Rattle.lowering.proofs.All.{AllItems, all-unit, all-append, all-gather, all-cond, none-passes, weaker-items}
 use Rattle.lowering.proofs.ChangeLaws.{stands-changed}
+use Rattle.result.specs.Left.{keepsRest}
 use Rattle.result.specs.Causes.{Cause, shows, lacksValue}
 
 -- ---- lists
@@ -149,10 +150,12 @@ module _ (c : Context) where
   -- a Declaration with its declarators changed
   module _ (g : Items → Items) (k : (is : Items) → AllItems Fine is → AllItems Fine (g is)) where
     items-shown : (at : ℕ) (fs : Fields) (s : Cause) → shows s (node at 4 fs) ≡ false → shows s (node at 4 (changeIn fs 2 (onItems g))) ≡ false
-    unfolding shows is itemsAt
+    unfolding shows keepsRest is itemsAt
     items-shown at fs Cause.restParameter h = refl
     items-shown at fs Cause.withoutBody h = refl
     items-shown at fs Cause.arrayRest h = refl
+    items-shown at fs Cause.inKey h = refl
+    items-shown at fs Cause.inTemplate h = refl
     items-shown at fs Cause.withoutValue h =
         any-none lacksValue (asItems (pieceIn (changeIn fs 2 (onItems g)) 2)) (changed-items Fine fs 2 g (k (asItems (pieceIn fs 2)) (none-passes lacksValue (asItems (pieceIn fs 2)) h)))
 

@@ -188,8 +188,8 @@ unfolding
     Rattle.lowering.specs.Answer.fitted Rattle.lowering.specs.Answer.collected Rattle.lowering.specs.Answer.afterWalk
     Rattle.lowering.specs.Answer.afterReading Rattle.lowering.specs.Answer.lowering Rattle.lowering.specs.Answer.filled
     Rattle.lowering.specs.Answer.outcomeOf Rattle.lowering.specs.Answer.outcome Rattle.lowering.specs.Answer.inForce
-    Rattle.result.specs.Leftover.leftover Rattle.result.specs.Leftover.restLeft Rattle.result.specs.Leftover.anyRest
+    Rattle.result.specs.Leftover.leftover Rattle.result.specs.Leftover.restLeft Rattle.result.specs.Left.anyOf
     Rattle.result.specs.Left.keepsRest Rattle.rewritten.specs.Rewritten.isRewritten Rattle.rewritten.specs.Rewritten.readRewritten
     Rattle.rewritten.specs.Rewritten.distinct Rattle.result.specs.Marks.holdsMark Rattle.result.specs.Marks.copiesAt
-    Rattle.result.specs.Marks.anyCopies Rattle.result.specs.Marks.copiesMarks
+    Rattle.result.specs.Marks.copiesMarks
 examples = record { belowArrayRest-lowered = refl; belowArrayRest-left = refl; restParameter-lowered = refl; restParameter-left = refl; withoutBody-lowered = refl; withoutBody-left = refl; withoutValue-lowered = refl; withoutValue-left = refl; inKey-lowered = refl; inKey-rewritten = refl; inKey-none = refl; inExcluded-lowered = refl; inExcluded-none = refl; markCopied-lowered = refl; markCopied-twice = refl; markCopied-told = refl; inExcluded-told = refl; empty = refl }

@@ -11,7 +11,7 @@ use Rattle.equal.specs.Canonical.{Written}
 use Rattle.joining.specs.List.{handed}
 use Rattle.joining.specs.Join.{found}
 use Rattle.joining.specs.Answer.{taken, allFound}
-use Rattle.result.specs.Left.{keepsRest}
+use Rattle.result.specs.Left.{keepsRest, anyOf}
 
 -- ---- the test on the input
 
@@ -27,13 +27,9 @@ holdsMark k = is 23 k && (eqb (count (itemsAt 0 k)) 1 && hasAny (marks k))
 unfoldable pub copiesAt : Node → Bool
 copiesAt p = keepsRest p && any (λ q. holdsMark (key q)) (properties p)
 
-unfoldable pub anyCopies : List Node → Bool
-anyCopies [] = false
-anyCopies (n ∷ ns) = copiesAt n || anyCopies ns
-
 -- there is one in the tree
 unfoldable pub copiesMarks : Node → Bool
-copiesMarks n = anyCopies (nodes n)
+copiesMarks n = anyOf copiesAt (nodes n)
 
 -- ---- the marks of a result
 
