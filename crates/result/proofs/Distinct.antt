@@ -32,7 +32,7 @@ use Rattle.result.proofs.Rows.{own-form, input-form}
 use Rattle.result.proofs.Lies.{not-20}
 use Rattle.result.proofs.Weighed.{isCopied, weigh, weighAll, weighPiece, weighItems, keysIn, keysItems, sourcesIn, sourcesItems, keys-by, sources-by, ofKey, key-by, source-by, all-most, piece-most, node-most}
 use Rattle.result.proofs.Copies.{Measure}
-use Rattle.result.proofs.Tallies.{tally, tally-append, left, leftFields, leftPiece, leftItems, given}
+use Rattle.result.proofs.Tallies.{tally, tally-append, left, leftFields, leftPiece, leftItems}
 
 -- ---- how often a mark stands
 

@@ -1,22 +1,21 @@
 -- What is left in the entries of the list stands in the values of keys' temporaries, and the input has its cause.
 -- Assumes nothing.
-use mathlib.Core.Path.{_≡_, refl, sym, ap, subst, _∙_}
-use mathlib.Core.Bool.{Bool, true, false, cond, _&&_, _||_, true≢false}
-use mathlib.Core.List.{List, [], _∷_, _++_}
-use Prim.Native.Nat.{ℕ, zero, suc}
+use mathlib.Core.Path.{_≡_, refl, sym}
+use mathlib.Core.Bool.{true, cond, _&&_, true≢false}
+use mathlib.Core.List.{List, [], _∷_}
+use Prim.Native.Nat.{ℕ}
 use native.Mathlib.Omega.{arith}
-use lib.Dec.{eqb}
-use Rattle.tree.specs.Tree.{Node, Fields, Piece, Items}
+use Rattle.tree.specs.Tree.{Node, Fields, Items}
 use Rattle.tree.specs.Tree.Node.{node}
-use Rattle.lowering.specs.Parts.{is, nodeAt, pieceIn, any, isEmpty, each, gather, _+++_}
-use Rattle.lowering.specs.Made.{Context, temporary, declares, declared, reference, valueOf, keyOf}
+use Rattle.lowering.specs.Parts.{is, nodeAt, pieceIn, any, isEmpty, each}
+use Rattle.lowering.specs.Made.{Context, temporary, declares, declared, reference}
 use Rattle.lowering.specs.Visits.{ItemAt, NodeIn, FieldAt, PartAt, Stands}
 use Rattle.lowering.specs.Patterns.{key, properties, hasObjectRest, hasArrayRestOverObjectRest}
 use Rattle.lowering.specs.Keys.{keySort, keyTemporary, keyTemporaries}
 use Rattle.lowering.specs.Keys.Key.{other}
 use Rattle.lowering.specs.Declarations.{declarationRefusal}
 use Rattle.lowering.specs.Assignments.{target, isTop, topRefusal, partsOf, outermost, topEntry, nestedEntry}
-use Rattle.lowering.specs.Walk.{Note, Step, rewrite, unchanged, stepDeclaration, stepTop, stepAssignment, stepFor}
+use Rattle.lowering.specs.Walk.{Step, rewrite, stepDeclaration, stepTop, stepAssignment, stepFor}
 use Rattle.lowering.specs.Weight.{walked}
 use Rattle.lowering.specs.Collect.{Name, Visit, Entry, over, entryAt, entries, nodes, visits, numbered, numberedItems, withNumber}
 use Rattle.lowering.proofs.Cases.{by-number, by-test, by-key}
@@ -32,7 +31,7 @@ use Rattle.result.proofs.Weighed.{total}
 use Rattle.result.proofs.Copies.{Measure}
 use Rattle.result.proofs.Tallies.{ofEntries}
 use Rattle.result.proofs.KeyWeights.{no-mark, light-handed, light-keys}
-use Rattle.result.proofs.ByRule.{Rules, by-rules}
+use Rattle.result.proofs.ByRule.{by-rules}
 
 -- a declarator whose id is a Temporary, and whose value, if it has one, is a key that goes out
 data Named : Node → Type 0 where

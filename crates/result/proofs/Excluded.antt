@@ -1,27 +1,27 @@
 -- What is left in the excluded keys of the list stands in Templates, and the input has its cause.
 -- Assumes nothing.
-use mathlib.Core.Path.{_≡_, refl, sym, ap, subst, _∙_}
+use mathlib.Core.Path.{_≡_, refl, sym, subst, _∙_}
 use mathlib.Core.Bool.{Bool, true, false, cond, not, _&&_, _||_, true≢false}
-use mathlib.Core.List.{List, [], _∷_, _++_}
-use Prim.Native.Nat.{ℕ, zero, suc}
+use mathlib.Core.List.{List, [], _∷_}
+use Prim.Native.Nat.{ℕ}
 use native.Mathlib.Omega.{arith}
 use lib.Dec.{eqb}
 use borrow.Author.Tests.{eqb-true}
-use Rattle.tree.specs.Tree.{Node, Fields, Piece, Items, count}
+use Rattle.tree.specs.Tree.{Node, Fields, Items, count}
 use Rattle.tree.specs.Tree.Node.{node}
-use Rattle.lowering.specs.Parts.{is, stands, itemsAt, nodeAt, pieceIn, any, only, gather, _+++_}
-use Rattle.lowering.specs.Made.{Context, temporary, declares, array, string, excludedOf}
+use Rattle.lowering.specs.Parts.{is, stands, itemsAt, nodeAt, pieceIn, any, gather}
+use Rattle.lowering.specs.Made.{Context, temporary, declares, array, string}
 use Rattle.lowering.specs.Visits.{ItemAt, NodeIn, FieldAt, PartAt, Stands}
 use Rattle.lowering.specs.Patterns.{key, properties, hasObjectRest, hasArrayRestOverObjectRest}
-use Rattle.lowering.specs.Keys.{Key, keySort, isPrimitive, allPrimitive, excludedKey, excludedKeys}
+use Rattle.lowering.specs.Keys.{keySort, isPrimitive, allPrimitive, excludedKey, excludedKeys}
 use Rattle.lowering.specs.Keys.Key.{name, literal, template, private, again, other}
 use Rattle.lowering.specs.Rests.{isHoisted, hasNoProperties, excludedFor}
 use Rattle.lowering.specs.Declarations.{loweredIn, declarationExcludes, declarationRefusal}
 use Rattle.lowering.specs.Assignments.{target, isTop, topRefusal, topExcludes}
-use Rattle.lowering.specs.Walk.{Note, Step, rewrite, stepDeclaration, stepTop, stepAssignment, stepFor}
+use Rattle.lowering.specs.Walk.{Step, rewrite, stepDeclaration, stepTop, stepAssignment, stepFor}
 use Rattle.lowering.specs.Weight.{walked}
 use Rattle.lowering.specs.Collect.{Name, Visit, excludedIn, visits, numbered, numberedItems, withNumber}
-use Rattle.lowering.proofs.Cases.{by-number, by-test, by-key, and-left, and-right, not-true}
+use Rattle.lowering.proofs.Cases.{by-number, by-test, by-key, and-right, not-true}
 use Rattle.lowering.proofs.All.{AllItems, all-append, all-gather, all-unit, none-passes}
 use Rattle.lowering.proofs.Notes.{AllNotes, in-walked}
 use Rattle.result.specs.Left.{keepsRest, keepsSpread, keeps, Part, Exception}
@@ -32,7 +32,7 @@ use Rattle.result.proofs.Keeping.{kept-before}
 use Rattle.result.proofs.Weighed.{total}
 use Rattle.result.proofs.Copies.{Measure, XI}
 use Rattle.result.proofs.KeyWeights.{no-mark, light-handed, light-keys}
-use Rattle.result.proofs.ByRule.{Rules, by-rules}
+use Rattle.result.proofs.ByRule.{by-rules}
 
 -- a string, or a Template
 data Plain : Node → Type 0 where

@@ -1,21 +1,21 @@
 -- What is written fits the grammar of the rewritten stage, if it is not too long.
 -- Assumes nothing.
-use mathlib.Core.Path.{_≡_, refl, sym, ap, subst, _∙_}
-use mathlib.Core.Bool.{Bool, true, false, cond, true≢false}
-use mathlib.Core.List.{List, [], _∷_, _++_}
-use Prim.Native.Nat.{ℕ, zero, suc, _+_, _<_, _≤_}
+use mathlib.Core.Path.{_≡_, refl, sym, subst}
+use mathlib.Core.Bool.{Bool, cond, true≢false}
+use mathlib.Core.List.{List}
+use Prim.Native.Nat.{ℕ, _<_, _≤_}
 use native.Mathlib.Omega.{arith}
 use lib.Dec.{eqb}
 use lib.ListN.{length, length-append}
-use Rattle.tree.specs.Tree.{Node, Fields, Piece, Items, count, wideBytes, encode, encodeFields, encodePiece, encodeItems}
+use Rattle.tree.specs.Tree.{Node, Fields, Piece, Items, count, encode, encodeFields, encodePiece, encodeItems}
 use Rattle.tree.specs.Tree.Node.{node}
 use Rattle.tree.specs.Grammar.{Sort, Field, formAt, fieldsOf, kinds}
 use Rattle.tree.specs.Grammar.Stage.{rewritten}
-use Rattle.tree.specs.WellFormed.{Bytes, byteIn, Fits, FitFields, FitPiece, FitItems}
+use Rattle.tree.specs.WellFormed.{byteIn, Fits, FitFields, FitPiece, FitItems}
 use Rattle.lowering.specs.Made.{temporary}
 use Rattle.result.proofs.Rows.{form-20}
 use Rattle.result.proofs.Lies.{Texts, Lies, LieFields, LiePiece, LieItems, fields-of}
-use Rattle.result.proofs.Rules.{Leaves, leaves}
+use Rattle.result.proofs.Rules.{leaves}
 use Rattle.result.proofs.Comes.{Comes, Left, ComeFields, ComePiece, ComeItems}
 
 -- ---- counts are no more than bytes

@@ -1,22 +1,22 @@
 -- The values that a list hands out are keys of the input.
 -- Assumes nothing.
-use mathlib.Core.Path.{_≡_, refl, sym, ap, subst, _∙_}
-use mathlib.Core.Bool.{Bool, true, false, cond, not, _&&_, _||_, true≢false}
-use mathlib.Core.List.{List, [], _∷_, _++_}
-use Prim.Native.Nat.{ℕ, suc, _+_}
+use mathlib.Core.Path.{_≡_, refl, sym, subst}
+use mathlib.Core.Bool.{Bool, true, false, cond, true≢false}
+use mathlib.Core.List.{List, [], _∷_}
+use Prim.Native.Nat.{ℕ, suc}
 use native.Mathlib.Omega.{arith}
 use lib.Dec.{eqb}
 use borrow.Author.Tests.{eqb-true}
-use Rattle.tree.specs.Tree.{Node, Fields, Piece, Items, encode}
+use Rattle.tree.specs.Tree.{Node, Fields, Items, encode}
 use Rattle.tree.specs.Tree.Node.{node}
 use Rattle.tree.specs.Grammar.{Sort, Field, formAt, fieldsOf, allowed, places, formIn, kindOf, also, among, kinds}
 use Rattle.tree.specs.Grammar.Stage.{rewritten}
 use Rattle.tree.proofs.Complete.{not-hole}
-use Rattle.lowering.specs.Parts.{kind, is, stands, standsIn, nodeAt, itemsAt, sameNumbers, any, pieceIn, asNode, asItems}
+use Rattle.lowering.specs.Parts.{kind, is, stands, standsIn, nodeAt, sameNumbers, any, pieceIn, asNode}
 use Rattle.lowering.specs.Made.{Context}
 use Rattle.lowering.specs.Patterns.{properties, key}
 use Rattle.lowering.specs.Visits.{ItemAt}
-use Rattle.lowering.specs.Weight.{weight, walked}
+use Rattle.lowering.specs.Weight.{walked}
 use Rattle.lowering.specs.Collect.{Entry, nodes, entries, visits}
 use Rattle.lowering.proofs.Appearance.{In, numbers-self}
 use Rattle.lowering.proofs.Cases.{by-test, and-left}

@@ -2,8 +2,7 @@
 -- Assumes nothing.
 use mathlib.Core.Path.{_≡_, refl, sym, _∙_}
 use mathlib.Core.Bool.{Bool, true, false, cond, _&&_}
-use mathlib.Core.List.{List}
-use Prim.Native.Nat.{ℕ, _+_}
+use Prim.Native.Nat.{ℕ}
 use native.Mathlib.Omega.{arith}
 use lib.Dec.{eqb}
 use Rattle.tree.specs.Tree.{Node, Fields, Piece, Items}
@@ -22,7 +21,7 @@ use Rattle.result.specs.Causes.{Cause, holdsKept, shows, Without}
 use Rattle.result.proofs.Occurring.{nodes-within}
 use Rattle.result.proofs.Weighed.{weigh, weighAll, weighPiece, weighItems, keysIn, keysItems, sourcesIn, keys-by, sources-by, key-by, piece-most}
 use Rattle.result.proofs.Copies.{Measure, XI}
-use Rattle.result.proofs.Tallies.{given, walk-weighs, ofEntries, list-weighs}
+use Rattle.result.proofs.Tallies.{walk-weighs, ofEntries, list-weighs}
 use Rattle.result.proofs.Distinct.{at-most, list-most, sources-none, key-none}
 
 abbrev pub no-mark : ℕ → ℕ

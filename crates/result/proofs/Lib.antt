@@ -38,6 +38,5 @@ pub mod HandedKeys
 pub mod Keeping
 pub mod Entries
 pub mod Excluded
-pub mod ReadBack
 pub mod Joins
 pub mod Lowered

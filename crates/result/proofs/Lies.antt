@@ -2,12 +2,12 @@
 -- Temporary, which has its name yet. T says what holds of each text and node in it. This is what the rules keep.
 -- Assumes nothing.
 use mathlib.Core.Path.{_≡_, refl, sym, ap, subst, _∙_}
-use mathlib.Core.Bool.{Bool, true, false, cond, not, _&&_, _||_, true≢false}
+use mathlib.Core.Bool.{Bool, true, false, cond, not, _&&_, true≢false}
 use mathlib.Core.List.{List, [], _∷_}
 use mathlib.Core.Option.{some}
 use Prim.Native.Nat.{ℕ, zero, suc, _<_, _≤_}
 use native.Mathlib.Omega.{arith}
-use lib.Dec.{eqb, ltb}
+use lib.Dec.{eqb}
 use lib.ListN.{getD}
 use Rattle.tree.specs.Tree.{Node, Fields, Piece, Items}
 use Rattle.tree.specs.Tree.Node.{node}
@@ -16,12 +16,12 @@ use Rattle.tree.specs.Grammar.Field.{must, may}
 use Rattle.tree.specs.Grammar.Stage.{input, rewritten}
 use Rattle.tree.specs.Read.{sortIn}
 use Rattle.tree.specs.WellFormed.{Bytes, byteIn, Fits, FitFields, FitPiece, FitItems}
-use Rattle.lowering.specs.Parts.{kind, pieceIn, standsIn, changeIn, dropIn, asNode, asItems, is, nodeAt, itemsAt, stands, change, without, only, each, gather, _+++_}
+use Rattle.lowering.specs.Parts.{kind, pieceIn, standsIn, changeIn, asNode, asItems, is, only, each, gather, _+++_}
 use Rattle.lowering.specs.Made.{temporary}
 use Rattle.lowering.specs.Numbers.{numberString}
 use Rattle.result.specs.Causes.{Cause, shows, Within, Without}
 use Rattle.result.specs.Texts.{TextIn, TextInFields, TextInPiece, TextInItems}
-use Rattle.result.proofs.Rows.{allRows, row-at, input-form}
+use Rattle.result.proofs.Rows.{row-at, input-form}
 use Rattle.tree.specs.Grammar.{allowed, places, formIn, kindOf}
 use borrow.Author.Tests.{eqb-true}
 use Rattle.lowering.proofs.Cases.{by-test}

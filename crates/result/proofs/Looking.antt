@@ -3,7 +3,7 @@
 use mathlib.Core.Path.{_≡_, refl, sym, ap, ap₂, _∙_}
 use mathlib.Core.Bool.{Bool, true, false, cond, _&&_, _||_, true≢false}
 use mathlib.Core.List.{List, [], _∷_, _++_}
-use Prim.Native.Nat.{ℕ, zero, suc, _+_, _-_, _*_, _/_, _%_, _<_, _≤_}
+use Prim.Native.Nat.{ℕ, _+_, _-_, _*_, _/_, _%_, _<_, _≤_}
 use native.Mathlib.Omega.{arith}
 use lib.Dec.{eqb}
 use lib.ListN.{length}
@@ -21,7 +21,7 @@ use Rattle.rewritten.specs.Pass.{folded, passed}
 use Rattle.rewritten.specs.declared.step.Cursor.{Cursor}
 use Rattle.rewritten.specs.declared.step.Event as told
 use Rattle.rewritten.specs.declared.step.Step.{Step}
-use Rattle.rewritten.specs.declared.step.Step.the-variants.{Next, Done, Refused, Full}
+use Rattle.rewritten.specs.declared.step.Step.the-variants.{Next, Done, Refused}
 use Rattle.rewritten.proofs.Pass.{coming, onward, Inside, inside-start, inside-next, step-falls, concluded, concluded-start, concluded-next, concluded-whole, concluded-early, concluded-refused, passed-long}
 use Rattle.result.specs.Left.{keepsRest, anyOf}
 use Rattle.result.proofs.Occurring.{or-assoc, any-append}

@@ -1,13 +1,13 @@
 -- What is handed back is a tree of the rewritten stage, in which nothing is left but the exceptions, and a list by its layout.
 -- Assumes nothing.
 use mathlib.Core.Path.{_≡_, refl, sym, ap, subst, _∙_}
-use mathlib.Core.Bool.{Bool, true, false, cond, not, _||_, true≢false}
+use mathlib.Core.Bool.{true, false, _||_, true≢false}
 use mathlib.Core.List.{List, [], _∷_, _++_}
 use mathlib.Core.Logic.{_⊎_}
 use Prim.Native.Nat.{ℕ, zero, suc, _+_, _*_, _<_, _≤_, min}
 use native.Mathlib.Omega.{arith}
 use native.Mathlib.Nat.{add-comm}
-use lib.Dec.{eqb, ltb}
+use lib.Dec.{ltb}
 use lib.ListN.{length, length-append}
 use borrow.Author.Tests.{ltb-false}
 use Rattle.tree.specs.Tree.{Node, Fields, Piece, Items, depth, wideBytes, encode, encodeFields, encodePiece, encodeItems, marks, marksFields, marksPiece, marksItems, placed}
@@ -30,18 +30,17 @@ use Rattle.lowering.specs.Weight.{walked}
 use Rattle.lowering.specs.Collect.{Name, same, Entry, over, nodes, nodesItems, listNodes, nameAt, namesOf, distinct, numberIn, numbered, numberedItems, bare, newIn, visits, entries, excludedIn, firstRefusal, helperMask, listBytes}
 use Rattle.lowering.specs.Answer.{Lent, Result, fits, fitted, collected, afterWalk, afterReading, inForce, lowering, top, outcome, outcomeOf}
 use Rattle.lowering.specs.Answer.Result.{refusal, lowered}
-use Rattle.lowering.specs.Refusals.{limitOutside, unknownOptions, smallWork, tooLong, isRefusal}
+use Rattle.lowering.specs.Refusals.{limitOutside, unknownOptions, smallWork, isRefusal}
 use Rattle.lowering.proofs.Answers.{InTable, in-table}
 use Rattle.lowering.proofs.Cases.{by-test, or-left, or-right, or-first, not-true}
 use Rattle.lowering.proofs.Order.{by-order}
-use Rattle.equal.specs.Canonical.{Written, eachEntry}
+use Rattle.equal.specs.Canonical.{eachEntry}
 use Rattle.equal.specs.Equal.{entryEncoded, listEncoded}
 use Rattle.equal.specs.Results.{writtenBy, resultBy, ownNames, treeOf, entriesOf, excludedOf}
 use Rattle.equal.proofs.One.{list-bytes}
-use Rattle.result.specs.List.{FitDeclarators, FitEntries, FitList}
 use Rattle.result.specs.Left.{keepsRest, keepsSpread, keeps, Part, Of, Remains, NothingLeft}
 use Rattle.result.specs.Leftover.{restLeft, leftIn, leftover}
-use Rattle.joining.specs.List.{handed, innerMarks}
+use Rattle.joining.specs.List.{handed, innerMarks, FitHanded}
 use Rattle.joining.specs.Join.{found}
 use Rattle.joining.specs.Answer as joining
 use Rattle.joining.specs.Answer.{taken}
@@ -319,7 +318,7 @@ module _ (limit : ℕ) (tree t l : List ℕ) (b : Bytes tree) (k : Came limit tr
   unfolding leftover
   tree-told = ap leftIn tree-decoded
 
-  list-fits : FitList (resultOf next n .entries) (resultOf next n .excluded)
+  list-fits : FitHanded (handed (resultOf next n .entries) (resultOf next n .excluded))
   unfolding resultBy ownNames treeOf entriesOf excludedOf writtenBy
   list-fits =
       let a = list-length in
@@ -327,7 +326,7 @@ module _ (limit : ℕ) (tree t l : List ℕ) (b : Bytes tree) (k : Came limit tr
       record {
         few = omega arith;
         entries = entries-fit ns few T (entries (visits next 0 w)) entries-are (omega arith);
-        excludedKeys = declarators-fit ns few (excludedIn (visits next 0 w)) excluded-are (omega arith);
+        excluded = declarators-fit ns few (excludedIn (visits next 0 w)) excluded-are (omega arith);
         short = subst (λ (x : List ℕ). length x ≤ 16384) (k .list-bytes) (k .list-short);
       }
 

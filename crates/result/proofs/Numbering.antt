@@ -1,11 +1,10 @@
 -- What is handed out fits when its temporaries have their numbers. It is not walked.
 -- Assumes nothing.
-use mathlib.Core.Path.{_≡_, refl, sym, ap, subst, _∙_}
-use mathlib.Core.Bool.{Bool, true, false, cond}
+use mathlib.Core.Path.{_≡_, refl, sym, subst}
+use mathlib.Core.Bool.{Bool, false}
 use mathlib.Core.List.{List, [], _∷_, _++_}
-use Prim.Native.Nat.{ℕ, zero, suc, _+_, _*_, _<_, _≤_}
+use Prim.Native.Nat.{ℕ, _+_, _*_, _<_, _≤_}
 use native.Mathlib.Omega.{arith}
-use lib.Dec.{eqb}
 use lib.ListN.{length, length-append}
 use Rattle.tree.specs.Tree.{Node, Fields, Piece, Items, count, wideBytes, encode, encodeFields, encodePiece, encodeItems}
 use Rattle.tree.specs.Tree.Node.{node}
@@ -14,10 +13,10 @@ use Rattle.tree.specs.Grammar.{Sort, Field}
 use Rattle.tree.specs.Grammar.Stage.{rewritten}
 use Rattle.tree.specs.WellFormed.{byteIn, Fits, FitFields, FitPiece, FitItems}
 use Rattle.lowering.specs.Parts.{is, textAt, numberAt, pieceIn}
-use Rattle.lowering.specs.Collect.{Name, same, Entry, over, nameAt, nameOf, nodes, nodesFields, nodesPiece, nodesItems, listNodes, numberIn, numbered, numberedFields, numberedPiece, numberedItems, withNumber}
+use Rattle.lowering.specs.Collect.{Name, same, Entry, over, nameAt, nameOf, nodes, nodesFields, nodesPiece, nodesItems, numberIn, numbered, numberedFields, numberedPiece, numberedItems, withNumber}
 use Rattle.equal.specs.Canonical.{eachEntry}
-use Rattle.equal.specs.Equal.{entryEncoded, listEncoded}
-use Rattle.result.specs.List.{FitDeclarators, FitEntries}
+use Rattle.equal.specs.Equal.{entryEncoded}
+use Rattle.joining.specs.List.{FitDeclarators, FitEntries}
 use Rattle.result.proofs.Lies.{Texts, Lies, LieFields, LiePiece, LieItems}
 use Rattle.result.proofs.Fitting.{count-bytes, temporary-fits}
 use Rattle.result.proofs.Bounds.{names, names-append, name-here, no-name-here}

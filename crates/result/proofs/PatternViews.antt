@@ -2,14 +2,13 @@
 -- own; `t` says which they are: false for binding, true for targets.
 -- Assumes nothing.
 use mathlib.Core.Path.{_≡_, refl, sym, ap, subst, _∙_}
-use mathlib.Core.Bool.{Bool, true, false, cond, _&&_, _||_, true≢false}
-use mathlib.Core.List.{List, [], _∷_, _++_}
-use Prim.Native.Nat.{ℕ, zero, suc, _+_, _<_, _≤_}
+use mathlib.Core.Bool.{Bool, true, false}
+use mathlib.Core.List.{List, [], _∷_}
+use Prim.Native.Nat.{ℕ, _+_, _<_, _≤_}
 use native.Mathlib.Omega.{arith}
-use lib.Dec.{eqb, ltb}
-use lib.ListN.{getD}
+use lib.Dec.{eqb}
 use borrow.Author.Tests.{eqb-true}
-use Rattle.tree.specs.Tree.{Node, Fields, Piece, Items}
+use Rattle.tree.specs.Tree.{Node, Fields, Items}
 use Rattle.tree.specs.Tree.Node.{node}
 use Rattle.tree.specs.Tree.Fields.{done, absent, field}
 use Rattle.tree.specs.Tree.Piece.{one, list, byte}
@@ -23,7 +22,7 @@ use Rattle.lowering.proofs.Levels.{has-nothing}
 use Rattle.result.specs.Left.{keepsRest}
 use Rattle.result.specs.Causes.{Cause, shows}
 use Rattle.result.proofs.Rows.{lone}
-use Rattle.result.proofs.Lies.{Texts, isMade, make-shown, shown-of, Lies, LieFields, LiePiece, LieItems, fields-of, make, apart, may-stand}
+use Rattle.result.proofs.Lies.{Texts, isMade, make-shown, shown-of, Lies, LieFields, LiePiece, LieItems, make, apart, may-stand}
 
 -- ---- places and forms
 

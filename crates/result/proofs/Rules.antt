@@ -1,12 +1,11 @@
 -- The invariant: what a rule leaves lies where the node lay, and what it hands out lies where declarators may stand. A clause for each rule.
 -- Assumes nothing.
-use mathlib.Core.Path.{_≡_, refl, sym, ap, subst, _∙_}
-use mathlib.Core.Bool.{Bool, true, false, cond, _&&_, _||_}
+use mathlib.Core.Path.{_≡_, refl}
+use mathlib.Core.Bool.{true, false}
 use mathlib.Core.List.{List, [], _∷_}
-use Prim.Native.Nat.{ℕ, zero, suc, _<_, _≤_}
+use Prim.Native.Nat.{ℕ, _<_}
 use native.Mathlib.Omega.{arith}
-use lib.Dec.{eqb}
-use Rattle.tree.specs.Tree.{Node, Fields, Piece, Items}
+use Rattle.tree.specs.Tree.{Node, Fields}
 use Rattle.tree.specs.Tree.Node.{node}
 use Rattle.tree.specs.Grammar.{Sort, Field, formAt, fieldsOf, kinds}
 use Rattle.tree.specs.Grammar.Stage.{rewritten}
@@ -22,9 +21,9 @@ use Rattle.result.proofs.Rows.{form-7, form-8}
 use Rattle.result.proofs.Lies.{Texts, isMade, Lies, LieItems, may-stand}
 use Rattle.result.proofs.Literals.{literal-lies}
 use Rattle.result.proofs.Declarations.{declaration-lies, declarationExcludes-lie}
-use Rattle.result.proofs.Assignments.{AssignmentView, assignment-view, assignment-takes, target-lies, value-lies, top-lies, topEntry-lies, topExcludes-lie, nested-lies, nestedEntry-lies}
+use Rattle.result.proofs.Assignments.{assignment-view, assignment-takes, target-lies, value-lies, top-lies, topEntry-lies, topExcludes-lie, nested-lies, nestedEntry-lies}
 use Rattle.result.proofs.Heads.{function-lies, arrow-lies, catch-lies, declaring-lies, assigning-head-lies}
-use Rattle.result.proofs.ByRule.{Rules, by-rules}
+use Rattle.result.proofs.ByRule.{by-rules}
 
 -- what a step leaves and hands out
 pub record Leaves (T : Texts) (p : ℕ) (s : Step) : Type 0 where

@@ -1,31 +1,26 @@
 -- What the rules do to rests in patterns: none is left where they look.
 -- Assumes nothing.
-use mathlib.Core.Path.{_≡_, refl, sym, ap, subst, _∙_}
-use mathlib.Core.Bool.{Bool, true, false, cond, _&&_, _||_, true≢false}
-use mathlib.Core.List.{List, [], _∷_}
-use Prim.Native.Nat.{ℕ, zero, suc, _<_, _≤_, max}
+use mathlib.Core.Path.{_≡_, refl, ap, _∙_}
+use mathlib.Core.Bool.{Bool, true, false, _||_, true≢false}
+use Prim.Native.Nat.{ℕ, zero, suc, _≤_}
 use native.Mathlib.Omega.{arith}
-use lib.Dec.{eqb}
-use Rattle.tree.specs.Tree.{Node, Fields, Piece, Items, depth, depthFields, depthPiece, depthItems}
+use Rattle.tree.specs.Tree.{Node, Piece, Items, depth, depthItems}
 use Rattle.tree.specs.Tree.Node.{node}
-use Rattle.tree.specs.Tree.Fields.{done, absent, field}
-use Rattle.tree.specs.Tree.Piece.{one, list, byte}
 use Rattle.tree.specs.Tree.Items.{none, hole, item}
-use Rattle.lowering.specs.Parts.{nothing, is, nodeAt, itemsAt, stands, pieceIn, standsIn, asNode, change, changeIn, onNode, onItems, without, dropIn, only, each, gather, any, _+++_}
+use Rattle.lowering.specs.Parts.{is, nodeAt, itemsAt, stands, pieceIn, standsIn, asNode, change, changeIn, onNode, onItems, without, dropIn, each, gather, any, _+++_}
 use Rattle.lowering.specs.Made.{Context, reference, keyOf}
-use Rattle.lowering.specs.Patterns.{Shape, shape, properties, itemsOf, rest, hasRest, leftOf, value, key, withLeft, withItems, withRest, withProperties, withValues, hasNestedObjectRest, hasObjectRest, replaced}
-use Rattle.lowering.specs.Patterns.Shape.{objectPattern, arrayPattern}
+use Rattle.lowering.specs.Patterns.{Shape, shape, properties, itemsOf, rest, hasRest, leftOf, value, key, withLeft, withItems, withRest, withValues, hasNestedObjectRest, hasObjectRest, replaced}
+use Rattle.lowering.specs.Patterns.Shape.{objectPattern}
 use Rattle.lowering.specs.Keys.{keySort, keptKey, taken}
 use Rattle.lowering.specs.Assignments.{nearest}
 use Rattle.lowering.specs.Heads.{movedOut}
 use Rattle.lowering.proofs.Cases.{by-test, by-shape, by-key, or-left, or-right}
 use Rattle.lowering.proofs.All.{AllItems, other-changed, none-passes, weaker-items}
-use Rattle.lowering.proofs.Levels.{depth-pos, has-nothing, nearest-nothing}
+use Rattle.lowering.proofs.Levels.{depth-pos, has-nothing}
 use Rattle.lowering.proofs.Clauses.{replaced-object, replaced-array, replaced-default, replaced-leaf, nearest-object, nearest-array, nearest-default, nearest-leaf, has-leaf}
 use Rattle.result.proofs.Lies.{Texts, Lies, LieItems}
 use Rattle.result.proofs.PatternViews.{wholeAt, valueAt, propertyAt, leafAt, patternAt, ObjectView, PropertyView, ArrayView, DefaultView, object-view, array-view, property-view, default-view, no-default-whole, array-plain, array-rested}
 use Rattle.result.proofs.Patterns.{left-lies, reference-lies}
-use Rattle.result.proofs.Keys.{same-shape}
 
 -- ---- lists
 

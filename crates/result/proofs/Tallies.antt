@@ -8,10 +8,9 @@ use native.Mathlib.Omega.{arith}
 use Rattle.tree.specs.Tree.{Node, Fields, Piece, Items, marks, marksFields, marksPiece, marksItems}
 use Rattle.tree.specs.Tree.Node.{node}
 use Rattle.lowering.specs.Parts.{nothing, isEmpty}
-use Rattle.lowering.specs.Made.{Context, temporary}
+use Rattle.lowering.specs.Made.{Context}
 use Rattle.lowering.specs.Walk.{Note, Walked, WalkedFields, WalkedPiece, WalkedItems, eachItem, eachPiece, eachField, inside, rewrite, within, walk}
 use Rattle.lowering.specs.Walk.Walked.{noted}
-use Rattle.lowering.specs.Weight.{walked}
 use Rattle.lowering.specs.Collect.{Visit, Entry, over, entryAt, entries, excludedIn, newIn, newInPiece, marked, isContainer, markOf, visits, visitsFields, visitsPiece, visitsItems}
 use Rattle.lowering.proofs.Cases.{by-test}
 use Rattle.result.proofs.Weighed.{total, total-append, weigh, weighAll, weighPiece, weighItems}

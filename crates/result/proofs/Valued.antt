@@ -1,15 +1,13 @@
 -- Declarators without a value: a Declaration that had none with an object rest has none after its rules.
 -- Assumes nothing.
-use mathlib.Core.Path.{_≡_, refl, sym, ap, _∙_}
-use mathlib.Core.Bool.{Bool, true, false, cond, not, _&&_, _||_, true≢false}
-use mathlib.Core.List.{List}
+use mathlib.Core.Path.{_≡_, refl, _∙_}
+use mathlib.Core.Bool.{Bool, true, false, cond}
 use Prim.Native.Nat.{ℕ, zero, suc}
-use lib.Dec.{eqb}
 use Rattle.tree.specs.Tree.{Node, Fields, Piece, Items, depth}
 use Rattle.tree.specs.Tree.Node.{node}
-use Rattle.lowering.specs.Parts.{is, nodeAt, itemsAt, stands, standsIn, pieceIn, asItems, asNode, change, changeIn, onItems, onNode, only, each, gather, any, _+++_}
+use Rattle.lowering.specs.Parts.{is, nodeAt, itemsAt, stands, standsIn, pieceIn, asItems, change, changeIn, onItems, onNode, only, each, gather, any, _+++_}
 use Rattle.lowering.specs.Made.{Context, valueOf, declares, reference}
-use Rattle.lowering.specs.Patterns.{Shape, shape, key, properties, itemsOf, rest, hasRest, leftOf, value, withValues, hasObjectRest, hasNestedObjectRest, replaced, replacedBelow}
+use Rattle.lowering.specs.Patterns.{shape, key, properties, itemsOf, rest, hasRest, leftOf, value, withValues, hasObjectRest, replaced, replacedBelow}
 use Rattle.lowering.specs.Keys.{keySort, keyTemporary, keyTemporaries, taken}
 use Rattle.lowering.specs.Rests.{hasNoProperties, restValue}
 use Rattle.lowering.specs.Declarations.{isName, source, sourceDeclarator, keysBefore, patternDeclarator, restDeclarator, own, nested, nestedBelow, objectDeclarators, patternDeclarators, lowerDeclarator, isLowered, declarators}

@@ -1,6 +1,6 @@
 -- The marks of a result, of its tree and of its list. They are distinct, unless the input has a key with a mark inside that is copied.
 use Prim.Native.Nat.{ℕ}
-use mathlib.Core.Bool.{Bool, true, false, _&&_, _||_}
+use mathlib.Core.Bool.{Bool, true, false, _&&_}
 use mathlib.Core.List.{List, [], _∷_}
 use lib.Dec.{eqb}
 use Rattle.tree.specs.Tree.{Node, count, marks}

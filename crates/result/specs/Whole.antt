@@ -5,7 +5,7 @@ use mathlib.Core.List.{List, []}
 use mathlib.Core.Bool.{true, false}
 use mathlib.Core.Logic.{_⊎_}
 use lib.ListN.{length}
-use Rattle.tree.specs.Tree.{Node, Items, depth, encode, placed}
+use Rattle.tree.specs.Tree.{Node, depth, encode, placed}
 use Rattle.tree.specs.Grammar.Stage.{input, rewritten}
 use Rattle.tree.specs.Read.{readTree}
 use Rattle.tree.specs.Read.Got.{got}
@@ -15,8 +15,8 @@ use Rattle.lowering.specs.Visits.{Stands}
 use Rattle.equal.specs.Canonical.{Written}
 use Rattle.equal.specs.Equal.{listEncoded}
 use Rattle.equal.specs.Results.{resultBy, ownNames, entriesOf}
+use Rattle.joining.specs.List.{handed, FitHanded}
 use Rattle.joining.specs.Answer.{outcome, answerOf}
-use Rattle.result.specs.List.{FitList}
 use Rattle.result.specs.Left.{keeps, Part, Of, NothingLeft}
 use Rattle.result.specs.Causes.{Caused}
 use Rattle.result.specs.Texts.{TextIn, TextInList, Known}
@@ -46,7 +46,7 @@ pub record LoweredRewritten (limit : ℕ) (tree t l : List ℕ) : Type 0 where
   pub caused : (part : Part) (m : Node) → Of (resultOf next n) part m → (q : List ℕ) (x : Node) → Stands [] m q x → keeps x ≡ true → Caused n part [] m q x
   pub told : leftover t ≡ restLeft (placed (resultOf next n .tree) 0)
   pub is-list : l ≡ listEncoded (resultOf next n .entries) (resultOf next n .excluded)
-  pub listed : FitList (resultOf next n .entries) (resultOf next n .excluded)
+  pub listed : FitHanded (handed (resultOf next n .entries) (resultOf next n .excluded))
   pub treeTexts : (bs : List ℕ) → TextIn (resultOf next n .tree) bs → Known n bs
   pub listTexts : (bs : List ℕ) → TextInList (resultOf next n .entries) (resultOf next n .excluded) bs → Known n bs
   pub keys : KeysOf n (entriesOf next n)
