@@ -5,20 +5,18 @@ use mathlib.Core.Bool.{true, cond, _&&_, true≢false}
 use mathlib.Core.List.{List, [], _∷_}
 use Prim.Native.Nat.{ℕ}
 use native.Mathlib.Omega.{arith}
-use Rattle.tree.specs.Tree.{Node, Fields, Items}
-use Rattle.tree.specs.Tree.Node.{node}
+use Rattle.tree.specs.Tree.{Node, Items}
 use Rattle.lowering.specs.Parts.{is, nodeAt, pieceIn, any, isEmpty, each}
 use Rattle.lowering.specs.Made.{Context, temporary, declares, declared, reference}
 use Rattle.lowering.specs.Visits.{ItemAt, NodeIn, FieldAt, PartAt, Stands}
-use Rattle.lowering.specs.Patterns.{key, properties, hasObjectRest, hasArrayRestOverObjectRest}
+use Rattle.lowering.specs.Patterns.{key, properties}
 use Rattle.lowering.specs.Keys.{keySort, keyTemporary, keyTemporaries}
 use Rattle.lowering.specs.Keys.Key.{other}
-use Rattle.lowering.specs.Declarations.{declarationRefusal}
-use Rattle.lowering.specs.Assignments.{target, isTop, topRefusal, partsOf, outermost, topEntry, nestedEntry}
-use Rattle.lowering.specs.Walk.{Step, rewrite, stepDeclaration, stepTop, stepAssignment, stepFor}
+use Rattle.lowering.specs.Assignments.{target, partsOf, outermost, topEntry, nestedEntry}
+use Rattle.lowering.specs.Walk.{rewrite}
 use Rattle.lowering.specs.Weight.{walked}
 use Rattle.lowering.specs.Collect.{Name, Visit, Entry, over, entryAt, entries, nodes, visits, numbered, numberedItems, withNumber}
-use Rattle.lowering.proofs.Cases.{by-number, by-test, by-key}
+use Rattle.lowering.proofs.Cases.{by-test, by-key}
 use Rattle.lowering.proofs.All.{AllItems, all-append, all-gather, all-each, all-unit}
 use Rattle.lowering.proofs.Notes.{AllNotes, in-walked}
 use Rattle.equal.specs.Canonical.{eachEntry}
@@ -31,7 +29,7 @@ use Rattle.result.proofs.Weighed.{total}
 use Rattle.result.proofs.Copies.{Measure}
 use Rattle.result.proofs.Tallies.{ofEntries}
 use Rattle.result.proofs.KeyWeights.{no-mark, light-handed, light-keys}
-use Rattle.result.proofs.ByRule.{by-rules}
+use Rattle.result.proofs.ByRule.{by-lists}
 
 -- a declarator whose id is a Temporary, and whose value, if it has one, is a key that goes out
 data Named : Node → Type 0 where
@@ -61,46 +59,10 @@ module _ (c : Context) where
   unfolding nestedEntry
   nested-named n = references-named (outermost (target n))
 
-  abbrev Q : Node → Step → Type 0
-  Q n s = AllItems Named (s .note .entry)
-
-  declarations-named : (at : ℕ) (fs : Fields) → Q (node at 4 fs) (stepDeclaration c (node at 4 fs))
-  unfolding stepDeclaration
-  declarations-named at fs = by-number (declarationRefusal c (node at 4 fs)) (λ r e. rw (e, stepDeclaration) tt) (λ e. rw (e, stepDeclaration) tt)
-
-  assignments-named : (at : ℕ) (fs : Fields) → Q (node at 27 fs) (stepAssignment c (node at 27 fs))
-  unfolding stepAssignment stepTop
-  assignments-named at fs =
-      let n = node at 27 fs in
-      by-test (hasArrayRestOverObjectRest (target n))
-      (λ a. rw (a, stepAssignment) tt)
-      (λ a. by-test (isTop (target n))
-      (λ u. by-number (topRefusal n)
-      (λ r k. rw (a, stepAssignment) (rw u (rw (k, stepTop) tt)))
-      (λ k. rw (a, stepAssignment) (rw u (rw (k, stepTop) (top-named n)))))
-      (λ u. by-test (hasObjectRest (target n))
-      (λ o. rw (a, stepAssignment) (rw u (rw o (nested-named n))))
-      (λ o. rw (a, stepAssignment) (rw u (rw o tt)))))
-
-  fors-named : (k at : ℕ) (fs : Fields) → Q (node at k fs) (stepFor c (node at k fs))
-  unfolding stepFor
-  fors-named k at fs =
-      by-test (is 4 (nodeAt 1 (node at k fs)))
-      (λ d. rw (d, stepFor) tt)
-      (λ d. by-test (hasArrayRestOverObjectRest (nodeAt 1 (node at k fs))) (λ a. rw (d, stepFor) (rw a tt)) (λ a. rw (d, stepFor) (rw a tt)))
-
   note-named : (n : Node) → AllItems Named (rewrite c n .note .entry)
-  note-named = by-rules c Q (record {
-    literals = λ at fs. tt;
-    declarations = declarations-named;
-    assignments = assignments-named;
-    functions = λ at fs. tt;
-    arrows = λ at fs. tt;
-    catches = λ at fs. tt;
-    forIns = fors-named 7;
-    forOfs = fors-named 8;
-    nowhere = λ at k fs e₁ e₂ e₃ e₄ e₅ e₆ e₇ e₈. tt;
-  })
+  note-named n =
+      by-lists c (AllItems Named) (λ xs. Unit {0})
+      (record { entry-none = tt; excluded-none = tt; top-entry = top-named; nested-entry = nested-named; declaration-excluded = λ m. tt; top-excluded = λ m. tt }) n .0
 
 -- ---- what such values weigh
 

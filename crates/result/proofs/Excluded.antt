@@ -12,16 +12,16 @@ use Rattle.tree.specs.Tree.Node.{node}
 use Rattle.lowering.specs.Parts.{is, stands, itemsAt, nodeAt, pieceIn, any, gather}
 use Rattle.lowering.specs.Made.{Context, temporary, declares, array, string}
 use Rattle.lowering.specs.Visits.{ItemAt, NodeIn, FieldAt, PartAt, Stands}
-use Rattle.lowering.specs.Patterns.{key, properties, hasObjectRest, hasArrayRestOverObjectRest}
+use Rattle.lowering.specs.Patterns.{key, properties}
 use Rattle.lowering.specs.Keys.{keySort, isPrimitive, allPrimitive, excludedKey, excludedKeys}
 use Rattle.lowering.specs.Keys.Key.{name, literal, template, private, again, other}
 use Rattle.lowering.specs.Rests.{isHoisted, hasNoProperties, excludedFor}
-use Rattle.lowering.specs.Declarations.{loweredIn, declarationExcludes, declarationRefusal}
-use Rattle.lowering.specs.Assignments.{target, isTop, topRefusal, topExcludes}
-use Rattle.lowering.specs.Walk.{Step, rewrite, stepDeclaration, stepTop, stepAssignment, stepFor}
+use Rattle.lowering.specs.Declarations.{loweredIn, declarationExcludes}
+use Rattle.lowering.specs.Assignments.{target, topExcludes}
+use Rattle.lowering.specs.Walk.{rewrite}
 use Rattle.lowering.specs.Weight.{walked}
 use Rattle.lowering.specs.Collect.{Name, Visit, excludedIn, visits, numbered, numberedItems, withNumber}
-use Rattle.lowering.proofs.Cases.{by-number, by-test, by-key, and-right, not-true}
+use Rattle.lowering.proofs.Cases.{by-test, by-key, and-right, not-true}
 use Rattle.lowering.proofs.All.{AllItems, all-append, all-gather, all-unit, none-passes}
 use Rattle.lowering.proofs.Notes.{AllNotes, in-walked}
 use Rattle.result.specs.Left.{keepsRest, keepsSpread, keeps, Part, Exception}
@@ -32,7 +32,7 @@ use Rattle.result.proofs.Keeping.{kept-before}
 use Rattle.result.proofs.Weighed.{total}
 use Rattle.result.proofs.Copies.{Measure, XI}
 use Rattle.result.proofs.KeyWeights.{no-mark, light-handed, light-keys}
-use Rattle.result.proofs.ByRule.{by-rules}
+use Rattle.result.proofs.ByRule.{by-lists}
 
 -- a string, or a Template
 data Plain : Node → Type 0 where
@@ -98,46 +98,10 @@ module _ (c : Context) where
   unfolding topExcludes
   top-plain n = excluded-plain (target n)
 
-  abbrev Q : Node → Step → Type 0
-  Q n s = AllItems Hoisted (s .note .excluded)
-
-  declarations-plain : (at : ℕ) (fs : Fields) → Q (node at 4 fs) (stepDeclaration c (node at 4 fs))
-  unfolding stepDeclaration
-  declarations-plain at fs = by-number (declarationRefusal c (node at 4 fs)) (λ r e. rw (e, stepDeclaration) tt) (λ e. rw (e, stepDeclaration) (declaration-plain (node at 4 fs)))
-
-  assignments-plain : (at : ℕ) (fs : Fields) → Q (node at 27 fs) (stepAssignment c (node at 27 fs))
-  unfolding stepAssignment stepTop
-  assignments-plain at fs =
-      let n = node at 27 fs in
-      by-test (hasArrayRestOverObjectRest (target n))
-      (λ a. rw (a, stepAssignment) tt)
-      (λ a. by-test (isTop (target n))
-      (λ u. by-number (topRefusal n)
-      (λ r k. rw (a, stepAssignment) (rw u (rw (k, stepTop) tt)))
-      (λ k. rw (a, stepAssignment) (rw u (rw (k, stepTop) (top-plain n)))))
-      (λ u. by-test (hasObjectRest (target n))
-      (λ o. rw (a, stepAssignment) (rw u (rw o tt)))
-      (λ o. rw (a, stepAssignment) (rw u (rw o tt)))))
-
-  fors-plain : (k at : ℕ) (fs : Fields) → Q (node at k fs) (stepFor c (node at k fs))
-  unfolding stepFor
-  fors-plain k at fs =
-      by-test (is 4 (nodeAt 1 (node at k fs)))
-      (λ d. rw (d, stepFor) tt)
-      (λ d. by-test (hasArrayRestOverObjectRest (nodeAt 1 (node at k fs))) (λ a. rw (d, stepFor) (rw a tt)) (λ a. rw (d, stepFor) (rw a tt)))
-
   note-plain : (n : Node) → AllItems Hoisted (rewrite c n .note .excluded)
-  note-plain = by-rules c Q (record {
-    literals = λ at fs. tt;
-    declarations = declarations-plain;
-    assignments = assignments-plain;
-    functions = λ at fs. tt;
-    arrows = λ at fs. tt;
-    catches = λ at fs. tt;
-    forIns = fors-plain 7;
-    forOfs = fors-plain 8;
-    nowhere = λ at k fs e₁ e₂ e₃ e₄ e₅ e₆ e₇ e₈. tt;
-  })
+  note-plain n =
+      by-lists c (λ xs. Unit {0}) (AllItems Hoisted)
+      (record { entry-none = tt; excluded-none = tt; top-entry = λ m. tt; nested-entry = λ m. tt; declaration-excluded = declaration-plain; top-excluded = top-plain }) n .1
 
 -- ---- what such keys weigh
 
