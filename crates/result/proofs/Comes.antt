@@ -1,12 +1,12 @@
 -- What the walk leaves of a node, and is written, as a relation: no fuel, no numbers to be given. Every law of the tree that is written goes by it.
 -- Assumes nothing.
 use mathlib.Core.Path.{_≡_, refl, sym, _∙_}
-use mathlib.Core.Bool.{Bool, true, false, cond, true≢false}
+use mathlib.Core.Bool.{Bool, false, cond, true≢false}
 use mathlib.Core.List.{List, [], _∷_, _++_}
 use Prim.Native.Nat.{ℕ, zero, suc, _+_, _<_, _≤_}
 use native.Mathlib.Omega.{arith}
 use lib.Dec.{eqb}
-use borrow.Author.Tests.{eqb-true}
+use borrow.Author.Tests.{eq-eqb, eqb-true}
 use Rattle.tree.specs.Tree.{Node, Fields, Piece, Items}
 use Rattle.tree.specs.Tree.Node.{node}
 use Rattle.tree.specs.Grammar.{Sort, Field}
@@ -59,20 +59,14 @@ no-refusal [] vs h = (refl, h)
 no-refusal (u ∷ us) vs h =
     by-test (eqb (u .note .refusal) 0)
     (λ e. let r = no-refusal us vs (rw (e, firstRefusal) at h) in (rw (e, firstRefusal) (r .0), r .1))
-    (λ e. absurd (true≢false (sym (zero-is (u .note .refusal) (rw (e, firstRefusal) at h)) ∙ e)))
-  where
-    zero-is : (n : ℕ) → n ≡ 0 → eqb n 0 ≡ true
-    zero-is n q = rw q refl
+    (λ e. absurd (true≢false (sym (eq-eqb (u .note .refusal) 0 (rw (e, firstRefusal) at h)) ∙ e)))
 
 pub no-refusal-here : (u : Visit) (us : List Visit) → firstRefusal (u ∷ us) ≡ 0 → (u .note .refusal ≡ 0) × (firstRefusal us ≡ 0)
 unfolding firstRefusal
 no-refusal-here u us h =
     by-test (eqb (u .note .refusal) 0)
     (λ e. (eqb-true (u .note .refusal) 0 e, rw (e, firstRefusal) at h))
-    (λ e. (rw (e, firstRefusal) at h, absurd (true≢false (sym (zero-is (u .note .refusal) (rw (e, firstRefusal) at h)) ∙ e))))
-  where
-    zero-is : (n : ℕ) → n ≡ 0 → eqb n 0 ≡ true
-    zero-is n q = rw q refl
+    (λ e. (rw (e, firstRefusal) at h, absurd (true≢false (sym (eq-eqb (u .note .refusal) 0 (rw (e, firstRefusal) at h)) ∙ e))))
 
 pub not-refused : (note : Note) (w : ℕ → ℕ → Node → Walked) (r : Node) (next m : ℕ) → firstRefusal (visits next m (inside note w r)) ≡ 0 → note .refusal ≡ 0
 unfolding inside visits

@@ -6,7 +6,7 @@ use mathlib.Core.List.{List, [], _∷_, _++_}
 use Prim.Native.Nat.{ℕ, zero, suc, _+_, _≤_, _<_}
 use native.Mathlib.Omega.{arith}
 use lib.Dec.{eqb, ltb}
-use borrow.Author.Tests.{eqb-true, eqb-false, ltb-true, ltb-false}
+use borrow.Author.Tests.{eq-eqb, eqb-true, eqb-false, ltb-true, ltb-false}
 use Rattle.tree.specs.Tree.{Node, Fields, Piece, Items, count, marks, marksFields, marksPiece, marksItems}
 use Rattle.tree.specs.Tree.Node.{node}
 use Rattle.tree.specs.Grammar.{Sort, Field, among, formAt, fieldsOf, kinds, formIn, kindOf, places, also}
@@ -77,15 +77,12 @@ among-tally m (x ∷ ms) e =
     (λ a. rw a (omega arith))
     (λ a. let r = among-tally m ms (rw a at e) in rw a (omega arith))
 
-eqb-self : (m : ℕ) → eqb m m ≡ true
-eqb-self m = by-test (eqb m m) (λ e. e) (λ e. absurd (eqb-false m m e refl))
-
 pub distinct-by : (ms : List ℕ) → ((m : ℕ) → tally (hit m) ms ≤ 1) → distinct ms ≡ true
 unfolding distinct tally
 distinct-by [] h = refl
 distinct-by (m ∷ ms) h =
     by-test (among ms m)
-    (λ a. let x = among-tally m ms a in let y = h m in let z : hit m m ≡ 1 = rw (eqb-self m) refl in absurd (omega arith))
+    (λ a. let x = among-tally m ms a in let y = h m in let z : hit m m ≡ 1 = rw (eq-eqb m m refl) refl in absurd (omega arith))
     (λ a. rw a (distinct-by ms (λ n. let y = h n in omega arith)))
 
 among-append : (m : ℕ) (ms ns : List ℕ) → among (ms ++ ns) m ≡ false → among ms m ≡ false

@@ -1,7 +1,7 @@
 -- The values that a list hands out are keys of the input.
 -- Assumes nothing.
 use mathlib.Core.Path.{_≡_, refl, sym, subst}
-use mathlib.Core.Bool.{Bool, true, false, cond, true≢false}
+use mathlib.Core.Bool.{true, false, cond, true≢false}
 use mathlib.Core.List.{List, [], _∷_}
 use Prim.Native.Nat.{ℕ, suc}
 use native.Mathlib.Omega.{arith}
@@ -12,7 +12,7 @@ use Rattle.tree.specs.Tree.Node.{node}
 use Rattle.tree.specs.Grammar.{Sort, Field, formAt, fieldsOf, allowed, places, formIn, kindOf, also, among, kinds}
 use Rattle.tree.specs.Grammar.Stage.{rewritten}
 use Rattle.tree.proofs.Complete.{not-hole}
-use Rattle.lowering.specs.Parts.{kind, is, stands, standsIn, nodeAt, sameNumbers, any, pieceIn, asNode}
+use Rattle.lowering.specs.Parts.{kind, is, stands, standsIn, nodeAt, sameNumbers, pieceIn, asNode}
 use Rattle.lowering.specs.Made.{Context}
 use Rattle.lowering.specs.Patterns.{properties, key}
 use Rattle.lowering.specs.Visits.{ItemAt}
@@ -26,6 +26,7 @@ use Rattle.result.specs.Left.{keepsRest}
 use Rattle.result.proofs.Rows.{lone}
 use Rattle.result.proofs.Lies.{Texts, Lies, LieFields, LiePiece, LieItems, apart, may-stand}
 use Rattle.result.proofs.Handing.{EntriesLie}
+use Rattle.result.proofs.Searched.{any-some}
 use Rattle.result.proofs.Occurring.{any-in}
 use Rattle.result.proofs.Weighed.{total}
 use Rattle.result.proofs.Copies.{Measure}
@@ -45,12 +46,6 @@ module _ (n : Node) where
 
   -- ---- those of n are
 
-  any-at : (f : Node → Bool) {is : Items} {j : ℕ} {x : Node} → ItemAt is j x → f x ≡ true → any f is ≡ true
-  unfolding any
-  any-at f ItemAt.first e = rw e refl
-  any-at f (ItemAt.behind {n = m} {is = is} a) e = by-test (f m) (λ b. rw b refl) (λ b. rw b (any-at f a e))
-  any-at f (ItemAt.behindHole a) e = any-at f a e
-
   all-at : (P : Node → Type 0) (is : Items) → ((j : ℕ) (x : Node) → ItemAt is j x → P x) → AllItems P is
   all-at P Items.none h = tt
   all-at P (Items.hole is) h = all-at P is (λ j x a. h (suc j) x (ItemAt.behindHole a))
@@ -59,7 +54,7 @@ module _ (n : Node) where
   own-known : {p : Node} → In p (nodes n) → is 34 p ≡ true → {j : ℕ} {q : Node} → ItemAt (properties p) j q → isKeyOf n (key q) ≡ true
   unfolding isKeyOf hasKey
   own-known {p = p} i e {q = q} a =
-      any-in (hasKey (key q)) i (rw e (any-at (λ x. sameNumbers (encode (key x)) (encode (key q))) a (numbers-self (encode (key q)))))
+      any-in (hasKey (key q)) i (rw e (any-some (λ x. sameNumbers (encode (key x)) (encode (key q))) a (numbers-self (encode (key q)))))
 
   -- ---- what is handed out
 

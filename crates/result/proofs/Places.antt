@@ -45,7 +45,7 @@ form-passes t (f ∷ r) k h z = go (eqb (kindOf f) k) refl (λ y. form-passes t 
     go true e i y = (and-left (t f) (every t r) h, eqb-true (kindOf f) k e)
     go false e i y = i y
 
-place-passes : (t : ℕ → Bool) (p k : ℕ) → every t (allowed rewritten p) ≡ true → 0 < formAt rewritten p k → (t (formAt rewritten p k) ≡ true) × (kindOf (formAt rewritten p k) ≡ k)
+pub place-passes : (t : ℕ → Bool) (p k : ℕ) → every t (allowed rewritten p) ≡ true → 0 < formAt rewritten p k → (t (formAt rewritten p k) ≡ true) × (kindOf (formAt rewritten p k) ≡ k)
 unfolding formAt
 place-passes t p k h z = go (ltb k 64) z
   where

@@ -23,6 +23,7 @@ use Rattle.lowering.specs.Assignments.{target, isTop, topRefusal, topSequence, 
 use Rattle.lowering.specs.Heads.{isMoved, movedOut, leftBehind, function, arrow, catch, declaringHead, assigningHead}
 use Rattle.lowering.specs.Walk.{Step, rewrite, stepDeclaration, stepTop, stepAssignment, stepFor}
 use Rattle.lowering.proofs.Cases.{by-number, by-test, by-shape, by-key}
+use Rattle.lowering.proofs.ItemLaws.{any-behind}
 use Rattle.lowering.proofs.All.{AllItems, all-append, all-gather, all-cond, all-each, none-passes, other-changed}
 use Rattle.result.proofs.Rows.{form-4, form-7, form-8, form-10, form-17}
 use Rattle.result.proofs.Lies.{Texts, Lies, LieFields, LiePiece, LieItems, may-stand, list-at, node-at, stands-at, all-of}
@@ -59,12 +60,6 @@ pub data Settled : Node → Type 0 where
 
 -- ---- literals
 
-any-more : (f : Node → Bool) (is : Items) (n : Node) → any f is ≡ false → f n ≡ false → any f (is +++ only n) ≡ false
-unfolding any _+++_
-any-more f Items.none n h e = rw e refl
-any-more f (Items.hole is) n h e = any-more f is n h e
-any-more f (Items.item m is) n h e = by-test (f m) (λ t. absurd (true≢false (sym (rw t refl) ∙ h))) (λ t. rw t (any-more f is n (rw t at h) e))
-
 abbrev CallSettled : Call → Type 0
 CallSettled Call.no-call = Unit {0}
 CallSettled (Call.call m) = Settled m
@@ -83,7 +78,7 @@ scan-settled c pending (Items.hole ps) h e = scan-settled c pending ps h e
 scan-settled c pending (Items.item n ps) h e =
     by-test (is 26 n)
     (λ t. rw (t, scan) (scan-settled (Call.call (S (opened c pending +++ only (nodeAt 0 n)))) Items.none ps (Settled.ofOther refl refl refl refl refl refl refl refl) refl))
-    (λ t. rw (t, scan) (scan-settled c (pending +++ only n) ps h (any-more (λ p. is 26 p) pending n e t)))
+    (λ t. rw (t, scan) (scan-settled c (pending +++ only n) ps h (any-behind (λ p. is 26 p) pending n e t)))
 
 literal-settled : (at : ℕ) (fs : Fields) → Settled (literal (node at 24 fs))
 unfolding literal itemsAt any

@@ -20,6 +20,7 @@ use Rattle.lowering.proofs.Levels.{depth-pos, has-nothing}
 use Rattle.lowering.proofs.Clauses.{replaced-object, replaced-array, replaced-default, replaced-leaf, nearest-object, nearest-array, nearest-default, nearest-leaf, has-leaf}
 use Rattle.result.proofs.Lies.{Texts, Lies, LieItems}
 use Rattle.result.proofs.PatternViews.{wholeAt, valueAt, propertyAt, leafAt, patternAt, ObjectView, PropertyView, ArrayView, DefaultView, object-view, array-view, property-view, default-view, no-default-whole, array-plain, array-rested}
+use Rattle.result.proofs.Valued.{none-any}
 use Rattle.result.proofs.Patterns.{left-lies, reference-lies}
 
 -- ---- lists
@@ -29,12 +30,6 @@ unfolding gather _+++_
 gather-none f none h = refl
 gather-none f (hole is) h = gather-none f is h
 gather-none f (item n is) h = rw (h .0) (gather-none f is (h .1))
-
-any-none : (f : Node → Bool) (is : Items) → AllItems (λ n. f n ≡ false) is → any f is ≡ false
-unfolding any
-any-none f none h = refl
-any-none f (hole is) h = any-none f is h
-any-none f (item n is) h = rw (h .0) (any-none f is (h .1))
 
 -- a Temporary is a leaf
 reference-clear : (c : Context) (p : Node) (e : ℕ) → nearest true e (reference c p) ≡ none
@@ -173,9 +168,9 @@ module _ {T : Texts} (t : Bool) (f : Node → Node) (d : ℕ) (g : (w : Bool) (v
   array-bare : {p : Node} → ArrayView T (valueAt t) (wholeAt t) p → depth p ≤ suc d → (e : ℕ) → hasNestedObjectRest e (withRest f (withItems f p)) ≡ false
   unfolding hasNestedObjectRest change changeIn onItems onNode itemsAt nodeAt pieceIn shape depth
   array-bare (ArrayView.plain a) k zero = refl
-  array-bare (ArrayView.plain {is = is} a) k (suc e) = rw (any-none (λ x. hasNestedObjectRest e x) (each f is) (items-bare a (omega arith) e)) (has-nothing e)
+  array-bare (ArrayView.plain {is = is} a) k (suc e) = rw (none-any (λ x. hasNestedObjectRest e x) (each f is) (items-bare a (omega arith) e)) (has-nothing e)
   array-bare (ArrayView.rested a r u) k zero = refl
-  array-bare (ArrayView.rested {is = is} {r = v} a r u) k (suc e) = rw (any-none (λ x. hasNestedObjectRest e x) (each f is) (items-bare a (omega arith) e)) (g false v r (omega arith) e)
+  array-bare (ArrayView.rested {is = is} {r = v} a r u) k (suc e) = rw (none-any (λ x. hasNestedObjectRest e x) (each f is) (items-bare a (omega arith) e)) (g false v r (omega arith) e)
 
 default-bare : {T : Texts} (c : Context) (t : Bool) (o : Node) {p : Node} → DefaultView T (wholeAt t) p → (e : ℕ) → hasNestedObjectRest e (withLeft (λ l. reference c o) p) ≡ false
 unfolding hasNestedObjectRest change changeIn onNode nodeAt pieceIn shape
