@@ -3,11 +3,11 @@
 use mathlib.Core.Path.{_≡_, refl, sym, ap, subst, _∙_}
 use mathlib.Core.Bool.{true, false, _||_, true≢false}
 use mathlib.Core.List.{List, [], _∷_, _++_}
-use mathlib.Core.Logic.{_⊎_}
+use mathlib.Core.Logic.{_⊎_, inl, inr}
 use Prim.Native.Nat.{ℕ, _+_, _*_, _<_, _≤_, min}
 use native.Mathlib.Omega.{arith}
 use native.Mathlib.Nat.{add-comm}
-use lib.Dec.{ltb}
+use lib.Dec.{leb, ltb}
 use lib.ListN.{length, length-append}
 use borrow.Author.Tests.{ltb-false}
 use Rattle.tree.specs.Tree.{Node, Items, depth, wideBytes, encode, encodePiece, marks, placed}
@@ -41,6 +41,9 @@ use Rattle.result.specs.Left.{keepsRest, keepsSpread, keeps, Part, Of, R
 use Rattle.result.specs.Leftover.{restLeft, leftIn, leftover}
 use Rattle.joining.specs.List.{handed, innerMarks, FitHanded}
 use Rattle.joining.specs.Join.{found}
+use Rattle.printer.specs.Text.{textOf}
+use Rattle.printer.specs.Outcome as text
+use Rattle.printer.specs.Outcome.{textTooLong}
 use Rattle.joining.specs.Answer as joining
 use Rattle.joining.proofs.Exact.{marks-long}
 use Rattle.joining.specs.Answer.{taken}
@@ -100,6 +103,10 @@ fits-short s t l e =
 
 remains : {n : Node} {part : Part} {p c : List ℕ} {t x : Node} → Caused n part p t c x → Remains part p t c x
 remains (Caused.caused s e o) = Remains.remains s e
+
+text-answers : (size : ℕ) (bs : List ℕ) → (text.fitted size bs .answer ≡ 0) ⊎ (text.fitted size bs .answer ≡ textTooLong)
+unfolding text.fitted text.refusal
+text-answers size bs = by-test (leb (length bs) size) (λ e. inl (rw e refl)) (λ e. inr (rw e refl))
 
 -- ---- the law
 
@@ -287,6 +294,9 @@ module _ (limit : ℕ) (tree t l : List ℕ) (s : Lent) (b : Bytes tree) (k : Lo
         apart = tree-apart m (resultOf next n .entries) (resultOf next n .excluded) (distinct-marks h);
       }))
 
+  tree-printed : copiesMarks n ≡ false → (size : ℕ) → (text.outcome (readRewritten t) size .answer ≡ 0) ⊎ (text.outcome (readRewritten t) size .answer ≡ textTooLong)
+  tree-printed h size = rw (tree-accepted h) (text-answers size (textOf (placed (resultOf next n .tree) 0)))
+
   tree-joined : copiesMarks n ≡ false → (room : ℕ) → (joining.answerOf (joining.outcome t l room) ≡ 0) ⊎ (joining.answerOf (joining.outcome t l room) ≡ 7)
   unfolding resultMarks entriesFound
   tree-joined h room =
@@ -319,6 +329,7 @@ module _ (limit : ℕ) (tree t l : List ℕ) (s : Lent) (b : Bytes tree) (k : Lo
         entered = entries-entered;
         apart = distinct-marks;
         accepted = tree-accepted;
+        printed = tree-printed;
         joined = tree-joined;
       }
 

@@ -76,6 +76,13 @@ inExcludedList =
     0 ∷ 0 ∷ 1 ∷ 0 ∷ 5 ∷ 3 ∷ 20 ∷ 3 ∷ 1 ∷ 0 ∷ 2 ∷ 32 ∷ 1 ∷ 1 ∷ 0 ∷ 23 ∷ 3 ∷ 1 ∷ 0 ∷ 22 ∷ 7 ∷ 1 ∷ 1 ∷ 0 ∷ 113 ∷ 1 ∷ 0 ∷ 113 ∷ 1 ∷ 0 ∷ 24 ∷ 1 ∷ 1 ∷ 0 ∷
     26 ∷ 1 ∷ 18 ∷ 1 ∷ 1 ∷ 0 ∷ 122 ∷ []
 
+-- document 01's listing, and its tree
+abbrev listing : List ℕ
+listing = 1 ∷ 1 ∷ 1 ∷ 0 ∷ 3 ∷ 3 ∷ 1 ∷ 0 ∷ 24 ∷ 1 ∷ 1 ∷ 0 ∷ 26 ∷ 1 ∷ 18 ∷ 1 ∷ 1 ∷ 0 ∷ 97 ∷ []
+
+abbrev listingTree : List ℕ
+listingTree = 1 ∷ 1 ∷ 1 ∷ 0 ∷ 3 ∷ 3 ∷ 1 ∷ 0 ∷ 29 ∷ 3 ∷ 21 ∷ 1 ∷ 1 ∷ 2 ∷ 0 ∷ 24 ∷ 1 ∷ 0 ∷ 0 ∷ 18 ∷ 1 ∷ 1 ∷ 0 ∷ 97 ∷ []
+
 -- `` let {[`a`[function() { }]]: b, ...c} = d `` (lowering's `template-copied`), and its tree
 abbrev markCopied : List ℕ
 markCopied =
@@ -143,6 +150,11 @@ pub record Examples : Type 0 where
   pub markCopied-twice : isRewritten markCopiedTree ≡ false
   pub markCopied-told : toldOf (readTree input highestLimit markCopied) ≡ true
   pub inExcluded-told : toldOf (readTree input highestLimit inExcluded) ≡ false
+  -- the listing has no cause, and nothing is left
+  pub listing-lowered : lowering highestLimit 0 listing plenty ≡ lowered 1 0 listingTree noList
+  pub listing-rewritten : isRewritten listingTree ≡ true
+  pub listing-none : leftover listingTree ≡ false
+  pub listing-causes : causesIn listing ≡ []
   -- no tree
   pub empty : leftover [] ≡ false
 
@@ -225,4 +237,4 @@ unfolding
     Rattle.rewritten.specs.Rewritten.isRewritten Rattle.rewritten.specs.Rewritten.readRewritten
     Rattle.rewritten.specs.Rewritten.distinct Rattle.result.specs.Marks.holdsMark Rattle.result.specs.Marks.copiesAt
     Rattle.result.specs.Marks.copiesMarks
-examples = record { belowArrayRest-lowered = refl; belowArrayRest-left = refl; belowArrayRest-cause = refl; restParameter-lowered = refl; restParameter-left = refl; restParameter-cause = refl; withoutBody-lowered = refl; withoutBody-left = refl; withoutBody-cause = refl; withoutValue-lowered = refl; withoutValue-left = refl; withoutValue-cause = refl; inKey-lowered = refl; inKey-rewritten = refl; inKey-none = refl; inKey-left = refl; inKey-cause = refl; inExcluded-lowered = refl; inExcluded-none = refl; inExcluded-left = refl; inExcluded-cause = refl; markCopied-lowered = refl; markCopied-twice = refl; markCopied-told = refl; inExcluded-told = refl; empty = refl }
+examples = record { belowArrayRest-lowered = refl; belowArrayRest-left = refl; belowArrayRest-cause = refl; restParameter-lowered = refl; restParameter-left = refl; restParameter-cause = refl; withoutBody-lowered = refl; withoutBody-left = refl; withoutBody-cause = refl; withoutValue-lowered = refl; withoutValue-left = refl; withoutValue-cause = refl; inKey-lowered = refl; inKey-rewritten = refl; inKey-none = refl; inKey-left = refl; inKey-cause = refl; inExcluded-lowered = refl; inExcluded-none = refl; inExcluded-left = refl; inExcluded-cause = refl; markCopied-lowered = refl; markCopied-twice = refl; markCopied-told = refl; inExcluded-told = refl; listing-lowered = refl; listing-rewritten = refl; listing-none = refl; listing-causes = refl; empty = refl }

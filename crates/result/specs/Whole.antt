@@ -15,6 +15,8 @@ use Rattle.lowering.specs.Visits.{Stands}
 use Rattle.equal.specs.Canonical.{Written}
 use Rattle.equal.specs.Equal.{listEncoded}
 use Rattle.equal.specs.Results.{resultBy, ownNames, entriesOf}
+use Rattle.printer.specs.Outcome as text
+use Rattle.printer.specs.Outcome.{textTooLong}
 use Rattle.joining.specs.List.{handed, FitHanded}
 use Rattle.joining.specs.Answer.{outcome, answerOf}
 use Rattle.result.specs.Left.{keeps, Part, Of, NothingLeft}
@@ -29,11 +31,11 @@ abbrev pub resultOf : ℕ → Node → Written
 resultOf next n = resultBy (ownNames next n) next n
 
 -- tree and list t, l of an input: the tree is well formed in the rewritten stage, and read as what the definition has; nothing is left in
--- tree and list but the exceptions, each of which has its cause in the input, and the test for loaders says whether there is one in the tree; the list
--- is one; each text is one of the input's, or one of two that the rules put. A value in the list is a key of the
--- input (before temporaries have numbers; the input has none). Each entry's mark is found in the tree. If no key with a mark inside is
--- copied, the marks of tree and list are distinct, and so the tree is a rewritten tree, and joining takes both: it answers 0, or 7 for a slice or a
--- tree that is too long
+-- tree and list but the exceptions, each of which has its cause in the input, and the test for loaders says whether a rest is left in the tree; the
+-- list is one; each text is one of the input's, or one of two that the rules put. A value in the list is a key of the input (before temporaries
+-- have numbers; the input has none). Each entry's mark is found in the tree. If no key with a mark inside is copied, the marks of tree and list
+-- are distinct, and so the tree is a rewritten tree; its text is answered with 0, or 10 for a slice that is too short; and joining takes both: it
+-- answers 0, or 7 for a slice or a tree that is too long
 pub record LoweredRewritten (limit : ℕ) (tree t l : List ℕ) : Type 0 where
   pub n : Node
   pub end : ℕ
@@ -53,4 +55,5 @@ pub record LoweredRewritten (limit : ℕ) (tree t l : List ℕ) : Type 0 where
   pub entered : entriesFound (resultOf next n) ≡ true
   pub apart : copiesMarks n ≡ false → distinct (resultMarks (resultOf next n)) ≡ true
   pub accepted : copiesMarks n ≡ false → readRewritten t ≡ got (placed (resultOf next n .tree) 0) (length t) 1
+  pub printed : copiesMarks n ≡ false → (size : ℕ) → (text.outcome (readRewritten t) size .answer ≡ 0) ⊎ (text.outcome (readRewritten t) size .answer ≡ textTooLong)
   pub joined : copiesMarks n ≡ false → (room : ℕ) → (answerOf (outcome t l room) ≡ 0) ⊎ (answerOf (outcome t l room) ≡ 7)
