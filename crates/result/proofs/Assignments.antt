@@ -1,30 +1,27 @@
 -- Assignments: what is made of one lies where it lay.
 -- Assumes nothing.
 use mathlib.Core.Path.{_≡_, refl, sym, ap, subst, _∙_}
-use mathlib.Core.Bool.{Bool, true, false, cond, _&&_, _||_, true≢false}
-use mathlib.Core.List.{List, [], _∷_, _++_}
+use mathlib.Core.Bool.{Bool, true, false, cond}
+use mathlib.Core.List.{[], _∷_}
 use Prim.Native.Nat.{ℕ, zero, suc, _<_, _≤_}
 use native.Mathlib.Omega.{arith}
-use lib.Dec.{eqb, ltb}
-use borrow.Author.Tests.{eqb-true}
-use Rattle.tree.specs.Tree.{Node, Fields, Piece, Items, depth}
+use lib.Dec.{eqb}
+use Rattle.tree.specs.Tree.{Node, Fields, depth}
 use Rattle.tree.specs.Tree.Node.{node}
 use Rattle.tree.specs.Tree.Fields.{done, absent, field}
-use Rattle.tree.specs.Tree.Piece.{one, list, byte}
+use Rattle.tree.specs.Tree.Piece.{one, byte}
 use Rattle.tree.specs.Grammar.{Sort, Field, places, allowed, also, among, kindOf, formIn, formAt, fieldsOf, kinds}
 use Rattle.tree.specs.Grammar.Stage.{rewritten}
-use Rattle.lowering.specs.Parts.{kind, is, nodeAt, itemsAt, stands, pieceIn, change, changeIn, onNode, only, each, gather, _+++_}
-use Rattle.lowering.specs.Made.{Context, declared, reference, valueOf, assign, sequence}
-use Rattle.lowering.specs.Patterns.{Shape, shape, properties, rest, hasRest, value, withValues, replaced, replacedBelow}
-use Rattle.lowering.specs.Patterns.Shape.{objectPattern, arrayPattern, leaf}
-use Rattle.lowering.specs.Keys.{keyTemporaries, taken}
-use Rattle.lowering.specs.Rests.{restValue, excludedFor}
-use Rattle.lowering.specs.Assignments.{target, assigned, nearest, isTop, partsOf, outermost, partsReplaced, targetLeft, fromReference, topSequence, topEntry, topExcludes, nestedSequence, nestedEntry}
-use Rattle.lowering.proofs.Cases.{by-test, by-shape, and-left, and-right, shape-34, object-is, array-is, default-is}
+use Rattle.lowering.specs.Parts.{kind, is, nodeAt, pieceIn, change, changeIn, onNode}
+use Rattle.lowering.specs.Made.{Context, declared, reference, valueOf}
+use Rattle.lowering.specs.Patterns.{shape, hasRest, value, withValues, replaced, replacedBelow}
+use Rattle.lowering.specs.Patterns.Shape.{objectPattern, leaf}
+use Rattle.lowering.specs.Assignments.{target, assigned, nearest, partsOf, outermost, partsReplaced, targetLeft, fromReference, topSequence, topEntry, topExcludes, nestedSequence, nestedEntry}
+use Rattle.lowering.proofs.Cases.{by-shape, object-is, array-is, default-is}
 use Rattle.lowering.proofs.Clauses.{replaced-leaf}
 use Rattle.result.proofs.Rows.{covers, at-places, no-kind}
 use Rattle.result.proofs.Lies.{Texts, Lies, LieFields, LiePiece, LieItems, make, moved, may-stand, lies-append, lies-only, lies-each, lies-gather, lies-if}
-use Rattle.result.proofs.PatternViews.{patternAt, fields-at, of-kind}
+use Rattle.result.proofs.PatternViews.{fields-at, of-kind}
 use Rattle.result.proofs.Expressions.{Takes, takes-3, takes-27, form-27, temporary-lies, sequence-lies, assign-lies}
 use Rattle.result.proofs.Patterns.{values-lies, properties-of, value-of, rest-of, reference-lies, replaced-lies, parts-lie, nearest-lie}
 use Rattle.result.proofs.Keys.{same-shape, bound, keyTemporaries-lie, taken-lies, restValue-lies, excludedFor-lies}

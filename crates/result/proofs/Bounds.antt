@@ -1,7 +1,7 @@
 -- New marks and names of temporaries are few, since each of them takes bytes of what is written.
 -- Assumes nothing.
-use mathlib.Core.Path.{_≡_, refl, sym, ap, subst, _∙_}
-use mathlib.Core.Bool.{Bool, true, false, cond}
+use mathlib.Core.Path.{_≡_, refl}
+use mathlib.Core.Bool.{Bool, false, cond}
 use mathlib.Core.List.{List, [], _∷_, _++_}
 use Prim.Native.Nat.{ℕ, zero, suc, _+_, _*_, _<_, _≤_}
 use native.Mathlib.Omega.{arith}
@@ -14,13 +14,13 @@ use Rattle.lowering.specs.Parts.{is}
 use Rattle.lowering.specs.Made.{Context}
 use Rattle.lowering.specs.Walk.{Note, Walked, WalkedPiece, eachItem, eachPiece, eachField, inside, rewrite, within, walk}
 use Rattle.lowering.specs.Weight.{weight, walked}
-use Rattle.lowering.specs.Collect.{Name, same, Visit, over, nameAt, nameOf, nodes, nodesFields, nodesPiece, nodesItems, newIn, newInFields, newInPiece, newInItems, isContainer, markOf, marked, visits, visitsFields, visitsPiece, visitsItems, firstRefusal, bare, bareFields, barePiece, bareItems, except, distinct, numberIn, numbered, numberedFields, numberedPiece, numberedItems, withNumber}
+use Rattle.lowering.specs.Collect.{Name, over, nameAt, nodes, nodesFields, nodesPiece, nodesItems, newIn, newInFields, newInPiece, newInItems, isContainer, markOf, marked, visits, visitsFields, visitsPiece, visitsItems, firstRefusal, bare, bareFields, barePiece, bareItems, except, distinct, numberIn, numbered, numberedFields, numberedPiece, numberedItems, withNumber}
 use Rattle.lowering.proofs.Cases.{by-test}
 use Rattle.lowering.proofs.All.{AllItems, AllPiece, AllFields, Each, weaker-each, weaker-piece}
 use Rattle.lowering.proofs.Weights.{weight-pos}
 use Rattle.lowering.proofs.Falls.{falls}
 use Rattle.result.proofs.Lies.{Texts, Lies, LieFields, LiePiece, LieItems}
-use Rattle.result.proofs.Rules.{Leaves, leaves}
+use Rattle.result.proofs.Rules.{leaves}
 use Rattle.result.proofs.Comes.{no-refusal, no-refusal-here, not-refused}
 
 -- how many names of temporaries stand among the nodes

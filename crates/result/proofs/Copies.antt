@@ -51,7 +51,6 @@ view (node at k fs) =
 pub record Measure (out : ℕ → ℕ) (kin : Node → ℕ) : Type 0 where
   pub new : out 0 ≡ 0
   pub none-kin : kin nothing ≡ 0
-  pub temporary-kin : (path : List ℕ) (stem at : ℕ) → kin (temporary path stem at) ≡ 0
   pub entry : Node → ℕ
   pub excluded : Node → ℕ
   pub excludedItem : Node → ℕ
@@ -196,45 +195,20 @@ module _ {out : ℕ → ℕ} {kin : Node → ℕ} (measure : Measure out kin) wh
     unfolding change nodeAt
     other-key t (node at k fs) z = change-node-less out kin at k fs 0 (λ k. t) (load (asNode (pieceIn fs 0))) (key-piece t (pieceIn fs 0) z)
 
-    gone-in : (t : Node) (fs : Fields) → kin t ≡ 0 → kin (asNode (pieceIn (changeIn fs 0 (onNode (λ k. t))) 0)) ≡ 0
-    unfolding pieceIn changeIn onNode
-    gone-in t done z = measure .none-kin
-    gone-in t (absent fs) z = measure .none-kin
-    gone-in t (field (one n) fs) z = z
-    gone-in t (field (list n) fs) z = measure .none-kin
-    gone-in t (field (text n) fs) z = measure .none-kin
-    gone-in t (field (byte n) fs) z = measure .none-kin
-    gone-in t (field (mark n) fs) z = measure .none-kin
-    gone-in t (field (number n) fs) z = measure .none-kin
-
-    gone : (t : Node) (q : Node) → kin t ≡ 0 → kin (key (changeNode 0 (λ k. t) q)) ≡ 0
-    unfolding change nodeAt
-    gone t (node at k fs) z = gone-in t fs z
-
-    without-rest : (k : Node) → ofKey out kin false k ≡ kin k
-    without-rest k = by-test (isCopied k) (λ e. rw e (omega arith)) (λ e. rw e (omega arith))
-
-    with-rest : (k : Node) → ofKey out kin true k ≡ kin k + cond (isCopied k) (load k + kin k) 0
-    with-rest k = refl
-
     -- what is left of a property, its key's temporary and its copy
     key-kept : (q : Node) → load (keptKey c q) + keyNode out kin false (keptKey c q) + (outKey q + copy q) ≤ load q + keyNode out kin true q
     unfolding keptKey outKey copy
     key-kept q =
         let a = key-by out kin (measure .none-kin) true q in
-        let b = with-rest (key q) in
         by-key (keySort (key q))
-        (λ e. rw (e, keptKey, outKey) (let d = key-by out kin (measure .none-kin) false q in let f = without-rest (key q) in omega arith))
-        (λ e. rw (e, keptKey, outKey) (let d = key-by out kin (measure .none-kin) false q in let f = without-rest (key q) in omega arith))
-        (λ e. rw (e, keptKey, outKey) (let d = key-by out kin (measure .none-kin) false q in let f = without-rest (key q) in omega arith))
-        (λ e. rw (e, keptKey, outKey) (let d = key-by out kin (measure .none-kin) false q in let f = without-rest (key q) in omega arith))
-        (λ e. rw (e, keptKey, outKey) (let d = key-by out kin (measure .none-kin) false q in let f = without-rest (key q) in omega arith))
+        (λ e. rw (e, keptKey, outKey) (let d = key-by out kin (measure .none-kin) false q in omega arith))
+        (λ e. rw (e, keptKey, outKey) (let d = key-by out kin (measure .none-kin) false q in omega arith))
+        (λ e. rw (e, keptKey, outKey) (let d = key-by out kin (measure .none-kin) false q in omega arith))
+        (λ e. rw (e, keptKey, outKey) (let d = key-by out kin (measure .none-kin) false q in omega arith))
+        (λ e. rw (e, keptKey, outKey) (let d = key-by out kin (measure .none-kin) false q in omega arith))
         (λ e. rw (e, keptKey, outKey)
         (let t = keyOf c q in
-        let o = changeNode 0 (λ k. t) q in
-        let d = key-by out kin (measure .none-kin) false o in
-        let f = without-rest (key o) in
-        let g = gone t q (measure .temporary-kin _ _ _) in
+        let d = key-by out kin (measure .none-kin) false (changeNode 0 (λ k. t) q) in
         let h = other-key t q (temporary-weighs out kin _ _ _) in
         omega arith))
 

@@ -1,35 +1,29 @@
 -- Declarations: what is made of one lies where it lay.
 -- Assumes nothing.
-use mathlib.Core.Path.{_≡_, refl, sym, ap, subst, _∙_}
-use mathlib.Core.Bool.{Bool, true, false, cond, _&&_, _||_}
-use mathlib.Core.List.{List, [], _∷_, _++_}
-use Prim.Native.Nat.{ℕ, zero, suc, _<_, _≤_}
+use mathlib.Core.Path.{_≡_, refl, sym, subst}
+use mathlib.Core.Bool.{Bool, true, false, cond}
+use mathlib.Core.List.{[], _∷_}
+use Prim.Native.Nat.{ℕ, zero, suc, _<_}
 use native.Mathlib.Omega.{arith}
-use lib.Dec.{eqb, ltb}
-use lib.ListN.{getD}
-use borrow.Author.Tests.{eqb-true}
 use Rattle.tree.specs.Tree.{Node, Fields, Piece, Items, depth}
 use Rattle.tree.specs.Tree.Node.{node}
-use Rattle.tree.specs.Tree.Fields.{done, absent, field}
-use Rattle.tree.specs.Tree.Piece.{one, list}
 use Rattle.tree.specs.Grammar.{Sort, Field, places, allowed, also, among, kindOf, formIn, formAt, fieldsOf, kinds}
 use Rattle.tree.specs.Grammar.Stage.{rewritten}
-use Rattle.lowering.specs.Parts.{kind, is, nodeAt, itemsAt, stands, pieceIn, standsIn, change, changeIn, onItems, only, gather, _+++_}
-use Rattle.lowering.specs.Made.{Context, declares, reference, valueOf}
-use Rattle.lowering.specs.Patterns.{Shape, shape, properties, itemsOf, rest, hasRest, leftOf, value, withValues, replaced, replacedBelow, hasObjectRest, objectsWithRest, objectsBelow}
-use Rattle.lowering.specs.Patterns.Shape.{objectPattern, arrayPattern}
-use Rattle.lowering.specs.Keys.{keyTemporaries, taken}
-use Rattle.lowering.specs.Rests.{hasNoProperties, restValue, excludedFor}
+use Rattle.lowering.specs.Parts.{kind, is, nodeAt, itemsAt, stands, standsIn, change, changeIn, onItems, only, gather}
+use Rattle.lowering.specs.Made.{Context, reference}
+use Rattle.lowering.specs.Patterns.{shape, properties, itemsOf, hasRest, leftOf, value, withValues, replaced, replacedBelow, hasObjectRest, objectsWithRest, objectsBelow}
+use Rattle.lowering.specs.Patterns.Shape.{objectPattern}
+use Rattle.lowering.specs.Rests.{hasNoProperties, excludedFor}
 use Rattle.lowering.specs.Declarations.{isName, source, sourceDeclarator, keysBefore, patternDeclarator, restDeclarator, own, nested, nestedBelow, objectDeclarators, patternDeclarators, lowerDeclarator, isLowered, declarators, loweredIn, declaration, declarationExcludes}
 use Rattle.lowering.proofs.Cases.{by-test, by-shape, and-left}
 use Rattle.lowering.proofs.All.{AllItems, all-append, all-gather, all-cond}
 use Rattle.lowering.proofs.Clauses.{objects-object, objects-array, objects-default, objects-leaf}
-use Rattle.result.proofs.Rows.{allRows, row-at, widened, covers, at-places, no-kind, lone, form-4}
+use Rattle.result.proofs.Rows.{covers, at-places, no-kind, lone, form-4}
 use Rattle.result.proofs.Valued.{declaration-shown}
-use Rattle.result.proofs.Lies.{Texts, make-shown, shown-of, Lies, LieFields, LiePiece, LieItems, make, moved, changed, may-stand, list-at, node-at, stands-at, lies-append, lies-only, lies-gather, lies-if, apart, all-of}
+use Rattle.result.proofs.Lies.{Texts, make-shown, shown-of, Lies, LieFields, LiePiece, LieItems, moved, changed, may-stand, list-at, node-at, stands-at, lies-append, lies-only, lies-gather, lies-if, all-of}
 use Rattle.result.proofs.PatternViews.{patternAt, fields-at, of-kind}
-use Rattle.result.proofs.Expressions.{Takes, takes-3, temporary-lies}
-use Rattle.result.proofs.Patterns.{values-lies, object-whole, properties-of, items-of, value-of, left-whole, rest-of, reference-lies, replaced-lies}
+use Rattle.result.proofs.Expressions.{takes-3, temporary-lies}
+use Rattle.result.proofs.Patterns.{values-lies, object-whole, properties-of, items-of, value-of, left-whole, rest-of, replaced-lies}
 use Rattle.result.proofs.Keys.{same-shape, declares-lies, bound, keyTemporaries-lie, taken-lies, restValue-lies, excludedFor-lies}
 
 -- a name that binds is a pattern that binds

@@ -6,7 +6,7 @@ use mathlib.Core.List.{List, [], _∷_, _++_}
 use Prim.Native.Nat.{ℕ, zero, suc, _+_, _≤_, _<_}
 use native.Mathlib.Omega.{arith}
 use lib.Dec.{eqb, ltb}
-use borrow.Author.Tests.{eqb-true, eqb-false, ltb-true, ltb-false}
+use borrow.Author.Tests.{eq-eqb, eqb-true, eqb-false, ltb-true, ltb-false}
 use Rattle.tree.specs.Tree.{Node, Fields, Piece, Items, count, marks, marksFields, marksPiece, marksItems}
 use Rattle.tree.specs.Tree.Node.{node}
 use Rattle.tree.specs.Grammar.{Sort, Field, among, formAt, fieldsOf, kinds, formIn, kindOf, places, also}
@@ -25,12 +25,14 @@ use Rattle.lowering.specs.Collect.{Name, Entry, over, nodes, nodesFields, nodes
 use Rattle.equal.specs.Canonical.{eachEntry}
 use Rattle.lowering.proofs.Cases.{by-test, by-key, and-left, and-right, or-left, or-right}
 use Rattle.result.specs.Left.{keepsRest}
-use Rattle.result.specs.Marks.{hasAny, holdsMark, copiesAt, anyCopies}
+use Rattle.result.specs.Left.{anyOf}
+use Rattle.result.proofs.Occurring.{any-split}
+use Rattle.result.specs.Marks.{hasAny, holdsMark, copiesAt}
 use Rattle.result.proofs.Rows.{own-form, input-form}
 use Rattle.result.proofs.Lies.{not-20}
 use Rattle.result.proofs.Weighed.{isCopied, weigh, weighAll, weighPiece, weighItems, keysIn, keysItems, sourcesIn, sourcesItems, keys-by, sources-by, ofKey, key-by, source-by, all-most, piece-most, node-most}
 use Rattle.result.proofs.Copies.{Measure}
-use Rattle.result.proofs.Tallies.{tally, tally-append, left, leftFields, leftPiece, leftItems, given}
+use Rattle.result.proofs.Tallies.{tally, tally-append, left, leftFields, leftPiece, leftItems}
 
 -- ---- how often a mark stands
 
@@ -75,15 +77,12 @@ among-tally m (x ∷ ms) e =
     (λ a. rw a (omega arith))
     (λ a. let r = among-tally m ms (rw a at e) in rw a (omega arith))
 
-eqb-self : (m : ℕ) → eqb m m ≡ true
-eqb-self m = by-test (eqb m m) (λ e. e) (λ e. absurd (eqb-false m m e refl))
-
 pub distinct-by : (ms : List ℕ) → ((m : ℕ) → tally (hit m) ms ≤ 1) → distinct ms ≡ true
 unfolding distinct tally
 distinct-by [] h = refl
 distinct-by (m ∷ ms) h =
     by-test (among ms m)
-    (λ a. let x = among-tally m ms a in let y = h m in let z : hit m m ≡ 1 = rw (eqb-self m) refl in absurd (omega arith))
+    (λ a. let x = among-tally m ms a in let y = h m in let z : hit m m ≡ 1 = rw (eq-eqb m m refl) refl in absurd (omega arith))
     (λ a. rw a (distinct-by ms (λ n. let y = h n in omega arith)))
 
 among-append : (m : ℕ) (ms ns : List ℕ) → among (ms ++ ns) m ≡ false → among ms m ≡ false
@@ -288,13 +287,13 @@ module _ (out : ℕ → ℕ) (kin : Node → ℕ) (none-kin : kin nothing ≡ 0)
       twice true x h = omega arith
       twice false x h = refl
 
-  pub key-none : (r : Bool) (k : Node) → kin k ≡ 0 → weigh out kin k ≡ 0 → ofKey out kin r k ≡ 0
-  key-none r k a b = let c = under (isCopied k) r in omega arith
+  pub key-none : (r : Bool) (k : Node) → (r ≡ true → kin k ≡ 0) → weigh out kin k ≡ 0 → ofKey out kin r k ≡ 0
+  key-none true k a b = let c = under (isCopied k) in let d = a refl in omega arith
     where
-      under : (b r : Bool) → cond b (cond r (weigh out kin k + kin k) 0) 0 ≡ 0
-      under true true = omega arith
-      under true false = refl
-      under false r = refl
+      under : (b : Bool) → cond b (weigh out kin k + kin k) 0 ≡ 0
+      under true = let d = a refl in omega arith
+      under false = refl
+  key-none false k a b = refl
 
   module _ (f : ℕ → ℕ) (no-out : (x : ℕ) → f x ≡ 0 → out x ≡ 0) (no-kin : (k : Node) → tally f (marks k) ≡ 0 → kin k ≡ 0) where
     keys-none : (r : Bool) (qs : Items) → weighItems out kin qs ≡ 0 → tally f (marksItems qs) ≡ 0 → keysItems out kin r qs ≡ 0
@@ -307,7 +306,7 @@ module _ (out : ℕ → ℕ) (kin : Node → ℕ) (none-kin : kin nothing ≡ 0)
         let e = key-by out kin none-kin r q in
         let u = at-most 0 q in
         let v = at-tally f 0 q in
-        let z = key-none r (key q) (no-kin (key q) (omega arith)) (omega arith) in
+        let z = key-none r (key q) (λ e. no-kin (key q) (omega arith)) (omega arith) in
         omega arith
 
     besides-none : (k : ℕ) (fs : Fields) → weighAll out kin fs ≡ 0 → tally f (marksFields fs) ≡ 0 → cond (eqb k 34) (keysIn out kin (standsIn fs 1) fs) (cond (eqb k 4) (sourcesIn out kin fs 2) 0) ≡ 0
@@ -505,10 +504,10 @@ module _ (out : ℕ → ℕ) where
       let u = under (isCopied (key q)) r refl (λ y. or-left (holdsMark (key q)) (any (λ q. holdsMark (key q)) qs) (k y)) in
       omega arith
     where
-      under : (b r : Bool) → isCopied (key q) ≡ b → (r ≡ true → holdsMark (key q) ≡ false) → cond b (cond r (load (key q) + 0) 0) 0 ≡ 0
+      under : (b r : Bool) → isCopied (key q) ≡ b → (r ≡ true → holdsMark (key q) ≡ false) → cond r (0 + cond b (load (key q) + 0) 0) 0 ≡ 0
       under true true e h = let z = unmarked (key q) (copied-marks a (h refl) e) in omega arith
-      under true false e h = refl
-      under false r e h = refl
+      under false true e h = refl
+      under b false e h = refl
 
   sources-plain : {p : ℕ} {h : Bool} {ds : Items} → FitItems input p h ds → sourcesItems out bareKin ds ≡ 0
   unfolding weigh
@@ -574,33 +573,26 @@ module _ (out : ℕ → ℕ) where
       under true v = v
       under false v = refl
 
-  copies-append : (xs ys : List Node) → anyCopies (xs ++ ys) ≡ false → (anyCopies xs ≡ false) × (anyCopies ys ≡ false)
-  unfolding anyCopies
-  copies-append [] ys h = (refl, h)
-  copies-append (x ∷ xs) ys h =
-      let r = copies-append xs ys (or-right (copiesAt x) (anyCopies (xs ++ ys)) h) in
-      (rw (or-left (copiesAt x) (anyCopies (xs ++ ys)) h) (r .0), r .1)
-
   mutual
-    unfolding weigh marks tally nodes anyCopies
+    unfolding weigh marks tally nodes anyOf
 
-    pub weighs-marks : {p : ℕ} {n : Node} → Fits input p n → anyCopies (nodes n) ≡ false → load n ≤ tally out (marks n)
+    pub weighs-marks : {p : ℕ} {n : Node} → Fits input p n → anyOf copiesAt (nodes n) ≡ false → load n ≤ tally out (marks n)
     weighs-marks (Fits.fits {at = at} {k = k} {fs = fs} z f) h =
-        let a = marks-fields f (or-right (copiesAt (node at k fs)) (anyCopies (nodesFields fs)) h) in
-        let b = besides-plain at k f (or-left (copiesAt (node at k fs)) (anyCopies (nodesFields fs)) h) in
+        let a = marks-fields f (or-right (copiesAt (node at k fs)) (anyOf copiesAt (nodesFields fs)) h) in
+        let b = besides-plain at k f (or-left (copiesAt (node at k fs)) (anyOf copiesAt (nodesFields fs)) h) in
         omega arith
 
-    marks-fields : {b : ℕ} {ts : List Field} {fs : Fields} → FitFields input b ts fs → anyCopies (nodesFields fs) ≡ false → weighAll out bareKin fs ≤ tally out (marksFields fs)
+    marks-fields : {b : ℕ} {ts : List Field} {fs : Fields} → FitFields input b ts fs → anyOf copiesAt (nodesFields fs) ≡ false → weighAll out bareKin fs ≤ tally out (marksFields fs)
     marks-fields FitFields.done h = omega arith
     marks-fields (FitFields.absent f) h = marks-fields f h
     marks-fields (FitFields.field {p = p} {fs = fs} a f) h =
-        let s = copies-append (nodesPiece p) (nodesFields fs) h in
+        let s = any-split copiesAt (nodesPiece p) (nodesFields fs) h in
         let x = marks-piece a (s .0) in
         let y = marks-fields f (s .1) in
         let c = tally-append out (marksPiece p) (marksFields fs) in
         omega arith
 
-    marks-piece : {b : ℕ} {s : Sort} {p : Piece} → FitPiece input b s p → anyCopies (nodesPiece p) ≡ false → weighPiece out bareKin p ≤ tally out (marksPiece p)
+    marks-piece : {b : ℕ} {s : Sort} {p : Piece} → FitPiece input b s p → anyOf copiesAt (nodesPiece p) ≡ false → weighPiece out bareKin p ≤ tally out (marksPiece p)
     marks-piece (FitPiece.child f) h = weighs-marks f h
     marks-piece (FitPiece.chosen f) h = weighs-marks f h
     marks-piece (FitPiece.many a f) h = marks-items f h
@@ -610,11 +602,11 @@ module _ (out : ℕ → ℕ) where
     marks-piece (FitPiece.mark a) h = omega arith
     marks-piece (FitPiece.number a) h = omega arith
 
-    marks-items : {p : ℕ} {h : Bool} {is : Items} → FitItems input p h is → anyCopies (nodesItems is) ≡ false → weighItems out bareKin is ≤ tally out (marksItems is)
+    marks-items : {p : ℕ} {h : Bool} {is : Items} → FitItems input p h is → anyOf copiesAt (nodesItems is) ≡ false → weighItems out bareKin is ≤ tally out (marksItems is)
     marks-items FitItems.none h = omega arith
     marks-items (FitItems.hole f) h = marks-items f h
     marks-items (FitItems.item {n = n} {is = is} a f) h =
-        let s = copies-append (nodes n) (nodesItems is) h in
+        let s = any-split copiesAt (nodes n) (nodesItems is) h in
         let x = weighs-marks a (s .0) in
         let y = marks-items f (s .1) in
         let c = tally-append out (marks n) (marksItems is) in

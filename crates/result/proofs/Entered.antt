@@ -7,7 +7,7 @@ use mathlib.Core.Option.{Option, some}
 use Prim.Native.Nat.{ℕ, zero, suc, _+_, _<_, _≤_}
 use native.Mathlib.Omega.{arith}
 use lib.Dec.{eqb, ltb}
-use borrow.Author.Tests.{eqb-true, eqb-false}
+use borrow.Author.Tests.{eq-eqb, eqb-true, eqb-false}
 use Rattle.tree.specs.Tree.{Node, Fields, Piece, Items}
 use Rattle.tree.specs.Tree.Node.{node}
 use Rattle.tree.specs.Grammar.{Sort, Field, among, formAt, formIn, fieldsOf, allowed, also, places, kinds, variants, kindOf}
@@ -28,6 +28,7 @@ use Rattle.lowering.proofs.Weights.{weight-pos}
 use Rattle.lowering.proofs.Falls.{falls}
 use Rattle.result.proofs.Rows.{lone, own-form, plainly, allRows}
 use Rattle.result.proofs.Lies.{Texts, Lies, LieFields, LiePiece, LieItems, apart, may-stand}
+use Rattle.result.proofs.Places.{place-passes}
 use Rattle.result.proofs.Distinct.{isLeaf, areLeaves}
 use Rattle.result.proofs.Rules.{leaves}
 use Rattle.result.proofs.Comes.{no-refusal, no-refusal-here, not-refused}
@@ -81,26 +82,9 @@ begins (Field.must Sort.mark ∷ ts) = true
 begins (Field.must Sort.number ∷ ts) = false
 begins (Field.may s ∷ ts) = false
 
--- a test of each form of a row
-abbrev allForms : (ℕ → Bool) → List ℕ → Bool
-allForms t [] = true
-allForms t (f ∷ fs) = t f && allForms t fs
-
-form-passes : (t : ℕ → Bool) (fs : List ℕ) (k : ℕ) → allForms t fs ≡ true → 0 < formIn fs k → t (formIn fs k) ≡ true
-unfolding formIn
-form-passes t [] k a z = absurd (omega arith)
-form-passes t (f ∷ fs) k a z =
-    by-test (eqb (kindOf f) k)
-    (λ e. rw e (and-left (t f) (allForms t fs) a))
-    (λ e. rw e (form-passes t fs k (and-right (t f) (allForms t fs) a) (rw e at z)))
-
 statement-begins : (k : ℕ) → 0 < formAt rewritten 1 k → begins (fieldsOf (formAt rewritten 1 k)) ≡ true
-unfolding formAt allowed also among places fieldsOf kinds variants
-statement-begins k z = go (ltb k 64) z
-  where
-    go : (b : Bool) → 0 < cond b (formIn (allowed rewritten 1) k) 0 → begins (fieldsOf (cond b (formIn (allowed rewritten 1) k) 0)) ≡ true
-    go true y = form-passes (λ f. begins (fieldsOf f)) (allowed rewritten 1) k refl y
-    go false y = absurd (omega arith)
+unfolding allowed also among places fieldsOf kinds variants
+statement-begins k z = place-passes (λ f. begins (fieldsOf f)) 1 k refl z .0
 
 container-form : (q k : ℕ) → isContainer k ≡ true → 0 < formAt rewritten q k → allListed (fieldsOf (formAt rewritten q k)) ≡ true
 unfolding isContainer formIn kindOf places also among fieldsOf kinds
@@ -374,11 +358,8 @@ Among ms m = among ms m ≡ true
 all-among : (ms : List ℕ) → AllMarks (Among ms) ms
 unfolding among
 all-among [] = tt
-all-among (m ∷ ms) = (rw (same m) refl, weaker ms (all-among ms))
+all-among (m ∷ ms) = (rw (eq-eqb m m refl) refl, weaker ms (all-among ms))
   where
-    same : (m : ℕ) → eqb m m ≡ true
-    same m = by-test (eqb m m) (λ e. e) (λ e. absurd (eqb-false m m e refl))
-
     weaker : (ns : List ℕ) → AllMarks (Among ms) ns → AllMarks (Among (m ∷ ms)) ns
     weaker [] h = tt
     weaker (x ∷ ns) h = (later x (h .0), weaker ns (h .1))

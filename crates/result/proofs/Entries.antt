@@ -1,34 +1,39 @@
--- What is left in the entries of the list stands in the values of keys' temporaries.
+-- What is left in the entries of the list stands in the values of keys' temporaries, and the input has its cause.
 -- Assumes nothing.
-use mathlib.Core.Path.{_≡_, refl, sym, ap, subst, _∙_}
-use mathlib.Core.Bool.{Bool, true, false, cond, _&&_, _||_, true≢false}
-use mathlib.Core.List.{List, [], _∷_, _++_}
-use Prim.Native.Nat.{ℕ, zero, suc}
+use mathlib.Core.Path.{_≡_, refl, sym}
+use mathlib.Core.Bool.{true, cond, _&&_, true≢false}
+use mathlib.Core.List.{List, [], _∷_}
+use Prim.Native.Nat.{ℕ}
 use native.Mathlib.Omega.{arith}
-use lib.Dec.{eqb}
-use Rattle.tree.specs.Tree.{Node, Fields, Piece, Items}
-use Rattle.tree.specs.Tree.Node.{node}
-use Rattle.lowering.specs.Parts.{position, is, stands, itemsAt, any, isEmpty, each, gather, _+++_}
-use Rattle.lowering.specs.Made.{Context, temporary, declares, declared, reference, valueOf, keyOf}
+use Rattle.tree.specs.Tree.{Node, Items}
+use Rattle.lowering.specs.Parts.{is, nodeAt, pieceIn, any, isEmpty, each}
+use Rattle.lowering.specs.Made.{Context, temporary, declares, declared, reference}
 use Rattle.lowering.specs.Visits.{ItemAt, NodeIn, FieldAt, PartAt, Stands}
-use Rattle.lowering.specs.Patterns.{key, properties, hasObjectRest, hasArrayRestOverObjectRest}
+use Rattle.lowering.specs.Patterns.{key, properties}
 use Rattle.lowering.specs.Keys.{keySort, keyTemporary, keyTemporaries}
-use Rattle.lowering.specs.Declarations.{declarationRefusal}
-use Rattle.lowering.specs.Assignments.{target, isTop, topRefusal, partsOf, outermost, topEntry, nestedEntry}
-use Rattle.lowering.specs.Walk.{Note, Step, rewrite, unchanged, stepDeclaration, stepTop, stepAssignment, stepFor}
+use Rattle.lowering.specs.Keys.Key.{other}
+use Rattle.lowering.specs.Assignments.{target, partsOf, outermost, topEntry, nestedEntry}
+use Rattle.lowering.specs.Walk.{rewrite}
 use Rattle.lowering.specs.Weight.{walked}
-use Rattle.lowering.specs.Collect.{Name, Visit, Entry, over, entryAt, entries, visits, numbered, numberedItems, withNumber}
-use Rattle.lowering.proofs.Cases.{by-number, by-test, by-key}
+use Rattle.lowering.specs.Collect.{Name, Visit, Entry, over, entryAt, entries, nodes, visits, numbered, numberedItems, withNumber}
+use Rattle.lowering.proofs.Cases.{by-test, by-key}
 use Rattle.lowering.proofs.All.{AllItems, all-append, all-gather, all-each, all-unit}
 use Rattle.lowering.proofs.Notes.{AllNotes, in-walked}
 use Rattle.equal.specs.Canonical.{eachEntry}
-use Rattle.result.specs.Left.{keepsRest, keepsSpread, InValue, EntryLeft, EntriesLeft}
+use Rattle.result.specs.Left.{keepsRest, keepsSpread, keeps, anyOf, Part, Exception, EntryHas}
+use Rattle.result.specs.Causes.{Cause, isOther, holdsKept, shows, Occurs, Caused}
 use Rattle.result.proofs.Standing.{held}
-use Rattle.result.proofs.ByRule.{Rules, by-rules}
+use Rattle.result.proofs.Occurring.{occurs-unless}
+use Rattle.result.proofs.Keeping.{kept-before}
+use Rattle.result.proofs.Weighed.{total}
+use Rattle.result.proofs.Copies.{Measure}
+use Rattle.result.proofs.Tallies.{ofEntries}
+use Rattle.result.proofs.KeyWeights.{no-mark, light-handed, light-keys}
+use Rattle.result.proofs.ByRule.{by-lists}
 
--- a declarator whose id is a Temporary
+-- a declarator whose id is a Temporary, and whose value, if it has one, is a key that goes out
 data Named : Node → Type 0 where
-  valued : {path : List ℕ} {stem at : ℕ} {v : Node} → Named (declares (temporary path stem at) v)
+  valued : {path : List ℕ} {stem at : ℕ} {v : Node} → keySort v ≡ other → Named (declares (temporary path stem at) v)
   lone : {path : List ℕ} {stem at : ℕ} → Named (declared (temporary path stem at))
 
 module _ (c : Context) where
@@ -36,7 +41,7 @@ module _ (c : Context) where
   unfolding keyTemporary
   key-named q =
       by-key (keySort (key q)) (λ e. rw (e, keyTemporary) tt) (λ e. rw (e, keyTemporary) tt) (λ e. rw (e, keyTemporary) tt) (λ e. rw (e, keyTemporary) tt) (λ e. rw (e, keyTemporary) tt)
-      (λ e. rw (e, keyTemporary) (Named.valued, tt))
+      (λ e. rw (e, keyTemporary) (Named.valued e, tt))
 
   keys-named : (p : Node) → AllItems Named (keyTemporaries c p)
   unfolding keyTemporaries
@@ -54,83 +59,88 @@ module _ (c : Context) where
   unfolding nestedEntry
   nested-named n = references-named (outermost (target n))
 
-  abbrev Q : Node → Step → Type 0
-  Q n s = AllItems Named (s .note .entry)
-
-  declarations-named : (at : ℕ) (fs : Fields) → Q (node at 4 fs) (stepDeclaration c (node at 4 fs))
-  unfolding stepDeclaration
-  declarations-named at fs = by-number (declarationRefusal c (node at 4 fs)) (λ r e. rw (e, stepDeclaration) tt) (λ e. rw (e, stepDeclaration) tt)
-
-  assignments-named : (at : ℕ) (fs : Fields) → Q (node at 27 fs) (stepAssignment c (node at 27 fs))
-  unfolding stepAssignment stepTop
-  assignments-named at fs =
-      let n = node at 27 fs in
-      by-test (hasArrayRestOverObjectRest (target n))
-      (λ a. rw (a, stepAssignment) tt)
-      (λ a. by-test (isTop (target n))
-      (λ u. by-number (topRefusal n)
-      (λ r k. rw (a, stepAssignment) (rw u (rw (k, stepTop) tt)))
-      (λ k. rw (a, stepAssignment) (rw u (rw (k, stepTop) (top-named n)))))
-      (λ u. by-test (hasObjectRest (target n))
-      (λ o. rw (a, stepAssignment) (rw u (rw o (nested-named n))))
-      (λ o. rw (a, stepAssignment) (rw u (rw o tt)))))
-
-  fors-named : (k at : ℕ) (fs : Fields) → Q (node at k fs) (stepFor c (node at k fs))
-  unfolding stepFor
-  fors-named k at fs =
-      by-test (is 4 (Rattle.lowering.specs.Parts.nodeAt 1 (node at k fs)))
-      (λ d. rw (d, stepFor) tt)
-      (λ d. by-test (hasArrayRestOverObjectRest (Rattle.lowering.specs.Parts.nodeAt 1 (node at k fs))) (λ a. rw (d, stepFor) (rw a tt)) (λ a. rw (d, stepFor) (rw a tt)))
-
   note-named : (n : Node) → AllItems Named (rewrite c n .note .entry)
-  note-named = by-rules c Q (record {
-    literals = λ at fs. tt;
-    declarations = declarations-named;
-    assignments = assignments-named;
-    functions = λ at fs. tt;
-    arrows = λ at fs. tt;
-    catches = λ at fs. tt;
-    forIns = fors-named 7;
-    forOfs = fors-named 8;
-    nowhere = λ at k fs e₁ e₂ e₃ e₄ e₅ e₆ e₇ e₈. tt;
-  })
+  note-named n =
+      by-lists c (AllItems Named) (λ xs. Unit {0})
+      (record { entry-none = tt; excluded-none = tt; top-entry = top-named; nested-entry = nested-named; declaration-excluded = λ m. tt; top-excluded = λ m. tt }) n .0
+
+-- ---- what such values weigh
+
+-- 1 for a key that goes out with something left in it
+abbrev keptKey : Node → ℕ
+keptKey k = cond (holdsKept isOther k) 1 0
+
+abbrev keptValue : Node → ℕ
+keptValue d = keptKey (nodeAt 1 d)
+
+shown : (p : Node) → shows Cause.inKey p ≡ keepsRest p && any (λ q. holdsKept isOther (key q)) (properties p)
+unfolding shows
+shown p = refl
+
+unfoldable measure : Measure no-mark keptKey
+unfolding holdsKept keySort keeps keepsRest keepsSpread anyOf nodes is nodeAt pieceIn total
+measure =
+    record {
+      new = refl;
+      none-kin = refl;
+      entry = keptValue;
+      excluded = λ d. 0;
+      excludedItem = λ k. 0;
+      entry-bare = λ path stem at. refl;
+      entry-key = λ path stem at k e. omega arith;
+      excluded-array = λ path stem at ks. omega arith;
+      item-string = λ s. refl;
+      item-temporary = λ path stem at. refl;
+      item-key = λ k. omega arith;
+    }
 
 -- ---- with numbers
 
 module _ (ns : List Name) where
   -- the id is a Temporary with its number, which has no parts
-  named-left : {d : Node} → Named d → EntryLeft (numbered ns d)
-  unfolding numbered withNumber keepsRest keepsSpread is
-  named-left Named.valued q x Stands.here k = absurd (true≢false (sym k))
-  named-left Named.valued q x (Stands.onward (PartAt.part (FieldAt.first NodeIn.one)) Stands.here) k = absurd (true≢false (sym k))
-  named-left Named.valued q x (Stands.onward (PartAt.part (FieldAt.first NodeIn.one)) (Stands.onward (PartAt.part a) s)) k = absurd (true≢false (sym (held a)))
-  named-left Named.valued q x (Stands.onward (PartAt.part (FieldAt.behind (FieldAt.first NodeIn.one))) s) k = InValue.inValue (PartAt.part (FieldAt.behind (FieldAt.first NodeIn.one))) s
-  named-left Named.lone q x Stands.here k = absurd (true≢false (sym k))
-  named-left Named.lone q x (Stands.onward (PartAt.part (FieldAt.first NodeIn.one)) Stands.here) k = absurd (true≢false (sym k))
-  named-left Named.lone q x (Stands.onward (PartAt.part (FieldAt.first NodeIn.one)) (Stands.onward (PartAt.part a) s)) k = absurd (true≢false (sym (held a)))
-  named-left Named.lone q x (Stands.onward (PartAt.part (FieldAt.behind a)) s) k = absurd (true≢false (sym (held a)))
+  named-left : {d : Node} → Named d → {q : List ℕ} {x : Node} → Stands [] (numbered ns d) q x → keeps x ≡ true → Exception [] (numbered ns d) q x Part.entry × (holdsKept isOther (nodeAt 1 d) ≡ true)
+  unfolding numbered withNumber keeps keepsRest keepsSpread is nodeAt pieceIn holdsKept
+  named-left (Named.valued e) Stands.here k = absurd (true≢false (sym k))
+  named-left (Named.valued e) (Stands.onward (PartAt.part (FieldAt.first NodeIn.one)) Stands.here) k = absurd (true≢false (sym k))
+  named-left (Named.valued e) (Stands.onward (PartAt.part (FieldAt.first NodeIn.one)) (Stands.onward (PartAt.part a) s)) k = absurd (true≢false (sym (held a)))
+  named-left (Named.valued {v = v} e) (Stands.onward (PartAt.part (FieldAt.behind (FieldAt.first NodeIn.one))) s) k =
+      (Exception.inKey refl (PartAt.part (FieldAt.behind (FieldAt.first NodeIn.one))) s, rw (e, kept-before ns v s k) refl)
+  named-left Named.lone Stands.here k = absurd (true≢false (sym k))
+  named-left Named.lone (Stands.onward (PartAt.part (FieldAt.first NodeIn.one)) Stands.here) k = absurd (true≢false (sym k))
+  named-left Named.lone (Stands.onward (PartAt.part (FieldAt.first NodeIn.one)) (Stands.onward (PartAt.part a) s)) k = absurd (true≢false (sym (held a)))
+  named-left Named.lone (Stands.onward (PartAt.part (FieldAt.behind a)) s) k = absurd (true≢false (sym (held a)))
 
-  items-left : (is : Items) → AllItems Named is → {j : ℕ} {d : Node} → ItemAt (numberedItems ns is) j d → EntryLeft d
-  unfolding numbered
-  items-left (Items.hole is) h (ItemAt.behindHole a) = items-left is h a
-  items-left (Items.item n is) h ItemAt.first = named-left (h .0)
-  items-left (Items.item n is) h (ItemAt.behind a) = items-left is (h .1) a
+  items-left : (js : Items) → AllItems Named js → {j : ℕ} {d : Node} → ItemAt (numberedItems ns js) j d → {q : List ℕ} {x : Node} → Stands [] d q x → keeps x ≡ true
+      → Exception [] d q x Part.entry × (total keptValue js ≡ 0 → ⊥)
+  unfolding numbered total
+  items-left (Items.hole js) h (ItemAt.behindHole a) s k = items-left js h a s k
+  items-left (Items.item n js) h ItemAt.first s k =
+      let r = named-left (h .0) s k in
+      (r .0, λ z. let o : keptValue n ≡ 1 = rw (r .1) refl in absurd (omega arith))
+  items-left (Items.item n js) h (ItemAt.behind a) s k = let r = items-left js (h .1) a s k in (r .0, λ z. r .1 (omega arith))
 
   abbrev EntriesNamed : List Entry → Type 0
   EntriesNamed [] = Unit {0}
   EntriesNamed (e ∷ es) = AllItems Named (e .declarators) × EntriesNamed es
 
-  numbered-left : (es : List Entry) → EntriesNamed es → EntriesLeft (eachEntry (λ is. numberedItems ns is) es)
-  unfolding eachEntry
-  numbered-left [] h = tt
-  numbered-left (e ∷ es) h = ((λ j d a. items-left (e .declarators) (h .0) a), numbered-left es (h .1))
+  numbered-left : (es : List Entry) → EntriesNamed es → {d : Node} → EntryHas (eachEntry (λ is. numberedItems ns is) es) d → {q : List ℕ} {x : Node} → Stands [] d q x → keeps x ≡ true
+      → Exception [] d q x Part.entry × (ofEntries measure es ≡ 0 → ⊥)
+  unfolding eachEntry ofEntries measure
+  numbered-left (e ∷ es) h (EntryHas.here a) s k = let r = items-left (e .declarators) (h .0) a s k in (r .0, λ z. r .1 (omega arith))
+  numbered-left (e ∷ es) h (EntryHas.later i) s k = let r = numbered-left es (h .1) i s k in (r .0, λ z. r .1 (omega arith))
 
   entries-named : (vs : List Visit) → AllNotes (λ note. AllItems Named (note .entry)) vs → EntriesNamed (entries vs)
   unfolding entries over entryAt
   entries-named [] h = tt
   entries-named (v ∷ vs) h = by-test (isEmpty (v .note .entry)) (λ e. rw e (entries-named vs (h .1))) (λ e. rw e (h .0, entries-named vs (h .1)))
 
-  pub entries-left : (c : Context) (n : Node) (next m : ℕ) → EntriesLeft (eachEntry (λ is. numberedItems ns is) (entries (visits next m (walked c n))))
-  entries-left c n next m =
-      numbered-left (entries (visits next m (walked c n)))
-      (entries-named (visits next m (walked c n)) (in-walked (λ note. AllItems Named (note .entry)) (λ n. tt) (λ d k. note-named d k) c n next m))
+  pub entries-caused : (c : Context) (n : Node) (next : ℕ) {d : Node} → EntryHas (eachEntry (λ is. numberedItems ns is) (entries (visits next 0 (walked c n)))) d
+      → {q : List ℕ} {x : Node} → Stands [] d q x → keeps x ≡ true → Caused n Part.entry [] d q x
+  entries-caused c n next {d = d} i {q = q} {x = x} s k =
+      let es = entries (visits next 0 (walked c n)) in
+      let named = entries-named (visits next 0 (walked c n)) (in-walked (λ note. AllItems Named (note .entry)) (λ n. tt) (λ d k. note-named d k) c n next 0) in
+      let r = numbered-left es named i s k in
+      go (r .0) (occurs-unless Cause.inKey n (λ h. r .1 (light-handed measure n (light-keys isOther Cause.inKey shown n h) c next .0)))
+    where
+      go : Exception [] d q x Part.entry → Occurs Cause.inKey n → Caused n Part.entry [] d q x
+      go (Exception.inKey a b e) o = Caused.caused Stands.here (Exception.inKey a b e) o

@@ -1,36 +1,43 @@
--- What is left in the excluded keys of the list stands in Templates.
+-- What is left in the excluded keys of the list stands in Templates, and the input has its cause.
 -- Assumes nothing.
-use mathlib.Core.Path.{_≡_, refl, sym, ap, subst, _∙_}
+use mathlib.Core.Path.{_≡_, refl, sym, subst, _∙_}
 use mathlib.Core.Bool.{Bool, true, false, cond, not, _&&_, _||_, true≢false}
-use mathlib.Core.List.{List, [], _∷_, _++_}
-use Prim.Native.Nat.{ℕ, zero, suc}
+use mathlib.Core.List.{List, [], _∷_}
+use Prim.Native.Nat.{ℕ}
 use native.Mathlib.Omega.{arith}
 use lib.Dec.{eqb}
-use Rattle.tree.specs.Tree.{Node, Fields, Piece, Items, count}
+use borrow.Author.Tests.{eqb-true}
+use Rattle.tree.specs.Tree.{Node, Fields, Items, count}
 use Rattle.tree.specs.Tree.Node.{node}
-use Rattle.lowering.specs.Parts.{is, stands, itemsAt, nodeAt, any, only, gather, _+++_}
-use Rattle.lowering.specs.Made.{Context, temporary, declares, array, string, excludedOf}
+use Rattle.lowering.specs.Parts.{is, stands, itemsAt, nodeAt, pieceIn, any, gather}
+use Rattle.lowering.specs.Made.{Context, temporary, declares, array, string}
 use Rattle.lowering.specs.Visits.{ItemAt, NodeIn, FieldAt, PartAt, Stands}
-use Rattle.lowering.specs.Patterns.{key, properties, hasObjectRest, hasArrayRestOverObjectRest}
-use Rattle.lowering.specs.Keys.{Key, keySort, isPrimitive, allPrimitive, excludedKey, excludedKeys}
+use Rattle.lowering.specs.Patterns.{key, properties}
+use Rattle.lowering.specs.Keys.{keySort, isPrimitive, allPrimitive, excludedKey, excludedKeys}
 use Rattle.lowering.specs.Keys.Key.{name, literal, template, private, again, other}
 use Rattle.lowering.specs.Rests.{isHoisted, hasNoProperties, excludedFor}
-use Rattle.lowering.specs.Declarations.{loweredIn, declarationExcludes, declarationRefusal}
-use Rattle.lowering.specs.Assignments.{target, isTop, topRefusal, topExcludes}
-use Rattle.lowering.specs.Walk.{Note, Step, rewrite, stepDeclaration, stepTop, stepAssignment, stepFor}
+use Rattle.lowering.specs.Declarations.{loweredIn, declarationExcludes}
+use Rattle.lowering.specs.Assignments.{target, topExcludes}
+use Rattle.lowering.specs.Walk.{rewrite}
 use Rattle.lowering.specs.Weight.{walked}
 use Rattle.lowering.specs.Collect.{Name, Visit, excludedIn, visits, numbered, numberedItems, withNumber}
-use Rattle.lowering.proofs.Cases.{by-number, by-test, by-key, and-left, and-right, not-true}
+use Rattle.lowering.proofs.Cases.{by-test, by-key, and-right, not-true}
 use Rattle.lowering.proofs.All.{AllItems, all-append, all-gather, all-unit, none-passes}
 use Rattle.lowering.proofs.Notes.{AllNotes, in-walked}
-use Rattle.result.specs.Left.{keepsRest, keepsSpread, InTemplate, ExcludedLeft}
+use Rattle.result.specs.Left.{keepsRest, keepsSpread, keeps, Part, Exception}
+use Rattle.result.specs.Causes.{Cause, isTemplate, holdsKept, shows, Occurs, Caused}
 use Rattle.result.proofs.Standing.{held}
-use Rattle.result.proofs.ByRule.{Rules, by-rules}
+use Rattle.result.proofs.Occurring.{occurs-unless}
+use Rattle.result.proofs.Keeping.{kept-before}
+use Rattle.result.proofs.Weighed.{total}
+use Rattle.result.proofs.Copies.{Measure, XI}
+use Rattle.result.proofs.KeyWeights.{no-mark, light-handed, light-keys}
+use Rattle.result.proofs.ByRule.{by-lists}
 
 -- a string, or a Template
 data Plain : Node → Type 0 where
   spelled : {form : List ℕ} → Plain (string form)
-  templated : {at : ℕ} {fs : Fields} → Plain (node at 23 fs)
+  templated : {at : ℕ} {fs : Fields} → keySort (node at 23 fs) ≡ template → Plain (node at 23 fs)
 
 -- a declarator of such keys
 data Hoisted : Node → Type 0 where
@@ -48,9 +55,9 @@ template-is k e = go (is 38 k) (is 22 k) (is 23 k) (eqb (count (itemsAt 0 k)) 1)
     go false false false d false true e = let z : _≡_ {A = ℕ} 0 1 = cc in absurd (omega arith)
     go false false false d false false e = let z : _≡_ {A = ℕ} 0 1 = cc in absurd (omega arith)
 
-template-plain : (k : Node) → is 23 k ≡ true → Plain k
+template-plain : (k : Node) → is 23 k ≡ true → keySort k ≡ template → Plain k
 unfolding is
-template-plain (node at k fs) e = subst (λ (j : ℕ). Plain (node at j fs)) (sym (borrow.Author.Tests.eqb-true k 23 e)) Plain.templated
+template-plain (node at k fs) e = subst (λ (j : ℕ). keySort (node at j fs) ≡ template → Plain (node at j fs)) (sym (eqb-true k 23 e)) Plain.templated
 
 module _ (c : Context) where
   key-plain : (q : Node) → isPrimitive (key q) ≡ true → AllItems Plain (excludedKey c q)
@@ -59,7 +66,7 @@ module _ (c : Context) where
       by-key (keySort (key q))
       (λ e. rw (e, excludedKey) (Plain.spelled, tt))
       (λ e. rw (e, excludedKey) (Plain.spelled, tt))
-      (λ e. rw (e, excludedKey) (template-plain (key q) (template-is (key q) e), tt))
+      (λ e. rw (e, excludedKey) (template-plain (key q) (template-is (key q) e) e, tt))
       (λ e. rw (e, excludedKey) tt)
       (λ e. absurd (true≢false (sym h ∙ rw (e, isPrimitive) refl)))
       (λ e. absurd (true≢false (sym h ∙ rw (e, isPrimitive) refl)))
@@ -91,84 +98,88 @@ module _ (c : Context) where
   unfolding topExcludes
   top-plain n = excluded-plain (target n)
 
-  abbrev Q : Node → Step → Type 0
-  Q n s = AllItems Hoisted (s .note .excluded)
-
-  declarations-plain : (at : ℕ) (fs : Fields) → Q (node at 4 fs) (stepDeclaration c (node at 4 fs))
-  unfolding stepDeclaration
-  declarations-plain at fs = by-number (declarationRefusal c (node at 4 fs)) (λ r e. rw (e, stepDeclaration) tt) (λ e. rw (e, stepDeclaration) (declaration-plain (node at 4 fs)))
-
-  assignments-plain : (at : ℕ) (fs : Fields) → Q (node at 27 fs) (stepAssignment c (node at 27 fs))
-  unfolding stepAssignment stepTop
-  assignments-plain at fs =
-      let n = node at 27 fs in
-      by-test (hasArrayRestOverObjectRest (target n))
-      (λ a. rw (a, stepAssignment) tt)
-      (λ a. by-test (isTop (target n))
-      (λ u. by-number (topRefusal n)
-      (λ r k. rw (a, stepAssignment) (rw u (rw (k, stepTop) tt)))
-      (λ k. rw (a, stepAssignment) (rw u (rw (k, stepTop) (top-plain n)))))
-      (λ u. by-test (hasObjectRest (target n))
-      (λ o. rw (a, stepAssignment) (rw u (rw o tt)))
-      (λ o. rw (a, stepAssignment) (rw u (rw o tt)))))
-
-  fors-plain : (k at : ℕ) (fs : Fields) → Q (node at k fs) (stepFor c (node at k fs))
-  unfolding stepFor
-  fors-plain k at fs =
-      by-test (is 4 (nodeAt 1 (node at k fs)))
-      (λ d. rw (d, stepFor) tt)
-      (λ d. by-test (hasArrayRestOverObjectRest (nodeAt 1 (node at k fs))) (λ a. rw (d, stepFor) (rw a tt)) (λ a. rw (d, stepFor) (rw a tt)))
-
   note-plain : (n : Node) → AllItems Hoisted (rewrite c n .note .excluded)
-  note-plain = by-rules c Q (record {
-    literals = λ at fs. tt;
-    declarations = declarations-plain;
-    assignments = assignments-plain;
-    functions = λ at fs. tt;
-    arrows = λ at fs. tt;
-    catches = λ at fs. tt;
-    forIns = fors-plain 7;
-    forOfs = fors-plain 8;
-    nowhere = λ at k fs e₁ e₂ e₃ e₄ e₅ e₆ e₇ e₈. tt;
-  })
+  note-plain n =
+      by-lists c (λ xs. Unit {0}) (AllItems Hoisted)
+      (record { entry-none = tt; excluded-none = tt; top-entry = λ m. tt; nested-entry = λ m. tt; declaration-excluded = declaration-plain; top-excluded = top-plain }) n .1
+
+-- ---- what such keys weigh
+
+-- 1 for a Template of one quasi with something left in it
+abbrev keptKey : Node → ℕ
+keptKey k = cond (holdsKept isTemplate k) 1 0
+
+abbrev keptKeys : Node → ℕ
+keptKeys d = total keptKey (itemsAt 0 (nodeAt 1 d))
+
+shown : (p : Node) → shows Cause.inTemplate p ≡ keepsRest p && any (λ q. holdsKept isTemplate (key q)) (properties p)
+unfolding shows
+shown p = refl
+
+unfoldable measure : Measure no-mark keptKey
+unfolding holdsKept keySort is stands itemsAt nodeAt pieceIn total
+measure =
+    record {
+      new = refl;
+      none-kin = refl;
+      entry = λ d. 0;
+      excluded = keptKeys;
+      excludedItem = keptKey;
+      entry-bare = λ path stem at. refl;
+      entry-key = λ path stem at k e. omega arith;
+      excluded-array = λ path stem at ks. omega arith;
+      item-string = λ s. refl;
+      item-temporary = λ path stem at. refl;
+      item-key = λ k. omega arith;
+    }
 
 -- ---- with numbers
 
 module _ (ns : List Name) where
   -- a key: it is a Template, or nothing is left in it
-  key-left : {k : Node} → Plain k → {p q : List ℕ} {x : Node} → Stands p (numbered ns k) q x → (keepsRest x || keepsSpread x) ≡ true → is 23 (numbered ns k) ≡ true
-  unfolding numbered keepsRest keepsSpread is
+  key-left : {k : Node} → Plain k → {p q : List ℕ} {x : Node} → Stands p (numbered ns k) q x → keeps x ≡ true → (is 23 (numbered ns k) ≡ true) × (holdsKept isTemplate k ≡ true)
+  unfolding numbered keeps keepsRest keepsSpread is holdsKept
   key-left Plain.spelled Stands.here k = absurd (true≢false (sym k))
   key-left Plain.spelled (Stands.onward (PartAt.part a) s) k = absurd (true≢false (sym (held a)))
-  key-left Plain.templated s k = refl
+  key-left (Plain.templated {at = at} {fs = fs} e) s k = (refl, rw (e, kept-before ns (node at 23 fs) s k) refl)
 
-  keys-left : (ks : Items) → AllItems Plain ks → {j : ℕ} {z : Node} → ItemAt (numberedItems ns ks) j z → {p q : List ℕ} {x : Node} → Stands p z q x → (keepsRest x || keepsSpread x) ≡ true → is 23 z ≡ true
-  unfolding numbered
+  keys-left : (ks : Items) → AllItems Plain ks → {j : ℕ} {z : Node} → ItemAt (numberedItems ns ks) j z → {p q : List ℕ} {x : Node} → Stands p z q x → keeps x ≡ true
+      → (is 23 z ≡ true) × (total keptKey ks ≡ 0 → ⊥)
+  unfolding numbered total
   keys-left (Items.hole ks) h (ItemAt.behindHole a) s k = keys-left ks h a s k
-  keys-left (Items.item n ks) h ItemAt.first s k = key-left (h .0) s k
-  keys-left (Items.item n ks) h (ItemAt.behind a) s k = keys-left ks (h .1) a s k
+  keys-left (Items.item n ks) h ItemAt.first s k =
+      let r = key-left (h .0) s k in
+      (r .0, λ z. let o : keptKey n ≡ 1 = rw (r .1) refl in absurd (omega arith))
+  keys-left (Items.item n ks) h (ItemAt.behind a) s k = let r = keys-left ks (h .1) a s k in (r .0, λ z. r .1 (omega arith))
 
-  hoisted-left : {d : Node} → Hoisted d → ExcludedLeft (numbered ns d)
-  unfolding numbered withNumber keepsRest keepsSpread is
-  hoisted-left (Hoisted.hoisted h) q x Stands.here k = absurd (true≢false (sym k))
-  hoisted-left (Hoisted.hoisted h) q x (Stands.onward (PartAt.part (FieldAt.first NodeIn.one)) Stands.here) k = absurd (true≢false (sym k))
-  hoisted-left (Hoisted.hoisted h) q x (Stands.onward (PartAt.part (FieldAt.first NodeIn.one)) (Stands.onward (PartAt.part a) s)) k = absurd (true≢false (sym (held a)))
-  hoisted-left (Hoisted.hoisted h) q x (Stands.onward (PartAt.part (FieldAt.behind (FieldAt.first NodeIn.one))) Stands.here) k = absurd (true≢false (sym k))
-  hoisted-left (Hoisted.hoisted {ks = ks} h) q x (Stands.onward (PartAt.part (FieldAt.behind (FieldAt.first NodeIn.one))) (Stands.onward (PartAt.part (FieldAt.first (NodeIn.list a))) s)) k =
-      InTemplate.inTemplate (PartAt.part (FieldAt.behind (FieldAt.first NodeIn.one))) (PartAt.part (FieldAt.first (NodeIn.list a))) (keys-left ks h a s k) s
+  hoisted-left : {d : Node} → Hoisted d → {q : List ℕ} {x : Node} → Stands [] (numbered ns d) q x → keeps x ≡ true → Exception [] (numbered ns d) q x Part.excluded × (keptKeys d ≡ 0 → ⊥)
+  unfolding numbered withNumber keeps keepsRest keepsSpread is itemsAt nodeAt pieceIn
+  hoisted-left (Hoisted.hoisted h) Stands.here k = absurd (true≢false (sym k))
+  hoisted-left (Hoisted.hoisted h) (Stands.onward (PartAt.part (FieldAt.first NodeIn.one)) Stands.here) k = absurd (true≢false (sym k))
+  hoisted-left (Hoisted.hoisted h) (Stands.onward (PartAt.part (FieldAt.first NodeIn.one)) (Stands.onward (PartAt.part a) s)) k = absurd (true≢false (sym (held a)))
+  hoisted-left (Hoisted.hoisted h) (Stands.onward (PartAt.part (FieldAt.behind (FieldAt.first NodeIn.one))) Stands.here) k = absurd (true≢false (sym k))
+  hoisted-left (Hoisted.hoisted {ks = ks} h) (Stands.onward (PartAt.part (FieldAt.behind (FieldAt.first NodeIn.one))) (Stands.onward (PartAt.part (FieldAt.first (NodeIn.list a))) s)) k =
+      let r = keys-left ks h a s k in
+      (Exception.inTemplate refl (PartAt.part (FieldAt.behind (FieldAt.first NodeIn.one))) (PartAt.part (FieldAt.first (NodeIn.list a))) (r .0) s, r .1)
 
-  items-left : (is : Items) → AllItems Hoisted is → {j : ℕ} {d : Node} → ItemAt (numberedItems ns is) j d → ExcludedLeft d
-  unfolding numbered
-  items-left (Items.hole is) h (ItemAt.behindHole a) = items-left is h a
-  items-left (Items.item n is) h ItemAt.first = hoisted-left (h .0)
-  items-left (Items.item n is) h (ItemAt.behind a) = items-left is (h .1) a
+  items-left : (js : Items) → AllItems Hoisted js → {j : ℕ} {d : Node} → ItemAt (numberedItems ns js) j d → {q : List ℕ} {x : Node} → Stands [] d q x → keeps x ≡ true
+      → Exception [] d q x Part.excluded × (XI measure js ≡ 0 → ⊥)
+  unfolding numbered total measure
+  items-left (Items.hole js) h (ItemAt.behindHole a) s k = items-left js h a s k
+  items-left (Items.item n js) h ItemAt.first s k = let r = hoisted-left (h .0) s k in (r .0, λ z. r .1 (omega arith))
+  items-left (Items.item n js) h (ItemAt.behind a) s k = let r = items-left js (h .1) a s k in (r .0, λ z. r .1 (omega arith))
 
   all-hoisted : (vs : List Visit) → AllNotes (λ note. AllItems Hoisted (note .excluded)) vs → AllItems Hoisted (excludedIn vs)
   unfolding excludedIn
   all-hoisted [] h = tt
   all-hoisted (v ∷ vs) h = all-append Hoisted (v .note .excluded) (excludedIn vs) (h .0) (all-hoisted vs (h .1))
 
-  pub excluded-left : (c : Context) (n : Node) (next m j : ℕ) (d : Node) → ItemAt (numberedItems ns (excludedIn (visits next m (walked c n)))) j d → ExcludedLeft d
-  excluded-left c n next m j d a =
-      items-left (excludedIn (visits next m (walked c n)))
-      (all-hoisted (visits next m (walked c n)) (in-walked (λ note. AllItems Hoisted (note .excluded)) (λ n. tt) (λ d k. note-plain d k) c n next m)) a
+  pub excluded-caused : (c : Context) (n : Node) (next : ℕ) {j : ℕ} {d : Node} → ItemAt (numberedItems ns (excludedIn (visits next 0 (walked c n)))) j d
+      → {q : List ℕ} {x : Node} → Stands [] d q x → keeps x ≡ true → Caused n Part.excluded [] d q x
+  excluded-caused c n next {d = d} a {q = q} {x = x} s k =
+      let hoisted = all-hoisted (visits next 0 (walked c n)) (in-walked (λ note. AllItems Hoisted (note .excluded)) (λ n. tt) (λ d k. note-plain d k) c n next 0) in
+      let r = items-left (excludedIn (visits next 0 (walked c n))) hoisted a s k in
+      go (r .0) (occurs-unless Cause.inTemplate n (λ h. r .1 (light-handed measure n (light-keys isTemplate Cause.inTemplate shown n h) c next .1)))
+    where
+      go : Exception [] d q x Part.excluded → Occurs Cause.inTemplate n → Caused n Part.excluded [] d q x
+      go (Exception.inTemplate a b e f g) o = Caused.caused Stands.here (Exception.inTemplate a b e f g) o

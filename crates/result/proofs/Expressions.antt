@@ -1,21 +1,20 @@
 -- The expressions that the rules make lie wherever an expression may stand.
 -- Assumes nothing.
-use mathlib.Core.Path.{_≡_, refl, sym, ap, subst, _∙_}
-use mathlib.Core.Bool.{Bool, true, false, cond, not, _&&_, _||_}
-use mathlib.Core.List.{List, [], _∷_, _++_}
-use Prim.Native.Nat.{ℕ, zero, suc, _+_, _<_, _≤_}
+use mathlib.Core.Path.{_≡_, refl}
+use mathlib.Core.Bool.{Bool, true, false, not, _||_}
+use mathlib.Core.List.{List, []}
+use Prim.Native.Nat.{ℕ, _<_, _≤_}
 use native.Mathlib.Omega.{arith}
 use lib.Dec.{eqb, ltb}
 use lib.ListN.{getD}
 use borrow.Author.Tests.{eqb-true}
-use Rattle.tree.specs.Tree.{Node, Fields, Piece, Items}
-use Rattle.tree.specs.Tree.Node.{node}
-use Rattle.tree.specs.Tree.Fields.{done, absent, field}
-use Rattle.tree.specs.Grammar.{Sort, Field, places, allowed, also, among, kindOf, formIn, formAt, fieldsOf, kinds}
+use Rattle.tree.specs.Tree.{Node, Items}
+use Rattle.tree.specs.Tree.Fields.{done}
+use Rattle.tree.specs.Grammar.{places, allowed, also, among, kindOf, formIn, formAt, fieldsOf, kinds}
 use Rattle.tree.specs.Grammar.Stage.{rewritten}
-use Rattle.lowering.specs.Parts.{kind, only}
+use Rattle.lowering.specs.Parts.{kind}
 use Rattle.lowering.specs.Made.{temporary, helper, call, S, X, E, W, K, object, array, sequence, member, assign, string}
-use Rattle.lowering.proofs.Cases.{by-test, or-other, not-false}
+use Rattle.lowering.proofs.Cases.{by-test, or-other}
 use Rattle.result.proofs.Rows.{allRows, row-at, widened, covers, at-places, no-kind}
 use Rattle.result.proofs.Lies.{Texts, Lies, LieFields, LiePiece, LieItems, make, may-stand, moved, lies-only}
 

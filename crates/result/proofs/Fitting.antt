@@ -1,33 +1,23 @@
 -- What is written fits the grammar of the rewritten stage, if it is not too long.
 -- Assumes nothing.
-use mathlib.Core.Path.{_≡_, refl, sym, ap, subst, _∙_}
-use mathlib.Core.Bool.{Bool, true, false, cond, true≢false}
-use mathlib.Core.List.{List, [], _∷_, _++_}
-use Prim.Native.Nat.{ℕ, zero, suc, _+_, _<_, _≤_}
+use mathlib.Core.Path.{_≡_, refl, sym, subst}
+use mathlib.Core.Bool.{Bool, cond, true≢false}
+use mathlib.Core.List.{List}
+use Prim.Native.Nat.{ℕ, _<_}
 use native.Mathlib.Omega.{arith}
 use lib.Dec.{eqb}
 use lib.ListN.{length, length-append}
-use Rattle.tree.specs.Tree.{Node, Fields, Piece, Items, count, wideBytes, encode, encodeFields, encodePiece, encodeItems}
+use Rattle.tree.specs.Tree.{Node, Fields, Piece, Items, count, encode, encodeFields, encodePiece, encodeItems}
 use Rattle.tree.specs.Tree.Node.{node}
 use Rattle.tree.specs.Grammar.{Sort, Field, formAt, fieldsOf, kinds}
 use Rattle.tree.specs.Grammar.Stage.{rewritten}
-use Rattle.tree.specs.WellFormed.{Bytes, byteIn, Fits, FitFields, FitPiece, FitItems}
+use Rattle.tree.specs.WellFormed.{byteIn, Fits, FitFields, FitPiece, FitItems}
 use Rattle.lowering.specs.Made.{temporary}
 use Rattle.result.proofs.Rows.{form-20}
+use Rattle.joining.proofs.Agree.{count-short}
 use Rattle.result.proofs.Lies.{Texts, Lies, LieFields, LiePiece, LieItems, fields-of}
-use Rattle.result.proofs.Rules.{Leaves, leaves}
+use Rattle.result.proofs.Rules.{leaves}
 use Rattle.result.proofs.Comes.{Comes, Left, ComeFields, ComePiece, ComeItems}
-
--- ---- counts are no more than bytes
-
-pub count-bytes : (is : Items) → count is ≤ length (encodeItems is)
-unfolding count encode
-count-bytes Items.none = omega arith
-count-bytes (Items.hole is) = let l = count-bytes is in omega arith
-count-bytes (Items.item (node at k fs) is) =
-    let l = count-bytes is in
-    let a = length-append (encodeFields fs) (encodeItems is) in
-    omega arith
 
 -- ---- a Temporary
 
@@ -70,8 +60,8 @@ mutual
   fit-piece : {T : Texts} {p q : Piece} → ComePiece p q → {b d : ℕ} {s : Sort} → LiePiece T b s p d → length (encodePiece q) < 65536 → FitPiece rewritten b s q × (byteIn q ≡ d)
   fit-piece (ComePiece.one a) (LiePiece.child {p = p} x) l = (FitPiece.child (fit a p x l), refl)
   fit-piece (ComePiece.one a) (LiePiece.chosen {b = b} {p = p} {q = q} x) l = (FitPiece.chosen (fit a (cond (eqb b 1) p q) x l), refl)
-  fit-piece (ComePiece.list {js = js} a) (LiePiece.many x) l = let c = count-bytes js in let d : count js < 65536 = omega arith in (FitPiece.many d (fit-items a x (omega arith)), refl)
-  fit-piece (ComePiece.list {js = js} a) (LiePiece.gaps x) l = let c = count-bytes js in let d : count js < 65536 = omega arith in (FitPiece.gaps d (fit-items a x (omega arith)), refl)
+  fit-piece (ComePiece.list {js = js} a) (LiePiece.many x) l = let c = count-short js in let d : count js < 65536 = omega arith in (FitPiece.many d (fit-items a x (omega arith)), refl)
+  fit-piece (ComePiece.list {js = js} a) (LiePiece.gaps x) l = let c = count-short js in let d : count js < 65536 = omega arith in (FitPiece.gaps d (fit-items a x (omega arith)), refl)
   fit-piece {T = T} (ComePiece.text {bs = bs}) (LiePiece.text x) l = let d : length bs < 65536 = omega arith in (FitPiece.text d (T .bytes bs x), refl)
   fit-piece ComePiece.byte (LiePiece.byte x y z) l = (FitPiece.byte x y z, refl)
   fit-piece (ComePiece.mark j e) (LiePiece.mark x) l = (FitPiece.mark j, refl)

@@ -1,16 +1,14 @@
 -- What the walk hands out lies where declarators may stand, each entry with a mark that fits.
 -- Assumes nothing.
-use mathlib.Core.Path.{_≡_, refl, sym, ap, subst, _∙_}
+use mathlib.Core.Path.{_≡_}
 use mathlib.Core.Bool.{Bool, true, false, cond}
 use mathlib.Core.List.{List, [], _∷_, _++_}
-use Prim.Native.Nat.{ℕ, zero, suc, _+_, _*_, _<_, _≤_}
+use Prim.Native.Nat.{ℕ, zero, suc, _+_, _<_, _≤_}
 use native.Mathlib.Omega.{arith}
 use lib.Dec.{eqb}
-use lib.ListN.{length}
 use Rattle.tree.specs.Tree.{Node, Fields, Piece, Items}
-use Rattle.tree.specs.Tree.Node.{node}
 use Rattle.tree.specs.Grammar.{Sort, Field}
-use Rattle.lowering.specs.Parts.{isEmpty, _+++_}
+use Rattle.lowering.specs.Parts.{isEmpty}
 use Rattle.lowering.specs.Made.{Context}
 use Rattle.lowering.specs.Walk.{Note, Walked, eachItem, eachPiece, eachField, inside, rewrite, within, walk}
 use Rattle.lowering.specs.Weight.{weight, walked}
@@ -20,7 +18,7 @@ use Rattle.lowering.proofs.All.{AllItems, AllPiece, AllFields, Each, weaker-eac
 use Rattle.lowering.proofs.Weights.{weight-pos}
 use Rattle.lowering.proofs.Falls.{falls}
 use Rattle.result.proofs.Lies.{Texts, Lies, LieFields, LiePiece, LieItems, lies-append}
-use Rattle.result.proofs.Rules.{Leaves, leaves}
+use Rattle.result.proofs.Rules.{leaves}
 use Rattle.result.proofs.Comes.{no-refusal, no-refusal-here, not-refused}
 
 -- one visit

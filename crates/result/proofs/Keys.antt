@@ -1,28 +1,28 @@
 -- Keys, and the values of rests: what they make lies where it is put.
 -- Assumes nothing.
-use mathlib.Core.Path.{_≡_, refl, sym, ap, subst, _∙_}
-use mathlib.Core.Bool.{Bool, true, false, cond, not, _&&_, _||_}
-use mathlib.Core.List.{List, [], _∷_, _++_}
-use Prim.Native.Nat.{ℕ, zero, suc, _+_, _<_, _≤_}
+use mathlib.Core.Path.{_≡_, refl}
+use mathlib.Core.Bool.{Bool, true, false, _&&_, _||_}
+use mathlib.Core.List.{List}
+use Prim.Native.Nat.{ℕ, zero, suc, _<_}
 use native.Mathlib.Omega.{arith}
-use lib.Dec.{eqb, ltb}
+use lib.Dec.{eqb}
 use borrow.Author.Tests.{eqb-true}
-use Rattle.tree.specs.Tree.{Node, Fields, Piece, Items, count}
+use Rattle.tree.specs.Tree.{Node, Fields, Piece, count}
 use Rattle.tree.specs.Tree.Node.{node}
 use Rattle.tree.specs.Grammar.{Sort, Field, places, allowed, also, among, kindOf, formIn, formAt, fieldsOf, kinds}
 use Rattle.tree.specs.Grammar.Stage.{rewritten}
-use Rattle.lowering.specs.Parts.{kind, is, nodeAt, textAt, stands, pieceIn, asText, change, onNode, only, gather, _+++_}
-use Rattle.lowering.specs.Made.{Context, string, keyOf, excludedOf, declares, array, object, sequence, E, member, call}
-use Rattle.lowering.specs.Patterns.{shape, key, properties, hasRest, withProperties}
+use Rattle.lowering.specs.Parts.{kind, is, textAt, stands, pieceIn, asText, change}
+use Rattle.lowering.specs.Made.{Context, keyOf, declares}
+use Rattle.lowering.specs.Patterns.{shape, key, hasRest, withProperties}
 use Rattle.lowering.specs.Patterns.Shape.{objectPattern}
-use Rattle.lowering.specs.Keys.{Key, keySort, Entry, entryOf, keyText, excludedKey, keptKey, keyTemporary, excludedKeys, keyTemporaries, allPrimitive, taken}
+use Rattle.lowering.specs.Keys.{keySort, keyText, excludedKey, keptKey, keyTemporary, excludedKeys, keyTemporaries, allPrimitive, taken}
 use Rattle.lowering.specs.Keys.Key.{name, literal, template, private, again, other}
 use Rattle.lowering.specs.Rests.{hasNoProperties, mapped, isHoisted, keysRead, restValue, excludedFor}
-use Rattle.lowering.proofs.Cases.{by-test, by-key, is-changed, and-left}
+use Rattle.lowering.proofs.Cases.{by-test, and-left}
 use Rattle.lowering.proofs.Clauses.{text-name, text-literal}
-use Rattle.result.proofs.Rows.{covers, at-places, no-kind}
-use Rattle.result.proofs.Lies.{Texts, Lies, LieFields, LiePiece, LieItems, make, apart, fields-of, moved, may-stand, lies-gather, lies-only, lies-if, lies-append}
-use Rattle.result.proofs.PatternViews.{wholeAt, propertyAt, patternAt, of-kind}
+use Rattle.result.proofs.Rows.{covers, at-places}
+use Rattle.result.proofs.Lies.{Texts, Lies, LieFields, LiePiece, LieItems, make, fields-of, moved, may-stand, lies-gather, lies-only, lies-if}
+use Rattle.result.proofs.PatternViews.{propertyAt, patternAt}
 use Rattle.result.proofs.Expressions.{Takes, takes-3, takes-13, argument, temporary-lies, string-lies, array-lies, object-lies, sequence-lies, member-lies, call-lies, X-lies, E-lies, W-lies, K-lies}
 use Rattle.result.proofs.LiteralTexts.{literal-holds}
 use Rattle.result.proofs.Patterns.{properties-lies, properties-of, key-of, key-changed, rest-dropped}

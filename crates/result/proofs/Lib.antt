@@ -1,4 +1,5 @@
 pub mod Rows
+pub mod Occurring
 pub mod Lies
 pub mod PatternViews
 pub mod Expressions
@@ -25,8 +26,6 @@ pub mod Standing
 pub mod Searched
 pub mod Places
 pub mod Resting
-pub mod Entries
-pub mod Excluded
 pub mod Weighed
 pub mod Copies
 pub mod CopyRules
@@ -34,7 +33,10 @@ pub mod Tallies
 pub mod Distinct
 pub mod MarksApart
 pub mod Entered
+pub mod KeyWeights
 pub mod HandedKeys
-pub mod ReadBack
+pub mod Keeping
+pub mod Entries
+pub mod Excluded
 pub mod Joins
 pub mod Lowered

@@ -2,12 +2,12 @@
 -- Temporary, which has its name yet. T says what holds of each text and node in it. This is what the rules keep.
 -- Assumes nothing.
 use mathlib.Core.Path.{_≡_, refl, sym, ap, subst, _∙_}
-use mathlib.Core.Bool.{Bool, true, false, cond, not, _&&_, _||_, true≢false}
+use mathlib.Core.Bool.{Bool, true, false, cond, not, _&&_, true≢false}
 use mathlib.Core.List.{List, [], _∷_}
 use mathlib.Core.Option.{some}
 use Prim.Native.Nat.{ℕ, zero, suc, _<_, _≤_}
 use native.Mathlib.Omega.{arith}
-use lib.Dec.{eqb, ltb}
+use lib.Dec.{eqb}
 use lib.ListN.{getD}
 use Rattle.tree.specs.Tree.{Node, Fields, Piece, Items}
 use Rattle.tree.specs.Tree.Node.{node}
@@ -16,20 +16,29 @@ use Rattle.tree.specs.Grammar.Field.{must, may}
 use Rattle.tree.specs.Grammar.Stage.{input, rewritten}
 use Rattle.tree.specs.Read.{sortIn}
 use Rattle.tree.specs.WellFormed.{Bytes, byteIn, Fits, FitFields, FitPiece, FitItems}
-use Rattle.lowering.specs.Parts.{kind, pieceIn, standsIn, changeIn, dropIn, asNode, asItems, is, nodeAt, itemsAt, stands, change, without, only, each, gather, _+++_}
+use Rattle.lowering.specs.Parts.{kind, pieceIn, standsIn, changeIn, asNode, asItems, is, only, each, gather, _+++_}
 use Rattle.lowering.specs.Made.{temporary}
 use Rattle.lowering.specs.Numbers.{numberString}
 use Rattle.result.specs.Causes.{Cause, shows, Within, Without}
 use Rattle.result.specs.Texts.{TextIn, TextInFields, TextInPiece, TextInItems}
-use Rattle.result.proofs.Rows.{allRows, row-at, input-form}
+use Rattle.result.proofs.Rows.{row-at, input-form}
 use Rattle.tree.specs.Grammar.{allowed, places, formIn, kindOf}
 use borrow.Author.Tests.{eqb-true}
 use Rattle.lowering.proofs.Cases.{by-test}
 use Rattle.lowering.proofs.All.{AllItems}
 use Rattle.lowering.specs.Visits.{ItemAt, NodeIn, FieldAt, PartAt}
 
+-- a cause of something left in the tree
+abbrev pub ofTree : Cause → Bool
+ofTree Cause.restParameter = true
+ofTree Cause.withoutBody = true
+ofTree Cause.arrayRest = true
+ofTree Cause.withoutValue = true
+ofTree Cause.inKey = false
+ofTree Cause.inTemplate = false
+
 -- what holds of each text (it is of bytes, it holds of the string of a number if of its spelling, and of the two that the rules put themselves:
--- the spelling of a string that has none, and the name `map`), and which causes no node has
+-- the spelling of a string that has none, and the name `map`), and which causes of the tree no node has
 pub record Texts : Type 1 where
   pub holds : List ℕ → Type 0
   pub bytes : (bs : List ℕ) → holds bs → Bytes bs
@@ -37,6 +46,7 @@ pub record Texts : Type 1 where
   pub empty : holds []
   pub map : holds (109 ∷ 97 ∷ 112 ∷ [])
   pub barred : Cause → Type 0
+  pub barredTree : (s : Cause) → barred s → ofTree s ≡ true
 
 mutual
   pub data Lies (T : Texts) : ℕ → Node → Type 0 where
@@ -88,7 +98,7 @@ pub shown-of : {T : Texts} {p at k : ℕ} {fs : Fields} → Lies T p (node at k 
 shown-of (lies z t s f) e = s
 shown-of (named z a b) e = absurd (true≢false e)
 
--- a kind that has no cause
+-- a kind that has no cause of the tree
 abbrev pub isMade : ℕ → Bool
 isMade k = not (eqb k 20) && (not (eqb k 14) && (not (eqb k 17) && (not (eqb k 36) && not (eqb k 4))))
 
@@ -103,12 +113,14 @@ made-not true b c d f e = absurd (true≢false (sym e))
 pub made-20 : (k : ℕ) → isMade k ≡ true → eqb k 20 ≡ false
 made-20 k e = made-not (eqb k 20) (eqb k 14) (eqb k 17) (eqb k 36) (eqb k 4) e .0
 
-made-shows : (at k : ℕ) (fs : Fields) → isMade k ≡ true → (s : Cause) → shows s (node at k fs) ≡ false
+made-shows : (at k : ℕ) (fs : Fields) → isMade k ≡ true → (s : Cause) → ofTree s ≡ true → shows s (node at k fs) ≡ false
 unfolding shows is
-made-shows at k fs e Cause.restParameter = let m = made-not (eqb k 20) (eqb k 14) (eqb k 17) (eqb k 36) (eqb k 4) e in rw (m .1, m .2) refl
-made-shows at k fs e Cause.withoutBody = rw (made-not (eqb k 20) (eqb k 14) (eqb k 17) (eqb k 36) (eqb k 4) e .1) refl
-made-shows at k fs e Cause.arrayRest = rw (made-not (eqb k 20) (eqb k 14) (eqb k 17) (eqb k 36) (eqb k 4) e .3) refl
-made-shows at k fs e Cause.withoutValue = rw (made-not (eqb k 20) (eqb k 14) (eqb k 17) (eqb k 36) (eqb k 4) e .4) refl
+made-shows at k fs e Cause.restParameter t = let m = made-not (eqb k 20) (eqb k 14) (eqb k 17) (eqb k 36) (eqb k 4) e in rw (m .1, m .2) refl
+made-shows at k fs e Cause.withoutBody t = rw (made-not (eqb k 20) (eqb k 14) (eqb k 17) (eqb k 36) (eqb k 4) e .1) refl
+made-shows at k fs e Cause.arrayRest t = rw (made-not (eqb k 20) (eqb k 14) (eqb k 17) (eqb k 36) (eqb k 4) e .3) refl
+made-shows at k fs e Cause.withoutValue t = rw (made-not (eqb k 20) (eqb k 14) (eqb k 17) (eqb k 36) (eqb k 4) e .4) refl
+made-shows at k fs e Cause.inKey t = absurd (true≢false (sym t))
+made-shows at k fs e Cause.inTemplate t = absurd (true≢false (sym t))
 
 -- a node by its form
 pub make-shown : {T : Texts} (p k f : ℕ) {at : ℕ} {fs : Fields} → formAt rewritten p k ≡ f → 0 < f → eqb k 20 ≡ false → ((s : Cause) → T .barred s → shows s (node at k fs) ≡ false) → LieFields T 0 (fieldsOf f) fs
@@ -116,7 +128,7 @@ pub make-shown : {T : Texts} (p k f : ℕ) {at : ℕ} {fs : Fields} → formAt r
 make-shown {T = T} p k f {fs = fs} e z t s g = lies (pos f (formAt rewritten p k) e z) t s (subst (λ (h : ℕ). LieFields T 0 (fieldsOf h) fs) (sym e) g)
 
 pub make : {T : Texts} (p k f : ℕ) {at : ℕ} {fs : Fields} → formAt rewritten p k ≡ f → 0 < f → isMade k ≡ true → LieFields T 0 (fieldsOf f) fs → Lies T p (node at k fs)
-make p k f {at = at} {fs = fs} e z t g = make-shown p k f e z (made-20 k t) (λ s b. made-shows at k fs t s) g
+make {T = T} p k f {at = at} {fs = fs} e z t g = make-shown p k f e z (made-20 k t) (λ s b. made-shows at k fs t s (T .barredTree s b)) g
 
 -- its fields, where its form is known
 pub apart : {T : Texts} {p at k : ℕ} {fs : Fields} (f : ℕ) → Lies T p (node at k fs) → eqb k 20 ≡ false → formAt rewritten p k ≡ f → LieFields T 0 (fieldsOf f) fs

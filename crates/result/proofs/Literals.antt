@@ -1,23 +1,18 @@
 -- Object literals: what is made of one lies where it lay.
 -- Assumes nothing.
-use mathlib.Core.Path.{_≡_, refl, sym, ap, subst, _∙_}
-use mathlib.Core.Bool.{Bool, true, false, cond}
-use mathlib.Core.List.{List, [], _∷_, _++_}
-use Prim.Native.Nat.{ℕ, zero, suc, _<_, _≤_}
-use native.Mathlib.Omega.{arith}
-use lib.Dec.{eqb, ltb}
-use borrow.Author.Tests.{eqb-true}
-use Rattle.tree.specs.Tree.{Node, Fields, Piece, Items}
+use mathlib.Core.Path.{_≡_, refl, subst}
+use mathlib.Core.Bool.{true, false}
+use mathlib.Core.List.{[], _∷_, _++_}
+use Prim.Native.Nat.{ℕ, _<_}
+use Rattle.tree.specs.Tree.{Node, Items}
 use Rattle.tree.specs.Tree.Node.{node}
-use Rattle.tree.specs.Tree.Fields.{done, absent, field}
-use Rattle.tree.specs.Tree.Piece.{one, list}
 use Rattle.tree.specs.Grammar.{Sort, Field, places, allowed, also, among, kindOf, formIn, formAt, fieldsOf, kinds}
 use Rattle.tree.specs.Grammar.Stage.{rewritten}
-use Rattle.lowering.specs.Parts.{kind, is, nodeAt, itemsAt, pieceIn, only, any, _+++_}
-use Rattle.lowering.specs.Made.{S, object}
+use Rattle.lowering.specs.Parts.{is, nodeAt, itemsAt, only, any, _+++_}
+use Rattle.lowering.specs.Made.{S}
 use Rattle.lowering.specs.Literals.{Call, opened, closed, scan, literal}
 use Rattle.lowering.proofs.Cases.{by-test}
-use Rattle.result.proofs.Lies.{Texts, Lies, LieFields, LiePiece, LieItems, lies-only, lies-append, may-stand, list-at, node-at, stands-at}
+use Rattle.result.proofs.Lies.{Texts, Lies, LieItems, lies-only, lies-append, may-stand, list-at, node-at, stands-at}
 use Rattle.result.proofs.PatternViews.{fields-at, of-kind}
 use Rattle.result.proofs.Expressions.{Takes, takes-24, form-24, takes-13, argument, object-lies, S-lies}
 

@@ -3,7 +3,7 @@
 use mathlib.Core.Path.{_≡_, refl, sym, ap, ap₂, _∙_}
 use mathlib.Core.Bool.{Bool, true, false, cond, _&&_, _||_, true≢false}
 use mathlib.Core.List.{List, [], _∷_, _++_}
-use Prim.Native.Nat.{ℕ, zero, suc, _+_, _-_, _*_, _/_, _%_, _<_, _≤_}
+use Prim.Native.Nat.{ℕ, _+_, _-_, _*_, _/_, _%_, _<_, _≤_}
 use native.Mathlib.Omega.{arith}
 use lib.Dec.{eqb}
 use lib.ListN.{length}
@@ -21,20 +21,17 @@ use Rattle.rewritten.specs.Pass.{folded, passed}
 use Rattle.rewritten.specs.declared.step.Cursor.{Cursor}
 use Rattle.rewritten.specs.declared.step.Event as told
 use Rattle.rewritten.specs.declared.step.Step.{Step}
-use Rattle.rewritten.specs.declared.step.Step.the-variants.{Next, Done, Refused, Full}
+use Rattle.rewritten.specs.declared.step.Step.the-variants.{Next, Done, Refused}
 use Rattle.rewritten.proofs.Pass.{coming, onward, Inside, inside-start, inside-next, step-falls, concluded, concluded-start, concluded-next, concluded-whole, concluded-early, concluded-refused, passed-long}
-use Rattle.result.specs.Left.{keepsRest}
-use Rattle.result.specs.Leftover.{anyRest, restLeft, leftIn, leftover, isRested, restMet, meetRest}
+use Rattle.result.specs.Left.{keepsRest, anyOf}
+use Rattle.result.proofs.Occurring.{or-assoc, any-append}
+use Rattle.result.specs.Leftover.{restLeft, leftIn, leftover, isRested, restMet, meetRest}
 
 -- ---- the events of a tree meet what its nodes have
 
 unfoldable metIn : List Event → Bool
 metIn [] = false
 metIn (e ∷ es) = restMet e || metIn es
-
-or-assoc : (a b c : Bool) → (a || b) || c ≡ a || (b || c)
-or-assoc true b c = refl
-or-assoc false b c = refl
 
 or-false : (a : Bool) → a || false ≡ a
 or-false true = refl
@@ -50,11 +47,6 @@ unfolding metIn
 met-append [] fs = refl
 met-append (e ∷ es) fs = ap (λ (b : Bool). restMet e || b) (met-append es fs) ∙ sym (or-assoc (restMet e) (metIn es) (metIn fs))
 
-any-append : (ms ns : List Node) → anyRest (ms ++ ns) ≡ anyRest ms || anyRest ns
-unfolding anyRest
-any-append [] ns = refl
-any-append (m ∷ ms) ns = ap (λ (b : Bool). keepsRest m || b) (any-append ms ns) ∙ sym (or-assoc (keepsRest m) (anyRest ms) (anyRest ns))
-
 -- bit 1 of the map is the second field
 bit-one : (fs : Fields) → eqb (mapOf fs / 2 % 2) 1 ≡ standsIn fs 1
 unfolding mapOf standsIn
@@ -67,20 +59,20 @@ bit-one (Fields.field p (Fields.absent fs)) = ne-eqb ((1 + 2 * (2 * mapOf fs)) /
 bit-one (Fields.field p (Fields.field q fs)) = eq-eqb ((1 + 2 * (1 + 2 * mapOf fs)) / 2 % 2) 1 (omega arith)
 
 mutual
-  unfolding metIn restMet events nodes anyRest keepsRest isRested is stands
+  unfolding metIn restMet events nodes anyOf keepsRest isRested is stands
 
-  node-met : (n : Node) → metIn (events n) ≡ anyRest (nodes n)
+  node-met : (n : Node) → metIn (events n) ≡ anyOf keepsRest (nodes n)
   node-met (node at k fs) =
       ap₂ (λ (a b : Bool). a || b) (ap (λ (b : Bool). eqb k 34 && b) (bit-one fs))
       (met-append (eventsFields fs) (Event.ends ∷ []) ∙ (or-false (metIn (eventsFields fs)) ∙ fields-met fs))
 
-  fields-met : (fs : Fields) → metIn (eventsFields fs) ≡ anyRest (nodesFields fs)
+  fields-met : (fs : Fields) → metIn (eventsFields fs) ≡ anyOf keepsRest (nodesFields fs)
   fields-met Fields.done = refl
   fields-met (Fields.absent fs) = fields-met fs
   fields-met (Fields.field p fs) =
-      met-append (eventsPiece p) (eventsFields fs) ∙ (ap₂ (λ (a b : Bool). a || b) (piece-met p) (fields-met fs) ∙ sym (any-append (nodesPiece p) (nodesFields fs)))
+      met-append (eventsPiece p) (eventsFields fs) ∙ (ap₂ (λ (a b : Bool). a || b) (piece-met p) (fields-met fs) ∙ sym (any-append keepsRest (nodesPiece p) (nodesFields fs)))
 
-  piece-met : (p : Piece) → metIn (eventsPiece p) ≡ anyRest (nodesPiece p)
+  piece-met : (p : Piece) → metIn (eventsPiece p) ≡ anyOf keepsRest (nodesPiece p)
   piece-met (Piece.one n) = node-met n
   piece-met (Piece.list is) = met-append (eventsItems is) (Event.closes ∷ []) ∙ (or-false (metIn (eventsItems is)) ∙ items-met is)
   piece-met (Piece.text bs) = refl
@@ -88,10 +80,10 @@ mutual
   piece-met (Piece.mark n) = refl
   piece-met (Piece.number n) = refl
 
-  items-met : (is : Items) → metIn (eventsItems is) ≡ anyRest (nodesItems is)
+  items-met : (is : Items) → metIn (eventsItems is) ≡ anyOf keepsRest (nodesItems is)
   items-met Items.none = refl
   items-met (Items.hole is) = items-met is
-  items-met (Items.item n is) = met-append (events n) (eventsItems is) ∙ (ap₂ (λ (a b : Bool). a || b) (node-met n) (items-met is) ∙ sym (any-append (nodes n) (nodesItems is)))
+  items-met (Items.item n is) = met-append (events n) (eventsItems is) ∙ (ap₂ (λ (a b : Bool). a || b) (node-met n) (items-met is) ∙ sym (any-append keepsRest (nodes n) (nodesItems is)))
 
 -- what the pass answers is the definition
 abbrev answer : Bool → Bool

@@ -1,22 +1,21 @@
 -- What is handed back is a tree of the rewritten stage, in which nothing is left but the exceptions, and a list by its layout.
 -- Assumes nothing.
 use mathlib.Core.Path.{_≡_, refl, sym, ap, subst, _∙_}
-use mathlib.Core.Bool.{Bool, true, false, cond, not, _||_, true≢false}
+use mathlib.Core.Bool.{true, false, _||_, true≢false}
 use mathlib.Core.List.{List, [], _∷_, _++_}
-use mathlib.Core.Logic.{_⊎_}
-use Prim.Native.Nat.{ℕ, zero, suc, _+_, _*_, _<_, _≤_, min}
+use mathlib.Core.Logic.{_⊎_, inl, inr}
+use Prim.Native.Nat.{ℕ, _+_, _*_, _<_, _≤_, min}
 use native.Mathlib.Omega.{arith}
 use native.Mathlib.Nat.{add-comm}
-use lib.Dec.{eqb, ltb}
+use lib.Dec.{leb, ltb}
 use lib.ListN.{length, length-append}
 use borrow.Author.Tests.{ltb-false}
-use Rattle.tree.specs.Tree.{Node, Fields, Piece, Items, depth, wideBytes, encode, encodeFields, encodePiece, encodeItems, marks, marksFields, marksPiece, marksItems, placed}
-use Rattle.tree.specs.Tree.Node.{node}
+use Rattle.tree.specs.Tree.{Node, Items, depth, wideBytes, encode, encodePiece, marks, placed}
 use Rattle.tree.specs.Tree.Piece.{list}
 use Rattle.tree.specs.Grammar.{root, among}
 use Rattle.tree.specs.Grammar.Stage.{input, rewritten}
-use Rattle.tree.specs.Read.{Got, readTree}
-use Rattle.tree.specs.Read.Got.{got, refused}
+use Rattle.tree.specs.Read.{readTree}
+use Rattle.tree.specs.Read.Got.{got}
 use Rattle.tree.specs.WellFormed.{Bytes, Counts, Fits, WellFormed}
 use Rattle.tree.proofs.Sound.{sound}
 use Rattle.tree.proofs.Complete.{complete}
@@ -27,39 +26,43 @@ use Rattle.rewritten.proofs.Deep.{tree-never-too-deep}
 use Rattle.rewritten.proofs.Rewritten.{rewritten-complete}
 use Rattle.lowering.specs.Walk.{Walked}
 use Rattle.lowering.specs.Weight.{walked}
-use Rattle.lowering.specs.Collect.{Name, same, Entry, over, nodes, nodesItems, listNodes, nameAt, namesOf, distinct, numberIn, numbered, numberedItems, bare, newIn, visits, entries, excludedIn, firstRefusal, helperMask, listBytes}
-use Rattle.lowering.specs.Answer.{Lent, Result, fits, fitted, collected, afterWalk, afterReading, inForce, lowering, top, outcome, outcomeOf}
+use Rattle.lowering.specs.Collect.{Name, same, Entry, over, nodes, nodesItems, listNodes, nameAt, namesOf, distinct, numberIn, numbered, numberedItems, bare, newIn, visits, entries, excludedIn}
+use Rattle.lowering.specs.Answer.{Lent, Result, fits, lowering, top, outcome, outcomeOf}
 use Rattle.lowering.specs.Answer.Result.{refusal, lowered}
-use Rattle.lowering.specs.Refusals.{limitOutside, unknownOptions, smallWork, tooLong, isRefusal}
+use Rattle.lowering.specs.Refusals.{isRefusal}
 use Rattle.lowering.proofs.Answers.{InTable, in-table}
-use Rattle.lowering.proofs.Cases.{by-test, or-left, or-right, not-true}
-use Rattle.lowering.proofs.Order.{by-order}
-use Rattle.equal.specs.Canonical.{Written, eachEntry}
+use Rattle.lowering.proofs.Cases.{by-test, or-left, or-right, or-first, not-true}
+use Rattle.lowering.proofs.CallLowers.{Lowers, lowers}
+use Rattle.equal.specs.Canonical.{eachEntry}
 use Rattle.equal.specs.Equal.{entryEncoded, listEncoded}
 use Rattle.equal.specs.Results.{writtenBy, resultBy, ownNames, treeOf, entriesOf, excludedOf}
 use Rattle.equal.proofs.One.{list-bytes}
-use Rattle.result.specs.List.{FitDeclarators, FitEntries, FitList}
-use Rattle.result.specs.Left.{keepsRest, Exception, NothingLeft, EntriesLeft, ExcludedLeft}
+use Rattle.result.specs.Left.{keepsRest, keepsSpread, keeps, Part, Of, Remains, NothingLeft}
 use Rattle.result.specs.Leftover.{restLeft, leftIn, leftover}
-use Rattle.joining.specs.List.{handed, innerMarks}
+use Rattle.joining.specs.List.{handed, innerMarks, FitHanded}
 use Rattle.joining.specs.Join.{found}
+use Rattle.printer.specs.Text.{textOf}
+use Rattle.printer.specs.Outcome as text
+use Rattle.printer.specs.Outcome.{textTooLong}
 use Rattle.joining.specs.Answer as joining
+use Rattle.joining.proofs.Exact.{marks-long}
 use Rattle.joining.specs.Answer.{taken}
 use Rattle.result.specs.Marks.{copiesMarks, resultMarks, entriesFound}
 use Rattle.result.specs.Handed.{KeysOf}
 use Rattle.result.specs.Whole.{resultOf, LoweredRewritten}
-use Rattle.result.specs.Causes.{Cause, Without, Due}
+use Rattle.result.specs.Causes.{Cause, Without, causeOf, Caused}
 use Rattle.result.specs.Texts.{TextIn, TextInList, Known}
 use Rattle.result.proofs.Lies.{Texts, Lies, LieItems, input-lies, input-bytes}
 use Rattle.result.proofs.Comes.{Comes, walked-comes}
 use Rattle.result.proofs.Bounds.{Small, names, names-append, walked-few, distinct-most, number-most}
 use Rattle.result.proofs.Fitting.{fit}
 use Rattle.result.proofs.Standing.{no-spread}
+use Rattle.result.proofs.Occurring.{occurs-not}
 use Rattle.result.proofs.Places.{isOutside}
-use Rattle.result.proofs.Resting.{rests-remain, remains}
-use Rattle.result.proofs.Entries.{entries-left}
-use Rattle.result.proofs.Excluded.{excluded-left}
-use Rattle.lowering.specs.Visits.{ItemAt, Stands}
+use Rattle.result.proofs.Resting.{rests-remain, due-caused}
+use Rattle.result.proofs.Entries.{entries-caused}
+use Rattle.result.proofs.Excluded.{excluded-caused}
+use Rattle.lowering.specs.Visits.{Stands}
 use Rattle.result.proofs.Handing.{AllHand, EntriesLie, walked-hands, entries-lie, excluded-lie}
 use Rattle.result.proofs.Texts.{textsOf, text-comes, text-list}
 use Rattle.result.proofs.MarksApart.{marks-apart}
@@ -68,40 +71,6 @@ use Rattle.result.proofs.Joins.{joins}
 use Rattle.result.proofs.HandedKeys.{keys-handed}
 use Rattle.result.proofs.Distinct.{distinct-front}
 use Rattle.result.proofs.Numbering.{few-items, declarators-fit, entries-fit}
-
--- ---- marks take bytes
-
-mutual
-  unfolding marks encode
-
-  marks-bytes : (n : Node) → 2 * length (marks n) ≤ length (encode n)
-  marks-bytes (node at k fs) = let l = marks-fields fs in omega arith
-
-  marks-fields : (fs : Fields) → 2 * length (marksFields fs) ≤ length (encodeFields fs)
-  marks-fields Fields.done = omega arith
-  marks-fields (Fields.absent fs) = marks-fields fs
-  marks-fields (Fields.field p fs) =
-      let a = marks-piece p in let b = marks-fields fs in
-      let c = length-append (marksPiece p) (marksFields fs) in
-      let d = length-append (encodePiece p) (encodeFields fs) in
-      omega arith
-
-  marks-piece : (p : Piece) → 2 * length (marksPiece p) ≤ length (encodePiece p)
-  marks-piece (Piece.one n) = marks-bytes n
-  marks-piece (Piece.list is) = let l = marks-items is in omega arith
-  marks-piece (Piece.text bs) = omega arith
-  marks-piece (Piece.byte b) = omega arith
-  marks-piece (Piece.mark n) = omega arith
-  marks-piece (Piece.number n) = omega arith
-
-  marks-items : (is : Items) → 2 * length (marksItems is) ≤ length (encodeItems is)
-  marks-items Items.none = omega arith
-  marks-items (Items.hole is) = let l = marks-items is in omega arith
-  marks-items (Items.item n is) =
-      let a = marks-bytes n in let b = marks-items is in
-      let c = length-append (marks n) (marksItems is) in
-      let d = length-append (encode n) (encodeItems is) in
-      omega arith
 
 counted : (k : ℕ) (ms : List ℕ) (j : ℕ) → Counts k ms j → j ≡ k + length ms
 unfolding Counts
@@ -124,19 +93,6 @@ module _ (ns : List Name) where
       let c = length-append (wideBytes (e .containing) ++ encodePiece (list (numberedItems ns (e .declarators)))) (over entryEncoded (eachEntry (λ is. numberedItems ns is) es)) in
       (omega arith, omega arith)
 
--- ---- a lowering that is handed back
-
-record Came (limit : ℕ) (tree t l : List ℕ) : Type 0 where
-  n : Node
-  end : ℕ
-  next : ℕ
-  read : readTree input limit tree ≡ got n end next
-  none : firstRefusal (visits next 0 (walked top n)) ≡ 0
-  tree-bytes : t ≡ encode (resultOf next n .tree)
-  tree-short : length t ≤ 32768
-  list-bytes : l ≡ listEncoded (resultOf next n .entries) (resultOf next n .excluded)
-  list-short : length l ≤ 16384
-
 fits-short : (s : Lent) (t l : List ℕ) → fits s t l ≡ true → (length t ≤ 32768) × (length l ≤ 16384)
 unfolding fits
 fits-short s t l e =
@@ -145,52 +101,16 @@ fits-short s t l e =
     let b = ltb-false (min 16384 (s .listSlice)) (length l) (or-right (ltb (min 32768 (s .treeSlice)) (length t)) (ltb (min 16384 (s .listSlice)) (length l)) both) in
     (omega arith, omega arith)
 
-module _ (h o : ℕ) (t l : List ℕ) where
-  no-refusal : {A : Type 0} (r : ℕ) → refusal r ≡ lowered h o t l → A
-  no-refusal r e = let z : _≡_ {A = ℕ} 0 1 = cc in absurd (omega arith)
+remains : {n : Node} {part : Part} {p c : List ℕ} {t x : Node} → Caused n part p t c x → Remains part p t c x
+remains (Caused.caused s e o) = Remains.remains s e
 
-  of-fitted : (s : Lent) (helpers options : ℕ) (t′ l′ : List ℕ) → fitted s helpers options t′ l′ ≡ lowered h o t l → (t ≡ t′) × (l ≡ l′) × (fits s t′ l′ ≡ true)
-  unfolding fitted
-  of-fitted s helpers options t′ l′ e =
-      by-test (fits s t′ l′)
-      (λ a. let z : lowered helpers options t′ l′ ≡ lowered h o t l = rw a at e in (cc, cc, a))
-      (λ a. no-refusal 7 (rw a at e))
-
-  of-walk : (r : Result) (v : ℕ) → (elim v [ zero ↦ r | suc k ↦ refusal (suc k) ]) ≡ lowered h o t l → (r ≡ lowered h o t l) × (v ≡ 0)
-  of-walk r zero e = (e, refl)
-  of-walk r (suc k) e = no-refusal (suc k) e
-
-  of-reading : (limit options : ℕ) (tree : List ℕ) (s : Lent) (g : Got Node) → readTree input limit tree ≡ g → afterReading options s g ≡ lowered h o t l → Came limit tree t l
-  unfolding afterReading afterWalk collected resultBy ownNames treeOf entriesOf excludedOf writtenBy
-  of-reading limit options tree s (refused r) k e = no-refusal _ e
-  of-reading limit options tree s (got n q next) k e =
-      let m = treeOf next n in
-      let es = entriesOf next n in
-      let ex = excludedOf next n in
-      let ns = namesOf m es ex in
-      let w = of-walk (fitted s (helperMask m) options (encode (numbered ns m)) (listBytes ns es ex)) (firstRefusal (visits next 0 (walked top n))) e in
-      let f = of-fitted s (helperMask m) options (encode (numbered ns m)) (listBytes ns es ex) (w .0) in
-      let b = fits-short s (encode (numbered ns m)) (listBytes ns es ex) (f .2) in
-      record {
-        n = n;
-        end = q;
-        next = next;
-        read = k;
-        none = w .1;
-        tree-bytes = f .0;
-        tree-short = rw (f .0) (b .0);
-        list-bytes = f .1 ∙ sym (list-bytes ns m es ex);
-        list-short = rw (f .1) (b .1);
-      }
-
-  came : (limit options : ℕ) (tree : List ℕ) (s : Lent) → lowering limit options tree s ≡ lowered h o t l → Came limit tree t l
-  came limit options tree s =
-      by-order limit options tree s (λ x. x ≡ lowered h o t l → Came limit tree t l) (no-refusal limitOutside) (no-refusal unknownOptions) (no-refusal smallWork)
-      (of-reading limit (inForce options) tree s (readTree input limit tree) refl)
+text-answers : (size : ℕ) (bs : List ℕ) → (text.fitted size bs .answer ≡ 0) ⊎ (text.fitted size bs .answer ≡ textTooLong)
+unfolding text.fitted text.refusal
+text-answers size bs = by-test (leb (length bs) size) (λ e. inl (rw e refl)) (λ e. inr (rw e refl))
 
 -- ---- the law
 
-module _ (limit : ℕ) (tree t l : List ℕ) (b : Bytes tree) (k : Came limit tree t l) where
+module _ (limit : ℕ) (tree t l : List ℕ) (s : Lent) (b : Bytes tree) (k : Lowers limit tree s t l) where
   abbrev n : Node
   n = k .n
 
@@ -210,31 +130,42 @@ module _ (limit : ℕ) (tree t l : List ℕ) (b : Bytes tree) (k : Came limit tr
   T = textsOf n (λ bs i. input-bytes fits-input i)
 
   lies : Lies T root n
-  lies = input-lies fits-input (λ bs i. Known.ofInput i) (λ s b. b)
+  lies = input-lies fits-input (λ bs i. Known.ofInput i) (λ s b. b .1)
 
   next-few : next ≤ 8193
   next-few =
       let a = sound input limit tree n (k .end) next b (k .read) in
       let c = counted 1 (marks n) next (a .wellFormed .marked) in
-      let d = marks-bytes n in
+      let d = marks-long n in
       let e = a .wellFormed .short in
       omega arith
+
+  short : (length t ≤ 32768) × (length l ≤ 16384)
+  short = fits-short s t l (k .fit)
+
+  own-tree : t ≡ encode (resultOf next n .tree)
+  unfolding resultBy ownNames treeOf entriesOf excludedOf writtenBy
+  own-tree = k .tree-bytes
+
+  own-list : l ≡ listEncoded (resultOf next n .entries) (resultOf next n .excluded)
+  unfolding resultBy ownNames treeOf entriesOf excludedOf writtenBy
+  own-list = k .list-bytes ∙ sym (list-bytes (ownNames next n) (treeOf next n) (entriesOf next n) (excludedOf next n))
 
   written-tree : resultOf next n .tree ≡ numbered ns (bare next w)
   unfolding resultBy ownNames treeOf entriesOf excludedOf writtenBy
   written-tree = refl
 
   tree-length : length (encode (numbered ns (bare next w))) ≤ 32768
-  tree-length = subst (λ (m : Node). length (encode m) ≤ 32768) written-tree (subst (λ (x : List ℕ). length x ≤ 32768) (k .tree-bytes) (k .tree-short))
+  tree-length = subst (λ (m : Node). length (encode m) ≤ 32768) written-tree (subst (λ (x : List ℕ). length x ≤ 32768) own-tree (short .0))
 
   small : Small (newIn w) (names (nodes (bare next w))) (length (encode (numbered ns (bare next w))))
-  small = walked-few ns top n root next 0 lies (k .none)
+  small = walked-few ns top n root next 0 lies (k .unrefused)
 
   next-fits : next + newIn w ≤ 65535
   next-fits = let a = small .marks in let c = tree-length in let d = next-few in omega arith
 
   hands : AllHand T (visits next 0 w)
-  hands = walked-hands top n root next 0 lies (k .none) next-fits (omega arith)
+  hands = walked-hands top n root next 0 lies (k .unrefused) next-fits (omega arith)
 
   entries-are : EntriesLie T (entries (visits next 0 w))
   entries-are = entries-lie T (visits next 0 w) hands
@@ -253,9 +184,9 @@ module _ (limit : ℕ) (tree t l : List ℕ) (b : Bytes tree) (k : Came limit tr
   list-length =
       let es = over entryEncoded (eachEntry (λ is. numberedItems ns is) (entries (visits next 0 w))) in
       let ex = encodePiece (list (numberedItems ns (excludedIn (visits next 0 w)))) in
-      let a : length l ≡ length (wideBytes (length (eachEntry (λ is. numberedItems ns is) (entries (visits next 0 w)))) ++ es ++ ex) = ap length (k .list-bytes ∙ written-list) in
+      let a : length l ≡ length (wideBytes (length (eachEntry (λ is. numberedItems ns is) (entries (visits next 0 w)))) ++ es ++ ex) = ap length (own-list ∙ written-list) in
       let c = length-append es ex in
-      let d = k .list-short in
+      let d = short .1 in
       omega arith
 
   few : (a : Name) → numberIn same 1 ns a < 65536
@@ -275,14 +206,14 @@ module _ (limit : ℕ) (tree t l : List ℕ) (b : Bytes tree) (k : Came limit tr
       omega arith
 
   tree-comes : Comes n (numbered ns (bare next w))
-  tree-comes = walked-comes ns few top n root next 0 lies (k .none) (let a = next-fits in omega arith)
+  tree-comes = walked-comes ns few top n root next 0 lies (k .unrefused) (let a = next-fits in omega arith)
 
   tree-formed : WellFormed rewritten (depth (numbered ns (bare next w))) (numbered ns (bare next w)) 1
   tree-formed = record { fits = fit tree-comes root lies (let a = tree-length in omega arith); marked = refl; level = omega arith; short = tree-length }
 
   tree-decoded : readTree rewritten (length t) t ≡ got (placed (numbered ns (bare next w)) 0) (length t) 1
   tree-decoded =
-      subst (λ (x : List ℕ). readTree rewritten (length x) x ≡ got (placed (numbered ns (bare next w)) 0) (length x) 1) (sym (k .tree-bytes ∙ ap encode written-tree))
+      subst (λ (x : List ℕ). readTree rewritten (length x) x ≡ got (placed (numbered ns (bare next w)) 0) (length x) 1) (sym (own-tree ∙ ap encode written-tree))
       (read-back (numbered ns (bare next w)) tree-formed)
     where
       read-back : (m : Node) → WellFormed rewritten (depth m) m 1 → readTree rewritten (length (encode m)) (encode m) ≡ got (placed m 0) (length (encode m)) 1
@@ -295,17 +226,27 @@ module _ (limit : ℕ) (tree t l : List ℕ) (b : Bytes tree) (k : Came limit tr
   unfolding among
   root-outside = refl
 
-  tree-caused : (q : List ℕ) (x : Node) → Stands [] (numbered ns (bare next w)) q x → keepsRest x ≡ true → Due (λ s. Without s n) [] (numbered ns (bare next w)) q x
-  tree-caused q x s k = rests-remain tree-comes root lies root-outside s k
+  tree-spreads : (q : List ℕ) (x : Node) → Stands [] (numbered ns (bare next w)) q x → keepsSpread x ≡ false
+  tree-spreads q x s = no-spread tree-comes root lies s
 
-  tree-left : NothingLeft (numbered ns (bare next w))
-  tree-left = record { spreads = λ q x s. no-spread tree-comes root lies s; rests = λ q x s k. remains (tree-caused q x s k) }
+  tree-caused : {q : List ℕ} {x : Node} → Stands [] (numbered ns (bare next w)) q x → keeps x ≡ true → Caused n Part.tree [] (numbered ns (bare next w)) q x
+  unfolding keeps
+  tree-caused {q = q} {x = x} s k = due-caused (rests-remain tree-comes root lies root-outside s (or-first (keepsRest x) (keepsSpread x) (tree-spreads q x s) k))
+
+  all-caused : (part : Part) (m : Node) → Of (resultOf next n) part m → (q : List ℕ) (x : Node) → Stands [] m q x → keeps x ≡ true → Caused n part [] m q x
+  unfolding resultBy ownNames treeOf entriesOf excludedOf writtenBy
+  all-caused Part.tree m Of.tree q x s k = tree-caused s k
+  all-caused Part.entry m (Of.entry i) q x s k = entries-caused ns top n next i s k
+  all-caused Part.excluded m (Of.excluded a) q x s k = excluded-caused ns top n next a s k
+
+  all-left : NothingLeft (resultOf next n)
+  all-left = record { spreads = subst (λ (m : Node). (q : List ℕ) (x : Node) → Stands [] m q x → keepsSpread x ≡ false) (sym written-tree) tree-spreads; others = λ part m o q x s k. remains (all-caused part m o q x s k) }
 
   tree-told : leftover t ≡ restLeft (placed (numbered ns (bare next w)) 0)
   unfolding leftover
   tree-told = ap leftIn tree-decoded
 
-  list-fits : FitList (resultOf next n .entries) (resultOf next n .excluded)
+  list-fits : FitHanded (handed (resultOf next n .entries) (resultOf next n .excluded))
   unfolding resultBy ownNames treeOf entriesOf excludedOf writtenBy
   list-fits =
       let a = list-length in
@@ -313,17 +254,9 @@ module _ (limit : ℕ) (tree t l : List ℕ) (b : Bytes tree) (k : Came limit tr
       record {
         few = omega arith;
         entries = entries-fit ns few T (entries (visits next 0 w)) entries-are (omega arith);
-        excludedKeys = declarators-fit ns few (excludedIn (visits next 0 w)) excluded-are (omega arith);
-        short = subst (λ (x : List ℕ). length x ≤ 16384) (k .list-bytes) (k .list-short);
+        excluded = declarators-fit ns few (excludedIn (visits next 0 w)) excluded-are (omega arith);
+        short = subst (λ (x : List ℕ). length x ≤ 16384) own-list (short .1);
       }
-
-  list-left : EntriesLeft (resultOf next n .entries)
-  unfolding resultBy ownNames treeOf entriesOf excludedOf writtenBy
-  list-left = entries-left ns top n next 0
-
-  keys-left : (j : ℕ) (d : Node) → ItemAt (resultOf next n .excluded) j d → ExcludedLeft d
-  unfolding resultBy ownNames treeOf entriesOf excludedOf writtenBy
-  keys-left j d a = excluded-left ns top n next 0 j d a
 
   tree-texts : (bs : List ℕ) → TextIn (numbered ns (bare next w)) bs → Known n bs
   tree-texts bs i = text-comes tree-comes root lies i
@@ -341,7 +274,7 @@ module _ (limit : ℕ) (tree t l : List ℕ) (b : Bytes tree) (k : Came limit tr
 
   entries-entered : entriesFound (resultOf next n) ≡ true
   unfolding entriesFound resultBy ownNames treeOf entriesOf excludedOf writtenBy
-  entries-entered = all-entered ns top n next lies (k .none)
+  entries-entered = all-entered ns top n next lies (k .unrefused)
 
   distinct-marks : copiesMarks n ≡ false → reading.distinct (resultMarks (resultOf next n)) ≡ true
   unfolding resultMarks resultBy ownNames treeOf entriesOf excludedOf writtenBy
@@ -355,16 +288,19 @@ module _ (limit : ℕ) (tree t l : List ℕ) (b : Bytes tree) (k : Came limit tr
   unfolding resultMarks
   tree-accepted h =
       let m = resultOf next n .tree in
-      subst (λ (x : List ℕ). readRewritten x ≡ got (placed m 0) (length x) 1) (sym (k .tree-bytes))
+      subst (λ (x : List ℕ). readRewritten x ≡ got (placed m 0) (length x) 1) (sym own-tree)
       (rewritten-complete m (record {
         formed = subst (λ (m : Node). WellFormed rewritten (depth m) m 1) (sym written-tree) tree-formed;
         apart = tree-apart m (resultOf next n .entries) (resultOf next n .excluded) (distinct-marks h);
       }))
 
+  tree-printed : copiesMarks n ≡ false → (size : ℕ) → (text.outcome (readRewritten t) size .answer ≡ 0) ⊎ (text.outcome (readRewritten t) size .answer ≡ textTooLong)
+  tree-printed h size = rw (tree-accepted h) (text-answers size (textOf (placed (resultOf next n .tree) 0)))
+
   tree-joined : copiesMarks n ≡ false → (room : ℕ) → (joining.answerOf (joining.outcome t l room) ≡ 0) ⊎ (joining.answerOf (joining.outcome t l room) ≡ 7)
   unfolding resultMarks entriesFound
   tree-joined h room =
-      joins (resultOf next n .tree) (resultOf next n .entries) (resultOf next n .excluded) t l (tree-accepted h) list-fits (k .list-bytes) (as-taken (distinct-marks h)) as-found room
+      joins (resultOf next n .tree) (resultOf next n .entries) (resultOf next n .excluded) t l (tree-accepted h) list-fits own-list (as-taken (distinct-marks h)) as-found room
     where
       as-taken : reading.distinct (resultMarks (resultOf next n)) ≡ true → reading.distinct (taken (resultOf next n .tree) (handed (resultOf next n .entries) (resultOf next n .excluded))) ≡ true
       as-taken e = e
@@ -379,40 +315,36 @@ module _ (limit : ℕ) (tree t l : List ℕ) (b : Bytes tree) (k : Came limit tr
         end = k .end;
         next = next;
         read = k .read;
-        is-tree = k .tree-bytes;
+        is-tree = own-tree;
         formed = subst (λ (m : Node). WellFormed rewritten (depth m) m 1) (sym written-tree) tree-formed;
         decoded = subst (λ (m : Node). readTree rewritten (length t) t ≡ got (placed m 0) (length t) 1) (sym written-tree) tree-decoded;
-        left = subst NothingLeft (sym written-tree) tree-left;
-        caused = subst (λ (m : Node). (q : List ℕ) (x : Node) → Stands [] m q x → keepsRest x ≡ true → Due (λ s. Without s n) [] m q x) (sym written-tree) tree-caused;
+        left = all-left;
+        caused = all-caused;
         told = subst (λ (m : Node). leftover t ≡ restLeft (placed m 0)) (sym written-tree) tree-told;
-        is-list = k .list-bytes;
+        is-list = own-list;
         listed = list-fits;
-        kept = list-left;
-        copied = keys-left;
         treeTexts = subst (λ (m : Node). (bs : List ℕ) → TextIn m bs → Known n bs) (sym written-tree) tree-texts;
         listTexts = list-texts;
         keys = entries-keys;
         entered = entries-entered;
         apart = distinct-marks;
         accepted = tree-accepted;
+        printed = tree-printed;
         joined = tree-joined;
       }
 
 -- every lowering hands back a tree of the rewritten stage and a list by its layout
 pub lowered-rewritten : (limit options : ℕ) (tree : List ℕ) (s : Lent) (helpers mask : ℕ) (t l : List ℕ) → Bytes tree
     → lowering limit options tree s ≡ lowered helpers mask t l → LoweredRewritten limit tree t l
-lowered-rewritten limit options tree s helpers mask t l b e = both-are limit tree t l b (came helpers mask t l limit options tree s e)
+lowered-rewritten limit options tree s helpers mask t l b e = both-are limit tree t l s b (lowers helpers mask t l limit options tree s e)
 
--- without causes in the input no rest is left in its tree
-uncaused : {B : Cause → Type 0} {p c : List ℕ} {t x : Node} → Due B p t c x → ((s : Cause) → B s) → ⊥
-uncaused (Due.due s (Exception.belowArrayRest a b d e) o) h = o (h Cause.arrayRest)
-uncaused (Due.due s (Exception.restParameter a b d) o) h = o (h Cause.restParameter)
-uncaused (Due.due s (Exception.withoutBody a b d e f) o) h = o (h Cause.withoutBody)
-uncaused (Due.due s (Exception.withoutValue a b d e) o) h = o (h Cause.withoutValue)
-
-pub nothing-at-all : {limit : ℕ} {tree t l : List ℕ} (r : LoweredRewritten limit tree t l) → ((s : Cause) → Without s (r .n)) → (q : List ℕ) (x : Node) → Stands [] (resultOf (r .next) (r .n) .tree) q x
-    → keepsRest x ≡ false
-nothing-at-all r h q x s = by-test (keepsRest x) (λ k. absurd (uncaused (r .caused q x s k) h)) (λ k. k)
+-- without causes in the input nothing at all is left, in tree and list
+pub nothing-at-all : {limit : ℕ} {tree t l : List ℕ} (r : LoweredRewritten limit tree t l) → ((s : Cause) → Without s (r .n)) → (part : Part) (m : Node) → Of (resultOf (r .next) (r .n)) part m
+    → (q : List ℕ) (x : Node) → Stands [] m q x → keeps x ≡ false
+nothing-at-all r h part m o q x s = by-test (keeps x) (λ k. absurd (uncaused (r .caused part m o q x s k))) (λ k. k)
+  where
+    uncaused : Caused (r .n) part [] m q x → ⊥
+    uncaused (Caused.caused a e u) = occurs-not u (h (causeOf e))
 
 -- the same by the answer: 0 is given for a lowering alone
 pub data Lowered (limit : ℕ) (tree : List ℕ) (r : Result) : Type 0 where

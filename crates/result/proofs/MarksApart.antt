@@ -20,7 +20,8 @@ use Rattle.equal.specs.Canonical.{eachEntry}
 use Rattle.joining.specs.List.{handed, innerMarks}
 use Rattle.joining.specs.Answer.{taken}
 use Rattle.lowering.proofs.Cases.{by-test}
-use Rattle.result.specs.Marks.{anyCopies, copiesMarks}
+use Rattle.result.specs.Marks.{copiesAt, copiesMarks}
+use Rattle.result.specs.Left.{anyOf}
 use Rattle.result.proofs.Weighed.{total, weigh}
 use Rattle.result.proofs.Copies.{Measure}
 use Rattle.result.proofs.Tallies.{tally, tally-append, marks-most, by-marks, left, given, walk-weighs, ofEntries, list-weighs}
@@ -32,7 +33,7 @@ before-most m k = by-test (ltb m k) (λ e. rw e (omega arith)) (λ e. rw e (omeg
 not-zero : (j : ℕ) → hit (suc j) 0 ≡ 0
 not-zero j = by-test (eqb 0 (suc j)) (λ e. let q = eqb-true 0 (suc j) e in absurd (omega arith)) (λ e. rw e refl)
 
-copies : (n : Node) → copiesMarks n ≡ false → anyCopies (nodes n) ≡ false
+copies : (n : Node) → copiesMarks n ≡ false → anyOf copiesAt (nodes n) ≡ false
 unfolding copiesMarks
 copies n h = h
 
@@ -95,7 +96,7 @@ module _ (ns : List Name) (c : Context) (n : Node) (next : ℕ) where
     unfolding tally marks by-marks
     zero-once =
         let kin : Node → ℕ = λ k. tally (hit 0) (marks k) in
-        let measure : Measure (λ (x : ℕ). 0) kin = by-marks (hit 0) refl refl (λ path stem at. refl) (λ k. omega arith) in
+        let measure : Measure (λ (x : ℕ). 0) kin = by-marks (hit 0) refl refl (λ k. omega arith) in
         let a = counted-once 0 1 (marks n) next counts in
         let b = before-most 0 next in
         let d : before 0 1 ≡ 1 = refl in
@@ -113,7 +114,7 @@ module _ (ns : List Name) (c : Context) (n : Node) (next : ℕ) where
       unfolding by-marks
       other-once m =
           let out : ℕ → ℕ = hit (suc m) in
-          let measure : Measure out (λ (k : Node). 0) = by-marks out (not-zero m) refl (λ path stem at. refl) (λ k. let a = marks-most out (λ (k : Node). 0) k in omega arith) in
+          let measure : Measure out (λ (k : Node). 0) = by-marks out (not-zero m) refl (λ k. let a = marks-most out (λ (k : Node). 0) k in omega arith) in
           let a = counted-once (suc m) 1 (marks n) next counts in
           let b = before-most (suc m) (next + newIn w) in
           let e = weighs-marks out fits (copies n none) in

@@ -1,11 +1,10 @@
 -- What is handed out fits when its temporaries have their numbers. It is not walked.
 -- Assumes nothing.
-use mathlib.Core.Path.{_≡_, refl, sym, ap, subst, _∙_}
-use mathlib.Core.Bool.{Bool, true, false, cond}
+use mathlib.Core.Path.{_≡_, refl, sym, subst}
+use mathlib.Core.Bool.{Bool, false}
 use mathlib.Core.List.{List, [], _∷_, _++_}
-use Prim.Native.Nat.{ℕ, zero, suc, _+_, _*_, _<_, _≤_}
+use Prim.Native.Nat.{ℕ, _+_, _*_, _<_, _≤_}
 use native.Mathlib.Omega.{arith}
-use lib.Dec.{eqb}
 use lib.ListN.{length, length-append}
 use Rattle.tree.specs.Tree.{Node, Fields, Piece, Items, count, wideBytes, encode, encodeFields, encodePiece, encodeItems}
 use Rattle.tree.specs.Tree.Node.{node}
@@ -14,12 +13,13 @@ use Rattle.tree.specs.Grammar.{Sort, Field}
 use Rattle.tree.specs.Grammar.Stage.{rewritten}
 use Rattle.tree.specs.WellFormed.{byteIn, Fits, FitFields, FitPiece, FitItems}
 use Rattle.lowering.specs.Parts.{is, textAt, numberAt, pieceIn}
-use Rattle.lowering.specs.Collect.{Name, same, Entry, over, nameAt, nameOf, nodes, nodesFields, nodesPiece, nodesItems, listNodes, numberIn, numbered, numberedFields, numberedPiece, numberedItems, withNumber}
+use Rattle.lowering.specs.Collect.{Name, same, Entry, over, nameAt, nameOf, nodes, nodesFields, nodesPiece, nodesItems, numberIn, numbered, numberedFields, numberedPiece, numberedItems, withNumber}
 use Rattle.equal.specs.Canonical.{eachEntry}
-use Rattle.equal.specs.Equal.{entryEncoded, listEncoded}
-use Rattle.result.specs.List.{FitDeclarators, FitEntries}
+use Rattle.equal.specs.Equal.{entryEncoded}
+use Rattle.joining.specs.List.{FitDeclarators, FitEntries}
+use Rattle.joining.proofs.Agree.{count-short}
 use Rattle.result.proofs.Lies.{Texts, Lies, LieFields, LiePiece, LieItems}
-use Rattle.result.proofs.Fitting.{count-bytes, temporary-fits}
+use Rattle.result.proofs.Fitting.{temporary-fits}
 use Rattle.result.proofs.Bounds.{names, names-append, name-here, no-name-here}
 use Rattle.result.proofs.Handing.{EntriesLie}
 
@@ -100,9 +100,9 @@ module _ (ns : List Name) where
       number-piece (LiePiece.child x) l = (FitPiece.child (number-fits x l), refl)
       number-piece (LiePiece.chosen x) l = (FitPiece.chosen (number-fits x l), refl)
       number-piece (LiePiece.many {is = is} a) l =
-          let c = count-bytes (numberedItems ns is) in let d : count (numberedItems ns is) < 65536 = omega arith in (FitPiece.many d (number-items a (omega arith)), refl)
+          let c = count-short (numberedItems ns is) in let d : count (numberedItems ns is) < 65536 = omega arith in (FitPiece.many d (number-items a (omega arith)), refl)
       number-piece (LiePiece.gaps {is = is} a) l =
-          let c = count-bytes (numberedItems ns is) in let d : count (numberedItems ns is) < 65536 = omega arith in (FitPiece.gaps d (number-items a (omega arith)), refl)
+          let c = count-short (numberedItems ns is) in let d : count (numberedItems ns is) < 65536 = omega arith in (FitPiece.gaps d (number-items a (omega arith)), refl)
       number-piece {T = T} (LiePiece.text {bs = bs} a) l = let d : length bs < 65536 = omega arith in (FitPiece.text d (T .bytes bs a), refl)
       number-piece (LiePiece.byte x y z) l = (FitPiece.byte x y z, refl)
       number-piece (LiePiece.mark a) l = (FitPiece.mark a, refl)
@@ -119,7 +119,7 @@ module _ (ns : List Name) where
 
     pub declarators-fit : {T : Texts} (is : Items) → LieItems T 4 false is → length (encodePiece (list (numberedItems ns is))) < 65536 → FitDeclarators (numberedItems ns is)
     unfolding encode
-    declarators-fit is a l = let c = count-bytes (numberedItems ns is) in let d : count (numberedItems ns is) < 65536 = omega arith in FitPiece.many d (number-items a (omega arith))
+    declarators-fit is a l = let c = count-short (numberedItems ns is) in let d : count (numberedItems ns is) < 65536 = omega arith in FitPiece.many d (number-items a (omega arith))
 
     pub entries-fit : (T : Texts) (es : List Entry) → EntriesLie T es → length (over entryEncoded (eachEntry (λ is. numberedItems ns is) es)) < 65536 → FitEntries (eachEntry (λ is. numberedItems ns is) es)
     unfolding eachEntry over entryEncoded

@@ -2,14 +2,13 @@
 -- own; `t` says which they are: false for binding, true for targets.
 -- Assumes nothing.
 use mathlib.Core.Path.{_≡_, refl, sym, ap, subst, _∙_}
-use mathlib.Core.Bool.{Bool, true, false, cond, _&&_, _||_, true≢false}
-use mathlib.Core.List.{List, [], _∷_, _++_}
-use Prim.Native.Nat.{ℕ, zero, suc, _+_, _<_, _≤_}
+use mathlib.Core.Bool.{Bool, true, false}
+use mathlib.Core.List.{List, [], _∷_}
+use Prim.Native.Nat.{ℕ, _+_, _<_, _≤_}
 use native.Mathlib.Omega.{arith}
-use lib.Dec.{eqb, ltb}
-use lib.ListN.{getD}
+use lib.Dec.{eqb}
 use borrow.Author.Tests.{eqb-true}
-use Rattle.tree.specs.Tree.{Node, Fields, Piece, Items}
+use Rattle.tree.specs.Tree.{Node, Fields, Items}
 use Rattle.tree.specs.Tree.Node.{node}
 use Rattle.tree.specs.Tree.Fields.{done, absent, field}
 use Rattle.tree.specs.Tree.Piece.{one, list, byte}
@@ -20,9 +19,10 @@ use Rattle.lowering.specs.Patterns.{Shape, shape, hasObjectRest}
 use Rattle.lowering.specs.Patterns.Shape.{objectPattern, arrayPattern}
 use Rattle.lowering.proofs.Cases.{object-is, array-is, default-is}
 use Rattle.lowering.proofs.Levels.{has-nothing}
+use Rattle.result.specs.Left.{keepsRest}
 use Rattle.result.specs.Causes.{Cause, shows}
 use Rattle.result.proofs.Rows.{lone}
-use Rattle.result.proofs.Lies.{Texts, isMade, make-shown, shown-of, Lies, LieFields, LiePiece, LieItems, fields-of, make, apart, may-stand}
+use Rattle.result.proofs.Lies.{Texts, isMade, make-shown, shown-of, Lies, LieFields, LiePiece, LieItems, make, apart, may-stand}
 
 -- ---- places and forms
 
@@ -229,7 +229,7 @@ module _ (t w : Bool) where
   object-rested a r = put 34 (objectFields t) refl (omega arith) (object-form t w) (object-fields t) (LieFields.needed (LiePiece.many a) (LieFields.given (LiePiece.child r) LieFields.done))
 
   put-array : {T : Texts} {at : ℕ} {fs : Fields} → (T .barred Cause.arrayRest → hasObjectRest (asNode (pieceIn fs 1)) ≡ false) → LieFields T 0 (arrayFields t) fs → Lies T (patternAt t w) (node at 36 fs)
-  unfolding shows is nodeAt
+  unfolding shows keepsRest is nodeAt
   put-array {T = T} {at = at} {fs = fs} u l =
       make-shown (patternAt t w) 36 (formOf t 36) (array-form t w) (form-pos t 36 (omega arith)) refl shown (subst (λ (us : List Field). LieFields T 0 us fs) (sym (array-fields t)) l)
     where
@@ -238,6 +238,8 @@ module _ (t w : Bool) where
       shown Cause.withoutBody b = refl
       shown Cause.arrayRest b = u b
       shown Cause.withoutValue b = refl
+      shown Cause.inKey b = refl
+      shown Cause.inTemplate b = refl
 
   pub array-plain : {T : Texts} {at : ℕ} {is : Items} → LieItems T (valueAt t) true is → Lies T (patternAt t w) (node at 36 (field (list is) (absent done)))
   unfolding pieceIn

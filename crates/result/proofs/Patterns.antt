@@ -1,26 +1,18 @@
 -- What the rules make of a pattern lies where the pattern lay.
 -- Assumes nothing.
-use mathlib.Core.Path.{_≡_, refl, sym, ap, subst, _∙_}
-use mathlib.Core.Bool.{Bool, true, false, cond, not, _&&_, _||_}
-use mathlib.Core.List.{List, [], _∷_, _++_}
-use Prim.Native.Nat.{ℕ, zero, suc, _+_, _<_, _≤_}
+use mathlib.Core.Path.{_≡_}
+use mathlib.Core.Bool.{Bool, true, false}
+use Prim.Native.Nat.{ℕ, zero, suc}
 use native.Mathlib.Omega.{arith}
-use lib.Dec.{eqb, ltb}
-use Rattle.tree.specs.Tree.{Node, Fields, Piece, Items, depth}
-use Rattle.tree.specs.Tree.Node.{node}
-use Rattle.tree.specs.Tree.Fields.{done, absent, field}
-use Rattle.tree.specs.Tree.Piece.{one, list, byte}
-use Rattle.tree.specs.Grammar.{formAt}
-use Rattle.tree.specs.Grammar.Stage.{rewritten}
-use Rattle.lowering.specs.Parts.{kind, is, nodeAt, itemsAt, stands, standsIn, pieceIn, asNode, change, changeIn, onNode, onItems, without, dropIn, only, each, gather, _+++_}
+use Rattle.tree.specs.Tree.{Node, Items}
+use Rattle.lowering.specs.Parts.{nodeAt, itemsAt, stands, standsIn, pieceIn, change, changeIn, onNode, onItems, without, dropIn}
 use Rattle.lowering.specs.Made.{Context, reference}
-use Rattle.lowering.specs.Patterns.{Shape, shape, properties, itemsOf, rest, hasRest, leftOf, value, withLeft, withItems, withRest, withProperties, withValues, replaced}
-use Rattle.lowering.specs.Patterns.Shape.{objectPattern, arrayPattern, leaf}
+use Rattle.lowering.specs.Patterns.{Shape, shape, properties, itemsOf, rest, hasRest, leftOf, value, withLeft, withItems, withProperties, withValues, replaced}
+use Rattle.lowering.specs.Patterns.Shape.{objectPattern, arrayPattern}
 use Rattle.lowering.specs.Assignments.{nearest, partsReplaced}
-use Rattle.lowering.specs.Heads.{moved, movedOut}
-use Rattle.lowering.proofs.Cases.{by-test, by-shape, shape-34}
+use Rattle.lowering.proofs.Cases.{by-test, by-shape}
 use Rattle.lowering.proofs.Clauses.{replaced-object, replaced-array, replaced-default, replaced-leaf, parts-object, parts-array, parts-default, parts-leaf, nearest-object, nearest-array, nearest-default, nearest-leaf}
-use Rattle.result.proofs.Lies.{Texts, Lies, LieFields, LiePiece, LieItems, lies-each, lies-gather, lies-only, lies-if}
+use Rattle.result.proofs.Lies.{Texts, Lies, LieItems, lies-each, lies-gather, lies-only, lies-if}
 use Rattle.result.proofs.PatternViews.{wholeAt, valueAt, propertyAt, leafAt, patternAt, temporary-form, ObjectView, PropertyView, ArrayView, DefaultView, object-view, array-view, property-view, default-view, no-default-whole, object-plain, object-rested, array-plain, array-rested, property-made, default-made}
 
 module _ (t : Bool) where

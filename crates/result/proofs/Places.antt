@@ -2,14 +2,12 @@
 -- Assumes nothing.
 use mathlib.Core.Path.{_≡_, refl, sym, ap, subst, _∙_}
 use mathlib.Core.Bool.{Bool, true, false, cond, not, _&&_, _||_, true≢false}
-use mathlib.Core.List.{List, [], _∷_, _++_}
-use Prim.Native.Nat.{ℕ, zero, suc, _+_, _<_, _≤_}
+use mathlib.Core.List.{List, [], _∷_}
+use Prim.Native.Nat.{ℕ, zero, suc, _+_, _<_}
 use native.Mathlib.Omega.{arith}
 use lib.Dec.{eqb, ltb}
-use lib.ListN.{getD}
 use borrow.Author.Tests.{eqb-true}
-use Rattle.tree.specs.Tree.{Node, Fields, Piece, Items}
-use Rattle.tree.specs.Tree.Node.{node}
+use Rattle.tree.specs.Tree.{Node, Fields, Piece}
 use Rattle.tree.specs.Grammar.{Sort, Field, places, allowed, also, among, kindOf, formIn, formAt, fieldsOf, kinds, variants}
 use Rattle.tree.specs.Grammar.Stage.{rewritten}
 use Rattle.tree.specs.Read.{sortIn}
@@ -19,11 +17,9 @@ use Rattle.lowering.specs.Visits.{ItemAt, NodeIn, FieldAt}
 use Rattle.lowering.specs.Walk.{Rule, ruleOf, rewrite}
 use Rattle.lowering.specs.Walk.Rule.{literals, declarations, assignments, functions, arrows, catches, fors, nowhere}
 use Rattle.lowering.proofs.Cases.{by-test, and-left, and-right}
-use Rattle.lowering.proofs.All.{AllItems}
-use Rattle.lowering.proofs.PartsAt.{item-at}
-use Rattle.result.proofs.Lies.{Texts, Lies, LieFields, LiePiece, LieItems, sortAt, may-stand}
+use Rattle.result.proofs.Lies.{Texts, Lies, LieFields, LiePiece, sortAt, may-stand}
 use Rattle.result.proofs.Comes.{Comes, Left}
-use Rattle.result.proofs.Standing.{or-then, lie-item}
+use Rattle.result.proofs.Standing.{lie-item}
 
 -- ---- a test of each number of a list, and of each form of a row
 
@@ -49,7 +45,7 @@ form-passes t (f ∷ r) k h z = go (eqb (kindOf f) k) refl (λ y. form-passes t 
     go true e i y = (and-left (t f) (every t r) h, eqb-true (kindOf f) k e)
     go false e i y = i y
 
-place-passes : (t : ℕ → Bool) (p k : ℕ) → every t (allowed rewritten p) ≡ true → 0 < formAt rewritten p k → (t (formAt rewritten p k) ≡ true) × (kindOf (formAt rewritten p k) ≡ k)
+pub place-passes : (t : ℕ → Bool) (p k : ℕ) → every t (allowed rewritten p) ≡ true → 0 < formAt rewritten p k → (t (formAt rewritten p k) ≡ true) × (kindOf (formAt rewritten p k) ≡ k)
 unfolding formAt
 place-passes t p k h z = go (ltb k 64) z
   where

@@ -1,41 +1,42 @@
 -- A rest that is left stands in one of the exceptions, and no other: by the path to it.
 -- Assumes nothing.
 use mathlib.Core.Path.{_≡_, refl, sym, ap, subst, _∙_}
-use mathlib.Core.Bool.{Bool, true, false, cond, not, _&&_, _||_, true≢false}
+use mathlib.Core.Bool.{Bool, true, false, cond, _||_, true≢false}
 use mathlib.Core.List.{List, [], _∷_}
-use Prim.Native.Nat.{ℕ, zero, suc, _+_, _<_, _≤_}
+use Prim.Native.Nat.{ℕ, zero, suc, _<_}
 use native.Mathlib.Omega.{arith}
 use lib.Dec.{eqb}
 use borrow.Author.Tests.{eqb-true}
-use Rattle.tree.specs.Tree.{Node, Fields, Piece, Items, depth}
+use Rattle.tree.specs.Tree.{Node, Fields, Items, depth}
 use Rattle.tree.specs.Tree.Node.{node}
-use Rattle.tree.specs.Grammar.{Sort, Field, places, allowed, also, among, kindOf, formIn, formAt, fieldsOf, kinds, variants}
+use Rattle.tree.specs.Grammar.{Sort, Field, places, allowed, also, among, kindOf, formIn, formAt, fieldsOf, kinds}
 use Rattle.tree.specs.Grammar.Field.{must, may}
 use Rattle.tree.specs.Grammar.Stage.{rewritten}
 use Rattle.lowering.specs.Parts.{kind, is, stands, standsIn, nodeAt, itemsAt, pieceIn, asNode, asItems, isEmpty}
-use Rattle.lowering.specs.Visits.{ItemAt, NodeIn, FieldAt, PartAt, Stands}
-use Rattle.lowering.specs.Patterns.{Shape, shape, properties, itemsOf, rest, hasRest, leftOf, value, hasObjectRest}
+use Rattle.lowering.specs.Visits.{FieldAt, PartAt, Stands}
+use Rattle.lowering.specs.Patterns.{Shape, shape, hasRest, value, hasObjectRest}
 use Rattle.lowering.specs.Patterns.Shape.{objectPattern, arrayPattern}
 use Rattle.lowering.specs.Assignments.{nearest}
 use Rattle.lowering.proofs.Cases.{by-test, by-shape, and-left, and-right, or-other, or-left, shape-34, object-is, array-is, default-is}
 use Rattle.lowering.proofs.All.{AllItems, none-passes}
 use Rattle.lowering.proofs.PartsAt.{item-at}
-use Rattle.result.specs.Left.{keepsRest, Below, isRestField, Exception, Remains}
-use Rattle.result.proofs.Rows.{covers, at-places, no-kind, form-4, form-7, form-8, form-10, form-17}
+use Rattle.result.specs.Left.{keepsRest, Below, isRestField, Part, Exception}
+use Rattle.result.proofs.Rows.{covers, at-places, form-4, form-7, form-8, form-10, form-17}
 use Rattle.result.proofs.Lies as lie
-use Rattle.result.specs.Causes.{Cause, lacksValue, shows, Open, Due}
-use Rattle.result.proofs.Lies.{Texts, shown-of, Lies, LieFields, LiePiece, LieItems, fields-of, sortAt, may-stand}
+use Rattle.result.specs.Causes.{Cause, lacksValue, shows, causeOf, Without, Caused}
+use Rattle.result.proofs.Occurring.{occurs-unless}
+use Rattle.result.proofs.Lies.{ofTree, Texts, shown-of, Lies, LieFields, fields-of, sortAt, may-stand}
 use Rattle.result.proofs.PatternViews.{array-rest, wholeAt, valueAt, propertyAt, leafAt, patternAt, formOf, objectFields, propertyFields, arrayFields, defaultFields, object-fields, property-fields, array-fields, default-fields, object-form, property-form, array-form, default-form, property-only, no-default-whole, fields-at, of-kind}
 use Rattle.result.proofs.Expressions.{takes-27, form-27}
 use Rattle.result.proofs.Assignments.{target-of}
 use Rattle.result.proofs.Declarations.{declarator-fields}
 use Rattle.result.proofs.Heads.{boundFields, param-fields, functionFields, FunctionForm, function-forms, forFields, head-target}
 use Rattle.result.proofs.Rules.{leaves}
-use Rattle.result.proofs.Comes.{Comes, Left, ComeFields, ComePiece, ComeItems}
+use Rattle.result.proofs.Comes.{Comes, Left, ComeFields}
 use Rattle.result.proofs.Settled.{Taken, Still, Settled, settled}
 use Rattle.result.proofs.Standing.{come-field, held, left-kind}
 use Rattle.result.proofs.Searched.{part-depth, Found, found-here, found-value, found-item, found-rest, found-left}
-use Rattle.result.proofs.Places.{isOutside, outSort, leads, outside-tidy, isQuiet, quiet-left, SortLies, lie-sort, out-place, leaf-out, ByNode, by-node}
+use Rattle.result.proofs.Places.{isOutside, outSort, leads, outside-tidy, isQuiet, quiet-left, SortLies, lie-sort, out-place, leaf-out, by-node}
 
 -- ---- what the walk leaves of a node, at its place
 
@@ -79,6 +80,10 @@ keeps-back {x = x} {y = y} l k =
     (shape-34 x b, sym (left-stands l (not-20 x b) 1) ∙ and-right (is 34 y) (stands 1 y) k)
 
 -- ---- results of the search along a path
+
+-- x, at the path c, is an exception in the tree t, which stands at the path p, and its cause is not barred
+pub data Due (barred : Cause → Type 0) (p : List ℕ) (t : Node) (c : List ℕ) (x : Node) : Type 0 where
+  due : {q : List ℕ} {h : Node} → Stands p t q h → (e : Exception q h c x Part.tree) → (barred (causeOf e) → ⊥) → Due barred p t c x
 
 -- in a pattern that was x: reached from it, or further on
 data In (B : Cause → Type 0) (p : List ℕ) (y : Node) (u : List ℕ) (o x : Node) : Type 0 where
@@ -500,5 +505,12 @@ mutual
 pub rests-remain : {T : Texts} {x y : Node} → Comes x y → (n : ℕ) → Lies T n x → isOutside n ≡ true → {p q : List ℕ} {o : Node} → Stands p y q o → keepsRest o ≡ true → Due (T .barred) p y q o
 rests-remain c n l u s k = let v = from-at c n l in outside s (v .left) n (v .lies) (v .calm) u k
 
-pub remains : {B : Cause → Type 0} {p c : List ℕ} {t x : Node} → Due B p t c x → Remains p t c x
-remains (Due.due s e o) = Remains.remains s e
+-- with every cause of the tree barred that a node n does not have, the causes occur in n
+pub due-caused : {n : Node} {p c : List ℕ} {t x : Node} → Due (λ s. (ofTree s ≡ true) × Without s n) p t c x → Caused n Part.tree p t c x
+due-caused {n = n} {c = c} {x = x} (Due.due {q = q} {h = h} s e o) = Caused.caused s e (occurs-unless (causeOf e) n (λ w. o (of-tree e, w)))
+  where
+    of-tree : (e : Exception q h c x Part.tree) → ofTree (causeOf e) ≡ true
+    of-tree (Exception.belowArrayRest a b d f) = refl
+    of-tree (Exception.restParameter a b d) = refl
+    of-tree (Exception.withoutBody a b d f g) = refl
+    of-tree (Exception.withoutValue a b d f) = refl

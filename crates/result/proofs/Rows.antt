@@ -1,13 +1,13 @@
 -- What may stand at a place of the rewritten stage, from place to place.
 -- Assumes nothing.
-use mathlib.Core.Path.{_≡_, refl, sym, ap, subst, _∙_}
+use mathlib.Core.Path.{_≡_, refl, sym, ap, _∙_}
 use mathlib.Core.Bool.{Bool, true, false, cond, _&&_, _||_}
-use mathlib.Core.List.{List, [], _∷_, _++_}
+use mathlib.Core.List.{List, [], _∷_}
 use Prim.Native.Nat.{ℕ, zero, suc, _<_}
 use native.Mathlib.Omega.{arith}
 use lib.Dec.{eqb, ltb}
 use lib.ListN.{getD}
-use borrow.Author.Tests.{eqb-true, lt-ltb}
+use borrow.Author.Tests.{eqb-true}
 use Rattle.tree.specs.Grammar.{Stage, places, allowed, also, among, kindOf, formIn, formAt}
 use Rattle.tree.specs.Grammar.Stage.{input, rewritten}
 use Rattle.lowering.proofs.Cases.{by-test, and-left, and-right, or-other}

@@ -1,30 +1,30 @@
 -- The invariant: what a rule leaves lies where the node lay, and what it hands out lies where declarators may stand. A clause for each rule.
 -- Assumes nothing.
-use mathlib.Core.Path.{_≡_, refl, sym, ap, subst, _∙_}
-use mathlib.Core.Bool.{Bool, true, false, cond, _&&_, _||_}
+use mathlib.Core.Path.{_≡_, refl}
+use mathlib.Core.Bool.{true, false}
 use mathlib.Core.List.{List, [], _∷_}
-use Prim.Native.Nat.{ℕ, zero, suc, _<_, _≤_}
+use Prim.Native.Nat.{ℕ, _<_}
 use native.Mathlib.Omega.{arith}
-use lib.Dec.{eqb}
-use Rattle.tree.specs.Tree.{Node, Fields, Piece, Items}
+use Rattle.tree.specs.Tree.{Node, Fields}
 use Rattle.tree.specs.Tree.Node.{node}
 use Rattle.tree.specs.Grammar.{Sort, Field, formAt, fieldsOf, kinds}
 use Rattle.tree.specs.Grammar.Stage.{rewritten}
 use Rattle.lowering.specs.Parts.{is, nodeAt}
 use Rattle.lowering.specs.Made.{Context}
-use Rattle.lowering.specs.Patterns.{shape, hasRest, hasObjectRest, hasArrayRestOverObjectRest}
+use Rattle.lowering.specs.Patterns.{shape, hasObjectRest, hasArrayRestOverObjectRest}
 use Rattle.lowering.specs.Patterns.Shape.{objectPattern}
 use Rattle.lowering.specs.Declarations.{declarationRefusal}
 use Rattle.lowering.specs.Assignments.{target, isTop, topRefusal}
 use Rattle.lowering.specs.Walk.{Step, rewrite, stepDeclaration, stepTop, stepAssignment, stepFor}
-use Rattle.lowering.proofs.Cases.{by-number, by-test, and-left, and-right, shape-34}
+use Rattle.lowering.proofs.Clauses.{top-34, top-rest}
+use Rattle.lowering.proofs.Cases.{by-number, by-test, shape-34}
 use Rattle.result.proofs.Rows.{form-7, form-8}
 use Rattle.result.proofs.Lies.{Texts, isMade, Lies, LieItems, may-stand}
 use Rattle.result.proofs.Literals.{literal-lies}
 use Rattle.result.proofs.Declarations.{declaration-lies, declarationExcludes-lie}
-use Rattle.result.proofs.Assignments.{AssignmentView, assignment-view, assignment-takes, target-lies, value-lies, top-lies, topEntry-lies, topExcludes-lie, nested-lies, nestedEntry-lies}
+use Rattle.result.proofs.Assignments.{assignment-view, assignment-takes, target-lies, value-lies, top-lies, topEntry-lies, topExcludes-lie, nested-lies, nestedEntry-lies}
 use Rattle.result.proofs.Heads.{function-lies, arrow-lies, catch-lies, declaring-lies, assigning-head-lies}
-use Rattle.result.proofs.ByRule.{Rules, by-rules}
+use Rattle.result.proofs.ByRule.{by-rules}
 
 -- what a step leaves and hands out
 pub record Leaves (T : Texts) (p : ℕ) (s : Step) : Type 0 where
@@ -34,11 +34,7 @@ pub record Leaves (T : Texts) (p : ℕ) (s : Step) : Type 0 where
 
 top-shape : (q : Node) → isTop q ≡ true → shape q ≡ objectPattern
 unfolding isTop
-top-shape q e = shape-34 q (and-left (is 34 q) (hasRest q) e)
-
-top-rest : (q : Node) → isTop q ≡ true → hasRest q ≡ true
-unfolding isTop
-top-rest q e = and-right (is 34 q) (hasRest q) e
+top-shape q e = shape-34 q (top-34 q e)
 
 module _ (c : Context) (p : ℕ) where
   abbrev Q : (T : Texts) → Node → Step → Type 0

@@ -1,13 +1,11 @@
 -- What the searches find: a rest that is reached from a pattern is found in it.
 -- Assumes nothing.
-use mathlib.Core.Path.{_≡_, refl, sym, ap, subst, _∙_}
-use mathlib.Core.Bool.{Bool, true, false, cond, _&&_, _||_, true≢false}
-use mathlib.Core.List.{List, [], _∷_}
-use Prim.Native.Nat.{ℕ, zero, suc, _<_, _≤_, max}
+use mathlib.Core.Path.{_≡_, refl, ap, _∙_}
+use mathlib.Core.Bool.{Bool, true, false, true≢false}
+use Prim.Native.Nat.{ℕ, zero, suc, _<_, _≤_}
 use native.Mathlib.Omega.{arith}
 use Rattle.tree.specs.Tree.{Node, Fields, Piece, Items, depth, depthFields, depthPiece, depthItems}
-use Rattle.tree.specs.Tree.Node.{node}
-use Rattle.lowering.specs.Parts.{is, isEmpty, only, gather, any, _+++_}
+use Rattle.lowering.specs.Parts.{is, isEmpty, gather, any, _+++_}
 use Rattle.lowering.specs.Visits.{ItemAt, NodeIn, FieldAt, PartAt}
 use Rattle.lowering.specs.Patterns.{Shape, shape, properties, itemsOf, rest, hasRest, leftOf, value, hasNestedObjectRest}
 use Rattle.lowering.specs.Patterns.Shape.{objectPattern, arrayPattern}
@@ -15,6 +13,7 @@ use Rattle.lowering.specs.Assignments.{nearest}
 use Rattle.lowering.proofs.Cases.{by-test}
 use Rattle.lowering.proofs.Levels.{depth-pos}
 use Rattle.lowering.proofs.Clauses.{nearest-object, nearest-array, nearest-default}
+use Rattle.result.proofs.Standing.{or-then}
 
 -- ---- parts have fewer levels
 
@@ -41,14 +40,10 @@ part-depth (PartAt.part a) = let l = field-depth a in omega arith
 
 -- ---- lists
 
-any-some : (f : Node → Bool) {is : Items} {j : ℕ} {x : Node} → ItemAt is j x → f x ≡ true → any f is ≡ true
+pub any-some : (f : Node → Bool) {is : Items} {j : ℕ} {x : Node} → ItemAt is j x → f x ≡ true → any f is ≡ true
 unfolding any
 any-some f ItemAt.first e = rw e refl
-any-some f (ItemAt.behind {n = n} {is = is} a) e = or-second (f n) (any f is) (any-some f a e)
-  where
-    or-second : (a b : Bool) → b ≡ true → a || b ≡ true
-    or-second true b h = refl
-    or-second false b h = h
+any-some f (ItemAt.behind {n = n} {is = is} a) e = or-then (f n) (any f is) (any-some f a e)
 any-some f (ItemAt.behindHole a) e = any-some f a e
 
 some-append : (is js : Items) → isEmpty is ≡ false → isEmpty (is +++ js) ≡ false
@@ -79,10 +74,6 @@ pub record Found (b : Bool) (x : Node) : Type 0 where
 under : (P : ℕ → Type 0) (x : Node) → ((e : ℕ) → depth x ≤ suc e → P (suc e)) → (e : ℕ) → depth x ≤ e → P e
 under P x f zero h = absurd (let z = depth-pos x in omega arith)
 under P x f (suc e) h = f e h
-
-or-then : (a b : Bool) → b ≡ true → a || b ≡ true
-or-then true b h = refl
-or-then false b h = h
 
 pub found-here : (x : Node) → shape x ≡ objectPattern → hasRest x ≡ true → Found false x
 unfolding hasNestedObjectRest isEmpty

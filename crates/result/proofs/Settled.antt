@@ -1,20 +1,20 @@
 -- What a rule leaves is settled: no spread in a literal, and no rest in a pattern but where an exception has it. A clause for each rule.
 -- Assumes nothing.
-use mathlib.Core.Path.{_≡_, refl, sym, ap, subst, _∙_}
-use mathlib.Core.Bool.{Bool, true, false, cond, _&&_, _||_, true≢false}
+use mathlib.Core.Path.{_≡_, refl, sym, subst, _∙_}
+use mathlib.Core.Bool.{Bool, true, false, cond, _&&_, true≢false}
 use mathlib.Core.List.{List, [], _∷_}
 use Prim.Native.Nat.{ℕ, zero, suc, _<_, _≤_}
 use native.Mathlib.Omega.{arith}
 use lib.Dec.{eqb}
-use Rattle.tree.specs.Tree.{Node, Fields, Piece, Items, depth, depthFields, depthPiece, depthItems}
+use Rattle.tree.specs.Tree.{Node, Fields, Piece, Items, depth, depthFields, depthItems}
 use Rattle.tree.specs.Tree.Node.{node}
 use Rattle.tree.specs.Grammar.{Sort, Field, formAt, fieldsOf, kinds}
 use Rattle.tree.specs.Grammar.Field.{must, may}
 use Rattle.tree.specs.Grammar.Stage.{rewritten}
-use Rattle.lowering.specs.Parts.{nothing, is, nodeAt, itemsAt, stands, pieceIn, standsIn, asNode, asItems, change, changeIn, onNode, onItems, only, each, gather, any, _+++_}
-use Rattle.lowering.specs.Made.{Context, declares, reference, valueOf, keyOf, S, object}
-use Rattle.lowering.specs.Patterns.{Shape, shape, properties, itemsOf, rest, hasRest, leftOf, value, key, withValues, hasObjectRest, hasNestedObjectRest, hasArrayRestOverObjectRest, replaced, replacedBelow}
-use Rattle.lowering.specs.Patterns.Shape.{objectPattern, arrayPattern}
+use Rattle.lowering.specs.Parts.{is, nodeAt, itemsAt, stands, pieceIn, standsIn, asNode, asItems, change, changeIn, onNode, onItems, only, each, gather, any, _+++_}
+use Rattle.lowering.specs.Made.{Context, declares, reference, valueOf, S}
+use Rattle.lowering.specs.Patterns.{Shape, shape, properties, rest, hasRest, leftOf, value, key, withValues, hasObjectRest, hasNestedObjectRest, hasArrayRestOverObjectRest, replaced, replacedBelow}
+use Rattle.lowering.specs.Patterns.Shape.{objectPattern}
 use Rattle.lowering.specs.Keys.{keySort, keyTemporary, keyTemporaries, taken}
 use Rattle.lowering.specs.Rests.{hasNoProperties, restValue}
 use Rattle.lowering.specs.Literals.{Call, opened, closed, scan, literal}
@@ -22,13 +22,13 @@ use Rattle.lowering.specs.Declarations.{isName, source, sourceDeclarator, keysB
 use Rattle.lowering.specs.Assignments.{target, isTop, topRefusal, topSequence, nestedSequence, nearest}
 use Rattle.lowering.specs.Heads.{isMoved, movedOut, leftBehind, function, arrow, catch, declaringHead, assigningHead}
 use Rattle.lowering.specs.Walk.{Step, rewrite, stepDeclaration, stepTop, stepAssignment, stepFor}
-use Rattle.lowering.proofs.Cases.{by-number, by-test, by-shape, by-key, and-left}
+use Rattle.lowering.proofs.Cases.{by-number, by-test, by-shape, by-key}
+use Rattle.lowering.proofs.ItemLaws.{any-behind}
 use Rattle.lowering.proofs.All.{AllItems, all-append, all-gather, all-cond, all-each, none-passes, other-changed}
-use Rattle.lowering.proofs.Clauses.{has-leaf}
 use Rattle.result.proofs.Rows.{form-4, form-7, form-8, form-10, form-17}
 use Rattle.result.proofs.Lies.{Texts, Lies, LieFields, LiePiece, LieItems, may-stand, list-at, node-at, stands-at, all-of}
 use Rattle.lowering.proofs.Levels.{items-depth}
-use Rattle.result.proofs.PatternViews.{patternAt, PropertyView, DefaultView, property-view, fields-at, of-kind}
+use Rattle.result.proofs.PatternViews.{patternAt, PropertyView, DefaultView, property-view, fields-at}
 use Rattle.result.proofs.Patterns.{values-lies, replaced-lies, properties-of, items-of, value-of, left-whole, rest-of}
 use Rattle.result.proofs.Keys.{same-shape}
 use Rattle.result.proofs.Declarations.{declarator-fields, inner-lies}
@@ -36,7 +36,7 @@ use Rattle.result.proofs.Assignments.{name-shape}
 use Rattle.result.proofs.Heads.{boundFields, param-fields, functionFields, FunctionForm, function-forms, forFields}
 use Rattle.result.proofs.Valued.{changed-items}
 use Rattle.result.proofs.Taken.{by-default, leaf-clear, bare-clear, taken-clear, replaced-clear, movedOut-bare}
-use Rattle.result.proofs.ByRule.{Rules, by-rules}
+use Rattle.result.proofs.ByRule.{by-rules}
 
 -- a declarator with a value keeps rests below array rests alone; a parameter keeps none
 abbrev pub Taken : Node → Type 0
@@ -60,12 +60,6 @@ pub data Settled : Node → Type 0 where
 
 -- ---- literals
 
-any-more : (f : Node → Bool) (is : Items) (n : Node) → any f is ≡ false → f n ≡ false → any f (is +++ only n) ≡ false
-unfolding any _+++_
-any-more f Items.none n h e = rw e refl
-any-more f (Items.hole is) n h e = any-more f is n h e
-any-more f (Items.item m is) n h e = by-test (f m) (λ t. absurd (true≢false (sym (rw t refl) ∙ h))) (λ t. rw t (any-more f is n (rw t at h) e))
-
 abbrev CallSettled : Call → Type 0
 CallSettled Call.no-call = Unit {0}
 CallSettled (Call.call m) = Settled m
@@ -84,7 +78,7 @@ scan-settled c pending (Items.hole ps) h e = scan-settled c pending ps h e
 scan-settled c pending (Items.item n ps) h e =
     by-test (is 26 n)
     (λ t. rw (t, scan) (scan-settled (Call.call (S (opened c pending +++ only (nodeAt 0 n)))) Items.none ps (Settled.ofOther refl refl refl refl refl refl refl refl) refl))
-    (λ t. rw (t, scan) (scan-settled c (pending +++ only n) ps h (any-more (λ p. is 26 p) pending n e t)))
+    (λ t. rw (t, scan) (scan-settled c (pending +++ only n) ps h (any-behind (λ p. is 26 p) pending n e t)))
 
 literal-settled : (at : ℕ) (fs : Fields) → Settled (literal (node at 24 fs))
 unfolding literal itemsAt any

@@ -1,24 +1,24 @@
 -- Every node of the tree that is written is what is left of a node that lies at a place and is settled. So no object literal of it has a spread.
 -- Assumes nothing.
-use mathlib.Core.Path.{_≡_, refl, sym, ap, subst, _∙_}
-use mathlib.Core.Bool.{Bool, true, false, cond, _&&_, _||_, true≢false}
-use mathlib.Core.List.{List, [], _∷_, _++_}
-use Prim.Native.Nat.{ℕ, zero, suc, _<_, _≤_}
+use mathlib.Core.Path.{_≡_, refl, sym, _∙_}
+use mathlib.Core.Bool.{Bool, true, false, cond, _||_, true≢false}
+use mathlib.Core.List.{List, [], _∷_}
+use Prim.Native.Nat.{ℕ, zero, suc, _<_}
 use native.Mathlib.Omega.{arith}
 use lib.Dec.{eqb, ltb}
 use borrow.Author.Tests.{eqb-true}
 use Rattle.tree.specs.Tree.{Node, Fields, Piece, Items}
 use Rattle.tree.specs.Tree.Node.{node}
 use Rattle.tree.specs.Grammar.{Sort, Field, places, allowed, also, among, kindOf, formIn, formAt, fieldsOf, kinds}
-use Rattle.tree.specs.Grammar.Field.{must, may}
+use Rattle.tree.specs.Grammar.Field.{must}
 use Rattle.tree.specs.Grammar.Stage.{rewritten}
-use Rattle.lowering.specs.Parts.{kind, is, itemsAt, pieceIn, standsIn, asItems, any}
+use Rattle.lowering.specs.Parts.{kind, is, itemsAt, pieceIn, asItems, any}
 use Rattle.lowering.specs.Made.{Context}
 use Rattle.lowering.specs.Visits.{ItemAt, NodeIn, FieldAt, PartAt, Stands}
 use Rattle.lowering.specs.Walk.{rewrite, ruleOf}
 use Rattle.lowering.proofs.Cases.{by-test, or-left, or-right}
 use Rattle.result.specs.Left.{keepsSpread}
-use Rattle.result.proofs.Lies.{Texts, Lies, LieFields, LiePiece, LieItems, fields-of, sortAt, may-stand, list-at}
+use Rattle.result.proofs.Lies.{Texts, Lies, LieFields, LiePiece, LieItems, fields-of, may-stand, list-at}
 use Rattle.result.proofs.PatternViews.{fields-at}
 use Rattle.result.proofs.Expressions.{takes-24, form-24}
 use Rattle.result.proofs.Rules.{leaves}

@@ -1,31 +1,27 @@
 -- What the rules do to rests in patterns: none is left where they look.
 -- Assumes nothing.
-use mathlib.Core.Path.{_≡_, refl, sym, ap, subst, _∙_}
-use mathlib.Core.Bool.{Bool, true, false, cond, _&&_, _||_, true≢false}
-use mathlib.Core.List.{List, [], _∷_}
-use Prim.Native.Nat.{ℕ, zero, suc, _<_, _≤_, max}
+use mathlib.Core.Path.{_≡_, refl, ap, _∙_}
+use mathlib.Core.Bool.{Bool, true, false, _||_, true≢false}
+use Prim.Native.Nat.{ℕ, zero, suc, _≤_}
 use native.Mathlib.Omega.{arith}
-use lib.Dec.{eqb}
-use Rattle.tree.specs.Tree.{Node, Fields, Piece, Items, depth, depthFields, depthPiece, depthItems}
+use Rattle.tree.specs.Tree.{Node, Piece, Items, depth, depthItems}
 use Rattle.tree.specs.Tree.Node.{node}
-use Rattle.tree.specs.Tree.Fields.{done, absent, field}
-use Rattle.tree.specs.Tree.Piece.{one, list, byte}
 use Rattle.tree.specs.Tree.Items.{none, hole, item}
-use Rattle.lowering.specs.Parts.{nothing, is, nodeAt, itemsAt, stands, pieceIn, standsIn, asNode, change, changeIn, onNode, onItems, without, dropIn, only, each, gather, any, _+++_}
+use Rattle.lowering.specs.Parts.{is, nodeAt, itemsAt, stands, pieceIn, standsIn, asNode, change, changeIn, onNode, onItems, without, dropIn, each, gather, any, _+++_}
 use Rattle.lowering.specs.Made.{Context, reference, keyOf}
-use Rattle.lowering.specs.Patterns.{Shape, shape, properties, itemsOf, rest, hasRest, leftOf, value, key, withLeft, withItems, withRest, withProperties, withValues, hasNestedObjectRest, hasObjectRest, replaced}
-use Rattle.lowering.specs.Patterns.Shape.{objectPattern, arrayPattern}
+use Rattle.lowering.specs.Patterns.{Shape, shape, properties, itemsOf, rest, hasRest, leftOf, value, key, withLeft, withItems, withRest, withValues, hasNestedObjectRest, hasObjectRest, replaced}
+use Rattle.lowering.specs.Patterns.Shape.{objectPattern}
 use Rattle.lowering.specs.Keys.{keySort, keptKey, taken}
 use Rattle.lowering.specs.Assignments.{nearest}
 use Rattle.lowering.specs.Heads.{movedOut}
 use Rattle.lowering.proofs.Cases.{by-test, by-shape, by-key, or-left, or-right}
 use Rattle.lowering.proofs.All.{AllItems, other-changed, none-passes, weaker-items}
-use Rattle.lowering.proofs.Levels.{depth-pos, has-nothing, nearest-nothing}
+use Rattle.lowering.proofs.Levels.{depth-pos, has-nothing}
 use Rattle.lowering.proofs.Clauses.{replaced-object, replaced-array, replaced-default, replaced-leaf, nearest-object, nearest-array, nearest-default, nearest-leaf, has-leaf}
 use Rattle.result.proofs.Lies.{Texts, Lies, LieItems}
 use Rattle.result.proofs.PatternViews.{wholeAt, valueAt, propertyAt, leafAt, patternAt, ObjectView, PropertyView, ArrayView, DefaultView, object-view, array-view, property-view, default-view, no-default-whole, array-plain, array-rested}
+use Rattle.result.proofs.Valued.{none-any}
 use Rattle.result.proofs.Patterns.{left-lies, reference-lies}
-use Rattle.result.proofs.Keys.{same-shape}
 
 -- ---- lists
 
@@ -34,12 +30,6 @@ unfolding gather _+++_
 gather-none f none h = refl
 gather-none f (hole is) h = gather-none f is h
 gather-none f (item n is) h = rw (h .0) (gather-none f is (h .1))
-
-any-none : (f : Node → Bool) (is : Items) → AllItems (λ n. f n ≡ false) is → any f is ≡ false
-unfolding any
-any-none f none h = refl
-any-none f (hole is) h = any-none f is h
-any-none f (item n is) h = rw (h .0) (any-none f is (h .1))
 
 -- a Temporary is a leaf
 reference-clear : (c : Context) (p : Node) (e : ℕ) → nearest true e (reference c p) ≡ none
@@ -178,9 +168,9 @@ module _ {T : Texts} (t : Bool) (f : Node → Node) (d : ℕ) (g : (w : Bool) (v
   array-bare : {p : Node} → ArrayView T (valueAt t) (wholeAt t) p → depth p ≤ suc d → (e : ℕ) → hasNestedObjectRest e (withRest f (withItems f p)) ≡ false
   unfolding hasNestedObjectRest change changeIn onItems onNode itemsAt nodeAt pieceIn shape depth
   array-bare (ArrayView.plain a) k zero = refl
-  array-bare (ArrayView.plain {is = is} a) k (suc e) = rw (any-none (λ x. hasNestedObjectRest e x) (each f is) (items-bare a (omega arith) e)) (has-nothing e)
+  array-bare (ArrayView.plain {is = is} a) k (suc e) = rw (none-any (λ x. hasNestedObjectRest e x) (each f is) (items-bare a (omega arith) e)) (has-nothing e)
   array-bare (ArrayView.rested a r u) k zero = refl
-  array-bare (ArrayView.rested {is = is} {r = v} a r u) k (suc e) = rw (any-none (λ x. hasNestedObjectRest e x) (each f is) (items-bare a (omega arith) e)) (g false v r (omega arith) e)
+  array-bare (ArrayView.rested {is = is} {r = v} a r u) k (suc e) = rw (none-any (λ x. hasNestedObjectRest e x) (each f is) (items-bare a (omega arith) e)) (g false v r (omega arith) e)
 
 default-bare : {T : Texts} (c : Context) (t : Bool) (o : Node) {p : Node} → DefaultView T (wholeAt t) p → (e : ℕ) → hasNestedObjectRest e (withLeft (λ l. reference c o) p) ≡ false
 unfolding hasNestedObjectRest change changeIn onNode nodeAt pieceIn shape

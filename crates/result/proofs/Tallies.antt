@@ -8,10 +8,9 @@ use native.Mathlib.Omega.{arith}
 use Rattle.tree.specs.Tree.{Node, Fields, Piece, Items, marks, marksFields, marksPiece, marksItems}
 use Rattle.tree.specs.Tree.Node.{node}
 use Rattle.lowering.specs.Parts.{nothing, isEmpty}
-use Rattle.lowering.specs.Made.{Context, temporary}
+use Rattle.lowering.specs.Made.{Context}
 use Rattle.lowering.specs.Walk.{Note, Walked, WalkedFields, WalkedPiece, WalkedItems, eachItem, eachPiece, eachField, inside, rewrite, within, walk}
 use Rattle.lowering.specs.Walk.Walked.{noted}
-use Rattle.lowering.specs.Weight.{walked}
 use Rattle.lowering.specs.Collect.{Visit, Entry, over, entryAt, entries, excludedIn, newIn, newInPiece, marked, isContainer, markOf, visits, visitsFields, visitsPiece, visitsItems}
 use Rattle.lowering.proofs.Cases.{by-test}
 use Rattle.result.proofs.Weighed.{total, total-append, weigh, weighAll, weighPiece, weighItems}
@@ -65,14 +64,13 @@ module _ (out : ℕ → ℕ) (kin : Node → ℕ) where
 
 -- ---- the measure of what is handed out: its marks, by `hit`
 
-unfoldable pub by-marks : {out : ℕ → ℕ} {kin : Node → ℕ} (hit : ℕ → ℕ) → out 0 ≡ 0 → kin nothing ≡ 0 → ((path : List ℕ) (stem at : ℕ) → kin (temporary path stem at) ≡ 0)
+unfoldable pub by-marks : {out : ℕ → ℕ} {kin : Node → ℕ} (hit : ℕ → ℕ) → out 0 ≡ 0 → kin nothing ≡ 0
     → ((k : Node) → tally hit (marks k) ≤ weigh out kin k + kin k) → Measure out kin
 unfolding tally marks total
-by-marks hit z y t h =
+by-marks hit z y h =
     record {
       new = z;
       none-kin = y;
-      temporary-kin = t;
       entry = λ d. tally hit (marks d);
       excluded = λ d. tally hit (marks d);
       excludedItem = λ k. tally hit (marks k);

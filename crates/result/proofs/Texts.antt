@@ -1,22 +1,21 @@
 -- Each text of what is written is one of the input's, or one that the rules put.
 -- Assumes nothing.
 use mathlib.Core.Path.{_≡_, refl}
-use mathlib.Core.Bool.{Bool, true, false, true≢false}
+use mathlib.Core.Bool.{Bool, true, false}
 use mathlib.Core.List.{List, [], _∷_}
-use Prim.Native.Nat.{ℕ, _<_}
+use Prim.Native.Nat.{ℕ}
 use native.Mathlib.Omega.{arith}
 use Rattle.tree.specs.Tree.{Node, Fields, Piece, Items}
 use Rattle.tree.specs.Tree.Node.{node}
 use Rattle.tree.specs.Grammar.{Sort, Field}
 use Rattle.tree.specs.WellFormed.{Bytes}
-use Rattle.lowering.specs.Made.{temporary}
 use Rattle.lowering.specs.Collect.{Name, Entry, numbered, numberedFields, numberedPiece, numberedItems, withNumber}
 use Rattle.equal.specs.Canonical.{eachEntry}
 use Rattle.result.specs.Causes.{Without}
 use Rattle.result.specs.Texts.{TextIn, TextInFields, TextInPiece, TextInItems, TextInList, Known}
 use Rattle.result.proofs.LiteralTexts.{number-bytes}
-use Rattle.result.proofs.Lies.{Texts, Lies, LieFields, LiePiece, LieItems, fields-of}
-use Rattle.result.proofs.Rules.{Leaves, leaves}
+use Rattle.result.proofs.Lies.{ofTree, Texts, Lies, LieFields, LiePiece, LieItems, fields-of}
+use Rattle.result.proofs.Rules.{leaves}
 use Rattle.result.proofs.Comes.{Comes, Left, ComeFields, ComePiece, ComeItems}
 use Rattle.result.proofs.Handing.{EntriesLie}
 
@@ -30,7 +29,7 @@ known-bytes n h bs (Known.none e) = rw e tt
 known-bytes n h bs (Known.map e) = rw e (omega arith, (omega arith, (omega arith, tt)))
 
 abbrev pub textsOf : (n : Node) → ((bs : List ℕ) → TextIn n bs → Bytes bs) → Texts
-textsOf n h = record { holds = Known n; bytes = known-bytes n h; number = λ w s i e. Known.number i e; empty = Known.none refl; map = Known.map refl; barred = λ s. Without s n }
+textsOf n h = record { holds = Known n; bytes = known-bytes n h; number = λ w s i e. Known.number i e; empty = Known.none refl; map = Known.map refl; barred = λ s. (ofTree s ≡ true) × Without s n; barredTree = λ s b. b .0 }
 
 -- a Temporary has none
 no-text : {A : Type 0} {at number stem : ℕ} {bs : List ℕ} → TextIn (node at 20 (Fields.field (Piece.number number) (Fields.field (Piece.byte stem) Fields.done))) bs → A

@@ -1,22 +1,21 @@
 -- Declarators without a value: a Declaration that had none with an object rest has none after its rules.
 -- Assumes nothing.
-use mathlib.Core.Path.{_≡_, refl, sym, ap, _∙_}
-use mathlib.Core.Bool.{Bool, true, false, cond, not, _&&_, _||_, true≢false}
-use mathlib.Core.List.{List}
+use mathlib.Core.Path.{_≡_, refl, _∙_}
+use mathlib.Core.Bool.{Bool, true, false, cond}
 use Prim.Native.Nat.{ℕ, zero, suc}
-use lib.Dec.{eqb}
 use Rattle.tree.specs.Tree.{Node, Fields, Piece, Items, depth}
 use Rattle.tree.specs.Tree.Node.{node}
-use Rattle.lowering.specs.Parts.{is, nodeAt, itemsAt, stands, standsIn, pieceIn, asItems, asNode, change, changeIn, onItems, onNode, only, each, gather, any, _+++_}
+use Rattle.lowering.specs.Parts.{is, nodeAt, itemsAt, stands, standsIn, pieceIn, asItems, change, changeIn, onItems, onNode, only, each, gather, any, _+++_}
 use Rattle.lowering.specs.Made.{Context, valueOf, declares, reference}
-use Rattle.lowering.specs.Patterns.{Shape, shape, key, properties, itemsOf, rest, hasRest, leftOf, value, withValues, hasObjectRest, hasNestedObjectRest, replaced, replacedBelow}
+use Rattle.lowering.specs.Patterns.{shape, key, properties, itemsOf, rest, hasRest, leftOf, value, withValues, hasObjectRest, replaced, replacedBelow}
 use Rattle.lowering.specs.Keys.{keySort, keyTemporary, keyTemporaries, taken}
 use Rattle.lowering.specs.Rests.{hasNoProperties, restValue}
 use Rattle.lowering.specs.Declarations.{isName, source, sourceDeclarator, keysBefore, patternDeclarator, restDeclarator, own, nested, nestedBelow, objectDeclarators, patternDeclarators, lowerDeclarator, isLowered, declarators}
 use Rattle.lowering.specs.Heads.{isMoved, movedOut, leftBehind}
 use Rattle.lowering.proofs.Cases.{by-test, by-shape, by-key}
-use Rattle.lowering.proofs.All.{AllItems, all-unit, all-append, all-gather, all-cond, none-passes, weaker-items}
+use Rattle.lowering.proofs.All.{AllItems, all-unit, all-append, all-gather, all-each, all-cond, none-passes, weaker-items}
 use Rattle.lowering.proofs.ChangeLaws.{stands-changed}
+use Rattle.result.specs.Left.{keepsRest}
 use Rattle.result.specs.Causes.{Cause, shows, lacksValue}
 
 -- ---- lists
@@ -34,17 +33,11 @@ changed-items P (Fields.field (Piece.mark b) fs) zero g h = tt
 changed-items P (Fields.field (Piece.number b) fs) zero g h = tt
 changed-items P (Fields.field p fs) (suc i) g h = changed-items P fs i g h
 
-any-none : (f : Node → Bool) (is : Items) → AllItems (λ n. f n ≡ false) is → any f is ≡ false
+pub none-any : (f : Node → Bool) (is : Items) → AllItems (λ n. f n ≡ false) is → any f is ≡ false
 unfolding any
-any-none f Items.none h = refl
-any-none f (Items.hole is) h = any-none f is h
-any-none f (Items.item n is) h = rw (h .0) (any-none f is (h .1))
-
-all-each : (P : Node → Type 0) (f : Node → Node) → ((n : Node) → P n → P (f n)) → (is : Items) → AllItems P is → AllItems P (each f is)
-unfolding each
-all-each P f g Items.none h = tt
-all-each P f g (Items.hole is) h = all-each P f g is h
-all-each P f g (Items.item n is) h = (g n (h .0), all-each P f g is (h .1))
+none-any f Items.none h = refl
+none-any f (Items.hole is) h = none-any f is h
+none-any f (Items.item n is) h = rw (h .0) (none-any f is (h .1))
 
 -- ---- what a declarator with a value becomes has values
 
@@ -149,15 +142,17 @@ module _ (c : Context) where
   -- a Declaration with its declarators changed
   module _ (g : Items → Items) (k : (is : Items) → AllItems Fine is → AllItems Fine (g is)) where
     items-shown : (at : ℕ) (fs : Fields) (s : Cause) → shows s (node at 4 fs) ≡ false → shows s (node at 4 (changeIn fs 2 (onItems g))) ≡ false
-    unfolding shows is itemsAt
+    unfolding shows keepsRest is itemsAt
     items-shown at fs Cause.restParameter h = refl
     items-shown at fs Cause.withoutBody h = refl
     items-shown at fs Cause.arrayRest h = refl
+    items-shown at fs Cause.inKey h = refl
+    items-shown at fs Cause.inTemplate h = refl
     items-shown at fs Cause.withoutValue h =
-        any-none lacksValue (asItems (pieceIn (changeIn fs 2 (onItems g)) 2)) (changed-items Fine fs 2 g (k (asItems (pieceIn fs 2)) (none-passes lacksValue (asItems (pieceIn fs 2)) h)))
+        none-any lacksValue (asItems (pieceIn (changeIn fs 2 (onItems g)) 2)) (changed-items Fine fs 2 g (k (asItems (pieceIn fs 2)) (none-passes lacksValue (asItems (pieceIn fs 2)) h)))
 
   pub declaration-shown : (at : ℕ) (fs : Fields) (s : Cause) → shows s (node at 4 fs) ≡ false → shows s (node at 4 (changeIn fs 2 (onItems (gather (declarators c))))) ≡ false
   declaration-shown = items-shown (gather (declarators c)) (λ is h. all-gather Fine Fine (declarators c) declarators-fine is h)
 
   pub behind-shown : (at : ℕ) (fs : Fields) (s : Cause) → shows s (node at 4 fs) ≡ false → shows s (node at 4 (changeIn fs 2 (onItems (each (leftBehind c))))) ≡ false
-  behind-shown = items-shown (each (leftBehind c)) (λ is h. all-each Fine (leftBehind c) behind-fine is h)
+  behind-shown = items-shown (each (leftBehind c)) (λ is h. all-each Fine Fine (leftBehind c) behind-fine is h)

@@ -1,4 +1,4 @@
--- How much a tree weighs: each mark by `out`, each key of a pattern by `kin`, and besides that what a rule copies: the keys that a rest leaves
+-- How much a tree weighs: each mark by `out`, each key beside a rest by `kin`, and besides that what a rule copies: the keys that the rest leaves
 -- out as they stand, and a name from which a declarator reads. What is said of it holds of every tree.
 -- Assumes nothing.
 use mathlib.Core.Path.{_≡_, refl, ap, ap₂, _∙_}
@@ -120,7 +120,7 @@ module _ (out : ℕ → ℕ) (kin : Node → ℕ) where
     keyFields r (field p fs) = keyPiece r p
 
     pub keyPiece : Bool → Piece → ℕ
-    keyPiece r (one k) = kin k + cond (isCopied k) (cond r (weigh k + kin k) 0) 0
+    keyPiece r (one k) = cond r (kin k + cond (isCopied k) (weigh k + kin k) 0) 0
     keyPiece r (list is) = 0
     keyPiece r (text bs) = 0
     keyPiece r (byte b) = 0
@@ -241,12 +241,13 @@ module _ (out : ℕ → ℕ) (kin : Node → ℕ) where
 
   -- what a key weighs besides
   abbrev pub ofKey : Bool → Node → ℕ
-  ofKey r k = kin k + cond (isCopied k) (cond r (weigh k + kin k) 0) 0
+  ofKey r k = cond r (kin k + cond (isCopied k) (weigh k + kin k) 0) 0
 
   module _ (none-kin : kin nothing ≡ 0) where
     nothing-key : (r : Bool) → 0 ≡ ofKey r nothing
     unfolding isCopied keySort is itemsAt stands
-    nothing-key r = omega arith
+    nothing-key true = omega arith
+    nothing-key false = refl
 
     key-in : (r : Bool) (fs : Fields) → keyFields r fs ≡ ofKey r (asNode (pieceIn fs 0))
     unfolding weigh pieceIn

@@ -1,6 +1,6 @@
--- Examples, by computation: an input for each place where a rest is left, each the smallest, and one whose marks are copied; and what comes of each.
+-- Examples, by computation: the smallest input for each place where something is left, and one whose marks are copied; and what comes of each.
 use mathlib.Core.Path.{_≡_, refl}
-use mathlib.Core.Bool.{Bool, true, false}
+use mathlib.Core.Bool.{Bool, true, false, cond}
 use mathlib.Core.List.{List, [], _∷_}
 use Prim.Native.Nat.{ℕ}
 use Rattle.tree.specs.Tree.{Node}
@@ -10,6 +10,10 @@ use Rattle.tree.specs.Read.Got.{got, refused}
 use Rattle.lowering.specs.Answer.{Lent, highestLimit, lowering}
 use Rattle.lowering.specs.Answer.Result.{lowered}
 use Rattle.rewritten.specs.Rewritten.{isRewritten}
+use Rattle.lowering.specs.Collect.{nodes, listNodes}
+use Rattle.joining.specs.List.{Handed, readHanded}
+use Rattle.result.specs.Left.{keeps, anyOf}
+use Rattle.result.specs.Causes.{Cause, shows}
 use Rattle.result.specs.Leftover.{leftover}
 use Rattle.result.specs.Marks.{copiesMarks}
 
@@ -72,6 +76,13 @@ inExcludedList =
     0 ∷ 0 ∷ 1 ∷ 0 ∷ 5 ∷ 3 ∷ 20 ∷ 3 ∷ 1 ∷ 0 ∷ 2 ∷ 32 ∷ 1 ∷ 1 ∷ 0 ∷ 23 ∷ 3 ∷ 1 ∷ 0 ∷ 22 ∷ 7 ∷ 1 ∷ 1 ∷ 0 ∷ 113 ∷ 1 ∷ 0 ∷ 113 ∷ 1 ∷ 0 ∷ 24 ∷ 1 ∷ 1 ∷ 0 ∷
     26 ∷ 1 ∷ 18 ∷ 1 ∷ 1 ∷ 0 ∷ 122 ∷ []
 
+-- document 01's listing, and its tree
+abbrev listing : List ℕ
+listing = 1 ∷ 1 ∷ 1 ∷ 0 ∷ 3 ∷ 3 ∷ 1 ∷ 0 ∷ 24 ∷ 1 ∷ 1 ∷ 0 ∷ 26 ∷ 1 ∷ 18 ∷ 1 ∷ 1 ∷ 0 ∷ 97 ∷ []
+
+abbrev listingTree : List ℕ
+listingTree = 1 ∷ 1 ∷ 1 ∷ 0 ∷ 3 ∷ 3 ∷ 1 ∷ 0 ∷ 29 ∷ 3 ∷ 21 ∷ 1 ∷ 1 ∷ 2 ∷ 0 ∷ 24 ∷ 1 ∷ 0 ∷ 0 ∷ 18 ∷ 1 ∷ 1 ∷ 0 ∷ 97 ∷ []
+
 -- `` let {[`a`[function() { }]]: b, ...c} = d `` (lowering's `template-copied`), and its tree
 abbrev markCopied : List ℕ
 markCopied =
@@ -85,6 +96,23 @@ markCopiedTree =
     0 ∷ 18 ∷ 1 ∷ 1 ∷ 0 ∷ 100 ∷ 32 ∷ 1 ∷ 1 ∷ 0 ∷ 23 ∷ 3 ∷ 1 ∷ 0 ∷ 22 ∷ 7 ∷ 1 ∷ 1 ∷ 0 ∷ 97 ∷ 1 ∷ 0 ∷ 97 ∷ 1 ∷ 0 ∷ 14 ∷ 43 ∷ 2 ∷ 0 ∷ 2 ∷ 0 ∷ 0 ∷ 16 ∷ 2 ∷
     0 ∷ 0 ∷ []
 
+-- the causes that occur in a tree
+abbrev among : List Cause → Node → List Cause
+among [] n = []
+among (s ∷ ss) n = cond (anyOf (shows s) (nodes n)) (s ∷ among ss n) (among ss n)
+
+abbrev causesOf : Got Node → List Cause
+causesOf (got n q k) = among (Cause.arrayRest ∷ Cause.restParameter ∷ Cause.withoutBody ∷ Cause.withoutValue ∷ Cause.inKey ∷ Cause.inTemplate ∷ []) n
+causesOf (refused r) = []
+
+abbrev causesIn : List ℕ → List Cause
+causesIn tree = causesOf (readTree input highestLimit tree)
+
+-- something is left in a list
+abbrev keptOf : Got Handed → Bool
+keptOf (got h q k) = anyOf keeps (listNodes (h .entries) (h .excluded))
+keptOf (refused r) = false
+
 abbrev toldOf : Got Node → Bool
 toldOf (got n q k) = copiesMarks n
 toldOf (refused r) = false
@@ -93,27 +121,40 @@ pub record Examples : Type 0 where
   -- `var [...{...a}] = b` comes back as it is, and a rest is left
   pub belowArrayRest-lowered : lowering highestLimit 0 belowArrayRest plenty ≡ lowered 0 0 belowArrayRest noList
   pub belowArrayRest-left : leftover belowArrayRest ≡ true
+  pub belowArrayRest-cause : causesIn belowArrayRest ≡ Cause.arrayRest ∷ []
   -- `function (...{...a}) {}` comes back as it is, and a rest is left
   pub restParameter-lowered : lowering highestLimit 0 restParameter plenty ≡ lowered 0 0 restParameter noList
   pub restParameter-left : leftover restParameter ≡ true
+  pub restParameter-cause : causesIn restParameter ≡ Cause.restParameter ∷ []
   -- a function without body and with the parameter `{...a}` comes back as it is, and a rest is left
   pub withoutBody-lowered : lowering highestLimit 0 withoutBody plenty ≡ lowered 0 0 withoutBody noList
   pub withoutBody-left : leftover withoutBody ≡ true
+  pub withoutBody-cause : causesIn withoutBody ≡ Cause.withoutBody ∷ []
   -- `var {...a}` comes back as it is, and a rest is left
   pub withoutValue-lowered : lowering highestLimit 0 withoutValue plenty ≡ lowered 0 0 withoutValue noList
   pub withoutValue-left : leftover withoutValue ≡ true
+  pub withoutValue-cause : causesIn withoutValue ≡ Cause.withoutValue ∷ []
   -- the value of a key's temporary stands in the list as in the input, its spread too; the tree has nothing left
   pub inKey-lowered : lowering highestLimit 0 inKey plenty ≡ lowered 24 0 inKeyTree inKeyList
   pub inKey-rewritten : isRewritten inKeyTree ≡ true
   pub inKey-none : leftover inKeyTree ≡ false
+  pub inKey-left : keptOf (readHanded inKeyList) ≡ true
+  pub inKey-cause : causesIn inKey ≡ Cause.inKey ∷ []
   -- such a Template stands among the excluded keys of the list as in the input, its spread too
   pub inExcluded-lowered : lowering highestLimit 0 inExcluded plenty ≡ lowered 9 0 inExcludedTree inExcludedList
   pub inExcluded-none : leftover inExcludedTree ≡ false
+  pub inExcluded-left : keptOf (readHanded inExcludedList) ≡ true
+  pub inExcluded-cause : causesIn inExcluded ≡ Cause.inTemplate ∷ []
   -- the function's mark stands twice, and the test tells
   pub markCopied-lowered : lowering highestLimit 0 markCopied plenty ≡ lowered 8 0 markCopiedTree noList
   pub markCopied-twice : isRewritten markCopiedTree ≡ false
   pub markCopied-told : toldOf (readTree input highestLimit markCopied) ≡ true
   pub inExcluded-told : toldOf (readTree input highestLimit inExcluded) ≡ false
+  -- the listing has no cause, and nothing is left
+  pub listing-lowered : lowering highestLimit 0 listing plenty ≡ lowered 1 0 listingTree noList
+  pub listing-rewritten : isRewritten listingTree ≡ true
+  pub listing-none : leftover listingTree ≡ false
+  pub listing-causes : causesIn listing ≡ []
   -- no tree
   pub empty : leftover [] ≡ false
 
@@ -188,8 +229,12 @@ unfolding
     Rattle.lowering.specs.Answer.fitted Rattle.lowering.specs.Answer.collected Rattle.lowering.specs.Answer.afterWalk
     Rattle.lowering.specs.Answer.afterReading Rattle.lowering.specs.Answer.lowering Rattle.lowering.specs.Answer.filled
     Rattle.lowering.specs.Answer.outcomeOf Rattle.lowering.specs.Answer.outcome Rattle.lowering.specs.Answer.inForce
-    Rattle.result.specs.Leftover.leftover Rattle.result.specs.Leftover.restLeft Rattle.result.specs.Leftover.anyRest
-    Rattle.result.specs.Left.keepsRest Rattle.rewritten.specs.Rewritten.isRewritten Rattle.rewritten.specs.Rewritten.readRewritten
+    Rattle.result.specs.Leftover.leftover Rattle.result.specs.Leftover.restLeft Rattle.result.specs.Left.anyOf
+    Rattle.result.specs.Left.keepsRest Rattle.result.specs.Left.keepsSpread Rattle.result.specs.Left.keeps
+    Rattle.result.specs.Causes.lacksValue Rattle.result.specs.Causes.holdsKept Rattle.result.specs.Causes.shows
+    Rattle.joining.specs.List.readDeclarators Rattle.joining.specs.List.readEntry Rattle.joining.specs.List.readEntries
+    Rattle.joining.specs.List.readParts Rattle.joining.specs.List.readHanded Rattle.rewritten.specs.Pending.nodeIn
+    Rattle.rewritten.specs.Rewritten.isRewritten Rattle.rewritten.specs.Rewritten.readRewritten
     Rattle.rewritten.specs.Rewritten.distinct Rattle.result.specs.Marks.holdsMark Rattle.result.specs.Marks.copiesAt
-    Rattle.result.specs.Marks.anyCopies Rattle.result.specs.Marks.copiesMarks
-examples = record { belowArrayRest-lowered = refl; belowArrayRest-left = refl; restParameter-lowered = refl; restParameter-left = refl; withoutBody-lowered = refl; withoutBody-left = refl; withoutValue-lowered = refl; withoutValue-left = refl; inKey-lowered = refl; inKey-rewritten = refl; inKey-none = refl; inExcluded-lowered = refl; inExcluded-none = refl; markCopied-lowered = refl; markCopied-twice = refl; markCopied-told = refl; inExcluded-told = refl; empty = refl }
+    Rattle.result.specs.Marks.copiesMarks
+examples = record { belowArrayRest-lowered = refl; belowArrayRest-left = refl; belowArrayRest-cause = refl; restParameter-lowered = refl; restParameter-left = refl; restParameter-cause = refl; withoutBody-lowered = refl; withoutBody-left = refl; withoutBody-cause = refl; withoutValue-lowered = refl; withoutValue-left = refl; withoutValue-cause = refl; inKey-lowered = refl; inKey-rewritten = refl; inKey-none = refl; inKey-left = refl; inKey-cause = refl; inExcluded-lowered = refl; inExcluded-none = refl; inExcluded-left = refl; inExcluded-cause = refl; markCopied-lowered = refl; markCopied-twice = refl; markCopied-told = refl; inExcluded-told = refl; listing-lowered = refl; listing-rewritten = refl; listing-none = refl; listing-causes = refl; empty = refl }

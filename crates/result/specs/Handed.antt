@@ -1,25 +1,22 @@
 -- The values that a list hands out: they are keys of the input, as they stand there.
 use Prim.Native.Nat.{ℕ}
 use mathlib.Core.Path.{_≡_}
-use mathlib.Core.Bool.{Bool, true, false, _&&_, _||_}
+use mathlib.Core.Bool.{Bool, true, _&&_}
 use mathlib.Core.List.{List, [], _∷_}
 use Rattle.tree.specs.Tree.{Node, encode}
 use Rattle.lowering.specs.Parts.{is, stands, nodeAt, sameNumbers, any}
 use Rattle.lowering.specs.Patterns.{properties, key}
 use Rattle.lowering.specs.Visits.{ItemAt}
 use Rattle.lowering.specs.Collect.{Entry, nodes}
+use Rattle.result.specs.Left.{anyOf}
 
 -- v has the bytes of a key of the object pattern p
 unfoldable pub hasKey : Node → Node → Bool
 hasKey v p = is 34 p && any (λ q. sameNumbers (encode (key q)) (encode v)) (properties p)
 
-unfoldable pub anyHasKey : Node → List Node → Bool
-anyHasKey v [] = false
-anyHasKey v (p ∷ ps) = hasKey v p || anyHasKey v ps
-
 -- v has the bytes of a key of an object pattern in n
 unfoldable pub isKeyOf : Node → Node → Bool
-isKeyOf n v = anyHasKey v (nodes n)
+isKeyOf n v = anyOf (hasKey v) (nodes n)
 
 -- each value of a declarator is one
 abbrev pub KeysOf : Node → List Entry → Type 0

@@ -1,4 +1,4 @@
--- What of object rest and spread is left in a tree, and where.
+-- What of object rest and spread is left in a result, and where.
 use Prim.Native.Nat.{ℕ}
 use mathlib.Core.Path.{_≡_}
 use mathlib.Core.Bool.{Bool, true, false, _&&_, _||_}
@@ -8,6 +8,7 @@ use Rattle.tree.specs.Tree.{Node}
 use Rattle.lowering.specs.Parts.{is, stands, itemsAt, any}
 use Rattle.lowering.specs.Visits.{ItemAt, PartAt, Stands}
 use Rattle.lowering.specs.Collect.{Entry}
+use Rattle.equal.specs.Canonical.{Written}
 
 -- an object pattern with a rest: 34 ObjectPattern(properties* rest?)
 unfoldable pub keepsRest : Node → Bool
@@ -16,6 +17,15 @@ keepsRest n = is 34 n && stands 1 n
 -- an object literal with a spread: 24 Object(properties*), 26 Spread(arg)
 unfoldable pub keepsSpread : Node → Bool
 keepsSpread n = is 24 n && any (λ p. is 26 p) (itemsAt 0 n)
+
+-- one of both
+unfoldable pub keeps : Node → Bool
+keeps n = keepsRest n || keepsSpread n
+
+-- one of the nodes is so
+unfoldable pub anyOf : (Node → Bool) → List Node → Bool
+anyOf f [] = false
+anyOf f (n ∷ ns) = f n || anyOf f ns
 
 -- x, which stands at the path c, is reached from the pattern p, at the path a, through properties, items, array rests and the left of
 -- defaults. The first says whether an array rest lies between
@@ -30,45 +40,44 @@ pub data Below : Bool → List ℕ → Node → List ℕ → Node → Type 0 whe
 unfoldable pub isRestField : Node → ℕ → Bool
 isRestField h i = (is 14 h && eqb i 4) || (is 17 h && eqb i 1)
 
--- Where the object pattern x, at the path c, may keep its rest, by the node h that has the pattern around it, at the path a. There is no
--- other place (proofs/Resting)
-pub data Exception (a : List ℕ) (h : Node) (c : List ℕ) (x : Node) : Type 0 where
+-- the parts of a result: its tree; of its list, the entries and the excluded keys
+pub data Part : Type 0 where
+  tree entry excluded : Part
+
+-- Where x, at the path c, may be left in a part, by the node h around it, at the path a: in the tree an object pattern that keeps its rest, in the
+-- list, which is not walked, a literal that keeps its spread too. There is no other place (proofs/Lowered)
+pub data Exception (a : List ℕ) (h : Node) (c : List ℕ) (x : Node) : Part → Type 0 where
   -- (a) `var [...{...a}] = b`: below an array rest of a declarator with a value; so are patterns that were moved into one
-  belowArrayRest : {p : Node} {j : ℕ} → is 5 h ≡ true → stands 1 h ≡ true → PartAt h 0 j p → Below true (j ∷ 0 ∷ a) p c x → Exception a h c x
+  belowArrayRest : {p : Node} {j : ℕ} → is 5 h ≡ true → stands 1 h ≡ true → PartAt h 0 j p → Below true (j ∷ 0 ∷ a) p c x → Exception a h c x Part.tree
   -- (b) `function (...{...a}) {}`
-  restParameter : {b : Bool} {p : Node} {i j : ℕ} → isRestField h i ≡ true → PartAt h i j p → Below b (j ∷ i ∷ a) p c x → Exception a h c x
+  restParameter : {b : Bool} {p : Node} {i j : ℕ} → isRestField h i ≡ true → PartAt h i j p → Below b (j ∷ i ∷ a) p c x → Exception a h c x Part.tree
   -- (c) a function without body
-  withoutBody : {b : Bool} {q p : Node} {i j : ℕ} → is 14 h ≡ true → stands 5 h ≡ false → PartAt h 3 i q → PartAt q 0 j p → Below b (j ∷ 0 ∷ i ∷ 3 ∷ a) p c x → Exception a h c x
+  withoutBody : {b : Bool} {q p : Node} {i j : ℕ} → is 14 h ≡ true → stands 5 h ≡ false → PartAt h 3 i q → PartAt q 0 j p → Below b (j ∷ 0 ∷ i ∷ 3 ∷ a) p c x → Exception a h c x Part.tree
   -- (d) `var {...a}`
-  withoutValue : {b : Bool} {p : Node} {j : ℕ} → is 5 h ≡ true → stands 1 h ≡ false → PartAt h 0 j p → Below b (j ∷ 0 ∷ a) p c x → Exception a h c x
+  withoutValue : {b : Bool} {p : Node} {j : ℕ} → is 5 h ≡ true → stands 1 h ≡ false → PartAt h 0 j p → Below b (j ∷ 0 ∷ a) p c x → Exception a h c x Part.tree
+  -- (e) `({[{...z}]: a, ...r} = s)`: in the value of a key's temporary, a key as it stands in the input
+  inKey : {v : Node} {j : ℕ} → is 5 h ≡ true → PartAt h 1 j v → Stands (j ∷ 1 ∷ a) v c x → Exception a h c x Part.entry
+  -- (f) in a Template that is an excluded key; h declares the array of them
+  inTemplate : {v z : Node} {i j : ℕ} → is 5 h ≡ true → PartAt h 1 i v → PartAt v 0 j z → is 23 z ≡ true → Stands (j ∷ 0 ∷ i ∷ 1 ∷ a) z c x → Exception a h c x Part.excluded
 
--- x, at the path c, is one of them in the tree t, which stands at the path p
-pub data Remains (p : List ℕ) (t : Node) (c : List ℕ) (x : Node) : Type 0 where
-  remains : {q : List ℕ} {h : Node} → Stands p t q h → Exception q h c x → Remains p t c x
+-- x, at the path c, is one of them in t, which stands at the path p and belongs to the part
+pub data Remains (part : Part) (p : List ℕ) (t : Node) (c : List ℕ) (x : Node) : Type 0 where
+  remains : {q : List ℕ} {h : Node} → Stands p t q h → Exception q h c x part → Remains part p t c x
 
--- nothing is left in the tree t but these: no spread, and no rest elsewhere
-pub record NothingLeft (t : Node) : Type 0 where
-  pub spreads : (q : List ℕ) (x : Node) → Stands [] t q x → keepsSpread x ≡ false
-  pub rests : (q : List ℕ) (x : Node) → Stands [] t q x → keepsRest x ≡ true → Remains [] t q x
+-- ---- a whole result
 
--- ---- the list: its entries are not walked
+-- d is a declarator of an entry
+pub data EntryHas : List Entry → Node → Type 0 where
+  here : {e : Entry} {es : List Entry} {j : ℕ} {d : Node} → ItemAt (e .declarators) j d → EntryHas (e ∷ es) d
+  later : {e : Entry} {es : List Entry} {d : Node} → EntryHas es d → EntryHas (e ∷ es) d
 
--- (e) x stands in the value of the declarator d, that of a key's temporary: such a value is a key as it stands in the input
-pub data InValue (d x : Node) : Type 0 where
-  inValue : {v : Node} {j : ℕ} {q : List ℕ} → PartAt d 1 j v → Stands (j ∷ 1 ∷ []) v q x → InValue d x
+-- t is the tree of the result w, a declarator of an entry, or one of excluded keys
+pub data Of (w : Written) : Part → Node → Type 0 where
+  tree : Of w Part.tree (w .tree)
+  entry : {d : Node} → EntryHas (w .entries) d → Of w Part.entry d
+  excluded : {j : ℕ} {d : Node} → ItemAt (w .excluded) j d → Of w Part.excluded d
 
--- a rest or a spread that is left in a declarator of an entry is left in its value
-abbrev pub EntryLeft : Node → Type 0
-EntryLeft d = (q : List ℕ) (x : Node) → Stands [] d q x → (keepsRest x || keepsSpread x) ≡ true → InValue d x
-
-abbrev pub EntriesLeft : List Entry → Type 0
-EntriesLeft [] = Unit {0}
-EntriesLeft (e ∷ es) = ((j : ℕ) (d : Node) → ItemAt (e .declarators) j d → EntryLeft d) × EntriesLeft es
-
--- (f) x stands in a Template that is an excluded key: d is a declarator of excluded keys, its value the array of them
-pub data InTemplate (d x : Node) : Type 0 where
-  inTemplate : {a z : Node} {i j : ℕ} {q : List ℕ} → PartAt d 1 i a → PartAt a 0 j z → is 23 z ≡ true → Stands (j ∷ 0 ∷ i ∷ 1 ∷ []) z q x → InTemplate d x
-
--- a rest or a spread that is left in a declarator of excluded keys is left in such a Template
-abbrev pub ExcludedLeft : Node → Type 0
-ExcludedLeft d = (q : List ℕ) (x : Node) → Stands [] d q x → (keepsRest x || keepsSpread x) ≡ true → InTemplate d x
+-- nothing is left in a result but these, and no spread in its tree
+pub record NothingLeft (w : Written) : Type 0 where
+  pub spreads : (q : List ℕ) (x : Node) → Stands [] (w .tree) q x → keepsSpread x ≡ false
+  pub others : (part : Part) (t : Node) → Of w part t → (q : List ℕ) (x : Node) → Stands [] t q x → keeps x ≡ true → Remains part [] t q x

@@ -1,7 +1,7 @@
 -- The test for loaders: whether an object rest is left in a tree of the rewritten stage.
 use Prim.Native.Nat.{ℕ, _/_, _%_}
-use mathlib.Core.Bool.{Bool, true, false, _&&_, _||_}
-use mathlib.Core.List.{List, [], _∷_}
+use mathlib.Core.Bool.{Bool, false, _&&_, _||_}
+use mathlib.Core.List.{List}
 use lib.Dec.{eqb}
 use lib.ListN.{length}
 use Rattle.tree.specs.Tree.{Node}
@@ -11,16 +11,11 @@ use Rattle.tree.specs.Read.Got.{got, refused}
 use Rattle.lowering.specs.Collect.{nodes}
 use Rattle.rewritten.specs.Events.{Event}
 use Rattle.rewritten.specs.Events.Event.{begins, ends, opens, closes}
-use Rattle.result.specs.Left.{keepsRest}
-
--- one of the nodes has it
-unfoldable pub anyRest : List Node → Bool
-anyRest [] = false
-anyRest (n ∷ ns) = keepsRest n || anyRest ns
+use Rattle.result.specs.Left.{keepsRest, anyOf}
 
 -- a tree has an object pattern with a rest
 unfoldable pub restLeft : Node → Bool
-restLeft n = anyRest (nodes n)
+restLeft n = anyOf keepsRest (nodes n)
 
 abbrev pub leftIn : Got Node → Bool
 leftIn (got n q k) = restLeft n

@@ -1,5 +1,4 @@
 pub mod Left
-pub mod List
 pub mod Leftover
 pub mod Texts
 pub mod Causes

@@ -1,6 +1,6 @@
 -- The marks of a result, of its tree and of its list. They are distinct, unless the input has a key with a mark inside that is copied.
 use Prim.Native.Nat.{ℕ}
-use mathlib.Core.Bool.{Bool, true, false, _&&_, _||_}
+use mathlib.Core.Bool.{Bool, true, false, _&&_}
 use mathlib.Core.List.{List, [], _∷_}
 use lib.Dec.{eqb}
 use Rattle.tree.specs.Tree.{Node, count, marks}
@@ -11,7 +11,7 @@ use Rattle.equal.specs.Canonical.{Written}
 use Rattle.joining.specs.List.{handed}
 use Rattle.joining.specs.Join.{found}
 use Rattle.joining.specs.Answer.{taken, allFound}
-use Rattle.result.specs.Left.{keepsRest}
+use Rattle.result.specs.Left.{keepsRest, anyOf}
 
 -- ---- the test on the input
 
@@ -27,13 +27,9 @@ holdsMark k = is 23 k && (eqb (count (itemsAt 0 k)) 1 && hasAny (marks k))
 unfoldable pub copiesAt : Node → Bool
 copiesAt p = keepsRest p && any (λ q. holdsMark (key q)) (properties p)
 
-unfoldable pub anyCopies : List Node → Bool
-anyCopies [] = false
-anyCopies (n ∷ ns) = copiesAt n || anyCopies ns
-
 -- there is one in the tree
 unfoldable pub copiesMarks : Node → Bool
-copiesMarks n = anyCopies (nodes n)
+copiesMarks n = anyOf copiesAt (nodes n)
 
 -- ---- the marks of a result
 

@@ -5,20 +5,22 @@ use mathlib.Core.List.{List, []}
 use mathlib.Core.Bool.{true, false}
 use mathlib.Core.Logic.{_⊎_}
 use lib.ListN.{length}
-use Rattle.tree.specs.Tree.{Node, Items, depth, encode, placed}
+use Rattle.tree.specs.Tree.{Node, depth, encode, placed}
 use Rattle.tree.specs.Grammar.Stage.{input, rewritten}
 use Rattle.tree.specs.Read.{readTree}
 use Rattle.tree.specs.Read.Got.{got}
 use Rattle.tree.specs.WellFormed.{WellFormed}
 use Rattle.rewritten.specs.Rewritten.{distinct, readRewritten}
-use Rattle.lowering.specs.Visits.{ItemAt, Stands}
+use Rattle.lowering.specs.Visits.{Stands}
 use Rattle.equal.specs.Canonical.{Written}
 use Rattle.equal.specs.Equal.{listEncoded}
 use Rattle.equal.specs.Results.{resultBy, ownNames, entriesOf}
+use Rattle.printer.specs.Outcome as text
+use Rattle.printer.specs.Outcome.{textTooLong}
+use Rattle.joining.specs.List.{handed, FitHanded}
 use Rattle.joining.specs.Answer.{outcome, answerOf}
-use Rattle.result.specs.List.{FitList}
-use Rattle.result.specs.Left.{keepsRest, NothingLeft, EntriesLeft, ExcludedLeft}
-use Rattle.result.specs.Causes.{Without, Due}
+use Rattle.result.specs.Left.{keeps, Part, Of, NothingLeft}
+use Rattle.result.specs.Causes.{Caused}
 use Rattle.result.specs.Texts.{TextIn, TextInList, Known}
 use Rattle.result.specs.Marks.{copiesMarks, resultMarks, entriesFound}
 use Rattle.result.specs.Handed.{KeysOf}
@@ -28,12 +30,12 @@ use Rattle.result.specs.Leftover.{restLeft, leftover}
 abbrev pub resultOf : ℕ → Node → Written
 resultOf next n = resultBy (ownNames next n) next n
 
--- tree and list t, l of an input: the tree is well formed in the rewritten stage, and read as what the definition has; nothing is left in it
--- but the exceptions, and the test for loaders says whether there is one; the list is one; each text is one of the input's, or one of two
--- that the rules put. A rest is left only if the input has its cause. A value in the list is a key of the
--- input (before temporaries have numbers; the input has none). Each entry's mark is found in the tree. If no key with a mark inside is
--- copied, the marks of tree and list are distinct, and so the tree is a rewritten tree, and joining takes both: it answers 0, or 7 for a slice or a
--- tree that is too long
+-- tree and list t, l of an input: the tree is well formed in the rewritten stage, and read as what the definition has; nothing is left in
+-- tree and list but the exceptions, each of which has its cause in the input, and the test for loaders says whether a rest is left in the tree; the
+-- list is one; each text is one of the input's, or one of two that the rules put. A value in the list is a key of the input (before temporaries
+-- have numbers; the input has none). Each entry's mark is found in the tree. If no key with a mark inside is copied, the marks of tree and list
+-- are distinct, and so the tree is a rewritten tree; its text is answered with 0, or 10 for a slice that is too short; and joining takes both: it
+-- answers 0, or 7 for a slice or a tree that is too long
 pub record LoweredRewritten (limit : ℕ) (tree t l : List ℕ) : Type 0 where
   pub n : Node
   pub end : ℕ
@@ -42,17 +44,16 @@ pub record LoweredRewritten (limit : ℕ) (tree t l : List ℕ) : Type 0 where
   pub is-tree : t ≡ encode (resultOf next n .tree)
   pub formed : WellFormed rewritten (depth (resultOf next n .tree)) (resultOf next n .tree) 1
   pub decoded : readTree rewritten (length t) t ≡ got (placed (resultOf next n .tree) 0) (length t) 1
-  pub left : NothingLeft (resultOf next n .tree)
-  pub caused : (q : List ℕ) (x : Node) → Stands [] (resultOf next n .tree) q x → keepsRest x ≡ true → Due (λ s. Without s n) [] (resultOf next n .tree) q x
+  pub left : NothingLeft (resultOf next n)
+  pub caused : (part : Part) (m : Node) → Of (resultOf next n) part m → (q : List ℕ) (x : Node) → Stands [] m q x → keeps x ≡ true → Caused n part [] m q x
   pub told : leftover t ≡ restLeft (placed (resultOf next n .tree) 0)
   pub is-list : l ≡ listEncoded (resultOf next n .entries) (resultOf next n .excluded)
-  pub listed : FitList (resultOf next n .entries) (resultOf next n .excluded)
-  pub kept : EntriesLeft (resultOf next n .entries)
-  pub copied : (j : ℕ) (d : Node) → ItemAt (resultOf next n .excluded) j d → ExcludedLeft d
+  pub listed : FitHanded (handed (resultOf next n .entries) (resultOf next n .excluded))
   pub treeTexts : (bs : List ℕ) → TextIn (resultOf next n .tree) bs → Known n bs
   pub listTexts : (bs : List ℕ) → TextInList (resultOf next n .entries) (resultOf next n .excluded) bs → Known n bs
   pub keys : KeysOf n (entriesOf next n)
   pub entered : entriesFound (resultOf next n) ≡ true
   pub apart : copiesMarks n ≡ false → distinct (resultMarks (resultOf next n)) ≡ true
   pub accepted : copiesMarks n ≡ false → readRewritten t ≡ got (placed (resultOf next n .tree) 0) (length t) 1
+  pub printed : copiesMarks n ≡ false → (size : ℕ) → (text.outcome (readRewritten t) size .answer ≡ 0) ⊎ (text.outcome (readRewritten t) size .answer ≡ textTooLong)
   pub joined : copiesMarks n ≡ false → (room : ℕ) → (answerOf (outcome t l room) ≡ 0) ⊎ (answerOf (outcome t l room) ≡ 7)

@@ -29,7 +29,7 @@ use Rattle.rewritten.proofs.Pass.{accepted-got}
 mutual
   unfolding placed placedFields placedPiece placedItems marks marksFields marksPiece marksItems
 
-  marks-placed : (n : Node) (at : ℕ) → marks (placed n at) ≡ marks n
+  pub marks-placed : (n : Node) (at : ℕ) → marks (placed n at) ≡ marks n
   marks-placed (node old kind fs) at = marks-placed-fields fs (at + 2)
 
   marks-placed-fields : (fs : Fields) (at : ℕ) → marksFields (placedFields fs at) ≡ marksFields fs
@@ -45,7 +45,7 @@ mutual
   marks-placed-piece (mark n) at = refl
   marks-placed-piece (number n) at = refl
 
-  marks-placed-items : (is : Items) (at : ℕ) → marksItems (placedItems is at) ≡ marksItems is
+  pub marks-placed-items : (is : Items) (at : ℕ) → marksItems (placedItems is at) ≡ marksItems is
   marks-placed-items none at = refl
   marks-placed-items (hole is) at = marks-placed-items is (at + 1)
   marks-placed-items (item n is) at = rw (marks-placed n at, marks-placed-items is (at + length (encode n)))

@@ -7,9 +7,6 @@ use Rattle.result.proofs.rest_spread_leftover.Reads as reads
 use Rattle.result.proofs.rest_spread_leftover.Lts as lts
 use Rattle.result.proofs.leftover.leftover.Reads as leftover-reads
 
-leftover-requires : tie.Need-leftover-requires
-leftover-requires c κs = search needs
-
 returns : tie.Need-returns
 returns c = law.told-one _ (sym (c .if1 .taken) ∙ c .before .leftover .ensures)
 
@@ -17,4 +14,4 @@ returns-2 : tie.Need-returns-2
 returns-2 c = law.told-zero _ (sym (c .if1 .left) ∙ c .before .leftover .ensures)
 
 pub rest-spread-leftover-spec : {M : Type 1} → statement M
-rest-spread-leftover-spec = tie.close (tie.spec leftover-requires returns returns-2)
+rest-spread-leftover-spec = tie.close (tie.spec (λ c κs. search needs) returns returns-2)

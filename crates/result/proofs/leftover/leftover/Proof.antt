@@ -9,11 +9,8 @@ use Rattle.result.proofs.leftover.look.Reads as look-reads
 slice-aggregate-look : tie.Need-slice-aggregate-look
 slice-aggregate-look c = search needs
 
-look-requires : tie.Need-look-requires
-look-requires c κs = search needs
-
 returns : tie.Need-returns
 returns c = c .before .look .ensures (le-of-eq (slice-aggregate-look (c .before .before)))
 
 pub leftover-spec : {M : Type 1} → statement M
-leftover-spec = tie.close (tie.spec slice-aggregate-look look-requires returns)
+leftover-spec = tie.close (tie.spec slice-aggregate-look (λ c κs. search needs) returns)

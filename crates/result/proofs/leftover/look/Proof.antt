@@ -26,29 +26,14 @@ returns c = λ _. law.too-long (c .before .before .before .args .tree .now) (c .
 returns-2 : tie.Need-returns-2 Inv-loop μ-loop
 returns-2 c = λ a. absurd (omega (arith, a, c .if2 .taken))
 
-begin-requires : tie.Need-begin-requires Inv-loop μ-loop
-begin-requires c κs = tt
-
 loop-holds : tie.Need-loop-holds Inv-loop μ-loop
 loop-holds c = law.looking-start (c .before .before .before .before .before .args .tree .now) (c .before .before .before .before .before .args .frames .now) (c .before .before .if1 .left) _ (c .begin .ensures)
-
-next-requires : tie.Need-next-requires Inv-loop μ-loop
-next-requires c κs = tt
-
-enum-known-e : tie.Need-enum-known-e Inv-loop μ-loop
-enum-known-e c = search needs
-
-meet-requires : tie.Need-meet-requires Inv-loop μ-loop
-meet-requires c κs = tt
 
 loop-less : tie.Need-loop-less Inv-loop μ-loop
 loop-less c = law.looking-falls _ _ _ _ _ _ _ (c .before .before .before .before .before .before .before .before .loop .inv) _ (c .before .before .before .before .before .before .next .ensures .1) (c .before .before .e .given .0 .0) _ (c .before .before .e .given .1)
 
 loop-again : tie.Need-loop-again Inv-loop μ-loop
 loop-again c = law.looking-next _ _ _ _ _ _ _ (c .before .before .before .before .before .before .before .before .loop .inv) _ (c .before .before .before .before .before .before .next .ensures .1) (c .before .before .e .given .0 .0) _ (c .before .before .e .given .1) (c .before .before .before .before .before .before .next .ensures .0) _ (c .meet .ensures)
-
-enum-told : tie.Need-enum-told Inv-loop μ-loop
-enum-told c = search needs
 
 same-length : tie.Need-same-length Inv-loop μ-loop
 same-length c = c .before .before .before .before .before .before .next .ensures .0 ∙ c .before .before .before .before .before .before .before .before .loop .inv .tour .size
@@ -62,17 +47,11 @@ same-length-2 c = c .before .before .before .before .before .before .next .ensur
 returns-4 : tie.Need-returns-4 Inv-loop μ-loop
 returns-4 c = λ _. law.looking-early _ _ _ _ _ _ _ (c .before .before .before .before .before .before .before .before .loop .inv) _ (c .before .before .before .before .before .before .next .ensures .1) (c .before .before .enum-told .given .1) (c .if3 .left)
 
-enum-told-2 : tie.Need-enum-told-2 Inv-loop μ-loop
-enum-told-2 c = search needs
-
 same-length-3 : tie.Need-same-length-3 Inv-loop μ-loop
 same-length-3 c = c .before .before .before .before .next .ensures .0 ∙ c .before .before .before .before .before .before .loop .inv .tour .size
 
 returns-5 : tie.Need-returns-5 Inv-loop μ-loop
 returns-5 c = λ _. law.looking-refused _ _ _ _ _ _ _ (c .before .before .before .before .before .before .loop .inv) _ (c .before .before .before .before .next .ensures .1) (c .enum-told2 .given .1)
-
-enum-told-3 : tie.Need-enum-told-3 Inv-loop μ-loop
-enum-told-3 c = search needs
 
 same-length-4 : tie.Need-same-length-4 Inv-loop μ-loop
 same-length-4 c = c .before .before .before .before .next .ensures .0 ∙ c .before .before .before .before .before .before .loop .inv .tour .size
@@ -88,21 +67,21 @@ look-spec =
     μ-loop
     returns
     returns-2
-    begin-requires
+    (λ c κs. tt)
     loop-holds
-    next-requires
-    enum-known-e
-    meet-requires
+    (λ c κs. tt)
+    (λ c. search needs)
+    (λ c κs. tt)
     loop-less
     loop-again
-    enum-told
+    (λ c. search needs)
     same-length
     returns-3
     same-length-2
     returns-4
-    enum-told-2
+    (λ c. search needs)
     same-length-3
     returns-5
-    enum-told-3
+    (λ c. search needs)
     same-length-4
     returns-6)

@@ -6,9 +6,6 @@ use Rattle.result.proofs.leftover.meet.Reads as reads
 use Rattle.result.proofs.leftover.meet.Lts as lts
 use Rattle.result.proofs.leftover.rest_met.Reads as rest-met-reads
 
-rest-met-requires : tie.Need-rest-met-requires
-rest-met-requires c κs = search needs
-
 returns : tie.Need-returns
 returns c = λ tree. law.met-before _ _ (c .if1 .taken)
 
@@ -16,4 +13,4 @@ returns-2 : tie.Need-returns-2
 returns-2 c = λ tree. law.met-now _ _ _ (c .before .if1 .left) (c .rest-met .ensures tree)
 
 pub meet-spec : {M : Type 1} → statement M
-meet-spec = tie.close (tie.spec rest-met-requires returns returns-2)
+meet-spec = tie.close (tie.spec (λ c κs. search needs) returns returns-2)

@@ -9,36 +9,6 @@ use Rattle.result.proofs.leftover.rest_met.Reads as reads
 use Rattle.result.proofs.leftover.rest_met.Lts as lts
 use Rattle.result.proofs.leftover.is_rested.Reads as is-rested-reads
 
-enum-known-e : tie.Need-enum-known-e
-enum-known-e c = search needs
-
-is-rested-requires : tie.Need-is-rested-requires
-is-rested-requires c κs = search needs
-
-enum-told : tie.Need-enum-told
-enum-told c = search needs
-
-enum-told-2 : tie.Need-enum-told-2
-enum-told-2 c = search needs
-
-enum-told-3 : tie.Need-enum-told-3
-enum-told-3 c = search needs
-
-enum-told-4 : tie.Need-enum-told-4
-enum-told-4 c = search needs
-
-enum-told-5 : tie.Need-enum-told-5
-enum-told-5 c = search needs
-
-enum-told-6 : tie.Need-enum-told-6
-enum-told-6 c = search needs
-
-enum-told-7 : tie.Need-enum-told-7
-enum-told-7 c = search needs
-
-enum-told-8 : tie.Need-enum-told-8
-enum-told-8 c = search needs
-
 returns : tie.Need-returns
 unfolding restMet
 returns c = λ tree. c .is-rested .ensures ∙ sym (ap (λ (x : told.Event). restMet (eventIn tree x)) (c .before .before .e .given .1))
@@ -79,16 +49,16 @@ pub rest-met-spec : {M : Type 1} → statement M
 rest-met-spec =
     tie.close
     (tie.spec
-    enum-known-e
-    is-rested-requires
-    enum-told
-    enum-told-2
-    enum-told-3
-    enum-told-4
-    enum-told-5
-    enum-told-6
-    enum-told-7
-    enum-told-8
+    (λ c. search needs)
+    (λ c κs. search needs)
+    (λ c. search needs)
+    (λ c. search needs)
+    (λ c. search needs)
+    (λ c. search needs)
+    (λ c. search needs)
+    (λ c. search needs)
+    (λ c. search needs)
+    (λ c. search needs)
     returns
     returns-2
     returns-3
