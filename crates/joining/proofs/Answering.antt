@@ -32,10 +32,12 @@ use Rattle.joining.specs.Answer.Outcome.{refusal, tree}
 use Rattle.joining.specs.Tables.{chain}
 use Rattle.joining.specs.Writing.{Copied, wholeBytes, Finished}
 use Rattle.joining.specs.Spots.{Spot, placeOf, statementOf, spots, tally, shares}
-use Rattle.joining.specs.Files.{In, Files, Notes, times, Ready, Collected}
+use Rattle.joining.specs.Files.{In, Files, Notes, times, Collected, Toured}
 use Rattle.joining.specs.Settle.{Settled, settled, settles, Stand, names}
 use Rattle.joining.specs.Entries.{Told, runList, Listed, Ended, Ends as Answers, IfAt}
 use Rattle.joining.specs.Entries.Told.{lost, told}
+use Rattle.joining.specs.declared.bodies.Found.{Found}
+use Rattle.joining.specs.declared.bodies.Found.the-variants.{Latest, NoTree}
 use Rattle.joining.specs.declared.entries.Ending.{Ending}
 use Rattle.joining.specs.declared.entries.Ending.the-variants.{At, Missing}
 use Rattle.joining.proofs.Tables.{chain-within}
@@ -174,15 +176,6 @@ tree-got bytes h t = go (readRewritten bytes) refl t
         }
     go (refused r) e w = never w
 
--- ---- the tables before the tour
-
-pub blank-notes : (seen : List ℕ) → 65536 ≤ length seen → ((x : ℕ) → getD seen x 0 ≡ 0) → Notes seen []
-unfolding among
-blank-notes seen s z = record { size = s; at = λ x h. z x }
-
-pub ready : (frames seen around earlier holds before : List ℕ) → 16384 ≤ length frames → 65536 ≤ length seen → ((x : ℕ) → getD seen x 0 ≡ 0) → 16385 ≤ length around → ((x : ℕ) → getD around x 0 ≡ 0) → 32768 ≤ length earlier → 32768 ≤ length holds → ((x : ℕ) → getD holds x 0 ≡ 0) → 32768 ≤ length before → Ready frames seen around earlier holds before
-ready frames seen around earlier holds before a b c d e f g h i = record { enough = a; blank = blank-notes seen b c; deep = d; root = e 0; lists = f; lasts = g; none = h; firsts = i }
-
 -- ---- the list
 
 module _ (bytes l : List ℕ) (room : ℕ) (t : TreeGot bytes) where
@@ -301,18 +294,19 @@ module _ (bytes l : List ℕ) (room : ℕ) (t : TreeGot bytes) where
 
 -- ---- by what the code calls
 
-module _ (bytes l : List ℕ) (hb : (i : ℕ) → getD bytes i 0 < 256) (hl : (i : ℕ) → getD l i 0 < 256) (room : ℕ) (read : Bool) (is : read ≡ isRewritten bytes) where
-  pub way-3 : read ≡ false → (answer size : ℕ) (out : List ℕ) → (answer ≡ 3) × (size ≡ 0) × (out ≡ replicate room 0) → Answered bytes l room answer size out
-  way-3 y answer size out r = answered-refusal bytes l room 3 answer size out (no-tree bytes l room (sym is ∙ y)) r
+module _ (bytes l : List ℕ) (hb : (i : ℕ) → getD bytes i 0 < 256) (hl : (i : ℕ) → getD l i 0 < 256) (room : ℕ) (seen₁ earlier₁ holds₁ before₁ : List ℕ) (f : Found) (t : Toured bytes seen₁ earlier₁ holds₁ before₁ f) where
+  pub way-3 : f ≡ NoTree → (answer size : ℕ) (out : List ℕ) → (answer ≡ 3) × (size ≡ 0) × (out ≡ replicate room 0) → Answered bytes l room answer size out
+  way-3 y answer size out r = answered-refusal bytes l room 3 answer size out (no-tree bytes l room (rw y at t)) r
 
-  module _ (y : read ≡ true) (frames seen around earlier holds before : List ℕ) (rd : Ready frames seen around earlier holds before) (seen₁ earlier₁ holds₁ before₁ : List ℕ) (latest : ℕ)
-      (col : (n : Node) (q k : ℕ) → readTree rewritten (length bytes) bytes ≡ got n q k → Ready frames seen around earlier holds before → Collected bytes seen₁ earlier₁ holds₁ before₁ latest n)
-      (r : Ending) (seen₂ ends : List ℕ) (ans : (met : List ℕ) → Notes seen₁ met → Answers r seen₂ (runList l met) × IfAt r (Listed l ends (wideAt l 0) 2)) where
+  module _ (latest : ℕ) (y : f ≡ Latest latest) (r : Ending) (seen₂ ends : List ℕ) (ans : (met : List ℕ) → Notes seen₁ met → Answers r seen₂ (runList l met) × IfAt r (Listed l ends (wideAt l 0) 2)) where
+    told-of : Toured bytes seen₁ earlier₁ holds₁ before₁ (Latest latest)
+    told-of = rw y at t
+
     abbrev tg : TreeGot bytes
-    tg = tree-got bytes hb (sym is ∙ y)
+    tg = tree-got bytes hb (told-of .0)
 
     abbrev cg : Collected bytes seen₁ earlier₁ holds₁ before₁ latest (tg .tree)
-    cg = col (tg .tree) (tg .end) (tg .next) (tg .raw) rd
+    cg = told-of .1 (tg .tree) (tg .end) (tg .next) (tg .raw)
 
     pub way-12 : r ≡ Missing → (answer size : ℕ) (out : List ℕ) → (answer ≡ 12) × (size ≡ 0) × (out ≡ replicate room 0) → Answered bytes l room answer size out
     way-12 m answer size out x =

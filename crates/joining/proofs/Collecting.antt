@@ -1,27 +1,36 @@
 -- The tour of the tree fills the tables.
 -- Assumes nothing.
-use Prim.Native.Nat.{ℕ, zero, suc, _+_, _-_, _*_, _<_, _≤_}
+use Prim.Native.Nat.{ℕ, zero, suc, _+_, _-_, _*_, _/_, _%_, _<_, _≤_}
 use mathlib.Core.Path.{_≡_, refl, sym, ap, _∙_}
 use mathlib.Core.List.{List, [], _∷_, _++_}
+use mathlib.Core.Bool.{Bool, true, false}
 use native.Mathlib.Omega.{arith}
+use lib.Dec.{eqb}
 use lib.ListN.{length, getD}
+use borrow.Author.Tests.{eq-eqb, ne-eqb}
 use Rattle.tree.specs.Tree.{Node, encode, marks}
+use Rattle.tree.specs.Grammar.{among}
 use Rattle.tree.specs.Grammar.Stage.{rewritten}
 use Rattle.tree.specs.Read.{Got, readTree}
 use Rattle.tree.specs.Read.Got.{got}
 use Rattle.rewritten.specs.Events.{Event, events}
 use Rattle.rewritten.specs.Pass.{folded}
-use Rattle.rewritten.specs.Steps.{start, Took, Onward, eventIn}
+use Rattle.rewritten.specs.Rewritten.{isRewritten}
+use Rattle.rewritten.specs.Steps.{start, comingAt, Took, Onward, eventIn, closingIn, stepClosed}
+use Rattle.rewritten.specs.Look.{isClosed, restOf, eventFor, endFor, cursorFor, framesFor, Ahead, newFor, notedFor}
 use Rattle.rewritten.specs.Marks.{noted}
 use Rattle.rewritten.specs.declared.step.Cursor.{Cursor}
 use Rattle.rewritten.specs.declared.step.Event as told
 use Rattle.rewritten.specs.declared.step.Step.{Step}
-use Rattle.rewritten.specs.declared.step.Step.the-variants.{Next, Done, Refused, Full}
-use Rattle.rewritten.proofs.Pass.{coming, onward, Inside, inside-start, inside-next, step-falls, frames-suffice, tour-of-tree, Rest, rest-next, rest-done, rest-refused}
+use Rattle.rewritten.specs.declared.step.Step.the-variants.{Next, Done}
+use Rattle.rewritten.proofs.Pass.{coming, onward, Inside, tour-of-tree, Rest, rest-next, rest-done}
+use Rattle.rewritten.proofs.Moves.{close-some}
+use Rattle.rewritten.proofs.Reader.{Reading, reading-start, too-long, noted-is, closing-noted, closes, closed-ends, closed-next, ahead-refused, ahead-twice, steps, ahead-falls, ahead-next}
 use Rattle.rewritten.proofs.Marks.{Knows, metAfter, knows-next}
 use Rattle.joining.specs.Tables.{chain}
 use Rattle.joining.specs.Spots.{Spot, spots}
-use Rattle.joining.specs.Files.{In, Shelf, shelf, added, Files, Notes, times, Ready, Collected}
+use Rattle.joining.specs.Files.{In, Shelf, shelf, passedBy, added, Files, Notes, times, Lent, Ready, Collected, Toured}
+use Rattle.joining.specs.declared.bodies.Found.the-variants.{Latest}
 use Rattle.joining.proofs.Tables.{chain-end}
 use Rattle.joining.proofs.Times.{met-times, node-times}
 use Rattle.joining.proofs.Walk.{Walk, walker, walks, walked}
@@ -46,7 +55,7 @@ pub record Collecting (l fs seen : List ℕ) (t : Shelf) (c : Cursor) (n : Node)
 no-files : (tree e h b : List ℕ) → Files tree e h b 0 []
 no-files tree e h b = record { filed = λ p s i j. absurd (rw (chain-end e 0 (omega arith)) at i); found = λ x i. absurd i }
 
-pub collecting-start : (l fs seen a e h b : List ℕ) (n : Node) (q k : ℕ) → readTree rewritten (length l) l ≡ got n q k → Ready fs seen a e h b → (c : Cursor) → c ≡ start → Collecting l fs seen (shelf a e h b 0 0) c n q k
+collecting-start : (l fs seen a e h b : List ℕ) (n : Node) (q k : ℕ) → readTree rewritten (length l) l ≡ got n q k → Ready fs seen a e h b → (c : Cursor) → c ≡ start → Collecting l fs seen (shelf a e h b 0 0) c n q k
 unfolding stackOf
 collecting-start l fs seen a e h b n q k w r c z = rw z (record {
   rest = events n;
@@ -77,13 +86,7 @@ module _ (l fs later : List ℕ) (c : Cursor) (frames : ℕ) (i : Inside l fs c 
     goes : Onward l fs later (coming l fs c) (c .at) (c .deep) e d
     goes = onward l fs later c r t e d w
 
-    pub collecting-falls : (length l - d .at) + d .deep < (length l - c .at) + c .deep
-    collecting-falls = step-falls l fs later c frames i e d goes
-
-    pub collecting-inside : length later ≡ length fs → Inside l later d frames
-    collecting-inside same = inside-next l fs later c frames i e d goes same
-
-    pub collecting-next : (seen seen' : List ℕ) (s s' : Shelf) (n : Node) (q k : ℕ) → Collecting l fs seen s c n q k → ((tree : List ℕ) → seen' ≡ noted seen (eventIn tree e)) → s' ≡ added s (c .at) (c .deep) e → Collecting l later seen' s' d n q k
+    collecting-next : (seen seen' : List ℕ) (s s' : Shelf) (n : Node) (q k : ℕ) → Collecting l fs seen s c n q k → ((tree : List ℕ) → seen' ≡ noted seen (eventIn tree e)) → s' ≡ added s (c .at) (c .deep) e → Collecting l later seen' s' d n q k
     unfolding folded
     collecting-next seen seen' s s' n q k g so be =
         let x : Rest (eventIn l e) (g .rest) q k (coming l later d) = rest-next l fs later c (g .rest) q k (g .comes) e d goes in
@@ -100,7 +103,7 @@ module _ (l fs later : List ℕ) (c : Cursor) (frames : ℕ) (i : Inside l fs c 
           marked = ap (folded metAfter (g .met)) (sym (x .is)) ∙ g .marked;
         }
 
-  pub collecting-ends : r ≡ Done → (seen : List ℕ) (s : Shelf) (n : Node) (q k : ℕ) → Collecting l fs seen s c n q k → Collected l seen (s .earlier) (s .holds) (s .before) (s .latest) n
+  collecting-ends : r ≡ Done → (seen : List ℕ) (s : Shelf) (n : Node) (q k : ℕ) → Collecting l fs seen s c n q k → Collected l seen (s .earlier) (s .holds) (s .before) (s .latest) n
   unfolding folded times
   collecting-ends w seen s n q k g =
       let none : g .rest ≡ [] = rest-done l fs later c (g .rest) q k (g .comes) r t w in
@@ -115,16 +118,32 @@ module _ (l fs later : List ℕ) (c : Cursor) (frames : ℕ) (i : Inside l fs c 
         low = λ p. let a : getD (s .holds) p 0 ≤ c .at - 1 = g .filed .low p in let b : c .at ≤ length l = i .inside in omega arith;
       }
 
-  pub collecting-refused : r ≡ Refused → (seen : List ℕ) (s : Shelf) (n : Node) (q k : ℕ) → Collecting l fs seen s c n q k → ⊥
-  collecting-refused w seen s n q k g = rest-refused l fs later c (g .rest) q k (g .comes) r t w
+-- ---- the tables before it
 
-  pub collecting-full : r ≡ Full → 16384 ≤ frames → ⊥
-  collecting-full w f = frames-suffice l fs later c frames i r t w long f
+blank-notes : (seen : List ℕ) → 65536 ≤ length seen → ((x : ℕ) → getD seen x 0 ≡ 0) → Notes seen []
+unfolding among
+blank-notes seen s z = record { size = s; at = λ x h. z x }
+
+-- a table was cleared
+abbrev Cleared : List ℕ → List ℕ → Type 0
+Cleared l m = (length m ≡ length l) × ((x : ℕ) → getD m x 0 ≡ 0)
+
+pub ready : (frames seen around earlier holds before : List ℕ) → Lent frames seen around earlier holds before → (seen₁ around₁ holds₁ : List ℕ) → Cleared seen seen₁ → Cleared around around₁ → Cleared holds holds₁ → Ready frames seen₁ around₁ earlier holds₁ before
+ready frames seen around earlier holds before n seen₁ around₁ holds₁ s a h = record {
+  enough = n .enough;
+  blank = blank-notes seen₁ (rw (s .0) (n .marks)) (s .1);
+  deep = rw (a .0) (n .deep);
+  root = a .1 0;
+  lists = n .lists;
+  lasts = rw (h .0) (n .lasts);
+  none = h .1;
+  firsts = n .firsts;
+}
 
 -- ---- the loop
 
 pub record Touring (l fs₀ seen₀ a₀ e₀ h₀ b₀ fs seen a e h b : List ℕ) (c : Cursor) (latest begun : ℕ) : Type 0 where
-  pub tour : Inside l fs c (length fs₀)
+  pub reads : Reading l fs seen c (length fs₀) (isRewritten l)
   pub same₂ : length seen ≡ length seen₀
   pub same₃ : length a ≡ length a₀
   pub same₄ : length e ≡ length e₀
@@ -132,9 +151,9 @@ pub record Touring (l fs₀ seen₀ a₀ e₀ h₀ b₀ fs seen a e h b : List �
   pub same₆ : length b ≡ length b₀
   pub will : (n : Node) (q k : ℕ) → readTree rewritten (length l) l ≡ got n q k → Ready fs₀ seen₀ a₀ e₀ h₀ b₀ → Collecting l fs seen (shelf a e h b latest begun) c n q k
 
-pub touring-start : (l fs seen a e h b : List ℕ) (c : Cursor) → c ≡ start → Touring l fs seen a e h b fs seen a e h b c 0 0
-touring-start l fs seen a e h b c z = record {
-  tour = rw z (inside-start l fs);
+pub touring-start : (l fs seen a e h b : List ℕ) → length l ≤ 32768 → 65536 ≤ length seen → ((x : ℕ) → getD seen x 0 ≡ 0) → (c : Cursor) → c ≡ start → Touring l fs seen a e h b fs seen a e h b c 0 0
+touring-start l fs seen a e h b long s blank c z = record {
+  reads = reading-start l fs seen long s blank c z;
   same₂ = refl;
   same₃ = refl;
   same₄ = refl;
@@ -143,21 +162,66 @@ touring-start l fs seen a e h b c z = record {
   will = λ n q k w r. collecting-start l fs seen a e h b n q k w r c z;
 }
 
-module _ (l fs₀ seen₀ a₀ e₀ h₀ b₀ fs seen a e h b : List ℕ) (c : Cursor) (latest begun : ℕ) (g : Touring l fs₀ seen₀ a₀ e₀ h₀ b₀ fs seen a e h b c latest begun) (long : length l ≤ 32768) (later : List ℕ) (r : Step) (t : Took l fs later (coming l fs c) (c .at) (c .deep) r) where
-  pub touring-deep : c .deep < 65536
-  touring-deep = let x : 2 * c .deep ≤ c .at = g .tour .room in let y : c .at ≤ length l = g .tour .inside in omega arith
+closing-added : (t : Shelf) (at deep : ℕ) (node : Bool) → passedBy t ≡ added t at deep (closingIn node)
+closing-added t at deep true = refl
+closing-added t at deep false = refl
 
-  pub touring-next : (ev : told.Event) (d : Cursor) → r ≡ Next ev d → length later ≡ length fs → (seen' a' e' h' b' : List ℕ) (latest' begun' : ℕ) → ((tree : List ℕ) → seen' ≡ noted seen (eventIn tree ev)) → shelf a' e' h' b' latest' begun' ≡ added (shelf a e h b latest begun) (c .at) (c .deep) ev
+module _ (l fs₀ seen₀ a₀ e₀ h₀ b₀ fs seen a e h b : List ℕ) (c : Cursor) (latest begun : ℕ) (g : Touring l fs₀ seen₀ a₀ e₀ h₀ b₀ fs seen a e h b c latest begun) (long : length l ≤ 32768) where
+  pub touring-deep : c .deep < 65536
+  touring-deep = let x : 2 * c .deep ≤ c .at = g .reads .tour .room in let y : c .at ≤ length l = g .reads .tour .inside in omega arith
+
+  touring-next : (later : List ℕ) (r : Step) → Took l fs later (coming l fs c) (c .at) (c .deep) r → (ev : told.Event) (d : Cursor) → r ≡ Next ev d → (seen' a' e' h' b' : List ℕ) (latest' begun' : ℕ) → Reading l later seen' d (length fs₀) (isRewritten l) → ((tree : List ℕ) → seen' ≡ noted seen (eventIn tree ev)) → shelf a' e' h' b' latest' begun' ≡ added (shelf a e h b latest begun) (c .at) (c .deep) ev
       → length seen' ≡ length seen → length a' ≡ length a → length e' ≡ length e → length h' ≡ length h → length b' ≡ length b → Touring l fs₀ seen₀ a₀ e₀ h₀ b₀ later seen' a' e' h' b' d latest' begun'
-  touring-next ev d w same seen' a' e' h' b' latest' begun' so be k₂ k₃ k₄ k₅ k₆ = record {
-    tour = collecting-inside l fs later c (length fs₀) (g .tour) long r t ev d w same;
+  touring-next later r t ev d w seen' a' e' h' b' latest' begun' rd so be k₂ k₃ k₄ k₅ k₆ = record {
+    reads = rd;
     same₂ = k₂ ∙ g .same₂;
     same₃ = k₃ ∙ g .same₃;
     same₄ = k₄ ∙ g .same₄;
     same₅ = k₅ ∙ g .same₅;
     same₆ = k₆ ∙ g .same₆;
-    will = λ n q k x y. collecting-next l fs later c (length fs₀) (g .tour) long r t ev d w seen seen' (shelf a e h b latest begun) (shelf a' e' h' b' latest' begun') n q k (g .will n q k x y) so be;
+    will = λ n q k x y. collecting-next l fs later c (length fs₀) (g .reads .tour) long r t ev d w seen seen' (shelf a e h b latest begun) (shelf a' e' h' b' latest' begun') n q k (g .will n q k x y) so be;
   }
 
-pub too-long : {A : Type 0} (l : List ℕ) (n : Node) (q k : ℕ) → 32768 < length l → readTree rewritten (length l) l ≡ got n q k → A
-too-long l n q k h w = let s : length l ≤ 32768 = tour-of-tree l [] n q k w .0 in absurd (omega arith)
+  -- ---- the innermost task is done
+
+  module _ (done : isClosed (c .top) ≡ true) where
+    shut : Took l fs fs (coming l fs c) (c .at) (c .deep) (stepClosed fs (c .at) (c .deep) (eqb (c .top % 2) 0))
+    shut = closes l fs seen c (length fs₀) (isRewritten l) (g .reads) done
+
+    pub tour-whole : c .deep ≡ 0 → c .at ≡ length l → Ready fs₀ seen₀ a₀ e₀ h₀ b₀ → Toured l seen e h b (Latest latest)
+    tour-whole z w rd = (
+      sym (closed-ends l fs seen c (length fs₀) (isRewritten l) (g .reads) done z) ∙ eq-eqb (c .at) (length l) w,
+      λ n q k x. collecting-ends l fs fs c (length fs₀) (g .reads .tour) long (stepClosed fs (c .at) (c .deep) (eqb (c .top % 2) 0)) shut (ap (λ (y : ℕ). stepClosed fs (c .at) y (eqb (c .top % 2) 0)) z) seen (shelf a e h b latest begun) n q k (g .will n q k x rd),
+    )
+
+    pub tour-part : c .deep ≡ 0 → (c .at ≡ length l → ⊥) → isRewritten l ≡ false
+    tour-part z w = sym (closed-ends l fs seen c (length fs₀) (isRewritten l) (g .reads) done z) ∙ ne-eqb (c .at) (length l) w
+
+    pub tour-closed : (c .deep ≡ 0 → ⊥) → (top : ℕ) → top ≡ getD fs (c .deep - 1) 0 → Touring l fs₀ seen₀ a₀ e₀ h₀ b₀ fs seen a e h b (record { at = c .at; deep = c .deep - 1; top = top }) latest 0
+    tour-closed n top w =
+        touring-next fs (stepClosed fs (c .at) (c .deep) (eqb (c .top % 2) 0)) shut (closingIn (eqb (c .top % 2) 0)) (record { at = c .at; deep = c .deep - 1; top = top }) (sym (close-some l fs (c .at) (c .deep) top (eqb (c .top % 2) 0) n w))
+        seen a e h b latest 0 (closed-next l fs seen c (length fs₀) (isRewritten l) (g .reads) done n top w) (λ tree. closing-noted seen tree (eqb (c .top % 2) 0)) (closing-added (shelf a e h b latest begun) (c .at) (c .deep) (eqb (c .top % 2) 0)) refl refl refl refl refl
+
+  -- ---- what stands next
+
+  module _ (more : isClosed (c .top) ≡ false) (what : ℕ) (look : isClosed (c .top) ≡ false → Ahead l (c .at) (restOf (c .top)) (λ fs deep. comingAt l fs (c .at) deep (c .top)) what) where
+    pub tour-refused : what % 16 ≡ 0 → isRewritten l ≡ false
+    tour-refused z = sym (ahead-refused l fs seen c (length fs₀) (isRewritten l) (g .reads) more what look z)
+
+    module _ (stands : what % 16 ≡ 0 → ⊥) (enough : 16384 ≤ length fs₀) (fresh : Bool) (new : fresh ≡ newFor seen (what % 16) (what / 16)) where
+      pub tour-twice : fresh ≡ false → isRewritten l ≡ false
+      tour-twice n = sym (ahead-twice l fs seen c (length fs₀) (isRewritten l) (g .reads) more what look stands long enough fresh new n)
+
+      module _ (rest : ℕ) (left : rest ≡ restOf (c .top)) (later : List ℕ) (kept : later ≡ framesFor fs (c .deep) rest (what % 16)) (d : Cursor) (went : endFor (c .at) (what % 16) (what / 16) ≤ length l → d ≡ cursorFor fs (c .at) (c .deep) rest (what % 16) (what / 16)) where
+        pub tour-falls : (length l - d .at) + d .deep < (length l - c .at) + c .deep
+        tour-falls = ahead-falls l fs seen c (length fs₀) (isRewritten l) (g .reads) more what look stands long enough fresh new rest left later kept d went
+
+        pub tour-ahead : length later ≡ length fs → fresh ≡ true → (seen' a' e' h' b' : List ℕ) (latest' begun' : ℕ) → seen' ≡ notedFor seen (what % 16) (what / 16) → shelf a' e' h' b' latest' begun' ≡ added (shelf a e h b latest begun) (c .at) (c .deep) (eventFor l (c .at) (what % 16) (what / 16))
+            → length seen' ≡ length seen → length a' ≡ length a → length e' ≡ length e → length h' ≡ length h → length b' ≡ length b → Touring l fs₀ seen₀ a₀ e₀ h₀ b₀ later seen' a' e' h' b' d latest' begun'
+        tour-ahead same n seen' a' e' h' b' latest' begun' so be k₂ k₃ k₄ k₅ k₆ =
+            touring-next later (Next (eventFor l (c .at) (what % 16) (what / 16)) d) (steps l fs seen c (length fs₀) (isRewritten l) (g .reads) more what look stands long enough fresh new rest left later kept d went) (eventFor l (c .at) (what % 16) (what / 16)) d refl
+            seen' a' e' h' b' latest' begun' (ahead-next l fs seen c (length fs₀) (isRewritten l) (g .reads) more what look stands long enough fresh new rest left later kept d went same n seen' so)
+            (λ tree. so ∙ noted-is l seen (c .at) (what / 16) tree (what % 16) stands ((look more) .low)) be k₂ k₃ k₄ k₅ k₆
+
+pub tour-long : (l : List ℕ) → 32768 < length l → isRewritten l ≡ false
+tour-long l h = sym (too-long l h)

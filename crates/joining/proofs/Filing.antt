@@ -11,7 +11,7 @@ use lib.ListN.{length, getD, set, take, drop, length-set, length-take, length-dr
 use lib.Seq.{getD-set-same, getD-set-other}
 use borrow.Author.Tests.{eq-eqb, ne-eqb, lt-ltb, le-ltb, ltb-true, eqb-true}
 use Rattle.tree.specs.Grammar.{among}
-use Rattle.tree.specs.Read.{wideAt}
+use Rattle.tree.specs.Read.{byteAt, wideAt}
 use Rattle.rewritten.specs.declared.step.Event as told
 use Rattle.rewritten.specs.declared.step.Event.the-variants.{Begins, Ends, Opens, Closes, Hole, Text, Byte, Mark, Number}
 use Rattle.joining.specs.Join.{isContainer}
@@ -20,6 +20,7 @@ use Rattle.joining.specs.Spots.{Spot, spot}
 use Rattle.joining.specs.Files.{In, Shelf, shelf, passedBy, markedIn, openedAt, added, Files}
 use Rattle.rewritten.specs.Events.{Event}
 use Rattle.rewritten.specs.Steps.{Stands, deepAfter, eventIn}
+use Rattle.rewritten.specs.Look.{eventFor}
 use Rattle.rewritten.proofs.Marks.{by-same}
 use Rattle.joining.proofs.Walk.{Walk, walker, headOf, tailOf, walks}
 use Rattle.joining.proofs.Tables.{put-in, chain-set, chain-add, chain-within, chain-end}
@@ -72,11 +73,26 @@ module _ (a e h b : List ℕ) (latest g at deep k : ℕ) where
   pub mark-else : g ≤ 0 → shelf a e h b latest 0 ≡ added (shelf a e h b latest g) at deep (Mark k)
   mark-else x = rw (le-ltb 0 g x) refl
 
-pub added-as : (s t : Shelf) (at deep : ℕ) (e f : told.Event) → e ≡ f → s ≡ added t at deep f → s ≡ added t at deep e
-added-as s t at deep e f w x = x ∙ ap (added t at deep) (sym w)
+-- what was found is none of those that add something
+pub added-none : (tree : List ℕ) (t : Shelf) (at deep n code : ℕ) → (code ≡ 1 → ⊥) → (code ≡ 2 → ⊥) → (code ≡ 4 → ⊥) → passedBy t ≡ added t at deep (eventFor tree at code n)
+added-none tree t at deep n zero a b c = refl
+added-none tree t at deep n (suc zero) a b c = absurd (a refl)
+added-none tree t at deep n (suc (suc zero)) a b c = absurd (b refl)
+added-none tree t at deep n (suc (suc (suc zero))) a b c = refl
+added-none tree t at deep n (suc (suc (suc (suc zero)))) a b c = absurd (c refl)
+added-none tree t at deep n (suc (suc (suc (suc (suc zero))))) a b c = refl
+added-none tree t at deep n (suc (suc (suc (suc (suc (suc zero)))))) a b c = refl
+added-none tree t at deep n (suc (suc (suc (suc (suc (suc (suc k))))))) a b c = refl
 
-pub begin-added : (a e h b a' : List ℕ) (latest g at deep p kind map n : ℕ) → (a' ≡ stored a (deep + 1) (cond (isContainer kind) 1 0)) × (n ≡ cond (ltb 1 (getD a deep 0)) at 0) → shelf a' e h b latest n ≡ added (shelf a e h b latest g) at deep (Begins p kind map)
+pub added-found : (tree : List ℕ) (s t : Shelf) (at deep n code is : ℕ) → code ≡ is → s ≡ added t at deep (eventFor tree at is n) → s ≡ added t at deep (eventFor tree at code n)
+added-found tree s t at deep n code is e x = rw e x
+
+begin-added : (a e h b a' : List ℕ) (latest g at deep p kind map n : ℕ) → (a' ≡ stored a (deep + 1) (cond (isContainer kind) 1 0)) × (n ≡ cond (ltb 1 (getD a deep 0)) at 0) → shelf a' e h b latest n ≡ added (shelf a e h b latest g) at deep (Begins p kind map)
 begin-added a e h b a' latest g at deep p kind map n w = λ i. shelf (w .0 i) e h b latest (w .1 i)
+
+pub begin-found : (tree a e h b a' : List ℕ) (latest g at deep m kind n code : ℕ) → code ≡ 1 → kind ≡ byteAt tree at → (a' ≡ stored a (deep + 1) (cond (isContainer kind) 1 0)) × (n ≡ cond (ltb 1 (getD a deep 0)) at 0) → shelf a' e h b latest n ≡ added (shelf a e h b latest g) at deep (eventFor tree at code m)
+begin-found tree a e h b a' latest g at deep m kind n code is k w =
+    added-found tree (shelf a' e h b latest n) (shelf a e h b latest g) at deep m code 1 is (begin-added a e h b a' latest g at deep at (byteAt tree at) (byteAt tree (at + 1)) n (rw k at w))
 
 -- ---- the stack
 

@@ -1,20 +1,20 @@
 -- Bytes written one after the other, and the next free mark.
 -- Assumes nothing.
 use mathlib.Core.Path.{_≡_, refl, sym, ap, _∙_}
-use mathlib.Core.Bool.{Bool, true, false, cond}
+use mathlib.Core.Bool.{Bool, true, false, cond, false≢true}
 use mathlib.Core.List.{List, [], _∷_, _++_}
-use Prim.Native.Nat.{ℕ, zero, suc, _+_, _-_, _%_, _<_, _≤_, min}
+use Prim.Native.Nat.{ℕ, zero, suc, _+_, _-_, _%_, _<_, _≤_, min, max}
 use native.Mathlib.Omega.{arith}
 use native.Mathlib.Decide.{decLt}
 use lib.Dec.{eqb, ltb}
 use lib.ListN.{length, getD, set, take, drop, replicate, length-set, drop-of-length-le}
 use lib.Seq.{drop-cons}
-use borrow.Author.Tests.{eq-eqb, ne-eqb, lt-ltb, le-ltb, lt-leb, le-leb}
+use borrow.Author.Tests.{eqb-true, eq-eqb, ne-eqb, lt-ltb, le-ltb, lt-leb, le-leb}
 use Rattle.tree.specs.Tree.{wideBytes}
 use Rattle.tree.specs.Read.{byteAt, wideAt}
 use Rattle.drawing.specs.Pen.{next, put, reach}
 use Rattle.drawing.proofs.Writing.{Put, Wide, put-length, put-two, reach-two}
-use Rattle.joining.specs.Writing.{Copied, part, declared, freeFrom, freeAfter, varBytes, varLast, varsBytes, varsLast, beforeBytes, beforeLast, stepBytes, stepLast, stepSkips, restBytes, headBytes, headLast, wholeBytes, Finished}
+use Rattle.joining.specs.Writing.{Copied, part, declared, freeFrom, freeAfter, varBytes, varLast, varsBytes, varsLast, beforeBytes, beforeLast, stepBytes, stepLast, stepSkips, restBytes, Calm, Quiet, headBytes, headLast, wholeBytes, Finished}
 
 -- ---- one after the other
 
@@ -86,6 +86,16 @@ module _ (l₀ : List ℕ) (at : ℕ) (from : List ℕ) (start stop : ℕ) where
   copying-ends l p i end c e h =
       let none : part i stop from ≡ [] = part-none from i stop end e h in
       (ap (reach (length l) p) (sym none) ∙ c .ends, ap (put l p) (sym none) ∙ c .bytes)
+
+-- a byte that has room
+pub put-in : (l : List ℕ) (p x : ℕ) → p < length l → Put l p x (p + 1) (set l p x)
+unfolding next
+put-in l p x h = let e : suc p ≡ p + 1 = omega arith in (rw (le-leb p (length l) (omega arith), e) refl, refl)
+
+pub block-next : (l₀ : List ℕ) (at : ℕ) (from : List ℕ) (start stop : ℕ) (l : List ℕ) (p i : ℕ) → Copying l₀ at from start stop l p i × (p + (stop - i) ≤ length l) × (stop ≡ min stop (length from)) → i < stop
+    → Copying l₀ at from start stop (set l p (getD from i 0)) (p + 1) (i + 1) × (p + 1 + (stop - (i + 1)) ≤ length (set l p (getD from i 0))) × (stop ≡ min stop (length from))
+block-next l₀ at from start stop l p i (c, r, e) h =
+    (copying-next l₀ at from start stop l p i stop c e h (p + 1) (set l p (getD from i 0)) (put-in l p (getD from i 0) (omega arith)), omega (arith, length-set l p (getD from i 0)), e)
 
 -- ---- a Declaration
 
@@ -201,6 +211,44 @@ pub skips-else : (more : List ℕ) (p n : ℕ) (s : Bool) → s ≡ false → n 
 unfolding stepSkips
 skips-else more p n s y e = rw (y, e) refl
 
+-- ---- where nothing changes
+
+pub calm-next : (t : List ℕ) (start i : ℕ) (still after : Bool) → (still ≡ true → Calm t start i) → after ≡ cond (eqb (getD t i 0) 0) still false → after ≡ true → Calm t start (i + 1)
+calm-next t start i still after c e y x a b = elim (decLt x i) [
+  | yes h ↦ c (go (eqb (getD t i 0) 0) (sym e ∙ y) .1) x a h
+  | no h ↦ let z : x ≡ i = omega arith in rw z (eqb-true (getD t i 0) 0 (go (eqb (getD t i 0) 0) (sym e ∙ y) .0))
+]
+  where
+    go : (b : Bool) → cond b still false ≡ true → (b ≡ true) × (still ≡ true)
+    go true w = (refl, w)
+    go false w = absurd (false≢true w)
+
+pub quiet-start : (more held : List ℕ) (start end : ℕ) → Quiet more held start end start
+quiet-start more held start end = record { onward = omega arith; within = omega arith; counts = λ x a b. absurd (omega arith); statements = λ x a b. absurd (omega arith) }
+
+further : (t : List ℕ) (start i j : ℕ) → Calm t start i → Calm t i j → Calm t start j
+further t start i j c d x a b = elim (decLt x i) [
+  | yes h ↦ c x a h
+  | no h ↦ d x (omega arith) b
+]
+
+pub quiet-next : (more held : List ℕ) (start end i j : ℕ) → Quiet more held start end i → i ≤ j → j ≤ end → Calm more i j → Calm held i j → Quiet more held start end j
+quiet-next more held start end i j q h g c d = record {
+  onward = let a : start ≤ i = q .onward in omega arith;
+  within = omega arith;
+  counts = further more start i j (q .counts) c;
+  statements = further held start i j (q .statements) d;
+}
+
+one-calm : (t : List ℕ) (i : ℕ) → getD t i 0 ≡ 0 → Calm t i (i + 1)
+one-calm t i e x a b = let z : x ≡ i = omega arith in rw z e
+
+pub quiet-one : (more held : List ℕ) (start end i : ℕ) → Quiet more held start end i → i < end → getD more i 0 ≡ 0 → getD held i 0 ≡ 0 → Quiet more held start end (i + 1)
+quiet-one more held start end i q h c d = quiet-next more held start end i (i + 1) q (omega arith) (omega arith) (one-calm more i c) (one-calm held i d)
+
+pub quiet-within : (more held : List ℕ) (start stop end i : ℕ) → Quiet more held start stop i → stop ≤ end → Quiet more held start end i
+quiet-within more held start stop end i q h = record { onward = q .onward; within = let a : i ≤ max start stop = q .within in omega arith; counts = q .counts; statements = q .statements }
+
 -- ---- what is behind the head
 
 module _ (tree list ends seen more held : List ℕ) (l₀ : List ℕ) (p₀ last₀ : ℕ) where
@@ -219,6 +267,37 @@ module _ (tree list ends seen more held : List ℕ) (l₀ : List ℕ) (p₀ last
       let d : suc n - 1 ≡ n = omega arith in
       let f : suc p ≡ p + 1 = omega arith in
       rw (d, f)
+
+  -- so many bytes at which nothing changes are copied, and so many are left
+  rest-over : (d p q n last : ℕ) → p + d ≡ q → q ≤ length tree → Calm more p q → Calm held p q → restBytes tree list ends seen more held (d + n) false p last ≡ part p q tree ++ restBytes tree list ends seen more held n false q last
+  unfolding restBytes stepBytes stepLast stepSkips beforeBytes beforeLast
+  rest-over zero p q n last e h c s =
+      let f : p ≡ q = omega arith in
+      let none : part q q tree ≡ [] = part-none tree q q (min q (length tree)) refl (omega arith) in
+      let m : 0 + n ≡ n = omega arith in
+      rw (f, none, m) refl
+  rest-over (suc d) p q n last e h c s =
+      let f : suc p ≡ p + 1 = omega arith in
+      let m : suc d + n ≡ suc (d + n) = omega arith in
+      rw (m, c p (omega arith) (omega arith), s p (omega arith) (omega arith), part-first tree p q (omega arith) (omega arith), f)
+      (ap (λ (bs : List ℕ). getD tree p 0 ∷ bs) (rest-over d (p + 1) q n last (omega arith) h (λ x a b. c x (omega arith) b) (λ x a b. s x (omega arith) b)))
+
+  pub passing-over : (l : List ℕ) (at last : ℕ) (s : Bool) (p : ℕ) → Passing l at last s p → (end q : ℕ) → Quiet more held p end q × (s ≡ true → q ≡ p) → q ≤ length tree → (a : ℕ) (k : List ℕ) → Copied l at (part p q tree) a k → Passing k a last s q
+  passing-over l at last s p g end q (c, f) h a k w =
+      let same : length k ≡ length l = ap length (w .1) ∙ put-length l at (part p q tree) in
+      let over : restBytes tree list ends seen more held (length tree - p) s p last ≡ part p q tree ++ restBytes tree list ends seen more held (length tree - q) s q last = go s f in
+      record {
+        size = same ∙ g .size;
+        stops = rw (same, w .0) (sym (reach-two (length l) at (part p q tree) (restBytes tree list ends seen more held (length tree - q) s q last)) ∙ ap (reach (length l) at) (sym over) ∙ g .stops);
+        bytes = rw (w .0, w .1) (sym (put-two l at (part p q tree) (restBytes tree list ends seen more held (length tree - q) s q last)) ∙ ap (put l at) (sym over) ∙ g .bytes);
+      }
+    where
+      go : (b : Bool) → (b ≡ true → q ≡ p) → restBytes tree list ends seen more held (length tree - p) b p last ≡ part p q tree ++ restBytes tree list ends seen more held (length tree - q) b q last
+      go true e = let z : q ≡ p = e refl in let none : part p p tree ≡ [] = part-none tree p p (min p (length tree)) refl (omega arith) in rw (z, none) refl
+      go false e =
+          let u : p ≤ q = c .onward in
+          let d : length tree - p ≡ (q - p) + (length tree - q) = omega arith in
+          rw d (rest-over (q - p) p q (length tree - q) last (omega arith) h (c .counts) (c .statements))
 
   pub passing-next : (l : List ℕ) (at last : ℕ) (s : Bool) (p : ℕ) → Passing l at last s p → p < length tree → (q then : ℕ) (k : List ℕ) (t : Bool) → Copied l at (stepBytes tree list ends seen more held s p last) q k × (then ≡ stepLast tree list ends seen more held s p last) → t ≡ stepSkips more s p → Passing k q then t (p + 1)
   passing-next l at last s p g h q then k t w e =

@@ -8,12 +8,17 @@ use lib.Dec.{eqb, ltb}
 use lib.ListN.{length, getD}
 use Rattle.tree.specs.Tree.{Node, marks}
 use Rattle.tree.specs.Grammar.{among}
-use Rattle.tree.specs.Read.{wideAt}
+use Rattle.tree.specs.Grammar.Stage.{rewritten}
+use Rattle.tree.specs.Read.{wideAt, readTree}
+use Rattle.tree.specs.Read.Got.{got}
+use Rattle.rewritten.specs.Rewritten.{isRewritten}
 use Rattle.rewritten.specs.declared.step.Event as told
 use Rattle.rewritten.specs.declared.step.Event.the-variants.{Begins, Ends, Opens, Closes, Hole, Text, Byte, Mark, Number}
 use Rattle.joining.specs.Join.{isContainer}
 use Rattle.joining.specs.Tables.{stored, chain}
 use Rattle.joining.specs.Spots.{Spot, spot, spots}
+use Rattle.joining.specs.declared.bodies.Found.{Found}
+use Rattle.joining.specs.declared.bodies.Found.the-variants.{Latest, NoTree}
 
 abbrev pub In : {A : Type 0} → A → List A → Type 0
 In x [] = ⊥
@@ -75,7 +80,16 @@ unfoldable pub times : ℕ → List ℕ → ℕ
 times x [] = 0
 times x (m ∷ ms) = cond (eqb m x) 1 0 + times x ms
 
--- the tables before the tour of a tree
+-- enough is lent for the tour of a tree
+pub record Lent (frames seen around earlier holds before : List ℕ) : Type 0 where
+  pub enough : 16384 ≤ length frames
+  pub marks : 65536 ≤ length seen
+  pub deep : 16385 ≤ length around
+  pub lists : 32768 ≤ length earlier
+  pub lasts : 32768 ≤ length holds
+  pub firsts : 32768 ≤ length before
+
+-- the tables before it
 pub record Ready (frames seen around earlier holds before : List ℕ) : Type 0 where
   pub enough : 16384 ≤ length frames
   pub blank : Notes seen []
@@ -94,3 +108,8 @@ pub record Collected (tree seen earlier holds before : List ℕ) (latest : ℕ) 
   pub files : Files tree earlier holds before latest (spots 0 n)
   pub near : latest < 32768
   pub low : (p : ℕ) → getD holds p 0 < 32768
+
+-- what it answers: the bytes are a rewritten tree, and the tables hold what they hold of it; or they are none
+abbrev pub Toured : List ℕ → List ℕ → List ℕ → List ℕ → List ℕ → Found → Type 0
+Toured tree seen earlier holds before (Latest latest) = (isRewritten tree ≡ true) × ((n : Node) (q k : ℕ) → readTree rewritten (length tree) tree ≡ got n q k → Collected tree seen earlier holds before latest n)
+Toured tree seen earlier holds before NoTree = isRewritten tree ≡ false

@@ -1,5 +1,5 @@
 -- What is written, read off the tables.
-use Prim.Native.Nat.{ℕ, zero, suc, _+_, _-_, _%_, min}
+use Prim.Native.Nat.{ℕ, zero, suc, _+_, _-_, _%_, _<_, _≤_, min, max}
 use mathlib.Core.Path.{_≡_}
 use mathlib.Core.List.{List, [], _∷_, _++_}
 use mathlib.Core.Bool.{Bool, true, false, cond}
@@ -77,6 +77,17 @@ module _ (tree list ends seen more held : List ℕ) where
   unfoldable pub restBytes : ℕ → Bool → ℕ → ℕ → List ℕ
   restBytes zero s p last = []
   restBytes (suc n) s p last = stepBytes s p last ++ restBytes n (stepSkips more s p) (suc p) (stepLast s p last)
+
+-- a table has 0 from a position up to another
+abbrev pub Calm : List ℕ → ℕ → ℕ → Type 0
+Calm t start stop = (x : ℕ) → start ≤ x → x < stop → getD t x 0 ≡ 0
+
+-- nothing changes from a position up to another, which is not past an end
+pub record Quiet (more held : List ℕ) (start end stop : ℕ) : Type 0 where
+  pub onward : start ≤ stop
+  pub within : stop ≤ max start end
+  pub counts : Calm more start stop
+  pub statements : Calm held start stop
 
 -- the head: the Program's kind and bit map, its count, and a `const` if there are excluded keys
 module _ (tree list seen more : List ℕ) (excluded : ℕ) where

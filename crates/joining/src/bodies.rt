@@ -1,22 +1,20 @@
 // A tour of the tree: its marks, its containers' lists and their statements.
 use crate::table;
+use rewritten::look;
 use rewritten::next;
 use rewritten::seen;
-use rewritten::step::Event;
-use rewritten::step::Step;
+use rewritten::step::Cursor;
+use tree::bytes;
 ghost use mathlib.Core.Path.{_≡_};
 ghost use mathlib.Core.List.{List};
 ghost use mathlib.Core.Bool.{cond};
-ghost use Prim.Native.Nat.{ℕ, _+_, _<_, _≤_};
+ghost use Prim.Native.Nat.{ℕ, _+_, _/_, _%_, _<_};
 ghost use lib.Dec.{ltb};
-ghost use lib.ListN.{length, getD};
+ghost use lib.ListN.{getD};
 ghost use Rattle.joining.specs.Join.{isContainer};
 ghost use Rattle.joining.specs.Tables.{stored};
-ghost use Rattle.joining.specs.Files.{shelf, added, Ready, Collected};
-ghost use Rattle.tree.specs.Tree.{Node};
-ghost use Rattle.tree.specs.Read.{readTree};
-ghost use Rattle.tree.specs.Read.Got.{got};
-ghost use Rattle.tree.specs.Grammar.Stage.{rewritten};
+ghost use Rattle.joining.specs.Files.{shelf, added, Lent, Toured};
+ghost use Rattle.rewritten.specs.Look.{eventFor};
 ghost use Rattle.rewritten.specs.declared.step.Event.the-variants.{Opens, Mark};
 
 // 1 for Program, Block, FunctionBody, StaticBlock, Case.
@@ -92,8 +90,9 @@ fn mark(around: &[u16], holds: &mut [u16], before: &mut [u16], begun: usize, dee
     }
 }
 
-// What an event at a position adds, with `deep` frames open before it.
+// What is found at a position adds, with `deep` frames open before it.
 fn add(
+    tree: &[u8],
     around: &mut [u16],
     earlier: &mut [u16],
     holds: &mut [u16],
@@ -101,62 +100,47 @@ fn add(
     bodies: Bodies,
     at: usize,
     deep: usize,
-    e: Event,
+    what: usize,
 ) -> Bodies
     requires { ⌜ deep < 65536 ⌝ }
-    ensures { λ r. ⌜ shelf (now (around .exit)) (now (earlier .exit)) (now (holds .exit)) (now (before .exit)) (r .latest) (r .begun) ≡ added (shelf (now (around .entry)) (now (earlier .entry)) (now (holds .entry)) (now (before .entry)) (bodies .latest) (bodies .begun)) at deep e ⌝ }
+    ensures { λ r. ⌜ shelf (now (around .exit)) (now (earlier .exit)) (now (holds .exit)) (now (before .exit)) (r .latest) (r .begun) ≡ added (shelf (now (around .entry)) (now (earlier .entry)) (now (holds .entry)) (now (before .entry)) (bodies .latest) (bodies .begun)) at deep (eventFor (now (tree .entry)) at (what % 16) (what / 16)) ⌝ }
 {
     let latest = bodies.latest;
-    match e {
-        Event::Begins(_, kind, _) => {
-            let begun = begin(around, kind, at, deep);
-            Bodies {
-                latest: latest,
-                begun: begun,
-            }
-        }
-        Event::Opens(_) => {
-            let last = enter(around, earlier, holds, latest, at, deep);
-            Bodies {
-                latest: last,
-                begun: 0,
-            }
-        }
-        Event::Mark(_) => {
-            mark(around, holds, before, bodies.begun, deep);
-            Bodies {
-                latest: latest,
-                begun: 0,
-            }
-        }
-        Event::Ends => Bodies {
+    let code = what % 16;
+    if code == 1 {
+        let begun = begin(around, bytes::peek(tree, at), at, deep);
+        return Bodies {
+            latest: latest,
+            begun: begun,
+        };
+    }
+    if code == 2 {
+        let last = enter(around, earlier, holds, latest, at, deep);
+        return Bodies {
+            latest: last,
+            begun: 0,
+        };
+    }
+    if code == 4 {
+        mark(around, holds, before, bodies.begun, deep);
+        return Bodies {
             latest: latest,
             begun: 0,
-        },
-        Event::Closes => Bodies {
-            latest: latest,
-            begun: 0,
-        },
-        Event::Hole => Bodies {
-            latest: latest,
-            begun: 0,
-        },
-        Event::Text(_, _) => Bodies {
-            latest: latest,
-            begun: 0,
-        },
-        Event::Byte(_) => Bodies {
-            latest: latest,
-            begun: 0,
-        },
-        Event::Number(_) => Bodies {
-            latest: latest,
-            begun: 0,
-        },
+        };
+    }
+    Bodies {
+        latest: latest,
+        begun: 0,
     }
 }
 
-// Of a tree that was read. Returns the last of the containers' lists.
+// The last of the containers' lists; or the bytes are no rewritten tree.
+pub enum Found {
+    Latest(usize),
+    NoTree,
+}
+
+// The tree is read and toured at once. Right if enough is lent of each table.
 pub fn collect(
     tree: &[u8],
     frames: &mut [usize],
@@ -165,41 +149,58 @@ pub fn collect(
     earlier: &mut [u16],
     holds: &mut [u16],
     before: &mut [u16],
-) -> usize
-    ensures { λ r. ⌜ ((n : Node) (q k : ℕ) → readTree rewritten (length (now (tree .entry))) (now (tree .entry)) ≡ got n q k → Ready (now (frames .entry)) (now (seen .entry)) (now (around .entry)) (now (earlier .entry)) (now (holds .entry)) (now (before .entry)) → Collected (now (tree .entry)) (now (seen .exit)) (now (earlier .exit)) (now (holds .exit)) (now (before .exit)) r n) ⌝ }
+) -> Found
+    ensures { λ r. ⌜ (Lent (now (frames .entry)) (now (seen .entry)) (now (around .entry)) (now (earlier .entry)) (now (holds .entry)) (now (before .entry)) → Toured (now (tree .entry)) (now (seen .exit)) (now (earlier .exit)) (now (holds .exit)) (now (before .exit)) r) ⌝ }
 {
     if 32768 < tree.len() {
-        return 0;
+        return Found::NoTree;
     }
+    if frames.len() < 16384 {
+        return Found::NoTree;
+    }
+    if seen.len() < 65536 {
+        return Found::NoTree;
+    }
+    seen::clear(seen);
+    table::clear(around);
+    table::clear(holds);
     let mut cursor = next::begin();
     let mut bodies = Bodies {
         latest: 0,
         begun: 0,
     };
     loop {
-        match next::next(tree, frames, cursor) {
-            Step::Next(e, c) => {
-                seen::note(seen, e);
-                bodies = add(
-                    around,
-                    earlier,
-                    holds,
-                    before,
-                    bodies,
-                    cursor.at,
-                    cursor.deep,
-                    e,
-                );
-                cursor = c;
+        let at = cursor.at;
+        let deep = cursor.deep;
+        let top = cursor.top;
+        if look::is_closed(top) {
+            if deep == 0 {
+                if at == tree.len() {
+                    return Found::Latest(bodies.latest);
+                }
+                return Found::NoTree;
             }
-            Step::Done => {
-                return bodies.latest;
+            let latest = bodies.latest;
+            bodies = Bodies {
+                latest: latest,
+                begun: 0,
+            };
+            cursor = Cursor {
+                at: at,
+                deep: deep - 1,
+                top: next::frame_at(frames, deep - 1),
+            };
+        } else {
+            let what = look::look(tree, at, top);
+            if what % 16 == 0 {
+                return Found::NoTree;
             }
-            Step::Refused => {
-                return 0;
-            }
-            Step::Full => {
-                return 0;
+            if seen::is_new_ahead(seen, what) {
+                seen::note_ahead(seen, what);
+                bodies = add(tree, around, earlier, holds, before, bodies, at, deep, what);
+                cursor = next::moved(tree, frames, at, deep, look::rest_of(top), what);
+            } else {
+                return Found::NoTree;
             }
         }
     }

@@ -1,14 +1,13 @@
 // The three slices, and the tables in between.
 use crate::Joined;
 use crate::bodies;
+use crate::bodies::Found;
 use crate::entries;
 use crate::entries::Ending;
 use crate::settle;
 use crate::table;
 use crate::write;
 use drawing::pen;
-use rewritten::read;
-use rewritten::seen;
 ghost use mathlib.Core.Path.{_≡_};
 ghost use Prim.Native.Nat.{_≤_};
 ghost use lib.ListN.{length, replicate};
@@ -59,31 +58,22 @@ fn joined(
 ) -> Joined
     ensures { λ r. ⌜ (16384 ≤ length (now (frames .entry)) → 65536 ≤ length (now (marks .entry)) → 16385 ≤ length (now (around .entry)) → 32768 ≤ length (now (earlier .entry)) → 32768 ≤ length (now (holds .entry)) → 32768 ≤ length (now (before .entry)) → 16384 ≤ length (now (ends .entry)) → 32768 ≤ length (now (more .entry)) → 32768 ≤ length (now (held .entry)) → Answered (now (tree .entry)) (now (list .entry)) (length (now (out .entry))) (r .answer) (r .«tree_len») (now (out .exit))) ⌝ }
 {
-    if read::is_rewritten(tree) {
-        seen::clear(marks);
-        table::clear(around);
-        table::clear(earlier);
-        table::clear(holds);
-        table::clear(before);
-        table::clear(ends);
-        table::clear(more);
-        table::clear(held);
-        let latest = bodies::collect(tree, frames, marks, around, earlier, holds, before);
-        match entries::read(list, frames, marks, ends) {
+    table::clear(more);
+    table::clear(held);
+    match bodies::collect(tree, frames, marks, around, earlier, holds, before) {
+        Found::Latest(latest) => match entries::read(list, frames, marks, ends) {
             Ending::At(excluded) => {
                 if settle::settle(tree, list, earlier, holds, before, latest, ends, more, held) {
                     pen::clear(out);
                     let n = write::write(tree, list, excluded, marks, ends, more, held, out);
                     return finished(out, n);
                 }
-                return refused(out, 13);
+                refused(out, 13)
             }
-            Ending::Missing => {
-                return refused(out, 12);
-            }
-        }
+            Ending::Missing => refused(out, 12),
+        },
+        Found::NoTree => refused(out, 3),
     }
-    refused(out, 3)
 }
 
 pub fn join(tree: &[u8], list: &[u8], out: &mut [u8]) -> Joined

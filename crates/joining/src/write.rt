@@ -3,11 +3,12 @@ use crate::table;
 use drawing::pen;
 use tree::bytes;
 ghost use mathlib.Core.Path.{_≡_};
-ghost use mathlib.Core.Bool.{false};
-ghost use Prim.Native.Nat.{_-_, _<_, _≤_, min};
+ghost use mathlib.Core.Bool.{true, false, cond};
+ghost use Prim.Native.Nat.{_+_, _-_, _<_, _≤_, min};
+ghost use lib.Dec.{eqb};
 ghost use lib.ListN.{length, getD};
 ghost use Rattle.tree.specs.Read.{wideAt};
-ghost use Rattle.joining.specs.Writing.{Copied, part, declared, freeAfter, varBytes, varLast, varsBytes, varsLast, beforeBytes, beforeLast, stepBytes, stepLast, stepSkips, restBytes, headBytes, headLast, wholeBytes};
+ghost use Rattle.joining.specs.Writing.{Copied, Calm, Quiet, part, declared, freeAfter, varBytes, varLast, varsBytes, varsLast, beforeBytes, beforeLast, stepBytes, stepLast, stepSkips, restBytes, headBytes, headLast, wholeBytes};
 
 // Where the next byte goes, and the last mark that was given.
 pub struct Spot {
@@ -38,10 +39,42 @@ fn least(a: usize, b: usize) -> usize
     b
 }
 
+// Bytes that have room, in one block.
+fn block(out: &mut [u8], at: usize, from: &[u8], start: usize, stop: usize) -> usize
+    requires { ⌜ (stop ≤ length (now from)) × (at + (stop - start) ≤ length (now out)) ⌝ }
+    ensures { λ r. ⌜ Copied (now (out .entry)) at (part start stop (now (from .entry))) r (now (out .exit)) ⌝ }
+{
+    let mut p = at;
+    let mut i = start;
+    while i < stop {
+        out[p] = from[i];
+        p += 1;
+        i += 1;
+    }
+    p
+}
+
+// Whether bytes have room in a slice from a position on.
+fn has_room(size: usize, at: usize, start: usize, stop: usize) -> bool
+    ensures { λ r. ⌜ (r ≡ true → at + (stop - start) ≤ size) ⌝ }
+{
+    if at < size {
+        if start < stop {
+            return stop - start <= size - at;
+        }
+    }
+    false
+}
+
 // The bytes from a position up to another.
 fn copy(out: &mut [u8], at: usize, from: &[u8], start: usize, stop: usize) -> usize
     ensures { λ r. ⌜ Copied (now (out .entry)) at (part start stop (now (from .entry))) r (now (out .exit)) ⌝ }
 {
+    if stop <= from.len() {
+        if has_room(out.len(), at, start, stop) {
+            return block(out, at, from, start, stop);
+        }
+    }
     let end = least(stop, from.len());
     let mut p = at;
     let mut i = start;
@@ -203,7 +236,78 @@ fn skips(more: &[u16], skip: bool, p: usize) -> bool
     0 < table::at(more, p)
 }
 
-// What is behind the head.
+fn also_zero(still: bool, n: u16) -> bool
+    ensures { λ r. ⌜ r ≡ cond (eqb n 0) still false ⌝ }
+{
+    if n == 0 { still } else { false }
+}
+
+// Whether a table has 0 from a position up to another.
+fn calm(table: &[u16], start: usize, stop: usize) -> bool
+    requires { ⌜ stop ≤ length (now table) ⌝ }
+    ensures { λ r. ⌜ (r ≡ true → Calm (now (table .entry)) start stop) ⌝ }
+{
+    let mut still = true;
+    let mut i = start;
+    while i < stop {
+        still = also_zero(still, table[i]);
+        i += 1;
+    }
+    still
+}
+
+// How far nothing changes, 64 positions at once.
+fn blocks(more: &[u16], held: &[u16], start: usize, stop: usize) -> usize
+    requires { ⌜ (stop ≤ length (now more)) × (stop ≤ length (now held)) ⌝ }
+    ensures { λ r. ⌜ Quiet (now (more .entry)) (now (held .entry)) start stop r ⌝ }
+{
+    let mut i = start;
+    while i < stop {
+        if stop - i < 64 {
+            return i;
+        }
+        if calm(more, i, i + 64) {
+            if calm(held, i, i + 64) {
+                i += 64;
+            } else {
+                return i;
+            }
+        } else {
+            return i;
+        }
+    }
+    i
+}
+
+// How far nothing changes, up to an end.
+fn quiet(more: &[u16], held: &[u16], start: usize, end: usize) -> usize
+    ensures { λ r. ⌜ Quiet (now (more .entry)) (now (held .entry)) start end r ⌝ }
+{
+    let stop = least(end, least(more.len(), held.len()));
+    let mut i = blocks(more, held, start, stop);
+    while i < stop {
+        if more[i] != 0 {
+            return i;
+        }
+        if held[i] != 0 {
+            return i;
+        }
+        i += 1;
+    }
+    i
+}
+
+// The next place to look at: the first byte of those that are left, if it is passed over.
+fn place(more: &[u16], held: &[u16], skip: bool, start: usize, end: usize) -> usize
+    ensures { λ r. ⌜ Quiet (now (more .entry)) (now (held .entry)) start end r × (skip ≡ true → r ≡ start) ⌝ }
+{
+    if skip {
+        return start;
+    }
+    quiet(more, held, start, end)
+}
+
+// What is behind the head: what lies between the places that change is copied.
 fn rest(
     out: &mut [u8],
     spot: Spot,
@@ -220,9 +324,23 @@ fn rest(
     let mut skip = false;
     let mut p = 4;
     while p < tree.len() {
-        to = step(out, to, tree, list, ends, seen, more, held, skip, p);
-        skip = skips(more, skip, p);
-        p += 1;
+        let q = place(more, held, skip, p, tree.len() - 1);
+        let mark = to.mark;
+        let at = copy(out, to.at, tree, p, q);
+        to = step(
+            out,
+            Spot { at: at, mark: mark },
+            tree,
+            list,
+            ends,
+            seen,
+            more,
+            held,
+            skip,
+            q,
+        );
+        skip = skips(more, skip, q);
+        p = q + 1;
     }
     to.at
 }

@@ -1,19 +1,11 @@
-use borrow.Author.Needs.{needs}
-use Prim.Native.Nat.{_+_, _-_, _≤_}
+use Prim.Native.Nat.{_+_, _-_}
+use mathlib.Core.Path.{_≡_, sym, _∙_}
 use lib.ListN.{length}
-use mathlib.Core.List.{[]}
-use mathlib.Core.Path.{_≡_, refl, sym, _∙_}
 use native.Mathlib.Omega.{arith}
-use Rattle.rewritten.proofs.Pass as pass
+use borrow.Author.Needs.{needs}
 use Rattle.joining.proofs.Collecting as law
 use Rattle.joining.proofs.bodies.collect.Statement.{statement}
 use Rattle.joining.proofs.bodies.collect.Tie as tie
-use Rattle.joining.proofs.bodies.collect.Reads as reads
-use Rattle.joining.proofs.bodies.collect.Lts as lts
-use Rattle.joining.proofs.bodies.add.Reads as add-reads
-use Rattle.rewritten.proofs.next.begin.Reads as begin-reads
-use Rattle.rewritten.proofs.next.next.Reads as next-reads
-use Rattle.rewritten.proofs.seen.note.Reads as note-reads
 
 abbrev Inv-loop : tie.InvT-loop
 Inv-loop tree frames₀ seen₀ around₀ earlier₀ holds₀ before₀ cursor₀ bodies₀ frames seen around earlier holds before cursor bodies =
@@ -23,137 +15,155 @@ abbrev μ-loop : tie.MeasureT-loop
 μ-loop tree frames₀ seen₀ around₀ earlier₀ holds₀ before₀ cursor₀ bodies₀ frames seen around earlier holds before cursor bodies =
     (length tree - cursor .at) + cursor .deep
 
--- src/bodies.rt:172:9
 returns : tie.Need-returns Inv-loop μ-loop
-returns c = λ n q k w r. law.too-long (c .before .before .before .before .before .before .before .before .args .tree .now) n q k (c .if1 .taken) w
+returns c = λ n. law.tour-long (c .before .before .before .before .before .before .before .before .args .tree .now) (c .if1 .taken)
 
--- src/bodies.rt:174:9
-begin-requires : tie.Need-begin-requires Inv-loop μ-loop
-begin-requires c κs = tt
-
--- src/bodies.rt:179:5
-loop-holds : tie.Need-loop-holds Inv-loop μ-loop
-loop-holds c = law.touring-start _ _ _ _ _ _ _ _ (c .begin .ensures)
-
--- src/bodies.rt:180:15
-next-requires : tie.Need-next-requires Inv-loop μ-loop
-next-requires c κs = tt
-
--- src/bodies.rt:181:24
-enum-known-e : tie.Need-enum-known-e Inv-loop μ-loop
-enum-known-e c = search needs
-
--- src/bodies.rt:182:17
-note-requires : tie.Need-note-requires Inv-loop μ-loop
-note-requires c κs = tt
-
--- src/bodies.rt:183:17
-add-requires : tie.Need-add-requires Inv-loop μ-loop
-add-requires c κs = law.touring-deep _ _ _ _ _ _ _ _ _ _ _ _ _ _ _ _ (c .before .before .before .before .before .before .before .before .before .before .before .before .before .before .before .loop .inv) (c .before .before .before .before .before .before .before .before .before .before .before .before .before .before .before .before .before .if1 .left) _ _ (c .before .before .before .before .before .before .before .before .before .before .before .before .before .next .ensures .1)
-
--- src/bodies.rt:179:5
-loop-less : tie.Need-loop-less Inv-loop μ-loop
-loop-less c = law.collecting-falls _ _ _ _ _ (c .before .before .before .before .before .before .before .before .before .before .before .before .before .before .before .before .before .before .before .before .before .before .before .before .loop .inv .tour) (c .before .before .before .before .before .before .before .before .before .before .before .before .before .before .before .before .before .before .before .before .before .before .before .before .before .before .if1 .left) _ (c .before .before .before .before .before .before .before .before .before .before .before .before .before .before .before .before .before .before .before .before .before .before .next .ensures .1) (c .before .before .before .before .before .before .before .before .before .before .before .before .before .before .before .before .before .before .e .given .0 .0) _ (c .before .before .before .before .before .before .before .before .before .before .before .before .before .before .before .before .before .before .e .given .1)
-
--- src/bodies.rt:179:5
-loop-again : tie.Need-loop-again Inv-loop μ-loop
-loop-again c = law.touring-next _ _ _ _ _ _ _ _ _ _ _ _ _ _ _ _ (c .before .before .before .before .before .before .before .before .before .before .before .before .before .before .before .before .before .before .before .before .before .before .before .before .loop .inv) (c .before .before .before .before .before .before .before .before .before .before .before .before .before .before .before .before .before .before .before .before .before .before .before .before .before .before .if1 .left) _ _ (c .before .before .before .before .before .before .before .before .before .before .before .before .before .before .before .before .before .before .before .before .before .before .next .ensures .1) (c .before .before .before .before .before .before .before .before .before .before .before .before .before .before .before .before .before .before .e .given .0 .0) _ (c .before .before .before .before .before .before .before .before .before .before .before .before .before .before .before .before .before .before .e .given .1) (c .before .before .before .before .before .before .before .before .before .before .before .before .before .before .before .before .before .before .before .before .before .before .next .ensures .0) _ _ _ _ _ _ _ (c .before .before .before .before .before .before .before .before .before .before .before .before .before .before .before .note .ensures) (c .before .before .before .before .before .before .before .before .add .ensures) (c .before .before .before .before .before .before .before .before .before .before .before .before .before .before .before .note .kept .0) (c .before .before .before .before .before .before .before .before .add .kept .0) (c .before .before .before .before .before .before .before .before .add .kept .1 .0) (c .before .before .before .before .before .before .before .before .add .kept .1 .1 .0) (c .before .before .before .before .before .before .before .before .add .kept .1 .1 .1 .0)
-
--- src/bodies.rt:196:17
-enum-told : tie.Need-enum-told Inv-loop μ-loop
-enum-told c = search needs
-
--- src/bodies.rt:196:17
-same-length : tie.Need-same-length Inv-loop μ-loop
-same-length c = c .before .before .before .before .next .ensures .0 ∙ c .before .before .before .before .before .before .loop .inv .tour .size
-
--- src/bodies.rt:196:17
-same-length-2 : tie.Need-same-length-2 Inv-loop μ-loop
-same-length-2 c = c .before .before .before .before .before .before .loop .inv .same₂
-
--- src/bodies.rt:196:17
-same-length-3 : tie.Need-same-length-3 Inv-loop μ-loop
-same-length-3 c = c .before .before .before .before .before .before .loop .inv .same₃
-
--- src/bodies.rt:196:17
-same-length-4 : tie.Need-same-length-4 Inv-loop μ-loop
-same-length-4 c = c .before .before .before .before .before .before .loop .inv .same₄
-
--- src/bodies.rt:196:17
-same-length-5 : tie.Need-same-length-5 Inv-loop μ-loop
-same-length-5 c = c .before .before .before .before .before .before .loop .inv .same₅
-
--- src/bodies.rt:196:17
-same-length-6 : tie.Need-same-length-6 Inv-loop μ-loop
-same-length-6 c = c .before .before .before .before .before .before .loop .inv .same₆
-
--- src/bodies.rt:196:17
 returns-2 : tie.Need-returns-2 Inv-loop μ-loop
-returns-2 c = λ n q k w r. law.collecting-ends _ _ _ _ _ (c .before .before .before .before .before .before .loop .inv .tour) (c .before .before .before .before .before .before .before .before .if1 .left) _ (c .before .before .before .before .next .ensures .1) (c .enum-told .given .1) _ _ n q k (c .before .before .before .before .before .before .loop .inv .will n q k w r)
+returns-2 c = λ n. absurd (omega (arith, n .enough, c .if2 .taken))
 
--- src/bodies.rt:199:17
-enum-told-2 : tie.Need-enum-told-2 Inv-loop μ-loop
-enum-told-2 c = search needs
-
--- src/bodies.rt:199:17
-same-length-7 : tie.Need-same-length-7 Inv-loop μ-loop
-same-length-7 c = c .before .before .before .before .next .ensures .0 ∙ c .before .before .before .before .before .before .loop .inv .tour .size
-
--- src/bodies.rt:199:17
-same-length-8 : tie.Need-same-length-8 Inv-loop μ-loop
-same-length-8 c = c .before .before .before .before .before .before .loop .inv .same₂
-
--- src/bodies.rt:199:17
-same-length-9 : tie.Need-same-length-9 Inv-loop μ-loop
-same-length-9 c = c .before .before .before .before .before .before .loop .inv .same₃
-
--- src/bodies.rt:199:17
-same-length-10 : tie.Need-same-length-10 Inv-loop μ-loop
-same-length-10 c = c .before .before .before .before .before .before .loop .inv .same₄
-
--- src/bodies.rt:199:17
-same-length-11 : tie.Need-same-length-11 Inv-loop μ-loop
-same-length-11 c = c .before .before .before .before .before .before .loop .inv .same₅
-
--- src/bodies.rt:199:17
-same-length-12 : tie.Need-same-length-12 Inv-loop μ-loop
-same-length-12 c = c .before .before .before .before .before .before .loop .inv .same₆
-
--- src/bodies.rt:199:17
 returns-3 : tie.Need-returns-3 Inv-loop μ-loop
-returns-3 c = λ n q k w r. absurd (law.collecting-refused _ _ _ _ _ (c .before .before .before .before .before .before .loop .inv .tour) (c .before .before .before .before .before .before .before .before .if1 .left) _ (c .before .before .before .before .next .ensures .1) (c .enum-told2 .given .1) _ _ n q k (c .before .before .before .before .before .before .loop .inv .will n q k w r))
+returns-3 c = λ n. absurd (omega (arith, n .marks, c .if3 .taken))
 
--- src/bodies.rt:202:17
-enum-told-3 : tie.Need-enum-told-3 Inv-loop μ-loop
-enum-told-3 c = search needs
+clear-requires : tie.Need-clear-requires Inv-loop μ-loop
+clear-requires c κs = search needs
 
--- src/bodies.rt:202:17
-same-length-13 : tie.Need-same-length-13 Inv-loop μ-loop
-same-length-13 c = c .before .before .before .before .next .ensures .0 ∙ c .before .before .before .before .before .before .loop .inv .tour .size
+clear-requires-2 : tie.Need-clear-requires-2 Inv-loop μ-loop
+clear-requires-2 c κs = search needs
 
--- src/bodies.rt:202:17
-same-length-14 : tie.Need-same-length-14 Inv-loop μ-loop
-same-length-14 c = c .before .before .before .before .before .before .loop .inv .same₂
+clear-requires-3 : tie.Need-clear-requires-3 Inv-loop μ-loop
+clear-requires-3 c κs = search needs
 
--- src/bodies.rt:202:17
-same-length-15 : tie.Need-same-length-15 Inv-loop μ-loop
-same-length-15 c = c .before .before .before .before .before .before .loop .inv .same₃
+begin-requires : tie.Need-begin-requires Inv-loop μ-loop
+begin-requires c κs = search needs
 
--- src/bodies.rt:202:17
-same-length-16 : tie.Need-same-length-16 Inv-loop μ-loop
-same-length-16 c = c .before .before .before .before .before .before .loop .inv .same₄
+loop-holds : tie.Need-loop-holds Inv-loop μ-loop
+loop-holds c = law.touring-start _ _ _ _ _ _ _ (c .before .before .before .before .before .before .before .before .before .before .before .before .before .before .before .if1 .left) (omega (arith, c .before .before .before .before .before .before .before .before .before .before .before .clear .ensures .0, c .before .before .before .before .before .before .before .before .before .before .before .before .before .if3 .left)) (c .before .before .before .before .before .before .before .before .before .before .before .clear .ensures .1) _ (c .begin .ensures)
 
--- src/bodies.rt:202:17
-same-length-17 : tie.Need-same-length-17 Inv-loop μ-loop
-same-length-17 c = c .before .before .before .before .before .before .loop .inv .same₅
+is-closed-requires : tie.Need-is-closed-requires Inv-loop μ-loop
+is-closed-requires c κs = search needs
 
--- src/bodies.rt:202:17
-same-length-18 : tie.Need-same-length-18 Inv-loop μ-loop
-same-length-18 c = c .before .before .before .before .before .before .loop .inv .same₆
+same-length : tie.Need-same-length Inv-loop μ-loop
+same-length c = c .before .before .before .before .loop .inv .reads .tour .size
 
--- src/bodies.rt:202:17
+same-length-2 : tie.Need-same-length-2 Inv-loop μ-loop
+same-length-2 c = c .before .before .before .before .loop .inv .same₂ ∙ c .before .before .before .before .before .before .before .before .before .before .before .before .before .before .before .before .clear .ensures .0
+
+same-length-3 : tie.Need-same-length-3 Inv-loop μ-loop
+same-length-3 c = c .before .before .before .before .loop .inv .same₃ ∙ c .before .before .before .before .before .before .before .before .before .before .before .before .clear2 .ensures .0
+
+same-length-4 : tie.Need-same-length-4 Inv-loop μ-loop
+same-length-4 c = c .before .before .before .before .loop .inv .same₄
+
+same-length-5 : tie.Need-same-length-5 Inv-loop μ-loop
+same-length-5 c = c .before .before .before .before .loop .inv .same₅ ∙ c .before .before .before .before .before .before .before .before .clear3 .ensures .0
+
+same-length-6 : tie.Need-same-length-6 Inv-loop μ-loop
+same-length-6 c = c .before .before .before .before .loop .inv .same₆
+
 returns-4 : tie.Need-returns-4 Inv-loop μ-loop
-returns-4 c = λ n q k w r. absurd (law.collecting-full _ _ _ _ _ (c .before .before .before .before .before .before .loop .inv .tour) (c .before .before .before .before .before .before .before .before .if1 .left) _ (c .before .before .before .before .next .ensures .1) (c .enum-told3 .given .1) (r .enough))
+returns-4 c = λ n. law.tour-whole _ _ _ _ _ _ _ _ _ _ _ _ _ _ _ _ (c .before .before .before .before .loop .inv) (c .before .before .before .before .before .before .before .before .before .before .before .before .before .before .before .before .before .before .before .before .if1 .left) (sym (c .before .before .before .is-closed .ensures) ∙ c .before .before .if4 .taken) (c .before .if5 .taken) (c .if6 .taken) (law.ready _ _ _ _ _ _ n _ _ _ (c .before .before .before .before .before .before .before .before .before .before .before .before .before .before .before .before .clear .ensures) (c .before .before .before .before .before .before .before .before .before .before .before .before .clear2 .ensures) (c .before .before .before .before .before .before .before .before .clear3 .ensures))
+
+same-length-7 : tie.Need-same-length-7 Inv-loop μ-loop
+same-length-7 c = c .before .before .before .before .loop .inv .reads .tour .size
+
+same-length-8 : tie.Need-same-length-8 Inv-loop μ-loop
+same-length-8 c = c .before .before .before .before .loop .inv .same₂ ∙ c .before .before .before .before .before .before .before .before .before .before .before .before .before .before .before .before .clear .ensures .0
+
+same-length-9 : tie.Need-same-length-9 Inv-loop μ-loop
+same-length-9 c = c .before .before .before .before .loop .inv .same₃ ∙ c .before .before .before .before .before .before .before .before .before .before .before .before .clear2 .ensures .0
+
+same-length-10 : tie.Need-same-length-10 Inv-loop μ-loop
+same-length-10 c = c .before .before .before .before .loop .inv .same₄
+
+same-length-11 : tie.Need-same-length-11 Inv-loop μ-loop
+same-length-11 c = c .before .before .before .before .loop .inv .same₅ ∙ c .before .before .before .before .before .before .before .before .clear3 .ensures .0
+
+same-length-12 : tie.Need-same-length-12 Inv-loop μ-loop
+same-length-12 c = c .before .before .before .before .loop .inv .same₆
+
+returns-5 : tie.Need-returns-5 Inv-loop μ-loop
+returns-5 c = λ n. law.tour-part _ _ _ _ _ _ _ _ _ _ _ _ _ _ _ _ (c .before .before .before .before .loop .inv) (c .before .before .before .before .before .before .before .before .before .before .before .before .before .before .before .before .before .before .before .before .if1 .left) (sym (c .before .before .before .is-closed .ensures) ∙ c .before .before .if4 .taken) (c .before .if5 .taken) (c .if6 .left)
+
+sub-t28 : tie.Need-sub-t28 Inv-loop μ-loop
+sub-t28 c = search needs
+
+sub-frame-at : tie.Need-sub-frame-at Inv-loop μ-loop
+sub-frame-at c = search needs
+
+frame-at-requires : tie.Need-frame-at-requires Inv-loop μ-loop
+frame-at-requires c κs = search needs
+
+loop-less : tie.Need-loop-less Inv-loop μ-loop
+loop-less c = omega (arith, c .before .before .if5 .left)
+
+loop-again : tie.Need-loop-again Inv-loop μ-loop
+loop-again c = law.tour-closed _ _ _ _ _ _ _ _ _ _ _ _ _ _ _ _ (c .before .before .before .before .before .loop .inv) (c .before .before .before .before .before .before .before .before .before .before .before .before .before .before .before .before .before .before .before .before .before .if1 .left) (sym (c .before .before .before .before .is-closed .ensures) ∙ c .before .before .before .if4 .taken) (c .before .before .if5 .left) _ (c .frame-at .ensures)
+
+look-requires : tie.Need-look-requires Inv-loop μ-loop
+look-requires c κs = search needs
+
+same-length-13 : tie.Need-same-length-13 Inv-loop μ-loop
+same-length-13 c = c .before .before .before .before .loop .inv .reads .tour .size
+
+same-length-14 : tie.Need-same-length-14 Inv-loop μ-loop
+same-length-14 c = c .before .before .before .before .loop .inv .same₂ ∙ c .before .before .before .before .before .before .before .before .before .before .before .before .before .before .before .before .clear .ensures .0
+
+same-length-15 : tie.Need-same-length-15 Inv-loop μ-loop
+same-length-15 c = c .before .before .before .before .loop .inv .same₃ ∙ c .before .before .before .before .before .before .before .before .before .before .before .before .clear2 .ensures .0
+
+same-length-16 : tie.Need-same-length-16 Inv-loop μ-loop
+same-length-16 c = c .before .before .before .before .loop .inv .same₄
+
+same-length-17 : tie.Need-same-length-17 Inv-loop μ-loop
+same-length-17 c = c .before .before .before .before .loop .inv .same₅ ∙ c .before .before .before .before .before .before .before .before .clear3 .ensures .0
+
+same-length-18 : tie.Need-same-length-18 Inv-loop μ-loop
+same-length-18 c = c .before .before .before .before .loop .inv .same₆
+
+returns-6 : tie.Need-returns-6 Inv-loop μ-loop
+returns-6 c = λ n. law.tour-refused _ _ _ _ _ _ _ _ _ _ _ _ _ _ _ _ (c .before .before .before .before .loop .inv) (c .before .before .before .before .before .before .before .before .before .before .before .before .before .before .before .before .before .before .before .before .if1 .left) (sym (c .before .before .before .is-closed .ensures) ∙ c .before .before .if4 .left) _ (c .before .look .ensures) (c .if7 .taken)
+
+is-new-ahead-requires : tie.Need-is-new-ahead-requires Inv-loop μ-loop
+is-new-ahead-requires c κs = search needs
+
+note-ahead-requires : tie.Need-note-ahead-requires Inv-loop μ-loop
+note-ahead-requires c κs = search needs
+
+add-requires : tie.Need-add-requires Inv-loop μ-loop
+add-requires c κs = law.touring-deep _ _ _ _ _ _ _ _ _ _ _ _ _ _ _ _ (c .before .before .before .before .before .before .before .before .before .before .before .before .before .before .before .loop .inv) (c .before .before .before .before .before .before .before .before .before .before .before .before .before .before .before .before .before .before .before .before .before .before .before .before .before .before .before .before .before .before .before .if1 .left)
+
+rest-of-requires : tie.Need-rest-of-requires Inv-loop μ-loop
+rest-of-requires c κs = search needs
+
+moved-requires : tie.Need-moved-requires Inv-loop μ-loop
+moved-requires c κs = search needs
+
+loop-less-2 : tie.Need-loop-less-2 Inv-loop μ-loop
+loop-less-2 c = law.tour-falls _ _ _ _ _ _ _ _ _ _ _ _ _ _ _ _ (c .before .before .before .before .before .before .before .before .before .before .before .before .before .before .before .before .before .before .before .before .before .before .before .before .before .before .before .before .before .loop .inv) (c .before .before .before .before .before .before .before .before .before .before .before .before .before .before .before .before .before .before .before .before .before .before .before .before .before .before .before .before .before .before .before .before .before .before .before .before .before .before .before .before .before .before .before .before .before .if1 .left) (sym (c .before .before .before .before .before .before .before .before .before .before .before .before .before .before .before .before .before .before .before .before .before .before .before .before .before .before .before .before .is-closed .ensures) ∙ c .before .before .before .before .before .before .before .before .before .before .before .before .before .before .before .before .before .before .before .before .before .before .before .before .before .before .before .if4 .left) _ (c .before .before .before .before .before .before .before .before .before .before .before .before .before .before .before .before .before .before .before .before .before .before .before .before .before .before .look .ensures) (c .before .before .before .before .before .before .before .before .before .before .before .before .before .before .before .before .before .before .before .before .before .before .before .before .before .if7 .left) (c .before .before .before .before .before .before .before .before .before .before .before .before .before .before .before .before .before .before .before .before .before .before .before .before .before .before .before .before .before .before .before .before .before .before .before .before .before .before .before .before .before .before .before .before .if2 .left) _ (c .before .before .before .before .before .before .before .before .before .before .before .before .before .before .before .before .before .before .before .before .before .before .before .is-new-ahead .ensures) _ (c .before .before .before .rest-of .ensures) _ (c .before .before .moved .ensures .1) _ (c .before .before .moved .ensures .2)
+
+loop-again-2 : tie.Need-loop-again-2 Inv-loop μ-loop
+loop-again-2 c = law.tour-ahead _ _ _ _ _ _ _ _ _ _ _ _ _ _ _ _ (c .before .before .before .before .before .before .before .before .before .before .before .before .before .before .before .before .before .before .before .before .before .before .before .before .before .before .before .before .before .loop .inv) (c .before .before .before .before .before .before .before .before .before .before .before .before .before .before .before .before .before .before .before .before .before .before .before .before .before .before .before .before .before .before .before .before .before .before .before .before .before .before .before .before .before .before .before .before .before .if1 .left) (sym (c .before .before .before .before .before .before .before .before .before .before .before .before .before .before .before .before .before .before .before .before .before .before .before .before .before .before .before .before .is-closed .ensures) ∙ c .before .before .before .before .before .before .before .before .before .before .before .before .before .before .before .before .before .before .before .before .before .before .before .before .before .before .before .if4 .left) _ (c .before .before .before .before .before .before .before .before .before .before .before .before .before .before .before .before .before .before .before .before .before .before .before .before .before .before .look .ensures) (c .before .before .before .before .before .before .before .before .before .before .before .before .before .before .before .before .before .before .before .before .before .before .before .before .before .if7 .left) (c .before .before .before .before .before .before .before .before .before .before .before .before .before .before .before .before .before .before .before .before .before .before .before .before .before .before .before .before .before .before .before .before .before .before .before .before .before .before .before .before .before .before .before .before .if2 .left) _ (c .before .before .before .before .before .before .before .before .before .before .before .before .before .before .before .before .before .before .before .before .before .before .before .is-new-ahead .ensures) _ (c .before .before .before .rest-of .ensures) _ (c .before .before .moved .ensures .1) _ (c .before .before .moved .ensures .2) (c .before .before .moved .ensures .0) (c .before .before .before .before .before .before .before .before .before .before .before .before .before .before .before .before .before .before .before .before .before .before .if8 .taken) _ _ _ _ _ _ _ (c .before .before .before .before .before .before .before .before .before .before .before .before .before .before .before .before .before .before .before .before .note-ahead .ensures) (c .before .before .before .before .before .before .before .before .before .before .before .before .before .add .ensures) (c .before .before .before .before .before .before .before .before .before .before .before .before .before .before .before .before .before .before .before .before .note-ahead .kept .0) (c .before .before .before .before .before .before .before .before .before .before .before .before .before .add .kept .1 .0) (c .before .before .before .before .before .before .before .before .before .before .before .before .before .add .kept .1 .1 .0) (c .before .before .before .before .before .before .before .before .before .before .before .before .before .add .kept .1 .1 .1 .0) (c .before .before .before .before .before .before .before .before .before .before .before .before .before .add .kept .1 .1 .1 .1 .0)
+
+same-length-19 : tie.Need-same-length-19 Inv-loop μ-loop
+same-length-19 c = c .before .before .before .before .before .before .before .loop .inv .reads .tour .size
+
+same-length-20 : tie.Need-same-length-20 Inv-loop μ-loop
+same-length-20 c = c .before .before .before .before .before .before .before .loop .inv .same₂ ∙ c .before .before .before .before .before .before .before .before .before .before .before .before .before .before .before .before .before .before .before .clear .ensures .0
+
+same-length-21 : tie.Need-same-length-21 Inv-loop μ-loop
+same-length-21 c = c .before .before .before .before .before .before .before .loop .inv .same₃ ∙ c .before .before .before .before .before .before .before .before .before .before .before .before .before .before .before .clear2 .ensures .0
+
+same-length-22 : tie.Need-same-length-22 Inv-loop μ-loop
+same-length-22 c = c .before .before .before .before .before .before .before .loop .inv .same₄
+
+same-length-23 : tie.Need-same-length-23 Inv-loop μ-loop
+same-length-23 c = c .before .before .before .before .before .before .before .loop .inv .same₅ ∙ c .before .before .before .before .before .before .before .before .before .before .before .clear3 .ensures .0
+
+same-length-24 : tie.Need-same-length-24 Inv-loop μ-loop
+same-length-24 c = c .before .before .before .before .before .before .before .loop .inv .same₆
+
+returns-7 : tie.Need-returns-7 Inv-loop μ-loop
+returns-7 c = λ n. law.tour-twice _ _ _ _ _ _ _ _ _ _ _ _ _ _ _ _ (c .before .before .before .before .before .before .before .loop .inv) (c .before .before .before .before .before .before .before .before .before .before .before .before .before .before .before .before .before .before .before .before .before .before .before .if1 .left) (sym (c .before .before .before .before .before .before .is-closed .ensures) ∙ c .before .before .before .before .before .if4 .left) _ (c .before .before .before .before .look .ensures) (c .before .before .before .if7 .left) (c .before .before .before .before .before .before .before .before .before .before .before .before .before .before .before .before .before .before .before .before .before .before .if2 .left) _ (c .before .is-new-ahead .ensures) (c .if8 .left)
 
 pub collect-spec : {M : Type 1} → statement M
 collect-spec =
@@ -162,35 +172,52 @@ collect-spec =
     Inv-loop
     μ-loop
     returns
+    returns-2
+    returns-3
+    clear-requires
+    clear-requires-2
+    clear-requires-3
     begin-requires
     loop-holds
-    next-requires
-    enum-known-e
-    note-requires
-    add-requires
-    loop-less
-    loop-again
-    enum-told
+    is-closed-requires
     same-length
     same-length-2
     same-length-3
     same-length-4
     same-length-5
     same-length-6
-    returns-2
-    enum-told-2
+    returns-4
     same-length-7
     same-length-8
     same-length-9
     same-length-10
     same-length-11
     same-length-12
-    returns-3
-    enum-told-3
+    returns-5
+    sub-t28
+    sub-frame-at
+    frame-at-requires
+    loop-less
+    loop-again
+    look-requires
     same-length-13
     same-length-14
     same-length-15
     same-length-16
     same-length-17
     same-length-18
-    returns-4)
+    returns-6
+    is-new-ahead-requires
+    note-ahead-requires
+    add-requires
+    rest-of-requires
+    moved-requires
+    loop-less-2
+    loop-again-2
+    same-length-19
+    same-length-20
+    same-length-21
+    same-length-22
+    same-length-23
+    same-length-24
+    returns-7)

@@ -13,6 +13,18 @@ Inv-loop out₀ at from start stop end p₀ i₀ out p i = law.Copying out₀ at
 abbrev μ-loop : tie.MeasureT-loop
 μ-loop out₀ at from start stop end p₀ i₀ out p i = end - i
 
+has-room-requires : tie.Need-has-room-requires Inv-loop μ-loop
+has-room-requires c κs = search needs
+
+block-requires : tie.Need-block-requires Inv-loop μ-loop
+block-requires c κs = (c .before .before .before .if1 .taken, c .before .before .has-room .ensures (c .before .if2 .taken))
+
+same-length : tie.Need-same-length Inv-loop μ-loop
+same-length c = search needs
+
+returns : tie.Need-returns Inv-loop μ-loop
+returns c = c .before .before .block .ensures
+
 least-requires : tie.Need-least-requires Inv-loop μ-loop
 least-requires c κs = search needs
 
@@ -34,11 +46,28 @@ loop-less c = omega (arith, c .before .before .before .before .before .loop-test
 loop-again : tie.Need-loop-again Inv-loop μ-loop
 loop-again c = (law.copying-next _ _ _ _ _ _ _ _ _ (c .before .before .before .before .before .before .loop .inv .0) (c .before .before .before .before .before .before .loop .inv .1) (c .before .before .before .before .before .loop-test .taken) _ _ (c .before .before .put .ensures), c .before .before .before .before .before .before .loop .inv .1)
 
-same-length : tie.Need-same-length Inv-loop μ-loop
-same-length c = c .before .loop .inv .0 .size
+same-length-2 : tie.Need-same-length-2 Inv-loop μ-loop
+same-length-2 c = c .before .loop .inv .0 .size
 
-returns : tie.Need-returns Inv-loop μ-loop
-returns c = law.copying-ends _ _ _ _ _ _ _ _ _ (c .before .loop .inv .0) (c .before .loop .inv .1) (c .loop-test .left)
+returns-2 : tie.Need-returns-2 Inv-loop μ-loop
+returns-2 c = law.copying-ends _ _ _ _ _ _ _ _ _ (c .before .loop .inv .0) (c .before .loop .inv .1) (c .loop-test .left)
 
 pub copy-spec : {M : Type 1} → statement M
-copy-spec = tie.close (tie.spec Inv-loop μ-loop least-requires loop-holds shared-slice-read-put put-requires add-i loop-less loop-again same-length returns)
+copy-spec =
+    tie.close
+    (tie.spec
+    Inv-loop
+    μ-loop
+    has-room-requires
+    block-requires
+    same-length
+    returns
+    least-requires
+    loop-holds
+    shared-slice-read-put
+    put-requires
+    add-i
+    loop-less
+    loop-again
+    same-length-2
+    returns-2)
