@@ -1,20 +1,19 @@
 -- What is left in the excluded keys of the list stands in Templates, and the input has its cause.
 -- Assumes nothing.
 use mathlib.Core.Path.{_≡_, refl, sym, subst, _∙_}
-use mathlib.Core.Bool.{Bool, true, false, cond, not, _&&_, _||_, true≢false}
+use mathlib.Core.Bool.{Bool, true, false, cond, not, _&&_, true≢false}
 use mathlib.Core.List.{List, [], _∷_}
 use Prim.Native.Nat.{ℕ}
 use native.Mathlib.Omega.{arith}
-use lib.Dec.{eqb}
 use borrow.Author.Tests.{eqb-true}
-use Rattle.tree.specs.Tree.{Node, Fields, Items, count}
+use Rattle.tree.specs.Tree.{Node, Fields, Items}
 use Rattle.tree.specs.Tree.Node.{node}
 use Rattle.lowering.specs.Parts.{is, stands, itemsAt, nodeAt, pieceIn, any, gather}
 use Rattle.lowering.specs.Made.{Context, temporary, declares, array, string}
 use Rattle.lowering.specs.Visits.{ItemAt, NodeIn, FieldAt, PartAt, Stands}
 use Rattle.lowering.specs.Patterns.{key, properties}
 use Rattle.lowering.specs.Keys.{keySort, isPrimitive, allPrimitive, excludedKey, excludedKeys}
-use Rattle.lowering.specs.Keys.Key.{name, literal, template, private, again, other}
+use Rattle.lowering.specs.Keys.Key.{template}
 use Rattle.lowering.specs.Rests.{isHoisted, hasNoProperties, excludedFor}
 use Rattle.lowering.specs.Declarations.{loweredIn, declarationExcludes}
 use Rattle.lowering.specs.Assignments.{target, topExcludes}
@@ -31,6 +30,7 @@ use Rattle.result.proofs.Occurring.{occurs-unless}
 use Rattle.result.proofs.Keeping.{kept-before}
 use Rattle.result.proofs.Weighed.{total}
 use Rattle.result.proofs.Copies.{Measure, XI}
+use Rattle.result.proofs.Distinct.{template-is}
 use Rattle.result.proofs.KeyWeights.{no-mark, light-handed, light-keys}
 use Rattle.result.proofs.ByRule.{by-lists}
 
@@ -43,18 +43,6 @@ data Plain : Node → Type 0 where
 data Hoisted : Node → Type 0 where
   hoisted : {path : List ℕ} {stem at : ℕ} {ks : Items} → AllItems Plain ks → Hoisted (declares (temporary path stem at) (array ks))
 
-template-is : (k : Node) → keySort k ≡ template → is 23 k ≡ true
-unfolding keySort
-template-is k e = go (is 38 k) (is 22 k) (is 23 k) (eqb (count (itemsAt 0 k)) 1) (is 39 k) (is 20 k || (is 18 k && stands 1 k)) e
-  where
-    go : (a b c d f g : Bool) → cond a name (cond b literal (cond (c && d) template (cond f private (cond g again other)))) ≡ template → c ≡ true
-    go true b c d f g e = let z : _≡_ {A = ℕ} 0 1 = cc in absurd (omega arith)
-    go false true c d f g e = let z : _≡_ {A = ℕ} 0 1 = cc in absurd (omega arith)
-    go false false true d f g e = refl
-    go false false false d true g e = let z : _≡_ {A = ℕ} 0 1 = cc in absurd (omega arith)
-    go false false false d false true e = let z : _≡_ {A = ℕ} 0 1 = cc in absurd (omega arith)
-    go false false false d false false e = let z : _≡_ {A = ℕ} 0 1 = cc in absurd (omega arith)
-
 template-plain : (k : Node) → is 23 k ≡ true → keySort k ≡ template → Plain k
 unfolding is
 template-plain (node at k fs) e = subst (λ (j : ℕ). keySort (node at j fs) ≡ template → Plain (node at j fs)) (sym (eqb-true k 23 e)) Plain.templated
@@ -66,7 +54,7 @@ module _ (c : Context) where
       by-key (keySort (key q))
       (λ e. rw (e, excludedKey) (Plain.spelled, tt))
       (λ e. rw (e, excludedKey) (Plain.spelled, tt))
-      (λ e. rw (e, excludedKey) (template-plain (key q) (template-is (key q) e) e, tt))
+      (λ e. rw (e, excludedKey) (template-plain (key q) (template-is (key q) e .0) e, tt))
       (λ e. rw (e, excludedKey) tt)
       (λ e. absurd (true≢false (sym h ∙ rw (e, isPrimitive) refl)))
       (λ e. absurd (true≢false (sym h ∙ rw (e, isPrimitive) refl)))

@@ -60,10 +60,6 @@ pub data Exception (a : List ℕ) (h : Node) (c : List ℕ) (x : Node) : Part �
   -- (f) in a Template that is an excluded key; h declares the array of them
   inTemplate : {v z : Node} {i j : ℕ} → is 5 h ≡ true → PartAt h 1 i v → PartAt v 0 j z → is 23 z ≡ true → Stands (j ∷ 0 ∷ i ∷ 1 ∷ a) z c x → Exception a h c x Part.excluded
 
--- x, at the path c, is one of them in t, which stands at the path p and belongs to the part
-pub data Remains (part : Part) (p : List ℕ) (t : Node) (c : List ℕ) (x : Node) : Type 0 where
-  remains : {q : List ℕ} {h : Node} → Stands p t q h → Exception q h c x part → Remains part p t c x
-
 -- ---- a whole result
 
 -- d is a declarator of an entry
@@ -76,8 +72,3 @@ pub data Of (w : Written) : Part → Node → Type 0 where
   tree : Of w Part.tree (w .tree)
   entry : {d : Node} → EntryHas (w .entries) d → Of w Part.entry d
   excluded : {j : ℕ} {d : Node} → ItemAt (w .excluded) j d → Of w Part.excluded d
-
--- nothing is left in a result but these, and no spread in its tree
-pub record NothingLeft (w : Written) : Type 0 where
-  pub spreads : (q : List ℕ) (x : Node) → Stands [] (w .tree) q x → keepsSpread x ≡ false
-  pub others : (part : Part) (t : Node) → Of w part t → (q : List ℕ) (x : Node) → Stands [] t q x → keeps x ≡ true → Remains part [] t q x
