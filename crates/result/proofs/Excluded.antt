@@ -23,7 +23,7 @@ use Rattle.lowering.specs.Collect.{Name, Visit, excludedIn, visits, numbered, n
 use Rattle.lowering.proofs.Cases.{by-test, by-key, and-right, not-true}
 use Rattle.lowering.proofs.All.{AllItems, all-append, all-gather, all-unit, none-passes}
 use Rattle.lowering.proofs.Notes.{AllNotes, in-walked}
-use Rattle.result.specs.Left.{keepsRest, keepsSpread, keeps, Part, Exception}
+use Rattle.result.specs.Left.{keepsRest, keepsSpread, keeps, Section, Exception}
 use Rattle.result.specs.Causes.{Cause, isTemplate, holdsKept, shows, Occurs, Caused}
 use Rattle.result.proofs.Standing.{held}
 use Rattle.result.proofs.Occurring.{occurs-unless}
@@ -140,7 +140,7 @@ module _ (ns : List Name) where
       (r .0, λ z. let o : keptKey n ≡ 1 = rw (r .1) refl in absurd (omega arith))
   keys-left (Items.item n ks) h (ItemAt.behind a) s k = let r = keys-left ks (h .1) a s k in (r .0, λ z. r .1 (omega arith))
 
-  hoisted-left : {d : Node} → Hoisted d → {q : List ℕ} {x : Node} → Stands [] (numbered ns d) q x → keeps x ≡ true → Exception [] (numbered ns d) q x Part.excluded × (keptKeys d ≡ 0 → ⊥)
+  hoisted-left : {d : Node} → Hoisted d → {q : List ℕ} {x : Node} → Stands [] (numbered ns d) q x → keeps x ≡ true → Exception [] (numbered ns d) q x Section.excluded × (keptKeys d ≡ 0 → ⊥)
   unfolding numbered withNumber keeps keepsRest keepsSpread is itemsAt nodeAt pieceIn
   hoisted-left (Hoisted.hoisted h) Stands.here k = absurd (true≢false (sym k))
   hoisted-left (Hoisted.hoisted h) (Stands.onward (PartAt.part (FieldAt.first NodeIn.one)) Stands.here) k = absurd (true≢false (sym k))
@@ -151,7 +151,7 @@ module _ (ns : List Name) where
       (Exception.inTemplate refl (PartAt.part (FieldAt.behind (FieldAt.first NodeIn.one))) (PartAt.part (FieldAt.first (NodeIn.list a))) (r .0) s, r .1)
 
   items-left : (js : Items) → AllItems Hoisted js → {j : ℕ} {d : Node} → ItemAt (numberedItems ns js) j d → {q : List ℕ} {x : Node} → Stands [] d q x → keeps x ≡ true
-      → Exception [] d q x Part.excluded × (XI measure js ≡ 0 → ⊥)
+      → Exception [] d q x Section.excluded × (XI measure js ≡ 0 → ⊥)
   unfolding numbered total measure
   items-left (Items.hole js) h (ItemAt.behindHole a) s k = items-left js h a s k
   items-left (Items.item n js) h ItemAt.first s k = let r = hoisted-left (h .0) s k in (r .0, λ z. r .1 (omega arith))
@@ -163,11 +163,11 @@ module _ (ns : List Name) where
   all-hoisted (v ∷ vs) h = all-append Hoisted (v .note .excluded) (excludedIn vs) (h .0) (all-hoisted vs (h .1))
 
   pub excluded-caused : (c : Context) (n : Node) (next : ℕ) {j : ℕ} {d : Node} → ItemAt (numberedItems ns (excludedIn (visits next 0 (walked c n)))) j d
-      → {q : List ℕ} {x : Node} → Stands [] d q x → keeps x ≡ true → Caused n Part.excluded [] d q x
+      → {q : List ℕ} {x : Node} → Stands [] d q x → keeps x ≡ true → Caused n Section.excluded [] d q x
   excluded-caused c n next {d = d} a {q = q} {x = x} s k =
       let hoisted = all-hoisted (visits next 0 (walked c n)) (in-walked (λ note. AllItems Hoisted (note .excluded)) (λ n. tt) (λ d k. note-plain d k) c n next 0) in
       let r = items-left (excludedIn (visits next 0 (walked c n))) hoisted a s k in
       go (r .0) (occurs-unless Cause.inTemplate n (λ h. r .1 (light-handed measure n (light-keys isTemplate Cause.inTemplate shown n h) c next .1)))
     where
-      go : Exception [] d q x Part.excluded → Occurs Cause.inTemplate n → Caused n Part.excluded [] d q x
+      go : Exception [] d q x Section.excluded → Occurs Cause.inTemplate n → Caused n Section.excluded [] d q x
       go (Exception.inTemplate a b e f g) o = Caused.caused Stands.here (Exception.inTemplate a b e f g) o

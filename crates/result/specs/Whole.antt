@@ -19,7 +19,7 @@ use Rattle.printer.specs.Outcome as text
 use Rattle.printer.specs.Outcome.{textTooLong}
 use Rattle.joining.specs.List.{handed, FitHanded}
 use Rattle.joining.specs.Answer.{outcome, answerOf}
-use Rattle.result.specs.Left.{keepsSpread, keeps, Part, Of}
+use Rattle.result.specs.Left.{keepsSpread, keeps, Section, Of}
 use Rattle.result.specs.Causes.{Caused}
 use Rattle.result.specs.Texts.{TextIn, TextInList, Known}
 use Rattle.result.specs.Marks.{copiesMarks, resultMarks, entriesFound}
@@ -45,7 +45,7 @@ pub record LoweredRewritten (limit : ℕ) (tree t l : List ℕ) : Type 0 where
   pub formed : WellFormed rewritten (depth (resultOf next n .tree)) (resultOf next n .tree) 1
   pub decoded : readTree rewritten (length t) t ≡ got (placed (resultOf next n .tree) 0) (length t) 1
   pub spreads : (q : List ℕ) (x : Node) → Stands [] (resultOf next n .tree) q x → keepsSpread x ≡ false
-  pub left : (part : Part) (m : Node) → Of (resultOf next n) part m → (q : List ℕ) (x : Node) → Stands [] m q x → keeps x ≡ true → Caused n part [] m q x
+  pub left : (section : Section) (m : Node) → Of (resultOf next n) section m → (q : List ℕ) (x : Node) → Stands [] m q x → keeps x ≡ true → Caused n section [] m q x
   pub told : leftover t ≡ restLeft (placed (resultOf next n .tree) 0)
   pub is-list : l ≡ listEncoded (resultOf next n .entries) (resultOf next n .excluded)
   pub listed : FitHanded (handed (resultOf next n .entries) (resultOf next n .excluded))
