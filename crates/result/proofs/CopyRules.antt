@@ -27,7 +27,7 @@ use Rattle.lowering.proofs.All.{other-changed}
 use Rattle.lowering.proofs.Cases.{by-number, by-test, and-left, and-right, functionBody-is, block-is}
 use Rattle.lowering.proofs.ChangeLaws.{items-changed-in}
 use Rattle.result.proofs.ByRule.{by-rules}
-use Rattle.result.proofs.Weighed.{total, total-append, total-gather, total-each, total-none, weigh, weighAll, weighPiece, weighItems, sourcesItems, sourceNode, temporary-weighs, sources-by, again, source-by, all-most, piece-most, node-most, next-two, items-append, only-weighs, change-less, change-more}
+use Rattle.result.proofs.Weighed.{total, total-append, total-gather, total-each, total-none, weigh, weighAll, weighPiece, weighItems, sourcesItems, sourceNode, temporary-weighs, sources-by, again, source-by, all-most, piece-most, node-most, at-most, list-most, next-two, items-append, only-weighs, change-less, change-more}
 use Rattle.result.proofs.Copies.{Measure, XI, EI, list-kept, node-kept, at-kept, declarator-kept, nearest-kept, top-kept, lets, behind-kept}
 
 module _ {out : ℕ → ℕ} {kin : Node → ℕ} (measure : Measure out kin) where
@@ -73,11 +73,6 @@ module _ {out : ℕ → ℕ} {kin : Node → ℕ} (measure : Measure out kin) wh
   closed-most (call c) (hole ps) = omega arith
   closed-most (call c) (item p ps) = let o = opened-most (call c) (item p ps) in let s = S-weighs (opened (call c) (item p ps)) in omega arith
 
-  at-most : (i : ℕ) (p : Node) → load (nodeAt i p) ≤ load p
-  unfolding nodeAt
-  at-most i (node at k fs) =
-      let a = node-most out kin (pieceIn fs i) in let b = piece-most out kin fs i in let e = all-most out kin at k fs in omega arith
-
   scan-most : (c : Call) (pending ps : Items) → load (scan c pending ps) ≤ soFar c + (loads pending + loads ps)
   unfolding scan weigh
   scan-most c pending none = let h = closed-most c pending in omega arith
@@ -89,7 +84,7 @@ module _ {out : ℕ → ℕ} {kin : Node → ℕ} (measure : Measure out kin) wh
       let h = S-weighs xs in
       let a = items-append out kin (opened c pending) (only (nodeAt 0 p)) in
       let o = opened-most c pending in
-      let m = at-most 0 p in
+      let m = at-most out kin 0 p in
       let w = only-weighs out kin (nodeAt 0 p) in
       rw (s, scan) (omega arith))
       (λ s. let r = scan-most c (pending +++ only p) ps in
@@ -97,21 +92,12 @@ module _ {out : ℕ → ℕ} {kin : Node → ℕ} (measure : Measure out kin) wh
       let w = only-weighs out kin p in
       rw (s, scan) (omega arith))
 
-  items-most : (p : Piece) → loads (asItems p) ≤ weighPiece out kin p
-  unfolding weigh
-  items-most (one n) = omega arith
-  items-most (list n) = omega arith
-  items-most (text n) = omega arith
-  items-most (byte n) = omega arith
-  items-most (mark n) = omega arith
-  items-most (number n) = omega arith
-
   literal-kept : (at : ℕ) (fs : Fields) → load (literal (node at 24 fs)) ≤ load (node at 24 fs)
   unfolding literal itemsAt weigh
   literal-kept at fs =
       by-test (any (λ p. is 26 p) (asItems (pieceIn fs 0)))
       (λ e. let r = scan-most no-call none (asItems (pieceIn fs 0)) in
-      let a = items-most (pieceIn fs 0) in
+      let a = list-most out kin (pieceIn fs 0) in
       let b = piece-most out kin fs 0 in
       let d = all-most out kin at 24 fs in
       rw e (omega arith))

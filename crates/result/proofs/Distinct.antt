@@ -30,7 +30,7 @@ use Rattle.result.proofs.Occurring.{any-split}
 use Rattle.result.specs.Marks.{hasAny, holdsMark, copiesAt}
 use Rattle.result.proofs.Rows.{own-form, input-form}
 use Rattle.result.proofs.Lies.{not-20}
-use Rattle.result.proofs.Weighed.{isCopied, weigh, weighAll, weighPiece, weighItems, keysIn, keysItems, sourcesIn, sourcesItems, keys-by, sources-by, ofKey, key-by, source-by, all-most, piece-most, node-most}
+use Rattle.result.proofs.Weighed.{isCopied, weigh, weighAll, weighPiece, weighItems, keysIn, keysItems, sourcesIn, sourcesItems, keys-by, sources-by, ofKey, key-by, source-by, piece-most, at-most, list-most}
 use Rattle.result.proofs.Copies.{Measure}
 use Rattle.result.proofs.Tallies.{tally, tally-append, left, leftFields, leftPiece, leftItems}
 
@@ -257,20 +257,6 @@ list-tally f (Piece.mark n) = omega arith
 list-tally f (Piece.number n) = omega arith
 
 module _ (out : ℕ → ℕ) (kin : Node → ℕ) (none-kin : kin nothing ≡ 0) where
-  pub at-most : (i : ℕ) (p : Node) → weigh out kin (nodeAt i p) ≤ weigh out kin p
-  unfolding nodeAt
-  at-most i (node at k fs) =
-      let a = node-most out kin (pieceIn fs i) in let b = piece-most out kin fs i in let e = all-most out kin at k fs in omega arith
-
-  pub list-most : (p : Piece) → weighItems out kin (asItems p) ≤ weighPiece out kin p
-  unfolding weigh
-  list-most (Piece.one n) = omega arith
-  list-most (Piece.list n) = omega arith
-  list-most (Piece.text n) = omega arith
-  list-most (Piece.byte n) = omega arith
-  list-most (Piece.mark n) = omega arith
-  list-most (Piece.number n) = omega arith
-
   -- names that weigh nothing are no more if they are read again
   pub sources-none : (ds : Items) → weighItems out kin ds ≡ 0 → sourcesItems out kin ds ≡ 0
   unfolding weigh
@@ -279,7 +265,7 @@ module _ (out : ℕ → ℕ) (kin : Node → ℕ) (none-kin : kin nothing ≡ 0)
   sources-none (Items.item d ds) h =
       let r = sources-none ds (omega arith) in
       let e = source-by out kin d in
-      let a = at-most 1 d in
+      let a = at-most out kin 1 d in
       let b = twice (isName (nodeAt 1 d)) (weigh out kin (nodeAt 1 d)) (omega arith) in
       omega arith
     where
@@ -304,7 +290,7 @@ module _ (out : ℕ → ℕ) (kin : Node → ℕ) (none-kin : kin nothing ≡ 0)
         let c = tally-append f (marks q) (marksItems qs) in
         let a = keys-none r qs (omega arith) (omega arith) in
         let e = key-by out kin none-kin r q in
-        let u = at-most 0 q in
+        let u = at-most out kin 0 q in
         let v = at-tally f 0 q in
         let z = key-none r (key q) (λ e. no-kin (key q) (omega arith)) (omega arith) in
         omega arith
@@ -312,11 +298,11 @@ module _ (out : ℕ → ℕ) (kin : Node → ℕ) (none-kin : kin nothing ≡ 0)
     besides-none : (k : ℕ) (fs : Fields) → weighAll out kin fs ≡ 0 → tally f (marksFields fs) ≡ 0 → cond (eqb k 34) (keysIn out kin (standsIn fs 1) fs) (cond (eqb k 4) (sourcesIn out kin fs 2) 0) ≡ 0
     besides-none k fs h t =
         let a = piece-most out kin fs 0 in
-        let a′ = list-most (pieceIn fs 0) in
+        let a′ = list-most out kin (pieceIn fs 0) in
         let b = part-tally f fs 0 in
         let b′ = list-tally f (pieceIn fs 0) in
         let c = piece-most out kin fs 2 in
-        let c′ = list-most (pieceIn fs 2) in
+        let c′ = list-most out kin (pieceIn fs 2) in
         let u = keys-by out kin (standsIn fs 1) fs ∙ keys-none (standsIn fs 1) (asItems (pieceIn fs 0)) (omega arith) (omega arith) in
         let v = sources-by out kin fs 2 ∙ sources-none (asItems (pieceIn fs 2)) (omega arith) in
         both (eqb k 34) (eqb k 4) u v
@@ -447,7 +433,7 @@ again-name k e = go (is 38 k) (is 22 k) (is 23 k && eqb (count (itemsAt 0 k)) 1)
     go false false false false false true s w = refl
     go false false false false false false s w = let z : _≡_ {A = ℕ} 0 1 = cc in absurd (omega arith)
 
-template-is : (k : Node) → keySort k ≡ template → (is 23 k ≡ true) × (eqb (count (itemsAt 0 k)) 1 ≡ true)
+pub template-is : (k : Node) → keySort k ≡ template → (is 23 k ≡ true) × (eqb (count (itemsAt 0 k)) 1 ≡ true)
 unfolding keySort
 template-is k e = go (is 38 k) (is 22 k) (is 23 k) (eqb (count (itemsAt 0 k)) 1) (is 39 k) (is 20 k || (is 18 k && stands 1 k)) e
   where

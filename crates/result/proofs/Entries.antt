@@ -20,7 +20,7 @@ use Rattle.lowering.proofs.Cases.{by-test, by-key}
 use Rattle.lowering.proofs.All.{AllItems, all-append, all-gather, all-each, all-unit}
 use Rattle.lowering.proofs.Notes.{AllNotes, in-walked}
 use Rattle.equal.specs.Canonical.{eachEntry}
-use Rattle.result.specs.Left.{keepsRest, keepsSpread, keeps, anyOf, Part, Exception, EntryHas}
+use Rattle.result.specs.Left.{keepsRest, keepsSpread, keeps, anyOf, Section, Exception, EntryHas}
 use Rattle.result.specs.Causes.{Cause, isOther, holdsKept, shows, Occurs, Caused}
 use Rattle.result.proofs.Standing.{held}
 use Rattle.result.proofs.Occurring.{occurs-unless}
@@ -98,7 +98,7 @@ measure =
 
 module _ (ns : List Name) where
   -- the id is a Temporary with its number, which has no parts
-  named-left : {d : Node} → Named d → {q : List ℕ} {x : Node} → Stands [] (numbered ns d) q x → keeps x ≡ true → Exception [] (numbered ns d) q x Part.entry × (holdsKept isOther (nodeAt 1 d) ≡ true)
+  named-left : {d : Node} → Named d → {q : List ℕ} {x : Node} → Stands [] (numbered ns d) q x → keeps x ≡ true → Exception [] (numbered ns d) q x Section.entry × (holdsKept isOther (nodeAt 1 d) ≡ true)
   unfolding numbered withNumber keeps keepsRest keepsSpread is nodeAt pieceIn holdsKept
   named-left (Named.valued e) Stands.here k = absurd (true≢false (sym k))
   named-left (Named.valued e) (Stands.onward (PartAt.part (FieldAt.first NodeIn.one)) Stands.here) k = absurd (true≢false (sym k))
@@ -111,7 +111,7 @@ module _ (ns : List Name) where
   named-left Named.lone (Stands.onward (PartAt.part (FieldAt.behind a)) s) k = absurd (true≢false (sym (held a)))
 
   items-left : (js : Items) → AllItems Named js → {j : ℕ} {d : Node} → ItemAt (numberedItems ns js) j d → {q : List ℕ} {x : Node} → Stands [] d q x → keeps x ≡ true
-      → Exception [] d q x Part.entry × (total keptValue js ≡ 0 → ⊥)
+      → Exception [] d q x Section.entry × (total keptValue js ≡ 0 → ⊥)
   unfolding numbered total
   items-left (Items.hole js) h (ItemAt.behindHole a) s k = items-left js h a s k
   items-left (Items.item n js) h ItemAt.first s k =
@@ -124,7 +124,7 @@ module _ (ns : List Name) where
   EntriesNamed (e ∷ es) = AllItems Named (e .declarators) × EntriesNamed es
 
   numbered-left : (es : List Entry) → EntriesNamed es → {d : Node} → EntryHas (eachEntry (λ is. numberedItems ns is) es) d → {q : List ℕ} {x : Node} → Stands [] d q x → keeps x ≡ true
-      → Exception [] d q x Part.entry × (ofEntries measure es ≡ 0 → ⊥)
+      → Exception [] d q x Section.entry × (ofEntries measure es ≡ 0 → ⊥)
   unfolding eachEntry ofEntries measure
   numbered-left (e ∷ es) h (EntryHas.here a) s k = let r = items-left (e .declarators) (h .0) a s k in (r .0, λ z. r .1 (omega arith))
   numbered-left (e ∷ es) h (EntryHas.later i) s k = let r = numbered-left es (h .1) i s k in (r .0, λ z. r .1 (omega arith))
@@ -135,12 +135,12 @@ module _ (ns : List Name) where
   entries-named (v ∷ vs) h = by-test (isEmpty (v .note .entry)) (λ e. rw e (entries-named vs (h .1))) (λ e. rw e (h .0, entries-named vs (h .1)))
 
   pub entries-caused : (c : Context) (n : Node) (next : ℕ) {d : Node} → EntryHas (eachEntry (λ is. numberedItems ns is) (entries (visits next 0 (walked c n)))) d
-      → {q : List ℕ} {x : Node} → Stands [] d q x → keeps x ≡ true → Caused n Part.entry [] d q x
+      → {q : List ℕ} {x : Node} → Stands [] d q x → keeps x ≡ true → Caused n Section.entry [] d q x
   entries-caused c n next {d = d} i {q = q} {x = x} s k =
       let es = entries (visits next 0 (walked c n)) in
       let named = entries-named (visits next 0 (walked c n)) (in-walked (λ note. AllItems Named (note .entry)) (λ n. tt) (λ d k. note-named d k) c n next 0) in
       let r = numbered-left es named i s k in
       go (r .0) (occurs-unless Cause.inKey n (λ h. r .1 (light-handed measure n (light-keys isOther Cause.inKey shown n h) c next .0)))
     where
-      go : Exception [] d q x Part.entry → Occurs Cause.inKey n → Caused n Part.entry [] d q x
+      go : Exception [] d q x Section.entry → Occurs Cause.inKey n → Caused n Section.entry [] d q x
       go (Exception.inKey a b e) o = Caused.caused Stands.here (Exception.inKey a b e) o

@@ -1,20 +1,19 @@
 -- What is left in the excluded keys of the list stands in Templates, and the input has its cause.
 -- Assumes nothing.
 use mathlib.Core.Path.{_≡_, refl, sym, subst, _∙_}
-use mathlib.Core.Bool.{Bool, true, false, cond, not, _&&_, _||_, true≢false}
+use mathlib.Core.Bool.{Bool, true, false, cond, not, _&&_, true≢false}
 use mathlib.Core.List.{List, [], _∷_}
 use Prim.Native.Nat.{ℕ}
 use native.Mathlib.Omega.{arith}
-use lib.Dec.{eqb}
 use borrow.Author.Tests.{eqb-true}
-use Rattle.tree.specs.Tree.{Node, Fields, Items, count}
+use Rattle.tree.specs.Tree.{Node, Fields, Items}
 use Rattle.tree.specs.Tree.Node.{node}
 use Rattle.lowering.specs.Parts.{is, stands, itemsAt, nodeAt, pieceIn, any, gather}
 use Rattle.lowering.specs.Made.{Context, temporary, declares, array, string}
 use Rattle.lowering.specs.Visits.{ItemAt, NodeIn, FieldAt, PartAt, Stands}
 use Rattle.lowering.specs.Patterns.{key, properties}
 use Rattle.lowering.specs.Keys.{keySort, isPrimitive, allPrimitive, excludedKey, excludedKeys}
-use Rattle.lowering.specs.Keys.Key.{name, literal, template, private, again, other}
+use Rattle.lowering.specs.Keys.Key.{template}
 use Rattle.lowering.specs.Rests.{isHoisted, hasNoProperties, excludedFor}
 use Rattle.lowering.specs.Declarations.{loweredIn, declarationExcludes}
 use Rattle.lowering.specs.Assignments.{target, topExcludes}
@@ -24,13 +23,14 @@ use Rattle.lowering.specs.Collect.{Name, Visit, excludedIn, visits, numbered, n
 use Rattle.lowering.proofs.Cases.{by-test, by-key, and-right, not-true}
 use Rattle.lowering.proofs.All.{AllItems, all-append, all-gather, all-unit, none-passes}
 use Rattle.lowering.proofs.Notes.{AllNotes, in-walked}
-use Rattle.result.specs.Left.{keepsRest, keepsSpread, keeps, Part, Exception}
+use Rattle.result.specs.Left.{keepsRest, keepsSpread, keeps, Section, Exception}
 use Rattle.result.specs.Causes.{Cause, isTemplate, holdsKept, shows, Occurs, Caused}
 use Rattle.result.proofs.Standing.{held}
 use Rattle.result.proofs.Occurring.{occurs-unless}
 use Rattle.result.proofs.Keeping.{kept-before}
 use Rattle.result.proofs.Weighed.{total}
 use Rattle.result.proofs.Copies.{Measure, XI}
+use Rattle.result.proofs.Distinct.{template-is}
 use Rattle.result.proofs.KeyWeights.{no-mark, light-handed, light-keys}
 use Rattle.result.proofs.ByRule.{by-lists}
 
@@ -43,18 +43,6 @@ data Plain : Node → Type 0 where
 data Hoisted : Node → Type 0 where
   hoisted : {path : List ℕ} {stem at : ℕ} {ks : Items} → AllItems Plain ks → Hoisted (declares (temporary path stem at) (array ks))
 
-template-is : (k : Node) → keySort k ≡ template → is 23 k ≡ true
-unfolding keySort
-template-is k e = go (is 38 k) (is 22 k) (is 23 k) (eqb (count (itemsAt 0 k)) 1) (is 39 k) (is 20 k || (is 18 k && stands 1 k)) e
-  where
-    go : (a b c d f g : Bool) → cond a name (cond b literal (cond (c && d) template (cond f private (cond g again other)))) ≡ template → c ≡ true
-    go true b c d f g e = let z : _≡_ {A = ℕ} 0 1 = cc in absurd (omega arith)
-    go false true c d f g e = let z : _≡_ {A = ℕ} 0 1 = cc in absurd (omega arith)
-    go false false true d f g e = refl
-    go false false false d true g e = let z : _≡_ {A = ℕ} 0 1 = cc in absurd (omega arith)
-    go false false false d false true e = let z : _≡_ {A = ℕ} 0 1 = cc in absurd (omega arith)
-    go false false false d false false e = let z : _≡_ {A = ℕ} 0 1 = cc in absurd (omega arith)
-
 template-plain : (k : Node) → is 23 k ≡ true → keySort k ≡ template → Plain k
 unfolding is
 template-plain (node at k fs) e = subst (λ (j : ℕ). keySort (node at j fs) ≡ template → Plain (node at j fs)) (sym (eqb-true k 23 e)) Plain.templated
@@ -66,7 +54,7 @@ module _ (c : Context) where
       by-key (keySort (key q))
       (λ e. rw (e, excludedKey) (Plain.spelled, tt))
       (λ e. rw (e, excludedKey) (Plain.spelled, tt))
-      (λ e. rw (e, excludedKey) (template-plain (key q) (template-is (key q) e) e, tt))
+      (λ e. rw (e, excludedKey) (template-plain (key q) (template-is (key q) e .0) e, tt))
       (λ e. rw (e, excludedKey) tt)
       (λ e. absurd (true≢false (sym h ∙ rw (e, isPrimitive) refl)))
       (λ e. absurd (true≢false (sym h ∙ rw (e, isPrimitive) refl)))
@@ -152,7 +140,7 @@ module _ (ns : List Name) where
       (r .0, λ z. let o : keptKey n ≡ 1 = rw (r .1) refl in absurd (omega arith))
   keys-left (Items.item n ks) h (ItemAt.behind a) s k = let r = keys-left ks (h .1) a s k in (r .0, λ z. r .1 (omega arith))
 
-  hoisted-left : {d : Node} → Hoisted d → {q : List ℕ} {x : Node} → Stands [] (numbered ns d) q x → keeps x ≡ true → Exception [] (numbered ns d) q x Part.excluded × (keptKeys d ≡ 0 → ⊥)
+  hoisted-left : {d : Node} → Hoisted d → {q : List ℕ} {x : Node} → Stands [] (numbered ns d) q x → keeps x ≡ true → Exception [] (numbered ns d) q x Section.excluded × (keptKeys d ≡ 0 → ⊥)
   unfolding numbered withNumber keeps keepsRest keepsSpread is itemsAt nodeAt pieceIn
   hoisted-left (Hoisted.hoisted h) Stands.here k = absurd (true≢false (sym k))
   hoisted-left (Hoisted.hoisted h) (Stands.onward (PartAt.part (FieldAt.first NodeIn.one)) Stands.here) k = absurd (true≢false (sym k))
@@ -163,7 +151,7 @@ module _ (ns : List Name) where
       (Exception.inTemplate refl (PartAt.part (FieldAt.behind (FieldAt.first NodeIn.one))) (PartAt.part (FieldAt.first (NodeIn.list a))) (r .0) s, r .1)
 
   items-left : (js : Items) → AllItems Hoisted js → {j : ℕ} {d : Node} → ItemAt (numberedItems ns js) j d → {q : List ℕ} {x : Node} → Stands [] d q x → keeps x ≡ true
-      → Exception [] d q x Part.excluded × (XI measure js ≡ 0 → ⊥)
+      → Exception [] d q x Section.excluded × (XI measure js ≡ 0 → ⊥)
   unfolding numbered total measure
   items-left (Items.hole js) h (ItemAt.behindHole a) s k = items-left js h a s k
   items-left (Items.item n js) h ItemAt.first s k = let r = hoisted-left (h .0) s k in (r .0, λ z. r .1 (omega arith))
@@ -175,11 +163,11 @@ module _ (ns : List Name) where
   all-hoisted (v ∷ vs) h = all-append Hoisted (v .note .excluded) (excludedIn vs) (h .0) (all-hoisted vs (h .1))
 
   pub excluded-caused : (c : Context) (n : Node) (next : ℕ) {j : ℕ} {d : Node} → ItemAt (numberedItems ns (excludedIn (visits next 0 (walked c n)))) j d
-      → {q : List ℕ} {x : Node} → Stands [] d q x → keeps x ≡ true → Caused n Part.excluded [] d q x
+      → {q : List ℕ} {x : Node} → Stands [] d q x → keeps x ≡ true → Caused n Section.excluded [] d q x
   excluded-caused c n next {d = d} a {q = q} {x = x} s k =
       let hoisted = all-hoisted (visits next 0 (walked c n)) (in-walked (λ note. AllItems Hoisted (note .excluded)) (λ n. tt) (λ d k. note-plain d k) c n next 0) in
       let r = items-left (excludedIn (visits next 0 (walked c n))) hoisted a s k in
       go (r .0) (occurs-unless Cause.inTemplate n (λ h. r .1 (light-handed measure n (light-keys isTemplate Cause.inTemplate shown n h) c next .1)))
     where
-      go : Exception [] d q x Part.excluded → Occurs Cause.inTemplate n → Caused n Part.excluded [] d q x
+      go : Exception [] d q x Section.excluded → Occurs Cause.inTemplate n → Caused n Section.excluded [] d q x
       go (Exception.inTemplate a b e f g) o = Caused.caused Stands.here (Exception.inTemplate a b e f g) o

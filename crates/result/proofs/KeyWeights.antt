@@ -19,10 +19,10 @@ use Rattle.lowering.specs.Keys.{Key}
 use Rattle.result.specs.Left.{keepsRest}
 use Rattle.result.specs.Causes.{Cause, holdsKept, shows, Without}
 use Rattle.result.proofs.Occurring.{nodes-within}
-use Rattle.result.proofs.Weighed.{weigh, weighAll, weighPiece, weighItems, keysIn, keysItems, sourcesIn, keys-by, sources-by, key-by, piece-most}
+use Rattle.result.proofs.Weighed.{weigh, weighAll, weighPiece, weighItems, keysIn, keysItems, sourcesIn, keys-by, sources-by, key-by, piece-most, at-most, list-most}
 use Rattle.result.proofs.Copies.{Measure, XI}
 use Rattle.result.proofs.Tallies.{walk-weighs, ofEntries, list-weighs}
-use Rattle.result.proofs.Distinct.{at-most, list-most, sources-none, key-none}
+use Rattle.result.proofs.Distinct.{sources-none, key-none}
 
 abbrev pub no-mark : ℕ → ℕ
 no-mark m = 0
@@ -42,7 +42,7 @@ module _ {kin : Node → ℕ} (measure : Measure no-mark kin) where
   keys-fine r (Items.item q qs) h t =
       let a = keys-fine r qs (omega arith) (λ e. t e .1) in
       let e = key-by no-mark kin (measure .none-kin) r q in
-      let u = at-most no-mark kin (measure .none-kin) 0 q in
+      let u = at-most no-mark kin 0 q in
       let z = key-none no-mark kin (measure .none-kin) r (key q) (λ e. t e .0) (omega arith) in
       omega arith
 
@@ -50,9 +50,9 @@ module _ {kin : Node → ℕ} (measure : Measure no-mark kin) where
   unfolding keepsRest is stands itemsAt
   besides-fine at k fs h t =
       let a = piece-most no-mark kin fs 0 in
-      let a′ = list-most no-mark kin (measure .none-kin) (pieceIn fs 0) in
+      let a′ = list-most no-mark kin (pieceIn fs 0) in
       let c = piece-most no-mark kin fs 2 in
-      let c′ = list-most no-mark kin (measure .none-kin) (pieceIn fs 2) in
+      let c′ = list-most no-mark kin (pieceIn fs 2) in
       let v = sources-by no-mark kin fs 2 ∙ sources-none no-mark kin (measure .none-kin) (asItems (pieceIn fs 2)) (omega arith) in
       by-test (eqb k 34)
       (λ e. rw e (keys-by no-mark kin (standsIn fs 1) fs ∙ keys-fine (standsIn fs 1) (asItems (pieceIn fs 0)) (omega arith) (λ r. t (rw (e, r) refl))))

@@ -37,7 +37,7 @@ use Rattle.equal.specs.Canonical.{eachEntry}
 use Rattle.equal.specs.Equal.{entryEncoded, listEncoded}
 use Rattle.equal.specs.Results.{writtenBy, resultBy, ownNames, treeOf, entriesOf, excludedOf}
 use Rattle.equal.proofs.One.{list-bytes}
-use Rattle.result.specs.Left.{keepsRest, keepsSpread, keeps, Part, Of, Remains, NothingLeft}
+use Rattle.result.specs.Left.{keepsRest, keepsSpread, keeps, Section, Of}
 use Rattle.result.specs.Leftover.{restLeft, leftIn, leftover}
 use Rattle.joining.specs.List.{handed, innerMarks, FitHanded}
 use Rattle.joining.specs.Join.{found}
@@ -100,9 +100,6 @@ fits-short s t l e =
     let a = ltb-false (min 32768 (s .treeSlice)) (length t) (or-left (ltb (min 32768 (s .treeSlice)) (length t)) (ltb (min 16384 (s .listSlice)) (length l)) both) in
     let b = ltb-false (min 16384 (s .listSlice)) (length l) (or-right (ltb (min 32768 (s .treeSlice)) (length t)) (ltb (min 16384 (s .listSlice)) (length l)) both) in
     (omega arith, omega arith)
-
-remains : {n : Node} {part : Part} {p c : List ℕ} {t x : Node} → Caused n part p t c x → Remains part p t c x
-remains (Caused.caused s e o) = Remains.remains s e
 
 text-answers : (size : ℕ) (bs : List ℕ) → (text.fitted size bs .answer ≡ 0) ⊎ (text.fitted size bs .answer ≡ textTooLong)
 unfolding text.fitted text.refusal
@@ -229,18 +226,15 @@ module _ (limit : ℕ) (tree t l : List ℕ) (s : Lent) (b : Bytes tree) (k : Lo
   tree-spreads : (q : List ℕ) (x : Node) → Stands [] (numbered ns (bare next w)) q x → keepsSpread x ≡ false
   tree-spreads q x s = no-spread tree-comes root lies s
 
-  tree-caused : {q : List ℕ} {x : Node} → Stands [] (numbered ns (bare next w)) q x → keeps x ≡ true → Caused n Part.tree [] (numbered ns (bare next w)) q x
+  tree-caused : {q : List ℕ} {x : Node} → Stands [] (numbered ns (bare next w)) q x → keeps x ≡ true → Caused n Section.tree [] (numbered ns (bare next w)) q x
   unfolding keeps
   tree-caused {q = q} {x = x} s k = due-caused (rests-remain tree-comes root lies root-outside s (or-first (keepsRest x) (keepsSpread x) (tree-spreads q x s) k))
 
-  all-caused : (part : Part) (m : Node) → Of (resultOf next n) part m → (q : List ℕ) (x : Node) → Stands [] m q x → keeps x ≡ true → Caused n part [] m q x
+  all-caused : (section : Section) (m : Node) → Of (resultOf next n) section m → (q : List ℕ) (x : Node) → Stands [] m q x → keeps x ≡ true → Caused n section [] m q x
   unfolding resultBy ownNames treeOf entriesOf excludedOf writtenBy
-  all-caused Part.tree m Of.tree q x s k = tree-caused s k
-  all-caused Part.entry m (Of.entry i) q x s k = entries-caused ns top n next i s k
-  all-caused Part.excluded m (Of.excluded a) q x s k = excluded-caused ns top n next a s k
-
-  all-left : NothingLeft (resultOf next n)
-  all-left = record { spreads = subst (λ (m : Node). (q : List ℕ) (x : Node) → Stands [] m q x → keepsSpread x ≡ false) (sym written-tree) tree-spreads; others = λ part m o q x s k. remains (all-caused part m o q x s k) }
+  all-caused Section.tree m Of.tree q x s k = tree-caused s k
+  all-caused Section.entry m (Of.entry i) q x s k = entries-caused ns top n next i s k
+  all-caused Section.excluded m (Of.excluded a) q x s k = excluded-caused ns top n next a s k
 
   tree-told : leftover t ≡ restLeft (placed (numbered ns (bare next w)) 0)
   unfolding leftover
@@ -318,8 +312,8 @@ module _ (limit : ℕ) (tree t l : List ℕ) (s : Lent) (b : Bytes tree) (k : Lo
         is-tree = own-tree;
         formed = subst (λ (m : Node). WellFormed rewritten (depth m) m 1) (sym written-tree) tree-formed;
         decoded = subst (λ (m : Node). readTree rewritten (length t) t ≡ got (placed m 0) (length t) 1) (sym written-tree) tree-decoded;
-        left = all-left;
-        caused = all-caused;
+        spreads = subst (λ (m : Node). (q : List ℕ) (x : Node) → Stands [] m q x → keepsSpread x ≡ false) (sym written-tree) tree-spreads;
+        left = all-caused;
         told = subst (λ (m : Node). leftover t ≡ restLeft (placed m 0)) (sym written-tree) tree-told;
         is-list = own-list;
         listed = list-fits;
@@ -339,11 +333,11 @@ pub lowered-rewritten : (limit options : ℕ) (tree : List ℕ) (s : Lent) (help
 lowered-rewritten limit options tree s helpers mask t l b e = both-are limit tree t l s b (lowers helpers mask t l limit options tree s e)
 
 -- without causes in the input nothing at all is left, in tree and list
-pub nothing-at-all : {limit : ℕ} {tree t l : List ℕ} (r : LoweredRewritten limit tree t l) → ((s : Cause) → Without s (r .n)) → (part : Part) (m : Node) → Of (resultOf (r .next) (r .n)) part m
+pub nothing-at-all : {limit : ℕ} {tree t l : List ℕ} (r : LoweredRewritten limit tree t l) → ((s : Cause) → Without s (r .n)) → (section : Section) (m : Node) → Of (resultOf (r .next) (r .n)) section m
     → (q : List ℕ) (x : Node) → Stands [] m q x → keeps x ≡ false
-nothing-at-all r h part m o q x s = by-test (keeps x) (λ k. absurd (uncaused (r .caused part m o q x s k))) (λ k. k)
+nothing-at-all r h section m o q x s = by-test (keeps x) (λ k. absurd (uncaused (r .left section m o q x s k))) (λ k. k)
   where
-    uncaused : Caused (r .n) part [] m q x → ⊥
+    uncaused : Caused (r .n) section [] m q x → ⊥
     uncaused (Caused.caused a e u) = occurs-not u (h (causeOf e))
 
 -- the same by the answer: 0 is given for a lowering alone

@@ -20,7 +20,7 @@ use Rattle.lowering.specs.Assignments.{nearest}
 use Rattle.lowering.proofs.Cases.{by-test, by-shape, and-left, and-right, or-other, or-left, shape-34, object-is, array-is, default-is}
 use Rattle.lowering.proofs.All.{AllItems, none-passes}
 use Rattle.lowering.proofs.PartsAt.{item-at}
-use Rattle.result.specs.Left.{keepsRest, Below, isRestField, Part, Exception}
+use Rattle.result.specs.Left.{keepsRest, Below, isRestField, Section, Exception}
 use Rattle.result.proofs.Rows.{covers, at-places, form-4, form-7, form-8, form-10, form-17}
 use Rattle.result.proofs.Lies as lie
 use Rattle.result.specs.Causes.{Cause, lacksValue, shows, causeOf, Without, Caused}
@@ -83,7 +83,7 @@ keeps-back {x = x} {y = y} l k =
 
 -- x, at the path c, is an exception in the tree t, which stands at the path p, and its cause is not barred
 pub data Due (barred : Cause → Type 0) (p : List ℕ) (t : Node) (c : List ℕ) (x : Node) : Type 0 where
-  due : {q : List ℕ} {h : Node} → Stands p t q h → (e : Exception q h c x Part.tree) → (barred (causeOf e) → ⊥) → Due barred p t c x
+  due : {q : List ℕ} {h : Node} → Stands p t q h → (e : Exception q h c x Section.tree) → (barred (causeOf e) → ⊥) → Due barred p t c x
 
 -- in a pattern that was x: reached from it, or further on
 data In (B : Cause → Type 0) (p : List ℕ) (y : Node) (u : List ℕ) (o x : Node) : Type 0 where
@@ -506,10 +506,10 @@ pub rests-remain : {T : Texts} {x y : Node} → Comes x y → (n : ℕ) → Lies
 rests-remain c n l u s k = let v = from-at c n l in outside s (v .left) n (v .lies) (v .calm) u k
 
 -- with every cause of the tree barred that a node n does not have, the causes occur in n
-pub due-caused : {n : Node} {p c : List ℕ} {t x : Node} → Due (λ s. (ofTree s ≡ true) × Without s n) p t c x → Caused n Part.tree p t c x
+pub due-caused : {n : Node} {p c : List ℕ} {t x : Node} → Due (λ s. (ofTree s ≡ true) × Without s n) p t c x → Caused n Section.tree p t c x
 due-caused {n = n} {c = c} {x = x} (Due.due {q = q} {h = h} s e o) = Caused.caused s e (occurs-unless (causeOf e) n (λ w. o (of-tree e, w)))
   where
-    of-tree : (e : Exception q h c x Part.tree) → ofTree (causeOf e) ≡ true
+    of-tree : (e : Exception q h c x Section.tree) → ofTree (causeOf e) ≡ true
     of-tree (Exception.belowArrayRest a b d f) = refl
     of-tree (Exception.restParameter a b d) = refl
     of-tree (Exception.withoutBody a b d f g) = refl

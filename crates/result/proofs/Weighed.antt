@@ -287,6 +287,19 @@ module _ (out : ℕ → ℕ) (kin : Node → ℕ) where
   node-most (mark n) = omega arith
   node-most (number n) = omega arith
 
+  pub at-most : (i : ℕ) (p : Node) → weigh (nodeAt i p) ≤ weigh p
+  unfolding nodeAt
+  at-most i (node at k fs) = let a = node-most (pieceIn fs i) in let b = piece-most fs i in let e = all-most at k fs in omega arith
+
+  pub list-most : (p : Piece) → weighItems (asItems p) ≤ weighPiece p
+  unfolding weigh
+  list-most (one n) = omega arith
+  list-most (list n) = omega arith
+  list-most (text n) = omega arith
+  list-most (byte n) = omega arith
+  list-most (mark n) = omega arith
+  list-most (number n) = omega arith
+
   pub two-most : (fs : Fields) → weighPiece (pieceIn fs 0) + weighPiece (pieceIn fs 1) ≤ weighAll fs
   unfolding weigh pieceIn
   two-most done = omega arith

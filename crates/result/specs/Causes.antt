@@ -9,7 +9,7 @@ use Rattle.lowering.specs.Patterns.{properties, key, hasObjectRest}
 use Rattle.lowering.specs.Keys.{Key, keySort}
 use Rattle.lowering.specs.Visits.{PartAt, Stands}
 use Rattle.lowering.specs.Collect.{nodes}
-use Rattle.result.specs.Left.{keepsRest, keeps, anyOf, Part, Exception}
+use Rattle.result.specs.Left.{keepsRest, keeps, anyOf, Section, Exception}
 
 pub data Cause : Type 0 where
   -- an object rest in a rest parameter
@@ -72,7 +72,7 @@ pub data Occurs (s : Cause) (n : Node) : Type 0 where
   occurs : {x : Node} → Within n x → shows s x ≡ true → Occurs s n
 
 -- the cause of an exception
-abbrev pub causeOf : {a : List ℕ} {h : Node} {c : List ℕ} {x : Node} {part : Part} → Exception a h c x part → Cause
+abbrev pub causeOf : {a : List ℕ} {h : Node} {c : List ℕ} {x : Node} {section : Section} → Exception a h c x section → Cause
 causeOf (Exception.belowArrayRest e s p b) = Cause.arrayRest
 causeOf (Exception.restParameter e p b) = Cause.restParameter
 causeOf (Exception.withoutBody e s q p b) = Cause.withoutBody
@@ -80,6 +80,6 @@ causeOf (Exception.withoutValue e s p b) = Cause.withoutValue
 causeOf (Exception.inKey e p s) = Cause.inKey
 causeOf (Exception.inTemplate e p q z s) = Cause.inTemplate
 
--- x, at the path c, is an exception in t, which stands at the path p and belongs to the part of a result of n, and its cause occurs in n
-pub data Caused (n : Node) (part : Part) (p : List ℕ) (t : Node) (c : List ℕ) (x : Node) : Type 0 where
-  caused : {q : List ℕ} {h : Node} → Stands p t q h → (e : Exception q h c x part) → Occurs (causeOf e) n → Caused n part p t c x
+-- x, at the path c, is an exception in t, which stands at the path p and belongs to the section of a result of n, and its cause occurs in n
+pub data Caused (n : Node) (section : Section) (p : List ℕ) (t : Node) (c : List ℕ) (x : Node) : Type 0 where
+  caused : {q : List ℕ} {h : Node} → Stands p t q h → (e : Exception q h c x section) → Occurs (causeOf e) n → Caused n section p t c x

@@ -40,29 +40,25 @@ pub data Below : Bool → List ℕ → Node → List ℕ → Node → Type 0 whe
 unfoldable pub isRestField : Node → ℕ → Bool
 isRestField h i = (is 14 h && eqb i 4) || (is 17 h && eqb i 1)
 
--- the parts of a result: its tree; of its list, the entries and the excluded keys
-pub data Part : Type 0 where
-  tree entry excluded : Part
+-- the sections of a result: its tree; of its list, the entries and the excluded keys
+pub data Section : Type 0 where
+  tree entry excluded : Section
 
--- Where x, at the path c, may be left in a part, by the node h around it, at the path a: in the tree an object pattern that keeps its rest, in the
--- list, which is not walked, a literal that keeps its spread too. There is no other place (proofs/Lowered)
-pub data Exception (a : List ℕ) (h : Node) (c : List ℕ) (x : Node) : Part → Type 0 where
+-- Where x, at the path c, may be left in a section, by the node h around it, at the path a: in the tree an object pattern that keeps its rest, in
+-- the list, which is not walked, a literal that keeps its spread too. There is no other place (proofs/Lowered)
+pub data Exception (a : List ℕ) (h : Node) (c : List ℕ) (x : Node) : Section → Type 0 where
   -- (a) `var [...{...a}] = b`: below an array rest of a declarator with a value; so are patterns that were moved into one
-  belowArrayRest : {p : Node} {j : ℕ} → is 5 h ≡ true → stands 1 h ≡ true → PartAt h 0 j p → Below true (j ∷ 0 ∷ a) p c x → Exception a h c x Part.tree
+  belowArrayRest : {p : Node} {j : ℕ} → is 5 h ≡ true → stands 1 h ≡ true → PartAt h 0 j p → Below true (j ∷ 0 ∷ a) p c x → Exception a h c x Section.tree
   -- (b) `function (...{...a}) {}`
-  restParameter : {b : Bool} {p : Node} {i j : ℕ} → isRestField h i ≡ true → PartAt h i j p → Below b (j ∷ i ∷ a) p c x → Exception a h c x Part.tree
+  restParameter : {b : Bool} {p : Node} {i j : ℕ} → isRestField h i ≡ true → PartAt h i j p → Below b (j ∷ i ∷ a) p c x → Exception a h c x Section.tree
   -- (c) a function without body
-  withoutBody : {b : Bool} {q p : Node} {i j : ℕ} → is 14 h ≡ true → stands 5 h ≡ false → PartAt h 3 i q → PartAt q 0 j p → Below b (j ∷ 0 ∷ i ∷ 3 ∷ a) p c x → Exception a h c x Part.tree
+  withoutBody : {b : Bool} {q p : Node} {i j : ℕ} → is 14 h ≡ true → stands 5 h ≡ false → PartAt h 3 i q → PartAt q 0 j p → Below b (j ∷ 0 ∷ i ∷ 3 ∷ a) p c x → Exception a h c x Section.tree
   -- (d) `var {...a}`
-  withoutValue : {b : Bool} {p : Node} {j : ℕ} → is 5 h ≡ true → stands 1 h ≡ false → PartAt h 0 j p → Below b (j ∷ 0 ∷ a) p c x → Exception a h c x Part.tree
+  withoutValue : {b : Bool} {p : Node} {j : ℕ} → is 5 h ≡ true → stands 1 h ≡ false → PartAt h 0 j p → Below b (j ∷ 0 ∷ a) p c x → Exception a h c x Section.tree
   -- (e) `({[{...z}]: a, ...r} = s)`: in the value of a key's temporary, a key as it stands in the input
-  inKey : {v : Node} {j : ℕ} → is 5 h ≡ true → PartAt h 1 j v → Stands (j ∷ 1 ∷ a) v c x → Exception a h c x Part.entry
+  inKey : {v : Node} {j : ℕ} → is 5 h ≡ true → PartAt h 1 j v → Stands (j ∷ 1 ∷ a) v c x → Exception a h c x Section.entry
   -- (f) in a Template that is an excluded key; h declares the array of them
-  inTemplate : {v z : Node} {i j : ℕ} → is 5 h ≡ true → PartAt h 1 i v → PartAt v 0 j z → is 23 z ≡ true → Stands (j ∷ 0 ∷ i ∷ 1 ∷ a) z c x → Exception a h c x Part.excluded
-
--- x, at the path c, is one of them in t, which stands at the path p and belongs to the part
-pub data Remains (part : Part) (p : List ℕ) (t : Node) (c : List ℕ) (x : Node) : Type 0 where
-  remains : {q : List ℕ} {h : Node} → Stands p t q h → Exception q h c x part → Remains part p t c x
+  inTemplate : {v z : Node} {i j : ℕ} → is 5 h ≡ true → PartAt h 1 i v → PartAt v 0 j z → is 23 z ≡ true → Stands (j ∷ 0 ∷ i ∷ 1 ∷ a) z c x → Exception a h c x Section.excluded
 
 -- ---- a whole result
 
@@ -72,12 +68,7 @@ pub data EntryHas : List Entry → Node → Type 0 where
   later : {e : Entry} {es : List Entry} {d : Node} → EntryHas es d → EntryHas (e ∷ es) d
 
 -- t is the tree of the result w, a declarator of an entry, or one of excluded keys
-pub data Of (w : Written) : Part → Node → Type 0 where
-  tree : Of w Part.tree (w .tree)
-  entry : {d : Node} → EntryHas (w .entries) d → Of w Part.entry d
-  excluded : {j : ℕ} {d : Node} → ItemAt (w .excluded) j d → Of w Part.excluded d
-
--- nothing is left in a result but these, and no spread in its tree
-pub record NothingLeft (w : Written) : Type 0 where
-  pub spreads : (q : List ℕ) (x : Node) → Stands [] (w .tree) q x → keepsSpread x ≡ false
-  pub others : (part : Part) (t : Node) → Of w part t → (q : List ℕ) (x : Node) → Stands [] t q x → keeps x ≡ true → Remains part [] t q x
+pub data Of (w : Written) : Section → Node → Type 0 where
+  tree : Of w Section.tree (w .tree)
+  entry : {d : Node} → EntryHas (w .entries) d → Of w Section.entry d
+  excluded : {j : ℕ} {d : Node} → ItemAt (w .excluded) j d → Of w Section.excluded d

@@ -19,7 +19,7 @@ use Rattle.printer.specs.Outcome as text
 use Rattle.printer.specs.Outcome.{textTooLong}
 use Rattle.joining.specs.List.{handed, FitHanded}
 use Rattle.joining.specs.Answer.{outcome, answerOf}
-use Rattle.result.specs.Left.{keeps, Part, Of, NothingLeft}
+use Rattle.result.specs.Left.{keepsSpread, keeps, Section, Of}
 use Rattle.result.specs.Causes.{Caused}
 use Rattle.result.specs.Texts.{TextIn, TextInList, Known}
 use Rattle.result.specs.Marks.{copiesMarks, resultMarks, entriesFound}
@@ -30,12 +30,12 @@ use Rattle.result.specs.Leftover.{restLeft, leftover}
 abbrev pub resultOf : ℕ → Node → Written
 resultOf next n = resultBy (ownNames next n) next n
 
--- tree and list t, l of an input: the tree is well formed in the rewritten stage, and read as what the definition has; nothing is left in
--- tree and list but the exceptions, each of which has its cause in the input, and the test for loaders says whether a rest is left in the tree; the
--- list is one; each text is one of the input's, or one of two that the rules put. A value in the list is a key of the input (before temporaries
--- have numbers; the input has none). Each entry's mark is found in the tree. If no key with a mark inside is copied, the marks of tree and list
--- are distinct, and so the tree is a rewritten tree; its text is answered with 0, or 10 for a slice that is too short; and joining takes both: it
--- answers 0, or 7 for a slice or a tree that is too long
+-- tree and list t, l of an input: the tree is well formed in the rewritten stage, and read as what the definition has; it has no spread, what is
+-- left in tree and list is one of the exceptions, with its cause in the input, and the test for loaders says whether a rest is left in the tree;
+-- the list is one; each text is one of the input's, or the string of a number that such a text spells, or one of two that the rules put. A value
+-- in the list is a key of the input (before temporaries have numbers; the input has none). Each entry's mark is found in the tree. If no key with
+-- a mark inside is copied, the marks of tree and list are distinct, and so the tree is a rewritten tree; its text is answered with 0, or with 10
+-- for a slice that is too short; and joining takes both: it answers 0, or 7 for a slice or a tree that is too long
 pub record LoweredRewritten (limit : ℕ) (tree t l : List ℕ) : Type 0 where
   pub n : Node
   pub end : ℕ
@@ -44,8 +44,8 @@ pub record LoweredRewritten (limit : ℕ) (tree t l : List ℕ) : Type 0 where
   pub is-tree : t ≡ encode (resultOf next n .tree)
   pub formed : WellFormed rewritten (depth (resultOf next n .tree)) (resultOf next n .tree) 1
   pub decoded : readTree rewritten (length t) t ≡ got (placed (resultOf next n .tree) 0) (length t) 1
-  pub left : NothingLeft (resultOf next n)
-  pub caused : (part : Part) (m : Node) → Of (resultOf next n) part m → (q : List ℕ) (x : Node) → Stands [] m q x → keeps x ≡ true → Caused n part [] m q x
+  pub spreads : (q : List ℕ) (x : Node) → Stands [] (resultOf next n .tree) q x → keepsSpread x ≡ false
+  pub left : (section : Section) (m : Node) → Of (resultOf next n) section m → (q : List ℕ) (x : Node) → Stands [] m q x → keeps x ≡ true → Caused n section [] m q x
   pub told : leftover t ≡ restLeft (placed (resultOf next n .tree) 0)
   pub is-list : l ≡ listEncoded (resultOf next n .entries) (resultOf next n .excluded)
   pub listed : FitHanded (handed (resultOf next n .entries) (resultOf next n .excluded))
