@@ -1,8 +1,9 @@
 // Measures joining beside lowering: join SECONDS FILE.. with a tree in each file, then the worst trees and lists that were
 // found. Links librest_spread.a and libjoining.a.
-// A line for each tree: its name and length, the lengths of its result and list, how many entries, the least times of a call
-// of the lowering and of the joining in microseconds, by turns. For the worst ones: name, statements, entries, the answer and
-// the least time of joining. Times are the thread's time on the processor.
+// A line for each tree: its name and length, the lengths of its result and list, how many entries, the times of a call of the
+// lowering and of the joining in microseconds, by turns: those that a twentieth of the calls stay below, since the least ones
+// may be faults of the clock. For the worst ones: name, statements, entries, the answer and the least time of joining. Times
+// are the thread's time on the processor.
 #include <stdint.h>
 #include <stdio.h>
 #include <stdlib.h>
@@ -11,10 +12,11 @@
 
 #include "../../c/rest_spread.h"
 
-enum { STATEMENTS = 8000, ENTRIES = 4095 };
+enum { STATEMENTS = 8000, ENTRIES = 4095, CALLS = 100000 };
 
 static uint8_t tree[REST_SPREAD_TREE_IN + 1], out[REST_SPREAD_TREE_OUT], list[REST_SPREAD_LIST_OUT], work[REST_SPREAD_WORK];
 static uint8_t joined[REST_SPREAD_TREE_OUT];
+static uint64_t lowering[CALLS], joining[CALLS];
 
 static uint64_t now(void) {
     struct timespec t;
@@ -32,24 +34,34 @@ static uint64_t least(uint64_t a, uint64_t b) {
     return a < b ? a : b;
 }
 
+static int by_size(const void *a, const void *b) {
+    uint64_t x = *(const uint64_t *)a, y = *(const uint64_t *)b;
+    return (x > y) - (x < y);
+}
+
+static double low(uint64_t *times, size_t n) {
+    qsort(times, n, sizeof *times, by_size);
+    return times[n / 20] / 1e3;
+}
+
 static void measure(const char *path, double seconds) {
     const char *slash = strrchr(path, '/'), *name = slash ? slash + 1 : path;
     FILE *file = fopen(path, "rb");
     if (!file) exit(2);
     size_t len = fread(tree, 1, sizeof tree, file);
     fclose(file);
-    uint64_t lowering = UINT64_MAX, joining = UINT64_MAX;
+    size_t calls = 0;
     struct rest_spread_lowered got;
     struct rest_spread_joined after;
     uint64_t begin = now();
     do {
         uint64_t start = now();
         got = rest_spread_lower(0, tree, len, out, sizeof out, list, sizeof list, work, sizeof work);
-        lowering = least(lowering, now() - start);
-        joining = least(joining, timed_join(got.tree_len, got.list_len, &after));
-    } while (now() - begin < seconds * 1e9);
+        lowering[calls] = now() - start;
+        joining[calls++] = timed_join(got.tree_len, got.list_len, &after);
+    } while (calls < CALLS && now() - begin < seconds * 1e9);
     if (got.answer || after.answer) exit(1);
-    printf("%s %zu %zu %zu %d %.1f %.1f\n", name, len, got.tree_len, got.list_len, list[0] + 256 * list[1], lowering / 1e3, joining / 1e3);
+    printf("%s %zu %zu %zu %d %.1f %.1f\n", name, len, got.tree_len, got.list_len, list[0] + 256 * list[1], low(lowering, calls), low(joining, calls));
 }
 
 static void wide(uint8_t *to, size_t n) {

@@ -14,7 +14,6 @@ use Rattle.tree.specs.Tree.{Node, Items, encode, marks}
 use Rattle.tree.specs.Tree.Node.{node}
 use Rattle.tree.specs.Tree.Fields.{done, field}
 use Rattle.tree.specs.Tree.Piece.{list}
-use Rattle.tree.specs.Grammar.{among}
 use Rattle.tree.specs.Grammar.Stage.{rewritten}
 use Rattle.tree.specs.WellFormed.{Bytes}
 use Rattle.tree.specs.Read.{Got, wideAt, readTree}

@@ -1,8 +1,8 @@
 -- The tour of the tree fills the tables.
 -- Assumes nothing.
-use Prim.Native.Nat.{ℕ, zero, suc, _+_, _-_, _*_, _/_, _%_, _<_, _≤_}
+use Prim.Native.Nat.{ℕ, _+_, _-_, _*_, _/_, _%_, _<_, _≤_}
 use mathlib.Core.Path.{_≡_, refl, sym, ap, _∙_}
-use mathlib.Core.List.{List, [], _∷_, _++_}
+use mathlib.Core.List.{List, [], _∷_}
 use mathlib.Core.Bool.{Bool, true, false}
 use native.Mathlib.Omega.{arith}
 use lib.Dec.{eqb}
@@ -11,7 +11,7 @@ use borrow.Author.Tests.{eq-eqb, ne-eqb}
 use Rattle.tree.specs.Tree.{Node, encode, marks}
 use Rattle.tree.specs.Grammar.{among}
 use Rattle.tree.specs.Grammar.Stage.{rewritten}
-use Rattle.tree.specs.Read.{Got, readTree}
+use Rattle.tree.specs.Read.{readTree}
 use Rattle.tree.specs.Read.Got.{got}
 use Rattle.rewritten.specs.Events.{Event, events}
 use Rattle.rewritten.specs.Pass.{folded}
@@ -27,9 +27,8 @@ use Rattle.rewritten.proofs.Pass.{coming, onward, Inside, tour-of-tree, Rest, r
 use Rattle.rewritten.proofs.Moves.{close-some}
 use Rattle.rewritten.proofs.Reader.{Reading, reading-start, too-long, noted-is, closing-noted, closes, closed-ends, closed-next, ahead-refused, ahead-twice, steps, ahead-falls, ahead-next}
 use Rattle.rewritten.proofs.Marks.{Knows, metAfter, knows-next}
-use Rattle.joining.specs.Tables.{chain}
-use Rattle.joining.specs.Spots.{Spot, spots}
-use Rattle.joining.specs.Files.{In, Shelf, shelf, passedBy, added, Files, Notes, times, Lent, Ready, Collected, Toured}
+use Rattle.joining.specs.Spots.{spots}
+use Rattle.joining.specs.Files.{Shelf, shelf, passedBy, added, Files, Notes, times, Lent, Ready, Collected, Toured}
 use Rattle.joining.specs.declared.bodies.Found.the-variants.{Latest}
 use Rattle.joining.proofs.Tables.{chain-end}
 use Rattle.joining.proofs.Times.{met-times, node-times}
@@ -66,10 +65,10 @@ collecting-start l fs seen a e h b n q k w r c z = rw z (record {
     site = refl;
     stacked = ap (λ (x : ℕ). x ∷ []) (sym (r .root));
     starts = refl;
-    tall = r .deep;
-    lists = r .lists;
-    lasts = r .lasts;
-    firsts = r .firsts;
+    tall = r .lent .deep;
+    lists = r .lent .lists;
+    lasts = r .lent .lasts;
+    firsts = r .lent .firsts;
     last = omega arith;
     low = λ p. rw (r .none p) (omega arith);
     inside = ((λ g. absurd (omega arith), λ g. absurd (omega arith)), tt);
@@ -130,14 +129,17 @@ Cleared l m = (length m ≡ length l) × ((x : ℕ) → getD m x 0 ≡ 0)
 
 pub ready : (frames seen around earlier holds before : List ℕ) → Lent frames seen around earlier holds before → (seen₁ around₁ holds₁ : List ℕ) → Cleared seen seen₁ → Cleared around around₁ → Cleared holds holds₁ → Ready frames seen₁ around₁ earlier holds₁ before
 ready frames seen around earlier holds before n seen₁ around₁ holds₁ s a h = record {
-  enough = n .enough;
+  lent = record {
+    enough = n .enough;
+    marks = rw (s .0) (n .marks);
+    deep = rw (a .0) (n .deep);
+    lists = n .lists;
+    lasts = rw (h .0) (n .lasts);
+    firsts = n .firsts;
+  };
   blank = blank-notes seen₁ (rw (s .0) (n .marks)) (s .1);
-  deep = rw (a .0) (n .deep);
   root = a .1 0;
-  lists = n .lists;
-  lasts = rw (h .0) (n .lasts);
   none = h .1;
-  firsts = n .firsts;
 }
 
 -- ---- the loop

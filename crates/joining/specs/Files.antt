@@ -91,14 +91,10 @@ pub record Lent (frames seen around earlier holds before : List ℕ) : Type 0 wh
 
 -- the tables before it
 pub record Ready (frames seen around earlier holds before : List ℕ) : Type 0 where
-  pub enough : 16384 ≤ length frames
+  pub lent : Lent frames seen around earlier holds before
   pub blank : Notes seen []
-  pub deep : 16385 ≤ length around
   pub root : getD around 0 0 ≡ 0
-  pub lists : 32768 ≤ length earlier
-  pub lasts : 32768 ≤ length holds
   pub none : (p : ℕ) → getD holds p 0 ≡ 0
-  pub firsts : 32768 ≤ length before
 
 -- and after it
 pub record Collected (tree seen earlier holds before : List ℕ) (latest : ℕ) (n : Node) : Type 0 where

@@ -12,6 +12,7 @@ ghost use mathlib.Core.Path.{_≡_};
 ghost use Prim.Native.Nat.{_≤_};
 ghost use lib.ListN.{length, replicate};
 ghost use Rattle.joining.specs.Answer.{Answered};
+ghost use Rattle.joining.specs.Files.{Lent};
 ghost use Rattle.joining.specs.Writing.{Finished};
 
 // Every lent byte 0.
@@ -56,7 +57,7 @@ fn joined(
     more: &mut [u16],
     held: &mut [u16],
 ) -> Joined
-    ensures { λ r. ⌜ (16384 ≤ length (now (frames .entry)) → 65536 ≤ length (now (marks .entry)) → 16385 ≤ length (now (around .entry)) → 32768 ≤ length (now (earlier .entry)) → 32768 ≤ length (now (holds .entry)) → 32768 ≤ length (now (before .entry)) → 16384 ≤ length (now (ends .entry)) → 32768 ≤ length (now (more .entry)) → 32768 ≤ length (now (held .entry)) → Answered (now (tree .entry)) (now (list .entry)) (length (now (out .entry))) (r .answer) (r .«tree_len») (now (out .exit))) ⌝ }
+    ensures { λ r. ⌜ (Lent (now (frames .entry)) (now (marks .entry)) (now (around .entry)) (now (earlier .entry)) (now (holds .entry)) (now (before .entry)) → 16384 ≤ length (now (ends .entry)) → 32768 ≤ length (now (more .entry)) → 32768 ≤ length (now (held .entry)) → Answered (now (tree .entry)) (now (list .entry)) (length (now (out .entry))) (r .answer) (r .«tree_len») (now (out .exit))) ⌝ }
 {
     table::clear(more);
     table::clear(held);

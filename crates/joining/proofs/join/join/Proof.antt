@@ -52,7 +52,15 @@ same-length c = search needs
 
 -- src/join.rt:89:1
 returns : tie.Need-returns
-returns c = c .before .before .before .before .before .before .before .before .before .before .before .joined .ensures (le-of-eq (slice-aggregate-joined (c .before .before .before .before .before .before .before .before .before .before .before .before .before .before .before .before .before .before .before .before))) (le-of-eq (slice-aggregate-joined-2 (c .before .before .before .before .before .before .before .before .before .before .before .before .before .before .before .before .before .before .before))) (le-of-eq (slice-aggregate-joined-3 (c .before .before .before .before .before .before .before .before .before .before .before .before .before .before .before .before .before .before))) (le-of-eq (slice-aggregate-joined-4 (c .before .before .before .before .before .before .before .before .before .before .before .before .before .before .before .before .before))) (le-of-eq (slice-aggregate-joined-5 (c .before .before .before .before .before .before .before .before .before .before .before .before .before .before .before .before))) (le-of-eq (slice-aggregate-joined-6 (c .before .before .before .before .before .before .before .before .before .before .before .before .before .before .before))) (le-of-eq (slice-aggregate-joined-7 (c .before .before .before .before .before .before .before .before .before .before .before .before .before .before))) (le-of-eq (slice-aggregate-joined-8 (c .before .before .before .before .before .before .before .before .before .before .before .before .before))) (le-of-eq (slice-aggregate-joined-9 (c .before .before .before .before .before .before .before .before .before .before .before .before)))
+returns c =
+    c .before .before .before .before .before .before .before .before .before .before .before .joined .ensures (record {
+      enough = le-of-eq (slice-aggregate-joined (c .before .before .before .before .before .before .before .before .before .before .before .before .before .before .before .before .before .before .before .before));
+      marks = le-of-eq (slice-aggregate-joined-2 (c .before .before .before .before .before .before .before .before .before .before .before .before .before .before .before .before .before .before .before));
+      deep = le-of-eq (slice-aggregate-joined-3 (c .before .before .before .before .before .before .before .before .before .before .before .before .before .before .before .before .before .before));
+      lists = le-of-eq (slice-aggregate-joined-4 (c .before .before .before .before .before .before .before .before .before .before .before .before .before .before .before .before .before));
+      lasts = le-of-eq (slice-aggregate-joined-5 (c .before .before .before .before .before .before .before .before .before .before .before .before .before .before .before .before));
+      firsts = le-of-eq (slice-aggregate-joined-6 (c .before .before .before .before .before .before .before .before .before .before .before .before .before .before .before));
+    }) (le-of-eq (slice-aggregate-joined-7 (c .before .before .before .before .before .before .before .before .before .before .before .before .before .before))) (le-of-eq (slice-aggregate-joined-8 (c .before .before .before .before .before .before .before .before .before .before .before .before .before))) (le-of-eq (slice-aggregate-joined-9 (c .before .before .before .before .before .before .before .before .before .before .before .before)))
 
 pub join-spec : {M : Type 1} → statement M
 join-spec =
