@@ -80,7 +80,7 @@ fn fill(tree: &[u8], text: &mut [u8]) -> Spot
 fn finish(text: &mut [u8], spot: Spot) -> Printed
     ensures { λ r. ⌜ ((size : ℕ) (bs : List ℕ) → length (now (text .entry)) ≡ size → bufferIn (now (text .entry)) spot ≡ write (bufferIn (replicate size 0) empty) bs → handed r (now (text .exit)) ≡ fitted size bs) ⌝ }
 {
-    if spot.over {
+    if spot.over == 1 {
         seen::clear(text);
         return Printed {
             answer: TEXT_TOO_LONG,

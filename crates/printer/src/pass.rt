@@ -31,10 +31,7 @@ fn begin() -> State
         rem: 1,
         list: 0,
     };
-    let spot = Spot {
-        len: 0,
-        over: false,
-    };
+    let spot = Spot { len: 0, over: 0 };
     State {
         frame: frame,
         next: 0,
