@@ -138,7 +138,7 @@ module _ (l fs seen : List ℕ) (c : Cursor) (frames : ℕ) (v : Bool) (g : Read
   -- ---- the innermost task is done
 
   module _ (done : isClosed (c .top) ≡ true) where
-    closes : Took l fs fs (coming l fs c) (c .at) (c .deep) (stepClosed fs (c .at) (c .deep) (eqb (c .top % 2) 0))
+    pub closes : Took l fs fs (coming l fs c) (c .at) (c .deep) (stepClosed fs (c .at) (c .deep) (eqb (c .top % 2) 0))
     closes = closed-top l fs (c .at) (c .deep) (c .top) (eqb (c .top % 2) 0) (stepClosed fs (c .at) (c .deep) (eqb (c .top % 2) 0)) done refl refl
 
     pub closed-ends : c .deep ≡ 0 → eqb (c .at) (length l) ≡ v
@@ -165,7 +165,7 @@ module _ (l fs seen : List ℕ) (c : Cursor) (frames : ℕ) (v : Bool) (g : Read
         ahead-twice n = reading-twice l fs (framesFor fs (c .deep) (restOf (c .top)) (what % 16)) seen c frames v g (stepFor l fs (c .at) (c .deep) (restOf (c .top)) (what % 16) (what / 16)) ((look more) .so fs (c .deep)) (eventFor l (c .at) (what % 16) (what / 16)) (cursorFor fs (c .at) (c .deep) (restOf (c .top)) (what % 16) (what / 16)) goes-on b is-new n
 
         module _ (rest : ℕ) (left : rest ≡ restOf (c .top)) (later : List ℕ) (kept : later ≡ framesFor fs (c .deep) rest (what % 16)) (d : Cursor) (went : endFor (c .at) (what % 16) (what / 16) ≤ length l → d ≡ cursorFor fs (c .at) (c .deep) rest (what % 16) (what / 16)) where
-          steps : Took l fs later (coming l fs c) (c .at) (c .deep) (Next (eventFor l (c .at) (what % 16) (what / 16)) d)
+          pub steps : Took l fs later (coming l fs c) (c .at) (c .deep) (Next (eventFor l (c .at) (what % 16) (what / 16)) d)
           steps = next-goes l fs (c .at) (c .deep) (c .top) more what look rest left later kept d went (what % 16) refl stands (eventFor l (c .at) (what % 16) (what / 16)) refl (rw left goes-on)
 
           pub ahead-falls : (length l - d .at) + d .deep < (length l - c .at) + c .deep
