@@ -106,6 +106,15 @@ said b i =
     ∙ sym (write-append b (bytesIn (lowOf i)) (bytesIn (middleOf i) ++ bytesIn (highOf i)))
     ∙ ap (write b) (sym (word-bytes i))
 
+-- no bytes
+pub said-none : (b : Buffer) (i : ℕ) → i ≡ 0 → b ≡ write b (word i)
+unfolding write word words
+said-none b i e = rw e refl
+
+pub said-blank : (b : Buffer) (i : ℕ) → i ≡ 50 → b ≡ write b (word i)
+unfolding write word words
+said-blank b i e = rw e refl
+
 -- ---- parts of the tree
 
 take-none : (n : ℕ) → take {A = ℕ} n [] ≡ []

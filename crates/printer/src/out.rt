@@ -52,10 +52,16 @@ fn put_digits(out: &mut [u8], spot: Spot, digits: usize) -> Spot
     s
 }
 
-// A word by its number.
+// A word by its number. Most that are said are 0 or 50: nothing.
 pub fn say(out: &mut [u8], spot: Spot, id: usize) -> Spot
     ensures { λ r. ⌜ bufferIn (now (out .exit)) r ≡ write (bufferIn (now (out .entry)) spot) (word id) ⌝ }
 {
+    if id == 0 {
+        return spot;
+    }
+    if id == 50 {
+        return spot;
+    }
     let a = put_digits(out, spot, words::low(id));
     let b = put_digits(out, a, words::middle(id));
     put_digits(out, b, words::high(id))
