@@ -52,8 +52,21 @@ fn put_digits(out: &mut [u8], spot: Spot, digits: usize) -> Spot
     s
 }
 
-// A word by its number. Most that are said are 0 or 50: nothing.
+// A word by its number; one of fewer than eight bytes is in the first number.
 pub fn say(out: &mut [u8], spot: Spot, id: usize) -> Spot
+    ensures { λ r. ⌜ bufferIn (now (out .exit)) r ≡ write (bufferIn (now (out .entry)) spot) (word id) ⌝ }
+{
+    let w = words::low(id);
+    let a = put_digits(out, spot, w);
+    if w < 0x100000000000000 {
+        return a;
+    }
+    let b = put_digits(out, a, words::middle(id));
+    put_digits(out, b, words::high(id))
+}
+
+// The same, where most words are 0 or 50, which is nothing: those are not called for.
+pub fn say_any(out: &mut [u8], spot: Spot, id: usize) -> Spot
     ensures { λ r. ⌜ bufferIn (now (out .exit)) r ≡ write (bufferIn (now (out .entry)) spot) (word id) ⌝ }
 {
     if id == 0 {
@@ -62,9 +75,7 @@ pub fn say(out: &mut [u8], spot: Spot, id: usize) -> Spot
     if id == 50 {
         return spot;
     }
-    let a = put_digits(out, spot, words::low(id));
-    let b = put_digits(out, a, words::middle(id));
-    put_digits(out, b, words::high(id))
+    say(out, spot, id)
 }
 
 // Where n bytes from a position on end, or the tree does.
