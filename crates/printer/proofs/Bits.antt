@@ -108,3 +108,29 @@ without-under (suc f) r = rw (without-step f r) (go (eqb r 0) (eqb (r % 2) 0) (w
 pub without-less : (r : ℕ) → without r ≤ r
 unfolding without
 without-less r = without-under r r
+
+-- ---- the first four bits at once
+
+pub lowest-first : (r : ℕ) → r % 2 ≡ 1 → lowest r ≡ 0
+lowest-first r e = lowest-odd r (λ z. absurd (omega (arith, e, z))) (λ z. absurd (omega (arith, e, z)))
+
+pub lowest-second : (r : ℕ) → r % 4 ≡ 2 → lowest r ≡ 1
+lowest-second r e = lowest-even r (λ z. absurd (omega (arith, e, z))) (omega (arith, e)) ∙ ap (λ (x : ℕ). x + 1) (lowest-first (r / 2) (omega (arith, e)))
+
+pub lowest-third : (r : ℕ) → r % 8 ≡ 4 → lowest r ≡ 2
+lowest-third r e = lowest-even r (λ z. absurd (omega (arith, e, z))) (omega (arith, e)) ∙ ap (λ (x : ℕ). x + 1) (lowest-second (r / 2) (omega (arith, e)))
+
+pub lowest-fourth : (r : ℕ) → r % 16 ≡ 8 → lowest r ≡ 3
+lowest-fourth r e = lowest-even r (λ z. absurd (omega (arith, e, z))) (omega (arith, e)) ∙ ap (λ (x : ℕ). x + 1) (lowest-third (r / 2) (omega (arith, e)))
+
+pub without-first : (r : ℕ) → r % 2 ≡ 1 → without r ≡ r - 1
+without-first r e = without-odd r (λ z. absurd (omega (arith, e, z))) (λ z. absurd (omega (arith, e, z)))
+
+pub without-second : (r : ℕ) → r % 4 ≡ 2 → without r ≡ r - 2
+without-second r e = let h : (r / 2 - 1) * 2 ≡ r - 2 = omega (arith, e) in without-even r (λ z. absurd (omega (arith, e, z))) (omega (arith, e)) ∙ ap (λ (x : ℕ). x * 2) (without-first (r / 2) (omega (arith, e))) ∙ h
+
+pub without-third : (r : ℕ) → r % 8 ≡ 4 → without r ≡ r - 4
+without-third r e = let h : (r / 2 - 2) * 2 ≡ r - 4 = omega (arith, e) in without-even r (λ z. absurd (omega (arith, e, z))) (omega (arith, e)) ∙ ap (λ (x : ℕ). x * 2) (without-second (r / 2) (omega (arith, e))) ∙ h
+
+pub without-fourth : (r : ℕ) → r % 16 ≡ 8 → without r ≡ r - 8
+without-fourth r e = let h : (r / 2 - 4) * 2 ≡ r - 8 = omega (arith, e) in without-even r (λ z. absurd (omega (arith, e, z))) (omega (arith, e)) ∙ ap (λ (x : ℕ). x * 2) (without-third (r / 2) (omega (arith, e))) ∙ h

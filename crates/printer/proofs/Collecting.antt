@@ -1,32 +1,24 @@
--- The first pass in code: each step, and its loop.
+-- The first pass in code: what is noted at each step.
 -- Assumes nothing.
 use mathlib.Core.Path.{_≡_, refl, sym, ap, ap₂, subst, _∙_}
 use mathlib.Core.List.{List, [], _∷_, _++_}
 use Prim.Native.Nat.{ℕ, zero, suc, _+_, _-_, _*_, _%_, _<_, _≤_}
 use native.Mathlib.Omega.{arith}
 use native.Mathlib.Numerals.{add-one}
-use lib.ListN.{length, getD, set, take, drop, take-append-drop}
+use lib.Dec.{eqb}
+use lib.ListN.{length, getD, set, take}
+use borrow.Author.Tests.{eq-eqb, ne-eqb}
 use lib.Seq.{getD-set-same, getD-set-other, take-suc-set, length-take-le, set-out}
-use Rattle.tree.specs.Tree.{Node}
-use Rattle.tree.specs.Grammar.Stage.{rewritten}
-use Rattle.tree.specs.Read.{Got, readTree}
-use Rattle.tree.specs.Read.Got.{got}
-use Rattle.rewritten.specs.Events.{Event, events}
-use Rattle.rewritten.specs.Events.Event.{begins, ends, opens, closes}
-use Rattle.rewritten.specs.Pass.{folded}
-use Rattle.rewritten.specs.Steps.{start, eventIn, Stands, Took, Onward}
-use Rattle.rewritten.specs.declared.step.Cursor.{Cursor}
+use Rattle.rewritten.specs.Events.{Event}
+use Rattle.rewritten.specs.Events.Event.{begins, ends}
+use Rattle.rewritten.specs.Look.{eventFor}
+use Rattle.rewritten.specs.Steps.{eventIn, closingIn}
 use Rattle.rewritten.specs.declared.step.Event as told
-use Rattle.rewritten.specs.declared.step.Event.the-variants.{Begins, Ends, Opens, Closes, Hole, Text, Byte, Mark, Number}
-use Rattle.rewritten.specs.declared.step.Step.{Step}
-use Rattle.rewritten.specs.declared.step.Step.the-variants.{Next, Done, Refused, Full}
-use Rattle.rewritten.proofs.Pass.{coming, onward, Inside, frames-suffice, tour-of-tree, Rest, rest-next, rest-done, rest-refused}
 use Rattle.printer.specs.Machine as machine
-use Rattle.printer.specs.Machine.{note, inner, outer, notesNode}
+use Rattle.printer.specs.Machine.{note, inner, outer}
 use Rattle.printer.specs.Turns.{numberAfter}
-use Rattle.printer.specs.Noted.{numbersIn, notedIn, Notable, Marked, Leads}
+use Rattle.printer.specs.Noted.{numbersIn, notedIn, Notable, Marked}
 use Rattle.printer.specs.declared.notes.Noting.{Noting}
-use Rattle.printer.proofs.Noted.{node-noted}
 
 -- ---- steps
 
@@ -107,96 +99,34 @@ byte-none stack notes s i b e h = record {
   under = λ u. u;
 }
 
--- an event by its variant
-module _ (tree stack notes stack' notes' : List ℕ) (s r : Noting) where
-  abbrev MarkedBy : told.Event → Type 0
-  MarkedBy e = Notable stack notes s e → Marked stack' notes' s r (note (notedIn stack notes s) (eventIn tree e)) (numberAfter e (s .number))
-
-  pub as-told : {e d : told.Event} → e ≡ d → MarkedBy d → MarkedBy e
-  as-told {e} {d} w t = subst (λ (x : told.Event). MarkedBy x) (sym w) t
-
 -- what is not noted
-pub passes : (stack notes : List ℕ) (s : Noting) → Marked stack notes s s (notedIn stack notes s) (s .number)
+passes : (stack notes : List ℕ) (s : Noting) → Marked stack notes s s (notedIn stack notes s) (s .number)
 passes stack notes s = record { state = refl; number = refl; under = λ u. u }
 
--- ---- the loop
+-- ---- by what `look` found, and by the end of a task
 
-pub record Collecting (l fs stack notes : List ℕ) (c : Cursor) (s : Noting) (n : Node) (q k : ℕ) : Type 0 where
-  pub frames : 16384 ≤ length fs
-  pub numbers : 16384 ≤ length stack
-  pub bytes : 16384 ≤ length notes
-  pub short : length l ≤ 32768
-  pub left : List Event
-  pub comes : coming l fs c ≡ got left q k
-  pub will : folded note (notedIn stack notes s) left ≡ state [] (notesNode n)
-  pub under : s .level ≤ s .number
-  pub begun : 2 * s .number ≤ c .at
+module _ (l stack notes stack' notes' : List ℕ) (s r : Noting) where
+  abbrev MarkedBy : told.Event → Type 0
+  MarkedBy e = Notable stack notes s e → Marked stack' notes' s r (note (notedIn stack notes s) (eventIn l e)) (numberAfter e (s .number))
 
-pub collecting-start : (l fs stack notes : List ℕ) (n : Node) (q k : ℕ) → readTree rewritten (length l) l ≡ got n q k → 16384 ≤ length fs → 16384 ≤ length stack → 16384 ≤ length notes → (c : Cursor) → c ≡ start → Collecting l fs stack notes c (record { level = 0; number = 0 }) n q k
-unfolding numbersIn
-collecting-start l fs stack notes n q k w a b d c e =
-    let g = tour-of-tree l fs n q k w in
-    rw e (record { frames = a; numbers = b; bytes = d; short = g .0; left = events n; comes = g .1; will = node-noted n [] []; under = omega arith; begun = omega arith })
+  pub as-found : (at code n found : ℕ) → code ≡ found → MarkedBy (eventFor l at found n) → MarkedBy (eventFor l at code n)
+  as-found at code n found w t = subst (λ (x : ℕ). MarkedBy (eventFor l at x n)) (sym w) t
 
-module _ (l fs later stack notes : List ℕ) (c : Cursor) (s : Noting) (size : ℕ) (i : Inside l fs c size) (r : Step) (took : Took l fs later (coming l fs c) (c .at) (c .deep) r) where
-  -- the tour goes on
-  module _ (e : told.Event) (d : Cursor) (w : r ≡ Next e d) where
-    o : Onward l fs later (coming l fs c) (c .at) (c .deep) e d
-    o = onward l fs later c r took e d w
+module _ (l stack notes : List ℕ) (s : Noting) where
+  pub ahead-passes : (at code n : ℕ) → (code ≡ 1 → ⊥) → (code ≡ 5 → ⊥) → Marked stack notes s s (note (notedIn stack notes s) (eventIn l (eventFor l at code n))) (numberAfter (eventFor l at code n) (s .number))
+  unfolding note
+  ahead-passes at zero n a b = passes stack notes s
+  ahead-passes at (suc zero) n a b = absurd (a refl)
+  ahead-passes at (suc (suc zero)) n a b = passes stack notes s
+  ahead-passes at (suc (suc (suc zero))) n a b = passes stack notes s
+  ahead-passes at (suc (suc (suc (suc zero)))) n a b = passes stack notes s
+  ahead-passes at (suc (suc (suc (suc (suc zero))))) n a b = absurd (b refl)
+  ahead-passes at (suc (suc (suc (suc (suc (suc zero)))))) n a b = passes stack notes s
+  ahead-passes at (suc (suc (suc (suc (suc (suc (suc code))))))) n a b = passes stack notes s
 
-    module _ (n : Node) (q k : ℕ) (g : Collecting l fs stack notes c s n q k) where
-      pub notable : Notable stack notes s e
-      notable = go e (o .stands)
-        where
-          go : (e : told.Event) → Stands l (c .at) e (d .at) → Notable stack notes s e
-          go (Begins p kind map) t = let a : d .at ≡ c .at + 2 = t .5 in let b : d .at ≤ length l = o .inside (i .inside) in (omega (arith, g .begun, g .under, g .short, g .numbers), omega (arith, g .begun, g .short, g .bytes))
-          go Ends t = tt
-          go (Opens m) t = tt
-          go Closes t = tt
-          go Hole t = tt
-          go (Text p m) t = tt
-          go (Byte b) t = t .1
-          go (Mark m) t = tt
-          go (Number m) t = tt
+  pub closed-node : (r : Noting) (top : ℕ) → top % 2 ≡ 0 → Marked stack notes s r (note (notedIn stack notes s) ends) (s .number) → Marked stack notes s r (note (notedIn stack notes s) (eventIn l (closingIn (eqb (top % 2) 0)))) (numberAfter (closingIn (eqb (top % 2) 0)) (s .number))
+  closed-node r top e m = rw (eq-eqb (top % 2) 0 e) m
 
-      begun-more : (e : told.Event) → Stands l (c .at) e (d .at) → 2 * numberAfter e (s .number) ≤ d .at
-      begun-more (Begins p kind map) t = let a : d .at ≡ c .at + 2 = t .5 in omega (arith, g .begun)
-      begun-more Ends t = let a : d .at ≡ c .at = t in omega (arith, g .begun)
-      begun-more (Opens m) t = let a : d .at ≡ c .at + 2 = t .2 in omega (arith, g .begun)
-      begun-more Closes t = let a : d .at ≡ c .at = t in omega (arith, g .begun)
-      begun-more Hole t = let a : d .at ≡ c .at + 1 = t .1 in omega (arith, g .begun)
-      begun-more (Text p m) t = let a : d .at ≡ p + m = t .3 in let b : p ≡ c .at + 2 = t .0 in omega (arith, g .begun)
-      begun-more (Byte b) t = let a : d .at ≡ c .at + 1 = t .2 in omega (arith, g .begun)
-      begun-more (Mark m) t = let a : d .at ≡ c .at + 2 = t .2 in omega (arith, g .begun)
-      begun-more (Number m) t = let a : d .at ≡ c .at + 2 = t .2 in omega (arith, g .begun)
-
-      pub collecting-next : (stack' notes' : List ℕ) (t : Noting) → length later ≡ length fs → length stack' ≡ length stack → length notes' ≡ length notes → Marked stack' notes' s t (note (notedIn stack notes s) (eventIn l e)) (numberAfter e (s .number)) → Collecting l later stack' notes' d t n q k
-      unfolding folded
-      collecting-next stack' notes' t a b f m =
-          let u = rest-next l fs later c (g .left) q k (g .comes) e d o in
-          record {
-            frames = rw a (g .frames);
-            numbers = rw b (g .numbers);
-            bytes = rw f (g .bytes);
-            short = g .short;
-            left = u .rest;
-            comes = u .comes;
-            will = ap (λ (z : machine.Noting). folded note z (u .rest)) (m .state) ∙ sym (ap (folded note (notedIn stack notes s)) (u .is)) ∙ g .will;
-            under = m .under (g .under);
-            begun = rw (m .number) (begun-more e (o .stands));
-          }
-
-  module _ (n : Node) (q k : ℕ) (g : Collecting l fs stack notes c s n q k) where
-    pub collecting-done : r ≡ Done → Leads notes (notesNode n)
-    unfolding folded
-    collecting-done w =
-        let z : g .left ≡ [] = rest-done l fs later c (g .left) q k (g .comes) r took w in
-        let y : notedIn stack notes s ≡ state [] (notesNode n) = sym (ap (folded note (notedIn stack notes s)) z) ∙ g .will in
-        let x : take (s .number) notes ≡ notesNode n = ap (λ (t : machine.Noting). t .bytes) y in
-        record { rest = drop (s .number) notes; is = sym (take-append-drop (s .number) notes) ∙ ap (λ (t : List ℕ). t ++ drop (s .number) notes) x }
-
-    pub collecting-refused : r ≡ Refused → ⊥
-    collecting-refused w = rest-refused l fs later c (g .left) q k (g .comes) r took w
-
-    pub collecting-full : r ≡ Full → ⊥
-    collecting-full w = frames-suffice l fs later c size i r took w (g .short) (rw (sym (i .size)) (g .frames))
+  pub closed-list : (top : ℕ) → (top % 2 ≡ 0 → ⊥) → Marked stack notes s s (note (notedIn stack notes s) (eventIn l (closingIn (eqb (top % 2) 0)))) (numberAfter (closingIn (eqb (top % 2) 0)) (s .number))
+  unfolding note
+  closed-list top e = rw (ne-eqb (top % 2) 0 e) (passes stack notes s)

@@ -7,7 +7,7 @@ use Prim.Native.Nat.{ℕ, zero, suc, _+_, _-_, _<_, _≤_}
 use native.Mathlib.Omega.{arith}
 use native.Mathlib.Decide.{decLt}
 use native.Mathlib.Numerals.{add-one}
-use lib.Dec.{leb, ltb}
+use lib.Dec.{eqb, leb, ltb}
 use lib.ListN.{length, getD, set, drop, replicate, length-set, length-replicate, getD-replicate}
 use lib.Seq.{ext-getD, sets, sets-eq}
 use borrow.Author.Tests.{lt-ltb, le-ltb, le-leb, lt-leb}
@@ -77,10 +77,10 @@ module _ (text : List ℕ) (spot : Spot) (size : ℕ) (bs : List ℕ) (s : lengt
       ∙ write-fits bs (replicate size 0) 0 (omega (arith, length-replicate {A = ℕ} size 0))
       ∙ ap₂ (λ (y : List ℕ) (z : ℕ). buffer y z false) (sets-eq bs (replicate size 0) 0 (omega (arith, length-replicate {A = ℕ} size 0)) ∙ (let e : 0 + length bs ≡ length bs = omega arith in ap (λ (k : ℕ). bs ++ drop k (replicate size 0)) e ∙ ap (λ (y : List ℕ). bs ++ y) (drop-zeros (length bs) size))) (let e : 0 + length bs ≡ length bs = omega arith in e)
 
-  long : size < length bs → spot .over ≡ true
+  long : size < length bs → eqb (spot .over) 1 ≡ true
   long h = ap (λ (b : Buffer). b .over) w ∙ write-long bs (replicate size 0) 0 (omega arith) (omega (arith, length-replicate {A = ℕ} size 0))
 
-  pub finish-fits : spot .over ≡ false → record { answer = 0; long = spot .len; bytes = text } ≡ fitted size bs
+  pub finish-fits : eqb (spot .over) 1 ≡ false → record { answer = 0; long = spot .len; bytes = text } ≡ fitted size bs
   unfolding fitted
   finish-fits f = elim (decLt size (length bs)) [
     | yes h ↦ never (sym f ∙ long h)
@@ -90,7 +90,7 @@ module _ (text : List ℕ) (spot : Spot) (size : ℕ) (bs : List ℕ) (s : lengt
         ap₂ (λ (l : List ℕ) (n : ℕ). record { answer = 0; long = n; bytes = l }) (ap (λ (b : Buffer). b .bytes) e) (ap (λ (b : Buffer). b .len) e))
   ]
 
-  pub finish-over : (after : List ℕ) → spot .over ≡ true → length after ≡ length text → ((x : ℕ) → getD after x 0 ≡ 0) → record { answer = 10; long = 0; bytes = after } ≡ fitted size bs
+  pub finish-over : (after : List ℕ) → eqb (spot .over) 1 ≡ true → length after ≡ length text → ((x : ℕ) → getD after x 0 ≡ 0) → record { answer = 10; long = 0; bytes = after } ≡ fitted size bs
   unfolding fitted refusal
   finish-over after t e z = elim (decLt size (length bs)) [
     | yes h ↦ rw (lt-leb (length bs) size h) (ap (λ (l : List ℕ). record { answer = 10; long = 0; bytes = l }) (all-zero text after e z ∙ ap (λ (k : ℕ). replicate {A = ℕ} k 0) s))

@@ -1,31 +1,25 @@
 -- The second pass in code: its loop.
 -- Assumes nothing.
 use mathlib.Core.Path.{_≡_, refl, sym, ap, _∙_}
-use mathlib.Core.List.{List, [], _∷_, _++_, append-assoc, append-nil}
+use mathlib.Core.List.{List, [], _∷_, _++_, append-nil}
 use Prim.Native.Nat.{ℕ, zero, suc, _+_, _-_, _*_, _<_, _≤_}
 use native.Mathlib.Omega.{arith}
+use native.Mathlib.Numerals.{add-one}
 use lib.ListN.{length}
 use Rattle.tree.specs.Tree.{Node}
-use Rattle.tree.specs.Grammar.Stage.{rewritten}
-use Rattle.tree.specs.Read.{Got, readTree}
-use Rattle.tree.specs.Read.Got.{got}
 use Rattle.rewritten.specs.Events.{Event, events}
 use Rattle.rewritten.specs.Events.Event.{begins, ends, opens, closes}
 use Rattle.rewritten.specs.Pass.{folded}
-use Rattle.rewritten.specs.Steps as steps
-use Rattle.rewritten.specs.Steps.{eventIn, deepAfter, Stands, Took, Onward}
-use Rattle.rewritten.specs.declared.step.Cursor.{Cursor}
+use Rattle.rewritten.specs.Steps.{eventIn, deepAfter}
 use Rattle.rewritten.specs.declared.step.Event as told
 use Rattle.rewritten.specs.declared.step.Event.the-variants.{Begins, Ends, Opens, Closes, Hole, Text, Byte, Mark, Number}
-use Rattle.rewritten.specs.declared.step.Step.{Step}
-use Rattle.rewritten.specs.declared.step.Step.the-variants.{Next, Done, Refused, Full}
-use Rattle.rewritten.proofs.Pass.{coming, onward, Inside, inside-start, frames-suffice, tour-of-tree, rest-next, rest-done, rest-refused}
 use Rattle.printer.specs.Text.{textOf}
-use Rattle.printer.specs.Machine.{Printing, print, notesNode}
-use Rattle.printer.specs.Noted.{Leads}
+use Rattle.printer.specs.Machine.{Printing, print}
+use Rattle.printer.specs.Logged.{toldAt, eventsTo, deepTo, bytesOf, bytesTo, Allowed, Sound, Logged}
 use Rattle.printer.specs.Stacks.{opensIn, heldIn, Buffer, write, bufferIn}
 use Rattle.printer.specs.Turns.{stateIn, unwritten, start, empty, Small, Ready, numberAfter, countAfter, Turned}
 use Rattle.printer.specs.declared.print.State.{State}
+use Rattle.printer.proofs.Noted.{folded-append}
 use Rattle.printer.proofs.Fold.{at, text-led}
 use Rattle.printer.proofs.Written.{write-append}
 
@@ -55,134 +49,133 @@ step-rest t (Event.byte b) = refl
 step-rest t (Event.mark n) = refl
 step-rest t (Event.number n) = refl
 
-out-split : (es : List Event) (t : Printing) → (folded print t es) .out ≡ t .out ++ (folded print (unwritten t) es) .out
-unfolding folded
-out-split [] t = sym (append-nil (t .out))
-out-split (e ∷ es) t =
-    out-split es (print t e)
-    ∙ ap (λ (o : List ℕ). o ++ (folded print (unwritten (print t e)) es) .out) (step-out t e)
-    ∙ append-assoc (t .out) ((print (unwritten t) e) .out) ((folded print (unwritten (print t e)) es) .out)
-    ∙ ap (λ (u : Printing). t .out ++ ((print (unwritten t) e) .out ++ (folded print u es) .out)) (step-rest t e)
-    ∙ ap (λ (o : List ℕ). t .out ++ o) (sym (out-split es (print (unwritten t) e)))
-
 -- ---- the loop
 
--- where a tour starts it is inside
-pub pass-start : (l fs : List ℕ) (c : Cursor) → c ≡ steps.start → Inside l fs c (length fs)
-pass-start l fs c e = rw e (inside-start l fs)
+-- the state of the pass after the first i entries
+unfoldable pub ran : List ℕ → List ℕ → List ℕ → ℕ → Printing
+ran l notes log i = folded print (at (start .frame) 0 [] notes [] []) (eventsTo l log i)
 
-pub record Going (l notes fs stack starts sizes text : List ℕ) (c : Cursor) (s : State) (v : Buffer) (q k : ℕ) : Type 0 where
+ran-next : (l notes log : List ℕ) (i : ℕ) (e : told.Event) → e ≡ toldAt l log i → ran l notes log (suc i) ≡ print (ran l notes log i) (eventIn l e)
+unfolding ran folded eventsTo
+ran-next l notes log i e w =
+    folded-append print (at (start .frame) 0 [] notes [] []) (eventsTo l log i) (eventIn l (toldAt l log i) ∷ [])
+    ∙ ap (λ (x : told.Event). print (folded print (at (start .frame) 0 [] notes [] []) (eventsTo l log i)) (eventIn l x)) (sym w)
+
+pub record Going (l notes log stack starts sizes text₀ text : List ℕ) (s : State) (i : ℕ) : Type 0 where
   pub bytes : 16384 ≤ length notes
-  pub frames : 16384 ≤ length fs
   pub room : 16384 ≤ length stack
   pub quasis : 16384 ≤ length starts
   pub lengths : 16384 ≤ length sizes
-  pub short : length l ≤ 32768
-  pub left : List Event
-  pub comes : coming l fs c ≡ got left q k
-  pub will : write (bufferIn text (s .spot)) ((folded print (stateIn l notes stack starts sizes s) left) .out) ≡ v
+  pub state : stateIn l notes stack starts sizes s ≡ unwritten (ran l notes log i)
+  pub wrote : bufferIn text (s .spot) ≡ write (bufferIn text₀ empty) ((ran l notes log i) .out)
   pub small : Small (s .frame) (s .next)
-  pub level : s .level ≡ c .deep
-  pub held : 2 * (s .count + s .level) ≤ c .at
-  pub begun : 2 * s .number ≤ c .at
+  pub level : s .level ≡ deepTo l log i
+  pub held : 2 * (s .count + s .level) ≤ bytesTo l log i
+  pub begun : 2 * s .number ≤ bytesTo l log i
 
-pub going-start : (l notes fs stack starts sizes text : List ℕ) (n : Node) (q k : ℕ) → readTree rewritten (length l) l ≡ got n q k → Leads notes (notesNode n) → 16384 ≤ length notes → 16384 ≤ length fs → 16384 ≤ length stack → 16384 ≤ length starts → 16384 ≤ length sizes → (c : Cursor) → c ≡ steps.start → (s : State) → s ≡ start → Going l notes fs stack starts sizes text c s (write (bufferIn text empty) (textOf n)) q k
-unfolding opensIn heldIn
-going-start l notes fs stack starts sizes text n q k w h a b d f g c e s z =
-    let t = tour-of-tree l fs n q k w in
-    rw (e, z) (record {
-      bytes = a;
-      frames = b;
-      room = d;
-      quasis = f;
-      lengths = g;
-      short = t .0;
-      left = events n;
-      comes = t .1;
-      will = ap (write (bufferIn text empty)) (ap (λ (ns : List ℕ). (folded print (at (start .frame) 0 [] ns [] []) (events n)) .out) (h .is) ∙ text-led n (h .rest));
-      small = record { kind = omega arith; map = omega arith; note = omega arith; how = omega arith; seen = omega arith; rem = omega arith; list = omega arith; next = omega arith };
-      level = refl;
-      held = omega arith;
-      begun = omega arith;
-    })
+pub going-start : (l notes log stack starts sizes text : List ℕ) → 16384 ≤ length notes → 16384 ≤ length stack → 16384 ≤ length starts → 16384 ≤ length sizes → (s : State) → s ≡ start → Going l notes log stack starts sizes text text s 0
+unfolding opensIn heldIn ran folded eventsTo write deepTo bytesTo
+going-start l notes log stack starts sizes text a d f g s z = rw z (record {
+  bytes = a;
+  room = d;
+  quasis = f;
+  lengths = g;
+  state = refl;
+  wrote = refl;
+  small = record { kind = omega arith; map = omega arith; note = omega arith; how = omega arith; seen = omega arith; rem = omega arith; list = omega arith; next = omega arith };
+  level = refl;
+  held = omega arith;
+  begun = omega arith;
+})
 
-module _ (l notes fs later stack starts sizes text : List ℕ) (c : Cursor) (s : State) (v : Buffer) (q k : ℕ) (size : ℕ) (i : Inside l fs c size) (r : Step) (took : Took l fs later (coming l fs c) (c .at) (c .deep) r) (g : Going l notes fs stack starts sizes text c s v q k) where
-  module _ (e : told.Event) (d : Cursor) (w : r ≡ Next e d) where
-    o : Onward l fs later (coming l fs c) (c .at) (c .deep) e d
-    o = onward l fs later c r took e d w
+module _ (l notes log stack starts sizes text₀ text : List ℕ) (s : State) (i : ℕ) (g : Going l notes log stack starts sizes text₀ text s i) (h : Sound l log i) (e : told.Event) (w : e ≡ toldAt l log i) where
+  least : bytesTo l log i + bytesOf e ≤ 32768
+  unfolding bytesTo
+  least = rw w (h .within)
 
-    pub few-held : s .count < 65536
-    few-held = omega (arith, g .held, g .short, i .inside)
+  pub few-held : s .count < 65536
+  few-held = omega (arith, g .held, least)
 
-    pub ready : Ready notes stack starts sizes s e
-    ready = go e (o .stands) (o .level)
-      where
-        go : (e : told.Event) → Stands l (c .at) e (d .at) → d .deep ≡ deepAfter e (c .deep) → Ready notes stack starts sizes s e
-        go (Begins p kind map) t m = let a : d .at ≡ c .at + 2 = t .5 in let b : d .at ≤ length l = o .inside (i .inside) in (t .3, t .4, omega (arith, g .held, g .short, g .room), omega (arith, g .begun, g .short, g .bytes))
-        go Ends t m = let a : d .at ≡ c .at = t in let f = o .falls (i .inside) in omega (arith, g .level, f)
-        go (Opens x) t m = let a : d .at ≡ c .at + 2 = t .2 in let b : d .at ≤ length l = o .inside (i .inside) in omega (arith, g .held, g .short, g .room)
-        go Closes t m = let a : d .at ≡ c .at = t in let f = o .falls (i .inside) in let b : 0 < s .level = omega (arith, g .level, f) in let h : s .count < 16384 = omega (arith, g .held, g .short, i .inside) in (b, omega (arith, g .quasis), omega (arith, g .lengths))
-        go Hole t m = tt
-        go (Text p x) t m = let a : d .at ≡ p + x = t .3 in let y : p ≡ c .at + 2 = t .0 in let b : d .at ≤ length l = o .inside (i .inside) in let h : s .count < 16384 = omega (arith, g .held, g .short) in (omega (arith, g .quasis), omega (arith, g .lengths))
-        go (Byte b) t m = tt
-        go (Mark x) t m = tt
-        go (Number x) t m = tt
+  pub ready : Ready notes stack starts sizes s e
+  ready = go e (rw w (h .allowed)) least
+    where
+      go : (e : told.Event) → Allowed e (deepTo l log i) → bytesTo l log i + bytesOf e ≤ 32768 → Ready notes stack starts sizes s e
+      go (Begins p kind map) t m = (t .0, t .1, omega (arith, g .held, g .room, m), omega (arith, g .begun, g .bytes, m))
+      go Ends t m = omega (arith, g .level, t)
+      go (Opens x) t m = omega (arith, g .held, g .room, m)
+      go Closes t m =
+          let b : 0 < s .level = omega (arith, g .level, t) in
+          let c : s .count < 16384 = omega (arith, g .held, b, m) in
+          (b, omega (arith, c, g .quasis), omega (arith, c, g .lengths))
+      go Hole t m = tt
+      go (Text p x) t m = let c : s .count < 16384 = omega (arith, g .held, m) in (omega (arith, c, g .quasis), omega (arith, c, g .lengths))
+      go (Byte b) t m = tt
+      go (Mark x) t m = tt
+      go (Number x) t m = tt
 
-    goes-held : (e : told.Event) → Stands l (c .at) e (d .at) → Ready notes stack starts sizes s e → 2 * (countAfter e (s .count) + deepAfter e (s .level)) ≤ d .at
-    goes-held (Begins p kind map) t h = let a : d .at ≡ c .at + 2 = t .5 in omega (arith, g .held)
-    goes-held Ends t h = let a : d .at ≡ c .at = t in omega (arith, g .held)
-    goes-held (Opens x) t h = let a : d .at ≡ c .at + 2 = t .2 in omega (arith, g .held)
-    goes-held Closes t h = let a : d .at ≡ c .at = t in omega (arith, g .held, h .0)
-    goes-held Hole t h = let a : d .at ≡ c .at + 1 = t .1 in omega (arith, g .held)
-    goes-held (Text p x) t h = let a : d .at ≡ p + x = t .3 in let y : p ≡ c .at + 2 = t .0 in omega (arith, g .held)
-    goes-held (Byte b) t h = let a : d .at ≡ c .at + 1 = t .2 in omega (arith, g .held)
-    goes-held (Mark x) t h = let a : d .at ≡ c .at + 2 = t .2 in omega (arith, g .held)
-    goes-held (Number x) t h = let a : d .at ≡ c .at + 2 = t .2 in omega (arith, g .held)
+  goes-held : (e : told.Event) → Ready notes stack starts sizes s e → 2 * (countAfter e (s .count) + deepAfter e (s .level)) ≤ bytesTo l log i + bytesOf e
+  goes-held (Begins p kind map) r = omega (arith, g .held)
+  goes-held Ends r = omega (arith, g .held)
+  goes-held (Opens x) r = omega (arith, g .held)
+  goes-held Closes r = omega (arith, g .held, r .0)
+  goes-held Hole r = omega (arith, g .held)
+  goes-held (Text p x) r = omega (arith, g .held)
+  goes-held (Byte b) r = omega (arith, g .held)
+  goes-held (Mark x) r = omega (arith, g .held)
+  goes-held (Number x) r = omega (arith, g .held)
 
-    goes-begun : (e : told.Event) → Stands l (c .at) e (d .at) → 2 * numberAfter e (s .number) ≤ d .at
-    goes-begun (Begins p kind map) t = let a : d .at ≡ c .at + 2 = t .5 in omega (arith, g .begun)
-    goes-begun Ends t = let a : d .at ≡ c .at = t in omega (arith, g .begun)
-    goes-begun (Opens x) t = let a : d .at ≡ c .at + 2 = t .2 in omega (arith, g .begun)
-    goes-begun Closes t = let a : d .at ≡ c .at = t in omega (arith, g .begun)
-    goes-begun Hole t = let a : d .at ≡ c .at + 1 = t .1 in omega (arith, g .begun)
-    goes-begun (Text p x) t = let a : d .at ≡ p + x = t .3 in let y : p ≡ c .at + 2 = t .0 in omega (arith, g .begun)
-    goes-begun (Byte b) t = let a : d .at ≡ c .at + 1 = t .2 in omega (arith, g .begun)
-    goes-begun (Mark x) t = let a : d .at ≡ c .at + 2 = t .2 in omega (arith, g .begun)
-    goes-begun (Number x) t = let a : d .at ≡ c .at + 2 = t .2 in omega (arith, g .begun)
+  goes-begun : (e : told.Event) → 2 * numberAfter e (s .number) ≤ bytesTo l log i + bytesOf e
+  goes-begun (Begins p kind map) = omega (arith, g .begun)
+  goes-begun Ends = omega (arith, g .begun)
+  goes-begun (Opens x) = omega (arith, g .begun)
+  goes-begun Closes = omega (arith, g .begun)
+  goes-begun Hole = omega (arith, g .begun)
+  goes-begun (Text p x) = omega (arith, g .begun)
+  goes-begun (Byte b) = omega (arith, g .begun)
+  goes-begun (Mark x) = omega (arith, g .begun)
+  goes-begun (Number x) = omega (arith, g .begun)
 
-    pub going-next : (stack' starts' sizes' text' : List ℕ) (u : State) → length later ≡ length fs → length stack' ≡ length stack → length starts' ≡ length starts → length sizes' ≡ length sizes → Turned l notes stack' starts' sizes' (bufferIn text (s .spot)) (bufferIn text' (u .spot)) u (print (stateIn l notes stack starts sizes s) (eventIn l e)) (deepAfter e (s .level)) (numberAfter e (s .number)) (countAfter e (s .count)) → Going l notes later stack' starts' sizes' text' d u v q k
-    unfolding folded
-    going-next stack' starts' sizes' text' u a b f h m =
-        let z = rest-next l fs later c (g .left) q k (g .comes) e d o in
-        let p : Printing = print (stateIn l notes stack starts sizes s) (eventIn l e) in
-        record {
-          bytes = g .bytes;
-          frames = rw a (g .frames);
-          room = rw b (g .room);
-          quasis = rw f (g .quasis);
-          lengths = rw h (g .lengths);
-          short = g .short;
-          left = z .rest;
-          comes = z .comes;
-          will =
-              ap (λ (x : Printing). write (bufferIn text' (u .spot)) ((folded print x (z .rest)) .out)) (m .state)
-              ∙ ap (λ (x : Buffer). write x ((folded print (unwritten p) (z .rest)) .out)) (m .wrote)
-              ∙ sym (write-append (bufferIn text (s .spot)) (p .out) ((folded print (unwritten p) (z .rest)) .out))
-              ∙ ap (write (bufferIn text (s .spot))) (sym (out-split (z .rest) p))
-              ∙ sym (ap (λ (es : List Event). write (bufferIn text (s .spot)) ((folded print (stateIn l notes stack starts sizes s) es) .out)) (z .is))
-              ∙ g .will;
-          small = m .small;
-          level = m .level ∙ ap (deepAfter e) (g .level) ∙ sym (o .level);
-          held = let x : 2 * (countAfter e (s .count) + deepAfter e (s .level)) ≤ d .at = goes-held e (o .stands) ready in omega (arith, m .count, m .level);
-          begun = rw (m .number) (goes-begun e (o .stands));
-        }
+  bytes-next : bytesTo l log (suc i) ≡ bytesTo l log i + bytesOf e
+  unfolding bytesTo
+  bytes-next = ap (λ (x : told.Event). bytesTo l log i + bytesOf x) (sym w)
 
-  pub going-done : r ≡ Done → bufferIn text (s .spot) ≡ v
-  unfolding folded write
-  going-done w = ap (λ (es : List Event). write (bufferIn text (s .spot)) ((folded print (stateIn l notes stack starts sizes s) es) .out)) (sym (rest-done l fs later c (g .left) q k (g .comes) r took w)) ∙ g .will
+  deep-next : deepTo l log (suc i) ≡ deepAfter e (deepTo l log i)
+  unfolding deepTo
+  deep-next = ap (λ (x : told.Event). deepAfter x (deepTo l log i)) (sym w)
 
-  pub going-refused : r ≡ Refused → ⊥
-  going-refused w = rest-refused l fs later c (g .left) q k (g .comes) r took w
+  pub going-next : (stack' starts' sizes' text' : List ℕ) (u : State) → length stack' ≡ length stack → length starts' ≡ length starts → length sizes' ≡ length sizes → Turned l notes stack' starts' sizes' (bufferIn text (s .spot)) (bufferIn text' (u .spot)) u (print (stateIn l notes stack starts sizes s) (eventIn l e)) (deepAfter e (s .level)) (numberAfter e (s .number)) (countAfter e (s .count)) → Going l notes log stack' starts' sizes' text₀ text' u (i + 1)
+  going-next stack' starts' sizes' text' u b f h m =
+      let r : Printing = ran l notes log i in
+      let n : ran l notes log (suc i) ≡ print r (eventIn l e) = ran-next l notes log i e w in
+      rw (add-one i) (record {
+        bytes = g .bytes;
+        room = rw b (g .room);
+        quasis = rw f (g .quasis);
+        lengths = rw h (g .lengths);
+        state =
+            m .state
+            ∙ ap (λ (x : Printing). unwritten (print x (eventIn l e))) (g .state)
+            ∙ sym (step-rest r (eventIn l e))
+            ∙ sym (ap (λ (x : Printing). unwritten x) n);
+        wrote =
+            m .wrote
+            ∙ ap (λ (x : Printing). write (bufferIn text (s .spot)) ((print x (eventIn l e)) .out)) (g .state)
+            ∙ ap (λ (x : Buffer). write x ((print (unwritten r) (eventIn l e)) .out)) (g .wrote)
+            ∙ sym (write-append (bufferIn text₀ empty) (r .out) ((print (unwritten r) (eventIn l e)) .out))
+            ∙ ap (write (bufferIn text₀ empty)) (sym (step-out r (eventIn l e)))
+            ∙ sym (ap (λ (x : Printing). write (bufferIn text₀ empty) (x .out)) n);
+        small = m .small;
+        level = m .level ∙ ap (deepAfter e) (g .level) ∙ sym deep-next;
+        held = let x : 2 * (countAfter e (s .count) + deepAfter e (s .level)) ≤ bytesTo l log i + bytesOf e = goes-held e ready in omega (arith, x, m .count, m .level, bytes-next);
+        begun = let x : 2 * numberAfter e (s .number) ≤ bytesTo l log i + bytesOf e = goes-begun e in omega (arith, x, m .number, bytes-next);
+      })
 
-  pub going-full : r ≡ Full → ⊥
-  going-full w = frames-suffice l fs later c size i r took w (g .short) (rw (sym (i .size)) (g .frames))
+pub going-done : (l notes log stack starts sizes text₀ text : List ℕ) (s : State) (i count : ℕ) → Going l notes log stack starts sizes text₀ text s i → i ≡ count → (t : Node) → Logged l notes log count t → bufferIn text (s .spot) ≡ write (bufferIn text₀ empty) (textOf t)
+unfolding ran
+going-done l notes log stack starts sizes text₀ text s i count g e t w =
+    g .wrote
+    ∙ ap (write (bufferIn text₀ empty))
+    (ap (λ (j : ℕ). (folded print (at (start .frame) 0 [] notes [] []) (eventsTo l log j)) .out) e
+    ∙ ap (λ (es : List Event). (folded print (at (start .frame) 0 [] notes [] []) es) .out) (w .events)
+    ∙ ap (λ (ns : List ℕ). (folded print (at (start .frame) 0 [] ns [] []) (events t)) .out) (w .bytes .is)
+    ∙ text-led t (w .bytes .rest))

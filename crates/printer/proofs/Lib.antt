@@ -7,6 +7,8 @@ pub mod Written
 pub mod Named
 pub mod Held
 pub mod Collecting
+pub mod Logging
+pub mod Recording
 pub mod Turning
 pub mod Going
 pub mod Entry

@@ -11,6 +11,7 @@ use lib.Dec.{T, eqb, ltb, eqb→eq}
 use lib.ListN.{length, getD, take, drop, drop-of-length-le, length-drop}
 use lib.Seq.{drop-cons}
 use borrow.Author.Tests.{eq-eqb, ne-eqb, lt-ltb, le-ltb}
+use Rattle.tree.proofs.Sound.{never}
 use Rattle.tree.proofs.Table.{both, both-left, both-right, below, below-at}
 use Rattle.printer.specs.Layout.{words, word}
 use Rattle.printer.specs.Names.{hexDigit, needsEscape, escapedByte, escaped, inQuotes, decimalFrom, decimal}
@@ -105,6 +106,37 @@ said b i =
     sym (write-append (write b (bytesIn (lowOf i))) (bytesIn (middleOf i)) (bytesIn (highOf i)))
     ∙ sym (write-append b (bytesIn (lowOf i)) (bytesIn (middleOf i) ++ bytesIn (highOf i)))
     ∙ ap (write b) (sym (word-bytes i))
+
+-- fewer than eight bytes
+shortRight : ℕ → Bool
+shortRight i = cond (ltb (lowOf i) 72057594037927936) (sameList (word i) (bytesIn (lowOf i))) true
+
+shorts-right : T (below 94 shortRight)
+unfolding shortRight sameList word words bytesIn bytesFrom lowOf packed
+shorts-right = tt
+
+chosen-one : (b x : Bool) → b ≡ true → T (cond b x true) → T x
+chosen-one true x e t = t
+chosen-one false x e t = never e
+
+word-short : (i : ℕ) → lowOf i < 72057594037927936 → word i ≡ bytesIn (lowOf i)
+unfolding shortRight bytesIn bytesFrom lowOf packed
+word-short i h = elim (decLt i 94) [
+  | yes g ↦ same-list (word i) (bytesIn (lowOf i)) (chosen-one (ltb (lowOf i) 72057594037927936) (sameList (word i) (bytesIn (lowOf i))) (lt-ltb (lowOf i) 72057594037927936 h) (below-at shortRight 94 shorts-right i g))
+  | no g ↦ rw (word-none i (omega arith))
+]
+
+pub said-short : (b : Buffer) (i : ℕ) → lowOf i < 72057594037927936 → write b (bytesIn (lowOf i)) ≡ write b (word i)
+said-short b i h = ap (write b) (sym (word-short i h))
+
+-- no bytes
+pub said-none : (b : Buffer) (i : ℕ) → i ≡ 0 → b ≡ write b (word i)
+unfolding write word words
+said-none b i e = rw e refl
+
+pub said-blank : (b : Buffer) (i : ℕ) → i ≡ 50 → b ≡ write b (word i)
+unfolding write word words
+said-blank b i e = rw e refl
 
 -- ---- parts of the tree
 

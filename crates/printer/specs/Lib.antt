@@ -7,6 +7,7 @@ pub mod Rows
 pub mod Stacks
 pub mod Turns
 pub mod Noted
+pub mod Logged
 pub mod Outcome
 pub mod Children
 pub mod Ascii

@@ -88,4 +88,4 @@ write b [] = b
 write b (x ∷ xs) = write (put b x) xs
 
 abbrev pub bufferIn : List ℕ → Spot → Buffer
-bufferIn bytes s = record { bytes = bytes; len = s .len; over = s .over }
+bufferIn bytes s = record { bytes = bytes; len = s .len; over = eqb (s .over) 1 }

@@ -36,7 +36,7 @@ unwritten t = record { top = t .top; next = t .next; stack = t .stack; notes = t
 
 -- nothing is written
 abbrev pub empty : Spot
-empty = record { len = 0; over = false }
+empty = record { len = 0; over = 0 }
 
 -- around the Program
 abbrev pub start : State

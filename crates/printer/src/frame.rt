@@ -16,30 +16,68 @@ pub struct Frame {
     pub list: usize,
 }
 
-// The number of the lowest bit.
-pub fn lowest(bits: usize) -> usize
+// The number of the lowest bit, by halves.
+fn lowest_far(bits: usize) -> usize
     ensures { λ r. ⌜ (r ≡ lowest bits) × (r ≤ bits) ⌝ }
 {
     if bits == 0 {
         return 0;
     }
     if bits % 2 == 0 {
-        return lowest(bits / 2) + 1;
+        return lowest_far(bits / 2) + 1;
     }
     0
 }
 
-// The bits without the lowest.
-pub fn without(bits: usize) -> usize
+// The same; most nodes have few fields.
+pub fn lowest(bits: usize) -> usize
+    ensures { λ r. ⌜ (r ≡ lowest bits) × (r ≤ bits) ⌝ }
+{
+    if bits % 2 == 1 {
+        return 0;
+    }
+    if bits % 4 == 2 {
+        return 1;
+    }
+    if bits % 8 == 4 {
+        return 2;
+    }
+    if bits % 16 == 8 {
+        return 3;
+    }
+    lowest_far(bits)
+}
+
+// The bits without the lowest, by halves.
+fn without_far(bits: usize) -> usize
     ensures { λ r. ⌜ (r ≡ without bits) × (r ≤ bits) ⌝ }
 {
     if bits == 0 {
         return 0;
     }
     if bits % 2 == 0 {
-        return without(bits / 2) * 2;
+        return without_far(bits / 2) * 2;
     }
     bits - 1
+}
+
+// The same.
+pub fn without(bits: usize) -> usize
+    ensures { λ r. ⌜ (r ≡ without bits) × (r ≤ bits) ⌝ }
+{
+    if bits % 2 == 1 {
+        return bits - 1;
+    }
+    if bits % 4 == 2 {
+        return bits - 2;
+    }
+    if bits % 8 == 4 {
+        return bits - 4;
+    }
+    if bits % 16 == 8 {
+        return bits - 8;
+    }
+    without_far(bits)
 }
 
 // The next field is done, and this is noted.

@@ -1,21 +1,16 @@
-// The first pass: the byte of each node, in the order in which the nodes begin.
+// The byte of each node, in the order in which the nodes begin.
 use crate::print;
-use rewritten::next;
-use rewritten::step::Event;
-use rewritten::step::Step;
 ghost use mathlib.Core.Path.{_≡_};
 ghost use mathlib.Core.List.{List};
-ghost use Prim.Native.Nat.{ℕ, _<_, _≤_, _+_};
+ghost use Prim.Native.Nat.{ℕ, _<_, _+_, _/_, _%_};
+ghost use lib.Dec.{eqb};
 ghost use lib.ListN.{length};
-ghost use Rattle.tree.specs.Tree.{Node};
-ghost use Rattle.tree.specs.Grammar.Stage.{rewritten};
-ghost use Rattle.tree.specs.Read.{readTree};
-ghost use Rattle.tree.specs.Read.Got.{got};
 ghost use Rattle.rewritten.specs.Events as events;
-ghost use Rattle.rewritten.specs.Steps.{eventIn};
+ghost use Rattle.rewritten.specs.Look.{eventFor};
+ghost use Rattle.rewritten.specs.Steps.{eventIn, closingIn};
 ghost use Rattle.printer.specs.Machine as machine;
 ghost use Rattle.printer.specs.Turns.{numberAfter};
-ghost use Rattle.printer.specs.Noted.{numbersIn, notedIn, Notable, Marked, Leads};
+ghost use Rattle.printer.specs.Noted.{numbersIn, notedIn, Notable, Marked};
 
 // How many nodes are open, and how many have begun.
 pub struct Noting {
@@ -75,46 +70,26 @@ fn byte(stack: &[usize], notes: &mut [u8], s: Noting, b: usize) -> Noting
     s
 }
 
-fn turn(stack: &mut [usize], notes: &mut [u8], s: Noting, e: Event) -> Noting
-    ensures { λ r. ⌜ ((tree : List ℕ) → Notable (now (stack .entry)) (now (notes .entry)) s e → Marked (now (stack .exit)) (now (notes .exit)) s r (machine.note (notedIn (now (stack .entry)) (now (notes .entry)) s) (eventIn tree e)) (numberAfter e (s .number))) ⌝ }
+// What `look` found.
+pub fn ahead(stack: &mut [usize], notes: &mut [u8], s: Noting, what: usize) -> Noting
+    ensures { λ r. ⌜ ((tree : List ℕ) (at : ℕ) → Notable (now (stack .entry)) (now (notes .entry)) s (eventFor tree at (what % 16) (what / 16)) → Marked (now (stack .exit)) (now (notes .exit)) s r (machine.note (notedIn (now (stack .entry)) (now (notes .entry)) s) (eventIn tree (eventFor tree at (what % 16) (what / 16)))) (numberAfter (eventFor tree at (what % 16) (what / 16)) (s .number))) ⌝ }
 {
-    match e {
-        Event::Begins(_, _, _) => begin(stack, notes, s),
-        Event::Ends => end(s),
-        Event::Opens(_) => s,
-        Event::Closes => s,
-        Event::Hole => s,
-        Event::Text(_, _) => s,
-        Event::Byte(b) => byte(stack, notes, s, b),
-        Event::Mark(_) => s,
-        Event::Number(_) => s,
+    let code = what % 16;
+    if code == 1 {
+        return begin(stack, notes, s);
     }
+    if code == 5 {
+        return byte(stack, notes, s, what / 16);
+    }
+    s
 }
 
-// Right if 16,384 frames, numbers and bytes are lent.
-pub fn collect(tree: &[u8], frames: &mut [usize], stack: &mut [usize], notes: &mut [u8])
-    ensures { λ _. ⌜ ((n : Node) (q k : ℕ) → readTree rewritten (length (now (tree .entry))) (now (tree .entry)) ≡ got n q k → 16384 ≤ length (now (frames .entry)) → 16384 ≤ length (now (stack .entry)) → 16384 ≤ length (now (notes .entry)) → Leads (now (notes .exit)) (machine.notesNode n)) ⌝ }
+// The end of a task.
+pub fn closed(s: Noting, top: usize) -> Noting
+    ensures { λ r. ⌜ ((tree stack notes : List ℕ) → Marked stack notes s r (machine.note (notedIn stack notes s) (eventIn tree (closingIn (eqb (top % 2) 0)))) (numberAfter (closingIn (eqb (top % 2) 0)) (s .number))) ⌝ }
 {
-    let mut cursor = next::begin();
-    let mut s = Noting {
-        level: 0,
-        number: 0,
-    };
-    loop {
-        match next::next(tree, frames, cursor) {
-            Step::Next(e, c) => {
-                s = turn(stack, notes, s, e);
-                cursor = c;
-            }
-            Step::Done => {
-                return;
-            }
-            Step::Refused => {
-                return;
-            }
-            Step::Full => {
-                return;
-            }
-        }
+    if top % 2 == 0 {
+        return end(s);
     }
+    s
 }

@@ -8,10 +8,11 @@ ghost use Rattle.printer.specs.Layout.{word};
 ghost use Rattle.printer.specs.Names.{hexDigit, needsEscape, escapedByte, escaped, inQuotes, decimal};
 ghost use Rattle.printer.specs.Stacks.{put, write, bufferIn, bytesIn, EndIs};
 
-// How many bytes are written, and whether there are more than fit.
+// How many bytes are written, and 1 if there are more than fit, else 0. A number: a struct with a `bool` has unused bytes,
+// and they are copied in pieces, which takes half the time of a call.
 pub struct Spot {
     pub len: usize,
-    pub over: bool,
+    pub over: usize,
 }
 
 fn wide(b: u8) -> usize
@@ -25,20 +26,17 @@ pub fn put(out: &mut [u8], spot: Spot, b: u8) -> Spot
 {
     let len = spot.len;
     let over = spot.over;
-    if over {
+    if over == 1 {
         return spot;
     }
     if len < out.len() {
         out[len] = b;
         return Spot {
             len: len + 1,
-            over: false,
+            over: 0,
         };
     }
-    Spot {
-        len: len,
-        over: true,
-    }
+    Spot { len: len, over: 1 }
 }
 
 // The bytes of a number, the lowest first.
@@ -54,13 +52,30 @@ fn put_digits(out: &mut [u8], spot: Spot, digits: usize) -> Spot
     s
 }
 
-// A word by its number.
+// A word by its number; one of fewer than eight bytes is in the first number.
 pub fn say(out: &mut [u8], spot: Spot, id: usize) -> Spot
     ensures { λ r. ⌜ bufferIn (now (out .exit)) r ≡ write (bufferIn (now (out .entry)) spot) (word id) ⌝ }
 {
-    let a = put_digits(out, spot, words::low(id));
+    let w = words::low(id);
+    let a = put_digits(out, spot, w);
+    if w < 0x100000000000000 {
+        return a;
+    }
     let b = put_digits(out, a, words::middle(id));
     put_digits(out, b, words::high(id))
+}
+
+// The same, where most words are 0 or 50, which is nothing: those are not called for.
+pub fn say_any(out: &mut [u8], spot: Spot, id: usize) -> Spot
+    ensures { λ r. ⌜ bufferIn (now (out .exit)) r ≡ write (bufferIn (now (out .entry)) spot) (word id) ⌝ }
+{
+    if id == 0 {
+        return spot;
+    }
+    if id == 50 {
+        return spot;
+    }
+    say(out, spot, id)
 }
 
 // Where n bytes from a position on end, or the tree does.

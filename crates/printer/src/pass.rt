@@ -1,19 +1,15 @@
 // The second pass: the text.
+use crate::entries;
 use crate::frame::Frame;
 use crate::out::Spot;
+use crate::print;
 use crate::print::State;
 use crate::step;
-use rewritten::next;
-use rewritten::step::Step;
 ghost use mathlib.Core.Path.{_≡_};
-ghost use Prim.Native.Nat.{ℕ, _≤_};
+ghost use Prim.Native.Nat.{_≤_};
 ghost use lib.ListN.{length};
 ghost use Rattle.tree.specs.Tree.{Node};
-ghost use Rattle.tree.specs.Grammar.Stage.{rewritten};
-ghost use Rattle.tree.specs.Read.{readTree};
-ghost use Rattle.tree.specs.Read.Got.{got};
-ghost use Rattle.printer.specs.Machine.{notesNode};
-ghost use Rattle.printer.specs.Noted.{Leads};
+ghost use Rattle.printer.specs.Logged.{Logged};
 ghost use Rattle.printer.specs.Stacks.{write, bufferIn};
 ghost use Rattle.printer.specs.Text.{textOf};
 ghost use Rattle.printer.specs.Turns.{start, empty};
@@ -31,10 +27,7 @@ fn begin() -> State
         rem: 1,
         list: 0,
     };
-    let spot = Spot {
-        len: 0,
-        over: false,
-    };
+    let spot = Spot { len: 0, over: 0 };
     State {
         frame: frame,
         next: 0,
@@ -45,35 +38,25 @@ fn begin() -> State
     }
 }
 
-// Right if the notes are those of the tree, and 16,384 of everything else are lent.
+// Right if the entries and the notes are those of the tree, and 16,384 of everything else are lent.
 pub fn print(
     tree: &[u8],
     notes: &[u8],
-    frames: &mut [usize],
+    log: &[usize],
+    count: usize,
     stack: &mut [usize],
     starts: &mut [usize],
     sizes: &mut [usize],
     text: &mut [u8],
 ) -> Spot
-    ensures { λ r. ⌜ ((n : Node) (q k : ℕ) → readTree rewritten (length (now (tree .entry))) (now (tree .entry)) ≡ got n q k → Leads (now (notes .entry)) (notesNode n) → 16384 ≤ length (now (notes .entry)) → 16384 ≤ length (now (frames .entry)) → 16384 ≤ length (now (stack .entry)) → 16384 ≤ length (now (starts .entry)) → 16384 ≤ length (now (sizes .entry)) → bufferIn (now (text .exit)) r ≡ write (bufferIn (now (text .entry)) empty) (textOf n)) ⌝ }
+    ensures { λ r. ⌜ ((n : Node) → Logged (now (tree .entry)) (now (notes .entry)) (now (log .entry)) count n → 16384 ≤ length (now (notes .entry)) → 16384 ≤ length (now (stack .entry)) → 16384 ≤ length (now (starts .entry)) → 16384 ≤ length (now (sizes .entry)) → bufferIn (now (text .exit)) r ≡ write (bufferIn (now (text .entry)) empty) (textOf n)) ⌝ }
 {
-    let mut cursor = next::begin();
     let mut s = begin();
-    loop {
-        match next::next(tree, frames, cursor) {
-            Step::Next(e, c) => {
-                s = step::turn(tree, notes, stack, starts, sizes, text, s, e);
-                cursor = c;
-            }
-            Step::Done => {
-                return s.spot;
-            }
-            Step::Refused => {
-                return s.spot;
-            }
-            Step::Full => {
-                return s.spot;
-            }
-        }
+    let mut i = 0;
+    while i < count {
+        let e = entries::told(tree, print::number_at(log, i));
+        s = step::turn(tree, notes, stack, starts, sizes, text, s, e);
+        i += 1;
     }
+    s.spot
 }

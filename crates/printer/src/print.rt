@@ -187,18 +187,18 @@ pub fn opening(
 {
     let p = s.frame;
     let spot = s.spot;
-    let a = out::say(text, spot, places::leading(p, kind, map));
+    let a = out::say_any(text, spot, places::leading(p, kind, map));
     let b = quasi_in(tree, starts, sizes, text, a, p, s.count, s.next);
-    let c = out::say(text, b, places::joining(p, kind, note));
+    let c = out::say_any(text, b, places::joining(p, kind, note));
     let w = places::parenthesis(places::wrapping(p, kind, map, note));
-    let d = out::say(text, c, w);
-    let e = out::say(text, d, places::head_word(p, kind, map, note));
-    out::say(text, e, places::computed(kind, note))
+    let d = out::say_any(text, c, w);
+    let e = out::say_any(text, d, places::head_word(p, kind, map, note));
+    out::say_any(text, e, places::computed(kind, note))
 }
 
 pub fn closing(text: &mut [u8], spot: Spot, f: Frame) -> Spot
     ensures { λ r. ⌜ bufferIn (now (text .exit)) r ≡ write (bufferIn (now (text .entry)) spot) (closing f) ⌝ }
 {
-    let a = out::say(text, spot, places::tail_word(f));
-    out::say(text, a, f.how)
+    let a = out::say_any(text, spot, places::tail_word(f));
+    out::say_any(text, a, f.how)
 }

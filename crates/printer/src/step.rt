@@ -168,7 +168,7 @@ fn open_list(stack: &mut [usize], text: &mut [u8], s: State, n: usize) -> State
     let old = s.spot;
     let before = s.next;
     if level < stack.len() {
-        let spot = out::say(text, old, places::lead_word(f, 0));
+        let spot = out::say_any(text, old, places::lead_word(f, 0));
         let v = frame::pack(frame::unlisted(f, n), before);
         stack[level] = v;
         let l = frame::listed(f);
@@ -191,7 +191,7 @@ fn list_closing(tree: &[u8], starts: &[usize], sizes: &[usize], text: &mut [u8],
 {
     let l = s.frame;
     let old = s.spot;
-    let a = out::say(text, old, places::close_word(l));
+    let a = out::say_any(text, old, places::close_word(l));
     print::left_in(tree, starts, sizes, text, a, l, s.count, s.next)
 }
 

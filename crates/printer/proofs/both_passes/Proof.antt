@@ -1,58 +1,95 @@
+use mathlib.Core.Path.{_≡_, refl, sym, ap, _∙_}
+use mathlib.Core.List.{List}
+use Prim.Native.Nat.{ℕ, _-_}
 use native.Mathlib.Omega.{arith}
+use lib.Dec.{ltb}
+use lib.ListN.{length, length-replicate}
+use borrow.Author.Tests.{lt-ltb}
+use Rattle.printer.specs.Outcome.{refusal}
+use Rattle.printer.specs.Stacks.{write, bufferIn}
+use Rattle.printer.specs.Text.{textOf}
+use Rattle.printer.specs.Turns.{empty}
+use Rattle.printer.proofs.Entry as law
 use borrow.Author.Needs.{needs}
 use Rattle.printer.proofs.both_passes.Statement.{statement}
 use Rattle.printer.proofs.both_passes.Tie as tie
 use Rattle.printer.proofs.both_passes.Reads as reads
 use Rattle.printer.proofs.both_passes.Lts as lts
-use Rattle.printer.proofs.notes.collect.Reads as collect-reads
-use Rattle.printer.proofs.pass.print.Reads as print-reads
 
--- src/lib.rt:55:5
-collect-requires : tie.Need-collect-requires
-collect-requires c κs = search needs
+record-requires : tie.Need-record-requires
+record-requires c κs = tt
 
--- src/lib.rt:56:5
-print-requires : tie.Need-print-requires
-print-requires c κs = search needs
-
--- src/lib.rt:44:1
 same-length : tie.Need-same-length
 same-length c = search needs
 
--- src/lib.rt:44:1
 same-length-2 : tie.Need-same-length-2
 same-length-2 c = search needs
 
--- src/lib.rt:44:1
 same-length-3 : tie.Need-same-length-3
 same-length-3 c = search needs
 
--- src/lib.rt:44:1
 same-length-4 : tie.Need-same-length-4
 same-length-4 c = search needs
 
--- src/lib.rt:44:1
 same-length-5 : tie.Need-same-length-5
 same-length-5 c = search needs
 
--- src/lib.rt:44:1
+returns : tie.Need-returns
+unfolding refusal
+returns c = λ size z a b d e f g. ap (λ (l : List ℕ). record { answer = 3; long = 0; bytes = l }) z ∙ law.refused-is (c .before .before .before .before .before .before .before .before .before .before .before .before .before .before .before .before .before .before .before .before .before .before .before .before .before .args .tree .now) size (sym ((c .before .before .before .before .before .before .before .before .before .before .before .«record» .ensures a b e d g) .is) ∙ ap (ltb 0) (c .if1 .taken))
+
+sub-print : tie.Need-sub-print
+sub-print c = omega (arith, c .before .before .if1 .left)
+
+print-requires : tie.Need-print-requires
+print-requires c κs = tt
+
+finish-requires : tie.Need-finish-requires
+finish-requires c κs = tt
+
 same-length-6 : tie.Need-same-length-6
 same-length-6 c = search needs
 
--- src/lib.rt:44:1
-returns : tie.Need-returns
-returns c = λ n q k w x0 x1 x2 x3 x4. c .before .before .before .before .before .before .before .before .before .before .print .ensures n q k w (c .before .before .before .before .before .before .before .before .before .before .before .before .before .before .before .before .before .before .before .before .before .before .before .collect .ensures n q k w x1 x2 x0) (omega (arith, x0, c .before .before .before .before .before .before .before .before .before .before .before .before .before .before .before .before .before .before .before .before .before .before .before .collect .kept .1 .1 .1 .0)) (omega (arith, x1, c .before .before .before .before .before .before .before .before .before .before .before .before .before .before .before .before .before .before .before .before .before .before .before .collect .kept .1 .0)) (omega (arith, x2, c .before .before .before .before .before .before .before .before .before .before .before .before .before .before .before .before .before .before .before .before .before .before .before .collect .kept .1 .1 .0)) x3 x4
+same-length-7 : tie.Need-same-length-7
+same-length-7 c = search needs
+
+same-length-8 : tie.Need-same-length-8
+same-length-8 c = search needs
+
+same-length-9 : tie.Need-same-length-9
+same-length-9 c = search needs
+
+same-length-10 : tie.Need-same-length-10
+same-length-10 c = search needs
+
+same-length-11 : tie.Need-same-length-11
+same-length-11 c = search needs
+
+same-length-12 : tie.Need-same-length-12
+same-length-12 c = search needs
+
+returns-2 : tie.Need-returns-2
+returns-2 c = λ size z a b d e f g. law.printed-is (c .before .before .before .before .before .before .before .before .before .before .before .before .before .before .before .before .before .before .before .before .before .before .before .before .before .before .before .before .before .before .before .before .before .before .before .before .before .before .before .before .before .before .before .before .args .tree .now) size _ (sym ((c .before .before .before .before .before .before .before .before .before .before .before .before .before .before .before .before .before .before .before .before .before .before .before .before .before .before .before .before .before .before .«record» .ensures a b e d g) .is) ∙ lt-ltb 0 (c .before .before .before .before .before .before .before .before .before .before .before .before .before .before .before .before .before .before .before .before .before .before .before .before .before .before .before .before .before .before .«record» .result) (omega (arith, c .before .before .before .before .before .before .before .before .before .before .before .before .before .before .before .before .before .before .before .if1 .left))) (λ t q k w. c .before .before .finish .ensures size (textOf t) (c .before .before .before .before .before .before .before .before .before .before .before .before .print .kept .1 .1 .1 .1 .1 .1 .1 .0 ∙ ap length z ∙ length-replicate size 0) (c .before .before .before .before .before .before .before .before .before .before .before .before .print .ensures t ((c .before .before .before .before .before .before .before .before .before .before .before .before .before .before .before .before .before .before .before .before .before .before .before .before .before .before .before .before .before .before .«record» .ensures a b e d g) .logged (c .before .before .before .before .before .before .before .before .before .before .before .before .before .before .before .before .before .before .before .before .before .before .before .before .before .before .before .before .before .before .«record» .result - 1) (omega (arith, c .before .before .before .before .before .before .before .before .before .before .before .before .before .before .before .before .before .before .before .if1 .left)) t q k w) (omega (arith, d, c .before .before .before .before .before .before .before .before .before .before .before .before .before .before .before .before .before .before .before .before .before .before .before .before .before .before .before .before .before .before .«record» .kept .1 .1 .1 .1 .0)) (omega (arith, a, c .before .before .before .before .before .before .before .before .before .before .before .before .before .before .before .before .before .before .before .before .before .before .before .before .before .before .before .before .before .before .«record» .kept .1 .0)) (omega (arith, e, c .before .before .before .before .before .before .before .before .before .before .before .before .before .before .before .before .before .before .before .before .before .before .before .before .before .before .before .before .before .before .«record» .kept .1 .1 .1 .0)) f ∙ ap (λ (l : List ℕ). write (bufferIn l empty) (textOf t)) z))
 
 pub both-passes-spec : {M : Type 1} → statement M
 both-passes-spec =
     tie.close
     (tie.spec
-    collect-requires
-    print-requires
+    record-requires
     same-length
     same-length-2
     same-length-3
     same-length-4
     same-length-5
+    returns
+    sub-print
+    print-requires
+    finish-requires
     same-length-6
-    returns)
+    same-length-7
+    same-length-8
+    same-length-9
+    same-length-10
+    same-length-11
+    same-length-12
+    returns-2)

@@ -10,7 +10,7 @@ use Rattle.printer.proofs.out.put.Lts as lts
 -- src/out.rt:29:9
 returns : tie.Need-returns
 unfolding put
-returns c = rw (c .if1 .taken) refl
+returns c = rw (eq-eqb _ _ (c .if1 .taken)) refl
 
 -- src/out.rt:32:9
 slice-write-out : tie.Need-slice-write-out
@@ -27,12 +27,12 @@ same-length c = search needs
 -- src/out.rt:33:9
 returns-2 : tie.Need-returns-2
 unfolding put
-returns-2 c = rw (c .before .if1 .left, lt-ltb _ _ (c .if2 .taken)) refl
+returns-2 c = rw (ne-eqb _ _ (c .before .if1 .left), lt-ltb _ _ (c .if2 .taken)) refl
 
 -- src/out.rt:23:1
 returns-3 : tie.Need-returns-3
 unfolding put
-returns-3 c = rw (c .before .if1 .left, le-ltb _ _ (c .if2 .left)) refl
+returns-3 c = rw (ne-eqb _ _ (c .before .if1 .left), le-ltb _ _ (c .if2 .left)) refl
 
 pub put-spec : {M : Type 1} → statement M
 put-spec = tie.close (tie.spec returns slice-write-out add-t9 same-length returns-2 returns-3)

@@ -56,7 +56,7 @@ same-length c = search needs
 
 -- src/out.rt:123:9
 returns : tie.Need-returns
-returns c = c .before .before .put4 .ensures ∙ ap (λ (b : Buffer). put b (c .before .before .before .before .before .before .before .before .before .before .before .before .before .before .before .before .hex-digit2 .result)) (c .before .before .before .before .before .before .put3 .ensures ∙ ap (λ (b : Buffer). put b (c .before .before .before .before .before .before .before .before .before .before .before .before .before .before .before .before .before .before .hex-digit .result)) (c .before .before .before .before .before .before .before .before .before .before .put2 .ensures ∙ ap (λ (b : Buffer). put b 120) (c .before .before .before .before .before .before .before .before .before .before .before .before .before .before .put .ensures))) ∙ law.escape-written _ _ _ _ (sym (c .before .before .before .before .before .before .before .before .before .before .before .before .before .before .before .before .before .before .before .before .before .needs-escape .ensures) ∙ c .before .before .before .before .before .before .before .before .before .before .before .before .before .before .before .before .before .before .before .before .if1 .taken) (c .before .before .before .before .before .before .before .before .before .before .before .before .before .before .before .before .before .before .hex-digit .ensures (omega (arith, c .before .before .before .before .before .before .before .before .before .before .before .before .before .before .before .before .before .before .before .wide .ensures)) ∙ ap (λ (x : ℕ). hexDigit (x / 16)) (c .before .before .before .before .before .before .before .before .before .before .before .before .before .before .before .before .before .before .before .wide .ensures)) (c .before .before .before .before .before .before .before .before .before .before .before .before .before .before .before .before .hex-digit2 .ensures (omega (arith, c .before .before .before .before .before .before .before .before .before .before .before .before .before .before .before .before .before .wide2 .ensures)) ∙ ap (λ (x : ℕ). hexDigit (x % 16)) (c .before .before .before .before .before .before .before .before .before .before .before .before .before .before .before .before .before .wide2 .ensures))
+returns c = c .before .before .put4 .ensures ∙ ap (λ (b : Buffer). put b (c .before .before .before .before .before .before .before .before .before .before .before .before .before .before .before .before .hex-digit2 .result)) (c .before .before .before .before .before .before .put3 .ensures ∙ ap (λ (b : Buffer). put b (c .before .before .before .before .before .before .before .before .before .before .before .before .before .before .before .before .before .before .hex-digit .result)) (c .before .before .before .before .before .before .before .before .before .before .put2 .ensures ∙ ap (λ (b : Buffer). put b 120) (c .before .before .before .before .before .before .before .before .before .before .before .before .before .before .put .ensures))) ∙ law.escape-written _ _ _ _ (sym (c .before .before .before .before .before .before .before .before .before .before .before .before .before .before .before .before .before .before .before .before .before .needs-escape .ensures) ∙ c .before .before .before .before .before .before .before .before .before .before .before .before .before .before .before .before .before .before .before .before .if1 .taken) (c .before .before .before .before .before .before .before .before .before .before .before .before .before .before .before .before .before .before .hex-digit .ensures (omega (arith, c .before .before .before .before .before .before .before .before .before .before .before .before .before .before .before .before .before .before .before .wide .ensures, c .before .before .before .before .before .before .before .before .before .before .before .before .before .before .before .before .before .before .before .before .before .before .before .good)) ∙ ap (λ (x : ℕ). hexDigit (x / 16)) (c .before .before .before .before .before .before .before .before .before .before .before .before .before .before .before .before .before .before .before .wide .ensures)) (c .before .before .before .before .before .before .before .before .before .before .before .before .before .before .before .before .hex-digit2 .ensures (omega (arith, c .before .before .before .before .before .before .before .before .before .before .before .before .before .before .before .before .before .wide2 .ensures)) ∙ ap (λ (x : ℕ). hexDigit (x % 16)) (c .before .before .before .before .before .before .before .before .before .before .before .before .before .before .before .before .before .wide2 .ensures))
 
 -- src/out.rt:125:5
 put-requires-5 : tie.Need-put-requires-5

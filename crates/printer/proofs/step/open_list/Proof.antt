@@ -13,7 +13,7 @@ use Rattle.printer.proofs.step.open_list.Lts as lts
 use Rattle.printer.proofs.frame.listed.Reads as listed-reads
 use Rattle.printer.proofs.frame.pack.Reads as pack-reads
 use Rattle.printer.proofs.frame.unlisted.Reads as unlisted-reads
-use Rattle.printer.proofs.out.say.Reads as say-reads
+use Rattle.printer.proofs.out.say_any.Reads as say-any-reads
 use Rattle.printer.proofs.places.lead_word.Reads as lead-word-reads
 use Rattle.printer.proofs.step.next_opened.Reads as next-opened-reads
 
@@ -22,8 +22,8 @@ lead-word-requires : tie.Need-lead-word-requires
 lead-word-requires c κs = search needs
 
 -- src/step.rt:175:13
-say-requires : tie.Need-say-requires
-say-requires c κs = search needs
+say-any-requires : tie.Need-say-any-requires
+say-any-requires c κs = search needs
 
 -- src/step.rt:176:29
 unlisted-requires : tie.Need-unlisted-requires
@@ -64,7 +64,7 @@ same-length-2 c = search needs
 -- src/step.rt:180:9
 returns : tie.Need-returns
 unfolding listOpening
-returns c = λ t n a b w hc hl. law.open-turned t n (c .before .before .before .before .before .before .before .before .before .before .before .before .before .before .args .stack .now) a b (bufferIn (c .before .before .before .before .before .before .before .before .before .before .before .before .before .before .args .text .now) (c .before .before .before .before .before .before .before .before .before .before .before .before .before .before .args .s .spot)) _ (c .before .before .before .before .before .before .before .before .before .before .before .before .before .before .args .s) w _ _ _ _ _ (c .before .before .before .before .before .before .say .result) hc hl (c .before .before .before .before .before .before .say .ensures ∙ ap (λ (z : ℕ). write (bufferIn (c .before .before .before .before .before .before .before .before .before .before .before .before .before .before .args .text .now) (c .before .before .before .before .before .before .before .before .before .before .before .before .before .before .args .s .spot)) (word z)) (c .before .before .before .before .before .before .before .lead-word .ensures)) (c .before .before .before .unlisted .ensures) (c .before .before .pack .ensures) (c .before .listed .ensures) (c .next-opened .ensures hc)
+returns c = λ t n a b w hc hl. law.open-turned t n (c .before .before .before .before .before .before .before .before .before .before .before .before .before .before .args .stack .now) a b (bufferIn (c .before .before .before .before .before .before .before .before .before .before .before .before .before .before .args .text .now) (c .before .before .before .before .before .before .before .before .before .before .before .before .before .before .args .s .spot)) _ (c .before .before .before .before .before .before .before .before .before .before .before .before .before .before .args .s) w _ _ _ _ _ (c .before .before .before .before .before .before .say-any .result) hc hl (c .before .before .before .before .before .before .say-any .ensures ∙ ap (λ (z : ℕ). write (bufferIn (c .before .before .before .before .before .before .before .before .before .before .before .before .before .before .args .text .now) (c .before .before .before .before .before .before .before .before .before .before .before .before .before .before .args .s .spot)) (word z)) (c .before .before .before .before .before .before .before .lead-word .ensures)) (c .before .before .before .unlisted .ensures) (c .before .before .pack .ensures) (c .before .listed .ensures) (c .next-opened .ensures hc)
 
 -- src/step.rt:165:1
 returns-2 : tie.Need-returns-2
@@ -75,7 +75,7 @@ open-list-spec =
     tie.close
     (tie.spec
     lead-word-requires
-    say-requires
+    say-any-requires
     unlisted-requires
     pack-requires
     mul-stack
