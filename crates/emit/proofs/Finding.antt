@@ -12,7 +12,7 @@ use Rattle.tree.specs.Tree.Node.{node}
 use Rattle.tree.specs.Tree.Fields.{done, absent, field}
 use Rattle.tree.specs.Tree.Piece.{one, list}
 use Rattle.tree.specs.Read.{byteAt, wideAt}
-use Rattle.tree.specs.Look.{Seen, seen, onward, lookItems, lookNode}
+use Rattle.tree.specs.Look.{Seen, seen, onward, quietAt, lookItems, lookNode}
 use Rattle.tree.specs.Answer.{Wide}
 use Rattle.lowering.specs.Parts.{is, standsIn, stands, nodeAt, itemsAt, pieceIn, any}
 use Rattle.lowering.specs.Patterns.{shape, properties, value, hasRest, hasArrayRestOverObjectRest}
@@ -40,7 +40,9 @@ use Rattle.walk.proofs.SpreadArguments.{does-from}
 use Rattle.walk.proofs.Lookups.{cell-within}
 use Rattle.walk.proofs.Opened.{ObjectOpen, ArrayOpen, PropertyOpen, DefaultOpen, leaf-here, no-good, object-open, array-open, property-open, default-open}
 use Rattle.walk.proofs.Turning.{turn-found, turn-anywhere, turn-in-arrays, turn-straight, turns-found, turns-value-found, turns-anywhere, turns-value-anywhere, turns-value-in-arrays, turns-value-straight, suit-found, suit-value-found, suit-anywhere, suit-value-anywhere, suit-value-in-arrays, suit-value-straight}
+use Rattle.walk.proofs.QuietValues.{found-none, reach-none, simple-value}
 use Rattle.lowering.proofs.Cases.{not-true}
+use Rattle.lowering.proofs.Simple.{Simple}
 
 -- ---- the modes that go below a pattern
 
@@ -75,6 +77,15 @@ module _ (mode : ℕ) (c : Place) (deep : deepMode mode ≡ true) where
       (λ e. rw e (reach-over-leaf (emitsInner c) anywhere p h))
       (λ e. rw e (reach-over-leaf (emitsInner c) inArrays p h))
       (λ e. rw e (reach-over-leaf (emitsInner c) straight p h))
+
+  turn-none : (p : Node) → Simple p → turnOf mode c p ≡ say []
+  unfolding turnOf
+  turn-none p h =
+      by-deep mode deep
+      (λ e. rw e (found-none c p h))
+      (λ e. rw e (reach-none (emitsInner c) anywhere p h))
+      (λ e. rw e (reach-none (emitsInner c) inArrays p h))
+      (λ e. rw e (reach-none (emitsInner c) straight p h))
 
   suit-default : (at : ℕ) (l : Node) (fs : Fields) → suits mode (node at 37 (field (one l) fs)) ≡ suits mode l
   unfolding suits
@@ -412,3 +423,9 @@ module _ (t : List ℕ) where
         moved ∙ next ∙ ap (λ (q : ℕ). onward t q 1) (r .0) ∙ ap (λ (q : Seen Node). q .next) (sym whole),
         does-to upto (does-from from (does-as (r .1) (ap₂ (λ (m : Place) (q : Node). turnOf mode m q) place (sym value-is)))),
       )
+
+  -- that of a quiet property is passed over
+  pub value-quiet : {g g′ : Going} (c : Place) (d at q s mode : ℕ) (b : Bool) → b ≡ quietAt t at → b ≡ true → q ≡ lookNode t d at .next → s ≡ q → g′ ≡ g
+      → Good t d at → deepMode mode ≡ true → (s ≡ lookNode t d at .next) × Does g g′ (turnOf mode c (value (lookNode t d at .value)))
+  value-quiet {g = g} c d at q s mode b e h next moved upto good deep =
+      (moved ∙ next, does-to upto (does-as (does-nothing g) (sym (turn-none mode c deep (value (lookNode t d at .value)) (simple-value t d at b e h good)))))

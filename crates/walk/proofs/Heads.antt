@@ -105,6 +105,10 @@ module _ (t : List ℕ) where
     last zero at z = refl
     last (suc n) at z = absurd (omega arith)
 
+    pub next-item : (at q : ℕ) → q ≡ R at .next → q ≡ lookItem t R false at .next
+    unfolding lookItem
+    next-item at q e = e
+
     -- ---- the run of properties up to a spread
 
     pub run-end : (k n at : ℕ) → n ≤ 0 → k ≡ k + run (lookItems t R false n at .value)
@@ -137,11 +141,12 @@ module _ (t : List ℕ) where
     unfolding innerHeads
     inner-none m n at z = rw (last n at (omega arith)) runs-none
 
-    pub inner-one : {g g′ : Going} (m n at : ℕ) → n ≡ 1 → Runs g g′ (headAt m (R at .value)) → Runs g g′ (innerHeads m (lookItems t R false n at .value))
+    pub inner-first : {g g₁ g′ : Going} (m n k q : ℕ) (at : ℕ) → (n ≡ 0 → ⊥) → k ≡ modeNext m (R at .value) → q ≡ R at .next
+        → Runs g g₁ (innerHeads k (lookItems t R false (n - 1) q .value)) → Runs g₁ g′ (headAt m (R at .value))
+        → Runs g g′ (innerHeads m (lookItems t R false n at .value))
     unfolding innerHeads
-    inner-one m n at z d =
-        let o : n - 1 ≤ 0 = omega arith in
-        rw (first n at (R at .next) (omega arith) refl, last (n - 1) (R at .next) o) d
+    inner-first m n k q at z e f a b =
+        runs-as (runs-then (innerHeads k (lookItems t R false (n - 1) q .value)) (headAt m (R at .value)) a b) (rw (first n at q (omega arith) f, sym e) refl)
 
     add-join : (h : Bool) (at : ℕ) (is js : Items) → lookItem t R h at .value (is +++ js) ≡ lookItem t R h at .value is +++ js
     unfolding lookItem _+++_
