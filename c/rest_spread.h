@@ -184,7 +184,7 @@ struct rest_spread_joined {
  *
  * None of the three is NULL, not even for a length of 0, and tree_out overlaps neither of the others; nothing else is asked.
  * The call ends and writes tree_out and nothing else: the joined tree, and zeros behind it; at a refusal zeros. It takes some
- * 0.7 MB of the stack. */
+ * 0.6 MB of the stack. */
 struct rest_spread_joined rest_spread_join(const uint8_t *tree, size_t tree_len, const uint8_t *list, size_t list_len,
                                            uint8_t *tree_out, size_t tree_out_len);
 

@@ -3,7 +3,7 @@
 
     tools/names.py [--renumber]
 
-Read are README.md, CONTRIBUTING.md and the pages in docs/, tools/, examples/, loader/, c/ and drafts/. For each of them:
+Read are README.md, CONTRIBUTING.md and the pages in docs/, tools/, examples/, loader/ and c/. For each of them:
 
 - a link to a file of the repository leads to one, and to a heading of it if it names one;
 - a file or folder that is named in a code span or in a command is there;
@@ -29,7 +29,7 @@ import cases
 import show
 
 ROOT = cases.ROOT
-PAGES = ["README.md", "CONTRIBUTING.md", "docs/*.md", "tools/*.md", "examples/*.md", "loader/*.md", "c/*.md", "drafts/*.md"]
+PAGES = ["README.md", "CONTRIBUTING.md", "docs/*.md", "tools/*.md", "examples/*.md", "loader/*.md", "c/*.md"]
 # The endings by which a code span is known to name a file.
 ENDINGS = "antt rt py js rs c h md txt edit toml tree list sh"
 # Files that the pages name and that are not here: those of the Rust module's crate, and what is made.

@@ -74,15 +74,15 @@ module _ (a e h b : List ℕ) (latest g at deep k : ℕ) where
   mark-else x = rw (le-ltb 0 g x) refl
 
 -- what was found is none of those that add something
-pub added-none : (tree : List ℕ) (t : Shelf) (at deep n code : ℕ) → (code ≡ 1 → ⊥) → (code ≡ 2 → ⊥) → (code ≡ 4 → ⊥) → passedBy t ≡ added t at deep (eventFor tree at code n)
-added-none tree t at deep n zero a b c = refl
-added-none tree t at deep n (suc zero) a b c = absurd (a refl)
-added-none tree t at deep n (suc (suc zero)) a b c = absurd (b refl)
-added-none tree t at deep n (suc (suc (suc zero))) a b c = refl
-added-none tree t at deep n (suc (suc (suc (suc zero)))) a b c = absurd (c refl)
-added-none tree t at deep n (suc (suc (suc (suc (suc zero))))) a b c = refl
-added-none tree t at deep n (suc (suc (suc (suc (suc (suc zero)))))) a b c = refl
-added-none tree t at deep n (suc (suc (suc (suc (suc (suc (suc k))))))) a b c = refl
+pub added-none : (tree : List ℕ) (t : Shelf) (at deep n code : ℕ) → 3 ≤ code → (code ≡ 4 → ⊥) → passedBy t ≡ added t at deep (eventFor tree at code n)
+added-none tree t at deep n zero a b = absurd (omega arith)
+added-none tree t at deep n (suc zero) a b = absurd (omega arith)
+added-none tree t at deep n (suc (suc zero)) a b = absurd (omega arith)
+added-none tree t at deep n (suc (suc (suc zero))) a b = refl
+added-none tree t at deep n (suc (suc (suc (suc zero)))) a b = absurd (b refl)
+added-none tree t at deep n (suc (suc (suc (suc (suc zero))))) a b = refl
+added-none tree t at deep n (suc (suc (suc (suc (suc (suc zero)))))) a b = refl
+added-none tree t at deep n (suc (suc (suc (suc (suc (suc (suc k))))))) a b = refl
 
 pub added-found : (tree : List ℕ) (s t : Shelf) (at deep n code is : ℕ) → code ≡ is → s ≡ added t at deep (eventFor tree at is n) → s ≡ added t at deep (eventFor tree at code n)
 added-found tree s t at deep n code is e x = rw e x
@@ -90,8 +90,15 @@ added-found tree s t at deep n code is e x = rw e x
 begin-added : (a e h b a' : List ℕ) (latest g at deep p kind map n : ℕ) → (a' ≡ stored a (deep + 1) (cond (isContainer kind) 1 0)) × (n ≡ cond (ltb 1 (getD a deep 0)) at 0) → shelf a' e h b latest n ≡ added (shelf a e h b latest g) at deep (Begins p kind map)
 begin-added a e h b a' latest g at deep p kind map n w = λ i. shelf (w .0 i) e h b latest (w .1 i)
 
-pub begin-found : (tree a e h b a' : List ℕ) (latest g at deep m kind n code : ℕ) → code ≡ 1 → kind ≡ byteAt tree at → (a' ≡ stored a (deep + 1) (cond (isContainer kind) 1 0)) × (n ≡ cond (ltb 1 (getD a deep 0)) at 0) → shelf a' e h b latest n ≡ added (shelf a e h b latest g) at deep (eventFor tree at code m)
-begin-found tree a e h b a' latest g at deep m kind n code is k w =
+only : (code : ℕ) → code < 3 → (code ≡ 2 → ⊥) → (code ≡ 0 → ⊥) → code ≡ 1
+only zero low two none = absurd (none refl)
+only (suc zero) low two none = refl
+only (suc (suc zero)) low two none = absurd (two refl)
+only (suc (suc (suc k))) low two none = absurd (omega arith)
+
+pub begin-found : (tree a e h b a' : List ℕ) (latest g at deep m kind n code : ℕ) → code < 3 → (code ≡ 2 → ⊥) → (code ≡ 0 → ⊥) → kind ≡ byteAt tree at → (a' ≡ stored a (deep + 1) (cond (isContainer kind) 1 0)) × (n ≡ cond (ltb 1 (getD a deep 0)) at 0) → shelf a' e h b latest n ≡ added (shelf a e h b latest g) at deep (eventFor tree at code m)
+begin-found tree a e h b a' latest g at deep m kind n code low two none k w =
+    let is : code ≡ 1 = only code low two none in
     added-found tree (shelf a' e h b latest n) (shelf a e h b latest g) at deep m code 1 is (begin-added a e h b a' latest g at deep at (byteAt tree at) (byteAt tree (at + 1)) n (rw k at w))
 
 -- ---- the stack

@@ -102,23 +102,23 @@ fn add(
     deep: usize,
     what: usize,
 ) -> Bodies
-    requires { ⌜ deep < 65536 ⌝ }
+    requires { ⌜ (deep < 65536) × (what % 16 ≡ 0 → ⊥) ⌝ }
     ensures { λ r. ⌜ shelf (now (around .exit)) (now (earlier .exit)) (now (holds .exit)) (now (before .exit)) (r .latest) (r .begun) ≡ added (shelf (now (around .entry)) (now (earlier .entry)) (now (holds .entry)) (now (before .entry)) (bodies .latest) (bodies .begun)) at deep (eventFor (now (tree .entry)) at (what % 16) (what / 16)) ⌝ }
 {
     let latest = bodies.latest;
     let code = what % 16;
-    if code == 1 {
+    if code < 3 {
+        if code == 2 {
+            let last = enter(around, earlier, holds, latest, at, deep);
+            return Bodies {
+                latest: last,
+                begun: 0,
+            };
+        }
         let begun = begin(around, bytes::peek(tree, at), at, deep);
         return Bodies {
             latest: latest,
             begun: begun,
-        };
-    }
-    if code == 2 {
-        let last = enter(around, earlier, holds, latest, at, deep);
-        return Bodies {
-            latest: last,
-            begun: 0,
         };
     }
     if code == 4 {
