@@ -3,7 +3,10 @@
 use mathlib.Core.Path.{_≡_, ap}
 use mathlib.Core.List.{List}
 use mathlib.Core.Logic.{_⊎_, ⊎-elim}
-use Prim.Native.Nat.{ℕ}
+use mathlib.Core.Logic._⊎_.{inl, inr}
+use Prim.Native.Nat.{ℕ, _/_}
+use native.Mathlib.Omega.{arith}
+use native.Mathlib.Decide.{decLt}
 use Rattle.tree.specs.Tree.{Node, encode, placed}
 use Rattle.tree.specs.Read.{Got}
 use Rattle.rewritten.specs.Rewritten.{readRewritten, Rewritten}
@@ -18,6 +21,12 @@ use Rattle.printer.specs.declared.frame.Frame.{Frame}
 pub names-print : (f : Frame) (bs : List ℕ) → (f .kind ≡ 18) ⊎ (f .kind ≡ 19) → textBytes f bs ≡ bs
 unfolding textBytes chosenWord choices leadOf layout word words
 names-print f bs e = ⊎-elim (λ r. rw r) (λ b. rw b) e
+
+pub name-bytes : (f : Frame) (bs : List ℕ) → f .kind / 2 ≡ 9 → textBytes f bs ≡ bs
+name-bytes f bs e = elim (decLt (f .kind) 19) [
+  | yes h ↦ names-print f bs (inl (omega (arith, e, h)))
+  | no h ↦ names-print f bs (inr (omega (arith, e, h)))
+]
 
 -- the entry and the definition: what is handed back for the bytes of a rewritten tree is its text (for any bytes: the contract of rest_spread_text)
 pub text-is : (n : Node) → Rewritten n → (size : ℕ) → outcome (readRewritten (encode n)) size ≡ fitted size (textOf (placed n 0))

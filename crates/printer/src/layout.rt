@@ -168,7 +168,7 @@ fn gap_rest(seen: usize, map: usize) -> usize
 }
 
 // A word by its number; from 100 on it is chosen by the node's byte, its bit map, what was noted, and method form.
-pub fn choose(own: usize, note: usize, map: usize, seen: usize, method: usize) -> usize
+pub fn choose_by(own: usize, note: usize, map: usize, seen: usize, method: usize) -> usize
     ensures { λ r. ⌜ r ≡ chosenWord own note map seen method ⌝ }
 {
     if own < 100 {
@@ -197,4 +197,14 @@ pub fn choose(own: usize, note: usize, map: usize, seen: usize, method: usize) -
         119 => gap_rest(seen, map),
         _ => 0,
     }
+}
+
+// The same; most words are named.
+pub fn choose(own: usize, note: usize, map: usize, seen: usize, method: usize) -> usize
+    ensures { λ r. ⌜ r ≡ chosenWord own note map seen method ⌝ }
+{
+    if own < 100 {
+        return own;
+    }
+    choose_by(own, note, map, seen, method)
 }

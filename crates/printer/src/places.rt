@@ -97,7 +97,7 @@ pub fn separator(p: Frame) -> usize
 pub fn lead_word(f: Frame, method: usize) -> usize
     ensures { λ r. ⌜ r ≡ chosenWord (leadOf (f .kind) (fieldIn f)) (f .note) (f .map) (f .seen) method ⌝ }
 {
-    layout::choose(
+    layout::choose_by(
         layout::lead(f.kind, frame::lowest(f.rem)),
         f.note,
         f.map,

@@ -71,7 +71,8 @@ fn key(tree: &[u8], at: usize, n: usize, text: &mut [u8], spot: Spot) -> Spot
     out::quote(tree, at, n, text, spot)
 }
 
-pub fn text_bytes(tree: &[u8], at: usize, n: usize, text: &mut [u8], spot: Spot, f: Frame) -> Spot
+// The text of a node that is no name: with what leads it.
+fn text_words(tree: &[u8], at: usize, n: usize, text: &mut [u8], spot: Spot, f: Frame) -> Spot
     ensures { λ r. ⌜ bufferIn (now (text .exit)) r ≡ write (bufferIn (now (text .entry)) spot) (textBytes f (take n (drop at (now (tree .entry))))) ⌝ }
 {
     let kind = f.kind;
@@ -86,6 +87,16 @@ pub fn text_bytes(tree: &[u8], at: usize, n: usize, text: &mut [u8], spot: Spot,
     }
     let s = out::say(text, spot, places::lead_word(f, 0));
     out::copy(tree, at, n, text, s)
+}
+
+// A Reference or a Binding is its bytes.
+pub fn text_bytes(tree: &[u8], at: usize, n: usize, text: &mut [u8], spot: Spot, f: Frame) -> Spot
+    ensures { λ r. ⌜ bufferIn (now (text .exit)) r ≡ write (bufferIn (now (text .entry)) spot) (textBytes f (take n (drop at (now (tree .entry))))) ⌝ }
+{
+    if f.kind / 2 == 9 {
+        return out::copy(tree, at, n, text, spot);
+    }
+    text_words(tree, at, n, text, spot, f)
 }
 
 // A Literal that is spelled is noted.
