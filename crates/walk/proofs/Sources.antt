@@ -1,7 +1,7 @@
 -- Holes, sources, keys as strings, and the byte of a loop that awaits: one law for each way out.
 -- Assumes nothing.
 use mathlib.Core.Path.{_≡_, refl, sym, ap, subst, _∙_}
-use mathlib.Core.Bool.{Bool, true, false, cond, _&&_, _||_}
+use mathlib.Core.Bool.{Bool, true, false, cond, _&&_, false≢true}
 use mathlib.Core.List.{List, [], _∷_}
 use mathlib.Core.Option.{Option, some}
 use Prim.Native.Nat.{ℕ, zero, suc, _+_, _-_, _/_, _≤_, _<_}
@@ -44,7 +44,8 @@ use Rattle.pattern.specs.Keys.{nameIn, formIn, besideForm, literalBy, literalIn
 use Rattle.pattern.specs.Source.{readOf}
 use Rattle.pattern.proofs.KeyCases.{by-sort}
 use Rattle.direct.proofs.RestValues.{key-spelt}
-use Rattle.walk.specs.Modes as modes
+use Rattle.walk.specs.declared.modes.Mode.{Mode}
+use Rattle.walk.specs.declared.look.KeyClass.the-variants.{AsString}
 use Rattle.walk.proofs.KeyLengths.{ShortString, promised-short}
 use Rattle.direct.specs.Events.{Emit, puts, excludes}
 use Rattle.direct.specs.Events.Deed.{does}
@@ -52,10 +53,10 @@ use Rattle.direct.specs.Emit.{say}
 use Rattle.direct.specs.Keys.{stringBytes}
 use Rattle.walk.specs.Run.{Going, Does}
 use Rattle.walk.specs.Whole.{Good}
-use Rattle.walk.specs.Turns.{holeOf, reads, sourceOf, keyClass, keyString, awaits}
+use Rattle.walk.specs.Turns.{writesHoles, holeOf, reads, sourceOf, keyClass, keyString, awaits}
 use Rattle.walk.proofs.Running.{does-as, does-nothing}
 use Rattle.walk.proofs.Opened.{good-short}
-use Rattle.walk.proofs.Lookups.{when-yes, classOf, key-class}
+use Rattle.walk.proofs.Lookups.{when-yes, when-no, classOf, isString, entry-is, key-class}
 
 -- the same from the same
 pub does-same : {g h : Going} → h ≡ g → Does g h (say [])
@@ -66,22 +67,16 @@ does-between {g = g} {h = h} {h′ = h′} {g′ = g′} {e = e} a b d = rw (sym
 
 -- ---- holes
 
-pub hole-first : (m : ℕ) → m ≡ 1 → eqb m 1 || eqb m 16 ≡ true
-hole-first m e = rw e refl
-
-pub hole-second : (m : ℕ) → m ≡ 16 → eqb m 1 || eqb m 16 ≡ true
-hole-second m e = rw e refl
-
-pub hole-written : {g g′ : Going} (t : List ℕ) (m at q : ℕ) → eqb m 1 || eqb m 16 ≡ true → q ≡ onward t at 1 → part at (onward t at 1) t ≡ 0 ∷ []
-    → Does g g′ (say (puts (part at q t))) → Does g g′ (holeOf m)
+pub hole-written : {g g′ : Going} (t : List ℕ) (mode : Mode) (at q : ℕ) (b : Bool) → b ≡ writesHoles mode → b ≡ true → q ≡ onward t at 1 → part at (onward t at 1) t ≡ 0 ∷ []
+    → Does g g′ (say (puts (part at q t))) → Does g g′ (holeOf mode)
 unfolding holeOf
-hole-written t m at q b e h d =
+hole-written t mode at q b i j e h d =
     does-as d
-    (ap (λ (x : ℕ). say (puts (part at x t))) e ∙ ap (λ (bs : List ℕ). say (puts bs)) h ∙ when-yes (say (does (put 0) ∷ [])) _ _ _ b refl)
+    (ap (λ (x : ℕ). say (puts (part at x t))) e ∙ ap (λ (bs : List ℕ). say (puts bs)) h ∙ when-yes (say (does (put 0) ∷ [])) _ _ _ (sym i ∙ j) refl)
 
-pub hole-passed : {g g′ : Going} (m : ℕ) → (m ≡ 1 → ⊥) → (m ≡ 16 → ⊥) → g′ ≡ g → Does g g′ (holeOf m)
+pub hole-passed : {g g′ : Going} (mode : Mode) (b : Bool) → b ≡ writesHoles mode → b ≡ false → g′ ≡ g → Does g g′ (holeOf mode)
 unfolding holeOf
-hole-passed m a b e = rw (ne-eqb m 1 a, ne-eqb m 16 b) (does-same e)
+hole-passed mode b i j e = does-as (does-same e) (when-no (say []) _ _ _ (sym i ∙ j) refl)
 
 -- ---- sources
 
@@ -242,16 +237,16 @@ entryText t Private = []
 entryText t Again = []
 entryText t Other = []
 
-entry-string : (t : List ℕ) (c : Context) (q : Node) (k : Key) → classOf k ≡ modes.asString → keyEntry t c q k ≡ only (string (entryText t k))
+entry-string : (t : List ℕ) (c : Context) (q : Node) (k : Key) → classOf k ≡ AsString → keyEntry t c q k ≡ only (string (entryText t k))
 entry-string t c q (Name p n) h = refl
 entry-string t c q (Literal p n) h = refl
 entry-string t c q (variants.Number v) h = refl
 entry-string t c q (OtherForm v) h = refl
 entry-string t c q NoForm h = refl
-entry-string t c q Template h = absurd (omega arith)
-entry-string t c q Private h = absurd (omega arith)
-entry-string t c q Again h = absurd (omega arith)
-entry-string t c q Other h = absurd (omega arith)
+entry-string t c q Template h = absurd (false≢true (ap isString h))
+entry-string t c q Private h = absurd (false≢true (ap isString h))
+entry-string t c q Again h = absurd (false≢true (ap isString h))
+entry-string t c q Other h = absurd (false≢true (ap isString h))
 
 -- the text of the first of a list
 abbrev firstText : Items → List ℕ
@@ -262,16 +257,6 @@ firstText (Items.item n is) = textAt 2 n
 string-text : (bs : List ℕ) → firstText (only (string bs)) ≡ bs
 unfolding textAt pieceIn
 string-text bs = refl
-
-class-spelt : (k : Node) → keyClass k ≡ modes.asString → entryOf (keySort k) ≡ spelt
-unfolding keyClass
-class-spelt k h = go (entryOf (keySort k)) h
-  where
-    go : (s : lowering.Entry) → _≡_ {A = ℕ} (elim s [ spelt ↦ 1 | itself ↦ 2 | omitted ↦ 3 | saved ↦ 4 ]) 1 → s ≡ spelt
-    go spelt h = refl
-    go itself h = absurd (omega arith)
-    go omitted h = absurd (omega arith)
-    go saved h = absurd (omega arith)
 
 -- the bytes of a key's string
 pub record Spelt (t : List ℕ) (k : Node) (from n : ℕ) : Type 0 where
@@ -292,8 +277,8 @@ module _ (t : List ℕ) (d at : ℕ) where
   property-key = refl
 
   -- the text by what the key becomes
-  module _ (r x : Key) (b : Becomes t d at r) (e : r ≡ x) (h : classOf x ≡ modes.asString) where
-    class-one : keyClass here ≡ modes.asString
+  module _ (r x : Key) (b : Becomes t d at r) (e : r ≡ x) (h : classOf x ≡ AsString) where
+    class-one : keyClass here ≡ AsString
     class-one = sym (key-class t d at r x b e) ∙ h
 
     pub key-text : keyText here ≡ entryText t x
@@ -302,7 +287,7 @@ module _ (t : List ℕ) (d at : ℕ) where
         sym (string-text (keyText here))
         ∙ ap firstText
         (ap (λ (k : Node). only (string (keyText k))) (sym property-key)
-        ∙ sym (key-spelt c property (ap (λ (k : Node). entryOf (keySort k)) property-key ∙ class-spelt here class-one))
+        ∙ sym (key-spelt c property (ap (λ (k : Node). entryOf (keySort k)) property-key ∙ entry-is here AsString class-one))
         ∙ b .entry c property property-key
         ∙ ap (keyEntry t c property) e
         ∙ entry-string t c property x h)
@@ -310,7 +295,7 @@ module _ (t : List ℕ) (d at : ℕ) where
 
     pub string-is : keyString here ≡ stringBytes (entryText t x)
     unfolding keyString
-    string-is = rw (class-spelt here class-one, keyString) (ap stringBytes key-text)
+    string-is = rw (entry-is here AsString class-one, keyString) (ap stringBytes key-text)
 
   literal-short : (k : Node) → length (textAt 2 k) ≤ 16384 → length (literalText k) ≤ 16384
   unfolding literalText
@@ -334,7 +319,7 @@ module _ (t : List ℕ) (d at : ℕ) where
       (λ s. rw (s, keyText) (omega arith))
 
   -- bytes of the input
-  spelt-at : (r x : Key) (from n : ℕ) → Becomes t d at r → r ≡ x → classOf x ≡ modes.asString → Good t d at → from + n ≤ length t → entryText t x ≡ take n (drop from t) → Spelt t here from n
+  spelt-at : (r x : Key) (from n : ℕ) → Becomes t d at r → r ≡ x → classOf x ≡ AsString → Good t d at → from + n ≤ length t → entryText t x ≡ take n (drop from t) → Spelt t here from n
   unfolding part
   spelt-at r x from n b e h g w y =
       let a : length (keyText here) ≡ n = ap length (key-text r x b e h ∙ y) ∙ length-take-le n (drop from t) (simp length-drop (omega arith)) in
@@ -356,7 +341,7 @@ module _ (t : List ℕ) (d at : ℕ) where
   bare-spelt r b g e = spelt-at r NoForm 0 0 b e refl g (omega arith) refl
 
   -- what has no string
-  pub no-string : {A : Type 0} (r k : Key) → Becomes t d at r → r ≡ k → keyClass here ≡ modes.asString → (classOf k ≡ modes.asString → ⊥) → A
+  pub no-string : {A : Type 0} (r k : Key) → Becomes t d at r → r ≡ k → keyClass here ≡ AsString → (classOf k ≡ AsString → ⊥) → A
   no-string r k b e h z = absurd (z (key-class t d at r k b e ∙ h))
 
 -- the string is written
@@ -364,7 +349,7 @@ pub string-written : {g g′ : Going} (t : List ℕ) (k : Node) (from n : ℕ) �
 string-written t k from n s d = does-as (d (s .small) (s .within)) (ap (λ (bs : List ℕ). say (puts bs)) (s .string))
 
 -- a number's digits are
-pub number-written : {g g′ : Going} (t : List ℕ) (d at : ℕ) (r x : Key) → Becomes t d at r → r ≡ x → classOf x ≡ modes.asString → Does g g′ (say (puts (stringBytes (entryText t x)))) → Does g g′ (say (puts (keyString (lookNode t d at .value))))
+pub number-written : {g g′ : Going} (t : List ℕ) (d at : ℕ) (r x : Key) → Becomes t d at r → r ≡ x → classOf x ≡ AsString → Does g g′ (say (puts (stringBytes (entryText t x)))) → Does g g′ (say (puts (keyString (lookNode t d at .value))))
 number-written t d at r x b e h k = does-as k (ap (λ (bs : List ℕ). say (puts bs)) (sym (string-is t d at r x b e h)))
 
 -- the digits at the end of an array

@@ -1,6 +1,6 @@
 // Pieces that are written without a walk: holes, sources, keys as strings.
 use crate::kinds;
-use crate::modes;
+use crate::modes::Mode;
 use crate::walk::Walk;
 use pattern::keys::Key;
 use pattern::keys::transform_property_key;
@@ -21,18 +21,32 @@ ghost use Rattle.direct.specs.Events.Deed.{does};
 ghost use Rattle.direct.specs.Emit.{say};
 ghost use Rattle.walk.specs.Run.{goingOf, Does};
 ghost use Rattle.walk.specs.Whole.{Good};
-ghost use Rattle.walk.specs.Modes.{asString};
-ghost use Rattle.walk.specs.Turns.{holeOf, sourceOf, keyClass, keyString, awaits};
+ghost use Rattle.walk.specs.declared.look.KeyClass.the-variants.{AsString};
+ghost use Rattle.walk.specs.Turns.{writesHoles, holeOf, sourceOf, keyClass, keyString, awaits};
+
+// Whether the list is written.
+fn writes_holes(mode: Mode) -> bool
+    ensures { λ r. ⌜ r ≡ writesHoles mode ⌝ }
+{
+    match mode {
+        Mode::Viewed => true,
+        Mode::MovedOut => true,
+        Mode::Below(_) => false,
+        Mode::Property(_) => false,
+        Mode::ExcludedKey => false,
+        Mode::KeyValue => false,
+        Mode::Value(_) => false,
+        Mode::Declarator => false,
+        Mode::Binding => false,
+    }
+}
 
 // A hole of a list, written where the list is.
-pub fn hole(w: Walk, t: &[u8], out: &mut [u8], mode: usize) -> Walk
+pub fn hole(w: Walk, t: &[u8], out: &mut [u8], mode: Mode) -> Walk
     ensures { λ r. ⌜ (r .at ≡ onward (now (t .entry)) (w .at) 1) × ((l k : List ℕ) → part (w .at) (onward (now (t .entry)) (w .at) 1) (now (t .entry)) ≡ 0 ∷ [] → Does (goingOf (now (out .entry)) l k w) (goingOf (now (out .exit)) l k r) (holeOf mode)) ⌝ }
 {
     let q = step(t, w.at, 1);
-    if mode == modes::VIEWED {
-        return w.copy(t, out, q);
-    }
-    if mode == modes::MOVED_OUT {
+    if writes_holes(mode) {
         return w.copy(t, out, q);
     }
     w.to(q)
@@ -74,7 +88,7 @@ pub fn source(
 
 // A key as a string.
 pub fn string(w: Walk, t: &[u8], out: &mut [u8], left: usize, at: usize) -> Walk
-    ensures { λ r. ⌜ (r .at ≡ w .at) × ((l k : List ℕ) → Good (now (t .entry)) left at → keyClass (lookNode (now (t .entry)) left at .value) ≡ asString → Does (goingOf (now (out .entry)) l k w) (goingOf (now (out .exit)) l k r) (say (puts (keyString (lookNode (now (t .entry)) left at .value))))) ⌝ }
+    ensures { λ r. ⌜ (r .at ≡ w .at) × ((l k : List ℕ) → Good (now (t .entry)) left at → keyClass (lookNode (now (t .entry)) left at .value) ≡ AsString → Does (goingOf (now (out .entry)) l k w) (goingOf (now (out .exit)) l k r) (say (puts (keyString (lookNode (now (t .entry)) left at .value))))) ⌝ }
 {
     match transform_property_key(t, left, at) {
         Key::Name { from, len } => w.string(t, out, from, len),

@@ -1,5 +1,6 @@
-use native.Mathlib.Omega.{arith}
-use mathlib.Core.Path.{refl}
+use mathlib.Core.Path.{refl, ap}
+use mathlib.Core.Bool.{false≢true}
+use Rattle.walk.proofs.Lookups.{isString}
 use Rattle.walk.proofs.Sources as law
 use borrow.Author.Needs.{needs}
 use Rattle.walk.proofs.pieces.string.Statement.{statement}
@@ -21,16 +22,16 @@ returns-5 : tie.Need-returns-5
 returns-5 c = (c .before .before .string3 .ensures .1, λ l k g h. law.string-written _ _ _ _ (law.bare-spelt _ _ _ _ (c .before .before .before .before .before .before .transform-property-key .ensures) g (c .before .before .before .before .enum-told .given .1)) (c .before .before .string3 .ensures .0 l k))
 
 returns-6 : tie.Need-returns-6
-returns-6 c = (refl, λ l k g h. law.no-string _ _ _ _ _ (c .before .before .transform-property-key .ensures) (c .enum-told2 .given .1) h (λ z. omega arith))
+returns-6 c = (refl, λ l k g h. law.no-string _ _ _ _ _ (c .before .before .transform-property-key .ensures) (c .enum-told2 .given .1) h (λ z. false≢true (ap isString z)))
 
 returns-7 : tie.Need-returns-7
-returns-7 c = (refl, λ l k g h. law.no-string _ _ _ _ _ (c .before .before .transform-property-key .ensures) (c .enum-told3 .given .1) h (λ z. omega arith))
+returns-7 c = (refl, λ l k g h. law.no-string _ _ _ _ _ (c .before .before .transform-property-key .ensures) (c .enum-told3 .given .1) h (λ z. false≢true (ap isString z)))
 
 returns-8 : tie.Need-returns-8
-returns-8 c = (refl, λ l k g h. law.no-string _ _ _ _ _ (c .before .before .transform-property-key .ensures) (c .enum-told4 .given .1) h (λ z. omega arith))
+returns-8 c = (refl, λ l k g h. law.no-string _ _ _ _ _ (c .before .before .transform-property-key .ensures) (c .enum-told4 .given .1) h (λ z. false≢true (ap isString z)))
 
 returns-9 : tie.Need-returns-9
-returns-9 c = (refl, λ l k g h. law.no-string _ _ _ _ _ (c .before .before .transform-property-key .ensures) (c .enum-told5 .given .1) h (λ z. omega arith))
+returns-9 c = (refl, λ l k g h. law.no-string _ _ _ _ _ (c .before .before .transform-property-key .ensures) (c .enum-told5 .given .1) h (λ z. false≢true (ap isString z)))
 
 pub string-spec : {M : Type 1} → statement M
 string-spec =
