@@ -6,7 +6,7 @@ use mathlib.Core.List.{List, [], _∷_, _++_}
 use Prim.Native.Nat.{ℕ, zero, suc, _+_, _-_, _/_, _%_, _≤_, _<_}
 use native.Mathlib.Omega.{arith}
 use lib.Dec.{eqb}
-use borrow.Author.Tests.{ne-eqb, eq-eqb, eqb-true}
+use borrow.Author.Tests.{ne-eqb, eqb-true}
 use Rattle.tree.specs.Tree.{Node, Fields, Items, wideBytes, count, depth}
 use Rattle.tree.specs.Tree.Node.{node}
 use Rattle.tree.specs.Tree.Fields.{field}
@@ -28,7 +28,7 @@ use Rattle.pattern.proofs.CountsFit.{parts-fit}
 use Rattle.direct.specs.Events.{Place, Emit, puts, cell, emits}
 use Rattle.direct.specs.Events.Deed.{does, refuses}
 use Rattle.direct.specs.Emit.{say, _▷_, inner, stays}
-use Rattle.direct.specs.Views.{View, objectAt, objectRestAt, nameless, saysCell, emitsView}
+use Rattle.direct.specs.Views.{View, takes, objectAt, objectRestAt, nameless, saysCell, emitsView}
 use Rattle.direct.specs.Views.View.{replacing, taking}
 use Rattle.direct.specs.Keys.{emitsRest}
 use Rattle.direct.specs.Objects.{reachedIn, overReplaced, overParts}
@@ -40,17 +40,21 @@ use Rattle.direct.proofs.PatternViews.{says-cell}
 use Rattle.direct.proofs.Tests.{over-object-at}
 use Rattle.direct.proofs.Reached.{parts-reached, over-parts, over-arrays, over-anywhere}
 use Rattle.direct.proofs.AssignmentsByPart.{assignment-refused-5, assignment-refused-keys, assignment-stays, assignment-nested, assignment-top, target-nested, target-kept, rest-done, inner-refused, inner-done}
-use Rattle.walk.specs.Modes as modes
+use Rattle.walk.specs.declared.modes.Deep.the-variants.{Reached}
+use Rattle.walk.specs.declared.modes.Mode.the-variants as modes
+use Rattle.walk.specs.declared.views.View as views
+use Rattle.walk.specs.declared.views.View.the-variants.{Replacing, Taking}
+use Rattle.walk.specs.declared.reaches.Reach.the-variants.{Anywhere, Straight, InArrays}
 use Rattle.walk.specs.Run.{Going, Does, Clear}
 use Rattle.walk.specs.Whole.{Good}
-use Rattle.walk.specs.Turns.{viewOf, reachOf, turnOf, turnsOf, deepMode, suits, AllSuit, sourceOf, cellAt, givenDeeds, givenNode, unlessRefused}
+use Rattle.walk.specs.Turns.{viewOf, reachOf, turnOf, turnsOf, deepMode, suits, AllSuit, sourceOf, cellAt, givenDeeds, givenNode, unlessRefused, deepOf, deepSuits}
 use Rattle.walk.proofs.PlacesFit.{places-small}
 use Rattle.walk.proofs.Running.{does-then, does-as, does-to, clear-after, clear-still}
 use Rattle.walk.proofs.KeysOnceFull as walked
 use Rattle.walk.proofs.KeysOnceFull.{source-quiet, target-again}
 use Rattle.walk.proofs.SpreadArguments.{does-from}
 use Rattle.emit.proofs.MovedPatterns.{cell-one, as-refused}
-use Rattle.walk.proofs.Turning.{turn-anywhere, turns-value-in-arrays, turns-value-straight, suit-value-in-arrays, suit-value-straight}
+use Rattle.walk.proofs.Turning.{turn-anywhere, turns-value-in-arrays, turns-value-straight, suit-value-in-arrays, suit-value-straight, deep-reached, turns-value-reached, suit-value-reached}
 use Rattle.walk.proofs.Lookups.{cell-within}
 use Rattle.walk.proofs.Opened.{ObjectOpen, AssignmentOpen, object-open, assignment-open, no-good, is-here, position-here, good-short, good-within}
 
@@ -68,14 +72,14 @@ cell-says : {g g′ : Going} (z stem at : ℕ) → z ≡ cell stem at → Does g
 unfolding saysCell
 cell-says z stem at e d = does-as d (ap (λ (x : ℕ). say (does (temporary x stem) ∷ [])) e)
 
--- a view by its number
-view-taking : (v : ℕ) → v ≡ modes.takingView → viewOf v ≡ taking
+-- the views
+view-taking : (v : views.View) → v ≡ Taking → viewOf v ≡ taking
 unfolding viewOf
-view-taking v e = rw (eq-eqb v 2 e) refl
+view-taking v e = rw e refl
 
-view-replacing : (v : ℕ) → (v ≡ modes.takingView → ⊥) → viewOf v ≡ replacing
+view-replacing : (v : views.View) → v ≡ Replacing → viewOf v ≡ replacing
 unfolding viewOf
-view-replacing v e = rw (ne-eqb v 2 e) refl
+view-replacing v e = rw e refl
 
 -- the head of a sequence
 sequence-says : {g g₁ g₂ : Going} (k m : ℕ) → k ≡ m → m < 65536 → Does g g₁ (say (puts (28 ∷ 1 ∷ []))) → (k < 65536 → Does g₁ g₂ (say (puts (wideBytes k)))) → Does g g₂ (say (puts (28 ∷ 1 ∷ wideBytes m)))
@@ -219,51 +223,49 @@ module _ (t : List ℕ) where
   given-does {g = g} {g′ = g′} c c′ d d′ x stem input u w n good = carry (λ y f z. (input ≡ true → Good t f z) → Does g g′ (givenDeeds t f y input stem z)) u w refl n good
 
   -- what is done for the objects that were replaced
-  abbrev pub Replaced : Place → ℕ → ℕ → ℕ → Going → Going → Type 0
+  abbrev pub Replaced : Place → ℕ → views.View → ℕ → Going → Going → Type 0
   Replaced c d v p g g′ =
-      (v ≡ modes.takingView → byteAt t p ≡ 34) → Good t d p → hasArrayRestOverObjectRest (lookNode t d p .value) ≡ false → Does g g′ (overReplaced (emitsInner c) (viewOf v) (lookNode t d p .value))
+      (v ≡ Taking → byteAt t p ≡ 34) → Good t d p → hasArrayRestOverObjectRest (lookNode t d p .value) ≡ false → Does g g′ (overReplaced (emitsInner c) (viewOf v) (lookNode t d p .value))
 
-  deep-anywhere : deepMode modes.anywhere ≡ true
-  unfolding deepMode
-  deep-anywhere = refl
-
-  suits-anywhere : (n : Node) → hasArrayRestOverObjectRest n ≡ false → suits modes.anywhere n ≡ true
-  unfolding suits
+  suits-anywhere : (n : Node) → hasArrayRestOverObjectRest n ≡ false → deepSuits (Reached Anywhere) n ≡ true
+  unfolding deepSuits
   suits-anywhere n h = ap not h
 
   -- wherever they are
-  pub nst-below : {g h g′ : Going} (c : Place) (d v p q r : ℕ) → (v ≡ modes.takingView → ⊥) → h ≡ g → q ≡ p
-      → (Good t d q → deepMode modes.anywhere ≡ true → suits modes.anywhere (lookNode t d q .value) ≡ true → (r ≡ lookNode t d q .next) × Does h g′ (turnOf modes.anywhere c (lookNode t d q .value)))
+  pub nst-below : {g h g′ : Going} (c : Place) (d : ℕ) (v : views.View) (p q r : ℕ) → v ≡ Replacing → h ≡ g → q ≡ p
+      → (Good t d q → deepSuits (Reached Anywhere) (lookNode t d q .value) ≡ true → (r ≡ lookNode t d q .next) × Does h g′ (deepOf (Reached Anywhere) c (lookNode t d q .value)))
       → Replaced c d v p g g′
-  nst-below {h = h} {g′ = g′} c d v p q r other m w deep kind good ar =
+  unfolding reachOf
+  nst-below {h = h} {g′ = g′} c d v p q r one m w deep kind good ar =
       let n = lookNode t d p .value in
-      let D = subst (λ (z : ℕ). Good t d z → deepMode modes.anywhere ≡ true → suits modes.anywhere (lookNode t d z .value) ≡ true → (r ≡ lookNode t d z .next) × Does h g′ (turnOf modes.anywhere c (lookNode t d z .value))) w deep good deep-anywhere (suits-anywhere n ar) in
-      does-from m (does-as (D .1) (turn-anywhere c n ∙ sym (over-anywhere (emitsInner c) n) ∙ ap (λ (y : View). overReplaced (emitsInner c) y n) (sym (view-replacing v other))))
+      let D = subst (λ (z : ℕ). Good t d z → deepSuits (Reached Anywhere) (lookNode t d z .value) ≡ true → (r ≡ lookNode t d z .next) × Does h g′ (deepOf (Reached Anywhere) c (lookNode t d z .value))) w deep good (suits-anywhere n ar) in
+      does-from m (does-as (D .1) (deep-reached c n Anywhere ∙ sym (over-anywhere (emitsInner c) n) ∙ ap (λ (y : View). overReplaced (emitsInner c) y n) (sym (view-replacing v one))))
 
   -- below arrays alone
-  pub nst-arrays : {g g′ : Going} (c : Place) (d v p r e : ℕ) → v ≡ modes.takingView
-      → (byteAt t p ≡ 34 → Good t d p → AllSuit modes.valueInArrays (properties (lookNode t d p .value)) → (r ≡ e) × Does g g′ (turnsOf modes.valueInArrays c (properties (lookNode t d p .value))))
+  pub nst-arrays : {g g′ : Going} (c : Place) (d : ℕ) (v : views.View) (p r e : ℕ) → v ≡ Taking
+      → (byteAt t p ≡ 34 → Good t d p → AllSuit (modes.Value (Reached InArrays)) (properties (lookNode t d p .value)) → (r ≡ e) × Does g g′ (turnsOf (modes.Value (Reached InArrays)) c (properties (lookNode t d p .value))))
       → Replaced c d v p g g′
+  unfolding reachOf
   nst-arrays c d v p r e two values kind good ar =
       let n = lookNode t d p .value in
       let k : byteAt t p ≡ 34 = kind two in
       let o = values-clear d p good k ar in
-      does-as (values k good (suit-value-in-arrays (properties n) (o .0) (o .1)) .1)
-      (turns-value-in-arrays c (properties n) ∙ sym (over-arrays (emitsInner c) n) ∙ ap (λ (y : View). overReplaced (emitsInner c) y n) (sym (view-taking v two)))
+      does-as (values k good (suit-value-reached InArrays (properties n) (o .0) (o .1)) .1)
+      (turns-value-reached c (properties n) InArrays ∙ sym (over-arrays (emitsInner c) n) ∙ ap (λ (y : View). overReplaced (emitsInner c) y n) (sym (view-taking v two)))
 
   one-more : (a k m : ℕ) → a ≤ 16384 → k ≡ limited a → m ≡ limited (k + 1) → m ≡ suc a
   unfolding limited
   one-more a k m h e f = omega arith
 
-  pub nst-done : {g₀ g₁ g₂ g₃ g₄ h₄ g₅ g₆ g₇ : Going} (c c₁ c₂ : Place) (d d₁ d₂ v op p q r₅ k m x stem : ℕ) (input : Bool)
-      → ((v ≡ modes.takingView → byteAt t p ≡ 34) → k ≡ limited (placesIn (viewOf v) (lookNode t d p .value)))
-      → (Good t d p → (v ≡ modes.takingView → byteAt t p ≡ 34) → Does g₀ g₁ (handsNested (viewOf v) (c .mark) (lookNode t d p .value)))
+  pub nst-done : {g₀ g₁ g₂ g₃ g₄ h₄ g₅ g₆ g₇ : Going} (c c₁ c₂ : Place) (d d₁ d₂ : ℕ) (v : views.View) (op p q r₅ k m x stem : ℕ) (input : Bool)
+      → ((v ≡ Taking → byteAt t p ≡ 34) → k ≡ limited (placesIn (viewOf v) (lookNode t d p .value)))
+      → (Good t d p → (v ≡ Taking → byteAt t p ≡ 34) → Does g₀ g₁ (handsNested (viewOf v) (c .mark) (lookNode t d p .value)))
       → Does g₁ g₂ (say (puts (28 ∷ 1 ∷ []))) → m ≡ limited (k + 1) → (m < 65536 → Does g₂ g₃ (say (puts (wideBytes m)))) → (op < 256 → Does g₃ g₄ (assignHead op))
       → h₄ ≡ g₄ → q ≡ p → (c₁ ≡ inner c) × (d₁ ≡ d)
       → (Good t d₁ q → (r₅ ≡ lookNode t d₁ q .next) × Does h₄ g₅ (emitsView c₁ (viewOf v) (lookNode t d₁ q .value)))
       → (c₂ ≡ inner c) × (d₂ ≡ d) → ((input ≡ true → Good t d₂ x) → Does g₅ g₆ (givenDeeds t d₂ c₂ input stem x))
       → Replaced c d v p g₆ g₇
-      → (v ≡ modes.takingView → byteAt t p ≡ 34) → Good t d p → (input ≡ true → Good t d x) → hasArrayRestOverObjectRest (lookNode t d p .value) ≡ false → op < 256
+      → (v ≡ Taking → byteAt t p ≡ 34) → Good t d p → (input ≡ true → Good t d x) → hasArrayRestOverObjectRest (lookNode t d p .value) ≡ false → op < 256
       → Does g₀ g₇ (emitsNest c (viewOf v) op (lookNode t d p .value) (givenDeeds t d (inner c) input stem x))
   unfolding emitsNest
   nst-done c c₁ c₂ d d₁ d₂ v op p q r₅ k m x stem input pk hands two pm wide ass t₄ w₄ i₁ view i₂ giv last kind good gx ar lo =
@@ -284,13 +286,13 @@ module _ (t : List ℕ) where
   value-given c d p z e = ap (λ (x : ℕ). say (does (temporary x 3) ∷ [])) e
 
   nest-as : {g g′ : Going} (c c′ : Place) (d d′ p z : ℕ) → c′ ≡ c → d′ ≡ d → z ≡ cell 3 p
-      → ((_≡_ {A = ℕ} 2 2 → byteAt t p ≡ 34) → Good t d′ p → (false ≡ true → Good t d′ z) → hasArrayRestOverObjectRest (lookNode t d′ p .value) ≡ false → 1 < 256
-      → Does g g′ (emitsNest c′ (viewOf modes.takingView) 1 (lookNode t d′ p .value) (givenDeeds t d′ (inner c′) false 3 z)))
+      → ((_≡_ {A = views.View} Taking Taking → byteAt t p ≡ 34) → Good t d′ p → (false ≡ true → Good t d′ z) → hasArrayRestOverObjectRest (lookNode t d′ p .value) ≡ false → 1 < 256
+      → Does g g′ (emitsNest c′ (viewOf Taking) 1 (lookNode t d′ p .value) (givenDeeds t d′ (inner c′) false 3 z)))
       → byteAt t p ≡ 34 → Good t d p → hasArrayRestOverObjectRest (lookNode t d p .value) ≡ false → Does g g′ (emitsNest c taking 1 (lookNode t d p .value) (saysCell 3 p))
   unfolding viewOf
   nest-as {g = g} {g′ = g′} c c′ d d′ p z u w e n k good ar =
       does-as
-      (carry (λ y f q. (_≡_ {A = ℕ} 2 2 → byteAt t q ≡ 34) → Good t f q → (false ≡ true → Good t f z) → hasArrayRestOverObjectRest (lookNode t f q .value) ≡ false → 1 < 256
+      (carry (λ y f q. (_≡_ {A = views.View} Taking Taking → byteAt t q ≡ 34) → Good t f q → (false ≡ true → Good t f z) → hasArrayRestOverObjectRest (lookNode t f q .value) ≡ false → 1 < 256
       → Does g g′ (emitsNest y taking 1 (lookNode t f q .value) (givenDeeds t f (inner y) false 3 z))) u w refl n
       (λ _. k) good (λ x. absurd (false≢true x)) ar (omega arith))
       (ap (λ (s : Emit). emitsNest c taking 1 (lookNode t d p .value) s) (value-given (inner c) d p z e))
@@ -299,26 +301,26 @@ module _ (t : List ℕ) where
   object-within d p g = omega (arith, good-within t d p g)
 
   -- whether objects are replaced below its arrays
-  some-replaced : (n : Node) (k : ℕ) → k ≡ limited (count (reachedIn (reachOf modes.reachInArrays) n)) → 0 < k → isEmpty (reachedIn inArrays n) ≡ false
+  some-replaced : (n : Node) (k : ℕ) → k ≡ limited (count (reachedIn (reachOf InArrays) n)) → 0 < k → isEmpty (reachedIn inArrays n) ≡ false
   unfolding reachOf limited
   some-replaced n k e h = some-counted (reachedIn inArrays n) (omega arith)
 
-  none-replaced : (n : Node) (k : ℕ) → k ≡ limited (count (reachedIn (reachOf modes.reachInArrays) n)) → k ≤ 0 → isEmpty (reachedIn inArrays n) ≡ true
+  none-replaced : (n : Node) (k : ℕ) → k ≡ limited (count (reachedIn (reachOf InArrays) n)) → k ≤ 0 → isEmpty (reachedIn inArrays n) ≡ true
   unfolding reachOf limited
   none-replaced n k e h = none-counted (reachedIn inArrays n) (omega arith)
 
-  pub tgt-nested : {g g′ : Going} (c c₁ : Place) (d d₁ p z k : ℕ) → (byteAt t p ≡ 34 → k ≡ limited (count (reachedIn (reachOf modes.reachInArrays) (lookNode t d p .value)))) → 0 < k → (c₁ ≡ inner c) × (d₁ ≡ d) → CellIs z 3 p
-      → ((_≡_ {A = ℕ} 2 2 → byteAt t p ≡ 34) → Good t d₁ p → (false ≡ true → Good t d₁ z) → hasArrayRestOverObjectRest (lookNode t d₁ p .value) ≡ false → 1 < 256
-      → Does g g′ (emitsNest c₁ (viewOf modes.takingView) 1 (lookNode t d₁ p .value) (givenDeeds t d₁ (inner c₁) false 3 z)))
+  pub tgt-nested : {g g′ : Going} (c c₁ : Place) (d d₁ p z k : ℕ) → (byteAt t p ≡ 34 → k ≡ limited (count (reachedIn (reachOf InArrays) (lookNode t d p .value)))) → 0 < k → (c₁ ≡ inner c) × (d₁ ≡ d) → CellIs z 3 p
+      → ((_≡_ {A = views.View} Taking Taking → byteAt t p ≡ 34) → Good t d₁ p → (false ≡ true → Good t d₁ z) → hasArrayRestOverObjectRest (lookNode t d₁ p .value) ≡ false → 1 < 256
+      → Does g g′ (emitsNest c₁ (viewOf Taking) 1 (lookNode t d₁ p .value) (givenDeeds t d₁ (inner c₁) false 3 z)))
       → byteAt t p ≡ 34 → Good t d p → hasArrayRestOverObjectRest (lookNode t d p .value) ≡ false → Does g g′ (emitsTarget c (lookNode t d p .value))
   tgt-nested c c₁ d d₁ p z k e h i ce n by good ar =
       let y = lookNode t d p .value in
       does-as (nest-as (inner c) c₁ d d₁ p z (i .0) (i .1) (cell-within _ _ _ ce (object-within d p good)) n by good ar)
       (ap (λ (x : ℕ). emitsNest (inner c) taking 1 y (saysCell 3 x)) (sym (position-here t d p)) ∙ sym (target-nested c y (some-replaced y k (e by) h)))
 
-  pub tgt-kept : {g₀ g₁ h₁ g₂ g₃ : Going} (c c₁ : Place) (d d₁ p q r z k : ℕ) → (byteAt t p ≡ 34 → k ≡ limited (count (reachedIn (reachOf modes.reachInArrays) (lookNode t d p .value)))) → k ≤ 0 → (c₁ ≡ inner c) × (d₁ ≡ d)
+  pub tgt-kept : {g₀ g₁ h₁ g₂ g₃ : Going} (c c₁ : Place) (d d₁ p q r z k : ℕ) → (byteAt t p ≡ 34 → k ≡ limited (count (reachedIn (reachOf InArrays) (lookNode t d p .value)))) → k ≤ 0 → (c₁ ≡ inner c) × (d₁ ≡ d)
       → (1 < 256 → Does g₀ g₁ (assignHead 1)) → h₁ ≡ g₁ → q ≡ p
-      → (Good t d₁ q → (r ≡ lookNode t d₁ q .next) × Does h₁ g₂ (emitsView c₁ (viewOf modes.takingView) (lookNode t d₁ q .value)))
+      → (Good t d₁ q → (r ≡ lookNode t d₁ q .next) × Does h₁ g₂ (emitsView c₁ (viewOf Taking) (lookNode t d₁ q .value)))
       → CellIs z 3 p → Does g₂ g₃ (say (does (temporary z 3) ∷ []))
       → byteAt t p ≡ 34 → Good t d p → hasArrayRestOverObjectRest (lookNode t d p .value) ≡ false → Does g₀ g₃ (emitsTarget c (lookNode t d p .value))
   unfolding viewOf
@@ -399,7 +401,7 @@ module _ (t : List ℕ) where
       → CellIs z 3 p → Does g₄ g₅ (say (does (temporary z 3) ∷ []))
       → ((input ≡ true → Good t d₁ x) → Does g₅ g₆ (givenDeeds t d₁ c₁ input stem x))
       → (byteAt t p ≡ 34 → Good t d p → hasArrayRestOverObjectRest (lookNode t d p .value) ≡ false → Does g₆ g₇ (emitsTarget c (lookNode t d p .value)))
-      → (byteAt t p ≡ 34 → Good t d p → AllSuit modes.valueStraight (properties (lookNode t d p .value)) → (r ≡ listAt (d - 1) p .next) × Does g₇ g₈ (turnsOf modes.valueStraight c (properties (lookNode t d p .value))))
+      → (byteAt t p ≡ 34 → Good t d p → AllSuit (modes.Value (Reached Straight)) (properties (lookNode t d p .value)) → (r ≡ listAt (d - 1) p .next) × Does g₇ g₈ (turnsOf (modes.Value (Reached Straight)) c (properties (lookNode t d p .value))))
       → (1 < 256 → Does g₈ i₀ (assignHead 1)) → y ≡ r → e ≡ d - 1 → (c₂ ≡ inner c) × (d₂ ≡ e)
       → (Good t d₂ y → Does i₀ i₁ (emits c₂ (lookNode t d₂ y .value)))
       → CellIs z₂ 3 p → ((u : List ℕ) → sourceOf u f ≡ say (does (temporary z₂ 3) ∷ [])) → c₃ ≡ inner c
@@ -407,7 +409,7 @@ module _ (t : List ℕ) where
       → (p < 16384 → Does i₂ g₉ last) → last ≡ cond (c .statement) (say []) (saysCell 3 p)
       → byteAt t p ≡ 34 → hasRest (lookNode t d p .value) ≡ true → Good t d p → (input ≡ true → Good t d x) → hasArrayRestOverObjectRest (lookNode t d p .value) ≡ false
       → Topped c d p input stem x g₀ g₉
-  unfolding emitsTop
+  unfolding emitsTop reachOf
   top-does c c₁ c₂ c₃ d d₁ d₂ e p r y stem x k z z₂ input b f last lacks h in₁ hands kk two wide ass ce temp giv tgt parts as₂ yy le in₂ nod ce₂ so in₃ res end ends by hr good gx ar =
       let n = lookNode t d p .value in
       let X = givenDeeds t d (inner c) input stem x in
@@ -415,7 +417,7 @@ module _ (t : List ℕ) where
       let co = count-is c d p k good (kk good by) in
       let T = tgt by good ar in
       let o = values-clear d p good by ar in
-      let P = parts by good (suit-value-straight (properties n) (o .0) (o .1)) in
+      let P = parts by good (suit-value-reached Straight (properties n) (o .0) (o .1)) in
       let R = rest-last c c₃ c₂ d d₁ d₂ e p r y z₂ f (clear-still (clear-after T) (P .1)) as₂ yy (P .0) le in₂ nod ce₂ so (in₃, in₁ .1) res by hr good in
       top-way c n X 0 (let w : b ≡ 0 = omega arith in sym lacks ∙ w)
       (does-as
@@ -425,7 +427,7 @@ module _ (t : List ℕ) where
       (does-then (cell-says z 3 p (cell-within _ _ _ ce wi) temp)
       (does-then (given-does (inner c) c₁ d d₁ x stem input (in₁ .0) (in₁ .1) giv gx)
       (does-then T
-      (does-then (does-as (P .1) (turns-value-straight c (properties n) ∙ sym (over-parts (emitsInner c) n)))
+      (does-then (does-as (P .1) (turns-value-reached c (properties n) Straight ∙ sym (over-parts (emitsInner c) n)))
       (does-then R (does-as (end wi) ends)))))))))
       (ap (λ (y : ℕ). handsTop (c .root) (c .mark) n ▷ say (puts (28 ∷ 1 ∷ wideBytes (topCount c n))) ▷ assignHead 1 ▷ saysCell 3 y ▷ X ▷ emitsTarget c n ▷ overParts (emitsInner c) n ▷ emitsRestOf c n ▷ cond (c .statement) (say []) (saysCell 3 y))
       (sym (position-here t d p))))
@@ -506,27 +508,27 @@ module _ (t : List ℕ) where
       ∙ sym (top-is c 0 op p ps y X h′) ∙ ap (λ (m : Node). emits c (assignmentAt 0 op m X)) (sym (r .whole)))
 
   asn-nest : {g g′ : Going} (c : Place) (d op p x : ℕ) (input : Bool) → isTop (lookNode t d p .value) ≡ false
-      → ((_≡_ {A = ℕ} 1 2 → byteAt t p ≡ 34) → Good t d p → (input ≡ true → Good t d x) → hasArrayRestOverObjectRest (lookNode t d p .value) ≡ false → op < 256
-      → Does g g′ (emitsNest c (viewOf modes.replacingView) op (lookNode t d p .value) (givenDeeds t d (inner c) input 1 x)))
+      → ((_≡_ {A = views.View} Replacing Taking → byteAt t p ≡ 34) → Good t d p → (input ≡ true → Good t d x) → hasArrayRestOverObjectRest (lookNode t d p .value) ≡ false → op < 256
+      → Does g g′ (emitsNest c (viewOf Replacing) op (lookNode t d p .value) (givenDeeds t d (inner c) input 1 x)))
       → Good t d p → (input ≡ true → Good t d x) → hasArrayRestOverObjectRest (lookNode t d p .value) ≡ false → hasObjectRest (lookNode t d p .value) ≡ true → op < 256
       → Does g g′ (emits c (assignmentAt 0 op (lookNode t d p .value) (givenNode t d input x)))
   unfolding viewOf
   asn-nest c d op p x input h n good gx ar ob lo =
       let m = lookNode t d p .value in
-      does-as (n (λ e. absurd (omega (arith, e))) good gx ar lo)
+      does-as (n (λ e. absurd (false≢true (ap (λ (v : views.View). takes (viewOf v)) e))) good gx ar lo)
       (ap (λ (s : Emit). emitsNest c replacing op m s) (sym (given-is (inner c) d x input)) ∙ sym (assignment-nested c 0 op m (givenNode t d input x) ar h ob))
 
   pub asn-plain : {g g′ : Going} (c : Place) (d op p x k : ℕ) (input s : Bool) → Peeked t p k → k ≡ 34 → s ≡ eqb (byteAt t (onward t p 1) / 2 % 2) 1 → s ≡ false
-      → ((_≡_ {A = ℕ} 1 2 → byteAt t p ≡ 34) → Good t d p → (input ≡ true → Good t d x) → hasArrayRestOverObjectRest (lookNode t d p .value) ≡ false → op < 256
-      → Does g g′ (emitsNest c (viewOf modes.replacingView) op (lookNode t d p .value) (givenDeeds t d (inner c) input 1 x)))
+      → ((_≡_ {A = views.View} Replacing Taking → byteAt t p ≡ 34) → Good t d p → (input ≡ true → Good t d x) → hasArrayRestOverObjectRest (lookNode t d p .value) ≡ false → op < 256
+      → Does g g′ (emitsNest c (viewOf Replacing) op (lookNode t d p .value) (givenDeeds t d (inner c) input 1 x)))
       → Good t d p → (input ≡ true → Good t d x) → hasArrayRestOverObjectRest (lookNode t d p .value) ≡ false → hasObjectRest (lookNode t d p .value) ≡ true → op < 256
       → Does g g′ (emits c (assignmentAt 0 op (lookNode t d p .value) (givenNode t d input x)))
   asn-plain c d op p x k input s pk kk se sh n good gx ar ob lo =
       asn-nest c d op p x input (no-rest-top (lookNode t d p .value) (no-second d p good (sym (pk .value) ∙ kk) (sym se ∙ sh))) n good gx ar ob lo
 
   pub asn-other : {g g′ : Going} (c : Place) (d op p x k : ℕ) (input : Bool) → Peeked t p k → (k ≡ 34 → ⊥)
-      → ((_≡_ {A = ℕ} 1 2 → byteAt t p ≡ 34) → Good t d p → (input ≡ true → Good t d x) → hasArrayRestOverObjectRest (lookNode t d p .value) ≡ false → op < 256
-      → Does g g′ (emitsNest c (viewOf modes.replacingView) op (lookNode t d p .value) (givenDeeds t d (inner c) input 1 x)))
+      → ((_≡_ {A = views.View} Replacing Taking → byteAt t p ≡ 34) → Good t d p → (input ≡ true → Good t d x) → hasArrayRestOverObjectRest (lookNode t d p .value) ≡ false → op < 256
+      → Does g g′ (emitsNest c (viewOf Replacing) op (lookNode t d p .value) (givenDeeds t d (inner c) input 1 x)))
       → Good t d p → (input ≡ true → Good t d x) → hasArrayRestOverObjectRest (lookNode t d p .value) ≡ false → hasObjectRest (lookNode t d p .value) ≡ true → op < 256
       → Does g g′ (emits c (assignmentAt 0 op (lookNode t d p .value) (givenNode t d input x)))
   asn-other c d op p x k input pk kn n good gx ar ob lo =

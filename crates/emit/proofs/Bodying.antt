@@ -31,7 +31,7 @@ use Rattle.direct.proofs.OneLevel.{emits-unchanged}
 use Rattle.direct.proofs.RulesKeep.{function-kept, arrow-kept}
 use Rattle.direct.proofs.Bodies.{emits-body-in, emits-directed-in, emits-return-in}
 use Rattle.direct.proofs.HeadRules.{emits-function, emits-arrow}
-use Rattle.walk.specs.Modes as modes
+use Rattle.walk.specs.declared.modes.Mode.the-variants as modes
 use Rattle.walk.specs.Run.{Going, Does}
 use Rattle.walk.specs.Whole.{slotDeeds, GoodItems, GoodList, GoodField, GoodSlot, Good, Ruled}
 use Rattle.walk.specs.Turns.{turnsOf, AllSuit, AllBind}
@@ -270,7 +270,7 @@ module _ (t : List ℕ) where
         ▷ say (puts (part at (onward t at 5) t))
         ▷ slotDeeds t (lookNode t d) false (scoped c) (sortOf 32) (byteAt t (onward t at 1) / 4 % 2) (onward t at 5)
         ▷ say (puts (part params (onward t params 2) t))
-        ▷ turnsOf modes.binding (scoped c) (bound .value)
+        ▷ turnsOf modes.Binding (scoped c) (bound .value)
         ▷ slotDeeds t (lookNode t d) false (scoped c) (sortOf 32) (byteAt t (onward t at 1) / 16 % 2) (bound .next)
         ▷ emits (scoped c) (bodyIn (gather movedFrom (bound .value)) (lookNode t d written .value))
         ≡ emits c (lookNode t (suc d) at .value)
@@ -288,7 +288,7 @@ module _ (t : List ℕ) where
         let head : puts (part at (onward t at 5) t) ≡ puts (14 ∷ mapOf fs ∷ []) ++ (marks m ++ puts (sort ∷ [])) =
         ap puts (op .head ∙ ap (λ (x : ℕ). 14 ∷ x ∷ wideBytes m ++ (sort ∷ [])) map) ∙ ap (λ (x : List Deed). puts (14 ∷ mapOf fs ∷ []) ++ (x ++ puts (sort ∷ []))) (sym (marks-own m (op .marked))) in
         let body : Emit = emits (scoped c) (bodyIn (gather movedFrom qs) b) in
-        ap₂ (λ (x : List Deed) (y : Emit). say (makes (gather movedFrom qs)) ▷ say x ▷ y ▷ say (puts (part params (onward t params 2) t)) ▷ turnsOf modes.binding (scoped c) qs ▷ slotDeeds t (lookNode t d) false (scoped c) (sortOf 32) (byteAt t (onward t at 1) / 16 % 2) (bound .next) ▷ body)
+        ap₂ (λ (x : List Deed) (y : Emit). say (makes (gather movedFrom qs)) ▷ say x ▷ y ▷ say (puts (part params (onward t params 2) t)) ▷ turnsOf modes.Binding (scoped c) qs ▷ slotDeeds t (lookNode t d) false (scoped c) (sortOf 32) (byteAt t (onward t at 1) / 16 % 2) (bound .next) ▷ body)
         head (given-deeds (scoped c) d (byteAt t (onward t at 1) / 4 % 2) (onward t at 5) (omega arith))
         ∙ ap₂ (λ (x : List ℕ) (y : Emit). say (makes (gather movedFrom qs)) ▷ say (puts (14 ∷ mapOf fs ∷ []) ++ (marks m ++ puts (sort ∷ []))) ▷ emitsGiven (emits (scoped c)) name ▷ say (puts x) ▷ y ▷ slotDeeds t (lookNode t d) false (scoped c) (sortOf 32) (byteAt t (onward t at 1) / 16 % 2) (bound .next) ▷ body)
         (op .list .head ∙ ap (λ (x : ℕ). wideBytes x) (sym (op .list .many))) (turns-binding (scoped c) qs (look-solid t (lookNode t d) (wideAt t params) (onward t params 2)))
@@ -300,9 +300,9 @@ module _ (t : List ℕ) where
   pub function-moved : {g g₁ g₂ g₃ g₄ g₅ g₆ g₇ g′ : Going} (c c₁ : Place) (d l e at q p bits s n first y₀ y₁ y₂ y₃ y₄ y₅ z w x : ℕ) (b f : Bool)
       → b ≡ any isMoved (itemsAt 3 (lookNode t d at .value)) → b ≡ true → f ≡ stands 5 (lookNode t d at .value) → f ≡ true → l ≡ d - 1 → c₁ ≡ scoped c → e ≡ l
       → q ≡ onward t at 5 → p ≡ onward t at 1 → Peeked t p bits → s ≡ lookSlot t (lookNode t l) (sortOf 32) (bits / 4 % 2) q .next → Wide t s n → first ≡ onward t s 2
-      → y₀ ≡ at → (GoodItems t (lookNode t l) (Good t l) false false n first → AllSuit modes.binding (lookItems t (lookNode t l) false n first .value) → Does g g₁ (say (makes (gather movedFrom (lookItems t (lookNode t l) false n first .value)))))
+      → y₀ ≡ at → (GoodItems t (lookNode t l) (Good t l) false false n first → AllSuit modes.Binding (lookItems t (lookNode t l) false n first .value) → Does g g₁ (say (makes (gather movedFrom (lookItems t (lookNode t l) false n first .value)))))
       → y₁ ≡ q → Does g₁ g₂ (say (puts (part y₀ q t))) → Slotted t 32 (bits / 4 % 2) e y₁ y₂ g₂ g₃ false c₁ → y₃ ≡ first → Does g₃ g₄ (say (puts (part y₂ first t)))
-      → Through t 11 e false n y₃ y₄ g₄ g₅ c₁ → Slotted t 32 (bits / 16 % 2) e y₄ y₅ g₅ g₆ false c₁ → (byteAt t y₅ ≡ 16 → Bodied e y₅ z first n g₆ g₇ c₁)
+      → Through t modes.Binding e false n y₃ y₄ g₄ g₅ c₁ → Slotted t 32 (bits / 16 % 2) e y₄ y₅ g₅ g₆ false c₁ → (byteAt t y₅ ≡ 16 → Bodied e y₅ z first n g₆ g₇ c₁)
       → g′ ≡ g₇ → w ≡ lookNode t d at .next → x ≡ w → byteAt t at ≡ 14 → Ruled t d at x g g′ (emits c)
   function-moved c c₁ zero l e at q p bits s n first y₀ y₁ y₂ y₃ y₄ y₅ z w x b f bb bt ff ft ll cc ee qq pp bi ss nn fi h₀ mk h₁ cp sl h₃ cq sq st bd to ww xx kind = (xx ∙ ww, λ good. no-good t at good)
   function-moved c c₁ (suc d) l e at q p bits s n first y₀ y₁ y₂ y₃ y₄ y₅ z w x b f bb bt ff ft ll cc ee qq pp bi ss nn fi h₀ mk h₁ cp sl h₃ cq sq st bd to ww xx kind = (
@@ -318,13 +318,13 @@ module _ (t : List ℕ) where
         let q₁ : y₁ ≡ onward t at 5 = h₁ ∙ qq in
         let q₂ : y₂ ≡ params d at = sl .0 ∙ rw (ed, mm, q₁) (given-end d (byteAt t (onward t at 1) / 4 % 2) (onward t at 5) (omega arith)) in
         let q₃ : y₃ ≡ onward t (params d at) 2 = h₃ ∙ fp in
-        let suit : AllSuit modes.binding (bound d at .value) = suit-binding (bound d at .value) (op .params) in
+        let suit : AllSuit modes.Binding (bound d at .value) = suit-binding (bound d at .value) (op .params) in
         let goodl : GoodItems t (lookNode t l) (Good t l) false false n first = good-as t false false l d n _ first _ ld np fp (op .list .good) in
         let goode : GoodItems t (lookNode t e) (Good t e) false false n first = good-as t false false e d n _ first _ ed np fp (op .list .good) in
         let goody : GoodItems t (lookNode t e) (Good t e) false false n y₃ = good-as t false false e d n _ y₃ _ ed np q₃ (op .list .good) in
-        let suitl : AllSuit modes.binding (lookItems t (lookNode t l) false n first .value) = subst (λ (is : Seen Items). AllSuit modes.binding (is .value)) (sym (look-as t false l d n _ first _ ld np fp)) suit in
-        let suite : AllSuit modes.binding (lookItems t (lookNode t e) false n first .value) = subst (λ (is : Seen Items). AllSuit modes.binding (is .value)) (sym (look-as t false e d n _ first _ ed np fp)) suit in
-        let suity : AllSuit modes.binding (lookItems t (lookNode t e) false n y₃ .value) = subst (λ (is : Seen Items). AllSuit modes.binding (is .value)) (sym (look-as t false e d n _ y₃ _ ed np q₃)) suit in
+        let suitl : AllSuit modes.Binding (lookItems t (lookNode t l) false n first .value) = subst (λ (is : Seen Items). AllSuit modes.Binding (is .value)) (sym (look-as t false l d n _ first _ ld np fp)) suit in
+        let suite : AllSuit modes.Binding (lookItems t (lookNode t e) false n first .value) = subst (λ (is : Seen Items). AllSuit modes.Binding (is .value)) (sym (look-as t false e d n _ first _ ed np fp)) suit in
+        let suity : AllSuit modes.Binding (lookItems t (lookNode t e) false n y₃ .value) = subst (λ (is : Seen Items). AllSuit modes.Binding (is .value)) (sym (look-as t false e d n _ y₃ _ ed np q₃)) suit in
         let run = sq goody suity in
         let q₄ : y₄ ≡ bound d at .next = run .0 ∙ ap (λ (is : Seen Items). is .next) (look-as t false e d n _ y₃ _ ed np q₃) in
         let q₅ : y₅ ≡ written d at = st .0 ∙ rw (ed, mm, q₄) (given-end d (byteAt t (onward t at 1) / 16 % 2) (bound d at .next) (omega arith)) in
@@ -354,7 +354,7 @@ module _ (t : List ℕ) where
     arrow-deeds : (c : Place) → Good t (suc d) at → ArrowOpen t d at → any isMoved (itemsAt 0 (lookNode t (suc d) at .value)) ≡ true
         → say (makes (gather movedFrom (taken .value)))
         ▷ say (puts (part at (onward t (onward t at 2) 2) t))
-        ▷ turnsOf modes.binding (scoped c) (taken .value)
+        ▷ turnsOf modes.Binding (scoped c) (taken .value)
         ▷ slotDeeds t (lookNode t d) false (scoped c) (sortOf 32) (byteAt t (onward t at 1) / 2 % 2) (taken .next)
         ▷ emits (scoped c) (bodyIn (gather movedFrom (taken .value)) (lookNode t d body .value))
         ≡ emits c (lookNode t (suc d) at .value)
@@ -375,8 +375,8 @@ module _ (t : List ℕ) where
 
   pub arrow-moved : {g g₁ g₂ g₃ g₄ g₅ g′ : Going} (c c₁ : Place) (d l e at q n first y₀ y₁ y₂ y₃ bit z w x : ℕ) (b : Bool)
       → b ≡ any isMoved (itemsAt 0 (lookNode t d at .value)) → b ≡ true → l ≡ d - 1 → c₁ ≡ scoped c → e ≡ l → q ≡ onward t at 2 → Wide t q n → first ≡ onward t q 2
-      → y₀ ≡ at → (GoodItems t (lookNode t l) (Good t l) false false n first → AllSuit modes.binding (lookItems t (lookNode t l) false n first .value) → Does g g₁ (say (makes (gather movedFrom (lookItems t (lookNode t l) false n first .value)))))
-      → y₁ ≡ first → Does g₁ g₂ (say (puts (part y₀ first t))) → Through t 11 e false n y₁ y₂ g₂ g₃ c₁ → bit ≡ byteAt t (onward t at 1) / 2 % 2 → Slotted t 32 bit e y₂ y₃ g₃ g₄ false c₁
+      → y₀ ≡ at → (GoodItems t (lookNode t l) (Good t l) false false n first → AllSuit modes.Binding (lookItems t (lookNode t l) false n first .value) → Does g g₁ (say (makes (gather movedFrom (lookItems t (lookNode t l) false n first .value)))))
+      → y₁ ≡ first → Does g₁ g₂ (say (puts (part y₀ first t))) → Through t modes.Binding e false n y₁ y₂ g₂ g₃ c₁ → bit ≡ byteAt t (onward t at 1) / 2 % 2 → Slotted t 32 bit e y₂ y₃ g₃ g₄ false c₁
       → Bodied e y₃ z first n g₄ g₅ c₁ → g′ ≡ g₅ → w ≡ lookNode t d at .next → x ≡ w → byteAt t at ≡ 17 → Ruled t d at x g g′ (emits c)
   arrow-moved c c₁ zero l e at q n first y₀ y₁ y₂ y₃ bit z w x b bb bt ll cc ee qq nn fi h₀ mk h₁ cp sq bi st bd to ww xx kind = (xx ∙ ww, λ good. no-good t at good)
   arrow-moved c c₁ (suc d) l e at q n first y₀ y₁ y₂ y₃ bit z w x b bb bt ll cc ee qq nn fi h₀ mk h₁ cp sq bi st bd to ww xx kind = (
@@ -388,13 +388,13 @@ module _ (t : List ℕ) where
         let np : n ≡ wideAt t (onward t at 2) = nn .value ∙ ap (λ (x : ℕ). wideAt t x) qq in
         let fp : first ≡ onward t (onward t at 2) 2 = fi ∙ ap (λ (x : ℕ). onward t x 2) qq in
         let q₁ : y₁ ≡ onward t (onward t at 2) 2 = h₁ ∙ fp in
-        let suit : AllSuit modes.binding (taken d at .value) = suit-binding (taken d at .value) (op .params) in
+        let suit : AllSuit modes.Binding (taken d at .value) = suit-binding (taken d at .value) (op .params) in
         let goodl : GoodItems t (lookNode t l) (Good t l) false false n first = good-as t false false l d n _ first _ ld np fp (op .list .good) in
         let goode : GoodItems t (lookNode t e) (Good t e) false false n first = good-as t false false e d n _ first _ ed np fp (op .list .good) in
         let goody : GoodItems t (lookNode t e) (Good t e) false false n y₁ = good-as t false false e d n _ y₁ _ ed np q₁ (op .list .good) in
-        let suitl : AllSuit modes.binding (lookItems t (lookNode t l) false n first .value) = subst (λ (is : Seen Items). AllSuit modes.binding (is .value)) (sym (look-as t false l d n _ first _ ld np fp)) suit in
-        let suite : AllSuit modes.binding (lookItems t (lookNode t e) false n first .value) = subst (λ (is : Seen Items). AllSuit modes.binding (is .value)) (sym (look-as t false e d n _ first _ ed np fp)) suit in
-        let suity : AllSuit modes.binding (lookItems t (lookNode t e) false n y₁ .value) = subst (λ (is : Seen Items). AllSuit modes.binding (is .value)) (sym (look-as t false e d n _ y₁ _ ed np q₁)) suit in
+        let suitl : AllSuit modes.Binding (lookItems t (lookNode t l) false n first .value) = subst (λ (is : Seen Items). AllSuit modes.Binding (is .value)) (sym (look-as t false l d n _ first _ ld np fp)) suit in
+        let suite : AllSuit modes.Binding (lookItems t (lookNode t e) false n first .value) = subst (λ (is : Seen Items). AllSuit modes.Binding (is .value)) (sym (look-as t false e d n _ first _ ed np fp)) suit in
+        let suity : AllSuit modes.Binding (lookItems t (lookNode t e) false n y₁ .value) = subst (λ (is : Seen Items). AllSuit modes.Binding (is .value)) (sym (look-as t false e d n _ y₁ _ ed np q₁)) suit in
         let run = sq goody suity in
         let q₂ : y₂ ≡ taken d at .next = run .0 ∙ ap (λ (is : Seen Items). is .next) (look-as t false e d n _ y₁ _ ed np q₁) in
         let q₃ : y₃ ≡ body d at = st .0 ∙ rw (ed, bi, q₂) (given-end d (byteAt t (onward t at 1) / 2 % 2) (taken d at .next) (omega arith)) in

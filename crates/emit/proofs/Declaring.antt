@@ -46,10 +46,12 @@ use Rattle.direct.proofs.OneLevel.{emits-nowhere}
 use Rattle.direct.proofs.ListsInTurn.{turn-same}
 use Rattle.direct.proofs.DeclarationsByPart.{pattern-object, pattern-array, declaration-refused, declaration-done}
 use Rattle.direct.proofs.Ways.{declarator-lowered, declarator-left, lowered-name, lowered-value, own-keys-none, own-keys-some, own-pattern-none, own-pattern-some, own-rest-none, own-rest-some}
-use Rattle.walk.specs.Modes as modes
+use Rattle.walk.specs.declared.modes.Deep.the-variants.{Found}
+use Rattle.walk.specs.declared.modes.Mode.the-variants as modes
+use Rattle.walk.specs.declared.views.View.the-variants.{Replacing, Taking}
 use Rattle.walk.specs.Run.{Going, Does, Clear}
 use Rattle.walk.specs.Whole.{GoodItems, Good}
-use Rattle.walk.specs.Turns.{viewOf, deepMode, suits, turnOf, turnsOf, sourceOf, reads, startOf, startValue, cellAt}
+use Rattle.walk.specs.Turns.{viewOf, deepMode, suits, turnOf, turnsOf, sourceOf, reads, startOf, startValue, cellAt, deepSuits, deepOf}
 use Rattle.walk.specs.declared.look.Start.{Start}
 use Rattle.walk.specs.declared.look.Start.the-variants.{Value, Missing}
 use Rattle.walk.proofs.Running.{does-then, does-nothing, does-as, does-to, clear-after, clear-still}
@@ -58,7 +60,7 @@ use Rattle.walk.proofs.KeysOnceFull.{Quiet, own-again}
 use Rattle.walk.proofs.SpreadArguments.{does-from}
 use Rattle.walk.proofs.Lookups.{cell-within}
 use Rattle.walk.proofs.Opened.{BinderOpen, DeclarationOpen, no-good, kind-here, is-here, position-here, good-copied, good-short, good-two, declarator-open, declaration-open}
-use Rattle.walk.proofs.Turning.{turn-found, turns-key-value, turns-value-found, turns-declarator, suit-key-value, suit-value-found, suit-declarator}
+use Rattle.walk.proofs.Turning.{deep-found, turns-key-value, turns-value-found, turns-declarator, suit-key-value, suit-value-found, suit-declarator}
 use Rattle.emit.proofs.MovedPatterns.{as-refused}
 use Rattle.emit.proofs.Finding.{object-as, level-up, lifted, rest-stands, Turned, Deep}
 use Rattle.lowering.proofs.Cases.{not-false, not-true}
@@ -77,9 +79,9 @@ bare-properties : (at : ℕ) (ps : Items) → properties (objectAt at ps) ≡ ps
 unfolding itemsAt pieceIn
 bare-properties at ps = refl
 
-suits-8 : (n : Node) → suits modes.found n ≡ true
-unfolding suits
-suits-8 n = refl
+suits-found : (n : Node) → deepSuits Found n ≡ true
+unfolding deepSuits
+suits-found n = refl
 
 first-part : (at k : ℕ) (p v : Node) → nodeAt 0 (node at k (field (one p) (field (one v) done))) ≡ p
 unfolding nodeAt pieceIn
@@ -164,7 +166,7 @@ module _ (t : List ℕ) where
 
   pub own-pattern-done : {g g₁ g₂ g₃ g′ : Going} (c c′ : Place) (d h at i u p s : ℕ) (b : Bool) (src : Emit) → b ≡ hasNoProperties (lookNode t d at .value) → b ≡ false
       → Does g g₁ (say (puts (5 ∷ 3 ∷ []))) → i ≡ at → c′ ≡ inner c → h ≡ d
-      → (Good t h i → (u ≡ lookNode t h i .next) × Does g₁ g₂ (emitsView c′ (viewOf modes.takingView) (lookNode t h i .value)))
+      → (Good t h i → (u ≡ lookNode t h i .next) × Does g₁ g₂ (emitsView c′ (viewOf Taking) (lookNode t h i .value)))
       → (p ≡ u) × Does g₂ g₃ src → g′ ≡ g₃ → s ≡ at
       → (s ≡ at) × (byteAt t at ≡ 34 → Good t d at → Does g g′ (emitsOwnPattern c (lookNode t d at .value) src))
   unfolding viewOf
@@ -194,7 +196,7 @@ module _ (t : List ℕ) where
 
   pub own-keyed : {g g₁ g₂ g₃ g′ : Going} (c c′ : Place) (d left e at q n p f u i s : ℕ) (b : Bool) (src : Emit) → b ≡ eqb (byteAt t (onward t at 1) / 2 % 2) 1 → b ≡ true
       → q ≡ onward t at 2 → Wide t q n → p ≡ onward t q 2 → f ≡ p → g₁ ≡ g → left ≡ d - 1 → e ≡ left → c′ ≡ inner c
-      → Turned t e false n f u 7 c′ g₁ g₂ → g₃ ≡ g₂ → i ≡ at
+      → Turned t e false n f u modes.KeyValue c′ g₁ g₂ → g₃ ≡ g₂ → i ≡ at
       → (s ≡ i) × (byteAt t i ≡ 34 → Good t d i → Does g₃ g′ (emitsOwnPattern c (lookNode t d i .value) src))
       → (s ≡ at) × (byteAt t at ≡ 34 → Good t d at → Does g g′ (emitsOwnKeys c (lookNode t d at .value) ▷ emitsOwnPattern c (lookNode t d at .value) src))
   own-keyed c c′ d left e at q n p f u i s b src bit stood second many first move from levels level place keys again back last = (
@@ -205,8 +207,8 @@ module _ (t : List ℕ) where
         let value-is = ap (λ (y : Seen Node). y .value) (o .resting (sym bit ∙ stood)) in
         let r = keys (o .goods) (suit-key-value ps (o .kinds)) in
         let there = last .1 (ap (byteAt t) back ∙ k) (subst (λ (y : ℕ). Good t d y) (sym back) good) in
-        let keys-as : turnsOf modes.keyValue c′ ps ≡ emitsOwnKeys c (lookNode t d at .value) =
-        ap (λ (y : Place). turnsOf modes.keyValue y ps) place ∙ turns-key-value (inner c) ps ∙ turn-same (emitsKeyValue (inner c)) (emitsKeyValue c) (key-value-inner c) ps
+        let keys-as : turnsOf modes.KeyValue c′ ps ≡ emitsOwnKeys c (lookNode t d at .value) =
+        ap (λ (y : Place). turnsOf modes.KeyValue y ps) place ∙ turns-key-value (inner c) ps ∙ turn-same (emitsKeyValue (inner c)) (emitsKeyValue c) (key-value-inner c) ps
         ∙ sym (own-keys-some c at ps _) ∙ ap (λ (y : Node). emitsOwnKeys c y) (sym value-is) in
         does-as (does-then (does-from from (r .1)) (does-from again there))
         (ap₂ (λ (x : Emit) (y : ℕ). x ▷ emitsOwnPattern c (lookNode t d y .value) src) keys-as back),
@@ -242,25 +244,25 @@ module _ (t : List ℕ) where
 
   pub pattern-array-done : {g g₁ g₂ g₃ g₄ g′ : Going} (c c′ : Place) (d h at k i u j p s : ℕ) (src : Emit) → k ≡ byteAt t at → k ≡ 36
       → Does g g₁ (say (puts (5 ∷ 3 ∷ []))) → i ≡ at → c′ ≡ inner c → h ≡ d
-      → (Good t h i → (u ≡ lookNode t h i .next) × Does g₁ g₂ (emitsView c′ (viewOf modes.replacingView) (lookNode t h i .value)))
-      → (j ≡ u) × Does g₂ g₃ src → g₄ ≡ g₃ → p ≡ at → Deep t d p s 8 c g₄ g′
+      → (Good t h i → (u ≡ lookNode t h i .next) × Does g₁ g₂ (emitsView c′ (viewOf Replacing) (lookNode t h i .value)))
+      → (j ≡ u) × Does g₂ g₃ src → g₄ ≡ g₃ → p ≡ at → Deep t d p s Found c g₄ g′
       → Good t d at → Does g g′ (emitsPattern c (lookNode t d at .value) src)
-  unfolding viewOf deepMode
+  unfolding viewOf
   pattern-array-done c c′ zero h at k i u j p s src kk a head move place same-level view read from back found good = no-good t at good
   pattern-array-done c c′ (suc d) h at k i u j p s src kk a head move place same-level view read from back found good =
       let n : Node = lookNode t (suc d) at .value in
       let node-as : lookNode t h i .value ≡ n = ap₂ (λ (x y : ℕ). lookNode t x y .value) same-level move in
       let v = view (subst (λ (y : ℕ). Good t h y) (sym move) (subst (λ (y : ℕ). Good t y at) (sym same-level) good)) in
-      let r = found (subst (λ (y : ℕ). Good t (suc d) y) (sym back) good) refl (suits-8 (lookNode t (suc d) p .value)) in
+      let r = found (subst (λ (y : ℕ). Good t (suc d) y) (sym back) good) (suits-found (lookNode t (suc d) p .value)) in
       does-as (does-then head (does-then (v .1) (does-then (read .1) (does-from from (r .1)))))
-      (ap₂ (λ (m : Place) (y : Node). say (puts (5 ∷ 3 ∷ [])) ▷ emitsView m replacing y ▷ src ▷ turnOf modes.found c (lookNode t (suc d) p .value)) place node-as
-      ∙ ap (λ (x : Emit). say (puts (5 ∷ 3 ∷ [])) ▷ emitsView (inner c) replacing n ▷ src ▷ x) (turn-found c (lookNode t (suc d) p .value) ∙ ap (λ (y : ℕ). emitsFound c (lookNode t (suc d) y .value)) back)
+      (ap₂ (λ (m : Place) (y : Node). say (puts (5 ∷ 3 ∷ [])) ▷ emitsView m replacing y ▷ src ▷ deepOf Found c (lookNode t (suc d) p .value)) place node-as
+      ∙ ap (λ (x : Emit). say (puts (5 ∷ 3 ∷ [])) ▷ emitsView (inner c) replacing n ▷ src ▷ x) (deep-found c (lookNode t (suc d) p .value) ∙ ap (λ (y : ℕ). emitsFound c (lookNode t (suc d) y .value)) back)
       ∙ sym (pattern-array c n src (array-here d at k kk a)))
 
   pub pattern-object-done : {g g₁ g₂ g₃ g₄ g′ : Going} (c c′ : Place) (d left e at k q n p f i u j s : ℕ) (src : Emit) → k ≡ byteAt t at → k ≡ 34
       → q ≡ onward t at 2 → Wide t q n
       → (i ≡ at) × (byteAt t at ≡ 34 → Good t d at → Does g g₁ (emitsOwnKeys c (lookNode t d at .value) ▷ emitsOwnPattern c (lookNode t d at .value) src))
-      → p ≡ onward t q 2 → f ≡ p → g₂ ≡ g₁ → left ≡ d - 1 → e ≡ left → c′ ≡ c → Turned t e false n f u 9 c′ g₂ g₃ → g₄ ≡ g₃ → j ≡ at
+      → p ≡ onward t q 2 → f ≡ p → g₂ ≡ g₁ → left ≡ d - 1 → e ≡ left → c′ ≡ c → Turned t e false n f u (modes.Value Found) c′ g₂ g₃ → g₄ ≡ g₃ → j ≡ at
       → (s ≡ j) × (byteAt t j ≡ 34 → Good t d j → Clear g₄ (emitsOwnKeys c (lookNode t d j .value) ▷ emitsOwnPattern c (lookNode t d j .value) src) → Does g₄ g′ (emitsOwnRest c (lookNode t d j .value) src))
       → Good t d at → Does g g′ (emitsPattern c (lookNode t d at .value) src)
   pattern-object-done {g₄ = g₄} c c′ d left e at k q n p f i u j s src kk a second many own first move from levels level place values again back last good =
@@ -284,7 +286,7 @@ module _ (t : List ℕ) where
       (subst (λ (y : ℕ). Clear g₄ (emitsOwnKeys c (lookNode t d y .value) ▷ emitsOwnPattern c (lookNode t d y .value) src)) (sym back) clear) in
       does-as (does-then (own .1 kind-is good) (does-then (does-from from (r .1)) (does-from again there)))
       (ap₂ (λ (x : Emit) (y : ℕ). (K ▷ P) ▷ x ▷ emitsOwnRest c (lookNode t d y .value) src)
-      (ap (λ (y : Place). turnsOf modes.valueFound y ps) place ∙ turns-value-found c ps ∙ ap (λ (y : Items). inTurn (λ x. emitsFound c (value x)) y) properties-are) back
+      (ap (λ (y : Place). turnsOf (modes.Value Found) y ps) place ∙ turns-value-found c ps ∙ ap (λ (y : Items). inTurn (λ x. emitsFound c (value x)) y) properties-are) back
       ∙ then-assoc K P (F ▷ R)
       ∙ sym (pattern-object c w src shape-is))
 
@@ -485,7 +487,7 @@ module _ (t : List ℕ) where
       → i ≡ at → (Good t d at → byteAt t at ≡ 4 → Does g g₁ (inTurn declaratorMade (itemsAt 2 (lookNode t d at .value)) ▷ inTurn (declaratorExcludes root) (itemsAt 2 (lookNode t d at .value))))
       → q ≡ onward t at 5 → ((κ : Context) → k ≡ limited (count (gather (declarators κ) (itemsAt 2 (lookNode t d at .value)))))
       → Does g₁ g₂ (say (puts (part i q t))) → (k < 65536 → Does g₂ g₃ (say (puts (wideBytes k)))) → p ≡ onward t q 2 → f ≡ p → g₄ ≡ g₃ → z ≡ lookNode t d at .next
-      → left ≡ d - 1 → c′ ≡ c → e ≡ left → Wide t q n → Turned t e false n f u 10 c′ g₄ g₅ → s ≡ z → g′ ≡ g₅
+      → left ≡ d - 1 → c′ ≡ c → e ≡ left → Wide t q n → Turned t e false n f u modes.Declarator c′ g₄ g₅ → s ≡ z → g′ ≡ g₅
       → byteAt t at ≡ 4 → (s ≡ lookNode t d at .next) × (Good t d at → Does g g′ (emits c (lookNode t d at .value)))
   declaration-writes c c′ root d left e at i q k n p f u z s b test fine asked same hands fifth counts copied wide first move from next levels place level many items moved upto kk = (
     moved ∙ next,
@@ -515,9 +517,9 @@ module _ (t : List ℕ) where
         let head : say (puts (part i q t)) ▷ say (puts (wideBytes k)) ≡ say (puts (4 ∷ 7 ∷ []) ++ (marks m ++ puts (x ∷ wideBytes (declaratorCount c ds)))) =
         ap₂ (λ (bs : List ℕ) (y : ℕ). say (puts bs) ▷ say (puts (wideBytes y))) bytes k-as ∙ say-say (puts (4 ∷ 7 ∷ wideBytes m ++ (x ∷ []))) (puts (wideBytes (declaratorCount c ds))) ∙ ap say (head-is m x (declaratorCount c ds) (o .marked)) in
         does-to upto (does-as (does-then (hands good kk) (does-then (does-then copied (wide small)) (does-from from (r .1))))
-        (ap₂ (λ (y : Items) (v : Emit). (inTurn declaratorMade y ▷ inTurn (declaratorExcludes root) y) ▷ v ▷ turnsOf modes.declarator c′ ds) ds-are head
-        ∙ ap (λ (y : Bool). (M ▷ inTurn (declaratorExcludes y) ds) ▷ say (puts (4 ∷ 7 ∷ []) ++ (marks m ++ puts (x ∷ wideBytes (declaratorCount c ds)))) ▷ turnsOf modes.declarator c′ ds) asked
-        ∙ ap (λ (v : Emit). (M ▷ X) ▷ say (puts (4 ∷ 7 ∷ []) ++ (marks m ++ puts (x ∷ wideBytes (declaratorCount c ds)))) ▷ v) (ap (λ (y : Place). turnsOf modes.declarator y ds) place ∙ turns-declarator c ds)
+        (ap₂ (λ (y : Items) (v : Emit). (inTurn declaratorMade y ▷ inTurn (declaratorExcludes root) y) ▷ v ▷ turnsOf modes.Declarator c′ ds) ds-are head
+        ∙ ap (λ (y : Bool). (M ▷ inTurn (declaratorExcludes y) ds) ▷ say (puts (4 ∷ 7 ∷ []) ++ (marks m ++ puts (x ∷ wideBytes (declaratorCount c ds)))) ▷ turnsOf modes.Declarator c′ ds) asked
+        ∙ ap (λ (v : Emit). (M ▷ X) ▷ say (puts (4 ∷ 7 ∷ []) ++ (marks m ++ puts (x ∷ wideBytes (declaratorCount c ds)))) ▷ v) (ap (λ (y : Place). turnsOf modes.Declarator y ds) place ∙ turns-declarator c ds)
         ∙ then-assoc M X (say (puts (4 ∷ 7 ∷ []) ++ (marks m ++ puts (x ∷ wideBytes (declaratorCount c ds)))) ▷ D)
         ∙ sym (declaration-done c at m x ds (ap (declarationRefusal (contextOf c)) (sym whole) ∙ sym (test (contextOf c)) ∙ (let w : b ≡ 0 = omega arith in w)))
         ∙ ap (emits c) (sym whole))),

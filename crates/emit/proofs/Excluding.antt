@@ -15,7 +15,7 @@ use Rattle.lowering.specs.Made.{Context}
 use Rattle.lowering.specs.Patterns.{properties, key}
 use Rattle.lowering.specs.Keys.{keySort, allPrimitive, excludedKeys, entryOf, keyText}
 use Rattle.lowering.specs.Rests.{hasNoProperties}
-use Rattle.lowering.proofs.Cases.{by-test, by-entry}
+use Rattle.lowering.proofs.Cases.{by-test}
 use Rattle.sink.specs.Machine.Event.{temporary, helper}
 use Rattle.pattern.specs.Tally.{limited}
 use Rattle.direct.specs.Events.{Place, Emit, puts, cell, emits}
@@ -26,10 +26,13 @@ use Rattle.direct.specs.Keys.{stringBytes, emitsExcluded, isPrivate, entries, h
 use Rattle.direct.specs.Declared.{emitsKeyValue}
 use Rattle.direct.proofs.Threads.{then-assoc, say-puts}
 use Rattle.direct.proofs.RestValues.{excluded-spelt, excluded-itself, excluded-omitted, excluded-saved, entries-are, primitives-are, rest-none, rest-some, read-hoisted, read-inline, read-mapped}
-use Rattle.walk.specs.Modes as modes
+use Rattle.walk.specs.declared.modes.Mode.the-variants as modes
+use Rattle.walk.specs.declared.look.KeyClass.{KeyClass}
+use Rattle.walk.specs.declared.look.KeyClass.the-variants.{AsString, AsItStands, LeftOut, AsTemporary}
 use Rattle.walk.specs.Run.{Going, Does}
 use Rattle.walk.specs.Whole.{Good, Ruled, Emitted}
 use Rattle.walk.specs.Turns.{cellAt, keyClass, keyString}
+use Rattle.walk.proofs.Lookups.{entry-is}
 use Rattle.walk.proofs.Running.{does-then, does-as, does-to, does-nothing}
 use Rattle.walk.proofs.SpreadArguments.{does-from}
 use Rattle.walk.proofs.Lookups.{cell-within}
@@ -120,7 +123,7 @@ entries-few (Items.item q qs) = go (isPrivate (key q)) (entries-few qs)
 module _ (t : List ℕ) where
   pub keys-does : {g g₁ g₂ g₃ g₄ g₅ : Going} (c c₁ : Place) (d d₁ p q n k f x y : ℕ) → q ≡ onward t p 2 → Wide t q n
       → ((κ : Context) → k ≡ limited (count (excludedKeys κ (lookNode t d p .value)))) → f ≡ onward t q 2 → x ≡ f → c₁ ≡ c → d₁ ≡ d - 1 → g₃ ≡ g₂ → g₅ ≡ g₄
-      → Does g g₁ (say (puts (32 ∷ 1 ∷ []))) → (k < 65536 → Does g₁ g₂ (say (puts (wideBytes k)))) → Sequenced t modes.excludedKey c₁ d₁ false n x y g₃ g₄
+      → Does g g₁ (say (puts (32 ∷ 1 ∷ []))) → (k < 65536 → Does g₁ g₂ (say (puts (wideBytes k)))) → Sequenced t modes.ExcludedKey c₁ d₁ false n x y g₃ g₄
       → Good t d p → byteAt t p ≡ 34 → Does g g₅ (emitsKeys c (properties (lookNode t d p .value)))
   unfolding emitsKeys limited
   keys-does c c₁ zero d₁ p q n k f x y eq w ek ef ex ec ed eg eh a b sq good e34 = no-good t p good
@@ -136,7 +139,7 @@ module _ (t : List ℕ) where
       let kk : k ≡ min (entries qs) 65536 = ek nameless ∙ ap (λ (z : ℕ). limited z) (entries-are nameless whole ∙ ap entries here) in
       let small : k < 65536 = omega (arith, o .list .small) in
       let same : k ≡ entries qs = omega (arith, o .list .small) in
-      let r = sequenced-as t false 6 6 c c₁ d d₁ (wideAt t (onward t p 2)) n (onward t (onward t p 2) 2) x y refl ec xd nn ff sq (o .list .good) (suit-excluded-key qs (o .properties)) in
+      let r = sequenced-as t false modes.ExcludedKey modes.ExcludedKey c c₁ d d₁ (wideAt t (onward t p 2)) n (onward t (onward t p 2) 2) x y refl ec xd nn ff sq (o .list .good) (suit-excluded-key qs (o .properties)) in
       let turns : Emit = inTurn (emitsExcluded c) qs in
       does-to eh
       (does-as (does-then a (does-then (b small) (does-from eg (does-as (r .1) (turns-excluded-key c qs)))))
@@ -148,58 +151,24 @@ module _ (t : List ℕ) where
 -- ---- one of them, by the class of its key
 
 module _ (k : Node) where
-  class-spelt : entryOf (keySort k) ≡ spelt → keyClass k ≡ modes.asString
-  unfolding keyClass
-  class-spelt e = rw (e, keyClass) refl
-
-  class-itself : entryOf (keySort k) ≡ itself → keyClass k ≡ modes.asItStands
-  unfolding keyClass
-  class-itself e = rw (e, keyClass) refl
-
-  class-omitted : entryOf (keySort k) ≡ omitted → keyClass k ≡ modes.leftOut
-  unfolding keyClass
-  class-omitted e = rw (e, keyClass) refl
-
-  class-saved : entryOf (keySort k) ≡ saved → keyClass k ≡ modes.asTemporary
-  unfolding keyClass
-  class-saved e = rw (e, keyClass) refl
-
   string-spelt : entryOf (keySort k) ≡ spelt → keyString k ≡ stringBytes (keyText k)
   unfolding keyString
   string-spelt e = rw (e, keyString) refl
 
 module _ (c : Place) (q : Node) where
-  as-string : keyClass (key q) ≡ modes.asString → say (puts (keyString (key q))) ≡ emitsExcluded c q
+  as-string : keyClass (key q) ≡ AsString → say (puts (keyString (key q))) ≡ emitsExcluded c q
   as-string h =
-      by-entry (entryOf (keySort (key q)))
-      (λ e. ap (λ (bs : List ℕ). say (puts bs)) (string-spelt (key q) e) ∙ sym (excluded-spelt c q e))
-      (λ e. absurd (omega (arith, class-itself (key q) e)))
-      (λ e. absurd (omega (arith, class-omitted (key q) e)))
-      (λ e. absurd (omega (arith, class-saved (key q) e)))
+      let e = entry-is (key q) AsString h in
+      ap (λ (bs : List ℕ). say (puts bs)) (string-spelt (key q) e) ∙ sym (excluded-spelt c q e)
 
-  as-standing : keyClass (key q) ≡ modes.asItStands → emits c (key q) ≡ emitsExcluded c q
-  as-standing h =
-      by-entry (entryOf (keySort (key q)))
-      (λ e. absurd (omega (arith, class-spelt (key q) e)))
-      (λ e. sym (excluded-itself c q e))
-      (λ e. absurd (omega (arith, class-omitted (key q) e)))
-      (λ e. absurd (omega (arith, class-saved (key q) e)))
+  as-standing : keyClass (key q) ≡ AsItStands → emits c (key q) ≡ emitsExcluded c q
+  as-standing h = sym (excluded-itself c q (entry-is (key q) AsItStands h))
 
-  as-nothing : keyClass (key q) ≡ modes.leftOut → say [] ≡ emitsExcluded c q
-  as-nothing h =
-      by-entry (entryOf (keySort (key q)))
-      (λ e. absurd (omega (arith, class-spelt (key q) e)))
-      (λ e. absurd (omega (arith, class-itself (key q) e)))
-      (λ e. sym (excluded-omitted c q e))
-      (λ e. absurd (omega (arith, class-saved (key q) e)))
+  as-nothing : keyClass (key q) ≡ LeftOut → say [] ≡ emitsExcluded c q
+  as-nothing h = sym (excluded-omitted c q (entry-is (key q) LeftOut h))
 
-  as-cell : (keyClass (key q) ≡ modes.asString → ⊥) → (keyClass (key q) ≡ modes.asItStands → ⊥) → (keyClass (key q) ≡ modes.leftOut → ⊥) → saysCell 4 (position q) ≡ emitsExcluded c q
-  as-cell a b d =
-      by-entry (entryOf (keySort (key q)))
-      (λ e. absurd (a (class-spelt (key q) e)))
-      (λ e. absurd (b (class-itself (key q) e)))
-      (λ e. absurd (d (class-omitted (key q) e)))
-      (λ e. sym (excluded-saved c q e))
+  as-cell : keyClass (key q) ≡ AsTemporary → saysCell 4 (position q) ≡ emitsExcluded c q
+  as-cell h = sym (excluded-saved c q (entry-is (key q) AsTemporary h))
 
 module _ (t : List ℕ) where
   module _ (d e at k : ℕ) (ee : e ≡ d) (ek : k ≡ onward t at 2) where
@@ -210,24 +179,24 @@ module _ (t : List ℕ) where
     key-good : Good t (suc d) at → byteAt t at ≡ 35 → Good t e k
     key-good good e35 = rw ee (property-key t d at good e35 k ek .1)
 
-  pub excluded-string : {g g₁ g₂ : Going} (c : Place) (d e at k s z sort : ℕ) → e ≡ d - 1 → k ≡ onward t at 2 → s ≡ lookNode t d at .next → z ≡ s → g₂ ≡ g₁
-      → sort ≡ keyClass (lookNode t e k .value) → sort ≡ modes.asString
-      → (Good t e k → keyClass (lookNode t e k .value) ≡ modes.asString → Does g g₁ (say (puts (keyString (lookNode t e k .value)))))
+  pub excluded-string : {g g₁ g₂ : Going} (c : Place) (d e at k s z : ℕ) (sort : KeyClass) → e ≡ d - 1 → k ≡ onward t at 2 → s ≡ lookNode t d at .next → z ≡ s → g₂ ≡ g₁
+      → sort ≡ keyClass (lookNode t e k .value) → sort ≡ AsString
+      → (Good t e k → keyClass (lookNode t e k .value) ≡ AsString → Does g g₁ (say (puts (keyString (lookNode t e k .value)))))
       → byteAt t at ≡ 35 → Emitted t d at z g g₂ (emitsExcluded c)
   excluded-string c zero e at k s z sort ee ek es ez eg h i a e35 good = no-good t at good
   excluded-string c (suc d) e at k s z sort ee ek es ez eg h i a e35 good =
       let xe : e ≡ d = omega arith in
       let q : Node = lookNode t (suc d) at .value in
       let same : lookNode t e k .value ≡ key q = key-at d e at k xe ek good e35 in
-      let class : keyClass (lookNode t e k .value) ≡ modes.asString = sym h ∙ i in (
+      let class : keyClass (lookNode t e k .value) ≡ AsString = sym h ∙ i in (
         ez ∙ es,
         does-to eg (does-as (a (key-good d e at k xe ek good e35) class)
             (ap (λ (x : Node). say (puts (keyString x))) same ∙ as-string c q (sym (ap keyClass same) ∙ class))),
       )
 
-  pub excluded-standing : {g g₁ g₂ g₃ : Going} (c c₁ : Place) (d e d₁ at k s u r z sort : ℕ) → e ≡ d - 1 → k ≡ onward t at 2 → s ≡ lookNode t d at .next → z ≡ s
+  pub excluded-standing : {g g₁ g₂ g₃ : Going} (c c₁ : Place) (d e d₁ at k s u r z : ℕ) (sort : KeyClass) → e ≡ d - 1 → k ≡ onward t at 2 → s ≡ lookNode t d at .next → z ≡ s
       → c₁ ≡ c → d₁ ≡ e → u ≡ k → g₁ ≡ g → g₃ ≡ g₂
-      → sort ≡ keyClass (lookNode t e k .value) → sort ≡ modes.asItStands → Ruled t d₁ u r g₁ g₂ (emits c₁)
+      → sort ≡ keyClass (lookNode t e k .value) → sort ≡ AsItStands → Ruled t d₁ u r g₁ g₂ (emits c₁)
       → byteAt t at ≡ 35 → Emitted t d at z g g₃ (emitsExcluded c)
   excluded-standing c c₁ zero e d₁ at k s u r z sort ee ek es ez ec ed eu eg eh h i a e35 good = no-good t at good
   excluded-standing c c₁ (suc d) e d₁ at k s u r z sort ee ek es ez ec ed eu eg eh h i a e35 good =
@@ -240,8 +209,8 @@ module _ (t : List ℕ) where
             (ap (λ (x : Node). emits c x) same ∙ as-standing c q (sym (ap keyClass same) ∙ sym h ∙ i)))),
       )
 
-  pub excluded-nothing : {g g₁ : Going} (c : Place) (d e at k s z sort : ℕ) → e ≡ d - 1 → k ≡ onward t at 2 → s ≡ lookNode t d at .next → z ≡ s → g₁ ≡ g
-      → sort ≡ keyClass (lookNode t e k .value) → sort ≡ modes.leftOut
+  pub excluded-nothing : {g g₁ : Going} (c : Place) (d e at k s z : ℕ) (sort : KeyClass) → e ≡ d - 1 → k ≡ onward t at 2 → s ≡ lookNode t d at .next → z ≡ s → g₁ ≡ g
+      → sort ≡ keyClass (lookNode t e k .value) → sort ≡ LeftOut
       → byteAt t at ≡ 35 → Emitted t d at z g g₁ (emitsExcluded c)
   excluded-nothing c zero e at k s z sort ee ek es ez eg h i e35 good = no-good t at good
   excluded-nothing {g = g} c (suc d) e at k s z sort ee ek es ez eg h i e35 good =
@@ -249,18 +218,18 @@ module _ (t : List ℕ) where
       let q : Node = lookNode t (suc d) at .value in
       (ez ∙ es, does-to eg (does-as (does-nothing g) (as-nothing c q (sym (ap keyClass (key-at d e at k xe ek good e35)) ∙ sym h ∙ i))))
 
-  pub excluded-cell : {g g₁ g₂ : Going} (c : Place) (d e at k s z sort : ℕ) → e ≡ d - 1 → k ≡ onward t at 2 → s ≡ lookNode t d at .next → z ≡ s → g₂ ≡ g₁
-      → sort ≡ keyClass (lookNode t e k .value) → (sort ≡ modes.asString → ⊥) → (sort ≡ modes.asItStands → ⊥) → (sort ≡ modes.leftOut → ⊥) → Does g g₁ (say (does (temporary at 4) ∷ []))
+  pub excluded-cell : {g g₁ g₂ : Going} (c : Place) (d e at k s z : ℕ) (sort : KeyClass) → e ≡ d - 1 → k ≡ onward t at 2 → s ≡ lookNode t d at .next → z ≡ s → g₂ ≡ g₁
+      → sort ≡ keyClass (lookNode t e k .value) → sort ≡ AsTemporary → Does g g₁ (say (does (temporary at 4) ∷ []))
       → byteAt t at ≡ 35 → Emitted t d at z g g₂ (emitsExcluded c)
-  excluded-cell c zero e at k s z sort ee ek es ez eg h i j l a e35 good = no-good t at good
-  excluded-cell c (suc d) e at k s z sort ee ek es ez eg h i j l a e35 good =
+  excluded-cell c zero e at k s z sort ee ek es ez eg h i a e35 good = no-good t at good
+  excluded-cell c (suc d) e at k s z sort ee ek es ez eg h i a e35 good =
       let xe : e ≡ d = omega arith in
       let q : Node = lookNode t (suc d) at .value in
-      let same : sort ≡ keyClass (key q) = h ∙ ap keyClass (key-at d e at k xe ek good e35) in (
+      let class : keyClass (key q) ≡ AsTemporary = sym (ap keyClass (key-at d e at k xe ek good e35)) ∙ sym h ∙ i in (
         ez ∙ es,
         does-to eg (does-as a
             (cell-4 at ∙ ap (λ (x : ℕ). saysCell 4 x) (sym (position-here t (suc d) at))
-            ∙ as-cell c q (λ x. i (same ∙ x)) (λ x. j (same ∙ x)) (λ x. l (same ∙ x)))),
+            ∙ as-cell c q class)),
       )
 
   -- ---- the declarator of the temporary for a key

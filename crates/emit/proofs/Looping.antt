@@ -43,7 +43,7 @@ use Rattle.direct.proofs.RulesKeep.{catch-kept, declaring-kept, assigning-kept}
 use Rattle.direct.proofs.MadeNodes.{newDeclaration, say-then, more-statements, emits-new-block}
 use Rattle.direct.proofs.Fronts.{emits-in-front, count-in-front, marked-own}
 use Rattle.direct.proofs.Bodies.{emits-assigned, emits-block-in, emits-empty-in, emits-target-block, emits-target-empty}
-use Rattle.walk.specs.Modes as modes
+use Rattle.walk.specs.declared.modes.Mode.the-variants as modes
 use Rattle.walk.specs.Run.{Going, Does}
 use Rattle.walk.specs.Whole.{holeAt, itemDeeds, GoodItem, GoodItems, GoodField, GoodSlot, GoodFields, Good}
 use Rattle.walk.specs.Turns.{turnsOf, AllSuit, AllBind, movesOf, awaits, givenNode, blockHead, declarationHead}
@@ -540,7 +540,7 @@ module _ (t : List ℕ) where
         (declaration-bytes d q (v .seen .left) four)
 
     declaring-law : any isMoved (itemsAt 2 (nodeAt 1 (lookNode t (suc (suc d)) at .value))) ≡ true
-        → say (makes (gather movedFrom qs)) ▷ say (puts (part at (onward t (declaratorsAt at) 2) t)) ▷ turnsOf modes.binding (scoped c) qs ▷ emits (scoped c) right
+        → say (makes (gather movedFrom qs)) ▷ say (puts (part at (onward t (declaratorsAt at) 2) t)) ▷ turnsOf modes.Binding (scoped c) qs ▷ emits (scoped c) right
         ▷ emits (scoped c) (blockIn (gather movedFrom qs) under) ▷ say (puts (cond (awaits t at) (part (awaitAt (suc d) at) (onward t (awaitAt (suc d) at) 1) t) []))
         ≡ emits c (lookNode t (suc (suc d)) at .value)
     unfolding nodeAt itemsAt pieceIn
@@ -564,11 +564,11 @@ module _ (t : List ℕ) where
   pub declaring-does : {g g₁ g₂ g₃ g₄ g₅ g′ : Going} (c c₁ c₂ c₃ : Place) (d e u e₁ e₂ e₃ at a s n first x₀ x₁ x₂ x₃ x₄ : ℕ)
       → e ≡ d - 1 → u ≡ e - 1 → a ≡ onward t at 4 → s ≡ onward t a 5 → Wide t s n → first ≡ onward t s 2
       → c₁ ≡ scoped c → e₁ ≡ u → c₂ ≡ scoped c → e₂ ≡ e → c₃ ≡ scoped c → e₃ ≡ e → x₀ ≡ at → x₁ ≡ first
-      → (GoodItems t (lookNode t u) (Good t u) false false n first → AllSuit modes.binding (lookItems t (lookNode t u) false n first .value)
+      → (GoodItems t (lookNode t u) (Good t u) false false n first → AllSuit modes.Binding (lookItems t (lookNode t u) false n first .value)
       → Does g g₁ (say (makes (gather movedFrom (lookItems t (lookNode t u) false n first .value)))))
       → Does g₁ g₂ (say (puts (part x₀ first t)))
-      → (GoodItems t (lookNode t e₁) (Good t e₁) false false n x₁ → AllSuit modes.binding (lookItems t (lookNode t e₁) false n x₁ .value)
-      → (x₂ ≡ lookItems t (lookNode t e₁) false n x₁ .next) × Does g₂ g₃ (turnsOf modes.binding c₁ (lookItems t (lookNode t e₁) false n x₁ .value)))
+      → (GoodItems t (lookNode t e₁) (Good t e₁) false false n x₁ → AllSuit modes.Binding (lookItems t (lookNode t e₁) false n x₁ .value)
+      → (x₂ ≡ lookItems t (lookNode t e₁) false n x₁ .next) × Does g₂ g₃ (turnsOf modes.Binding c₁ (lookItems t (lookNode t e₁) false n x₁ .value)))
       → (x₃ ≡ lookNode t e₂ x₂ .next) × (Good t e₂ x₂ → Does g₃ g₄ (emits c₂ (lookNode t e₂ x₂ .value)))
       → (GoodItem t (lookNode t e₃) (Good t e₃) true false x₃ → GoodItems t (lookNode t (e₃ - 1)) (Good t (e₃ - 1)) false false n first
       → AllBind false (lookItems t (lookNode t (e₃ - 1)) false n first .value)
@@ -595,12 +595,12 @@ module _ (t : List ℕ) where
       let s′ : s ≡ declaratorsAt at = ss ∙ ap (λ (z : ℕ). onward t z 5) aa in
       let n′ : n ≡ N = wd .value ∙ ap (λ (z : ℕ). wideAt t z) s′ in
       let f′ : first ≡ F = ff ∙ ap (λ (z : ℕ). onward t z 2) s′ in
-      let suit : AllSuit modes.binding ns = suit-binding-declarators ns (o .declarators) in
+      let suit : AllSuit modes.Binding ns = suit-binding-declarators ns (o .declarators) in
       let gi : GoodItems t (lookNode t d) (Good t d) false false N F = o .list .good in
-      let mk′ : GoodItems t (lookNode t d) (Good t d) false false N F → AllSuit modes.binding ns → Does g g₁ (say (makes (gather movedFrom ns))) = rw (u′, n′, f′) at mk in
+      let mk′ : GoodItems t (lookNode t d) (Good t d) false false N F → AllSuit modes.Binding ns → Does g g₁ (say (makes (gather movedFrom ns))) = rw (u′, n′, f′) at mk in
       let cp′ : Does g₁ g₂ (say (puts (part at F t))) = rw (xx₀, f′) at cp in
-      let sq′ : GoodItems t (lookNode t d) (Good t d) false false N F → AllSuit modes.binding ns
-      → (x₂ ≡ lookItems t (lookNode t d) false N F .next) × Does g₂ g₃ (turnsOf modes.binding (scoped c) ns) = rw (ee₁, u′, n′, xx₁, f′, cc₁) at sq in
+      let sq′ : GoodItems t (lookNode t d) (Good t d) false false N F → AllSuit modes.Binding ns
+      → (x₂ ≡ lookItems t (lookNode t d) false N F .next) × Does g₂ g₃ (turnsOf modes.Binding (scoped c) ns) = rw (ee₁, u′, n′, xx₁, f′, cc₁) at sq in
       let two = sq′ gi suit in
       let x₂′ : x₂ ≡ rightAt (suc d) at = two .0 ∙ ap (λ (z : Seen Node). z .next) (sym (o .whole)) in
       let nd′ : (x₃ ≡ bodyAt (suc d) at) × (Good t (suc d) (rightAt (suc d) at) → Does g₃ g₄ (emits (scoped c) (lookNode t (suc d) (rightAt (suc d) at) .value))) = rw (ee₂, e′, cc₂, x₂′) at nd in
@@ -797,7 +797,7 @@ module _ (t : List ℕ) where
   unfolding GoodItems holeAt
   param-good d q good = (record { hole = λ z. absurd (false≢true z); node = λ z. good; begins = λ z u c. absurd (false≢true u) }, tt)
 
-  param-suits : (d q : ℕ) → is 15 (lookNode t d q .value) ≡ true → AllSuit modes.binding (lookItems t (lookNode t d) false 1 q .value)
+  param-suits : (d q : ℕ) → is 15 (lookNode t d q .value) ≡ true → AllSuit modes.Binding (lookItems t (lookNode t d) false 1 q .value)
   unfolding lookItems lookItem
   param-suits d q h = suit-binding (lookItems t (lookNode t d) false 1 q .value) (h, tt)
 
@@ -809,7 +809,7 @@ module _ (t : List ℕ) where
     inner-block = lookNode t d (lookNode t d (onward t at 2) .next) .value
 
     catch-law : isMoved (lookNode t d (onward t at 2) .value) ≡ true
-        → say (makes (gather movedFrom ones)) ▷ say (puts (part at (onward t at 2) t)) ▷ turnsOf modes.binding (scoped c) ones ▷ emits (scoped c) (blockIn (gather movedFrom ones) inner-block)
+        → say (makes (gather movedFrom ones)) ▷ say (puts (part at (onward t at 2) t)) ▷ turnsOf modes.Binding (scoped c) ones ▷ emits (scoped c) (blockIn (gather movedFrom ones) inner-block)
         ≡ emits c (lookNode t (suc d) at .value)
     catch-law moved =
         let q : Node = lookNode t d (onward t at 2) .value in
@@ -823,11 +823,11 @@ module _ (t : List ℕ) where
   pub catch-moves : {g g₁ g₂ g₃ g₄ g′ : Going} (c c′ : Place) (d e e′ at q s x₀ x₁ x₂ x₃ r : ℕ) (f b : Bool)
       → e ≡ d - 1 → q ≡ onward t at 2 → f ≡ eqb (byteAt t (onward t at 1) % 2) 1 → f ≡ true → b ≡ isMoved (lookNode t e q .value) → b ≡ true
       → c′ ≡ scoped c → e′ ≡ e → x₀ ≡ at → x₁ ≡ q → s ≡ lookNode t d at .next → r ≡ s → g′ ≡ g₄
-      → (GoodItems t (lookNode t e) (Good t e) false false 1 q → AllSuit modes.binding (lookItems t (lookNode t e) false 1 q .value)
+      → (GoodItems t (lookNode t e) (Good t e) false false 1 q → AllSuit modes.Binding (lookItems t (lookNode t e) false 1 q .value)
       → Does g g₁ (say (makes (gather movedFrom (lookItems t (lookNode t e) false 1 q .value)))))
       → Does g₁ g₂ (say (puts (part x₀ q t)))
-      → (GoodItems t (lookNode t e′) (Good t e′) false false 1 x₁ → AllSuit modes.binding (lookItems t (lookNode t e′) false 1 x₁ .value)
-      → (x₂ ≡ lookItems t (lookNode t e′) false 1 x₁ .next) × Does g₂ g₃ (turnsOf modes.binding c′ (lookItems t (lookNode t e′) false 1 x₁ .value)))
+      → (GoodItems t (lookNode t e′) (Good t e′) false false 1 x₁ → AllSuit modes.Binding (lookItems t (lookNode t e′) false 1 x₁ .value)
+      → (x₂ ≡ lookItems t (lookNode t e′) false 1 x₁ .next) × Does g₂ g₃ (turnsOf modes.Binding c′ (lookItems t (lookNode t e′) false 1 x₁ .value)))
       → (GoodItem t (lookNode t e′) (Good t e′) true false x₂ → GoodItems t (lookNode t e′) (Good t e′) false false 1 q → AllBind false (lookItems t (lookNode t e′) false 1 q .value)
       → (x₃ ≡ lookNode t e′ x₂ .next) × Does g₃ g₄ (emits c′ (blockIn (gather movedFrom (lookItems t (lookNode t e′) false 1 q .value)) (lookNode t e′ x₂ .value))))
       → byteAt t at ≡ 10 → (r ≡ lookNode t d at .next) × (Good t d at → Does g g′ (emits c (lookNode t d at .value)))
@@ -842,10 +842,10 @@ module _ (t : List ℕ) where
         let moved : isMoved (lookNode t d l .value) ≡ true = ap₂ (λ (y z : ℕ). isMoved (lookNode t y z .value)) (sym e″) (sym qq) ∙ sym bb ∙ b1 in
         let ns : Items = lookItems t (lookNode t d) false 1 l .value in
         let gi : GoodItems t (lookNode t d) (Good t d) false false 1 l = param-good d l (v .param) in
-        let suit : AllSuit modes.binding ns = param-suits d l (v .kind15) in
-        let mk′ : GoodItems t (lookNode t d) (Good t d) false false 1 l → AllSuit modes.binding ns → Does g g₁ (say (makes (gather movedFrom ns))) = rw (e″, qq) at mk in
+        let suit : AllSuit modes.Binding ns = param-suits d l (v .kind15) in
+        let mk′ : GoodItems t (lookNode t d) (Good t d) false false 1 l → AllSuit modes.Binding ns → Does g g₁ (say (makes (gather movedFrom ns))) = rw (e″, qq) at mk in
         let cp′ : Does g₁ g₂ (say (puts (part at l t))) = rw (xx₀, qq) at cp in
-        let sq′ : GoodItems t (lookNode t d) (Good t d) false false 1 l → AllSuit modes.binding ns → (x₂ ≡ lookItems t (lookNode t d) false 1 l .next) × Does g₂ g₃ (turnsOf modes.binding (scoped c) ns) = rw (ee′, e″, xx₁, qq, cc′) at sq in
+        let sq′ : GoodItems t (lookNode t d) (Good t d) false false 1 l → AllSuit modes.Binding ns → (x₂ ≡ lookItems t (lookNode t d) false 1 l .next) × Does g₂ g₃ (turnsOf modes.Binding (scoped c) ns) = rw (ee′, e″, xx₁, qq, cc′) at sq in
         let two = sq′ gi suit in
         let x₂′ : x₂ ≡ lookNode t d l .next = two .0 ∙ ap (λ (z : Seen Items). z .next) (param-list d l) in
         let bk′ : GoodItem t (lookNode t d) (Good t d) true false (lookNode t d l .next) → GoodItems t (lookNode t d) (Good t d) false false 1 l → AllBind false ns

@@ -46,7 +46,8 @@ use Rattle.direct.proofs.Bodies.{inner-scoped, scoped-scoped}
 use Rattle.direct.proofs.MovedOut.{shape-37, shape-leaf, emits-out-object, emits-out-leaf, emits-out-array-rest, emits-out-array, emits-out-default, emits-behind-kept, emits-behind-value, emits-behind}
 use Rattle.direct.proofs.Fronts.{fronts-cut, fronts-empty, fronts-hole, fronts-one, fronts-kept, fronts-moved, fronts-object, fronts-default, fronts-leaf, fronts-array-rest, fronts-array, marked-let, front-kept}
 use Rattle.direct.proofs.Threads.{then-assoc, say-nothing, then-nothing, say-say}
-use Rattle.walk.specs.Modes as modes
+use Rattle.walk.specs.declared.modes.Mode.{Mode}
+use Rattle.walk.specs.declared.modes.Mode.the-variants as modes
 use Rattle.walk.specs.Run.{Going, Does}
 use Rattle.walk.specs.Whole.{holeAt, slotDeeds, GoodItems, GoodField, GoodSlot, Good, Ruled, Emitted}
 use Rattle.walk.specs.Turns.{suits, turnsOf, AllSuit, movesOf, AllBind, declarationHead}
@@ -203,28 +204,28 @@ module _ (t : List ℕ) where
     array-head b e = opened .head ∙ ap₂ (λ (x : Bool) (n : ℕ). 36 ∷ cond x 3 1 ∷ wideBytes n) e (sym (opened .list .many))
 
     array-out : eqb (byteAt t (onward t at 1) / 2 % 2) 1 ≡ false
-        → say (puts (part at (onward t (onward t at 2) 2) t)) ▷ turnsOf modes.movedOut (inner c) (items .value) ≡ emits c (outOf (lookNode t (suc d) at .value))
+        → say (puts (part at (onward t (onward t at 2) 2) t)) ▷ turnsOf modes.MovedOut (inner c) (items .value) ≡ emits c (outOf (lookNode t (suc d) at .value))
     array-out e =
         ap₂ (λ (x : List ℕ) (y : Emit). say (puts x) ▷ y) (array-head false e) (turns-moved-out (inner c) (items .value))
         ∙ sym (emits-out-array c at (items .value))
         ∙ ap (λ (x : Seen Node). emits c (outOf (x .value))) (sym (opened .plain e))
 
     array-rest-out : eqb (byteAt t (onward t at 1) / 2 % 2) 1 ≡ true
-        → say (puts (part at (onward t (onward t at 2) 2) t)) ▷ turnsOf modes.movedOut (inner c) (items .value) ▷ emits (inner c) (outOf (lookNode t d (items .next) .value)) ≡ emits c (outOf (lookNode t (suc d) at .value))
+        → say (puts (part at (onward t (onward t at 2) 2) t)) ▷ turnsOf modes.MovedOut (inner c) (items .value) ▷ emits (inner c) (outOf (lookNode t d (items .next) .value)) ≡ emits c (outOf (lookNode t (suc d) at .value))
     array-rest-out e =
         ap₂ (λ (x : List ℕ) (y : Emit). say (puts x) ▷ y ▷ emits (inner c) (outOf (lookNode t d (items .next) .value))) (array-head true e) (turns-moved-out (inner c) (items .value))
         ∙ sym (emits-out-array-rest c at (items .value) (lookNode t d (items .next) .value))
         ∙ ap (λ (x : Seen Node). emits c (outOf (x .value))) (sym (opened .resting e))
 
   -- what is said of the items by the code that goes through them
-  abbrev pub Through : ℕ → ℕ → Bool → ℕ → ℕ → ℕ → Going → Going → Place → Type 0
+  abbrev pub Through : Mode → ℕ → Bool → ℕ → ℕ → ℕ → Going → Going → Place → Type 0
   Through mode d h n at q g g′ c =
       GoodItems t (lookNode t d) (Good t d) false h n at → AllSuit mode (lookItems t (lookNode t d) h n at .value)
       → (q ≡ lookItems t (lookNode t d) h n at .next) × Does g g′ (turnsOf mode c (lookItems t (lookNode t d) h n at .value))
 
   pub gone-array : {g g₁ g′ : Going} (c c₁ : Place) (d l e at k q n s y x : ℕ) (b : Bool) → (d ≡ 0 → ⊥) → Peeked t at k → k ≡ 36 → l ≡ d - 1 → q ≡ onward t at 2 → Wide t q n → s ≡ onward t q 2 → y ≡ s
       → c₁ ≡ inner c → e ≡ l → b ≡ eqb (byteAt t (onward t at 1) / 2 % 2) 1 → b ≡ false → Does g g₁ (say (puts (part at s t)))
-      → Through 16 e true n y x g₁ g′ c₁ → Emitted t d at x g g′ (λ p. emits c (outOf p))
+      → Through modes.MovedOut e true n y x g₁ g′ c₁ → Emitted t d at x g g′ (λ p. emits c (outOf p))
   gone-array c c₁ zero l e at k q n s y x b z p f a h w i j u v m o r sq good = absurd (z refl)
   gone-array c c₁ (suc d) l e at k q n s y x b z p f a h w i j u v m o r sq good =
       let kind : byteAt t at ≡ 36 = sym (p .value) ∙ f in
@@ -237,14 +238,14 @@ module _ (t : List ℕ) where
       let run = sq (good-as false true e d n _ y _ ee nn (j ∙ ss) (op .list .good)) (suit-moved-out (lookItems t (lookNode t e) true n y .value)) in (
         run .0 ∙ ap (λ (x : Seen Items). x .next) same ∙ ap (λ (x : Seen Node). x .next) (sym (op .plain bit)),
         does-as (does-then r (run .1))
-            (ap (λ (x : ℕ). say (puts (part at x t)) ▷ turnsOf modes.movedOut c₁ (lookItems t (lookNode t e) true n y .value)) ss
-            ∙ ap₂ (λ (x : Place) (is : Seen Items). say (puts (part at (onward t (onward t at 2) 2) t)) ▷ turnsOf modes.movedOut x (is .value)) u same
+            (ap (λ (x : ℕ). say (puts (part at x t)) ▷ turnsOf modes.MovedOut c₁ (lookItems t (lookNode t e) true n y .value)) ss
+            ∙ ap₂ (λ (x : Place) (is : Seen Items). say (puts (part at (onward t (onward t at 2) 2) t)) ▷ turnsOf modes.MovedOut x (is .value)) u same
             ∙ array-out c d at good kind bit),
       )
 
   pub gone-array-rest : {g g₁ g₂ g′ : Going} (c c₁ c₂ : Place) (d l e f at k q n s y v x : ℕ) (b : Bool) → (d ≡ 0 → ⊥) → Peeked t at k → k ≡ 36 → l ≡ d - 1 → q ≡ onward t at 2 → Wide t q n → s ≡ onward t q 2 → y ≡ s
       → c₁ ≡ inner c → e ≡ l → c₂ ≡ inner c → f ≡ l → b ≡ eqb (byteAt t (onward t at 1) / 2 % 2) 1 → b ≡ true → Does g g₁ (say (puts (part at s t)))
-      → Through 16 e true n y v g₁ g₂ c₁ → Emitted t f v x g₂ g′ (λ p. emits c₂ (outOf p)) → Emitted t d at x g g′ (λ p. emits c (outOf p))
+      → Through modes.MovedOut e true n y v g₁ g₂ c₁ → Emitted t f v x g₂ g′ (λ p. emits c₂ (outOf p)) → Emitted t d at x g g′ (λ p. emits c (outOf p))
   gone-array-rest c c₁ c₂ zero l e f at k q n s y v x b z p h a i w j u m o m₂ o₂ bb bt r sq gn good = absurd (z refl)
   gone-array-rest c c₁ c₂ (suc d) l e f at k q n s y v x b z p h a i w j u m o m₂ o₂ bb bt r sq gn good =
       let kind : byteAt t at ≡ 36 = sym (p .value) ∙ h in
@@ -261,9 +262,9 @@ module _ (t : List ℕ) where
       let rest = gn (stands-as f d v _ ff vv (op .rest bit)) in (
         rest .0 ∙ ap (λ (x : Seen Node). x .next) last ∙ ap (λ (x : Seen Node). x .next) (sym (op .resting bit)),
         does-as (does-then r (does-then (run .1) (rest .1)))
-            (ap (λ (x : ℕ). say (puts (part at x t)) ▷ turnsOf modes.movedOut c₁ (lookItems t (lookNode t e) true n y .value) ▷ emits c₂ (outOf (lookNode t f v .value))) ss
-            ∙ ap₂ (λ (x : Place) (is : Seen Items). say (puts (part at (onward t (onward t at 2) 2) t)) ▷ turnsOf modes.movedOut x (is .value) ▷ emits c₂ (outOf (lookNode t f v .value))) m same
-            ∙ ap₂ (λ (x : Place) (n : Seen Node). say (puts (part at (onward t (onward t at 2) 2) t)) ▷ turnsOf modes.movedOut (inner c) (lookItems t (lookNode t d) true (wideAt t (onward t at 2)) (onward t (onward t at 2) 2) .value) ▷ emits x (outOf (n .value))) m₂ last
+            (ap (λ (x : ℕ). say (puts (part at x t)) ▷ turnsOf modes.MovedOut c₁ (lookItems t (lookNode t e) true n y .value) ▷ emits c₂ (outOf (lookNode t f v .value))) ss
+            ∙ ap₂ (λ (x : Place) (is : Seen Items). say (puts (part at (onward t (onward t at 2) 2) t)) ▷ turnsOf modes.MovedOut x (is .value) ▷ emits c₂ (outOf (lookNode t f v .value))) m same
+            ∙ ap₂ (λ (x : Place) (n : Seen Node). say (puts (part at (onward t (onward t at 2) 2) t)) ▷ turnsOf modes.MovedOut (inner c) (lookItems t (lookNode t d) true (wideAt t (onward t at 2)) (onward t (onward t at 2) 2) .value) ▷ emits x (outOf (n .value))) m₂ last
             ∙ array-rest-out c d at good kind bit),
       )
 
@@ -426,7 +427,7 @@ module _ (t : List ℕ) where
   binds-one : (d n at : ℕ) (arrays : Bool) → n ≡ 1 → arrays ≡ false → AllBind arrays (lookItems t (lookNode t (suc d)) arrays n at .value) → eqb (byteAt t at) 15 || eqb (byteAt t at) 5 ≡ true
   unfolding suits
   binds-one d n at arrays e a binds =
-      let x : AllSuit modes.binding (only (lookNode t (suc d) at .value)) = subst (λ (is : Items). AllSuit modes.binding is) (one-item (lookNode t (suc d)) arrays n at e (full t arrays at a)) (binds a) in
+      let x : AllSuit modes.Binding (only (lookNode t (suc d) at .value)) = subst (λ (is : Items). AllSuit modes.Binding is) (one-item (lookNode t (suc d)) arrays n at e (full t arrays at a)) (binds a) in
       ap₂ (λ (x y : Bool). x || y) (sym (is-here t d at 15)) (sym (is-here t d at 5)) ∙ x .0
 
   one-fronts : (c : Place) (d n at : ℕ) (arrays : Bool) → n ≡ 1 → arrays ≡ false
@@ -468,10 +469,10 @@ module _ (t : List ℕ) where
       let qs : Items = lookItems t (lookNode t d) arrays (n - half) end .value in
       let cut : lookItems t (lookNode t d) arrays n at .value ≡ ps +++ qs = halves t (lookNode t d) arrays half (n - half) n at w in
       let two = good-halves (lookNode t d) (Good t d) false arrays half (n - half) n at w good in
-      let some : arrays ≡ false → AllSuit modes.binding (ps +++ qs) = λ x. subst (λ (is : Items). AllSuit modes.binding is) cut (binds x) in
-      let later : AllBind arrays (lookItems t (lookNode t d) arrays (n - half) mid .value) = λ x. subst (λ (y : ℕ). AllSuit modes.binding (lookItems t (lookNode t d) arrays (n - half) y .value)) (sym e) (all-right (λ n. suits modes.binding n ≡ true) ps qs (some x)) in
+      let some : arrays ≡ false → AllSuit modes.Binding (ps +++ qs) = λ x. subst (λ (is : Items). AllSuit modes.Binding is) cut (binds x) in
+      let later : AllBind arrays (lookItems t (lookNode t d) arrays (n - half) mid .value) = λ x. subst (λ (y : ℕ). AllSuit modes.Binding (lookItems t (lookNode t d) arrays (n - half) y .value)) (sym e) (all-right (λ n. suits modes.Binding n ≡ true) ps qs (some x)) in
       does-as
-      (does-then (a s (subst (λ (y : ℕ). GoodItems t (lookNode t d) (Good t d) false arrays (n - half) y) (sym e) (two .1)) later) (b s (two .0) (λ x. all-left (λ n. suits modes.binding n ≡ true) ps qs (some x))))
+      (does-then (a s (subst (λ (y : ℕ). GoodItems t (lookNode t d) (Good t d) false arrays (n - half) y) (sym e) (two .1)) later) (b s (two .0) (λ x. all-left (λ n. suits modes.Binding n ≡ true) ps qs (some x))))
       (ap (λ (y : ℕ). fronts c (gather (movesOf arrays) (lookItems t (lookNode t d) arrays (n - half) y .value)) ▷ fronts c (gather (movesOf arrays) ps)) e
       ∙ sym (fronts-cut c (movesOf arrays) ps qs)
       ∙ ap (λ (is : Items). fronts c (gather (movesOf arrays) is)) (sym cut))

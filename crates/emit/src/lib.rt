@@ -55,11 +55,10 @@ use walk::literal::is_spread;
 use walk::literal::opening;
 use walk::literal::pending;
 use walk::literal::run_of;
-use walk::look::AS_IT_STANDS;
-use walk::look::AS_STRING;
-use walk::look::LEFT_OUT;
+use walk::look::KeyClass;
 use walk::look::Start;
 use walk::look::cell;
+use walk::look::enters_arrays;
 use walk::look::first_bit;
 use walk::look::has_second;
 use walk::look::hoisted;
@@ -68,12 +67,11 @@ use walk::look::item_mode;
 use walk::look::key_sort;
 use walk::look::level;
 use walk::look::moved_in;
-use walk::look::property_mode;
 use walk::look::replaces;
 use walk::look::second;
 use walk::look::start_of;
-use walk::look::value_mode;
-use walk::modes;
+use walk::modes::Deep;
+use walk::modes::Mode;
 use walk::pieces::await_of;
 use walk::pieces::cell_source;
 use walk::pieces::hole;
@@ -91,10 +89,11 @@ use walk::place::statement;
 use walk::place::told_inside;
 use walk::place::told_under;
 use walk::place::under;
-use walk::reaches;
+use walk::reaches::Reach;
+use walk::reaches::counts;
 use walk::stems;
 use walk::target::object_count;
-use walk::views;
+use walk::views::View;
 use walk::walk::Walk;
 use walk::written;
 ghost use mathlib.Core.Path.{_≡_};
@@ -129,8 +128,8 @@ ghost use Rattle.direct.specs.Assigned.{assignmentAt, emitsNest, emitsTarget, e
 ghost use Rattle.direct.specs.Moved.{outOf, movedIn, behind, fronts, bodyIn, blockIn, targetIn};
 ghost use Rattle.walk.specs.Run.{goingOf, Does, Clear};
 ghost use Rattle.walk.specs.Whole.{placeOf, placeWith, holeAt, itemDeeds, slotDeeds, GoodItem, GoodItems, GoodSlot, GoodFields, Good, Ruled, Emitted, Done};
-ghost use Rattle.walk.specs.Modes.{takingView};
-ghost use Rattle.walk.specs.Turns.{viewOf, turnOf, deepMode, isTold, toldPlace, suits, turnsOf, AllSuit, sourceOf, levelOf, spotDeeds, movesOf, AllBind, givenDeeds, givenNode, unlessRefused};
+ghost use Rattle.walk.specs.declared.views.View.the-variants.{Taking};
+ghost use Rattle.walk.specs.Turns.{viewOf, deepOf, isTold, toldPlace, deepSuits, suits, turnsOf, AllSuit, sourceOf, levelOf, spotDeeds, movesOf, AllBind, givenDeeds, givenNode, unlessRefused};
 
 // The fields of a Switch in two parts: mark and discriminant, then the cases, which alone lie in its scope.
 const SWITCH_FRONT: usize = 0x8cc0;
@@ -408,7 +407,7 @@ fn seq(
     work: &mut [u8],
     c: Place,
     root: bool,
-    mode: usize,
+    mode: Mode,
     holes: bool,
     count: usize,
 ) -> Walk
@@ -432,7 +431,7 @@ fn turn(
     work: &mut [u8],
     c: Place,
     root: bool,
-    mode: usize,
+    mode: Mode,
     holes: bool,
 ) -> Walk
     ensures { λ r. ⌜ (GoodItem (now (t .entry)) (lookNode (now (t .entry)) (c .left)) (Good (now (t .entry)) (c .left)) false holes (w .at) → (holeAt (now (t .entry)) holes (w .at) ≡ false → suits mode (lookNode (now (t .entry)) (c .left) (w .at) .value) ≡ true) → (r .at ≡ lookItem (now (t .entry)) (lookNode (now (t .entry)) (c .left)) holes (w .at) .next) × Does (goingOf (now (out .entry)) (now (list .entry)) (now (work .entry)) w) (goingOf (now (out .exit)) (now (list .exit)) (now (work .exit)) r) (spotDeeds (now (t .entry)) (lookNode (now (t .entry)) (c .left)) mode (toldPlace mode root c) holes (w .at))) ⌝ }
@@ -443,19 +442,15 @@ fn turn(
         }
     }
     match mode {
-        modes::VIEWED => view(w, t, out, list, work, c, views::REPLACING),
-        modes::PROPERTY => prop(w, t, out, list, work, c, false),
-        modes::TAKEN_PROPERTY => prop(w, t, out, list, work, c, true),
-        modes::EXCLUDED_KEY => ek(w, t, out, list, work, c),
-        modes::KEY_VALUE => kv(w, t, out, list, work, c),
-        modes::VALUE_FOUND => vl(w, t, out, list, work, c, root, modes::FOUND),
-        modes::DECLARATOR => dr(w, t, out, list, work, c, root),
-        modes::BINDING => bi(w, t, out, list, work, c),
-        modes::VALUE_ANYWHERE => vl(w, t, out, list, work, c, root, modes::ANYWHERE),
-        modes::VALUE_IN_ARRAYS => vl(w, t, out, list, work, c, root, modes::IN_ARRAYS),
-        modes::VALUE_STRAIGHT => vl(w, t, out, list, work, c, root, modes::STRAIGHT),
-        modes::MOVED_OUT => go(w, t, out, list, work, c),
-        _ => deep(w, t, out, list, work, c, root, mode),
+        Mode::Viewed => view(w, t, out, list, work, c, View::Replacing),
+        Mode::MovedOut => go(w, t, out, list, work, c),
+        Mode::Below(d) => deep(w, t, out, list, work, c, root, d),
+        Mode::Property(taken) => prop(w, t, out, list, work, c, taken),
+        Mode::ExcludedKey => ek(w, t, out, list, work, c),
+        Mode::KeyValue => kv(w, t, out, list, work, c),
+        Mode::Value(d) => vl(w, t, out, list, work, c, root, d),
+        Mode::Declarator => dr(w, t, out, list, work, c, root),
+        Mode::Binding => bi(w, t, out, list, work, c),
     }
 }
 
@@ -468,7 +463,7 @@ fn view(
     list: &mut [u8],
     work: &mut [u8],
     c: Place,
-    v: usize,
+    v: View,
 ) -> Walk
     ensures { λ r. ⌜ Emitted (now (t .entry)) (c .left) (w .at) (r .at) (goingOf (now (out .entry)) (now (list .entry)) (now (work .entry)) w) (goingOf (now (out .exit)) (now (list .exit)) (now (work .exit)) r) (emitsView (placeOf c) (viewOf v)) ⌝ }
 {
@@ -482,7 +477,7 @@ fn view(
         kinds::DEFAULT => {
             let left = less(c.left);
             let u = w.copy(t, out, step(t, w.at, 2));
-            let u = view(u, t, out, list, work, inside(c, left), views::REPLACING);
+            let u = view(u, t, out, list, work, inside(c, left), View::Replacing);
             node(u, t, out, list, work, inside(c, left))
         }
         _ => node(w, t, out, list, work, c),
@@ -497,7 +492,7 @@ fn vo(
     list: &mut [u8],
     work: &mut [u8],
     c: Place,
-    v: usize,
+    v: View,
 ) -> Walk
     ensures { λ r. ⌜ (byteAt (now (t .entry)) (w .at) ≡ 34 → Emitted (now (t .entry)) (c .left) (w .at) (r .at) (goingOf (now (out .entry)) (now (list .entry)) (now (work .entry)) w) (goingOf (now (out .exit)) (now (list .exit)) (now (work .exit)) r) (emitsView (placeOf c) (viewOf v))) ⌝ }
 {
@@ -526,7 +521,7 @@ fn vo(
         work,
         inside(c, left),
         false,
-        property_mode(rest),
+        Mode::Property(rest),
         false,
         n,
     );
@@ -544,7 +539,7 @@ fn va(
     list: &mut [u8],
     work: &mut [u8],
     c: Place,
-    v: usize,
+    v: View,
 ) -> Walk
     ensures { λ r. ⌜ (byteAt (now (t .entry)) (w .at) ≡ 36 → Emitted (now (t .entry)) (c .left) (w .at) (r .at) (goingOf (now (out .entry)) (now (list .entry)) (now (work .entry)) w) (goingOf (now (out .exit)) (now (list .exit)) (now (work .exit)) r) (emitsView (placeOf c) (viewOf v))) ⌝ }
 {
@@ -564,7 +559,7 @@ fn va(
         work,
         inside(c, left),
         false,
-        modes::VIEWED,
+        Mode::Viewed,
         true,
         n,
     );
@@ -603,7 +598,7 @@ fn prop(
         taken,
         p,
     );
-    let u = view(u, t, out, list, work, inside(c, left), views::REPLACING);
+    let u = view(u, t, out, list, work, inside(c, left), View::Replacing);
     u.copy(t, out, step(t, u.at, 1))
 }
 
@@ -717,7 +712,7 @@ fn keys(
         work,
         told_under(c, root, less(c.left)),
         root,
-        modes::EXCLUDED_KEY,
+        Mode::ExcludedKey,
         false,
         n,
     ).to(at)
@@ -733,10 +728,10 @@ fn ek(w: Walk, t: &[u8], out: &mut [u8], list: &mut [u8], work: &mut [u8], c: Pl
     let k = step(t, p, 2);
     let sort = key_sort(t, left, k);
     match sort {
-        AS_STRING => string(w, t, out, left, k).to(end),
-        AS_IT_STANDS => node(w.to(k), t, out, list, work, under(c, left)).to(end),
-        LEFT_OUT => w.to(end),
-        _ => w.temporary(out, list, work, p, stems::KEY).to(end),
+        KeyClass::AsString => string(w, t, out, left, k).to(end),
+        KeyClass::AsItStands => node(w.to(k), t, out, list, work, under(c, left)).to(end),
+        KeyClass::LeftOut => w.to(end),
+        KeyClass::AsTemporary => w.temporary(out, list, work, p, stems::KEY).to(end),
     }
 }
 
@@ -767,9 +762,9 @@ fn deep(
     work: &mut [u8],
     c: Place,
     root: bool,
-    mode: usize,
+    mode: Deep,
 ) -> Walk
-    ensures { λ r. ⌜ (Good (now (t .entry)) (c .left) (w .at) → deepMode mode ≡ true → suits mode (lookNode (now (t .entry)) (c .left) (w .at) .value) ≡ true → (r .at ≡ lookNode (now (t .entry)) (c .left) (w .at) .next) × Does (goingOf (now (out .entry)) (now (list .entry)) (now (work .entry)) w) (goingOf (now (out .exit)) (now (list .exit)) (now (work .exit)) r) (turnOf mode (placeWith root c) (lookNode (now (t .entry)) (c .left) (w .at) .value))) ⌝ }
+    ensures { λ r. ⌜ (Good (now (t .entry)) (c .left) (w .at) → deepSuits mode (lookNode (now (t .entry)) (c .left) (w .at) .value) ≡ true → (r .at ≡ lookNode (now (t .entry)) (c .left) (w .at) .next) × Does (goingOf (now (out .entry)) (now (list .entry)) (now (work .entry)) w) (goingOf (now (out .exit)) (now (list .exit)) (now (work .exit)) r) (deepOf mode (placeWith root c) (lookNode (now (t .entry)) (c .left) (w .at) .value))) ⌝ }
 {
     if c.left == 0 {
         return w;
@@ -797,37 +792,39 @@ fn db(
     work: &mut [u8],
     c: Place,
     root: bool,
-    mode: usize,
+    mode: Deep,
 ) -> Walk
-    ensures { λ r. ⌜ (byteAt (now (t .entry)) (w .at) ≡ 34 → (Good (now (t .entry)) (c .left) (w .at) → deepMode mode ≡ true → suits mode (lookNode (now (t .entry)) (c .left) (w .at) .value) ≡ true → (r .at ≡ lookNode (now (t .entry)) (c .left) (w .at) .next) × Does (goingOf (now (out .entry)) (now (list .entry)) (now (work .entry)) w) (goingOf (now (out .exit)) (now (list .exit)) (now (work .exit)) r) (turnOf mode (placeWith root c) (lookNode (now (t .entry)) (c .left) (w .at) .value)))) ⌝ }
+    ensures { λ r. ⌜ (byteAt (now (t .entry)) (w .at) ≡ 34 → (Good (now (t .entry)) (c .left) (w .at) → deepSuits mode (lookNode (now (t .entry)) (c .left) (w .at) .value) ≡ true → (r .at ≡ lookNode (now (t .entry)) (c .left) (w .at) .next) × Does (goingOf (now (out .entry)) (now (list .entry)) (now (work .entry)) w) (goingOf (now (out .exit)) (now (list .exit)) (now (work .exit)) r) (deepOf mode (placeWith root c) (lookNode (now (t .entry)) (c .left) (w .at) .value)))) ⌝ }
 {
     if c.left == 0 {
         return w;
     }
-    if mode == modes::FOUND {
-        return fb(w, t, out, list, work, c, root);
-    }
-    let p = w.at;
-    if has_second(t, p) {
-        let end = skip(t, c.left, p);
-        if mode == modes::IN_ARRAYS {
-            return w.to(end);
+    match mode {
+        Deep::Found => fb(w, t, out, list, work, c, root),
+        Deep::Reached(reach) => {
+            let p = w.at;
+            if has_second(t, p) {
+                let end = skip(t, c.left, p);
+                if !counts(reach) {
+                    return w.to(end);
+                }
+                return top(
+                    w,
+                    t,
+                    out,
+                    list,
+                    work,
+                    inside(c, c.left),
+                    root,
+                    p,
+                    false,
+                    stems::PLACE,
+                    cell(stems::PLACE, p),
+                ).to(end);
+            }
+            pr(w, t, out, list, work, c, root, p, Mode::Value(mode))
         }
-        return top(
-            w,
-            t,
-            out,
-            list,
-            work,
-            inside(c, c.left),
-            root,
-            p,
-            false,
-            stems::PLACE,
-            cell(stems::PLACE, p),
-        ).to(end);
     }
-    pr(w, t, out, list, work, c, root, p, value_mode(mode))
 }
 
 // The declarators of an object with rest, then those of its values.
@@ -879,7 +876,7 @@ fn fb(
             work,
             under(c, left),
             root,
-            modes::VALUE_FOUND,
+            Mode::Value(Deep::Found),
             false,
             n,
         );
@@ -893,7 +890,7 @@ fn fb(
         work,
         under(c, left),
         root,
-        modes::VALUE_FOUND,
+        Mode::Value(Deep::Found),
         false,
         n,
     )
@@ -907,15 +904,15 @@ fn da(
     work: &mut [u8],
     c: Place,
     root: bool,
-    mode: usize,
+    mode: Deep,
 ) -> Walk
-    ensures { λ r. ⌜ (byteAt (now (t .entry)) (w .at) ≡ 36 → (Good (now (t .entry)) (c .left) (w .at) → deepMode mode ≡ true → suits mode (lookNode (now (t .entry)) (c .left) (w .at) .value) ≡ true → (r .at ≡ lookNode (now (t .entry)) (c .left) (w .at) .next) × Does (goingOf (now (out .entry)) (now (list .entry)) (now (work .entry)) w) (goingOf (now (out .exit)) (now (list .exit)) (now (work .exit)) r) (turnOf mode (placeWith root c) (lookNode (now (t .entry)) (c .left) (w .at) .value)))) ⌝ }
+    ensures { λ r. ⌜ (byteAt (now (t .entry)) (w .at) ≡ 36 → (Good (now (t .entry)) (c .left) (w .at) → deepSuits mode (lookNode (now (t .entry)) (c .left) (w .at) .value) ≡ true → (r .at ≡ lookNode (now (t .entry)) (c .left) (w .at) .next) × Does (goingOf (now (out .entry)) (now (list .entry)) (now (work .entry)) w) (goingOf (now (out .exit)) (now (list .exit)) (now (work .exit)) r) (deepOf mode (placeWith root c) (lookNode (now (t .entry)) (c .left) (w .at) .value)))) ⌝ }
 {
     if c.left == 0 {
         return w;
     }
     let end = skip(t, c.left, w.at);
-    if mode == modes::STRAIGHT {
+    if !enters_arrays(mode) {
         return w.to(end);
     }
     let q = step(t, w.at, 2);
@@ -943,9 +940,9 @@ fn vl(
     work: &mut [u8],
     c: Place,
     root: bool,
-    mode: usize,
+    mode: Deep,
 ) -> Walk
-    ensures { λ r. ⌜ (byteAt (now (t .entry)) (w .at) ≡ 35 → Good (now (t .entry)) (c .left) (w .at) → deepMode mode ≡ true → suits mode (value (lookNode (now (t .entry)) (c .left) (w .at) .value)) ≡ true → (r .at ≡ lookNode (now (t .entry)) (c .left) (w .at) .next) × Does (goingOf (now (out .entry)) (now (list .entry)) (now (work .entry)) w) (goingOf (now (out .exit)) (now (list .exit)) (now (work .exit)) r) (turnOf mode (placeWith root c) (value (lookNode (now (t .entry)) (c .left) (w .at) .value)))) ⌝ }
+    ensures { λ r. ⌜ (byteAt (now (t .entry)) (w .at) ≡ 35 → Good (now (t .entry)) (c .left) (w .at) → deepSuits mode (value (lookNode (now (t .entry)) (c .left) (w .at) .value)) ≡ true → (r .at ≡ lookNode (now (t .entry)) (c .left) (w .at) .next) × Does (goingOf (now (out .entry)) (now (list .entry)) (now (work .entry)) w) (goingOf (now (out .exit)) (now (list .exit)) (now (work .exit)) r) (deepOf mode (placeWith root c) (value (lookNode (now (t .entry)) (c .left) (w .at) .value)))) ⌝ }
 {
     if quiet(t, w.at) {
         return w.to(skip(t, c.left, w.at));
@@ -984,7 +981,7 @@ fn decl(w: Walk, t: &[u8], out: &mut [u8], list: &mut [u8], work: &mut [u8], c: 
         work,
         under(c, less(c.left)),
         root,
-        modes::DECLARATOR,
+        Mode::Declarator,
         false,
         wide_at(t, q),
     ).to(end)
@@ -1073,7 +1070,7 @@ fn pa(
                 work,
                 under(c, less(c.left)),
                 root,
-                modes::VALUE_FOUND,
+                Mode::Value(Deep::Found),
                 false,
                 n,
             ).to(p);
@@ -1088,10 +1085,10 @@ fn pa(
                 list,
                 work,
                 told_inside(c, root, c.left),
-                views::REPLACING,
+                View::Replacing,
             );
             let u = source(u, t, out, list, work, b).to(p);
-            deep(u, t, out, list, work, c, root, modes::FOUND)
+            deep(u, t, out, list, work, c, root, Deep::Found)
         }
         _ => w,
     }
@@ -1125,7 +1122,7 @@ fn own(
             work,
             told_inside(c, root, less(c.left)),
             root,
-            modes::KEY_VALUE,
+            Mode::KeyValue,
             false,
             n,
         );
@@ -1157,7 +1154,7 @@ fn oa(
         list,
         work,
         told_inside(c, root, c.left),
-        views::TAKING,
+        View::Taking,
     );
     source(u, t, out, list, work, b).to(p)
 }
@@ -1248,7 +1245,7 @@ fn an(
         work,
         c,
         root,
-        views::REPLACING,
+        View::Replacing,
         op,
         p,
         input,
@@ -1286,7 +1283,17 @@ fn top(
         .temporary(out, list, work, cell(stems::VALUE, p), stems::VALUE);
     let u = gv(u, t, out, list, work, d, input, stem, x);
     let u = tg(u, t, out, list, work, c, root, p);
-    let u = pr(u, t, out, list, work, c, root, p, modes::VALUE_STRAIGHT);
+    let u = pr(
+        u,
+        t,
+        out,
+        list,
+        work,
+        c,
+        root,
+        p,
+        Mode::Value(Deep::Reached(Reach::Straight)),
+    );
     let u = node(
         u.assign(out, ASSIGNS),
         t,
@@ -1346,7 +1353,7 @@ fn tg(
     ensures { λ r. ⌜ (byteAt (now (t .entry)) p ≡ 34 → Good (now (t .entry)) (c .left) p → hasArrayRestOverObjectRest (lookNode (now (t .entry)) (c .left) p .value) ≡ false → Does (goingOf (now (out .entry)) (now (list .entry)) (now (work .entry)) w) (goingOf (now (out .exit)) (now (list .exit)) (now (work .exit)) r) (emitsTarget (placeWith root c) (lookNode (now (t .entry)) (c .left) p .value))) ⌝ }
 {
     let d = told_inside(c, root, c.left);
-    if 0 < object_count(t, c.left, p, reaches::IN_ARRAYS) {
+    if 0 < object_count(t, c.left, p, Reach::InArrays) {
         let x = cell(stems::VALUE, p);
         return ns(
             w,
@@ -1356,7 +1363,7 @@ fn tg(
             work,
             d,
             root,
-            views::TAKING,
+            View::Taking,
             ASSIGNS,
             p,
             false,
@@ -1371,7 +1378,7 @@ fn tg(
         list,
         work,
         d,
-        views::TAKING,
+        View::Taking,
     );
     u.temporary(out, list, work, cell(stems::VALUE, p), stems::VALUE)
 }
@@ -1385,14 +1392,14 @@ fn ns(
     work: &mut [u8],
     c: Place,
     root: bool,
-    v: usize,
+    v: View,
     op: usize,
     p: usize,
     input: bool,
     stem: u8,
     x: usize,
 ) -> Walk
-    ensures { λ r. ⌜ ((v ≡ takingView → byteAt (now (t .entry)) p ≡ 34) → Good (now (t .entry)) (c .left) p → (input ≡ true → Good (now (t .entry)) (c .left) x) → hasArrayRestOverObjectRest (lookNode (now (t .entry)) (c .left) p .value) ≡ false → op < 256 → Does (goingOf (now (out .entry)) (now (list .entry)) (now (work .entry)) w) (goingOf (now (out .exit)) (now (list .exit)) (now (work .exit)) r) (emitsNest (placeWith root c) (viewOf v) op (lookNode (now (t .entry)) (c .left) p .value) (givenDeeds (now (t .entry)) (c .left) (inner (placeWith root c)) input stem x))) ⌝ }
+    ensures { λ r. ⌜ ((v ≡ Taking → byteAt (now (t .entry)) p ≡ 34) → Good (now (t .entry)) (c .left) p → (input ≡ true → Good (now (t .entry)) (c .left) x) → hasArrayRestOverObjectRest (lookNode (now (t .entry)) (c .left) p .value) ≡ false → op < 256 → Does (goingOf (now (out .entry)) (now (list .entry)) (now (work .entry)) w) (goingOf (now (out .exit)) (now (list .exit)) (now (work .exit)) r) (emitsNest (placeWith root c) (viewOf v) op (lookNode (now (t .entry)) (c .left) p .value) (givenDeeds (now (t .entry)) (c .left) (inner (placeWith root c)) input stem x))) ⌝ }
 {
     let k = places_in(t, c.left, p, v);
     let u = nested_hands(w, t, list, work, c.left, p, v, c.mark);
@@ -1412,10 +1419,29 @@ fn ns(
         stem,
         x,
     );
-    if v == views::TAKING {
-        return pr(u, t, out, list, work, c, root, p, modes::VALUE_IN_ARRAYS);
+    match v {
+        View::Replacing => deep(
+            u.to(p),
+            t,
+            out,
+            list,
+            work,
+            c,
+            root,
+            Deep::Reached(Reach::Anywhere),
+        ),
+        View::Taking => pr(
+            u,
+            t,
+            out,
+            list,
+            work,
+            c,
+            root,
+            p,
+            Mode::Value(Deep::Reached(Reach::InArrays)),
+        ),
     }
-    deep(u.to(p), t, out, list, work, c, root, modes::ANYWHERE)
 }
 
 // The properties of the object at p, by a mode.
@@ -1428,7 +1454,7 @@ fn pr(
     c: Place,
     root: bool,
     p: usize,
-    mode: usize,
+    mode: Mode,
 ) -> Walk
     ensures { λ r. ⌜ (isTold mode ≡ true → byteAt (now (t .entry)) p ≡ 34 → Good (now (t .entry)) (c .left) p → AllSuit mode (properties (lookNode (now (t .entry)) (c .left) p .value)) → (r .at ≡ lookItems (now (t .entry)) (lookNode (now (t .entry)) (c .left - 1)) false (wideAt (now (t .entry)) (onward (now (t .entry)) p 2)) (onward (now (t .entry)) (onward (now (t .entry)) p 2) 2) .next) × Does (goingOf (now (out .entry)) (now (list .entry)) (now (work .entry)) w) (goingOf (now (out .exit)) (now (list .exit)) (now (work .exit)) r) (turnsOf mode (placeWith root c) (properties (lookNode (now (t .entry)) (c .left) p .value)))) ⌝ }
 {
@@ -1502,7 +1528,7 @@ fn go(w: Walk, t: &[u8], out: &mut [u8], list: &mut [u8], work: &mut [u8], c: Pl
                 work,
                 inside(c, left),
                 false,
-                modes::MOVED_OUT,
+                Mode::MovedOut,
                 true,
                 n,
             );
@@ -1768,7 +1794,7 @@ fn fun(w: Walk, t: &[u8], out: &mut [u8], list: &mut [u8], work: &mut [u8], c: P
                 out,
                 first,
             );
-            let u = seq(u, t, out, list, work, d, false, modes::BINDING, false, n);
+            let u = seq(u, t, out, list, work, d, false, Mode::Binding, false, n);
             let u = slot(u, t, out, list, work, d, NODE_FIELD, bits / 16 % 2, false);
             return body(u, t, out, list, work, d, first, n).to(skip(t, c.left, p));
         }
@@ -1788,7 +1814,7 @@ fn ar(w: Walk, t: &[u8], out: &mut [u8], list: &mut [u8], work: &mut [u8], c: Pl
         let n = wide_at(t, q);
         let first = step(t, q, 2);
         let u = moves_make(w, t, work, left, first, n).copy(t, out, first);
-        let u = seq(u, t, out, list, work, d, false, modes::BINDING, false, n);
+        let u = seq(u, t, out, list, work, d, false, Mode::Binding, false, n);
         let u = slot(u, t, out, list, work, d, NODE_FIELD, second(t, p), false);
         return eb(u, t, out, list, work, d, first, n).to(skip(t, c.left, p));
     }
@@ -1843,7 +1869,7 @@ fn ca(w: Walk, t: &[u8], out: &mut [u8], list: &mut [u8], work: &mut [u8], c: Pl
         if is_moved(t, left, q) {
             let d = scoped(c, left);
             let u = moves_make(w, t, work, left, q, 1).copy(t, out, q);
-            let u = seq(u, t, out, list, work, d, false, modes::BINDING, false, 1);
+            let u = seq(u, t, out, list, work, d, false, Mode::Binding, false, 1);
             return bl(u, t, out, list, work, d, false, q, 1).to(skip(t, c.left, p));
         }
         return plain(w, t, out, list, work, c);
@@ -1895,7 +1921,7 @@ fn dh(w: Walk, t: &[u8], out: &mut [u8], list: &mut [u8], work: &mut [u8], c: Pl
         work,
         scoped(c, under),
         false,
-        modes::BINDING,
+        Mode::Binding,
         false,
         n,
     );

@@ -1,7 +1,7 @@
 -- What is handed out for the keys of an object, and for an object by its mode.
 -- Assumes nothing.
 use mathlib.Core.Path.{_≡_, refl, sym, ap, ap₂, _∙_, subst}
-use mathlib.Core.Bool.{Bool, true, false, true≢false}
+use mathlib.Core.Bool.{Bool, true, false, false≢true}
 use mathlib.Core.List.{List, [], _∷_, _++_}
 use mathlib.Core.Option.{Option, some}
 use Prim.Native.Nat.{ℕ, zero, suc, _+_, _-_, _/_, _%_, _≤_, _<_, min}
@@ -9,7 +9,6 @@ use native.Mathlib.Omega.{arith}
 use lib.Dec.{eqb}
 use lib.ListN.{length, take, drop, length-take, length-drop}
 use lib.Seq.{take-nil}
-use borrow.Author.Tests.{eqb-true, eq-eqb, ne-eqb}
 use Rattle.tree.specs.Tree.{Node, wideBytes, count, encode}
 use Rattle.tree.specs.Tree.Fields.{done}
 use Rattle.tree.specs.Grammar.{Sort, fieldsOf}
@@ -47,14 +46,19 @@ use Rattle.direct.specs.Keys.{stringBytes, entries, hoists}
 use Rattle.direct.specs.Handed.{placeMade, keyMade, keysMade, keyBytes, excludesOf, handsKey, handsKeys, handsPlace, keyBytesOf}
 use Rattle.direct.proofs.Threads.{say-say}
 use Rattle.direct.proofs.RestValues.{entries-are}
-use Rattle.walk.specs.Modes as modes
+use Rattle.walk.specs.declared.look.KeyClass.{KeyClass}
+use Rattle.walk.specs.declared.look.KeyClass.the-variants.{AsString, AsItStands, LeftOut, AsTemporary}
+use Rattle.walk.specs.declared.hand.Own.{Own}
+use Rattle.walk.specs.declared.hand.Own.the-variants as own
+use Rattle.walk.specs.declared.hand.KeyUse.{KeyUse}
+use Rattle.walk.specs.declared.hand.KeyUse.the-variants as use-of
 use Rattle.walk.specs.Run.{Going, Does}
 use Rattle.walk.specs.Whole.{GoodItems, Good}
 use Rattle.walk.specs.Turns.{cellAt, ownOf, keyOf, keyClass, keyString}
 use Rattle.walk.proofs.Running.{does-then, does-nothing, does-as}
 use Rattle.walk.proofs.Opened.{position-here, good-copied, good-short, good-within, object-open, property-key}
 use Rattle.walk.proofs.Hands.{at-level, list-from}
-use Rattle.walk.proofs.Lookups.{cell-within, classOf, class-name, class-here, key-class}
+use Rattle.walk.proofs.Lookups.{cell-within, classOf, class-name, class-here, key-class, isString}
 use Rattle.walk.proofs.Sources.{Spelt, entryText, name-spelt, form-spelt, bare-spelt, string-is}
 
 -- ---- cells
@@ -70,17 +74,17 @@ cell-4 at = omega arith
 -- ---- one property, by a mode
 
 module _ (q : Node) where
-  key-excludes : say (excludes (keyBytesOf (key q))) ≡ keyOf modes.keyExcluded q
+  key-excludes : say (excludes (keyBytesOf (key q))) ≡ keyOf use-of.Excluded q
   unfolding keyOf keyBytes keyBytesOf
   key-excludes = refl
 
-  key-makes : keyMade q ≡ keyOf modes.keyMade q
+  key-makes : keyMade q ≡ keyOf use-of.Made q
   unfolding keyOf
   key-makes = refl
 
-  key-else : (mode : ℕ) → (mode ≡ modes.keyExcluded → ⊥) → (mode ≡ modes.keyMade → ⊥) → handsKey q ≡ keyOf mode q
+  key-hands : handsKey q ≡ keyOf use-of.Listed q
   unfolding keyOf
-  key-else mode a b = rw (ne-eqb mode modes.keyExcluded a, ne-eqb mode modes.keyMade b) refl
+  key-hands = refl
 
   made-yes : isOther (key q) ≡ true → say (does (make (events.cell 4 (position q))) ∷ []) ≡ keyMade q
   unfolding keyMade
@@ -101,16 +105,16 @@ module _ (q : Node) where
 pub three-say : (a b c : List Deed) → say a ▷ say b ▷ say c ≡ say (a ++ (b ++ c))
 three-say a b c = ap (λ (x : Emit). say a ▷ x) (say-say b c) ∙ say-say a (b ++ c)
 
-module _ (t : List ℕ) (left d at k mode : ℕ) (e : d ≡ left - 1) (a : k ≡ onward t at 2) where
-  pub key-excluded : {g g′ : Going} → mode ≡ modes.keyExcluded → (Good t d k → Does g g′ (say (excludes (keyBytesOf (lookNode t d k .value)))))
+module _ (t : List ℕ) (left d at k : ℕ) (mode : KeyUse) (e : d ≡ left - 1) (a : k ≡ onward t at 2) where
+  pub key-excluded : {g g′ : Going} → mode ≡ use-of.Excluded → (Good t d k → Does g g′ (say (excludes (keyBytesOf (lookNode t d k .value)))))
       → Good t left at → byteAt t at ≡ 35 → Does g g′ (keyOf mode (lookNode t left at .value))
   key-excluded {g = g} {g′ = g′} m f good kind =
       at-level t (λ (x : ℕ). Does g g′ (keyOf mode (lookNode t x at .value))) left d at e good
       (λ here.
       let n = lookNode t (suc d) at .value in
-      does-as (f (property-key t d at here kind k a .1)) (ap (λ (x : Node). say (excludes (keyBytesOf x))) (property-key t d at here kind k a .0) ∙ key-excludes n ∙ ap (λ (x : ℕ). keyOf x n) (sym m)))
+      does-as (f (property-key t d at here kind k a .1)) (ap (λ (x : Node). say (excludes (keyBytesOf x))) (property-key t d at here kind k a .0) ∙ key-excludes n ∙ ap (λ (x : KeyUse). keyOf x n) (sym m)))
 
-  pub key-made : {g g′ : Going} (b : Bool) → b ≡ isOther (lookNode t d k .value) → b ≡ true → mode ≡ modes.keyMade → Does g g′ (say (does (make at) ∷ []))
+  pub key-made : {g g′ : Going} (b : Bool) → b ≡ isOther (lookNode t d k .value) → b ≡ true → mode ≡ use-of.Made → Does g g′ (say (does (make at) ∷ []))
       → Good t left at → byteAt t at ≡ 35 → Does g g′ (keyOf mode (lookNode t left at .value))
   key-made {g = g} {g′ = g′} b f y m h good kind =
       at-level t (λ (x : ℕ). Does g g′ (keyOf mode (lookNode t x at .value))) left d at e good
@@ -118,12 +122,12 @@ module _ (t : List ℕ) (left d at k mode : ℕ) (e : d ≡ left - 1) (a : k ≡
       let n = lookNode t (suc d) at .value in
       let o : isOther (key n) ≡ true = ap isOther (sym (property-key t d at here kind k a .0)) ∙ sym f ∙ y in
       let c : at ≡ events.cell 4 (position n) = cell-4 at ∙ ap (events.cell 4) (sym (position-here t (suc d) at)) in
-      does-as h (ap (λ (x : ℕ). say (does (make x) ∷ [])) c ∙ made-yes n o ∙ key-makes n ∙ ap (λ (x : ℕ). keyOf x n) (sym m)))
+      does-as h (ap (λ (x : ℕ). say (does (make x) ∷ [])) c ∙ made-yes n o ∙ key-makes n ∙ ap (λ (x : KeyUse). keyOf x n) (sym m)))
 
-  pub key-listed : {g g₁ g₂ g′ : Going} (b : Bool) (end : ℕ) → b ≡ isOther (lookNode t d k .value) → b ≡ true → (mode ≡ modes.keyExcluded → ⊥) → (mode ≡ modes.keyMade → ⊥) → end ≡ lookNode t d k .next
+  pub key-listed : {g g₁ g₂ g′ : Going} (b : Bool) (end : ℕ) → b ≡ isOther (lookNode t d k .value) → b ≡ true → mode ≡ use-of.Listed → end ≡ lookNode t d k .next
       → Does g g₁ (say (lists (5 ∷ 3 ∷ []))) → Does g₁ g₂ (say (does (listedTemporary at 4) ∷ [])) → Does g₂ g′ (say (lists (part k end t)))
       → Good t left at → byteAt t at ≡ 35 → Does g g′ (keyOf mode (lookNode t left at .value))
-  key-listed {g = g} {g′ = g′} b end f y m m′ w h i j good kind =
+  key-listed {g = g} {g′ = g′} b end f y m w h i j good kind =
       at-level t (λ (x : ℕ). Does g g′ (keyOf mode (lookNode t x at .value))) left d at e good
       (λ here.
       let n = lookNode t (suc d) at .value in
@@ -133,23 +137,27 @@ module _ (t : List ℕ) (left d at k mode : ℕ) (e : d ≡ left - 1) (a : k ≡
       does-as (does-then h (does-then i j))
       (three-say (lists (5 ∷ 3 ∷ [])) (does (listedTemporary at 4) ∷ []) (lists (part k end t))
       ∙ ap₂ (λ (x : ℕ) (bs : List ℕ). say (lists (5 ∷ 3 ∷ []) ++ (does (listedTemporary x 4) ∷ lists bs))) c bytes
-      ∙ hands-yes n o ∙ key-else n mode m m′))
+      ∙ hands-yes n o ∙ key-hands n ∙ ap (λ (x : KeyUse). keyOf x n) (sym m)))
 
-  pub key-none : {g : Going} (b : Bool) → b ≡ isOther (lookNode t d k .value) → b ≡ false → (mode ≡ modes.keyExcluded → ⊥)
-      → Good t left at → byteAt t at ≡ 35 → Does g g (keyOf mode (lookNode t left at .value))
-  key-none {g = g} b f y m good kind =
-      at-level t (λ (x : ℕ). Does g g (keyOf mode (lookNode t x at .value))) left d at e good
-      (λ here.
-      let n = lookNode t (suc d) at .value in
-      let o : isOther (key n) ≡ false = ap isOther (sym (property-key t d at here kind k a .0)) ∙ sym f ∙ y in
-      does-as (does-nothing g)
-      (by-test (eqb mode modes.keyMade)
-      (λ x. made-no n o ∙ key-makes n ∙ ap (λ (z : ℕ). keyOf z n) (sym (eqb-true mode 1 x)))
-      (λ x. hands-no n o ∙ key-else n mode m (λ z. true≢false (sym (eq-eqb mode modes.keyMade z) ∙ x)))))
+  -- a key that wants no temporary
+  module _ {g : Going} (b : Bool) (f : b ≡ isOther (lookNode t d k .value)) (y : b ≡ false) where
+    key-none : (m : KeyUse) → ((n : Node) → isOther (key n) ≡ false → say [] ≡ keyOf m n) → mode ≡ m → Good t left at → byteAt t at ≡ 35 → Does g g (keyOf mode (lookNode t left at .value))
+    key-none m h u good kind =
+        at-level t (λ (x : ℕ). Does g g (keyOf mode (lookNode t x at .value))) left d at e good
+        (λ here.
+        let n = lookNode t (suc d) at .value in
+        let o : isOther (key n) ≡ false = ap isOther (sym (property-key t d at here kind k a .0)) ∙ sym f ∙ y in
+        does-as (does-nothing g) (h n o ∙ ap (λ (x : KeyUse). keyOf x n) (sym u)))
+
+    pub key-unmade : mode ≡ use-of.Made → Good t left at → byteAt t at ≡ 35 → Does g g (keyOf mode (lookNode t left at .value))
+    key-unmade u = key-none use-of.Made (λ n o. made-no n o ∙ key-makes n) u
+
+    pub key-unlisted : mode ≡ use-of.Listed → Good t left at → byteAt t at ≡ 35 → Does g g (keyOf mode (lookNode t left at .value))
+    key-unlisted u = key-none use-of.Listed (λ n o. hands-no n o ∙ key-hands n) u
 
 -- all properties of an object
 module _ (t : List ℕ) (left d at q p n : ℕ) (e : d ≡ left - 1) (a : q ≡ onward t at 2) (b : p ≡ onward t q 2) (w : Wide t q n) where
-  pub keys-do : {g g₁ : Going} (mode : ℕ)
+  pub keys-do : {g g₁ : Going} (mode : KeyUse)
       → (GoodItems t (lookNode t d) (Good t d) false false n p → AllItems (λ q. is 35 q ≡ true) (lookItems t (lookNode t d) false n p .value)
       → Does g g₁ (inTurn (keyOf mode) (lookItems t (lookNode t d) false n p .value)))
       → Good t left at → byteAt t at ≡ 34 → Does g g₁ (inTurn (keyOf mode) (properties (lookNode t left at .value)))
@@ -173,11 +181,11 @@ module _ (t : List ℕ) where
     pub bytes : stringBytes (part p (p + n) t) ≡ keyBytesOf k
 
   -- a key that is written as a string, by its class
-  bytes-string : (k : Node) → keyClass k ≡ modes.asString → keyString k ≡ keyBytesOf k
+  bytes-string : (k : Node) → keyClass k ≡ AsString → keyString k ≡ keyBytesOf k
   unfolding keyClass keyString keyBytesOf
   bytes-string k h = go (keySort k) h
     where
-      go : (s : keys.Key) → _≡_ {A = ℕ} (elim (entryOf s) [ spelt ↦ 1 | itself ↦ 2 | omitted ↦ 3 | saved ↦ 4 ]) 1
+      go : (s : keys.Key) → _≡_ {A = KeyClass} (elim (entryOf s) [ spelt ↦ AsString | itself ↦ AsItStands | omitted ↦ LeftOut | saved ↦ AsTemporary ]) AsString
           → _≡_ {A = List ℕ}
           (elim (entryOf s) [ spelt ↦ stringBytes (keyText k) | itself ↦ [] | omitted ↦ [] | saved ↦ [] ])
           (elim s [
@@ -190,12 +198,12 @@ module _ (t : List ℕ) where
           ])
       go name h = refl
       go literal h = refl
-      go template h = absurd (omega arith)
-      go private h = absurd (omega arith)
-      go again h = absurd (omega arith)
-      go other h = absurd (omega arith)
+      go template h = absurd (false≢true (ap isString h))
+      go private h = absurd (false≢true (ap isString h))
+      go again h = absurd (false≢true (ap isString h))
+      go other h = absurd (false≢true (ap isString h))
 
-  as-spelt : (k : Node) (p n : ℕ) → keyClass k ≡ modes.asString → Spelt t k p n → KeyAs k p n
+  as-spelt : (k : Node) (p n : ℕ) → keyClass k ≡ AsString → Spelt t k p n → KeyAs k p n
   as-spelt k p n h s = record { small = s .small; room = s .within; bytes = s .string ∙ bytes-string k h }
 
   module _ (d at : ℕ) where
@@ -214,16 +222,16 @@ module _ (t : List ℕ) where
     Plain k Again = [] ≡ keyBytesOf k
     Plain k Other = [] ≡ keyBytesOf k
 
-    class-plain : (k : Node) (x : Key) → classOf x ≡ modes.asString → Plain k x
+    class-plain : (k : Node) (x : Key) → classOf x ≡ AsString → Plain k x
     class-plain k (Name p n) h = tt
     class-plain k (Literal p n) h = tt
     class-plain k (variants.Number v) h = tt
     class-plain k (OtherForm v) h = tt
     class-plain k NoForm h = tt
-    class-plain k Template h = absurd (omega arith)
-    class-plain k Private h = absurd (omega arith)
-    class-plain k Again h = absurd (omega arith)
-    class-plain k Other h = absurd (omega arith)
+    class-plain k Template h = absurd (false≢true (ap isString h))
+    class-plain k Private h = absurd (false≢true (ap isString h))
+    class-plain k Again h = absurd (false≢true (ap isString h))
+    class-plain k Other h = absurd (false≢true (ap isString h))
 
     plain-is : Plain this (keyAt t d at)
     unfolding keyAt keyBytesOf
@@ -260,7 +268,7 @@ module _ (t : List ℕ) where
     formless-does f k good = string-does 0 0 k (as-spelt that 0 0 (sym (key-class t d at r NoForm b f)) (bare-spelt t d at r b good f))
 
     -- the digits of a number
-    pub number-does : {g g′ : Going} (x : Key) → r ≡ x → classOf x ≡ modes.asString → Does g g′ (say (excludes (stringBytes (entryText t x)))) → Good t d at → Does g g′ (say (excludes (keyBytesOf that)))
+    pub number-does : {g g′ : Going} (x : Key) → r ≡ x → classOf x ≡ AsString → Does g g′ (say (excludes (stringBytes (entryText t x)))) → Good t d at → Does g g′ (say (excludes (keyBytesOf that)))
     number-does x f h k good =
         does-as k (ap (λ (bs : List ℕ). say (excludes bs)) (sym (string-is t d at r x b f h) ∙ bytes-string that (sym (key-class t d at r x b f) ∙ h)))
 
@@ -285,7 +293,7 @@ module _ (t : List ℕ) where
 
 module _ (root : Bool) (o : Node) where
   excludes-yes : hoists root (properties o) ≡ true
-      → say (does declarator ∷ does (excludedTemporary (events.cell 2 (position o)) 2) ∷ excludes (32 ∷ 1 ∷ wideBytes (entries (properties o)))) ▷ inTurn (keyOf modes.keyExcluded) (properties o) ≡ excludesOf root o
+      → say (does declarator ∷ does (excludedTemporary (events.cell 2 (position o)) 2) ∷ excludes (32 ∷ 1 ∷ wideBytes (entries (properties o)))) ▷ inTurn (keyOf use-of.Excluded) (properties o) ≡ excludesOf root o
   unfolding excludesOf keyOf
   excludes-yes e = rw e refl
 
@@ -309,37 +317,33 @@ module _ (t : List ℕ) (left at : ℕ) (root b : Bool) (e : b ≡ hoists root (
 
   pub exclude-does : {g g₁ g₂ : Going} (k x : ℕ) → b ≡ true → ((c : Context) → k ≡ limited (count (excludedKeys c object))) → x ≡ cellAt 2 at
       → (k < 65536 → Does g g₁ (say (does declarator ∷ does (excludedTemporary x 2) ∷ excludes (32 ∷ 1 ∷ wideBytes k))))
-      → (Good t left at → byteAt t at ≡ 34 → Does g₁ g₂ (inTurn (keyOf modes.keyExcluded) (properties object)))
+      → (Good t left at → byteAt t at ≡ 34 → Does g₁ g₂ (inTurn (keyOf use-of.Excluded) (properties object)))
       → Good t left at → byteAt t at ≡ 34 → Does g g₂ (excludesOf root object)
   exclude-does k x z h c f i good kind =
       let n = number-is good k h in
       let y : x ≡ events.cell 2 (position object) = cell-within _ _ _ c (omega (arith, good-within t left at good)) ∙ ap (events.cell 2) (sym (position-here t left at)) in
       does-as (does-then (f (n .1)) (i good kind))
-      (ap₂ (λ (a m : ℕ). say (does declarator ∷ does (excludedTemporary a 2) ∷ excludes (32 ∷ 1 ∷ wideBytes m)) ▷ inTurn (keyOf modes.keyExcluded) (properties object)) y (n .0)
+      (ap₂ (λ (a m : ℕ). say (does declarator ∷ does (excludedTemporary a 2) ∷ excludes (32 ∷ 1 ∷ wideBytes m)) ▷ inTurn (keyOf use-of.Excluded) (properties object)) y (n .0)
       ∙ excludes-yes root object (sym e ∙ z))
 
 -- ---- an object, by the mode
 
 module _ (o : Node) where
-  own-place : placeMade o ≡ ownOf modes.makePlace o
+  own-place : placeMade o ≡ ownOf own.Place o
   unfolding ownOf
   own-place = refl
 
-  own-keys : inTurn (keyOf modes.keyMade) (properties o) ≡ ownOf modes.makeKeys o
+  own-keys : inTurn (keyOf use-of.Made) (properties o) ≡ ownOf own.Keys o
   unfolding ownOf keysMade keyOf
   own-keys = refl
 
-  own-excludes : excludesOf false o ≡ ownOf modes.excludeKeys o
+  own-excludes : (root : Bool) → excludesOf root o ≡ ownOf (own.Excluded root) o
   unfolding ownOf
-  own-excludes = refl
+  own-excludes root = refl
 
-  pub hands-turn : inTurn (keyOf modes.keyListed) (properties o) ≡ handsKeys o
+  pub hands-turn : inTurn (keyOf use-of.Listed) (properties o) ≡ handsKeys o
   unfolding handsKeys keyOf
   hands-turn = refl
-
-  own-else : (mode : ℕ) → (mode ≡ modes.makePlace → ⊥) → (mode ≡ modes.makeKeys → ⊥) → (mode ≡ modes.excludeKeys → ⊥) → excludesOf true o ≡ ownOf mode o
-  unfolding ownOf
-  own-else mode a b c = rw (ne-eqb mode modes.makePlace a, ne-eqb mode modes.makeKeys b, ne-eqb mode modes.excludeKeys c) refl
 
   place-made : say (does (make (events.cell 1 (position o))) ∷ []) ≡ placeMade o
   unfolding placeMade
@@ -349,27 +353,12 @@ module _ (o : Node) where
   unfolding handsPlace
   place-handed = refl
 
-module _ (t : List ℕ) (left at mode : ℕ) where
+module _ (t : List ℕ) (left at : ℕ) where
   abbrev object-at : Node
   object-at = lookNode t left at .value
 
   place : at ≡ events.cell 1 (position object-at)
   place = cell-1 at ∙ ap (events.cell 1) (sym (position-here t left at))
-
-  by-mode : {g g′ : Going} (m : ℕ) → mode ≡ m → Does g g′ (ownOf m object-at) → Does g g′ (ownOf mode object-at)
-  by-mode m e k = does-as k (ap (λ (x : ℕ). ownOf x object-at) (sym e))
-
-  pub object-made : {g g′ : Going} → mode ≡ modes.makePlace → Does g g′ (say (does (make at) ∷ [])) → Does g g′ (ownOf mode object-at)
-  object-made e k = by-mode 1 e (does-as k (ap (λ (x : ℕ). say (does (make x) ∷ [])) place ∙ place-made object-at ∙ own-place object-at))
-
-  pub object-keys : {g g′ : Going} → mode ≡ modes.makeKeys → Does g g′ (inTurn (keyOf modes.keyMade) (properties object-at)) → Does g g′ (ownOf mode object-at)
-  object-keys e k = by-mode 2 e (does-as k (own-keys object-at))
-
-  pub object-excludes : {g g′ : Going} → mode ≡ modes.excludeKeys → Does g g′ (excludesOf false object-at) → Does g g′ (ownOf mode object-at)
-  object-excludes e k = by-mode 3 e (does-as k (own-excludes object-at))
-
-  pub object-excludes-root : {g g′ : Going} → (mode ≡ modes.makePlace → ⊥) → (mode ≡ modes.makeKeys → ⊥) → (mode ≡ modes.excludeKeys → ⊥) → Does g g′ (excludesOf true object-at) → Does g g′ (ownOf mode object-at)
-  object-excludes-root a b c k = does-as k (own-else object-at mode a b c)
 
   -- its place is listed
   pub object-listed : {g g₁ g′ : Going} → Does g g₁ (say (lists (5 ∷ 1 ∷ []))) → Does g₁ g′ (say (does (listedTemporary at 1) ∷ [])) → Does g g′ (handsPlace object-at)
@@ -377,3 +366,16 @@ module _ (t : List ℕ) (left at mode : ℕ) where
       does-as (does-then k l)
       (say-say (lists (5 ∷ 1 ∷ [])) (does (listedTemporary at 1) ∷ [])
       ∙ ap (λ (x : ℕ). say (lists (5 ∷ 1 ∷ []) ++ (does (listedTemporary x 1) ∷ []))) place ∙ place-handed object-at)
+
+  module _ (mode : Own) where
+    by-mode : {g g′ : Going} (m : Own) → mode ≡ m → Does g g′ (ownOf m object-at) → Does g g′ (ownOf mode object-at)
+    by-mode m e k = does-as k (ap (λ (x : Own). ownOf x object-at) (sym e))
+
+    pub object-made : {g g′ : Going} → mode ≡ own.Place → Does g g′ (say (does (make at) ∷ [])) → Does g g′ (ownOf mode object-at)
+    object-made e k = by-mode own.Place e (does-as k (ap (λ (x : ℕ). say (does (make x) ∷ [])) place ∙ place-made object-at ∙ own-place object-at))
+
+    pub object-keys : {g g′ : Going} → mode ≡ own.Keys → Does g g′ (inTurn (keyOf use-of.Made) (properties object-at)) → Does g g′ (ownOf mode object-at)
+    object-keys e k = by-mode own.Keys e (does-as k (own-keys object-at))
+
+    pub object-excludes : {g g′ : Going} (root : Bool) → mode ≡ own.Excluded root → Does g g′ (excludesOf root object-at) → Does g g′ (ownOf mode object-at)
+    object-excludes root e k = by-mode (own.Excluded root) e (does-as k (own-excludes object-at root))

@@ -26,7 +26,7 @@ use Rattle.direct.proofs.Threads.{say-say}
 use Rattle.direct.proofs.HandedByObject.{Listed, listed-gather}
 use Rattle.direct.proofs.MovedOut.{shape-37}
 use Rattle.direct.proofs.MovedMade.{makes-join, makes-object, makes-default, makes-leaf, makes-array, makes-array-rest, makes-kept, makes-moved}
-use Rattle.walk.specs.Modes as modes
+use Rattle.walk.specs.declared.modes.Mode.the-variants as modes
 use Rattle.walk.specs.Run.{Going, Does}
 use Rattle.walk.specs.Whole.{GoodItems, Good}
 use Rattle.walk.specs.Turns.{suits}
@@ -106,7 +106,7 @@ module _ (t : List ℕ) where
     whole : lookNode t (suc d) at .value ≡ node at kind (field (one (lookNode t d (onward t at 2) .value)) more)
     good : Good t d (onward t at 2)
 
-  binding : (d at : ℕ) → Good t (suc d) at → suits modes.binding (lookNode t (suc d) at .value) ≡ true → Binding d at
+  binding : (d at : ℕ) → Good t (suc d) at → suits modes.Binding (lookNode t (suc d) at .value) ≡ true → Binding d at
   unfolding suits
   binding d at g s =
       by-test (is 15 (lookNode t (suc d) at .value))
@@ -126,18 +126,18 @@ module _ (t : List ℕ) where
   binds-kept at k p fs h = makes-kept (node at k (field (one p) fs)) h
 
   module _ (left d at p : ℕ) (e : d ≡ left - 1) (a : p ≡ onward t at 2) (b : Bool) (w : b ≡ hasObjectRest (lookNode t d p .value)) where
-    pub moves-none : {g : Going} → b ≡ false → Good t left at → suits modes.binding (lookNode t left at .value) ≡ true → Does g g (say (makes (movedFrom (lookNode t left at .value))))
+    pub moves-none : {g : Going} → b ≡ false → Good t left at → suits modes.Binding (lookNode t left at .value) ≡ true → Does g g (say (makes (movedFrom (lookNode t left at .value))))
     moves-none {g = g} z good =
-        at-level t (λ (m : ℕ). suits modes.binding (lookNode t m at .value) ≡ true → Does g g (say (makes (movedFrom (lookNode t m at .value))))) left d at e good
+        at-level t (λ (m : ℕ). suits modes.Binding (lookNode t m at .value) ≡ true → Does g g (say (makes (movedFrom (lookNode t m at .value))))) left d at e good
         (λ here s.
         let u = binding d at here s in
         let h : hasObjectRest (lookNode t d (onward t at 2) .value) ≡ false = ap (λ (x : ℕ). hasObjectRest (lookNode t d x .value)) (sym a) ∙ sym w ∙ z in
         does-as (does-nothing g) (ap say (sym (binds-kept at (u .kind) (lookNode t d (onward t at 2) .value) (u .more) h) ∙ ap (λ (x : Node). makes (movedFrom x)) (sym (u .whole)))))
 
     pub moves-some : {g g′ : Going} → b ≡ true → (Good t d p → Does g g′ (say (makes (movedIn (lookNode t d p .value)))))
-        → Good t left at → suits modes.binding (lookNode t left at .value) ≡ true → Does g g′ (say (makes (movedFrom (lookNode t left at .value))))
+        → Good t left at → suits modes.Binding (lookNode t left at .value) ≡ true → Does g g′ (say (makes (movedFrom (lookNode t left at .value))))
     moves-some {g = g} {g′ = g′} z k good =
-        at-level t (λ (m : ℕ). suits modes.binding (lookNode t m at .value) ≡ true → Does g g′ (say (makes (movedFrom (lookNode t m at .value))))) left d at e good
+        at-level t (λ (m : ℕ). suits modes.Binding (lookNode t m at .value) ≡ true → Does g g′ (say (makes (movedFrom (lookNode t m at .value))))) left d at e good
         (λ here s.
         let u = binding d at here s in
         let h : hasObjectRest (lookNode t d (onward t at 2) .value) ≡ true = ap (λ (x : ℕ). hasObjectRest (lookNode t d x .value)) (sym a) ∙ sym w ∙ z in

@@ -36,10 +36,14 @@ use Rattle.direct.specs.Handed.{placeMade, keysMade, excludesOf, handsKeys, han
 use Rattle.direct.proofs.Threads.{then-assoc, say-nothing}
 use Rattle.direct.proofs.HandedByObject.{keys-counted}
 use Rattle.direct.proofs.Reached.{over-parts, over-arrays, over-anywhere, parts-reached}
-use Rattle.walk.specs.Modes as modes
+use Rattle.walk.specs.declared.views.View as views
+use Rattle.walk.specs.declared.views.View.the-variants.{Replacing, Taking}
+use Rattle.walk.specs.declared.reaches.Reach.the-variants.{Anywhere, Straight, InArrays}
+use Rattle.walk.specs.declared.hand.Own.the-variants as own
+use Rattle.walk.specs.declared.hand.KeyUse.the-variants as use-of
 use Rattle.walk.specs.Run.{Going, Does}
 use Rattle.walk.specs.Whole.{holeAt, GoodItems, Good}
-use Rattle.walk.specs.Turns.{viewOf, reachOf, cellAt, valuesCount, placesAt, topAt, ownOf, overAll, keyOf, excludeMode}
+use Rattle.walk.specs.Turns.{viewOf, reachOf, cellAt, valuesCount, placesAt, topAt, ownOf, overAll, keyOf}
 use Rattle.walk.proofs.Running.{does-then, does-nothing, does-as}
 use Rattle.walk.proofs.PlacesFit.{places-small}
 use Rattle.walk.proofs.Opened.{position-here, good-short, good-within, declarator-open, declaration-open}
@@ -51,28 +55,27 @@ use Rattle.walk.proofs.HandKeys.{three-say, hands-turn}
 -- ---- a pattern by mode and view
 
 module _ (p : Node) where
-  over-places : overAll modes.makePlace modes.takingView p ≡ overObjects placeMade taking p
+  over-places : overAll own.Place Taking p ≡ overObjects placeMade taking p
   unfolding overAll ownOf viewOf
   over-places = refl
 
-  over-keys : overAll modes.makeKeys modes.replacingView p ≡ overObjects keysMade replacing p
+  over-keys : overAll own.Keys Replacing p ≡ overObjects keysMade replacing p
   unfolding overAll ownOf viewOf
   over-keys = refl
 
-  over-excludes : (root : Bool) → overAll (excludeMode root) modes.replacingView p ≡ overObjects (excludesOf root) replacing p
+  over-excludes : (root : Bool) → overAll (own.Excluded root) Replacing p ≡ overObjects (excludesOf root) replacing p
   unfolding overAll ownOf viewOf
-  over-excludes true = refl
-  over-excludes false = refl
+  over-excludes root = refl
 
   -- ---- the ways out of `pattern_makes` and `pattern_hands`
 
-  pub makes-do : {g g₁ g₂ : Going} → Does g g₁ (overAll modes.makePlace modes.takingView p) → Does g₁ g₂ (overAll modes.makeKeys modes.replacingView p) → Does g g₂ (overObjects placeMade taking p ▷ overObjects keysMade replacing p)
+  pub makes-do : {g g₁ g₂ : Going} → Does g g₁ (overAll own.Place Taking p) → Does g₁ g₂ (overAll own.Keys Replacing p) → Does g g₂ (overObjects placeMade taking p ▷ overObjects keysMade replacing p)
   makes-do a b = does-then (does-as a over-places) (does-as b over-keys)
 
-  pub hands-do : {g g₁ g₂ : Going} (root : Bool) (m : ℕ) → m ≡ excludeMode root → Does g g₁ (overObjects placeMade taking p ▷ overObjects keysMade replacing p) → Does g₁ g₂ (overAll m modes.replacingView p)
+  pub hands-do : {g g₁ g₂ : Going} (root : Bool) → Does g g₁ (overObjects placeMade taking p ▷ overObjects keysMade replacing p) → Does g₁ g₂ (overAll (own.Excluded root) Replacing p)
       → Does g g₂ (overObjects placeMade taking p ▷ overObjects keysMade replacing p ▷ overObjects (excludesOf root) replacing p)
-  hands-do root m e a b =
-      does-as (does-then a (does-as b (ap (λ (x : ℕ). overAll x modes.replacingView p) e ∙ over-excludes root)))
+  hands-do root a b =
+      does-as (does-then a (does-as b (over-excludes root)))
       (then-assoc (overObjects placeMade taking p) (overObjects keysMade replacing p) (overObjects (excludesOf root) replacing p))
 
 -- ---- declarators
@@ -156,12 +159,12 @@ module _ (t : List ℕ) (left at : ℕ) (b : Bool) (w : b ≡ isLowered (lookNod
         does-as (does-then m (k (u .good)))
         (ap₂ (λ (a : ℕ) (o : Node). say (does (make a) ∷ []) ▷ patternMade o) y (sym (u .pattern)) ∙ made-other D (u .lowered) name)
 
-    pub declarator-excluded : {g g′ : Going} (root : Bool) (m : ℕ) → m ≡ excludeMode root → (Good t d p → Does g g′ (overAll m modes.replacingView (lookNode t d p .value)))
+    pub declarator-excluded : {g g′ : Going} (root : Bool) → (Good t d p → Does g g′ (overAll (own.Excluded root) Replacing (lookNode t d p .value)))
         → Good t left at → byteAt t at ≡ 5 → Does g g′ (declaratorExcludes root (lookNode t left at .value))
-    declarator-excluded root m h k good kind =
+    declarator-excluded root k good kind =
         let u = parts good kind in
         does-as (k (u .good))
-        (ap (λ (x : ℕ). overAll x modes.replacingView (lookNode t d p .value)) h ∙ over-excludes (lookNode t d p .value) root
+        (over-excludes (lookNode t d p .value) root
         ∙ ap (overObjects (excludesOf root) replacing) (sym (u .pattern)) ∙ excluded-some (lookNode t left at .value) root (u .lowered))
 
 -- ---- a declaration
@@ -187,13 +190,13 @@ module _ (t : List ℕ) (left d at q p n : ℕ) (e : d ≡ left - 1) (a : q ≡ 
 
 -- ---- assignments
 
-view-taking : (v : ℕ) → v ≡ modes.takingView → viewOf v ≡ taking
+view-taking : (v : views.View) → v ≡ Taking → viewOf v ≡ taking
 unfolding viewOf
-view-taking v e = rw (eq-eqb v 2 e) refl
+view-taking v e = rw e refl
 
-view-replacing : (v : ℕ) → (v ≡ modes.takingView → ⊥) → viewOf v ≡ replacing
+view-replacing : (v : views.View) → v ≡ Replacing → viewOf v ≡ replacing
 unfolding viewOf
-view-replacing v e = rw (ne-eqb v 2 e) refl
+view-replacing v e = rw e refl
 
 pub any-place : Context
 any-place = nameless
@@ -244,24 +247,24 @@ module _ (t : List ℕ) (left at : ℕ) where
       ap (λ (x : ℕ). say (does (entry m x) ∷ lists (5 ∷ 1 ∷ []) ++ (does (listedTemporary (events.cell 3 at) 3) ∷ [])) ▷ overParts handsPlace target ▷ handsKeys target ▷ excludesOf root target) e
       ∙ ap (λ (x : ℕ). say (does (entry m (suc (partsCount target + otherKeys (properties target)))) ∷ lists (5 ∷ 1 ∷ []) ++ (does (listedTemporary (events.cell 3 x) 3) ∷ [])) ▷ overParts handsPlace target ▷ handsKeys target ▷ excludesOf root target) (sym (position-here t left at))
 
-  straight-values : inTurn (λ q. overReached handsPlace (reachOf modes.reachStraight) (value q)) (properties target) ≡ overParts handsPlace target
+  straight-values : inTurn (λ q. overReached handsPlace (reachOf Straight) (value q)) (properties target) ≡ overParts handsPlace target
   unfolding reachOf
   straight-values = sym (over-parts handsPlace target)
 
-  array-values : inTurn (λ q. overReached handsPlace (reachOf modes.reachInArrays) (value q)) (properties target) ≡ overReplaced handsPlace taking target
+  array-values : inTurn (λ q. overReached handsPlace (reachOf InArrays) (value q)) (properties target) ≡ overReplaced handsPlace taking target
   unfolding reachOf
   array-values = sym (over-arrays handsPlace target)
 
-  anywhere-below : overReached handsPlace (reachOf modes.reachAnywhere) target ≡ overReplaced handsPlace replacing target
+  anywhere-below : overReached handsPlace (reachOf Anywhere) target ≡ overReplaced handsPlace replacing target
   unfolding reachOf
   anywhere-below = sym (over-anywhere handsPlace target)
 
-  pub top-does : {g g₁ g₂ g₃ g₄ g₅ g₆ : Going} (root : Bool) (m n p k x : ℕ) → p ≡ valuesCount t (reachOf modes.reachStraight) left at
+  pub top-does : {g g₁ g₂ g₃ g₄ g₅ g₆ : Going} (root : Bool) (m n p k x : ℕ) → p ≡ valuesCount t (reachOf Straight) left at
       → ((c : Context) → k ≡ limited (count (keyTemporaries c target))) → n ≡ limited (p + k)
       → x ≡ cellAt 3 at
       → Does g g₁ (say (does (entry m (1 + n)) ∷ [])) → Does g₁ g₂ (say (lists (5 ∷ 1 ∷ []))) → Does g₂ g₃ (say (does (listedTemporary x 3) ∷ []))
-      → (Good t left at → byteAt t at ≡ 34 → Does g₃ g₄ (inTurn (λ q. overReached handsPlace (reachOf modes.reachStraight) (value q)) (properties target)))
-      → (Good t left at → byteAt t at ≡ 34 → Does g₄ g₅ (inTurn (keyOf modes.keyListed) (properties target)))
+      → (Good t left at → byteAt t at ≡ 34 → Does g₃ g₄ (inTurn (λ q. overReached handsPlace (reachOf Straight) (value q)) (properties target)))
+      → (Good t left at → byteAt t at ≡ 34 → Does g₄ g₅ (inTurn (keyOf use-of.Listed) (properties target)))
       → (Good t left at → byteAt t at ≡ 34 → Does g₅ g₆ (excludesOf root target))
       → Good t left at → byteAt t at ≡ 34 → Does g g₆ (handsTop root m target)
   unfolding reachOf
@@ -271,13 +274,10 @@ module _ (t : List ℕ) (left at : ℕ) where
       (top-is root m (1 + n) (entry-length n p k (h ∙ values-object t straight left at kind) j e good))
 
   -- how many places there are in a view
-  pub places-counted : {n : ℕ} (v : ℕ) → n ≡ placesAt t v left at → (v ≡ modes.takingView → byteAt t at ≡ 34) → n ≡ limited (placesIn (viewOf v) target)
+  pub places-counted : {n : ℕ} (v : views.View) → n ≡ placesAt t v left at → (v ≡ Taking → byteAt t at ≡ 34) → n ≡ limited (placesIn (viewOf v) target)
   unfolding placesAt placesIn viewOf
-  places-counted v e k = e ∙ go (eqb v modes.takingView) refl
-    where
-      go : (b : Bool) → eqb v modes.takingView ≡ b → cond b (valuesCount t inArrays left at) (limited (count (reached anywhere target))) ≡ limited (placesIn (cond b taking replacing) target)
-      go true h = values-object t inArrays left at (k (eqb-true v modes.takingView h))
-      go false h = refl
+  places-counted Replacing e k = e
+  places-counted Taking e k = e ∙ values-object t inArrays left at (k refl)
 
   nested-is : (v : View) (m k : ℕ) → k ≡ placesIn v target → say (does (entry m k) ∷ []) ▷ overReplaced handsPlace v target ≡ handsNested v m target
   unfolding handsNested
@@ -288,18 +288,18 @@ module _ (t : List ℕ) (left at : ℕ) where
   nested-by m n v h a k good =
       does-as (does-then a k) (nested-is v m n (h ∙ counted-whole (placesIn v target) 16384 (places-within v good) (omega arith)))
 
-  pub nested-taking : {g g₁ g₂ : Going} (m n v : ℕ) → v ≡ modes.takingView → n ≡ placesAt t v left at
-      → Does g g₁ (say (does (entry m n) ∷ [])) → (Good t left at → byteAt t at ≡ 34 → Does g₁ g₂ (inTurn (λ q. overReached handsPlace (reachOf modes.reachInArrays) (value q)) (properties target)))
-      → Good t left at → (v ≡ modes.takingView → byteAt t at ≡ 34) → Does g g₂ (handsNested (viewOf v) m target)
+  pub nested-taking : {g g₁ g₂ : Going} (m n : ℕ) (v : views.View) → v ≡ Taking → n ≡ placesAt t v left at
+      → Does g g₁ (say (does (entry m n) ∷ [])) → (Good t left at → byteAt t at ≡ 34 → Does g₁ g₂ (inTurn (λ q. overReached handsPlace (reachOf InArrays) (value q)) (properties target)))
+      → Good t left at → (v ≡ Taking → byteAt t at ≡ 34) → Does g g₂ (handsNested (viewOf v) m target)
   nested-taking {g = g} {g₂ = g₂} m n v e h a k good kind =
       let x : viewOf v ≡ taking = view-taking v e in
       subst (λ (w : View). Does g g₂ (handsNested w m target)) (sym x)
       (nested-by m n taking (places-counted v h kind ∙ ap (λ (w : View). limited (placesIn w target)) x) a (does-as (k good (kind e)) array-values) good)
 
-  pub nested-replacing : {g g₁ g₂ : Going} (m n v : ℕ) → (v ≡ modes.takingView → ⊥) → n ≡ placesAt t v left at
+  pub nested-replacing : {g g₁ g₂ : Going} (m n : ℕ) (v : views.View) → v ≡ Replacing → n ≡ placesAt t v left at
       → Does g g₁ (say (does (entry m n) ∷ []))
-      → ((h : Bool) → (holeAt t h at ≡ false → Good t left at) → Does g₁ g₂ (cond (holeAt t h at) (say []) (overReached handsPlace (reachOf modes.reachAnywhere) target)))
-      → Good t left at → (v ≡ modes.takingView → byteAt t at ≡ 34) → Does g g₂ (handsNested (viewOf v) m target)
+      → ((h : Bool) → (holeAt t h at ≡ false → Good t left at) → Does g₁ g₂ (cond (holeAt t h at) (say []) (overReached handsPlace (reachOf Anywhere) target)))
+      → Good t left at → (v ≡ Taking → byteAt t at ≡ 34) → Does g g₂ (handsNested (viewOf v) m target)
   unfolding holeAt
   nested-replacing {g = g} {g₂ = g₂} m n v e h a k good kind =
       let x : viewOf v ≡ replacing = view-replacing v e in
@@ -316,18 +316,18 @@ module _ (t : List ℕ) (left at : ℕ) where
       go false w = omega (arith, w)
 
   -- as the code finds them
-  pub places-taking : (n v : ℕ) → v ≡ modes.takingView → n ≡ valuesCount t (reachOf modes.reachInArrays) left at → n ≡ placesAt t v left at
+  pub places-taking : (n : ℕ) (v : views.View) → v ≡ Taking → n ≡ valuesCount t (reachOf InArrays) left at → n ≡ placesAt t v left at
   unfolding placesAt reachOf
-  places-taking n v e h = rw (eq-eqb v 2 e) h
+  places-taking n v e h = rw e h
 
-  pub places-replacing : (n v : ℕ) → (v ≡ modes.takingView → ⊥) → n ≡ limited (count (reached (reachOf modes.reachAnywhere) target)) → n ≡ placesAt t v left at
+  pub places-replacing : (n : ℕ) (v : views.View) → v ≡ Replacing → n ≡ limited (count (reached (reachOf Anywhere) target)) → n ≡ placesAt t v left at
   unfolding placesAt reachOf
-  places-replacing n v e h = rw (ne-eqb v 2 e) h
+  places-replacing n v e h = rw e h
 
-  pub count-statement : (statement : Bool) (n : ℕ) → n ≡ valuesCount t (reachOf modes.reachStraight) left at → statement ≡ true → 3 + n ≡ topAt t statement left at
+  pub count-statement : (statement : Bool) (n : ℕ) → n ≡ valuesCount t (reachOf Straight) left at → statement ≡ true → 3 + n ≡ topAt t statement left at
   unfolding topAt reachOf
   count-statement statement n h e = rw (e, h) refl
 
-  pub count-read : (statement : Bool) (n : ℕ) → n ≡ valuesCount t (reachOf modes.reachStraight) left at → statement ≡ false → 4 + n ≡ topAt t statement left at
+  pub count-read : (statement : Bool) (n : ℕ) → n ≡ valuesCount t (reachOf Straight) left at → statement ≡ false → 4 + n ≡ topAt t statement left at
   unfolding topAt reachOf
   count-read statement n h e = rw (e, h) refl

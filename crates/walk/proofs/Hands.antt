@@ -6,7 +6,6 @@ use mathlib.Core.List.{List, []}
 use Prim.Native.Nat.{ℕ, zero, suc, _-_, _/_, _%_, _≤_, _<_}
 use native.Mathlib.Omega.{arith}
 use lib.Dec.{eqb}
-use borrow.Author.Tests.{eq-eqb, ne-eqb}
 use Rattle.tree.specs.Tree.{Node, Fields, Items}
 use Rattle.tree.specs.Tree.Node.{node}
 use Rattle.tree.specs.Tree.Fields.{field}
@@ -28,10 +27,13 @@ use Rattle.direct.specs.Objects.{overObjects}
 use Rattle.direct.proofs.Threads.{say-nothing}
 use Rattle.direct.proofs.ObjectsByLevel.{Keyed, over-object, over-keyed, over-taken, over-array, over-default, over-leaf}
 use Rattle.direct.proofs.HandedByObject.{place-keyed, keys-keyed, excludes-keyed}
-use Rattle.walk.specs.Modes as modes
+use Rattle.walk.specs.declared.views.View as views
+use Rattle.walk.specs.declared.views.View.the-variants.{Replacing, Taking}
+use Rattle.walk.specs.declared.hand.Own.{Own}
+use Rattle.walk.specs.declared.hand.Own.the-variants as own
 use Rattle.walk.specs.Run.{Going, Does}
 use Rattle.walk.specs.Whole.{holeAt, GoodItem, GoodItems, Good}
-use Rattle.walk.specs.Turns.{viewOf, ownOf, overAll, valuesIn}
+use Rattle.walk.specs.Turns.{viewOf, ownOf, overAll}
 use Rattle.walk.proofs.Running.{does-then, does-nothing, does-as}
 use Rattle.walk.proofs.Emits.{Onto, onto-start, onto-more, onto-end, good-item, good-items, item-next, full, is-hole, no-hole}
 use Rattle.walk.proofs.Opened.{leaf-here, no-good, object-open, array-open, property-open, default-open}
@@ -126,77 +128,69 @@ solid-more t d P f {g = g} {g′ = g′} n₀ p₀ n p q z e l k =
 -- ---- the objects of a pattern, one level
 
 -- what is done for an object does not look at its values
-own-keyed : (mode : ℕ) → Keyed (ownOf mode)
+own-keyed : (mode : Own) → Keyed (ownOf mode)
 unfolding ownOf
-own-keyed mode g at ps r = λ i.
-    cond (eqb mode modes.makePlace) ((place-keyed g at ps r) i)
-    (cond (eqb mode modes.makeKeys) ((keys-keyed g at ps r) i) (cond (eqb mode modes.excludeKeys) ((excludes-keyed false g at ps r) i) ((excludes-keyed true g at ps r) i)))
+own-keyed own.Place = place-keyed
+own-keyed own.Keys = keys-keyed
+own-keyed (own.Excluded root) = excludes-keyed root
 
--- views by number
-values-in : (v : ℕ) → viewOf (valuesIn v) ≡ replacing
+one-view : viewOf Replacing ≡ replacing
 unfolding viewOf
-values-in v = by-test (eqb v modes.takingView) (λ e. rw e refl) (λ e. rw (e, e) refl)
+one-view = refl
 
-replaced-view : (v : ℕ) → cond (eqb v modes.takingView) false true ≡ true → viewOf v ≡ replacing
-unfolding viewOf
-replaced-view v = go (eqb v modes.takingView)
-  where
-    go : (a : Bool) → cond a false true ≡ true → cond a taking replacing ≡ replacing
-    go true h = absurd (false≢true h)
-    go false h = refl
-
-taken-view : (v : ℕ) → cond (eqb v modes.takingView) false true ≡ false → takes (viewOf v) ≡ true
-unfolding viewOf
-taken-view v = go (eqb v modes.takingView)
-  where
-    go : (a : Bool) → cond a false true ≡ false → takes (cond a taking replacing) ≡ true
-    go true h = refl
-    go false h = absurd (true≢false h)
-
-all-view : (mode v : ℕ) (p : Node) → overAll mode v p ≡ overObjects (ownOf mode) (viewOf v) p
+all-view : (mode : Own) (v : views.View) (p : Node) → overAll mode v p ≡ overObjects (ownOf mode) (viewOf v) p
 unfolding overAll
 all-view mode v p = refl
 
-module _ (mode v : ℕ) where
-  values-view : (p : Node) → overObjects (ownOf mode) replacing p ≡ overAll mode (valuesIn v) p
-  values-view p = ap (λ (x : View). overObjects (ownOf mode) x p) (sym (values-in v)) ∙ sym (all-view mode (valuesIn v) p)
+not-taken : (v : View) → takes v ≡ false → v ≡ replacing
+not-taken replacing h = refl
+not-taken taking h = absurd (true≢false h)
 
-  in-values : (ps : Items) → inTurn (λ q. overObjects (ownOf mode) replacing (value q)) ps ≡ inTurn (λ q. overAll mode (valuesIn v) (value q)) ps
+module _ (mode : Own) where
+  values-view : (p : Node) → overObjects (ownOf mode) replacing p ≡ overAll mode Replacing p
+  values-view p = ap (λ (x : View). overObjects (ownOf mode) x p) (sym one-view) ∙ sym (all-view mode Replacing p)
+
+  in-values : (ps : Items) → inTurn (λ q. overObjects (ownOf mode) replacing (value q)) ps ≡ inTurn (λ q. overAll mode Replacing (value q)) ps
   in-values ps = ap (λ (x : Node → Emit). inTurn (λ q. x (value q)) ps) (fun-ext values-view)
 
-  all-object : (at : ℕ) (ps : Items) → overAll mode v (objectAt at ps) ≡ inTurn (λ q. overAll mode (valuesIn v) (value q)) ps
-  all-object at ps = all-view mode v (objectAt at ps) ∙ over-object (ownOf mode) (viewOf v) at ps ∙ in-values ps
+module _ (mode : Own) (v : views.View) where
+  all-object : (at : ℕ) (ps : Items) → overAll mode v (objectAt at ps) ≡ inTurn (λ q. overAll mode Replacing (value q)) ps
+  all-object at ps = all-view mode v (objectAt at ps) ∙ over-object (ownOf mode) (viewOf v) at ps ∙ in-values mode ps
 
-  all-rest : cond (eqb v modes.takingView) false true ≡ true → (at : ℕ) (ps : Items) (r : Node)
-      → overAll mode v (objectRestAt at ps r) ≡ inTurn (λ q. overAll mode (valuesIn v) (value q)) ps ▷ ownOf mode (objectRestAt at ps r)
+  all-rest : takes (viewOf v) ≡ false → (at : ℕ) (ps : Items) (r : Node)
+      → overAll mode v (objectRestAt at ps r) ≡ inTurn (λ q. overAll mode Replacing (value q)) ps ▷ ownOf mode (objectRestAt at ps r)
   all-rest h at ps r =
       let o = objectRestAt at ps r in
       all-view mode v o
-      ∙ ap (λ (x : View). overObjects (ownOf mode) x o) (replaced-view v h)
+      ∙ ap (λ (x : View). overObjects (ownOf mode) x o) (not-taken (viewOf v) h)
       ∙ over-keyed (ownOf mode) (own-keyed mode) at ps r
-      ∙ ap (λ (x : Emit). x ▷ ownOf mode o) (in-values ps)
+      ∙ ap (λ (x : Emit). x ▷ ownOf mode o) (in-values mode ps)
 
-  all-taken : cond (eqb v modes.takingView) false true ≡ false → (at : ℕ) (ps : Items) (r : Node)
-      → overAll mode v (objectRestAt at ps r) ≡ inTurn (λ q. overAll mode (valuesIn v) (value q)) ps
-  all-taken h at ps r = all-view mode v (objectRestAt at ps r) ∙ over-taken (ownOf mode) (viewOf v) (taken-view v h) at ps r ∙ in-values ps
+  all-taken : takes (viewOf v) ≡ true → (at : ℕ) (ps : Items) (r : Node)
+      → overAll mode v (objectRestAt at ps r) ≡ inTurn (λ q. overAll mode Replacing (value q)) ps
+  all-taken h at ps r = all-view mode v (objectRestAt at ps r) ∙ over-taken (ownOf mode) (viewOf v) h at ps r ∙ in-values mode ps
 
-  all-array : (at : ℕ) (ns : Items) (fs : Fields) → overAll mode v (node at 36 (field (list ns) fs)) ≡ inTurn (overAll mode modes.replacingView) ns
+  all-array : (at : ℕ) (ns : Items) (fs : Fields) → overAll mode v (node at 36 (field (list ns) fs)) ≡ inTurn (overAll mode Replacing) ns
   all-array at ns fs =
       all-view mode v (node at 36 (field (list ns) fs))
       ∙ over-array (ownOf mode) (viewOf v) at ns fs
-      ∙ ap (λ (x : Node → Emit). inTurn x ns) (fun-ext (λ p. ap (λ (x : View). overObjects (ownOf mode) x p) (sym (replaced-view 1 refl)) ∙ sym (all-view mode 1 p)))
+      ∙ ap (λ (x : Node → Emit). inTurn x ns) (fun-ext (values-view mode))
 
-  all-default : (at : ℕ) (l r : Node) → overAll mode v (defaultAt at l r) ≡ overAll mode (valuesIn v) l
-  all-default at l r = all-view mode v (defaultAt at l r) ∙ over-default (ownOf mode) (viewOf v) at l _ ∙ values-view l
+  all-default : (at : ℕ) (l r : Node) → overAll mode v (defaultAt at l r) ≡ overAll mode Replacing l
+  all-default at l r = all-view mode v (defaultAt at l r) ∙ over-default (ownOf mode) (viewOf v) at l _ ∙ values-view mode l
 
   all-leaf : (p : Node) → shape p ≡ leaf → overAll mode v p ≡ say []
   all-leaf p s = all-view mode v p ∙ over-leaf (ownOf mode) (viewOf v) p s
 
 -- ---- the ways out of `over`
 
-bit-of : (a c : Bool) → cond a false c ≡ true → c ≡ true
+bit-of : (a c : Bool) → cond a false c ≡ true → (a ≡ false) × (c ≡ true)
 bit-of true c h = absurd (false≢true h)
-bit-of false c h = h
+bit-of false c h = (refl, h)
+
+taken-of : (a c : Bool) → cond a false c ≡ false → c ≡ true → a ≡ true
+taken-of true c h e = refl
+taken-of false c h e = absurd (false≢true (sym h ∙ e))
 
 module _ (t : List ℕ) where
   -- a good node has a level
@@ -204,21 +198,21 @@ module _ (t : List ℕ) where
   at-level F zero d at e g k = no-good t at g
   at-level F (suc m) d at e g k = let z : suc d ≡ suc m = omega arith in subst F z (k (subst (λ (x : ℕ). Good t x at) (sym z) g))
 
-  pub leaf-does : {g : Going} (left at b v mode : ℕ) → b ≡ byteAt t at → (b ≡ 34 → ⊥) → (b ≡ 36 → ⊥) → (b ≡ 37 → ⊥) → Good t left at → Does g g (overAll mode v (lookNode t left at .value))
+  pub leaf-does : {g : Going} (left at b : ℕ) (v : views.View) (mode : Own) → b ≡ byteAt t at → (b ≡ 34 → ⊥) → (b ≡ 36 → ⊥) → (b ≡ 37 → ⊥) → Good t left at → Does g g (overAll mode v (lookNode t left at .value))
   leaf-does zero at b v mode e x y z good = no-good t at good
   leaf-does {g = g} (suc d) at b v mode e x y z good = does-as (does-nothing g) (sym (all-leaf mode v (lookNode t (suc d) at .value) (leaf-here t d at b e x y z)))
 
-  pub default-does : {g g′ : Going} (left d at p v v′ mode : ℕ) → d ≡ left - 1 → p ≡ onward t at 2 → v′ ≡ valuesIn v → (Good t d p → Does g g′ (overAll mode v′ (lookNode t d p .value)))
+  pub default-does : {g g′ : Going} (left d at p : ℕ) (v : views.View) (mode : Own) → d ≡ left - 1 → p ≡ onward t at 2 → (Good t d p → Does g g′ (overAll mode Replacing (lookNode t d p .value)))
       → byteAt t at ≡ 37 → Good t left at → Does g g′ (overAll mode v (lookNode t left at .value))
-  default-does {g = g} {g′ = g′} left d at p v v′ mode e a b k kind good =
+  default-does {g = g} {g′ = g′} left d at p v mode e a k kind good =
       at-level (λ (m : ℕ). Does g g′ (overAll mode v (lookNode t m at .value))) left d at e good
       (λ here.
       let u = default-open t d at here kind in
       let whole = ap (λ (s : Seen Node). s .value) (u .whole) in
-      let k′ : Good t d (onward t at 2) → Does g g′ (overAll mode v′ (lookNode t d (onward t at 2) .value)) = subst (λ (x : ℕ). Good t d x → Does g g′ (overAll mode v′ (lookNode t d x .value))) a k in
-      does-as (k′ (u .left)) (ap (λ (x : ℕ). overAll mode x (lookNode t d (onward t at 2) .value)) b ∙ sym (all-default mode v at _ _) ∙ ap (overAll mode v) (sym whole)))
+      let k′ : Good t d (onward t at 2) → Does g g′ (overAll mode Replacing (lookNode t d (onward t at 2) .value)) = subst (λ (x : ℕ). Good t d x → Does g g′ (overAll mode Replacing (lookNode t d x .value))) a k in
+      does-as (k′ (u .left)) (sym (all-default mode v at _ _) ∙ ap (overAll mode v) (sym whole)))
 
-  pub value-does : {g g′ : Going} (left d at s x v mode : ℕ) → d ≡ left - 1 → s ≡ onward t at 2 → x ≡ lookNode t d s .next → (Good t d x → Does g g′ (overAll mode v (lookNode t d x .value)))
+  pub value-does : {g g′ : Going} (left d at s x : ℕ) (v : views.View) (mode : Own) → d ≡ left - 1 → s ≡ onward t at 2 → x ≡ lookNode t d s .next → (Good t d x → Does g g′ (overAll mode v (lookNode t d x .value)))
       → Good t left at → byteAt t at ≡ 35 → Does g g′ (overAll mode v (value (lookNode t left at .value)))
   unfolding nodeAt pieceIn
   value-does {g = g} {g′ = g′} left d at s x v mode e a b k good kind =
@@ -234,9 +228,9 @@ module _ (t : List ℕ) where
     pub list-from : (F : ℕ → ℕ → Type 0) → F n p → F (wideAt t (onward t at 2)) (onward t (onward t at 2) 2)
     list-from F x = subst (λ (m : ℕ). F m (onward t (onward t at 2) 2)) (w .value ∙ ap (λ (y : ℕ). wideAt t y) a) (subst (λ (y : ℕ). F n y) (b ∙ ap (λ (y : ℕ). onward t y 2) a) x)
 
-    module _ {g g₁ : Going} (v v′ mode : ℕ) (r : Bool) (c : v′ ≡ valuesIn v) (f : r ≡ cond (eqb v modes.takingView) false (eqb (byteAt t (onward t at 1) / 2 % 2) 1))
+    module _ {g g₁ : Going} (v : views.View) (mode : Own) (r : Bool) (f : r ≡ cond (takes (viewOf v)) false (eqb (byteAt t (onward t at 1) / 2 % 2) 1))
         (k : GoodItems t (lookNode t d) (Good t d) false false n p → AllItems (λ q. is 35 q ≡ true) (lookItems t (lookNode t d) false n p .value)
-        → Does g g₁ (inTurn (λ q. overAll mode v′ (value q)) (lookItems t (lookNode t d) false n p .value))) where
+        → Does g g₁ (inTurn (λ q. overAll mode Replacing (value q)) (lookItems t (lookNode t d) false n p .value))) where
       abbrev N : ℕ
       N = wideAt t (onward t at 2)
 
@@ -246,25 +240,21 @@ module _ (t : List ℕ) where
       abbrev ps : Items
       ps = lookItems t (lookNode t d) false N Q .value
 
-      values : GoodItems t (lookNode t d) (Good t d) false false N Q → AllItems (λ q. is 35 q ≡ true) ps → Does g g₁ (inTurn (λ q. overAll mode (valuesIn v) (value q)) ps)
+      values : GoodItems t (lookNode t d) (Good t d) false false N Q → AllItems (λ q. is 35 q ≡ true) ps → Does g g₁ (inTurn (λ q. overAll mode Replacing (value q)) ps)
       values x y =
-          does-as
-          (list-from (λ (m z : ℕ). GoodItems t (lookNode t d) (Good t d) false false m z → AllItems (λ q. is 35 q ≡ true) (lookItems t (lookNode t d) false m z .value) → Does g g₁ (inTurn (λ q. overAll mode v′ (value q)) (lookItems t (lookNode t d) false m z .value))) k x y)
-          (ap (λ (m : ℕ). inTurn (λ q. overAll mode m (value q)) ps) c)
+          list-from (λ (m z : ℕ). GoodItems t (lookNode t d) (Good t d) false false m z → AllItems (λ q. is 35 q ≡ true) (lookItems t (lookNode t d) false m z .value) → Does g g₁ (inTurn (λ q. overAll mode Replacing (value q)) (lookItems t (lookNode t d) false m z .value))) k x y
 
       -- the object itself behind its values
       pub own-does : {g₂ : Going} → r ≡ true → (Good t left at → byteAt t at ≡ 34 → Does g₁ g₂ (ownOf mode (lookNode t left at .value)))
           → Good t left at → byteAt t at ≡ 34 → Does g g₂ (overAll mode v (lookNode t left at .value))
       own-does {g₂ = g₂} z o good kind =
-          let h = sym f ∙ z in
-          let bit : eqb (byteAt t (onward t at 1) / 2 % 2) 1 ≡ true = bit-of (eqb v modes.takingView) (eqb (byteAt t (onward t at 1) / 2 % 2) 1) h in
-          let h′ : cond (eqb v modes.takingView) false true ≡ true = ap (λ (x : Bool). cond (eqb v modes.takingView) false x) (sym bit) ∙ h in
+          let two = bit-of (takes (viewOf v)) (eqb (byteAt t (onward t at 1) / 2 % 2) 1) (sym f ∙ z) in
           at-level (λ (m : ℕ). Does g₁ g₂ (ownOf mode (lookNode t m at .value)) → Does g g₂ (overAll mode v (lookNode t m at .value))) left d at e good
           (λ here own.
           let u = object-open t d at here kind in
-          let whole = ap (λ (s : Seen Node). s .value) (u .resting bit) in
+          let whole = ap (λ (s : Seen Node). s .value) (u .resting (two .1)) in
           does-as (does-then (values (u .list .good) (u .properties)) own)
-          (ap (λ (x : Node). inTurn (λ q. overAll mode (valuesIn v) (value q)) ps ▷ ownOf mode x) whole ∙ sym (all-rest mode v h′ at ps _) ∙ ap (overAll mode v) (sym whole)))
+          (ap (λ (x : Node). inTurn (λ q. overAll mode Replacing (value q)) ps ▷ ownOf mode x) whole ∙ sym (all-rest mode v (two .0) at ps _) ∙ ap (overAll mode v) (sym whole)))
           (o good kind)
 
       -- its values alone
@@ -276,19 +266,19 @@ module _ (t : List ℕ) where
           let done = values (u .list .good) (u .properties) in
           by-test (eqb (byteAt t (onward t at 1) / 2 % 2) 1)
           (λ bit.
-          let h : cond (eqb v modes.takingView) false true ≡ false = ap (λ (x : Bool). cond (eqb v modes.takingView) false x) (sym bit) ∙ sym f ∙ z in
+          let h : takes (viewOf v) ≡ true = taken-of (takes (viewOf v)) (eqb (byteAt t (onward t at 1) / 2 % 2) 1) (sym f ∙ z) bit in
           does-as done (sym (all-taken mode v h at ps _) ∙ ap (λ (s : Seen Node). overAll mode v (s .value)) (sym (u .resting bit))))
           (λ bit. does-as done (sym (all-object mode v at ps) ∙ ap (λ (s : Seen Node). overAll mode v (s .value)) (sym (u .plain bit)))))
 
-    pub array-does : {g g₁ : Going} (v mode : ℕ)
-        → (GoodItems t (lookNode t d) (Good t d) false true n p → Does g g₁ (inTurn (overAll mode modes.replacingView) (lookItems t (lookNode t d) true n p .value)))
+    pub array-does : {g g₁ : Going} (v : views.View) (mode : Own)
+        → (GoodItems t (lookNode t d) (Good t d) false true n p → Does g g₁ (inTurn (overAll mode Replacing) (lookItems t (lookNode t d) true n p .value)))
         → Good t left at → byteAt t at ≡ 36 → Does g g₁ (overAll mode v (lookNode t left at .value))
     array-does {g = g} {g₁ = g₁} v mode k good kind =
         at-level (λ (m : ℕ). Does g g₁ (overAll mode v (lookNode t m at .value))) left d at e good
         (λ here.
         let u = array-open t d at here kind in
         let ns = lookItems t (lookNode t d) true (wideAt t (onward t at 2)) (onward t (onward t at 2) 2) .value in
-        let done : Does g g₁ (inTurn (overAll mode modes.replacingView) ns) = list-from (λ (m y : ℕ). GoodItems t (lookNode t d) (Good t d) false true m y → Does g g₁ (inTurn (overAll mode modes.replacingView) (lookItems t (lookNode t d) true m y .value))) k (u .list .good) in
+        let done : Does g g₁ (inTurn (overAll mode Replacing) ns) = list-from (λ (m y : ℕ). GoodItems t (lookNode t d) (Good t d) false true m y → Does g g₁ (inTurn (overAll mode Replacing) (lookItems t (lookNode t d) true m y .value))) k (u .list .good) in
         by-test (eqb (byteAt t (onward t at 1) / 2 % 2) 1)
         (λ bit. does-as done (sym (all-array mode v at ns _) ∙ ap (λ (s : Seen Node). overAll mode v (s .value)) (sym (u .resting bit))))
         (λ bit. does-as done (sym (all-array mode v at ns _) ∙ ap (λ (s : Seen Node). overAll mode v (s .value)) (sym (u .plain bit)))))
@@ -304,14 +294,10 @@ module _ (t : List ℕ) where
 
 -- ---- tests of the view
 
-pub values-taking : (v : ℕ) → v ≡ modes.takingView → modes.replacingView ≡ valuesIn v
-values-taking v e = rw (eq-eqb v 2 e) refl
+pub replaces-rest : (v : views.View) (r b : Bool) → v ≡ Replacing → r ≡ b → r ≡ cond (takes (viewOf v)) false b
+unfolding viewOf
+replaces-rest v r b x e = rw x e
 
-pub values-same : (v : ℕ) → (v ≡ modes.takingView → ⊥) → v ≡ valuesIn v
-values-same v e = rw (ne-eqb v 2 e) refl
-
-pub replaces-taking : (v : ℕ) (b : Bool) → v ≡ modes.takingView → false ≡ cond (eqb v modes.takingView) false b
-replaces-taking v b e = rw (eq-eqb v 2 e) refl
-
-pub replaces-rest : (v : ℕ) (r b : Bool) → (v ≡ modes.takingView → ⊥) → r ≡ b → r ≡ cond (eqb v modes.takingView) false b
-replaces-rest v r b x e = rw (ne-eqb v 2 x) e
+pub replaces-taking : (v : views.View) (b : Bool) → v ≡ Taking → false ≡ cond (takes (viewOf v)) false b
+unfolding viewOf
+replaces-taking v b e = rw e refl

@@ -1,13 +1,13 @@
 -- What is looked up before something is written: one law for each way out.
 -- Assumes nothing.
 use mathlib.Core.Path.{_≡_, refl, sym, ap, _∙_}
-use mathlib.Core.Bool.{Bool, true, false, cond}
+use mathlib.Core.Bool.{Bool, true, false, cond, not}
 use mathlib.Core.List.{List}
 use mathlib.Core.Option.{some}
 use Prim.Native.Nat.{ℕ, zero, suc, _+_, _-_, _/_, _%_, _<_, _≤_}
 use native.Mathlib.Omega.{arith}
 use lib.Dec.{eqb, ltb}
-use borrow.Author.Tests.{eq-eqb, ne-eqb, lt-ltb, le-ltb}
+use borrow.Author.Tests.{eq-eqb, ne-eqb, lt-ltb, le-ltb, not-true, not-false}
 use Rattle.tree.specs.Tree.{Node, Items, count, depth}
 use Rattle.tree.specs.Tree.Items.{none, hole, item}
 use Rattle.tree.specs.Read.{byteAt}
@@ -34,12 +34,20 @@ use Rattle.pattern.proofs.CappedSums.{numbers, Adds, listSum, sum-start, sum-mo
 use Rattle.pattern.proofs.MovesCounted.{count-sum}
 use Rattle.direct.specs.Events.{cell}
 use Rattle.direct.specs.Views.{isOther}
+use Rattle.direct.specs.Objects.{enters}
 use Rattle.direct.specs.Keys.{primitives, hoists}
 use Rattle.direct.specs.Moved.{number}
 use Rattle.direct.proofs.MovedMade.{number-join}
-use Rattle.walk.specs.Modes as modes
+use Rattle.walk.specs.declared.modes.Deep.{Deep}
+use Rattle.walk.specs.declared.modes.Deep.the-variants.{Found, Reached}
+use Rattle.walk.specs.declared.modes.Mode.{Mode}
+use Rattle.walk.specs.declared.modes.Mode.the-variants as modes
+use Rattle.walk.specs.declared.reaches.Reach as reaches
+use Rattle.walk.specs.declared.reaches.Reach.the-variants.{Anywhere}
+use Rattle.walk.specs.declared.look.KeyClass.{KeyClass}
+use Rattle.walk.specs.declared.look.KeyClass.the-variants.{AsString, AsItStands, LeftOut, AsTemporary}
 use Rattle.walk.specs.declared.look.Start.the-variants as start
-use Rattle.walk.specs.Turns.{keyClass, startOf, startValue, cellAt}
+use Rattle.walk.specs.Turns.{keyClass, startOf, startValue, cellAt, reachOf, itemMode, entersArrays}
 use Rattle.lowering.proofs.ItemLaws.{count-append}
 use Rattle.lowering.proofs.Cases.{by-shape}
 use Rattle.lowering.specs.Keys.Entry.{spelt, itself, omitted, saved}
@@ -58,6 +66,28 @@ module _ {A : Type 0} (x a b : A) where
 
   pub when-no : (t : Bool) → t ≡ false → x ≡ b → x ≡ cond t a b
   when-no t e h = rw e h
+
+-- a test that was denied
+module _ (b x : Bool) (e : b ≡ x) where
+  pub denied : not b ≡ true → x ≡ false
+  denied h = sym e ∙ not-true b h
+
+  pub undenied : not b ≡ false → x ≡ true
+  undenied h = sym e ∙ not-false b h
+
+-- ---- modes
+
+pub item-found : (d : Deep) → d ≡ Found → modes.Below Found ≡ itemMode d
+item-found d e = rw e refl
+
+pub item-reached : (d : Deep) (r : reaches.Reach) → d ≡ Reached r → modes.Below (Reached Anywhere) ≡ itemMode d
+item-reached d r e = rw e refl
+
+pub arrays-found : (d : Deep) → d ≡ Found → true ≡ entersArrays d
+arrays-found d e = rw e refl
+
+pub arrays-reached : (d : Deep) (r : reaches.Reach) (b : Bool) → d ≡ Reached r → b ≡ enters (reachOf r) → b ≡ entersArrays d
+arrays-reached d r b e h = rw e h
 
 -- ---- bits of a bit map
 
@@ -112,18 +142,18 @@ cell-within x s at e h = e ∙ ap (λ (b : Bool). cond b (cell s at) at) (small 
 -- ---- keys
 
 -- the class of a key that was read
-abbrev pub classOf : Key → ℕ
-classOf (Name p n) = modes.asString
-classOf (Literal p n) = modes.asString
-classOf (variants.Number v) = modes.asString
-classOf (OtherForm v) = modes.asString
-classOf NoForm = modes.asString
-classOf Template = modes.asItStands
-classOf Private = modes.leftOut
-classOf Again = modes.asItStands
-classOf Other = modes.asTemporary
+abbrev pub classOf : Key → KeyClass
+classOf (Name p n) = AsString
+classOf (Literal p n) = AsString
+classOf (variants.Number v) = AsString
+classOf (OtherForm v) = AsString
+classOf NoForm = AsString
+classOf Template = AsItStands
+classOf Private = LeftOut
+classOf Again = AsItStands
+classOf Other = AsTemporary
 
-pub class-name : (p : Part) → classOf (nameIn p) ≡ modes.asString
+pub class-name : (p : Part) → classOf (nameIn p) ≡ AsString
 unfolding nameIn
 class-name (One q) = refl
 class-name (Many h n p) = refl
@@ -131,7 +161,7 @@ class-name (Text p n) = refl
 class-name Number = refl
 class-name Missing = refl
 
-class-form : (p : Part) → classOf (formIn p) ≡ modes.asString
+class-form : (p : Part) → classOf (formIn p) ≡ AsString
 unfolding formIn
 class-form (One q) = refl
 class-form (Many h n p) = refl
@@ -139,29 +169,29 @@ class-form (Text p n) = refl
 class-form Number = refl
 class-form Missing = refl
 
-class-beside : (l : List ℕ) (v : ℕ) (k : Key) (p : Part) → classOf k ≡ modes.asString → classOf (besideForm l v k p) ≡ modes.asString
+class-beside : (l : List ℕ) (v : ℕ) (k : Key) (p : Part) → classOf k ≡ AsString → classOf (besideForm l v k p) ≡ AsString
 unfolding besideForm
 class-beside l v k p h = go (standing p) (isStringOf v (spelledAs (textIn l p)))
   where
-    go : (b f : Bool) → classOf (cond b (cond f (formIn p) (OtherForm v)) k) ≡ modes.asString
+    go : (b f : Bool) → classOf (cond b (cond f (formIn p) (OtherForm v)) k) ≡ AsString
     go true true = class-form p
     go true false = refl
     go false f = h
 
-class-literal : (l : List ℕ) (x : Spelling) (s p : Part) → classOf (literalBy l x s p) ≡ modes.asString
+class-literal : (l : List ℕ) (x : Spelling) (s p : Part) → classOf (literalBy l x s p) ≡ AsString
 unfolding literalBy
 class-literal l (Decimal v) s p = class-beside l v (formIn s) p (class-form s)
 class-literal l (Hexadecimal v) s p = class-beside l v (variants.Number v) p refl
 class-literal l Another s p = class-form p
 
-pub class-here : (l : List ℕ) (d at : ℕ) → classOf (literalAt l d at) ≡ modes.asString
+pub class-here : (l : List ℕ) (d at : ℕ) → classOf (literalAt l d at) ≡ AsString
 unfolding literalAt literalIn
 class-here l d at = class-literal l _ (partAt l d at 1) (partAt l d at 2)
 
-abbrev sortClass : lowering.Key → ℕ
-sortClass s = elim (entryOf s) [ spelt ↦ modes.asString | itself ↦ modes.asItStands | omitted ↦ modes.leftOut | saved ↦ modes.asTemporary ]
+abbrev sortClass : lowering.Key → KeyClass
+sortClass s = elim (entryOf s) [ spelt ↦ AsString | itself ↦ AsItStands | omitted ↦ LeftOut | saved ↦ AsTemporary ]
 
-class-by : (s : lowering.Key) (p : Part) (k : Key) → classOf k ≡ modes.asString → classOf (keyBy s p k) ≡ sortClass s
+class-by : (s : lowering.Key) (p : Part) (k : Key) → classOf k ≡ AsString → classOf (keyBy s p k) ≡ sortClass s
 class-by lowering.Key.name p k h = class-name p
 class-by lowering.Key.literal p k h = h
 class-by lowering.Key.template p k h = refl
@@ -183,15 +213,45 @@ unfolding keySort is
 static-sort k e = rw e
 
 -- a static key, by its kind
-pub static-class : (l : List ℕ) (d at k : ℕ) → 0 < d → k ≡ byteAt l at → k ≡ 38 → 1 ≡ keyClass (lookNode l d at .value)
+pub static-class : (l : List ℕ) (d at k : ℕ) → 0 < d → k ≡ byteAt l at → k ≡ 38 → AsString ≡ keyClass (lookNode l d at .value)
 static-class l d at k z e y =
     ap sortClass (sym (static-sort (lookNode l d at .value) (kind-is l d at k (λ n. absurd (omega arith)) e ∙ y))) ∙ class-is (lookNode l d at .value)
 
-pub other-is : (k : Node) (n : ℕ) → n ≡ keyClass k → eqb n modes.asTemporary ≡ isOther k
-unfolding keyClass isOther
-other-is k n e = ap (λ (x : ℕ). eqb x modes.asTemporary) e ∙ go (keySort k)
+-- the entry by the class
+abbrev pub entryFor : KeyClass → lowering.Entry
+entryFor AsString = spelt
+entryFor AsItStands = itself
+entryFor LeftOut = omitted
+entryFor AsTemporary = saved
+
+pub entry-is : (k : Node) (c : KeyClass) → keyClass k ≡ c → entryOf (keySort k) ≡ entryFor c
+unfolding keyClass
+entry-is k c h = go (entryOf (keySort k)) ∙ ap entryFor h
   where
-    go : (s : lowering.Key) → eqb (sortClass s) modes.asTemporary ≡ elim (entryOf s) [ spelt ↦ false | itself ↦ false | omitted ↦ false | saved ↦ true ]
+    go : (e : lowering.Entry) → e ≡ entryFor (elim e [ spelt ↦ AsString | itself ↦ AsItStands | omitted ↦ LeftOut | saved ↦ AsTemporary ])
+    go spelt = refl
+    go itself = refl
+    go omitted = refl
+    go saved = refl
+
+-- whether a key is written as a string, as a temporary
+abbrev pub isString : KeyClass → Bool
+isString AsString = true
+isString AsItStands = false
+isString LeftOut = false
+isString AsTemporary = false
+
+abbrev pub isTemporary : KeyClass → Bool
+isTemporary AsString = false
+isTemporary AsItStands = false
+isTemporary LeftOut = false
+isTemporary AsTemporary = true
+
+pub other-is : (k : Node) (n m : KeyClass) → n ≡ keyClass k → n ≡ m → isTemporary m ≡ isOther k
+unfolding keyClass isOther
+other-is k n m e f = ap isTemporary (sym f ∙ e) ∙ go (keySort k)
+  where
+    go : (s : lowering.Key) → isTemporary (sortClass s) ≡ elim (entryOf s) [ spelt ↦ false | itself ↦ false | omitted ↦ false | saved ↦ true ]
     go lowering.Key.name = refl
     go lowering.Key.literal = refl
     go lowering.Key.template = refl

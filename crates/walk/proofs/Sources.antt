@@ -1,7 +1,7 @@
 -- Holes, sources, keys as strings, and the byte of a loop that awaits: one law for each way out.
 -- Assumes nothing.
 use mathlib.Core.Path.{_≡_, refl, sym, ap, subst, _∙_}
-use mathlib.Core.Bool.{Bool, true, false, cond, _&&_, _||_}
+use mathlib.Core.Bool.{Bool, true, false, cond, _&&_, false≢true}
 use mathlib.Core.List.{List, [], _∷_}
 use mathlib.Core.Option.{Option, some}
 use Prim.Native.Nat.{ℕ, zero, suc, _+_, _-_, _/_, _≤_, _<_}
@@ -44,7 +44,8 @@ use Rattle.pattern.specs.Keys.{nameIn, formIn, besideForm, literalBy, literalIn
 use Rattle.pattern.specs.Source.{readOf}
 use Rattle.pattern.proofs.KeyCases.{by-sort, becomes}
 use Rattle.direct.proofs.RestValues.{key-spelt}
-use Rattle.walk.specs.Modes as modes
+use Rattle.walk.specs.declared.modes.Mode.{Mode}
+use Rattle.walk.specs.declared.look.KeyClass.the-variants.{AsString}
 use Rattle.walk.proofs.KeyLengths.{ShortString, promised-short}
 use Rattle.direct.specs.Events.{Deed, puts, excludes}
 use Rattle.direct.specs.Events.Deed.{does}
@@ -52,11 +53,11 @@ use Rattle.direct.specs.Emit.{say}
 use Rattle.direct.specs.Keys.{stringBytes}
 use Rattle.walk.specs.Run.{Going, Runs, Does}
 use Rattle.walk.specs.Whole.{Good}
-use Rattle.walk.specs.Turns.{holeDeeds, holeOf, reads, sourceOf, stringAt, stringOf, keyClass, keyString, awaits}
-use Rattle.walk.proofs.Running.{does-as, runs-does, runs-none, runs-as}
+use Rattle.walk.specs.Turns.{holeDeeds, holeOf, reads, sourceOf, stringAt, stringOf, keyClass, keyString, awaits, writesHoles}
+use Rattle.walk.proofs.Running.{does-as, runs-does, runs-none, runs-as, does-nothing}
 use Rattle.walk.proofs.SmallSteps.{string-whole}
 use Rattle.walk.proofs.Opened.{good-short}
-use Rattle.walk.proofs.Lookups.{when-yes, classOf, key-class}
+use Rattle.walk.proofs.Lookups.{when-yes, when-no, classOf, isString, entry-is, key-class}
 
 -- the same from the same
 runs-between : {g h h′ g′ : Going} {ds : List Deed} → h ≡ g → g′ ≡ h′ → Runs h h′ ds → Runs g g′ ds
@@ -64,25 +65,19 @@ runs-between {g = g} {h = h} {h′ = h′} {g′ = g′} {ds = ds} a b d = rw (s
 
 -- ---- holes
 
-pub hole-first : (m : ℕ) → m ≡ 1 → eqb m 1 || eqb m 16 ≡ true
-hole-first m e = rw e refl
-
-pub hole-second : (m : ℕ) → m ≡ 16 → eqb m 1 || eqb m 16 ≡ true
-hole-second m e = rw e refl
-
-module _ (t : List ℕ) (m at : ℕ) where
-  pub hole-written : {g g′ : Going} (q : ℕ) → eqb m 1 || eqb m 16 ≡ true → q ≡ onward t at 1 → Runs g g′ (puts (part at q t)) → Runs g g′ (holeDeeds t m at)
+module _ (t : List ℕ) (mode : Mode) (at : ℕ) where
+  pub hole-written : {g g′ : Going} (q : ℕ) (b : Bool) → b ≡ writesHoles mode → b ≡ true → q ≡ onward t at 1 → Runs g g′ (puts (part at q t)) → Runs g g′ (holeDeeds t mode at)
   unfolding holeDeeds
-  hole-written q b e d = runs-as d (ap (λ (x : ℕ). puts (part at x t)) e ∙ when-yes (puts (part at (onward t at 1) t)) _ _ _ b refl)
+  hole-written q b i j e d = runs-as d (ap (λ (x : ℕ). puts (part at x t)) e ∙ when-yes (puts (part at (onward t at 1) t)) _ _ _ (sym i ∙ j) refl)
 
-  pub hole-passed : {g g′ : Going} → (m ≡ 1 → ⊥) → (m ≡ 16 → ⊥) → g′ ≡ g → Runs g g′ (holeDeeds t m at)
+  pub hole-passed : {g g′ : Going} (b : Bool) → b ≡ writesHoles mode → b ≡ false → g′ ≡ g → Runs g g′ (holeDeeds t mode at)
   unfolding holeDeeds
-  hole-passed {g = g} {g′ = g′} a b e = rw (ne-eqb m 1 a, ne-eqb m 16 b, e) runs-none
+  hole-passed {g = g} {g′ = g′} b i j e = rw (sym i, j, e) runs-none
 
   -- where the byte is 0
-  pub does-hole : {g g′ : Going} → Runs g g′ (holeDeeds t m at) → part at (onward t at 1) t ≡ 0 ∷ [] → Does g g′ (holeOf m)
+  pub does-hole : {g g′ : Going} → Runs g g′ (holeDeeds t mode at) → part at (onward t at 1) t ≡ 0 ∷ [] → Does g g′ (holeOf mode)
   unfolding holeDeeds holeOf
-  does-hole e h = does-as (runs-does e) (go (eqb m 1 || eqb m 16))
+  does-hole e h = does-as (runs-does e) (go (writesHoles mode))
     where
       go : (b : Bool) → say (cond b (puts (part at (onward t at 1) t)) []) ≡ cond b (say (does (put 0) ∷ [])) (say [])
       go true = ap (λ (bs : List ℕ). say (puts bs)) h
@@ -259,16 +254,16 @@ entryText t Private = []
 entryText t Again = []
 entryText t Other = []
 
-entry-string : (t : List ℕ) (c : Context) (q : Node) (k : Key) → classOf k ≡ modes.asString → keyEntry t c q k ≡ only (string (entryText t k))
+entry-string : (t : List ℕ) (c : Context) (q : Node) (k : Key) → classOf k ≡ AsString → keyEntry t c q k ≡ only (string (entryText t k))
 entry-string t c q (Name p n) h = refl
 entry-string t c q (Literal p n) h = refl
 entry-string t c q (variants.Number v) h = refl
 entry-string t c q (OtherForm v) h = refl
 entry-string t c q NoForm h = refl
-entry-string t c q Template h = absurd (omega arith)
-entry-string t c q Private h = absurd (omega arith)
-entry-string t c q Again h = absurd (omega arith)
-entry-string t c q Other h = absurd (omega arith)
+entry-string t c q Template h = absurd (false≢true (ap isString h))
+entry-string t c q Private h = absurd (false≢true (ap isString h))
+entry-string t c q Again h = absurd (false≢true (ap isString h))
+entry-string t c q Other h = absurd (false≢true (ap isString h))
 
 -- the text of the first of a list
 abbrev firstText : Items → List ℕ
@@ -279,16 +274,6 @@ firstText (Items.item n is) = textAt 2 n
 string-text : (bs : List ℕ) → firstText (only (string bs)) ≡ bs
 unfolding textAt pieceIn
 string-text bs = refl
-
-class-spelt : (k : Node) → keyClass k ≡ modes.asString → entryOf (keySort k) ≡ spelt
-unfolding keyClass
-class-spelt k h = go (entryOf (keySort k)) h
-  where
-    go : (s : lowering.Entry) → _≡_ {A = ℕ} (elim s [ spelt ↦ 1 | itself ↦ 2 | omitted ↦ 3 | saved ↦ 4 ]) 1 → s ≡ spelt
-    go spelt h = refl
-    go itself h = absurd (omega arith)
-    go omitted h = absurd (omega arith)
-    go saved h = absurd (omega arith)
 
 -- the bytes of a key's string
 pub record Spelt (t : List ℕ) (k : Node) (from n : ℕ) : Type 0 where
@@ -309,8 +294,8 @@ module _ (t : List ℕ) (d at : ℕ) where
   property-key = refl
 
   -- the text by what the key becomes
-  module _ (r x : Key) (b : Becomes t d at r) (e : r ≡ x) (h : classOf x ≡ modes.asString) where
-    class-one : keyClass here ≡ modes.asString
+  module _ (r x : Key) (b : Becomes t d at r) (e : r ≡ x) (h : classOf x ≡ AsString) where
+    class-one : keyClass here ≡ AsString
     class-one = sym (key-class t d at r x b e) ∙ h
 
     pub key-text : keyText here ≡ entryText t x
@@ -319,7 +304,7 @@ module _ (t : List ℕ) (d at : ℕ) where
         sym (string-text (keyText here))
         ∙ ap firstText
         (ap (λ (k : Node). only (string (keyText k))) (sym property-key)
-        ∙ sym (key-spelt c property (ap (λ (k : Node). entryOf (keySort k)) property-key ∙ class-spelt here class-one))
+        ∙ sym (key-spelt c property (ap (λ (k : Node). entryOf (keySort k)) property-key ∙ entry-is here AsString class-one))
         ∙ b .entry c property property-key
         ∙ ap (keyEntry t c property) e
         ∙ entry-string t c property x h)
@@ -327,7 +312,7 @@ module _ (t : List ℕ) (d at : ℕ) where
 
     pub string-is : keyString here ≡ stringBytes (entryText t x)
     unfolding keyString
-    string-is = rw (class-spelt here class-one, keyString) (ap stringBytes key-text)
+    string-is = rw (entry-is here AsString class-one, keyString) (ap stringBytes key-text)
 
   literal-short : (k : Node) → length (textAt 2 k) ≤ 16384 → length (literalText k) ≤ 16384
   unfolding literalText
@@ -351,7 +336,7 @@ module _ (t : List ℕ) (d at : ℕ) where
       (λ s. rw (s, keyText) (omega arith))
 
   -- bytes of the input
-  spelt-at : (r x : Key) (from n : ℕ) → Becomes t d at r → r ≡ x → classOf x ≡ modes.asString → Good t d at → from + n ≤ length t → entryText t x ≡ take n (drop from t) → Spelt t here from n
+  spelt-at : (r x : Key) (from n : ℕ) → Becomes t d at r → r ≡ x → classOf x ≡ AsString → Good t d at → from + n ≤ length t → entryText t x ≡ take n (drop from t) → Spelt t here from n
   unfolding part
   spelt-at r x from n b e h g w y =
       let a : length (keyText here) ≡ n = ap length (key-text r x b e h ∙ y) ∙ length-take-le n (drop from t) (simp length-drop (omega arith)) in
@@ -373,7 +358,7 @@ module _ (t : List ℕ) (d at : ℕ) where
   bare-spelt r b g e = spelt-at r NoForm 0 0 b e refl g (omega arith) refl
 
   -- what has no string
-  pub no-string : {A : Type 0} (r k : Key) → Becomes t d at r → r ≡ k → keyClass here ≡ modes.asString → (classOf k ≡ modes.asString → ⊥) → A
+  pub no-string : {A : Type 0} (r k : Key) → Becomes t d at r → r ≡ k → keyClass here ≡ AsString → (classOf k ≡ AsString → ⊥) → A
   no-string r k b e h z = absurd (z (key-class t d at r k b e ∙ h))
 
 -- the string that is written is the key's, where the key is good and written as one
@@ -384,19 +369,19 @@ module _ (t : List ℕ) (d at : ℕ) (good : Good t d at) where
   spelt-whole : (from n : ℕ) → Spelt t written from n → stringAt t from n ≡ keyString written
   spelt-whole from n s = string-whole t from n (s .small) (s .within) ∙ s .string
 
-  string-found : (x : Key) → keyAt t d at ≡ x → keyClass written ≡ modes.asString → stringOf t x ≡ keyString written
+  string-found : (x : Key) → keyAt t d at ≡ x → keyClass written ≡ AsString → stringOf t x ≡ keyString written
   unfolding stringOf
   string-found (Name p n) e h = spelt-whole p n (name-spelt t d at _ (becomes t d at _ refl) good p n e)
   string-found (Literal p n) e h = spelt-whole p n (form-spelt t d at _ (becomes t d at _ refl) good p n e)
   string-found (variants.Number v) e h = sym (string-is t d at _ _ (becomes t d at _ refl) e refl)
   string-found (OtherForm v) e h = sym (string-is t d at _ _ (becomes t d at _ refl) e refl)
   string-found NoForm e h = spelt-whole 0 0 (bare-spelt t d at _ (becomes t d at _ refl) good e)
-  string-found Template e h = no-string t d at _ _ (becomes t d at _ refl) e h (λ z. omega arith)
-  string-found Private e h = no-string t d at _ _ (becomes t d at _ refl) e h (λ z. omega arith)
-  string-found Again e h = no-string t d at _ _ (becomes t d at _ refl) e h (λ z. omega arith)
-  string-found Other e h = no-string t d at _ _ (becomes t d at _ refl) e h (λ z. omega arith)
+  string-found Template e h = no-string t d at _ _ (becomes t d at _ refl) e h (λ z. false≢true (ap isString z))
+  string-found Private e h = no-string t d at _ _ (becomes t d at _ refl) e h (λ z. false≢true (ap isString z))
+  string-found Again e h = no-string t d at _ _ (becomes t d at _ refl) e h (λ z. false≢true (ap isString z))
+  string-found Other e h = no-string t d at _ _ (becomes t d at _ refl) e h (λ z. false≢true (ap isString z))
 
-pub does-string : {g g′ : Going} (t : List ℕ) (d at : ℕ) → Runs g g′ (puts (stringOf t (keyAt t d at))) → Good t d at → keyClass (lookNode t d at .value) ≡ modes.asString
+pub does-string : {g g′ : Going} (t : List ℕ) (d at : ℕ) → Runs g g′ (puts (stringOf t (keyAt t d at))) → Good t d at → keyClass (lookNode t d at .value) ≡ AsString
     → Does g g′ (say (puts (keyString (lookNode t d at .value))))
 does-string t d at e good h = runs-does (runs-as e (ap puts (string-found t d at good (keyAt t d at) refl h)))
 

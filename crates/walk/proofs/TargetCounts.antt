@@ -6,8 +6,6 @@ use mathlib.Core.List.{List}
 use Prim.Native.Nat.{ℕ, zero, suc, _+_, _-_, _<_, _≤_}
 use native.Mathlib.Omega.{arith}
 use native.Mathlib.Decide.{decLt}
-use lib.Dec.{eqb}
-use borrow.Author.Tests.{eq-eqb, ne-eqb}
 use Rattle.tree.specs.Tree.{Node, Items, count, depth, depthFields}
 use Rattle.tree.specs.Tree.Node.{node}
 use Rattle.tree.specs.Tree.Fields.{done}
@@ -29,10 +27,12 @@ use Rattle.pattern.proofs.CappedSums.{numbers, Adds, sumOf, listSum, sum-start,
 use Rattle.pattern.proofs.MovesCounted.{count-sum}
 use Rattle.pattern.proofs.CountsFit.{limited-below}
 use Rattle.direct.specs.Objects.{Reach, counts, enters, reachedAt, reached, reachedIn}
-use Rattle.direct.specs.Objects.Reach.{anywhere, straight, inArrays}
+use Rattle.direct.specs.Objects.Reach.{anywhere}
 use Rattle.direct.proofs.Reached.{reached-nothing, reached-levels}
 use Rattle.walk.specs.Modes as modes
 use Rattle.walk.specs.Turns.{reachOf, valuesCount}
+use Rattle.walk.specs.declared.reaches.Reach as reaches
+use Rattle.walk.specs.declared.reaches.Reach.the-variants.{Anywhere}
 
 -- ---- one level
 
@@ -78,36 +78,40 @@ module _ (r : Reach) where
   unfolding reachedAt shape depth
   places-blank at = refl
 
--- a reach by its number
-pub passes-straight : (n : ℕ) → n ≡ modes.reachStraight → enters (reachOf n) ≡ false
-unfolding reachOf
-passes-straight n e = rw (eq-eqb n 2 e) refl
+-- one that is come to through objects
+module _ (reach : reaches.Reach) (b : Bool) (e : b ≡ counts (reachOf reach)) where
+  pub found-counts : b ≡ true → _≡_ {A = ℕ} 1 (cond (counts (reachOf reach)) 1 0)
+  found-counts h = ap (λ (x : Bool). cond x 1 0) (sym h ∙ e)
 
-pub enters-else : (n : ℕ) → (n ≡ modes.reachStraight → ⊥) → enters (reachOf n) ≡ true
-unfolding reachOf
-enters-else n e = rw (ne-eqb n 2 e) (go (eqb n 3))
-  where
-    go : (b : Bool) → enters (cond b inArrays anywhere) ≡ true
-    go true = refl
-    go false = refl
+  pub found-not : b ≡ false → _≡_ {A = ℕ} 0 (cond (counts (reachOf reach)) 1 0)
+  found-not h = ap (λ (x : Bool). cond x 1 0) (sym h ∙ e)
 
-pub found-in-arrays : (n : ℕ) → n ≡ modes.reachInArrays → _≡_ {A = ℕ} 0 (cond (counts (reachOf n)) 1 0)
-unfolding reachOf
-found-in-arrays n e = rw (e, eqb) refl
-
-pub found-else : (n : ℕ) → (n ≡ modes.reachInArrays → ⊥) → _≡_ {A = ℕ} 1 (cond (counts (reachOf n)) 1 0)
-unfolding reachOf
-found-else n e = rw (ne-eqb n 3 e) (go (eqb n 2))
-  where
-    go : (b : Bool) → _≡_ {A = ℕ} 1 (cond (counts (cond b straight anywhere)) 1 0)
-    go true = refl
-    go false = refl
-
-pub by-one : (p : Node) → places (reachOf modes.reachAnywhere) p ≡ places anywhere p
+pub by-one : (p : Node) → places (reachOf Anywhere) p ≡ places anywhere p
 unfolding reachOf
 by-one p = refl
 
 -- ---- as the code finds them
+
+-- what is left to be counted of the items of an array that is entered
+module _ (l : List ℕ) where
+  abbrev pub ItemsLeft : ℕ → ℕ → ℕ → ℕ → ℕ → ℕ → Type 0
+  ItemsLeft d at e n p t = Adds numbers t (listSum numbers l (λ q. places anywhere q) e true n p) (places anywhere (lookNode l d at .value))
+
+  pub items-more : (d at e n p q t x u : ℕ) (s : Place) → 0 < n → s ≡ itemPlace l true e p → x ≡ places anywhere (nodeHere l s) → q ≡ lookItem l (lookNode l e) true p .next → u ≡ limited (t + x) → ItemsLeft d at e n p t → ItemsLeft d at e (n - 1) q u
+  items-more d at e n p q t x u s z f y g v w =
+      sum-more numbers l (λ q. places anywhere q) e true n p q t x u _ z
+      (item-place numbers l (λ q. places anywhere q) (λ at. places-blank anywhere at ∙ places-nothing anywhere) e true p s x f y) g v w
+
+  pub items-end : (d at e n p t : ℕ) → n ≤ 0 → ItemsLeft d at e n p t → t ≡ places anywhere (lookNode l d at .value)
+  items-end d at e n p t z w = sum-end numbers l (λ q. places anywhere q) e true n p t _ z w
+
+  pub items-start : (d at k : ℕ) → (d ≡ 0 → ⊥) → k ≡ byteAt l at → (run : Run) → k ≡ 36 → run ≡ runOf at (partAt l d at 0) → ItemsLeft d at (d - 1) (run .count) (run .from) 0
+  items-start d at k z e run t w =
+      let here : Node = lookNode l d at .value in
+      sum-start numbers l (λ q. places anywhere q) (d - 1) true (run .count) (run .from) 0 _ refl
+      (ap (sumOf numbers (λ q. places anywhere q)) (array-list l d at run (sym e ∙ t) w)
+      ∙ count-sum (λ q. reached anywhere q) (itemsOf here)
+      ∙ ap (λ (is : Items). limited (count is)) (sym (array-places anywhere here (below.is-array here (kind-is l d at k z e ∙ t)))))
 
 module _ (l : List ℕ) (r : Reach) where
   pub count-none : (d at : ℕ) → d ≡ 0 → 0 ≡ places r (lookNode l d at .value)
@@ -146,18 +150,6 @@ module _ (l : List ℕ) (r : Reach) where
   unfolding valuesCount
   values-below d at n e = limited-below n _ e
 
-  -- and of the items of an array
-  abbrev pub ItemsLeft : ℕ → ℕ → ℕ → ℕ → ℕ → ℕ → Type 0
-  ItemsLeft d at e n p t = Adds numbers t (listSum numbers l (λ q. places anywhere q) e true n p) (places r (lookNode l d at .value))
-
-  pub items-more : (d at e n p q t x u : ℕ) (s : Place) → 0 < n → s ≡ itemPlace l true e p → x ≡ places anywhere (nodeHere l s) → q ≡ lookItem l (lookNode l e) true p .next → u ≡ limited (t + x) → ItemsLeft d at e n p t → ItemsLeft d at e (n - 1) q u
-  items-more d at e n p q t x u s z f y g v w =
-      sum-more numbers l (λ q. places anywhere q) e true n p q t x u _ z
-      (item-place numbers l (λ q. places anywhere q) (λ at. places-blank anywhere at ∙ places-nothing anywhere) e true p s x f y) g v w
-
-  pub items-end : (d at e n p t : ℕ) → n ≤ 0 → ItemsLeft d at e n p t → t ≡ places r (lookNode l d at .value)
-  items-end d at e n p t z w = sum-end numbers l (λ q. places anywhere q) e true n p t _ z w
-
   module _ (d at k : ℕ) (z : d ≡ 0 → ⊥) (e : k ≡ byteAt l at) where
     abbrev here : Node
     here = lookNode l d at .value
@@ -181,12 +173,10 @@ module _ (l : List ℕ) (r : Reach) where
     count-passed t h =
         sym (ap (λ (is : Items). limited (count is)) (array-places r here (below.is-array here (kind-is l d at k z e ∙ t)) ∙ ap (λ (c : Bool). cond c (gather (reached anywhere) (itemsOf here)) none) h) ∙ none-counted)
 
-    pub items-start : (run : Run) → k ≡ 36 → enters r ≡ true → run ≡ runOf at (partAt l d at 0) → ItemsLeft d at (d - 1) (run .count) (run .from) 0
-    items-start run t h w =
-        sum-start numbers l (λ q. places anywhere q) (d - 1) true (run .count) (run .from) 0 _ refl
-        (ap (sumOf numbers (λ q. places anywhere q)) (array-list l d at run (sym e ∙ t) w)
-        ∙ count-sum (λ q. reached anywhere q) (itemsOf here)
-        ∙ ap (λ (is : Items). limited (count is)) (sym (array-places r here (below.is-array here (kind-is l d at k z e ∙ t)) ∙ ap (λ (c : Bool). cond c (gather (reached anywhere) (itemsOf here)) none) h)))
+    pub count-entered : (x : ℕ) → k ≡ 36 → enters r ≡ true → x ≡ places anywhere here → x ≡ places r here
+    count-entered x t h w =
+        let s = below.is-array here (kind-is l d at k z e ∙ t) in
+        w ∙ ap (λ (is : Items). limited (count is)) (array-places anywhere here s ∙ sym (array-places r here s ∙ ap (λ (c : Bool). cond c (gather (reached anywhere) (itemsOf here)) none) h))
 
     pub count-left : (x : ℕ) (s : Place) → k ≡ 37 → s ≡ placeOf d at (partAt l d at 0) → x ≡ places r (nodeHere l s) → x ≡ places r here
     count-left x s t w a =

@@ -20,10 +20,11 @@ use Rattle.direct.specs.Events.Deed.{does}
 use Rattle.direct.specs.Emit.{say, inTurn}
 use Rattle.direct.specs.Views.{objectAt, objectRestAt}
 use Rattle.direct.specs.Objects.{counts, enters, overReached}
-use Rattle.direct.specs.Objects.Reach.{anywhere, straight, inArrays}
+use Rattle.direct.specs.Objects.Reach.{anywhere}
 use Rattle.direct.specs.Handed.{handsPlace}
 use Rattle.direct.proofs.Reached.{reach-over-object, reach-over-rest, reach-over-array, reach-over-default, reach-over-leaf}
-use Rattle.walk.specs.Modes as modes
+use Rattle.walk.specs.declared.reaches.Reach as reaches
+use Rattle.walk.specs.declared.reaches.Reach.the-variants.{Anywhere}
 use Rattle.walk.specs.Run.{Going, Does}
 use Rattle.walk.specs.Whole.{holeAt, Good}
 use Rattle.walk.specs.Turns.{reachOf}
@@ -32,10 +33,9 @@ use Rattle.walk.proofs.Emits.{good-item, full}
 use Rattle.walk.proofs.Opened.{no-good, kind-byte, leaf-here, object-open, array-open, property-open, default-open}
 use Rattle.walk.proofs.Hands.{Left, left-start, left-end, left-more, solid-more, Any, any-start, at-level, list-from}
 use Rattle.walk.proofs.HandKeys.{object-listed}
-use Rattle.walk.proofs.TargetCounts.{passes-straight, enters-else}
 
 -- what is listed of a target
-abbrev pub Found : ℕ → Node → Emit
+abbrev pub Found : reaches.Reach → Node → Emit
 Found reach p = overReached handsPlace (reachOf reach) p
 
 abbrev Property : Node → Type 0
@@ -45,21 +45,7 @@ Property q = is 35 q ≡ true
 pub no-zero : (k m : ℕ) → k ≡ m → 0 < m → k ≡ 0 → ⊥
 no-zero k m e h z = omega arith
 
--- ---- a reach by its number
-
-counts-in-arrays : (n : ℕ) → n ≡ modes.reachInArrays → counts (reachOf n) ≡ false
-unfolding reachOf
-counts-in-arrays n e = rw e refl
-
-counts-else : (n : ℕ) → (n ≡ modes.reachInArrays → ⊥) → counts (reachOf n) ≡ true
-unfolding reachOf
-counts-else n e = rw (ne-eqb n 3 e) (go (eqb n 2))
-  where
-    go : (b : Bool) → counts (cond b straight anywhere) ≡ true
-    go true = refl
-    go false = refl
-
-found-anywhere : (p : Node) → Found modes.reachAnywhere p ≡ overReached handsPlace anywhere p
+found-anywhere : (p : Node) → Found Anywhere p ≡ overReached handsPlace anywhere p
 unfolding reachOf
 found-anywhere p = refl
 
@@ -72,7 +58,7 @@ module _ (t : List ℕ) where
 
   -- ---- an object that stands a level above `left`
 
-  module _ (left at reach : ℕ) where
+  module _ (left at : ℕ) (reach : reaches.Reach) where
     abbrev object : Node
     object = lookNode t (suc left) at .value
 
@@ -82,18 +68,18 @@ module _ (t : List ℕ) where
         ∙ sym (reach-over-rest handsPlace (reachOf reach) at ps x ∙ ap (λ (b : Bool). cond b (handsPlace (objectRestAt at ps x)) (say [])) e)
         ∙ ap (Found reach) (sym w)
 
-    pub object-found : {g g₁ g₂ : Going} (b : Bool) → b ≡ eqb (byteAt t (onward t at 1) / 2 % 2) 1 → b ≡ true → (reach ≡ modes.reachInArrays → ⊥)
+    pub object-found : {g g₁ g₂ : Going} (b : Bool) → b ≡ eqb (byteAt t (onward t at 1) / 2 % 2) 1 → b ≡ true → counts (reachOf reach) ≡ true
         → Does g g₁ (say (lists (5 ∷ 1 ∷ []))) → Does g₁ g₂ (say (does (listedTemporary at 1) ∷ []))
         → Good t (suc left) at → byteAt t at ≡ 34 → Does g g₂ (Found reach object)
     object-found b e h z k l good kind =
         let o = object-open t left at good kind in
-        does-as (object-listed t (suc left) at 0 k l) (rest-is true (counts-else reach z) _ _ (ap (λ (s : Seen Node). s .value) (o .resting (sym e ∙ h))))
+        does-as (object-listed t (suc left) at k l) (rest-is true z _ _ (ap (λ (s : Seen Node). s .value) (o .resting (sym e ∙ h))))
 
-    pub object-passed : {g : Going} (b : Bool) → b ≡ eqb (byteAt t (onward t at 1) / 2 % 2) 1 → b ≡ true → reach ≡ modes.reachInArrays
+    pub object-passed : {g : Going} (b : Bool) → b ≡ eqb (byteAt t (onward t at 1) / 2 % 2) 1 → b ≡ true → counts (reachOf reach) ≡ false
         → Good t (suc left) at → byteAt t at ≡ 34 → Does g g (Found reach object)
     object-passed {g = g} b e h z good kind =
         let o = object-open t left at good kind in
-        does-as (does-nothing g) (rest-is false (counts-in-arrays reach z) _ _ (ap (λ (s : Seen Node). s .value) (o .resting (sym e ∙ h))))
+        does-as (does-nothing g) (rest-is false z _ _ (ap (λ (s : Seen Node). s .value) (o .resting (sym e ∙ h))))
 
     -- its properties
     abbrev pub Values : Going → Going → ℕ → ℕ → Type 0
@@ -141,7 +127,7 @@ module _ (t : List ℕ) where
             no-good t (first at) (subst (λ (m : ℕ). Good t m (first at)) z (i .node (full t false (first at) refl)))
 
   -- the values alone, of an object at the level `left`
-  pub values-all : {g₀ g : Going} (left d at reach n p : ℕ) → d ≡ left - 1 → n ≤ 0 → Values d at reach g₀ g n p
+  pub values-all : {g₀ g : Going} (left d at : ℕ) (reach : reaches.Reach) (n p : ℕ) → d ≡ left - 1 → n ≤ 0 → Values d at reach g₀ g n p
       → Good t left at → byteAt t at ≡ 34 → Does g₀ g (inTurn (λ q. Found reach (value q)) (properties (lookNode t left at .value)))
   unfolding itemsAt pieceIn
   values-all {g₀ = g₀} {g = g} left d at reach n p e z v good kind =
@@ -155,7 +141,7 @@ module _ (t : List ℕ) where
 
   -- ---- a property that stands a level above `left`
 
-  pub property-by : {g g′ : Going} (left at s x reach : ℕ) → s ≡ onward t at 2 → x ≡ lookNode t left s .next → (Good t left x → Does g g′ (Found reach (lookNode t left x .value)))
+  pub property-by : {g g′ : Going} (left at s x : ℕ) (reach : reaches.Reach) → s ≡ onward t at 2 → x ≡ lookNode t left s .next → (Good t left x → Does g g′ (Found reach (lookNode t left x .value)))
       → Good t (suc left) at → byteAt t at ≡ 35 → Does g g′ (Found reach (value (lookNode t (suc left) at .value)))
   unfolding nodeAt pieceIn
   property-by {g = g} {g′ = g′} left at s x reach a b k good kind =
@@ -164,7 +150,7 @@ module _ (t : List ℕ) where
       let k′ = subst (λ (y : ℕ). Good t left y → Does g g′ (Found reach (lookNode t left y .value))) place k in
       does-as (k′ (u .value)) (ap (λ (y : Seen Node). Found reach (value (y .value))) (sym (u .whole)))
 
-  pub property-none : {g g′ : Going} (left at reach : ℕ) → left ≡ 0 → Good t (suc left) at → byteAt t at ≡ 35 → Does g g′ (Found reach (value (lookNode t (suc left) at .value)))
+  pub property-none : {g g′ : Going} (left at : ℕ) (reach : reaches.Reach) → left ≡ 0 → Good t (suc left) at → byteAt t at ≡ 35 → Does g g′ (Found reach (value (lookNode t (suc left) at .value)))
   property-none left at reach z good kind =
       let u = property-open t left at good kind in
       no-good t _ (subst (λ (m : ℕ). Good t m (lookNode t left (onward t at 2) .next)) z (u .value))
@@ -173,24 +159,24 @@ module _ (t : List ℕ) where
 
   module _ (d at : ℕ) where
     abbrev pub ItemsLeft : Going → Going → ℕ → ℕ → Type 0
-    ItemsLeft g₀ g n i = Good t (suc d) at → byteAt t at ≡ 36 → Left t d true Any (Found modes.reachAnywhere) g₀ (many at) (first at) g n i
+    ItemsLeft g₀ g n i = Good t (suc d) at → byteAt t at ≡ 36 → Left t d true Any (Found Anywhere) g₀ (many at) (first at) g n i
 
     pub items-start : {g : Going} (q n i : ℕ) → q ≡ onward t at 2 → Wide t q n → i ≡ onward t q 2 → ItemsLeft g g n i
     items-start {g = g} q n i a w b good kind =
         let u = array-open t d at good kind in
         let nn : many at ≡ n = sym (w .value ∙ ap (λ (z : ℕ). wideAt t z) a) in
         let ii : first at ≡ i = sym (b ∙ ap (λ (z : ℕ). onward t z 2) a) in
-        subst (λ (m : ℕ). Left t d true Any (Found modes.reachAnywhere) g (many at) (first at) g m i) nn
-        (subst (λ (z : ℕ). Left t d true Any (Found modes.reachAnywhere) g (many at) (first at) g (many at) z) ii (any-start t d true (Found modes.reachAnywhere) g (many at) (first at) (u .list .good)))
+        subst (λ (m : ℕ). Left t d true Any (Found Anywhere) g (many at) (first at) g m i) nn
+        (subst (λ (z : ℕ). Left t d true Any (Found Anywhere) g (many at) (first at) g (many at) z) ii (any-start t d true (Found Anywhere) g (many at) (first at) (u .list .good)))
 
     pub items-more : {g₀ g g′ : Going} (n i q : ℕ) → 0 < n → q ≡ lookItem t (lookNode t d) true i .next → ItemsLeft g₀ g n i
-        → ((h : Bool) → (holeAt t h i ≡ false → Good t d i) → Does g g′ (cond (holeAt t h i) (say []) (Found modes.reachAnywhere (lookNode t d i .value))))
+        → ((h : Bool) → (holeAt t h i ≡ false → Good t d i) → Does g g′ (cond (holeAt t h i) (say []) (Found Anywhere (lookNode t d i .value))))
         → ItemsLeft g₀ g′ (n - 1) q
-    items-more n i q z y v f good kind = left-more t d true Any (Found modes.reachAnywhere) (many at) (first at) n i q z y (v good kind) (λ x a. f true x)
+    items-more n i q z y v f good kind = left-more t d true Any (Found Anywhere) (many at) (first at) n i q z y (v good kind) (λ x a. f true x)
 
   -- ---- a target at the level `left`, by its kind
 
-  module _ (left d at k reach : ℕ) (e : d ≡ left - 1) (p : k ≡ byteAt t at) where
+  module _ (left d at k : ℕ) (reach : reaches.Reach) (e : d ≡ left - 1) (p : k ≡ byteAt t at) where
     pub by-object : {g g′ : Going} → k ≡ 34 → (Good t (suc d) at → byteAt t at ≡ 34 → Does g g′ (Found reach (lookNode t (suc d) at .value))) → Good t left at → Does g g′ (Found reach (lookNode t left at .value))
     by-object {g = g} {g′ = g′} y f good = at-level t (λ (m : ℕ). Does g g′ (Found reach (lookNode t m at .value))) left d at e good (λ here. f here (sym p ∙ y))
 
@@ -211,7 +197,7 @@ module _ (t : List ℕ) where
         (λ here. does-as (does-nothing g) (sym (reach-over-leaf handsPlace (reachOf reach) (lookNode t (suc d) at .value) (leaf-here t d at k p a b c))))
 
     array-is : (c : Bool) → enters (reachOf reach) ≡ c → Good t (suc d) at → byteAt t at ≡ 36
-        → cond c (inTurn (Found modes.reachAnywhere) (lookItems t (lookNode t d) true (many at) (first at) .value)) (say []) ≡ Found reach (lookNode t (suc d) at .value)
+        → cond c (inTurn (Found Anywhere) (lookItems t (lookNode t d) true (many at) (first at) .value)) (say []) ≡ Found reach (lookNode t (suc d) at .value)
     unfolding reachOf
     array-is c y good kind =
         let u = array-open t d at good kind in
@@ -221,19 +207,19 @@ module _ (t : List ℕ) where
         (λ bit. sym (reach-over-array handsPlace (reachOf reach) at ns _) ∙ ap (λ (s : Seen Node). Found reach (s .value)) (sym (u .resting bit)))
         (λ bit. sym (reach-over-array handsPlace (reachOf reach) at ns _) ∙ ap (λ (s : Seen Node). Found reach (s .value)) (sym (u .plain bit)))
 
-    pub array-passed : {g : Going} → k ≡ 36 → reach ≡ modes.reachStraight → Good t left at → Does g g (Found reach (lookNode t left at .value))
+    pub array-passed : {g : Going} → k ≡ 36 → enters (reachOf reach) ≡ false → Good t left at → Does g g (Found reach (lookNode t left at .value))
     array-passed {g = g} y z good =
         at-level t (λ (m : ℕ). Does g g (Found reach (lookNode t m at .value))) left d at e good
-        (λ here. does-as (does-nothing g) (array-is false (passes-straight reach z) here (sym p ∙ y)))
+        (λ here. does-as (does-nothing g) (array-is false z here (sym p ∙ y)))
 
-    pub items-end : {g₀ g : Going} (n i : ℕ) → k ≡ 36 → (reach ≡ modes.reachStraight → ⊥) → n ≤ 0 → ItemsLeft d at g₀ g n i → Good t left at → Does g₀ g (Found reach (lookNode t left at .value))
+    pub items-end : {g₀ g : Going} (n i : ℕ) → k ≡ 36 → enters (reachOf reach) ≡ true → n ≤ 0 → ItemsLeft d at g₀ g n i → Good t left at → Does g₀ g (Found reach (lookNode t left at .value))
     items-end {g₀ = g₀} {g = g} n i y z m v good =
         at-level t (λ (x : ℕ). Does g₀ g (Found reach (lookNode t x at .value))) left d at e good
-        (λ here. does-as (left-end t d true Any (Found modes.reachAnywhere) (many at) (first at) n i m (v here (sym p ∙ y))) (array-is true (enters-else reach z) here (sym p ∙ y)))
+        (λ here. does-as (left-end t d true Any (Found Anywhere) (many at) (first at) n i m (v here (sym p ∙ y))) (array-is true z here (sym p ∙ y)))
 
   -- ---- an item: it may be a hole
 
-  pub item-solid : {g g′ : Going} (left at k reach : ℕ) → k ≡ byteAt t at → (k ≡ 0 → ⊥) → (Good t left at → Does g g′ (Found reach (lookNode t left at .value)))
+  pub item-solid : {g g′ : Going} (left at k : ℕ) (reach : reaches.Reach) → k ≡ byteAt t at → (k ≡ 0 → ⊥) → (Good t left at → Does g g′ (Found reach (lookNode t left at .value)))
       → (h : Bool) → (holeAt t h at ≡ false → Good t left at) → Does g g′ (cond (holeAt t h at) (say []) (Found reach (lookNode t left at .value)))
   unfolding holeAt
   item-solid {g = g} {g′ = g′} left at k reach e z f h good =
@@ -244,7 +230,7 @@ module _ (t : List ℕ) where
       solid true = ne-eqb (byteAt t at) 0 (λ y. z (e ∙ y))
       solid false = refl
 
-  pub item-else : {g : Going} (left at reach : ℕ) → (Good t left at → Does g g (Found reach (lookNode t left at .value)))
+  pub item-else : {g : Going} (left at : ℕ) (reach : reaches.Reach) → (Good t left at → Does g g (Found reach (lookNode t left at .value)))
       → (h : Bool) → (holeAt t h at ≡ false → Good t left at) → Does g g (cond (holeAt t h at) (say []) (Found reach (lookNode t left at .value)))
   item-else {g = g} left at reach f h good =
       by-test (holeAt t h at)

@@ -6,18 +6,16 @@ use mathlib.Core.List.{List, [], _∷_}
 use Prim.Native.Nat.{ℕ, zero, suc, _-_, _≤_, _<_}
 use native.Mathlib.Omega.{arith}
 use lib.Dec.{eqb}
-use borrow.Author.Tests.{ne-eqb}
 use Rattle.tree.specs.Tree.{Node, Items}
 use Rattle.tree.specs.Read.{byteAt}
 use Rattle.tree.specs.Look.{seen, seenAs, onward, lookItem, lookItems, lookNode}
 use Rattle.tree.specs.Answer.{Peeked}
-use Rattle.tree.proofs.Rows.{NoKey, before-keys}
 use Rattle.tree.proofs.Skipping as skipping
 use Rattle.lowering.specs.Parts.{is, each, any}
 use Rattle.lowering.specs.Patterns.{value, hasArrayRestOverObjectRest}
 use Rattle.lowering.proofs.All.{AllItems, weaker-items}
 use Rattle.lowering.proofs.Accepted.{NoHoles}
-use Rattle.lowering.proofs.Cases.{by-test, and-left, and-right, or-left, or-right}
+use Rattle.lowering.proofs.Cases.{and-left, and-right, or-left, or-right}
 use Rattle.sink.specs.Machine.{part}
 use Rattle.sink.specs.Machine.Event.{put}
 use Rattle.direct.specs.Events.{Place, Emit, emits}
@@ -27,15 +25,19 @@ use Rattle.direct.specs.Views.{eachDoes, emitsView, emitsProperty}
 use Rattle.direct.specs.Views.View.{replacing}
 use Rattle.direct.specs.Keys.{emitsExcluded}
 use Rattle.direct.specs.Objects.{overReached}
-use Rattle.direct.specs.Objects.Reach.{anywhere, straight, inArrays}
 use Rattle.direct.specs.Declared.{emitsKeyValue, emitsFound, emitsDeclarator}
 use Rattle.direct.specs.Assigned.{emitsInner}
 use Rattle.direct.specs.Moved.{outOf, behind}
 use Rattle.direct.proofs.Threads.{say-nothing}
-use Rattle.walk.specs.Modes as modes
+use Rattle.walk.specs.declared.modes.Deep.{Deep}
+use Rattle.walk.specs.declared.modes.Deep.the-variants.{Found, Reached}
+use Rattle.walk.specs.declared.modes.Mode.{Mode}
+use Rattle.walk.specs.declared.modes.Mode.the-variants as modes
+use Rattle.walk.specs.declared.reaches.Reach as reaches
+use Rattle.walk.specs.declared.views.View.the-variants.{Replacing}
 use Rattle.walk.specs.Run.{Going, Does}
 use Rattle.walk.specs.Whole.{holeAt, GoodItem, GoodItems, Good, Emitted}
-use Rattle.walk.specs.Turns.{viewOf, turnOf, deepMode, suits, holeOf, turnsOf, AllSuit, spotDeeds, propertyMode}
+use Rattle.walk.specs.Turns.{viewOf, reachOf, deepOf, turnOf, deepSuits, suits, holeOf, turnsOf, AllSuit, spotDeeds}
 use Rattle.walk.proofs.Running.{does-as}
 use Rattle.walk.proofs.Opened.{no-good, kind-byte}
 use Rattle.walk.proofs.Emits.{Onto, onto-start, onto-more, onto-end, is-hole, item-next, good-item, good-items}
@@ -44,73 +46,53 @@ use Rattle.direct.proofs.ListsInTurn.{items-each}
 -- ---- what a turn does for one item
 
 module _ (c : Place) (n : Node) where
-  pub turn-viewed : turnOf modes.viewed c n ≡ emitsView c replacing n
+  pub deep-found : deepOf Found c n ≡ emitsFound c n
+  unfolding deepOf
+  deep-found = refl
+
+  pub deep-reached : (r : reaches.Reach) → deepOf (Reached r) c n ≡ overReached (emitsInner c) (reachOf r) n
+  unfolding deepOf
+  deep-reached r = refl
+
+  pub turn-viewed : turnOf modes.Viewed c n ≡ emitsView c replacing n
   unfolding turnOf
   turn-viewed = refl
 
-  pub turn-property : turnOf modes.property c n ≡ emitsProperty c false replacing n
-  unfolding turnOf
-  turn-property = refl
-
-  pub turn-taken-property : turnOf modes.takenProperty c n ≡ emitsProperty c true replacing n
-  unfolding turnOf
-  turn-taken-property = refl
-
-  pub turn-excluded-key : turnOf modes.excludedKey c n ≡ emitsExcluded c n
-  unfolding turnOf
-  turn-excluded-key = refl
-
-  pub turn-key-value : turnOf modes.keyValue c n ≡ emitsKeyValue c n
-  unfolding turnOf
-  turn-key-value = refl
-
-  pub turn-found : turnOf modes.found c n ≡ emitsFound c n
-  unfolding turnOf
-  turn-found = refl
-
-  pub turn-value-found : turnOf modes.valueFound c n ≡ emitsFound c (value n)
-  unfolding turnOf
-  turn-value-found = refl
-
-  pub turn-declarator : turnOf modes.declarator c n ≡ emitsDeclarator c n
-  unfolding turnOf
-  turn-declarator = refl
-
-  pub turn-binding : turnOf modes.binding c n ≡ emits c (behind n)
-  unfolding turnOf
-  turn-binding = refl
-
-  pub turn-anywhere : turnOf modes.anywhere c n ≡ overReached (emitsInner c) anywhere n
-  unfolding turnOf
-  turn-anywhere = refl
-
-  pub turn-value-anywhere : turnOf modes.valueAnywhere c n ≡ overReached (emitsInner c) anywhere (value n)
-  unfolding turnOf
-  turn-value-anywhere = refl
-
-  pub turn-value-in-arrays : turnOf modes.valueInArrays c n ≡ overReached (emitsInner c) inArrays (value n)
-  unfolding turnOf
-  turn-value-in-arrays = refl
-
-  pub turn-value-straight : turnOf modes.valueStraight c n ≡ overReached (emitsInner c) straight (value n)
-  unfolding turnOf
-  turn-value-straight = refl
-
-  pub turn-moved-out : turnOf modes.movedOut c n ≡ emits c (outOf n)
+  pub turn-moved-out : turnOf modes.MovedOut c n ≡ emits c (outOf n)
   unfolding turnOf
   turn-moved-out = refl
 
-  pub turn-in-arrays : turnOf modes.inArrays c n ≡ overReached (emitsInner c) inArrays n
+  pub turn-below : (d : Deep) → turnOf (modes.Below d) c n ≡ deepOf d c n
   unfolding turnOf
-  turn-in-arrays = refl
+  turn-below d = refl
 
-  pub turn-straight : turnOf modes.straight c n ≡ overReached (emitsInner c) straight n
+  pub turn-property : (taken : Bool) → turnOf (modes.Property taken) c n ≡ emitsProperty c taken replacing n
   unfolding turnOf
-  turn-straight = refl
+  turn-property taken = refl
+
+  pub turn-excluded-key : turnOf modes.ExcludedKey c n ≡ emitsExcluded c n
+  unfolding turnOf
+  turn-excluded-key = refl
+
+  pub turn-key-value : turnOf modes.KeyValue c n ≡ emitsKeyValue c n
+  unfolding turnOf
+  turn-key-value = refl
+
+  pub turn-value : (d : Deep) → turnOf (modes.Value d) c n ≡ deepOf d c (value n)
+  unfolding turnOf
+  turn-value d = refl
+
+  pub turn-declarator : turnOf modes.Declarator c n ≡ emitsDeclarator c n
+  unfolding turnOf
+  turn-declarator = refl
+
+  pub turn-binding : turnOf modes.Binding c n ≡ emits c (behind n)
+  unfolding turnOf
+  turn-binding = refl
 
 -- ---- and for all items
 
-module _ (mode : ℕ) (c : Place) (f : Node → Emit) (one : (n : Node) → turnOf mode c n ≡ f n) where
+module _ (mode : Mode) (c : Place) (f : Node → Emit) (one : (n : Node) → turnOf mode c n ≡ f n) where
   -- holes write nothing
   turns-in : holeOf mode ≡ say [] → (ns : Items) → turnsOf mode c ns ≡ inTurn f ns
   unfolding turnsOf inTurn
@@ -133,67 +115,60 @@ module _ (mode : ℕ) (c : Place) (f : Node → Emit) (one : (n : Node) → turn
   turns-solid (Items.item n ns) w = ap₂ (λ (a b : Emit). a ▷ b) (one n) (turns-solid ns w)
 
 module _ (c : Place) (ns : Items) where
-  pub turns-viewed : turnsOf modes.viewed c ns ≡ eachDoes (emitsView c replacing) ns
+  pub turns-viewed : turnsOf modes.Viewed c ns ≡ eachDoes (emitsView c replacing) ns
   unfolding holeOf
-  turns-viewed = turns-each modes.viewed c (emitsView c replacing) (turn-viewed c) refl ns
+  turns-viewed = turns-each modes.Viewed c (emitsView c replacing) (turn-viewed c) refl ns
 
-  pub turns-property : NoHoles ns → turnsOf modes.property c ns ≡ eachDoes (emitsProperty c false replacing) ns
-  turns-property w = turns-solid modes.property c (emitsProperty c false replacing) (turn-property c) ns w
-
-  pub turns-taken-property : NoHoles ns → turnsOf modes.takenProperty c ns ≡ eachDoes (emitsProperty c true replacing) ns
-  turns-taken-property w = turns-solid modes.takenProperty c (emitsProperty c true replacing) (turn-taken-property c) ns w
-
-  pub turns-excluded-key : turnsOf modes.excludedKey c ns ≡ inTurn (emitsExcluded c) ns
+  pub turns-moved-out : turnsOf modes.MovedOut c ns ≡ emitsItems false c (each outOf ns)
   unfolding holeOf
-  turns-excluded-key = turns-in modes.excludedKey c (emitsExcluded c) (turn-excluded-key c) refl ns
+  turns-moved-out = turns-each modes.MovedOut c (λ q. emits c (outOf q)) (turn-moved-out c) refl ns ∙ sym (items-each c outOf ns)
 
-  pub turns-key-value : turnsOf modes.keyValue c ns ≡ inTurn (emitsKeyValue c) ns
+  -- the properties of an object in a view
+  pub turns-property : (taken : Bool) → NoHoles ns → turnsOf (modes.Property taken) c ns ≡ eachDoes (emitsProperty c taken replacing) ns
+  turns-property taken w = turns-solid (modes.Property taken) c (emitsProperty c taken replacing) (λ n. turn-property c n taken) ns w
+
+  pub turns-excluded-key : turnsOf modes.ExcludedKey c ns ≡ inTurn (emitsExcluded c) ns
   unfolding holeOf
-  turns-key-value = turns-in modes.keyValue c (emitsKeyValue c) (turn-key-value c) refl ns
+  turns-excluded-key = turns-in modes.ExcludedKey c (emitsExcluded c) (turn-excluded-key c) refl ns
 
-  pub turns-found : turnsOf modes.found c ns ≡ inTurn (emitsFound c) ns
+  pub turns-key-value : turnsOf modes.KeyValue c ns ≡ inTurn (emitsKeyValue c) ns
   unfolding holeOf
-  turns-found = turns-in modes.found c (emitsFound c) (turn-found c) refl ns
+  turns-key-value = turns-in modes.KeyValue c (emitsKeyValue c) (turn-key-value c) refl ns
 
-  pub turns-value-found : turnsOf modes.valueFound c ns ≡ inTurn (λ q. emitsFound c (value q)) ns
+  pub turns-below : (d : Deep) → turnsOf (modes.Below d) c ns ≡ inTurn (deepOf d c) ns
   unfolding holeOf
-  turns-value-found = turns-in modes.valueFound c (λ q. emitsFound c (value q)) (turn-value-found c) refl ns
+  turns-below d = turns-in (modes.Below d) c (deepOf d c) (λ n. turn-below c n d) refl ns
 
-  pub turns-declarator : turnsOf modes.declarator c ns ≡ inTurn (emitsDeclarator c) ns
+  pub turns-value : (d : Deep) → turnsOf (modes.Value d) c ns ≡ inTurn (λ q. deepOf d c (value q)) ns
   unfolding holeOf
-  turns-declarator = turns-in modes.declarator c (emitsDeclarator c) (turn-declarator c) refl ns
+  turns-value d = turns-in (modes.Value d) c (λ q. deepOf d c (value q)) (λ n. turn-value c n d) refl ns
 
-  pub turns-binding : NoHoles ns → turnsOf modes.binding c ns ≡ emitsItems false c (each behind ns)
-  turns-binding w = turns-solid modes.binding c (λ q. emits c (behind q)) (turn-binding c) ns w ∙ sym (items-each c behind ns)
+  pub turns-found : turnsOf (modes.Below Found) c ns ≡ inTurn (emitsFound c) ns
+  unfolding deepOf
+  turns-found = turns-below Found
 
-  pub turns-anywhere : turnsOf modes.anywhere c ns ≡ inTurn (overReached (emitsInner c) anywhere) ns
+  pub turns-value-found : turnsOf (modes.Value Found) c ns ≡ inTurn (λ q. emitsFound c (value q)) ns
+  unfolding deepOf
+  turns-value-found = turns-value Found
+
+  pub turns-reached : (r : reaches.Reach) → turnsOf (modes.Below (Reached r)) c ns ≡ inTurn (overReached (emitsInner c) (reachOf r)) ns
+  unfolding deepOf
+  turns-reached r = turns-below (Reached r)
+
+  pub turns-value-reached : (r : reaches.Reach) → turnsOf (modes.Value (Reached r)) c ns ≡ inTurn (λ q. overReached (emitsInner c) (reachOf r) (value q)) ns
+  unfolding deepOf
+  turns-value-reached r = turns-value (Reached r)
+
+  pub turns-declarator : turnsOf modes.Declarator c ns ≡ inTurn (emitsDeclarator c) ns
   unfolding holeOf
-  turns-anywhere = turns-in modes.anywhere c (overReached (emitsInner c) anywhere) (turn-anywhere c) refl ns
+  turns-declarator = turns-in modes.Declarator c (emitsDeclarator c) (turn-declarator c) refl ns
 
-  pub turns-value-anywhere : turnsOf modes.valueAnywhere c ns ≡ inTurn (λ q. overReached (emitsInner c) anywhere (value q)) ns
-  unfolding holeOf
-  turns-value-anywhere = turns-in modes.valueAnywhere c (λ q. overReached (emitsInner c) anywhere (value q)) (turn-value-anywhere c) refl ns
-
-  pub turns-value-in-arrays : turnsOf modes.valueInArrays c ns ≡ inTurn (λ q. overReached (emitsInner c) inArrays (value q)) ns
-  unfolding holeOf
-  turns-value-in-arrays = turns-in modes.valueInArrays c (λ q. overReached (emitsInner c) inArrays (value q)) (turn-value-in-arrays c) refl ns
-
-  pub turns-value-straight : turnsOf modes.valueStraight c ns ≡ inTurn (λ q. overReached (emitsInner c) straight (value q)) ns
-  unfolding holeOf
-  turns-value-straight = turns-in modes.valueStraight c (λ q. overReached (emitsInner c) straight (value q)) (turn-value-straight c) refl ns
-
-  pub turns-moved-out : turnsOf modes.movedOut c ns ≡ emitsItems false c (each outOf ns)
-  unfolding holeOf
-  turns-moved-out = turns-each modes.movedOut c (λ q. emits c (outOf q)) (turn-moved-out c) refl ns ∙ sym (items-each c outOf ns)
-
--- the properties of an object in a view
-pub turns-properties : (rest : Bool) (c : Place) (ns : Items) → NoHoles ns → turnsOf (propertyMode rest) c ns ≡ eachDoes (emitsProperty c rest replacing) ns
-turns-properties true c ns w = turns-taken-property c ns w
-turns-properties false c ns w = turns-property c ns w
+  pub turns-binding : NoHoles ns → turnsOf modes.Binding c ns ≡ emitsItems false c (each behind ns)
+  turns-binding w = turns-solid modes.Binding c (λ q. emits c (behind q)) (turn-binding c) ns w ∙ sym (items-each c behind ns)
 
 -- ---- which items suit a mode
 
-module _ (mode : ℕ) where
+module _ (mode : Mode) where
   -- any
   suit-all : ((n : Node) → suits mode n ≡ true) → (ns : Items) → AllSuit mode ns
   suit-all h Items.none = tt
@@ -201,248 +176,167 @@ module _ (mode : ℕ) where
   suit-all h (Items.item n ns) = (h n, suit-all h ns)
 
   -- those of a kind
-  suit-kind : (k : ℕ) → ((n : Node) → suits mode n ≡ is k n) → (ns : Items) → AllItems (λ q. is k q ≡ true) ns → AllSuit mode ns
-  suit-kind k h ns a = weaker-items (λ q. is k q ≡ true) (λ q. suits mode q ≡ true) (λ n e. h n ∙ e) ns a
+  suit-kind : (k : ℕ) → ((n : Node) → is k n ≡ true → suits mode n ≡ true) → (ns : Items) → AllItems (λ q. is k q ≡ true) ns → AllSuit mode ns
+  suit-kind k h ns a = weaker-items (λ q. is k q ≡ true) (λ q. suits mode q ≡ true) h ns a
 
 module _ (ns : Items) where
-  pub suit-viewed : AllSuit modes.viewed ns
+  pub suit-viewed : AllSuit modes.Viewed ns
   unfolding suits
-  suit-viewed = suit-all modes.viewed (λ n. refl) ns
+  suit-viewed = suit-all modes.Viewed (λ n. refl) ns
 
-  pub suit-found : AllSuit modes.found ns
+  pub suit-moved-out : AllSuit modes.MovedOut ns
   unfolding suits
-  suit-found = suit-all modes.found (λ n. refl) ns
+  suit-moved-out = suit-all modes.MovedOut (λ n. refl) ns
 
-  pub suit-moved-out : AllSuit modes.movedOut ns
-  unfolding suits
-  suit-moved-out = suit-all modes.movedOut (λ n. refl) ns
+  pub suit-found : AllSuit (modes.Below Found) ns
+  unfolding suits deepSuits
+  suit-found = suit-all (modes.Below Found) (λ n. refl) ns
 
   module _ (a : AllItems (λ q. is 35 q ≡ true) ns) where
-    pub suit-property : AllSuit modes.property ns
+    pub suit-property : (taken : Bool) → AllSuit (modes.Property taken) ns
     unfolding suits
-    suit-property = suit-kind modes.property 35 (λ n. refl) ns a
+    suit-property taken = suit-kind (modes.Property taken) 35 (λ n e. e) ns a
 
-    pub suit-taken-property : AllSuit modes.takenProperty ns
+    pub suit-excluded-key : AllSuit modes.ExcludedKey ns
     unfolding suits
-    suit-taken-property = suit-kind modes.takenProperty 35 (λ n. refl) ns a
+    suit-excluded-key = suit-kind modes.ExcludedKey 35 (λ n e. e) ns a
 
-    pub suit-excluded-key : AllSuit modes.excludedKey ns
+    pub suit-key-value : AllSuit modes.KeyValue ns
     unfolding suits
-    suit-excluded-key = suit-kind modes.excludedKey 35 (λ n. refl) ns a
+    suit-key-value = suit-kind modes.KeyValue 35 (λ n e. e) ns a
 
-    pub suit-key-value : AllSuit modes.keyValue ns
-    unfolding suits
-    suit-key-value = suit-kind modes.keyValue 35 (λ n. refl) ns a
+    pub suit-value-found : AllSuit (modes.Value Found) ns
+    unfolding suits deepSuits
+    suit-value-found = suit-kind (modes.Value Found) 35 (λ n e. rw e refl) ns a
 
-    pub suit-value-found : AllSuit modes.valueFound ns
-    unfolding suits
-    suit-value-found = suit-kind modes.valueFound 35 (λ n. refl) ns a
-
-    -- the properties of an object in a view
-    pub suit-properties : (rest : Bool) → AllSuit (propertyMode rest) ns
-    suit-properties true = suit-taken-property
-    suit-properties false = suit-property
-
-  pub suit-declarator : AllItems (λ q. is 5 q ≡ true) ns → AllSuit modes.declarator ns
+  pub suit-declarator : AllItems (λ q. is 5 q ≡ true) ns → AllSuit modes.Declarator ns
   unfolding suits
-  suit-declarator a = suit-kind modes.declarator 5 (λ n. refl) ns a
+  suit-declarator a = suit-kind modes.Declarator 5 (λ n e. e) ns a
 
   -- parameters, declarators
-  pub suit-binding : AllItems (λ q. is 15 q ≡ true) ns → AllSuit modes.binding ns
+  pub suit-binding : AllItems (λ q. is 15 q ≡ true) ns → AllSuit modes.Binding ns
   unfolding suits
-  suit-binding a = weaker-items (λ q. is 15 q ≡ true) (λ q. suits modes.binding q ≡ true) (λ n e. rw e refl) ns a
+  suit-binding a = suit-kind modes.Binding 15 (λ n e. rw e refl) ns a
 
-  pub suit-binding-declarators : AllItems (λ q. is 5 q ≡ true) ns → AllSuit modes.binding ns
+  pub suit-binding-declarators : AllItems (λ q. is 5 q ≡ true) ns → AllSuit modes.Binding ns
   unfolding suits
-  suit-binding-declarators a = weaker-items (λ q. is 5 q ≡ true) (λ q. suits modes.binding q ≡ true) (λ n e. rw e (or-true (is 15 n))) ns a
+  suit-binding-declarators a = suit-kind modes.Binding 5 (λ n e. rw e (or-true (is 15 n))) ns a
     where
       or-true : (b : Bool) → b || true ≡ true
       or-true true = refl
       or-true false = refl
 
 -- no object rest below an array rest
-pub suit-anywhere : (ns : Items) → any (λ n. hasArrayRestOverObjectRest n) ns ≡ false → AllSuit modes.anywhere ns
-unfolding suits any
-suit-anywhere Items.none h = tt
-suit-anywhere (Items.hole ns) h = suit-anywhere ns h
-suit-anywhere (Items.item n ns) h =
-    (ap not (or-left (hasArrayRestOverObjectRest n) (any (λ n. hasArrayRestOverObjectRest n) ns) h), suit-anywhere ns (or-right (hasArrayRestOverObjectRest n) (any (λ n. hasArrayRestOverObjectRest n) ns) h))
+pub suit-reached : (r : reaches.Reach) (ns : Items) → any (λ n. hasArrayRestOverObjectRest n) ns ≡ false → AllSuit (modes.Below (Reached r)) ns
+unfolding suits deepSuits any
+suit-reached r Items.none h = tt
+suit-reached r (Items.hole ns) h = suit-reached r ns h
+suit-reached r (Items.item n ns) h =
+    (ap not (or-left (hasArrayRestOverObjectRest n) (any (λ n. hasArrayRestOverObjectRest n) ns) h), suit-reached r ns (or-right (hasArrayRestOverObjectRest n) (any (λ n. hasArrayRestOverObjectRest n) ns) h))
 
 -- nor below that of a value
-clear-values : (ns : Items) → AllItems (λ q. is 35 q ≡ true) ns → any (λ q. hasArrayRestOverObjectRest (value q)) ns ≡ false
-    → AllItems (λ q. is 35 q && not (hasArrayRestOverObjectRest (value q)) ≡ true) ns
-unfolding any
-clear-values Items.none a h = tt
-clear-values (Items.hole ns) a h = clear-values ns a h
-clear-values (Items.item n ns) a h =
+pub suit-value-reached : (r : reaches.Reach) (ns : Items) → AllItems (λ q. is 35 q ≡ true) ns → any (λ q. hasArrayRestOverObjectRest (value q)) ns ≡ false → AllSuit (modes.Value (Reached r)) ns
+unfolding suits deepSuits any
+suit-value-reached r Items.none a h = tt
+suit-value-reached r (Items.hole ns) a h = suit-value-reached r ns a h
+suit-value-reached r (Items.item n ns) a h =
     let here : hasArrayRestOverObjectRest (value n) ≡ false = or-left (hasArrayRestOverObjectRest (value n)) (any (λ q. hasArrayRestOverObjectRest (value q)) ns) h in
-    (rw (a .0, here) refl, clear-values ns (a .1) (or-right (hasArrayRestOverObjectRest (value n)) (any (λ q. hasArrayRestOverObjectRest (value q)) ns) h))
-
-pub suit-value-anywhere : (ns : Items) → AllItems (λ q. is 35 q ≡ true) ns → any (λ q. hasArrayRestOverObjectRest (value q)) ns ≡ false → AllSuit modes.valueAnywhere ns
-unfolding suits
-suit-value-anywhere ns a h = clear-values ns a h
-
-pub suit-value-in-arrays : (ns : Items) → AllItems (λ q. is 35 q ≡ true) ns → any (λ q. hasArrayRestOverObjectRest (value q)) ns ≡ false → AllSuit modes.valueInArrays ns
-unfolding suits
-suit-value-in-arrays ns a h = clear-values ns a h
-
-pub suit-value-straight : (ns : Items) → AllItems (λ q. is 35 q ≡ true) ns → any (λ q. hasArrayRestOverObjectRest (value q)) ns ≡ false → AllSuit modes.valueStraight ns
-unfolding suits
-suit-value-straight ns a h = clear-values ns a h
+    (rw (a .0, here) refl, suit-value-reached r ns (a .1) (or-right (hasArrayRestOverObjectRest (value n)) (any (λ q. hasArrayRestOverObjectRest (value q)) ns) h))
 
 -- ---- the ways out of one turn
 
--- what is left for the last arm, where an item suits the mode
--- the modes of the other arms
-abbrev pub Others : ℕ → Type 0
-Others mode = NoKey (NoKey (NoKey (NoKey (NoKey Unit 1 2 mode) 4 1 mode) 6 2 mode) 9 3 mode) 13 4 mode
-
-pub deep-left : (mode : ℕ) (n : Node) → Others mode → suits mode n ≡ true → deepMode mode ≡ true
-unfolding suits deepMode
-deep-left mode n k s =
-    by-test (eqb mode modes.found) (λ e. rw e refl) (λ e8.
-    by-test (eqb mode modes.anywhere) (λ e. rw (e8, e) refl) (λ e12.
-    by-test (eqb mode modes.inArrays) (λ e. rw (e8, e12, e) refl) (λ e17.
-    by-test (eqb mode modes.straight) (λ e. rw (e8, e12, e17, e) refl) (λ e18.
-    let k9 = before-keys (NoKey (NoKey (NoKey (NoKey Unit 1 2 mode) 4 1 mode) 6 2 mode) 9 3 mode) 13 4 mode k in
-    let k6 = before-keys (NoKey (NoKey (NoKey Unit 1 2 mode) 4 1 mode) 6 2 mode) 9 3 mode k9 in
-    let k4 = before-keys (NoKey (NoKey Unit 1 2 mode) 4 1 mode) 6 2 mode k6 in
-    let k1 = before-keys (NoKey Unit 1 2 mode) 4 1 mode k4 in
-    let e16 : eqb mode modes.movedOut ≡ false = ne-eqb mode modes.movedOut (k .1) in
-    let e15 : eqb mode modes.valueStraight ≡ false = ne-eqb mode modes.valueStraight (k .0 .1) in
-    let e14 : eqb mode modes.valueInArrays ≡ false = ne-eqb mode modes.valueInArrays (k .0 .0 .1) in
-    let e13 : eqb mode modes.valueAnywhere ≡ false = ne-eqb mode modes.valueAnywhere (k .0 .0 .0 .1) in
-    let e11 : eqb mode modes.binding ≡ false = ne-eqb mode modes.binding (k9 .1) in
-    let e10 : eqb mode modes.declarator ≡ false = ne-eqb mode modes.declarator (k9 .0 .1) in
-    let e9 : eqb mode modes.valueFound ≡ false = ne-eqb mode modes.valueFound (k9 .0 .0 .1) in
-    let e7 : eqb mode modes.keyValue ≡ false = ne-eqb mode modes.keyValue (k6 .1) in
-    let e6 : eqb mode modes.excludedKey ≡ false = ne-eqb mode modes.excludedKey (k6 .0 .1) in
-    let e4 : eqb mode modes.takenProperty ≡ false = ne-eqb mode modes.takenProperty (k4 .1) in
-    let e2 : eqb mode modes.property ≡ false = ne-eqb mode modes.property (k1 .1) in
-    let e1 : eqb mode modes.viewed ≡ false = ne-eqb mode modes.viewed (k1 .0 .1) in
-    absurd (false≢true (rw (e1, e8, e16, e12, e17, e18, e2, e4, e6, e7, e9, e13, e14, e15, e10, e11) at s))))))
-
 module _ (t : List ℕ) where
-  binds : (d at : ℕ) → Good t d at → suits modes.binding (lookNode t d at .value) ≡ true → eqb (byteAt t at) 15 || eqb (byteAt t at) 5 ≡ true
+  binds : (d at : ℕ) → Good t d at → suits modes.Binding (lookNode t d at .value) ≡ true → eqb (byteAt t at) 15 || eqb (byteAt t at) 5 ≡ true
   unfolding suits lookNode is
   binds zero at good s = no-good t at good
   binds (suc d) at good s = s
 
   -- what a turn promises of the item at a position: the walk goes on at q
-  abbrev pub Turned : ℕ → Place → ℕ → Bool → ℕ → ℕ → Going → Going → Type 0
+  abbrev pub Turned : Mode → Place → ℕ → Bool → ℕ → ℕ → Going → Going → Type 0
   Turned mode c d h at q g g′ =
       GoodItem t (lookNode t d) (Good t d) false h at → (holeAt t h at ≡ false → suits mode (lookNode t d at .value) ≡ true)
       → (q ≡ lookItem t (lookNode t d) h at .next) × Does g g′ (spotDeeds t (lookNode t d) mode c h at)
 
   -- and all turns, of a list whose items begin at a position
-  abbrev pub Sequenced : ℕ → Place → ℕ → Bool → ℕ → ℕ → ℕ → Going → Going → Type 0
+  abbrev pub Sequenced : Mode → Place → ℕ → Bool → ℕ → ℕ → ℕ → Going → Going → Type 0
   Sequenced mode c d h n at q g g′ =
       GoodItems t (lookNode t d) (Good t d) false h n at → AllSuit mode (lookItems t (lookNode t d) h n at .value)
       → (q ≡ lookItems t (lookNode t d) h n at .next) × Does g g′ (turnsOf mode c (lookItems t (lookNode t d) h n at .value))
 
   -- the same of what is equal
-  pub sequenced-as : {g g′ : Going} (h : Bool) (mode mode₁ : ℕ) (c c₁ : Place) (d d₁ n n₁ at at₁ q : ℕ) → mode₁ ≡ mode → c₁ ≡ c → d₁ ≡ d → n₁ ≡ n → at₁ ≡ at
+  pub sequenced-as : {g g′ : Going} (h : Bool) (mode mode₁ : Mode) (c c₁ : Place) (d d₁ n n₁ at at₁ q : ℕ) → mode₁ ≡ mode → c₁ ≡ c → d₁ ≡ d → n₁ ≡ n → at₁ ≡ at
       → Sequenced mode₁ c₁ d₁ h n₁ at₁ q g g′ → Sequenced mode c d h n at q g g′
   sequenced-as h mode mode₁ c c₁ d d₁ n n₁ at at₁ q a b e f i k = rw (← a, ← b, ← e, ← f, ← i) k
 
   module _ (c : Place) (d : ℕ) (h : Bool) (at : ℕ) where
-    spot-hole : (mode : ℕ) → holeAt t h at ≡ true → holeOf mode ≡ spotDeeds t (lookNode t d) mode c h at
+    spot-hole : (mode : Mode) → holeAt t h at ≡ true → holeOf mode ≡ spotDeeds t (lookNode t d) mode c h at
     unfolding spotDeeds
     spot-hole mode e = rw e refl
 
-    spot-node : (mode : ℕ) → holeAt t h at ≡ false → turnOf mode c (lookNode t d at .value) ≡ spotDeeds t (lookNode t d) mode c h at
+    spot-node : (mode : Mode) → holeAt t h at ≡ false → turnOf mode c (lookNode t d at .value) ≡ spotDeeds t (lookNode t d) mode c h at
     unfolding spotDeeds
     spot-node mode e = rw e refl
 
-    pub turned-hole : {g g′ : Going} (mode n q : ℕ) → h ≡ true → Peeked t at n → n ≡ 0 → q ≡ onward t at 1 → (part at (onward t at 1) t ≡ 0 ∷ [] → Does g g′ (holeOf mode))
+    pub turned-hole : {g g′ : Going} (mode : Mode) (n q : ℕ) → h ≡ true → Peeked t at n → n ≡ 0 → q ≡ onward t at 1 → (part at (onward t at 1) t ≡ 0 ∷ [] → Does g g′ (holeOf mode))
         → Turned mode c d h at q g g′
     turned-hole mode n q a p z e k good suit =
         let b : holeAt t h at ≡ true = is-hole t h at n a p z in
         (e ∙ skipping.item-hole t (lookNode t d) h at n a p z, does-as (k (good .hole b)) (spot-hole mode b))
 
     -- anything else, by what the mode does
-    turned-by : {g g′ : Going} (mode m q : ℕ) (e : Emit) → holeAt t h at ≡ false → mode ≡ m → e ≡ turnOf m c (lookNode t d at .value)
+    turned-by : {g g′ : Going} (mode m : Mode) (q : ℕ) (e : Emit) → holeAt t h at ≡ false → mode ≡ m → e ≡ turnOf m c (lookNode t d at .value)
         → (Good t d at → suits m (lookNode t d at .value) ≡ true → (q ≡ lookNode t d at .next) × Does g g′ e) → Turned mode c d h at q g g′
     turned-by mode m q e b a f k good suit =
         let n : Node = lookNode t d at .value in
-        let r = k (good .node b) (ap (λ (i : ℕ). suits i n) (sym a) ∙ suit b) in
-        (r .0 ∙ item-next t (lookNode t d) h at b, does-as (r .1) (f ∙ ap (λ (i : ℕ). turnOf i c n) (sym a) ∙ spot-node mode b))
+        let r = k (good .node b) (ap (λ (i : Mode). suits i n) (sym a) ∙ suit b) in
+        (r .0 ∙ item-next t (lookNode t d) h at b, does-as (r .1) (f ∙ ap (λ (i : Mode). turnOf i c n) (sym a) ∙ spot-node mode b))
 
-    -- what the value of a property promises, by the mode of the pattern
-    abbrev pub Valued : ℕ → ℕ → Going → Going → Type 0
-    Valued m q g g′ =
-        byteAt t at ≡ 35 → Good t d at → deepMode m ≡ true → suits m (value (lookNode t d at .value)) ≡ true
-        → (q ≡ lookNode t d at .next) × Does g g′ (turnOf m c (value (lookNode t d at .value)))
-
-    module _ {g g′ : Going} (mode q : ℕ) (b : holeAt t h at ≡ false) where
-      pub turned-viewed : mode ≡ modes.viewed → Emitted t d at q g g′ (emitsView c (viewOf modes.replacingView)) → Turned mode c d h at q g g′
+    module _ {g g′ : Going} (mode : Mode) (q : ℕ) (b : holeAt t h at ≡ false) where
+      pub turned-viewed : mode ≡ modes.Viewed → Emitted t d at q g g′ (emitsView c (viewOf Replacing)) → Turned mode c d h at q g g′
       unfolding viewOf
-      turned-viewed e k = turned-by mode modes.viewed q _ b e (sym (turn-viewed c _)) (λ good s. k good)
+      turned-viewed e k = turned-by mode modes.Viewed q _ b e (sym (turn-viewed c _)) (λ good s. k good)
 
-      pub turned-property : mode ≡ modes.property → (byteAt t at ≡ 35 → Emitted t d at q g g′ (emitsProperty c false replacing)) → Turned mode c d h at q g g′
-      unfolding viewOf suits
-      turned-property e k = turned-by mode modes.property q _ b e (sym (turn-property c _)) (λ good s. k (kind-byte t d at 35 good s) good)
+      pub turned-moved-out : mode ≡ modes.MovedOut → Emitted t d at q g g′ (λ p. emits c (outOf p)) → Turned mode c d h at q g g′
+      turned-moved-out e k = turned-by mode modes.MovedOut q _ b e (sym (turn-moved-out c _)) (λ good s. k good)
 
-      pub turned-taken-property : mode ≡ modes.takenProperty → (byteAt t at ≡ 35 → Emitted t d at q g g′ (emitsProperty c true replacing)) → Turned mode c d h at q g g′
-      unfolding viewOf suits
-      turned-taken-property e k = turned-by mode modes.takenProperty q _ b e (sym (turn-taken-property c _)) (λ good s. k (kind-byte t d at 35 good s) good)
-
-      pub turned-excluded-key : mode ≡ modes.excludedKey → (byteAt t at ≡ 35 → Emitted t d at q g g′ (emitsExcluded c)) → Turned mode c d h at q g g′
-      unfolding suits
-      turned-excluded-key e k = turned-by mode modes.excludedKey q _ b e (sym (turn-excluded-key c _)) (λ good s. k (kind-byte t d at 35 good s) good)
-
-      pub turned-key-value : mode ≡ modes.keyValue → (byteAt t at ≡ 35 → Emitted t d at q g g′ (emitsKeyValue c)) → Turned mode c d h at q g g′
-      unfolding suits
-      turned-key-value e k = turned-by mode modes.keyValue q _ b e (sym (turn-key-value c _)) (λ good s. k (kind-byte t d at 35 good s) good)
-
-      pub turned-value-found : mode ≡ modes.valueFound → Valued modes.found q g g′ → Turned mode c d h at q g g′
-      unfolding suits deepMode
-      turned-value-found e k =
-          turned-by mode modes.valueFound q _ b e (turn-found c _ ∙ sym (turn-value-found c _)) (λ good s. k (kind-byte t d at 35 good s) good refl refl)
-
-      pub turned-declarator : mode ≡ modes.declarator → (byteAt t at ≡ 5 → Emitted t d at q g g′ (emitsDeclarator c)) → Turned mode c d h at q g g′
-      unfolding suits
-      turned-declarator e k = turned-by mode modes.declarator q _ b e (sym (turn-declarator c _)) (λ good s. k (kind-byte t d at 5 good s) good)
-
-      pub turned-binding : mode ≡ modes.binding → (eqb (byteAt t at) 15 || eqb (byteAt t at) 5 ≡ true → Emitted t d at q g g′ (λ n. emits c (behind n))) → Turned mode c d h at q g g′
-      turned-binding e k = turned-by mode modes.binding q _ b e (sym (turn-binding c _)) (λ good s. k (binds d at good s) good)
-
-      pub turned-value-anywhere : mode ≡ modes.valueAnywhere → Valued modes.anywhere q g g′ → Turned mode c d h at q g g′
-      unfolding suits deepMode
-      turned-value-anywhere e k =
-          turned-by mode modes.valueAnywhere q _ b e (turn-anywhere c _ ∙ sym (turn-value-anywhere c _))
-          (λ good s.
-          let n : Node = lookNode t d at .value in
-          k (kind-byte t d at 35 good (and-left (is 35 n) (not (hasArrayRestOverObjectRest (value n))) s)) good refl (and-right (is 35 n) (not (hasArrayRestOverObjectRest (value n))) s))
-
-      pub turned-value-in-arrays : mode ≡ modes.valueInArrays → Valued modes.inArrays q g g′ → Turned mode c d h at q g g′
-      unfolding suits deepMode
-      turned-value-in-arrays e k =
-          turned-by mode modes.valueInArrays q _ b e (turn-in-arrays c _ ∙ sym (turn-value-in-arrays c _))
-          (λ good s.
-          let n : Node = lookNode t d at .value in
-          k (kind-byte t d at 35 good (and-left (is 35 n) (not (hasArrayRestOverObjectRest (value n))) s)) good refl (and-right (is 35 n) (not (hasArrayRestOverObjectRest (value n))) s))
-
-      pub turned-value-straight : mode ≡ modes.valueStraight → Valued modes.straight q g g′ → Turned mode c d h at q g g′
-      unfolding suits deepMode
-      turned-value-straight e k =
-          turned-by mode modes.valueStraight q _ b e (turn-straight c _ ∙ sym (turn-value-straight c _))
-          (λ good s.
-          let n : Node = lookNode t d at .value in
-          k (kind-byte t d at 35 good (and-left (is 35 n) (not (hasArrayRestOverObjectRest (value n))) s)) good refl (and-right (is 35 n) (not (hasArrayRestOverObjectRest (value n))) s))
-
-      pub turned-moved-out : mode ≡ modes.movedOut → Emitted t d at q g g′ (λ p. emits c (outOf p)) → Turned mode c d h at q g g′
-      turned-moved-out e k = turned-by mode modes.movedOut q _ b e (sym (turn-moved-out c _)) (λ good s. k good)
-
-      pub turned-deep : Others mode
-          → (Good t d at → deepMode mode ≡ true → suits mode (lookNode t d at .value) ≡ true
-          → (q ≡ lookNode t d at .next) × Does g g′ (turnOf mode c (lookNode t d at .value)))
+      pub turned-below : (m : Deep) → mode ≡ modes.Below m
+          → (Good t d at → deepSuits m (lookNode t d at .value) ≡ true → (q ≡ lookNode t d at .next) × Does g g′ (deepOf m c (lookNode t d at .value)))
           → Turned mode c d h at q g g′
-      turned-deep n k = turned-by mode mode q _ b refl refl (λ good s. k good (deep-left mode _ n s) s)
+      unfolding suits
+      turned-below m e k = turned-by mode (modes.Below m) q _ b e (sym (turn-below c _ m)) k
+
+      pub turned-property : (taken : Bool) → mode ≡ modes.Property taken → (byteAt t at ≡ 35 → Emitted t d at q g g′ (emitsProperty c taken replacing)) → Turned mode c d h at q g g′
+      unfolding suits
+      turned-property taken e k = turned-by mode (modes.Property taken) q _ b e (sym (turn-property c _ taken)) (λ good s. k (kind-byte t d at 35 good s) good)
+
+      pub turned-excluded-key : mode ≡ modes.ExcludedKey → (byteAt t at ≡ 35 → Emitted t d at q g g′ (emitsExcluded c)) → Turned mode c d h at q g g′
+      unfolding suits
+      turned-excluded-key e k = turned-by mode modes.ExcludedKey q _ b e (sym (turn-excluded-key c _)) (λ good s. k (kind-byte t d at 35 good s) good)
+
+      pub turned-key-value : mode ≡ modes.KeyValue → (byteAt t at ≡ 35 → Emitted t d at q g g′ (emitsKeyValue c)) → Turned mode c d h at q g g′
+      unfolding suits
+      turned-key-value e k = turned-by mode modes.KeyValue q _ b e (sym (turn-key-value c _)) (λ good s. k (kind-byte t d at 35 good s) good)
+
+      pub turned-value : (m : Deep) → mode ≡ modes.Value m
+          → (byteAt t at ≡ 35 → Good t d at → deepSuits m (value (lookNode t d at .value)) ≡ true → (q ≡ lookNode t d at .next) × Does g g′ (deepOf m c (value (lookNode t d at .value))))
+          → Turned mode c d h at q g g′
+      unfolding suits
+      turned-value m e k =
+          turned-by mode (modes.Value m) q _ b e (sym (turn-value c _ m))
+          (λ good s.
+          let n : Node = lookNode t d at .value in
+          k (kind-byte t d at 35 good (and-left (is 35 n) (deepSuits m (value n)) s)) good (and-right (is 35 n) (deepSuits m (value n)) s))
+
+      pub turned-declarator : mode ≡ modes.Declarator → (byteAt t at ≡ 5 → Emitted t d at q g g′ (emitsDeclarator c)) → Turned mode c d h at q g g′
+      unfolding suits
+      turned-declarator e k = turned-by mode modes.Declarator q _ b e (sym (turn-declarator c _)) (λ good s. k (kind-byte t d at 5 good s) good)
+
+      pub turned-binding : mode ≡ modes.Binding → (eqb (byteAt t at) 15 || eqb (byteAt t at) 5 ≡ true → Emitted t d at q g g′ (λ n. emits c (behind n))) → Turned mode c d h at q g g′
+      turned-binding e k = turned-by mode modes.Binding q _ b e (sym (turn-binding c _)) (λ good s. k (binds d at good s) good)
 
   -- ---- all turns, one after another
 
-  module _ (mode : ℕ) (c : Place) (d : ℕ) where
+  module _ (mode : Mode) (c : Place) (d : ℕ) where
     -- an item or a hole, and what is behind it
     turns-first : (h : Bool) (at : ℕ) (ns : Items) → turnsOf mode c (lookItem t (lookNode t d) h at .value ns) ≡ spotDeeds t (lookNode t d) mode c h at ▷ turnsOf mode c ns
     unfolding lookItem spotDeeds holeAt turnsOf

@@ -6,7 +6,6 @@ use mathlib.Core.List.{List, [], _∷_}
 use Prim.Native.Nat.{ℕ, zero, suc, _+_, _-_, _/_, _%_, _<_}
 use native.Mathlib.Omega.{arith}
 use lib.Dec.{eqb}
-use borrow.Author.Tests.{ne-eqb}
 use Rattle.tree.specs.Tree.{Node, Items, wideBytes, count}
 use Rattle.tree.specs.Read.{byteAt, wideAt}
 use Rattle.tree.specs.Look.{Seen, onward, lookItems, lookNode}
@@ -21,24 +20,27 @@ use Rattle.direct.specs.Views.{View, takes, objectRestAt, eachDoes, saysCell, e
 use Rattle.direct.specs.Views.View.{replacing, taking}
 use Rattle.direct.proofs.Threads.{then-assoc, say-puts}
 use Rattle.direct.proofs.PatternViews.{view-object, view-replaced, view-rest, view-array, view-array-rest, view-default, view-leaf, view-property}
-use Rattle.walk.specs.Modes as modes
+use Rattle.walk.specs.declared.modes.Mode.{Mode}
+use Rattle.walk.specs.declared.modes.Mode.the-variants as modes
+use Rattle.walk.specs.declared.views.View as views
+use Rattle.walk.specs.declared.views.View.the-variants.{Replacing, Taking}
 use Rattle.walk.specs.Run.{Going, Does}
 use Rattle.walk.specs.Whole.{Ruled, Emitted}
-use Rattle.walk.specs.Turns.{viewOf, propertyMode}
+use Rattle.walk.specs.Turns.{viewOf}
 use Rattle.walk.proofs.Running.{does-then, does-as, does-to}
 use Rattle.walk.proofs.SpreadArguments.{does-from}
 use Rattle.walk.proofs.Opened.{look-solid, ObjectOpen, ArrayOpen, leaf-here, no-good, object-open, array-open, property-open, default-open}
-use Rattle.walk.proofs.Turning.{Sequenced, sequenced-as, turns-viewed, turns-properties, suit-viewed, suit-properties}
+use Rattle.walk.proofs.Turning.{Sequenced, sequenced-as, turns-viewed, turns-property, suit-viewed, suit-property}
 
--- ---- views by number
+-- ---- views
 
-pub replaces-not : (v : ℕ) → v ≡ modes.takingView → false ≡ not (takes (viewOf v))
+pub replaces-yes : (v : views.View) → v ≡ Replacing → true ≡ not (takes (viewOf v))
+unfolding viewOf
+replaces-yes v e = rw e refl
+
+pub replaces-not : (v : views.View) → v ≡ Taking → false ≡ not (takes (viewOf v))
 unfolding viewOf
 replaces-not v e = rw e refl
-
-pub replaces-else : (v : ℕ) → (v ≡ modes.takingView → ⊥) → true ≡ not (takes (viewOf v))
-unfolding viewOf
-replaces-else v e = rw (ne-eqb v 2 e) refl
 
 not-takes : (v : View) → true ≡ not (takes v) → v ≡ replacing
 not-takes replacing e = refl
@@ -49,7 +51,7 @@ does-takes replacing e = absurd (false≢true e)
 does-takes taking e = refl
 
 -- the view of values
-one-view : viewOf modes.replacingView ≡ replacing
+one-view : viewOf Replacing ≡ replacing
 unfolding viewOf
 one-view = refl
 
@@ -77,15 +79,15 @@ module _ (t : List ℕ) where
   -- ---- a pattern by its kind
 
   -- neither an object, an array nor a default: as it stands
-  pub view-other : {g g′ : Going} (c : Place) (d at k q v : ℕ) → Peeked t at k → (k ≡ 34 → ⊥) → (k ≡ 36 → ⊥) → (k ≡ 37 → ⊥)
+  pub view-other : {g g′ : Going} (c : Place) (d at k q : ℕ) (v : views.View) → Peeked t at k → (k ≡ 34 → ⊥) → (k ≡ 36 → ⊥) → (k ≡ 37 → ⊥)
       → Ruled t d at q g g′ (emits c) → Emitted t d at q g g′ (emitsView c (viewOf v))
   view-other c zero at k q v p a b e r good = no-good t at good
   view-other c (suc d) at k q v p a b e r good = (r .0, does-as (r .1 good) (sym (view-leaf c (viewOf v) (lookNode t (suc d) at .value) (leaf-here t d at k (p .value) a b e))))
 
   -- a default: its head, its pattern, its value
-  pub view-37 : {g g₁ g₂ g₃ : Going} (c c₁ c₂ : Place) (d d₁ d₂ at k s u w r v : ℕ) → Peeked t at k → k ≡ 37 → s ≡ onward t at 2 → u ≡ s
+  pub view-37 : {g g₁ g₂ g₃ : Going} (c c₁ c₂ : Place) (d d₁ d₂ at k s u w r : ℕ) (v : views.View) → Peeked t at k → k ≡ 37 → s ≡ onward t at 2 → u ≡ s
       → c₁ ≡ inner c → d₁ ≡ d - 1 → c₂ ≡ inner c → d₂ ≡ d - 1
-      → Does g g₁ (say (puts (part at s t))) → Emitted t d₁ u w g₁ g₂ (emitsView c₁ (viewOf modes.replacingView)) → Ruled t d₂ w r g₂ g₃ (emits c₂)
+      → Does g g₁ (say (puts (part at s t))) → Emitted t d₁ u w g₁ g₂ (emitsView c₁ (viewOf Replacing)) → Ruled t d₂ w r g₂ g₃ (emits c₂)
       → Emitted t d at r g g₃ (emitsView c (viewOf v))
   view-37 c c₁ c₂ zero d₁ d₂ at k s u w r v p e f h i j m n a b nd good = no-good t at good
   view-37 c c₁ c₂ (suc d) d₁ d₂ at k s u w r v p e f h i j m n a b nd good =
@@ -94,7 +96,7 @@ module _ (t : List ℕ) where
       let x₂ : d₂ ≡ d = omega arith in
       let left : Node = lookNode t d (onward t at 2) .value in
       let right : Node = lookNode t d (lookNode t d (onward t at 2) .next) .value in
-      let y = emitted-as (λ c. emitsView c (viewOf modes.replacingView)) (inner c) c₁ d d₁ (onward t at 2) u w i x (h ∙ f) b (o .left) in
+      let y = emitted-as (λ c. emitsView c (viewOf Replacing)) (inner c) c₁ d d₁ (onward t at 2) u w i x (h ∙ f) b (o .left) in
       let z = ruled-as (λ c. emits c) (inner c) c₂ d d₂ (lookNode t d (onward t at 2) .next) w r m x₂ (y .0) nd in
       let hd : say (puts (part at s t)) ≡ say (puts (37 ∷ 3 ∷ [])) = ap (λ (q : ℕ). say (puts (part at q t))) f ∙ ap (λ (bs : List ℕ). say (puts bs)) (o .head) in (
         z .0 ∙ sym (ap (λ (n : Seen Node). n .next) (o .whole)),
@@ -107,7 +109,7 @@ module _ (t : List ℕ) where
   -- ---- objects
 
   -- one with rest, replaced
-  pub object-replaced : {g g₁ g₂ : Going} (c : Place) (d at s z v : ℕ) (b f : Bool) → b ≡ eqb (byteAt t (onward t at 1) / 2 % 2) 1 → b ≡ true → f ≡ not (takes (viewOf v)) → f ≡ true
+  pub object-replaced : {g g₁ g₂ : Going} (c : Place) (d at s z : ℕ) (v : views.View) (b f : Bool) → b ≡ eqb (byteAt t (onward t at 1) / 2 % 2) 1 → b ≡ true → f ≡ not (takes (viewOf v)) → f ≡ true
       → s ≡ lookNode t d at .next → z ≡ s → g₂ ≡ g₁ → Does g g₁ (say (does (temporary at 1) ∷ []))
       → byteAt t at ≡ 34 → Emitted t d at z g g₂ (emitsView c (viewOf v))
   object-replaced c zero at s z v b f e h i j k l m a e34 good = no-good t at good
@@ -124,8 +126,8 @@ module _ (t : List ℕ) where
       )
 
   -- the head and the properties of any other
-  object-written : {g g₁ g₂ g₃ g₄ : Going} (c c₁ : Place) (d d₁ at q n f x y mode : ℕ) (rest : Bool) → ObjectOpen t d at
-      → q ≡ onward t at 2 → Wide t q n → f ≡ onward t q 2 → x ≡ f → c₁ ≡ inner c → d₁ ≡ d → mode ≡ propertyMode rest → g₃ ≡ g₂
+  object-written : {g g₁ g₂ g₃ g₄ : Going} (c c₁ : Place) (d d₁ at q n f x y : ℕ) (mode : Mode) (rest : Bool) → ObjectOpen t d at
+      → q ≡ onward t at 2 → Wide t q n → f ≡ onward t q 2 → x ≡ f → c₁ ≡ inner c → d₁ ≡ d → mode ≡ modes.Property rest → g₃ ≡ g₂
       → Does g g₁ (say (puts (34 ∷ 1 ∷ []))) → (n < 65536 → Does g₁ g₂ (say (puts (wideBytes n)))) → Sequenced t mode c₁ d₁ false n x y g₃ g₄
       → (y ≡ lookItems t (lookNode t d) false (wideAt t (onward t at 2)) (onward t (onward t at 2) 2) .next)
       × Does g g₄ (say (puts (34 ∷ 1 ∷ wideBytes (count (lookItems t (lookNode t d) false (wideAt t (onward t at 2)) (onward t (onward t at 2) 2) .value))))
@@ -135,10 +137,10 @@ module _ (t : List ℕ) where
       let ff : x ≡ onward t (onward t at 2) 2 = ex ∙ ef ∙ ap (λ (z : ℕ). onward t z 2) eq in
       let ps : Items = lookItems t (lookNode t d) false (wideAt t (onward t at 2)) (onward t (onward t at 2) 2) .value in
       let small : n < 65536 = subst (λ (z : ℕ). z < 65536) (sym nn) (o .list .small) in
-      let r = sequenced-as t false (propertyMode rest) mode (inner c) c₁ d d₁ (wideAt t (onward t at 2)) n (onward t (onward t at 2) 2) x y em ec ed nn ff sq
-      (o .list .good) (suit-properties ps (o .properties) rest) in
+      let r = sequenced-as t false (modes.Property rest) mode (inner c) c₁ d d₁ (wideAt t (onward t at 2)) n (onward t (onward t at 2) 2) x y em ec ed nn ff sq
+      (o .list .good) (suit-property ps (o .properties) rest) in
       let each : Emit = eachDoes (emitsProperty (inner c) rest replacing) ps in
-      let turns = turns-properties rest (inner c) ps (look-solid t (lookNode t d) (wideAt t (onward t at 2)) (onward t (onward t at 2) 2)) in (
+      let turns = turns-property (inner c) ps rest (look-solid t (lookNode t d) (wideAt t (onward t at 2)) (onward t (onward t at 2) 2)) in (
         r .0,
         does-as (does-then a (does-then (b small) (does-from eg (does-as (r .1) turns))))
             (sym (then-assoc (say (puts (34 ∷ 1 ∷ []))) (say (puts (wideBytes n))) each)
@@ -147,8 +149,8 @@ module _ (t : List ℕ) where
       )
 
   -- one without rest
-  pub object-plain : {g g₁ g₂ g₃ g₄ : Going} (c c₁ : Place) (d d₁ at q n f x y v mode : ℕ) (rest : Bool) → rest ≡ eqb (byteAt t (onward t at 1) / 2 % 2) 1 → rest ≡ false
-      → q ≡ onward t at 2 → Wide t q n → f ≡ onward t q 2 → x ≡ f → c₁ ≡ inner c → d₁ ≡ d - 1 → mode ≡ propertyMode rest → g₃ ≡ g₂
+  pub object-plain : {g g₁ g₂ g₃ g₄ : Going} (c c₁ : Place) (d d₁ at q n f x y : ℕ) (v : views.View) (mode : Mode) (rest : Bool) → rest ≡ eqb (byteAt t (onward t at 1) / 2 % 2) 1 → rest ≡ false
+      → q ≡ onward t at 2 → Wide t q n → f ≡ onward t q 2 → x ≡ f → c₁ ≡ inner c → d₁ ≡ d - 1 → mode ≡ modes.Property rest → g₃ ≡ g₂
       → Does g g₁ (say (puts (34 ∷ 1 ∷ []))) → (n < 65536 → Does g₁ g₂ (say (puts (wideBytes n)))) → Sequenced t mode c₁ d₁ false n x y g₃ g₄
       → byteAt t at ≡ 34 → Emitted t d at y g g₄ (emitsView c (viewOf v))
   object-plain c c₁ zero d₁ at q n f x y v mode rest er h eq w ef ex ec ed em eg a b sq e34 good = no-good t at good
@@ -166,8 +168,8 @@ module _ (t : List ℕ) where
       )
 
   -- one with rest, without it
-  pub object-rest : {g g₁ g₂ g₃ g₄ g₅ : Going} (c c₁ : Place) (d d₁ e at q n f x y s z v mode : ℕ) (rest : Bool) → rest ≡ eqb (byteAt t (onward t at 1) / 2 % 2) 1 → rest ≡ true → not (takes (viewOf v)) ≡ false
-      → q ≡ onward t at 2 → Wide t q n → f ≡ onward t q 2 → x ≡ f → c₁ ≡ inner c → d₁ ≡ d - 1 → e ≡ d - 1 → mode ≡ propertyMode rest → g₃ ≡ g₂
+  pub object-rest : {g g₁ g₂ g₃ g₄ g₅ : Going} (c c₁ : Place) (d d₁ e at q n f x y s z : ℕ) (v : views.View) (mode : Mode) (rest : Bool) → rest ≡ eqb (byteAt t (onward t at 1) / 2 % 2) 1 → rest ≡ true → not (takes (viewOf v)) ≡ false
+      → q ≡ onward t at 2 → Wide t q n → f ≡ onward t q 2 → x ≡ f → c₁ ≡ inner c → d₁ ≡ d - 1 → e ≡ d - 1 → mode ≡ modes.Property rest → g₃ ≡ g₂
       → Does g g₁ (say (puts (34 ∷ 1 ∷ []))) → (n < 65536 → Does g₁ g₂ (say (puts (wideBytes n)))) → Sequenced t mode c₁ d₁ false n x y g₃ g₄
       → s ≡ lookNode t e y .next → z ≡ s → g₅ ≡ g₄
       → byteAt t at ≡ 34 → Emitted t d at z g g₅ (emitsView c (viewOf v))
@@ -192,7 +194,7 @@ module _ (t : List ℕ) where
   module _ (c c₁ : Place) (d d₁ at q n f x y : ℕ) where
     -- the head and the items
     array-written : {g g₁ g₂ : Going} (o : ArrayOpen t d at) → q ≡ onward t at 2 → Wide t q n → f ≡ onward t q 2 → x ≡ f → c₁ ≡ inner c → d₁ ≡ d
-        → Does g g₁ (say (puts (part at f t))) → Sequenced t modes.viewed c₁ d₁ true n x y g₁ g₂
+        → Does g g₁ (say (puts (part at f t))) → Sequenced t modes.Viewed c₁ d₁ true n x y g₁ g₂
         → (y ≡ lookItems t (lookNode t d) true (wideAt t (onward t at 2)) (onward t (onward t at 2) 2) .next)
         × Does g g₂ (say (puts (36 ∷ cond (eqb (byteAt t (onward t at 1) / 2 % 2) 1) 3 1 ∷ wideBytes (count (lookItems t (lookNode t d) true (wideAt t (onward t at 2)) (onward t (onward t at 2) 2) .value))))
         ▷ eachDoes (emitsView (inner c) replacing) (lookItems t (lookNode t d) true (wideAt t (onward t at 2)) (onward t (onward t at 2) 2) .value))
@@ -201,7 +203,7 @@ module _ (t : List ℕ) where
         let nn : n ≡ wideAt t (onward t at 2) = w .value ∙ ap (λ (z : ℕ). wideAt t z) eq in
         let ff : f ≡ onward t (onward t at 2) 2 = ef ∙ ap (λ (z : ℕ). onward t z 2) eq in
         let ns : Items = lookItems t (lookNode t d) true (wideAt t (onward t at 2)) (onward t (onward t at 2) 2) .value in
-        let r = sequenced-as t true 1 1 (inner c) c₁ d d₁ (wideAt t (onward t at 2)) n (onward t (onward t at 2) 2) x y refl ec ed nn (ex ∙ ff) sq (o .list .good) (suit-viewed ns) in (
+        let r = sequenced-as t true modes.Viewed modes.Viewed (inner c) c₁ d d₁ (wideAt t (onward t at 2)) n (onward t (onward t at 2) 2) x y refl ec ed nn (ex ∙ ff) sq (o .list .good) (suit-viewed ns) in (
           r .0,
           does-then
               (does-as a
@@ -210,9 +212,9 @@ module _ (t : List ℕ) where
               (does-as (r .1) (turns-viewed (inner c) ns)),
         )
 
-  pub array-plain : {g g₁ g₂ : Going} (c c₁ : Place) (d d₁ at q n f x y v : ℕ) (b : Bool) → b ≡ eqb (byteAt t (onward t at 1) / 2 % 2) 1 → b ≡ false
+  pub array-plain : {g g₁ g₂ : Going} (c c₁ : Place) (d d₁ at q n f x y : ℕ) (v : views.View) (b : Bool) → b ≡ eqb (byteAt t (onward t at 1) / 2 % 2) 1 → b ≡ false
       → q ≡ onward t at 2 → Wide t q n → f ≡ onward t q 2 → x ≡ f → c₁ ≡ inner c → d₁ ≡ d - 1
-      → Does g g₁ (say (puts (part at f t))) → Sequenced t modes.viewed c₁ d₁ true n x y g₁ g₂
+      → Does g g₁ (say (puts (part at f t))) → Sequenced t modes.Viewed c₁ d₁ true n x y g₁ g₂
       → byteAt t at ≡ 36 → Emitted t d at y g g₂ (emitsView c (viewOf v))
   array-plain c c₁ zero d₁ at q n f x y v b eb h eq w ef ex ec ed a sq e36 good = no-good t at good
   array-plain c c₁ (suc d) d₁ at q n f x y v b eb h eq w ef ex ec ed a sq e36 good =
@@ -229,9 +231,9 @@ module _ (t : List ℕ) where
             ∙ ap (λ (n : Seen Node). emitsView c (viewOf v) (n .value)) (sym whole)),
       )
 
-  pub array-rest : {g g₁ g₂ g₃ : Going} (c c₁ c₂ : Place) (d d₁ d₂ at q n f x y r v : ℕ) (b : Bool) → b ≡ eqb (byteAt t (onward t at 1) / 2 % 2) 1 → b ≡ true
+  pub array-rest : {g g₁ g₂ g₃ : Going} (c c₁ c₂ : Place) (d d₁ d₂ at q n f x y r : ℕ) (v : views.View) (b : Bool) → b ≡ eqb (byteAt t (onward t at 1) / 2 % 2) 1 → b ≡ true
       → q ≡ onward t at 2 → Wide t q n → f ≡ onward t q 2 → x ≡ f → c₁ ≡ inner c → d₁ ≡ d - 1 → c₂ ≡ inner c → d₂ ≡ d - 1
-      → Does g g₁ (say (puts (part at f t))) → Sequenced t modes.viewed c₁ d₁ true n x y g₁ g₂ → Ruled t d₂ y r g₂ g₃ (emits c₂)
+      → Does g g₁ (say (puts (part at f t))) → Sequenced t modes.Viewed c₁ d₁ true n x y g₁ g₂ → Ruled t d₂ y r g₂ g₃ (emits c₂)
       → byteAt t at ≡ 36 → Emitted t d at r g g₃ (emitsView c (viewOf v))
   array-rest c c₁ c₂ zero d₁ d₂ at q n f x y r v b eb h eq w ef ex ec ed ec₂ ed₂ a sq k e36 good = no-good t at good
   array-rest c c₁ c₂ (suc d) d₁ d₂ at q n f x y r v b eb h eq w ef ex ec ed ec₂ ed₂ a sq k e36 good =
@@ -257,7 +259,7 @@ module _ (t : List ℕ) where
 
   pub property-does : {g g₁ g₂ g₃ g₄ : Going} (c c₁ c₂ : Place) (d d₁ d₂ at s u w x e z : ℕ) (taken : Bool) → s ≡ onward t at 2 → u ≡ s
       → c₁ ≡ inner c → d₁ ≡ d - 1 → c₂ ≡ inner c → d₂ ≡ d - 1 → e ≡ onward t x 1 → z ≡ e
-      → Does g g₁ (say (puts (part at s t))) → Emitted t d₁ u w g₁ g₂ (emitsKey c₁ taken at) → Emitted t d₂ w x g₂ g₃ (emitsView c₂ (viewOf modes.replacingView)) → Does g₃ g₄ (say (puts (part x e t)))
+      → Does g g₁ (say (puts (part at s t))) → Emitted t d₁ u w g₁ g₂ (emitsKey c₁ taken at) → Emitted t d₂ w x g₂ g₃ (emitsView c₂ (viewOf Replacing)) → Does g₃ g₄ (say (puts (part x e t)))
       → byteAt t at ≡ 35 → Emitted t d at z g g₄ (emitsProperty c taken replacing)
   property-does c c₁ c₂ zero d₁ d₂ at s u w x e z taken es eu ec ed ec₂ ed₂ ee ez a k m b e35 good = no-good t at good
   property-does c c₁ c₂ (suc d) d₁ d₂ at s u w x e z taken es eu ec ed ec₂ ed₂ ee ez a k m b e35 good =
@@ -268,7 +270,7 @@ module _ (t : List ℕ) where
       let valueAt : ℕ = lookNode t d keyAt .next in
       let flagsAt : ℕ = lookNode t d valueAt .next in
       let kk = emitted-as (λ c. emitsKey c taken at) (inner c) c₁ d d₁ keyAt u w ec xd (eu ∙ es) k (o .key) in
-      let mm = emitted-as (λ c. emitsView c (viewOf modes.replacingView)) (inner c) c₂ d d₂ valueAt w x ec₂ xd₂ (kk .0) m (o .value) in
+      let mm = emitted-as (λ c. emitsView c (viewOf Replacing)) (inner c) c₂ d d₂ valueAt w x ec₂ xd₂ (kk .0) m (o .value) in
       let xe : e ≡ onward t flagsAt 1 = ee ∙ ap (λ (y : ℕ). onward t y 1) (mm .0) in
       let hd : say (puts (part at s t)) ≡ say (puts (35 ∷ 7 ∷ [])) = ap (λ (y : ℕ). say (puts (part at y t))) es ∙ ap (λ (bs : List ℕ). say (puts bs)) (o .head) in
       let fl : say (puts (part x e t)) ≡ say (puts (byteAt t flagsAt ∷ [])) = ap₂ (λ (y i : ℕ). say (puts (part y i t))) (mm .0) xe ∙ ap (λ (bs : List ℕ). say (puts bs)) (o .flags) in (

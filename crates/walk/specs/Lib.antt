@@ -1,4 +1,3 @@
-pub mod Modes
 pub mod Run
 pub mod Whole
 pub mod Turns

@@ -33,98 +33,129 @@ use Rattle.direct.specs.Views.{View, emitsView, emitsProperty}
 use Rattle.direct.specs.Views.View.{replacing, taking}
 use Rattle.direct.specs.Literals.{isSpread}
 use Rattle.direct.specs.Keys.{stringBytes, emitsExcluded}
-use Rattle.direct.specs.Objects.{Reach, reached, overObjects, overReached}
+use Rattle.direct.specs.Objects.{Reach, reached, overObjects, overReached, enters}
 use Rattle.direct.specs.Objects.Reach.{anywhere, straight, inArrays}
 use Rattle.direct.specs.Handed.{placeMade, keyMade, keysMade, keyBytes, excludesOf, handsKey}
 use Rattle.direct.specs.Declared.{emitsKeyValue, emitsFound, emitsDeclarator}
 use Rattle.direct.specs.Assigned.{emitsInner}
 use Rattle.direct.specs.Moved.{outOf, movedIn, behind}
-use Rattle.walk.specs.Modes as modes
+use Rattle.walk.specs.declared.modes.Deep.{Deep}
+use Rattle.walk.specs.declared.modes.Deep.the-variants.{Found, Reached}
+use Rattle.walk.specs.declared.modes.Mode.{Mode}
+use Rattle.walk.specs.declared.modes.Mode.the-variants as modes
+use Rattle.walk.specs.declared.views.View as views
+use Rattle.walk.specs.declared.views.View.the-variants.{Replacing, Taking}
+use Rattle.walk.specs.declared.reaches.Reach as reaches
+use Rattle.walk.specs.declared.reaches.Reach.the-variants.{Anywhere, Straight, InArrays}
+use Rattle.walk.specs.declared.look.KeyClass.{KeyClass}
+use Rattle.walk.specs.declared.look.KeyClass.the-variants.{AsString, AsItStands, LeftOut, AsTemporary}
+use Rattle.walk.specs.declared.hand.Own.{Own}
+use Rattle.walk.specs.declared.hand.Own.the-variants as own
+use Rattle.walk.specs.declared.hand.KeyUse.{KeyUse}
+use Rattle.walk.specs.declared.hand.KeyUse.the-variants as use-of
 use Rattle.walk.specs.declared.look.Start.{Start}
 use Rattle.walk.specs.declared.look.Start.the-variants.{Value, Missing}
 use Rattle.walk.specs.declared.place.Place as place
 use Rattle.walk.specs.Whole.{placeOf, placeWith, holeAt}
 use Rattle.lowering.specs.Keys.Entry.{spelt, itself, omitted, saved}
 
--- a view by its number, and where objects are looked for
-unfoldable pub viewOf : ℕ → View
-viewOf v = cond (eqb v modes.takingView) taking replacing
+-- a view of the code, and where it looks for objects, as the direct form has them
+unfoldable pub viewOf : views.View → View
+viewOf Replacing = replacing
+viewOf Taking = taking
 
-unfoldable pub reachOf : ℕ → Reach
-reachOf r = cond (eqb r modes.reachStraight) straight (cond (eqb r modes.reachInArrays) inArrays anywhere)
-
--- the view of an object's values, of an array's items and of a default's left
-abbrev pub valuesIn : ℕ → ℕ
-valuesIn v = cond (eqb v modes.takingView) modes.replacingView v
+unfoldable pub reachOf : reaches.Reach → Reach
+reachOf Anywhere = anywhere
+reachOf Straight = straight
+reachOf InArrays = inArrays
 
 -- ---- modes of a list
 
+-- what is done below a pattern
+unfoldable pub deepOf : Deep → Place → Node → Emit
+deepOf Found c n = emitsFound c n
+deepOf (Reached r) c n = overReached (emitsInner c) (reachOf r) n
+
 -- what is done for an item
-unfoldable pub turnOf : ℕ → Place → Node → Emit
-turnOf mode c n =
-    cond (eqb mode modes.viewed) (emitsView c replacing n)
-    (cond (eqb mode modes.property) (emitsProperty c false replacing n)
-    (cond (eqb mode modes.takenProperty) (emitsProperty c true replacing n)
-    (cond (eqb mode modes.excludedKey) (emitsExcluded c n)
-    (cond (eqb mode modes.keyValue) (emitsKeyValue c n)
-    (cond (eqb mode modes.found) (emitsFound c n)
-    (cond (eqb mode modes.valueFound) (emitsFound c (value n))
-    (cond (eqb mode modes.declarator) (emitsDeclarator c n)
-    (cond (eqb mode modes.binding) (emits c (behind n))
-    (cond (eqb mode modes.anywhere) (overReached (emitsInner c) anywhere n)
-    (cond (eqb mode modes.valueAnywhere) (overReached (emitsInner c) anywhere (value n))
-    (cond (eqb mode modes.valueInArrays) (overReached (emitsInner c) inArrays (value n))
-    (cond (eqb mode modes.valueStraight) (overReached (emitsInner c) straight (value n))
-    (cond (eqb mode modes.movedOut) (emits c (outOf n))
-    (cond (eqb mode modes.inArrays) (overReached (emitsInner c) inArrays n)
-    (cond (eqb mode modes.straight) (overReached (emitsInner c) straight n)
-    (say []))))))))))))))))
+unfoldable pub turnOf : Mode → Place → Node → Emit
+turnOf modes.Viewed c n = emitsView c replacing n
+turnOf modes.MovedOut c n = emits c (outOf n)
+turnOf (modes.Below d) c n = deepOf d c n
+turnOf (modes.Property taken) c n = emitsProperty c taken replacing n
+turnOf modes.ExcludedKey c n = emitsExcluded c n
+turnOf modes.KeyValue c n = emitsKeyValue c n
+turnOf (modes.Value d) c n = deepOf d c (value n)
+turnOf modes.Declarator c n = emitsDeclarator c n
+turnOf modes.Binding c n = emits c (behind n)
 
--- those that go below a pattern
-unfoldable pub deepMode : ℕ → Bool
-deepMode mode = eqb mode modes.found || (eqb mode modes.anywhere || (eqb mode modes.inArrays || eqb mode modes.straight))
+-- the mode of an array's items, by what is done below the array
+abbrev pub itemMode : Deep → Mode
+itemMode Found = modes.Below Found
+itemMode (Reached r) = modes.Below (Reached Anywhere)
 
--- that of the properties of an object in a view, by whether its rest is taken
-abbrev pub propertyMode : Bool → ℕ
-propertyMode rest = cond rest modes.takenProperty modes.property
-
--- that of the values of an object, and that of the items of an array, by the mode of the pattern
-abbrev pub valueMode : ℕ → ℕ
-valueMode mode = cond (eqb mode modes.anywhere) modes.valueAnywhere (cond (eqb mode modes.inArrays) modes.valueInArrays modes.valueStraight)
-
-abbrev pub itemMode : ℕ → ℕ
-itemMode mode = cond (eqb mode modes.found) modes.found modes.anywhere
+-- whether arrays are entered
+abbrev pub entersArrays : Deep → Bool
+entersArrays Found = true
+entersArrays (Reached r) = enters (reachOf r)
 
 -- those whose items have rests of their own: they are told whether the scope is the root. In any other mode an item asks for itself
-unfoldable pub isTold : ℕ → Bool
-isTold mode = deepMode mode || (eqb mode modes.valueFound || (eqb mode modes.declarator || (eqb mode modes.valueAnywhere || (eqb mode modes.valueInArrays || eqb mode modes.valueStraight))))
+unfoldable pub isTold : Mode → Bool
+isTold modes.Viewed = false
+isTold modes.MovedOut = false
+isTold (modes.Below d) = true
+isTold (modes.Property taken) = false
+isTold modes.ExcludedKey = false
+isTold modes.KeyValue = false
+isTold (modes.Value d) = true
+isTold modes.Declarator = true
+isTold modes.Binding = false
 
-unfoldable pub toldPlace : ℕ → Bool → place.Place → Place
+unfoldable pub toldPlace : Mode → Bool → place.Place → Place
 toldPlace mode root c = cond (isTold mode) (placeWith root c) (placeOf c)
 
--- what may stand in the list: patterns, those without an object rest below an array rest, properties, declarators, parameters or declarators
-unfoldable pub suits : ℕ → Node → Bool
-suits mode n =
-    cond (eqb mode modes.viewed || (eqb mode modes.found || eqb mode modes.movedOut)) true
-    (cond (eqb mode modes.anywhere || (eqb mode modes.inArrays || eqb mode modes.straight)) (not (hasArrayRestOverObjectRest n))
-    (cond (eqb mode modes.property || (eqb mode modes.takenProperty || (eqb mode modes.excludedKey || (eqb mode modes.keyValue || eqb mode modes.valueFound)))) (is 35 n)
-    (cond (eqb mode modes.valueAnywhere || (eqb mode modes.valueInArrays || eqb mode modes.valueStraight)) (is 35 n && not (hasArrayRestOverObjectRest (value n)))
-    (cond (eqb mode modes.declarator) (is 5 n) (cond (eqb mode modes.binding) (is 15 n || is 5 n) false)))))
+-- what may be gone below: the assignments are for patterns without an object rest below an array rest
+unfoldable pub deepSuits : Deep → Node → Bool
+deepSuits Found n = true
+deepSuits (Reached r) n = not (hasArrayRestOverObjectRest n)
 
--- a hole is written where the list is: the byte that stands for it is copied
-unfoldable pub holeDeeds : List ℕ → ℕ → ℕ → List Deed
-holeDeeds tree mode at = cond (eqb mode modes.viewed || eqb mode modes.movedOut) (puts (part at (onward tree at 1) tree)) []
+-- what may stand in the list: patterns, properties, declarators, parameters or declarators
+unfoldable pub suits : Mode → Node → Bool
+suits modes.Viewed n = true
+suits modes.MovedOut n = true
+suits (modes.Below d) n = deepSuits d n
+suits (modes.Property taken) n = is 35 n
+suits modes.ExcludedKey n = is 35 n
+suits modes.KeyValue n = is 35 n
+suits (modes.Value d) n = is 35 n && deepSuits d (value n)
+suits modes.Declarator n = is 5 n
+suits modes.Binding n = is 15 n || is 5 n
+
+-- a hole is written where the list is
+abbrev pub writesHoles : Mode → Bool
+writesHoles modes.Viewed = true
+writesHoles modes.MovedOut = true
+writesHoles (modes.Below d) = false
+writesHoles (modes.Property taken) = false
+writesHoles modes.ExcludedKey = false
+writesHoles modes.KeyValue = false
+writesHoles (modes.Value d) = false
+writesHoles modes.Declarator = false
+writesHoles modes.Binding = false
+
+-- the byte that stands for a hole is copied
+unfoldable pub holeDeeds : List ℕ → Mode → ℕ → List Deed
+holeDeeds tree mode at = cond (writesHoles mode) (puts (part at (onward tree at 1) tree)) []
 
 -- where that byte is 0
-unfoldable pub holeOf : ℕ → Emit
-holeOf mode = cond (eqb mode modes.viewed || eqb mode modes.movedOut) (say (does (put 0) ∷ [])) (say [])
+unfoldable pub holeOf : Mode → Emit
+holeOf mode = cond (writesHoles mode) (say (does (put 0) ∷ [])) (say [])
 
-unfoldable pub turnsOf : ℕ → Place → Items → Emit
+unfoldable pub turnsOf : Mode → Place → Items → Emit
 turnsOf mode c none = say []
 turnsOf mode c (hole ns) = holeOf mode ▷ turnsOf mode c ns
 turnsOf mode c (item n ns) = turnOf mode c n ▷ turnsOf mode c ns
 
-abbrev pub AllSuit : ℕ → Items → Type 0
+abbrev pub AllSuit : Mode → Items → Type 0
 AllSuit mode ns = AllItems (λ n. suits mode n ≡ true) ns
 
 -- ---- sources: an expression is copied, a temporary is written
@@ -142,8 +173,8 @@ abbrev pub stringAt : List ℕ → ℕ → ℕ → List ℕ
 stringAt t from n = 22 ∷ 7 ∷ 1 ∷ 0 ∷ 0 ∷ wideBytes (n % 65536) ++ part from (onward t from n) t
 
 -- how a key is written among the excluded keys
-unfoldable pub keyClass : Node → ℕ
-keyClass k = elim (entryOf (keySort k)) [ spelt ↦ modes.asString | itself ↦ modes.asItStands | omitted ↦ modes.leftOut | saved ↦ modes.asTemporary ]
+unfoldable pub keyClass : Node → KeyClass
+keyClass k = elim (entryOf (keySort k)) [ spelt ↦ AsString | itself ↦ AsItStands | omitted ↦ LeftOut | saved ↦ AsTemporary ]
 
 unfoldable pub keyString : Node → List ℕ
 keyString k = elim (entryOf (keySort k)) [ spelt ↦ stringBytes (keyText k) | itself ↦ [] | omitted ↦ [] | saved ↦ [] ]
@@ -181,8 +212,9 @@ valuesCount tree r d at =
     limited (count (gather (λ q. reached r (value q)) (lookItems tree (lookNode tree (d - 1)) false (runOf at (partAt tree d at 0) .count) (runOf at (partAt tree d at 0) .from) .value)))
 
 -- how many places the target at a position has in a view, and how long the sequence of an assignment to it is
-unfoldable pub placesAt : List ℕ → ℕ → ℕ → ℕ → ℕ
-placesAt tree v d at = cond (eqb v modes.takingView) (valuesCount tree inArrays d at) (limited (count (reached anywhere (lookNode tree d at .value))))
+unfoldable pub placesAt : List ℕ → views.View → ℕ → ℕ → ℕ
+placesAt tree Replacing d at = limited (count (reached anywhere (lookNode tree d at .value)))
+placesAt tree Taking d at = valuesCount tree inArrays d at
 
 unfoldable pub topAt : List ℕ → Bool → ℕ → ℕ → ℕ
 topAt tree statement d at = cond statement 3 4 + valuesCount tree straight d at
@@ -208,7 +240,7 @@ awaits tree at = eqb (byteAt tree at) 8 && eqb (byteAt tree (onward tree at 1) /
 -- ---- items and what is given
 
 -- an item of a list, or a hole
-unfoldable pub spotDeeds : List ℕ → (ℕ → Seen Node) → ℕ → Place → Bool → ℕ → Emit
+unfoldable pub spotDeeds : List ℕ → (ℕ → Seen Node) → Mode → Place → Bool → ℕ → Emit
 spotDeeds tree R mode c h at = cond (holeAt tree h at) (holeOf mode) (turnOf mode c (R at .value))
 
 -- the patterns that are moved out of an item of an array, of a parameter or a declarator
@@ -217,7 +249,7 @@ movesOf true n = movedIn n
 movesOf false n = movedFrom n
 
 abbrev pub AllBind : Bool → Items → Type 0
-AllBind arrays ns = arrays ≡ false → AllSuit modes.binding ns
+AllBind arrays ns = arrays ≡ false → AllSuit modes.Binding ns
 
 -- what is done if nothing is refused, the number being 0; else the refusal, and two bytes in place of the node
 abbrev pub unlessRefused : ℕ → Emit → Emit
@@ -241,16 +273,17 @@ blockHead n = puts (2 ∷ 3 ∷ []) ++ (does newMark ∷ puts (wideBytes n))
 
 -- ---- what is handed out for an object, by a mode
 
-abbrev pub excludeMode : Bool → ℕ
-excludeMode root = cond root modes.excludeKeysAtRoot modes.excludeKeys
-
-unfoldable pub ownOf : ℕ → Node → Emit
-ownOf mode o = cond (eqb mode modes.makePlace) (placeMade o) (cond (eqb mode modes.makeKeys) (keysMade o) (cond (eqb mode modes.excludeKeys) (excludesOf false o) (excludesOf true o)))
+unfoldable pub ownOf : Own → Node → Emit
+ownOf own.Place o = placeMade o
+ownOf own.Keys o = keysMade o
+ownOf (own.Excluded root) o = excludesOf root o
 
 -- for all objects that the view replaces
-unfoldable pub overAll : ℕ → ℕ → Node → Emit
+unfoldable pub overAll : Own → views.View → Node → Emit
 overAll mode v p = overObjects (ownOf mode) (viewOf v) p
 
 -- for a property
-unfoldable pub keyOf : ℕ → Node → Emit
-keyOf mode q = cond (eqb mode modes.keyExcluded) (say (excludes (keyBytes q))) (cond (eqb mode modes.keyMade) (keyMade q) (handsKey q))
+unfoldable pub keyOf : KeyUse → Node → Emit
+keyOf use-of.Made q = keyMade q
+keyOf use-of.Listed q = handsKey q
+keyOf use-of.Excluded q = say (excludes (keyBytes q))

@@ -5,13 +5,13 @@ use crate::look::has_second;
 use crate::look::hoisted;
 use crate::look::is_other;
 use crate::place::less;
-use crate::reaches;
+use crate::reaches::Reach;
 use crate::stems;
 use crate::target::object_count;
 use crate::target::target_count;
 use crate::target::target_item;
 use crate::target::target_values;
-use crate::views;
+use crate::views::View;
 use crate::walk::Walk;
 use crate::written;
 use pattern::declarators::is_lowered;
@@ -44,6 +44,7 @@ ghost use Rattle.direct.specs.Events as events;
 ghost use Rattle.direct.specs.Events.{lists, excludes};
 ghost use Rattle.direct.specs.Events.Deed.{does};
 ghost use Rattle.direct.specs.Emit.{say, _▷_, inTurn};
+ghost use Rattle.direct.specs.Views.{takes};
 ghost use Rattle.direct.specs.Views.View.{replacing, taking};
 ghost use Rattle.direct.specs.Objects.{overObjects};
 ghost use Rattle.pattern.specs.Tally.{limited};
@@ -52,19 +53,18 @@ ghost use Rattle.direct.specs.Moved as moved;
 ghost use Rattle.direct.specs.Moved.{movedIn};
 ghost use Rattle.walk.specs.Run.{goingOf, Does};
 ghost use Rattle.walk.specs.Whole.{holeAt, GoodItems, Good};
-ghost use Rattle.walk.specs.Modes.{binding, replacingView, takingView};
-ghost use Rattle.walk.specs.Turns.{viewOf, valuesIn, suits, AllSuit, placesAt, topAt, excludeMode, ownOf, overAll, keyOf};
+ghost use Rattle.walk.specs.Turns.{viewOf, suits, AllSuit, placesAt, topAt, ownOf, overAll, keyOf};
+ghost use Rattle.walk.specs.declared.modes.Mode.the-variants.{Binding};
+ghost use Rattle.walk.specs.declared.views.View.the-variants.{Replacing, Taking};
 
 // ---- over the objects of a pattern
 
 // What is done for an object: its place is made, its keys are made, its excluded keys go out.
-const MAKE_PLACE: usize = 1;
-
-const MAKE_KEYS: usize = 2;
-
-const EXCLUDE_KEYS: usize = 3;
-
-const EXCLUDE_KEYS_AT_ROOT: usize = 4;
+pub enum Own {
+    Place,
+    Keys,
+    Excluded(bool),
+}
 
 // The objects with rest of a declaration that the view v replaces, inner ones first, and what is done for each by the mode.
 pub fn over(
@@ -74,8 +74,8 @@ pub fn over(
     work: &mut [u8],
     left: usize,
     at: usize,
-    v: usize,
-    mode: usize,
+    v: View,
+    mode: Own,
 ) -> Walk
     ensures { λ r. ⌜ (r .at ≡ w .at) × ((o : List ℕ) → Good (now (t .entry)) left at → Does (goingOf o (now (list .entry)) (now (work .entry)) w) (goingOf o (now (list .exit)) (now (work .exit)) r) (overAll mode v (lookNode (now (t .entry)) left at .value))) ⌝ }
 {
@@ -93,30 +93,21 @@ pub fn over(
             work,
             less(left),
             step(t, at, 2),
-            values(v),
+            View::Replacing,
             mode,
         ),
         _ => w,
     }
 }
 
-fn values(v: usize) -> usize
-    ensures { λ r. ⌜ r ≡ valuesIn v ⌝ }
-{
-    if v == views::TAKING {
-        return views::REPLACING;
-    }
-    v
-}
-
 // Whether an object has a rest, and the view puts a temporary in its place.
-fn replaces(t: &[u8], at: usize, v: usize) -> bool
-    ensures { λ r. ⌜ r ≡ cond (eqb v takingView) false (eqb (byteAt (now (t .entry)) (onward (now (t .entry)) at 1) / 2 % 2) 1) ⌝ }
+fn replaces(t: &[u8], at: usize, v: View) -> bool
+    ensures { λ r. ⌜ r ≡ cond (takes (viewOf v)) false (eqb (byteAt (now (t .entry)) (onward (now (t .entry)) at 1) / 2 % 2) 1) ⌝ }
 {
-    if v == views::TAKING {
-        return false;
+    match v {
+        View::Replacing => has_second(t, at),
+        View::Taking => false,
     }
-    has_second(t, at)
 }
 
 fn over_object(
@@ -126,8 +117,8 @@ fn over_object(
     work: &mut [u8],
     left: usize,
     at: usize,
-    v: usize,
-    mode: usize,
+    v: View,
+    mode: Own,
 ) -> Walk
     ensures { λ r. ⌜ (r .at ≡ w .at) × ((o : List ℕ) → Good (now (t .entry)) left at → byteAt (now (t .entry)) at ≡ 34 → Does (goingOf o (now (list .entry)) (now (work .entry)) w) (goingOf o (now (list .exit)) (now (work .exit)) r) (overAll mode v (lookNode (now (t .entry)) left at .value))) ⌝ }
 {
@@ -140,7 +131,6 @@ fn over_object(
         less(left),
         step(t, q, 2),
         wide_at(t, q),
-        values(v),
         mode,
     );
     if replaces(t, at, v) {
@@ -158,16 +148,15 @@ fn over_values(
     left: usize,
     first: usize,
     count: usize,
-    v: usize,
-    mode: usize,
+    mode: Own,
 ) -> Walk
-    ensures { λ r. ⌜ (r .at ≡ w .at) × ((o : List ℕ) → GoodItems (now (t .entry)) (lookNode (now (t .entry)) left) (Good (now (t .entry)) left) false false count first → AllItems (λ q. is 35 q ≡ true) (lookItems (now (t .entry)) (lookNode (now (t .entry)) left) false count first .value) → Does (goingOf o (now (list .entry)) (now (work .entry)) w) (goingOf o (now (list .exit)) (now (work .exit)) r) (inTurn (λ q. overAll mode v (value q)) (lookItems (now (t .entry)) (lookNode (now (t .entry)) left) false count first .value))) ⌝ }
+    ensures { λ r. ⌜ (r .at ≡ w .at) × ((o : List ℕ) → GoodItems (now (t .entry)) (lookNode (now (t .entry)) left) (Good (now (t .entry)) left) false false count first → AllItems (λ q. is 35 q ≡ true) (lookItems (now (t .entry)) (lookNode (now (t .entry)) left) false count first .value) → Does (goingOf o (now (list .entry)) (now (work .entry)) w) (goingOf o (now (list .exit)) (now (work .exit)) r) (inTurn (λ q. overAll mode Replacing (value q)) (lookItems (now (t .entry)) (lookNode (now (t .entry)) left) false count first .value))) ⌝ }
 {
     let mut u = w;
     let mut n = count;
     let mut p = first;
     while 0 < n {
-        u = over_value(u, t, list, work, left, p, v, mode);
+        u = over_value(u, t, list, work, left, p, mode);
         p = skip(t, left, p);
         n -= 1;
     }
@@ -182,10 +171,9 @@ fn over_value(
     work: &mut [u8],
     left: usize,
     at: usize,
-    v: usize,
-    mode: usize,
+    mode: Own,
 ) -> Walk
-    ensures { λ r. ⌜ (r .at ≡ w .at) × ((o : List ℕ) → Good (now (t .entry)) left at → byteAt (now (t .entry)) at ≡ 35 → Does (goingOf o (now (list .entry)) (now (work .entry)) w) (goingOf o (now (list .exit)) (now (work .exit)) r) (overAll mode v (value (lookNode (now (t .entry)) left at .value)))) ⌝ }
+    ensures { λ r. ⌜ (r .at ≡ w .at) × ((o : List ℕ) → Good (now (t .entry)) left at → byteAt (now (t .entry)) at ≡ 35 → Does (goingOf o (now (list .entry)) (now (work .entry)) w) (goingOf o (now (list .exit)) (now (work .exit)) r) (overAll mode Replacing (value (lookNode (now (t .entry)) left at .value)))) ⌝ }
 {
     if left == 0 {
         return w;
@@ -195,7 +183,7 @@ fn over_value(
     }
     let below = less(left);
     let x = skip(t, below, step(t, at, 2));
-    over(w, t, list, work, below, x, v, mode)
+    over(w, t, list, work, below, x, View::Replacing, mode)
 }
 
 fn over_array(
@@ -205,8 +193,8 @@ fn over_array(
     work: &mut [u8],
     left: usize,
     at: usize,
-    v: usize,
-    mode: usize,
+    v: View,
+    mode: Own,
 ) -> Walk
     ensures { λ r. ⌜ (r .at ≡ w .at) × ((o : List ℕ) → Good (now (t .entry)) left at → byteAt (now (t .entry)) at ≡ 36 → Does (goingOf o (now (list .entry)) (now (work .entry)) w) (goingOf o (now (list .exit)) (now (work .exit)) r) (overAll mode v (lookNode (now (t .entry)) left at .value))) ⌝ }
 {
@@ -235,9 +223,9 @@ fn over_items(
     left: usize,
     first: usize,
     count: usize,
-    mode: usize,
+    mode: Own,
 ) -> Walk
-    ensures { λ r. ⌜ (r .at ≡ w .at) × ((o : List ℕ) → GoodItems (now (t .entry)) (lookNode (now (t .entry)) left) (Good (now (t .entry)) left) false true count first → Does (goingOf o (now (list .entry)) (now (work .entry)) w) (goingOf o (now (list .exit)) (now (work .exit)) r) (inTurn (overAll mode replacingView) (lookItems (now (t .entry)) (lookNode (now (t .entry)) left) true count first .value))) ⌝ }
+    ensures { λ r. ⌜ (r .at ≡ w .at) × ((o : List ℕ) → GoodItems (now (t .entry)) (lookNode (now (t .entry)) left) (Good (now (t .entry)) left) false true count first → Does (goingOf o (now (list .entry)) (now (work .entry)) w) (goingOf o (now (list .exit)) (now (work .exit)) r) (inTurn (overAll mode Replacing) (lookItems (now (t .entry)) (lookNode (now (t .entry)) left) true count first .value))) ⌝ }
 {
     let mut u = w;
     let mut n = count;
@@ -257,14 +245,14 @@ fn over_item(
     work: &mut [u8],
     left: usize,
     at: usize,
-    mode: usize,
+    mode: Own,
 ) -> Walk
-    ensures { λ r. ⌜ (r .at ≡ w .at) × ((o : List ℕ) → (holeAt (now (t .entry)) true at ≡ false → Good (now (t .entry)) left at) → Does (goingOf o (now (list .entry)) (now (work .entry)) w) (goingOf o (now (list .exit)) (now (work .exit)) r) (cond (holeAt (now (t .entry)) true at) (say []) (overAll mode replacingView (lookNode (now (t .entry)) left at .value)))) ⌝ }
+    ensures { λ r. ⌜ (r .at ≡ w .at) × ((o : List ℕ) → (holeAt (now (t .entry)) true at ≡ false → Good (now (t .entry)) left at) → Does (goingOf o (now (list .entry)) (now (work .entry)) w) (goingOf o (now (list .exit)) (now (work .exit)) r) (cond (holeAt (now (t .entry)) true at) (say []) (overAll mode Replacing (lookNode (now (t .entry)) left at .value)))) ⌝ }
 {
     if peek(t, at) == 0 {
         return w;
     }
-    over(w, t, list, work, left, at, views::REPLACING, mode)
+    over(w, t, list, work, left, at, View::Replacing, mode)
 }
 
 fn object(
@@ -274,24 +262,23 @@ fn object(
     work: &mut [u8],
     left: usize,
     at: usize,
-    mode: usize,
+    mode: Own,
 ) -> Walk
     ensures { λ r. ⌜ (r .at ≡ w .at) × ((o : List ℕ) → Good (now (t .entry)) left at → byteAt (now (t .entry)) at ≡ 34 → Does (goingOf o (now (list .entry)) (now (work .entry)) w) (goingOf o (now (list .exit)) (now (work .exit)) r) (ownOf mode (lookNode (now (t .entry)) left at .value))) ⌝ }
 {
     match mode {
-        MAKE_PLACE => w.make(work, at),
-        MAKE_KEYS => each_key(w, t, list, work, left, at, KEY_MADE),
-        EXCLUDE_KEYS => exclude(w, t, list, work, left, at, false),
-        _ => exclude(w, t, list, work, left, at, true),
+        Own::Place => w.make(work, at),
+        Own::Keys => each_key(w, t, list, work, left, at, KeyUse::Made),
+        Own::Excluded(root) => exclude(w, t, list, work, left, at, root),
     }
 }
 
 // What is done for a property: a temporary is made for a key that wants one, it is listed with its value, the key is excluded.
-const KEY_MADE: usize = 1;
-
-const KEY_LISTED: usize = 2;
-
-const KEY_EXCLUDED: usize = 3;
+pub enum KeyUse {
+    Made,
+    Listed,
+    Excluded,
+}
 
 // The properties of an object, by a mode.
 fn each_key(
@@ -301,7 +288,7 @@ fn each_key(
     work: &mut [u8],
     left: usize,
     at: usize,
-    mode: usize,
+    mode: KeyUse,
 ) -> Walk
     ensures { λ r. ⌜ (r .at ≡ w .at) × ((o : List ℕ) → Good (now (t .entry)) left at → byteAt (now (t .entry)) at ≡ 34 → Does (goingOf o (now (list .entry)) (now (work .entry)) w) (goingOf o (now (list .exit)) (now (work .exit)) r) (inTurn (keyOf mode) (properties (lookNode (now (t .entry)) left at .value)))) ⌝ }
 {
@@ -326,7 +313,7 @@ fn keys_in(
     left: usize,
     first: usize,
     count: usize,
-    mode: usize,
+    mode: KeyUse,
 ) -> Walk
     ensures { λ r. ⌜ (r .at ≡ w .at) × ((o : List ℕ) → GoodItems (now (t .entry)) (lookNode (now (t .entry)) left) (Good (now (t .entry)) left) false false count first → AllItems (λ q. is 35 q ≡ true) (lookItems (now (t .entry)) (lookNode (now (t .entry)) left) false count first .value) → Does (goingOf o (now (list .entry)) (now (work .entry)) w) (goingOf o (now (list .exit)) (now (work .exit)) r) (inTurn (keyOf mode) (lookItems (now (t .entry)) (lookNode (now (t .entry)) left) false count first .value))) ⌝ }
 {
@@ -348,24 +335,29 @@ fn one_key(
     work: &mut [u8],
     left: usize,
     at: usize,
-    mode: usize,
+    mode: KeyUse,
 ) -> Walk
     ensures { λ r. ⌜ (r .at ≡ w .at) × ((o : List ℕ) → Good (now (t .entry)) left at → byteAt (now (t .entry)) at ≡ 35 → Does (goingOf o (now (list .entry)) (now (work .entry)) w) (goingOf o (now (list .exit)) (now (work .exit)) r) (keyOf mode (lookNode (now (t .entry)) left at .value))) ⌝ }
 {
     let below = less(left);
     let k = step(t, at, 2);
-    if mode == KEY_EXCLUDED {
-        return exclude_key(w, t, work, below, k);
-    }
-    if is_other(t, below, k) {
-        if mode == KEY_MADE {
-            return w.make(work, at);
+    match mode {
+        KeyUse::Made => {
+            if is_other(t, below, k) {
+                return w.make(work, at);
+            }
+            w
         }
-        return w.listed2(list, written::DECLARATOR, written::FIRST_TWO)
-            .listed_temporary(list, work, at, stems::KEY)
-            .listed_copy(list, t, k, skip(t, below, k));
+        KeyUse::Listed => {
+            if is_other(t, below, k) {
+                return w.listed2(list, written::DECLARATOR, written::FIRST_TWO)
+                    .listed_temporary(list, work, at, stems::KEY)
+                    .listed_copy(list, t, k, skip(t, below, k));
+            }
+            w
+        }
+        KeyUse::Excluded => exclude_key(w, t, work, below, k),
     }
-    w
 }
 
 fn exclude_key(w: Walk, t: &[u8], work: &mut [u8], left: usize, at: usize) -> Walk
@@ -399,18 +391,9 @@ pub fn exclude(
     if hoisted(t, left, root, at) {
         let k = excluded_keys(t, left, at);
         let u = w.excluded_head(work, cell(stems::EXCLUDED, at), k);
-        return each_key(u, t, list, work, left, at, KEY_EXCLUDED);
+        return each_key(u, t, list, work, left, at, KeyUse::Excluded);
     }
     w
-}
-
-fn exclude_mode(root: bool) -> usize
-    ensures { λ r. ⌜ r ≡ excludeMode root ⌝ }
-{
-    if root {
-        return EXCLUDE_KEYS_AT_ROOT;
-    }
-    EXCLUDE_KEYS
 }
 
 // ---- what a rule hands out
@@ -427,14 +410,14 @@ fn pattern_makes(
     ensures { λ r. ⌜ (r .at ≡ w .at) × ((o : List ℕ) → Good (now (t .entry)) left at → Does (goingOf o (now (list .entry)) (now (work .entry)) w) (goingOf o (now (list .exit)) (now (work .exit)) r) (overObjects placeMade taking (lookNode (now (t .entry)) left at .value) ▷ overObjects keysMade replacing (lookNode (now (t .entry)) left at .value))) ⌝ }
 {
     over(
-        over(w, t, list, work, left, at, views::TAKING, MAKE_PLACE),
+        over(w, t, list, work, left, at, View::Taking, Own::Place),
         t,
         list,
         work,
         left,
         at,
-        views::REPLACING,
-        MAKE_KEYS,
+        View::Replacing,
+        Own::Keys,
     )
 }
 
@@ -457,8 +440,8 @@ pub fn pattern_hands(
         work,
         left,
         at,
-        views::REPLACING,
-        exclude_mode(root),
+        View::Replacing,
+        Own::Excluded(root),
     )
 }
 
@@ -509,8 +492,8 @@ fn declarator_excludes(
             work,
             less(left),
             step(t, at, 2),
-            views::REPLACING,
-            exclude_mode(root),
+            View::Replacing,
+            Own::Excluded(root),
         );
     }
     w
@@ -595,14 +578,14 @@ pub fn top_hands(
     ensures { λ r. ⌜ (r .at ≡ w .at) × ((o : List ℕ) → Good (now (t .entry)) left at → byteAt (now (t .entry)) at ≡ 34 → Does (goingOf o (now (list .entry)) (now (work .entry)) w) (goingOf o (now (list .exit)) (now (work .exit)) r) (handsTop root mark (lookNode (now (t .entry)) left at .value))) ⌝ }
 {
     let n = plus(
-        object_count(t, left, at, reaches::STRAIGHT),
+        object_count(t, left, at, Reach::Straight),
         key_temporaries(t, left, at),
     );
     let u = w.entry(list, mark, 1 + n)
         .listed2(list, written::DECLARATOR, written::FIRST)
         .listed_temporary(list, work, cell(stems::VALUE, at), stems::VALUE);
-    let u = target_values(u, t, list, work, left, at, reaches::STRAIGHT);
-    let u = each_key(u, t, list, work, left, at, KEY_LISTED);
+    let u = target_values(u, t, list, work, left, at, Reach::Straight);
+    let u = each_key(u, t, list, work, left, at, KeyUse::Listed);
     exclude(u, t, list, work, left, at, root)
 }
 
@@ -614,33 +597,33 @@ pub fn nested_hands(
     work: &mut [u8],
     left: usize,
     at: usize,
-    v: usize,
+    v: View,
     mark: usize,
 ) -> Walk
-    ensures { λ r. ⌜ (r .at ≡ w .at) × ((o : List ℕ) → Good (now (t .entry)) left at → (v ≡ takingView → byteAt (now (t .entry)) at ≡ 34) → Does (goingOf o (now (list .entry)) (now (work .entry)) w) (goingOf o (now (list .exit)) (now (work .exit)) r) (handsNested (viewOf v) mark (lookNode (now (t .entry)) left at .value))) ⌝ }
+    ensures { λ r. ⌜ (r .at ≡ w .at) × ((o : List ℕ) → Good (now (t .entry)) left at → (v ≡ Taking → byteAt (now (t .entry)) at ≡ 34) → Does (goingOf o (now (list .entry)) (now (work .entry)) w) (goingOf o (now (list .exit)) (now (work .exit)) r) (handsNested (viewOf v) mark (lookNode (now (t .entry)) left at .value))) ⌝ }
 {
     let u = w.entry(list, mark, places_in(t, left, at, v));
-    if v == views::TAKING {
-        return target_values(u, t, list, work, left, at, reaches::IN_ARRAYS);
+    match v {
+        View::Replacing => target_item(u, t, list, work, left, at, Reach::Anywhere),
+        View::Taking => target_values(u, t, list, work, left, at, Reach::InArrays),
     }
-    target_item(u, t, list, work, left, at, reaches::ANYWHERE)
 }
 
 // How many objects of a target the nested rule replaces.
-pub fn places_in(t: &[u8], left: usize, at: usize, v: usize) -> usize
+pub fn places_in(t: &[u8], left: usize, at: usize, v: View) -> usize
     ensures { λ r. ⌜ r ≡ placesAt (now (t .entry)) v left at ⌝ }
 {
-    if v == views::TAKING {
-        return object_count(t, left, at, reaches::IN_ARRAYS);
+    match v {
+        View::Replacing => target_count(t, left, at, Reach::Anywhere),
+        View::Taking => object_count(t, left, at, Reach::InArrays),
     }
-    target_count(t, left, at, reaches::ANYWHERE)
 }
 
 // How long the sequence of an assignment is.
 pub fn top_count(t: &[u8], left: usize, at: usize, statement: bool) -> usize
     ensures { λ r. ⌜ r ≡ topAt (now (t .entry)) statement left at ⌝ }
 {
-    let n = object_count(t, left, at, reaches::STRAIGHT);
+    let n = object_count(t, left, at, Reach::Straight);
     if statement {
         return 3 + n;
     }
@@ -656,7 +639,7 @@ pub fn moves_make(
     first: usize,
     count: usize,
 ) -> Walk
-    ensures { λ r. ⌜ (r .at ≡ w .at) × ((o l : List ℕ) → GoodItems (now (t .entry)) (lookNode (now (t .entry)) left) (Good (now (t .entry)) left) false false count first → AllSuit binding (lookItems (now (t .entry)) (lookNode (now (t .entry)) left) false count first .value) → Does (goingOf o l (now (work .entry)) w) (goingOf o l (now (work .exit)) r) (say (moved.makes (gather movedFrom (lookItems (now (t .entry)) (lookNode (now (t .entry)) left) false count first .value))))) ⌝ }
+    ensures { λ r. ⌜ (r .at ≡ w .at) × ((o l : List ℕ) → GoodItems (now (t .entry)) (lookNode (now (t .entry)) left) (Good (now (t .entry)) left) false false count first → AllSuit Binding (lookItems (now (t .entry)) (lookNode (now (t .entry)) left) false count first .value) → Does (goingOf o l (now (work .entry)) w) (goingOf o l (now (work .exit)) r) (say (moved.makes (gather movedFrom (lookItems (now (t .entry)) (lookNode (now (t .entry)) left) false count first .value))))) ⌝ }
 {
     let mut u = w;
     let mut n = count;
@@ -670,7 +653,7 @@ pub fn moves_make(
 }
 
 fn move_makes(w: Walk, t: &[u8], work: &mut [u8], left: usize, at: usize) -> Walk
-    ensures { λ r. ⌜ (r .at ≡ w .at) × ((o l : List ℕ) → Good (now (t .entry)) left at → suits binding (lookNode (now (t .entry)) left at .value) ≡ true → Does (goingOf o l (now (work .entry)) w) (goingOf o l (now (work .exit)) r) (say (moved.makes (movedFrom (lookNode (now (t .entry)) left at .value))))) ⌝ }
+    ensures { λ r. ⌜ (r .at ≡ w .at) × ((o l : List ℕ) → Good (now (t .entry)) left at → suits Binding (lookNode (now (t .entry)) left at .value) ≡ true → Does (goingOf o l (now (work .entry)) w) (goingOf o l (now (work .exit)) r) (say (moved.makes (movedFrom (lookNode (now (t .entry)) left at .value))))) ⌝ }
 {
     if left == 0 {
         return w;

@@ -1,8 +1,11 @@
 // What the emitters look up before they write.
 use crate::kinds;
-use crate::modes;
+use crate::modes::Deep;
+use crate::modes::Mode;
+use crate::reaches::Reach;
+use crate::reaches::enters;
 use crate::stems;
-use crate::views;
+use crate::views::View;
 use pattern::keys::Key;
 use pattern::keys::all_primitive;
 use pattern::keys::has_no_properties;
@@ -25,7 +28,7 @@ ghost use Rattle.pattern.specs.Tally.{limited};
 ghost use Rattle.direct.specs.Views.{isOther, takes};
 ghost use Rattle.direct.specs.Keys.{hoists};
 ghost use Rattle.direct.specs.Moved.{number};
-ghost use Rattle.walk.specs.Turns.{viewOf, propertyMode, valueMode, itemMode, keyClass, levelOf, startOf, startValue, cellAt};
+ghost use Rattle.walk.specs.Turns.{viewOf, itemMode, entersArrays, keyClass, cellAt, levelOf, startOf, startValue};
 
 // The first bit of the bit map of the node at a position, and the second.
 pub fn first_bit(t: &[u8], at: usize) -> usize
@@ -46,45 +49,34 @@ pub fn has_second(t: &[u8], at: usize) -> bool
     second(t, at) == 1
 }
 
-// The modes of a turn: of a property in a view, of a property's value, of an item.
-pub fn property_mode(rest: bool) -> usize
-    ensures { λ r. ⌜ r ≡ propertyMode rest ⌝ }
-{
-    if rest {
-        return modes::TAKEN_PROPERTY;
-    }
-    modes::PROPERTY
-}
-
 // Whether a view puts a temporary in the place of an object with rest.
-pub fn replaces(v: usize) -> bool
+pub fn replaces(v: View) -> bool
     ensures { λ r. ⌜ r ≡ not (takes (viewOf v)) ⌝ }
 {
-    if v == views::TAKING {
-        return false;
+    match v {
+        View::Replacing => true,
+        View::Taking => false,
     }
-    true
 }
 
-pub fn value_mode(mode: usize) -> usize
-    ensures { λ r. ⌜ r ≡ valueMode mode ⌝ }
-{
-    if mode == modes::ANYWHERE {
-        return modes::VALUE_ANYWHERE;
-    }
-    if mode == modes::IN_ARRAYS {
-        return modes::VALUE_IN_ARRAYS;
-    }
-    modes::VALUE_STRAIGHT
-}
-
-pub fn item_mode(mode: usize) -> usize
+// The mode of an array's items, by what is done below the array.
+pub fn item_mode(mode: Deep) -> Mode
     ensures { λ r. ⌜ r ≡ itemMode mode ⌝ }
 {
-    if mode == modes::FOUND {
-        return modes::FOUND;
+    match mode {
+        Deep::Found => Mode::Below(Deep::Found),
+        Deep::Reached(_) => Mode::Below(Deep::Reached(Reach::Anywhere)),
     }
-    modes::ANYWHERE
+}
+
+// Whether arrays are entered.
+pub fn enters_arrays(mode: Deep) -> bool
+    ensures { λ r. ⌜ r ≡ entersArrays mode ⌝ }
+{
+    match mode {
+        Deep::Found => true,
+        Deep::Reached(reach) => enters(reach),
+    }
 }
 
 // The level of the parameters or declarators of a head: that of its body, or one below.
@@ -117,39 +109,43 @@ pub fn cell(stem: u8, at: usize) -> usize
 }
 
 // How a key is written among the excluded keys.
-pub const AS_STRING: usize = 1;
+pub enum KeyClass {
+    AsString,
+    AsItStands,
+    LeftOut,
+    AsTemporary,
+}
 
-pub const AS_IT_STANDS: usize = 2;
-
-pub const LEFT_OUT: usize = 3;
-
-pub const AS_TEMPORARY: usize = 4;
-
-pub fn key_sort(t: &[u8], left: usize, at: usize) -> usize
+pub fn key_sort(t: &[u8], left: usize, at: usize) -> KeyClass
     ensures { λ r. ⌜ r ≡ keyClass (lookNode (now (t .entry)) left at .value) ⌝ }
 {
     if 0 < left {
         if peek(t, at) == kinds::STATIC_KEY {
-            return AS_STRING;
+            return KeyClass::AsString;
         }
     }
     match transform_property_key(t, left, at) {
-        Key::Name { from: _, len: _ } => AS_STRING,
-        Key::Literal { from: _, len: _ } => AS_STRING,
-        Key::Number { value: _ } => AS_STRING,
-        Key::OtherForm { value: _ } => AS_STRING,
-        Key::NoForm => AS_STRING,
-        Key::Template => AS_IT_STANDS,
-        Key::Private => LEFT_OUT,
-        Key::Again => AS_IT_STANDS,
-        Key::Other => AS_TEMPORARY,
+        Key::Name { from: _, len: _ } => KeyClass::AsString,
+        Key::Literal { from: _, len: _ } => KeyClass::AsString,
+        Key::Number { value: _ } => KeyClass::AsString,
+        Key::OtherForm { value: _ } => KeyClass::AsString,
+        Key::NoForm => KeyClass::AsString,
+        Key::Template => KeyClass::AsItStands,
+        Key::Private => KeyClass::LeftOut,
+        Key::Again => KeyClass::AsItStands,
+        Key::Other => KeyClass::AsTemporary,
     }
 }
 
 pub fn is_other(t: &[u8], left: usize, at: usize) -> bool
     ensures { λ r. ⌜ r ≡ isOther (lookNode (now (t .entry)) left at .value) ⌝ }
 {
-    key_sort(t, left, at) == AS_TEMPORARY
+    match key_sort(t, left, at) {
+        KeyClass::AsString => false,
+        KeyClass::AsItStands => false,
+        KeyClass::LeftOut => false,
+        KeyClass::AsTemporary => true,
+    }
 }
 
 // Whether the excluded keys of the object pattern at a position go out to the list.

@@ -1,48 +1,27 @@
 // The modes of a list: what is done for each of its items (`turnOf` of specs/Turns).
+use crate::reaches::Reach;
 
-// ---- patterns
+// What is done below a pattern (`deepOf`): the declarators that are found, or the assignments of the objects with rest that are reached.
+pub enum Deep {
+    Found,
+    Reached(Reach),
+}
 
-// In the view that replaces.
-pub const VIEWED: usize = 1;
+pub enum Mode {
+    // Patterns: in the view that replaces, without the parts that are moved out, what is below them.
+    Viewed,
+    MovedOut,
+    Below(Deep),
 
-// Without the parts that are moved out.
-pub const MOVED_OUT: usize = 16;
+    // Properties: in a view, of an object whose rest is taken or not; the key among the excluded keys; the declarator of the temporary for the
+    // key; what is below the value.
+    Property(bool),
+    ExcludedKey,
+    KeyValue,
+    Value(Deep),
 
-// The declarators that are found below.
-pub const FOUND: usize = 8;
+    Declarator,
 
-// The assignments of the objects that are found below: anywhere, below arrays, through objects.
-pub const ANYWHERE: usize = 12;
-
-pub const IN_ARRAYS: usize = 17;
-
-pub const STRAIGHT: usize = 18;
-
-// ---- properties
-
-// In a view; of an object whose rest is taken.
-pub const PROPERTY: usize = 2;
-
-pub const TAKEN_PROPERTY: usize = 4;
-
-// The key among the excluded keys.
-pub const EXCLUDED_KEY: usize = 6;
-
-// The declarator of the temporary for the key.
-pub const KEY_VALUE: usize = 7;
-
-// As the modes of patterns, for the value.
-pub const VALUE_FOUND: usize = 9;
-
-pub const VALUE_ANYWHERE: usize = 13;
-
-pub const VALUE_IN_ARRAYS: usize = 14;
-
-pub const VALUE_STRAIGHT: usize = 15;
-
-// ---- others
-
-pub const DECLARATOR: usize = 10;
-
-// A parameter or a declarator whose pattern is moved out.
-pub const BINDING: usize = 11;
+    // A parameter or a declarator whose pattern is moved out.
+    Binding,
+}

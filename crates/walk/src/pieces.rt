@@ -1,6 +1,6 @@
 // Pieces that are written without a walk: holes, sources, keys as strings.
 use crate::kinds;
-use crate::modes;
+use crate::modes::Mode;
 use crate::walk::Walk;
 use pattern::keys::Key;
 use pattern::keys::transform_property_key;
@@ -22,17 +22,31 @@ ghost use Rattle.direct.specs.Events.{puts};
 ghost use Rattle.direct.specs.Events.Deed.{does};
 ghost use Rattle.direct.specs.Emit.{say};
 ghost use Rattle.walk.specs.Run.{goingOf, Runs};
-ghost use Rattle.walk.specs.Turns.{holeDeeds, reads, sourceOf, stringOf, awaits};
+ghost use Rattle.walk.specs.Turns.{writesHoles, holeDeeds, reads, sourceOf, stringOf, awaits};
+
+// Whether the list is written.
+fn writes_holes(mode: Mode) -> bool
+    ensures { λ r. ⌜ r ≡ writesHoles mode ⌝ }
+{
+    match mode {
+        Mode::Viewed => true,
+        Mode::MovedOut => true,
+        Mode::Below(_) => false,
+        Mode::Property(_) => false,
+        Mode::ExcludedKey => false,
+        Mode::KeyValue => false,
+        Mode::Value(_) => false,
+        Mode::Declarator => false,
+        Mode::Binding => false,
+    }
+}
 
 // A hole of a list, written where the list is.
-pub fn hole(w: Walk, t: &[u8], out: &mut [u8], mode: usize) -> Walk
+pub fn hole(w: Walk, t: &[u8], out: &mut [u8], mode: Mode) -> Walk
     ensures { λ r. ⌜ (r .at ≡ onward (now (t .entry)) (w .at) 1) × ((l k : List ℕ) → Runs (goingOf (now (out .entry)) l k w) (goingOf (now (out .exit)) l k r) (holeDeeds (now (t .entry)) mode (w .at))) ⌝ }
 {
     let q = step(t, w.at, 1);
-    if mode == modes::VIEWED {
-        return w.copy(t, out, q);
-    }
-    if mode == modes::MOVED_OUT {
+    if writes_holes(mode) {
         return w.copy(t, out, q);
     }
     w.to(q)

@@ -1,6 +1,32 @@
 // Where objects with rest are looked for below a target: anywhere, through objects alone, below arrays alone.
-pub const ANYWHERE: usize = 1;
+ghost use mathlib.Core.Path.{_≡_};
+ghost use Rattle.direct.specs.Objects as objects;
+ghost use Rattle.walk.specs.Turns.{reachOf};
 
-pub const STRAIGHT: usize = 2;
+pub enum Reach {
+    Anywhere,
+    Straight,
+    InArrays,
+}
 
-pub const IN_ARRAYS: usize = 3;
+// Whether one that is come to through objects counts.
+pub fn counts(reach: Reach) -> bool
+    ensures { λ r. ⌜ r ≡ objects.counts (reachOf reach) ⌝ }
+{
+    match reach {
+        Reach::Anywhere => true,
+        Reach::Straight => true,
+        Reach::InArrays => false,
+    }
+}
+
+// Whether arrays are entered.
+pub fn enters(reach: Reach) -> bool
+    ensures { λ r. ⌜ r ≡ objects.enters (reachOf reach) ⌝ }
+{
+    match reach {
+        Reach::Anywhere => true,
+        Reach::Straight => false,
+        Reach::InArrays => true,
+    }
+}

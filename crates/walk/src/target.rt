@@ -3,7 +3,9 @@
 use crate::kinds;
 use crate::look::has_second;
 use crate::place::less;
-use crate::reaches;
+use crate::reaches::Reach;
+use crate::reaches::counts;
+use crate::reaches::enters;
 use crate::stems;
 use crate::walk::Walk;
 use crate::written;
@@ -25,7 +27,8 @@ ghost use Rattle.tree.specs.Look.{lookNode};
 ghost use Rattle.lowering.specs.Patterns.{value, properties};
 ghost use Rattle.pattern.specs.Tally.{limited};
 ghost use Rattle.direct.specs.Emit.{say, inTurn};
-ghost use Rattle.direct.specs.Objects.{counts, reached, reachedIn, overReached};
+ghost use Rattle.direct.specs.Objects.{reached, reachedIn, overReached};
+ghost use Rattle.direct.specs.Objects as objects;
 ghost use Rattle.direct.specs.Handed.{handsPlace};
 ghost use Rattle.walk.specs.Run.{goingOf, Does};
 ghost use Rattle.walk.specs.Whole.{holeAt, Good};
@@ -34,7 +37,7 @@ ghost use Rattle.walk.specs.Turns.{reachOf, valuesCount};
 // ---- how many there are
 
 // Below the target at a position.
-pub fn target_count(t: &[u8], left: usize, at: usize, reach: usize) -> usize
+pub fn target_count(t: &[u8], left: usize, at: usize, reach: Reach) -> usize
     ensures { λ r. ⌜ r ≡ limited (count (reached (reachOf reach) (lookNode (now (t .entry)) left at .value))) ⌝ }
 {
     if left == 0 {
@@ -50,7 +53,7 @@ pub fn target_count(t: &[u8], left: usize, at: usize, reach: usize) -> usize
             object_count(t, left, at, reach)
         }
         kinds::ARRAY_PATTERN => {
-            if reach == reaches::STRAIGHT {
+            if !enters(reach) {
                 return 0;
             }
             let run = parts::list(t, left, at, 0);
@@ -59,7 +62,7 @@ pub fn target_count(t: &[u8], left: usize, at: usize, reach: usize) -> usize
             let mut k = 0;
             while 0 < n {
                 let e = parts::item(t, true, below, p);
-                k = plus(k, target_count(t, e.left, e.at, reaches::ANYWHERE));
+                k = plus(k, target_count(t, e.left, e.at, Reach::Anywhere));
                 p = skip_item(t, true, below, p);
                 n -= 1;
             }
@@ -74,17 +77,17 @@ pub fn target_count(t: &[u8], left: usize, at: usize, reach: usize) -> usize
 }
 
 // One that is come to through objects.
-fn found(reach: usize) -> usize
-    ensures { λ r. ⌜ r ≡ cond (counts (reachOf reach)) 1 0 ⌝ }
+fn found(reach: Reach) -> usize
+    ensures { λ r. ⌜ r ≡ cond (objects.counts (reachOf reach)) 1 0 ⌝ }
 {
-    if reach == reaches::IN_ARRAYS {
-        return 0;
+    if counts(reach) {
+        return 1;
     }
-    1
+    0
 }
 
 // Below the values of the object at a position that may be patterns by their kind.
-pub fn object_count(t: &[u8], left: usize, at: usize, reach: usize) -> usize
+pub fn object_count(t: &[u8], left: usize, at: usize, reach: Reach) -> usize
     ensures { λ r. ⌜ r ≡ valuesCount (now (t .entry)) (reachOf reach) left at ⌝ }
 {
     if left == 0 {
@@ -116,7 +119,7 @@ pub fn target_values(
     work: &mut [u8],
     left: usize,
     at: usize,
-    reach: usize,
+    reach: Reach,
 ) -> Walk
     ensures { λ r. ⌜ (r .at ≡ w .at) × ((o : List ℕ) → Good (now (t .entry)) left at → byteAt (now (t .entry)) at ≡ 34 → Does (goingOf o (now (list .entry)) (now (work .entry)) w) (goingOf o (now (list .exit)) (now (work .exit)) r) (inTurn (λ q. overReached handsPlace (reachOf reach) (value q)) (properties (lookNode (now (t .entry)) left at .value)))) ⌝ }
 {
@@ -141,12 +144,12 @@ fn target_object(
     work: &mut [u8],
     left: usize,
     at: usize,
-    reach: usize,
+    reach: Reach,
 ) -> Walk
     ensures { λ r. ⌜ (r .at ≡ w .at) × ((o : List ℕ) → Good (now (t .entry)) (suc left) at → byteAt (now (t .entry)) at ≡ 34 → Does (goingOf o (now (list .entry)) (now (work .entry)) w) (goingOf o (now (list .exit)) (now (work .exit)) r) (overReached handsPlace (reachOf reach) (lookNode (now (t .entry)) (suc left) at .value))) ⌝ }
 {
     if has_second(t, at) {
-        if reach == reaches::IN_ARRAYS {
+        if !counts(reach) {
             return w;
         }
         return w.listed2(list, written::DECLARATOR, written::FIRST)
@@ -175,7 +178,7 @@ fn target_property(
     work: &mut [u8],
     left: usize,
     at: usize,
-    reach: usize,
+    reach: Reach,
 ) -> Walk
     ensures { λ r. ⌜ (r .at ≡ w .at) × ((o : List ℕ) → Good (now (t .entry)) (suc left) at → byteAt (now (t .entry)) at ≡ 35 → Does (goingOf o (now (list .entry)) (now (work .entry)) w) (goingOf o (now (list .exit)) (now (work .exit)) r) (overReached handsPlace (reachOf reach) (value (lookNode (now (t .entry)) (suc left) at .value)))) ⌝ }
 {
@@ -191,7 +194,7 @@ fn target_property(
     match kind {
         kinds::OBJECT_PATTERN => target_object(w, t, list, work, below, x, reach),
         kinds::ARRAY_PATTERN => {
-            if reach == reaches::STRAIGHT {
+            if !enters(reach) {
                 return w;
             }
             let q = step(t, x, 2);
@@ -199,7 +202,7 @@ fn target_property(
             let mut n = wide_at(t, q);
             let mut p = step(t, q, 2);
             while 0 < n {
-                u = target_item(u, t, list, work, below, p, reaches::ANYWHERE);
+                u = target_item(u, t, list, work, below, p, Reach::Anywhere);
                 p = skip_item(t, true, below, p);
                 n -= 1;
             }
@@ -218,7 +221,7 @@ pub fn target_item(
     work: &mut [u8],
     left: usize,
     at: usize,
-    reach: usize,
+    reach: Reach,
 ) -> Walk
     ensures { λ r. ⌜ (r .at ≡ w .at) × ((o : List ℕ) (h : Bool) → (holeAt (now (t .entry)) h at ≡ false → Good (now (t .entry)) left at) → Does (goingOf o (now (list .entry)) (now (work .entry)) w) (goingOf o (now (list .exit)) (now (work .exit)) r) (cond (holeAt (now (t .entry)) h at) (say []) (overReached handsPlace (reachOf reach) (lookNode (now (t .entry)) left at .value)))) ⌝ }
 {
@@ -230,7 +233,7 @@ pub fn target_item(
     match kind {
         kinds::OBJECT_PATTERN => target_object(w, t, list, work, below, at, reach),
         kinds::ARRAY_PATTERN => {
-            if reach == reaches::STRAIGHT {
+            if !enters(reach) {
                 return w;
             }
             let q = step(t, at, 2);
@@ -238,7 +241,7 @@ pub fn target_item(
             let mut n = wide_at(t, q);
             let mut p = step(t, q, 2);
             while 0 < n {
-                u = target_item(u, t, list, work, below, p, reaches::ANYWHERE);
+                u = target_item(u, t, list, work, below, p, Reach::Anywhere);
                 p = skip_item(t, true, below, p);
                 n -= 1;
             }

@@ -14,6 +14,8 @@ use Rattle.tree.specs.Look.{lookItems, lookFields, lookNode}
 use Rattle.tree.specs.Rows.{fieldsIn}
 use Rattle.walk.specs.Turns.{AllSuit, isTold, toldPlace, propertyMode}
 use Rattle.walk.proofs.Running.{does-nothing, runs-does}
+use Rattle.walk.specs.declared.views.View as views
+use Rattle.walk.specs.declared.views.View.the-variants.{Replacing, Taking}
 use Rattle.tree.proofs.Skipping.{node-none}
 use Rattle.walk.proofs.Emits.{good-none}
 use Rattle.direct.specs.Literals as literals
@@ -56,6 +58,7 @@ use Rattle.walk.proofs.Viewing as viewing
 use Rattle.walk.proofs.QuietValues as quiets
 use Rattle.walk.proofs.Turning as turning
 use Rattle.walk.proofs.Told as told
+use Rattle.walk.proofs.Lookups.{denied, undenied}
 use Rattle.pattern.proofs.keys.all_primitive.Reads as all-primitive-reads
 use Rattle.pattern.proofs.keys.excluded_keys.Reads as excluded-keys-reads
 use Rattle.pattern.proofs.keys.has_no_properties.Reads as has-no-properties-reads
@@ -68,7 +71,6 @@ use Rattle.walk.proofs.look.has_second.Reads as has-second-reads
 use Rattle.walk.proofs.look.hoisted.Reads as hoisted-reads
 use Rattle.walk.proofs.look.is_other.Reads as is-other-reads
 use Rattle.walk.proofs.look.key_sort.Reads as key-sort-reads
-use Rattle.walk.proofs.look.property_mode.Reads as property-mode-reads
 use Rattle.walk.proofs.look.replaces.Reads as replaces-reads
 use Rattle.walk.proofs.walk.Walk.call.Reads as call-reads
 use Rattle.walk.proofs.walk.Walk.empty_rest.Reads as empty-rest-reads
@@ -122,7 +124,8 @@ use Rattle.pattern.proofs.source.ReferenceBuilder.new.Reads as new-reads
 use Rattle.walk.proofs.hand.declaration_hands.Reads as declaration-hands-reads
 use Rattle.walk.proofs.look.item_mode.Reads as item-mode-reads
 use Rattle.walk.proofs.look.start_of.Reads as start-of-reads
-use Rattle.walk.proofs.look.value_mode.Reads as value-mode-reads
+use Rattle.walk.proofs.look.enters_arrays.Reads as enters-arrays-reads
+use Rattle.walk.proofs.reaches.counts.Reads as counts-reads
 use Rattle.emit.proofs.add as add
 use Rattle.emit.proofs.ta as ta
 use Rattle.emit.proofs.ar as ar
@@ -281,8 +284,12 @@ abbrev μ-node : Measures 4 node.Kinds.ps ℕ
 μ-node κs a = 131072 * (64 * a .1 .1 .1 .1 .1 .0 .left + 20)
 
 -- the target without its rest is below an object that is found, so the rank goes by the view
+abbrev rank-of : views.View → ℕ
+rank-of Replacing = 1
+rank-of Taking = 0
+
 abbrev μ-ns : Measures 4 ns.Kinds.ps ℕ
-μ-ns κs a = 131072 * (64 * a .1 .1 .1 .1 .1 .0 .left + (29 + 10 * min 1 ((a .1 .1 .1 .1 .1 .1 .1 .0 - 2) + (2 - a .1 .1 .1 .1 .1 .1 .1 .0))))
+μ-ns κs a = 131072 * (64 * a .1 .1 .1 .1 .1 .0 .left + (29 + 10 * rank-of (a .1 .1 .1 .1 .1 .1 .1 .0)))
 
 abbrev μ-oa : Measures 4 oa.Kinds.ps ℕ
 μ-oa κs a = 131072 * (64 * a .1 .1 .1 .1 .1 .0 .left + 29)
@@ -381,7 +388,7 @@ abbrev ca-claims : ℕ → cycle.Lts-ca.Claims
 ca-claims t = (less-reads.Asked, less-reads.Learnt, step-reads.Asked, step-reads.Learnt, has-first-reads.Asked, has-first-reads.Learnt, is-moved-reads.Asked, is-moved-reads.Learnt, scoped-reads.Asked, scoped-reads.Learnt, moves-make-reads.Asked, moves-make-reads.Learnt, copy-reads.Asked, copy-reads.Learnt, below-measure seq.Kinds.ps μ-seq seq.Reads.Pre t, seq.Reads.Post, below-measure bl.Kinds.ps μ-bl bl.Reads.Pre t, bl.Reads.Post, skip-reads.Asked, skip-reads.Learnt, to-reads.Asked, to-reads.Learnt, below-measure plain.Kinds.ps μ-plain plain.Reads.Pre t, plain.Reads.Post)
 
 abbrev da-claims : ℕ → cycle.Lts-da.Claims
-da-claims t = (skip-reads.Asked, skip-reads.Learnt, to-reads.Asked, to-reads.Learnt, step-reads.Asked, step-reads.Learnt, wide-at-reads.Asked, wide-at-reads.Learnt, less-reads.Asked, less-reads.Learnt, under-reads.Asked, under-reads.Learnt, item-mode-reads.Asked, item-mode-reads.Learnt, below-measure seq.Kinds.ps μ-seq seq.Reads.Pre t, seq.Reads.Post)
+da-claims t = (skip-reads.Asked, skip-reads.Learnt, enters-arrays-reads.Asked, enters-arrays-reads.Learnt, to-reads.Asked, to-reads.Learnt, step-reads.Asked, step-reads.Learnt, wide-at-reads.Asked, wide-at-reads.Learnt, less-reads.Asked, less-reads.Learnt, under-reads.Asked, under-reads.Learnt, item-mode-reads.Asked, item-mode-reads.Learnt, below-measure seq.Kinds.ps μ-seq seq.Reads.Pre t, seq.Reads.Post)
 
 abbrev decl-claims : ℕ → cycle.Lts-decl.Claims
 decl-claims t = (at-root-reads.Asked, at-root-reads.Learnt, declaration-refusal-reads.Asked, declaration-refusal-reads.Learnt, refuse-reads.Asked, refuse-reads.Learnt, skip-reads.Asked, skip-reads.Learnt, to-reads.Asked, to-reads.Learnt, declaration-hands-reads.Asked, declaration-hands-reads.Learnt, step-reads.Asked, step-reads.Learnt, declaration-becomes-reads.Asked, declaration-becomes-reads.Learnt, copy-reads.Asked, copy-reads.Learnt, wide-reads.Asked, wide-reads.Learnt, less-reads.Asked, less-reads.Learnt, under-reads.Asked, under-reads.Learnt, wide-at-reads.Asked, wide-at-reads.Learnt, below-measure seq.Kinds.ps μ-seq seq.Reads.Pre t, seq.Reads.Post)
@@ -393,7 +400,7 @@ abbrev dh-claims : ℕ → cycle.Lts-dh.Claims
 dh-claims t = (less-reads.Asked, less-reads.Learnt, step-reads.Asked, step-reads.Learnt, wide-at-reads.Asked, wide-at-reads.Learnt, moves-make-reads.Asked, moves-make-reads.Learnt, copy-reads.Asked, copy-reads.Learnt, scoped-reads.Asked, scoped-reads.Learnt, below-measure seq.Kinds.ps μ-seq seq.Reads.Pre t, seq.Reads.Post, below-measure node.Kinds.ps μ-node node.Reads.Pre t, node.Reads.Post, below-measure bl.Kinds.ps μ-bl bl.Reads.Pre t, bl.Reads.Post, await-of-reads.Asked, await-of-reads.Learnt)
 
 abbrev db-claims : ℕ → cycle.Lts-db.Claims
-db-claims t = (below-measure fb.Kinds.ps μ-fb fb.Reads.Pre t, fb.Reads.Post, has-second-reads.Asked, has-second-reads.Learnt, skip-reads.Asked, skip-reads.Learnt, to-reads.Asked, to-reads.Learnt, inside-reads.Asked, inside-reads.Learnt, cell-reads.Asked, cell-reads.Learnt, below-measure top.Kinds.ps μ-top top.Reads.Pre t, top.Reads.Post, value-mode-reads.Asked, value-mode-reads.Learnt, below-measure pr.Kinds.ps μ-pr pr.Reads.Pre t, pr.Reads.Post)
+db-claims t = (below-measure fb.Kinds.ps μ-fb fb.Reads.Pre t, fb.Reads.Post, has-second-reads.Asked, has-second-reads.Learnt, skip-reads.Asked, skip-reads.Learnt, counts-reads.Asked, counts-reads.Learnt, to-reads.Asked, to-reads.Learnt, inside-reads.Asked, inside-reads.Learnt, cell-reads.Asked, cell-reads.Learnt, below-measure top.Kinds.ps μ-top top.Reads.Pre t, top.Reads.Post, below-measure pr.Kinds.ps μ-pr pr.Reads.Pre t, pr.Reads.Post)
 
 abbrev dr-claims : ℕ → cycle.Lts-dr.Claims
 dr-claims t = (less-reads.Asked, less-reads.Learnt, step-reads.Asked, step-reads.Learnt, start-of-reads.Asked, start-of-reads.Learnt, told-inside-reads.Asked, told-inside-reads.Learnt, below-measure node.Kinds.ps μ-node node.Reads.Pre t, node.Reads.Post, has-nested-object-rest-reads.Asked, has-nested-object-rest-reads.Learnt, skip-reads.Asked, skip-reads.Learnt, cell-reads.Asked, cell-reads.Learnt, new-reads.Asked, new-reads.Learnt, under-reads.Asked, under-reads.Learnt, below-measure lo.Kinds.ps μ-lo lo.Reads.Pre t, lo.Reads.Post, to-reads.Asked, to-reads.Learnt)
@@ -450,7 +457,7 @@ abbrev node-claims : ℕ → cycle.Lts-node.Claims
 node-claims t = (quiet-reads.Asked, quiet-reads.Learnt, skip-reads.Asked, skip-reads.Learnt, copy-reads.Asked, copy-reads.Learnt, peek-reads.Asked, peek-reads.Learnt, below-measure decl.Kinds.ps μ-decl decl.Reads.Pre t, decl.Reads.Post, below-measure head.Kinds.ps μ-head head.Reads.Pre t, head.Reads.Post, below-measure ca.Kinds.ps μ-ca ca.Reads.Pre t, ca.Reads.Post, below-measure fun.Kinds.ps μ-fun fun.Reads.Pre t, fun.Reads.Post, below-measure ar.Kinds.ps μ-ar ar.Reads.Pre t, ar.Reads.Post, below-measure lit.Kinds.ps μ-lit lit.Reads.Pre t, lit.Reads.Post, below-measure ag.Kinds.ps μ-ag ag.Reads.Pre t, ag.Reads.Post, below-measure plain.Kinds.ps μ-plain plain.Reads.Pre t, plain.Reads.Post)
 
 abbrev ns-claims : ℕ → cycle.Lts-ns.Claims
-ns-claims t = (places-in-reads.Asked, places-in-reads.Learnt, nested-hands-reads.Asked, nested-hands-reads.Learnt, put2-reads.Asked, put2-reads.Learnt, plus-reads.Asked, plus-reads.Learnt, wide-reads.Asked, wide-reads.Learnt, assign-reads.Asked, assign-reads.Learnt, to-reads.Asked, to-reads.Learnt, told-inside-reads.Asked, told-inside-reads.Learnt, below-measure view.Kinds.ps μ-view view.Reads.Pre t, view.Reads.Post, below-measure gv.Kinds.ps μ-gv gv.Reads.Pre t, gv.Reads.Post, below-measure pr.Kinds.ps μ-pr pr.Reads.Pre t, pr.Reads.Post, below-measure deep.Kinds.ps μ-deep deep.Reads.Pre t, deep.Reads.Post)
+ns-claims t = (places-in-reads.Asked, places-in-reads.Learnt, nested-hands-reads.Asked, nested-hands-reads.Learnt, put2-reads.Asked, put2-reads.Learnt, plus-reads.Asked, plus-reads.Learnt, wide-reads.Asked, wide-reads.Learnt, assign-reads.Asked, assign-reads.Learnt, to-reads.Asked, to-reads.Learnt, told-inside-reads.Asked, told-inside-reads.Learnt, below-measure view.Kinds.ps μ-view view.Reads.Pre t, view.Reads.Post, below-measure gv.Kinds.ps μ-gv gv.Reads.Pre t, gv.Reads.Post, below-measure deep.Kinds.ps μ-deep deep.Reads.Pre t, deep.Reads.Post, below-measure pr.Kinds.ps μ-pr pr.Reads.Pre t, pr.Reads.Post)
 
 abbrev oa-claims : ℕ → cycle.Lts-oa.Claims
 oa-claims t = (has-no-properties-reads.Asked, has-no-properties-reads.Learnt, put2-reads.Asked, put2-reads.Learnt, told-inside-reads.Asked, told-inside-reads.Learnt, below-measure view.Kinds.ps μ-view view.Reads.Pre t, view.Reads.Post, source-reads.Asked, source-reads.Learnt, to-reads.Asked, to-reads.Learnt)
@@ -504,7 +511,7 @@ abbrev top-claims : ℕ → cycle.Lts-top.Claims
 top-claims t = (refusal-reads.Asked, refusal-reads.Learnt, refuse-reads.Asked, refuse-reads.Learnt, told-inside-reads.Asked, told-inside-reads.Learnt, top-hands-reads.Asked, top-hands-reads.Learnt, top-count-reads.Asked, top-count-reads.Learnt, put2-reads.Asked, put2-reads.Learnt, wide-reads.Asked, wide-reads.Learnt, assign-reads.Asked, assign-reads.Learnt, cell-reads.Asked, cell-reads.Learnt, temporary-reads.Asked, temporary-reads.Learnt, below-measure gv.Kinds.ps μ-gv gv.Reads.Pre t, gv.Reads.Post, below-measure tg.Kinds.ps μ-tg tg.Reads.Pre t, tg.Reads.Post, below-measure pr.Kinds.ps μ-pr pr.Reads.Pre t, pr.Reads.Post, less-reads.Asked, less-reads.Learnt, below-measure node.Kinds.ps μ-node node.Reads.Pre t, node.Reads.Post, cell-source-reads.Asked, cell-source-reads.Learnt, below-measure rest.Kinds.ps μ-rest rest.Reads.Pre t, rest.Reads.Post)
 
 abbrev turn-claims : ℕ → cycle.Lts-turn.Claims
-turn-claims t = (peek-reads.Asked, peek-reads.Learnt, hole-reads.Asked, hole-reads.Learnt, below-measure view.Kinds.ps μ-view view.Reads.Pre t, view.Reads.Post, below-measure prop.Kinds.ps μ-prop prop.Reads.Pre t, prop.Reads.Post, below-measure ek.Kinds.ps μ-ek ek.Reads.Pre t, ek.Reads.Post, below-measure kv.Kinds.ps μ-kv kv.Reads.Pre t, kv.Reads.Post, below-measure vl.Kinds.ps μ-vl vl.Reads.Pre t, vl.Reads.Post, below-measure dr.Kinds.ps μ-dr dr.Reads.Pre t, dr.Reads.Post, below-measure bi.Kinds.ps μ-bi bi.Reads.Pre t, bi.Reads.Post, below-measure go.Kinds.ps μ-go go.Reads.Pre t, go.Reads.Post, below-measure deep.Kinds.ps μ-deep deep.Reads.Pre t, deep.Reads.Post)
+turn-claims t = (peek-reads.Asked, peek-reads.Learnt, hole-reads.Asked, hole-reads.Learnt, below-measure view.Kinds.ps μ-view view.Reads.Pre t, view.Reads.Post, below-measure go.Kinds.ps μ-go go.Reads.Pre t, go.Reads.Post, below-measure deep.Kinds.ps μ-deep deep.Reads.Pre t, deep.Reads.Post, below-measure prop.Kinds.ps μ-prop prop.Reads.Pre t, prop.Reads.Post, below-measure ek.Kinds.ps μ-ek ek.Reads.Pre t, ek.Reads.Post, below-measure kv.Kinds.ps μ-kv kv.Reads.Pre t, kv.Reads.Post, below-measure vl.Kinds.ps μ-vl vl.Reads.Pre t, vl.Reads.Post, below-measure dr.Kinds.ps μ-dr dr.Reads.Pre t, dr.Reads.Post, below-measure bi.Kinds.ps μ-bi bi.Reads.Pre t, bi.Reads.Post)
 
 abbrev vl-claims : ℕ → cycle.Lts-vl.Claims
 vl-claims t = (quiet-reads.Asked, quiet-reads.Learnt, skip-reads.Asked, skip-reads.Learnt, to-reads.Asked, to-reads.Learnt, less-reads.Asked, less-reads.Learnt, step-reads.Asked, step-reads.Learnt, under-reads.Asked, under-reads.Learnt, below-measure deep.Kinds.ps μ-deep deep.Reads.Pre t, deep.Reads.Post)
@@ -516,7 +523,7 @@ abbrev view-claims : ℕ → cycle.Lts-view.Claims
 view-claims t = (peek-reads.Asked, peek-reads.Learnt, below-measure vo.Kinds.ps μ-vo vo.Reads.Pre t, vo.Reads.Post, below-measure va.Kinds.ps μ-va va.Reads.Pre t, va.Reads.Post, less-reads.Asked, less-reads.Learnt, step-reads.Asked, step-reads.Learnt, copy-reads.Asked, copy-reads.Learnt, inside-reads.Asked, inside-reads.Learnt, below-measure view.Kinds.ps μ-view view.Reads.Pre t, view.Reads.Post, below-measure node.Kinds.ps μ-node node.Reads.Pre t, node.Reads.Post)
 
 abbrev vo-claims : ℕ → cycle.Lts-vo.Claims
-vo-claims t = (less-reads.Asked, less-reads.Learnt, has-second-reads.Asked, has-second-reads.Learnt, replaces-reads.Asked, replaces-reads.Learnt, temporary-reads.Asked, temporary-reads.Learnt, skip-reads.Asked, skip-reads.Learnt, to-reads.Asked, to-reads.Learnt, step-reads.Asked, step-reads.Learnt, wide-at-reads.Asked, wide-at-reads.Learnt, put2-reads.Asked, put2-reads.Learnt, wide-reads.Asked, wide-reads.Learnt, inside-reads.Asked, inside-reads.Learnt, property-mode-reads.Asked, property-mode-reads.Learnt, below-measure seq.Kinds.ps μ-seq seq.Reads.Pre t, seq.Reads.Post)
+vo-claims t = (less-reads.Asked, less-reads.Learnt, has-second-reads.Asked, has-second-reads.Learnt, replaces-reads.Asked, replaces-reads.Learnt, temporary-reads.Asked, temporary-reads.Learnt, skip-reads.Asked, skip-reads.Learnt, to-reads.Asked, to-reads.Learnt, step-reads.Asked, step-reads.Learnt, wide-at-reads.Asked, wide-at-reads.Learnt, put2-reads.Asked, put2-reads.Learnt, wide-reads.Asked, wide-reads.Learnt, inside-reads.Asked, inside-reads.Learnt, below-measure seq.Kinds.ps μ-seq seq.Reads.Pre t, seq.Reads.Post)
 
 add-returns : (t : ℕ) → cycle.Lts-add.Need-returns (add-claims t) (at-measure add.Kinds.ps μ-add add.Reads.Pre t) add.Reads.Post
 add-returns t c = moving.add-refused _ _ _ _ _ _ _ (c .before .before .before .before .before .before .before .has-nested-object-rest .ensures) (c .before .before .before .before .before .before .if1 .taken) (c .before .before .before .before .before .refusal-below .ensures) (c .before .before .before .before .if2 .taken) (runs-does (c .before .before .refuse .ensures .0 _ _))
@@ -641,13 +648,13 @@ ca-returns-3 : (t : ℕ) → cycle.Lts-ca.Need-returns-3 (ca-claims t) (at-measu
 ca-returns-3 t c = looping.catch-stays _ _ _ _ _ _ (c .before .before .before .before .before .before .before .before .before .before .before .has-first .ensures) (c .before .before .before .before .before .before .before .before .before .before .if1 .left) (c .before .before .before .before .before .before .plain2 .ensures)
 
 da-returns : (t : ℕ) → cycle.Lts-da.Need-returns (da-claims t) (at-measure da.Kinds.ps μ-da da.Reads.Pre t) da.Reads.Post
-da-returns t c = λ k good mode suit. good-none _ _ _ (c .if1 .taken) good
+da-returns t c = λ k good suit. good-none _ _ _ (c .if1 .taken) good
 
 da-returns-2 : (t : ℕ) → cycle.Lts-da.Need-returns-2 (da-claims t) (at-measure da.Kinds.ps μ-da da.Reads.Pre t) da.Reads.Post
-da-returns-2 t c = finding.array-taken _ _ _ _ _ _ _ (c .before .before .skip .ensures) (c .before .if2 .taken) (c .to .ensures .1) (c .to .ensures .0 _ _ _)
+da-returns-2 t c = finding.array-taken _ _ _ _ _ _ _ (c .before .before .before .skip .ensures) (denied _ _ (c .before .before .enters-arrays .ensures) (c .before .if2 .taken)) (c .to .ensures .1) (c .to .ensures .0 _ _ _)
 
 da-returns-3 : (t : ℕ) → cycle.Lts-da.Need-returns-3 (da-claims t) (at-measure da.Kinds.ps μ-da da.Reads.Pre t) da.Reads.Post
-da-returns-3 t c = finding.array-items _ _ _ _ _ _ _ _ _ _ _ _ _ _ _ _ (c .before .before .before .before .before .before .before .before .before .before .before .before .before .before .before .before .before .before .before .skip .ensures) (c .before .before .before .before .before .before .before .before .before .before .before .before .before .before .before .before .before .before .if2 .left) (c .before .before .before .before .before .before .before .before .before .before .before .before .before .before .before .before .before .step .ensures) (c .before .before .before .before .before .before .before .before .before .before .before .before .before .before .before .before .wide-at .ensures) (c .before .before .before .before .before .before .before .before .before .before .before .before .before .before .before .step2 .ensures) (c .before .before .before .before .before .before .before .before .before .before .before .before .before .before .to2 .ensures .1) (c .before .before .before .before .before .before .before .before .before .before .before .before .before .before .to2 .ensures .0 _ _ _) (c .before .before .before .before .before .before .before .before .before .before .less .ensures) (c .before .before .before .before .before .before .before .before .before .under .ensures .1) (told.with-same _ (c .before .before .before .before .before .before .before .before .before .under .ensures .0)) (c .before .before .before .before .before .before .before .before .item-mode .ensures) (told.items-with _ _ _ _ _ _ _ _ _ _ _ (told.item-told (c .before .before .before .before .before .before .before .before .before .before .before .before .before .before .before .before .before .before .before .before .before .before .before .before .before .before .args .mode) _ (c .before .before .before .before .before .before .before .before .item-mode .ensures)) (c .before .before .before .before .before .before .before .seq .ensures)) (c .to3 .ensures .1) (c .to3 .ensures .0 _ _ _)
+da-returns-3 t c = finding.array-items _ _ _ _ _ _ _ _ _ _ _ _ _ _ _ _ (c .before .before .before .before .before .before .before .before .before .before .before .before .before .before .before .before .before .before .before .before .skip .ensures) (undenied _ _ (c .before .before .before .before .before .before .before .before .before .before .before .before .before .before .before .before .before .before .before .enters-arrays .ensures) (c .before .before .before .before .before .before .before .before .before .before .before .before .before .before .before .before .before .before .if2 .left)) (c .before .before .before .before .before .before .before .before .before .before .before .before .before .before .before .before .before .step .ensures) (c .before .before .before .before .before .before .before .before .before .before .before .before .before .before .before .before .wide-at .ensures) (c .before .before .before .before .before .before .before .before .before .before .before .before .before .before .before .step2 .ensures) (c .before .before .before .before .before .before .before .before .before .before .before .before .before .before .to2 .ensures .1) (c .before .before .before .before .before .before .before .before .before .before .before .before .before .before .to2 .ensures .0 _ _ _) (c .before .before .before .before .before .before .before .before .before .before .less .ensures) (c .before .before .before .before .before .before .before .before .before .under .ensures .1) (told.with-same _ (c .before .before .before .before .before .before .before .before .before .under .ensures .0)) (c .before .before .before .before .before .before .before .before .item-mode .ensures) (told.items-with _ _ _ _ _ _ _ _ _ _ _ (told.item-told (c .before .before .before .before .before .before .before .before .before .before .before .before .before .before .before .before .before .before .before .before .before .before .before .before .before .before .before .args .mode) _ (c .before .before .before .before .before .before .before .before .item-mode .ensures)) (c .before .before .before .before .before .before .before .seq .ensures)) (c .to3 .ensures .1) (c .to3 .ensures .0 _ _ _)
 
 decl-returns : (t : ℕ) → cycle.Lts-decl.Need-returns (decl-claims t) (at-measure decl.Kinds.ps μ-decl decl.Reads.Pre t) decl.Reads.Post
 decl-returns t c = λ k. (node-none _ _ _ (c .if1 .taken), λ good. good-none _ _ _ (c .if1 .taken) good)
@@ -659,7 +666,7 @@ decl-returns-3 : (t : ℕ) → cycle.Lts-decl.Need-returns-3 (decl-claims t) (at
 decl-returns-3 t c = declaring.declaration-writes _ _ _ _ _ _ _ _ _ _ _ _ _ _ _ _ _ _ (c .before .before .before .before .before .before .before .before .before .before .before .before .before .before .before .before .before .before .before .before .before .before .before .before .before .before .before .before .before .before .before .before .before .before .before .declaration-refusal .ensures) (c .before .before .before .before .before .before .before .before .before .before .before .before .before .before .before .before .before .before .before .before .before .before .before .before .before .before .before .before .before .before .before .before .before .before .if2 .left) (c .before .before .before .before .before .before .before .before .before .before .before .before .before .before .before .before .before .before .before .before .before .before .before .before .before .before .before .before .before .before .before .before .before .before .before .before .before .before .at-root .ensures) (c .before .before .before .before .before .before .before .before .before .before .before .before .before .before .before .before .before .before .before .before .before .before .before .before .before .before .before .before .before .before .before .declaration-hands .ensures .0) (c .before .before .before .before .before .before .before .before .before .before .before .before .before .before .before .before .before .before .before .before .before .before .before .before .before .before .before .before .before .before .before .declaration-hands .ensures .1 _) (c .before .before .before .before .before .before .before .before .before .before .before .before .before .before .before .before .before .before .before .before .before .before .before .before .before .before .step .ensures) (c .before .before .before .before .before .before .before .before .before .before .before .before .before .before .before .before .before .before .before .before .before .before .before .before .before .declaration-becomes .ensures) (runs-does (c .before .before .before .before .before .before .before .before .before .before .before .before .before .before .before .before .before .before .before .before .before .before .before .copy .ensures .0 _ _)) (steps.does-wide _ (c .before .before .before .before .before .before .before .before .before .before .before .before .before .before .before .before .before .before .before .wide .ensures .0 _ _)) (c .before .before .before .before .before .before .before .before .before .before .before .before .before .before .before .before .step2 .ensures) (c .before .before .before .before .before .before .before .before .before .before .before .before .before .before .before .to2 .ensures .1) (c .before .before .before .before .before .before .before .before .before .before .before .before .before .before .before .to2 .ensures .0 _ _ _) (c .before .before .before .before .before .before .before .before .before .before .before .before .before .before .skip2 .ensures) (c .before .before .before .before .before .before .before .before .before .before .less .ensures) (told.with-own _ (c .before .before .before .before .before .before .before .before .before .under .ensures .0) (c .before .before .before .before .before .before .before .before .before .before .before .before .before .before .before .before .before .before .before .before .before .before .before .before .before .before .before .before .before .before .before .before .before .before .before .before .before .before .at-root .ensures)) (c .before .before .before .before .before .before .before .before .before .under .ensures .1) (c .before .before .before .before .before .before .before .before .wide-at .ensures) (told.items-with _ _ _ _ _ _ _ _ _ _ _ told.told-declarator (c .before .before .before .before .before .before .before .seq .ensures)) (c .to3 .ensures .1) (c .to3 .ensures .0 _ _ _)
 
 deep-returns : (t : ℕ) → cycle.Lts-deep.Need-returns (deep-claims t) (at-measure deep.Kinds.ps μ-deep deep.Reads.Pre t) deep.Reads.Post
-deep-returns t c = λ good mode suit. good-none _ _ _ (c .if1 .taken) good
+deep-returns t c = λ good suit. good-none _ _ _ (c .if1 .taken) good
 
 deep-returns-2 : (t : ℕ) → cycle.Lts-deep.Need-returns-2 (deep-claims t) (at-measure deep.Kinds.ps μ-deep deep.Reads.Pre t) deep.Reads.Post
 deep-returns-2 t c = c .before .before .before .before .before .before .db .ensures (sym (c .before .before .before .before .before .before .before .before .before .before .before .peek .ensures .value) ∙ c .before .before .before .before .before .before .before .before .before .before .match .keys1)
@@ -695,19 +702,19 @@ dh-returns-2 : (t : ℕ) → cycle.Lts-dh.Need-returns-2 (dh-claims t) (at-measu
 dh-returns-2 t c = looping.declaring-does _ _ _ _ _ _ _ _ _ _ _ _ _ _ _ _ _ _ _ _ _ (c .before .before .before .before .before .before .before .before .before .before .before .before .before .before .before .before .before .before .before .before .before .before .before .before .before .before .before .before .before .before .before .before .before .before .before .before .before .before .before .before .before .before .before .before .before .before .before .before .before .before .less .ensures) (c .before .before .before .before .before .before .before .before .before .before .before .before .before .before .before .before .before .before .before .before .before .before .before .before .before .before .before .before .before .before .before .before .before .before .before .before .before .before .before .before .before .before .before .before .before .before .before .before .before .less2 .ensures) (c .before .before .before .before .before .before .before .before .before .before .before .before .before .before .before .before .before .before .before .before .before .before .before .before .before .before .before .before .before .before .before .before .before .before .before .before .before .before .before .before .before .before .before .before .before .before .before .before .step .ensures) (c .before .before .before .before .before .before .before .before .before .before .before .before .before .before .before .before .before .before .before .before .before .before .before .before .before .before .before .before .before .before .before .before .before .before .before .before .before .before .before .before .before .before .before .before .before .before .before .step2 .ensures) (c .before .before .before .before .before .before .before .before .before .before .before .before .before .before .before .before .before .before .before .before .before .before .before .before .before .before .before .before .before .before .before .before .before .before .before .before .before .before .before .before .before .before .before .before .before .before .wide-at .ensures) (c .before .before .before .before .before .before .before .before .before .before .before .before .before .before .before .before .before .before .before .before .before .before .before .before .before .before .before .before .before .before .before .before .before .before .before .before .before .before .before .before .before .before .before .before .before .step3 .ensures) (c .before .before .before .before .before .before .before .before .before .before .before .before .before .before .before .before .before .before .before .before .before .before .before .before .before .before .before .before .before .before .before .before .before .scoped .ensures .0) (c .before .before .before .before .before .before .before .before .before .before .before .before .before .before .before .before .before .before .before .before .before .before .before .before .before .before .before .before .before .before .before .before .before .scoped .ensures .1) (c .before .before .before .before .before .before .before .before .before .before .before .before .before .before .before .before .before .before .before .before .before .before .scoped2 .ensures .0) (c .before .before .before .before .before .before .before .before .before .before .before .before .before .before .before .before .before .before .before .before .before .before .scoped2 .ensures .1) (c .before .before .before .before .before .before .before .before .before .before .before .scoped3 .ensures .0) (c .before .before .before .before .before .before .before .before .before .before .before .scoped3 .ensures .1) (c .before .before .before .before .before .before .before .before .before .before .before .before .before .before .before .before .before .before .before .before .before .before .before .before .before .before .before .before .before .before .before .before .before .before .before .before .before .before .before .before .before .before .before .moves-make .ensures .0) (c .before .before .before .before .before .before .before .before .before .before .before .before .before .before .before .before .before .before .before .before .before .before .before .before .before .before .before .before .before .before .before .before .before .before .before .before .before .before .before .copy .ensures .1) (c .before .before .before .before .before .before .before .before .before .before .before .before .before .before .before .before .before .before .before .before .before .before .before .before .before .before .before .before .before .before .before .before .before .before .before .before .before .before .before .before .before .before .before .moves-make .ensures .1 _ _) (runs-does (c .before .before .before .before .before .before .before .before .before .before .before .before .before .before .before .before .before .before .before .before .before .before .before .before .before .before .before .before .before .before .before .before .before .before .before .before .before .before .before .copy .ensures .0 _ _)) (told.items-own _ _ _ _ _ _ _ _ _ _ _ told.untold-binding (c .before .before .before .before .before .before .before .before .before .before .before .before .before .before .before .before .before .before .before .before .before .before .before .before .before .before .before .before .before .before .before .before .seq .ensures)) (c .before .before .before .before .before .before .before .before .before .before .before .before .before .before .before .before .before .before .before .before .before .node .ensures) (c .before .before .before .before .before .before .before .before .before .before .bl .ensures) (runs-does (c .before .before .await-of .ensures .1 _ _))
 
 db-returns : (t : ℕ) → cycle.Lts-db.Need-returns (db-claims t) (at-measure db.Kinds.ps μ-db db.Reads.Pre t) db.Reads.Post
-db-returns t c = λ k good mode suit. good-none _ _ _ (c .if1 .taken) good
+db-returns t c = λ k good suit. good-none _ _ _ (c .if1 .taken) good
 
 db-returns-2 : (t : ℕ) → cycle.Lts-db.Need-returns-2 (db-claims t) (at-measure db.Kinds.ps μ-db db.Reads.Pre t) db.Reads.Post
-db-returns-2 t c = finding.object-found _ _ _ _ _ _ (c .before .before .before .before .before .before .before .before .before .before .if2 .taken) (c .before .before .before .before .before .before .fb .ensures)
+db-returns-2 t c = finding.object-passed _ _ _ _ _ _ _ _ _ (c .before .before .before .before .before .before .before .mode .given .1) (denied _ _ (c .before .before .counts .ensures) (c .before .if3 .taken)) (c .before .before .before .before .before .has-second .ensures) (c .before .before .before .before .if2 .taken) (c .before .before .before .skip .ensures) (c .to .ensures .1) (c .to .ensures .0 _ _ _)
 
 db-returns-3 : (t : ℕ) → cycle.Lts-db.Need-returns-3 (db-claims t) (at-measure db.Kinds.ps μ-db db.Reads.Pre t) db.Reads.Post
-db-returns-3 t c = finding.object-passed _ _ _ _ _ _ _ _ (c .before .if4 .taken) (c .before .before .before .before .has-second .ensures) (c .before .before .before .if3 .taken) (c .before .before .skip .ensures) (c .to .ensures .1) (c .to .ensures .0 _ _ _)
+db-returns-3 t c = finding.object-own _ _ _ _ _ _ _ _ _ (c .before .before .before .before .before .before .before .before .before .before .before .before .before .before .before .before .before .before .before .mode .given .1) (undenied _ _ (c .before .before .before .before .before .before .before .before .before .before .before .before .before .before .counts .ensures) (c .before .before .before .before .before .before .before .before .before .before .before .before .before .if3 .left)) (c .before .before .before .before .before .before .before .before .before .before .before .before .before .before .before .before .before .has-second .ensures) (c .before .before .before .before .before .before .before .before .before .before .before .before .before .before .before .before .if2 .taken) (assigning.own-top _ _ _ _ _ _ _ (told.with-inner _ _ (c .before .before .before .before .before .before .before .before .before .inside .ensures .0), c .before .before .before .before .before .before .before .before .before .inside .ensures .1) (c .before .before .before .before .before .before .before .before .cell .ensures) (c .before .before .before .before .before .before .before .top .ensures)) (c .before .before .before .before .before .before .before .before .before .before .before .before .before .before .before .skip .ensures) (c .to2 .ensures .1) (c .to2 .ensures .0 _ _ _)
 
 db-returns-4 : (t : ℕ) → cycle.Lts-db.Need-returns-4 (db-claims t) (at-measure db.Kinds.ps μ-db db.Reads.Pre t) db.Reads.Post
-db-returns-4 t c = finding.object-own _ _ _ _ _ _ _ _ (c .before .before .before .before .before .before .before .before .before .before .before .before .before .before .before .before .before .if2 .left) (c .before .before .before .before .before .before .before .before .before .before .before .before .before .if4 .left) (c .before .before .before .before .before .before .before .before .before .before .before .before .before .before .before .before .has-second .ensures) (c .before .before .before .before .before .before .before .before .before .before .before .before .before .before .before .if3 .taken) (assigning.own-top _ _ _ _ _ _ _ (told.with-inner _ _ (c .before .before .before .before .before .before .before .before .before .inside .ensures .0), c .before .before .before .before .before .before .before .before .before .inside .ensures .1) (c .before .before .before .before .before .before .before .before .cell .ensures) (c .before .before .before .before .before .before .before .top .ensures)) (c .before .before .before .before .before .before .before .before .before .before .before .before .before .before .skip .ensures) (c .to2 .ensures .1) (c .to2 .ensures .0 _ _ _)
+db-returns-4 t c = finding.object-found _ _ _ _ _ _ (c .before .before .before .before .before .before .before .before .before .before .enum-told .given .1) (c .before .before .before .before .before .before .fb .ensures)
 
 db-returns-5 : (t : ℕ) → cycle.Lts-db.Need-returns-5 (db-claims t) (at-measure db.Kinds.ps μ-db db.Reads.Pre t) db.Reads.Post
-db-returns-5 t c = finding.object-plain _ _ _ _ _ _ _ _ (c .before .before .before .before .before .before .before .before .before .before .before .before .before .if2 .left) (c .before .before .before .before .before .before .before .value-mode .ensures) (c .before .before .before .before .before .before .before .before .before .before .before .before .has-second .ensures) (c .before .before .before .before .before .before .before .before .before .before .before .if3 .left) (c .before .before .before .before .before .before .pr .ensures (told.value-told (c .before .before .before .before .before .before .before .before .before .before .before .before .before .before .before .before .before .before .before .before .args .mode) _ (c .before .before .before .before .before .before .before .value-mode .ensures)))
+db-returns-5 t c = finding.object-plain _ _ _ _ _ _ _ _ (c .before .before .before .before .before .before .before .before .before .before .before .before .before .mode .given .1) (c .before .before .before .before .before .before .before .before .before .before .before .has-second .ensures) (c .before .before .before .before .before .before .before .before .before .before .if2 .left) (c .before .before .before .before .before .before .pr .ensures (told.told-value _))
 
 dr-returns : (t : ℕ) → cycle.Lts-dr.Need-returns (dr-claims t) (at-measure dr.Kinds.ps μ-dr dr.Reads.Pre t) dr.Reads.Post
 dr-returns t c = declaring.declarator-bare _ _ _ _ _ _ _ _ (c .before .before .before .before .before .before .before .before .before .before .before .before .before .start-of .ensures) (c .before .before .before .before .before .before .before .before .before .before .before .enum-told .given .1) (c .before .before .before .before .before .before .before .told-inside .ensures .0) (c .before .before .before .before .before .before .before .told-inside .ensures .1) (c .before .before .before .before .before .before .node .ensures)
@@ -737,16 +744,16 @@ eb-returns-2 : (t : ℕ) → cycle.Lts-eb.Need-returns-2 (eb-claims t) (at-measu
 eb-returns-2 t c = bodying.body-returned _ _ _ _ _ _ _ _ _ _ _ _ _ (c .before .before .before .before .before .before .before .before .before .before .before .before .before .before .before .before .before .before .before .before .before .before .before .before .before .before .before .before .before .before .before .before .before .before .before .before .before .before .before .before .before .peek .ensures) (c .before .before .before .before .before .before .before .before .before .before .before .before .before .before .before .before .before .before .before .before .before .before .before .before .before .before .before .before .before .before .before .before .before .before .before .before .before .before .before .before .if1 .left) (c .before .before .before .before .before .before .before .before .before .before .before .before .before .before .before .before .before .before .before .before .before .before .before .before .before .before .before .before .before .before .before .before .before .before .before .before .before .before .before .moved-in .ensures) (runs-does (c .before .before .before .before .before .before .before .before .before .before .before .before .before .before .before .before .before .before .before .before .before .before .before .before .before .before .before .before .before .before .before .before .before .before .before .before .before .put2 .ensures .0 _ _)) (steps.does-wide _ (c .before .before .before .before .before .before .before .before .before .before .before .before .before .before .before .before .before .before .before .before .before .before .before .before .before .before .before .before .before .before .before .before .before .wide .ensures .0 _ _)) (c .before .before .before .before .before .before .before .before .before .before .before .before .before .before .before .before .before .before .before .before .before .before .before .before .before .before .before .ba .ensures) (c .before .before .before .before .before .before .before .before .before .before .before .before .before .before .before .before .before .before .before .before .mark .ensures) (c .before .before .before .before .before .before .before .before .before .before .before .before .before .before .before .before .before .before .before .marked .ensures .0) (c .before .before .before .before .before .before .before .before .before .before .before .before .before .before .before .before .before .before .before .marked .ensures .1) (runs-does (c .before .before .before .before .before .before .before .before .before .before .before .before .before .before .before .before .before .put22 .ensures .0 _ _)) (runs-does (c .before .before .before .before .before .before .before .before .before .before .before .before .before .new-mark .ensures .0 _ _)) (c .before .before .before .before .before .before .before .before .before .before .to .ensures .0 _ _ _) (c .before .before .before .before .before .before .before .before .before .before .to .ensures .1) (c .before .before .before .before .before .before .node .ensures)
 
 ek-returns : (t : ℕ) → cycle.Lts-ek.Need-returns (ek-claims t) (at-measure ek.Kinds.ps μ-ek ek.Reads.Pre t) ek.Reads.Post
-ek-returns t c = excluding.excluded-string _ _ _ _ _ _ _ _ _ (c .before .before .before .before .before .before .before .before .before .less .ensures) (c .before .before .before .before .before .before .before .step .ensures) (c .before .before .before .before .before .before .before .before .skip .ensures) (c .to .ensures .1) (c .to .ensures .0 _ _ _) (c .before .before .before .before .before .before .key-sort .ensures) (c .before .before .before .before .before .match .keys1) (sources.does-string _ _ _ (c .before .before .before .string .ensures .1 _ _))
+ek-returns t c = excluding.excluded-string _ _ _ _ _ _ _ _ _ (c .before .before .before .before .before .before .before .before .before .before .less .ensures) (c .before .before .before .before .before .before .before .before .step .ensures) (c .before .before .before .before .before .before .before .before .before .skip .ensures) (c .to .ensures .1) (c .to .ensures .0 _ _ _) (c .before .before .before .before .before .before .before .key-sort .ensures) (c .before .before .before .before .before .enum-told .given .1) (sources.does-string _ _ _ (c .before .before .before .string .ensures .1 _ _))
 
 ek-returns-2 : (t : ℕ) → cycle.Lts-ek.Need-returns-2 (ek-claims t) (at-measure ek.Kinds.ps μ-ek ek.Reads.Pre t) ek.Reads.Post
-ek-returns-2 t c = excluding.excluded-standing _ _ _ _ _ _ _ _ _ _ _ _ _ (c .before .before .before .before .before .before .before .before .before .before .before .before .before .before .before .before .before .less .ensures) (c .before .before .before .before .before .before .before .before .before .before .before .before .before .before .before .step .ensures) (c .before .before .before .before .before .before .before .before .before .before .before .before .before .before .before .before .skip .ensures) (c .to3 .ensures .1) (c .before .before .before .before .before .before .before .before .under .ensures .0) (c .before .before .before .before .before .before .before .before .under .ensures .1) (c .before .before .before .before .before .before .before .before .before .before .before .before .to2 .ensures .1) (c .before .before .before .before .before .before .before .before .before .before .before .before .to2 .ensures .0 _ _ _) (c .to3 .ensures .0 _ _ _) (c .before .before .before .before .before .before .before .before .before .before .before .before .before .before .key-sort .ensures) (c .before .before .before .before .before .before .before .before .before .before .before .before .before .match .keys2) (c .before .before .before .before .before .before .before .node .ensures)
+ek-returns-2 t c = excluding.excluded-standing _ _ _ _ _ _ _ _ _ _ _ _ _ (c .before .before .before .before .before .before .before .before .before .before .before .before .before .before .before .before .before .before .less .ensures) (c .before .before .before .before .before .before .before .before .before .before .before .before .before .before .before .before .step .ensures) (c .before .before .before .before .before .before .before .before .before .before .before .before .before .before .before .before .before .skip .ensures) (c .to3 .ensures .1) (c .before .before .before .before .before .before .before .before .under .ensures .0) (c .before .before .before .before .before .before .before .before .under .ensures .1) (c .before .before .before .before .before .before .before .before .before .before .before .before .to2 .ensures .1) (c .before .before .before .before .before .before .before .before .before .before .before .before .to2 .ensures .0 _ _ _) (c .to3 .ensures .0 _ _ _) (c .before .before .before .before .before .before .before .before .before .before .before .before .before .before .before .key-sort .ensures) (c .before .before .before .before .before .before .before .before .before .before .before .before .before .enum-told2 .given .1) (c .before .before .before .before .before .before .before .node .ensures)
 
 ek-returns-3 : (t : ℕ) → cycle.Lts-ek.Need-returns-3 (ek-claims t) (at-measure ek.Kinds.ps μ-ek ek.Reads.Pre t) ek.Reads.Post
-ek-returns-3 t c = excluding.excluded-nothing _ _ _ _ _ _ _ _ _ (c .before .before .before .before .before .less .ensures) (c .before .before .before .step .ensures) (c .before .before .before .before .skip .ensures) (c .to4 .ensures .1) (c .to4 .ensures .0 _ _ _) (c .before .before .key-sort .ensures) (c .before .match .keys3)
+ek-returns-3 t c = excluding.excluded-nothing _ _ _ _ _ _ _ _ _ (c .before .before .before .before .before .before .less .ensures) (c .before .before .before .before .step .ensures) (c .before .before .before .before .before .skip .ensures) (c .to4 .ensures .1) (c .to4 .ensures .0 _ _ _) (c .before .before .before .key-sort .ensures) (c .before .enum-told3 .given .1)
 
 ek-returns-4 : (t : ℕ) → cycle.Lts-ek.Need-returns-4 (ek-claims t) (at-measure ek.Kinds.ps μ-ek ek.Reads.Pre t) ek.Reads.Post
-ek-returns-4 t c = excluding.excluded-cell _ _ _ _ _ _ _ _ _ (c .before .before .before .before .before .before .before .before .before .before .before .before .before .before .before .less .ensures) (c .before .before .before .before .before .before .before .before .before .before .before .before .before .step .ensures) (c .before .before .before .before .before .before .before .before .before .before .before .before .before .before .skip .ensures) (c .to5 .ensures .1) (c .to5 .ensures .0 _ _ _) (c .before .before .before .before .before .before .before .before .before .before .before .before .key-sort .ensures) (c .before .before .before .before .before .before .before .before .before .before .before .match .rest .0 .0 .1) (c .before .before .before .before .before .before .before .before .before .before .before .match .rest .0 .1) (c .before .before .before .before .before .before .before .before .before .before .before .match .rest .1) (runs-does (c .before .before .before .before .before .before .before .temporary .ensures .0))
+ek-returns-4 t c = excluding.excluded-cell _ _ _ _ _ _ _ _ _ (c .before .before .before .before .before .before .before .before .before .before .before .before .before .before .before .before .less .ensures) (c .before .before .before .before .before .before .before .before .before .before .before .before .before .before .step .ensures) (c .before .before .before .before .before .before .before .before .before .before .before .before .before .before .before .skip .ensures) (c .to5 .ensures .1) (c .to5 .ensures .0 _ _ _) (c .before .before .before .before .before .before .before .before .before .before .before .before .before .key-sort .ensures) (c .before .before .before .before .before .before .before .before .before .before .before .enum-told4 .given .1) (runs-does (c .before .before .before .before .before .before .before .temporary .ensures .0))
 
 abbrev fs-Inv-loop : cycle.Lts-fs.InvT-loop
 fs-Inv-loop t out₀ list₀ work₀ c row map l v₀ r₀ m₀ out list work v r m = (length out ≡ length out₀) × (length list ≡ length list₀) × (length work ≡ length work₀) × (lookFields t (lookNode t (c .left)) (fieldsIn r) m (v .at) .next ≡ lookFields t (lookNode t (c .left)) (fieldsIn row) map (v₀ .at) .next) × (GoodFields t (lookNode t (c .left)) (Good t (c .left)) l (fieldsIn row) map (v₀ .at) → GoodFields t (lookNode t (c .left)) (Good t (c .left)) l (fieldsIn r) m (v .at) × law.Onto (goingOf out₀ list₀ work₀ v₀) (goingOf out list work v) (emitsFields l (placeOf c) (lookFields t (lookNode t (c .left)) (fieldsIn r) m (v .at) .value)) (emitsFields l (placeOf c) (lookFields t (lookNode t (c .left)) (fieldsIn row) map (v₀ .at) .value)))
@@ -777,10 +784,10 @@ fb-returns : (t : ℕ) → cycle.Lts-fb.Need-returns (fb-claims t) (at-measure f
 fb-returns t c = λ k good. good-none _ _ _ (c .if1 .taken) good
 
 fb-returns-2 : (t : ℕ) → cycle.Lts-fb.Need-returns-2 (fb-claims t) (at-measure fb.Kinds.ps μ-fb fb.Reads.Pre t) fb.Reads.Post
-fb-returns-2 t c = finding.found-resting _ _ _ _ _ _ _ _ _ _ _ _ _ _ _ _ _ _ _ _ _ (c .before .before .before .before .before .before .before .before .before .before .before .before .before .before .before .before .before .before .before .before .before .before .before .before .before .before .before .before .before .before .before .before .before .before .before .before .before .before .before .before .before .before .before .less .ensures) (c .before .before .before .before .before .before .before .before .before .under .ensures .1) (told.with-same _ (c .before .before .before .before .before .before .before .before .before .under .ensures .0)) (c .before .before .before .before .before .before .before .before .before .before .before .before .before .before .before .before .before .before .before .before .before .before .before .before .before .before .before .before .before .before .before .before .before .before .before .before .before .before .before .before .before .before .step .ensures) (c .before .before .before .before .before .before .before .before .before .before .before .before .before .before .before .before .before .before .before .before .before .before .before .before .before .before .before .before .before .before .before .before .before .before .before .before .before .before .before .before .before .wide-at .ensures) (c .before .before .before .before .before .before .before .before .before .before .before .before .before .before .before .before .before .before .before .before .before .before .before .before .before .before .before .before .before .before .before .before .before .before .before .before .before .before .before .before .step2 .ensures) (c .before .before .before .before .before .before .before .before .before .before .before .before .before .to .ensures .1) (c .before .before .before .before .before .before .before .before .before .before .before .before .before .before .before .before .before .before .before .before .before .before .before .before .before .before .before .before .before .before .before .before .before .before .before .before .before .before .before .has-second .ensures) (c .before .before .before .before .before .before .before .before .before .before .before .before .before .before .before .before .before .before .before .before .before .before .before .before .before .before .before .before .before .before .before .before .before .before .before .before .before .before .if2 .taken) (c .before .before .before .before .before .before .before .before .before .before .before .before .before .before .before .before .before .before .before .before .before .before .before .before .before .before .before .before .before .before .before .before .before .before .cell .ensures) (c .before .before .before .before .before .before .before .before .before .before .before .before .before .before .before .before .before .before .before .before .before .before .before .before .before .before .before .before .before .before .before .before .before .cell-source .ensures _) (c .before .before .before .before .before .before .before .before .before .before .before .before .before .before .before .before .before .before .before .before .before .before .before .before .before .before .before .before .before .before .before .before .own .ensures) (c .before .before .before .before .before .before .before .before .before .before .before .before .before .before .before .before .before .before .before .before .before .before .cell2 .ensures) (c .before .before .before .before .before .before .before .before .before .before .before .before .before .before .before .before .before .before .before .before .before .cell-source2 .ensures _) (c .before .before .before .before .before .before .before .before .before .before .before .before .before .before .before .before .before .before .before .before .os .ensures) (c .before .before .before .before .before .before .before .before .before .before .before .before .before .to .ensures .0 _ _ _) (told.items-with _ _ _ _ _ _ _ _ _ _ _ told.told-value-found (c .before .before .before .before .before .before .before .before .seq .ensures)) (c .before .skip .ensures) (c .to2 .ensures .1) (c .to2 .ensures .0 _ _ _)
+fb-returns-2 t c = finding.found-resting _ _ _ _ _ _ _ _ _ _ _ _ _ _ _ _ _ _ _ _ _ (c .before .before .before .before .before .before .before .before .before .before .before .before .before .before .before .before .before .before .before .before .before .before .before .before .before .before .before .before .before .before .before .before .before .before .before .before .before .before .before .before .before .before .before .less .ensures) (c .before .before .before .before .before .before .before .before .before .under .ensures .1) (told.with-same _ (c .before .before .before .before .before .before .before .before .before .under .ensures .0)) (c .before .before .before .before .before .before .before .before .before .before .before .before .before .before .before .before .before .before .before .before .before .before .before .before .before .before .before .before .before .before .before .before .before .before .before .before .before .before .before .before .before .before .step .ensures) (c .before .before .before .before .before .before .before .before .before .before .before .before .before .before .before .before .before .before .before .before .before .before .before .before .before .before .before .before .before .before .before .before .before .before .before .before .before .before .before .before .before .wide-at .ensures) (c .before .before .before .before .before .before .before .before .before .before .before .before .before .before .before .before .before .before .before .before .before .before .before .before .before .before .before .before .before .before .before .before .before .before .before .before .before .before .before .before .step2 .ensures) (c .before .before .before .before .before .before .before .before .before .before .before .before .before .to .ensures .1) (c .before .before .before .before .before .before .before .before .before .before .before .before .before .before .before .before .before .before .before .before .before .before .before .before .before .before .before .before .before .before .before .before .before .before .before .before .before .before .before .has-second .ensures) (c .before .before .before .before .before .before .before .before .before .before .before .before .before .before .before .before .before .before .before .before .before .before .before .before .before .before .before .before .before .before .before .before .before .before .before .before .before .before .if2 .taken) (c .before .before .before .before .before .before .before .before .before .before .before .before .before .before .before .before .before .before .before .before .before .before .before .before .before .before .before .before .before .before .before .before .before .before .cell .ensures) (c .before .before .before .before .before .before .before .before .before .before .before .before .before .before .before .before .before .before .before .before .before .before .before .before .before .before .before .before .before .before .before .before .before .cell-source .ensures _) (c .before .before .before .before .before .before .before .before .before .before .before .before .before .before .before .before .before .before .before .before .before .before .before .before .before .before .before .before .before .before .before .before .own .ensures) (c .before .before .before .before .before .before .before .before .before .before .before .before .before .before .before .before .before .before .before .before .before .before .cell2 .ensures) (c .before .before .before .before .before .before .before .before .before .before .before .before .before .before .before .before .before .before .before .before .before .cell-source2 .ensures _) (c .before .before .before .before .before .before .before .before .before .before .before .before .before .before .before .before .before .before .before .before .os .ensures) (c .before .before .before .before .before .before .before .before .before .before .before .before .before .to .ensures .0 _ _ _) (told.items-with _ _ _ _ _ _ _ _ _ _ _ (told.told-value _) (c .before .before .before .before .before .before .before .before .seq .ensures)) (c .before .skip .ensures) (c .to2 .ensures .1) (c .to2 .ensures .0 _ _ _)
 
 fb-returns-3 : (t : ℕ) → cycle.Lts-fb.Need-returns-3 (fb-claims t) (at-measure fb.Kinds.ps μ-fb fb.Reads.Pre t) fb.Reads.Post
-fb-returns-3 t c = finding.found-plain _ _ _ _ _ _ _ _ _ _ _ _ _ (c .before .before .before .before .before .before .before .before .before .before .before .before .before .before .before .before .before .less .ensures) (c .before .before .before .before .before .before .before .under2 .ensures .1) (told.with-same _ (c .before .before .before .before .before .before .before .under2 .ensures .0)) (c .before .before .before .before .before .before .before .before .before .before .before .before .before .before .before .before .step .ensures) (c .before .before .before .before .before .before .before .before .before .before .before .before .before .before .before .wide-at .ensures) (c .before .before .before .before .before .before .before .before .before .before .before .before .before .before .step2 .ensures) (c .before .before .before .before .before .before .before .before .before .before .before .to3 .ensures .1) (c .before .before .before .before .before .before .before .before .before .before .before .to3 .ensures .0 _ _ _) (told.items-with _ _ _ _ _ _ _ _ _ _ _ told.told-value-found (c .before .before .before .before .before .before .seq2 .ensures)) (c .before .before .before .before .before .before .before .before .before .before .before .before .before .has-second .ensures) (c .before .before .before .before .before .before .before .before .before .before .before .before .if2 .left)
+fb-returns-3 t c = finding.found-plain _ _ _ _ _ _ _ _ _ _ _ _ _ (c .before .before .before .before .before .before .before .before .before .before .before .before .before .before .before .before .before .less .ensures) (c .before .before .before .before .before .before .before .under2 .ensures .1) (told.with-same _ (c .before .before .before .before .before .before .before .under2 .ensures .0)) (c .before .before .before .before .before .before .before .before .before .before .before .before .before .before .before .before .step .ensures) (c .before .before .before .before .before .before .before .before .before .before .before .before .before .before .before .wide-at .ensures) (c .before .before .before .before .before .before .before .before .before .before .before .before .before .before .step2 .ensures) (c .before .before .before .before .before .before .before .before .before .before .before .to3 .ensures .1) (c .before .before .before .before .before .before .before .before .before .before .before .to3 .ensures .0 _ _ _) (told.items-with _ _ _ _ _ _ _ _ _ _ _ (told.told-value _) (c .before .before .before .before .before .before .seq2 .ensures)) (c .before .before .before .before .before .before .before .before .before .before .before .before .before .has-second .ensures) (c .before .before .before .before .before .before .before .before .before .before .before .before .if2 .left)
 
 fun-slot-requires : (t : ℕ) → cycle.Lts-fun.Need-slot-requires (fun-claims t) (at-measure fun.Kinds.ps μ-fun fun.Reads.Pre t) fun.Reads.Post
 fun-slot-requires t c κs = let z : 0 < c .before .before .before .before .before .before .before .before .before .before .before .before .before .before .before .before .before .before .before .before .before .before .before .before .before .before .before .args .c .left = moving.moved-levels _ _ _ _ _ (c .before .before .before .before .before .before .before .before .before .before .before .before .before .before .before .before .before .before .before .before .any-moved .ensures) (c .before .before .before .before .before .before .before .before .before .before .before .before .before .before .before .before .before .before .before .if1 .taken) in
@@ -976,16 +983,16 @@ node-returns-10 : (t : ℕ) → cycle.Lts-node.Need-returns-10 (node-claims t) (
 node-returns-10 t c = (c .before .before .before .before .before .before .plain .ensures .0, law.emits-does _ _ _ _ _ (c .before .before .before .before .before .before .before .before .before .before .before .peek .ensures) (law.nowhere-else _ (c .before .before .before .before .before .before .before .before .before .before .match .rest .0 .0 .0 .0 .0 .0 .0 .1) (c .before .before .before .before .before .before .before .before .before .before .match .rest .0 .0 .0 .0 .0 .0 .1) (c .before .before .before .before .before .before .before .before .before .before .match .rest .0 .0 .0 .0 .0 .1) (c .before .before .before .before .before .before .before .before .before .before .match .rest .0 .0 .0 .0 .1) (c .before .before .before .before .before .before .before .before .before .before .match .rest .0 .0 .0 .1) (c .before .before .before .before .before .before .before .before .before .before .match .rest .0 .0 .1) (c .before .before .before .before .before .before .before .before .before .before .match .rest .0 .1) (c .before .before .before .before .before .before .before .before .before .before .match .rest .1)) (c .before .before .before .before .before .before .plain .ensures .1))
 
 ns-same-length : (t : ℕ) → cycle.Lts-ns.Need-same-length (ns-claims t) (at-measure ns.Kinds.ps μ-ns ns.Reads.Pre t) ns.Reads.Post
-ns-same-length t c = omega (arith, c .before .before .before .before .before .before .pr .kept, c .before .before .before .before .before .before .before .before .before .before .before .before .before .before .before .before .before .gv .kept, c .before .before .before .before .before .before .before .before .before .before .before .before .before .before .before .before .before .before .before .before .before .before .before .before .before .before .before .before .view .kept, c .before .before .before .before .before .before .before .before .before .before .before .before .before .before .before .before .before .before .before .before .before .before .before .before .before .before .before .before .before .before .before .before .before .before .before .before .assign .kept, c .before .before .before .before .before .before .before .before .before .before .before .before .before .before .before .before .before .before .before .before .before .before .before .before .before .before .before .before .before .before .before .before .before .before .before .before .before .before .before .before .wide .kept, c .before .before .before .before .before .before .before .before .before .before .before .before .before .before .before .before .before .before .before .before .before .before .before .before .before .before .before .before .before .before .before .before .before .before .before .before .before .before .before .before .before .before .before .before .before .put2 .kept)
+ns-same-length t c = omega (arith, c .before .before .before .before .before .before .deep .kept, c .before .before .before .before .before .before .before .before .before .before .before .before .before .before .before .before .before .before .before .gv .kept, c .before .before .before .before .before .before .before .before .before .before .before .before .before .before .before .before .before .before .before .before .before .before .before .before .before .before .before .before .before .before .view .kept, c .before .before .before .before .before .before .before .before .before .before .before .before .before .before .before .before .before .before .before .before .before .before .before .before .before .before .before .before .before .before .before .before .before .before .before .before .before .before .assign .kept, c .before .before .before .before .before .before .before .before .before .before .before .before .before .before .before .before .before .before .before .before .before .before .before .before .before .before .before .before .before .before .before .before .before .before .before .before .before .before .before .before .before .before .wide .kept, c .before .before .before .before .before .before .before .before .before .before .before .before .before .before .before .before .before .before .before .before .before .before .before .before .before .before .before .before .before .before .before .before .before .before .before .before .before .before .before .before .before .before .before .before .before .before .before .put2 .kept)
 
 ns-returns : (t : ℕ) → cycle.Lts-ns.Need-returns (ns-claims t) (at-measure ns.Kinds.ps μ-ns ns.Reads.Pre t) ns.Reads.Post
-ns-returns t c = assigning.nst-done _ _ _ _ _ _ _ _ _ _ _ _ _ _ _ _ _ (hands.places-counted _ _ _ _ (c .before .before .before .before .before .before .before .before .before .before .before .before .before .before .before .before .before .before .before .before .before .before .before .before .before .before .before .before .before .before .before .before .before .before .before .before .before .before .before .before .before .before .before .before .before .before .before .before .before .before .before .before .before .before .places-in .ensures)) (c .before .before .before .before .before .before .before .before .before .before .before .before .before .before .before .before .before .before .before .before .before .before .before .before .before .before .before .before .before .before .before .before .before .before .before .before .before .before .before .before .before .before .before .before .before .before .before .before .before .before .before .nested-hands .ensures .1 _) (runs-does (c .before .before .before .before .before .before .before .before .before .before .before .before .before .before .before .before .before .before .before .before .before .before .before .before .before .before .before .before .before .before .before .before .before .before .before .before .before .before .before .before .before .before .before .before .before .put2 .ensures .0 _ _)) (c .before .before .before .before .before .before .before .before .before .before .before .before .before .before .before .before .before .before .before .before .before .before .before .before .before .before .before .before .before .before .before .before .before .before .before .before .before .before .before .before .before .plus .ensures) (steps.does-wide _ (c .before .before .before .before .before .before .before .before .before .before .before .before .before .before .before .before .before .before .before .before .before .before .before .before .before .before .before .before .before .before .before .before .before .before .before .before .before .before .before .before .wide .ensures .0 _ _)) (steps.does-assign _ (c .before .before .before .before .before .before .before .before .before .before .before .before .before .before .before .before .before .before .before .before .before .before .before .before .before .before .before .before .before .before .before .before .before .before .before .before .assign .ensures .0 _ _)) (c .before .before .before .before .before .before .before .before .before .before .before .before .before .before .before .before .before .before .before .before .before .before .before .before .before .before .before .before .before .before .before .before .before .to .ensures .0 _ _ _) (c .before .before .before .before .before .before .before .before .before .before .before .before .before .before .before .before .before .before .before .before .before .before .before .before .before .before .before .before .before .before .before .before .before .to .ensures .1) (c .before .before .before .before .before .before .before .before .before .before .before .before .before .before .before .before .before .before .before .before .before .before .before .before .before .before .before .before .before .told-inside .ensures) (c .before .before .before .before .before .before .before .before .before .before .before .before .before .before .before .before .before .before .before .before .before .before .before .before .before .before .before .before .view .ensures) (c .before .before .before .before .before .before .before .before .before .before .before .before .before .before .before .before .before .before .told-inside2 .ensures) (c .before .before .before .before .before .before .before .before .before .before .before .before .before .before .before .before .before .gv .ensures) (assigning.nst-arrays _ _ _ _ _ _ _ (c .before .before .before .before .before .before .before .before .before .before .if1 .taken) (c .before .before .before .before .before .before .pr .ensures told.told-value-in-arrays))
+ns-returns t c = assigning.nst-done _ _ _ _ _ _ _ _ _ _ _ _ _ _ _ _ _ (hands.places-counted _ _ _ _ (c .before .before .before .before .before .before .before .before .before .before .before .before .before .before .before .before .before .before .before .before .before .before .before .before .before .before .before .before .before .before .before .before .before .before .before .before .before .before .before .before .before .before .before .before .before .before .before .before .before .before .before .before .before .before .before .before .places-in .ensures)) (c .before .before .before .before .before .before .before .before .before .before .before .before .before .before .before .before .before .before .before .before .before .before .before .before .before .before .before .before .before .before .before .before .before .before .before .before .before .before .before .before .before .before .before .before .before .before .before .before .before .before .before .before .before .nested-hands .ensures .1 _) (runs-does (c .before .before .before .before .before .before .before .before .before .before .before .before .before .before .before .before .before .before .before .before .before .before .before .before .before .before .before .before .before .before .before .before .before .before .before .before .before .before .before .before .before .before .before .before .before .before .before .put2 .ensures .0 _ _)) (c .before .before .before .before .before .before .before .before .before .before .before .before .before .before .before .before .before .before .before .before .before .before .before .before .before .before .before .before .before .before .before .before .before .before .before .before .before .before .before .before .before .before .before .plus .ensures) (steps.does-wide _ (c .before .before .before .before .before .before .before .before .before .before .before .before .before .before .before .before .before .before .before .before .before .before .before .before .before .before .before .before .before .before .before .before .before .before .before .before .before .before .before .before .before .before .wide .ensures .0 _ _)) (steps.does-assign _ (c .before .before .before .before .before .before .before .before .before .before .before .before .before .before .before .before .before .before .before .before .before .before .before .before .before .before .before .before .before .before .before .before .before .before .before .before .before .before .assign .ensures .0 _ _)) (c .before .before .before .before .before .before .before .before .before .before .before .before .before .before .before .before .before .before .before .before .before .before .before .before .before .before .before .before .before .before .before .before .before .before .before .to .ensures .0 _ _ _) (c .before .before .before .before .before .before .before .before .before .before .before .before .before .before .before .before .before .before .before .before .before .before .before .before .before .before .before .before .before .before .before .before .before .before .before .to .ensures .1) (c .before .before .before .before .before .before .before .before .before .before .before .before .before .before .before .before .before .before .before .before .before .before .before .before .before .before .before .before .before .before .before .told-inside .ensures) (c .before .before .before .before .before .before .before .before .before .before .before .before .before .before .before .before .before .before .before .before .before .before .before .before .before .before .before .before .before .before .view .ensures) (c .before .before .before .before .before .before .before .before .before .before .before .before .before .before .before .before .before .before .before .before .told-inside2 .ensures) (c .before .before .before .before .before .before .before .before .before .before .before .before .before .before .before .before .before .before .before .gv .ensures) (assigning.nst-below _ _ _ _ _ _ _ (c .before .before .before .before .before .before .before .before .before .before .before .enum-told .given .1) (c .before .before .before .before .before .before .before .before .before .before .to2 .ensures .0 _ _ _) (c .before .before .before .before .before .before .before .before .before .before .to2 .ensures .1) (c .before .before .before .before .before .before .deep .ensures))
 
 ns-same-length-4 : (t : ℕ) → cycle.Lts-ns.Need-same-length-4 (ns-claims t) (at-measure ns.Kinds.ps μ-ns ns.Reads.Pre t) ns.Reads.Post
-ns-same-length-4 t c = omega (arith, c .before .before .before .before .before .before .deep .kept, c .before .before .before .before .before .before .before .before .before .before .before .before .before .before .before .before .before .before .gv .kept, c .before .before .before .before .before .before .before .before .before .before .before .before .before .before .before .before .before .before .before .before .before .before .before .before .before .before .before .before .before .view .kept, c .before .before .before .before .before .before .before .before .before .before .before .before .before .before .before .before .before .before .before .before .before .before .before .before .before .before .before .before .before .before .before .before .before .before .before .before .before .assign .kept, c .before .before .before .before .before .before .before .before .before .before .before .before .before .before .before .before .before .before .before .before .before .before .before .before .before .before .before .before .before .before .before .before .before .before .before .before .before .before .before .before .before .wide .kept, c .before .before .before .before .before .before .before .before .before .before .before .before .before .before .before .before .before .before .before .before .before .before .before .before .before .before .before .before .before .before .before .before .before .before .before .before .before .before .before .before .before .before .before .before .before .before .put2 .kept)
+ns-same-length-4 t c = omega (arith, c .before .before .before .before .before .before .pr .kept, c .before .before .before .before .before .before .before .before .before .before .before .before .before .before .before .before .before .before .gv .kept, c .before .before .before .before .before .before .before .before .before .before .before .before .before .before .before .before .before .before .before .before .before .before .before .before .before .before .before .before .before .view .kept, c .before .before .before .before .before .before .before .before .before .before .before .before .before .before .before .before .before .before .before .before .before .before .before .before .before .before .before .before .before .before .before .before .before .before .before .before .before .assign .kept, c .before .before .before .before .before .before .before .before .before .before .before .before .before .before .before .before .before .before .before .before .before .before .before .before .before .before .before .before .before .before .before .before .before .before .before .before .before .before .before .before .before .wide .kept, c .before .before .before .before .before .before .before .before .before .before .before .before .before .before .before .before .before .before .before .before .before .before .before .before .before .before .before .before .before .before .before .before .before .before .before .before .before .before .before .before .before .before .before .before .before .before .put2 .kept)
 
 ns-returns-2 : (t : ℕ) → cycle.Lts-ns.Need-returns-2 (ns-claims t) (at-measure ns.Kinds.ps μ-ns ns.Reads.Pre t) ns.Reads.Post
-ns-returns-2 t c = assigning.nst-done _ _ _ _ _ _ _ _ _ _ _ _ _ _ _ _ _ (hands.places-counted _ _ _ _ (c .before .before .before .before .before .before .before .before .before .before .before .before .before .before .before .before .before .before .before .before .before .before .before .before .before .before .before .before .before .before .before .before .before .before .before .before .before .before .before .before .before .before .before .before .before .before .before .before .before .before .before .before .before .before .before .places-in .ensures)) (c .before .before .before .before .before .before .before .before .before .before .before .before .before .before .before .before .before .before .before .before .before .before .before .before .before .before .before .before .before .before .before .before .before .before .before .before .before .before .before .before .before .before .before .before .before .before .before .before .before .before .before .before .nested-hands .ensures .1 _) (runs-does (c .before .before .before .before .before .before .before .before .before .before .before .before .before .before .before .before .before .before .before .before .before .before .before .before .before .before .before .before .before .before .before .before .before .before .before .before .before .before .before .before .before .before .before .before .before .before .put2 .ensures .0 _ _)) (c .before .before .before .before .before .before .before .before .before .before .before .before .before .before .before .before .before .before .before .before .before .before .before .before .before .before .before .before .before .before .before .before .before .before .before .before .before .before .before .before .before .before .plus .ensures) (steps.does-wide _ (c .before .before .before .before .before .before .before .before .before .before .before .before .before .before .before .before .before .before .before .before .before .before .before .before .before .before .before .before .before .before .before .before .before .before .before .before .before .before .before .before .before .wide .ensures .0 _ _)) (steps.does-assign _ (c .before .before .before .before .before .before .before .before .before .before .before .before .before .before .before .before .before .before .before .before .before .before .before .before .before .before .before .before .before .before .before .before .before .before .before .before .before .assign .ensures .0 _ _)) (c .before .before .before .before .before .before .before .before .before .before .before .before .before .before .before .before .before .before .before .before .before .before .before .before .before .before .before .before .before .before .before .before .before .before .to .ensures .0 _ _ _) (c .before .before .before .before .before .before .before .before .before .before .before .before .before .before .before .before .before .before .before .before .before .before .before .before .before .before .before .before .before .before .before .before .before .before .to .ensures .1) (c .before .before .before .before .before .before .before .before .before .before .before .before .before .before .before .before .before .before .before .before .before .before .before .before .before .before .before .before .before .before .told-inside .ensures) (c .before .before .before .before .before .before .before .before .before .before .before .before .before .before .before .before .before .before .before .before .before .before .before .before .before .before .before .before .before .view .ensures) (c .before .before .before .before .before .before .before .before .before .before .before .before .before .before .before .before .before .before .before .told-inside2 .ensures) (c .before .before .before .before .before .before .before .before .before .before .before .before .before .before .before .before .before .before .gv .ensures) (assigning.nst-below _ _ _ _ _ _ _ (c .before .before .before .before .before .before .before .before .before .before .before .if1 .left) (c .before .before .before .before .before .before .before .before .before .before .to2 .ensures .0 _ _ _) (c .before .before .before .before .before .before .before .before .before .before .to2 .ensures .1) (c .before .before .before .before .before .before .deep .ensures))
+ns-returns-2 t c = assigning.nst-done _ _ _ _ _ _ _ _ _ _ _ _ _ _ _ _ _ (hands.places-counted _ _ _ _ (c .before .before .before .before .before .before .before .before .before .before .before .before .before .before .before .before .before .before .before .before .before .before .before .before .before .before .before .before .before .before .before .before .before .before .before .before .before .before .before .before .before .before .before .before .before .before .before .before .before .before .before .before .before .before .before .places-in .ensures)) (c .before .before .before .before .before .before .before .before .before .before .before .before .before .before .before .before .before .before .before .before .before .before .before .before .before .before .before .before .before .before .before .before .before .before .before .before .before .before .before .before .before .before .before .before .before .before .before .before .before .before .before .before .nested-hands .ensures .1 _) (runs-does (c .before .before .before .before .before .before .before .before .before .before .before .before .before .before .before .before .before .before .before .before .before .before .before .before .before .before .before .before .before .before .before .before .before .before .before .before .before .before .before .before .before .before .before .before .before .before .put2 .ensures .0 _ _)) (c .before .before .before .before .before .before .before .before .before .before .before .before .before .before .before .before .before .before .before .before .before .before .before .before .before .before .before .before .before .before .before .before .before .before .before .before .before .before .before .before .before .before .plus .ensures) (steps.does-wide _ (c .before .before .before .before .before .before .before .before .before .before .before .before .before .before .before .before .before .before .before .before .before .before .before .before .before .before .before .before .before .before .before .before .before .before .before .before .before .before .before .before .before .wide .ensures .0 _ _)) (steps.does-assign _ (c .before .before .before .before .before .before .before .before .before .before .before .before .before .before .before .before .before .before .before .before .before .before .before .before .before .before .before .before .before .before .before .before .before .before .before .before .before .assign .ensures .0 _ _)) (c .before .before .before .before .before .before .before .before .before .before .before .before .before .before .before .before .before .before .before .before .before .before .before .before .before .before .before .before .before .before .before .before .before .before .to .ensures .0 _ _ _) (c .before .before .before .before .before .before .before .before .before .before .before .before .before .before .before .before .before .before .before .before .before .before .before .before .before .before .before .before .before .before .before .before .before .before .to .ensures .1) (c .before .before .before .before .before .before .before .before .before .before .before .before .before .before .before .before .before .before .before .before .before .before .before .before .before .before .before .before .before .before .told-inside .ensures) (c .before .before .before .before .before .before .before .before .before .before .before .before .before .before .before .before .before .before .before .before .before .before .before .before .before .before .before .before .before .view .ensures) (c .before .before .before .before .before .before .before .before .before .before .before .before .before .before .before .before .before .before .before .told-inside2 .ensures) (c .before .before .before .before .before .before .before .before .before .before .before .before .before .before .before .before .before .before .gv .ensures) (assigning.nst-arrays _ _ _ _ _ _ _ (c .before .before .before .before .before .before .before .before .before .before .enum-told2 .given .1) (c .before .before .before .before .before .before .pr .ensures (told.told-value _)))
 
 oa-returns : (t : ℕ) → cycle.Lts-oa.Need-returns (oa-claims t) (at-measure oa.Kinds.ps μ-oa oa.Reads.Pre t) oa.Reads.Post
 oa-returns t c = declaring.own-pattern-left _ _ _ _ _ _ (c .before .has-no-properties .ensures) (c .if1 .taken)
@@ -1015,7 +1022,7 @@ pa-returns : (t : ℕ) → cycle.Lts-pa.Need-returns (pa-claims t) (at-measure p
 pa-returns t c = λ good. good-none _ _ _ (c .if1 .taken) good
 
 pa-returns-2 : (t : ℕ) → cycle.Lts-pa.Need-returns-2 (pa-claims t) (at-measure pa.Kinds.ps μ-pa pa.Reads.Pre t) pa.Reads.Post
-pa-returns-2 t c = declaring.pattern-object-done _ _ _ _ _ _ _ _ _ _ _ _ _ _ _ _ _ (c .before .before .before .before .before .before .before .before .before .before .before .before .before .before .before .before .before .before .before .before .before .before .before .before .before .before .before .before .before .before .before .before .before .before .before .before .before .before .peek .ensures .value) (c .before .before .before .before .before .before .before .before .before .before .before .before .before .before .before .before .before .before .before .before .before .before .before .before .before .before .before .before .before .before .before .before .before .before .before .before .before .match .keys1) (c .before .before .before .before .before .before .before .before .before .before .before .before .before .before .before .before .before .before .before .before .before .before .before .before .before .before .before .before .before .before .before .before .before .before .before .before .step .ensures) (c .before .before .before .before .before .before .before .before .before .before .before .before .before .before .before .before .before .before .before .before .before .before .before .before .before .before .before .before .before .before .before .before .before .before .before .wide-at .ensures) (c .before .before .before .before .before .before .before .before .before .before .before .before .before .before .before .before .before .before .before .before .before .before .before .before .before .before .before .before .before .before .before .own .ensures) (c .before .before .before .before .before .before .before .before .before .before .before .before .before .before .before .before .before .before .before .before .before .before .before .before .step2 .ensures) (c .before .before .before .before .before .before .before .before .before .before .before .before .before .before .before .before .before .before .before .before .before .before .before .to .ensures .1) (c .before .before .before .before .before .before .before .before .before .before .before .before .before .before .before .before .before .before .before .before .before .before .before .to .ensures .0 _ _ _) (c .before .before .before .before .before .before .before .before .before .before .before .before .before .before .before .before .before .before .before .less .ensures) (c .before .before .before .before .before .before .before .before .before .before .before .before .before .before .before .before .before .before .under .ensures .1) (told.with-same _ (c .before .before .before .before .before .before .before .before .before .before .before .before .before .before .before .before .before .before .under .ensures .0)) (told.items-with _ _ _ _ _ _ _ _ _ _ _ told.told-value-found (c .before .before .before .before .before .before .before .before .before .before .before .before .before .before .before .before .before .seq .ensures)) (c .before .before .before .before .before .before .before .before .before .before .to2 .ensures .0 _ _ _) (c .before .before .before .before .before .before .before .before .before .before .to2 .ensures .1) (c .before .before .before .before .before .before .os .ensures)
+pa-returns-2 t c = declaring.pattern-object-done _ _ _ _ _ _ _ _ _ _ _ _ _ _ _ _ _ (c .before .before .before .before .before .before .before .before .before .before .before .before .before .before .before .before .before .before .before .before .before .before .before .before .before .before .before .before .before .before .before .before .before .before .before .before .before .before .peek .ensures .value) (c .before .before .before .before .before .before .before .before .before .before .before .before .before .before .before .before .before .before .before .before .before .before .before .before .before .before .before .before .before .before .before .before .before .before .before .before .before .match .keys1) (c .before .before .before .before .before .before .before .before .before .before .before .before .before .before .before .before .before .before .before .before .before .before .before .before .before .before .before .before .before .before .before .before .before .before .before .before .step .ensures) (c .before .before .before .before .before .before .before .before .before .before .before .before .before .before .before .before .before .before .before .before .before .before .before .before .before .before .before .before .before .before .before .before .before .before .before .wide-at .ensures) (c .before .before .before .before .before .before .before .before .before .before .before .before .before .before .before .before .before .before .before .before .before .before .before .before .before .before .before .before .before .before .before .own .ensures) (c .before .before .before .before .before .before .before .before .before .before .before .before .before .before .before .before .before .before .before .before .before .before .before .before .step2 .ensures) (c .before .before .before .before .before .before .before .before .before .before .before .before .before .before .before .before .before .before .before .before .before .before .before .to .ensures .1) (c .before .before .before .before .before .before .before .before .before .before .before .before .before .before .before .before .before .before .before .before .before .before .before .to .ensures .0 _ _ _) (c .before .before .before .before .before .before .before .before .before .before .before .before .before .before .before .before .before .before .before .less .ensures) (c .before .before .before .before .before .before .before .before .before .before .before .before .before .before .before .before .before .before .under .ensures .1) (told.with-same _ (c .before .before .before .before .before .before .before .before .before .before .before .before .before .before .before .before .before .before .under .ensures .0)) (told.items-with _ _ _ _ _ _ _ _ _ _ _ (told.told-value _) (c .before .before .before .before .before .before .before .before .before .before .before .before .before .before .before .before .before .seq .ensures)) (c .before .before .before .before .before .before .before .before .before .before .to2 .ensures .0 _ _ _) (c .before .before .before .before .before .before .before .before .before .before .to2 .ensures .1) (c .before .before .before .before .before .before .os .ensures)
 
 pa-returns-3 : (t : ℕ) → cycle.Lts-pa.Need-returns-3 (pa-claims t) (at-measure pa.Kinds.ps μ-pa pa.Reads.Pre t) pa.Reads.Post
 pa-returns-3 t c = declaring.pattern-array-done _ _ _ _ _ _ _ _ _ _ _ _ _ (c .before .before .before .before .before .before .before .before .before .before .before .before .before .before .before .before .before .before .before .before .before .before .before .before .before .before .before .before .before .before .before .before .before .before .before .before .before .peek .ensures .value) (c .before .before .before .before .before .before .before .before .before .before .before .before .before .before .before .before .before .before .before .before .before .before .before .before .before .before .before .before .before .before .before .before .before .before .before .before .match .keys2) (runs-does (c .before .before .before .before .before .before .before .before .before .before .before .before .before .before .before .before .before .before .before .before .before .before .before .before .before .before .before .before .before .before .before .before .before .before .put2 .ensures .0 _ _)) (c .before .before .before .before .before .before .before .before .before .before .before .before .before .before .before .before .before .before .before .before .before .before .before .before .before .before .before .before .before .before .before .before .before .before .put2 .ensures .1) (c .before .before .before .before .before .before .before .before .before .before .before .before .before .before .before .before .before .before .before .before .before .before .before .before .before .before .before .before .told-inside .ensures .0) (c .before .before .before .before .before .before .before .before .before .before .before .before .before .before .before .before .before .before .before .before .before .before .before .before .before .before .before .before .told-inside .ensures .1) (c .before .before .before .before .before .before .before .before .before .before .before .before .before .before .before .before .before .before .before .before .before .before .before .before .before .before .before .view .ensures) ((c .before .before .before .before .before .before .before .before .before .before .before .before .before .before .before .before .before .source .ensures .0, runs-does (c .before .before .before .before .before .before .before .before .before .before .before .before .before .before .before .before .before .source .ensures .1))) (c .before .before .before .before .before .before .before .before .before .before .to3 .ensures .0 _ _ _) (c .before .before .before .before .before .before .before .before .before .before .to3 .ensures .1) (c .before .before .before .before .before .before .deep .ensures)
@@ -1194,7 +1201,7 @@ top-same-length-4 : (t : ℕ) → cycle.Lts-top.Need-same-length-4 (top-claims t
 top-same-length-4 t c = omega (arith, c .before .before .before .before .before .before .before .rest .kept, c .before .before .before .before .before .before .before .before .before .before .before .before .before .before .before .before .before .before .before .node .kept, c .before .before .before .before .before .before .before .before .before .before .before .before .before .before .before .before .before .before .before .before .before .before .before .before .before .before .before .before .before .before .before .before .before .before .before .pr .kept, c .before .before .before .before .before .before .before .before .before .before .before .before .before .before .before .before .before .before .before .before .before .before .before .before .before .before .before .before .before .before .before .before .before .before .before .before .before .before .before .before .before .before .before .before .before .tg .kept, c .before .before .before .before .before .before .before .before .before .before .before .before .before .before .before .before .before .before .before .before .before .before .before .before .before .before .before .before .before .before .before .before .before .before .before .before .before .before .before .before .before .before .before .before .before .before .before .before .before .before .before .before .before .before .before .gv .kept, c .before .before .before .before .before .before .before .before .before .before .before .before .before .before .before .before .before .before .before .before .before .before .before .before .before .before .before .before .before .before .before .before .before .before .before .before .before .before .before .before .before .before .before .before .before .before .before .before .before .before .before .before .before .before .before .before .before .before .before .before .before .before .before .before .before .temporary .kept, c .before .before .before .before .before .before .before .before .before .before .before .before .before .before .before .before .before .before .before .before .before .before .before .before .before .before .before .before .before .before .before .before .before .before .before .before .before .before .before .before .before .before .before .before .before .before .before .before .before .before .before .before .before .before .before .before .before .before .before .before .before .before .before .before .before .before .before .before .before .before .before .before .before .before .before .before .before .before .before .before .before .before .before .before .before .before .before .top-hands .kept)
 
 top-returns-2 : (t : ℕ) → cycle.Lts-top.Need-returns-2 (top-claims t) (at-measure top.Kinds.ps μ-top top.Reads.Pre t) top.Reads.Post
-top-returns-2 t c = λ k h. assigning.top-does _ _ _ _ _ _ _ _ _ _ _ _ _ _ _ _ _ _ _ _ _ (c .before .before .before .before .before .before .before .before .before .before .before .before .before .before .before .before .before .before .before .before .before .before .before .before .before .before .before .before .before .before .before .before .before .before .before .before .before .before .before .before .before .before .before .before .before .before .before .before .before .before .before .before .before .before .before .before .before .before .before .before .before .before .before .before .before .before .before .before .before .before .before .before .before .before .before .before .before .before .before .before .before .before .before .before .before .before .before .before .before .before .before .before .refusal .ensures) (c .before .before .before .before .before .before .before .before .before .before .before .before .before .before .before .before .before .before .before .before .before .before .before .before .before .before .before .before .before .before .before .before .before .before .before .before .before .before .before .before .before .before .before .before .before .before .before .before .before .before .before .before .before .before .before .before .before .before .before .before .before .before .before .before .before .before .before .before .before .before .before .before .before .before .before .before .before .before .before .before .before .before .before .before .before .before .before .before .before .before .before .if1 .left) (c .before .before .before .before .before .before .before .before .before .before .before .before .before .before .before .before .before .before .before .before .before .before .before .before .before .before .before .before .before .before .before .before .before .before .before .before .before .before .before .before .before .before .before .before .before .before .before .before .before .before .before .before .before .before .before .before .before .before .before .before .before .before .before .before .before .before .before .before .before .before .before .before .before .before .before .before .before .before .before .before .before .before .before .before .before .before .before .before .before .before .told-inside .ensures) (c .before .before .before .before .before .before .before .before .before .before .before .before .before .before .before .before .before .before .before .before .before .before .before .before .before .before .before .before .before .before .before .before .before .before .before .before .before .before .before .before .before .before .before .before .before .before .before .before .before .before .before .before .before .before .before .before .before .before .before .before .before .before .before .before .before .before .before .before .before .before .before .before .before .before .before .before .before .before .before .before .before .before .before .before .before .before .before .top-hands .ensures .1 _) (hands.top-counted _ _ _ _ (c .before .before .before .before .before .before .before .before .before .before .before .before .before .before .before .before .before .before .before .before .before .before .before .before .before .before .before .before .before .before .before .before .before .before .before .before .before .before .before .before .before .before .before .before .before .before .before .before .before .before .before .before .before .before .before .before .before .before .before .before .before .before .before .before .before .before .before .before .before .before .before .before .before .before .before .before .before .before .before .before .before .before .top-count .ensures)) (runs-does (c .before .before .before .before .before .before .before .before .before .before .before .before .before .before .before .before .before .before .before .before .before .before .before .before .before .before .before .before .before .before .before .before .before .before .before .before .before .before .before .before .before .before .before .before .before .before .before .before .before .before .before .before .before .before .before .before .before .before .before .before .before .before .before .before .before .before .before .before .before .before .before .before .before .before .before .before .before .before .before .before .put2 .ensures .0 _ _)) (steps.does-wide _ (c .before .before .before .before .before .before .before .before .before .before .before .before .before .before .before .before .before .before .before .before .before .before .before .before .before .before .before .before .before .before .before .before .before .before .before .before .before .before .before .before .before .before .before .before .before .before .before .before .before .before .before .before .before .before .before .before .before .before .before .before .before .before .before .before .before .before .before .before .before .before .before .before .before .before .before .before .wide .ensures .0 _ _)) (steps.does-assign _ (c .before .before .before .before .before .before .before .before .before .before .before .before .before .before .before .before .before .before .before .before .before .before .before .before .before .before .before .before .before .before .before .before .before .before .before .before .before .before .before .before .before .before .before .before .before .before .before .before .before .before .before .before .before .before .before .before .before .before .before .before .before .before .before .before .before .before .before .before .before .before .before .before .assign .ensures .0 _ _)) (c .before .before .before .before .before .before .before .before .before .before .before .before .before .before .before .before .before .before .before .before .before .before .before .before .before .before .before .before .before .before .before .before .before .before .before .before .before .before .before .before .before .before .before .before .before .before .before .before .before .before .before .before .before .before .before .before .before .before .before .before .before .before .before .before .before .before .cell .ensures) (runs-does (c .before .before .before .before .before .before .before .before .before .before .before .before .before .before .before .before .before .before .before .before .before .before .before .before .before .before .before .before .before .before .before .before .before .before .before .before .before .before .before .before .before .before .before .before .before .before .before .before .before .before .before .before .before .before .before .before .before .before .before .before .before .before .before .before .before .temporary .ensures .0)) (c .before .before .before .before .before .before .before .before .before .before .before .before .before .before .before .before .before .before .before .before .before .before .before .before .before .before .before .before .before .before .before .before .before .before .before .before .before .before .before .before .before .before .before .before .before .before .before .before .before .before .before .before .before .before .before .gv .ensures) (c .before .before .before .before .before .before .before .before .before .before .before .before .before .before .before .before .before .before .before .before .before .before .before .before .before .before .before .before .before .before .before .before .before .before .before .before .before .before .before .before .before .before .before .before .before .tg .ensures) (c .before .before .before .before .before .before .before .before .before .before .before .before .before .before .before .before .before .before .before .before .before .before .before .before .before .before .before .before .before .before .before .before .before .before .before .pr .ensures told.told-value-straight) (steps.does-assign _ (c .before .before .before .before .before .before .before .before .before .before .before .before .before .before .before .before .before .before .before .before .before .before .before .before .before .before .before .assign2 .ensures .0 _ _)) (c .before .before .before .before .before .before .before .before .before .before .before .before .before .before .before .before .before .before .before .before .before .before .before .before .before .before .before .assign2 .ensures .1) (c .before .before .before .before .before .before .before .before .before .before .before .before .before .before .before .before .before .before .before .before .before .less .ensures) (c .before .before .before .before .before .before .before .before .before .before .before .before .before .before .before .before .before .before .before .before .told-inside2 .ensures) (c .before .before .before .before .before .before .before .before .before .before .before .before .before .before .before .before .before .before .before .node .ensures .1) (c .before .before .before .before .before .before .before .before .before .cell2 .ensures) (c .before .before .before .before .before .before .before .before .cell-source .ensures) (told.own-inner _ _ refl (c .before .before .before .before .before .before .before .before .before .before .before .before .before .before .before .before .before .before .before .before .before .before .before .before .before .before .before .before .before .before .before .before .before .before .before .before .before .before .before .before .before .before .before .before .before .before .before .before .before .before .before .before .before .before .before .before .before .before .before .before .before .before .before .before .before .before .before .before .before .before .before .before .before .before .before .before .before .before .before .before .before .before .before .before .before .before .before .before .before .before .told-inside .ensures .0)) (c .before .before .before .before .before .before .before .rest .ensures .1) (λ w. does-nothing _) (assigning.read-none _ _ (c .if2 .taken)) k h
+top-returns-2 t c = λ k h. assigning.top-does _ _ _ _ _ _ _ _ _ _ _ _ _ _ _ _ _ _ _ _ _ (c .before .before .before .before .before .before .before .before .before .before .before .before .before .before .before .before .before .before .before .before .before .before .before .before .before .before .before .before .before .before .before .before .before .before .before .before .before .before .before .before .before .before .before .before .before .before .before .before .before .before .before .before .before .before .before .before .before .before .before .before .before .before .before .before .before .before .before .before .before .before .before .before .before .before .before .before .before .before .before .before .before .before .before .before .before .before .before .before .before .before .before .before .refusal .ensures) (c .before .before .before .before .before .before .before .before .before .before .before .before .before .before .before .before .before .before .before .before .before .before .before .before .before .before .before .before .before .before .before .before .before .before .before .before .before .before .before .before .before .before .before .before .before .before .before .before .before .before .before .before .before .before .before .before .before .before .before .before .before .before .before .before .before .before .before .before .before .before .before .before .before .before .before .before .before .before .before .before .before .before .before .before .before .before .before .before .before .before .before .if1 .left) (c .before .before .before .before .before .before .before .before .before .before .before .before .before .before .before .before .before .before .before .before .before .before .before .before .before .before .before .before .before .before .before .before .before .before .before .before .before .before .before .before .before .before .before .before .before .before .before .before .before .before .before .before .before .before .before .before .before .before .before .before .before .before .before .before .before .before .before .before .before .before .before .before .before .before .before .before .before .before .before .before .before .before .before .before .before .before .before .before .before .before .told-inside .ensures) (c .before .before .before .before .before .before .before .before .before .before .before .before .before .before .before .before .before .before .before .before .before .before .before .before .before .before .before .before .before .before .before .before .before .before .before .before .before .before .before .before .before .before .before .before .before .before .before .before .before .before .before .before .before .before .before .before .before .before .before .before .before .before .before .before .before .before .before .before .before .before .before .before .before .before .before .before .before .before .before .before .before .before .before .before .before .before .before .top-hands .ensures .1 _) (hands.top-counted _ _ _ _ (c .before .before .before .before .before .before .before .before .before .before .before .before .before .before .before .before .before .before .before .before .before .before .before .before .before .before .before .before .before .before .before .before .before .before .before .before .before .before .before .before .before .before .before .before .before .before .before .before .before .before .before .before .before .before .before .before .before .before .before .before .before .before .before .before .before .before .before .before .before .before .before .before .before .before .before .before .before .before .before .before .before .before .top-count .ensures)) (runs-does (c .before .before .before .before .before .before .before .before .before .before .before .before .before .before .before .before .before .before .before .before .before .before .before .before .before .before .before .before .before .before .before .before .before .before .before .before .before .before .before .before .before .before .before .before .before .before .before .before .before .before .before .before .before .before .before .before .before .before .before .before .before .before .before .before .before .before .before .before .before .before .before .before .before .before .before .before .before .before .before .before .put2 .ensures .0 _ _)) (steps.does-wide _ (c .before .before .before .before .before .before .before .before .before .before .before .before .before .before .before .before .before .before .before .before .before .before .before .before .before .before .before .before .before .before .before .before .before .before .before .before .before .before .before .before .before .before .before .before .before .before .before .before .before .before .before .before .before .before .before .before .before .before .before .before .before .before .before .before .before .before .before .before .before .before .before .before .before .before .before .before .wide .ensures .0 _ _)) (steps.does-assign _ (c .before .before .before .before .before .before .before .before .before .before .before .before .before .before .before .before .before .before .before .before .before .before .before .before .before .before .before .before .before .before .before .before .before .before .before .before .before .before .before .before .before .before .before .before .before .before .before .before .before .before .before .before .before .before .before .before .before .before .before .before .before .before .before .before .before .before .before .before .before .before .before .before .assign .ensures .0 _ _)) (c .before .before .before .before .before .before .before .before .before .before .before .before .before .before .before .before .before .before .before .before .before .before .before .before .before .before .before .before .before .before .before .before .before .before .before .before .before .before .before .before .before .before .before .before .before .before .before .before .before .before .before .before .before .before .before .before .before .before .before .before .before .before .before .before .before .before .cell .ensures) (runs-does (c .before .before .before .before .before .before .before .before .before .before .before .before .before .before .before .before .before .before .before .before .before .before .before .before .before .before .before .before .before .before .before .before .before .before .before .before .before .before .before .before .before .before .before .before .before .before .before .before .before .before .before .before .before .before .before .before .before .before .before .before .before .before .before .before .before .temporary .ensures .0)) (c .before .before .before .before .before .before .before .before .before .before .before .before .before .before .before .before .before .before .before .before .before .before .before .before .before .before .before .before .before .before .before .before .before .before .before .before .before .before .before .before .before .before .before .before .before .before .before .before .before .before .before .before .before .before .before .gv .ensures) (c .before .before .before .before .before .before .before .before .before .before .before .before .before .before .before .before .before .before .before .before .before .before .before .before .before .before .before .before .before .before .before .before .before .before .before .before .before .before .before .before .before .before .before .before .before .tg .ensures) (c .before .before .before .before .before .before .before .before .before .before .before .before .before .before .before .before .before .before .before .before .before .before .before .before .before .before .before .before .before .before .before .before .before .before .before .pr .ensures (told.told-value _)) (steps.does-assign _ (c .before .before .before .before .before .before .before .before .before .before .before .before .before .before .before .before .before .before .before .before .before .before .before .before .before .before .before .assign2 .ensures .0 _ _)) (c .before .before .before .before .before .before .before .before .before .before .before .before .before .before .before .before .before .before .before .before .before .before .before .before .before .before .before .assign2 .ensures .1) (c .before .before .before .before .before .before .before .before .before .before .before .before .before .before .before .before .before .before .before .before .before .less .ensures) (c .before .before .before .before .before .before .before .before .before .before .before .before .before .before .before .before .before .before .before .before .told-inside2 .ensures) (c .before .before .before .before .before .before .before .before .before .before .before .before .before .before .before .before .before .before .before .node .ensures .1) (c .before .before .before .before .before .before .before .before .before .cell2 .ensures) (c .before .before .before .before .before .before .before .before .cell-source .ensures) (told.own-inner _ _ refl (c .before .before .before .before .before .before .before .before .before .before .before .before .before .before .before .before .before .before .before .before .before .before .before .before .before .before .before .before .before .before .before .before .before .before .before .before .before .before .before .before .before .before .before .before .before .before .before .before .before .before .before .before .before .before .before .before .before .before .before .before .before .before .before .before .before .before .before .before .before .before .before .before .before .before .before .before .before .before .before .before .before .before .before .before .before .before .before .before .before .before .told-inside .ensures .0)) (c .before .before .before .before .before .before .before .rest .ensures .1) (λ w. does-nothing _) (assigning.read-none _ _ (c .if2 .taken)) k h
 
 top-same-length-5 : (t : ℕ) → cycle.Lts-top.Need-same-length-5 (top-claims t) (at-measure top.Kinds.ps μ-top top.Reads.Pre t) top.Reads.Post
 top-same-length-5 t c = omega (arith, c .before .before .before .before .before .before .temporary2 .kept, c .before .before .before .before .before .before .before .before .before .before .before .before .before .before .before .before .before .before .rest .kept, c .before .before .before .before .before .before .before .before .before .before .before .before .before .before .before .before .before .before .before .before .before .before .before .before .before .before .before .before .before .before .node .kept, c .before .before .before .before .before .before .before .before .before .before .before .before .before .before .before .before .before .before .before .before .before .before .before .before .before .before .before .before .before .before .before .before .before .before .before .before .before .before .assign2 .kept, c .before .before .before .before .before .before .before .before .before .before .before .before .before .before .before .before .before .before .before .before .before .before .before .before .before .before .before .before .before .before .before .before .before .before .before .before .before .before .before .before .before .before .before .before .before .before .pr .kept, c .before .before .before .before .before .before .before .before .before .before .before .before .before .before .before .before .before .before .before .before .before .before .before .before .before .before .before .before .before .before .before .before .before .before .before .before .before .before .before .before .before .before .before .before .before .before .before .before .before .before .before .before .before .before .before .before .tg .kept, c .before .before .before .before .before .before .before .before .before .before .before .before .before .before .before .before .before .before .before .before .before .before .before .before .before .before .before .before .before .before .before .before .before .before .before .before .before .before .before .before .before .before .before .before .before .before .before .before .before .before .before .before .before .before .before .before .before .before .before .before .before .before .before .before .before .before .gv .kept, c .before .before .before .before .before .before .before .before .before .before .before .before .before .before .before .before .before .before .before .before .before .before .before .before .before .before .before .before .before .before .before .before .before .before .before .before .before .before .before .before .before .before .before .before .before .before .before .before .before .before .before .before .before .before .before .before .before .before .before .before .before .before .before .before .before .before .before .before .before .before .before .before .before .before .before .before .temporary .kept, c .before .before .before .before .before .before .before .before .before .before .before .before .before .before .before .before .before .before .before .before .before .before .before .before .before .before .before .before .before .before .before .before .before .before .before .before .before .before .before .before .before .before .before .before .before .before .before .before .before .before .before .before .before .before .before .before .before .before .before .before .before .before .before .before .before .before .before .before .before .before .before .before .before .before .before .before .before .before .before .before .before .before .before .assign .kept, c .before .before .before .before .before .before .before .before .before .before .before .before .before .before .before .before .before .before .before .before .before .before .before .before .before .before .before .before .before .before .before .before .before .before .before .before .before .before .before .before .before .before .before .before .before .before .before .before .before .before .before .before .before .before .before .before .before .before .before .before .before .before .before .before .before .before .before .before .before .before .before .before .before .before .before .before .before .before .before .before .before .before .before .before .before .before .before .wide .kept, c .before .before .before .before .before .before .before .before .before .before .before .before .before .before .before .before .before .before .before .before .before .before .before .before .before .before .before .before .before .before .before .before .before .before .before .before .before .before .before .before .before .before .before .before .before .before .before .before .before .before .before .before .before .before .before .before .before .before .before .before .before .before .before .before .before .before .before .before .before .before .before .before .before .before .before .before .before .before .before .before .before .before .before .before .before .before .before .before .before .before .before .put2 .kept)
@@ -1206,49 +1213,37 @@ top-same-length-7 : (t : ℕ) → cycle.Lts-top.Need-same-length-7 (top-claims t
 top-same-length-7 t c = omega (arith, c .before .before .before .before .before .before .temporary2 .kept, c .before .before .before .before .before .before .before .before .before .before .before .before .before .before .before .before .before .before .rest .kept, c .before .before .before .before .before .before .before .before .before .before .before .before .before .before .before .before .before .before .before .before .before .before .before .before .before .before .before .before .before .before .node .kept, c .before .before .before .before .before .before .before .before .before .before .before .before .before .before .before .before .before .before .before .before .before .before .before .before .before .before .before .before .before .before .before .before .before .before .before .before .before .before .before .before .before .before .before .before .before .before .pr .kept, c .before .before .before .before .before .before .before .before .before .before .before .before .before .before .before .before .before .before .before .before .before .before .before .before .before .before .before .before .before .before .before .before .before .before .before .before .before .before .before .before .before .before .before .before .before .before .before .before .before .before .before .before .before .before .before .before .tg .kept, c .before .before .before .before .before .before .before .before .before .before .before .before .before .before .before .before .before .before .before .before .before .before .before .before .before .before .before .before .before .before .before .before .before .before .before .before .before .before .before .before .before .before .before .before .before .before .before .before .before .before .before .before .before .before .before .before .before .before .before .before .before .before .before .before .before .before .gv .kept, c .before .before .before .before .before .before .before .before .before .before .before .before .before .before .before .before .before .before .before .before .before .before .before .before .before .before .before .before .before .before .before .before .before .before .before .before .before .before .before .before .before .before .before .before .before .before .before .before .before .before .before .before .before .before .before .before .before .before .before .before .before .before .before .before .before .before .before .before .before .before .before .before .before .before .before .before .temporary .kept, c .before .before .before .before .before .before .before .before .before .before .before .before .before .before .before .before .before .before .before .before .before .before .before .before .before .before .before .before .before .before .before .before .before .before .before .before .before .before .before .before .before .before .before .before .before .before .before .before .before .before .before .before .before .before .before .before .before .before .before .before .before .before .before .before .before .before .before .before .before .before .before .before .before .before .before .before .before .before .before .before .before .before .before .before .before .before .before .before .before .before .before .before .before .before .before .before .before .before .top-hands .kept)
 
 top-returns-3 : (t : ℕ) → cycle.Lts-top.Need-returns-3 (top-claims t) (at-measure top.Kinds.ps μ-top top.Reads.Pre t) top.Reads.Post
-top-returns-3 t c = λ k h. assigning.top-does _ _ _ _ _ _ _ _ _ _ _ _ _ _ _ _ _ _ _ _ _ (c .before .before .before .before .before .before .before .before .before .before .before .before .before .before .before .before .before .before .before .before .before .before .before .before .before .before .before .before .before .before .before .before .before .before .before .before .before .before .before .before .before .before .before .before .before .before .before .before .before .before .before .before .before .before .before .before .before .before .before .before .before .before .before .before .before .before .before .before .before .before .before .before .before .before .before .before .before .before .before .before .before .before .before .before .before .before .before .before .before .before .before .before .before .before .before .before .before .before .before .before .before .before .before .refusal .ensures) (c .before .before .before .before .before .before .before .before .before .before .before .before .before .before .before .before .before .before .before .before .before .before .before .before .before .before .before .before .before .before .before .before .before .before .before .before .before .before .before .before .before .before .before .before .before .before .before .before .before .before .before .before .before .before .before .before .before .before .before .before .before .before .before .before .before .before .before .before .before .before .before .before .before .before .before .before .before .before .before .before .before .before .before .before .before .before .before .before .before .before .before .before .before .before .before .before .before .before .before .before .before .before .if1 .left) (c .before .before .before .before .before .before .before .before .before .before .before .before .before .before .before .before .before .before .before .before .before .before .before .before .before .before .before .before .before .before .before .before .before .before .before .before .before .before .before .before .before .before .before .before .before .before .before .before .before .before .before .before .before .before .before .before .before .before .before .before .before .before .before .before .before .before .before .before .before .before .before .before .before .before .before .before .before .before .before .before .before .before .before .before .before .before .before .before .before .before .before .before .before .before .before .before .before .before .before .before .before .told-inside .ensures) (c .before .before .before .before .before .before .before .before .before .before .before .before .before .before .before .before .before .before .before .before .before .before .before .before .before .before .before .before .before .before .before .before .before .before .before .before .before .before .before .before .before .before .before .before .before .before .before .before .before .before .before .before .before .before .before .before .before .before .before .before .before .before .before .before .before .before .before .before .before .before .before .before .before .before .before .before .before .before .before .before .before .before .before .before .before .before .before .before .before .before .before .before .before .before .before .before .before .before .top-hands .ensures .1 _) (hands.top-counted _ _ _ _ (c .before .before .before .before .before .before .before .before .before .before .before .before .before .before .before .before .before .before .before .before .before .before .before .before .before .before .before .before .before .before .before .before .before .before .before .before .before .before .before .before .before .before .before .before .before .before .before .before .before .before .before .before .before .before .before .before .before .before .before .before .before .before .before .before .before .before .before .before .before .before .before .before .before .before .before .before .before .before .before .before .before .before .before .before .before .before .before .before .before .before .before .before .before .top-count .ensures)) (runs-does (c .before .before .before .before .before .before .before .before .before .before .before .before .before .before .before .before .before .before .before .before .before .before .before .before .before .before .before .before .before .before .before .before .before .before .before .before .before .before .before .before .before .before .before .before .before .before .before .before .before .before .before .before .before .before .before .before .before .before .before .before .before .before .before .before .before .before .before .before .before .before .before .before .before .before .before .before .before .before .before .before .before .before .before .before .before .before .before .before .before .before .before .put2 .ensures .0 _ _)) (steps.does-wide _ (c .before .before .before .before .before .before .before .before .before .before .before .before .before .before .before .before .before .before .before .before .before .before .before .before .before .before .before .before .before .before .before .before .before .before .before .before .before .before .before .before .before .before .before .before .before .before .before .before .before .before .before .before .before .before .before .before .before .before .before .before .before .before .before .before .before .before .before .before .before .before .before .before .before .before .before .before .before .before .before .before .before .before .before .before .before .before .before .wide .ensures .0 _ _)) (steps.does-assign _ (c .before .before .before .before .before .before .before .before .before .before .before .before .before .before .before .before .before .before .before .before .before .before .before .before .before .before .before .before .before .before .before .before .before .before .before .before .before .before .before .before .before .before .before .before .before .before .before .before .before .before .before .before .before .before .before .before .before .before .before .before .before .before .before .before .before .before .before .before .before .before .before .before .before .before .before .before .before .before .before .before .before .before .before .assign .ensures .0 _ _)) (c .before .before .before .before .before .before .before .before .before .before .before .before .before .before .before .before .before .before .before .before .before .before .before .before .before .before .before .before .before .before .before .before .before .before .before .before .before .before .before .before .before .before .before .before .before .before .before .before .before .before .before .before .before .before .before .before .before .before .before .before .before .before .before .before .before .before .before .before .before .before .before .before .before .before .before .before .before .cell .ensures) (runs-does (c .before .before .before .before .before .before .before .before .before .before .before .before .before .before .before .before .before .before .before .before .before .before .before .before .before .before .before .before .before .before .before .before .before .before .before .before .before .before .before .before .before .before .before .before .before .before .before .before .before .before .before .before .before .before .before .before .before .before .before .before .before .before .before .before .before .before .before .before .before .before .before .before .before .before .before .before .temporary .ensures .0)) (c .before .before .before .before .before .before .before .before .before .before .before .before .before .before .before .before .before .before .before .before .before .before .before .before .before .before .before .before .before .before .before .before .before .before .before .before .before .before .before .before .before .before .before .before .before .before .before .before .before .before .before .before .before .before .before .before .before .before .before .before .before .before .before .before .before .before .gv .ensures) (c .before .before .before .before .before .before .before .before .before .before .before .before .before .before .before .before .before .before .before .before .before .before .before .before .before .before .before .before .before .before .before .before .before .before .before .before .before .before .before .before .before .before .before .before .before .before .before .before .before .before .before .before .before .before .before .before .tg .ensures) (c .before .before .before .before .before .before .before .before .before .before .before .before .before .before .before .before .before .before .before .before .before .before .before .before .before .before .before .before .before .before .before .before .before .before .before .before .before .before .before .before .before .before .before .before .before .before .pr .ensures told.told-value-straight) (steps.does-assign _ (c .before .before .before .before .before .before .before .before .before .before .before .before .before .before .before .before .before .before .before .before .before .before .before .before .before .before .before .before .before .before .before .before .before .before .before .before .before .before .assign2 .ensures .0 _ _)) (c .before .before .before .before .before .before .before .before .before .before .before .before .before .before .before .before .before .before .before .before .before .before .before .before .before .before .before .before .before .before .before .before .before .before .before .before .before .before .assign2 .ensures .1) (c .before .before .before .before .before .before .before .before .before .before .before .before .before .before .before .before .before .before .before .before .before .before .before .before .before .before .before .before .before .before .before .before .less .ensures) (c .before .before .before .before .before .before .before .before .before .before .before .before .before .before .before .before .before .before .before .before .before .before .before .before .before .before .before .before .before .before .before .told-inside2 .ensures) (c .before .before .before .before .before .before .before .before .before .before .before .before .before .before .before .before .before .before .before .before .before .before .before .before .before .before .before .before .before .before .node .ensures .1) (c .before .before .before .before .before .before .before .before .before .before .before .before .before .before .before .before .before .before .before .before .cell2 .ensures) (c .before .before .before .before .before .before .before .before .before .before .before .before .before .before .before .before .before .before .before .cell-source .ensures) (told.own-inner _ _ refl (c .before .before .before .before .before .before .before .before .before .before .before .before .before .before .before .before .before .before .before .before .before .before .before .before .before .before .before .before .before .before .before .before .before .before .before .before .before .before .before .before .before .before .before .before .before .before .before .before .before .before .before .before .before .before .before .before .before .before .before .before .before .before .before .before .before .before .before .before .before .before .before .before .before .before .before .before .before .before .before .before .before .before .before .before .before .before .before .before .before .before .before .before .before .before .before .before .before .before .before .before .before .told-inside .ensures .0)) (c .before .before .before .before .before .before .before .before .before .before .before .before .before .before .before .before .before .before .rest .ensures .1) (assigning.value-read _ _ (c .before .before .before .before .before .before .before .cell3 .ensures) (runs-does (c .before .before .before .before .before .before .temporary2 .ensures .0))) (assigning.read-some _ _ (c .before .before .before .before .before .before .before .before .before .before .before .if2 .left)) k h
+top-returns-3 t c = λ k h. assigning.top-does _ _ _ _ _ _ _ _ _ _ _ _ _ _ _ _ _ _ _ _ _ (c .before .before .before .before .before .before .before .before .before .before .before .before .before .before .before .before .before .before .before .before .before .before .before .before .before .before .before .before .before .before .before .before .before .before .before .before .before .before .before .before .before .before .before .before .before .before .before .before .before .before .before .before .before .before .before .before .before .before .before .before .before .before .before .before .before .before .before .before .before .before .before .before .before .before .before .before .before .before .before .before .before .before .before .before .before .before .before .before .before .before .before .before .before .before .before .before .before .before .before .before .before .before .before .refusal .ensures) (c .before .before .before .before .before .before .before .before .before .before .before .before .before .before .before .before .before .before .before .before .before .before .before .before .before .before .before .before .before .before .before .before .before .before .before .before .before .before .before .before .before .before .before .before .before .before .before .before .before .before .before .before .before .before .before .before .before .before .before .before .before .before .before .before .before .before .before .before .before .before .before .before .before .before .before .before .before .before .before .before .before .before .before .before .before .before .before .before .before .before .before .before .before .before .before .before .before .before .before .before .before .before .if1 .left) (c .before .before .before .before .before .before .before .before .before .before .before .before .before .before .before .before .before .before .before .before .before .before .before .before .before .before .before .before .before .before .before .before .before .before .before .before .before .before .before .before .before .before .before .before .before .before .before .before .before .before .before .before .before .before .before .before .before .before .before .before .before .before .before .before .before .before .before .before .before .before .before .before .before .before .before .before .before .before .before .before .before .before .before .before .before .before .before .before .before .before .before .before .before .before .before .before .before .before .before .before .before .told-inside .ensures) (c .before .before .before .before .before .before .before .before .before .before .before .before .before .before .before .before .before .before .before .before .before .before .before .before .before .before .before .before .before .before .before .before .before .before .before .before .before .before .before .before .before .before .before .before .before .before .before .before .before .before .before .before .before .before .before .before .before .before .before .before .before .before .before .before .before .before .before .before .before .before .before .before .before .before .before .before .before .before .before .before .before .before .before .before .before .before .before .before .before .before .before .before .before .before .before .before .before .before .top-hands .ensures .1 _) (hands.top-counted _ _ _ _ (c .before .before .before .before .before .before .before .before .before .before .before .before .before .before .before .before .before .before .before .before .before .before .before .before .before .before .before .before .before .before .before .before .before .before .before .before .before .before .before .before .before .before .before .before .before .before .before .before .before .before .before .before .before .before .before .before .before .before .before .before .before .before .before .before .before .before .before .before .before .before .before .before .before .before .before .before .before .before .before .before .before .before .before .before .before .before .before .before .before .before .before .before .before .top-count .ensures)) (runs-does (c .before .before .before .before .before .before .before .before .before .before .before .before .before .before .before .before .before .before .before .before .before .before .before .before .before .before .before .before .before .before .before .before .before .before .before .before .before .before .before .before .before .before .before .before .before .before .before .before .before .before .before .before .before .before .before .before .before .before .before .before .before .before .before .before .before .before .before .before .before .before .before .before .before .before .before .before .before .before .before .before .before .before .before .before .before .before .before .before .before .before .before .put2 .ensures .0 _ _)) (steps.does-wide _ (c .before .before .before .before .before .before .before .before .before .before .before .before .before .before .before .before .before .before .before .before .before .before .before .before .before .before .before .before .before .before .before .before .before .before .before .before .before .before .before .before .before .before .before .before .before .before .before .before .before .before .before .before .before .before .before .before .before .before .before .before .before .before .before .before .before .before .before .before .before .before .before .before .before .before .before .before .before .before .before .before .before .before .before .before .before .before .before .wide .ensures .0 _ _)) (steps.does-assign _ (c .before .before .before .before .before .before .before .before .before .before .before .before .before .before .before .before .before .before .before .before .before .before .before .before .before .before .before .before .before .before .before .before .before .before .before .before .before .before .before .before .before .before .before .before .before .before .before .before .before .before .before .before .before .before .before .before .before .before .before .before .before .before .before .before .before .before .before .before .before .before .before .before .before .before .before .before .before .before .before .before .before .before .before .assign .ensures .0 _ _)) (c .before .before .before .before .before .before .before .before .before .before .before .before .before .before .before .before .before .before .before .before .before .before .before .before .before .before .before .before .before .before .before .before .before .before .before .before .before .before .before .before .before .before .before .before .before .before .before .before .before .before .before .before .before .before .before .before .before .before .before .before .before .before .before .before .before .before .before .before .before .before .before .before .before .before .before .before .before .cell .ensures) (runs-does (c .before .before .before .before .before .before .before .before .before .before .before .before .before .before .before .before .before .before .before .before .before .before .before .before .before .before .before .before .before .before .before .before .before .before .before .before .before .before .before .before .before .before .before .before .before .before .before .before .before .before .before .before .before .before .before .before .before .before .before .before .before .before .before .before .before .before .before .before .before .before .before .before .before .before .before .before .temporary .ensures .0)) (c .before .before .before .before .before .before .before .before .before .before .before .before .before .before .before .before .before .before .before .before .before .before .before .before .before .before .before .before .before .before .before .before .before .before .before .before .before .before .before .before .before .before .before .before .before .before .before .before .before .before .before .before .before .before .before .before .before .before .before .before .before .before .before .before .before .before .gv .ensures) (c .before .before .before .before .before .before .before .before .before .before .before .before .before .before .before .before .before .before .before .before .before .before .before .before .before .before .before .before .before .before .before .before .before .before .before .before .before .before .before .before .before .before .before .before .before .before .before .before .before .before .before .before .before .before .before .before .tg .ensures) (c .before .before .before .before .before .before .before .before .before .before .before .before .before .before .before .before .before .before .before .before .before .before .before .before .before .before .before .before .before .before .before .before .before .before .before .before .before .before .before .before .before .before .before .before .before .before .pr .ensures (told.told-value _)) (steps.does-assign _ (c .before .before .before .before .before .before .before .before .before .before .before .before .before .before .before .before .before .before .before .before .before .before .before .before .before .before .before .before .before .before .before .before .before .before .before .before .before .before .assign2 .ensures .0 _ _)) (c .before .before .before .before .before .before .before .before .before .before .before .before .before .before .before .before .before .before .before .before .before .before .before .before .before .before .before .before .before .before .before .before .before .before .before .before .before .before .assign2 .ensures .1) (c .before .before .before .before .before .before .before .before .before .before .before .before .before .before .before .before .before .before .before .before .before .before .before .before .before .before .before .before .before .before .before .before .less .ensures) (c .before .before .before .before .before .before .before .before .before .before .before .before .before .before .before .before .before .before .before .before .before .before .before .before .before .before .before .before .before .before .before .told-inside2 .ensures) (c .before .before .before .before .before .before .before .before .before .before .before .before .before .before .before .before .before .before .before .before .before .before .before .before .before .before .before .before .before .before .node .ensures .1) (c .before .before .before .before .before .before .before .before .before .before .before .before .before .before .before .before .before .before .before .before .cell2 .ensures) (c .before .before .before .before .before .before .before .before .before .before .before .before .before .before .before .before .before .before .before .cell-source .ensures) (told.own-inner _ _ refl (c .before .before .before .before .before .before .before .before .before .before .before .before .before .before .before .before .before .before .before .before .before .before .before .before .before .before .before .before .before .before .before .before .before .before .before .before .before .before .before .before .before .before .before .before .before .before .before .before .before .before .before .before .before .before .before .before .before .before .before .before .before .before .before .before .before .before .before .before .before .before .before .before .before .before .before .before .before .before .before .before .before .before .before .before .before .before .before .before .before .before .before .before .before .before .before .before .before .before .before .before .before .told-inside .ensures .0)) (c .before .before .before .before .before .before .before .before .before .before .before .before .before .before .before .before .before .before .rest .ensures .1) (assigning.value-read _ _ (c .before .before .before .before .before .before .before .cell3 .ensures) (runs-does (c .before .before .before .before .before .before .temporary2 .ensures .0))) (assigning.read-some _ _ (c .before .before .before .before .before .before .before .before .before .before .before .if2 .left)) k h
 
 turn-returns : (t : ℕ) → cycle.Lts-turn.Need-returns (turn-claims t) (at-measure turn.Kinds.ps μ-turn turn.Reads.Pre t) turn.Reads.Post
 turn-returns t c = turning.turned-hole _ _ _ _ _ _ _ _ (c .before .before .before .before .before .before .if1 .taken) (c .before .before .before .before .before .peek .ensures) (c .before .before .before .before .if2 .taken) (c .before .before .hole .ensures .0) (sources.does-hole _ _ _ (c .before .before .hole .ensures .1 _ _))
 
 turn-returns-2 : (t : ℕ) → cycle.Lts-turn.Need-returns-2 (turn-claims t) (at-measure turn.Kinds.ps μ-turn turn.Reads.Pre t) turn.Reads.Post
-turn-returns-2 t c = told.item-own _ _ _ _ _ _ _ _ _ _ (ap isTold (c .before .before .before .before .before .before .before .before .before .before .match .keys1) ∙ told.untold-viewed) (turning.turned-viewed _ _ _ _ _ _ _ (⊎-elim (λ w. law.no-hole _ _ _ _ (w .0 .taken) (w .1 .ensures) (w .2 .left)) (λ w. law.full _ _ _ (w .left)) (c .before .before .before .before .before .before .before .before .before .before .before .if1 .came)) (c .before .before .before .before .before .before .before .before .before .before .match .keys1) (c .before .before .before .before .before .before .view .ensures))
+turn-returns-2 t c = told.item-own _ _ _ _ _ _ _ _ _ _ (ap isTold (c .before .before .before .before .before .before .before .before .before .before .enum-told .given .1) ∙ told.untold-viewed) (turning.turned-viewed _ _ _ _ _ _ _ (⊎-elim (λ w. law.no-hole _ _ _ _ (w .0 .taken) (w .1 .ensures) (w .2 .left)) (λ w. law.full _ _ _ (w .left)) (c .before .before .before .before .before .before .before .before .before .before .before .before .if1 .came)) (c .before .before .before .before .before .before .before .before .before .before .enum-told .given .1) (c .before .before .before .before .before .before .view .ensures))
 
 turn-returns-3 : (t : ℕ) → cycle.Lts-turn.Need-returns-3 (turn-claims t) (at-measure turn.Kinds.ps μ-turn turn.Reads.Pre t) turn.Reads.Post
-turn-returns-3 t c = told.item-own _ _ _ _ _ _ _ _ _ _ (ap isTold (c .before .before .before .before .before .before .before .before .before .before .match .keys2) ∙ told.untold-property) (turning.turned-property _ _ _ _ _ _ _ (⊎-elim (λ w. law.no-hole _ _ _ _ (w .0 .taken) (w .1 .ensures) (w .2 .left)) (λ w. law.full _ _ _ (w .left)) (c .before .before .before .before .before .before .before .before .before .before .before .if1 .came)) (c .before .before .before .before .before .before .before .before .before .before .match .keys2) (c .before .before .before .before .before .before .prop .ensures))
+turn-returns-3 t c = told.item-own _ _ _ _ _ _ _ _ _ _ (ap isTold (c .before .before .before .before .before .before .before .before .before .before .enum-told2 .given .1) ∙ told.untold-moved-out) (turning.turned-moved-out _ _ _ _ _ _ _ (⊎-elim (λ w. law.no-hole _ _ _ _ (w .0 .taken) (w .1 .ensures) (w .2 .left)) (λ w. law.full _ _ _ (w .left)) (c .before .before .before .before .before .before .before .before .before .before .before .before .if1 .came)) (c .before .before .before .before .before .before .before .before .before .before .enum-told2 .given .1) (c .before .before .before .before .before .before .go .ensures))
 
 turn-returns-4 : (t : ℕ) → cycle.Lts-turn.Need-returns-4 (turn-claims t) (at-measure turn.Kinds.ps μ-turn turn.Reads.Pre t) turn.Reads.Post
-turn-returns-4 t c = told.item-own _ _ _ _ _ _ _ _ _ _ (ap isTold (c .before .before .before .before .before .before .before .before .before .before .match .keys3) ∙ told.untold-taken-property) (turning.turned-taken-property _ _ _ _ _ _ _ (⊎-elim (λ w. law.no-hole _ _ _ _ (w .0 .taken) (w .1 .ensures) (w .2 .left)) (λ w. law.full _ _ _ (w .left)) (c .before .before .before .before .before .before .before .before .before .before .before .if1 .came)) (c .before .before .before .before .before .before .before .before .before .before .match .keys3) (c .before .before .before .before .before .before .prop2 .ensures))
+turn-returns-4 t c = told.item-with _ _ _ _ _ _ _ _ _ _ (ap isTold (c .before .before .before .before .before .before .before .before .before .before .before .mode .given .1) ∙ told.told-below _) (turning.turned-below _ _ _ _ _ _ _ (⊎-elim (λ w. law.no-hole _ _ _ _ (w .0 .taken) (w .1 .ensures) (w .2 .left)) (λ w. law.full _ _ _ (w .left)) (c .before .before .before .before .before .before .before .before .before .before .before .before .before .if1 .came)) _ (c .before .before .before .before .before .before .before .before .before .before .before .mode .given .1) (c .before .before .before .before .before .before .deep .ensures))
 
 turn-returns-5 : (t : ℕ) → cycle.Lts-turn.Need-returns-5 (turn-claims t) (at-measure turn.Kinds.ps μ-turn turn.Reads.Pre t) turn.Reads.Post
-turn-returns-5 t c = told.item-own _ _ _ _ _ _ _ _ _ _ (ap isTold (c .before .before .before .before .before .before .before .before .before .before .match .keys4) ∙ told.untold-excluded-key) (turning.turned-excluded-key _ _ _ _ _ _ _ (⊎-elim (λ w. law.no-hole _ _ _ _ (w .0 .taken) (w .1 .ensures) (w .2 .left)) (λ w. law.full _ _ _ (w .left)) (c .before .before .before .before .before .before .before .before .before .before .before .if1 .came)) (c .before .before .before .before .before .before .before .before .before .before .match .keys4) (c .before .before .before .before .before .before .ek .ensures))
+turn-returns-5 t c = told.item-own _ _ _ _ _ _ _ _ _ _ (ap isTold (c .before .before .before .before .before .before .before .before .before .before .before .mode2 .given .1) ∙ told.untold-property _) (turning.turned-property _ _ _ _ _ _ _ (⊎-elim (λ w. law.no-hole _ _ _ _ (w .0 .taken) (w .1 .ensures) (w .2 .left)) (λ w. law.full _ _ _ (w .left)) (c .before .before .before .before .before .before .before .before .before .before .before .before .before .if1 .came)) _ (c .before .before .before .before .before .before .before .before .before .before .before .mode2 .given .1) (c .before .before .before .before .before .before .prop .ensures))
 
 turn-returns-6 : (t : ℕ) → cycle.Lts-turn.Need-returns-6 (turn-claims t) (at-measure turn.Kinds.ps μ-turn turn.Reads.Pre t) turn.Reads.Post
-turn-returns-6 t c = told.item-own _ _ _ _ _ _ _ _ _ _ (ap isTold (c .before .before .before .before .before .before .before .before .before .before .match .keys5) ∙ told.untold-key-value) (turning.turned-key-value _ _ _ _ _ _ _ (⊎-elim (λ w. law.no-hole _ _ _ _ (w .0 .taken) (w .1 .ensures) (w .2 .left)) (λ w. law.full _ _ _ (w .left)) (c .before .before .before .before .before .before .before .before .before .before .before .if1 .came)) (c .before .before .before .before .before .before .before .before .before .before .match .keys5) (c .before .before .before .before .before .before .kv .ensures))
+turn-returns-6 t c = told.item-own _ _ _ _ _ _ _ _ _ _ (ap isTold (c .before .before .before .before .before .before .before .before .before .before .enum-told3 .given .1) ∙ told.untold-excluded-key) (turning.turned-excluded-key _ _ _ _ _ _ _ (⊎-elim (λ w. law.no-hole _ _ _ _ (w .0 .taken) (w .1 .ensures) (w .2 .left)) (λ w. law.full _ _ _ (w .left)) (c .before .before .before .before .before .before .before .before .before .before .before .before .if1 .came)) (c .before .before .before .before .before .before .before .before .before .before .enum-told3 .given .1) (c .before .before .before .before .before .before .ek .ensures))
 
 turn-returns-7 : (t : ℕ) → cycle.Lts-turn.Need-returns-7 (turn-claims t) (at-measure turn.Kinds.ps μ-turn turn.Reads.Pre t) turn.Reads.Post
-turn-returns-7 t c = told.item-with _ _ _ _ _ _ _ _ _ _ (ap isTold (c .before .before .before .before .before .before .before .before .before .before .match .keys6) ∙ told.told-value-found) (turning.turned-value-found _ _ _ _ _ _ _ (⊎-elim (λ w. law.no-hole _ _ _ _ (w .0 .taken) (w .1 .ensures) (w .2 .left)) (λ w. law.full _ _ _ (w .left)) (c .before .before .before .before .before .before .before .before .before .before .before .if1 .came)) (c .before .before .before .before .before .before .before .before .before .before .match .keys6) (c .before .before .before .before .before .before .vl .ensures))
+turn-returns-7 t c = told.item-own _ _ _ _ _ _ _ _ _ _ (ap isTold (c .before .before .before .before .before .before .before .before .before .before .enum-told4 .given .1) ∙ told.untold-key-value) (turning.turned-key-value _ _ _ _ _ _ _ (⊎-elim (λ w. law.no-hole _ _ _ _ (w .0 .taken) (w .1 .ensures) (w .2 .left)) (λ w. law.full _ _ _ (w .left)) (c .before .before .before .before .before .before .before .before .before .before .before .before .if1 .came)) (c .before .before .before .before .before .before .before .before .before .before .enum-told4 .given .1) (c .before .before .before .before .before .before .kv .ensures))
 
 turn-returns-8 : (t : ℕ) → cycle.Lts-turn.Need-returns-8 (turn-claims t) (at-measure turn.Kinds.ps μ-turn turn.Reads.Pre t) turn.Reads.Post
-turn-returns-8 t c = told.item-with _ _ _ _ _ _ _ _ _ _ (ap isTold (c .before .before .before .before .before .before .before .before .before .before .match .keys7) ∙ told.told-declarator) (turning.turned-declarator _ _ _ _ _ _ _ (⊎-elim (λ w. law.no-hole _ _ _ _ (w .0 .taken) (w .1 .ensures) (w .2 .left)) (λ w. law.full _ _ _ (w .left)) (c .before .before .before .before .before .before .before .before .before .before .before .if1 .came)) (c .before .before .before .before .before .before .before .before .before .before .match .keys7) (c .before .before .before .before .before .before .dr .ensures))
+turn-returns-8 t c = told.item-with _ _ _ _ _ _ _ _ _ _ (ap isTold (c .before .before .before .before .before .before .before .before .before .before .before .mode3 .given .1) ∙ told.told-value _) (turning.turned-value _ _ _ _ _ _ _ (⊎-elim (λ w. law.no-hole _ _ _ _ (w .0 .taken) (w .1 .ensures) (w .2 .left)) (λ w. law.full _ _ _ (w .left)) (c .before .before .before .before .before .before .before .before .before .before .before .before .before .if1 .came)) _ (c .before .before .before .before .before .before .before .before .before .before .before .mode3 .given .1) (c .before .before .before .before .before .before .vl .ensures))
 
 turn-returns-9 : (t : ℕ) → cycle.Lts-turn.Need-returns-9 (turn-claims t) (at-measure turn.Kinds.ps μ-turn turn.Reads.Pre t) turn.Reads.Post
-turn-returns-9 t c = told.item-own _ _ _ _ _ _ _ _ _ _ (ap isTold (c .before .before .before .before .before .before .before .before .before .before .match .keys8) ∙ told.untold-binding) (turning.turned-binding _ _ _ _ _ _ _ (⊎-elim (λ w. law.no-hole _ _ _ _ (w .0 .taken) (w .1 .ensures) (w .2 .left)) (λ w. law.full _ _ _ (w .left)) (c .before .before .before .before .before .before .before .before .before .before .before .if1 .came)) (c .before .before .before .before .before .before .before .before .before .before .match .keys8) (c .before .before .before .before .before .before .bi .ensures))
+turn-returns-9 t c = told.item-with _ _ _ _ _ _ _ _ _ _ (ap isTold (c .before .before .before .before .before .before .before .before .before .before .enum-told5 .given .1) ∙ told.told-declarator) (turning.turned-declarator _ _ _ _ _ _ _ (⊎-elim (λ w. law.no-hole _ _ _ _ (w .0 .taken) (w .1 .ensures) (w .2 .left)) (λ w. law.full _ _ _ (w .left)) (c .before .before .before .before .before .before .before .before .before .before .before .before .if1 .came)) (c .before .before .before .before .before .before .before .before .before .before .enum-told5 .given .1) (c .before .before .before .before .before .before .dr .ensures))
 
 turn-returns-10 : (t : ℕ) → cycle.Lts-turn.Need-returns-10 (turn-claims t) (at-measure turn.Kinds.ps μ-turn turn.Reads.Pre t) turn.Reads.Post
-turn-returns-10 t c = told.item-with _ _ _ _ _ _ _ _ _ _ (ap isTold (c .before .before .before .before .before .before .before .before .before .before .match .keys9) ∙ told.told-value-anywhere) (turning.turned-value-anywhere _ _ _ _ _ _ _ (⊎-elim (λ w. law.no-hole _ _ _ _ (w .0 .taken) (w .1 .ensures) (w .2 .left)) (λ w. law.full _ _ _ (w .left)) (c .before .before .before .before .before .before .before .before .before .before .before .if1 .came)) (c .before .before .before .before .before .before .before .before .before .before .match .keys9) (c .before .before .before .before .before .before .vl2 .ensures))
-
-turn-returns-11 : (t : ℕ) → cycle.Lts-turn.Need-returns-11 (turn-claims t) (at-measure turn.Kinds.ps μ-turn turn.Reads.Pre t) turn.Reads.Post
-turn-returns-11 t c = told.item-with _ _ _ _ _ _ _ _ _ _ (ap isTold (c .before .before .before .before .before .before .before .before .before .before .match .keys10) ∙ told.told-value-in-arrays) (turning.turned-value-in-arrays _ _ _ _ _ _ _ (⊎-elim (λ w. law.no-hole _ _ _ _ (w .0 .taken) (w .1 .ensures) (w .2 .left)) (λ w. law.full _ _ _ (w .left)) (c .before .before .before .before .before .before .before .before .before .before .before .if1 .came)) (c .before .before .before .before .before .before .before .before .before .before .match .keys10) (c .before .before .before .before .before .before .vl3 .ensures))
-
-turn-returns-12 : (t : ℕ) → cycle.Lts-turn.Need-returns-12 (turn-claims t) (at-measure turn.Kinds.ps μ-turn turn.Reads.Pre t) turn.Reads.Post
-turn-returns-12 t c = told.item-with _ _ _ _ _ _ _ _ _ _ (ap isTold (c .before .before .before .before .before .before .before .before .before .before .match .keys11) ∙ told.told-value-straight) (turning.turned-value-straight _ _ _ _ _ _ _ (⊎-elim (λ w. law.no-hole _ _ _ _ (w .0 .taken) (w .1 .ensures) (w .2 .left)) (λ w. law.full _ _ _ (w .left)) (c .before .before .before .before .before .before .before .before .before .before .before .if1 .came)) (c .before .before .before .before .before .before .before .before .before .before .match .keys11) (c .before .before .before .before .before .before .vl4 .ensures))
-
-turn-returns-13 : (t : ℕ) → cycle.Lts-turn.Need-returns-13 (turn-claims t) (at-measure turn.Kinds.ps μ-turn turn.Reads.Pre t) turn.Reads.Post
-turn-returns-13 t c = told.item-own _ _ _ _ _ _ _ _ _ _ (ap isTold (c .before .before .before .before .before .before .before .before .before .before .match .keys12) ∙ told.untold-moved-out) (turning.turned-moved-out _ _ _ _ _ _ _ (⊎-elim (λ w. law.no-hole _ _ _ _ (w .0 .taken) (w .1 .ensures) (w .2 .left)) (λ w. law.full _ _ _ (w .left)) (c .before .before .before .before .before .before .before .before .before .before .before .if1 .came)) (c .before .before .before .before .before .before .before .before .before .before .match .keys12) (c .before .before .before .before .before .before .go .ensures))
-
-turn-returns-14 : (t : ℕ) → cycle.Lts-turn.Need-returns-14 (turn-claims t) (at-measure turn.Kinds.ps μ-turn turn.Reads.Pre t) turn.Reads.Post
-turn-returns-14 t c = told.item-below _ _ _ _ _ _ _ _ _ _ (c .before .before .before .before .before .before .before .before .before .before .match .rest) (⊎-elim (λ w. law.no-hole _ _ _ _ (w .0 .taken) (w .1 .ensures) (w .2 .left)) (λ w. law.full _ _ _ (w .left)) (c .before .before .before .before .before .before .before .before .before .before .before .if1 .came)) (turning.turned-deep _ _ _ _ _ _ _ (⊎-elim (λ w. law.no-hole _ _ _ _ (w .0 .taken) (w .1 .ensures) (w .2 .left)) (λ w. law.full _ _ _ (w .left)) (c .before .before .before .before .before .before .before .before .before .before .before .if1 .came)) (c .before .before .before .before .before .before .before .before .before .before .match .rest) (c .before .before .before .before .before .before .deep .ensures))
+turn-returns-10 t c = told.item-own _ _ _ _ _ _ _ _ _ _ (ap isTold (c .before .before .before .before .before .before .before .before .before .before .enum-told6 .given .1) ∙ told.untold-binding) (turning.turned-binding _ _ _ _ _ _ _ (⊎-elim (λ w. law.no-hole _ _ _ _ (w .0 .taken) (w .1 .ensures) (w .2 .left)) (λ w. law.full _ _ _ (w .left)) (c .before .before .before .before .before .before .before .before .before .before .before .before .if1 .came)) (c .before .before .before .before .before .before .before .before .before .before .enum-told6 .given .1) (c .before .before .before .before .before .before .bi .ensures))
 
 vl-returns : (t : ℕ) → cycle.Lts-vl.Need-returns (vl-claims t) (at-measure vl.Kinds.ps μ-vl vl.Reads.Pre t) vl.Reads.Post
 vl-returns t c k good deep suit = finding.value-quiet _ _ _ _ _ _ _ _ (c .before .before .before .quiet .ensures) (c .before .before .if1 .taken) (c .before .skip .ensures) (c .to .ensures .1) (c .to .ensures .0 _ _ _) good deep
@@ -1284,9 +1279,6 @@ view-returns-5 : (t : ℕ) → cycle.Lts-view.Need-returns-5 (view-claims t) (at
 view-returns-5 t c = viewing.view-other _ _ _ _ _ _ _ (c .before .before .before .before .before .before .before .before .before .before .before .peek .ensures) (c .before .before .before .before .before .before .before .before .before .before .match .rest .0 .0 .1) (c .before .before .before .before .before .before .before .before .before .before .match .rest .0 .1) (c .before .before .before .before .before .before .before .before .before .before .match .rest .1) (c .before .before .before .before .before .before .node2 .ensures)
 
 -- the properties of a view, by what was seen of its rest, ask for themselves
-view-untold : (rest x : Bool) (mode : ℕ) → rest ≡ x → mode ≡ propertyMode rest → isTold mode ≡ false
-view-untold rest x mode h e = told.property-untold rest mode e
-
 vo-returns : (t : ℕ) → cycle.Lts-vo.Need-returns (vo-claims t) (at-measure vo.Kinds.ps μ-vo vo.Reads.Pre t) vo.Reads.Post
 vo-returns t c = λ h good. law.good-none _ _ _ (c .if1 .taken) good
 
@@ -1294,10 +1286,10 @@ vo-returns-2 : (t : ℕ) → cycle.Lts-vo.Need-returns-2 (vo-claims t) (at-measu
 vo-returns-2 t c = viewing.object-replaced _ _ _ _ _ _ _ _ _ (c .before .before .before .before .before .before .before .before .before .before .before .before .before .before .before .has-second .ensures) (c .before .before .before .before .before .before .before .before .before .before .before .before .before .before .if2 .taken) (c .before .before .before .before .before .before .before .before .before .before .before .before .before .replaces .ensures) (c .before .before .before .before .before .before .before .before .before .before .before .before .if3 .taken) (c .before .skip .ensures) (c .to .ensures .1) (c .to .ensures .0 _ _ _) (runs-does (c .before .before .before .before .before .before .before .before .temporary .ensures .0))
 
 vo-returns-3 : (t : ℕ) → cycle.Lts-vo.Need-returns-3 (vo-claims t) (at-measure vo.Kinds.ps μ-vo vo.Reads.Pre t) vo.Reads.Post
-vo-returns-3 t c = viewing.object-rest _ _ _ _ _ _ _ _ _ _ _ _ _ _ _ _ _ (c .before .before .before .before .before .before .before .before .before .before .before .before .before .before .before .before .before .before .before .before .before .before .before .before .before .before .before .before .has-second .ensures) (c .before .before .if4 .taken) (⊎-elim (λ w. sym (w .1 .ensures) ∙ w .2 .left) (λ w. absurd (false≢true (sym (w .left) ∙ c .before .before .if4 .taken))) (c .before .before .before .before .before .before .before .before .before .before .before .before .before .before .before .before .before .before .before .before .before .before .before .before .before .before .before .if2 .came)) (c .before .before .before .before .before .before .before .before .before .before .before .before .before .before .before .before .before .before .before .before .before .before .before .before .before .before .step .ensures) (c .before .before .before .before .before .before .before .before .before .before .before .before .before .before .before .before .before .before .before .before .before .before .before .before .before .wide-at .ensures) (c .before .before .before .before .before .before .before .before .before .before .before .before .before .before .before .before .step2 .ensures) (c .before .before .before .before .before .before .before .before .before .before .before .before .before .before .before .to2 .ensures .1) (c .before .before .before .before .before .before .before .before .before .before .before .inside .ensures .0) (c .before .before .before .before .before .before .before .before .before .before .before .inside .ensures .1 ∙ c .before .before .before .before .before .before .before .before .before .before .before .before .before .before .before .before .before .before .before .before .before .before .before .before .before .before .before .before .before .less .ensures) (c .before .before .before .before .before .before .before .before .before .before .before .before .before .before .before .before .before .before .before .before .before .before .before .before .before .before .before .before .before .less .ensures) (c .before .before .before .before .before .before .before .before .before .before .property-mode .ensures) (c .before .before .before .before .before .before .before .before .before .before .before .before .before .before .before .to2 .ensures .0 _ _ _) (runs-does (c .before .before .before .before .before .before .before .before .before .before .before .before .before .before .before .before .before .before .before .before .before .before .before .put2 .ensures .0 _ _)) (steps.does-wide _ (c .before .before .before .before .before .before .before .before .before .before .before .before .before .before .before .before .before .before .before .wide .ensures .0 _ _)) (told.items-own _ _ _ _ _ _ _ _ _ _ _ (view-untold _ _ _ (c .before .before .before .before .before .before .before .before .before .before .before .before .before .before .before .before .before .before .before .before .before .before .before .before .before .before .before .before .has-second .ensures) (c .before .before .before .before .before .before .before .before .before .before .property-mode .ensures)) (c .before .before .before .before .before .before .before .before .before .seq .ensures)) (c .before .skip2 .ensures) (c .to3 .ensures .1) (c .to3 .ensures .0 _ _ _)
+vo-returns-3 t c = viewing.object-rest _ _ _ _ _ _ _ _ _ _ _ _ _ _ _ _ _ (c .before .before .before .before .before .before .before .before .before .before .before .before .before .before .before .before .before .before .before .before .before .before .before .before .before .before .before .has-second .ensures) (c .before .before .if4 .taken) (⊎-elim (λ w. sym (w .1 .ensures) ∙ w .2 .left) (λ w. absurd (false≢true (sym (w .left) ∙ c .before .before .if4 .taken))) (c .before .before .before .before .before .before .before .before .before .before .before .before .before .before .before .before .before .before .before .before .before .before .before .before .before .before .if2 .came)) (c .before .before .before .before .before .before .before .before .before .before .before .before .before .before .before .before .before .before .before .before .before .before .before .before .before .step .ensures) (c .before .before .before .before .before .before .before .before .before .before .before .before .before .before .before .before .before .before .before .before .before .before .before .before .wide-at .ensures) (c .before .before .before .before .before .before .before .before .before .before .before .before .before .before .before .step2 .ensures) (c .before .before .before .before .before .before .before .before .before .before .before .before .before .before .to2 .ensures .1) (c .before .before .before .before .before .before .before .before .before .before .inside .ensures .0) (c .before .before .before .before .before .before .before .before .before .before .inside .ensures .1 ∙ c .before .before .before .before .before .before .before .before .before .before .before .before .before .before .before .before .before .before .before .before .before .before .before .before .before .before .before .before .less .ensures) (c .before .before .before .before .before .before .before .before .before .before .before .before .before .before .before .before .before .before .before .before .before .before .before .before .before .before .before .before .less .ensures) refl (c .before .before .before .before .before .before .before .before .before .before .before .before .before .before .to2 .ensures .0 _ _ _) (runs-does (c .before .before .before .before .before .before .before .before .before .before .before .before .before .before .before .before .before .before .before .before .before .before .put2 .ensures .0 _ _)) (steps.does-wide _ (c .before .before .before .before .before .before .before .before .before .before .before .before .before .before .before .before .before .before .wide .ensures .0 _ _)) (told.items-own _ _ _ _ _ _ _ _ _ _ _ (told.untold-property _) (c .before .before .before .before .before .before .before .before .before .seq .ensures)) (c .before .skip2 .ensures) (c .to3 .ensures .1) (c .to3 .ensures .0 _ _ _)
 
 vo-returns-4 : (t : ℕ) → cycle.Lts-vo.Need-returns-4 (vo-claims t) (at-measure vo.Kinds.ps μ-vo vo.Reads.Pre t) vo.Reads.Post
-vo-returns-4 t c = viewing.object-plain _ _ _ _ _ _ _ _ _ _ _ _ _ _ (c .before .before .before .before .before .before .before .before .before .before .before .before .before .before .before .before .before .before .before .before .before .before .before .before .before .before .has-second .ensures) (c .if4 .left) (c .before .before .before .before .before .before .before .before .before .before .before .before .before .before .before .before .before .before .before .before .before .before .before .before .step .ensures) (c .before .before .before .before .before .before .before .before .before .before .before .before .before .before .before .before .before .before .before .before .before .before .before .wide-at .ensures) (c .before .before .before .before .before .before .before .before .before .before .before .before .before .before .step2 .ensures) (c .before .before .before .before .before .before .before .before .before .before .before .before .before .to2 .ensures .1) (c .before .before .before .before .before .before .before .before .before .inside .ensures .0) (c .before .before .before .before .before .before .before .before .before .inside .ensures .1 ∙ c .before .before .before .before .before .before .before .before .before .before .before .before .before .before .before .before .before .before .before .before .before .before .before .before .before .before .before .less .ensures) (c .before .before .before .before .before .before .before .before .property-mode .ensures) (c .before .before .before .before .before .before .before .before .before .before .before .before .before .to2 .ensures .0 _ _ _) (runs-does (c .before .before .before .before .before .before .before .before .before .before .before .before .before .before .before .before .before .before .before .before .before .put2 .ensures .0 _ _)) (steps.does-wide _ (c .before .before .before .before .before .before .before .before .before .before .before .before .before .before .before .before .before .wide .ensures .0 _ _)) (told.items-own _ _ _ _ _ _ _ _ _ _ _ (view-untold _ _ _ (c .before .before .before .before .before .before .before .before .before .before .before .before .before .before .before .before .before .before .before .before .before .before .before .before .before .before .has-second .ensures) (c .before .before .before .before .before .before .before .before .property-mode .ensures)) (c .before .before .before .before .before .before .before .seq .ensures))
+vo-returns-4 t c = viewing.object-plain _ _ _ _ _ _ _ _ _ _ _ _ _ _ (c .before .before .before .before .before .before .before .before .before .before .before .before .before .before .before .before .before .before .before .before .before .before .before .before .before .has-second .ensures) (c .if4 .left) (c .before .before .before .before .before .before .before .before .before .before .before .before .before .before .before .before .before .before .before .before .before .before .before .step .ensures) (c .before .before .before .before .before .before .before .before .before .before .before .before .before .before .before .before .before .before .before .before .before .before .wide-at .ensures) (c .before .before .before .before .before .before .before .before .before .before .before .before .before .step2 .ensures) (c .before .before .before .before .before .before .before .before .before .before .before .before .to2 .ensures .1) (c .before .before .before .before .before .before .before .before .inside .ensures .0) (c .before .before .before .before .before .before .before .before .inside .ensures .1 ∙ c .before .before .before .before .before .before .before .before .before .before .before .before .before .before .before .before .before .before .before .before .before .before .before .before .before .before .less .ensures) refl (c .before .before .before .before .before .before .before .before .before .before .before .before .to2 .ensures .0 _ _ _) (runs-does (c .before .before .before .before .before .before .before .before .before .before .before .before .before .before .before .before .before .before .before .before .put2 .ensures .0 _ _)) (steps.does-wide _ (c .before .before .before .before .before .before .before .before .before .before .before .before .before .before .before .before .wide .ensures .0 _ _)) (told.items-own _ _ _ _ _ _ _ _ _ _ _ (told.untold-property _) (c .before .before .before .before .before .before .before .seq .ensures))
 
 add-spec : {M : Type 1} (t : ℕ) → cycle.Lts-add.Closed (add-claims t) (at-measure add.Kinds.ps μ-add add.Reads.Pre t) add.Reads.Post M
 add-spec t = cycle.Lts-add.spec (add-claims t) (at-measure add.Kinds.ps μ-add add.Reads.Pre t) add.Reads.Post
@@ -1547,6 +1539,7 @@ da-spec t = cycle.Lts-da.spec (da-claims t) (at-measure da.Kinds.ps μ-da da.Rea
     (da-returns t)
     (λ c κs. tt)
     (λ c κs. tt)
+    (λ c κs. tt)
     (da-returns-2 t)
     (λ c κs. tt)
     (λ c κs. tt)
@@ -1555,7 +1548,7 @@ da-spec t = cycle.Lts-da.spec (da-claims t) (at-measure da.Kinds.ps μ-da da.Rea
     (λ c κs. tt)
     (λ c κs. tt)
     (λ c κs. tt)
-    (λ c κs. (omega (arith, c .before .before .before .before .before .before .before .before .before .before .before .before .before .before .before .before .before .before .pre .0, c .before .before .less .ensures, c .before .under .ensures .1), tt))
+    (λ c κs. (omega (arith, c .before .before .before .before .before .before .before .before .before .before .before .before .before .before .before .before .before .before .before .pre .0, c .before .before .less .ensures, c .before .under .ensures .1), tt))
     (λ c κs. tt)
     (λ c. omega (arith, c .before .before .before .before .before .before .before .seq .kept))
     (λ c. omega (arith, c .before .before .before .before .before .before .before .seq .kept))
@@ -1565,25 +1558,27 @@ da-spec t = cycle.Lts-da.spec (da-claims t) (at-measure da.Kinds.ps μ-da da.Rea
 db-spec : {M : Type 1} (t : ℕ) → cycle.Lts-db.Closed (db-claims t) (at-measure db.Kinds.ps μ-db db.Reads.Pre t) db.Reads.Post M
 db-spec t = cycle.Lts-db.spec (db-claims t) (at-measure db.Kinds.ps μ-db db.Reads.Pre t) db.Reads.Post
     (db-returns t)
-    (λ c κs. (omega (arith, c .before .before .before .before .before .before .before .before .before .before .pre .0), tt))
-    (λ c. omega (arith, c .before .before .before .before .before .before .fb .kept))
-    (λ c. omega (arith, c .before .before .before .before .before .before .fb .kept))
-    (λ c. omega (arith, c .before .before .before .before .before .before .fb .kept))
+    (λ c. search needs)
+    (λ c κs. (omega (arith, c .before .before .before .before .before .before .before .before .before .before .before .pre .0), tt))
+    (λ c. search needs)
+    (λ c κs. tt)
+    (λ c κs. tt)
+    (λ c κs. tt)
+    (λ c κs. tt)
     (db-returns-2 t)
     (λ c κs. tt)
     (λ c κs. tt)
+    (λ c κs. (omega (arith, c .before .before .before .before .before .before .before .before .before .before .before .before .before .before .before .before .before .before .before .pre .0, c .before .inside .ensures .1), tt))
     (λ c κs. tt)
+    (λ c. omega (arith, c .before .before .before .before .before .before .before .top .kept))
+    (λ c. omega (arith, c .before .before .before .before .before .before .before .top .kept))
+    (λ c. omega (arith, c .before .before .before .before .before .before .before .top .kept))
     (db-returns-3 t)
-    (λ c κs. tt)
-    (λ c κs. tt)
-    (λ c κs. (omega (arith, c .before .before .before .before .before .before .before .before .before .before .before .before .before .before .before .before .pre .0, c .before .inside .ensures .1), tt))
-    (λ c κs. tt)
-    (λ c. omega (arith, c .before .before .before .before .before .before .before .top .kept))
-    (λ c. omega (arith, c .before .before .before .before .before .before .before .top .kept))
-    (λ c. omega (arith, c .before .before .before .before .before .before .before .top .kept))
+    (λ c κs. (omega (arith, c .before .before .before .before .before .before .before .before .before .before .before .before .before .before .pre .0), tt))
+    (λ c. omega (arith, c .before .before .before .before .before .before .fb .kept))
+    (λ c. omega (arith, c .before .before .before .before .before .before .fb .kept))
+    (λ c. omega (arith, c .before .before .before .before .before .before .fb .kept))
     (db-returns-4 t)
-    (λ c κs. tt)
-    (λ c κs. (omega (arith, c .before .before .before .before .before .before .before .before .before .before .before .before .before .pre .0), tt))
     (λ c. omega (arith, c .before .before .before .before .before .before .pr .kept))
     (λ c. omega (arith, c .before .before .before .before .before .before .pr .kept))
     (λ c. omega (arith, c .before .before .before .before .before .before .pr .kept))
@@ -1730,13 +1725,17 @@ ek-spec t = cycle.Lts-ek.spec (ek-claims t) (at-measure ek.Kinds.ps μ-ek ek.Rea
     (λ c κs. tt)
     (λ c κs. tt)
     (λ c κs. tt)
+    (λ c. search needs)
     (λ c κs. tt)
     (λ c κs. tt)
+    (λ c. search needs)
     (λ c κs. tt)
     (λ c κs. tt)
-    (λ c κs. (omega (arith, c .before .before .before .before .before .before .before .before .before .before .before .before .before .before .pre .0, c .under .ensures .1, c .before .before .before .before .before .before .before .before .before .less .ensures), tt))
+    (λ c κs. (omega (arith, c .before .before .before .before .before .before .before .before .before .before .before .before .before .before .before .pre .0, c .under .ensures .1, c .before .before .before .before .before .before .before .before .before .before .less .ensures), tt))
     (λ c κs. tt)
+    (λ c. search needs)
     (λ c κs. tt)
+    (λ c. search needs)
     (λ c κs. tt)
     (λ c κs. tt)
     (λ c. search needs)
@@ -2162,16 +2161,18 @@ ns-spec t = cycle.Lts-ns.spec (ns-claims t) (at-measure ns.Kinds.ps μ-ns ns.Rea
     (λ c κs. (omega (arith, c .before .before .before .before .before .before .before .before .before .before .before .before .before .before .before .before .before .before .before .before .before .before .before .before .before .before .before .before .before .before .pre .0, c .told-inside .ensures .1), tt))
     (λ c κs. tt)
     (λ c κs. (omega (arith, c .before .before .before .before .before .before .before .before .before .before .before .before .before .before .before .before .before .before .before .before .before .before .before .before .before .before .before .before .before .before .before .before .before .before .before .before .before .before .before .before .before .pre .0, c .told-inside2 .ensures .1, c .before .before .before .before .before .before .before .before .before .before .before .told-inside .ensures .1), tt))
-    (λ c κs. (omega (arith, c .before .before .before .before .before .before .before .before .before .before .before .before .before .before .before .before .before .before .before .before .before .before .before .before .before .before .before .before .before .before .before .before .before .before .before .before .before .before .before .before .before .before .before .before .before .before .before .before .before .before .before .before .pre .0, c .before .before .before .if1 .taken), tt))
-    (ns-same-length t)
-    (λ c. omega (arith, c .before .before .before .before .before .before .pr .kept, c .before .before .before .before .before .before .before .before .before .before .before .before .before .before .before .before .before .gv .kept, c .before .before .before .before .before .before .before .before .before .before .before .before .before .before .before .before .before .before .before .before .before .before .before .before .before .before .before .before .view .kept, c .before .before .before .before .before .before .before .before .before .before .before .before .before .before .before .before .before .before .before .before .before .before .before .before .before .before .before .before .before .before .before .before .before .before .before .before .before .before .before .before .before .before .before .before .before .before .before .before .before .before .before .nested-hands .kept))
-    (λ c. omega (arith, c .before .before .before .before .before .before .pr .kept, c .before .before .before .before .before .before .before .before .before .before .before .before .before .before .before .before .before .gv .kept, c .before .before .before .before .before .before .before .before .before .before .before .before .before .before .before .before .before .before .before .before .before .before .before .before .before .before .before .before .view .kept, c .before .before .before .before .before .before .before .before .before .before .before .before .before .before .before .before .before .before .before .before .before .before .before .before .before .before .before .before .before .before .before .before .before .before .before .before .before .before .before .before .before .before .before .before .before .before .before .before .before .before .before .nested-hands .kept))
-    (ns-returns t)
+    (λ c. search needs)
     (λ c κs. tt)
-    (λ c κs. (omega (arith, c .before .before .before .before .before .before .before .before .before .before .before .before .before .before .before .before .before .before .before .before .before .before .before .before .before .before .before .before .before .before .before .before .before .before .before .before .before .before .before .before .before .before .before .before .before .before .before .before .before .before .before .before .before .pre .0, c .before .before .before .before .if1 .left), tt))
+    (λ c κs. (omega (arith, c .before .before .before .before .before .before .before .before .before .before .before .before .before .before .before .before .before .before .before .before .before .before .before .before .before .before .before .before .before .before .before .before .before .before .before .before .before .before .before .before .before .before .before .before .before .before .before .before .before .before .before .before .before .before .pre .0, ap rank-of (c .before .before .before .before .enum-told .given .1)), tt))
+    (λ c. search needs)
+    (λ c κs. (omega (arith, c .before .before .before .before .before .before .before .before .before .before .before .before .before .before .before .before .before .before .before .before .before .before .before .before .before .before .before .before .before .before .before .before .before .before .before .before .before .before .before .before .before .before .before .before .before .before .before .before .before .before .before .before .before .pre .0, ap rank-of (c .before .before .before .enum-told2 .given .1)), tt))
+    (ns-same-length t)
+    (λ c. omega (arith, c .before .before .before .before .before .before .deep .kept, c .before .before .before .before .before .before .before .before .before .before .before .before .before .before .before .before .before .before .before .gv .kept, c .before .before .before .before .before .before .before .before .before .before .before .before .before .before .before .before .before .before .before .before .before .before .before .before .before .before .before .before .before .before .view .kept, c .before .before .before .before .before .before .before .before .before .before .before .before .before .before .before .before .before .before .before .before .before .before .before .before .before .before .before .before .before .before .before .before .before .before .before .before .before .before .before .before .before .before .before .before .before .before .before .before .before .before .before .before .before .nested-hands .kept))
+    (λ c. omega (arith, c .before .before .before .before .before .before .deep .kept, c .before .before .before .before .before .before .before .before .before .before .before .before .before .before .before .before .before .before .before .gv .kept, c .before .before .before .before .before .before .before .before .before .before .before .before .before .before .before .before .before .before .before .before .before .before .before .before .before .before .before .before .before .before .view .kept, c .before .before .before .before .before .before .before .before .before .before .before .before .before .before .before .before .before .before .before .before .before .before .before .before .before .before .before .before .before .before .before .before .before .before .before .before .before .before .before .before .before .before .before .before .before .before .before .before .before .before .before .before .before .nested-hands .kept))
+    (ns-returns t)
     (ns-same-length-4 t)
-    (λ c. omega (arith, c .before .before .before .before .before .before .deep .kept, c .before .before .before .before .before .before .before .before .before .before .before .before .before .before .before .before .before .before .gv .kept, c .before .before .before .before .before .before .before .before .before .before .before .before .before .before .before .before .before .before .before .before .before .before .before .before .before .before .before .before .before .view .kept, c .before .before .before .before .before .before .before .before .before .before .before .before .before .before .before .before .before .before .before .before .before .before .before .before .before .before .before .before .before .before .before .before .before .before .before .before .before .before .before .before .before .before .before .before .before .before .before .before .before .before .before .before .nested-hands .kept))
-    (λ c. omega (arith, c .before .before .before .before .before .before .deep .kept, c .before .before .before .before .before .before .before .before .before .before .before .before .before .before .before .before .before .before .gv .kept, c .before .before .before .before .before .before .before .before .before .before .before .before .before .before .before .before .before .before .before .before .before .before .before .before .before .before .before .before .before .view .kept, c .before .before .before .before .before .before .before .before .before .before .before .before .before .before .before .before .before .before .before .before .before .before .before .before .before .before .before .before .before .before .before .before .before .before .before .before .before .before .before .before .before .before .before .before .before .before .before .before .before .before .before .before .nested-hands .kept))
+    (λ c. omega (arith, c .before .before .before .before .before .before .pr .kept, c .before .before .before .before .before .before .before .before .before .before .before .before .before .before .before .before .before .before .gv .kept, c .before .before .before .before .before .before .before .before .before .before .before .before .before .before .before .before .before .before .before .before .before .before .before .before .before .before .before .before .before .view .kept, c .before .before .before .before .before .before .before .before .before .before .before .before .before .before .before .before .before .before .before .before .before .before .before .before .before .before .before .before .before .before .before .before .before .before .before .before .before .before .before .before .before .before .before .before .before .before .before .before .before .before .before .before .nested-hands .kept))
+    (λ c. omega (arith, c .before .before .before .before .before .before .pr .kept, c .before .before .before .before .before .before .before .before .before .before .before .before .before .before .before .before .before .before .gv .kept, c .before .before .before .before .before .before .before .before .before .before .before .before .before .before .before .before .before .before .before .before .before .before .before .before .before .before .before .before .before .view .kept, c .before .before .before .before .before .before .before .before .before .before .before .before .before .before .before .before .before .before .before .before .before .before .before .before .before .before .before .before .before .before .before .before .before .before .before .before .before .before .before .before .before .before .before .before .before .before .before .before .before .before .before .before .nested-hands .kept))
     (ns-returns-2 t)
 
 oa-spec : {M : Type 1} (t : ℕ) → cycle.Lts-oa.Closed (oa-claims t) (at-measure oa.Kinds.ps μ-oa oa.Reads.Pre t) oa.Reads.Post M
@@ -2600,19 +2601,24 @@ turn-spec t = cycle.Lts-turn.spec (turn-claims t) (at-measure turn.Kinds.ps μ-t
     (λ c κs. tt)
     (λ c. search needs)
     (turn-returns t)
-    (λ c κs. (omega (arith, c .before .before .before .before .before .before .before .before .before .pre .0), tt))
-    (λ c κs. (omega (arith, c .before .before .before .before .before .before .before .before .before .pre .0), tt))
-    (λ c κs. (omega (arith, c .before .before .before .before .before .before .before .before .before .pre .0), tt))
-    (λ c κs. (omega (arith, c .before .before .before .before .before .before .before .before .before .pre .0), tt))
-    (λ c κs. (omega (arith, c .before .before .before .before .before .before .before .before .before .pre .0), tt))
-    (λ c κs. (omega (arith, c .before .before .before .before .before .before .before .before .before .pre .0), tt))
-    (λ c κs. (omega (arith, c .before .before .before .before .before .before .before .before .before .pre .0), tt))
-    (λ c κs. (omega (arith, c .before .before .before .before .before .before .before .before .before .pre .0), tt))
-    (λ c κs. (omega (arith, c .before .before .before .before .before .before .before .before .before .pre .0), tt))
-    (λ c κs. (omega (arith, c .before .before .before .before .before .before .before .before .before .pre .0), tt))
-    (λ c κs. (omega (arith, c .before .before .before .before .before .before .before .before .before .pre .0), tt))
-    (λ c κs. (omega (arith, c .before .before .before .before .before .before .before .before .before .pre .0), tt))
-    (λ c κs. (omega (arith, c .before .before .before .before .before .before .before .before .before .pre .0), tt))
+    (λ c. search needs)
+    (λ c κs. (omega (arith, c .before .before .before .before .before .before .before .before .before .before .pre .0), tt))
+    (λ c. search needs)
+    (λ c κs. (omega (arith, c .before .before .before .before .before .before .before .before .before .before .pre .0), tt))
+    (λ c. search needs)
+    (λ c κs. (omega (arith, c .before .before .before .before .before .before .before .before .before .before .before .pre .0), tt))
+    (λ c. search needs)
+    (λ c κs. (omega (arith, c .before .before .before .before .before .before .before .before .before .before .before .pre .0), tt))
+    (λ c. search needs)
+    (λ c κs. (omega (arith, c .before .before .before .before .before .before .before .before .before .before .pre .0), tt))
+    (λ c. search needs)
+    (λ c κs. (omega (arith, c .before .before .before .before .before .before .before .before .before .before .pre .0), tt))
+    (λ c. search needs)
+    (λ c κs. (omega (arith, c .before .before .before .before .before .before .before .before .before .before .before .pre .0), tt))
+    (λ c. search needs)
+    (λ c κs. (omega (arith, c .before .before .before .before .before .before .before .before .before .before .pre .0), tt))
+    (λ c. search needs)
+    (λ c κs. (omega (arith, c .before .before .before .before .before .before .before .before .before .before .pre .0), tt))
     (λ c. search needs)
     (λ c. search needs)
     (λ c. search needs)
@@ -2649,22 +2655,6 @@ turn-spec t = cycle.Lts-turn.spec (turn-claims t) (at-measure turn.Kinds.ps μ-t
     (λ c. search needs)
     (λ c. search needs)
     (turn-returns-10 t)
-    (λ c. search needs)
-    (λ c. search needs)
-    (λ c. search needs)
-    (turn-returns-11 t)
-    (λ c. search needs)
-    (λ c. search needs)
-    (λ c. search needs)
-    (turn-returns-12 t)
-    (λ c. search needs)
-    (λ c. search needs)
-    (λ c. search needs)
-    (turn-returns-13 t)
-    (λ c. search needs)
-    (λ c. search needs)
-    (λ c. search needs)
-    (turn-returns-14 t)
 
 va-spec : {M : Type 1} (t : ℕ) → cycle.Lts-va.Closed (va-claims t) (at-measure va.Kinds.ps μ-va va.Reads.Pre t) va.Reads.Post M
 va-spec t = cycle.Lts-va.spec (va-claims t) (at-measure va.Kinds.ps μ-va va.Reads.Pre t) va.Reads.Post
@@ -2758,15 +2748,14 @@ vo-spec t = cycle.Lts-vo.spec (vo-claims t) (at-measure vo.Kinds.ps μ-vo vo.Rea
     (λ c κs. tt)
     (λ c κs. tt)
     (λ c κs. tt)
+    (λ c κs. (omega (arith, c .before .before .before .before .before .before .before .before .before .before .before .before .before .before .before .before .before .before .before .before .before .before .before .before .before .pre .0, c .inside .ensures .1, c .before .before .before .before .before .before .before .before .before .before .before .before .before .before .before .before .before .before .less .ensures, c .before .before .before .before .before .before .before .before .before .before .before .before .before .before .before .before .before .before .before .if1 .left), tt))
     (λ c κs. tt)
-    (λ c κs. (omega (arith, c .before .before .before .before .before .before .before .before .before .before .before .before .before .before .before .before .before .before .before .before .before .before .before .before .before .before .pre .0, c .before .inside .ensures .1, c .before .before .before .before .before .before .before .before .before .before .before .before .before .before .before .before .before .before .before .less .ensures, c .before .before .before .before .before .before .before .before .before .before .before .before .before .before .before .before .before .before .before .before .if1 .left), tt))
     (λ c κs. tt)
-    (λ c κs. tt)
-    (λ c. omega (arith, c .before .before .before .before .before .before .before .before .before .seq .kept, c .before .before .before .before .before .before .before .before .before .before .before .before .before .before .before .before .before .before .before .wide .kept, c .before .before .before .before .before .before .before .before .before .before .before .before .before .before .before .before .before .before .before .before .before .before .before .put2 .kept))
+    (λ c. omega (arith, c .before .before .before .before .before .before .before .before .before .seq .kept, c .before .before .before .before .before .before .before .before .before .before .before .before .before .before .before .before .before .before .wide .kept, c .before .before .before .before .before .before .before .before .before .before .before .before .before .before .before .before .before .before .before .before .before .before .put2 .kept))
     (λ c. search needs)
     (λ c. search needs)
     (vo-returns-3 t)
-    (λ c. omega (arith, c .before .before .before .before .before .before .before .seq .kept, c .before .before .before .before .before .before .before .before .before .before .before .before .before .before .before .before .before .wide .kept, c .before .before .before .before .before .before .before .before .before .before .before .before .before .before .before .before .before .before .before .before .before .put2 .kept))
+    (λ c. omega (arith, c .before .before .before .before .before .before .before .seq .kept, c .before .before .before .before .before .before .before .before .before .before .before .before .before .before .before .before .wide .kept, c .before .before .before .before .before .before .before .before .before .before .before .before .before .before .before .before .before .before .before .before .put2 .kept))
     (λ c. search needs)
     (λ c. search needs)
     (vo-returns-4 t)

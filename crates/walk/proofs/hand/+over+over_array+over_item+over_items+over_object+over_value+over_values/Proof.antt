@@ -9,7 +9,7 @@ use lib.ListN.{length}
 use Rattle.tree.specs.Look.{lookItems, lookNode}
 use Rattle.lowering.specs.Patterns.{value}
 use Rattle.lowering.specs.Parts as parts
-use Rattle.walk.specs.Modes as modes
+use Rattle.walk.specs.declared.views.View.the-variants.{Replacing}
 use Rattle.walk.specs.Whole.{GoodItems, Good}
 use Rattle.walk.specs.Run.{goingOf}
 use Rattle.walk.specs.Turns.{overAll}
@@ -30,7 +30,6 @@ use Rattle.walk.proofs.hand.over_values as over-values
 use Rattle.walk.proofs.place.less.Reads as less-reads
 use Rattle.walk.proofs.hand.object.Reads as object-reads
 use Rattle.walk.proofs.hand.replaces.Reads as replaces-reads
-use Rattle.walk.proofs.hand.values.Reads as values-reads
 use Rattle.tree.proofs.bytes.peek.Reads as peek-reads
 use Rattle.tree.proofs.bytes.wide_at.Reads as wide-at-reads
 use Rattle.tree.proofs.skip.quiet.Reads as quiet-reads
@@ -67,7 +66,7 @@ abbrev over-value-claims : ℕ → cycle.Lts-over_value.Claims
 over-value-claims t = (quiet-reads.Asked, quiet-reads.Learnt, less-reads.Asked, less-reads.Learnt, step-reads.Asked, step-reads.Learnt, skip-reads.Asked, skip-reads.Learnt, below-measure over.Kinds.ps μ-over over.Reads.Pre t, over.Reads.Post)
 
 abbrev over-object-claims : ℕ → cycle.Lts-over_object.Claims
-over-object-claims t = (step-reads.Asked, step-reads.Learnt, less-reads.Asked, less-reads.Learnt, wide-at-reads.Asked, wide-at-reads.Learnt, values-reads.Asked, values-reads.Learnt, below-measure over-values.Kinds.ps μ-over-values over-values.Reads.Pre t, over-values.Reads.Post, replaces-reads.Asked, replaces-reads.Learnt, object-reads.Asked, object-reads.Learnt)
+over-object-claims t = (step-reads.Asked, step-reads.Learnt, less-reads.Asked, less-reads.Learnt, wide-at-reads.Asked, wide-at-reads.Learnt, below-measure over-values.Kinds.ps μ-over-values over-values.Reads.Pre t, over-values.Reads.Post, replaces-reads.Asked, replaces-reads.Learnt, object-reads.Asked, object-reads.Learnt)
 
 abbrev over-items-claims : ℕ → cycle.Lts-over_items.Claims
 over-items-claims t = (below-measure over-item.Kinds.ps μ-over-item over-item.Reads.Pre t, over-item.Reads.Post, skip-item-reads.Asked, skip-item-reads.Learnt)
@@ -79,7 +78,7 @@ abbrev over-array-claims : ℕ → cycle.Lts-over_array.Claims
 over-array-claims t = (step-reads.Asked, step-reads.Learnt, less-reads.Asked, less-reads.Learnt, wide-at-reads.Asked, wide-at-reads.Learnt, below-measure over-items.Kinds.ps μ-over-items over-items.Reads.Pre t, over-items.Reads.Post)
 
 abbrev over-claims : ℕ → cycle.Lts-over.Claims
-over-claims t = (peek-reads.Asked, peek-reads.Learnt, below-measure over-object.Kinds.ps μ-over-object over-object.Reads.Pre t, over-object.Reads.Post, below-measure over-array.Kinds.ps μ-over-array over-array.Reads.Pre t, over-array.Reads.Post, less-reads.Asked, less-reads.Learnt, step-reads.Asked, step-reads.Learnt, values-reads.Asked, values-reads.Learnt, below-measure over.Kinds.ps μ-over over.Reads.Pre t, over.Reads.Post)
+over-claims t = (peek-reads.Asked, peek-reads.Learnt, below-measure over-object.Kinds.ps μ-over-object over-object.Reads.Pre t, over-object.Reads.Post, below-measure over-array.Kinds.ps μ-over-array over-array.Reads.Pre t, over-array.Reads.Post, less-reads.Asked, less-reads.Learnt, step-reads.Asked, step-reads.Learnt, below-measure over.Kinds.ps μ-over over.Reads.Pre t, over.Reads.Post)
 
 over-returns : (t : ℕ) → cycle.Lts-over.Need-returns (over-claims t) (at-measure over.Kinds.ps μ-over over.Reads.Pre t) over.Reads.Post
 over-returns t c = (refl, λ o g. good-none _ _ _ (c .if1 .taken) g)
@@ -91,7 +90,7 @@ over-returns-3 : (t : ℕ) → cycle.Lts-over.Need-returns-3 (over-claims t) (at
 over-returns-3 t c = (c .before .before .before .before .over-array .ensures .0, λ o g. c .before .before .before .before .over-array .ensures .1 o g (sym (c .before .before .before .before .before .before .before .before .peek .ensures .value) ∙ c .before .before .before .before .before .before .before .match .keys2))
 
 over-returns-4 : (t : ℕ) → cycle.Lts-over.Need-returns-4 (over-claims t) (at-measure over.Kinds.ps μ-over over.Reads.Pre t) over.Reads.Post
-over-returns-4 t c = (c .before .before .before .before .over .ensures .0, λ o g. law.default-does _ _ _ _ _ _ _ _ (c .before .before .before .before .before .before .before .less .ensures) (c .before .before .before .before .before .before .step .ensures) (c .before .before .before .before .before .values .ensures) (c .before .before .before .before .over .ensures .1 o) (sym (c .before .before .before .before .before .before .before .before .before .before .before .peek .ensures .value) ∙ c .before .before .before .before .before .before .before .before .before .before .match .keys3) g)
+over-returns-4 t c = (c .before .before .before .before .over .ensures .0, λ o g. law.default-does _ _ _ _ _ _ _ (c .before .before .before .before .before .before .less .ensures) (c .before .before .before .before .before .step .ensures) (c .before .before .before .before .over .ensures .1 o) (sym (c .before .before .before .before .before .before .before .before .before .before .peek .ensures .value) ∙ c .before .before .before .before .before .before .before .before .before .match .keys3) g)
 
 over-returns-5 : (t : ℕ) → cycle.Lts-over.Need-returns-5 (over-claims t) (at-measure over.Kinds.ps μ-over over.Reads.Pre t) over.Reads.Post
 over-returns-5 t c = (refl, λ o g. law.leaf-does _ _ _ _ _ _ (c .before .peek .ensures .value) (c .match .rest .0 .0 .1) (c .match .rest .0 .1) (c .match .rest .1) g)
@@ -112,7 +111,7 @@ abbrev over-items-Inv-loop : cycle.Lts-over_items.InvT-loop
 over-items-Inv-loop t list₀ work₀ left first count mode u₀ n₀ p₀ list work u n p =
     (length list ≡ length list₀) × (length work ≡ length work₀) × (u .at ≡ u₀ .at)
     × ((o : List ℕ) → GoodItems t (lookNode t left) (Good t left) false true count first
-    → law.Left t left true law.Any (overAll mode modes.replacingView) (goingOf o list₀ work₀ u₀) count first (goingOf o list work u) n p)
+    → law.Left t left true law.Any (overAll mode Replacing) (goingOf o list₀ work₀ u₀) count first (goingOf o list work u) n p)
 
 abbrev over-items-μ-loop : cycle.Lts-over_items.MeasureT-loop
 over-items-μ-loop t list₀ work₀ left first count mode u₀ n₀ p₀ list work u n p = n
@@ -134,13 +133,13 @@ over-items-returns t c = (c .before .loop .inv .2, λ o g. law.left-end _ _ _ _ 
 over-object-returns : (t : ℕ) → cycle.Lts-over_object.Need-returns (over-object-claims t) (at-measure over-object.Kinds.ps μ-over-object over-object.Reads.Pre t) over-object.Reads.Post
 over-object-returns t c = (
   c .before .before .before .before .object .ensures .0 ∙ c .before .before .before .before .before .before .before .before .before .before .before .before .before .over-values .ensures .0,
-  λ o g k. law.own-does _ _ _ _ _ _ _ (c .before .before .before .before .before .before .before .before .before .before .before .before .before .before .before .before .before .less .ensures) (c .before .before .before .before .before .before .before .before .before .before .before .before .before .before .before .before .before .before .before .before .step .ensures) (c .before .before .before .before .before .before .before .before .before .before .before .before .before .before .before .before .step2 .ensures) (c .before .before .before .before .before .before .before .before .before .before .before .before .before .before .before .wide-at .ensures) _ _ _ _ (c .before .before .before .before .before .before .before .before .before .before .before .before .before .before .values .ensures) (c .before .before .before .before .before .before .before .before .replaces .ensures) (c .before .before .before .before .before .before .before .before .before .before .before .before .before .over-values .ensures .1 o) (c .before .before .before .before .before .before .before .if1 .taken) (c .before .before .before .before .object .ensures .1 o) g k,
+  λ o g k. law.own-does _ _ _ _ _ _ _ (c .before .before .before .before .before .before .before .before .before .before .before .before .before .before .before .before .less .ensures) (c .before .before .before .before .before .before .before .before .before .before .before .before .before .before .before .before .before .before .before .step .ensures) (c .before .before .before .before .before .before .before .before .before .before .before .before .before .before .before .step2 .ensures) (c .before .before .before .before .before .before .before .before .before .before .before .before .before .before .wide-at .ensures) _ _ _ (c .before .before .before .before .before .before .before .before .replaces .ensures) (c .before .before .before .before .before .before .before .before .before .before .before .before .before .over-values .ensures .1 o) (c .before .before .before .before .before .before .before .if1 .taken) (c .before .before .before .before .object .ensures .1 o) g k,
 )
 
 over-object-returns-2 : (t : ℕ) → cycle.Lts-over_object.Need-returns-2 (over-object-claims t) (at-measure over-object.Kinds.ps μ-over-object over-object.Reads.Pre t) over-object.Reads.Post
 over-object-returns-2 t c = (
   c .before .before .before .before .before .before .over-values .ensures .0,
-  λ o g k. law.values-do _ _ _ _ _ _ _ (c .before .before .before .before .before .before .before .before .before .before .less .ensures) (c .before .before .before .before .before .before .before .before .before .before .before .before .before .step .ensures) (c .before .before .before .before .before .before .before .before .before .step2 .ensures) (c .before .before .before .before .before .before .before .before .wide-at .ensures) _ _ _ _ (c .before .before .before .before .before .before .before .values .ensures) (c .before .replaces .ensures) (c .before .before .before .before .before .before .over-values .ensures .1 o) (c .if1 .left) g k,
+  λ o g k. law.values-do _ _ _ _ _ _ _ (c .before .before .before .before .before .before .before .before .before .less .ensures) (c .before .before .before .before .before .before .before .before .before .before .before .before .step .ensures) (c .before .before .before .before .before .before .before .before .step2 .ensures) (c .before .before .before .before .before .before .before .wide-at .ensures) _ _ _ (c .before .replaces .ensures) (c .before .before .before .before .before .before .over-values .ensures .1 o) (c .if1 .left) g k,
 )
 
 over-value-returns : (t : ℕ) → cycle.Lts-over_value.Need-returns (over-value-claims t) (at-measure over-value.Kinds.ps μ-over-value over-value.Reads.Pre t) over-value.Reads.Post
@@ -153,13 +152,13 @@ over-value-returns-3 : (t : ℕ) → cycle.Lts-over_value.Need-returns-3 (over-v
 over-value-returns-3 t c = (c .before .before .before .before .over .ensures .0, λ o g k. law.value-does _ _ _ _ _ _ _ _ (c .before .before .before .before .before .before .before .before .before .less .ensures) (c .before .before .before .before .before .before .before .before .step .ensures) (c .before .before .before .before .before .before .before .skip .ensures) (c .before .before .before .before .over .ensures .1 o) g k)
 
 abbrev over-values-Inv-loop : cycle.Lts-over_values.InvT-loop
-over-values-Inv-loop t list₀ work₀ left first count v mode u₀ n₀ p₀ list work u n p =
+over-values-Inv-loop t list₀ work₀ left first count mode u₀ n₀ p₀ list work u n p =
     (length list ≡ length list₀) × (length work ≡ length work₀) × (u .at ≡ u₀ .at)
     × ((o : List ℕ) → GoodItems t (lookNode t left) (Good t left) false false count first → AllItems (λ q. parts.is 35 q ≡ true) (lookItems t (lookNode t left) false count first .value)
-    → law.Left t left false (λ q. parts.is 35 q ≡ true) (λ q. overAll mode v (value q)) (goingOf o list₀ work₀ u₀) count first (goingOf o list work u) n p)
+    → law.Left t left false (λ q. parts.is 35 q ≡ true) (λ q. overAll mode Replacing (value q)) (goingOf o list₀ work₀ u₀) count first (goingOf o list work u) n p)
 
 abbrev over-values-μ-loop : cycle.Lts-over_values.MeasureT-loop
-over-values-μ-loop t list₀ work₀ left first count v mode u₀ n₀ p₀ list work u n p = n
+over-values-μ-loop t list₀ work₀ left first count mode u₀ n₀ p₀ list work u n p = n
 
 over-values-loop-holds : (t : ℕ) → cycle.Lts-over_values.Need-loop-holds (over-values-claims t) (at-measure over-values.Kinds.ps μ-over-values over-values.Reads.Pre t) over-values.Reads.Post over-values-Inv-loop over-values-μ-loop
 over-values-loop-holds t c = (refl, refl, refl, λ o g a. law.left-start _ _ _ _ _ _ _ _ g a)
@@ -193,8 +192,7 @@ pub +over+over-array+over-item+over-items+over-object+over-value+over-values-spe
     (λ c κs. (omega (arith, c .before .before .before .before .before .before .before .before .pre .0), tt))
     (λ c κs. tt)
     (λ c κs. tt)
-    (λ c κs. tt)
-    (λ c κs. (omega (arith, c .before .before .before .before .before .before .before .before .before .before .before .pre .0, c .before .before .less .ensures, c .before .before .before .before .before .before .before .if1 .left), tt))
+    (λ c κs. (omega (arith, c .before .before .before .before .before .before .before .before .before .before .pre .0, c .before .less .ensures, c .before .before .before .before .before .before .if1 .left), tt))
     (λ c. search needs)
     (λ c. search needs)
     (over-returns-2 t)
@@ -239,8 +237,7 @@ pub +over+over-array+over-item+over-items+over-object+over-value+over-values-spe
     (λ c κs. tt)
     (λ c κs. tt)
     (λ c κs. tt)
-    (λ c κs. tt)
-    (λ c κs. (omega (arith, c .before .before .before .before .before .before .before .before .before .before .pre .0, c .before .before .before .less .ensures), tt))
+    (λ c κs. (omega (arith, c .before .before .before .before .before .before .before .before .before .pre .0, c .before .before .less .ensures), tt))
     (λ c κs. tt)
     (λ c κs. tt)
     (λ c. search needs)

@@ -8,7 +8,7 @@ use Rattle.tree.specs.Look.{lookItems, lookNode}
 use Rattle.direct.specs.Emit.{say}
 use Rattle.direct.specs.Moved as moved
 use Rattle.lowering.specs.Heads.{movedFrom}
-use Rattle.walk.specs.Modes as modes
+use Rattle.walk.specs.declared.modes.Mode.the-variants as modes
 use Rattle.walk.specs.Whole.{GoodItems, Good}
 use Rattle.walk.specs.Run.{goingOf}
 use Rattle.walk.specs.Turns.{suits, AllSuit}
@@ -21,8 +21,8 @@ use Rattle.walk.proofs.hand.moves_make.Tie as tie
 abbrev Inv-loop : tie.InvT-loop
 Inv-loop t work₀ left first count u₀ n₀ p₀ work u n p =
     (length work ≡ length work₀) × (u .at ≡ u₀ .at)
-    × ((o l : List ℕ) → GoodItems t (lookNode t left) (Good t left) false false count first → AllSuit modes.binding (lookItems t (lookNode t left) false count first .value)
-    → hands.Left t left false (λ q. suits modes.binding q ≡ true) (λ q. say (moved.makes (movedFrom q))) (goingOf o l work₀ u₀) count first (goingOf o l work u) n p)
+    × ((o l : List ℕ) → GoodItems t (lookNode t left) (Good t left) false false count first → AllSuit modes.Binding (lookItems t (lookNode t left) false count first .value)
+    → hands.Left t left false (λ q. suits modes.Binding q ≡ true) (λ q. say (moved.makes (movedFrom q))) (goingOf o l work₀ u₀) count first (goingOf o l work u) n p)
 
 abbrev μ-loop : tie.MeasureT-loop
 μ-loop t work₀ left first count u₀ n₀ p₀ work u n p = n

@@ -5,6 +5,7 @@ use native.Mathlib.Omega.{arith}
 use Rattle.pattern.proofs.Places as places
 use Rattle.pattern.proofs.Searches as search
 use Rattle.walk.specs.Turns.{reachOf}
+use Rattle.walk.proofs.Lookups.{denied, undenied}
 use Rattle.walk.proofs.TargetCounts as law
 use Prim.Native.Nat.{ℕ, _+_, _*_}
 use borrow.Fn.PlainCycle.{Measures}
@@ -16,6 +17,7 @@ use Rattle.walk.proofs.target.target_count.Kinds as target-count-kinds
 use Rattle.walk.proofs.target.+object_count+target_count.Lts-object_count as object-count-lts
 use Rattle.walk.proofs.target.+object_count+target_count.Lts-target_count as target-count-lts
 use Rattle.walk.proofs.target.found.Reads as found-reads
+use Rattle.walk.proofs.reaches.enters.Reads as enters-reads
 use Rattle.pattern.proofs.parts.child.Reads as child-reads
 use Rattle.pattern.proofs.parts.item.Reads as item-reads
 use Rattle.pattern.proofs.parts.list.Reads as list-reads
@@ -38,7 +40,7 @@ abbrev object-count-claims : ℕ → object-count-lts.Claims
 object-count-claims t = (list-reads.Asked, list-reads.Learnt, value-reads.Asked, value-reads.Learnt, peek-reads.Asked, peek-reads.Learnt, below-measure target-count-kinds.ps μ-target-count target-count.Pre t, target-count.Post, plus-reads.Asked, plus-reads.Learnt, skip-reads.Asked, skip-reads.Learnt)
 
 abbrev target-count-claims : ℕ → target-count-lts.Claims
-target-count-claims t = (peek-reads.Asked, peek-reads.Learnt, stands-reads.Asked, stands-reads.Learnt, found-reads.Asked, found-reads.Learnt, below-measure object-count-kinds.ps μ-object-count object-count.Pre t, object-count.Post, list-reads.Asked, list-reads.Learnt, item-reads.Asked, item-reads.Learnt, below-measure target-count-kinds.ps μ-target-count target-count.Pre t, target-count.Post, plus-reads.Asked, plus-reads.Learnt, skip-item-reads.Asked, skip-item-reads.Learnt, child-reads.Asked, child-reads.Learnt)
+target-count-claims t = (peek-reads.Asked, peek-reads.Learnt, stands-reads.Asked, stands-reads.Learnt, found-reads.Asked, found-reads.Learnt, below-measure object-count-kinds.ps μ-object-count object-count.Pre t, object-count.Post, enters-reads.Asked, enters-reads.Learnt, list-reads.Asked, list-reads.Learnt, item-reads.Asked, item-reads.Learnt, below-measure target-count-kinds.ps μ-target-count target-count.Pre t, target-count.Post, plus-reads.Asked, plus-reads.Learnt, skip-item-reads.Asked, skip-item-reads.Learnt, child-reads.Asked, child-reads.Learnt)
 
 -- ---- the values of an object
 
@@ -70,10 +72,10 @@ object-count-returns-2 t c = law.values-end _ _ _ _ _ _ _ _ (c .loop-test .left)
 -- ---- a target
 
 abbrev target-count-Inv-loop : target-count-lts.InvT-loop
-target-count-Inv-loop t left at reach below kind n₀ p₀ k₀ n p k = law.ItemsLeft t (reachOf reach) left at below n p k
+target-count-Inv-loop t left at below kind n₀ p₀ k₀ n p k = law.ItemsLeft t left at below n p k
 
 abbrev target-count-μ-loop : target-count-lts.MeasureT-loop
-target-count-μ-loop t left at reach below kind n₀ p₀ k₀ n p k = n
+target-count-μ-loop t left at below kind n₀ p₀ k₀ n p k = n
 
 target-count-returns : (t : ℕ) → target-count-lts.Need-returns (target-count-claims t) (at-measure target-count-kinds.ps μ-target-count target-count.Pre t) target-count.Post target-count-Inv-loop target-count-μ-loop
 target-count-returns t c = law.count-none _ _ _ _ (c .if1 .taken)
@@ -85,16 +87,16 @@ target-count-object-count-requires : (t : ℕ) → target-count-lts.Need-object-
 target-count-object-count-requires t c κs = (omega (arith, c .before .before .before .before .before .before .pre .0), tt)
 
 target-count-returns-3 : (t : ℕ) → target-count-lts.Need-returns-3 (target-count-claims t) (at-measure target-count-kinds.ps μ-target-count target-count.Pre t) target-count.Post target-count-Inv-loop target-count-μ-loop
-target-count-returns-3 t c = law.count-passed _ _ _ _ _ (c .before .before .before .if1 .left) (c .before .before .peek .ensures .value) (c .before .match .keys2) (law.passes-straight _ (c .if3 .taken))
+target-count-returns-3 t c = law.count-passed _ _ _ _ _ (c .before .before .before .before .if1 .left) (c .before .before .before .peek .ensures .value) (c .before .before .match .keys2) (denied _ _ (c .before .enters .ensures) (c .if3 .taken))
 
 target-count-loop-holds : (t : ℕ) → target-count-lts.Need-loop-holds (target-count-claims t) (at-measure target-count-kinds.ps μ-target-count target-count.Pre t) target-count.Post target-count-Inv-loop target-count-μ-loop
-target-count-loop-holds t c = law.items-start _ _ _ _ _ (c .before .before .before .before .if1 .left) (c .before .before .before .peek .ensures .value) _ (c .before .before .match .keys2) (law.enters-else _ (c .before .if3 .left)) (c .list .ensures)
+target-count-loop-holds t c = law.items-start _ _ _ _ (c .before .before .before .before .before .if1 .left) (c .before .before .before .before .peek .ensures .value) _ (c .before .before .before .match .keys2) (c .list .ensures)
 
 target-count-target-count-requires : (t : ℕ) → target-count-lts.Need-target-count-requires (target-count-claims t) (at-measure target-count-kinds.ps μ-target-count target-count.Pre t) target-count.Post target-count-Inv-loop target-count-μ-loop
-target-count-target-count-requires t c κs = (let h = places.item-below _ _ _ true _ (c .before .before .before .before .before .before .before .if1 .left) (c .item .ensures) in omega (arith, c .before .before .before .before .before .before .before .before .before .pre .0), tt)
+target-count-target-count-requires t c κs = (let h = places.item-below _ _ _ true _ (c .before .before .before .before .before .before .before .before .if1 .left) (c .item .ensures) in omega (arith, c .before .before .before .before .before .before .before .before .before .before .pre .0), tt)
 
 target-count-loop-again : (t : ℕ) → target-count-lts.Need-loop-again (target-count-claims t) (at-measure target-count-kinds.ps μ-target-count target-count.Pre t) target-count.Post target-count-Inv-loop target-count-μ-loop
-target-count-loop-again t c = law.items-more _ _ _ _ _ _ _ _ _ _ _ _ (c .before .before .before .before .loop-test .taken) (c .before .before .before .item .ensures) (c .before .before .target-count .ensures ∙ law.by-one _) (c .skip-item .ensures) (c .before .plus .ensures) (c .before .before .before .before .before .loop .inv)
+target-count-loop-again t c = law.items-more _ _ _ _ _ _ _ _ _ _ _ (c .before .before .before .before .loop-test .taken) (c .before .before .before .item .ensures) (c .before .before .target-count .ensures ∙ law.by-one _) (c .skip-item .ensures) (c .before .plus .ensures) (c .before .before .before .before .before .loop .inv)
 
 target-count-target-count-requires-2 : (t : ℕ) → target-count-lts.Need-target-count-requires-2 (target-count-claims t) (at-measure target-count-kinds.ps μ-target-count target-count.Pre t) target-count.Post target-count-Inv-loop target-count-μ-loop
 target-count-target-count-requires-2 t c κs = (let h = places.child-falls _ _ _ 0 _ (c .before .before .before .if1 .left) (c .child .ensures) in omega (arith, c .before .before .before .before .before .pre .0), tt)
@@ -103,7 +105,7 @@ target-count-returns-4 : (t : ℕ) → target-count-lts.Need-returns-4 (target-c
 target-count-returns-4 t c = law.count-values _ _ _ _ _ (c .before .before .before .before .before .if1 .left) (c .before .before .before .before .peek .ensures .value) _ _ (c .before .before .before .match .keys1) (c .before .before .stands .ensures) (c .before .if2 .left) (c .object-count .ensures ∙ law.values-object _ _ _ _ (sym (c .before .before .before .before .peek .ensures .value) ∙ c .before .before .before .match .keys1))
 
 target-count-returns-5 : (t : ℕ) → target-count-lts.Need-returns-5 (target-count-claims t) (at-measure target-count-kinds.ps μ-target-count target-count.Pre t) target-count.Post target-count-Inv-loop target-count-μ-loop
-target-count-returns-5 t c = law.items-end _ _ _ _ _ _ _ _ (c .loop-test .left) (c .before .loop .inv)
+target-count-returns-5 t c = law.count-entered _ _ _ _ _ (c .before .before .before .before .before .before .before .if1 .left) (c .before .before .before .before .before .before .peek .ensures .value) _ (c .before .before .before .before .before .match .keys2) (undenied _ _ (c .before .before .before .before .enters .ensures) (c .before .before .before .if3 .left)) (law.items-end _ _ _ _ _ _ _ (c .loop-test .left) (c .before .loop .inv))
 
 target-count-returns-6 : (t : ℕ) → target-count-lts.Need-returns-6 (target-count-claims t) (at-measure target-count-kinds.ps μ-target-count target-count.Pre t) target-count.Post target-count-Inv-loop target-count-μ-loop
 target-count-returns-6 t c = law.count-left _ _ _ _ _ (c .before .before .before .before .if1 .left) (c .before .before .before .peek .ensures .value) _ _ (c .before .before .match .keys3) (c .before .child .ensures) (c .target-count2 .ensures)
@@ -142,6 +144,7 @@ pub +object-count+target-count-spec : {M : Type 1} → statement M
     (λ c κs. tt)
     (target-count-returns-2 t)
     (target-count-object-count-requires t)
+    (λ c κs. tt)
     (target-count-returns-3 t)
     (λ c κs. tt)
     (target-count-loop-holds t)
