@@ -11,7 +11,7 @@ use Rattle.tree.specs.Tree.Node.{node}
 use Rattle.tree.specs.Tree.Fields.{done, absent, field}
 use Rattle.tree.specs.Tree.Piece.{one, list}
 use Rattle.tree.specs.Read.{byteAt, wideAt}
-use Rattle.tree.specs.Look.{Seen, seen, onward, lookItems, lookNode}
+use Rattle.tree.specs.Look.{Seen, seen, onward, quietAt, lookItems, lookNode}
 use Rattle.tree.specs.Answer.{Wide}
 use Rattle.lowering.specs.Parts.{is, standsIn, stands, nodeAt, itemsAt, pieceIn, any}
 use Rattle.lowering.specs.Patterns.{shape, properties, value, hasRest, hasArrayRestOverObjectRest}
@@ -44,7 +44,9 @@ use Rattle.walk.proofs.Running.{does-then, does-nothing, does-as, does-to, clea
 use Rattle.walk.proofs.SpreadArguments.{does-from}
 use Rattle.walk.proofs.Opened.{ObjectOpen, ArrayOpen, PropertyOpen, DefaultOpen, leaf-here, no-good, object-open, array-open, property-open, default-open}
 use Rattle.walk.proofs.Turning.{deep-found, turns-found, turns-value-found, turns-reached, turns-value-reached, suit-found, suit-value-found, suit-reached, suit-value-reached}
+use Rattle.walk.proofs.QuietValues.{found-none, reach-none, simple-value}
 use Rattle.lowering.proofs.Cases.{not-true}
+use Rattle.lowering.proofs.Simple.{Simple}
 
 -- ---- one level
 
@@ -58,6 +60,11 @@ module _ (c : Place) where
   unfolding deepOf
   turn-leaf Found p h = found-leaf c p h
   turn-leaf (Reached r) p h = reach-over-leaf (emitsInner c) (reachOf r) p h
+
+  turn-none : (mode : deeps.Deep) (p : Node) → Simple p → deepOf mode c p ≡ say []
+  unfolding deepOf
+  turn-none Found p h = found-none c p h
+  turn-none (Reached r) p h = reach-none (emitsInner c) (reachOf r) p h
 
 suit-default : (mode : deeps.Deep) (at : ℕ) (l : Node) (fs : Fields) → deepSuits mode (node at 37 (field (one l) fs)) ≡ deepSuits mode l
 unfolding deepSuits
@@ -365,3 +372,9 @@ module _ (t : List ℕ) where
         moved ∙ next ∙ ap (λ (q : ℕ). onward t q 1) (r .0) ∙ ap (λ (q : Seen Node). q .next) (sym whole),
         does-to upto (does-from from (does-as (r .1) (ap₂ (λ (m : Place) (q : Node). deepOf mode m q) place (sym value-is)))),
       )
+
+  -- that of a quiet property is passed over
+  pub value-quiet : {g g′ : Going} (c : Place) (d at q s : ℕ) (mode : deeps.Deep) (b : Bool) → b ≡ quietAt t at → b ≡ true → q ≡ lookNode t d at .next → s ≡ q → g′ ≡ g
+      → Good t d at → (s ≡ lookNode t d at .next) × Does g g′ (deepOf mode c (value (lookNode t d at .value)))
+  value-quiet {g = g} c d at q s mode b e h next moved upto good =
+      (moved ∙ next, does-to upto (does-as (does-nothing g) (sym (turn-none c mode (value (lookNode t d at .value)) (simple-value t d at b e h good)))))

@@ -569,7 +569,7 @@ fn va(
     u
 }
 
-// A property: its key, its value, its flags.
+// A property: its key, its value, its flags. A quiet one with a static key is its own view.
 fn prop(
     w: Walk,
     t: &[u8],
@@ -582,6 +582,11 @@ fn prop(
     ensures { λ r. ⌜ (byteAt (now (t .entry)) (w .at) ≡ 35 → Emitted (now (t .entry)) (c .left) (w .at) (r .at) (goingOf (now (out .entry)) (now (list .entry)) (now (work .entry)) w) (goingOf (now (out .exit)) (now (list .exit)) (now (work .exit)) r) (emitsProperty (placeOf c) taken replacing)) ⌝ }
 {
     let p = w.at;
+    if quiet(t, p) {
+        if peek(t, step(t, p, 2)) == kinds::STATIC_KEY {
+            return w.copy(t, out, skip(t, c.left, p));
+        }
+    }
     let left = less(c.left);
     let u = key(
         w.copy(t, out, step(t, p, 2)),
@@ -926,7 +931,7 @@ fn da(
     ).to(end)
 }
 
-// The same for the value of a property.
+// The same for the value of a property. Below that of a quiet one there is nothing.
 fn vl(
     w: Walk,
     t: &[u8],
@@ -939,6 +944,9 @@ fn vl(
 ) -> Walk
     ensures { λ r. ⌜ (byteAt (now (t .entry)) (w .at) ≡ 35 → Good (now (t .entry)) (c .left) (w .at) → deepSuits mode (value (lookNode (now (t .entry)) (c .left) (w .at) .value)) ≡ true → (r .at ≡ lookNode (now (t .entry)) (c .left) (w .at) .next) × Does (goingOf (now (out .entry)) (now (list .entry)) (now (work .entry)) w) (goingOf (now (out .exit)) (now (list .exit)) (now (work .exit)) r) (deepOf mode (placeWith root c) (value (lookNode (now (t .entry)) (c .left) (w .at) .value)))) ⌝ }
 {
+    if quiet(t, w.at) {
+        return w.to(skip(t, c.left, w.at));
+    }
     let left = less(c.left);
     let v = skip(t, left, step(t, w.at, 2));
     let u = deep(w.to(v), t, out, list, work, under(c, left), root, mode);

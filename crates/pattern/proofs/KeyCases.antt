@@ -4,7 +4,7 @@ use mathlib.Core.Path.{_≡_, refl, sym, ap, ap₂, _∙_}
 use mathlib.Core.Bool.{Bool, true, false, cond, not, _&&_, _||_, true≢false}
 use mathlib.Core.List.{List, []}
 use mathlib.Core.Option.{Option, some}
-use Prim.Native.Nat.{ℕ, zero, suc, _+_, _-_, _<_, _≤_, min}
+use Prim.Native.Nat.{ℕ, zero, suc, _+_, _-_, _%_, _<_, _≤_, min}
 use native.Mathlib.Omega.{arith}
 use native.Mathlib.Decide.{decLt}
 use lib.Dec.{eqb}
@@ -41,7 +41,8 @@ use Rattle.pattern.specs.Tally.{limited, both, sum}
 use Rattle.pattern.specs.Keys.{nameIn, formIn, besideForm, literalBy, literalIn, literalAt, keyAt, Becomes, keyRefusal, keyEntry, keyBy, counts, countsBy, keyCounts, keyTally, keysOf, itemKeys}
 use Rattle.pattern.proofs.Places.{Blank, child-is, list-is, kind-is, no-levels, text-part, stands-part, sort-absent, sort-there}
 use Rattle.pattern.proofs.NumberCases.{promisedBy, promised-by, DecimalOf, decimal-string, same-string, Low, spelled-low}
-use Rattle.pattern.proofs.CappedSums.{tallies, refusals, Adds, sumOf, listSum, sum-start, sum-more, sum-end, first-sum}
+use Rattle.pattern.proofs.Fields.{key-at}
+use Rattle.pattern.proofs.CappedSums.{tallies, refusals, Adds, sumOf, listSum, both-made, sum-start, sum-more, sum-end, first-sum}
 use Rattle.lowering.proofs.Cases.{by-test}
 use Rattle.lowering.proofs.ItemLaws.{count-append}
 use Rattle.lowering.proofs.Clauses.{text-name, text-literal}
@@ -547,13 +548,19 @@ module _ (l : List ℕ) where
       w ∙ ap (λ (x : keys.Key). countsBy x (keys.keyRefusal (lookNode l (s .left) (s .at) .value))) (sym (sort-name (lookNode l (s .left) (s .at) .value) (kind-is l (s .left) (s .at) k (λ n. absurd (omega arith)) a ∙ y)))
       ∙ child-is l keyTally tally-blank d at 0 s e
 
-  pub static-other : (h : Bool) (d at n k : ℕ) (s : Place) (r : Tally) → h ≡ true → Peeked l at n → (n ≡ 0 → ⊥) → s ≡ placeOf d at (partAt l d at 0) → 0 < s .left → k ≡ byteAt l (s .at) → k ≡ 38 → r ≡ counts 1 0 0 0 → r ≡ itemKeys l h d at
+  pub static-node : (h : Bool) (d at k p m q j : ℕ) → h ≡ false → 1 < d → k ≡ byteAt l at → k ≡ 35 → p ≡ onward l at 1 → m ≡ byteAt l p → m % 2 ≡ 1 → q ≡ onward l at 2 → j ≡ byteAt l q → eqb j 38 ≡ true → counts 1 0 0 0 ≡ itemKeys l h d at
   unfolding itemKeys
-  static-other h d at n k s r t p z e u a y w = rw (t, ne-eqb (byteAt l at) 0 (λ y. z (p .value ∙ y))) (key-static d at k s r e u a y w)
+  static-node h d at k p m q j t u e y f g i v w z =
+      rw t (key-static d at j (record { left = d - 1; at = q }) (counts 1 0 0 0) (key-at l d at k p m q (omega arith) e y f g i v) (omega arith) w (eqb-true j 38 z) refl)
 
-  pub static-node : (h : Bool) (d at k : ℕ) (s : Place) (r : Tally) → h ≡ false → s ≡ placeOf d at (partAt l d at 0) → 0 < s .left → k ≡ byteAt l (s .at) → k ≡ 38 → r ≡ counts 1 0 0 0 → r ≡ itemKeys l h d at
-  unfolding itemKeys
-  static-node h d at k s r t e u a y w = rw t (key-static d at k s r e u a y w)
+  -- counts that have stopped where they should, and a static key
+  pub static-more : (t r : Tally) (h : Bool) (d at : ℕ) → r .excluded ≡ limited (t .excluded + 1) → r .temporaries ≡ t .temporaries → r .computed ≡ t .computed → r .refusal ≡ t .refusal → r .objects ≡ t .objects → r .patterns ≡ t .patterns
+      → counts 1 0 0 0 ≡ itemKeys l h d at → both t tally.zero ≡ t → r ≡ both t (itemKeys l h d at)
+  unfolding both
+  static-more t r h d at e f g i j k s z =
+      both-made t (counts 1 0 0 0) r e (f ∙ sym (ap (λ (x : Tally). x .temporaries) z)) (g ∙ sym (ap (λ (x : Tally). x .computed) z)) (i ∙ sym (ap (λ (x : Tally). x .refusal) z))
+      (j ∙ sym (ap (λ (x : Tally). x .objects) z)) (k ∙ sym (ap (λ (x : Tally). x .patterns) z))
+      ∙ ap (both t) s
 
   pub item-other : (h : Bool) (d at n : ℕ) (s : Place) (x : Key) (r : Tally) → h ≡ true → Peeked l at n → (n ≡ 0 → ⊥) → s ≡ placeOf d at (partAt l d at 0) → x ≡ keyAt l (s .left) (s .at) → r ≡ keyCounts x → r ≡ itemKeys l h d at
   unfolding itemKeys
@@ -576,9 +583,9 @@ module _ (l : List ℕ) where
   keys-start d at r t e s =
       sum-start tallies l keyOfItem (d - 1) (r .holes) (r .count) (r .from) t (keysOf (lookNode l d at .value)) s (ap (sumOf tallies keyOfItem) (list-is l d at 0 r e))
 
-  pub keys-more : (d at e : ℕ) (h : Bool) (n p q : ℕ) (t x u : Tally) → 0 < n → x ≡ itemKeys l h e p → q ≡ lookItem l (lookNode l e) h p .next → u ≡ both t x → KeysLeft d at e h n p t → KeysLeft d at e h (n - 1) q u
+  pub keys-more : (d at e : ℕ) (h : Bool) (n p q : ℕ) (t u : Tally) → 0 < n → (both t tally.zero ≡ t → u ≡ both t (itemKeys l h e p)) → q ≡ lookItem l (lookNode l e) h p .next → KeysLeft d at e h n p t → KeysLeft d at e h (n - 1) q u
   unfolding itemKeys
-  keys-more d at e h n p q t x u z a g v w = sum-more tallies l keyOfItem e h n p q t x u (keysOf (lookNode l d at .value)) z a g v w
+  keys-more d at e h n p q t u z v g w = sum-more tallies l keyOfItem e h n p q t (itemKeys l h e p) u (keysOf (lookNode l d at .value)) z refl g (v (w .1)) w
 
   pub keys-end : (d at e : ℕ) (h : Bool) (n p : ℕ) (t : Tally) → n ≤ 0 → KeysLeft d at e h n p t → t ≡ keysOf (lookNode l d at .value)
   keys-end d at e h n p t z w = sum-end tallies l keyOfItem e h n p t (keysOf (lookNode l d at .value)) z w

@@ -8,13 +8,14 @@ use crate::tally::Tally;
 use tree::bytes;
 use tree::skip;
 ghost use mathlib.Core.Path.{_≡_};
+ghost use mathlib.Core.Bool.{true};
 ghost use Rattle.tree.specs.Read.{byteAt};
 ghost use Rattle.tree.specs.Look.{lookNode};
 ghost use Rattle.lowering.specs.Parts.{numberAt};
 ghost use Rattle.tree.specs.Tree.{count};
 ghost use Rattle.lowering.specs.Made.{Context};
 ghost use Rattle.lowering.specs.Keys.{allPrimitive, keysRefusal, excludedKeys, keyTemporaries};
-ghost use Rattle.pattern.specs.Tally.{limited};
+ghost use Rattle.pattern.specs.Tally.{limited, zero, both};
 ghost use Rattle.lowering.specs.Rests.{hasNoProperties};
 ghost use Rattle.pattern.specs.Parts.{textIn, standing};
 ghost use Rattle.pattern.specs.Numbers.{spelledAs, isStringOf};
@@ -245,12 +246,41 @@ pub fn item_keys(tree: &[u8], holes: bool, left: usize, at: usize) -> Tally
         }
     }
     let k = parts::key(tree, left, at);
-    if 0 < k.left {
-        if bytes::peek(tree, k.at) == 38 {
-            return counted(1, 0, 0, 0);
+    key_counts(transform_property_key(tree, k.left, k.at))
+}
+
+// Whether an item is a property with a static key, which adds an excluded key and nothing else.
+fn has_static_key(tree: &[u8], holes: bool, left: usize, at: usize) -> bool
+    ensures { λ r. ⌜ (r ≡ true → counts 1 0 0 0 ≡ itemKeys (now (tree .entry)) holes left at) ⌝ }
+{
+    if holes {
+        return false;
+    }
+    if 1 < left {
+        if bytes::peek(tree, at) == 35 {
+            if bytes::peek(tree, skip::step(tree, at, 1)) % 2 == 1 {
+                return bytes::peek(tree, skip::step(tree, at, 2)) == 38;
+            }
         }
     }
-    key_counts(transform_property_key(tree, k.left, k.at))
+    false
+}
+
+// Counts, and what the key of a property adds to them.
+fn with_key(t: Tally, tree: &[u8], holes: bool, left: usize, at: usize) -> Tally
+    ensures { λ r. ⌜ (both t zero ≡ t → r ≡ both t (itemKeys (now (tree .entry)) holes left at)) ⌝ }
+{
+    if has_static_key(tree, holes, left, at) {
+        return Tally {
+            excluded: tally::plus(t.excluded, 1),
+            temporaries: t.temporaries,
+            computed: t.computed,
+            refusal: t.refusal,
+            objects: t.objects,
+            patterns: t.patterns,
+        };
+    }
+    tally::both(t, item_keys(tree, holes, left, at))
 }
 
 // The counts of all keys of the object pattern at a position.
@@ -267,7 +297,7 @@ pub fn keys(tree: &[u8], left: usize, at: usize) -> Tally
     let mut p = run.from;
     let mut t = tally::none();
     while 0 < n {
-        t = tally::both(t, item_keys(tree, holes, below, p));
+        t = with_key(t, tree, holes, below, p);
         p = skip::skip_item(tree, holes, below, p);
         n -= 1;
     }

@@ -541,6 +541,7 @@ module _ (l : List ℕ) (bytes : (i : ℕ) → i < length l → byteAt l i < 256
           stop = u .part .stands .end;
           limit = ends;
           quiet = λ v c. emits-copied (here .value) (quiet-simple (here .value) (own-quiet (here .value) told v)) ok c;
+          simple = λ v. quiet-simple (here .value) (own-quiet (here .value) told v);
           arg = λ v. ap (λ (x : ℕ). byteAt l x % 2) o ∙ spread-arg p b (byteAt l (at + 1)) (w .form) (w .map) v;
           temporary = no-temporary ok;
           helper = no-helper ok;

@@ -92,6 +92,10 @@ module _ (t : List ℕ) where
     last zero at z = refl
     last (suc n) at z = absurd (omega arith)
 
+    pub next-item : (at q : ℕ) → q ≡ R at .next → q ≡ lookItem t R false at .next
+    unfolding lookItem
+    next-item at q e = e
+
     -- ---- the run of properties up to a spread
 
     pub run-end : (k n at : ℕ) → n ≤ 0 → k ≡ k + run (lookItems t R false n at .value)
@@ -124,11 +128,13 @@ module _ (t : List ℕ) where
     unfolding innerHeads
     inner-none {g = g} m n at z = rw (last n at (omega arith)) (does-nothing g)
 
-    pub inner-one : {g g′ : Going} (m n at : ℕ) → n ≡ 1 → Does g g′ (say (headAt m (R at .value))) → Does g g′ (say (innerHeads m (lookItems t R false n at .value)))
+    pub inner-first : {g g₁ g′ : Going} (m n k q : ℕ) (at : ℕ) → (n ≡ 0 → ⊥) → k ≡ modeNext m (R at .value) → q ≡ R at .next
+        → Does g g₁ (say (innerHeads k (lookItems t R false (n - 1) q .value))) → Does g₁ g′ (say (headAt m (R at .value)))
+        → Does g g′ (say (innerHeads m (lookItems t R false n at .value)))
     unfolding innerHeads
-    inner-one m n at z d =
-        let o : n - 1 ≤ 0 = omega arith in
-        rw (first n at (R at .next) (omega arith) refl, last (n - 1) (R at .next) o) d
+    inner-first m n k q at z e f a b =
+        does-as (does-then a b)
+        (say-say (innerHeads k (lookItems t R false (n - 1) q .value)) (headAt m (R at .value)) ∙ rw (first n at q (omega arith) f, sym e) refl)
 
     add-join : (h : Bool) (at : ℕ) (is js : Items) → lookItem t R h at .value (is +++ js) ≡ lookItem t R h at .value is +++ js
     unfolding lookItem _+++_

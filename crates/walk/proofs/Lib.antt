@@ -19,6 +19,7 @@ pub mod TargetWalk
 pub mod KeyLengths
 pub mod Sources
 pub mod Viewing
+pub mod QuietValues
 pub mod Hands
 pub mod HandKeys
 pub mod HandRules

@@ -14,6 +14,7 @@ use Rattle.tree.specs.Grammar.Sort.{child, chosen, many, gaps, text, byte, mark
 use Rattle.tree.specs.Read.{byteAt, wideAt, sortIn}
 use Rattle.tree.specs.Look.{Seen, onward, endAt, quietAt, lookItem, lookItems, lookField, lookSlot, lookFields, lookNode}
 use Rattle.lowering.specs.Collect.{isContainer}
+use Rattle.lowering.proofs.Simple.{Simple}
 use Rattle.sink.specs.Machine.{part}
 use Rattle.direct.specs.Events as events
 use Rattle.direct.specs.Events.{Emit, puts, emits}
@@ -94,6 +95,8 @@ module _ (tree : List ℕ) where
     pub limit : at + length (encode (node at (byteAt tree at) (lookFields tree R (fieldsOf (byteAt tree at)) (byteAt tree (onward tree at 1)) (onward tree at 2) .value))) ≤ 16384
     -- noted as quiet it is written as its bytes, wherever it stands
     pub quiet : quietAt tree at ≡ true → (c : events.Place) → emits c (node at (byteAt tree at) (lookFields tree R (fieldsOf (byteAt tree at)) (byteAt tree (onward tree at 1)) (onward tree at 2) .value)) ≡ say (puts (encode (node at (byteAt tree at) (lookFields tree R (fieldsOf (byteAt tree at)) (byteAt tree (onward tree at 1)) (onward tree at 2) .value))))
+    -- and has no object rest and no spread in an object literal in it
+    pub simple : quietAt tree at ≡ true → Simple (node at (byteAt tree at) (lookFields tree R (fieldsOf (byteAt tree at)) (byteAt tree (onward tree at 1)) (onward tree at 2) .value))
     pub arg : eqb (byteAt tree at) 26 ≡ true → byteAt tree (onward tree at 1) % 2 ≡ 1
     pub temporary : eqb (byteAt tree at) 20 ≡ false
     pub helper : eqb (byteAt tree at) 21 ≡ false

@@ -24,6 +24,7 @@ use pattern::source::is_name;
 use pattern::tally::plus;
 use tree::bytes::peek;
 use tree::bytes::wide_at;
+use tree::skip::quiet;
 use tree::skip::skip;
 use tree::skip::skip_item;
 use tree::skip::skip_items;
@@ -162,7 +163,7 @@ fn over_values(
     u
 }
 
-// One of them; by its kind it may be no pattern.
+// One of them; a quiet property has no object with rest in it.
 fn over_value(
     w: Walk,
     t: &[u8],
@@ -177,11 +178,11 @@ fn over_value(
     if left == 0 {
         return w;
     }
-    let below = less(left);
-    let x = skip(t, below, step(t, at, 2));
-    if peek(t, x) < kinds::OBJECT_PATTERN {
+    if quiet(t, at) {
         return w;
     }
+    let below = less(left);
+    let x = skip(t, below, step(t, at, 2));
     over(w, t, list, work, below, x, View::Replacing, mode)
 }
 

@@ -6,7 +6,6 @@ use crate::written;
 use tree::bytes::peek;
 use tree::bytes::wide_at;
 use tree::skip::skip;
-use tree::skip::skip_items;
 use tree::skip::step;
 ghost use mathlib.Core.Path.{_≡_};
 ghost use mathlib.Core.Bool.{true, false};
@@ -70,8 +69,14 @@ pub fn mode_next(t: &[u8], left: usize, at: usize, mode: usize) -> usize
     SOME_PENDING
 }
 
-pub fn mode_after(t: &[u8], left: usize, count: usize, at: usize, mode: usize) -> usize
-    ensures { λ r. ⌜ r ≡ modeAfter mode (lookItems (now (t .entry)) (lookNode (now (t .entry)) left) false count at .value) ⌝ }
+// Where some properties end, and the call so far behind them.
+pub struct Passed {
+    pub at: usize,
+    pub mode: usize,
+}
+
+pub fn after(t: &[u8], left: usize, count: usize, at: usize, mode: usize) -> Passed
+    ensures { λ r. ⌜ (r .at ≡ lookItems (now (t .entry)) (lookNode (now (t .entry)) left) false count at .next) × (r .mode ≡ modeAfter mode (lookItems (now (t .entry)) (lookNode (now (t .entry)) left) false count at .value)) ⌝ }
 {
     let mut n = count;
     let mut p = at;
@@ -81,7 +86,7 @@ pub fn mode_after(t: &[u8], left: usize, count: usize, at: usize, mode: usize) -
         p = skip(t, left, p);
         n -= 1;
     }
-    m
+    Passed { at: p, mode: m }
 }
 
 // The head of the call that a spread ends.
@@ -97,7 +102,9 @@ pub fn head_at(w: Walk, t: &[u8], out: &mut [u8], left: usize, at: usize, mode: 
     w
 }
 
-// The heads of the calls but the last, the outermost first, by halves.
+// The heads of the calls but the last, the outermost first: of many properties by halves, of a few one by one.
+const FEW: usize = 32;
+
 pub fn inner_heads(
     w: Walk,
     t: &[u8],
@@ -112,13 +119,14 @@ pub fn inner_heads(
     if n == 0 {
         return w;
     }
-    if n == 1 {
-        return head_at(w, t, out, left, at, mode);
+    if n <= FEW {
+        let m = mode_next(t, left, at, mode);
+        let v = inner_heads(w, t, out, left, n - 1, skip(t, left, at), m);
+        return head_at(v, t, out, left, at, mode);
     }
     let half = n / 2;
-    let mid = skip_items(t, false, half, left, at);
-    let m = mode_after(t, left, half, at, mode);
-    let v = inner_heads(w, t, out, left, n - half, mid, m);
+    let a = after(t, left, half, at, mode);
+    let v = inner_heads(w, t, out, left, n - half, a.at, a.mode);
     inner_heads(v, t, out, left, half, at, mode)
 }
 
@@ -134,8 +142,8 @@ pub fn all_heads(
 ) -> Walk
     ensures { λ r. ⌜ ((l k : List ℕ) → Does (goingOf (now (out .entry)) l k w) (goingOf (now (out .exit)) l k r) (say (heads mode (lookItems (now (t .entry)) (lookNode (now (t .entry)) left) false n at .value)))) × (r .at ≡ w .at) ⌝ }
 {
-    let m = mode_after(t, left, n, at, mode);
-    if m == SOME_PENDING {
+    let a = after(t, left, n, at, mode);
+    if a.mode == SOME_PENDING {
         return inner_heads(
             w.call(out, helpers::OBJECT_SPREAD, 3),
             t,

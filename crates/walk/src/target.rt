@@ -13,6 +13,7 @@ use pattern::parts;
 use pattern::tally::plus;
 use tree::bytes::peek;
 use tree::bytes::wide_at;
+use tree::skip::quiet;
 use tree::skip::skip;
 use tree::skip::skip_item;
 use tree::skip::step;
@@ -169,7 +170,7 @@ fn target_object(
     u
 }
 
-// A property that stands at a level above `left`: what is below its value.
+// A property that stands at a level above `left`: what is below its value. In a quiet one there is nothing.
 fn target_property(
     w: Walk,
     t: &[u8],
@@ -181,6 +182,9 @@ fn target_property(
 ) -> Walk
     ensures { λ r. ⌜ (r .at ≡ w .at) × ((o : List ℕ) → Good (now (t .entry)) (suc left) at → byteAt (now (t .entry)) at ≡ 35 → Does (goingOf o (now (list .entry)) (now (work .entry)) w) (goingOf o (now (list .exit)) (now (work .exit)) r) (overReached handsPlace (reachOf reach) (value (lookNode (now (t .entry)) (suc left) at .value)))) ⌝ }
 {
+    if quiet(t, at) {
+        return w;
+    }
     if left == 0 {
         return w;
     }

@@ -50,6 +50,7 @@ use Rattle.tree.proofs.skip.skip_slot.Reads as skip-slot-reads
 use Rattle.tree.proofs.skip.step.Reads as step-reads
 use Rattle.emit.proofs.Excluding as excluding
 use Rattle.walk.proofs.Viewing as viewing
+use Rattle.walk.proofs.QuietValues as quiets
 use Rattle.walk.proofs.Turning as turning
 use Rattle.walk.proofs.Told as told
 use Rattle.walk.proofs.Lookups.{denied, undenied}
@@ -472,7 +473,7 @@ abbrev pr-claims : ℕ → cycle.Lts-pr.Claims
 pr-claims t = (step-reads.Asked, step-reads.Learnt, wide-at-reads.Asked, wide-at-reads.Learnt, to-reads.Asked, to-reads.Learnt, less-reads.Asked, less-reads.Learnt, under-reads.Asked, under-reads.Learnt, below-measure seq.Kinds.ps μ-seq seq.Reads.Pre t, seq.Reads.Post)
 
 abbrev prop-claims : ℕ → cycle.Lts-prop.Claims
-prop-claims t = (less-reads.Asked, less-reads.Learnt, step-reads.Asked, step-reads.Learnt, copy-reads.Asked, copy-reads.Learnt, inside-reads.Asked, inside-reads.Learnt, below-measure key.Kinds.ps μ-key key.Reads.Pre t, key.Reads.Post, below-measure view.Kinds.ps μ-view view.Reads.Pre t, view.Reads.Post)
+prop-claims t = (quiet-reads.Asked, quiet-reads.Learnt, step-reads.Asked, step-reads.Learnt, peek-reads.Asked, peek-reads.Learnt, skip-reads.Asked, skip-reads.Learnt, copy-reads.Asked, copy-reads.Learnt, less-reads.Asked, less-reads.Learnt, inside-reads.Asked, inside-reads.Learnt, below-measure key.Kinds.ps μ-key key.Reads.Pre t, key.Reads.Post, below-measure view.Kinds.ps μ-view view.Reads.Pre t, view.Reads.Post)
 
 abbrev pt-claims : ℕ → cycle.Lts-pt.Claims
 pt-claims t = (is-spread-reads.Asked, is-spread-reads.Learnt, has-first-reads.Asked, has-first-reads.Learnt, less-reads.Asked, less-reads.Learnt, step-reads.Asked, step-reads.Learnt, to-reads.Asked, to-reads.Learnt, under-reads.Asked, under-reads.Learnt, below-measure node.Kinds.ps μ-node node.Reads.Pre t, node.Reads.Post, skip-reads.Asked, skip-reads.Learnt, run-of-reads.Asked, run-of-reads.Learnt, pending-reads.Asked, pending-reads.Learnt)
@@ -508,7 +509,7 @@ abbrev turn-claims : ℕ → cycle.Lts-turn.Claims
 turn-claims t = (peek-reads.Asked, peek-reads.Learnt, hole-reads.Asked, hole-reads.Learnt, below-measure view.Kinds.ps μ-view view.Reads.Pre t, view.Reads.Post, below-measure go.Kinds.ps μ-go go.Reads.Pre t, go.Reads.Post, below-measure deep.Kinds.ps μ-deep deep.Reads.Pre t, deep.Reads.Post, below-measure prop.Kinds.ps μ-prop prop.Reads.Pre t, prop.Reads.Post, below-measure ek.Kinds.ps μ-ek ek.Reads.Pre t, ek.Reads.Post, below-measure kv.Kinds.ps μ-kv kv.Reads.Pre t, kv.Reads.Post, below-measure vl.Kinds.ps μ-vl vl.Reads.Pre t, vl.Reads.Post, below-measure dr.Kinds.ps μ-dr dr.Reads.Pre t, dr.Reads.Post, below-measure bi.Kinds.ps μ-bi bi.Reads.Pre t, bi.Reads.Post)
 
 abbrev vl-claims : ℕ → cycle.Lts-vl.Claims
-vl-claims t = (less-reads.Asked, less-reads.Learnt, step-reads.Asked, step-reads.Learnt, skip-reads.Asked, skip-reads.Learnt, to-reads.Asked, to-reads.Learnt, under-reads.Asked, under-reads.Learnt, below-measure deep.Kinds.ps μ-deep deep.Reads.Pre t, deep.Reads.Post)
+vl-claims t = (quiet-reads.Asked, quiet-reads.Learnt, skip-reads.Asked, skip-reads.Learnt, to-reads.Asked, to-reads.Learnt, less-reads.Asked, less-reads.Learnt, step-reads.Asked, step-reads.Learnt, under-reads.Asked, under-reads.Learnt, below-measure deep.Kinds.ps μ-deep deep.Reads.Pre t, deep.Reads.Post)
 
 abbrev va-claims : ℕ → cycle.Lts-va.Claims
 va-claims t = (less-reads.Asked, less-reads.Learnt, step-reads.Asked, step-reads.Learnt, wide-at-reads.Asked, wide-at-reads.Learnt, copy-reads.Asked, copy-reads.Learnt, inside-reads.Asked, inside-reads.Learnt, below-measure seq.Kinds.ps μ-seq seq.Reads.Pre t, seq.Reads.Post, has-second-reads.Asked, has-second-reads.Learnt, below-measure node.Kinds.ps μ-node node.Reads.Pre t, node.Reads.Post)
@@ -1040,10 +1041,13 @@ pr-returns-2 : (t : ℕ) → cycle.Lts-pr.Need-returns-2 (pr-claims t) (at-measu
 pr-returns-2 t c = λ m. finding.properties-done _ _ _ _ _ _ _ _ _ _ _ _ _ (c .before .before .before .before .before .before .before .before .less .ensures) (c .before .before .before .before .before .before .before .under .ensures .1) (told.with-same _ (c .before .before .before .before .before .before .before .under .ensures .0)) (c .before .before .before .before .before .before .before .before .before .before .before .before .before .before .before .step .ensures) (c .before .before .before .before .before .before .before .before .before .before .before .before .before .before .wide-at .ensures) (c .before .before .before .before .before .before .before .before .before .before .before .before .before .step2 .ensures) (c .before .before .before .before .before .before .before .before .before .before .before .before .to .ensures .1) (c .before .before .before .before .before .before .before .before .before .before .before .before .to .ensures .0 _ _ _) (told.items-with _ _ _ _ _ _ _ _ _ _ _ m (c .before .before .before .before .before .before .seq .ensures))
 
 prop-view-requires : (t : ℕ) → cycle.Lts-prop.Need-view-requires (prop-claims t) (at-measure prop.Kinds.ps μ-prop prop.Reads.Pre t) prop.Reads.Post
-prop-view-requires t c κs = (omega (arith, c .before .before .before .before .before .before .before .before .before .before .before .before .before .before .before .before .before .before .before .before .before .before .before .before .before .pre .0, c .inside2 .ensures .1, c .before .before .before .before .before .before .before .before .before .before .before .inside .ensures .1, c .before .before .before .before .before .before .before .before .before .before .before .before .before .before .before .before .before .before .before .before .less .ensures), tt)
+prop-view-requires t c κs = (omega (arith, c .before .before .before .before .before .before .before .before .before .before .before .before .before .before .before .before .before .before .before .before .before .before .before .before .before .before .before .pre .0, c .inside2 .ensures .1, c .before .before .before .before .before .before .before .before .before .before .before .inside .ensures .1, c .before .before .before .before .before .before .before .before .before .before .before .before .before .before .before .before .before .before .before .before .less .ensures), tt)
 
 prop-returns : (t : ℕ) → cycle.Lts-prop.Need-returns (prop-claims t) (at-measure prop.Kinds.ps μ-prop prop.Reads.Pre t) prop.Reads.Post
-prop-returns t c = viewing.property-does _ _ _ _ _ _ _ _ _ _ _ _ _ _ _ (c .before .before .before .before .before .before .before .before .before .before .before .before .before .before .before .before .before .before .before .before .before .before .before .before .before .before .before .before .before .before .step .ensures) (c .before .before .before .before .before .before .before .before .before .before .before .before .before .before .before .before .before .before .before .before .before .before .before .before .before .before .before .before .before .copy .ensures .1) (c .before .before .before .before .before .before .before .before .before .before .before .before .before .before .before .before .before .before .before .before .before .before .before .inside .ensures .0) (c .before .before .before .before .before .before .before .before .before .before .before .before .before .before .before .before .before .before .before .before .before .before .before .inside .ensures .1 ∙ c .before .before .before .before .before .before .before .before .before .before .before .before .before .before .before .before .before .before .before .before .before .before .before .before .before .before .before .before .before .before .before .before .less .ensures) (c .before .before .before .before .before .before .before .before .before .before .before .before .inside2 .ensures .0) (c .before .before .before .before .before .before .before .before .before .before .before .before .inside2 .ensures .1 ∙ c .before .before .before .before .before .before .before .before .before .before .before .before .before .before .before .before .before .before .before .before .before .before .before .before .before .before .before .before .before .before .before .before .less .ensures) (c .before .before .before .step2 .ensures) (c .before .before .copy2 .ensures .1) (c .before .before .before .before .before .before .before .before .before .before .before .before .before .before .before .before .before .before .before .before .before .before .before .before .before .before .before .before .before .copy .ensures .0 _ _) (c .before .before .before .before .before .before .before .before .before .before .before .before .before .before .before .before .before .before .before .before .before .before .key .ensures) (c .before .before .before .before .before .before .before .before .before .before .before .view .ensures) (c .before .before .copy2 .ensures .0 _ _)
+prop-returns t c = quiets.property-quiet _ _ _ _ _ _ _ _ _ _ (c .before .before .before .before .before .before .before .before .before .quiet .ensures) (c .before .before .before .before .before .before .before .before .if1 .taken) (c .before .before .before .before .before .before .before .step .ensures) (c .before .before .before .before .before .before .peek .ensures .value) (c .before .before .before .before .before .if2 .taken) (c .before .before .before .skip .ensures) (c .before .before .copy .ensures .1) (c .before .before .copy .ensures .0 _ _)
+
+prop-returns-2 : (t : ℕ) → cycle.Lts-prop.Need-returns-2 (prop-claims t) (at-measure prop.Kinds.ps μ-prop prop.Reads.Pre t) prop.Reads.Post
+prop-returns-2 t c = viewing.property-does _ _ _ _ _ _ _ _ _ _ _ _ _ _ _ (c .before .before .before .before .before .before .before .before .before .before .before .before .before .before .before .before .before .before .before .before .before .before .before .before .before .before .before .before .before .before .step2 .ensures) (c .before .before .before .before .before .before .before .before .before .before .before .before .before .before .before .before .before .before .before .before .before .before .before .before .before .before .before .before .before .copy2 .ensures .1) (c .before .before .before .before .before .before .before .before .before .before .before .before .before .before .before .before .before .before .before .before .before .before .before .inside .ensures .0) (c .before .before .before .before .before .before .before .before .before .before .before .before .before .before .before .before .before .before .before .before .before .before .before .inside .ensures .1 ∙ c .before .before .before .before .before .before .before .before .before .before .before .before .before .before .before .before .before .before .before .before .before .before .before .before .before .before .before .before .before .before .before .before .less .ensures) (c .before .before .before .before .before .before .before .before .before .before .before .before .inside2 .ensures .0) (c .before .before .before .before .before .before .before .before .before .before .before .before .inside2 .ensures .1 ∙ c .before .before .before .before .before .before .before .before .before .before .before .before .before .before .before .before .before .before .before .before .before .before .before .before .before .before .before .before .before .before .before .before .less .ensures) (c .before .before .before .step3 .ensures) (c .before .before .copy3 .ensures .1) (c .before .before .before .before .before .before .before .before .before .before .before .before .before .before .before .before .before .before .before .before .before .before .before .before .before .before .before .before .before .copy2 .ensures .0 _ _) (c .before .before .before .before .before .before .before .before .before .before .before .before .before .before .before .before .before .before .before .before .before .before .key .ensures) (c .before .before .before .before .before .before .before .before .before .before .before .view .ensures) (c .before .before .copy3 .ensures .0 _ _)
 
 pt-returns : (t : ℕ) → cycle.Lts-pt.Need-returns (pt-claims t) (at-measure pt.Kinds.ps μ-pt pt.Reads.Pre t) pt.Reads.Post
 pt-returns t c = (
@@ -1237,7 +1241,10 @@ turn-returns-10 : (t : ℕ) → cycle.Lts-turn.Need-returns-10 (turn-claims t) (
 turn-returns-10 t c = told.item-own _ _ _ _ _ _ _ _ _ _ (ap isTold (c .before .before .before .before .before .before .before .before .before .before .enum-told6 .given .1) ∙ told.untold-binding) (turning.turned-binding _ _ _ _ _ _ _ (⊎-elim (λ w. law.no-hole _ _ _ _ (w .0 .taken) (w .1 .ensures) (w .2 .left)) (λ w. law.full _ _ _ (w .left)) (c .before .before .before .before .before .before .before .before .before .before .before .before .if1 .came)) (c .before .before .before .before .before .before .before .before .before .before .enum-told6 .given .1) (c .before .before .before .before .before .before .bi .ensures))
 
 vl-returns : (t : ℕ) → cycle.Lts-vl.Need-returns (vl-claims t) (at-measure vl.Kinds.ps μ-vl vl.Reads.Pre t) vl.Reads.Post
-vl-returns t c = finding.value-done _ _ _ _ _ _ _ _ _ _ _ _ _ _ (c .before .before .before .before .before .before .before .before .before .before .before .before .before .before .before .before .less .ensures) (c .before .before .before .before .before .before .before .before .before .before .before .before .before .before .before .step .ensures) (c .before .before .before .before .before .before .before .before .before .before .before .before .before .before .skip .ensures) (c .before .before .before .before .before .before .before .before .before .before .before .before .before .to .ensures .1) (c .before .before .before .before .before .before .before .before .before .before .before .before .before .to .ensures .0 _ _ _) (c .before .before .before .before .before .before .before .before .before .under .ensures .1) (told.with-same _ (c .before .before .before .before .before .before .before .before .before .under .ensures .0)) (c .before .before .before .before .before .before .before .before .deep .ensures) (c .before .step2 .ensures) (c .to2 .ensures .1) (c .to2 .ensures .0 _ _ _)
+vl-returns t c k good suit = finding.value-quiet _ _ _ _ _ _ _ _ (c .before .before .before .quiet .ensures) (c .before .before .if1 .taken) (c .before .skip .ensures) (c .to .ensures .1) (c .to .ensures .0 _ _ _) good
+
+vl-returns-2 : (t : ℕ) → cycle.Lts-vl.Need-returns-2 (vl-claims t) (at-measure vl.Kinds.ps μ-vl vl.Reads.Pre t) vl.Reads.Post
+vl-returns-2 t c = finding.value-done _ _ _ _ _ _ _ _ _ _ _ _ _ _ (c .before .before .before .before .before .before .before .before .before .before .before .before .before .before .before .before .less .ensures) (c .before .before .before .before .before .before .before .before .before .before .before .before .before .before .before .step .ensures) (c .before .before .before .before .before .before .before .before .before .before .before .before .before .before .skip2 .ensures) (c .before .before .before .before .before .before .before .before .before .before .before .before .before .to2 .ensures .1) (c .before .before .before .before .before .before .before .before .before .before .before .before .before .to2 .ensures .0 _ _ _) (c .before .before .before .before .before .before .before .before .before .under .ensures .1) (told.with-same _ (c .before .before .before .before .before .before .before .before .before .under .ensures .0)) (c .before .before .before .before .before .before .before .before .deep .ensures) (c .before .step2 .ensures) (c .to3 .ensures .1) (c .to3 .ensures .0 _ _ _)
 
 va-returns : (t : ℕ) → cycle.Lts-va.Need-returns (va-claims t) (at-measure va.Kinds.ps μ-va va.Reads.Pre t) va.Reads.Post
 va-returns t c = λ h good. law.good-none _ _ _ (c .if1 .taken) good
@@ -2302,15 +2309,22 @@ prop-spec t = cycle.Lts-prop.spec (prop-claims t) (at-measure prop.Kinds.ps μ-p
     (λ c κs. tt)
     (λ c κs. tt)
     (λ c κs. tt)
-    (λ c κs. (omega (arith, c .before .before .before .before .before .before .before .before .before .before .before .before .before .before .pre .0, c .inside .ensures .1, c .before .before .before .before .before .before .before .before .before .less .ensures), tt))
+    (λ c κs. tt)
+    (λ c. search needs)
+    (prop-returns t)
+    (λ c κs. tt)
+    (λ c κs. tt)
+    (λ c κs. tt)
+    (λ c κs. tt)
+    (λ c κs. (omega (arith, c .before .before .before .before .before .before .before .before .before .before .before .before .before .before .before .before .pre .0, c .inside .ensures .1, c .before .before .before .before .before .before .before .before .before .less .ensures), tt))
     (λ c κs. tt)
     (prop-view-requires t)
     (λ c κs. tt)
     (λ c κs. tt)
-    (λ c. omega (arith, c .before .before .copy2 .kept, c .before .before .before .before .before .before .before .before .before .before .before .view .kept, c .before .before .before .before .before .before .before .before .before .before .before .before .before .before .before .before .before .before .before .before .before .before .key .kept, c .before .before .before .before .before .before .before .before .before .before .before .before .before .before .before .before .before .before .before .before .before .before .before .before .before .before .before .before .before .copy .kept))
-    (λ c. omega (arith, c .before .before .copy2 .kept, c .before .before .before .before .before .before .before .before .before .before .before .view .kept, c .before .before .before .before .before .before .before .before .before .before .before .before .before .before .before .before .before .before .before .before .before .before .key .kept, c .before .before .before .before .before .before .before .before .before .before .before .before .before .before .before .before .before .before .before .before .before .before .before .before .before .before .before .before .before .copy .kept))
-    (λ c. omega (arith, c .before .before .copy2 .kept, c .before .before .before .before .before .before .before .before .before .before .before .view .kept, c .before .before .before .before .before .before .before .before .before .before .before .before .before .before .before .before .before .before .before .before .before .before .key .kept, c .before .before .before .before .before .before .before .before .before .before .before .before .before .before .before .before .before .before .before .before .before .before .before .before .before .before .before .before .before .copy .kept))
-    (prop-returns t)
+    (λ c. omega (arith, c .before .before .copy3 .kept, c .before .before .before .before .before .before .before .before .before .before .before .view .kept, c .before .before .before .before .before .before .before .before .before .before .before .before .before .before .before .before .before .before .before .before .before .before .key .kept, c .before .before .before .before .before .before .before .before .before .before .before .before .before .before .before .before .before .before .before .before .before .before .before .before .before .before .before .before .before .copy2 .kept))
+    (λ c. omega (arith, c .before .before .copy3 .kept, c .before .before .before .before .before .before .before .before .before .before .before .view .kept, c .before .before .before .before .before .before .before .before .before .before .before .before .before .before .before .before .before .before .before .before .before .before .key .kept, c .before .before .before .before .before .before .before .before .before .before .before .before .before .before .before .before .before .before .before .before .before .before .before .before .before .before .before .before .before .copy2 .kept))
+    (λ c. omega (arith, c .before .before .copy3 .kept, c .before .before .before .before .before .before .before .before .before .before .before .view .kept, c .before .before .before .before .before .before .before .before .before .before .before .before .before .before .before .before .before .before .before .before .before .before .key .kept, c .before .before .before .before .before .before .before .before .before .before .before .before .before .before .before .before .before .before .before .before .before .before .before .before .before .before .before .before .before .copy2 .kept))
+    (prop-returns-2 t)
 
 ps-spec : {M : Type 1} (t : ℕ) → cycle.Lts-ps.Closed (ps-claims t) (at-measure ps.Kinds.ps μ-ps ps.Reads.Pre t) ps.Reads.Post M
 ps-spec t = cycle.Lts-ps.spec (ps-claims t) (at-measure ps.Kinds.ps μ-ps ps.Reads.Pre t) ps.Reads.Post
@@ -2695,15 +2709,19 @@ vl-spec t = cycle.Lts-vl.spec (vl-claims t) (at-measure vl.Kinds.ps μ-vl vl.Rea
     (λ c κs. tt)
     (λ c κs. tt)
     (λ c κs. tt)
-    (λ c κs. tt)
-    (λ c κs. tt)
-    (λ c κs. (omega (arith, c .before .before .before .before .before .before .before .before .before .before .before .before .pre .0, c .before .before .before .before .before .before .before .less .ensures, c .under .ensures .1), tt))
-    (λ c κs. tt)
-    (λ c κs. tt)
-    (λ c. omega (arith, c .before .before .before .before .before .before .before .before .deep .kept))
-    (λ c. omega (arith, c .before .before .before .before .before .before .before .before .deep .kept))
-    (λ c. omega (arith, c .before .before .before .before .before .before .before .before .deep .kept))
     (vl-returns t)
+    (λ c κs. tt)
+    (λ c κs. tt)
+    (λ c κs. tt)
+    (λ c κs. tt)
+    (λ c κs. tt)
+    (λ c κs. (omega (arith, c .before .before .before .before .before .before .before .before .before .before .before .before .before .before .pre .0, c .before .before .before .before .before .before .before .less .ensures, c .under .ensures .1), tt))
+    (λ c κs. tt)
+    (λ c κs. tt)
+    (λ c. omega (arith, c .before .before .before .before .before .before .before .before .deep .kept))
+    (λ c. omega (arith, c .before .before .before .before .before .before .before .before .deep .kept))
+    (λ c. omega (arith, c .before .before .before .before .before .before .before .before .deep .kept))
+    (vl-returns-2 t)
 
 vo-spec : {M : Type 1} (t : ℕ) → cycle.Lts-vo.Closed (vo-claims t) (at-measure vo.Kinds.ps μ-vo vo.Reads.Pre t) vo.Reads.Post M
 vo-spec t = cycle.Lts-vo.spec (vo-claims t) (at-measure vo.Kinds.ps μ-vo vo.Reads.Pre t) vo.Reads.Post

@@ -16,7 +16,7 @@ loop-holds : tie.Need-loop-holds Inv-loop μ-loop
 loop-holds c = law.keys-start _ _ _ _ _ (c .before .list .ensures) (c .none2 .ensures)
 
 loop-again : tie.Need-loop-again Inv-loop μ-loop
-loop-again c = law.keys-more _ _ _ _ _ _ _ _ _ _ _ (c .before .before .before .loop-test .taken) (c .before .before .item-keys .ensures) (c .skip-item .ensures) (c .before .both .ensures) (c .before .before .before .before .loop .inv)
+loop-again c = law.keys-more _ _ _ _ _ _ _ _ _ _ (c .before .before .loop-test .taken) (c .before .with-key .ensures) (c .skip-item .ensures) (c .before .before .before .loop .inv)
 
 returns-2 : tie.Need-returns-2 Inv-loop μ-loop
 returns-2 c = law.keys-end _ _ _ _ _ _ _ _ (c .loop-test .left) (c .before .loop .inv)
@@ -33,7 +33,6 @@ keys-spec =
     (λ c κs. tt)
     (λ c κs. tt)
     loop-holds
-    (λ c κs. tt)
     (λ c κs. tt)
     (λ c κs. tt)
     (λ c. omega arith)

@@ -16,6 +16,7 @@ use Rattle.walk.specs.Turns.{overAll}
 use Rattle.walk.proofs.Opened.{kind-byte}
 use Rattle.walk.proofs.Emits.{good-none}
 use Rattle.walk.proofs.Hands as law
+use Rattle.walk.proofs.QuietValues as quiets
 use Prim.Native.Nat.{ℕ}
 use borrow.Fn.PlainCycle.{Measures}
 use Rattle.tree.proofs.Cycle.{at-measure, below-measure}
@@ -31,6 +32,7 @@ use Rattle.walk.proofs.hand.object.Reads as object-reads
 use Rattle.walk.proofs.hand.replaces.Reads as replaces-reads
 use Rattle.tree.proofs.bytes.peek.Reads as peek-reads
 use Rattle.tree.proofs.bytes.wide_at.Reads as wide-at-reads
+use Rattle.tree.proofs.skip.quiet.Reads as quiet-reads
 use Rattle.tree.proofs.skip.skip.Reads as skip-reads
 use Rattle.tree.proofs.skip.skip_item.Reads as skip-item-reads
 use Rattle.tree.proofs.skip.step.Reads as step-reads
@@ -61,7 +63,7 @@ abbrev over-values-claims : ℕ → cycle.Lts-over_values.Claims
 over-values-claims t = (below-measure over-value.Kinds.ps μ-over-value over-value.Reads.Pre t, over-value.Reads.Post, skip-reads.Asked, skip-reads.Learnt)
 
 abbrev over-value-claims : ℕ → cycle.Lts-over_value.Claims
-over-value-claims t = (less-reads.Asked, less-reads.Learnt, step-reads.Asked, step-reads.Learnt, skip-reads.Asked, skip-reads.Learnt, peek-reads.Asked, peek-reads.Learnt, below-measure over.Kinds.ps μ-over over.Reads.Pre t, over.Reads.Post)
+over-value-claims t = (quiet-reads.Asked, quiet-reads.Learnt, less-reads.Asked, less-reads.Learnt, step-reads.Asked, step-reads.Learnt, skip-reads.Asked, skip-reads.Learnt, below-measure over.Kinds.ps μ-over over.Reads.Pre t, over.Reads.Post)
 
 abbrev over-object-claims : ℕ → cycle.Lts-over_object.Claims
 over-object-claims t = (step-reads.Asked, step-reads.Learnt, less-reads.Asked, less-reads.Learnt, wide-at-reads.Asked, wide-at-reads.Learnt, below-measure over-values.Kinds.ps μ-over-values over-values.Reads.Pre t, over-values.Reads.Post, replaces-reads.Asked, replaces-reads.Learnt, object-reads.Asked, object-reads.Learnt)
@@ -144,13 +146,10 @@ over-value-returns : (t : ℕ) → cycle.Lts-over_value.Need-returns (over-value
 over-value-returns t c = (refl, λ o g k. good-none _ _ _ (c .if1 .taken) g)
 
 over-value-returns-2 : (t : ℕ) → cycle.Lts-over_value.Need-returns-2 (over-value-claims t) (at-measure over-value.Kinds.ps μ-over-value over-value.Reads.Pre t) over-value.Reads.Post
-over-value-returns-2 t c = (
-  refl,
-  λ o g k. law.value-does _ _ _ _ _ _ _ _ (c .before .before .before .before .less .ensures) (c .before .before .before .step .ensures) (c .before .before .skip .ensures) (λ h. law.leaf-does _ _ _ _ _ _ (c .before .peek .ensures .value) (λ y. absurd (omega (arith, c .if2 .taken))) (λ y. absurd (omega (arith, c .if2 .taken))) (λ y. absurd (omega (arith, c .if2 .taken))) h) g k,
-)
+over-value-returns-2 t c = (refl, λ o g k. quiets.all-quiet _ _ _ _ _ _ (c .before .quiet .ensures) (c .if2 .taken) g)
 
 over-value-returns-3 : (t : ℕ) → cycle.Lts-over_value.Need-returns-3 (over-value-claims t) (at-measure over-value.Kinds.ps μ-over-value over-value.Reads.Pre t) over-value.Reads.Post
-over-value-returns-3 t c = (c .before .before .before .before .over .ensures .0, λ o g k. law.value-does _ _ _ _ _ _ _ _ (c .before .before .before .before .before .before .before .before .before .before .before .less .ensures) (c .before .before .before .before .before .before .before .before .before .before .step .ensures) (c .before .before .before .before .before .before .before .before .before .skip .ensures) (c .before .before .before .before .over .ensures .1 o) g k)
+over-value-returns-3 t c = (c .before .before .before .before .over .ensures .0, λ o g k. law.value-does _ _ _ _ _ _ _ _ (c .before .before .before .before .before .before .before .before .before .less .ensures) (c .before .before .before .before .before .before .before .before .step .ensures) (c .before .before .before .before .before .before .before .skip .ensures) (c .before .before .before .before .over .ensures .1 o) g k)
 
 abbrev over-values-Inv-loop : cycle.Lts-over_values.InvT-loop
 over-values-Inv-loop t list₀ work₀ left first count mode u₀ n₀ p₀ list work u n p =
@@ -250,11 +249,11 @@ pub +over+over-array+over-item+over-items+over-object+over-value+over-values-spe
     (λ t. cycle.Lts-over_value.spec (over-value-claims t) (at-measure over-value.Kinds.ps μ-over-value over-value.Reads.Pre t) over-value.Reads.Post
     (over-value-returns t)
     (λ c κs. tt)
-    (λ c κs. tt)
-    (λ c κs. tt)
-    (λ c κs. tt)
     (over-value-returns-2 t)
-    (λ c κs. (omega (arith, c .before .before .before .before .before .before .before .before .before .before .before .pre .0, c .before .before .before .before .before .before .less .ensures, c .before .before .before .before .before .before .before .if1 .left), tt))
+    (λ c κs. tt)
+    (λ c κs. tt)
+    (λ c κs. tt)
+    (λ c κs. (omega (arith, c .before .before .before .before .before .before .before .before .before .before .before .pre .0, c .before .before .before .before .less .ensures, c .before .before .before .before .before .before .before .if1 .left), tt))
     (λ c. search needs)
     (λ c. search needs)
     (over-value-returns-3 t))

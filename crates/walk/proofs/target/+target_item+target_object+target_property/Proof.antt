@@ -9,6 +9,7 @@ use Rattle.walk.specs.Run.{goingOf}
 use Rattle.walk.proofs.Emits.{good-none}
 use Rattle.walk.proofs.Lookups.{denied, undenied}
 use Rattle.walk.proofs.TargetWalk as law
+use Rattle.walk.proofs.QuietValues as quiets
 use borrow.Fn.PlainCycle.{Measures}
 use Rattle.tree.proofs.Cycle.{at-measure, below-measure}
 use Rattle.walk.proofs.target.target_item as target-item
@@ -21,6 +22,7 @@ use Rattle.walk.proofs.walk.Walk.listed2.Reads as listed2-reads
 use Rattle.walk.proofs.walk.Walk.listed_temporary.Reads as listed-temporary-reads
 use Rattle.tree.proofs.bytes.peek.Reads as peek-reads
 use Rattle.tree.proofs.bytes.wide_at.Reads as wide-at-reads
+use Rattle.tree.proofs.skip.quiet.Reads as quiet-reads
 use Rattle.tree.proofs.skip.skip.Reads as skip-reads
 use Rattle.tree.proofs.skip.skip_item.Reads as skip-item-reads
 use Rattle.tree.proofs.skip.step.Reads as step-reads
@@ -42,7 +44,7 @@ abbrev object-claims : ℕ → cycle.Lts-target_object.Claims
 object-claims t = (has-second-reads.Asked, has-second-reads.Learnt, counts-reads.Asked, counts-reads.Learnt, listed2-reads.Asked, listed2-reads.Learnt, listed-temporary-reads.Asked, listed-temporary-reads.Learnt, step-reads.Asked, step-reads.Learnt, wide-at-reads.Asked, wide-at-reads.Learnt, below-measure target-property.Kinds.ps μ-property target-property.Reads.Pre t, target-property.Reads.Post, skip-reads.Asked, skip-reads.Learnt)
 
 abbrev property-claims : ℕ → cycle.Lts-target_property.Claims
-property-claims t = (step-reads.Asked, step-reads.Learnt, skip-reads.Asked, skip-reads.Learnt, peek-reads.Asked, peek-reads.Learnt, below-measure target-object.Kinds.ps μ-object target-object.Reads.Pre t, target-object.Reads.Post, enters-reads.Asked, enters-reads.Learnt, wide-at-reads.Asked, wide-at-reads.Learnt, below-measure target-item.Kinds.ps μ-item target-item.Reads.Pre t, target-item.Reads.Post, skip-item-reads.Asked, skip-item-reads.Learnt)
+property-claims t = (quiet-reads.Asked, quiet-reads.Learnt, step-reads.Asked, step-reads.Learnt, skip-reads.Asked, skip-reads.Learnt, peek-reads.Asked, peek-reads.Learnt, below-measure target-object.Kinds.ps μ-object target-object.Reads.Pre t, target-object.Reads.Post, enters-reads.Asked, enters-reads.Learnt, wide-at-reads.Asked, wide-at-reads.Learnt, below-measure target-item.Kinds.ps μ-item target-item.Reads.Pre t, target-item.Reads.Post, skip-item-reads.Asked, skip-item-reads.Learnt)
 
 -- ---- an item, or any target
 
@@ -121,10 +123,13 @@ abbrev property-μ-loop : cycle.Lts-target_property.MeasureT-loop
 property-μ-loop t list₀ work₀ left at below x kind q u₀ n₀ p₀ list work u n p = n
 
 property-returns : (t : ℕ) → cycle.Lts-target_property.Need-returns (property-claims t) (at-measure target-property.Kinds.ps μ-property target-property.Reads.Pre t) target-property.Reads.Post property-Inv-loop property-μ-loop
-property-returns t c = (refl, λ o g k. law.property-none _ _ _ _ (c .if1 .taken) g k)
+property-returns t c = (refl, λ o g k. quiets.reach-quiet _ _ _ _ _ _ (c .before .quiet .ensures) (c .if1 .taken) g)
 
 property-returns-2 : (t : ℕ) → cycle.Lts-target_property.Need-returns-2 (property-claims t) (at-measure target-property.Kinds.ps μ-property target-property.Reads.Pre t) target-property.Reads.Post property-Inv-loop property-μ-loop
-property-returns-2 t c = (refl, λ o g k. law.property-by _ _ _ _ _ _ (c .before .before .before .before .before .step .ensures) (c .before .before .before .before .skip .ensures) (law.array-passed _ _ _ _ _ _ refl (c .before .before .before .peek .ensures .value) (c .before .before .match .keys2) (denied _ _ (c .before .enters .ensures) (c .if2 .taken))) g k)
+property-returns-2 t c = (refl, λ o g k. law.property-none _ _ _ _ (c .if2 .taken) g k)
+
+property-returns-3 : (t : ℕ) → cycle.Lts-target_property.Need-returns-3 (property-claims t) (at-measure target-property.Kinds.ps μ-property target-property.Reads.Pre t) target-property.Reads.Post property-Inv-loop property-μ-loop
+property-returns-3 t c = (refl, λ o g k. law.property-by _ _ _ _ _ _ (c .before .before .before .before .before .step .ensures) (c .before .before .before .before .skip .ensures) (law.array-passed _ _ _ _ _ _ refl (c .before .before .before .peek .ensures .value) (c .before .before .match .keys2) (denied _ _ (c .before .enters .ensures) (c .if3 .taken))) g k)
 
 property-loop-holds : (t : ℕ) → cycle.Lts-target_property.Need-loop-holds (property-claims t) (at-measure target-property.Kinds.ps μ-property target-property.Reads.Pre t) target-property.Reads.Post property-Inv-loop property-μ-loop
 property-loop-holds t c = (refl, refl, refl, λ o. law.items-start _ _ _ _ _ _ (c .before .before .step2 .ensures) (c .before .wide-at .ensures) (c .step3 .ensures))
@@ -137,17 +142,17 @@ property-loop-again t c = (
   λ o. law.items-more _ _ _ _ _ _ (c .before .before .before .before .before .before .before .before .loop-test .taken) (c .skip-item .ensures) (c .before .before .before .before .before .before .before .before .before .loop .inv .3 o) (c .before .before .before .before .before .target-item .ensures .1 o),
 )
 
-property-returns-3 : (t : ℕ) → cycle.Lts-target_property.Need-returns-3 (property-claims t) (at-measure target-property.Kinds.ps μ-property target-property.Reads.Pre t) target-property.Reads.Post property-Inv-loop property-μ-loop
-property-returns-3 t c = (c .before .before .before .before .target-object .ensures .0, λ o g k. law.property-by _ _ _ _ _ _ (c .before .before .before .before .before .before .before .before .before .before .step .ensures) (c .before .before .before .before .before .before .before .before .before .skip .ensures) (law.by-object _ _ _ _ _ _ refl (c .before .before .before .before .before .before .before .before .peek .ensures .value) (c .before .before .before .before .before .before .before .match .keys1) (c .before .before .before .before .target-object .ensures .1 o)) g k)
-
 property-returns-4 : (t : ℕ) → cycle.Lts-target_property.Need-returns-4 (property-claims t) (at-measure target-property.Kinds.ps μ-property target-property.Reads.Pre t) target-property.Reads.Post property-Inv-loop property-μ-loop
-property-returns-4 t c = (c .before .loop .inv .2, λ o g k. law.property-by _ _ _ _ _ _ (c .before .before .before .before .before .before .before .before .before .before .step .ensures) (c .before .before .before .before .before .before .before .before .before .skip .ensures) (law.items-end _ _ _ _ _ _ refl (c .before .before .before .before .before .before .before .before .peek .ensures .value) _ _ (c .before .before .before .before .before .before .before .match .keys2) (undenied _ _ (c .before .before .before .before .before .before .enters .ensures) (c .before .before .before .before .before .if2 .left)) (c .loop-test .left) (c .before .loop .inv .3 o)) g k)
+property-returns-4 t c = (c .before .before .before .before .target-object .ensures .0, λ o g k. law.property-by _ _ _ _ _ _ (c .before .before .before .before .before .before .before .before .before .before .step .ensures) (c .before .before .before .before .before .before .before .before .before .skip .ensures) (law.by-object _ _ _ _ _ _ refl (c .before .before .before .before .before .before .before .before .peek .ensures .value) (c .before .before .before .before .before .before .before .match .keys1) (c .before .before .before .before .target-object .ensures .1 o)) g k)
 
 property-returns-5 : (t : ℕ) → cycle.Lts-target_property.Need-returns-5 (property-claims t) (at-measure target-property.Kinds.ps μ-property target-property.Reads.Pre t) target-property.Reads.Post property-Inv-loop property-μ-loop
-property-returns-5 t c = (c .before .before .before .before .target-item2 .ensures .0, λ o g k. law.property-by _ _ _ _ _ _ (c .before .before .before .before .before .before .before .before .before .before .before .step .ensures) (c .before .before .before .before .before .before .before .before .before .before .skip .ensures) (law.by-default _ _ _ _ _ _ refl (c .before .before .before .before .before .before .before .before .before .peek .ensures .value) _ (c .before .before .before .before .before .before .before .before .match .keys3) (c .before .before .before .before .before .step4 .ensures) (c .before .before .before .before .target-item2 .ensures .1 o)) g k)
+property-returns-5 t c = (c .before .loop .inv .2, λ o g k. law.property-by _ _ _ _ _ _ (c .before .before .before .before .before .before .before .before .before .before .step .ensures) (c .before .before .before .before .before .before .before .before .before .skip .ensures) (law.items-end _ _ _ _ _ _ refl (c .before .before .before .before .before .before .before .before .peek .ensures .value) _ _ (c .before .before .before .before .before .before .before .match .keys2) (undenied _ _ (c .before .before .before .before .before .before .enters .ensures) (c .before .before .before .before .before .if3 .left)) (c .loop-test .left) (c .before .loop .inv .3 o)) g k)
 
 property-returns-6 : (t : ℕ) → cycle.Lts-target_property.Need-returns-6 (property-claims t) (at-measure target-property.Kinds.ps μ-property target-property.Reads.Pre t) target-property.Reads.Post property-Inv-loop property-μ-loop
-property-returns-6 t c = (refl, λ o g k. law.property-by _ _ _ _ _ _ (c .before .before .before .step .ensures) (c .before .before .skip .ensures) (law.by-leaf _ _ _ _ _ _ refl (c .before .peek .ensures .value) (c .match .rest .0 .0 .1) (c .match .rest .0 .1) (c .match .rest .1)) g k)
+property-returns-6 t c = (c .before .before .before .before .target-item2 .ensures .0, λ o g k. law.property-by _ _ _ _ _ _ (c .before .before .before .before .before .before .before .before .before .before .before .step .ensures) (c .before .before .before .before .before .before .before .before .before .before .skip .ensures) (law.by-default _ _ _ _ _ _ refl (c .before .before .before .before .before .before .before .before .before .peek .ensures .value) _ (c .before .before .before .before .before .before .before .before .match .keys3) (c .before .before .before .before .before .step4 .ensures) (c .before .before .before .before .target-item2 .ensures .1 o)) g k)
+
+property-returns-7 : (t : ℕ) → cycle.Lts-target_property.Need-returns-7 (property-claims t) (at-measure target-property.Kinds.ps μ-property target-property.Reads.Pre t) target-property.Reads.Post property-Inv-loop property-μ-loop
+property-returns-7 t c = (refl, λ o g k. law.property-by _ _ _ _ _ _ (c .before .before .before .step .ensures) (c .before .before .skip .ensures) (law.by-leaf _ _ _ _ _ _ refl (c .before .peek .ensures .value) (c .match .rest .0 .0 .1) (c .match .rest .0 .1) (c .match .rest .1)) g k)
 
 pub +target-item+target-object+target-property-spec : {M : Type 1} → cycle.statement M
 +target-item+target-object+target-property-spec =
@@ -213,32 +218,34 @@ pub +target-item+target-object+target-property-spec : {M : Type 1} → cycle.sta
     λ t. cycle.Lts-target_property.spec (property-claims t) (at-measure target-property.Kinds.ps μ-property target-property.Reads.Pre t) target-property.Reads.Post
     property-Inv-loop
     property-μ-loop
+    (λ c κs. tt)
     (property-returns t)
-    (λ c. omega (arith, c .if1 .left))
-    (λ c κs. tt)
-    (λ c κs. tt)
-    (λ c κs. tt)
-    (λ c κs. (omega (arith, c .before .before .before .before .before .before .before .before .before .before .pre .0, c .before .before .before .before .before .before .if1 .left), tt))
-    (λ c κs. tt)
     (property-returns-2 t)
+    (λ c. omega (arith, c .if2 .left))
+    (λ c κs. tt)
+    (λ c κs. tt)
+    (λ c κs. tt)
+    (λ c κs. (omega (arith, c .before .before .before .before .before .before .before .before .before .before .before .before .pre .0, c .before .before .before .before .before .before .if2 .left), tt))
+    (λ c κs. tt)
+    (property-returns-3 t)
     (λ c κs. tt)
     (λ c κs. tt)
     (λ c κs. tt)
     (property-loop-holds t)
-    (λ c κs. (omega (arith, c .before .before .before .before .before .before .before .before .before .before .before .before .before .before .before .before .before .pre .0, c .before .before .before .before .before .before .before .before .before .before .before .before .before .if1 .left), tt))
+    (λ c κs. (omega (arith, c .before .before .before .before .before .before .before .before .before .before .before .before .before .before .before .before .before .before .before .pre .0, c .before .before .before .before .before .before .before .before .before .before .before .before .before .if2 .left), tt))
     (λ c κs. tt)
     (λ c. omega (arith, c .before .before .before .before .before .before .before .before .loop-test .taken))
     (λ c. omega (arith, c .before .before .before .before .before .before .before .before .loop-test .taken))
     (property-loop-again t)
     (λ c κs. tt)
-    (λ c κs. (omega (arith, c .before .before .before .before .before .before .before .before .before .before .before .pre .0, c .before .before .before .before .before .before .before .if1 .left), tt))
+    (λ c κs. (omega (arith, c .before .before .before .before .before .before .before .before .before .before .before .before .before .pre .0, c .before .before .before .before .before .before .before .if2 .left), tt))
     (λ c. search needs)
     (λ c. search needs)
-    (property-returns-3 t)
+    (property-returns-4 t)
     (λ c. c .before .loop .inv .0)
     (λ c. c .before .loop .inv .1)
-    (property-returns-4 t)
-    (λ c. search needs)
-    (λ c. search needs)
     (property-returns-5 t)
+    (λ c. search needs)
+    (λ c. search needs)
     (property-returns-6 t)
+    (property-returns-7 t)
