@@ -224,8 +224,8 @@ module _ (t : List ℕ) where
 
   -- without a rest: its values
   pub object-plain : {g g′ : Going} (c : Place) (d at u : ℕ) (mode : deeps.Deep) (r : reaches.Reach) (b : Bool) → mode ≡ Reached r → b ≡ eqb (byteAt t (onward t at 1) / 2 % 2) 1 → b ≡ false
-      → (byteAt t at ≡ 34 → Good t d at → AllSuit (modes.Value mode) (properties (lookNode t d at .value))
-      → (u ≡ lookItems t (lookNode t (d - 1)) false (wideAt t (onward t at 2)) (onward t (onward t at 2) 2) .next) × Does g g′ (turnsOf (modes.Value mode) c (properties (lookNode t d at .value))))
+      → (byteAt t at ≡ 34 → Good t d at → AllSuit (modes.Value (Reached r)) (properties (lookNode t d at .value))
+      → (u ≡ lookItems t (lookNode t (d - 1)) false (wideAt t (onward t at 2)) (onward t (onward t at 2) 2) .next) × Does g g′ (turnsOf (modes.Value (Reached r)) c (properties (lookNode t d at .value))))
       → byteAt t at ≡ 34 → Deep d at u mode c g g′
   unfolding itemsAt pieceIn
   object-plain c zero at u mode r b m bit bare values k good suit = no-good t at good
@@ -234,13 +234,12 @@ module _ (t : List ℕ) where
       let whole = o .plain (sym bit ∙ bare) in
       let ps : Items = lookItems t (lookNode t d) false (wideAt t (onward t at 2)) (onward t (onward t at 2) 2) .value in
       let these : ps ≡ properties (lookNode t (suc d) at .value) = ap (λ (y : Seen Node). properties (y .value)) (sym whole) in
-      let fit : AllSuit (modes.Value mode) ps = subst (λ (x : deeps.Deep). AllSuit (modes.Value x) ps) (sym m)
-      (suit-values r at ps (absent done) (o .properties) (ap₂ (λ (x : deeps.Deep) (y : Seen Node). deepSuits x (y .value)) (sym m) (sym whole) ∙ suit)) in
-      let done = values k good (subst (λ (is : Items). AllSuit (modes.Value mode) is) these fit) in
+      let fit : AllSuit (modes.Value (Reached r)) ps = suit-values r at ps (absent done) (o .properties) (ap₂ (λ (x : deeps.Deep) (y : Seen Node). deepSuits x (y .value)) (sym m) (sym whole) ∙ suit) in
+      let done = values k good (subst (λ (is : Items). AllSuit (modes.Value (Reached r)) is) these fit) in
       let below : suc d - 1 ≡ d = omega arith in (
         done .0 ∙ ap (λ (m : ℕ). lookItems t (lookNode t m) false (wideAt t (onward t at 2)) (onward t (onward t at 2) 2) .next) below ∙ ap (λ (y : Seen Node). y .next) (sym whole),
         does-as (done .1)
-            (ap₂ (λ (x : deeps.Deep) (is : Items). turnsOf (modes.Value x) c is) m (sym these)
+            (ap (λ (is : Items). turnsOf (modes.Value (Reached r)) c is) (sym these)
             ∙ sym (turn-object r c at ps)
             ∙ ap₂ (λ (x : deeps.Deep) (y : Seen Node). deepOf x c (y .value)) (sym m) (sym whole)),
       )
