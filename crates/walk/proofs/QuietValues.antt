@@ -30,7 +30,8 @@ use Rattle.direct.proofs.PatternViews.{keptKey-is}
 use Rattle.direct.proofs.Targets.{replaced-nothing}
 use Rattle.walk.specs.Run.{Going, Does}
 use Rattle.walk.specs.Whole.{Good, Emitted}
-use Rattle.walk.specs.Modes as modes
+use Rattle.walk.specs.declared.views.View as views
+use Rattle.walk.specs.declared.hand.Own.{Own}
 use Rattle.walk.specs.Turns.{viewOf, ownOf, overAll}
 use Rattle.walk.proofs.Running.{does-nothing, does-as}
 use Rattle.walk.proofs.Opened.{property-open, no-good}
@@ -156,7 +157,7 @@ pub found-none : (c : Place) (p : Node) → Simple p → emitsFound c p ≡ say 
 unfolding emitsFound emitsItems
 found-none c p s = ap (emitsItems false (inner c)) (nested-none (contextOf c) (depth p) p s)
 
-all-none : (mode v : ℕ) (p : Node) → Simple p → overAll mode v p ≡ say []
+all-none : (mode : Own) (v : views.View) (p : Node) → Simple p → overAll mode v p ≡ say []
 unfolding overAll overObjects inTurn
 all-none mode v p s = ap (inTurn (ownOf mode)) (objects-in nameless (viewOf v) p s)
 
@@ -182,7 +183,7 @@ module _ (t : List ℕ) where
   pub simple-value : (d at : ℕ) (b : Bool) → b ≡ quietAt t at → b ≡ true → Good t d at → Simple (value (lookNode t d at .value))
   simple-value d at b e h good = node-at 1 (lookNode t d at .value) (simple-here d at b e h good)
 
-  pub all-quiet : {g : Going} (mode v d at : ℕ) (b : Bool) → b ≡ quietAt t at → b ≡ true → Good t d at → Does g g (overAll mode v (value (lookNode t d at .value)))
+  pub all-quiet : {g : Going} (mode : Own) (v : views.View) (d at : ℕ) (b : Bool) → b ≡ quietAt t at → b ≡ true → Good t d at → Does g g (overAll mode v (value (lookNode t d at .value)))
   all-quiet {g = g} mode v d at b e h good = does-as (does-nothing g) (sym (all-none mode v (value (lookNode t d at .value)) (simple-value d at b e h good)))
 
   pub reach-quiet : {g : Going} (f : Node → Emit) (r : Reach) (d at : ℕ) (b : Bool) → b ≡ quietAt t at → b ≡ true → Good t d at → Does g g (overReached f r (value (lookNode t d at .value)))

@@ -1246,7 +1246,7 @@ turn-returns-10 : (t : ℕ) → cycle.Lts-turn.Need-returns-10 (turn-claims t) (
 turn-returns-10 t c = told.item-own _ _ _ _ _ _ _ _ _ _ (ap isTold (c .before .before .before .before .before .before .before .before .before .before .enum-told6 .given .1) ∙ told.untold-binding) (turning.turned-binding _ _ _ _ _ _ _ (⊎-elim (λ w. law.no-hole _ _ _ _ (w .0 .taken) (w .1 .ensures) (w .2 .left)) (λ w. law.full _ _ _ (w .left)) (c .before .before .before .before .before .before .before .before .before .before .before .before .if1 .came)) (c .before .before .before .before .before .before .before .before .before .before .enum-told6 .given .1) (c .before .before .before .before .before .before .bi .ensures))
 
 vl-returns : (t : ℕ) → cycle.Lts-vl.Need-returns (vl-claims t) (at-measure vl.Kinds.ps μ-vl vl.Reads.Pre t) vl.Reads.Post
-vl-returns t c k good deep suit = finding.value-quiet _ _ _ _ _ _ _ _ (c .before .before .before .quiet .ensures) (c .before .before .if1 .taken) (c .before .skip .ensures) (c .to .ensures .1) (c .to .ensures .0 _ _ _) good deep
+vl-returns t c k good suit = finding.value-quiet _ _ _ _ _ _ _ _ (c .before .before .before .quiet .ensures) (c .before .before .if1 .taken) (c .before .skip .ensures) (c .to .ensures .1) (c .to .ensures .0 _ _ _) good
 
 vl-returns-2 : (t : ℕ) → cycle.Lts-vl.Need-returns-2 (vl-claims t) (at-measure vl.Kinds.ps μ-vl vl.Reads.Pre t) vl.Reads.Post
 vl-returns-2 t c = finding.value-done _ _ _ _ _ _ _ _ _ _ _ _ _ _ (c .before .before .before .before .before .before .before .before .before .before .before .before .before .before .before .before .less .ensures) (c .before .before .before .before .before .before .before .before .before .before .before .before .before .before .before .step .ensures) (c .before .before .before .before .before .before .before .before .before .before .before .before .before .before .skip2 .ensures) (c .before .before .before .before .before .before .before .before .before .before .before .before .before .to2 .ensures .1) (c .before .before .before .before .before .before .before .before .before .before .before .before .before .to2 .ensures .0 _ _ _) (c .before .before .before .before .before .before .before .before .before .under .ensures .1) (told.with-same _ (c .before .before .before .before .before .before .before .before .before .under .ensures .0)) (c .before .before .before .before .before .before .before .before .deep .ensures) (c .before .step2 .ensures) (c .to3 .ensures .1) (c .to3 .ensures .0 _ _ _)
