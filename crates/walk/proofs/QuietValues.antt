@@ -32,6 +32,7 @@ use Rattle.walk.specs.Run.{Going, Does}
 use Rattle.walk.specs.Whole.{Good, Emitted}
 use Rattle.walk.specs.declared.views.View as views
 use Rattle.walk.specs.declared.hand.Own.{Own}
+use Rattle.walk.specs.declared.look.KeyClass.the-variants.{AsString}
 use Rattle.walk.specs.Turns.{viewOf, ownOf, overAll}
 use Rattle.walk.proofs.Running.{does-nothing, does-as}
 use Rattle.walk.proofs.Opened.{property-open, no-good}
@@ -195,7 +196,7 @@ module _ (t : List ℕ) where
   static-key zero at s k es ek z e35 good = no-good t _ (property-open t zero at good e35 .key)
   static-key (suc d) at s k es ek z e35 good =
       ap (λ (n : Seen Node). isOther (key (n .value))) (property-open t (suc d) at good e35 .whole)
-      ∙ sym (other-is (lookNode t (suc d) (onward t at 2) .value) 1 (static-class t (suc d) (onward t at 2) k (omega arith) (ek ∙ ap (λ (x : ℕ). byteAt t x) es) z))
+      ∙ sym (other-is (lookNode t (suc d) (onward t at 2) .value) AsString AsString (static-class t (suc d) (onward t at 2) k (omega arith) (ek ∙ ap (λ (x : ℕ). byteAt t x) es) z) refl)
 
   pub property-quiet : {g g′ : Going} (c : Place) (d at s k q z : ℕ) (taken b : Bool) → b ≡ quietAt t at → b ≡ true → s ≡ onward t at 2 → k ≡ byteAt t s → k ≡ 38 → q ≡ lookNode t d at .next → z ≡ q
       → Does g g′ (say (puts (part at q t))) → byteAt t at ≡ 35 → Emitted t d at z g g′ (emitsProperty c taken replacing)

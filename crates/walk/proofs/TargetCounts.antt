@@ -29,7 +29,6 @@ use Rattle.pattern.proofs.CountsFit.{limited-below}
 use Rattle.direct.specs.Objects.{Reach, counts, enters, reachedAt, reached, reachedIn}
 use Rattle.direct.specs.Objects.Reach.{anywhere}
 use Rattle.direct.proofs.Reached.{reached-nothing, reached-levels}
-use Rattle.walk.specs.Modes as modes
 use Rattle.walk.specs.Turns.{reachOf, valuesCount}
 use Rattle.walk.specs.declared.reaches.Reach as reaches
 use Rattle.walk.specs.declared.reaches.Reach.the-variants.{Anywhere}
