@@ -61,7 +61,9 @@ static void measure(const char *path, double seconds) {
         joining[calls++] = timed_join(got.tree_len, got.list_len, &after);
     } while (calls < CALLS && now() - begin < seconds * 1e9);
     if (got.answer || after.answer) exit(1);
-    printf("%s %zu %zu %zu %d %.1f %.1f\n", name, len, got.tree_len, got.list_len, list[0] + 256 * list[1], low(lowering, calls), low(joining, calls));
+    int entries = list[0] + 256 * list[1];
+    printf("%s %zu %zu %zu %d ", name, len, got.tree_len, got.list_len, entries);
+    printf("%.1f %.1f\n", low(lowering, calls), low(joining, calls));
 }
 
 static void wide(uint8_t *to, size_t n) {
