@@ -116,7 +116,7 @@ fn item(tree: &[u8], at: usize, w: usize) -> usize
 }
 
 // What stands next in a task that is not done.
-pub(crate) fn look(tree: &[u8], at: usize, top: usize) -> usize
+pub fn look(tree: &[u8], at: usize, top: usize) -> usize
     ensures { λ r. ⌜ (isClosed top ≡ false → Ahead (now (tree .entry)) at (restOf top) (λ frames deep. comingAt (now (tree .entry)) frames at deep top) r) ⌝ }
 {
     if top % 2 == 0 {
@@ -126,7 +126,7 @@ pub(crate) fn look(tree: &[u8], at: usize, top: usize) -> usize
 }
 
 // Nothing is left of a task.
-pub(crate) fn is_closed(top: usize) -> bool
+pub fn is_closed(top: usize) -> bool
     ensures { λ r. ⌜ r ≡ isClosed top ⌝ }
 {
     if top % 2 == 0 {
@@ -136,7 +136,7 @@ pub(crate) fn is_closed(top: usize) -> bool
 }
 
 // What is left of a task after its next field or item.
-pub(crate) fn rest_of(top: usize) -> usize
+pub fn rest_of(top: usize) -> usize
     ensures { λ r. ⌜ r ≡ restOf top ⌝ }
 {
     let w = top / 2;

@@ -23,7 +23,7 @@ pub fn begin() -> Cursor
 }
 
 // A frame, 0 where there is none.
-pub(crate) fn frame_at(frames: &[usize], i: usize) -> usize
+pub fn frame_at(frames: &[usize], i: usize) -> usize
     ensures { λ r. ⌜ r ≡ getD (now (frames .entry)) i 0 ⌝ }
 {
     if i < frames.len() { frames[i] } else { 0 }
@@ -69,7 +69,7 @@ fn begun(frames: &mut [usize], end: usize, deep: usize, rest: usize, top: usize)
 }
 
 // Where the tour stands after what `look` found.
-pub(crate) fn moved(
+pub fn moved(
     tree: &[u8],
     frames: &mut [usize],
     at: usize,

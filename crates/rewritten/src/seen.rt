@@ -58,7 +58,7 @@ pub fn note(seen: &mut [u8], e: Event)
 }
 
 // Whether what `look` found is no mark that was met.
-pub(crate) fn is_new_ahead(seen: &[u8], what: usize) -> bool
+pub fn is_new_ahead(seen: &[u8], what: usize) -> bool
     ensures { λ r. ⌜ r ≡ newFor (now (seen .entry)) (what % 16) (what / 16) ⌝ }
 {
     if what % 16 == 4 {
@@ -71,7 +71,7 @@ pub(crate) fn is_new_ahead(seen: &[u8], what: usize) -> bool
 }
 
 // A mark that `look` found is noted.
-pub(crate) fn note_ahead(seen: &mut [u8], what: usize)
+pub fn note_ahead(seen: &mut [u8], what: usize)
     ensures { λ _. ⌜ now (seen .exit) ≡ notedFor (now (seen .entry)) (what % 16) (what / 16) ⌝ }
 {
     if what % 16 == 4 {
