@@ -40,7 +40,7 @@ fn container(kind: usize) -> usize
 }
 
 // The last of the containers' lists; the item of one that has just begun, else 0.
-pub struct Bodies {
+struct Bodies {
     pub latest: usize,
     pub begun: usize,
 }
@@ -135,13 +135,13 @@ fn add(
 }
 
 // The last of the containers' lists; or the bytes are no rewritten tree.
-pub enum Found {
+pub(crate) enum Found {
     Latest(usize),
     NoTree,
 }
 
 // The tree is read and toured at once. Right if enough is lent of each table.
-pub fn collect(
+pub(crate) fn collect(
     tree: &[u8],
     frames: &mut [usize],
     seen: &mut [u8],

@@ -14,7 +14,7 @@ ghost use Rattle.joining.specs.Files.{Notes};
 ghost use Rattle.joining.specs.Entries.{runDeclarators, runHead, runList, Listed, Ends, Within, IfAt};
 
 // Where something ends; or it is off its layout, or has a mark that was met before.
-pub enum Ending {
+pub(crate) enum Ending {
     At(usize),
     Missing,
 }
@@ -84,7 +84,7 @@ fn entries(list: &[u8], frames: &mut [usize], seen: &mut [u8], ends: &mut [u16])
 }
 
 // The whole list. Returns where the excluded keys begin.
-pub fn read(list: &[u8], frames: &mut [usize], seen: &mut [u8], ends: &mut [u16]) -> Ending
+pub(crate) fn read(list: &[u8], frames: &mut [usize], seen: &mut [u8], ends: &mut [u16]) -> Ending
     ensures { λ r. ⌜ ((met : List ℕ) → Notes (now (seen .entry)) met → 16384 ≤ length (now (frames .entry)) → 16384 ≤ length (now (ends .entry)) → Ends r (now (seen .exit)) (runList (now (list .entry)) met) × IfAt r (Listed (now (list .entry)) (now (ends .exit)) (wideAt (now (list .entry)) 0) 2)) ⌝ }
 {
     if 16384 < list.len() {

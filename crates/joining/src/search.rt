@@ -5,13 +5,13 @@ ghost use mathlib.Core.Path.{_≡_};
 ghost use Rattle.joining.specs.Tables.{searched};
 
 // The list of a container and the statement in it, or 0 and 0.
-pub struct Place {
+pub(crate) struct Place {
     pub list: usize,
     pub statement: usize,
 }
 
 // From the last container back to the first, and in each from its last statement on back: the statement that has the mark.
-pub fn search(
+pub(crate) fn search(
     tree: &[u8],
     earlier: &[u16],
     holds: &[u16],

@@ -15,7 +15,7 @@ fn bump(counts: &mut [u16], i: usize)
 }
 
 // Whether every entry's mark is found. How many statements are new in a list goes into `more`, before a statement into `held`.
-pub fn settle(
+pub(crate) fn settle(
     tree: &[u8],
     list: &[u8],
     earlier: &[u16],

@@ -4,7 +4,7 @@ ghost use Prim.Native.Nat.{ℕ, _<_};
 ghost use lib.ListN.{length, getD};
 ghost use Rattle.joining.specs.Tables.{backward, stored};
 
-pub fn at(table: &[u16], i: usize) -> usize
+pub(crate) fn at(table: &[u16], i: usize) -> usize
     ensures { λ r. ⌜ (r ≡ getD (now (table .entry)) i 0) × (r < 65536) ⌝ }
 {
     if i < table.len() {
@@ -15,7 +15,7 @@ pub fn at(table: &[u16], i: usize) -> usize
 }
 
 // The entry at i, if it is a position before it; else 0.
-pub fn back(table: &[u16], i: usize) -> usize
+pub(crate) fn back(table: &[u16], i: usize) -> usize
     ensures { λ r. ⌜ (r ≡ backward (now (table .entry)) i) × (0 < i → r < i) ⌝ }
 {
     let n = at(table, i);
@@ -23,7 +23,7 @@ pub fn back(table: &[u16], i: usize) -> usize
 }
 
 // A number of 16 bits; a greater one is not put.
-pub fn put(table: &mut [u16], i: usize, n: usize)
+pub(crate) fn put(table: &mut [u16], i: usize, n: usize)
     ensures { λ _. ⌜ now (table .exit) ≡ stored (now (table .entry)) i n ⌝ }
 {
     if n < 65536 {
@@ -34,7 +34,7 @@ pub fn put(table: &mut [u16], i: usize, n: usize)
 }
 
 // Every entry 0.
-pub fn clear(table: &mut [u16])
+pub(crate) fn clear(table: &mut [u16])
     ensures { λ _. ⌜ (length (now (table .exit)) ≡ length (now (table .entry))) × ((x : ℕ) → getD (now (table .exit)) x 0 ≡ 0) ⌝ }
 {
     let mut i = table.len();

@@ -11,13 +11,13 @@ ghost use Rattle.tree.specs.Read.{wideAt};
 ghost use Rattle.joining.specs.Writing.{Copied, Calm, Quiet, part, declared, freeAfter, varBytes, varLast, varsBytes, varsLast, beforeBytes, beforeLast, stepBytes, stepLast, stepSkips, restBytes, headBytes, headLast, wholeBytes};
 
 // Where the next byte goes, and the last mark that was given.
-pub struct Spot {
+struct Spot {
     pub at: usize,
     pub mark: usize,
 }
 
 // The next mark that is not taken.
-pub fn fresh(seen: &[u8], mark: usize) -> usize
+fn fresh(seen: &[u8], mark: usize) -> usize
     ensures { λ r. ⌜ r ≡ freeAfter (now (seen .entry)) mark ⌝ }
 {
     let mut m = mark;
@@ -346,7 +346,7 @@ fn rest(
 }
 
 // The whole tree; where it ends, one byte past the slice at most.
-pub fn write(
+pub(crate) fn write(
     tree: &[u8],
     list: &[u8],
     excluded: usize,

@@ -18,7 +18,7 @@ ghost use Rattle.pattern.specs.Tally.{limited};
 ghost use Rattle.pattern.specs.Declarators.{made, itemCount, declaratorRefusal, itemRefusal};
 
 // The declarators of the objects that were counted: keys, pattern, rest.
-pub fn made(t: Tally) -> usize
+fn made(t: Tally) -> usize
     ensures { λ r. ⌜ r ≡ made t ⌝ }
 {
     tally::plus(tally::plus(t.temporaries, t.patterns), t.objects)
@@ -60,7 +60,7 @@ pub fn is_lowered(tree: &[u8], left: usize, at: usize) -> bool
 }
 
 // How many declarators a declarator becomes.
-pub fn becomes(tree: &[u8], left: usize, at: usize) -> usize
+fn becomes(tree: &[u8], left: usize, at: usize) -> usize
     ensures { λ r. ⌜ ((c : Context) → r ≡ limited (count (declarators c (lookNode (now (tree .entry)) left at .value)))) ⌝ }
 {
     if is_lowered(tree, left, at) {
@@ -76,7 +76,7 @@ pub fn becomes(tree: &[u8], left: usize, at: usize) -> usize
 }
 
 // The same of an item of a list; a hole is none.
-pub fn item_becomes(tree: &[u8], holes: bool, left: usize, at: usize) -> usize
+fn item_becomes(tree: &[u8], holes: bool, left: usize, at: usize) -> usize
     ensures { λ r. ⌜ ((c : Context) → r ≡ itemCount c (now (tree .entry)) holes left at) ⌝ }
 {
     if holes {
@@ -109,7 +109,7 @@ pub fn declaration_becomes(tree: &[u8], left: usize, at: usize) -> usize
 }
 
 // The first refusal at the keys of the objects whose rest a declarator lowers.
-pub fn refusal(tree: &[u8], left: usize, at: usize) -> u8
+fn refusal(tree: &[u8], left: usize, at: usize) -> u8
     ensures { λ r. ⌜ ((c : Context) → r ≡ declaratorRefusal c (lookNode (now (tree .entry)) left at .value)) ⌝ }
 {
     if is_lowered(tree, left, at) {
@@ -120,7 +120,7 @@ pub fn refusal(tree: &[u8], left: usize, at: usize) -> u8
 }
 
 // The same of an item of a list; a hole has none.
-pub fn item_refusal(tree: &[u8], holes: bool, left: usize, at: usize) -> u8
+fn item_refusal(tree: &[u8], holes: bool, left: usize, at: usize) -> u8
     ensures { λ r. ⌜ ((c : Context) → r ≡ itemRefusal c (now (tree .entry)) holes left at) ⌝ }
 {
     if holes {

@@ -220,7 +220,7 @@ fn counted(excluded: usize, temporaries: usize, computed: usize, refusal: u8) ->
 }
 
 // What a key adds to the counts.
-pub fn key_counts(k: Key) -> Tally
+fn key_counts(k: Key) -> Tally
     ensures { λ r. ⌜ r ≡ keyCounts k ⌝ }
 {
     match k {
@@ -237,7 +237,7 @@ pub fn key_counts(k: Key) -> Tally
 }
 
 // What the key of a property adds; a hole adds nothing.
-pub fn item_keys(tree: &[u8], holes: bool, left: usize, at: usize) -> Tally
+fn item_keys(tree: &[u8], holes: bool, left: usize, at: usize) -> Tally
     ensures { λ r. ⌜ r ≡ itemKeys (now (tree .entry)) holes left at ⌝ }
 {
     if holes {
@@ -284,7 +284,7 @@ fn with_key(t: Tally, tree: &[u8], holes: bool, left: usize, at: usize) -> Tally
 }
 
 // The counts of all keys of the object pattern at a position.
-pub fn keys(tree: &[u8], left: usize, at: usize) -> Tally
+pub(crate) fn keys(tree: &[u8], left: usize, at: usize) -> Tally
     ensures { λ r. ⌜ r ≡ keysOf (lookNode (now (tree .entry)) left at .value) ⌝ }
 {
     if left == 0 {

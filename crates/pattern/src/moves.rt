@@ -13,7 +13,7 @@ ghost use Rattle.pattern.specs.Tally.{limited};
 ghost use Rattle.pattern.specs.Moves.{movedBelow};
 
 // Out of a pattern.
-pub fn moved(tree: &[u8], left: usize, at: usize) -> usize
+fn moved(tree: &[u8], left: usize, at: usize) -> usize
     ensures { λ r. ⌜ r ≡ limited (count (movedBelow (lookNode (now (tree .entry)) left at .value))) ⌝ }
 {
     if left == 0 {

@@ -90,7 +90,7 @@ fn hexadecimal(v: usize) -> Spelling
 }
 
 // What a text is.
-pub fn spelled(text: &[u8]) -> Spelling
+pub(crate) fn spelled(text: &[u8]) -> Spelling
     ensures { λ r. ⌜ r ≡ spelledAs (now (text .entry)) ⌝ }
 {
     let n = text.len();

@@ -39,7 +39,7 @@ pub struct Run {
 }
 
 // The code of field i in a row.
-pub fn code_at(row: usize, i: usize) -> usize
+fn code_at(row: usize, i: usize) -> usize
     ensures { λ r. ⌜ sortOf r ≡ sortAt (fieldsIn row) i ⌝ }
 {
     let mut r = row;
@@ -52,7 +52,7 @@ pub fn code_at(row: usize, i: usize) -> usize
 }
 
 // What a field of a code holds at a position.
-pub fn held(tree: &[u8], code: usize, at: usize) -> Part
+fn held(tree: &[u8], code: usize, at: usize) -> Part
     ensures { λ r. ⌜ r ≡ partOf (now (tree .entry)) (sortOf code) at ⌝ }
 {
     let class = code / 32;
@@ -75,7 +75,7 @@ pub fn held(tree: &[u8], code: usize, at: usize) -> Part
 }
 
 // The text at a position, where its bytes end at the latest with the tree.
-pub fn text(tree: &[u8], at: usize) -> Part
+pub(crate) fn text(tree: &[u8], at: usize) -> Part
     ensures { λ r. ⌜ r ≡ textOf (now (tree .entry)) at ⌝ }
 {
     let from = skip::step(tree, at, 2);
@@ -87,7 +87,7 @@ pub fn text(tree: &[u8], at: usize) -> Part
 }
 
 // Field i of the node at a position.
-pub fn field(tree: &[u8], left: usize, at: usize, i: usize) -> Part
+pub(crate) fn field(tree: &[u8], left: usize, at: usize, i: usize) -> Part
     ensures { λ r. ⌜ r ≡ partAt (now (tree .entry)) left at i ⌝ }
 {
     if left == 0 {
@@ -134,7 +134,7 @@ pub fn child(tree: &[u8], left: usize, at: usize, i: usize) -> Place
 }
 
 // The key of the property at a position.
-pub fn key(tree: &[u8], left: usize, at: usize) -> Place
+pub(crate) fn key(tree: &[u8], left: usize, at: usize) -> Place
     ensures { λ r. ⌜ r ≡ placeOf left at (partAt (now (tree .entry)) left at 0) ⌝ }
 {
     if 0 < left {

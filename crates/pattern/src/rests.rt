@@ -39,7 +39,7 @@ fn itself(empty: bool) -> Tally
 }
 
 // What the object pattern at a position adds itself: nothing, if it has no rest.
-pub fn own(tree: &[u8], left: usize, at: usize) -> Tally
+fn own(tree: &[u8], left: usize, at: usize) -> Tally
     ensures { λ r. ⌜ r ≡ ownTally (lookNode (now (tree .entry)) left at .value) ⌝ }
 {
     if parts::stands(tree, left, at, 1) {
@@ -52,7 +52,7 @@ pub fn own(tree: &[u8], left: usize, at: usize) -> Tally
 }
 
 // All that are found. Array rests are not searched, and no value is entered that is no pattern by its kind.
-pub fn rests(tree: &[u8], left: usize, at: usize) -> Tally
+pub(crate) fn rests(tree: &[u8], left: usize, at: usize) -> Tally
     ensures { λ r. ⌜ ((c : Context) → r ≡ restsTally c (lookNode (now (tree .entry)) left at .value)) ⌝ }
 {
     if left == 0 {
@@ -98,7 +98,7 @@ pub fn rests(tree: &[u8], left: usize, at: usize) -> Tally
 }
 
 // How many objects with rest stand below a pattern.
-pub fn objects_below(tree: &[u8], left: usize, at: usize) -> usize
+fn objects_below(tree: &[u8], left: usize, at: usize) -> usize
     ensures { λ r. ⌜ ((c : Context) → r ≡ limited (count (objectsBelow c (lookNode (now (tree .entry)) left at .value)))) ⌝ }
 {
     let t = rests(tree, left, at);

@@ -5,7 +5,7 @@ ghost use Rattle.lowering.specs.Parts.{orElse};
 ghost use Rattle.pattern.specs.Tally.{limited, zero, both};
 
 // What is counted of keys, and of objects with rest.
-pub struct Tally {
+pub(crate) struct Tally {
     // Entries among the excluded keys.
     pub excluded: usize,
     // Key temporaries.
@@ -32,7 +32,7 @@ pub fn plus(a: usize, b: usize) -> usize
 }
 
 // The first of two refusals.
-pub fn first(a: u8, b: u8) -> u8
+pub(crate) fn first(a: u8, b: u8) -> u8
     ensures { λ r. ⌜ r ≡ orElse a b ⌝ }
 {
     if a == 0 {
@@ -41,7 +41,7 @@ pub fn first(a: u8, b: u8) -> u8
     a
 }
 
-pub fn none() -> Tally
+pub(crate) fn none() -> Tally
     ensures { λ r. ⌜ r ≡ zero ⌝ }
 {
     Tally {
@@ -54,7 +54,7 @@ pub fn none() -> Tally
     }
 }
 
-pub fn both(a: Tally, b: Tally) -> Tally
+pub(crate) fn both(a: Tally, b: Tally) -> Tally
     ensures { λ r. ⌜ r ≡ both a b ⌝ }
 {
     Tally {

@@ -12,7 +12,7 @@ ghost use Rattle.rewritten.specs.Steps.{closingIn};
 ghost use Rattle.printer.specs.Logged.{toldIn};
 
 // The entry of what `look` found at a position.
-pub fn ahead(at: usize, what: usize) -> usize
+pub(crate) fn ahead(at: usize, what: usize) -> usize
     ensures { λ r. ⌜ ((tree : List ℕ) → at < 65534 → (what % 16 ≡ 3 → what / 16 < 65536) → what % 16 < 8 → toldIn tree r ≡ eventFor tree at (what % 16) (what / 16)) ⌝ }
 {
     let code = what % 16;
@@ -30,14 +30,14 @@ pub fn ahead(at: usize, what: usize) -> usize
 }
 
 // That of the end of a task.
-pub fn closing(top: usize) -> usize
+pub(crate) fn closing(top: usize) -> usize
     ensures { λ r. ⌜ ((tree : List ℕ) → toldIn tree r ≡ closingIn (eqb (top % 2) 0)) ⌝ }
 {
     if top % 2 == 0 { 8 } else { 9 }
 }
 
 // One entry more.
-pub fn keep(log: &mut [usize], i: usize, v: usize)
+pub(crate) fn keep(log: &mut [usize], i: usize, v: usize)
     ensures { λ _. ⌜ now (log .exit) ≡ set (now (log .entry)) i v ⌝ }
 {
     if i < log.len() {
@@ -46,7 +46,7 @@ pub fn keep(log: &mut [usize], i: usize, v: usize)
 }
 
 // The event of an entry.
-pub fn told(tree: &[u8], v: usize) -> Event
+pub(crate) fn told(tree: &[u8], v: usize) -> Event
     ensures { λ r. ⌜ r ≡ toldIn (now (tree .entry)) v ⌝ }
 {
     let n = v / 16;

@@ -6,7 +6,7 @@ ghost use Rattle.printer.specs.Stacks.{frameIn, nextIn, packedFrame};
 
 // The node's kind, bit map and byte; the word that stands behind it; what was noted of it; the bits of its fields still
 // to come; and 1 if this is a list of the node.
-pub struct Frame {
+pub(crate) struct Frame {
     pub kind: usize,
     pub map: usize,
     pub note: usize,
@@ -30,7 +30,7 @@ fn lowest_far(bits: usize) -> usize
 }
 
 // The same; most nodes have few fields.
-pub fn lowest(bits: usize) -> usize
+pub(crate) fn lowest(bits: usize) -> usize
     ensures { λ r. ⌜ (r ≡ lowest bits) × (r ≤ bits) ⌝ }
 {
     if bits % 2 == 1 {
@@ -62,7 +62,7 @@ fn without_far(bits: usize) -> usize
 }
 
 // The same.
-pub fn without(bits: usize) -> usize
+fn without(bits: usize) -> usize
     ensures { λ r. ⌜ (r ≡ without bits) × (r ≤ bits) ⌝ }
 {
     if bits % 2 == 1 {
@@ -81,7 +81,7 @@ pub fn without(bits: usize) -> usize
 }
 
 // The next field is done, and this is noted.
-pub fn noting(f: Frame, seen: usize) -> Frame
+pub(crate) fn noting(f: Frame, seen: usize) -> Frame
     ensures { λ r. ⌜ r ≡ noting f seen ⌝ }
 {
     let rem = without(f.rem);
@@ -96,13 +96,13 @@ pub fn noting(f: Frame, seen: usize) -> Frame
     }
 }
 
-pub fn past(f: Frame) -> Frame
+pub(crate) fn past(f: Frame) -> Frame
     ensures { λ r. ⌜ r ≡ past f ⌝ }
 {
     noting(f, f.seen)
 }
 
-pub fn item_seen(f: Frame, seen: usize) -> Frame
+pub(crate) fn item_seen(f: Frame, seen: usize) -> Frame
     ensures { λ r. ⌜ r ≡ itemSeen f seen ⌝ }
 {
     Frame {
@@ -116,7 +116,7 @@ pub fn item_seen(f: Frame, seen: usize) -> Frame
     }
 }
 
-pub fn listed(f: Frame) -> Frame
+pub(crate) fn listed(f: Frame) -> Frame
     ensures { λ r. ⌜ r ≡ listed f ⌝ }
 {
     Frame {
@@ -130,7 +130,7 @@ pub fn listed(f: Frame) -> Frame
     }
 }
 
-pub fn unlisted(f: Frame, n: usize) -> Frame
+pub(crate) fn unlisted(f: Frame, n: usize) -> Frame
     ensures { λ r. ⌜ r ≡ unlisted f n ⌝ }
 {
     if f.kind == 4 {
@@ -143,7 +143,7 @@ pub fn unlisted(f: Frame, n: usize) -> Frame
 }
 
 // A frame and the place of the next quasi, as one number.
-pub fn pack(f: Frame, next: usize) -> usize
+pub(crate) fn pack(f: Frame, next: usize) -> usize
     ensures { λ r. ⌜ r ≡ packedFrame f next ⌝ }
 {
     let a = f.list % 2 + 2 * (f.how % 128 + 128 * (next % 16777216));
@@ -151,7 +151,7 @@ pub fn pack(f: Frame, next: usize) -> usize
     f.kind % 64 + 64 * (f.map % 256 + 256 * (f.note % 256 + 256 * b))
 }
 
-pub fn frame_in(v: usize) -> Frame
+pub(crate) fn frame_in(v: usize) -> Frame
     ensures { λ r. ⌜ r ≡ frameIn v ⌝ }
 {
     let a = v / 64;
@@ -171,7 +171,7 @@ pub fn frame_in(v: usize) -> Frame
     }
 }
 
-pub fn next_in(v: usize) -> usize
+pub(crate) fn next_in(v: usize) -> usize
     ensures { λ r. ⌜ r ≡ nextIn v ⌝ }
 {
     v / 64 / 256 / 256 / 256 / 4 / 2 / 128 % 16777216

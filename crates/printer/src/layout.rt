@@ -112,25 +112,25 @@ fn manners(kind: usize) -> usize
     }
 }
 
-pub fn head(kind: usize) -> usize
+pub(crate) fn head(kind: usize) -> usize
     ensures { λ r. ⌜ r ≡ headOf kind ⌝ }
 {
     row(kind) % 128
 }
 
-pub fn tail(kind: usize) -> usize
+pub(crate) fn tail(kind: usize) -> usize
     ensures { λ r. ⌜ r ≡ tailOf kind ⌝ }
 {
     row(kind) / 128 % 128
 }
 
-pub fn close(kind: usize) -> usize
+pub(crate) fn close(kind: usize) -> usize
     ensures { λ r. ⌜ r ≡ closeOf kind ⌝ }
 {
     row(kind) / 16384 % 128
 }
 
-pub fn lead(kind: usize, field: usize) -> usize
+pub(crate) fn lead(kind: usize, field: usize) -> usize
     ensures { λ r. ⌜ r ≡ leadOf kind field ⌝ }
 {
     if 5 < field {
@@ -139,7 +139,7 @@ pub fn lead(kind: usize, field: usize) -> usize
     (row(kind) >> (21 + 7 * field)) % 128
 }
 
-pub fn manner(kind: usize, field: usize) -> usize
+pub(crate) fn manner(kind: usize, field: usize) -> usize
     ensures { λ r. ⌜ r ≡ mannerOf kind field ⌝ }
 {
     if 5 < field {
@@ -168,7 +168,7 @@ fn gap_rest(seen: usize, map: usize) -> usize
 }
 
 // A word by its number; from 100 on it is chosen by the node's byte, its bit map, what was noted, and method form.
-pub fn choose_by(own: usize, note: usize, map: usize, seen: usize, method: usize) -> usize
+pub(crate) fn choose_by(own: usize, note: usize, map: usize, seen: usize, method: usize) -> usize
     ensures { λ r. ⌜ r ≡ chosenWord own note map seen method ⌝ }
 {
     if own < 100 {
@@ -200,7 +200,7 @@ pub fn choose_by(own: usize, note: usize, map: usize, seen: usize, method: usize
 }
 
 // The same; most words are named.
-pub fn choose(own: usize, note: usize, map: usize, seen: usize, method: usize) -> usize
+pub(crate) fn choose(own: usize, note: usize, map: usize, seen: usize, method: usize) -> usize
     ensures { λ r. ⌜ r ≡ chosenWord own note map seen method ⌝ }
 {
     if own < 100 {

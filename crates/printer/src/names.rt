@@ -6,7 +6,7 @@ ghost use lib.ListN.{length, getD, take, drop};
 ghost use Rattle.printer.specs.Names.{nameBytes, entryIn, mayBegin, mayFollow, allFollow, bare, ruleBits};
 
 // Entry b is two bits, 2 (b mod 4) and the next of byte b div 4: whether b may stand in the first place, and in later ones.
-pub const NAME_BYTES: [u8; 64] = [
+const NAME_BYTES: [u8; 64] = [
     0,
     0,
     0,
@@ -108,7 +108,7 @@ fn all_follow(table: &[u8], tree: &[u8], from: usize, end: usize) -> bool
 }
 
 // A name that is left bare: it has a byte, and each byte may stand where it does.
-pub fn bare(tree: &[u8], at: usize, n: usize) -> bool
+pub(crate) fn bare(tree: &[u8], at: usize, n: usize) -> bool
     ensures { λ r. ⌜ r ≡ bare (take n (drop at (now (tree .entry)))) ⌝ }
 {
     let end = out::end_of(tree, at, n);

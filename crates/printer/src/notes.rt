@@ -13,7 +13,7 @@ ghost use Rattle.printer.specs.Turns.{numberAfter};
 ghost use Rattle.printer.specs.Noted.{numbersIn, notedIn, Notable, Marked};
 
 // How many nodes are open, and how many have begun.
-pub struct Noting {
+pub(crate) struct Noting {
     pub level: usize,
     pub number: usize,
 }
@@ -71,7 +71,7 @@ fn byte(stack: &[usize], notes: &mut [u8], s: Noting, b: usize) -> Noting
 }
 
 // What `look` found.
-pub fn ahead(stack: &mut [usize], notes: &mut [u8], s: Noting, what: usize) -> Noting
+pub(crate) fn ahead(stack: &mut [usize], notes: &mut [u8], s: Noting, what: usize) -> Noting
     ensures { λ r. ⌜ ((tree : List ℕ) (at : ℕ) → Notable (now (stack .entry)) (now (notes .entry)) s (eventFor tree at (what % 16) (what / 16)) → Marked (now (stack .exit)) (now (notes .exit)) s r (machine.note (notedIn (now (stack .entry)) (now (notes .entry)) s) (eventIn tree (eventFor tree at (what % 16) (what / 16)))) (numberAfter (eventFor tree at (what % 16) (what / 16)) (s .number))) ⌝ }
 {
     let code = what % 16;
@@ -85,7 +85,7 @@ pub fn ahead(stack: &mut [usize], notes: &mut [u8], s: Noting, what: usize) -> N
 }
 
 // The end of a task.
-pub fn closed(s: Noting, top: usize) -> Noting
+pub(crate) fn closed(s: Noting, top: usize) -> Noting
     ensures { λ r. ⌜ ((tree stack notes : List ℕ) → Marked stack notes s r (machine.note (notedIn stack notes s) (eventIn tree (closingIn (eqb (top % 2) 0)))) (numberAfter (closingIn (eqb (top % 2) 0)) (s .number))) ⌝ }
 {
     if top % 2 == 0 {

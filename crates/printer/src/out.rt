@@ -10,7 +10,7 @@ ghost use Rattle.printer.specs.Stacks.{put, write, bufferIn, bytesIn, En
 
 // How many bytes are written, and 1 if there are more than fit, else 0. A number: a struct with a `bool` has unused bytes,
 // and they are copied in pieces, which takes half the time of a call.
-pub struct Spot {
+pub(crate) struct Spot {
     pub len: usize,
     pub over: usize,
 }
@@ -21,7 +21,7 @@ fn wide(b: u8) -> usize
     b as usize
 }
 
-pub fn put(out: &mut [u8], spot: Spot, b: u8) -> Spot
+pub(crate) fn put(out: &mut [u8], spot: Spot, b: u8) -> Spot
     ensures { λ r. ⌜ bufferIn (now (out .exit)) r ≡ put (bufferIn (now (out .entry)) spot) b ⌝ }
 {
     let len = spot.len;
@@ -53,7 +53,7 @@ fn put_digits(out: &mut [u8], spot: Spot, digits: usize) -> Spot
 }
 
 // A word by its number; one of fewer than eight bytes is in the first number.
-pub fn say(out: &mut [u8], spot: Spot, id: usize) -> Spot
+pub(crate) fn say(out: &mut [u8], spot: Spot, id: usize) -> Spot
     ensures { λ r. ⌜ bufferIn (now (out .exit)) r ≡ write (bufferIn (now (out .entry)) spot) (word id) ⌝ }
 {
     let w = words::low(id);
@@ -66,7 +66,7 @@ pub fn say(out: &mut [u8], spot: Spot, id: usize) -> Spot
 }
 
 // The same, where most words are 0 or 50, which is nothing: those are not called for.
-pub fn say_any(out: &mut [u8], spot: Spot, id: usize) -> Spot
+pub(crate) fn say_any(out: &mut [u8], spot: Spot, id: usize) -> Spot
     ensures { λ r. ⌜ bufferIn (now (out .exit)) r ≡ write (bufferIn (now (out .entry)) spot) (word id) ⌝ }
 {
     if id == 0 {
@@ -79,7 +79,7 @@ pub fn say_any(out: &mut [u8], spot: Spot, id: usize) -> Spot
 }
 
 // Where n bytes from a position on end, or the tree does.
-pub fn end_of(tree: &[u8], at: usize, n: usize) -> usize
+pub(crate) fn end_of(tree: &[u8], at: usize, n: usize) -> usize
     ensures { λ r. ⌜ EndIs (now (tree .entry)) at n r ⌝ }
 {
     if tree.len() <= at {
@@ -92,7 +92,7 @@ pub fn end_of(tree: &[u8], at: usize, n: usize) -> usize
 }
 
 // Bytes of the tree as they are.
-pub fn copy(tree: &[u8], at: usize, n: usize, out: &mut [u8], spot: Spot) -> Spot
+pub(crate) fn copy(tree: &[u8], at: usize, n: usize, out: &mut [u8], spot: Spot) -> Spot
     ensures { λ r. ⌜ bufferIn (now (out .exit)) r ≡ write (bufferIn (now (out .entry)) spot) (take n (drop at (now (tree .entry)))) ⌝ }
 {
     let end = end_of(tree, at, n);
@@ -154,7 +154,7 @@ fn copy_escaped(tree: &[u8], at: usize, n: usize, out: &mut [u8], spot: Spot) ->
 }
 
 // Bytes of the tree in double quotes.
-pub fn quote(tree: &[u8], at: usize, n: usize, out: &mut [u8], spot: Spot) -> Spot
+pub(crate) fn quote(tree: &[u8], at: usize, n: usize, out: &mut [u8], spot: Spot) -> Spot
     ensures { λ r. ⌜ bufferIn (now (out .exit)) r ≡ write (bufferIn (now (out .entry)) spot) (inQuotes (take n (drop at (now (tree .entry))))) ⌝ }
 {
     let a = put(out, spot, 34);
@@ -162,7 +162,7 @@ pub fn quote(tree: &[u8], at: usize, n: usize, out: &mut [u8], spot: Spot) -> Sp
     put(out, b, 34)
 }
 
-pub fn decimal(out: &mut [u8], spot: Spot, n: usize) -> Spot
+pub(crate) fn decimal(out: &mut [u8], spot: Spot, n: usize) -> Spot
     ensures { λ r. ⌜ bufferIn (now (out .exit)) r ≡ write (bufferIn (now (out .entry)) spot) (decimal n) ⌝ }
 {
     if n < 10 {

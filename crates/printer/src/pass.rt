@@ -39,7 +39,7 @@ fn begin() -> State
 }
 
 // Right if the entries and the notes are those of the tree, and 16,384 of everything else are lent.
-pub fn print(
+pub(crate) fn print(
     tree: &[u8],
     notes: &[u8],
     log: &[usize],

@@ -10,13 +10,13 @@ ghost use Rattle.printer.specs.Layout.{chosenWord, headOf, tailOf, close
 ghost use Rattle.printer.specs.Places.{fieldIn, mannerIn, isStatement, isWrapped, inMethodForm, wrapping, separator, leading, joining, following, notedAt, begun, computed, around, isQuasis, isFilled, leaves, trailing};
 
 // The manner of the next field.
-pub fn manner_in(f: Frame) -> usize
+fn manner_in(f: Frame) -> usize
     ensures { λ r. ⌜ r ≡ mannerIn f ⌝ }
 {
     layout::manner(f.kind, frame::lowest(f.rem))
 }
 
-pub fn is_statement(kind: usize, note: usize) -> bool
+fn is_statement(kind: usize, note: usize) -> bool
     ensures { λ r. ⌜ r ≡ isStatement kind note ⌝ }
 {
     if 63 < kind {
@@ -30,7 +30,7 @@ pub fn is_statement(kind: usize, note: usize) -> bool
 }
 
 // An expression that is not a name or literal.
-pub fn is_wrapped(kind: usize, note: usize) -> bool
+fn is_wrapped(kind: usize, note: usize) -> bool
     ensures { λ r. ⌜ r ≡ isWrapped kind note ⌝ }
 {
     if 63 < kind {
@@ -44,7 +44,7 @@ pub fn is_wrapped(kind: usize, note: usize) -> bool
 }
 
 // 1 in method form, else 0.
-pub fn method(p: Frame, kind: usize, map: usize) -> usize
+fn method(p: Frame, kind: usize, map: usize) -> usize
     ensures { λ r. ⌜ r ≡ inMethodForm p kind map ⌝ }
 {
     if manner_in(p) == 12 {
@@ -60,7 +60,7 @@ pub fn method(p: Frame, kind: usize, map: usize) -> usize
 }
 
 // 1 in parentheses, else 0.
-pub fn wrapping(p: Frame, kind: usize, map: usize, note: usize) -> usize
+pub(crate) fn wrapping(p: Frame, kind: usize, map: usize, note: usize) -> usize
     ensures { λ r. ⌜ (r ≡ wrapping p kind map note) × (r ≤ 1) ⌝ }
 {
     if method(p, kind, map) == 0 {
@@ -71,14 +71,14 @@ pub fn wrapping(p: Frame, kind: usize, map: usize, note: usize) -> usize
     0
 }
 
-pub fn parenthesis(wrapped: usize) -> usize
+pub(crate) fn parenthesis(wrapped: usize) -> usize
     ensures { λ r. ⌜ r ≡ cond (eqb wrapped 1) 64 0 ⌝ }
 {
     if wrapped == 1 { 64 } else { 0 }
 }
 
 // What parts an item from the one before.
-pub fn separator(p: Frame) -> usize
+pub(crate) fn separator(p: Frame) -> usize
     ensures { λ r. ⌜ r ≡ separator p ⌝ }
 {
     let m = manner_in(p);
@@ -94,7 +94,7 @@ pub fn separator(p: Frame) -> usize
 }
 
 // What leads the next field.
-pub fn lead_word(f: Frame, method: usize) -> usize
+pub(crate) fn lead_word(f: Frame, method: usize) -> usize
     ensures { λ r. ⌜ r ≡ chosenWord (leadOf (f .kind) (fieldIn f)) (f .note) (f .map) (f .seen) method ⌝ }
 {
     layout::choose_by(
@@ -106,7 +106,7 @@ pub fn lead_word(f: Frame, method: usize) -> usize
     )
 }
 
-pub fn leading(p: Frame, kind: usize, map: usize) -> usize
+pub(crate) fn leading(p: Frame, kind: usize, map: usize) -> usize
     ensures { λ r. ⌜ r ≡ leading p kind map ⌝ }
 {
     if p.list == 1 {
@@ -115,7 +115,7 @@ pub fn leading(p: Frame, kind: usize, map: usize) -> usize
     lead_word(p, method(p, kind, map))
 }
 
-pub fn joining(p: Frame, kind: usize, note: usize) -> usize
+pub(crate) fn joining(p: Frame, kind: usize, note: usize) -> usize
     ensures { λ r. ⌜ r ≡ joining p kind note ⌝ }
 {
     let statement = is_statement(kind, note);
@@ -143,13 +143,13 @@ fn trail(p: Frame, statement: bool) -> usize
     }
 }
 
-pub fn following(p: Frame, kind: usize, map: usize, note: usize) -> usize
+fn following(p: Frame, kind: usize, map: usize, note: usize) -> usize
     ensures { λ r. ⌜ (r ≡ following p kind map note) × (r ≤ 63) ⌝ }
 {
     wrapping(p, kind, map, note) + trail(p, is_statement(kind, note))
 }
 
-pub fn noted_at(p: Frame, kind: usize) -> usize
+fn noted_at(p: Frame, kind: usize) -> usize
     ensures { λ r. ⌜ (r ≡ notedAt p kind) × (r ≤ 2) ⌝ }
 {
     let m = manner_in(p);
@@ -165,7 +165,7 @@ pub fn noted_at(p: Frame, kind: usize) -> usize
     0
 }
 
-pub fn begun(p: Frame, kind: usize, map: usize, note: usize) -> Frame
+pub(crate) fn begun(p: Frame, kind: usize, map: usize, note: usize) -> Frame
     ensures { λ r. ⌜ (r ≡ begun p kind map note) × (r .how ≤ 63) × (r .seen ≤ 2) ⌝ }
 {
     let how = following(p, kind, map, note);
@@ -181,7 +181,7 @@ pub fn begun(p: Frame, kind: usize, map: usize, note: usize) -> Frame
     }
 }
 
-pub fn head_word(p: Frame, kind: usize, map: usize, note: usize) -> usize
+pub(crate) fn head_word(p: Frame, kind: usize, map: usize, note: usize) -> usize
     ensures { λ r. ⌜ r ≡ chosenWord (headOf kind) note map (notedAt p kind) (inMethodForm p kind map) ⌝ }
 {
     layout::choose(
@@ -194,7 +194,7 @@ pub fn head_word(p: Frame, kind: usize, map: usize, note: usize) -> usize
 }
 
 // `[` before a computed key.
-pub fn computed(kind: usize, note: usize) -> usize
+pub(crate) fn computed(kind: usize, note: usize) -> usize
     ensures { λ r. ⌜ r ≡ computed kind note ⌝ }
 {
     if note % 2 == 1 {
@@ -211,20 +211,20 @@ pub fn computed(kind: usize, note: usize) -> usize
     0
 }
 
-pub fn tail_word(f: Frame) -> usize
+pub(crate) fn tail_word(f: Frame) -> usize
     ensures { λ r. ⌜ r ≡ chosenWord (tailOf (f .kind)) (f .note) (f .map) (f .seen) 0 ⌝ }
 {
     layout::choose(layout::tail(f.kind), f.note, f.map, f.seen, 0)
 }
 
-pub fn close_word(f: Frame) -> usize
+pub(crate) fn close_word(f: Frame) -> usize
     ensures { λ r. ⌜ r ≡ chosenWord (closeOf (f .kind)) (f .note) (f .map) (f .seen) 0 ⌝ }
 {
     layout::choose(layout::close(f.kind), f.note, f.map, f.seen, 0)
 }
 
 // The parent after a child.
-pub fn around(p: Frame, kind: usize, map: usize) -> Frame
+pub(crate) fn around(p: Frame, kind: usize, map: usize) -> Frame
     ensures { λ r. ⌜ r ≡ around p kind map ⌝ }
 {
     if p.list == 1 {
@@ -236,13 +236,13 @@ pub fn around(p: Frame, kind: usize, map: usize) -> Frame
     frame::noting(p, p.seen)
 }
 
-pub fn is_quasis(l: Frame) -> bool
+pub(crate) fn is_quasis(l: Frame) -> bool
     ensures { λ r. ⌜ r ≡ isQuasis l ⌝ }
 {
     manner_in(l) == 10
 }
 
-pub fn is_filled(l: Frame) -> bool
+pub(crate) fn is_filled(l: Frame) -> bool
     ensures { λ r. ⌜ r ≡ isFilled l ⌝ }
 {
     if manner_in(l) == 6 {
@@ -251,7 +251,7 @@ pub fn is_filled(l: Frame) -> bool
     false
 }
 
-pub fn leaves(l: Frame) -> bool
+pub(crate) fn leaves(l: Frame) -> bool
     ensures { λ r. ⌜ r ≡ leaves l ⌝ }
 {
     let m = manner_in(l);

@@ -17,7 +17,7 @@ ghost use Rattle.printer.specs.Turns.{startOf};
 
 // The innermost frame and its next quasi; how many frames are open around it; how many nodes have begun; how many quasis
 // are held; how much is written.
-pub struct State {
+pub(crate) struct State {
     pub frame: Frame,
     pub next: usize,
     pub level: usize,
@@ -32,7 +32,7 @@ fn wide(b: u8) -> usize
     b as usize
 }
 
-pub fn note_at(notes: &[u8], i: usize) -> usize
+pub(crate) fn note_at(notes: &[u8], i: usize) -> usize
     ensures { λ r. ⌜ (r ≡ getD (now (notes .entry)) i 0) × (r < 256) ⌝ }
 {
     if i < notes.len() {
@@ -41,7 +41,7 @@ pub fn note_at(notes: &[u8], i: usize) -> usize
     0
 }
 
-pub fn number_at(numbers: &[usize], i: usize) -> usize
+pub(crate) fn number_at(numbers: &[usize], i: usize) -> usize
     ensures { λ r. ⌜ r ≡ getD (now (numbers .entry)) i 0 ⌝ }
 {
     if i < numbers.len() {
@@ -118,7 +118,7 @@ fn step_over(starts: &[usize], count: usize, next: usize) -> usize
     next
 }
 
-pub fn next_around(starts: &[usize], p: Frame, count: usize, next: usize) -> usize
+pub(crate) fn next_around(starts: &[usize], p: Frame, count: usize, next: usize) -> usize
     ensures { λ r. ⌜ ((tree sizes : List ℕ) → count < 65536 → r ≡ nextAround p (heldIn tree (now (starts .entry)) sizes count) next) × (count < 65536 → next < 16777216 → r < 16777216) ⌝ }
 {
     if places::is_filled(p) {
@@ -155,7 +155,7 @@ fn left_over(
     s
 }
 
-pub fn left_in(
+pub(crate) fn left_in(
     tree: &[u8],
     starts: &[usize],
     sizes: &[usize],
@@ -173,7 +173,7 @@ pub fn left_in(
     spot
 }
 
-pub fn opening(
+pub(crate) fn opening(
     tree: &[u8],
     starts: &[usize],
     sizes: &[usize],
@@ -196,7 +196,7 @@ pub fn opening(
     out::say_any(text, e, places::computed(kind, note))
 }
 
-pub fn closing(text: &mut [u8], spot: Spot, f: Frame) -> Spot
+pub(crate) fn closing(text: &mut [u8], spot: Spot, f: Frame) -> Spot
     ensures { λ r. ⌜ bufferIn (now (text .exit)) r ≡ write (bufferIn (now (text .entry)) spot) (closing f) ⌝ }
 {
     let a = out::say_any(text, spot, places::tail_word(f));

@@ -12,7 +12,7 @@ ghost use Rattle.printer.specs.Logged.{Recorded};
 
 // One more than there are entries, or 0: no rewritten tree. Right if 16,384 frames, numbers and notes, 65,536 bytes for
 // marks and 32,768 entries are lent.
-pub fn record(
+pub(crate) fn record(
     tree: &[u8],
     frames: &mut [usize],
     seen: &mut [u8],

@@ -302,7 +302,7 @@ fn number_met(text: &mut [u8], s: State, n: usize) -> State
 }
 
 // One event.
-pub fn turn(
+pub(crate) fn turn(
     tree: &[u8],
     notes: &[u8],
     stack: &mut [usize],

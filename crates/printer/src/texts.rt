@@ -90,7 +90,7 @@ fn text_words(tree: &[u8], at: usize, n: usize, text: &mut [u8], spot: Spot, f: 
 }
 
 // A Reference or a Binding is its bytes.
-pub fn text_bytes(tree: &[u8], at: usize, n: usize, text: &mut [u8], spot: Spot, f: Frame) -> Spot
+pub(crate) fn text_bytes(tree: &[u8], at: usize, n: usize, text: &mut [u8], spot: Spot, f: Frame) -> Spot
     ensures { λ r. ⌜ bufferIn (now (text .exit)) r ≡ write (bufferIn (now (text .entry)) spot) (textBytes f (take n (drop at (now (tree .entry))))) ⌝ }
 {
     if f.kind / 2 == 9 {
@@ -100,7 +100,7 @@ pub fn text_bytes(tree: &[u8], at: usize, n: usize, text: &mut [u8], spot: Spot,
 }
 
 // A Literal that is spelled is noted.
-pub fn spelled(tree: &[u8], at: usize, n: usize, f: Frame) -> usize
+pub(crate) fn spelled(tree: &[u8], at: usize, n: usize, f: Frame) -> usize
     ensures { λ r. ⌜ r ≡ spelled f (take n (drop at (now (tree .entry)))) ⌝ }
 {
     if is_empty(tree, at, n) {
@@ -115,7 +115,7 @@ pub fn spelled(tree: &[u8], at: usize, n: usize, f: Frame) -> usize
 }
 
 // A quasi's spelling.
-pub fn is_quasi(f: Frame) -> bool
+pub(crate) fn is_quasi(f: Frame) -> bool
     ensures { λ r. ⌜ r ≡ isQuasi f ⌝ }
 {
     if f.kind == 22 {

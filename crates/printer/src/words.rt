@@ -3,7 +3,7 @@ ghost use mathlib.Core.Path.{_≡_};
 ghost use Rattle.printer.specs.Rows.{lowOf, middleOf, highOf};
 
 // Its first eight bytes.
-pub fn low(id: usize) -> usize
+pub(crate) fn low(id: usize) -> usize
     ensures { λ r. ⌜ r ≡ lowOf id ⌝ }
 {
     match id {
@@ -94,7 +94,7 @@ pub fn low(id: usize) -> usize
 }
 
 // The next eight.
-pub fn middle(id: usize) -> usize
+pub(crate) fn middle(id: usize) -> usize
     ensures { λ r. ⌜ r ≡ middleOf id ⌝ }
 {
     match id {
@@ -116,7 +116,7 @@ pub fn middle(id: usize) -> usize
 }
 
 // The last eight.
-pub fn high(id: usize) -> usize
+pub(crate) fn high(id: usize) -> usize
     ensures { λ r. ⌜ r ≡ highOf id ⌝ }
 {
     match id {

@@ -75,7 +75,7 @@ fn look(tree: &[u8], frames: &mut [usize]) -> bool
 }
 
 // The bytes are a rewritten tree, marks aside, and an object rest is left in it.
-pub fn leftover(tree: &[u8]) -> bool
+pub(crate) fn leftover(tree: &[u8]) -> bool
     ensures { λ r. ⌜ r ≡ leftover (now (tree .entry)) ⌝ }
 {
     let mut frames: [usize; 16384] = [0; 16384];

@@ -60,14 +60,14 @@ ghost use Rattle.walk.specs.declared.views.View.the-variants.{Replacing,
 // ---- over the objects of a pattern
 
 // What is done for an object: its place is made, its keys are made, its excluded keys go out.
-pub enum Own {
+enum Own {
     Place,
     Keys,
     Excluded(bool),
 }
 
 // The objects with rest of a declaration that the view v replaces, inner ones first, and what is done for each by the mode.
-pub fn over(
+fn over(
     w: Walk,
     t: &[u8],
     list: &mut [u8],
@@ -274,7 +274,7 @@ fn object(
 }
 
 // What is done for a property: a temporary is made for a key that wants one, it is listed with its value, the key is excluded.
-pub enum KeyUse {
+enum KeyUse {
     Made,
     Listed,
     Excluded,
@@ -377,7 +377,7 @@ fn exclude_key(w: Walk, t: &[u8], work: &mut [u8], left: usize, at: usize) -> Wa
 }
 
 // The excluded keys of the object pattern at a position, if they go out.
-pub fn exclude(
+fn exclude(
     w: Walk,
     t: &[u8],
     list: &mut [u8],

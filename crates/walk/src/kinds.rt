@@ -1,5 +1,5 @@
 // The kinds of nodes by name: document 01, 'Tree bytes', and request 1 for those from 40 on.
-pub const PROGRAM: usize = 1;
+pub(crate) const PROGRAM: usize = 1;
 
 pub const BLOCK: usize = 2;
 
@@ -9,7 +9,7 @@ pub const DECLARATION: usize = 4;
 
 pub const DECLARATOR: usize = 5;
 
-pub const FOR: usize = 6;
+pub(crate) const FOR: usize = 6;
 
 pub const FOR_IN: usize = 7;
 
@@ -27,11 +27,11 @@ pub const FUNCTION_BODY: usize = 16;
 
 pub const ARROW: usize = 17;
 
-pub const LITERAL: usize = 22;
+pub(crate) const LITERAL: usize = 22;
 
 pub const OBJECT: usize = 24;
 
-pub const SPREAD: usize = 26;
+pub(crate) const SPREAD: usize = 26;
 
 pub const ASSIGNMENT: usize = 27;
 
@@ -41,12 +41,12 @@ pub const CALL: usize = 29;
 
 pub const MEMBER: usize = 30;
 
-pub const PARENTHESISED: usize = 31;
+pub(crate) const PARENTHESISED: usize = 31;
 
 pub const ARRAY: usize = 32;
 
 // Patterns come behind the expressions that may stand in their place.
-pub const LAST_EXPRESSION: usize = 33;
+pub(crate) const LAST_EXPRESSION: usize = 33;
 
 pub const OBJECT_PATTERN: usize = 34;
 
@@ -56,10 +56,10 @@ pub const DEFAULT: usize = 37;
 
 pub const STATIC_KEY: usize = 38;
 
-pub const CLASS: usize = 40;
+pub(crate) const CLASS: usize = 40;
 
-pub const STATIC_BLOCK: usize = 42;
+pub(crate) const STATIC_BLOCK: usize = 42;
 
 pub const SWITCH: usize = 43;
 
-pub const CASE: usize = 44;
+pub(crate) const CASE: usize = 44;

@@ -56,7 +56,7 @@ const NOTHING_PENDING: usize = 1;
 const SOME_PENDING: usize = 2;
 
 // The same after one more property.
-pub fn mode_next(t: &[u8], left: usize, at: usize, mode: usize) -> usize
+fn mode_next(t: &[u8], left: usize, at: usize, mode: usize) -> usize
     ensures { λ r. ⌜ r ≡ modeNext mode (lookNode (now (t .entry)) left at .value) ⌝ }
 {
     if is_spread(t, left, at) {
@@ -69,12 +69,12 @@ pub fn mode_next(t: &[u8], left: usize, at: usize, mode: usize) -> usize
 }
 
 // Where some properties end, and the call so far behind them.
-pub struct Passed {
+struct Passed {
     pub at: usize,
     pub mode: usize,
 }
 
-pub fn after(t: &[u8], left: usize, count: usize, at: usize, mode: usize) -> Passed
+fn after(t: &[u8], left: usize, count: usize, at: usize, mode: usize) -> Passed
     ensures { λ r. ⌜ (r .at ≡ lookItems (now (t .entry)) (lookNode (now (t .entry)) left) false count at .next) × (r .mode ≡ modeAfter mode (lookItems (now (t .entry)) (lookNode (now (t .entry)) left) false count at .value)) ⌝ }
 {
     let mut n = count;
@@ -89,7 +89,7 @@ pub fn after(t: &[u8], left: usize, count: usize, at: usize, mode: usize) -> Pas
 }
 
 // The head of the call that a spread ends.
-pub fn head_at(w: Walk, t: &[u8], out: &mut [u8], left: usize, at: usize, mode: usize) -> Walk
+fn head_at(w: Walk, t: &[u8], out: &mut [u8], left: usize, at: usize, mode: usize) -> Walk
     ensures { λ r. ⌜ ((l k : List ℕ) → Runs (goingOf (now (out .entry)) l k w) (goingOf (now (out .exit)) l k r) (headAt mode (lookNode (now (t .entry)) left at .value))) × (r .at ≡ w .at) ⌝ }
 {
     if is_spread(t, left, at) {
@@ -105,7 +105,7 @@ pub fn head_at(w: Walk, t: &[u8], out: &mut [u8], left: usize, at: usize, mode: 
 const FEW: usize = 32;
 
 // The heads of the calls but the last, the outermost first: of many properties by halves, of a few one by one.
-pub fn inner_heads(
+fn inner_heads(
     w: Walk,
     t: &[u8],
     out: &mut [u8],
@@ -131,7 +131,7 @@ pub fn inner_heads(
 }
 
 // All heads.
-pub fn all_heads(
+fn all_heads(
     w: Walk,
     t: &[u8],
     out: &mut [u8],

@@ -21,7 +21,7 @@ pub fn counts(reach: Reach) -> bool
 }
 
 // Whether arrays are entered.
-pub fn enters(reach: Reach) -> bool
+pub(crate) fn enters(reach: Reach) -> bool
     ensures { λ r. ⌜ r ≡ objects.enters (reachOf reach) ⌝ }
 {
     match reach {

@@ -37,7 +37,7 @@ ghost use Rattle.walk.specs.Turns.{reachOf, valuesCount};
 // ---- how many there are
 
 // Below the target at a position.
-pub fn target_count(t: &[u8], left: usize, at: usize, reach: Reach) -> usize
+pub(crate) fn target_count(t: &[u8], left: usize, at: usize, reach: Reach) -> usize
     ensures { λ r. ⌜ r ≡ limited (count (reached (reachOf reach) (lookNode (now (t .entry)) left at .value))) ⌝ }
 {
     if left == 0 {
@@ -112,7 +112,7 @@ pub fn object_count(t: &[u8], left: usize, at: usize, reach: Reach) -> usize
 // ---- their places are listed
 
 // Below the values of the object at a position.
-pub fn target_values(
+pub(crate) fn target_values(
     w: Walk,
     t: &[u8],
     list: &mut [u8],
@@ -214,7 +214,7 @@ fn target_property(
 }
 
 // An item of an array, or any target: one that stands at the level `left`.
-pub fn target_item(
+pub(crate) fn target_item(
     w: Walk,
     t: &[u8],
     list: &mut [u8],

@@ -236,7 +236,7 @@ impl Walk {
     }
 
     // A string of n bytes of the input, or of as many as there are.
-    pub fn string(self, t: &[u8], out: &mut [u8], from: usize, n: usize) -> Walk
+    pub(crate) fn string(self, t: &[u8], out: &mut [u8], from: usize, n: usize) -> Walk
         ensures { λ r. ⌜ ((l w : List ℕ) → Runs (goingOf (now (out .entry)) l w self) (goingOf (now (out .exit)) l w r) (puts (stringAt (now (t .entry)) from n))) × (r .at ≡ self .at) ⌝ }
     {
         let k = self.sink;
@@ -258,7 +258,7 @@ impl Walk {
     }
 
     // A string of the digits of a value.
-    pub fn number(self, out: &mut [u8], value: usize) -> Walk
+    pub(crate) fn number(self, out: &mut [u8], value: usize) -> Walk
         ensures { λ r. ⌜ ((l w : List ℕ) → Runs (goingOf (now (out .entry)) l w self) (goingOf (now (out .exit)) l w r) (puts (stringBytes (digitsOf value)))) × (r .at ≡ self .at) ⌝ }
     {
         let d = digits_of(value);
@@ -269,7 +269,7 @@ impl Walk {
 
     // ---- the list and the excluded keys
 
-    pub fn entry(self, list: &mut [u8], mark: usize, n: usize) -> Walk
+    pub(crate) fn entry(self, list: &mut [u8], mark: usize, n: usize) -> Walk
         ensures { λ r. ⌜ ((o w : List ℕ) → Runs (goingOf o (now (list .entry)) w self) (goingOf o (now (list .exit)) w r) (does (entry mark n) ∷ [])) × (r .at ≡ self .at) ⌝ }
     {
         let k = self.sink;
@@ -280,7 +280,7 @@ impl Walk {
         }
     }
 
-    pub fn listed2(self, list: &mut [u8], a: u8, b: u8) -> Walk
+    pub(crate) fn listed2(self, list: &mut [u8], a: u8, b: u8) -> Walk
         ensures { λ r. ⌜ ((o w : List ℕ) → Runs (goingOf o (now (list .entry)) w self) (goingOf o (now (list .exit)) w r) (lists (a ∷ b ∷ []))) × (r .at ≡ self .at) ⌝ }
     {
         let k = self.sink;
@@ -291,7 +291,7 @@ impl Walk {
         }
     }
 
-    pub fn listed_temporary(self, list: &mut [u8], work: &mut [u8], c: usize, stem: u8) -> Walk
+    pub(crate) fn listed_temporary(self, list: &mut [u8], work: &mut [u8], c: usize, stem: u8) -> Walk
         ensures { λ r. ⌜ ((o : List ℕ) → Runs (goingOf o (now (list .entry)) (now (work .entry)) self) (goingOf o (now (list .exit)) (now (work .exit)) r) (does (listedTemporary c stem) ∷ [])) × (r .at ≡ self .at) ⌝ }
     {
         let k = self.sink;
@@ -302,7 +302,7 @@ impl Walk {
         }
     }
 
-    pub fn listed_copy(self, list: &mut [u8], t: &[u8], from: usize, to: usize) -> Walk
+    pub(crate) fn listed_copy(self, list: &mut [u8], t: &[u8], from: usize, to: usize) -> Walk
         ensures { λ r. ⌜ ((o w : List ℕ) → Runs (goingOf o (now (list .entry)) w self) (goingOf o (now (list .exit)) w r) (lists (part from to (now (t .entry))))) × (r .at ≡ self .at) ⌝ }
     {
         let k = self.sink;
@@ -313,7 +313,7 @@ impl Walk {
         }
     }
 
-    pub fn excluded_copy(self, work: &mut [u8], t: &[u8], from: usize, to: usize) -> Walk
+    pub(crate) fn excluded_copy(self, work: &mut [u8], t: &[u8], from: usize, to: usize) -> Walk
         ensures { λ r. ⌜ ((o l : List ℕ) → Runs (goingOf o l (now (work .entry)) self) (goingOf o l (now (work .exit)) r) (excludes (part from to (now (t .entry))))) × (r .at ≡ self .at) ⌝ }
     {
         let k = self.sink;
@@ -325,7 +325,7 @@ impl Walk {
     }
 
     // The declarator of excluded keys: its temporary, and the head of an array of n.
-    pub fn excluded_head(self, work: &mut [u8], c: usize, n: usize) -> Walk
+    pub(crate) fn excluded_head(self, work: &mut [u8], c: usize, n: usize) -> Walk
         ensures { λ r. ⌜ ((o l : List ℕ) → Runs (goingOf o l (now (work .entry)) self) (goingOf o l (now (work .exit)) r) (does declarator ∷ does (excludedTemporary c 2) ∷ excludes (32 ∷ 1 ∷ wideBytes (n % 65536)))) × (r .at ≡ self .at) ⌝ }
     {
         let k = self.sink;
@@ -339,7 +339,7 @@ impl Walk {
         }
     }
 
-    pub fn excluded_string(self, work: &mut [u8], t: &[u8], from: usize, n: usize) -> Walk
+    pub(crate) fn excluded_string(self, work: &mut [u8], t: &[u8], from: usize, n: usize) -> Walk
         ensures { λ r. ⌜ ((o l : List ℕ) → Runs (goingOf o l (now (work .entry)) self) (goingOf o l (now (work .exit)) r) (excludes (stringAt (now (t .entry)) from n))) × (r .at ≡ self .at) ⌝ }
     {
         let k = self.sink;
@@ -360,7 +360,7 @@ impl Walk {
         }
     }
 
-    pub fn excluded_number(self, work: &mut [u8], value: usize) -> Walk
+    pub(crate) fn excluded_number(self, work: &mut [u8], value: usize) -> Walk
         ensures { λ r. ⌜ ((o l : List ℕ) → Runs (goingOf o l (now (work .entry)) self) (goingOf o l (now (work .exit)) r) (excludes (stringBytes (digitsOf value)))) × (r .at ≡ self .at) ⌝ }
     {
         let d = digits_of(value);

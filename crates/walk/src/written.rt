@@ -13,7 +13,7 @@ pub const RETURN: u8 = kinds::RETURN as u8;
 
 pub const FUNCTION_BODY: u8 = kinds::FUNCTION_BODY as u8;
 
-pub const LITERAL: u8 = kinds::LITERAL as u8;
+pub(crate) const LITERAL: u8 = kinds::LITERAL as u8;
 
 pub const OBJECT: u8 = kinds::OBJECT as u8;
 
@@ -38,7 +38,7 @@ pub const SECOND: u8 = 2;
 
 pub const FIRST_TWO: u8 = 3;
 
-pub const FIRST_THREE: u8 = 7;
+pub(crate) const FIRST_THREE: u8 = 7;
 
 // The sorts of a Declaration.
 pub const VAR: u8 = 1;
@@ -46,4 +46,4 @@ pub const VAR: u8 = 1;
 pub const LET: u8 = 2;
 
 // The sort of a Literal.
-pub const STRING: u8 = 1;
+pub(crate) const STRING: u8 = 1;
