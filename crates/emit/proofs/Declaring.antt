@@ -30,7 +30,10 @@ use Rattle.sink.specs.Machine.{part}
 use Rattle.sink.specs.Machine.Event.{temporary}
 use Rattle.pattern.specs.Tally.{limited}
 use Rattle.pattern.specs.declared.source.ReferenceBuilder.{ReferenceBuilder}
-use Rattle.pattern.specs.Source.{builderOf, readOf, afterRead}
+use Rattle.pattern.specs.declared.source.Read.{Read}
+use Rattle.pattern.specs.Source.{builderOf, readOf, placeRead, afterRead, Settled, Keeps}
+use Rattle.pattern.proofs.SourceReads.{first-read, later-read, name-settled, settled-read}
+use Rattle.walk.proofs.Sources.{same-source, reads-cell}
 use Rattle.pattern.proofs.CountsFit.{counted-whole, declarations-fit}
 use Rattle.lowering.specs.Collect.{isContainer}
 use Rattle.direct.specs.Events.{Place, Emit, puts, cell, marks, contextOf, emits}
@@ -120,26 +123,26 @@ module _ (t : List ℕ) where
 
   -- ---- ors: the rest of an object
 
-  pub own-rest-left : {g : Going} (c : Place) (d at : ℕ) (b : Bool) (s : Emit) → b ≡ eqb (byteAt t (onward t at 1) / 2 % 2) 1 → b ≡ false
-      → (at ≡ at) × (byteAt t at ≡ 34 → Good t d at → Clear g (emitsOwnKeys c (lookNode t d at .value) ▷ emitsOwnPattern c (lookNode t d at .value) s) → Does g g (emitsOwnRest c (lookNode t d at .value) s))
-  own-rest-left {g = g} c d at b s bit bare = (
+  pub own-rest-left : {g : Going} (c : Place) (d at : ℕ) (b : Bool) (s : Emit) (S : Type 0) → b ≡ eqb (byteAt t (onward t at 1) / 2 % 2) 1 → b ≡ false
+      → (at ≡ at) × (byteAt t at ≡ 34 → Good t d at → S → Clear g (emitsOwnKeys c (lookNode t d at .value) ▷ emitsOwnPattern c (lookNode t d at .value) s) → Does g g (emitsOwnRest c (lookNode t d at .value) s))
+  own-rest-left {g = g} c d at b s S bit bare = (
     refl,
-    λ k good _.
+    λ k good _ _.
         let o = bare-object d at b bit bare k good in
         does-as (does-nothing g) (sym (own-rest-none c at (o .0) s) ∙ ap (λ (y : Node). emitsOwnRest c y s) (sym (o .1))),
   )
 
-  pub own-rest-done : {g g₁ g₂ g₃ g₄ g′ : Going} (c c₁ c₂ : Place) (d left e h at q n f p r i u s : ℕ) (b : Bool) (src : Emit) → b ≡ eqb (byteAt t (onward t at 1) / 2 % 2) 1 → b ≡ true → left ≡ d - 1
+  pub own-rest-done : {g g₁ g₂ g₃ g₄ g′ : Going} (c c₁ c₂ : Place) (d left e h at q n f p r i u s : ℕ) (b : Bool) (src : Emit) (S : Type 0) → b ≡ eqb (byteAt t (onward t at 1) / 2 % 2) 1 → b ≡ true → left ≡ d - 1
       → q ≡ onward t at 2 → Wide t q n → f ≡ onward t q 2 → r ≡ lookItems t (lookNode t left) false n f .next
       → Does g g₁ (say (puts (5 ∷ 3 ∷ []))) → g₂ ≡ g₁ → i ≡ r → c₁ ≡ inner c → e ≡ left
       → (u ≡ lookNode t e i .next) × (Good t e i → Does g₂ g₃ (emits c₁ (lookNode t e i .value)))
       → c₂ ≡ inner c → h ≡ d
-      → (p ≡ u) × (Good t h at → byteAt t at ≡ 34 → Clear g₃ (emitsRest c₂ at (properties (lookNode t h at .value)) src) → Does g₃ g₄ (emitsRest c₂ at (properties (lookNode t h at .value)) src))
+      → (p ≡ u) × (S → Good t h at → byteAt t at ≡ 34 → Clear g₃ (emitsRest c₂ at (properties (lookNode t h at .value)) src) → Does g₃ g₄ (emitsRest c₂ at (properties (lookNode t h at .value)) src))
       → g′ ≡ g₄ → s ≡ at
-      → Quiet src → (s ≡ at) × (byteAt t at ≡ 34 → Good t d at → Clear g (emitsOwnKeys c (lookNode t d at .value) ▷ emitsOwnPattern c (lookNode t d at .value) src) → Does g g′ (emitsOwnRest c (lookNode t d at .value) src))
-  own-rest-done {g₃ = g₃} c c₁ c₂ d left e h at q n f p r i u s b src bit stood levels second many first ends head from move place₁ level given place₂ same-level last upto moved quiet = (
+      → Quiet src → (s ≡ at) × (byteAt t at ≡ 34 → Good t d at → S → Clear g (emitsOwnKeys c (lookNode t d at .value) ▷ emitsOwnPattern c (lookNode t d at .value) src) → Does g g′ (emitsOwnRest c (lookNode t d at .value) src))
+  own-rest-done {g₃ = g₃} c c₁ c₂ d left e h at q n f p r i u s b src S bit stood levels second many first ends head from move place₁ level given place₂ same-level last upto moved quiet = (
     moved,
-    λ k good clear.
+    λ k good settled clear.
         let o = object-as t d left e at q n f levels level second (many .value) first good k in
         let ps : Items = lookItems t (lookNode t e) false n f .value in
         let x : ℕ = lookItems t (lookNode t e) false n f .next in
@@ -148,7 +151,7 @@ module _ (t : List ℕ) where
         let target = does-from from (given .1 (subst (λ (y : ℕ). Good t e y) (sym ii) (o .rest (sym bit ∙ stood)))) in
         let again : Clear g₃ (emitsRest (inner c) at (properties (lookNode t d at .value)) src) =
         own-again c (lookNode t d at .value) (walked.object-here t d at good k) (ap (λ (y : Node). hasRest y) value-is ∙ rest-stands at ps _) src quiet at (clear-still (clear-still clear head) target) in
-        let there = last .1 (subst (λ (y : ℕ). Good t y at) (sym same-level) good) k
+        let there = last .1 settled (subst (λ (y : ℕ). Good t y at) (sym same-level) good) k
         (subst (λ (m : Place). Clear g₃ (emitsRest m at (properties (lookNode t h at .value)) src)) (sym place₂)
         (subst (λ (y : ℕ). Clear g₃ (emitsRest (inner c) at (properties (lookNode t y at .value)) src)) (sym same-level) again)) in
         does-to upto (does-as (does-then head (does-then target there))
@@ -343,42 +346,55 @@ module _ (t : List ℕ) where
   source-name d at k h = rw h refl
 
   source-after : (d at k : ℕ) → isName (lookNode t d at .value) ≡ false → sourceOf t (afterRead (builderOf t d at k 3 false)) ≡ say (does (temporary k 3) ∷ [])
-  unfolding builderOf afterRead readOf reads
-  source-after d at k h = rw h refl
+  source-after d at k h = reads-cell t _ k 3 (later-read t d at k 3 h)
 
   pub lowered-read : {g g₁ g′ : Going} (c : Place) (d id init i : ℕ) (b : ReferenceBuilder) → b .wanted ≡ false → g₁ ≡ g → i ≡ id
-      → (Good t d i → Does g₁ g′ (emitsPattern c (lookNode t d i .value) (sourceOf t b)))
+      → (Settled b → Good t d i → Does g₁ g′ (emitsPattern c (lookNode t d i .value) (sourceOf t b)))
       → b ≡ builderOf t d init (cell 3 id) 3 false → Good t d id → Good t d init → Does g g′ (emitsLowered c (lookNode t d id .value) (lookNode t d init .value))
   lowered-read c d id init i b test from move pattern built good-id good-init =
       let p : Node = lookNode t d id .value in
       let v : Node = lookNode t d init .value in
       let named : isName v ≡ true = not-false (isName v) (sym (wanted-is d init (cell 3 id)) ∙ ap (λ (x : ReferenceBuilder). x .wanted) (sym built) ∙ test) in
       let read : sourceOf t b ≡ emits (inner c) v = ap (sourceOf t) built ∙ source-name d init (cell 3 id) named ∙ name-copied (inner c) d init good-init named in
-      does-as (does-from from (pattern (subst (λ (y : ℕ). Good t d y) (sym move) good-id)))
+      let settled : Settled b = subst (λ (x : ReferenceBuilder). Settled x) (sym built) (name-settled t d init (cell 3 id) 3 named) in
+      does-as (does-from from (pattern settled (subst (λ (y : ℕ). Good t d y) (sym move) good-id)))
       (ap₂ (λ (y : ℕ) (s : Emit). emitsPattern c (lookNode t d y .value) s) move read ∙ sym (lowered-name c p v named))
 
-  pub lowered-kept : {g g₁ g₂ g₃ g₄ g₅ g′ : Going} (c c′ : Place) (d h id init y u i : ℕ) (b a : ReferenceBuilder) → b .wanted ≡ true
-      → Does g g₁ (say (puts (5 ∷ 3 ∷ []))) → Does g₁ g₂ (say (does (temporary (b .cell) (b .stem)) ∷ [])) → g₃ ≡ g₂ → y ≡ init → c′ ≡ inner c → h ≡ d
+  pub lowered-kept : {g g₁ g₂ g₃ g₄ g₅ g′ : Going} (c c′ : Place) (d h id init y x u i : ℕ) (r : Read) (b a : ReferenceBuilder) → b .wanted ≡ true
+      → Does g g₁ (say (puts (5 ∷ 3 ∷ []))) → Does g₁ g₂ (say (does (temporary (b .cell) (b .stem)) ∷ [])) → g₃ ≡ g₂ → y ≡ x → x ≡ placeRead r → r ≡ readOf b → c′ ≡ inner c → h ≡ d
       → (u ≡ lookNode t h y .next) × (Good t h y → Does g₃ g₄ (emits c′ (lookNode t h y .value)))
-      → a ≡ afterRead b → g₅ ≡ g₄ → i ≡ id → (Good t d i → Does g₅ g′ (emitsPattern c (lookNode t d i .value) (sourceOf t a)))
+      → a ≡ afterRead b → g₅ ≡ g₄ → i ≡ id → (Settled a → Good t d i → Does g₅ g′ (emitsPattern c (lookNode t d i .value) (sourceOf t a)))
       → b ≡ builderOf t d init (cell 3 id) 3 false → Good t d id → Good t d init → Does g g′ (emitsLowered c (lookNode t d id .value) (lookNode t d init .value))
-  unfolding saysCell
-  lowered-kept c c′ d h id init y u i b a test head kept from at-init place same-level given next again at-id pattern built good-id good-init =
+  unfolding saysCell placeRead
+  lowered-kept c c′ d h id init y x u i r b a test head kept from at-x stands reading place same-level given next again at-id pattern built good-id good-init =
       let p : Node = lookNode t d id .value in
       let v : Node = lookNode t d init .value in
       let named : isName v ≡ false = not-true (isName v) (sym (wanted-is d init (cell 3 id)) ∙ ap (λ (x : ReferenceBuilder). x .wanted) (sym built) ∙ test) in
+      let at-init : y ≡ init = at-x ∙ stands ∙ ap placeRead (reading ∙ ap readOf built ∙ first-read t d init (cell 3 id) 3 false) in
       let cell-is : b .cell ≡ cell 3 (position p) = ap (λ (x : ReferenceBuilder). x .cell) built ∙ builder-cell d init (cell 3 id) ∙ ap (cell 3) (sym (position-here t d id)) in
       let stem-is : b .stem ≡ 3 = ap (λ (x : ReferenceBuilder). x .stem) built ∙ builder-stem d init (cell 3 id) in
       let read : sourceOf t a ≡ saysCell 3 (position p) =
       ap (sourceOf t) (next ∙ ap afterRead built) ∙ source-after d init (cell 3 id) named ∙ ap (λ (k : ℕ). say (does (temporary (cell 3 k) 3) ∷ [])) (sym (position-here t d id)) in
       let value-done = given .1 (subst (λ (k : ℕ). Good t h k) (sym at-init) (subst (λ (k : ℕ). Good t k init) (sym same-level) good-init)) in
-      let pattern-done = pattern (subst (λ (k : ℕ). Good t d k) (sym at-id) good-id) in
+      let pattern-done = pattern (settled-read b a next) (subst (λ (k : ℕ). Good t d k) (sym at-id) good-id) in
       let kept-3 = does-as kept (ap (λ (k : ℕ). say (does (temporary (b .cell) k) ∷ [])) stem-is) in
       does-as (does-then head (does-then kept-3 (does-then (does-from from value-done) (does-from again pattern-done))))
       (ap₂ (λ (k : ℕ) (w : Node). say (puts (5 ∷ 3 ∷ [])) ▷ say (does (temporary k 3) ∷ []) ▷ emits c′ w ▷ emitsPattern c (lookNode t d i .value) (sourceOf t a)) cell-is (ap₂ (λ (m k : ℕ). lookNode t m k .value) same-level at-init)
       ∙ ap (λ (m : Place). say (puts (5 ∷ 3 ∷ [])) ▷ saysCell 3 (position p) ▷ emits m v ▷ emitsPattern c (lookNode t d i .value) (sourceOf t a)) place
       ∙ ap₂ (λ (k : ℕ) (s : Emit). say (puts (5 ∷ 3 ∷ [])) ▷ saysCell 3 (position p) ▷ emits (inner c) v ▷ emitsPattern c (lookNode t d k .value) s) at-id read
       ∙ sym (lowered-value c p v named))
+
+  -- the rest, read from the builder that was handed back
+  pub later-rest : {g g′ : Going} (c : Place) (d at i : ℕ) (b next : ReferenceBuilder) → Keeps b next → Settled b
+      → (i ≡ at) × (byteAt t at ≡ 34 → Good t d at → Settled next → Clear g (emitsOwnKeys c (lookNode t d at .value) ▷ emitsOwnPattern c (lookNode t d at .value) (sourceOf t next)) → Does g g′ (emitsOwnRest c (lookNode t d at .value) (sourceOf t next)))
+      → (i ≡ at) × (byteAt t at ≡ 34 → Good t d at → Clear g (emitsOwnKeys c (lookNode t d at .value) ▷ emitsOwnPattern c (lookNode t d at .value) (sourceOf t b)) → Does g g′ (emitsOwnRest c (lookNode t d at .value) (sourceOf t b)))
+  later-rest {g = g} c d at i b next keeps settled last =
+      let n : Node = lookNode t d at .value in
+      let k = keeps settled in
+      let e : sourceOf t next ≡ sourceOf t b = same-source t next b (k .1) in (
+        last .0,
+        λ h good clear. does-as (last .1 h good (k .0) (subst (λ (x : Emit). Clear g (emitsOwnKeys c n ▷ emitsOwnPattern c n x)) (sym e) clear)) (ap (emitsOwnRest c n) e),
+      )
 
   -- ---- dtor: a declarator
 
@@ -441,13 +457,17 @@ module _ (t : List ℕ) where
             (ap₂ (λ (m : Place) (y : ℕ). emits m (lookNode t y at .value)) place same-level ∙ sym (declarator-left n c left-is)),
       )
 
+  builder-at : (d at k : ℕ) → builderOf t d at k 3 false .at ≡ at
+  unfolding builderOf
+  builder-at d at k = refl
+
   pub declarator-done : {g g₁ g′ : Going} (c c′ : Place) (d left e at init id q k₃ s : ℕ) (w : Start) (b : Bool) (r : ReferenceBuilder) → left ≡ d - 1 → id ≡ onward t at 2 → startValue w ≡ startOf t d at → w ≡ Value init
       → b ≡ hasObjectRest (lookNode t left id .value) → b ≡ true → q ≡ lookNode t left init .next
       → k₃ ≡ cellAt 3 id → r ≡ builderOf t left init k₃ 3 false → c′ ≡ c → e ≡ left
-      → (r ≡ builderOf t e init (cell 3 id) 3 false → Good t e id → Good t e init → Does g g₁ (emitsLowered c′ (lookNode t e id .value) (lookNode t e init .value)))
+      → (r ≡ builderOf t e (r .at) (cell 3 id) 3 false → Good t e id → Good t e (r .at) → Does g g₁ (emitsLowered c′ (lookNode t e id .value) (lookNode t e (r .at) .value)))
       → g′ ≡ g₁ → s ≡ q
       → byteAt t at ≡ 5 → Good t d at → (s ≡ lookNode t d at .next) × Does g g′ (emitsDeclarator c (lookNode t d at .value))
-  declarator-done c c′ d left e at init id q k₃ s w b r levels second start some test yes-rest next cell-is built place level lowers upto moved k good =
+  declarator-done {g = g} {g₁ = g₁} c c′ d left e at init id q k₃ s w b r levels second start some test yes-rest next cell-is built place level lowers upto moved k good =
       let h : d ≡ suc e = level-up t d left e at levels level good in
       let G : Good t (suc e) at = lifted t d e at h good in
       let o : BinderOpen t e at 5 = declarator-open t e at G k in
@@ -463,7 +483,9 @@ module _ (t : List ℕ) where
       let small : id < 16384 = omega arith in
       let low : isLowered n ≡ true =
       ap (λ (y : Seen Node). isLowered (y .value)) whole ∙ valued-lowered at 5 p x ∙ ap₂ (λ (y z : ℕ). hasObjectRest (lookNode t y z .value)) level (sym second) ∙ sym test ∙ yes-rest in
-      let does-it = lowers (built ∙ ap₂ (λ (y z : ℕ). builderOf t y init z 3 false) (sym level) (cell-within _ _ _ cell-is small)) (subst (λ (y : ℕ). Good t e y) (sym second) (o .pattern)) (subst (λ (y : ℕ). Good t e y) (sym (v .1)) (o .value (v .0))) in (
+      let placed : r .at ≡ init = ap (λ (y : ReferenceBuilder). y .at) built ∙ builder-at left init k₃ in
+      let lowers-at = subst (λ (y : ℕ). r ≡ builderOf t e y (cell 3 id) 3 false → Good t e id → Good t e y → Does g g₁ (emitsLowered c′ (lookNode t e id .value) (lookNode t e y .value))) placed lowers in
+      let does-it = lowers-at (built ∙ ap₂ (λ (y z : ℕ). builderOf t y init z 3 false) (sym level) (cell-within _ _ _ cell-is small)) (subst (λ (y : ℕ). Good t e y) (sym second) (o .pattern)) (subst (λ (y : ℕ). Good t e y) (sym (v .1)) (o .value (v .0))) in (
         moved ∙ next ∙ ap₂ (λ (y z : ℕ). lookNode t y z .next) (sym level) (v .1) ∙ ap (λ (y : Seen Node). y .next) (sym whole),
         does-to upto (does-as does-it
             (ap₂ (λ (y z : Node). emitsLowered c′ y z) id-as init-as

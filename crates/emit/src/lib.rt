@@ -31,6 +31,7 @@ use pattern::rests::refusal_below;
 use pattern::search::has_nested_object_rest;
 use pattern::search::has_rest_below_array_rest;
 use pattern::source::ReferenceBuilder;
+use pattern::source::place_of;
 use pattern::tally::plus;
 use tree::bytes::peek;
 use tree::bytes::wide_at;
@@ -72,8 +73,10 @@ use walk::look::second;
 use walk::look::start_of;
 use walk::modes::Deep;
 use walk::modes::Mode;
+use walk::look::value_mode;
+use walk::modes;
+use walk::pieces::Sourced;
 use walk::pieces::await_of;
-use walk::pieces::cell_source;
 use walk::pieces::hole;
 use walk::pieces::source;
 use walk::pieces::string;
@@ -112,7 +115,8 @@ ghost use Rattle.lowering.specs.Patterns.{value, properties, hasRest, hasObject
 ghost use Rattle.lowering.specs.Keys.{keysRefusal};
 ghost use Rattle.lowering.specs.Heads.{isMoved, movedFrom};
 ghost use Rattle.sink.specs.Machine.Event.{temporary};
-ghost use Rattle.pattern.specs.Source.{builderOf};
+ghost use Rattle.pattern.specs.declared.source.Read.the-variants.{Temporary};
+ghost use Rattle.pattern.specs.Source.{builderOf, readOf, Settled, Keeps};
 ghost use Rattle.direct.specs.Events as events;
 ghost use Rattle.direct.specs.Events.{puts, emits};
 ghost use Rattle.direct.specs.Events.Deed.{refuses};
@@ -129,7 +133,8 @@ ghost use Rattle.direct.specs.Moved.{outOf, movedIn, behind, fronts, bodyIn, bl
 ghost use Rattle.walk.specs.Run.{goingOf, Does, Clear};
 ghost use Rattle.walk.specs.Whole.{placeOf, placeWith, holeAt, itemDeeds, slotDeeds, GoodItem, GoodItems, GoodSlot, GoodFields, Good, Ruled, Emitted, Done};
 ghost use Rattle.walk.specs.declared.views.View.the-variants.{Taking};
-ghost use Rattle.walk.specs.Turns.{viewOf, deepOf, isTold, toldPlace, deepSuits, suits, turnsOf, AllSuit, sourceOf, levelOf, spotDeeds, movesOf, AllBind, givenDeeds, givenNode, unlessRefused};
+ghost use Rattle.walk.specs.Turns.{viewOf, deepOf, isTold, toldPlace, deepSuits, suits, turnsOf, AllSuit, sourceOf, levelOf, spotDeeds, movesOf, AllBind, givenDeeds, givenNode, unlessRefused, turnOf, deepMode, cellAt};
+ghost use Rattle.walk.specs.Modes.{takingView};
 
 // The fields of a Switch in two parts: mark and discriminant, then the cases, which alone lie in its scope.
 const SWITCH_FRONT: usize = 0x8cc0;
@@ -626,7 +631,7 @@ fn key(
 
 // ---- the value of a rest
 
-// That of the object pattern at p, read from b. The pattern was written before: once the tree is full its keys are not written again.
+// That of the object pattern at p, read from b, which is settled. The pattern was written before: once the tree is full its keys are not written again.
 fn rest(
     w: Walk,
     t: &[u8],
@@ -637,17 +642,17 @@ fn rest(
     root: bool,
     p: usize,
     b: ReferenceBuilder,
-) -> Walk
-    ensures { λ r. ⌜ (r .at ≡ w .at) × (Good (now (t .entry)) (c .left) p → byteAt (now (t .entry)) p ≡ 34 → Clear (goingOf (now (out .entry)) (now (list .entry)) (now (work .entry)) w) (emitsRest (placeWith root c) p (properties (lookNode (now (t .entry)) (c .left) p .value)) (sourceOf (now (t .entry)) b)) → Does (goingOf (now (out .entry)) (now (list .entry)) (now (work .entry)) w) (goingOf (now (out .exit)) (now (list .exit)) (now (work .exit)) r) (emitsRest (placeWith root c) p (properties (lookNode (now (t .entry)) (c .left) p .value)) (sourceOf (now (t .entry)) b))) ⌝ }
+) -> Sourced
+    ensures { λ r. ⌜ (r .walk .at ≡ w .at) × Keeps b (r .next) × (Settled b → Good (now (t .entry)) (c .left) p → byteAt (now (t .entry)) p ≡ 34 → Clear (goingOf (now (out .entry)) (now (list .entry)) (now (work .entry)) w) (emitsRest (placeWith root c) p (properties (lookNode (now (t .entry)) (c .left) p .value)) (sourceOf (now (t .entry)) b)) → Does (goingOf (now (out .entry)) (now (list .entry)) (now (work .entry)) w) (goingOf (now (out .exit)) (now (list .exit)) (now (work .exit)) (r .walk)) (emitsRest (placeWith root c) p (properties (lookNode (now (t .entry)) (c .left) p .value)) (sourceOf (now (t .entry)) b))) ⌝ }
 {
     if w.passes(true) {
-        return w;
+        return Sourced { walk: w, next: b };
     }
     if has_no_properties(t, c.left, p) {
-        let u = source(w.empty_rest(out), t, out, list, work, b);
-        return source(u, t, out, list, work, b);
+        let s = source(w.empty_rest(out), t, out, list, work, b);
+        return source(s.walk, t, out, list, work, s.next);
     }
-    let u = source(
+    let s = source(
         w.call(out, helpers::OBJECT_WITHOUT_PROPERTIES, 2),
         t,
         out,
@@ -655,7 +660,12 @@ fn rest(
         work,
         b,
     );
-    read(u, t, out, list, work, inside(c, c.left), root, p)
+    let next = s.next;
+    let u = read(s.walk, t, out, list, work, inside(c, c.left), root, p);
+    Sourced {
+        walk: u,
+        next: next,
+    }
 }
 
 // The keys that are left out: a temporary, their array, or that array mapped by the helper.
@@ -848,7 +858,7 @@ fn fb(
     let n = wide_at(t, q);
     let first = step(t, q, 2);
     if has_second(t, p) {
-        let u = own(
+        let s = own(
             w,
             t,
             out,
@@ -856,18 +866,9 @@ fn fb(
             work,
             c,
             root,
-            cell_source(cell(stems::PLACE, p), stems::PLACE),
+            ReferenceBuilder::held(cell(stems::PLACE, p), stems::PLACE),
         );
-        let u = os(
-            u,
-            t,
-            out,
-            list,
-            work,
-            c,
-            root,
-            cell_source(cell(stems::PLACE, p), stems::PLACE),
-        );
+        let u = os(s.walk, t, out, list, work, c, root, s.next);
         let u = seq(
             u.to(first),
             t,
@@ -1008,12 +1009,12 @@ fn dr(
     if has_nested_object_rest(t, left, id) {
         let end = skip(t, left, init);
         let b = ReferenceBuilder::new(t, left, init, cell(stems::VALUE, id), stems::VALUE, false);
-        return lo(w, t, out, list, work, under(c, left), root, id, init, b).to(end);
+        return lo(w, t, out, list, work, under(c, left), root, id, b).to(end);
     }
     node(w, t, out, list, work, told_inside(c, root, c.left))
 }
 
-// A value that is no name goes into a temporary first.
+// A value that is no name goes into a temporary first: it is what the first read gives.
 fn lo(
     w: Walk,
     t: &[u8],
@@ -1023,17 +1024,17 @@ fn lo(
     c: Place,
     root: bool,
     id: usize,
-    init: usize,
     b: ReferenceBuilder,
 ) -> Walk
-    ensures { λ r. ⌜ (b ≡ builderOf (now (t .entry)) (c .left) init (events.cell 3 id) 3 false → Good (now (t .entry)) (c .left) id → Good (now (t .entry)) (c .left) init → Does (goingOf (now (out .entry)) (now (list .entry)) (now (work .entry)) w) (goingOf (now (out .exit)) (now (list .exit)) (now (work .exit)) r) (emitsLowered (placeWith root c) (lookNode (now (t .entry)) (c .left) id .value) (lookNode (now (t .entry)) (c .left) init .value))) ⌝ }
+    ensures { λ r. ⌜ (b ≡ builderOf (now (t .entry)) (c .left) (b .at) (events.cell 3 id) 3 false → Good (now (t .entry)) (c .left) id → Good (now (t .entry)) (c .left) (b .at) → Does (goingOf (now (out .entry)) (now (list .entry)) (now (work .entry)) w) (goingOf (now (out .exit)) (now (list .exit)) (now (work .exit)) r) (emitsLowered (placeWith root c) (lookNode (now (t .entry)) (c .left) id .value) (lookNode (now (t .entry)) (c .left) (b .at) .value))) ⌝ }
 {
     if b.wanted {
+        let taken = b.create_read_expression();
+        let read = taken.read;
         let u = w.put2(out, written::DECLARATOR, written::FIRST_TWO)
             .temporary(out, list, work, b.cell, b.stem)
-            .to(init);
+            .to(place_of(read));
         let u = node(u, t, out, list, work, told_inside(c, root, c.left));
-        let taken = b.create_read_expression();
         return pa(u.to(id), t, out, list, work, c, root, taken.next);
     }
     pa(w.to(id), t, out, list, work, c, root, b)
@@ -1050,7 +1051,7 @@ fn pa(
     root: bool,
     b: ReferenceBuilder,
 ) -> Walk
-    ensures { λ r. ⌜ Done (now (t .entry)) (c .left) (w .at) (goingOf (now (out .entry)) (now (list .entry)) (now (work .entry)) w) (goingOf (now (out .exit)) (now (list .exit)) (now (work .exit)) r) (λ n. emitsPattern (placeWith root c) n (sourceOf (now (t .entry)) b)) ⌝ }
+    ensures { λ r. ⌜ (Settled b → Done (now (t .entry)) (c .left) (w .at) (goingOf (now (out .entry)) (now (list .entry)) (now (work .entry)) w) (goingOf (now (out .exit)) (now (list .exit)) (now (work .exit)) r) (λ n. emitsPattern (placeWith root c) n (sourceOf (now (t .entry)) b))) ⌝ }
 {
     if c.left == 0 {
         return w;
@@ -1061,7 +1062,9 @@ fn pa(
             let p = w.at;
             let q = step(t, p, 2);
             let n = wide_at(t, q);
-            let u = own(w, t, out, list, work, c, root, b).to(step(t, q, 2));
+            let s = own(w, t, out, list, work, c, root, b);
+            let v = s.walk;
+            let u = v.to(step(t, q, 2));
             let u = seq(
                 u,
                 t,
@@ -1074,7 +1077,7 @@ fn pa(
                 false,
                 n,
             ).to(p);
-            os(u, t, out, list, work, c, root, b)
+            os(u, t, out, list, work, c, root, s.next)
         }
         kinds::ARRAY_PATTERN => {
             let p = w.at;
@@ -1087,7 +1090,9 @@ fn pa(
                 told_inside(c, root, c.left),
                 View::Replacing,
             );
-            let u = source(u, t, out, list, work, b).to(p);
+            let s = source(u, t, out, list, work, b);
+            let v = s.walk;
+            let u = v.to(p);
             deep(u, t, out, list, work, c, root, Deep::Found)
         }
         _ => w,
@@ -1104,11 +1109,11 @@ fn own(
     c: Place,
     root: bool,
     b: ReferenceBuilder,
-) -> Walk
-    ensures { λ r. ⌜ (r .at ≡ w .at) × (byteAt (now (t .entry)) (w .at) ≡ 34 → Good (now (t .entry)) (c .left) (w .at) → Does (goingOf (now (out .entry)) (now (list .entry)) (now (work .entry)) w) (goingOf (now (out .exit)) (now (list .exit)) (now (work .exit)) r) (emitsOwnKeys (placeWith root c) (lookNode (now (t .entry)) (c .left) (w .at) .value) ▷ emitsOwnPattern (placeWith root c) (lookNode (now (t .entry)) (c .left) (w .at) .value) (sourceOf (now (t .entry)) b))) ⌝ }
+) -> Sourced
+    ensures { λ r. ⌜ (r .walk .at ≡ w .at) × Keeps b (r .next) × (byteAt (now (t .entry)) (w .at) ≡ 34 → Good (now (t .entry)) (c .left) (w .at) → Does (goingOf (now (out .entry)) (now (list .entry)) (now (work .entry)) w) (goingOf (now (out .exit)) (now (list .exit)) (now (work .exit)) (r .walk)) (emitsOwnKeys (placeWith root c) (lookNode (now (t .entry)) (c .left) (w .at) .value) ▷ emitsOwnPattern (placeWith root c) (lookNode (now (t .entry)) (c .left) (w .at) .value) (sourceOf (now (t .entry)) b))) ⌝ }
 {
     if c.left == 0 {
-        return w;
+        return Sourced { walk: w, next: b };
     }
     let p = w.at;
     if has_second(t, p) {
@@ -1140,12 +1145,12 @@ fn oa(
     c: Place,
     root: bool,
     b: ReferenceBuilder,
-) -> Walk
-    ensures { λ r. ⌜ (r .at ≡ w .at) × (byteAt (now (t .entry)) (w .at) ≡ 34 → Good (now (t .entry)) (c .left) (w .at) → Does (goingOf (now (out .entry)) (now (list .entry)) (now (work .entry)) w) (goingOf (now (out .exit)) (now (list .exit)) (now (work .exit)) r) (emitsOwnPattern (placeWith root c) (lookNode (now (t .entry)) (c .left) (w .at) .value) (sourceOf (now (t .entry)) b))) ⌝ }
+) -> Sourced
+    ensures { λ r. ⌜ (r .walk .at ≡ w .at) × Keeps b (r .next) × (byteAt (now (t .entry)) (w .at) ≡ 34 → Good (now (t .entry)) (c .left) (w .at) → Does (goingOf (now (out .entry)) (now (list .entry)) (now (work .entry)) w) (goingOf (now (out .exit)) (now (list .exit)) (now (work .exit)) (r .walk)) (emitsOwnPattern (placeWith root c) (lookNode (now (t .entry)) (c .left) (w .at) .value) (sourceOf (now (t .entry)) b))) ⌝ }
 {
     let p = w.at;
     if has_no_properties(t, c.left, p) {
-        return w;
+        return Sourced { walk: w, next: b };
     }
     let u = view(
         w.put2(out, written::DECLARATOR, written::FIRST_TWO),
@@ -1156,7 +1161,14 @@ fn oa(
         told_inside(c, root, c.left),
         View::Taking,
     );
-    source(u, t, out, list, work, b).to(p)
+    let s = source(u, t, out, list, work, b);
+    let next = s.next;
+    let v = s.walk;
+    let v = v.to(p);
+    Sourced {
+        walk: v,
+        next: next,
+    }
 }
 
 // Its rest.
@@ -1170,7 +1182,7 @@ fn os(
     root: bool,
     b: ReferenceBuilder,
 ) -> Walk
-    ensures { λ r. ⌜ (r .at ≡ w .at) × (byteAt (now (t .entry)) (w .at) ≡ 34 → Good (now (t .entry)) (c .left) (w .at) → Clear (goingOf (now (out .entry)) (now (list .entry)) (now (work .entry)) w) (emitsOwnKeys (placeWith root c) (lookNode (now (t .entry)) (c .left) (w .at) .value) ▷ emitsOwnPattern (placeWith root c) (lookNode (now (t .entry)) (c .left) (w .at) .value) (sourceOf (now (t .entry)) b)) → Does (goingOf (now (out .entry)) (now (list .entry)) (now (work .entry)) w) (goingOf (now (out .exit)) (now (list .exit)) (now (work .exit)) r) (emitsOwnRest (placeWith root c) (lookNode (now (t .entry)) (c .left) (w .at) .value) (sourceOf (now (t .entry)) b))) ⌝ }
+    ensures { λ r. ⌜ (r .at ≡ w .at) × (byteAt (now (t .entry)) (w .at) ≡ 34 → Good (now (t .entry)) (c .left) (w .at) → Settled b → Clear (goingOf (now (out .entry)) (now (list .entry)) (now (work .entry)) w) (emitsOwnKeys (placeWith root c) (lookNode (now (t .entry)) (c .left) (w .at) .value) ▷ emitsOwnPattern (placeWith root c) (lookNode (now (t .entry)) (c .left) (w .at) .value) (sourceOf (now (t .entry)) b)) → Does (goingOf (now (out .entry)) (now (list .entry)) (now (work .entry)) w) (goingOf (now (out .exit)) (now (list .exit)) (now (work .exit)) r) (emitsOwnRest (placeWith root c) (lookNode (now (t .entry)) (c .left) (w .at) .value) (sourceOf (now (t .entry)) b))) ⌝ }
 {
     let p = w.at;
     if has_second(t, p) {
@@ -1185,7 +1197,9 @@ fn os(
             work,
             told_inside(c, root, left),
         );
-        return rest(u, t, out, list, work, inside(c, c.left), root, p, b).to(p);
+        let s = rest(u, t, out, list, work, inside(c, c.left), root, p, b);
+        let v = s.walk;
+        return v.to(p);
     }
     w
 }
@@ -1254,7 +1268,8 @@ fn an(
     )
 }
 
-// The target is an object with rest: of an assignment, or of an object's own, from the temporary in its place.
+// The target is an object with rest: of an assignment, or of an object's own, from the temporary in its place. Its source is forced: the
+// first read gives what is assigned, which goes into a temporary; later ones give that.
 fn top(
     w: Walk,
     t: &[u8],
@@ -1274,17 +1289,22 @@ fn top(
     if 0 < r {
         return w.refuse(out, r);
     }
+    let v = cell(stems::VALUE, p);
+    let b = ReferenceBuilder::new(t, c.left, x, v, stems::VALUE, true);
+    let first = b.create_read_expression();
+    let given = first.read;
+    let y = place_of(given);
     let d = told_inside(c, root, c.left);
     let u = top_hands(w, t, list, work, c.left, p, root, c.mark);
     let k = top_count(t, c.left, p, c.statement);
     let u = u.put2(out, written::SEQUENCE, written::FIRST)
         .wide(out, k)
         .assign(out, ASSIGNS)
-        .temporary(out, list, work, cell(stems::VALUE, p), stems::VALUE);
-    let u = gv(u, t, out, list, work, d, input, stem, x);
-    let u = tg(u, t, out, list, work, c, root, p);
+        .temporary(out, list, work, v, stems::VALUE);
+    let u = gv(u, t, out, list, work, d, input, stem, y);
+    let s = tg(u, t, out, list, work, c, root, p, first.next);
     let u = pr(
-        u,
+        s.walk,
         t,
         out,
         list,
@@ -1302,21 +1322,14 @@ fn top(
         work,
         told_inside(c, root, less(c.left)),
     );
-    let u = rest(
-        u,
-        t,
-        out,
-        list,
-        work,
-        d,
-        root,
-        p,
-        cell_source(cell(stems::VALUE, p), stems::VALUE),
-    );
+    let s = rest(u, t, out, list, work, d, root, p, s.next);
     if c.statement {
+        let u = s.walk;
         return u;
     }
-    u.temporary(out, list, work, cell(stems::VALUE, p), stems::VALUE)
+    let s = source(s.walk, t, out, list, work, s.next);
+    let u = s.walk;
+    u
 }
 
 // What is assigned: the expression at x, or the temporary of the cell x with its stem.
@@ -1339,7 +1352,7 @@ fn gv(
     w.temporary(out, list, work, x, stem)
 }
 
-// The target without its rest.
+// The target without its rest, from b.
 fn tg(
     w: Walk,
     t: &[u8],
@@ -1349,13 +1362,17 @@ fn tg(
     c: Place,
     root: bool,
     p: usize,
-) -> Walk
-    ensures { λ r. ⌜ (byteAt (now (t .entry)) p ≡ 34 → Good (now (t .entry)) (c .left) p → hasArrayRestOverObjectRest (lookNode (now (t .entry)) (c .left) p .value) ≡ false → Does (goingOf (now (out .entry)) (now (list .entry)) (now (work .entry)) w) (goingOf (now (out .exit)) (now (list .exit)) (now (work .exit)) r) (emitsTarget (placeWith root c) (lookNode (now (t .entry)) (c .left) p .value))) ⌝ }
+    b: ReferenceBuilder,
+) -> Sourced
+    ensures { λ r. ⌜ Keeps b (r .next) × (readOf b ≡ Temporary (cellAt 3 p) 3 → byteAt (now (t .entry)) p ≡ 34 → Good (now (t .entry)) (c .left) p → hasArrayRestOverObjectRest (lookNode (now (t .entry)) (c .left) p .value) ≡ false → Does (goingOf (now (out .entry)) (now (list .entry)) (now (work .entry)) w) (goingOf (now (out .exit)) (now (list .exit)) (now (work .exit)) (r .walk)) (emitsTarget (placeWith root c) (lookNode (now (t .entry)) (c .left) p .value))) ⌝ }
 {
     let d = told_inside(c, root, c.left);
     if 0 < object_count(t, c.left, p, Reach::InArrays) {
-        let x = cell(stems::VALUE, p);
-        return ns(
+        let taken = b.create_read_expression();
+        let read = taken.read;
+        let next = taken.next;
+        let x = place_of(read);
+        let u = ns(
             w,
             t,
             out,
@@ -1370,6 +1387,10 @@ fn tg(
             stems::VALUE,
             x,
         );
+        return Sourced {
+            walk: u,
+            next: next,
+        };
     }
     let u = view(
         w.assign(out, ASSIGNS).to(p),
@@ -1380,7 +1401,7 @@ fn tg(
         d,
         View::Taking,
     );
-    u.temporary(out, list, work, cell(stems::VALUE, p), stems::VALUE)
+    source(u, t, out, list, work, b)
 }
 
 // Objects with rest replaced, then an assignment for each.
@@ -1642,7 +1663,16 @@ fn add(
         let u = pattern_hands(w, t, list, work, c.left, p, root);
         let k = pattern_declarators(t, c.left, p);
         let u = u.declaration(out, written::LET, k).to(p);
-        return pa(u, t, out, list, work, d, root, cell_source(o, stems::PLACE));
+        return pa(
+            u,
+            t,
+            out,
+            list,
+            work,
+            d,
+            root,
+            ReferenceBuilder::held(o, stems::PLACE),
+        );
     }
     let u = w.declaration(out, written::LET, 1)
         .put2(out, written::DECLARATOR, written::FIRST_TWO)

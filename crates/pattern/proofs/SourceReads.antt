@@ -1,7 +1,7 @@
 -- The source of a pattern: what the builder's reads give.
 -- Assumes nothing.
 use mathlib.Core.Path.{_≡_, refl, sym, ap, ap₂, _∙_}
-use mathlib.Core.Bool.{Bool, true, false, not, _||_}
+use mathlib.Core.Bool.{Bool, true, false, cond, not, _&&_, _||_}
 use mathlib.Core.List.{List}
 use Prim.Native.Nat.{ℕ}
 use borrow.Author.Tests.{ne-eqb}
@@ -10,9 +10,10 @@ use Rattle.tree.specs.Read.{byteAt}
 use Rattle.tree.specs.Look.{lookNode}
 use Rattle.lowering.specs.Parts.{kind, is}
 use Rattle.lowering.specs.Declarations.{isName}
+use Rattle.pattern.specs.declared.source.Read.{Read}
 use Rattle.pattern.specs.declared.source.Read.the-variants.{Expression, Temporary}
 use Rattle.pattern.specs.declared.source.ReferenceBuilder.{ReferenceBuilder}
-use Rattle.pattern.specs.Source.{builderOf, readOf, afterRead}
+use Rattle.pattern.specs.Source.{builderOf, heldIn, readOf, placeRead, afterRead, Settled, Keeps}
 use Rattle.pattern.proofs.Places.{Blank, kind-is, no-levels}
 
 -- ---- names
@@ -86,3 +87,74 @@ module _ (b : ReferenceBuilder) where
   pub read-name : b .wanted ≡ false → (Expression (b .left) (b .at) ≡ readOf b) × (spent false ≡ afterRead b)
   unfolding readOf
   read-name w = (rw w, after-is false w)
+
+-- ---- where what was read stands
+
+pub place-expression : (r : Read) (left at : ℕ) → r ≡ Expression left at → at ≡ placeRead r
+unfolding placeRead
+place-expression r left at e = ap placeRead (sym e)
+
+pub place-temporary : (r : Read) (cell stem : ℕ) → r ≡ Temporary cell stem → cell ≡ placeRead r
+unfolding placeRead
+place-temporary r cell stem e = ap placeRead (sym e)
+
+-- ---- reads, one after another
+
+module _ (l : List ℕ) (d at cell stem : ℕ) where
+  -- the first gives the expression
+  pub first-read : (force : Bool) → readOf (builderOf l d at cell stem force) ≡ Expression d at
+  unfolding builderOf readOf
+  first-read force = go (force || not (isName (lookNode l d at .value)))
+    where
+      go : (w : Bool) → cond (w && false) (Temporary cell stem) (Expression d at) ≡ Expression d at
+      go true = refl
+      go false = refl
+
+  -- later ones the temporary, or the name
+  pub later-read : isName (lookNode l d at .value) ≡ false → readOf (afterRead (builderOf l d at cell stem false)) ≡ Temporary cell stem
+  unfolding builderOf readOf afterRead
+  later-read h = rw h refl
+
+  pub later-name : isName (lookNode l d at .value) ≡ true → readOf (afterRead (builderOf l d at cell stem false)) ≡ Expression d at
+  unfolding builderOf readOf afterRead
+  later-name h = rw h refl
+
+  -- a forced one gives the temporary, whatever the expression is
+  pub later-forced : readOf (afterRead (builderOf l d at cell stem true)) ≡ Temporary cell stem
+  unfolding builderOf readOf afterRead
+  later-forced = refl
+
+  -- so a name is settled from the start
+  pub name-settled : isName (lookNode l d at .value) ≡ true → Settled (builderOf l d at cell stem false)
+  name-settled h = later-name h ∙ sym (first-read false)
+
+-- any other once it is read
+pub after-settled : (b : ReferenceBuilder) → Settled (afterRead b)
+unfolding readOf afterRead
+after-settled b = refl
+
+pub settled-read : (b next : ReferenceBuilder) → next ≡ afterRead b → Settled next
+settled-read b next e = ap (λ (x : ReferenceBuilder). readOf (afterRead x)) e ∙ after-settled b ∙ ap readOf (sym e)
+
+pub keeps-read : (b next : ReferenceBuilder) → next ≡ afterRead b → Keeps b next
+keeps-read b next e s = (settled-read b next e, ap readOf e ∙ s)
+
+pub keeps-same : (b : ReferenceBuilder) → Keeps b b
+keeps-same b s = (s, refl)
+
+pub keeps-then : (a b c : ReferenceBuilder) → Keeps a b → Keeps b c → Keeps a c
+keeps-then a b c f g s = let x = f s in let y = g (x .0) in (y .0, y .1 ∙ x .1)
+
+-- a temporary that is there already
+module _ (cell stem : ℕ) where
+  pub held-is : _≡_ {A = ReferenceBuilder} (record { left = 0; at = 0; cell = cell; stem = stem; wanted = true; fresh = false }) (heldIn cell stem)
+  unfolding heldIn
+  held-is = refl
+
+  pub held-read : readOf (heldIn cell stem) ≡ Temporary cell stem
+  unfolding heldIn readOf
+  held-read = refl
+
+  pub held-settled : (b : ReferenceBuilder) → b ≡ heldIn cell stem → Settled b
+  unfolding heldIn readOf afterRead
+  held-settled b e = ap (λ (x : ReferenceBuilder). readOf (afterRead x)) e ∙ sym (ap readOf e)

@@ -1,6 +1,7 @@
 -- The source of a pattern: what each read gives (document 01, 'A source's first read hands out the expression, later reads the
 -- temporary or name').
 use Prim.Native.Nat.{ℕ}
+use mathlib.Core.Path.{_≡_}
 use mathlib.Core.Bool.{Bool, true, false, cond, not, _&&_, _||_}
 use mathlib.Core.List.{List}
 use Rattle.tree.specs.Tree.{Node}
@@ -17,12 +18,29 @@ unfoldable pub builderOf : List ℕ → ℕ → ℕ → ℕ → ℕ → Bool →
 builderOf tree left at cell stem force =
     record { left = left; at = at; cell = cell; stem = stem; wanted = force || not (isName (lookNode tree left at .value)); fresh = true }
 
+-- of a temporary that is there already: its expression was handed out where its pattern stood
+unfoldable pub heldIn : ℕ → ℕ → ReferenceBuilder
+heldIn cell stem = record { left = 0; at = 0; cell = cell; stem = stem; wanted = true; fresh = false }
+
 -- a read: where a temporary is wanted, the first one gives the expression and later ones the temporary; a name is always given
 unfoldable pub readOf : ReferenceBuilder → Read
 readOf b = cond (b .wanted && not (b .fresh)) (Temporary (b .cell) (b .stem)) (Expression (b .left) (b .at))
 
+-- where what was read stands
+unfoldable pub placeRead : Read → ℕ
+placeRead (Expression left at) = at
+placeRead (Temporary cell stem) = cell
+
 unfoldable pub afterRead : ReferenceBuilder → ReferenceBuilder
 afterRead b = record { left = b .left; at = b .at; cell = b .cell; stem = b .stem; wanted = b .wanted; fresh = false }
+
+-- the reads after the next one give what it gives
+abbrev pub Settled : ReferenceBuilder → Type 0
+Settled b = readOf (afterRead b) ≡ readOf b
+
+-- what is handed back for b goes on giving what b gives
+abbrev pub Keeps : ReferenceBuilder → ReferenceBuilder → Type 0
+Keeps b next = Settled b → Settled next × (readOf next ≡ readOf b)
 
 -- the node that a read of the source of the pattern p gives
 abbrev pub nodeRead : List ℕ → Context → Node → Read → Node

@@ -3,12 +3,22 @@ use tree::bytes;
 ghost use mathlib.Core.Path.{_≡_};
 ghost use Rattle.tree.specs.Look.{lookNode};
 ghost use Rattle.lowering.specs.Declarations.{isName};
-ghost use Rattle.pattern.specs.Source.{builderOf, readOf, afterRead};
+ghost use Rattle.pattern.specs.Source.{builderOf, heldIn, readOf, placeRead, afterRead};
 
 // What a read gives: the expression at a place, or the temporary of a cell with its stem.
 pub enum Read {
     Expression { left: usize, at: usize },
     Temporary { cell: usize, stem: u8 },
+}
+
+// Where what was read stands: the expression's position, or the temporary's cell.
+pub fn place_of(read: Read) -> usize
+    ensures { λ r. ⌜ r ≡ placeRead read ⌝ }
+{
+    match read {
+        Read::Expression { left: _, at } => at,
+        Read::Temporary { cell, stem: _ } => cell,
+    }
 }
 
 // The value's place, and the cell and the stem of its temporary if one is wanted. The expression is handed out once.
@@ -73,6 +83,20 @@ impl ReferenceBuilder {
             stem: stem,
             wanted: true,
             fresh: true,
+        }
+    }
+
+    // A source that is a temporary already, made where its pattern stood: each read gives it.
+    pub fn held(cell: usize, stem: u8) -> Self
+        ensures { λ r. ⌜ r ≡ heldIn cell stem ⌝ }
+    {
+        ReferenceBuilder {
+            left: 0,
+            at: 0,
+            cell: cell,
+            stem: stem,
+            wanted: true,
+            fresh: false,
         }
     }
 

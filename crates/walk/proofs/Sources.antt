@@ -41,7 +41,8 @@ use Rattle.pattern.specs.declared.source.ReferenceBuilder.{ReferenceBuilder}
 use Rattle.pattern.specs.Parts.{sortAt, textOf, partOf, partIn, partAt, textIn, standing}
 use Rattle.pattern.specs.Numbers.{spelledAs, isStringOf}
 use Rattle.pattern.specs.Keys.{nameIn, formIn, besideForm, literalBy, literalIn, literalAt, keyAt, keyEntry, Becomes}
-use Rattle.pattern.specs.Source.{readOf}
+use Rattle.pattern.specs.Source.{heldIn, readOf}
+use Rattle.pattern.proofs.SourceReads.{held-read}
 use Rattle.pattern.proofs.KeyCases.{by-sort, becomes}
 use Rattle.direct.proofs.RestValues.{key-spelt}
 use Rattle.walk.specs.declared.modes.Mode.{Mode}
@@ -85,9 +86,17 @@ module _ (t : List ℕ) (mode : Mode) (at : ℕ) where
 
 -- ---- sources
 
-pub cell-read : (t : List ℕ) (left at cell stem : ℕ) → sourceOf t (record { left = left; at = at; cell = cell; stem = stem; wanted = true; fresh = false }) ≡ say (does (temporary cell stem) ∷ [])
-unfolding reads readOf
-cell-read t left at cell stem = refl
+-- two builders whose next reads are the same
+pub same-source : (t : List ℕ) (a b : ReferenceBuilder) → readOf a ≡ readOf b → sourceOf t a ≡ sourceOf t b
+same-source t a b e = ap (λ (r : Read). say (reads t r)) e
+
+-- one whose next read is a temporary
+pub reads-cell : (t : List ℕ) (b : ReferenceBuilder) (cell stem : ℕ) → readOf b ≡ Temporary cell stem → sourceOf t b ≡ say (does (temporary cell stem) ∷ [])
+unfolding reads
+reads-cell t b cell stem e = ap (λ (r : Read). say (reads t r)) e
+
+pub held-source : (t : List ℕ) (b : ReferenceBuilder) (cell stem : ℕ) → b ≡ heldIn cell stem → sourceOf t b ≡ say (does (temporary cell stem) ∷ [])
+held-source t b cell stem e = reads-cell t b cell stem (ap readOf e ∙ held-read cell stem)
 
 pub source-copied : {g h h′ g′ : Going} (t : List ℕ) (b : ReferenceBuilder) (r : Read) (left p q x : ℕ) → r ≡ readOf b → r ≡ Expression left p → h ≡ g → x ≡ p → q ≡ lookNode t left p .next
     → Runs h h′ (puts (part x q t)) → g′ ≡ h′ → Runs g g′ (reads t (readOf b))

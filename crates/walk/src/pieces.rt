@@ -11,18 +11,15 @@ use tree::skip::skip;
 use tree::skip::step;
 ghost use mathlib.Core.Path.{_≡_};
 ghost use mathlib.Core.Bool.{cond};
-ghost use mathlib.Core.List.{List, [], _∷_};
+ghost use mathlib.Core.List.{List, []};
 ghost use Prim.Native.Nat.{ℕ};
 ghost use Rattle.tree.specs.Look.{onward};
 ghost use Rattle.pattern.specs.Keys.{keyAt};
-ghost use Rattle.pattern.specs.Source.{readOf};
+ghost use Rattle.pattern.specs.Source.{readOf, afterRead};
 ghost use Rattle.sink.specs.Machine.{part};
-ghost use Rattle.sink.specs.Machine.Event.{temporary};
 ghost use Rattle.direct.specs.Events.{puts};
-ghost use Rattle.direct.specs.Events.Deed.{does};
-ghost use Rattle.direct.specs.Emit.{say};
 ghost use Rattle.walk.specs.Run.{goingOf, Runs};
-ghost use Rattle.walk.specs.Turns.{writesHoles, holeDeeds, reads, sourceOf, stringOf, awaits};
+ghost use Rattle.walk.specs.Turns.{writesHoles, holeDeeds, reads, stringOf, awaits};
 
 // Whether the list is written.
 fn writes_holes(mode: Mode) -> bool
@@ -52,18 +49,10 @@ pub fn hole(w: Walk, t: &[u8], out: &mut [u8], mode: Mode) -> Walk
     w.to(q)
 }
 
-// A source that is a temporary.
-pub fn cell_source(cell: usize, stem: u8) -> ReferenceBuilder
-    ensures { λ r. ⌜ ((t : List ℕ) → sourceOf t r ≡ say (does (temporary cell stem) ∷ [])) ⌝ }
-{
-    ReferenceBuilder {
-        left: 0,
-        at: 0,
-        cell: cell,
-        stem: stem,
-        wanted: true,
-        fresh: false,
-    }
+// The walk after a read of a source, and the builder for the next one.
+pub struct Sourced {
+    pub walk: Walk,
+    pub next: ReferenceBuilder,
 }
 
 // A read of a source.
@@ -74,15 +63,28 @@ pub fn source(
     list: &mut [u8],
     work: &mut [u8],
     b: ReferenceBuilder,
-) -> Walk
-    ensures { λ r. ⌜ (r .at ≡ w .at) × (Runs (goingOf (now (out .entry)) (now (list .entry)) (now (work .entry)) w) (goingOf (now (out .exit)) (now (list .exit)) (now (work .exit)) r) (reads (now (t .entry)) (readOf b))) ⌝ }
+) -> Sourced
+    ensures { λ r. ⌜ (r .walk .at ≡ w .at) × (r .next ≡ afterRead b) × Runs (goingOf (now (out .entry)) (now (list .entry)) (now (work .entry)) w) (goingOf (now (out .exit)) (now (list .exit)) (now (work .exit)) (r .walk)) (reads (now (t .entry)) (readOf b)) ⌝ }
 {
     let at = w.at;
     let taken = b.create_read_expression();
     let read = taken.read;
+    let next = taken.next;
     match read {
-        Read::Expression { left, at: p } => w.to(p).copy(t, out, skip(t, left, p)).to(at),
-        Read::Temporary { cell, stem } => w.temporary(out, list, work, cell, stem),
+        Read::Expression { left, at: p } => {
+            let u = w.to(p).copy(t, out, skip(t, left, p)).to(at);
+            Sourced {
+                walk: u,
+                next: next,
+            }
+        }
+        Read::Temporary { cell, stem } => {
+            let u = w.temporary(out, list, work, cell, stem);
+            Sourced {
+                walk: u,
+                next: next,
+            }
+        }
     }
 }
 
