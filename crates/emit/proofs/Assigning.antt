@@ -2,7 +2,7 @@
 -- Assumes nothing.
 use mathlib.Core.Path.{_≡_, refl, sym, ap, ap₂, _∙_, subst}
 use mathlib.Core.Bool.{Bool, true, false, cond, not, _&&_, false≢true}
-use mathlib.Core.List.{List, [], _∷_, _++_}
+use mathlib.Core.List.{List, [], _∷_}
 use Prim.Native.Nat.{ℕ, zero, suc, _+_, _-_, _/_, _%_, _≤_, _<_}
 use native.Mathlib.Omega.{arith}
 use lib.Dec.{eqb}
@@ -51,14 +51,14 @@ use Rattle.walk.specs.declared.views.View.the-variants.{Replacing, Taking}
 use Rattle.walk.specs.declared.reaches.Reach.the-variants.{Anywhere, Straight, InArrays}
 use Rattle.walk.specs.Run.{Going, Does, Clear}
 use Rattle.walk.specs.Whole.{Good}
-use Rattle.walk.specs.Turns.{viewOf, reachOf, turnOf, turnsOf, deepMode, suits, AllSuit, sourceOf, cellAt, givenDeeds, givenNode, unlessRefused, deepOf, deepSuits}
+use Rattle.walk.specs.Turns.{viewOf, reachOf, turnsOf, AllSuit, sourceOf, cellAt, givenDeeds, givenNode, unlessRefused, deepOf, deepSuits}
 use Rattle.walk.proofs.PlacesFit.{places-small}
 use Rattle.walk.proofs.Running.{does-then, does-as, does-to, clear-after, clear-still}
 use Rattle.walk.proofs.KeysOnceFull as walked
 use Rattle.walk.proofs.KeysOnceFull.{source-quiet, target-again}
 use Rattle.walk.proofs.SpreadArguments.{does-from}
 use Rattle.emit.proofs.MovedPatterns.{cell-one, as-refused}
-use Rattle.walk.proofs.Turning.{turn-anywhere, turns-value-in-arrays, turns-value-straight, suit-value-in-arrays, suit-value-straight, deep-reached, turns-value-reached, suit-value-reached}
+use Rattle.walk.proofs.Turning.{deep-reached, turns-value-reached, suit-value-reached}
 use Rattle.walk.proofs.Lookups.{cell-within}
 use Rattle.walk.proofs.Opened.{ObjectOpen, AssignmentOpen, object-open, assignment-open, no-good, is-here, position-here, good-short, good-within}
 

@@ -54,7 +54,7 @@ use Rattle.walk.specs.declared.modes.Mode.the-variants as modes
 use Rattle.walk.specs.declared.views.View.the-variants.{Replacing, Taking}
 use Rattle.walk.specs.Run.{Going, Does, Clear}
 use Rattle.walk.specs.Whole.{GoodItems, Good}
-use Rattle.walk.specs.Turns.{viewOf, deepMode, suits, turnOf, turnsOf, sourceOf, reads, startOf, startValue, cellAt, deepSuits, deepOf}
+use Rattle.walk.specs.Turns.{viewOf, turnsOf, sourceOf, reads, startOf, startValue, cellAt, deepSuits, deepOf}
 use Rattle.walk.specs.declared.look.Start.{Start}
 use Rattle.walk.specs.declared.look.Start.the-variants.{Value, Missing}
 use Rattle.walk.proofs.Running.{does-then, does-nothing, does-as, does-to, clear-after, clear-still}

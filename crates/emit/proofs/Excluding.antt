@@ -18,7 +18,7 @@ use Rattle.lowering.specs.Rests.{hasNoProperties}
 use Rattle.lowering.proofs.Cases.{by-test}
 use Rattle.sink.specs.Machine.Event.{temporary, helper}
 use Rattle.pattern.specs.Tally.{limited}
-use Rattle.direct.specs.Events.{Place, Emit, puts, cell, emits}
+use Rattle.direct.specs.Events.{Place, Emit, puts, emits}
 use Rattle.direct.specs.Events.Deed.{does}
 use Rattle.direct.specs.Emit.{say, _▷_, inner, callHead, inTurn}
 use Rattle.direct.specs.Views.{saysCell, isOther, nameless}
@@ -39,7 +39,7 @@ use Rattle.walk.proofs.Lookups.{cell-within}
 use Rattle.walk.proofs.Opened.{property-key, no-good, position-here, good-within, object-open}
 use Rattle.walk.proofs.Turning.{Sequenced, sequenced-as, turns-excluded-key, suit-excluded-key}
 use Rattle.walk.proofs.Viewing.{cell-4, ruled-as}
-use Rattle.lowering.specs.Keys.Entry.{spelt, itself, omitted, saved}
+use Rattle.lowering.specs.Keys.Entry.{spelt}
 
 -- ---- the value
 

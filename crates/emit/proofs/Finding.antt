@@ -19,7 +19,7 @@ use Rattle.lowering.specs.Patterns.Shape.{leaf}
 use Rattle.lowering.proofs.All.{AllItems}
 use Rattle.lowering.proofs.Cases.{by-test, or-left}
 use Rattle.sink.specs.Machine.Event.{temporary}
-use Rattle.direct.specs.Events.{Place, Emit, cell}
+use Rattle.direct.specs.Events.{Place, Emit}
 use Rattle.direct.specs.Events.Deed.{does}
 use Rattle.direct.specs.Emit.{say, _▷_, inTurn}
 use Rattle.direct.specs.Views.{objectAt, objectRestAt, propertyAt, arrayAt, arrayRestAt, saysCell}
@@ -39,7 +39,7 @@ use Rattle.walk.specs.declared.reaches.Reach as reaches
 use Rattle.walk.specs.declared.reaches.Reach.the-variants.{Anywhere}
 use Rattle.walk.specs.Run.{Going, Does, Clear}
 use Rattle.walk.specs.Whole.{GoodItems, Good}
-use Rattle.walk.specs.Turns.{reachOf, deepOf, deepSuits, turnsOf, AllSuit, itemMode, entersArrays, turnOf, deepMode, suits, valueMode, cellAt}
+use Rattle.walk.specs.Turns.{reachOf, deepOf, deepSuits, turnsOf, AllSuit, itemMode, entersArrays, cellAt}
 use Rattle.walk.proofs.Running.{does-then, does-nothing, does-as, does-to, clear-after}
 use Rattle.walk.proofs.SpreadArguments.{does-from}
 use Rattle.walk.proofs.Lookups.{cell-within}

@@ -23,7 +23,7 @@ use Rattle.pattern.specs.Tally.{limited}
 use Rattle.pattern.specs.Moves.{movedBelow}
 use Rattle.pattern.proofs.KeyCases.{by-sort}
 use Rattle.pattern.proofs.RestsFound.{values-changed}
-use Rattle.lowering.proofs.ItemLaws.{count-append, gather-append, gather-each}
+use Rattle.lowering.proofs.ItemLaws.{count-append, gather-each}
 use Rattle.lowering.proofs.Cases.{by-shape}
 
 -- a count that is not cut off

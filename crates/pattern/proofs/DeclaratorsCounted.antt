@@ -7,13 +7,11 @@ use Prim.Native.Nat.{ℕ, _+_, _-_, _<_, _≤_}
 use native.Mathlib.Omega.{arith}
 use borrow.Author.Tests.{eq-eqb, ne-eqb}
 use Rattle.tree.specs.Tree.{Node, Items, count}
-use Rattle.tree.specs.Tree.Node.{node}
-use Rattle.tree.specs.Tree.Fields.{done}
 use Rattle.tree.specs.Tree.Items.{none}
 use Rattle.tree.specs.Read.{byteAt}
 use Rattle.tree.specs.Answer.{Peeked}
-use Rattle.tree.specs.Look.{lookItem, lookItems, lookNode}
-use Rattle.lowering.specs.Parts.{nothing, pieceIn, standsIn, nodeAt, itemsAt, stands, only, gather, orElse, first}
+use Rattle.tree.specs.Look.{lookItem, lookNode}
+use Rattle.lowering.specs.Parts.{nothing, pieceIn, nodeAt, itemsAt, stands, only, gather, orElse, first}
 use Rattle.lowering.specs.Made.{Context, declares, valueOf}
 use Rattle.lowering.specs.Patterns.{shape, objectsWithRest, objectsBelow}
 use Rattle.lowering.specs.Keys.{keysRefusal}
@@ -22,7 +20,7 @@ use Rattle.lowering.specs.Declarations.{isName, source, sourceDeclarator, patte
 use Rattle.pattern.specs.declared.parts.Place.{Place}
 use Rattle.pattern.specs.declared.parts.Run.{Run}
 use Rattle.pattern.specs.declared.tally.Tally.{Tally}
-use Rattle.pattern.specs.Parts.{partAt, itemPlace, placeOf, runOf, nodeHere}
+use Rattle.pattern.specs.Parts.{partAt, placeOf, runOf, nodeHere}
 use Rattle.pattern.specs.Tally.{limited}
 use Rattle.pattern.specs.Objects.{restsTally}
 use Rattle.pattern.specs.Declarators.{made, itemCount, declaratorRefusal, itemRefusal}

@@ -30,7 +30,7 @@ use Rattle.pattern.specs.declared.parts.Place.{Place}
 use Rattle.pattern.specs.declared.parts.Run.{Run}
 use Rattle.pattern.specs.declared.keys.Key.{Key}
 use Rattle.pattern.specs.declared.keys.Key.the-variants as variants
-use Rattle.pattern.specs.declared.keys.Key.the-variants.{Literal, OtherForm, NoForm, Template, Private, Again, Other}
+use Rattle.pattern.specs.declared.keys.Key.the-variants.{OtherForm, Template, Private, Again, Other}
 use Rattle.pattern.specs.declared.numbers.Spelling.{Spelling}
 use Rattle.pattern.specs.declared.numbers.Spelling.the-variants.{Decimal, Hexadecimal, Another}
 use Rattle.pattern.specs.declared.tally.Tally.{Tally}
@@ -38,11 +38,11 @@ use Rattle.pattern.specs.Parts.{partAt, textIn, standing, placeOf, runOf
 use Rattle.pattern.specs.Numbers.{spelledAs, isStringOf}
 use Rattle.pattern.specs.Tally as tally
 use Rattle.pattern.specs.Tally.{limited, both, sum}
-use Rattle.pattern.specs.Keys.{nameIn, formIn, besideForm, literalBy, literalIn, literalAt, keyAt, Becomes, keyRefusal, keyEntry, keyBy, counts, countsBy, keyCounts, keyTally, keysOf, itemKeys}
+use Rattle.pattern.specs.Keys.{nameIn, formIn, besideForm, literalBy, literalIn, literalAt, keyAt, Becomes, keyRefusal, keyEntry, counts, countsBy, keyCounts, keyTally, keysOf, itemKeys}
 use Rattle.pattern.proofs.Places.{Blank, child-is, list-is, kind-is, no-levels, text-part, stands-part, sort-absent, sort-there}
-use Rattle.pattern.proofs.NumberCases.{promisedBy, promised-by, DecimalOf, decimal-string, same-string, Low, spelled-low}
+use Rattle.pattern.proofs.NumberCases.{promisedBy, promised-by, decimal-string, same-string, Low, spelled-low}
 use Rattle.pattern.proofs.Fields.{key-at}
-use Rattle.pattern.proofs.CappedSums.{tallies, refusals, Adds, sumOf, listSum, both-made, sum-start, sum-more, sum-end, first-sum}
+use Rattle.pattern.proofs.CappedSums.{tallies, Adds, sumOf, listSum, both-made, sum-start, sum-more, sum-end}
 use Rattle.lowering.proofs.Cases.{by-test}
 use Rattle.lowering.proofs.ItemLaws.{count-append}
 use Rattle.lowering.proofs.Clauses.{text-name, text-literal}

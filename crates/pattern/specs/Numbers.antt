@@ -1,6 +1,6 @@
 -- What a text is as a number, as the code says it: with the value of a number that is promised a string.
 use Prim.Native.Nat.{ℕ, suc}
-use mathlib.Core.Bool.{Bool, true, false, cond, not, _&&_}
+use mathlib.Core.Bool.{Bool, false, cond, not, _&&_}
 use mathlib.Core.List.{List}
 use lib.Dec.{eqb, ltb}
 use Rattle.lowering.specs.Numbers as numbers

@@ -90,7 +90,14 @@ fn text_words(tree: &[u8], at: usize, n: usize, text: &mut [u8], spot: Spot, f: 
 }
 
 // A Reference or a Binding is its bytes.
-pub(crate) fn text_bytes(tree: &[u8], at: usize, n: usize, text: &mut [u8], spot: Spot, f: Frame) -> Spot
+pub(crate) fn text_bytes(
+    tree: &[u8],
+    at: usize,
+    n: usize,
+    text: &mut [u8],
+    spot: Spot,
+    f: Frame,
+) -> Spot
     ensures { λ r. ⌜ bufferIn (now (text .exit)) r ≡ write (bufferIn (now (text .entry)) spot) (textBytes f (take n (drop at (now (tree .entry))))) ⌝ }
 {
     if f.kind / 2 == 9 {

@@ -17,7 +17,7 @@ use Rattle.tree.specs.Grammar.{Sort, Field, kindOf, formAt, kinds, fieldsOf, ma
 use Rattle.tree.specs.Grammar.Sort.{child, chosen, many, gaps}
 use Rattle.tree.specs.Grammar.Field.{must}
 use Rattle.tree.specs.Grammar.Stage.{input}
-use Rattle.tree.specs.Read.{Got, mapped, accepted, sortIn, byteAt, wideAt, chosenPlace, readItem, readItems, readList, readField, readSlot, readFields, readNode, readTree}
+use Rattle.tree.specs.Read.{Got, mapped, accepted, sortIn, byteAt, wideAt, chosenPlace, readItem, readItems, readList, readField, readSlot, readFields, readNode}
 use Rattle.tree.specs.Read.Got.{got, refused}
 use Rattle.tree.specs.Read.Refusal.{tooDeep}
 use Rattle.tree.specs.WellFormed.{Bytes, Fits, Counts}
@@ -25,11 +25,11 @@ use Rattle.tree.specs.Look.{lookFields, Seen, seen, seenAs, onward, quietAt, lo
 use Rattle.tree.proofs.Within.{there, wide-there, map-byte}
 use Rattle.tree.proofs.Hold.{Holds, holds, of-mapped, of-accepted, of-joined, weaker}
 use Rattle.tree.proofs.Sound.{Stands, SoundNode, SoundPiece, one-byte, two-bytes, field-sound, node-sound, bytes-at, sound}
-use Rattle.tree.proofs.Look.{layout, layouts, form-alike, kind-at, on-fits, on-byte, on-wide, slot-alike, tree-node}
+use Rattle.tree.proofs.Look.{layout, layouts, form-alike, kind-at, on-fits, on-byte, on-wide, slot-alike}
 use Rattle.tree.specs.Note.{Note, loud, noteOf, notesOf, notesFields, notesPiece, notesItems}
 use Rattle.tree.proofs.Laid.{All, all-left, all-right, all-map, all-join, Between}
 use Rattle.tree.proofs.Noted.{Noted}
-use Rattle.tree.proofs.Told.{Known, NodeLooks, node-looks, field-looks, accepted-stands, fields-stand}
+use Rattle.tree.proofs.Told.{Known, node-looks, field-looks, accepted-stands, fields-stand}
 use Rattle.lowering.specs.Parts.{pieceIn}
 use Rattle.lowering.specs.Collect.{isContainer, marked}
 use Rattle.lowering.proofs.Cases.{by-test, and-left, and-right, or-other}
@@ -46,7 +46,7 @@ use Rattle.direct.proofs.SimpleCopied.{emits-copied}
 use Rattle.direct.proofs.StatementMarks.{emits-statement}
 use Rattle.direct.proofs.HeadShapes.{form-is, statement-fits, statement-24, statement-27, literal-anywhere}
 use Rattle.walk.specs.Whole.{Leaf, holeAt, GoodItem, GoodItems, GoodList, GoodField, GoodSlot, GoodFields, Good}
-use Rattle.walk.proofs.CutBytes.{read-self, part-cut, fits-in}
+use Rattle.walk.proofs.CutBytes.{read-self, part-cut}
 
 -- ---- what two readings say of one thing, and the next mark
 

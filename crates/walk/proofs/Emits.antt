@@ -16,7 +16,6 @@ use Rattle.tree.specs.Look.{Seen, onward, quietAt, lookItem, lookItems, lookFie
 use Rattle.tree.specs.Answer.{Peeked, Wide}
 use Rattle.tree.proofs.Rows.{NoKey, no-key, row-done, row-first, first-sort}
 use Rattle.tree.specs.Look as Look
-use Rattle.tree.proofs.Skipping as skipping
 use Rattle.lowering.specs.Collect.{isContainer}
 use Rattle.lowering.specs.Parts.{kind, is}
 use Rattle.lowering.specs.Walk.{ruleOf, opensScope}

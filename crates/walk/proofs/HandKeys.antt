@@ -3,20 +3,16 @@
 use mathlib.Core.Path.{_≡_, refl, sym, ap, ap₂, _∙_, subst}
 use mathlib.Core.Bool.{Bool, true, false, false≢true}
 use mathlib.Core.List.{List, [], _∷_, _++_}
-use mathlib.Core.Option.{Option, some}
-use Prim.Native.Nat.{ℕ, zero, suc, _+_, _-_, _/_, _%_, _≤_, _<_, min}
+use Prim.Native.Nat.{ℕ, suc, _+_, _-_, _/_, _%_, _≤_, _<_}
 use native.Mathlib.Omega.{arith}
 use lib.Dec.{eqb}
-use lib.ListN.{length, take, drop, length-take, length-drop}
-use lib.Seq.{take-nil}
+use lib.ListN.{length}
 use Rattle.tree.specs.Tree.{Node, wideBytes, count, encode}
 use Rattle.tree.specs.Tree.Fields.{done}
-use Rattle.tree.specs.Grammar.{Sort, fieldsOf}
-use Rattle.tree.specs.Read.{byteAt, wideAt}
+use Rattle.tree.specs.Read.{byteAt}
 use Rattle.tree.specs.Answer.{Wide}
-use Rattle.tree.specs.Look.{Seen, onward, lookItems, lookNode, seekFields}
-use Rattle.tree.proofs.Look.{on-within}
-use Rattle.lowering.specs.Parts.{position, is, itemsAt, textAt, pieceIn}
+use Rattle.tree.specs.Look.{Seen, onward, lookItems, lookNode}
+use Rattle.lowering.specs.Parts.{position, is, itemsAt, pieceIn}
 use Rattle.lowering.specs.Made.{Context}
 use Rattle.lowering.specs.Patterns.{properties, key}
 use Rattle.lowering.specs.Keys as keys
@@ -27,8 +23,7 @@ use Rattle.lowering.proofs.All.{AllItems}
 use Rattle.lowering.proofs.Cases.{by-test}
 use Rattle.sink.specs.Machine.{part}
 use Rattle.sink.specs.Machine.Event.{make, listedTemporary, excludedTemporary, declarator}
-use Rattle.pattern.specs.declared.parts.Part.{Part}
-use Rattle.pattern.specs.declared.parts.Part.the-variants.{One, Many, Text, Number, Missing}
+use Rattle.pattern.specs.declared.parts.Part.the-variants.{Number}
 use Rattle.pattern.specs.declared.keys.Key.{Key}
 use Rattle.pattern.specs.declared.keys.Key.the-variants as variants
 use Rattle.pattern.specs.declared.keys.Key.the-variants.{Name, Literal, OtherForm, NoForm, Template, Private, Again, Other}

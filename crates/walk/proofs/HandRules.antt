@@ -3,10 +3,9 @@
 use mathlib.Core.Path.{_≡_, refl, sym, ap, ap₂, _∙_, subst}
 use mathlib.Core.Bool.{Bool, true, false, cond, true≢false}
 use mathlib.Core.List.{List, [], _∷_, _++_}
-use Prim.Native.Nat.{ℕ, suc, _+_, _-_, _/_, _%_, _≤_, _<_}
+use Prim.Native.Nat.{ℕ, suc, _+_, _-_, _/_, _%_, _≤_}
 use native.Mathlib.Omega.{arith}
 use lib.Dec.{eqb}
-use borrow.Author.Tests.{eq-eqb, ne-eqb, eqb-true}
 use Rattle.tree.specs.Tree.{Node, count}
 use Rattle.tree.specs.Tree.Node.{node}
 use Rattle.tree.specs.Tree.Fields.{done, absent, field}
@@ -14,7 +13,7 @@ use Rattle.tree.specs.Tree.Piece.{one}
 use Rattle.tree.specs.Read.{byteAt, wideAt}
 use Rattle.tree.specs.Answer.{Wide}
 use Rattle.tree.specs.Look.{Seen, onward, lookItems, lookNode}
-use Rattle.lowering.specs.Parts.{position, is, nodeAt, itemsAt, stands, standsIn, pieceIn, gather}
+use Rattle.lowering.specs.Parts.{position, is, nodeAt, itemsAt, stands, standsIn, pieceIn}
 use Rattle.lowering.specs.Made.{Context}
 use Rattle.lowering.specs.Patterns.{properties, value}
 use Rattle.lowering.specs.Keys.{keyTemporaries}
@@ -31,7 +30,7 @@ use Rattle.direct.specs.Emit.{say, _▷_, inTurn}
 use Rattle.direct.specs.Views.{View, nameless}
 use Rattle.direct.specs.Views.View.{replacing, taking}
 use Rattle.direct.specs.Objects.{overObjects, reached, reachedIn, overReached, overReplaced, overParts}
-use Rattle.direct.specs.Objects.Reach.{anywhere, straight, inArrays}
+use Rattle.direct.specs.Objects.Reach.{straight, inArrays}
 use Rattle.direct.specs.Handed.{placeMade, keysMade, excludesOf, handsKeys, handsPlace, otherKeys, placesIn, partsCount, declaratorMade, declaratorExcludes, handsTop, handsNested}
 use Rattle.direct.proofs.Threads.{then-assoc, say-nothing}
 use Rattle.direct.proofs.HandedByObject.{keys-counted}

@@ -10,10 +10,9 @@ use Rattle.tree.specs.Tree.{Node, Fields, Items}
 use Rattle.tree.specs.Tree.Node.{node}
 use Rattle.tree.specs.Tree.Fields.{field}
 use Rattle.tree.specs.Tree.Piece.{list}
-use Rattle.tree.specs.Grammar.{fieldsOf}
 use Rattle.tree.specs.Read.{byteAt, wideAt}
 use Rattle.tree.specs.Answer.{Peeked, Wide}
-use Rattle.tree.specs.Look.{Seen, seen, seenAs, onward, lookItem, lookItems, lookFields, lookNode}
+use Rattle.tree.specs.Look.{Seen, seen, seenAs, onward, lookItem, lookItems, lookNode}
 use Rattle.lowering.specs.Parts.{is, nodeAt, pieceIn}
 use Rattle.lowering.specs.Patterns.{shape, value}
 use Rattle.lowering.specs.Patterns.Shape.{leaf}

@@ -40,7 +40,6 @@ use Rattle.direct.specs.Moved.{number}
 use Rattle.direct.proofs.MovedMade.{number-join}
 use Rattle.walk.specs.declared.modes.Deep.{Deep}
 use Rattle.walk.specs.declared.modes.Deep.the-variants.{Found, Reached}
-use Rattle.walk.specs.declared.modes.Mode.{Mode}
 use Rattle.walk.specs.declared.modes.Mode.the-variants as modes
 use Rattle.walk.specs.declared.reaches.Reach as reaches
 use Rattle.walk.specs.declared.reaches.Reach.the-variants.{Anywhere}

@@ -4,17 +4,16 @@
 use mathlib.Core.Path.{_≡_, refl, sym, ap, _∙_}
 use mathlib.Core.Bool.{Bool, true, false, cond}
 use mathlib.Core.List.{List, []}
-use Prim.Native.Nat.{ℕ, zero, suc, _<_}
+use Prim.Native.Nat.{ℕ, zero, suc}
 use native.Mathlib.Omega.{arith}
-use lib.Dec.{eqb}
 use Rattle.tree.specs.Tree.{Node, Fields, Piece, Items, depth}
 use Rattle.tree.specs.Tree.Node.{node}
 use Rattle.tree.specs.Read.{byteAt}
 use Rattle.tree.specs.Look.{Seen, onward, quietAt, lookNode}
 use Rattle.lowering.specs.Parts.{nothing, is, pieceIn, standsIn, asNode, asItems, nodeAt, itemsAt, stands, gather, any, changeNode, _+++_}
 use Rattle.lowering.specs.Made.{Context}
-use Rattle.lowering.specs.Patterns.{shape, properties, itemsOf, rest, hasRest, leftOf, key, value, hasNestedObjectRest, hasObjectRest, objectsWithRest, objectsBelow, replacedBelow}
-use Rattle.lowering.specs.Declarations.{nested, nestedBelow, innerObjects}
+use Rattle.lowering.specs.Patterns.{shape, properties, itemsOf, rest, hasRest, leftOf, key, value, hasNestedObjectRest, objectsWithRest, objectsBelow}
+use Rattle.lowering.specs.Declarations.{nested, innerObjects}
 use Rattle.lowering.proofs.Cases.{by-shape, object-is}
 use Rattle.lowering.proofs.ChangeLaws.{changeNode-same}
 use Rattle.lowering.proofs.Simple.{Simple, SimpleFields, SimplePiece, SimpleItems, simple}

@@ -1,9 +1,8 @@
 -- The small steps that emitters are made of: one law for each, and what it does where its numbers are small enough.
 -- Assumes nothing.
 use mathlib.Core.Path.{_≡_, refl, sym, ap, ap₂, _∙_}
-use mathlib.Core.Bool.{true}
 use mathlib.Core.List.{List, [], _∷_, _++_}
-use Prim.Native.Nat.{ℕ, zero, suc, _+_, _-_, _%_, _≤_, _<_}
+use Prim.Native.Nat.{ℕ, _+_, _-_, _%_, _≤_, _<_}
 use native.Mathlib.Omega.{arith}
 use lib.ListN.{length}
 use lib.Seq.{length-slice}
@@ -20,7 +19,7 @@ use Rattle.direct.specs.Keys.{stringBytes}
 use Rattle.direct.specs.Assigned.{assignHead}
 use Rattle.walk.specs.Run.{Going, Runs, Does}
 use Rattle.walk.specs.Turns.{declarationHead, blockHead, stringAt}
-use Rattle.walk.proofs.Running.{going, runs-does, runs-then, runs-as, by-events, by-event, by-puts, by-wide, two-bytes, does-as}
+use Rattle.walk.proofs.Running.{going, runs-does, runs-then, runs-as, by-events, by-event, by-puts, by-wide, two-bytes}
 
 -- ---- bytes of the list and of the excluded declarators
 

@@ -24,8 +24,6 @@ use Rattle.lowering.specs.Made.{Context, string}
 use Rattle.lowering.specs.Patterns.{key}
 use Rattle.lowering.specs.Numbers.{digitsOf}
 use Rattle.lowering.specs.Keys.{keySort, entryOf, keyText, promised, literalText}
-use Rattle.lowering.specs.Keys as lowering
-use Rattle.lowering.specs.Keys.Entry.{spelt, itself, omitted, saved}
 use Rattle.sink.specs.Machine.{part}
 use Rattle.sink.specs.Machine.Event.{put, temporary}
 use Rattle.pattern.specs.declared.parts.Part.{Part}
@@ -55,10 +53,10 @@ use Rattle.direct.specs.Keys.{stringBytes}
 use Rattle.walk.specs.Run.{Going, Runs, Does}
 use Rattle.walk.specs.Whole.{Good}
 use Rattle.walk.specs.Turns.{holeDeeds, holeOf, reads, sourceOf, stringAt, stringOf, keyClass, keyString, awaits, writesHoles}
-use Rattle.walk.proofs.Running.{does-as, runs-does, runs-none, runs-as, does-nothing}
+use Rattle.walk.proofs.Running.{does-as, runs-does, runs-none, runs-as}
 use Rattle.walk.proofs.SmallSteps.{string-whole}
 use Rattle.walk.proofs.Opened.{good-short}
-use Rattle.walk.proofs.Lookups.{when-yes, when-no, classOf, isString, entry-is, key-class}
+use Rattle.walk.proofs.Lookups.{when-yes, classOf, isString, entry-is, key-class}
 
 -- the same from the same
 runs-between : {g h h′ g′ : Going} {ds : List Deed} → h ≡ g → g′ ≡ h′ → Runs h h′ ds → Runs g g′ ds

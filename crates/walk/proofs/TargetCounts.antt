@@ -8,12 +8,11 @@ use native.Mathlib.Omega.{arith}
 use native.Mathlib.Decide.{decLt}
 use Rattle.tree.specs.Tree.{Node, Items, count, depth, depthFields}
 use Rattle.tree.specs.Tree.Node.{node}
-use Rattle.tree.specs.Tree.Fields.{done}
 use Rattle.tree.specs.Tree.Items.{none}
 use Rattle.tree.specs.Read.{byteAt}
 use Rattle.tree.specs.Look.{lookItem, lookItems, lookNode}
-use Rattle.lowering.specs.Parts.{nothing, only, itemsAt, pieceIn, gather}
-use Rattle.lowering.specs.Patterns.{shape, properties, itemsOf, hasRest, leftOf, value}
+use Rattle.lowering.specs.Parts.{nothing, only, gather}
+use Rattle.lowering.specs.Patterns.{shape, itemsOf, hasRest, leftOf, value}
 use Rattle.lowering.specs.Patterns.Shape.{objectPattern, arrayPattern, default, leaf}
 use Rattle.pattern.specs.declared.parts.Place.{Place}
 use Rattle.pattern.specs.declared.parts.Run.{Run}

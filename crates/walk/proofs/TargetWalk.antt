@@ -6,7 +6,7 @@ use mathlib.Core.List.{List, [], _∷_}
 use Prim.Native.Nat.{ℕ, zero, suc, _-_, _/_, _%_, _≤_, _<_}
 use native.Mathlib.Omega.{arith}
 use lib.Dec.{eqb}
-use borrow.Author.Tests.{eq-eqb, ne-eqb}
+use borrow.Author.Tests.{ne-eqb}
 use Rattle.tree.specs.Tree.{Node, Items}
 use Rattle.tree.specs.Read.{byteAt, wideAt}
 use Rattle.tree.specs.Answer.{Wide}
@@ -18,7 +18,7 @@ use Rattle.sink.specs.Machine.Event.{listedTemporary}
 use Rattle.direct.specs.Events.{Emit, lists}
 use Rattle.direct.specs.Events.Deed.{does}
 use Rattle.direct.specs.Emit.{say, inTurn}
-use Rattle.direct.specs.Views.{objectAt, objectRestAt}
+use Rattle.direct.specs.Views.{objectRestAt}
 use Rattle.direct.specs.Objects.{counts, enters, overReached}
 use Rattle.direct.specs.Objects.Reach.{anywhere}
 use Rattle.direct.specs.Handed.{handsPlace}
@@ -31,7 +31,7 @@ use Rattle.walk.specs.Turns.{reachOf}
 use Rattle.walk.proofs.Running.{does-nothing, does-as}
 use Rattle.walk.proofs.Emits.{good-item, full}
 use Rattle.walk.proofs.Opened.{no-good, kind-byte, leaf-here, object-open, array-open, property-open, default-open}
-use Rattle.walk.proofs.Hands.{Left, left-start, left-end, left-more, solid-more, Any, any-start, at-level, list-from}
+use Rattle.walk.proofs.Hands.{Left, left-start, left-end, left-more, solid-more, Any, any-start, at-level}
 use Rattle.walk.proofs.HandKeys.{object-listed}
 
 -- what is listed of a target

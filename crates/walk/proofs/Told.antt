@@ -1,7 +1,7 @@
 -- What the code for rests, keys and parts is told of the scope: places with the answer for their root, and the place of a list's items by its mode.
 -- Assumes nothing.
 use mathlib.Core.Path.{_≡_, refl, sym, ap, _∙_, subst}
-use mathlib.Core.Bool.{Bool, true, false, cond, _||_}
+use mathlib.Core.Bool.{Bool, true, false}
 use Prim.Native.Nat.{ℕ}
 use mathlib.Core.List.{List}
 use Rattle.direct.specs.Events as events

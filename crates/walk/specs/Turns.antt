@@ -4,7 +4,7 @@ use mathlib.Core.Path.{_≡_}
 use mathlib.Core.Bool.{Bool, true, false, cond, not, _&&_, _||_}
 use mathlib.Core.List.{List, [], _∷_, _++_}
 use mathlib.Core.Option.{Option, some}
-use lib.Dec.{eqb, leb, ltb}
+use lib.Dec.{eqb, ltb}
 use Rattle.tree.specs.Tree.{Node, Items, wideBytes, count}
 use Rattle.tree.specs.Tree.Items.{none, hole, item}
 use Rattle.tree.specs.Read.{byteAt, wideAt}

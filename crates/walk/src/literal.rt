@@ -16,7 +16,7 @@ ghost use Prim.Native.Nat.{ℕ, _%_};
 ghost use lib.Dec.{eqb};
 ghost use Rattle.tree.specs.Read.{byteAt};
 ghost use Rattle.tree.specs.Look.{onward, lookItems, lookNode};
-ghost use Rattle.direct.specs.Literals.{isSpread, modeNext, modeAfter, headAt, innerHeads, lastHead, heads, run};
+ghost use Rattle.direct.specs.Literals.{isSpread, modeNext, modeAfter, headAt, innerHeads, heads, run};
 ghost use Rattle.walk.specs.Run.{goingOf, Runs};
 ghost use Rattle.walk.specs.Turns.{spreadAt, pendingDeeds};
 

@@ -27,7 +27,7 @@ ghost use Rattle.tree.specs.Look.{lookNode};
 ghost use Rattle.lowering.specs.Patterns.{value, properties};
 ghost use Rattle.pattern.specs.Tally.{limited};
 ghost use Rattle.direct.specs.Emit.{say, inTurn};
-ghost use Rattle.direct.specs.Objects.{reached, reachedIn, overReached, counts};
+ghost use Rattle.direct.specs.Objects.{reached, overReached, counts};
 ghost use Rattle.direct.specs.Objects as objects;
 ghost use Rattle.direct.specs.Handed.{handsPlace};
 ghost use Rattle.walk.specs.Run.{goingOf, Does};

@@ -5,7 +5,7 @@ use crate::written;
 use pattern::numbers::digits_of;
 use sink::Sink;
 ghost use mathlib.Core.Path.{_≡_};
-ghost use mathlib.Core.Bool.{cond, _&&_};
+ghost use mathlib.Core.Bool.{_&&_};
 ghost use mathlib.Core.List.{List, [], _∷_, _++_};
 ghost use lib.Dec.{ltb};
 ghost use Prim.Native.Nat.{ℕ, _%_};
@@ -291,7 +291,13 @@ impl Walk {
         }
     }
 
-    pub(crate) fn listed_temporary(self, list: &mut [u8], work: &mut [u8], c: usize, stem: u8) -> Walk
+    pub(crate) fn listed_temporary(
+        self,
+        list: &mut [u8],
+        work: &mut [u8],
+        c: usize,
+        stem: u8,
+    ) -> Walk
         ensures { λ r. ⌜ ((o : List ℕ) → Runs (goingOf o (now (list .entry)) (now (work .entry)) self) (goingOf o (now (list .exit)) (now (work .exit)) r) (does (listedTemporary c stem) ∷ [])) × (r .at ≡ self .at) ⌝ }
     {
         let k = self.sink;

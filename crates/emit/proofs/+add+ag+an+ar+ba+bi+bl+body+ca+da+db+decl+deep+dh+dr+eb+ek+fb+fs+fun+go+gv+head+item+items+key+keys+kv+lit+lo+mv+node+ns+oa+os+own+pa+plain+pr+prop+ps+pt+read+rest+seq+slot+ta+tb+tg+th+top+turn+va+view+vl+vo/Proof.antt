@@ -1,10 +1,10 @@
-use Prim.Native.Nat.{ℕ, _<_, _≤_, _+_, _-_, _*_, min}
+use Prim.Native.Nat.{ℕ, _<_, _≤_, _+_, _*_}
 use borrow.Fn.PlainCycle.{Measures}
 use Rattle.tree.proofs.Cycle.{at-measure, below-measure}
 use lib.ListN.{length}
 use borrow.Author.Needs.{needs}
 use native.Mathlib.Omega.{arith}
-use mathlib.Core.Bool.{Bool, true, false, cond, false≢true}
+use mathlib.Core.Bool.{true, false, false≢true}
 use mathlib.Core.Logic.{⊎-elim}
 use mathlib.Core.Path.{_≡_, refl, sym, ap, _∙_}
 use Rattle.walk.specs.Whole.{placeOf, holeAt, GoodItems, GoodFields, Good}
@@ -12,7 +12,7 @@ use Rattle.walk.specs.Run.{goingOf}
 use Rattle.direct.specs.Emit.{emitsItems, emitsFields}
 use Rattle.tree.specs.Look.{lookItems, lookFields, lookNode}
 use Rattle.tree.specs.Rows.{fieldsIn}
-use Rattle.walk.specs.Turns.{AllSuit, isTold, toldPlace, propertyMode}
+use Rattle.walk.specs.Turns.{AllSuit, isTold, toldPlace}
 use Rattle.walk.proofs.Running.{does-nothing, runs-does}
 use Rattle.walk.specs.declared.views.View as views
 use Rattle.walk.specs.declared.views.View.the-variants.{Replacing, Taking}

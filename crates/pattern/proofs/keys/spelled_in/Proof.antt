@@ -1,5 +1,4 @@
 use mathlib.Core.Path.{refl}
-use native.Mathlib.Omega.{arith}
 use borrow.Author.Needs.{needs}
 use Rattle.pattern.proofs.KeyCases as law
 use Rattle.pattern.proofs.keys.spelled_in.Statement.{statement}

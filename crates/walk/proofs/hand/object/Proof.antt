@@ -1,5 +1,4 @@
 use Rattle.walk.proofs.Running.{runs-does}
-use mathlib.Core.Path.{_∙_}
 use Rattle.walk.proofs.HandKeys as law
 use borrow.Author.Needs.{needs}
 use Rattle.walk.proofs.hand.object.Statement.{statement}
