@@ -1,17 +1,17 @@
 -- Tables that count the entries of each list and of each statement are the changes of the tree.
 -- Assumes nothing.
-use Prim.Native.Nat.{ℕ, zero, suc, _+_, _-_, _*_, _/_, _%_, _<_, _≤_}
-use mathlib.Core.Path.{_≡_, refl, sym, ap, ap₂, _∙_}
+use Prim.Native.Nat.{ℕ, zero, suc, _+_, _-_, _/_, _%_, _<_, _≤_}
+use mathlib.Core.Path.{_≡_, refl, sym, ap, _∙_}
 use mathlib.Core.List.{List, [], _∷_, _++_, append-assoc}
 use mathlib.Core.Bool.{Bool, true, false, cond}
 use mathlib.Core.Option.{Option, none, some}
 use mathlib.Core.Logic.{_⊎_, inl, inr}
 use native.Mathlib.Omega.{arith}
 use native.Mathlib.Decide.{decLt}
-use lib.Dec.{eqb, ltb}
+use lib.Dec.{ltb}
 use lib.ListN.{length, getD, drop, length-append, length-drop}
 use lib.Seq.{getD-drop, drop-drop, drop-at}
-use borrow.Author.Tests.{eq-eqb, ne-eqb, lt-ltb, le-ltb, ltb-true, ltb-false}
+use borrow.Author.Tests.{eq-eqb, ne-eqb, lt-ltb}
 use Rattle.tree.specs.Tree.{Node, Fields, Piece, Items, mapOf, count, wideBytes, encode, encodeFields, encodePiece, encodeItems}
 use Rattle.tree.specs.Tree.Node.{node}
 use Rattle.tree.specs.Tree.Fields.{done, absent, field}
@@ -19,7 +19,7 @@ use Rattle.tree.specs.Tree.Piece.{one, list, text, byte, mark, number}
 use Rattle.tree.specs.Tree.Items.{hole, item}
 use Rattle.tree.specs.Read.{byteAt, wideAt}
 use Rattle.lowering.specs.Collect.{Entry}
-use Rattle.joining.specs.Join.{isContainer, firstMark, ownMark, pieceMark, foundBy, handedTo, handedBy, before}
+use Rattle.joining.specs.Join.{isContainer, firstMark, ownMark, foundBy, handedTo, handedBy, before}
 use Rattle.joining.specs.Changes.{Change, keep, here, Kept, Count, Agrees, AgreesFields, AgreesPiece, AgreesItems}
 use Rattle.joining.specs.Changes.Change.{behind, counted}
 use Rattle.joining.specs.Spots.{Spot, spot, placeOf, statementOf, spotted, owned, spots, spotsFields, spotsPiece, spotsItems, tally, shares, changeAt}

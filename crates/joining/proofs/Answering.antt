@@ -1,16 +1,16 @@
 -- The entry: one law for each way out.
 -- Assumes nothing.
-use Prim.Native.Nat.{ℕ, zero, suc, _+_, _-_, _*_, _<_, _≤_, min}
+use Prim.Native.Nat.{ℕ, suc, _+_, _-_, _*_, _<_, _≤_, min}
 use mathlib.Core.Path.{_≡_, refl, sym, ap, _∙_}
 use mathlib.Core.List.{List, [], _∷_, _++_, append-assoc}
 use mathlib.Core.Bool.{Bool, true, false, cond}
 use native.Mathlib.Omega.{arith}
 use native.Mathlib.Decide.{decLt}
-use lib.Dec.{eqb, ltb, leb}
-use lib.ListN.{length, getD, set, replicate, length-append, length-replicate, replicate-append-replicate}
+use lib.Dec.{ltb, leb}
+use lib.ListN.{length, getD, replicate, length-append, length-replicate, replicate-append-replicate}
 use lib.Seq.{set-append-seam}
 use borrow.Author.Tests.{le-leb, lt-leb}
-use Rattle.tree.specs.Tree.{Node, Items, encode, marks}
+use Rattle.tree.specs.Tree.{Node, encode, marks}
 use Rattle.tree.specs.Tree.Node.{node}
 use Rattle.tree.specs.Tree.Fields.{done, field}
 use Rattle.tree.specs.Tree.Piece.{list}
@@ -20,28 +20,26 @@ use Rattle.tree.specs.Read.{Got, wideAt, readTree}
 use Rattle.tree.specs.Read.Got.{got, refused}
 use Rattle.tree.proofs.Sound.{never}
 use Rattle.rewritten.specs.Rewritten.{distinct, checked, readRewritten, isGot, isRewritten}
-use Rattle.rewritten.proofs.Rewritten.{Accepted, rewritten-sound, checked-got}
-use Rattle.lowering.specs.Collect.{Entry}
+use Rattle.rewritten.proofs.Rewritten.{rewritten-sound, checked-got}
 use Rattle.drawing.specs.Pen.{next, put, reach}
 use Rattle.drawing.proofs.Writing.{next-in, next-le, put-length}
 use Rattle.joining.specs.List.{Handed, handed, readHanded, innerMarks}
 use Rattle.joining.specs.Join.{found, joinedTree}
-use Rattle.joining.specs.Answer.{Outcome, taken, allFound, fitting, afterList, afterTree, outcome, answerOf, bytesOf, filled, Answered}
+use Rattle.joining.specs.Answer.{taken, allFound, fitting, afterList, afterTree, outcome, filled, Answered}
 use Rattle.joining.specs.Answer.Outcome.{refusal, tree}
-use Rattle.joining.specs.Tables.{chain}
 use Rattle.joining.specs.Writing.{Copied, wholeBytes, Finished}
 use Rattle.joining.specs.Spots.{Spot, placeOf, statementOf, spots, tally, shares}
-use Rattle.joining.specs.Files.{In, Files, Notes, times, Collected, Toured}
-use Rattle.joining.specs.Settle.{Settled, settled, settles, Stand, names}
-use Rattle.joining.specs.Entries.{Told, runList, Listed, Ended, Ends as Answers, IfAt}
-use Rattle.joining.specs.Entries.Told.{lost, told}
+use Rattle.joining.specs.Files.{In, Notes, times, Collected, Toured}
+use Rattle.joining.specs.Settle.{settled, settles, Stand, names}
+use Rattle.joining.specs.Entries.{runList, Listed, Ended, Ends as Answers, IfAt}
+use Rattle.joining.specs.Entries.Told.{lost}
 use Rattle.joining.specs.declared.bodies.Found.{Found}
 use Rattle.joining.specs.declared.bodies.Found.the-variants.{Latest, NoTree}
 use Rattle.joining.specs.declared.entries.Ending.{Ending}
 use Rattle.joining.specs.declared.entries.Ending.the-variants.{At, Missing}
 use Rattle.joining.proofs.Tables.{chain-within}
 use Rattle.joining.proofs.Listing.{at-ends, missing-ends, at-then}
-use Rattle.joining.proofs.Times.{times-append, among-times, distinct-once, Twice, distinct-not, once-distinct}
+use Rattle.joining.proofs.Times.{times-append, among-times, distinct-once, distinct-not, once-distinct}
 use Rattle.joining.proofs.Handed.{ListRead, list-told, list-lost}
 use Rattle.joining.proofs.Settling.{Counted, counted, tally-most, node-names, all-found}
 use Rattle.joining.proofs.Written.{Program, program, whole-is}

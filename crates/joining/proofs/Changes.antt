@@ -1,9 +1,9 @@
 -- Passing over the bytes of a tree once, with its changes, writes the joined tree.
 -- Assumes nothing.
-use Prim.Native.Nat.{ℕ, zero, suc, _+_, _*_, _/_, _%_}
+use Prim.Native.Nat.{ℕ, suc, _+_, _*_, _/_, _%_}
 use mathlib.Core.Path.{_≡_, refl, sym, ap, ap₂, _∙_}
 use mathlib.Core.List.{List, [], _∷_, _++_}
-use mathlib.Core.Bool.{Bool, true, false}
+use mathlib.Core.Bool.{Bool, false}
 use native.Mathlib.Omega.{arith}
 use mathlib.Core.Logic.{inl, inr}
 use lib.ListN.{length, length-append}
@@ -14,7 +14,7 @@ use Rattle.tree.specs.Tree.Piece.{one, list, text, byte, mark, number}
 use Rattle.tree.specs.Tree.Items.{none, hole, item}
 use Rattle.lowering.specs.Collect.{Entry}
 use Rattle.joining.specs.Join.{isContainer, before, vars, declaration, news, newsFields, newsPiece, newsItems, join, joinFields, joinPiece, joinItems}
-use Rattle.joining.specs.Changes.{Change, keep, varsEncoded, emits, skips, given, here, written, Kept, Count, Agrees, AgreesFields, AgreesPiece, AgreesItems}
+use Rattle.joining.specs.Changes.{Change, keep, varsEncoded, here, written, Kept, Count, Agrees, AgreesFields, AgreesPiece, AgreesItems}
 use Rattle.joining.specs.Changes.Change.{behind, counted}
 
 append-assoc : (xs ys zs : List ℕ) → (xs ++ ys) ++ zs ≡ xs ++ (ys ++ zs)

@@ -1,18 +1,15 @@
 -- list-exact: bytes are read as a list exactly if they are its bytes, it keeps to the layout, and its positions are those that the bytes give it.
 -- Assumes nothing.
-use Prim.Native.Nat.{ℕ, zero, suc, _+_, _-_, _<_, _≤_}
+use Prim.Native.Nat.{ℕ, _+_, _-_, _≤_}
 use mathlib.Core.Path.{_≡_, refl, sym, ap, _∙_}
 use mathlib.Core.List.{List, [], _∷_, _++_, append-assoc, append-nil}
-use mathlib.Core.Bool.{true}
 use native.Mathlib.Nat.{add-zero}
 use native.Mathlib.Omega.{arith}
-use lib.Dec.{eqb, ltb, leb}
 use lib.ListN.{length, drop, length-append, length-drop}
 use borrow.Author.Tests.{lt-ltb, le-leb, eq-eqb}
 use Rattle.tree.specs.Tree.{Node, Fields, Piece, Items, wideBytes, encode, encodeFields, encodePiece, encodeItems, placedPiece, placedItems, depth, depthFields, depthPiece, depthItems}
 use Rattle.tree.specs.Tree.Node.{node}
 use Rattle.tree.specs.Tree.Piece.{list}
-use Rattle.tree.specs.Grammar.{declarator}
 use Rattle.tree.specs.Grammar.Stage.{rewritten}
 use Rattle.tree.specs.WellFormed.{Bytes}
 use Rattle.tree.specs.Read.{Got, mapped, wideAt, readField}

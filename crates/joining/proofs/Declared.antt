@@ -1,12 +1,11 @@
 -- declarators-once: the declarators of the new statements are the list's, each once and in order; unmoved for whatever is read.
 -- Assumes nothing.
-use Prim.Native.Nat.{ℕ, zero, suc, _+_, _*_, _<_, _≤_}
+use Prim.Native.Nat.{ℕ, suc, _+_, _*_, _<_, _≤_}
 use mathlib.Core.Path.{_≡_, refl, sym, ap, ap₂, _∙_}
 use mathlib.Core.List.{List, [], _∷_, _++_, append-assoc, append-nil}
 use mathlib.Core.Bool.{Bool, true, false, cond}
 use mathlib.Core.Option.{Option, none, some}
 use native.Mathlib.Omega.{arith}
-use lib.Dec.{eqb, ltb}
 use lib.ListN.{length, length-append}
 use borrow.Author.Tests.{eq-eqb, ne-eqb, ltb-true}
 use Rattle.tree.specs.Tree.{Node, Fields, Piece, Items, encode, marks, marksFields, marksPiece, marksItems}
@@ -26,14 +25,14 @@ use Rattle.lowering.proofs.ItemLaws.{over-append}
 use Rattle.equal.specs.Equal.{listEncoded}
 use Rattle.joining.specs.List.{Handed, readHanded, innerMarks}
 use Rattle.joining.specs.Answer.{taken, allFound}
-use Rattle.joining.specs.Join.{isContainer, firstMark, ownMark, foundBy, asList, found, foundFields, foundPiece, foundItems, declaration, handedTo, handedBy, before, vars, news, newsFields, newsPiece, newsItems, join, joinFields, joinPiece, joinItems, fresh, headed, joinedBy, joinedTree}
-use Rattle.joining.specs.Without.{isNew, listsIn, listsOf, ifAny, without, declared, declaredFields, declaredPiece, declaredItems}
+use Rattle.joining.specs.Join.{isContainer, firstMark, foundBy, asList, found, foundFields, foundPiece, foundItems, declaration, handedTo, handedBy, before, vars, news, newsFields, newsPiece, newsItems, join, joinFields, joinPiece, joinItems, fresh, headed, joinedBy, joinedTree}
+use Rattle.joining.specs.Without.{listsIn, ifAny, without, declared, declaredFields, declaredPiece, declaredItems}
 use Rattle.joining.specs.Files.{times}
 use Rattle.joining.proofs.Times.{among-times, distinct-once}
 use Rattle.joining.proofs.Settling.{all-found}
 use Rattle.joining.proofs.Written.{Program, program}
 use Rattle.joining.proofs.Unmoved.{Old, New, old-left, old-right, own-joined, own-old, untaken, given-new, marks-old, unmoved}
-use Rattle.joining.proofs.Exact.{ListSound, list-sound, marks-long, list-long}
+use Rattle.joining.proofs.Exact.{list-sound, marks-long, list-long}
 
 -- ---- how many there are
 

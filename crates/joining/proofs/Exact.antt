@@ -2,10 +2,10 @@
 -- Assumes nothing.
 use Prim.Native.Nat.{ℕ, zero, suc, _+_, _*_, _<_, _≤_}
 use mathlib.Core.Path.{_≡_, refl, sym, ap, _∙_}
-use mathlib.Core.List.{List, [], _∷_, _++_, append-assoc, append-nil}
-use mathlib.Core.Bool.{Bool, true, false, cond}
+use mathlib.Core.List.{List, [], _∷_, _++_, append-nil}
+use mathlib.Core.Bool.{Bool, true, false}
 use native.Mathlib.Omega.{arith}
-use lib.Dec.{eqb, ltb, leb}
+use lib.Dec.{ltb, leb}
 use lib.ListN.{length, drop, length-append}
 use lib.Seq.{drop-length}
 use borrow.Author.Tests.{eqb-true, ltb-true, leb-true}
@@ -19,7 +19,7 @@ use Rattle.tree.proofs.Sound.{Stands, nothing, and-then, two-bytes, bytes-at}
 use Rattle.rewritten.proofs.Pass.{accepted-got}
 use Rattle.lowering.specs.Collect.{Entry, over}
 use Rattle.equal.specs.Equal.{entryEncoded, listEncoded}
-use Rattle.joining.specs.List.{Handed, entry, handed, readDeclarators, readEntry, readEntries, readParts, readHanded, innerMarks, longestList, FitDeclarators, FitEntries, FitHanded}
+use Rattle.joining.specs.List.{Handed, entry, handed, readDeclarators, readEntry, readEntries, readParts, readHanded, innerMarks, longestList, FitEntries, FitHanded}
 use Rattle.joining.proofs.Handed.{refused-got, declarators-sound, mapped-got, whole-got}
 
 module _ (l : List ℕ) (b : Bytes l) where

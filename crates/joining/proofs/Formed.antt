@@ -9,7 +9,7 @@ use native.Mathlib.Omega.{arith}
 use native.Mathlib.Decide.{decLt}
 use lib.Dec.{eqb, ltb}
 use lib.ListN.{length, getD, length-append}
-use borrow.Author.Tests.{eq-eqb, ne-eqb, lt-ltb, le-ltb}
+use borrow.Author.Tests.{ne-eqb, lt-ltb, le-ltb}
 use Rattle.tree.specs.Tree.{Node, Fields, Piece, Items, count, encode, encodeFields, encodePiece, encodeItems}
 use Rattle.tree.specs.Tree.Node.{node}
 use Rattle.tree.specs.Tree.Fields.{done, absent, field}
@@ -25,7 +25,7 @@ use Rattle.tree.proofs.Look.{kind-at}
 use Rattle.rewritten.proofs.Marks.{by-same}
 use Rattle.lowering.specs.Collect.{Entry}
 use Rattle.joining.specs.List.{FitDeclarators, FitEntries}
-use Rattle.joining.specs.Join.{isContainer, pieceMark, firstMark, ownMark, declaration, handedTo, handedBy, before, vars, news, newsFields, newsPiece, newsItems, join, joinFields, joinPiece, joinItems, headed, joinedBy}
+use Rattle.joining.specs.Join.{isContainer, pieceMark, firstMark, ownMark, declaration, handedTo, handedBy, before, vars, news, newsPiece, join, joinFields, joinPiece, joinItems, headed, joinedBy}
 use Rattle.joining.proofs.Agree.{count-short}
 use Rattle.joining.proofs.Written.{Program}
 

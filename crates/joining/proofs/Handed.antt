@@ -1,26 +1,26 @@
 -- What is answered of the list is what the definition reads.
 -- Assumes nothing.
-use Prim.Native.Nat.{ℕ, zero, suc, _+_, _-_, _*_, _<_, _≤_}
+use Prim.Native.Nat.{ℕ, zero, suc, _+_, _-_, _*_, _≤_}
 use mathlib.Core.Path.{_≡_, refl, sym, ap, _∙_}
 use mathlib.Core.List.{List, [], _∷_, _++_}
 use mathlib.Core.Bool.{Bool, true, false, cond}
 use mathlib.Core.Option.{Option, none, some}
 use native.Mathlib.Omega.{arith}
 use lib.Dec.{eqb, ltb, leb}
-use lib.ListN.{length, getD, take, drop, length-append}
+use lib.ListN.{length, getD, take, drop}
 use lib.Seq.{take-at}
 use borrow.Author.Tests.{eqb-true, leb-true}
-use Rattle.tree.specs.Tree.{Items, count, wideBytes, encodePiece, encodeItems, marksItems}
+use Rattle.tree.specs.Tree.{Items, encodePiece, marksItems}
 use Rattle.tree.specs.Tree.Piece.{list}
 use Rattle.tree.specs.Grammar.{declarator}
 use Rattle.tree.specs.Grammar.Stage.{rewritten}
 use Rattle.tree.specs.Grammar.Sort.{many}
 use Rattle.tree.specs.WellFormed.{Bytes}
-use Rattle.tree.specs.Read.{Got, mapped, joined, accepted, whole, wideAt, readList, readField}
+use Rattle.tree.specs.Read.{Got, mapped, joined, accepted, whole, wideAt, readField}
 use Rattle.tree.specs.Read.Got.{got, refused}
-use Rattle.tree.proofs.Hold.{Holds, holds}
-use Rattle.tree.proofs.Sound.{never, SoundPiece, SoundNode, node-sound, field-sound, bytes-at}
-use Rattle.rewritten.specs.Events.{Event, eventsItems}
+use Rattle.tree.proofs.Hold.{holds}
+use Rattle.tree.proofs.Sound.{never, SoundPiece, node-sound, field-sound, bytes-at}
+use Rattle.rewritten.specs.Events.{eventsItems}
 use Rattle.rewritten.specs.Pass.{folded}
 use Rattle.rewritten.specs.Marks.{meet}
 use Rattle.rewritten.specs.Pending.{nodeIn}

@@ -2,23 +2,23 @@
 -- Assumes nothing.
 use Prim.Native.Nat.{ℕ, zero, suc, _+_, _-_, _*_, _/_, _%_, _<_, _≤_}
 use mathlib.Core.Path.{_≡_, refl, sym, ap, _∙_}
-use mathlib.Core.List.{List, [], _∷_, _++_}
+use mathlib.Core.List.{List, [], _∷_}
 use mathlib.Core.Bool.{Bool, true, false, cond}
 use mathlib.Core.Option.{Option, none, some}
 use native.Mathlib.Omega.{arith}
-use lib.Dec.{eqb, ltb, leb}
+use lib.Dec.{ltb}
 use lib.ListN.{length, getD, set}
 use lib.Seq.{getD-set-same, getD-set-other}
 use borrow.Author.Tests.{eq-eqb, ne-eqb, lt-ltb, le-ltb, le-leb, lt-leb}
 use Rattle.tree.specs.Tree.{Items}
 use Rattle.tree.specs.Grammar.{declarator}
-use Rattle.tree.specs.Read.{Got, mapped, accepted, wideAt, readItems, readList}
+use Rattle.tree.specs.Read.{Got, mapped, wideAt, readList}
 use Rattle.tree.specs.Read.Got.{got, refused}
 use Rattle.tree.specs.Read.Refusal.{notATree}
 use Rattle.rewritten.specs.Events.{Event, eventsItems}
 use Rattle.rewritten.specs.Pass.{folded}
 use Rattle.rewritten.specs.Marks.{meet, newIn, noted}
-use Rattle.rewritten.specs.Pending.{nodeIn, itemsCome, comes, pending, taskOf, stack, itemsIn}
+use Rattle.rewritten.specs.Pending.{itemsCome, comes, pending, taskOf, stack}
 use Rattle.rewritten.specs.Pending.Task.{items}
 use Rattle.rewritten.specs.Steps.{comingAt, Stands, Took, Onward, eventIn}
 use Rattle.rewritten.specs.declared.step.Cursor.{Cursor}

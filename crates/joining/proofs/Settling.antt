@@ -5,10 +5,10 @@ use mathlib.Core.Path.{_≡_, refl, sym, ap, _∙_}
 use mathlib.Core.List.{List, [], _∷_, _++_}
 use mathlib.Core.Bool.{Bool, true, false, cond}
 use mathlib.Core.Option.{Option, none, some}
-use mathlib.Core.Logic.{_⊎_, inl, inr}
+use mathlib.Core.Logic.{inl, inr}
 use native.Mathlib.Omega.{arith}
 use lib.Dec.{eqb, ltb}
-use lib.ListN.{length, getD, set, length-set}
+use lib.ListN.{length, getD, set}
 use lib.Seq.{getD-set-same, getD-set-other}
 use borrow.Author.Tests.{eq-eqb, ne-eqb, lt-ltb, le-ltb, eqb-true, eqb-false}
 use Rattle.tree.specs.Tree.{Node, Fields, Piece, Items, encode, encodePiece, marks, marksFields, marksPiece, marksItems}
@@ -23,7 +23,7 @@ use Rattle.rewritten.proofs.Marks.{by-same}
 use Rattle.lowering.specs.Collect.{Entry}
 use Rattle.joining.specs.Join.{isContainer, pieceMark, firstMark, ownMark, foundBy, asList, found, foundFields, foundPiece, foundItems, handedTo}
 use Rattle.joining.specs.Answer.{allFound}
-use Rattle.joining.specs.Tables.{stored, chain, searched, nowhere}
+use Rattle.joining.specs.Tables.{stored, chain, searched}
 use Rattle.joining.specs.Spots.{Spot, spot, placeOf, statementOf, spotted, owned, spots, spotsFields, spotsPiece, spotsItems, tally, shares}
 use Rattle.joining.specs.Files.{In, Files, times}
 use Rattle.joining.specs.Settle.{bumped, Settled, settled, placeAt, settles, Stand, names}

@@ -1,12 +1,11 @@
 -- unmoved: with the new statements taken out the joined tree is the tree.
 -- Assumes nothing.
-use Prim.Native.Nat.{ℕ, zero, suc, _+_, _<_, _≤_}
-use mathlib.Core.Path.{_≡_, refl, sym, ap, ap₂, _∙_}
+use Prim.Native.Nat.{ℕ, suc, _+_, _<_, _≤_}
+use mathlib.Core.Path.{_≡_, refl, ap, ap₂, _∙_}
 use mathlib.Core.List.{List, [], _∷_, _++_}
-use mathlib.Core.Bool.{Bool, true, false, cond, not}
+use mathlib.Core.Bool.{Bool, true, false, not}
 use mathlib.Core.Option.{Option, none, some}
 use native.Mathlib.Omega.{arith}
-use lib.Dec.{eqb, ltb}
 use lib.ListN.{length}
 use borrow.Author.Tests.{eq-eqb, lt-ltb}
 use Rattle.tree.specs.Tree.{Node, Fields, Piece, Items, marks, marksFields, marksPiece, marksItems}
@@ -18,8 +17,8 @@ use Rattle.tree.specs.Grammar.{among}
 use Rattle.lowering.specs.Collect.{Entry}
 use Rattle.joining.specs.List.{Handed, innerMarks}
 use Rattle.joining.specs.Answer.{taken}
-use Rattle.joining.specs.Join.{isContainer, pieceMark, firstMark, ownMark, declaration, before, vars, news, newsFields, newsPiece, newsItems, join, joinFields, joinPiece, joinItems, fresh, headed, joinedBy, joinedTree}
-use Rattle.joining.specs.Without.{isNew, unlessNew, without, withoutFields, withoutPiece, withoutItems}
+use Rattle.joining.specs.Join.{isContainer, firstMark, ownMark, declaration, before, vars, news, newsFields, newsPiece, newsItems, join, joinFields, joinPiece, joinItems, fresh, headed, joinedBy, joinedTree}
+use Rattle.joining.specs.Without.{isNew, without, withoutFields, withoutPiece, withoutItems}
 use Rattle.joining.specs.Files.{times}
 use Rattle.joining.proofs.Times.{times-append, among-times}
 use Rattle.joining.proofs.Written.{Program}

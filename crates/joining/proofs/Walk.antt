@@ -1,6 +1,6 @@
 -- A pass with a stack finds the statements of containers: over the events of a tree it adds the tree's, and leaves the stack as it was.
 -- Assumes nothing.
-use Prim.Native.Nat.{ℕ, zero, suc, _+_, _<_, _≤_}
+use Prim.Native.Nat.{ℕ, suc, _+_, _<_, _≤_}
 use mathlib.Core.Path.{_≡_, refl, sym, ap, ap₂, _∙_}
 use mathlib.Core.List.{List, [], _∷_, _++_, append-assoc, append-nil}
 use mathlib.Core.Bool.{Bool, true, false, cond}
@@ -9,7 +9,7 @@ use native.Mathlib.Omega.{arith}
 use lib.Dec.{eqb, ltb}
 use lib.ListN.{length, length-append}
 use borrow.Author.Tests.{lt-ltb, ltb-true}
-use Rattle.tree.specs.Tree.{Node, Fields, Piece, Items, mapOf, count, encode, encodeFields, encodePiece, encodeItems}
+use Rattle.tree.specs.Tree.{Node, Fields, Piece, Items, encode, encodeFields, encodePiece, encodeItems}
 use Rattle.tree.specs.Tree.Node.{node}
 use Rattle.tree.specs.Tree.Fields.{done, absent, field}
 use Rattle.tree.specs.Tree.Piece.{one, list, text, byte, mark, number}
@@ -17,7 +17,7 @@ use Rattle.tree.specs.Tree.Items.{hole, item}
 use Rattle.rewritten.specs.Events.{Event, events, eventsFields, eventsPiece, eventsItems}
 use Rattle.rewritten.specs.Events.Event.{begins, ends, opens, closes}
 use Rattle.rewritten.specs.Pass.{folded}
-use Rattle.joining.specs.Join.{isContainer, pieceMark, firstMark, ownMark}
+use Rattle.joining.specs.Join.{isContainer, pieceMark, firstMark}
 use Rattle.joining.specs.Spots.{Spot, spot, spotted, owned, spots, spotsFields, spotsPiece, spotsItems}
 
 -- where the pass is; what is around it: 1 a container, its list's position for a list of one, else 0; the item of such a list that has just begun, else 0;

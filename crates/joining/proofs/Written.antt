@@ -1,18 +1,18 @@
 -- What is written by the tables is the joined tree.
 -- Assumes nothing.
-use Prim.Native.Nat.{ℕ, zero, suc, _+_, _-_, _*_, _/_, _%_, _<_, _≤_}
+use Prim.Native.Nat.{ℕ, zero, suc, _+_, _-_, _%_, _<_, _≤_}
 use mathlib.Core.Path.{_≡_, refl, sym, ap, ap₂, _∙_}
-use mathlib.Core.List.{List, [], _∷_, _++_, append-assoc, append-nil}
+use mathlib.Core.List.{List, [], _∷_, _++_, append-nil}
 use mathlib.Core.Bool.{Bool, true, false, cond}
 use native.Mathlib.Omega.{arith}
 use lib.Dec.{eqb, ltb}
-use lib.ListN.{length, getD, take, drop, length-append, length-drop}
-use lib.Seq.{take-all, drop-length, getD-drop}
-use borrow.Author.Tests.{eq-eqb, ne-eqb, lt-ltb, le-ltb}
+use lib.ListN.{length, getD, drop, length-append, length-drop}
+use lib.Seq.{getD-drop}
+use borrow.Author.Tests.{eq-eqb, ne-eqb}
 use Rattle.tree.specs.Tree.{Node, Fields, Piece, Items, mapOf, count, wideBytes, encode, encodeFields, encodePiece, encodeItems}
 use Rattle.tree.specs.Tree.Node.{node}
 use Rattle.tree.specs.Tree.Fields.{done, absent, field}
-use Rattle.tree.specs.Tree.Piece.{one, list, text, byte, mark, number}
+use Rattle.tree.specs.Tree.Piece.{list, text, byte, mark, number}
 use Rattle.tree.specs.Tree.Items.{hole, item}
 use Rattle.tree.specs.Grammar.{among, Sort, Field, root, statement, places, also, allowed, kindOf, formIn, formAt, fieldsOf, kinds, variants}
 use Rattle.tree.specs.Grammar.Sort.{many}
@@ -22,16 +22,16 @@ use Rattle.tree.specs.WellFormed.{Fits, FitFields, FitPiece}
 use Rattle.rewritten.proofs.Marks.{by-same}
 use Rattle.tree.specs.Read.{byteAt, wideAt, sortIn}
 use Rattle.lowering.specs.Collect.{Entry}
-use Rattle.joining.specs.List.{Handed, handed}
-use Rattle.joining.specs.Join.{isContainer, handedTo, declaration, vars, seek, fresh, join, joinFields, joinPiece, joinItems, headed, joinedBy, joinedTree, newsFields, newsPiece, newsItems}
-use Rattle.joining.specs.Changes.{Change, varsEncoded, emits, skips, given, here, written, AgreesItems}
+use Rattle.joining.specs.List.{handed}
+use Rattle.joining.specs.Join.{handedTo, declaration, vars, seek, fresh, join, joinFields, joinPiece, joinItems, headed, joinedBy, joinedTree}
+use Rattle.joining.specs.Changes.{Change, varsEncoded, emits, skips, given, here, written}
 use Rattle.joining.specs.Changes.Change.{behind, counted}
 use Rattle.joining.specs.Writing.{part, declared, freeFrom, freeAfter, varBytes, varLast, varsBytes, varsLast, beforeBytes, beforeLast, stepBytes, stepLast, stepSkips, restBytes, headBytes, headLast, wholeBytes}
 use Rattle.joining.specs.Spots.{Spot, placeOf, statementOf, spots, spotsFields, spotsPiece, spotsItems, tally, shares, changeAt}
 use Rattle.joining.specs.Files.{Notes}
 use Rattle.joining.specs.Settle.{Stand}
 use Rattle.joining.proofs.Changes.{count-joined, items-written}
-use Rattle.joining.proofs.Agree.{byte-is, after, wide-is, count-short, here-weight, items-agree}
+use Rattle.joining.proofs.Agree.{after, wide-is, count-short, here-weight, items-agree}
 
 byte-at : (l : List ℕ) (x : ℕ) → x < length l → byteAt l x ≡ getD l x 0
 unfolding byteAt

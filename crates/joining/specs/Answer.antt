@@ -1,5 +1,5 @@
 -- What is answered of a tree, a list and a slice: 3, 12, 13 and 7 in this order, or the joined tree; and every byte of the slice.
-use Prim.Native.Nat.{ℕ, zero, suc, _-_, min}
+use Prim.Native.Nat.{ℕ, _-_, min}
 use mathlib.Core.Path.{_≡_}
 use mathlib.Core.List.{List, [], _∷_, _++_}
 use mathlib.Core.Bool.{Bool, true, false, cond}

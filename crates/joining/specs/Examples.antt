@@ -1,7 +1,6 @@
 -- Request 10's cases by computation.
 use mathlib.Core.Path.{_≡_, refl}
-use mathlib.Core.List.{List, [], _∷_, _++_}
-use lib.ListN.{length}
+use mathlib.Core.List.{[], _∷_}
 use Rattle.tree.specs.Tree.{marks, marksFields, marksPiece, marksItems, encode, encodeFields, encodePiece, encodeItems, mapOf, count}
 use Rattle.tree.specs.Grammar.{formAt, allowed, also, among, places, formIn, kindOf, fieldsOf, kinds, variants, mapOk}
 use Rattle.tree.specs.Read.{readTree, readNode, readFields, readSlot, readField, readList, readItems, readItem, readText, readByte, readMark, readNumber, chosenPlace, byteAt, wideAt}
@@ -10,7 +9,7 @@ use Rattle.rewritten.specs.Rewritten.{distinct, readRewritten}
 use Rattle.rewritten.specs.Pending.{nodeIn}
 use Rattle.joining.specs.List.{readDeclarators, readEntry, readEntries, readParts, readHanded, innerMarks}
 use Rattle.joining.specs.Join.{firstMark, found, foundFields, foundPiece, foundItems, seek, fresh, handedTo, vars, news, newsFields, newsPiece, newsItems, join, joinFields, joinPiece, joinItems, joinedTree}
-use Rattle.joining.specs.Answer.{Outcome, taken, allFound, outcome}
+use Rattle.joining.specs.Answer.{taken, allFound, outcome}
 use Rattle.joining.specs.Answer.Outcome.{refusal, tree}
 
 pub record Examples : Type 0 where

@@ -1,6 +1,5 @@
 -- The list that a lowering hands out: its layout, and which list the bytes are. Its data are entries and the declarators of excluded keys, its bytes `listEncoded`.
 use Prim.Native.Nat.{ℕ, zero, suc, _+_, _<_, _≤_}
-use mathlib.Core.Path.{_≡_}
 use mathlib.Core.List.{List, [], _∷_, _++_}
 use mathlib.Core.Bool.{false}
 use lib.Dec.{ltb, leb}

@@ -1,7 +1,7 @@
 -- Tables by byte position: chains of positions that fall, and the search along them.
 use Prim.Native.Nat.{ℕ, zero, suc, _+_}
 use mathlib.Core.List.{List, [], _∷_}
-use mathlib.Core.Bool.{true, false, cond}
+use mathlib.Core.Bool.{cond}
 use lib.Dec.{eqb, ltb}
 use lib.ListN.{getD, set}
 use Rattle.tree.specs.Read.{wideAt}

@@ -5,7 +5,6 @@ use rewritten::seen;
 use rewritten::step::Cursor;
 use rewritten::step::Step;
 use tree::bytes;
-ghost use mathlib.Core.Path.{_≡_};
 ghost use mathlib.Core.List.{List};
 ghost use Prim.Native.Nat.{ℕ, _+_, _<_, _≤_};
 ghost use lib.ListN.{length};

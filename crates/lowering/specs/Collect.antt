@@ -78,7 +78,8 @@ pub record Visit : Type 0 where
   pub containing : ℕ
   pub note : Note
 
--- whether the lists of a node are statements directly in a Program, Block, FunctionBody, StaticBlock or Case; a Case's test is no list
+-- whether the lists of a node are statements directly in a Program, Block, FunctionBody, StaticBlock or Case. A Case's test is no list; the directives
+-- of a FunctionBody are Literals, which have no mark, and in which nothing asks for one
 unfoldable pub isContainer : ℕ → Bool
 isContainer k = eqb k 1 || eqb k 2 || eqb k 16 || eqb k 42 || eqb k 44
 

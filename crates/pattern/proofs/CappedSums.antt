@@ -119,7 +119,7 @@ both-assoc a b c = λ j. record {
   patterns = plus-assoc (a .patterns) (b .patterns) (c .patterns) j;
 }
 
-pub both-left : (a b : Tally) → both tally.zero (both a b) ≡ both a b
+pub both-left : (a b : Tally) → both tally.noTally (both a b) ≡ both a b
 unfolding both
 both-left a b = λ j. record {
   excluded = plus-left (a .excluded) (b .excluded) j;
@@ -130,7 +130,7 @@ both-left a b = λ j. record {
   patterns = plus-left (a .patterns) (b .patterns) j;
 }
 
-pub both-right : (a b : Tally) → both (both a b) tally.zero ≡ both a b
+pub both-right : (a b : Tally) → both (both a b) tally.noTally ≡ both a b
 unfolding both
 both-right a b = λ j. record {
   excluded = plus-end (a .excluded) (b .excluded) j;
@@ -141,7 +141,7 @@ both-right a b = λ j. record {
   patterns = plus-end (a .patterns) (b .patterns) j;
 }
 
-pub both-none : both tally.zero tally.zero ≡ tally.zero
+pub both-none : both tally.noTally tally.noTally ≡ tally.noTally
 unfolding both
 both-none = λ j. record {
   excluded = plus-none j;
@@ -153,7 +153,7 @@ both-none = λ j. record {
 }
 
 abbrev pub tallies : Adding Tally
-tallies = record { empty = tally.zero; add = both; assoc = both-assoc; left = both-left; right = both-right; flat = both-none }
+tallies = record { empty = tally.noTally; add = both; assoc = both-assoc; left = both-left; right = both-right; flat = both-none }
 
 pub both-made : (a b r : Tally) → r .excluded ≡ limited (a .excluded + b .excluded) → r .temporaries ≡ limited (a .temporaries + b .temporaries) → r .computed ≡ limited (a .computed + b .computed) → r .refusal ≡ orElse (a .refusal) (b .refusal) → r .objects ≡ limited (a .objects + b .objects) → r .patterns ≡ limited (a .patterns + b .patterns) → r ≡ both a b
 unfolding both

@@ -156,7 +156,7 @@ made-is : (t : Tally) → made t ≡ limited (t .temporaries + t .patterns + t .
 unfolding made
 made-is t = plus-limited (t .temporaries + t .patterns) (t .objects)
 
-made-none : made tally.zero ≡ 0
+made-none : made tally.noTally ≡ 0
 unfolding made limited
 made-none = refl
 

@@ -534,7 +534,7 @@ unfolding keyTally keys.keyRefusal keySort is stands Rattle.lowering.specs.Part
 tally-blank at = refl
 
 module _ (l : List ℕ) where
-  pub item-none : (h : Bool) (d at n : ℕ) (r : Tally) → h ≡ true → Peeked l at n → n ≡ 0 → r ≡ tally.zero → r ≡ itemKeys l h d at
+  pub item-none : (h : Bool) (d at n : ℕ) (r : Tally) → h ≡ true → Peeked l at n → n ≡ 0 → r ≡ tally.noTally → r ≡ itemKeys l h d at
   unfolding itemKeys
   item-none h d at n r t p z e = rw (t, eq-eqb (byteAt l at) 0 (sym (p .value) ∙ z)) e
 
@@ -555,7 +555,7 @@ module _ (l : List ℕ) where
 
   -- counts that have stopped where they should, and a static key
   pub static-more : (t r : Tally) (h : Bool) (d at : ℕ) → r .excluded ≡ limited (t .excluded + 1) → r .temporaries ≡ t .temporaries → r .computed ≡ t .computed → r .refusal ≡ t .refusal → r .objects ≡ t .objects → r .patterns ≡ t .patterns
-      → counts 1 0 0 0 ≡ itemKeys l h d at → both t tally.zero ≡ t → r ≡ both t (itemKeys l h d at)
+      → counts 1 0 0 0 ≡ itemKeys l h d at → both t tally.noTally ≡ t → r ≡ both t (itemKeys l h d at)
   unfolding both
   static-more t r h d at e f g i j k s z =
       both-made t (counts 1 0 0 0) r e (f ∙ sym (ap (λ (x : Tally). x .temporaries) z)) (g ∙ sym (ap (λ (x : Tally). x .computed) z)) (i ∙ sym (ap (λ (x : Tally). x .refusal) z))
@@ -571,19 +571,19 @@ module _ (l : List ℕ) where
   item-node h d at s x r t e a w = rw t (key-here d at s x r e a w)
 
   -- without levels there are no properties
-  pub keys-none : (d at : ℕ) (r : Tally) → d ≡ 0 → r ≡ tally.zero → r ≡ keysOf (lookNode l d at .value)
+  pub keys-none : (d at : ℕ) (r : Tally) → d ≡ 0 → r ≡ tally.noTally → r ≡ keysOf (lookNode l d at .value)
   unfolding keysOf sum itemsAt pieceIn
   keys-none d at r z e = rw (no-levels l d at z) e
 
   abbrev pub KeysLeft : ℕ → ℕ → ℕ → Bool → ℕ → ℕ → Tally → Type 0
   KeysLeft left at below h n p t = Adds tallies t (listSum tallies l keyOfItem below h n p) (keysOf (lookNode l left at .value))
 
-  pub keys-start : (d at : ℕ) (r : Run) (t : Tally) → r ≡ runOf at (partAt l d at 0) → t ≡ tally.zero → KeysLeft d at (d - 1) (r .holes) (r .count) (r .from) t
+  pub keys-start : (d at : ℕ) (r : Run) (t : Tally) → r ≡ runOf at (partAt l d at 0) → t ≡ tally.noTally → KeysLeft d at (d - 1) (r .holes) (r .count) (r .from) t
   unfolding keysOf
   keys-start d at r t e s =
       sum-start tallies l keyOfItem (d - 1) (r .holes) (r .count) (r .from) t (keysOf (lookNode l d at .value)) s (ap (sumOf tallies keyOfItem) (list-is l d at 0 r e))
 
-  pub keys-more : (d at e : ℕ) (h : Bool) (n p q : ℕ) (t u : Tally) → 0 < n → (both t tally.zero ≡ t → u ≡ both t (itemKeys l h e p)) → q ≡ lookItem l (lookNode l e) h p .next → KeysLeft d at e h n p t → KeysLeft d at e h (n - 1) q u
+  pub keys-more : (d at e : ℕ) (h : Bool) (n p q : ℕ) (t u : Tally) → 0 < n → (both t tally.noTally ≡ t → u ≡ both t (itemKeys l h e p)) → q ≡ lookItem l (lookNode l e) h p .next → KeysLeft d at e h n p t → KeysLeft d at e h (n - 1) q u
   unfolding itemKeys
   keys-more d at e h n p q t u z v g w = sum-more tallies l keyOfItem e h n p q t (itemKeys l h e p) u (keysOf (lookNode l d at .value)) z refl g (v (w .1)) w
 

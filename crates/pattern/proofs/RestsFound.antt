@@ -52,7 +52,7 @@ items-kept g e (node at k done) = sym e
 items-kept g e (node at k (absent fs)) = sym e
 items-kept g e (node at k (field p fs)) = items-changed g e p
 
-keys-each : (f : Node → Node) (is : Items) → sum tally.zero both (λ q. keyTally (key q)) (each (λ q. changeNode 1 f q) is) ≡ sum tally.zero both (λ q. keyTally (key q)) is
+keys-each : (f : Node → Node) (is : Items) → sum tally.noTally both (λ q. keyTally (key q)) (each (λ q. changeNode 1 f q) is) ≡ sum tally.noTally both (λ q. keyTally (key q)) is
 unfolding sum each
 keys-each f none = refl
 keys-each f (hole is) = keys-each f is
@@ -67,7 +67,7 @@ no-properties-kept f p = ap isEmpty (values-changed f p) ∙ empty-each (λ q. c
 
 pub keys-kept : (f : Node → Node) (p : Node) → keysOf (withValues f p) ≡ keysOf p
 unfolding keysOf
-keys-kept f p = ap (sum tally.zero both (λ q. keyTally (key q))) (values-changed f p) ∙ keys-each f (properties p)
+keys-kept f p = ap (sum tally.noTally both (λ q. keyTally (key q))) (values-changed f p) ∙ keys-each f (properties p)
 
 pub tally-kept : (f : Node → Node) (p : Node) → objectTally (withValues f p) ≡ objectTally p
 unfolding objectTally
@@ -83,7 +83,7 @@ pub own-is : (f : Node → Node) (p : Node) → objectsTally (cond (hasRest p) (
 unfolding ownTally sum
 own-is f p = go (hasRest p)
   where
-    go : (b : Bool) → objectsTally (cond b (only (withValues f p)) none) ≡ cond b (objectTally p) tally.zero
+    go : (b : Bool) → objectsTally (cond b (only (withValues f p)) none) ≡ cond b (objectTally p) tally.noTally
     go true = only-tally (withValues f p) ∙ tally-kept f p
     go false = refl
 
@@ -95,7 +95,7 @@ module _ (c : Context) where
   unfolding restsTally objectsWithRest shape depth sum
   rests-blank at = refl
 
-  pub tally-nothing : restsTally c nothing ≡ tally.zero
+  pub tally-nothing : restsTally c nothing ≡ tally.noTally
   unfolding restsTally objectsWithRest shape depth sum
   tally-nothing = refl
 
@@ -119,7 +119,7 @@ module _ (c : Context) where
   rests-default (node at k fs) s =
       rw (s, objectsWithRest) (ap objectsTally (node-free (λ d p. objectsWithRest c d p) none levels (objects-nothing c) (depthFields fs) 0 at k fs (omega arith)))
 
-  rests-leaf : (p : Node) → shape p ≡ leaf → restsTally c p ≡ tally.zero
+  rests-leaf : (p : Node) → shape p ≡ leaf → restsTally c p ≡ tally.noTally
   unfolding restsTally objectsWithRest depth sum
   rests-leaf (node at k fs) s = rw (s, objectsWithRest)
 
@@ -137,7 +137,7 @@ module _ (l : List ℕ) where
   own-rest d at b e t u r s y k z v w =
       rw (sym s ∙ y) (w ∙ ap₂ both k (v ∙ ap objectItself z))
 
-  pub own-none : (d at : ℕ) (b : Bool) (r : Tally) → b ≡ stands 1 (lookNode l d at .value) → b ≡ false → r ≡ tally.zero → r ≡ ownTally (lookNode l d at .value)
+  pub own-none : (d at : ℕ) (b : Bool) (r : Tally) → b ≡ stands 1 (lookNode l d at .value) → b ≡ false → r ≡ tally.noTally → r ≡ ownTally (lookNode l d at .value)
   unfolding ownTally
   own-none d at b r s y w = rw (sym s ∙ y) w
 
@@ -157,14 +157,14 @@ module _ (l : List ℕ) where
   item-more left at d n p q s t x u z e y g v w c =
       sum-more tallies l (λ e. restsTally c e) d true n p q t x u _ z (item-place tallies l (λ e. restsTally c e) (λ at. rests-blank c at ∙ tally-nothing c) d true p s x e (y c)) g v (w c)
 
-  pub rests-none : (c : Context) (d at : ℕ) (r : Tally) → d ≡ 0 → r ≡ tally.zero → r ≡ restsTally c (lookNode l d at .value)
+  pub rests-none : (c : Context) (d at : ℕ) (r : Tally) → d ≡ 0 → r ≡ tally.noTally → r ≡ restsTally c (lookNode l d at .value)
   rests-none c d at r z e = e ∙ sym (ap (restsTally c) (no-levels l d at z) ∙ rests-blank c at ∙ tally-nothing c)
 
   module _ (d at k : ℕ) (z : d ≡ 0 → ⊥) (e : k ≡ byteAt l at) where
     abbrev here : Node
     here = lookNode l d at .value
 
-    pub values-start : (r : Run) (t : Tally) → k ≡ 34 → r ≡ runOf at (partAt l d at 0) → t ≡ tally.zero → ValuesLeft d at (d - 1) (r .count) (r .from) t
+    pub values-start : (r : Run) (t : Tally) → k ≡ 34 → r ≡ runOf at (partAt l d at 0) → t ≡ tally.noTally → ValuesLeft d at (d - 1) (r .count) (r .from) t
     values-start r t y w s c =
         sum-start tallies l (λ q. restsTally c (value q)) (d - 1) false (r .count) (r .from) t _ s (ap (sumOf tallies (λ q. restsTally c (value q))) (object-list l d at r (sym e ∙ y) w))
 
@@ -172,7 +172,7 @@ module _ (l : List ℕ) where
     object-end c b n p t o r y m w v u =
         u ∙ ap₂ both (sum-end tallies l (λ q. restsTally c (value q)) b false n p t _ m (w c)) v ∙ sym (rests-object c here (below.is-object here (kind-is l d at k z e ∙ y)))
 
-    pub items-start : (r : Run) (t : Tally) → k ≡ 36 → r ≡ runOf at (partAt l d at 0) → t ≡ tally.zero → ItemsLeft d at (d - 1) (r .count) (r .from) t
+    pub items-start : (r : Run) (t : Tally) → k ≡ 36 → r ≡ runOf at (partAt l d at 0) → t ≡ tally.noTally → ItemsLeft d at (d - 1) (r .count) (r .from) t
     items-start r t y w s c =
         sum-start tallies l (λ e. restsTally c e) (d - 1) true (r .count) (r .from) t _ s (ap (sumOf tallies (λ e. restsTally c e)) (array-list l d at r (sym e ∙ y) w))
 
@@ -184,18 +184,18 @@ module _ (l : List ℕ) where
     default-left c s r y w v =
         v c ∙ child-is l (restsTally c) (rests-blank c) d at 0 s w ∙ sym (rests-default c here (below.is-default here (kind-is l d at k z e ∙ y)))
 
-    pub leaf-none : (c : Context) (r : Tally) → (k ≡ 34 → ⊥) → (k ≡ 36 → ⊥) → (k ≡ 37 → ⊥) → r ≡ tally.zero → r ≡ restsTally c here
+    pub leaf-none : (c : Context) (r : Tally) → (k ≡ 34 → ⊥) → (k ≡ 36 → ⊥) → (k ≡ 37 → ⊥) → r ≡ tally.noTally → r ≡ restsTally c here
     leaf-none c r f g h w =
         w ∙ sym (rests-leaf c here (below.is-leaf here (λ y. f (sym (kind-is l d at k z e) ∙ y)) (λ y. g (sym (kind-is l d at k z e) ∙ y)) (λ y. h (sym (kind-is l d at k z e) ∙ y))))
 
   -- a value that is no pattern by its kind adds nothing
-  passed-none : (c : Context) (s : Place) (k : ℕ) → k ≡ byteAt l (s .at) → k ≤ 33 → tally.zero ≡ restsTally c (nodeHere l s)
+  passed-none : (c : Context) (s : Place) (k : ℕ) → k ≡ byteAt l (s .at) → k ≤ 33 → tally.noTally ≡ restsTally c (nodeHere l s)
   passed-none c s k e h = elim (decLt 0 (s .left)) [
-    | yes z ↦ leaf-none (s .left) (s .at) k (λ n. absurd (omega arith)) e c tally.zero (λ y. absurd (omega arith)) (λ y. absurd (omega arith)) (λ y. absurd (omega arith)) refl
-    | no z ↦ rests-none c (s .left) (s .at) tally.zero (omega arith) refl
+    | yes z ↦ leaf-none (s .left) (s .at) k (λ n. absurd (omega arith)) e c tally.noTally (λ y. absurd (omega arith)) (λ y. absurd (omega arith)) (λ y. absurd (omega arith)) refl
+    | no z ↦ rests-none c (s .left) (s .at) tally.noTally (omega arith) refl
   ]
 
   pub value-passed : (left at d n p q k : ℕ) (s : Place) (t : Tally) → 0 < n → s ≡ placeOf d p (partAt l d p 1) → k ≡ byteAt l (s .at) → k ≤ 33 → q ≡ lookNode l d p .next → ValuesLeft left at d n p t → ValuesLeft left at d (n - 1) q t
   unfolding lookItem
   value-passed left at d n p q k s t z e a y g w c =
-      sum-more tallies l (λ q. restsTally c (value q)) d false n p q t tally.zero t _ z (passed-none c s k a y ∙ child-is l (restsTally c) (rests-blank c) d p 1 s e) g (sym (w c .1)) (w c)
+      sum-more tallies l (λ q. restsTally c (value q)) d false n p q t tally.noTally t _ z (passed-none c s k a y ∙ child-is l (restsTally c) (rests-blank c) d p 1 s e) g (sym (w c .1)) (w c)

@@ -24,7 +24,7 @@ use Rattle.pattern.specs.declared.keys.Key.the-variants.{Name, Literal, 
 use Rattle.pattern.specs.declared.numbers.Spelling.{Spelling}
 use Rattle.pattern.specs.declared.numbers.Spelling.the-variants.{Decimal, Hexadecimal, Another}
 use Rattle.pattern.specs.declared.tally.Tally.{Tally}
-use Rattle.pattern.specs.Tally.{zero, both, sum}
+use Rattle.pattern.specs.Tally.{noTally, both, sum}
 use Rattle.pattern.specs.Parts.{partAt, textIn, standing}
 use Rattle.pattern.specs.Numbers.{spelledAs, isStringOf}
 
@@ -140,8 +140,8 @@ keyTally k = countsBy (keySort k) (lowering.keyRefusal k)
 
 -- of all keys of the object pattern p
 unfoldable pub keysOf : Node → Tally
-keysOf p = sum zero both (λ q. keyTally (patterns.key q)) (properties p)
+keysOf p = sum noTally both (λ q. keyTally (patterns.key q)) (properties p)
 
 -- of an item of its list; a hole adds nothing
 unfoldable pub itemKeys : List ℕ → Bool → ℕ → ℕ → Tally
-itemKeys tree holes d at = cond (holes && eqb (byteAt tree at) 0) zero (keyTally (patterns.key (lookNode tree d at .value)))
+itemKeys tree holes d at = cond (holes && eqb (byteAt tree at) 0) noTally (keyTally (patterns.key (lookNode tree d at .value)))

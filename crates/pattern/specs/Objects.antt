@@ -5,7 +5,7 @@ use Rattle.lowering.specs.Made.{Context}
 use Rattle.lowering.specs.Patterns.{hasRest, objectsBelow}
 use Rattle.lowering.specs.Rests.{hasNoProperties}
 use Rattle.pattern.specs.declared.tally.Tally.{Tally}
-use Rattle.pattern.specs.Tally.{zero, both, sum}
+use Rattle.pattern.specs.Tally.{noTally, both, sum}
 use Rattle.pattern.specs.Keys.{keysOf}
 
 -- an object itself, by whether it has no properties
@@ -19,11 +19,11 @@ objectTally p = both (keysOf p) (objectItself (hasNoProperties p))
 
 -- what an object pattern adds itself
 unfoldable pub ownTally : Node → Tally
-ownTally p = cond (hasRest p) (objectTally p) zero
+ownTally p = cond (hasRest p) (objectTally p) noTally
 
 -- all objects of a list
 abbrev pub objectsTally : Items → Tally
-objectsTally is = sum zero both objectTally is
+objectsTally is = sum noTally both objectTally is
 
 -- those below a pattern
 unfoldable pub restsTally : Context → Node → Tally

@@ -9,8 +9,9 @@ use Rattle.pattern.specs.declared.tally.Tally.{Tally}
 unfoldable pub limited : ℕ → ℕ
 limited n = min n 65536
 
-abbrev pub zero : Tally
-zero = record { excluded = 0; temporaries = 0; computed = 0; refusal = 0; objects = 0; patterns = 0 }
+-- nothing is counted
+abbrev pub noTally : Tally
+noTally = record { excluded = 0; temporaries = 0; computed = 0; refusal = 0; objects = 0; patterns = 0 }
 
 -- two of them, one behind the other: numbers are added, and the first refusal is that of both
 unfoldable pub both : Tally → Tally → Tally

@@ -15,7 +15,7 @@ ghost use Rattle.lowering.specs.Parts.{numberAt};
 ghost use Rattle.tree.specs.Tree.{count};
 ghost use Rattle.lowering.specs.Made.{Context};
 ghost use Rattle.lowering.specs.Keys.{allPrimitive, keysRefusal, excludedKeys, keyTemporaries};
-ghost use Rattle.pattern.specs.Tally.{limited, zero, both};
+ghost use Rattle.pattern.specs.Tally.{limited, noTally, both};
 ghost use Rattle.lowering.specs.Rests.{hasNoProperties};
 ghost use Rattle.pattern.specs.Parts.{textIn, standing};
 ghost use Rattle.pattern.specs.Numbers.{spelledAs, isStringOf};
@@ -268,7 +268,7 @@ fn has_static_key(tree: &[u8], holes: bool, left: usize, at: usize) -> bool
 
 // Counts, and what the key of a property adds to them.
 fn with_key(t: Tally, tree: &[u8], holes: bool, left: usize, at: usize) -> Tally
-    ensures { λ r. ⌜ (both t zero ≡ t → r ≡ both t (itemKeys (now (tree .entry)) holes left at)) ⌝ }
+    ensures { λ r. ⌜ (both t noTally ≡ t → r ≡ both t (itemKeys (now (tree .entry)) holes left at)) ⌝ }
 {
     if has_static_key(tree, holes, left, at) {
         return Tally {

@@ -2,7 +2,7 @@
 ghost use mathlib.Core.Path.{_≡_};
 ghost use Prim.Native.Nat.{_+_};
 ghost use Rattle.lowering.specs.Parts.{orElse};
-ghost use Rattle.pattern.specs.Tally.{limited, zero, both};
+ghost use Rattle.pattern.specs.Tally.{limited, noTally, both};
 
 // What is counted of keys, and of objects with rest.
 pub(crate) struct Tally {
@@ -42,7 +42,7 @@ pub(crate) fn first(a: u8, b: u8) -> u8
 }
 
 pub(crate) fn none() -> Tally
-    ensures { λ r. ⌜ r ≡ zero ⌝ }
+    ensures { λ r. ⌜ r ≡ noTally ⌝ }
 {
     Tally {
         excluded: 0,

@@ -1,13 +1,13 @@
 -- The entry: what fits of the text, and what was read.
 -- Assumes nothing.
 use mathlib.Core.Path.{_≡_, refl, sym, ap, ap₂, _∙_}
-use mathlib.Core.Bool.{Bool, true, false, cond}
+use mathlib.Core.Bool.{Bool, true, false}
 use mathlib.Core.List.{List, [], _∷_, _++_}
 use Prim.Native.Nat.{ℕ, zero, suc, _+_, _-_, _<_, _≤_}
 use native.Mathlib.Omega.{arith}
 use native.Mathlib.Decide.{decLt}
 use native.Mathlib.Numerals.{add-one}
-use lib.Dec.{eqb, leb, ltb}
+use lib.Dec.{eqb}
 use lib.ListN.{length, getD, set, drop, replicate, length-set, length-replicate, getD-replicate}
 use lib.Seq.{ext-getD, sets, sets-eq}
 use borrow.Author.Tests.{lt-ltb, le-ltb, le-leb, lt-leb}
@@ -18,7 +18,7 @@ use Rattle.tree.specs.Read.Got.{got, refused}
 use Rattle.tree.proofs.Sound.{never}
 use Rattle.rewritten.specs.Rewritten.{readRewritten, isRewritten, isGot}
 use Rattle.rewritten.proofs.Rewritten.{checked-got}
-use Rattle.printer.specs.Outcome.{Handed, notATree, textTooLong, refusal, fitted, outcome}
+use Rattle.printer.specs.Outcome.{Handed, notATree, refusal, fitted, outcome}
 use Rattle.printer.specs.Stacks.{Buffer, put, write, bufferIn}
 use Rattle.printer.specs.Text.{textOf}
 use Rattle.printer.specs.Turns.{empty}

@@ -1,9 +1,9 @@
 -- The pass over the events of a node adds its text, and leaves what is open as it was.
 -- Assumes nothing.
-use mathlib.Core.Path.{_≡_, refl, sym, ap, _∙_, subst}
+use mathlib.Core.Path.{_≡_, refl, sym, ap, _∙_}
 use mathlib.Core.Bool.{Bool, true, false, cond, _||_, _&&_}
 use mathlib.Core.List.{List, [], _∷_, _++_, append-assoc, append-nil}
-use Prim.Native.Nat.{ℕ, zero, suc, _/_, _%_, _≤_, _<_}
+use Prim.Native.Nat.{ℕ, zero, suc, _/_, _%_, _≤_}
 use native.Mathlib.Omega.{arith}
 use lib.Dec.{eqb}
 use lib.ListN.{length, getD, drop, length-append}
@@ -13,11 +13,11 @@ use Rattle.tree.specs.Tree.Node.{node}
 use Rattle.tree.specs.Tree.Fields.{done, absent, field}
 use Rattle.tree.specs.Tree.Piece.{one, list, text, byte, mark, number}
 use Rattle.tree.specs.Tree.Items.{none, hole, item}
-use Rattle.rewritten.specs.Events.{Event, events, eventsFields, eventsPiece, eventsItems}
-use Rattle.rewritten.specs.Events.Event.{begins, ends, opens, closes}
+use Rattle.rewritten.specs.Events.{events, eventsFields, eventsPiece, eventsItems}
+use Rattle.rewritten.specs.Events.Event.{ends, closes}
 use Rattle.rewritten.specs.Pass.{folded}
 use Rattle.printer.specs.Layout.{word}
-use Rattle.printer.specs.Places.{mannerIn, past, noting, separator, begun, opening, closing, itemSeen, around, listOpening, listed, unlisted, listClosing, isQuasis, isFilled, leaves, textBytes, textPast, isQuasi, numberBytes, fieldIn}
+use Rattle.printer.specs.Places.{mannerIn, past, noting, separator, begun, opening, itemSeen, around, listOpening, listed, unlisted, listClosing, isQuasis, isFilled, leaves, textPast, isQuasi, fieldIn}
 use Rattle.printer.specs.Text.{Cell, noteOf, cellText, first, later, leftOver, aroundNode, afterPiece, heldNode, heldFields, heldPiece, heldItems, quasisFor, quasisAfter, textNode, textFields, textPiece, textItems, outside, textOf}
 use Rattle.printer.specs.Text.Cell.{quasi, stop}
 use Rattle.printer.specs.Machine.{Open, Printing, print, cellAt, cellsFrom, stepOver, nextAround, notesNode, notesFields, notesPiece, notesItems}

@@ -1,19 +1,17 @@
 -- What the code has in its arrays: frames as numbers, quasis as positions, notes.
 -- Assumes nothing.
 use mathlib.Core.Path.{_≡_, refl, sym, ap, _∙_}
-use mathlib.Core.Bool.{Bool, true, false, cond}
 use mathlib.Core.List.{List, [], _∷_, _++_}
 use Prim.Native.Nat.{ℕ, zero, suc, _+_, _-_, _*_, _/_, _%_, _<_, _≤_}
 use native.Mathlib.Omega.{arith}
 use native.Mathlib.Numerals.{add-one}
 use native.Mathlib.Decide.{decLt}
-use lib.Dec.{ltb}
 use lib.ListN.{length, getD, set, take, drop, length-append, List·getD-append, List·getD-eq-default, drop-of-length-le}
 use lib.Seq.{getD-set-same, getD-set-other, getD-append-add, drop-cons}
 use borrow.Author.Tests.{lt-ltb, le-ltb}
 use Rattle.printer.specs.Text.{Cell, cellText, leftOver}
 use Rattle.printer.specs.Text.Cell.{quasi, stop}
-use Rattle.printer.specs.Machine.{Open, cellAt, cellsFrom, stepOver, headNote, restNotes, topOf, nextOf, below}
+use Rattle.printer.specs.Machine.{Open, cellAt, cellsFrom, stepOver, headNote, restNotes}
 use Rattle.printer.specs.Stacks.{frameIn, nextIn, openIn, packedFrame, opensIn, cellIn, heldIn, Buffer, write}
 use Rattle.printer.specs.Turns.{startOf, Small}
 use Rattle.printer.specs.declared.frame.Frame.{Frame}

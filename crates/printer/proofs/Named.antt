@@ -2,16 +2,16 @@
 -- Assumes nothing.
 use mathlib.Core.Path.{_≡_, refl, sym, ap, _∙_}
 use mathlib.Core.Bool.{Bool, true, false, cond, not}
-use mathlib.Core.List.{List, [], _∷_, _++_}
-use Prim.Native.Nat.{ℕ, zero, suc, _+_, _-_, _*_, _/_, _%_, _^_, _<_, _≤_}
+use mathlib.Core.List.{List, [], _∷_}
+use Prim.Native.Nat.{ℕ, suc, _+_, _-_, _*_, _/_, _%_, _^_, _<_, _≤_}
 use native.Mathlib.Omega.{arith}
 use native.Mathlib.Nat.{zero-div}
-use lib.Dec.{T, eqb, eqb→eq, ltb, leb}
+use lib.Dec.{T, eqb, eqb→eq}
 use native.Mathlib.Decide.{decLt}
 use lib.ListN.{length, getD, set, take, drop, List·getD-eq-default}
 use lib.Seq.{getD-set-same, getD-set-other}
 use borrow.Author.Tests.{eq-eqb, ne-eqb}
-use Rattle.tree.proofs.Table.{both, both-left, both-right, below, below-at}
+use Rattle.tree.proofs.Table.{both, below, below-at}
 use Rattle.printer.specs.Names.{nameBytes, entryIn, mayBegin, mayFollow, allFollow, bare, bitsOf, ruleBits, tableByte, tableFrom}
 use Rattle.printer.specs.Stacks.{EndIs}
 use Rattle.printer.proofs.Written.{part-step, part-end}

@@ -1,15 +1,15 @@
 -- At most nine bytes of text for a byte of tree, so 294,912 bytes hold every text.
 -- Assumes nothing.
 use mathlib.Core.Path.{_≡_, refl, sym, ap, subst, _∙_}
-use mathlib.Core.Bool.{Bool, true, false, cond, _&&_, _||_}
+use mathlib.Core.Bool.{Bool, true, false, cond, _||_}
 use mathlib.Core.List.{List, [], _∷_, _++_}
 use Prim.Native.Nat.{ℕ, zero, suc, _+_, _-_, _*_, _/_, _%_, _<_, _≤_}
 use native.Mathlib.Omega.{arith}
 use native.Mathlib.Decide.{decLt}
 use lib.Dec.{T, ltb, leb, eqb, leb→le}
 use lib.ListN.{length, getD, length-append, List·getD-eq-default}
-use borrow.Author.Tests.{eqb-true, eq-eqb, ne-eqb, lt-ltb, le-ltb}
-use Rattle.tree.specs.Tree.{Node, Fields, Piece, Items, mapOf, count, encode, encodeFields, encodePiece, encodeItems, wideBytes}
+use borrow.Author.Tests.{ne-eqb, le-ltb}
+use Rattle.tree.specs.Tree.{Node, Fields, Piece, Items, mapOf, count, encode, encodeFields, encodePiece, encodeItems}
 use Rattle.tree.specs.Tree.Node.{node}
 use Rattle.tree.specs.Tree.Fields.{done, absent, field}
 use Rattle.tree.specs.Tree.Piece.{one, list, text, byte, mark, number}
@@ -17,13 +17,13 @@ use Rattle.tree.specs.Tree.Items.{none, hole, item}
 use Rattle.tree.specs.Grammar.{Sort, Field, places, among, also, allowed, kindOf, formIn, formAt, kinds, variants, fieldsOf, literal, expression}
 use Rattle.tree.specs.Grammar.Field.{must, may}
 use Rattle.tree.specs.Grammar.Stage.{rewritten}
-use Rattle.tree.specs.Read.{sortIn, longest}
+use Rattle.tree.specs.Read.{sortIn}
 use Rattle.tree.specs.WellFormed.{Fits, FitFields, FitPiece, FitItems}
 use Rattle.tree.proofs.Table.{both, both-left, both-right, below, below-at}
 use Rattle.tree.proofs.Look.{kind-at}
 use Rattle.tree.proofs.Sound.{never}
 use Rattle.rewritten.specs.Rewritten.{Rewritten}
-use Rattle.printer.specs.Layout.{words, word, choices, chosenWord, layout, lineOf, headOf, tailOf, closeOf, leadOf, mannerOf}
+use Rattle.printer.specs.Layout.{words, word, chosenWord, layout, lineOf, headOf, tailOf, closeOf, leadOf, mannerOf}
 use Rattle.printer.specs.Places.{lowest, without, fieldIn, mannerIn, noting, past, inMethodForm, wrapping, separator, leading, joining, following, notedAt, begun, computed, opening, closing, itemSeen, around, listOpening, listed, unlisted, listClosing, isQuasis, isFilled, leaves, textBytes, textPast, isQuasi, numberBytes}
 use Rattle.printer.specs.Names.{decimal}
 use Rattle.printer.specs.Text.{Cell, noteOf, first, later, leftOver, aroundNode, afterPiece, heldNode, heldFields, heldPiece, heldItems, quasisFor, quasisAfter, textNode, textFields, textPiece, textItems, outside, textOf}

@@ -2,15 +2,15 @@
 -- Assumes nothing.
 use mathlib.Core.Path.{_≡_, refl, sym, ap, _∙_}
 use mathlib.Core.List.{List, [], _∷_, _++_, append-assoc, append-nil}
-use Prim.Native.Nat.{ℕ, zero, suc}
+use Prim.Native.Nat.{ℕ}
 use lib.ListN.{length, set}
-use Rattle.tree.specs.Tree.{Node, Fields, Piece, Items, mapOf, count}
+use Rattle.tree.specs.Tree.{Node, Fields, Piece, Items}
 use Rattle.tree.specs.Tree.Node.{node}
 use Rattle.tree.specs.Tree.Fields.{done, absent, field}
 use Rattle.tree.specs.Tree.Piece.{one, list, text, byte, mark, number}
 use Rattle.tree.specs.Tree.Items.{none, hole, item}
 use Rattle.rewritten.specs.Events.{Event, events, eventsFields, eventsPiece, eventsItems}
-use Rattle.rewritten.specs.Events.Event.{begins, ends, opens, closes}
+use Rattle.rewritten.specs.Events.Event.{ends, closes}
 use Rattle.rewritten.specs.Pass.{folded}
 use Rattle.printer.specs.Text.{noteBy, noteFrom}
 use Rattle.printer.specs.Machine.{Noting, note, notesNode, notesFields, notesPiece, notesItems}

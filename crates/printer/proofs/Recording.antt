@@ -3,34 +3,32 @@
 use mathlib.Core.Path.{_≡_, refl, sym, ap, ap₂, _∙_}
 use mathlib.Core.Bool.{Bool, true, false}
 use mathlib.Core.List.{List, [], _∷_, _++_, append-assoc, append-nil}
-use Prim.Native.Nat.{ℕ, zero, suc, _+_, _-_, _*_, _/_, _%_, _<_, _≤_}
+use Prim.Native.Nat.{ℕ, suc, _+_, _-_, _*_, _%_, _<_, _≤_}
 use native.Mathlib.Omega.{arith}
 use native.Mathlib.Decide.{decLt}
 use native.Mathlib.Numerals.{add-one}
-use lib.Dec.{eqb, ltb}
+use lib.Dec.{eqb}
 use lib.ListN.{length, getD, set, take, drop, take-append-drop}
 use borrow.Author.Tests.{eq-eqb, ne-eqb, lt-ltb}
 use Rattle.tree.specs.Tree.{Node}
 use Rattle.tree.specs.Grammar.Stage.{rewritten}
-use Rattle.tree.specs.Read.{Got, readTree}
+use Rattle.tree.specs.Read.{readTree}
 use Rattle.tree.specs.Read.Got.{got}
 use Rattle.rewritten.specs.Rewritten.{isRewritten}
 use Rattle.rewritten.specs.Events.{Event, events}
 use Rattle.rewritten.specs.Pass.{folded}
 use Rattle.rewritten.specs.Look.{isClosed, eventFor}
-use Rattle.rewritten.specs.Steps.{start, eventIn, deepAfter, closingIn, stepClosed, Stands, Took, Onward}
+use Rattle.rewritten.specs.Steps.{start, eventIn, deepAfter, closingIn, stepClosed, Stands, Onward}
 use Rattle.rewritten.specs.declared.step.Cursor.{Cursor}
 use Rattle.rewritten.specs.declared.step.Event as told
 use Rattle.rewritten.specs.declared.step.Event.the-variants.{Begins, Ends, Opens, Closes, Hole, Text, Byte, Mark, Number}
-use Rattle.rewritten.specs.declared.step.Step.{Step}
-use Rattle.rewritten.specs.declared.step.Step.the-variants.{Next, Done}
 use Rattle.rewritten.proofs.Pass.{coming, onward, Inside, tour-of-tree, rest-next, rest-done}
 use Rattle.rewritten.proofs.Moves.{close-some}
 use Rattle.rewritten.proofs.Reader.{Reading, closes, closed-ends}
 use Rattle.printer.specs.Machine as machine
 use Rattle.printer.specs.Machine.{note, notesNode}
 use Rattle.printer.specs.Turns.{numberAfter}
-use Rattle.printer.specs.Noted.{numbersIn, notedIn, Notable, Marked, Leads}
+use Rattle.printer.specs.Noted.{numbersIn, notedIn, Notable, Marked}
 use Rattle.printer.specs.Logged.{toldIn, toldAt, eventsTo, deepTo, bytesOf, bytesTo, Allowed, Sound, Logged, Recorded}
 use Rattle.printer.specs.declared.notes.Noting.{Noting}
 use Rattle.printer.proofs.Noted.{node-noted}

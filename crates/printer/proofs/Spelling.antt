@@ -1,8 +1,8 @@
 -- What a text of the tree prints, case by case.
 -- Assumes nothing.
 use mathlib.Core.Path.{_≡_, refl, sym, ap, _∙_}
-use mathlib.Core.Bool.{Bool, true, false, cond}
-use mathlib.Core.List.{List, [], _∷_, _++_}
+use mathlib.Core.Bool.{Bool, true, false}
+use mathlib.Core.List.{List, [], _∷_}
 use Prim.Native.Nat.{ℕ, zero, suc, _/_, _%_, _<_, _≤_}
 use native.Mathlib.Omega.{arith}
 use native.Mathlib.Decide.{decLt}
@@ -10,7 +10,7 @@ use lib.Dec.{leb, eqb}
 use lib.ListN.{length, getD, take, drop, drop-of-length-le}
 use lib.Seq.{drop-cons, take-nil}
 use borrow.Author.Tests.{eq-eqb, ne-eqb, le-leb, lt-leb}
-use Rattle.printer.specs.Names.{bare, inQuotes, escaped}
+use Rattle.printer.specs.Names.{bare, inQuotes}
 use Rattle.printer.specs.Places.{fieldIn, literalText, memberQuoted, memberName, keyName, spelled}
 use Rattle.printer.specs.Stacks.{isEmpty, Buffer, put, write}
 use Rattle.printer.specs.declared.frame.Frame.{Frame}

@@ -3,21 +3,21 @@
 use mathlib.Core.Path.{_≡_, refl, sym, ap, subst, _∙_}
 use mathlib.Core.Bool.{Bool, true, false, cond, _&&_}
 use mathlib.Core.List.{List, [], _∷_, _++_, append-nil}
-use Prim.Native.Nat.{ℕ, zero, suc, _+_, _-_, _*_, _/_, _%_, _<_, _≤_}
+use Prim.Native.Nat.{ℕ, zero, suc, _+_, _-_, _<_, _≤_}
 use native.Mathlib.Omega.{arith}
 use native.Mathlib.Numerals.{add-one}
 use lib.Dec.{eqb}
 use lib.ListN.{length, getD, set, take, drop}
-use lib.Seq.{getD-set-same, getD-set-other, drop-nil, take-nil}
+use lib.Seq.{getD-set-same, getD-set-other, take-nil}
 use Rattle.rewritten.specs.Events.{Event}
 use Rattle.rewritten.specs.Events.Event.{begins, ends, opens, closes}
 use Rattle.rewritten.specs.Steps.{eventIn, deepAfter}
 use Rattle.rewritten.specs.declared.step.Event as told
 use Rattle.printer.specs.Layout.{word}
-use Rattle.printer.specs.Places.{without, past, noting, separator, begun, opening, closing, itemSeen, around, inMethodForm, listOpening, listed, unlisted, listClosing, isQuasis, isFilled, leaves, textBytes, spelled, textPast, isQuasi, numberBytes}
+use Rattle.printer.specs.Places.{past, noting, separator, begun, opening, closing, itemSeen, around, inMethodForm, listOpening, listed, unlisted, listClosing, isQuasis, isFilled, leaves, textBytes, spelled, textPast, isQuasi, numberBytes}
 use Rattle.printer.specs.Text.{Cell, cellText, leftOver}
 use Rattle.printer.specs.Text.Cell.{quasi, stop}
-use Rattle.printer.specs.Machine.{Open, Printing, print, cellAt, cellsFrom, nextAround, headNote, restNotes, topOf, nextOf, below}
+use Rattle.printer.specs.Machine.{Open, print, cellAt, cellsFrom, nextAround, headNote, topOf, nextOf, below}
 use Rattle.printer.specs.Stacks.{frameIn, nextIn, openIn, packedFrame, opensIn, cellIn, heldIn, Buffer, write}
 use Rattle.printer.specs.Turns.{stateIn, moved, Small, Ready, numberAfter, countAfter, Kept, Turned}
 use Rattle.printer.specs.declared.frame.Frame.{Frame}

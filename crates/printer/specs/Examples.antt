@@ -1,14 +1,13 @@
 -- The text of whole trees by computation: docs/TEXT.md's examples, and names that need quotes.
 use Prim.Native.Nat.{ℕ}
 use mathlib.Core.Path.{_≡_, refl}
-use mathlib.Core.List.{List, [], _∷_, _++_}
-use mathlib.Core.Bool.{Bool, true, false, cond, _||_, _&&_}
+use mathlib.Core.List.{List, [], _∷_}
 use lib.ListN.{length}
 use Rattle.tree.specs.Tree.{mapOf, count, marks, marksFields, marksPiece, marksItems}
 use Rattle.tree.specs.Grammar.{places, among, also, allowed, kindOf, formIn, formAt, kinds, variants, fieldsOf, mapOk}
 use Rattle.tree.specs.Grammar.Stage.{rewritten}
 use Rattle.tree.specs.Read.{Got, mapped, readTree, byteAt, wideAt, readText, readByte, readMark, readNumber, chosenPlace, readItem, readItems, readList, readField, readSlot, readFields, readNode}
-use Rattle.tree.specs.Read.Got.{got, refused}
+use Rattle.tree.specs.Read.Got.{got}
 use Rattle.rewritten.specs.Rewritten.{readRewritten, distinct}
 use Rattle.printer.specs.Outcome.{refusal, fitted, outcome}
 use Rattle.printer.specs.Layout.{words, word, choices, chosenWord, layout, headOf, tailOf, closeOf, leadOf, mannerOf}

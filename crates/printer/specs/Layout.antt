@@ -1,8 +1,8 @@
 -- The layout of every kind as data, in the order of docs/TEXT.md: own bytes, manners of fields, what stands only with a field.
 -- tools/layout.py works the numbers out; ⏎ is a line end.
-use Prim.Native.Nat.{ℕ, zero, suc, _+_, _-_, _*_, _/_, _%_}
-use mathlib.Core.List.{List, [], _∷_, _++_}
-use mathlib.Core.Bool.{Bool, true, false, cond}
+use Prim.Native.Nat.{ℕ, _+_, _-_, _*_, _/_, _%_}
+use mathlib.Core.List.{List, [], _∷_}
+use mathlib.Core.Bool.{cond}
 use lib.Dec.{ltb, eqb}
 use lib.ListN.{getD}
 

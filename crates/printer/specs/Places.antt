@@ -5,8 +5,8 @@ use mathlib.Core.Bool.{Bool, true, false, cond, _||_, _&&_}
 use lib.Dec.{ltb, eqb}
 use lib.ListN.{getD}
 use Rattle.tree.specs.Grammar.{among}
-use Rattle.printer.specs.Layout.{word, chosenWord, headOf, tailOf, closeOf, leadOf, mannerOf, lines, directives, caught, closed, keyed, filled, called, looped, headed, quoted, parted, valued}
-use Rattle.printer.specs.Names.{bare, escaped, inQuotes, decimal}
+use Rattle.printer.specs.Layout.{word, chosenWord, headOf, tailOf, closeOf, leadOf, mannerOf, filled, called, headed, quoted, parted, valued}
+use Rattle.printer.specs.Names.{bare, inQuotes, decimal}
 use Rattle.printer.specs.declared.frame.Frame.{Frame}
 
 -- ---- the next field: the lowest bit of those still to come

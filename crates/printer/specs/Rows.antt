@@ -1,6 +1,6 @@
 -- The layout as numbers, which the code has in place of lists.
-use Prim.Native.Nat.{ℕ, zero, suc, _+_, _*_, _/_, _%_}
-use mathlib.Core.List.{List, [], _∷_, _++_}
+use Prim.Native.Nat.{ℕ, _+_, _*_}
+use mathlib.Core.List.{List, [], _∷_}
 use lib.ListN.{take, drop}
 use Rattle.printer.specs.Layout.{word, lineOf, headOf, tailOf, closeOf}
 

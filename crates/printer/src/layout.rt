@@ -1,6 +1,6 @@
 // The layout's numbers: the own bytes of each kind and the manners of its fields. tools/layout.py works them out.
 ghost use mathlib.Core.Path.{_≡_};
-ghost use Prim.Native.Nat.{_/_, _%_, _*_, _^_};
+ghost use Prim.Native.Nat.{_/_, _%_, _*_};
 ghost use Rattle.printer.specs.Layout.{headOf, tailOf, closeOf, leadOf, mannerOf, chosenWord};
 ghost use Rattle.printer.specs.Rows.{rowOf, mannersOf};
 ghost use mathlib.Core.Bool.{cond};

@@ -1,9 +1,9 @@
 // Which bytes may stand in a name.
 use crate::out;
 ghost use mathlib.Core.Path.{_≡_};
-ghost use Prim.Native.Nat.{ℕ, _<_, _≤_, _-_};
+ghost use Prim.Native.Nat.{_<_, _≤_, _-_};
 ghost use lib.ListN.{length, getD, take, drop};
-ghost use Rattle.printer.specs.Names.{nameBytes, entryIn, mayBegin, mayFollow, allFollow, bare, ruleBits};
+ghost use Rattle.printer.specs.Names.{nameBytes, entryIn, allFollow, bare, ruleBits};
 
 // Entry b is two bits, 2 (b mod 4) and the next of byte b div 4: whether b may stand in the first place, and in later ones.
 const NAME_BYTES: [u8; 64] = [

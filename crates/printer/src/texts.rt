@@ -6,9 +6,8 @@ use crate::out;
 use crate::out::Spot;
 use crate::places;
 ghost use mathlib.Core.Path.{_≡_};
-ghost use mathlib.Core.List.{List};
-ghost use Prim.Native.Nat.{ℕ, _<_};
-ghost use lib.ListN.{length, take, drop};
+ghost use Prim.Native.Nat.{_<_};
+ghost use lib.ListN.{take, drop};
 ghost use Rattle.printer.specs.Places.{literalText, memberQuoted, memberName, keyName, textBytes, spelled, isQuasi};
 ghost use Rattle.printer.specs.Stacks.{write, bufferIn, isEmpty};
 

@@ -4,7 +4,7 @@ use mathlib.Core.Path.{_≡_, refl, sym, ap, ap₂, _∙_}
 use mathlib.Core.Bool.{Bool, true, false, cond}
 use mathlib.Core.List.{List, [], _∷_, _++_}
 use mathlib.Core.Logic.{_⊎_, inl, inr}
-use Prim.Native.Nat.{ℕ, _+_, _-_, min}
+use Prim.Native.Nat.{ℕ, _+_, min}
 use lib.Dec.{leb}
 use lib.ListN.{length}
 use Rattle.tree.specs.Tree.{Node, Fields, Piece, Items, encode, encodePiece, placed, placedFields, placedPiece, placedItems, marksItems}

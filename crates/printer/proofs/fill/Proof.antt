@@ -2,8 +2,6 @@ use native.Mathlib.Nat.{le-of-eq}
 use borrow.Author.Needs.{needs}
 use Rattle.printer.proofs.fill.Statement.{statement}
 use Rattle.printer.proofs.fill.Tie as tie
-use Rattle.printer.proofs.fill.Reads as reads
-use Rattle.printer.proofs.fill.Lts as lts
 
 slice-aggregate-both-passes : tie.Need-slice-aggregate-both-passes
 slice-aggregate-both-passes c = search needs
@@ -23,12 +21,6 @@ slice-aggregate-both-passes-5 c = search needs
 slice-aggregate-both-passes-6 : tie.Need-slice-aggregate-both-passes-6
 slice-aggregate-both-passes-6 c = search needs
 
-both-passes-requires : tie.Need-both-passes-requires
-both-passes-requires c κs = tt
-
-same-length : tie.Need-same-length
-same-length c = search needs
-
 returns : tie.Need-returns
 returns c = λ size z. c .before .before .before .before .before .before .before .before .both-passes .ensures size z (le-of-eq (slice-aggregate-both-passes (c .before .before .before .before .before .before .before .before .before .before .before .before .before .before .before))) (le-of-eq (slice-aggregate-both-passes-2 (c .before .before .before .before .before .before .before .before .before .before .before .before .before .before))) (le-of-eq (slice-aggregate-both-passes-3 (c .before .before .before .before .before .before .before .before .before .before .before .before .before))) (le-of-eq (slice-aggregate-both-passes-4 (c .before .before .before .before .before .before .before .before .before .before .before .before))) (le-of-eq (slice-aggregate-both-passes-5 (c .before .before .before .before .before .before .before .before .before .before .before))) (le-of-eq (slice-aggregate-both-passes-6 (c .before .before .before .before .before .before .before .before .before .before)))
 
@@ -42,6 +34,6 @@ fill-spec =
     slice-aggregate-both-passes-4
     slice-aggregate-both-passes-5
     slice-aggregate-both-passes-6
-    both-passes-requires
-    same-length
+    (λ c κs. tt)
+    (λ c. search needs)
     returns)

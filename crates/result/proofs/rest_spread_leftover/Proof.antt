@@ -1,11 +1,8 @@
-use mathlib.Core.Path.{_≡_, sym, _∙_}
+use mathlib.Core.Path.{sym, _∙_}
 use borrow.Author.Needs.{needs}
 use Rattle.result.proofs.Looking as law
 use Rattle.result.proofs.rest_spread_leftover.Statement.{statement}
 use Rattle.result.proofs.rest_spread_leftover.Tie as tie
-use Rattle.result.proofs.rest_spread_leftover.Reads as reads
-use Rattle.result.proofs.rest_spread_leftover.Lts as lts
-use Rattle.result.proofs.leftover.leftover.Reads as leftover-reads
 
 returns : tie.Need-returns
 returns c = law.told-one _ (sym (c .if1 .taken) ∙ c .before .leftover .ensures)

@@ -5,44 +5,11 @@ use Rattle.joining.proofs.Filing as law
 use Rattle.joining.proofs.bodies.add.Statement.{statement}
 use Rattle.joining.proofs.bodies.add.Tie as tie
 
-enter-requires : tie.Need-enter-requires
-enter-requires c κs = search needs
-
-same-length : tie.Need-same-length
-same-length c = search needs
-
-same-length-2 : tie.Need-same-length-2
-same-length-2 c = search needs
-
-same-length-3 : tie.Need-same-length-3
-same-length-3 c = search needs
-
 returns : tie.Need-returns
 returns c = law.added-found (c .before .before .before .before .before .before .before .before .before .before .before .before .before .before .before .before .before .args .tree .now) _ _ _ _ _ _ 2 (c .before .before .before .before .before .before .before .before .before .before .if2 .taken) (c .before .before .before .before .before .before .enter .ensures _ (c .before .before .before .before .before .before .before .before .before .before .before .before .before .before .before .before .before .args .bodies .begun) (c .before .before .before .before .before .before .before .before .before .before .before .before .before .before .before .before .before .args .what / 16 / 64))
 
-peek-requires : tie.Need-peek-requires
-peek-requires c κs = search needs
-
-begin-requires : tie.Need-begin-requires
-begin-requires c κs = search needs
-
-same-length-4 : tie.Need-same-length-4
-same-length-4 c = search needs
-
 returns-2 : tie.Need-returns-2
 returns-2 c = law.begin-found (c .before .before .before .before .before .before .before .before .before .before .before .before .args .tree .now) _ _ _ _ _ _ (c .before .before .before .before .before .before .before .before .before .before .before .before .args .bodies .begun) _ _ (c .before .before .before .before .before .before .before .before .before .before .before .before .args .what / 16) _ _ _ (c .before .before .before .before .before .before .if1 .taken) (c .before .before .before .before .before .if2 .left) (c .before .before .before .before .before .before .before .before .before .before .before .before .pre .1) (c .before .before .before .peek .ensures .value) (c .before .before .begin .ensures)
-
-mark-requires : tie.Need-mark-requires
-mark-requires c κs = search needs
-
-same-length-5 : tie.Need-same-length-5
-same-length-5 c = search needs
-
-same-length-6 : tie.Need-same-length-6
-same-length-6 c = search needs
-
-same-length-7 : tie.Need-same-length-7
-same-length-7 c = search needs
 
 returns-3 : tie.Need-returns-3
 returns-3 c = law.added-found (c .before .before .before .before .before .before .before .before .before .before .before .before .before .before .before .args .tree .now) _ _ _ _ _ _ 4 (c .before .before .before .before .before .before .before .before .if3 .taken) (c .before .before .before .before .mark .ensures _ _ (c .before .before .before .before .before .before .before .before .before .before .before .before .before .before .before .args .at) (c .before .before .before .before .before .before .before .before .before .before .before .before .before .before .before .args .what / 16))
@@ -54,18 +21,18 @@ pub add-spec : {M : Type 1} → statement M
 add-spec =
     tie.close
     (tie.spec
-    enter-requires
-    same-length
-    same-length-2
-    same-length-3
+    (λ c κs. search needs)
+    (λ c. search needs)
+    (λ c. search needs)
+    (λ c. search needs)
     returns
-    peek-requires
-    begin-requires
-    same-length-4
+    (λ c κs. search needs)
+    (λ c κs. search needs)
+    (λ c. search needs)
     returns-2
-    mark-requires
-    same-length-5
-    same-length-6
-    same-length-7
+    (λ c κs. search needs)
+    (λ c. search needs)
+    (λ c. search needs)
+    (λ c. search needs)
     returns-3
     returns-4)

@@ -24,23 +24,8 @@ returns-2 c = λ n. absurd (omega (arith, n .enough, c .if2 .taken))
 returns-3 : tie.Need-returns-3 Inv-loop μ-loop
 returns-3 c = λ n. absurd (omega (arith, n .marks, c .if3 .taken))
 
-clear-requires : tie.Need-clear-requires Inv-loop μ-loop
-clear-requires c κs = search needs
-
-clear-requires-2 : tie.Need-clear-requires-2 Inv-loop μ-loop
-clear-requires-2 c κs = search needs
-
-clear-requires-3 : tie.Need-clear-requires-3 Inv-loop μ-loop
-clear-requires-3 c κs = search needs
-
-begin-requires : tie.Need-begin-requires Inv-loop μ-loop
-begin-requires c κs = search needs
-
 loop-holds : tie.Need-loop-holds Inv-loop μ-loop
 loop-holds c = law.touring-start _ _ _ _ _ _ _ (c .before .before .before .before .before .before .before .before .before .before .before .before .before .before .before .if1 .left) (omega (arith, c .before .before .before .before .before .before .before .before .before .before .before .clear .ensures .0, c .before .before .before .before .before .before .before .before .before .before .before .before .before .if3 .left)) (c .before .before .before .before .before .before .before .before .before .before .before .clear .ensures .1) _ (c .begin .ensures)
-
-is-closed-requires : tie.Need-is-closed-requires Inv-loop μ-loop
-is-closed-requires c κs = search needs
 
 same-length : tie.Need-same-length Inv-loop μ-loop
 same-length c = c .before .before .before .before .loop .inv .reads .tour .size
@@ -84,23 +69,11 @@ same-length-12 c = c .before .before .before .before .loop .inv .same₆
 returns-5 : tie.Need-returns-5 Inv-loop μ-loop
 returns-5 c = λ n. law.tour-part _ _ _ _ _ _ _ _ _ _ _ _ _ _ _ _ (c .before .before .before .before .loop .inv) (c .before .before .before .before .before .before .before .before .before .before .before .before .before .before .before .before .before .before .before .before .if1 .left) (sym (c .before .before .before .is-closed .ensures) ∙ c .before .before .if4 .taken) (c .before .if5 .taken) (c .if6 .left)
 
-sub-t28 : tie.Need-sub-t28 Inv-loop μ-loop
-sub-t28 c = search needs
-
-sub-frame-at : tie.Need-sub-frame-at Inv-loop μ-loop
-sub-frame-at c = search needs
-
-frame-at-requires : tie.Need-frame-at-requires Inv-loop μ-loop
-frame-at-requires c κs = search needs
-
 loop-less : tie.Need-loop-less Inv-loop μ-loop
 loop-less c = omega (arith, c .before .before .if5 .left)
 
 loop-again : tie.Need-loop-again Inv-loop μ-loop
 loop-again c = law.tour-closed _ _ _ _ _ _ _ _ _ _ _ _ _ _ _ _ (c .before .before .before .before .before .loop .inv) (c .before .before .before .before .before .before .before .before .before .before .before .before .before .before .before .before .before .before .before .before .before .if1 .left) (sym (c .before .before .before .before .is-closed .ensures) ∙ c .before .before .before .if4 .taken) (c .before .before .if5 .left) _ (c .frame-at .ensures)
-
-look-requires : tie.Need-look-requires Inv-loop μ-loop
-look-requires c κs = search needs
 
 same-length-13 : tie.Need-same-length-13 Inv-loop μ-loop
 same-length-13 c = c .before .before .before .before .loop .inv .reads .tour .size
@@ -123,20 +96,8 @@ same-length-18 c = c .before .before .before .before .loop .inv .same₆
 returns-6 : tie.Need-returns-6 Inv-loop μ-loop
 returns-6 c = λ n. law.tour-refused _ _ _ _ _ _ _ _ _ _ _ _ _ _ _ _ (c .before .before .before .before .loop .inv) (c .before .before .before .before .before .before .before .before .before .before .before .before .before .before .before .before .before .before .before .before .if1 .left) (sym (c .before .before .before .is-closed .ensures) ∙ c .before .before .if4 .left) _ (c .before .look .ensures) (c .if7 .taken)
 
-is-new-ahead-requires : tie.Need-is-new-ahead-requires Inv-loop μ-loop
-is-new-ahead-requires c κs = search needs
-
-note-ahead-requires : tie.Need-note-ahead-requires Inv-loop μ-loop
-note-ahead-requires c κs = search needs
-
 add-requires : tie.Need-add-requires Inv-loop μ-loop
 add-requires c κs = (law.touring-deep _ _ _ _ _ _ _ _ _ _ _ _ _ _ _ _ (c .before .before .before .before .before .before .before .before .before .before .before .before .before .before .before .loop .inv) (c .before .before .before .before .before .before .before .before .before .before .before .before .before .before .before .before .before .before .before .before .before .before .before .before .before .before .before .before .before .before .before .if1 .left), c .before .before .before .before .before .before .before .before .before .before .before .if7 .left)
-
-rest-of-requires : tie.Need-rest-of-requires Inv-loop μ-loop
-rest-of-requires c κs = search needs
-
-moved-requires : tie.Need-moved-requires Inv-loop μ-loop
-moved-requires c κs = search needs
 
 loop-less-2 : tie.Need-loop-less-2 Inv-loop μ-loop
 loop-less-2 c = law.tour-falls _ _ _ _ _ _ _ _ _ _ _ _ _ _ _ _ (c .before .before .before .before .before .before .before .before .before .before .before .before .before .before .before .before .before .before .before .before .before .before .before .before .before .before .before .before .before .loop .inv) (c .before .before .before .before .before .before .before .before .before .before .before .before .before .before .before .before .before .before .before .before .before .before .before .before .before .before .before .before .before .before .before .before .before .before .before .before .before .before .before .before .before .before .before .before .before .if1 .left) (sym (c .before .before .before .before .before .before .before .before .before .before .before .before .before .before .before .before .before .before .before .before .before .before .before .before .before .before .before .before .is-closed .ensures) ∙ c .before .before .before .before .before .before .before .before .before .before .before .before .before .before .before .before .before .before .before .before .before .before .before .before .before .before .before .if4 .left) _ (c .before .before .before .before .before .before .before .before .before .before .before .before .before .before .before .before .before .before .before .before .before .before .before .before .before .before .look .ensures) (c .before .before .before .before .before .before .before .before .before .before .before .before .before .before .before .before .before .before .before .before .before .before .before .before .before .if7 .left) (c .before .before .before .before .before .before .before .before .before .before .before .before .before .before .before .before .before .before .before .before .before .before .before .before .before .before .before .before .before .before .before .before .before .before .before .before .before .before .before .before .before .before .before .before .if2 .left) _ (c .before .before .before .before .before .before .before .before .before .before .before .before .before .before .before .before .before .before .before .before .before .before .before .is-new-ahead .ensures) _ (c .before .before .before .rest-of .ensures) _ (c .before .before .moved .ensures .1) _ (c .before .before .moved .ensures .2)
@@ -174,12 +135,12 @@ collect-spec =
     returns
     returns-2
     returns-3
-    clear-requires
-    clear-requires-2
-    clear-requires-3
-    begin-requires
+    (λ c κs. search needs)
+    (λ c κs. search needs)
+    (λ c κs. search needs)
+    (λ c κs. search needs)
     loop-holds
-    is-closed-requires
+    (λ c κs. search needs)
     same-length
     same-length-2
     same-length-3
@@ -194,12 +155,12 @@ collect-spec =
     same-length-11
     same-length-12
     returns-5
-    sub-t28
-    sub-frame-at
-    frame-at-requires
+    (λ c. search needs)
+    (λ c. search needs)
+    (λ c κs. search needs)
     loop-less
     loop-again
-    look-requires
+    (λ c κs. search needs)
     same-length-13
     same-length-14
     same-length-15
@@ -207,11 +168,11 @@ collect-spec =
     same-length-17
     same-length-18
     returns-6
-    is-new-ahead-requires
-    note-ahead-requires
+    (λ c κs. search needs)
+    (λ c κs. search needs)
     add-requires
-    rest-of-requires
-    moved-requires
+    (λ c κs. search needs)
+    (λ c κs. search needs)
     loop-less-2
     loop-again-2
     same-length-19

@@ -1,16 +1,9 @@
 use borrow.Author.Needs.{needs}
-use Prim.Native.Nat.{_+_, _-_, _≤_}
-use lib.ListN.{length}
-use mathlib.Core.Path.{_≡_, refl, sym, _∙_}
+use mathlib.Core.Path.{_∙_}
 use native.Mathlib.Omega.{arith}
 use Rattle.joining.proofs.Listing as law
 use Rattle.joining.proofs.entries.entries.Statement.{statement}
 use Rattle.joining.proofs.entries.entries.Tie as tie
-use Rattle.joining.proofs.entries.entries.Reads as reads
-use Rattle.joining.proofs.entries.entries.Lts as lts
-use Rattle.joining.proofs.entries.declarators.Reads as declarators-reads
-use Rattle.joining.proofs.table.put.Reads as put-reads
-use Rattle.tree.proofs.bytes.wide_at.Reads as wide-at-reads
 
 abbrev Inv-loop : tie.InvT-loop
 Inv-loop list frames₀ seen₀ ends₀ n left₀ at₀ frames seen ends left at = law.Listing list frames₀ seen₀ ends₀ frames seen ends left at
@@ -18,99 +11,57 @@ Inv-loop list frames₀ seen₀ ends₀ n left₀ at₀ frames seen ends left at
 abbrev μ-loop : tie.MeasureT-loop
 μ-loop list frames₀ seen₀ ends₀ n left₀ at₀ frames seen ends left at = left
 
--- src/entries.rt:62:9
-wide-at-requires : tie.Need-wide-at-requires Inv-loop μ-loop
-wide-at-requires c κs = tt
-
--- src/entries.rt:64:9
 returns : tie.Need-returns Inv-loop μ-loop
 returns c = (tt, λ met k a b d. (law.listing-none _ _ met (c .before .wide-at .ensures .value) (c .if1 .taken), tt))
 
--- src/entries.rt:68:5
 loop-holds : tie.Need-loop-holds Inv-loop μ-loop
 loop-holds c = law.listing-start _ _ _ _ _ (c .before .wide-at .ensures .value) (c .if1 .left) (c .before .wide-at .ensures .within (omega (arith, c .if1 .left)))
 
--- src/entries.rt:69:20
-wide-at-requires-2 : tie.Need-wide-at-requires-2 Inv-loop μ-loop
-wide-at-requires-2 c κs = tt
-
--- src/entries.rt:70:13
 same-length : tie.Need-same-length Inv-loop μ-loop
 same-length c = c .before .before .before .loop .inv .same₁
 
--- src/entries.rt:70:13
 same-length-2 : tie.Need-same-length-2 Inv-loop μ-loop
 same-length-2 c = c .before .before .before .loop .inv .same₂
 
--- src/entries.rt:70:13
 same-length-3 : tie.Need-same-length-3 Inv-loop μ-loop
 same-length-3 c = c .before .before .before .loop .inv .same₃
 
--- src/entries.rt:70:13
 returns-2 : tie.Need-returns-2 Inv-loop μ-loop
 returns-2 c = (tt, λ met k a b d. (law.listing-short _ _ _ _ _ _ _ _ _ (c .before .before .before .loop .inv) (c .before .before .loop-test .taken) _ (c .before .wide-at2 .ensures .value) (c .if2 .taken) met k a b d, tt))
 
--- src/entries.rt:72:47
 add-declarators : tie.Need-add-declarators Inv-loop μ-loop
 add-declarators c = omega (arith, c .before .before .before .before .before .loop .inv .high)
 
--- src/entries.rt:72:15
-declarators-requires : tie.Need-declarators-requires Inv-loop μ-loop
-declarators-requires c κs = tt
-
--- src/entries.rt:73:24
-enum-known-end : tie.Need-enum-known-end Inv-loop μ-loop
-enum-known-end c = search needs
-
--- src/entries.rt:74:17
-put-requires : tie.Need-put-requires Inv-loop μ-loop
-put-requires c κs = tt
-
--- src/entries.rt:76:17
 sub-left : tie.Need-sub-left Inv-loop μ-loop
 sub-left c = omega (arith, c .before .before .before .before .before .before .before .before .before .before .before .before .before .before .before .before .loop-test .taken)
 
--- src/entries.rt:68:5
 loop-less : tie.Need-loop-less Inv-loop μ-loop
 loop-less c = omega (arith, c .before .before .before .before .before .before .before .before .before .before .before .before .before .before .before .before .loop-test .taken)
 
--- src/entries.rt:68:5
 loop-again : tie.Need-loop-again Inv-loop μ-loop
 loop-again c = law.listing-next _ _ _ _ _ _ _ _ _ (c .before .before .before .before .before .before .before .before .before .before .before .before .before .before .before .before .before .loop .inv) (c .before .before .before .before .before .before .before .before .before .before .before .before .before .before .before .before .loop-test .taken) _ (c .before .before .before .before .before .before .before .before .before .before .before .before .before .before .before .wide-at2 .ensures .value) (c .before .before .before .before .before .before .before .before .before .before .before .before .before .before .if2 .left) _ _ _ _ (c .before .before .before .before .before .before .before .before .before .before .before .declarators .kept .1 .0) (c .before .before .before .before .before .before .before .before .before .before .before .declarators .kept .1 .1 .0) (law.at-within _ _ _ _ (c .before .before .before .before .before .end .given .1) (c .before .before .before .before .before .before .before .before .before .before .before .declarators .ensures .0)) (λ met k a b. law.at-ends _ _ _ _ (c .before .before .before .before .before .end .given .1) (c .before .before .before .before .before .before .before .before .before .before .before .declarators .ensures .1 met k a b)) (c .before .before .put .ensures) (c .before .before .put .kept .0)
 
--- src/entries.rt:79:17
-enum-told : tie.Need-enum-told Inv-loop μ-loop
-enum-told c = search needs
-
--- src/entries.rt:79:17
 same-length-4 : tie.Need-same-length-4 Inv-loop μ-loop
 same-length-4 c = c .before .before .before .before .before .before .declarators .kept .1 .0 ∙ c .before .before .before .before .before .before .before .before .before .before .before .before .loop .inv .same₁
 
--- src/entries.rt:79:17
 same-length-5 : tie.Need-same-length-5 Inv-loop μ-loop
 same-length-5 c = c .before .before .before .before .before .before .declarators .kept .1 .1 .0 ∙ c .before .before .before .before .before .before .before .before .before .before .before .before .loop .inv .same₂
 
--- src/entries.rt:79:17
 same-length-6 : tie.Need-same-length-6 Inv-loop μ-loop
 same-length-6 c = c .before .before .before .before .before .before .before .before .before .before .before .before .loop .inv .same₃
 
--- src/entries.rt:79:17
 returns-3 : tie.Need-returns-3 Inv-loop μ-loop
 returns-3 c = (tt, λ met k a b d. (law.listing-lost _ _ _ _ _ _ _ _ _ (c .before .before .before .before .before .before .before .before .before .before .before .before .loop .inv) (c .before .before .before .before .before .before .before .before .before .before .before .loop-test .taken) _ (c .before .before .before .before .before .before .before .before .before .before .wide-at2 .ensures .value) (c .before .before .before .before .before .before .before .before .before .if2 .left) (λ m y x z. law.missing-ends _ _ _ (c .enum-told .given .1) (c .before .before .before .before .before .before .declarators .ensures .1 m y x z)) met k a b d, tt))
 
--- src/entries.rt:59:1
 same-length-7 : tie.Need-same-length-7 Inv-loop μ-loop
 same-length-7 c = c .before .loop .inv .same₁
 
--- src/entries.rt:59:1
 same-length-8 : tie.Need-same-length-8 Inv-loop μ-loop
 same-length-8 c = c .before .loop .inv .same₂
 
--- src/entries.rt:59:1
 same-length-9 : tie.Need-same-length-9 Inv-loop μ-loop
 same-length-9 c = c .before .loop .inv .same₃
 
--- src/entries.rt:59:1
 returns-4 : tie.Need-returns-4 Inv-loop μ-loop
 returns-4 c = ((c .before .loop .inv .low, c .before .loop .inv .high), λ met k a b d. law.listing-ends _ _ _ _ _ _ _ _ _ (c .before .loop .inv) (c .loop-test .left) met k a b d)
 
@@ -120,22 +71,22 @@ entries-spec =
     (tie.spec
     Inv-loop
     μ-loop
-    wide-at-requires
+    (λ c κs. tt)
     returns
     loop-holds
-    wide-at-requires-2
+    (λ c κs. tt)
     same-length
     same-length-2
     same-length-3
     returns-2
     add-declarators
-    declarators-requires
-    enum-known-end
-    put-requires
+    (λ c κs. tt)
+    (λ c. search needs)
+    (λ c κs. tt)
     sub-left
     loop-less
     loop-again
-    enum-told
+    (λ c. search needs)
     same-length-4
     same-length-5
     same-length-6

@@ -2,55 +2,34 @@ use native.Mathlib.Nat.{le-of-eq}
 use borrow.Author.Needs.{needs}
 use Rattle.joining.proofs.join.join.Statement.{statement}
 use Rattle.joining.proofs.join.join.Tie as tie
-use Rattle.joining.proofs.join.join.Reads as reads
-use Rattle.joining.proofs.join.join.Lts as lts
-use Rattle.joining.proofs.join.joined.Reads as joined-reads
 
--- src/join.rt:105:9
 slice-aggregate-joined : tie.Need-slice-aggregate-joined
 slice-aggregate-joined c = search needs
 
--- src/join.rt:106:9
 slice-aggregate-joined-2 : tie.Need-slice-aggregate-joined-2
 slice-aggregate-joined-2 c = search needs
 
--- src/join.rt:107:9
 slice-aggregate-joined-3 : tie.Need-slice-aggregate-joined-3
 slice-aggregate-joined-3 c = search needs
 
--- src/join.rt:108:9
 slice-aggregate-joined-4 : tie.Need-slice-aggregate-joined-4
 slice-aggregate-joined-4 c = search needs
 
--- src/join.rt:109:9
 slice-aggregate-joined-5 : tie.Need-slice-aggregate-joined-5
 slice-aggregate-joined-5 c = search needs
 
--- src/join.rt:110:9
 slice-aggregate-joined-6 : tie.Need-slice-aggregate-joined-6
 slice-aggregate-joined-6 c = search needs
 
--- src/join.rt:111:9
 slice-aggregate-joined-7 : tie.Need-slice-aggregate-joined-7
 slice-aggregate-joined-7 c = search needs
 
--- src/join.rt:112:9
 slice-aggregate-joined-8 : tie.Need-slice-aggregate-joined-8
 slice-aggregate-joined-8 c = search needs
 
--- src/join.rt:113:9
 slice-aggregate-joined-9 : tie.Need-slice-aggregate-joined-9
 slice-aggregate-joined-9 c = search needs
 
--- src/join.rt:101:5
-joined-requires : tie.Need-joined-requires
-joined-requires c κs = search needs
-
--- src/join.rt:89:1
-same-length : tie.Need-same-length
-same-length c = search needs
-
--- src/join.rt:89:1
 returns : tie.Need-returns
 returns c =
     c .before .before .before .before .before .before .before .before .before .before .before .joined .ensures (record {
@@ -75,6 +54,6 @@ join-spec =
     slice-aggregate-joined-7
     slice-aggregate-joined-8
     slice-aggregate-joined-9
-    joined-requires
-    same-length
+    (λ c κs. search needs)
+    (λ c. search needs)
     returns)

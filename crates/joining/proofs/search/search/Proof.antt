@@ -5,11 +5,6 @@ use Rattle.joining.specs.Tables.{searched}
 use Rattle.joining.proofs.Tables as law
 use Rattle.joining.proofs.search.search.Statement.{statement}
 use Rattle.joining.proofs.search.search.Tie as tie
-use Rattle.joining.proofs.search.search.Reads as reads
-use Rattle.joining.proofs.search.search.Lts as lts
-use Rattle.joining.proofs.table.at.Reads as at-reads
-use Rattle.joining.proofs.table.back.Reads as back-reads
-use Rattle.tree.proofs.bytes.wide_at.Reads as wide-at-reads
 
 abbrev Inv-loop : tie.InvT-loop
 Inv-loop tree earlier holds before latest mark place₀ list statement₀ place statement =
@@ -25,55 +20,30 @@ Inv-containers tree earlier holds before latest mark place₀ list₀ place list
 abbrev μ-containers : tie.MeasureT-containers
 μ-containers tree earlier holds before latest mark place₀ list₀ place list = list
 
--- src/search.rt:29:5
 containers-holds : tie.Need-containers-holds Inv-loop μ-loop Inv-containers μ-containers
 containers-holds c = law.outer-start _ _ _ _ _ _
 
--- src/search.rt:30:13
-at-requires : tie.Need-at-requires Inv-loop μ-loop Inv-containers μ-containers
-at-requires c κs = search needs
-
--- src/search.rt:31:9
 loop-holds : tie.Need-loop-holds Inv-loop μ-loop Inv-containers μ-containers
 loop-holds c = (law.outer-enters _ _ _ _ _ _ _ _ _ (c .before .before .containers .inv) (c .before .containers-test .taken) (c .at .ensures .0), c .at .ensures .1)
 
--- src/search.rt:32:37
 add-wide-at : tie.Need-add-wide-at Inv-loop μ-loop Inv-containers μ-containers
 add-wide-at c = omega (arith, c .before .loop .inv .1)
 
--- src/search.rt:32:16
-wide-at-requires : tie.Need-wide-at-requires Inv-loop μ-loop Inv-containers μ-containers
-wide-at-requires c κs = search needs
-
--- src/search.rt:39:13
-back-requires : tie.Need-back-requires Inv-loop μ-loop Inv-containers μ-containers
-back-requires c κs = search needs
-
--- src/search.rt:31:9
 loop-less : tie.Need-loop-less Inv-loop μ-loop Inv-containers μ-containers
 loop-less c = c .back .ensures .1 (c .before .before .before .loop-test .taken)
 
--- src/search.rt:31:9
 loop-again : tie.Need-loop-again Inv-loop μ-loop Inv-containers μ-containers
 loop-again c = (law.inner-next _ _ _ _ _ _ _ _ _ _ (c .before .before .before .before .loop .inv .0) (c .before .before .before .loop-test .taken) _ (c .before .before .wide-at .ensures .value) (c .before .if1 .left) (c .back .ensures .0), omega (arith, c .before .before .before .before .loop .inv .1, c .back .ensures .1 (c .before .before .before .loop-test .taken)))
 
--- src/search.rt:41:9
-back-requires-2 : tie.Need-back-requires-2 Inv-loop μ-loop Inv-containers μ-containers
-back-requires-2 c κs = search needs
-
--- src/search.rt:29:5
 containers-less : tie.Need-containers-less Inv-loop μ-loop Inv-containers μ-containers
 containers-less c = c .back2 .ensures .1 (c .before .before .before .before .containers-test .taken)
 
--- src/search.rt:29:5
 containers-again : tie.Need-containers-again Inv-loop μ-loop Inv-containers μ-containers
 containers-again c = law.inner-ends _ _ _ _ _ _ _ _ _ _ (c .before .before .loop .inv .0) (c .before .loop-test .left) (c .back2 .ensures .0)
 
--- src/search.rt:14:1
 returns : tie.Need-returns Inv-loop μ-loop Inv-containers μ-containers
 returns c = law.outer-ends _ _ _ _ _ _ _ _ (c .before .containers .inv) (c .containers-test .left)
 
--- src/search.rt:14:1
 returns-2 : tie.Need-returns-2 Inv-loop μ-loop Inv-containers μ-containers
 returns-2 c = law.inner-found _ _ _ _ _ _ _ _ _ (c .before .before .before .loop .inv .0) (c .before .before .loop-test .taken) _ (c .before .wide-at .ensures .value) (c .if1 .taken)
 
@@ -86,14 +56,14 @@ search-spec =
     Inv-containers
     μ-containers
     containers-holds
-    at-requires
+    (λ c κs. search needs)
     loop-holds
     add-wide-at
-    wide-at-requires
-    back-requires
+    (λ c κs. search needs)
+    (λ c κs. search needs)
     loop-less
     loop-again
-    back-requires-2
+    (λ c κs. search needs)
     containers-less
     containers-again
     returns

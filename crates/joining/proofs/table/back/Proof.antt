@@ -1,4 +1,3 @@
-use native.Mathlib.Omega.{arith}
 use borrow.Author.Needs.{needs}
 use Rattle.joining.proofs.Tables as law
 use Rattle.joining.proofs.table.back.Statement.{statement}

@@ -6,8 +6,6 @@ use native.Mathlib.Omega.{arith}
 use borrow.Author.Needs.{needs}
 use Rattle.joining.proofs.table.clear.Statement.{statement}
 use Rattle.joining.proofs.table.clear.Tie as tie
-use Rattle.joining.proofs.table.clear.Reads as reads
-use Rattle.joining.proofs.table.clear.Lts as lts
 
 abbrev Inv-loop : tie.InvT-loop
 Inv-loop table₀ i₀ table i = (length table ≡ length table₀) × (i ≤ length table) × ((x : ℕ) → i ≤ x → getD table x 0 ≡ 0)
@@ -15,33 +13,24 @@ Inv-loop table₀ i₀ table i = (length table ≡ length table₀) × (i ≤ le
 abbrev μ-loop : tie.MeasureT-loop
 μ-loop table₀ i₀ table i = i
 
--- src/table.rt:16:5
 loop-holds : tie.Need-loop-holds Inv-loop μ-loop
 loop-holds c = (refl, omega arith, λ x h. List·getD-eq-default (c .args .table .now) 0 {n = x} h)
 
--- src/table.rt:17:9
 sub-i : tie.Need-sub-i Inv-loop μ-loop
 sub-i c = omega (arith, c .loop-test .taken)
-
-mul-table : tie.Need-mul-table Inv-loop μ-loop
-mul-table c = search needs
 
 slice-write-table : tie.Need-slice-write-table Inv-loop μ-loop
 slice-write-table c = omega (arith, c .loop-test .taken, c .before .loop .inv .1)
 
--- src/table.rt:16:5
 loop-less : tie.Need-loop-less Inv-loop μ-loop
 loop-less c = omega (arith, c .loop-test .taken)
 
--- src/table.rt:16:5
 loop-again : tie.Need-loop-again Inv-loop μ-loop
 loop-again c = (length-set (c .before .loop .table) (c .before .loop .i - 1) 0 ∙ c .before .loop .inv .0, omega (arith, c .before .loop .inv .1, length-set (c .before .loop .table) (c .before .loop .i - 1) 0), cleared-one (c .before .loop .table) (c .before .loop .i) (c .loop-test .taken) (c .before .loop .inv .1) (c .before .loop .inv .2))
 
--- src/table.rt:12:1
 same-length : tie.Need-same-length Inv-loop μ-loop
 same-length c = c .before .loop .inv .0
 
--- src/table.rt:12:1
 returns : tie.Need-returns Inv-loop μ-loop
 returns c = (c .before .loop .inv .0, λ x. c .before .loop .inv .2 x (omega (arith, c .loop-test .left)))
 
@@ -53,7 +42,7 @@ clear-spec =
     μ-loop
     loop-holds
     sub-i
-    mul-table
+    (λ c. search needs)
     slice-write-table
     loop-less
     loop-again

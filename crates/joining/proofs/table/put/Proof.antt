@@ -1,5 +1,4 @@
 use native.Mathlib.Omega.{arith}
-use mathlib.Core.Path.{refl}
 use borrow.Author.Needs.{needs}
 use Rattle.joining.proofs.Tables as law
 use Rattle.joining.proofs.table.put.Statement.{statement}

@@ -15,14 +15,8 @@ abbrev μ-loop : tie.MeasureT-loop
 loop-holds : tie.Need-loop-holds Inv-loop μ-loop
 loop-holds c = law.quiet-start _ _ _ _
 
-sub-if1 : tie.Need-sub-if1 Inv-loop μ-loop
-sub-if1 c = search needs
-
 returns : tie.Need-returns Inv-loop μ-loop
 returns c = c .before .before .loop .inv
-
-add-calm : tie.Need-add-calm Inv-loop μ-loop
-add-calm c = search needs
 
 calm-requires : tie.Need-calm-requires Inv-loop μ-loop
 calm-requires c κs = omega (arith, c .if1 .left, c .before .before .before .before .before .pre .0)
@@ -58,9 +52,9 @@ blocks-spec =
     Inv-loop
     μ-loop
     loop-holds
-    sub-if1
+    (λ c. search needs)
     returns
-    add-calm
+    (λ c. search needs)
     calm-requires
     add-calm-2
     calm-requires-2

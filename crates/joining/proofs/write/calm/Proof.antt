@@ -17,21 +17,6 @@ abbrev μ-loop : tie.MeasureT-loop
 loop-holds : tie.Need-loop-holds Inv-loop μ-loop
 loop-holds c = λ y x a b. absurd (omega arith)
 
-mul-also-zero : tie.Need-mul-also-zero Inv-loop μ-loop
-mul-also-zero c = search needs
-
-shared-slice-read-also-zero : tie.Need-shared-slice-read-also-zero Inv-loop μ-loop
-shared-slice-read-also-zero c = search needs
-
-also-zero-requires : tie.Need-also-zero-requires Inv-loop μ-loop
-also-zero-requires c κs = search needs
-
-add-i : tie.Need-add-i Inv-loop μ-loop
-add-i c = search needs
-
-loop-less : tie.Need-loop-less Inv-loop μ-loop
-loop-less c = search needs
-
 loop-again : tie.Need-loop-again Inv-loop μ-loop
 loop-again c = law.calm-next (c .before .before .before .before .before .args .table .now) _ _ _ _ (c .before .before .before .loop .inv) (c .also-zero .ensures)
 
@@ -45,10 +30,10 @@ calm-spec =
     Inv-loop
     μ-loop
     loop-holds
-    mul-also-zero
-    shared-slice-read-also-zero
-    also-zero-requires
-    add-i
-    loop-less
+    (λ c. search needs)
+    (λ c. search needs)
+    (λ c κs. search needs)
+    (λ c. search needs)
+    (λ c. search needs)
     loop-again
     returns)

@@ -13,29 +13,17 @@ Inv-loop out₀ at from start stop end p₀ i₀ out p i = law.Copying out₀ at
 abbrev μ-loop : tie.MeasureT-loop
 μ-loop out₀ at from start stop end p₀ i₀ out p i = end - i
 
-has-room-requires : tie.Need-has-room-requires Inv-loop μ-loop
-has-room-requires c κs = search needs
-
 block-requires : tie.Need-block-requires Inv-loop μ-loop
 block-requires c κs = (c .before .before .before .if1 .taken, c .before .before .has-room .ensures (c .before .if2 .taken))
 
-same-length : tie.Need-same-length Inv-loop μ-loop
-same-length c = search needs
-
 returns : tie.Need-returns Inv-loop μ-loop
 returns c = c .before .before .block .ensures
-
-least-requires : tie.Need-least-requires Inv-loop μ-loop
-least-requires c κs = search needs
 
 loop-holds : tie.Need-loop-holds Inv-loop μ-loop
 loop-holds c = (law.copying-start _ _ _ _ _, c .least .ensures)
 
 shared-slice-read-put : tie.Need-shared-slice-read-put Inv-loop μ-loop
 shared-slice-read-put c = omega (arith, c .before .before .loop-test .taken, c .before .before .before .loop .inv .1)
-
-put-requires : tie.Need-put-requires Inv-loop μ-loop
-put-requires c κs = search needs
 
 add-i : tie.Need-add-i Inv-loop μ-loop
 add-i c = omega (arith, c .before .before .before .before .before .loop-test .taken, c .before .before .before .before .before .before .loop .inv .1)
@@ -58,14 +46,14 @@ copy-spec =
     (tie.spec
     Inv-loop
     μ-loop
-    has-room-requires
+    (λ c κs. search needs)
     block-requires
-    same-length
+    (λ c. search needs)
     returns
-    least-requires
+    (λ c κs. search needs)
     loop-holds
     shared-slice-read-put
-    put-requires
+    (λ c κs. search needs)
     add-i
     loop-less
     loop-again

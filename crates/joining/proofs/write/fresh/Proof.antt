@@ -19,9 +19,6 @@ loop-holds c = law.free-start _ _
 add-m : tie.Need-add-m Inv-loop μ-loop
 add-m c = omega (arith, c .loop-test .taken)
 
-peek-requires : tie.Need-peek-requires Inv-loop μ-loop
-peek-requires c κs = search needs
-
 returns : tie.Need-returns Inv-loop μ-loop
 returns c = law.free-found _ _ _ _ (c .before .before .loop-test .taken) (c .before .before .before .loop .inv) (c .before .peek .ensures .value) (c .if1 .taken)
 
@@ -35,4 +32,4 @@ returns-2 : tie.Need-returns-2 Inv-loop μ-loop
 returns-2 c = law.free-last _ _ _ (c .loop-test .left) (c .before .loop .inv)
 
 pub fresh-spec : {M : Type 1} → statement M
-fresh-spec = tie.close (tie.spec Inv-loop μ-loop loop-holds add-m peek-requires returns loop-less loop-again returns-2)
+fresh-spec = tie.close (tie.spec Inv-loop μ-loop loop-holds add-m (λ c κs. search needs) returns loop-less loop-again returns-2)

@@ -5,12 +5,6 @@ use native.Mathlib.Omega.{arith}
 use Rattle.joining.proofs.write.has_room.Statement.{statement}
 use Rattle.joining.proofs.write.has_room.Tie as tie
 
-sub-result : tie.Need-sub-result
-sub-result c = search needs
-
-sub-result-2 : tie.Need-sub-result-2
-sub-result-2 c = search needs
-
 returns : tie.Need-returns
 returns c = λ y. omega (arith, leb-true, y)
 
@@ -21,4 +15,4 @@ returns-3 : tie.Need-returns-3
 returns-3 c = λ y. absurd (false≢true y)
 
 pub has-room-spec : {M : Type 1} → statement M
-has-room-spec = tie.close (tie.spec sub-result sub-result-2 returns returns-2 returns-3)
+has-room-spec = tie.close (tie.spec (λ c. search needs) (λ c. search needs) returns returns-2 returns-3)

@@ -8,11 +8,8 @@ use Rattle.joining.proofs.write.place.Tie as tie
 returns : tie.Need-returns
 returns c = (law.quiet-start _ _ _ _, λ y. refl)
 
-quiet-requires : tie.Need-quiet-requires
-quiet-requires c κs = search needs
-
 returns-2 : tie.Need-returns-2
 returns-2 c = (c .quiet .ensures, λ y. absurd (false≢true (sym (c .before .if1 .left) ∙ y)))
 
 pub place-spec : {M : Type 1} → statement M
-place-spec = tie.close (tie.spec returns quiet-requires returns-2)
+place-spec = tie.close (tie.spec returns (λ c κs. search needs) returns-2)

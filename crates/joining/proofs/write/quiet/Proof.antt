@@ -14,20 +14,11 @@ Inv-loop more held start end stop i₀ i = Quiet more held start stop i × (stop
 abbrev μ-loop : tie.MeasureT-loop
 μ-loop more held start end stop i₀ i = stop - i
 
-least-requires : tie.Need-least-requires Inv-loop μ-loop
-least-requires c κs = search needs
-
-least-requires-2 : tie.Need-least-requires-2 Inv-loop μ-loop
-least-requires-2 c κs = search needs
-
 blocks-requires : tie.Need-blocks-requires Inv-loop μ-loop
 blocks-requires c κs = (omega (arith, c .least2 .ensures, c .before .least .ensures), omega (arith, c .least2 .ensures, c .before .least .ensures))
 
 loop-holds : tie.Need-loop-holds Inv-loop μ-loop
 loop-holds c = (c .blocks2 .ensures, omega (arith, c .before .least2 .ensures, c .before .before .least .ensures))
-
-mul-if1 : tie.Need-mul-if1 Inv-loop μ-loop
-mul-if1 c = search needs
 
 shared-slice-read-if1 : tie.Need-shared-slice-read-if1 Inv-loop μ-loop
 shared-slice-read-if1 c = omega (arith, c .before .loop-test .taken, c .before .before .loop .inv .1)
@@ -35,17 +26,11 @@ shared-slice-read-if1 c = omega (arith, c .before .loop-test .taken, c .before .
 returns : tie.Need-returns Inv-loop μ-loop
 returns c = law.quiet-within _ _ _ _ _ _ (c .before .before .before .loop .inv .0) (omega (arith, c .before .before .before .loop .inv .1))
 
-mul-if2 : tie.Need-mul-if2 Inv-loop μ-loop
-mul-if2 c = search needs
-
 shared-slice-read-if2 : tie.Need-shared-slice-read-if2 Inv-loop μ-loop
 shared-slice-read-if2 c = omega (arith, c .before .before .before .loop-test .taken, c .before .before .before .before .loop .inv .1)
 
 returns-2 : tie.Need-returns-2 Inv-loop μ-loop
 returns-2 c = law.quiet-within _ _ _ _ _ _ (c .before .before .before .before .before .loop .inv .0) (omega (arith, c .before .before .before .before .before .loop .inv .1))
-
-add-i : tie.Need-add-i Inv-loop μ-loop
-add-i c = search needs
 
 loop-less : tie.Need-loop-less Inv-loop μ-loop
 loop-less c = omega (arith, c .before .before .before .before .loop-test .taken)
@@ -62,17 +47,17 @@ quiet-spec =
     (tie.spec
     Inv-loop
     μ-loop
-    least-requires
-    least-requires-2
+    (λ c κs. search needs)
+    (λ c κs. search needs)
     blocks-requires
     loop-holds
-    mul-if1
+    (λ c. search needs)
     shared-slice-read-if1
     returns
-    mul-if2
+    (λ c. search needs)
     shared-slice-read-if2
     returns-2
-    add-i
+    (λ c. search needs)
     loop-less
     loop-again
     returns-3)

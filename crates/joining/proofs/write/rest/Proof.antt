@@ -16,21 +16,6 @@ abbrev μ-loop : tie.MeasureT-loop
 loop-holds : tie.Need-loop-holds Inv-loop μ-loop
 loop-holds c = (λ h. law.passing-start _ _ _ _ _ _ _ _ _, refl)
 
-sub-place : tie.Need-sub-place Inv-loop μ-loop
-sub-place c = search needs
-
-place-requires : tie.Need-place-requires Inv-loop μ-loop
-place-requires c κs = search needs
-
-copy-requires : tie.Need-copy-requires Inv-loop μ-loop
-copy-requires c κs = search needs
-
-step-requires : tie.Need-step-requires Inv-loop μ-loop
-step-requires c κs = search needs
-
-skips-requires : tie.Need-skips-requires Inv-loop μ-loop
-skips-requires c κs = search needs
-
 add-p : tie.Need-add-p Inv-loop μ-loop
 add-p c = omega (arith, c .before .before .before .before .before .before .before .before .before .place .ensures .0 .within, c .before .before .before .before .before .before .before .before .before .before .loop-test .taken, c .before .before .before .before .before .before .before .before .before .before .before .before .before .before .before .before .before .before .before .good)
 
@@ -52,4 +37,4 @@ returns : tie.Need-returns Inv-loop μ-loop
 returns c = λ h. law.passing-ends _ _ _ _ _ _ _ _ _ _ _ _ _ _ (c .before .loop .inv .0 h) (c .loop-test .left)
 
 pub rest-spec : {M : Type 1} → statement M
-rest-spec = tie.close (tie.spec Inv-loop μ-loop loop-holds sub-place place-requires copy-requires step-requires skips-requires add-p loop-less loop-again same-length returns)
+rest-spec = tie.close (tie.spec Inv-loop μ-loop loop-holds (λ c. search needs) (λ c κs. search needs) (λ c κs. search needs) (λ c κs. search needs) (λ c κs. search needs) add-p loop-less loop-again same-length returns)

@@ -1,9 +1,6 @@
 use Rattle.printer.proofs.Logging as law
-use borrow.Author.Needs.{needs}
 use Rattle.printer.proofs.entries.closing.Statement.{statement}
 use Rattle.printer.proofs.entries.closing.Tie as tie
-use Rattle.printer.proofs.entries.closing.Reads as reads
-use Rattle.printer.proofs.entries.closing.Lts as lts
 
 returns : tie.Need-returns
 returns c = λ tree. law.closing-node tree _ (c .if1 .taken)

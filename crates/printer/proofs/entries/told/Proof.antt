@@ -1,20 +1,11 @@
-use mathlib.Core.Path.{_≡_, refl, sym}
+use mathlib.Core.Path.{refl, sym}
 use native.Mathlib.Omega.{arith}
 use Rattle.printer.proofs.Logging as law
-use borrow.Author.Needs.{needs}
 use Rattle.printer.proofs.entries.told.Statement.{statement}
 use Rattle.printer.proofs.entries.told.Tie as tie
-use Rattle.printer.proofs.entries.told.Reads as reads
-use Rattle.printer.proofs.entries.told.Lts as lts
-
-peek-requires : tie.Need-peek-requires
-peek-requires c κs = tt
 
 add-peek : tie.Need-add-peek
 add-peek c = omega arith
-
-peek-requires-2 : tie.Need-peek-requires-2
-peek-requires-2 c κs = tt
 
 returns : tie.Need-returns
 returns c = rw (c .before .peek .ensures .value, c .peek2 .ensures .value) (sym (law.told-code _ _ 1 _ (c .before .before .match .keys1) refl))
@@ -50,9 +41,9 @@ pub told-spec : {M : Type 1} → statement M
 told-spec =
     tie.close
     (tie.spec
-    peek-requires
+    (λ c κs. tt)
     add-peek
-    peek-requires-2
+    (λ c κs. tt)
     returns
     returns-2
     returns-3

@@ -1,7 +1,7 @@
 use Rattle.printer.proofs.Bits as law
 use mathlib.Core.Path.{sym, ap, _∙_}
 use native.Mathlib.Omega.{arith}
-use Prim.Native.Nat.{ℕ, _<_, _+_, _*_}
+use Prim.Native.Nat.{ℕ, _<_, _+_}
 use borrow.Fn.Kinds.{In}
 use borrow.Fn.PlainCycle.{Measures, is, falls, and}
 use Rattle.printer.proofs.frame.lowest_far.Reads as lowest-far
@@ -19,28 +19,23 @@ lowest-far-at t = and 0 lowest-far-kinds.ps (is 0 lowest-far-kinds.ps μ-lowest-
 abbrev lowest-far-below : ℕ → In 0 lowest-far-kinds.ps
 lowest-far-below t = and 0 lowest-far-kinds.ps (falls 0 lowest-far-kinds.ps _<_ μ-lowest-far t) lowest-far.Pre
 
--- src/frame.rt:24:9
 lowest-far-returns :
     (t : ℕ) → lowest-far-lts.Need-returns (lowest-far-below t, lowest-far.Post) (lowest-far-at t) lowest-far.Post
 lowest-far-returns t c = (sym (law.lowest-zero _ (c .if1 .taken)), omega arith)
 
--- src/frame.rt:27:16
 lowest-far-lowest-far-requires :
     (t : ℕ) →
     lowest-far-lts.Need-lowest-far-requires (lowest-far-below t, lowest-far.Post) (lowest-far-at t) lowest-far.Post
 lowest-far-lowest-far-requires t c κs = (omega (arith, c .before .before .pre .0, c .before .if1 .left), tt)
 
--- src/frame.rt:27:16
 lowest-far-add-result :
     (t : ℕ) → lowest-far-lts.Need-add-result (lowest-far-below t, lowest-far.Post) (lowest-far-at t) lowest-far.Post
 lowest-far-add-result t c = omega (arith, c .lowest-far .ensures .1, c .before .before .if1 .left)
 
--- src/frame.rt:27:9
 lowest-far-returns-2 :
     (t : ℕ) → lowest-far-lts.Need-returns-2 (lowest-far-below t, lowest-far.Post) (lowest-far-at t) lowest-far.Post
 lowest-far-returns-2 t c = (ap (λ (x : ℕ). x + 1) (c .lowest-far .ensures .0) ∙ sym (law.lowest-even _ (c .before .before .if1 .left) (c .before .if2 .taken)), omega (arith, c .lowest-far .ensures .1, c .before .before .if1 .left))
 
--- src/frame.rt:20:1
 lowest-far-returns-3 :
     (t : ℕ) → lowest-far-lts.Need-returns-3 (lowest-far-below t, lowest-far.Post) (lowest-far-at t) lowest-far.Post
 lowest-far-returns-3 t c = (sym (law.lowest-odd _ (c .before .if1 .left) (c .if2 .left)), omega arith)

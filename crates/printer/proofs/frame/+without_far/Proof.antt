@@ -1,7 +1,7 @@
 use Rattle.printer.proofs.Bits as law
 use mathlib.Core.Path.{sym, ap, _∙_}
 use native.Mathlib.Omega.{arith}
-use Prim.Native.Nat.{ℕ, _<_, _+_, _*_}
+use Prim.Native.Nat.{ℕ, _<_, _*_}
 use borrow.Fn.Kinds.{In}
 use borrow.Fn.PlainCycle.{Measures, is, falls, and}
 use Rattle.printer.proofs.frame.without_far.Reads as without-far
@@ -19,37 +19,31 @@ without-far-at t = and 0 without-far-kinds.ps (is 0 without-far-kinds.ps μ-with
 abbrev without-far-below : ℕ → In 0 without-far-kinds.ps
 without-far-below t = and 0 without-far-kinds.ps (falls 0 without-far-kinds.ps _<_ μ-without-far t) without-far.Pre
 
--- src/frame.rt:37:9
 without-far-returns :
     (t : ℕ) → without-far-lts.Need-returns (without-far-below t, without-far.Post) (without-far-at t) without-far.Post
 without-far-returns t c = (sym (law.without-zero _ (c .if1 .taken)), omega arith)
 
--- src/frame.rt:40:16
 without-far-without-far-requires : (t : ℕ) → without-far-lts.Need-without-far-requires (
   without-far-below t,
   without-far.Post,
 ) (without-far-at t) without-far.Post
 without-far-without-far-requires t c κs = (omega (arith, c .before .before .pre .0, c .before .if1 .left), tt)
 
--- src/frame.rt:40:16
 without-far-mul-result :
     (t : ℕ) →
     without-far-lts.Need-mul-result (without-far-below t, without-far.Post) (without-far-at t) without-far.Post
 without-far-mul-result t c = omega (arith, c .without-far .ensures .1, c .before .before .if1 .left)
 
--- src/frame.rt:40:9
 without-far-returns-2 :
     (t : ℕ) →
     without-far-lts.Need-returns-2 (without-far-below t, without-far.Post) (without-far-at t) without-far.Post
 without-far-returns-2 t c = (ap (λ (x : ℕ). x * 2) (c .without-far .ensures .0) ∙ sym (law.without-even _ (c .before .before .if1 .left) (c .before .if2 .taken)), omega (arith, c .without-far .ensures .1, c .before .before .if1 .left))
 
--- src/frame.rt:42:5
 without-far-sub-result :
     (t : ℕ) →
     without-far-lts.Need-sub-result (without-far-below t, without-far.Post) (without-far-at t) without-far.Post
 without-far-sub-result t c = omega (arith, c .before .if1 .left)
 
--- src/frame.rt:33:1
 without-far-returns-3 :
     (t : ℕ) →
     without-far-lts.Need-returns-3 (without-far-below t, without-far.Post) (without-far-at t) without-far.Post

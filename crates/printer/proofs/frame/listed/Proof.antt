@@ -2,10 +2,7 @@ use mathlib.Core.Path.{refl}
 use Rattle.printer.specs.Places.{listed}
 use Rattle.printer.proofs.frame.listed.Statement.{statement}
 use Rattle.printer.proofs.frame.listed.Tie as tie
-use Rattle.printer.proofs.frame.listed.Reads as reads
-use Rattle.printer.proofs.frame.listed.Lts as lts
 
--- src/frame.rt:81:1
 returns : tie.Need-returns
 unfolding listed
 returns c = refl

@@ -1,11 +1,8 @@
-use mathlib.Core.Path.{_≡_, sym}
+use mathlib.Core.Path.{sym}
 use native.Mathlib.Omega.{arith}
 use Rattle.printer.proofs.Bits as law
-use borrow.Author.Needs.{needs}
 use Rattle.printer.proofs.frame.lowest.Statement.{statement}
 use Rattle.printer.proofs.frame.lowest.Tie as tie
-use Rattle.printer.proofs.frame.lowest.Reads as reads
-use Rattle.printer.proofs.frame.lowest.Lts as lts
 
 returns : tie.Need-returns
 returns c = (sym (law.lowest-first _ (c .if1 .taken)), omega (arith, c .if1 .taken))
@@ -19,9 +16,6 @@ returns-3 c = (sym (law.lowest-third _ (c .if3 .taken)), omega (arith, c .if3 .t
 returns-4 : tie.Need-returns-4
 returns-4 c = (sym (law.lowest-fourth _ (c .if4 .taken)), omega (arith, c .if4 .taken))
 
-lowest-far-requires : tie.Need-lowest-far-requires
-lowest-far-requires c κs = tt
-
 returns-5 : tie.Need-returns-5
 returns-5 c = c .lowest-far .ensures
 
@@ -33,5 +27,5 @@ lowest-spec =
     returns-2
     returns-3
     returns-4
-    lowest-far-requires
+    (λ c κs. tt)
     returns-5)

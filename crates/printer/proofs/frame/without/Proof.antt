@@ -1,11 +1,8 @@
-use mathlib.Core.Path.{_≡_, sym}
+use mathlib.Core.Path.{sym}
 use native.Mathlib.Omega.{arith}
 use Rattle.printer.proofs.Bits as law
-use borrow.Author.Needs.{needs}
 use Rattle.printer.proofs.frame.without.Statement.{statement}
 use Rattle.printer.proofs.frame.without.Tie as tie
-use Rattle.printer.proofs.frame.without.Reads as reads
-use Rattle.printer.proofs.frame.without.Lts as lts
 
 sub-result : tie.Need-sub-result
 sub-result c = omega (arith, c .if1 .taken)
@@ -31,9 +28,6 @@ sub-result-4 c = omega (arith, c .if4 .taken)
 returns-4 : tie.Need-returns-4
 returns-4 c = (sym (law.without-fourth _ (c .if4 .taken)), omega (arith, c .if4 .taken))
 
-without-far-requires : tie.Need-without-far-requires
-without-far-requires c κs = tt
-
 returns-5 : tie.Need-returns-5
 returns-5 c = c .without-far .ensures
 
@@ -49,5 +43,5 @@ without-spec =
     returns-3
     sub-result-4
     returns-4
-    without-far-requires
+    (λ c κs. tt)
     returns-5)

@@ -1,14 +1,10 @@
 use borrow.Author.Tests.{eq-eqb, ne-eqb}
 use Rattle.printer.proofs.layout.gap.Statement.{statement}
 use Rattle.printer.proofs.layout.gap.Tie as tie
-use Rattle.printer.proofs.layout.gap.Reads as reads
-use Rattle.printer.proofs.layout.gap.Lts as lts
 
--- src/layout.rt:152:1
 returns : tie.Need-returns
 returns c = rw (eq-eqb _ _ (c .if1 .taken))
 
--- src/layout.rt:152:1
 returns-2 : tie.Need-returns-2
 returns-2 c = rw (ne-eqb _ _ (c .if1 .left))
 

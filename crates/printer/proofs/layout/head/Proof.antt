@@ -1,20 +1,12 @@
 use Rattle.printer.proofs.Tables as law
-use mathlib.Core.Path.{_≡_, sym, ap, _∙_}
-use Prim.Native.Nat.{ℕ, _/_, _%_, _^_, _+_, _*_}
+use mathlib.Core.Path.{ap, _∙_}
+use Prim.Native.Nat.{ℕ, _%_}
 use borrow.Author.Needs.{needs}
 use Rattle.printer.proofs.layout.head.Statement.{statement}
 use Rattle.printer.proofs.layout.head.Tie as tie
-use Rattle.printer.proofs.layout.head.Reads as reads
-use Rattle.printer.proofs.layout.head.Lts as lts
-use Rattle.printer.proofs.layout.row.Reads as row-reads
 
--- src/layout.rt:118:5
-row-requires : tie.Need-row-requires
-row-requires c κs = search needs
-
--- src/layout.rt:115:1
 returns : tie.Need-returns
 returns c = ap (λ (x : ℕ). x % 128) (c .row .ensures) ∙ law.row-head _
 
 pub head-spec : {M : Type 1} → statement M
-head-spec = tie.close (tie.spec row-requires returns)
+head-spec = tie.close (tie.spec (λ c κs. search needs) returns)

@@ -1,14 +1,11 @@
 use Rattle.printer.proofs.Named as law
-use mathlib.Core.Path.{_≡_, refl, sym, ap, _∙_}
+use mathlib.Core.Path.{_≡_, sym, _∙_}
 use native.Mathlib.Omega.{arith}
-use Prim.Native.Nat.{ℕ, _+_, _-_, _*_, _/_, _%_, _≤_, _<_}
+use Prim.Native.Nat.{ℕ, _-_, _≤_, _<_}
 use lib.ListN.{length, getD, length-set}
 use Rattle.printer.specs.Names.{nameBytes}
 use Rattle.printer.proofs.names.make.Statement.{statement}
 use Rattle.printer.proofs.names.make.Tie as tie
-use Rattle.printer.proofs.names.make.Reads as reads
-use Rattle.printer.proofs.names.make.Lts as lts
-use Rattle.printer.proofs.names.made.Reads as made-reads
 
 abbrev Inv-loop : tie.InvT-loop
 Inv-loop table₀ i₀ table i = (length table ≡ 64) × (i ≤ 64) × ((k : ℕ) → k < i → getD table k 0 ≡ getD nameBytes k 0)
@@ -16,43 +13,30 @@ Inv-loop table₀ i₀ table i = (length table ≡ 64) × (i ≤ 64) × ((k : �
 abbrev μ-loop : tie.MeasureT-loop
 μ-loop table₀ i₀ table i = 64 - i
 
--- src/names.rt:112:9
 loop-holds : tie.Need-loop-holds Inv-loop μ-loop
 loop-holds c = (c .if1 .taken, omega arith, λ k h. absurd (omega (arith, h)))
 
--- src/names.rt:113:24
-made-requires : tie.Need-made-requires Inv-loop μ-loop
-made-requires c κs = tt
-
--- src/names.rt:113:24
 cast-table : tie.Need-cast-table Inv-loop μ-loop
 cast-table c = omega (arith, c .made .ensures .1)
 
--- src/names.rt:113:13
 slice-write-table : tie.Need-slice-write-table Inv-loop μ-loop
 slice-write-table c = omega (arith, c .before .loop-test .taken, c .before .before .loop .inv .0)
 
--- src/names.rt:114:13
 add-i : tie.Need-add-i Inv-loop μ-loop
 add-i c = omega (arith, c .before .loop-test .taken)
 
--- src/names.rt:112:9
 loop-less : tie.Need-loop-less Inv-loop μ-loop
 loop-less c = omega (arith, c .before .loop-test .taken)
 
--- src/names.rt:112:9
 loop-again : tie.Need-loop-again Inv-loop μ-loop
 loop-again c = (length-set (c .before .before .loop .table) (c .before .before .loop .i) (c .made .result) ∙ c .before .before .loop .inv .0, omega (arith, c .before .loop-test .taken), law.one-more (c .before .before .loop .table) (c .before .before .loop .i) (c .made .result) (omega (arith, c .before .loop-test .taken, c .before .before .loop .inv .0)) (c .before .before .loop .inv .2) (c .made .ensures .0 (c .before .loop-test .taken)))
 
--- src/names.rt:107:1
 same-length : tie.Need-same-length Inv-loop μ-loop
 same-length c = c .before .loop .inv .0 ∙ sym (c .before .before .if1 .taken)
 
--- src/names.rt:107:1
 returns : tie.Need-returns Inv-loop μ-loop
 returns c = λ h. law.same-table _ (c .before .loop .inv .0) (λ k g. c .before .loop .inv .2 k (omega (arith, g, c .loop-test .left)))
 
--- src/names.rt:107:1
 returns-2 : tie.Need-returns-2 Inv-loop μ-loop
 returns-2 c = λ h. absurd (c .if1 .left h)
 
@@ -63,7 +47,7 @@ make-spec =
     Inv-loop
     μ-loop
     loop-holds
-    made-requires
+    (λ c κs. tt)
     cast-table
     slice-write-table
     add-i

@@ -4,29 +4,9 @@ use Rattle.printer.proofs.Collecting as law
 use borrow.Author.Needs.{needs}
 use Rattle.printer.proofs.notes.ahead.Statement.{statement}
 use Rattle.printer.proofs.notes.ahead.Tie as tie
-use Rattle.printer.proofs.notes.ahead.Reads as reads
-use Rattle.printer.proofs.notes.ahead.Lts as lts
-
-begin-requires : tie.Need-begin-requires
-begin-requires c κs = tt
-
-same-length : tie.Need-same-length
-same-length c = search needs
-
-same-length-2 : tie.Need-same-length-2
-same-length-2 c = search needs
 
 returns : tie.Need-returns
 returns c = λ tree at. law.as-found tree (c .before .before .before .before .before .before .before .before .before .before .args .stack .now) (c .before .before .before .before .before .before .before .before .before .before .args .notes .now) _ _ (c .before .before .before .before .before .before .before .before .before .before .args .s) _ at _ _ 1 (c .before .before .before .before .before .before .before .if1 .taken) (λ h. c .before .before .before .before .begin .ensures at (byteAt tree at) (byteAt tree (at + 1)) (h .0) (h .1))
-
-byte-requires : tie.Need-byte-requires
-byte-requires c κs = tt
-
-same-length-3 : tie.Need-same-length-3
-same-length-3 c = search needs
-
-same-length-4 : tie.Need-same-length-4
-same-length-4 c = search needs
 
 returns-2 : tie.Need-returns-2
 returns-2 c = λ tree at. law.as-found tree (c .before .before .before .before .before .before .before .before .before .args .stack .now) (c .before .before .before .before .before .before .before .before .before .args .notes .now) _ _ (c .before .before .before .before .before .before .before .before .before .args .s) _ at _ _ 5 (c .before .before .before .before .before .if2 .taken) (λ h. c .before .before .byte .ensures h)
@@ -38,12 +18,12 @@ pub ahead-spec : {M : Type 1} → statement M
 ahead-spec =
     tie.close
     (tie.spec
-    begin-requires
-    same-length
-    same-length-2
+    (λ c κs. tt)
+    (λ c. search needs)
+    (λ c. search needs)
     returns
-    byte-requires
-    same-length-3
-    same-length-4
+    (λ c κs. tt)
+    (λ c. search needs)
+    (λ c. search needs)
     returns-2
     returns-3)

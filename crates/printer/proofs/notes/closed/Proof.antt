@@ -1,12 +1,6 @@
 use Rattle.printer.proofs.Collecting as law
-use borrow.Author.Needs.{needs}
 use Rattle.printer.proofs.notes.closed.Statement.{statement}
 use Rattle.printer.proofs.notes.closed.Tie as tie
-use Rattle.printer.proofs.notes.closed.Reads as reads
-use Rattle.printer.proofs.notes.closed.Lts as lts
-
-end-requires : tie.Need-end-requires
-end-requires c κs = tt
 
 returns : tie.Need-returns
 returns c = λ tree stack notes. law.closed-node tree stack notes (c .before .before .args .s) _ _ (c .before .if1 .taken) (c .end .ensures stack notes)
@@ -18,6 +12,6 @@ pub closed-spec : {M : Type 1} → statement M
 closed-spec =
     tie.close
     (tie.spec
-    end-requires
+    (λ c κs. tt)
     returns
     returns-2)

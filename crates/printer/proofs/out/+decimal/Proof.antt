@@ -1,6 +1,6 @@
 use Rattle.printer.proofs.Written as law
-use Rattle.printer.specs.Stacks.{Buffer, put, write, bytesIn, bufferIn}
-use mathlib.Core.Path.{_≡_, refl, sym, ap, _∙_}
+use Rattle.printer.specs.Stacks.{Buffer, put}
+use mathlib.Core.Path.{ap, _∙_}
 use native.Mathlib.Omega.{arith}
 use Prim.Native.Nat.{_+_, _%_}
 use Prim.Native.Nat.{ℕ, _<_}
@@ -22,7 +22,6 @@ decimal-at t = and 1 decimal-kinds.ps (is 1 decimal-kinds.ps μ-decimal t) decim
 abbrev decimal-below : ℕ → In 1 decimal-kinds.ps
 decimal-below t = and 1 decimal-kinds.ps (falls 1 decimal-kinds.ps _<_ μ-decimal t) decimal.Pre
 
--- src/out.rt:154:32
 decimal-add-put : (t : ℕ) → decimal-lts.Need-add-put (
   put-reads.Asked,
   put-reads.Learnt,
@@ -31,7 +30,6 @@ decimal-add-put : (t : ℕ) → decimal-lts.Need-add-put (
 ) (decimal-at t) decimal.Post
 decimal-add-put t c = omega (arith, c .before .if1 .taken)
 
--- src/out.rt:154:31
 decimal-cast-put : (t : ℕ) → decimal-lts.Need-cast-put (
   put-reads.Asked,
   put-reads.Learnt,
@@ -40,7 +38,6 @@ decimal-cast-put : (t : ℕ) → decimal-lts.Need-cast-put (
 ) (decimal-at t) decimal.Post
 decimal-cast-put t c = omega (arith, c .before .if1 .taken)
 
--- src/out.rt:154:9
 decimal-put-requires : (t : ℕ) → decimal-lts.Need-put-requires (
   put-reads.Asked,
   put-reads.Learnt,
@@ -49,7 +46,6 @@ decimal-put-requires : (t : ℕ) → decimal-lts.Need-put-requires (
 ) (decimal-at t) decimal.Post
 decimal-put-requires t c κs = tt
 
--- src/out.rt:154:9
 decimal-same-length : (t : ℕ) → decimal-lts.Need-same-length (
   put-reads.Asked,
   put-reads.Learnt,
@@ -58,7 +54,6 @@ decimal-same-length : (t : ℕ) → decimal-lts.Need-same-length (
 ) (decimal-at t) decimal.Post
 decimal-same-length t c = c .before .before .put .kept .0
 
--- src/out.rt:154:9
 decimal-returns : (t : ℕ) → decimal-lts.Need-returns (
   put-reads.Asked,
   put-reads.Learnt,
@@ -67,7 +62,6 @@ decimal-returns : (t : ℕ) → decimal-lts.Need-returns (
 ) (decimal-at t) decimal.Post
 decimal-returns t c = c .before .before .put .ensures ∙ law.decimal-digit _ _ (c .before .before .before .before .if1 .taken)
 
--- src/out.rt:156:9
 decimal-decimal-requires : (t : ℕ) → decimal-lts.Need-decimal-requires (
   put-reads.Asked,
   put-reads.Learnt,
@@ -76,7 +70,6 @@ decimal-decimal-requires : (t : ℕ) → decimal-lts.Need-decimal-requires (
 ) (decimal-at t) decimal.Post
 decimal-decimal-requires t c κs = (omega (arith, c .before .before .before .pre .0, c .before .if1 .left), tt)
 
--- src/out.rt:157:18
 decimal-add-put-2 : (t : ℕ) → decimal-lts.Need-add-put-2 (
   put-reads.Asked,
   put-reads.Learnt,
@@ -85,7 +78,6 @@ decimal-add-put-2 : (t : ℕ) → decimal-lts.Need-add-put-2 (
 ) (decimal-at t) decimal.Post
 decimal-add-put-2 t c = omega arith
 
--- src/out.rt:157:17
 decimal-cast-put-2 : (t : ℕ) → decimal-lts.Need-cast-put-2 (
   put-reads.Asked,
   put-reads.Learnt,
@@ -94,7 +86,6 @@ decimal-cast-put-2 : (t : ℕ) → decimal-lts.Need-cast-put-2 (
 ) (decimal-at t) decimal.Post
 decimal-cast-put-2 t c = omega arith
 
--- src/out.rt:157:5
 decimal-put-requires-2 : (t : ℕ) → decimal-lts.Need-put-requires-2 (
   put-reads.Asked,
   put-reads.Learnt,
@@ -103,7 +94,6 @@ decimal-put-requires-2 : (t : ℕ) → decimal-lts.Need-put-requires-2 (
 ) (decimal-at t) decimal.Post
 decimal-put-requires-2 t c κs = tt
 
--- src/out.rt:150:1
 decimal-same-length-2 : (t : ℕ) → decimal-lts.Need-same-length-2 (
   put-reads.Asked,
   put-reads.Learnt,
@@ -112,7 +102,6 @@ decimal-same-length-2 : (t : ℕ) → decimal-lts.Need-same-length-2 (
 ) (decimal-at t) decimal.Post
 decimal-same-length-2 t c = c .before .before .put2 .kept .0 ∙ c .before .before .before .before .before .before .decimal .kept .0
 
--- src/out.rt:150:1
 decimal-returns-2 : (t : ℕ) → decimal-lts.Need-returns-2 (
   put-reads.Asked,
   put-reads.Learnt,

@@ -1,16 +1,12 @@
 use Rattle.printer.proofs.Written as law
-use Rattle.printer.specs.Stacks.{Buffer, put, write, bytesIn, bufferIn}
-use mathlib.Core.Path.{_≡_, refl, sym, ap, _∙_}
+use Rattle.printer.specs.Stacks.{Buffer, put, write, bufferIn}
+use mathlib.Core.Path.{_≡_, refl, ap, _∙_}
 use native.Mathlib.Omega.{arith}
-use Prim.Native.Nat.{ℕ, _+_, _-_, _*_, _/_, _%_, _^_, _≤_, _<_}
+use Prim.Native.Nat.{ℕ, _+_, _-_, _≤_}
 use mathlib.Core.List.{List}
-use lib.ListN.{length, getD, take, drop}
+use lib.ListN.{length, take, drop}
 use Rattle.printer.proofs.out.copy.Statement.{statement}
 use Rattle.printer.proofs.out.copy.Tie as tie
-use Rattle.printer.proofs.out.copy.Reads as reads
-use Rattle.printer.proofs.out.copy.Lts as lts
-use Rattle.printer.proofs.out.end_of.Reads as end-of-reads
-use Rattle.printer.proofs.out.put.Reads as put-reads
 
 abbrev Inv-loop : tie.InvT-loop
 Inv-loop tree at n out₀ end s₀ i₀ out s i = (write (bufferIn out s) (take (end - i) (drop i tree)) ≡ write (bufferIn out₀ s₀) (take n (drop at tree))) × (length out ≡ length out₀) × (at ≤ i)
@@ -18,39 +14,24 @@ Inv-loop tree at n out₀ end s₀ i₀ out s i = (write (bufferIn out s) (take 
 abbrev μ-loop : tie.MeasureT-loop
 μ-loop tree at n out₀ end s₀ i₀ out s i = end - i
 
--- src/out.rt:83:9
-end-of-requires : tie.Need-end-of-requires Inv-loop μ-loop
-end-of-requires c κs = tt
-
--- src/out.rt:86:5
 loop-holds : tie.Need-loop-holds Inv-loop μ-loop
 loop-holds c = (ap (λ (l : List ℕ). write (bufferIn (c .before .before .before .args .out .now) (c .before .before .before .args .spot)) (l)) (c .end-of .ensures .same), refl, omega arith)
 
--- src/out.rt:87:25
 shared-slice-read-put : tie.Need-shared-slice-read-put Inv-loop μ-loop
 shared-slice-read-put c = omega (arith, c .before .before .loop-test .taken, c .before .before .before .before .end-of .ensures .inside (omega (arith, c .before .before .loop-test .taken, c .before .before .before .loop .inv .2)))
 
--- src/out.rt:87:9
-put-requires : tie.Need-put-requires Inv-loop μ-loop
-put-requires c κs = tt
-
--- src/out.rt:88:9
 add-i : tie.Need-add-i Inv-loop μ-loop
 add-i c = omega (arith, c .before .before .before .before .before .loop-test .taken, c .before .before .before .before .before .before .before .end-of .ensures .inside (omega (arith, c .before .before .before .before .before .loop-test .taken, c .before .before .before .before .before .before .loop .inv .2)))
 
--- src/out.rt:86:5
 loop-less : tie.Need-loop-less Inv-loop μ-loop
 loop-less c = omega (arith, c .before .before .before .before .before .loop-test .taken)
 
--- src/out.rt:86:5
 loop-again : tie.Need-loop-again Inv-loop μ-loop
 loop-again c = (ap (λ (b : Buffer). write b (take (c .before .before .before .before .before .before .before .end-of .result - (c .before .before .before .before .before .before .loop .i + 1)) (drop (c .before .before .before .before .before .before .loop .i + 1) (c .before .before .before .before .before .before .before .before .before .before .args .tree .now)))) (c .before .before .put .ensures) ∙ law.byte-copied _ _ _ _ (c .before .before .before .before .before .loop-test .taken) (c .before .before .before .before .before .before .before .end-of .ensures .inside (omega (arith, c .before .before .before .before .before .loop-test .taken, c .before .before .before .before .before .before .loop .inv .2))) ∙ c .before .before .before .before .before .before .loop .inv .0, c .before .before .put .kept .0 ∙ c .before .before .before .before .before .before .loop .inv .1, omega (arith, c .before .before .before .before .before .before .loop .inv .2))
 
--- src/out.rt:80:1
 same-length : tie.Need-same-length Inv-loop μ-loop
 same-length c = c .before .loop .inv .1
 
--- src/out.rt:80:1
 returns : tie.Need-returns Inv-loop μ-loop
 returns c = law.copied _ _ _ _ (c .loop-test .left) ∙ c .before .loop .inv .0
 
@@ -60,10 +41,10 @@ copy-spec =
     (tie.spec
     Inv-loop
     μ-loop
-    end-of-requires
+    (λ c κs. tt)
     loop-holds
     shared-slice-read-put
-    put-requires
+    (λ c κs. tt)
     add-i
     loop-less
     loop-again

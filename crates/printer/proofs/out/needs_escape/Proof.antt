@@ -1,22 +1,17 @@
-use mathlib.Core.Path.{_≡_, refl, sym, ap, _∙_}
+use mathlib.Core.Path.{refl}
 use borrow.Author.Tests.{eq-eqb, ne-eqb, lt-ltb, le-ltb}
 use Rattle.printer.specs.Names.{needsEscape}
 use Rattle.printer.proofs.out.needs_escape.Statement.{statement}
 use Rattle.printer.proofs.out.needs_escape.Tie as tie
-use Rattle.printer.proofs.out.needs_escape.Reads as reads
-use Rattle.printer.proofs.out.needs_escape.Lts as lts
 
--- src/out.rt:106:9
 returns : tie.Need-returns
 unfolding needsEscape
 returns c = rw (lt-ltb _ _ (c .if1 .taken)) refl
 
--- src/out.rt:109:9
 returns-2 : tie.Need-returns-2
 unfolding needsEscape
 returns-2 c = rw (le-ltb _ _ (c .before .if1 .left), eq-eqb _ _ (c .if2 .taken)) refl
 
--- src/out.rt:102:1
 returns-3 : tie.Need-returns-3
 unfolding needsEscape
 returns-3 c = rw (le-ltb _ _ (c .before .if1 .left), ne-eqb _ _ (c .if2 .left)) refl

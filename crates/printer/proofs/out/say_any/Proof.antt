@@ -2,20 +2,12 @@ use Rattle.printer.proofs.Written as law
 use borrow.Author.Needs.{needs}
 use Rattle.printer.proofs.out.say_any.Statement.{statement}
 use Rattle.printer.proofs.out.say_any.Tie as tie
-use Rattle.printer.proofs.out.say_any.Reads as reads
-use Rattle.printer.proofs.out.say_any.Lts as lts
 
 returns : tie.Need-returns
 returns c = law.said-none _ _ (c .if1 .taken)
 
 returns-2 : tie.Need-returns-2
 returns-2 c = law.said-blank _ _ (c .if2 .taken)
-
-say-requires : tie.Need-say-requires
-say-requires c κs = tt
-
-same-length : tie.Need-same-length
-same-length c = search needs
 
 returns-3 : tie.Need-returns-3
 returns-3 c = c .before .before .say .ensures
@@ -26,6 +18,6 @@ say-any-spec =
     (tie.spec
     returns
     returns-2
-    say-requires
-    same-length
+    (λ c κs. tt)
+    (λ c. search needs)
     returns-3)

@@ -5,11 +5,8 @@ use lib.ListN.{length}
 use Rattle.tree.specs.Tree.{Node}
 use Rattle.printer.specs.Logged.{toldIn, Logged}
 use Rattle.printer.proofs.Going as law
-use borrow.Author.Needs.{needs}
 use Rattle.printer.proofs.pass.print.Statement.{statement}
 use Rattle.printer.proofs.pass.print.Tie as tie
-use Rattle.printer.proofs.pass.print.Reads as reads
-use Rattle.printer.proofs.pass.print.Lts as lts
 
 abbrev Inv-loop : tie.InvT-loop
 Inv-loop tree notes log count stack₀ starts₀ sizes₀ text₀ s₀ i₀ stack starts sizes text s i = (i ≤ count) × (length stack ≡ length stack₀) × (length starts ≡ length starts₀) × (length sizes ≡ length sizes₀) × (length text ≡ length text₀) × ((n : Node) → Logged tree notes log count n → 16384 ≤ length notes → 16384 ≤ length stack₀ → 16384 ≤ length starts₀ → 16384 ≤ length sizes₀ → law.Going tree notes log stack starts sizes text₀ text s i)
@@ -17,20 +14,8 @@ Inv-loop tree notes log count stack₀ starts₀ sizes₀ text₀ s₀ i₀ stac
 abbrev μ-loop : tie.MeasureT-loop
 μ-loop tree notes log count stack₀ starts₀ sizes₀ text₀ s₀ i₀ stack starts sizes text s i = count - i
 
-begin-requires : tie.Need-begin-requires Inv-loop μ-loop
-begin-requires c κs = tt
-
 loop-holds : tie.Need-loop-holds Inv-loop μ-loop
 loop-holds c = (omega arith, refl, refl, refl, refl, λ n w a b d f. law.going-start (c .before .before .before .before .before .before .before .before .args .tree .now) (c .before .before .before .before .before .before .before .before .args .notes .now) (c .before .before .before .before .before .before .before .before .args .log .now) (c .before .before .before .before .before .before .before .before .args .stack .now) (c .before .before .before .before .before .before .before .before .args .starts .now) (c .before .before .before .before .before .before .before .before .args .sizes .now) (c .before .before .before .before .before .before .before .before .args .text .now) a b d f _ (c .begin .ensures))
-
-number-at-requires : tie.Need-number-at-requires Inv-loop μ-loop
-number-at-requires c κs = tt
-
-told-requires : tie.Need-told-requires Inv-loop μ-loop
-told-requires c κs = tt
-
-turn-requires : tie.Need-turn-requires Inv-loop μ-loop
-turn-requires c κs = tt
 
 add-i : tie.Need-add-i Inv-loop μ-loop
 add-i c = omega (arith, c .before .before .before .before .before .before .before .before .before .before .before .before .before .before .before .loop-test .taken, c .before .before .before .before .before .before .before .before .before .before .before .before .before .before .before .before .before .before .before .before .before .before .before .before .before .fits)
@@ -62,11 +47,11 @@ print-spec =
     (tie.spec
     Inv-loop
     μ-loop
-    begin-requires
+    (λ c κs. tt)
     loop-holds
-    number-at-requires
-    told-requires
-    turn-requires
+    (λ c κs. tt)
+    (λ c κs. tt)
+    (λ c κs. tt)
     add-i
     loop-less
     loop-again

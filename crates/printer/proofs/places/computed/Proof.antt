@@ -1,31 +1,24 @@
-use borrow.Author.Tests.{eq-eqb, ne-eqb, lt-ltb, le-ltb}
+use borrow.Author.Tests.{eq-eqb, ne-eqb}
 use Rattle.printer.specs.Places.{computed}
 use Rattle.printer.proofs.places.computed.Statement.{statement}
 use Rattle.printer.proofs.places.computed.Tie as tie
-use Rattle.printer.proofs.places.computed.Reads as reads
-use Rattle.printer.proofs.places.computed.Lts as lts
 
--- src/places.rt:198:13
 returns : tie.Need-returns
 unfolding computed
 returns c = rw (eq-eqb _ _ (c .before .if1 .taken), eq-eqb _ _ (c .if2 .taken))
 
--- src/places.rt:201:13
 returns-2 : tie.Need-returns-2
 unfolding computed
 returns-2 c = rw (eq-eqb _ _ (c .before .before .if1 .taken), ne-eqb _ _ (c .before .if2 .left), eq-eqb _ _ (c .if3 .taken))
 
--- src/places.rt:204:13
 returns-3 : tie.Need-returns-3
 unfolding computed
 returns-3 c = rw (eq-eqb _ _ (c .before .before .before .if1 .taken), ne-eqb _ _ (c .before .before .if2 .left), ne-eqb _ _ (c .before .if3 .left), eq-eqb _ _ (c .if4 .taken))
 
--- src/places.rt:193:1
 returns-4 : tie.Need-returns-4
 unfolding computed
 returns-4 c = rw (eq-eqb _ _ (c .before .before .before .if1 .taken), ne-eqb _ _ (c .before .before .if2 .left), ne-eqb _ _ (c .before .if3 .left), ne-eqb _ _ (c .if4 .left))
 
--- src/places.rt:193:1
 returns-5 : tie.Need-returns-5
 unfolding computed
 returns-5 c = rw (ne-eqb _ _ (c .if1 .left))

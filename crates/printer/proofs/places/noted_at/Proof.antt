@@ -1,17 +1,10 @@
-use mathlib.Core.Path.{_≡_, refl, sym, ap, _∙_}
-use borrow.Author.Tests.{eq-eqb, ne-eqb, lt-ltb, le-ltb}
+use mathlib.Core.Path.{sym, _∙_}
+use borrow.Author.Tests.{eq-eqb, ne-eqb}
 use native.Mathlib.Omega.{arith}
 use Rattle.printer.specs.Places.{notedAt}
 use borrow.Author.Needs.{needs}
 use Rattle.printer.proofs.places.noted_at.Statement.{statement}
 use Rattle.printer.proofs.places.noted_at.Tie as tie
-use Rattle.printer.proofs.places.noted_at.Reads as reads
-use Rattle.printer.proofs.places.noted_at.Lts as lts
-use Rattle.printer.proofs.places.manner_in.Reads as manner-in-reads
-
--- src/places.rt:154:9
-manner-in-requires : tie.Need-manner-in-requires
-manner-in-requires c κs = search needs
 
 returns : tie.Need-returns
 unfolding notedAt
@@ -30,4 +23,4 @@ unfolding notedAt
 returns-4 c = (rw (ne-eqb _ _ (λ e. c .before .if1 .left (c .before .before .manner-in .ensures ∙ e)), ne-eqb _ _ (λ e. c .if3 .left (c .before .before .manner-in .ensures ∙ e))), omega arith)
 
 pub noted-at-spec : {M : Type 1} → statement M
-noted-at-spec = tie.close (tie.spec manner-in-requires returns returns-2 returns-3 returns-4)
+noted-at-spec = tie.close (tie.spec (λ c κs. search needs) returns returns-2 returns-3 returns-4)

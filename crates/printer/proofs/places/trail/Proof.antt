@@ -1,65 +1,48 @@
 use Rattle.printer.proofs.Around as law
-use mathlib.Core.Path.{_≡_, refl, sym, ap, _∙_}
-use borrow.Author.Tests.{eq-eqb, ne-eqb, lt-ltb, le-ltb}
+use mathlib.Core.Path.{refl, sym, _∙_}
+use borrow.Author.Tests.{eq-eqb, ne-eqb}
 use native.Mathlib.Omega.{arith}
 use Rattle.printer.specs.Places.{trailing}
 use borrow.Author.Needs.{needs}
 use Rattle.printer.proofs.places.trail.Statement.{statement}
 use Rattle.printer.proofs.places.trail.Tie as tie
-use Rattle.printer.proofs.places.trail.Reads as reads
-use Rattle.printer.proofs.places.trail.Lts as lts
-use Rattle.printer.proofs.places.manner_in.Reads as manner-in-reads
 
--- src/places.rt:133:11
-manner-in-requires : tie.Need-manner-in-requires
-manner-in-requires c κs = search needs
-
--- src/places.rt:130:1
 returns : tie.Need-returns
 unfolding trailing
 returns c = (rw (sym (c .before .manner-in .ensures) ∙ c .match .keys1) refl, omega arith)
 
--- src/places.rt:130:1
 returns-2 : tie.Need-returns-2
 unfolding trailing
 returns-2 c = (rw (sym (c .before .manner-in .ensures) ∙ c .match .keys2) refl, omega arith)
 
--- src/places.rt:130:1
 returns-3 : tie.Need-returns-3
 unfolding trailing
 returns-3 c = (rw (sym (c .before .manner-in .ensures) ∙ c .match .keys3) refl, omega arith)
 
--- src/places.rt:130:1
 returns-4 : tie.Need-returns-4
 unfolding trailing
 returns-4 c = (rw (sym (c .before .manner-in .ensures) ∙ c .match .keys4) refl, omega arith)
 
--- src/places.rt:130:1
 returns-5 : tie.Need-returns-5
 unfolding trailing
 returns-5 c = (rw (sym (c .before .before .before .manner-in .ensures) ∙ c .before .before .match .keys5, eq-eqb _ _ (c .if1 .taken)) refl, omega arith)
 
--- src/places.rt:130:1
 returns-6 : tie.Need-returns-6
 unfolding trailing
 returns-6 c = (rw (sym (c .before .before .before .manner-in .ensures) ∙ c .before .before .match .keys5, ne-eqb _ _ (c .if1 .left)) refl, omega arith)
 
--- src/places.rt:130:1
 returns-7 : tie.Need-returns-7
 unfolding trailing
 returns-7 c = (rw (sym (c .before .manner-in .ensures) ∙ c .match .keys6) refl, omega arith)
 
--- src/places.rt:130:1
 returns-8 : tie.Need-returns-8
 unfolding trailing
 returns-8 c = (rw (sym (c .before .before .manner-in .ensures) ∙ c .before .match .keys7, c .if2 .taken) refl, omega arith)
 
--- src/places.rt:130:1
 returns-9 : tie.Need-returns-9
 unfolding trailing
 returns-9 c = (rw (sym (c .before .before .manner-in .ensures) ∙ c .before .match .keys7, c .if2 .left) refl, omega arith)
 
--- src/places.rt:130:1
 returns-10 : tie.Need-returns-10
 unfolding trailing
 returns-10 c = (law.no-trailing _ _ _ (λ e. c .match .rest .0 .0 .0 .0 .0 .0 .1 (c .before .manner-in .ensures ∙ e)) (λ e. c .match .rest .0 .0 .0 .0 .0 .1 (c .before .manner-in .ensures ∙ e)) (λ e. c .match .rest .0 .0 .0 .0 .1 (c .before .manner-in .ensures ∙ e)) (λ e. c .match .rest .0 .0 .0 .1 (c .before .manner-in .ensures ∙ e)) (λ e. c .match .rest .0 .0 .1 (c .before .manner-in .ensures ∙ e)) (λ e. c .match .rest .0 .1 (c .before .manner-in .ensures ∙ e)) (λ e. c .match .rest .1 (c .before .manner-in .ensures ∙ e)), omega arith)
@@ -68,7 +51,7 @@ pub trail-spec : {M : Type 1} → statement M
 trail-spec =
     tie.close
     (tie.spec
-    manner-in-requires
+    (λ c κs. search needs)
     returns
     returns-2
     returns-3

@@ -6,11 +6,8 @@ use Rattle.rewritten.specs.Rewritten.{isRewritten}
 use Rattle.rewritten.proofs.Moves as moves
 use Rattle.rewritten.proofs.Reader as reader
 use Rattle.printer.proofs.Recording as law
-use borrow.Author.Needs.{needs}
 use Rattle.printer.proofs.record.record.Statement.{statement}
 use Rattle.printer.proofs.record.record.Tie as tie
-use Rattle.printer.proofs.record.record.Reads as reads
-use Rattle.printer.proofs.record.record.Lts as lts
 
 abbrev Inv-loop : tie.InvT-loop
 Inv-loop tree frames₀ seen₀ stack₀ notes₀ log₀ cursor₀ s₀ count₀ frames seen stack notes log cursor s count = reader.Reading tree frames seen cursor (length frames₀) (isRewritten tree) × (length seen ≡ length seen₀) × (length stack ≡ length stack₀) × (length notes ≡ length notes₀) × (length log ≡ length log₀) × (count + cursor .deep ≤ cursor .at) × (16384 ≤ length stack₀ → 16384 ≤ length notes₀ → 32768 ≤ length log₀ → law.Recording tree frames stack notes log cursor s count)
@@ -27,17 +24,8 @@ returns-2 c = λ a _ _ _ _. absurd (omega (arith, a, c .if2 .taken))
 returns-3 : tie.Need-returns-3 Inv-loop μ-loop
 returns-3 c = λ _ b _ _ _. absurd (omega (arith, b, c .if3 .taken))
 
-clear-requires : tie.Need-clear-requires Inv-loop μ-loop
-clear-requires c κs = tt
-
-begin-requires : tie.Need-begin-requires Inv-loop μ-loop
-begin-requires c κs = tt
-
 loop-holds : tie.Need-loop-holds Inv-loop μ-loop
 loop-holds c = (reader.reading-start (c .before .before .before .before .before .before .before .before .before .before .before .before .before .before .args .tree .now) (c .before .before .before .before .before .before .before .before .before .before .before .before .before .before .args .frames .now) _ (c .before .before .before .before .before .before .before .if1 .left) (omega (arith, c .before .before .before .clear .ensures .0, c .before .before .before .before .before .if3 .left)) (c .before .before .before .clear .ensures .1) _ (c .begin .ensures), refl, refl, refl, refl, rw (c .begin .ensures) (omega arith), λ a b d. law.recording-start (c .before .before .before .before .before .before .before .before .before .before .before .before .before .before .args .tree .now) (c .before .before .before .before .before .before .before .before .before .before .before .before .before .before .args .frames .now) (c .before .before .before .before .before .before .before .before .before .before .before .before .before .before .args .stack .now) (c .before .before .before .before .before .before .before .before .before .before .before .before .before .before .args .notes .now) (c .before .before .before .before .before .before .before .before .before .before .before .before .before .before .args .log .now) (c .before .before .before .before .before .before .before .if1 .left) a b d _ (c .begin .ensures))
-
-is-closed-requires : tie.Need-is-closed-requires Inv-loop μ-loop
-is-closed-requires c κs = tt
 
 add-result : tie.Need-add-result Inv-loop μ-loop
 add-result c = omega (arith, c .before .before .before .before .loop .inv .5, c .before .before .before .before .loop .inv .0 .tour .inside, c .before .before .before .before .before .before .before .before .before .before .before .before .if1 .left)
@@ -78,23 +66,11 @@ same-length-10 c = c .before .before .before .before .loop .inv .4
 returns-5 : tie.Need-returns-5 Inv-loop μ-loop
 returns-5 c = λ _ _ _ _ _. law.recorded-no _ _ _ (law.ends-early _ _ _ _ _ _ (c .before .before .before .before .loop .inv .0) (moves.found-true (c .before .before .before .is-closed .ensures) (c .before .before .if4 .taken)) (c .before .if5 .taken) (c .if6 .left))
 
-closing-requires : tie.Need-closing-requires Inv-loop μ-loop
-closing-requires c κs = tt
-
-keep-requires : tie.Need-keep-requires Inv-loop μ-loop
-keep-requires c κs = tt
-
-closed-requires : tie.Need-closed-requires Inv-loop μ-loop
-closed-requires c κs = tt
-
 sub-t26 : tie.Need-sub-t26 Inv-loop μ-loop
 sub-t26 c = omega (arith, c .before .before .before .before .before .before .if5 .left)
 
 sub-frame-at : tie.Need-sub-frame-at Inv-loop μ-loop
 sub-frame-at c = omega (arith, c .before .before .before .before .before .before .before .if5 .left)
-
-frame-at-requires : tie.Need-frame-at-requires Inv-loop μ-loop
-frame-at-requires c κs = tt
 
 add-count : tie.Need-add-count Inv-loop μ-loop
 add-count c = omega (arith, c .before .before .before .before .before .before .before .before .before .before .before .loop .inv .5, c .before .before .before .before .before .before .before .before .before .before .before .loop .inv .0 .tour .inside, c .before .before .before .before .before .before .before .before .before .before .before .before .before .before .before .before .before .before .before .if1 .left)
@@ -104,9 +80,6 @@ loop-less c = omega (arith, c .before .before .before .before .before .before .b
 
 loop-again : tie.Need-loop-again Inv-loop μ-loop
 loop-again c = (reader.closed-next _ _ _ _ _ _ (c .before .before .before .before .before .before .before .before .before .before .before .loop .inv .0) (moves.found-true (c .before .before .before .before .before .before .before .before .before .before .is-closed .ensures) (c .before .before .before .before .before .before .before .before .before .if4 .taken)) (c .before .before .before .before .before .before .before .before .if5 .left) _ (c .frame-at .ensures), c .before .before .before .before .before .before .before .before .before .before .before .loop .inv .1, c .before .before .before .before .before .before .before .before .before .before .before .loop .inv .2, c .before .before .before .before .before .before .before .before .before .before .before .loop .inv .3, c .before .before .before .before .before .keep .kept .0 ∙ c .before .before .before .before .before .before .before .before .before .before .before .loop .inv .4, law.room-next _ _ _ _ _ (c .before .before .before .before .before .before .before .before .before .before .before .loop .inv .0 .tour) _ _ (law.closing-goes _ _ _ _ _ _ (c .before .before .before .before .before .before .before .before .before .before .before .loop .inv .0) (moves.found-true (c .before .before .before .before .before .before .before .before .before .before .is-closed .ensures) (c .before .before .before .before .before .before .before .before .before .if4 .taken)) (c .before .before .before .before .before .before .before .before .if5 .left) _ (c .frame-at .ensures)) _ (c .before .before .before .before .before .before .before .before .before .before .before .loop .inv .5), λ a b d. law.recording-next _ _ _ _ _ (c .before .before .before .before .before .before .before .before .before .before .before .loop .inv .0 .tour) _ _ (law.closing-goes _ _ _ _ _ _ (c .before .before .before .before .before .before .before .before .before .before .before .loop .inv .0) (moves.found-true (c .before .before .before .before .before .before .before .before .before .before .is-closed .ensures) (c .before .before .before .before .before .before .before .before .before .if4 .taken)) (c .before .before .before .before .before .before .before .before .if5 .left) _ (c .frame-at .ensures)) _ _ _ (c .before .before .before .before .before .before .before .before .before .before .before .loop .s) _ (c .before .before .before .before .before .before .before .before .before .before .before .loop .inv .6 a b d) (c .before .before .before .before .before .before .before .before .before .before .before .loop .inv .5) _ _ _ (c .before .before .closed .ensures _ _ _) _ (c .before .before .before .before .before .before .closing .ensures _) refl refl _ (c .before .before .before .before .before .keep .ensures) (c .before .before .before .before .before .keep .kept .0))
-
-look-requires : tie.Need-look-requires Inv-loop μ-loop
-look-requires c κs = tt
 
 same-length-11 : tie.Need-same-length-11 Inv-loop μ-loop
 same-length-11 c = c .before .before .before .before .loop .inv .0 .tour .size
@@ -125,27 +98,6 @@ same-length-15 c = c .before .before .before .before .loop .inv .4
 
 returns-6 : tie.Need-returns-6 Inv-loop μ-loop
 returns-6 c = λ _ _ _ _ _. law.recorded-no _ _ _ (reader.ahead-refused _ _ _ _ _ _ (c .before .before .before .before .loop .inv .0) (moves.found-true (c .before .before .before .is-closed .ensures) (c .before .before .if4 .left)) _ (c .before .look .ensures) (c .if7 .taken))
-
-is-new-ahead-requires : tie.Need-is-new-ahead-requires Inv-loop μ-loop
-is-new-ahead-requires c κs = tt
-
-note-ahead-requires : tie.Need-note-ahead-requires Inv-loop μ-loop
-note-ahead-requires c κs = tt
-
-ahead-requires : tie.Need-ahead-requires Inv-loop μ-loop
-ahead-requires c κs = tt
-
-keep-requires-2 : tie.Need-keep-requires-2 Inv-loop μ-loop
-keep-requires-2 c κs = tt
-
-ahead-requires-2 : tie.Need-ahead-requires-2 Inv-loop μ-loop
-ahead-requires-2 c κs = tt
-
-rest-of-requires : tie.Need-rest-of-requires Inv-loop μ-loop
-rest-of-requires c κs = tt
-
-moved-requires : tie.Need-moved-requires Inv-loop μ-loop
-moved-requires c κs = tt
 
 add-count-2 : tie.Need-add-count-2 Inv-loop μ-loop
 add-count-2 c = omega (arith, c .before .before .before .before .before .before .before .before .before .before .before .before .before .before .before .before .before .before .before .before .before .before .before .before .before .before .before .before .loop .inv .5, c .before .before .before .before .before .before .before .before .before .before .before .before .before .before .before .before .before .before .before .before .before .before .before .before .before .before .before .before .loop .inv .0 .tour .inside, c .before .before .before .before .before .before .before .before .before .before .before .before .before .before .before .before .before .before .before .before .before .before .before .before .before .before .before .before .before .before .before .before .before .before .before .before .if1 .left)
@@ -183,10 +135,10 @@ record-spec =
     returns
     returns-2
     returns-3
-    clear-requires
-    begin-requires
+    (λ c κs. tt)
+    (λ c κs. tt)
     loop-holds
-    is-closed-requires
+    (λ c κs. tt)
     add-result
     same-length
     same-length-2
@@ -200,29 +152,29 @@ record-spec =
     same-length-9
     same-length-10
     returns-5
-    closing-requires
-    keep-requires
-    closed-requires
+    (λ c κs. tt)
+    (λ c κs. tt)
+    (λ c κs. tt)
     sub-t26
     sub-frame-at
-    frame-at-requires
+    (λ c κs. tt)
     add-count
     loop-less
     loop-again
-    look-requires
+    (λ c κs. tt)
     same-length-11
     same-length-12
     same-length-13
     same-length-14
     same-length-15
     returns-6
-    is-new-ahead-requires
-    note-ahead-requires
-    ahead-requires
-    keep-requires-2
-    ahead-requires-2
-    rest-of-requires
-    moved-requires
+    (λ c κs. tt)
+    (λ c κs. tt)
+    (λ c κs. tt)
+    (λ c κs. tt)
+    (λ c κs. tt)
+    (λ c κs. tt)
+    (λ c κs. tt)
     add-count-2
     loop-less-2
     loop-again-2

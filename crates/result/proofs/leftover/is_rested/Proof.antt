@@ -1,8 +1,6 @@
 use Rattle.result.proofs.Looking as law
 use Rattle.result.proofs.leftover.is_rested.Statement.{statement}
 use Rattle.result.proofs.leftover.is_rested.Tie as tie
-use Rattle.result.proofs.leftover.is_rested.Reads as reads
-use Rattle.result.proofs.leftover.is_rested.Lts as lts
 
 returns : tie.Need-returns
 returns c = law.rested-34 _ _ (c .if1 .taken)

@@ -2,17 +2,12 @@ use Rattle.result.proofs.Looking as law
 use Rattle.rewritten.proofs.Pass as pass
 use Rattle.result.specs.Leftover.{leftover}
 use lib.ListN.{length}
-use Prim.Native.Nat.{_+_, _-_, _≤_}
-use mathlib.Core.Path.{_≡_, refl, sym, _∙_}
+use Prim.Native.Nat.{_+_, _-_}
+use mathlib.Core.Path.{_∙_}
 use native.Mathlib.Omega.{arith}
 use borrow.Author.Needs.{needs}
 use Rattle.result.proofs.leftover.look.Statement.{statement}
 use Rattle.result.proofs.leftover.look.Tie as tie
-use Rattle.result.proofs.leftover.look.Reads as reads
-use Rattle.result.proofs.leftover.look.Lts as lts
-use Rattle.result.proofs.leftover.meet.Reads as meet-reads
-use Rattle.rewritten.proofs.next.begin.Reads as begin-reads
-use Rattle.rewritten.proofs.next.next.Reads as next-reads
 
 abbrev Inv-loop : tie.InvT-loop
 Inv-loop tree frames₀ cursor₀ met₀ frames cursor met = law.Looking tree frames cursor met (length frames₀) (leftover tree)

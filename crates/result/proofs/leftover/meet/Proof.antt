@@ -2,9 +2,6 @@ use Rattle.result.proofs.Looking as law
 use borrow.Author.Needs.{needs}
 use Rattle.result.proofs.leftover.meet.Statement.{statement}
 use Rattle.result.proofs.leftover.meet.Tie as tie
-use Rattle.result.proofs.leftover.meet.Reads as reads
-use Rattle.result.proofs.leftover.meet.Lts as lts
-use Rattle.result.proofs.leftover.rest_met.Reads as rest-met-reads
 
 returns : tie.Need-returns
 returns c = λ tree. law.met-before _ _ (c .if1 .taken)

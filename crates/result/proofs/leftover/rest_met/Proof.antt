@@ -5,9 +5,6 @@ use Rattle.result.specs.Leftover.{restMet}
 use borrow.Author.Needs.{needs}
 use Rattle.result.proofs.leftover.rest_met.Statement.{statement}
 use Rattle.result.proofs.leftover.rest_met.Tie as tie
-use Rattle.result.proofs.leftover.rest_met.Reads as reads
-use Rattle.result.proofs.leftover.rest_met.Lts as lts
-use Rattle.result.proofs.leftover.is_rested.Reads as is-rested-reads
 
 returns : tie.Need-returns
 unfolding restMet
