@@ -9,7 +9,7 @@ use Rattle.counting.specs.Patterns.{patterns, number, count, having, spr
 use Rattle.counting.specs.Calls.{calls}
 use Rattle.counting.specs.Figures.{choose, figure}
 use Rattle.counting.proofs.Calls.{more, starting, calls-start}
-use Rattle.counting.proofs.Patterns.{count-same, having-single, having-zero, having-suc}
+use Rattle.counting.proofs.PatternsOnce.{count-same, having-single, having-zero, having-suc}
 use Rattle.counting.proofs.Figures.{choose-none}
 
 -- ---- the ways to choose

@@ -32,12 +32,12 @@ use Rattle.direct.proofs.OneLevel.{emits-as, emits-refused, emits-uncha
 use Rattle.direct.proofs.RulesKeep.{assignment-kept}
 use Rattle.direct.proofs.MadeNodes.{say-then, below-inner, three-fields, only-item, no-items, more-items, emits-sequence}
 use Rattle.direct.proofs.ListsInTurn.{items-append, items-each}
-use Rattle.direct.proofs.PatternViews.{emits-viewed, says-cell}
+use Rattle.direct.proofs.ViewedPatterns.{emits-viewed, says-cell}
 use Rattle.direct.proofs.RestValues.{rest-value}
 use Rattle.direct.proofs.ObjectsByLevel.{replaced-same-path}
 use Rattle.direct.proofs.HandedByObject.{top-handed, nested-handed}
 use Rattle.direct.proofs.Targets.{replaced-nothing, replaced-clear}
-use Rattle.direct.proofs.Reached.{outermost-reached, parts-reached, nearest-solid, parts-solid, found-or-none, leftOver, left-viewed, left-found, left-no-top, left-over}
+use Rattle.direct.proofs.NearestObjects.{outermost-reached, parts-reached, nearest-solid, parts-solid, found-or-none, leftOver, left-viewed, left-found, left-no-top, left-over}
 use Rattle.lowering.proofs.ItemLaws.{count-append, count-each}
 use Rattle.lowering.proofs.Clauses.{has-leaf-at}
 use Rattle.direct.proofs.DeclarationsByPart.{inner-inner}

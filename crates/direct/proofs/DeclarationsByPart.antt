@@ -32,7 +32,7 @@ use Rattle.direct.proofs.Alike.{key-kept}
 use Rattle.direct.proofs.OneLevel.{emits-as, emits-refused}
 use Rattle.direct.proofs.MadeNodes.{only-item, no-items, emits-declares, stays-declaration}
 use Rattle.direct.proofs.ListsInTurn.{turn-same, items-append, items-gather}
-use Rattle.direct.proofs.PatternViews.{emits-viewed, says-cell}
+use Rattle.direct.proofs.ViewedPatterns.{emits-viewed, says-cell}
 use Rattle.direct.proofs.RestValues.{does-each, rest-value, rest-values}
 use Rattle.direct.proofs.HandedByObject.{keyTemporary-is, declaration-handed}
 use Rattle.lowering.proofs.ItemLaws.{empty-each}

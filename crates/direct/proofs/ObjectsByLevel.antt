@@ -22,7 +22,7 @@ use Rattle.direct.specs.Views.{View, takes, objectAt, objectRestAt, name
 use Rattle.direct.specs.Views.View.{replacing, taking}
 use Rattle.direct.specs.Objects.{objectsIn, overObjects}
 use Rattle.direct.proofs.ListsInTurn.{turn-append, turn-gather, turn-only}
-use Rattle.direct.proofs.PatternViews.{keptKey-is}
+use Rattle.direct.proofs.ViewedPatterns.{keptKey-is}
 use Rattle.lowering.proofs.ItemLaws.{items-none}
 use Rattle.lowering.proofs.ChangeLaws.{node-on}
 

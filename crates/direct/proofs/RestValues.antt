@@ -22,7 +22,7 @@ use Rattle.direct.proofs.Threads.{then-assoc, then-nothing, say-say}
 use Rattle.direct.proofs.Alike.{key-kept}
 use Rattle.direct.proofs.MadeNodes.{say-then, more-items, only-item, no-items, emits-call, emits-X, emits-E, emits-W, emits-array, emits-object, emits-sequence, emits-member, emits-string, emits-helper}
 use Rattle.direct.proofs.ListsInTurn.{items-gather, turn-same}
-use Rattle.direct.proofs.PatternViews.{says-cell}
+use Rattle.direct.proofs.ViewedPatterns.{says-cell}
 use Rattle.lowering.proofs.ItemLaws.{empty-each}
 use Rattle.lowering.proofs.ChangeLaws.{position-changed}
 use Rattle.lowering.specs.Keys.Entry.{spelt, itself, omitted, saved}

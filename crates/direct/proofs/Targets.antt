@@ -16,7 +16,7 @@ use Rattle.lowering.specs.Keys.{keptKey, taken}
 use Rattle.lowering.proofs.Cases.{by-test, by-shape, or-left, or-right}
 use Rattle.lowering.proofs.WeightKeys.{rest-changed}
 use Rattle.lowering.proofs.Levels.{has-levels, array-levels, replaced-levels}
-use Rattle.direct.proofs.PatternViews.{value-twice}
+use Rattle.direct.proofs.ViewedPatterns.{value-twice}
 use Rattle.direct.proofs.ObjectsByLevel.{value-changed, value-kept}
 use Rattle.direct.proofs.DeclarationsByPart.{properties-changed, rest-beside}
 use Rattle.lowering.proofs.ItemLaws.{each-each, any-none}

@@ -40,9 +40,9 @@ use Rattle.direct.specs.Objects.Reach.{inArrays}
 use Rattle.direct.specs.Handed.{placesIn, partsCount, handsTop, handsNested}
 use Rattle.direct.specs.Assigned.{assignmentAt, assignHead, emitsRestOf, emitsInner, emitsNest, emitsTarget, topCount, emitsTop}
 use Rattle.direct.proofs.Threads.{say-say}
-use Rattle.direct.proofs.PatternViews.{says-cell}
+use Rattle.direct.proofs.ViewedPatterns.{says-cell}
 use Rattle.direct.proofs.Tests.{over-object-at}
-use Rattle.direct.proofs.Reached.{parts-reached, over-parts, over-arrays, over-anywhere}
+use Rattle.direct.proofs.NearestObjects.{parts-reached, over-parts, over-arrays, over-anywhere}
 use Rattle.direct.proofs.AssignmentsByPart.{assignment-refused-5, assignment-refused-keys, assignment-stays, assignment-nested, assignment-top, target-nested, target-kept, rest-done, inner-refused, inner-done}
 use Rattle.walk.specs.declared.modes.Deep.the-variants.{Reached}
 use Rattle.walk.specs.declared.modes.Mode.the-variants as modes
@@ -58,7 +58,7 @@ use Rattle.walk.proofs.KeysOnceFull as walked
 use Rattle.walk.proofs.KeysOnceFull.{source-quiet, target-again}
 use Rattle.walk.proofs.SpreadArguments.{does-from}
 use Rattle.emit.proofs.MovedPatterns.{cell-one, as-refused}
-use Rattle.walk.proofs.Turning.{deep-reached, turns-value-reached, suit-value-reached}
+use Rattle.walk.proofs.ListTurns.{deep-reached, turns-value-reached, suit-value-reached}
 use Rattle.walk.proofs.Lookups.{cell-within}
 use Rattle.walk.proofs.Opened.{ObjectOpen, AssignmentOpen, object-open, assignment-open, no-good, is-here, position-here, good-short, good-within}
 

@@ -39,7 +39,7 @@ use Rattle.walk.proofs.Running.{does-then, does-as, does-to, does-fresh}
 use Rattle.walk.proofs.RefusalsWithoutMarks.{agree-say, agree-then, agree-marked}
 use Rattle.walk.proofs.SpreadArguments.{does-from}
 use Rattle.walk.proofs.Opened.{kind-byte, look-solid, ListOpen, BodyOpen, FunctionOpen, ArrowOpen, body-open, function-open, arrow-open, no-good, is-here, good-two}
-use Rattle.walk.proofs.Turning.{turns-binding, suit-binding}
+use Rattle.walk.proofs.ListTurns.{turns-binding, suit-binding}
 use Rattle.emit.proofs.MovesFit.{part-join, on-more, moves-within, moves-whole, count-within}
 use Rattle.emit.proofs.MovedPatterns.{marks-own, inner-place, scoped-place, kind-not, look-as, good-as, node-as, stands-as, slot-on, slot-off, Through, Slotted, Backed}
 use Rattle.pattern.proofs.Fields.{bit-stands}

@@ -33,7 +33,7 @@ use Rattle.pattern.specs.declared.source.ReferenceBuilder.{ReferenceBuilder}
 use Rattle.pattern.specs.declared.source.Read.{Read}
 use Rattle.pattern.specs.Source.{builderOf, readOf, placeRead, afterRead, Settled, Keeps}
 use Rattle.pattern.proofs.SourceReads.{first-read, later-read, name-settled, settled-read}
-use Rattle.walk.proofs.Sources.{same-source, reads-cell}
+use Rattle.walk.proofs.SourcesRead.{same-source, reads-cell}
 use Rattle.pattern.proofs.CountsFit.{counted-whole, declarations-fit}
 use Rattle.lowering.specs.Collect.{isContainer}
 use Rattle.direct.specs.Events.{Place, Emit, puts, cell, marks, contextOf, emits}
@@ -48,7 +48,7 @@ use Rattle.direct.proofs.Threads.{then-assoc, say-nothing, say-say, say-puts}
 use Rattle.direct.proofs.OneLevel.{emits-nowhere}
 use Rattle.direct.proofs.ListsInTurn.{turn-same}
 use Rattle.direct.proofs.DeclarationsByPart.{pattern-object, pattern-array, declaration-refused, declaration-done}
-use Rattle.direct.proofs.Ways.{declarator-lowered, declarator-left, lowered-name, lowered-value, own-keys-none, own-keys-some, own-pattern-none, own-pattern-some, own-rest-none, own-rest-some}
+use Rattle.direct.proofs.DirectWaysOut.{declarator-lowered, declarator-left, lowered-name, lowered-value, own-keys-none, own-keys-some, own-pattern-none, own-pattern-some, own-rest-none, own-rest-some}
 use Rattle.walk.specs.declared.modes.Deep.the-variants.{Found}
 use Rattle.walk.specs.declared.modes.Mode.the-variants as modes
 use Rattle.walk.specs.declared.views.View.the-variants.{Replacing, Taking}
@@ -63,7 +63,7 @@ use Rattle.walk.proofs.KeysOnceFull.{Quiet, own-again}
 use Rattle.walk.proofs.SpreadArguments.{does-from}
 use Rattle.walk.proofs.Lookups.{cell-within}
 use Rattle.walk.proofs.Opened.{BinderOpen, DeclarationOpen, no-good, kind-here, is-here, position-here, good-copied, good-short, good-two, declarator-open, declaration-open}
-use Rattle.walk.proofs.Turning.{deep-found, turns-key-value, turns-value-found, turns-declarator, suit-key-value, suit-value-found, suit-declarator}
+use Rattle.walk.proofs.ListTurns.{deep-found, turns-key-value, turns-value-found, turns-declarator, suit-key-value, suit-value-found, suit-declarator}
 use Rattle.emit.proofs.MovedPatterns.{as-refused}
 use Rattle.emit.proofs.Finding.{object-as, level-up, lifted, rest-stands, Turned, Deep}
 use Rattle.lowering.proofs.Cases.{not-false, not-true}

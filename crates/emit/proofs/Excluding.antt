@@ -37,7 +37,7 @@ use Rattle.walk.proofs.Running.{does-then, does-as, does-to, does-nothing}
 use Rattle.walk.proofs.SpreadArguments.{does-from}
 use Rattle.walk.proofs.Lookups.{cell-within}
 use Rattle.walk.proofs.Opened.{property-key, no-good, position-here, good-within, object-open}
-use Rattle.walk.proofs.Turning.{Sequenced, sequenced-as, turns-excluded-key, suit-excluded-key}
+use Rattle.walk.proofs.ListTurns.{Sequenced, sequenced-as, turns-excluded-key, suit-excluded-key}
 use Rattle.walk.proofs.Viewing.{cell-4, ruled-as}
 use Rattle.lowering.specs.Keys.Entry.{spelt}
 

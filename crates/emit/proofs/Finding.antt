@@ -28,7 +28,7 @@ use Rattle.direct.specs.Objects.Reach.{anywhere}
 use Rattle.direct.specs.Declared.{emitsOwnKeys, emitsOwnPattern, emitsOwnRest, emitsFound}
 use Rattle.direct.specs.Assigned.{emitsInner}
 use Rattle.direct.proofs.Threads.{then-assoc}
-use Rattle.direct.proofs.Reached.{reach-over-object, reach-over-rest, reach-over-array, reach-over-default, reach-over-leaf}
+use Rattle.direct.proofs.NearestObjects.{reach-over-object, reach-over-rest, reach-over-array, reach-over-default, reach-over-leaf}
 use Rattle.direct.proofs.DeclarationsByPart.{found-object, found-rest, found-array, found-default, found-leaf}
 use Rattle.direct.proofs.Tests.{over-object-at, over-array-at, over-array-rest-at, over-default-at}
 use Rattle.walk.specs.declared.modes.Deep as deeps
@@ -44,7 +44,7 @@ use Rattle.walk.proofs.Running.{does-then, does-nothing, does-as, does-to, clea
 use Rattle.walk.proofs.SpreadArguments.{does-from}
 use Rattle.walk.proofs.Lookups.{cell-within}
 use Rattle.walk.proofs.Opened.{ObjectOpen, ArrayOpen, PropertyOpen, DefaultOpen, leaf-here, no-good, object-open, array-open, property-open, default-open}
-use Rattle.walk.proofs.Turning.{deep-found, turns-found, turns-value-found, turns-reached, turns-value-reached, suit-found, suit-value-found, suit-reached, suit-value-reached}
+use Rattle.walk.proofs.ListTurns.{deep-found, turns-found, turns-value-found, turns-reached, turns-value-reached, suit-found, suit-value-found, suit-reached, suit-value-reached}
 use Rattle.walk.proofs.QuietValues.{found-none, reach-none, simple-value}
 use Rattle.lowering.proofs.Cases.{not-true}
 use Rattle.lowering.proofs.Simple.{Simple}

@@ -53,7 +53,7 @@ use Rattle.walk.proofs.SpreadArguments.{does-from}
 use Rattle.emit.proofs.MovedPatterns.{marks-own, scoped-place, cell-one}
 use Rattle.walk.proofs.Opened.{look-solid, CatchOpen, LoopOpen, no-good, is-here, position-here, good-fits, good-room, declaration-open, block-open, catch-open, for-in-open, for-of-open}
 use Rattle.emit.proofs.MovesFit.{moves-within, moves-whole, count-within, part-join, on-more}
-use Rattle.walk.proofs.Turning.{turns-binding, suit-binding, suit-binding-declarators}
+use Rattle.walk.proofs.ListTurns.{turns-binding, suit-binding, suit-binding-declarators}
 use Rattle.direct.specs.Views.{nameless}
 
 module _ (t : List ℕ) where

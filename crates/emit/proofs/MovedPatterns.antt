@@ -51,13 +51,13 @@ use Rattle.walk.specs.declared.modes.Mode.the-variants as modes
 use Rattle.walk.specs.Run.{Going, Does}
 use Rattle.walk.specs.Whole.{holeAt, slotDeeds, GoodItems, GoodField, GoodSlot, Good, Ruled, Emitted}
 use Rattle.walk.specs.Turns.{suits, turnsOf, AllSuit, movesOf, AllBind, declarationHead}
-use Rattle.walk.proofs.Heads.{halves}
+use Rattle.walk.proofs.LiteralHeads.{halves}
 use Rattle.walk.proofs.Running.{does-then, does-nothing, does-as, does-to, does-fresh}
 use Rattle.walk.proofs.RefusalsWithoutMarks.{agree-say, agree-then, agree-marked}
 use Rattle.walk.proofs.SpreadArguments.{does-from}
 use Rattle.walk.proofs.Emits.{is-hole, no-hole, full, good-item}
 use Rattle.walk.proofs.Opened.{ArrayOpen, BinderOpen, array-open, default-open, declarator-open, param-open, no-good, is-here, position-here, good-short, good-within}
-use Rattle.walk.proofs.Turning.{turns-moved-out, suit-moved-out}
+use Rattle.walk.proofs.ListTurns.{turns-moved-out, suit-moved-out}
 use Rattle.lowering.proofs.Clauses.{has-leaf-at}
 use Rattle.direct.proofs.ListsInTurn.{turn-only}
 

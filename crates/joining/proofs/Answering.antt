@@ -20,9 +20,9 @@ use Rattle.tree.specs.Read.{Got, wideAt, readTree}
 use Rattle.tree.specs.Read.Got.{got, refused}
 use Rattle.tree.proofs.Sound.{never}
 use Rattle.rewritten.specs.Rewritten.{distinct, checked, readRewritten, isGot, isRewritten}
-use Rattle.rewritten.proofs.Rewritten.{rewritten-sound, checked-got}
+use Rattle.rewritten.proofs.RewrittenExact.{rewritten-sound, checked-got}
 use Rattle.drawing.specs.Pen.{next, put, reach}
-use Rattle.drawing.proofs.Writing.{next-in, next-le, put-length}
+use Rattle.drawing.proofs.DrawingWritten.{next-in, next-le, put-length}
 use Rattle.joining.specs.List.{Handed, handed, readHanded, innerMarks}
 use Rattle.joining.specs.Join.{found, joinedTree}
 use Rattle.joining.specs.Answer.{taken, allFound, fitting, afterList, afterTree, outcome, filled, Answered}
@@ -37,12 +37,12 @@ use Rattle.joining.specs.declared.bodies.Found.{Found}
 use Rattle.joining.specs.declared.bodies.Found.the-variants.{Latest, NoTree}
 use Rattle.joining.specs.declared.entries.Ending.{Ending}
 use Rattle.joining.specs.declared.entries.Ending.the-variants.{At, Missing}
-use Rattle.joining.proofs.Tables.{chain-within}
+use Rattle.joining.proofs.FallingChains.{chain-within}
 use Rattle.joining.proofs.Listing.{at-ends, missing-ends, at-then}
 use Rattle.joining.proofs.Times.{times-append, among-times, distinct-once, distinct-not, once-distinct}
-use Rattle.joining.proofs.Handed.{ListRead, list-told, list-lost}
+use Rattle.joining.proofs.ListAnswered.{ListRead, list-told, list-lost}
 use Rattle.joining.proofs.Settling.{Counted, counted, tally-most, node-names, all-found}
-use Rattle.joining.proofs.Written.{Program, program, whole-is}
+use Rattle.joining.proofs.JoinedWritten.{Program, program, whole-is}
 
 -- ---- the position behind bytes
 

@@ -20,7 +20,7 @@ use Rattle.rewritten.proofs.Pass.{accepted-got}
 use Rattle.lowering.specs.Collect.{Entry, over}
 use Rattle.equal.specs.Equal.{entryEncoded, listEncoded}
 use Rattle.joining.specs.List.{Handed, entry, handed, readDeclarators, readEntry, readEntries, readParts, readHanded, innerMarks, longestList, FitEntries, FitHanded}
-use Rattle.joining.proofs.Handed.{refused-got, declarators-sound, mapped-got, whole-got}
+use Rattle.joining.proofs.ListAnswered.{refused-got, declarators-sound, mapped-got, whole-got}
 
 module _ (l : List ℕ) (b : Bytes l) where
   record EntriesSound (n at k : ℕ) (es : List Entry) (q j : ℕ) : Type 0 where

@@ -23,7 +23,7 @@ use Rattle.rewritten.specs.Steps.{Stands, deepAfter, eventIn}
 use Rattle.rewritten.specs.Look.{eventFor}
 use Rattle.rewritten.proofs.Marks.{by-same}
 use Rattle.joining.proofs.Walk.{Walk, walker, headOf, tailOf, walks}
-use Rattle.joining.proofs.Tables.{put-in, chain-set, chain-add, chain-within, chain-end}
+use Rattle.joining.proofs.FallingChains.{put-in, chain-set, chain-add, chain-within, chain-end}
 
 -- ---- the steps of the code
 

@@ -27,7 +27,7 @@ use Rattle.lowering.specs.Collect.{Entry}
 use Rattle.joining.specs.List.{FitDeclarators, FitEntries}
 use Rattle.joining.specs.Join.{isContainer, pieceMark, firstMark, ownMark, declaration, handedTo, handedBy, before, vars, news, newsPiece, join, joinFields, joinPiece, joinItems, headed, joinedBy}
 use Rattle.joining.proofs.Agree.{count-short}
-use Rattle.joining.proofs.Written.{Program}
+use Rattle.joining.proofs.JoinedWritten.{Program}
 
 -- ---- containers hold statements, and a FunctionBody directives too
 

@@ -12,7 +12,7 @@ use Rattle.tree.specs.Grammar.{among}
 use Rattle.tree.proofs.Sound.{never}
 use Rattle.rewritten.proofs.Marks.{by-same}
 use Rattle.joining.specs.Join.{seek, fresh}
-use Rattle.joining.proofs.Written.{fresh-most}
+use Rattle.joining.proofs.JoinedWritten.{fresh-most}
 
 -- the first above m that is free; or all are taken as far as it goes
 record Sought (taken : List ℕ) (most m r : ℕ) : Type 0 where

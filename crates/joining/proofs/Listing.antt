@@ -35,8 +35,8 @@ use Rattle.joining.specs.Entries.{Told, tells, telling, onward, runDecla
 use Rattle.joining.specs.Entries.Told.{lost, told}
 use Rattle.joining.specs.declared.entries.Ending.{Ending}
 use Rattle.joining.specs.declared.entries.Ending.the-variants.{At, Missing}
-use Rattle.joining.proofs.Tables.{put-in}
-use Rattle.joining.proofs.Collecting.{knows, notes}
+use Rattle.joining.proofs.FallingChains.{put-in}
+use Rattle.joining.proofs.TablesFilled.{knows, notes}
 
 -- ---- what the rest of the events tells
 

@@ -28,7 +28,7 @@ use Rattle.joining.specs.Spots.{Spot, spot, placeOf, statementOf, spotte
 use Rattle.joining.specs.Files.{In, Files, times}
 use Rattle.joining.specs.Settle.{bumped, Settled, settled, placeAt, settles, Stand, names}
 use Rattle.joining.specs.declared.search.Place.{Place}
-use Rattle.joining.proofs.Tables.{put-in, stored-length, chain-within, Has, Lacks, Ended, search-ends}
+use Rattle.joining.proofs.FallingChains.{put-in, stored-length, chain-within, Has, Lacks, Ended, search-ends}
 use Rattle.joining.proofs.Times.{times-append, among-times}
 
 -- ---- the loop

@@ -21,7 +21,7 @@ use Rattle.joining.specs.Join.{isContainer, firstMark, ownMark, declarat
 use Rattle.joining.specs.Without.{isNew, without, withoutFields, withoutPiece, withoutItems}
 use Rattle.joining.specs.Files.{times}
 use Rattle.joining.proofs.Times.{times-append, among-times}
-use Rattle.joining.proofs.Written.{Program}
+use Rattle.joining.proofs.JoinedWritten.{Program}
 use Rattle.joining.proofs.Fresh.{fresh-lowest, fresh-below}
 
 -- a tree's own mark is one of its marks

@@ -22,7 +22,7 @@ use Rattle.lowering.specs.Parts.{position, kind, is, pieceIn, asItems}
 use Rattle.lowering.proofs.All.{AllItems, weaker-items}
 use Rattle.lowering.proofs.Cases.{by-test, and-left, and-right, or-first}
 use Rattle.lowering.proofs.Sites.{isNameKind, direct, directPiece, directItems, here, hereItems, own, sites, sitesFields, sitesPiece, sitesItems}
-use Rattle.tree.proofs.Hold.{Holds, holds, of-mapped, of-accepted, of-joined, weaker}
+use Rattle.tree.proofs.HoldsOfRead.{Holds, holds, of-mapped, of-accepted, of-joined, weaker}
 use Rattle.tree.proofs.Look.{kind-at}
 
 -- ---- nodes at a position

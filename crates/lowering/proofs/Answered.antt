@@ -20,7 +20,7 @@ use Rattle.lowering.specs.Answer.Result.{refusal, lowered}
 use Rattle.lowering.specs.Table.{Meets, Five, Six, Eleven, Admitted, Accepted, met, resultTree, resultList, HandedBack, IsTable}
 use Rattle.lowering.proofs.Cases.{by-test}
 use Rattle.lowering.proofs.Answers.{ByWalk, walk-refuses}
-use Rattle.lowering.proofs.Order.{limit-outside, options-unknown, work-small, reading-decides}
+use Rattle.lowering.proofs.RefusalOrder.{limit-outside, options-unknown, work-small, reading-decides}
 use Rattle.lowering.proofs.RefusalsMet.{OneMet, five-where, six-where, eleven-where, refused-if, accepted-if}
 
 -- ---- a line that applies is what the definition gives

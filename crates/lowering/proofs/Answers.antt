@@ -29,7 +29,7 @@ use Rattle.lowering.proofs.Cases.{by-test, by-rule}
 use Rattle.lowering.proofs.KeyRefusals.{by-keys, declaration-by, top-by}
 use Rattle.lowering.proofs.Falls.{walk-more, walked-only}
 use Rattle.lowering.proofs.Notes.{AllNotes, in-walked}
-use Rattle.lowering.proofs.Order.{by-order}
+use Rattle.lowering.proofs.RefusalOrder.{by-order}
 
 -- ---- the walk refuses by 5, 6 or 11 and by nothing else
 

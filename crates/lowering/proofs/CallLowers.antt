@@ -16,7 +16,7 @@ use Rattle.lowering.specs.Answer.{Lent, fits, fitted, collected, afterWa
 use Rattle.lowering.specs.Answer.Result.{refusal, lowered}
 use Rattle.lowering.specs.Table.{met, resultTree, resultList}
 use Rattle.lowering.proofs.Cases.{by-test, by-number}
-use Rattle.lowering.proofs.Order.{by-order}
+use Rattle.lowering.proofs.RefusalOrder.{by-order}
 
 pub record Lowers (limit : ℕ) (tree : List ℕ) (s : Lent) (t l : List ℕ) : Type 0 where
   pub n : Node

@@ -14,14 +14,14 @@ pub mod WeightAssignments
 pub mod Falls
 pub mod Levels
 pub mod Notes
-pub mod Order
+pub mod RefusalOrder
 pub mod CallLowers
 pub mod NumberLaws
 pub mod KeyRefusals
 pub mod Answers
 pub mod RefusalsMet
 pub mod Answered
-pub mod Written
+pub mod TemporariesWritten
 pub mod Appearance
 pub mod Sites
 pub mod SiteViews

@@ -32,7 +32,7 @@ use Rattle.lowering.proofs.Cases.{by-number, by-test, by-rule, or-other
 use Rattle.lowering.proofs.KeyRefusals.{ByKeys, declaration-by, top-by}
 use Rattle.lowering.proofs.Falls.{walked-is}
 use Rattle.lowering.proofs.Answers.{ByWalk, walk-refuses}
-use Rattle.lowering.proofs.Order.{by-order, reading-decides}
+use Rattle.lowering.proofs.RefusalOrder.{by-order, reading-decides}
 
 -- ---- the first refusal of two lists
 

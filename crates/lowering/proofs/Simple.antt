@@ -30,7 +30,7 @@ use Rattle.lowering.proofs.Cases.{by-test, by-shape, object-is, by-rule
 use Rattle.lowering.proofs.Falls.{walked-is}
 use Rattle.lowering.proofs.Notes.{AllNotes, both}
 use Rattle.lowering.specs.Table.{Admitted}
-use Rattle.lowering.proofs.Order.{reading-decides}
+use Rattle.lowering.proofs.RefusalOrder.{reading-decides}
 use Rattle.lowering.proofs.Accepted.{NoHoles, Proper, ProperFields, ProperPiece, ProperItems, accepted-good}
 use Rattle.lowering.proofs.Accepted.Proper.{proper}
 use Rattle.lowering.proofs.ItemLaws.{gather-none as none-in, none-empty, first-empty}

@@ -15,7 +15,7 @@ use Rattle.ordering.specs.declared.verdict.Verdict.{Verdict}
 use Rattle.ordering.specs.Verdicts.{orElse, byValue, byText, lexical}
 use Rattle.ordering.specs.declared.verdict.Verdict.the-variants.{Less, Equal, Greater}
 use Rattle.ordering.specs.Order.{compare, compareFields, comparePiece, compareItems, byKey, byEvent, firstDifference}
-use Rattle.ordering.proofs.Laws.{or-nothing, or-or, value-same}
+use Rattle.ordering.proofs.LexicalOrder.{or-nothing, or-or, value-same}
 
 -- kind and bit map, then what stands
 begun : (k m f r z : Verdict) → (m ≡ Equal → r ≡ orElse f z) → orElse (orElse k (orElse m Equal)) r ≡ orElse (orElse k (orElse m f)) z

@@ -1,9 +1,9 @@
-pub mod Laws
+pub mod LexicalOrder
 pub mod Bridge
 pub mod Same
-pub mod Order
-pub mod Texts
-pub mod Keys
-pub mod Places
+pub mod TreeOrder
+pub mod TextsCompared
+pub mod EventKeys
+pub mod TablePlaces
 pub mod Sides
 pub mod Pairs

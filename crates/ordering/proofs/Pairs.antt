@@ -15,7 +15,7 @@ use Rattle.rewritten.specs.Events.{Event, events}
 use Rattle.rewritten.specs.Steps.{start, eventIn}
 use Rattle.rewritten.specs.declared.step.Cursor.{Cursor}
 use Rattle.rewritten.specs.declared.step.Event as told
-use Rattle.rewritten.proofs.Rewritten.{checked-got}
+use Rattle.rewritten.proofs.RewrittenExact.{checked-got}
 use Rattle.ordering.specs.Verdicts.{orElse, isEqual, lexical, byText}
 use Rattle.ordering.specs.Order.{byEvent, firstDifference, placedAll}
 use Rattle.ordering.specs.Sides.{Within, Coming, Went, Moved}
@@ -29,8 +29,8 @@ use Rattle.ordering.specs.declared.compare.Pair.{Pair}
 use Rattle.ordering.specs.declared.compare.Pair.the-variants.{Both, Over}
 use Rattle.ordering.specs.declared.compare.Answer.{Answer}
 use Rattle.ordering.specs.declared.compare.Answer.the-variants.{Said, Refused}
-use Rattle.ordering.proofs.Order.{order-events, equal-self}
-use Rattle.ordering.proofs.Laws.{text-same}
+use Rattle.ordering.proofs.TreeOrder.{order-events, equal-self}
+use Rattle.ordering.proofs.LexicalOrder.{text-same}
 use Rattle.ordering.proofs.Sides.{fresh, side-start}
 
 -- ---- what was read

@@ -15,7 +15,7 @@ use Rattle.ordering.specs.declared.verdict.Verdict.{Verdict}
 use Rattle.ordering.specs.declared.verdict.Verdict.the-variants.{Equal}
 use Rattle.ordering.specs.Verdicts.{orElse, byValue, byText}
 use Rattle.ordering.specs.Order.{compare, compareFields, comparePiece, compareItems}
-use Rattle.ordering.proofs.Laws.{less-not-equal, greater-not-equal, both-equal, self, value-orders, text-orders, value-same, text-same}
+use Rattle.ordering.proofs.LexicalOrder.{less-not-equal, greater-not-equal, both-equal, self, value-orders, text-orders, value-same, text-same}
 
 abbrev joined : List ℕ → List ℕ → List ℕ
 joined xs ys = xs ++ ys

@@ -26,7 +26,7 @@ use Rattle.ordering.specs.Sides.{Within, numberIn, Coming, Moved}
 use Rattle.ordering.specs.declared.place.Placed.{Placed}
 use Rattle.ordering.specs.declared.side.Side.{Side}
 use Rattle.ordering.specs.declared.side.Move.the-variants.{Met, Ended}
-use Rattle.ordering.proofs.Places.{knows-none, place-is, count-is, knows-placed, few-more}
+use Rattle.ordering.proofs.TablePlaces.{knows-none, place-is, count-is, knows-placed, few-more}
 
 -- ---- events
 

@@ -22,7 +22,7 @@ use Rattle.tree.proofs.Look.{kind-at}
 use Rattle.lowering.specs.Parts.{nothing, kind, pieceIn, asNode, asItems}
 use Rattle.lowering.proofs.All.{AllItems}
 use Rattle.lowering.proofs.Cases.{by-test, and-left, and-right}
-use Rattle.outcome.proofs.Good.{NoPart, NoParts}
+use Rattle.outcome.proofs.GoodNodes.{NoPart, NoParts}
 
 -- ---- tests of kinds
 

@@ -41,14 +41,14 @@ use Rattle.direct.specs.Objects.{replacedIn, overReplaced}
 use Rattle.direct.specs.Handed.{placesIn, handsPlace, handsNested}
 use Rattle.direct.specs.Assigned.{emitsRestOf, emitsNest, emitsTarget}
 use Rattle.direct.specs.Declared.{emitsKeyValue, emitsOwnKeys, emitsOwnPattern}
-use Rattle.direct.proofs.PatternViews.{view-rest, view-property}
+use Rattle.direct.proofs.ViewedPatterns.{view-rest, view-property}
 use Rattle.direct.proofs.RestValues.{excluded-spelt, excluded-itself, excluded-omitted, excluded-saved, rest-none, rest-some}
 use Rattle.direct.proofs.AssignmentsByPart.{target-nested, target-kept}
-use Rattle.direct.proofs.Ways.{key-plain, own-pattern-some}
+use Rattle.direct.proofs.DirectWaysOut.{key-plain, own-pattern-some}
 use Rattle.outcome.specs.Named.{firstRefused}
 use Rattle.outcome.proofs.Refusals.{first, Sound, Silent, silent-none, sound-both, silent-sound, first-both, puts-silent, marks-silent, hands-first, hands-sound}
-use Rattle.outcome.proofs.Good.{Good, Leaf, Is35, rest-leaf, properties-35}
-use Rattle.outcome.proofs.Fitting.{fits-good}
+use Rattle.outcome.proofs.GoodNodes.{Good, Leaf, Is35, rest-leaf, properties-35}
+use Rattle.outcome.proofs.FittingIsGood.{fits-good}
 
 -- ---- rows that refuse the same
 

@@ -22,13 +22,13 @@ use Rattle.lowering.proofs.Used.{no-temporary}
 use Rattle.sink.specs.Machine.{start, steps, finished}
 use Rattle.direct.specs.Events.{deeds}
 use Rattle.outcome.specs.Named.{firstRefused, eventsIn, outcomeFrom}
-use Rattle.outcome.proofs.Good.{Good}
+use Rattle.outcome.proofs.GoodNodes.{Good}
 use Rattle.outcome.proofs.Potential.{pot}
 use Rattle.outcome.proofs.PotentialRules.{spent}
 use Rattle.outcome.proofs.OutcomeGiven.{outcome-is, refusal-is}
-use Rattle.outcome.proofs.Fitting.{fits-good}
+use Rattle.outcome.proofs.FittingIsGood.{fits-good}
 use Rattle.outcome.proofs.Room.{pot-most, pot-past}
-use Rattle.outcome.proofs.Forms.{walked-formed}
+use Rattle.outcome.proofs.WalkedForms.{walked-formed}
 use Rattle.outcome.proofs.Uses.{used, calm, walked-used}
 use Rattle.outcome.proofs.MarksKept.{Held, walked-keeps}
 use Rattle.outcome.proofs.MarksInOrder.{counts-long, marks-long, counts-held, from, new-marks, numbered-marks}

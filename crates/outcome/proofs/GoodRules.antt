@@ -22,7 +22,7 @@ use Rattle.lowering.specs.Walk.{Rule, ruleOf, rewrite, stepDeclaration, stepTop
 use Rattle.lowering.specs.Walk.Rule.{literals, declarations, assignments, functions, arrows, catches, fors, nowhere}
 use Rattle.lowering.proofs.All.{AllItems, all-each}
 use Rattle.lowering.proofs.Cases.{by-test, by-shape, by-key, by-rule, object-is, array-is, is-changed, functionBody-is, block-is, by-entry, by-number}
-use Rattle.outcome.proofs.Good.{NotDefault, temporary-20, temporary-simple, leaf-simple, object-simple, array-simple, rest-leaf, taken-simple, replaced-simple, reference-simple, movedPattern-simple, Is35, changed-35, Good, GoodItems, GoodObject, free, nothing-good, from-all, node-good, items-good, append-good, gather-good, view-node, change-items, each-items, change-free, temporary-good, reference-good, taken-good, replaced-view, values-good, movedOut-view, moved-good, movedPattern-good, nearest-good, parts-good, left-good}
+use Rattle.outcome.proofs.GoodNodes.{NotDefault, temporary-20, temporary-simple, leaf-simple, object-simple, array-simple, rest-leaf, taken-simple, replaced-simple, reference-simple, movedPattern-simple, Is35, changed-35, Good, GoodItems, GoodObject, free, nothing-good, from-all, node-good, items-good, append-good, gather-good, view-node, change-items, each-items, change-free, temporary-good, reference-good, taken-good, replaced-view, values-good, movedOut-view, moved-good, movedPattern-good, nearest-good, parts-good, left-good}
 use Rattle.lowering.proofs.Clauses.{top-34}
 use Rattle.tree.proofs.Sound.{never}
 use Rattle.direct.proofs.AlikeRules.{functionBody-kind, block-kind}

@@ -28,7 +28,7 @@ use Rattle.direct.specs.Events.{cellOf, stemOf}
 use Rattle.outcome.specs.Named
 use Rattle.outcome.specs.Named.{Act, lists, excludes, handed, plains, tokens, tokensFields, tokensPiece, tokensItems}
 use Rattle.outcome.proofs.Listed.{list-append, keys-append, declarators-append}
-use Rattle.outcome.proofs.Good.{Pure, PureFields, PurePiece, PureItems, KeyOk, Good, GoodObject, to-all, node-good, items-good, key-ok, objects-good}
+use Rattle.outcome.proofs.GoodNodes.{Pure, PureFields, PurePiece, PureItems, KeyOk, Good, GoodObject, to-all, node-good, items-good, key-ok, objects-good}
 use Rattle.outcome.proofs.PotentialViews.{Property, properties-are}
 use Rattle.lowering.proofs.Clauses.{again-temporary, hoisted-primitive, top-34}
 

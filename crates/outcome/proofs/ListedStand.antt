@@ -31,7 +31,7 @@ use Rattle.lowering.proofs.Levels.{below-object, below-leaf}
 use Rattle.lowering.proofs.MadeAtSites.{times, times-append, no-ids}
 use Rattle.lowering.proofs.Occurs.{occurs, occursFields, occursPiece, occursItems}
 use Rattle.lowering.proofs.Clauses.{objects-object, objects-array, objects-default, objects-leaf, has-leaf, top-34, top-rest}
-use Rattle.outcome.proofs.Good.{Leaf, NotDefault, first-simple, Good, rest-leaf, node-good, items-good, to-all}
+use Rattle.outcome.proofs.GoodNodes.{Leaf, NotDefault, first-simple, Good, rest-leaf, node-good, items-good, to-all}
 use Rattle.lowering.proofs.ItemLaws.{each-append, gather-none, gather-append}
 use Rattle.lowering.proofs.ChangeLaws.{stands-without}
 use Rattle.lowering.proofs.WeightKeys.{values-rest}

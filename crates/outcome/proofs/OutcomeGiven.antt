@@ -42,9 +42,9 @@ use Rattle.outcome.proofs.Tokens.{Formed, FormedFields, FormedPiece, Fo
 use Rattle.outcome.proofs.Listed.{asides, hands, named-hands, list-aside, keys-aside, entries-aside, declarators-aside}
 use Rattle.outcome.proofs.MadeOnce.{number, inCell}
 use Rattle.outcome.proofs.Scope.{cellAt, walked-scoped}
-use Rattle.outcome.proofs.Good.{Good, parts}
+use Rattle.outcome.proofs.GoodNodes.{Good, parts}
 use Rattle.outcome.proofs.GoodRules.{rewrite-good}
-use Rattle.outcome.proofs.Forms.{walked-formed, good-notes}
+use Rattle.outcome.proofs.WalkedForms.{walked-formed, good-notes}
 use Rattle.outcome.proofs.HandedDeclarators.{Hands, rewrite-hands, unchanged-hands}
 use Rattle.outcome.proofs.MarksKept.{Held, Walks, walked-keeps}
 use Rattle.outcome.proofs.Numbers.{bytes, Every, every-weaker, bytes-same, shown-bytes, encode-tokens, Placed, all-placed, number-agrees, in-every}
@@ -52,7 +52,7 @@ use Rattle.outcome.proofs.Nodes.{tree-names, tree-mask}
 use Rattle.outcome.proofs.ListWritten.{Says, machineEntry, visits-say, counts-small, list-bytes, list-length, visits-marks, entries-marks, entries-small, size-plains}
 use Rattle.outcome.proofs.Uses.{calm, used, walked-used, occurs-in, entries-every, excluded-every}
 use Rattle.outcome.proofs.Cells.{Ok, walked-ok}
-use Rattle.outcome.proofs.Apart.{made-apart}
+use Rattle.outcome.proofs.NamesApart.{made-apart}
 
 -- ---- new marks take two bytes each
 

@@ -30,7 +30,7 @@ use Rattle.lowering.proofs.Clauses.{objects-object, objects-array, objects-defa
 use Rattle.direct.specs.Events.{cell, cellOf}
 use Rattle.lowering.proofs.WeightKeys.{rest-changed, values-rest}
 use Rattle.outcome.proofs.MadeOnce.{number, number-append, number-none, inCell}
-use Rattle.outcome.proofs.Good.{NoParts, Leaf, NotDefault, Good, GoodItems, to-all, node-good, items-good, properties-35, rest-leaf, first-simple, values-good, movedOut-view, named-parts}
+use Rattle.outcome.proofs.GoodNodes.{NoParts, Leaf, NotDefault, Good, GoodItems, to-all, node-good, items-good, properties-35, rest-leaf, first-simple, values-good, movedOut-view, named-parts}
 use Rattle.outcome.proofs.GoodRules.{below-good}
 use Rattle.outcome.proofs.ListedStand.{left-no-top, objects-top, nearest-top, parts-top, temporary-leaf, values-top, leaf-top}
 use Rattle.outcome.proofs.Potential.{isPattern, gone, slot, slotMoved, slotValue, slotTop, slots, slotValues, odds, head, heads, headCatch, headFor, aliens, resting, declaring, own, pot, potFields, potPiece, potItems, inner, pot-34, pot-14, pot-17, pot-10, pot-7, pot-8, pot-27, pot-5, pot-4, inner-in, piece-in, two-pieces, as-node, as-items, node-in, items-in, node-and-node, items-and-node, pot-append, only-pot, none-pot, nothing-pot, temporary-pot, each-item, node-exchange, items-exchange, node-exchange-in}

@@ -20,7 +20,7 @@ use Rattle.lowering.proofs.All.{AllItems, other-changed}
 use Rattle.lowering.proofs.Cases.{by-test, by-shape, by-key, object-is, array-is, default-is, is-changed, by-entry}
 use Rattle.lowering.proofs.Sites.{here, hereItems}
 use Rattle.lowering.proofs.Clauses.{objects-object, objects-array, objects-default, objects-leaf, replaced-object, replaced-array, replaced-default, parts-object, parts-array, parts-default, parts-leaf, nearest-object, nearest-array, nearest-default, nearest-leaf}
-use Rattle.outcome.proofs.Good.{Leaf, Is35, Good, GoodItems, to-all, node-good, items-good, properties-35, replaced-view, parts-fixes}
+use Rattle.outcome.proofs.GoodNodes.{Leaf, Is35, Good, GoodItems, to-all, node-good, items-good, properties-35, replaced-view, parts-fixes}
 use Rattle.outcome.proofs.ListedStand.{objects-zero}
 use Rattle.lowering.proofs.WeightKeys.{values-rest}
 use Rattle.outcome.proofs.Potential.{gone, slot, slotMoved, slots, slotValues, odd, odds, resting, own, pot, potItems, pot-34, pot-35, pot-36, pot-37, inner-in, node-in, node-and-node, items-and-node, pot-append, only-pot, none-pot, temporary-pot, node-exchange, items-exchange, drop-exchange, odds-append, odds-none, only-odds, moved-less}

@@ -24,7 +24,7 @@ use Rattle.lowering.proofs.Cases.{by-test, and-left}
 use Rattle.lowering.proofs.Sites.{here, hereItems}
 use Rattle.lowering.proofs.Accepted.{on, on-later, on-most}
 use Rattle.outcome.proofs.Asked.{LeadList, Known, known}
-use Rattle.outcome.proofs.Fitting.{Firm, FirmFields, FirmItems, fields-node, fields-items, items-firm, from-odds, same-kind, not-37, fits-good}
+use Rattle.outcome.proofs.FittingIsGood.{Firm, FirmFields, FirmItems, fields-node, fields-items, items-firm, from-odds, same-kind, not-37, fits-good}
 use Rattle.outcome.proofs.Potential.{isPattern, gone, slot, slotMoved, slotValue, slotTop, slots, slotValues, head, heads, headCatch, headFor, aliens, resting, declaring, own, pot, potFields, potPiece, potItems, moved-less}
 use Rattle.outcome.proofs.PotentialViews.{slot-34, slot-not}
 

@@ -30,7 +30,7 @@ use Rattle.sink.proofs.Firsts.{namesIn}
 use Rattle.outcome.specs.Named.{plains, tokens, tokensFields, tokensPiece, tokensItems}
 use Rattle.outcome.proofs.Tokens.{IsTemporary, Formed, FormedFields, FormedPiece, FormedItems}
 use Rattle.outcome.proofs.Scope.{both-each}
-use Rattle.outcome.proofs.Good.{Pure, Good, parts}
+use Rattle.outcome.proofs.GoodNodes.{Pure, Good, parts}
 use Rattle.outcome.proofs.GoodRules.{rewrite-good}
 use Rattle.outcome.proofs.HandedDeclarators.{Hands, Declares, Valued, Full, full-append, full-weaker, pure-tokens}
 use Rattle.outcome.proofs.Numbers.{Every, every-append}

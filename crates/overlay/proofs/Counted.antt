@@ -18,7 +18,7 @@ use Rattle.lowering.specs.Parts.{is, pieceIn, standsIn, asNode, asItems, nodeAt
 use Rattle.lowering.specs.Visits.{ItemAt, NodeIn, FieldAt, PartAt, Stands}
 use Rattle.overlay.proofs.LaidOn.{differ}
 use Rattle.overlay.proofs.AcceptedGiven.{no-20, allRows, row-at, isMany, fieldAt, not-kind}
-use Rattle.overlay.proofs.Held.{isList, takesIn, takes, areParams, hasBody, isAtom, changesIt, held, heldAll, heldPiece, heldItems, heldParts, heldPattern, heldDeclarators, heldDeclarator, at-24, at-26, at-27, at-34, at-37, at-4, declarator-held}
+use Rattle.overlay.proofs.LiteralsCounted.{isList, takesIn, takes, areParams, hasBody, isAtom, changesIt, held, heldAll, heldPiece, heldItems, heldParts, heldPattern, heldDeclarators, heldDeclarator, at-24, at-26, at-27, at-34, at-37, at-4, declarator-held}
 use Rattle.lowering.proofs.Cases.{by-test, or-left, or-right}
 
 -- ---- forms: which a kind may have, at whatever place

@@ -4,7 +4,7 @@ pub mod PropertiesInTurn
 pub mod Free
 pub mod Still
 pub mod Plainly
-pub mod Lowered
+pub mod LiteralsLowered
 pub mod Overlay
 pub mod Described
 pub mod Grown
@@ -12,10 +12,10 @@ pub mod LoweredInPlace
 pub mod ImpostorsFail
 pub mod PremisesNeeded
 pub mod AcceptedGiven
-pub mod Held
+pub mod LiteralsCounted
 pub mod ViewsKeep
 pub mod RulesKeepLiterals
 pub mod Visited
 pub mod Counted
 pub mod TreesCompared
-pub mod Reached
+pub mod LiteralsReached

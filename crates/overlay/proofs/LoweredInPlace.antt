@@ -22,7 +22,7 @@ use Rattle.overlay.specs.Law.{Overlay, Faithful}
 use Rattle.lowering.specs.Visits.{ItemAt, NodeIn, FieldAt, PartAt, Stands, Visits}
 use Rattle.overlay.specs.Whole.{leaves, lowered, Left, InPlace, Writes}
 use Rattle.overlay.proofs.Plainly.{Plain, plain-rule}
-use Rattle.overlay.proofs.Lowered.{plain-turns}
+use Rattle.overlay.proofs.LiteralsLowered.{plain-turns}
 use Rattle.overlay.proofs.Overlay.{faithful, overlays}
 
 pub zero-plus : (n : ℕ) → 0 + n ≡ n

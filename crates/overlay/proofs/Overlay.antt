@@ -23,7 +23,7 @@ use Rattle.overlay.specs.Law.{Fair, literalOf, layOn, Overlay, Faithful}
 use Rattle.overlay.specs.Whole.{leaves}
 use Rattle.overlay.proofs.PropertiesInTurn.{then-each, run-literal, run-scan, lay-append}
 use Rattle.overlay.proofs.Plainly.{Plain, PlainParts, PlainPart, no-part, next-part, spread, property, propertyOf, plain-rule}
-use Rattle.overlay.proofs.Lowered.{lower, lowerItems, lower-opaque, plain-turns}
+use Rattle.overlay.proofs.LiteralsLowered.{lower, lowerItems, lower-opaque, plain-turns}
 use Rattle.lowering.proofs.Cases.{by-test, and-left, and-right}
 use Rattle.lowering.proofs.Clauses.{scan-spread, scan-other}
 

@@ -26,7 +26,7 @@ use Rattle.lowering.specs.Walk.{Step, unchanged, ruleOf, rewrite, stepDeclarati
 use Rattle.lowering.proofs.All.{other-changed}
 use Rattle.overlay.specs.Plain.{hasHole}
 use Rattle.overlay.proofs.LaidOn.{differ}
-use Rattle.overlay.proofs.Held.{isList, takesIn, takes, areParams, hasBody, isAtom, changesIt, held, heldAll, heldPiece, heldItems, heldParts, heldPattern, heldDeclarators, heldDeclarator, at-24, at-26, at-27, at-34, at-37, at-4, declarator-held, held-append, piece-all, change-less, change-more, node-most, only-held, two-all}
+use Rattle.overlay.proofs.LiteralsCounted.{isList, takesIn, takes, areParams, hasBody, isAtom, changesIt, held, heldAll, heldPiece, heldItems, heldParts, heldPattern, heldDeclarators, heldDeclarator, at-24, at-26, at-27, at-34, at-37, at-4, declarator-held, held-append, piece-all, change-less, change-more, node-most, only-held, two-all}
 use Rattle.overlay.proofs.ViewsKeep.{View, view, object-view, array-view, default-view, leaf-view, pattern-most, declarator-most, declarator-kept, replaced-kept, top-kept, heldLets, lets-add, moved-kept}
 use Rattle.lowering.proofs.ChangeLaws.{stands-changed, items-changed-in}
 use Rattle.lowering.proofs.Cases.{not-false, by-test, or-left, or-right, and-left, and-right, by-number}

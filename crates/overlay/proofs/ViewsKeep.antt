@@ -23,7 +23,7 @@ use Rattle.lowering.specs.Assignments.{nearest, partsReplaced}
 use Rattle.lowering.specs.Heads.{moved, movedPattern, movedOut}
 use Rattle.lowering.proofs.All.{other-changed}
 use Rattle.overlay.proofs.LaidOn.{differ}
-use Rattle.overlay.proofs.Held.{isAtom, hasBody, held, heldAll, heldPiece, heldItems, heldParts, heldPattern, heldDeclarator, at-34, at-37, declarator-held, held-append, change-less, node-most, only-held, two-all}
+use Rattle.overlay.proofs.LiteralsCounted.{isAtom, hasBody, held, heldAll, heldPiece, heldItems, heldParts, heldPattern, heldDeclarator, at-34, at-37, declarator-held, held-append, change-less, node-most, only-held, two-all}
 use Rattle.lowering.proofs.ChangeLaws.{items-changed-in}
 use Rattle.lowering.proofs.WeightKeys.{values-rest}
 use Rattle.lowering.proofs.Clauses.{taken-none, has-leaf}

@@ -15,7 +15,7 @@ use Rattle.lowering.specs.Weight.{weight}
 use Rattle.lowering.proofs.Weights.{weight-pos, parts-fall}
 use Rattle.lowering.proofs.Falls.{falls}
 use Rattle.lowering.specs.Visits.{ItemAt, NodeIn, FieldAt, PartAt, Stands, Visits}
-use Rattle.overlay.proofs.Held.{held, heldAll, heldPiece, heldItems}
+use Rattle.overlay.proofs.LiteralsCounted.{held, heldAll, heldPiece, heldItems}
 use Rattle.overlay.proofs.RulesKeepLiterals.{own, partsHeld, stays, Kept, kept, refuses, keeps}
 use Rattle.lowering.proofs.Cases.{by-test}
 use Rattle.lowering.proofs.PartsAt.{part-at}

@@ -23,16 +23,16 @@ use Rattle.lowering.specs.Visits.{ItemAt, Visits}
 use Rattle.overlay.specs.Whole.{leaves, Comes}
 use Rattle.overlay.proofs.TreesCompared.{same, same-is}
 use Rattle.overlay.proofs.LoweredInPlace.{left, call-writes}
-use Rattle.overlay.proofs.Reached.{visit-noted, comes-to}
+use Rattle.overlay.proofs.LiteralsReached.{visit-noted, comes-to}
 use Rattle.packing.specs.Unpack.{Form}
 use Rattle.packing.specs.Class.{isShaped, fits, apart, unpackingOf, patternOf, declaratorOf}
 use Rattle.packing.specs.Law.{Unpacked}
 use Rattle.packing.specs.Whole.{Accepted, notes, names, handedOut, LandsThere, Unpacks, OneSide, Whole, Placed, Everywhere, Writes}
-use Rattle.packing.proofs.Declared.{Shaped, shaped, excluded-is, excludes-are, packing}
+use Rattle.packing.proofs.DeclarationLeft.{Shaped, shaped, excluded-is, excludes-are, packing}
 use Rattle.packing.proofs.Clean.{accepted-clean}
 use Rattle.packing.proofs.WrittenReads.{Hands}
 use Rattle.packing.proofs.WrittenReads.{written as reads-as}
-use Rattle.packing.proofs.Handed.{Item, in-list, array-given}
+use Rattle.packing.proofs.ExcludedArrays.{Item, in-list, array-given}
 
 well-formed : (a : Accepted) → WellFormed input (a .limit) (a .tree) (a .next)
 well-formed a = sound input (a .limit) (a .bytes) (a .tree) (a .end) (a .next) (a .areBytes) (a .read) .wellFormed

@@ -14,7 +14,7 @@ use Rattle.lowering.specs.Parts.{nothing, kind, pieceIn, asNode, asItems, nodeA
 use Rattle.lowering.specs.Patterns.{shape, properties, itemsOf, rest, hasRest, leftOf, value, hasNestedObjectRest, hasNestedArrayRest, hasObjectRest, hasArrayRestOverObjectRest}
 use Rattle.lowering.specs.Patterns.Shape.{objectPattern, arrayPattern, default, leaf}
 use Rattle.lowering.proofs.Levels.{has-levels, array-levels}
-use Rattle.pattern.proofs.Places.{Blank}
+use Rattle.pattern.proofs.NodeParts.{Blank}
 use Rattle.lowering.proofs.Levels as levels
 use Rattle.lowering.proofs.Levels.{piece-depth}
 

@@ -24,7 +24,7 @@ use Rattle.pattern.specs.Parts.{partAt, placeOf, runOf, nodeHere}
 use Rattle.pattern.specs.Tally.{limited}
 use Rattle.pattern.specs.Objects.{restsTally}
 use Rattle.pattern.specs.Declarators.{made, itemCount, declaratorRefusal, itemRefusal}
-use Rattle.pattern.proofs.Places.{Blank, child-is, list-is, kind-is, no-levels}
+use Rattle.pattern.proofs.NodeParts.{Blank, child-is, list-is, kind-is, no-levels}
 use Rattle.pattern.proofs.Below as below
 use Rattle.pattern.proofs.CappedSums.{numbers, refusals, first-sum, Adds, sumOf, listSum, sum-start, sum-more, sum-end, plus-right}
 use Rattle.pattern.proofs.MovesCounted.{count-sum}

@@ -18,7 +18,7 @@ use Rattle.tree.specs.Answer.{Peeked, foundValue}
 use Rattle.tree.specs.Look.{Seen, onward, lookField, lookSlot, lookFields, lookNode, seekFields}
 use Rattle.tree.specs.declared.skip.Found.{Found}
 use Rattle.tree.specs.declared.skip.Found.the-variants as found-at
-use Rattle.tree.proofs.Rows.{NoKey, row-done, row-first, first-sort}
+use Rattle.tree.proofs.GrammarRows.{NoKey, row-done, row-first, first-sort}
 use Rattle.tree.proofs.Skipping.{seek-none, seek-absent, seek-here}
 use Rattle.lowering.specs.Parts.{standsIn, stands}
 use Rattle.pattern.specs.declared.parts.Part.{Part}

@@ -39,7 +39,7 @@ use Rattle.pattern.specs.Numbers.{spelledAs, isStringOf}
 use Rattle.pattern.specs.Tally as tally
 use Rattle.pattern.specs.Tally.{limited, both, sum}
 use Rattle.pattern.specs.Keys.{nameIn, formIn, besideForm, literalBy, literalIn, literalAt, keyAt, Becomes, keyRefusal, keyEntry, counts, countsBy, keyCounts, keyTally, keysOf, itemKeys}
-use Rattle.pattern.proofs.Places.{Blank, child-is, list-is, kind-is, no-levels, text-part, stands-part, sort-absent, sort-there}
+use Rattle.pattern.proofs.NodeParts.{Blank, child-is, list-is, kind-is, no-levels, text-part, stands-part, sort-absent, sort-there}
 use Rattle.pattern.proofs.NumberCases.{promisedBy, promised-by, decimal-string, same-string, Low, spelled-low}
 use Rattle.pattern.proofs.Fields.{key-at}
 use Rattle.pattern.proofs.CappedSums.{tallies, Adds, sumOf, listSum, both-made, sum-start, sum-more, sum-end}

@@ -1,5 +1,5 @@
 pub mod Fields
-pub mod Places
+pub mod NodeParts
 pub mod Below
 pub mod Searches
 pub mod NumberCases

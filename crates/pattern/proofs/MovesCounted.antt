@@ -21,7 +21,7 @@ use Rattle.pattern.specs.declared.parts.Run.{Run}
 use Rattle.pattern.specs.Parts.{partAt, itemPlace, placeOf, runOf, nodeHere}
 use Rattle.pattern.specs.Tally.{limited, sum}
 use Rattle.pattern.specs.Moves.{movedBelow}
-use Rattle.pattern.proofs.Places.{Blank, child-is, list-is, array-list, kind-is, no-levels}
+use Rattle.pattern.proofs.NodeParts.{Blank, child-is, list-is, array-list, kind-is, no-levels}
 use Rattle.pattern.proofs.Below as below
 use Rattle.pattern.proofs.Below.{node-free, gather-free}
 use Rattle.pattern.proofs.CappedSums.{numbers, Adds, sumOf, listSum, sum-start, sum-more, sum-end, item-place, plus-both}

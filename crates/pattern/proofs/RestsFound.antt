@@ -27,7 +27,7 @@ use Rattle.pattern.specs.Tally as tally
 use Rattle.pattern.specs.Tally.{both, sum}
 use Rattle.pattern.specs.Keys.{keyTally, keysOf}
 use Rattle.pattern.specs.Objects.{objectItself, objectTally, ownTally, objectsTally, restsTally}
-use Rattle.pattern.proofs.Places.{Blank, child-is, object-list, array-list, kind-is, no-levels}
+use Rattle.pattern.proofs.NodeParts.{Blank, child-is, object-list, array-list, kind-is, no-levels}
 use Rattle.pattern.proofs.Below as below
 use Rattle.pattern.proofs.Below.{node-free, gather-free, gather-values}
 use Rattle.pattern.proofs.CappedSums.{tallies, Adds, sumOf, listSum, sum-append, sum-gather, sum-start, sum-more, sum-end, item-place, both-right}

@@ -18,7 +18,7 @@ use Rattle.lowering.specs.Patterns.Shape.{objectPattern, arrayPattern, default,
 use Rattle.pattern.specs.declared.parts.Place.{Place}
 use Rattle.pattern.specs.declared.parts.Run.{Run}
 use Rattle.pattern.specs.Parts.{partAt, itemPlace, placeOf, runOf, nodeHere}
-use Rattle.pattern.proofs.Places.{Blank, child-is, child-below, object-list, array-list, kind-is, no-levels}
+use Rattle.pattern.proofs.NodeParts.{Blank, child-is, child-below, object-list, array-list, kind-is, no-levels}
 use Rattle.pattern.proofs.Below as below
 
 abbrev pub has : Node → Bool

@@ -14,7 +14,7 @@ use Rattle.pattern.specs.declared.source.Read.{Read}
 use Rattle.pattern.specs.declared.source.Read.the-variants.{Expression, Temporary}
 use Rattle.pattern.specs.declared.source.ReferenceBuilder.{ReferenceBuilder}
 use Rattle.pattern.specs.Source.{builderOf, heldIn, readOf, placeRead, afterRead, Settled, Keeps}
-use Rattle.pattern.proofs.Places.{Blank, kind-is, no-levels}
+use Rattle.pattern.proofs.NodeParts.{Blank, kind-is, no-levels}
 
 -- ---- names
 

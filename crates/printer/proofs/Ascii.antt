@@ -21,7 +21,7 @@ use Rattle.printer.specs.Places.{fieldIn, inMethodForm, wrapping, separa
 use Rattle.printer.specs.Text.{Cell, noteOf, first, later, leftOver, aroundNode, afterPiece, heldNode, heldFields, heldPiece, heldItems, quasisFor, quasisAfter, textNode, textFields, textPiece, textItems, outside, textOf}
 use Rattle.printer.specs.Text.Cell.{quasi, stop}
 use Rattle.printer.specs.declared.frame.Frame.{Frame}
-use Rattle.printer.proofs.Tables.{word-none}
+use Rattle.printer.proofs.LayoutNumbers.{word-none}
 
 -- ---- bytes
 

@@ -22,7 +22,7 @@ use Rattle.printer.specs.Text.{Cell, noteOf, cellText, first, later, lef
 use Rattle.printer.specs.Text.Cell.{quasi, stop}
 use Rattle.printer.specs.Machine.{Open, Printing, print, cellAt, cellsFrom, stepOver, nextAround, notesNode, notesFields, notesPiece, notesItems}
 use Rattle.printer.specs.declared.frame.Frame.{Frame}
-use Rattle.printer.proofs.Noted.{folded-append}
+use Rattle.printer.proofs.BytesNoted.{folded-append}
 
 -- ---- quasis that wait: from place x on qs are held, and a stop behind them
 

@@ -19,9 +19,9 @@ use Rattle.printer.specs.Logged.{toldAt, eventsTo, deepTo, bytesOf, byte
 use Rattle.printer.specs.Stacks.{opensIn, heldIn, Buffer, write, bufferIn}
 use Rattle.printer.specs.Turns.{stateIn, unwritten, start, empty, Small, Ready, numberAfter, countAfter, Turned}
 use Rattle.printer.specs.declared.print.State.{State}
-use Rattle.printer.proofs.Noted.{folded-append}
+use Rattle.printer.proofs.BytesNoted.{folded-append}
 use Rattle.printer.proofs.Fold.{at, text-led}
-use Rattle.printer.proofs.Written.{write-append}
+use Rattle.printer.proofs.PiecesWritten.{write-append}
 
 -- ---- what was written stands before what is to be written
 

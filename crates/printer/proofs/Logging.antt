@@ -7,7 +7,7 @@ use native.Mathlib.Omega.{arith}
 use lib.Dec.{eqb}
 use lib.ListN.{length, set, List·getD-eq-default}
 use Rattle.tree.specs.Read.{byteAt}
-use Rattle.tree.proofs.Rows.{NoKey, no-key}
+use Rattle.tree.proofs.GrammarRows.{NoKey, no-key}
 use lib.Seq.{getD-set-same, getD-set-other}
 use borrow.Author.Tests.{eq-eqb, ne-eqb}
 use Rattle.rewritten.specs.Events.{Event}

@@ -14,7 +14,7 @@ use borrow.Author.Tests.{eq-eqb, ne-eqb}
 use Rattle.tree.proofs.Table.{both, below, below-at}
 use Rattle.printer.specs.Names.{nameBytes, entryIn, mayBegin, mayFollow, allFollow, bare, bitsOf, ruleBits, tableByte, tableFrom}
 use Rattle.printer.specs.Stacks.{EndIs}
-use Rattle.printer.proofs.Written.{part-step, part-end}
+use Rattle.printer.proofs.PiecesWritten.{part-step, part-end}
 
 -- ---- the table
 

@@ -29,7 +29,7 @@ use Rattle.printer.specs.Names.{decimal}
 use Rattle.printer.specs.Text.{Cell, noteOf, first, later, leftOver, aroundNode, afterPiece, heldNode, heldFields, heldPiece, heldItems, quasisFor, quasisAfter, textNode, textFields, textPiece, textItems, outside, textOf}
 use Rattle.printer.specs.Text.Cell.{quasi}
 use Rattle.printer.specs.declared.frame.Frame.{Frame}
-use Rattle.printer.proofs.Tables.{line-none}
+use Rattle.printer.proofs.LayoutNumbers.{line-none}
 use Rattle.printer.proofs.Bits.{lowest-even, lowest-odd, without-even, without-odd}
 use Rattle.printer.proofs.Most.{mosts, most, chosen-most, leadsOut, aroundMost, around-most, text-most, decimal-most, weight, weight-append, left-most, first-most}
 

@@ -24,14 +24,14 @@ use Rattle.rewritten.specs.declared.step.Event as told
 use Rattle.rewritten.specs.declared.step.Event.the-variants.{Begins, Ends, Opens, Closes, Hole, Text, Byte, Mark, Number}
 use Rattle.rewritten.proofs.Pass.{coming, onward, Inside, tour-of-tree, rest-next, rest-done}
 use Rattle.rewritten.proofs.Moves.{close-some}
-use Rattle.rewritten.proofs.Reader.{Reading, closes, closed-ends}
+use Rattle.rewritten.proofs.MarksReader.{Reading, closes, closed-ends}
 use Rattle.printer.specs.Machine as machine
 use Rattle.printer.specs.Machine.{note, notesNode}
 use Rattle.printer.specs.Turns.{numberAfter}
 use Rattle.printer.specs.Noted.{numbersIn, notedIn, Notable, Marked}
 use Rattle.printer.specs.Logged.{toldIn, toldAt, eventsTo, deepTo, bytesOf, bytesTo, Allowed, Sound, Logged, Recorded}
 use Rattle.printer.specs.declared.notes.Noting.{Noting}
-use Rattle.printer.proofs.Noted.{node-noted}
+use Rattle.printer.proofs.BytesNoted.{node-noted}
 use Rattle.printer.proofs.Logging.{at-kept, at-set, events-kept, deep-kept, bytes-kept}
 
 abbrev state : List ℕ → List ℕ → machine.Noting

@@ -14,7 +14,7 @@ use Rattle.printer.specs.Names.{bare, inQuotes}
 use Rattle.printer.specs.Places.{fieldIn, literalText, memberQuoted, memberName, keyName, spelled}
 use Rattle.printer.specs.Stacks.{isEmpty, Buffer, put, write}
 use Rattle.printer.specs.declared.frame.Frame.{Frame}
-use Rattle.printer.proofs.Written.{write-append}
+use Rattle.printer.proofs.PiecesWritten.{write-append}
 
 not-both : (b : Bool) → b ≡ true → b ≡ false → ⊥
 not-both true t f = let z : _≡_ {A = ℕ} 0 1 = cc in omega arith

@@ -1,2 +1,2 @@
 pub mod Uncleared
-pub mod Entry
+pub mod LoweringEntry

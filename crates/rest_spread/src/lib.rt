@@ -18,7 +18,7 @@ ghost use Rattle.tree.specs.Grammar.Stage.{input};
 ghost use Rattle.tree.specs.Read.{readTree};
 ghost use Rattle.tree.specs.Read.Got.{got};
 ghost use Rattle.tree.specs.WellFormed.{Bytes};
-ghost use Rattle.tree.proofs.Noted.{Noted};
+ghost use Rattle.tree.proofs.NotesKnown.{Noted};
 ghost use Rattle.lowering.specs.Answer.{Result, highestLimit, limitRefused, afterReading, outcomeOf, outcome};
 ghost use Rattle.rest_spread.specs.Entry.{lentOf, handedBack};
 

@@ -19,12 +19,12 @@ use Rattle.lowering.specs.Patterns.Shape.{objectPattern, leaf}
 use Rattle.lowering.specs.Assignments.{target, assigned, nearest, partsOf, outermost, partsReplaced, targetLeft, fromReference, topSequence, topEntry, topExcludes, nestedSequence, nestedEntry}
 use Rattle.lowering.proofs.Cases.{by-shape, object-is, array-is, default-is}
 use Rattle.lowering.proofs.Clauses.{replaced-leaf}
-use Rattle.result.proofs.Rows.{covers, at-places, no-kind}
+use Rattle.result.proofs.PlaceRows.{covers, at-places, no-kind}
 use Rattle.result.proofs.Lies.{Texts, Lies, LieFields, LiePiece, LieItems, make, moved, may-stand, lies-append, lies-only, lies-each, lies-gather, lies-if}
-use Rattle.result.proofs.PatternViews.{fields-at, of-kind}
+use Rattle.result.proofs.LyingPatterns.{fields-at, of-kind}
 use Rattle.result.proofs.Expressions.{Takes, takes-3, takes-27, form-27, temporary-lies, sequence-lies, assign-lies}
-use Rattle.result.proofs.Patterns.{values-lies, properties-of, value-of, rest-of, reference-lies, replaced-lies, parts-lie, nearest-lie}
-use Rattle.result.proofs.Keys.{same-shape, bound, keyTemporaries-lie, taken-lies, restValue-lies, excludedFor-lies}
+use Rattle.result.proofs.PatternsLie.{values-lies, properties-of, value-of, rest-of, reference-lies, replaced-lies, parts-lie, nearest-lie}
+use Rattle.result.proofs.KeysLie.{same-shape, bound, keyTemporaries-lie, taken-lies, restValue-lies, excludedFor-lies}
 
 -- ---- 27 Assignment(op= left right)
 
@@ -116,7 +116,7 @@ module _ (c : Context) where
         (same-shape _ (target n) o)
 
     value-target : Lies T 19 (valueOf c (target n))
-    value-target = Lies.named {stem = 3} (Rattle.result.proofs.PatternViews.temporary-form true false) (omega arith) (omega arith)
+    value-target = Lies.named {stem = 3} (Rattle.result.proofs.LyingPatterns.temporary-form true false) (omega arith) (omega arith)
 
     value-bound : Lies T 15 (valueOf c (target n))
     value-bound = bound c {stem = 3} (omega arith) (omega arith)

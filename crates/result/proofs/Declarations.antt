@@ -18,13 +18,13 @@ use Rattle.lowering.specs.Declarations.{isName, source, sourceDeclarator, keysB
 use Rattle.lowering.proofs.Cases.{by-test, by-shape, and-left}
 use Rattle.lowering.proofs.All.{AllItems, all-append, all-gather, all-cond}
 use Rattle.lowering.proofs.Clauses.{objects-object, objects-array, objects-default, objects-leaf}
-use Rattle.result.proofs.Rows.{covers, at-places, no-kind, lone, form-4}
+use Rattle.result.proofs.PlaceRows.{covers, at-places, no-kind, lone, form-4}
 use Rattle.result.proofs.Valued.{declaration-shown}
 use Rattle.result.proofs.Lies.{Texts, make-shown, shown-of, Lies, LieFields, LiePiece, LieItems, moved, changed, may-stand, list-at, node-at, stands-at, lies-append, lies-only, lies-gather, lies-if, all-of}
-use Rattle.result.proofs.PatternViews.{patternAt, fields-at, of-kind}
+use Rattle.result.proofs.LyingPatterns.{patternAt, fields-at, of-kind}
 use Rattle.result.proofs.Expressions.{takes-3, temporary-lies}
-use Rattle.result.proofs.Patterns.{values-lies, object-whole, properties-of, items-of, value-of, left-whole, rest-of, replaced-lies}
-use Rattle.result.proofs.Keys.{same-shape, declares-lies, bound, keyTemporaries-lie, taken-lies, restValue-lies, excludedFor-lies}
+use Rattle.result.proofs.PatternsLie.{values-lies, object-whole, properties-of, items-of, value-of, left-whole, rest-of, replaced-lies}
+use Rattle.result.proofs.KeysLie.{same-shape, declares-lies, bound, keyTemporaries-lie, taken-lies, restValue-lies, excludedFor-lies}
 
 -- a name that binds is a pattern that binds
 pub binding-of : {T : Texts} {n : Node} → Lies T 16 n → Lies T 15 n

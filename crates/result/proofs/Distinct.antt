@@ -28,7 +28,7 @@ use Rattle.result.specs.Left.{keepsRest}
 use Rattle.result.specs.Left.{anyOf}
 use Rattle.result.proofs.Occurring.{any-split}
 use Rattle.result.specs.Marks.{hasAny, holdsMark, copiesAt}
-use Rattle.result.proofs.Rows.{own-form, input-form}
+use Rattle.result.proofs.PlaceRows.{own-form, input-form}
 use Rattle.result.proofs.Lies.{not-20}
 use Rattle.result.proofs.Weighed.{isCopied, weigh, weighAll, weighPiece, weighItems, keysIn, keysItems, sourcesIn, sourcesItems, keys-by, sources-by, ofKey, key-by, source-by, piece-most, at-most, list-most}
 use Rattle.result.proofs.Copies.{Measure}

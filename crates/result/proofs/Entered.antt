@@ -26,9 +26,9 @@ use Rattle.lowering.proofs.Cases.{by-test, and-left, and-right}
 use Rattle.lowering.proofs.All.{AllItems, AllPiece, AllFields, Each, weaker-each, weaker-piece}
 use Rattle.lowering.proofs.Weights.{weight-pos}
 use Rattle.lowering.proofs.Falls.{falls}
-use Rattle.result.proofs.Rows.{lone, own-form, plainly, allRows}
+use Rattle.result.proofs.PlaceRows.{lone, own-form, plainly, allRows}
 use Rattle.result.proofs.Lies.{Texts, Lies, LieFields, LiePiece, LieItems, apart, may-stand}
-use Rattle.result.proofs.Places.{place-passes}
+use Rattle.result.proofs.PatternPlaces.{place-passes}
 use Rattle.result.proofs.Distinct.{isLeaf, areLeaves}
 use Rattle.result.proofs.Rules.{leaves}
 use Rattle.result.proofs.Comes.{no-refusal, no-refusal-here, not-refused}

@@ -23,7 +23,7 @@ use Rattle.lowering.proofs.Cases.{by-test, and-left}
 use Rattle.lowering.proofs.All.{AllItems}
 use Rattle.result.specs.Handed.{hasKey, isKeyOf, KeysOf}
 use Rattle.result.specs.Left.{keepsRest}
-use Rattle.result.proofs.Rows.{lone}
+use Rattle.result.proofs.PlaceRows.{lone}
 use Rattle.result.proofs.Lies.{Texts, Lies, LieFields, LiePiece, LieItems, apart, may-stand}
 use Rattle.result.proofs.Handing.{EntriesLie}
 use Rattle.result.proofs.Searched.{any-some}

@@ -13,13 +13,13 @@ use Rattle.tree.specs.Tree.Piece.{list}
 use Rattle.tree.specs.Grammar.{among}
 use Rattle.tree.specs.Read.Got.{got}
 use Rattle.rewritten.specs.Rewritten.{distinct, readRewritten}
-use Rattle.rewritten.proofs.Rewritten.{marks-placed, marks-placed-items}
+use Rattle.rewritten.proofs.RewrittenExact.{marks-placed, marks-placed-items}
 use Rattle.lowering.specs.Collect.{Entry, over}
 use Rattle.equal.specs.Equal.{entryEncoded, listEncoded}
 use Rattle.joining.specs.List.{handed, readHanded, innerMarks, placedEntries, placedHanded, FitHanded}
 use Rattle.joining.specs.Join.{isContainer, ownMark, firstMark, foundBy, asList, found, foundFields, foundPiece, foundItems, joinedTree}
 use Rattle.joining.specs.Answer.{Outcome, taken, allFound, outcome, answerOf}
-use Rattle.joining.proofs.Complete.{list-complete}
+use Rattle.joining.proofs.ListExact.{list-complete}
 
 -- ---- positions play no part in marks
 

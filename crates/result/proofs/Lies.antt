@@ -21,7 +21,7 @@ use Rattle.lowering.specs.Made.{temporary}
 use Rattle.lowering.specs.Numbers.{numberString}
 use Rattle.result.specs.Causes.{Cause, shows, Within, Without}
 use Rattle.result.specs.Texts.{TextIn, TextInFields, TextInPiece, TextInItems}
-use Rattle.result.proofs.Rows.{row-at, input-form}
+use Rattle.result.proofs.PlaceRows.{row-at, input-form}
 use Rattle.tree.specs.Grammar.{allowed, places, formIn, kindOf}
 use borrow.Author.Tests.{eqb-true}
 use Rattle.lowering.proofs.Cases.{by-test}

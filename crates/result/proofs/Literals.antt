@@ -13,7 +13,7 @@ use Rattle.lowering.specs.Made.{S}
 use Rattle.lowering.specs.Literals.{Call, opened, closed, scan, literal}
 use Rattle.lowering.proofs.Cases.{by-test}
 use Rattle.result.proofs.Lies.{Texts, Lies, LieItems, lies-only, lies-append, may-stand, list-at, node-at, stands-at}
-use Rattle.result.proofs.PatternViews.{fields-at, of-kind}
+use Rattle.result.proofs.LyingPatterns.{fields-at, of-kind}
 use Rattle.result.proofs.Expressions.{Takes, takes-24, form-24, takes-13, argument, object-lies, S-lies}
 
 -- the call so far, wherever it is put

@@ -19,7 +19,7 @@ use Rattle.equal.specs.Equal.{entryEncoded}
 use Rattle.joining.specs.List.{FitDeclarators, FitEntries}
 use Rattle.joining.proofs.Agree.{count-short}
 use Rattle.result.proofs.Lies.{Texts, Lies, LieFields, LiePiece, LieItems}
-use Rattle.result.proofs.Fitting.{temporary-fits}
+use Rattle.result.proofs.WrittenFits.{temporary-fits}
 use Rattle.result.proofs.Bounds.{names, names-append, name-here, no-name-here}
 use Rattle.result.proofs.Handing.{EntriesLie}
 

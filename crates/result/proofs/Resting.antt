@@ -21,22 +21,22 @@ use Rattle.lowering.proofs.Cases.{by-test, by-shape, and-left, and-right, or-ot
 use Rattle.lowering.proofs.All.{AllItems, none-passes}
 use Rattle.lowering.proofs.PartsAt.{item-at}
 use Rattle.result.specs.Left.{keepsRest, Below, isRestField, Section, Exception}
-use Rattle.result.proofs.Rows.{covers, at-places, form-4, form-7, form-8, form-10, form-17}
+use Rattle.result.proofs.PlaceRows.{covers, at-places, form-4, form-7, form-8, form-10, form-17}
 use Rattle.result.proofs.Lies as lie
 use Rattle.result.specs.Causes.{Cause, lacksValue, shows, causeOf, Without, Caused}
 use Rattle.result.proofs.Occurring.{occurs-unless}
 use Rattle.result.proofs.Lies.{ofTree, Texts, shown-of, Lies, LieFields, fields-of, sortAt, may-stand}
-use Rattle.result.proofs.PatternViews.{array-rest, wholeAt, valueAt, propertyAt, leafAt, patternAt, formOf, objectFields, propertyFields, arrayFields, defaultFields, object-fields, property-fields, array-fields, default-fields, object-form, property-form, array-form, default-form, property-only, no-default-whole, fields-at, of-kind}
+use Rattle.result.proofs.LyingPatterns.{array-rest, wholeAt, valueAt, propertyAt, leafAt, patternAt, formOf, objectFields, propertyFields, arrayFields, defaultFields, object-fields, property-fields, array-fields, default-fields, object-form, property-form, array-form, default-form, property-only, no-default-whole, fields-at, of-kind}
 use Rattle.result.proofs.Expressions.{takes-27, form-27}
 use Rattle.result.proofs.Assignments.{target-of}
 use Rattle.result.proofs.Declarations.{declarator-fields}
-use Rattle.result.proofs.Heads.{boundFields, param-fields, functionFields, FunctionForm, function-forms, forFields, head-target}
+use Rattle.result.proofs.HeadsLie.{boundFields, param-fields, functionFields, FunctionForm, function-forms, forFields, head-target}
 use Rattle.result.proofs.Rules.{leaves}
 use Rattle.result.proofs.Comes.{Comes, Left, ComeFields}
 use Rattle.result.proofs.Settled.{Taken, Still, Settled, settled}
 use Rattle.result.proofs.Standing.{come-field, held, left-kind}
 use Rattle.result.proofs.Searched.{part-depth, Found, found-here, found-value, found-item, found-rest, found-left}
-use Rattle.result.proofs.Places.{isOutside, outSort, leads, outside-tidy, isQuiet, quiet-left, SortLies, lie-sort, out-place, leaf-out, by-node}
+use Rattle.result.proofs.PatternPlaces.{isOutside, outSort, leads, outside-tidy, isQuiet, quiet-left, SortLies, lie-sort, out-place, leaf-out, by-node}
 
 -- ---- what the walk leaves of a node, at its place
 
@@ -251,11 +251,11 @@ data Bound (T : Texts) : Node → Type 0 where
 
 declarator-kind : {T : Texts} (x : Node) → Lies T 4 x → kind x ≡ 5
 unfolding allowed places also among kindOf
-declarator-kind x l = Rattle.result.proofs.Rows.lone 4 5 (kind x) refl (may-stand l)
+declarator-kind x l = Rattle.result.proofs.PlaceRows.lone 4 5 (kind x) refl (may-stand l)
 
 param-kind : {T : Texts} (x : Node) → Lies T 7 x → kind x ≡ 15
 unfolding allowed places also among kindOf
-param-kind x l = Rattle.result.proofs.Rows.lone 7 15 (kind x) refl (may-stand l)
+param-kind x l = Rattle.result.proofs.PlaceRows.lone 7 15 (kind x) refl (may-stand l)
 
 declarator-bound : {T : Texts} (x : Node) → Lies T 4 x → Bound T x
 declarator-bound (node at k fs) l = Bound.bound {k = k} (rw (declarator-kind (node at k fs) l) refl) (declarator-fields Rattle.lowering.specs.Answer.top l)

@@ -18,12 +18,12 @@ use Rattle.lowering.specs.Assignments.{target, isTop, topRefusal}
 use Rattle.lowering.specs.Walk.{Step, rewrite, stepDeclaration, stepTop, stepAssignment, stepFor}
 use Rattle.lowering.proofs.Clauses.{top-34, top-rest}
 use Rattle.lowering.proofs.Cases.{by-number, by-test, shape-34}
-use Rattle.result.proofs.Rows.{form-7, form-8}
+use Rattle.result.proofs.PlaceRows.{form-7, form-8}
 use Rattle.result.proofs.Lies.{Texts, isMade, Lies, LieItems, may-stand}
 use Rattle.result.proofs.Literals.{literal-lies}
 use Rattle.result.proofs.Declarations.{declaration-lies, declarationExcludes-lie}
 use Rattle.result.proofs.Assignments.{assignment-view, assignment-takes, target-lies, value-lies, top-lies, topEntry-lies, topExcludes-lie, nested-lies, nestedEntry-lies}
-use Rattle.result.proofs.Heads.{function-lies, arrow-lies, catch-lies, declaring-lies, assigning-head-lies}
+use Rattle.result.proofs.HeadsLie.{function-lies, arrow-lies, catch-lies, declaring-lies, assigning-head-lies}
 use Rattle.result.proofs.ByRule.{by-rules}
 
 -- what a step leaves and hands out

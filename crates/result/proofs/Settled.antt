@@ -25,17 +25,17 @@ use Rattle.lowering.specs.Walk.{Step, rewrite, stepDeclaration, stepTop, stepAs
 use Rattle.lowering.proofs.Cases.{by-number, by-test, by-shape, by-key}
 use Rattle.lowering.proofs.ItemLaws.{any-behind}
 use Rattle.lowering.proofs.All.{AllItems, all-append, all-gather, all-cond, all-each, none-passes, other-changed}
-use Rattle.result.proofs.Rows.{form-4, form-7, form-8, form-10, form-17}
+use Rattle.result.proofs.PlaceRows.{form-4, form-7, form-8, form-10, form-17}
 use Rattle.result.proofs.Lies.{Texts, Lies, LieFields, LiePiece, LieItems, may-stand, list-at, node-at, stands-at, all-of}
 use Rattle.lowering.proofs.Levels.{items-depth}
-use Rattle.result.proofs.PatternViews.{patternAt, PropertyView, DefaultView, property-view, fields-at}
-use Rattle.result.proofs.Patterns.{values-lies, replaced-lies, properties-of, items-of, value-of, left-whole, rest-of}
-use Rattle.result.proofs.Keys.{same-shape}
+use Rattle.result.proofs.LyingPatterns.{patternAt, PropertyView, DefaultView, property-view, fields-at}
+use Rattle.result.proofs.PatternsLie.{values-lies, replaced-lies, properties-of, items-of, value-of, left-whole, rest-of}
+use Rattle.result.proofs.KeysLie.{same-shape}
 use Rattle.result.proofs.Declarations.{declarator-fields, inner-lies}
 use Rattle.result.proofs.Assignments.{name-shape}
-use Rattle.result.proofs.Heads.{boundFields, param-fields, functionFields, FunctionForm, function-forms, forFields}
+use Rattle.result.proofs.HeadsLie.{boundFields, param-fields, functionFields, FunctionForm, function-forms, forFields}
 use Rattle.result.proofs.Valued.{changed-items}
-use Rattle.result.proofs.Taken.{by-default, leaf-clear, bare-clear, taken-clear, replaced-clear, movedOut-bare}
+use Rattle.result.proofs.NoRestLeft.{by-default, leaf-clear, bare-clear, taken-clear, replaced-clear, movedOut-bare}
 use Rattle.result.proofs.ByRule.{by-rules}
 
 -- a declarator with a value keeps rests below array rests alone; a parameter keeps none

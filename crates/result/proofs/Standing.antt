@@ -19,7 +19,7 @@ use Rattle.lowering.specs.Walk.{rewrite, ruleOf}
 use Rattle.lowering.proofs.Cases.{by-test, or-left, or-right}
 use Rattle.result.specs.Left.{keepsSpread}
 use Rattle.result.proofs.Lies.{Texts, Lies, LieFields, LiePiece, LieItems, fields-of, may-stand, list-at}
-use Rattle.result.proofs.PatternViews.{fields-at}
+use Rattle.result.proofs.LyingPatterns.{fields-at}
 use Rattle.result.proofs.Expressions.{takes-24, form-24}
 use Rattle.result.proofs.Rules.{leaves}
 use Rattle.result.proofs.Comes.{Comes, Left, ComeFields, ComePiece, ComeItems}

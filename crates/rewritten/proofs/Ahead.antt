@@ -24,8 +24,8 @@ use Rattle.rewritten.specs.declared.step.Event as told
 use Rattle.rewritten.specs.declared.step.Step.the-variants.{Next, Refused, Full}
 use Rattle.tree.specs.Look.{onward}
 use Rattle.tree.proofs.Look.{on-fits}
-use Rattle.tree.proofs.Rows.{NoKey, no-key}
-use Rattle.rewritten.proofs.Leaves as leaf
+use Rattle.tree.proofs.GrammarRows.{NoKey, no-key}
+use Rattle.rewritten.proofs.LeafEvents as leaf
 use Rattle.rewritten.proofs.Moves.{took-as, enter-wrong, enter-unfit, enter-inside, enter-node, full, enter-list-missing, enter-list, item-is-hole, leaf-took, top-node, top-list}
 
 -- what is pending may be said in another way

@@ -18,14 +18,14 @@ use Rattle.tree.specs.Grammar.Sort.{child, chosen}
 use Rattle.tree.specs.Read.{Got, mapped, joined, accepted, sortIn, byteAt, wideAt, chosenPlace, readItem, readItems, readList, readField, readSlot, readFields}
 use Rattle.tree.specs.Read.Got.{got, refused}
 use Rattle.tree.specs.Read.Refusal.{notATree}
-use Rattle.tree.proofs.Hold.{Holds, of-mapped, of-joined, weaker}
+use Rattle.tree.proofs.HoldsOfRead.{Holds, of-mapped, of-joined, weaker}
 use Rattle.tree.proofs.Within.{map-rest}
 use Rattle.rewritten.specs.Events.{Event, events, eventsFields, eventsPiece, eventsItems}
 use Rattle.rewritten.specs.Events.Event.{begins, ends, opens, closes}
 use Rattle.rewritten.specs.Pending.{Task, closing, byBit, standing, andThen, nodeIn, nodeComes, pieceComes, slotsCome, itemsCome, comes, pending}
 use Rattle.rewritten.specs.Pending.Task.{slots, items}
 use Rattle.rewritten.specs.Steps.{listSort}
-use Rattle.rewritten.proofs.Deep.{own-body}
+use Rattle.rewritten.proofs.NeverTooDeep.{own-body}
 
 -- ---- events and then more
 

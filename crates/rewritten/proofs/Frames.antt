@@ -12,7 +12,7 @@ use lib.ListN.{length}
 use borrow.Author.Tests.{eq-eqb, ne-eqb}
 use Rattle.tree.specs.Grammar.{Sort, Field, kinds, variants, fieldsOf}
 use Rattle.tree.specs.Rows.{sortOf, unpacked, fieldsIn}
-use Rattle.tree.proofs.Rows.{row-done, row-first, first-sort}
+use Rattle.tree.proofs.GrammarRows.{row-done, row-first, first-sort}
 use Rattle.tree.proofs.Within.{at-form, all-lists}
 use Rattle.rewritten.specs.Pending.{byBit, standing, sorts}
 use Rattle.rewritten.specs.Steps.{Planned}

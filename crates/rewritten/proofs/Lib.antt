@@ -1,11 +1,11 @@
-pub mod Deep
+pub mod NeverTooDeep
 pub mod Coming
-pub mod Leaves
-pub mod Forms
+pub mod LeafEvents
+pub mod RewrittenForms
 pub mod Frames
 pub mod Moves
 pub mod Ahead
 pub mod Pass
 pub mod Marks
-pub mod Reader
-pub mod Rewritten
+pub mod MarksReader
+pub mod RewrittenExact

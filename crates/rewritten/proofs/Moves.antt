@@ -18,7 +18,7 @@ use Rattle.tree.specs.Read.{Got, mapped, byteAt, wideAt, chosenPlace}
 use Rattle.tree.specs.Read.Got.{got, refused}
 use Rattle.tree.specs.Read.Refusal.{notATree}
 use Rattle.tree.specs.Answer.{Peeked, Wide}
-use Rattle.tree.proofs.Rows.{NoKey, no-key}
+use Rattle.tree.proofs.GrammarRows.{NoKey, no-key}
 use Rattle.tree.proofs.Within.{map-byte, known}
 use Rattle.rewritten.specs.Events.{Event}
 use Rattle.rewritten.specs.Events.Event.{begins, opens, closes}

@@ -20,7 +20,7 @@ use Rattle.tree.specs.Grammar.Field.{must}
 use Rattle.tree.specs.Read.{Got, sortIn, byteAt, wideAt, readNode, readTree, whole, longest}
 use Rattle.tree.specs.Read.Got.{got, refused}
 use Rattle.tree.specs.Look.{Seen, seen, seenAs, seenBoth, onward, lookItems, lookField, lookSlot, lookFields, pieceIn, ifStands, seekFields}
-use Rattle.tree.proofs.Hold.{Holds, holds, of-accepted}
+use Rattle.tree.proofs.HoldsOfRead.{Holds, holds, of-accepted}
 use Rattle.tree.proofs.Within.{there}
 use Rattle.tree.proofs.Skipping.{step-fits}
 

@@ -23,10 +23,10 @@ use Rattle.tree.specs.declared.read.Answer.the-variants.{Read, Refused}
 use Rattle.tree.specs.declared.read.Part.{Part}
 use Rattle.tree.specs.declared.read.Part.the-variants as part
 use Rattle.tree.proofs.AnswerByNumber.{answer, answers-by, answer-is}
-use Rattle.tree.proofs.Hold.{Holds, of-accepted}
+use Rattle.tree.proofs.HoldsOfRead.{Holds, of-accepted}
 use Rattle.tree.proofs.Within.{wide-there, map-byte}
 use Rattle.tree.proofs.Look.{layouts, form-alike, kind-at, on-fits, on-byte, on-wide}
-use Rattle.tree.proofs.Reader.{node-fields}
+use Rattle.tree.proofs.ReaderCycle.{node-fields}
 use Rattle.tree.proofs.Noting.{fill-none}
 use Rattle.tree.proofs.Passed.{fields-alike}
 

@@ -23,13 +23,13 @@ use Rattle.tree.specs.Read.Refusal.{tooDeep}
 use Rattle.tree.specs.WellFormed.{Bytes, Fits, Counts}
 use Rattle.tree.specs.Look.{lookFields, Seen, seen, seenAs, onward, quietAt, lookItem, lookItems, lookField, lookSlot, lookNode}
 use Rattle.tree.proofs.Within.{there, wide-there, map-byte}
-use Rattle.tree.proofs.Hold.{Holds, holds, of-mapped, of-accepted, of-joined, weaker}
+use Rattle.tree.proofs.HoldsOfRead.{Holds, holds, of-mapped, of-accepted, of-joined, weaker}
 use Rattle.tree.proofs.Sound.{Stands, SoundNode, SoundPiece, one-byte, two-bytes, field-sound, node-sound, bytes-at, sound}
 use Rattle.tree.proofs.Look.{layout, layouts, form-alike, kind-at, on-fits, on-byte, on-wide, slot-alike}
 use Rattle.tree.specs.Note.{Note, loud, noteOf, notesOf, notesFields, notesPiece, notesItems}
 use Rattle.tree.proofs.Laid.{All, all-left, all-right, all-map, all-join, Between}
-use Rattle.tree.proofs.Noted.{Noted}
-use Rattle.tree.proofs.Told.{Known, node-looks, field-looks, accepted-stands, fields-stand}
+use Rattle.tree.proofs.NotesKnown.{Noted}
+use Rattle.tree.proofs.EndsTold.{Known, node-looks, field-looks, accepted-stands, fields-stand}
 use Rattle.lowering.specs.Parts.{pieceIn}
 use Rattle.lowering.specs.Collect.{isContainer, marked}
 use Rattle.lowering.proofs.Cases.{by-test, and-left, and-right, or-other}

@@ -11,7 +11,7 @@ use Rattle.tree.specs.Tree.{Node, encode}
 use Rattle.tree.specs.Grammar.Stage.{input}
 use Rattle.tree.specs.Read.{Got, byteAt, readNode}
 use Rattle.tree.specs.Read.Got.{got, refused}
-use Rattle.tree.proofs.Hold.{Holds, holds}
+use Rattle.tree.proofs.HoldsOfRead.{Holds, holds}
 use Rattle.tree.proofs.Sound.{SoundNode, node-sound}
 use Rattle.sink.specs.Machine.{part}
 

@@ -14,7 +14,7 @@ use Rattle.tree.specs.Read.{byteAt, wideAt, sortIn}
 use Rattle.tree.specs.Rows.{fieldsIn, fieldOf, sortOf, sortFrom, unpacked}
 use Rattle.tree.specs.Look.{Seen, onward, quietAt, lookItem, lookItems, lookField, lookSlot, lookFields, lookNode}
 use Rattle.tree.specs.Answer.{Peeked, Wide}
-use Rattle.tree.proofs.Rows.{NoKey, no-key, row-done, row-first, first-sort}
+use Rattle.tree.proofs.GrammarRows.{NoKey, no-key, row-done, row-first, first-sort}
 use Rattle.tree.specs.Look as Look
 use Rattle.lowering.specs.Collect.{isContainer}
 use Rattle.lowering.specs.Parts.{kind, is}

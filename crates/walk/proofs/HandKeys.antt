@@ -54,7 +54,7 @@ use Rattle.walk.proofs.Running.{does-then, does-nothing, does-as}
 use Rattle.walk.proofs.Opened.{position-here, good-copied, good-short, good-within, object-open, property-key}
 use Rattle.walk.proofs.Hands.{at-level, list-from}
 use Rattle.walk.proofs.Lookups.{cell-within, classOf, class-name, class-here, key-class, isString}
-use Rattle.walk.proofs.Sources.{Spelt, entryText, name-spelt, form-spelt, bare-spelt, string-is}
+use Rattle.walk.proofs.SourcesRead.{Spelt, entryText, name-spelt, form-spelt, bare-spelt, string-is}
 
 -- ---- cells
 

@@ -34,7 +34,7 @@ use Rattle.direct.specs.Objects.Reach.{straight, inArrays}
 use Rattle.direct.specs.Handed.{placeMade, keysMade, excludesOf, handsKeys, handsPlace, otherKeys, placesIn, partsCount, declaratorMade, declaratorExcludes, handsTop, handsNested}
 use Rattle.direct.proofs.Threads.{then-assoc, say-nothing}
 use Rattle.direct.proofs.HandedByObject.{keys-counted}
-use Rattle.direct.proofs.Reached.{over-parts, over-arrays, over-anywhere, parts-reached}
+use Rattle.direct.proofs.NearestObjects.{over-parts, over-arrays, over-anywhere, parts-reached}
 use Rattle.walk.specs.declared.views.View as views
 use Rattle.walk.specs.declared.views.View.the-variants.{Replacing, Taking}
 use Rattle.walk.specs.declared.reaches.Reach.the-variants.{Anywhere, Straight, InArrays}

@@ -29,7 +29,7 @@ use Rattle.pattern.specs.Parts.{partAt, textIn, standing}
 use Rattle.pattern.specs.Numbers.{spelledAs, isStringOf}
 use Rattle.pattern.specs.Keys.{nameIn, formIn, besideForm, literalBy, literalIn, literalAt, keyBy, keyAt, Becomes}
 use Rattle.pattern.specs.Tally.{limited}
-use Rattle.pattern.proofs.Places.{kind-is}
+use Rattle.pattern.proofs.NodeParts.{kind-is}
 use Rattle.pattern.proofs.CappedSums.{numbers, Adds, listSum, sum-start, sum-more, sum-end}
 use Rattle.pattern.proofs.MovesCounted.{count-sum}
 use Rattle.direct.specs.Events.{cell}

@@ -17,7 +17,7 @@ use Rattle.direct.specs.Views.View.{replacing, taking}
 use Rattle.direct.specs.Objects.{Reach, counts, enters, reachedAt, reached}
 use Rattle.direct.specs.Objects.Reach.{anywhere, inArrays}
 use Rattle.direct.specs.Handed.{placesIn}
-use Rattle.direct.proofs.Reached.{reached-nothing, outermost-reached}
+use Rattle.direct.proofs.NearestObjects.{reached-nothing, outermost-reached}
 
 -- ---- no more below arrays than anywhere
 

@@ -25,7 +25,7 @@ use Rattle.direct.specs.Views.View.{replacing, taking}
 use Rattle.direct.specs.Objects.{objectsIn, overObjects, Reach, enters, reachedAt, overReached}
 use Rattle.direct.specs.Objects.Reach.{anywhere}
 use Rattle.direct.specs.Declared.{emitsFound}
-use Rattle.direct.proofs.PatternViews.{keptKey-is}
+use Rattle.direct.proofs.ViewedPatterns.{keptKey-is}
 use Rattle.direct.proofs.Targets.{replaced-nothing}
 use Rattle.walk.specs.Run.{Going, Does}
 use Rattle.walk.specs.Whole.{Good, Emitted}

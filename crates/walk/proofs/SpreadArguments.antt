@@ -19,7 +19,7 @@ use Rattle.direct.proofs.Threads.{then-assoc}
 use Rattle.direct.proofs.LiteralsInOrder.{emits-spreads, emits-literal}
 use Rattle.lowering.specs.Collect.{isContainer}
 use Rattle.tree.specs.Answer.{Wide}
-use Rattle.walk.proofs.Heads.{run-bound, object-fields, no-object-fields}
+use Rattle.walk.proofs.LiteralHeads.{run-bound, object-fields, no-object-fields}
 use Rattle.walk.proofs.Emits.{good-none}
 use Rattle.direct.specs.Literals.{isSpread, run, part, parts, pendingHead, heads, spreads}
 use Rattle.walk.specs.Run.{Going, Does}

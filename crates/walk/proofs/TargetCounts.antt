@@ -18,7 +18,7 @@ use Rattle.pattern.specs.declared.parts.Place.{Place}
 use Rattle.pattern.specs.declared.parts.Run.{Run}
 use Rattle.pattern.specs.Parts.{partAt, placeOf, runOf, nodeHere, itemPlace}
 use Rattle.pattern.specs.Tally.{limited}
-use Rattle.pattern.proofs.Places.{Blank, child-is, object-list, array-list, kind-is, no-levels}
+use Rattle.pattern.proofs.NodeParts.{Blank, child-is, object-list, array-list, kind-is, no-levels}
 use Rattle.pattern.proofs.Below as below
 use Rattle.pattern.proofs.Below.{gather-values, gather-free, node-free}
 use Rattle.pattern.proofs.Searches.{leaf-shape}
@@ -27,7 +27,7 @@ use Rattle.pattern.proofs.MovesCounted.{count-sum}
 use Rattle.pattern.proofs.CountsFit.{limited-below}
 use Rattle.direct.specs.Objects.{Reach, counts, enters, reachedAt, reached, reachedIn}
 use Rattle.direct.specs.Objects.Reach.{anywhere}
-use Rattle.direct.proofs.Reached.{reached-nothing, reached-levels}
+use Rattle.direct.proofs.NearestObjects.{reached-nothing, reached-levels}
 use Rattle.walk.specs.Turns.{reachOf, valuesCount}
 use Rattle.walk.specs.declared.reaches.Reach as reaches
 use Rattle.walk.specs.declared.reaches.Reach.the-variants.{Anywhere}

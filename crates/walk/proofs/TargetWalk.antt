@@ -22,7 +22,7 @@ use Rattle.direct.specs.Views.{objectRestAt}
 use Rattle.direct.specs.Objects.{counts, enters, overReached}
 use Rattle.direct.specs.Objects.Reach.{anywhere}
 use Rattle.direct.specs.Handed.{handsPlace}
-use Rattle.direct.proofs.Reached.{reach-over-object, reach-over-rest, reach-over-array, reach-over-default, reach-over-leaf}
+use Rattle.direct.proofs.NearestObjects.{reach-over-object, reach-over-rest, reach-over-array, reach-over-default, reach-over-leaf}
 use Rattle.walk.specs.declared.reaches.Reach as reaches
 use Rattle.walk.specs.declared.reaches.Reach.the-variants.{Anywhere}
 use Rattle.walk.specs.Run.{Going, Does}

@@ -19,7 +19,7 @@ use Rattle.direct.specs.Emit.{say, _▷_, inner}
 use Rattle.direct.specs.Views.{View, takes, objectRestAt, eachDoes, saysCell, emitsView, emitsProperty, isOther, emitsKey}
 use Rattle.direct.specs.Views.View.{replacing, taking}
 use Rattle.direct.proofs.Threads.{then-assoc, say-puts}
-use Rattle.direct.proofs.PatternViews.{view-object, view-replaced, view-rest, view-array, view-array-rest, view-default, view-leaf, view-property}
+use Rattle.direct.proofs.ViewedPatterns.{view-object, view-replaced, view-rest, view-array, view-array-rest, view-default, view-leaf, view-property}
 use Rattle.walk.specs.declared.modes.Mode.{Mode}
 use Rattle.walk.specs.declared.modes.Mode.the-variants as modes
 use Rattle.walk.specs.declared.views.View as views
@@ -30,7 +30,7 @@ use Rattle.walk.specs.Turns.{viewOf}
 use Rattle.walk.proofs.Running.{does-then, does-as, does-to}
 use Rattle.walk.proofs.SpreadArguments.{does-from}
 use Rattle.walk.proofs.Opened.{look-solid, ObjectOpen, ArrayOpen, leaf-here, no-good, object-open, array-open, property-open, default-open}
-use Rattle.walk.proofs.Turning.{Sequenced, sequenced-as, turns-viewed, turns-property, suit-viewed, suit-property}
+use Rattle.walk.proofs.ListTurns.{Sequenced, sequenced-as, turns-viewed, turns-property, suit-viewed, suit-property}
 
 -- ---- views
 

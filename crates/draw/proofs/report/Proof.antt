@@ -2,7 +2,7 @@
 -- Assumes nothing.
 use mathlib.Core.Path.{sym}
 use lib.Seq.{length-take-le}
-use Rattle.drawing.proofs.Entry.{handed-within}
+use Rattle.drawing.proofs.DrawingEntry.{handed-within}
 use borrow.Author.Needs.{needs}
 use Rattle.draw.proofs.report.Statement.{statement}
 use Rattle.draw.proofs.report.Tie as tie

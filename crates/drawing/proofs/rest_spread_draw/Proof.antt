@@ -1,5 +1,5 @@
 use borrow.Author.Needs.{needs}
-use Rattle.drawing.proofs.Entry as law
+use Rattle.drawing.proofs.DrawingEntry as law
 use Rattle.drawing.proofs.rest_spread_draw.Statement.{statement}
 use Rattle.drawing.proofs.rest_spread_draw.Tie as tie
 

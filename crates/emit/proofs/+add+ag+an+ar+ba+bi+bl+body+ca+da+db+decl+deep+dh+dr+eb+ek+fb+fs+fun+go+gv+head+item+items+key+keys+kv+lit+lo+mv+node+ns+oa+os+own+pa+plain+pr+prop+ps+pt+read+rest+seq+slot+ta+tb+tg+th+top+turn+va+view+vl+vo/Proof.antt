@@ -21,8 +21,8 @@ use Rattle.walk.proofs.Emits.{good-none}
 use Rattle.direct.specs.Literals as literals
 use Rattle.walk.proofs.SpreadArguments as args
 use Rattle.walk.proofs.SmallSteps as steps
-use Rattle.walk.proofs.Heads as heads
-use Rattle.walk.proofs.Sources as sources
+use Rattle.walk.proofs.LiteralHeads as heads
+use Rattle.walk.proofs.SourcesRead as sources
 use Rattle.walk.proofs.HandRules as hands
 use Rattle.walk.proofs.TargetCounts.{values-object}
 use Rattle.walk.proofs.Running as running
@@ -56,8 +56,8 @@ use Rattle.tree.proofs.skip.step.Reads as step-reads
 use Rattle.emit.proofs.Excluding as excluding
 use Rattle.walk.proofs.Viewing as viewing
 use Rattle.walk.proofs.QuietValues as quiets
-use Rattle.walk.proofs.Turning as turning
-use Rattle.walk.proofs.Told as told
+use Rattle.walk.proofs.ListTurns as turning
+use Rattle.walk.proofs.RootTold as told
 use Rattle.walk.proofs.Lookups.{denied, undenied}
 use Rattle.pattern.proofs.keys.all_primitive.Reads as all-primitive-reads
 use Rattle.pattern.proofs.keys.excluded_keys.Reads as excluded-keys-reads

@@ -2,7 +2,7 @@
 -- Assumes nothing.
 use mathlib.Core.Path.{sym}
 use lib.Seq.{length-take-le}
-use Rattle.rest_spread.proofs.Entry.{handed-within}
+use Rattle.rest_spread.proofs.LoweringEntry.{handed-within}
 use borrow.Author.Needs.{needs}
 use Rattle.lower.proofs.report.Statement.{statement}
 use Rattle.lower.proofs.report.Tie as tie

@@ -9,7 +9,7 @@ use Rattle.printer.specs.Outcome.{refusal}
 use Rattle.printer.specs.Stacks.{write, bufferIn}
 use Rattle.printer.specs.Text.{textOf}
 use Rattle.printer.specs.Turns.{empty}
-use Rattle.printer.proofs.Entry as law
+use Rattle.printer.proofs.PrintingEntry as law
 use borrow.Author.Needs.{needs}
 use Rattle.printer.proofs.both_passes.Statement.{statement}
 use Rattle.printer.proofs.both_passes.Tie as tie

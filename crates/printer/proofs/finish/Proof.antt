@@ -1,4 +1,4 @@
-use Rattle.printer.proofs.Entry as law
+use Rattle.printer.proofs.PrintingEntry as law
 use borrow.Author.Tests.{eq-eqb, ne-eqb}
 use borrow.Author.Needs.{needs}
 use Rattle.printer.proofs.finish.Statement.{statement}

@@ -1,4 +1,4 @@
-use Rattle.printer.proofs.Entry as law
+use Rattle.printer.proofs.PrintingEntry as law
 use borrow.Author.Needs.{needs}
 use Rattle.printer.proofs.rest_spread_text.Statement.{statement}
 use Rattle.printer.proofs.rest_spread_text.Tie as tie

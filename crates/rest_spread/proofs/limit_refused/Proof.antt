@@ -1,4 +1,4 @@
-use Rattle.rest_spread.proofs.Entry as law
+use Rattle.rest_spread.proofs.LoweringEntry as law
 use Rattle.rest_spread.proofs.limit_refused.Statement.{statement}
 use Rattle.rest_spread.proofs.limit_refused.Tie as tie
 

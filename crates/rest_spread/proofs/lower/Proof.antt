@@ -1,7 +1,7 @@
 use mathlib.Core.Path.{_∙_}
 use native.Mathlib.Omega.{arith}
 use borrow.Author.Needs.{needs}
-use Rattle.rest_spread.proofs.Entry as law
+use Rattle.rest_spread.proofs.LoweringEntry as law
 use Rattle.rest_spread.proofs.Uncleared.{prefix-long, prefix-kept, begun-twins}
 use Rattle.rest_spread.proofs.lower.Statement.{statement}
 use Rattle.rest_spread.proofs.lower.Tie as tie

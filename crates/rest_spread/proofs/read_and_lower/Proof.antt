@@ -1,6 +1,6 @@
 use native.Mathlib.Omega.{arith}
 use borrow.Author.Needs.{needs}
-use Rattle.rest_spread.proofs.Entry as law
+use Rattle.rest_spread.proofs.LoweringEntry as law
 use Rattle.rest_spread.proofs.read_and_lower.Statement.{statement}
 use Rattle.rest_spread.proofs.read_and_lower.Tie as tie
 

@@ -1,4 +1,4 @@
-use Rattle.rest_spread.proofs.Entry as law
+use Rattle.rest_spread.proofs.LoweringEntry as law
 use borrow.Author.Needs.{needs}
 use Rattle.rest_spread.proofs.refuse.Statement.{statement}
 use Rattle.rest_spread.proofs.refuse.Tie as tie

@@ -1,7 +1,7 @@
 use native.Mathlib.Omega.{arith}
 use lib.ListN.{length}
 use borrow.Author.Needs.{needs}
-use Rattle.rest_spread.proofs.Entry as law
+use Rattle.rest_spread.proofs.LoweringEntry as law
 use Rattle.rest_spread.proofs.rest_spread_lower_within.Statement.{statement}
 use Rattle.rest_spread.proofs.rest_spread_lower_within.Tie as tie
 

@@ -8,7 +8,7 @@ use Rattle.tree.specs.Rows.{fieldsIn}
 use Rattle.tree.proofs.Cycle.{at-measure, below-measure}
 use Rattle.drawing.specs.Draw.{drawNode, drawItems, drawField}
 use Rattle.drawing.specs.Pen.{drewItems}
-use Rattle.drawing.proofs.Ways as law
+use Rattle.drawing.proofs.DrawingWaysOut as law
 use Rattle.drawing.proofs.draw.fields as fields
 use Rattle.drawing.proofs.draw.items as items
 use Rattle.drawing.proofs.draw.node as node

@@ -1,4 +1,4 @@
-use Rattle.drawing.proofs.Writing as law
+use Rattle.drawing.proofs.DrawingWritten as law
 use mathlib.Core.Path.{sym, _∙_}
 use borrow.Author.Needs.{needs}
 use Rattle.drawing.proofs.draw.choose.Statement.{statement}

@@ -1,5 +1,5 @@
 use mathlib.Core.Path.{_∙_}
-use Rattle.drawing.proofs.Tables.{counts, count-at, no-count}
+use Rattle.drawing.proofs.KindTables.{counts, count-at, no-count}
 use borrow.Author.Needs.{needs}
 use Rattle.drawing.proofs.kinds.count.Statement.{statement}
 use Rattle.drawing.proofs.kinds.count.Tie as tie

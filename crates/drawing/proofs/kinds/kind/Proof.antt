@@ -3,7 +3,7 @@ use mathlib.Core.Path.{_∙_, ap}
 use native.Mathlib.Omega.{arith}
 use lib.ListN.{getD}
 use borrow.Author.Needs.{needs}
-use Rattle.drawing.proofs.Tables.{firsts, allKinds, has-place, kind-within, kind-at, no-kind-at}
+use Rattle.drawing.proofs.KindTables.{firsts, allKinds, has-place, kind-within, kind-at, no-kind-at}
 use Rattle.drawing.proofs.kinds.kind.Statement.{statement}
 use Rattle.drawing.proofs.kinds.kind.Tie as tie
 

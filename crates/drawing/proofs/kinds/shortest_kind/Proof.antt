@@ -1,4 +1,4 @@
-use Rattle.drawing.proofs.Tables.{least, least-at, no-shortest}
+use Rattle.drawing.proofs.KindTables.{least, least-at, no-shortest}
 use borrow.Author.Needs.{needs}
 use Rattle.drawing.proofs.kinds.shortest_kind.Statement.{statement}
 use Rattle.drawing.proofs.kinds.shortest_kind.Tie as tie

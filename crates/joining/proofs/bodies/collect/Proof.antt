@@ -3,7 +3,7 @@ use mathlib.Core.Path.{sym, _∙_}
 use lib.ListN.{length}
 use native.Mathlib.Omega.{arith}
 use borrow.Author.Needs.{needs}
-use Rattle.joining.proofs.Collecting as law
+use Rattle.joining.proofs.TablesFilled as law
 use Rattle.joining.proofs.bodies.collect.Statement.{statement}
 use Rattle.joining.proofs.bodies.collect.Tie as tie
 

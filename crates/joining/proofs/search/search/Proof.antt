@@ -2,7 +2,7 @@ use Prim.Native.Nat.{_<_}
 use native.Mathlib.Omega.{arith}
 use borrow.Author.Needs.{needs}
 use Rattle.joining.specs.Tables.{searched}
-use Rattle.joining.proofs.Tables as law
+use Rattle.joining.proofs.FallingChains as law
 use Rattle.joining.proofs.search.search.Statement.{statement}
 use Rattle.joining.proofs.search.search.Tie as tie
 

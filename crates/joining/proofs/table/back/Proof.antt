@@ -1,5 +1,5 @@
 use borrow.Author.Needs.{needs}
-use Rattle.joining.proofs.Tables as law
+use Rattle.joining.proofs.FallingChains as law
 use Rattle.joining.proofs.table.back.Statement.{statement}
 use Rattle.joining.proofs.table.back.Tie as tie
 

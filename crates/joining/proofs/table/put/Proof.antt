@@ -1,6 +1,6 @@
 use native.Mathlib.Omega.{arith}
 use borrow.Author.Needs.{needs}
-use Rattle.joining.proofs.Tables as law
+use Rattle.joining.proofs.FallingChains as law
 use Rattle.joining.proofs.table.put.Statement.{statement}
 use Rattle.joining.proofs.table.put.Tie as tie
 

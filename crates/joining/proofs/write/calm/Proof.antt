@@ -4,7 +4,7 @@ use mathlib.Core.Bool.{true}
 use native.Mathlib.Omega.{arith}
 use borrow.Author.Needs.{needs}
 use Rattle.joining.specs.Writing.{Calm}
-use Rattle.joining.proofs.Writing as law
+use Rattle.joining.proofs.BytesWritten as law
 use Rattle.joining.proofs.write.calm.Statement.{statement}
 use Rattle.joining.proofs.write.calm.Tie as tie
 

@@ -1,5 +1,5 @@
 use borrow.Author.Needs.{needs}
-use Rattle.joining.proofs.Writing as law
+use Rattle.joining.proofs.BytesWritten as law
 use Rattle.joining.proofs.write.declaration.Statement.{statement}
 use Rattle.joining.proofs.write.declaration.Tie as tie
 

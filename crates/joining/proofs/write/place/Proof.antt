@@ -1,7 +1,7 @@
 use mathlib.Core.Bool.{false≢true}
 use mathlib.Core.Path.{refl, sym, _∙_}
 use borrow.Author.Needs.{needs}
-use Rattle.joining.proofs.Writing as law
+use Rattle.joining.proofs.BytesWritten as law
 use Rattle.joining.proofs.write.place.Statement.{statement}
 use Rattle.joining.proofs.write.place.Tie as tie
 

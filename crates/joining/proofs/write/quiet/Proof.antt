@@ -4,7 +4,7 @@ use lib.ListN.{length}
 use native.Mathlib.Omega.{arith}
 use borrow.Author.Needs.{needs}
 use Rattle.joining.specs.Writing.{Quiet}
-use Rattle.joining.proofs.Writing as law
+use Rattle.joining.proofs.BytesWritten as law
 use Rattle.joining.proofs.write.quiet.Statement.{statement}
 use Rattle.joining.proofs.write.quiet.Tie as tie
 

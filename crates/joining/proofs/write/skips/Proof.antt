@@ -1,4 +1,4 @@
-use Rattle.joining.proofs.Writing as law
+use Rattle.joining.proofs.BytesWritten as law
 use borrow.Author.Needs.{needs}
 use Rattle.joining.proofs.write.skips.Statement.{statement}
 use Rattle.joining.proofs.write.skips.Tie as tie

@@ -1,6 +1,6 @@
 use native.Mathlib.Omega.{arith}
 use borrow.Author.Needs.{needs}
-use Rattle.joining.proofs.Writing as law
+use Rattle.joining.proofs.BytesWritten as law
 use Rattle.joining.proofs.write.var.Statement.{statement}
 use Rattle.joining.proofs.write.var.Tie as tie
 

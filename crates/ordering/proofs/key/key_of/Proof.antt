@@ -1,4 +1,4 @@
-use Rattle.ordering.proofs.Keys as law
+use Rattle.ordering.proofs.EventKeys as law
 use mathlib.Core.Path.{refl}
 use native.Mathlib.Omega.{arith}
 use borrow.Author.Needs.{needs}

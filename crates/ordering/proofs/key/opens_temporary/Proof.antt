@@ -1,4 +1,4 @@
-use Rattle.ordering.proofs.Keys as law
+use Rattle.ordering.proofs.EventKeys as law
 use borrow.Author.Needs.{needs}
 use Rattle.ordering.proofs.key.opens_temporary.Statement.{statement}
 use Rattle.ordering.proofs.key.opens_temporary.Tie as tie

@@ -1,4 +1,4 @@
-use Rattle.ordering.proofs.Places as law
+use Rattle.ordering.proofs.TablePlaces as law
 use lib.ListN.{length-set}
 use mathlib.Core.Path.{refl}
 use native.Mathlib.Omega.{arith}

@@ -1,4 +1,4 @@
-use Rattle.ordering.proofs.Texts as law
+use Rattle.ordering.proofs.TextsCompared as law
 use lib.ListN.{length}
 use Prim.Native.Nat.{_-_}
 use native.Mathlib.Omega.{arith}

@@ -1,4 +1,4 @@
-use Rattle.ordering.proofs.Laws as law
+use Rattle.ordering.proofs.LexicalOrder as law
 use Rattle.ordering.proofs.verdict.by_value.Statement.{statement}
 use Rattle.ordering.proofs.verdict.by_value.Tie as tie
 

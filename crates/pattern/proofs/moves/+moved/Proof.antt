@@ -1,7 +1,7 @@
 use mathlib.Core.Bool.{true}
 use native.Mathlib.Omega.{arith}
 use Rattle.pattern.proofs.MovesCounted as law
-use Rattle.pattern.proofs.Places as places
+use Rattle.pattern.proofs.NodeParts as places
 use Prim.Native.Nat.{ℕ}
 use borrow.Fn.PlainCycle.{Measures}
 use Rattle.tree.proofs.Cycle.{at-measure, below-measure}

@@ -2,7 +2,7 @@ use mathlib.Core.Bool.{true}
 use mathlib.Core.Logic.{⊎-elim}
 use native.Mathlib.Omega.{arith}
 use Rattle.pattern.proofs.RestsFound as law
-use Rattle.pattern.proofs.Places as places
+use Rattle.pattern.proofs.NodeParts as places
 use Rattle.pattern.proofs.Searches as search
 use Prim.Native.Nat.{ℕ}
 use borrow.Fn.PlainCycle.{Measures}

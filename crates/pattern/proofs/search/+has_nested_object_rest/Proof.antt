@@ -4,7 +4,7 @@ use native.Mathlib.Omega.{arith}
 use Rattle.tree.specs.Look.{lookItems, lookNode}
 use Rattle.lowering.specs.Parts.{nodeAt, any}
 use Rattle.lowering.specs.Patterns.{value}
-use Rattle.pattern.proofs.Places as places
+use Rattle.pattern.proofs.NodeParts as places
 use Rattle.pattern.proofs.Searches as law
 use Rattle.pattern.proofs.Below as below
 use Prim.Native.Nat.{ℕ}

@@ -1,4 +1,4 @@
-use Rattle.printer.proofs.Tables as law
+use Rattle.printer.proofs.LayoutNumbers as law
 use Rattle.printer.proofs.layout.choose.Statement.{statement}
 use Rattle.printer.proofs.layout.choose.Tie as tie
 

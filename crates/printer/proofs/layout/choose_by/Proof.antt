@@ -1,4 +1,4 @@
-use Rattle.printer.proofs.Tables as law
+use Rattle.printer.proofs.LayoutNumbers as law
 use mathlib.Core.Path.{sym, ap, _∙_}
 use Prim.Native.Nat.{ℕ}
 use Rattle.printer.specs.Layout.{chosenWord, choices}

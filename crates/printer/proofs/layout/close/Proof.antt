@@ -1,4 +1,4 @@
-use Rattle.printer.proofs.Tables as law
+use Rattle.printer.proofs.LayoutNumbers as law
 use mathlib.Core.Path.{ap, _∙_}
 use Prim.Native.Nat.{ℕ, _/_, _%_}
 use borrow.Author.Needs.{needs}

@@ -1,7 +1,7 @@
 use mathlib.Core.Path.{sym, ap}
 use Rattle.printer.specs.Layout.{layout}
 use Rattle.printer.specs.Rows.{packed, mannersOf}
-use Rattle.printer.proofs.Tables.{no-manners}
+use Rattle.printer.proofs.LayoutNumbers.{no-manners}
 use Rattle.printer.proofs.layout.manners.Statement.{statement}
 use Rattle.printer.proofs.layout.manners.Tie as tie
 

@@ -1,7 +1,7 @@
 use mathlib.Core.Path.{sym, ap}
 use Rattle.printer.specs.Layout.{layout, headOf, tailOf, closeOf}
 use Rattle.printer.specs.Rows.{packed, rowOf}
-use Rattle.printer.proofs.Tables.{no-row}
+use Rattle.printer.proofs.LayoutNumbers.{no-row}
 use Rattle.printer.proofs.layout.row.Statement.{statement}
 use Rattle.printer.proofs.layout.row.Tie as tie
 

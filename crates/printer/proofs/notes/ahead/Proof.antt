@@ -1,6 +1,6 @@
 use Prim.Native.Nat.{_+_}
 use Rattle.tree.specs.Read.{byteAt}
-use Rattle.printer.proofs.Collecting as law
+use Rattle.printer.proofs.NotesCollected as law
 use borrow.Author.Needs.{needs}
 use Rattle.printer.proofs.notes.ahead.Statement.{statement}
 use Rattle.printer.proofs.notes.ahead.Tie as tie

@@ -1,4 +1,4 @@
-use Rattle.printer.proofs.Collecting as law
+use Rattle.printer.proofs.NotesCollected as law
 use native.Mathlib.Omega.{arith}
 use borrow.Author.Needs.{needs}
 use Rattle.printer.proofs.notes.begin.Statement.{statement}

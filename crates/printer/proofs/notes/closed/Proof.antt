@@ -1,4 +1,4 @@
-use Rattle.printer.proofs.Collecting as law
+use Rattle.printer.proofs.NotesCollected as law
 use Rattle.printer.proofs.notes.closed.Statement.{statement}
 use Rattle.printer.proofs.notes.closed.Tie as tie
 

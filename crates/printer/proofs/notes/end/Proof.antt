@@ -1,4 +1,4 @@
-use Rattle.printer.proofs.Collecting as law
+use Rattle.printer.proofs.NotesCollected as law
 use borrow.Author.Needs.{needs}
 use Rattle.printer.proofs.notes.end.Statement.{statement}
 use Rattle.printer.proofs.notes.end.Tie as tie

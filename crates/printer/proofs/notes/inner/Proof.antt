@@ -1,5 +1,5 @@
 use mathlib.Core.Path.{_∙_}
-use Rattle.printer.proofs.Collecting as law
+use Rattle.printer.proofs.NotesCollected as law
 use borrow.Author.Needs.{needs}
 use Rattle.printer.proofs.notes.inner.Statement.{statement}
 use Rattle.printer.proofs.notes.inner.Tie as tie

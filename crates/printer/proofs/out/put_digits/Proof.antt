@@ -1,4 +1,4 @@
-use Rattle.printer.proofs.Written as law
+use Rattle.printer.proofs.PiecesWritten as law
 use Rattle.printer.specs.Stacks.{Buffer, put, write, bytesIn, bufferIn}
 use mathlib.Core.Path.{_≡_, refl, ap, _∙_}
 use native.Mathlib.Omega.{arith}

@@ -1,7 +1,7 @@
 use mathlib.Core.Path.{ap, _∙_}
 use Prim.Native.Nat.{ℕ}
 use Rattle.printer.specs.Stacks.{Buffer, write, bufferIn, bytesIn}
-use Rattle.printer.proofs.Written as law
+use Rattle.printer.proofs.PiecesWritten as law
 use borrow.Author.Needs.{needs}
 use Rattle.printer.proofs.out.say.Statement.{statement}
 use Rattle.printer.proofs.out.say.Tie as tie

@@ -1,4 +1,4 @@
-use Rattle.printer.proofs.Written as law
+use Rattle.printer.proofs.PiecesWritten as law
 use borrow.Author.Needs.{needs}
 use Rattle.printer.proofs.out.say_any.Statement.{statement}
 use Rattle.printer.proofs.out.say_any.Tie as tie

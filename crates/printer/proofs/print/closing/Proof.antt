@@ -1,4 +1,4 @@
-use Rattle.printer.proofs.Written.{write-append}
+use Rattle.printer.proofs.PiecesWritten.{write-append}
 use mathlib.Core.Path.{sym, ap, _∙_}
 use Rattle.printer.specs.Stacks.{Buffer, write}
 use Rattle.printer.specs.Layout.{word}

@@ -1,4 +1,4 @@
-use Rattle.printer.proofs.Held as law
+use Rattle.printer.proofs.ArraysHeld as law
 use mathlib.Core.Path.{ap, _∙_}
 use Rattle.printer.specs.Stacks.{Buffer, write, heldIn}
 use mathlib.Core.List.{[]}

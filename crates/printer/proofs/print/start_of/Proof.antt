@@ -1,4 +1,4 @@
-use Rattle.printer.proofs.Held as law
+use Rattle.printer.proofs.ArraysHeld as law
 use mathlib.Core.Path.{_∙_}
 use borrow.Author.Needs.{needs}
 use Rattle.printer.proofs.print.start_of.Statement.{statement}

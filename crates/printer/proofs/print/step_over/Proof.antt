@@ -1,4 +1,4 @@
-use Rattle.printer.proofs.Held as law
+use Rattle.printer.proofs.ArraysHeld as law
 use mathlib.Core.Path.{sym, _∙_}
 use native.Mathlib.Omega.{arith}
 use borrow.Author.Needs.{needs}

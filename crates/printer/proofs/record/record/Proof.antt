@@ -4,7 +4,7 @@ use native.Mathlib.Omega.{arith}
 use lib.ListN.{length}
 use Rattle.rewritten.specs.Rewritten.{isRewritten}
 use Rattle.rewritten.proofs.Moves as moves
-use Rattle.rewritten.proofs.Reader as reader
+use Rattle.rewritten.proofs.MarksReader as reader
 use Rattle.printer.proofs.Recording as law
 use Rattle.printer.proofs.record.record.Statement.{statement}
 use Rattle.printer.proofs.record.record.Tie as tie

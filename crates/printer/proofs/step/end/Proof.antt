@@ -1,5 +1,5 @@
 use Rattle.printer.specs.Stacks.{bufferIn}
-use Rattle.printer.proofs.Turning as law
+use Rattle.printer.proofs.StepTurns as law
 use native.Mathlib.Omega.{arith}
 use borrow.Author.Needs.{needs}
 use Rattle.printer.proofs.step.end.Statement.{statement}

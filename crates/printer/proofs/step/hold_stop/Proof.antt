@@ -1,5 +1,5 @@
 use mathlib.Core.Path.{sym, _∙_}
-use Rattle.printer.proofs.Turning as law
+use Rattle.printer.proofs.StepTurns as law
 use borrow.Author.Needs.{needs}
 use Rattle.printer.proofs.step.hold_stop.Statement.{statement}
 use Rattle.printer.proofs.step.hold_stop.Tie as tie

@@ -1,6 +1,6 @@
 use Rattle.printer.specs.declared.print.State.{State}
 use mathlib.Core.Path.{ap, _∙_}
-use Rattle.printer.proofs.Turning as law
+use Rattle.printer.proofs.StepTurns as law
 use Rattle.printer.specs.Stacks.{write, bufferIn}
 use Rattle.printer.specs.Layout.{word}
 use Prim.Native.Nat.{ℕ}

@@ -8,7 +8,7 @@ use mathlib.Core.Bool.{cond}
 use Prim.Native.Nat.{ℕ}
 use mathlib.Core.Path.{sym, ap, _∙_}
 use Rattle.printer.specs.Stacks.{Buffer, write, bufferIn}
-use Rattle.printer.proofs.Written.{write-append}
+use Rattle.printer.proofs.PiecesWritten.{write-append}
 use Rattle.printer.specs.Places.{listClosing}
 use borrow.Author.Needs.{needs}
 use Rattle.printer.proofs.step.list_closing.Statement.{statement}

@@ -1,7 +1,7 @@
 use Rattle.printer.specs.Stacks.{bufferIn}
 use Rattle.printer.specs.declared.print.State.{State}
 use mathlib.Core.Path.{ap, _∙_}
-use Rattle.printer.proofs.Turning as law
+use Rattle.printer.proofs.StepTurns as law
 use borrow.Author.Needs.{needs}
 use Rattle.printer.proofs.step.number_met.Statement.{statement}
 use Rattle.printer.proofs.step.number_met.Tie as tie

@@ -1,5 +1,5 @@
 use mathlib.Core.Path.{ap, _∙_}
-use Rattle.printer.proofs.Turning as law
+use Rattle.printer.proofs.StepTurns as law
 use native.Mathlib.Omega.{arith}
 use Rattle.printer.specs.Stacks.{write, bufferIn}
 use Rattle.printer.specs.Layout.{word}

@@ -1,5 +1,5 @@
 use mathlib.Core.Path.{ap}
-use Rattle.printer.proofs.Turning as law
+use Rattle.printer.proofs.StepTurns as law
 use Rattle.printer.specs.Stacks.{bufferIn}
 use Rattle.printer.specs.declared.print.State.{State}
 use borrow.Author.Needs.{needs}

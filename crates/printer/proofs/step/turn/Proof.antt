@@ -1,4 +1,4 @@
-use Rattle.printer.proofs.Turning as law
+use Rattle.printer.proofs.StepTurns as law
 use Rattle.printer.specs.Stacks.{bufferIn}
 use Rattle.printer.specs.Machine.{print}
 use borrow.Author.Needs.{needs}

@@ -2,7 +2,7 @@ use mathlib.Core.Path.{sym, ap, _∙_}
 use mathlib.Core.List.{List}
 use Prim.Native.Nat.{ℕ}
 use Rattle.printer.specs.Stacks.{write, bufferIn}
-use Rattle.printer.proofs.Laws as law
+use Rattle.printer.proofs.TextLaws as law
 use borrow.Author.Needs.{needs}
 use Rattle.printer.proofs.texts.text_bytes.Statement.{statement}
 use Rattle.printer.proofs.texts.text_bytes.Tie as tie

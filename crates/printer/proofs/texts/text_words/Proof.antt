@@ -4,7 +4,7 @@ use Prim.Native.Nat.{ℕ}
 use mathlib.Core.Path.{refl, sym, ap, _∙_}
 use borrow.Author.Tests.{eq-eqb, ne-eqb}
 use Rattle.printer.specs.Stacks.{Buffer, write, bufferIn}
-use Rattle.printer.proofs.Written.{write-append}
+use Rattle.printer.proofs.PiecesWritten.{write-append}
 use Rattle.printer.specs.Places.{textBytes}
 use borrow.Author.Needs.{needs}
 use Rattle.printer.proofs.texts.text_words.Statement.{statement}

@@ -1,7 +1,7 @@
 use mathlib.Core.Path.{sym, ap}
 use Rattle.printer.specs.Layout.{words, word}
 use Rattle.printer.specs.Rows.{packed, highOf}
-use Rattle.printer.proofs.Tables.{no-high}
+use Rattle.printer.proofs.LayoutNumbers.{no-high}
 use Rattle.printer.proofs.words.high.Statement.{statement}
 use Rattle.printer.proofs.words.high.Tie as tie
 

@@ -1,7 +1,7 @@
 use mathlib.Core.Path.{sym, ap}
 use Rattle.printer.specs.Layout.{words, word}
 use Rattle.printer.specs.Rows.{packed, lowOf}
-use Rattle.printer.proofs.Tables.{no-low}
+use Rattle.printer.proofs.LayoutNumbers.{no-low}
 use Rattle.printer.proofs.words.low.Statement.{statement}
 use Rattle.printer.proofs.words.low.Tie as tie
 

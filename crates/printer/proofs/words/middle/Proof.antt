@@ -1,7 +1,7 @@
 use mathlib.Core.Path.{sym, ap}
 use Rattle.printer.specs.Layout.{words, word}
 use Rattle.printer.specs.Rows.{packed, middleOf}
-use Rattle.printer.proofs.Tables.{no-middle}
+use Rattle.printer.proofs.LayoutNumbers.{no-middle}
 use Rattle.printer.proofs.words.middle.Statement.{statement}
 use Rattle.printer.proofs.words.middle.Tie as tie
 

@@ -1,4 +1,4 @@
-use Rattle.tree.proofs.Leaves.{chosen-first, chosen-second}
+use Rattle.tree.proofs.LeavesRead.{chosen-first, chosen-second}
 use native.Mathlib.Omega.{arith}
 use Prim.Native.Nat.{_-_}
 use mathlib.Core.Logic.{⊎-elim}

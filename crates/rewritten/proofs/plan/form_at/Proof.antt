@@ -1,4 +1,4 @@
-use Rattle.rewritten.proofs.Forms as law
+use Rattle.rewritten.proofs.RewrittenForms as law
 use borrow.Author.Needs.{needs}
 use Rattle.rewritten.proofs.plan.form_at.Statement.{statement}
 use Rattle.rewritten.proofs.plan.form_at.Tie as tie

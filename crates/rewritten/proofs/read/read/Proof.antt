@@ -1,5 +1,5 @@
 use Rattle.rewritten.proofs.Moves as moves
-use Rattle.rewritten.proofs.Reader as law
+use Rattle.rewritten.proofs.MarksReader as law
 use Rattle.rewritten.specs.Rewritten.{isRewritten}
 use lib.ListN.{length}
 use Prim.Native.Nat.{_+_, _-_}

@@ -1,6 +1,6 @@
 use mathlib.Core.Path.{sym, ap}
 use Rattle.tree.specs.Grammar.{kinds, variants, fieldsOf, mapOk}
-use Rattle.tree.proofs.Rows.{mapRight, maps-at, no-maps}
+use Rattle.tree.proofs.GrammarRows.{mapRight, maps-at, no-maps}
 use Rattle.tree.proofs.grammar.maps.Statement.{statement}
 use Rattle.tree.proofs.grammar.maps.Tie as tie
 

@@ -1,5 +1,5 @@
 use borrow.Author.Needs.{needs}
-use Rattle.tree.proofs.Reader as law
+use Rattle.tree.proofs.ReaderCycle as law
 use Rattle.tree.proofs.Reading as read
 use Rattle.tree.proofs.read.whole.Statement.{statement}
 use Rattle.tree.proofs.read.whole.Tie as tie

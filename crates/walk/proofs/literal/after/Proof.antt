@@ -4,7 +4,7 @@ use Rattle.tree.specs.Look.{lookItems, lookNode}
 use native.Mathlib.Omega.{arith}
 use mathlib.Core.Path.{_≡_, refl, _∙_}
 use Rattle.tree.proofs.Skipping as skipping
-use Rattle.walk.proofs.Heads as law
+use Rattle.walk.proofs.LiteralHeads as law
 use Rattle.walk.proofs.literal.after.Statement.{statement}
 use Rattle.walk.proofs.literal.after.Tie as tie
 

@@ -1,4 +1,4 @@
-use Rattle.walk.proofs.Heads as law
+use Rattle.walk.proofs.LiteralHeads as law
 use borrow.Author.Needs.{needs}
 use Rattle.walk.proofs.literal.mode_next.Statement.{statement}
 use Rattle.walk.proofs.literal.mode_next.Tie as tie

@@ -1,5 +1,5 @@
 use mathlib.Core.Path.{refl, _∙_}
-use Rattle.walk.proofs.Heads as law
+use Rattle.walk.proofs.LiteralHeads as law
 use borrow.Author.Needs.{needs}
 use Rattle.walk.proofs.literal.pending.Statement.{statement}
 use Rattle.walk.proofs.literal.pending.Tie as tie

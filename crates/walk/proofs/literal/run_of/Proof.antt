@@ -5,7 +5,7 @@ use borrow.Author.Needs.{needs}
 use Rattle.tree.specs.Look.{lookItems, lookNode}
 use native.Mathlib.Omega.{arith}
 use mathlib.Core.Path.{_≡_, _∙_}
-use Rattle.walk.proofs.Heads as law
+use Rattle.walk.proofs.LiteralHeads as law
 use Rattle.walk.proofs.literal.run_of.Statement.{statement}
 use Rattle.walk.proofs.literal.run_of.Tie as tie
 

@@ -1,5 +1,5 @@
 use mathlib.Core.Path.{_∙_}
-use Rattle.walk.proofs.Sources as law
+use Rattle.walk.proofs.SourcesRead as law
 use borrow.Author.Needs.{needs}
 use Rattle.walk.proofs.pieces.hole.Statement.{statement}
 use Rattle.walk.proofs.pieces.hole.Tie as tie

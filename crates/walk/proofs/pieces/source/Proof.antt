@@ -1,4 +1,4 @@
-use Rattle.walk.proofs.Sources as law
+use Rattle.walk.proofs.SourcesRead as law
 use borrow.Author.Needs.{needs}
 use Rattle.walk.proofs.pieces.source.Statement.{statement}
 use Rattle.walk.proofs.pieces.source.Tie as tie

@@ -1,5 +1,5 @@
 use mathlib.Core.Path.{refl}
-use Rattle.walk.proofs.Sources as law
+use Rattle.walk.proofs.SourcesRead as law
 use borrow.Author.Needs.{needs}
 use Rattle.walk.proofs.pieces.string.Statement.{statement}
 use Rattle.walk.proofs.pieces.string.Tie as tie

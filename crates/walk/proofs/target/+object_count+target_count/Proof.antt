@@ -2,7 +2,7 @@ use mathlib.Core.Bool.{true}
 use mathlib.Core.Logic.{⊎-elim}
 use mathlib.Core.Path.{sym, _∙_}
 use native.Mathlib.Omega.{arith}
-use Rattle.pattern.proofs.Places as places
+use Rattle.pattern.proofs.NodeParts as places
 use Rattle.pattern.proofs.Searches as search
 use Rattle.walk.specs.Turns.{reachOf}
 use Rattle.walk.proofs.Lookups.{denied, undenied}

@@ -1,5 +1,5 @@
 use borrow.Author.Needs.{needs}
-use Rattle.walk.proofs.Sources as law
+use Rattle.walk.proofs.SourcesRead as law
 use Rattle.walk.proofs.walk.Walk.number.Statement.{statement}
 use Rattle.walk.proofs.walk.Walk.number.Tie as tie
 

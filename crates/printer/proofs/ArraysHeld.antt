@@ -1,0 +1,222 @@
+-- What the code has in its arrays: frames as numbers, quasis as positions, notes.
+-- Assumes nothing.
+use mathlib.Core.Path.{_≡_, refl, sym, ap, _∙_}
+use mathlib.Core.List.{List, [], _∷_, _++_}
+use Prim.Native.Nat.{ℕ, zero, suc, _+_, _-_, _*_, _/_, _%_, _<_, _≤_}
+use native.Mathlib.Omega.{arith}
+use native.Mathlib.Numerals.{add-one}
+use native.Mathlib.Decide.{decLt}
+use lib.ListN.{length, getD, set, take, drop, length-append, List·getD-append, List·getD-eq-default, drop-of-length-le}
+use lib.Seq.{getD-set-same, getD-set-other, getD-append-add, drop-cons}
+use borrow.Author.Tests.{lt-ltb, le-ltb}
+use Rattle.printer.specs.Text.{Cell, cellText, leftOver}
+use Rattle.printer.specs.Text.Cell.{quasi, stop}
+use Rattle.printer.specs.Machine.{Open, cellAt, cellsFrom, stepOver, headNote, restNotes}
+use Rattle.printer.specs.Stacks.{frameIn, nextIn, openIn, packedFrame, opensIn, cellIn, heldIn, Buffer, write}
+use Rattle.printer.specs.Turns.{startOf, Small}
+use Rattle.printer.specs.declared.frame.Frame.{Frame}
+use Rattle.printer.proofs.PiecesWritten.{write-append}
+
+-- ---- frames
+
+d64 : (a b : ℕ) → (a % 64 + 64 * b) / 64 ≡ b
+d64 a b = omega arith
+
+m64 : (a b : ℕ) → a < 64 → (a % 64 + 64 * b) % 64 ≡ a
+m64 a b h = omega arith
+
+d256 : (a b : ℕ) → (a % 256 + 256 * b) / 256 ≡ b
+d256 a b = omega arith
+
+m256 : (a b : ℕ) → a < 256 → (a % 256 + 256 * b) % 256 ≡ a
+m256 a b h = omega arith
+
+d4 : (a b : ℕ) → (a % 4 + 4 * b) / 4 ≡ b
+d4 a b = omega arith
+
+m4 : (a b : ℕ) → a < 4 → (a % 4 + 4 * b) % 4 ≡ a
+m4 a b h = omega arith
+
+d2 : (a b : ℕ) → (a % 2 + 2 * b) / 2 ≡ b
+d2 a b = omega arith
+
+m2 : (a b : ℕ) → a < 2 → (a % 2 + 2 * b) % 2 ≡ a
+m2 a b h = omega arith
+
+d128 : (a b : ℕ) → (a % 128 + 128 * b) / 128 ≡ b
+d128 a b = omega arith
+
+m128 : (a b : ℕ) → a < 128 → (a % 128 + 128 * b) % 128 ≡ a
+m128 a b h = omega arith
+
+mm : (a : ℕ) → a < 16777216 → a % 16777216 % 16777216 ≡ a
+mm a h = omega arith
+
+pub packs : (f : Frame) (x : ℕ) → Small f x → openIn (packedFrame f x) ≡ record { frame = f; next = x }
+unfolding packedFrame
+packs f x s =
+    go (f .kind) (f .map) (f .note) (f .rem) (f .seen) (f .list) (f .how) x (s .kind) (s .map) (s .note) (s .rem) (s .seen) (s .list) (s .how) (s .next)
+  where
+    go : (k m n r e l h x : ℕ) → k < 64 → m < 256 → n < 256 → r < 256 → e < 4 → l < 2 → h < 128 → x < 16777216 → openIn (k % 64 + 64 * (m % 256 + 256 * (n % 256 + 256 * (r % 256 + 256 * (e % 4 + 4 * (l % 2 + 2 * (h % 128 + 128 * (x % 16777216)))))))) ≡ record { frame = record { kind = k; map = m; note = n; how = h; seen = e; rem = r; list = l }; next = x }
+    go k m n r e l h x a b c d f g i j =
+        rw (
+          m64 k (m % 256 + 256 * (n % 256 + 256 * (r % 256 + 256 * (e % 4 + 4 * (l % 2 + 2 * (h % 128 + 128 * (x % 16777216))))))) a,
+          d64 k (m % 256 + 256 * (n % 256 + 256 * (r % 256 + 256 * (e % 4 + 4 * (l % 2 + 2 * (h % 128 + 128 * (x % 16777216))))))),
+          m256 m (n % 256 + 256 * (r % 256 + 256 * (e % 4 + 4 * (l % 2 + 2 * (h % 128 + 128 * (x % 16777216)))))) b,
+          d256 m (n % 256 + 256 * (r % 256 + 256 * (e % 4 + 4 * (l % 2 + 2 * (h % 128 + 128 * (x % 16777216)))))),
+          m256 n (r % 256 + 256 * (e % 4 + 4 * (l % 2 + 2 * (h % 128 + 128 * (x % 16777216))))) c,
+          d256 n (r % 256 + 256 * (e % 4 + 4 * (l % 2 + 2 * (h % 128 + 128 * (x % 16777216))))),
+          m256 r (e % 4 + 4 * (l % 2 + 2 * (h % 128 + 128 * (x % 16777216)))) d,
+          d256 r (e % 4 + 4 * (l % 2 + 2 * (h % 128 + 128 * (x % 16777216)))),
+          m4 e (l % 2 + 2 * (h % 128 + 128 * (x % 16777216))) f,
+          d4 e (l % 2 + 2 * (h % 128 + 128 * (x % 16777216))),
+          m2 l (h % 128 + 128 * (x % 16777216)) g,
+          d2 l (h % 128 + 128 * (x % 16777216)),
+          m128 h (x % 16777216) i,
+          d128 h (x % 16777216),
+          mm x j,
+        ) refl
+
+pub unpacks : (v : ℕ) → Small (frameIn v) (nextIn v)
+unpacks v = record { kind = omega arith; map = omega arith; note = omega arith; how = omega arith; seen = omega arith; rem = omega arith; list = omega arith; next = omega arith }
+
+opens-kept : (st : List ℕ) (n m v : ℕ) → n ≤ m → opensIn (set st m v) n ≡ opensIn st n
+unfolding opensIn
+opens-kept st zero m v h = refl
+opens-kept st (suc n) m v h = ap (λ (x : ℕ). openIn x ∷ opensIn (set st m v) n) (getD-set-other st m n v 0 (λ e. absurd (omega arith))) ∙ ap (λ (l : List Open). openIn (getD st n 0) ∷ l) (opens-kept st n m v (omega arith))
+
+pub pushed : (st : List ℕ) (n v : ℕ) → n < length st → opensIn (set st n v) (n + 1) ≡ openIn v ∷ opensIn st n
+unfolding opensIn
+pushed st n v h =
+    ap (opensIn (set st n v)) (add-one n)
+    ∙ ap (λ (x : ℕ). openIn x ∷ opensIn (set st n v) n) (getD-set-same st n v 0 h)
+    ∙ ap (λ (l : List Open). openIn v ∷ l) (opens-kept st n n v (omega arith))
+
+pub popped : (st : List ℕ) (n : ℕ) → 0 < n → opensIn st n ≡ openIn (getD st (n - 1) 0) ∷ opensIn st (n - 1)
+unfolding opensIn
+popped st zero h = absurd (omega arith)
+popped st (suc n) h = let e : n ≡ suc n - 1 = omega arith in ap (λ (m : ℕ). openIn (getD st m 0) ∷ opensIn st m) e
+
+-- ---- notes
+
+pub head-note : (l : List ℕ) (n : ℕ) → headNote (drop n l) ≡ getD l n 0
+head-note [] zero = refl
+head-note [] (suc n) = refl
+head-note (x ∷ l) zero = refl
+head-note (x ∷ l) (suc n) = head-note l n
+
+rest-notes-suc : (l : List ℕ) (n : ℕ) → restNotes (drop n l) ≡ drop (suc n) l
+rest-notes-suc [] zero = refl
+rest-notes-suc [] (suc n) = refl
+rest-notes-suc (x ∷ l) zero = refl
+rest-notes-suc (x ∷ l) (suc n) = rest-notes-suc l n
+
+pub rest-notes : (l : List ℕ) (n : ℕ) → drop (n + 1) l ≡ restNotes (drop n l)
+rest-notes l n = ap (λ (m : ℕ). drop m l) (add-one n) ∙ sym (rest-notes-suc l n)
+
+-- ---- quasis
+
+module _ (tree starts sizes : List ℕ) where
+  pub held-length : (n : ℕ) → length (heldIn tree starts sizes n) ≡ n
+  unfolding heldIn
+  held-length zero = refl
+  held-length (suc n) = length-append (heldIn tree starts sizes n) (cellIn tree (getD starts n 0) (getD sizes n 0) ∷ []) ∙ (let e : length (heldIn tree starts sizes n) ≡ n = held-length n in omega arith)
+
+  pub held-at : (n i : ℕ) → i < n → getD (heldIn tree starts sizes n) i stop ≡ cellIn tree (getD starts i 0) (getD sizes i 0)
+  unfolding heldIn
+  held-at zero i h = absurd (omega arith)
+  held-at (suc n) i h = elim (decLt i n) [
+    | yes g ↦ List·getD-append (heldIn tree starts sizes n) (cellIn tree (getD starts n 0) (getD sizes n 0) ∷ []) stop i (omega (arith, held-length n)) ∙ held-at n i g
+    | no g ↦ let z : i ≡ n = omega arith in
+        ap (λ (j : ℕ). getD (heldIn tree starts sizes n ++ (cellIn tree (getD starts n 0) (getD sizes n 0) ∷ [])) j stop) (z ∙ sym (held-length n) ∙ (let y : length (heldIn tree starts sizes n) ≡ length (heldIn tree starts sizes n) + 0 = omega arith in y))
+        ∙ getD-append-add (heldIn tree starts sizes n) (cellIn tree (getD starts n 0) (getD sizes n 0) ∷ []) 0 stop
+        ∙ ap (λ (j : ℕ). cellIn tree (getD starts j 0) (getD sizes j 0)) (sym z)
+  ]
+
+  pub held-past : (n i : ℕ) → n ≤ i → getD (heldIn tree starts sizes n) i stop ≡ stop
+  held-past n i h = List·getD-eq-default (heldIn tree starts sizes n) stop {n = i} (omega (arith, held-length n))
+
+-- the quasi at a place, by where it starts
+pub start-none : (starts : List ℕ) (count next : ℕ) → next ≡ 0 → 0 ≡ startOf starts count next
+start-none starts count zero e = refl
+start-none starts count (suc i) e = absurd (omega arith)
+
+pub start-some : (starts : List ℕ) (count next : ℕ) → (next ≡ 0 → ⊥) → next ≤ count → getD starts (next - 1) 0 ≡ startOf starts count next
+start-some starts count zero n h = absurd (n refl)
+start-some starts count (suc i) n h = rw (lt-ltb i count (omega arith)) (let e : suc i - 1 ≡ i = omega arith in ap (λ (j : ℕ). getD starts j 0) e)
+
+pub start-past : (starts : List ℕ) (count next : ℕ) → (next ≡ 0 → ⊥) → count < next → 0 ≡ startOf starts count next
+start-past starts count zero n h = absurd (n refl)
+start-past starts count (suc i) n h = rw (le-ltb i count (omega arith))
+
+cell-by : (tree : List ℕ) (s n : ℕ) → s ≡ 0 → cellIn tree s n ≡ stop
+cell-by tree zero n e = refl
+cell-by tree (suc s) n e = absurd (omega arith)
+
+cell-some : (tree : List ℕ) (s n : ℕ) → (s ≡ 0 → ⊥) → cellIn tree s n ≡ quasi (take n (drop (s - 1) tree))
+cell-some tree zero n e = absurd (e refl)
+cell-some tree (suc s) n e = let z : s ≡ suc s - 1 = omega arith in ap (λ (j : ℕ). quasi (take n (drop j tree))) z
+
+module _ (tree starts sizes : List ℕ) (count : ℕ) where
+  cell-at : (next : ℕ) → cellAt (heldIn tree starts sizes count) next ≡ cellIn tree (startOf starts count next) (getD sizes (next - 1) 0)
+  cell-at zero = refl
+  cell-at (suc i) = elim (decLt i count) [
+    | yes h ↦ held-at tree starts sizes count i h ∙ (let e : i ≡ suc i - 1 = omega arith in rw (lt-ltb i count h) (ap (λ (j : ℕ). cellIn tree (getD starts i 0) (getD sizes j 0)) e))
+    | no h ↦ held-past tree starts sizes count i (omega arith) ∙ rw (le-ltb i count (omega arith)) refl
+  ]
+
+  pub quasi-none : (next : ℕ) → startOf starts count next ≡ 0 → cellText (cellAt (heldIn tree starts sizes count) next) ≡ []
+  quasi-none next e = ap cellText (cell-at next ∙ cell-by tree (startOf starts count next) (getD sizes (next - 1) 0) e)
+
+  pub quasi-some : (next s n : ℕ) → s ≡ startOf starts count next → n ≡ getD sizes (next - 1) 0 → (s ≡ 0 → ⊥) → cellText (cellAt (heldIn tree starts sizes count) next) ≡ take n (drop (s - 1) tree)
+  quasi-some next s n e d z =
+      ap cellText (cell-at next)
+      ∙ ap (λ (x : ℕ). cellText (cellIn tree x (getD sizes (next - 1) 0))) (sym e)
+      ∙ ap (λ (m : ℕ). cellText (cellIn tree s m)) (sym d)
+      ∙ ap cellText (cell-some tree s n z)
+
+  pub over-none : (next : ℕ) → startOf starts count next ≡ 0 → stepOver (cellAt (heldIn tree starts sizes count) next) next ≡ next
+  over-none next e = ap (λ (c : Cell). stepOver c next) (cell-at next ∙ cell-by tree (startOf starts count next) (getD sizes (next - 1) 0) e)
+
+  pub over-some : (next : ℕ) → (startOf starts count next ≡ 0 → ⊥) → stepOver (cellAt (heldIn tree starts sizes count) next) next ≡ next + 1
+  over-some next z = ap (λ (c : Cell). stepOver c next) (cell-at next ∙ cell-some tree (startOf starts count next) (getD sizes (next - 1) 0) z) ∙ sym (add-one next)
+
+  pub past-none : (next : ℕ) → count < next → startOf starts count next ≡ 0
+  past-none zero h = refl
+  past-none (suc i) h = rw (le-ltb i count (omega arith)) refl
+
+  -- all that are left from i on
+  pub left-stop : (b : Buffer) (i : ℕ) → i < count → getD starts i 0 ≡ 0 → b ≡ write b (leftOver (drop i (heldIn tree starts sizes count)))
+  unfolding leftOver write
+  left-stop b i h e =
+      let d : drop i (heldIn tree starts sizes count) ≡ stop ∷ drop (suc i) (heldIn tree starts sizes count) =
+      drop-cons (heldIn tree starts sizes count) i stop (omega (arith, held-length tree starts sizes count))
+      ∙ ap (λ (c : Cell). c ∷ drop (suc i) (heldIn tree starts sizes count)) (held-at tree starts sizes count i h ∙ cell-by tree (getD starts i 0) (getD sizes i 0) e) in
+      ap (λ (l : List Cell). write b (leftOver l)) (sym d)
+
+  pub left-one : (b : Buffer) (i : ℕ) → i < count → (getD starts i 0 ≡ 0 → ⊥) → write (write b (take (getD sizes i 0) (drop (getD starts i 0 - 1) tree))) (leftOver (drop (i + 1) (heldIn tree starts sizes count))) ≡ write b (leftOver (drop i (heldIn tree starts sizes count)))
+  unfolding leftOver
+  left-one b i h z =
+      let d : drop i (heldIn tree starts sizes count) ≡ quasi (take (getD sizes i 0) (drop (getD starts i 0 - 1) tree)) ∷ drop (i + 1) (heldIn tree starts sizes count) =
+      drop-cons (heldIn tree starts sizes count) i stop (omega (arith, held-length tree starts sizes count))
+      ∙ ap (λ (c : Cell). c ∷ drop (suc i) (heldIn tree starts sizes count)) (held-at tree starts sizes count i h ∙ cell-some tree (getD starts i 0) (getD sizes i 0) z)
+      ∙ ap (λ (j : ℕ). quasi (take (getD sizes i 0) (drop (getD starts i 0 - 1) tree)) ∷ drop j (heldIn tree starts sizes count)) (sym (add-one i)) in
+      sym (write-append b (take (getD sizes i 0) (drop (getD starts i 0 - 1) tree)) (leftOver (drop (i + 1) (heldIn tree starts sizes count))))
+      ∙ ap (λ (l : List Cell). write b (leftOver l)) (sym d)
+
+  pub left-end : (b : Buffer) (i : ℕ) → count ≤ i → b ≡ write b (leftOver (drop i (heldIn tree starts sizes count)))
+  unfolding leftOver write
+  left-end b i h = ap (λ (l : List Cell). write b (leftOver l)) (sym (drop-of-length-le (heldIn tree starts sizes count) {i = i} (omega (arith, held-length tree starts sizes count))))
+
+pub cells-some : (held : List Cell) (x : ℕ) → (x ≡ 0 → ⊥) → cellsFrom held x ≡ drop (x - 1) held
+cells-some held zero n = absurd (n refl)
+cells-some held (suc x) n = let e : x ≡ suc x - 1 = omega arith in ap (λ (j : ℕ). drop j held) e
+
+-- six pieces, one after the other
+pub six : (b : Buffer) (u v w x y z : List ℕ) → write (write (write (write (write (write b u) v) w) x) y) z ≡ write b (u ++ (v ++ (w ++ (x ++ (y ++ z)))))
+six b u v w x y z =
+    sym (write-append (write (write (write (write b u) v) w) x) y z)
+    ∙ sym (write-append (write (write (write b u) v) w) x (y ++ z))
+    ∙ sym (write-append (write (write b u) v) w (x ++ (y ++ z)))
+    ∙ sym (write-append (write b u) v (w ++ (x ++ (y ++ z))))
+    ∙ sym (write-append b u (v ++ (w ++ (x ++ (y ++ z)))))
