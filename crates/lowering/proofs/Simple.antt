@@ -91,15 +91,15 @@ as-items (Piece.byte b) s = SimpleItems.none
 as-items (Piece.mark b) s = SimpleItems.none
 as-items (Piece.number b) s = SimpleItems.none
 
-node-at : (i : ℕ) (n : Node) → Simple n → Simple (nodeAt i n)
+pub node-at : (i : ℕ) (n : Node) → Simple n → Simple (nodeAt i n)
 unfolding nodeAt
 node-at i (node at k fs) (simple o l s) = as-node (pieceIn fs i) (piece-at fs i s)
 
-items-at : (i : ℕ) (n : Node) → Simple n → SimpleItems (itemsAt i n)
+pub items-at : (i : ℕ) (n : Node) → Simple n → SimpleItems (itemsAt i n)
 unfolding itemsAt
 items-at i (node at k fs) (simple o l s) = as-items (pieceIn fs i) (piece-at fs i s)
 
-no-rest : (p : Node) → is 34 p ≡ true → Simple p → hasRest p ≡ false
+pub no-rest : (p : Node) → is 34 p ≡ true → Simple p → hasRest p ≡ false
 unfolding is stands
 no-rest (node at k fs) e (simple o l s) = o e
 
@@ -115,7 +115,7 @@ first-simple f h Items.none SimpleItems.none = refl
 first-simple f h (Items.hole is) (SimpleItems.hole s) = first-simple f h is s
 first-simple f h (Items.item n is) (SimpleItems.item q s) = rw (h n q, first-simple f h is s)
 
-gather-none : (f : Node → Items) → ((n : Node) → Simple n → f n ≡ Items.none) → (is : Items) → SimpleItems is → gather f is ≡ Items.none
+pub gather-none : (f : Node → Items) → ((n : Node) → Simple n → f n ≡ Items.none) → (is : Items) → SimpleItems is → gather f is ≡ Items.none
 unfolding gather _+++_
 gather-none f h Items.none SimpleItems.none = refl
 gather-none f h (Items.hole is) (SimpleItems.hole s) = gather-none f h is s
@@ -123,7 +123,7 @@ gather-none f h (Items.item n is) (SimpleItems.item q s) = rw (h n q) (gather-no
 
 -- ---- no object rest is found
 
-has-none : (d : ℕ) (p : Node) → Simple p → hasNestedObjectRest d p ≡ false
+pub has-none : (d : ℕ) (p : Node) → Simple p → hasNestedObjectRest d p ≡ false
 unfolding hasNestedObjectRest
 has-none zero p s = refl
 has-none (suc d) p s =

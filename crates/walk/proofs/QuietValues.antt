@@ -6,17 +6,16 @@ use mathlib.Core.Bool.{Bool, true, false, cond}
 use mathlib.Core.List.{List, []}
 use Prim.Native.Nat.{ℕ, zero, suc}
 use native.Mathlib.Omega.{arith}
-use Rattle.tree.specs.Tree.{Node, Fields, Piece, Items, depth}
-use Rattle.tree.specs.Tree.Node.{node}
+use Rattle.tree.specs.Tree.{Node, Items, depth}
 use Rattle.tree.specs.Read.{byteAt}
 use Rattle.tree.specs.Look.{Seen, onward, quietAt, lookNode}
-use Rattle.lowering.specs.Parts.{nothing, is, pieceIn, standsIn, asNode, asItems, nodeAt, itemsAt, stands, gather, any, changeNode, _+++_}
+use Rattle.lowering.specs.Parts.{is, pieceIn, nodeAt, gather, changeNode, _+++_}
 use Rattle.lowering.specs.Made.{Context}
-use Rattle.lowering.specs.Patterns.{shape, properties, itemsOf, rest, hasRest, leftOf, key, value, hasNestedObjectRest, objectsWithRest, objectsBelow}
+use Rattle.lowering.specs.Patterns.{shape, properties, itemsOf, leftOf, key, value, objectsWithRest, objectsBelow}
 use Rattle.lowering.specs.Declarations.{nested, innerObjects}
 use Rattle.lowering.proofs.Cases.{by-shape, object-is}
 use Rattle.lowering.proofs.ChangeLaws.{changeNode-same}
-use Rattle.lowering.proofs.Simple.{Simple, SimpleFields, SimplePiece, SimpleItems, simple}
+use Rattle.lowering.proofs.Simple.{Simple, node-at, items-at, no-rest, gather-none, has-none}
 use Rattle.sink.specs.Machine.{part}
 use Rattle.direct.specs.Events.{Place, Emit, puts, contextOf, emits}
 use Rattle.direct.specs.Emit.{say, inner, emitsItems, inTurn}
@@ -38,71 +37,7 @@ use Rattle.walk.proofs.Opened.{property-open, no-good}
 use Rattle.walk.proofs.Emits.{quiet-does}
 use Rattle.walk.proofs.Lookups.{static-class, other-is}
 
--- ---- parts of a node without object rest and spread
-
-simple-nothing : Simple nothing
-unfolding standsIn pieceIn any
-simple-nothing = simple {fs = Fields.done} (λ e. refl) (λ e. refl) SimpleFields.done
-
-piece-at : (fs : Fields) (i : ℕ) → SimpleFields fs → SimplePiece (pieceIn fs i)
-unfolding pieceIn
-piece-at Fields.done i SimpleFields.done = SimplePiece.number
-piece-at (Fields.absent fs) zero (SimpleFields.absent s) = SimplePiece.number
-piece-at (Fields.absent fs) (suc i) (SimpleFields.absent s) = piece-at fs i s
-piece-at (Fields.field p fs) zero (SimpleFields.field q s) = q
-piece-at (Fields.field p fs) (suc i) (SimpleFields.field q s) = piece-at fs i s
-
-as-node : (p : Piece) → SimplePiece p → Simple (asNode p)
-as-node (Piece.one n) (SimplePiece.one s) = s
-as-node (Piece.list is) s = simple-nothing
-as-node (Piece.text bs) s = simple-nothing
-as-node (Piece.byte b) s = simple-nothing
-as-node (Piece.mark b) s = simple-nothing
-as-node (Piece.number b) s = simple-nothing
-
-as-items : (p : Piece) → SimplePiece p → SimpleItems (asItems p)
-as-items (Piece.one n) s = SimpleItems.none
-as-items (Piece.list is) (SimplePiece.list s) = s
-as-items (Piece.text bs) s = SimpleItems.none
-as-items (Piece.byte b) s = SimpleItems.none
-as-items (Piece.mark b) s = SimpleItems.none
-as-items (Piece.number b) s = SimpleItems.none
-
-pub node-at : (i : ℕ) (n : Node) → Simple n → Simple (nodeAt i n)
-unfolding nodeAt
-node-at i (node at k fs) (simple o l s) = as-node (pieceIn fs i) (piece-at fs i s)
-
-items-at : (i : ℕ) (n : Node) → Simple n → SimpleItems (itemsAt i n)
-unfolding itemsAt
-items-at i (node at k fs) (simple o l s) = as-items (pieceIn fs i) (piece-at fs i s)
-
-no-rest : (p : Node) → is 34 p ≡ true → Simple p → hasRest p ≡ false
-unfolding is stands
-no-rest (node at k fs) e (simple o l s) = o e
-
-any-none : (f : Node → Bool) → ((n : Node) → Simple n → f n ≡ false) → (is : Items) → SimpleItems is → any f is ≡ false
-unfolding any
-any-none f h Items.none SimpleItems.none = refl
-any-none f h (Items.hole is) (SimpleItems.hole s) = any-none f h is s
-any-none f h (Items.item n is) (SimpleItems.item q s) = rw (h n q, any-none f h is s)
-
-gather-none : (f : Node → Items) → ((n : Node) → Simple n → f n ≡ Items.none) → (is : Items) → SimpleItems is → gather f is ≡ Items.none
-unfolding gather _+++_
-gather-none f h Items.none SimpleItems.none = refl
-gather-none f h (Items.hole is) (SimpleItems.hole s) = gather-none f h is s
-gather-none f h (Items.item n is) (SimpleItems.item q s) = rw (h n q) (gather-none f h is s)
-
 -- ---- nothing is found below it
-
-has-none : (d : ℕ) (p : Node) → Simple p → hasNestedObjectRest d p ≡ false
-unfolding hasNestedObjectRest
-has-none zero p s = refl
-has-none (suc d) p s =
-    by-shape (shape p)
-    (λ e. rw (e, hasNestedObjectRest, no-rest p (object-is p e) s) (any-none (λ q. hasNestedObjectRest d (value q)) (λ q z. has-none d (value q) (node-at 1 q z)) (properties p) (items-at 0 p s)))
-    (λ e. rw (e, hasNestedObjectRest, any-none (λ m. hasNestedObjectRest d m) (λ m z. has-none d m z) (itemsOf p) (items-at 0 p s)) (has-none d (rest p) (node-at 1 p s)))
-    (λ e. rw (e, hasNestedObjectRest) (has-none d (leftOf p) (node-at 0 p s)))
-    (λ e. rw (e, hasNestedObjectRest) refl)
 
 entered : (b : Bool) (is : Items) → is ≡ Items.none → cond b is Items.none ≡ Items.none
 entered true is h = h
