@@ -16,7 +16,7 @@ use Rattle.lowering.proofs.Cases.{by-test, or-left, or-right}
 use Rattle.lowering.proofs.Accepted.{NoHoles}
 use Rattle.direct.specs.Events.{Deed, Place, Emit, puts, contextOf, emits}
 use Rattle.direct.specs.Emit.{say, _▷_, inner, emitsItems, stays, callHead}
-use Rattle.direct.specs.Literals.{isSpread, modeNext, modeAfter, headAt, innerHeads, lastHead, heads, run, pendingHead, part, parts, spreads}
+use Rattle.direct.specs.Literals.{isSpread, modeNext, modeAfter, headAt, innerHeads, lastHead, heads, run, pendingHead, part, parts, spreads, noCall, nothingPending, somePending}
 use Rattle.direct.proofs.Threads.{then-assoc, say-nothing, then-nothing}
 use Rattle.direct.proofs.OneLevel.{emits-as, nothing-handed, emits-nowhere, emits-unchanged}
 use Rattle.direct.proofs.RulesKeep.{rule-24, literal-kept}
@@ -36,7 +36,7 @@ heads-append m (Items.item p ps) qs =
     let n = modeNext m p in
     ap (λ (x : List Deed). x ++ headAt m p) (heads-append n ps qs) ∙ append-assoc (innerHeads (modeAfter n ps) qs) (innerHeads n ps) (headAt m p)
 
-mode-spread : (m : ℕ) (p : Node) → is 26 p ≡ true → modeNext m p ≡ 1
+mode-spread : (m : ℕ) (p : Node) → is 26 p ≡ true → modeNext m p ≡ nothingPending
 unfolding modeNext
 mode-spread zero p e = rw e refl
 mode-spread (suc m) p e = rw e refl
@@ -52,11 +52,11 @@ unfolding heads modeAfter innerHeads headAt
 heads-other m p ps e =
     rw e (ap (λ (x : List Deed). lastHead (modeAfter (modeNext m p) ps) ++ x) (append-nil (innerHeads (modeNext m p) ps)))
 
-mode-first : (p : Node) → is 26 p ≡ false → modeNext 0 p ≡ 0
+mode-first : (p : Node) → is 26 p ≡ false → modeNext noCall p ≡ noCall
 unfolding modeNext
 mode-first p e = rw e refl
 
-mode-more : (m : ℕ) (p : Node) → is 26 p ≡ false → modeNext (suc m) p ≡ 2
+mode-more : (m : ℕ) (p : Node) → is 26 p ≡ false → modeNext (suc m) p ≡ somePending
 unfolding modeNext
 mode-more m p e = rw e refl
 
@@ -101,11 +101,11 @@ parts-other c p ps e = rw e refl
 
 -- the mode behind a call
 unfoldable modeOf : Items → ℕ
-modeOf Items.none = 1
-modeOf (Items.hole ps) = 1
-modeOf (Items.item p ps) = 2
+modeOf Items.none = nothingPending
+modeOf (Items.hole ps) = nothingPending
+modeOf (Items.item p ps) = somePending
 
-mode-pending : (pending : Items) (p : Node) → is 26 p ≡ false → modeNext (modeOf pending) p ≡ 2
+mode-pending : (pending : Items) (p : Node) → is 26 p ≡ false → modeNext (modeOf pending) p ≡ somePending
 unfolding modeOf
 mode-pending Items.none p e = mode-more 0 p e
 mode-pending (Items.hole ps) p e = mode-more 0 p e
@@ -293,7 +293,7 @@ module _ (c : Place) where
   -- the whole scan, before the first call
   abbrev First : Items → Items → Emit
   First pending ps =
-      say (heads 0 ps) ▷ say (puts (24 ∷ 1 ∷ wideBytes (count pending + run ps))) ▷ emitsItems false (inner c) pending ▷ parts (inner c) ps
+      say (heads noCall ps) ▷ say (puts (24 ∷ 1 ∷ wideBytes (count pending + run ps))) ▷ emitsItems false (inner c) pending ▷ parts (inner c) ps
 
   first-arguments : (pending : Items) → any isSpread pending ≡ false → (a : Node)
       → emitsItems false (inner c) (opened Call.no-call pending +++ only a)
@@ -344,7 +344,7 @@ module _ (c : Place) where
       (then-assoc s (i ▷ a) (t ▷ r) ∙ ap (λ (u : Emit). s ▷ u) (then-assoc i a (t ▷ r))))
       ∙ say-then (heads 1 ps) (callHead 1 2) (s ▷ i ▷ a ▷ t ▷ r)
       ∙ ap₂ (λ (u : List Deed) (v : Emit). say u ▷ s ▷ i ▷ v) (sym (heads-spread 0 p ps e)) (sym (parts-spread (inner c) p ps e))
-      ∙ ap (λ (u : ℕ). say (heads 0 (Items.item p ps)) ▷ say (puts (24 ∷ 1 ∷ wideBytes u)) ▷ i ▷ parts (inner c) (Items.item p ps))
+      ∙ ap (λ (u : ℕ). say (heads noCall (Items.item p ps)) ▷ say (puts (24 ∷ 1 ∷ wideBytes u)) ▷ i ▷ parts (inner c) (Items.item p ps))
       (y ∙ ap (λ (u : ℕ). count pending + u) (sym (run-spread p ps e)))
 
   other-first : (pending : Items) (p : Node) (ps : Items) → is 26 p ≡ false → First (pending +++ only p) ps ≡ First pending (Items.item p ps)
@@ -354,13 +354,13 @@ module _ (c : Place) where
       let a = count-added pending p in
       let b = run-other p ps e in
       let n : count (pending +++ only p) + run ps ≡ count pending + run (Items.item p ps) = omega arith in
-      let m : heads 0 ps ≡ heads 0 (Items.item p ps) =
+      let m : heads noCall ps ≡ heads noCall (Items.item p ps) =
       ap (λ (u : ℕ). heads u ps) (sym (mode-first p e)) ∙ sym (heads-other 0 p ps e) in
       let k : emitsItems false (inner c) (pending +++ only p) ▷ r ≡ i ▷ parts (inner c) (Items.item p ps) =
       ap (λ (u : Emit). u ▷ r) (items-added (inner c) pending p)
       ∙ then-assoc i (emits (inner c) p) r ∙ ap (λ (u : Emit). i ▷ u) (sym (parts-other (inner c) p ps e)) in
       ap (λ (u : List Deed). say u ▷ say (puts (24 ∷ 1 ∷ wideBytes (count (pending +++ only p) + run ps))) ▷ emitsItems false (inner c) (pending +++ only p) ▷ r) m
-      ∙ ap₂ (λ (u : ℕ) (v : Emit). say (heads 0 (Items.item p ps)) ▷ say (puts (24 ∷ 1 ∷ wideBytes u)) ▷ v) n k
+      ∙ ap₂ (λ (u : ℕ) (v : Emit). say (heads noCall (Items.item p ps)) ▷ say (puts (24 ∷ 1 ∷ wideBytes u)) ▷ v) n k
 
   closed-first : (pending : Items) → any isSpread pending ≡ false → emits c (closed Call.no-call pending) ≡ First pending Items.none
   unfolding closed heads lastHead modeAfter innerHeads run parts
@@ -446,7 +446,7 @@ emits-spreads c n k h =
     ∙ say-nothing (stays c r)
     ∙ sym (emits-nowhere c r (called-first Items.none ps h))
     ∙ scan-first c Items.none ps (nothing-spread c)
-    ∙ ap₂ (λ (u : ℕ) (v : Emit). say (heads 0 ps) ▷ say (puts (24 ∷ 1 ∷ wideBytes u)) ▷ v) x
+    ∙ ap₂ (λ (u : ℕ) (v : Emit). say (heads noCall ps) ▷ say (puts (24 ∷ 1 ∷ wideBytes u)) ▷ v) x
     (ap (λ (u : Emit). u ▷ parts (inner c) ps) (no-items false (inner c)) ∙ say-nothing (parts (inner c) ps))
 
 -- an Object without one

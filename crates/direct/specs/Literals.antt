@@ -16,10 +16,20 @@ isSpread p = is 26 p
 
 -- ---- heads
 
--- the call so far: 0 there is none, 1 nothing is pending behind it, 2 something is
+-- the call so far: there is none, nothing is pending behind it, something is
+abbrev pub noCall : ℕ
+noCall = 0
+
+abbrev pub nothingPending : ℕ
+nothingPending = 1
+
+abbrev pub somePending : ℕ
+somePending = 2
+
+-- the same after one more property
 unfoldable pub modeNext : ℕ → Node → ℕ
-modeNext zero p = cond (isSpread p) 1 0
-modeNext (suc m) p = cond (isSpread p) 1 2
+modeNext zero p = cond (isSpread p) nothingPending noCall
+modeNext (suc m) p = cond (isSpread p) nothingPending somePending
 
 unfoldable pub modeAfter : ℕ → Items → ℕ
 modeAfter m none = m
@@ -28,7 +38,7 @@ modeAfter m (item p ps) = modeAfter (modeNext m p) ps
 
 -- a spread ends a call: of what came before and its argument, with {} and {pending} between them if something is pending
 unfoldable pub headAt : ℕ → Node → List Deed
-headAt m p = cond (isSpread p) (callHead 1 (cond (eqb m 2) 4 2)) []
+headAt m p = cond (isSpread p) (callHead 1 (cond (eqb m somePending) 4 2)) []
 
 -- a later call is around an earlier one
 unfoldable pub innerHeads : ℕ → Items → List Deed
@@ -38,7 +48,7 @@ innerHeads m (item p ps) = innerHeads (modeNext m p) ps ++ headAt m p
 
 -- what is pending at the end makes one more call
 unfoldable pub lastHead : ℕ → List Deed
-lastHead m = cond (eqb m 2) (callHead 1 3) []
+lastHead m = cond (eqb m somePending) (callHead 1 3) []
 
 unfoldable pub heads : ℕ → Items → List Deed
 heads m ps = lastHead (modeAfter m ps) ++ innerHeads m ps
@@ -66,4 +76,4 @@ parts c (hole ps) = parts c ps
 parts c (item p ps) = part c p (run ps) ▷ parts c ps
 
 unfoldable pub spreads : Place → Items → Emit
-spreads c ps = say (heads 0 ps) ▷ say (puts (24 ∷ 1 ∷ wideBytes (run ps))) ▷ parts (inner c) ps
+spreads c ps = say (heads noCall ps) ▷ say (puts (24 ∷ 1 ∷ wideBytes (run ps))) ▷ parts (inner c) ps

@@ -17,7 +17,7 @@ use Rattle.tree.specs.Grammar.{fieldsOf, kinds}
 use Rattle.lowering.specs.Parts.{is, _+++_, any, itemsAt, pieceIn}
 use Rattle.direct.specs.Events.{Deed, puts}
 use Rattle.direct.specs.Emit.{say, _▷_, callHead}
-use Rattle.direct.specs.Literals.{isSpread, modeNext, modeAfter, headAt, innerHeads, lastHead, heads, run, pendingHead}
+use Rattle.direct.specs.Literals.{isSpread, modeNext, modeAfter, headAt, innerHeads, lastHead, heads, run, pendingHead, noCall, nothingPending, somePending}
 use Rattle.direct.proofs.LiteralsInOrder.{heads-append, run-all, run-some}
 use Rattle.direct.proofs.Threads.{say-say}
 use Rattle.walk.specs.Run.{Going, Runs, Does}
@@ -27,32 +27,32 @@ use Rattle.walk.proofs.Opened.{look-solid}
 
 -- ---- one property
 
-pub mode-spread : (m : ℕ) (n : Node) (b : Bool) → b ≡ isSpread n → b ≡ true → 1 ≡ modeNext m n
+pub mode-spread : (m : ℕ) (n : Node) (b : Bool) → b ≡ isSpread n → b ≡ true → nothingPending ≡ modeNext m n
 unfolding modeNext
 mode-spread zero n b e h = rw (sym e, h) refl
 mode-spread (suc m) n b e h = rw (sym e, h) refl
 
-pub mode-none : (m : ℕ) (n : Node) (b : Bool) → b ≡ isSpread n → b ≡ false → m ≡ 0 → 0 ≡ modeNext m n
+pub mode-none : (m : ℕ) (n : Node) (b : Bool) → b ≡ isSpread n → b ≡ false → m ≡ noCall → noCall ≡ modeNext m n
 unfolding modeNext
 mode-none zero n b e h z = rw (sym e, h) refl
 mode-none (suc m) n b e h z = absurd (omega arith)
 
-pub mode-other : (m : ℕ) (n : Node) (b : Bool) → b ≡ isSpread n → b ≡ false → (m ≡ 0 → ⊥) → 2 ≡ modeNext m n
+pub mode-other : (m : ℕ) (n : Node) (b : Bool) → b ≡ isSpread n → b ≡ false → (m ≡ noCall → ⊥) → somePending ≡ modeNext m n
 unfolding modeNext
 mode-other zero n b e h z = absurd (z refl)
 mode-other (suc m) n b e h z = rw (sym e, h) refl
 
 pub head-none : {g : Going} (m : ℕ) (n : Node) (b : Bool) → b ≡ isSpread n → b ≡ false → Runs g g (headAt m n)
 unfolding headAt
-head-none m n b e h = runs-as runs-none (ap (λ (x : Bool). cond x (callHead 1 (cond (eqb m 2) 4 2)) []) (sym (sym e ∙ h)))
+head-none m n b e h = runs-as runs-none (ap (λ (x : Bool). cond x (callHead 1 (cond (eqb m somePending) 4 2)) []) (sym (sym e ∙ h)))
 
-pub head-four : {g g′ : Going} (m : ℕ) (n : Node) (b : Bool) → b ≡ isSpread n → b ≡ true → m ≡ 2 → Runs g g′ (callHead 1 4) → Runs g g′ (headAt m n)
+pub head-four : {g g′ : Going} (m : ℕ) (n : Node) (b : Bool) → b ≡ isSpread n → b ≡ true → m ≡ somePending → Runs g g′ (callHead 1 4) → Runs g g′ (headAt m n)
 unfolding headAt
 head-four m n b e h z d = rw (sym e, h, z) d
 
-pub head-two : {g g′ : Going} (m : ℕ) (n : Node) (b : Bool) → b ≡ isSpread n → b ≡ true → (m ≡ 2 → ⊥) → Runs g g′ (callHead 1 2) → Runs g g′ (headAt m n)
+pub head-two : {g g′ : Going} (m : ℕ) (n : Node) (b : Bool) → b ≡ isSpread n → b ≡ true → (m ≡ somePending → ⊥) → Runs g g′ (callHead 1 2) → Runs g g′ (headAt m n)
 unfolding headAt
-head-two m n b e h z d = rw (sym e, h, ne-eqb m 2 z) d
+head-two m n b e h z d = rw (sym e, h, ne-eqb m somePending z) d
 
 pub pending-none : {g : Going} (n : ℕ) → n ≡ 0 → Runs g g (pendingDeeds n)
 unfolding pendingDeeds
@@ -178,15 +178,15 @@ module _ (t : List ℕ) where
         ∙ sym (heads-append m ps qs)
         ∙ ap (λ (is : Items). innerHeads m is) (sym (halves false h (n - h) n at w)))
 
-    pub heads-last : {g g₁ g′ : Going} (m k n at : ℕ) → k ≡ modeAfter m (lookItems t R false n at .value) → k ≡ 2 → Runs g g₁ (callHead 1 3)
+    pub heads-last : {g g₁ g′ : Going} (m k n at : ℕ) → k ≡ modeAfter m (lookItems t R false n at .value) → k ≡ somePending → Runs g g₁ (callHead 1 3)
         → Runs g₁ g′ (innerHeads m (lookItems t R false n at .value)) → Runs g g′ (heads m (lookItems t R false n at .value))
     unfolding heads lastHead
     heads-last m k n at e z a b = runs-as (runs-then (callHead 1 3) (innerHeads m (lookItems t R false n at .value)) a b) (rw (sym e, z) refl)
 
-    pub heads-inner : {g g′ : Going} (m k n at : ℕ) → k ≡ modeAfter m (lookItems t R false n at .value) → (k ≡ 2 → ⊥)
+    pub heads-inner : {g g′ : Going} (m k n at : ℕ) → k ≡ modeAfter m (lookItems t R false n at .value) → (k ≡ somePending → ⊥)
         → Runs g g′ (innerHeads m (lookItems t R false n at .value)) → Runs g g′ (heads m (lookItems t R false n at .value))
     unfolding heads lastHead
-    heads-inner m k n at e z b = runs-as b (rw (sym e, ne-eqb k 2 z) refl)
+    heads-inner m k n at e z b = runs-as b (rw (sym e, ne-eqb k somePending z) refl)
 
     -- ---- the head of the object
 
@@ -199,21 +199,21 @@ module _ (t : List ℕ) where
         go true h = omega arith
         go false h = omega arith
 
-    pub opens : {g g₁ g₂ g₃ : Going} (n at k : ℕ) → k ≡ run (lookItems t R false n at .value) → Runs g g₁ (heads 0 (lookItems t R false n at .value))
+    pub opens : {g g₁ g₂ g₃ : Going} (n at k : ℕ) → k ≡ run (lookItems t R false n at .value) → Runs g g₁ (heads noCall (lookItems t R false n at .value))
         → Runs g₁ g₂ (puts (24 ∷ 1 ∷ [])) → Runs g₂ g₃ (puts (wideBytes (k % 65536)))
-        → Runs g g₃ (heads 0 (lookItems t R false n at .value) ++ puts (24 ∷ 1 ∷ wideBytes (run (lookItems t R false n at .value) % 65536)))
+        → Runs g g₃ (heads noCall (lookItems t R false n at .value) ++ puts (24 ∷ 1 ∷ wideBytes (run (lookItems t R false n at .value) % 65536)))
     opens n at k e a b c =
         let is = lookItems t R false n at .value in
-        runs-as (runs-then (heads 0 is) (puts (24 ∷ 1 ∷ wideBytes (k % 65536))) a (runs-then (puts (24 ∷ 1 ∷ [])) (puts (wideBytes (k % 65536))) b c))
-        (ap (λ (x : ℕ). heads 0 is ++ puts (24 ∷ 1 ∷ wideBytes (x % 65536))) e)
+        runs-as (runs-then (heads noCall is) (puts (24 ∷ 1 ∷ wideBytes (k % 65536))) a (runs-then (puts (24 ∷ 1 ∷ [])) (puts (wideBytes (k % 65536))) b c))
+        (ap (λ (x : ℕ). heads noCall is ++ puts (24 ∷ 1 ∷ wideBytes (x % 65536))) e)
 
     -- what it does where the number of items fits two bytes
-    pub does-opening : {g g′ : Going} (n at : ℕ) → Runs g g′ (heads 0 (lookItems t R false n at .value) ++ puts (24 ∷ 1 ∷ wideBytes (run (lookItems t R false n at .value) % 65536)))
-        → n < 65536 → Does g g′ (say (heads 0 (lookItems t R false n at .value)) ▷ say (puts (24 ∷ 1 ∷ wideBytes (run (lookItems t R false n at .value)))))
+    pub does-opening : {g g′ : Going} (n at : ℕ) → Runs g g′ (heads noCall (lookItems t R false n at .value) ++ puts (24 ∷ 1 ∷ wideBytes (run (lookItems t R false n at .value) % 65536)))
+        → n < 65536 → Does g g′ (say (heads noCall (lookItems t R false n at .value)) ▷ say (puts (24 ∷ 1 ∷ wideBytes (run (lookItems t R false n at .value)))))
     does-opening n at e h =
         let is = lookItems t R false n at .value in
         let w : run is % 65536 ≡ run is = omega (arith, run-bound n at) in
-        does-as (runs-does (runs-as e (ap (λ (x : ℕ). heads 0 is ++ puts (24 ∷ 1 ∷ wideBytes x)) w))) (sym (say-say (heads 0 is) (puts (24 ∷ 1 ∷ wideBytes (run is)))))
+        does-as (runs-does (runs-as e (ap (λ (x : ℕ). heads noCall is ++ puts (24 ∷ 1 ∷ wideBytes x)) w))) (sym (say-say (heads noCall is) (puts (24 ∷ 1 ∷ wideBytes (run is)))))
 
     -- ---- a list without holes
 

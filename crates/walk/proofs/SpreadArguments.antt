@@ -21,7 +21,7 @@ use Rattle.lowering.specs.Collect.{isContainer}
 use Rattle.tree.specs.Answer.{Wide}
 use Rattle.walk.proofs.LiteralHeads.{run-bound, object-fields, no-object-fields}
 use Rattle.walk.proofs.Emits.{good-none}
-use Rattle.direct.specs.Literals.{isSpread, run, part, parts, pendingHead, heads, spreads}
+use Rattle.direct.specs.Literals.{isSpread, run, part, parts, pendingHead, heads, spreads, noCall}
 use Rattle.walk.specs.Run.{Going, Does}
 use Rattle.walk.specs.Whole.{holeAt, GoodItems, GoodList, GoodFields, GoodSlot, GoodField, Good}
 use Rattle.walk.proofs.Running.{does-then, does-as}
@@ -166,7 +166,7 @@ module _ (t : List ℕ) where
 
   pub object-does : {g g₁ h g′ : Going} (c c′ : Place) (d e at q p n x : ℕ) (b : Bool) → (byteAt t at ≡ 24 → b ≡ any isSpread (itemsAt 0 (lookNode t d at .value))) → b ≡ true → byteAt t at ≡ 24 → q ≡ onward t at 2 → p ≡ onward t q 2 → Wide t q n → e ≡ d - 1 → x ≡ p
       → c′ ≡ inner c → h ≡ g₁
-      → (n < 65536 → Does g g₁ (say (heads 0 (lookItems t (lookNode t e) false n p .value)) ▷ say (puts (24 ∷ 1 ∷ wideBytes (run (lookItems t (lookNode t e) false n p .value))))))
+      → (n < 65536 → Does g g₁ (say (heads noCall (lookItems t (lookNode t e) false n p .value)) ▷ say (puts (24 ∷ 1 ∷ wideBytes (run (lookItems t (lookNode t e) false n p .value))))))
       → (n < 65536 → GoodItems t (lookNode t e) (Good t e) false false n x → Does h g′ (parts c′ (lookItems t (lookNode t e) false n x .value)))
       → Good t d at → Does g g′ (emits c (lookNode t d at .value))
   unfolding Good is spreads itemsAt pieceIn
@@ -182,8 +182,8 @@ module _ (t : List ℕ) where
       let ps : Items = lookItems t (lookNode t e) false n p .value in
       let same : ps ≡ itemsAt 0 (lookNode t (suc d) at .value) = rw (j, nn, pp) refl ∙ ap (λ (z : Node). itemsAt 0 z) (sym (object-node d at k m)) in
       let last : Does g₁ g′ (parts (inner c) ps) = does-as (does-from z (r small gi)) (ap (λ (y : Place). parts y (lookItems t (lookNode t e) false n x .value)) y ∙ ap (λ (y : ℕ). parts (inner c) (lookItems t (lookNode t e) false n y .value)) o) in
-      does-as {e = (say (heads 0 ps) ▷ say (puts (24 ∷ 1 ∷ wideBytes (run ps)))) ▷ parts (inner c) ps} (does-then (a small) last)
-      (then-assoc (say (heads 0 ps)) (say (puts (24 ∷ 1 ∷ wideBytes (run ps)))) (parts (inner c) ps)
+      does-as {e = (say (heads noCall ps) ▷ say (puts (24 ∷ 1 ∷ wideBytes (run ps)))) ▷ parts (inner c) ps} (does-then (a small) last)
+      (then-assoc (say (heads noCall ps)) (say (puts (24 ∷ 1 ∷ wideBytes (run ps)))) (parts (inner c) ps)
       ∙ ap (λ (is : Items). spreads c is) same
       ∙ sym (emits-spreads c (lookNode t (suc d) at .value) (kind-24 d at k) (sym (f k) ∙ h)))
 
@@ -213,6 +213,6 @@ module _ (t : List ℕ) where
       rw (s, e) (g .1)
 
   pub levels : {g g′ : Going} (e d n p : ℕ) → e ≡ d
-      → (n < 65536 → Does g g′ (say (heads 0 (lookItems t (lookNode t d) false n p .value)) ▷ say (puts (24 ∷ 1 ∷ wideBytes (run (lookItems t (lookNode t d) false n p .value))))))
-      → n < 65536 → Does g g′ (say (heads 0 (lookItems t (lookNode t e) false n p .value)) ▷ say (puts (24 ∷ 1 ∷ wideBytes (run (lookItems t (lookNode t e) false n p .value)))))
+      → (n < 65536 → Does g g′ (say (heads noCall (lookItems t (lookNode t d) false n p .value)) ▷ say (puts (24 ∷ 1 ∷ wideBytes (run (lookItems t (lookNode t d) false n p .value))))))
+      → n < 65536 → Does g g′ (say (heads noCall (lookItems t (lookNode t e) false n p .value)) ▷ say (puts (24 ∷ 1 ∷ wideBytes (run (lookItems t (lookNode t e) false n p .value)))))
   levels e d n p h k = rw h k

@@ -16,7 +16,7 @@ ghost use Prim.Native.Nat.{ℕ, _%_};
 ghost use lib.Dec.{eqb};
 ghost use Rattle.tree.specs.Read.{byteAt};
 ghost use Rattle.tree.specs.Look.{onward, lookItems, lookNode};
-ghost use Rattle.direct.specs.Literals.{isSpread, modeNext, modeAfter, headAt, innerHeads, heads, run};
+ghost use Rattle.direct.specs.Literals.{isSpread, modeNext, modeAfter, headAt, innerHeads, heads, run, noCall};
 ghost use Rattle.walk.specs.Run.{goingOf, Runs};
 ghost use Rattle.walk.specs.Turns.{spreadAt, pendingDeeds};
 
@@ -180,7 +180,7 @@ pub fn has_first(t: &[u8], at: usize) -> bool
 
 // The heads of the calls, and the head of the object that they begin with.
 pub fn opening(w: Walk, t: &[u8], out: &mut [u8], left: usize, n: usize, at: usize) -> Walk
-    ensures { λ r. ⌜ ((l k : List ℕ) → Runs (goingOf (now (out .entry)) l k w) (goingOf (now (out .exit)) l k r) (heads 0 (lookItems (now (t .entry)) (lookNode (now (t .entry)) left) false n at .value) ++ puts (24 ∷ 1 ∷ wideBytes (run (lookItems (now (t .entry)) (lookNode (now (t .entry)) left) false n at .value) % 65536)))) × (r .at ≡ w .at) ⌝ }
+    ensures { λ r. ⌜ ((l k : List ℕ) → Runs (goingOf (now (out .entry)) l k w) (goingOf (now (out .exit)) l k r) (heads noCall (lookItems (now (t .entry)) (lookNode (now (t .entry)) left) false n at .value) ++ puts (24 ∷ 1 ∷ wideBytes (run (lookItems (now (t .entry)) (lookNode (now (t .entry)) left) false n at .value) % 65536)))) × (r .at ≡ w .at) ⌝ }
 {
     let k = run_of(t, left, n, at);
     all_heads(w, t, out, left, n, at, NO_CALL)
