@@ -22,10 +22,8 @@ use Rattle.lowering.specs.Assignments.{target, isTop, topRefusal}
 use Rattle.lowering.proofs.All.{AllItems}
 use Rattle.lowering.proofs.Cases.{by-test, and-left, and-right, by-number}
 use Rattle.sink.specs.Machine.Event.{temporary}
-use Rattle.pattern.specs.declared.source.Read.{Read}
-use Rattle.pattern.specs.declared.source.Read.the-variants.{Temporary}
 use Rattle.pattern.specs.declared.source.ReferenceBuilder.{ReferenceBuilder}
-use Rattle.pattern.specs.Source.{builderOf, readOf, placeRead, afterRead}
+use Rattle.pattern.specs.Source.{Given, builderOf, readOf, placeRead, afterRead}
 use Rattle.pattern.proofs.SourceReads.{first-read, later-forced}
 use Rattle.pattern.specs.Tally.{limited}
 use Rattle.pattern.proofs.CountsFit.{parts-fit}
@@ -102,7 +100,7 @@ pub read-some : (b : Bool) (p : ℕ) → b ≡ false → saysCell 3 p ≡ cond b
 read-some b p e = rw e refl
 
 -- what a read gave, where it is a temporary
-pub read-place : (x k s : ℕ) (r : Read) (b : ReferenceBuilder) → x ≡ placeRead r → r ≡ readOf b → readOf b ≡ Temporary k s → x ≡ k
+pub read-place : (x k s : ℕ) (r : Given) (b : ReferenceBuilder) → x ≡ placeRead r → r ≡ readOf b → readOf b ≡ Given.temporary k s → x ≡ k
 unfolding placeRead
 read-place x k s r b e f h = e ∙ ap placeRead (f ∙ h)
 
@@ -319,12 +317,12 @@ module _ (t : List ℕ) where
   none-replaced n k e h = none-counted (reachedIn inArrays n) (omega arith)
 
   -- the source of an assignment is forced: its first read gives what is assigned, and from then on it gives the temporary
-  pub forced-place : (d x y k : ℕ) (r : Read) (b : ReferenceBuilder) → y ≡ placeRead r → r ≡ readOf b → b ≡ builderOf t d x k 3 true → y ≡ x
+  pub forced-place : (d x y k : ℕ) (r : Given) (b : ReferenceBuilder) → y ≡ placeRead r → r ≡ readOf b → b ≡ builderOf t d x k 3 true → y ≡ x
   unfolding placeRead
   forced-place d x y k r b e f h = e ∙ ap placeRead (f ∙ ap readOf h ∙ first-read t d x k 3 true)
 
-  pub forced-reads : (d x k p : ℕ) (b n : ReferenceBuilder) → b ≡ builderOf t d x k 3 true → n ≡ afterRead b → k ≡ cellAt 3 p → readOf n ≡ Temporary (cellAt 3 p) 3
-  forced-reads d x k p b n e f h = ap readOf (f ∙ ap afterRead e) ∙ later-forced t d x k 3 ∙ ap (λ (y : ℕ). Temporary y 3) h
+  pub forced-reads : (d x k p : ℕ) (b n : ReferenceBuilder) → b ≡ builderOf t d x k 3 true → n ≡ afterRead b → k ≡ cellAt 3 p → readOf n ≡ Given.temporary (cellAt 3 p) 3
+  forced-reads d x k p b n e f h = ap readOf (f ∙ ap afterRead e) ∙ later-forced t d x k 3 ∙ ap (λ (y : ℕ). Given.temporary y 3) h
 
   pub given-at : {g g′ : Going} (x y d stem : ℕ) (c : Place) (input : Bool) → y ≡ x → ((input ≡ true → Good t d y) → Does g g′ (givenDeeds t d c input stem y))
       → (input ≡ true → Good t d x) → Does g g′ (givenDeeds t d c input stem x)

@@ -30,8 +30,7 @@ use Rattle.sink.specs.Machine.{part}
 use Rattle.sink.specs.Machine.Event.{temporary}
 use Rattle.pattern.specs.Tally.{limited}
 use Rattle.pattern.specs.declared.source.ReferenceBuilder.{ReferenceBuilder}
-use Rattle.pattern.specs.declared.source.Read.{Read}
-use Rattle.pattern.specs.Source.{builderOf, readOf, placeRead, afterRead, Settled, Keeps}
+use Rattle.pattern.specs.Source.{Given, builderOf, readOf, placeRead, afterRead, Settled, Keeps}
 use Rattle.pattern.proofs.SourceReads.{first-read, later-read, name-settled, settled-read}
 use Rattle.walk.proofs.SourcesRead.{same-source, reads-cell}
 use Rattle.pattern.proofs.CountsFit.{counted-whole, declarations-fit}
@@ -360,7 +359,7 @@ module _ (t : List ℕ) where
       does-as (does-from from (pattern settled (subst (λ (y : ℕ). Good t d y) (sym move) good-id)))
       (ap₂ (λ (y : ℕ) (s : Emit). emitsPattern c (lookNode t d y .value) s) move read ∙ sym (lowered-name c p v named))
 
-  pub lowered-kept : {g g₁ g₂ g₃ g₄ g₅ g′ : Going} (c c′ : Place) (d h id init y x u i : ℕ) (r : Read) (b a : ReferenceBuilder) → b .wanted ≡ true
+  pub lowered-kept : {g g₁ g₂ g₃ g₄ g₅ g′ : Going} (c c′ : Place) (d h id init y x u i : ℕ) (r : Given) (b a : ReferenceBuilder) → b .wanted ≡ true
       → Does g g₁ (say (puts (5 ∷ 3 ∷ []))) → Does g₁ g₂ (say (does (temporary (b .cell) (b .stem)) ∷ [])) → g₃ ≡ g₂ → y ≡ x → x ≡ placeRead r → r ≡ readOf b → c′ ≡ inner c → h ≡ d
       → (u ≡ lookNode t h y .next) × (Good t h y → Does g₃ g₄ (emits c′ (lookNode t h y .value)))
       → a ≡ afterRead b → g₅ ≡ g₄ → i ≡ id → (Settled a → Good t d i → Does g₅ g′ (emitsPattern c (lookNode t d i .value) (sourceOf t a)))

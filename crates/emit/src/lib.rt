@@ -113,8 +113,7 @@ ghost use Rattle.lowering.specs.Patterns.{value, properties, hasRest, hasObject
 ghost use Rattle.lowering.specs.Keys.{keysRefusal};
 ghost use Rattle.lowering.specs.Heads.{isMoved, movedFrom};
 ghost use Rattle.sink.specs.Machine.Event.{temporary};
-ghost use Rattle.pattern.specs.declared.source.Read.the-variants.{Temporary};
-ghost use Rattle.pattern.specs.Source.{builderOf, readOf, Settled, Keeps};
+ghost use Rattle.pattern.specs.Source.{Given, builderOf, readOf, Settled, Keeps};
 ghost use Rattle.direct.specs.Events as events;
 ghost use Rattle.direct.specs.Events.{puts, emits};
 ghost use Rattle.direct.specs.Emit as emit;
@@ -1360,7 +1359,7 @@ fn tg(
     p: usize,
     b: ReferenceBuilder,
 ) -> Sourced
-    ensures { λ r. ⌜ Keeps b (r .next) × (readOf b ≡ Temporary (cellAt 3 p) 3 → byteAt (now (t .entry)) p ≡ 34 → Good (now (t .entry)) (c .left) p → hasArrayRestOverObjectRest (lookNode (now (t .entry)) (c .left) p .value) ≡ false → Does (goingOf (now (out .entry)) (now (list .entry)) (now (work .entry)) w) (goingOf (now (out .exit)) (now (list .exit)) (now (work .exit)) (r .walk)) (emitsTarget (placeWith root c) (lookNode (now (t .entry)) (c .left) p .value))) ⌝ }
+    ensures { λ r. ⌜ Keeps b (r .next) × (readOf b ≡ Given.temporary (cellAt 3 p) 3 → byteAt (now (t .entry)) p ≡ 34 → Good (now (t .entry)) (c .left) p → hasArrayRestOverObjectRest (lookNode (now (t .entry)) (c .left) p .value) ≡ false → Does (goingOf (now (out .entry)) (now (list .entry)) (now (work .entry)) w) (goingOf (now (out .exit)) (now (list .exit)) (now (work .exit)) (r .walk)) (emitsTarget (placeWith root c) (lookNode (now (t .entry)) (c .left) p .value))) ⌝ }
 {
     let d = told_inside(c, root, c.left);
     if 0 < object_count(t, c.left, p, Reach::InArrays) {

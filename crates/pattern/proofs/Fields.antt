@@ -22,9 +22,9 @@ use Rattle.tree.proofs.GrammarRows.{NoKey, row-done, row-first, first-sort}
 use Rattle.tree.proofs.Skipping.{seek-none, seek-absent, seek-here}
 use Rattle.lowering.specs.Parts.{standsIn, stands}
 use Rattle.pattern.specs.declared.parts.Part.{Part}
-use Rattle.pattern.specs.declared.parts.Part.the-variants.{One, Many, Text, Number, Missing}
+use Rattle.pattern.specs.declared.parts.Part.the-variants.{One}
 use Rattle.pattern.specs.declared.parts.Place.{Place}
-use Rattle.pattern.specs.Parts.{sortAt, textOf, partOf, partIn, partAt, itemPlace, placeOf, runOf}
+use Rattle.pattern.specs.Parts.{Content, partValues, sortAt, textOf, partOf, partIn, partAt, itemPlace, placeOf, runOf}
 
 -- ---- the code of a field in a row
 
@@ -48,7 +48,7 @@ module _ (l : List ℕ) where
   -- ---- what a field holds
 
   -- a class of no arm is a mark's, a byte's or a number's
-  other-class : (class a at : ℕ) → NoKey Unit 1 5 class → Number ≡ partOf l (sortFrom class a) at
+  other-class : (class a at : ℕ) → NoKey Unit 1 5 class → Content.plain ≡ partOf l (sortFrom class a) at
   unfolding partOf
   other-class zero a at h = refl
   other-class (suc zero) a at h = absurd (h .0 .0 .0 .0 .1 refl)
@@ -66,27 +66,27 @@ module _ (l : List ℕ) where
     held-class : (n : ℕ) → code / 32 ≡ n → partOf l (sortFrom n (code % 32)) at ≡ partOf l (sortOf code) at
     held-class n e = ap (λ (m : ℕ). partOf l (sortFrom m (code % 32)) at) (sym e)
 
-    pub held-child : code / 32 ≡ 1 → One at ≡ partOf l (sortOf code) at
+    pub held-child : code / 32 ≡ 1 → Content.node at ≡ partOf l (sortOf code) at
     unfolding partOf
     held-child e = held-class 1 e
 
-    pub held-chosen : code / 32 ≡ 2 → One at ≡ partOf l (sortOf code) at
+    pub held-chosen : code / 32 ≡ 2 → Content.node at ≡ partOf l (sortOf code) at
     unfolding partOf
     held-chosen e = held-class 2 e
 
-    pub held-many : (n q : ℕ) → n ≡ wideAt l at → q ≡ onward l at 2 → code / 32 ≡ 3 → Many false n q ≡ partOf l (sortOf code) at
+    pub held-many : (n q : ℕ) → n ≡ wideAt l at → q ≡ onward l at 2 → code / 32 ≡ 3 → Content.list false n q ≡ partOf l (sortOf code) at
     unfolding partOf
     held-many n q v w e = rw (v, w) (held-class 3 e)
 
-    pub held-gaps : (n q : ℕ) → n ≡ wideAt l at → q ≡ onward l at 2 → code / 32 ≡ 4 → Many true n q ≡ partOf l (sortOf code) at
+    pub held-gaps : (n q : ℕ) → n ≡ wideAt l at → q ≡ onward l at 2 → code / 32 ≡ 4 → Content.list true n q ≡ partOf l (sortOf code) at
     unfolding partOf
     held-gaps n q v w e = rw (v, w) (held-class 4 e)
 
-    pub held-text : (r : Part) → r ≡ textOf l at → code / 32 ≡ 5 → r ≡ partOf l (sortOf code) at
+    pub held-text : (r : Content) → r ≡ textOf l at → code / 32 ≡ 5 → r ≡ partOf l (sortOf code) at
     unfolding partOf
     held-text r v e = v ∙ held-class 5 e
 
-    pub held-number : NoKey Unit 1 5 (code / 32) → Number ≡ partOf l (sortOf code) at
+    pub held-number : NoKey Unit 1 5 (code / 32) → Content.plain ≡ partOf l (sortOf code) at
     held-number h = other-class (code / 32) (code % 32) at h
 
   onward-le : (at m n : ℕ) → m ≤ n → onward l at m ≤ onward l at n
@@ -102,13 +102,13 @@ module _ (l : List ℕ) where
   pub text-ends : (at n p q : ℕ) → p ≡ onward l at 2 → q ≡ onward l at (2 + n) → p ≤ q
   text-ends at n p q e f = let h : onward l at 2 ≤ onward l at (2 + n) = onward-le at 2 (2 + n) (omega arith) in rw (e, f) h
 
-  pub text-held : (at n p q : ℕ) → n ≡ wideAt l at → p ≡ onward l at 2 → q ≡ onward l at (2 + n) → Text p (q - p) ≡ textOf l at
+  pub text-held : (at n p q : ℕ) → n ≡ wideAt l at → p ≡ onward l at 2 → q ≡ onward l at (2 + n) → Content.text p (q - p) ≡ textOf l at
   unfolding textOf
   text-held at n p q v e f = rw (e, f, v)
 
   -- ---- a field that was searched for
 
-  pub field-none : (d at i : ℕ) → d ≡ 0 → Missing ≡ partAt l d at i
+  pub field-none : (d at i : ℕ) → d ≡ 0 → Content.absent ≡ partAt l d at i
   unfolding partAt
   field-none d at i z = rw z
 
@@ -116,7 +116,7 @@ module _ (l : List ℕ) where
   there s Option.none x e = let z : _≡_ {A = ℕ} 0 1 = cc in absurd (omega arith)
   there s (some y) x e = let z : x ≡ y = cc in ap (partOf l s) z
 
-  absent-there : (s : Sort) (o : Option ℕ) → foundValue found-at.Missing ≡ o → Missing ≡ partIn l s o
+  absent-there : (s : Sort) (o : Option ℕ) → foundValue found-at.Missing ≡ o → Content.absent ≡ partIn l s o
   absent-there s Option.none e = refl
   absent-there s (some y) e = let z : _≡_ {A = ℕ} 0 1 = cc in absurd (omega arith)
 
@@ -134,20 +134,20 @@ module _ (l : List ℕ) where
             let o : suc d - 1 ≡ d = omega arith in
             ap (λ (fs : List Field). partIn l (sortAt fs i) (seekFields l (lookNode l (suc d - 1)) fs map q i)) w ∙ rw (o, e, g, f, v)
 
-    pub field-at : (r : Part) (code x : ℕ) (s : Found) → foundValue s ≡ searched → s ≡ found-at.At x → sortOf code ≡ sortAt (fieldsIn row) i → r ≡ partOf l (sortOf code) x → r ≡ partAt l d at i
+    pub field-at : (r : Content) (code x : ℕ) (s : Found) → foundValue s ≡ searched → s ≡ found-at.At x → sortOf code ≡ sortAt (fieldsIn row) i → r ≡ partOf l (sortOf code) x → r ≡ partAt l d at i
     field-at r code x s a b c h = h ∙ ap (λ (t : Sort). partOf l t x) c ∙ there (sortAt (fieldsIn row) i) searched x (sym (ap foundValue b) ∙ a) ∙ opened
 
-    pub field-missing : (s : Found) → foundValue s ≡ searched → s ≡ found-at.Missing → Missing ≡ partAt l d at i
+    pub field-missing : (s : Found) → foundValue s ≡ searched → s ≡ found-at.Missing → Content.absent ≡ partAt l d at i
     field-missing s a b = absent-there (sortAt (fieldsIn row) i) searched (sym (ap foundValue b) ∙ a) ∙ opened
 
     -- the first field, which stands right behind the bit map
-    pub first-past : row ≡ 0 → Missing ≡ partAt l d at i
+    pub first-past : row ≡ 0 → Content.absent ≡ partAt l d at i
     first-past h = field-missing found-at.Missing (seek-none l (lookNode l (d - 1)) row map q i h) refl
 
-    pub first-absent : i ≡ 0 → (row ≡ 0 → ⊥) → map % 2 ≡ 0 → Missing ≡ partAt l d at i
+    pub first-absent : i ≡ 0 → (row ≡ 0 → ⊥) → map % 2 ≡ 0 → Content.absent ≡ partAt l d at i
     first-absent y h t = field-missing found-at.Missing (seek-absent l (lookNode l (d - 1)) row map q i h y t) refl
 
-    pub first-at : (r : Part) → i ≡ 0 → (row ≡ 0 → ⊥) → (map % 2 ≡ 0 → ⊥) → r ≡ partOf l (sortOf (row % 512)) q → r ≡ partAt l d at i
+    pub first-at : (r : Content) → i ≡ 0 → (row ≡ 0 → ⊥) → (map % 2 ≡ 0 → ⊥) → r ≡ partOf l (sortOf (row % 512)) q → r ≡ partAt l d at i
     first-at r y h t x = field-at r (row % 512) q (found-at.At q) (seek-here l (lookNode l (d - 1)) row map q i h y t) refl (code-end row i (omega arith)) x
 
   -- ---- the key of a property, which stands right behind the bit map, and its value behind that
@@ -170,7 +170,7 @@ module _ (l : List ℕ) where
       rw (w, v, sym e ∙ y, first, second, o)
 
   -- the name of a static key
-  pub name-at : (d at k p m q : ℕ) (r : Part) → (d ≡ 0 → ⊥) → k ≡ byteAt l at → k ≡ 38 → p ≡ onward l at 1 → m ≡ byteAt l p → m % 2 ≡ 1 → q ≡ onward l at 2 → r ≡ textOf l q → r ≡ partAt l d at 0
+  pub name-at : (d at k p m q : ℕ) (r : Content) → (d ≡ 0 → ⊥) → k ≡ byteAt l at → k ≡ 38 → p ≡ onward l at 1 → m ≡ byteAt l p → m % 2 ≡ 1 → q ≡ onward l at 2 → r ≡ textOf l q → r ≡ partAt l d at 0
   unfolding partAt partOf fieldsOf kinds seekFields
   name-at zero at k p m q r z e y f g h v x = absurd (z refl)
   name-at (suc d) at k p m q r z e y f g h v x =
@@ -247,13 +247,13 @@ module _ (l : List ℕ) where
   -- ---- a field that holds a node or a list
 
   -- what holds a node has levels
-  pub one-levels : (d at i q : ℕ) (r : Part) → r ≡ One q → r ≡ partAt l d at i → 1 ≤ d
+  pub one-levels : (d at i q : ℕ) (r : Part) → r ≡ One q → partValues r ≡ partAt l d at i → 1 ≤ d
   unfolding partAt
-  one-levels zero at i q r e f = let z : _≡_ {A = ℕ} 0 1 = cc in absurd (omega arith)
+  one-levels zero at i q r e f = let w : Content.node q ≡ Content.absent = sym (ap partValues e) ∙ f in let z : _≡_ {A = ℕ} 0 1 = cc in absurd (omega arith)
   one-levels (suc d) at i q r e f = omega arith
 
-  pub placed : (d at i : ℕ) (r s : Part) → r ≡ s → r ≡ partAt l d at i → placeOf d at s ≡ placeOf d at (partAt l d at i)
-  placed d at i r s e f = ap (placeOf d at) (sym e ∙ f)
+  pub placed : (d at i : ℕ) (r s : Part) → r ≡ s → partValues r ≡ partAt l d at i → placeOf d at (partValues s) ≡ placeOf d at (partAt l d at i)
+  placed d at i r s e f = ap (placeOf d at) (sym (ap partValues e) ∙ f)
 
-  pub run : (d at i : ℕ) (r s : Part) → r ≡ s → r ≡ partAt l d at i → runOf at s ≡ runOf at (partAt l d at i)
-  run d at i r s e f = ap (runOf at) (sym e ∙ f)
+  pub run : (d at i : ℕ) (r s : Part) → r ≡ s → partValues r ≡ partAt l d at i → runOf at (partValues s) ≡ runOf at (partAt l d at i)
+  run d at i r s e f = ap (runOf at) (sym (ap partValues e) ∙ f)

@@ -25,7 +25,7 @@ use Rattle.lowering.specs.Keys.{keySort, isPrimitive, promised, literalText, li
 use Rattle.lowering.specs.Keys.Key.{name, literal, template, private, again, other}
 use Rattle.lowering.specs.Rests.{hasNoProperties}
 use Rattle.pattern.specs.declared.parts.Part.{Part}
-use Rattle.pattern.specs.declared.parts.Part.the-variants.{One, Many, Text, Number, Missing}
+use Rattle.pattern.specs.declared.parts.Part.the-variants.{Text}
 use Rattle.pattern.specs.declared.parts.Place.{Place}
 use Rattle.pattern.specs.declared.parts.Run.{Run}
 use Rattle.pattern.specs.declared.keys.Key.{Key}
@@ -34,8 +34,8 @@ use Rattle.pattern.specs.declared.keys.Key.the-variants.{OtherForm, Temp
 use Rattle.pattern.specs.declared.numbers.Spelling.{Spelling}
 use Rattle.pattern.specs.declared.numbers.Spelling.the-variants.{Decimal, Hexadecimal, Another}
 use Rattle.pattern.specs.declared.tally.Tally.{Tally}
-use Rattle.pattern.specs.Parts.{partAt, textIn, standing, placeOf, runOf}
-use Rattle.pattern.specs.Numbers.{spelledAs, isStringOf}
+use Rattle.pattern.specs.Parts.{Content, partValues, partAt, textIn, standing, placeOf, runOf}
+use Rattle.pattern.specs.Numbers.{Numeral, spellingValue, spelledAs, isStringOf}
 use Rattle.pattern.specs.Tally as tally
 use Rattle.pattern.specs.Tally.{limited, both, sum}
 use Rattle.pattern.specs.Keys.{nameIn, formIn, besideForm, literalBy, literalIn, literalAt, keyAt, Becomes, keyRefusal, keyEntry, counts, countsBy, keyCounts, keyTally, keysOf, itemKeys}
@@ -158,7 +158,7 @@ module _ (l : List ℕ) where
     unfolding keyAt
     key-several r t w c = rw (sort-several here (k-is 23 t) (λ y. c (sym (quasis d at r w) ∙ y)))
 
-    pub key-name : (p : Part) (r : Key) → k ≡ 38 → p ≡ partAt l d at 0 → r ≡ nameIn p → r ≡ keyAt l d at
+    pub key-name : (p : Content) (r : Key) → k ≡ 38 → p ≡ partAt l d at 0 → r ≡ nameIn p → r ≡ keyAt l d at
     unfolding keyAt
     key-name p r t w v = rw (sort-name here (k-is 38 t)) (v ∙ ap nameIn w)
 
@@ -193,31 +193,31 @@ module _ (l : List ℕ) where
     | no g ↦ let t : to ≡ from + len = rw (le-leb (from + len) (length l) (omega arith)) at e in omega arith
   ]
 
-  pub spelled-text : (from len to : ℕ) (p : Part) (r : Spelling) → p ≡ Text from len → to ≡ onward l from len → from ≤ to → r ≡ spelledAs (take (to - from) (drop from l)) → r ≡ spelledAs (textIn l p)
-  spelled-text from len to p r e f h v = v ∙ ap spelledAs (text-clipped from len to f h) ∙ ap (λ (q : Part). spelledAs (textIn l q)) (sym e)
+  pub spelled-text : (from len to : ℕ) (p : Part) (r : Numeral) → p ≡ Text from len → to ≡ onward l from len → from ≤ to → r ≡ spelledAs (take (to - from) (drop from l)) → r ≡ spelledAs (textIn l (partValues p))
+  spelled-text from len to p r e f h v = v ∙ ap spelledAs (text-clipped from len to f h) ∙ ap (λ (q : Part). spelledAs (textIn l (partValues q))) (sym e)
 
-  pub spelled-past : (from len to : ℕ) (p : Part) → p ≡ Text from len → to ≡ onward l from len → to < from → Another ≡ spelledAs (textIn l p)
+  pub spelled-past : (from len to : ℕ) (p : Part) → p ≡ Text from len → to ≡ onward l from len → to < from → Numeral.another ≡ spelledAs (textIn l (partValues p))
   unfolding onward spelledAs spellingOf
   spelled-past from len to p e f h = elim (decLt (length l) (from + len)) [
     | yes g ↦
         let t : to ≡ length l = rw (lt-leb (from + len) (length l) g) at f in
-        sym (ap (λ (q : Part). spelledAs (textIn l q)) e ∙ ap (λ (x : List ℕ). spelledAs (take len x)) (drop-of-length-le l {i = from} (omega arith)) ∙ ap spelledAs (take-nil len))
+        sym (ap (λ (q : Part). spelledAs (textIn l (partValues q))) e ∙ ap (λ (x : List ℕ). spelledAs (take len x)) (drop-of-length-le l {i = from} (omega arith)) ∙ ap spelledAs (take-nil len))
     | no g ↦ let t : to ≡ from + len = rw (le-leb (from + len) (length l) (omega arith)) at f in absurd (omega arith)
   ]
 
   -- no text is read as the empty one
-  pub spelled-none : (p q : Part) → p ≡ q → textIn l q ≡ [] → Another ≡ spelledAs (textIn l p)
+  pub spelled-none : (p q : Part) → p ≡ q → textIn l (partValues q) ≡ [] → Numeral.another ≡ spelledAs (textIn l (partValues p))
   unfolding spelledAs spellingOf
-  spelled-none p q e f = sym (ap (λ (x : Part). spelledAs (textIn l x)) e ∙ ap spelledAs f)
+  spelled-none p q e f = sym (ap (λ (x : Part). spelledAs (textIn l (partValues x))) e ∙ ap spelledAs f)
 
   -- ---- beside its form
 
-  module _ (v : ℕ) (alone : Key) (p : Part) (b : Bool) (w : b ≡ standing p) where
+  module _ (v : ℕ) (alone : Key) (p : Content) (b : Bool) (w : b ≡ standing p) where
     pub beside-none : b ≡ false → alone ≡ besideForm l v alone p
     unfolding besideForm
     beside-none h = rw (sym w ∙ h)
 
-    module _ (s : Spelling) (f : Bool) (e : s ≡ spelledAs (textIn l p)) (g : f ≡ isStringOf v s) where
+    module _ (s : Numeral) (f : Bool) (e : s ≡ spelledAs (textIn l p)) (g : f ≡ isStringOf v s) where
       tested : f ≡ isStringOf v (spelledAs (textIn l p))
       tested = g ∙ ap (isStringOf v) e
 
@@ -231,17 +231,17 @@ module _ (l : List ℕ) where
 
   -- ---- by what its spelling is
 
-  pub by-decimal : (x : Spelling) (s p : Part) (v : ℕ) → x ≡ Decimal v → (a : Key) → a ≡ formIn s → (r : Key) → r ≡ besideForm l v a p → r ≡ literalBy l x s p
+  pub by-decimal : (x : Spelling) (s p : Content) (v : ℕ) → x ≡ Decimal v → (a : Key) → a ≡ formIn s → (r : Key) → r ≡ besideForm l v a p → r ≡ literalBy l (spellingValue x) s p
   unfolding literalBy
-  by-decimal x s p v e a f r g = g ∙ ap (λ (k : Key). besideForm l v k p) f ∙ ap (λ (y : Spelling). literalBy l y s p) (sym e)
+  by-decimal x s p v e a f r g = g ∙ ap (λ (k : Key). besideForm l v k p) f ∙ ap (λ (y : Spelling). literalBy l (spellingValue y) s p) (sym e)
 
-  pub by-hexadecimal : (x : Spelling) (s p : Part) (v : ℕ) → x ≡ Hexadecimal v → (r : Key) → r ≡ besideForm l v (variants.Number v) p → r ≡ literalBy l x s p
+  pub by-hexadecimal : (x : Spelling) (s p : Content) (v : ℕ) → x ≡ Hexadecimal v → (r : Key) → r ≡ besideForm l v (variants.Number v) p → r ≡ literalBy l (spellingValue x) s p
   unfolding literalBy
-  by-hexadecimal x s p v e r g = g ∙ ap (λ (y : Spelling). literalBy l y s p) (sym e)
+  by-hexadecimal x s p v e r g = g ∙ ap (λ (y : Spelling). literalBy l (spellingValue y) s p) (sym e)
 
-  pub by-another : (x : Spelling) (s p : Part) → x ≡ Another → (r : Key) → r ≡ formIn p → r ≡ literalBy l x s p
+  pub by-another : (x : Spelling) (s p : Content) → x ≡ Another → (r : Key) → r ≡ formIn p → r ≡ literalBy l (spellingValue x) s p
   unfolding literalBy
-  by-another x s p e r g = g ∙ ap (λ (y : Spelling). literalBy l y s p) (sym e)
+  by-another x s p e r g = g ∙ ap (λ (y : Spelling). literalBy l (spellingValue y) s p) (sym e)
 
   -- ---- by its sort
 
@@ -251,11 +251,11 @@ module _ (l : List ℕ) where
   pub sort-none : (d at : ℕ) (b : Bool) → b ≡ stands 0 (lookNode l d at .value) → b ≡ false → byteAt l at ≡ 22 → 0 ≡ numberAt 0 (lookNode l d at .value)
   sort-none d at b e t k = sort-absent l d at (sym e ∙ t)
 
-  module _ (d at n : ℕ) (p q : Part) (w : byteAt l at ≡ 22 → n ≡ numberAt 0 (lookNode l d at .value)) (e : p ≡ partAt l d at 1) (f : q ≡ partAt l d at 2) where
-    pub literal-number : n ≡ 2 → (s : Spelling) (r : Key) → s ≡ spelledAs (textIn l p) → r ≡ literalBy l s p q → byteAt l at ≡ 22 → r ≡ literalAt l d at
+  module _ (d at n : ℕ) (p q : Content) (w : byteAt l at ≡ 22 → n ≡ numberAt 0 (lookNode l d at .value)) (e : p ≡ partAt l d at 1) (f : q ≡ partAt l d at 2) where
+    pub literal-number : n ≡ 2 → (s : Numeral) (r : Key) → s ≡ spelledAs (textIn l p) → r ≡ literalBy l s p q → byteAt l at ≡ 22 → r ≡ literalAt l d at
     unfolding literalAt literalIn
     literal-number z s r g v k =
-        rw (eq-eqb (numberAt 0 (lookNode l d at .value)) 2 (sym (w k) ∙ z)) (v ∙ ap (λ (x : Spelling). literalBy l x p q) g ∙ rw (e, f))
+        rw (eq-eqb (numberAt 0 (lookNode l d at .value)) 2 (sym (w k) ∙ z)) (v ∙ ap (λ (x : Numeral). literalBy l x p q) g ∙ rw (e, f))
 
     pub literal-other : (n ≡ 2 → ⊥) → (r : Key) → r ≡ formIn q → byteAt l at ≡ 22 → r ≡ literalAt l d at
     unfolding literalAt literalIn literalBy
@@ -286,41 +286,41 @@ refusing-is k = go (is 22 k) refl
 
 module _ (l : List ℕ) where
   -- a form by itself
-  form-refusal : (p : Part) → cond (standing p) 0 6 ≡ keyRefusal (formIn p)
+  form-refusal : (p : Content) → cond (standing p) 0 6 ≡ keyRefusal (formIn p)
   unfolding formIn
-  form-refusal (One q) = refl
-  form-refusal (Many h n p) = refl
-  form-refusal (Text p n) = refl
-  form-refusal Number = refl
-  form-refusal Missing = refl
+  form-refusal (Content.node q) = refl
+  form-refusal (Content.list h n p) = refl
+  form-refusal (Content.text p n) = refl
+  form-refusal Content.plain = refl
+  form-refusal Content.absent = refl
 
-  form-entry : (c : Context) (q : Node) (p : Part) → only (string (textIn l p)) ≡ keyEntry l c q (formIn p)
+  form-entry : (c : Context) (q : Node) (p : Content) → only (string (textIn l p)) ≡ keyEntry l c q (formIn p)
   unfolding formIn
-  form-entry c q (One x) = refl
-  form-entry c q (Many h n p) = refl
-  form-entry c q (Text p n) = refl
-  form-entry c q Number = refl
-  form-entry c q Missing = refl
+  form-entry c q (Content.node x) = refl
+  form-entry c q (Content.list h n p) = refl
+  form-entry c q (Content.text p n) = refl
+  form-entry c q Content.plain = refl
+  form-entry c q Content.absent = refl
 
-  form-counts : (p : Part) → keyCounts (formIn p) ≡ counts 1 0 0 (keyRefusal (formIn p))
+  form-counts : (p : Content) → keyCounts (formIn p) ≡ counts 1 0 0 (keyRefusal (formIn p))
   unfolding keyCounts formIn
-  form-counts (One q) = refl
-  form-counts (Many h n p) = refl
-  form-counts (Text p n) = refl
-  form-counts Number = refl
-  form-counts Missing = refl
+  form-counts (Content.node q) = refl
+  form-counts (Content.list h n p) = refl
+  form-counts (Content.text p n) = refl
+  form-counts Content.plain = refl
+  form-counts Content.absent = refl
 
   -- a spelling that is a number stands
-  decimal-stands : (p : Part) (v : ℕ) → spelledAs (textIn l p) ≡ Decimal v → standing p ≡ true
+  decimal-stands : (p : Content) (v : ℕ) → spelledAs (textIn l p) ≡ Numeral.decimal v → standing p ≡ true
   unfolding spelledAs spellingOf
-  decimal-stands (One q) v e = refl
-  decimal-stands (Many h n p) v e = refl
-  decimal-stands (Text p n) v e = refl
-  decimal-stands Number v e = refl
-  decimal-stands Missing v e = let z : _≡_ {A = ℕ} 0 1 = cc in absurd (omega arith)
+  decimal-stands (Content.node q) v e = refl
+  decimal-stands (Content.list h n p) v e = refl
+  decimal-stands (Content.text p n) v e = refl
+  decimal-stands Content.plain v e = refl
+  decimal-stands Content.absent v e = let z : _≡_ {A = ℕ} 0 1 = cc in absurd (omega arith)
 
   -- a number of the value v beside its form
-  module _ (v : ℕ) (low : v ≤ highestNumber) (alone : Key) (p : Part) where
+  module _ (v : ℕ) (low : v ≤ highestNumber) (alone : Key) (p : Content) where
     beside-refusal : keyRefusal alone ≡ 0 → cond (standing p && not (sameNumbers (textIn l p) (digitsOf v))) 11 0 ≡ keyRefusal (besideForm l v alone p)
     unfolding besideForm
     beside-refusal a = ap (λ (b : Bool). cond (standing p && not b) 11 0) (same-string (textIn l p) v low) ∙ go (standing p) (isStringOf v (spelledAs (textIn l p))) (form-refusal p)
@@ -334,10 +334,10 @@ module _ (l : List ℕ) where
     unfolding besideForm
     beside-entry c q a = go (standing p) (isStringOf v (spelledAs (textIn l p))) (own (spelledAs (textIn l p)) refl)
       where
-        own : (x : Spelling) → spelledAs (textIn l p) ≡ x → isStringOf v x ≡ true → textIn l p ≡ digitsOf v
-        own (Decimal u) e t = decimal-string (textIn l p) u e .string ∙ ap digitsOf (eqb-true u v t)
-        own (Hexadecimal u) e t = absurd (true≢false (sym t))
-        own Another e t = absurd (true≢false (sym t))
+        own : (x : Numeral) → spelledAs (textIn l p) ≡ x → isStringOf v x ≡ true → textIn l p ≡ digitsOf v
+        own (Numeral.decimal u) e t = decimal-string (textIn l p) u e .string ∙ ap digitsOf (eqb-true u v t)
+        own (Numeral.hexadecimal u) e t = absurd (true≢false (sym t))
+        own Numeral.another e t = absurd (true≢false (sym t))
 
         go : (b f : Bool) → (f ≡ true → textIn l p ≡ digitsOf v) → only (string (digitsOf v)) ≡ keyEntry l c q (cond b (cond f (formIn p) (OtherForm v)) alone)
         go true true o = ap (λ (x : List ℕ). only (string x)) (sym (o refl)) ∙ form-entry c q p
@@ -354,51 +354,51 @@ module _ (l : List ℕ) where
         go false f = a
 
   -- a literal by what its spelling is
-  abbrev refusalBy : Option (List ℕ) → Part → ℕ
+  abbrev refusalBy : Option (List ℕ) → Content → ℕ
   refusalBy o p = elim o [ some s ↦ cond (standing p && not (sameNumbers (textIn l p) s)) 11 0 | Option.none ↦ cond (standing p) 0 6 ]
 
-  abbrev textBy : Option (List ℕ) → Part → List ℕ
+  abbrev textBy : Option (List ℕ) → Content → List ℕ
   textBy o p = elim o [ some s ↦ s | Option.none ↦ textIn l p ]
 
   -- what the name of a spelling says of it
-  abbrev Named : Spelling → Part → Type 0
-  Named (Decimal v) s = (v ≤ highestNumber) × (textIn l s ≡ digitsOf v) × (standing s ≡ true)
-  Named (Hexadecimal v) s = v ≤ highestNumber
-  Named Another s = Unit {0}
+  abbrev Named : Numeral → Content → Type 0
+  Named (Numeral.decimal v) s = (v ≤ highestNumber) × (textIn l s ≡ digitsOf v) × (standing s ≡ true)
+  Named (Numeral.hexadecimal v) s = v ≤ highestNumber
+  Named Numeral.another s = Unit {0}
 
-  by-refusal : (x : Spelling) (s p : Part) → Named x s → refusalBy (promisedBy x) p ≡ keyRefusal (literalBy l x s p)
+  by-refusal : (x : Numeral) (s p : Content) → Named x s → refusalBy (promisedBy x) p ≡ keyRefusal (literalBy l x s p)
   unfolding literalBy
-  by-refusal (Decimal v) s p h = beside-refusal v (h .0) (formIn s) p (sym (form-refusal s) ∙ ap (λ (b : Bool). cond b 0 6) (h .2))
-  by-refusal (Hexadecimal v) s p h = beside-refusal v h (variants.Number v) p refl
-  by-refusal Another s p h = form-refusal p
+  by-refusal (Numeral.decimal v) s p h = beside-refusal v (h .0) (formIn s) p (sym (form-refusal s) ∙ ap (λ (b : Bool). cond b 0 6) (h .2))
+  by-refusal (Numeral.hexadecimal v) s p h = beside-refusal v h (variants.Number v) p refl
+  by-refusal Numeral.another s p h = form-refusal p
 
-  by-entry : (x : Spelling) (s p : Part) → Named x s → (c : Context) (q : Node) → only (string (textBy (promisedBy x) p)) ≡ keyEntry l c q (literalBy l x s p)
+  by-entry : (x : Numeral) (s p : Content) → Named x s → (c : Context) (q : Node) → only (string (textBy (promisedBy x) p)) ≡ keyEntry l c q (literalBy l x s p)
   unfolding literalBy
-  by-entry (Decimal v) s p h c q = beside-entry v (h .0) (formIn s) p c q (ap (λ (x : List ℕ). only (string x)) (sym (h .1)) ∙ form-entry c q s)
-  by-entry (Hexadecimal v) s p h c q = beside-entry v h (variants.Number v) p c q refl
-  by-entry Another s p h c q = form-entry c q p
+  by-entry (Numeral.decimal v) s p h c q = beside-entry v (h .0) (formIn s) p c q (ap (λ (x : List ℕ). only (string x)) (sym (h .1)) ∙ form-entry c q s)
+  by-entry (Numeral.hexadecimal v) s p h c q = beside-entry v h (variants.Number v) p c q refl
+  by-entry Numeral.another s p h c q = form-entry c q p
 
-  by-counts : (x : Spelling) (s p : Part) → Named x s → keyCounts (literalBy l x s p) ≡ counts 1 0 0 (keyRefusal (literalBy l x s p))
+  by-counts : (x : Numeral) (s p : Content) → Named x s → keyCounts (literalBy l x s p) ≡ counts 1 0 0 (keyRefusal (literalBy l x s p))
   unfolding literalBy keyCounts
-  by-counts (Decimal v) s p h = beside-counts v (h .0) (formIn s) p (form-counts s)
-  by-counts (Hexadecimal v) s p h = beside-counts v h (variants.Number v) p refl
-  by-counts Another s p h = form-counts p
+  by-counts (Numeral.decimal v) s p h = beside-counts v (h .0) (formIn s) p (form-counts s)
+  by-counts (Numeral.hexadecimal v) s p h = beside-counts v h (variants.Number v) p refl
+  by-counts Numeral.another s p h = form-counts p
 
-  spelled-named : (s : Part) → Named (spelledAs (textIn l s)) s
+  spelled-named : (s : Content) → Named (spelledAs (textIn l s)) s
   spelled-named s = go (spelledAs (textIn l s)) refl (spelled-low (textIn l s))
     where
-      go : (x : Spelling) → spelledAs (textIn l s) ≡ x → Low x → Named x s
-      go (Decimal v) e h = (h, decimal-string (textIn l s) v e .string, decimal-stands s v e)
-      go (Hexadecimal v) e h = h
-      go Another e h = tt
+      go : (x : Numeral) → spelledAs (textIn l s) ≡ x → Low x → Named x s
+      go (Numeral.decimal v) e h = (h, decimal-string (textIn l s) v e .string, decimal-stands s v e)
+      go (Numeral.hexadecimal v) e h = h
+      go Numeral.another e h = tt
 
 module _ (l : List ℕ) (d at : ℕ) where
   abbrev k : Node
   k = lookNode l d at .value
 
   -- what its spelling is, if it is a number
-  abbrev pub spellingHere : Spelling
-  spellingHere = cond (eqb (numberAt 0 k) 2) (spelledAs (textIn l (partAt l d at 1))) Another
+  abbrev pub spellingHere : Numeral
+  spellingHere = cond (eqb (numberAt 0 k) 2) (spelledAs (textIn l (partAt l d at 1))) Numeral.another
 
   named-here : Named l spellingHere (partAt l d at 1)
   named-here = by-test (eqb (numberAt 0 k) 2) (λ e. rw e (spelled-named l (partAt l d at 1))) (λ e. rw e tt)
@@ -438,13 +438,13 @@ module _ (l : List ℕ) (d at : ℕ) where
   unfolding keys.keyRefusal
   refused-other h = by-test (is 22 k) (λ e. absurd (h (sort-literal k (literal-kind k e)))) (λ e. rw e)
 
-  name-counts : (p : Part) → keyCounts (nameIn p) ≡ counts 1 0 0 0
+  name-counts : (p : Content) → keyCounts (nameIn p) ≡ counts 1 0 0 0
   unfolding keyCounts nameIn
-  name-counts (One q) = refl
-  name-counts (Many h n p) = refl
-  name-counts (Text p n) = refl
-  name-counts Number = refl
-  name-counts Missing = refl
+  name-counts (Content.node q) = refl
+  name-counts (Content.list h n p) = refl
+  name-counts (Content.text p n) = refl
+  name-counts Content.plain = refl
+  name-counts Content.absent = refl
 
   -- what a key adds to the counts, by what it becomes and by the definition
   pub counts-are : keyCounts (keyAt l d at) ≡ keyTally k
@@ -460,13 +460,13 @@ module _ (l : List ℕ) (d at : ℕ) where
 
   -- ---- what a key becomes, by the definition
 
-  entry-name : (c : Context) (q : Node) (p : Part) → only (string (textIn l p)) ≡ keyEntry l c q (nameIn p)
+  entry-name : (c : Context) (q : Node) (p : Content) → only (string (textIn l p)) ≡ keyEntry l c q (nameIn p)
   unfolding nameIn
-  entry-name c q (One x) = refl
-  entry-name c q (Many h n p) = refl
-  entry-name c q (Text p n) = refl
-  entry-name c q Number = refl
-  entry-name c q Missing = refl
+  entry-name c q (Content.node x) = refl
+  entry-name c q (Content.list h n p) = refl
+  entry-name c q (Content.text p n) = refl
+  entry-name c q Content.plain = refl
+  entry-name c q Content.absent = refl
 
   -- the entry that it adds
   pub entry-is : (c : Context) (q : Node) → key q ≡ k → excludedKey c q ≡ keyEntry l c q (keyAt l d at)
@@ -481,13 +481,13 @@ module _ (l : List ℕ) (d at : ℕ) where
       (λ w. rw (s, w, excludedKey))
       (λ w. rw (s, w, excludedKey))
 
-  name-refusal : (p : Part) → 0 ≡ keyRefusal (nameIn p)
+  name-refusal : (p : Content) → 0 ≡ keyRefusal (nameIn p)
   unfolding nameIn
-  name-refusal (One q) = refl
-  name-refusal (Many h n p) = refl
-  name-refusal (Text p n) = refl
-  name-refusal Number = refl
-  name-refusal Missing = refl
+  name-refusal (Content.node q) = refl
+  name-refusal (Content.list h n p) = refl
+  name-refusal (Content.text p n) = refl
+  name-refusal Content.plain = refl
+  name-refusal Content.absent = refl
 
   -- the refusal that it meets
   pub refusal-is : keys.keyRefusal k ≡ keyRefusal (keyAt l d at)

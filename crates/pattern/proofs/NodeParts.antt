@@ -22,11 +22,9 @@ use Rattle.tree.specs.Look as look
 use Rattle.tree.specs.Look.{Seen, onward, lookItems, lookField, lookSlot, lookFields, lookNode, seekFields}
 use Rattle.tree.proofs.Look.{piece-law}
 use Rattle.lowering.specs.Parts.{nothing, kind, pieceIn, standsIn, asNode, asItems, asText, asNumber, nodeAt, itemsAt, textAt, numberAt, stands}
-use Rattle.pattern.specs.declared.parts.Part.{Part}
-use Rattle.pattern.specs.declared.parts.Part.the-variants.{One, Many, Text, Number, Missing}
 use Rattle.pattern.specs.declared.parts.Place.{Place}
 use Rattle.pattern.specs.declared.parts.Run.{Run}
-use Rattle.pattern.specs.Parts.{sortAt, textOf, partOf, partIn, partAt, textIn, standing, itemPlace, placeOf, runOf, nodeHere, itemsHere}
+use Rattle.pattern.specs.Parts.{Content, sortAt, textOf, partOf, partIn, partAt, textIn, standing, itemPlace, placeOf, runOf, nodeHere, itemsHere}
 
 -- ---- fields with and without a default
 
@@ -61,19 +59,19 @@ abbrev pub Blank : {A : Type 0} → (Node → A) → Type 0
 Blank F = (at : ℕ) → F (node at 0 done) ≡ F nothing
 
 module _ (l : List ℕ) where
-  abbrev nodeIn : ℕ → Part → Node
-  nodeIn d (One q) = lookNode l d q .value
-  nodeIn d (Many h n p) = nothing
-  nodeIn d (Text p n) = nothing
-  nodeIn d Number = nothing
-  nodeIn d Missing = nothing
+  abbrev nodeIn : ℕ → Content → Node
+  nodeIn d (Content.node q) = lookNode l d q .value
+  nodeIn d (Content.list h n p) = nothing
+  nodeIn d (Content.text p n) = nothing
+  nodeIn d Content.plain = nothing
+  nodeIn d Content.absent = nothing
 
-  abbrev itemsIn : ℕ → Part → Items
-  itemsIn d (One q) = none
-  itemsIn d (Many h n p) = lookItems l (lookNode l d) h n p .value
-  itemsIn d (Text p n) = none
-  itemsIn d Number = none
-  itemsIn d Missing = none
+  abbrev itemsIn : ℕ → Content → Items
+  itemsIn d (Content.node q) = none
+  itemsIn d (Content.list h n p) = lookItems l (lookNode l d) h n p .value
+  itemsIn d (Content.text p n) = none
+  itemsIn d Content.plain = none
+  itemsIn d Content.absent = none
 
   node-of : (d : ℕ) (s : Sort) (q : ℕ) → asNode (lookField l (lookNode l d) s q .value) ≡ nodeIn d (partOf l s q)
   unfolding lookField partOf textOf
@@ -198,38 +196,38 @@ module _ (l : List ℕ) where
   -- ---- the node in a field
 
   module _ {A : Type 0} (F : Node → A) (blank : Blank F) where
-    here-is : (d at : ℕ) (p : Part) → F (nodeHere l (placeOf d at p)) ≡ F (nodeIn (d - 1) p)
+    here-is : (d at : ℕ) (p : Content) → F (nodeHere l (placeOf d at p)) ≡ F (nodeIn (d - 1) p)
     unfolding placeOf lookNode
-    here-is d at (One q) = refl
-    here-is d at (Many h n p) = blank at
-    here-is d at (Text p n) = blank at
-    here-is d at Number = blank at
-    here-is d at Missing = blank at
+    here-is d at (Content.node q) = refl
+    here-is d at (Content.list h n p) = blank at
+    here-is d at (Content.text p n) = blank at
+    here-is d at Content.plain = blank at
+    here-is d at Content.absent = blank at
 
     -- what is asked of the node in a field may be asked of the node at its place
     pub child-is : (d at i : ℕ) (s : Place) → s ≡ placeOf d at (partAt l d at i) → F (nodeHere l s) ≡ F (nodeAt i (lookNode l d at .value))
     child-is d at i s e = ap (λ (x : Place). F (nodeHere l x)) e ∙ here-is d at (partAt l d at i) ∙ ap F (sym (node-part d at i))
 
   -- its place has fewer levels
-  place-falls : (d at : ℕ) (p : Part) → (d ≡ 0 → ⊥) → placeOf d at p .left < d
+  place-falls : (d at : ℕ) (p : Content) → (d ≡ 0 → ⊥) → placeOf d at p .left < d
   unfolding placeOf
-  place-falls d at (One q) z = omega arith
-  place-falls d at (Many h n p) z = omega arith
-  place-falls d at (Text p n) z = omega arith
-  place-falls d at Number z = omega arith
-  place-falls d at Missing z = omega arith
+  place-falls d at (Content.node q) z = omega arith
+  place-falls d at (Content.list h n p) z = omega arith
+  place-falls d at (Content.text p n) z = omega arith
+  place-falls d at Content.plain z = omega arith
+  place-falls d at Content.absent z = omega arith
 
   pub child-falls : (d at i : ℕ) (s : Place) → (d ≡ 0 → ⊥) → s ≡ placeOf d at (partAt l d at i) → s .left < d
   child-falls d at i s z e = rw e (place-falls d at (partAt l d at i) z)
 
   -- that of a node in a node below has, too
-  place-le : (d at : ℕ) (p : Part) → placeOf d at p .left ≤ d
+  place-le : (d at : ℕ) (p : Content) → placeOf d at p .left ≤ d
   unfolding placeOf
-  place-le d at (One q) = omega arith
-  place-le d at (Many h n p) = omega arith
-  place-le d at (Text p n) = omega arith
-  place-le d at Number = omega arith
-  place-le d at Missing = omega arith
+  place-le d at (Content.node q) = omega arith
+  place-le d at (Content.list h n p) = omega arith
+  place-le d at (Content.text p n) = omega arith
+  place-le d at Content.plain = omega arith
+  place-le d at Content.absent = omega arith
 
   pub child-below : (d e at i : ℕ) (s : Place) → (d ≡ 0 → ⊥) → s ≡ placeOf (d - 1) at (partAt l e at i) → s .left < d
   child-below d e at i s z w = let h : placeOf (d - 1) at (partAt l e at i) .left ≤ d - 1 = place-le (d - 1) at (partAt l e at i) in rw w (omega arith)
@@ -244,24 +242,24 @@ module _ (l : List ℕ) where
 
   -- ---- the list in a field
 
-  run-is : (d at : ℕ) (p : Part) → itemsHere l d (runOf at p) ≡ itemsIn d p
+  run-is : (d at : ℕ) (p : Content) → itemsHere l d (runOf at p) ≡ itemsIn d p
   unfolding runOf lookItems
-  run-is d at (One q) = refl
-  run-is d at (Many h n p) = refl
-  run-is d at (Text p n) = refl
-  run-is d at Number = refl
-  run-is d at Missing = refl
+  run-is d at (Content.node q) = refl
+  run-is d at (Content.list h n p) = refl
+  run-is d at (Content.text p n) = refl
+  run-is d at Content.plain = refl
+  run-is d at Content.absent = refl
 
   pub list-is : (d at i : ℕ) (r : Run) → r ≡ runOf at (partAt l d at i) → itemsHere l (d - 1) r ≡ itemsAt i (lookNode l d at .value)
   list-is d at i r e = ap (itemsHere l (d - 1)) e ∙ run-is (d - 1) at (partAt l d at i) ∙ sym (items-part d at i)
 
   -- a kind's list of one sort: with the holes that the sort says
-  abbrev Holed : Bool → Part → Type 0
-  Holed b (One q) = Unit {0}
-  Holed b (Many h n p) = h ≡ b
-  Holed b (Text p n) = Unit {0}
-  Holed b Number = Unit {0}
-  Holed b Missing = Unit {0}
+  abbrev Holed : Bool → Content → Type 0
+  Holed b (Content.node q) = Unit {0}
+  Holed b (Content.list h n p) = h ≡ b
+  Holed b (Content.text p n) = Unit {0}
+  Holed b Content.plain = Unit {0}
+  Holed b Content.absent = Unit {0}
 
   many-holes : (p : ℕ) (o : Option ℕ) → Holed false (partIn l (many p) o)
   unfolding partOf
@@ -273,13 +271,13 @@ module _ (l : List ℕ) where
   gaps-holes p Option.none = tt
   gaps-holes p (some q) = refl
 
-  run-holes : (b : Bool) (d at : ℕ) (p : Part) → Holed b p → lookItems l (lookNode l d) b (runOf at p .count) (runOf at p .from) .value ≡ itemsHere l d (runOf at p)
+  run-holes : (b : Bool) (d at : ℕ) (p : Content) → Holed b p → lookItems l (lookNode l d) b (runOf at p .count) (runOf at p .from) .value ≡ itemsHere l d (runOf at p)
   unfolding runOf lookItems
-  run-holes b d at (One q) h = refl
-  run-holes b d at (Many c n p) h = rw h
-  run-holes b d at (Text p n) h = refl
-  run-holes b d at Number h = refl
-  run-holes b d at Missing h = refl
+  run-holes b d at (Content.node q) h = refl
+  run-holes b d at (Content.list c n p) h = rw h
+  run-holes b d at (Content.text p n) h = refl
+  run-holes b d at Content.plain h = refl
+  run-holes b d at Content.absent h = refl
 
   object-holes : (d at : ℕ) → byteAt l at ≡ 34 → Holed false (partAt l d at 0)
   unfolding partAt fieldsOf kinds

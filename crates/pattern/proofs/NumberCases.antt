@@ -20,9 +20,7 @@ use Rattle.lowering.proofs.NumberLaws.{value-grows, digits-one, digits-more, di
 use Rattle.lowering.proofs.Appearance.{same-numbers, numbers-self}
 use Rattle.lowering.specs.Parts.{sameNumbers}
 use Rattle.lowering.proofs.Cases.{by-test, and-left}
-use Rattle.pattern.specs.declared.numbers.Spelling.{Spelling}
-use Rattle.pattern.specs.declared.numbers.Spelling.the-variants.{Decimal, Hexadecimal, Another}
-use Rattle.pattern.specs.Numbers.{baseOf, valueIn, decimalIn, hexadecimalIn, spelledAs, isStringOf}
+use Rattle.pattern.specs.Numbers.{Numeral, baseOf, valueIn, decimalIn, hexadecimalIn, spelledAs, isStringOf}
 
 -- ---- the value of a digit
 
@@ -147,52 +145,52 @@ module _ (h : Bool) (l : List ℕ) (from b v i : ℕ) (r : Reading h l from b v 
 
 -- ---- a number by its value
 
-pub decimal-high : (v : ℕ) → highestNumber < v → Another ≡ decimalIn v
+pub decimal-high : (v : ℕ) → highestNumber < v → Numeral.another ≡ decimalIn v
 unfolding decimalIn
 decimal-high v h = rw (lt-ltb highestNumber v h)
 
-pub decimal-low : (v : ℕ) → v ≤ highestNumber → Decimal v ≡ decimalIn v
+pub decimal-low : (v : ℕ) → v ≤ highestNumber → Numeral.decimal v ≡ decimalIn v
 unfolding decimalIn
 decimal-low v h = rw (le-ltb highestNumber v h)
 
-pub hexadecimal-high : (v : ℕ) → highestNumber < v → Another ≡ hexadecimalIn v
+pub hexadecimal-high : (v : ℕ) → highestNumber < v → Numeral.another ≡ hexadecimalIn v
 unfolding hexadecimalIn
 hexadecimal-high v h = rw (lt-ltb highestNumber v h)
 
-pub hexadecimal-low : (v : ℕ) → v ≤ highestNumber → Hexadecimal v ≡ hexadecimalIn v
+pub hexadecimal-low : (v : ℕ) → v ≤ highestNumber → Numeral.hexadecimal v ≡ hexadecimalIn v
 unfolding hexadecimalIn
 hexadecimal-low v h = rw (le-ltb highestNumber v h)
 
 -- ---- what a text is
 
 -- digits that were read, as a number of each spelling
-module _ (base : ℕ) (ds : List ℕ) (made : ℕ → Spelling) (high : (v : ℕ) → highestNumber < v → made v ≡ Another) where
-  read-is : made (valueIn base 0 ds) ≡ cond (areDigits base ds) (made (valueFrom base 0 ds)) Another
+module _ (base : ℕ) (ds : List ℕ) (made : ℕ → Numeral) (high : (v : ℕ) → highestNumber < v → made v ≡ Numeral.another) where
+  read-is : made (valueIn base 0 ds) ≡ cond (areDigits base ds) (made (valueFrom base 0 ds)) Numeral.another
   unfolding valueIn
   read-is = go (areDigits base ds) (ltb highestNumber (valueFrom base 0 ds)) (ltb-true highestNumber (valueFrom base 0 ds))
     where
       go : (a b : Bool) → (b ≡ true → highestNumber < valueFrom base 0 ds)
-          → made (cond (a && not b) (valueFrom base 0 ds) (suc highestNumber)) ≡ cond a (made (valueFrom base 0 ds)) Another
+          → made (cond (a && not b) (valueFrom base 0 ds) (suc highestNumber)) ≡ cond a (made (valueFrom base 0 ds)) Numeral.another
       go true true h = high (suc highestNumber) (omega arith) ∙ sym (high (valueFrom base 0 ds) (h refl))
       go true false h = refl
       go false b h = high (suc highestNumber) (omega arith)
 
-abbrev named : numbers.Spelling → Spelling
+abbrev named : numbers.Spelling → Numeral
 named (numbers.Spelling.decimal ds) = decimalIn (valueFrom 10 0 ds)
 named (numbers.Spelling.hexadecimal ds) = hexadecimalIn (valueFrom 16 0 ds)
-named numbers.Spelling.another = Another
+named numbers.Spelling.another = Numeral.another
 
 decimal-is : (ds : List ℕ) → decimalIn (valueIn 10 0 ds) ≡ named (cond (areDigits 10 ds) (numbers.Spelling.decimal ds) numbers.Spelling.another)
 decimal-is ds = read-is 10 ds decimalIn (λ v h. sym (decimal-high v h)) ∙ go (areDigits 10 ds)
   where
-    go : (b : Bool) → cond b (decimalIn (valueFrom 10 0 ds)) Another ≡ named (cond b (numbers.Spelling.decimal ds) numbers.Spelling.another)
+    go : (b : Bool) → cond b (decimalIn (valueFrom 10 0 ds)) Numeral.another ≡ named (cond b (numbers.Spelling.decimal ds) numbers.Spelling.another)
     go true = refl
     go false = refl
 
 hexadecimal-is : (ds : List ℕ) → hexadecimalIn (valueIn 16 0 ds) ≡ named (cond (areDigits 16 ds) (numbers.Spelling.hexadecimal ds) numbers.Spelling.another)
 hexadecimal-is ds = read-is 16 ds hexadecimalIn (λ v h. sym (hexadecimal-high v h)) ∙ go (areDigits 16 ds)
   where
-    go : (b : Bool) → cond b (hexadecimalIn (valueFrom 16 0 ds)) Another ≡ named (cond b (numbers.Spelling.hexadecimal ds) numbers.Spelling.another)
+    go : (b : Bool) → cond b (hexadecimalIn (valueFrom 16 0 ds)) Numeral.another ≡ named (cond b (numbers.Spelling.hexadecimal ds) numbers.Spelling.another)
     go true = refl
     go false = refl
 
@@ -203,24 +201,24 @@ spelled-as l = go (spellingOf l)
     go : (x : numbers.Spelling) → named x ≡ elim x [
       | numbers.Spelling.decimal ds ↦ decimalIn (valueFrom 10 0 ds)
       | numbers.Spelling.hexadecimal ds ↦ hexadecimalIn (valueFrom 16 0 ds)
-      | numbers.Spelling.another ↦ Another
+      | numbers.Spelling.another ↦ Numeral.another
     ]
     go (numbers.Spelling.decimal ds) = refl
     go (numbers.Spelling.hexadecimal ds) = refl
     go numbers.Spelling.another = refl
 
-pub spelled-empty : (l : List ℕ) → length l ≡ 0 → Another ≡ spelledAs l
+pub spelled-empty : (l : List ℕ) → length l ≡ 0 → Numeral.another ≡ spelledAs l
 unfolding spelledAs spellingOf
 spelled-empty [] h = refl
 spelled-empty (b ∷ l) h = absurd (omega arith)
 
-pub spelled-one : (l : List ℕ) (v : ℕ) (r : Spelling) → length l ≡ 1 → v ≡ valueIn 10 0 (drop 0 l) → r ≡ decimalIn v → r ≡ spelledAs l
+pub spelled-one : (l : List ℕ) (v : ℕ) (r : Numeral) → length l ≡ 1 → v ≡ valueIn 10 0 (drop 0 l) → r ≡ decimalIn v → r ≡ spelledAs l
 unfolding spellingOf spellingOfOne
 spelled-one [] v r h e f = absurd (omega arith)
 spelled-one (b ∷ []) v r h e f = f ∙ ap decimalIn e ∙ decimal-is (b ∷ []) ∙ spelled-as (b ∷ [])
 spelled-one (b ∷ c ∷ l) v r h e f = absurd (omega arith)
 
-pub spelled-decimal : (l : List ℕ) (x v : ℕ) (r : Spelling) → (length l ≡ 0 → ⊥) → (length l ≡ 1 → ⊥) → Peeked l 0 x → (x ≡ 48 → ⊥) → v ≡ valueIn 10 0 (drop 0 l) → r ≡ decimalIn v → r ≡ spelledAs l
+pub spelled-decimal : (l : List ℕ) (x v : ℕ) (r : Numeral) → (length l ≡ 0 → ⊥) → (length l ≡ 1 → ⊥) → Peeked l 0 x → (x ≡ 48 → ⊥) → v ≡ valueIn 10 0 (drop 0 l) → r ≡ decimalIn v → r ≡ spelledAs l
 unfolding spellingOf byteAt
 spelled-decimal [] x v r h k p n e f = absurd (h refl)
 spelled-decimal (b ∷ []) x v r h k p n e f = absurd (k refl)
@@ -236,7 +234,7 @@ behind-zero b c l x p e =
     ap (λ (t : Bool). named (cond t (spellingBehindZero (c ∷ l)) (cond (areDigits 10 (b ∷ c ∷ l)) (numbers.Spelling.decimal (b ∷ c ∷ l)) numbers.Spelling.another))) (sym (eq-eqb b 48 (sym (p .value) ∙ e)))
     ∙ spelled-as (b ∷ c ∷ l)
 
-pub spelled-no-x : (l : List ℕ) (x y : ℕ) → (length l ≡ 0 → ⊥) → (length l ≡ 1 → ⊥) → Peeked l 0 x → x ≡ 48 → Peeked l 1 y → (y ≡ 120 → ⊥) → Another ≡ spelledAs l
+pub spelled-no-x : (l : List ℕ) (x y : ℕ) → (length l ≡ 0 → ⊥) → (length l ≡ 1 → ⊥) → Peeked l 0 x → x ≡ 48 → Peeked l 1 y → (y ≡ 120 → ⊥) → Numeral.another ≡ spelledAs l
 unfolding spellingBehindZero byteAt
 spelled-no-x [] x y h k p e q n = absurd (h refl)
 spelled-no-x (b ∷ []) x y h k p e q n = absurd (k refl)
@@ -245,14 +243,14 @@ spelled-no-x (b ∷ c ∷ d ∷ l) x y h k p e q n =
     ap (λ (t : Bool). named (cond (t && areDigits 16 (d ∷ l)) (numbers.Spelling.hexadecimal (d ∷ l)) numbers.Spelling.another)) (sym (ne-eqb c 120 (λ z. n (q .value ∙ z))))
     ∙ behind-zero b c (d ∷ l) x p e
 
-pub spelled-no-digit : (l : List ℕ) (x : ℕ) → length l ≡ 2 → Peeked l 0 x → x ≡ 48 → Another ≡ spelledAs l
+pub spelled-no-digit : (l : List ℕ) (x : ℕ) → length l ≡ 2 → Peeked l 0 x → x ≡ 48 → Numeral.another ≡ spelledAs l
 unfolding spellingBehindZero
 spelled-no-digit [] x h p e = absurd (omega arith)
 spelled-no-digit (b ∷ []) x h p e = absurd (omega arith)
 spelled-no-digit (b ∷ c ∷ []) x h p e = behind-zero b c [] x p e
 spelled-no-digit (b ∷ c ∷ d ∷ l) x h p e = absurd (omega arith)
 
-pub spelled-hexadecimal : (l : List ℕ) (x y v : ℕ) (r : Spelling) → (length l ≡ 0 → ⊥) → (length l ≡ 1 → ⊥) → (length l ≡ 2 → ⊥) → Peeked l 0 x → x ≡ 48 → Peeked l 1 y → y ≡ 120
+pub spelled-hexadecimal : (l : List ℕ) (x y v : ℕ) (r : Numeral) → (length l ≡ 0 → ⊥) → (length l ≡ 1 → ⊥) → (length l ≡ 2 → ⊥) → Peeked l 0 x → x ≡ 48 → Peeked l 1 y → y ≡ 120
     → v ≡ valueIn 16 0 (drop 2 l) → r ≡ hexadecimalIn v → r ≡ spelledAs l
 unfolding spellingBehindZero byteAt
 spelled-hexadecimal [] x y v r h k m p e q n w f = absurd (h refl)
@@ -265,12 +263,12 @@ spelled-hexadecimal (b ∷ c ∷ d ∷ l) x y v r h k m p e q n w f =
 
 -- ---- the string that is promised, by what the text is
 
-abbrev pub promisedBy : Spelling → Option (List ℕ)
-promisedBy (Decimal v) = some (digitsOf v)
-promisedBy (Hexadecimal v) = some (digitsOf v)
-promisedBy Another = Option.none
+abbrev pub promisedBy : Numeral → Option (List ℕ)
+promisedBy (Numeral.decimal v) = some (digitsOf v)
+promisedBy (Numeral.hexadecimal v) = some (digitsOf v)
+promisedBy Numeral.another = Option.none
 
-module _ (made : ℕ → Spelling) (v : ℕ) (high : highestNumber < v → Another ≡ made v) (low : v ≤ highestNumber → some (digitsOf v) ≡ promisedBy (made v)) where
+module _ (made : ℕ → Numeral) (v : ℕ) (high : highestNumber < v → Numeral.another ≡ made v) (low : v ≤ highestNumber → some (digitsOf v) ≡ promisedBy (made v)) where
   string-by : stringOf v ≡ promisedBy (made v)
   unfolding stringOf
   string-by =
@@ -300,16 +298,16 @@ pub record DecimalOf (l : List ℕ) (v : ℕ) : Type 0 where
   pub string : l ≡ digitsOf v
   pub low : v ≤ highestNumber
 
-abbrev Decimals : List ℕ → ℕ → Spelling → Type 0
-Decimals l v (Decimal u) = u ≡ v → DecimalOf l v
-Decimals l v (Hexadecimal u) = Unit {0}
-Decimals l v Another = Unit {0}
+abbrev Decimals : List ℕ → ℕ → Numeral → Type 0
+Decimals l v (Numeral.decimal u) = u ≡ v → DecimalOf l v
+Decimals l v (Numeral.hexadecimal u) = Unit {0}
+Decimals l v Numeral.another = Unit {0}
 
 decimal-made : (l : List ℕ) (v w : ℕ) → digitsOf w ≡ l → Decimals l v (decimalIn w)
 unfolding decimalIn
 decimal-made l v w e = go (ltb highestNumber w) (ltb-false highestNumber w)
   where
-    go : (b : Bool) → (b ≡ false → w ≤ highestNumber) → Decimals l v (cond b Another (Decimal w))
+    go : (b : Bool) → (b ≡ false → w ≤ highestNumber) → Decimals l v (cond b Numeral.another (Numeral.decimal w))
     go true h = tt
     go false h = λ z. let k = h refl in record { string = sym e ∙ ap digitsOf z; low = omega arith }
 
@@ -317,7 +315,7 @@ hexadecimal-made : (l : List ℕ) (v w : ℕ) → Decimals l v (hexadecimalIn w)
 unfolding hexadecimalIn
 hexadecimal-made l v w = go (ltb highestNumber w)
   where
-    go : (b : Bool) → Decimals l v (cond b Another (Hexadecimal w))
+    go : (b : Bool) → Decimals l v (cond b Numeral.another (Numeral.hexadecimal w))
     go true = tt
     go false = tt
 
@@ -353,10 +351,10 @@ spelled-decimals (b ∷ c ∷ d ∷ l) v =
     (by-test (eqb c 120 && areDigits 16 (d ∷ l)) (λ f. rw f (hexadecimal-made (b ∷ c ∷ d ∷ l) v (valueFrom 16 0 (d ∷ l)))) (λ f. rw f tt)))
     (λ e. rw e (digits-made b (c ∷ d ∷ l) v (λ h. inl (not-zero b (first-digit b (c ∷ d ∷ l) h) e))))
 
-pub decimal-string : (l : List ℕ) (v : ℕ) → spelledAs l ≡ Decimal v → DecimalOf l v
+pub decimal-string : (l : List ℕ) (v : ℕ) → spelledAs l ≡ Numeral.decimal v → DecimalOf l v
 decimal-string l v e = subst (Decimals l v) (spelled-as l ∙ e) (spelled-decimals l v) refl
 
-pub string-decimal : (v : ℕ) → v ≤ highestNumber → spelledAs (digitsOf v) ≡ Decimal v
+pub string-decimal : (v : ℕ) → v ≤ highestNumber → spelledAs (digitsOf v) ≡ Numeral.decimal v
 string-decimal v h = sym (spelled-as (digitsOf v)) ∙ ap named (string-spelled v) ∙ ap decimalIn (value-of-string v) ∙ sym (decimal-low v h)
 
 -- whether a text is the string of a value
@@ -368,27 +366,27 @@ same-string l v h =
     (λ t. absurd (true≢false (sym (ap (sameNumbers l) (sym (own (spelledAs l) refl t)) ∙ numbers-self l) ∙ e)))
     (λ t. e ∙ sym t))
   where
-    own : (x : Spelling) → spelledAs l ≡ x → isStringOf v x ≡ true → l ≡ digitsOf v
-    own (Decimal u) e t = decimal-string l u e .string ∙ ap digitsOf (eqb-true u v t)
-    own (Hexadecimal u) e t = absurd (true≢false (sym t))
-    own Another e t = absurd (true≢false (sym t))
+    own : (x : Numeral) → spelledAs l ≡ x → isStringOf v x ≡ true → l ≡ digitsOf v
+    own (Numeral.decimal u) e t = decimal-string l u e .string ∙ ap digitsOf (eqb-true u v t)
+    own (Numeral.hexadecimal u) e t = absurd (true≢false (sym t))
+    own Numeral.another e t = absurd (true≢false (sym t))
 
-abbrev pub Low : Spelling → Type 0
-Low (Decimal v) = v ≤ highestNumber
-Low (Hexadecimal v) = v ≤ highestNumber
-Low Another = Unit {0}
+abbrev pub Low : Numeral → Type 0
+Low (Numeral.decimal v) = v ≤ highestNumber
+Low (Numeral.hexadecimal v) = v ≤ highestNumber
+Low Numeral.another = Unit {0}
 
 -- the values are not too high
 pub spelled-low : (l : List ℕ) → Low (spelledAs l)
 unfolding decimalIn hexadecimalIn
 spelled-low l = subst Low (spelled-as l) (go (spellingOf l))
   where
-    low-by : (made : ℕ → Spelling) (v : ℕ) → ((w : ℕ) → w ≤ highestNumber → Low (made w)) → Low (cond (ltb highestNumber v) Another (made v))
+    low-by : (made : ℕ → Numeral) (v : ℕ) → ((w : ℕ) → w ≤ highestNumber → Low (made w)) → Low (cond (ltb highestNumber v) Numeral.another (made v))
     low-by made v h = by-test (ltb highestNumber v) (λ e. rw e tt) (λ e. rw e (h v (ltb-false highestNumber v e)))
 
     go : (x : numbers.Spelling) → Low (named x)
-    go (numbers.Spelling.decimal ds) = low-by Decimal (valueFrom 10 0 ds) (λ w h. h)
-    go (numbers.Spelling.hexadecimal ds) = low-by Hexadecimal (valueFrom 16 0 ds) (λ w h. h)
+    go (numbers.Spelling.decimal ds) = low-by Numeral.decimal (valueFrom 10 0 ds) (λ w h. h)
+    go (numbers.Spelling.hexadecimal ds) = low-by Numeral.hexadecimal (valueFrom 16 0 ds) (λ w h. h)
     go numbers.Spelling.another = tt
 
 -- ---- the digits of a value, from the end of an array

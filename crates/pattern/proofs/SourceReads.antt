@@ -13,7 +13,7 @@ use Rattle.lowering.specs.Declarations.{isName}
 use Rattle.pattern.specs.declared.source.Read.{Read}
 use Rattle.pattern.specs.declared.source.Read.the-variants.{Expression, Temporary}
 use Rattle.pattern.specs.declared.source.ReferenceBuilder.{ReferenceBuilder}
-use Rattle.pattern.specs.Source.{builderOf, heldIn, readOf, placeRead, afterRead, Settled, Keeps}
+use Rattle.pattern.specs.Source.{Given, readValues, builderOf, heldIn, readOf, placeRead, afterRead, Settled, Keeps}
 use Rattle.pattern.proofs.NodeParts.{Blank, kind-is, no-levels}
 
 -- ---- names
@@ -76,51 +76,51 @@ module _ (b : ReferenceBuilder) where
   unfolding afterRead
   after-is w e = ap spent (sym e)
 
-  pub read-first : b .wanted ≡ true → b .fresh ≡ true → (Expression (b .left) (b .at) ≡ readOf b) × (spent true ≡ afterRead b)
+  pub read-first : b .wanted ≡ true → b .fresh ≡ true → (Given.expression (b .left) (b .at) ≡ readOf b) × (spent true ≡ afterRead b)
   unfolding readOf
   read-first w f = (rw (w, f), after-is true w)
 
-  pub read-later : b .wanted ≡ true → b .fresh ≡ false → (Temporary (b .cell) (b .stem) ≡ readOf b) × (spent true ≡ afterRead b)
+  pub read-later : b .wanted ≡ true → b .fresh ≡ false → (Given.temporary (b .cell) (b .stem) ≡ readOf b) × (spent true ≡ afterRead b)
   unfolding readOf
   read-later w f = (rw (w, f), after-is true w)
 
-  pub read-name : b .wanted ≡ false → (Expression (b .left) (b .at) ≡ readOf b) × (spent false ≡ afterRead b)
+  pub read-name : b .wanted ≡ false → (Given.expression (b .left) (b .at) ≡ readOf b) × (spent false ≡ afterRead b)
   unfolding readOf
   read-name w = (rw w, after-is false w)
 
 -- ---- where what was read stands
 
-pub place-expression : (r : Read) (left at : ℕ) → r ≡ Expression left at → at ≡ placeRead r
+pub place-expression : (r : Read) (left at : ℕ) → r ≡ Expression left at → at ≡ placeRead (readValues r)
 unfolding placeRead
-place-expression r left at e = ap placeRead (sym e)
+place-expression r left at e = ap (λ (x : Read). placeRead (readValues x)) (sym e)
 
-pub place-temporary : (r : Read) (cell stem : ℕ) → r ≡ Temporary cell stem → cell ≡ placeRead r
+pub place-temporary : (r : Read) (cell stem : ℕ) → r ≡ Temporary cell stem → cell ≡ placeRead (readValues r)
 unfolding placeRead
-place-temporary r cell stem e = ap placeRead (sym e)
+place-temporary r cell stem e = ap (λ (x : Read). placeRead (readValues x)) (sym e)
 
 -- ---- reads, one after another
 
 module _ (l : List ℕ) (d at cell stem : ℕ) where
   -- the first gives the expression
-  pub first-read : (force : Bool) → readOf (builderOf l d at cell stem force) ≡ Expression d at
+  pub first-read : (force : Bool) → readOf (builderOf l d at cell stem force) ≡ Given.expression d at
   unfolding builderOf readOf
   first-read force = go (force || not (isName (lookNode l d at .value)))
     where
-      go : (w : Bool) → cond (w && false) (Temporary cell stem) (Expression d at) ≡ Expression d at
+      go : (w : Bool) → cond (w && false) (Given.temporary cell stem) (Given.expression d at) ≡ Given.expression d at
       go true = refl
       go false = refl
 
   -- later ones the temporary, or the name
-  pub later-read : isName (lookNode l d at .value) ≡ false → readOf (afterRead (builderOf l d at cell stem false)) ≡ Temporary cell stem
+  pub later-read : isName (lookNode l d at .value) ≡ false → readOf (afterRead (builderOf l d at cell stem false)) ≡ Given.temporary cell stem
   unfolding builderOf readOf afterRead
   later-read h = rw h refl
 
-  pub later-name : isName (lookNode l d at .value) ≡ true → readOf (afterRead (builderOf l d at cell stem false)) ≡ Expression d at
+  pub later-name : isName (lookNode l d at .value) ≡ true → readOf (afterRead (builderOf l d at cell stem false)) ≡ Given.expression d at
   unfolding builderOf readOf afterRead
   later-name h = rw h refl
 
   -- a forced one gives the temporary, whatever the expression is
-  pub later-forced : readOf (afterRead (builderOf l d at cell stem true)) ≡ Temporary cell stem
+  pub later-forced : readOf (afterRead (builderOf l d at cell stem true)) ≡ Given.temporary cell stem
   unfolding builderOf readOf afterRead
   later-forced = refl
 
@@ -151,7 +151,7 @@ module _ (cell stem : ℕ) where
   unfolding heldIn
   held-is = refl
 
-  pub held-read : readOf (heldIn cell stem) ≡ Temporary cell stem
+  pub held-read : readOf (heldIn cell stem) ≡ Given.temporary cell stem
   unfolding heldIn readOf
   held-read = refl
 

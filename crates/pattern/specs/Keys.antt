@@ -16,57 +16,53 @@ use Rattle.lowering.specs.Patterns.{properties}
 use Rattle.lowering.specs.Keys.{keySort, excludedKey}
 use Rattle.lowering.specs.Numbers.{digitsOf}
 use Rattle.lowering.specs.Keys as lowering
-use Rattle.pattern.specs.declared.parts.Part.{Part}
-use Rattle.pattern.specs.declared.parts.Part.the-variants.{One, Many, Text, Number, Missing}
 use Rattle.pattern.specs.declared.keys.Key.{Key}
 use Rattle.pattern.specs.declared.keys.Key.the-variants as key
 use Rattle.pattern.specs.declared.keys.Key.the-variants.{Name, Literal, OtherForm, NoForm, Template, Private, Again, Other}
-use Rattle.pattern.specs.declared.numbers.Spelling.{Spelling}
-use Rattle.pattern.specs.declared.numbers.Spelling.the-variants.{Decimal, Hexadecimal, Another}
 use Rattle.pattern.specs.declared.tally.Tally.{Tally}
 use Rattle.pattern.specs.Tally.{noTally, both, sum}
-use Rattle.pattern.specs.Parts.{partAt, textIn, standing}
-use Rattle.pattern.specs.Numbers.{spelledAs, isStringOf}
+use Rattle.pattern.specs.Parts.{Content, partAt, textIn, standing}
+use Rattle.pattern.specs.Numbers.{Numeral, spelledAs, isStringOf}
 
 -- ---- the variants
 
 -- a name: where its bytes are
-unfoldable pub nameIn : Part → Key
-nameIn (One q) = Name 0 0
-nameIn (Many h n p) = Name 0 0
-nameIn (Text p n) = Name p n
-nameIn Number = Name 0 0
-nameIn Missing = Name 0 0
+unfoldable pub nameIn : Content → Key
+nameIn (Content.node q) = Name 0 0
+nameIn (Content.list h n p) = Name 0 0
+nameIn (Content.text p n) = Name p n
+nameIn Content.plain = Name 0 0
+nameIn Content.absent = Name 0 0
 
 -- a literal: where the bytes of its form are, if it has one
-unfoldable pub formIn : Part → Key
-formIn (One q) = Literal 0 0
-formIn (Many h n p) = Literal 0 0
-formIn (Text p n) = Literal p n
-formIn Number = Literal 0 0
-formIn Missing = NoForm
+unfoldable pub formIn : Content → Key
+formIn (Content.node q) = Literal 0 0
+formIn (Content.list h n p) = Literal 0 0
+formIn (Content.text p n) = Literal p n
+formIn Content.plain = Literal 0 0
+formIn Content.absent = NoForm
 
 module _ (tree : List ℕ) where
   -- a number of the value v beside its form: the form if it is the string of v; without a form, the other
-  unfoldable pub besideForm : ℕ → Key → Part → Key
+  unfoldable pub besideForm : ℕ → Key → Content → Key
   besideForm v alone p = cond (standing p) (cond (isStringOf v (spelledAs (textIn tree p))) (formIn p) (OtherForm v)) alone
 
   -- a literal, by what its spelling is as a number; a decimal spelling is its own string
-  unfoldable pub literalBy : Spelling → Part → Part → Key
-  literalBy (Decimal v) s p = besideForm v (formIn s) p
-  literalBy (Hexadecimal v) s p = besideForm v (key.Number v) p
-  literalBy Another s p = formIn p
+  unfoldable pub literalBy : Numeral → Content → Content → Key
+  literalBy (Numeral.decimal v) s p = besideForm v (formIn s) p
+  literalBy (Numeral.hexadecimal v) s p = besideForm v (key.Number v) p
+  literalBy Numeral.another s p = formIn p
 
   -- a literal, by its sort, its spelling and its form
-  unfoldable pub literalIn : ℕ → Part → Part → Key
-  literalIn sort s p = literalBy (cond (eqb sort 2) (spelledAs (textIn tree s)) Another) s p
+  unfoldable pub literalIn : ℕ → Content → Content → Key
+  literalIn sort s p = literalBy (cond (eqb sort 2) (spelledAs (textIn tree s)) Numeral.another) s p
 
   -- the literal at a position
   unfoldable pub literalAt : ℕ → ℕ → Key
   literalAt d at = literalIn (numberAt 0 (lookNode tree d at .value)) (partAt tree d at 1) (partAt tree d at 2)
 
 -- a key of each sort, by what its name field holds, and what it is if it is a literal
-abbrev pub keyBy : lowering.Key → Part → Key → Key
+abbrev pub keyBy : lowering.Key → Content → Key → Key
 keyBy lowering.Key.name p k = nameIn p
 keyBy lowering.Key.literal p k = k
 keyBy lowering.Key.template p k = Template

@@ -1,4 +1,4 @@
--- What a text is as a number, as the code says it: with the value of a number that is promised a string.
+-- What a text is as a number, with the value of a number that is promised a string.
 use Prim.Native.Nat.{ℕ, suc}
 use mathlib.Core.Bool.{Bool, false, cond, not, _&&_}
 use mathlib.Core.List.{List}
@@ -8,30 +8,42 @@ use Rattle.lowering.specs.Numbers.{areDigits, valueFrom, spellingOf, highestNum
 use Rattle.pattern.specs.declared.numbers.Spelling.{Spelling}
 use Rattle.pattern.specs.declared.numbers.Spelling.the-variants.{Decimal, Hexadecimal, Another}
 
+-- decimal or hexadecimal, with the value; or another spelling, or a value for which no string is promised
+pub data Numeral : Type 0 where
+  decimal : ℕ → Numeral
+  hexadecimal : ℕ → Numeral
+  another : Numeral
+
+-- the value of each case of the code's answer. Document 01 has no number for it: nothing is refused
+abbrev pub spellingValue : Spelling → Numeral
+spellingValue (Decimal v) = decimal v
+spellingValue (Hexadecimal v) = hexadecimal v
+spellingValue Another = another
+
 abbrev pub baseOf : Bool → ℕ
-baseOf hexadecimal = cond hexadecimal 16 10
+baseOf isHexadecimal = cond isHexadecimal 16 10
 
 -- the value of digits behind others that have the value v; one above the highest if one is no digit or the value is higher
 unfoldable pub valueIn : ℕ → ℕ → List ℕ → ℕ
 valueIn base v ds = cond (areDigits base ds && not (ltb highestNumber (valueFrom base v ds))) (valueFrom base v ds) (suc highestNumber)
 
 -- a number by its value, if that is not too high
-unfoldable pub decimalIn : ℕ → Spelling
-decimalIn v = cond (ltb highestNumber v) Another (Decimal v)
+unfoldable pub decimalIn : ℕ → Numeral
+decimalIn v = cond (ltb highestNumber v) another (decimal v)
 
-unfoldable pub hexadecimalIn : ℕ → Spelling
-hexadecimalIn v = cond (ltb highestNumber v) Another (Hexadecimal v)
+unfoldable pub hexadecimalIn : ℕ → Numeral
+hexadecimalIn v = cond (ltb highestNumber v) another (hexadecimal v)
 
-unfoldable pub spelledAs : List ℕ → Spelling
+unfoldable pub spelledAs : List ℕ → Numeral
 spelledAs bs =
     elim (spellingOf bs) [
       | numbers.Spelling.decimal ds ↦ decimalIn (valueFrom 10 0 ds)
       | numbers.Spelling.hexadecimal ds ↦ hexadecimalIn (valueFrom 16 0 ds)
-      | numbers.Spelling.another ↦ Another
+      | numbers.Spelling.another ↦ another
     ]
 
 -- whether that is the string of the value v
-abbrev pub isStringOf : ℕ → Spelling → Bool
-isStringOf v (Decimal u) = eqb u v
-isStringOf v (Hexadecimal u) = false
-isStringOf v Another = false
+abbrev pub isStringOf : ℕ → Numeral → Bool
+isStringOf v (decimal u) = eqb u v
+isStringOf v (hexadecimal u) = false
+isStringOf v another = false

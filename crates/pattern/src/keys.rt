@@ -17,8 +17,8 @@ ghost use Rattle.lowering.specs.Made.{Context};
 ghost use Rattle.lowering.specs.Keys.{allPrimitive, keysRefusal, excludedKeys, keyTemporaries};
 ghost use Rattle.pattern.specs.Tally.{limited, noTally, both};
 ghost use Rattle.lowering.specs.Rests.{hasNoProperties};
-ghost use Rattle.pattern.specs.Parts.{textIn, standing};
-ghost use Rattle.pattern.specs.Numbers.{spelledAs, isStringOf};
+ghost use Rattle.pattern.specs.Parts.{partValues, textIn, standing};
+ghost use Rattle.pattern.specs.Numbers.{spellingValue, spelledAs, isStringOf};
 ghost use Rattle.pattern.specs.Keys.{nameIn, formIn, besideForm, literalBy, literalAt, Becomes, counts, keyCounts, keysOf, itemKeys};
 
 // What a key becomes among the excluded keys: a string of the bytes of a name or of a literal's form, which are also those
@@ -38,7 +38,7 @@ pub enum Key {
 }
 
 fn named(p: Part) -> Key
-    ensures { λ r. ⌜ r ≡ nameIn p ⌝ }
+    ensures { λ r. ⌜ r ≡ nameIn (partValues p) ⌝ }
 {
     match p {
         Part::Text { from, len } => Key::Name {
@@ -57,7 +57,7 @@ fn named(p: Part) -> Key
 }
 
 fn formed(p: Part) -> Key
-    ensures { λ r. ⌜ r ≡ formIn p ⌝ }
+    ensures { λ r. ⌜ r ≡ formIn (partValues p) ⌝ }
 {
     match p {
         Part::Text { from, len } => Key::Literal {
@@ -77,7 +77,7 @@ fn formed(p: Part) -> Key
 
 // What a text is as a number.
 fn spelled_in(tree: &[u8], p: Part) -> Spelling
-    ensures { λ r. ⌜ r ≡ spelledAs (textIn (now (tree .entry)) p) ⌝ }
+    ensures { λ r. ⌜ spellingValue r ≡ spelledAs (textIn (now (tree .entry)) (partValues p)) ⌝ }
 {
     match p {
         Part::Text { from, len } => {
@@ -100,7 +100,7 @@ fn spelled_in(tree: &[u8], p: Part) -> Spelling
 
 // Whether it is the string of a value.
 fn is_string(s: Spelling, value: usize) -> bool
-    ensures { λ r. ⌜ r ≡ isStringOf value s ⌝ }
+    ensures { λ r. ⌜ r ≡ isStringOf value (spellingValue s) ⌝ }
 {
     match s {
         Spelling::Decimal(v) => v == value,
@@ -110,7 +110,7 @@ fn is_string(s: Spelling, value: usize) -> bool
 }
 
 fn standing(p: Part) -> bool
-    ensures { λ r. ⌜ r ≡ standing p ⌝ }
+    ensures { λ r. ⌜ r ≡ standing (partValues p) ⌝ }
 {
     match p {
         Part::One(_) => true,
@@ -127,7 +127,7 @@ fn standing(p: Part) -> bool
 
 // A number beside its form.
 fn beside_form(tree: &[u8], value: usize, alone: Key, form: Part) -> Key
-    ensures { λ r. ⌜ r ≡ besideForm (now (tree .entry)) value alone form ⌝ }
+    ensures { λ r. ⌜ r ≡ besideForm (now (tree .entry)) value alone (partValues form) ⌝ }
 {
     if standing(form) {
         if is_string(spelled_in(tree, form), value) {
@@ -140,7 +140,7 @@ fn beside_form(tree: &[u8], value: usize, alone: Key, form: Part) -> Key
 
 // A literal by what its spelling is.
 fn literal_by(tree: &[u8], s: Spelling, spelling: Part, form: Part) -> Key
-    ensures { λ r. ⌜ r ≡ literalBy (now (tree .entry)) s spelling form ⌝ }
+    ensures { λ r. ⌜ r ≡ literalBy (now (tree .entry)) (spellingValue s) (partValues spelling) (partValues form) ⌝ }
 {
     match s {
         Spelling::Decimal(v) => beside_form(tree, v, formed(spelling), form),

@@ -4,7 +4,7 @@ ghost use mathlib.Core.Path.{_≡_};
 ghost use Prim.Native.Nat.{_≤_};
 ghost use lib.ListN.{length, drop};
 ghost use Rattle.lowering.specs.Numbers.{digitOf, digitsOf};
-ghost use Rattle.pattern.specs.Numbers.{baseOf, valueIn, decimalIn, hexadecimalIn, spelledAs};
+ghost use Rattle.pattern.specs.Numbers.{spellingValue, baseOf, valueIn, decimalIn, hexadecimalIn, spelledAs};
 
 // The highest number for which a string is promised.
 const HIGHEST: usize = 9007199254740991;
@@ -72,7 +72,7 @@ fn value(text: &[u8], hexadecimal: bool, from: usize) -> usize
 }
 
 fn decimal(v: usize) -> Spelling
-    ensures { λ r. ⌜ r ≡ decimalIn v ⌝ }
+    ensures { λ r. ⌜ spellingValue r ≡ decimalIn v ⌝ }
 {
     if HIGHEST < v {
         return Spelling::Another;
@@ -81,7 +81,7 @@ fn decimal(v: usize) -> Spelling
 }
 
 fn hexadecimal(v: usize) -> Spelling
-    ensures { λ r. ⌜ r ≡ hexadecimalIn v ⌝ }
+    ensures { λ r. ⌜ spellingValue r ≡ hexadecimalIn v ⌝ }
 {
     if HIGHEST < v {
         return Spelling::Another;
@@ -91,7 +91,7 @@ fn hexadecimal(v: usize) -> Spelling
 
 // What a text is.
 pub(crate) fn spelled(text: &[u8]) -> Spelling
-    ensures { λ r. ⌜ r ≡ spelledAs (now (text .entry)) ⌝ }
+    ensures { λ r. ⌜ spellingValue r ≡ spelledAs (now (text .entry)) ⌝ }
 {
     let n = text.len();
     if n == 0 {

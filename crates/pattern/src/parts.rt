@@ -7,7 +7,7 @@ ghost use mathlib.Core.Path.{_≡_};
 ghost use Rattle.tree.specs.Rows.{fieldsIn, sortOf};
 ghost use Rattle.tree.specs.Look.{lookNode};
 ghost use Rattle.lowering.specs.Parts.{stands};
-ghost use Rattle.pattern.specs.Parts.{sortAt, textOf, partOf, partAt, placeOf, runOf, itemPlace};
+ghost use Rattle.pattern.specs.Parts.{partValues, sortAt, textOf, partOf, partAt, placeOf, runOf, itemPlace};
 
 // What a field holds.
 pub enum Part {
@@ -53,7 +53,7 @@ fn code_at(row: usize, i: usize) -> usize
 
 // What a field of a code holds at a position.
 fn held(tree: &[u8], code: usize, at: usize) -> Part
-    ensures { λ r. ⌜ r ≡ partOf (now (tree .entry)) (sortOf code) at ⌝ }
+    ensures { λ r. ⌜ partValues r ≡ partOf (now (tree .entry)) (sortOf code) at ⌝ }
 {
     let class = code / 32;
     match class {
@@ -76,7 +76,7 @@ fn held(tree: &[u8], code: usize, at: usize) -> Part
 
 // The text at a position, where its bytes end at the latest with the tree.
 pub(crate) fn text(tree: &[u8], at: usize) -> Part
-    ensures { λ r. ⌜ r ≡ textOf (now (tree .entry)) at ⌝ }
+    ensures { λ r. ⌜ partValues r ≡ textOf (now (tree .entry)) at ⌝ }
 {
     let from = skip::step(tree, at, 2);
     let to = skip::step(tree, at, 2 + bytes::wide_at(tree, at));
@@ -88,7 +88,7 @@ pub(crate) fn text(tree: &[u8], at: usize) -> Part
 
 // Field i of the node at a position.
 pub(crate) fn field(tree: &[u8], left: usize, at: usize, i: usize) -> Part
-    ensures { λ r. ⌜ r ≡ partAt (now (tree .entry)) left at i ⌝ }
+    ensures { λ r. ⌜ partValues r ≡ partAt (now (tree .entry)) left at i ⌝ }
 {
     if left == 0 {
         return Part::Missing;

@@ -3,7 +3,7 @@ use tree::bytes;
 ghost use mathlib.Core.Path.{_≡_};
 ghost use Rattle.tree.specs.Look.{lookNode};
 ghost use Rattle.lowering.specs.Declarations.{isName};
-ghost use Rattle.pattern.specs.Source.{builderOf, heldIn, readOf, placeRead, afterRead};
+ghost use Rattle.pattern.specs.Source.{readValues, builderOf, heldIn, readOf, placeRead, afterRead};
 
 // What a read gives: the expression at a place, or the temporary of a cell with its stem.
 pub enum Read {
@@ -13,7 +13,7 @@ pub enum Read {
 
 // Where what was read stands: the expression's position, or the temporary's cell.
 pub fn place_of(read: Read) -> usize
-    ensures { λ r. ⌜ r ≡ placeRead read ⌝ }
+    ensures { λ r. ⌜ r ≡ placeRead (readValues read) ⌝ }
 {
     match read {
         Read::Expression { left: _, at } => at,
@@ -102,7 +102,7 @@ impl ReferenceBuilder {
 
     // A read, and the builder for the next one.
     pub fn create_read_expression(self) -> Taken
-        ensures { λ r. ⌜ (r .read ≡ readOf self) × (r .next ≡ afterRead self) ⌝ }
+        ensures { λ r. ⌜ (readValues (r .read) ≡ readOf self) × (r .next ≡ afterRead self) ⌝ }
     {
         let left = self.left;
         let at = self.at;

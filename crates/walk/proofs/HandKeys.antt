@@ -23,7 +23,6 @@ use Rattle.lowering.proofs.All.{AllItems}
 use Rattle.lowering.proofs.Cases.{by-test}
 use Rattle.sink.specs.Machine.{part}
 use Rattle.sink.specs.Machine.Event.{make, listedTemporary, excludedTemporary, declarator}
-use Rattle.pattern.specs.declared.parts.Part.the-variants.{Number}
 use Rattle.pattern.specs.declared.keys.Key.{Key}
 use Rattle.pattern.specs.declared.keys.Key.the-variants as variants
 use Rattle.pattern.specs.declared.keys.Key.the-variants.{Name, Literal, OtherForm, NoForm, Template, Private, Again, Other}

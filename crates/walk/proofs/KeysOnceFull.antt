@@ -18,10 +18,8 @@ use Rattle.lowering.specs.Parts.{is}
 use Rattle.lowering.specs.Patterns.{properties, hasRest}
 use Rattle.direct.specs.Events.{Deed, Place, Emit, puts}
 use Rattle.direct.specs.Events.Deed.{does, refuses}
-use Rattle.pattern.specs.declared.source.Read.{Read}
-use Rattle.pattern.specs.declared.source.Read.the-variants.{Expression, Temporary}
 use Rattle.pattern.specs.declared.source.ReferenceBuilder.{ReferenceBuilder}
-use Rattle.pattern.specs.Source.{readOf}
+use Rattle.pattern.specs.Source.{Given, readOf}
 use Rattle.direct.specs.Emit.{say, _▷_, inner}
 use Rattle.direct.specs.Views.{emitsView}
 use Rattle.direct.specs.Views.View.{taking}
@@ -76,9 +74,9 @@ pub source-quiet : (tree : List ℕ) (b : ReferenceBuilder) → Quiet (sourceOf 
 unfolding reads say firstRefused
 source-quiet tree b = go (readOf b)
   where
-    go : (r : Read) → Quiet (say (reads tree r))
-    go (Expression left at) = let bs = part at (lookNode tree left at .next) tree in record { sound = say-sounds (puts bs) (puts-silent bs); calm = λ m. silent-none (puts bs) (puts-silent bs) }
-    go (Temporary c stem) = record { sound = say-sounds (does (temporary c stem) ∷ []) tt; calm = λ m. refl }
+    go : (r : Given) → Quiet (say (reads tree r))
+    go (Given.expression left at) = let bs = part at (lookNode tree left at .next) tree in record { sound = say-sounds (puts bs) (puts-silent bs); calm = λ m. silent-none (puts bs) (puts-silent bs) }
+    go (Given.temporary c stem) = record { sound = say-sounds (does (temporary c stem) ∷ []) tt; calm = λ m. refl }
 
 -- an object pattern of input
 pub record Object (p : Node) : Type 0 where

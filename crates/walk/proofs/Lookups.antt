@@ -18,15 +18,11 @@ use Rattle.lowering.specs.Patterns.{properties, itemsOf, rest, shape}
 use Rattle.lowering.specs.Heads.{moved, isMoved, movedFrom}
 use Rattle.lowering.specs.Keys.{allPrimitive, keySort, entryOf}
 use Rattle.lowering.specs.Keys as lowering
-use Rattle.pattern.specs.declared.parts.Part.{Part}
-use Rattle.pattern.specs.declared.parts.Part.the-variants.{One, Many, Text, Number, Missing}
 use Rattle.pattern.specs.declared.keys.Key.{Key}
 use Rattle.pattern.specs.declared.keys.Key.the-variants as variants
 use Rattle.pattern.specs.declared.keys.Key.the-variants.{Name, Literal, OtherForm, NoForm, Template, Private, Again, Other}
-use Rattle.pattern.specs.declared.numbers.Spelling.{Spelling}
-use Rattle.pattern.specs.declared.numbers.Spelling.the-variants.{Decimal, Hexadecimal, Another}
-use Rattle.pattern.specs.Parts.{partAt, textIn, standing}
-use Rattle.pattern.specs.Numbers.{spelledAs, isStringOf}
+use Rattle.pattern.specs.Parts.{Content, partAt, textIn, standing}
+use Rattle.pattern.specs.Numbers.{Numeral, spelledAs, isStringOf}
 use Rattle.pattern.specs.Keys.{nameIn, formIn, besideForm, literalBy, literalIn, literalAt, keyBy, keyAt, Becomes}
 use Rattle.pattern.specs.Tally.{limited}
 use Rattle.pattern.proofs.NodeParts.{kind-is}
@@ -152,23 +148,23 @@ classOf Private = LeftOut
 classOf Again = AsItStands
 classOf Other = AsTemporary
 
-pub class-name : (p : Part) → classOf (nameIn p) ≡ AsString
+pub class-name : (p : Content) → classOf (nameIn p) ≡ AsString
 unfolding nameIn
-class-name (One q) = refl
-class-name (Many h n p) = refl
-class-name (Text p n) = refl
-class-name Number = refl
-class-name Missing = refl
+class-name (Content.node q) = refl
+class-name (Content.list h n p) = refl
+class-name (Content.text p n) = refl
+class-name Content.plain = refl
+class-name Content.absent = refl
 
-class-form : (p : Part) → classOf (formIn p) ≡ AsString
+class-form : (p : Content) → classOf (formIn p) ≡ AsString
 unfolding formIn
-class-form (One q) = refl
-class-form (Many h n p) = refl
-class-form (Text p n) = refl
-class-form Number = refl
-class-form Missing = refl
+class-form (Content.node q) = refl
+class-form (Content.list h n p) = refl
+class-form (Content.text p n) = refl
+class-form Content.plain = refl
+class-form Content.absent = refl
 
-class-beside : (l : List ℕ) (v : ℕ) (k : Key) (p : Part) → classOf k ≡ AsString → classOf (besideForm l v k p) ≡ AsString
+class-beside : (l : List ℕ) (v : ℕ) (k : Key) (p : Content) → classOf k ≡ AsString → classOf (besideForm l v k p) ≡ AsString
 unfolding besideForm
 class-beside l v k p h = go (standing p) (isStringOf v (spelledAs (textIn l p)))
   where
@@ -177,11 +173,11 @@ class-beside l v k p h = go (standing p) (isStringOf v (spelledAs (textIn l p)))
     go true false = refl
     go false f = h
 
-class-literal : (l : List ℕ) (x : Spelling) (s p : Part) → classOf (literalBy l x s p) ≡ AsString
+class-literal : (l : List ℕ) (x : Numeral) (s p : Content) → classOf (literalBy l x s p) ≡ AsString
 unfolding literalBy
-class-literal l (Decimal v) s p = class-beside l v (formIn s) p (class-form s)
-class-literal l (Hexadecimal v) s p = class-beside l v (variants.Number v) p refl
-class-literal l Another s p = class-form p
+class-literal l (Numeral.decimal v) s p = class-beside l v (formIn s) p (class-form s)
+class-literal l (Numeral.hexadecimal v) s p = class-beside l v (variants.Number v) p refl
+class-literal l Numeral.another s p = class-form p
 
 pub class-here : (l : List ℕ) (d at : ℕ) → classOf (literalAt l d at) ≡ AsString
 unfolding literalAt literalIn
@@ -190,7 +186,7 @@ class-here l d at = class-literal l _ (partAt l d at 1) (partAt l d at 2)
 abbrev sortClass : lowering.Key → KeyClass
 sortClass s = elim (entryOf s) [ spelt ↦ AsString | itself ↦ AsItStands | omitted ↦ LeftOut | saved ↦ AsTemporary ]
 
-class-by : (s : lowering.Key) (p : Part) (k : Key) → classOf k ≡ AsString → classOf (keyBy s p k) ≡ sortClass s
+class-by : (s : lowering.Key) (p : Content) (k : Key) → classOf k ≡ AsString → classOf (keyBy s p k) ≡ sortClass s
 class-by lowering.Key.name p k h = class-name p
 class-by lowering.Key.literal p k h = h
 class-by lowering.Key.template p k h = refl

@@ -26,20 +26,16 @@ use Rattle.lowering.specs.Numbers.{digitsOf}
 use Rattle.lowering.specs.Keys.{keySort, entryOf, keyText, promised, literalText}
 use Rattle.sink.specs.Machine.{part}
 use Rattle.sink.specs.Machine.Event.{put, temporary}
-use Rattle.pattern.specs.declared.parts.Part.{Part}
-use Rattle.pattern.specs.declared.parts.Part.the-variants.{One, Many, Text, Number, Missing}
 use Rattle.pattern.specs.declared.keys.Key.{Key}
 use Rattle.pattern.specs.declared.keys.Key.the-variants as variants
 use Rattle.pattern.specs.declared.keys.Key.the-variants.{Name, Literal, OtherForm, NoForm, Template, Private, Again, Other}
-use Rattle.pattern.specs.declared.numbers.Spelling.{Spelling}
-use Rattle.pattern.specs.declared.numbers.Spelling.the-variants.{Decimal, Hexadecimal, Another}
 use Rattle.pattern.specs.declared.source.Read.{Read}
 use Rattle.pattern.specs.declared.source.Read.the-variants.{Expression, Temporary}
 use Rattle.pattern.specs.declared.source.ReferenceBuilder.{ReferenceBuilder}
-use Rattle.pattern.specs.Parts.{sortAt, textOf, partOf, partIn, partAt, textIn, standing}
-use Rattle.pattern.specs.Numbers.{spelledAs, isStringOf}
+use Rattle.pattern.specs.Parts.{Content, sortAt, textOf, partOf, partIn, partAt, textIn, standing}
+use Rattle.pattern.specs.Numbers.{Numeral, spelledAs, isStringOf}
 use Rattle.pattern.specs.Keys.{nameIn, formIn, besideForm, literalBy, literalIn, literalAt, keyAt, keyEntry, Becomes}
-use Rattle.pattern.specs.Source.{heldIn, readOf}
+use Rattle.pattern.specs.Source.{Given, readValues, heldIn, readOf}
 use Rattle.pattern.proofs.SourceReads.{held-read}
 use Rattle.pattern.proofs.KeyCases.{by-sort, becomes}
 use Rattle.direct.proofs.RestValues.{key-spelt}
@@ -86,26 +82,26 @@ module _ (t : List ℕ) (mode : Mode) (at : ℕ) where
 
 -- two builders whose next reads are the same
 pub same-source : (t : List ℕ) (a b : ReferenceBuilder) → readOf a ≡ readOf b → sourceOf t a ≡ sourceOf t b
-same-source t a b e = ap (λ (r : Read). say (reads t r)) e
+same-source t a b e = ap (λ (r : Given). say (reads t r)) e
 
 -- one whose next read is a temporary
-pub reads-cell : (t : List ℕ) (b : ReferenceBuilder) (cell stem : ℕ) → readOf b ≡ Temporary cell stem → sourceOf t b ≡ say (does (temporary cell stem) ∷ [])
+pub reads-cell : (t : List ℕ) (b : ReferenceBuilder) (cell stem : ℕ) → readOf b ≡ Given.temporary cell stem → sourceOf t b ≡ say (does (temporary cell stem) ∷ [])
 unfolding reads
-reads-cell t b cell stem e = ap (λ (r : Read). say (reads t r)) e
+reads-cell t b cell stem e = ap (λ (r : Given). say (reads t r)) e
 
 pub held-source : (t : List ℕ) (b : ReferenceBuilder) (cell stem : ℕ) → b ≡ heldIn cell stem → sourceOf t b ≡ say (does (temporary cell stem) ∷ [])
 held-source t b cell stem e = reads-cell t b cell stem (ap readOf e ∙ held-read cell stem)
 
-pub source-copied : {g h h′ g′ : Going} (t : List ℕ) (b : ReferenceBuilder) (r : Read) (left p q x : ℕ) → r ≡ readOf b → r ≡ Expression left p → h ≡ g → x ≡ p → q ≡ lookNode t left p .next
+pub source-copied : {g h h′ g′ : Going} (t : List ℕ) (b : ReferenceBuilder) (r : Read) (left p q x : ℕ) → readValues r ≡ readOf b → r ≡ Expression left p → h ≡ g → x ≡ p → q ≡ lookNode t left p .next
     → Runs h h′ (puts (part x q t)) → g′ ≡ h′ → Runs g g′ (reads t (readOf b))
 unfolding reads
 source-copied t b r left p q x a e i f w d j =
     runs-as (runs-between i j d)
-    (ap (λ (y : ℕ). puts (part y q t)) f ∙ ap (λ (y : ℕ). puts (part p y t)) w ∙ ap (reads t) (sym e ∙ a))
+    (ap (λ (y : ℕ). puts (part y q t)) f ∙ ap (λ (y : ℕ). puts (part p y t)) w ∙ ap (reads t) (sym (ap readValues e) ∙ a))
 
-pub source-written : {g g′ : Going} (t : List ℕ) (b : ReferenceBuilder) (r : Read) (cell stem : ℕ) → r ≡ readOf b → r ≡ Temporary cell stem → Runs g g′ (does (temporary cell stem) ∷ []) → Runs g g′ (reads t (readOf b))
+pub source-written : {g g′ : Going} (t : List ℕ) (b : ReferenceBuilder) (r : Read) (cell stem : ℕ) → readValues r ≡ readOf b → r ≡ Temporary cell stem → Runs g g′ (does (temporary cell stem) ∷ []) → Runs g g′ (reads t (readOf b))
 unfolding reads
-source-written t b r cell stem a e d = runs-as d (ap (reads t) (sym e ∙ a))
+source-written t b r cell stem a e d = runs-as d (ap (reads t) (sym (ap readValues e) ∙ a))
 
 -- ---- a loop that awaits
 
@@ -170,12 +166,12 @@ pub text-short : (i : ℕ) (n : Node) → length (textAt i n) ≤ length (encode
 unfolding textAt encode
 text-short i (node at k fs) = let h = text-fits fs i in omega arith
 
-abbrev Within : List ℕ → Part → Type 0
-Within t (One q) = Unit {0}
-Within t (Many h n p) = Unit {0}
-Within t (Text p n) = p + n ≤ length t
-Within t Number = Unit {0}
-Within t Missing = Unit {0}
+abbrev Within : List ℕ → Content → Type 0
+Within t (Content.node q) = Unit {0}
+Within t (Content.list h n p) = Unit {0}
+Within t (Content.text p n) = p + n ≤ length t
+Within t Content.plain = Unit {0}
+Within t Content.absent = Unit {0}
 
 sort-within : (t : List ℕ) (s : Sort) (o : Option ℕ) → Within t (partIn t s o)
 unfolding partOf textOf
@@ -207,23 +203,23 @@ Room t Private = Unit {0}
 Room t Again = Unit {0}
 Room t Other = Unit {0}
 
-name-room : (t : List ℕ) (p : Part) → Within t p → Room t (nameIn p)
+name-room : (t : List ℕ) (p : Content) → Within t p → Room t (nameIn p)
 unfolding nameIn
-name-room t (One q) w = omega arith
-name-room t (Many h n p) w = omega arith
-name-room t (Text p n) w = w
-name-room t Number w = omega arith
-name-room t Missing w = omega arith
+name-room t (Content.node q) w = omega arith
+name-room t (Content.list h n p) w = omega arith
+name-room t (Content.text p n) w = w
+name-room t Content.plain w = omega arith
+name-room t Content.absent w = omega arith
 
-form-room : (t : List ℕ) (p : Part) → Within t p → Room t (formIn p)
+form-room : (t : List ℕ) (p : Content) → Within t p → Room t (formIn p)
 unfolding formIn
-form-room t (One q) w = omega arith
-form-room t (Many h n p) w = omega arith
-form-room t (Text p n) w = w
-form-room t Number w = omega arith
-form-room t Missing w = tt
+form-room t (Content.node q) w = omega arith
+form-room t (Content.list h n p) w = omega arith
+form-room t (Content.text p n) w = w
+form-room t Content.plain w = omega arith
+form-room t Content.absent w = tt
 
-beside-room : (t : List ℕ) (v : ℕ) (k : Key) (p : Part) → Within t p → Room t k → Room t (besideForm t v k p)
+beside-room : (t : List ℕ) (v : ℕ) (k : Key) (p : Content) → Within t p → Room t k → Room t (besideForm t v k p)
 unfolding besideForm
 beside-room t v k p w h = go (standing p) (isStringOf v (spelledAs (textIn t p)))
   where
@@ -232,11 +228,11 @@ beside-room t v k p w h = go (standing p) (isStringOf v (spelledAs (textIn t p))
     go true false = tt
     go false f = h
 
-literal-room : (t : List ℕ) (x : Spelling) (s p : Part) → Within t s → Within t p → Room t (literalBy t x s p)
+literal-room : (t : List ℕ) (x : Numeral) (s p : Content) → Within t s → Within t p → Room t (literalBy t x s p)
 unfolding literalBy
-literal-room t (Decimal v) s p a b = beside-room t v (formIn s) p b (form-room t s a)
-literal-room t (Hexadecimal v) s p a b = beside-room t v (variants.Number v) p b tt
-literal-room t Another s p a b = form-room t p b
+literal-room t (Numeral.decimal v) s p a b = beside-room t v (formIn s) p b (form-room t s a)
+literal-room t (Numeral.hexadecimal v) s p a b = beside-room t v (variants.Number v) p b tt
+literal-room t Numeral.another s p a b = form-room t p b
 
 key-room : (t : List ℕ) (d at : ℕ) → Room t (keyAt t d at)
 unfolding keyAt literalAt literalIn

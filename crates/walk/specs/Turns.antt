@@ -18,14 +18,12 @@ use Rattle.lowering.specs.Numbers.{digitsOf}
 use Rattle.lowering.proofs.All.{AllItems}
 use Rattle.sink.specs.Machine.{part}
 use Rattle.sink.specs.Machine.Event.{put, temporary, newMark}
-use Rattle.pattern.specs.declared.source.Read.{Read}
-use Rattle.pattern.specs.declared.source.Read.the-variants.{Expression, Temporary}
 use Rattle.pattern.specs.declared.source.ReferenceBuilder.{ReferenceBuilder}
 use Rattle.pattern.specs.declared.keys.Key.{Key}
 use Rattle.pattern.specs.declared.keys.Key.the-variants.{Name, Literal, Number, OtherForm, NoForm, Template, Private, Again, Other}
 use Rattle.pattern.specs.Parts.{partAt, runOf}
 use Rattle.pattern.specs.Tally.{limited}
-use Rattle.pattern.specs.Source.{readOf}
+use Rattle.pattern.specs.Source.{Given, readOf}
 use Rattle.direct.specs.Events.{Deed, Place, Emit, puts, excludes, cell, emits}
 use Rattle.direct.specs.Events.Deed.{does, refuses}
 use Rattle.direct.specs.Emit.{say, _▷_}
@@ -159,9 +157,9 @@ abbrev pub AllSuit : Mode → Items → Type 0
 AllSuit mode ns = AllItems (λ n. suits mode n ≡ true) ns
 
 -- ---- sources: an expression is copied, a temporary is written
-unfoldable pub reads : List ℕ → Read → List Deed
-reads tree (Expression left at) = puts (part at (lookNode tree left at .next) tree)
-reads tree (Temporary c stem) = does (temporary c stem) ∷ []
+unfoldable pub reads : List ℕ → Given → List Deed
+reads tree (Given.expression left at) = puts (part at (lookNode tree left at .next) tree)
+reads tree (Given.temporary c stem) = does (temporary c stem) ∷ []
 
 abbrev pub sourceOf : List ℕ → ReferenceBuilder → Emit
 sourceOf tree b = say (reads tree (readOf b))
