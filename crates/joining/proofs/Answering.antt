@@ -29,7 +29,7 @@ use Rattle.joining.specs.Answer.{taken, allFound, fitting, afterList, af
 use Rattle.joining.specs.Answer.Outcome.{refusal, tree}
 use Rattle.joining.specs.Writing.{Copied, wholeBytes, Finished}
 use Rattle.joining.specs.Spots.{Spot, placeOf, statementOf, spots, tally, shares}
-use Rattle.joining.specs.Files.{In, Notes, times, Collected, Toured}
+use Rattle.joining.specs.Files.{In, Notes, times, Collected, foundNumber, Toured}
 use Rattle.joining.specs.Settle.{settled, settles, Stand, names}
 use Rattle.joining.specs.Entries.{runList, Listed, Ended, Ends as Answers, IfAt}
 use Rattle.joining.specs.Entries.Told.{lost}
@@ -291,19 +291,28 @@ module _ (bytes l : List ℕ) (room : ℕ) (t : TreeGot bytes) where
 
 -- ---- by what the code calls
 
+-- whether the bytes are a tree, by the number
+is-tree : (b : Bool) → foundNumber (Latest 0) ≡ cond b 0 3 → b ≡ true
+is-tree true e = refl
+is-tree false e = absurd (omega arith)
+
+is-none : (b : Bool) → foundNumber NoTree ≡ cond b 0 3 → b ≡ false
+is-none true e = absurd (omega arith)
+is-none false e = refl
+
 module _ (bytes l : List ℕ) (hb : (i : ℕ) → getD bytes i 0 < 256) (hl : (i : ℕ) → getD l i 0 < 256) (room : ℕ) (seen₁ earlier₁ holds₁ before₁ : List ℕ) (f : Found) (t : Toured bytes seen₁ earlier₁ holds₁ before₁ f) where
   pub way-3 : f ≡ NoTree → (answer size : ℕ) (out : List ℕ) → (answer ≡ 3) × (size ≡ 0) × (out ≡ replicate room 0) → Answered bytes l room answer size out
-  way-3 y answer size out r = answered-refusal bytes l room 3 answer size out (no-tree bytes l room (rw y at t)) r
+  way-3 y answer size out r = answered-refusal bytes l room 3 answer size out (no-tree bytes l room (is-none (isRewritten bytes) ((rw y at t) .number))) r
 
   module _ (latest : ℕ) (y : f ≡ Latest latest) (r : Ending) (seen₂ ends : List ℕ) (ans : (met : List ℕ) → Notes seen₁ met → Answers r seen₂ (runList l met) × IfAt r (Listed l ends (wideAt l 0) 2)) where
     told-of : Toured bytes seen₁ earlier₁ holds₁ before₁ (Latest latest)
     told-of = rw y at t
 
     abbrev tg : TreeGot bytes
-    tg = tree-got bytes hb (told-of .0)
+    tg = tree-got bytes hb (is-tree (isRewritten bytes) (told-of .number))
 
     abbrev cg : Collected bytes seen₁ earlier₁ holds₁ before₁ latest (tg .tree)
-    cg = told-of .1 (tg .tree) (tg .end) (tg .next) (tg .raw)
+    cg = told-of .values (tg .tree) (tg .end) (tg .next) (tg .raw)
 
     pub way-12 : r ≡ Missing → (answer size : ℕ) (out : List ℕ) → (answer ≡ 12) × (size ≡ 0) × (out ≡ replicate room 0) → Answered bytes l room answer size out
     way-12 m answer size out x =

@@ -31,7 +31,7 @@ use Rattle.rewritten.proofs.Marks.{Knows, metAfter, meets-new, meets-twice, met
 use Rattle.joining.specs.List.{readDeclarators, longestList}
 use Rattle.joining.specs.Tables.{stored}
 use Rattle.joining.specs.Files.{Notes}
-use Rattle.joining.specs.Entries.{Told, tells, telling, onward, runDeclarators, runEntries, runHead, runList, Listed, Ended, Ends as Answers, Within, IfAt}
+use Rattle.joining.specs.Entries.{Told, tells, telling, onward, runDeclarators, runEntries, runHead, runList, Listed, Ended, endingNumber, toldNumber, Ends as Answers, Within, IfAt}
 use Rattle.joining.specs.Entries.Told.{lost, told}
 use Rattle.joining.specs.declared.entries.Ending.{Ending}
 use Rattle.joining.specs.declared.entries.Ending.the-variants.{At, Missing}
@@ -281,16 +281,26 @@ module _ (l : List ℕ) where
     unfolding runList
     list-whole seen' end e d = record { met = e .met; is = rw (le-leb (length l) longestList h, first .is, e .is, eq-eqb end (length l) d) refl; known = e .known }
 
--- ---- an answer by its variant
+-- ---- an answer by its number and values
+
+pub answers-at : {q : ℕ} {seen : List ℕ} {v : Told} → Ended seen q v → Answers (At q) seen v
+answers-at e = record { number = sym (ap toldNumber (e .is)); values = e }
+
+pub answers-lost : {seen : List ℕ} {v : Told} → v ≡ lost → Answers Missing seen v
+answers-lost e = record { number = sym (ap toldNumber e); values = tt }
 
 pub at-within : (r : Ending) (q low size : ℕ) → r ≡ At q → Within r low size → (low ≤ q) × (q ≤ size)
 at-within r q low size e w = rw e at w
 
 pub at-ends : (r : Ending) (q : ℕ) (seen : List ℕ) (v : Told) → r ≡ At q → Answers r seen v → Ended seen q v
-at-ends r q seen v e w = rw e at w
+at-ends r q seen v e w = (rw e at w) .values
 
 pub missing-ends : (r : Ending) (seen : List ℕ) (v : Told) → r ≡ Missing → Answers r seen v → v ≡ lost
-missing-ends r seen v e w = rw e at w
+missing-ends r seen v e w = go v ((rw e at w) .number)
+  where
+    go : (v : Told) → endingNumber Missing ≡ toldNumber v → v ≡ lost
+    go lost z = refl
+    go (told q m) z = absurd (omega arith)
 
 pub at-then : (r : Ending) (q : ℕ) (A : Type 0) → r ≡ At q → IfAt r A → A
 at-then r q A e w = rw e at w

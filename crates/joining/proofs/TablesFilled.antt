@@ -3,7 +3,7 @@
 use Prim.Native.Nat.{ℕ, _+_, _-_, _*_, _/_, _%_, _<_, _≤_}
 use mathlib.Core.Path.{_≡_, refl, sym, ap, _∙_}
 use mathlib.Core.List.{List, [], _∷_}
-use mathlib.Core.Bool.{Bool, true, false}
+use mathlib.Core.Bool.{Bool, true, false, cond}
 use native.Mathlib.Omega.{arith}
 use lib.Dec.{eqb}
 use lib.ListN.{length, getD}
@@ -29,7 +29,7 @@ use Rattle.rewritten.proofs.MarksReader.{Reading, reading-start, too-long, note
 use Rattle.rewritten.proofs.Marks.{Knows, metAfter, knows-next}
 use Rattle.joining.specs.Spots.{spots}
 use Rattle.joining.specs.Files.{Shelf, shelf, passedBy, added, Files, Notes, times, Lent, Ready, Collected, Toured}
-use Rattle.joining.specs.declared.bodies.Found.the-variants.{Latest}
+use Rattle.joining.specs.declared.bodies.Found.the-variants.{Latest, NoTree}
 use Rattle.joining.proofs.FallingChains.{chain-end}
 use Rattle.joining.proofs.Times.{met-times, node-times}
 use Rattle.joining.proofs.Walk.{Walk, walker, walks, walked}
@@ -191,10 +191,10 @@ module _ (l fs₀ seen₀ a₀ e₀ h₀ b₀ fs seen a e h b : List ℕ) (c : C
     shut = closes l fs seen c (length fs₀) (isRewritten l) (g .reads) done
 
     pub tour-whole : c .deep ≡ 0 → c .at ≡ length l → Ready fs₀ seen₀ a₀ e₀ h₀ b₀ → Toured l seen e h b (Latest latest)
-    tour-whole z w rd = (
-      sym (closed-ends l fs seen c (length fs₀) (isRewritten l) (g .reads) done z) ∙ eq-eqb (c .at) (length l) w,
-      λ n q k x. collecting-ends l fs fs c (length fs₀) (g .reads .tour) long (stepClosed fs (c .at) (c .deep) (eqb (c .top % 2) 0)) shut (ap (λ (y : ℕ). stepClosed fs (c .at) y (eqb (c .top % 2) 0)) z) seen (shelf a e h b latest begun) n q k (g .will n q k x rd),
-    )
+    tour-whole z w rd = record {
+      number = sym (ap (λ (y : Bool). cond y 0 3) (sym (closed-ends l fs seen c (length fs₀) (isRewritten l) (g .reads) done z) ∙ eq-eqb (c .at) (length l) w));
+      values = λ n q k x. collecting-ends l fs fs c (length fs₀) (g .reads .tour) long (stepClosed fs (c .at) (c .deep) (eqb (c .top % 2) 0)) shut (ap (λ (y : ℕ). stepClosed fs (c .at) y (eqb (c .top % 2) 0)) z) seen (shelf a e h b latest begun) n q k (g .will n q k x rd);
+    }
 
     pub tour-part : c .deep ≡ 0 → (c .at ≡ length l → ⊥) → isRewritten l ≡ false
     tour-part z w = sym (closed-ends l fs seen c (length fs₀) (isRewritten l) (g .reads) done z) ∙ ne-eqb (c .at) (length l) w
@@ -227,3 +227,7 @@ module _ (l fs₀ seen₀ a₀ e₀ h₀ b₀ fs seen a e h b : List ℕ) (c : C
 
 pub tour-long : (l : List ℕ) → 32768 < length l → isRewritten l ≡ false
 tour-long l h = sym (too-long l h)
+
+-- no tree, by its number
+pub toured-none : {l seen e h b : List ℕ} → isRewritten l ≡ false → Toured l seen e h b NoTree
+toured-none r = record { number = sym (ap (λ (y : Bool). cond y 0 3) r); values = tt }

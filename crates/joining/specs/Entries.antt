@@ -64,9 +64,24 @@ pub record Ended (seen : List ℕ) (q : ℕ) (v : Told) : Type 0 where
   pub is : v ≡ told q met
   pub known : Notes seen met
 
-abbrev pub Ends : Ending → List ℕ → Told → Type 0
-Ends (At q) seen v = Ended seen q v
-Ends Missing seen v = v ≡ lost
+-- document 01's number of an ending: 12 where there is no list, else 0
+abbrev pub endingNumber : Ending → ℕ
+endingNumber (At q) = 0
+endingNumber Missing = 12
+
+-- the same of what is told
+abbrev pub toldNumber : Told → ℕ
+toldNumber lost = 12
+toldNumber (told q m) = 0
+
+-- its values: the position and the marks that were met
+abbrev pub EndsAt : Ending → List ℕ → Told → Type 0
+EndsAt (At q) seen v = Ended seen q v
+EndsAt Missing seen v = Unit {0}
+
+pub record Ends (r : Ending) (seen : List ℕ) (v : Told) : Type 0 where
+  pub number : endingNumber r ≡ toldNumber v
+  pub values : EndsAt r seen v
 
 abbrev pub Within : Ending → ℕ → ℕ → Type 0
 Within (At q) low size = (low ≤ q) × (q ≤ size)

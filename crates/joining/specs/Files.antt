@@ -105,7 +105,16 @@ pub record Collected (tree seen earlier holds before : List ℕ) (latest : ℕ) 
   pub near : latest < 32768
   pub low : (p : ℕ) → getD holds p 0 < 32768
 
--- what it answers: the bytes are a rewritten tree, and the tables hold what they hold of it; or they are none
-abbrev pub Toured : List ℕ → List ℕ → List ℕ → List ℕ → List ℕ → Found → Type 0
-Toured tree seen earlier holds before (Latest latest) = (isRewritten tree ≡ true) × ((n : Node) (q k : ℕ) → readTree rewritten (length tree) tree ≡ got n q k → Collected tree seen earlier holds before latest n)
-Toured tree seen earlier holds before NoTree = isRewritten tree ≡ false
+-- document 01's number of what it answers: 3 where the bytes are no rewritten tree, else 0
+abbrev pub foundNumber : Found → ℕ
+foundNumber (Latest latest) = 0
+foundNumber NoTree = 3
+
+-- its values: the last of the containers' lists, from which the tables hold what they hold of the tree
+abbrev pub FromLatest : List ℕ → List ℕ → List ℕ → List ℕ → List ℕ → Found → Type 0
+FromLatest tree seen earlier holds before (Latest latest) = (n : Node) (q k : ℕ) → readTree rewritten (length tree) tree ≡ got n q k → Collected tree seen earlier holds before latest n
+FromLatest tree seen earlier holds before NoTree = Unit {0}
+
+pub record Toured (tree seen earlier holds before : List ℕ) (r : Found) : Type 0 where
+  pub number : foundNumber r ≡ cond (isRewritten tree) 0 3
+  pub values : FromLatest tree seen earlier holds before r

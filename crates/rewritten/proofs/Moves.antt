@@ -17,18 +17,18 @@ use Rattle.tree.specs.Rows.{sortFrom, sortOf, fieldsIn}
 use Rattle.tree.specs.Read.{Got, mapped, byteAt, wideAt, chosenPlace}
 use Rattle.tree.specs.Read.Got.{got, refused}
 use Rattle.tree.specs.Read.Refusal.{notATree}
-use Rattle.tree.specs.Answer.{Peeked, Wide}
+use Rattle.tree.specs.Answer.{Peeked, Wide, gotNumber}
 use Rattle.tree.proofs.GrammarRows.{NoKey, no-key}
 use Rattle.tree.proofs.Within.{map-byte, known}
 use Rattle.rewritten.specs.Events.{Event}
 use Rattle.rewritten.specs.Events.Event.{begins, opens, closes}
 use Rattle.rewritten.specs.Pending.{Task, standing, sorts, andThen, nodeComes, pieceComes, itemsCome, comes, pending, itemsIn, taskOf, stack}
 use Rattle.rewritten.specs.Pending.Task.{slots, items}
-use Rattle.rewritten.specs.Steps.{Planned, comingAt, comingFields, comingItems, comingPiece, comingNode, listSort, Took, closingIn, stepClosed, eventIn, Stands, deepAfter, framesAfter}
+use Rattle.rewritten.specs.Steps.{Planned, comingAt, comingFields, comingItems, comingPiece, comingNode, listSort, stepNumber, Stepped, Took, closingIn, stepClosed, eventIn, Stands, deepAfter, framesAfter}
 use Rattle.rewritten.specs.Look.{Leaf, LeafSo, stepAfter, isClosed}
 use Rattle.rewritten.specs.declared.step.Event.the-variants.{Begins, Opens, Hole}
 use Rattle.rewritten.specs.declared.step.Step.{Step}
-use Rattle.rewritten.specs.declared.step.Step.the-variants.{Next, Refused, Full}
+use Rattle.rewritten.specs.declared.step.Step.the-variants.{Next, Done, Refused, Full}
 use Rattle.rewritten.proofs.Coming.{led, entered, field-next, item-next, item-hole, items-plain, items-other, items-none, node-ends, list-closes, all-done, node-wrong, node-unfit, node-fits, piece-list, piece-child, piece-chosen}
 use Rattle.rewritten.proofs.Frames.{sorts-none, sorts-first, row-small}
 
@@ -60,6 +60,17 @@ unfolding taskOf
 task-odd w =
     let e : (w * 2 + 1) / 2 ≡ w = omega arith in
     rw (ne-eqb ((w * 2 + 1) % 2) 0 (λ z. absurd (omega arith))) (ap itemsIn e)
+
+-- ---- the number of a step
+
+took : {l fs later : List ℕ} {g : Got (List Event)} {at deep : ℕ} {r : Step} → Stepped l fs later g at deep r → Took l fs later g at deep r
+took {l} {fs} {later} {g} {at} {deep} {r} so = record { number = go r so; so = so }
+  where
+    go : (r : Step) → Stepped l fs later g at deep r → (stepNumber r ≡ 0 → ⊥) → stepNumber r ≡ gotNumber g
+    go (Next e c) so n = absurd (n refl)
+    go Done so n = absurd (n refl)
+    go Refused so n = sym (ap gotNumber (so .0))
+    go Full so n = absurd (n refl)
 
 -- ---- what is pending may be said in another way
 
@@ -102,11 +113,11 @@ module _ (l fs : List ℕ) where
     around e = ap (λ (x : Got (List Event)). andThen x (λ q j. pending l (taskOf rest) (stack fs deep) q j)) e
 
     pub enter-wrong : form ≡ 0 → Took l fs fs (comingNode l fs p at deep rest) at deep Refused
-    enter-wrong z = record { so = (around (node-wrong l p at 1 (sym form-is ∙ z)), refl) }
+    enter-wrong z = took (around (node-wrong l p at 1 (sym form-is ∙ z)), refl)
 
     module _ (stands : form ≡ 0 → ⊥) (map row : ℕ) (next : Peeked l (at + 1) map) (rowed : fieldsIn row ≡ fieldsOf form) where
       pub enter-unfit : mapOk (fieldsIn row) map ≡ false → Took l fs fs (comingNode l fs p at deep rest) at deep Refused
-      enter-unfit bad = record { so = (around (node-unfit l p at 1 kind form map (look .value) form-is (next .value) (omega arith) (ap (λ (gs : List Field). mapOk gs map) (sym rowed) ∙ bad)), refl) }
+      enter-unfit bad = took (around (node-unfit l p at 1 kind form map (look .value) form-is (next .value) (omega arith) (ap (λ (gs : List Field). mapOk gs map) (sym rowed) ∙ bad)), refl)
 
       pub enter-inside : mapOk (fieldsIn row) map ≡ true → at + 1 < length l
       enter-inside ok = next .within (map-byte form map (ap (λ (gs : List Field). mapOk gs map) (sym rowed) ∙ ok))
@@ -120,28 +131,26 @@ module _ (l fs : List ℕ) where
           let ok' : mapOk (fieldsOf form) map ≡ true = ap (λ (gs : List Field). mapOk gs map) (sym rowed) ∙ ok in
           let i : at + 1 < length l = enter-inside ok in
           let t : taskOf (r * 2) ≡ slots (standing (fieldsOf form) map) = task-even r ∙ ap slots (plan .is (row-small row form rowed)) ∙ ap (λ (gs : List Field). slots (standing gs map)) rowed in
-          record {
-            so = record {
-              is =
-                  around refl
-                  ∙ entered l (slots (standing (fieldsOf form) map)) (taskOf rest) (stack fs deep) (begins at kind map) (at + 2) 1 (nodeComes l p at 1) (node-fits l p at 1 kind form map (look .value) form-is (next .value) (omega arith) ok')
-                  ∙ ap (λ (x : Task). led (begins at kind map) (pending l x (taskOf rest ∷ stack fs deep) (at + 2) 1)) (sym t)
-                  ∙ ap (λ (us : List Task). led (begins at kind map) (pending l (taskOf (r * 2)) us (at + 2) 1)) (sym (stack-push fs deep rest room));
-              stands = (refl, look .value, next .value, known rewritten p kind (omega arith), map-byte form map ok', refl);
-              level = refl;
-              rest = rest;
-              kept = refl;
-              inside = λ h. omega arith;
-              room = λ h. omega arith;
-              falls = λ h. omega arith;
-            };
-          }
+          took (record {
+            is =
+                around refl
+                ∙ entered l (slots (standing (fieldsOf form) map)) (taskOf rest) (stack fs deep) (begins at kind map) (at + 2) 1 (nodeComes l p at 1) (node-fits l p at 1 kind form map (look .value) form-is (next .value) (omega arith) ok')
+                ∙ ap (λ (x : Task). led (begins at kind map) (pending l x (taskOf rest ∷ stack fs deep) (at + 2) 1)) (sym t)
+                ∙ ap (λ (us : List Task). led (begins at kind map) (pending l (taskOf (r * 2)) us (at + 2) 1)) (sym (stack-push fs deep rest room));
+            stands = (refl, look .value, next .value, known rewritten p kind (omega arith), map-byte form map ok', refl);
+            level = refl;
+            rest = rest;
+            kept = refl;
+            inside = λ h. omega arith;
+            room = λ h. omega arith;
+            falls = λ h. omega arith;
+          })
 
       pub enter-node : mapOk (fieldsIn row) map ≡ true → deep < length fs → (r : ℕ) → Planned row map r → Took l fs (set fs deep rest) (comingNode l fs p at deep rest) at deep (Next (Begins at (byteAt l at) (byteAt l (at + 1))) (record { at = at + 2; deep = deep + 1; top = r * 2 }))
       enter-node ok room r plan = rw (sym (look .value), sym (next .value)) (enter-seen ok room r plan)
 
   pub full : (g : Got (List Event)) (at deep : ℕ) → length fs ≤ deep → at + 1 < length l → Took l fs fs g at deep Full
-  full g at deep h i = record { so = (h, i, refl) }
+  full g at deep h i = took (h, i, refl)
 
   -- ---- a list
 
@@ -151,7 +160,7 @@ module _ (l fs : List ℕ) where
     enter-list-missing m =
         let v : n ≡ wideAt l at = wide .value in
         let w : pieceComes l (listSort h (p % 32)) at 1 ≡ refused notATree = piece-list l (p % 32) h at 1 ∙ rw (le-ltb (wideAt l at) 65536 (omega arith)) in
-        record { so = (ap (λ (x : Got (List Event)). andThen x (λ q j. pending l (taskOf rest) (stack fs deep) q j)) w, refl) }
+        took (ap (λ (x : Got (List Event)). andThen x (λ q j. pending l (taskOf rest) (stack fs deep) q j)) w, refl)
 
     -- the frame of a list without its last digit
     list-task : (w low : ℕ) → w ≡ 64 * n + p % 32 * 2 + low → low ≡ cond h 1 0 → taskOf (w * 2 + 1) ≡ items (p % 32) h n
@@ -174,21 +183,19 @@ module _ (l fs : List ℕ) where
         let v : n ≡ wideAt l at = wide .value in
         let i : at + 1 < length l = wide .within (omega arith) in
         let w : pieceComes l (listSort h (p % 32)) at 1 ≡ led (opens n) (mapped (λ es. es ++ (closes ∷ [])) (itemsCome l (p % 32) h n (at + 2) 1)) = rw v (piece-list l (p % 32) h at 1 ∙ rw (lt-ltb (wideAt l at) 65536 (omega arith))) in
-        record {
-          so = record {
-            is =
-                entered l (items (p % 32) h n) (taskOf rest) (stack fs deep) (opens n) (at + 2) 1 (pieceComes l (listSort h (p % 32)) at 1) w
-                ∙ ap (λ (x : Task). led (opens n) (pending l x (taskOf rest ∷ stack fs deep) (at + 2) 1)) (sym (list-task x low u e))
-                ∙ ap (λ (us : List Task). led (opens n) (pending l (taskOf (x * 2 + 1)) us (at + 2) 1)) (sym (stack-push fs deep rest room));
-            stands = (v, omega arith, refl);
-            level = refl;
-            rest = rest;
-            kept = refl;
-            inside = λ z. omega arith;
-            room = λ z. omega arith;
-            falls = λ z. omega arith;
-          };
-        }
+        took (record {
+          is =
+              entered l (items (p % 32) h n) (taskOf rest) (stack fs deep) (opens n) (at + 2) 1 (pieceComes l (listSort h (p % 32)) at 1) w
+              ∙ ap (λ (x : Task). led (opens n) (pending l x (taskOf rest ∷ stack fs deep) (at + 2) 1)) (sym (list-task x low u e))
+              ∙ ap (λ (us : List Task). led (opens n) (pending l (taskOf (x * 2 + 1)) us (at + 2) 1)) (sym (stack-push fs deep rest room));
+          stands = (v, omega arith, refl);
+          level = refl;
+          rest = rest;
+          kept = refl;
+          inside = λ z. omega arith;
+          room = λ z. omega arith;
+          falls = λ z. omega arith;
+        })
 
     pub enter-list : n ≤ 65535 → deep < length fs → (w low : ℕ) → w ≡ 64 * n + p % 32 * 2 + low → low ≡ cond h 1 0 → low < 2 → Took l fs (set fs deep rest) (comingPiece l fs (listSort h (p % 32)) at deep rest) at deep (Next (Opens (w / 64)) (record { at = at + 2; deep = deep + 1; top = w * 2 + 1 }))
     enter-list m room w low u e f = let z : w / 64 ≡ n = omega arith in rw z (enter-counted m room w low u e)
@@ -204,8 +211,8 @@ module _ (l fs : List ℕ) where
 
   ended : (t : Task) (node : Bool) (at deep : ℕ) → pending l t [] at 1 ≡ got [] at 1 → ((u : Task) (us : List Task) → pending l t (u ∷ us) at 1 ≡ led (eventIn l (closingIn node)) (pending l u us at 1)) → Took l fs fs (pending l t (stack fs deep) at 1) at deep (stepClosed fs at deep node)
   unfolding stack comingAt
-  ended t node at zero a b = record { so = (a, refl) }
-  ended t node at (suc d) a b = record { so = record { is = b (taskOf (getD fs d 0)) (stack fs d); stands = closing-stands l at node; level = closing-level d node; rest = 0; kept = closing-kept fs (suc d) 0 node; inside = λ h. h; room = λ h. omega arith; falls = λ h. omega arith } }
+  ended t node at zero a b = took (a, refl)
+  ended t node at (suc d) a b = took (record { is = b (taskOf (getD fs d 0)) (stack fs d); stands = closing-stands l at node; level = closing-level d node; rest = 0; kept = closing-kept fs (suc d) 0 node; inside = λ h. h; room = λ h. omega arith; falls = λ h. omega arith })
 
   pub closed-node : (at deep row : ℕ) (r : Step) → row ≡ 0 → r ≡ stepClosed fs at deep true → Took l fs fs (comingFields l fs at deep row) at deep r
   unfolding comingFields
@@ -240,23 +247,21 @@ module _ (l fs : List ℕ) where
     item-is-hole o b look z =
         let i : at < length l = look .within (omega arith) in
         let t : eqb (w % 2) 1 ≡ true = eq-eqb (w % 2) 1 o in
-        record {
-          so = record {
-            is =
-                ap (λ (x : Task). pending l x (stack fs deep) at 1) items-split
-                ∙ ap (λ (x : Bool). pending l (items (w / 2 % 32) x (suc ((w - 64) / 64))) (stack fs deep) at 1) t
-                ∙ item-hole l (w / 2 % 32) ((w - 64) / 64) (stack fs deep) at 1 (sym (look .value) ∙ z)
-                ∙ ap (λ (x : Bool). led Event.hole (pending l (items (w / 2 % 32) x ((w - 64) / 64)) (stack fs deep) (at + 1) 1)) (sym t)
-                ∙ ap (λ (x : Task). led Event.hole (pending l x (stack fs deep) (at + 1) 1)) (sym items-left);
-            stands = (sym (look .value) ∙ z, refl);
-            level = refl;
-            rest = 0;
-            kept = refl;
-            inside = λ h. omega arith;
-            room = λ h. omega arith;
-            falls = λ h. omega arith;
-          };
-        }
+        took (record {
+          is =
+              ap (λ (x : Task). pending l x (stack fs deep) at 1) items-split
+              ∙ ap (λ (x : Bool). pending l (items (w / 2 % 32) x (suc ((w - 64) / 64))) (stack fs deep) at 1) t
+              ∙ item-hole l (w / 2 % 32) ((w - 64) / 64) (stack fs deep) at 1 (sym (look .value) ∙ z)
+              ∙ ap (λ (x : Bool). led Event.hole (pending l (items (w / 2 % 32) x ((w - 64) / 64)) (stack fs deep) (at + 1) 1)) (sym t)
+              ∙ ap (λ (x : Task). led Event.hole (pending l x (stack fs deep) (at + 1) 1)) (sym items-left);
+          stands = (sym (look .value) ∙ z, refl);
+          level = refl;
+          rest = 0;
+          kept = refl;
+          inside = λ h. omega arith;
+          room = λ h. omega arith;
+          falls = λ h. omega arith;
+        })
 
     node-next : (h : Bool) → eqb (w % 2) 1 ≡ h → itemsCome l (w / 2 % 32) h (suc ((w - 64) / 64)) at 1 ≡ andThen (nodeComes l (w / 2 % 32) at 1) (λ q j. itemsCome l (w / 2 % 32) h ((w - 64) / 64) q j) → comingItems l fs at deep w ≡ comingNode l fs (w / 2 % 32) at deep ((w - 64) * 2 + 1)
     unfolding comingItems comingNode
@@ -315,19 +320,17 @@ module _ (l fs : List ℕ) where
   leaf-took at deep rest s (Leaf.found e q) so =
       let a : at < q = so .2 in
       let b : q ≤ length l = so .3 in
-      record {
-        so = record {
-          is = ap (λ (x : Got (List Event)). andThen x (λ q j. pending l (taskOf rest) (stack fs deep) q j)) (so .0);
-          stands = so .1;
-          level = sym (so .4 deep);
-          rest = 0;
-          kept = sym (so .5 deep 0 fs);
-          inside = λ h. b;
-          room = λ h. omega arith;
-          falls = λ h. omega arith;
-        };
-      }
-  leaf-took at deep rest s Leaf.missing so = record { so = (ap (λ (x : Got (List Event)). andThen x (λ q j. pending l (taskOf rest) (stack fs deep) q j)) so, refl) }
+      took (record {
+        is = ap (λ (x : Got (List Event)). andThen x (λ q j. pending l (taskOf rest) (stack fs deep) q j)) (so .0);
+        stands = so .1;
+        level = sym (so .4 deep);
+        rest = 0;
+        kept = sym (so .5 deep 0 fs);
+        inside = λ h. b;
+        room = λ h. omega arith;
+        falls = λ h. omega arith;
+      })
+  leaf-took at deep rest s Leaf.missing so = took (ap (λ (x : Got (List Event)). andThen x (λ q j. pending l (taskOf rest) (stack fs deep) q j)) so, refl)
 
   -- ---- a node or a list
 

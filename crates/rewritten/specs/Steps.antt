@@ -10,6 +10,7 @@ use Rattle.tree.specs.Rows.{fieldsIn}
 use Rattle.tree.specs.Read.{Got, mapped, byteAt, wideAt}
 use Rattle.tree.specs.Read.Got.{got, refused}
 use Rattle.tree.specs.Read.Refusal.{notATree}
+use Rattle.tree.specs.Answer.{gotNumber}
 use Rattle.rewritten.specs.Events.{Event}
 use Rattle.rewritten.specs.Events.Event.{begins, ends, opens, closes}
 use Rattle.rewritten.specs.Pending.{standing, sorts, andThen, nodeComes, pieceComes, pending, itemsIn, taskOf, stack}
@@ -110,6 +111,15 @@ pub record Onward (tree frames later : List ℕ) (g : Got (List Event)) (at deep
   pub room : 2 * deep ≤ at → 2 * c .deep ≤ c .at
   pub falls : at ≤ length tree → (length tree - c .at) + c .deep < (length tree - at) + deep
 
+-- document 01's number of a step: 3 where the bytes are no tree, else 0. It has none for frames that do not suffice: nobody who
+-- lends 16,384 of them is answered so
+abbrev pub stepNumber : Step → ℕ
+stepNumber (Next e c) = 0
+stepNumber Done = 0
+stepNumber Refused = 3
+stepNumber Full = 0
+
+-- its values: the event and where the tour stands then; nothing is left; what is pending is refused; no frame is left
 abbrev pub Stepped : List ℕ → List ℕ → List ℕ → Got (List Event) → ℕ → ℕ → Step → Type 0
 Stepped tree frames later g at deep (Next e c) = Onward tree frames later g at deep e c
 Stepped tree frames later g at deep Done = (g ≡ got [] at 1) × (later ≡ frames)
@@ -117,6 +127,7 @@ Stepped tree frames later g at deep Refused = (g ≡ refused notATree) × (later
 Stepped tree frames later g at deep Full = (length frames ≤ deep) × (at + 1 < length tree) × (later ≡ frames)
 
 pub record Took (tree frames later : List ℕ) (g : Got (List Event)) (at deep : ℕ) (r : Step) : Type 0 where
+  pub number : (stepNumber r ≡ 0 → ⊥) → stepNumber r ≡ gotNumber g
   pub so : Stepped tree frames later g at deep r
 
 -- ---- the end of a task

@@ -16,7 +16,7 @@ abbrev μ-loop : tie.MeasureT-loop
     (length tree - cursor .at) + cursor .deep
 
 returns : tie.Need-returns Inv-loop μ-loop
-returns c = λ n. law.tour-long (c .before .before .before .before .before .before .before .before .args .tree .now) (c .if1 .taken)
+returns c = λ n. law.toured-none (law.tour-long (c .before .before .before .before .before .before .before .before .args .tree .now) (c .if1 .taken))
 
 returns-2 : tie.Need-returns-2 Inv-loop μ-loop
 returns-2 c = λ n. absurd (omega (arith, n .enough, c .if2 .taken))
@@ -67,7 +67,7 @@ same-length-12 : tie.Need-same-length-12 Inv-loop μ-loop
 same-length-12 c = c .before .before .before .before .loop .inv .same₆
 
 returns-5 : tie.Need-returns-5 Inv-loop μ-loop
-returns-5 c = λ n. law.tour-part _ _ _ _ _ _ _ _ _ _ _ _ _ _ _ _ (c .before .before .before .before .loop .inv) (c .before .before .before .before .before .before .before .before .before .before .before .before .before .before .before .before .before .before .before .before .if1 .left) (sym (c .before .before .before .is-closed .ensures) ∙ c .before .before .if4 .taken) (c .before .if5 .taken) (c .if6 .left)
+returns-5 c = λ n. law.toured-none (law.tour-part _ _ _ _ _ _ _ _ _ _ _ _ _ _ _ _ (c .before .before .before .before .loop .inv) (c .before .before .before .before .before .before .before .before .before .before .before .before .before .before .before .before .before .before .before .before .if1 .left) (sym (c .before .before .before .is-closed .ensures) ∙ c .before .before .if4 .taken) (c .before .if5 .taken) (c .if6 .left))
 
 loop-less : tie.Need-loop-less Inv-loop μ-loop
 loop-less c = omega (arith, c .before .before .if5 .left)
@@ -94,7 +94,7 @@ same-length-18 : tie.Need-same-length-18 Inv-loop μ-loop
 same-length-18 c = c .before .before .before .before .loop .inv .same₆
 
 returns-6 : tie.Need-returns-6 Inv-loop μ-loop
-returns-6 c = λ n. law.tour-refused _ _ _ _ _ _ _ _ _ _ _ _ _ _ _ _ (c .before .before .before .before .loop .inv) (c .before .before .before .before .before .before .before .before .before .before .before .before .before .before .before .before .before .before .before .before .if1 .left) (sym (c .before .before .before .is-closed .ensures) ∙ c .before .before .if4 .left) _ (c .before .look .ensures) (c .if7 .taken)
+returns-6 c = λ n. law.toured-none (law.tour-refused _ _ _ _ _ _ _ _ _ _ _ _ _ _ _ _ (c .before .before .before .before .loop .inv) (c .before .before .before .before .before .before .before .before .before .before .before .before .before .before .before .before .before .before .before .before .if1 .left) (sym (c .before .before .before .is-closed .ensures) ∙ c .before .before .if4 .left) _ (c .before .look .ensures) (c .if7 .taken))
 
 add-requires : tie.Need-add-requires Inv-loop μ-loop
 add-requires c κs = (law.touring-deep _ _ _ _ _ _ _ _ _ _ _ _ _ _ _ _ (c .before .before .before .before .before .before .before .before .before .before .before .before .before .before .before .loop .inv) (c .before .before .before .before .before .before .before .before .before .before .before .before .before .before .before .before .before .before .before .before .before .before .before .before .before .before .before .before .before .before .before .if1 .left), c .before .before .before .before .before .before .before .before .before .before .before .if7 .left)
@@ -124,7 +124,7 @@ same-length-24 : tie.Need-same-length-24 Inv-loop μ-loop
 same-length-24 c = c .before .before .before .before .before .before .before .loop .inv .same₆
 
 returns-7 : tie.Need-returns-7 Inv-loop μ-loop
-returns-7 c = λ n. law.tour-twice _ _ _ _ _ _ _ _ _ _ _ _ _ _ _ _ (c .before .before .before .before .before .before .before .loop .inv) (c .before .before .before .before .before .before .before .before .before .before .before .before .before .before .before .before .before .before .before .before .before .before .before .if1 .left) (sym (c .before .before .before .before .before .before .is-closed .ensures) ∙ c .before .before .before .before .before .if4 .left) _ (c .before .before .before .before .look .ensures) (c .before .before .before .if7 .left) (c .before .before .before .before .before .before .before .before .before .before .before .before .before .before .before .before .before .before .before .before .before .before .if2 .left) _ (c .before .is-new-ahead .ensures) (c .if8 .left)
+returns-7 c = λ n. law.toured-none (law.tour-twice _ _ _ _ _ _ _ _ _ _ _ _ _ _ _ _ (c .before .before .before .before .before .before .before .loop .inv) (c .before .before .before .before .before .before .before .before .before .before .before .before .before .before .before .before .before .before .before .before .before .before .before .if1 .left) (sym (c .before .before .before .before .before .before .is-closed .ensures) ∙ c .before .before .before .before .before .if4 .left) _ (c .before .before .before .before .look .ensures) (c .before .before .before .if7 .left) (c .before .before .before .before .before .before .before .before .before .before .before .before .before .before .before .before .before .before .before .before .before .before .if2 .left) _ (c .before .is-new-ahead .ensures) (c .if8 .left))
 
 pub collect-spec : {M : Type 1} → statement M
 collect-spec =

@@ -14,7 +14,7 @@ abbrev μ-loop : tie.MeasureT-loop
 μ-loop list frames₀ seen₀ at n cursor₀ frames seen cursor = (length list - cursor .at) + cursor .deep
 
 returns : tie.Need-returns Inv-loop μ-loop
-returns c = (tt, λ met k a b. law.declarators-none _ _ _ met (c .if1 .taken) (c .before .wide-at .ensures .value))
+returns c = (tt, λ met k a b. law.answers-lost (law.declarators-none _ _ _ met (c .if1 .taken) (c .before .wide-at .ensures .value)))
 
 add-t10 : tie.Need-add-t10 Inv-loop μ-loop
 add-t10 c = omega (arith, c .before .wide-at .ensures .within (omega (arith, c .if1 .left)))
@@ -41,7 +41,7 @@ same-length-2 : tie.Need-same-length-2 Inv-loop μ-loop
 same-length-2 c = c .before .before .before .before .before .before .before .before .before .before .loop .inv .same
 
 returns-2 : tie.Need-returns-2 Inv-loop μ-loop
-returns-2 c = (tt, λ met k a b. law.declaring-twice _ _ _ _ _ _ _ (c .before .before .before .before .before .before .before .before .before .before .loop .inv) _ _ (c .before .before .before .before .before .before .before .before .next .ensures .1) (c .before .before .before .before .e .given .0 .0) _ (c .before .before .before .before .e .given .1) _ (c .before .is-new .ensures) (c .if2 .left) met k)
+returns-2 c = (tt, λ met k a b. law.answers-lost (law.declaring-twice _ _ _ _ _ _ _ (c .before .before .before .before .before .before .before .before .before .before .loop .inv) _ _ (c .before .before .before .before .before .before .before .before .next .ensures .1) (c .before .before .before .before .e .given .0 .0) _ (c .before .before .before .before .e .given .1) _ (c .before .is-new .ensures) (c .if2 .left) met k))
 
 same-length-3 : tie.Need-same-length-3 Inv-loop μ-loop
 same-length-3 c = c .before .before .before .before .next .ensures .0 ∙ c .before .before .before .before .before .before .loop .inv .tour .size
@@ -50,7 +50,7 @@ same-length-4 : tie.Need-same-length-4 Inv-loop μ-loop
 same-length-4 c = c .before .before .before .before .before .before .loop .inv .same
 
 returns-3 : tie.Need-returns-3 Inv-loop μ-loop
-returns-3 c = ((c .before .before .before .before .before .before .loop .inv .low, c .before .before .before .before .before .before .loop .inv .tour .inside), λ met k a b. law.declaring-ends _ _ _ _ _ _ _ (c .before .before .before .before .before .before .loop .inv) _ _ (c .before .before .before .before .next .ensures .1) (c .enum-told .given .1) met k)
+returns-3 c = ((c .before .before .before .before .before .before .loop .inv .low, c .before .before .before .before .before .before .loop .inv .tour .inside), λ met k a b. law.answers-at (law.declaring-ends _ _ _ _ _ _ _ (c .before .before .before .before .before .before .loop .inv) _ _ (c .before .before .before .before .next .ensures .1) (c .enum-told .given .1) met k))
 
 same-length-5 : tie.Need-same-length-5 Inv-loop μ-loop
 same-length-5 c = c .before .before .before .before .next .ensures .0 ∙ c .before .before .before .before .before .before .loop .inv .tour .size
@@ -59,7 +59,7 @@ same-length-6 : tie.Need-same-length-6 Inv-loop μ-loop
 same-length-6 c = c .before .before .before .before .before .before .loop .inv .same
 
 returns-4 : tie.Need-returns-4 Inv-loop μ-loop
-returns-4 c = (tt, λ met k a b. law.declaring-refused _ _ _ _ _ _ _ (c .before .before .before .before .before .before .loop .inv) _ _ (c .before .before .before .before .next .ensures .1) (c .enum-told2 .given .1) met k)
+returns-4 c = (tt, λ met k a b. law.answers-lost (law.declaring-refused _ _ _ _ _ _ _ (c .before .before .before .before .before .before .loop .inv) _ _ (c .before .before .before .before .next .ensures .1) (c .enum-told2 .given .1) met k))
 
 same-length-7 : tie.Need-same-length-7 Inv-loop μ-loop
 same-length-7 c = c .before .before .before .before .next .ensures .0 ∙ c .before .before .before .before .before .before .loop .inv .tour .size

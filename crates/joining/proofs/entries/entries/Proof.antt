@@ -12,7 +12,7 @@ abbrev μ-loop : tie.MeasureT-loop
 μ-loop list frames₀ seen₀ ends₀ n left₀ at₀ frames seen ends left at = left
 
 returns : tie.Need-returns Inv-loop μ-loop
-returns c = (tt, λ met k a b d. (law.listing-none _ _ met (c .before .wide-at .ensures .value) (c .if1 .taken), tt))
+returns c = (tt, λ met k a b d. (law.answers-lost (law.listing-none _ _ met (c .before .wide-at .ensures .value) (c .if1 .taken)), tt))
 
 loop-holds : tie.Need-loop-holds Inv-loop μ-loop
 loop-holds c = law.listing-start _ _ _ _ _ (c .before .wide-at .ensures .value) (c .if1 .left) (c .before .wide-at .ensures .within (omega (arith, c .if1 .left)))
@@ -27,7 +27,7 @@ same-length-3 : tie.Need-same-length-3 Inv-loop μ-loop
 same-length-3 c = c .before .before .before .loop .inv .same₃
 
 returns-2 : tie.Need-returns-2 Inv-loop μ-loop
-returns-2 c = (tt, λ met k a b d. (law.listing-short _ _ _ _ _ _ _ _ _ (c .before .before .before .loop .inv) (c .before .before .loop-test .taken) _ (c .before .wide-at2 .ensures .value) (c .if2 .taken) met k a b d, tt))
+returns-2 c = (tt, λ met k a b d. (law.answers-lost (law.listing-short _ _ _ _ _ _ _ _ _ (c .before .before .before .loop .inv) (c .before .before .loop-test .taken) _ (c .before .wide-at2 .ensures .value) (c .if2 .taken) met k a b d), tt))
 
 add-declarators : tie.Need-add-declarators Inv-loop μ-loop
 add-declarators c = omega (arith, c .before .before .before .before .before .loop .inv .high)
@@ -51,7 +51,7 @@ same-length-6 : tie.Need-same-length-6 Inv-loop μ-loop
 same-length-6 c = c .before .before .before .before .before .before .before .before .before .before .before .before .loop .inv .same₃
 
 returns-3 : tie.Need-returns-3 Inv-loop μ-loop
-returns-3 c = (tt, λ met k a b d. (law.listing-lost _ _ _ _ _ _ _ _ _ (c .before .before .before .before .before .before .before .before .before .before .before .before .loop .inv) (c .before .before .before .before .before .before .before .before .before .before .before .loop-test .taken) _ (c .before .before .before .before .before .before .before .before .before .before .wide-at2 .ensures .value) (c .before .before .before .before .before .before .before .before .before .if2 .left) (λ m y x z. law.missing-ends _ _ _ (c .enum-told .given .1) (c .before .before .before .before .before .before .declarators .ensures .1 m y x z)) met k a b d, tt))
+returns-3 c = (tt, λ met k a b d. (law.answers-lost (law.listing-lost _ _ _ _ _ _ _ _ _ (c .before .before .before .before .before .before .before .before .before .before .before .before .loop .inv) (c .before .before .before .before .before .before .before .before .before .before .before .loop-test .taken) _ (c .before .before .before .before .before .before .before .before .before .before .wide-at2 .ensures .value) (c .before .before .before .before .before .before .before .before .before .if2 .left) (λ m y x z. law.missing-ends _ _ _ (c .enum-told .given .1) (c .before .before .before .before .before .before .declarators .ensures .1 m y x z)) met k a b d), tt))
 
 same-length-7 : tie.Need-same-length-7 Inv-loop μ-loop
 same-length-7 c = c .before .loop .inv .same₁
@@ -63,7 +63,7 @@ same-length-9 : tie.Need-same-length-9 Inv-loop μ-loop
 same-length-9 c = c .before .loop .inv .same₃
 
 returns-4 : tie.Need-returns-4 Inv-loop μ-loop
-returns-4 c = ((c .before .loop .inv .low, c .before .loop .inv .high), λ met k a b d. law.listing-ends _ _ _ _ _ _ _ _ _ (c .before .loop .inv) (c .loop-test .left) met k a b d)
+returns-4 c = ((c .before .loop .inv .low, c .before .loop .inv .high), λ met k a b d. let e = law.listing-ends _ _ _ _ _ _ _ _ _ (c .before .loop .inv) (c .loop-test .left) met k a b d in (law.answers-at (e .0), e .1))
 
 pub entries-spec : {M : Type 1} → statement M
 entries-spec =
