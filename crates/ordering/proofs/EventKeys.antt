@@ -12,10 +12,11 @@ use Rattle.rewritten.specs.Events.Event.{begins, ends, opens, closes}
 use Rattle.rewritten.specs.Steps.{eventIn}
 use Rattle.rewritten.specs.declared.step.Event as told
 use Rattle.ordering.specs.declared.verdict.Verdict.{Verdict}
-use Rattle.ordering.specs.Verdicts.{orElse, byValue, byText}
+use Rattle.ordering.specs.Verdicts.{orElse, byValue, byText, numberOf}
 use Rattle.ordering.specs.Order.{Key, keyOf, byKey, byEvent, opensTemporary}
 use Rattle.ordering.specs.Sides.{Within, KeyIs, numberIn}
 use Rattle.ordering.specs.declared.key.Key as told-key
+use Rattle.ordering.proofs.LexicalOrder.{verdict-is}
 
 pub key-as : (tree : List ℕ) (e f : told.Event) (k : told-key.Key) → e ≡ f → KeyIs tree f k → KeyIs tree e k
 key-as tree e f k w h = subst (λ (x : told.Event). KeyIs tree x k) (sym w) h
@@ -23,19 +24,25 @@ key-as tree e f k w h = subst (λ (x : told.Event). KeyIs tree x k) (sym w) h
 -- the verdicts on the parts of two keys, the last first
 module _ (l m : List ℕ) (e f : told.Event) (k j : told-key.Key) (left : KeyIs l e k) (right : KeyIs m f j) where
   pub event-by : (texts second rest first most rank r : Verdict)
-      → (k .at + k .size ≤ length l → j .at + j .size ≤ length m → texts ≡ byText (take (k .size) (drop (k .at) l)) (take (j .size) (drop (j .at) m)))
-      → second ≡ byValue (k .second) (j .second)
-      → rest ≡ orElse second texts
-      → first ≡ byValue (k .first) (j .first)
-      → most ≡ orElse first rest
-      → rank ≡ byValue (k .rank) (j .rank)
-      → r ≡ orElse rank most
-      → Within l e → Within m f → r ≡ byEvent (eventIn l e) (eventIn m f)
+      → (k .at + k .size ≤ length l → j .at + j .size ≤ length m → numberOf texts ≡ numberOf (byText (take (k .size) (drop (k .at) l)) (take (j .size) (drop (j .at) m))))
+      → numberOf second ≡ numberOf (byValue (k .second) (j .second))
+      → numberOf rest ≡ numberOf (orElse second texts)
+      → numberOf first ≡ numberOf (byValue (k .first) (j .first))
+      → numberOf most ≡ numberOf (orElse first rest)
+      → numberOf rank ≡ numberOf (byValue (k .rank) (j .rank))
+      → numberOf r ≡ numberOf (orElse rank most)
+      → Within l e → Within m f → numberOf r ≡ numberOf (byEvent (eventIn l e) (eventIn m f))
   unfolding byEvent byKey
   event-by texts second rest first most rank r t s rs fi mo ra re a b =
+      let of-texts = verdict-is texts (byText (take (k .size) (drop (k .at) l)) (take (j .size) (drop (j .at) m))) (t (left .within a) (right .within b)) in
+      let of-second = verdict-is second (byValue (k .second) (j .second)) s in
+      let of-rest = verdict-is rest (orElse second texts) rs in
+      let of-first = verdict-is first (byValue (k .first) (j .first)) fi in
+      let of-most = verdict-is most (orElse first rest) mo in
+      let of-rank = verdict-is rank (byValue (k .rank) (j .rank)) ra in
       re
-      ∙ ap₂ orElse ra (mo ∙ ap₂ orElse fi (rs ∙ ap₂ orElse s (t (left .within a) (right .within b))))
-      ∙ ap₂ byKey (left .is) (right .is)
+      ∙ ap numberOf
+      (ap₂ orElse of-rank (of-most ∙ ap₂ orElse of-first (of-rest ∙ ap₂ orElse of-second of-texts)) ∙ ap₂ byKey (left .is) (right .is))
 
 -- ---- what a key says of its event
 

@@ -4,8 +4,9 @@ use mathlib.Core.Path.{_≡_, refl, sym, ap, ap₂, _∙_}
 use mathlib.Core.List.{List, [], _∷_}
 use Prim.Native.Nat.{ℕ, zero, suc, _<_, _≤_}
 use native.Mathlib.Omega.{arith}
+use lib.IntN.{ℤ, pos, negsuc}
 use Rattle.ordering.specs.declared.verdict.Verdict.{Verdict}
-use Rattle.ordering.specs.Verdicts.{orElse, turn, byValue, byText, lexical}
+use Rattle.ordering.specs.Verdicts.{orElse, turn, byValue, byText, lexical, numberOf}
 use Rattle.ordering.specs.declared.verdict.Verdict.the-variants.{Less, Equal, Greater}
 
 -- ---- verdicts
@@ -56,6 +57,21 @@ by-less : {A : Type 0} (v w : Verdict) → orElse v w ≡ Less → (v ≡ Less �
 by-less Less w e f g = f refl
 by-less Equal w e f g = g refl e
 by-less Greater w e f g = absurd (greater-not-less e)
+
+-- no two have the same number
+verdictBy : ℤ → Verdict
+verdictBy (pos zero) = Equal
+verdictBy (pos (suc n)) = Greater
+verdictBy (negsuc n) = Less
+
+by-number : (v : Verdict) → verdictBy (numberOf v) ≡ v
+unfolding verdictBy
+by-number Less = refl
+by-number Equal = refl
+by-number Greater = refl
+
+pub verdict-is : (v w : Verdict) → numberOf v ≡ numberOf w → v ≡ w
+verdict-is v w e = sym (by-number v) ∙ ap verdictBy e ∙ by-number w
 
 -- ---- orders
 

@@ -4,7 +4,10 @@ use mathlib.Core.Path.{_≡_, refl, sym, ap, ap₂, subst, _∙_}
 use mathlib.Core.Bool.{Bool, true, false, cond, not}
 use mathlib.Core.List.{List, []}
 use Prim.Native.Nat.{ℕ, _+_, _-_, _<_, _≤_}
+use lib.IntN.{pos, negsuc}
 use lib.ListN.{length, getD}
+use mathlib.Core.Option.{some}
+use native.Mathlib.Omega.{arith}
 use Rattle.tree.specs.Tree.{Node}
 use Rattle.tree.specs.Grammar.Stage.{rewritten}
 use Rattle.tree.specs.Read.{Got, readTree}
@@ -16,10 +19,10 @@ use Rattle.rewritten.specs.Steps.{start, eventIn}
 use Rattle.rewritten.specs.declared.step.Cursor.{Cursor}
 use Rattle.rewritten.specs.declared.step.Event as told
 use Rattle.rewritten.proofs.RewrittenExact.{checked-got}
-use Rattle.ordering.specs.Verdicts.{orElse, isEqual, lexical, byText}
+use Rattle.ordering.specs.Verdicts.{orElse, isEqual, lexical, byText, numberOf}
 use Rattle.ordering.specs.Order.{byEvent, firstDifference, placedAll}
 use Rattle.ordering.specs.Sides.{Within, Coming, Went, Moved}
-use Rattle.ordering.specs.Outcome.{pairOf, isRefused, answerOf}
+use Rattle.ordering.specs.Outcome.{endNumber, Paired, isRefused, answerOf, answerNumber, orderNumber, Answers}
 use Rattle.ordering.specs.declared.verdict.Verdict.{Verdict}
 use Rattle.ordering.specs.declared.verdict.Verdict.the-variants.{Less, Equal, Greater}
 use Rattle.ordering.specs.declared.side.Side.{Side}
@@ -30,7 +33,7 @@ use Rattle.ordering.specs.declared.compare.Pair.the-variants.{Both, Over
 use Rattle.ordering.specs.declared.compare.Answer.{Answer}
 use Rattle.ordering.specs.declared.compare.Answer.the-variants.{Said, Refused}
 use Rattle.ordering.proofs.TreeOrder.{order-events, equal-self}
-use Rattle.ordering.proofs.LexicalOrder.{text-same}
+use Rattle.ordering.proofs.LexicalOrder.{verdict-is, text-same}
 use Rattle.ordering.proofs.Sides.{fresh, side-start}
 
 -- ---- what was read
@@ -82,10 +85,13 @@ read-as l e = go (readRewritten l) refl e
     go (got n q k) w t = record { tree = n; end = q; next = k; is = w }
     go (refused r) w t = absurd (never t)
 
+pub answers-by : (g h : Got Node) (r : Answer) → r ≡ answerOf g h → Answers g h r
+answers-by g h r e = record { number = ap answerNumber e; order = ap orderNumber e }
+
 -- the same bytes are the same tree
-module _ (l k : List ℕ) (v : Verdict) (is : v ≡ byText l k) (e : isEqual v ≡ true) (a : Bool) (read : a ≡ isRewritten l) where
+module _ (l k : List ℕ) (v : Verdict) (is : numberOf v ≡ numberOf (byText l k)) (e : isEqual v ≡ true) (a : Bool) (read : a ≡ isRewritten l) where
   same-bytes : l ≡ k
-  same-bytes = text-same l k (sym is ∙ equal-verdict v e)
+  same-bytes = text-same l k (sym (verdict-is v (byText l k) is) ∙ equal-verdict v e)
     where
       equal-verdict : (v : Verdict) → isEqual v ≡ true → v ≡ Equal
       equal-verdict Less t = absurd (never t)
@@ -128,34 +134,10 @@ going-start l k fs gs table places x f g t z u v c d e h =
       will = ap Said (sym (order-events (m .tree) (n .tree))) ∙ sym (ap₂ answerOf (m .is) (n .is));
     }
 
--- what a pair was made of
-firstOf : Pair → Move
-firstOf (Both e s f t) = Met e s
-firstOf (Over v) = Ended
-
-secondOf : Pair → Move
-secondOf (Both e s f t) = Met f t
-secondOf (Over v) = Ended
-
-isBoth : Pair → Bool
-isBoth (Both e s f t) = true
-isBoth (Over v) = false
-
-verdictIn : Pair → Verdict
-verdictIn (Both e s f t) = Equal
-verdictIn (Over v) = v
-
-both-of : (m n : Move) (e : told.Event) (s : Side) (f : told.Event) (t : Side) → pairOf m n ≡ Both e s f t → (m ≡ Met e s) × (n ≡ Met f t)
-unfolding firstOf secondOf isBoth
-both-of (Met e' s') (Met f' t') e s f t w = (ap firstOf w, ap secondOf w)
-both-of (Met e' s') Ended e s f t w = absurd (never (ap isBoth w))
-both-of Ended (Met f' t') e s f t w = absurd (never (ap isBoth w))
-both-of Ended Ended e s f t w = absurd (never (ap isBoth w))
-
-module _ (l k fs gs table places : List ℕ) (a b : Side) (answer : Answer) (g : Going l k fs gs table places a b answer) (later after noted marked : List ℕ) (m n : Move) (moved : Moved l later noted a (g .first) m) (other : Moved k after marked b (g .second) n) (p : Pair) (is : p ≡ pairOf m n) where
+module _ (l k fs gs table places : List ℕ) (a b : Side) (answer : Answer) (g : Going l k fs gs table places a b answer) (later after noted marked : List ℕ) (m n : Move) (moved : Moved l later noted a (g .first) m) (other : Moved k after marked b (g .second) n) (p : Pair) (is : Paired m n p) where
   module _ (e : told.Event) (s : Side) (f : told.Event) (t : Side) (both : p ≡ Both e s f t) where
     parts : (m ≡ Met e s) × (n ≡ Met f t)
-    parts = both-of m n e s f t (sym is ∙ both)
+    parts = subst (λ (x : Pair). Paired m n x) both is .so
 
     went : Went l later noted a (g .first) e s
     went = subst (λ (x : Move). Moved l later noted a (g .first) x) (parts .0) moved .so
@@ -166,11 +148,11 @@ module _ (l k fs gs table places : List ℕ) (a b : Side) (answer : Answer) (g :
     pub pair-falls : (length l - s .cursor .at) + s .cursor .deep < (length l - a .cursor .at) + a .cursor .deep
     pair-falls = went .falls
 
-    module _ (v : Verdict) (by : Within l e → Within k f → v ≡ byEvent (eventIn l e) (eventIn k f)) where
+    module _ (v : Verdict) (by : Within l e → Within k f → numberOf v ≡ numberOf (byEvent (eventIn l e) (eventIn k f))) where
       decides : Said (orElse v (firstDifference (went .rest) (went-too .rest))) ≡ answer
       unfolding firstDifference lexical
       decides =
-          ap (λ (x : Verdict). Said (orElse x (firstDifference (went .rest) (went-too .rest)))) (by (went .within) (went-too .within))
+          ap (λ (x : Verdict). Said (orElse x (firstDifference (went .rest) (went-too .rest)))) (verdict-is v (byEvent (eventIn l e) (eventIn k f)) (by (went .within) (went-too .within)))
           ∙ ap₂ (λ (xs ys : List Event). Said (firstDifference xs ys)) (sym (went .is)) (sym (went-too .is))
           ∙ g .will
 
@@ -198,11 +180,17 @@ module _ (l k fs gs table places : List ℕ) (a b : Side) (answer : Answer) (g :
 
   -- one of them has ended
   pub pair-over : (v : Verdict) → p ≡ Over v → Said v ≡ answer
-  unfolding firstDifference lexical verdictIn isBoth
-  pair-over v w = go m n moved other (sym is ∙ w)
+  unfolding firstDifference lexical
+  pair-over v w = go m n moved other (subst (λ (x : Pair). Paired m n x) w is .so)
     where
-      go : (x y : Move) → Moved l later noted a (g .first) x → Moved k after marked b (g .second) y → pairOf x y ≡ Over v → Said v ≡ answer
-      go (Met e s) (Met f t) i j q = absurd (never (sym (ap isBoth q)))
-      go (Met e s) Ended i j q = ap Said (sym (ap verdictIn q)) ∙ ap₂ (λ (xs ys : List Event). Said (firstDifference xs ys)) (sym (i .so .is)) (sym (j .so)) ∙ g .will
-      go Ended (Met f t) i j q = ap Said (sym (ap verdictIn q)) ∙ ap₂ (λ (xs ys : List Event). Said (firstDifference xs ys)) (sym (i .so)) (sym (j .so .is)) ∙ g .will
-      go Ended Ended i j q = ap Said (sym (ap verdictIn q)) ∙ ap₂ (λ (xs ys : List Event). Said (firstDifference xs ys)) (sym (i .so)) (sym (j .so)) ∙ g .will
+      go : (x y : Move) → Moved l later noted a (g .first) x → Moved k after marked b (g .second) y → some (numberOf v) ≡ endNumber x y → Said v ≡ answer
+      go (Met e s) (Met f t) i j q = let z : _≡_ {A = ℕ} 0 1 = cc in absurd (omega arith)
+      go (Met e s) Ended i j q =
+          let z : numberOf v ≡ pos 1 = cc in
+          ap Said (verdict-is v Greater z) ∙ ap₂ (λ (xs ys : List Event). Said (firstDifference xs ys)) (sym (i .so .is)) (sym (j .so)) ∙ g .will
+      go Ended (Met f t) i j q =
+          let z : numberOf v ≡ negsuc 0 = cc in
+          ap Said (verdict-is v Less z) ∙ ap₂ (λ (xs ys : List Event). Said (firstDifference xs ys)) (sym (i .so)) (sym (j .so .is)) ∙ g .will
+      go Ended Ended i j q =
+          let z : numberOf v ≡ pos 0 = cc in
+          ap Said (verdict-is v Equal z) ∙ ap₂ (λ (xs ys : List Event). Said (firstDifference xs ys)) (sym (i .so)) (sym (j .so)) ∙ g .will

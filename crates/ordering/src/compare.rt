@@ -14,7 +14,7 @@ ghost use mathlib.Core.Path.{_≡_};
 ghost use Prim.Native.Nat.{_≤_};
 ghost use lib.ListN.{length};
 ghost use Rattle.rewritten.specs.Rewritten.{readRewritten};
-ghost use Rattle.ordering.specs.Outcome.{pairOf, isRefused, answerOf};
+ghost use Rattle.ordering.specs.Outcome.{Paired, isRefused, Answers};
 
 // What two sides give: an event of each; or one of them has ended, which decides.
 enum Pair {
@@ -29,7 +29,7 @@ pub enum Answer {
 }
 
 fn paired(m: Move, n: Move) -> Pair
-    ensures { λ r. ⌜ r ≡ pairOf m n ⌝ }
+    ensures { λ r. ⌜ Paired m n r ⌝ }
 {
     match m {
         Move::Met(e, s) => match n {
@@ -64,7 +64,7 @@ fn compare(
     table: &mut [u16],
     places: &mut [u16],
 ) -> Answer
-    ensures { λ r. ⌜ (16384 ≤ length (now (frames .entry)) → 16384 ≤ length (now (others .entry)) → 65536 ≤ length (now (table .entry)) → 65536 ≤ length (now (places .entry)) → r ≡ answerOf (readRewritten (now (first .entry))) (readRewritten (now (second .entry)))) ⌝ }
+    ensures { λ r. ⌜ (16384 ≤ length (now (frames .entry)) → 16384 ≤ length (now (others .entry)) → 65536 ≤ length (now (table .entry)) → 65536 ≤ length (now (places .entry)) → Answers (readRewritten (now (first .entry))) (readRewritten (now (second .entry))) r) ⌝ }
 {
     if frames.len() < 16384 {
         return Answer::Refused;
@@ -115,7 +115,7 @@ fn compare(
 
 // The order of two trees by their tours.
 fn by_tours(first: &[u8], second: &[u8]) -> Answer
-    ensures { λ r. ⌜ r ≡ answerOf (readRewritten (now (first .entry))) (readRewritten (now (second .entry))) ⌝ }
+    ensures { λ r. ⌜ Answers (readRewritten (now (first .entry))) (readRewritten (now (second .entry))) r ⌝ }
 {
     let mut frames: [usize; 16384] = [0; 16384];
     let mut others: [usize; 16384] = [0; 16384];
@@ -133,7 +133,7 @@ fn by_tours(first: &[u8], second: &[u8]) -> Answer
 
 // The order of two trees, of the first against the second. The same bytes are read once, and no tour is needed.
 pub fn order(first: &[u8], second: &[u8]) -> Answer
-    ensures { λ r. ⌜ r ≡ answerOf (readRewritten (now (first .entry))) (readRewritten (now (second .entry))) ⌝ }
+    ensures { λ r. ⌜ Answers (readRewritten (now (first .entry))) (readRewritten (now (second .entry))) r ⌝ }
 {
     if verdict::is_equal(text::by_bytes(first, second)) {
         if read::is_rewritten(first) {

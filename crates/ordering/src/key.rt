@@ -7,6 +7,7 @@ ghost use mathlib.Core.Path.{_≡_};
 ghost use mathlib.Core.List.{List};
 ghost use Prim.Native.Nat.{ℕ};
 ghost use Rattle.rewritten.specs.Steps.{eventIn};
+ghost use Rattle.ordering.specs.Verdicts.{numberOf};
 ghost use Rattle.ordering.specs.Order.{byEvent, opensTemporary};
 ghost use Rattle.ordering.specs.Sides.{KeyIs, Within, numberIn};
 
@@ -91,7 +92,7 @@ fn key_of(e: Event) -> Key
 
 // An event of the first tree against one of the second.
 pub(crate) fn by_event(first: &[u8], e: Event, second: &[u8], f: Event) -> Verdict
-    ensures { λ r. ⌜ (Within (now (first .entry)) e → Within (now (second .entry)) f → r ≡ byEvent (eventIn (now (first .entry)) e) (eventIn (now (second .entry)) f)) ⌝ }
+    ensures { λ r. ⌜ (Within (now (first .entry)) e → Within (now (second .entry)) f → numberOf r ≡ numberOf (byEvent (eventIn (now (first .entry)) e) (eventIn (now (second .entry)) f))) ⌝ }
 {
     let k = key_of(e);
     let l = key_of(f);

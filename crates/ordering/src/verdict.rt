@@ -1,6 +1,6 @@
 // Less, equal or greater.
 ghost use mathlib.Core.Path.{_≡_};
-ghost use Rattle.ordering.specs.Verdicts.{byValue, isEqual, orElse};
+ghost use Rattle.ordering.specs.Verdicts.{byValue, isEqual, numberOf, orElse};
 
 pub enum Verdict {
     Less,
@@ -9,7 +9,7 @@ pub enum Verdict {
 }
 
 pub(crate) fn by_value(a: usize, b: usize) -> Verdict
-    ensures { λ r. ⌜ r ≡ byValue a b ⌝ }
+    ensures { λ r. ⌜ numberOf r ≡ numberOf (byValue a b) ⌝ }
 {
     if a < b {
         return Verdict::Less;
@@ -22,7 +22,7 @@ pub(crate) fn by_value(a: usize, b: usize) -> Verdict
 
 // The first, unless it is equal.
 pub(crate) fn or_else(v: Verdict, w: Verdict) -> Verdict
-    ensures { λ r. ⌜ r ≡ orElse v w ⌝ }
+    ensures { λ r. ⌜ numberOf r ≡ numberOf (orElse v w) ⌝ }
 {
     match v {
         Verdict::Less => Verdict::Less,

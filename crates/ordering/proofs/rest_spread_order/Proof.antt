@@ -5,10 +5,10 @@ use Rattle.ordering.proofs.rest_spread_order.Statement.{statement}
 use Rattle.ordering.proofs.rest_spread_order.Tie as tie
 
 returns : tie.Need-returns
-returns c = (c .said .ensures .0 ∙ sym (ap answerNumber (sym (c .before .before .before .before .order .ensures) ∙ c .before .before .v .given .1)), c .said .ensures .1 ∙ sym (ap orderNumber (sym (c .before .before .before .before .order .ensures) ∙ c .before .before .v .given .1)))
+returns c = (c .said .ensures .0 ∙ sym (ap answerNumber (c .before .before .v .given .1)) ∙ c .before .before .before .before .order .ensures .number, c .said .ensures .1 ∙ sym (ap orderNumber (c .before .before .v .given .1)) ∙ c .before .before .before .before .order .ensures .order)
 
 returns-2 : tie.Need-returns-2
-returns-2 c = (sym (ap answerNumber (sym (c .before .before .order .ensures) ∙ c .enum-told .given .1)), sym (ap orderNumber (sym (c .before .before .order .ensures) ∙ c .enum-told .given .1)))
+returns-2 c = (sym (ap answerNumber (c .enum-told .given .1)) ∙ c .before .before .order .ensures .number, sym (ap orderNumber (c .enum-told .given .1)) ∙ c .before .before .order .ensures .order)
 
 pub rest-spread-order-spec : {M : Type 1} → statement M
 rest-spread-order-spec =

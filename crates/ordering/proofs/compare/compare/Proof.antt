@@ -33,7 +33,7 @@ returns-4 : tie.Need-returns-4 Inv-loop μ-loop
 returns-4 c = λ a b c' d. absurd (omega (arith, d, c .if4 .taken))
 
 returns-5 : tie.Need-returns-5 Inv-loop μ-loop
-returns-5 c = λ _ _ _ _. law.refused-either _ _ (sym (c .before .is-refused .ensures) ∙ c .if5 .taken)
+returns-5 c = λ _ _ _ _. law.answers-by _ _ _ (law.refused-either _ _ (sym (c .before .is-refused .ensures) ∙ c .if5 .taken))
 
 loop-holds : tie.Need-loop-holds Inv-loop μ-loop
 loop-holds c = (law.going-start (c .before .before .before .before .before .before .before .before .before .before .before .before .before .before .before .before .before .before .before .before .before .before .args .first .now) (c .before .before .before .before .before .before .before .before .before .before .before .before .before .before .before .before .before .before .before .before .before .before .args .second .now) (c .before .before .before .before .before .before .before .before .before .before .before .before .before .before .before .before .before .before .before .before .before .before .args .frames .now) (c .before .before .before .before .before .before .before .before .before .before .before .before .before .before .before .before .before .before .before .before .before .before .args .others .now) _ _ (sym (c .before .before .before .before .before .before .before .before .before .before .before .is-refused .ensures) ∙ c .before .before .before .before .before .before .before .before .before .before .if5 .left) (c .before .before .before .before .before .before .before .before .before .before .before .before .before .before .before .if1 .left) (c .before .before .before .before .before .before .before .before .before .before .before .before .before .before .if2 .left) (omega (arith, c .before .before .before .before .before .before .before .before .clear .ensures .0, c .before .before .before .before .before .before .before .before .before .before .before .before .before .if3 .left)) (c .before .before .before .before .before .before .before .before .clear .ensures .1) (omega (arith, c .before .before .before .before .clear2 .ensures .0, c .before .before .before .before .before .before .before .before .before .before .before .before .if4 .left)) (c .before .before .before .before .clear2 .ensures .1) _ _ (c .before .begin .ensures) (c .begin2 .ensures), refl, refl, refl, refl)
@@ -42,7 +42,7 @@ loop-less : tie.Need-loop-less Inv-loop μ-loop
 loop-less c = law.pair-falls _ _ _ _ _ _ _ _ _ (c .before .before .before .before .before .before .before .before .before .before .before .before .before .before .before .before .before .before .before .before .before .loop .inv .0) _ _ _ _ _ _ (c .before .before .before .before .before .before .before .before .before .before .before .before .before .before .before .before .before .before .advance .ensures .2 _ (c .before .before .before .before .before .before .before .before .before .before .before .before .before .before .before .before .before .before .before .before .before .loop .inv .0 .left)) (c .before .before .before .before .before .before .before .before .before .before .before .advance2 .ensures .2 _ (c .before .before .before .before .before .before .before .before .before .before .before .before .before .before .before .before .before .before .before .before .before .loop .inv .0 .right)) _ (c .before .before .before .before .before .before .paired .ensures) (c .before .before .before .before .e .given .0 .0) (c .before .before .before .before .e .given .0 .1 .0) (c .before .before .before .before .e .given .0 .1 .1 .0) (c .before .before .before .before .e .given .0 .1 .1 .1 .0) (c .before .before .before .before .e .given .1)
 
 loop-again : tie.Need-loop-again Inv-loop μ-loop
-loop-again c = (law.pair-equal _ _ _ _ _ _ _ _ _ (c .before .before .before .before .before .before .before .before .before .before .before .before .before .before .before .before .before .before .before .before .before .loop .inv .0) _ _ _ _ _ _ (c .before .before .before .before .before .before .before .before .before .before .before .before .before .before .before .before .before .before .advance .ensures .2 _ (c .before .before .before .before .before .before .before .before .before .before .before .before .before .before .before .before .before .before .before .before .before .loop .inv .0 .left)) (c .before .before .before .before .before .before .before .before .before .before .before .advance2 .ensures .2 _ (c .before .before .before .before .before .before .before .before .before .before .before .before .before .before .before .before .before .before .before .before .before .loop .inv .0 .right)) _ (c .before .before .before .before .before .before .paired .ensures) (c .before .before .before .before .e .given .0 .0) (c .before .before .before .before .e .given .0 .1 .0) (c .before .before .before .before .e .given .0 .1 .1 .0) (c .before .before .before .before .e .given .0 .1 .1 .1 .0) (c .before .before .before .before .e .given .1) _ (c .before .before .by-event .ensures) _ (c .before .is-equal .ensures) (c .if6 .taken), c .before .before .before .before .before .before .before .before .before .before .before .before .before .before .before .before .before .before .advance .ensures .0 ∙ c .before .before .before .before .before .before .before .before .before .before .before .before .before .before .before .before .before .before .before .before .before .loop .inv .1, c .before .before .before .before .before .before .before .before .before .before .before .advance2 .ensures .0 ∙ c .before .before .before .before .before .before .before .before .before .before .before .before .before .before .before .before .before .before .before .before .before .loop .inv .2, c .before .before .before .before .before .before .before .before .before .before .before .before .before .before .before .before .before .before .advance .ensures .1 ∙ c .before .before .before .before .before .before .before .before .before .before .before .before .before .before .before .before .before .before .before .before .before .loop .inv .3, c .before .before .before .before .before .before .before .before .before .before .before .advance2 .ensures .1 ∙ c .before .before .before .before .before .before .before .before .before .before .before .before .before .before .before .before .before .before .before .before .before .loop .inv .4)
+loop-again c = (law.pair-equal _ _ _ _ _ _ _ _ _ (c .before .before .before .before .before .before .before .before .before .before .before .before .before .before .before .before .before .before .before .before .before .loop .inv .0) _ _ _ _ _ _ (c .before .before .before .before .before .before .before .before .before .before .before .before .before .before .before .before .before .before .advance .ensures .2 _ (c .before .before .before .before .before .before .before .before .before .before .before .before .before .before .before .before .before .before .before .before .before .loop .inv .0 .left)) (c .before .before .before .before .before .before .before .before .before .before .before .advance2 .ensures .2 _ (c .before .before .before .before .before .before .before .before .before .before .before .before .before .before .before .before .before .before .before .before .before .loop .inv .0 .right)) _ (c .before .before .before .before .before .before .paired .ensures) (c .before .before .before .before .e .given .0 .0) (c .before .before .before .before .e .given .0 .1 .0) (c .before .before .before .before .e .given .0 .1 .1 .0) (c .before .before .before .before .e .given .0 .1 .1 .1 .0) (c .before .before .before .before .e .given .1) (c .before .before .by-event .result) (c .before .before .by-event .ensures) _ (c .before .is-equal .ensures) (c .if6 .taken), c .before .before .before .before .before .before .before .before .before .before .before .before .before .before .before .before .before .before .advance .ensures .0 ∙ c .before .before .before .before .before .before .before .before .before .before .before .before .before .before .before .before .before .before .before .before .before .loop .inv .1, c .before .before .before .before .before .before .before .before .before .before .before .advance2 .ensures .0 ∙ c .before .before .before .before .before .before .before .before .before .before .before .before .before .before .before .before .before .before .before .before .before .loop .inv .2, c .before .before .before .before .before .before .before .before .before .before .before .before .before .before .before .before .before .before .advance .ensures .1 ∙ c .before .before .before .before .before .before .before .before .before .before .before .before .before .before .before .before .before .before .before .before .before .loop .inv .3, c .before .before .before .before .before .before .before .before .before .before .before .advance2 .ensures .1 ∙ c .before .before .before .before .before .before .before .before .before .before .before .before .before .before .before .before .before .before .before .before .before .loop .inv .4)
 
 same-length : tie.Need-same-length Inv-loop μ-loop
 same-length c = c .before .before .before .before .before .before .before .before .before .before .before .before .before .before .before .before .before .before .advance .ensures .0 ∙ c .before .before .before .before .before .before .before .before .before .before .before .before .before .before .before .before .before .before .before .before .before .loop .inv .1
@@ -57,7 +57,7 @@ same-length-4 : tie.Need-same-length-4 Inv-loop μ-loop
 same-length-4 c = c .before .before .before .before .before .before .before .before .before .before .before .advance2 .ensures .1 ∙ c .before .before .before .before .before .before .before .before .before .before .before .before .before .before .before .before .before .before .before .before .before .loop .inv .4 ∙ c .before .before .before .before .before .before .before .before .before .before .before .before .before .before .before .before .before .before .before .before .before .before .before .before .before .before .clear2 .ensures .0
 
 returns-6 : tie.Need-returns-6 Inv-loop μ-loop
-returns-6 c = λ _ _ _ _. law.pair-parts _ _ _ _ _ _ _ _ _ (c .before .before .before .before .before .before .before .before .before .before .before .before .before .before .before .before .before .before .before .before .before .loop .inv .0) _ _ _ _ _ _ (c .before .before .before .before .before .before .before .before .before .before .before .before .before .before .before .before .before .before .advance .ensures .2 _ (c .before .before .before .before .before .before .before .before .before .before .before .before .before .before .before .before .before .before .before .before .before .loop .inv .0 .left)) (c .before .before .before .before .before .before .before .before .before .before .before .advance2 .ensures .2 _ (c .before .before .before .before .before .before .before .before .before .before .before .before .before .before .before .before .before .before .before .before .before .loop .inv .0 .right)) _ (c .before .before .before .before .before .before .paired .ensures) (c .before .before .before .before .e .given .0 .0) (c .before .before .before .before .e .given .0 .1 .0) (c .before .before .before .before .e .given .0 .1 .1 .0) (c .before .before .before .before .e .given .0 .1 .1 .1 .0) (c .before .before .before .before .e .given .1) _ (c .before .before .by-event .ensures) _ (c .before .is-equal .ensures) (c .if6 .left)
+returns-6 c = λ _ _ _ _. law.answers-by _ _ _ (law.pair-parts _ _ _ _ _ _ _ _ _ (c .before .before .before .before .before .before .before .before .before .before .before .before .before .before .before .before .before .before .before .before .before .loop .inv .0) _ _ _ _ _ _ (c .before .before .before .before .before .before .before .before .before .before .before .before .before .before .before .before .before .before .advance .ensures .2 _ (c .before .before .before .before .before .before .before .before .before .before .before .before .before .before .before .before .before .before .before .before .before .loop .inv .0 .left)) (c .before .before .before .before .before .before .before .before .before .before .before .advance2 .ensures .2 _ (c .before .before .before .before .before .before .before .before .before .before .before .before .before .before .before .before .before .before .before .before .before .loop .inv .0 .right)) _ (c .before .before .before .before .before .before .paired .ensures) (c .before .before .before .before .e .given .0 .0) (c .before .before .before .before .e .given .0 .1 .0) (c .before .before .before .before .e .given .0 .1 .1 .0) (c .before .before .before .before .e .given .0 .1 .1 .1 .0) (c .before .before .before .before .e .given .1) (c .before .before .by-event .result) (c .before .before .by-event .ensures) _ (c .before .is-equal .ensures) (c .if6 .left))
 
 same-length-5 : tie.Need-same-length-5 Inv-loop μ-loop
 same-length-5 c = c .before .before .before .before .before .before .before .before .before .before .before .before .before .before .before .advance .ensures .0 ∙ c .before .before .before .before .before .before .before .before .before .before .before .before .before .before .before .before .before .before .loop .inv .1
@@ -72,7 +72,7 @@ same-length-8 : tie.Need-same-length-8 Inv-loop μ-loop
 same-length-8 c = c .before .before .before .before .before .before .before .before .advance2 .ensures .1 ∙ c .before .before .before .before .before .before .before .before .before .before .before .before .before .before .before .before .before .before .loop .inv .4 ∙ c .before .before .before .before .before .before .before .before .before .before .before .before .before .before .before .before .before .before .before .before .before .before .before .clear2 .ensures .0
 
 returns-7 : tie.Need-returns-7 Inv-loop μ-loop
-returns-7 c = λ _ _ _ _. law.pair-over _ _ _ _ _ _ _ _ _ (c .before .before .before .before .before .before .before .before .before .before .before .before .before .before .before .before .before .before .loop .inv .0) _ _ _ _ _ _ (c .before .before .before .before .before .before .before .before .before .before .before .before .before .before .before .advance .ensures .2 _ (c .before .before .before .before .before .before .before .before .before .before .before .before .before .before .before .before .before .before .loop .inv .0 .left)) (c .before .before .before .before .before .before .before .before .advance2 .ensures .2 _ (c .before .before .before .before .before .before .before .before .before .before .before .before .before .before .before .before .before .before .loop .inv .0 .right)) _ (c .before .before .before .paired .ensures) _ (c .before .v .given .1)
+returns-7 c = λ _ _ _ _. law.answers-by _ _ _ (law.pair-over _ _ _ _ _ _ _ _ _ (c .before .before .before .before .before .before .before .before .before .before .before .before .before .before .before .before .before .before .loop .inv .0) _ _ _ _ _ _ (c .before .before .before .before .before .before .before .before .before .before .before .before .before .before .before .advance .ensures .2 _ (c .before .before .before .before .before .before .before .before .before .before .before .before .before .before .before .before .before .before .loop .inv .0 .left)) (c .before .before .before .before .before .before .before .before .advance2 .ensures .2 _ (c .before .before .before .before .before .before .before .before .before .before .before .before .before .before .before .before .before .before .loop .inv .0 .right)) _ (c .before .before .before .paired .ensures) _ (c .before .v .given .1))
 
 pub compare-spec : {M : Type 1} → statement M
 compare-spec =
