@@ -3,6 +3,7 @@
 use mathlib.Core.Path.{_≡_, refl, sym, ap, subst, _∙_}
 use mathlib.Core.Bool.{Bool, true, false, cond}
 use mathlib.Core.List.{List, [], _∷_, _++_}
+use mathlib.Core.Option.{Option, none, some}
 use Prim.Native.Nat.{ℕ, zero, suc, _+_, _-_, _*_, _/_, _%_, _^_, _<_, _≤_}
 use native.Mathlib.Omega.{arith}
 use native.Mathlib.Decide.{decLt}
@@ -24,8 +25,10 @@ use Rattle.rewritten.specs.Events.{Event}
 use Rattle.rewritten.specs.Events.Event.{begins, opens, closes}
 use Rattle.rewritten.specs.Pending.{Task, standing, sorts, andThen, nodeComes, pieceComes, itemsCome, comes, pending, itemsIn, taskOf, stack}
 use Rattle.rewritten.specs.Pending.Task.{slots, items}
-use Rattle.rewritten.specs.Steps.{Planned, comingAt, comingFields, comingItems, comingPiece, comingNode, listSort, stepNumber, Stepped, Took, closingIn, stepClosed, eventIn, Stands, deepAfter, framesAfter}
+use Rattle.rewritten.specs.Steps.{Planned, comingAt, comingFields, comingItems, comingPiece, comingNode, listSort, stepNumber, stepValues, StepIs, Stepped, Took, closingIn, stepClosed, eventIn, Stands, deepAfter, framesAfter}
 use Rattle.rewritten.specs.Look.{Leaf, LeafSo, stepAfter, isClosed}
+use Rattle.rewritten.specs.declared.step.Cursor.{Cursor}
+use Rattle.rewritten.specs.declared.step.Event as told
 use Rattle.rewritten.specs.declared.step.Event.the-variants.{Begins, Opens, Hole}
 use Rattle.rewritten.specs.declared.step.Step.{Step}
 use Rattle.rewritten.specs.declared.step.Step.the-variants.{Next, Done, Refused, Full}
@@ -61,16 +64,34 @@ task-odd w =
     let e : (w * 2 + 1) / 2 ≡ w = omega arith in
     rw (ne-eqb ((w * 2 + 1) % 2) 0 (λ z. absurd (omega arith))) (ap itemsIn e)
 
--- ---- the number of a step
+-- ---- a step by its number and its values
+
+pub step-by : {r s : Step} → r ≡ s → StepIs r s
+step-by e = record { number = ap stepNumber e; values = ap stepValues e }
+
+abbrev stepWith : Option ℕ → Option (told.Event × Cursor) → Step
+stepWith n (some x) = Next (x .0) (x .1)
+stepWith none none = Full
+stepWith (some zero) none = Done
+stepWith (some (suc n)) none = Refused
+
+back : (r : Step) → stepWith (stepNumber r) (stepValues r) ≡ r
+back (Next e c) = refl
+back Done = refl
+back Refused = refl
+back Full = refl
+
+pub step-is : {r s : Step} → StepIs r s → r ≡ s
+step-is {r} {s} h = sym (back r) ∙ (λ i. stepWith (h .number i) (h .values i)) ∙ back s
 
 took : {l fs later : List ℕ} {g : Got (List Event)} {at deep : ℕ} {r : Step} → Stepped l fs later g at deep r → Took l fs later g at deep r
 took {l} {fs} {later} {g} {at} {deep} {r} so = record { number = go r so; so = so }
   where
-    go : (r : Step) → Stepped l fs later g at deep r → (stepNumber r ≡ 0 → ⊥) → stepNumber r ≡ gotNumber g
-    go (Next e c) so n = absurd (n refl)
-    go Done so n = absurd (n refl)
-    go Refused so n = sym (ap gotNumber (so .0))
-    go Full so n = absurd (n refl)
+    go : (r : Step) → Stepped l fs later g at deep r → (n : ℕ) → stepNumber r ≡ some (suc n) → gotNumber g ≡ suc n
+    go (Next e c) so n w = let z : _≡_ {A = ℕ} 0 (suc n) = cc in absurd (omega arith)
+    go Done so n w = let z : _≡_ {A = ℕ} 0 (suc n) = cc in absurd (omega arith)
+    go Refused so n w = let z : _≡_ {A = ℕ} 3 (suc n) = cc in ap gotNumber (so .0) ∙ z
+    go Full so n w = let z : _≡_ {A = ℕ} 0 1 = cc in absurd (omega arith)
 
 -- ---- what is pending may be said in another way
 

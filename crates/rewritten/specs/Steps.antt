@@ -3,6 +3,7 @@ use Prim.Native.Nat.{ℕ, zero, suc, _+_, _-_, _*_, _^_, _<_, _≤_}
 use mathlib.Core.Path.{_≡_}
 use mathlib.Core.List.{List, [], _∷_}
 use mathlib.Core.Bool.{Bool, true, false}
+use mathlib.Core.Option.{Option, none, some}
 use lib.ListN.{length, getD, set, take, drop}
 use Rattle.tree.specs.Grammar.{Sort}
 use Rattle.tree.specs.Grammar.Sort.{many, gaps}
@@ -111,15 +112,26 @@ pub record Onward (tree frames later : List ℕ) (g : Got (List Event)) (at deep
   pub room : 2 * deep ≤ at → 2 * c .deep ≤ c .at
   pub falls : at ≤ length tree → (length tree - c .at) + c .deep < (length tree - at) + deep
 
--- document 01's number of a step: 3 where the bytes are no tree, else 0. It has none for frames that do not suffice: nobody who
--- lends 16,384 of them is answered so
-abbrev pub stepNumber : Step → ℕ
-stepNumber (Next e c) = 0
-stepNumber Done = 0
-stepNumber Refused = 3
-stepNumber Full = 0
+-- document 01's number of a step: 3 where the bytes are no tree, else 0. It has none for frames that do not suffice
+abbrev pub stepNumber : Step → Option ℕ
+stepNumber (Next e c) = some 0
+stepNumber Done = some 0
+stepNumber Refused = some 3
+stepNumber Full = none
 
--- its values: the event and where the tour stands then; nothing is left; what is pending is refused; no frame is left
+-- its values: the event, and where the tour stands then
+abbrev pub stepValues : Step → Option (told.Event × Cursor)
+stepValues (Next e c) = some (e, c)
+stepValues Done = none
+stepValues Refused = none
+stepValues Full = none
+
+-- r is s by its number and its values
+pub record StepIs (r s : Step) : Type 0 where
+  pub number : stepNumber r ≡ stepNumber s
+  pub values : stepValues r ≡ stepValues s
+
+-- what each case says of what is pending
 abbrev pub Stepped : List ℕ → List ℕ → List ℕ → Got (List Event) → ℕ → ℕ → Step → Type 0
 Stepped tree frames later g at deep (Next e c) = Onward tree frames later g at deep e c
 Stepped tree frames later g at deep Done = (g ≡ got [] at 1) × (later ≡ frames)
@@ -127,7 +139,7 @@ Stepped tree frames later g at deep Refused = (g ≡ refused notATree) × (later
 Stepped tree frames later g at deep Full = (length frames ≤ deep) × (at + 1 < length tree) × (later ≡ frames)
 
 pub record Took (tree frames later : List ℕ) (g : Got (List Event)) (at deep : ℕ) (r : Step) : Type 0 where
-  pub number : (stepNumber r ≡ 0 → ⊥) → stepNumber r ≡ gotNumber g
+  pub number : (n : ℕ) → stepNumber r ≡ some (suc n) → gotNumber g ≡ suc n
   pub so : Stepped tree frames later g at deep r
 
 -- ---- the end of a task

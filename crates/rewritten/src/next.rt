@@ -6,13 +6,10 @@ use crate::step::Step;
 use tree::bytes;
 use tree::skip;
 ghost use mathlib.Core.Path.{_≡_};
-ghost use mathlib.Core.Bool.{true};
-ghost use mathlib.Core.List.{List};
-ghost use Prim.Native.Nat.{ℕ, _+_, _/_, _%_, _≤_};
-ghost use lib.Dec.{eqb};
+ghost use Prim.Native.Nat.{_+_, _/_, _%_, _≤_};
 ghost use lib.ListN.{length, getD, set};
-ghost use Rattle.rewritten.specs.Steps.{comingAt, start, Took};
-ghost use Rattle.rewritten.specs.Look.{deeper, endFor, framesFor, cursorFor, isClosed};
+ghost use Rattle.rewritten.specs.Steps.{StepIs, stepClosed, comingAt, start, Took};
+ghost use Rattle.rewritten.specs.Look.{deeper, endFor, framesFor, cursorFor};
 
 // Where a tour starts.
 pub fn begin() -> Cursor
@@ -34,7 +31,7 @@ pub fn frame_at(frames: &[usize], i: usize) -> usize
 
 // The innermost task is done, a node or a list.
 fn close(frames: &[usize], at: usize, deep: usize, node: bool) -> Step
-    ensures { λ r. ⌜ ((tree : List ℕ) (top : ℕ) → isClosed top ≡ true → node ≡ eqb (top % 2) 0 → Took tree (now (frames .entry)) (now (frames .entry)) (comingAt tree (now (frames .entry)) at deep top) at deep r) ⌝ }
+    ensures { λ r. ⌜ StepIs r (stepClosed (now (frames .entry)) at deep node) ⌝ }
 {
     if deep == 0 {
         return Step::Done;

@@ -8,7 +8,7 @@ use Rattle.rewritten.proofs.next.next.Statement.{statement}
 use Rattle.rewritten.proofs.next.next.Tie as tie
 
 returns : tie.Need-returns
-returns c = (refl, c .close .ensures _ _ (moves.found-true (c .before .before .before .is-closed .ensures) (c .before .before .if1 .taken)) refl)
+returns c = (refl, moves.closed-top _ _ _ _ _ _ _ (moves.found-true (c .before .before .before .is-closed .ensures) (c .before .before .if1 .taken)) refl (moves.step-is (c .close .ensures)))
 
 add-peek : tie.Need-add-peek
 add-peek c = omega (arith, law.within _ (c .before .before .before .before .before .before .before .before .before .before .before .before .before .args .frames .now) _ (c .before .before .before .before .before .before .before .before .before .before .before .before .before .args .cursor .deep) _ (moves.found-true (c .before .before .before .before .before .before .before .before .before .before .is-closed .ensures) (c .before .before .before .before .before .before .before .before .before .if1 .left)) _ (c .before .before .before .before .before .before .before .before .look .ensures) 1 (c .before .before .match .keys1) (λ z. absurd (omega arith)))
