@@ -2,7 +2,7 @@
 -- Assumes nothing.
 use mathlib.Core.Path.{_≡_, refl, sym, ap, ap₂, _∙_}
 use mathlib.Core.Bool.{Bool, true, false, cond, not, _&&_, _||_, true≢false}
-use mathlib.Core.List.{List, []}
+use mathlib.Core.List.{List, [], _∷_}
 use mathlib.Core.Option.{Option, some}
 use Prim.Native.Nat.{ℕ, zero, suc, _+_, _-_, _%_, _<_, _≤_, min}
 use native.Mathlib.Omega.{arith}
@@ -38,7 +38,7 @@ use Rattle.pattern.specs.Parts.{Content, partValues, partAt, textIn, sta
 use Rattle.pattern.specs.Numbers.{Numeral, spellingValue, spelledAs, isStringOf}
 use Rattle.pattern.specs.Tally as tally
 use Rattle.pattern.specs.Tally.{limited, both, sum}
-use Rattle.pattern.specs.Keys.{nameIn, formIn, besideForm, literalBy, literalIn, literalAt, keyAt, Becomes, keyRefusal, keyEntry, counts, countsBy, keyCounts, keyTally, keysOf, itemKeys}
+use Rattle.pattern.specs.Keys.{nameIn, formIn, besideForm, literalBy, literalIn, literalAt, keyAt, Becomes, keyRefusal, keyEntry, sortOfKey, keyValues, Keyed, counts, countsBy, keyCounts, keyTally, keysOf, itemKeys}
 use Rattle.pattern.proofs.NodeParts.{Blank, child-is, list-is, kind-is, no-levels, text-part, stands-part, sort-absent, sort-there}
 use Rattle.pattern.proofs.NumberCases.{promisedBy, promised-by, decimal-string, same-string, Low, spelled-low}
 use Rattle.pattern.proofs.Fields.{key-at}
@@ -50,6 +50,45 @@ use Rattle.lowering.proofs.Cases.{is-literal}
 
 pub some-not : (n : ℕ) → eqb (suc n) 0 ≡ false
 some-not n = ne-eqb (suc n) 0 (λ e. absurd (omega arith))
+
+-- ---- an answer by its sort, its number and its values
+
+pub keyed-by : {r k : Key} → r ≡ k → Keyed r k
+keyed-by e = record { sort = ap sortOfKey e; number = ap keyRefusal e; values = ap keyValues e }
+
+-- what has them; anything where nothing has
+abbrev nameWith : List ℕ → Key
+nameWith [] = Other
+nameWith (p ∷ []) = Other
+nameWith (p ∷ n ∷ vs) = variants.Name p n
+
+abbrev literalWith : ℕ → List ℕ → Key
+literalWith r [] = variants.NoForm
+literalWith zero (v ∷ []) = variants.Number v
+literalWith (suc r) (v ∷ []) = OtherForm v
+literalWith r (p ∷ n ∷ vs) = variants.Literal p n
+
+abbrev keyWith : keys.Key → ℕ → List ℕ → Key
+keyWith name r vs = nameWith vs
+keyWith literal r vs = literalWith r vs
+keyWith template r vs = Template
+keyWith private r vs = Private
+keyWith again r vs = Again
+keyWith other r vs = Other
+
+back : (k : Key) → keyWith (sortOfKey k) (keyRefusal k) (keyValues k) ≡ k
+back (variants.Name p n) = refl
+back (variants.Literal p n) = refl
+back (variants.Number v) = refl
+back (OtherForm v) = refl
+back variants.NoForm = refl
+back Template = refl
+back Private = refl
+back Again = refl
+back Other = refl
+
+pub key-is : {r k : Key} → Keyed r k → r ≡ k
+key-is {r} {k} h = sym (back r) ∙ (λ i. keyWith (h .sort i) (h .number i) (h .values i)) ∙ back k
 
 -- ---- the sort of a key by its kind
 
@@ -519,7 +558,7 @@ module _ (l : List ℕ) (d at : ℕ) where
 pub becomes : (l : List ℕ) (d at : ℕ) (r : Key) → r ≡ keyAt l d at → Becomes l d at r
 becomes l d at r e =
     record {
-      variant = e;
+      variant = keyed-by e;
       entry = λ c q w. entry-is l d at c q w ∙ ap (keyEntry l c q) (sym e);
       refusal = refusal-is l d at ∙ ap keyRefusal (sym e);
     }

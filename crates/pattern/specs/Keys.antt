@@ -2,7 +2,7 @@
 use Prim.Native.Nat.{ℕ}
 use mathlib.Core.Path.{_≡_}
 use mathlib.Core.Bool.{Bool, cond, _&&_}
-use mathlib.Core.List.{List, []}
+use mathlib.Core.List.{List, [], _∷_}
 use lib.Dec.{eqb}
 use lib.ListN.{take, drop}
 use Rattle.tree.specs.Tree.{Node, Items}
@@ -98,9 +98,39 @@ keyEntry tree c q Private = none
 keyEntry tree c q Again = only (patterns.key q)
 keyEntry tree c q Other = only (keyOf c q)
 
--- what is promised of the key at a position: its variant, the entry of each property that has it, and the refusal
+-- document 01's sort of the key
+abbrev pub sortOfKey : Key → lowering.Key
+sortOfKey (Name p n) = lowering.Key.name
+sortOfKey (Literal p n) = lowering.Key.literal
+sortOfKey (key.Number v) = lowering.Key.literal
+sortOfKey (OtherForm v) = lowering.Key.literal
+sortOfKey NoForm = lowering.Key.literal
+sortOfKey Template = lowering.Key.template
+sortOfKey Private = lowering.Key.private
+sortOfKey Again = lowering.Key.again
+sortOfKey Other = lowering.Key.other
+
+-- its values: where the bytes of its string start and how many there are, or the number whose digits it is
+abbrev pub keyValues : Key → List ℕ
+keyValues (Name p n) = p ∷ n ∷ []
+keyValues (Literal p n) = p ∷ n ∷ []
+keyValues (key.Number v) = v ∷ []
+keyValues (OtherForm v) = v ∷ []
+keyValues NoForm = []
+keyValues Template = []
+keyValues Private = []
+keyValues Again = []
+keyValues Other = []
+
+-- r is k by its sort, the number of its refusal and its values
+pub record Keyed (r k : Key) : Type 0 where
+  pub sort : sortOfKey r ≡ sortOfKey k
+  pub number : keyRefusal r ≡ keyRefusal k
+  pub values : keyValues r ≡ keyValues k
+
+-- what is promised of the key at a position: which it is, the entry of each property that has it, and the refusal
 pub record Becomes (tree : List ℕ) (d at : ℕ) (r : Key) : Type 0 where
-  pub variant : r ≡ keyAt tree d at
+  pub variant : Keyed r (keyAt tree d at)
   pub entry : (c : Context) (q : Node) → patterns.key q ≡ lookNode tree d at .value → excludedKey c q ≡ keyEntry tree c q r
   pub refusal : lowering.keyRefusal (lookNode tree d at .value) ≡ keyRefusal r
 

@@ -19,7 +19,7 @@ ghost use Rattle.pattern.specs.Tally.{limited, noTally, both};
 ghost use Rattle.lowering.specs.Rests.{hasNoProperties};
 ghost use Rattle.pattern.specs.Parts.{partValues, textIn, standing};
 ghost use Rattle.pattern.specs.Numbers.{spellingValue, spelledAs, isStringOf};
-ghost use Rattle.pattern.specs.Keys.{nameIn, formIn, besideForm, literalBy, literalAt, Becomes, counts, keyCounts, keysOf, itemKeys};
+ghost use Rattle.pattern.specs.Keys.{nameIn, formIn, besideForm, literalBy, literalAt, Keyed, Becomes, counts, keyCounts, keysOf, itemKeys};
 
 // What a key becomes among the excluded keys: a string of the bytes of a name or of a literal's form, which are also those
 // of a decimal spelling; a string of the digits of a number's value; that template; the name or temporary read again; a
@@ -38,7 +38,7 @@ pub enum Key {
 }
 
 fn named(p: Part) -> Key
-    ensures { λ r. ⌜ r ≡ nameIn (partValues p) ⌝ }
+    ensures { λ r. ⌜ Keyed r (nameIn (partValues p)) ⌝ }
 {
     match p {
         Part::Text { from, len } => Key::Name {
@@ -57,7 +57,7 @@ fn named(p: Part) -> Key
 }
 
 fn formed(p: Part) -> Key
-    ensures { λ r. ⌜ r ≡ formIn (partValues p) ⌝ }
+    ensures { λ r. ⌜ Keyed r (formIn (partValues p)) ⌝ }
 {
     match p {
         Part::Text { from, len } => Key::Literal {
@@ -127,7 +127,7 @@ fn standing(p: Part) -> bool
 
 // A number beside its form.
 fn beside_form(tree: &[u8], value: usize, alone: Key, form: Part) -> Key
-    ensures { λ r. ⌜ r ≡ besideForm (now (tree .entry)) value alone (partValues form) ⌝ }
+    ensures { λ r. ⌜ Keyed r (besideForm (now (tree .entry)) value alone (partValues form)) ⌝ }
 {
     if standing(form) {
         if is_string(spelled_in(tree, form), value) {
@@ -140,7 +140,7 @@ fn beside_form(tree: &[u8], value: usize, alone: Key, form: Part) -> Key
 
 // A literal by what its spelling is.
 fn literal_by(tree: &[u8], s: Spelling, spelling: Part, form: Part) -> Key
-    ensures { λ r. ⌜ r ≡ literalBy (now (tree .entry)) (spellingValue s) (partValues spelling) (partValues form) ⌝ }
+    ensures { λ r. ⌜ Keyed r (literalBy (now (tree .entry)) (spellingValue s) (partValues spelling) (partValues form)) ⌝ }
 {
     match s {
         Spelling::Decimal(v) => beside_form(tree, v, formed(spelling), form),
@@ -161,7 +161,7 @@ fn literal_sort(tree: &[u8], left: usize, at: usize) -> usize
 
 // The literal that stands at a position.
 fn literal(tree: &[u8], left: usize, at: usize) -> Key
-    ensures { λ r. ⌜ (byteAt (now (tree .entry)) at ≡ 22 → r ≡ literalAt (now (tree .entry)) left at) ⌝ }
+    ensures { λ r. ⌜ (byteAt (now (tree .entry)) at ≡ 22 → Keyed r (literalAt (now (tree .entry)) left at)) ⌝ }
 {
     let spelling = parts::field(tree, left, at, 1);
     let form = parts::field(tree, left, at, 2);

@@ -29,7 +29,7 @@ use Rattle.pattern.specs.declared.keys.Key.the-variants.{Name, Literal, OtherFo
 use Rattle.pattern.specs.Tally.{limited}
 use Rattle.pattern.specs.Parts.{partAt}
 use Rattle.pattern.specs.Keys.{nameIn, literalAt, keyAt, Becomes}
-use Rattle.pattern.proofs.KeyCases.{by-sort}
+use Rattle.pattern.proofs.KeyCases.{by-sort, key-is}
 use Rattle.pattern.proofs.CountsFit.{counted-whole, excluded-fit}
 use Rattle.direct.specs.Events as events
 use Rattle.direct.specs.Events.{Emit, Deed, lists, excludes}
@@ -269,19 +269,19 @@ module _ (t : List ℕ) where
     pub template-does : {g g′ : Going} (end : ℕ) → r ≡ Template → end ≡ lookNode t d at .next → Does g g′ (say (excludes (part at end t)))
         → Good t d at → Does g g′ (say (excludes (keyBytesOf that)))
     template-does end f w k good =
-        does-as k (ap (λ (bs : List ℕ). say (excludes bs)) (ap (λ (x : ℕ). part at x t) w ∙ good-copied t d at good ∙ plain-as d at r Template (b .variant) f))
+        does-as k (ap (λ (bs : List ℕ). say (excludes bs)) (ap (λ (x : ℕ). part at x t) w ∙ good-copied t d at good ∙ plain-as d at r Template (key-is (b .variant)) f))
 
     nothing-does : {g : Going} → [] ≡ keyBytesOf that → Does g g (say (excludes (keyBytesOf that)))
     nothing-does {g = g} h = does-as (does-nothing g) (ap (λ (bs : List ℕ). say (excludes bs)) h)
 
     pub private-does : {g : Going} → r ≡ Private → Good t d at → Does g g (say (excludes (keyBytesOf that)))
-    private-does f good = nothing-does (plain-as d at r Private (b .variant) f)
+    private-does f good = nothing-does (plain-as d at r Private (key-is (b .variant)) f)
 
     pub again-does : {g : Going} → r ≡ Again → Good t d at → Does g g (say (excludes (keyBytesOf that)))
-    again-does f good = nothing-does (plain-as d at r Again (b .variant) f)
+    again-does f good = nothing-does (plain-as d at r Again (key-is (b .variant)) f)
 
     pub other-does : {g : Going} → r ≡ Other → Good t d at → Does g g (say (excludes (keyBytesOf that)))
-    other-does f good = nothing-does (plain-as d at r Other (b .variant) f)
+    other-does f good = nothing-does (plain-as d at r Other (key-is (b .variant)) f)
 
 -- ---- excluded keys
 

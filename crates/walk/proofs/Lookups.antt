@@ -25,6 +25,7 @@ use Rattle.pattern.specs.Parts.{Content, partAt, textIn, standing}
 use Rattle.pattern.specs.Numbers.{Numeral, spelledAs, isStringOf}
 use Rattle.pattern.specs.Keys.{nameIn, formIn, besideForm, literalBy, literalIn, literalAt, keyBy, keyAt, Becomes}
 use Rattle.pattern.specs.Tally.{limited}
+use Rattle.pattern.proofs.KeyCases.{key-is}
 use Rattle.pattern.proofs.NodeParts.{kind-is}
 use Rattle.pattern.proofs.CappedSums.{numbers, Adds, listSum, sum-start, sum-more, sum-end}
 use Rattle.pattern.proofs.MovesCounted.{count-sum}
@@ -201,7 +202,7 @@ class-is k = refl
 pub key-class : (l : List ℕ) (d at : ℕ) (r k : Key) → Becomes l d at r → r ≡ k → classOf k ≡ keyClass (lookNode l d at .value)
 unfolding keyAt
 key-class l d at r k b e =
-    ap classOf (sym e ∙ b .variant) ∙ class-by (keySort (lookNode l d at .value)) (partAt l d at 0) (literalAt l d at) (class-here l d at) ∙ class-is (lookNode l d at .value)
+    ap classOf (sym e ∙ key-is (b .variant)) ∙ class-by (keySort (lookNode l d at .value)) (partAt l d at 0) (literalAt l d at) (class-here l d at) ∙ class-is (lookNode l d at .value)
 
 static-sort : (k : Node) → kind k ≡ 38 → keySort k ≡ lowering.Key.name
 unfolding keySort is

@@ -37,7 +37,7 @@ use Rattle.pattern.specs.Numbers.{Numeral, spelledAs, isStringOf}
 use Rattle.pattern.specs.Keys.{nameIn, formIn, besideForm, literalBy, literalIn, literalAt, keyAt, keyEntry, Becomes}
 use Rattle.pattern.specs.Source.{Given, readValues, heldIn, readOf}
 use Rattle.pattern.proofs.SourceReads.{held-read}
-use Rattle.pattern.proofs.KeyCases.{by-sort, becomes}
+use Rattle.pattern.proofs.KeyCases.{by-sort, becomes, key-is}
 use Rattle.direct.proofs.RestValues.{key-spelt}
 use Rattle.walk.specs.declared.modes.Mode.{Mode}
 use Rattle.walk.specs.declared.look.KeyClass.the-variants.{AsString}
@@ -347,7 +347,7 @@ module _ (t : List ℕ) (d at : ℕ) where
       record { small = omega arith; within = w; string = ap stringBytes (part-take t from n ∙ sym y) ∙ sym (string-is r x b e h) }
 
   room-here : (r x : Key) → Becomes t d at r → r ≡ x → Room t x
-  room-here r x b e = subst (Room t) (sym (b .variant) ∙ e) (key-room t d at)
+  room-here r x b e = subst (Room t) (sym (key-is (b .variant)) ∙ e) (key-room t d at)
 
   module _ (r : Key) (b : Becomes t d at r) (g : Good t d at) (from n : ℕ) where
     pub name-spelt : r ≡ Name from n → Spelt t here from n
@@ -391,7 +391,7 @@ does-string t d at e good h = runs-does (runs-as e (ap puts (string-found t d at
 -- a key's string, by what the key becomes
 module _ {g g′ : Going} (t : List ℕ) (d at : ℕ) (r : Key) (b : Becomes t d at r) where
   pub writes-key : (x : Key) → r ≡ x → Runs g g′ (puts (stringOf t x)) → Runs g g′ (puts (stringOf t (keyAt t d at)))
-  writes-key x e k = runs-as k (ap (λ (y : Key). puts (stringOf t y)) (sym e ∙ b .variant))
+  writes-key x e k = runs-as k (ap (λ (y : Key). puts (stringOf t y)) (sym e ∙ key-is (b .variant)))
 
   pub writes-name : (from n : ℕ) → r ≡ Name from n → Runs g g′ (puts (stringAt t from n)) → Runs g g′ (puts (stringOf t (keyAt t d at)))
   unfolding stringOf
@@ -415,7 +415,7 @@ module _ {g g′ : Going} (t : List ℕ) (d at : ℕ) (r : Key) (b : Becomes t d
 
 -- what is not written as a string
 pub writes-nothing : {g : Going} (t : List ℕ) (d at : ℕ) (r x : Key) → Becomes t d at r → r ≡ x → stringOf t x ≡ [] → Runs g g (puts (stringOf t (keyAt t d at)))
-writes-nothing t d at r x b e h = runs-as runs-none (ap puts (sym h ∙ ap (stringOf t) (sym e ∙ b .variant)))
+writes-nothing t d at r x b e h = runs-as runs-none (ap puts (sym h ∙ ap (stringOf t) (sym e ∙ key-is (b .variant))))
 
 module _ (t : List ℕ) where
   pub no-template : stringOf t Template ≡ []
