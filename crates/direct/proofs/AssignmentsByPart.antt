@@ -163,6 +163,10 @@ module _ (c : Place) where
 
 -- ---- a target that is an object with rest
 
+pub rest-top : (at : ℕ) (ps : Items) (r : Node) → isTop (objectRestAt at ps r) ≡ true
+unfolding isTop is stands standsIn
+rest-top at ps r = refl
+
 module _ (c : Place) where
   -- without its rest, its parts replaced: some objects below arrays are left, or none
   target-done : (at : ℕ) (ps : Items) (r : Node) → hasArrayRestOverObjectRest (objectRestAt at ps r) ≡ false
@@ -236,10 +240,6 @@ module _ (c : Place) where
   unfolding emitsRestOf
   rest-said p = refl
 
-  rest-top : (at : ℕ) (ps : Items) (r : Node) → isTop (objectRestAt at ps r) ≡ true
-  unfolding isTop is stands standsIn
-  rest-top at ps r = refl
-
   pub assignment-top : (at op pat : ℕ) (ps : Items) (r x : Node) → hasArrayRestOverObjectRest (objectRestAt pat ps r) ≡ false
       → keysRefusal (objectRestAt pat ps r) ≡ 0
       → emits c (assignmentAt at op (objectRestAt pat ps r) x) ≡ emitsTop c (objectRestAt pat ps r) (emits (inner c) x)
@@ -287,4 +287,4 @@ module _ (c : Place) where
   unfolding emitsInner topRefusal is nodeAt pieceIn
   inner-refused at ps r number z h l =
       let n = assign (objectRestAt at ps r) (temporary [] 1 at) in
-      assignment-refused-keys (inner c) n refl number z h (rest-top c at ps r) l
+      assignment-refused-keys (inner c) n refl number z h (rest-top at ps r) l

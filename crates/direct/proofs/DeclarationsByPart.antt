@@ -182,6 +182,10 @@ module _ (κ : Context) where
 
 -- ---- and what is done for it, one level
 
+pub items-at : (at m b : ℕ) (ds : Items) → itemsAt 2 (declarationAt at m b ds) ≡ ds
+unfolding itemsAt pieceIn
+items-at at m b ds = refl
+
 module _ (c : Place) where
   -- an object's own declarators, read from s
   pub own-done : (p s : Node) → is 34 p ≡ true
@@ -330,10 +334,6 @@ module _ (c : Place) where
   declaration-at : (at m b : ℕ) (ds : Items) → declaration (contextOf c) (declarationAt at m b ds) ≡ declarationAt at m b (gather (declarators (contextOf c)) ds)
   unfolding declaration change changeIn onItems
   declaration-at at m b ds = refl
-
-  items-at : (at m b : ℕ) (ds : Items) → itemsAt 2 (declarationAt at m b ds) ≡ ds
-  unfolding itemsAt pieceIn
-  items-at at m b ds = refl
 
   pub declaration-done : (at m b : ℕ) (ds : Items) → declarationRefusal (contextOf c) (declarationAt at m b ds) ≡ 0
       → emits c (declarationAt at m b ds)

@@ -22,7 +22,7 @@ use Rattle.direct.specs.Counts.{sumOf, ownCount, foundCount, patternCoun
 use Rattle.direct.proofs.DeclarationsByPart.{properties-changed}
 use Rattle.direct.proofs.HandedByObject.{keys-counted, other-values}
 use Rattle.direct.proofs.Tests.{count-gather}
-use Rattle.lowering.proofs.ItemLaws.{count-append, empty-each}
+use Rattle.lowering.proofs.ItemLaws.{count-append, empty-each, count-none}
 
 count-first : (b : Bool) (n : Node) → count (cond b (only n) Items.none) ≡ cond b 1 0
 unfolding count
@@ -149,18 +149,14 @@ module _ (κ : Context) where
   unfolding count _+++_
   array-counted p s = ap suc (found-counted κ p)
 
-  empty-counted : count Items.none ≡ 0
-  unfolding count
-  empty-counted = refl
-
   pub pattern-counted : (p s : Node) → count (patternDeclarators κ p s) ≡ patternCount p
   unfolding patternDeclarators patternCount
   pattern-counted p s =
       by-shape (shape p)
       (λ e. rw (e, patternDeclarators, patternCount) (object-counted p s))
       (λ e. rw (e, patternDeclarators, patternCount) (array-counted p s))
-      (λ e. rw (e, patternDeclarators, patternCount) empty-counted)
-      (λ e. rw (e, patternDeclarators, patternCount) empty-counted)
+      (λ e. rw (e, patternDeclarators, patternCount) count-none)
+      (λ e. rw (e, patternDeclarators, patternCount) count-none)
 
   lowered-counted : (p init : Node) → count (lowerDeclarator κ p init) ≡ cond (isName init) 0 1 + patternCount p
   unfolding lowerDeclarator sourceDeclarator

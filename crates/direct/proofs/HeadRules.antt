@@ -143,7 +143,7 @@ function-stands m sort at Option.none qs (Option.some r) b = refl
 function-stands m sort at (Option.some n) qs Option.none b = refl
 function-stands m sort at (Option.some n) qs (Option.some r) b = refl
 
-function-params : (m sort at : ℕ) (name : Option Node) (qs : Items) (rest : Option Node) (b : Node) → itemsAt 3 (node at 14 (functionFields m sort name qs rest b)) ≡ qs
+pub function-params : (m sort at : ℕ) (name : Option Node) (qs : Items) (rest : Option Node) (b : Node) → itemsAt 3 (node at 14 (functionFields m sort name qs rest b)) ≡ qs
 unfolding itemsAt pieceIn
 function-params m sort at Option.none qs rest b = refl
 function-params m sort at (Option.some n) qs rest b = refl
@@ -244,7 +244,7 @@ emits-catch-list c at q b h =
 
 -- ---- loops
 
-loop-rule : {k : ℕ} → Loop k → ruleOf k ≡ fors
+pub loop-rule : {k : ℕ} → Loop k → ruleOf k ≡ fors
 unfolding ruleOf
 loop-rule Loop.forIn = refl
 loop-rule Loop.forOf = refl

@@ -19,10 +19,11 @@ use Rattle.lowering.specs.Assignments.{isTop, nearest, outermost, partsOf, part
 use Rattle.lowering.proofs.Accepted.{NoHoles}
 use Rattle.lowering.proofs.Cases.{by-test, by-shape, or-left, or-right}
 use Rattle.lowering.proofs.WeightKeys.{rest-changed}
-use Rattle.lowering.proofs.Levels.{depth-pos, items-depth, gather-agrees, node-in, values-agree, array-levels, nearest-levels, replaced-levels, parts-levels}
+use Rattle.lowering.proofs.Levels.{depth-pos, items-depth, gather-agrees, node-in, values-agree, array-levels, nearest-levels, replaced-levels, parts-levels, reference-clear}
 use Rattle.lowering.proofs.Clauses.{replaced-plain, replaced-top, replaced-default, parts-object, parts-array, parts-default, parts-leaf, nearest-object, nearest-array, nearest-default, nearest-leaf}
 use Rattle.lowering.proofs.ItemLaws.{none-empty, each-each, each-same, gather-same, gather-each, any-none}
 use Rattle.lowering.proofs.ChangeLaws.{shape-changed}
+use Rattle.lowering.proofs.SoundKeys.{value-kept}
 use Rattle.direct.specs.Events.{Emit}
 use Rattle.direct.specs.Emit.{say, inTurn}
 use Rattle.direct.specs.Views.{objectAt, objectRestAt, viewed, viewedProperty}
@@ -31,7 +32,7 @@ use Rattle.direct.specs.Objects.{Reach, counts, enters, reachedAt, reach
 use Rattle.direct.specs.Objects.Reach.{anywhere, straight, inArrays}
 use Rattle.direct.proofs.ListsInTurn.{holes-none, holes-only, holes-append, turn-gather, turn-only}
 use Rattle.direct.proofs.ViewedPatterns.{value-twice, kept-value, taken-rest, values-rest, viewed-object, viewed-rest}
-use Rattle.direct.proofs.ObjectsByLevel.{value-changed, value-kept}
+use Rattle.direct.proofs.ObjectsByLevel.{value-changed}
 use Rattle.direct.proofs.DeclarationsByPart.{properties-changed}
 use Rattle.direct.proofs.Targets.{values-twice, left-twice, values-changed, left-changed, has-object, has-array, has-default, has-leaf, over-object, over-array, over-default, shape-taken, any-taken}
 
@@ -295,11 +296,6 @@ module _ (κ : Context) where
     parts-plain : hasRest p ≡ false → partsReplaced κ (suc d) p ≡ withValues (λ v. partsReplaced κ d v) p
     parts-plain r = parts-object κ d p e ∙ ap (λ (b : Bool). cond b (reference κ p) (withValues (λ v. partsReplaced κ d v) p)) r
 
-  reference-found : (d : ℕ) (p : Node) → nearest true d (reference κ p) ≡ Items.none
-  unfolding nearest shape
-  reference-found zero p = refl
-  reference-found (suc d) p = refl
-
   reference-replaced : (d : ℕ) (p : Node) → replaced κ d (reference κ p) ≡ reference κ p
   unfolding replaced shape
   reference-replaced zero p = refl
@@ -319,7 +315,7 @@ module _ (κ : Context) where
       by-shape (shape p)
       (λ e. by-test (hasRest p)
       (λ r. ap (nearest true (suc d)) (parts-top d p e r)
-      ∙ reference-found (suc d) p
+      ∙ reference-clear κ p (suc d)
       ∙ ap (λ (b : Bool). cond b Items.none (gather (λ q. reachedAt inArrays d (value q)) (properties p))) (sym r)
       ∙ sym (reach-object inArrays d p e))
       (λ r.

@@ -1,28 +1,26 @@
 -- The objects with rest of a pattern: one level of an input pattern at a time.
 -- Assumes nothing.
 use mathlib.Core.Path.{_≡_, refl, sym, ap, ap₂, _∙_, fun-ext}
-use mathlib.Core.Bool.{Bool, true, false, cond, false≢true}
+use mathlib.Core.Bool.{true, cond, false≢true}
 use mathlib.Core.List.{List, []}
 use Prim.Native.Nat.{ℕ, zero, suc, _≤_, max}
 use native.Mathlib.Omega.{arith}
-use Rattle.tree.specs.Tree.{Node, Fields, Piece, Items, depth, depthFields, depthItems}
+use Rattle.tree.specs.Tree.{Node, Fields, Items, depth, depthFields, depthItems}
 use Rattle.tree.specs.Tree.Node.{node}
 use Rattle.tree.specs.Tree.Fields.{done, absent, field}
 use Rattle.tree.specs.Tree.Piece.{one, list}
 use Rattle.lowering.specs.Parts.{nothing, position, is, asNode, pieceIn, standsIn, changeIn, nodeAt, itemsAt, stands, change, onNode, onItems, changeNode, only, each, gather, _+++_}
-use Rattle.lowering.specs.Made.{Context, temporary, keyOf}
-use Rattle.lowering.specs.Patterns.{shape, properties, key, value, hasRest, withItems, withLeft, withValues, replaced, replacedBelow, objectsWithRest, objectsBelow}
+use Rattle.lowering.specs.Made.{Context, temporary}
+use Rattle.lowering.specs.Patterns.{shape, properties, value, hasRest, withItems, withLeft, withValues, replaced, replacedBelow, objectsWithRest, objectsBelow}
 use Rattle.lowering.specs.Patterns.Shape.{objectPattern, arrayPattern, default, leaf}
-use Rattle.lowering.specs.Keys.{keptKey}
 use Rattle.lowering.specs.Declarations.{innerObjects}
 use Rattle.lowering.proofs.Levels.{gather-agrees, node-in, values-agree, objects-nothing, replaced-levels, objects-levels, below-leaf}
 use Rattle.direct.specs.Events.{Emit}
 use Rattle.direct.specs.Emit.{say, _▷_, inTurn}
-use Rattle.direct.specs.Views.{View, takes, objectAt, objectRestAt, nameless, isOther}
+use Rattle.direct.specs.Views.{View, takes, objectAt, objectRestAt, nameless}
 use Rattle.direct.specs.Views.View.{replacing, taking}
 use Rattle.direct.specs.Objects.{objectsIn, overObjects}
 use Rattle.direct.proofs.ListsInTurn.{turn-append, turn-gather, turn-only}
-use Rattle.direct.proofs.ViewedPatterns.{keptKey-is}
 use Rattle.lowering.proofs.ItemLaws.{items-none}
 use Rattle.lowering.proofs.ChangeLaws.{node-on}
 
@@ -40,20 +38,7 @@ pub value-changed : (f : Node → Node) → f nothing ≡ nothing → (q : Node)
 unfolding nodeAt change
 value-changed f h (node at k fs) = field-changed f h fs 1
 
-value-beside : (f : Piece → Piece) (q : Node) → value (change 0 f q) ≡ value q
-unfolding nodeAt change changeIn pieceIn
-value-beside f (node at k done) = refl
-value-beside f (node at k (absent fs)) = refl
-value-beside f (node at k (field p fs)) = refl
-
 module _ (κ : Context) where
-  pub value-kept : (q : Node) → value (keptKey κ q) ≡ value q
-  value-kept q = ap (λ (n : Node). value n) (keptKey-is κ q) ∙ go (isOther (key q))
-    where
-      go : (b : Bool) → value (cond b (changeNode 0 (λ k. keyOf κ q) q) q) ≡ value q
-      go true = value-beside (onNode (λ k. keyOf κ q)) q
-      go false = refl
-
   -- ---- objects that are replaced
 
   found-in : (d : ℕ) (q : Node) → depth q ≤ d → objectsWithRest κ d (value q) ≡ objectsBelow κ (value q)

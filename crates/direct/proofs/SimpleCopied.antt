@@ -29,7 +29,7 @@ unfolding emitsItem say
 item-copied true c n bs h = fun-ext (λ next. ap (λ (f : Emit). f next) (h (marking c (marked next (markHere c n)))))
 item-copied false c n bs h = h c
 
-stays-plain : (c : Place) (at k : ℕ) (fs : Fields) → eqb k 20 ≡ false → eqb k 21 ≡ false
+pub stays-plain : (c : Place) (at k : ℕ) (fs : Fields) → eqb k 20 ≡ false → eqb k 21 ≡ false
     → stays c (node at k fs) ≡ say (puts (k ∷ mapOf fs ∷ [])) ▷ emitsParts (isContainer k) (below c (node at k fs)) fs
 unfolding stays
 stays-plain c at k fs t h = rw (t, h) refl

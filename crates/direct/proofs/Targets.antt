@@ -9,19 +9,20 @@ use Rattle.tree.specs.Tree.Node.{node}
 use Rattle.tree.specs.Tree.Fields.{done, absent, field}
 use Rattle.tree.specs.Tree.Piece.{one, list, text, byte, mark, number}
 use Rattle.lowering.specs.Parts.{nothing, is, pieceIn, changeIn, nodeAt, change, onNode, onItems, changeNode, changeItems, without, each, any}
-use Rattle.lowering.specs.Made.{Context, reference}
+use Rattle.lowering.specs.Made.{Context}
 use Rattle.lowering.specs.Patterns.{shape, properties, itemsOf, rest, hasRest, leftOf, value, withLeft, withItems, withValues, withProperties, hasNestedObjectRest, hasNestedArrayRest, hasObjectRest, hasArrayRestOverObjectRest, replaced, replacedBelow}
 use Rattle.lowering.specs.Patterns.Shape.{objectPattern, arrayPattern, default, leaf}
 use Rattle.lowering.specs.Keys.{keptKey, taken}
 use Rattle.lowering.proofs.Cases.{by-test, by-shape, or-left, or-right}
 use Rattle.lowering.proofs.WeightKeys.{rest-changed}
-use Rattle.lowering.proofs.Levels.{has-levels, array-levels, replaced-levels}
+use Rattle.lowering.proofs.Levels.{has-levels, array-levels, replaced-levels, reference-bare}
 use Rattle.direct.proofs.ViewedPatterns.{value-twice}
-use Rattle.direct.proofs.ObjectsByLevel.{value-changed, value-kept}
+use Rattle.direct.proofs.ObjectsByLevel.{value-changed}
 use Rattle.direct.proofs.DeclarationsByPart.{properties-changed, rest-beside}
 use Rattle.lowering.proofs.ItemLaws.{each-each, any-none}
 use Rattle.lowering.proofs.ChangeLaws.{shape-changed, changeItems-same, changeNode-same, node-on, node-on-twice, items-without}
 use Rattle.lowering.proofs.Clauses.{replaced-plain, replaced-top, replaced-array, replaced-default, replaced-leaf}
+use Rattle.lowering.proofs.SoundKeys.{value-kept}
 
 -- ---- lists and fields
 
@@ -106,11 +107,6 @@ module _ (κ : Context) where
   rep-nothing zero = refl
   rep-nothing (suc d) = refl
 
-  reference-has : (d : ℕ) (p : Node) → hasNestedObjectRest d (reference κ p) ≡ false
-  unfolding hasNestedObjectRest shape
-  reference-has zero p = refl
-  reference-has (suc d) p = refl
-
   -- ---- no object rest below: nothing is replaced
 
   replaced-none : (d : ℕ) (p : Node) → hasNestedObjectRest d p ≡ false → replaced κ d p ≡ p
@@ -157,7 +153,7 @@ module _ (κ : Context) where
       by-shape (shape p)
       (λ e.
       by-test (hasRest p)
-      (λ r. ap (hasNestedObjectRest (suc d)) (replaced-top κ d p e r) ∙ reference-has (suc d) p)
+      (λ r. ap (hasNestedObjectRest (suc d)) (replaced-top κ d p e r) ∙ reference-bare κ p (suc d))
       (λ r.
       let g : Piece → Piece = onItems (each (λ q. changeNode 1 f q)) in
       ap (hasNestedObjectRest (suc d)) (replaced-plain κ d p e r)

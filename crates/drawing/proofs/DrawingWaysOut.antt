@@ -1,26 +1,26 @@
 -- Nodes, fields and lists: one law for each way out of the code that draws them.
 -- Assumes nothing.
-use mathlib.Core.Path.{_≡_, refl, sym, ap, _∙_}
+use mathlib.Core.Path.{_≡_, refl, ap, _∙_}
 use mathlib.Core.Bool.{Bool, true, false, cond}
 use mathlib.Core.List.{List, [], _∷_, _++_}
 use Prim.Native.Nat.{ℕ, zero, suc, _+_, _-_, _*_, _/_, _%_, _<_, _≤_}
 use native.Mathlib.Omega.{arith}
 use lib.Dec.{T, ltb, leb, leb→le}
-use lib.ListN.{length, getD, set, length-set, List·getD-eq-default}
+use lib.ListN.{length, getD, set, length-set}
 use borrow.Author.Tests.{eq-eqb, ne-eqb}
 use Rattle.tree.specs.Tree.{Node, Fields, Piece, Items, wideBytes, encode, encodeFields, encodePiece, encodeItems, mapOf, count}
 use Rattle.tree.specs.Tree.Node.{node}
 use Rattle.tree.specs.Tree.Fields.{absent, field}
-use Rattle.tree.specs.Tree.Piece.{one, list, text, byte, mark, number}
+use Rattle.tree.specs.Tree.Piece.{one, list, byte, mark}
 use Rattle.tree.specs.Tree.Items.{item}
-use Rattle.tree.specs.Grammar.{Sort, Field, formAt, fieldsOf, kinds, variants}
-use Rattle.tree.specs.Grammar.Sort.{child, chosen, many, gaps}
+use Rattle.tree.specs.Grammar.{Field, formAt, fieldsOf, kinds, variants}
 use Rattle.tree.specs.Grammar.Stage.{input}
 use Rattle.tree.specs.Read.{sortIn}
 use Rattle.tree.specs.Rows.{fieldOf, fieldsIn, sortFrom, sortOf}
 use Rattle.tree.specs.WellFormed.{byteIn}
 use Rattle.tree.proofs.Table.{both, both-left, both-right}
-use Rattle.tree.proofs.GrammarRows.{NoKey, no-key, row-done, row-first, first-sort}
+use Rattle.tree.proofs.GrammarRows.{NoKey, row-done, row-first, first-sort}
+use Rattle.tree.proofs.ReaderCycle.{other-class}
 use Rattle.drawing.specs.Xorshift.{step}
 use Rattle.drawing.specs.Draw.{Drawn, mapped, joined, before, ends, kindAt, stateAt, standsAt, settledState, drawItems, drawList, drawNumber, drawField, drawFields, drawNode}
 use Rattle.drawing.specs.Draw.Drawn.{drawn}
@@ -107,11 +107,6 @@ module _ (r : ℕ → ℕ → ℕ → Drawn Node) where
   items-end (suc n) l h p v = absurd (omega arith)
 
 -- ---- a field by its code
-
-other-class : (class a : ℕ) → NoKey Unit 1 9 class → Sort.number ≡ sortFrom class a
-other-class zero a h = refl
-other-class (suc c) a h =
-    sym (List·getD-eq-default (Sort.number ∷ child a ∷ chosen a (a + 1) ∷ many a ∷ gaps a ∷ Sort.text ∷ Sort.mark ∷ Sort.byte 0 a ∷ Sort.byte 1 a ∷ Sort.byte 2 a ∷ []) Sort.number {n = suc c} (no-key Unit 1 9 (suc c) h (omega arith)))
 
 module _ (r : ℕ → ℕ → ℕ → ℕ → Drawn Node) (deep : Bool) (code v : ℕ) (l : List ℕ) (at s b k : ℕ) (q : Page) where
   -- the field of a code whose class is n

@@ -1,7 +1,7 @@
 -- The code's tables of kinds are what the grammar works out to, at each of their entries by one test that antt computes.
 -- Assumes nothing.
 use mathlib.Core.Path.{_≡_, refl, sym}
-use mathlib.Core.Bool.{Bool, true, false, cond}
+use mathlib.Core.Bool.{Bool}
 use mathlib.Core.List.{List, [], _∷_}
 use Prim.Native.Nat.{ℕ, zero, suc, _+_, _<_, _≤_}
 use native.Mathlib.Omega.{arith}
@@ -9,9 +9,8 @@ use native.Mathlib.Decide.{decLt}
 use lib.Dec.{T, eqb, eqb→eq, ltb, ltb→lt}
 use lib.ListN.{length, getD, List·getD-eq-default}
 use Rattle.tree.specs.Grammar.{formAt, fieldsOf, kinds, variants, places, allowed, formIn, kindOf}
-use Rattle.tree.specs.Grammar.Stage.{input}
 use Rattle.tree.proofs.Table.{both, both-left, both-right, every, at, below, below-at}
-use Rattle.tree.proofs.GrammarRows.{no-place}
+use Rattle.tree.proofs.GrammarRows.{no-form}
 use Rattle.drawing.specs.Draw.{rising, kindsFrom, shortest, leastKind, leastOf, kindBytes, formBytes, sortBytes, bytesWithin, betterFrom, unknowns}
 
 unfoldable pub counts : List ℕ
@@ -28,18 +27,10 @@ least = 1 ∷ 11 ∷ 11 ∷ 23 ∷ 5 ∷ 2 ∷ 10 ∷ 15 ∷ 16 ∷ 16 ∷ 22 �
 
 -- ---- past the last place
 
-none-stands : (p k : ℕ) → 26 ≤ p → formAt input p k ≡ 0
-unfolding formAt formIn
-none-stands p k h = rw (no-place p h) (same (ltb k 64))
-  where
-    same : (b : Bool) → _≡_ {A = ℕ} (cond b 0 0) 0
-    same true = refl
-    same false = refl
-
 no-kinds-from : (p n k : ℕ) → 26 ≤ p → kindsFrom p n k ≡ []
 unfolding kindsFrom
 no-kinds-from p zero k h = refl
-no-kinds-from p (suc n) k h = rw (none-stands p k h) (no-kinds-from p n (suc k) h)
+no-kinds-from p (suc n) k h = rw (no-form p k h) (no-kinds-from p n (suc k) h)
 
 pub no-rising : (p : ℕ) → 26 ≤ p → rising p ≡ []
 unfolding rising

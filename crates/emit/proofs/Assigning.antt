@@ -20,7 +20,8 @@ use Rattle.lowering.specs.Patterns.Shape.{leaf}
 use Rattle.lowering.specs.Keys.{keysRefusal}
 use Rattle.lowering.specs.Assignments.{target, isTop, topRefusal}
 use Rattle.lowering.proofs.All.{AllItems}
-use Rattle.lowering.proofs.Cases.{by-test, and-left, and-right, by-number}
+use Rattle.lowering.proofs.Cases.{by-test, by-number}
+use Rattle.lowering.proofs.Clauses.{top-34, top-rest}
 use Rattle.sink.specs.Machine.Event.{temporary}
 use Rattle.pattern.specs.declared.source.ReferenceBuilder.{ReferenceBuilder}
 use Rattle.pattern.specs.Source.{Given, builderOf, readOf, placeRead, afterRead}
@@ -41,7 +42,7 @@ use Rattle.direct.proofs.Threads.{say-say}
 use Rattle.direct.proofs.ViewedPatterns.{says-cell}
 use Rattle.direct.proofs.Tests.{over-object-at}
 use Rattle.direct.proofs.NearestObjects.{parts-reached, over-parts, over-arrays, over-anywhere}
-use Rattle.direct.proofs.AssignmentsByPart.{assignment-refused-5, assignment-refused-keys, assignment-stays, assignment-nested, assignment-top, target-nested, target-kept, rest-done, inner-refused, inner-done}
+use Rattle.direct.proofs.AssignmentsByPart.{assignment-refused-5, assignment-refused-keys, assignment-stays, assignment-nested, assignment-top, target-nested, target-kept, rest-done, inner-refused, inner-done, rest-top}
 use Rattle.walk.specs.declared.modes.Deep.the-variants.{Reached}
 use Rattle.walk.specs.declared.modes.Mode.the-variants as modes
 use Rattle.walk.specs.declared.views.View as views
@@ -55,10 +56,12 @@ use Rattle.walk.proofs.Running.{does-then, does-as, does-to, clear-after, clear
 use Rattle.walk.proofs.KeysOnceFull as walked
 use Rattle.walk.proofs.KeysOnceFull.{source-quiet, target-again}
 use Rattle.walk.proofs.SpreadArguments.{does-from}
-use Rattle.emit.proofs.MovedPatterns.{cell-one, as-refused}
+use Rattle.emit.proofs.MovedPatterns.{as-refused}
 use Rattle.walk.proofs.ListTurns.{deep-reached, turns-value-reached, suit-value-reached}
 use Rattle.walk.proofs.Lookups.{cell-within}
 use Rattle.walk.proofs.Opened.{ObjectOpen, AssignmentOpen, object-open, assignment-open, no-good, is-here, position-here, good-short, good-within}
+use Rattle.walk.proofs.HandRules.{view-taking, view-replacing}
+use Rattle.outcome.proofs.PotentialRules.{cell-1}
 
 -- ---- the same at another place, level and position
 
@@ -73,15 +76,6 @@ CellIs z stem at = z ≡ cellAt stem at
 cell-says : {g g′ : Going} (z stem at : ℕ) → z ≡ cell stem at → Does g g′ (say (does (temporary z stem) ∷ [])) → Does g g′ (saysCell stem at)
 unfolding saysCell
 cell-says z stem at e d = does-as d (ap (λ (x : ℕ). say (does (temporary x stem) ∷ [])) e)
-
--- the views
-view-taking : (v : views.View) → v ≡ Taking → viewOf v ≡ taking
-unfolding viewOf
-view-taking v e = rw e refl
-
-view-replacing : (v : views.View) → v ≡ Replacing → viewOf v ≡ replacing
-unfolding viewOf
-view-replacing v e = rw e refl
 
 -- the head of a sequence
 sequence-says : {g g₁ g₂ : Going} (k m : ℕ) → k ≡ m → m < 65536 → Does g g₁ (say (puts (28 ∷ 1 ∷ []))) → (k < 65536 → Does g₁ g₂ (say (puts (wideBytes k)))) → Does g g₂ (say (puts (28 ∷ 1 ∷ wideBytes m)))
@@ -202,7 +196,7 @@ module _ (t : List ℕ) where
   given-is : (c : Place) (d x : ℕ) (input : Bool) → emits c (givenNode t d input x) ≡ givenDeeds t d c input 1 x
   unfolding givenDeeds saysCell
   given-is c d x true = refl
-  given-is c d x false = says-cell c [] 1 x ∙ ap (λ (z : ℕ). say (does (temporary z 1) ∷ [])) (cell-one x)
+  given-is c d x false = says-cell c [] 1 x ∙ ap (λ (z : ℕ). say (does (temporary z 1) ∷ [])) (cell-1 x)
 
   -- ---- the rest of an object, from a temporary
 
@@ -453,10 +447,6 @@ module _ (t : List ℕ) where
 
   -- ---- an assignment
 
-  rest-top : (at : ℕ) (ps : Items) (r : Node) → isTop (objectRestAt at ps r) ≡ true
-  unfolding isTop is stands standsIn
-  rest-top at ps r = refl
-
   -- wherever it stands: of a target that is an object with rest
   top-is : (c : Place) (at op pat : ℕ) (ps : Items) (r x : Node) → hasArrayRestOverObjectRest (objectRestAt pat ps r) ≡ false
       → emits c (assignmentAt at op (objectRestAt pat ps r) x)
@@ -489,14 +479,6 @@ module _ (t : List ℕ) where
       go true = refl
       go false = refl
 
-  top-kind : (n : Node) → isTop n ≡ true → is 34 n ≡ true
-  unfolding isTop
-  top-kind n h = and-left (is 34 n) (hasRest n) h
-
-  top-rest : (n : Node) → isTop n ≡ true → hasRest n ≡ true
-  unfolding isTop
-  top-rest n h = and-right (is 34 n) (hasRest n) h
-
   -- its position plays no part
   any-place : (c : Place) (at op d p : ℕ) (x : Node) → Good t d p → hasArrayRestOverObjectRest (lookNode t d p .value) ≡ false → hasObjectRest (lookNode t d p .value) ≡ true
       → emits c (assignmentAt 0 op (lookNode t d p .value) x) ≡ emits c (assignmentAt at op (lookNode t d p .value) x)
@@ -504,7 +486,7 @@ module _ (t : List ℕ) where
       let n = lookNode t d p .value in
       by-test (isTop n)
       (λ b.
-      let r : RestHere d (d - 1) p = rest-here d p g (kind-34 d p g (top-kind n b)) (top-rest n b) in
+      let r : RestHere d (d - 1) p = rest-here d p g (kind-34 d p g (top-34 n b)) (top-rest n b) in
       let ps = listAt (d - 1) p .value in
       let y = restNode (d - 1) p in
       rw (r .whole) (let h′ : hasArrayRestOverObjectRest (objectRestAt p ps y) ≡ false = ap (λ (m : Node). hasArrayRestOverObjectRest m) (sym (r .whole)) ∙ h in top-is c 0 op p ps y x h′ ∙ sym (top-is c at op p ps y x h′)))

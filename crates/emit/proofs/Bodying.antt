@@ -10,13 +10,13 @@ use lib.Dec.{eqb}
 use borrow.Author.Tests.{eq-eqb, eqb-true, eqb-false}
 use Rattle.tree.specs.Tree.{Node, Fields, Items, wideBytes, mapOf, count}
 use Rattle.tree.specs.Tree.Node.{node}
-use Rattle.tree.specs.Grammar.{Sort, fieldsOf, kinds}
+use Rattle.tree.specs.Grammar.{fieldsOf, kinds}
 use Rattle.tree.specs.Read.{byteAt, wideAt}
 use Rattle.tree.specs.Rows.{sortOf}
-use Rattle.tree.specs.Look.{Seen, onward, lookItems, lookField, lookSlot, lookFields, lookNode}
+use Rattle.tree.specs.Look.{Seen, onward, lookItems, lookField, lookSlot, lookNode}
 use Rattle.tree.specs.Answer.{Peeked, Wide}
 use Rattle.tree.proofs.Look.{on-within}
-use Rattle.lowering.specs.Parts.{is, pieceIn, standsIn, itemsAt, stands, each, gather, any}
+use Rattle.lowering.specs.Parts.{is, pieceIn, itemsAt, stands, each, gather, any}
 use Rattle.lowering.specs.Heads.{isMoved, movedFrom}
 use Rattle.lowering.proofs.Cases.{by-test, and-none}
 use Rattle.sink.specs.Machine.{part}
@@ -30,7 +30,8 @@ use Rattle.direct.proofs.Threads.{then-assoc, say-nothing, say-say}
 use Rattle.direct.proofs.OneLevel.{emits-unchanged}
 use Rattle.direct.proofs.RulesKeep.{function-kept, arrow-kept}
 use Rattle.direct.proofs.Bodies.{emits-body-in, emits-directed-in, emits-return-in}
-use Rattle.direct.proofs.HeadRules.{emits-function, emits-arrow}
+use Rattle.direct.proofs.HeadRules.{emits-function, emits-arrow, function-params}
+use Rattle.direct.proofs.SimpleCopied.{mark-bytes}
 use Rattle.walk.specs.declared.modes.Mode.the-variants as modes
 use Rattle.walk.specs.Run.{Going, Does}
 use Rattle.walk.specs.Whole.{slotDeeds, GoodItems, GoodList, GoodField, GoodSlot, Good, Ruled}
@@ -41,8 +42,8 @@ use Rattle.walk.proofs.SpreadArguments.{does-from}
 use Rattle.walk.proofs.Opened.{kind-byte, look-solid, ListOpen, BodyOpen, FunctionOpen, ArrowOpen, body-open, function-open, arrow-open, no-good, is-here, good-two}
 use Rattle.walk.proofs.ListTurns.{turns-binding, suit-binding}
 use Rattle.emit.proofs.MovesFit.{part-join, on-more, moves-within, moves-whole, count-within}
-use Rattle.emit.proofs.MovedPatterns.{marks-own, inner-place, scoped-place, kind-not, look-as, good-as, node-as, stands-as, slot-on, slot-off, Through, Slotted, Backed}
-use Rattle.pattern.proofs.Fields.{bit-stands}
+use Rattle.emit.proofs.MovedPatterns.{inner-place, scoped-place, kind-not, look-as, good-as, node-as, stands-as, slot-on, slot-off, Through, Slotted, Backed}
+use Rattle.pattern.proofs.Fields.{standsBy, fields-stand}
 
 module _ (t : List ℕ) where
   -- ---- the directives of a body: a list by its bit
@@ -216,22 +217,12 @@ module _ (t : List ℕ) where
 
   -- ---- functions
 
-  slot-later : (R : ℕ → Seen Node) (s : Sort) (bit at : ℕ) (fs : Fields) (i : ℕ) → standsIn (lookSlot t R s bit at .value fs) (suc i) ≡ standsIn fs i
-  unfolding lookSlot standsIn
-  slot-later R s zero at fs i = refl
-  slot-later R s (suc bit) at fs i = refl
-
   body-stands : (d at : ℕ) → byteAt t at ≡ 14 → stands 5 (lookNode t (suc d) at .value) ≡ eqb (byteAt t (onward t at 1) / 32 % 2) 1
-  unfolding lookNode stands lookFields fieldsOf kinds
+  unfolding lookNode stands fieldsOf kinds standsBy
   body-stands d at k =
       let m : ℕ = byteAt t (onward t at 1) in
       let e : m / 2 / 2 / 2 / 2 / 2 % 2 ≡ m / 32 % 2 = omega arith in
-      rw k (slot-later _ _ _ _ _ _ ∙ slot-later _ _ _ _ _ _ ∙ slot-later _ _ _ _ _ _ ∙ slot-later _ _ _ _ _ _ ∙ slot-later _ _ _ _ _ _ ∙ bit-stands t _ _ _ _ _ (omega arith) ∙ ap (λ (x : ℕ). eqb x 1) e)
-
-  function-params : (at m sort : ℕ) (name : Option Node) (qs : Items) (rest : Option Node) (b : Node) → itemsAt 3 (node at 14 (functionFields m sort name qs rest b)) ≡ qs
-  unfolding itemsAt pieceIn
-  function-params at m sort Option.none qs rest b = refl
-  function-params at m sort (Option.some n) qs rest b = refl
+      rw k (fields-stand t (λ q. lookNode t d q) (fieldsOf 14) m (onward t at 2) 5 ∙ ap (λ (x : ℕ). eqb x 1) e)
 
   -- without a pattern that is moved out, or without a body
   pub unmoved : (d at : ℕ) (b : Bool) → b ≡ any isMoved (itemsAt 3 (lookNode t d at .value)) → b ≡ false → stands 5 (lookNode t d at .value) && any isMoved (itemsAt 3 (lookNode t d at .value)) ≡ false
@@ -283,10 +274,10 @@ module _ (t : List ℕ) where
         let b : Node = lookNode t d written .value in
         let fs : Fields = functionFields m sort name qs rest b in
         let value : lookNode t (suc d) at .value ≡ node at 14 fs = ap (λ (x : Seen Node). x .value) (op .whole) in
-        let some : any isMoved qs ≡ true = ap (λ (x : Items). any isMoved x) (sym (function-params at m sort name qs rest b) ∙ ap (itemsAt 3) (sym value)) ∙ h in
+        let some : any isMoved qs ≡ true = ap (λ (x : Items). any isMoved x) (sym (function-params m sort at name qs rest b) ∙ ap (itemsAt 3) (sym value)) ∙ h in
         let map : byteAt t (onward t at 1) ≡ mapOf fs = op .map in
         let head : puts (part at (onward t at 5) t) ≡ puts (14 ∷ mapOf fs ∷ []) ++ (marks m ++ puts (sort ∷ [])) =
-        ap puts (op .head ∙ ap (λ (x : ℕ). 14 ∷ x ∷ wideBytes m ++ (sort ∷ [])) map) ∙ ap (λ (x : List Deed). puts (14 ∷ mapOf fs ∷ []) ++ (x ++ puts (sort ∷ []))) (sym (marks-own m (op .marked))) in
+        ap puts (op .head ∙ ap (λ (x : ℕ). 14 ∷ x ∷ wideBytes m ++ (sort ∷ [])) map) ∙ ap (λ (x : List Deed). puts (14 ∷ mapOf fs ∷ []) ++ (x ++ puts (sort ∷ []))) (sym (mark-bytes m (op .marked))) in
         let body : Emit = emits (scoped c) (bodyIn (gather movedFrom qs) b) in
         ap₂ (λ (x : List Deed) (y : Emit). say (makes (gather movedFrom qs)) ▷ say x ▷ y ▷ say (puts (part params (onward t params 2) t)) ▷ turnsOf modes.Binding (scoped c) qs ▷ slotDeeds t (lookNode t d) false (scoped c) (sortOf 32) (byteAt t (onward t at 1) / 16 % 2) (bound .next) ▷ body)
         head (given-deeds (scoped c) d (byteAt t (onward t at 1) / 4 % 2) (onward t at 5) (omega arith))

@@ -46,7 +46,7 @@ use Rattle.direct.specs.Declared.{declarationAt, emitsKeyValue, emitsOwnKeys, e
 use Rattle.direct.proofs.Threads.{then-assoc, say-nothing, say-say, say-puts}
 use Rattle.direct.proofs.OneLevel.{emits-nowhere}
 use Rattle.direct.proofs.ListsInTurn.{turn-same}
-use Rattle.direct.proofs.DeclarationsByPart.{pattern-object, pattern-array, declaration-refused, declaration-done}
+use Rattle.direct.proofs.DeclarationsByPart.{pattern-object, pattern-array, declaration-refused, declaration-done, items-at}
 use Rattle.direct.proofs.DirectWaysOut.{declarator-lowered, declarator-left, lowered-name, lowered-value, own-keys-none, own-keys-some, own-pattern-none, own-pattern-some, own-rest-none, own-rest-some}
 use Rattle.walk.specs.declared.modes.Deep.the-variants.{Found}
 use Rattle.walk.specs.declared.modes.Mode.the-variants as modes
@@ -92,10 +92,6 @@ first-part at k p v = refl
 second-part : (at k : ℕ) (p v : Node) → nodeAt 1 (node at k (field (one p) (field (one v) done))) ≡ v
 unfolding nodeAt pieceIn
 second-part at k p v = refl
-
-declarators-at : (at m b : ℕ) (ds : Items) → itemsAt 2 (declarationAt at m b ds) ≡ ds
-unfolding itemsAt pieceIn
-declarators-at at m b ds = refl
 
 count-is : (c : Place) (ds : Items) → declaratorCount c ds ≡ count (gather (declarators (contextOf c)) ds)
 unfolding declaratorCount
@@ -524,7 +520,7 @@ module _ (t : List ℕ) where
         let goods : GoodItems t (lookNode t e) (Good t e) false false n f = rw (nn, ff) (o .list .good) in
         let kinds-are : AllItems (λ y. is 5 y ≡ true) ds = rw (nn, ff) (o .declarators) in
         let whole : w ≡ declarationAt at m x ds = rw (h, nn, ff) (ap (λ (y : Seen Node). y .value) (o .whole)) in
-        let ds-are : itemsAt 2 w ≡ ds = ap (itemsAt 2) whole ∙ declarators-at at m x ds in
+        let ds-are : itemsAt 2 w ≡ ds = ap (itemsAt 2) whole ∙ items-at at m x ds in
         let short : length (encode w) ≤ 16384 = good-short t d at good in
         let fit : count (gather (declarators (contextOf c)) (itemsAt 2 w)) ≤ length (encode w) = declarations-fit (contextOf c) 2 w in
         let k-is : k ≡ count (gather (declarators (contextOf c)) (itemsAt 2 w)) = counts (contextOf c) ∙ counted-whole _ (length (encode w)) fit short in

@@ -37,12 +37,13 @@ use Rattle.direct.proofs.Threads.{then-nothing, say-say, puts-append}
 use Rattle.direct.proofs.StatementMarks.{emits-statement}
 use Rattle.direct.proofs.HeadShapes.{forIn-fits, forOf-fits, statement-24, statement-27, statement-fits}
 use Rattle.direct.proofs.HeadRules as rules
-use Rattle.direct.proofs.HeadRules.{no-more, awaits-not, emits-catch-list, emits-declaring-head, emits-refused-head, emits-assigning-head}
+use Rattle.direct.proofs.HeadRules.{no-more, awaits-not, emits-catch-list, emits-declaring-head, emits-refused-head, emits-assigning-head, loop-rule as rule-of}
 use Rattle.direct.proofs.OneLevel.{emits-unchanged}
 use Rattle.direct.proofs.RulesKeep.{catch-kept, declaring-kept, assigning-kept}
 use Rattle.direct.proofs.MadeNodes.{newDeclaration, say-then, more-statements, emits-new-block}
 use Rattle.direct.proofs.Fronts.{emits-in-front, count-in-front, marked-own}
 use Rattle.direct.proofs.Bodies.{emits-assigned, emits-block-in, emits-empty-in, emits-target-block, emits-target-empty}
+use Rattle.direct.proofs.SimpleCopied.{mark-bytes}
 use Rattle.walk.specs.declared.modes.Mode.the-variants as modes
 use Rattle.walk.specs.Run.{Going, Does}
 use Rattle.walk.specs.Whole.{holeAt, itemDeeds, GoodItem, GoodItems, GoodField, GoodSlot, GoodFields, Good}
@@ -50,11 +51,12 @@ use Rattle.walk.specs.Turns.{turnsOf, AllSuit, AllBind, movesOf, awaits, givenN
 use Rattle.walk.proofs.Running.{does-then, does-as, does-to, does-fresh}
 use Rattle.walk.proofs.RefusalsWithoutMarks.{agree-say, agree-then, agree-unused}
 use Rattle.walk.proofs.SpreadArguments.{does-from}
-use Rattle.emit.proofs.MovedPatterns.{marks-own, scoped-place, cell-one}
+use Rattle.emit.proofs.MovedPatterns.{scoped-place}
 use Rattle.walk.proofs.Opened.{look-solid, CatchOpen, LoopOpen, no-good, is-here, position-here, good-fits, good-room, declaration-open, block-open, catch-open, for-in-open, for-of-open}
 use Rattle.emit.proofs.MovesFit.{moves-within, moves-whole, count-within, part-join, on-more}
 use Rattle.walk.proofs.ListTurns.{turns-binding, suit-binding, suit-binding-declarators}
 use Rattle.direct.specs.Views.{nameless}
+use Rattle.outcome.proofs.PotentialRules.{cell-1}
 
 module _ (t : List ℕ) where
   -- ---- ags
@@ -80,7 +82,7 @@ module _ (t : List ℕ) where
 head-counted : (m n k : ℕ) (bs : List ℕ) → bs ≡ 2 ∷ 3 ∷ wideBytes m → 0 < m → n ≡ k → puts bs ++ puts (wideBytes n) ≡ puts (2 ∷ 3 ∷ []) ++ (marks m ++ puts (wideBytes k))
 head-counted m n k bs e h f =
     ap (λ (x : List ℕ). puts x ++ puts (wideBytes n)) e
-    ∙ ap₂ (λ (x : List Deed) (y : ℕ). puts (2 ∷ 3 ∷ []) ++ (x ++ puts (wideBytes y))) (sym (marks-own m h)) f
+    ∙ ap₂ (λ (x : List Deed) (y : ℕ). puts (2 ∷ 3 ∷ []) ++ (x ++ puts (wideBytes y))) (sym (mark-bytes m h)) f
 
 -- a statement that becomes the last of a new Block
 emits-last : (c : Place) (n : Node) → emitsItems true c (only n) ≡ emitsItem true c n
@@ -471,7 +473,7 @@ module _ (t : List ℕ) where
   loop-head d at s =
       let m : ℕ = wideAt t (onward t at 2) in
       ap (λ (bs : List ℕ). puts bs) (s .seen .head)
-      ∙ ap₂ (λ (x : ℕ) (ds : List Deed). puts (s .sort ∷ x ∷ []) ++ ds) (s .seen .map) (sym (marks-own m (s .seen .marked)))
+      ∙ ap₂ (λ (x : ℕ) (ds : List Deed). puts (s .sort ∷ x ∷ []) ++ ds) (s .seen .map) (sym (mark-bytes m (s .seen .marked)))
 
   -- ---- dhd
 
@@ -489,7 +491,7 @@ module _ (t : List ℕ) where
       ap (λ (bs : List ℕ). puts bs)
       (part-join q s (onward t s 2) t (on-more t q 5 inside) (on-more t s 2 (on-within t q 5))
       ∙ ap₂ (λ (x y : List ℕ). x ++ y) (o .head) (o .list .head))
-      ∙ ap₂ (λ (ds : List Deed) (x : ℕ). puts (4 ∷ 7 ∷ []) ++ (ds ++ puts (sort ∷ wideBytes x))) (sym (marks-own m (o .marked))) (sym (o .list .many))
+      ∙ ap₂ (λ (ds : List Deed) (x : ℕ). puts (4 ∷ 7 ∷ []) ++ (ds ++ puts (sort ∷ wideBytes x))) (sym (mark-bytes m (o .marked))) (sym (o .list .many))
 
   -- the places of the declarators
   abbrev declaratorsAt : ℕ → ℕ
@@ -632,7 +634,7 @@ module _ (t : List ℕ) where
     -- `var` and the temporary
     var-bytes : say (declarationHead 1 1) ▷ say (puts (5 ∷ 1 ∷ [])) ▷ say (does (Event.temporary (onward t at 4) 1) ∷ []) ≡ say ((newDeclaration 1 ++ puts (5 ∷ 1 ∷ [])) ++ stand (position target))
     var-bytes =
-        ap (λ (x : ℕ). say (declarationHead 1 1) ▷ say (puts (5 ∷ 1 ∷ [])) ▷ say (does (Event.temporary x 1) ∷ [])) (sym (cell-one (onward t at 4)))
+        ap (λ (x : ℕ). say (declarationHead 1 1) ▷ say (puts (5 ∷ 1 ∷ [])) ▷ say (does (Event.temporary x 1) ∷ [])) (sym (cell-1 (onward t at 4)))
         ∙ ap (λ (x : ℕ). say (declarationHead 1 1) ▷ say (puts (5 ∷ 1 ∷ [])) ▷ say (stand x)) (sym (position-here t d (onward t at 4)))
         ∙ say-then (newDeclaration 1) (puts (5 ∷ 1 ∷ [])) (say (stand (position target)))
         ∙ say-say (newDeclaration 1 ++ puts (5 ∷ 1 ∷ [])) (stand (position target))
@@ -650,7 +652,7 @@ module _ (t : List ℕ) where
         let made : ℕ → Emit = λ x. say (does (Event.make x) ∷ []) in
         ap₂ (λ (x y : Emit). made (onward t at 4) ▷ say (puts (part at (onward t at 4) t)) ▷ x ▷ right ▷ emits (scoped c) (targetIn target b) ▷ y) var-bytes (behind-body (scoped c) d at v)
         ∙ ap₂ (λ (x : ℕ) (ds : List Deed). made x ▷ say ds ▷ say ((newDeclaration 1 ++ puts (5 ∷ 1 ∷ [])) ++ stand (position target)) ▷ right ▷ emits (scoped c) (targetIn target b) ▷ emitsFields false (scoped c) (v .seen .more))
-        (sym (ap (λ (x : ℕ). cell 1 x) (position-here t d (onward t at 4)) ∙ cell-one (onward t at 4))) (loop-head d at v)
+        (sym (ap (λ (x : ℕ). cell 1 x) (position-here t d (onward t at 4)) ∙ cell-1 (onward t at 4))) (loop-head d at v)
         ∙ sym (emits-assigning-head c at (v .loop) m target (lookNode t d (rightAt d at) .value) b (v .seen .more) (target-four four) na ob)
         ∙ ap (λ (z : Node). emits c z) (sym (v .seen .whole))
 
@@ -688,11 +690,6 @@ module _ (t : List ℕ) where
       (assigning-law c d at good′ v four na′ ob′))
 
   -- ---- head
-
-  rule-of : {k : ℕ} → Loop k → ruleOf k ≡ fors
-  unfolding ruleOf
-  rule-of Loop.forIn = refl
-  rule-of Loop.forOf = refl
 
   loop-rule : (d at : ℕ) → LoopSeen d at → ruleOf (kind (lookNode t (suc d) at .value)) ≡ fors
   loop-rule d at v = ap (λ (z : Node). ruleOf (kind z)) (v .seen .whole) ∙ rule-of (v .loop)

@@ -30,7 +30,7 @@ use Rattle.sink.specs.Machine.Event.{temporary}
 use Rattle.pattern.specs.Tally.{limited}
 use Rattle.pattern.proofs.MovesCounted.{any-none}
 use Rattle.pattern.proofs.CountsFit.{counted-whole, pattern-small}
-use Rattle.direct.specs.Events.{Place, Emit, puts, cell, marks, refused, contextOf, emits}
+use Rattle.direct.specs.Events.{Place, Emit, puts, marks, refused, contextOf, emits}
 use Rattle.direct.specs.Events.Deed.{does, refuses}
 use Rattle.direct.specs.Emit.{say, _▷_, inner, scoped, marking, emitsStatement, emitsPiece, inTurn}
 use Rattle.direct.specs.Views.View.{replacing, taking}
@@ -60,14 +60,9 @@ use Rattle.walk.proofs.Opened.{ArrayOpen, BinderOpen, array-open, default-open,
 use Rattle.walk.proofs.ListTurns.{turns-moved-out, suit-moved-out}
 use Rattle.lowering.proofs.Clauses.{has-leaf-at}
 use Rattle.direct.proofs.ListsInTurn.{turn-only}
+use Rattle.outcome.proofs.PotentialRules.{cell-1}
 
 -- ---- states and places
-
--- a mark that stands
-pub marks-own : (m : ℕ) → 0 < m → marks m ≡ puts (wideBytes m)
-unfolding marks
-marks-own zero h = absurd (omega arith)
-marks-own (suc m) h = refl
 
 -- a scope's place
 pub scoped-place : (c c′ : Place) → c′ ≡ scoped c → c′ ≡ scoped c′
@@ -80,12 +75,8 @@ inner-place c e = ap inner e ∙ inner-scoped c ∙ sym e
 place-as : (c c′ : Place) → c′ ≡ c → c ≡ scoped c → c′ ≡ scoped c′
 place-as c c′ e s = e ∙ s ∙ ap scoped (sym e)
 
-pub cell-one : (at : ℕ) → cell 1 at ≡ at
-unfolding cell
-cell-one at = omega arith
-
 stand-is : (at : ℕ) → say (does (temporary at 1) ∷ []) ≡ say (stand at)
-stand-is at = ap (λ (x : ℕ). say (does (temporary x 1) ∷ [])) (sym (cell-one at))
+stand-is at = ap (λ (x : ℕ). say (does (temporary x 1) ∷ [])) (sym (cell-1 at))
 
 -- ---- lists in two halves
 
@@ -350,9 +341,6 @@ module _ (t : List ℕ) where
   Slotted code bit d at q g g′ l c =
       (q ≡ lookSlot t (lookNode t d) (sortOf code) bit at .next)
       × (GoodSlot t (lookNode t d) (Good t d) l (sortOf code) bit at → Does g g′ (slotDeeds t (lookNode t d) l c (sortOf code) bit at))
-
-  slot-as : (e d y x bit : ℕ) → e ≡ d → y ≡ x → lookSlot t (lookNode t e) (sortOf 32) bit y ≡ lookSlot t (lookNode t d) (sortOf 32) bit x
-  slot-as e d y x bit a b = rw (a, b) refl
 
   pub bind-kept : {g g′ : Going} (c : Place) (d l at q x : ℕ) (b : Bool) → l ≡ d - 1 → q ≡ onward t at 2 → b ≡ hasObjectRest (lookNode t l q .value) → b ≡ false
       → Ruled t d at x g g′ (emits c) → eqb (byteAt t at) 15 || eqb (byteAt t at) 5 ≡ true → Emitted t d at x g g′ (λ n. emits c (behind n))

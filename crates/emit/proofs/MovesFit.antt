@@ -20,7 +20,8 @@ use Rattle.pattern.proofs.CountsFit.{limited-is, from-fits}
 use Rattle.direct.specs.Moved.{number}
 use Rattle.direct.proofs.MovedMade.{number-item, number-empty}
 use Rattle.walk.specs.Whole.{holeAt, GoodItems, Good}
-use Rattle.walk.proofs.Opened.{encode-two, good-next, good-end}
+use Rattle.walk.proofs.Opened.{good-next, good-end}
+use Rattle.tree.proofs.EncodedLengths.{count-short}
 
 -- ---- how many patterns are moved out
 
@@ -43,16 +44,6 @@ gather-small f h (Items.item n is) =
     let a = number-item f n is in
     let b = h n in
     let c = gather-small f h is in
-    let e = length-append (encode n) (encodeItems is) in
-    omega arith
-
-count-small : (is : Items) → count is ≤ length (encodeItems is)
-unfolding count encodeItems
-count-small Items.none = omega arith
-count-small (Items.hole is) = let a = count-small is in omega arith
-count-small (Items.item n is) =
-    let a = count-small is in
-    let b = encode-two n in
     let e = length-append (encode n) (encodeItems is) in
     omega arith
 
@@ -123,6 +114,6 @@ module _ (t : List ℕ) where
   pub count-within : (d : ℕ) (l : Bool) (n at : ℕ) → GoodItems t (lookNode t d) (Good t d) l false n at → n ≤ 16384
   count-within d l n at g =
       let a = items-within d l n at g in
-      let b = count-small (lookItems t (lookNode t d) false n at .value) in
+      let b = count-short (lookItems t (lookNode t d) false n at .value) in
       let c = items-count t d false n at in
       omega arith

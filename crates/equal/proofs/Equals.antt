@@ -29,10 +29,6 @@ pub equal-equivalence : Equivalence Equal
 unfolding Equal
 equal-equivalence = record { self = λ a. refl; turned = λ a b e. sym e; carries = λ a b c e f. e ∙ f }
 
-pub equal-before-equivalence : Equivalence EqualBefore
-unfolding EqualBefore
-equal-before-equivalence = record { self = λ a. refl; turned = λ a b e. sym e; carries = λ a b c e f. e ∙ f }
-
 pub equal-written-equivalence : Equivalence EqualWritten
 equal-written-equivalence =
     record {

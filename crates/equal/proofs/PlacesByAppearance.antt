@@ -14,9 +14,26 @@ use Rattle.lowering.proofs.Cases.{by-test}
 use Rattle.equal.specs.Canonical.{placeOf}
 use Rattle.equal.specs.Renaming.{KeepsApart}
 
--- ---- things in lists
-
 -- ---- places of things that a test tells apart
+
+module _ {A : Type 0} (alike : A → A → Bool) where
+  pub number-most : (from : ℕ) (xs : List A) (a : A) → numberIn alike from xs a ≤ from + length xs
+  unfolding numberIn
+  number-most from [] a = omega arith
+  number-most from (x ∷ xs) a =
+      by-test (alike a x) (λ t. rw t (omega arith)) (λ t. rw t (let h = number-most (suc from) xs a in omega arith))
+
+  length-except : (a : A) (xs : List A) → length (except alike a xs) ≤ length xs
+  unfolding except
+  length-except a [] = omega arith
+  length-except a (x ∷ xs) =
+      let h = length-except a xs in
+      by-test (alike a x) (λ t. rw t (omega arith)) (λ t. rw t (omega arith))
+
+  pub length-distinct : (xs : List A) → length (distinct alike xs) ≤ length xs
+  unfolding distinct
+  length-distinct [] = omega arith
+  length-distinct (x ∷ xs) = let h = length-distinct xs in let k = length-except x (distinct alike xs) in omega arith
 
 module _ {A : Type 0} (alike : A → A → Bool) (own : (a : A) → alike a a ≡ true) (same : (a b : A) → alike a b ≡ true → a ≡ b) where
   not-here : (a b : A) (xs : List A) → alike a b ≡ false → In a (b ∷ xs) → In a xs
@@ -42,12 +59,6 @@ module _ {A : Type 0} (alike : A → A → Bool) (own : (a : A) → alike a a �
   number-from from [] a = omega arith
   number-from from (x ∷ xs) a =
       by-test (alike a x) (λ t. rw t (omega arith)) (λ t. rw t (let h = number-from (suc from) xs a in omega arith))
-
-  pub number-most : (from : ℕ) (xs : List A) (a : A) → numberIn alike from xs a ≤ from + length xs
-  unfolding numberIn
-  number-most from [] a = omega arith
-  number-most from (x ∷ xs) a =
-      by-test (alike a x) (λ t. rw t (omega arith)) (λ t. rw t (let h = number-most (suc from) xs a in omega arith))
 
   -- no two of them have one number
   pub number-apart : (from : ℕ) (xs : List A) (a b : A) → In a xs → In b xs → numberIn alike from xs a ≡ numberIn alike from xs b → a ≡ b
@@ -82,18 +93,6 @@ module _ {A : Type 0} (alike : A → A → Bool) (own : (a : A) → alike a a �
       absurd (true≢false (sym (own a) ∙ ap (alike a) e ∙ t)))
       (λ u. u ∙ sym t))
 
-  length-except : (a : A) (xs : List A) → length (except alike a xs) ≤ length xs
-  unfolding except
-  length-except a [] = omega arith
-  length-except a (x ∷ xs) =
-      let h = length-except a xs in
-      by-test (alike a x) (λ t. rw t (omega arith)) (λ t. rw t (omega arith))
-
-  pub length-distinct : (xs : List A) → length (distinct alike xs) ≤ length xs
-  unfolding distinct
-  length-distinct [] = omega arith
-  length-distinct (x ∷ xs) = let h = length-distinct xs in let k = length-except x (distinct alike xs) in omega arith
-
 -- ---- the places of numbers
 
 pub own-number : (a : ℕ) → eqb a a ≡ true
@@ -107,8 +106,8 @@ places-apart xs a b i j e =
 pub place-most : (xs : List ℕ) (a : ℕ) → placeOf xs a ≤ 1 + length xs
 unfolding placeOf
 place-most xs a =
-    let h = number-most eqb own-number eqb-true 1 (distinct eqb xs) a in
-    let k = length-distinct eqb own-number eqb-true xs in
+    let h = number-most eqb 1 (distinct eqb xs) a in
+    let k = length-distinct eqb xs in
     omega arith
 
 -- each of the numbers changed

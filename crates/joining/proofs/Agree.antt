@@ -9,44 +9,29 @@ use mathlib.Core.Logic.{_⊎_, inl, inr}
 use native.Mathlib.Omega.{arith}
 use native.Mathlib.Decide.{decLt}
 use lib.Dec.{ltb}
-use lib.ListN.{length, getD, drop, length-append, length-drop}
-use lib.Seq.{getD-drop, drop-drop, drop-at}
+use lib.ListN.{length, drop, length-append, length-drop}
 use borrow.Author.Tests.{eq-eqb, ne-eqb, lt-ltb}
 use Rattle.tree.specs.Tree.{Node, Fields, Piece, Items, mapOf, count, wideBytes, encode, encodeFields, encodePiece, encodeItems}
 use Rattle.tree.specs.Tree.Node.{node}
 use Rattle.tree.specs.Tree.Fields.{done, absent, field}
 use Rattle.tree.specs.Tree.Piece.{one, list, text, byte, mark, number}
 use Rattle.tree.specs.Tree.Items.{hole, item}
-use Rattle.tree.specs.Read.{byteAt, wideAt}
+use Rattle.tree.specs.Read.{wideAt}
 use Rattle.lowering.specs.Collect.{Entry}
 use Rattle.joining.specs.Join.{isContainer, firstMark, ownMark, foundBy, handedTo, handedBy, before}
 use Rattle.joining.specs.Changes.{Change, keep, here, Kept, Count, Agrees, AgreesFields, AgreesPiece, AgreesItems}
 use Rattle.joining.specs.Changes.Change.{behind, counted}
 use Rattle.joining.specs.Spots.{Spot, spot, placeOf, statementOf, spotted, owned, spots, spotsFields, spotsPiece, spotsItems, tally, shares, changeAt}
+use Rattle.tree.proofs.Complete.{wide-is, after}
+use Rattle.tree.proofs.EncodedLengths.{node-long, count-short}
 
 -- ---- bytes at a position
 
 module _ (l : List ℕ) where
-  pub byte-is : (at b : ℕ) (rest : List ℕ) → drop at l ≡ b ∷ rest → byteAt l at ≡ b
-  unfolding byteAt
-  byte-is at b rest e =
-      let z : at + 0 ≡ at = omega arith in
-      ap (λ (n : ℕ). getD l n 256) (sym z) ∙ sym (getD-drop at l 0 256) ∙ ap (λ (xs : List ℕ). getD xs 0 256) e
-
-  pub after : (at n : ℕ) (xs rest : List ℕ) → drop at l ≡ xs ++ rest → length xs ≡ n → drop (at + n) l ≡ rest
-  after at n xs rest e h = sym (drop-drop n at l) ∙ ap (drop n) e ∙ drop-at xs rest n h
-
   pub after-two : (at a b : ℕ) (rest : List ℕ) → drop at l ≡ a ∷ b ∷ rest → drop (suc (suc at)) l ≡ rest
   after-two at a b rest e =
       let z : suc (suc at) ≡ at + 2 = omega arith in
-      ap (λ (n : ℕ). drop n l) z ∙ after at 2 (a ∷ b ∷ []) rest e refl
-
-  pub wide-is : (at n : ℕ) (rest : List ℕ) → drop at l ≡ wideBytes n ++ rest → wideAt l at ≡ n
-  unfolding wideAt
-  wide-is at n rest e =
-      let lo : byteAt l at ≡ n % 256 = byte-is at (n % 256) (n / 256 ∷ rest) e in
-      let hi : byteAt l (at + 1) ≡ n / 256 = byte-is (at + 1) (n / 256) rest (after at 1 (n % 256 ∷ []) (n / 256 ∷ rest) e refl) in
-      omega arith
+      ap (λ (n : ℕ). drop n l) z ∙ after l at 2 (a ∷ b ∷ []) rest e refl
 
 -- ---- what spots weigh
 
@@ -60,10 +45,6 @@ module _ (key : Spot → ℕ) (weight : ℕ → ℕ) where
   unfolding tally
   tally-other s xs p d = rw (ne-eqb (key s) p d) (omega arith)
 
-  pub tally-this : (s : Spot) (xs : List Spot) (p : ℕ) → key s ≡ p → tally key weight (s ∷ xs) p ≡ weight (s .named) + tally key weight xs p
-  unfolding tally
-  tally-this s xs p d = rw (eq-eqb (key s) p d) refl
-
 abbrev pub Away : ℕ → ℕ → ℕ → Type 0
 Away p lo hi = (p < lo) ⊎ (hi ≤ p)
 
@@ -74,10 +55,6 @@ away-in p lo hi lo' hi' (inr h) a b = inr (omega arith)
 away-other : (p lo hi : ℕ) → Away p lo hi → lo < hi → p ≡ lo → ⊥
 away-other p lo hi (inl h) g e = omega arith
 away-other p lo hi (inr h) g e = omega arith
-
-pub node-long : (n : Node) → 2 ≤ length (encode n)
-unfolding encode
-node-long (node old kind fs) = omega arith
 
 module _ (weight : ℕ → ℕ) where
   -- nothing has its list at p, if p is not x, nor stands at p
@@ -183,12 +160,6 @@ node-mark l (node old kind fs) at rest m e w =
 some-or-none : (l : List Items) → cond (ltb 0 (length l)) l [] ≡ l
 some-or-none [] = refl
 some-or-none (x ∷ xs) = rw (lt-ltb 0 (suc (length xs)) (omega arith)) refl
-
-pub count-short : (is : Items) → count is ≤ length (encodeItems is)
-unfolding count encodeItems
-count-short Items.none = omega arith
-count-short (hole is) = let a : count is ≤ length (encodeItems is) = count-short is in omega arith
-count-short (item n is) = let a : count is ≤ length (encodeItems is) = count-short is in omega (arith, length-append (encode n) (encodeItems is), node-long n)
 
 module _ (tree : List ℕ) (free : ℕ → ℕ) (es : List Entry) (more held : ℕ → ℕ) (small : length tree ≤ 32768) (few : (p : ℕ) → more p ≤ 16384) where
   abbrev ch : ℕ → Change

@@ -1,28 +1,27 @@
 -- The entry: one law for each way out.
 -- Assumes nothing.
-use Prim.Native.Nat.{ℕ, suc, _+_, _-_, _*_, _<_, _≤_, min}
+use Prim.Native.Nat.{ℕ, _+_, _-_, _*_, _<_, _≤_, min}
 use mathlib.Core.Path.{_≡_, refl, sym, ap, _∙_}
-use mathlib.Core.List.{List, [], _∷_, _++_, append-assoc}
+use mathlib.Core.List.{List}
 use mathlib.Core.Bool.{Bool, true, false, cond}
 use native.Mathlib.Omega.{arith}
 use native.Mathlib.Decide.{decLt}
 use lib.Dec.{ltb, leb}
-use lib.ListN.{length, getD, replicate, length-append, length-replicate, replicate-append-replicate}
-use lib.Seq.{set-append-seam}
+use lib.ListN.{length, getD, replicate, length-replicate}
 use borrow.Author.Tests.{le-leb, lt-leb}
 use Rattle.tree.specs.Tree.{Node, encode, marks}
 use Rattle.tree.specs.Tree.Node.{node}
 use Rattle.tree.specs.Tree.Fields.{done, field}
 use Rattle.tree.specs.Tree.Piece.{list}
 use Rattle.tree.specs.Grammar.Stage.{rewritten}
-use Rattle.tree.specs.WellFormed.{Bytes}
 use Rattle.tree.specs.Read.{Got, wideAt, readTree}
 use Rattle.tree.specs.Read.Got.{got, refused}
-use Rattle.tree.proofs.Sound.{never}
+use Rattle.tree.proofs.Sound.{never, each-byte}
 use Rattle.rewritten.specs.Rewritten.{distinct, checked, readRewritten, isGot, isRewritten}
 use Rattle.rewritten.proofs.RewrittenExact.{rewritten-sound, checked-got}
 use Rattle.drawing.specs.Pen.{next, put, reach}
-use Rattle.drawing.proofs.DrawingWritten.{next-in, next-le, put-length}
+use Rattle.drawing.proofs.DrawingWritten.{put-length}
+use Rattle.drawing.proofs.DrawingEntry.{reach-over, put-zeros, reach-fits}
 use Rattle.joining.specs.List.{Handed, handed, readHanded, innerMarks}
 use Rattle.joining.specs.Join.{found, joinedTree}
 use Rattle.joining.specs.Answer.{taken, allFound, fitting, afterList, afterTree, outcome, filled, Answered}
@@ -43,44 +42,6 @@ use Rattle.joining.proofs.Times.{times-append, among-times, distinct-on
 use Rattle.joining.proofs.ListAnswered.{ListRead, list-told, list-lost}
 use Rattle.joining.proofs.Settling.{Counted, counted, tally-most, node-names, all-found}
 use Rattle.joining.proofs.JoinedWritten.{Program, program, whole-is}
-
--- ---- the position behind bytes
-
-reach-fits : (n at : ℕ) (xs : List ℕ) → at + length xs ≤ n → reach n at xs ≡ at + length xs
-unfolding reach
-reach-fits n at [] h = omega arith
-reach-fits n at (x ∷ xs) h = rw (next-in n at (omega arith)) (reach-fits n (suc at) xs (omega arith) ∙ omega arith)
-
-reach-le : (n at : ℕ) (xs : List ℕ) → at ≤ reach n at xs
-unfolding reach
-reach-le n at [] = omega arith
-reach-le n at (x ∷ xs) = omega (arith, next-le n at, reach-le n (next n at) xs)
-
-reach-over : (n at : ℕ) (xs : List ℕ) → n < at + length xs → n < reach n at xs
-unfolding reach
-reach-over n at [] h = omega arith
-reach-over n at (x ∷ xs) h = elim (decLt n at) [
-  | yes g ↦ omega (arith, next-le n at, reach-le n (next n at) xs)
-  | no g ↦ rw (next-in n at (omega arith)) (reach-over n (suc at) xs (omega arith))
-]
-
-put-onto : (pre xs ys zs : List ℕ) → length xs ≡ length ys → put (pre ++ (ys ++ zs)) (length pre) xs ≡ pre ++ (xs ++ zs)
-unfolding put
-put-onto pre [] [] zs e = refl
-put-onto pre [] (y ∷ ys) zs e = absurd (omega (arith, e))
-put-onto pre (x ∷ xs) [] zs e = absurd (omega (arith, e))
-put-onto pre (x ∷ xs) (y ∷ ys) zs e =
-    let end : next (length (pre ++ (y ∷ (ys ++ zs)))) (length pre) ≡ length (pre ++ (x ∷ [])) =
-    next-in (length (pre ++ (y ∷ (ys ++ zs)))) (length pre) (omega (arith, length-append pre (y ∷ (ys ++ zs)))) ∙ (omega (arith, length-append pre (x ∷ []))) in
-    rw (end, set-append-seam pre y (ys ++ zs) x)
-    (rw (← append-assoc pre (x ∷ []) (ys ++ zs)) (put-onto (pre ++ (x ∷ [])) xs ys zs (omega (arith, e)) ∙ append-assoc pre (x ∷ []) (xs ++ zs)))
-
-put-zeros : (size : ℕ) (xs : List ℕ) → length xs ≤ size → put (replicate size 0) 0 xs ≡ xs ++ replicate (size - length xs) 0
-put-zeros size xs h =
-    let w : size ≡ length xs + (size - length xs) = omega arith in
-    let split : replicate {A = ℕ} size 0 ≡ replicate (length xs) 0 ++ replicate (size - length xs) 0 =
-    ap (λ (n : ℕ). replicate {A = ℕ} n 0) w ∙ sym (replicate-append-replicate {A = ℕ} (length xs) (size - length xs) 0) in
-    rw split (put-onto [] xs (replicate (length xs) 0) (replicate (size - length xs) 0) (sym (length-replicate {A = ℕ} (length xs) 0)))
 
 -- ---- refusals
 
@@ -119,11 +80,6 @@ module _ (bytes l : List ℕ) (room : ℕ) (X : List ℕ) (is : outcome bytes l 
   finish = elim (decLt (min room 32768) (length X)) [ yes g ↦ over g | no g ↦ within (omega arith) ]
 
 -- ---- the tree
-
-pub each-byte : (l : List ℕ) → ((i : ℕ) → getD l i 0 < 256) → Bytes l
-unfolding Bytes
-each-byte [] h = tt
-each-byte (b ∷ bs) h = (h 0, each-byte bs (λ i. h (suc i)))
 
 pub no-tree : (bytes l : List ℕ) (room : ℕ) → isRewritten bytes ≡ false → outcome bytes l room ≡ refusal 3
 unfolding outcome isRewritten

@@ -12,8 +12,8 @@ use lib.Seq.{drop-cons}
 use borrow.Author.Tests.{eqb-true, eq-eqb, ne-eqb, lt-ltb, le-ltb, lt-leb, le-leb}
 use Rattle.tree.specs.Tree.{wideBytes}
 use Rattle.tree.specs.Read.{byteAt, wideAt}
-use Rattle.drawing.specs.Pen.{next, put, reach}
-use Rattle.drawing.proofs.DrawingWritten.{Put, Wide, put-length, put-two, reach-two}
+use Rattle.drawing.specs.Pen.{put, reach}
+use Rattle.drawing.proofs.DrawingWritten.{Put, Wide, put-length, put-two, reach-two, put-in}
 use Rattle.joining.specs.Writing.{Copied, part, declared, freeFrom, freeAfter, varBytes, varLast, varsBytes, varsLast, beforeBytes, beforeLast, stepBytes, stepLast, stepSkips, restBytes, Calm, Quiet, headBytes, headLast, wholeBytes, Finished}
 
 -- ---- one after the other
@@ -86,11 +86,6 @@ module _ (l₀ : List ℕ) (at : ℕ) (from : List ℕ) (start stop : ℕ) where
   copying-ends l p i end c e h =
       let none : part i stop from ≡ [] = part-none from i stop end e h in
       (ap (reach (length l) p) (sym none) ∙ c .ends, ap (put l p) (sym none) ∙ c .bytes)
-
--- a byte that has room
-pub put-in : (l : List ℕ) (p x : ℕ) → p < length l → Put l p x (p + 1) (set l p x)
-unfolding next
-put-in l p x h = let e : suc p ≡ p + 1 = omega arith in (rw (le-leb p (length l) (omega arith), e) refl, refl)
 
 pub block-next : (l₀ : List ℕ) (at : ℕ) (from : List ℕ) (start stop : ℕ) (l : List ℕ) (p i : ℕ) → Copying l₀ at from start stop l p i × (p + (stop - i) ≤ length l) × (stop ≡ min stop (length from)) → i < stop
     → Copying l₀ at from start stop (set l p (getD from i 0)) (p + 1) (i + 1) × (p + 1 + (stop - (i + 1)) ≤ length (set l p (getD from i 0))) × (stop ≡ min stop (length from))

@@ -32,7 +32,8 @@ use Rattle.joining.proofs.Times.{among-times, distinct-once}
 use Rattle.joining.proofs.Settling.{all-found}
 use Rattle.joining.proofs.JoinedWritten.{Program, program}
 use Rattle.joining.proofs.Unmoved.{Old, New, old-left, old-right, own-joined, own-old, untaken, given-new, marks-old, unmoved}
-use Rattle.joining.proofs.Exact.{list-sound, marks-long, list-long}
+use Rattle.tree.proofs.EncodedLengths.{marks-long}
+use Rattle.joining.proofs.Exact.{list-sound, list-long}
 
 -- ---- how many there are
 

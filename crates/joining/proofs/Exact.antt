@@ -9,13 +9,13 @@ use lib.Dec.{ltb, leb}
 use lib.ListN.{length, drop, length-append}
 use lib.Seq.{drop-length}
 use borrow.Author.Tests.{eqb-true, ltb-true, leb-true}
-use Rattle.tree.specs.Tree.{Node, Fields, Piece, Items, wideBytes, encode, encodeFields, encodePiece, encodeItems, marks, marksFields, marksPiece, marksItems}
-use Rattle.tree.specs.Tree.Node.{node}
+use Rattle.tree.specs.Tree.{Items, wideBytes, encodePiece, marksItems}
 use Rattle.tree.specs.Tree.Piece.{list}
 use Rattle.tree.specs.WellFormed.{Bytes}
 use Rattle.tree.specs.Read.{Got, mapped, joined, accepted, whole, wideAt}
 use Rattle.tree.specs.Read.Got.{got, refused}
 use Rattle.tree.proofs.Sound.{Stands, nothing, and-then, two-bytes, bytes-at}
+use Rattle.tree.proofs.EncodedLengths.{items-long}
 use Rattle.rewritten.proofs.Pass.{accepted-got}
 use Rattle.lowering.specs.Collect.{Entry, over}
 use Rattle.equal.specs.Equal.{entryEncoded, listEncoded}
@@ -98,36 +98,6 @@ module _ (l : List ℕ) (b : Bytes l) where
           })
 
 -- ---- each mark takes two bytes, and each entry four
-
-mutual
-  unfolding marks marksFields marksPiece marksItems encode encodeFields encodePiece encodeItems
-
-  pub marks-long : (n : Node) → 2 * length (marks n) ≤ length (encode n)
-  marks-long (node at k fs) = let h = fields-long fs in omega arith
-
-  fields-long : (fs : Fields) → 2 * length (marksFields fs) ≤ length (encodeFields fs)
-  fields-long Fields.done = omega arith
-  fields-long (Fields.absent fs) = fields-long fs
-  fields-long (Fields.field p fs) =
-      let a = piece-long p in
-      let c = fields-long fs in
-      omega (arith, length-append (marksPiece p) (marksFields fs), length-append (encodePiece p) (encodeFields fs))
-
-  piece-long : (p : Piece) → 2 * length (marksPiece p) ≤ length (encodePiece p)
-  piece-long (Piece.one n) = marks-long n
-  piece-long (Piece.list is) = let h = items-long is in omega arith
-  piece-long (Piece.text bs) = omega arith
-  piece-long (Piece.byte b) = omega arith
-  piece-long (Piece.mark b) = omega arith
-  piece-long (Piece.number b) = omega arith
-
-  items-long : (is : Items) → 2 * length (marksItems is) ≤ length (encodeItems is)
-  items-long Items.none = omega arith
-  items-long (Items.hole is) = let h = items-long is in omega arith
-  items-long (Items.item n is) =
-      let a = marks-long n in
-      let c = items-long is in
-      omega (arith, length-append (marks n) (marksItems is), length-append (encode n) (encodeItems is))
 
 entries-long : (es : List Entry) → 2 * length (over (λ (e : Entry). marksItems (e .declarators)) es) + 4 * length es ≤ length (over entryEncoded es)
 unfolding over entryEncoded encodePiece

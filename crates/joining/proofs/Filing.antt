@@ -374,9 +374,6 @@ module _ (tree : List ℕ) (t : Shelf) (at deep : ℕ) (w : Walk) (f : Filed tre
   filed-as : (s : Shelf) (q q' d d' : ℕ) (v : Walk) → q ≡ q' → d ≡ d' → Filed tree s q d v → Filed tree s q' d' v
   filed-as s q q' d d' v e g x = rw (← e, ← g) x
 
-  walk-at : (st : List ℕ) (b : ℕ) (ss : List Spot) → walker at st b ss ≡ walker (w .at) st b ss
-  walk-at st b ss = ap (λ (p : ℕ). walker p st b ss) (sym (f .site))
-
   passing : (a q d : ℕ) → a ≡ q → at ≤ q → d ≡ deep → Filed tree (passedBy t) q d (walker a (w .around) 0 (w .met))
   passing a q d e h l = rw (e, l) (filed-pass tree t at deep w f q h)
 

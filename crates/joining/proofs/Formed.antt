@@ -22,11 +22,11 @@ use Rattle.tree.specs.WellFormed.{byteIn, Fits, FitFields, FitPiece, FitItems}
 use Rattle.tree.specs.Read.{sortIn}
 use Rattle.tree.proofs.Sound.{never}
 use Rattle.tree.proofs.Look.{kind-at}
+use Rattle.tree.proofs.EncodedLengths.{count-short}
 use Rattle.rewritten.proofs.Marks.{by-same}
 use Rattle.lowering.specs.Collect.{Entry}
 use Rattle.joining.specs.List.{FitDeclarators, FitEntries}
 use Rattle.joining.specs.Join.{isContainer, pieceMark, firstMark, ownMark, declaration, handedTo, handedBy, before, vars, news, newsPiece, join, joinFields, joinPiece, joinItems, headed, joinedBy}
-use Rattle.joining.proofs.Agree.{count-short}
 use Rattle.joining.proofs.JoinedWritten.{Program}
 
 -- ---- containers hold statements, and a FunctionBody directives too

@@ -31,7 +31,10 @@ use Rattle.joining.specs.Spots.{Spot, placeOf, statementOf, spots, spots
 use Rattle.joining.specs.Files.{Notes}
 use Rattle.joining.specs.Settle.{Stand}
 use Rattle.joining.proofs.Changes.{count-joined, items-written}
-use Rattle.joining.proofs.Agree.{after, wide-is, count-short, here-weight, items-agree}
+use Rattle.joining.proofs.Agree.{here-weight, items-agree}
+use Rattle.lowering.proofs.ItemLaws.{count-none}
+use Rattle.tree.proofs.Complete.{wide-is, after}
+use Rattle.tree.proofs.EncodedLengths.{count-short}
 
 byte-at : (l : List ℕ) (x : ℕ) → x < length l → byteAt l x ≡ getD l x 0
 unfolding byteAt
@@ -89,10 +92,6 @@ module _ (seen taken : List ℕ) (known : Notes seen taken) where
   unfolding freeAfter fresh lastOf
   after-last zero = free-same 65535 0 (omega arith)
   after-last (suc i) = let h : fresh taken i ≤ 65535 = fresh-most taken i in free-same (65535 - fresh taken i) (fresh taken i) (omega arith)
-
-  last-next : (i : ℕ) → lastOf taken (suc i) ≡ fresh taken i
-  unfolding lastOf
-  last-next i = refl
 
   module _ (l ends : List ℕ) (es : List Entry) where
     abbrev VarsTold : List Entry → ℕ → ℕ → ℕ → Type 0
@@ -206,10 +205,6 @@ program (node at k fs) (Fits.fits pos ff) =
 spots-program : (old : ℕ) (is : Items) → spots 0 (node old 1 (field (list is) done)) ≡ spotsItems 2 4 is
 unfolding spots spotsFields spotsPiece spotsItems among
 spots-program old is = refl
-
-count-none : count Items.none ≡ 0
-unfolding count
-count-none = refl
 
 count-hole : (is : Items) → count (hole is) ≡ suc (count is)
 unfolding count

@@ -15,12 +15,11 @@ use Rattle.tree.specs.WellFormed.{Bytes}
 use Rattle.tree.specs.Read.{Got, mapped, wideAt, readField}
 use Rattle.tree.specs.Read.Got.{got, refused}
 use Rattle.tree.proofs.Sound.{never}
-use Rattle.tree.proofs.Complete.{piece-back}
+use Rattle.tree.proofs.Complete.{piece-back, wide-is, after}
 use Rattle.rewritten.specs.Pending.{nodeIn}
 use Rattle.lowering.specs.Collect.{Entry, over}
 use Rattle.equal.specs.Equal.{entryEncoded, listEncoded}
 use Rattle.joining.specs.List.{Handed, readDeclarators, readEntry, readEntries, readParts, readHanded, placedEntries, placedHanded, longestList, FitDeclarators, FitEntries, FitHanded}
-use Rattle.joining.proofs.Agree.{after, wide-is}
 use Rattle.joining.proofs.ListAnswered.{refused-got}
 use Rattle.joining.proofs.Exact.{list-sound}
 

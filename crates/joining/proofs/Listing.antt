@@ -20,13 +20,12 @@ use Rattle.rewritten.specs.Pass.{folded}
 use Rattle.rewritten.specs.Marks.{meet, newIn, noted}
 use Rattle.rewritten.specs.Pending.{itemsCome, comes, pending, taskOf, stack}
 use Rattle.rewritten.specs.Pending.Task.{items}
-use Rattle.rewritten.specs.Steps.{comingAt, Stands, Took, Onward, eventIn}
+use Rattle.rewritten.specs.Steps.{comingAt, Took, Onward, eventIn}
 use Rattle.rewritten.specs.declared.step.Cursor.{Cursor}
 use Rattle.rewritten.specs.declared.step.Event as word
-use Rattle.rewritten.specs.declared.step.Event.the-variants.{Begins, Ends, Opens, Closes, Hole, Text, Byte, Mark, Number}
 use Rattle.rewritten.specs.declared.step.Step.{Step}
 use Rattle.rewritten.specs.declared.step.Step.the-variants.{Next, Done, Refused, Full}
-use Rattle.rewritten.proofs.Pass.{coming, onward as goes-on, Inside, inside-next, step-falls, frames-suffice}
+use Rattle.rewritten.proofs.Pass.{coming, onward as goes-on, Inside, inside-next, step-falls, frames-suffice, stands-on}
 use Rattle.rewritten.proofs.Marks.{Knows, metAfter, meets-new, meets-twice, met-twice, knows-next}
 use Rattle.joining.specs.List.{readDeclarators, longestList}
 use Rattle.joining.specs.Tables.{stored}
@@ -49,17 +48,6 @@ telling-twice : (m : List ℕ) (e : Event) (g : Got (List Event)) → meet (some
 unfolding folded
 telling-twice m e (got es q k) w = ap (λ (o : Option (List ℕ)). tells (folded meet o es) q) w ∙ ap (λ (o : Option (List ℕ)). tells o q) (met-twice es)
 telling-twice m e (refused r) w = refl
-
-stands-on : (l : List ℕ) (at : ℕ) (e : word.Event) (q : ℕ) → Stands l at e q → at ≤ q
-stands-on l at (Begins p kind map) q s = let z : q ≡ at + 2 = s .5 in omega arith
-stands-on l at Ends q s = omega arith
-stands-on l at (Opens n) q s = let z : q ≡ at + 2 = s .2 in omega arith
-stands-on l at Closes q s = omega arith
-stands-on l at Hole q s = let z : q ≡ at + 1 = s .1 in omega arith
-stands-on l at (Text p n) q s = let z : q ≡ p + n = s .3 in let y : p ≡ at + 2 = s .0 in omega arith
-stands-on l at (Byte b) q s = let z : q ≡ at + 1 = s .2 in omega arith
-stands-on l at (Mark n) q s = let z : q ≡ at + 2 = s .2 in omega arith
-stands-on l at (Number n) q s = let z : q ≡ at + 2 = s .2 in omega arith
 
 -- ---- a declarator list
 

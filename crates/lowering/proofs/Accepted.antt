@@ -2,7 +2,7 @@
 -- have holes, and no mark is 0. So a position is a site once at most.
 -- Assumes nothing.
 use mathlib.Core.Path.{_≡_, refl, sym, ap, _∙_, subst}
-use mathlib.Core.Bool.{Bool, true, false, cond, _||_, _&&_, false≢true, true≢false}
+use mathlib.Core.Bool.{Bool, true, false, cond, _||_, true≢false}
 use mathlib.Core.List.{List, [], _∷_}
 use mathlib.Core.Logic.{_⊎_, ⊎-elim}
 use mathlib.Core.Logic._⊎_.{inl, inr}
@@ -20,7 +20,8 @@ use Rattle.tree.specs.Read.{Got, mapped, accepted, sortIn, byteAt, wideAt, read
 use Rattle.tree.specs.Read.Got.{got, refused}
 use Rattle.lowering.specs.Parts.{position, kind, is, pieceIn, asItems}
 use Rattle.lowering.proofs.All.{AllItems, weaker-items}
-use Rattle.lowering.proofs.Cases.{by-test, and-left, and-right, or-first}
+use Rattle.lowering.proofs.Cases.{by-test, or-first}
+use Rattle.lowering.proofs.PlaceTests.{not-20, not-21}
 use Rattle.lowering.proofs.Sites.{isNameKind, direct, directPiece, directItems, here, hereItems, own, sites, sitesFields, sitesPiece, sitesItems}
 use Rattle.tree.proofs.HoldsOfRead.{Holds, holds, of-mapped, of-accepted, of-joined, weaker}
 use Rattle.tree.proofs.Look.{kind-at}
@@ -151,53 +152,6 @@ property-22 k h = go (ltb k 64) (eqb 35 k) refl h
     go true true e z = let y : 35 ≡ k = eqb-true 35 k e in ap isPattern (sym y)
     go true false e z = absurd (omega arith)
     go false d e z = absurd (omega arith)
-
--- no place of the input takes a Temporary or a Helper
-unfoldable none-of : ℕ → List ℕ → Bool
-none-of k [] = true
-none-of k (f ∷ fs) = cond (eqb (kindOf f) k) false (none-of k fs)
-
-unfoldable every-place : ℕ → List (List ℕ) → Bool
-every-place k [] = true
-every-place k (l ∷ ls) = none-of k l && every-place k ls
-
-at-place : (k : ℕ) (ls : List (List ℕ)) → every-place k ls ≡ true → (p : ℕ) → none-of k (getD ls p []) ≡ true
-unfolding every-place none-of
-at-place k [] h p = refl
-at-place k (l ∷ ls) h zero = and-left (none-of k l) (every-place k ls) h
-at-place k (l ∷ ls) h (suc p) = at-place k ls (and-right (none-of k l) (every-place k ls) h) p
-
-not-in : (k : ℕ) (fs : List ℕ) → none-of k fs ≡ true → formIn fs k ≡ 0
-unfolding none-of formIn
-not-in k [] h = refl
-not-in k (f ∷ fs) h = go (eqb (kindOf f) k) h (λ z. not-in k fs z)
-  where
-    go : (b : Bool) → cond b false (none-of k fs) ≡ true → (none-of k fs ≡ true → formIn fs k ≡ 0) → cond b f (formIn fs k) ≡ 0
-    go true z r = absurd (false≢true z)
-    go false z r = r z
-
-temporaries-checked : every-place 20 places ≡ true
-unfolding every-place none-of places kindOf
-temporaries-checked = refl
-
-helpers-checked : every-place 21 places ≡ true
-unfolding every-place none-of places kindOf
-helpers-checked = refl
-
-none-at : (m : ℕ) → every-place m places ≡ true → (p k : ℕ) → 0 < formAt input p k → eqb k m ≡ false
-unfolding allowed formAt
-none-at m c p k h = go (eqb k m) refl
-  where
-    go : (b : Bool) → eqb k m ≡ b → b ≡ false
-    go false e = refl
-    go true e =
-        let y : k ≡ m = eqb-true k m e in
-        let z : 0 < cond (ltb m 64) (formIn (getD places p []) m) 0 = subst (λ (j : ℕ). 0 < cond (ltb j 64) (formIn (getD places p []) j) 0) y h in
-        absurd (no-form (ltb m 64) z)
-      where
-        no-form : (b : Bool) → 0 < cond b (formIn (getD places p []) m) 0 → ⊥
-        no-form true z = let w = not-in m (getD places p []) (at-place m places c p) in omega arith
-        no-form false z = omega arith
 
 -- ---- fields by their sorts
 
@@ -643,7 +597,7 @@ module _ (tree : List ℕ) where
       (λ fs q j h.
       record {
         here-fits = z;
-        fine = node-proper f at b fs (kind-at input p b z) (none-at 20 temporaries-checked p b z) (none-at 21 helpers-checked p b z) (h .sorts) (h .fine);
+        fine = node-proper f at b fs (kind-at input p b z) (not-20 p b z) (not-21 p b z) (h .sorts) (h .fine);
         span = node-span at b fs q (h .span);
         later = h .later;
       })

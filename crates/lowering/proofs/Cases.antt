@@ -88,6 +88,10 @@ or-first true b h k = refl
 or-first false b h k = absurd (true≢false (sym k ∙ h))
 
 -- the kind of a pattern, by its shape
+pub is-kind : (k : ℕ) (n : Node) → is k n ≡ true → kind n ≡ k
+unfolding is
+is-kind k n e = eqb-true (kind n) k e
+
 pub object-is : (p : Node) → shape p ≡ objectPattern → is 34 p ≡ true
 unfolding shape is
 object-is p e = go (eqb (kind p) 34) (eqb (kind p) 36) (eqb (kind p) 37) e

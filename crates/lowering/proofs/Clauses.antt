@@ -3,7 +3,8 @@
 use mathlib.Core.Path.{_≡_, refl}
 use mathlib.Core.Bool.{Bool, cond, false, true, not, _&&_}
 use Prim.Native.Nat.{ℕ, suc, zero}
-use Rattle.tree.specs.Tree.{Node, depth, Items}
+use lib.Dec.{eqb}
+use Rattle.tree.specs.Tree.{Node, Fields, depth, Items}
 use Rattle.tree.specs.Tree.Items.{none}
 use Rattle.lowering.specs.Parts.{only, gather, _+++_, is, nodeAt, stands, textAt}
 use Rattle.lowering.specs.Made.{Context, reference, S}
@@ -14,6 +15,7 @@ use Rattle.lowering.specs.Declarations.{innerObjects, isLowered}
 use Rattle.lowering.specs.Assignments.{nearest, partsReplaced, isTop}
 use Rattle.tree.specs.Tree.Node.{node}
 use Rattle.lowering.specs.Literals.{Call, opened, scan}
+use Rattle.lowering.specs.Walk.{ruleOf, rewrite, unchanged}
 use Rattle.lowering.proofs.Cases.{and-right, and-left}
 use borrow.Author.Tests.{eqb-true}
 use Rattle.lowering.specs.Keys.Key.{again, name, literal}
@@ -154,3 +156,9 @@ text-name k e = rw (e, keyText) refl
 pub text-literal : (k : Node) → keySort k ≡ literal → keyText k ≡ literalText k
 unfolding keyText
 text-literal k e = rw (e, keyText) refl
+
+-- a kind of no rule
+pub others : (c : Context) (at k : ℕ) (fs : Fields) → eqb k 24 ≡ false → eqb k 4 ≡ false → eqb k 27 ≡ false → eqb k 14 ≡ false → eqb k 17 ≡ false → eqb k 10 ≡ false → eqb k 7 ≡ false → eqb k 8 ≡ false
+    → rewrite c (node at k fs) ≡ unchanged (node at k fs)
+unfolding rewrite ruleOf
+others c at k fs e₁ e₂ e₃ e₄ e₅ e₆ e₇ e₈ = rw (e₁, e₂, e₃, e₄, e₅, e₆, e₇, e₈, rewrite) refl

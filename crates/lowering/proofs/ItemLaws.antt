@@ -71,6 +71,10 @@ each-gather f g Items.none = refl
 each-gather f g (Items.hole is) = each-gather f g is
 each-gather f g (Items.item n is) = each-append f (g n) (gather g is) ∙ ap (λ (x : Items). each f (g n) +++ x) (each-gather f g is)
 
+pub count-none : count Items.none ≡ 0
+unfolding count
+count-none = refl
+
 pub count-append : (ns ms : Items) → count (ns +++ ms) ≡ count ns + count ms
 unfolding count _+++_
 count-append Items.none ms = omega arith

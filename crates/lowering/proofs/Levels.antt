@@ -2,7 +2,7 @@
 -- tree that is accepted, and the code may search with as many as it has left.
 -- Assumes nothing.
 use mathlib.Core.Path.{_≡_, refl, sym, ap, ap₂, _∙_}
-use mathlib.Core.Bool.{Bool, false, cond, _||_}
+use mathlib.Core.Bool.{Bool, true, false, cond, _||_}
 use Prim.Native.Nat.{ℕ, zero, suc, _≤_, _<_}
 use native.Mathlib.Omega.{arith}
 use Rattle.tree.specs.Tree.{Node, Fields, Piece, Items, depth, depthFields, depthPiece, depthItems}
@@ -159,6 +159,16 @@ pub nearest-nothing : (arrays : Bool) (d : ℕ) → nearest arrays d nothing ≡
 unfolding nearest shape
 nearest-nothing arrays zero = refl
 nearest-nothing arrays (suc d) = refl
+
+pub reference-clear : (c : Context) (p : Node) (d : ℕ) → nearest true d (reference c p) ≡ none
+unfolding nearest shape
+reference-clear c p zero = refl
+reference-clear c p (suc d) = refl
+
+pub reference-bare : (c : Context) (p : Node) (d : ℕ) → hasNestedObjectRest d (reference c p) ≡ false
+unfolding hasNestedObjectRest shape
+reference-bare c p zero = refl
+reference-bare c p (suc d) = refl
 
 pub moved-nothing : (d : ℕ) → moved d nothing ≡ none
 unfolding moved shape

@@ -28,6 +28,7 @@ pub mod SiteViews
 pub mod SiteRules
 pub mod MadeAtSites
 pub mod Paths
+pub mod PlaceTests
 pub mod Accepted
 pub mod DistinctNames
 pub mod Simple

@@ -1,14 +1,14 @@
 -- Refusals 5, 6 and 11 are met where the table says so, and nowhere else.
 -- Assumes nothing.
 use mathlib.Core.Path.{_≡_, refl, sym, ap, subst, _∙_}
-use mathlib.Core.Bool.{Bool, true, false, cond, _||_}
+use mathlib.Core.Bool.{Bool, true, false, cond, _||_, true≢false}
 use mathlib.Core.List.{List, [], _∷_, _++_}
 use mathlib.Core.Logic.{_⊎_, ⊎-elim}
 use mathlib.Core.Logic._⊎_.{inl, inr}
 use Prim.Native.Nat.{ℕ, zero, suc, _+_, _<_}
 use native.Mathlib.Omega.{arith}
 use lib.Dec.{eqb}
-use borrow.Author.Tests.{eqb-true}
+use borrow.Author.Tests.{eqb-true, eq-eqb}
 use Rattle.tree.specs.Tree.{Node, Fields, Piece, Items}
 use Rattle.tree.specs.Tree.Node.{node}
 use Rattle.tree.specs.Grammar.Stage.{input}
@@ -91,6 +91,21 @@ first-right : (us vs : List Visit) → 0 < firstRefusal vs → 0 < firstRefusal 
 unfolding firstRefusal
 first-right [] vs h = h
 first-right (u ∷ us) vs h = of-rest (u .note .refusal) (firstRefusal (us ++ vs)) (first-right us vs h)
+
+pub no-refusal : (us vs : List Visit) → firstRefusal (us ++ vs) ≡ 0 → (firstRefusal us ≡ 0) × (firstRefusal vs ≡ 0)
+unfolding firstRefusal
+no-refusal [] vs h = (refl, h)
+no-refusal (u ∷ us) vs h =
+    by-test (eqb (u .note .refusal) 0)
+    (λ e. let r = no-refusal us vs (rw (e, firstRefusal) at h) in (rw (e, firstRefusal) (r .0), r .1))
+    (λ e. absurd (true≢false (sym (eq-eqb (u .note .refusal) 0 (rw (e, firstRefusal) at h)) ∙ e)))
+
+pub no-refusal-here : (u : Visit) (us : List Visit) → firstRefusal (u ∷ us) ≡ 0 → (u .note .refusal ≡ 0) × (firstRefusal us ≡ 0)
+unfolding firstRefusal
+no-refusal-here u us h =
+    by-test (eqb (u .note .refusal) 0)
+    (λ e. (eqb-true (u .note .refusal) 0 e, rw (e, firstRefusal) at h))
+    (λ e. (rw (e, firstRefusal) at h, absurd (true≢false (sym (eq-eqb (u .note .refusal) 0 (rw (e, firstRefusal) at h)) ∙ e))))
 
 -- ---- the first refusal of a walk is one of a node that it meets
 

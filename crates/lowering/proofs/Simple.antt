@@ -163,6 +163,10 @@ gather-same f h Items.none SimpleItems.none w = refl
 gather-same f h (Items.hole is) (SimpleItems.hole s) w = absurd w
 gather-same f h (Items.item n is) (SimpleItems.item q s) w = rw (h n q) (ap (Items.item n) (gather-same f h is s w))
 
+pub cond-none : (b : Bool) (is : Items) → is ≡ Items.none → cond b is Items.none ≡ Items.none
+cond-none true is h = h
+cond-none false is h = refl
+
 module _ (c : Context) where
   kept-declarator : (d : Node) → Simple d → declarators c d ≡ only d
   unfolding declarators
@@ -221,10 +225,6 @@ module _ (c : Context) where
 
   heads-none : (is : Items) → SimpleItems is → references c (gather movedFrom is) ≡ Items.none
   heads-none is s = ap (references c) (moved-in is s) ∙ refs-none
-
-  cond-none : (b : Bool) (is : Items) → is ≡ Items.none → cond b is Items.none ≡ Items.none
-  cond-none true is h = h
-  cond-none false is h = refl
 
   function-makes : (n : Node) → Simple n → functionMakes c n ≡ Items.none
   unfolding functionMakes

@@ -18,7 +18,7 @@ use Rattle.lowering.specs.Keys.{keySort, keyTemporary, keyTemporaries, e
 use Rattle.lowering.specs.Rests.{hasNoProperties, mapped, isHoisted, keysRead, restValue, excludedFor, restMakes}
 use Rattle.lowering.specs.Declarations.{keysBefore, patternDeclarator, restDeclarator, own, nested}
 use Rattle.lowering.specs.Collect.{Name}
-use Rattle.lowering.proofs.All.{AllItems, all-append, all-gather}
+use Rattle.lowering.proofs.All.{AllItems, all-append, all-gather, other-changed}
 use Rattle.lowering.proofs.Cases.{by-test, by-shape, by-key, object-is, is-changed}
 use Rattle.lowering.proofs.Clauses.{objects-object, objects-array, objects-default}
 use Rattle.lowering.proofs.MadeAtSites.{times, times-append, only-times, none-times}
@@ -37,6 +37,16 @@ first-of g (field p fs) = refl
 pub key-kept : (f : Node → Node) (q : Node) → key (changeNode 1 f q) ≡ key q
 unfolding nodeAt change
 key-kept f (node at k fs) = ap asNode (first-of (onNode f) fs)
+
+other-field : (q : Node) (f : Piece → Piece) → value (change 0 f q) ≡ value q
+unfolding change nodeAt
+other-field (node at k fs) f = ap asNode (other-changed fs 0 f 1 (λ z. omega arith))
+
+pub value-kept : (c : Context) (q : Node) → value (keptKey c q) ≡ value q
+unfolding keptKey
+value-kept c q =
+    by-key (keySort (key q)) (λ e. rw (e, keptKey) refl) (λ e. rw (e, keptKey) refl) (λ e. rw (e, keptKey) refl) (λ e. rw (e, keptKey) refl) (λ e. rw (e, keptKey) refl)
+    (λ e. rw (e, keptKey) (other-field q (onNode (λ k. keyOf c q))))
 
 module _ (a : Name) where
   -- ---- nodes that the rules make

@@ -18,7 +18,7 @@ use Rattle.rewritten.specs.declared.step.Event as told
 use Rattle.rewritten.specs.declared.step.Event.the-variants.{Begins, Ends, Opens, Closes, Hole, Text, Byte, Mark, Number}
 use Rattle.rewritten.specs.declared.step.Step.{Step}
 use Rattle.rewritten.specs.declared.step.Step.the-variants.{Next, Done, Refused, Full}
-use Rattle.rewritten.proofs.Pass.{coming, onward, Inside, inside-start, inside-next, step-falls, frames-suffice, tour-of-tree, Rest, rest-next, rest-done, rest-refused}
+use Rattle.rewritten.proofs.Pass.{coming, onward, Inside, inside-start, inside-next, step-falls, frames-suffice, tour-of-tree, Rest, rest-next, rest-done, rest-refused, stands-on}
 use Rattle.equal.specs.Met.{meet, place}
 use Rattle.ordering.specs.Order.{opensTemporary, metBy, placedBy, placedAll}
 use Rattle.ordering.specs.Places.{PlacedAs}
@@ -29,18 +29,6 @@ use Rattle.ordering.specs.declared.side.Move.the-variants.{Met, Ended}
 use Rattle.ordering.proofs.TablePlaces.{knows-none, place-is, count-is, knows-placed, few-more}
 
 -- ---- events
-
--- an event does not end before it stands
-stands-on : (l : List ℕ) (at : ℕ) (e : told.Event) (q : ℕ) → Stands l at e q → at ≤ q
-stands-on l at (Begins p kind map) q s = let w : q ≡ at + 2 = s .5 in omega arith
-stands-on l at Ends q s = let w : q ≡ at = s in omega arith
-stands-on l at (Opens n) q s = let w : q ≡ at + 2 = s .2 in omega arith
-stands-on l at Closes q s = let w : q ≡ at = s in omega arith
-stands-on l at Hole q s = let w : q ≡ at + 1 = s .1 in omega arith
-stands-on l at (Text p n) q s = let w : q ≡ p + n = s .3 in let v : p ≡ at + 2 = s .0 in omega arith
-stands-on l at (Byte b) q s = let w : q ≡ at + 1 = s .2 in omega arith
-stands-on l at (Mark n) q s = let w : q ≡ at + 2 = s .2 in omega arith
-stands-on l at (Number n) q s = let w : q ≡ at + 2 = s .2 in omega arith
 
 stands-within : (l : List ℕ) (at : ℕ) (e : told.Event) (q : ℕ) → Stands l at e q → q ≤ length l → Within l e
 stands-within l at (Begins p kind map) q s h = tt

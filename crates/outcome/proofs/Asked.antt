@@ -22,6 +22,7 @@ use Rattle.tree.proofs.Look.{kind-at}
 use Rattle.lowering.specs.Parts.{nothing, kind, pieceIn, asNode, asItems}
 use Rattle.lowering.proofs.All.{AllItems}
 use Rattle.lowering.proofs.Cases.{by-test, and-left, and-right}
+use Rattle.lowering.proofs.PlaceTests.{not-20, not-21}
 use Rattle.outcome.proofs.GoodNodes.{NoPart, NoParts}
 
 -- ---- tests of kinds
@@ -175,23 +176,8 @@ fits-kind : (t : ℕ → Bool) (p : ℕ) (n : Node) → allAt t p ≡ true → F
 fits-kind t p (node at k fs) a (Fits.fits h r) = kinds-at t p k a h
 
 -- no place has a Temporary or a Helper
-everywhere : (t : ℕ → Bool) → List (List ℕ) → Bool
-everywhere t [] = true
-everywhere t (l ∷ ls) = everyForm t l && everywhere t ls
-
-at-place : (t : ℕ → Bool) (ls : List (List ℕ)) → everywhere t ls ≡ true → (p : ℕ) → everyForm t (getD ls p []) ≡ true
-unfolding everywhere everyForm
-at-place t [] h p = refl
-at-place t (l ∷ ls) h zero = and-left (everyForm t l) (everywhere t ls) h
-at-place t (l ∷ ls) h (suc p) = at-place t ls (and-right (everyForm t l) (everywhere t ls) h) p
-
-made-nowhere : everywhere (λ k. not (eqb k 20 || eqb k 21)) places ≡ true
-unfolding everywhere everyForm places kindOf
-made-nowhere = refl
-
 not-made : (p k : ℕ) → 0 < formAt input p k → not (eqb k 20 || eqb k 21) ≡ true
-unfolding allAt
-not-made p k h = kinds-at (λ j. not (eqb j 20 || eqb j 21)) p k (at-place (λ j. not (eqb j 20 || eqb j 21)) places made-nowhere p) h
+not-made p k h = rw (not-20 p k h, not-21 p k h) refl
 
 -- ---- fields of a node that fits
 

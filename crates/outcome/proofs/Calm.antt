@@ -19,14 +19,13 @@ use Rattle.tree.specs.Grammar.Stage.{input}
 use Rattle.tree.specs.WellFormed.{byteIn, Fits, FitFields, FitPiece, FitItems}
 use Rattle.tree.proofs.Look.{kind-at}
 use Rattle.lowering.specs.Parts.{position, kind, is, pieceIn, nodeAt, itemsAt, stands, standsIn, isEmpty}
-use Rattle.lowering.specs.Patterns.{Shape, shape, rest, hasRest, properties, key}
+use Rattle.lowering.specs.Patterns.{Shape, shape, hasRest, properties, key}
 use Rattle.lowering.specs.Patterns.Shape.{objectPattern, arrayPattern, leaf}
 use Rattle.lowering.specs.Keys.{keySort, entryOf, keyText}
-use Rattle.lowering.specs.Rests.{restValue}
 use Rattle.lowering.specs.Walk.{Note, Walked, WalkedFields, WalkedPiece, WalkedItems}
 use Rattle.lowering.specs.Walk.Walked.{noted}
 use Rattle.lowering.specs.Weight.{walked}
-use Rattle.lowering.specs.Made.{Context, assign, temporary}
+use Rattle.lowering.specs.Made.{Context, temporary}
 use Rattle.lowering.specs.Collect.{isContainer, marked, markOf}
 use Rattle.lowering.proofs.All.{AllItems}
 use Rattle.lowering.proofs.Cases.{by-test, by-shape, object-is, array-is, default-is, by-entry}
@@ -39,7 +38,7 @@ use Rattle.direct.specs.Views.View.{replacing, taking}
 use Rattle.direct.specs.Keys.{stringBytes, emitsExcluded, entries, primitives, hoists, emitsKeys, emitsKeysRead, emitsRest}
 use Rattle.direct.specs.Objects.{replacedIn, overReplaced}
 use Rattle.direct.specs.Handed.{placesIn, handsPlace, handsNested}
-use Rattle.direct.specs.Assigned.{emitsRestOf, emitsNest, emitsTarget}
+use Rattle.direct.specs.Assigned.{emitsNest, emitsTarget}
 use Rattle.direct.specs.Declared.{emitsKeyValue, emitsOwnKeys, emitsOwnPattern}
 use Rattle.direct.proofs.ViewedPatterns.{view-rest, view-property}
 use Rattle.direct.proofs.RestValues.{excluded-spelt, excluded-itself, excluded-omitted, excluded-saved, rest-none, rest-some}
@@ -484,13 +483,6 @@ unfolding itemsAt pieceIn
 value-quiet c d (Resting.parts {at = i} {ps = ps} {r = r} w l) same s k h at =
     rest-has quiets d at ps s k (λ e. taken-quiet c d taking refl same i r w (h e))
 
--- the pattern refuses nothing, so the value of its rest does not
-pub taking-calm : (c d : Place) (place : ℕ) (p : Node) → Fits input place p → is 34 p ≡ true → hasRest p ≡ true → c .root ≡ d .root
-    → (m : ℕ) → firstRefused (emitsView c taking p m) ≡ 0
-    → (at : ℕ) (s : Emit) → ((k : ℕ) → firstRefused (s k) ≡ 0) → (m′ : ℕ) → firstRefused (emitsRest d at (properties p) s m′) ≡ 0
-taking-calm c d place p f e h same m z at s k m′ =
-    value-quiet c d (resting (drawn p f) e h) same s (record { always = k }) (λ _. record { next = m; none = z }) at .always m′
-
 -- ---- declarations
 
 value-sounds : (c : Place) (q : Node) → Sounds (emitsKeyValue c q)
@@ -520,13 +512,6 @@ pub own-calm : (c : Place) (place : ℕ) (p : Node) → Fits input place p → i
     → (at m′ : ℕ) → firstRefused (emitsRest (inner c) at (properties p) s m′) ≡ 0
 own-calm c place p f e h s k m z at m′ =
     value-quiet (inner c) (inner c) (resting (drawn p f) e h) refl s (record { always = k }) (own-view c p s (record { next = m; none = z })) at .always m′
-
--- ---- the rests of a target
-
-module _ (c : Place) where
-  pub of-sounds : (o : Node) → Sounds (emitsRestOf c o)
-  unfolding emitsRestOf
-  of-sounds o = node-sounds (inner c) (assign (rest o) (restValue (contextOf c) o (temporary [] 3 (position o))))
 
 -- ---- the whole target
 

@@ -31,7 +31,8 @@ use Rattle.outcome.proofs.Room.{pot-most, pot-past}
 use Rattle.outcome.proofs.WalkedForms.{walked-formed}
 use Rattle.outcome.proofs.Uses.{used, calm, walked-used}
 use Rattle.outcome.proofs.MarksKept.{Held, walked-keeps}
-use Rattle.outcome.proofs.MarksInOrder.{counts-long, marks-long, counts-held, from, new-marks, numbered-marks}
+use Rattle.tree.proofs.EncodedLengths.{marks-long, counts-long}
+use Rattle.outcome.proofs.MarksInOrder.{counts-held, from, new-marks, numbered-marks}
 
 -- ---- what holds of an accepted tree
 

@@ -20,6 +20,7 @@ use Rattle.sink.specs.Machine.{low, high}
 use Rattle.sink.specs.Shown.{Named, Token, listOf, keysOf, listTokens, keysTokens, entryIn, declaratorIn, entriesIn, declaratorsIn}
 use Rattle.sink.specs.Shown.Token.{plain, temp}
 use Rattle.sink.proofs.Names.{size, size-append}
+use Rattle.sink.proofs.Events.{high-small}
 use Rattle.direct.specs.Events.{cellOf, stemOf}
 use Rattle.outcome.specs.Named
 use Rattle.outcome.specs.Named.{Act, lists, excludes, handed, entered, excludedKeys, handsOut, plains, tokens, tokensItems}
@@ -248,10 +249,6 @@ entryTokens e = plains (wideBytes (e .containing)) ++ (plains (wideBytes (count 
 
 abbrev Small : Entry → Type 0
 Small e = (e .containing < 65536) × (count (e .declarators) < 65536)
-
-high-small : (n : ℕ) → n < 65536 → high n ≡ n / 256
-unfolding high
-high-small n h = omega arith
 
 machine-entry : (e : Entry) → Small e → machineEntry e ≡ entryTokens e
 unfolding entryTokens plains low

@@ -1,18 +1,18 @@
--- Marks. Those of a tree as it is read count up from 1, and each takes two bytes; in the result the marks that are not below the next one are
+-- Marks. Those of a tree as it is read count up from 1; in the result the marks that are not below the next one are
 -- the next one, the one after it, and so on, each once and in order.
 -- Assumes nothing.
 use mathlib.Core.Path.{_≡_, refl, sym, ap, ap₂}
 use mathlib.Core.Bool.{cond}
 use mathlib.Core.List.{List, [], _∷_, _++_}
-use Prim.Native.Nat.{ℕ, zero, suc, _+_, _*_, _<_, _≤_}
+use Prim.Native.Nat.{ℕ, zero, suc, _+_, _<_, _≤_}
 use native.Mathlib.Omega.{arith}
 use lib.Dec.{eqb, ltb}
-use lib.ListN.{length, length-append}
 use borrow.Author.Tests.{lt-ltb, le-ltb}
-use Rattle.tree.specs.Tree.{Node, Fields, Piece, Items, encode, encodeFields, encodePiece, encodeItems, marks, marksFields, marksPiece, marksItems}
+use Rattle.tree.specs.Tree.{Node, Fields, Piece, Items, marks, marksFields, marksPiece, marksItems}
 use Rattle.tree.specs.Tree.Node.{node}
 use Rattle.tree.specs.WellFormed.{Counts}
 use Rattle.tree.proofs.Sound.{counts-append}
+use Rattle.tree.proofs.EncodedLengths.{counts-long}
 use Rattle.lowering.specs.Walk.{Walked, WalkedFields, WalkedPiece, WalkedItems}
 use Rattle.lowering.specs.Walk.Walked.{noted}
 use Rattle.lowering.specs.Collect.{Name, newIn, newInFields, newInPiece, newInItems, bare, bareFields, barePiece, bareItems, withNumber, numbered, numberedFields, numberedPiece, numberedItems}
@@ -20,47 +20,6 @@ use Rattle.lowering.proofs.Cases.{by-test}
 use Rattle.sink.specs.Shown.{Every}
 use Rattle.outcome.proofs.Tokens.{IsTemporary, Formed, FormedFields, FormedPiece, FormedItems}
 use Rattle.outcome.proofs.MarksKept.{Held, HeldFields, HeldPiece, HeldItems, Walks, WalksFields, WalksPiece, WalksItems}
-
--- ---- how many there are
-
-pub counts-long : (k : ℕ) (ms : List ℕ) (j : ℕ) → Counts k ms j → j ≡ k + length ms
-unfolding Counts
-counts-long k [] j c = omega arith
-counts-long k (m ∷ ms) j c = let h = counts-long (k + 1) ms j (c .1) in omega arith
-
-mutual
-  unfolding marks encode
-
-  pub marks-long : (n : Node) → 2 * length (marks n) ≤ length (encode n)
-  marks-long (node at k fs) = let h = fields-long fs in omega arith
-
-  fields-long : (fs : Fields) → 2 * length (marksFields fs) ≤ length (encodeFields fs)
-  fields-long Fields.done = omega arith
-  fields-long (Fields.absent fs) = fields-long fs
-  fields-long (Fields.field p fs) =
-      let a = piece-long p in
-      let b = fields-long fs in
-      let c = length-append (marksPiece p) (marksFields fs) in
-      let d = length-append (encodePiece p) (encodeFields fs) in
-      omega arith
-
-  piece-long : (p : Piece) → 2 * length (marksPiece p) ≤ length (encodePiece p)
-  piece-long (Piece.one n) = marks-long n
-  piece-long (Piece.list is) = let h = items-long is in omega arith
-  piece-long (Piece.text bs) = omega arith
-  piece-long (Piece.byte b) = omega arith
-  piece-long (Piece.mark b) = omega arith
-  piece-long (Piece.number b) = omega arith
-
-  items-long : (is : Items) → 2 * length (marksItems is) ≤ length (encodeItems is)
-  items-long Items.none = omega arith
-  items-long (Items.hole is) = let h = items-long is in omega arith
-  items-long (Items.item n is) =
-      let a = marks-long n in
-      let b = items-long is in
-      let c = length-append (marks n) (marksItems is) in
-      let d = length-append (encode n) (encodeItems is) in
-      omega arith
 
 -- ---- all are below the next
 

@@ -6,6 +6,7 @@ use mathlib.Core.Bool.{Bool, true, false, cond, _&&_, _||_, false≢true, true�
 use mathlib.Core.List.{List}
 use Prim.Native.Nat.{ℕ, zero, suc, _+_, _≤_, _<_}
 use native.Mathlib.Omega.{arith}
+use native.Mathlib.Nat.{le-refl}
 use lib.Dec.{eqb}
 use borrow.Author.Tests.{eqb-true}
 use Rattle.tree.specs.Tree.{Node, Fields, Piece, Items, depth}
@@ -1161,9 +1162,6 @@ module _ (x : ℕ) where
     unfolding own ownOf
     own-of at k fs = refl
 
-    same-less : (a : ℕ) → a ≤ a
-    same-less a = omega arith
-
     declaring-less : (s : Bool) (n m v : Node) → slotValue x m ≤ slotValue x n → declaring x s m v ≤ declaring x s n v
     unfolding declaring
     declaring-less s n m v h = cond-less s (cond (isName v) 0 (slotValue x n)) 0 (cond (isName v) 0 (slotValue x m)) 0 (λ e. cond-less (isName v) 0 (slotValue x n) 0 (slotValue x m) (λ f. omega arith) (λ f. h)) (λ e. omega arith)
@@ -1174,15 +1172,15 @@ module _ (x : ℕ) where
     own-less at k i0 s1 n m n1 i2 i3 z a b d =
         let g = left-less (here x at) (gone n) (gone m) b in
         let e = declaring-less s1 n m n1 d in
-        cond-less (eqb k 34) _ _ _ _ (λ h. same-less _)
-        (λ h. cond-less (eqb k 36) _ _ _ _ (λ h. same-less _)
+        cond-less (eqb k 34) _ _ _ _ (λ h. le-refl _)
+        (λ h. cond-less (eqb k 36) _ _ _ _ (λ h. le-refl _)
         (λ h. cond-less (eqb k 37) (slot x n + cond (gone n) 0 (here x at)) _ (slot x m + cond (gone m) 0 (here x at)) _ (λ h. omega arith)
-        (λ h. cond-less (eqb k 14) _ _ _ _ (λ h. same-less _)
-        (λ h. cond-less (eqb k 17) _ _ _ _ (λ h. same-less _)
+        (λ h. cond-less (eqb k 14) _ _ _ _ (λ h. le-refl _)
+        (λ h. cond-less (eqb k 17) _ _ _ _ (λ h. le-refl _)
         (λ h. cond-less (eqb k 10) _ _ _ _ (λ h. absurd (true≢false (sym h ∙ z)))
-        (λ h. cond-less (eqb k 7 || eqb k 8) _ _ _ _ (λ h. same-less _)
-        (λ h. cond-less (eqb k 27) _ _ _ _ (λ h. same-less _)
-        (λ h. cond-less (eqb k 5) _ _ _ _ (λ h. e) (λ h. same-less _)))))))))
+        (λ h. cond-less (eqb k 7 || eqb k 8) _ _ _ _ (λ h. le-refl _)
+        (λ h. cond-less (eqb k 27) _ _ _ _ (λ h. le-refl _)
+        (λ h. cond-less (eqb k 5) _ _ _ _ (λ h. e) (λ h. le-refl _)))))))))
 
     lists-same : (f : Node → Node) (fs : Fields) → asItems (pieceIn (changeIn fs 0 (onNode f)) 0) ≡ asItems (pieceIn fs 0)
     unfolding changeIn pieceIn onNode

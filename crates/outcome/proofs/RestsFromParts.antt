@@ -6,7 +6,7 @@ use mathlib.Core.Logic.{_⊎_, ⊎-elim}
 use mathlib.Core.Logic._⊎_.{inl, inr}
 use Prim.Native.Nat.{ℕ, zero, suc, _≤_, _<_}
 use native.Mathlib.Omega.{arith}
-use Rattle.tree.specs.Tree.{Node, Piece, Items, depth, depthFields, depthPiece, depthItems}
+use Rattle.tree.specs.Tree.{Node, Piece, Items, depth, depthFields, depthPiece}
 use Rattle.tree.specs.Tree.Node.{node}
 use Rattle.lowering.specs.Parts.{nothing, is, asNode, pieceIn, nodeAt, itemsAt, isEmpty, onNode, onItems, changeNode, only, each, gather, _+++_}
 use Rattle.lowering.specs.Made.{Context, assign, reference, valueOf, sequence}
@@ -21,11 +21,12 @@ use Rattle.lowering.proofs.Cases.{by-test, rule-27, not-false, shape-34, by-num
 use Rattle.lowering.proofs.Levels.{depth-pos, items-depth, piece-depth}
 use Rattle.lowering.proofs.Clauses.{nearest-object, nearest-array, nearest-default, parts-object, parts-array, parts-default, top-34, top-rest}
 use Rattle.lowering.proofs.ChangeLaws.{shape-changed, items-changed, items-without}
-use Rattle.lowering.proofs.PartsAt.{part-at}
+use Rattle.lowering.proofs.PartsAt.{part-at, item-depth}
 use Rattle.lowering.proofs.Weights.{weight-pos}
 use Rattle.lowering.proofs.Falls.{falls}
 use Rattle.lowering.proofs.WeightKeys.{rest-changed}
-use Rattle.direct.proofs.ObjectsByLevel.{value-changed, value-kept}
+use Rattle.lowering.proofs.SoundKeys.{value-kept}
+use Rattle.direct.proofs.ObjectsByLevel.{value-changed}
 use Rattle.direct.proofs.Targets.{left-changed, shape-taken}
 use Rattle.direct.proofs.NearestObjects.{found-or-none}
 use Rattle.direct.proofs.NearestObjects.{parts-nothing}
@@ -66,12 +67,6 @@ some-item (ItemAt.behind a) = refl
 some-item (ItemAt.behindHole a) = refl
 
 -- ---- their depth
-
-item-deep : {is : Items} {j : ℕ} {m : Node} → ItemAt is j m → depth m ≤ depthItems is
-unfolding depth
-item-deep ItemAt.first = omega arith
-item-deep (ItemAt.behind a) = let h = item-deep a in omega arith
-item-deep (ItemAt.behindHole a) = let h = item-deep a in omega arith
 
 node-deep : (i : ℕ) (n : Node) → depth (nodeAt i n) ≤ depth n
 unfolding nodeAt depth
@@ -119,7 +114,7 @@ left-deep (node at k fs) q o = go (pieceIn fs 0) (piece-depth fs 0) o
     go (Piece.number b) h o = no-object nothing q refl o
 
 value-deep : (p m : Node) {j : ℕ} → ItemAt (properties p) j m → depth (value m) < depth p
-value-deep p m a = let h = item-deep a in let i = items-depth 0 p in let v = node-deep 1 m in omega arith
+value-deep p m a = let h = item-depth a in let i = items-depth 0 p in let v = node-deep 1 m in omega arith
 
 -- ---- one of the nearest has it in it
 
@@ -151,7 +146,7 @@ nearest-has (suc d) p q l (inValue {m = m} e i o) =
     (λ r. found-here true d p q e r (inValue e i o))
     (λ r. let h = value-deep p m i in found-value true d p q m e r i (nearest-has d (value m) q (omega arith) o))
 nearest-has (suc d) p q l (inItem {m = m} e i o) =
-    let h = item-deep i in let g = items-depth 0 p in found-item d p q m e i (nearest-has d m q (omega arith) o)
+    let h = item-depth i in let g = items-depth 0 p in found-item d p q m e i (nearest-has d m q (omega arith) o)
 nearest-has (suc d) p q l (inLeft e o) = let h = left-deep p q o in found-left true d p q e (nearest-has d (leftOf p) q (omega arith) o)
 
 -- a part has it in it, or it is left when the parts are replaced

@@ -1,14 +1,13 @@
 -- The names of the list are names of the tree.
 -- Assumes nothing.
 use mathlib.Core.Path.{_≡_, refl, sym, ap, _∙_, subst}
-use mathlib.Core.Bool.{Bool, cond, false≢true}
+use mathlib.Core.Bool.{Bool, cond}
 use mathlib.Core.List.{List, [], _∷_, _++_, append-nil}
 use mathlib.Core.Logic.{⊎-elim}
 use mathlib.Core.Logic._⊎_.{inl}
 use Prim.Native.Nat.{ℕ, zero, suc, _+_, _≤_, _<_}
 use native.Mathlib.Omega.{arith}
 use lib.Dec.{eqb}
-use borrow.Author.Tests.{eqb-true}
 use Rattle.tree.specs.Tree.{Node, Fields, Piece, Items, wideBytes, count, encode}
 use Rattle.tree.specs.Tree.Node.{node}
 use Rattle.lowering.specs.Parts.{nodeAt, pieceIn, isEmpty, each}
@@ -38,44 +37,23 @@ use Rattle.outcome.proofs.Nodes.{names-joined, plains-names}
 use Rattle.outcome.proofs.ListWritten.{machineEntry}
 use Rattle.outcome.proofs.ListedStand.{Calm, CalmFields, CalmPiece, CalmItems, stays-result, rewrite-used, sum-some}
 use Rattle.lowering.proofs.ItemLaws.{each-append, over-append}
+use Rattle.lowering.proofs.RefusalsMet.{no-refusal, no-refusal-here}
 
 -- ---- no refusal in the visits is none in the walk
-
-calm-split : (us vs : List Visit) → firstRefusal (us ++ vs) ≡ 0 → (firstRefusal us ≡ 0) × (firstRefusal vs ≡ 0)
-unfolding firstRefusal
-calm-split [] vs h = (refl, h)
-calm-split (u ∷ us) vs h =
-    by-test (eqb (u .note .refusal) 0)
-    (λ e.
-    let h′ : firstRefusal (us ++ vs) ≡ 0 = rw (e, firstRefusal) at h in
-    let r = calm-split us vs h′ in
-    (rw (e, firstRefusal) (r .0), r .1))
-    (λ e.
-    let h′ : u .note .refusal ≡ 0 = rw (e, firstRefusal) at h in
-    absurd (false≢true (sym e ∙ ap (λ (x : ℕ). eqb x 0) h′)))
-
-calm-first : (v : Visit) (vs : List Visit) → firstRefusal (v ∷ vs) ≡ 0 → (v .note .refusal ≡ 0) × (firstRefusal vs ≡ 0)
-unfolding firstRefusal
-calm-first v vs h =
-    by-test (eqb (v .note .refusal) 0)
-    (λ e. let h′ : firstRefusal vs ≡ 0 = rw (e, firstRefusal) at h in (eqb-true (v .note .refusal) 0 e, h′))
-    (λ e.
-    let h′ : v .note .refusal ≡ 0 = rw (e, firstRefusal) at h in
-    absurd (false≢true (sym e ∙ ap (λ (x : ℕ). eqb x 0) h′)))
 
 mutual
   unfolding visits
 
   pub calm : (w : Walked) (next m : ℕ) → firstRefusal (visits next m w) ≡ 0 → Calm w
   calm (noted note at k fs) next m h =
-      let r = calm-first (record { containing = m; note = note }) (visitsFields (isContainer k) next m fs) h in
+      let r = no-refusal-here (record { containing = m; note = note }) (visitsFields (isContainer k) next m fs) h in
       (r .0, calm-fields fs (isContainer k) next m (r .1))
 
   calm-fields : (fs : WalkedFields) (l : Bool) (next m : ℕ) → firstRefusal (visitsFields l next m fs) ≡ 0 → CalmFields fs
   calm-fields WalkedFields.done l next m h = tt
   calm-fields (WalkedFields.absent fs) l next m h = calm-fields fs l next m h
   calm-fields (WalkedFields.field p fs) l next m h =
-      let r = calm-split (visitsPiece l next m p) (visitsFields l (next + newInPiece p) m fs) h in
+      let r = no-refusal (visitsPiece l next m p) (visitsFields l (next + newInPiece p) m fs) h in
       (calm-piece p l next m (r .0), calm-fields fs l (next + newInPiece p) m (r .1))
 
   calm-piece : (p : WalkedPiece) (l : Bool) (next m : ℕ) → firstRefusal (visitsPiece l next m p) ≡ 0 → CalmPiece p
@@ -91,7 +69,7 @@ mutual
   calm-items (WalkedItems.hole is) l next m h = calm-items is l next m h
   calm-items (WalkedItems.item w is) l next m h =
       let c = cond l (marked next (markOf w)) m in
-      let r = calm-split (visits next c w) (visitsItems l (next + newIn w) m is) h in
+      let r = no-refusal (visits next c w) (visitsItems l (next + newIn w) m is) h in
       (calm w next c (r .0), calm-items is l (next + newIn w) m (r .1))
 
 module _ (a : Name) where

@@ -20,6 +20,7 @@ use Rattle.lowering.specs.Visits.{ItemAt, NodeIn, FieldAt, PartAt, Stands}
 use Rattle.overlay.proofs.LaidOn.{differ}
 use Rattle.overlay.proofs.Free.{free-below}
 use Rattle.lowering.proofs.Cases.{by-test, and-left, and-right}
+use Rattle.lowering.proofs.PlaceTests.{row-at, not-20, not-21}
 
 -- ---- a test that holds of every node of a tree holds of the parts
 
@@ -46,24 +47,6 @@ module _ (bad : Node → Bool) where
   stands-free (Stands.onward a s) e = stands-free s (part-free a e)
 
 -- ---- the grammar's places: what a test says of each row it says of each place
-
-abbrev pub allRows : (List ℕ → Bool) → List (List ℕ) → Bool
-allRows t [] = true
-allRows t (r ∷ rs) = t r && allRows t rs
-
-pub row-at : (t : List ℕ → Bool) (rs : List (List ℕ)) (p : ℕ) → t [] ≡ true → allRows t rs ≡ true → t (getD rs p []) ≡ true
-row-at t [] p z a = z
-row-at t (r ∷ rs) zero z a = and-left (t r) (allRows t rs) a
-row-at t (r ∷ rs) (suc p) z a = row-at t rs p z (and-right (t r) (allRows t rs) a)
-
--- input holds no 20 and no 21
-pub no-20 : (p : ℕ) → formAt input p 20 ≡ 0
-unfolding formAt allowed formIn places kindOf
-no-20 p = eqb-true (formIn (getD places p []) 20) 0 (row-at (λ r. eqb (formIn r 20) 0) places p refl refl)
-
-no-21 : (p : ℕ) → formAt input p 21 ≡ 0
-unfolding formAt allowed formIn places kindOf
-no-21 p = eqb-true (formIn (getD places p []) 21) 0 (row-at (λ r. eqb (formIn r 21) 0) places p refl refl)
 
 -- the form of a Declaration
 form-4 : (p : ℕ) → (eqb (formAt input p 4) 0 || eqb (formAt input p 4) 4) ≡ true
@@ -156,18 +139,12 @@ not-new (Fields.field (Piece.number b) fs) h = not-new fs h
 
 -- ---- the whole
 
-pub not-kind : (p k j : ℕ) → formAt input p j ≡ 0 → 0 < formAt input p k → eqb k j ≡ false
-not-kind p k j z h =
-    by-test (eqb k j)
-    (λ e. let y : formAt input p k ≡ 0 = ap (λ (x : ℕ). formAt input p x) (eqb-true k j e) ∙ z in absurd (omega arith))
-    (λ e. e)
-
 mutual
   unfolding marks
 
   fits-free : {p : ℕ} {n : Node} → Fits input p n → Positive (marks n) → free isForeign n ≡ true
   fits-free (Fits.fits {p = p} {at = at} {k = k} {fs = fs} h f) m =
-      rw (not-kind p k 20 (no-20 p) h, not-kind p k 21 (no-21 p) h, not-new fs m, shaped p at k fs h f) (fields-free f m)
+      rw (not-20 p k h, not-21 p k h, not-new fs m, shaped p at k fs h f) (fields-free f m)
 
   fields-free : {b : ℕ} {ts : List Field} {fs : Fields} → FitFields input b ts fs → Positive (marksFields fs) → freeFields isForeign fs ≡ true
   fields-free FitFields.done m = refl

@@ -17,9 +17,10 @@ use Rattle.tree.specs.WellFormed.{Fits, FitFields, FitPiece, FitItems, WellForm
 use Rattle.lowering.specs.Parts.{is, pieceIn, standsIn, asNode, asItems, nodeAt, any}
 use Rattle.lowering.specs.Visits.{ItemAt, NodeIn, FieldAt, PartAt, Stands}
 use Rattle.overlay.proofs.LaidOn.{differ}
-use Rattle.overlay.proofs.AcceptedGiven.{no-20, allRows, row-at, isMany, fieldAt, not-kind}
+use Rattle.overlay.proofs.AcceptedGiven.{isMany, fieldAt}
 use Rattle.overlay.proofs.LiteralsCounted.{isList, takesIn, takes, areParams, hasBody, isAtom, changesIt, held, heldAll, heldPiece, heldItems, heldParts, heldPattern, heldDeclarators, heldDeclarator, at-24, at-26, at-27, at-34, at-37, at-4, declarator-held}
 use Rattle.lowering.proofs.Cases.{by-test, or-left, or-right}
+use Rattle.lowering.proofs.PlaceTests.{allRows, row-at, not-kind, not-20}
 
 -- ---- forms: which a kind may have, at whatever place
 
@@ -572,7 +573,7 @@ module _ (wanted : Node → Bool) where
       (λ e₁₀. by-test (eqb k 10) (λ e. counts-at p at fs k 10 e (with-body p at fs 10 refl (body-10 p fs)))
       (λ e₁₁. by-test (eqb k 7) (λ e. counts-at p at fs k 7 e (with-body p at fs 7 refl (body-7 p fs)))
       (λ e₁₂. by-test (eqb k 8) (λ e. counts-at p at fs k 8 e (with-body p at fs 8 refl (body-8 p fs)))
-      (λ e₁₃ u h f. body-counts at k fs e₁ e₂ e₃ e₄ e₅ e₆ (atom (not-kind p k 20 (no-20 p) h) e₇ e₈) (no-body k fs e₉ e₁₀ e₁₁ e₁₂ e₁₃) u)))))))))))))
+      (λ e₁₃ u h f. body-counts at k fs e₁ e₂ e₃ e₄ e₅ e₆ (atom (not-20 p k h) e₇ e₈) (no-body k fs e₉ e₁₀ e₁₁ e₁₂ e₁₃) u)))))))))))))
     where
       atom : eqb k 20 ≡ false → eqb k 13 ≡ false → eqb k 18 ≡ false → isAtom k ≡ false
       atom a b d = rw (b, d, a) refl

@@ -1,6 +1,6 @@
--- No plain literal is stuck, lowered or not: the law does not hold for want of meaning.
+-- No plain literal is stuck: the law does not hold for want of meaning.
 -- Assumes nothing.
-use mathlib.Core.Path.{_≡_, refl, sym, subst}
+use mathlib.Core.Path.{_≡_, refl}
 use mathlib.Core.Bool.{Bool, true, false, cond}
 use mathlib.Core.List.{List, [], _∷_}
 use Prim.Native.Nat.{ℕ}
@@ -8,8 +8,6 @@ use lib.Dec.{eqb}
 use Rattle.tree.specs.Tree.{Node, Items}
 use Rattle.tree.specs.Tree.Node.{node}
 use Rattle.lowering.specs.Parts.{is, pieceIn, nodeAt}
-use Rattle.lowering.specs.Made.{Context}
-use Rattle.lowering.specs.Collect.{Name}
 use Rattle.overlay.specs.Objects.{Key, Value, Props, put}
 use Rattle.overlay.specs.Objects.Value.{outer, inner}
 use Rattle.overlay.specs.Objects.Props.{empty, entry}
@@ -18,12 +16,10 @@ use Rattle.overlay.specs.Run.Step.{evaluates, computes, names, converts,
 use Rattle.overlay.specs.Run.Reply.{gives, throws}
 use Rattle.overlay.specs.Run.Out.{ok, threw, beyond, stuck}
 use Rattle.overlay.specs.Run.Entry.{pair}
-use Rattle.overlay.specs.Plain.{free, isObject, isForeign, bare, fineKey, given, plain}
-use Rattle.overlay.specs.Law.{Fair, Moves, Described}
-use Rattle.overlay.specs.Whole.{leaves}
+use Rattle.overlay.specs.Plain.{free, isObject, isForeign, bare, fineKey, given}
+use Rattle.overlay.specs.Law.{Moves, Described}
 use Rattle.overlay.proofs.Free.{free-here, free-node}
 use Rattle.overlay.proofs.Plainly.{Opaque, Plain, PlainParts, PlainPart, no-part, next-part, spread, property, propertyOf, plain-rule}
-use Rattle.overlay.proofs.Overlay.{faithful}
 use Rattle.lowering.proofs.Cases.{by-test, or-left, or-right, and-none, and-right}
 
 then-moves : {A B : Type 0} (r : Out A) (f : History → A → Out B) → Moves r → ((h : History) (a : A) → Moves (f h a)) → Moves (then r f)
@@ -112,7 +108,3 @@ module _ (W : Outside) where
 pub described : Described
 unfolding given
 described W how n h g e = run-moves W (plain-rule n e g) how h
-
-pub described-lowered : (ns : List Name) (next : ℕ) (c : Context) (W : Outside) → Fair W → (how : Node → Step) (n : Node) (h : History)
-    → given n ≡ true → plain n ≡ true → Moves (run W how (leaves ns next c n) h)
-described-lowered ns next c W fair how n h g e = subst (λ (r : Out Value). Moves r) (sym (faithful ns next c W fair how n h g e)) (described W how n h g e)

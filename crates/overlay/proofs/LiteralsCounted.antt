@@ -1,7 +1,7 @@
 -- How often a literal or a Declaration stands in a tree, at the places where the rules look. `wanted` says which it is. A place that the
 -- grammar does not have is not counted, so that what is said of the count holds of every tree.
 -- Assumes nothing.
-use mathlib.Core.Path.{_≡_, refl, ap, ap₂}
+use mathlib.Core.Path.{_≡_, refl, ap, ap₂, _∙_}
 use mathlib.Core.Bool.{Bool, true, false, cond, _&&_, _||_, not}
 use Prim.Native.Nat.{ℕ, zero, suc, _+_, _≤_}
 use native.Mathlib.Omega.{arith}
@@ -57,6 +57,15 @@ hasBody k fs =
 unfoldable pub isAtom : ℕ → Bool
 isAtom k = eqb k 13 || (eqb k 18 || eqb k 20)
 
+-- how a field is counted: as a node; as the left of a Default or the id of a Declarator, which are no Default; as a list; as the properties of an
+-- ObjectPattern, 35 PatternProperty(key value flags=); as declarators, 5 Declarator(id init?)
+pub data Way : Type 0 where
+  asOne : Way
+  asLeft : Way
+  asList : Way
+  asParts : Way
+  asDeclared : Way
+
 module _ (wanted : Node → Bool) where
   -- 7 ForIn and 8 ForOf change the Declaration that is their left. Where that one is wanted, nothing is counted
   abbrev pub changesIt : ℕ → Fields → Bool
@@ -66,12 +75,12 @@ module _ (wanted : Node → Bool) where
     pub held : Node → ℕ
     held (node at k fs) =
         let own : ℕ = cond (wanted (node at k fs)) 1 0 in
-        cond (eqb k 24) (own + heldList fs 0)
-        (cond (eqb k 26) (heldOne fs 0)
-        (cond (eqb k 27) (heldOne fs 1 + heldOne fs 2)
-        (cond (eqb k 34) (heldPart fs 0 + heldOne fs 1)
-        (cond (eqb k 37) (heldLeft fs 0 + heldOne fs 1)
-        (cond (eqb k 4) (own + heldDeclared fs 2)
+        cond (eqb k 24) (own + heldAt fs Way.asList 0)
+        (cond (eqb k 26) (heldAt fs Way.asOne 0)
+        (cond (eqb k 27) (heldAt fs Way.asOne 1 + heldAt fs Way.asOne 2)
+        (cond (eqb k 34) (heldAt fs Way.asParts 0 + heldAt fs Way.asOne 1)
+        (cond (eqb k 37) (heldAt fs Way.asLeft 0 + heldAt fs Way.asOne 1)
+        (cond (eqb k 4) (own + heldAt fs Way.asDeclared 2)
         (cond (isAtom k) 0
         (cond (hasBody k fs) (cond (changesIt k fs) 0 (heldAll fs)) 0)))))))
 
@@ -93,88 +102,33 @@ module _ (wanted : Node → Bool) where
     heldItems (hole is) = heldItems is
     heldItems (item n is) = held n + heldItems is
 
-    -- the node of field i; the list of field i; the same as the left of a Default or the id of a Declarator, which are no Default
-    pub heldOne : Fields → ℕ → ℕ
-    heldOne done i = 0
-    heldOne (absent fs) zero = 0
-    heldOne (absent fs) (suc i) = heldOne fs i
-    heldOne (field p fs) zero = heldNode p
-    heldOne (field p fs) (suc i) = heldOne fs i
+    pub heldAt : Fields → Way → ℕ → ℕ
+    heldAt done w i = 0
+    heldAt (absent fs) w zero = 0
+    heldAt (absent fs) w (suc i) = heldAt fs w i
+    heldAt (field p fs) w zero = heldBy p w
+    heldAt (field p fs) w (suc i) = heldAt fs w i
 
-    pub heldNode : Piece → ℕ
-    heldNode (one n) = held n
-    heldNode (list is) = 0
-    heldNode (text bs) = 0
-    heldNode (byte b) = 0
-    heldNode (mark b) = 0
-    heldNode (number b) = 0
-
-    pub heldList : Fields → ℕ → ℕ
-    heldList done i = 0
-    heldList (absent fs) zero = 0
-    heldList (absent fs) (suc i) = heldList fs i
-    heldList (field p fs) zero = heldIn p
-    heldList (field p fs) (suc i) = heldList fs i
-
-    pub heldIn : Piece → ℕ
-    heldIn (one n) = 0
-    heldIn (list is) = heldItems is
-    heldIn (text bs) = 0
-    heldIn (byte b) = 0
-    heldIn (mark b) = 0
-    heldIn (number b) = 0
-
-    pub heldLeft : Fields → ℕ → ℕ
-    heldLeft done i = 0
-    heldLeft (absent fs) zero = 0
-    heldLeft (absent fs) (suc i) = heldLeft fs i
-    heldLeft (field p fs) zero = heldNoDefault p
-    heldLeft (field p fs) (suc i) = heldLeft fs i
-
-    pub heldNoDefault : Piece → ℕ
-    heldNoDefault (one n) = cond (is 37 n) 0 (held n)
-    heldNoDefault (list is) = 0
-    heldNoDefault (text bs) = 0
-    heldNoDefault (byte b) = 0
-    heldNoDefault (mark b) = 0
-    heldNoDefault (number b) = 0
-
-    -- the list of field i as properties of an ObjectPattern: 35 PatternProperty(key value flags=)
-    pub heldPart : Fields → ℕ → ℕ
-    heldPart done i = 0
-    heldPart (absent fs) zero = 0
-    heldPart (absent fs) (suc i) = heldPart fs i
-    heldPart (field p fs) zero = heldPartIn p
-    heldPart (field p fs) (suc i) = heldPart fs i
-
-    pub heldPartIn : Piece → ℕ
-    heldPartIn (one n) = 0
-    heldPartIn (list is) = heldParts is
-    heldPartIn (text bs) = 0
-    heldPartIn (byte b) = 0
-    heldPartIn (mark b) = 0
-    heldPartIn (number b) = 0
+    pub heldBy : Piece → Way → ℕ
+    heldBy (one n) Way.asOne = held n
+    heldBy (one n) Way.asLeft = cond (is 37 n) 0 (held n)
+    heldBy (one n) Way.asList = 0
+    heldBy (one n) Way.asParts = 0
+    heldBy (one n) Way.asDeclared = 0
+    heldBy (list is) Way.asOne = 0
+    heldBy (list is) Way.asLeft = 0
+    heldBy (list is) Way.asList = heldItems is
+    heldBy (list is) Way.asParts = heldParts is
+    heldBy (list is) Way.asDeclared = heldDeclarators is
+    heldBy (text bs) w = 0
+    heldBy (byte b) w = 0
+    heldBy (mark b) w = 0
+    heldBy (number b) w = 0
 
     pub heldParts : Items → ℕ
     heldParts none = 0
     heldParts (hole ns) = heldParts ns
     heldParts (item n ns) = cond (is 35 n) (held n) 0 + heldParts ns
-
-    -- the list of field i as declarators: 5 Declarator(id init?)
-    pub heldDeclared : Fields → ℕ → ℕ
-    heldDeclared done i = 0
-    heldDeclared (absent fs) zero = 0
-    heldDeclared (absent fs) (suc i) = heldDeclared fs i
-    heldDeclared (field p fs) zero = heldDeclaredIn p
-    heldDeclared (field p fs) (suc i) = heldDeclared fs i
-
-    pub heldDeclaredIn : Piece → ℕ
-    heldDeclaredIn (one n) = 0
-    heldDeclaredIn (list is) = heldDeclarators is
-    heldDeclaredIn (text bs) = 0
-    heldDeclaredIn (byte b) = 0
-    heldDeclaredIn (mark b) = 0
-    heldDeclaredIn (number b) = 0
 
     pub heldDeclarators : Items → ℕ
     heldDeclarators none = 0
@@ -182,83 +136,77 @@ module _ (wanted : Node → Bool) where
     heldDeclarators (item d is) = heldDeclarator d + heldDeclarators is
 
     pub heldDeclarator : Node → ℕ
-    heldDeclarator (node at k fs) = cond (eqb k 5) (heldLeft fs 0 + heldOne fs 1) 0
+    heldDeclarator (node at k fs) = cond (eqb k 5) (heldAt fs Way.asLeft 0 + heldAt fs Way.asOne 1) 0
 
   abbrev pub heldPattern : Node → ℕ
   heldPattern n = cond (is 37 n) 0 (held n)
 
   -- ---- by the parts that the rules read
 
-  pub one-held : (fs : Fields) (i : ℕ) → heldOne fs i ≡ held (asNode (pieceIn fs i))
-  unfolding held pieceIn isAtom hasBody
-  one-held done i = refl
-  one-held (absent fs) zero = refl
-  one-held (absent fs) (suc i) = one-held fs i
-  one-held (field (one n) fs) zero = refl
-  one-held (field (list n) fs) zero = refl
-  one-held (field (text n) fs) zero = refl
-  one-held (field (byte n) fs) zero = refl
-  one-held (field (mark n) fs) zero = refl
-  one-held (field (number n) fs) zero = refl
-  one-held (field p fs) (suc i) = one-held fs i
-
-  pub left-held : (fs : Fields) (i : ℕ) → heldLeft fs i ≡ heldPattern (asNode (pieceIn fs i))
-  unfolding held pieceIn isAtom hasBody is
-  left-held done i = refl
-  left-held (absent fs) zero = refl
-  left-held (absent fs) (suc i) = left-held fs i
-  left-held (field (one n) fs) zero = refl
-  left-held (field (list n) fs) zero = refl
-  left-held (field (text n) fs) zero = refl
-  left-held (field (byte n) fs) zero = refl
-  left-held (field (mark n) fs) zero = refl
-  left-held (field (number n) fs) zero = refl
-  left-held (field p fs) (suc i) = left-held fs i
-
-  list-held : (fs : Fields) (i : ℕ) → heldList fs i ≡ heldItems (asItems (pieceIn fs i))
+  at-held : (fs : Fields) (w : Way) (i : ℕ) → heldAt fs w i ≡ heldBy (pieceIn fs i) w
   unfolding held pieceIn
-  list-held done i = refl
-  list-held (absent fs) zero = refl
-  list-held (absent fs) (suc i) = list-held fs i
-  list-held (field (one n) fs) zero = refl
-  list-held (field (list n) fs) zero = refl
-  list-held (field (text n) fs) zero = refl
-  list-held (field (byte n) fs) zero = refl
-  list-held (field (mark n) fs) zero = refl
-  list-held (field (number n) fs) zero = refl
-  list-held (field p fs) (suc i) = list-held fs i
+  at-held done w i = refl
+  at-held (absent fs) w zero = refl
+  at-held (absent fs) w (suc i) = at-held fs w i
+  at-held (field p fs) w zero = refl
+  at-held (field p fs) w (suc i) = at-held fs w i
 
-  part-held : (fs : Fields) (i : ℕ) → heldPart fs i ≡ heldParts (asItems (pieceIn fs i))
-  unfolding held pieceIn
-  part-held done i = refl
-  part-held (absent fs) zero = refl
-  part-held (absent fs) (suc i) = part-held fs i
-  part-held (field (one n) fs) zero = refl
-  part-held (field (list n) fs) zero = refl
-  part-held (field (text n) fs) zero = refl
-  part-held (field (byte n) fs) zero = refl
-  part-held (field (mark n) fs) zero = refl
-  part-held (field (number n) fs) zero = refl
-  part-held (field p fs) (suc i) = part-held fs i
+  one-by : (p : Piece) → heldBy p Way.asOne ≡ held (asNode p)
+  unfolding held isAtom hasBody
+  one-by (one n) = refl
+  one-by (list n) = refl
+  one-by (text n) = refl
+  one-by (byte n) = refl
+  one-by (mark n) = refl
+  one-by (number n) = refl
 
-  declared-held : (fs : Fields) (i : ℕ) → heldDeclared fs i ≡ heldDeclarators (asItems (pieceIn fs i))
-  unfolding held pieceIn
-  declared-held done i = refl
-  declared-held (absent fs) zero = refl
-  declared-held (absent fs) (suc i) = declared-held fs i
-  declared-held (field (one n) fs) zero = refl
-  declared-held (field (list n) fs) zero = refl
-  declared-held (field (text n) fs) zero = refl
-  declared-held (field (byte n) fs) zero = refl
-  declared-held (field (mark n) fs) zero = refl
-  declared-held (field (number n) fs) zero = refl
-  declared-held (field p fs) (suc i) = declared-held fs i
+  left-by : (p : Piece) → heldBy p Way.asLeft ≡ heldPattern (asNode p)
+  unfolding held isAtom hasBody is
+  left-by (one n) = refl
+  left-by (list n) = refl
+  left-by (text n) = refl
+  left-by (byte n) = refl
+  left-by (mark n) = refl
+  left-by (number n) = refl
+
+  list-by : (p : Piece) → heldBy p Way.asList ≡ heldItems (asItems p)
+  unfolding held
+  list-by (one n) = refl
+  list-by (list n) = refl
+  list-by (text n) = refl
+  list-by (byte n) = refl
+  list-by (mark n) = refl
+  list-by (number n) = refl
+
+  parts-by : (p : Piece) → heldBy p Way.asParts ≡ heldParts (asItems p)
+  unfolding held
+  parts-by (one n) = refl
+  parts-by (list n) = refl
+  parts-by (text n) = refl
+  parts-by (byte n) = refl
+  parts-by (mark n) = refl
+  parts-by (number n) = refl
+
+  declared-by : (p : Piece) → heldBy p Way.asDeclared ≡ heldDeclarators (asItems p)
+  unfolding held
+  declared-by (one n) = refl
+  declared-by (list n) = refl
+  declared-by (text n) = refl
+  declared-by (byte n) = refl
+  declared-by (mark n) = refl
+  declared-by (number n) = refl
+
+  one-held : (fs : Fields) (i : ℕ) → heldAt fs Way.asOne i ≡ held (asNode (pieceIn fs i))
+  one-held fs i = at-held fs Way.asOne i ∙ one-by (pieceIn fs i)
+
+  left-held : (fs : Fields) (i : ℕ) → heldAt fs Way.asLeft i ≡ heldPattern (asNode (pieceIn fs i))
+  left-held fs i = at-held fs Way.asLeft i ∙ left-by (pieceIn fs i)
 
   -- ---- each kind that is counted by its parts
 
   pub at-24 : (at : ℕ) (fs : Fields) → held (node at 24 fs) ≡ cond (wanted (node at 24 fs)) 1 0 + heldItems (asItems (pieceIn fs 0))
   unfolding held
-  at-24 at fs = ap (λ (x : ℕ). cond (wanted (node at 24 fs)) 1 0 + x) (list-held fs 0)
+  at-24 at fs = ap (λ (x : ℕ). cond (wanted (node at 24 fs)) 1 0 + x) (at-held fs Way.asList 0 ∙ list-by (pieceIn fs 0))
 
   pub at-26 : (at : ℕ) (fs : Fields) → held (node at 26 fs) ≡ held (asNode (pieceIn fs 0))
   unfolding held
@@ -270,7 +218,7 @@ module _ (wanted : Node → Bool) where
 
   pub at-34 : (at : ℕ) (fs : Fields) → held (node at 34 fs) ≡ heldParts (asItems (pieceIn fs 0)) + held (asNode (pieceIn fs 1))
   unfolding held
-  at-34 at fs = ap₂ (λ (x y : ℕ). x + y) (part-held fs 0) (one-held fs 1)
+  at-34 at fs = ap₂ (λ (x y : ℕ). x + y) (at-held fs Way.asParts 0 ∙ parts-by (pieceIn fs 0)) (one-held fs 1)
 
   pub at-37 : (at : ℕ) (fs : Fields) → held (node at 37 fs) ≡ heldPattern (asNode (pieceIn fs 0)) + held (asNode (pieceIn fs 1))
   unfolding held
@@ -278,7 +226,7 @@ module _ (wanted : Node → Bool) where
 
   pub at-4 : (at : ℕ) (fs : Fields) → held (node at 4 fs) ≡ cond (wanted (node at 4 fs)) 1 0 + heldDeclarators (asItems (pieceIn fs 2))
   unfolding held
-  at-4 at fs = ap (λ (x : ℕ). cond (wanted (node at 4 fs)) 1 0 + x) (declared-held fs 2)
+  at-4 at fs = ap (λ (x : ℕ). cond (wanted (node at 4 fs)) 1 0 + x) (at-held fs Way.asDeclared 2 ∙ declared-by (pieceIn fs 2))
 
   pub declarator-held : (d : Node) → heldDeclarator d ≡ cond (is 5 d) (heldPattern (nodeAt 0 d) + held (nodeAt 1 d)) 0
   unfolding held nodeAt is

@@ -18,12 +18,12 @@ use Rattle.lowering.specs.Answer.{Lent, Result, lowering, top}
 use Rattle.lowering.proofs.Falls.{walked-is}
 use Rattle.lowering.proofs.CallLowers.{lowers}
 use Rattle.overlay.specs.Plain.{given}
-use Rattle.overlay.specs.Law.{Overlay, Faithful}
+use Rattle.overlay.specs.Law.{Overlay}
 use Rattle.lowering.specs.Visits.{ItemAt, NodeIn, FieldAt, PartAt, Stands, Visits}
 use Rattle.overlay.specs.Whole.{leaves, lowered, Left, InPlace, Writes}
 use Rattle.overlay.proofs.Plainly.{Plain, plain-rule}
 use Rattle.overlay.proofs.LiteralsLowered.{plain-turns}
-use Rattle.overlay.proofs.Overlay.{faithful, overlays}
+use Rattle.overlay.proofs.Overlay.{overlays}
 
 pub zero-plus : (n : ℕ) → 0 + n ≡ n
 zero-plus n = omega arith
@@ -100,9 +100,6 @@ in-place ns next n m d v g e =
 
 pub lowered-overlays : Overlay lowered lowered
 lowered-overlays = overlays [] [] 1 1 top top
-
-pub lowered-faithful : Faithful lowered
-lowered-faithful = faithful [] 1 top
 
 -- ---- the bytes of the result
 

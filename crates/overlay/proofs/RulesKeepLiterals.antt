@@ -22,7 +22,7 @@ use Rattle.lowering.specs.Rests.{restValue}
 use Rattle.lowering.specs.Declarations.{declarators, declaration, declarationRefusal}
 use Rattle.lowering.specs.Assignments.{target, assigned, isTop, partsOf, topRefusal, partsReplaced, targetLeft, fromReference, topSequence, topEntry, outermost, nestedSequence}
 use Rattle.lowering.specs.Heads.{isMoved, moved, movedFrom, movedOut, movedPattern, leftBehind, inFront, inBody, asFunctionBody, asBlock, function, arrow, catch, declaringHead, assigningHead}
-use Rattle.lowering.specs.Walk.{Step, unchanged, ruleOf, rewrite, stepDeclaration, stepTop, stepAssignment, stepFor}
+use Rattle.lowering.specs.Walk.{Step, ruleOf, rewrite, stepDeclaration, stepTop, stepAssignment, stepFor}
 use Rattle.lowering.proofs.All.{other-changed}
 use Rattle.overlay.specs.Plain.{hasHole}
 use Rattle.overlay.proofs.LaidOn.{differ}
@@ -30,6 +30,7 @@ use Rattle.overlay.proofs.LiteralsCounted.{isList, takesIn, takes, areP
 use Rattle.overlay.proofs.ViewsKeep.{View, view, object-view, array-view, default-view, leaf-view, pattern-most, declarator-most, declarator-kept, replaced-kept, top-kept, heldLets, lets-add, moved-kept}
 use Rattle.lowering.proofs.ChangeLaws.{stands-changed, items-changed-in}
 use Rattle.lowering.proofs.Cases.{not-false, by-test, or-left, or-right, and-left, and-right, by-number}
+use Rattle.lowering.proofs.Clauses.{others}
 
 abbrev nowhere-context : Context
 nowhere-context = record { path = []; root = true; statement = false }
@@ -768,11 +769,6 @@ module _ (wanted : Node → Bool) where
     unfolding held
     none-held = refl
 
-    others : (at k : ℕ) (fs : Fields) → eqb k 24 ≡ false → eqb k 4 ≡ false → eqb k 27 ≡ false → eqb k 14 ≡ false → eqb k 17 ≡ false → eqb k 10 ≡ false → eqb k 7 ≡ false → eqb k 8 ≡ false
-        → rewrite c (node at k fs) ≡ unchanged (node at k fs)
-    unfolding rewrite ruleOf
-    others at k fs e₁ e₂ e₃ e₄ e₅ e₆ e₇ e₈ = rw (e₁, e₂, e₃, e₄, e₅, e₆, e₇, e₈, rewrite) refl
-
     pub keeps : (n : Node) → Kept n
     keeps (node at k fs) =
         let n = node at k fs in
@@ -785,4 +781,4 @@ module _ (wanted : Node → Bool) where
         (λ e₆. by-test (eqb k 7) (λ e. subst (λ (x : ℕ). Kept (node at x fs)) (sym (eqb-true k 7 e)) (keeps-7 at fs))
         (λ e₇. by-test (eqb k 8) (λ e. subst (λ (x : ℕ). Kept (node at x fs)) (sym (eqb-true k 8 e)) (keeps-8 at fs))
         (λ e₈. kept (subst (λ (s : Step). H n ≤ own n + (partsHeld (s .result) + (HI (s .note .entry) + HI (s .note .excluded))))
-        (sym (others at k fs e₁ e₂ e₃ e₄ e₅ e₆ e₇ e₈)) (let s = stays n in let z = none-held in omega arith))))))))))
+        (sym (others c at k fs e₁ e₂ e₃ e₄ e₅ e₆ e₇ e₈)) (let s = stays n in let z = none-held in omega arith))))))))))

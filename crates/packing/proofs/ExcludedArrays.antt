@@ -25,8 +25,9 @@ use Rattle.lowering.proofs.Notes.{AllNotes, in-walked}
 use Rattle.lowering.proofs.Cases.{by-test, by-rule, by-number}
 use Rattle.lowering.proofs.MadeAtSites.{times, times-append}
 use Rattle.lowering.proofs.ItemLaws.{each-append}
-use Rattle.lowering.proofs.Appearance.{In, same-is, in-first, in-second, name-over, name-self, distinct-in, number-apart}
+use Rattle.lowering.proofs.Appearance.{In, same-is, in-second, name-over, name-self, distinct-in, number-apart}
 use Rattle.lowering.proofs.Appearance.In.{here, there}
+use Rattle.lowering.proofs.PartsAt.{item-nodes}
 use Rattle.lowering.specs.Visits.{ItemAt}
 use Rattle.packing.specs.Unpack.{sameTemporary, arrayOf}
 use Rattle.packing.proofs.DeclarationLeft.{same-self}
@@ -165,14 +166,6 @@ collected xs (v ∷ vs) h = (λ y a. h y (item-left (excludedIn vs) (a .1)), col
 
 pub in-list : (vs : List Visit) → AllNotes (λ n. (y : Node) → Item y (n .excluded) → Item y (excludedIn vs)) vs
 in-list vs = collected (excludedIn vs) vs (λ y a. a)
-
--- ---- names of the list are among those that get a number
-
-item-nodes : {y : Node} {xs : Items} {j : ℕ} (x : Node) → ItemAt xs j y → In x (nodes y) → In x (nodesItems xs)
-unfolding nodes
-item-nodes x (ItemAt.first {is = xs}) i = in-first (nodesItems xs) i
-item-nodes x (ItemAt.behind {n = n} a) i = in-second (nodes n) (item-nodes x a i)
-item-nodes x (ItemAt.behindHole a) i = item-nodes x a i
 
 -- ---- the array of a temporary
 

@@ -2,14 +2,11 @@
 -- Assumes nothing.
 use mathlib.Core.Path.{_≡_, refl, sym, ap, ap₂, _∙_}
 use mathlib.Core.Bool.{Bool, true, false, cond}
-use mathlib.Core.List.{[]}
 use Prim.Native.Nat.{ℕ, zero, suc, _+_, min}
 use native.Mathlib.Omega.{arith}
 use Rattle.tree.specs.Tree.{Node, Items, count, depth}
-use Rattle.tree.specs.Tree.Node.{node}
-use Rattle.tree.specs.Tree.Fields.{done, absent, field}
 use Rattle.tree.specs.Tree.Items.{none, hole, item}
-use Rattle.lowering.specs.Parts.{change, changeIn, standsIn, stands, only, gather, orElse, first, _+++_}
+use Rattle.lowering.specs.Parts.{only, gather, orElse, first, _+++_}
 use Rattle.lowering.specs.Made.{Context, reference, declares}
 use Rattle.lowering.specs.Patterns.{shape, properties, itemsOf, hasRest, leftOf, value, key, withValues, replaced, replacedBelow, objectsWithRest, objectsBelow}
 use Rattle.lowering.specs.Patterns.Shape.{objectPattern, arrayPattern}
@@ -28,10 +25,7 @@ use Rattle.pattern.proofs.KeyCases.{temporaries-law, refusal-law}
 use Rattle.pattern.proofs.RestsFound.{no-properties-kept, tally-kept, only-tally, rests-object}
 use Rattle.lowering.proofs.ItemLaws.{count-append}
 use Rattle.lowering.proofs.Cases.{by-shape}
-
--- any context
-abbrev somewhere : Context
-somewhere = record { path = []; root = true; statement = true }
+use Rattle.lowering.proofs.WeightKeys.{values-rest}
 
 -- ---- no item of what is found is a hole
 
@@ -146,12 +140,6 @@ module _ (n : Node) (t : Tally) where
 
 -- ---- declarators
 
-rest-kept : (f : Node → Node) (p : Node) → hasRest (withValues f p) ≡ hasRest p
-unfolding stands standsIn change changeIn
-rest-kept f (node at k done) = refl
-rest-kept f (node at k (absent fs)) = refl
-rest-kept f (node at k (field p fs)) = refl
-
 made-is : (t : Tally) → made t ≡ limited (t .temporaries + t .patterns + t .objects)
 unfolding made
 made-is t = plus-limited (t .temporaries + t .patterns) (t .objects)
@@ -231,7 +219,7 @@ unfolding sum count
 own-counted c f p s = go (hasRest p) refl
   where
     go : (b : Bool) → hasRest p ≡ b → limited (count (cond b (own c (withValues f p) s) none)) ≡ made (objectsTally (cond b (only (withValues f p)) none))
-    go true e = ap limited (own-count c (withValues f p) s (rest-kept f p ∙ e)) ∙ sym (made-one c (withValues f p)) ∙ ap made (sym (only-tally (withValues f p)))
+    go true e = ap limited (own-count c (withValues f p) s (values-rest f p ∙ e)) ∙ sym (made-one c (withValues f p)) ∙ ap made (sym (only-tally (withValues f p)))
     go false e = limited-nothing ∙ sym made-none
 
 gather-made : (f g : Node → Items) → ((n : Node) → limited (count (f n)) ≡ made (objectsTally (g n))) → (is : Items) → limited (count (gather f is)) ≡ made (objectsTally (gather g is))
@@ -311,7 +299,7 @@ module _ (c : Context) where
     object-count : (r b : Bool) → hasRest p ≡ r → hasNoProperties p ≡ b → count (objectDeclarators c p s) ≡ cond r (count (keyTemporaries c emptied)) 0 + (cond b 0 1 + (count inner + cond r 1 0))
     unfolding objectDeclarators keysBefore patternDeclarator restDeclarator
     object-count r b e f =
-        rw (rest-kept (λ v. replacedBelow c v) p ∙ e, no-properties-kept (λ v. replacedBelow c v) p ∙ f)
+        rw (values-rest (λ v. replacedBelow c v) p ∙ e, no-properties-kept (λ v. replacedBelow c v) p ∙ f)
         (four (cond r (keyTemporaries c emptied) none) (cond b none (only (declares (taken c emptied) s))) inner (cond r (only (declares (Rattle.lowering.specs.Patterns.rest emptied) (restValue c emptied s))) none)
         ∙ counts-of r b (keyTemporaries c emptied) inner (declares (taken c emptied) s) (declares (Rattle.lowering.specs.Patterns.rest emptied) (restValue c emptied s)))
 

@@ -21,10 +21,9 @@ use Rattle.lowering.specs.Declarations.{isName, source, sourceDeclarator, keysB
 use Rattle.lowering.specs.Heads.{moved, isMoved, movedFrom}
 use Rattle.pattern.specs.Tally.{limited}
 use Rattle.pattern.specs.Moves.{movedBelow}
-use Rattle.pattern.proofs.KeyCases.{by-sort}
 use Rattle.pattern.proofs.RestsFound.{values-changed}
-use Rattle.lowering.proofs.ItemLaws.{count-append, gather-each}
-use Rattle.lowering.proofs.Cases.{by-shape}
+use Rattle.lowering.proofs.ItemLaws.{count-append, gather-each, count-none}
+use Rattle.lowering.proofs.Cases.{by-shape, by-key}
 
 -- a count that is not cut off
 pub limited-is : (n : ℕ) → n ≤ 65536 → limited n ≡ n
@@ -93,23 +92,6 @@ hole-less : (is : Items) (n : ℕ) → sizeItems (hole is) ≤ n → sizeItems i
 unfolding encode
 hole-less is n h = omega arith
 
-piece-size : (p : Piece) → size (asNode p) ≤ sizePiece p + 2
-unfolding encode
-piece-size (one n) = omega arith
-piece-size (list is) = omega arith
-piece-size (text bs) = omega arith
-piece-size (byte b) = omega arith
-piece-size (mark b) = omega arith
-piece-size (number b) = omega arith
-
-fields-size : (fs : Fields) (i : ℕ) → size (asNode (pieceIn fs i)) ≤ sizeFields fs + 2
-unfolding pieceIn encode
-fields-size done i = omega arith
-fields-size (absent fs) zero = omega arith
-fields-size (absent fs) (suc i) = fields-size fs i
-fields-size (field p fs) zero = let h = piece-size p in let g = size-field p fs in omega arith
-fields-size (field p fs) (suc i) = let h = fields-size fs i in let g = size-field p fs in omega arith
-
 abbrev pub EachWithin : ℕ → Items → Type 0
 EachWithin b none = Unit {0}
 EachWithin b (hole is) = EachWithin b is
@@ -119,9 +101,6 @@ within : (b : ℕ) (is : Items) → sizeItems is ≤ b → EachWithin b is
 within b none h = tt
 within b (hole is) h = within b is (hole-less is b h)
 within b (item n is) h = let g = size-item n is in (omega arith, within b is (omega arith))
-
-pub items-size : (i : ℕ) (n : Node) → EachWithin (size n) (itemsAt i n)
-items-size i n = let h = items-small i n in within (size n) (itemsAt i n) (omega arith)
 
 -- ---- what is counted below
 
@@ -212,10 +191,6 @@ nothing-counted : (n : Node) → count none ≤ size n
 unfolding count
 nothing-counted n = omega arith
 
-none-counted : count none ≡ 0
-unfolding count
-none-counted = refl
-
 module _ (f : Node → Items) (small : Small f) where
   -- of the values of an object's properties, and one more
   pub object-small : (p m : Node) (b : Bool) → count (gather (λ q. f (value q)) (properties p) +++ cond b (only m) none) ≤ size p
@@ -236,14 +211,14 @@ module _ (c : Context) where
   excluded-one : (q : Node) → count (excludedKey c q) ≤ 1
   unfolding excludedKey count
   excluded-one q =
-      by-sort (keySort (key q))
+      by-key (keySort (key q))
       (λ s. rw (s, excludedKey) (omega arith)) (λ s. rw (s, excludedKey) (omega arith)) (λ s. rw (s, excludedKey) (omega arith))
       (λ s. rw (s, excludedKey) (omega arith)) (λ s. rw (s, excludedKey) (omega arith)) (λ s. rw (s, excludedKey) (omega arith))
 
   temporary-one : (q : Node) → count (keyTemporary c q) ≤ 1
   unfolding keyTemporary count
   temporary-one q =
-      by-sort (keySort (key q))
+      by-key (keySort (key q))
       (λ s. rw (s, keyTemporary) (omega arith)) (λ s. rw (s, keyTemporary) (omega arith)) (λ s. rw (s, keyTemporary) (omega arith))
       (λ s. rw (s, keyTemporary) (omega arith)) (λ s. rw (s, keyTemporary) (omega arith)) (λ s. rw (s, keyTemporary) (omega arith))
 
@@ -280,7 +255,7 @@ module _ (c : Context) where
 
   pub small-objects : (d : ℕ) → Small (λ p. objectsWithRest c d p)
   unfolding objectsWithRest
-  small-objects zero = record { fits = λ p. nothing-counted p; bare = none-counted }
+  small-objects zero = record { fits = λ p. nothing-counted p; bare = count-none }
   small-objects (suc d) = record { fits = objects-step d (small-objects d); bare = objects-bare (suc d) }
 
   pub objects-fit : (p : Node) → count (objectsBelow c p) ≤ size p
@@ -333,7 +308,7 @@ module _ (c : Context) where
 
   small-nested : (d : ℕ) → Small (λ p. nested c d p)
   unfolding nested
-  small-nested zero = record { fits = λ p. nothing-counted p; bare = none-counted }
+  small-nested zero = record { fits = λ p. nothing-counted p; bare = count-none }
   small-nested (suc d) = record { fits = nested-step d (small-nested d); bare = nested-bare (suc d) }
 
   small-below : Small (λ p. nestedBelow c p)
@@ -428,7 +403,7 @@ module _ (arrays : Bool) where
 
   small-nearest : (d : ℕ) → Small (λ p. nearest arrays d p)
   unfolding nearest
-  small-nearest zero = record { fits = λ p. nothing-counted p; bare = none-counted }
+  small-nearest zero = record { fits = λ p. nothing-counted p; bare = count-none }
   small-nearest (suc d) = record { fits = nearest-step d (small-nearest d); bare = nearest-bare (suc d) }
 
 pub nearest-fit : (arrays : Bool) (d : ℕ) (p : Node) → count (nearest arrays d p) ≤ size p
@@ -468,7 +443,7 @@ moved-step d small p =
 
 small-moved : (d : ℕ) → Small (λ p. moved d p)
 unfolding moved
-small-moved zero = record { fits = λ p. nothing-counted p; bare = none-counted }
+small-moved zero = record { fits = λ p. nothing-counted p; bare = count-none }
 small-moved (suc d) = record { fits = moved-step d (small-moved d); bare = moved-bare (suc d) }
 
 pub moved-fit : (p : Node) → count (movedBelow p) ≤ size p

@@ -184,7 +184,7 @@ module _ (l : List ℕ) where
   standsBy (f ∷ fs) m zero = eqb (m % 2) 1
   standsBy (f ∷ fs) m (suc i) = standsBy fs (m / 2) i
 
-  pub bit-stands : (R : ℕ → Seen Node) (s : Sort) (bit at : ℕ) (fs : Fields) → bit < 2 → standsIn (lookSlot l R s bit at .value fs) 0 ≡ eqb bit 1
+  bit-stands : (R : ℕ → Seen Node) (s : Sort) (bit at : ℕ) (fs : Fields) → bit < 2 → standsIn (lookSlot l R s bit at .value fs) 0 ≡ eqb bit 1
   unfolding lookSlot standsIn
   bit-stands R s zero at fs h = refl
   bit-stands R s (suc zero) at fs h = refl
@@ -195,7 +195,7 @@ module _ (l : List ℕ) where
   bit-later R s zero at i fs = refl
   bit-later R s (suc bit) at i fs = refl
 
-  fields-stand : (R : ℕ → Seen Node) (fs : List Field) (m at i : ℕ) → standsIn (lookFields l R fs m at .value) i ≡ standsBy fs m i
+  pub fields-stand : (R : ℕ → Seen Node) (fs : List Field) (m at i : ℕ) → standsIn (lookFields l R fs m at .value) i ≡ standsBy fs m i
   unfolding lookFields standsBy standsIn
   fields-stand R [] m at i = refl
   fields-stand R (f ∷ fs) m at zero = bit-stands R (sortIn f) (m % 2) at _ (omega arith)

@@ -43,7 +43,7 @@ use Rattle.pattern.proofs.NodeParts.{Blank, child-is, list-is, kind-is,
 use Rattle.pattern.proofs.NumberCases.{promisedBy, promised-by, decimal-string, same-string, Low, spelled-low}
 use Rattle.pattern.proofs.Fields.{key-at}
 use Rattle.pattern.proofs.CappedSums.{tallies, Adds, sumOf, listSum, both-made, sum-start, sum-more, sum-end}
-use Rattle.lowering.proofs.Cases.{by-test}
+use Rattle.lowering.proofs.Cases.{by-test, by-key}
 use Rattle.lowering.proofs.ItemLaws.{count-append}
 use Rattle.lowering.proofs.Clauses.{text-name, text-literal}
 use Rattle.lowering.proofs.Cases.{is-literal}
@@ -92,16 +92,8 @@ key-is {r} {k} h = sym (back r) ∙ (λ i. keyWith (h .sort i) (h .number i) (h 
 
 -- ---- the sort of a key by its kind
 
-pub by-sort : {A : Type 0} (s : keys.Key) → (s ≡ name → A) → (s ≡ literal → A) → (s ≡ template → A) → (s ≡ private → A) → (s ≡ again → A) → (s ≡ other → A) → A
-by-sort name a b c d e f = a refl
-by-sort literal a b c d e f = b refl
-by-sort template a b c d e f = c refl
-by-sort private a b c d e f = d refl
-by-sort again a b c d e f = e refl
-by-sort other a b c d e f = f refl
-
 module _ (k : Node) where
-  sort-name : kind k ≡ 38 → keySort k ≡ name
+  pub sort-name : kind k ≡ 38 → keySort k ≡ name
   unfolding keySort is
   sort-name e = rw e
 
@@ -489,7 +481,7 @@ module _ (l : List ℕ) (d at : ℕ) where
   pub counts-are : keyCounts (keyAt l d at) ≡ keyTally k
   unfolding keyAt keyTally keyCounts
   counts-are =
-      by-sort (keySort k)
+      by-key (keySort k)
       (λ s. rw s (name-counts (partAt l d at 0)))
       (λ s. rw s (literal-counts ∙ ap (counts 1 0 0) (sym literal-refusal ∙ sym (refused-literal s))))
       (λ s. rw s)
@@ -512,7 +504,7 @@ module _ (l : List ℕ) (d at : ℕ) where
   unfolding excludedKey keyAt
   entry-is c q e =
       let s : keySort (key q) ≡ keySort k = ap keySort e in
-      by-sort (keySort k)
+      by-key (keySort k)
       (λ w. rw (s, w, excludedKey) (ap (λ (x : Node). only (string (keyText x))) e ∙ ap (λ (x : List ℕ). only (string x)) (text-name k w ∙ text-part l d at 0) ∙ entry-name c q (partAt l d at 0)))
       (λ w. rw (s, w, excludedKey) (ap (λ (x : Node). only (string (keyText x))) e ∙ ap (λ (x : List ℕ). only (string x)) (text-literal k w) ∙ literal-entry c q))
       (λ w. rw (s, w, excludedKey))
@@ -532,7 +524,7 @@ module _ (l : List ℕ) (d at : ℕ) where
   pub refusal-is : keys.keyRefusal k ≡ keyRefusal (keyAt l d at)
   unfolding keyAt
   refusal-is =
-      by-sort (keySort k)
+      by-key (keySort k)
       (λ s. rw s (none (λ w. let z : _≡_ {A = ℕ} 0 1 = code (sym s ∙ w) in absurd (omega arith)) ∙ name-refusal (partAt l d at 0)))
       (λ s. rw s (refused-literal s ∙ literal-refusal))
       (λ s. rw s (none (λ w. let z : _≡_ {A = ℕ} 2 1 = code (sym s ∙ w) in absurd (omega arith))))
@@ -661,7 +653,7 @@ limited-some x = ne-eqb (min (1 + x) 65536) 0 (λ e. absurd (omega arith))
 computed-is : (k : Node) → keyTally k .computed ≡ cond (isPrimitive k) 0 1
 unfolding keyTally isPrimitive
 computed-is k =
-    by-sort (keySort k) (λ s. rw (s, isPrimitive)) (λ s. rw (s, isPrimitive)) (λ s. rw (s, isPrimitive)) (λ s. rw (s, isPrimitive)) (λ s. rw (s, isPrimitive)) (λ s. rw (s, isPrimitive))
+    by-key (keySort k) (λ s. rw (s, isPrimitive)) (λ s. rw (s, isPrimitive)) (λ s. rw (s, isPrimitive)) (λ s. rw (s, isPrimitive)) (λ s. rw (s, isPrimitive)) (λ s. rw (s, isPrimitive))
 
 abbrev keysIn : Items → Tally
 keysIn is = sumOf tallies keyOfItem is
@@ -696,12 +688,12 @@ module _ (c : Context) where
   excluded-one : (q : Node) → keyTally (key q) .excluded ≡ count (excludedKey c q)
   unfolding keyTally excludedKey count
   excluded-one q =
-      by-sort (keySort (key q)) (λ s. rw (s, excludedKey)) (λ s. rw (s, excludedKey)) (λ s. rw (s, excludedKey)) (λ s. rw (s, excludedKey)) (λ s. rw (s, excludedKey)) (λ s. rw (s, excludedKey))
+      by-key (keySort (key q)) (λ s. rw (s, excludedKey)) (λ s. rw (s, excludedKey)) (λ s. rw (s, excludedKey)) (λ s. rw (s, excludedKey)) (λ s. rw (s, excludedKey)) (λ s. rw (s, excludedKey))
 
   temporary-one : (q : Node) → keyTally (key q) .temporaries ≡ count (keyTemporary c q)
   unfolding keyTally keyTemporary count
   temporary-one q =
-      by-sort (keySort (key q)) (λ s. rw (s, keyTemporary)) (λ s. rw (s, keyTemporary)) (λ s. rw (s, keyTemporary)) (λ s. rw (s, keyTemporary)) (λ s. rw (s, keyTemporary)) (λ s. rw (s, keyTemporary))
+      by-key (keySort (key q)) (λ s. rw (s, keyTemporary)) (λ s. rw (s, keyTemporary)) (λ s. rw (s, keyTemporary)) (λ s. rw (s, keyTemporary)) (λ s. rw (s, keyTemporary)) (λ s. rw (s, keyTemporary))
 
   excluded-all : (is : Items) → keysIn is .excluded ≡ limited (count (gather (excludedKey c) is))
   unfolding sum gather both limited count

@@ -1,8 +1,8 @@
 -- The walk of an accepted tree from its root, begun with cleared cells and ended, gives the definition's outcome.
 -- Assumes nothing.
 use mathlib.Core.Path.{_≡_, refl, sym, ap, _∙_, subst}
-use mathlib.Core.Bool.{Bool, true, false, cond, _||_}
-use mathlib.Core.List.{List, [], _∷_, append-nil}
+use mathlib.Core.Bool.{Bool, true, false, cond}
+use mathlib.Core.List.{List, [], append-nil}
 use Prim.Native.Nat.{ℕ, zero, suc, _+_, _-_, _*_, _%_, _<_, _≤_}
 use native.Mathlib.Omega.{arith}
 use lib.Dec.{eqb, ltb}
@@ -24,10 +24,10 @@ use Rattle.tree.specs.Read.Refusal.{notATree}
 use Rattle.tree.proofs.AnswerByNumber.{answer, answer-is}
 use Rattle.tree.proofs.NotesKnown.{Noted, filled-law, within-limit}
 use Rattle.tree.proofs.Look.{tree-node}
+use Rattle.tree.proofs.Sound.{each-byte}
 use Rattle.lowering.specs.Weight.{walked}
 use Rattle.lowering.specs.Refusals.{limitOutside, unknownOptions, smallWork}
 use Rattle.lowering.specs.Answer.{Lent, Result, Outcome, top, highestLimit, limitRefused, inForce, afterReading, filled, lowering, outcomeOf, outcome}
-use Rattle.lowering.specs.Table.{Admitted}
 use Rattle.lowering.proofs.RefusalOrder.{limit-outside, options-unknown, work-small, reading-decides}
 use Rattle.sink.specs.declared.Sink.{Sink}
 use Rattle.sink.specs.declared.Written.{Written}
@@ -82,12 +82,6 @@ unfolding start
 begun-mark a b k next s t = ap (λ (z : Sink). z .mark) (sink-same s (start a b k next) t)
 
 -- ---- what is lent
-
--- the elements of a slice of bytes
-pub each-byte : (l : List ℕ) → ((i : ℕ) → getD l i 0 < 256) → Bytes l
-unfolding Bytes
-each-byte [] h = tt
-each-byte (b ∷ bs) h = (h 0, each-byte bs (λ i. h (suc i)))
 
 -- a call keeps the lengths of the slices
 lent-kept : (a b c a′ b′ c′ : ℕ) → a′ ≡ a → b′ ≡ b → c′ ≡ c

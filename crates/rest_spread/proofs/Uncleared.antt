@@ -4,7 +4,7 @@
 use mathlib.Core.Path.{_≡_, refl, sym, ap, ap₂, _∙_, subst}
 use mathlib.Core.Bool.{Bool, true, false, cond, _||_}
 use mathlib.Core.List.{List, [], _∷_, _++_}
-use Prim.Native.Nat.{ℕ, zero, suc, _+_, _-_, _*_, _<_, _≤_, min}
+use Prim.Native.Nat.{ℕ, zero, suc, _+_, _*_, _<_, _≤_, min}
 use native.Mathlib.Omega.{arith}
 use native.Mathlib.Nat.{le-of-suc-le-suc, not-suc-le-zero}
 use native.Mathlib.Decide.{decLt}
@@ -12,10 +12,11 @@ use native.Mathlib.Numerals.{add-one}
 use lib.Dec.{ltb}
 use lib.ListN.{length, getD, set, take, drop, replicate, length-set, length-replicate}
 use lib.Seq.{take-set-le, take-set-lt, take-suc-set, take-append-seam, getD-take, length-take-le, length-front}
-use borrow.Author.Tests.{lt-ltb, le-ltb, ltb-true}
+use borrow.Author.Tests.{lt-ltb, ltb-true}
 use Rattle.sink.specs.declared.Sink.{Sink}
-use Rattle.sink.specs.Machine.{Event, State, Ended, stateOf, withTree, withList, withKeys, withNext, low, high, part, wideIn, setWide, putTree, putList, putKeys, putEntry, cellOf, setCell, known, patchList, patchWork, numberOf, settle, listedAt, excludedAt, setCellIn, useHelper, nextMark, countEntry, countDeclarator, oneMore, allTree, allList, allKeys, step, steps, closed, endOf, nothing, over, maskOf, ended, finished, start}
+use Rattle.sink.specs.Machine.{Event, State, Ended, stateOf, withList, withKeys, withNext, low, high, part, wideIn, setWide, putTree, putList, putKeys, putEntry, cellOf, setCell, known, patchList, patchWork, numberOf, settle, listedAt, excludedAt, setCellIn, useHelper, nextMark, countEntry, countDeclarator, oneMore, allTree, allList, allKeys, step, steps, closed, endOf, nothing, over, maskOf, ended, finished, start}
 use Rattle.sink.specs.Machine.Event.{put, helper, temporary, newMark, make, listed, listedTemporary, entry, excluded, excludedTemporary, declarator}
+use Rattle.sink.proofs.Runs.{length-wide}
 
 -- ---- two lists that begin alike
 
@@ -120,10 +121,6 @@ keeps-keys b o l x y k r n e = go (ltb (k .keys) 16384) refl
 keeps-entry : (m c : ℕ) → Keeps (λ s. putEntry s m c)
 unfolding Keeps putEntry
 keeps-entry m c o l x y k r n e = twins-cond (ltb (k .list) 16381) _ _ _ _ (twins o _ x y _ r n e) (twins o l x y _ r n e)
-
-length-wide : (x : List ℕ) (i v : ℕ) → length (setWide x i v) ≡ length x
-unfolding setWide
-length-wide x i v = length-set (set x i (low v)) (i + 1) (high v) ∙ length-set x i (low v)
 
 -- a write at the same place in both
 written : (o l x y : List ℕ) (k : Sink) (i v : ℕ) → 49152 ≤ length x → length x ≡ length y → Alike (reach (k .keys)) x y → Twins (stateOf o l (setWide x i v) k) (stateOf o l (setWide y i v) k)

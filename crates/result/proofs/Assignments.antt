@@ -17,11 +17,11 @@ use Rattle.lowering.specs.Made.{Context, declared, reference, valueOf}
 use Rattle.lowering.specs.Patterns.{shape, hasRest, value, withValues, replaced, replacedBelow}
 use Rattle.lowering.specs.Patterns.Shape.{objectPattern, leaf}
 use Rattle.lowering.specs.Assignments.{target, assigned, nearest, partsOf, outermost, partsReplaced, targetLeft, fromReference, topSequence, topEntry, topExcludes, nestedSequence, nestedEntry}
-use Rattle.lowering.proofs.Cases.{by-shape, object-is, array-is, default-is}
+use Rattle.lowering.proofs.Cases.{by-shape, object-is, array-is, default-is, is-kind}
 use Rattle.lowering.proofs.Clauses.{replaced-leaf}
 use Rattle.result.proofs.PlaceRows.{covers, at-places, no-kind}
 use Rattle.result.proofs.Lies.{Texts, Lies, LieFields, LiePiece, LieItems, make, moved, may-stand, lies-append, lies-only, lies-each, lies-gather, lies-if}
-use Rattle.result.proofs.LyingPatterns.{fields-at, of-kind}
+use Rattle.result.proofs.LyingPatterns.{fields-at}
 use Rattle.result.proofs.Expressions.{Takes, takes-3, takes-27, form-27, temporary-lies, sequence-lies, assign-lies}
 use Rattle.result.proofs.PatternsLie.{values-lies, properties-of, value-of, rest-of, reference-lies, replaced-lies, parts-lie, nearest-lie}
 use Rattle.result.proofs.KeysLie.{same-shape, bound, keyTemporaries-lie, taken-lies, restValue-lies, excludedFor-lies}
@@ -37,12 +37,12 @@ assignment-parts (LieFields.needed (LiePiece.byte a b x) (LieFields.needed (LieP
 
 pub assignment-takes : {T : Texts} (p : ℕ) (n : Node) → Lies T p n → is 27 n ≡ true → Takes p
 assignment-takes p (node at k fs) l e =
-    takes-27 p (subst (λ (j : ℕ). 0 < formAt rewritten p j) (of-kind 27 (node at k fs) e) (may-stand l))
+    takes-27 p (subst (λ (j : ℕ). 0 < formAt rewritten p j) (is-kind 27 (node at k fs) e) (may-stand l))
 
 pub assignment-view : {T : Texts} (p : ℕ) (n : Node) → Lies T p n → is 27 n ≡ true → AssignmentView T n
 unfolding fieldsOf kinds
 assignment-view {T = T} p (node at k fs) l e =
-    let q : k ≡ 27 = of-kind 27 (node at k fs) e in
+    let q : k ≡ 27 = is-kind 27 (node at k fs) e in
     subst (λ (j : ℕ). AssignmentView T (node at j fs)) (sym q)
     (assignment-parts (fields-at p 27 27 (Field.must (Sort.byte 1 2) ∷ Field.must (Sort.chosen 19 20) ∷ Field.must (Sort.child 3) ∷ []) refl (form-27 p (assignment-takes p (node at k fs) l e)) refl l q))
 
@@ -71,7 +71,7 @@ value-lies n (AssignmentView.assignment a b l r) = r
 -- no pattern stands at the place of a leaf
 not-at : {T : Texts} (p j : ℕ) (n : Node) → formAt rewritten p j ≡ 0 → Lies T p n → is j n ≡ true → ⊥
 not-at p j n z l e =
-    let y : formAt rewritten p (kind n) ≡ 0 = ap (formAt rewritten p) (of-kind j n e) ∙ z in
+    let y : formAt rewritten p (kind n) ≡ 0 = ap (formAt rewritten p) (is-kind j n e) ∙ z in
     let x = may-stand l in
     omega arith
 

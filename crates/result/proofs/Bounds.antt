@@ -14,14 +14,15 @@ use Rattle.lowering.specs.Parts.{is}
 use Rattle.lowering.specs.Made.{Context}
 use Rattle.lowering.specs.Walk.{Note, Walked, WalkedPiece, eachItem, eachPiece, eachField, inside, rewrite, within, walk}
 use Rattle.lowering.specs.Weight.{weight, walked}
-use Rattle.lowering.specs.Collect.{Name, over, nameAt, nodes, nodesFields, nodesPiece, nodesItems, newIn, newInFields, newInPiece, newInItems, isContainer, markOf, marked, visits, visitsFields, visitsPiece, visitsItems, firstRefusal, bare, bareFields, barePiece, bareItems, except, distinct, numberIn, numbered, numberedFields, numberedPiece, numberedItems, withNumber}
+use Rattle.lowering.specs.Collect.{Name, over, nameAt, nodes, nodesFields, nodesPiece, nodesItems, newIn, newInFields, newInPiece, newInItems, isContainer, markOf, marked, visits, visitsFields, visitsPiece, visitsItems, firstRefusal, bare, bareFields, barePiece, bareItems, numbered, numberedFields, numberedPiece, numberedItems, withNumber}
 use Rattle.lowering.proofs.Cases.{by-test}
 use Rattle.lowering.proofs.All.{AllItems, AllPiece, AllFields, Each, weaker-each, weaker-piece}
 use Rattle.lowering.proofs.Weights.{weight-pos}
 use Rattle.lowering.proofs.Falls.{falls}
+use Rattle.lowering.proofs.RefusalsMet.{no-refusal, no-refusal-here}
 use Rattle.result.proofs.Lies.{Texts, Lies, LieFields, LiePiece, LieItems}
 use Rattle.result.proofs.Rules.{leaves}
-use Rattle.result.proofs.Comes.{no-refusal, no-refusal-here, not-refused}
+use Rattle.result.proofs.Comes.{not-refused}
 
 -- how many names of temporaries stand among the nodes
 abbrev pub names : List Node → ℕ
@@ -145,27 +146,3 @@ module _ (ns : List Name) where
   pub walked-few : {T : Texts} (c : Context) (n : Node) → Few T n (walked c n)
   unfolding walked
   walked-few c n = walk-few (weight n) c n (omega arith)
-
--- ---- the numbers of names
-
-except-most : {A : Type 0} (alike : A → A → Bool) (a : A) (xs : List A) → length (except alike a xs) ≤ length xs
-unfolding except
-except-most alike a [] = omega arith
-except-most alike a (b ∷ bs) =
-    let l = except-most alike a bs in
-    by-test (alike a b) (λ e. rw e (omega arith)) (λ e. rw e (omega arith))
-
-pub distinct-most : {A : Type 0} (alike : A → A → Bool) (xs : List A) → length (distinct alike xs) ≤ length xs
-unfolding distinct
-distinct-most alike [] = omega arith
-distinct-most alike (a ∷ rest) =
-    let l = except-most alike a (distinct alike rest) in
-    let k = distinct-most alike rest in
-    omega arith
-
-pub number-most : {A : Type 0} (alike : A → A → Bool) (from : ℕ) (xs : List A) (a : A) → numberIn alike from xs a ≤ from + length xs
-unfolding numberIn
-number-most alike from [] a = omega arith
-number-most alike from (b ∷ bs) a =
-    let l = number-most alike (suc from) bs a in
-    by-test (alike a b) (λ e. rw e (omega arith)) (λ e. rw e (omega arith))

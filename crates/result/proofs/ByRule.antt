@@ -1,6 +1,6 @@
 -- What holds of each rule's step holds of the rewriting of every node.
 -- Assumes nothing.
-use mathlib.Core.Path.{_≡_, refl, sym, subst}
+use mathlib.Core.Path.{_≡_, sym, subst}
 use mathlib.Core.Bool.{false}
 use Prim.Native.Nat.{ℕ}
 use lib.Dec.{eqb}
@@ -17,6 +17,7 @@ use Rattle.lowering.specs.Assignments.{target, isTop, topRefusal, topEntry, top
 use Rattle.lowering.specs.Heads.{function, functionMakes, arrow, arrowMakes, catch, catchMakes}
 use Rattle.lowering.specs.Walk.{Step, rewritten, unchanged, ruleOf, rewrite, stepDeclaration, stepTop, stepAssignment, stepFor}
 use Rattle.lowering.proofs.Cases.{by-number, by-test}
+use Rattle.lowering.proofs.Clauses.{others}
 
 pub record Rules (c : Context) (Q : Node → Step → Type 0) : Type 0 where
   pub literals : (at : ℕ) (fs : Fields) → Q (node at 24 fs) (unchanged (literal (node at 24 fs)))
@@ -37,11 +38,6 @@ module _ (c : Context) (Q : Node → Step → Type 0) (r : Rules c Q) where
   unfolding rewrite ruleOf
   unfolded at fs = (r .literals at fs, r .declarations at fs, r .assignments at fs, r .functions at fs, r .arrows at fs, r .catches at fs, r .forIns at fs, r .forOfs at fs)
 
-  others : (at k : ℕ) (fs : Fields) → eqb k 24 ≡ false → eqb k 4 ≡ false → eqb k 27 ≡ false → eqb k 14 ≡ false → eqb k 17 ≡ false → eqb k 10 ≡ false → eqb k 7 ≡ false → eqb k 8 ≡ false
-      → rewrite c (node at k fs) ≡ unchanged (node at k fs)
-  unfolding rewrite ruleOf
-  others at k fs e₁ e₂ e₃ e₄ e₅ e₆ e₇ e₈ = rw (e₁, e₂, e₃, e₄, e₅, e₆, e₇, e₈, rewrite) refl
-
   pub by-rules : (n : Node) → Q n (rewrite c n)
   by-rules (node at k fs) =
       let P : ℕ → Type 0 = λ x. Q (node at x fs) (rewrite c (node at x fs)) in
@@ -53,7 +49,7 @@ module _ (c : Context) (Q : Node → Step → Type 0) (r : Rules c Q) where
       (λ e₅. by-test (eqb k 10) (λ e. subst (λ (x : ℕ). Q (node at x fs) (rewrite c (node at x fs))) (sym (eqb-true k 10 e)) (unfolded at fs .5))
       (λ e₆. by-test (eqb k 7) (λ e. subst (λ (x : ℕ). Q (node at x fs) (rewrite c (node at x fs))) (sym (eqb-true k 7 e)) (unfolded at fs .6))
       (λ e₇. by-test (eqb k 8) (λ e. subst (λ (x : ℕ). Q (node at x fs) (rewrite c (node at x fs))) (sym (eqb-true k 8 e)) (unfolded at fs .7))
-      (λ e₈. subst (λ (s : Step). Q (node at k fs) s) (sym (others at k fs e₁ e₂ e₃ e₄ e₅ e₆ e₇ e₈)) (r .nowhere at k fs e₁ e₂ e₃ e₄ e₅ e₆ e₇ e₈)))))))))
+      (λ e₈. subst (λ (s : Step). Q (node at k fs) s) (sym (others c at k fs e₁ e₂ e₃ e₄ e₅ e₆ e₇ e₈)) (r .nowhere at k fs e₁ e₂ e₃ e₄ e₅ e₆ e₇ e₈)))))))))
 
 -- ---- what is handed out
 

@@ -1,12 +1,11 @@
 -- What the walk leaves of a node, and is written, as a relation: no fuel, no numbers to be given. Every law of the tree that is written goes by it.
 -- Assumes nothing.
-use mathlib.Core.Path.{_≡_, refl, sym, _∙_}
-use mathlib.Core.Bool.{Bool, false, cond, true≢false}
-use mathlib.Core.List.{List, [], _∷_, _++_}
+use mathlib.Core.Path.{_≡_, refl}
+use mathlib.Core.Bool.{Bool, false, cond}
+use mathlib.Core.List.{List}
 use Prim.Native.Nat.{ℕ, zero, suc, _+_, _<_, _≤_}
 use native.Mathlib.Omega.{arith}
 use lib.Dec.{eqb}
-use borrow.Author.Tests.{eq-eqb, eqb-true}
 use Rattle.tree.specs.Tree.{Node, Fields, Piece, Items}
 use Rattle.tree.specs.Tree.Node.{node}
 use Rattle.tree.specs.Grammar.{Sort, Field}
@@ -14,11 +13,11 @@ use Rattle.lowering.specs.Parts.{textAt, numberAt, pieceIn}
 use Rattle.lowering.specs.Made.{Context, temporary}
 use Rattle.lowering.specs.Walk.{Note, Walked, eachItem, eachPiece, eachField, inside, rewrite, within, walk}
 use Rattle.lowering.specs.Weight.{weight, walked}
-use Rattle.lowering.specs.Collect.{Name, same, nameOf, Visit, newIn, newInFields, newInPiece, newInItems, isContainer, markOf, marked, visits, visitsFields, visitsPiece, visitsItems, firstRefusal, bare, bareFields, barePiece, bareItems, numberIn, numbered, numberedFields, numberedPiece, numberedItems, withNumber}
-use Rattle.lowering.proofs.Cases.{by-test}
+use Rattle.lowering.specs.Collect.{Name, same, nameOf, newIn, newInFields, newInPiece, newInItems, isContainer, markOf, marked, visits, visitsFields, visitsPiece, visitsItems, firstRefusal, bare, bareFields, barePiece, bareItems, numberIn, numbered, numberedFields, numberedPiece, numberedItems, withNumber}
 use Rattle.lowering.proofs.All.{AllItems, AllPiece, AllFields, Each, weaker-each, weaker-piece}
 use Rattle.lowering.proofs.Weights.{weight-pos}
 use Rattle.lowering.proofs.Falls.{falls}
+use Rattle.lowering.proofs.RefusalsMet.{no-refusal, no-refusal-here}
 use Rattle.result.proofs.Lies.{Texts, Lies, LieFields, LiePiece, LieItems}
 use Rattle.result.proofs.Rules.{leaves}
 
@@ -52,21 +51,6 @@ mutual
     item : {n y : Node} {is js : Items} → Comes n y → ComeItems is js → ComeItems (Items.item n is) (Items.item y js)
 
 -- ---- no refusal in a list of visits
-
-pub no-refusal : (us vs : List Visit) → firstRefusal (us ++ vs) ≡ 0 → (firstRefusal us ≡ 0) × (firstRefusal vs ≡ 0)
-unfolding firstRefusal
-no-refusal [] vs h = (refl, h)
-no-refusal (u ∷ us) vs h =
-    by-test (eqb (u .note .refusal) 0)
-    (λ e. let r = no-refusal us vs (rw (e, firstRefusal) at h) in (rw (e, firstRefusal) (r .0), r .1))
-    (λ e. absurd (true≢false (sym (eq-eqb (u .note .refusal) 0 (rw (e, firstRefusal) at h)) ∙ e)))
-
-pub no-refusal-here : (u : Visit) (us : List Visit) → firstRefusal (u ∷ us) ≡ 0 → (u .note .refusal ≡ 0) × (firstRefusal us ≡ 0)
-unfolding firstRefusal
-no-refusal-here u us h =
-    by-test (eqb (u .note .refusal) 0)
-    (λ e. (eqb-true (u .note .refusal) 0 e, rw (e, firstRefusal) at h))
-    (λ e. (rw (e, firstRefusal) at h, absurd (true≢false (sym (eq-eqb (u .note .refusal) 0 (rw (e, firstRefusal) at h)) ∙ e))))
 
 pub not-refused : (note : Note) (w : ℕ → ℕ → Node → Walked) (r : Node) (next m : ℕ) → firstRefusal (visits next m (inside note w r)) ≡ 0 → note .refusal ≡ 0
 unfolding inside visits

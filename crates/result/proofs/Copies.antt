@@ -26,6 +26,7 @@ use Rattle.lowering.proofs.ChangeLaws.{stands-changed, stands-dropped, each-on,
 use Rattle.lowering.proofs.Clauses.{taken-none}
 use Rattle.lowering.proofs.Cases.{by-test, by-key}
 use Rattle.lowering.proofs.Levels.{below-object}
+use Rattle.lowering.proofs.SoundKeys.{key-kept as key-value}
 use Rattle.result.proofs.Weighed.{isCopied, total, total-append, total-plus, total-most, total-gather, weigh, weighAll, weighPiece, weighItems, keysItems, keyNode, sourceNode, nothing-weighs, temporary-weighs, keys-by, again, source-by, ofKey, key-by, all-most, node-most, two-most, items-append, only-weighs, items-gather, change-less, change-node-less}
 
 -- ---- patterns by kind
@@ -128,10 +129,6 @@ module _ {out : ℕ → ℕ} {kin : Node → ℕ} (measure : Measure out kin) wh
     value-piece (byte n) = omega arith
     value-piece (mark n) = omega arith
     value-piece (number n) = omega arith
-
-  key-value : (f : Node → Node) (q : Node) → key (changeNode 1 f q) ≡ key q
-  unfolding change nodeAt
-  key-value f (node at k fs) = ap asNode (other-changed fs 1 (onNode f) 0 (λ z. omega arith))
 
   keys-same : (r : Bool) (f : Node → Node) (qs : Items) → keysItems out kin r (each (λ q. changeNode 1 f q) qs) ≡ keysItems out kin r qs
   unfolding weigh each

@@ -15,13 +15,13 @@ use Rattle.lowering.specs.Patterns.{shape, properties, itemsOf, hasRest, leftOf
 use Rattle.lowering.specs.Patterns.Shape.{objectPattern}
 use Rattle.lowering.specs.Rests.{hasNoProperties, excludedFor}
 use Rattle.lowering.specs.Declarations.{isName, source, sourceDeclarator, keysBefore, patternDeclarator, restDeclarator, own, nested, nestedBelow, objectDeclarators, patternDeclarators, lowerDeclarator, isLowered, declarators, loweredIn, declaration, declarationExcludes}
-use Rattle.lowering.proofs.Cases.{by-test, by-shape, and-left}
+use Rattle.lowering.proofs.Cases.{by-test, by-shape, and-left, is-kind}
 use Rattle.lowering.proofs.All.{AllItems, all-append, all-gather, all-cond}
 use Rattle.lowering.proofs.Clauses.{objects-object, objects-array, objects-default, objects-leaf}
 use Rattle.result.proofs.PlaceRows.{covers, at-places, no-kind, lone, form-4}
 use Rattle.result.proofs.Valued.{declaration-shown}
 use Rattle.result.proofs.Lies.{Texts, make-shown, shown-of, Lies, LieFields, LiePiece, LieItems, moved, changed, may-stand, list-at, node-at, stands-at, lies-append, lies-only, lies-gather, lies-if, all-of}
-use Rattle.result.proofs.LyingPatterns.{patternAt, fields-at, of-kind}
+use Rattle.result.proofs.LyingPatterns.{patternAt, fields-at}
 use Rattle.result.proofs.Expressions.{takes-3, temporary-lies}
 use Rattle.result.proofs.PatternsLie.{values-lies, object-whole, properties-of, items-of, value-of, left-whole, rest-of, replaced-lies}
 use Rattle.result.proofs.KeysLie.{same-shape, declares-lies, bound, keyTemporaries-lie, taken-lies, restValue-lies, excludedFor-lies}
@@ -137,7 +137,7 @@ module _ (c : Context) where
   pub declaration-lies : {T : Texts} (p : ℕ) (n : Node) → Lies T p n → is 4 n ≡ true → Lies T p (declaration c n)
   unfolding declaration change fieldsOf kinds
   declaration-lies {T = T} p (node at k fs) l e =
-      let q : k ≡ 4 = of-kind 4 (node at k fs) e in
+      let q : k ≡ 4 = is-kind 4 (node at k fs) e in
       let g : formAt rewritten p 4 ≡ 4 = form-4 p (subst (λ (j : ℕ). 0 < formAt rewritten p j) q (may-stand l)) in
       let f = fields-at p 4 4 (Field.must Sort.mark ∷ Field.must (Sort.byte 1 3) ∷ Field.must (Sort.many 4) ∷ []) refl g refl l q in
       subst (λ (j : ℕ). Lies T p (node at j (changeIn fs 2 (onItems (gather (declarators c)))))) (sym q)
@@ -175,7 +175,7 @@ module _ (c : Context) where
   pub declarationExcludes-lie : {T : Texts} (p : ℕ) (n : Node) → Lies T p n → is 4 n ≡ true → LieItems T 4 false (declarationExcludes c n)
   unfolding declarationExcludes itemsAt fieldsOf kinds
   declarationExcludes-lie p (node at k fs) l e =
-      let q : k ≡ 4 = of-kind 4 (node at k fs) e in
+      let q : k ≡ 4 = is-kind 4 (node at k fs) e in
       let g : formAt rewritten p 4 ≡ 4 = form-4 p (subst (λ (j : ℕ). 0 < formAt rewritten p j) q (may-stand l)) in
       let f = fields-at p 4 4 (Field.must Sort.mark ∷ Field.must (Sort.byte 1 3) ∷ Field.must (Sort.many 4) ∷ []) refl g refl l q in
       lies-gather false (λ d. gather (excludedFor c) (loweredIn c d)) (λ d m. excluded-gather (loweredIn c d) (lowered-objects d m)) (list-at f 2)

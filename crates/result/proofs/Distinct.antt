@@ -29,7 +29,7 @@ use Rattle.result.specs.Left.{anyOf}
 use Rattle.result.proofs.Occurring.{any-split}
 use Rattle.result.specs.Marks.{hasAny, holdsMark, copiesAt}
 use Rattle.result.proofs.PlaceRows.{own-form, input-form}
-use Rattle.result.proofs.Lies.{not-20}
+use Rattle.lowering.proofs.PlaceTests.{not-20}
 use Rattle.result.proofs.Weighed.{isCopied, weigh, weighAll, weighPiece, weighItems, keysIn, keysItems, sourcesIn, sourcesItems, keys-by, sources-by, ofKey, key-by, source-by, piece-most, at-most, list-most}
 use Rattle.result.proofs.Copies.{Measure}
 use Rattle.result.proofs.Tallies.{tally, tally-append, left, leftFields, leftPiece, leftItems}

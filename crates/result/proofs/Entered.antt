@@ -7,7 +7,7 @@ use mathlib.Core.Option.{Option, some}
 use Prim.Native.Nat.{ℕ, zero, suc, _+_, _<_, _≤_}
 use native.Mathlib.Omega.{arith}
 use lib.Dec.{eqb, ltb}
-use borrow.Author.Tests.{eq-eqb, eqb-true, eqb-false}
+use borrow.Author.Tests.{eq-eqb, eqb-true}
 use Rattle.tree.specs.Tree.{Node, Fields, Piece, Items}
 use Rattle.tree.specs.Tree.Node.{node}
 use Rattle.tree.specs.Grammar.{Sort, Field, among, formAt, formIn, fieldsOf, allowed, also, places, kinds, variants, kindOf}
@@ -26,24 +26,21 @@ use Rattle.lowering.proofs.Cases.{by-test, and-left, and-right}
 use Rattle.lowering.proofs.All.{AllItems, AllPiece, AllFields, Each, weaker-each, weaker-piece}
 use Rattle.lowering.proofs.Weights.{weight-pos}
 use Rattle.lowering.proofs.Falls.{falls}
-use Rattle.result.proofs.PlaceRows.{lone, own-form, plainly, allRows}
+use Rattle.lowering.proofs.PlaceTests.{allRows}
+use Rattle.lowering.proofs.RefusalsMet.{no-refusal, no-refusal-here}
+use Rattle.result.proofs.PlaceRows.{lone, own-form, plainly}
 use Rattle.result.proofs.Lies.{Texts, Lies, LieFields, LiePiece, LieItems, apart, may-stand}
 use Rattle.result.proofs.PatternPlaces.{place-passes}
 use Rattle.result.proofs.Distinct.{isLeaf, areLeaves}
 use Rattle.result.proofs.Rules.{leaves}
-use Rattle.result.proofs.Comes.{no-refusal, no-refusal-here, not-refused}
+use Rattle.result.proofs.Comes.{not-refused}
+use Rattle.rewritten.proofs.Marks.{same-either-way}
 
 -- ---- the two tests for containers are one
 
-swapped : (a b : ℕ) → eqb a b ≡ eqb b a
-swapped a b =
-    by-test (eqb a b)
-    (λ e. let q = eqb-true a b e in by-test (eqb b a) (λ f. e ∙ sym f) (λ f. absurd (eqb-false b a f (sym q))))
-    (λ e. by-test (eqb b a) (λ f. absurd (eqb-false a b e (sym (eqb-true b a f)))) (λ f. e ∙ sym f))
-
 same-container : (k : ℕ) → join.isContainer k ≡ isContainer k
 unfolding isContainer among
-same-container k = rw (swapped 1 k, swapped 2 k, swapped 16 k, swapped 42 k, swapped 44 k) (ends (eqb k 1) (eqb k 2) (eqb k 16) (eqb k 42) (eqb k 44))
+same-container k = rw (same-either-way 1 k, same-either-way 2 k, same-either-way 16 k, same-either-way 42 k, same-either-way 44 k) (ends (eqb k 1) (eqb k 2) (eqb k 16) (eqb k 42) (eqb k 44))
   where
     ends : (a b c d e : Bool) → (a || (b || (c || (d || (e || false))))) ≡ ((((a || b) || c) || d) || e)
     ends true b c d e = refl

@@ -15,7 +15,8 @@ use Rattle.tree.specs.Grammar.Stage.{rewritten}
 use Rattle.lowering.specs.Parts.{kind}
 use Rattle.lowering.specs.Made.{temporary, helper, call, S, X, E, W, K, object, array, sequence, member, assign, string}
 use Rattle.lowering.proofs.Cases.{by-test, or-other}
-use Rattle.result.proofs.PlaceRows.{allRows, row-at, widened, covers, at-places, no-kind}
+use Rattle.lowering.proofs.PlaceTests.{allRows, row-at}
+use Rattle.result.proofs.PlaceRows.{widened, covers, at-places, no-kind}
 use Rattle.result.proofs.Lies.{Texts, Lies, LieFields, LiePiece, LieItems, make, may-stand, moved, lies-only}
 
 -- every expression may stand at the place

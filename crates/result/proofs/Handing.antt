@@ -17,9 +17,10 @@ use Rattle.lowering.proofs.Cases.{by-test}
 use Rattle.lowering.proofs.All.{AllItems, AllPiece, AllFields, Each, weaker-each, weaker-piece}
 use Rattle.lowering.proofs.Weights.{weight-pos}
 use Rattle.lowering.proofs.Falls.{falls}
+use Rattle.lowering.proofs.RefusalsMet.{no-refusal, no-refusal-here}
 use Rattle.result.proofs.Lies.{Texts, Lies, LieFields, LiePiece, LieItems, lies-append}
 use Rattle.result.proofs.Rules.{leaves}
-use Rattle.result.proofs.Comes.{no-refusal, no-refusal-here, not-refused}
+use Rattle.result.proofs.Comes.{not-refused}
 
 -- one visit
 pub record Hands (T : Texts) (v : Visit) : Type 0 where

@@ -20,19 +20,21 @@ use Rattle.lowering.specs.Made.{Context, declared, reference, letOf, varOf, ass
 use Rattle.lowering.specs.Patterns.{Shape, shape, itemsOf, rest, hasObjectRest, hasNestedObjectRest}
 use Rattle.lowering.specs.Patterns.Shape.{objectPattern}
 use Rattle.lowering.specs.Heads.{moved, movedPattern, isMoved, movedFrom, movedOut, leftBehind, inFront, inBody, asFunctionBody, asBlock, function, arrow, catch, declaringHead, assigningHead}
-use Rattle.lowering.proofs.Cases.{by-test, by-shape, and-left, functionBody-is, block-is}
+use Rattle.lowering.proofs.Cases.{by-test, by-shape, and-left, functionBody-is, block-is, is-kind}
 use Rattle.lowering.proofs.All.{AllItems, other-changed, all-append, all-gather, all-cond}
-use Rattle.result.proofs.PlaceRows.{row-at, widened, covers, at-places, skips, lone, form-10, form-17}
+use Rattle.result.proofs.PlaceRows.{widened, covers, at-places, skips, lone, form-10, form-17}
 use Rattle.result.proofs.Lies as lie
 use Rattle.result.specs.Left.{keepsRest}
 use Rattle.result.specs.Causes.{Cause, shows, lacksValue}
 use Rattle.result.proofs.Valued.{behind-shown}
 use Rattle.lowering.proofs.ChangeLaws.{stands-changed}
+use Rattle.lowering.proofs.Levels.{moved-nothing, reference-bare}
+use Rattle.lowering.proofs.PlaceTests.{row-at}
 use Rattle.result.proofs.Lies.{Texts, isMade, made-20, make-shown, shown-of, Lies, LieFields, LiePiece, LieItems, make, changed, changed-here, may-stand, list-at, node-at, stands-at, lies-only, lies-each, lies-if, all-of}
-use Rattle.result.proofs.LyingPatterns.{patternAt, ArrayView, array-view, fields-at, of-kind}
+use Rattle.result.proofs.LyingPatterns.{patternAt, ArrayView, array-view, fields-at}
 use Rattle.result.proofs.Expressions.{takes-3, temporary-lies, assign-lies}
 use Rattle.result.proofs.PatternsLie.{object-whole, items-of, left-whole, reference-lies}
-use Rattle.result.proofs.NoRestLeft.{movedOut-lies, reference-bare}
+use Rattle.result.proofs.NoRestLeft.{movedOut-lies}
 use Rattle.result.proofs.KeysLie.{declares-lies}
 use Rattle.result.proofs.Assignments.{declared-lies}
 
@@ -40,11 +42,6 @@ use Rattle.result.proofs.Assignments.{declared-lies}
 
 abbrev pub Movable : (T : Texts) → Node → Type 0
 Movable T q = Lies T 15 (movedPattern q)
-
-moved-nothing : (d : ℕ) → moved d nothing ≡ Items.none
-unfolding moved shape
-moved-nothing zero = refl
-moved-nothing (suc d) = refl
 
 object-moved : {T : Texts} (w : Bool) (p : Node) → Lies T (patternAt false w) p → shape p ≡ objectPattern → Movable T p
 unfolding movedPattern
@@ -197,12 +194,12 @@ returning-lies e l = make 1 11 11 refl (omega arith) refl (LieFields.needed (Lie
 function-body : {T : Texts} (p : ℕ) → formAt rewritten p 16 ≡ 16 → (g : Items → Items) → ((is : Items) → LieItems T 1 false is → LieItems T 1 false (g is)) → (b : Node) → Lies T p b → is 16 b ≡ true → Lies T p (change 1 (onItems g) b)
 unfolding change fieldsOf kinds
 function-body p e g h (node at k fs) l q =
-    rebuilt p 16 16 (may (Sort.many 10) ∷ must (Sort.many 1) ∷ []) refl (omega arith) e refl l (of-kind 16 (node at k fs) q) (λ f. changed f 1 (onItems g) (list-piece 1 g h))
+    rebuilt p 16 16 (may (Sort.many 10) ∷ must (Sort.many 1) ∷ []) refl (omega arith) e refl l (is-kind 16 (node at k fs) q) (λ f. changed f 1 (onItems g) (list-piece 1 g h))
 
 block-body : {T : Texts} (p : ℕ) → formAt rewritten p 2 ≡ 2 → (g : Items → Items) → ((is : Items) → LieItems T 1 false is → LieItems T 1 false (g is)) → (b : Node) → Lies T p b → is 2 b ≡ true → Lies T p (change 1 (onItems g) b)
 unfolding change fieldsOf kinds
 block-body p e g h (node at k fs) l q =
-    rebuilt p 2 2 (must Sort.mark ∷ must (Sort.many 1) ∷ []) refl (omega arith) e refl l (of-kind 2 (node at k fs) q) (λ f. changed f 1 (onItems g) (list-piece 1 g h))
+    rebuilt p 2 2 (must Sort.mark ∷ must (Sort.many 1) ∷ []) refl (omega arith) e refl l (is-kind 2 (node at k fs) q) (λ f. changed f 1 (onItems g) (list-piece 1 g h))
 
 -- an expression that is an arrow's body
 arrow-expression : {T : Texts} (b : Node) → Lies T 9 b → is 16 b ≡ false → Lies T 3 b
@@ -252,10 +249,6 @@ body-only k h = lone 8 16 k refl h
 block-only : (k : ℕ) → 0 < formAt rewritten 5 k → k ≡ 2
 unfolding allowed places also among kindOf
 block-only k h = lone 5 2 k refl h
-
-handler-only : (k : ℕ) → 0 < formAt rewritten 6 k → k ≡ 10
-unfolding allowed places also among kindOf
-handler-only k h = lone 6 10 k refl h
 
 kind-is : (j : ℕ) (n : Node) → kind n ≡ j → is j n ≡ true
 unfolding is
@@ -318,7 +311,7 @@ module _ (c : Context) where
   pub function-lies : {T : Texts} (p : ℕ) (n : Node) → Lies T p n → is 14 n ≡ true → Lies T p (function c n)
   unfolding function change itemsAt stands
   function-lies {T = T} p (node at k fs) l e =
-      let q : k ≡ 14 = of-kind 14 (node at k fs) e in
+      let q : k ≡ 14 = is-kind 14 (node at k fs) e in
       let z : 0 < formAt rewritten p 14 = subst (λ (j : ℕ). 0 < formAt rewritten p j) q (may-stand l) in
       go q z (function-forms p z)
     where
@@ -340,7 +333,7 @@ module _ (c : Context) where
   pub arrow-lies : {T : Texts} (p : ℕ) (n : Node) → Lies T p n → is 17 n ≡ true → Lies T p (arrow c n)
   unfolding arrow change itemsAt fieldsOf kinds
   arrow-lies p (node at k fs) l e =
-      let q : k ≡ 17 = of-kind 17 (node at k fs) e in
+      let q : k ≡ 17 = is-kind 17 (node at k fs) e in
       let g : formAt rewritten p 17 ≡ 17 = form-17 p (subst (λ (j : ℕ). 0 < formAt rewritten p j) q (may-stand l)) in
       let f = fields-at p 17 17 (must (Sort.many 7) ∷ may (Sort.child 15) ∷ must (Sort.child 9) ∷ []) refl g refl l q in
       let ps = gather movedFrom (itemsAt 0 (node at k fs)) in
@@ -367,7 +360,7 @@ module _ (c : Context) where
   pub catch-lies : {T : Texts} (p : ℕ) (n : Node) → Lies T p n → is 10 n ≡ true → Lies T p (catch c n)
   unfolding catch change nodeAt fieldsOf kinds
   catch-lies p (node at k fs) l e =
-      let q : k ≡ 10 = of-kind 10 (node at k fs) e in
+      let q : k ≡ 10 = is-kind 10 (node at k fs) e in
       let g : formAt rewritten p 10 ≡ 10 = form-10 p (subst (λ (j : ℕ). 0 < formAt rewritten p j) q (may-stand l)) in
       let f = fields-at p 10 10 (may (Sort.child 7) ∷ must (Sort.child 5) ∷ []) refl g refl l q in
       let ps = movedFrom (nodeAt 0 (node at k fs)) in
@@ -387,13 +380,13 @@ module _ (c : Context) where
   declared-left : {T : Texts} (l : Node) → Lies T 21 l → is 4 l ≡ true → Lies T 21 (change 2 (onItems (each (leftBehind c))) l)
   unfolding change fieldsOf kinds formAt allowed places also among formIn kindOf
   declared-left (node at k fs) l e =
-      rebuilt-shown 21 4 4 (must Sort.mark ∷ must (Sort.byte 1 3) ∷ must (Sort.many 4) ∷ []) refl (omega arith) refl refl l (of-kind 4 (node at k fs) e) (behind-shown c at fs)
+      rebuilt-shown 21 4 4 (must Sort.mark ∷ must (Sort.byte 1 3) ∷ must (Sort.many 4) ∷ []) refl (omega arith) refl refl l (is-kind 4 (node at k fs) e) (behind-shown c at fs)
       (λ f. changed f 2 (onItems (each (leftBehind c))) (list-piece 4 (each (leftBehind c)) (λ is m. lies-each (leftBehind c) (declarator-left c) m)))
 
   declared-items : {T : Texts} (l : Node) → Lies T 21 l → is 4 l ≡ true → LieItems T 4 false (itemsAt 2 l)
   unfolding itemsAt fieldsOf kinds formAt allowed places also among formIn kindOf
   declared-items (node at k fs) l e =
-      list-at (fields-at 21 4 4 (must Sort.mark ∷ must (Sort.byte 1 3) ∷ must (Sort.many 4) ∷ []) refl refl refl l (of-kind 4 (node at k fs) e)) 2
+      list-at (fields-at 21 4 4 (must Sort.mark ∷ must (Sort.byte 1 3) ∷ must (Sort.many 4) ∷ []) refl refl refl l (is-kind 4 (node at k fs) e)) 2
 
   -- a head that is no Declaration is a target
   pub head-target : {T : Texts} (l : Node) → Lies T 21 l → is 4 l ≡ false → Lies T 19 l

@@ -1,14 +1,13 @@
 -- A node that lies at a place of the rewritten stage: by the grammar, but for counts and lengths, which are not bounded, and for a
 -- Temporary, which has its name yet. T says what holds of each text and node in it. This is what the rules keep.
 -- Assumes nothing.
-use mathlib.Core.Path.{_≡_, refl, sym, ap, subst, _∙_}
+use mathlib.Core.Path.{_≡_, refl, sym, subst}
 use mathlib.Core.Bool.{Bool, true, false, cond, not, _&&_, true≢false}
 use mathlib.Core.List.{List, [], _∷_}
 use mathlib.Core.Option.{some}
 use Prim.Native.Nat.{ℕ, zero, suc, _<_, _≤_}
 use native.Mathlib.Omega.{arith}
 use lib.Dec.{eqb}
-use lib.ListN.{getD}
 use Rattle.tree.specs.Tree.{Node, Fields, Piece, Items}
 use Rattle.tree.specs.Tree.Node.{node}
 use Rattle.tree.specs.Grammar.{Sort, Field, formAt, fieldsOf}
@@ -21,11 +20,9 @@ use Rattle.lowering.specs.Made.{temporary}
 use Rattle.lowering.specs.Numbers.{numberString}
 use Rattle.result.specs.Causes.{Cause, shows, Within, Without}
 use Rattle.result.specs.Texts.{TextIn, TextInFields, TextInPiece, TextInItems}
-use Rattle.result.proofs.PlaceRows.{row-at, input-form}
-use Rattle.tree.specs.Grammar.{allowed, places, formIn, kindOf}
-use borrow.Author.Tests.{eqb-true}
-use Rattle.lowering.proofs.Cases.{by-test}
+use Rattle.result.proofs.PlaceRows.{input-form}
 use Rattle.lowering.proofs.All.{AllItems}
+use Rattle.lowering.proofs.PlaceTests.{not-20}
 use Rattle.lowering.specs.Visits.{ItemAt, NodeIn, FieldAt, PartAt}
 
 -- a cause of something left in the tree
@@ -135,16 +132,6 @@ pub apart : {T : Texts} {p at k : ℕ} {fs : Fields} (f : ℕ) → Lies T p (nod
 apart {T = T} {fs = fs} f l t e = subst (λ (h : ℕ). LieFields T 0 (fieldsOf h) fs) e (fields-of l t .1)
 
 -- ---- what the reader gives lies
-
-no-20 : (p : ℕ) → formAt input p 20 ≡ 0
-unfolding formAt allowed formIn places kindOf
-no-20 p = eqb-true (formIn (getD places p []) 20) 0 (row-at (λ r. eqb (formIn r 20) 0) places p refl refl)
-
-pub not-20 : (p k : ℕ) → 0 < formAt input p k → eqb k 20 ≡ false
-not-20 p k h =
-    by-test (eqb k 20)
-    (λ e. let y : formAt input p k ≡ 0 = ap (λ (x : ℕ). formAt input p x) (eqb-true k 20 e) ∙ no-20 p in absurd (omega arith))
-    (λ e. e)
 
 -- what holds of each text and node of an input
 abbrev pub Bare : (T : Texts) → Node → Type 0
@@ -347,16 +334,6 @@ pub all-of : {T : Texts} {p : ℕ} {h : Bool} {is : Items} → LieItems T p h is
 all-of LieItems.none = tt
 all-of (LieItems.hole a) = all-of a
 all-of (LieItems.item n a) = (n, all-of a)
-
-abbrev pub NoHole : Items → Type 0
-NoHole Items.none = Unit {0}
-NoHole (Items.hole is) = ⊥
-NoHole (Items.item n is) = NoHole is
-
-pub each-of : {T : Texts} {p : ℕ} (is : Items) → AllItems (Lies T p) is → NoHole is → LieItems T p false is
-each-of Items.none h e = LieItems.none
-each-of (Items.hole is) h e = absurd e
-each-of (Items.item n is) h e = LieItems.item (h .0) (each-of is (h .1) e)
 
 -- its kind may stand there
 pub may-stand : {T : Texts} {p : ℕ} {n : Node} → Lies T p n → 0 < formAt rewritten p (kind n)

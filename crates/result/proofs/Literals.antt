@@ -11,9 +11,9 @@ use Rattle.tree.specs.Grammar.Stage.{rewritten}
 use Rattle.lowering.specs.Parts.{is, nodeAt, itemsAt, only, any, _+++_}
 use Rattle.lowering.specs.Made.{S}
 use Rattle.lowering.specs.Literals.{Call, opened, closed, scan, literal}
-use Rattle.lowering.proofs.Cases.{by-test}
+use Rattle.lowering.proofs.Cases.{by-test, is-kind}
 use Rattle.result.proofs.Lies.{Texts, Lies, LieItems, lies-only, lies-append, may-stand, list-at, node-at, stands-at}
-use Rattle.result.proofs.LyingPatterns.{fields-at, of-kind}
+use Rattle.result.proofs.LyingPatterns.{fields-at}
 use Rattle.result.proofs.Expressions.{Takes, takes-24, form-24, takes-13, argument, object-lies, S-lies}
 
 -- the call so far, wherever it is put
@@ -40,7 +40,7 @@ closed-lies p t (Call.call m) (Items.item q ps) h l = S-lies p t (opened-lies (C
 spread-argument : {T : Texts} (n : Node) → Lies T 12 n → is 26 n ≡ true → Lies T 3 (nodeAt 0 n)
 unfolding nodeAt formAt allowed places also among formIn kindOf fieldsOf kinds
 spread-argument (node at k fs) l e =
-    let f = fields-at 12 26 26 (Field.must (Sort.child 3) ∷ []) refl refl refl l (of-kind 26 (node at k fs) e) in
+    let f = fields-at 12 26 26 (Field.must (Sort.child 3) ∷ []) refl refl refl l (is-kind 26 (node at k fs) e) in
     node-at f 0 (stands-at f 0 refl)
 
 scan-lies : {T : Texts} (p : ℕ) → Takes p → (c : Call) (pending : Items) {ps : Items} → CallLies T c → LieItems T 12 false pending → LieItems T 12 false ps → Lies T p (scan c pending ps)
@@ -56,7 +56,7 @@ scan-lies p t c pending h a (LieItems.item {n = n} {is = ps} m l) =
 pub literal-lies : {T : Texts} (p : ℕ) (n : Node) → Lies T p n → is 24 n ≡ true → Lies T p (literal n)
 unfolding literal itemsAt fieldsOf kinds
 literal-lies p (node at k fs) l e =
-    let q : k ≡ 24 = of-kind 24 (node at k fs) e in
+    let q : k ≡ 24 = is-kind 24 (node at k fs) e in
     let t : Takes p = takes-24 p (subst (λ (j : ℕ). 0 < formAt rewritten p j) q (may-stand l)) in
     let f = fields-at p 24 24 (Field.must (Sort.many 12) ∷ []) refl (form-24 p t) refl l q in
     by-test (any (λ x. is 26 x) (itemsAt 0 (node at k fs)))

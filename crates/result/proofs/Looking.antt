@@ -1,7 +1,7 @@
 -- The loop of `leftover`: a pass that keeps whether a rest was met.
 -- Assumes nothing.
 use mathlib.Core.Path.{_≡_, refl, sym, ap, ap₂, _∙_}
-use mathlib.Core.Bool.{Bool, true, false, cond, _&&_, _||_, true≢false}
+use mathlib.Core.Bool.{Bool, true, false, cond, _&&_, _||_, true≢false, or-false}
 use mathlib.Core.List.{List, [], _∷_, _++_}
 use Prim.Native.Nat.{ℕ, _+_, _-_, _*_, _/_, _%_, _<_, _≤_}
 use native.Mathlib.Omega.{arith}
@@ -32,10 +32,6 @@ use Rattle.result.specs.Leftover.{restLeft, leftIn, leftover, isRested, 
 unfoldable metIn : List Event → Bool
 metIn [] = false
 metIn (e ∷ es) = restMet e || metIn es
-
-or-false : (a : Bool) → a || false ≡ a
-or-false true = refl
-or-false false = refl
 
 folded-met : (s : Bool) (es : List Event) → folded meetRest s es ≡ s || metIn es
 unfolding folded meetRest metIn

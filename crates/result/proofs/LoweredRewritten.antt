@@ -20,6 +20,7 @@ use Rattle.tree.specs.WellFormed.{Bytes, Counts, Fits, WellFormed}
 use Rattle.tree.proofs.Sound.{sound}
 use Rattle.tree.proofs.Complete.{complete}
 use Rattle.tree.proofs.Limit.{tree-raised}
+use Rattle.tree.proofs.EncodedLengths.{marks-long, counts-long}
 use Rattle.rewritten.specs.Rewritten.{readRewritten}
 use Rattle.rewritten.specs.Rewritten as reading
 use Rattle.rewritten.proofs.NeverTooDeep.{tree-never-too-deep}
@@ -37,6 +38,7 @@ use Rattle.equal.specs.Canonical.{eachEntry}
 use Rattle.equal.specs.Equal.{entryEncoded, listEncoded}
 use Rattle.equal.specs.Results.{writtenBy, resultBy, ownNames, treeOf, entriesOf, excludedOf}
 use Rattle.equal.proofs.One.{list-bytes}
+use Rattle.equal.proofs.PlacesByAppearance.{length-distinct, number-most}
 use Rattle.result.specs.Left.{keepsRest, keepsSpread, keeps, Section, Of}
 use Rattle.result.specs.Leftover.{restLeft, leftIn, leftover}
 use Rattle.joining.specs.List.{handed, innerMarks, FitHanded}
@@ -45,7 +47,6 @@ use Rattle.printer.specs.Text.{textOf}
 use Rattle.printer.specs.Outcome as text
 use Rattle.printer.specs.Outcome.{textTooLong}
 use Rattle.joining.specs.Answer as joining
-use Rattle.joining.proofs.Exact.{marks-long}
 use Rattle.joining.specs.Answer.{taken}
 use Rattle.result.specs.Marks.{copiesMarks, resultMarks, entriesFound}
 use Rattle.result.specs.Handed.{KeysOf}
@@ -54,7 +55,7 @@ use Rattle.result.specs.Causes.{Cause, Without, causeOf, Caused}
 use Rattle.result.specs.Texts.{TextIn, TextInList, Known}
 use Rattle.result.proofs.Lies.{Texts, Lies, LieItems, input-lies, input-bytes}
 use Rattle.result.proofs.Comes.{Comes, walked-comes}
-use Rattle.result.proofs.Bounds.{Small, names, names-append, walked-few, distinct-most, number-most}
+use Rattle.result.proofs.Bounds.{Small, names, names-append, walked-few}
 use Rattle.result.proofs.WrittenFits.{fit}
 use Rattle.result.proofs.Standing.{no-spread}
 use Rattle.result.proofs.Occurring.{occurs-not}
@@ -71,11 +72,6 @@ use Rattle.result.proofs.Joins.{joins}
 use Rattle.result.proofs.HandedKeys.{keys-handed}
 use Rattle.result.proofs.Distinct.{distinct-front}
 use Rattle.result.proofs.Numbering.{few-items, declarators-fit, entries-fit}
-
-counted : (k : ℕ) (ms : List ℕ) (j : ℕ) → Counts k ms j → j ≡ k + length ms
-unfolding Counts
-counted k [] j c = let e = c in omega arith
-counted k (m ∷ ms) j c = let e = counted (k + 1) ms j (c .1) in omega arith
 
 -- ---- names and entries of a list
 
@@ -132,7 +128,7 @@ module _ (limit : ℕ) (tree t l : List ℕ) (s : Lent) (b : Bytes tree) (k : Lo
   next-few : next ≤ 8193
   next-few =
       let a = sound input limit tree n (k .end) next b (k .read) in
-      let c = counted 1 (marks n) next (a .wellFormed .marked) in
+      let c = counts-long 1 (marks n) next (a .wellFormed .marked) in
       let d = marks-long n in
       let e = a .wellFormed .short in
       omega arith
@@ -192,7 +188,7 @@ module _ (limit : ℕ) (tree t l : List ℕ) (s : Lent) (b : Bytes tree) (k : Lo
       let es = entries (visits next 0 w) in
       let ex = excludedIn (visits next 0 w) in
       let c = number-most same 1 ns a in
-      let d = distinct-most same (over nameAt (nodes (bare next w) ++ listNodes es ex)) in
+      let d = length-distinct same (over nameAt (nodes (bare next w) ++ listNodes es ex)) in
       let e = names-append (nodes (bare next w)) (listNodes es ex) in
       let f = names-append (over (λ e. nodesItems (e .declarators)) es) (nodesItems ex) in
       let g = small .temporaries in

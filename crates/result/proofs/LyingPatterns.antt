@@ -7,17 +7,16 @@ use mathlib.Core.List.{List, [], _∷_}
 use Prim.Native.Nat.{ℕ, _+_, _<_, _≤_}
 use native.Mathlib.Omega.{arith}
 use lib.Dec.{eqb}
-use borrow.Author.Tests.{eqb-true}
 use Rattle.tree.specs.Tree.{Node, Fields, Items}
 use Rattle.tree.specs.Tree.Node.{node}
 use Rattle.tree.specs.Tree.Fields.{done, absent, field}
 use Rattle.tree.specs.Tree.Piece.{one, list, byte}
 use Rattle.tree.specs.Grammar.{Sort, Field, places, allowed, also, among, kindOf, formIn, formAt, fieldsOf, kinds, variants}
 use Rattle.tree.specs.Grammar.Stage.{rewritten}
-use Rattle.lowering.specs.Parts.{kind, is, nodeAt, pieceIn, asNode}
+use Rattle.lowering.specs.Parts.{is, nodeAt, pieceIn, asNode}
 use Rattle.lowering.specs.Patterns.{Shape, shape, hasObjectRest}
 use Rattle.lowering.specs.Patterns.Shape.{objectPattern, arrayPattern}
-use Rattle.lowering.proofs.Cases.{object-is, array-is, default-is}
+use Rattle.lowering.proofs.Cases.{object-is, array-is, default-is, is-kind}
 use Rattle.lowering.proofs.Levels.{has-nothing}
 use Rattle.result.specs.Left.{keepsRest}
 use Rattle.result.specs.Causes.{Cause, shows}
@@ -140,10 +139,6 @@ fields-at {T = T} p j f ts t e g {at = at} {fs = fs} l q =
     subst (λ (us : List Field). LieFields T 0 us fs) g
     (apart f (subst (λ (i : ℕ). Lies T p (node at i fs)) q l) t e)
 
-pub of-kind : (k : ℕ) (n : Node) → is k n ≡ true → kind n ≡ k
-unfolding is
-of-kind k n e = eqb-true (kind n) k e
-
 -- 34 ObjectPattern(properties* rest?), by the places of its properties and its rest
 pub data ObjectView (T : Texts) (a b : ℕ) : Node → Type 0 where
   plain : {at : ℕ} {ps : Items} → LieItems T a false ps → ObjectView T a b (node at 34 (field (list ps) (absent done)))
@@ -185,13 +180,13 @@ array-rest l v = shown-of l refl Cause.arrayRest v
 module _ (t w : Bool) where
   pub object-view : {T : Texts} (n : Node) → Lies T (patternAt t w) n → shape n ≡ objectPattern → ObjectView T (propertyAt t) (leafAt t) n
   object-view {T = T} (node at k fs) l e =
-      let q : k ≡ 34 = of-kind 34 (node at k fs) (object-is (node at k fs) e) in
+      let q : k ≡ 34 = is-kind 34 (node at k fs) (object-is (node at k fs) e) in
       subst (λ (j : ℕ). ObjectView T (propertyAt t) (leafAt t) (node at j fs)) (sym q)
       (object-parts (fields-at (patternAt t w) 34 (formOf t 34) (objectFields t) refl (object-form t w) (object-fields t) l q))
 
   pub array-view : {T : Texts} (n : Node) → Lies T (patternAt t w) n → shape n ≡ arrayPattern → ArrayView T (valueAt t) (wholeAt t) n
   array-view {T = T} (node at k fs) l e =
-      let q : k ≡ 36 = of-kind 36 (node at k fs) (array-is (node at k fs) e) in
+      let q : k ≡ 36 = is-kind 36 (node at k fs) (array-is (node at k fs) e) in
       subst (λ (j : ℕ). ArrayView T (valueAt t) (wholeAt t) (node at j fs)) (sym q)
       (array-parts (λ v. array-rest (subst (λ (j : ℕ). Lies T (patternAt t w) (node at j fs)) q l) v) (fields-at (patternAt t w) 36 (formOf t 36) (arrayFields t) refl (array-form t w) (array-fields t) l q))
 
@@ -204,14 +199,14 @@ module _ (t : Bool) where
 
   pub default-view : {T : Texts} (n : Node) → Lies T (valueAt t) n → shape n ≡ Shape.default → DefaultView T (wholeAt t) n
   default-view {T = T} (node at k fs) l e =
-      let q : k ≡ 37 = of-kind 37 (node at k fs) (default-is (node at k fs) e) in
+      let q : k ≡ 37 = is-kind 37 (node at k fs) (default-is (node at k fs) e) in
       subst (λ (j : ℕ). DefaultView T (wholeAt t) (node at j fs)) (sym q)
       (default-parts (fields-at (valueAt t) 37 (formOf t 37) (defaultFields t) refl (default-form t) (default-fields t) l q))
 
   -- a Default stands as a value only
   pub no-default-whole : {T : Texts} (n : Node) → Lies T (wholeAt t) n → shape n ≡ Shape.default → ⊥
   no-default-whole (node at k fs) l e =
-      let q : k ≡ 37 = of-kind 37 (node at k fs) (default-is (node at k fs) e) in
+      let q : k ≡ 37 = is-kind 37 (node at k fs) (default-is (node at k fs) e) in
       let z : formAt rewritten (wholeAt t) k ≡ 0 = ap (formAt rewritten (wholeAt t)) q ∙ no-default t in
       let y = may-stand l in
       omega arith

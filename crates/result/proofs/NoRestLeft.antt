@@ -4,20 +4,20 @@ use mathlib.Core.Path.{_≡_, refl, ap, _∙_}
 use mathlib.Core.Bool.{Bool, true, false, _||_, true≢false}
 use Prim.Native.Nat.{ℕ, zero, suc, _≤_}
 use native.Mathlib.Omega.{arith}
-use Rattle.tree.specs.Tree.{Node, Piece, Items, depth, depthItems}
-use Rattle.tree.specs.Tree.Node.{node}
+use Rattle.tree.specs.Tree.{Node, Items, depth, depthItems}
 use Rattle.tree.specs.Tree.Items.{none, hole, item}
-use Rattle.lowering.specs.Parts.{is, nodeAt, itemsAt, stands, pieceIn, standsIn, asNode, change, changeIn, onNode, onItems, without, dropIn, each, gather, any, _+++_}
-use Rattle.lowering.specs.Made.{Context, reference, keyOf}
-use Rattle.lowering.specs.Patterns.{Shape, shape, properties, itemsOf, rest, hasRest, leftOf, value, key, withLeft, withItems, withRest, withValues, hasNestedObjectRest, hasObjectRest, replaced}
+use Rattle.lowering.specs.Parts.{is, nodeAt, itemsAt, stands, pieceIn, standsIn, change, changeIn, onNode, onItems, without, dropIn, each, gather, any, _+++_}
+use Rattle.lowering.specs.Made.{Context, reference}
+use Rattle.lowering.specs.Patterns.{Shape, shape, properties, itemsOf, rest, hasRest, leftOf, value, withLeft, withItems, withRest, withValues, hasNestedObjectRest, hasObjectRest, replaced}
 use Rattle.lowering.specs.Patterns.Shape.{objectPattern}
-use Rattle.lowering.specs.Keys.{keySort, keptKey, taken}
+use Rattle.lowering.specs.Keys.{keptKey, taken}
 use Rattle.lowering.specs.Assignments.{nearest}
 use Rattle.lowering.specs.Heads.{movedOut}
-use Rattle.lowering.proofs.Cases.{by-test, by-shape, by-key, or-left, or-right}
-use Rattle.lowering.proofs.All.{AllItems, other-changed, none-passes, weaker-items}
-use Rattle.lowering.proofs.Levels.{depth-pos, has-nothing}
+use Rattle.lowering.proofs.Cases.{by-test, by-shape, or-left, or-right}
+use Rattle.lowering.proofs.All.{AllItems, none-passes, weaker-items}
+use Rattle.lowering.proofs.Levels.{depth-pos, has-nothing, reference-clear, reference-bare}
 use Rattle.lowering.proofs.Clauses.{replaced-object, replaced-array, replaced-default, replaced-leaf, nearest-object, nearest-array, nearest-default, nearest-leaf, has-leaf}
+use Rattle.lowering.proofs.SoundKeys.{value-kept}
 use Rattle.result.proofs.Lies.{Texts, Lies, LieItems}
 use Rattle.result.proofs.LyingPatterns.{wholeAt, valueAt, propertyAt, leafAt, patternAt, ObjectView, PropertyView, ArrayView, DefaultView, object-view, array-view, property-view, default-view, no-default-whole, array-plain, array-rested}
 use Rattle.result.proofs.Valued.{none-any}
@@ -30,17 +30,6 @@ unfolding gather _+++_
 gather-none f none h = refl
 gather-none f (hole is) h = gather-none f is h
 gather-none f (item n is) h = rw (h .0) (gather-none f is (h .1))
-
--- a Temporary is a leaf
-reference-clear : (c : Context) (p : Node) (e : ℕ) → nearest true e (reference c p) ≡ none
-unfolding nearest shape
-reference-clear c p zero = refl
-reference-clear c p (suc e) = refl
-
-pub reference-bare : (c : Context) (p : Node) (e : ℕ) → hasNestedObjectRest e (reference c p) ≡ false
-unfolding hasNestedObjectRest shape
-reference-bare c p zero = refl
-reference-bare c p (suc e) = refl
 
 pub leaf-clear : (p : Node) → shape p ≡ Shape.leaf → (e : ℕ) → nearest true e p ≡ none
 unfolding nearest
@@ -68,10 +57,6 @@ bare-clear (suc e) p h =
     (none-passes (λ x. hasNestedObjectRest e x) (itemsOf p) (or-left (any (λ x. hasNestedObjectRest e x) (itemsOf p)) (hasNestedObjectRest e (rest p)) k))))
     (λ s. nearest-default true e p s ∙ bare-clear e (leftOf p) (rw (s, hasNestedObjectRest) at h))
     (λ s. nearest-leaf true e p s)
-
-other-field : (q : Node) (f : Piece → Piece) → value (change 0 f q) ≡ value q
-unfolding change nodeAt
-other-field (node at k fs) f = ap asNode (other-changed fs 0 f 1 (λ z. omega arith))
 
 -- ---- values replaced by f, which clears each of at most d levels
 
@@ -103,17 +88,11 @@ module _ {T : Texts} (t : Bool) (f : Node → Node) (d : ℕ) (g : (v : Node) �
   object-clear w p l o h k e = values-none (object-view t w p l o) h k e
 
   module _ (c : Context) where
-    kept-value : (q : Node) → value (keptKey c q) ≡ value q
-    unfolding keptKey
-    kept-value q =
-        by-key (keySort (key q)) (λ e. rw (e, keptKey) refl) (λ e. rw (e, keptKey) refl) (λ e. rw (e, keptKey) refl) (λ e. rw (e, keptKey) refl) (λ e. rw (e, keptKey) refl)
-        (λ e. rw (e, keptKey) (other-field q (onNode (λ k. keyOf c q))))
-
     kept-clear : (e : ℕ) (is : Items) → AllItems (λ q. nearest true e (value q) ≡ none) is → AllItems (λ q. nearest true e (value q) ≡ none) (each (keptKey c) is)
     unfolding each
     kept-clear e none h = tt
     kept-clear e (hole is) h = kept-clear e is h
-    kept-clear e (item q is) h = (ap (nearest true e) (kept-value q) ∙ h .0, kept-clear e is (h .1))
+    kept-clear e (item q is) h = (ap (nearest true e) (value-kept c q) ∙ h .0, kept-clear e is (h .1))
 
     taken-none : {p : Node} → ObjectView T (propertyAt t) (leafAt t) p → depth p ≤ suc d → (e : ℕ) → nearest true e (taken c (withValues f p)) ≡ none
     unfolding nearest taken change changeIn onItems stands standsIn itemsAt pieceIn without dropIn shape depth

@@ -17,11 +17,11 @@ use Rattle.lowering.specs.Collect.{Name, same, Entry, over, nameAt, nameOf, nod
 use Rattle.equal.specs.Canonical.{eachEntry}
 use Rattle.equal.specs.Equal.{entryEncoded}
 use Rattle.joining.specs.List.{FitDeclarators, FitEntries}
-use Rattle.joining.proofs.Agree.{count-short}
 use Rattle.result.proofs.Lies.{Texts, Lies, LieFields, LiePiece, LieItems}
 use Rattle.result.proofs.WrittenFits.{temporary-fits}
 use Rattle.result.proofs.Bounds.{names, names-append, name-here, no-name-here}
 use Rattle.result.proofs.Handing.{EntriesLie}
+use Rattle.tree.proofs.EncodedLengths.{count-short}
 
 module _ (ns : List Name) where
   -- ---- names are few

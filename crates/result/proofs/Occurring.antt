@@ -11,6 +11,7 @@ use Rattle.lowering.specs.Visits.{ItemAt, NodeIn, FieldAt, PartAt, Stands}
 use Rattle.lowering.specs.Collect.{nodes, nodesFields, nodesPiece, nodesItems}
 use Rattle.lowering.proofs.Appearance.{In, in-first, in-second}
 use Rattle.lowering.proofs.Cases.{by-test, or-left, or-right}
+use Rattle.lowering.proofs.PartsAt.{item-nodes}
 use Rattle.result.specs.Left.{anyOf}
 use Rattle.result.specs.Causes.{Cause, shows, Within, Without, Occurs}
 
@@ -117,16 +118,10 @@ unfolding nodes
 first-node (node at k fs) = In.here refl
 
 module _ {x : Node} where
-  item-nodes : {is : Items} {j : ℕ} {y : Node} → ItemAt is j y → In x (nodes y) → In x (nodesItems is)
-  unfolding nodes
-  item-nodes (ItemAt.first {is = is}) i = in-first (nodesItems is) i
-  item-nodes (ItemAt.behind {n = n} a) i = in-second (nodes n) (item-nodes a i)
-  item-nodes (ItemAt.behindHole a) i = item-nodes a i
-
   piece-nodes : {p : Piece} {j : ℕ} {y : Node} → NodeIn p j y → In x (nodes y) → In x (nodesPiece p)
   unfolding nodes
   piece-nodes NodeIn.one i = i
-  piece-nodes (NodeIn.list a) i = item-nodes a i
+  piece-nodes (NodeIn.list a) i = item-nodes x a i
 
   field-nodes : {fs : Fields} {i j : ℕ} {y : Node} → FieldAt fs i j y → In x (nodes y) → In x (nodesFields fs)
   unfolding nodes

@@ -4,7 +4,7 @@ use mathlib.Core.Path.{_≡_}
 use mathlib.Core.Bool.{Bool, true, false}
 use Prim.Native.Nat.{ℕ, zero, suc}
 use native.Mathlib.Omega.{arith}
-use Rattle.tree.specs.Tree.{Node, Items}
+use Rattle.tree.specs.Tree.{Node}
 use Rattle.lowering.specs.Parts.{nodeAt, itemsAt, stands, standsIn, pieceIn, change, changeIn, onNode, onItems, without, dropIn}
 use Rattle.lowering.specs.Made.{Context, reference}
 use Rattle.lowering.specs.Patterns.{Shape, shape, properties, itemsOf, rest, hasRest, leftOf, value, withLeft, withItems, withProperties, withValues, replaced}
@@ -176,13 +176,3 @@ module _ (t : Bool) where
       (lies-if arrays (λ h. lies-gather false (λ m. nearest arrays d m) (λ x m. nearest-lie arrays d true x m) (items-of t w p l e)) (λ h. LieItems.none)))
       (λ e. rw (nearest-default arrays d p e) (nearest-lie arrays d false (leftOf p) (left-whole t w p l e)))
       (λ e. rw (nearest-leaf arrays d p e) LieItems.none)
-
-  -- the rest of an array, if it stands; where it does not, nothing is read, and no pattern is found in that
-  array-rest-lie : {T : Texts} (f : Node → Items) → ((v : Node) → Lies T (wholeAt t) v → LieItems T (valueAt t) false (f v)) → f (Rattle.lowering.specs.Parts.nothing) ≡ Items.none → (w : Bool) (p : Node) → Lies T (patternAt t w) p → shape p ≡ arrayPattern
-      → LieItems T (valueAt t) false (f (rest p))
-  unfolding nodeAt pieceIn
-  array-rest-lie {T = T} f g z w p l e = go (array-view t w p l e)
-    where
-      go : {p : Node} → ArrayView T (valueAt t) (wholeAt t) p → LieItems T (valueAt t) false (f (rest p))
-      go (ArrayView.plain a) = rw z LieItems.none
-      go (ArrayView.rested a r u) = g _ r

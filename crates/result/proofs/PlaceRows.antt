@@ -3,7 +3,7 @@
 use mathlib.Core.Path.{_≡_, refl, sym, ap, _∙_}
 use mathlib.Core.Bool.{Bool, true, false, cond, _&&_, _||_}
 use mathlib.Core.List.{List, [], _∷_}
-use Prim.Native.Nat.{ℕ, zero, suc, _<_}
+use Prim.Native.Nat.{ℕ, _<_}
 use native.Mathlib.Omega.{arith}
 use lib.Dec.{eqb, ltb}
 use lib.ListN.{getD}
@@ -11,6 +11,7 @@ use borrow.Author.Tests.{eqb-true}
 use Rattle.tree.specs.Grammar.{Stage, places, allowed, also, among, kindOf, formIn, formAt}
 use Rattle.tree.specs.Grammar.Stage.{input, rewritten}
 use Rattle.lowering.proofs.Cases.{by-test, and-left, and-right, or-other}
+use Rattle.lowering.proofs.PlaceTests.{allRows, row-at}
 
 -- each form of the first row whose kind the test does not pass over is that kind's form in the second row
 unfoldable pub covers : (ℕ → Bool) → List ℕ → List ℕ → Bool
@@ -40,15 +41,6 @@ at-places skip a b p q h k n z = go (ltb k 64) z
     go false y = absurd (omega arith)
 
 -- ---- a test of each row of the grammar is a test of each place
-
-abbrev pub allRows : (List ℕ → Bool) → List (List ℕ) → Bool
-allRows t [] = true
-allRows t (r ∷ rs) = t r && allRows t rs
-
-pub row-at : (t : List ℕ → Bool) (rs : List (List ℕ)) (p : ℕ) → t [] ≡ true → allRows t rs ≡ true → t (getD rs p []) ≡ true
-row-at t [] p z a = z
-row-at t (r ∷ rs) zero z a = and-left (t r) (allRows t rs) a
-row-at t (r ∷ rs) (suc p) z a = row-at t rs p z (and-right (t r) (allRows t rs) a)
 
 -- what may stand where the input has the row
 abbrev pub widened : List ℕ → List ℕ

@@ -17,16 +17,17 @@ use Rattle.lowering.specs.Visits.{FieldAt, PartAt, Stands}
 use Rattle.lowering.specs.Patterns.{Shape, shape, hasRest, value, hasObjectRest}
 use Rattle.lowering.specs.Patterns.Shape.{objectPattern, arrayPattern}
 use Rattle.lowering.specs.Assignments.{nearest}
-use Rattle.lowering.proofs.Cases.{by-test, by-shape, and-left, and-right, or-other, or-left, shape-34, object-is, array-is, default-is}
+use Rattle.lowering.proofs.Cases.{by-test, by-shape, and-left, and-right, or-other, or-left, shape-34, object-is, array-is, default-is, is-kind}
 use Rattle.lowering.proofs.All.{AllItems, none-passes}
 use Rattle.lowering.proofs.PartsAt.{item-at}
+use Rattle.lowering.proofs.Accepted.{isPattern}
 use Rattle.result.specs.Left.{keepsRest, Below, isRestField, Section, Exception}
 use Rattle.result.proofs.PlaceRows.{covers, at-places, form-4, form-7, form-8, form-10, form-17}
 use Rattle.result.proofs.Lies as lie
 use Rattle.result.specs.Causes.{Cause, lacksValue, shows, causeOf, Without, Caused}
 use Rattle.result.proofs.Occurring.{occurs-unless}
 use Rattle.result.proofs.Lies.{ofTree, Texts, shown-of, Lies, LieFields, fields-of, sortAt, may-stand}
-use Rattle.result.proofs.LyingPatterns.{array-rest, wholeAt, valueAt, propertyAt, leafAt, patternAt, formOf, objectFields, propertyFields, arrayFields, defaultFields, object-fields, property-fields, array-fields, default-fields, object-form, property-form, array-form, default-form, property-only, no-default-whole, fields-at, of-kind}
+use Rattle.result.proofs.LyingPatterns.{array-rest, wholeAt, valueAt, propertyAt, leafAt, patternAt, formOf, objectFields, propertyFields, arrayFields, defaultFields, object-fields, property-fields, array-fields, default-fields, object-form, property-form, array-form, default-form, property-only, no-default-whole, fields-at}
 use Rattle.result.proofs.Expressions.{takes-27, form-27}
 use Rattle.result.proofs.Assignments.{target-of}
 use Rattle.result.proofs.Declarations.{declarator-fields}
@@ -137,9 +138,6 @@ field-as {fs = fs} n {j = j} {x = x} e a = subst (λ (m : ℕ). FieldAt fs m j x
 
 -- ---- places by cases
 
-unfoldable isPattern : ℕ → Bool
-isPattern k = eqb k 34 || (eqb k 36 || eqb k 37)
-
 leaf-kind : (x : Node) → shape x ≡ Shape.leaf → isPattern (kind x) ≡ false
 unfolding shape isPattern
 leaf-kind x s = go (eqb (kind x) 34) (eqb (kind x) 36) (eqb (kind x) 37) s
@@ -191,7 +189,7 @@ outside-11 = refl
 default-at : {T : Texts} (t w : Bool) {at k : ℕ} {fs : Fields} → Lies T (patternAt t w) (node at k fs) → shape (node at k fs) ≡ Shape.default → LieFields T 0 (defaultFields t) fs
 default-at t false {at = at} {k = k} {fs = fs} l s = absurd (no-default-whole t (node at k fs) l s)
 default-at t true {at = at} {k = k} {fs = fs} l s =
-    fields-at (valueAt t) 37 (formOf t 37) (defaultFields t) refl (default-form t) (default-fields t) l (of-kind 37 (node at k fs) (default-is (node at k fs) s))
+    fields-at (valueAt t) 37 (formOf t 37) (defaultFields t) refl (default-form t) (default-fields t) l (is-kind 37 (node at k fs) (default-is (node at k fs) s))
 
 -- ---- one step along the path, by the pattern around
 
@@ -443,15 +441,15 @@ mutual
       let b = come-field cs a in
       by-shape (shape (node at n fs))
       (λ sh.
-      let f = fields-at (patternAt t w) 34 (formOf t 34) (objectFields t) refl (object-form t w) (object-fields t) m (of-kind 34 (node at n fs) (object-is (node at n fs) sh)) in
+      let f = fields-at (patternAt t w) 34 (formOf t 34) (objectFields t) refl (object-form t w) (object-fields t) m (is-kind 34 (node at n fs) (object-is (node at n fs) sh)) in
       object-field t i (lie-sort f (b .1))
       (λ z l. in-object a (b .1) t f sh z (property s t (quiet-left (b .2) (propertyAt t) l (quiet-property t)) l k))
       (λ l. let v = from-at (b .2) (leafAt t) l in In.beyond (further (PartAt.part a) (outside s (v .left) (leafAt t) (v .lies) (v .calm) (outside-leaf t) k))))
       (λ sh.
-      let f = fields-at (patternAt t w) 36 (formOf t 36) (arrayFields t) refl (array-form t w) (array-fields t) m (of-kind 36 (node at n fs) (array-is (node at n fs) sh)) in
+      let f = fields-at (patternAt t w) 36 (formOf t 36) (arrayFields t) refl (array-form t w) (array-fields t) m (is-kind 36 (node at n fs) (array-is (node at n fs) sh)) in
       array-field t i (lie-sort f (b .1))
       (λ z l. in-item a (b .1) t f sh z (inside s t true (quiet-left (b .2) (valueAt t) l (quiet-pattern t true)) l k))
-      (λ z l. in-rest a (b .1) t f sh z (λ v. array-rest (subst (λ (j : ℕ). Lies T (patternAt t w) (node at j fs)) (of-kind 36 (node at n fs) (array-is (node at n fs) sh)) m) v) (inside s t false (quiet-left (b .2) (wholeAt t) l (quiet-pattern t false)) l k)))
+      (λ z l. in-rest a (b .1) t f sh z (λ v. array-rest (subst (λ (j : ℕ). Lies T (patternAt t w) (node at j fs)) (is-kind 36 (node at n fs) (array-is (node at n fs) sh)) m) v) (inside s t false (quiet-left (b .2) (wholeAt t) l (quiet-pattern t false)) l k)))
       (λ sh.
       let f = default-at t w m sh in
       default-field t i (lie-sort f (b .1))

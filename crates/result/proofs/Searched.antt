@@ -4,7 +4,7 @@ use mathlib.Core.Path.{_≡_, refl, ap, _∙_}
 use mathlib.Core.Bool.{Bool, true, false, true≢false}
 use Prim.Native.Nat.{ℕ, zero, suc, _<_, _≤_}
 use native.Mathlib.Omega.{arith}
-use Rattle.tree.specs.Tree.{Node, Fields, Piece, Items, depth, depthFields, depthPiece, depthItems}
+use Rattle.tree.specs.Tree.{Node, Fields, Piece, Items, depth, depthFields, depthPiece}
 use Rattle.lowering.specs.Parts.{is, isEmpty, gather, any, _+++_}
 use Rattle.lowering.specs.Visits.{ItemAt, NodeIn, FieldAt, PartAt}
 use Rattle.lowering.specs.Patterns.{Shape, shape, properties, itemsOf, rest, hasRest, leftOf, value, hasNestedObjectRest}
@@ -13,15 +13,10 @@ use Rattle.lowering.specs.Assignments.{nearest}
 use Rattle.lowering.proofs.Cases.{by-test}
 use Rattle.lowering.proofs.Levels.{depth-pos}
 use Rattle.lowering.proofs.Clauses.{nearest-object, nearest-array, nearest-default}
+use Rattle.lowering.proofs.PartsAt.{item-depth}
 use Rattle.result.proofs.Standing.{or-then}
 
 -- ---- parts have fewer levels
-
-item-depth : {is : Items} {j : ℕ} {x : Node} → ItemAt is j x → depth x ≤ depthItems is
-unfolding depth
-item-depth ItemAt.first = omega arith
-item-depth (ItemAt.behind a) = let l = item-depth a in omega arith
-item-depth (ItemAt.behindHole a) = item-depth a
 
 node-depth : {p : Piece} {j : ℕ} {x : Node} → NodeIn p j x → depth x ≤ depthPiece p
 unfolding depth

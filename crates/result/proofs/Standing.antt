@@ -24,6 +24,7 @@ use Rattle.result.proofs.Expressions.{takes-24, form-24}
 use Rattle.result.proofs.Rules.{leaves}
 use Rattle.result.proofs.Comes.{Comes, Left, ComeFields, ComePiece, ComeItems}
 use Rattle.result.proofs.Settled.{Settled, settled}
+use Rattle.equal.proofs.LeafParts.{holdsNodes, anyHolds}
 
 -- ---- parts
 
@@ -59,28 +60,14 @@ lie-field (LieFields.needed x a) (FieldAt.behind f) = lie-field a f
 lie-field (LieFields.given x a) (FieldAt.first f) = lie-in x f
 lie-field (LieFields.given x a) (FieldAt.behind f) = lie-field a f
 
--- fields that hold a node; those of a Temporary do not
-abbrev holdsNode : Piece → Bool
-holdsNode (Piece.one n) = true
-holdsNode (Piece.list is) = true
-holdsNode (Piece.text bs) = false
-holdsNode (Piece.byte b) = false
-holdsNode (Piece.mark b) = false
-holdsNode (Piece.number b) = false
-
-abbrev holdNodes : Fields → Bool
-holdNodes Fields.done = false
-holdNodes (Fields.absent fs) = holdNodes fs
-holdNodes (Fields.field p fs) = holdsNode p || holdNodes fs
-
 pub or-then : (a b : Bool) → b ≡ true → a || b ≡ true
 or-then true b h = refl
 or-then false b h = h
 
-pub held : {fs : Fields} {i j : ℕ} {x : Node} → FieldAt fs i j x → holdNodes fs ≡ true
+pub held : {fs : Fields} {i j : ℕ} {x : Node} → FieldAt fs i j x → anyHolds fs ≡ true
 held (FieldAt.first NodeIn.one) = refl
 held (FieldAt.first (NodeIn.list i)) = refl
-held (FieldAt.behind {p = p} {fs = fs} f) = or-then (holdsNode p) (holdNodes fs) (held f)
+held (FieldAt.behind {p = p} {fs = fs} f) = or-then (holdsNodes p) (anyHolds fs) (held f)
 held (FieldAt.behindAbsent f) = held f
 
 -- ---- every node

@@ -187,18 +187,6 @@ module _ (out : ℕ → ℕ) (kin : Node → ℕ) where
   keys-by r (field (mark n) fs) = refl
   keys-by r (field (number n) fs) = refl
 
-  pub keys-total : (r : Bool) (is : Items) → keysItems r is ≡ total (keyNode r) is
-  unfolding weigh total
-  keys-total r none = refl
-  keys-total r (hole is) = keys-total r is
-  keys-total r (item q is) = let h = keys-total r is in omega arith
-
-  pub items-total : (is : Items) → weighItems is ≡ total weigh is
-  unfolding weigh total
-  items-total none = refl
-  items-total (hole is) = items-total is
-  items-total (item q is) = let h = items-total is in omega arith
-
   pub sources-by : (fs : Fields) (i : ℕ) → sourcesIn fs i ≡ sourcesItems (asItems (pieceIn fs i))
   unfolding weigh pieceIn
   sources-by done i = refl
@@ -211,12 +199,6 @@ module _ (out : ℕ → ℕ) (kin : Node → ℕ) where
   sources-by (field (mark n) fs) zero = refl
   sources-by (field (number n) fs) zero = refl
   sources-by (field p fs) (suc i) = sources-by fs i
-
-  pub sources-total : (is : Items) → sourcesItems is ≡ total sourceNode is
-  unfolding weigh total
-  sources-total none = refl
-  sources-total (hole is) = sources-total is
-  sources-total (item q is) = let h = sources-total is in omega arith
 
   -- what a source weighs besides
   abbrev pub again : Node → ℕ

@@ -14,10 +14,10 @@ use Rattle.tree.specs.Grammar.Stage.{rewritten}
 use Rattle.tree.specs.WellFormed.{byteIn, Fits, FitFields, FitPiece, FitItems}
 use Rattle.lowering.specs.Made.{temporary}
 use Rattle.result.proofs.PlaceRows.{form-20}
-use Rattle.joining.proofs.Agree.{count-short}
 use Rattle.result.proofs.Lies.{Texts, Lies, LieFields, LiePiece, LieItems, fields-of}
 use Rattle.result.proofs.Rules.{leaves}
 use Rattle.result.proofs.Comes.{Comes, Left, ComeFields, ComePiece, ComeItems}
+use Rattle.tree.proofs.EncodedLengths.{count-short}
 
 -- ---- a Temporary
 

@@ -50,7 +50,7 @@ unfolding new among
 new-none [] = refl
 new-none (m ∷ ms) = new-none ms
 
-same-either-way : (a b : ℕ) → eqb a b ≡ eqb b a
+pub same-either-way : (a b : ℕ) → eqb a b ≡ eqb b a
 same-either-way a b = by-same a b (λ e. eq-eqb a b e ∙ sym (eq-eqb b a (sym e))) (λ d. ne-eqb a b d ∙ sym (ne-eqb b a (λ w. d (sym w))))
 
 new-more : (m : ℕ) (met ms : List ℕ) → new (m ∷ met) ms ≡ cond (among ms m) false (new met ms)

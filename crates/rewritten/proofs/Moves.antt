@@ -8,18 +8,17 @@ use Prim.Native.Nat.{ℕ, zero, suc, _+_, _-_, _*_, _/_, _%_, _^_, _<_, _≤_}
 use native.Mathlib.Omega.{arith}
 use native.Mathlib.Decide.{decLt}
 use lib.Dec.{eqb}
-use lib.ListN.{length, getD, set, List·getD-eq-default}
+use lib.ListN.{length, getD, set}
 use lib.Seq.{getD-set-same, getD-set-other}
 use borrow.Author.Tests.{lt-ltb, le-ltb, eq-eqb, ne-eqb, ltb-true, eqb-true}
 use Rattle.tree.specs.Grammar.{Sort, Field, formAt, fieldsOf, mapOk}
-use Rattle.tree.specs.Grammar.Sort.{child, chosen, many, gaps, text, byte, mark, number}
+use Rattle.tree.specs.Grammar.Sort.{child, chosen, many, gaps, number}
 use Rattle.tree.specs.Grammar.Stage.{rewritten}
 use Rattle.tree.specs.Rows.{sortFrom, sortOf, fieldsIn}
 use Rattle.tree.specs.Read.{Got, mapped, byteAt, wideAt, chosenPlace}
 use Rattle.tree.specs.Read.Got.{got, refused}
 use Rattle.tree.specs.Read.Refusal.{notATree}
 use Rattle.tree.specs.Answer.{Peeked, Wide, gotNumber}
-use Rattle.tree.proofs.GrammarRows.{NoKey, no-key}
 use Rattle.tree.proofs.Within.{map-byte, known}
 use Rattle.rewritten.specs.Events.{Event}
 use Rattle.rewritten.specs.Events.Event.{begins, opens, closes}
@@ -100,11 +99,6 @@ took-as {l} {fs} {later} {g} {h} {at} {deep} {r} e t = subst (λ (x : Got (List 
 
 pub found-true : {r m b : Bool} → r ≡ m → r ≡ b → m ≡ b
 found-true e t = sym e ∙ t
-
--- a class of no arm is a number's
-pub other-class : (class a : ℕ) → NoKey Unit 1 9 class → number ≡ sortFrom class a
-other-class zero a h = refl
-other-class (suc c) a h = sym (List·getD-eq-default (number ∷ child a ∷ chosen a (a + 1) ∷ many a ∷ gaps a ∷ text ∷ mark ∷ byte 0 a ∷ byte 1 a ∷ byte 2 a ∷ []) number {n = suc c} (no-key Unit 1 9 (suc c) h (omega arith)))
 
 -- a kind that may stand there is a byte
 pub enter-there : (l : List ℕ) (p at kind form : ℕ) → Peeked l at kind → form ≡ formAt rewritten p kind → (form ≡ 0 → ⊥) → at < length l

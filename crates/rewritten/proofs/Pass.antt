@@ -21,10 +21,11 @@ use Rattle.tree.proofs.Sound.{never}
 use Rattle.rewritten.specs.Rewritten.{isGot}
 use Rattle.rewritten.specs.Events.{Event, events}
 use Rattle.rewritten.specs.Pending.{sorts, nodeIn, nodeComes, pieceComes, slotsCome, comes, pending, taskOf, stack}
-use Rattle.rewritten.specs.Steps.{start, comingAt, Took, Onward, eventIn}
+use Rattle.rewritten.specs.Steps.{start, comingAt, Stands, Took, Onward, eventIn}
 use Rattle.rewritten.specs.Pass.{folded, passed}
 use Rattle.rewritten.specs.declared.step.Cursor.{Cursor}
 use Rattle.rewritten.specs.declared.step.Event as told
+use Rattle.rewritten.specs.declared.step.Event.the-variants.{Begins, Ends, Opens, Closes, Hole, Text, Byte, Mark, Number}
 use Rattle.rewritten.specs.declared.step.Step.{Step}
 use Rattle.rewritten.specs.declared.step.Step.the-variants.{Next, Done, Refused, Full}
 use Rattle.rewritten.proofs.Coming.{then-nothing, piece-child}
@@ -37,6 +38,18 @@ coming l fs c = comingAt l fs (c .at) (c .deep) (c .top)
 pub tour-is-events : (l fs : List ℕ) → coming l fs start ≡ mapped events (readNode l rewritten (length l) root 0 1)
 unfolding comingAt pending stack comes taskOf slotsCome sorts unpacked nodeComes nodeIn
 tour-is-events l fs = then-nothing (pieceComes l (child root) 0 1) ∙ piece-child l root 0 1
+
+-- an event does not end before it stands
+pub stands-on : (l : List ℕ) (at : ℕ) (e : told.Event) (q : ℕ) → Stands l at e q → at ≤ q
+stands-on l at (Begins p kind map) q s = let w : q ≡ at + 2 = s .5 in omega arith
+stands-on l at Ends q s = let w : q ≡ at = s in omega arith
+stands-on l at (Opens n) q s = let w : q ≡ at + 2 = s .2 in omega arith
+stands-on l at Closes q s = let w : q ≡ at = s in omega arith
+stands-on l at Hole q s = let w : q ≡ at + 1 = s .1 in omega arith
+stands-on l at (Text p n) q s = let w : q ≡ p + n = s .3 in let v : p ≡ at + 2 = s .0 in omega arith
+stands-on l at (Byte b) q s = let w : q ≡ at + 1 = s .2 in omega arith
+stands-on l at (Mark n) q s = let w : q ≡ at + 2 = s .2 in omega arith
+stands-on l at (Number n) q s = let w : q ≡ at + 2 = s .2 in omega arith
 
 -- a step that is an event
 pub onward : (l fs later : List ℕ) (c : Cursor) (r : Step) → Took l fs later (coming l fs c) (c .at) (c .deep) r → (e : told.Event) (d : Cursor) → r ≡ Next e d → Onward l fs later (coming l fs c) (c .at) (c .deep) e d

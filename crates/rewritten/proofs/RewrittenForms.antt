@@ -12,6 +12,7 @@ use borrow.Author.Tests.{le-ltb, eq-eqb, ne-eqb}
 use Rattle.tree.specs.Grammar.{places, allowed, also, among, kindOf, formIn, formAt}
 use Rattle.tree.specs.Grammar.Stage.{input, rewritten}
 use Rattle.tree.proofs.Table.{below, below-at}
+use Rattle.tree.proofs.GrammarRows.{no-form}
 
 unfoldable pub formBy : ℕ → ℕ → ℕ
 formBy p k =
@@ -28,14 +29,6 @@ forms-right = tt
 nowhere : (p : ℕ) → 26 ≤ p → getD places p [] ≡ []
 unfolding places
 nowhere p h = List·getD-eq-default places [] h
-
-no-form : (p k : ℕ) → 26 ≤ p → formAt input p k ≡ 0
-unfolding formAt formIn allowed
-no-form p k h = rw (nowhere p h) (same (ltb k 64))
-  where
-    same : (b : Bool) → _≡_ {A = ℕ} (cond b 0 0) 0
-    same true = refl
-    same false = refl
 
 no-form-either : (p k : ℕ) → 26 ≤ p → formAt rewritten p k ≡ 0
 unfolding formAt formIn allowed also among

@@ -50,7 +50,7 @@ keys-code zero zero sl zero sx e f g = absurd (omega arith)
 keys-code zero (suc n) sl cx sx e f g = absurd (omega arith)
 keys-code (suc n) cl sl cx sx e f g = absurd (omega arith)
 
-high-small : (n : ℕ) → n < 65536 → high n ≡ n / 256
+pub high-small : (n : ℕ) → n < 65536 → high n ≡ n / 256
 unfolding high
 high-small n h = omega arith
 

@@ -2,7 +2,7 @@
 -- fit; else nothing.
 -- Assumes nothing.
 use mathlib.Core.Path.{_≡_, refl, sym, ap, _∙_}
-use mathlib.Core.Bool.{Bool, true, false, _||_}
+use mathlib.Core.Bool.{Bool, true, false, _||_, or-false}
 use mathlib.Core.List.{List, [], _∷_, _++_}
 use Prim.Native.Nat.{ℕ, suc, _+_, _-_, _*_, _/_, _%_, _<_, _≤_, min}
 use native.Mathlib.Omega.{arith}
@@ -27,10 +27,6 @@ or-swap true true c = refl
 or-swap true false c = refl
 or-swap false true c = refl
 or-swap false false c = refl
-
-or-none : (a : Bool) → a || false ≡ a
-or-none true = refl
-or-none false = refl
 
 abbrev either : {A : Type 0} → List (Named A) → Helpers → Helpers
 either es u =
@@ -70,11 +66,11 @@ unfolding helpersIn
 helpers-all es =
     helpers-over es noHelpers
     ∙ (λ j. record {
-      spread = (or-none (usesHelper 1 es)) j;
-      extends = (or-none (usesHelper 2 es)) j;
-      empty = (or-none (usesHelper 3 es)) j;
-      without = (or-none (usesHelper 4 es)) j;
-      key = (or-none (usesHelper 5 es)) j;
+      spread = (or-false (usesHelper 1 es)) j;
+      extends = (or-false (usesHelper 2 es)) j;
+      empty = (or-false (usesHelper 3 es)) j;
+      without = (or-false (usesHelper 4 es)) j;
+      key = (or-false (usesHelper 5 es)) j;
     })
 
 -- ---- lists

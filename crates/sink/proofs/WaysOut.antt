@@ -3,7 +3,7 @@
 use mathlib.Core.Path.{_≡_, refl, sym, ap, _∙_}
 use mathlib.Core.Bool.{Bool, true, false, cond}
 use mathlib.Core.List.{List, [], _∷_, _++_, append-nil}
-use Prim.Native.Nat.{ℕ, zero, suc, _+_, _-_, _*_, _/_, _%_, _<_, _≤_, min}
+use Prim.Native.Nat.{ℕ, zero, suc, _+_, _-_, _*_, _<_, _≤_, min}
 use native.Mathlib.Nat.{add-zero}
 use native.Mathlib.Omega.{arith}
 use native.Mathlib.Numerals.{add-one, unary-clauses}
@@ -46,11 +46,6 @@ set-wide-in l l₁ l₂ at n a b p e q f = cc
 pub set-wide-out : (l : List ℕ) (at n : ℕ) → length l ≤ at → l ≡ setWide l at n
 unfolding setWide
 set-wide-out l at n h = sym (ap (λ (x : List ℕ). set x (at + 1) (high n)) (set-out l at (low n) h) ∙ set-out l (at + 1) (high n) (omega arith))
-
--- a number of 16 bits is its two bytes
-pub wide-is : (n : ℕ) → n < 65536 → low n ∷ high n ∷ [] ≡ n % 256 ∷ n / 256 ∷ []
-unfolding low high
-wide-is n h = let e : n / 256 % 256 ≡ n / 256 = omega arith in ap (λ (k : ℕ). n % 256 ∷ k ∷ []) e
 
 -- ---- cells
 

@@ -14,6 +14,7 @@ pub mod TooDeepExactly
 pub mod Look
 pub mod Noting
 pub mod Laid
+pub mod EncodedLengths
 pub mod Passed
 pub mod Reading
 pub mod Further

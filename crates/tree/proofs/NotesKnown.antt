@@ -3,84 +3,28 @@
 -- Assumes nothing.
 use mathlib.Core.Path.{_≡_, sym, ap, _∙_, subst}
 use mathlib.Core.Bool.{Bool, false, cond}
-use mathlib.Core.List.{List, [], _∷_, _++_}
+use mathlib.Core.List.{List, _++_}
 use Prim.Native.Nat.{ℕ, _+_, _-_, _/_, _%_, _<_, _≤_}
 use native.Mathlib.Omega.{arith}
 use lib.Dec.{leb, ltb}
 use lib.ListN.{length, drop, length-append, length-drop, List·getD-append}
 use lib.Seq.{getD-append-add}
 use borrow.Author.Tests.{lt-ltb, leb-true, eq-eqb}
-use Rattle.tree.specs.Tree.{Node, Fields, Piece, Items}
-use Rattle.tree.specs.Tree.Node.{node}
-use Rattle.tree.specs.Tree.Fields.{done, absent, field}
-use Rattle.tree.specs.Tree.Piece.{one, list, text, byte, mark, number}
-use Rattle.tree.specs.Tree.Items.{none, hole, item}
+use Rattle.tree.specs.Tree.{Node}
 use Rattle.tree.specs.Grammar.{Stage, root}
 use Rattle.tree.specs.Grammar.Stage.{input}
 use Rattle.tree.specs.Read.{Got, byteAt, wideAt, whole, longest, readNode, readTree}
 use Rattle.tree.specs.Read.Got.{got}
 use Rattle.tree.specs.Look.{seen, noteAt, endAt, quietAt, lookNode}
-use Rattle.tree.specs.Note.{Note, Noting, noted, loud, word, noteOf, notesOf, notesFields, notesPiece, notesItems, putAll, noteNode, filled}
+use Rattle.tree.specs.Note.{Note, Noting, noted, loud, word, notesOf, putAll, noteNode, filled}
 use Rattle.tree.specs.WellFormed.{Bytes}
 use Rattle.tree.proofs.HoldsOfRead.{Holds, holds, of-accepted}
 use Rattle.tree.proofs.Look.{tree-node}
 use Rattle.tree.proofs.Sound.{bytes-at}
-use Rattle.tree.proofs.Laid.{All, all-left, all-right, all-join, Laid, Read, Between, length-all}
+use Rattle.tree.proofs.Laid.{All, all-join, Laid, Read, Between, length-all}
 use Rattle.tree.proofs.Passed.{PassesNode, node-passes}
 use Rattle.tree.proofs.Further.{read-further}
 use Rattle.tree.proofs.EndsTold.{Known, stands-deeper, word-end, word-quiet}
-
--- ---- each node of a tree
-
-abbrev mutual
-  pub Each : (Node → Type 0) → Node → Type 0
-  Each P (node at k fs) = P (node at k fs) × EachField P fs
-
-  pub EachField : (Node → Type 0) → Fields → Type 0
-  EachField P done = Unit {0}
-  EachField P (absent fs) = EachField P fs
-  EachField P (field p fs) = EachPiece P p × EachField P fs
-
-  pub EachPiece : (Node → Type 0) → Piece → Type 0
-  EachPiece P (one n) = Each P n
-  EachPiece P (list is) = EachItem P is
-  EachPiece P (text bs) = Unit {0}
-  EachPiece P (byte b) = Unit {0}
-  EachPiece P (mark n) = Unit {0}
-  EachPiece P (number n) = Unit {0}
-
-  pub EachItem : (Node → Type 0) → Items → Type 0
-  EachItem P none = Unit {0}
-  EachItem P (hole is) = EachItem P is
-  EachItem P (item n is) = Each P n × EachItem P is
-
-module _ (Q : Note → Type 0) where
-  abbrev Says : Node → Type 0
-  Says n = Q (noteOf n)
-
-  mutual
-    unfolding notesOf
-
-    pub each-noted : (n : Node) → All Q (notesOf n) → Each Says n
-    each-noted (node at k fs) a = (all-right Q (notesFields fs) (noteOf (node at k fs) ∷ []) a .0, field-noted fs (all-left Q (notesFields fs) (noteOf (node at k fs) ∷ []) a))
-
-    field-noted : (fs : Fields) → All Q (notesFields fs) → EachField Says fs
-    field-noted done a = tt
-    field-noted (absent fs) a = field-noted fs a
-    field-noted (field p fs) a = (piece-noted p (all-left Q (notesPiece p) (notesFields fs) a), field-noted fs (all-right Q (notesPiece p) (notesFields fs) a))
-
-    piece-noted : (p : Piece) → All Q (notesPiece p) → EachPiece Says p
-    piece-noted (one n) a = each-noted n a
-    piece-noted (list is) a = item-noted is a
-    piece-noted (text bs) a = tt
-    piece-noted (byte b) a = tt
-    piece-noted (mark n) a = tt
-    piece-noted (number n) a = tt
-
-    item-noted : (is : Items) → All Q (notesItems is) → EachItem Says is
-    item-noted none a = tt
-    item-noted (hole is) a = item-noted is a
-    item-noted (item n is) a = (each-noted n (all-left Q (notesOf n) (notesItems is) a), item-noted is (all-right Q (notesOf n) (notesItems is) a))
 
 -- ---- an accepted tree
 
@@ -89,10 +33,6 @@ pub record Noted (d : ℕ) (s : List ℕ) (n : Node) (q j : ℕ) : Type 0 where
   pub told : All (Known s) (notesOf n)  -- of each node of the tree: where it ends, and whether something is to be lowered in it
   pub within : All (Between 0 q) (notesOf n)  -- each node of it stands, and ends, within the tree
   pub looks : (e : ℕ) → lookNode s (d + e) 0 ≡ seen n q  -- the decoder gives the tree, also with more levels than the reader had
-
--- the same of each node of the tree
-pub each-known : (d : ℕ) (s : List ℕ) (n : Node) (q j : ℕ) → Noted d s n q j → Each (λ m. Known s (noteOf m)) n
-each-known d s n q j h = each-noted (Known s) n (h .told)
 
 pub within-limit : (stage : Stage) (d : ℕ) (l : List ℕ) (n : Node) (q j : ℕ) → readTree stage d l ≡ got n q j → length l ≤ longest stage
 unfolding readTree

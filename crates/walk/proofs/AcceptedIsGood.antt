@@ -1,7 +1,7 @@
 -- In a tree that was accepted each node is what the emitters ask of it.
 -- Assumes nothing.
 use mathlib.Core.Path.{_≡_, refl, sym, ap, _∙_, subst, fun-ext}
-use mathlib.Core.Bool.{Bool, true, false, cond, not, _&&_, _||_, true≢false, false≢true}
+use mathlib.Core.Bool.{Bool, true, false, cond, _&&_, _||_, true≢false}
 use mathlib.Core.List.{List, [], _∷_, _++_}
 use Prim.Native.Nat.{ℕ, zero, suc, _+_, _-_, _*_, _/_, _%_, _<_, _≤_}
 use native.Mathlib.Omega.{arith}
@@ -9,7 +9,7 @@ use native.Mathlib.Decide.{decLt}
 use lib.Dec.{ltb, eqb}
 use lib.ListN.{length, getD, drop, length-drop}
 use lib.Seq.{getD-drop}
-use borrow.Author.Tests.{ltb-true, le-ltb, eqb-true}
+use borrow.Author.Tests.{ltb-true, le-ltb, eqb-true, not-true}
 use Rattle.tree.specs.Tree.{Node, Fields, Piece, Items, wideBytes, mapOf, encode, encodeFields, encodePiece, marks, marksFields, marksPiece}
 use Rattle.tree.specs.Tree.Node.{node}
 use Rattle.tree.specs.Tree.Items.{hole, item}
@@ -53,10 +53,6 @@ use Rattle.walk.proofs.CutBytes.{read-self, part-cut}
 both-hold : {A : Type 0} (P Q : A → ℕ → ℕ → Type 0) (g : Got A) → Holds P g → Holds Q g → Holds (λ a q j. P a q j × Q a q j) g
 both-hold P Q (got a q j) x y = (x, y)
 both-hold P Q (refused n) x y = tt
-
-not-true : (b : Bool) → not b ≡ true → b ≡ false
-not-true true h = absurd (false≢true h)
-not-true false h = refl
 
 counts-up : (k : ℕ) (ms : List ℕ) (j : ℕ) → Counts k ms j → k ≤ j
 unfolding Counts

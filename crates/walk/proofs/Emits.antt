@@ -26,6 +26,7 @@ use Rattle.direct.specs.Emit.{say, _▷_, below, marking, stays, emitsItem, emi
 use Rattle.direct.proofs.Threads.{say-nothing, then-nothing, then-assoc}
 use Rattle.direct.proofs.OneLevel.{emits-nowhere}
 use Rattle.direct.proofs.StatementMarks.{emits-item}
+use Rattle.direct.proofs.SimpleCopied.{stays-plain}
 use Rattle.walk.specs.Run.{Going, Does}
 use Rattle.walk.specs.Whole.{holeAt, itemDeeds, slotDeeds, GoodItem, GoodItems, GoodList, GoodField, GoodSlot, GoodFields, GoodHere, Good}
 use Rattle.walk.proofs.Running.{does-then, does-nothing, does-as}
@@ -319,11 +320,6 @@ module _ (t : List ℕ) where
   pub deeper-next : (d e at s : ℕ) → e ≡ d → s ≡ lookNode t e at .next → s ≡ lookNode t d at .next
   deeper-next d e at s h k = k ∙ ap (λ (z : ℕ). lookNode t z at .next) h
 
-  stays-is : (c : Place) (at k : ℕ) (fs : Fields) → eqb k 20 ≡ false → eqb k 21 ≡ false
-      → stays c (node at k fs) ≡ say (puts (k ∷ mapOf fs ∷ [])) ▷ emitsParts (isContainer k) (below c (node at k fs)) fs
-  unfolding stays
-  stays-is c at k fs e f = rw (e, f) refl
-
   kind-there : (d at k : ℕ) → Peeked t at k → Good t d at → kind (lookNode t d at .value) ≡ k
   unfolding Good lookNode
   kind-there zero at k p g = absurd g
@@ -351,7 +347,7 @@ module _ (t : List ℕ) where
         ∙ ap (λ (z : Fields). say (puts (byteAt t at ∷ mapOf fs ∷ [])) ▷ emitsFields l c′ z) b
         ∙ ap (λ (z : ℕ → Place). say (puts (byteAt t at ∷ mapOf fs ∷ [])) ▷ emitsParts l z fs) v
         ∙ ap (λ (z : Bool). say (puts (byteAt t at ∷ mapOf fs ∷ [])) ▷ emitsParts z (below c (node at (byteAt t at) fs)) fs) w
-        ∙ sym (stays-is c at (byteAt t at) fs (g .temporary) (g .helper))
+        ∙ sym (stays-plain c at (byteAt t at) fs (g .temporary) (g .helper))
 
     pub plain-here : {g g₁ g′ : Going} → e ≡ d → Does g g₁ (say (puts (part at q t)))
         → (GoodFields t (lookNode t e) (Good t e) l (fieldsIn row) m x → Does g₁ g′ (emitsFields l c′ (lookFields t (lookNode t e) (fieldsIn row) m x .value)))
@@ -433,7 +429,7 @@ module _ (t : List ℕ) where
         ∙ ap (λ (e : Emit). e ▷ emitsParts false (below c (node at 43 fs)) (lookFields t (lookNode t d) (fieldsOf 43) m x .value)) h
         ∙ ap (λ (gs : Fields). say (puts (byteAt t at ∷ mapOf fs ∷ [])) ▷ emitsParts false (below c (node at 43 fs)) gs) w
         ∙ ap (λ (j : ℕ). say (puts (byteAt t at ∷ mapOf fs ∷ [])) ▷ emitsParts (isContainer j) (below c (node at j fs)) fs) (sym z)
-        ∙ sym (stays-is c at (byteAt t at) fs (g .temporary) (g .helper))
+        ∙ sym (stays-plain c at (byteAt t at) fs (g .temporary) (g .helper))
 
     switch-here : {g g₁ g₂ g′ : Going} → Does g g₁ (say (puts (part at q t)))
         → (GoodFields t (lookNode t d) (Good t d) false (fieldsIn switchFront) m x → Does g₁ g₂ front)
@@ -488,12 +484,6 @@ unfolding below is
 below-is c at k fs n r s i e f g =
     let h : r ≡ c .root && not (opensScope k n) = f ∙ ap (λ (x : Bool). c .root && not x) e in
     λ j. record { root = (h) j; statement = (g) j; mark = c .mark }
-
-pub or-taken : (k n : ℕ) (x : Bool) → k ≡ n → eqb k n ≡ eqb k n || x
-or-taken k n x e = rw (eq-eqb k n e) refl
-
-pub or-left : (k n : ℕ) (x y : Bool) → (k ≡ n → ⊥) → y ≡ x → y ≡ eqb k n || x
-or-left k n x y e h = rw (ne-eqb k n e) h
 
 pub no-scope : (k i : ℕ) → (k ≡ 2 → ⊥) → (k ≡ 6 → ⊥) → (k ≡ 7 → ⊥) → (k ≡ 8 → ⊥) → (k ≡ 10 → ⊥) → (k ≡ 14 → ⊥) → (k ≡ 17 → ⊥) → (k ≡ 40 → ⊥) → (k ≡ 42 → ⊥) → (k ≡ 43 → ⊥)
     → false ≡ opensScope k i

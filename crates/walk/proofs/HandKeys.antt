@@ -20,7 +20,7 @@ use Rattle.lowering.specs.Keys.{keySort, excludedKeys, entryOf, keyText}
 use Rattle.lowering.specs.Keys.Key.{name, literal, template, private, again, other}
 use Rattle.lowering.specs.Keys.Entry.{spelt, itself, omitted, saved}
 use Rattle.lowering.proofs.All.{AllItems}
-use Rattle.lowering.proofs.Cases.{by-test}
+use Rattle.lowering.proofs.Cases.{by-test, by-key}
 use Rattle.sink.specs.Machine.{part}
 use Rattle.sink.specs.Machine.Event.{make, listedTemporary, excludedTemporary, declarator}
 use Rattle.pattern.specs.declared.keys.Key.{Key}
@@ -29,7 +29,7 @@ use Rattle.pattern.specs.declared.keys.Key.the-variants.{Name, Literal, OtherFo
 use Rattle.pattern.specs.Tally.{limited}
 use Rattle.pattern.specs.Parts.{partAt}
 use Rattle.pattern.specs.Keys.{nameIn, literalAt, keyAt, Becomes}
-use Rattle.pattern.proofs.KeyCases.{by-sort, key-is}
+use Rattle.pattern.proofs.KeyCases.{key-is}
 use Rattle.pattern.proofs.CountsFit.{counted-whole, excluded-fit}
 use Rattle.direct.specs.Events as events
 use Rattle.direct.specs.Events.{Emit, Deed, lists, excludes}
@@ -230,7 +230,7 @@ module _ (t : List ℕ) where
     plain-is : Plain this (keyAt t d at)
     unfolding keyAt keyBytesOf
     plain-is =
-        by-sort (keySort this)
+        by-key (keySort this)
         (λ s. rw s (class-plain this (nameIn (partAt t d at 0)) (class-name (partAt t d at 0))))
         (λ s. rw s (class-plain this (literalAt t d at) (class-here t d at)))
         (λ s. rw s (rw (s, keyBytesOf) refl))

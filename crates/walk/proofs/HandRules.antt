@@ -189,16 +189,13 @@ module _ (t : List ℕ) (left d at q p n : ℕ) (e : d ≡ left - 1) (a : q ≡ 
 
 -- ---- assignments
 
-view-taking : (v : views.View) → v ≡ Taking → viewOf v ≡ taking
+pub view-taking : (v : views.View) → v ≡ Taking → viewOf v ≡ taking
 unfolding viewOf
 view-taking v e = rw e refl
 
-view-replacing : (v : views.View) → v ≡ Replacing → viewOf v ≡ replacing
+pub view-replacing : (v : views.View) → v ≡ Replacing → viewOf v ≡ replacing
 unfolding viewOf
 view-replacing v e = rw e refl
-
-pub any-place : Context
-any-place = nameless
 
 module _ (t : List ℕ) (left at : ℕ) where
   abbrev target : Node

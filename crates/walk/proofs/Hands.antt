@@ -36,6 +36,7 @@ use Rattle.walk.specs.Turns.{viewOf, ownOf, overAll}
 use Rattle.walk.proofs.Running.{does-then, does-nothing, does-as}
 use Rattle.walk.proofs.Emits.{Onto, onto-start, onto-more, onto-end, good-item, good-items, item-next, full, is-hole, no-hole}
 use Rattle.walk.proofs.Opened.{leaf-here, no-good, object-open, array-open, property-open, default-open}
+use Rattle.walk.proofs.Viewing.{one-view}
 
 -- ---- lists, item by item
 
@@ -132,10 +133,6 @@ unfolding ownOf
 own-keyed own.Place = place-keyed
 own-keyed own.Keys = keys-keyed
 own-keyed (own.Excluded root) = excludes-keyed root
-
-one-view : viewOf Replacing ≡ replacing
-unfolding viewOf
-one-view = refl
 
 all-view : (mode : Own) (v : views.View) (p : Node) → overAll mode v p ≡ overObjects (ownOf mode) (viewOf v) p
 unfolding overAll

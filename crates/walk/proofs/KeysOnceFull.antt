@@ -21,14 +21,12 @@ use Rattle.direct.specs.Events.Deed.{does, refuses}
 use Rattle.pattern.specs.declared.source.ReferenceBuilder.{ReferenceBuilder}
 use Rattle.pattern.specs.Source.{Given, readOf}
 use Rattle.direct.specs.Emit.{say, _▷_, inner}
-use Rattle.direct.specs.Views.{emitsView}
-use Rattle.direct.specs.Views.View.{taking}
 use Rattle.direct.specs.Keys.{emitsRest}
 use Rattle.direct.specs.Declared.{emitsOwnKeys, emitsOwnPattern}
 use Rattle.direct.specs.Assigned.{emitsTarget}
 use Rattle.outcome.specs.Named.{firstRefused}
 use Rattle.outcome.proofs.Refusals.{Sound, silent-none, puts-silent}
-use Rattle.outcome.proofs.Calm.{Sounds, say-sounds, rest-sounds, taking-calm, own-calm, target-value-calm}
+use Rattle.outcome.proofs.Calm.{Sounds, say-sounds, rest-sounds, own-calm, target-value-calm}
 use Rattle.walk.specs.Run.{Going, met, Does, Clear}
 use Rattle.walk.specs.Whole.{Good}
 use Rattle.walk.specs.Turns.{reads, sourceOf}
@@ -97,10 +95,6 @@ module _ (c : Place) (p : Node) (here : Object p) where
     pub own-again : {g : Going} → Clear g (emitsOwnKeys c p ▷ emitsOwnPattern c p s) → Clear g (emitsRest (inner c) at (properties p) s)
     own-again k =
         record { calm = λ z. again-calm (own-calm c (here .place) p (here .fits) (here .object) resting s (quiet .calm) 0 (none-first _ (k .calm z 0)) at) }
-
-    pub taking-again : {g : Going} → Clear g (emitsView (inner c) taking p) → Clear g (emitsRest (inner c) at (properties p) s)
-    taking-again k =
-        record { calm = λ z. again-calm (taking-calm (inner c) (inner c) (here .place) p (here .fits) (here .object) resting refl 0 (none-first _ (k .calm z 0)) at s (quiet .calm)) }
 
     -- behind the target without it
     pub target-again : {g : Going} → Clear g (emitsTarget c p) → Clear g (emitsRest (inner c) at (properties p) s)

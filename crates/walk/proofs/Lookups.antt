@@ -7,13 +7,13 @@ use mathlib.Core.Option.{some}
 use Prim.Native.Nat.{ℕ, zero, suc, _+_, _-_, _/_, _%_, _<_, _≤_}
 use native.Mathlib.Omega.{arith}
 use lib.Dec.{eqb, ltb}
-use borrow.Author.Tests.{eq-eqb, ne-eqb, lt-ltb, le-ltb, not-true, not-false}
+use borrow.Author.Tests.{lt-ltb, le-ltb, not-true, not-false}
 use Rattle.tree.specs.Tree.{Node, Items, count, depth}
 use Rattle.tree.specs.Tree.Items.{none, hole, item}
 use Rattle.tree.specs.Read.{byteAt}
 use Rattle.tree.specs.Answer.{Peeked}
 use Rattle.tree.specs.Look.{onward, lookItem, lookItems, lookNode}
-use Rattle.lowering.specs.Parts.{kind, is, nodeAt, isEmpty, gather}
+use Rattle.lowering.specs.Parts.{is, nodeAt, isEmpty, gather}
 use Rattle.lowering.specs.Patterns.{properties, itemsOf, rest, shape}
 use Rattle.lowering.specs.Heads.{moved, isMoved, movedFrom}
 use Rattle.lowering.specs.Keys.{allPrimitive, keySort, entryOf}
@@ -29,6 +29,7 @@ use Rattle.pattern.proofs.KeyCases.{key-is}
 use Rattle.pattern.proofs.NodeParts.{kind-is}
 use Rattle.pattern.proofs.CappedSums.{numbers, Adds, listSum, sum-start, sum-more, sum-end}
 use Rattle.pattern.proofs.MovesCounted.{count-sum}
+use Rattle.pattern.proofs.KeyCases.{sort-name}
 use Rattle.direct.specs.Events.{cell}
 use Rattle.direct.specs.Views.{isOther}
 use Rattle.direct.specs.Objects.{enters}
@@ -51,12 +52,6 @@ use Rattle.lowering.specs.Keys.Entry.{spelt, itself, omitted, saved}
 -- ---- tests
 
 module _ {A : Type 0} (x a b : A) where
-  pub if-yes : (v n : ℕ) → v ≡ n → x ≡ a → x ≡ cond (eqb v n) a b
-  if-yes v n e h = rw (eq-eqb v n e) h
-
-  pub if-no : (v n : ℕ) → (v ≡ n → ⊥) → x ≡ b → x ≡ cond (eqb v n) a b
-  if-no v n e h = rw (ne-eqb v n e) h
-
   pub when-yes : (t : Bool) → t ≡ true → x ≡ a → x ≡ cond t a b
   when-yes t e h = rw e h
 
@@ -204,14 +199,10 @@ unfolding keyAt
 key-class l d at r k b e =
     ap classOf (sym e ∙ key-is (b .variant)) ∙ class-by (keySort (lookNode l d at .value)) (partAt l d at 0) (literalAt l d at) (class-here l d at) ∙ class-is (lookNode l d at .value)
 
-static-sort : (k : Node) → kind k ≡ 38 → keySort k ≡ lowering.Key.name
-unfolding keySort is
-static-sort k e = rw e
-
 -- a static key, by its kind
 pub static-class : (l : List ℕ) (d at k : ℕ) → 0 < d → k ≡ byteAt l at → k ≡ 38 → AsString ≡ keyClass (lookNode l d at .value)
 static-class l d at k z e y =
-    ap sortClass (sym (static-sort (lookNode l d at .value) (kind-is l d at k (λ n. absurd (omega arith)) e ∙ y))) ∙ class-is (lookNode l d at .value)
+    ap sortClass (sym (sort-name (lookNode l d at .value) (kind-is l d at k (λ n. absurd (omega arith)) e ∙ y))) ∙ class-is (lookNode l d at .value)
 
 -- the entry by the class
 abbrev pub entryFor : KeyClass → lowering.Entry

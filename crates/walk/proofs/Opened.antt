@@ -17,9 +17,10 @@ use Rattle.tree.specs.Grammar.{Sort, Field, statement, expression, forLeft, par
 use Rattle.tree.specs.Grammar.Field.{must, may}
 use Rattle.tree.specs.Grammar.Stage.{input}
 use Rattle.tree.specs.WellFormed.{Fits, FitFields, FitPiece}
-use Rattle.tree.specs.Read.{sortIn, byteAt, wideAt}
+use Rattle.tree.specs.Read.{byteAt, wideAt}
 use Rattle.tree.specs.Look.{Seen, seen, seenAs, onward, lookItem, lookItems, lookField, lookSlot, lookFields, lookNode}
-use Rattle.tree.proofs.Look.{kind-at, on-fits, on-within}
+use Rattle.tree.proofs.Look.{kind-at, on-fits}
+use Rattle.tree.proofs.EncodedLengths.{node-long}
 use Rattle.lowering.specs.Parts.{is, kind, position, nodeAt, pieceIn, asNode}
 use Rattle.lowering.specs.Patterns.{Shape, shape}
 use Rattle.lowering.specs.Patterns as patterns
@@ -53,15 +54,10 @@ drop-take (suc i) zero l = let e : 0 - suc i ≡ 0 = omega arith in rw e refl
 drop-take (suc i) (suc n) [] = sym (take-nil (suc n - suc i))
 drop-take (suc i) (suc n) (x ∷ l) = let e : suc n - suc i ≡ n - i = omega arith in rw e (drop-take i n l)
 
--- a node has a kind and a bit map at least
-pub encode-two : (n : Node) → 2 ≤ length (encode n)
-unfolding encode
-encode-two (node at k fs) = omega arith
-
 -- and two more, where its first field is a node
 encode-four : (at k : ℕ) (n : Node) (fs : Fields) → 4 ≤ length (encode (node at k (Fields.field (Piece.one n) fs)))
 unfolding encode encodeFields encodePiece
-encode-four at k n fs = omega (arith, encode-two n, length-append (encode n) (encodeFields fs))
+encode-four at k n fs = omega (arith, node-long n, length-append (encode n) (encodeFields fs))
 
 -- ---- bit maps
 
@@ -258,39 +254,6 @@ module _ (t : List ℕ) where
       (λ b. let z : length t + n ≤ length t = leb-true (length t + n) (length t) b in rw b (omega arith))
       (λ b. rw b refl)))
 
-  -- nothing that is seen ends past the end
-  module _ (R : ℕ → Seen Node) (ends : (q : ℕ) → q ≤ length t → R q .next ≤ length t) where
-    item-end : (h : Bool) (q : ℕ) → q ≤ length t → lookItem t R h q .next ≤ length t
-    unfolding lookItem
-    item-end true q l = by-test (eqb (byteAt t q) 0) (λ e. rw e (on-within t q 1)) (λ e. rw e (ends q l))
-    item-end false q l = ends q l
-
-    items-end : (h : Bool) (n q : ℕ) → q ≤ length t → lookItems t R h n q .next ≤ length t
-    unfolding lookItems
-    items-end h zero q l = l
-    items-end h (suc n) q l = items-end h n (lookItem t R h q .next) (item-end h q l)
-
-    field-end : (s : Sort) (q : ℕ) → q ≤ length t → lookField t R s q .next ≤ length t
-    unfolding lookField
-    field-end (Sort.child p) q l = ends q l
-    field-end (Sort.chosen p o) q l = ends q l
-    field-end (Sort.many p) q l = items-end false (wideAt t q) (onward t q 2) (on-within t q 2)
-    field-end (Sort.gaps p) q l = items-end true (wideAt t q) (onward t q 2) (on-within t q 2)
-    field-end Sort.text q l = on-within t q (2 + wideAt t q)
-    field-end (Sort.byte a b) q l = on-within t q 1
-    field-end Sort.mark q l = on-within t q 2
-    field-end Sort.number q l = on-within t q 2
-
-    slot-end : (s : Sort) (b q : ℕ) → q ≤ length t → lookSlot t R s b q .next ≤ length t
-    unfolding lookSlot
-    slot-end s zero q l = l
-    slot-end s (suc b) q l = field-end s q l
-
-    fields-end : (ts : List Field) (m q : ℕ) → q ≤ length t → lookFields t R ts m q .next ≤ length t
-    unfolding lookFields
-    fields-end [] m q l = l
-    fields-end (f ∷ ts) m q l = fields-end ts (m / 2) (lookSlot t R (sortIn f) (m % 2) q .next) (slot-end (sortIn f) (m % 2) q l)
-
   -- bytes that stand from a position on, with others behind them
   pub record Front (at : ℕ) (bs : List ℕ) : Type 0 where
     pub more : List ℕ
@@ -361,7 +324,7 @@ module _ (t : List ℕ) where
   pub good-room : (d at : ℕ) → Good t d at → at + length (encode (lookNode t d at .value)) ≤ length t
   good-room d at g =
       let f : Front at (encode (lookNode t d at .value)) = good-front d at g in
-      let n : 2 ≤ length (encode (lookNode t d at .value)) = encode-two (lookNode t d at .value) in
+      let n : 2 ≤ length (encode (lookNode t d at .value)) = node-long (lookNode t d at .value) in
       front-room at (encode (lookNode t d at .value)) (f .more) (f .cut) (omega arith)
 
   -- and ends where its bytes do
@@ -371,13 +334,13 @@ module _ (t : List ℕ) where
   good-next (suc d) at g = g .stop
 
   pub good-within : (d at : ℕ) → Good t d at → at + 2 ≤ 16384
-  good-within d at g = omega (arith, good-end d at g, encode-two (lookNode t d at .value))
+  good-within d at g = omega (arith, good-end d at g, node-long (lookNode t d at .value))
 
   pub good-two : (d at : ℕ) → Good t d at → onward t at 2 ≡ at + 2
-  good-two d at g = let r : at + 2 ≤ length t = omega (arith, good-room d at g, encode-two (lookNode t d at .value)) in on-fits t at 2 r
+  good-two d at g = let r : at + 2 ≤ length t = omega (arith, good-room d at g, node-long (lookNode t d at .value)) in on-fits t at 2 r
 
   pub good-one : (d at : ℕ) → Good t d at → onward t at 1 ≡ at + 1
-  good-one d at g = let r : at + 1 ≤ length t = omega (arith, good-room d at g, encode-two (lookNode t d at .value)) in on-fits t at 1 r
+  good-one d at g = let r : at + 1 ≤ length t = omega (arith, good-room d at g, node-long (lookNode t d at .value)) in on-fits t at 1 r
 
   pub end-as : (d at : ℕ) (n : Node) → lookNode t d at .value ≡ n → Good t d at → at + length (encode n) ≤ 16384
   end-as d at n e g = subst (λ (x : Node). at + length (encode x) ≤ 16384) e (good-end d at g)
@@ -654,10 +617,6 @@ module _ (t : List ℕ) (d at : ℕ) where
       let f = part-front t q (onward t q 2) (wideBytes (wideAt t q)) e in
       let room : q + 2 ≤ length t = front-room t q (wideBytes (wideAt t q)) (f .more) (f .cut) (omega arith) in
       record { next2 = on-fits t q 2 room; small = w .small; head = e; many = c; good = w .items }
-
-  -- the first bytes of the node
-  bytes-next : (bs : List ℕ) → Front t at bs → 0 < length bs → onward t at (length bs) ≡ at + length bs
-  bytes-next bs f h = on-fits t at (length bs) (front-room t at bs (f .more) (f .cut) h)
 
   bytes-head : (bs : List ℕ) → Front t at bs → 0 < length bs → part at (onward t at (length bs)) t ≡ bs
   bytes-head bs f h = front-part t at bs (f .more) (f .cut) h

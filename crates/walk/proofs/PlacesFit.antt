@@ -1,6 +1,6 @@
 -- No more is handed out than the target has bytes.
 -- Assumes nothing.
-use mathlib.Core.Path.{_≡_, refl, ap, _∙_, subst}
+use mathlib.Core.Path.{ap, _∙_, subst}
 use mathlib.Core.Bool.{Bool, true, false, cond}
 use Prim.Native.Nat.{ℕ, zero, suc, _≤_}
 use native.Mathlib.Omega.{arith}
@@ -10,7 +10,7 @@ use Rattle.tree.specs.Tree.Items.{none, hole, item}
 use Rattle.lowering.specs.Parts.{nothing, only, gather}
 use Rattle.lowering.specs.Patterns.{shape, properties, itemsOf, hasRest, leftOf, value}
 use Rattle.lowering.proofs.Cases.{by-shape}
-use Rattle.lowering.proofs.ItemLaws.{items-none, count-append}
+use Rattle.lowering.proofs.ItemLaws.{items-none, count-append, count-none}
 use Rattle.pattern.proofs.CountsFit.{size, Small, object-small, nearest-fit}
 use Rattle.direct.specs.Views.{View}
 use Rattle.direct.specs.Views.View.{replacing, taking}
@@ -55,14 +55,10 @@ fewer r (suc d) p =
 
 -- ---- in bytes
 
-none-counted : count none ≡ 0
-unfolding count
-none-counted = refl
-
 anywhere-small : Small (λ p. reached anywhere p)
 anywhere-small = record {
   fits = λ p. subst (λ (is : Items). count is ≤ size p) (outermost-reached p) (nearest-fit true (depth p) p);
-  bare = ap count (reached-nothing anywhere (depth nothing)) ∙ none-counted;
+  bare = ap count (reached-nothing anywhere (depth nothing)) ∙ count-none;
 }
 
 pub places-small : (v : View) (n : Node) → placesIn v n ≤ length (encode n)

@@ -2,20 +2,20 @@
 -- its own view.
 -- Assumes nothing.
 use mathlib.Core.Path.{_≡_, refl, sym, ap, _∙_}
-use mathlib.Core.Bool.{Bool, true, false, cond}
+use mathlib.Core.Bool.{Bool, true, false}
 use mathlib.Core.List.{List, []}
 use Prim.Native.Nat.{ℕ, zero, suc}
 use native.Mathlib.Omega.{arith}
 use Rattle.tree.specs.Tree.{Node, Items, depth}
 use Rattle.tree.specs.Read.{byteAt}
 use Rattle.tree.specs.Look.{Seen, onward, quietAt, lookNode}
-use Rattle.lowering.specs.Parts.{is, pieceIn, nodeAt, gather, changeNode, _+++_}
+use Rattle.lowering.specs.Parts.{pieceIn, nodeAt, gather, changeNode, _+++_}
 use Rattle.lowering.specs.Made.{Context}
 use Rattle.lowering.specs.Patterns.{shape, properties, itemsOf, leftOf, key, value, objectsWithRest, objectsBelow}
 use Rattle.lowering.specs.Declarations.{nested, innerObjects}
 use Rattle.lowering.proofs.Cases.{by-shape, object-is}
 use Rattle.lowering.proofs.ChangeLaws.{changeNode-same}
-use Rattle.lowering.proofs.Simple.{Simple, node-at, items-at, no-rest, gather-none, has-none}
+use Rattle.lowering.proofs.Simple.{Simple, node-at, items-at, no-rest, gather-none, has-none, cond-none}
 use Rattle.sink.specs.Machine.{part}
 use Rattle.direct.specs.Events.{Place, Emit, puts, contextOf, emits}
 use Rattle.direct.specs.Emit.{say, inner, emitsItems, inTurn}
@@ -39,17 +39,13 @@ use Rattle.walk.proofs.Lookups.{static-class, other-is}
 
 -- ---- nothing is found below it
 
-entered : (b : Bool) (is : Items) → is ≡ Items.none → cond b is Items.none ≡ Items.none
-entered true is h = h
-entered false is h = refl
-
 reached-none : (r : Reach) (d : ℕ) (p : Node) → Simple p → reachedAt r d p ≡ Items.none
 unfolding reachedAt
 reached-none r zero p s = refl
 reached-none r (suc d) p s =
     by-shape (shape p)
     (λ e. rw (e, reachedAt, no-rest p (object-is p e) s) (gather-none (λ q. reachedAt r d (value q)) (λ q z. reached-none r d (value q) (node-at 1 q z)) (properties p) (items-at 0 p s)))
-    (λ e. rw (e, reachedAt) (entered (enters r) (gather (λ x. reachedAt anywhere d x) (itemsOf p)) (gather-none (λ x. reachedAt anywhere d x) (λ x z. reached-none anywhere d x z) (itemsOf p) (items-at 0 p s))))
+    (λ e. rw (e, reachedAt) (cond-none (enters r) (gather (λ x. reachedAt anywhere d x) (itemsOf p)) (gather-none (λ x. reachedAt anywhere d x) (λ x z. reached-none anywhere d x z) (itemsOf p) (items-at 0 p s))))
     (λ e. rw (e, reachedAt) (reached-none r d (leftOf p) (node-at 0 p s)))
     (λ e. rw (e, reachedAt) refl)
 

@@ -37,7 +37,7 @@ use Rattle.pattern.specs.Numbers.{Numeral, spelledAs, isStringOf}
 use Rattle.pattern.specs.Keys.{nameIn, formIn, besideForm, literalBy, literalIn, literalAt, keyAt, keyEntry, Becomes}
 use Rattle.pattern.specs.Source.{Given, readValues, heldIn, readOf}
 use Rattle.pattern.proofs.SourceReads.{held-read}
-use Rattle.pattern.proofs.KeyCases.{by-sort, becomes, key-is}
+use Rattle.pattern.proofs.KeyCases.{becomes, key-is}
 use Rattle.direct.proofs.RestValues.{key-spelt}
 use Rattle.walk.specs.declared.modes.Mode.{Mode}
 use Rattle.walk.specs.declared.look.KeyClass.the-variants.{AsString}
@@ -53,6 +53,7 @@ use Rattle.walk.proofs.Running.{does-as, runs-does, runs-none, runs-as}
 use Rattle.walk.proofs.SmallSteps.{string-whole}
 use Rattle.walk.proofs.Opened.{good-short}
 use Rattle.walk.proofs.Lookups.{when-yes, classOf, isString, entry-is, key-class}
+use Rattle.lowering.proofs.Cases.{by-key}
 
 -- the same from the same
 runs-between : {g h h′ g′ : Going} {ds : List Deed} → h ≡ g → g′ ≡ h′ → Runs h h′ ds → Runs g g′ ds
@@ -237,7 +238,7 @@ literal-room t Numeral.another s p a b = form-room t p b
 key-room : (t : List ℕ) (d at : ℕ) → Room t (keyAt t d at)
 unfolding keyAt literalAt literalIn
 key-room t d at =
-    by-sort (keySort (lookNode t d at .value))
+    by-key (keySort (lookNode t d at .value))
     (λ s. rw s (name-room t (partAt t d at 0) (part-within t d at 0)))
     (λ s. rw s (literal-room t _ (partAt t d at 1) (partAt t d at 2) (part-within t d at 1) (part-within t d at 2)))
     (λ s. rw s tt)
@@ -330,7 +331,7 @@ module _ (t : List ℕ) (d at : ℕ) where
   unfolding keyText
   text-small g =
       let c = good-short t d at g in
-      by-sort (keySort here)
+      by-key (keySort here)
       (λ s. rw (s, keyText) (let b = text-short 0 here in omega arith))
       (λ s. rw (s, keyText) (literal-short here (let b = text-short 2 here in omega arith)))
       (λ s. rw (s, keyText) (omega arith))

@@ -13,7 +13,7 @@ use Rattle.tree.specs.Read.{byteAt}
 use Rattle.tree.specs.Look.{lookItem, lookItems, lookNode}
 use Rattle.lowering.specs.Parts.{nothing, only, gather}
 use Rattle.lowering.specs.Patterns.{shape, itemsOf, hasRest, leftOf, value}
-use Rattle.lowering.specs.Patterns.Shape.{objectPattern, arrayPattern, default, leaf}
+use Rattle.lowering.specs.Patterns.Shape.{objectPattern, arrayPattern, default}
 use Rattle.pattern.specs.declared.parts.Place.{Place}
 use Rattle.pattern.specs.declared.parts.Run.{Run}
 use Rattle.pattern.specs.Parts.{partAt, placeOf, runOf, nodeHere, itemPlace}
@@ -27,7 +27,7 @@ use Rattle.pattern.proofs.MovesCounted.{count-sum}
 use Rattle.pattern.proofs.CountsFit.{limited-below}
 use Rattle.direct.specs.Objects.{Reach, counts, enters, reachedAt, reached, reachedIn}
 use Rattle.direct.specs.Objects.Reach.{anywhere}
-use Rattle.direct.proofs.NearestObjects.{reached-nothing, reached-levels}
+use Rattle.direct.proofs.NearestObjects.{reached-nothing, reached-levels, reached-leaf}
 use Rattle.walk.specs.Turns.{reachOf, valuesCount}
 use Rattle.walk.specs.declared.reaches.Reach as reaches
 use Rattle.walk.specs.declared.reaches.Reach.the-variants.{Anywhere}
@@ -64,10 +64,6 @@ module _ (r : Reach) where
   unfolding reachedAt depth
   default-places (node at k fs) s =
       rw (s, reachedAt) (node-free (λ d p. reachedAt r d p) none (λ d p h. reached-levels r d p h) (reached-nothing r) (depthFields fs) 0 at k fs (omega arith))
-
-  leaf-places : (p : Node) → shape p ≡ leaf → reached r p ≡ none
-  unfolding reachedAt depth
-  leaf-places (node at k fs) s = rw (s, reachedAt) refl
 
   places-nothing : places r nothing ≡ 0
   places-nothing = ap (λ (is : Items). limited (count is)) (reached-nothing r (depth nothing)) ∙ none-counted
@@ -181,7 +177,7 @@ module _ (l : List ℕ) (r : Reach) where
         a ∙ child-is l (places r) (places-blank r) d at 0 s w ∙ ap (λ (is : Items). limited (count is)) (sym (default-places r here (below.is-default here (kind-is l d at k z e ∙ t))))
 
     pub count-other : (k ≡ 34 → ⊥) → (k ≡ 36 → ⊥) → (k ≡ 37 → ⊥) → 0 ≡ places r here
-    count-other a b c = sym (ap (λ (is : Items). limited (count is)) (leaf-places r here (leaf-shape l d at k z e a b c)) ∙ none-counted)
+    count-other a b c = sym (ap (λ (is : Items). limited (count is)) (reached-leaf r here (leaf-shape l d at k z e a b c)) ∙ none-counted)
 
   -- a value that is no pattern by its kind adds nothing
   passed-none : (s : Place) (k : ℕ) → k ≡ byteAt l (s .at) → k ≤ 33 → 0 ≡ places r (nodeHere l s)

@@ -45,10 +45,6 @@ Property q = is 35 q ≡ true
 pub no-zero : (k m : ℕ) → k ≡ m → 0 < m → k ≡ 0 → ⊥
 no-zero k m e h z = omega arith
 
-found-anywhere : (p : Node) → Found Anywhere p ≡ overReached handsPlace anywhere p
-unfolding reachOf
-found-anywhere p = refl
-
 module _ (t : List ℕ) where
   abbrev many : ℕ → ℕ
   many at = wideAt t (onward t at 2)

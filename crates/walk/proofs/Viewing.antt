@@ -51,7 +51,7 @@ does-takes replacing e = absurd (false≢true e)
 does-takes taking e = refl
 
 -- the view of values
-one-view : viewOf Replacing ≡ replacing
+pub one-view : viewOf Replacing ≡ replacing
 unfolding viewOf
 one-view = refl
 

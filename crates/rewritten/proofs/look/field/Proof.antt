@@ -3,6 +3,7 @@ use Rattle.rewritten.proofs.Moves as moves
 use borrow.Author.Needs.{needs}
 use Rattle.rewritten.proofs.look.field.Statement.{statement}
 use Rattle.rewritten.proofs.look.field.Tie as tie
+use Rattle.tree.proofs.ReaderCycle.{other-class}
 
 returns : tie.Need-returns
 returns c = λ some. law.ahead-as (λ fs deep. moves.field-child _ fs _ deep _ some (c .before .match .keys1)) (c .node .ensures _)
@@ -32,7 +33,7 @@ returns-9 : tie.Need-returns-9
 returns-9 c = λ some. law.ahead-as (λ fs deep. moves.field-class _ fs _ deep _ some 9 (c .before .match .keys9)) (c .byte3 .ensures _)
 
 returns-10 : tie.Need-returns-10
-returns-10 c = λ some. law.ahead-as (λ fs deep. moves.field-other _ fs _ deep _ some (moves.other-class _ _ (c .before .match .rest))) (c .number .ensures _)
+returns-10 c = λ some. law.ahead-as (λ fs deep. moves.field-other _ fs _ deep _ some (other-class _ _ (c .before .match .rest))) (c .number .ensures _)
 
 pub field-spec : {M : Type 1} → statement M
 field-spec =
