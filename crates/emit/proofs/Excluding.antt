@@ -31,15 +31,14 @@ use Rattle.walk.specs.declared.look.KeyClass.{KeyClass}
 use Rattle.walk.specs.declared.look.KeyClass.the-variants.{AsString, AsItStands, LeftOut, AsTemporary}
 use Rattle.walk.specs.Run.{Going, Does}
 use Rattle.walk.specs.Whole.{Good, Ruled, Emitted}
-use Rattle.walk.specs.Turns.{cellAt, keyClass, keyString}
-use Rattle.walk.proofs.Lookups.{entry-is}
+use Rattle.walk.specs.Turns.{cellAt, classEntry, keyString}
 use Rattle.walk.proofs.Running.{does-then, does-as, does-to, does-nothing}
 use Rattle.walk.proofs.SpreadArguments.{does-from}
 use Rattle.walk.proofs.Lookups.{cell-within}
 use Rattle.walk.proofs.Opened.{property-key, no-good, position-here, good-within, object-open}
 use Rattle.walk.proofs.ListTurns.{Sequenced, sequenced-as, turns-excluded-key, suit-excluded-key}
 use Rattle.walk.proofs.Viewing.{cell-4, ruled-as}
-use Rattle.lowering.specs.Keys.Entry.{spelt}
+use Rattle.lowering.specs.Keys.Entry.{spelt, itself, omitted, saved}
 
 -- ---- the value
 
@@ -156,19 +155,17 @@ module _ (k : Node) where
   string-spelt e = rw (e, keyString) refl
 
 module _ (c : Place) (q : Node) where
-  as-string : keyClass (key q) ≡ AsString → say (puts (keyString (key q))) ≡ emitsExcluded c q
-  as-string h =
-      let e = entry-is (key q) AsString h in
-      ap (λ (bs : List ℕ). say (puts bs)) (string-spelt (key q) e) ∙ sym (excluded-spelt c q e)
+  as-string : entryOf (keySort (key q)) ≡ spelt → say (puts (keyString (key q))) ≡ emitsExcluded c q
+  as-string e = ap (λ (bs : List ℕ). say (puts bs)) (string-spelt (key q) e) ∙ sym (excluded-spelt c q e)
 
-  as-standing : keyClass (key q) ≡ AsItStands → emits c (key q) ≡ emitsExcluded c q
-  as-standing h = sym (excluded-itself c q (entry-is (key q) AsItStands h))
+  as-standing : entryOf (keySort (key q)) ≡ itself → emits c (key q) ≡ emitsExcluded c q
+  as-standing h = sym (excluded-itself c q h)
 
-  as-nothing : keyClass (key q) ≡ LeftOut → say [] ≡ emitsExcluded c q
-  as-nothing h = sym (excluded-omitted c q (entry-is (key q) LeftOut h))
+  as-nothing : entryOf (keySort (key q)) ≡ omitted → say [] ≡ emitsExcluded c q
+  as-nothing h = sym (excluded-omitted c q h)
 
-  as-cell : keyClass (key q) ≡ AsTemporary → saysCell 4 (position q) ≡ emitsExcluded c q
-  as-cell h = sym (excluded-saved c q (entry-is (key q) AsTemporary h))
+  as-cell : entryOf (keySort (key q)) ≡ saved → saysCell 4 (position q) ≡ emitsExcluded c q
+  as-cell h = sym (excluded-saved c q h)
 
 module _ (t : List ℕ) where
   module _ (d e at k : ℕ) (ee : e ≡ d) (ek : k ≡ onward t at 2) where
@@ -180,23 +177,23 @@ module _ (t : List ℕ) where
     key-good good e35 = rw ee (property-key t d at good e35 k ek .1)
 
   pub excluded-string : {g g₁ g₂ : Going} (c : Place) (d e at k s z : ℕ) (sort : KeyClass) → e ≡ d - 1 → k ≡ onward t at 2 → s ≡ lookNode t d at .next → z ≡ s → g₂ ≡ g₁
-      → sort ≡ keyClass (lookNode t e k .value) → sort ≡ AsString
-      → (Good t e k → keyClass (lookNode t e k .value) ≡ AsString → Does g g₁ (say (puts (keyString (lookNode t e k .value)))))
+      → classEntry sort ≡ entryOf (keySort (lookNode t e k .value)) → sort ≡ AsString
+      → (Good t e k → entryOf (keySort (lookNode t e k .value)) ≡ spelt → Does g g₁ (say (puts (keyString (lookNode t e k .value)))))
       → byteAt t at ≡ 35 → Emitted t d at z g g₂ (emitsExcluded c)
   excluded-string c zero e at k s z sort ee ek es ez eg h i a e35 good = no-good t at good
   excluded-string c (suc d) e at k s z sort ee ek es ez eg h i a e35 good =
       let xe : e ≡ d = omega arith in
       let q : Node = lookNode t (suc d) at .value in
       let same : lookNode t e k .value ≡ key q = key-at d e at k xe ek good e35 in
-      let class : keyClass (lookNode t e k .value) ≡ AsString = sym h ∙ i in (
+      let entry : entryOf (keySort (lookNode t e k .value)) ≡ spelt = sym h ∙ ap classEntry i in (
         ez ∙ es,
-        does-to eg (does-as (a (key-good d e at k xe ek good e35) class)
-            (ap (λ (x : Node). say (puts (keyString x))) same ∙ as-string c q (sym (ap keyClass same) ∙ class))),
+        does-to eg (does-as (a (key-good d e at k xe ek good e35) entry)
+            (ap (λ (x : Node). say (puts (keyString x))) same ∙ as-string c q (sym (ap (λ (x : Node). entryOf (keySort x)) same) ∙ entry))),
       )
 
   pub excluded-standing : {g g₁ g₂ g₃ : Going} (c c₁ : Place) (d e d₁ at k s u r z : ℕ) (sort : KeyClass) → e ≡ d - 1 → k ≡ onward t at 2 → s ≡ lookNode t d at .next → z ≡ s
       → c₁ ≡ c → d₁ ≡ e → u ≡ k → g₁ ≡ g → g₃ ≡ g₂
-      → sort ≡ keyClass (lookNode t e k .value) → sort ≡ AsItStands → Ruled t d₁ u r g₁ g₂ (emits c₁)
+      → classEntry sort ≡ entryOf (keySort (lookNode t e k .value)) → sort ≡ AsItStands → Ruled t d₁ u r g₁ g₂ (emits c₁)
       → byteAt t at ≡ 35 → Emitted t d at z g g₃ (emitsExcluded c)
   excluded-standing c c₁ zero e d₁ at k s u r z sort ee ek es ez ec ed eu eg eh h i a e35 good = no-good t at good
   excluded-standing c c₁ (suc d) e d₁ at k s u r z sort ee ek es ez ec ed eu eg eh h i a e35 good =
@@ -206,30 +203,30 @@ module _ (t : List ℕ) where
       let b = ruled-as t (λ c. emits c) c c₁ e d₁ k u r ec ed eu a in (
         ez ∙ es,
         does-to eh (does-from eg (does-as (b .1 (key-good d e at k xe ek good e35))
-            (ap (λ (x : Node). emits c x) same ∙ as-standing c q (sym (ap keyClass same) ∙ sym h ∙ i)))),
+            (ap (λ (x : Node). emits c x) same ∙ as-standing c q (sym (ap (λ (x : Node). entryOf (keySort x)) same) ∙ sym h ∙ ap classEntry i)))),
       )
 
   pub excluded-nothing : {g g₁ : Going} (c : Place) (d e at k s z : ℕ) (sort : KeyClass) → e ≡ d - 1 → k ≡ onward t at 2 → s ≡ lookNode t d at .next → z ≡ s → g₁ ≡ g
-      → sort ≡ keyClass (lookNode t e k .value) → sort ≡ LeftOut
+      → classEntry sort ≡ entryOf (keySort (lookNode t e k .value)) → sort ≡ LeftOut
       → byteAt t at ≡ 35 → Emitted t d at z g g₁ (emitsExcluded c)
   excluded-nothing c zero e at k s z sort ee ek es ez eg h i e35 good = no-good t at good
   excluded-nothing {g = g} c (suc d) e at k s z sort ee ek es ez eg h i e35 good =
       let xe : e ≡ d = omega arith in
       let q : Node = lookNode t (suc d) at .value in
-      (ez ∙ es, does-to eg (does-as (does-nothing g) (as-nothing c q (sym (ap keyClass (key-at d e at k xe ek good e35)) ∙ sym h ∙ i))))
+      (ez ∙ es, does-to eg (does-as (does-nothing g) (as-nothing c q (sym (ap (λ (x : Node). entryOf (keySort x)) (key-at d e at k xe ek good e35)) ∙ sym h ∙ ap classEntry i))))
 
   pub excluded-cell : {g g₁ g₂ : Going} (c : Place) (d e at k s z : ℕ) (sort : KeyClass) → e ≡ d - 1 → k ≡ onward t at 2 → s ≡ lookNode t d at .next → z ≡ s → g₂ ≡ g₁
-      → sort ≡ keyClass (lookNode t e k .value) → sort ≡ AsTemporary → Does g g₁ (say (does (temporary at 4) ∷ []))
+      → classEntry sort ≡ entryOf (keySort (lookNode t e k .value)) → sort ≡ AsTemporary → Does g g₁ (say (does (temporary at 4) ∷ []))
       → byteAt t at ≡ 35 → Emitted t d at z g g₂ (emitsExcluded c)
   excluded-cell c zero e at k s z sort ee ek es ez eg h i a e35 good = no-good t at good
   excluded-cell c (suc d) e at k s z sort ee ek es ez eg h i a e35 good =
       let xe : e ≡ d = omega arith in
       let q : Node = lookNode t (suc d) at .value in
-      let class : keyClass (key q) ≡ AsTemporary = sym (ap keyClass (key-at d e at k xe ek good e35)) ∙ sym h ∙ i in (
+      let entry : entryOf (keySort (key q)) ≡ saved = sym (ap (λ (x : Node). entryOf (keySort x)) (key-at d e at k xe ek good e35)) ∙ sym h ∙ ap classEntry i in (
         ez ∙ es,
         does-to eg (does-as a
             (cell-4 at ∙ ap (λ (x : ℕ). saysCell 4 x) (sym (position-here t (suc d) at))
-            ∙ as-cell c q class)),
+            ∙ as-cell c q entry)),
       )
 
   -- ---- the declarator of the temporary for a key

@@ -48,11 +48,11 @@ use Rattle.walk.specs.declared.hand.KeyUse.{KeyUse}
 use Rattle.walk.specs.declared.hand.KeyUse.the-variants as use-of
 use Rattle.walk.specs.Run.{Going, Does}
 use Rattle.walk.specs.Whole.{GoodItems, Good}
-use Rattle.walk.specs.Turns.{cellAt, ownOf, keyOf, keyClass, keyString}
+use Rattle.walk.specs.Turns.{cellAt, ownOf, keyOf, classEntry, keyString}
 use Rattle.walk.proofs.Running.{does-then, does-nothing, does-as}
 use Rattle.walk.proofs.Opened.{position-here, good-copied, good-short, good-within, object-open, property-key}
 use Rattle.walk.proofs.Hands.{at-level, list-from}
-use Rattle.walk.proofs.Lookups.{cell-within, classOf, class-name, class-here, key-class, isString}
+use Rattle.walk.proofs.Lookups.{cell-within, classOf, class-name, class-here, key-class, isString, isSpelt}
 use Rattle.walk.proofs.SourcesRead.{Spelt, entryText, name-spelt, form-spelt, bare-spelt, string-is}
 
 -- ---- cells
@@ -175,11 +175,11 @@ module _ (t : List ℕ) where
     pub bytes : stringBytes (part p (p + n) t) ≡ keyBytesOf k
 
   -- a key that is written as a string, by its class
-  bytes-string : (k : Node) → keyClass k ≡ AsString → keyString k ≡ keyBytesOf k
-  unfolding keyClass keyString keyBytesOf
+  bytes-string : (k : Node) → entryOf (keySort k) ≡ spelt → keyString k ≡ keyBytesOf k
+  unfolding keyString keyBytesOf
   bytes-string k h = go (keySort k) h
     where
-      go : (s : keys.Key) → _≡_ {A = KeyClass} (elim (entryOf s) [ spelt ↦ AsString | itself ↦ AsItStands | omitted ↦ LeftOut | saved ↦ AsTemporary ]) AsString
+      go : (s : keys.Key) → entryOf s ≡ spelt
           → _≡_ {A = List ℕ}
           (elim (entryOf s) [ spelt ↦ stringBytes (keyText k) | itself ↦ [] | omitted ↦ [] | saved ↦ [] ])
           (elim s [
@@ -192,12 +192,12 @@ module _ (t : List ℕ) where
           ])
       go name h = refl
       go literal h = refl
-      go template h = absurd (false≢true (ap isString h))
-      go private h = absurd (false≢true (ap isString h))
-      go again h = absurd (false≢true (ap isString h))
-      go other h = absurd (false≢true (ap isString h))
+      go template h = absurd (false≢true (ap isSpelt h))
+      go private h = absurd (false≢true (ap isSpelt h))
+      go again h = absurd (false≢true (ap isSpelt h))
+      go other h = absurd (false≢true (ap isSpelt h))
 
-  as-spelt : (k : Node) (p n : ℕ) → keyClass k ≡ AsString → Spelt t k p n → KeyAs k p n
+  as-spelt : (k : Node) (p n : ℕ) → entryOf (keySort k) ≡ spelt → Spelt t k p n → KeyAs k p n
   as-spelt k p n h s = record { small = s .small; room = s .within; bytes = s .string ∙ bytes-string k h }
 
   module _ (d at : ℕ) where
@@ -264,7 +264,7 @@ module _ (t : List ℕ) where
     -- the digits of a number
     pub number-does : {g g′ : Going} (x : Key) → r ≡ x → classOf x ≡ AsString → Does g g′ (say (excludes (stringBytes (entryText t x)))) → Good t d at → Does g g′ (say (excludes (keyBytesOf that)))
     number-does x f h k good =
-        does-as k (ap (λ (bs : List ℕ). say (excludes bs)) (sym (string-is t d at r x b f h) ∙ bytes-string that (sym (key-class t d at r x b f) ∙ h)))
+        does-as k (ap (λ (bs : List ℕ). say (excludes bs)) (sym (string-is t d at r x b f h) ∙ bytes-string that (sym (key-class t d at r x b f) ∙ ap classEntry h)))
 
     pub template-does : {g g′ : Going} (end : ℕ) → r ≡ Template → end ≡ lookNode t d at .next → Does g g′ (say (excludes (part at end t)))
         → Good t d at → Does g g′ (say (excludes (keyBytesOf that)))

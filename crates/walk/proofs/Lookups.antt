@@ -44,7 +44,7 @@ use Rattle.walk.specs.declared.reaches.Reach.the-variants.{Anywhere}
 use Rattle.walk.specs.declared.look.KeyClass.{KeyClass}
 use Rattle.walk.specs.declared.look.KeyClass.the-variants.{AsString, AsItStands, LeftOut, AsTemporary}
 use Rattle.walk.specs.declared.look.Start.the-variants as start
-use Rattle.walk.specs.Turns.{keyClass, startOf, startValue, cellAt, reachOf, itemMode, entersArrays}
+use Rattle.walk.specs.Turns.{classEntry, startOf, startValue, cellAt, reachOf, itemMode, entersArrays}
 use Rattle.lowering.proofs.ItemLaws.{count-append}
 use Rattle.lowering.proofs.Cases.{by-shape}
 use Rattle.lowering.specs.Keys.Entry.{spelt, itself, omitted, saved}
@@ -179,49 +179,31 @@ pub class-here : (l : List ℕ) (d at : ℕ) → classOf (literalAt l d at) ≡ 
 unfolding literalAt literalIn
 class-here l d at = class-literal l _ (partAt l d at 1) (partAt l d at 2)
 
-abbrev sortClass : lowering.Key → KeyClass
-sortClass s = elim (entryOf s) [ spelt ↦ AsString | itself ↦ AsItStands | omitted ↦ LeftOut | saved ↦ AsTemporary ]
-
-class-by : (s : lowering.Key) (p : Content) (k : Key) → classOf k ≡ AsString → classOf (keyBy s p k) ≡ sortClass s
-class-by lowering.Key.name p k h = class-name p
-class-by lowering.Key.literal p k h = h
+class-by : (s : lowering.Key) (p : Content) (k : Key) → classOf k ≡ AsString → classEntry (classOf (keyBy s p k)) ≡ entryOf s
+class-by lowering.Key.name p k h = ap classEntry (class-name p)
+class-by lowering.Key.literal p k h = ap classEntry h
 class-by lowering.Key.template p k h = refl
 class-by lowering.Key.private p k h = refl
 class-by lowering.Key.again p k h = refl
 class-by lowering.Key.other p k h = refl
 
-class-is : (k : Node) → sortClass (keySort k) ≡ keyClass k
-unfolding keyClass
-class-is k = refl
-
-pub key-class : (l : List ℕ) (d at : ℕ) (r k : Key) → Becomes l d at r → r ≡ k → classOf k ≡ keyClass (lookNode l d at .value)
+pub key-class : (l : List ℕ) (d at : ℕ) (r k : Key) → Becomes l d at r → r ≡ k → classEntry (classOf k) ≡ entryOf (keySort (lookNode l d at .value))
 unfolding keyAt
 key-class l d at r k b e =
-    ap classOf (sym e ∙ key-is (b .variant)) ∙ class-by (keySort (lookNode l d at .value)) (partAt l d at 0) (literalAt l d at) (class-here l d at) ∙ class-is (lookNode l d at .value)
+    ap (λ (x : Key). classEntry (classOf x)) (sym e ∙ key-is (b .variant)) ∙ class-by (keySort (lookNode l d at .value)) (partAt l d at 0) (literalAt l d at) (class-here l d at)
 
 -- a static key, by its kind
-pub static-class : (l : List ℕ) (d at k : ℕ) → 0 < d → k ≡ byteAt l at → k ≡ 38 → AsString ≡ keyClass (lookNode l d at .value)
+pub static-class : (l : List ℕ) (d at k : ℕ) → 0 < d → k ≡ byteAt l at → k ≡ 38 → classEntry AsString ≡ entryOf (keySort (lookNode l d at .value))
 static-class l d at k z e y =
-    ap sortClass (sym (sort-name (lookNode l d at .value) (kind-is l d at k (λ n. absurd (omega arith)) e ∙ y))) ∙ class-is (lookNode l d at .value)
+    ap entryOf (sym (sort-name (lookNode l d at .value) (kind-is l d at k (λ n. absurd (omega arith)) e ∙ y)))
 
--- the entry by the class
-abbrev pub entryFor : KeyClass → lowering.Entry
-entryFor AsString = spelt
-entryFor AsItStands = itself
-entryFor LeftOut = omitted
-entryFor AsTemporary = saved
+-- whether an entry is a string, and whether a key is written as one, as a temporary
+abbrev pub isSpelt : lowering.Entry → Bool
+isSpelt spelt = true
+isSpelt itself = false
+isSpelt omitted = false
+isSpelt saved = false
 
-pub entry-is : (k : Node) (c : KeyClass) → keyClass k ≡ c → entryOf (keySort k) ≡ entryFor c
-unfolding keyClass
-entry-is k c h = go (entryOf (keySort k)) ∙ ap entryFor h
-  where
-    go : (e : lowering.Entry) → e ≡ entryFor (elim e [ spelt ↦ AsString | itself ↦ AsItStands | omitted ↦ LeftOut | saved ↦ AsTemporary ])
-    go spelt = refl
-    go itself = refl
-    go omitted = refl
-    go saved = refl
-
--- whether a key is written as a string, as a temporary
 abbrev pub isString : KeyClass → Bool
 isString AsString = true
 isString AsItStands = false
@@ -234,17 +216,18 @@ isTemporary AsItStands = false
 isTemporary LeftOut = false
 isTemporary AsTemporary = true
 
-pub other-is : (k : Node) (n m : KeyClass) → n ≡ keyClass k → n ≡ m → isTemporary m ≡ isOther k
-unfolding keyClass isOther
-other-is k n m e f = ap isTemporary (sym f ∙ e) ∙ go (keySort k)
+pub other-is : (k : Node) (n m : KeyClass) → classEntry n ≡ entryOf (keySort k) → n ≡ m → isTemporary m ≡ isOther k
+unfolding isOther
+other-is k n m e f = go m ∙ ap isSaved (sym (ap classEntry f) ∙ e)
   where
-    go : (s : lowering.Key) → isTemporary (sortClass s) ≡ elim (entryOf s) [ spelt ↦ false | itself ↦ false | omitted ↦ false | saved ↦ true ]
-    go lowering.Key.name = refl
-    go lowering.Key.literal = refl
-    go lowering.Key.template = refl
-    go lowering.Key.private = refl
-    go lowering.Key.again = refl
-    go lowering.Key.other = refl
+    isSaved : lowering.Entry → Bool
+    isSaved i = elim i [ spelt ↦ false | itself ↦ false | omitted ↦ false | saved ↦ true ]
+
+    go : (c : KeyClass) → isTemporary c ≡ isSaved (classEntry c)
+    go AsString = refl
+    go AsItStands = refl
+    go LeftOut = refl
+    go AsTemporary = refl
 
 -- ---- excluded keys that go out
 

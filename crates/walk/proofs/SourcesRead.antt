@@ -24,6 +24,7 @@ use Rattle.lowering.specs.Made.{Context, string}
 use Rattle.lowering.specs.Patterns.{key}
 use Rattle.lowering.specs.Numbers.{digitsOf}
 use Rattle.lowering.specs.Keys.{keySort, entryOf, keyText, promised, literalText}
+use Rattle.lowering.specs.Keys.Entry.{spelt}
 use Rattle.sink.specs.Machine.{part}
 use Rattle.sink.specs.Machine.Event.{put, temporary}
 use Rattle.pattern.specs.declared.keys.Key.{Key}
@@ -48,11 +49,11 @@ use Rattle.direct.specs.Emit.{say}
 use Rattle.direct.specs.Keys.{stringBytes}
 use Rattle.walk.specs.Run.{Going, Runs, Does}
 use Rattle.walk.specs.Whole.{Good}
-use Rattle.walk.specs.Turns.{holeDeeds, holeOf, reads, sourceOf, stringAt, stringOf, keyClass, keyString, awaits, writesHoles}
+use Rattle.walk.specs.Turns.{holeDeeds, holeOf, reads, sourceOf, stringAt, stringOf, classEntry, keyString, awaits, writesHoles}
 use Rattle.walk.proofs.Running.{does-as, runs-does, runs-none, runs-as}
 use Rattle.walk.proofs.SmallSteps.{string-whole}
 use Rattle.walk.proofs.Opened.{good-short}
-use Rattle.walk.proofs.Lookups.{when-yes, classOf, isString, entry-is, key-class}
+use Rattle.walk.proofs.Lookups.{when-yes, classOf, isString, isSpelt, key-class}
 use Rattle.lowering.proofs.Cases.{by-key}
 
 -- the same from the same
@@ -299,8 +300,8 @@ module _ (t : List ℕ) (d at : ℕ) where
 
   -- the text by what the key becomes
   module _ (r x : Key) (b : Becomes t d at r) (e : r ≡ x) (h : classOf x ≡ AsString) where
-    class-one : keyClass here ≡ AsString
-    class-one = sym (key-class t d at r x b e) ∙ h
+    spelt-one : entryOf (keySort here) ≡ spelt
+    spelt-one = sym (key-class t d at r x b e) ∙ ap classEntry h
 
     pub key-text : keyText here ≡ entryText t x
     key-text =
@@ -308,7 +309,7 @@ module _ (t : List ℕ) (d at : ℕ) where
         sym (string-text (keyText here))
         ∙ ap firstText
         (ap (λ (k : Node). only (string (keyText k))) (sym property-key)
-        ∙ sym (key-spelt c property (ap (λ (k : Node). entryOf (keySort k)) property-key ∙ entry-is here AsString class-one))
+        ∙ sym (key-spelt c property (ap (λ (k : Node). entryOf (keySort k)) property-key ∙ spelt-one))
         ∙ b .entry c property property-key
         ∙ ap (keyEntry t c property) e
         ∙ entry-string t c property x h)
@@ -316,7 +317,7 @@ module _ (t : List ℕ) (d at : ℕ) where
 
     pub string-is : keyString here ≡ stringBytes (entryText t x)
     unfolding keyString
-    string-is = rw (entry-is here AsString class-one, keyString) (ap stringBytes key-text)
+    string-is = rw (spelt-one, keyString) (ap stringBytes key-text)
 
   literal-short : (k : Node) → length (textAt 2 k) ≤ 16384 → length (literalText k) ≤ 16384
   unfolding literalText
@@ -362,7 +363,7 @@ module _ (t : List ℕ) (d at : ℕ) where
   bare-spelt r b g e = spelt-at r NoForm 0 0 b e refl g (omega arith) refl
 
   -- what has no string
-  pub no-string : {A : Type 0} (r k : Key) → Becomes t d at r → r ≡ k → keyClass here ≡ AsString → (classOf k ≡ AsString → ⊥) → A
+  pub no-string : {A : Type 0} (r k : Key) → Becomes t d at r → r ≡ k → entryOf (keySort here) ≡ spelt → (classEntry (classOf k) ≡ spelt → ⊥) → A
   no-string r k b e h z = absurd (z (key-class t d at r k b e ∙ h))
 
 -- the string that is written is the key's, where the key is good and written as one
@@ -373,19 +374,19 @@ module _ (t : List ℕ) (d at : ℕ) (good : Good t d at) where
   spelt-whole : (from n : ℕ) → Spelt t written from n → stringAt t from n ≡ keyString written
   spelt-whole from n s = string-whole t from n (s .small) (s .within) ∙ s .string
 
-  string-found : (x : Key) → keyAt t d at ≡ x → keyClass written ≡ AsString → stringOf t x ≡ keyString written
+  string-found : (x : Key) → keyAt t d at ≡ x → entryOf (keySort written) ≡ spelt → stringOf t x ≡ keyString written
   unfolding stringOf
   string-found (Name p n) e h = spelt-whole p n (name-spelt t d at _ (becomes t d at _ refl) good p n e)
   string-found (Literal p n) e h = spelt-whole p n (form-spelt t d at _ (becomes t d at _ refl) good p n e)
   string-found (variants.Number v) e h = sym (string-is t d at _ _ (becomes t d at _ refl) e refl)
   string-found (OtherForm v) e h = sym (string-is t d at _ _ (becomes t d at _ refl) e refl)
   string-found NoForm e h = spelt-whole 0 0 (bare-spelt t d at _ (becomes t d at _ refl) good e)
-  string-found Template e h = no-string t d at _ _ (becomes t d at _ refl) e h (λ z. false≢true (ap isString z))
-  string-found Private e h = no-string t d at _ _ (becomes t d at _ refl) e h (λ z. false≢true (ap isString z))
-  string-found Again e h = no-string t d at _ _ (becomes t d at _ refl) e h (λ z. false≢true (ap isString z))
-  string-found Other e h = no-string t d at _ _ (becomes t d at _ refl) e h (λ z. false≢true (ap isString z))
+  string-found Template e h = no-string t d at _ _ (becomes t d at _ refl) e h (λ z. false≢true (ap isSpelt z))
+  string-found Private e h = no-string t d at _ _ (becomes t d at _ refl) e h (λ z. false≢true (ap isSpelt z))
+  string-found Again e h = no-string t d at _ _ (becomes t d at _ refl) e h (λ z. false≢true (ap isSpelt z))
+  string-found Other e h = no-string t d at _ _ (becomes t d at _ refl) e h (λ z. false≢true (ap isSpelt z))
 
-pub does-string : {g g′ : Going} (t : List ℕ) (d at : ℕ) → Runs g g′ (puts (stringOf t (keyAt t d at))) → Good t d at → keyClass (lookNode t d at .value) ≡ AsString
+pub does-string : {g g′ : Going} (t : List ℕ) (d at : ℕ) → Runs g g′ (puts (stringOf t (keyAt t d at))) → Good t d at → entryOf (keySort (lookNode t d at .value)) ≡ spelt
     → Does g g′ (say (puts (keyString (lookNode t d at .value))))
 does-string t d at e good h = runs-does (runs-as e (ap puts (string-found t d at good (keyAt t d at) refl h)))
 

@@ -13,7 +13,7 @@ use Rattle.lowering.specs.Parts.{is, any, gather}
 use Rattle.lowering.specs.Made as made
 use Rattle.lowering.specs.Patterns.{value, hasArrayRestOverObjectRest}
 use Rattle.lowering.specs.Heads.{movedFrom}
-use Rattle.lowering.specs.Keys.{keySort, entryOf, keyText}
+use Rattle.lowering.specs.Keys.{Entry, keySort, entryOf, keyText}
 use Rattle.lowering.specs.Numbers.{digitsOf}
 use Rattle.lowering.proofs.All.{AllItems}
 use Rattle.sink.specs.Machine.{part}
@@ -170,9 +170,12 @@ sourceOf tree b = say (reads tree (readOf b))
 abbrev pub stringAt : List ℕ → ℕ → ℕ → List ℕ
 stringAt t from n = 22 ∷ 7 ∷ 1 ∷ 0 ∷ 0 ∷ wideBytes (n % 65536) ++ part from (onward t from n) t
 
--- how a key is written among the excluded keys
-unfoldable pub keyClass : Node → KeyClass
-keyClass k = elim (entryOf (keySort k)) [ spelt ↦ AsString | itself ↦ AsItStands | omitted ↦ LeftOut | saved ↦ AsTemporary ]
+-- how a key is written among the excluded keys: the entry that it becomes. Document 01 has no number for it
+abbrev pub classEntry : KeyClass → Entry
+classEntry AsString = spelt
+classEntry AsItStands = itself
+classEntry LeftOut = omitted
+classEntry AsTemporary = saved
 
 unfoldable pub keyString : Node → List ℕ
 keyString k = elim (entryOf (keySort k)) [ spelt ↦ stringBytes (keyText k) | itself ↦ [] | omitted ↦ [] | saved ↦ [] ]

@@ -23,12 +23,13 @@ ghost use Rattle.tree.specs.Read.{byteAt};
 ghost use Rattle.tree.specs.Look.{onward, lookItems, lookNode};
 ghost use Rattle.lowering.specs.Parts.{gather};
 ghost use Rattle.lowering.specs.Patterns.{properties};
+ghost use Rattle.lowering.specs.Keys.{keySort, entryOf};
 ghost use Rattle.lowering.specs.Heads.{movedFrom};
 ghost use Rattle.pattern.specs.Tally.{limited};
 ghost use Rattle.direct.specs.Views.{isOther, takes};
 ghost use Rattle.direct.specs.Keys.{hoists};
 ghost use Rattle.direct.specs.Moved.{number};
-ghost use Rattle.walk.specs.Turns.{viewOf, itemMode, entersArrays, keyClass, cellAt, levelOf, startOf, startValue};
+ghost use Rattle.walk.specs.Turns.{viewOf, itemMode, entersArrays, classEntry, cellAt, levelOf, startOf, startValue};
 
 // The first bit of the bit map of the node at a position, and the second.
 pub fn first_bit(t: &[u8], at: usize) -> usize
@@ -117,7 +118,7 @@ pub enum KeyClass {
 }
 
 pub fn key_sort(t: &[u8], left: usize, at: usize) -> KeyClass
-    ensures { λ r. ⌜ r ≡ keyClass (lookNode (now (t .entry)) left at .value) ⌝ }
+    ensures { λ r. ⌜ classEntry r ≡ entryOf (keySort (lookNode (now (t .entry)) left at .value)) ⌝ }
 {
     if 0 < left {
         if peek(t, at) == kinds::STATIC_KEY {
