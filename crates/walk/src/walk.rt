@@ -20,11 +20,11 @@ ghost use Rattle.direct.specs.Keys.{stringBytes};
 ghost use Rattle.walk.specs.Run.{goingOf, Runs};
 ghost use Rattle.walk.specs.Turns.{declarationHead, blockHead, stringAt};
 
-// The output, the position in the input, the first refusal (0 for none).
+// The output, the position in the input, the first refusal (0 for none). A refusal is a byte; as a word it is copied faster.
 pub struct Walk {
     pub sink: Sink,
     pub at: usize,
-    pub refusal: u8,
+    pub refusal: usize,
 }
 
 impl Walk {
@@ -129,7 +129,7 @@ impl Walk {
             return Walk {
                 sink: k.put2(out, 0, 0),
                 at: self.at,
-                refusal: n,
+                refusal: n as usize,
             };
         }
         Walk {
