@@ -166,14 +166,14 @@ impl Walk {
         self
     }
 
-    // An assignment's head: the operator is a byte.
-    pub fn assign(self, out: &mut [u8], op: usize) -> Walk
-        ensures { λ r. ⌜ ((l w : List ℕ) → Runs (goingOf (now (out .entry)) l w self) (goingOf (now (out .exit)) l w r) (puts (27 ∷ 7 ∷ op % 256 ∷ []))) × (r .at ≡ self .at) ⌝ }
+    // An assignment's head.
+    pub fn assign(self, out: &mut [u8], op: u8) -> Walk
+        ensures { λ r. ⌜ ((l w : List ℕ) → Runs (goingOf (now (out .entry)) l w self) (goingOf (now (out .exit)) l w r) (puts (27 ∷ 7 ∷ op ∷ []))) × (r .at ≡ self .at) ⌝ }
     {
         let k = self.sink;
         Walk {
             sink: k.put2(out, written::ASSIGNMENT, written::FIRST_THREE)
-                .put(out, sink::bytes::low(op)),
+                .put(out, op),
             at: self.at,
             refusal: self.refusal,
         }
