@@ -22,6 +22,7 @@ use Rattle.lowering.specs.Assignments.{target, isTop, topRefusal}
 use Rattle.lowering.proofs.All.{AllItems}
 use Rattle.lowering.proofs.Cases.{by-test, by-number}
 use Rattle.lowering.proofs.Clauses.{top-34, top-rest}
+use Rattle.sink.specs.Machine.{low}
 use Rattle.sink.specs.Machine.Event.{temporary}
 use Rattle.pattern.specs.declared.source.ReferenceBuilder.{ReferenceBuilder}
 use Rattle.pattern.specs.Source.{Given, builderOf, readOf, placeRead, afterRead}
@@ -261,21 +262,21 @@ module _ (t : List ℕ) where
   pub nst-done : {g₀ g₁ g₂ g₃ g₄ h₄ g₅ g₆ g₇ : Going} (c c₁ c₂ : Place) (d d₁ d₂ : ℕ) (v : views.View) (op p q r₅ k m x stem : ℕ) (input : Bool)
       → ((v ≡ Taking → byteAt t p ≡ 34) → k ≡ limited (placesIn (viewOf v) (lookNode t d p .value)))
       → (Good t d p → (v ≡ Taking → byteAt t p ≡ 34) → Does g₀ g₁ (handsNested (viewOf v) (c .mark) (lookNode t d p .value)))
-      → Does g₁ g₂ (say (puts (28 ∷ 1 ∷ []))) → m ≡ limited (k + 1) → (m < 65536 → Does g₂ g₃ (say (puts (wideBytes m)))) → (op < 256 → Does g₃ g₄ (assignHead op))
+      → Does g₁ g₂ (say (puts (28 ∷ 1 ∷ []))) → m ≡ limited (k + 1) → (m < 65536 → Does g₂ g₃ (say (puts (wideBytes m)))) → Does g₃ g₄ (assignHead op)
       → h₄ ≡ g₄ → q ≡ p → (c₁ ≡ inner c) × (d₁ ≡ d)
       → (Good t d₁ q → (r₅ ≡ lookNode t d₁ q .next) × Does h₄ g₅ (emitsView c₁ (viewOf v) (lookNode t d₁ q .value)))
       → (c₂ ≡ inner c) × (d₂ ≡ d) → ((input ≡ true → Good t d₂ x) → Does g₅ g₆ (givenDeeds t d₂ c₂ input stem x))
       → Replaced c d v p g₆ g₇
-      → (v ≡ Taking → byteAt t p ≡ 34) → Good t d p → (input ≡ true → Good t d x) → hasArrayRestOverObjectRest (lookNode t d p .value) ≡ false → op < 256
+      → (v ≡ Taking → byteAt t p ≡ 34) → Good t d p → (input ≡ true → Good t d x) → hasArrayRestOverObjectRest (lookNode t d p .value) ≡ false
       → Does g₀ g₇ (emitsNest c (viewOf v) op (lookNode t d p .value) (givenDeeds t d (inner c) input stem x))
   unfolding emitsNest
-  nst-done c c₁ c₂ d d₁ d₂ v op p q r₅ k m x stem input pk hands two pm wide ass t₄ w₄ i₁ view i₂ giv last kind good gx ar lo =
+  nst-done c c₁ c₂ d d₁ d₂ v op p q r₅ k m x stem input pk hands two pm wide ass t₄ w₄ i₁ view i₂ giv last kind good gx ar =
       let n = lookNode t d p .value in
       let pl : placesIn (viewOf v) n ≤ 16384 = omega (arith, places-small (viewOf v) n, good-short t d p good) in
       let mm : m ≡ suc (placesIn (viewOf v) n) = one-more (placesIn (viewOf v) n) k m pl (pk kind) pm in
       does-then (hands good kind)
       (does-then (sequence-says m (suc (placesIn (viewOf v) n)) mm (omega arith) two wide)
-      (does-then (ass lo)
+      (does-then ass
       (does-then (view-does (viewOf v) (inner c) c₁ d d₁ p q r₅ t₄ (i₁ .0) (i₁ .1) w₄ view good)
       (does-then (given-does (inner c) c₂ d d₂ x stem input (i₂ .0) (i₂ .1) giv gx) (last kind good ar)))))
 
@@ -287,15 +288,15 @@ module _ (t : List ℕ) where
   value-given c d p z e = ap (λ (x : ℕ). say (does (temporary x 3) ∷ [])) e
 
   nest-as : {g g′ : Going} (c c′ : Place) (d d′ p z : ℕ) → c′ ≡ c → d′ ≡ d → z ≡ cell 3 p
-      → ((_≡_ {A = views.View} Taking Taking → byteAt t p ≡ 34) → Good t d′ p → (false ≡ true → Good t d′ z) → hasArrayRestOverObjectRest (lookNode t d′ p .value) ≡ false → 1 < 256
+      → ((_≡_ {A = views.View} Taking Taking → byteAt t p ≡ 34) → Good t d′ p → (false ≡ true → Good t d′ z) → hasArrayRestOverObjectRest (lookNode t d′ p .value) ≡ false
       → Does g g′ (emitsNest c′ (viewOf Taking) 1 (lookNode t d′ p .value) (givenDeeds t d′ (inner c′) false 3 z)))
       → byteAt t p ≡ 34 → Good t d p → hasArrayRestOverObjectRest (lookNode t d p .value) ≡ false → Does g g′ (emitsNest c taking 1 (lookNode t d p .value) (saysCell 3 p))
   unfolding viewOf
   nest-as {g = g} {g′ = g′} c c′ d d′ p z u w e n k good ar =
       does-as
-      (carry (λ y f q. (_≡_ {A = views.View} Taking Taking → byteAt t q ≡ 34) → Good t f q → (false ≡ true → Good t f z) → hasArrayRestOverObjectRest (lookNode t f q .value) ≡ false → 1 < 256
+      (carry (λ y f q. (_≡_ {A = views.View} Taking Taking → byteAt t q ≡ 34) → Good t f q → (false ≡ true → Good t f z) → hasArrayRestOverObjectRest (lookNode t f q .value) ≡ false
       → Does g g′ (emitsNest y taking 1 (lookNode t f q .value) (givenDeeds t f (inner y) false 3 z))) u w refl n
-      (λ _. k) good (λ x. absurd (false≢true x)) ar (omega arith))
+      (λ _. k) good (λ x. absurd (false≢true x)) ar)
       (ap (λ (s : Emit). emitsNest c taking 1 (lookNode t d p .value) s) (value-given (inner c) d p z e))
 
   object-within : (d p : ℕ) → Good t d p → p < 16384
@@ -323,7 +324,7 @@ module _ (t : List ℕ) where
   given-at {g = g} {g′ = g′} x y d stem c input e h = subst (λ (z : ℕ). (input ≡ true → Good t d z) → Does g g′ (givenDeeds t d c input stem z)) e h
 
   pub tgt-nested : {g g′ : Going} (c c₁ : Place) (d d₁ p z k : ℕ) → (byteAt t p ≡ 34 → k ≡ limited (count (reachedIn (reachOf InArrays) (lookNode t d p .value)))) → 0 < k → (c₁ ≡ inner c) × (d₁ ≡ d) → CellIs z 3 p
-      → ((_≡_ {A = views.View} Taking Taking → byteAt t p ≡ 34) → Good t d₁ p → (false ≡ true → Good t d₁ z) → hasArrayRestOverObjectRest (lookNode t d₁ p .value) ≡ false → 1 < 256
+      → ((_≡_ {A = views.View} Taking Taking → byteAt t p ≡ 34) → Good t d₁ p → (false ≡ true → Good t d₁ z) → hasArrayRestOverObjectRest (lookNode t d₁ p .value) ≡ false
       → Does g g′ (emitsNest c₁ (viewOf Taking) 1 (lookNode t d₁ p .value) (givenDeeds t d₁ (inner c₁) false 3 z)))
       → byteAt t p ≡ 34 → Good t d p → hasArrayRestOverObjectRest (lookNode t d p .value) ≡ false → Does g g′ (emitsTarget c (lookNode t d p .value))
   tgt-nested c c₁ d d₁ p z k e h i ce n by good ar =
@@ -332,7 +333,7 @@ module _ (t : List ℕ) where
       (ap (λ (x : ℕ). emitsNest (inner c) taking 1 y (saysCell 3 x)) (sym (position-here t d p)) ∙ sym (target-nested c y (some-replaced y k (e by) h)))
 
   pub tgt-kept : {g₀ g₁ h₁ g₂ g₃ : Going} (c c₁ : Place) (d d₁ p q r z k : ℕ) → (byteAt t p ≡ 34 → k ≡ limited (count (reachedIn (reachOf InArrays) (lookNode t d p .value)))) → k ≤ 0 → (c₁ ≡ inner c) × (d₁ ≡ d)
-      → (1 < 256 → Does g₀ g₁ (assignHead 1)) → h₁ ≡ g₁ → q ≡ p
+      → Does g₀ g₁ (assignHead 1) → h₁ ≡ g₁ → q ≡ p
       → (Good t d₁ q → (r ≡ lookNode t d₁ q .next) × Does h₁ g₂ (emitsView c₁ (viewOf Taking) (lookNode t d₁ q .value)))
       → CellIs z 3 p → Does g₂ g₃ (say (does (temporary z 3) ∷ []))
       → byteAt t p ≡ 34 → Good t d p → hasArrayRestOverObjectRest (lookNode t d p .value) ≡ false → Does g₀ g₃ (emitsTarget c (lookNode t d p .value))
@@ -340,7 +341,7 @@ module _ (t : List ℕ) where
   tgt-kept c c₁ d d₁ p q r z k e h i ass m w view ce last by good ar =
       let y = lookNode t d p .value in
       does-as
-      (does-then (ass (omega arith))
+      (does-then ass
       (does-then (view-does taking (inner c) c₁ d d₁ p q r m (i .0) (i .1) w view good)
       (cell-says z 3 p (cell-within _ _ _ ce (object-within d p good)) last)))
       (ap (λ (x : ℕ). assignHead 1 ▷ emitsView (inner c) taking y ▷ saysCell 3 x) (sym (position-here t d p)) ∙ sym (target-kept c y (none-replaced y k (e by) h)))
@@ -384,7 +385,7 @@ module _ (t : List ℕ) where
 
   -- the rest, behind the target and the parts: what is written for the target refuses nothing, so its value does not
   rest-last : {g₇ i₀ i₁ i₂ : Going} (c c₁ c₂ : Place) (d d₁ d₂ e p r y z : ℕ) (f : ReferenceBuilder) → Clear g₇ (emitsTarget c (lookNode t d p .value))
-      → (1 < 256 → Does g₇ i₀ (assignHead 1)) → y ≡ r → r ≡ listAt (d - 1) p .next → e ≡ d - 1 → (c₂ ≡ inner c) × (d₂ ≡ e)
+      → Does g₇ i₀ (assignHead 1) → y ≡ r → r ≡ listAt (d - 1) p .next → e ≡ d - 1 → (c₂ ≡ inner c) × (d₂ ≡ e)
       → (Good t d₂ y → Does i₀ i₁ (emits c₂ (lookNode t d₂ y .value)))
       → CellIs z 3 p → ((u : List ℕ) → sourceOf u f ≡ say (does (temporary z 3) ∷ [])) → (c₁ ≡ inner c) × (d₁ ≡ d)
       → (Good t d₁ p → byteAt t p ≡ 34 → Clear i₁ (emitsRest c₁ p (properties (lookNode t d₁ p .value)) (sourceOf t f)) → Does i₁ i₂ (emitsRest c₁ p (properties (lookNode t d₁ p .value)) (sourceOf t f)))
@@ -396,12 +397,12 @@ module _ (t : List ℕ) where
       let y = restNode (d - 1) p in
       let N = node-does (inner c) c₂ (d - 1) d₂ (listAt (d - 1) p .next) w refl (in₂ .0) (in₂ .1 ∙ le) (ww ∙ rr) nod (o .good) in
       let again : Clear i₁ (emitsRest (inner c) p (properties (lookNode t d p .value)) (sourceOf t f)) =
-      target-again c (lookNode t d p .value) (walked.object-here t d p good k) hr (sourceOf t f) (source-quiet t f) p (clear-still (clear-still clear (ass (omega arith))) N) in
+      target-again c (lookNode t d p .value) (walked.object-here t d p good k) hr (sourceOf t f) (source-quiet t f) p (clear-still (clear-still clear ass) N) in
       let there : Clear i₁ (emitsRest c₁ p (properties (lookNode t d₁ p .value)) (sourceOf t f)) =
       subst (λ (m : Place). Clear i₁ (emitsRest m p (properties (lookNode t d₁ p .value)) (sourceOf t f))) (sym (in₁ .0))
       (subst (λ (y : ℕ). Clear i₁ (emitsRest (inner c) p (properties (lookNode t y p .value)) (sourceOf t f))) (sym (in₁ .1)) again) in
       let Y = rest-does (inner c) c₁ d d₁ p z 3 p f (in₁ .0) (in₁ .1) (cell-within _ _ _ ce (o .within)) so (λ g e. res g e there) good k in
-      does-as (does-then (ass (omega arith)) (does-then N Y))
+      does-as (does-then ass (does-then N Y))
       (ap (λ (n : Node). assignHead 1 ▷ emits (inner c) y ▷ emitsRest (inner c) p (properties n) (saysCell 3 p)) (o .whole)
       ∙ sym (rest-done c p ps y (o .leafy)) ∙ ap (emitsRestOf c) (sym (o .whole)))
 
@@ -410,12 +411,12 @@ module _ (t : List ℕ) where
       → b ≡ keysRefusal (lookNode t d p .value) → b ≤ 0 → (c₁ ≡ inner c) × (d₁ ≡ d)
       → (Good t d p → byteAt t p ≡ 34 → Does g₀ g₁ (handsTop (c .root) (c .mark) (lookNode t d p .value)))
       → (Good t d p → byteAt t p ≡ 34 → k ≡ suc (suc (suc (cond (c .statement) (partsCount (lookNode t d p .value)) (suc (partsCount (lookNode t d p .value)))))))
-      → Does g₁ g₂ (say (puts (28 ∷ 1 ∷ []))) → (k < 65536 → Does g₂ g₃ (say (puts (wideBytes k)))) → (1 < 256 → Does g₃ g₄ (assignHead 1))
+      → Does g₁ g₂ (say (puts (28 ∷ 1 ∷ []))) → (k < 65536 → Does g₂ g₃ (say (puts (wideBytes k)))) → Does g₃ g₄ (assignHead 1)
       → CellIs z 3 p → Does g₄ g₅ (say (does (temporary z 3) ∷ []))
       → ((input ≡ true → Good t d₁ x) → Does g₅ g₆ (givenDeeds t d₁ c₁ input stem x))
       → (byteAt t p ≡ 34 → Good t d p → hasArrayRestOverObjectRest (lookNode t d p .value) ≡ false → Does g₆ g₇ (emitsTarget c (lookNode t d p .value)))
       → (byteAt t p ≡ 34 → Good t d p → AllSuit (modes.Value (Reached Straight)) (properties (lookNode t d p .value)) → (r ≡ listAt (d - 1) p .next) × Does g₇ g₈ (turnsOf (modes.Value (Reached Straight)) c (properties (lookNode t d p .value))))
-      → (1 < 256 → Does g₈ i₀ (assignHead 1)) → y ≡ r → e ≡ d - 1 → (c₂ ≡ inner c) × (d₂ ≡ e)
+      → Does g₈ i₀ (assignHead 1) → y ≡ r → e ≡ d - 1 → (c₂ ≡ inner c) × (d₂ ≡ e)
       → (Good t d₂ y → Does i₀ i₁ (emits c₂ (lookNode t d₂ y .value)))
       → CellIs z₂ 3 p → ((u : List ℕ) → sourceOf u f ≡ say (does (temporary z₂ 3) ∷ [])) → c₃ ≡ inner c
       → (Good t d₁ p → byteAt t p ≡ 34 → Clear i₁ (emitsRest c₃ p (properties (lookNode t d₁ p .value)) (sourceOf t f)) → Does i₁ i₂ (emitsRest c₃ p (properties (lookNode t d₁ p .value)) (sourceOf t f)))
@@ -436,7 +437,7 @@ module _ (t : List ℕ) where
       (does-as
       (does-then (hands good by)
       (does-then (sequence-says k (topCount c n) (co .0) (co .1) two wide)
-      (does-then (ass (omega arith))
+      (does-then ass
       (does-then (cell-says z 3 p (cell-within _ _ _ ce wi) temp)
       (does-then (given-does (inner c) c₁ d d₁ x stem input (in₁ .0) (in₁ .1) giv gx)
       (does-then T
@@ -494,9 +495,9 @@ module _ (t : List ℕ) where
 
   pub asn-top : {g g′ : Going} (c : Place) (d op p x k : ℕ) (input s : Bool) → Peeked t p k → k ≡ 34 → s ≡ eqb (byteAt t (onward t p 1) / 2 % 2) 1 → s ≡ true
       → (byteAt t p ≡ 34 → hasRest (lookNode t d p .value) ≡ true → Good t d p → (input ≡ true → Good t d x) → hasArrayRestOverObjectRest (lookNode t d p .value) ≡ false → Topped c d p input 1 x g g′)
-      → Good t d p → (input ≡ true → Good t d x) → hasArrayRestOverObjectRest (lookNode t d p .value) ≡ false → hasObjectRest (lookNode t d p .value) ≡ true → op < 256
+      → Good t d p → (input ≡ true → Good t d x) → hasArrayRestOverObjectRest (lookNode t d p .value) ≡ false → hasObjectRest (lookNode t d p .value) ≡ true
       → Does g g′ (emits c (assignmentAt 0 op (lookNode t d p .value) (givenNode t d input x)))
-  asn-top c d op p x k input s pk kk se sh top good gx ar ob lo =
+  asn-top c d op p x k input s pk kk se sh top good gx ar ob =
       let by : byteAt t p ≡ 34 = sym (pk .value) ∙ kk in
       let hr : hasRest (lookNode t d p .value) ≡ true = second-rest d p good by (sym se ∙ sh) in
       let r : RestHere d (d - 1) p = rest-here d p good by hr in
@@ -509,31 +510,31 @@ module _ (t : List ℕ) where
       ∙ sym (top-is c 0 op p ps y X h′) ∙ ap (λ (m : Node). emits c (assignmentAt 0 op m X)) (sym (r .whole)))
 
   asn-nest : {g g′ : Going} (c : Place) (d op p x : ℕ) (input : Bool) → isTop (lookNode t d p .value) ≡ false
-      → ((_≡_ {A = views.View} Replacing Taking → byteAt t p ≡ 34) → Good t d p → (input ≡ true → Good t d x) → hasArrayRestOverObjectRest (lookNode t d p .value) ≡ false → op < 256
+      → ((_≡_ {A = views.View} Replacing Taking → byteAt t p ≡ 34) → Good t d p → (input ≡ true → Good t d x) → hasArrayRestOverObjectRest (lookNode t d p .value) ≡ false
       → Does g g′ (emitsNest c (viewOf Replacing) op (lookNode t d p .value) (givenDeeds t d (inner c) input 1 x)))
-      → Good t d p → (input ≡ true → Good t d x) → hasArrayRestOverObjectRest (lookNode t d p .value) ≡ false → hasObjectRest (lookNode t d p .value) ≡ true → op < 256
+      → Good t d p → (input ≡ true → Good t d x) → hasArrayRestOverObjectRest (lookNode t d p .value) ≡ false → hasObjectRest (lookNode t d p .value) ≡ true
       → Does g g′ (emits c (assignmentAt 0 op (lookNode t d p .value) (givenNode t d input x)))
   unfolding viewOf
-  asn-nest c d op p x input h n good gx ar ob lo =
+  asn-nest c d op p x input h n good gx ar ob =
       let m = lookNode t d p .value in
-      does-as (n (λ e. absurd (false≢true (ap (λ (v : views.View). takes (viewOf v)) e))) good gx ar lo)
+      does-as (n (λ e. absurd (false≢true (ap (λ (v : views.View). takes (viewOf v)) e))) good gx ar)
       (ap (λ (s : Emit). emitsNest c replacing op m s) (sym (given-is (inner c) d x input)) ∙ sym (assignment-nested c 0 op m (givenNode t d input x) ar h ob))
 
   pub asn-plain : {g g′ : Going} (c : Place) (d op p x k : ℕ) (input s : Bool) → Peeked t p k → k ≡ 34 → s ≡ eqb (byteAt t (onward t p 1) / 2 % 2) 1 → s ≡ false
-      → ((_≡_ {A = views.View} Replacing Taking → byteAt t p ≡ 34) → Good t d p → (input ≡ true → Good t d x) → hasArrayRestOverObjectRest (lookNode t d p .value) ≡ false → op < 256
+      → ((_≡_ {A = views.View} Replacing Taking → byteAt t p ≡ 34) → Good t d p → (input ≡ true → Good t d x) → hasArrayRestOverObjectRest (lookNode t d p .value) ≡ false
       → Does g g′ (emitsNest c (viewOf Replacing) op (lookNode t d p .value) (givenDeeds t d (inner c) input 1 x)))
-      → Good t d p → (input ≡ true → Good t d x) → hasArrayRestOverObjectRest (lookNode t d p .value) ≡ false → hasObjectRest (lookNode t d p .value) ≡ true → op < 256
+      → Good t d p → (input ≡ true → Good t d x) → hasArrayRestOverObjectRest (lookNode t d p .value) ≡ false → hasObjectRest (lookNode t d p .value) ≡ true
       → Does g g′ (emits c (assignmentAt 0 op (lookNode t d p .value) (givenNode t d input x)))
-  asn-plain c d op p x k input s pk kk se sh n good gx ar ob lo =
-      asn-nest c d op p x input (no-rest-top (lookNode t d p .value) (no-second d p good (sym (pk .value) ∙ kk) (sym se ∙ sh))) n good gx ar ob lo
+  asn-plain c d op p x k input s pk kk se sh n good gx ar ob =
+      asn-nest c d op p x input (no-rest-top (lookNode t d p .value) (no-second d p good (sym (pk .value) ∙ kk) (sym se ∙ sh))) n good gx ar ob
 
   pub asn-other : {g g′ : Going} (c : Place) (d op p x k : ℕ) (input : Bool) → Peeked t p k → (k ≡ 34 → ⊥)
-      → ((_≡_ {A = views.View} Replacing Taking → byteAt t p ≡ 34) → Good t d p → (input ≡ true → Good t d x) → hasArrayRestOverObjectRest (lookNode t d p .value) ≡ false → op < 256
+      → ((_≡_ {A = views.View} Replacing Taking → byteAt t p ≡ 34) → Good t d p → (input ≡ true → Good t d x) → hasArrayRestOverObjectRest (lookNode t d p .value) ≡ false
       → Does g g′ (emitsNest c (viewOf Replacing) op (lookNode t d p .value) (givenDeeds t d (inner c) input 1 x)))
-      → Good t d p → (input ≡ true → Good t d x) → hasArrayRestOverObjectRest (lookNode t d p .value) ≡ false → hasObjectRest (lookNode t d p .value) ≡ true → op < 256
+      → Good t d p → (input ≡ true → Good t d x) → hasArrayRestOverObjectRest (lookNode t d p .value) ≡ false → hasObjectRest (lookNode t d p .value) ≡ true
       → Does g g′ (emits c (assignmentAt 0 op (lookNode t d p .value) (givenNode t d input x)))
-  asn-other c d op p x k input pk kn n good gx ar ob lo =
-      asn-nest c d op p x input (no-top (lookNode t d p .value) (other-kind d p good (λ e. kn (pk .value ∙ e)))) n good gx ar ob lo
+  asn-other c d op p x k input pk kn n good gx ar ob =
+      asn-nest c d op p x input (no-top (lookNode t d p .value) (other-kind d p good (λ e. kn (pk .value ∙ e)))) n good gx ar ob
 
   -- ---- where the walk gets to one
 
@@ -603,21 +604,22 @@ module _ (t : List ℕ) where
         ∙ sym (assignment-stays c (assignmentAt p opHere aimed given) (assignment-27 p opHere aimed given) (at-target (λ n. hasObjectRest n) false (sym u ∙ h)))
         ∙ ap (emits c) (sym (o .whole)))
 
-    pub asg-lowered : {g g₁ g′ : Going} (c₁ : Place) (d₁ v i op : ℕ) (a b : Bool) → a ≡ hasArrayRestOverObjectRest (lookNode t e q .value) → a ≡ false → b ≡ hasObjectRest (lookNode t e q .value) → b ≡ true
-        → v ≡ lookNode t e q .next → i ≡ onward t p 2 → Peeked t i op → (c₁ ≡ c) × (d₁ ≡ e)
-        → (Good t d₁ q → (_≡_ {A = Bool} true true → Good t d₁ v) → hasArrayRestOverObjectRest (lookNode t d₁ q .value) ≡ false → hasObjectRest (lookNode t d₁ q .value) ≡ true → op < 256
+    pub asg-lowered : {g g₁ g′ : Going} (c₁ : Place) (d₁ v i o op : ℕ) (a b : Bool) → a ≡ hasArrayRestOverObjectRest (lookNode t e q .value) → a ≡ false → b ≡ hasObjectRest (lookNode t e q .value) → b ≡ true
+        → v ≡ lookNode t e q .next → i ≡ onward t p 2 → Peeked t i o → op ≡ low o → (c₁ ≡ c) × (d₁ ≡ e)
+        → (Good t d₁ q → (_≡_ {A = Bool} true true → Good t d₁ v) → hasArrayRestOverObjectRest (lookNode t d₁ q .value) ≡ false → hasObjectRest (lookNode t d₁ q .value) ≡ true
         → Does g g₁ (emits c₁ (assignmentAt 0 op (lookNode t d₁ q .value) (givenNode t d₁ true v))))
         → g′ ≡ g₁ → byteAt t p ≡ 27 → Good t d p → Does g g′ (emits c (lookNode t d p .value))
-    asg-lowered {g = g} {g₁ = g₁} c₁ d₁ v i op a b ua ha ub hb lv li pk under asn m k good =
-        let o : AssignmentHere d e p q = assignment-here d e p q le lq good k in
-        let oo : op ≡ opHere = pk .value ∙ ap (λ (x : ℕ). byteAt t x) li in
-        let lo : op < 256 = omega (arith, o .op) in
-        let D = carry (λ y f z. Good t f q → (_≡_ {A = Bool} true true → Good t f z) → hasArrayRestOverObjectRest (lookNode t f q .value) ≡ false → hasObjectRest (lookNode t f q .value) ≡ true → op < 256
+    unfolding low
+    asg-lowered {g = g} {g₁ = g₁} c₁ d₁ v i o op a b ua ha ub hb lv li pk lo under asn m k good =
+        let h : AssignmentHere d e p q = assignment-here d e p q le lq good k in
+        let oo : o ≡ opHere = pk .value ∙ ap (λ (x : ℕ). byteAt t x) li in
+        let same : op ≡ opHere = omega (arith, lo, oo, h .op) in
+        let D = carry (λ y f z. Good t f q → (_≡_ {A = Bool} true true → Good t f z) → hasArrayRestOverObjectRest (lookNode t f q .value) ≡ false → hasObjectRest (lookNode t f q .value) ≡ true
         → Does g g₁ (emits y (assignmentAt 0 op (lookNode t f q .value) (givenNode t f true z)))) (under .0) (under .1) lv asn
-        (o .target) (λ x. o .value) (sym ua ∙ ha) (sym ub ∙ hb) lo in
+        (h .target) (λ x. h .value) (sym ua ∙ ha) (sym ub ∙ hb) in
         does-to m (does-as D
-        (any-place c p op e q given (o .target) (sym ua ∙ ha) (sym ub ∙ hb)
-        ∙ ap (λ (x : ℕ). emits c (assignmentAt p x aimed given)) oo ∙ ap (emits c) (sym (o .whole))))
+        (any-place c p op e q given (h .target) (sym ua ∙ ha) (sym ub ∙ hb)
+        ∙ ap (λ (x : ℕ). emits c (assignmentAt p x aimed given)) same ∙ ap (emits c) (sym (h .whole))))
 
   -- ---- the assignment of an object from the temporary in its place
 

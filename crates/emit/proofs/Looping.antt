@@ -63,17 +63,17 @@ module _ (t : List ℕ) where
 
   pub assigned-does : {g g₁ g₂ g′ : Going} (c c′ : Place) (d e p m : ℕ) → m ≡ g .state .sink .mark → c′ ≡ unused (marking c m) → e ≡ d
       → Does g g₁ (say (puts (3 ∷ 3 ∷ []))) → Does g₁ g₂ (say (does newMark ∷ []))
-      → (Good t e p → (false ≡ true → Good t e p) → hasArrayRestOverObjectRest (lookNode t e p .value) ≡ false → hasObjectRest (lookNode t e p .value) ≡ true → 1 < 256
+      → (Good t e p → (false ≡ true → Good t e p) → hasArrayRestOverObjectRest (lookNode t e p .value) ≡ false → hasObjectRest (lookNode t e p .value) ≡ true
       → Does g₂ g′ (emits c′ (assignmentAt 0 1 (lookNode t e p .value) (givenNode t e false p))))
       → Good t d p → hasArrayRestOverObjectRest (lookNode t d p .value) ≡ false → hasObjectRest (lookNode t d p .value) ≡ true
       → Does g g′ (emitsStatement c (assigning (lookNode t d p .value) (temporary [] 1 p)))
   assigned-does c c′ d e p m mk pl lv a b f good na ob =
       let v : Node = lookNode t d p .value in
-      let f′ : Good t d p → (false ≡ true → Good t d p) → hasArrayRestOverObjectRest v ≡ false → hasObjectRest v ≡ true → 1 < 256 → Does _ _ (emits (unused (marking c m)) (assign v (temporary [] 1 p))) = rw (lv, pl) at f in
+      let f′ : Good t d p → (false ≡ true → Good t d p) → hasArrayRestOverObjectRest v ≡ false → hasObjectRest v ≡ true → Does _ _ (emits (unused (marking c m)) (assign v (temporary [] 1 p))) = rw (lv, pl) at f in
       does-as
       (does-fresh (λ x. say (puts (3 ∷ 3 ∷ []) ++ (does newMark ∷ [])) ▷ emits (unused (marking c x)) (assign v (temporary [] 1 p))) m mk
       (λ k. agree-then (agree-say (puts (3 ∷ 3 ∷ []) ++ (does newMark ∷ []))) (agree-unused c (assign v (temporary [] 1 p)) m k))
-      (does-then (does-as (does-then a b) (say-say (puts (3 ∷ 3 ∷ [])) (does newMark ∷ []))) (f′ good (λ x. absurd (false≢true x)) na ob (omega arith))))
+      (does-then (does-as (does-then a b) (say-say (puts (3 ∷ 3 ∷ [])) (does newMark ∷ []))) (f′ good (λ x. absurd (false≢true x)) na ob)))
       (sym (emits-assigned c v (temporary [] 1 p)))
 
 -- ---- heads of blocks

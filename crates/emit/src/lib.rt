@@ -33,6 +33,7 @@ use pattern::search::has_rest_below_array_rest;
 use pattern::source::ReferenceBuilder;
 use pattern::source::place_of;
 use pattern::tally::plus;
+use sink::bytes::low;
 use tree::bytes::peek;
 use tree::bytes::wide_at;
 use tree::grammar::row;
@@ -151,7 +152,7 @@ const NODE_FIELD: usize = 32;
 const LIST_FIELD: usize = 96;
 
 // The operator `=`.
-const ASSIGNS: usize = 1;
+const ASSIGNS: u8 = 1;
 
 // The refusal of a target with an object rest below an array rest.
 const REST_BELOW_ARRAY_REST: u8 = 5;
@@ -1214,7 +1215,7 @@ fn ag(w: Walk, t: &[u8], out: &mut [u8], list: &mut [u8], work: &mut [u8], c: Pl
     }
     if has_nested_object_rest(t, left, q) {
         let v = skip(t, left, q);
-        let op = peek(t, step(t, p, 2));
+        let op = low(peek(t, step(t, p, 2)));
         return an(w, t, out, list, work, under(c, left), root, op, q, true, v).to(skip(
             t,
             c.left,
@@ -1234,12 +1235,12 @@ fn an(
     work: &mut [u8],
     c: Place,
     root: bool,
-    op: usize,
+    op: u8,
     p: usize,
     input: bool,
     x: usize,
 ) -> Walk
-    ensures { λ r. ⌜ (Good (now (t .entry)) (c .left) p → (input ≡ true → Good (now (t .entry)) (c .left) x) → hasArrayRestOverObjectRest (lookNode (now (t .entry)) (c .left) p .value) ≡ false → hasObjectRest (lookNode (now (t .entry)) (c .left) p .value) ≡ true → op < 256 → Does (goingOf (now (out .entry)) (now (list .entry)) (now (work .entry)) w) (goingOf (now (out .exit)) (now (list .exit)) (now (work .exit)) r) (emits (placeWith root c) (assignmentAt 0 op (lookNode (now (t .entry)) (c .left) p .value) (givenNode (now (t .entry)) (c .left) input x)))) ⌝ }
+    ensures { λ r. ⌜ (Good (now (t .entry)) (c .left) p → (input ≡ true → Good (now (t .entry)) (c .left) x) → hasArrayRestOverObjectRest (lookNode (now (t .entry)) (c .left) p .value) ≡ false → hasObjectRest (lookNode (now (t .entry)) (c .left) p .value) ≡ true → Does (goingOf (now (out .entry)) (now (list .entry)) (now (work .entry)) w) (goingOf (now (out .exit)) (now (list .exit)) (now (work .exit)) r) (emits (placeWith root c) (assignmentAt 0 op (lookNode (now (t .entry)) (c .left) p .value) (givenNode (now (t .entry)) (c .left) input x)))) ⌝ }
 {
     if peek(t, p) == kinds::OBJECT_PATTERN {
         if has_second(t, p) {
@@ -1409,13 +1410,13 @@ fn ns(
     c: Place,
     root: bool,
     v: View,
-    op: usize,
+    op: u8,
     p: usize,
     input: bool,
     stem: u8,
     x: usize,
 ) -> Walk
-    ensures { λ r. ⌜ ((v ≡ Taking → byteAt (now (t .entry)) p ≡ 34) → Good (now (t .entry)) (c .left) p → (input ≡ true → Good (now (t .entry)) (c .left) x) → hasArrayRestOverObjectRest (lookNode (now (t .entry)) (c .left) p .value) ≡ false → op < 256 → Does (goingOf (now (out .entry)) (now (list .entry)) (now (work .entry)) w) (goingOf (now (out .exit)) (now (list .exit)) (now (work .exit)) r) (emitsNest (placeWith root c) (viewOf v) op (lookNode (now (t .entry)) (c .left) p .value) (givenDeeds (now (t .entry)) (c .left) (inner (placeWith root c)) input stem x))) ⌝ }
+    ensures { λ r. ⌜ ((v ≡ Taking → byteAt (now (t .entry)) p ≡ 34) → Good (now (t .entry)) (c .left) p → (input ≡ true → Good (now (t .entry)) (c .left) x) → hasArrayRestOverObjectRest (lookNode (now (t .entry)) (c .left) p .value) ≡ false → Does (goingOf (now (out .entry)) (now (list .entry)) (now (work .entry)) w) (goingOf (now (out .exit)) (now (list .exit)) (now (work .exit)) r) (emitsNest (placeWith root c) (viewOf v) op (lookNode (now (t .entry)) (c .left) p .value) (givenDeeds (now (t .entry)) (c .left) (inner (placeWith root c)) input stem x))) ⌝ }
 {
     let k = places_in(t, c.left, p, v);
     let u = nested_hands(w, t, list, work, c.left, p, v, c.mark);

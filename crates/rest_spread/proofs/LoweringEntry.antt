@@ -28,13 +28,17 @@ use Rattle.tree.proofs.Sound.{each-byte}
 use Rattle.lowering.specs.Weight.{walked}
 use Rattle.lowering.specs.Refusals.{limitOutside, unknownOptions, smallWork}
 use Rattle.lowering.specs.Answer.{Lent, Result, Outcome, top, highestLimit, limitRefused, inForce, afterReading, filled, lowering, outcomeOf, outcome}
+use Rattle.lowering.proofs.Answers.{ByWalk, walk-refuses}
 use Rattle.lowering.proofs.RefusalOrder.{limit-outside, options-unknown, work-small, reading-decides}
 use Rattle.sink.specs.declared.Sink.{Sink}
 use Rattle.sink.specs.declared.Written.{Written}
-use Rattle.sink.specs.Machine.{Event, State, Ended, stateOf, endOf, nothing, steps, start, finished}
+use Rattle.sink.specs.Machine.{Event, State, Ended, stateOf, endOf, nothing, steps, start, finished, low}
 use Rattle.direct.specs.Events.{Deed, Place, contextOf, deeds, emits}
 use Rattle.outcome.specs.Named.{firstRefused, eventsIn, outcomeFrom}
-use Rattle.outcome.proofs.Every.{accepted-outcome, accepted-refusal}
+use Rattle.outcome.proofs.Every.{accepted-is-good, accepted-outcome, accepted-refusal}
+use Rattle.outcome.proofs.WalkedForms.{walked-formed}
+use Rattle.outcome.proofs.Tokens.{formed-leafy}
+use Rattle.outcome.proofs.Refusals.{first-refusal}
 use Rattle.outcome.proofs.Calm.{emits-sound}
 use Rattle.walk.specs.Run.{met, Full, Way, Does}
 use Rattle.walk.specs.Run.Way.{whole, full}
@@ -103,6 +107,18 @@ refused-all answer a b c o l w r h =
     let y = ap (λ (e : Ended). e .list) h ∙ zeros b in
     let z = ap (λ (e : Ended). e .work) h ∙ zeros c in
     λ j. record { answer = answer; helpers = 0; options = 0; treeLength = 0; listLength = 0; treeOut = (x) j; listOut = (y) j; work = (z) j }
+
+-- each number by which the walk refuses is a byte
+walk-byte : (m : ℕ) → ByWalk m → m < 256
+walk-byte m ByWalk.no = omega arith
+walk-byte m ByWalk.five = omega arith
+walk-byte m ByWalk.six = omega arith
+walk-byte m ByWalk.eleven = omega arith
+
+refused-byte : (limit : ℕ) (given : List ℕ) → Bytes given → (n : Node) (q mark : ℕ) → readTree input limit given ≡ got n q mark → firstRefused (deeds mark 0 (walked top n)) < 256
+refused-byte limit given bytes n q mark read =
+    let leafy = formed-leafy (walked top n) (walked-formed top n (accepted-is-good limit given bytes n q mark read)) in
+    subst (λ (m : ℕ). m < 256) (sym (first-refusal (walked top n) leafy mark 0 mark 0)) (walk-byte _ (walk-refuses mark 0 top n))
 
 -- ---- what is handed back where the walk refuses nothing
 
@@ -179,14 +195,17 @@ module _ (limit options : ℕ) (tree out list work : List ℕ) where
             walked-to mark c n (stateOf o l w k) (stateOf o′ l′ w′ k′) 0 r′ refl (begun-mark (length out) (length list) (length work) mark (stateOf o l w k) (begun big)) refl d
 
       -- something is refused
-      pub ends-refused : (x : Outcome) → 0 < r′ → length o′ ≡ length out → length l′ ≡ length list → length w′ ≡ length work
-          → x ≡ outcomeOf (lentOf o′ l′ w′) (Result.refusal r′)
+      pub ends-refused : (x : Outcome) (answer : ℕ) → answer ≡ low r′ → 0 < r′ → length o′ ≡ length out → length l′ ≡ length list → length w′ ≡ length work
+          → x ≡ outcomeOf (lentOf o′ l′ w′) (Result.refusal answer)
           → (given : List ℕ) (n : Node) (q : ℕ) → Bytes given → 65536 ≤ length work → readTree input limit given ≡ got n q mark → Noted limit slice n q mark
           → x ≡ outcomeOf s (afterReading options s (got n q mark))
-      unfolding afterReading
-      ends-refused x some a b c e given n q bytes big read known =
-          e ∙ ap (λ (u : Lent). outcomeOf u (Result.refusal r′)) (lent-kept (length out) (length list) (length work) (length o′) (length l′) (length w′) a b c)
-          ∙ ap (outcomeOf s) (sym (by-number r′ some (ends given n q big read known .1)))
+      unfolding afterReading low
+      ends-refused x answer written some a b c e given n q bytes big read known =
+          let first = ends given n q big read known .1 in
+          let same : answer ≡ r′ = omega (arith, written, first, refused-byte limit given bytes n q mark read) in
+          e ∙ ap (λ (u : Lent). outcomeOf u (Result.refusal answer)) (lent-kept (length out) (length list) (length work) (length o′) (length l′) (length w′) a b c)
+          ∙ ap (λ (m : ℕ). outcomeOf s (Result.refusal m)) same
+          ∙ ap (outcomeOf s) (sym (by-number r′ some first))
         where
           by-number : (r : ℕ) → 0 < r → r ≡ firstRefused (deeds mark 0 (walked top n)) → afterReading options s (got n q mark) ≡ Result.refusal r
           by-number zero h f = absurd (omega arith)

@@ -4,6 +4,7 @@ pub mod version;
 
 use emit::node;
 use sink::bytes::least;
+use sink::bytes::low;
 use sink::ends;
 use tree::read;
 use tree::read::Answer;
@@ -75,7 +76,7 @@ fn lower(
     let v = node(w, tree, out, list, work, c);
     let refusal = v.refusal;
     if 0 < refusal {
-        return refuse(refusal, out, list, work);
+        return refuse(low(refusal), out, list, work);
     }
     let k = v.sink;
     let written = k.finish(out, list, work);

@@ -16,17 +16,18 @@ pub struct Helpers {
     pub key: bool,
 }
 
-// How many bytes the tree, the list and the excluded declarators have (one above the limit if there are more), how many
-// entries and excluded declarators there are, the next number of a temporary, the next mark of a statement.
+// How many bytes the list and the excluded declarators have (one above the limit if there are more), how many entries and
+// excluded declarators there are, which helpers the tree uses, how many bytes it has, the next mark of a statement, the next
+// number of a temporary. The order of the fields counts for the time that a copy takes (docs/SPEED.md).
 pub struct Sink {
-    pub tree: usize,
     pub list: usize,
     pub keys: usize,
     pub entries: usize,
     pub declarators: usize,
-    pub next: usize,
-    pub mark: usize,
     pub helpers: Helpers,
+    pub tree: usize,
+    pub mark: usize,
+    pub next: usize,
 }
 
 // What is handed back: whether tree and list fit, the helper mask, both lengths.

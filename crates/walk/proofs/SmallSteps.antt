@@ -16,7 +16,6 @@ use Rattle.direct.specs.Events.{Deed, puts, lists, excludes, all}
 use Rattle.direct.specs.Events.Deed.{does}
 use Rattle.direct.specs.Emit.{say, callHead}
 use Rattle.direct.specs.Keys.{stringBytes}
-use Rattle.direct.specs.Assigned.{assignHead}
 use Rattle.walk.specs.Run.{Going, Runs, Does}
 use Rattle.walk.specs.Turns.{declarationHead, blockHead, stringAt}
 use Rattle.walk.proofs.Running.{going, runs-does, runs-then, runs-as, by-events, by-event, by-puts, by-wide, two-bytes}
@@ -44,12 +43,10 @@ by-excluded-wide s s′ r n e = by-excludes s s′ r (wideBytes (n % 65536)) (e 
 
 -- ---- heads
 
-pub by-assign : (s s₁ s₂ : State) (r b op : ℕ) → s₁ ≡ steps s (machine.puts (27 ∷ 7 ∷ [])) → b ≡ low op → s₂ ≡ step s₁ (put b)
-    → Runs (going s r) (going s₂ r) (puts (27 ∷ 7 ∷ op % 256 ∷ []))
-unfolding low
-by-assign s s₁ s₂ r b op a e d =
-    runs-then (puts (27 ∷ 7 ∷ [])) (does (put (op % 256)) ∷ []) (by-puts s s₁ r (27 ∷ 7 ∷ []) a)
-    (by-event s₁ s₂ r (put (op % 256)) (d ∙ ap (λ (x : ℕ). step s₁ (put x)) e))
+pub by-assign : (s s₁ s₂ : State) (r op : ℕ) → s₁ ≡ steps s (machine.puts (27 ∷ 7 ∷ [])) → s₂ ≡ step s₁ (put op)
+    → Runs (going s r) (going s₂ r) (puts (27 ∷ 7 ∷ op ∷ []))
+by-assign s s₁ s₂ r op a d =
+    runs-then (puts (27 ∷ 7 ∷ [])) (does (put op) ∷ []) (by-puts s s₁ r (27 ∷ 7 ∷ []) a) (by-event s₁ s₂ r (put op) d)
 
 pub by-declaration : (s s₁ s₂ s₃ s₄ : State) (r sort n : ℕ) → s₁ ≡ steps s (machine.puts (4 ∷ 7 ∷ [])) → s₂ ≡ step s₁ newMark → s₃ ≡ step s₂ (put sort)
     → s₄ ≡ steps s₃ (machine.puts (low n ∷ high n ∷ [])) → Runs (going s r) (going s₄ r) (declarationHead sort (n % 65536))
@@ -134,11 +131,6 @@ does-block n e h = does-whole blockHead n h e
 pub does-excluded-head : {g g′ : Going} (c n : ℕ) → Runs g g′ (does declarator ∷ does (excludedTemporary c 2) ∷ excludes (32 ∷ 1 ∷ wideBytes (n % 65536)))
     → n < 65536 → Does g g′ (say (does declarator ∷ does (excludedTemporary c 2) ∷ excludes (32 ∷ 1 ∷ wideBytes n)))
 does-excluded-head c n e h = does-whole (λ k. does declarator ∷ does (excludedTemporary c 2) ∷ excludes (32 ∷ 1 ∷ wideBytes k)) n h e
-
-pub does-assign : {g g′ : Going} (op : ℕ) → Runs g g′ (puts (27 ∷ 7 ∷ op % 256 ∷ [])) → op < 256 → Does g g′ (assignHead op)
-does-assign op e h =
-    let w : op % 256 ≡ op = omega arith in
-    runs-does (runs-as e (ap (λ (b : ℕ). puts (27 ∷ 7 ∷ b ∷ [])) w))
 
 part-length : (t : List ℕ) (at n : ℕ) → at + n ≤ length t → length (part at (at + n) t) ≡ n
 unfolding part

@@ -20,11 +20,11 @@ ghost use Rattle.direct.specs.Keys.{stringBytes};
 ghost use Rattle.walk.specs.Run.{goingOf, Runs};
 ghost use Rattle.walk.specs.Turns.{declarationHead, blockHead, stringAt};
 
-// The output, the position in the input, the first refusal (0 for none).
+// The output, the position in the input, the first refusal (0 for none). A refusal is a byte; as a word it is copied faster.
 pub struct Walk {
     pub sink: Sink,
     pub at: usize,
-    pub refusal: u8,
+    pub refusal: usize,
 }
 
 impl Walk {
@@ -129,7 +129,7 @@ impl Walk {
             return Walk {
                 sink: k.put2(out, 0, 0),
                 at: self.at,
-                refusal: n,
+                refusal: n as usize,
             };
         }
         Walk {
@@ -166,14 +166,14 @@ impl Walk {
         self
     }
 
-    // An assignment's head: the operator is a byte.
-    pub fn assign(self, out: &mut [u8], op: usize) -> Walk
-        ensures { λ r. ⌜ ((l w : List ℕ) → Runs (goingOf (now (out .entry)) l w self) (goingOf (now (out .exit)) l w r) (puts (27 ∷ 7 ∷ op % 256 ∷ []))) × (r .at ≡ self .at) ⌝ }
+    // An assignment's head.
+    pub fn assign(self, out: &mut [u8], op: u8) -> Walk
+        ensures { λ r. ⌜ ((l w : List ℕ) → Runs (goingOf (now (out .entry)) l w self) (goingOf (now (out .exit)) l w r) (puts (27 ∷ 7 ∷ op ∷ []))) × (r .at ≡ self .at) ⌝ }
     {
         let k = self.sink;
         Walk {
             sink: k.put2(out, written::ASSIGNMENT, written::FIRST_THREE)
-                .put(out, sink::bytes::low(op)),
+                .put(out, op),
             at: self.at,
             refusal: self.refusal,
         }

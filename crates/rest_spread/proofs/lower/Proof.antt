@@ -10,11 +10,11 @@ use Rattle.rest_spread.proofs.lower.Tie as tie
 
 returns : tie.Need-returns
 returns c =
-    let n = c .before .before .before .before .before .before .before .before .before .before .before .before .before .before .before .before .before in
+    let n = c .before .before .before .before .before .before .before .before .before .before .before .before .before .before .before .before .before .before in
     let b = n .before .before .before .before .before .before .before .before .before .before in
     let s = b .before .before .before .before .before .before .before .before in
     let a = s .before .args in
-    law.ends-refused _ _ (a .tree .now) (a .out .now) (a .list .now) (a .work .now) _ (a .tree .now) (λ i. omega (arith, s .shared-slice-known .given i)) _ _ _ _ (begun-twins _ (a .work .now) (b .before .before .before .before .least .ensures) _ _ _ _ _ _ _ (b .begin .ensures)) _ _ _ _ _ (n .node .ensures .1) _ (c .before .before .before .before .before .before .before .before .before .before .if1 .taken)
+    law.ends-refused _ _ (a .tree .now) (a .out .now) (a .list .now) (a .work .now) _ (a .tree .now) (λ i. omega (arith, s .shared-slice-known .given i)) _ _ _ _ (begun-twins _ (a .work .now) (b .before .before .before .before .least .ensures) _ _ _ _ _ _ _ (b .begin .ensures)) _ _ _ _ _ (n .node .ensures .1) _ _ (c .before .before .before .before .before .before .before .before .before .before .low .ensures) (c .before .before .before .before .before .before .before .before .before .before .before .if1 .taken)
     (n .node .kept .1 .1 .0 ∙ b .begin .kept .0)
     (n .node .kept .1 .1 .1 .0 ∙ b .begin .kept .1 .0)
     (n .node .kept .1 .1 .1 .1 .0 ∙ prefix-kept _ (a .work .now) (b .before .before .before .before .least .ensures) (b .begin .last .1 .1 .0) (b .begin .kept .1 .1 .0))
@@ -46,7 +46,8 @@ lower-spec =
     (λ c κs. search needs)
     (λ c κs. search needs)
     (λ c κs. search needs)
-    (λ c. search needs)
+    (λ c κs. search needs)
+    (λ c. omega (arith, c .before .before .before .before .before .before .refuse .kept, c .before .before .before .before .before .before .before .before .before .before .before .before .before .before .before .before .before .before .node .kept, c .before .before .before .before .before .before .before .before .before .before .before .before .before .before .before .before .before .before .before .before .before .before .before .before .before .before .before .before .begin .kept))
     (λ c. search needs)
     (λ c. search needs)
     returns
