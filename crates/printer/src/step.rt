@@ -1,6 +1,8 @@
 // One event of the pass.
+use crate::entries;
 use crate::frame;
 use crate::frame::Frame;
+use crate::layout;
 use crate::out;
 use crate::out::Spot;
 use crate::places;
@@ -100,19 +102,38 @@ fn begin(
     let old = s.next;
     if level < stack.len() {
         if number < notes.len() {
-            let up = level + 1;
-            let more = number + 1;
             let note = print::note_at(notes, number);
-            let next = print::next_around(starts, p, count, old);
-            let v = frame::pack(places::around(p, kind, map), next);
-            stack[level] = v;
-            let f = places::begun(p, kind, map, note);
-            let spot = print::opening(tree, starts, sizes, text, s, kind, map, note);
+            let field = frame::lowest(p.rem);
+            let m = layout::manner(p.kind, field);
+            let own = layout::lead(p.kind, field);
+            let method = places::method(p, m, kind, map);
+            let statement = places::is_statement(kind, note);
+            let wrapped = places::wraps(method, kind, note);
+            let next = print::next_around(starts, p, m, count, old);
+            let v = frame::pack(places::around(p, method), next);
+            entries::keep(stack, level, v);
+            let f = places::begun(p, m, kind, map, note, statement, wrapped);
+            let spot = print::opening(
+                tree,
+                starts,
+                sizes,
+                text,
+                s,
+                kind,
+                map,
+                note,
+                m,
+                own,
+                method,
+                statement,
+                wrapped,
+                f.seen,
+            );
             return State {
                 frame: f,
                 next: 0,
-                level: up,
-                number: more,
+                level: level + 1,
+                number: number + 1,
                 count: count,
                 spot: spot,
             };
@@ -242,7 +263,7 @@ fn hole(text: &mut [u8], s: State) -> State
 {
     let l = s.frame;
     let old = s.spot;
-    let spot = out::say(text, old, places::separator(l));
+    let spot = out::say(text, old, places::separator(l, places::manner_in(l)));
     moved(s, frame::item_seen(l, 2), spot)
 }
 
