@@ -2,7 +2,6 @@
 use crate::frame;
 use crate::frame::Frame;
 use crate::out;
-use crate::out::Spot;
 use crate::places;
 ghost use mathlib.Core.Path.{_≡_};
 ghost use mathlib.Core.List.{List, []};
@@ -24,7 +23,7 @@ pub(crate) struct State {
     pub level: usize,
     pub number: usize,
     pub count: usize,
-    pub spot: Spot,
+    pub spot: usize,
 }
 
 fn wide(b: u8) -> usize
@@ -70,10 +69,10 @@ fn quasi(
     starts: &[usize],
     sizes: &[usize],
     text: &mut [u8],
-    spot: Spot,
+    spot: usize,
     count: usize,
     next: usize,
-) -> Spot
+) -> usize
     ensures { λ r. ⌜ bufferIn (now (text .exit)) r ≡ write (bufferIn (now (text .entry)) spot) (cellText (cellAt (heldIn (now (tree .entry)) (now (starts .entry)) (now (sizes .entry)) count) next)) ⌝ }
 {
     let start = start_of(starts, count, next);
@@ -92,12 +91,12 @@ fn quasi_in(
     starts: &[usize],
     sizes: &[usize],
     text: &mut [u8],
-    spot: Spot,
+    spot: usize,
     p: Frame,
     m: usize,
     count: usize,
     next: usize,
-) -> Spot
+) -> usize
     ensures { λ r. ⌜ (m ≡ mannerIn p → bufferIn (now (text .exit)) r ≡ write (bufferIn (now (text .entry)) spot) (cond (isFilled p) (cellText (cellAt (heldIn (now (tree .entry)) (now (starts .entry)) (now (sizes .entry)) count) next)) [])) ⌝ }
 {
     if places::is_filled(p, m) {
@@ -135,10 +134,10 @@ fn left_over(
     starts: &[usize],
     sizes: &[usize],
     text: &mut [u8],
-    spot: Spot,
+    spot: usize,
     count: usize,
     next: usize,
-) -> Spot
+) -> usize
     ensures { λ r. ⌜ bufferIn (now (text .exit)) r ≡ write (bufferIn (now (text .entry)) spot) (leftOver (cellsFrom (heldIn (now (tree .entry)) (now (starts .entry)) (now (sizes .entry)) count) next)) ⌝ }
 {
     if next == 0 {
@@ -162,11 +161,11 @@ pub(crate) fn left_in(
     starts: &[usize],
     sizes: &[usize],
     text: &mut [u8],
-    spot: Spot,
+    spot: usize,
     l: Frame,
     count: usize,
     next: usize,
-) -> Spot
+) -> usize
     ensures { λ r. ⌜ bufferIn (now (text .exit)) r ≡ write (bufferIn (now (text .entry)) spot) (cond (leaves l) (leftOver (cellsFrom (heldIn (now (tree .entry)) (now (starts .entry)) (now (sizes .entry)) count) next)) []) ⌝ }
 {
     if places::leaves(l) {
@@ -192,7 +191,7 @@ pub(crate) fn opening(
     statement: bool,
     wrapped: bool,
     seen: usize,
-) -> Spot
+) -> usize
     ensures { λ r. ⌜ (m ≡ mannerIn (s .frame) → own ≡ leadOf (s .frame .kind) (fieldIn (s .frame)) → method ≡ inMethodForm (s .frame) kind map → statement ≡ isStatement kind note → cond wrapped 1 0 ≡ wrapping (s .frame) kind map note → seen ≡ notedAt (s .frame) kind → bufferIn (now (text .exit)) r ≡ write (bufferIn (now (text .entry)) (s .spot)) (opening (s .frame) kind map note (cond (isFilled (s .frame)) (cellText (cellAt (heldIn (now (tree .entry)) (now (starts .entry)) (now (sizes .entry)) (s .count)) (s .next))) []))) ⌝ }
 {
     let p = s.frame;
@@ -205,7 +204,7 @@ pub(crate) fn opening(
     out::say_any(text, e, places::computed(kind, note))
 }
 
-pub(crate) fn closing(text: &mut [u8], spot: Spot, f: Frame) -> Spot
+pub(crate) fn closing(text: &mut [u8], spot: usize, f: Frame) -> usize
     ensures { λ r. ⌜ bufferIn (now (text .exit)) r ≡ write (bufferIn (now (text .entry)) spot) (closing f) ⌝ }
 {
     let a = out::say_any(text, spot, places::tail_word(f));

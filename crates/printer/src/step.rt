@@ -4,7 +4,6 @@ use crate::frame;
 use crate::frame::Frame;
 use crate::layout;
 use crate::out;
-use crate::out::Spot;
 use crate::places;
 use crate::print;
 use crate::print::State;
@@ -24,7 +23,7 @@ ghost use Rattle.printer.specs.Stacks.{nextIn, cellIn, heldIn, write, bu
 ghost use Rattle.printer.specs.Turns.{stateIn, moved, Small, Ready, numberAfter, countAfter, Kept, Turned};
 
 // Another frame, and more is written.
-fn moved(s: State, f: Frame, spot: Spot) -> State
+fn moved(s: State, f: Frame, spot: usize) -> State
     ensures { λ r. ⌜ r ≡ moved s f spot ⌝ }
 {
     State {
@@ -207,7 +206,7 @@ fn open_list(stack: &mut [usize], text: &mut [u8], s: State, n: usize) -> State
 }
 
 // The end of a list's text: its own bytes, and the quasis that are left.
-fn list_closing(tree: &[u8], starts: &[usize], sizes: &[usize], text: &mut [u8], s: State) -> Spot
+fn list_closing(tree: &[u8], starts: &[usize], sizes: &[usize], text: &mut [u8], s: State) -> usize
     ensures { λ r. ⌜ bufferIn (now (text .exit)) r ≡ write (bufferIn (now (text .entry)) (s .spot)) (listClosing (s .frame) ++ cond (leaves (s .frame)) (cells.leftOver (machine.cellsFrom (heldIn (now (tree .entry)) (now (starts .entry)) (now (sizes .entry)) (s .count)) (s .next))) []) ⌝ }
 {
     let l = s.frame;
@@ -304,7 +303,7 @@ fn quiet(s: State) -> State
 }
 
 // The number of a Temporary.
-fn number_bytes(text: &mut [u8], spot: Spot, f: Frame, n: usize) -> Spot
+fn number_bytes(text: &mut [u8], spot: usize, f: Frame, n: usize) -> usize
     ensures { λ r. ⌜ bufferIn (now (text .exit)) r ≡ write (bufferIn (now (text .entry)) spot) (numberBytes f n) ⌝ }
 {
     if f.kind == 20 {

@@ -16,7 +16,7 @@ same-length c = c .before .before .say-any5 .kept .0 ∙ c .before .before .befo
 
 returns : tie.Need-returns
 unfolding opening
-returns c = λ hm ho hd hs hw hn. c .before .before .say-any5 .ensures ∙ ap (λ (b : Buffer). write b (word (c .before .before .before .computed .result))) (c .before .before .before .before .before .before .before .say-any4 .ensures ∙ ap (λ (b : Buffer). write b (word (c .before .before .before .before .before .before .before .before .head-word .result))) (c .before .before .before .before .before .before .before .before .before .before .before .before .say-any3 .ensures ∙ ap (λ (b : Buffer). write b (word (c .before .before .before .before .before .before .before .before .before .before .before .before .before .parenthesis .result))) (c .before .before .before .before .before .before .before .before .before .before .before .before .before .before .before .before .before .say-any2 .ensures ∙ ap (λ (b : Buffer). write b (word (c .before .before .before .before .before .before .before .before .before .before .before .before .before .before .before .before .before .before .joining .result))) (c .before .before .before .before .before .before .before .before .before .before .before .before .before .before .before .before .before .before .before .before .before .before .quasi-in .ensures hm ∙ ap (λ (b : Buffer). write b (cond (isFilled (c .before .before .before .before .before .before .before .before .before .before .before .before .before .before .before .before .before .before .before .before .before .before .before .before .before .before .before .before .before .before .before .before .before .before .before .args .s .frame)) (cellText (cellAt (heldIn (c .before .before .before .before .before .before .before .before .before .before .before .before .before .before .before .before .before .before .before .before .before .before .before .before .before .before .before .before .before .before .before .before .before .before .before .args .tree .now) (c .before .before .before .before .before .before .before .before .before .before .before .before .before .before .before .before .before .before .before .before .before .before .before .before .before .before .before .before .before .before .before .before .before .before .before .args .starts .now) (c .before .before .before .before .before .before .before .before .before .before .before .before .before .before .before .before .before .before .before .before .before .before .before .before .before .before .before .before .before .before .before .before .before .before .before .args .sizes .now) (c .before .before .before .before .before .before .before .before .before .before .before .before .before .before .before .before .before .before .before .before .before .before .before .before .before .before .before .before .before .before .before .before .before .before .before .args .s .count)) (c .before .before .before .before .before .before .before .before .before .before .before .before .before .before .before .before .before .before .before .before .before .before .before .before .before .before .before .before .before .before .before .before .before .before .before .args .s .next))) [])) (c .before .before .before .before .before .before .before .before .before .before .before .before .before .before .before .before .before .before .before .before .before .before .before .before .before .before .say-any .ensures))))) ∙ rw (c .before .before .before .computed .ensures, c .before .before .before .before .before .before .before .before .head-word .ensures, hn, hd, c .before .before .before .before .before .before .before .before .before .before .before .before .before .parenthesis .ensures, hw, c .before .before .before .before .before .before .before .before .before .before .before .before .before .before .before .before .before .before .joining .ensures (c .before .before .before .before .before .before .before .before .before .before .before .before .before .before .before .before .before .before .before .before .before .before .before .before .before .before .before .before .before .before .before .before .before .before .before .args .s .frame) (c .before .before .before .before .before .before .before .before .before .before .before .before .before .before .before .before .before .before .before .before .before .before .before .before .before .before .before .before .before .before .before .before .before .before .before .args .note) hm hs, c .before .before .before .before .before .before .before .before .before .before .before .before .before .before .before .before .before .before .before .before .before .before .before .before .before .before .before .leading .ensures (c .before .before .before .before .before .before .before .before .before .before .before .before .before .before .before .before .before .before .before .before .before .before .before .before .before .before .before .before .before .before .before .before .before .before .before .args .kind) (c .before .before .before .before .before .before .before .before .before .before .before .before .before .before .before .before .before .before .before .before .before .before .before .before .before .before .before .before .before .before .before .before .before .before .before .args .map) hm ho hd) (law.six _ _ _ _ _ _ _)
+returns c = λ hm ho hd hs hw hn. c .before .before .say-any5 .ensures ∙ ap (λ (b : Buffer). write b (word (c .before .before .before .computed .result))) (c .before .before .before .before .before .before .before .say-any4 .ensures ∙ ap (λ (b : Buffer). write b (word (c .before .before .before .before .before .before .before .before .head-word .result))) (c .before .before .before .before .before .before .before .before .before .before .before .before .say-any3 .ensures ∙ ap (λ (b : Buffer). write b (word (c .before .before .before .before .before .before .before .before .before .before .before .before .before .parenthesis .result))) (c .before .before .before .before .before .before .before .before .before .before .before .before .before .before .before .before .before .say-any2 .ensures ∙ ap (λ (b : Buffer). write b (word (c .before .before .before .before .before .before .before .before .before .before .before .before .before .before .before .before .before .before .joining .result))) (c .before .before .before .before .before .before .before .before .before .before .before .before .before .before .before .before .before .before .before .before .before .before .quasi-in .ensures hm ∙ ap (λ (b : Buffer). write b (cond (isFilled (c .before .before .before .before .before .before .before .before .before .before .before .before .before .before .before .before .before .before .before .before .before .before .before .before .before .before .before .before .before .before .before .before .before .before .args .s .frame)) (cellText (cellAt (heldIn (c .before .before .before .before .before .before .before .before .before .before .before .before .before .before .before .before .before .before .before .before .before .before .before .before .before .before .before .before .before .before .before .before .before .before .args .tree .now) (c .before .before .before .before .before .before .before .before .before .before .before .before .before .before .before .before .before .before .before .before .before .before .before .before .before .before .before .before .before .before .before .before .before .before .args .starts .now) (c .before .before .before .before .before .before .before .before .before .before .before .before .before .before .before .before .before .before .before .before .before .before .before .before .before .before .before .before .before .before .before .before .before .before .args .sizes .now) (c .before .before .before .before .before .before .before .before .before .before .before .before .before .before .before .before .before .before .before .before .before .before .before .before .before .before .before .before .before .before .before .before .before .before .args .s .count)) (c .before .before .before .before .before .before .before .before .before .before .before .before .before .before .before .before .before .before .before .before .before .before .before .before .before .before .before .before .before .before .before .before .before .before .args .s .next))) [])) (c .before .before .before .before .before .before .before .before .before .before .before .before .before .before .before .before .before .before .before .before .before .before .before .before .before .before .say-any .ensures))))) ∙ rw (c .before .before .before .computed .ensures, c .before .before .before .before .before .before .before .before .head-word .ensures, hn, hd, c .before .before .before .before .before .before .before .before .before .before .before .before .before .parenthesis .ensures, hw, c .before .before .before .before .before .before .before .before .before .before .before .before .before .before .before .before .before .before .joining .ensures (c .before .before .before .before .before .before .before .before .before .before .before .before .before .before .before .before .before .before .before .before .before .before .before .before .before .before .before .before .before .before .before .before .before .before .args .s .frame) (c .before .before .before .before .before .before .before .before .before .before .before .before .before .before .before .before .before .before .before .before .before .before .before .before .before .before .before .before .before .before .before .before .before .before .args .note) hm hs, c .before .before .before .before .before .before .before .before .before .before .before .before .before .before .before .before .before .before .before .before .before .before .before .before .before .before .before .leading .ensures (c .before .before .before .before .before .before .before .before .before .before .before .before .before .before .before .before .before .before .before .before .before .before .before .before .before .before .before .before .before .before .before .before .before .before .args .kind) (c .before .before .before .before .before .before .before .before .before .before .before .before .before .before .before .before .before .before .before .before .before .before .before .before .before .before .before .before .before .before .before .before .before .before .args .map) hm ho hd) (law.six _ _ _ _ _ _ _)
 
 pub opening-spec : {M : Type 1} → statement M
 opening-spec =
