@@ -235,10 +235,10 @@ pub(crate) fn around(p: Frame, method: usize) -> Frame
     frame::noting(p, p.seen)
 }
 
-pub(crate) fn is_quasis(l: Frame) -> bool
-    ensures { λ r. ⌜ r ≡ isQuasis l ⌝ }
+pub(crate) fn is_quasis(m: usize) -> bool
+    ensures { λ r. ⌜ ((l : Frame) → m ≡ mannerIn l → r ≡ isQuasis l) ⌝ }
 {
-    manner_in(l) == 10
+    m == 10
 }
 
 pub(crate) fn is_filled(l: Frame, m: usize) -> bool
@@ -250,10 +250,9 @@ pub(crate) fn is_filled(l: Frame, m: usize) -> bool
     false
 }
 
-pub(crate) fn leaves(l: Frame) -> bool
-    ensures { λ r. ⌜ r ≡ leaves l ⌝ }
+pub(crate) fn leaves(l: Frame, m: usize) -> bool
+    ensures { λ r. ⌜ (m ≡ mannerIn l → r ≡ leaves l) ⌝ }
 {
-    let m = manner_in(l);
     if m == 6 {
         return true;
     }

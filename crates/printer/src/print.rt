@@ -163,12 +163,13 @@ pub(crate) fn left_in(
     text: &mut [u8],
     spot: usize,
     l: Frame,
+    m: usize,
     count: usize,
     next: usize,
 ) -> usize
-    ensures { λ r. ⌜ bufferIn (now (text .exit)) r ≡ write (bufferIn (now (text .entry)) spot) (cond (leaves l) (leftOver (cellsFrom (heldIn (now (tree .entry)) (now (starts .entry)) (now (sizes .entry)) count) next)) []) ⌝ }
+    ensures { λ r. ⌜ (m ≡ mannerIn l → bufferIn (now (text .exit)) r ≡ write (bufferIn (now (text .entry)) spot) (cond (leaves l) (leftOver (cellsFrom (heldIn (now (tree .entry)) (now (starts .entry)) (now (sizes .entry)) count) next)) [])) ⌝ }
 {
-    if places::leaves(l) {
+    if places::leaves(l, m) {
         return left_over(tree, starts, sizes, text, spot, count, next);
     }
     spot
