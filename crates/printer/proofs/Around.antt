@@ -3,7 +3,7 @@
 use mathlib.Core.Path.{_≡_, refl, sym, _∙_}
 use mathlib.Core.Bool.{Bool, true, false, cond, _||_}
 use mathlib.Core.List.{List, [], _∷_}
-use Prim.Native.Nat.{ℕ, zero, suc, _/_, _%_, _^_, _<_, _≤_}
+use Prim.Native.Nat.{ℕ, zero, suc, _+_, _/_, _%_, _^_, _<_, _≤_}
 use native.Mathlib.Omega.{arith}
 use lib.Dec.{T, eqb, ltb}
 use lib.ListN.{getD}
@@ -76,6 +76,9 @@ wrapped-far k note h = rw (far wrappedList k tt h, ne-eqb k 14 (λ e. absurd (om
 pub wrapped-by : (k note : ℕ) → k ≤ 63 → (k ≡ 14 → ⊥) → eqb (0x103f9820000 / 2 ^ k % 2) 1 ≡ isWrapped k note
 unfolding isWrapped wrappedRight
 wrapped-by k note h n = rw (ne-eqb k 14 n) (same-so (eqb (0x103f9820000 / 2 ^ k % 2) 1) (among wrappedList k) (below-at wrappedRight 64 wrappeds-right k (omega arith)) ∙ sym (or-false (among wrappedList k)))
+
+pub none-more : (a : ℕ) → a ≡ 0 + a
+none-more a = omega arith
 
 -- none of 6, 7 and 8
 pub no-joining : (a b m : ℕ) → (m ≡ 6 → ⊥) → (m ≡ 7 → ⊥) → (m ≡ 8 → ⊥) → 0 ≡ getD (0 ∷ 0 ∷ 0 ∷ 0 ∷ 0 ∷ 0 ∷ 74 ∷ a ∷ b ∷ []) m 0

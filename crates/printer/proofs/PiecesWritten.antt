@@ -130,6 +130,19 @@ pub said-short : (b : Buffer) (i : ℕ) → lowOf i < 72057594037927936 → writ
 said-short b i h = ap (write b) (sym (word-short i h))
 
 -- no bytes
+-- a word of no byte, or of one
+pub said-nothing : (b : Buffer) (i w : ℕ) → w ≡ lowOf i → w ≡ 0 → b ≡ write b (word i)
+said-nothing b i w e z = digits-written b w (omega arith) ∙ ap (λ (x : ℕ). write b (bytesIn x)) e ∙ said-short b i (omega (arith, e, z))
+
+pub said-byte : (b : Buffer) (i w : ℕ) → w ≡ lowOf i → w < 256 → (w ≡ 0 → ⊥) → put b w ≡ write b (word i)
+said-byte b i w e h z =
+    let m : w ≡ w % 256 = omega arith in
+    digits-written (put b w) (w / 256) (omega arith)
+    ∙ ap (λ (x : ℕ). write (put b x) (bytesIn (w / 256))) m
+    ∙ digit-written b w (omega arith)
+    ∙ ap (λ (x : ℕ). write b (bytesIn x)) e
+    ∙ said-short b i (omega (arith, e, h))
+
 pub said-none : (b : Buffer) (i : ℕ) → i ≡ 0 → b ≡ write b (word i)
 unfolding write word words
 said-none b i e = rw e refl

@@ -1,13 +1,13 @@
 -- The entry: what fits of the text, and what was read.
 -- Assumes nothing.
 use mathlib.Core.Path.{_≡_, refl, sym, ap, ap₂, _∙_}
-use mathlib.Core.Bool.{Bool, true, false}
+use mathlib.Core.Bool.{Bool, true, false, cond}
 use mathlib.Core.List.{List, [], _∷_, _++_}
 use Prim.Native.Nat.{ℕ, zero, suc, _+_, _-_, _<_, _≤_}
 use native.Mathlib.Omega.{arith}
 use native.Mathlib.Decide.{decLt}
 use native.Mathlib.Numerals.{add-one}
-use lib.Dec.{eqb}
+use lib.Dec.{ltb}
 use lib.ListN.{length, getD, set, drop, replicate, length-set, length-replicate, getD-replicate}
 use lib.Seq.{ext-getD, sets, sets-eq}
 use borrow.Author.Tests.{lt-ltb, le-ltb, le-leb, lt-leb}
@@ -22,7 +22,6 @@ use Rattle.printer.specs.Outcome.{Handed, notATree, refusal, fitted, out
 use Rattle.printer.specs.Stacks.{Buffer, put, write, bufferIn}
 use Rattle.printer.specs.Text.{textOf}
 use Rattle.printer.specs.Turns.{empty}
-use Rattle.printer.specs.declared.out.Spot.{Spot}
 
 -- ---- what fits
 
@@ -58,6 +57,30 @@ write-long (x ∷ xs) l n h g = elim (decLt n (length l)) [
   | no k ↦ ap (λ (b : Buffer). (write b xs) .over) (put-over l n x (omega arith)) ∙ ap (λ (b : Buffer). b .over) (write-over l n xs)
 ]
 
+-- ---- a byte by its spot
+
+spot-in : (l : List ℕ) (s : ℕ) → s ≤ length l → bufferIn l s ≡ buffer l s false
+spot-in l s h = rw (le-ltb (length l) s h) refl
+
+spot-past : (l : List ℕ) → bufferIn l (length l + 1) ≡ buffer l (length l) true
+spot-past l = rw (lt-ltb (length l) (length l + 1) (omega arith)) refl
+
+pub spot-fits : (l : List ℕ) (s x : ℕ) → s < length l → bufferIn (set l s x) (s + 1) ≡ put (bufferIn l s) x
+spot-fits l s x h =
+    spot-in (set l s x) (s + 1) (omega (arith, length-set l s x))
+    ∙ sym (ap (λ (b : Buffer). put b x) (spot-in l s (omega arith)) ∙ put-fits l s x h)
+
+pub spot-over : (l : List ℕ) (s x : ℕ) → length l ≤ s → bufferIn l (length l + 1) ≡ put (bufferIn l s) x
+unfolding put
+spot-over l s x h = elim (decLt (length l) s) [
+  | yes g ↦ rw (lt-ltb (length l) (length l + 1) (omega arith), lt-ltb (length l) s g) refl
+  | no g ↦
+      let e : length l ≡ s = omega arith in
+      spot-past l
+      ∙ ap (λ (n : ℕ). buffer l n true) e
+      ∙ sym (ap (λ (b : Buffer). put b x) (spot-in l s (omega arith)) ∙ put-over l s x h)
+]
+
 -- ---- zeros
 
 pub all-zero : (l m : List ℕ) → length m ≡ length l → ((x : ℕ) → getD m x 0 ≡ 0) → m ≡ replicate (length l) 0
@@ -70,27 +93,28 @@ drop-zeros (suc n) (suc m) = drop-zeros n m ∙ (let e : m - n ≡ suc m - suc n
 
 -- ---- the answer
 
-module _ (text : List ℕ) (spot : Spot) (size : ℕ) (bs : List ℕ) (s : length text ≡ size) (w : bufferIn text spot ≡ write (bufferIn (replicate size 0) empty) bs) where
+module _ (text : List ℕ) (spot : ℕ) (size : ℕ) (bs : List ℕ) (s : length text ≡ size) (w : bufferIn text spot ≡ write (bufferIn (replicate size 0) empty) bs) where
   fit : length bs ≤ size → bufferIn text spot ≡ buffer (bs ++ replicate (size - length bs) 0) (length bs) false
   fit h =
       w
+      ∙ ap (λ (b : Buffer). write b bs) (spot-in (replicate size 0) 0 (omega arith))
       ∙ write-fits bs (replicate size 0) 0 (omega (arith, length-replicate {A = ℕ} size 0))
       ∙ ap₂ (λ (y : List ℕ) (z : ℕ). buffer y z false) (sets-eq bs (replicate size 0) 0 (omega (arith, length-replicate {A = ℕ} size 0)) ∙ (let e : 0 + length bs ≡ length bs = omega arith in ap (λ (k : ℕ). bs ++ drop k (replicate size 0)) e ∙ ap (λ (y : List ℕ). bs ++ y) (drop-zeros (length bs) size))) (let e : 0 + length bs ≡ length bs = omega arith in e)
 
-  long : size < length bs → eqb (spot .over) 1 ≡ true
-  long h = ap (λ (b : Buffer). b .over) w ∙ write-long bs (replicate size 0) 0 (omega arith) (omega (arith, length-replicate {A = ℕ} size 0))
+  long : size < length bs → ltb (length text) spot ≡ true
+  long h = ap (λ (b : Buffer). b .over) w ∙ ap (λ (b : Buffer). (write b bs) .over) (spot-in (replicate size 0) 0 (omega arith)) ∙ write-long bs (replicate size 0) 0 (omega arith) (omega (arith, length-replicate {A = ℕ} size 0))
 
-  pub finish-fits : eqb (spot .over) 1 ≡ false → record { answer = 0; long = spot .len; bytes = text } ≡ fitted size bs
+  pub finish-fits : ltb (length text) spot ≡ false → record { answer = 0; long = spot; bytes = text } ≡ fitted size bs
   unfolding fitted
   finish-fits f = elim (decLt size (length bs)) [
     | yes h ↦ never (sym f ∙ long h)
     | no h ↦
         rw (le-leb (length bs) size (omega arith))
         (let e = fit (omega arith) in
-        ap₂ (λ (l : List ℕ) (n : ℕ). record { answer = 0; long = n; bytes = l }) (ap (λ (b : Buffer). b .bytes) e) (ap (λ (b : Buffer). b .len) e))
+        ap₂ (λ (l : List ℕ) (n : ℕ). record { answer = 0; long = n; bytes = l }) (ap (λ (b : Buffer). b .bytes) e) (sym (ap (λ (t : Bool). cond t (length text) spot) f) ∙ ap (λ (b : Buffer). b .len) e))
   ]
 
-  pub finish-over : (after : List ℕ) → eqb (spot .over) 1 ≡ true → length after ≡ length text → ((x : ℕ) → getD after x 0 ≡ 0) → record { answer = 10; long = 0; bytes = after } ≡ fitted size bs
+  pub finish-over : (after : List ℕ) → ltb (length text) spot ≡ true → length after ≡ length text → ((x : ℕ) → getD after x 0 ≡ 0) → record { answer = 10; long = 0; bytes = after } ≡ fitted size bs
   unfolding fitted refusal
   finish-over after t e z = elim (decLt size (length bs)) [
     | yes h ↦ rw (lt-leb (length bs) size h) (ap (λ (l : List ℕ). record { answer = 10; long = 0; bytes = l }) (all-zero text after e z ∙ ap (λ (k : ℕ). replicate {A = ℕ} k 0) s))

@@ -21,7 +21,6 @@ use Rattle.printer.specs.Machine.{Open, print, cellAt, cellsFrom, nextAr
 use Rattle.printer.specs.Stacks.{frameIn, nextIn, openIn, packedFrame, opensIn, cellIn, heldIn, Buffer, write}
 use Rattle.printer.specs.Turns.{stateIn, moved, Small, Ready, numberAfter, countAfter, Kept, Turned}
 use Rattle.printer.specs.declared.frame.Frame.{Frame}
-use Rattle.printer.specs.declared.out.Spot.{Spot}
 use Rattle.printer.specs.declared.print.State.{State}
 use Rattle.printer.proofs.Bits.{without-less}
 use Rattle.printer.proofs.ArraysHeld.{packs, unpacks, pushed, popped, head-note, rest-notes, held-length}
@@ -90,7 +89,7 @@ push stack level v q x h e w = pushed stack level v h ∙ ap (λ (o : Open). o �
 
 module _ (tree notes stack starts sizes : List ℕ) (b after : Buffer) (s : State) where
   module _ (w : Small (s .frame) (s .next)) where
-    pub begin-turned : (kind map note next v : ℕ) (q f : Frame) (spot : Spot) → kind < 64 → map < 256 → s .level < length stack → (note ≡ getD notes (s .number) 0) × (note < 256) → after ≡ write b (opening (s .frame) kind map note (cond (isFilled (s .frame)) (cellText (cellAt (heldIn tree starts sizes (s .count)) (s .next))) [])) → next ≡ nextAround (s .frame) (heldIn tree starts sizes (s .count)) (s .next) → next < 16777216 → q ≡ around (s .frame) kind map → v ≡ packedFrame q next → (f ≡ begun (s .frame) kind map note) × (f .how ≤ 63) × (f .seen ≤ 2) → Turned tree notes (set stack (s .level) v) starts sizes b after (record { frame = f; next = 0; level = s .level + 1; number = s .number + 1; count = s .count; spot = spot }) (print (stateIn tree notes stack starts sizes s) (begins 0 kind map)) (s .level + 1) (s .number + 1) (s .count)
+    pub begin-turned : (kind map note next v : ℕ) (q f : Frame) (spot : ℕ) → kind < 64 → map < 256 → s .level < length stack → (note ≡ getD notes (s .number) 0) × (note < 256) → after ≡ write b (opening (s .frame) kind map note (cond (isFilled (s .frame)) (cellText (cellAt (heldIn tree starts sizes (s .count)) (s .next))) [])) → next ≡ nextAround (s .frame) (heldIn tree starts sizes (s .count)) (s .next) → next < 16777216 → q ≡ around (s .frame) kind map → v ≡ packedFrame q next → (f ≡ begun (s .frame) kind map note) × (f .how ≤ 63) × (f .seen ≤ 2) → Turned tree notes (set stack (s .level) v) starts sizes b after (record { frame = f; next = 0; level = s .level + 1; number = s .number + 1; count = s .count; spot = spot }) (print (stateIn tree notes stack starts sizes s) (begins 0 kind map)) (s .level + 1) (s .number + 1) (s .count)
     unfolding print begun
     begin-turned kind map note next v q f spot hk hm hl hn hw hx hy hq hv hf =
         let e : note ≡ headNote (drop (s .number) notes) = hn .0 ∙ sym (head-note notes (s .number)) in
@@ -113,7 +112,7 @@ module _ (tree notes stack starts sizes : List ℕ) (b after : Buffer) (s : Stat
           count = omega arith;
         }
 
-    pub open-turned : (n next v : ℕ) (q l : Frame) (spot : Spot) → s .count < 65536 → s .level < length stack → after ≡ write b (listOpening (s .frame)) → q ≡ unlisted (s .frame) n → v ≡ packedFrame q (s .next) → l ≡ listed (s .frame) → next ≡ cond (isQuasis l) (s .count + 1) (s .next) → Turned tree notes (set stack (s .level) v) starts sizes b after (record { frame = l; next = next; level = s .level + 1; number = s .number; count = s .count; spot = spot }) (print (stateIn tree notes stack starts sizes s) (opens n)) (s .level + 1) (s .number) (s .count)
+    pub open-turned : (n next v : ℕ) (q l : Frame) (spot : ℕ) → s .count < 65536 → s .level < length stack → after ≡ write b (listOpening (s .frame)) → q ≡ unlisted (s .frame) n → v ≡ packedFrame q (s .next) → l ≡ listed (s .frame) → next ≡ cond (isQuasis l) (s .count + 1) (s .next) → Turned tree notes (set stack (s .level) v) starts sizes b after (record { frame = l; next = next; level = s .level + 1; number = s .number; count = s .count; spot = spot }) (print (stateIn tree notes stack starts sizes s) (opens n)) (s .level + 1) (s .number) (s .count)
     unfolding print
     open-turned n next v q l spot hc hl hw hq hv hf hx =
         let m : Small q (s .next) = rw hq (small-unlisted (s .frame) (s .next) w n) in
@@ -132,7 +131,7 @@ module _ (tree notes stack starts sizes : List ℕ) (b after : Buffer) (s : Stat
         go true = omega arith
         go false = w .next
 
-    pub hole-turned : (f : Frame) (spot : Spot) (r : State) → after ≡ write b (word (separator (s .frame))) → f ≡ itemSeen (s .frame) 2 → r ≡ moved s f spot → Turned tree notes stack starts sizes b after r (print (stateIn tree notes stack starts sizes s) Event.hole) (s .level) (s .number) (s .count)
+    pub hole-turned : (f : Frame) (spot : ℕ) (r : State) → after ≡ write b (word (separator (s .frame))) → f ≡ itemSeen (s .frame) 2 → r ≡ moved s f spot → Turned tree notes stack starts sizes b after r (print (stateIn tree notes stack starts sizes s) Event.hole) (s .level) (s .number) (s .count)
     unfolding print
     hole-turned f spot r hw hf hr = rw hr (record {
       state = same-state hf refl refl refl (sym (append-nil (heldIn tree starts sizes (s .count))) ∙ append-nil (heldIn tree starts sizes (s .count)));
@@ -143,7 +142,7 @@ module _ (tree notes stack starts sizes : List ℕ) (b after : Buffer) (s : Stat
       count = omega arith;
     })
 
-    pub quiet-turned : (v : ℕ) (f : Frame) (spot : Spot) (r : State) → after ≡ b → f ≡ past (s .frame) → r ≡ moved s f spot → Turned tree notes stack starts sizes b after r (print (stateIn tree notes stack starts sizes s) (Event.byte v)) (s .level) (s .number) (s .count)
+    pub quiet-turned : (v : ℕ) (f : Frame) (spot : ℕ) (r : State) → after ≡ b → f ≡ past (s .frame) → r ≡ moved s f spot → Turned tree notes stack starts sizes b after r (print (stateIn tree notes stack starts sizes s) (Event.byte v)) (s .level) (s .number) (s .count)
     unfolding print write
     quiet-turned v f spot r hw hf hr = rw hr (record {
       state = same-state hf refl refl refl refl;
@@ -154,7 +153,7 @@ module _ (tree notes stack starts sizes : List ℕ) (b after : Buffer) (s : Stat
       count = omega arith;
     })
 
-    pub number-turned : (n : ℕ) (f : Frame) (spot : Spot) (r : State) → after ≡ write b (numberBytes (s .frame) n) → f ≡ past (s .frame) → r ≡ moved s f spot → Turned tree notes stack starts sizes b after r (print (stateIn tree notes stack starts sizes s) (Event.number n)) (s .level) (s .number) (s .count)
+    pub number-turned : (n : ℕ) (f : Frame) (spot : ℕ) (r : State) → after ≡ write b (numberBytes (s .frame) n) → f ≡ past (s .frame) → r ≡ moved s f spot → Turned tree notes stack starts sizes b after r (print (stateIn tree notes stack starts sizes s) (Event.number n)) (s .level) (s .number) (s .count)
     unfolding print
     number-turned n f spot r hw hf hr = rw hr (record {
       state = same-state hf refl refl refl refl;
@@ -165,7 +164,7 @@ module _ (tree notes stack starts sizes : List ℕ) (b after : Buffer) (s : Stat
       count = omega arith;
     })
 
-    pub text-turned : (at n x count : ℕ) (starts' sizes' : List ℕ) (f : Frame) (spot : Spot) → after ≡ write b (textBytes (s .frame) (take n (drop at tree))) → x ≡ spelled (s .frame) (take n (drop at tree)) → f ≡ noting (s .frame) x → Kept tree starts sizes starts' sizes' (s .count) count (cond (isQuasi (s .frame)) (quasi (take n (drop at tree)) ∷ []) []) → Turned tree notes stack starts' sizes' b after (record { frame = f; next = s .next; level = s .level; number = s .number; count = count; spot = spot }) (print (stateIn tree notes stack starts sizes s) (Event.text (take n (drop at tree)))) (s .level) (s .number) (s .count + 1)
+    pub text-turned : (at n x count : ℕ) (starts' sizes' : List ℕ) (f : Frame) (spot : ℕ) → after ≡ write b (textBytes (s .frame) (take n (drop at tree))) → x ≡ spelled (s .frame) (take n (drop at tree)) → f ≡ noting (s .frame) x → Kept tree starts sizes starts' sizes' (s .count) count (cond (isQuasi (s .frame)) (quasi (take n (drop at tree)) ∷ []) []) → Turned tree notes stack starts' sizes' b after (record { frame = f; next = s .next; level = s .level; number = s .number; count = count; spot = spot }) (print (stateIn tree notes stack starts sizes s) (Event.text (take n (drop at tree)))) (s .level) (s .number) (s .count + 1)
     unfolding print textPast
     text-turned at n x count starts' sizes' f spot hw hx hf hk =
         let e : f ≡ textPast (s .frame) (take n (drop at tree)) = hf ∙ ap (noting (s .frame)) hx in
@@ -178,7 +177,7 @@ module _ (tree notes stack starts sizes : List ℕ) (b after : Buffer) (s : Stat
           count = hk .few;
         }
 
-    pub close-turned : (v next count : ℕ) (starts' sizes' : List ℕ) (f : Frame) (spot : Spot) → 0 < s .level → after ≡ write b (listClosing (s .frame) ++ cond (leaves (s .frame)) (leftOver (cellsFrom (heldIn tree starts sizes (s .count)) (s .next))) []) → v ≡ getD stack (s .level - 1) 0 → f ≡ frameIn v → next ≡ cond (isQuasis (s .frame)) (s .next) (nextIn v) → Kept tree starts sizes starts' sizes' (s .count) count (cond (isQuasis (s .frame)) (stop ∷ []) []) → Turned tree notes stack starts' sizes' b after (record { frame = f; next = next; level = s .level - 1; number = s .number; count = count; spot = spot }) (print (stateIn tree notes stack starts sizes s) closes) (s .level - 1) (s .number) (s .count + 1)
+    pub close-turned : (v next count : ℕ) (starts' sizes' : List ℕ) (f : Frame) (spot : ℕ) → 0 < s .level → after ≡ write b (listClosing (s .frame) ++ cond (leaves (s .frame)) (leftOver (cellsFrom (heldIn tree starts sizes (s .count)) (s .next))) []) → v ≡ getD stack (s .level - 1) 0 → f ≡ frameIn v → next ≡ cond (isQuasis (s .frame)) (s .next) (nextIn v) → Kept tree starts sizes starts' sizes' (s .count) count (cond (isQuasis (s .frame)) (stop ∷ []) []) → Turned tree notes stack starts' sizes' b after (record { frame = f; next = next; level = s .level - 1; number = s .number; count = count; spot = spot }) (print (stateIn tree notes stack starts sizes s) closes) (s .level - 1) (s .number) (s .count + 1)
     unfolding print
     close-turned v next count starts' sizes' f spot hl hw hv hf hx hk =
         let p : opensIn stack (s .level) ≡ openIn v ∷ opensIn stack (s .level - 1) = popped stack (s .level) hl ∙ ap (λ (z : ℕ). openIn z ∷ opensIn stack (s .level - 1)) (sym hv) in
@@ -198,7 +197,7 @@ module _ (tree notes stack starts sizes : List ℕ) (b after : Buffer) (s : Stat
         small-closed : Small f next
         small-closed = let u = unpacks v in rw hf (record { kind = u .kind; map = u .map; note = u .note; how = u .how; seen = u .seen; rem = u .rem; list = u .list; next = rw hx (go (isQuasis (s .frame))) })
 
-  pub end-turned : (v next : ℕ) (f : Frame) (spot : Spot) → 0 < s .level → after ≡ write b (closing (s .frame)) → v ≡ getD stack (s .level - 1) 0 → f ≡ frameIn v → next ≡ nextIn v → Turned tree notes stack starts sizes b after (record { frame = f; next = next; level = s .level - 1; number = s .number; count = s .count; spot = spot }) (print (stateIn tree notes stack starts sizes s) ends) (s .level - 1) (s .number) (s .count)
+  pub end-turned : (v next : ℕ) (f : Frame) (spot : ℕ) → 0 < s .level → after ≡ write b (closing (s .frame)) → v ≡ getD stack (s .level - 1) 0 → f ≡ frameIn v → next ≡ nextIn v → Turned tree notes stack starts sizes b after (record { frame = f; next = next; level = s .level - 1; number = s .number; count = s .count; spot = spot }) (print (stateIn tree notes stack starts sizes s) ends) (s .level - 1) (s .number) (s .count)
   unfolding print
   end-turned v next f spot hl hw hv hf hx =
       let p : opensIn stack (s .level) ≡ openIn v ∷ opensIn stack (s .level - 1) = popped stack (s .level) hl ∙ ap (λ (z : ℕ). openIn z ∷ opensIn stack (s .level - 1)) (sym hv) in

@@ -9,7 +9,6 @@ use Rattle.printer.specs.Text.{Cell}
 use Rattle.printer.specs.Text.Cell.{quasi, stop}
 use Rattle.printer.specs.Machine.{Open}
 use Rattle.printer.specs.declared.frame.Frame.{Frame}
-use Rattle.printer.specs.declared.out.Spot.{Spot}
 
 -- ---- a frame as a number
 
@@ -87,5 +86,6 @@ unfoldable pub write : Buffer → List ℕ → Buffer
 write b [] = b
 write b (x ∷ xs) = write (put b x) xs
 
-abbrev pub bufferIn : List ℕ → Spot → Buffer
-bufferIn bytes s = record { bytes = bytes; len = s .len; over = eqb (s .over) 1 }
+-- how many bytes are written, or more than the length: there was no room for more
+abbrev pub bufferIn : List ℕ → ℕ → Buffer
+bufferIn bytes s = record { bytes = bytes; len = cond (ltb (length bytes) s) (length bytes) s; over = ltb (length bytes) s }

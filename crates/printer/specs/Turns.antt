@@ -12,7 +12,6 @@ use Rattle.printer.specs.Text.{Cell, outside}
 use Rattle.printer.specs.Machine.{Printing}
 use Rattle.printer.specs.Stacks.{opensIn, heldIn, Buffer, write}
 use Rattle.printer.specs.declared.frame.Frame.{Frame}
-use Rattle.printer.specs.declared.out.Spot.{Spot}
 use Rattle.printer.specs.declared.print.State.{State}
 
 -- where the quasi with a place begins, both counted from 1; 0 if there is none
@@ -35,15 +34,15 @@ abbrev pub unwritten : Printing → Printing
 unwritten t = record { top = t .top; next = t .next; stack = t .stack; notes = t .notes; held = t .held; out = [] }
 
 -- nothing is written
-abbrev pub empty : Spot
-empty = record { len = 0; over = 0 }
+abbrev pub empty : ℕ
+empty = 0
 
 -- around the Program
 abbrev pub start : State
 start = record { frame = outside; next = 0; level = 0; number = 0; count = 0; spot = empty }
 
 -- another frame, and more is written
-abbrev pub moved : State → Frame → Spot → State
+abbrev pub moved : State → Frame → ℕ → State
 moved s f spot = record { frame = f; next = s .next; level = s .level; number = s .number; count = s .count; spot = spot }
 
 -- a frame and a place fit into a number

@@ -13,7 +13,6 @@ pub mod step;
 pub mod texts;
 pub mod words;
 
-use crate::out::Spot;
 use rewritten::seen;
 ghost use mathlib.Core.Path.{_≡_};
 ghost use mathlib.Core.List.{List};
@@ -37,10 +36,10 @@ pub struct Printed {
 }
 
 // What was written into zeros is handed back, unless there was more.
-fn finish(text: &mut [u8], spot: Spot) -> Printed
+fn finish(text: &mut [u8], spot: usize) -> Printed
     ensures { λ r. ⌜ ((size : ℕ) (bs : List ℕ) → length (now (text .entry)) ≡ size → bufferIn (now (text .entry)) spot ≡ write (bufferIn (replicate size 0) empty) bs → handed r (now (text .exit)) ≡ fitted size bs) ⌝ }
 {
-    if spot.over == 1 {
+    if text.len() < spot {
         seen::clear(text);
         return Printed {
             answer: TEXT_TOO_LONG,
@@ -49,7 +48,7 @@ fn finish(text: &mut [u8], spot: Spot) -> Printed
     }
     Printed {
         answer: 0,
-        text_len: spot.len,
+        text_len: spot,
     }
 }
 

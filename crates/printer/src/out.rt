@@ -7,39 +7,27 @@ ghost use Rattle.printer.specs.Layout.{word};
 ghost use Rattle.printer.specs.Names.{hexDigit, needsEscape, escapedByte, escaped, inQuotes, decimal};
 ghost use Rattle.printer.specs.Stacks.{put, write, bufferIn, bytesIn, EndIs};
 
-// How many bytes are written, and 1 if there are more than fit, else 0. A number: a struct with a `bool` has unused bytes,
-// and they are copied in pieces, which takes half the time of a call.
-pub(crate) struct Spot {
-    pub len: usize,
-    pub over: usize,
-}
-
 fn wide(b: u8) -> usize
     ensures { λ r. ⌜ r ≡ b ⌝ }
 {
     b as usize
 }
 
-pub(crate) fn put(out: &mut [u8], spot: Spot, b: u8) -> Spot
+// The next byte. A spot is how many bytes are written, and one more than there is room for if there are more: a number, for
+// a struct is handed over in memory.
+pub(crate) fn put(out: &mut [u8], spot: usize, b: u8) -> usize
     ensures { λ r. ⌜ bufferIn (now (out .exit)) r ≡ put (bufferIn (now (out .entry)) spot) b ⌝ }
 {
-    let len = spot.len;
-    let over = spot.over;
-    if over == 1 {
-        return spot;
+    let len = out.len();
+    if spot < len {
+        out[spot] = b;
+        return spot + 1;
     }
-    if len < out.len() {
-        out[len] = b;
-        return Spot {
-            len: len + 1,
-            over: 0,
-        };
-    }
-    Spot { len: len, over: 1 }
+    len + 1
 }
 
 // The bytes of a number, the lowest first.
-fn put_digits(out: &mut [u8], spot: Spot, digits: usize) -> Spot
+fn put_digits(out: &mut [u8], spot: usize, digits: usize) -> usize
     ensures { λ r. ⌜ bufferIn (now (out .exit)) r ≡ write (bufferIn (now (out .entry)) spot) (bytesIn digits) ⌝ }
 {
     let mut s = spot;
@@ -51,11 +39,17 @@ fn put_digits(out: &mut [u8], spot: Spot, digits: usize) -> Spot
     s
 }
 
-// A word by its number; one of fewer than eight bytes is in the first number.
-pub(crate) fn say(out: &mut [u8], spot: Spot, id: usize) -> Spot
+// A word by its number; one of fewer than eight bytes is in the first number, and many have one.
+pub(crate) fn say(out: &mut [u8], spot: usize, id: usize) -> usize
     ensures { λ r. ⌜ bufferIn (now (out .exit)) r ≡ write (bufferIn (now (out .entry)) spot) (word id) ⌝ }
 {
     let w = words::low(id);
+    if w < 256 {
+        if w == 0 {
+            return spot;
+        }
+        return put(out, spot, w as u8);
+    }
     let a = put_digits(out, spot, w);
     if w < 0x100000000000000 {
         return a;
@@ -65,7 +59,7 @@ pub(crate) fn say(out: &mut [u8], spot: Spot, id: usize) -> Spot
 }
 
 // The same, where most words are 0 or 50, which is nothing: those are not called for.
-pub(crate) fn say_any(out: &mut [u8], spot: Spot, id: usize) -> Spot
+pub(crate) fn say_any(out: &mut [u8], spot: usize, id: usize) -> usize
     ensures { λ r. ⌜ bufferIn (now (out .exit)) r ≡ write (bufferIn (now (out .entry)) spot) (word id) ⌝ }
 {
     if id == 0 {
@@ -91,7 +85,7 @@ pub(crate) fn end_of(tree: &[u8], at: usize, n: usize) -> usize
 }
 
 // Bytes of the tree as they are.
-pub(crate) fn copy(tree: &[u8], at: usize, n: usize, out: &mut [u8], spot: Spot) -> Spot
+pub(crate) fn copy(tree: &[u8], at: usize, n: usize, out: &mut [u8], spot: usize) -> usize
     ensures { λ r. ⌜ bufferIn (now (out .exit)) r ≡ write (bufferIn (now (out .entry)) spot) (take n (drop at (now (tree .entry)))) ⌝ }
 {
     let end = end_of(tree, at, n);
@@ -125,7 +119,7 @@ fn needs_escape(b: u8) -> bool
     b == 92
 }
 
-fn put_escaped(out: &mut [u8], spot: Spot, b: u8) -> Spot
+fn put_escaped(out: &mut [u8], spot: usize, b: u8) -> usize
     ensures { λ r. ⌜ bufferIn (now (out .exit)) r ≡ write (bufferIn (now (out .entry)) spot) (escapedByte b) ⌝ }
 {
     if needs_escape(b) {
@@ -139,7 +133,7 @@ fn put_escaped(out: &mut [u8], spot: Spot, b: u8) -> Spot
     put(out, spot, b)
 }
 
-fn copy_escaped(tree: &[u8], at: usize, n: usize, out: &mut [u8], spot: Spot) -> Spot
+fn copy_escaped(tree: &[u8], at: usize, n: usize, out: &mut [u8], spot: usize) -> usize
     ensures { λ r. ⌜ bufferIn (now (out .exit)) r ≡ write (bufferIn (now (out .entry)) spot) (escaped (take n (drop at (now (tree .entry))))) ⌝ }
 {
     let end = end_of(tree, at, n);
@@ -153,7 +147,7 @@ fn copy_escaped(tree: &[u8], at: usize, n: usize, out: &mut [u8], spot: Spot) ->
 }
 
 // Bytes of the tree in double quotes.
-pub(crate) fn quote(tree: &[u8], at: usize, n: usize, out: &mut [u8], spot: Spot) -> Spot
+pub(crate) fn quote(tree: &[u8], at: usize, n: usize, out: &mut [u8], spot: usize) -> usize
     ensures { λ r. ⌜ bufferIn (now (out .exit)) r ≡ write (bufferIn (now (out .entry)) spot) (inQuotes (take n (drop at (now (tree .entry))))) ⌝ }
 {
     let a = put(out, spot, 34);
@@ -161,7 +155,7 @@ pub(crate) fn quote(tree: &[u8], at: usize, n: usize, out: &mut [u8], spot: Spot
     put(out, b, 34)
 }
 
-pub(crate) fn decimal(out: &mut [u8], spot: Spot, n: usize) -> Spot
+pub(crate) fn decimal(out: &mut [u8], spot: usize, n: usize) -> usize
     ensures { λ r. ⌜ bufferIn (now (out .exit)) r ≡ write (bufferIn (now (out .entry)) spot) (decimal n) ⌝ }
 {
     if n < 10 {

@@ -1,7 +1,6 @@
 // The second pass: the text.
 use crate::entries;
 use crate::frame::Frame;
-use crate::out::Spot;
 use crate::print;
 use crate::print::State;
 use crate::step;
@@ -27,14 +26,13 @@ fn begin() -> State
         rem: 1,
         list: 0,
     };
-    let spot = Spot { len: 0, over: 0 };
     State {
         frame: frame,
         next: 0,
         level: 0,
         number: 0,
         count: 0,
-        spot: spot,
+        spot: 0,
     }
 }
 
@@ -48,7 +46,7 @@ pub(crate) fn print(
     starts: &mut [usize],
     sizes: &mut [usize],
     text: &mut [u8],
-) -> Spot
+) -> usize
     ensures { λ r. ⌜ ((n : Node) → Logged (now (tree .entry)) (now (notes .entry)) (now (log .entry)) count n → 16384 ≤ length (now (notes .entry)) → 16384 ≤ length (now (stack .entry)) → 16384 ≤ length (now (starts .entry)) → 16384 ≤ length (now (sizes .entry)) → bufferIn (now (text .exit)) r ≡ write (bufferIn (now (text .entry)) empty) (textOf n)) ⌝ }
 {
     let mut s = begin();

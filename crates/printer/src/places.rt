@@ -4,19 +4,19 @@ use crate::frame::Frame;
 use crate::layout;
 ghost use mathlib.Core.Path.{_≡_};
 ghost use mathlib.Core.Bool.{cond};
-ghost use Prim.Native.Nat.{_≤_};
+ghost use Prim.Native.Nat.{ℕ, _≤_};
 ghost use lib.Dec.{eqb};
 ghost use Rattle.printer.specs.Layout.{chosenWord, headOf, tailOf, closeOf, leadOf};
 ghost use Rattle.printer.specs.Places.{fieldIn, mannerIn, isStatement, isWrapped, inMethodForm, wrapping, separator, leading, joining, following, notedAt, begun, computed, around, isQuasis, isFilled, leaves, trailing};
 
 // The manner of the next field.
-fn manner_in(f: Frame) -> usize
+pub(crate) fn manner_in(f: Frame) -> usize
     ensures { λ r. ⌜ r ≡ mannerIn f ⌝ }
 {
     layout::manner(f.kind, frame::lowest(f.rem))
 }
 
-fn is_statement(kind: usize, note: usize) -> bool
+pub(crate) fn is_statement(kind: usize, note: usize) -> bool
     ensures { λ r. ⌜ r ≡ isStatement kind note ⌝ }
 {
     if 63 < kind {
@@ -43,11 +43,11 @@ fn is_wrapped(kind: usize, note: usize) -> bool
     (mask >> kind) % 2 == 1
 }
 
-// 1 in method form, else 0.
-fn method(p: Frame, kind: usize, map: usize) -> usize
-    ensures { λ r. ⌜ r ≡ inMethodForm p kind map ⌝ }
+// 1 in method form, else 0; m is the manner.
+pub(crate) fn method(p: Frame, m: usize, kind: usize, map: usize) -> usize
+    ensures { λ r. ⌜ (m ≡ mannerIn p → r ≡ inMethodForm p kind map) ⌝ }
 {
-    if manner_in(p) == 12 {
+    if m == 12 {
         if kind == 14 {
             if map / 4 % 2 == 0 {
                 if 3 < p.note {
@@ -59,29 +59,26 @@ fn method(p: Frame, kind: usize, map: usize) -> usize
     0
 }
 
-// 1 in parentheses, else 0.
-pub(crate) fn wrapping(p: Frame, kind: usize, map: usize, note: usize) -> usize
-    ensures { λ r. ⌜ (r ≡ wrapping p kind map note) × (r ≤ 1) ⌝ }
+// In parentheses.
+pub(crate) fn wraps(method: usize, kind: usize, note: usize) -> bool
+    ensures { λ r. ⌜ ((p : Frame) (map : ℕ) → method ≡ inMethodForm p kind map → cond r 1 0 ≡ wrapping p kind map note) ⌝ }
 {
-    if method(p, kind, map) == 0 {
-        if is_wrapped(kind, note) {
-            return 1;
-        }
+    if method == 0 {
+        return is_wrapped(kind, note);
     }
-    0
+    false
 }
 
-pub(crate) fn parenthesis(wrapped: usize) -> usize
-    ensures { λ r. ⌜ r ≡ cond (eqb wrapped 1) 64 0 ⌝ }
+pub(crate) fn parenthesis(wrapped: bool) -> usize
+    ensures { λ r. ⌜ r ≡ cond (eqb (cond wrapped 1 0) 1) 64 0 ⌝ }
 {
-    if wrapped == 1 { 64 } else { 0 }
+    if wrapped { 64 } else { 0 }
 }
 
 // What parts an item from the one before.
-pub(crate) fn separator(p: Frame) -> usize
-    ensures { λ r. ⌜ r ≡ separator p ⌝ }
+pub(crate) fn separator(p: Frame, m: usize) -> usize
+    ensures { λ r. ⌜ (m ≡ mannerIn p → r ≡ separator p) ⌝ }
 {
-    let m = manner_in(p);
     if 0 < p.seen {
         if m == 7 {
             return 70;
@@ -106,20 +103,20 @@ pub(crate) fn lead_word(f: Frame, method: usize) -> usize
     )
 }
 
-pub(crate) fn leading(p: Frame, kind: usize, map: usize) -> usize
-    ensures { λ r. ⌜ r ≡ leading p kind map ⌝ }
+// What stands before a child; own is what leads its field.
+pub(crate) fn leading(p: Frame, m: usize, own: usize, method: usize) -> usize
+    ensures { λ r. ⌜ ((kind map : ℕ) → m ≡ mannerIn p → own ≡ leadOf (p .kind) (fieldIn p) → method ≡ inMethodForm p kind map → r ≡ leading p kind map) ⌝ }
 {
     if p.list == 1 {
-        return separator(p);
+        return separator(p, m);
     }
-    lead_word(p, method(p, kind, map))
+    layout::choose(own, p.note, p.map, p.seen, method)
 }
 
-pub(crate) fn joining(p: Frame, kind: usize, note: usize) -> usize
-    ensures { λ r. ⌜ r ≡ joining p kind note ⌝ }
+pub(crate) fn joining(m: usize, kind: usize, statement: bool) -> usize
+    ensures { λ r. ⌜ ((p : Frame) (note : ℕ) → m ≡ mannerIn p → statement ≡ isStatement kind note → r ≡ joining p kind note) ⌝ }
 {
-    let statement = is_statement(kind, note);
-    match manner_in(p) {
+    match m {
         6 => 74,
         7 => { if statement { 52 } else { 0 } }
         8 => { if kind == 2 { 71 } else { 52 } }
@@ -128,10 +125,10 @@ pub(crate) fn joining(p: Frame, kind: usize, note: usize) -> usize
 }
 
 // What stands behind a child, but for the parenthesis.
-fn trail(p: Frame, statement: bool) -> usize
-    ensures { λ r. ⌜ (r ≡ trailing p statement) × (r ≤ 62) ⌝ }
+fn trail(p: Frame, m: usize, statement: bool) -> usize
+    ensures { λ r. ⌜ (m ≡ mannerIn p → r ≡ trailing p statement) × (r ≤ 62) ⌝ }
 {
-    match manner_in(p) {
+    match m {
         1 => 52,
         2 => 54,
         3 => 56,
@@ -143,16 +140,16 @@ fn trail(p: Frame, statement: bool) -> usize
     }
 }
 
-fn following(p: Frame, kind: usize, map: usize, note: usize) -> usize
-    ensures { λ r. ⌜ (r ≡ following p kind map note) × (r ≤ 63) ⌝ }
+fn following(p: Frame, m: usize, statement: bool, wrapped: bool) -> usize
+    ensures { λ r. ⌜ ((kind map note : ℕ) → m ≡ mannerIn p → statement ≡ isStatement kind note → cond wrapped 1 0 ≡ wrapping p kind map note → r ≡ following p kind map note) × (r ≤ 63) ⌝ }
 {
-    wrapping(p, kind, map, note) + trail(p, is_statement(kind, note))
+    let word = trail(p, m, statement);
+    if wrapped { 1 + word } else { word }
 }
 
-fn noted_at(p: Frame, kind: usize) -> usize
-    ensures { λ r. ⌜ (r ≡ notedAt p kind) × (r ≤ 2) ⌝ }
+fn noted_at(m: usize, kind: usize) -> usize
+    ensures { λ r. ⌜ ((p : Frame) → m ≡ mannerIn p → r ≡ notedAt p kind) × (r ≤ 2) ⌝ }
 {
-    let m = manner_in(p);
     if m == 9 {
         if kind == 4 {
             return 1;
@@ -165,11 +162,19 @@ fn noted_at(p: Frame, kind: usize) -> usize
     0
 }
 
-pub(crate) fn begun(p: Frame, kind: usize, map: usize, note: usize) -> Frame
-    ensures { λ r. ⌜ (r ≡ begun p kind map note) × (r .how ≤ 63) × (r .seen ≤ 2) ⌝ }
+pub(crate) fn begun(
+    p: Frame,
+    m: usize,
+    kind: usize,
+    map: usize,
+    note: usize,
+    statement: bool,
+    wrapped: bool,
+) -> Frame
+    ensures { λ r. ⌜ (m ≡ mannerIn p → statement ≡ isStatement kind note → cond wrapped 1 0 ≡ wrapping p kind map note → r ≡ begun p kind map note) × (r .how ≤ 63) × (r .seen ≤ 2) ⌝ }
 {
-    let how = following(p, kind, map, note);
-    let seen = noted_at(p, kind);
+    let how = following(p, m, statement, wrapped);
+    let seen = noted_at(m, kind);
     Frame {
         kind: kind,
         map: map,
@@ -181,16 +186,10 @@ pub(crate) fn begun(p: Frame, kind: usize, map: usize, note: usize) -> Frame
     }
 }
 
-pub(crate) fn head_word(p: Frame, kind: usize, map: usize, note: usize) -> usize
-    ensures { λ r. ⌜ r ≡ chosenWord (headOf kind) note map (notedAt p kind) (inMethodForm p kind map) ⌝ }
+pub(crate) fn head_word(kind: usize, map: usize, note: usize, seen: usize, method: usize) -> usize
+    ensures { λ r. ⌜ r ≡ chosenWord (headOf kind) note map seen method ⌝ }
 {
-    layout::choose(
-        layout::head(kind),
-        note,
-        map,
-        noted_at(p, kind),
-        method(p, kind, map),
-    )
+    layout::choose(layout::head(kind), note, map, seen, method)
 }
 
 // `[` before a computed key.
@@ -224,37 +223,36 @@ pub(crate) fn close_word(f: Frame) -> usize
 }
 
 // The parent after a child.
-pub(crate) fn around(p: Frame, kind: usize, map: usize) -> Frame
-    ensures { λ r. ⌜ r ≡ around p kind map ⌝ }
+pub(crate) fn around(p: Frame, method: usize) -> Frame
+    ensures { λ r. ⌜ ((kind map : ℕ) → method ≡ inMethodForm p kind map → r ≡ around p kind map) ⌝ }
 {
     if p.list == 1 {
         return frame::item_seen(p, 1);
     }
-    if method(p, kind, map) == 1 {
+    if method == 1 {
         return frame::noting(p, 1);
     }
     frame::noting(p, p.seen)
 }
 
-pub(crate) fn is_quasis(l: Frame) -> bool
-    ensures { λ r. ⌜ r ≡ isQuasis l ⌝ }
+pub(crate) fn is_quasis(m: usize) -> bool
+    ensures { λ r. ⌜ ((l : Frame) → m ≡ mannerIn l → r ≡ isQuasis l) ⌝ }
 {
-    manner_in(l) == 10
+    m == 10
 }
 
-pub(crate) fn is_filled(l: Frame) -> bool
-    ensures { λ r. ⌜ r ≡ isFilled l ⌝ }
+pub(crate) fn is_filled(l: Frame, m: usize) -> bool
+    ensures { λ r. ⌜ (m ≡ mannerIn l → r ≡ isFilled l) ⌝ }
 {
-    if manner_in(l) == 6 {
+    if m == 6 {
         return l.list == 1;
     }
     false
 }
 
-pub(crate) fn leaves(l: Frame) -> bool
-    ensures { λ r. ⌜ r ≡ leaves l ⌝ }
+pub(crate) fn leaves(l: Frame, m: usize) -> bool
+    ensures { λ r. ⌜ (m ≡ mannerIn l → r ≡ leaves l) ⌝ }
 {
-    let m = manner_in(l);
     if m == 6 {
         return true;
     }

@@ -2,14 +2,14 @@
 use crate::frame;
 use crate::frame::Frame;
 use crate::out;
-use crate::out::Spot;
 use crate::places;
 ghost use mathlib.Core.Path.{_≡_};
 ghost use mathlib.Core.List.{List, []};
 ghost use mathlib.Core.Bool.{cond};
 ghost use Prim.Native.Nat.{ℕ, _<_};
 ghost use lib.ListN.{getD};
-ghost use Rattle.printer.specs.Places.{opening, closing, isFilled, leaves};
+ghost use Rattle.printer.specs.Layout.{leadOf};
+ghost use Rattle.printer.specs.Places.{fieldIn, mannerIn, isStatement, inMethodForm, wrapping, notedAt, opening, closing, isFilled, leaves};
 ghost use Rattle.printer.specs.Text.{cellText, leftOver};
 ghost use Rattle.printer.specs.Machine.{cellAt, cellsFrom, stepOver, nextAround};
 ghost use Rattle.printer.specs.Stacks.{heldIn, write, bufferIn};
@@ -23,7 +23,7 @@ pub(crate) struct State {
     pub level: usize,
     pub number: usize,
     pub count: usize,
-    pub spot: Spot,
+    pub spot: usize,
 }
 
 fn wide(b: u8) -> usize
@@ -69,10 +69,10 @@ fn quasi(
     starts: &[usize],
     sizes: &[usize],
     text: &mut [u8],
-    spot: Spot,
+    spot: usize,
     count: usize,
     next: usize,
-) -> Spot
+) -> usize
     ensures { λ r. ⌜ bufferIn (now (text .exit)) r ≡ write (bufferIn (now (text .entry)) spot) (cellText (cellAt (heldIn (now (tree .entry)) (now (starts .entry)) (now (sizes .entry)) count) next)) ⌝ }
 {
     let start = start_of(starts, count, next);
@@ -91,14 +91,15 @@ fn quasi_in(
     starts: &[usize],
     sizes: &[usize],
     text: &mut [u8],
-    spot: Spot,
+    spot: usize,
     p: Frame,
+    m: usize,
     count: usize,
     next: usize,
-) -> Spot
-    ensures { λ r. ⌜ bufferIn (now (text .exit)) r ≡ write (bufferIn (now (text .entry)) spot) (cond (isFilled p) (cellText (cellAt (heldIn (now (tree .entry)) (now (starts .entry)) (now (sizes .entry)) count) next)) []) ⌝ }
+) -> usize
+    ensures { λ r. ⌜ (m ≡ mannerIn p → bufferIn (now (text .exit)) r ≡ write (bufferIn (now (text .entry)) spot) (cond (isFilled p) (cellText (cellAt (heldIn (now (tree .entry)) (now (starts .entry)) (now (sizes .entry)) count) next)) [])) ⌝ }
 {
-    if places::is_filled(p) {
+    if places::is_filled(p, m) {
         return quasi(tree, starts, sizes, text, spot, count, next);
     }
     spot
@@ -118,10 +119,10 @@ fn step_over(starts: &[usize], count: usize, next: usize) -> usize
     next
 }
 
-pub(crate) fn next_around(starts: &[usize], p: Frame, count: usize, next: usize) -> usize
-    ensures { λ r. ⌜ ((tree sizes : List ℕ) → count < 65536 → r ≡ nextAround p (heldIn tree (now (starts .entry)) sizes count) next) × (count < 65536 → next < 16777216 → r < 16777216) ⌝ }
+pub(crate) fn next_around(starts: &[usize], p: Frame, m: usize, count: usize, next: usize) -> usize
+    ensures { λ r. ⌜ ((tree sizes : List ℕ) → m ≡ mannerIn p → count < 65536 → r ≡ nextAround p (heldIn tree (now (starts .entry)) sizes count) next) × (count < 65536 → next < 16777216 → r < 16777216) ⌝ }
 {
-    if places::is_filled(p) {
+    if places::is_filled(p, m) {
         return step_over(starts, count, next);
     }
     next
@@ -133,10 +134,10 @@ fn left_over(
     starts: &[usize],
     sizes: &[usize],
     text: &mut [u8],
-    spot: Spot,
+    spot: usize,
     count: usize,
     next: usize,
-) -> Spot
+) -> usize
     ensures { λ r. ⌜ bufferIn (now (text .exit)) r ≡ write (bufferIn (now (text .entry)) spot) (leftOver (cellsFrom (heldIn (now (tree .entry)) (now (starts .entry)) (now (sizes .entry)) count) next)) ⌝ }
 {
     if next == 0 {
@@ -160,19 +161,22 @@ pub(crate) fn left_in(
     starts: &[usize],
     sizes: &[usize],
     text: &mut [u8],
-    spot: Spot,
+    spot: usize,
     l: Frame,
+    m: usize,
     count: usize,
     next: usize,
-) -> Spot
-    ensures { λ r. ⌜ bufferIn (now (text .exit)) r ≡ write (bufferIn (now (text .entry)) spot) (cond (leaves l) (leftOver (cellsFrom (heldIn (now (tree .entry)) (now (starts .entry)) (now (sizes .entry)) count) next)) []) ⌝ }
+) -> usize
+    ensures { λ r. ⌜ (m ≡ mannerIn l → bufferIn (now (text .exit)) r ≡ write (bufferIn (now (text .entry)) spot) (cond (leaves l) (leftOver (cellsFrom (heldIn (now (tree .entry)) (now (starts .entry)) (now (sizes .entry)) count) next)) [])) ⌝ }
 {
-    if places::leaves(l) {
+    if places::leaves(l, m) {
         return left_over(tree, starts, sizes, text, spot, count, next);
     }
     spot
 }
 
+// What stands before a node's fields, with what is known of its place: the manner of its field, what leads that, method
+// form, whether it is a statement and in parentheses, and what is noted of it.
 pub(crate) fn opening(
     tree: &[u8],
     starts: &[usize],
@@ -182,21 +186,26 @@ pub(crate) fn opening(
     kind: usize,
     map: usize,
     note: usize,
-) -> Spot
-    ensures { λ r. ⌜ bufferIn (now (text .exit)) r ≡ write (bufferIn (now (text .entry)) (s .spot)) (opening (s .frame) kind map note (cond (isFilled (s .frame)) (cellText (cellAt (heldIn (now (tree .entry)) (now (starts .entry)) (now (sizes .entry)) (s .count)) (s .next))) [])) ⌝ }
+    m: usize,
+    own: usize,
+    method: usize,
+    statement: bool,
+    wrapped: bool,
+    seen: usize,
+) -> usize
+    ensures { λ r. ⌜ (m ≡ mannerIn (s .frame) → own ≡ leadOf (s .frame .kind) (fieldIn (s .frame)) → method ≡ inMethodForm (s .frame) kind map → statement ≡ isStatement kind note → cond wrapped 1 0 ≡ wrapping (s .frame) kind map note → seen ≡ notedAt (s .frame) kind → bufferIn (now (text .exit)) r ≡ write (bufferIn (now (text .entry)) (s .spot)) (opening (s .frame) kind map note (cond (isFilled (s .frame)) (cellText (cellAt (heldIn (now (tree .entry)) (now (starts .entry)) (now (sizes .entry)) (s .count)) (s .next))) []))) ⌝ }
 {
     let p = s.frame;
     let spot = s.spot;
-    let a = out::say_any(text, spot, places::leading(p, kind, map));
-    let b = quasi_in(tree, starts, sizes, text, a, p, s.count, s.next);
-    let c = out::say_any(text, b, places::joining(p, kind, note));
-    let w = places::parenthesis(places::wrapping(p, kind, map, note));
-    let d = out::say_any(text, c, w);
-    let e = out::say_any(text, d, places::head_word(p, kind, map, note));
+    let a = out::say_any(text, spot, places::leading(p, m, own, method));
+    let b = quasi_in(tree, starts, sizes, text, a, p, m, s.count, s.next);
+    let c = out::say_any(text, b, places::joining(m, kind, statement));
+    let d = out::say_any(text, c, places::parenthesis(wrapped));
+    let e = out::say_any(text, d, places::head_word(kind, map, note, seen, method));
     out::say_any(text, e, places::computed(kind, note))
 }
 
-pub(crate) fn closing(text: &mut [u8], spot: Spot, f: Frame) -> Spot
+pub(crate) fn closing(text: &mut [u8], spot: usize, f: Frame) -> usize
     ensures { λ r. ⌜ bufferIn (now (text .exit)) r ≡ write (bufferIn (now (text .entry)) spot) (closing f) ⌝ }
 {
     let a = out::say_any(text, spot, places::tail_word(f));

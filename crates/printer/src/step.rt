@@ -1,8 +1,9 @@
 // One event of the pass.
+use crate::entries;
 use crate::frame;
 use crate::frame::Frame;
+use crate::layout;
 use crate::out;
-use crate::out::Spot;
 use crate::places;
 use crate::print;
 use crate::print::State;
@@ -15,14 +16,14 @@ ghost use Prim.Native.Nat.{ℕ, _<_, _+_, _-_};
 ghost use lib.ListN.{length, take, drop};
 ghost use Rattle.rewritten.specs.Events as events;
 ghost use Rattle.rewritten.specs.Steps.{eventIn, deepAfter};
-ghost use Rattle.printer.specs.Places.{listClosing, isQuasis, isQuasi, leaves, numberBytes};
+ghost use Rattle.printer.specs.Places.{mannerIn, listClosing, isQuasis, isQuasi, leaves, numberBytes};
 ghost use Rattle.printer.specs.Text as cells;
 ghost use Rattle.printer.specs.Machine as machine;
 ghost use Rattle.printer.specs.Stacks.{nextIn, cellIn, heldIn, write, bufferIn};
 ghost use Rattle.printer.specs.Turns.{stateIn, moved, Small, Ready, numberAfter, countAfter, Kept, Turned};
 
 // Another frame, and more is written.
-fn moved(s: State, f: Frame, spot: Spot) -> State
+fn moved(s: State, f: Frame, spot: usize) -> State
     ensures { λ r. ⌜ r ≡ moved s f spot ⌝ }
 {
     State {
@@ -50,10 +51,10 @@ fn hold(starts: &mut [usize], sizes: &mut [usize], count: usize, start: usize, s
 }
 
 // Behind the quasis of a Template a stop is held.
-fn hold_stop(starts: &mut [usize], sizes: &mut [usize], l: Frame, count: usize) -> usize
-    ensures { λ r. ⌜ (count < length (now (starts .entry)) → count < length (now (sizes .entry)) → (tree : List ℕ) → Kept tree (now (starts .entry)) (now (sizes .entry)) (now (starts .exit)) (now (sizes .exit)) count r (cond (isQuasis l) (cells.Cell.stop ∷ []) [])) ⌝ }
+fn hold_stop(starts: &mut [usize], sizes: &mut [usize], m: usize, count: usize) -> usize
+    ensures { λ r. ⌜ ((l : Frame) → m ≡ mannerIn l → count < length (now (starts .entry)) → count < length (now (sizes .entry)) → (tree : List ℕ) → Kept tree (now (starts .entry)) (now (sizes .entry)) (now (starts .exit)) (now (sizes .exit)) count r (cond (isQuasis l) (cells.Cell.stop ∷ []) [])) ⌝ }
 {
-    if places::is_quasis(l) {
+    if places::is_quasis(m) {
         return hold(starts, sizes, count, 0, 0);
     }
     count
@@ -100,19 +101,38 @@ fn begin(
     let old = s.next;
     if level < stack.len() {
         if number < notes.len() {
-            let up = level + 1;
-            let more = number + 1;
             let note = print::note_at(notes, number);
-            let next = print::next_around(starts, p, count, old);
-            let v = frame::pack(places::around(p, kind, map), next);
-            stack[level] = v;
-            let f = places::begun(p, kind, map, note);
-            let spot = print::opening(tree, starts, sizes, text, s, kind, map, note);
+            let field = frame::lowest(p.rem);
+            let m = layout::manner(p.kind, field);
+            let own = layout::lead(p.kind, field);
+            let method = places::method(p, m, kind, map);
+            let statement = places::is_statement(kind, note);
+            let wrapped = places::wraps(method, kind, note);
+            let next = print::next_around(starts, p, m, count, old);
+            let v = frame::pack(places::around(p, method), next);
+            entries::keep(stack, level, v);
+            let f = places::begun(p, m, kind, map, note, statement, wrapped);
+            let spot = print::opening(
+                tree,
+                starts,
+                sizes,
+                text,
+                s,
+                kind,
+                map,
+                note,
+                m,
+                own,
+                method,
+                statement,
+                wrapped,
+                f.seen,
+            );
             return State {
                 frame: f,
                 next: 0,
-                level: up,
-                number: more,
+                level: level + 1,
+                number: number + 1,
                 count: count,
                 spot: spot,
             };
@@ -147,10 +167,10 @@ fn end(stack: &[usize], text: &mut [u8], s: State) -> State
 }
 
 // The next quasi in a list that opens: that of a list of quasis is the next to be held.
-fn next_opened(l: Frame, count: usize, next: usize) -> usize
-    ensures { λ r. ⌜ (count < 65536 → r ≡ cond (isQuasis l) (count + 1) next) ⌝ }
+fn next_opened(m: usize, count: usize, next: usize) -> usize
+    ensures { λ r. ⌜ ((l : Frame) → m ≡ mannerIn l → count < 65536 → r ≡ cond (isQuasis l) (count + 1) next) ⌝ }
 {
-    if places::is_quasis(l) {
+    if places::is_quasis(m) {
         if count < 65536 {
             return count + 1;
         }
@@ -168,11 +188,14 @@ fn open_list(stack: &mut [usize], text: &mut [u8], s: State, n: usize) -> State
     let old = s.spot;
     let before = s.next;
     if level < stack.len() {
-        let spot = out::say_any(text, old, places::lead_word(f, 0));
+        let field = frame::lowest(f.rem);
+        let m = layout::manner(f.kind, field);
+        let own = layout::lead(f.kind, field);
+        let spot = out::say_any(text, old, layout::choose(own, f.note, f.map, f.seen, 0));
         let v = frame::pack(frame::unlisted(f, n), before);
-        stack[level] = v;
+        entries::keep(stack, level, v);
         let l = frame::listed(f);
-        let next = next_opened(l, count, before);
+        let next = next_opened(m, count, before);
         return State {
             frame: l,
             next: next,
@@ -186,20 +209,27 @@ fn open_list(stack: &mut [usize], text: &mut [u8], s: State, n: usize) -> State
 }
 
 // The end of a list's text: its own bytes, and the quasis that are left.
-fn list_closing(tree: &[u8], starts: &[usize], sizes: &[usize], text: &mut [u8], s: State) -> Spot
-    ensures { λ r. ⌜ bufferIn (now (text .exit)) r ≡ write (bufferIn (now (text .entry)) (s .spot)) (listClosing (s .frame) ++ cond (leaves (s .frame)) (cells.leftOver (machine.cellsFrom (heldIn (now (tree .entry)) (now (starts .entry)) (now (sizes .entry)) (s .count)) (s .next))) []) ⌝ }
+fn list_closing(
+    tree: &[u8],
+    starts: &[usize],
+    sizes: &[usize],
+    text: &mut [u8],
+    s: State,
+    m: usize,
+) -> usize
+    ensures { λ r. ⌜ (m ≡ mannerIn (s .frame) → bufferIn (now (text .exit)) r ≡ write (bufferIn (now (text .entry)) (s .spot)) (listClosing (s .frame) ++ cond (leaves (s .frame)) (cells.leftOver (machine.cellsFrom (heldIn (now (tree .entry)) (now (starts .entry)) (now (sizes .entry)) (s .count)) (s .next))) [])) ⌝ }
 {
     let l = s.frame;
     let old = s.spot;
     let a = out::say_any(text, old, places::close_word(l));
-    print::left_in(tree, starts, sizes, text, a, l, s.count, s.next)
+    print::left_in(tree, starts, sizes, text, a, l, m, s.count, s.next)
 }
 
 // The next quasi of the node after a list: behind quasis it is the first of them.
-fn next_closed(l: Frame, next: usize, v: usize) -> usize
-    ensures { λ r. ⌜ r ≡ cond (isQuasis l) next (nextIn v) ⌝ }
+fn next_closed(m: usize, next: usize, v: usize) -> usize
+    ensures { λ r. ⌜ ((l : Frame) → m ≡ mannerIn l → r ≡ cond (isQuasis l) next (nextIn v)) ⌝ }
 {
-    if places::is_quasis(l) {
+    if places::is_quasis(m) {
         return next;
     }
     frame::next_in(v)
@@ -222,11 +252,12 @@ fn close_list(
     if level == 0 {
         return s;
     }
-    let spot = list_closing(tree, starts, sizes, text, s);
+    let m = places::manner_in(l);
+    let spot = list_closing(tree, starts, sizes, text, s, m);
     let v = print::number_at(stack, level - 1);
     let f = frame::frame_in(v);
-    let next = next_closed(l, before, v);
-    let count = hold_stop(starts, sizes, l, s.count);
+    let next = next_closed(m, before, v);
+    let count = hold_stop(starts, sizes, m, s.count);
     State {
         frame: f,
         next: next,
@@ -242,7 +273,7 @@ fn hole(text: &mut [u8], s: State) -> State
 {
     let l = s.frame;
     let old = s.spot;
-    let spot = out::say(text, old, places::separator(l));
+    let spot = out::say(text, old, places::separator(l, places::manner_in(l)));
     moved(s, frame::item_seen(l, 2), spot)
 }
 
@@ -283,7 +314,7 @@ fn quiet(s: State) -> State
 }
 
 // The number of a Temporary.
-fn number_bytes(text: &mut [u8], spot: Spot, f: Frame, n: usize) -> Spot
+fn number_bytes(text: &mut [u8], spot: usize, f: Frame, n: usize) -> usize
     ensures { λ r. ⌜ bufferIn (now (text .exit)) r ≡ write (bufferIn (now (text .entry)) spot) (numberBytes f n) ⌝ }
 {
     if f.kind == 20 {

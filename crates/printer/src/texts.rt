@@ -3,7 +3,6 @@ use crate::frame;
 use crate::frame::Frame;
 use crate::names;
 use crate::out;
-use crate::out::Spot;
 use crate::places;
 ghost use mathlib.Core.Path.{_≡_};
 ghost use Prim.Native.Nat.{_<_};
@@ -22,7 +21,7 @@ fn is_empty(tree: &[u8], at: usize, n: usize) -> bool
 }
 
 // A Literal's spelling, or its form in quotes.
-fn literal(tree: &[u8], at: usize, n: usize, text: &mut [u8], spot: Spot, f: Frame) -> Spot
+fn literal(tree: &[u8], at: usize, n: usize, text: &mut [u8], spot: usize, f: Frame) -> usize
     ensures { λ r. ⌜ bufferIn (now (text .exit)) r ≡ write (bufferIn (now (text .entry)) spot) (literalText f (take n (drop at (now (tree .entry))))) ⌝ }
 {
     if 0 < f.seen {
@@ -41,7 +40,7 @@ fn literal(tree: &[u8], at: usize, n: usize, text: &mut [u8], spot: Spot, f: Fra
 }
 
 // `["..."]`.
-fn member_quoted(tree: &[u8], at: usize, n: usize, text: &mut [u8], spot: Spot) -> Spot
+fn member_quoted(tree: &[u8], at: usize, n: usize, text: &mut [u8], spot: usize) -> usize
     ensures { λ r. ⌜ bufferIn (now (text .exit)) r ≡ write (bufferIn (now (text .entry)) spot) (memberQuoted (take n (drop at (now (tree .entry))))) ⌝ }
 {
     let a = out::put(text, spot, 91);
@@ -50,7 +49,7 @@ fn member_quoted(tree: &[u8], at: usize, n: usize, text: &mut [u8], spot: Spot) 
 }
 
 // The name of a Member's property, with what stands around it.
-fn member(tree: &[u8], at: usize, n: usize, text: &mut [u8], spot: Spot) -> Spot
+fn member(tree: &[u8], at: usize, n: usize, text: &mut [u8], spot: usize) -> usize
     ensures { λ r. ⌜ bufferIn (now (text .exit)) r ≡ write (bufferIn (now (text .entry)) spot) (memberName (take n (drop at (now (tree .entry))))) ⌝ }
 {
     if names::bare(tree, at, n) {
@@ -61,7 +60,7 @@ fn member(tree: &[u8], at: usize, n: usize, text: &mut [u8], spot: Spot) -> Spot
 }
 
 // A StaticKey's name.
-fn key(tree: &[u8], at: usize, n: usize, text: &mut [u8], spot: Spot) -> Spot
+fn key(tree: &[u8], at: usize, n: usize, text: &mut [u8], spot: usize) -> usize
     ensures { λ r. ⌜ bufferIn (now (text .exit)) r ≡ write (bufferIn (now (text .entry)) spot) (keyName (take n (drop at (now (tree .entry))))) ⌝ }
 {
     if names::bare(tree, at, n) {
@@ -71,7 +70,7 @@ fn key(tree: &[u8], at: usize, n: usize, text: &mut [u8], spot: Spot) -> Spot
 }
 
 // The text of a node that is no name: with what leads it.
-fn text_words(tree: &[u8], at: usize, n: usize, text: &mut [u8], spot: Spot, f: Frame) -> Spot
+fn text_words(tree: &[u8], at: usize, n: usize, text: &mut [u8], spot: usize, f: Frame) -> usize
     ensures { λ r. ⌜ bufferIn (now (text .exit)) r ≡ write (bufferIn (now (text .entry)) spot) (textBytes f (take n (drop at (now (tree .entry))))) ⌝ }
 {
     let kind = f.kind;
@@ -94,9 +93,9 @@ pub(crate) fn text_bytes(
     at: usize,
     n: usize,
     text: &mut [u8],
-    spot: Spot,
+    spot: usize,
     f: Frame,
-) -> Spot
+) -> usize
     ensures { λ r. ⌜ bufferIn (now (text .exit)) r ≡ write (bufferIn (now (text .entry)) spot) (textBytes f (take n (drop at (now (tree .entry))))) ⌝ }
 {
     if f.kind / 2 == 9 {

@@ -55,10 +55,10 @@ module _ (l : List ℕ) (at : ℕ) where
     node-wrong z rest = ahead l at rest (λ fs deep. comingNode l fs p at deep rest) 0 0 (omega arith) (λ fs deep. enter-wrong l fs p at deep rest kind form look found z) (λ n. absurd (n refl))
 
     module _ (stands : form ≡ 0 → ⊥) (map row : ℕ) (next : Peeked l (at + 1) map) (rowed : fieldsIn row ≡ fieldsOf form) where
-      pub node-unfit : mapOk (fieldsIn row) map ≡ false → (rest : ℕ) → Ahead l at rest (λ fs deep. comingNode l fs p at deep rest) 0
+      pub node-unfit : mapOk (fieldsOf form) map ≡ false → (rest : ℕ) → Ahead l at rest (λ fs deep. comingNode l fs p at deep rest) 0
       node-unfit bad rest = ahead l at rest (λ fs deep. comingNode l fs p at deep rest) 0 0 (omega arith) (λ fs deep. enter-unfit l fs p at deep rest kind form look found stands map row next rowed bad) (λ n. absurd (n refl))
 
-      pub node-fits : mapOk (fieldsIn row) map ≡ true → (r : ℕ) → Planned row map r → (rest : ℕ) → Ahead l at rest (λ fs deep. comingNode l fs p at deep rest) (1 + 16 * r)
+      pub node-fits : mapOk (fieldsOf form) map ≡ true → (r : ℕ) → Planned row map r → (rest : ℕ) → Ahead l at rest (λ fs deep. comingNode l fs p at deep rest) (1 + 16 * r)
       node-fits ok r plan rest =
           let i : at + 1 < length l = enter-inside l l p at 0 0 kind form look found stands map row next rowed ok in
           ahead l at rest (λ fs deep. comingNode l fs p at deep rest) 1 r (omega arith)

@@ -70,6 +70,24 @@ module _ (row map : ℕ) where
             ∙ ap (λ (ss : List Sort). sortOf (row % 512) ∷ ss) (p .is (omega arith))
             ∙ sym (standing-first row map (omega arith) ∙ ap (λ (c : ℕ). byBit c (sortOf (row % 512)) (standing (fieldsIn (row / 1024)) (map / 2))) one)
 
+-- ---- the first fields stand, and no others
+
+plan-absents : (n row : ℕ) → row ≤ n → Planned row 0 0
+plan-absents zero row h = plan-none row 0 (omega arith)
+plan-absents (suc n) row h = elim (decLt 0 row) [
+  | yes g ↦ plan-absent row 0 (λ z. absurd (omega arith)) 0 (plan-absents n (row / 1024) (omega arith)) refl
+  | no g ↦ plan-none row 0 (omega arith)
+]
+
+plan-as : (row map a b : ℕ) → b ≡ a → Planned row map a → Planned row map b
+plan-as row map a b e p = rw e p
+
+pub plan-one : (row : ℕ) → 0 < row → Planned row 1 (512 + row % 512)
+plan-one row h = plan-as row 1 (0 * 1024 + 512 + row % 512) _ (omega arith) (plan-stands row 1 (λ z. absurd (omega arith)) 0 (plan-absents row (row / 1024) (omega arith)) (λ z. absurd (omega arith)))
+
+pub plan-two : (row : ℕ) → 1023 < row → Planned row 3 (512 + row % 512 + 1024 * (512 + row / 1024 % 512))
+plan-two row h = plan-as row 3 ((512 + row / 1024 % 512) * 1024 + 512 + row % 512) _ (omega arith) (plan-stands row 3 (λ z. absurd (omega arith)) (512 + row / 1024 % 512) (plan-one (row / 1024) (omega arith)) (λ z. absurd (omega arith)))
+
 -- ---- the loop: so much is made, and what is left goes above it
 
 pub record Planning (row map left bits made scale : ℕ) : Type 0 where

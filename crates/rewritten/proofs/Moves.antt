@@ -7,7 +7,7 @@ use mathlib.Core.Option.{Option, none, some}
 use Prim.Native.Nat.{ℕ, zero, suc, _+_, _-_, _*_, _/_, _%_, _^_, _<_, _≤_}
 use native.Mathlib.Omega.{arith}
 use native.Mathlib.Decide.{decLt}
-use lib.Dec.{eqb}
+use lib.Dec.{eqb, ltb}
 use lib.ListN.{length, getD, set}
 use lib.Seq.{getD-set-same, getD-set-other}
 use borrow.Author.Tests.{lt-ltb, le-ltb, eq-eqb, ne-eqb, ltb-true, eqb-true}
@@ -100,6 +100,14 @@ took-as {l} {fs} {later} {g} {h} {at} {deep} {r} e t = subst (λ (x : Got (List 
 pub found-true : {r m b : Bool} → r ≡ m → r ≡ b → m ≡ b
 found-true e t = sym e ∙ t
 
+-- a task above all numbers of lists without items is not done
+pub closed-far : (top : ℕ) → 127 < top → false ≡ isClosed top
+closed-far top h = go (eqb (top % 2) 0)
+  where
+    go : (even : Bool) → false ≡ cond even (eqb top 0) (ltb top 128)
+    go true = sym (ne-eqb top 0 (λ e. absurd (omega arith)))
+    go false = sym (le-ltb top 128 (omega arith))
+
 -- a kind that may stand there is a byte
 pub enter-there : (l : List ℕ) (p at kind form : ℕ) → Peeked l at kind → form ≡ formAt rewritten p kind → (form ≡ 0 → ⊥) → at < length l
 enter-there l p at kind form look found n = let h : kind < 64 = known rewritten p kind (omega arith) in look .within (omega arith)
@@ -131,28 +139,27 @@ module _ (l fs : List ℕ) where
     enter-wrong z = took (around (node-wrong l p at 1 (sym form-is ∙ z)), refl)
 
     module _ (stands : form ≡ 0 → ⊥) (map row : ℕ) (next : Peeked l (at + 1) map) (rowed : fieldsIn row ≡ fieldsOf form) where
-      pub enter-unfit : mapOk (fieldsIn row) map ≡ false → Took l fs fs (comingNode l fs p at deep rest) at deep Refused
-      enter-unfit bad = took (around (node-unfit l p at 1 kind form map (look .value) form-is (next .value) (omega arith) (ap (λ (gs : List Field). mapOk gs map) (sym rowed) ∙ bad)), refl)
+      pub enter-unfit : mapOk (fieldsOf form) map ≡ false → Took l fs fs (comingNode l fs p at deep rest) at deep Refused
+      enter-unfit bad = took (around (node-unfit l p at 1 kind form map (look .value) form-is (next .value) (omega arith) bad), refl)
 
-      pub enter-inside : mapOk (fieldsIn row) map ≡ true → at + 1 < length l
-      enter-inside ok = next .within (map-byte form map (ap (λ (gs : List Field). mapOk gs map) (sym rowed) ∙ ok))
+      pub enter-inside : mapOk (fieldsOf form) map ≡ true → at + 1 < length l
+      enter-inside ok = next .within (map-byte form map ok)
 
       pub plan-small : (r : ℕ) → Planned row map r → r < 1024 ^ 6
       plan-small r plan = plan .less 6 (row-small row form rowed)
 
-      enter-seen : mapOk (fieldsIn row) map ≡ true → deep < length fs → (r : ℕ) → Planned row map r → Took l fs (set fs deep rest) (comingNode l fs p at deep rest) at deep (Next (Begins at kind map) (record { at = at + 2; deep = deep + 1; top = r * 2 }))
+      enter-seen : mapOk (fieldsOf form) map ≡ true → deep < length fs → (r : ℕ) → Planned row map r → Took l fs (set fs deep rest) (comingNode l fs p at deep rest) at deep (Next (Begins at kind map) (record { at = at + 2; deep = deep + 1; top = r * 2 }))
       unfolding comingAt comes
       enter-seen ok room r plan =
-          let ok' : mapOk (fieldsOf form) map ≡ true = ap (λ (gs : List Field). mapOk gs map) (sym rowed) ∙ ok in
           let i : at + 1 < length l = enter-inside ok in
           let t : taskOf (r * 2) ≡ slots (standing (fieldsOf form) map) = task-even r ∙ ap slots (plan .is (row-small row form rowed)) ∙ ap (λ (gs : List Field). slots (standing gs map)) rowed in
           took (record {
             is =
                 around refl
-                ∙ entered l (slots (standing (fieldsOf form) map)) (taskOf rest) (stack fs deep) (begins at kind map) (at + 2) 1 (nodeComes l p at 1) (node-fits l p at 1 kind form map (look .value) form-is (next .value) (omega arith) ok')
+                ∙ entered l (slots (standing (fieldsOf form) map)) (taskOf rest) (stack fs deep) (begins at kind map) (at + 2) 1 (nodeComes l p at 1) (node-fits l p at 1 kind form map (look .value) form-is (next .value) (omega arith) ok)
                 ∙ ap (λ (x : Task). led (begins at kind map) (pending l x (taskOf rest ∷ stack fs deep) (at + 2) 1)) (sym t)
                 ∙ ap (λ (us : List Task). led (begins at kind map) (pending l (taskOf (r * 2)) us (at + 2) 1)) (sym (stack-push fs deep rest room));
-            stands = (refl, look .value, next .value, known rewritten p kind (omega arith), map-byte form map ok', refl);
+            stands = (refl, look .value, next .value, known rewritten p kind (omega arith), map-byte form map ok, refl);
             level = refl;
             rest = rest;
             kept = refl;
@@ -161,7 +168,7 @@ module _ (l fs : List ℕ) where
             falls = λ h. omega arith;
           })
 
-      pub enter-node : mapOk (fieldsIn row) map ≡ true → deep < length fs → (r : ℕ) → Planned row map r → Took l fs (set fs deep rest) (comingNode l fs p at deep rest) at deep (Next (Begins at (byteAt l at) (byteAt l (at + 1))) (record { at = at + 2; deep = deep + 1; top = r * 2 }))
+      pub enter-node : mapOk (fieldsOf form) map ≡ true → deep < length fs → (r : ℕ) → Planned row map r → Took l fs (set fs deep rest) (comingNode l fs p at deep rest) at deep (Next (Begins at (byteAt l at) (byteAt l (at + 1))) (record { at = at + 2; deep = deep + 1; top = r * 2 }))
       enter-node ok room r plan = rw (sym (look .value), sym (next .value)) (enter-seen ok room r plan)
 
   pub full : (g : Got (List Event)) (at deep : ℕ) → length fs ≤ deep → at + 1 < length l → Took l fs fs g at deep Full

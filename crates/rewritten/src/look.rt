@@ -22,7 +22,7 @@ fn node(tree: &[u8], place: usize, at: usize) -> usize
     }
     let map = bytes::peek(tree, at + 1);
     let row = grammar::row(form);
-    if grammar::map_ok(row, map) {
+    if grammar::fits(form, map) {
         return 1 + 16 * plan::plan(row, map);
     }
     0
@@ -129,10 +129,13 @@ pub fn look(tree: &[u8], at: usize, top: usize) -> usize
 pub fn is_closed(top: usize) -> bool
     ensures { λ r. ⌜ r ≡ isClosed top ⌝ }
 {
+    if 127 < top {
+        return false;
+    }
     if top % 2 == 0 {
         return top == 0;
     }
-    top < 128
+    true
 }
 
 // What is left of a task after its next field or item.

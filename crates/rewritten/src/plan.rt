@@ -7,12 +7,23 @@ ghost use Rattle.tree.specs.Grammar.Stage.{rewritten};
 ghost use Rattle.tree.specs.Read.{chosenPlace};
 ghost use Rattle.rewritten.specs.Steps.{Planned};
 
-// The fields of a row whose bits stand, ten binary digits a field, the tenth always set.
+// The fields of a row whose bits stand, ten binary digits a field, the tenth always set. Of most nodes the first or the
+// first two stand.
 pub(crate) fn plan(row: usize, map: usize) -> usize
     ensures { λ r. ⌜ Planned row map r ⌝ }
 {
     if 1152921504606846975 < row {
         return 0;
+    }
+    if map == 1 {
+        if 0 < row {
+            return 512 + row % 512;
+        }
+    }
+    if map == 3 {
+        if 1023 < row {
+            return 512 + row % 512 + 1024 * (512 + row / 1024 % 512);
+        }
     }
     let mut left = row;
     let mut bits = map;

@@ -9,10 +9,10 @@ use Rattle.printer.proofs.out.copy.Statement.{statement}
 use Rattle.printer.proofs.out.copy.Tie as tie
 
 abbrev Inv-loop : tie.InvT-loop
-Inv-loop tree at n out₀ end s₀ i₀ out s i = (write (bufferIn out s) (take (end - i) (drop i tree)) ≡ write (bufferIn out₀ s₀) (take n (drop at tree))) × (length out ≡ length out₀) × (at ≤ i)
+Inv-loop tree at n out₀ spot end s₀ i₀ out s i = (write (bufferIn out s) (take (end - i) (drop i tree)) ≡ write (bufferIn out₀ s₀) (take n (drop at tree))) × (length out ≡ length out₀) × (at ≤ i)
 
 abbrev μ-loop : tie.MeasureT-loop
-μ-loop tree at n out₀ end s₀ i₀ out s i = end - i
+μ-loop tree at n out₀ spot end s₀ i₀ out s i = end - i
 
 loop-holds : tie.Need-loop-holds Inv-loop μ-loop
 loop-holds c = (ap (λ (l : List ℕ). write (bufferIn (c .before .before .before .args .out .now) (c .before .before .before .args .spot)) (l)) (c .end-of .ensures .same), refl, omega arith)

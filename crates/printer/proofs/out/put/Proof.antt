@@ -1,21 +1,17 @@
-use mathlib.Core.Path.{refl}
-use borrow.Author.Tests.{eq-eqb, ne-eqb, lt-ltb, le-ltb}
-use Rattle.printer.specs.Stacks.{put}
+use native.Mathlib.Omega.{arith}
 use borrow.Author.Needs.{needs}
+use Rattle.printer.proofs.PrintingEntry as law
 use Rattle.printer.proofs.out.put.Statement.{statement}
 use Rattle.printer.proofs.out.put.Tie as tie
 
 returns : tie.Need-returns
-unfolding put
-returns c = rw (eq-eqb _ _ (c .if1 .taken)) refl
+returns c = law.spot-fits _ _ _ (c .if1 .taken)
+
+add-len : tie.Need-add-result-2
+add-len c = omega (arith, c .before .good .0 .1)
 
 returns-2 : tie.Need-returns-2
-unfolding put
-returns-2 c = rw (ne-eqb _ _ (c .before .if1 .left), lt-ltb _ _ (c .if2 .taken)) refl
-
-returns-3 : tie.Need-returns-3
-unfolding put
-returns-3 c = rw (ne-eqb _ _ (c .before .if1 .left), le-ltb _ _ (c .if2 .left)) refl
+returns-2 c = law.spot-over _ _ _ (c .if1 .left)
 
 pub put-spec : {M : Type 1} → statement M
-put-spec = tie.close (tie.spec returns (λ c. search needs) (λ c. search needs) (λ c. search needs) returns-2 returns-3)
+put-spec = tie.close (tie.spec (λ c. search needs) (λ c. search needs) (λ c. search needs) returns add-len returns-2)

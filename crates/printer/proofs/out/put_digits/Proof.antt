@@ -8,10 +8,10 @@ use Rattle.printer.proofs.out.put_digits.Statement.{statement}
 use Rattle.printer.proofs.out.put_digits.Tie as tie
 
 abbrev Inv-loop : tie.InvT-loop
-Inv-loop out₀ digits s₀ w₀ out s w = (write (bufferIn out s) (bytesIn w) ≡ write (bufferIn out₀ s₀) (bytesIn w₀)) × (length out ≡ length out₀)
+Inv-loop out₀ spot digits s₀ w₀ out s w = (write (bufferIn out s) (bytesIn w) ≡ write (bufferIn out₀ s₀) (bytesIn w₀)) × (length out ≡ length out₀)
 
 abbrev μ-loop : tie.MeasureT-loop
-μ-loop out₀ digits s₀ w₀ out s w = w
+μ-loop out₀ spot digits s₀ w₀ out s w = w
 
 loop-holds : tie.Need-loop-holds Inv-loop μ-loop
 loop-holds c = (refl, refl)

@@ -7,15 +7,15 @@ use Rattle.printer.proofs.places.around.Tie as tie
 
 returns : tie.Need-returns
 unfolding around
-returns c = rw (c .item-seen .ensures, eq-eqb _ _ (c .before .if1 .taken)) refl
+returns c = λ k m h. rw (c .item-seen .ensures, eq-eqb _ _ (c .before .if1 .taken)) refl
 
 returns-2 : tie.Need-returns-2
 unfolding around
-returns-2 c = rw (c .noting .ensures, ne-eqb _ _ (c .before .before .before .if1 .left), eq-eqb _ _ (sym (c .before .before .method .ensures) ∙ c .before .if2 .taken)) refl
+returns-2 c = λ k m h. rw (c .noting .ensures, ne-eqb _ _ (c .before .before .if1 .left), eq-eqb _ _ (sym h ∙ c .before .if2 .taken)) refl
 
 returns-3 : tie.Need-returns-3
 unfolding around
-returns-3 c = rw (c .noting2 .ensures, ne-eqb _ _ (c .before .before .before .if1 .left), ne-eqb _ _ (λ e. c .before .if2 .left (c .before .before .method .ensures ∙ e))) refl
+returns-3 c = λ k m h. rw (c .noting2 .ensures, ne-eqb _ _ (c .before .before .if1 .left), ne-eqb _ _ (λ e. c .before .if2 .left (h ∙ e))) refl
 
 pub around-spec : {M : Type 1} → statement M
 around-spec =
@@ -23,7 +23,6 @@ around-spec =
     (tie.spec
     (λ c κs. search needs)
     returns
-    (λ c κs. search needs)
     (λ c κs. search needs)
     returns-2
     (λ c κs. search needs)

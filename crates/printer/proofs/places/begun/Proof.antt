@@ -6,7 +6,7 @@ use Rattle.printer.proofs.places.begun.Tie as tie
 
 returns : tie.Need-returns
 unfolding begun
-returns c = (rw (c .before .following .ensures .0, c .noted-at .ensures .0) refl, c .before .following .ensures .1, c .noted-at .ensures .1)
+returns c = (λ h g f. rw (c .before .following .ensures .0 _ _ _ h g f, c .noted-at .ensures .0 _ h) refl, c .before .following .ensures .1, c .noted-at .ensures .1)
 
 pub begun-spec : {M : Type 1} → statement M
 begun-spec = tie.close (tie.spec (λ c κs. search needs) (λ c κs. search needs) returns)

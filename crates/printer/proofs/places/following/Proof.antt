@@ -1,4 +1,5 @@
-use mathlib.Core.Path.{refl}
+use Rattle.printer.proofs.Around as law
+use mathlib.Core.Path.{refl, sym}
 use native.Mathlib.Omega.{arith}
 use Rattle.printer.specs.Places.{following}
 use borrow.Author.Needs.{needs}
@@ -6,12 +7,15 @@ use Rattle.printer.proofs.places.following.Statement.{statement}
 use Rattle.printer.proofs.places.following.Tie as tie
 
 add-result : tie.Need-add-result
-add-result c = omega (arith, c .before .before .wrapping .ensures .1, c .trail .ensures .1)
+add-result c = omega (arith, c .before .trail .ensures .1)
 
 returns : tie.Need-returns
 unfolding following
-returns c = (rw (c .before .before .wrapping .ensures .0, c .trail .ensures .0, c .before .is-statement .ensures) refl, omega (arith, c .before .before .wrapping .ensures .1, c .trail .ensures .1))
+returns c = (λ k m n h g f. rw (c .before .trail .ensures .0 h, g, sym f, c .if1 .taken) refl, omega (arith, c .before .trail .ensures .1))
+
+returns-2 : tie.Need-returns-2
+unfolding following
+returns-2 c = (λ k m n h g f. rw (c .before .trail .ensures .0 h, g, sym f, c .if1 .left) (law.none-more _), omega (arith, c .before .trail .ensures .1))
 
 pub following-spec : {M : Type 1} → statement M
-following-spec =
-    tie.close (tie.spec (λ c κs. search needs) (λ c κs. search needs) (λ c κs. search needs) add-result returns)
+following-spec = tie.close (tie.spec (λ c κs. search needs) add-result returns returns-2)

@@ -2,40 +2,37 @@ use Rattle.printer.proofs.Around as law
 use mathlib.Core.Path.{refl, sym, _∙_}
 use borrow.Author.Tests.{eq-eqb, ne-eqb}
 use Rattle.printer.specs.Places.{joining}
-use borrow.Author.Needs.{needs}
 use Rattle.printer.proofs.places.joining.Statement.{statement}
 use Rattle.printer.proofs.places.joining.Tie as tie
 
 returns : tie.Need-returns
 unfolding joining
-returns c = rw (sym (c .before .manner-in .ensures) ∙ c .match .keys1) refl
+returns c = λ p n h g. rw (sym h ∙ c .match .keys1) refl
 
 returns-2 : tie.Need-returns-2
 unfolding joining
-returns-2 c = rw (sym (c .before .before .manner-in .ensures) ∙ c .before .match .keys2, sym (c .before .before .before .is-statement .ensures) ∙ c .if1 .taken) refl
+returns-2 c = λ p n h g. rw (sym h ∙ c .before .match .keys2, sym g ∙ c .if1 .taken) refl
 
 returns-3 : tie.Need-returns-3
 unfolding joining
-returns-3 c = rw (sym (c .before .before .manner-in .ensures) ∙ c .before .match .keys2, sym (c .before .before .before .is-statement .ensures) ∙ c .if1 .left) refl
+returns-3 c = λ p n h g. rw (sym h ∙ c .before .match .keys2, sym g ∙ c .if1 .left) refl
 
 returns-4 : tie.Need-returns-4
 unfolding joining
-returns-4 c = rw (sym (c .before .before .manner-in .ensures) ∙ c .before .match .keys3, eq-eqb _ _ (c .if2 .taken)) refl
+returns-4 c = λ p n h g. rw (sym h ∙ c .before .match .keys3, eq-eqb _ _ (c .if2 .taken)) refl
 
 returns-5 : tie.Need-returns-5
 unfolding joining
-returns-5 c = rw (sym (c .before .before .manner-in .ensures) ∙ c .before .match .keys3, ne-eqb _ _ (c .if2 .left)) refl
+returns-5 c = λ p n h g. rw (sym h ∙ c .before .match .keys3, ne-eqb _ _ (c .if2 .left)) refl
 
 returns-6 : tie.Need-returns-6
 unfolding joining
-returns-6 c = law.no-joining _ _ _ (λ e. c .match .rest .0 .0 .1 (c .before .manner-in .ensures ∙ e)) (λ e. c .match .rest .0 .1 (c .before .manner-in .ensures ∙ e)) (λ e. c .match .rest .1 (c .before .manner-in .ensures ∙ e))
+returns-6 c = λ p n h g. law.no-joining _ _ _ (λ e. c .match .rest .0 .0 .1 (h ∙ e)) (λ e. c .match .rest .0 .1 (h ∙ e)) (λ e. c .match .rest .1 (h ∙ e))
 
 pub joining-spec : {M : Type 1} → statement M
 joining-spec =
     tie.close
     (tie.spec
-    (λ c κs. search needs)
-    (λ c κs. search needs)
     returns
     returns-2
     returns-3

@@ -7,12 +7,11 @@ use Rattle.printer.proofs.places.leading.Tie as tie
 
 returns : tie.Need-returns
 unfolding leading
-returns c = rw (c .separator .ensures, eq-eqb _ _ (c .before .if1 .taken)) refl
+returns c = λ k m h g f. rw (c .separator .ensures h, eq-eqb _ _ (c .before .if1 .taken)) refl
 
 returns-2 : tie.Need-returns-2
 unfolding leading
-returns-2 c = rw (c .lead-word .ensures, c .before .method .ensures, ne-eqb _ _ (c .before .before .if1 .left)) refl
+returns-2 c = λ k m h g f. rw (c .choose .ensures, g, f, ne-eqb _ _ (c .before .if1 .left)) refl
 
 pub leading-spec : {M : Type 1} → statement M
-leading-spec =
-    tie.close (tie.spec (λ c κs. search needs) returns (λ c κs. search needs) (λ c κs. search needs) returns-2)
+leading-spec = tie.close (tie.spec (λ c κs. search needs) returns (λ c κs. search needs) returns-2)

@@ -10,10 +10,10 @@ use Rattle.printer.proofs.print.left_over.Statement.{statement}
 use Rattle.printer.proofs.print.left_over.Tie as tie
 
 abbrev Inv-loop : tie.InvT-loop
-Inv-loop tree starts sizes text₀ count next s₀ i₀ text s i = (write (bufferIn text s) (leftOver (drop i (heldIn tree starts sizes count))) ≡ write (bufferIn text₀ s₀) (leftOver (drop i₀ (heldIn tree starts sizes count)))) × (length text ≡ length text₀)
+Inv-loop tree starts sizes text₀ spot count next s₀ i₀ text s i = (write (bufferIn text s) (leftOver (drop i (heldIn tree starts sizes count))) ≡ write (bufferIn text₀ s₀) (leftOver (drop i₀ (heldIn tree starts sizes count)))) × (length text ≡ length text₀)
 
 abbrev μ-loop : tie.MeasureT-loop
-μ-loop tree starts sizes text₀ count next s₀ i₀ text s i = count - i
+μ-loop tree starts sizes text₀ spot count next s₀ i₀ text s i = count - i
 
 returns : tie.Need-returns Inv-loop μ-loop
 unfolding leftOver write

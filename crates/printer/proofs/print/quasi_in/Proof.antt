@@ -5,11 +5,11 @@ use Rattle.printer.proofs.print.quasi_in.Statement.{statement}
 use Rattle.printer.proofs.print.quasi_in.Tie as tie
 
 returns : tie.Need-returns
-returns c = c .before .before .quasi .ensures ∙ rw (sym (c .before .before .before .before .before .is-filled .ensures) ∙ c .before .before .before .before .if1 .taken) refl
+returns c = λ h. c .before .before .quasi .ensures ∙ rw (sym (c .before .before .before .before .before .is-filled .ensures h) ∙ c .before .before .before .before .if1 .taken) refl
 
 returns-2 : tie.Need-returns-2
 unfolding write
-returns-2 c = rw (sym (c .before .is-filled .ensures) ∙ c .if1 .left) refl
+returns-2 c = λ h. rw (sym (c .before .is-filled .ensures h) ∙ c .if1 .left) refl
 
 pub quasi-in-spec : {M : Type 1} → statement M
 quasi-in-spec =

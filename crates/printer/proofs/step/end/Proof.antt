@@ -9,7 +9,7 @@ returns : tie.Need-returns
 returns c = λ t n a b h. absurd (omega (arith, h, c .if1 .taken))
 
 returns-2 : tie.Need-returns-2
-returns-2 c = λ t n a b h. law.end-turned t n (c .before .before .before .before .before .before .before .before .before .before .before .before .args .stack .now) a b (bufferIn (c .before .before .before .before .before .before .before .before .before .before .before .before .args .text .now) (c .before .before .before .before .before .before .before .before .before .before .before .before .args .s .spot)) _ (c .before .before .before .before .before .before .before .before .before .before .before .before .args .s) _ _ _ (c .before .before .before .before .before .closing .result) h (c .before .before .before .before .before .closing .ensures) (c .before .before .number-at .ensures) (c .before .frame-in .ensures) (c .next-in .ensures)
+returns-2 c = λ t n a b h. law.end-turned t n (c .before .before .before .before .before .before .before .before .before .before .before .args .stack .now) a b (bufferIn (c .before .before .before .before .before .before .before .before .before .before .before .args .text .now) (c .before .before .before .before .before .before .before .before .before .before .before .args .s .spot)) _ (c .before .before .before .before .before .before .before .before .before .before .before .args .s) _ _ _ (c .before .before .before .before .before .closing .result) h (c .before .before .before .before .before .closing .ensures) (c .before .before .number-at .ensures) (c .before .frame-in .ensures) (c .next-in .ensures)
 
 pub end-spec : {M : Type 1} → statement M
 end-spec =

@@ -5,10 +5,10 @@ use Rattle.printer.proofs.step.hold_stop.Statement.{statement}
 use Rattle.printer.proofs.step.hold_stop.Tie as tie
 
 returns : tie.Need-returns
-returns c = λ h g t. rw (sym (c .before .before .before .before .before .before .before .before .is-quasis .ensures) ∙ c .before .before .before .before .before .before .before .if1 .taken) (c .before .before .before .before .hold .ensures h g t)
+returns c = λ l m h g t. rw (sym (c .before .before .before .before .before .before .before .before .is-quasis .ensures l m) ∙ c .before .before .before .before .before .before .before .if1 .taken) (c .before .before .before .before .hold .ensures h g t)
 
 returns-2 : tie.Need-returns-2
-returns-2 c = λ h g t. rw (sym (c .before .is-quasis .ensures) ∙ c .if1 .left) (law.none-held t _ _ _)
+returns-2 c = λ l m h g t. rw (sym (c .before .is-quasis .ensures l m) ∙ c .if1 .left) (law.none-held t _ _ _)
 
 pub hold-stop-spec : {M : Type 1} → statement M
 hold-stop-spec =

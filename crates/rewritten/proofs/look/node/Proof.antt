@@ -20,10 +20,10 @@ add-result : tie.Need-add-result
 add-result c = let h : c .plan .result < 1024 ^ 6 = moves.plan-small (c .before .before .before .before .before .before .before .before .before .args .tree .now) (c .before .before .before .before .before .before .before .before .before .args .tree .now) _ _ 0 0 _ _ (c .before .before .before .before .before .before .before .peek .ensures) (c .before .before .before .before .before .before .form-at .ensures) (c .before .before .before .before .before .if1 .left) _ _ (c .before .before .before .before .peek2 .ensures) (c .before .before .before .row .ensures) _ (c .plan .ensures) in omega arith
 
 returns-2 : tie.Need-returns-2
-returns-2 c = law.node-fits _ _ _ _ _ (c .before .before .before .before .before .before .before .peek .ensures) (c .before .before .before .before .before .before .form-at .ensures) (c .before .before .before .before .before .if1 .left) _ _ (c .before .before .before .before .peek2 .ensures) (c .before .before .before .row .ensures) (moves.found-true (c .before .before .map-ok .ensures) (c .before .if2 .taken)) _ (c .plan .ensures)
+returns-2 c = law.node-fits _ _ _ _ _ (c .before .before .before .before .before .before .before .peek .ensures) (c .before .before .before .before .before .before .form-at .ensures) (c .before .before .before .before .before .if1 .left) _ _ (c .before .before .before .before .peek2 .ensures) (c .before .before .before .row .ensures) (moves.found-true (c .before .before .fits2 .ensures) (c .before .if2 .taken)) _ (c .plan .ensures)
 
 returns-3 : tie.Need-returns-3
-returns-3 c = law.node-unfit _ _ _ _ _ (c .before .before .before .before .before .before .peek .ensures) (c .before .before .before .before .before .form-at .ensures) (c .before .before .before .before .if1 .left) _ _ (c .before .before .before .peek2 .ensures) (c .before .before .row .ensures) (moves.found-true (c .before .map-ok .ensures) (c .if2 .left))
+returns-3 c = law.node-unfit _ _ _ _ _ (c .before .before .before .before .before .before .peek .ensures) (c .before .before .before .before .before .form-at .ensures) (c .before .before .before .before .if1 .left) _ _ (c .before .before .before .peek2 .ensures) (c .before .before .row .ensures) (moves.found-true (c .before .fits2 .ensures) (c .if2 .left))
 
 pub node-spec : {M : Type 1} → statement M
 node-spec =

@@ -13,8 +13,29 @@ abbrev μ-loop : tie.MeasureT-loop
 returns : tie.Need-returns Inv-loop μ-loop
 returns c = law.plan-long _ _ (c .if1 .taken)
 
+add-result : tie.Need-add-result Inv-loop μ-loop
+add-result c = omega arith
+
+returns-2 : tie.Need-returns-2 Inv-loop μ-loop
+returns-2 c = rw (c .before .if2 .taken) (law.plan-one _ (c .if3 .taken))
+
+add-result-2 : tie.Need-add-result-2 Inv-loop μ-loop
+add-result-2 c = omega arith
+
+add-result-3 : tie.Need-add-result-3 Inv-loop μ-loop
+add-result-3 c = omega arith
+
+mul-result : tie.Need-mul-result Inv-loop μ-loop
+mul-result c = omega arith
+
+add-result-4 : tie.Need-add-result-4 Inv-loop μ-loop
+add-result-4 c = omega arith
+
+returns-3 : tie.Need-returns-3 Inv-loop μ-loop
+returns-3 c = rw (c .before .if4 .taken) (law.plan-two _ (c .if5 .taken))
+
 loop-holds : tie.Need-loop-holds Inv-loop μ-loop
-loop-holds c = law.planning-start _ _ (c .if1 .left)
+loop-holds c = law.planning-start _ _ (c .before .before .if1 .left)
 
 add-made : tie.Need-add-made Inv-loop μ-loop
 add-made c = omega arith
@@ -32,10 +53,10 @@ loop-less : tie.Need-loop-less Inv-loop μ-loop
 loop-less c = omega (arith, c .before .loop-test .taken)
 
 loop-again : tie.Need-loop-again Inv-loop μ-loop
-loop-again c = ⊎-elim (λ w. rw (w .1, w .2) (law.planning-stands _ _ _ _ _ _ (c .before .before .loop .inv) (c .before .loop-test .taken) (w .0 .taken))) (λ w. rw (w .1, w .2) (law.planning-absent _ _ _ _ _ _ (c .before .before .loop .inv) (c .before .loop-test .taken) (w .0 .left))) (c .if2 .came)
+loop-again c = ⊎-elim (λ w. rw (w .1, w .2) (law.planning-stands _ _ _ _ _ _ (c .before .before .loop .inv) (c .before .loop-test .taken) (w .0 .taken))) (λ w. rw (w .1, w .2) (law.planning-absent _ _ _ _ _ _ (c .before .before .loop .inv) (c .before .loop-test .taken) (w .0 .left))) (c .if6 .came)
 
-returns-2 : tie.Need-returns-2 Inv-loop μ-loop
-returns-2 c = law.planning-ends _ _ _ _ _ _ (c .before .loop .inv) (c .loop-test .left)
+returns-4 : tie.Need-returns-4 Inv-loop μ-loop
+returns-4 c = law.planning-ends _ _ _ _ _ _ (c .before .loop .inv) (c .loop-test .left)
 
 pub plan-spec : {M : Type 1} → statement M
 plan-spec =
@@ -44,6 +65,13 @@ plan-spec =
     Inv-loop
     μ-loop
     returns
+    add-result
+    returns-2
+    add-result-2
+    add-result-3
+    mul-result
+    add-result-4
+    returns-3
     loop-holds
     add-made
     mul-made
@@ -51,4 +79,4 @@ plan-spec =
     mul-scale
     loop-less
     loop-again
-    returns-2)
+    returns-4)
