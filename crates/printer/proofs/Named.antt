@@ -11,7 +11,7 @@ use native.Mathlib.Decide.{decLt}
 use lib.ListN.{length, getD, set, take, drop, List·getD-eq-default}
 use lib.Seq.{getD-set-same, getD-set-other}
 use borrow.Author.Tests.{eq-eqb, ne-eqb}
-use Rattle.tree.proofs.Table.{both, below, below-at}
+use Rattle.tree.proofs.Table.{below, below-at}
 use Rattle.printer.specs.Names.{nameBytes, entryIn, mayBegin, mayFollow, allFollow, bare, bitsOf, ruleBits, tableByte, tableFrom}
 use Rattle.printer.specs.Stacks.{EndIs}
 use Rattle.printer.proofs.PiecesWritten.{part-step, part-end}
@@ -44,17 +44,9 @@ bits-first true c = refl
 bits-first false true = refl
 bits-first false false = refl
 
-bits-later : (a c : Bool) → eqb (cond a 3 (cond (cond a true c) 2 0) / 2) 0 ≡ not (cond a true c)
-bits-later true c = refl
-bits-later false true = refl
-bits-later false false = refl
-
 begins-by : (b : ℕ) → eqb (bitsOf b % 2) 1 ≡ mayBegin b
 unfolding bitsOf
 begins-by b = bits-first (mayBegin b) (mayFollow b)
-
-abbrev follows-test : ℕ → Bool
-follows-test b = both (eqb (bitsOf b / 2) 0) (mayFollow b)
 
 followRight : ℕ → Bool
 followRight b = cond (eqb (bitsOf b / 2) 0) (not (mayFollow b)) (mayFollow b)
