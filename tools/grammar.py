@@ -1,7 +1,8 @@
 #!/usr/bin/env python3
-"""Prints the numbers of crates/tree/src/grammar.rt, worked out from crates/tree/specs/Grammar.antt.
+"""Prints the numbers of crates/tree/src/grammar.rt and crates/rewritten/src/tables.rt, worked out from crates/tree/specs/Grammar.antt.
 
-The proofs of `kinds`, `row` and `maps` check each number, so nothing rests on this script.
+The proofs of `kinds`, `row` and `maps`, and those of proofs/TablesRight in crate rewritten, check each number, so nothing
+rests on this script.
 """
 import os
 import re
@@ -32,28 +33,46 @@ def digit(text, places):
     return code + 512 * (word == "may")
 
 
+def array(name, entries, size, other):
+    """An array, with `other` where there is no entry."""
+    print("%s:" % name)
+    for i in range(size):
+        print("    0x%x," % entries.get(i, other))
+
+
 def main():
     text = open(SPEC, encoding="utf-8").read()
     lists = {n: re.findall(r"\d+", body) for n, body in re.findall(r"^(\w+) = (\d+ ∷.*)$", text, re.M)}
     places = {n: int(v) for n, v in re.findall(r"^abbrev pub (?:\w+) : ℕ\n(\w+) = (\d+)$", text, re.M)}
+    standing, plans, maps = {}, {}, {}
     print("kinds:")
     for number, line in enumerate(block(text, "places")):
         forms = [f for word in re.findall(r"\w+", line) for f in lists.get(word, [word])]
-        print("        %d => 0x%x," % (number, sum(1 << k for k in {kind(int(f)) for f in forms})))
+        kinds = {kind(int(f)) for f in forms}
+        print("        %d => 0x%x," % (number, sum(1 << k for k in kinds)))
+        kinds |= {20} if kinds & {18, 19} else set()
+        kinds |= {21} if 24 in kinds else set()
+        standing[number] = sum(1 << k for k in kinds)
     print("row:")
     for start, name in ((0, "kinds"), (64, "variants")):
         for i, line in enumerate(block(text, name)):
             fields = re.findall(r"(?:must|may) (?:\([^)]*\)|\w+)", line)
-            row = sum(digit(f.replace("(", "").replace(")", ""), places) << 10 * j for j, f in enumerate(fields))
+            digits = [digit(f.replace("(", "").replace(")", ""), places) for f in fields]
+            row = sum(d << 10 * j for j, d in enumerate(digits))
             if row:
                 print("        %d => 0x%x," % (start + i, row))
+                plans[start + i] = sum((d | 512) << 10 * j for j, d in enumerate(digits))
     print("maps:")
     for start, name in ((0, "kinds"), (64, "variants")):
         for i, line in enumerate(block(text, name)):
             words = re.findall(r"(must|may) ", line)
             needed = sum(1 << j for j, word in enumerate(words) if word == "must")
             if words:
-                print("        %d => 0x%x," % (start + i, sum(1 << m for m in range(1 << len(words)) if m & needed == needed)))
+                maps[start + i] = sum(1 << m for m in range(1 << len(words)) if m & needed == needed)
+                print("        %d => 0x%x," % (start + i, maps[start + i]))
+    array("PLACES", standing, 33, 0)
+    array("PLANS", plans, 72, 0)
+    array("MAPS", maps, 72, 1)
 
 
 if __name__ == "__main__":

@@ -17,8 +17,9 @@ use Rattle.tree.specs.Rows.{fieldsIn}
 use Rattle.tree.specs.Read.{Got}
 use Rattle.tree.specs.Answer.{Peeked, Wide}
 use Rattle.rewritten.specs.Events.{Event}
+use Rattle.rewritten.specs.Pending.{sorts}
 use Rattle.rewritten.specs.Steps.{Planned, comingAt, comingFields, comingItems, comingPiece, comingNode, listSort, Took}
-use Rattle.rewritten.specs.Look.{LeafIs, leafFor, stepAfter, endFor, deeper, eventFor, cursorFor, framesFor, nextFor, stepFor, Ahead, isClosed, restOf}
+use Rattle.rewritten.specs.Look.{LeafIs, leafFor, stepAfter, endFor, deeper, eventFor, cursorFor, framesFor, nextFor, stepFor, Ahead, Coded, isClosed, restOf}
 use Rattle.rewritten.specs.declared.step.Cursor.{Cursor}
 use Rattle.rewritten.specs.declared.step.Event as told
 use Rattle.rewritten.specs.declared.step.Step.the-variants.{Next, Refused, Full}
@@ -31,6 +32,14 @@ use Rattle.rewritten.proofs.Moves.{took-as, enter-wrong, enter-unfit, e
 -- what is pending may be said in another way
 pub ahead-as : {l : List ℕ} {at rest : ℕ} {g h : List ℕ → ℕ → Got (List Event)} {r : ℕ} → ((fs : List ℕ) (deep : ℕ) → g fs deep ≡ h fs deep) → Ahead l at rest h r → Ahead l at rest g r
 ahead-as e a = record { so = λ fs deep. took-as (e fs deep) (a .so fs deep); fits = a .fits; low = a .low }
+
+-- what was found has its code
+pub coded : (code n : ℕ) → code < 16 → Coded code (code + 16 * n)
+coded code n h = λ _. omega arith
+
+-- nothing was found
+pub coded-none : (code : ℕ) → Coded code 0
+coded-none code = λ n. absurd (n refl)
 
 module _ (l : List ℕ) (at rest : ℕ) (g : List ℕ → ℕ → Got (List Event)) where
   -- a code with a number above it
@@ -54,7 +63,7 @@ module _ (l : List ℕ) (at : ℕ) where
     pub node-wrong : form ≡ 0 → (rest : ℕ) → Ahead l at rest (λ fs deep. comingNode l fs p at deep rest) 0
     node-wrong z rest = ahead l at rest (λ fs deep. comingNode l fs p at deep rest) 0 0 (omega arith) (λ fs deep. enter-wrong l fs p at deep rest kind form look found z) (λ n. absurd (n refl))
 
-    module _ (stands : form ≡ 0 → ⊥) (map row : ℕ) (next : Peeked l (at + 1) map) (rowed : fieldsIn row ≡ fieldsOf form) where
+    module _ (stands : form ≡ 0 → ⊥) (map row : ℕ) (next : Peeked l (at + 1) map) (rowed : sorts (fieldsIn row) ≡ sorts (fieldsOf form)) where
       pub node-unfit : mapOk (fieldsOf form) map ≡ false → (rest : ℕ) → Ahead l at rest (λ fs deep. comingNode l fs p at deep rest) 0
       node-unfit bad rest = ahead l at rest (λ fs deep. comingNode l fs p at deep rest) 0 0 (omega arith) (λ fs deep. enter-unfit l fs p at deep rest kind form look found stands map row next rowed bad) (λ n. absurd (n refl))
 

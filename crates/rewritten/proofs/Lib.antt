@@ -5,7 +5,9 @@ pub mod RewrittenForms
 pub mod Frames
 pub mod Moves
 pub mod Ahead
+pub mod TablesRight
 pub mod Pass
 pub mod Marks
 pub mod MarksReader
+pub mod Tasks
 pub mod RewrittenExact

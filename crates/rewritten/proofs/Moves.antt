@@ -11,7 +11,7 @@ use lib.Dec.{eqb, ltb}
 use lib.ListN.{length, getD, set}
 use lib.Seq.{getD-set-same, getD-set-other}
 use borrow.Author.Tests.{lt-ltb, le-ltb, eq-eqb, ne-eqb, ltb-true, eqb-true}
-use Rattle.tree.specs.Grammar.{Sort, Field, formAt, fieldsOf, mapOk}
+use Rattle.tree.specs.Grammar.{Sort, formAt, fieldsOf, mapOk}
 use Rattle.tree.specs.Grammar.Sort.{child, chosen, many, gaps, number}
 use Rattle.tree.specs.Grammar.Stage.{rewritten}
 use Rattle.tree.specs.Rows.{sortFrom, sortOf, fieldsIn}
@@ -32,7 +32,7 @@ use Rattle.rewritten.specs.declared.step.Event.the-variants.{Begins, Ope
 use Rattle.rewritten.specs.declared.step.Step.{Step}
 use Rattle.rewritten.specs.declared.step.Step.the-variants.{Next, Done, Refused, Full}
 use Rattle.rewritten.proofs.Coming.{led, entered, field-next, item-next, item-hole, items-plain, items-other, items-none, node-ends, list-closes, all-done, node-wrong, node-unfit, node-fits, piece-list, piece-child, piece-chosen}
-use Rattle.rewritten.proofs.Frames.{sorts-none, sorts-first, row-small}
+use Rattle.rewritten.proofs.Frames.{sorts-none, sorts-first, row-small, planned-stands}
 
 -- ---- frames
 
@@ -83,7 +83,7 @@ back Full = refl
 pub step-is : {r s : Step} → StepIs r s → r ≡ s
 step-is {r} {s} h = sym (back r) ∙ (λ i. stepWith (h .number i) (h .values i)) ∙ back s
 
-took : {l fs later : List ℕ} {g : Got (List Event)} {at deep : ℕ} {r : Step} → Stepped l fs later g at deep r → Took l fs later g at deep r
+pub took : {l fs later : List ℕ} {g : Got (List Event)} {at deep : ℕ} {r : Step} → Stepped l fs later g at deep r → Took l fs later g at deep r
 took {l} {fs} {later} {g} {at} {deep} {r} so = record { number = go r so; so = so }
   where
     go : (r : Step) → Stepped l fs later g at deep r → (n : ℕ) → stepNumber r ≡ some (suc n) → gotNumber g ≡ suc n
@@ -138,7 +138,7 @@ module _ (l fs : List ℕ) where
     pub enter-wrong : form ≡ 0 → Took l fs fs (comingNode l fs p at deep rest) at deep Refused
     enter-wrong z = took (around (node-wrong l p at 1 (sym form-is ∙ z)), refl)
 
-    module _ (stands : form ≡ 0 → ⊥) (map row : ℕ) (next : Peeked l (at + 1) map) (rowed : fieldsIn row ≡ fieldsOf form) where
+    module _ (stands : form ≡ 0 → ⊥) (map row : ℕ) (next : Peeked l (at + 1) map) (rowed : sorts (fieldsIn row) ≡ sorts (fieldsOf form)) where
       pub enter-unfit : mapOk (fieldsOf form) map ≡ false → Took l fs fs (comingNode l fs p at deep rest) at deep Refused
       enter-unfit bad = took (around (node-unfit l p at 1 kind form map (look .value) form-is (next .value) (omega arith) bad), refl)
 
@@ -152,7 +152,7 @@ module _ (l fs : List ℕ) where
       unfolding comingAt comes
       enter-seen ok room r plan =
           let i : at + 1 < length l = enter-inside ok in
-          let t : taskOf (r * 2) ≡ slots (standing (fieldsOf form) map) = task-even r ∙ ap slots (plan .is (row-small row form rowed)) ∙ ap (λ (gs : List Field). slots (standing gs map)) rowed in
+          let t : taskOf (r * 2) ≡ slots (standing (fieldsOf form) map) = task-even r ∙ ap slots (planned-stands row map r form rowed (row-small row form rowed) plan) in
           took (record {
             is =
                 around refl
@@ -297,8 +297,8 @@ module _ (l fs : List ℕ) where
     pub item-plain : (w % 2 ≡ 1 → ⊥) → comingItems l fs at deep w ≡ comingNode l fs (w / 2 % 32) at deep ((w - 64) * 2 + 1)
     item-plain o = node-next false (ne-eqb (w % 2) 1 o) (items-plain l (w / 2 % 32) ((w - 64) / 64) at 1)
 
-    pub item-other : w % 2 ≡ 1 → (b : ℕ) → Peeked l at b → (b ≡ 0 → ⊥) → comingItems l fs at deep w ≡ comingNode l fs (w / 2 % 32) at deep ((w - 64) * 2 + 1)
-    item-other o b look n = node-next true (eq-eqb (w % 2) 1 o) (items-other l (w / 2 % 32) ((w - 64) / 64) at 1 (λ z. n (look .value ∙ z)))
+    pub item-other : w % 2 ≡ 1 → (byteAt l at ≡ 0 → ⊥) → comingItems l fs at deep w ≡ comingNode l fs (w / 2 % 32) at deep ((w - 64) * 2 + 1)
+    item-other o n = node-next true (eq-eqb (w % 2) 1 o) (items-other l (w / 2 % 32) ((w - 64) / 64) at 1 n)
 
   -- ---- the next field of a node
 

@@ -30,7 +30,7 @@ nowhere : (p : ℕ) → 26 ≤ p → getD places p [] ≡ []
 unfolding places
 nowhere p h = List·getD-eq-default places [] h
 
-no-form-either : (p k : ℕ) → 26 ≤ p → formAt rewritten p k ≡ 0
+pub no-form-either : (p k : ℕ) → 26 ≤ p → formAt rewritten p k ≡ 0
 unfolding formAt formIn allowed also among
 no-form-either p k h = rw (nowhere p h) (same (ltb k 64))
   where

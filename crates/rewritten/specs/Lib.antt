@@ -18,11 +18,14 @@
 --      `rest-refused`. It needs no `concluded`, and a step of its own may be said of the events that are left.
 --   5. What an event is in the bytes says `Onward .stands`: the position, the bounds of each number, where it ends. `Onward .level` says how many
 --      frames are open then: a pass that must know what is around it keeps an array of its own, by cursor.deep.
+--   6. A loop may take each sort of field its own way, with no code to take apart: `task::place_next` tells whether a node comes, and `task::node`,
+--      `look::list`, `text`, `mark`, `byte` and `number` find each. Its laws are those of proofs/Tasks. The tables of `tables` are made once, and lent.
 pub mod Rewritten
 pub mod Events
 pub mod Pending
 pub mod Steps
 pub mod Look
+pub mod Numbers
 pub mod Pass
 pub mod Marks
 pub mod Examples

@@ -6,7 +6,7 @@ use mathlib.Core.Bool.{Bool, true, cond}
 use lib.Dec.{eqb, ltb}
 use lib.ListN.{length, getD, set}
 use Rattle.tree.specs.Grammar.{Sort}
-use Rattle.tree.specs.Read.{Got, byteAt}
+use Rattle.tree.specs.Read.{Got, byteAt, chosenPlace}
 use Rattle.tree.specs.Read.Got.{got, refused}
 use Rattle.tree.specs.Read.Refusal.{notATree}
 use Rattle.rewritten.specs.Events.{Event}
@@ -27,6 +27,14 @@ isClosed top = cond (eqb (top % 2) 0) (eqb top 0) (ltb top 128)
 -- what is left after the next field or item
 abbrev pub restOf : ℕ → ℕ
 restOf top = cond (eqb (top % 2) 0) (top / 2 / 1024 * 2) ((top / 2 - 64) * 2 + 1)
+
+-- the place of the node that comes next, or 33: something else does
+unfoldable pub placeNext : List ℕ → ℕ → ℕ → ℕ
+placeNext tree at top =
+    cond (eqb (top % 2) 1)
+    (cond (eqb (top / 2 % 2) 1) (cond (eqb (byteAt tree at) 0) 33 (top / 4 % 32)) (top / 4 % 32))
+    (cond (eqb (top / 64 % 16) 1) (top / 2 % 32)
+    (cond (eqb (top / 64 % 16) 2) (chosenPlace tree (top / 2 % 32) (top / 2 % 32 + 1) at) 33))
 
 -- ---- a field that holds no node
 
@@ -121,6 +129,10 @@ pub record Ahead (tree : List ℕ) (at rest : ℕ) (g : List ℕ → ℕ → Got
   pub so : (frames : List ℕ) (deep : ℕ) → Took tree frames (framesFor frames deep rest (r % 16)) (g frames deep) at deep (stepFor tree frames at deep rest (r % 16) (r / 16))
   pub fits : (r % 16 ≡ 0 → ⊥) → endFor at (r % 16) (r / 16) ≤ length tree
   pub low : r % 16 < 8
+
+-- what was found, if anything, has this code
+abbrev pub Coded : ℕ → ℕ → Type 0
+Coded code r = (r ≡ 0 → ⊥) → r % 16 ≡ code
 
 -- ---- marks
 

@@ -6,3 +6,5 @@ pub mod plan;
 pub mod read;
 pub mod seen;
 pub mod step;
+pub mod tables;
+pub mod task;

@@ -9,7 +9,7 @@ ghost use mathlib.Core.Bool.{false};
 ghost use Prim.Native.Nat.{ℕ, _*_, _/_, _%_, _+_, _-_, _≤_};
 ghost use Rattle.tree.specs.Grammar.{Sort};
 ghost use Rattle.rewritten.specs.Steps.{comingAt, comingFields, comingItems, comingNode, comingPiece, listSort};
-ghost use Rattle.rewritten.specs.Look.{Ahead, isClosed, restOf, endFor};
+ghost use Rattle.rewritten.specs.Look.{Ahead, Coded, isClosed, restOf, endFor};
 
 // A node that may stand at the place.
 fn node(tree: &[u8], place: usize, at: usize) -> usize
@@ -29,8 +29,8 @@ fn node(tree: &[u8], place: usize, at: usize) -> usize
 }
 
 // A list whose items may stand at the place.
-fn list(tree: &[u8], place: usize, holes: bool, at: usize) -> usize
-    ensures { λ r. ⌜ ((rest : ℕ) → Ahead (now (tree .entry)) at rest (λ frames deep. comingPiece (now (tree .entry)) frames (listSort holes (place % 32)) at deep rest) r) ⌝ }
+pub fn list(tree: &[u8], place: usize, holes: bool, at: usize) -> usize
+    ensures { λ r. ⌜ ((rest : ℕ) → Ahead (now (tree .entry)) at rest (λ frames deep. comingPiece (now (tree .entry)) frames (listSort holes (place % 32)) at deep rest) r) × Coded 2 r ⌝ }
 {
     let n = bytes::wide_at(tree, at);
     if 65535 < n {
@@ -40,8 +40,8 @@ fn list(tree: &[u8], place: usize, holes: bool, at: usize) -> usize
     2 + 16 * (64 * n + place % 32 * 2 + low)
 }
 
-fn text(tree: &[u8], at: usize) -> usize
-    ensures { λ r. ⌜ ((rest : ℕ) → Ahead (now (tree .entry)) at rest (λ frames deep. comingPiece (now (tree .entry)) frames Sort.text at deep rest) r) ⌝ }
+pub fn text(tree: &[u8], at: usize) -> usize
+    ensures { λ r. ⌜ ((rest : ℕ) → Ahead (now (tree .entry)) at rest (λ frames deep. comingPiece (now (tree .entry)) frames Sort.text at deep rest) r) × Coded 3 r ⌝ }
 {
     let n = bytes::wide_at(tree, at);
     if 65535 < n {
@@ -54,15 +54,15 @@ fn text(tree: &[u8], at: usize) -> usize
     }
 }
 
-fn mark(tree: &[u8], at: usize) -> usize
-    ensures { λ r. ⌜ ((rest : ℕ) → Ahead (now (tree .entry)) at rest (λ frames deep. comingPiece (now (tree .entry)) frames Sort.mark at deep rest) r) ⌝ }
+pub fn mark(tree: &[u8], at: usize) -> usize
+    ensures { λ r. ⌜ ((rest : ℕ) → Ahead (now (tree .entry)) at rest (λ frames deep. comingPiece (now (tree .entry)) frames Sort.mark at deep rest) r) × Coded 4 r ⌝ }
 {
     let n = bytes::wide_at(tree, at);
     if n < 65536 { 4 + 16 * n } else { 0 }
 }
 
-fn byte(tree: &[u8], low: usize, high: usize, at: usize) -> usize
-    ensures { λ r. ⌜ ((rest : ℕ) → Ahead (now (tree .entry)) at rest (λ frames deep. comingPiece (now (tree .entry)) frames (Sort.byte low high) at deep rest) r) ⌝ }
+pub fn byte(tree: &[u8], low: usize, high: usize, at: usize) -> usize
+    ensures { λ r. ⌜ ((rest : ℕ) → Ahead (now (tree .entry)) at rest (λ frames deep. comingPiece (now (tree .entry)) frames (Sort.byte low high) at deep rest) r) × Coded 5 r ⌝ }
 {
     let b = bytes::peek(tree, at);
     if b < 256 {
@@ -75,8 +75,8 @@ fn byte(tree: &[u8], low: usize, high: usize, at: usize) -> usize
     0
 }
 
-fn number(tree: &[u8], at: usize) -> usize
-    ensures { λ r. ⌜ ((rest : ℕ) → Ahead (now (tree .entry)) at rest (λ frames deep. comingPiece (now (tree .entry)) frames Sort.number at deep rest) r) ⌝ }
+pub fn number(tree: &[u8], at: usize) -> usize
+    ensures { λ r. ⌜ ((rest : ℕ) → Ahead (now (tree .entry)) at rest (λ frames deep. comingPiece (now (tree .entry)) frames Sort.number at deep rest) r) × Coded 6 r ⌝ }
 {
     let n = bytes::wide_at(tree, at);
     if n < 65536 { 6 + 16 * n } else { 0 }

@@ -50,7 +50,7 @@ fn close(frames: &[usize], at: usize, deep: usize, node: bool) -> Step
 }
 
 // A node or a list begins: `rest` goes into the next frame, and `top` is its own.
-fn begun(frames: &mut [usize], end: usize, deep: usize, rest: usize, top: usize) -> Cursor
+pub fn begun(frames: &mut [usize], end: usize, deep: usize, rest: usize, top: usize) -> Cursor
     ensures { λ r. ⌜ (length (now (frames .exit)) ≡ length (now (frames .entry))) × (now (frames .exit) ≡ set (now (frames .entry)) deep rest) × (r ≡ record { at = end; deep = deeper (now (frames .entry)) deep; top = top }) ⌝ }
 {
     if deep < frames.len() {
