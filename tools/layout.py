@@ -1,6 +1,8 @@
 #!/usr/bin/env python3
-# Prints the data of crates/printer/specs/Layout.antt, or the numbers of crates/printer/src/layout.rt and words.rt, from one description.
-# The proofs check each number. Usage: layout.py layout | rows | words
+# Prints the data of crates/printer/specs/Layout.antt, the arrays of crates/printer/src/layout.rt, the numbers of words.rt, or the
+# lists of specs/Rows.antt, from one description; or checks that they stand in those files. The proofs check each number.
+# Usage: layout.py layout | rows | words | lists | check
+import os
 import sys
 WORDS=[
  "", "var ","let ","const ",
@@ -83,17 +85,23 @@ k(41,"ClassMember",S['flags41'],{1:S['init']},{0:'key',1:'value'},0,S['semicolon
 k(42,"StaticBlock",w("static {\n"),{}, {0:'line'},0,w("}"),"`static {⏎`, lines of body, `}`")
 k(43,"Switch",w("switch ("),{2:w(") {\n")},{},0,w("}"),"`switch (‹discriminant›) {⏎`, cases one after another, `}`")
 k(44,"Case",0,{0:w("case "),1:S['default']},{1:'line'},text="`case ‹test›:⏎`, or `default:⏎` without a test; lines of body")
-def line(kind):
+# statements, and expressions that stand in parentheses; a Function is a statement if its byte is 1, and in parentheses if it is 2
+STATEMENTS=[2,3,4,6,7,8,9,11,12,13,43]
+WRAPPED=[17,23,24,27,28,29,30,31,32,33,40]
+FUNCTION=14
+def sort(kind,note):
+    if kind not in K: return 0
     n,h,l,m,c,t,_=K[kind]
-    v=h+128*t+128*128*c
-    for j,x in l.items(): v+=x*128**(3+j)
-    return v
-def manners(kind):
-    return sum(M[x]*16**j for j,x in K[kind][3].items())
-def digits(s):
-    b=s.encode(); v=0
-    for i,x in enumerate(b): v+=x*256**i
-    return v
+    statement=kind in STATEMENTS or (kind==FUNCTION and note==1)
+    wrapped=kind in WRAPPED or (kind==FUNCTION and note==2)
+    return h+128*t+128**2*c+128**3*statement+2*128**3*wrapped
+def slot(kind,field):
+    if kind not in K: return 0
+    n,h,l,m,c,t,_=K[kind]
+    return l.get(field,0)+128*M[m.get(field,'plain')]
+def sorts(): return [sort(kind,0) for kind in range(64)]+[sort(FUNCTION,note) for note in range(4)]
+def slots(): return [slot(kind,field) for kind in range(64) for field in range(8)]
+def lows(): return [chunks(WORDS[i])[0] if i<len(WORDS) else 0 for i in range(128)]
 def chunks(s):
     b=s.encode(); return [sum(x*256**i for i,x in enumerate(b[o:o+8])) for o in range(0,24,8)]
 def bl(s):
@@ -110,9 +118,9 @@ def layout():
     o=[]
     o.append("""-- The layout of every kind as data, in the order of docs/TEXT.md: own bytes, manners of fields, what stands only with a field.
 -- tools/layout.py works the numbers out; ⏎ is a line end.
-use Prim.Native.Nat.{ℕ, zero, suc, _+_, _-_, _*_, _/_, _%_}
-use mathlib.Core.List.{List, [], _∷_, _++_}
-use mathlib.Core.Bool.{Bool, true, false, cond}
+use Prim.Native.Nat.{ℕ, _+_, _-_, _*_, _/_, _%_}
+use mathlib.Core.List.{List, [], _∷_}
+use mathlib.Core.Bool.{cond}
 use lib.Dec.{ltb, eqb}
 use lib.ListN.{getD}
 
@@ -175,29 +183,57 @@ mannerOf kind j = getD ((lineOf kind) .manners) j 0
 """)
     return "\n".join(o)
 
+def number(n):
+    return hex(n) if n else "0"
+
+
+def array(name, kind, numbers):
+    lines = ["const %s: [%s; %d] = [" % (name, kind, len(numbers))]
+    return "\n".join(lines + ["    %s," % number(n) for n in numbers] + ["];", ""])
+
+
+def numbers(name, values, to_a_line):
+    lines = [" ∷ ".join(number(n) for n in values[i : i + to_a_line]) for i in range(0, len(values), to_a_line)]
+    return "%s =\n    %s\n    ∷ []\n" % (name, "\n    ∷ ".join(lines))
+
+
 def rows():
-    for name, f in (("row", line), ("manners", manners)):
-        print(name)
-        for kind in sorted(K):
-            print("        %d => 0x%x," % (kind, f(kind)))
+    return [array("SORTS", "u32", sorts()), array("SLOTS", "u16", slots())]
+
+
+def arms(i):
+    keyed = [(j, chunks(text)[i]) for j, text in enumerate(WORDS)]
+    return "    match id {\n%s        _ => 0,\n    }\n" % "".join("        %d => %s,\n" % (j, hex(c)) for j, c in keyed if c)
 
 
 def words():
-    for i, name in enumerate(("low", "middle", "high")):
-        print(name)
-        for j, text in enumerate(WORDS):
-            c = chunks(text)[i]
-            if c:
-                print("        %d => %s," % (j, hex(c)))
+    return [array("WORDS", "usize", lows()), arms(1), arms(2)]
+
+
+def lists():
+    return [numbers("sortNumbers", sorts(), 8), numbers("slotNumbers", slots(), 8), numbers("wordNumbers", lows(), 4)]
+
+
+# Each part stands in its file.
+def check():
+    crate = os.path.join(os.path.dirname(os.path.abspath(__file__)), "..", "crates", "printer")
+    parts = {"specs/Layout.antt": [layout()], "specs/Rows.antt": lists(), "src/layout.rt": rows(), "src/words.rt": words()}
+    for name in sorted(parts):
+        with open(os.path.join(crate, name), encoding="utf-8") as f:
+            text = f.read()
+        for part in parts[name]:
+            if part not in text:
+                sys.exit("%s differs from: %s" % (name, part.split("\n")[0]))
+        print("%s: %d parts" % (name, len(parts[name])))
 
 
 if __name__ == "__main__":
     what = sys.argv[1] if len(sys.argv) > 1 else ""
     if what == "layout":
         sys.stdout.write(layout())
-    elif what == "rows":
-        rows()
-    elif what == "words":
-        words()
+    elif what == "check":
+        check()
+    elif what in ("rows", "words", "lists"):
+        print("\n".join({"rows": rows, "words": words, "lists": lists}[what]()))
     else:
-        sys.exit("usage: layout.py layout | rows | words")
+        sys.exit("usage: layout.py layout | rows | words | lists | check")

@@ -1,4 +1,4 @@
--- What the code has in its arrays: frames as numbers, quasis as positions, notes.
+-- What the code has in its arrays: frames as numbers, quasis as positions.
 -- Assumes nothing.
 use mathlib.Core.Path.{_≡_, refl, sym, ap, _∙_}
 use mathlib.Core.List.{List, [], _∷_, _++_}
@@ -6,13 +6,13 @@ use Prim.Native.Nat.{ℕ, zero, suc, _+_, _-_, _*_, _/_, _%_, _<_, _≤_}
 use native.Mathlib.Omega.{arith}
 use native.Mathlib.Numerals.{add-one}
 use native.Mathlib.Decide.{decLt}
-use lib.ListN.{length, getD, set, take, drop, length-append, List·getD-append, List·getD-eq-default, drop-of-length-le}
+use lib.ListN.{length, getD, set, drop, length-append, List·getD-append, List·getD-eq-default, drop-of-length-le}
 use lib.Seq.{getD-set-same, getD-set-other, getD-append-add, drop-cons}
 use borrow.Author.Tests.{lt-ltb, le-ltb}
 use Rattle.printer.specs.Text.{Cell, cellText, leftOver}
 use Rattle.printer.specs.Text.Cell.{quasi, stop}
-use Rattle.printer.specs.Machine.{Open, cellAt, cellsFrom, stepOver, headNote, restNotes}
-use Rattle.printer.specs.Stacks.{frameIn, nextIn, openIn, packedFrame, opensIn, cellIn, heldIn, Buffer, write}
+use Rattle.printer.specs.Machine.{Open, cellAt, cellsFrom, stepOver}
+use Rattle.printer.specs.Stacks.{frameIn, nextIn, openIn, packedFrame, opensIn, textAt, cellIn, heldIn, Buffer, write}
 use Rattle.printer.specs.Turns.{startOf, Small}
 use Rattle.printer.specs.declared.frame.Frame.{Frame}
 use Rattle.printer.proofs.PiecesWritten.{write-append}
@@ -52,7 +52,7 @@ m128 a b h = omega arith
 mm : (a : ℕ) → a < 16777216 → a % 16777216 % 16777216 ≡ a
 mm a h = omega arith
 
-pub packs : (f : Frame) (x : ℕ) → Small f x → openIn (packedFrame f x) ≡ record { frame = f; next = x }
+packs : (f : Frame) (x : ℕ) → Small f x → openIn (packedFrame f x) ≡ record { frame = f; next = x }
 unfolding packedFrame
 packs f x s =
     go (f .kind) (f .map) (f .note) (f .rem) (f .seen) (f .list) (f .how) x (s .kind) (s .map) (s .note) (s .rem) (s .seen) (s .list) (s .how) (s .next)
@@ -80,6 +80,10 @@ packs f x s =
 pub unpacks : (v : ℕ) → Small (frameIn v) (nextIn v)
 unpacks v = record { kind = omega arith; map = omega arith; note = omega arith; how = omega arith; seen = omega arith; rem = omega arith; list = omega arith; next = omega arith }
 
+-- a number that is a packed frame
+pub unpacked : (v : ℕ) (f : Frame) (x : ℕ) → v ≡ packedFrame f x → Small f x → openIn v ≡ record { frame = f; next = x }
+unpacked v f x e w = ap openIn e ∙ packs f x w
+
 opens-kept : (st : List ℕ) (n m v : ℕ) → n ≤ m → opensIn (set st m v) n ≡ opensIn st n
 unfolding opensIn
 opens-kept st zero m v h = refl
@@ -97,44 +101,27 @@ unfolding opensIn
 popped st zero h = absurd (omega arith)
 popped st (suc n) h = let e : n ≡ suc n - 1 = omega arith in ap (λ (m : ℕ). openIn (getD st m 0) ∷ opensIn st m) e
 
--- ---- notes
-
-pub head-note : (l : List ℕ) (n : ℕ) → headNote (drop n l) ≡ getD l n 0
-head-note [] zero = refl
-head-note [] (suc n) = refl
-head-note (x ∷ l) zero = refl
-head-note (x ∷ l) (suc n) = head-note l n
-
-rest-notes-suc : (l : List ℕ) (n : ℕ) → restNotes (drop n l) ≡ drop (suc n) l
-rest-notes-suc [] zero = refl
-rest-notes-suc [] (suc n) = refl
-rest-notes-suc (x ∷ l) zero = refl
-rest-notes-suc (x ∷ l) (suc n) = rest-notes-suc l n
-
-pub rest-notes : (l : List ℕ) (n : ℕ) → drop (n + 1) l ≡ restNotes (drop n l)
-rest-notes l n = ap (λ (m : ℕ). drop m l) (add-one n) ∙ sym (rest-notes-suc l n)
-
 -- ---- quasis
 
-module _ (tree starts sizes : List ℕ) where
-  pub held-length : (n : ℕ) → length (heldIn tree starts sizes n) ≡ n
+module _ (tree starts : List ℕ) where
+  pub held-length : (n : ℕ) → length (heldIn tree starts n) ≡ n
   unfolding heldIn
   held-length zero = refl
-  held-length (suc n) = length-append (heldIn tree starts sizes n) (cellIn tree (getD starts n 0) (getD sizes n 0) ∷ []) ∙ (let e : length (heldIn tree starts sizes n) ≡ n = held-length n in omega arith)
+  held-length (suc n) = length-append (heldIn tree starts n) (cellIn tree (getD starts n 0) ∷ []) ∙ (let e : length (heldIn tree starts n) ≡ n = held-length n in omega arith)
 
-  pub held-at : (n i : ℕ) → i < n → getD (heldIn tree starts sizes n) i stop ≡ cellIn tree (getD starts i 0) (getD sizes i 0)
+  held-at : (n i : ℕ) → i < n → getD (heldIn tree starts n) i stop ≡ cellIn tree (getD starts i 0)
   unfolding heldIn
   held-at zero i h = absurd (omega arith)
   held-at (suc n) i h = elim (decLt i n) [
-    | yes g ↦ List·getD-append (heldIn tree starts sizes n) (cellIn tree (getD starts n 0) (getD sizes n 0) ∷ []) stop i (omega (arith, held-length n)) ∙ held-at n i g
+    | yes g ↦ List·getD-append (heldIn tree starts n) (cellIn tree (getD starts n 0) ∷ []) stop i (omega (arith, held-length n)) ∙ held-at n i g
     | no g ↦ let z : i ≡ n = omega arith in
-        ap (λ (j : ℕ). getD (heldIn tree starts sizes n ++ (cellIn tree (getD starts n 0) (getD sizes n 0) ∷ [])) j stop) (z ∙ sym (held-length n) ∙ (let y : length (heldIn tree starts sizes n) ≡ length (heldIn tree starts sizes n) + 0 = omega arith in y))
-        ∙ getD-append-add (heldIn tree starts sizes n) (cellIn tree (getD starts n 0) (getD sizes n 0) ∷ []) 0 stop
-        ∙ ap (λ (j : ℕ). cellIn tree (getD starts j 0) (getD sizes j 0)) (sym z)
+        ap (λ (j : ℕ). getD (heldIn tree starts n ++ (cellIn tree (getD starts n 0) ∷ [])) j stop) (z ∙ sym (held-length n) ∙ (let y : length (heldIn tree starts n) ≡ length (heldIn tree starts n) + 0 = omega arith in y))
+        ∙ getD-append-add (heldIn tree starts n) (cellIn tree (getD starts n 0) ∷ []) 0 stop
+        ∙ ap (λ (j : ℕ). cellIn tree (getD starts j 0)) (sym z)
   ]
 
-  pub held-past : (n i : ℕ) → n ≤ i → getD (heldIn tree starts sizes n) i stop ≡ stop
-  held-past n i h = List·getD-eq-default (heldIn tree starts sizes n) stop {n = i} (omega (arith, held-length n))
+  held-past : (n i : ℕ) → n ≤ i → getD (heldIn tree starts n) i stop ≡ stop
+  held-past n i h = List·getD-eq-default (heldIn tree starts n) stop {n = i} (omega (arith, held-length n))
 
 -- the quasi at a place, by where it starts
 pub start-none : (starts : List ℕ) (count next : ℕ) → next ≡ 0 → 0 ≡ startOf starts count next
@@ -149,64 +136,71 @@ pub start-past : (starts : List ℕ) (count next : ℕ) → (next ≡ 0 → ⊥)
 start-past starts count zero n h = absurd (n refl)
 start-past starts count (suc i) n h = rw (le-ltb i count (omega arith))
 
-cell-by : (tree : List ℕ) (s n : ℕ) → s ≡ 0 → cellIn tree s n ≡ stop
-cell-by tree zero n e = refl
-cell-by tree (suc s) n e = absurd (omega arith)
+cell-by : (tree : List ℕ) (s : ℕ) → s ≡ 0 → cellIn tree s ≡ stop
+cell-by tree zero e = refl
+cell-by tree (suc s) e = absurd (omega arith)
 
-cell-some : (tree : List ℕ) (s n : ℕ) → (s ≡ 0 → ⊥) → cellIn tree s n ≡ quasi (take n (drop (s - 1) tree))
-cell-some tree zero n e = absurd (e refl)
-cell-some tree (suc s) n e = let z : s ≡ suc s - 1 = omega arith in ap (λ (j : ℕ). quasi (take n (drop j tree))) z
+cell-some : (tree : List ℕ) (s : ℕ) → (s ≡ 0 → ⊥) → cellIn tree s ≡ quasi (textAt tree (s - 1))
+cell-some tree zero e = absurd (e refl)
+cell-some tree (suc s) e = let z : s ≡ suc s - 1 = omega arith in ap (λ (j : ℕ). quasi (textAt tree j)) z
 
-module _ (tree starts sizes : List ℕ) (count : ℕ) where
-  cell-at : (next : ℕ) → cellAt (heldIn tree starts sizes count) next ≡ cellIn tree (startOf starts count next) (getD sizes (next - 1) 0)
+module _ (tree starts : List ℕ) (count : ℕ) where
+  cell-at : (next : ℕ) → cellAt (heldIn tree starts count) next ≡ cellIn tree (startOf starts count next)
   cell-at zero = refl
   cell-at (suc i) = elim (decLt i count) [
-    | yes h ↦ held-at tree starts sizes count i h ∙ (let e : i ≡ suc i - 1 = omega arith in rw (lt-ltb i count h) (ap (λ (j : ℕ). cellIn tree (getD starts i 0) (getD sizes j 0)) e))
-    | no h ↦ held-past tree starts sizes count i (omega arith) ∙ rw (le-ltb i count (omega arith)) refl
+    | yes h ↦ held-at tree starts count i h ∙ rw (lt-ltb i count h) refl
+    | no h ↦ held-past tree starts count i (omega arith) ∙ rw (le-ltb i count (omega arith)) refl
   ]
 
-  pub quasi-none : (next : ℕ) → startOf starts count next ≡ 0 → cellText (cellAt (heldIn tree starts sizes count) next) ≡ []
-  quasi-none next e = ap cellText (cell-at next ∙ cell-by tree (startOf starts count next) (getD sizes (next - 1) 0) e)
+  pub quasi-none : (next : ℕ) → startOf starts count next ≡ 0 → cellText (cellAt (heldIn tree starts count) next) ≡ []
+  quasi-none next e = ap cellText (cell-at next ∙ cell-by tree (startOf starts count next) e)
 
-  pub quasi-some : (next s n : ℕ) → s ≡ startOf starts count next → n ≡ getD sizes (next - 1) 0 → (s ≡ 0 → ⊥) → cellText (cellAt (heldIn tree starts sizes count) next) ≡ take n (drop (s - 1) tree)
-  quasi-some next s n e d z =
-      ap cellText (cell-at next)
-      ∙ ap (λ (x : ℕ). cellText (cellIn tree x (getD sizes (next - 1) 0))) (sym e)
-      ∙ ap (λ (m : ℕ). cellText (cellIn tree s m)) (sym d)
-      ∙ ap cellText (cell-some tree s n z)
+  pub quasi-some : (next s : ℕ) → s ≡ startOf starts count next → (s ≡ 0 → ⊥) → cellText (cellAt (heldIn tree starts count) next) ≡ textAt tree (s - 1)
+  quasi-some next s e z = ap cellText (cell-at next ∙ ap (cellIn tree) (sym e) ∙ cell-some tree s z)
 
-  pub over-none : (next : ℕ) → startOf starts count next ≡ 0 → stepOver (cellAt (heldIn tree starts sizes count) next) next ≡ next
-  over-none next e = ap (λ (c : Cell). stepOver c next) (cell-at next ∙ cell-by tree (startOf starts count next) (getD sizes (next - 1) 0) e)
+  pub over-none : (next : ℕ) → startOf starts count next ≡ 0 → stepOver (cellAt (heldIn tree starts count) next) next ≡ next
+  over-none next e = ap (λ (c : Cell). stepOver c next) (cell-at next ∙ cell-by tree (startOf starts count next) e)
 
-  pub over-some : (next : ℕ) → (startOf starts count next ≡ 0 → ⊥) → stepOver (cellAt (heldIn tree starts sizes count) next) next ≡ next + 1
-  over-some next z = ap (λ (c : Cell). stepOver c next) (cell-at next ∙ cell-some tree (startOf starts count next) (getD sizes (next - 1) 0) z) ∙ sym (add-one next)
+  pub over-some : (next : ℕ) → (startOf starts count next ≡ 0 → ⊥) → stepOver (cellAt (heldIn tree starts count) next) next ≡ next + 1
+  over-some next z = ap (λ (c : Cell). stepOver c next) (cell-at next ∙ cell-some tree (startOf starts count next) z) ∙ sym (add-one next)
 
   pub past-none : (next : ℕ) → count < next → startOf starts count next ≡ 0
   past-none zero h = refl
   past-none (suc i) h = rw (le-ltb i count (omega arith)) refl
 
+  -- the quasi after it has a small place too
+  pub over-small : (next : ℕ) → count < 65536 → next < 16777216 → stepOver (cellAt (heldIn tree starts count) next) next < 16777216
+  over-small next h g = elim (decLt count next) [
+    | yes l ↦ rw (over-none next (past-none next l)) g
+    | no l ↦ go (omega arith) (cellAt (heldIn tree starts count) next)
+  ]
+    where
+      go : next ≤ count → (c : Cell) → stepOver c next < 16777216
+      go l (quasi bs) = omega arith
+      go l stop = g
+
   -- all that are left from i on
-  pub left-stop : (b : Buffer) (i : ℕ) → i < count → getD starts i 0 ≡ 0 → b ≡ write b (leftOver (drop i (heldIn tree starts sizes count)))
+  pub left-stop : (b : Buffer) (i : ℕ) → i < count → getD starts i 0 ≡ 0 → b ≡ write b (leftOver (drop i (heldIn tree starts count)))
   unfolding leftOver write
   left-stop b i h e =
-      let d : drop i (heldIn tree starts sizes count) ≡ stop ∷ drop (suc i) (heldIn tree starts sizes count) =
-      drop-cons (heldIn tree starts sizes count) i stop (omega (arith, held-length tree starts sizes count))
-      ∙ ap (λ (c : Cell). c ∷ drop (suc i) (heldIn tree starts sizes count)) (held-at tree starts sizes count i h ∙ cell-by tree (getD starts i 0) (getD sizes i 0) e) in
+      let d : drop i (heldIn tree starts count) ≡ stop ∷ drop (suc i) (heldIn tree starts count) =
+      drop-cons (heldIn tree starts count) i stop (omega (arith, held-length tree starts count))
+      ∙ ap (λ (c : Cell). c ∷ drop (suc i) (heldIn tree starts count)) (held-at tree starts count i h ∙ cell-by tree (getD starts i 0) e) in
       ap (λ (l : List Cell). write b (leftOver l)) (sym d)
 
-  pub left-one : (b : Buffer) (i : ℕ) → i < count → (getD starts i 0 ≡ 0 → ⊥) → write (write b (take (getD sizes i 0) (drop (getD starts i 0 - 1) tree))) (leftOver (drop (i + 1) (heldIn tree starts sizes count))) ≡ write b (leftOver (drop i (heldIn tree starts sizes count)))
+  pub left-one : (b : Buffer) (i : ℕ) → i < count → (getD starts i 0 ≡ 0 → ⊥) → write (write b (textAt tree (getD starts i 0 - 1))) (leftOver (drop (i + 1) (heldIn tree starts count))) ≡ write b (leftOver (drop i (heldIn tree starts count)))
   unfolding leftOver
   left-one b i h z =
-      let d : drop i (heldIn tree starts sizes count) ≡ quasi (take (getD sizes i 0) (drop (getD starts i 0 - 1) tree)) ∷ drop (i + 1) (heldIn tree starts sizes count) =
-      drop-cons (heldIn tree starts sizes count) i stop (omega (arith, held-length tree starts sizes count))
-      ∙ ap (λ (c : Cell). c ∷ drop (suc i) (heldIn tree starts sizes count)) (held-at tree starts sizes count i h ∙ cell-some tree (getD starts i 0) (getD sizes i 0) z)
-      ∙ ap (λ (j : ℕ). quasi (take (getD sizes i 0) (drop (getD starts i 0 - 1) tree)) ∷ drop j (heldIn tree starts sizes count)) (sym (add-one i)) in
-      sym (write-append b (take (getD sizes i 0) (drop (getD starts i 0 - 1) tree)) (leftOver (drop (i + 1) (heldIn tree starts sizes count))))
+      let d : drop i (heldIn tree starts count) ≡ quasi (textAt tree (getD starts i 0 - 1)) ∷ drop (i + 1) (heldIn tree starts count) =
+      drop-cons (heldIn tree starts count) i stop (omega (arith, held-length tree starts count))
+      ∙ ap (λ (c : Cell). c ∷ drop (suc i) (heldIn tree starts count)) (held-at tree starts count i h ∙ cell-some tree (getD starts i 0) z)
+      ∙ ap (λ (j : ℕ). quasi (textAt tree (getD starts i 0 - 1)) ∷ drop j (heldIn tree starts count)) (sym (add-one i)) in
+      sym (write-append b (textAt tree (getD starts i 0 - 1)) (leftOver (drop (i + 1) (heldIn tree starts count))))
       ∙ ap (λ (l : List Cell). write b (leftOver l)) (sym d)
 
-  pub left-end : (b : Buffer) (i : ℕ) → count ≤ i → b ≡ write b (leftOver (drop i (heldIn tree starts sizes count)))
+  pub left-end : (b : Buffer) (i : ℕ) → count ≤ i → b ≡ write b (leftOver (drop i (heldIn tree starts count)))
   unfolding leftOver write
-  left-end b i h = ap (λ (l : List Cell). write b (leftOver l)) (sym (drop-of-length-le (heldIn tree starts sizes count) {i = i} (omega (arith, held-length tree starts sizes count))))
+  left-end b i h = ap (λ (l : List Cell). write b (leftOver l)) (sym (drop-of-length-le (heldIn tree starts count) {i = i} (omega (arith, held-length tree starts count))))
 
 pub cells-some : (held : List Cell) (x : ℕ) → (x ≡ 0 → ⊥) → cellsFrom held x ≡ drop (x - 1) held
 cells-some held zero n = absurd (n refl)

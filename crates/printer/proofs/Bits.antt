@@ -2,13 +2,16 @@
 -- Assumes nothing.
 use mathlib.Core.Path.{_≡_, refl, sym, ap, _∙_}
 use mathlib.Core.Bool.{Bool, true, false}
-use Prim.Native.Nat.{ℕ, zero, suc, _+_, _-_, _*_, _/_, _%_, _<_, _≤_}
+use Prim.Native.Nat.{ℕ, zero, suc, _+_, _-_, _*_, _/_, _%_, _^_, _<_, _≤_}
 use native.Mathlib.Omega.{arith}
 use native.Mathlib.Numerals.{add-one}
 use native.Mathlib.Decide.{decLt}
+use native.Mathlib.Nat.{pow-succ'}
 use lib.Dec.{eqb}
+use lib.Count.{trailingZeros, under, trailing-le}
 use borrow.Author.Tests.{eq-eqb, ne-eqb}
-use Rattle.printer.specs.Places.{lowestFrom, lowest, withoutFrom, without}
+use Rattle.printer.specs.Places.{lowestFrom, lowest, withoutFrom, without, fieldIn}
+use Rattle.printer.specs.Stacks.{frameIn}
 
 pickLow : Bool → Bool → ℕ → ℕ
 pickLow true b x = 0
@@ -109,28 +112,91 @@ pub without-less : (r : ℕ) → without r ≤ r
 unfolding without
 without-less r = without-under r r
 
--- ---- the first four bits at once
+low-under : (f r : ℕ) → lowestFrom f r ≤ f
+unfolding lowestFrom pickLow
+low-under zero r = omega arith
+low-under (suc f) r = rw (low-step f r) (go (eqb r 0) (eqb (r % 2) 0) (lowestFrom f (r / 2)) (low-under f (r / 2)))
+  where
+    go : (a b : Bool) (x : ℕ) → x ≤ f → pickLow a b x ≤ suc f
+    go true b x h = omega arith
+    go false true x h = omega arith
+    go false false x h = omega arith
 
-pub lowest-first : (r : ℕ) → r % 2 ≡ 1 → lowest r ≡ 0
-lowest-first r e = lowest-odd r (λ z. absurd (omega (arith, e, z))) (λ z. absurd (omega (arith, e, z)))
+lowest-less : (r : ℕ) → lowest r ≤ r
+unfolding lowest
+lowest-less r = low-under r r
 
-pub lowest-second : (r : ℕ) → r % 4 ≡ 2 → lowest r ≡ 1
-lowest-second r e = lowest-even r (λ z. absurd (omega (arith, e, z))) (omega (arith, e)) ∙ ap (λ (x : ℕ). x + 1) (lowest-first (r / 2) (omega (arith, e)))
+-- ---- the same by the zeros below the lowest bit
 
-pub lowest-third : (r : ℕ) → r % 8 ≡ 4 → lowest r ≡ 2
-lowest-third r e = lowest-even r (λ z. absurd (omega (arith, e, z))) (omega (arith, e)) ∙ ap (λ (x : ℕ). x + 1) (lowest-second (r / 2) (omega (arith, e)))
+record Trailing (r t : ℕ) : Type 0 where
+  pub low : t ≡ lowest r
+  pub rest : r - 2 ^ t ≡ without r
+  pub within : 2 ^ t ≤ r
 
-pub lowest-fourth : (r : ℕ) → r % 16 ≡ 8 → lowest r ≡ 3
-lowest-fourth r e = lowest-even r (λ z. absurd (omega (arith, e, z))) (omega (arith, e)) ∙ ap (λ (x : ℕ). x + 1) (lowest-third (r / 2) (omega (arith, e)))
+trailing-even : (r t : ℕ) → (r ≡ 0 → ⊥) → r % 2 ≡ 0 → Trailing (r / 2) t → Trailing r (suc t)
+trailing-even r t n e p =
+    let w : 2 ^ suc t ≡ 2 * 2 ^ t = pow-succ' 2 t in
+    let a : without r ≡ without (r / 2) * 2 = without-even r n e in
+    let b : r / 2 - 2 ^ t ≡ without (r / 2) = p .rest in
+    let d : 2 ^ t ≤ r / 2 = p .within in
+    record {
+      low = ap suc (p .low) ∙ sym (add-one (lowest (r / 2))) ∙ sym (lowest-even r n e);
+      rest = omega arith;
+      within = omega arith;
+    }
 
-pub without-first : (r : ℕ) → r % 2 ≡ 1 → without r ≡ r - 1
-without-first r e = without-odd r (λ z. absurd (omega (arith, e, z))) (λ z. absurd (omega (arith, e, z)))
+trailing-odd : (r : ℕ) → (r ≡ 0 → ⊥) → (r % 2 ≡ 0 → ⊥) → Trailing r 0
+trailing-odd r n e = record {
+  low = sym (lowest-odd r n e);
+  rest = sym (without-odd r n e);
+  within = by-zero r (λ z. absurd (n z)) (λ h. h);
+}
 
-pub without-second : (r : ℕ) → r % 4 ≡ 2 → without r ≡ r - 2
-without-second r e = let h : (r / 2 - 1) * 2 ≡ r - 2 = omega (arith, e) in without-even r (λ z. absurd (omega (arith, e, z))) (omega (arith, e)) ∙ ap (λ (x : ℕ). x * 2) (without-first (r / 2) (omega (arith, e))) ∙ h
+trailing : (k r : ℕ) → (r ≡ 0 → ⊥) → r < 2 ^ k → Trailing r (trailingZeros k r)
+unfolding trailingZeros
+trailing zero r n h = absurd (n (omega arith))
+trailing (suc k) r n h = go (r % 2) refl (trailing k (r / 2))
+  where
+    go : (d : ℕ) → r % 2 ≡ d → ((r / 2 ≡ 0 → ⊥) → r / 2 < 2 ^ k → Trailing (r / 2) (trailingZeros k (r / 2))) → Trailing r (under d (trailingZeros k (r / 2)))
+    go zero e f =
+        let w : 2 ^ suc k ≡ 2 * 2 ^ k = pow-succ' 2 k in
+        trailing-even r (trailingZeros k (r / 2)) n e (f (λ z. n (omega arith)) (omega arith))
+    go (suc d) e f = trailing-odd r n (λ z. absurd (omega arith))
 
-pub without-third : (r : ℕ) → r % 8 ≡ 4 → without r ≡ r - 4
-without-third r e = let h : (r / 2 - 2) * 2 ≡ r - 4 = omega (arith, e) in without-even r (λ z. absurd (omega (arith, e, z))) (omega (arith, e)) ∙ ap (λ (x : ℕ). x * 2) (without-second (r / 2) (omega (arith, e))) ∙ h
+trailing-below : (k r : ℕ) → (r ≡ 0 → ⊥) → r < 2 ^ k → trailingZeros k r < k
+trailing-below k r n h = elim (decLt (trailingZeros k r) k) [
+  | yes g ↦ g
+  | no g ↦
+      let e : trailingZeros k r ≡ k = omega (arith, trailing-le k r) in
+      let w : 2 ^ k ≤ r = rw e at (trailing k r n h .within) in
+      absurd (omega arith)
+]
 
-pub without-fourth : (r : ℕ) → r % 16 ≡ 8 → without r ≡ r - 8
-without-fourth r e = let h : (r / 2 - 4) * 2 ≡ r - 8 = omega (arith, e) in without-even r (λ z. absurd (omega (arith, e, z))) (omega (arith, e)) ∙ ap (λ (x : ℕ). x * 2) (without-third (r / 2) (omega (arith, e))) ∙ h
+-- a field's number is below 8
+pub lowest-byte : (r : ℕ) → r < 256 → lowest r < 8
+lowest-byte r h =
+    by-zero r (λ z. omega (arith, lowest-zero r z))
+    (λ g. let n : r ≡ 0 → ⊥ = λ z. absurd (omega arith) in rw (← trailing 8 r n h .low) (trailing-below 8 r n h))
+
+-- the number of a packed frame's next field
+pub field-below : (v : ℕ) → fieldIn (frameIn v) < 8
+unfolding fieldIn
+field-below v = lowest-byte (frameIn v .rem) (omega arith)
+
+-- ---- the same of a word
+
+module _ (r : ℕ) (n : r ≡ 0 → ⊥) (h : r < 18446744073709551616) where
+  pub zeros-below : trailingZeros 64 r < 64
+  zeros-below = trailing-below 64 r n h
+
+  pub zeros-low : trailingZeros 64 r ≡ lowest r
+  zeros-low = trailing 64 r n h .low
+
+  pub zeros-less : trailingZeros 64 r ≤ r
+  zeros-less = omega (arith, zeros-low, lowest-less r)
+
+  pub bit-within : 1 * 2 ^ trailingZeros 64 r % 18446744073709551616 ≤ r
+  bit-within = omega (arith, trailing 64 r n h .within)
+
+  pub bit-away : r - 1 * 2 ^ trailingZeros 64 r % 18446744073709551616 ≡ without r
+  bit-away = omega (arith, trailing 64 r n h .within, trailing 64 r n h .rest)

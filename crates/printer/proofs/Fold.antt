@@ -1,4 +1,4 @@
--- The pass over the events of a node adds its text, and leaves what is open as it was.
+-- The pass over the entries of a node adds its text, and leaves what is open as it was.
 -- Assumes nothing.
 use mathlib.Core.Path.{_≡_, refl, sym, ap, _∙_}
 use mathlib.Core.Bool.{Bool, true, false, cond, _||_, _&&_}
@@ -13,16 +13,14 @@ use Rattle.tree.specs.Tree.Node.{node}
 use Rattle.tree.specs.Tree.Fields.{done, absent, field}
 use Rattle.tree.specs.Tree.Piece.{one, list, text, byte, mark, number}
 use Rattle.tree.specs.Tree.Items.{none, hole, item}
-use Rattle.rewritten.specs.Events.{events, eventsFields, eventsPiece, eventsItems}
-use Rattle.rewritten.specs.Events.Event.{ends, closes}
-use Rattle.rewritten.specs.Pass.{folded}
 use Rattle.printer.specs.Layout.{word}
 use Rattle.printer.specs.Places.{mannerIn, past, noting, separator, begun, opening, itemSeen, around, listOpening, listed, unlisted, listClosing, isQuasis, isFilled, leaves, textPast, isQuasi, fieldIn}
 use Rattle.printer.specs.Text.{Cell, noteOf, cellText, first, later, leftOver, aroundNode, afterPiece, heldNode, heldFields, heldPiece, heldItems, quasisFor, quasisAfter, textNode, textFields, textPiece, textItems, outside, textOf}
 use Rattle.printer.specs.Text.Cell.{quasi, stop}
-use Rattle.printer.specs.Machine.{Open, Printing, print, cellAt, cellsFrom, stepOver, nextAround, notesNode, notesFields, notesPiece, notesItems}
+use Rattle.printer.specs.Entries.{Entry, entries, entriesFields, entriesPiece, entriesItems}
+use Rattle.printer.specs.Entries.Entry.{ends, closes}
+use Rattle.printer.specs.Machine.{Open, Printing, print, printAll, cellAt, cellsFrom, stepOver, nextAround}
 use Rattle.printer.specs.declared.frame.Frame.{Frame}
-use Rattle.printer.proofs.BytesNoted.{folded-append}
 
 -- ---- quasis that wait: from place x on qs are held, and a stop behind them
 
@@ -216,79 +214,82 @@ piece-waits f (number n) x h qs z w = waits-more [] w
 
 -- ---- the law
 
-abbrev pub at : Frame → ℕ → List Open → List ℕ → List Cell → List ℕ → Printing
-at f x st ns h o = record { top = f; next = x; stack = st; notes = ns; held = h; out = o }
+pub printAll-append : (s : Printing) (a b : List Entry) → printAll s (a ++ b) ≡ printAll (printAll s a) b
+unfolding printAll
+printAll-append s [] b = refl
+printAll-append s (e ∷ a) b = printAll-append (print s e) a b
+
+abbrev pub at : Frame → ℕ → List Open → List Cell → List ℕ → Printing
+at f x st h o = record { top = f; next = x; stack = st; held = h; out = o }
 
 abbrev opened : Frame → ℕ → Open
 opened f x = record { frame = f; next = x }
 
-alike : {f : Frame} {x : ℕ} {st : List Open} {ns : List ℕ} {h i : List Cell} {o q : List ℕ} → h ≡ i → o ≡ q → at f x st ns h o ≡ at f x st ns i q
-alike {f} {x} {st} {ns} {h} {i} {o} {q} d e = ap (λ (c : List Cell). at f x st ns c o) d ∙ ap (λ (t : List ℕ). at f x st ns i t) e
+alike : {f : Frame} {x : ℕ} {st : List Open} {h i : List Cell} {o q : List ℕ} → h ≡ i → o ≡ q → at f x st h o ≡ at f x st i q
+alike {f} {x} {st} {h} {i} {o} {q} d e = ap (λ (c : List Cell). at f x st c o) d ∙ ap (λ (t : List ℕ). at f x st i t) e
 
 twice : (b : Bool) (x y : ℕ) → cond b (cond b x y) y ≡ cond b x y
 twice true x y = refl
 twice false x y = refl
 
-closes-printed : (f : Frame) (s x : ℕ) (w : Open) (st : List Open) (ns : List ℕ) (h : List Cell) (o : List ℕ) (qs : List Cell) → cond (leaves (at-item f s)) (leftOver (cellsFrom h x)) [] ≡ cond (leaves (at-item f s)) (leftOver qs) [] → folded print (at (at-item f s) x (w ∷ st) ns h o) (closes ∷ []) ≡ at (w .frame) (cond (isQuasis (listed f)) x (w .next)) st ns (h ++ cond (isQuasis (listed f)) (stop ∷ []) []) (o ++ (listClosing (at-item f s) ++ cond (leaves (at-item f s)) (leftOver qs) []))
-unfolding folded print isQuasis mannerIn fieldIn itemSeen listed
-closes-printed f s x w st ns h o qs e = ap (λ (t : List ℕ). at (w .frame) (cond (isQuasis (listed f)) x (w .next)) st ns (h ++ cond (isQuasis (listed f)) (stop ∷ []) []) (o ++ (listClosing (at-item f s) ++ t))) e
+closes-printed : (f : Frame) (s x : ℕ) (w : Open) (st : List Open) (h : List Cell) (o : List ℕ) (qs : List Cell) → cond (leaves (at-item f s)) (leftOver (cellsFrom h x)) [] ≡ cond (leaves (at-item f s)) (leftOver qs) [] → printAll (at (at-item f s) x (w ∷ st) h o) (closes ∷ []) ≡ at (w .frame) (cond (isQuasis (listed f)) x (w .next)) st (h ++ cond (isQuasis (listed f)) (stop ∷ []) []) (o ++ (listClosing (at-item f s) ++ cond (leaves (at-item f s)) (leftOver qs) []))
+unfolding printAll print isQuasis mannerIn fieldIn itemSeen listed
+closes-printed f s x w st h o qs e = ap (λ (t : List ℕ). at (w .frame) (cond (isQuasis (listed f)) x (w .next)) st (h ++ cond (isQuasis (listed f)) (stop ∷ []) []) (o ++ (listClosing (at-item f s) ++ t))) e
 
 around-item : (f : Frame) (s : ℕ) (n : Node) → aroundNode (at-item f s) n ≡ at-item f 1
 unfolding around itemSeen listed
 around-item f s (node at kind fs) = refl
 
 mutual
-  unfolding folded print events eventsFields eventsPiece eventsItems notesNode notesFields notesPiece notesItems heldNode heldFields heldPiece heldItems textNode textFields textPiece textItems around itemSeen listed
+  unfolding printAll print entries entriesFields entriesPiece entriesItems heldNode heldFields heldPiece heldItems textNode textFields textPiece textItems around itemSeen listed
 
-  pub node-printed : (n : Node) (p : Frame) (x : ℕ) (st : List Open) (ns : List ℕ) (h : List Cell) (o : List ℕ) (qs : List Cell) → cond (isFilled p) (cellText (cellAt h x)) [] ≡ cond (isFilled p) (first qs) [] → folded print (at p x st (notesNode n ++ ns) h o) (events n) ≡ at (aroundNode p n) (nextAround p h x) st ns (h ++ heldNode p n) (o ++ textNode p qs n)
-  node-printed (node q kind fs) p x st ns h o qs e =
-      ap (λ (t : List ℕ). folded print (at (begun p kind (mapOf fs) (noteOf fs)) 0 (opened (around p kind (mapOf fs)) (nextAround p h x) ∷ st) (notesFields fs ++ ns) h (o ++ opening p kind (mapOf fs) (noteOf fs) t)) (eventsFields fs ++ (ends ∷ []))) e
-      ∙ fields-printed fs (begun p kind (mapOf fs) (noteOf fs)) 0 (opened (around p kind (mapOf fs)) (nextAround p h x)) st ns h (o ++ opening p kind (mapOf fs) (noteOf fs) (cond (isFilled p) (first qs) [])) [] (begun-list p kind (mapOf fs) (noteOf fs)) nothing
+  pub node-printed : (n : Node) (p : Frame) (x : ℕ) (st : List Open) (h : List Cell) (o : List ℕ) (qs : List Cell) → cond (isFilled p) (cellText (cellAt h x)) [] ≡ cond (isFilled p) (first qs) [] → printAll (at p x st h o) (entries n) ≡ at (aroundNode p n) (nextAround p h x) st (h ++ heldNode p n) (o ++ textNode p qs n)
+  node-printed (node q kind fs) p x st h o qs e =
+      ap (λ (t : List ℕ). printAll (at (begun p kind (mapOf fs) (noteOf fs)) 0 (opened (around p kind (mapOf fs)) (nextAround p h x) ∷ st) h (o ++ opening p kind (mapOf fs) (noteOf fs) t)) (entriesFields fs ++ (ends ∷ []))) e
+      ∙ fields-printed fs (begun p kind (mapOf fs) (noteOf fs)) 0 (opened (around p kind (mapOf fs)) (nextAround p h x)) st h (o ++ opening p kind (mapOf fs) (noteOf fs) (cond (isFilled p) (first qs) [])) [] (begun-list p kind (mapOf fs) (noteOf fs)) nothing
       ∙ alike refl (append-assoc o (opening p kind (mapOf fs) (noteOf fs) (cond (isFilled p) (first qs) [])) (textFields (begun p kind (mapOf fs) (noteOf fs)) [] fs))
 
-  fields-printed : (fs : Fields) (f : Frame) (x : ℕ) (w : Open) (st : List Open) (ns : List ℕ) (h : List Cell) (o : List ℕ) (qs : List Cell) → f .list ≡ 0 → Waits h x qs → folded print (at f x (w ∷ st) (notesFields fs ++ ns) h o) (eventsFields fs ++ (ends ∷ [])) ≡ at (w .frame) (w .next) st ns (h ++ heldFields f fs) (o ++ textFields f qs fs)
-  fields-printed done f x w st ns h o qs z t = alike (sym (append-nil h)) refl
-  fields-printed (absent fs) f x w st ns h o qs z t = fields-printed fs f x w st ns h o qs z t
-  fields-printed (field p fs) f x w st ns h o qs z t =
-      ap (λ (l : List ℕ). folded print (at f x (w ∷ st) l h o) ((eventsPiece p ++ eventsFields fs) ++ (ends ∷ []))) (append-assoc (notesPiece p) (notesFields fs) ns)
-      ∙ ap (folded print (at f x (w ∷ st) (notesPiece p ++ (notesFields fs ++ ns)) h o)) (append-assoc (eventsPiece p) (eventsFields fs) (ends ∷ []))
-      ∙ folded-append print (at f x (w ∷ st) (notesPiece p ++ (notesFields fs ++ ns)) h o) (eventsPiece p) (eventsFields fs ++ (ends ∷ []))
-      ∙ ap (λ (s : Printing). folded print s (eventsFields fs ++ (ends ∷ []))) (piece-printed p f x (w ∷ st) (notesFields fs ++ ns) h o qs z t)
-      ∙ fields-printed fs (afterPiece f p) (nextAfter f h x p) w st ns (h ++ heldPiece f p) (o ++ textPiece f qs p) (quasisAfter f qs p) (list-kept f p z) (piece-waits f p x h qs z t)
+  fields-printed : (fs : Fields) (f : Frame) (x : ℕ) (w : Open) (st : List Open) (h : List Cell) (o : List ℕ) (qs : List Cell) → f .list ≡ 0 → Waits h x qs → printAll (at f x (w ∷ st) h o) (entriesFields fs ++ (ends ∷ [])) ≡ at (w .frame) (w .next) st (h ++ heldFields f fs) (o ++ textFields f qs fs)
+  fields-printed done f x w st h o qs z t = alike (sym (append-nil h)) refl
+  fields-printed (absent fs) f x w st h o qs z t = fields-printed fs f x w st h o qs z t
+  fields-printed (field p fs) f x w st h o qs z t =
+      ap (printAll (at f x (w ∷ st) h o)) (append-assoc (entriesPiece p) (entriesFields fs) (ends ∷ []))
+      ∙ printAll-append (at f x (w ∷ st) h o) (entriesPiece p) (entriesFields fs ++ (ends ∷ []))
+      ∙ ap (λ (s : Printing). printAll s (entriesFields fs ++ (ends ∷ []))) (piece-printed p f x (w ∷ st) h o qs z t)
+      ∙ fields-printed fs (afterPiece f p) (nextAfter f h x p) w st (h ++ heldPiece f p) (o ++ textPiece f qs p) (quasisAfter f qs p) (list-kept f p z) (piece-waits f p x h qs z t)
       ∙ alike (append-assoc h (heldPiece f p) (heldFields (afterPiece f p) fs)) (append-assoc o (textPiece f qs p) (textFields (afterPiece f p) (quasisAfter f qs p) fs))
 
-  piece-printed : (p : Piece) (f : Frame) (x : ℕ) (st : List Open) (ns : List ℕ) (h : List Cell) (o : List ℕ) (qs : List Cell) → f .list ≡ 0 → Waits h x qs → folded print (at f x st (notesPiece p ++ ns) h o) (eventsPiece p) ≡ at (afterPiece f p) (nextAfter f h x p) st ns (h ++ heldPiece f p) (o ++ textPiece f qs p)
-  piece-printed (one n) f x st ns h o qs z t = node-printed n f x st ns h o qs (rw (not-filled f z) refl)
-  piece-printed (list is) f x st ns h o qs z t =
-      items-printed is f 0 (cond (isQuasis (listed f)) (suc (length h)) x) (opened (unlisted f (count is)) x) st ns h (o ++ listOpening f) (quasisFor f qs is) (ready-start f x h qs is t)
-      ∙ ap (λ (y : ℕ). at (unlisted f (count is)) y st ns (h ++ (heldItems (listed f) is ++ cond (isQuasis (listed f)) (stop ∷ []) [])) ((o ++ listOpening f) ++ textItems (listed f) (quasisFor f qs is) is)) (twice (isQuasis (listed f)) (suc (length h)) x)
+  piece-printed : (p : Piece) (f : Frame) (x : ℕ) (st : List Open) (h : List Cell) (o : List ℕ) (qs : List Cell) → f .list ≡ 0 → Waits h x qs → printAll (at f x st h o) (entriesPiece p) ≡ at (afterPiece f p) (nextAfter f h x p) st (h ++ heldPiece f p) (o ++ textPiece f qs p)
+  piece-printed (one n) f x st h o qs z t = node-printed n f x st h o qs (rw (not-filled f z) refl)
+  piece-printed (list is) f x st h o qs z t =
+      items-printed is f 0 (cond (isQuasis (listed f)) (suc (length h)) x) (opened (unlisted f (count is)) x) st h (o ++ listOpening f) (quasisFor f qs is) (ready-start f x h qs is t)
+      ∙ ap (λ (y : ℕ). at (unlisted f (count is)) y st (h ++ (heldItems (listed f) is ++ cond (isQuasis (listed f)) (stop ∷ []) [])) ((o ++ listOpening f) ++ textItems (listed f) (quasisFor f qs is) is)) (twice (isQuasis (listed f)) (suc (length h)) x)
       ∙ alike refl (append-assoc o (listOpening f) (textItems (listed f) (quasisFor f qs is) is))
-  piece-printed (text bs) f x st ns h o qs z t = refl
-  piece-printed (byte b) f x st ns h o qs z t = alike (sym (append-nil h)) (sym (append-nil o))
-  piece-printed (mark n) f x st ns h o qs z t = alike (sym (append-nil h)) (sym (append-nil o))
-  piece-printed (number n) f x st ns h o qs z t = alike (sym (append-nil h)) refl
+  piece-printed (text bs) f x st h o qs z t = refl
+  piece-printed (byte b) f x st h o qs z t = alike (sym (append-nil h)) (sym (append-nil o))
+  piece-printed (mark n) f x st h o qs z t = alike (sym (append-nil h)) (sym (append-nil o))
+  piece-printed (number n) f x st h o qs z t = alike (sym (append-nil h)) refl
 
-  items-printed : (is : Items) (f : Frame) (s x : ℕ) (w : Open) (st : List Open) (ns : List ℕ) (h : List Cell) (o : List ℕ) (qs : List Cell) → Ready (at-item f s) h x qs (heldItems (at-item f s) is) → folded print (at (at-item f s) x (w ∷ st) (notesItems is ++ ns) h o) (eventsItems is ++ (closes ∷ [])) ≡ at (w .frame) (cond (isQuasis (listed f)) x (w .next)) st ns (h ++ (heldItems (at-item f s) is ++ cond (isQuasis (listed f)) (stop ∷ []) [])) (o ++ textItems (at-item f s) qs is)
-  items-printed none f s x w st ns h o qs r = closes-printed f s x w st ns h o qs (ready-left (at-item f s) h x qs r)
-  items-printed (hole is) f s x w st ns h o qs r =
-      items-printed is f 2 x w st ns h (o ++ word (separator (at-item f s))) qs (ready-again f s 2 h x qs (heldItems (at-item f 2) is) r)
+  items-printed : (is : Items) (f : Frame) (s x : ℕ) (w : Open) (st : List Open) (h : List Cell) (o : List ℕ) (qs : List Cell) → Ready (at-item f s) h x qs (heldItems (at-item f s) is) → printAll (at (at-item f s) x (w ∷ st) h o) (entriesItems is ++ (closes ∷ [])) ≡ at (w .frame) (cond (isQuasis (listed f)) x (w .next)) st (h ++ (heldItems (at-item f s) is ++ cond (isQuasis (listed f)) (stop ∷ []) [])) (o ++ textItems (at-item f s) qs is)
+  items-printed none f s x w st h o qs r = closes-printed f s x w st h o qs (ready-left (at-item f s) h x qs r)
+  items-printed (hole is) f s x w st h o qs r =
+      items-printed is f 2 x w st h (o ++ word (separator (at-item f s))) qs (ready-again f s 2 h x qs (heldItems (at-item f 2) is) r)
       ∙ alike refl (append-assoc o (word (separator (at-item f s))) (textItems (at-item f 2) qs is))
-  items-printed (item n is) f s x w st ns h o qs r =
+  items-printed (item n is) f s x w st h o qs r =
       let ready : Ready (at-item f s) h x qs (heldNode (at-item f s) n ++ heldItems (at-item f 1) is) = rw (around-item f s n) at r in
       rw (around-item f s n)
-      (ap (λ (l : List ℕ). folded print (at (at-item f s) x (w ∷ st) l h o) ((events n ++ eventsItems is) ++ (closes ∷ []))) (append-assoc (notesNode n) (notesItems is) ns)
-      ∙ ap (folded print (at (at-item f s) x (w ∷ st) (notesNode n ++ (notesItems is ++ ns)) h o)) (append-assoc (events n) (eventsItems is) (closes ∷ []))
-      ∙ folded-append print (at (at-item f s) x (w ∷ st) (notesNode n ++ (notesItems is ++ ns)) h o) (events n) (eventsItems is ++ (closes ∷ []))
-      ∙ ap (λ (t : Printing). folded print t (eventsItems is ++ (closes ∷ [])))
-      (node-printed n (at-item f s) x (w ∷ st) (notesItems is ++ ns) h o qs (ready-first (at-item f s) h x qs (heldNode (at-item f s) n ++ heldItems (at-item f 1) is) ready)
-      ∙ ap (λ (g : Frame). at g (nextAround (at-item f s) h x) (w ∷ st) (notesItems is ++ ns) (h ++ heldNode (at-item f s) n) (o ++ textNode (at-item f s) qs n)) (around-item f s n))
-      ∙ items-printed is f 1 (nextAround (at-item f s) h x) w st ns (h ++ heldNode (at-item f s) n) (o ++ textNode (at-item f s) qs n) (cond (isFilled (at-item f s)) (later qs) qs) (ready-next f s 1 h (heldNode (at-item f s) n) x qs (heldItems (at-item f 1) is) ready)
-      ∙ ap (λ (y : ℕ). at (w .frame) y st ns ((h ++ heldNode (at-item f s) n) ++ (heldItems (at-item f 1) is ++ cond (isQuasis (listed f)) (stop ∷ []) [])) ((o ++ textNode (at-item f s) qs n) ++ textItems (at-item f 1) (cond (isFilled (at-item f s)) (later qs) qs) is)) (quasis-stay f s h x (w .next))
+      (ap (printAll (at (at-item f s) x (w ∷ st) h o)) (append-assoc (entries n) (entriesItems is) (closes ∷ []))
+      ∙ printAll-append (at (at-item f s) x (w ∷ st) h o) (entries n) (entriesItems is ++ (closes ∷ []))
+      ∙ ap (λ (t : Printing). printAll t (entriesItems is ++ (closes ∷ [])))
+      (node-printed n (at-item f s) x (w ∷ st) h o qs (ready-first (at-item f s) h x qs (heldNode (at-item f s) n ++ heldItems (at-item f 1) is) ready)
+      ∙ ap (λ (g : Frame). at g (nextAround (at-item f s) h x) (w ∷ st) (h ++ heldNode (at-item f s) n) (o ++ textNode (at-item f s) qs n)) (around-item f s n))
+      ∙ items-printed is f 1 (nextAround (at-item f s) h x) w st (h ++ heldNode (at-item f s) n) (o ++ textNode (at-item f s) qs n) (cond (isFilled (at-item f s)) (later qs) qs) (ready-next f s 1 h (heldNode (at-item f s) n) x qs (heldItems (at-item f 1) is) ready)
+      ∙ ap (λ (y : ℕ). at (w .frame) y st ((h ++ heldNode (at-item f s) n) ++ (heldItems (at-item f 1) is ++ cond (isQuasis (listed f)) (stop ∷ []) [])) ((o ++ textNode (at-item f s) qs n) ++ textItems (at-item f 1) (cond (isFilled (at-item f s)) (later qs) qs) is)) (quasis-stay f s h x (w .next))
       ∙ alike
       (append-assoc h (heldNode (at-item f s) n) (heldItems (at-item f 1) is ++ cond (isQuasis (listed f)) (stop ∷ []) []) ∙ ap (λ (z : List Cell). h ++ z) (sym (append-assoc (heldNode (at-item f s) n) (heldItems (at-item f 1) is) (cond (isQuasis (listed f)) (stop ∷ []) []))))
       (append-assoc o (textNode (at-item f s) qs n) (textItems (at-item f 1) (cond (isFilled (at-item f s)) (later qs) qs) is)))
 
--- the law: the pass over a tree's events, with the bytes of its nodes noted, gives its text
-pub text-led : (n : Node) (ns : List ℕ) → (folded print (at outside 0 [] (notesNode n ++ ns) [] []) (events n)) .out ≡ textOf n
+-- the law: the pass over a tree's entries gives its text
+pub text-led : (n : Node) → (printAll (at outside 0 [] [] []) (entries n)) .out ≡ textOf n
 unfolding isFilled textOf
-text-led n ns = ap (λ (s : Printing). s .out) (node-printed n outside 0 [] ns [] [] [] refl)
+text-led n = ap (λ (s : Printing). s .out) (node-printed n outside 0 [] [] [] [] refl)

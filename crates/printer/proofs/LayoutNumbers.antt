@@ -1,19 +1,20 @@
 -- The code's numbers are the layout: what is past their ends, and what their digits are.
 -- Assumes nothing.
-use mathlib.Core.Path.{_≡_, refl, sym, ap, _∙_}
-use mathlib.Core.Bool.{Bool, true, cond}
+use mathlib.Core.Path.{_≡_, refl, sym, _∙_}
+use mathlib.Core.Bool.{Bool, true, false, cond}
 use mathlib.Core.List.{List, [], _∷_}
-use Prim.Native.Nat.{ℕ, zero, suc, _+_, _-_, _*_, _/_, _%_, _^_, _<_, _≤_}
+use Prim.Native.Nat.{ℕ, _+_, _-_, _*_, _/_, _%_, _<_, _≤_}
 use native.Mathlib.Omega.{arith}
 use native.Mathlib.Decide.{decLt}
-use lib.Dec.{T, eqb, leb, eqb→eq, leb→le}
-use native.Mathlib.Nat.{zero-div}
+use lib.Dec.{T, eqb, eqb→eq}
 use lib.ListN.{length, getD, List·getD-eq-default}
 use borrow.Author.Tests.{le-ltb, lt-ltb, ne-eqb}
-use Rattle.tree.proofs.Table.{below, below-at}
+use Rattle.tree.specs.Grammar.{among}
+use Rattle.tree.proofs.Table.{both, both-left, both-right, every, at, below, below-at}
 use Rattle.tree.proofs.GrammarRows.{NoKey, no-key}
 use Rattle.printer.specs.Layout.{Line, words, word, choices, chosenWord, layout, lineOf, headOf, tailOf, closeOf, leadOf, mannerOf}
-use Rattle.printer.specs.Rows.{packed, rowOf, mannersOf, lowOf, middleOf, highOf}
+use Rattle.printer.specs.Places.{isStatement, isWrapped}
+use Rattle.printer.specs.Rows.{packed, lowOf, middleOf, highOf, wordNumbers, sortNumbers, slotNumbers, Sorted, Slotted}
 
 -- ---- words
 
@@ -39,12 +40,28 @@ zero-at f (k ∷ ks) i h t = zero-at f ks i (h .0) (rw (ne-eqb i k (h .1)) at t)
 no-digits : (f : ℕ → ℕ) (ks : List ℕ) → T (below 94 (zeroBut f ks)) → ((i : ℕ) → 94 ≤ i → 0 ≡ f i) → (i : ℕ) → NoneOf ks i → 0 ≡ f i
 no-digits f ks t past i h = elim (decLt i 94) [ yes l ↦ zero-at f ks i h (below-at (zeroBut f ks) 94 t i l) | no l ↦ past i (omega arith) ]
 
-abbrev pub lows : List ℕ
-lows = 93 ∷ 92 ∷ 91 ∷ 90 ∷ 89 ∷ 88 ∷ 87 ∷ 86 ∷ 85 ∷ 84 ∷ 83 ∷ 82 ∷ 81 ∷ 80 ∷ 79 ∷ 78 ∷ 77 ∷ 76 ∷ 75 ∷ 74 ∷ 73 ∷ 72 ∷ 71 ∷ 70 ∷ 69 ∷ 68 ∷ 67 ∷ 66 ∷ 65 ∷ 64 ∷ 63 ∷ 62 ∷ 61 ∷ 60 ∷ 59 ∷ 58 ∷ 57 ∷ 56 ∷ 55 ∷ 54 ∷ 53 ∷ 52 ∷ 51 ∷ 49 ∷ 48 ∷ 47 ∷ 46 ∷ 45 ∷ 44 ∷ 43 ∷ 40 ∷ 36 ∷ 33 ∷ 31 ∷ 29 ∷ 27 ∷ 26 ∷ 25 ∷ 24 ∷ 23 ∷ 22 ∷ 21 ∷ 20 ∷ 19 ∷ 18 ∷ 17 ∷ 16 ∷ 15 ∷ 14 ∷ 13 ∷ 12 ∷ 11 ∷ 10 ∷ 9 ∷ 8 ∷ 7 ∷ 6 ∷ 5 ∷ 4 ∷ 3 ∷ 2 ∷ 1 ∷ []
+lowRight : ℕ → ℕ → Bool
+lowRight i x = eqb x (lowOf i)
 
-pub no-low : (i : ℕ) → NoneOf lows i → 0 ≡ lowOf i
-unfolding lowOf packed word words
-no-low = no-digits lowOf lows tt (λ i l. rw (word-none i l))
+lows-right : T (every lowRight 0 wordNumbers)
+unfolding lowRight wordNumbers lowOf packed word words
+lows-right = tt
+
+low-at : (i : ℕ) → getD wordNumbers i 0 ≡ lowOf i
+unfolding lowRight wordNumbers lowOf packed
+low-at i = elim (decLt i 128) [
+  | yes h ↦ eqb→eq (getD wordNumbers i 0) (lowOf i) (at lowRight wordNumbers lows-right i h)
+  | no h ↦ List·getD-eq-default wordNumbers 0 {n = i} (omega arith) ∙ rw (word-none i (omega arith))
+]
+
+pub past-end : (l : List ℕ) (i : ℕ) → length l ≤ i → 0 ≡ getD l i 0
+past-end l i h = sym (List·getD-eq-default l 0 {n = i} h)
+
+pub low-in : (l : List ℕ) (i : ℕ) → l ≡ wordNumbers → getD l i 0 ≡ lowOf i
+low-in l i e = rw e (low-at i)
+
+pub low-past : (l : List ℕ) (i : ℕ) → length l ≤ i → l ≡ wordNumbers → 0 ≡ lowOf i
+low-past l i h e = past-end l i h ∙ low-in l i e
 
 abbrev pub middles : List ℕ
 middles = 86 ∷ 84 ∷ 81 ∷ 49 ∷ 48 ∷ 47 ∷ 23 ∷ 14 ∷ 13 ∷ 12 ∷ 10 ∷ 7 ∷ 5 ∷ []
@@ -69,148 +86,117 @@ pub line-none : (k : ℕ) → 45 ≤ k → lineOf k ≡ empty
 unfolding layout
 line-none k h = List·getD-eq-default layout empty h
 
-pub no-row : (k : ℕ) → NoKey Unit 1 44 k → 0 ≡ rowOf k
-unfolding rowOf packed headOf tailOf closeOf layout
-no-row zero h = refl
-no-row (suc k) h = rw (line-none (suc k) (no-key Unit 1 44 (suc k) h (omega arith)))
+-- ---- the table of kinds
 
-pub no-manners : (k : ℕ) → NoKey Unit 1 44 k → 0 ≡ mannersOf k
-unfolding mannersOf packed layout
-no-manners zero h = refl
-no-manners (suc k) h = rw (line-none (suc k) (no-key Unit 1 44 (suc k) h (omega arith)))
+same : Bool → Bool → Bool
+same true b = b
+same false true = false
+same false false = true
 
--- a fact of every kind: at the lines by computation, and past them
-by-kind : (P : ℕ → Type 0) (k : ℕ) → (k < 45 → P k) → (45 ≤ k → P k) → P k
-by-kind P k f g = elim (decLt k 45) [ yes h ↦ f h | no h ↦ g (omega arith) ]
+same-so : (a b : Bool) → T (same a b) → a ≡ b
+unfolding same
+same-so true true t = refl
+same-so true false t = absurd t
+same-so false true t = absurd t
+same-so false false t = refl
 
-row-none : (k : ℕ) → 45 ≤ k → rowOf k ≡ 0
-unfolding rowOf packed headOf tailOf closeOf
-row-none k h = ap (λ (l : Line). packed 128 (l .head ∷ l .tail ∷ l .close ∷ l .leads)) (line-none k h)
+sortRight : ℕ → ℕ → ℕ → Bool
+sortRight k note r =
+    both (eqb (r % 128) (headOf k))
+    (both (same (eqb (r / 2097152 % 2) 1) (isStatement k note)) (same (eqb (r / 4194304 % 2) 1) (isWrapped k note)))
 
-manners-none : (k : ℕ) → 45 ≤ k → mannersOf k ≡ 0
-unfolding mannersOf packed
-manners-none k h = ap (λ (l : Line). packed 16 (l .manners)) (line-none k h)
+sorted-so : (k note r : ℕ) → T (sortRight k note r) → Sorted k note r
+unfolding sortRight
+sorted-so k note r = go (eqb (r % 128) (headOf k)) (same (eqb (r / 2097152 % 2) 1) (isStatement k note)) (same (eqb (r / 4194304 % 2) 1) (isWrapped k note)) (eqb→eq (r % 128) (headOf k)) (same-so (eqb (r / 2097152 % 2) 1) (isStatement k note)) (same-so (eqb (r / 4194304 % 2) 1) (isWrapped k note))
+  where
+    go : (a b d : Bool) → (T a → r % 128 ≡ headOf k) → (T b → eqb (r / 2097152 % 2) 1 ≡ isStatement k note) → (T d → eqb (r / 4194304 % 2) 1 ≡ isWrapped k note) → T (both a (both b d)) → Sorted k note r
+    go a b d p q u t = record { head = p (both-left a (both b d) t); statement = q (both-left b d (both-right a (both b d) t)); wrapped = u (both-right b d (both-right a (both b d) t)) }
 
-head-none : (k : ℕ) → 45 ≤ k → headOf k ≡ 0
-unfolding headOf
-head-none k h = ap (λ (l : Line). l .head) (line-none k h)
+-- the byte counts for a Function alone
+kindRight : ℕ → ℕ → Bool
+kindRight note k = cond (eqb k 14) true (sortRight k note (getD sortNumbers k 0))
 
-tail-none : (k : ℕ) → 45 ≤ k → tailOf k ≡ 0
-unfolding tailOf
-tail-none k h = ap (λ (l : Line). l .tail) (line-none k h)
+kinds-right : (note : ℕ) → T (below 64 (kindRight note))
+unfolding kindRight sortRight same sortNumbers headOf layout isStatement isWrapped among
+kinds-right note = tt
 
-close-none : (k : ℕ) → 45 ≤ k → closeOf k ≡ 0
-unfolding closeOf
-close-none k h = ap (λ (l : Line). l .close) (line-none k h)
+-- r stands in the table that is lent
+pub sort-kind : (l : List ℕ) (k note r : ℕ) → r ≡ getD l k 0 → (k ≡ 14 → ⊥) → l ≡ sortNumbers → k < 64 → Sorted k note r
+unfolding kindRight
+sort-kind l k note r q n e h = rw (q, e) (sorted-so k note (getD sortNumbers k 0) (rw (ne-eqb k 14 n) at (below-at (kindRight note) 64 (kinds-right note) k h)))
 
-lead-none : (k j : ℕ) → 45 ≤ k → leadOf k j ≡ 0
-unfolding leadOf
-lead-none k j h = ap (λ (l : Line). getD (l .leads) j 0) (line-none k h)
+functionRight : ℕ → Bool
+functionRight note = sortRight 14 note (getD sortNumbers (64 + note) 0)
 
-manner-none : (k j : ℕ) → 45 ≤ k → mannerOf k j ≡ 0
-unfolding mannerOf
-manner-none k j h = ap (λ (l : Line). getD (l .manners) j 0) (line-none k h)
+functions-right : T (below 3 functionRight)
+unfolding functionRight sortRight same sortNumbers headOf layout isStatement isWrapped among
+functions-right = tt
 
-headRight : ℕ → Bool
-headRight k = eqb (rowOf k % 128) (headOf k)
+pub sort-function : (l : List ℕ) (k note r : ℕ) → r ≡ getD l (64 + note) 0 → k ≡ 14 → note < 3 → l ≡ sortNumbers → Sorted k note r
+unfolding functionRight
+sort-function l k note r q f h e = rw (q, f, e) (sorted-so 14 note (getD sortNumbers (64 + note) 0) (below-at functionRight 3 functions-right note h))
 
-heads-right : T (below 45 headRight)
-unfolding headRight rowOf packed headOf tailOf closeOf layout
-heads-right = tt
-
-pub row-head : (k : ℕ) → rowOf k % 128 ≡ headOf k
-unfolding headRight
-row-head k = by-kind (λ k. rowOf k % 128 ≡ headOf k) k (λ h. eqb→eq (rowOf k % 128) (headOf k) (below-at headRight 45 heads-right k h)) (λ h. ap (λ (x : ℕ). x % 128) (row-none k h) ∙ sym (head-none k h))
+pub sort-other : (l : List ℕ) (k note r : ℕ) → r ≡ getD l 67 0 → k ≡ 14 → 3 ≤ note → l ≡ sortNumbers → Sorted k note r
+unfolding sortNumbers headOf layout isStatement isWrapped among
+sort-other l k note r q f h e =
+    rw (q, f, e)
+    (record {
+      head = refl;
+      statement = rw (ne-eqb note 1 (λ z. absurd (omega arith)));
+      wrapped = rw (ne-eqb note 2 (λ z. absurd (omega arith)));
+    })
 
 tailRight : ℕ → Bool
-tailRight k = eqb (rowOf k / 128 % 128) (tailOf k)
+tailRight k = eqb (getD sortNumbers k 0 / 128 % 128) (tailOf k)
 
-tails-right : T (below 45 tailRight)
-unfolding tailRight rowOf packed headOf tailOf closeOf layout
+tails-right : T (below 64 tailRight)
+unfolding tailRight sortNumbers tailOf layout
 tails-right = tt
 
-pub row-tail : (k : ℕ) → rowOf k / 128 % 128 ≡ tailOf k
+pub tail-at : (l : List ℕ) (k r : ℕ) → r ≡ getD l k 0 → l ≡ sortNumbers → k < 64 → r / 128 % 128 ≡ tailOf k
 unfolding tailRight
-row-tail k = by-kind (λ k. rowOf k / 128 % 128 ≡ tailOf k) k (λ h. eqb→eq (rowOf k / 128 % 128) (tailOf k) (below-at tailRight 45 tails-right k h)) (λ h. ap (λ (x : ℕ). x / 128 % 128) (row-none k h) ∙ sym (tail-none k h))
+tail-at l k r q e h = rw (q, e) (eqb→eq (getD sortNumbers k 0 / 128 % 128) (tailOf k) (below-at tailRight 64 tails-right k h))
 
 closeRight : ℕ → Bool
-closeRight k = eqb (rowOf k / 16384 % 128) (closeOf k)
+closeRight k = eqb (getD sortNumbers k 0 / 16384 % 128) (closeOf k)
 
-closes-right : T (below 45 closeRight)
-unfolding closeRight rowOf packed headOf tailOf closeOf layout
+closes-right : T (below 64 closeRight)
+unfolding closeRight sortNumbers closeOf layout
 closes-right = tt
 
-pub row-close : (k : ℕ) → rowOf k / 16384 % 128 ≡ closeOf k
+pub close-at : (l : List ℕ) (k r : ℕ) → r ≡ getD l k 0 → l ≡ sortNumbers → k < 64 → r / 16384 % 128 ≡ closeOf k
 unfolding closeRight
-row-close k = by-kind (λ k. rowOf k / 16384 % 128 ≡ closeOf k) k (λ h. eqb→eq (rowOf k / 16384 % 128) (closeOf k) (below-at closeRight 45 closes-right k h)) (λ h. ap (λ (x : ℕ). x / 16384 % 128) (row-none k h) ∙ sym (close-none k h))
+close-at l k r q e h = rw (q, e) (eqb→eq (getD sortNumbers k 0 / 16384 % 128) (closeOf k) (below-at closeRight 64 closes-right k h))
 
-leadRight : ℕ → ℕ → Bool
-leadRight k j = eqb (rowOf k / 2 ^ (21 + 7 * j) % 128) (leadOf k j)
+-- ---- the table of fields
 
-abbrev leadsRight : ℕ → Bool
-leadsRight k = below 6 (leadRight k)
+slotRight : ℕ → ℕ → Bool
+slotRight i x = both (eqb (x % 128) (leadOf (i / 8) (i % 8))) (eqb (x / 128) (mannerOf (i / 8) (i % 8)))
 
-leads-right : T (below 45 leadsRight)
-unfolding leadRight rowOf packed headOf tailOf closeOf leadOf layout
-leads-right = tt
+slots-right : T (every slotRight 0 slotNumbers)
+unfolding slotRight slotNumbers leadOf mannerOf layout
+slots-right = tt
 
-zero-div-pow : (j : ℕ) → 0 / 2 ^ (21 + 7 * j) % 128 ≡ 0
-zero-div-pow j = rw (zero-div (2 ^ (21 + 7 * j)))
+slotted : (k j : ℕ) → k < 64 → j < 8 → Slotted k j (getD slotNumbers (8 * k + j) 0)
+unfolding slotRight slotNumbers
+slotted k j h g =
+    let d : (8 * k + j) / 8 ≡ k = omega arith in
+    let m : (8 * k + j) % 8 ≡ j = omega arith in
+    go (getD slotNumbers (8 * k + j) 0) (rw (d, m) at (at slotRight slotNumbers slots-right (8 * k + j) (omega arith)))
+  where
+    go : (x : ℕ) → T (both (eqb (x % 128) (leadOf k j)) (eqb (x / 128) (mannerOf k j))) → Slotted k j x
+    go x t = record {
+      lead = eqb→eq (x % 128) (leadOf k j) (both-left (eqb (x % 128) (leadOf k j)) (eqb (x / 128) (mannerOf k j)) t);
+      manner = eqb→eq (x / 128) (mannerOf k j) (both-right (eqb (x % 128) (leadOf k j)) (eqb (x / 128) (mannerOf k j)) t);
+    }
 
-pub row-lead : (k j : ℕ) → j ≤ 5 → rowOf k / 2 ^ (21 + 7 * j) % 128 ≡ leadOf k j
-unfolding leadRight
-row-lead k j l =
-    by-kind (λ k. rowOf k / 2 ^ (21 + 7 * j) % 128 ≡ leadOf k j) k
-    (λ h. eqb→eq (rowOf k / 2 ^ (21 + 7 * j) % 128) (leadOf k j) (below-at (leadRight k) 6 (below-at leadsRight 45 leads-right k h) j (omega arith)))
-    (λ h. ap (λ (x : ℕ). x / 2 ^ (21 + 7 * j) % 128) (row-none k h) ∙ zero-div-pow j ∙ sym (lead-none k j h))
+pub slot-at : (l : List ℕ) (k j r : ℕ) → r ≡ getD l (8 * k + j) 0 → l ≡ slotNumbers → k < 64 → j < 8 → Slotted k j r
+slot-at l k j r q e h g = rw (q, e) (slotted k j h g)
 
-shortRight : ℕ → Bool
-shortRight k = leb (length ((lineOf k) .leads)) 6
+pub slot-past : (l : List ℕ) (k j : ℕ) → length l ≤ 8 * k + j → l ≡ slotNumbers → k < 64 → j < 8 → Slotted k j 0
+slot-past l k j n e h g = slot-at l k j 0 (past-end l (8 * k + j) n) e h g
 
-short-right : T (below 45 shortRight)
-unfolding shortRight layout
-short-right = tt
-
-pub no-lead : (k j : ℕ) → 5 < j → 0 ≡ leadOf k j
-unfolding shortRight leadOf
-no-lead k j l =
-    by-kind (λ k. 0 ≡ leadOf k j) k
-    (λ h. let s : length ((lineOf k) .leads) ≤ 6 = leb→le (length ((lineOf k) .leads)) 6 (below-at shortRight 45 short-right k h) in sym (List·getD-eq-default ((lineOf k) .leads) 0 {n = j} (omega arith)))
-    (λ h. sym (lead-none k j h))
-
-mannerRight : ℕ → ℕ → Bool
-mannerRight k j = eqb (mannersOf k / 2 ^ (4 * j) % 16) (mannerOf k j)
-
-abbrev mannersRight : ℕ → Bool
-mannersRight k = below 6 (mannerRight k)
-
-manners-right : T (below 45 mannersRight)
-unfolding mannerRight mannersOf packed mannerOf layout
-manners-right = tt
-
-zero-div-four : (j : ℕ) → 0 / 2 ^ (4 * j) % 16 ≡ 0
-zero-div-four j = rw (zero-div (2 ^ (4 * j)))
-
-pub row-manner : (k j : ℕ) → j ≤ 5 → mannersOf k / 2 ^ (4 * j) % 16 ≡ mannerOf k j
-unfolding mannerRight
-row-manner k j l =
-    by-kind (λ k. mannersOf k / 2 ^ (4 * j) % 16 ≡ mannerOf k j) k
-    (λ h. eqb→eq (mannersOf k / 2 ^ (4 * j) % 16) (mannerOf k j) (below-at (mannerRight k) 6 (below-at mannersRight 45 manners-right k h) j (omega arith)))
-    (λ h. ap (λ (x : ℕ). x / 2 ^ (4 * j) % 16) (manners-none k h) ∙ zero-div-four j ∙ sym (manner-none k j h))
-
-fewRight : ℕ → Bool
-fewRight k = leb (length ((lineOf k) .manners)) 6
-
-few-right : T (below 45 fewRight)
-unfolding fewRight layout
-few-right = tt
-
-pub no-manner : (k j : ℕ) → 5 < j → 0 ≡ mannerOf k j
-unfolding fewRight mannerOf
-no-manner k j l =
-    by-kind (λ k. 0 ≡ mannerOf k j) k
-    (λ h. let s : length ((lineOf k) .manners) ≤ 6 = leb→le (length ((lineOf k) .manners)) 6 (below-at fewRight 45 few-right k h) in sym (List·getD-eq-default ((lineOf k) .manners) 0 {n = j} (omega arith)))
-    (λ h. sym (manner-none k j h))
+-- ---- chosen words
 
 pub own-word : (own n m s o : ℕ) → own < 100 → own ≡ chosenWord own n m s o
 unfolding chosenWord
@@ -219,3 +205,7 @@ own-word own n m s o h = rw (lt-ltb own 100 h)
 pub no-choice : (own n m s o : ℕ) → 100 ≤ own → NoKey Unit 100 20 own → 0 ≡ chosenWord own n m s o
 unfolding chosenWord choices
 no-choice own n m s o h k = rw (le-ltb own 100 h) (sym (List·getD-eq-default (choices n m s o) 0 {n = own - 100} (omega (arith, no-key Unit 100 20 own k h))))
+
+-- the word that a number chooses, from what a frame holds
+pub chosen-by : (k own n m s o n' m' s' : ℕ) → own ≡ k → n ≡ n' → m ≡ m' → s ≡ s' → chosenWord k n m s o ≡ chosenWord own n' m' s' o
+chosen-by k own n m s o n' m' s' e p q r = rw (e, p, q, r)

@@ -1,4 +1,8 @@
-pub mod BytesNoted
+pub mod Collected
+pub mod Logging
+pub mod Recording
+pub mod Leaves
+pub mod Meeting
 pub mod Fold
 pub mod LayoutNumbers
 pub mod Bits
@@ -6,10 +10,8 @@ pub mod Around
 pub mod PiecesWritten
 pub mod Named
 pub mod ArraysHeld
-pub mod NotesCollected
-pub mod Logging
-pub mod Recording
 pub mod StepTurns
+pub mod LeavesPrinted
 pub mod Going
 pub mod PrintingEntry
 pub mod Spelling
@@ -19,3 +21,6 @@ pub mod Nine
 pub mod PropertyNamesApart
 pub mod Children
 pub mod Ascii
+pub mod PlaceLaws
+pub mod TextsRead
+pub mod Openings

@@ -101,11 +101,12 @@ word-bytes i = elim (decLt i 94) [
   | no h ↦ rw (word-none i (omega arith))
 ]
 
-pub said : (b : Buffer) (i : ℕ) → write (write (write b (bytesIn (lowOf i))) (bytesIn (middleOf i))) (bytesIn (highOf i)) ≡ write b (word i)
-said b i =
-    sym (write-append (write b (bytesIn (lowOf i))) (bytesIn (middleOf i)) (bytesIn (highOf i)))
-    ∙ sym (write-append b (bytesIn (lowOf i)) (bytesIn (middleOf i) ++ bytesIn (highOf i)))
-    ∙ ap (write b) (sym (word-bytes i))
+-- the three numbers of a word
+pub said : (b : Buffer) (i w m h : ℕ) → w ≡ lowOf i → m ≡ middleOf i → h ≡ highOf i → write (write (write b (bytesIn w)) (bytesIn m)) (bytesIn h) ≡ write b (word i)
+said b i w m h p q r =
+    sym (write-append (write b (bytesIn w)) (bytesIn m) (bytesIn h))
+    ∙ sym (write-append b (bytesIn w) (bytesIn m ++ bytesIn h))
+    ∙ rw (p, q, r) (ap (write b) (sym (word-bytes i)))
 
 -- fewer than eight bytes
 shortRight : ℕ → Bool
@@ -126,13 +127,12 @@ word-short i h = elim (decLt i 94) [
   | no g ↦ rw (word-none i (omega arith))
 ]
 
-pub said-short : (b : Buffer) (i : ℕ) → lowOf i < 72057594037927936 → write b (bytesIn (lowOf i)) ≡ write b (word i)
-said-short b i h = ap (write b) (sym (word-short i h))
+pub said-short : (b : Buffer) (i w : ℕ) → w ≡ lowOf i → w < 72057594037927936 → write b (bytesIn w) ≡ write b (word i)
+said-short b i w e h = rw e (ap (write b) (sym (word-short i (rw e at h))))
 
--- no bytes
 -- a word of no byte, or of one
 pub said-nothing : (b : Buffer) (i w : ℕ) → w ≡ lowOf i → w ≡ 0 → b ≡ write b (word i)
-said-nothing b i w e z = digits-written b w (omega arith) ∙ ap (λ (x : ℕ). write b (bytesIn x)) e ∙ said-short b i (omega (arith, e, z))
+said-nothing b i w e z = digits-written b w (omega arith) ∙ said-short b i w e (omega arith)
 
 pub said-byte : (b : Buffer) (i w : ℕ) → w ≡ lowOf i → w < 256 → (w ≡ 0 → ⊥) → put b w ≡ write b (word i)
 said-byte b i w e h z =
@@ -140,16 +140,7 @@ said-byte b i w e h z =
     digits-written (put b w) (w / 256) (omega arith)
     ∙ ap (λ (x : ℕ). write (put b x) (bytesIn (w / 256))) m
     ∙ digit-written b w (omega arith)
-    ∙ ap (λ (x : ℕ). write b (bytesIn x)) e
-    ∙ said-short b i (omega (arith, e, h))
-
-pub said-none : (b : Buffer) (i : ℕ) → i ≡ 0 → b ≡ write b (word i)
-unfolding write word words
-said-none b i e = rw e refl
-
-pub said-blank : (b : Buffer) (i : ℕ) → i ≡ 50 → b ≡ write b (word i)
-unfolding write word words
-said-blank b i e = rw e refl
+    ∙ said-short b i w e (omega arith)
 
 -- ---- parts of the tree
 

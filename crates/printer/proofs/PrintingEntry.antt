@@ -8,7 +8,7 @@ use native.Mathlib.Omega.{arith}
 use native.Mathlib.Decide.{decLt}
 use native.Mathlib.Numerals.{add-one}
 use lib.Dec.{ltb}
-use lib.ListN.{length, getD, set, drop, replicate, length-set, length-replicate, getD-replicate}
+use lib.ListN.{length, getD, set, drop, replicate, length-set, length-replicate, getD-replicate, List·getD-eq-default}
 use lib.Seq.{ext-getD, sets, sets-eq}
 use borrow.Author.Tests.{lt-ltb, le-ltb, le-leb, lt-leb}
 use Rattle.tree.specs.Tree.{Node}
@@ -85,6 +85,12 @@ spot-over l s x h = elim (decLt (length l) s) [
 
 pub all-zero : (l m : List ℕ) → length m ≡ length l → ((x : ℕ) → getD m x 0 ≡ 0) → m ≡ replicate (length l) 0
 all-zero l m e z = ext-getD 0 m (replicate (length l) 0) (e ∙ sym (length-replicate (length l) 0)) (λ i h. z i ∙ sym (getD-replicate (length l) i 0 0 (omega (arith, e, h))))
+
+pub zero-at : (l : List ℕ) (n x : ℕ) → l ≡ replicate n 0 → getD l x 0 ≡ 0
+zero-at l n x e = elim (decLt x n) [
+  | yes h ↦ rw e (getD-replicate n x 0 0 h)
+  | no h ↦ List·getD-eq-default l 0 {n = x} (omega (arith, ap length e, length-replicate {A = ℕ} n 0))
+]
 
 drop-zeros : (n m : ℕ) → drop {A = ℕ} n (replicate m 0) ≡ replicate (m - n) 0
 drop-zeros zero m = let e : m ≡ m - 0 = omega arith in ap (λ (k : ℕ). replicate {A = ℕ} k 0) e

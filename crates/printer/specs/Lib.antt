@@ -2,12 +2,13 @@ pub mod Layout
 pub mod Names
 pub mod Places
 pub mod Text
+pub mod Entries
 pub mod Machine
 pub mod Rows
 pub mod Stacks
 pub mod Turns
-pub mod Noted
 pub mod Logged
+pub mod Met
 pub mod Outcome
 pub mod Children
 pub mod Ascii

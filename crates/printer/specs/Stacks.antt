@@ -5,6 +5,7 @@ use mathlib.Core.Bool.{Bool, true, false, cond}
 use lib.Dec.{ltb, eqb}
 use mathlib.Core.Path.{_≡_}
 use lib.ListN.{length, getD, set, take, drop}
+use Rattle.tree.specs.Read.{wideAt}
 use Rattle.printer.specs.Text.{Cell}
 use Rattle.printer.specs.Text.Cell.{quasi, stop}
 use Rattle.printer.specs.Machine.{Open}
@@ -39,15 +40,19 @@ unfoldable pub opensIn : List ℕ → ℕ → List Open
 opensIn stack zero = []
 opensIn stack (suc n) = openIn (getD stack n 0) ∷ opensIn stack n
 
--- ---- quasis: a position from 1 on, and a length; a stop is 0
+-- ---- texts by their position: a length and so many bytes
 
-abbrev pub cellIn : List ℕ → ℕ → ℕ → Cell
-cellIn tree zero n = stop
-cellIn tree (suc p) n = quasi (take n (drop p tree))
+unfoldable pub textAt : List ℕ → ℕ → List ℕ
+textAt tree p = take (wideAt tree p) (drop (p + 2) tree)
 
-unfoldable pub heldIn : List ℕ → List ℕ → List ℕ → ℕ → List Cell
-heldIn tree starts sizes zero = []
-heldIn tree starts sizes (suc n) = heldIn tree starts sizes n ++ (cellIn tree (getD starts n 0) (getD sizes n 0) ∷ [])
+-- quasis: a position from 1 on; a stop is 0
+abbrev pub cellIn : List ℕ → ℕ → Cell
+cellIn tree zero = stop
+cellIn tree (suc p) = quasi (textAt tree p)
+
+unfoldable pub heldIn : List ℕ → List ℕ → ℕ → List Cell
+heldIn tree starts zero = []
+heldIn tree starts (suc n) = heldIn tree starts n ++ (cellIn tree (getD starts n 0) ∷ [])
 
 -- ---- the bytes of a number, the lowest first
 

@@ -1,7 +1,7 @@
 // What the pass knows of a node or a list that is open.
 ghost use mathlib.Core.Path.{_≡_};
 ghost use Prim.Native.Nat.{_≤_};
-ghost use Rattle.printer.specs.Places.{lowest, without, noting, past, itemSeen, listed, unlisted};
+ghost use Rattle.printer.specs.Places.{lowest, without, fieldIn, noting, past, itemSeen, listed, unlisted};
 ghost use Rattle.printer.specs.Stacks.{frameIn, nextIn, packedFrame};
 
 // The node's kind, bit map and byte; the word that stands behind it; what was noted of it; the bits of its fields still
@@ -16,72 +16,28 @@ pub(crate) struct Frame {
     pub list: usize,
 }
 
-// The number of the lowest bit, by halves.
-fn lowest_far(bits: usize) -> usize
-    ensures { λ r. ⌜ (r ≡ lowest bits) × (r ≤ bits) ⌝ }
-{
-    if bits == 0 {
-        return 0;
-    }
-    if bits % 2 == 0 {
-        return lowest_far(bits / 2) + 1;
-    }
-    0
-}
-
-// The same; most nodes have few fields.
+// The number of the lowest bit.
 pub(crate) fn lowest(bits: usize) -> usize
     ensures { λ r. ⌜ (r ≡ lowest bits) × (r ≤ bits) ⌝ }
 {
-    if bits % 2 == 1 {
+    if bits == 0 {
         return 0;
     }
-    if bits % 4 == 2 {
-        return 1;
-    }
-    if bits % 8 == 4 {
-        return 2;
-    }
-    if bits % 16 == 8 {
-        return 3;
-    }
-    lowest_far(bits)
+    usize::trailing_zeros(bits) as usize
 }
 
-// The bits without the lowest, by halves.
-fn without_far(bits: usize) -> usize
+// The bits without the lowest.
+fn without(bits: usize) -> usize
     ensures { λ r. ⌜ (r ≡ without bits) × (r ≤ bits) ⌝ }
 {
     if bits == 0 {
         return 0;
     }
-    if bits % 2 == 0 {
-        return without_far(bits / 2) * 2;
-    }
-    bits - 1
-}
-
-// The same.
-fn without(bits: usize) -> usize
-    ensures { λ r. ⌜ (r ≡ without bits) × (r ≤ bits) ⌝ }
-{
-    if bits % 2 == 1 {
-        return bits - 1;
-    }
-    if bits % 4 == 2 {
-        return bits - 2;
-    }
-    if bits % 8 == 4 {
-        return bits - 4;
-    }
-    if bits % 16 == 8 {
-        return bits - 8;
-    }
-    without_far(bits)
+    bits - (1usize << usize::trailing_zeros(bits))
 }
 
 // The next field is done, and this is noted.
-pub(crate) fn noting(f: Frame, seen: usize) -> Frame
+fn noting(f: Frame, seen: usize) -> Frame
     ensures { λ r. ⌜ r ≡ noting f seen ⌝ }
 {
     let rem = without(f.rem);
@@ -96,13 +52,13 @@ pub(crate) fn noting(f: Frame, seen: usize) -> Frame
     }
 }
 
-pub(crate) fn past(f: Frame) -> Frame
+fn past(f: Frame) -> Frame
     ensures { λ r. ⌜ r ≡ past f ⌝ }
 {
     noting(f, f.seen)
 }
 
-pub(crate) fn item_seen(f: Frame, seen: usize) -> Frame
+fn item_seen(f: Frame, seen: usize) -> Frame
     ensures { λ r. ⌜ r ≡ itemSeen f seen ⌝ }
 {
     Frame {
@@ -116,7 +72,7 @@ pub(crate) fn item_seen(f: Frame, seen: usize) -> Frame
     }
 }
 
-pub(crate) fn listed(f: Frame) -> Frame
+fn listed(f: Frame) -> Frame
     ensures { λ r. ⌜ r ≡ listed f ⌝ }
 {
     Frame {
@@ -130,7 +86,7 @@ pub(crate) fn listed(f: Frame) -> Frame
     }
 }
 
-pub(crate) fn unlisted(f: Frame, n: usize) -> Frame
+fn unlisted(f: Frame, n: usize) -> Frame
     ensures { λ r. ⌜ r ≡ unlisted f n ⌝ }
 {
     if f.kind == 4 {
@@ -143,7 +99,7 @@ pub(crate) fn unlisted(f: Frame, n: usize) -> Frame
 }
 
 // A frame and the place of the next quasi, as one number.
-pub(crate) fn pack(f: Frame, next: usize) -> usize
+fn pack(f: Frame, next: usize) -> usize
     ensures { λ r. ⌜ r ≡ packedFrame f next ⌝ }
 {
     let a = f.list % 2 + 2 * (f.how % 128 + 128 * (next % 16777216));
@@ -151,7 +107,7 @@ pub(crate) fn pack(f: Frame, next: usize) -> usize
     f.kind % 64 + 64 * (f.map % 256 + 256 * (f.note % 256 + 256 * b))
 }
 
-pub(crate) fn frame_in(v: usize) -> Frame
+fn frame_in(v: usize) -> Frame
     ensures { λ r. ⌜ r ≡ frameIn v ⌝ }
 {
     let a = v / 64;
@@ -175,4 +131,108 @@ pub(crate) fn next_in(v: usize) -> usize
     ensures { λ r. ⌜ r ≡ nextIn v ⌝ }
 {
     v / 64 / 256 / 256 / 256 / 4 / 2 / 128 % 16777216
+}
+
+// ---- the same of a packed frame. Each takes the number itself: the compiler then leaves alone what stays.
+
+pub(crate) fn kind_in(v: usize) -> usize
+    ensures { λ r. ⌜ r ≡ frameIn v .kind ⌝ }
+{
+    v % 64
+}
+
+pub(crate) fn map_in(v: usize) -> usize
+    ensures { λ r. ⌜ r ≡ frameIn v .map ⌝ }
+{
+    v / 64 % 256
+}
+
+pub(crate) fn note_in(v: usize) -> usize
+    ensures { λ r. ⌜ r ≡ frameIn v .note ⌝ }
+{
+    v / 16384 % 256
+}
+
+pub(crate) fn how_in(v: usize) -> usize
+    ensures { λ r. ⌜ r ≡ frameIn v .how ⌝ }
+{
+    v / 8589934592 % 128
+}
+
+pub(crate) fn seen_in(v: usize) -> usize
+    ensures { λ r. ⌜ r ≡ frameIn v .seen ⌝ }
+{
+    v / 1073741824 % 4
+}
+
+pub(crate) fn rem_in(v: usize) -> usize
+    ensures { λ r. ⌜ r ≡ frameIn v .rem ⌝ }
+{
+    v / 4194304 % 256
+}
+
+pub(crate) fn list_in(v: usize) -> usize
+    ensures { λ r. ⌜ r ≡ frameIn v .list ⌝ }
+{
+    v / 4294967296 % 2
+}
+
+// The number of the next field.
+pub(crate) fn field_in(v: usize) -> usize
+    ensures { λ r. ⌜ r ≡ fieldIn (frameIn v) ⌝ }
+{
+    lowest(rem_in(v))
+}
+
+pub(crate) fn past_in(v: usize) -> usize
+    ensures { λ r. ⌜ r ≡ packedFrame (past (frameIn v)) (nextIn v) ⌝ }
+{
+    pack(past(frame_in(v)), next_in(v))
+}
+
+pub(crate) fn noting_in(v: usize, seen: usize) -> usize
+    ensures { λ r. ⌜ r ≡ packedFrame (noting (frameIn v) seen) (nextIn v) ⌝ }
+{
+    pack(noting(frame_in(v), seen), next_in(v))
+}
+
+pub(crate) fn item_seen_in(v: usize, seen: usize) -> usize
+    ensures { λ r. ⌜ r ≡ packedFrame (itemSeen (frameIn v) seen) (nextIn v) ⌝ }
+{
+    pack(item_seen(frame_in(v), seen), next_in(v))
+}
+
+pub(crate) fn listed_in(v: usize) -> usize
+    ensures { λ r. ⌜ r ≡ packedFrame (listed (frameIn v)) (nextIn v) ⌝ }
+{
+    pack(listed(frame_in(v)), next_in(v))
+}
+
+pub(crate) fn unlisted_in(v: usize, n: usize) -> usize
+    ensures { λ r. ⌜ r ≡ packedFrame (unlisted (frameIn v) n) (nextIn v) ⌝ }
+{
+    pack(unlisted(frame_in(v), n), next_in(v))
+}
+
+// Another quasi is the next.
+pub(crate) fn with_next(v: usize, next: usize) -> usize
+    ensures { λ r. ⌜ r ≡ packedFrame (frameIn v) next ⌝ }
+{
+    pack(frame_in(v), next)
+}
+
+// A node that begins: all its fields are still to come.
+pub(crate) fn begun(kind: usize, map: usize, note: usize, seen: usize, how: usize) -> usize
+    ensures { λ r. ⌜ r ≡ packedFrame (record { kind = kind; map = map; note = note; how = how; seen = seen; rem = map; list = 0 }) 0 ⌝ }
+{
+    let f = Frame {
+        kind: kind,
+        map: map,
+        note: note,
+        how: how,
+        seen: seen,
+        rem: map,
+        list: 0,
+    };
+    pack(f, 0)
 }

@@ -3,7 +3,6 @@ pub mod entries;
 pub mod frame;
 pub mod layout;
 pub mod names;
-pub mod notes;
 pub mod out;
 pub mod pass;
 pub mod places;
@@ -14,11 +13,14 @@ pub mod texts;
 pub mod words;
 
 use rewritten::seen;
+use rewritten::tables;
 ghost use mathlib.Core.Path.{_≡_};
 ghost use mathlib.Core.List.{List};
 ghost use Prim.Native.Nat.{ℕ, _≤_};
 ghost use lib.ListN.{length, replicate};
 ghost use Rattle.rewritten.specs.Rewritten.{readRewritten};
+ghost use Rattle.rewritten.specs.Numbers.{placeNumbers, planNumbers, mapNumbers};
+ghost use Rattle.printer.specs.Rows.{sortNumbers, slotNumbers, wordNumbers};
 ghost use Rattle.printer.specs.Outcome.{handed, fitted, outcome};
 ghost use Rattle.printer.specs.Stacks.{write, bufferIn};
 ghost use Rattle.printer.specs.Turns.{empty};
@@ -52,27 +54,32 @@ fn finish(text: &mut [u8], spot: usize) -> Printed
     }
 }
 
-// Both passes. Right if 16,384 of everything, 65,536 bytes for marks and 32,768 entries are lent, and the text is zeros.
+// Both passes. Right if the tables, 16,384 of everything, 65,536 zeros for marks and 32,768 entries are lent, and the text is
+// zeros.
 fn both_passes(
+    places: &[usize],
+    plans: &[usize],
+    maps: &[usize],
+    slots: &[u16],
+    sorts: &[u32],
+    words: &[usize],
     tree: &[u8],
     frames: &mut [usize],
     seen: &mut [u8],
-    notes: &mut [u8],
-    stack: &mut [usize],
-    sizes: &mut [usize],
-    log: &mut [usize],
+    stack: &mut [u16],
+    log: &mut [u32],
     text: &mut [u8],
 ) -> Printed
-    ensures { λ r. ⌜ ((size : ℕ) → now (text .entry) ≡ replicate size 0 → 16384 ≤ length (now (frames .entry)) → 65536 ≤ length (now (seen .entry)) → 16384 ≤ length (now (notes .entry)) → 16384 ≤ length (now (stack .entry)) → 16384 ≤ length (now (sizes .entry)) → 32768 ≤ length (now (log .entry)) → handed r (now (text .exit)) ≡ outcome (readRewritten (now (tree .entry))) size) ⌝ }
+    ensures { λ r. ⌜ ((size : ℕ) → now (places .entry) ≡ placeNumbers → now (plans .entry) ≡ planNumbers → now (maps .entry) ≡ mapNumbers → now (slots .entry) ≡ slotNumbers → now (sorts .entry) ≡ sortNumbers → now (words .entry) ≡ wordNumbers → now (text .entry) ≡ replicate size 0 → 16384 ≤ length (now (frames .entry)) → now (seen .entry) ≡ replicate 65536 0 → 16384 ≤ length (now (stack .entry)) → 32768 ≤ length (now (log .entry)) → handed r (now (text .exit)) ≡ outcome (readRewritten (now (tree .entry))) size) ⌝ }
 {
-    let n = record::record(tree, frames, seen, stack, notes, log);
+    let n = record::record(places, plans, maps, tree, frames, seen, stack, log);
     if n == 0 {
         return Printed {
             answer: NOT_A_TREE,
             text_len: 0,
         };
     }
-    let spot = pass::print(tree, notes, log, n - 1, frames, stack, sizes, text);
+    let spot = pass::print(slots, sorts, words, tree, log, n - 1, frames, stack, text);
     finish(text, spot)
 }
 
@@ -80,19 +87,27 @@ fn both_passes(
 fn fill(tree: &[u8], text: &mut [u8]) -> Printed
     ensures { λ r. ⌜ ((size : ℕ) → now (text .entry) ≡ replicate size 0 → handed r (now (text .exit)) ≡ outcome (readRewritten (now (tree .entry))) size) ⌝ }
 {
+    let places = tables::places();
+    let plans = tables::plans();
+    let maps = tables::maps();
+    let slots = layout::slots();
+    let sorts = layout::sorts();
+    let words = words::words();
     let mut frames: [usize; 16384] = [0; 16384];
     let mut seen: [u8; 65536] = [0; 65536];
-    let mut notes: [u8; 16384] = [0; 16384];
-    let mut stack: [usize; 16384] = [0; 16384];
-    let mut sizes: [usize; 16384] = [0; 16384];
-    let mut log: [usize; 32768] = [0; 32768];
+    let mut stack: [u16; 16384] = [0; 16384];
+    let mut log: [u32; 32768] = [0; 32768];
     both_passes(
+        &places,
+        &plans,
+        &maps,
+        &slots,
+        &sorts,
+        &words,
         tree,
         &mut frames,
         &mut seen,
-        &mut notes,
         &mut stack,
-        &mut sizes,
         &mut log,
         text,
     )

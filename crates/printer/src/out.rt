@@ -5,6 +5,7 @@ ghost use Prim.Native.Nat.{_<_};
 ghost use lib.ListN.{take, drop};
 ghost use Rattle.printer.specs.Layout.{word};
 ghost use Rattle.printer.specs.Names.{hexDigit, needsEscape, escapedByte, escaped, inQuotes, decimal};
+ghost use Rattle.printer.specs.Rows.{wordNumbers};
 ghost use Rattle.printer.specs.Stacks.{put, write, bufferIn, bytesIn, EndIs};
 
 fn wide(b: u8) -> usize
@@ -39,17 +40,11 @@ fn put_digits(out: &mut [u8], spot: usize, digits: usize) -> usize
     s
 }
 
-// A word by its number; one of fewer than eight bytes is in the first number, and many have one.
-pub(crate) fn say(out: &mut [u8], spot: usize, id: usize) -> usize
-    ensures { λ r. ⌜ bufferIn (now (out .exit)) r ≡ write (bufferIn (now (out .entry)) spot) (word id) ⌝ }
+// A word by its number; one of fewer than eight bytes is in the first number. Right if the table is lent.
+pub(crate) fn say(words: &[usize], out: &mut [u8], spot: usize, id: usize) -> usize
+    ensures { λ r. ⌜ (now (words .entry) ≡ wordNumbers → bufferIn (now (out .exit)) r ≡ write (bufferIn (now (out .entry)) spot) (word id)) ⌝ }
 {
-    let w = words::low(id);
-    if w < 256 {
-        if w == 0 {
-            return spot;
-        }
-        return put(out, spot, w as u8);
-    }
+    let w = words::low(words, id);
     let a = put_digits(out, spot, w);
     if w < 0x100000000000000 {
         return a;
@@ -58,17 +53,18 @@ pub(crate) fn say(out: &mut [u8], spot: usize, id: usize) -> usize
     put_digits(out, b, words::high(id))
 }
 
-// The same, where most words are 0 or 50, which is nothing: those are not called for.
-pub(crate) fn say_any(out: &mut [u8], spot: usize, id: usize) -> usize
-    ensures { λ r. ⌜ bufferIn (now (out .exit)) r ≡ write (bufferIn (now (out .entry)) spot) (word id) ⌝ }
+// The same, where most words have no byte or one: those are put at once.
+pub(crate) fn say_any(words: &[usize], out: &mut [u8], spot: usize, id: usize) -> usize
+    ensures { λ r. ⌜ (now (words .entry) ≡ wordNumbers → bufferIn (now (out .exit)) r ≡ write (bufferIn (now (out .entry)) spot) (word id)) ⌝ }
 {
-    if id == 0 {
-        return spot;
+    let w = words::low(words, id);
+    if w < 256 {
+        if w == 0 {
+            return spot;
+        }
+        return put(out, spot, w as u8);
     }
-    if id == 50 {
-        return spot;
-    }
-    say(out, spot, id)
+    say(words, out, spot, id)
 }
 
 // Where n bytes from a position on end, or the tree does.

@@ -1,44 +1,38 @@
-// The pass over the events of a tree that writes its text.
+// What the pass over the entries has at hand, and the text of a node's begin and end.
 use crate::frame;
-use crate::frame::Frame;
+use crate::layout;
 use crate::out;
 use crate::places;
+use tree::bytes;
 ghost use mathlib.Core.Path.{_≡_};
-ghost use mathlib.Core.List.{List, []};
-ghost use mathlib.Core.Bool.{cond};
+ghost use mathlib.Core.List.{List, [], _∷_, _++_};
+ghost use mathlib.Core.Bool.{true, cond};
 ghost use Prim.Native.Nat.{ℕ, _<_};
-ghost use lib.ListN.{getD};
-ghost use Rattle.printer.specs.Layout.{leadOf};
-ghost use Rattle.printer.specs.Places.{fieldIn, mannerIn, isStatement, inMethodForm, wrapping, notedAt, opening, closing, isFilled, leaves};
+ghost use lib.ListN.{getD, set};
+ghost use Rattle.printer.specs.Layout.{word, headOf, leadOf};
+ghost use Rattle.printer.specs.Places.{fieldIn, mannerIn, isStatement, inMethodForm, wrapping, joining, begun, opening, closing, around, isFilled, leaves};
 ghost use Rattle.printer.specs.Text.{cellText, leftOver};
 ghost use Rattle.printer.specs.Machine.{cellAt, cellsFrom, stepOver, nextAround};
-ghost use Rattle.printer.specs.Stacks.{heldIn, write, bufferIn};
+ghost use Rattle.printer.specs.Rows.{sortNumbers, wordNumbers};
+ghost use Rattle.printer.specs.Stacks.{frameIn, nextIn, packedFrame, textAt, heldIn, write, bufferIn};
+ghost use Rattle.printer.specs.Entries.{isLeaf};
 ghost use Rattle.printer.specs.Turns.{startOf};
 
-// The innermost frame and its next quasi; how many frames are open around it; how many nodes have begun; how many quasis
-// are held; how much is written.
+// The innermost frame with its next quasi, packed; how many frames are open around it; how many quasis are held; how much is
+// written.
 pub(crate) struct State {
-    pub frame: Frame,
-    pub next: usize,
+    pub top: usize,
     pub level: usize,
-    pub number: usize,
     pub count: usize,
     pub spot: usize,
 }
 
-fn wide(b: u8) -> usize
-    ensures { λ r. ⌜ r ≡ b ⌝ }
+pub(crate) fn keep(numbers: &mut [usize], i: usize, v: usize)
+    ensures { λ _. ⌜ now (numbers .exit) ≡ set (now (numbers .entry)) i v ⌝ }
 {
-    b as usize
-}
-
-pub(crate) fn note_at(notes: &[u8], i: usize) -> usize
-    ensures { λ r. ⌜ (r ≡ getD (now (notes .entry)) i 0) × (r < 256) ⌝ }
-{
-    if i < notes.len() {
-        return wide(notes[i]);
+    if i < numbers.len() {
+        numbers[i] = v;
     }
-    0
 }
 
 pub(crate) fn number_at(numbers: &[usize], i: usize) -> usize
@@ -50,63 +44,88 @@ pub(crate) fn number_at(numbers: &[usize], i: usize) -> usize
     0
 }
 
-// Where the quasi with this place begins, counted from 1; 0 if there is none.
-fn start_of(starts: &[usize], count: usize, next: usize) -> usize
+fn wide(n: u16) -> usize
+    ensures { λ r. ⌜ r ≡ n ⌝ }
+{
+    n as usize
+}
+
+pub(crate) fn short_at(numbers: &[u16], i: usize) -> usize
+    ensures { λ r. ⌜ r ≡ getD (now (numbers .entry)) i 0 ⌝ }
+{
+    if i < numbers.len() {
+        return wide(numbers[i]);
+    }
+    0
+}
+
+pub(crate) fn keep_short(numbers: &mut [u16], i: usize, v: usize)
+    ensures { λ _. ⌜ (v < 65536 → now (numbers .exit) ≡ set (now (numbers .entry)) i v) ⌝ }
+{
+    if i < numbers.len() {
+        numbers[i] = (v % 65536) as u16;
+    }
+}
+
+// Where the quasi with this place stands, counted from 1; 0 if there is none.
+fn start_of(starts: &[u16], count: usize, next: usize) -> usize
     ensures { λ r. ⌜ r ≡ startOf (now (starts .entry)) count next ⌝ }
 {
     if next == 0 {
         return 0;
     }
     if next <= count {
-        return number_at(starts, next - 1);
+        return short_at(starts, next - 1);
     }
     0
+}
+
+// The text whose length stands at a position.
+fn text_at(tree: &[u8], at: usize, text: &mut [u8], spot: usize) -> usize
+    ensures { λ r. ⌜ (at < 65536 → bufferIn (now (text .exit)) r ≡ write (bufferIn (now (text .entry)) spot) (textAt (now (tree .entry)) at)) ⌝ }
+{
+    let p = at % 65536;
+    out::copy(tree, p + 2, bytes::wide_at(tree, p), text, spot)
 }
 
 // The next quasi.
 fn quasi(
     tree: &[u8],
-    starts: &[usize],
-    sizes: &[usize],
+    starts: &[u16],
     text: &mut [u8],
     spot: usize,
     count: usize,
     next: usize,
 ) -> usize
-    ensures { λ r. ⌜ bufferIn (now (text .exit)) r ≡ write (bufferIn (now (text .entry)) spot) (cellText (cellAt (heldIn (now (tree .entry)) (now (starts .entry)) (now (sizes .entry)) count) next)) ⌝ }
+    ensures { λ r. ⌜ bufferIn (now (text .exit)) r ≡ write (bufferIn (now (text .entry)) spot) (cellText (cellAt (heldIn (now (tree .entry)) (now (starts .entry)) count) next)) ⌝ }
 {
     let start = start_of(starts, count, next);
     if start == 0 {
         return spot;
     }
-    if next == 0 {
-        return spot;
-    }
-    out::copy(tree, start - 1, number_at(sizes, next - 1), text, spot)
+    text_at(tree, start - 1, text, spot)
 }
 
 // The next quasi, in a list of expressions.
 fn quasi_in(
     tree: &[u8],
-    starts: &[usize],
-    sizes: &[usize],
+    starts: &[u16],
     text: &mut [u8],
     spot: usize,
-    p: Frame,
+    p: usize,
     m: usize,
     count: usize,
-    next: usize,
 ) -> usize
-    ensures { λ r. ⌜ (m ≡ mannerIn p → bufferIn (now (text .exit)) r ≡ write (bufferIn (now (text .entry)) spot) (cond (isFilled p) (cellText (cellAt (heldIn (now (tree .entry)) (now (starts .entry)) (now (sizes .entry)) count) next)) [])) ⌝ }
+    ensures { λ r. ⌜ (m ≡ mannerIn (frameIn p) → bufferIn (now (text .exit)) r ≡ write (bufferIn (now (text .entry)) spot) (cond (isFilled (frameIn p)) (cellText (cellAt (heldIn (now (tree .entry)) (now (starts .entry)) count) (nextIn p))) [])) ⌝ }
 {
     if places::is_filled(p, m) {
-        return quasi(tree, starts, sizes, text, spot, count, next);
+        return quasi(tree, starts, text, spot, count, frame::next_in(p));
     }
     spot
 }
 
-fn step_over(starts: &[usize], count: usize, next: usize) -> usize
-    ensures { λ r. ⌜ ((tree sizes : List ℕ) → count < 65536 → r ≡ stepOver (cellAt (heldIn tree (now (starts .entry)) sizes count) next) next) × (count < 65536 → next < 16777216 → r < 16777216) ⌝ }
+fn step_over(starts: &[u16], count: usize, next: usize) -> usize
+    ensures { λ r. ⌜ ((tree : List ℕ) → count < 65536 → r ≡ stepOver (cellAt (heldIn tree (now (starts .entry)) count) next) next) × (count < 65536 → next < 16777216 → r < 16777216) ⌝ }
 {
     if start_of(starts, count, next) == 0 {
         return next;
@@ -119,26 +138,27 @@ fn step_over(starts: &[usize], count: usize, next: usize) -> usize
     next
 }
 
-pub(crate) fn next_around(starts: &[usize], p: Frame, m: usize, count: usize, next: usize) -> usize
-    ensures { λ r. ⌜ ((tree sizes : List ℕ) → m ≡ mannerIn p → count < 65536 → r ≡ nextAround p (heldIn tree (now (starts .entry)) sizes count) next) × (count < 65536 → next < 16777216 → r < 16777216) ⌝ }
+// The parent after a child, with the quasi that is next then.
+pub(crate) fn around(starts: &[u16], p: usize, m: usize, method: usize, count: usize) -> usize
+    ensures { λ r. ⌜ ((tree : List ℕ) (kind map : ℕ) → m ≡ mannerIn (frameIn p) → method ≡ inMethodForm (frameIn p) kind map → count < 65536 → r ≡ packedFrame (around (frameIn p) kind map) (nextAround (frameIn p) (heldIn tree (now (starts .entry)) count) (nextIn p))) ⌝ }
 {
+    let v = places::around(p, method);
     if places::is_filled(p, m) {
-        return step_over(starts, count, next);
+        return frame::with_next(v, step_over(starts, count, frame::next_in(p)));
     }
-    next
+    v
 }
 
 // All quasis that are left.
 fn left_over(
     tree: &[u8],
-    starts: &[usize],
-    sizes: &[usize],
+    starts: &[u16],
     text: &mut [u8],
     spot: usize,
     count: usize,
     next: usize,
 ) -> usize
-    ensures { λ r. ⌜ bufferIn (now (text .exit)) r ≡ write (bufferIn (now (text .entry)) spot) (leftOver (cellsFrom (heldIn (now (tree .entry)) (now (starts .entry)) (now (sizes .entry)) count) next)) ⌝ }
+    ensures { λ r. ⌜ bufferIn (now (text .exit)) r ≡ write (bufferIn (now (text .entry)) spot) (leftOver (cellsFrom (heldIn (now (tree .entry)) (now (starts .entry)) count) next)) ⌝ }
 {
     if next == 0 {
         return spot;
@@ -146,11 +166,11 @@ fn left_over(
     let mut s = spot;
     let mut i = next - 1;
     while i < count {
-        let start = number_at(starts, i);
+        let start = short_at(starts, i);
         if start == 0 {
             return s;
         }
-        s = out::copy(tree, start - 1, number_at(sizes, i), text, s);
+        s = text_at(tree, start - 1, text, s);
         i += 1;
     }
     s
@@ -158,56 +178,125 @@ fn left_over(
 
 pub(crate) fn left_in(
     tree: &[u8],
-    starts: &[usize],
-    sizes: &[usize],
+    starts: &[u16],
     text: &mut [u8],
     spot: usize,
-    l: Frame,
+    l: usize,
     m: usize,
     count: usize,
-    next: usize,
 ) -> usize
-    ensures { λ r. ⌜ (m ≡ mannerIn l → bufferIn (now (text .exit)) r ≡ write (bufferIn (now (text .entry)) spot) (cond (leaves l) (leftOver (cellsFrom (heldIn (now (tree .entry)) (now (starts .entry)) (now (sizes .entry)) count) next)) [])) ⌝ }
+    ensures { λ r. ⌜ (m ≡ mannerIn (frameIn l) → bufferIn (now (text .exit)) r ≡ write (bufferIn (now (text .entry)) spot) (cond (leaves (frameIn l)) (leftOver (cellsFrom (heldIn (now (tree .entry)) (now (starts .entry)) count) (nextIn l))) [])) ⌝ }
 {
     if places::leaves(l, m) {
-        return left_over(tree, starts, sizes, text, spot, count, next);
+        return left_over(tree, starts, text, spot, count, frame::next_in(l));
     }
     spot
 }
 
-// What stands before a node's fields, with what is known of its place: the manner of its field, what leads that, method
-// form, whether it is a statement and in parentheses, and what is noted of it.
-pub(crate) fn opening(
+// The next quasi and what joins a child, which stand at three manners.
+fn joint(
+    words: &[usize],
     tree: &[u8],
-    starts: &[usize],
-    sizes: &[usize],
+    starts: &[u16],
     text: &mut [u8],
-    s: State,
+    spot: usize,
+    p: usize,
+    count: usize,
     kind: usize,
-    map: usize,
-    note: usize,
+    m: usize,
+    statement: bool,
+) -> usize
+    ensures { λ r. ⌜ (now (words .entry) ≡ wordNumbers → (note : ℕ) → m ≡ mannerIn (frameIn p) → statement ≡ isStatement kind note → bufferIn (now (text .exit)) r ≡ write (bufferIn (now (text .entry)) spot) (cond (isFilled (frameIn p)) (cellText (cellAt (heldIn (now (tree .entry)) (now (starts .entry)) count) (nextIn p))) [] ++ word (joining (frameIn p) kind note))) ⌝ }
+{
+    if 5 < m {
+        if m < 9 {
+            let a = quasi_in(tree, starts, text, spot, p, m, count);
+            return out::say(words, text, a, places::joining(m, kind, statement));
+        }
+    }
+    spot
+}
+
+// A bracket, if it stands there.
+fn bracket(text: &mut [u8], spot: usize, stands: bool, b: u8) -> usize
+    ensures { λ r. ⌜ bufferIn (now (text .exit)) r ≡ write (bufferIn (now (text .entry)) spot) (cond stands (b ∷ []) []) ⌝ }
+{
+    if stands {
+        return out::put(text, spot, b);
+    }
+    spot
+}
+
+// What stands before a node's fields, with its frame f and what is known of its place p: the manner of the field, what leads
+// that, method form, whether the node is a statement and in parentheses, and its head.
+pub(crate) fn opening(
+    words: &[usize],
+    tree: &[u8],
+    starts: &[u16],
+    text: &mut [u8],
+    spot: usize,
+    p: usize,
+    count: usize,
+    f: usize,
     m: usize,
     own: usize,
     method: usize,
     statement: bool,
     wrapped: bool,
-    seen: usize,
+    head: usize,
 ) -> usize
-    ensures { λ r. ⌜ (m ≡ mannerIn (s .frame) → own ≡ leadOf (s .frame .kind) (fieldIn (s .frame)) → method ≡ inMethodForm (s .frame) kind map → statement ≡ isStatement kind note → cond wrapped 1 0 ≡ wrapping (s .frame) kind map note → seen ≡ notedAt (s .frame) kind → bufferIn (now (text .exit)) r ≡ write (bufferIn (now (text .entry)) (s .spot)) (opening (s .frame) kind map note (cond (isFilled (s .frame)) (cellText (cellAt (heldIn (now (tree .entry)) (now (starts .entry)) (now (sizes .entry)) (s .count)) (s .next))) []))) ⌝ }
+    ensures { λ r. ⌜ (now (words .entry) ≡ wordNumbers → (kind map note : ℕ) → m ≡ mannerIn (frameIn p) → own ≡ leadOf (frameIn p .kind) (fieldIn (frameIn p)) → method ≡ inMethodForm (frameIn p) kind map → statement ≡ isStatement kind note → cond wrapped 1 0 ≡ wrapping (frameIn p) kind map note → head ≡ headOf kind → frameIn f ≡ begun (frameIn p) kind map note → bufferIn (now (text .exit)) r ≡ write (bufferIn (now (text .entry)) spot) (opening (frameIn p) kind map note (cond (isFilled (frameIn p)) (cellText (cellAt (heldIn (now (tree .entry)) (now (starts .entry)) count) (nextIn p))) []))) ⌝ }
 {
-    let p = s.frame;
-    let spot = s.spot;
-    let a = out::say_any(text, spot, places::leading(p, m, own, method));
-    let b = quasi_in(tree, starts, sizes, text, a, p, m, s.count, s.next);
-    let c = out::say_any(text, b, places::joining(m, kind, statement));
-    let d = out::say_any(text, c, places::parenthesis(wrapped));
-    let e = out::say_any(text, d, places::head_word(kind, map, note, seen, method));
-    out::say_any(text, e, places::computed(kind, note))
+    let a = out::say_any(words, text, spot, places::leading(p, m, own, method));
+    let c = joint(
+        words,
+        tree,
+        starts,
+        text,
+        a,
+        p,
+        count,
+        frame::kind_in(f),
+        m,
+        statement,
+    );
+    let d = bracket(text, c, wrapped, 40);
+    let e = out::say_any(words, text, d, layout::choose(head, f, method));
+    bracket(
+        text,
+        e,
+        places::is_computed(frame::kind_in(f), frame::note_in(f)),
+        91,
+    )
 }
 
-pub(crate) fn closing(text: &mut [u8], spot: usize, f: Frame) -> usize
-    ensures { λ r. ⌜ bufferIn (now (text .exit)) r ≡ write (bufferIn (now (text .entry)) spot) (closing f) ⌝ }
+// The same of a leaf, which has no words of its own.
+pub(crate) fn leaf_opening(
+    words: &[usize],
+    tree: &[u8],
+    starts: &[u16],
+    text: &mut [u8],
+    spot: usize,
+    p: usize,
+    count: usize,
+    m: usize,
+    own: usize,
+) -> usize
+    ensures { λ r. ⌜ (now (words .entry) ≡ wordNumbers → (kind map note : ℕ) → m ≡ mannerIn (frameIn p) → own ≡ leadOf (frameIn p .kind) (fieldIn (frameIn p)) → isLeaf kind ≡ true → bufferIn (now (text .exit)) r ≡ write (bufferIn (now (text .entry)) spot) (opening (frameIn p) kind map note (cond (isFilled (frameIn p)) (cellText (cellAt (heldIn (now (tree .entry)) (now (starts .entry)) count) (nextIn p))) []))) ⌝ }
 {
-    let a = out::say_any(text, spot, places::tail_word(f));
-    out::say_any(text, a, f.how)
+    let a = out::say_any(words, text, spot, places::leading(p, m, own, 0));
+    joint(words, tree, starts, text, a, p, count, 18, m, false)
+}
+
+pub(crate) fn closing(
+    sorts: &[u32],
+    words: &[usize],
+    text: &mut [u8],
+    spot: usize,
+    f: usize,
+) -> usize
+    ensures { λ r. ⌜ (now (sorts .entry) ≡ sortNumbers → now (words .entry) ≡ wordNumbers → bufferIn (now (text .exit)) r ≡ write (bufferIn (now (text .entry)) spot) (closing (frameIn f))) ⌝ }
+{
+    let a = out::say_any(words, text, spot, places::tail_word(sorts, f));
+    out::say_any(words, text, a, frame::how_in(f))
 }

@@ -1,14 +1,17 @@
 // What a text of the tree prints, by the kind of its node.
 use crate::frame;
-use crate::frame::Frame;
 use crate::names;
 use crate::out;
 use crate::places;
+use tree::bytes;
 ghost use mathlib.Core.Path.{_≡_};
 ghost use Prim.Native.Nat.{_<_};
 ghost use lib.ListN.{take, drop};
 ghost use Rattle.printer.specs.Places.{literalText, memberQuoted, memberName, keyName, textBytes, spelled, isQuasi};
-ghost use Rattle.printer.specs.Stacks.{write, bufferIn, isEmpty};
+ghost use Rattle.printer.specs.Logged.{leafText};
+ghost use Rattle.printer.specs.Names.{inQuotes};
+ghost use Rattle.printer.specs.Rows.{slotNumbers, wordNumbers};
+ghost use Rattle.printer.specs.Stacks.{frameIn, textAt, write, bufferIn, isEmpty};
 
 // No byte is there.
 fn is_empty(tree: &[u8], at: usize, n: usize) -> bool
@@ -20,16 +23,24 @@ fn is_empty(tree: &[u8], at: usize, n: usize) -> bool
     tree.len() <= at
 }
 
-// A Literal's spelling, or its form in quotes.
-fn literal(tree: &[u8], at: usize, n: usize, text: &mut [u8], spot: usize, f: Frame) -> usize
-    ensures { λ r. ⌜ bufferIn (now (text .exit)) r ≡ write (bufferIn (now (text .entry)) spot) (literalText f (take n (drop at (now (tree .entry))))) ⌝ }
+// The text whose length stands at a position, in quotes.
+fn quoted(tree: &[u8], p: usize, text: &mut [u8], spot: usize) -> usize
+    ensures { λ r. ⌜ (p < 262144 → bufferIn (now (text .exit)) r ≡ write (bufferIn (now (text .entry)) spot) (inQuotes (textAt (now (tree .entry)) p))) ⌝ }
 {
-    if 0 < f.seen {
+    let q = p % 262144;
+    out::quote(tree, q + 2, bytes::wide_at(tree, q), text, spot)
+}
+
+// A Literal's spelling, or its form in quotes.
+fn literal(tree: &[u8], at: usize, n: usize, text: &mut [u8], spot: usize, f: usize) -> usize
+    ensures { λ r. ⌜ bufferIn (now (text .exit)) r ≡ write (bufferIn (now (text .entry)) spot) (literalText (frameIn f) (take n (drop at (now (tree .entry))))) ⌝ }
+{
+    if 0 < frame::seen_in(f) {
         return spot;
     }
-    if frame::lowest(f.rem) == 1 {
+    if frame::field_in(f) == 1 {
         if is_empty(tree, at, n) {
-            if f.map / 4 % 2 == 0 {
+            if frame::map_in(f) / 4 % 2 == 0 {
                 return out::quote(tree, at, n, text, spot);
             }
             return spot;
@@ -70,10 +81,19 @@ fn key(tree: &[u8], at: usize, n: usize, text: &mut [u8], spot: usize) -> usize
 }
 
 // The text of a node that is no name: with what leads it.
-fn text_words(tree: &[u8], at: usize, n: usize, text: &mut [u8], spot: usize, f: Frame) -> usize
-    ensures { λ r. ⌜ bufferIn (now (text .exit)) r ≡ write (bufferIn (now (text .entry)) spot) (textBytes f (take n (drop at (now (tree .entry))))) ⌝ }
+fn text_words(
+    slots: &[u16],
+    words: &[usize],
+    tree: &[u8],
+    at: usize,
+    n: usize,
+    text: &mut [u8],
+    spot: usize,
+    f: usize,
+) -> usize
+    ensures { λ r. ⌜ (now (slots .entry) ≡ slotNumbers → now (words .entry) ≡ wordNumbers → bufferIn (now (text .exit)) r ≡ write (bufferIn (now (text .entry)) spot) (textBytes (frameIn f) (take n (drop at (now (tree .entry)))))) ⌝ }
 {
-    let kind = f.kind;
+    let kind = frame::kind_in(f);
     if kind == 22 {
         return literal(tree, at, n, text, spot, f);
     }
@@ -83,50 +103,70 @@ fn text_words(tree: &[u8], at: usize, n: usize, text: &mut [u8], spot: usize, f:
     if kind == 38 {
         return key(tree, at, n, text, spot);
     }
-    let s = out::say(text, spot, places::lead_word(f, 0));
+    let s = out::say(words, text, spot, places::lead_word(slots, f));
     out::copy(tree, at, n, text, s)
 }
 
 // A Reference or a Binding is its bytes.
 pub(crate) fn text_bytes(
+    slots: &[u16],
+    words: &[usize],
     tree: &[u8],
     at: usize,
     n: usize,
     text: &mut [u8],
     spot: usize,
-    f: Frame,
+    f: usize,
 ) -> usize
-    ensures { λ r. ⌜ bufferIn (now (text .exit)) r ≡ write (bufferIn (now (text .entry)) spot) (textBytes f (take n (drop at (now (tree .entry))))) ⌝ }
+    ensures { λ r. ⌜ (now (slots .entry) ≡ slotNumbers → now (words .entry) ≡ wordNumbers → bufferIn (now (text .exit)) r ≡ write (bufferIn (now (text .entry)) spot) (textBytes (frameIn f) (take n (drop at (now (tree .entry)))))) ⌝ }
 {
-    if f.kind / 2 == 9 {
+    if frame::kind_in(f) / 2 == 9 {
         return out::copy(tree, at, n, text, spot);
     }
-    text_words(tree, at, n, text, spot, f)
+    text_words(slots, words, tree, at, n, text, spot, f)
 }
 
 // A Literal that is spelled is noted.
-pub(crate) fn spelled(tree: &[u8], at: usize, n: usize, f: Frame) -> usize
-    ensures { λ r. ⌜ r ≡ spelled f (take n (drop at (now (tree .entry)))) ⌝ }
+pub(crate) fn spelled(tree: &[u8], at: usize, n: usize, f: usize) -> usize
+    ensures { λ r. ⌜ r ≡ spelled (frameIn f) (take n (drop at (now (tree .entry)))) ⌝ }
 {
     if is_empty(tree, at, n) {
-        return f.seen;
+        return frame::seen_in(f);
     }
-    if f.kind == 22 {
-        if f.seen == 0 {
+    if frame::kind_in(f) == 22 {
+        if frame::seen_in(f) == 0 {
             return 1;
         }
     }
-    f.seen
+    frame::seen_in(f)
 }
 
 // A quasi's spelling.
-pub(crate) fn is_quasi(f: Frame) -> bool
-    ensures { λ r. ⌜ r ≡ isQuasi f ⌝ }
+pub(crate) fn is_quasi(f: usize) -> bool
+    ensures { λ r. ⌜ r ≡ isQuasi (frameIn f) ⌝ }
 {
-    if f.kind == 22 {
-        if f.seen == 2 {
-            return frame::lowest(f.rem) == 1;
+    if frame::kind_in(f) == 22 {
+        if frame::seen_in(f) == 2 {
+            return frame::field_in(f) == 1;
         }
     }
     false
+}
+
+// The text of a leaf by its code: that of a StaticKey as its name stands there; a Literal's spelling, or its form in quotes; else
+// the bytes.
+pub(crate) fn leaf(tree: &[u8], p: usize, text: &mut [u8], spot: usize, code: usize) -> usize
+    ensures { λ r. ⌜ (p < 65536 → bufferIn (now (text .exit)) r ≡ write (bufferIn (now (text .entry)) spot) (leafText (now (tree .entry)) code p)) ⌝ }
+{
+    let at = p % 65536 + 2;
+    let n = bytes::wide_at(tree, p % 65536);
+    if code == 12 {
+        return key(tree, at, n, text, spot);
+    }
+    if code == 13 {
+        if is_empty(tree, at, n) {
+            return quoted(tree, at + n, text, spot);
+        }
+    }
+    out::copy(tree, at, n, text, spot)
 }

@@ -16,30 +16,34 @@ use Rattle.printer.proofs.both_passes.Tie as tie
 
 returns : tie.Need-returns
 unfolding refusal
-returns c = λ size z a b d e f g. ap (λ (l : List ℕ). record { answer = 3; long = 0; bytes = l }) z ∙ law.refused-is (c .before .before .before .before .before .before .before .before .before .before .before .before .before .before .before .before .before .before .before .before .before .before .before .before .before .args .tree .now) size (sym ((c .before .before .before .before .before .before .before .before .before .before .before .«record» .ensures a b e d g) .is) ∙ ap (ltb 0) (c .if1 .taken))
+returns c = λ size hp hl hm hs hr hw z f e k g.
+    ap (λ (l : List ℕ). record { answer = 3; long = 0; bytes = l }) z
+    ∙ law.refused-is (c .before .before .before .before .before .before .before .before .before .before .before .before .before .before .before .before .before .before .before .before .before .before .before .before .before .before .args .tree .now) size (sym ((c .before .before .before .before .before .before .before .before .before .«record» .ensures hp hl hm f (omega (arith, ap length e, length-replicate {A = ℕ} 65536 0)) (λ x. law.zero-at (c .before .before .before .before .before .before .before .before .before .before .before .before .before .before .before .before .before .before .before .before .before .before .before .before .before .before .args .seen .now) 65536 x e) k g) .is) ∙ ap (ltb 0) (c .if1 .taken))
 
 sub-print : tie.Need-sub-print
-sub-print c = omega (arith, c .before .before .if1 .left)
+sub-print c = omega (arith, c .before .if1 .left)
 
 returns-2 : tie.Need-returns-2
-returns-2 c = λ size z a b d e f g. law.printed-is (c .before .before .before .before .before .before .before .before .before .before .before .before .before .before .before .before .before .before .before .before .before .before .before .before .before .before .before .before .before .before .before .before .before .before .before .before .before .before .before .before .before .before .before .before .args .tree .now) size _ (sym ((c .before .before .before .before .before .before .before .before .before .before .before .before .before .before .before .before .before .before .before .before .before .before .before .before .before .before .before .before .before .before .«record» .ensures a b e d g) .is) ∙ lt-ltb 0 (c .before .before .before .before .before .before .before .before .before .before .before .before .before .before .before .before .before .before .before .before .before .before .before .before .before .before .before .before .before .before .«record» .result) (omega (arith, c .before .before .before .before .before .before .before .before .before .before .before .before .before .before .before .before .before .before .before .if1 .left))) (λ t q k w. c .before .before .finish .ensures size (textOf t) (c .before .before .before .before .before .before .before .before .before .before .before .before .print .kept .1 .1 .1 .1 .1 .1 .1 .0 ∙ ap length z ∙ length-replicate size 0) (c .before .before .before .before .before .before .before .before .before .before .before .before .print .ensures t ((c .before .before .before .before .before .before .before .before .before .before .before .before .before .before .before .before .before .before .before .before .before .before .before .before .before .before .before .before .before .before .«record» .ensures a b e d g) .logged (c .before .before .before .before .before .before .before .before .before .before .before .before .before .before .before .before .before .before .before .before .before .before .before .before .before .before .before .before .before .before .«record» .result - 1) (omega (arith, c .before .before .before .before .before .before .before .before .before .before .before .before .before .before .before .before .before .before .before .if1 .left)) t q k w) (omega (arith, d, c .before .before .before .before .before .before .before .before .before .before .before .before .before .before .before .before .before .before .before .before .before .before .before .before .before .before .before .before .before .before .«record» .kept .1 .1 .1 .1 .0)) (omega (arith, a, c .before .before .before .before .before .before .before .before .before .before .before .before .before .before .before .before .before .before .before .before .before .before .before .before .before .before .before .before .before .before .«record» .kept .1 .0)) (omega (arith, e, c .before .before .before .before .before .before .before .before .before .before .before .before .before .before .before .before .before .before .before .before .before .before .before .before .before .before .before .before .before .before .«record» .kept .1 .1 .1 .0)) f ∙ ap (λ (l : List ℕ). write (bufferIn l empty) (textOf t)) z))
+returns-2 c = λ size hp hl hm hs hr hw z f e k g.
+    let r = c .before .before .before .before .before .before .before .before .before .before .before .before .before .before .before .before .before .before .before .before .before .before .before .before .«record» .ensures hp hl hm f (omega (arith, ap length e, length-replicate {A = ℕ} 65536 0)) (λ x. law.zero-at (c .before .before .before .before .before .before .before .before .before .before .before .before .before .before .before .before .before .before .before .before .before .before .before .before .before .before .before .before .before .before .before .before .before .before .before .before .before .before .before .before .before .args .seen .now) 65536 x e) k g in
+    law.printed-is (c .before .before .before .before .before .before .before .before .before .before .before .before .before .before .before .before .before .before .before .before .before .before .before .before .before .before .before .before .before .before .before .before .before .before .before .before .before .before .before .before .before .args .tree .now) size _ (sym (r .is) ∙ lt-ltb 0 (c .before .before .before .before .before .before .before .before .before .before .before .before .before .before .before .before .before .before .before .before .before .before .before .before .«record» .result) (omega (arith, c .before .before .before .before .before .before .before .before .before .before .before .before .before .before .before .if1 .left)))
+    (λ t q i w. c .before .before .finish .ensures size (textOf t) (c .before .before .before .before .before .before .before .before .before .before .print .kept .1 .1 .1 .1 .1 .1 .1 .1 .0 ∙ ap length z ∙ length-replicate size 0)
+    (c .before .before .before .before .before .before .before .before .before .before .print .ensures hs hr hw t (r .logged (c .before .before .before .before .before .before .before .before .before .before .before .before .before .before .before .before .before .before .before .before .before .before .before .before .«record» .result - 1) (omega (arith, c .before .before .before .before .before .before .before .before .before .before .before .before .before .before .before .if1 .left)) t q i w) (omega (arith, f, c .before .before .before .before .before .before .before .before .before .before .before .before .before .before .before .before .before .before .before .before .before .before .before .before .«record» .kept .1 .1 .1 .1 .0)) (omega (arith, k, c .before .before .before .before .before .before .before .before .before .before .before .before .before .before .before .before .before .before .before .before .before .before .before .before .«record» .kept .1 .1 .1 .1 .1 .1 .0))
+    ∙ ap (λ (l : List ℕ). write (bufferIn l empty) (textOf t)) z))
 
 pub both-passes-spec : {M : Type 1} → statement M
 both-passes-spec =
     tie.close
     (tie.spec
-    (λ c κs. tt)
-    (λ c. search needs)
+    (λ c κs. search needs)
     (λ c. search needs)
     (λ c. search needs)
     (λ c. search needs)
     (λ c. search needs)
     returns
     sub-print
-    (λ c κs. tt)
-    (λ c κs. tt)
-    (λ c. search needs)
-    (λ c. search needs)
+    (λ c κs. search needs)
+    (λ c κs. search needs)
     (λ c. search needs)
     (λ c. search needs)
     (λ c. search needs)

@@ -1,21 +1,8 @@
-use Rattle.printer.proofs.Around as law
-use mathlib.Core.Path.{sym, ap}
-use Prim.Native.Nat.{ℕ}
-use Rattle.tree.specs.Grammar.{among}
-use Rattle.printer.specs.Places.{isStatement}
-use borrow.Author.Needs.{needs}
 use Rattle.printer.proofs.places.is_statement.Statement.{statement}
 use Rattle.printer.proofs.places.is_statement.Tie as tie
 
 returns : tie.Need-returns
-returns c = law.statement-far _ _ (c .if1 .taken)
-
-returns-2 : tie.Need-returns-2
-unfolding isStatement among
-returns-2 c = ap (λ (k : ℕ). isStatement k (c .before .before .args .note)) (sym (c .if2 .taken))
-
-returns-3 : tie.Need-returns-3
-returns-3 c = law.statement-by _ _ (c .before .if1 .left) (c .if2 .left)
+returns c = λ kind note s. s .statement
 
 pub is-statement-spec : {M : Type 1} → statement M
-is-statement-spec = tie.close (tie.spec returns returns-2 (λ c. search needs) returns-3)
+is-statement-spec = tie.close (tie.spec returns)

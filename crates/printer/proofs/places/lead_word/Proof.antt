@@ -1,12 +1,10 @@
 use mathlib.Core.Path.{refl}
-use Rattle.printer.specs.Places.{fieldIn}
 use borrow.Author.Needs.{needs}
 use Rattle.printer.proofs.places.lead_word.Statement.{statement}
 use Rattle.printer.proofs.places.lead_word.Tie as tie
 
 returns : tie.Need-returns
-unfolding fieldIn
-returns c = rw (c .choose-by .ensures, c .before .lead .ensures, c .before .before .lowest .ensures .0) refl
+returns c = λ h. rw (c .choose-by .ensures, c .before .slot-in .ensures h .0) refl
 
 pub lead-word-spec : {M : Type 1} → statement M
-lead-word-spec = tie.close (tie.spec (λ c κs. search needs) (λ c κs. search needs) (λ c κs. search needs) returns)
+lead-word-spec = tie.close (tie.spec (λ c κs. search needs) (λ c κs. search needs) returns)

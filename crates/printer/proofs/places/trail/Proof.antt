@@ -1,8 +1,10 @@
 use Rattle.printer.proofs.Around as law
-use mathlib.Core.Path.{refl, sym, _∙_}
+use mathlib.Core.Path.{refl, sym, ap, _∙_}
+use Prim.Native.Nat.{ℕ, _%_}
 use borrow.Author.Tests.{eq-eqb, ne-eqb}
 use native.Mathlib.Omega.{arith}
 use Rattle.printer.specs.Places.{trailing}
+use borrow.Author.Needs.{needs}
 use Rattle.printer.proofs.places.trail.Statement.{statement}
 use Rattle.printer.proofs.places.trail.Tie as tie
 
@@ -24,11 +26,11 @@ returns-4 c = (λ h. rw (sym h ∙ c .match .keys4) refl, omega arith)
 
 returns-5 : tie.Need-returns-5
 unfolding trailing
-returns-5 c = (λ h. rw (sym h ∙ c .before .before .match .keys5, eq-eqb _ _ (c .if1 .taken)) refl, omega arith)
+returns-5 c = (λ h. rw (sym h ∙ c .before .before .match .keys5, eq-eqb _ _ (ap (λ (n : ℕ). n % 2) (sym (c .before .note-in .ensures)) ∙ c .if1 .taken)) refl, omega arith)
 
 returns-6 : tie.Need-returns-6
 unfolding trailing
-returns-6 c = (λ h. rw (sym h ∙ c .before .before .match .keys5, ne-eqb _ _ (c .if1 .left)) refl, omega arith)
+returns-6 c = (λ h. rw (sym h ∙ c .before .before .match .keys5, ne-eqb _ _ (λ e. c .if1 .left (ap (λ (n : ℕ). n % 2) (c .before .note-in .ensures) ∙ e))) refl, omega arith)
 
 returns-7 : tie.Need-returns-7
 unfolding trailing
@@ -50,6 +52,7 @@ pub trail-spec : {M : Type 1} → statement M
 trail-spec =
     tie.close
     (tie.spec
+    (λ c κs. search needs)
     returns
     returns-2
     returns-3

@@ -1,22 +1,17 @@
-use Rattle.printer.proofs.ArraysHeld as law
-use mathlib.Core.Path.{ap, _∙_}
-use Rattle.printer.specs.Stacks.{Buffer, write, heldIn}
-use mathlib.Core.List.{[]}
-use mathlib.Core.Bool.{cond}
-use Rattle.printer.specs.Layout.{word}
-use Rattle.printer.specs.Places.{opening, isFilled}
-use Rattle.printer.specs.Text.{cellText}
-use Rattle.printer.specs.Machine.{cellAt}
+use mathlib.Core.Path.{sym, ap, _∙_}
+use Prim.Native.Nat.{ℕ}
+use Rattle.printer.proofs.Openings as law
+use Rattle.printer.specs.Places.{isStatement}
+use Rattle.printer.specs.Stacks.{frameIn}
 use borrow.Author.Needs.{needs}
 use Rattle.printer.proofs.print.opening.Statement.{statement}
 use Rattle.printer.proofs.print.opening.Tie as tie
 
 same-length : tie.Need-same-length
-same-length c = c .before .before .say-any5 .kept .0 ∙ c .before .before .before .before .before .before .before .say-any4 .kept .0 ∙ c .before .before .before .before .before .before .before .before .before .before .before .before .say-any3 .kept .0 ∙ c .before .before .before .before .before .before .before .before .before .before .before .before .before .before .before .before .before .say-any2 .kept .0 ∙ c .before .before .before .before .before .before .before .before .before .before .before .before .before .before .before .before .before .before .before .before .before .before .quasi-in .kept .1 .1 .1 .0 ∙ c .before .before .before .before .before .before .before .before .before .before .before .before .before .before .before .before .before .before .before .before .before .before .before .before .before .before .say-any .kept .0
+same-length c = c .before .before .bracket2 .kept .0 ∙ c .before .before .before .before .before .before .before .before .before .say-any2 .kept .1 .0 ∙ c .before .before .before .before .before .before .before .before .before .before .before .before .before .before .bracket .kept .0 ∙ c .before .before .before .before .before .before .before .before .before .before .before .before .before .before .before .before .before .before .joint .kept .1 .1 .1 .0 ∙ c .before .before .before .before .before .before .before .before .before .before .before .before .before .before .before .before .before .before .before .before .before .before .before .say-any .kept .1 .0
 
 returns : tie.Need-returns
-unfolding opening
-returns c = λ hm ho hd hs hw hn. c .before .before .say-any5 .ensures ∙ ap (λ (b : Buffer). write b (word (c .before .before .before .computed .result))) (c .before .before .before .before .before .before .before .say-any4 .ensures ∙ ap (λ (b : Buffer). write b (word (c .before .before .before .before .before .before .before .before .head-word .result))) (c .before .before .before .before .before .before .before .before .before .before .before .before .say-any3 .ensures ∙ ap (λ (b : Buffer). write b (word (c .before .before .before .before .before .before .before .before .before .before .before .before .before .parenthesis .result))) (c .before .before .before .before .before .before .before .before .before .before .before .before .before .before .before .before .before .say-any2 .ensures ∙ ap (λ (b : Buffer). write b (word (c .before .before .before .before .before .before .before .before .before .before .before .before .before .before .before .before .before .before .joining .result))) (c .before .before .before .before .before .before .before .before .before .before .before .before .before .before .before .before .before .before .before .before .before .before .quasi-in .ensures hm ∙ ap (λ (b : Buffer). write b (cond (isFilled (c .before .before .before .before .before .before .before .before .before .before .before .before .before .before .before .before .before .before .before .before .before .before .before .before .before .before .before .before .before .before .before .before .before .before .args .s .frame)) (cellText (cellAt (heldIn (c .before .before .before .before .before .before .before .before .before .before .before .before .before .before .before .before .before .before .before .before .before .before .before .before .before .before .before .before .before .before .before .before .before .before .args .tree .now) (c .before .before .before .before .before .before .before .before .before .before .before .before .before .before .before .before .before .before .before .before .before .before .before .before .before .before .before .before .before .before .before .before .before .before .args .starts .now) (c .before .before .before .before .before .before .before .before .before .before .before .before .before .before .before .before .before .before .before .before .before .before .before .before .before .before .before .before .before .before .before .before .before .before .args .sizes .now) (c .before .before .before .before .before .before .before .before .before .before .before .before .before .before .before .before .before .before .before .before .before .before .before .before .before .before .before .before .before .before .before .before .before .before .args .s .count)) (c .before .before .before .before .before .before .before .before .before .before .before .before .before .before .before .before .before .before .before .before .before .before .before .before .before .before .before .before .before .before .before .before .before .before .args .s .next))) [])) (c .before .before .before .before .before .before .before .before .before .before .before .before .before .before .before .before .before .before .before .before .before .before .before .before .before .before .say-any .ensures))))) ∙ rw (c .before .before .before .computed .ensures, c .before .before .before .before .before .before .before .before .head-word .ensures, hn, hd, c .before .before .before .before .before .before .before .before .before .before .before .before .before .parenthesis .ensures, hw, c .before .before .before .before .before .before .before .before .before .before .before .before .before .before .before .before .before .before .joining .ensures (c .before .before .before .before .before .before .before .before .before .before .before .before .before .before .before .before .before .before .before .before .before .before .before .before .before .before .before .before .before .before .before .before .before .before .args .s .frame) (c .before .before .before .before .before .before .before .before .before .before .before .before .before .before .before .before .before .before .before .before .before .before .before .before .before .before .before .before .before .before .before .before .before .before .args .note) hm hs, c .before .before .before .before .before .before .before .before .before .before .before .before .before .before .before .before .before .before .before .before .before .before .before .before .before .before .before .leading .ensures (c .before .before .before .before .before .before .before .before .before .before .before .before .before .before .before .before .before .before .before .before .before .before .before .before .before .before .before .before .before .before .before .before .before .before .args .kind) (c .before .before .before .before .before .before .before .before .before .before .before .before .before .before .before .before .before .before .before .before .before .before .before .before .before .before .before .before .before .before .before .before .before .before .args .map) hm ho hd) (law.six _ _ _ _ _ _ _)
+returns c = λ w k m n hm ho hd hs hw hh hf. law.opened (frameIn (c .before .before .before .before .before .before .before .before .before .before .before .before .before .before .before .before .before .before .before .before .before .before .before .before .before .before .before .before .before .before .args .p)) (frameIn (c .before .before .before .before .before .before .before .before .before .before .before .before .before .before .before .before .before .before .before .before .before .before .before .before .before .before .before .before .before .before .args .f)) k m n hf _ _ (c .before .before .before .before .before .before .before .before .before .before .before .before .before .before .before .before .before .before .before .before .before .before .before .before .before .before .before .before .before .before .args .wrapped) (c .before .before .before .is-computed .result) (c .before .before .before .before .before .before .before .before .before .before .before .before .before .before .before .before .before .before .before .before .before .before .before .before .leading .ensures k m hm ho hd) hd hh hw (c .before .before .before .before .before .before .before .before .before .before .before .before .before .before .before .before .before .before .before .kind-in .ensures) (c .before .before .before .before .before .kind-in2 .ensures) (c .before .before .before .before .note-in .ensures) (c .before .before .before .before .before .before .before .before .before .before .choose .ensures) (c .before .before .before .is-computed .ensures) (c .before .before .before .before .before .before .before .before .before .before .before .before .before .before .before .before .before .before .before .before .before .before .before .say-any .ensures w) (c .before .before .before .before .before .before .before .before .before .before .before .before .before .before .before .before .before .before .joint .ensures w n hm (hs ∙ ap (λ (x : ℕ). isStatement x n) (sym (law.kind-is (frameIn (c .before .before .before .before .before .before .before .before .before .before .before .before .before .before .before .before .before .before .before .before .before .before .before .before .before .before .before .before .before .before .args .p)) (frameIn (c .before .before .before .before .before .before .before .before .before .before .before .before .before .before .before .before .before .before .before .before .before .before .before .before .before .before .before .before .before .before .args .f)) k m n hf _ (c .before .before .before .before .before .before .before .before .before .before .before .before .before .before .before .before .before .before .before .kind-in .ensures))))) (c .before .before .before .before .before .before .before .before .before .before .before .before .before .before .bracket .ensures) (c .before .before .before .before .before .before .before .before .before .say-any2 .ensures w) (c .before .before .bracket2 .ensures)
 
 pub opening-spec : {M : Type 1} → statement M
 opening-spec =

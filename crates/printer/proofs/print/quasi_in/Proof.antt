@@ -5,7 +5,7 @@ use Rattle.printer.proofs.print.quasi_in.Statement.{statement}
 use Rattle.printer.proofs.print.quasi_in.Tie as tie
 
 returns : tie.Need-returns
-returns c = λ h. c .before .before .quasi .ensures ∙ rw (sym (c .before .before .before .before .before .is-filled .ensures h) ∙ c .before .before .before .before .if1 .taken) refl
+returns c = λ h. c .before .before .quasi .ensures ∙ rw (c .before .before .before .next-in .ensures, sym (c .before .before .before .before .before .before .is-filled .ensures h) ∙ c .before .before .before .before .before .if1 .taken) refl
 
 returns-2 : tie.Need-returns-2
 unfolding write
@@ -13,4 +13,11 @@ returns-2 c = λ h. rw (sym (c .before .is-filled .ensures h) ∙ c .if1 .left) 
 
 pub quasi-in-spec : {M : Type 1} → statement M
 quasi-in-spec =
-    tie.close (tie.spec (λ c κs. search needs) (λ c κs. search needs) (λ c. search needs) returns returns-2)
+    tie.close
+    (tie.spec
+    (λ c κs. search needs)
+    (λ c κs. search needs)
+    (λ c κs. search needs)
+    (λ c. search needs)
+    returns
+    returns-2)

@@ -8,7 +8,7 @@ returns : tie.Need-returns
 returns c = law.start-none _ _ _ (c .if1 .taken)
 
 returns-2 : tie.Need-returns-2
-returns-2 c = c .number-at .ensures ∙ law.start-some _ _ _ (c .before .before .if1 .left) (c .before .if2 .taken)
+returns-2 c = c .short-at .ensures ∙ law.start-some _ _ _ (c .before .before .if1 .left) (c .before .if2 .taken)
 
 returns-3 : tie.Need-returns-3
 returns-3 c = law.start-past _ _ _ (c .before .if1 .left) (c .if2 .left)

@@ -1,15 +1,15 @@
+use native.Mathlib.Omega.{arith}
 use Rattle.printer.specs.Stacks.{bufferIn}
 use Rattle.printer.proofs.StepTurns as law
-use native.Mathlib.Omega.{arith}
 use borrow.Author.Needs.{needs}
 use Rattle.printer.proofs.step.end.Statement.{statement}
 use Rattle.printer.proofs.step.end.Tie as tie
 
 returns : tie.Need-returns
-returns c = λ t n a b h. absurd (omega (arith, h, c .if1 .taken))
+returns c = λ hr hw t a h. absurd (omega (arith, h, c .if1 .taken))
 
 returns-2 : tie.Need-returns-2
-returns-2 c = λ t n a b h. law.end-turned t n (c .before .before .before .before .before .before .before .before .before .before .before .args .stack .now) a b (bufferIn (c .before .before .before .before .before .before .before .before .before .before .before .args .text .now) (c .before .before .before .before .before .before .before .before .before .before .before .args .s .spot)) _ (c .before .before .before .before .before .before .before .before .before .before .before .args .s) _ _ _ (c .before .before .before .before .before .closing .result) h (c .before .before .before .before .before .closing .ensures) (c .before .before .number-at .ensures) (c .before .frame-in .ensures) (c .next-in .ensures)
+returns-2 c = λ hr hw t a h. law.end-turned t (c .before .before .before .before .before .before .before .before .before .before .args .stack .now) a (bufferIn (c .before .before .before .before .before .before .before .before .before .before .args .text .now) (c .before .before .before .before .before .before .before .before .before .before .args .s .spot)) _ (c .before .before .before .before .before .before .before .before .before .before .args .s) _ (c .before .before .before .closing .result) h (c .before .before .before .closing .ensures hr hw) (c .number-at .ensures)
 
 pub end-spec : {M : Type 1} → statement M
 end-spec =
@@ -18,8 +18,6 @@ end-spec =
     returns
     (λ c κs. search needs)
     (λ c. search needs)
-    (λ c κs. search needs)
-    (λ c κs. search needs)
     (λ c κs. search needs)
     (λ c. search needs)
     (λ c. search needs)

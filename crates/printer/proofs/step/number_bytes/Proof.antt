@@ -1,4 +1,4 @@
-use mathlib.Core.Path.{refl, _∙_}
+use mathlib.Core.Path.{refl, sym, _∙_}
 use borrow.Author.Tests.{eq-eqb, ne-eqb}
 use Rattle.printer.specs.Places.{numberBytes}
 use Rattle.printer.specs.Stacks.{write}
@@ -8,11 +8,18 @@ use Rattle.printer.proofs.step.number_bytes.Tie as tie
 
 returns : tie.Need-returns
 unfolding numberBytes
-returns c = c .before .before .decimal .ensures ∙ rw (eq-eqb _ _ (c .before .before .before .before .if1 .taken)) refl
+returns c = c .before .before .decimal .ensures ∙ rw (eq-eqb _ _ (sym (c .before .before .before .before .before .kind-in .ensures) ∙ c .before .before .before .before .if1 .taken)) refl
 
 returns-2 : tie.Need-returns-2
 unfolding numberBytes write
-returns-2 c = rw (ne-eqb _ _ (c .if1 .left)) refl
+returns-2 c = rw (ne-eqb _ _ (λ e. c .if1 .left (c .before .kind-in .ensures ∙ e))) refl
 
 pub number-bytes-spec : {M : Type 1} → statement M
-number-bytes-spec = tie.close (tie.spec (λ c κs. search needs) (λ c. search needs) returns returns-2)
+number-bytes-spec =
+    tie.close
+    (tie.spec
+    (λ c κs. search needs)
+    (λ c κs. search needs)
+    (λ c. search needs)
+    returns
+    returns-2)

@@ -12,24 +12,25 @@ use Rattle.printer.proofs.texts.text_words.Tie as tie
 
 returns : tie.Need-returns
 unfolding textBytes
-returns c = c .before .before .literal .ensures ∙ rw (eq-eqb _ _ (c .before .before .before .before .if1 .taken)) refl
+returns c = λ s w. c .before .before .literal .ensures ∙ rw (eq-eqb _ _ (sym (c .before .before .before .before .before .kind-in .ensures) ∙ c .before .before .before .before .if1 .taken)) refl
 
 returns-2 : tie.Need-returns-2
 unfolding textBytes
-returns-2 c = c .before .before .member .ensures ∙ rw (ne-eqb _ _ (c .before .before .before .before .before .if1 .left), eq-eqb _ _ (c .before .before .before .before .if2 .taken)) refl
+returns-2 c = λ s w. c .before .before .member .ensures ∙ rw (ne-eqb _ _ (λ e. c .before .before .before .before .before .if1 .left (c .before .before .before .before .before .before .kind-in .ensures ∙ e)), eq-eqb _ _ (sym (c .before .before .before .before .before .before .kind-in .ensures) ∙ c .before .before .before .before .if2 .taken)) refl
 
 returns-3 : tie.Need-returns-3
 unfolding textBytes
-returns-3 c = c .before .before .key .ensures ∙ rw (ne-eqb _ _ (c .before .before .before .before .before .before .if1 .left), ne-eqb _ _ (c .before .before .before .before .before .if2 .left), eq-eqb _ _ (c .before .before .before .before .if3 .taken)) refl
+returns-3 c = λ s w. c .before .before .key .ensures ∙ rw (ne-eqb _ _ (λ e. c .before .before .before .before .before .before .if1 .left (c .before .before .before .before .before .before .before .kind-in .ensures ∙ e)), ne-eqb _ _ (λ e. c .before .before .before .before .before .if2 .left (c .before .before .before .before .before .before .before .kind-in .ensures ∙ e)), eq-eqb _ _ (sym (c .before .before .before .before .before .before .before .kind-in .ensures) ∙ c .before .before .before .before .if3 .taken)) refl
 
 returns-4 : tie.Need-returns-4
 unfolding textBytes
-returns-4 c = c .before .before .copy .ensures ∙ ap (λ (b : Buffer). write b (take (c .before .before .before .before .before .before .before .before .before .before .before .before .before .before .args .n) (drop (c .before .before .before .before .before .before .before .before .before .before .before .before .before .before .args .at) (c .before .before .before .before .before .before .before .before .before .before .before .before .before .before .args .tree .now)))) (c .before .before .before .before .before .before .say .ensures ∙ ap (λ (z : ℕ). write (bufferIn (c .before .before .before .before .before .before .before .before .before .before .before .before .before .before .args .text .now) (c .before .before .before .before .before .before .before .before .before .before .before .before .before .before .args .spot)) (word z)) (c .before .before .before .before .before .before .before .lead-word .ensures)) ∙ sym (write-append (bufferIn (c .before .before .before .before .before .before .before .before .before .before .before .before .before .before .args .text .now) (c .before .before .before .before .before .before .before .before .before .before .before .before .before .before .args .spot)) _ (take (c .before .before .before .before .before .before .before .before .before .before .before .before .before .before .args .n) (drop (c .before .before .before .before .before .before .before .before .before .before .before .before .before .before .args .at) (c .before .before .before .before .before .before .before .before .before .before .before .before .before .before .args .tree .now)))) ∙ rw (ne-eqb _ _ (c .before .before .before .before .before .before .before .before .before .before .before .if1 .left), ne-eqb _ _ (c .before .before .before .before .before .before .before .before .before .before .if2 .left), ne-eqb _ _ (c .before .before .before .before .before .before .before .before .before .if3 .left)) refl
+returns-4 c = λ s w. c .before .before .copy .ensures ∙ ap (λ (b : Buffer). write b (take (c .before .before .before .before .before .before .before .before .before .before .before .before .before .before .before .before .before .args .n) (drop (c .before .before .before .before .before .before .before .before .before .before .before .before .before .before .before .before .before .args .at) (c .before .before .before .before .before .before .before .before .before .before .before .before .before .before .before .before .before .args .tree .now)))) (c .before .before .before .before .before .before .say .ensures w ∙ ap (λ (z : ℕ). write (bufferIn (c .before .before .before .before .before .before .before .before .before .before .before .before .before .before .before .before .before .args .text .now) (c .before .before .before .before .before .before .before .before .before .before .before .before .before .before .before .before .before .args .spot)) (word z)) (c .before .before .before .before .before .before .before .lead-word .ensures s)) ∙ sym (write-append _ _ _) ∙ rw (ne-eqb _ _ (λ e. c .before .before .before .before .before .before .before .before .before .before .before .if1 .left (c .before .before .before .before .before .before .before .before .before .before .before .before .kind-in .ensures ∙ e)), ne-eqb _ _ (λ e. c .before .before .before .before .before .before .before .before .before .before .if2 .left (c .before .before .before .before .before .before .before .before .before .before .before .before .kind-in .ensures ∙ e)), ne-eqb _ _ (λ e. c .before .before .before .before .before .before .before .before .before .if3 .left (c .before .before .before .before .before .before .before .before .before .before .before .before .kind-in .ensures ∙ e))) refl
 
 pub text-words-spec : {M : Type 1} → statement M
 text-words-spec =
     tie.close
     (tie.spec
+    (λ c κs. search needs)
     (λ c κs. search needs)
     (λ c. search needs)
     returns

@@ -1,96 +1,13 @@
-use mathlib.Core.Path.{sym, ap}
-use Rattle.printer.specs.Layout.{words, word}
-use Rattle.printer.specs.Rows.{packed, lowOf}
-use Rattle.printer.proofs.LayoutNumbers.{no-low}
+use Rattle.printer.proofs.LayoutNumbers as law
+use borrow.Author.Needs.{needs}
 use Rattle.printer.proofs.words.low.Statement.{statement}
 use Rattle.printer.proofs.words.low.Tie as tie
 
--- each number is what the layout works out to
+returns : tie.Need-returns
+returns c e = law.low-in _ _ e
+
+returns-2 : tie.Need-returns-2
+returns-2 c e = law.low-past _ _ (c .if1 .left) e
+
 pub low-spec : {M : Type 1} → statement M
-unfolding packed lowOf word words
-low-spec =
-    tie.close
-    (tie.spec
-    (λ c. ap lowOf (sym (c .match .keys1)))
-    (λ c. ap lowOf (sym (c .match .keys2)))
-    (λ c. ap lowOf (sym (c .match .keys3)))
-    (λ c. ap lowOf (sym (c .match .keys4)))
-    (λ c. ap lowOf (sym (c .match .keys5)))
-    (λ c. ap lowOf (sym (c .match .keys6)))
-    (λ c. ap lowOf (sym (c .match .keys7)))
-    (λ c. ap lowOf (sym (c .match .keys8)))
-    (λ c. ap lowOf (sym (c .match .keys9)))
-    (λ c. ap lowOf (sym (c .match .keys10)))
-    (λ c. ap lowOf (sym (c .match .keys11)))
-    (λ c. ap lowOf (sym (c .match .keys12)))
-    (λ c. ap lowOf (sym (c .match .keys13)))
-    (λ c. ap lowOf (sym (c .match .keys14)))
-    (λ c. ap lowOf (sym (c .match .keys15)))
-    (λ c. ap lowOf (sym (c .match .keys16)))
-    (λ c. ap lowOf (sym (c .match .keys17)))
-    (λ c. ap lowOf (sym (c .match .keys18)))
-    (λ c. ap lowOf (sym (c .match .keys19)))
-    (λ c. ap lowOf (sym (c .match .keys20)))
-    (λ c. ap lowOf (sym (c .match .keys21)))
-    (λ c. ap lowOf (sym (c .match .keys22)))
-    (λ c. ap lowOf (sym (c .match .keys23)))
-    (λ c. ap lowOf (sym (c .match .keys24)))
-    (λ c. ap lowOf (sym (c .match .keys25)))
-    (λ c. ap lowOf (sym (c .match .keys26)))
-    (λ c. ap lowOf (sym (c .match .keys27)))
-    (λ c. ap lowOf (sym (c .match .keys28)))
-    (λ c. ap lowOf (sym (c .match .keys29)))
-    (λ c. ap lowOf (sym (c .match .keys30)))
-    (λ c. ap lowOf (sym (c .match .keys31)))
-    (λ c. ap lowOf (sym (c .match .keys32)))
-    (λ c. ap lowOf (sym (c .match .keys33)))
-    (λ c. ap lowOf (sym (c .match .keys34)))
-    (λ c. ap lowOf (sym (c .match .keys35)))
-    (λ c. ap lowOf (sym (c .match .keys36)))
-    (λ c. ap lowOf (sym (c .match .keys37)))
-    (λ c. ap lowOf (sym (c .match .keys38)))
-    (λ c. ap lowOf (sym (c .match .keys39)))
-    (λ c. ap lowOf (sym (c .match .keys40)))
-    (λ c. ap lowOf (sym (c .match .keys41)))
-    (λ c. ap lowOf (sym (c .match .keys42)))
-    (λ c. ap lowOf (sym (c .match .keys43)))
-    (λ c. ap lowOf (sym (c .match .keys44)))
-    (λ c. ap lowOf (sym (c .match .keys45)))
-    (λ c. ap lowOf (sym (c .match .keys46)))
-    (λ c. ap lowOf (sym (c .match .keys47)))
-    (λ c. ap lowOf (sym (c .match .keys48)))
-    (λ c. ap lowOf (sym (c .match .keys49)))
-    (λ c. ap lowOf (sym (c .match .keys50)))
-    (λ c. ap lowOf (sym (c .match .keys51)))
-    (λ c. ap lowOf (sym (c .match .keys52)))
-    (λ c. ap lowOf (sym (c .match .keys53)))
-    (λ c. ap lowOf (sym (c .match .keys54)))
-    (λ c. ap lowOf (sym (c .match .keys55)))
-    (λ c. ap lowOf (sym (c .match .keys56)))
-    (λ c. ap lowOf (sym (c .match .keys57)))
-    (λ c. ap lowOf (sym (c .match .keys58)))
-    (λ c. ap lowOf (sym (c .match .keys59)))
-    (λ c. ap lowOf (sym (c .match .keys60)))
-    (λ c. ap lowOf (sym (c .match .keys61)))
-    (λ c. ap lowOf (sym (c .match .keys62)))
-    (λ c. ap lowOf (sym (c .match .keys63)))
-    (λ c. ap lowOf (sym (c .match .keys64)))
-    (λ c. ap lowOf (sym (c .match .keys65)))
-    (λ c. ap lowOf (sym (c .match .keys66)))
-    (λ c. ap lowOf (sym (c .match .keys67)))
-    (λ c. ap lowOf (sym (c .match .keys68)))
-    (λ c. ap lowOf (sym (c .match .keys69)))
-    (λ c. ap lowOf (sym (c .match .keys70)))
-    (λ c. ap lowOf (sym (c .match .keys71)))
-    (λ c. ap lowOf (sym (c .match .keys72)))
-    (λ c. ap lowOf (sym (c .match .keys73)))
-    (λ c. ap lowOf (sym (c .match .keys74)))
-    (λ c. ap lowOf (sym (c .match .keys75)))
-    (λ c. ap lowOf (sym (c .match .keys76)))
-    (λ c. ap lowOf (sym (c .match .keys77)))
-    (λ c. ap lowOf (sym (c .match .keys78)))
-    (λ c. ap lowOf (sym (c .match .keys79)))
-    (λ c. ap lowOf (sym (c .match .keys80)))
-    (λ c. ap lowOf (sym (c .match .keys81)))
-    (λ c. ap lowOf (sym (c .match .keys82)))
-    (λ c. no-low _ (c .match .rest)))
+low-spec = tie.close (tie.spec (λ c. search needs) (λ c. search needs) returns returns-2)
