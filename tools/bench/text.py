@@ -4,8 +4,8 @@
     tools/bench/text.py [--printer FILE] [--library FILE] [--seconds S] [TREE..]
 
 Wants cc, target/staticlib/libprinter.a and target/staticlib/librest_spread.a, which `rt staticlib printer rest_spread` makes (or the
-two FILEs). All trees, or those that are named, are measured in one run by turns. Prints a table: times in microseconds, then the
-ratio to copying the text and, of all trees, to lowering ordinary-16k.
+two FILEs). All trees, or those that are named, are measured in one run by turns. Prints a table: medians in microseconds and the least
+time, then the ratio to copying the text and, of all trees, to lowering ordinary-16k, by medians and by the least times.
 """
 import argparse
 import pathlib
@@ -67,13 +67,13 @@ def main():
             (folder / tree).write_bytes(TREES[tree]())
         lines = run([folder / "text", given.seconds, *[folder / tree for tree in names]], stdout=subprocess.PIPE).stdout.decode()
     rows = [line.split() for line in lines.splitlines()]
-    lowering = next(float(row[7]) for row in rows if row[0] == "ordinary-16k")
-    print("| Tree | Bytes | Answer | Text | Printing | Copying | Lowering | to copying | to lowering 16 KB |")
-    print("|---|--:|--:|--:|--:|--:|--:|--:|--:|")
-    for tree, size, answer, long, _, printing, copying, lower in rows:
-        time, copied = float(printing), float(copying)
-        own = f"{float(lower):,.1f}" if float(lower) else ""
-        print(f"| {tree} | {int(size):,} | {answer} | {int(long):,} | {time:,.1f} | {copied:.2f} | {own} | {time / copied:,.1f} | {time / lowering:.2f} |")
+    lowering, lowest = next((float(row[9]), float(row[10])) for row in rows if row[0] == "ordinary-16k")
+    print("| Tree | Bytes | Answer | Text | Printing | least | Copying | Lowering | least | to copying | to lowering 16 KB | by the least |")
+    print("|---|--:|--:|--:|--:|--:|--:|--:|--:|--:|--:|--:|")
+    for tree, size, answer, long, _, *times in rows:
+        time, least, copied, _, lower, low = map(float, times)
+        own = f"{lower:,.1f} | {low:,.1f}" if lower else " | "
+        print(f"| {tree} | {int(size):,} | {answer} | {int(long):,} | {time:,.1f} | {least:,.1f} | {copied:.2f} | {own} | {time / copied:,.1f} | {time / lowering:.2f} | {least / lowest:.2f} |")
     print(f"{rows[0][4]} rounds")
 
 
