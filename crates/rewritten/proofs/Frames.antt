@@ -192,7 +192,7 @@ marked-first v h m = go (eqb (v % 1024 / 512) 0) refl (rw (row-first v h) at m)
     go false e t = let n : v % 1024 / 512 ≡ 0 → ⊥ = eqb-false (v % 1024 / 512) 0 e in (omega arith, t)
 
 -- the first k fields stand, and no others
-first-fields : (k plan map : ℕ) → marked (fieldsIn plan) ≡ true → map + 1 ≡ 2 ^ k → Planned plan map (plan % 2 ^ (10 * k))
+pub first-fields : (k plan map : ℕ) → marked (fieldsIn plan) ≡ true → map + 1 ≡ 2 ^ k → Planned plan map (plan % 2 ^ (10 * k))
 first-fields zero plan map m e =
     let z : map ≡ 0 = omega arith in
     let w : plan % 2 ^ (10 * 0) ≡ 0 = mod-one plan in

@@ -8,7 +8,7 @@ use native.Mathlib.Nat.{zero-div, add-zero, suc-add, add-suc, zero-add, le-of-su
 use native.Mathlib.Omega.{arith}
 use native.Mathlib.Decide.{decLt}
 use lib.Dec.{T, eqb, eqb→eq, ltb, ltb→lt}
-use lib.ListN.{getD, List·getD-eq-default, List·getD-map}
+use lib.ListN.{length, getD, List·getD-eq-default, List·getD-map}
 use borrow.Author.Tests.{eq-eqb, ne-eqb, le-ltb}
 use Rattle.tree.specs.Grammar.{Sort, places, allowed, also, among, kindOf, formIn, formAt, kinds, variants, fieldsOf, mapOk}
 use Rattle.tree.specs.Grammar.Stage.{rewritten}
@@ -22,6 +22,7 @@ use Rattle.rewritten.specs.Steps.{Planned, comingNode}
 use Rattle.rewritten.specs.Look.{Ahead}
 use Rattle.rewritten.specs.Numbers.{placeNumbers, planNumbers, mapNumbers, marked}
 use Rattle.rewritten.proofs.RewrittenForms.{no-form-either}
+use Rattle.rewritten.proofs.Frames.{first-fields}
 use Rattle.rewritten.proofs.Ahead.{node-wrong, node-unfit, node-fits}
 
 -- ---- the kinds at a place
@@ -169,3 +170,15 @@ module _ (l : List ℕ) (p at kind : ℕ) (look : Peeked l at kind) where
       map-fits b plans e plan v r made =
           let w : plan ≡ row = v ∙ ap (λ (x : List ℕ). getD x form 0) e in
           node-fits l at p kind form look found stands m row next rowed (sym fit ∙ eq-eqb (maps / 2 ^ m % 2) 1 (omega arith)) r (rw w at made (plan-marked form low))
+
+    -- a form and a bit map that are known: the map fits, and the first fields of the plan are a known number
+    pub leaf-fits : (f b k r : ℕ) → form ≡ f → m ≡ b → b < 64 → b + 1 ≡ 2 ^ k → getD mapNumbers f 0 / 2 ^ b % 2 ≡ 1 → getD planNumbers f 0 % 2 ^ (10 * k) ≡ r → (rest : ℕ) → Ahead l at rest (λ fs deep. comingNode l fs p at deep rest) (1 + 16 * r)
+    leaf-fits f b k r here there small firsts stand are =
+        let bit : getD mapNumbers form 0 / 2 ^ m % 2 ≡ 1 = rw (here, there) stand in
+        let made : getD planNumbers form 0 % 2 ^ (10 * k) ≡ r = rw here are in
+        map-fits (omega arith) mapNumbers refl (getD mapNumbers form 0) refl (λ z. absurd (omega arith)) planNumbers refl (getD planNumbers form 0) refl r
+        (λ t. rw made at (first-fields k (getD planNumbers form 0) m t (omega arith)))
+
+-- both bytes of a node stand, if the second was found
+pub both-stand : (l : List ℕ) (at m : ℕ) → Peeked l (at + 1) m → m < 64 → at + 2 ≤ length l
+both-stand l at m next small = let i : at + 1 < length l = next .within (omega arith) in omega arith

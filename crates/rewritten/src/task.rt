@@ -86,6 +86,11 @@ fn planned(plan: usize, map: usize) -> usize
     made
 }
 
+// What is found of a node of one text, and of one of a byte and two texts: their plans are known.
+pub const ONE_TEXT: usize = 10753;
+
+pub const BYTE_AND_TEXTS: usize = 11285311585;
+
 // A node that may stand at the place.
 pub fn node(
     places: &[usize],
@@ -106,6 +111,22 @@ pub fn node(
         return 0;
     }
     let map = bytes::peek(tree, at + 1);
+    if map == 1 {
+        if form == 18 {
+            return ONE_TEXT;
+        }
+        if form == 19 {
+            return ONE_TEXT;
+        }
+        if form == 38 {
+            return ONE_TEXT;
+        }
+    }
+    if map == 7 {
+        if form == 22 {
+            return BYTE_AND_TEXTS;
+        }
+    }
     if 63 < map {
         return 0;
     }
