@@ -2,7 +2,7 @@
 -- Assumes nothing.
 use mathlib.Core.Path.{_≡_, refl}
 use mathlib.Core.List.{[], _∷_}
-use Prim.Native.Nat.{ℕ, zero, suc, _+_}
+use Prim.Native.Nat.{ℕ, zero, suc, _+_, _*_, _<_}
 use native.Mathlib.Omega.{arith}
 use lib.ListN.{getD}
 
@@ -33,3 +33,12 @@ no-trailing a b (suc (suc (suc (suc (suc zero))))) p q r s t u v = absurd (t ref
 no-trailing a b (suc (suc (suc (suc (suc (suc zero)))))) p q r s t u v = absurd (u refl)
 no-trailing a b (suc (suc (suc (suc (suc (suc (suc zero))))))) p q r s t u v = absurd (v refl)
 no-trailing a b (suc (suc (suc (suc (suc (suc (suc (suc m)))))))) p q r s t u v = refl
+
+-- up to 4 each is two more
+pub trailing-by : (a b m : ℕ) → m < 5 → 50 + 2 * m ≡ getD (50 ∷ 52 ∷ 54 ∷ 56 ∷ 58 ∷ a ∷ 62 ∷ b ∷ []) m 50
+trailing-by a b zero h = refl
+trailing-by a b (suc zero) h = refl
+trailing-by a b (suc (suc zero)) h = refl
+trailing-by a b (suc (suc (suc zero))) h = refl
+trailing-by a b (suc (suc (suc (suc zero)))) h = refl
+trailing-by a b (suc (suc (suc (suc (suc m))))) h = absurd (omega arith)

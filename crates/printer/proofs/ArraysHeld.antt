@@ -12,6 +12,7 @@ use borrow.Author.Tests.{lt-ltb, le-ltb}
 use Rattle.printer.specs.Text.{Cell, cellText, leftOver}
 use Rattle.printer.specs.Text.Cell.{quasi, stop}
 use Rattle.printer.specs.Machine.{Open, cellAt, cellsFrom, stepOver}
+use Rattle.printer.specs.Places.{without, noting, past}
 use Rattle.printer.specs.Stacks.{frameIn, nextIn, openIn, packedFrame, opensIn, textAt, cellIn, heldIn, Buffer, write}
 use Rattle.printer.specs.Turns.{startOf, Small}
 use Rattle.printer.specs.declared.frame.Frame.{Frame}
@@ -76,6 +77,38 @@ packs f x s =
           d128 h (x % 16777216),
           mm x j,
         ) refl
+
+-- a number by its last digit and the others, of which some are taken away
+s256 : (v t : ℕ) → t ≤ v / 256 → v % 256 % 256 + 256 * (v / 256 - t) ≡ v - 256 * t
+s256 v t h = omega arith
+
+s64 : (v t : ℕ) → t ≤ v / 64 → v % 64 % 64 + 64 * (v / 64 - t) ≡ v - 64 * t
+s64 v t h = omega arith
+
+t4 : (v : ℕ) → v % 4 % 4 + 4 * (v / 4) ≡ v
+t4 v = omega arith
+
+t2 : (v : ℕ) → v % 2 % 2 + 2 * (v / 2) ≡ v
+t2 v = omega arith
+
+t128 : (v : ℕ) → v % 128 % 128 + 128 * (v / 128) ≡ v
+t128 v = omega arith
+
+-- what stands above the fields still to come
+above : (e : ℕ) → e < 17179869184 → e % 4 % 4 + 4 * (e / 4 % 2 % 2 + 2 * (e / 4 / 2 % 128 % 128 + 128 * (e / 4 / 2 / 128 % 16777216 % 16777216))) ≡ e
+above e h = rw (mm (e / 4 / 2 / 128) (omega arith), t128 (e / 4 / 2), t2 (e / 4), t4 e) refl
+
+fewer : (d w : ℕ) → w ≤ d % 256 → w % 256 + 256 * (d / 256) ≡ d - (d % 256 - w)
+fewer d w h = omega arith
+
+-- the next field is one bit less
+pub past-by : (v r w : ℕ) → v < 18446744073709551616 → r ≡ frameIn v .rem → w ≡ without r → w ≤ r → v - 4194304 * (r - w) ≡ packedFrame (past (frameIn v)) (nextIn v)
+unfolding packedFrame past noting
+past-by v r w h d e l =
+    let f : w ≡ without (v / 64 / 256 / 256 % 256) = e ∙ ap without d in
+    let g : w ≤ v / 64 / 256 / 256 % 256 = omega arith in
+    let t : ℕ = v / 64 / 256 / 256 % 256 - w in
+    rw (← f, above (v / 64 / 256 / 256 / 256) (omega arith), fewer (v / 64 / 256 / 256) w g, s256 (v / 64 / 256) t (omega arith), s256 (v / 64) (256 * t) (omega arith), s64 v (256 * (256 * t)) (omega arith)) (omega arith)
 
 pub unpacks : (v : ℕ) → Small (frameIn v) (nextIn v)
 unpacks v = record { kind = omega arith; map = omega arith; note = omega arith; how = omega arith; seen = omega arith; rem = omega arith; list = omega arith; next = omega arith }

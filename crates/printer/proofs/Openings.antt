@@ -3,13 +3,13 @@
 use mathlib.Core.Path.{_≡_, refl, sym, ap, subst, _∙_}
 use mathlib.Core.Bool.{Bool, true, false, cond, _||_}
 use mathlib.Core.List.{List, [], _∷_, _++_, append-nil}
-use Prim.Native.Nat.{ℕ, _%_}
+use Prim.Native.Nat.{ℕ, _%_, _<_}
 use native.Mathlib.Omega.{arith}
 use lib.Dec.{eqb}
 use borrow.Author.Tests.{eqb-true, ne-eqb}
 use Rattle.tree.specs.Grammar.{among}
 use Rattle.printer.specs.Layout.{word, words, layout, headOf, chosenWord, valued}
-use Rattle.printer.specs.Places.{mannerIn, isStatement, isWrapped, inMethodForm, wrapping, leading, joining, notedAt, begun, computed, opening, isFilled}
+use Rattle.printer.specs.Places.{mannerIn, isStatement, isWrapped, inMethodForm, wrapping, leading, joining, notedAt, Plain, begun, computed, opening, isFilled}
 use Rattle.printer.specs.Entries.{isLeaf}
 use Rattle.printer.specs.Stacks.{Buffer, write}
 use Rattle.printer.specs.declared.frame.Frame.{Frame}
@@ -40,6 +40,10 @@ module _ (p f : Frame) (kind map note : ℕ) (e : f ≡ begun p kind map note) w
   unfolding begun
   kind-is k h = h ∙ ap (λ (g : Frame). g .kind) e
 
+  pub own-kind : kind ≡ f .kind
+  unfolding begun
+  own-kind = sym (ap (λ (g : Frame). g .kind) e)
+
   note-is : (n : ℕ) → n ≡ f .note → n ≡ note
   unfolding begun
   note-is n h = h ∙ ap (λ (g : Frame). g .note) e
@@ -52,6 +56,31 @@ module _ (p f : Frame) (kind map note : ℕ) (e : f ≡ begun p kind map note) w
   unfolding opening
   opened b q wrapped key {head = head} {first} {method} {k} {k₂} {n} hl hm hh hw hk hk₂ hn hf hc e₁ e₂ e₃ e₄ e₅ =
       rw (e₅, e₄, e₃, e₂, e₁, hl, kind-is k hk, round wrapped _ hw, head-is head first method hm hh hf, square key _ hc, kind-is k₂ hk₂, note-is n hn) (simp write-append)
+
+-- ---- a plain place
+
+none : (b : Bool) → _≡_ {A = ℕ} 0 (cond b 0 0)
+none true = refl
+none false = refl
+
+module _ (p : Frame) (m kind map note : ℕ) (plain : Plain m kind) (e : m ≡ mannerIn p) where
+  off : (k : ℕ) → 4 < k → k < 11 → mannerIn p ≡ k → ⊥
+  off k a b h = absurd (omega (arith, plain .manner (omega arith)))
+
+  pub plain-method : 0 ≡ inMethodForm p kind map
+  unfolding inMethodForm
+  plain-method = rw (ne-eqb kind 14 (plain .other)) (none (eqb (mannerIn p) valued))
+
+  pub plain-seen : 0 ≡ notedAt p kind
+  unfolding notedAt
+  plain-seen = rw (ne-eqb (mannerIn p) 9 (off 9 (omega arith) (omega arith)), ne-eqb (mannerIn p) 10 (off 10 (omega arith) (omega arith))) refl
+
+  pub unfilled : isFilled p ≡ false
+  unfolding isFilled
+  unfilled = rw (ne-eqb (mannerIn p) 6 (off 6 (omega arith) (omega arith))) refl
+
+  pub plain-joint : (b : Buffer) (q : List ℕ) → b ≡ write b (cond (isFilled p) q [] ++ word (joining p kind note))
+  plain-joint b q = no-joint b p q kind note (off 6 (omega arith) (omega arith)) (off 7 (omega arith) (omega arith)) (off 8 (omega arith) (omega arith))
 
 -- ---- a leaf
 
@@ -76,10 +105,6 @@ leaves P kind e a b c d = among-all P (18 ∷ 19 ∷ 22 ∷ 38 ∷ []) kind e (a
 pub reference-leaf : isLeaf 18 ≡ true
 unfolding isLeaf among
 reference-leaf = refl
-
-none : (b : Bool) → _≡_ {A = ℕ} 0 (cond b 0 0)
-none true = refl
-none false = refl
 
 module _ (p : Frame) (kind map note : ℕ) (leaf : isLeaf kind ≡ true) where
   pub leaf-statement : false ≡ isStatement kind note

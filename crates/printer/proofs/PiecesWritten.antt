@@ -3,12 +3,13 @@
 use mathlib.Core.Path.{_≡_, refl, sym, ap, _∙_}
 use mathlib.Core.Bool.{Bool, true, false, cond}
 use mathlib.Core.List.{List, [], _∷_, _++_}
-use Prim.Native.Nat.{ℕ, zero, suc, _+_, _-_, _/_, _%_, _<_, _≤_}
+use Prim.Native.Nat.{ℕ, zero, suc, _+_, _-_, _*_, _/_, _%_, _^_, _<_, _≤_}
 use native.Mathlib.Omega.{arith}
 use native.Mathlib.Numerals.{add-one}
+use native.Mathlib.Nat.{pow-suc}
 use native.Mathlib.Decide.{decLt}
 use lib.Dec.{T, eqb, ltb, eqb→eq}
-use lib.ListN.{length, getD, take, drop, drop-of-length-le, length-drop}
+use lib.ListN.{length, getD, set, take, drop, drop-of-length-le, length-drop, length-set}
 use lib.Seq.{drop-cons}
 use borrow.Author.Tests.{eq-eqb, ne-eqb, lt-ltb, le-ltb}
 use Rattle.tree.proofs.Sound.{never}
@@ -16,13 +17,19 @@ use Rattle.tree.proofs.Table.{both, both-left, both-right, below, below-at}
 use Rattle.printer.specs.Layout.{words, word}
 use Rattle.printer.specs.Names.{hexDigit, needsEscape, escapedByte, escaped, inQuotes, decimalFrom, decimal}
 use Rattle.printer.specs.Rows.{packed, lowOf, middleOf, highOf}
-use Rattle.printer.specs.Stacks.{Buffer, put, write, bytesFrom, bytesIn, EndIs}
+use Rattle.printer.specs.Stacks.{Buffer, put, write, bufferIn, bytesFrom, bytesIn, EndIs}
 use Rattle.printer.proofs.LayoutNumbers.{word-none}
+use Rattle.printer.proofs.PrintingEntry.{spot-fits}
 
 pub write-append : (b : Buffer) (x y : List ℕ) → write b (x ++ y) ≡ write (write b x) y
 unfolding write
 write-append b [] y = refl
 write-append b (c ∷ x) y = write-append (put b c) x y
+
+-- a byte that there is room for, at its spot
+byte-placed : (out xs ys : List ℕ) (s x : ℕ) → s < length out → xs ≡ x ∷ ys → write (bufferIn (set out s x) (s + 1)) ys ≡ write (bufferIn out s) xs
+unfolding write
+byte-placed out xs ys s x h e = ap (λ (b : Buffer). write b ys) (spot-fits out s x h) ∙ ap (write (bufferIn out s)) (sym e)
 
 -- ---- the bytes of a number
 
@@ -69,6 +76,39 @@ digit-written b w h = ap (write b) (sym (bytes-more w h))
 pub digits-written : (b : Buffer) (w : ℕ) → w ≤ 0 → b ≡ write b (bytesIn w)
 unfolding write
 digits-written b w h = ap (write b) (sym (bytes-end w h))
+
+bytes-below : (k w : ℕ) → w < 256 ^ k → length (bytesIn w) ≤ k
+bytes-below zero w h = rw (bytes-end w (omega arith)) (omega arith)
+bytes-below (suc k) w h = elim (decLt 0 w) [
+  | yes g ↦
+      let e : 256 ^ suc k ≡ 256 ^ k * 256 = pow-suc 256 k in
+      let m : length (bytesIn (w / 256)) ≤ k = bytes-below k (w / 256) (omega arith) in
+      rw (bytes-more w g) (omega arith)
+  | no g ↦ rw (bytes-end w (omega arith)) (omega arith)
+]
+
+-- the bytes of w are still to come at the spot s, there is room for them, and then the whole is written
+pub record DigitsLeft (size : ℕ) (whole : Buffer) (out : List ℕ) (s w : ℕ) : Type 0 where
+  pub kept : length out ≡ size
+  pub room : s + length (bytesIn w) ≤ length out
+  pub rest : write (bufferIn out s) (bytesIn w) ≡ whole
+
+pub digits-start : (out : List ℕ) (s w : ℕ) → w < 18446744073709551616 → s < length out → 7 < length out - s → DigitsLeft (length out) (write (bufferIn out s) (bytesIn w)) out s w
+digits-start out s w h g f = record { kept = refl; room = omega (arith, bytes-below 8 w h); rest = refl }
+
+module _ {size : ℕ} {whole : Buffer} {out : List ℕ} {s w : ℕ} (c : DigitsLeft size whole out s w) where
+  pub digit-fits : 0 < w → s < length out
+  digit-fits h = omega (arith, ap (λ (l : List ℕ). length l) (bytes-more w h))
+
+  pub digit-placed : 0 < w → DigitsLeft size whole (set out s (w % 256)) (s + 1) (w / 256)
+  digit-placed h = record {
+    kept = length-set out s (w % 256) ∙ c .kept;
+    room = omega (arith, length-set out s (w % 256), ap (λ (l : List ℕ). length l) (bytes-more w h));
+    rest = byte-placed out (bytesIn w) (bytesIn (w / 256)) s (w % 256) (digit-fits h) (bytes-more w h) ∙ c .rest;
+  }
+
+  pub digits-placed : w ≤ 0 → bufferIn out s ≡ whole
+  digits-placed h = digits-written (bufferIn out s) w h ∙ c .rest
 
 -- ---- words
 
@@ -176,6 +216,12 @@ module _ (l : List ℕ) (at n : ℕ) where
     same = take-all (length l - at) n (drop at l) (omega (arith, length-drop at l)) (omega (arith, length-drop at l));
   }
 
+pub end-inside : (l : List ℕ) (at n r : ℕ) → EndIs l at n r → r - at ≤ length l - at
+end-inside l at n r c = elim (decLt at r) [
+  | yes h ↦ omega (arith, c .inside h)
+  | no h ↦ omega arith
+]
+
 take-suc-cons : (n : ℕ) (x : ℕ) (l : List ℕ) → 0 < n → take n (x ∷ l) ≡ x ∷ take (n - 1) l
 take-suc-cons zero x l h = absurd (omega arith)
 take-suc-cons (suc n) x l h = let e : n ≡ suc n - 1 = omega arith in ap (λ (m : ℕ). x ∷ take m l) e
@@ -199,6 +245,48 @@ byte-copied b l i e h g = ap (write b) (sym (part-step l i e h g))
 pub copied : (b : Buffer) (l : List ℕ) (i e : ℕ) → e ≤ i → b ≡ write b (take (e - i) (drop i l))
 unfolding write
 copied b l i e h = ap (write b) (sym (part-end l i e h))
+
+-- the bytes from i to e are still to come at the spot s, there is room for them, and then the whole is written
+pub record Copying (l : List ℕ) (e size : ℕ) (whole : Buffer) (out : List ℕ) (s i : ℕ) : Type 0 where
+  pub kept : length out ≡ size
+  pub low : i ≤ e
+  pub room : s + (e - i) ≤ length out
+  pub inside : e - i ≤ length l - i
+  pub rest : write (bufferIn out s) (take (e - i) (drop i l)) ≡ whole
+
+pub copying-starts : (l : List ℕ) (at n e : ℕ) (out : List ℕ) (s : ℕ) → EndIs l at n e → s < length out → e - at < length out - s → Copying l e (length out) (write (bufferIn out s) (take n (drop at l))) out s at
+copying-starts l at n e out s c h g = record {
+  kept = refl;
+  low = c .low;
+  room = omega arith;
+  inside = end-inside l at n e c;
+  rest = ap (write (bufferIn out s)) (c .same);
+}
+
+next-copied : {l : List ℕ} {e size : ℕ} {whole : Buffer} {out : List ℕ} {s i t j : ℕ} → Copying l e size whole out s i → i < e → t ≡ s + 1 → j ≡ i + 1 → Copying l e size whole (set out s (getD l i 0)) t j
+next-copied {l} {e} {size} {whole} {out} {s} {i} {t} {j} c h p q = rw (p, q) (record {
+  kept = length-set out s (getD l i 0) ∙ c .kept;
+  low = omega arith;
+  room = omega (arith, length-set out s (getD l i 0));
+  inside = omega arith;
+  rest = byte-placed out (take (e - i) (drop i l)) (take (e - (i + 1)) (drop (i + 1) l)) s (getD l i 0) (omega arith) (part-step l i e h (omega arith)) ∙ c .rest;
+})
+
+module _ {l : List ℕ} {e size : ℕ} {whole : Buffer} {out : List ℕ} {s i : ℕ} (c : Copying l e size whole out s i) where
+  pub one-copied : i < e → Copying l e size whole (set out s (getD l i 0)) (s + 1) (i + 1)
+  one-copied h = next-copied c h refl refl
+
+  pub two-copied : i + 1 < e → Copying l e size whole (set (set out s (getD l i 0)) (s + 1) (getD l (i + 1) 0)) (s + 2) (i + 2)
+  two-copied h = next-copied (one-copied (omega arith)) h (omega arith) (omega arith)
+
+  pub three-copied : i + 2 < e → Copying l e size whole (set (set (set out s (getD l i 0)) (s + 1) (getD l (i + 1) 0)) (s + 2) (getD l (i + 2) 0)) (s + 3) (i + 3)
+  three-copied h = next-copied (two-copied (omega arith)) h (omega arith) (omega arith)
+
+  pub four-copied : i + 3 < e → Copying l e size whole (set (set (set (set out s (getD l i 0)) (s + 1) (getD l (i + 1) 0)) (s + 2) (getD l (i + 2) 0)) (s + 3) (getD l (i + 3) 0)) (s + 4) (i + 4)
+  four-copied h = next-copied (three-copied (omega arith)) h (omega arith) (omega arith)
+
+  pub all-copied : e ≤ i → bufferIn out s ≡ whole
+  all-copied h = copied (bufferIn out s) l i e h ∙ c .rest
 
 pub byte-escaped : (b : Buffer) (l : List ℕ) (i e : ℕ) → i < e → e ≤ length l → write (write b (escapedByte (getD l i 0))) (escaped (take (e - (i + 1)) (drop (i + 1) l))) ≡ write b (escaped (take (e - i) (drop i l)))
 unfolding escaped

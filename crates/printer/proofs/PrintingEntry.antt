@@ -62,21 +62,21 @@ write-long (x ∷ xs) l n h g = elim (decLt n (length l)) [
 spot-in : (l : List ℕ) (s : ℕ) → s ≤ length l → bufferIn l s ≡ buffer l s false
 spot-in l s h = rw (le-ltb (length l) s h) refl
 
-spot-past : (l : List ℕ) → bufferIn l (length l + 1) ≡ buffer l (length l) true
-spot-past l = rw (lt-ltb (length l) (length l + 1) (omega arith)) refl
+spot-past : (l : List ℕ) (t : ℕ) → length l < t → bufferIn l t ≡ buffer l (length l) true
+spot-past l t k = rw (lt-ltb (length l) t k) refl
 
 pub spot-fits : (l : List ℕ) (s x : ℕ) → s < length l → bufferIn (set l s x) (s + 1) ≡ put (bufferIn l s) x
 spot-fits l s x h =
     spot-in (set l s x) (s + 1) (omega (arith, length-set l s x))
     ∙ sym (ap (λ (b : Buffer). put b x) (spot-in l s (omega arith)) ∙ put-fits l s x h)
 
-pub spot-over : (l : List ℕ) (s x : ℕ) → length l ≤ s → bufferIn l (length l + 1) ≡ put (bufferIn l s) x
+pub spot-over : (l : List ℕ) (s t x : ℕ) → length l ≤ s → length l < t → bufferIn l t ≡ put (bufferIn l s) x
 unfolding put
-spot-over l s x h = elim (decLt (length l) s) [
-  | yes g ↦ rw (lt-ltb (length l) (length l + 1) (omega arith), lt-ltb (length l) s g) refl
+spot-over l s t x h k = elim (decLt (length l) s) [
+  | yes g ↦ rw (lt-ltb (length l) t k, lt-ltb (length l) s g) refl
   | no g ↦
       let e : length l ≡ s = omega arith in
-      spot-past l
+      spot-past l t k
       ∙ ap (λ (n : ℕ). buffer l n true) e
       ∙ sym (ap (λ (b : Buffer). put b x) (spot-in l s (omega arith)) ∙ put-over l s x h)
 ]

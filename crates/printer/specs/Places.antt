@@ -1,5 +1,6 @@
 -- Where a node stands in its parent, and what it prints by that.
-use Prim.Native.Nat.{ℕ, zero, suc, _+_, _-_, _*_, _/_, _%_}
+use Prim.Native.Nat.{ℕ, zero, suc, _+_, _-_, _*_, _/_, _%_, _<_}
+use mathlib.Core.Path.{_≡_}
 use mathlib.Core.List.{List, [], _∷_, _++_}
 use mathlib.Core.Bool.{Bool, true, false, cond, _||_, _&&_}
 use lib.Dec.{ltb, eqb}
@@ -96,6 +97,12 @@ following p kind map note = wrapping p kind map note + trailing p (isStatement k
 -- 1 for a Declaration in the head of a loop, 2 for a quasi
 unfoldable pub notedAt : Frame → ℕ → ℕ
 notedAt p kind = cond (eqb (mannerIn p) headed) (cond (eqb kind 4) 1 0) (cond (eqb (mannerIn p) quoted) 2 0)
+
+-- a plain place: no quasi and nothing that joins stands there, nothing is noted, and the manner alone tells what stands behind; the
+-- node is no Function, so it is not in method form
+pub record Plain (m kind : ℕ) : Type 0 where
+  pub manner : 4 < m → 10 < m
+  pub other : kind ≡ 14 → ⊥
 
 unfoldable pub begun : Frame → ℕ → ℕ → ℕ → Frame
 begun p kind map note = record { kind = kind; map = map; note = note; how = following p kind map note; seen = notedAt p kind; rem = map; list = 0 }

@@ -2,17 +2,14 @@
 // a number and a hole, 4 for a mark or a byte, 8 the end of a node, 9 the end of a list, and 10 to 13 a leaf from its begin to its
 // end. In the sixteen digits above it stands a node's kind and bit map, a list's count, a number, or the position of a text or of a
 // leaf's first text; above those the node's byte.
+use rewritten::task::BYTE_AND_TEXTS;
+use rewritten::task::ONE_TEXT;
 ghost use mathlib.Core.Path.{_≡_};
 ghost use mathlib.Core.Bool.{cond};
 ghost use Prim.Native.Nat.{_+_, _*_, _/_, _%_, _<_};
 ghost use lib.Dec.{eqb};
 ghost use lib.ListN.{getD, set};
 ghost use Rattle.printer.specs.Met.{numberOf, Leafed};
-
-// What `look` finds of a node of one text, and of one of a byte and two texts.
-const ONE_TEXT: usize = 10753;
-
-const BYTE_AND_TEXTS: usize = 11285311585;
 
 // A node's, with no byte yet.
 pub(crate) fn head(kind: usize, map: usize) -> usize

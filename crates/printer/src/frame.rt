@@ -52,12 +52,6 @@ fn noting(f: Frame, seen: usize) -> Frame
     }
 }
 
-fn past(f: Frame) -> Frame
-    ensures { λ r. ⌜ r ≡ past f ⌝ }
-{
-    noting(f, f.seen)
-}
-
 fn item_seen(f: Frame, seen: usize) -> Frame
     ensures { λ r. ⌜ r ≡ itemSeen f seen ⌝ }
 {
@@ -184,10 +178,12 @@ pub(crate) fn field_in(v: usize) -> usize
     lowest(rem_in(v))
 }
 
+// The next field is done: of the bits still to come, which stand from the twenty-third binary digit on, the lowest goes.
 pub(crate) fn past_in(v: usize) -> usize
     ensures { λ r. ⌜ r ≡ packedFrame (past (frameIn v)) (nextIn v) ⌝ }
 {
-    pack(past(frame_in(v)), next_in(v))
+    let rem = rem_in(v);
+    v - 4194304 * (rem - without(rem))
 }
 
 pub(crate) fn noting_in(v: usize, seen: usize) -> usize

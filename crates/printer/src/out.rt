@@ -14,8 +14,11 @@ fn wide(b: u8) -> usize
     b as usize
 }
 
-// The next byte. A spot is how many bytes are written, and one more than there is room for if there are more: a number, for
-// a struct is handed over in memory.
+// The spot where there was no room for a byte: more than any length.
+const OVER: usize = 18446744073709551615;
+
+// The next byte. A spot is how many bytes are written, and above the length of the slice if there was no room for more: a
+// number, for a struct is handed over in memory.
 pub(crate) fn put(out: &mut [u8], spot: usize, b: u8) -> usize
     ensures { λ r. ⌜ bufferIn (now (out .exit)) r ≡ put (bufferIn (now (out .entry)) spot) b ⌝ }
 {
@@ -24,15 +27,25 @@ pub(crate) fn put(out: &mut [u8], spot: usize, b: u8) -> usize
         out[spot] = b;
         return spot + 1;
     }
-    len + 1
+    OVER
 }
 
-// The bytes of a number, the lowest first.
+// The bytes of a number, the lowest first: at most eight, so with room for eight no byte is asked about.
 fn put_digits(out: &mut [u8], spot: usize, digits: usize) -> usize
     ensures { λ r. ⌜ bufferIn (now (out .exit)) r ≡ write (bufferIn (now (out .entry)) spot) (bytesIn digits) ⌝ }
 {
     let mut s = spot;
     let mut w = digits;
+    if spot < out.len() {
+        if 7 < out.len() - spot {
+            while 0 < w {
+                out[s] = (w % 256) as u8;
+                s += 1;
+                w = w / 256;
+            }
+            return s;
+        }
+    }
     while 0 < w {
         s = put(out, s, (w % 256) as u8);
         w = w / 256;
@@ -80,13 +93,38 @@ pub(crate) fn end_of(tree: &[u8], at: usize, n: usize) -> usize
     tree.len()
 }
 
-// Bytes of the tree as they are.
+// Bytes of the tree as they are: in fours if there is room for all of them and one more.
 pub(crate) fn copy(tree: &[u8], at: usize, n: usize, out: &mut [u8], spot: usize) -> usize
     ensures { λ r. ⌜ bufferIn (now (out .exit)) r ≡ write (bufferIn (now (out .entry)) spot) (take n (drop at (now (tree .entry)))) ⌝ }
 {
     let end = end_of(tree, at, n);
     let mut s = spot;
     let mut i = at;
+    if spot < out.len() {
+        if end - at < out.len() - spot {
+            while 3 < end - i {
+                out[s] = tree[i];
+                out[s + 1] = tree[i + 1];
+                out[s + 2] = tree[i + 2];
+                out[s + 3] = tree[i + 3];
+                s += 4;
+                i += 4;
+            }
+            if end <= i {
+                return s;
+            }
+            out[s] = tree[i];
+            if end <= i + 1 {
+                return s + 1;
+            }
+            out[s + 1] = tree[i + 1];
+            if end <= i + 2 {
+                return s + 2;
+            }
+            out[s + 2] = tree[i + 2];
+            return s + 3;
+        }
+    }
     while i < end {
         s = put(out, s, tree[i]);
         i += 1;

@@ -2,12 +2,12 @@
 use crate::frame;
 use crate::layout;
 ghost use mathlib.Core.Path.{_≡_};
-ghost use mathlib.Core.Bool.{cond};
+ghost use mathlib.Core.Bool.{Bool, true, cond};
 ghost use Prim.Native.Nat.{ℕ, _/_, _%_, _≤_};
 ghost use Rattle.printer.specs.Layout.{chosenWord, tailOf, closeOf, leadOf};
 ghost use Rattle.printer.specs.Rows.{sortNumbers, slotNumbers, Sorted};
 ghost use Rattle.printer.specs.Stacks.{frameIn, nextIn, packedFrame};
-ghost use Rattle.printer.specs.Places.{fieldIn, mannerIn, isStatement, inMethodForm, wrapping, separator, leading, joining, following, notedAt, computed, around, isQuasis, isFilled, leaves, trailing};
+ghost use Rattle.printer.specs.Places.{fieldIn, mannerIn, isStatement, inMethodForm, wrapping, separator, leading, joining, following, Plain, notedAt, computed, around, isQuasis, isFilled, leaves, trailing};
 ghost use Rattle.printer.specs.declared.frame.Frame.{Frame};
 
 // What leads the next field, and 128 times its manner; right if the table is lent.
@@ -50,26 +50,24 @@ pub(crate) fn wraps(method: usize, sort: usize) -> bool
     false
 }
 
+// A comma and a blank part an item from the one before.
+pub(crate) fn is_parted(p: usize, m: usize) -> bool
+    ensures { λ r. ⌜ (m ≡ mannerIn (frameIn p) → separator (frameIn p) ≡ cond r 70 0) ⌝ }
+{
+    if 0 < frame::seen_in(p) {
+        if m == 7 {
+            return true;
+        }
+        return m == 11;
+    }
+    false
+}
+
 // What parts an item from the one before.
 pub(crate) fn separator(p: usize, m: usize) -> usize
     ensures { λ r. ⌜ (m ≡ mannerIn (frameIn p) → r ≡ separator (frameIn p)) ⌝ }
 {
-    if 0 < frame::seen_in(p) {
-        if m == 7 {
-            return 70;
-        }
-        if m == 11 {
-            return 70;
-        }
-    }
-    0
-}
-
-// What leads the next field.
-pub(crate) fn lead_word(slots: &[u16], v: usize) -> usize
-    ensures { λ r. ⌜ (now (slots .entry) ≡ slotNumbers → r ≡ chosenWord (leadOf (frameIn v .kind) (fieldIn (frameIn v))) (frameIn v .note) (frameIn v .map) (frameIn v .seen) 0) ⌝ }
-{
-    layout::choose_by(slot_in(slots, v) % 128, v, 0)
+    if is_parted(p, m) { 70 } else { 0 }
 }
 
 // What stands before a child; own is what leads its field.
@@ -114,6 +112,36 @@ pub(crate) fn following(p: usize, m: usize, statement: bool, wrapped: bool) -> u
 {
     let word = trail(p, m, statement);
     if wrapped { 1 + word } else { word }
+}
+
+// What stands behind a child at a plain place: the manner alone tells it.
+fn plain_trail(m: usize) -> usize
+    ensures { λ r. ⌜ ((p kind : ℕ) (statement : Bool) → Plain m kind → m ≡ mannerIn (frameIn p) → r ≡ trailing (frameIn p) statement) × (r ≤ 58) ⌝ }
+{
+    if m < 5 {
+        return 50 + 2 * m;
+    }
+    50
+}
+
+pub(crate) fn plain_following(m: usize, wrapped: bool) -> usize
+    ensures { λ r. ⌜ ((p kind map note : ℕ) → Plain m kind → m ≡ mannerIn (frameIn p) → cond wrapped 1 0 ≡ wrapping (frameIn p) kind map note → r ≡ following (frameIn p) kind map note) × (r ≤ 63) ⌝ }
+{
+    let word = plain_trail(m);
+    if wrapped { 1 + word } else { word }
+}
+
+// Whether a node's place is plain.
+pub(crate) fn is_plain(m: usize, kind: usize) -> bool
+    ensures { λ r. ⌜ (r ≡ true → Plain m kind) ⌝ }
+{
+    if kind == 14 {
+        return false;
+    }
+    if m < 5 {
+        return true;
+    }
+    10 < m
 }
 
 pub(crate) fn noted_at(m: usize, kind: usize) -> usize

@@ -10,7 +10,7 @@ ghost use mathlib.Core.Bool.{true, cond};
 ghost use Prim.Native.Nat.{ℕ, _<_};
 ghost use lib.ListN.{getD, set};
 ghost use Rattle.printer.specs.Layout.{word, headOf, leadOf};
-ghost use Rattle.printer.specs.Places.{fieldIn, mannerIn, isStatement, inMethodForm, wrapping, joining, begun, opening, closing, around, isFilled, leaves};
+ghost use Rattle.printer.specs.Places.{fieldIn, mannerIn, isStatement, inMethodForm, wrapping, leading, joining, Plain, begun, opening, closing, around, isFilled, leaves};
 ghost use Rattle.printer.specs.Text.{cellText, leftOver};
 ghost use Rattle.printer.specs.Machine.{cellAt, cellsFrom, stepOver, nextAround};
 ghost use Rattle.printer.specs.Rows.{sortNumbers, wordNumbers};
@@ -211,7 +211,7 @@ fn joint(
     if 5 < m {
         if m < 9 {
             let a = quasi_in(tree, starts, text, spot, p, m, count);
-            return out::say(words, text, a, places::joining(m, kind, statement));
+            return out::say_any(words, text, a, places::joining(m, kind, statement));
         }
     }
     spot
@@ -225,6 +225,20 @@ fn bracket(text: &mut [u8], spot: usize, stands: bool, b: u8) -> usize
         return out::put(text, spot, b);
     }
     spot
+}
+
+// What stands before a child that is not in method form; m is the manner of its field, and own what leads that.
+fn lead(words: &[usize], text: &mut [u8], spot: usize, p: usize, m: usize, own: usize) -> usize
+    ensures { λ r. ⌜ (now (words .entry) ≡ wordNumbers → (kind map : ℕ) → m ≡ mannerIn (frameIn p) → own ≡ leadOf (frameIn p .kind) (fieldIn (frameIn p)) → 0 ≡ inMethodForm (frameIn p) kind map → bufferIn (now (text .exit)) r ≡ write (bufferIn (now (text .entry)) spot) (word (leading (frameIn p) kind map))) ⌝ }
+{
+    if frame::list_in(p) == 1 {
+        if places::is_parted(p, m) {
+            let a = out::put(text, spot, 44);
+            return out::put(text, a, 32);
+        }
+        return spot;
+    }
+    out::say_any(words, text, spot, layout::choose(own, p, 0))
 }
 
 // What stands before a node's fields, with its frame f and what is known of its place p: the manner of the field, what leads
@@ -270,6 +284,31 @@ pub(crate) fn opening(
     )
 }
 
+// The same at a plain place.
+pub(crate) fn plain_opening(
+    words: &[usize],
+    text: &mut [u8],
+    spot: usize,
+    p: usize,
+    f: usize,
+    m: usize,
+    own: usize,
+    wrapped: bool,
+    head: usize,
+) -> usize
+    ensures { λ r. ⌜ (now (words .entry) ≡ wordNumbers → (kind map note : ℕ) (quasi : List ℕ) → Plain m kind → m ≡ mannerIn (frameIn p) → own ≡ leadOf (frameIn p .kind) (fieldIn (frameIn p)) → cond wrapped 1 0 ≡ wrapping (frameIn p) kind map note → head ≡ headOf kind → frameIn f ≡ begun (frameIn p) kind map note → bufferIn (now (text .exit)) r ≡ write (bufferIn (now (text .entry)) spot) (opening (frameIn p) kind map note (cond (isFilled (frameIn p)) quasi []))) ⌝ }
+{
+    let a = lead(words, text, spot, p, m, own);
+    let b = bracket(text, a, wrapped, 40);
+    let c = out::say_any(words, text, b, layout::choose(head, f, 0));
+    bracket(
+        text,
+        c,
+        places::is_computed(frame::kind_in(f), frame::note_in(f)),
+        91,
+    )
+}
+
 // The same of a leaf, which has no words of its own.
 pub(crate) fn leaf_opening(
     words: &[usize],
@@ -284,7 +323,7 @@ pub(crate) fn leaf_opening(
 ) -> usize
     ensures { λ r. ⌜ (now (words .entry) ≡ wordNumbers → (kind map note : ℕ) → m ≡ mannerIn (frameIn p) → own ≡ leadOf (frameIn p .kind) (fieldIn (frameIn p)) → isLeaf kind ≡ true → bufferIn (now (text .exit)) r ≡ write (bufferIn (now (text .entry)) spot) (opening (frameIn p) kind map note (cond (isFilled (frameIn p)) (cellText (cellAt (heldIn (now (tree .entry)) (now (starts .entry)) count) (nextIn p))) []))) ⌝ }
 {
-    let a = out::say_any(words, text, spot, places::leading(p, m, own, 0));
+    let a = lead(words, text, spot, p, m, own);
     joint(words, tree, starts, text, a, p, count, 18, m, false)
 }
 

@@ -12,11 +12,12 @@ ghost use mathlib.Core.List.{List, [], _∷_};
 ghost use mathlib.Core.Bool.{cond};
 ghost use Prim.Native.Nat.{ℕ, _<_, _+_, _-_, _/_, _%_};
 ghost use lib.ListN.{length};
-ghost use Rattle.printer.specs.Places.{mannerIn, isQuasis, isQuasi, numberBytes};
+ghost use Rattle.printer.specs.Layout.{leadOf};
+ghost use Rattle.printer.specs.Places.{fieldIn, mannerIn, Plain, isQuasis, isQuasi, numberBytes};
 ghost use Rattle.printer.specs.Text as cells;
 ghost use Rattle.printer.specs.Entries as entries;
 ghost use Rattle.printer.specs.Machine as machine;
-ghost use Rattle.printer.specs.Rows.{sortNumbers, slotNumbers, wordNumbers};
+ghost use Rattle.printer.specs.Rows.{sortNumbers, slotNumbers, wordNumbers, Sorted};
 ghost use Rattle.printer.specs.Stacks.{frameIn, nextIn, packedFrame, textAt, cellIn, write, bufferIn};
 ghost use Rattle.printer.specs.Logged.{entriesIn, leafIn, deepBy};
 ghost use Rattle.printer.specs.Turns.{stateIn, moved, Ready, countBy, Kept, Turned};
@@ -64,6 +65,41 @@ fn hold_text(starts: &mut [u16], f: usize, count: usize, p: usize) -> usize
     count
 }
 
+// A node that begins at a plain place, with the manner of its field, what leads that, and the entry of its kind.
+fn plain(
+    words: &[usize],
+    stack: &mut [usize],
+    text: &mut [u8],
+    s: State,
+    kind: usize,
+    map: usize,
+    note: usize,
+    m: usize,
+    own: usize,
+    sort: usize,
+) -> State
+    ensures { λ r. ⌜ (now (words .entry) ≡ wordNumbers → (tree starts : List ℕ) → Plain m kind → m ≡ mannerIn (frameIn (s .top)) → own ≡ leadOf (frameIn (s .top) .kind) (fieldIn (frameIn (s .top))) → Sorted kind note sort → s .count < 65536 → kind < 64 → map < 256 → note < 256 → s .level < length (now (stack .entry)) → Turned tree (now (stack .exit)) starts (bufferIn (now (text .entry)) (s .spot)) (bufferIn (now (text .exit)) (r .spot)) r (machine.print (stateIn tree (now (stack .entry)) starts s) (entries.Entry.node kind map note)) (s .level + 1) (s .count)) ⌝ }
+{
+    let p = s.top;
+    let level = s.level;
+    let count = s.count;
+    let old = s.spot;
+    if level < stack.len() {
+        print::keep(stack, level, places::around(p, 0));
+        let wrapped = places::wraps(0, sort);
+        let how = places::plain_following(m, wrapped);
+        let f = frame::begun(kind, map, note, 0, how);
+        let spot = print::plain_opening(words, text, old, p, f, m, own, wrapped, sort % 128);
+        return State {
+            top: f,
+            level: level + 1,
+            count: count,
+            spot: spot,
+        };
+    }
+    s
+}
+
 fn begin(
     slots: &[u16],
     sorts: &[u32],
@@ -87,8 +123,11 @@ fn begin(
         let slot = places::slot_in(slots, p);
         let m = slot / 128;
         let own = slot % 128;
-        let method = places::method(p, m, kind, map);
         let sort = layout::sort(sorts, kind, note);
+        if places::is_plain(m, kind) {
+            return plain(words, stack, text, s, kind, map, note, m, own, sort);
+        }
+        let method = places::method(p, m, kind, map);
         let statement = places::is_statement(sort);
         let wrapped = places::wraps(method, sort);
         let how = places::following(p, m, statement, wrapped);
@@ -171,9 +210,10 @@ fn end(sorts: &[u32], words: &[usize], stack: &[usize], text: &mut [u8], s: Stat
     if level == 0 {
         return s;
     }
+    let top = print::number_at(stack, level - 1);
     let spot = print::closing(sorts, words, text, old, s.top);
     State {
-        top: print::number_at(stack, level - 1),
+        top: top,
         level: level - 1,
         count: count,
         spot: spot,
@@ -208,8 +248,8 @@ fn open_list(
     let old = s.spot;
     if level < stack.len() {
         let slot = places::slot_in(slots, f);
-        let spot = out::say_any(words, text, old, layout::choose(slot % 128, f, 0));
         print::keep(stack, level, frame::unlisted_in(f, n));
+        let spot = out::say_any(words, text, old, layout::choose(slot % 128, f, 0));
         return State {
             top: opened(frame::listed_in(f), slot / 128, count),
             level: level + 1,

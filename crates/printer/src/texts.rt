@@ -1,5 +1,6 @@
 // What a text of the tree prints, by the kind of its node.
 use crate::frame;
+use crate::layout;
 use crate::names;
 use crate::out;
 use crate::places;
@@ -7,7 +8,8 @@ use tree::bytes;
 ghost use mathlib.Core.Path.{_≡_};
 ghost use Prim.Native.Nat.{_<_};
 ghost use lib.ListN.{take, drop};
-ghost use Rattle.printer.specs.Places.{literalText, memberQuoted, memberName, keyName, textBytes, spelled, isQuasi};
+ghost use Rattle.printer.specs.Layout.{word, chosenWord, leadOf};
+ghost use Rattle.printer.specs.Places.{fieldIn, literalText, memberQuoted, memberName, keyName, textBytes, spelled, isQuasi};
 ghost use Rattle.printer.specs.Logged.{leafText};
 ghost use Rattle.printer.specs.Names.{inQuotes};
 ghost use Rattle.printer.specs.Rows.{slotNumbers, wordNumbers};
@@ -80,6 +82,17 @@ fn key(tree: &[u8], at: usize, n: usize, text: &mut [u8], spot: usize) -> usize
     out::quote(tree, at, n, text, spot)
 }
 
+// What leads a text: most have nothing before them.
+fn lead(slots: &[u16], words: &[usize], text: &mut [u8], spot: usize, f: usize) -> usize
+    ensures { λ r. ⌜ (now (slots .entry) ≡ slotNumbers → now (words .entry) ≡ wordNumbers → bufferIn (now (text .exit)) r ≡ write (bufferIn (now (text .entry)) spot) (word (chosenWord (leadOf (frameIn f .kind) (fieldIn (frameIn f))) (frameIn f .note) (frameIn f .map) (frameIn f .seen) 0))) ⌝ }
+{
+    let own = places::slot_in(slots, f) % 128;
+    if own == 0 {
+        return spot;
+    }
+    out::say(words, text, spot, layout::choose_by(own, f, 0))
+}
+
 // The text of a node that is no name: with what leads it.
 fn text_words(
     slots: &[u16],
@@ -103,7 +116,7 @@ fn text_words(
     if kind == 38 {
         return key(tree, at, n, text, spot);
     }
-    let s = out::say(words, text, spot, places::lead_word(slots, f));
+    let s = lead(slots, words, text, spot, f);
     out::copy(tree, at, n, text, s)
 }
 

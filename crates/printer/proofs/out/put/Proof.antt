@@ -7,11 +7,8 @@ use Rattle.printer.proofs.out.put.Tie as tie
 returns : tie.Need-returns
 returns c = law.spot-fits _ _ _ (c .if1 .taken)
 
-add-len : tie.Need-add-result-2
-add-len c = omega (arith, c .before .good .0 .1)
-
 returns-2 : tie.Need-returns-2
-returns-2 c = law.spot-over _ _ _ (c .if1 .left)
+returns-2 c = law.spot-over _ _ _ _ (c .if1 .left) (omega arith)
 
 pub put-spec : {M : Type 1} → statement M
-put-spec = tie.close (tie.spec (λ c. search needs) (λ c. search needs) (λ c. search needs) returns add-len returns-2)
+put-spec = tie.close (tie.spec (λ c. search needs) (λ c. search needs) (λ c. search needs) returns returns-2)

@@ -13,14 +13,14 @@ add-level : tie.Need-add-t23
 add-level c = omega (arith, c .before .before .before .before .before .before .before .before .before .before .before .before .before .if1 .taken, c .before .before .before .before .before .before .before .before .before .before .before .before .before .before .before .before .before .before .good .1 .1 .0 .0)
 
 same-length : tie.Need-same-length
-same-length c = c .before .before .before .before .keep .kept .0
+same-length c = c .before .before .before .before .before .before .before .before .before .keep .kept .0
 
 returns : tie.Need-returns
 unfolding listOpening
 returns c = λ hs hw t a hc hl.
-    rw (c .before .before .before .before .keep .ensures) (law.open-turned t (c .before .before .before .before .before .before .before .before .before .before .before .before .before .before .before .before .before .before .args .stack .now) a (bufferIn (c .before .before .before .before .before .before .before .before .before .before .before .before .before .before .before .before .before .before .args .text .now) (c .before .before .before .before .before .before .before .before .before .before .before .before .before .before .before .before .before .before .args .s .spot)) _ (c .before .before .before .before .before .before .before .before .before .before .before .before .before .before .before .before .before .before .args .s) (c .before .before .before .before .before .before .before .before .before .before .before .before .before .before .before .before .before .before .args .n) _ _ _ (c .before .before .before .before .before .before .before .before .before .say-any .result) hc hl
-    (c .before .before .before .before .before .before .before .before .before .say-any .ensures hw ∙ ap (λ (z : ℕ). write (bufferIn (c .before .before .before .before .before .before .before .before .before .before .before .before .before .before .before .before .before .before .args .text .now) (c .before .before .before .before .before .before .before .before .before .before .before .before .before .before .before .before .before .before .args .s .spot)) (word z)) (c .before .before .before .before .before .before .before .before .before .before .choose .ensures ∙ ap (λ (z : ℕ). chosenWord z (frameIn (c .before .before .before .before .before .before .before .before .before .before .before .before .before .before .before .before .before .before .args .s .top) .note) (frameIn (c .before .before .before .before .before .before .before .before .before .before .before .before .before .before .before .before .before .before .args .s .top) .map) (frameIn (c .before .before .before .before .before .before .before .before .before .before .before .before .before .before .before .before .before .before .args .s .top) .seen) 0) (c .before .before .before .before .before .before .before .before .before .before .before .before .slot-in .ensures hs .0)))
-    (c .before .before .before .before .before .unlisted-in .ensures) (c .before .listed-in .ensures)
+    rw (c .before .before .before .before .before .before .before .before .before .keep .ensures) (law.open-turned t (c .before .before .before .before .before .before .before .before .before .before .before .before .before .before .before .before .before .before .args .stack .now) a (bufferIn (c .before .before .before .before .before .before .before .before .before .before .before .before .before .before .before .before .before .before .args .text .now) (c .before .before .before .before .before .before .before .before .before .before .before .before .before .before .before .before .before .before .args .s .spot)) _ (c .before .before .before .before .before .before .before .before .before .before .before .before .before .before .before .before .before .before .args .s) (c .before .before .before .before .before .before .before .before .before .before .before .before .before .before .before .before .before .before .args .n) _ _ _ (c .before .before .before .before .say-any .result) hc hl
+    (c .before .before .before .before .say-any .ensures hw ∙ ap (λ (z : ℕ). write (bufferIn (c .before .before .before .before .before .before .before .before .before .before .before .before .before .before .before .before .before .before .args .text .now) (c .before .before .before .before .before .before .before .before .before .before .before .before .before .before .before .before .before .before .args .s .spot)) (word z)) (c .before .before .before .before .before .choose .ensures ∙ ap (λ (z : ℕ). chosenWord z (frameIn (c .before .before .before .before .before .before .before .before .before .before .before .before .before .before .before .before .before .before .args .s .top) .note) (frameIn (c .before .before .before .before .before .before .before .before .before .before .before .before .before .before .before .before .before .before .args .s .top) .map) (frameIn (c .before .before .before .before .before .before .before .before .before .before .before .before .before .before .before .before .before .before .args .s .top) .seen) 0) (c .before .before .before .before .before .before .before .before .before .before .before .before .slot-in .ensures hs .0)))
+    (c .before .before .before .before .before .before .before .before .before .before .unlisted-in .ensures) (c .before .listed-in .ensures)
     (c .opened .ensures (c .before .before .before .before .before .before .before .before .before .before .before .before .slot-in .ensures hs .1 ∙ law.listed-manner (c .before .before .before .before .before .before .before .before .before .before .before .before .before .before .before .before .before .before .args .s .top) _ (c .before .listed-in .ensures)) hc))
 
 returns-2 : tie.Need-returns-2

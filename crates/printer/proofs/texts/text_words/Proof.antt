@@ -1,9 +1,7 @@
 use lib.ListN.{take, drop}
-use Rattle.printer.specs.Layout.{word}
-use Prim.Native.Nat.{ℕ}
 use mathlib.Core.Path.{refl, sym, ap, _∙_}
 use borrow.Author.Tests.{eq-eqb, ne-eqb}
-use Rattle.printer.specs.Stacks.{Buffer, write, bufferIn}
+use Rattle.printer.specs.Stacks.{Buffer, write}
 use Rattle.printer.proofs.PiecesWritten.{write-append}
 use Rattle.printer.specs.Places.{textBytes}
 use borrow.Author.Needs.{needs}
@@ -24,7 +22,7 @@ returns-3 c = λ s w. c .before .before .key .ensures ∙ rw (ne-eqb _ _ (λ e. 
 
 returns-4 : tie.Need-returns-4
 unfolding textBytes
-returns-4 c = λ s w. c .before .before .copy .ensures ∙ ap (λ (b : Buffer). write b (take (c .before .before .before .before .before .before .before .before .before .before .before .before .before .before .before .before .before .args .n) (drop (c .before .before .before .before .before .before .before .before .before .before .before .before .before .before .before .before .before .args .at) (c .before .before .before .before .before .before .before .before .before .before .before .before .before .before .before .before .before .args .tree .now)))) (c .before .before .before .before .before .before .say .ensures w ∙ ap (λ (z : ℕ). write (bufferIn (c .before .before .before .before .before .before .before .before .before .before .before .before .before .before .before .before .before .args .text .now) (c .before .before .before .before .before .before .before .before .before .before .before .before .before .before .before .before .before .args .spot)) (word z)) (c .before .before .before .before .before .before .before .lead-word .ensures s)) ∙ sym (write-append _ _ _) ∙ rw (ne-eqb _ _ (λ e. c .before .before .before .before .before .before .before .before .before .before .before .if1 .left (c .before .before .before .before .before .before .before .before .before .before .before .before .kind-in .ensures ∙ e)), ne-eqb _ _ (λ e. c .before .before .before .before .before .before .before .before .before .before .if2 .left (c .before .before .before .before .before .before .before .before .before .before .before .before .kind-in .ensures ∙ e)), ne-eqb _ _ (λ e. c .before .before .before .before .before .before .before .before .before .if3 .left (c .before .before .before .before .before .before .before .before .before .before .before .before .kind-in .ensures ∙ e))) refl
+returns-4 c = λ s w. c .before .before .copy .ensures ∙ ap (λ (b : Buffer). write b (take (c .before .before .before .before .before .before .before .before .before .before .before .before .before .before .before .before .args .n) (drop (c .before .before .before .before .before .before .before .before .before .before .before .before .before .before .before .before .args .at) (c .before .before .before .before .before .before .before .before .before .before .before .before .before .before .before .before .args .tree .now)))) (c .before .before .before .before .before .before .lead .ensures s w) ∙ sym (write-append _ _ _) ∙ rw (ne-eqb _ _ (λ e. c .before .before .before .before .before .before .before .before .before .before .if1 .left (c .before .before .before .before .before .before .before .before .before .before .before .kind-in .ensures ∙ e)), ne-eqb _ _ (λ e. c .before .before .before .before .before .before .before .before .before .if2 .left (c .before .before .before .before .before .before .before .before .before .before .before .kind-in .ensures ∙ e)), ne-eqb _ _ (λ e. c .before .before .before .before .before .before .before .before .if3 .left (c .before .before .before .before .before .before .before .before .before .before .before .kind-in .ensures ∙ e))) refl
 
 pub text-words-spec : {M : Type 1} → statement M
 text-words-spec =
@@ -40,7 +38,6 @@ text-words-spec =
     (λ c κs. search needs)
     (λ c. search needs)
     returns-3
-    (λ c κs. search needs)
     (λ c κs. search needs)
     (λ c κs. search needs)
     (λ c. search needs)
