@@ -1,4 +1,6 @@
 // How many patterns of n items, spread or ordinary, give c nested calls.
+#![tactic(auto)]
+
 ghost use Rattle.std.specs.Prelude.{◌≡◌, ◌<◌, ◌≤◌};
 ghost use Rattle.counting.specs.Figures.{choose, figure, longest, answer_of, number_of};
 
@@ -9,7 +11,7 @@ const PATTERN_TOO_LONG: u8 = 14;
 
 // Answer 0 and the number; or the refusal, and 0.
 #[repr(C)]
-#[derive(Drop)]
+#[derive(Clone, Copy)]
 pub struct Counted {
     pub answer: u8,
     pub number: u32,

@@ -1,10 +1,12 @@
 // The tree of a seed as a program: the seed is the one argument, decimal. Prints the answer, then the tree in hexadecimal, a line
 // each; the second is empty on a refusal. Any other argument gets a line of usage.
+#![tactic(auto)]
+
 ghost use Rattle.std.specs.Prelude.{◌≡◌};
 
 use libc::STDOUT_FILENO;
 
-#[derive(Drop)]
+#[derive(Clone, Copy)]
 enum Seed {
     Given(u32),
     Missing,

@@ -21,7 +21,7 @@ fn ended(left: usize, more: usize) -> bool
 }
 
 // A kind, and the state after it.
-#[derive(Drop)]
+#[derive(Clone, Copy)]
 struct Choice {
     pub kind: u8,
     pub state: u32,
@@ -175,7 +175,7 @@ pub(crate) fn node(out: &mut [u8], place: usize, left: usize, g: Pen) -> Pen
 }
 
 // Whether a field stands, and the state after that is settled.
-#[derive(Drop)]
+#[derive(Clone, Copy)]
 struct Settled {
     pub stands: bool,
     pub state: u32,

@@ -1,4 +1,6 @@
 // A reproducible load (request 2): Marsaglia's 32-bit xorshift, and the trees that are drawn with it.
+#![tactic(auto)]
+
 pub mod draw;
 pub mod kinds;
 pub mod pen;
@@ -11,7 +13,7 @@ use pen::Pen;
 
 // A generator that is advanced in place.
 #[repr(C)]
-#[derive(Drop)]
+#[derive(Clone, Copy)]
 pub struct Xorshift {
     pub state: u32,
 }
@@ -47,7 +49,7 @@ const SLICE_TOO_SHORT: u8 = 7;
 
 // Answer 0, the state after the tree and the length of the tree; or the refusal, and 0.
 #[repr(C)]
-#[derive(Drop)]
+#[derive(Clone, Copy)]
 pub struct Drawn {
     pub answer: u8,
     pub next: u32,

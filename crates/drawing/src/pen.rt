@@ -7,7 +7,7 @@ use tree::bytes;
 
 // The generator's state, how many nodes are still to be begun before all is cut short, the next mark, the position; and what
 // was drawn last hands on: a field its byte, fields their bit map.
-#[derive(Drop)]
+#[derive(Clone, Copy)]
 pub(crate) struct Pen {
     pub state: u32,
     pub more: usize,

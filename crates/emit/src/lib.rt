@@ -17,6 +17,8 @@
 // Whether the scope is the root is looked up once, `at_root` of `walk::place`, where the walk comes to an assignment (`ag`) or a declaration
 // (`decl`), and where one is put into a body (`ta`, `add`). The code for its rests, keys and parts is told the answer, `root`, and its contract
 // holds for either: `place_with root c` reads nothing of the root of c. What is walked inside asks for itself.
+#![tactic(auto)]
+
 ghost use Rattle.std.specs.Prelude.{◌≡◌, true, false, ◌||◌, [], eqb, ◌-◌, ◌<◌};
 ghost use Rattle.tree.specs.Tree.Node.{node};
 ghost use Rattle.tree.specs.Read.{byte_at, wide_at};

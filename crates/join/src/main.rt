@@ -1,5 +1,7 @@
 // Reads a tree from standard input after its 16-bit length, then a list to the end. Prints the answer, then the joined
 // tree in hexadecimal, a line each; the second is empty on a refusal. Fewer bytes than the length says: 3.
+#![tactic(auto)]
+
 ghost use Rattle.std.specs.Prelude.{◌≡◌};
 
 use joining::{Joined, join};

@@ -34,7 +34,7 @@ fn container(kind: usize) -> usize
 }
 
 // The last of the containers' lists; the item of one that has just begun, else 0.
-#[derive(Drop)]
+#[derive(Clone, Copy)]
 struct Bodies {
     pub latest: usize,
     pub begun: usize,
@@ -130,7 +130,7 @@ fn add(
 }
 
 // The last of the containers' lists; or the bytes are no rewritten tree.
-#[derive(Drop)]
+#[derive(Clone, Copy)]
 pub(crate) enum Found {
     Latest(usize),
     NoTree,

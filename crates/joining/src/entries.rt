@@ -10,7 +10,7 @@ use rewritten::{next, seen};
 use tree::bytes;
 
 // Where something ends; or it is off its layout, or has a mark that was met before.
-#[derive(Drop)]
+#[derive(Clone, Copy)]
 pub(crate) enum Ending {
     At(usize),
     Missing,

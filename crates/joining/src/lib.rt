@@ -1,4 +1,6 @@
 // Handed-out declarations put into place: a rewritten tree and its list become the program that is loaded.
+#![tactic(auto)]
+
 mod bodies;
 mod entries;
 pub mod join;
@@ -12,7 +14,7 @@ ghost use Rattle.joining.specs.Answer.{Answered};
 
 // Answer 0 and the length of the tree; or a refusal and 0.
 #[repr(C)]
-#[derive(Drop)]
+#[derive(Clone, Copy)]
 pub struct Joined {
     pub answer: u8,
     pub tree_len: usize,

@@ -6,7 +6,7 @@ use crate::table;
 use tree::bytes;
 
 // The list of a container and the statement in it, or 0 and 0.
-#[derive(Drop)]
+#[derive(Clone, Copy)]
 pub(crate) struct Place {
     pub list: usize,
     pub statement: usize,

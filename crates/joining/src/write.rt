@@ -8,7 +8,7 @@ use drawing::pen;
 use tree::bytes;
 
 // Where the next byte goes, and the last mark that was given.
-#[derive(Drop)]
+#[derive(Clone, Copy)]
 struct Spot {
     pub at: usize,
     pub mark: usize,

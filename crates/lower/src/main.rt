@@ -1,6 +1,8 @@
 // The lowering as a program: reads an options byte (0 if there is none) and a tree from standard input to its end; it names no
 // limit. Prints the answer, the helper mask and the options mask; then the tree, then the list, in hexadecimal. The last two
 // lines are empty on a refusal.
+#![tactic(auto)]
+
 ghost use Rattle.io.specs.Counts.{IsPrefixLen};
 
 use libc::{STDIN_FILENO, STDOUT_FILENO};

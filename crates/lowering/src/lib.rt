@@ -1,1 +1,2 @@
 // The definition of the lowering is in specs/, its laws in proofs/.
+#![tactic(auto)]

@@ -1,4 +1,6 @@
 // Makes the table of name bytes from its rule, and prints it in hexadecimal, one line.
+#![tactic(auto)]
+
 use libc::STDOUT_FILENO;
 
 fn wide(b: u8) -> u64 {

@@ -1,5 +1,7 @@
 // Reads two trees from standard input, each after its 16-bit length. Prints `less`, `equal` or `greater`, the first
 // against the second, or `3` if the input is no such pair of rewritten trees.
+#![tactic(auto)]
+
 use libc::{STDIN_FILENO, STDOUT_FILENO};
 use ordering::compare;
 use ordering::compare::Answer;

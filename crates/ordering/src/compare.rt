@@ -10,14 +10,14 @@ use rewritten::step::Event;
 use rewritten::{next, read};
 
 // What two sides give: an event of each; or one of them has ended, which decides.
-#[derive(Drop)]
+#[derive(Clone, Copy)]
 enum Pair {
     Both(Event, Side, Event, Side),
     Over(Verdict),
 }
 
 // A verdict, or one of the two is no rewritten tree.
-#[derive(Drop)]
+#[derive(Clone, Copy)]
 pub enum Answer {
     Said(Verdict),
     Refused,

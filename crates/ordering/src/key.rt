@@ -10,7 +10,7 @@ use crate::{text, verdict};
 use rewritten::step::Event;
 
 // Three numbers and a text, which has `size` bytes from `at` on.
-#[derive(Drop)]
+#[derive(Clone, Copy)]
 struct Key {
     pub rank: usize,
     pub first: usize,

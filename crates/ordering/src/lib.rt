@@ -1,4 +1,6 @@
 // An order over rewritten trees: two tours side by side until they part.
+#![tactic(auto)]
+
 pub mod compare;
 pub mod key;
 pub mod place;
@@ -16,7 +18,7 @@ use crate::verdict::Verdict;
 
 // Answer 0 and -1, 0 or 1: the first is less than the second, equal or greater. Or the refusal 3, and 0.
 #[repr(C)]
-#[derive(Drop)]
+#[derive(Clone, Copy)]
 pub struct Ordered {
     pub answer: u8,
     pub order: i8,

@@ -8,7 +8,7 @@ use rewritten::next;
 use rewritten::step::{Cursor, Event, Step};
 
 // Where the tour stands, whether the next event is the number of a temporary, and how many temporaries were met.
-#[derive(Drop)]
+#[derive(Clone, Copy)]
 pub(crate) struct Side {
     pub cursor: Cursor,
     pub temporary: bool,
@@ -16,7 +16,7 @@ pub(crate) struct Side {
 }
 
 // The next event with its place, and the side then; or nothing is left.
-#[derive(Drop)]
+#[derive(Clone, Copy)]
 pub(crate) enum Move {
     Met(Event, Side),
     Ended,

@@ -22,7 +22,7 @@ use tree::{bytes, skip};
 // of a decimal spelling; a string of the digits of a number's value; that template; the name or temporary read again; a
 // temporary that gets its value. A private key adds nothing. A form that is not the string of its number is refusal 11, a
 // literal without a form that is no such number refusal 6.
-#[derive(Drop)]
+#[derive(Clone, Copy)]
 pub enum Key {
     Name { from: usize, len: usize },
     Literal { from: usize, len: usize },

@@ -1,4 +1,6 @@
 // Patterns and keys over tree bytes: what the lowering asks of them, against its definition.
+#![tactic(auto)]
+
 pub mod declarators;
 pub mod keys;
 pub mod moves;

@@ -9,7 +9,7 @@ use tree::bytes;
 const HIGHEST: usize = 9007199254740991;
 
 // What a text is as a number, with a value of at most the highest; another spelling, or a higher one, is neither.
-#[derive(Drop)]
+#[derive(Clone, Copy)]
 pub enum Spelling {
     Decimal(usize),
     Hexadecimal(usize),
@@ -113,7 +113,7 @@ pub(crate) fn spelled(text: &[u8]) -> Spelling
 }
 
 // The digits of a value: the bytes of the array from a place on.
-#[derive(Drop)]
+#[derive(Clone, Copy)]
 pub struct Digits {
     pub bytes: [u8; 20],
     pub from: usize,

@@ -9,7 +9,7 @@ use tree::skip::Found;
 use tree::{bytes, grammar, skip};
 
 // What a field holds.
-#[derive(Drop)]
+#[derive(Clone, Copy)]
 pub enum Part {
     One(usize),
     Many {
@@ -26,14 +26,14 @@ pub enum Part {
 }
 
 // A node's position with the levels for it. Where there is no node there are no levels.
-#[derive(Drop)]
+#[derive(Clone, Copy)]
 pub struct Place {
     pub left: usize,
     pub at: usize,
 }
 
 // A list of nodes: whether it may have holes, how many items it has, where the first one starts.
-#[derive(Drop)]
+#[derive(Clone, Copy)]
 pub struct Run {
     pub holes: bool,
     pub count: usize,

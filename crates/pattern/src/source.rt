@@ -7,7 +7,7 @@ ghost use Rattle.pattern.specs.Source.{read_values, builder_of, held_in, read_of
 use tree::bytes;
 
 // What a read gives: the expression at a place, or the temporary of a cell with its stem.
-#[derive(Drop)]
+#[derive(Clone, Copy)]
 pub enum Read {
     Expression { left: usize, at: usize },
     Temporary { cell: usize, stem: u8 },
@@ -24,7 +24,7 @@ pub fn place_of(read: Read) -> usize
 }
 
 // The value's place, and the cell and the stem of its temporary if one is wanted. The expression is handed out once.
-#[derive(Drop)]
+#[derive(Clone, Copy)]
 pub struct ReferenceBuilder {
     pub left: usize,
     pub at: usize,
@@ -34,7 +34,7 @@ pub struct ReferenceBuilder {
     pub fresh: bool,
 }
 
-#[derive(Drop)]
+#[derive(Clone, Copy)]
 pub struct Taken {
     pub read: Read,
     pub next: ReferenceBuilder,

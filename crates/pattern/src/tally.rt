@@ -4,7 +4,7 @@ ghost use Rattle.lowering.specs.Parts.{or_else};
 ghost use Rattle.pattern.specs.Tally.{limited, no_tally, both};
 
 // What is counted of keys, and of objects with rest.
-#[derive(Drop)]
+#[derive(Clone, Copy)]
 pub(crate) struct Tally {
     // Entries among the excluded keys.
     pub excluded: usize,

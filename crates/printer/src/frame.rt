@@ -5,7 +5,7 @@ ghost use Rattle.printer.specs.Stacks.{frame_in, next_in, packed_frame};
 
 // The node's kind, bit map and byte; the word that stands behind it; what was noted of it; the bits of its fields still
 // to come; and 1 if this is a list of the node.
-#[derive(Drop)]
+#[derive(Clone, Copy)]
 pub(crate) struct Frame {
     pub kind: usize,
     pub map: usize,

@@ -1,4 +1,6 @@
 // JavaScript text of a rewritten tree.
+#![tactic(auto)]
+
 pub mod entries;
 pub mod frame;
 pub mod layout;
@@ -29,7 +31,7 @@ const TEXT_TOO_LONG: u8 = 10;
 
 // Answer 0 and the length of the text; or the refusal, and 0.
 #[repr(C)]
-#[derive(Drop)]
+#[derive(Clone, Copy)]
 pub struct Printed {
     pub answer: u8,
     pub text_len: usize,

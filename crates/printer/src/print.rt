@@ -14,7 +14,7 @@ use tree::bytes;
 
 // The innermost frame with its next quasi, packed; how many frames are open around it; how many quasis are held; how much is
 // written.
-#[derive(Drop)]
+#[derive(Clone, Copy)]
 pub(crate) struct State {
     pub top: usize,
     pub level: usize,

@@ -1,4 +1,5 @@
 // The lowering of object rest and spread (ES2018) to ECMAScript 2017, from tree bytes to tree bytes.
+#![tactic(auto)]
 
 pub mod version;
 
@@ -22,7 +23,7 @@ use walk::walk::Walk;
 
 // Document 01's answer (0, or the number of a refusal), the mask of helpers, that of options, and the lengths of tree and list.
 #[repr(C)]
-#[derive(Drop)]
+#[derive(Clone, Copy)]
 pub struct Lowered {
     pub answer: u8,
     pub helpers: u8,

@@ -1,4 +1,6 @@
 // What comes out of the lowering: the laws are in specs/ and proofs/; a test for loaders.
+#![tactic(auto)]
+
 pub mod leftover;
 
 ghost use Rattle.std.specs.Prelude.{◌≡◌, cond};

@@ -1,7 +1,7 @@
 // Where a tour stands, what it meets, and what a step of it gives.
 
 // The position, how many frames are open, and the innermost task as a number.
-#[derive(Drop)]
+#[derive(Clone, Copy)]
 pub struct Cursor {
     pub at: usize,
     pub deep: usize,
@@ -10,7 +10,7 @@ pub struct Cursor {
 
 // What is met: a node (position, kind, bit map), its end, a list (how many items), its end, a hole, a text (position,
 // length), a byte, a mark, a number.
-#[derive(Drop)]
+#[derive(Clone, Copy)]
 pub enum Event {
     Begins(usize, usize, usize),
     Ends,
@@ -24,7 +24,7 @@ pub enum Event {
 }
 
 // An event and where the tour stands then; nothing is left; the bytes are no tree; no frame is left.
-#[derive(Drop)]
+#[derive(Clone, Copy)]
 pub enum Step {
     Next(Event, Cursor),
     Done,

@@ -1,4 +1,6 @@
 // The output of the lowering: a tree and a list, written into lent slices while the input is walked.
+#![tactic(auto)]
+
 pub mod bytes;
 pub mod cells;
 pub mod ends;
@@ -8,7 +10,7 @@ pub mod mask;
 pub mod tree;
 
 // Which helpers the tree uses.
-#[derive(Drop)]
+#[derive(Clone, Copy)]
 pub struct Helpers {
     pub spread: bool,
     pub extends: bool,
@@ -20,7 +22,7 @@ pub struct Helpers {
 // How many bytes the list and the excluded declarators have (one above the limit if there are more), how many entries and
 // excluded declarators there are, which helpers the tree uses, how many bytes it has, the next mark of a statement, the next
 // number of a temporary. The order of the fields counts for the time that a copy takes (docs/SPEED.md).
-#[derive(Drop)]
+#[derive(Clone, Copy)]
 pub struct Sink {
     pub list: usize,
     pub keys: usize,
@@ -33,7 +35,7 @@ pub struct Sink {
 }
 
 // What is handed back: whether tree and list fit, the helper mask, both lengths.
-#[derive(Drop)]
+#[derive(Clone, Copy)]
 pub struct Written {
     pub fits: bool,
     pub helpers: u8,

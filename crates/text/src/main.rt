@@ -1,4 +1,6 @@
 // Reads a rewritten tree from standard input to its end. Prints its text, or the number of the refusal and a line end.
+#![tactic(auto)]
+
 use libc::{STDIN_FILENO, STDOUT_FILENO};
 
 // The first bytes of a text.

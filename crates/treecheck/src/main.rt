@@ -1,5 +1,7 @@
 // Reads a tree from standard input to its end. Prints 0, the number of its bytes and the next mark; or the number of
 // the refusal. It names no limit.
+#![tactic(auto)]
+
 use libc::{STDIN_FILENO, STDOUT_FILENO};
 use tree::read::Answer;
 

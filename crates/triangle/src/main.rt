@@ -1,4 +1,6 @@
 // Prints, for each length n from 0 to 32, a line: how many patterns give c nested calls, c from 0 to n.
+#![tactic(auto)]
+
 use libc::STDOUT_FILENO;
 
 fn say(n: u32, c: u32) {

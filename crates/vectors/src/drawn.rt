@@ -4,7 +4,7 @@ use crate::tally::{Tally, say, wide};
 use libc::STDIN_FILENO;
 
 // What stands in front of a case's tree.
-#[derive(Drop)]
+#[derive(Clone, Copy)]
 struct Head {
     seed: u32,
     next: u32,

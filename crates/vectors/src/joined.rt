@@ -7,7 +7,7 @@ use crate::tally::{Tally, say, wide};
 use libc::STDIN_FILENO;
 
 // What stands in front of a case's tree, list and joined tree.
-#[derive(Drop)]
+#[derive(Clone, Copy)]
 struct Head {
     answer: u8,
     slice: usize,

@@ -2,6 +2,8 @@
 // named, 2 lowering within a limit, 3 drawing, 4 joining. Prints a line for each disagreement, then how many trees the reader answered
 // how, how many cases of lowering there were and how often the entries were called, how many trees were drawn, how many cases of joining
 // there were, then the number of cases and of disagreements.
+#![tactic(auto)]
+
 mod drawn;
 mod joined;
 mod reading;

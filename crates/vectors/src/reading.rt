@@ -5,7 +5,7 @@ use libc::STDIN_FILENO;
 use tree::read::Answer;
 
 // What stands in front of a case's tree.
-#[derive(Drop)]
+#[derive(Clone, Copy)]
 struct Head {
     limit: usize,
     answer: u8,
@@ -14,7 +14,7 @@ struct Head {
 }
 
 // An answer of the reader: 0, the tree's end and the next mark; or the refusal's number, 0 and 0.
-#[derive(Drop)]
+#[derive(Clone, Copy)]
 struct Found {
     answer: u8,
     end: usize,

@@ -8,14 +8,14 @@ use libc::STDIN_FILENO;
 use rest_spread::Lowered;
 
 // The limit of a case; its number is 0 where none is named.
-#[derive(Drop)]
+#[derive(Clone, Copy)]
 struct Limit {
     named: bool,
     number: u32,
 }
 
 // What stands in front of a case's tree, expected tree and expected list.
-#[derive(Drop)]
+#[derive(Clone, Copy)]
 struct Head {
     limit: Limit,
     options: u8,
@@ -28,7 +28,7 @@ struct Head {
 }
 
 // One call: limit, options and the lengths of the slices that are lent, and what it has to return beside lengths.
-#[derive(Drop)]
+#[derive(Clone, Copy)]
 struct Call {
     limit: Limit,
     options: u8,

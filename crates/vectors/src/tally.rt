@@ -2,7 +2,7 @@
 use libc::STDOUT_FILENO;
 
 // How many cases were begun, and what came of them; how often the entry was called; `more` until the input ends or breaks off.
-#[derive(Drop)]
+#[derive(Clone, Copy)]
 pub(crate) struct Tally {
     pub cases: u64,
     pub wrong: u64,

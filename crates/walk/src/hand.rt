@@ -38,7 +38,7 @@ use tree::skip::{quiet, skip, skip_item, skip_items, step};
 // ---- over the objects of a pattern
 
 // What is done for an object: its place is made, its keys are made, its excluded keys go out.
-#[derive(Drop)]
+#[derive(Clone, Copy)]
 enum Own {
     Place,
     Keys,
@@ -260,7 +260,7 @@ fn object(
 }
 
 // What is done for a property: a temporary is made for a key that wants one, it is listed with its value, the key is excluded.
-#[derive(Drop)]
+#[derive(Clone, Copy)]
 enum KeyUse {
     Made,
     Listed,

@@ -1,4 +1,6 @@
 // What the walk carries, looks up and hands out: all of the emitters that need not call one another.
+#![tactic(auto)]
+
 pub mod hand;
 pub mod helpers;
 pub mod kinds;

@@ -62,7 +62,7 @@ fn mode_next(t: &[u8], left: usize, at: usize, mode: usize) -> usize
 }
 
 // Where some properties end, and the call so far behind them.
-#[derive(Drop)]
+#[derive(Clone, Copy)]
 struct Passed {
     pub at: usize,
     pub mode: usize,

@@ -101,7 +101,7 @@ pub fn cell(stem: u8, at: usize) -> usize
 }
 
 // How a key is written among the excluded keys.
-#[derive(Drop)]
+#[derive(Clone, Copy)]
 pub enum KeyClass {
     AsString,
     AsItStands,
@@ -155,7 +155,7 @@ pub fn hoisted(t: &[u8], left: usize, root: bool, at: usize) -> bool
 }
 
 // Where the starting value of a declarator is.
-#[derive(Drop)]
+#[derive(Clone, Copy)]
 pub enum Start {
     Value(usize),
     Missing,

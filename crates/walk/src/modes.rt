@@ -2,13 +2,13 @@
 use crate::reaches::Reach;
 
 // What is done below a pattern (`deep_of`): the declarators that are found, or the assignments of the objects with rest that are reached.
-#[derive(Drop)]
+#[derive(Clone, Copy)]
 pub enum Deep {
     Found,
     Reached(Reach),
 }
 
-#[derive(Drop)]
+#[derive(Clone, Copy)]
 pub enum Mode {
     // Patterns: in the view that replaces, without the parts that are moved out, what is below them.
     Viewed,

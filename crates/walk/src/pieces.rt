@@ -45,7 +45,7 @@ pub fn hole(w: Walk, t: &[u8], out: &mut [u8], mode: Mode) -> Walk
 }
 
 // The walk after a read of a source, and the builder for the next one.
-#[derive(Drop)]
+#[derive(Clone, Copy)]
 pub struct Sourced {
     pub walk: Walk,
     pub next: ReferenceBuilder,

@@ -11,7 +11,7 @@ ghost use Rattle.walk.specs.Whole.{place_of, place_with};
 use crate::kinds;
 
 // Where a node stands: at root, all of an expression statement, the mark of the containing statement, levels left.
-#[derive(Drop)]
+#[derive(Clone, Copy)]
 pub struct Place {
     pub root: bool,
     pub statement: bool,

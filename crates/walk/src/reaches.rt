@@ -3,7 +3,7 @@ ghost use Rattle.std.specs.Prelude.{◌≡◌};
 ghost use Rattle.direct.specs.Objects as objects;
 ghost use Rattle.walk.specs.Turns.{reach_of};
 
-#[derive(Drop)]
+#[derive(Clone, Copy)]
 pub enum Reach {
     Anywhere,
     Straight,

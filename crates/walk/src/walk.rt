@@ -16,7 +16,7 @@ use pattern::numbers::digits_of;
 use sink::Sink;
 
 // The output, the position in the input, the first refusal (0 for none). A refusal is a byte; as a word it is copied faster.
-#[derive(Drop)]
+#[derive(Clone, Copy)]
 pub struct Walk {
     pub sink: Sink,
     pub at: usize,
