@@ -1,7 +1,7 @@
 -- The nodes that the rules make, by their bytes and their parts.
 -- Assumes nothing.
 use mathlib.Core.Path.{◌≡◌, refl, sym, ap, ◌∙◌, fun_ext}
-use mathlib.Core.Bool.{Bool, true, false, ◌||◌, ◌&&◌, not, and_true, and_false}
+use mathlib.Core.Bool.{Bool, true, false, ◌||◌, ◌&&◌, not, and-true, and-false}
 use mathlib.Core.List.{List, [], ◌∷◌, ◌++◌}
 use Prim.Native.Nat.{ℕ}
 use lib.ListN.{length}
@@ -38,19 +38,19 @@ place_is c a b e s t h = λ j. record { root = (e) j; statement = (h) j; mark = 
 pub below_inner : (c : Place) (n : Node) → ((i : ℕ) → opens_scope (kind n) i ≡ false) → is 3 n ≡ false → is 31 n ≡ false → below c n ≡ (λ i. inner c)
 unfolding below inner
 below_inner c n o s p =
-    fun_ext (λ i. place_is c (opens_scope (kind n) i) c.root (rw (o i) (and_true c.root)) (is 3 n || (is 31 n && c.statement)) false (rw (s, p) refl))
+    fun_ext (λ i. place_is c (opens_scope (kind n) i) c.root (rw (o i) (and-true c.root)) (is 3 n || (is 31 n && c.statement)) false (rw (s, p) refl))
 
 -- below a scope
 pub below_scoped : (c : Place) (n : Node) → ((i : ℕ) → opens_scope (kind n) i ≡ true) → is 3 n ≡ false → is 31 n ≡ false → below c n ≡ (λ i. scoped c)
 unfolding below scoped
 below_scoped c n o s p =
-    fun_ext (λ i. place_is c (opens_scope (kind n) i) false (rw (o i) (and_false c.root)) (is 3 n || (is 31 n && c.statement)) false (rw (s, p) refl))
+    fun_ext (λ i. place_is c (opens_scope (kind n) i) false (rw (o i) (and-false c.root)) (is 3 n || (is 31 n && c.statement)) false (rw (s, p) refl))
 
 -- below an expression statement
 pub below_unused : (c : Place) (n : Node) → is 3 n ≡ true → ((i : ℕ) → opens_scope (kind n) i ≡ false) → below c n ≡ (λ i. unused c)
 unfolding below unused
 below_unused c n s o =
-    fun_ext (λ i. place_is c (opens_scope (kind n) i) c.root (rw (o i) (and_true c.root)) (is 3 n || (is 31 n && c.statement)) true (rw s refl))
+    fun_ext (λ i. place_is c (opens_scope (kind n) i) c.root (rw (o i) (and-true c.root)) (is 3 n || (is 31 n && c.statement)) true (rw s refl))
 
 -- ---- fields of nodes that are made
 

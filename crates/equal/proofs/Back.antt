@@ -47,6 +47,7 @@ value_number from (x ∷ xs) a (there i) =
     (λ t.
     let h = number_later (suc from) xs a in
     rw (t, ne_eqb (number_in eqb (suc from) xs a) from (λ z. absurd (omega arith))) (value_number (suc from) xs a i))
+value_number from [] a x' = elim x' [ ]
 
 -- the number that has the place among those of the list
 unfoldable value_of : List ℕ → ℕ → ℕ
@@ -61,6 +62,7 @@ value_place_lem xs a i = value_number 1 (distinct eqb xs) a (among eqb own_numbe
 in_changed : (f : ℕ → ℕ) (xs : List ℕ) (a : ℕ) → In a xs → In (f a) (changed f xs)
 in_changed f (x ∷ xs) a (here e) = here (ap f e)
 in_changed f (x ∷ xs) a (there i) = there (in_changed f xs a i)
+in_changed f [] a x' = elim x' [ ]
 
 record From (f : ℕ → ℕ) (xs : List ℕ) (b : ℕ) : Type 0 where
   a : ℕ
@@ -70,6 +72,7 @@ record From (f : ℕ → ℕ) (xs : List ℕ) (b : ℕ) : Type 0 where
 changed_in : (f : ℕ → ℕ) (xs : List ℕ) (b : ℕ) → In b (changed f xs) → From f xs b
 changed_in f (x ∷ xs) b (here e) = record { a = x; stands = here refl; is = e }
 changed_in f (x ∷ xs) b (there i) = let h = changed_in f xs b i in record { a = h.a; stands = there h.stands; is = h.is }
+changed_in f [] b x' = elim x' [ ]
 
 -- ---- two things whose canonical forms are the same, positions aside, differ by a renaming
 

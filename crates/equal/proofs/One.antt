@@ -76,6 +76,7 @@ module _ (a : Name) where
       go : (b : Bool) → In a (cond b (name_of (node at k fs) ∷ []) (names_fields fs)) → In a (cond b (name_of (node at k fs) ∷ []) [] ++ over name_at us)
       go true (here e) = here e
       go false i = f i
+      go true (there x3) = elim x3 [ ]
 
   mutual
     unfolding names nodes over name_at is

@@ -46,6 +46,7 @@ module _ {A : Type 0} (alike : A → A → Bool) (own : (a : A) → alike a a �
       rw (ap (alike b) (sym h) ∙ e) (here h)
   kept a b (x ∷ xs) e (there i) =
       by_test (alike b x) (λ t. rw t (kept a b xs e i)) (λ t. rw t (there (kept a b xs e i)))
+  kept a b [] e x'' = elim x'' [ ]
 
   -- what is in a list is among its distinct things
   pub among : (a : A) (xs : List A) → In a xs → In a (distinct alike xs)
@@ -53,6 +54,7 @@ module _ {A : Type 0} (alike : A → A → Bool) (own : (a : A) → alike a a �
   among a (x ∷ xs) (here h) = here h
   among a (x ∷ xs) (there i) =
       by_test (alike x a) (λ t. here (sym (same x a t))) (λ t. there (kept a x (distinct alike xs) t (among a xs i)))
+  among a [] x' = elim x' [ ]
 
   number_from : (from : ℕ) (xs : List A) (a : A) → from ≤ number_in alike from xs a
   unfolding number_in
@@ -80,6 +82,7 @@ module _ {A : Type 0} (alike : A → A → Bool) (own : (a : A) → alike a a �
       absurd (omega arith))
       (λ t.
       number_apart (suc from) xs a b (not_here a x xs s i) (not_here b x xs t j) (rw (s, t) at e)))
+      number_apart from [] a b i j e = elim i [ ]
 
   -- numbers tell them apart as the test does
   pub numbers_keep : (from : ℕ) (xs : List A) (a b : A) → In a xs → In b xs → eqb (number_in alike from xs a) (number_in alike from xs b) ≡ alike a b

@@ -258,6 +258,16 @@ list_first_lem b ts (Fields.field p fs) a (FitFields.field {f = Field.must (Sort
 list_first_lem b ts (Fields.field p fs) a (FitFields.field {f = Field.must Sort.mark} f r) = absurd (false≢true a)
 list_first_lem b ts (Fields.field p fs) a (FitFields.field {f = Field.must Sort.number} f r) = absurd (false≢true a)
 list_first_lem b ts (Fields.field p fs) a (FitFields.field {f = Field.may s} f r) = absurd (false≢true a)
+list_first_lem b _ (Rattle.tree.specs.Tree.field (Rattle.tree.specs.Tree.one _) fs) a (Rattle.tree.specs.WellFormed.field {f = Rattle.tree.specs.Grammar.must (Rattle.tree.specs.Grammar.many q)} {ts = ts} f r) = elim f [ ]
+list_first_lem b _ (Rattle.tree.specs.Tree.field (Rattle.tree.specs.Tree.text _) fs) a (Rattle.tree.specs.WellFormed.field {f = Rattle.tree.specs.Grammar.must (Rattle.tree.specs.Grammar.many q)} {ts = ts} f r) = elim f [ ]
+list_first_lem b _ (Rattle.tree.specs.Tree.field (Rattle.tree.specs.Tree.byte _) fs) a (Rattle.tree.specs.WellFormed.field {f = Rattle.tree.specs.Grammar.must (Rattle.tree.specs.Grammar.many q)} {ts = ts} f r) = elim f [ ]
+list_first_lem b _ (Rattle.tree.specs.Tree.field (Rattle.tree.specs.Tree.mark _) fs) a (Rattle.tree.specs.WellFormed.field {f = Rattle.tree.specs.Grammar.must (Rattle.tree.specs.Grammar.many q)} {ts = ts} f r) = elim f [ ]
+list_first_lem b _ (Rattle.tree.specs.Tree.field (Rattle.tree.specs.Tree.number _) fs) a (Rattle.tree.specs.WellFormed.field {f = Rattle.tree.specs.Grammar.must (Rattle.tree.specs.Grammar.many q)} {ts = ts} f r) = elim f [ ]
+list_first_lem b _ (Rattle.tree.specs.Tree.field (Rattle.tree.specs.Tree.one _) fs) a (Rattle.tree.specs.WellFormed.field {f = Rattle.tree.specs.Grammar.must (Rattle.tree.specs.Grammar.gaps q)} {ts = ts} f r) = elim f [ ]
+list_first_lem b _ (Rattle.tree.specs.Tree.field (Rattle.tree.specs.Tree.text _) fs) a (Rattle.tree.specs.WellFormed.field {f = Rattle.tree.specs.Grammar.must (Rattle.tree.specs.Grammar.gaps q)} {ts = ts} f r) = elim f [ ]
+list_first_lem b _ (Rattle.tree.specs.Tree.field (Rattle.tree.specs.Tree.byte _) fs) a (Rattle.tree.specs.WellFormed.field {f = Rattle.tree.specs.Grammar.must (Rattle.tree.specs.Grammar.gaps q)} {ts = ts} f r) = elim f [ ]
+list_first_lem b _ (Rattle.tree.specs.Tree.field (Rattle.tree.specs.Tree.mark _) fs) a (Rattle.tree.specs.WellFormed.field {f = Rattle.tree.specs.Grammar.must (Rattle.tree.specs.Grammar.gaps q)} {ts = ts} f r) = elim f [ ]
+list_first_lem b _ (Rattle.tree.specs.Tree.field (Rattle.tree.specs.Tree.number _) fs) a (Rattle.tree.specs.WellFormed.field {f = Rattle.tree.specs.Grammar.must (Rattle.tree.specs.Grammar.gaps q)} {ts = ts} f r) = elim f [ ]
 
 -- a first node that stands passes a test that 0 need not pass
 node_first_lem : (t : ℕ → Bool) (b : ℕ) (ts : List Field) (fs : Fields) → node_kinds t (sort_at ts 0) && node_first ts ≡ true → FitFields input b ts fs → t (kind (as_node (piece_in fs 0))) ≡ true
@@ -273,6 +283,11 @@ node_first_lem t b ts (Fields.field p fs) a (FitFields.field {f = Field.must (So
 node_first_lem t b ts (Fields.field p fs) a (FitFields.field {f = Field.must Sort.mark} f r) = absurd (false≢true (and_right true false a))
 node_first_lem t b ts (Fields.field p fs) a (FitFields.field {f = Field.must Sort.number} f r) = absurd (false≢true (and_right true false a))
 node_first_lem t b ts (Fields.field p fs) a (FitFields.field {f = Field.may s} f r) = absurd (false≢true (and_right (node_kinds t s) false a))
+node_first_lem t b _ (Rattle.tree.specs.Tree.field (Rattle.tree.specs.Tree.list _) fs) a (Rattle.tree.specs.WellFormed.field {f = Rattle.tree.specs.Grammar.must (Rattle.tree.specs.Grammar.child q)} {ts = ts} f r) = elim f [ ]
+node_first_lem t b _ (Rattle.tree.specs.Tree.field (Rattle.tree.specs.Tree.text _) fs) a (Rattle.tree.specs.WellFormed.field {f = Rattle.tree.specs.Grammar.must (Rattle.tree.specs.Grammar.child q)} {ts = ts} f r) = elim f [ ]
+node_first_lem t b _ (Rattle.tree.specs.Tree.field (Rattle.tree.specs.Tree.byte _) fs) a (Rattle.tree.specs.WellFormed.field {f = Rattle.tree.specs.Grammar.must (Rattle.tree.specs.Grammar.child q)} {ts = ts} f r) = elim f [ ]
+node_first_lem t b _ (Rattle.tree.specs.Tree.field (Rattle.tree.specs.Tree.mark _) fs) a (Rattle.tree.specs.WellFormed.field {f = Rattle.tree.specs.Grammar.must (Rattle.tree.specs.Grammar.child q)} {ts = ts} f r) = elim f [ ]
+node_first_lem t b _ (Rattle.tree.specs.Tree.field (Rattle.tree.specs.Tree.number _) fs) a (Rattle.tree.specs.WellFormed.field {f = Rattle.tree.specs.Grammar.must (Rattle.tree.specs.Grammar.child q)} {ts = ts} f r) = elim f [ ]
 
 plain_piece : (b : ℕ) (s : Sort) (p : Piece) → plain s ≡ true → FitPiece input b s p → NoPart p
 unfolding plain

@@ -372,6 +372,7 @@ module _ (d : ℕ) (lower : (p : ℕ) (n : Node) → depth n ≤ d → Fits inpu
       let f' : Fits input q (node at 35 fs) = subst (λ (j : ℕ). Fits input q (node at j fs)) e f in
       subst (λ (j : ℕ). Properties (Items.item (node at j fs) qs)) (sym e)
       (by_form f' (omega arith) (λ g. property_drawn at qs g (omega arith) w) (λ g. property_drawn at qs g (omega arith) w))
+  properties_drawn {q = q} (Rattle.tree.specs.Tree.hole _) x4 l k = elim x4 [ ]
 
   object_drawn : {i q r : ℕ} {fs : Fields} (at : ℕ) → FitFields input i (must (Sort.many q) ∷ may (Sort.child r) ∷ []) fs → depth_fields fs ≤ d → Good (node at 34 fs) → Pattern (node at 34 fs)
   unfolding depth is items_at_of node_at_of piece_in

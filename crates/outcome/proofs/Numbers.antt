@@ -155,3 +155,4 @@ number_agrees ts more a h =
 pub in_every : (P : Name → Type 0) (a : Name) (l : List Name) → Every P l → In a l → P a
 in_every P a (b ∷ l) h (here e) = subst P (sym e) h.0
 in_every P a (b ∷ l) h (there i) = in_every P a l h.1 i
+in_every P a [] h x'' = elim x'' [ ]

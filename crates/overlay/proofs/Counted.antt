@@ -584,6 +584,7 @@ item_fits : {p : ℕ} {b : Bool} {ns : Items} {j : ℕ} {x : Node} → FitItems 
 item_fits (FitItems.item n f) ItemAt.first = n
 item_fits (FitItems.item n f) (ItemAt.behind a) = item_fits f a
 item_fits (FitItems.hole f) (ItemAt.behind_hole a) = item_fits f a
+item_fits {j = j} (Rattle.tree.specs.WellFormed.none {p = p} {h = h}) x10 = elim x10 [ ]
 
 piece_fits_lem : {b : ℕ} {s : Sort} {p : Piece} {j : ℕ} {x : Node} → FitPiece input b s p → NodeIn p j x → (q : ℕ) × Fits input q x
 piece_fits_lem (FitPiece.child {p = p} f) NodeIn.one = (p, f)
@@ -595,6 +596,7 @@ pub field_fits : {b : ℕ} {ts : List Field} {fs : Fields} {i j : ℕ} {x : Node
 field_fits (FitFields.field p f) (FieldAt.first a) = piece_fits_lem p a
 field_fits (FitFields.field p f) (FieldAt.behind a) = field_fits f a
 field_fits (FitFields.absent f) (FieldAt.behind_absent a) = field_fits f a
+field_fits {i = i} {j = j} (Rattle.tree.specs.WellFormed.done {b = b}) x10 = elim x10 [ ]
 
 module _ (wanted : Node → Bool) where
   item_held : {ns : Items} {j : ℕ} {x : Node} → ItemAt ns j x → held wanted x ≤ held_items_of wanted ns

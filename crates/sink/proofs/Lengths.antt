@@ -6,7 +6,7 @@ use mathlib.Core.List.{List, [], ◌∷◌}
 use Prim.Native.Nat.{ℕ, ◌+◌, ◌-◌, ◌*◌, ◌≤◌, min}
 use native.Mathlib.Omega.{arith}
 use lib.Dec.{ltb}
-use lib.ListN.{length, length_set}
+use lib.ListN.{length, length-set}
 use lib.Seq.{length-slice}
 use borrow.Author.Tests.{lt-ltb, le-ltb, ltb-true, ltb-false}
 use Rattle.sink.specs.Machine.{State, state_of, with_list, low, high, part, set_wide, set_cell, known, cell_of, patch_list, patch_work, put_tree, put_list, put_keys, put_entry, settle, listed_at, excluded_at, set_cell_in, use_helper, next_mark, count_entry, count_declarator, all_tree, all_list_of, all_keys, step, steps, number_of, closed, over}
@@ -28,21 +28,21 @@ module _ (a b n : ℕ) where
   unfolding put_tree
   long_tree t l x c s h =
       by_test (ltb s.sink.tree 32768)
-      (λ e. let k = ltb-true s.sink.tree 32768 e in rw e (record { tree = omega (arith, h.tree); list = h.list; keys = h.keys; out_slice = length_set s.out s.sink.tree c ∙ h.out_slice; list_slice = h.list_slice; work_slice = h.work_slice }))
+      (λ e. let k = ltb-true s.sink.tree 32768 e in rw e (record { tree = omega (arith, h.tree); list = h.list; keys = h.keys; out_slice = length-set s.out s.sink.tree c ∙ h.out_slice; list_slice = h.list_slice; work_slice = h.work_slice }))
       (λ e. let k = ltb-false s.sink.tree 32768 e in rw e (record { tree = omega (arith, h.tree); list = h.list; keys = h.keys; out_slice = h.out_slice; list_slice = h.list_slice; work_slice = h.work_slice }))
 
   long_list : (t l x c : ℕ) (s : State) → Long a b n t l x s → Long a b n t (l + 1) x (put_list s c)
   unfolding put_list
   long_list t l x c s h =
       by_test (ltb s.sink.list 16384)
-      (λ e. let k = ltb-true s.sink.list 16384 e in rw e (record { tree = h.tree; list = omega (arith, h.list); keys = h.keys; out_slice = h.out_slice; list_slice = length_set s.list s.sink.list c ∙ h.list_slice; work_slice = h.work_slice }))
+      (λ e. let k = ltb-true s.sink.list 16384 e in rw e (record { tree = h.tree; list = omega (arith, h.list); keys = h.keys; out_slice = h.out_slice; list_slice = length-set s.list s.sink.list c ∙ h.list_slice; work_slice = h.work_slice }))
       (λ e. let k = ltb-false s.sink.list 16384 e in rw e (record { tree = h.tree; list = omega (arith, h.list); keys = h.keys; out_slice = h.out_slice; list_slice = h.list_slice; work_slice = h.work_slice }))
 
   long_keys : (t l x c : ℕ) (s : State) → Long a b n t l x s → Long a b n t l (x + 1) (put_keys s c)
   unfolding put_keys
   long_keys t l x c s h =
       by_test (ltb s.sink.keys 16384)
-      (λ e. let k = ltb-true s.sink.keys 16384 e in rw e (record { tree = h.tree; list = h.list; keys = omega (arith, h.keys); out_slice = h.out_slice; list_slice = h.list_slice; work_slice = length_set s.work (32768 + s.sink.keys) c ∙ h.work_slice }))
+      (λ e. let k = ltb-true s.sink.keys 16384 e in rw e (record { tree = h.tree; list = h.list; keys = omega (arith, h.keys); out_slice = h.out_slice; list_slice = h.list_slice; work_slice = length-set s.work (32768 + s.sink.keys) c ∙ h.work_slice }))
       (λ e. let k = ltb-false s.sink.keys 16384 e in rw e (record { tree = h.tree; list = h.list; keys = omega (arith, h.keys); out_slice = h.out_slice; list_slice = h.list_slice; work_slice = h.work_slice }))
 
   long_entry : (t l x c v : ℕ) (s : State) → Long a b n t l x s → Long a b n t (l + 4) x (put_entry s c v)

@@ -5,7 +5,7 @@ use mathlib.Core.Bool.{Bool, true, false}
 use mathlib.Core.List.{List, [], ◌∷◌, ◌++◌, append_assoc, append-nil}
 use Prim.Native.Nat.{ℕ, zero, suc, ◌+◌, ◌-◌, ◌*◌, ◌/◌, ◌%◌, ◌<◌, ◌≤◌}
 use native.Mathlib.Omega.{arith}
-use lib.ListN.{length, get_or, set, replicate, length-append, length_set, length-replicate, get_or-append}
+use lib.ListN.{length, get_or, set, replicate, length-append, length-set, length-replicate, get_or-append}
 use lib.Seq.{set-append_seam, set-append_left, get_or-set_same, get_or-set_other}
 use borrow.Author.Tests.{lt-ltb}
 use Rattle.sink.specs.Machine.{State, state_of, with_tree, with_list, with_keys_of, low, high, wide_in, set_wide, put_tree, put_list, put_keys, put_entry, all_tree, all_list_of, all_keys}
@@ -45,13 +45,13 @@ filled_put n bs b h =
 pub filled_set : (n : ℕ) (bs : List ℕ) (i b : ℕ) → i < length bs → set (filled n bs) i b ≡ filled n (set bs i b)
 unfolding filled
 filled_set n bs i b h =
-    set-append_left bs (replicate (n - length bs) 0) i b h ∙ ap (λ (k : ℕ). set bs i b ++ replicate (n - k) 0) (sym (length_set bs i b))
+    set-append_left bs (replicate (n - length bs) 0) i b h ∙ ap (λ (k : ℕ). set bs i b ++ replicate (n - k) 0) (sym (length-set bs i b))
 
 pub filled_wide : (n : ℕ) (bs : List ℕ) (i v : ℕ) → i + 1 < length bs → set_wide (filled n bs) i v ≡ filled n (set_wide bs i v)
 unfolding set_wide
 filled_wide n bs i v h =
     ap (λ (l : List ℕ). set l (i + 1) (high v)) (filled_set n bs i (low v) (omega arith))
-    ∙ filled_set n (set bs i (low v)) (i + 1) (high v) (omega (arith, length_set bs i (low v)))
+    ∙ filled_set n (set bs i (low v)) (i + 1) (high v) (omega (arith, length-set bs i (low v)))
 
 -- ---- two lists, one after the other
 
@@ -74,7 +74,7 @@ pub wide_left : (cs ys : List ℕ) (i v : ℕ) → i + 1 < length cs → set_wid
 unfolding set_wide
 wide_left cs ys i v h =
     ap (λ (l : List ℕ). set l (i + 1) (high v)) (set-append_left cs ys i (low v) (omega arith))
-    ∙ set-append_left (set cs i (low v)) ys (i + 1) (high v) (omega (arith, length_set cs i (low v)))
+    ∙ set-append_left (set cs i (low v)) ys (i + 1) (high v) (omega (arith, length-set cs i (low v)))
 
 pub read_left : (cs ys : List ℕ) (i : ℕ) → i + 1 < length cs → wide_in (cs ++ ys) i ≡ wide_in cs i
 unfolding wide_in
@@ -85,7 +85,7 @@ read_left cs ys i h =
 
 pub length_wide : (l : List ℕ) (i v : ℕ) → length (set_wide l i v) ≡ length l
 unfolding set_wide
-length_wide l i v = length_set (set l i (low v)) (i + 1) (high v) ∙ length_set l i (low v)
+length_wide l i v = length-set (set l i (low v)) (i + 1) (high v) ∙ length-set l i (low v)
 
 -- what is written is read again, and nothing else changes
 pub read_same : (l : List ℕ) (i v : ℕ) → v < 65536 → i + 1 < length l → wide_in (set_wide l i v) i ≡ v
@@ -94,7 +94,7 @@ read_same l i v h k =
     let p : get_or (set (set l i (v % 256)) (i + 1) (v / 256 % 256)) i 0 ≡ v % 256
     = get_or-set_other (set l i (v % 256)) (i + 1) i (v / 256 % 256) 0 (λ e. omega arith) ∙ get_or-set_same l i (v % 256) 0 (omega arith) in
     let q : get_or (set (set l i (v % 256)) (i + 1) (v / 256 % 256)) (i + 1) 0 ≡ v / 256 % 256
-    = get_or-set_same (set l i (v % 256)) (i + 1) (v / 256 % 256) 0 (omega (arith, length_set l i (v % 256))) in
+    = get_or-set_same (set l i (v % 256)) (i + 1) (v / 256 % 256) 0 (omega (arith, length-set l i (v % 256))) in
     omega arith
 
 pub read_other : (l : List ℕ) (c d v : ℕ) → (d ≡ c → ⊥) → wide_in (set_wide l (2 * c) v) (2 * d) ≡ wide_in l (2 * d)

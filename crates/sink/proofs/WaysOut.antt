@@ -6,9 +6,9 @@ use mathlib.Core.List.{List, [], ◌∷◌, ◌++◌, append-nil}
 use Prim.Native.Nat.{ℕ, zero, suc, ◌+◌, ◌-◌, ◌*◌, ◌<◌, ◌≤◌, min}
 use native.Mathlib.Nat.{add-zero}
 use native.Mathlib.Omega.{arith}
-use native.Mathlib.Numerals.{add_one, unary_clauses}
+use native.Mathlib.Numerals.{add-one, unary_clauses}
 use lib.Dec.{ltb, leb}
-use lib.ListN.{length, get_or, set, take, drop, replicate, length-drop, length_set, get_or-eq_default, drop_of_length-le, replicate-append-replicate, take-append-drop}
+use lib.ListN.{length, get_or, set, take, drop, replicate, length-drop, length-set, get_or-eq_default, drop_of_length-le, replicate-append-replicate, take-append-drop}
 use lib.Seq.{set_out, slice, slice-cons, take_all, take-suc-set, length-take-le}
 use borrow.Rule.Slice.PartMut.{put_mid, mid_of, mid_len, set_mid_at}
 use borrow.Author.Tests.{lt-ltb, le-ltb, ne_eqb, leb-true}
@@ -364,7 +364,7 @@ part_least i n l = ap (drop i) (take_least n l)
 
 pub part_next : (i n : ℕ) (l : List ℕ) → i < n → n ≤ length l → part i n l ≡ get_or l i 0 ∷ part (i + 1) n l
 unfolding part
-part_next i n l h k = slice-cons i n l 0 h k ∙ ap (λ (j : ℕ). get_or l i 0 ∷ slice j n l) (sym (add_one i))
+part_next i n l h k = slice-cons i n l 0 h k ∙ ap (λ (j : ℕ). get_or l i 0 ∷ slice j n l) (sym (add-one i))
 
 module _ (l : List ℕ) (s₀ : State) (i n : ℕ) (s : State) where
   pub copy_end : n ≤ i → steps s (puts (part i n l)) ≡ s₀ → s ≡ s₀
@@ -397,7 +397,7 @@ pub copied_on : (out₀ out from : List ℕ) (at p first stop i : ℕ) → stop 
     → (length (set out p (get_or from i 0)) ≡ length out₀) × (p + 1 + (stop - (i + 1)) ≤ length (set out p (get_or from i 0))) × (p + 1 + (stop - (i + 1)) ≤ 32768)
     × ((k : Sink) (l w : List ℕ) → steps (state_of (set out p (get_or from i 0)) l w (with_tree k (p + 1))) (puts (part (i + 1) stop from)) ≡ steps (state_of out₀ l w (with_tree k at)) (puts (part first stop from)))
 copied_on out₀ out from at p first stop i h g e a b r =
-    let n : length (set out p (get_or from i 0)) ≡ length out = length_set out p (get_or from i 0) in
+    let n : length (set out p (get_or from i 0)) ≡ length out = length-set out p (get_or from i 0) in
     (n ∙ e, omega arith, omega arith, λ k l w. copy_more from _ i stop _ _ g h (put_in (state_of out l w (with_tree k p)) _ _ (omega arith) refl) (r k l w))
 
 -- room for the bytes from `first` up to `stop` behind `at`
@@ -421,7 +421,7 @@ module _ (l : List ℕ) (s : State) (i n e : ℕ) (q : n ≡ min e (length l)) w
 
 pub clear_more : (s : List ℕ) (i : ℕ) → i < length s → take i s ≡ replicate i 0 → take (i + 1) (set s i 0) ≡ replicate (i + 1) 0
 clear_more s i h e =
-    ap (λ (n : ℕ). take n (set s i 0)) (add_one i) ∙ take-suc-set s i 0 h ∙ ap (λ (l : List ℕ). l ++ (0 ∷ [])) e ∙ replicate-append-replicate i 1 0
+    ap (λ (n : ℕ). take n (set s i 0)) (add-one i) ∙ take-suc-set s i 0 h ∙ ap (λ (l : List ℕ). l ++ (0 ∷ [])) e ∙ replicate-append-replicate i 1 0
 
 pub clear_end : (s s₀ : List ℕ) (i : ℕ) → length s ≡ length s₀ → i ≤ length s → length s ≤ i → take i s ≡ replicate i 0 → s ≡ replicate (length s₀) 0
 clear_end s s₀ i p h g e =

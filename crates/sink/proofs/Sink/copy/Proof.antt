@@ -5,7 +5,7 @@ use Rattle.sink.proofs.WaysOut as law
 use Rattle.sink.proofs.Sink.copy.Statement.{statement}
 use Rattle.sink.proofs.Sink.copy.Tie as tie
 
-copy-whole-requires : tie.Need-copy-whole-requires
+copy-whole-requires : tie.Need-copy_whole-requires
 copy-whole-requires c κs = (omega (arith, c.before.before.before.least.ensures), (c.before.before.has_room.ensures c.before.if1.true).0, (c.before.before.has_room.ensures c.before.if1.true).1)
 
 returns : tie.Need-returns

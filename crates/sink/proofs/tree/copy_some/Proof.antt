@@ -21,7 +21,7 @@ loop-holds c = (refl, λ k l w. refl)
 shared-slice-read-put-at : tie.Need-shared-slice-read-put-at invariant-loop decreases-loop
 shared-slice-read-put-at c = omega (arith, c.before.before.before.before.before.before.requires, c.before.before.loop-test.true)
 
-add-i : tie.Need-overflow-add-i invariant-loop decreases-loop
+add-i : tie.Need-overflow_add-i invariant-loop decreases-loop
 add-i c = omega arith
 
 loop-less : tie.Need-loop-smaller invariant-loop decreases-loop

@@ -24,10 +24,10 @@ shared-slice-read-out c = omega (arith, c.before.before.before.requires.0, c.bef
 slice-write-out : tie.Need-slice-write-out invariant-loop decreases-loop
 slice-write-out c = omega (arith, c.before.before.loop.invariant.1, c.before.loop-test.true)
 
-add-p : tie.Need-overflow-add-p invariant-loop decreases-loop
+add-p : tie.Need-overflow_add-p invariant-loop decreases-loop
 add-p c = omega (arith, c.before.before.loop.invariant.2, c.before.loop-test.true)
 
-add-i : tie.Need-overflow-add-i invariant-loop decreases-loop
+add-i : tie.Need-overflow_add-i invariant-loop decreases-loop
 add-i c = omega (arith, c.before.loop-test.true)
 
 loop-less : tie.Need-loop-smaller invariant-loop decreases-loop

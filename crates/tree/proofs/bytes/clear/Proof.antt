@@ -2,7 +2,7 @@ use mathlib.Core.Path.{refl, ◌≡◌}
 use Rattle.tree.proofs.Noting as law
 use native.Mathlib.Omega.{arith}
 use Prim.Native.Nat.{◌-◌, ◌≤◌}
-use lib.ListN.{length, take, replicate, length_set}
+use lib.ListN.{length, take, replicate, length-set}
 use Rattle.tree.proofs.bytes.clear.Statement.{statement}
 use Rattle.tree.proofs.bytes.clear.Tie as tie
 
@@ -16,7 +16,7 @@ loop-holds : tie.Need-loop-init invariant-loop decreases-loop
 loop-holds c = (refl, omega arith, refl)
 
 loop-again : tie.Need-loop-preserved invariant-loop decreases-loop
-loop-again c = (simp length_set c.before.loop.invariant.0, simp length_set (omega arith), law.clear_more _ _ c.loop-test.true c.before.loop.invariant.2)
+loop-again c = (simp length-set c.before.loop.invariant.0, simp length-set (omega arith), law.clear_more _ _ c.loop-test.true c.before.loop.invariant.2)
 
 returns : tie.Need-returns invariant-loop decreases-loop
 returns c = law.clear_end _ c.before.before.args.s.now _ c.before.loop.invariant.0 c.before.loop.invariant.1 c.loop-test.false c.before.loop.invariant.2
@@ -30,7 +30,7 @@ clear_spec =
     loop-holds
     (λ c. omega arith)
     (λ c. omega arith)
-    (λ c. simp length_set (omega arith))
+    (λ c. simp length-set (omega arith))
     loop-again
     (λ c. c.before.loop.invariant.0)
     returns)
