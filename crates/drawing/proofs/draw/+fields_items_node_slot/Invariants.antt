@@ -1,0 +1,31 @@
+use Rattle.std.proofs.Common.{◌≡◌, ℕ, ◌+◌, ◌-◌, ◌*◌, length, sym, refl, ◌∙◌, arith, rules}
+use Rattle.tree.specs.Rows.{fields_in_of}
+use Rattle.tree.proofs.Cycle.{at_measure, below_measure}
+use Rattle.drawing.specs.Draw.{draw_node, draw_items, draw_field}
+use Rattle.drawing.specs.Pen.{drew_items}
+use Rattle.drawing.proofs.DrawingWaysOut as law
+use Rattle.drawing.proofs.draw.fields as fields
+use Rattle.drawing.proofs.draw.items as items
+use Rattle.drawing.proofs.draw.node as node
+use Rattle.drawing.proofs.draw.slot as slot
+use Rattle.drawing.proofs.draw.+fields_items_node_slot as cycle
+use Rattle.drawing.proofs.draw.+fields_items_node_slot.Given as goal
+
+abbrev pub invariant-items-loop-n : goal.invariant-items-loop-n
+invariant-items-loop-n l = (drew_items l.out l.h.at (draw_items (draw_node l.left l.place) l.n l.h.state l.h.more l.h.mark) ≡ drew_items l.initial.out l.initial.h.at (draw_items (draw_node l.left l.place) l.initial.n l.initial.h.state l.initial.h.more l.initial.h.mark))
+    × (l.h.value ≡ 0) × (length l.out ≡ length l.initial.out)
+
+abbrev pub decreases-items-loop-n : goal.decreases-items-loop-n
+decreases-items-loop-n l = l.n
+
+abbrev pub decreases-fields : goal.decreases-fields
+decreases-fields l = 16 * l.left + (4 + length (fields_in_of l.row))
+
+abbrev pub decreases-items : goal.decreases-items
+decreases-items l = 16 * l.left + 2
+
+abbrev pub decreases-node : goal.decreases-node
+decreases-node l = 16 * l.left
+
+abbrev pub decreases-slot : goal.decreases-slot
+decreases-slot l = 16 * l.left + 3

@@ -1,0 +1,6 @@
+use Rattle.drawing.proofs.DrawingWritten as law
+use Rattle.std.proofs.Common.{rules}
+use Rattle.drawing.proofs.draw.text.Goals as goal
+
+pub returns : goal.returns
+returns c = law.text_drawn _ _ _ _ _ _ _ _ _ _ c.advanced-x.ensures c.put_wide-at.ensures c.put-end.ensures

@@ -1,0 +1,777 @@
+-- where the walk stands, the builder that is handed back, and what is done
+-- the target without its rest is below an object that is found, so the rank goes by the view
+-- the properties of a view, by what was seen of its rest, ask for themselves
+use Prim.Native.Nat.{ℕ, ◌<◌, ◌≤◌, ◌+◌, ◌*◌}
+use Rattle.tree.proofs.Cycle.{at_measure, below_measure}
+use lib.ListN.{length}
+use borrow.Author.Rules.{rules}
+use native.Mathlib.Omega.{arith}
+use mathlib.Core.Bool.{true, false, false≢true}
+use mathlib.Core.Logic.{⊎_elim}
+use mathlib.Core.Path.{◌≡◌, refl, sym, ap, ◌∙◌}
+use Rattle.walk.specs.Whole.{place_of, hole_at, GoodItems, GoodFields, Good}
+use Rattle.walk.specs.Run.{going_of}
+use Rattle.direct.specs.Emit.{emits_items, emits_fields}
+use Rattle.tree.specs.Look.{look_items, look_fields, look_node}
+use Rattle.tree.specs.Rows.{fields_in_of}
+use Rattle.walk.specs.Turns.{AllSuit, is_told, told_place}
+use Rattle.walk.proofs.Running.{does_nothing, runs_does}
+use Rattle.walk.specs.declared.views.View as views
+use Rattle.walk.specs.declared.views.View.TheVariants.{Replacing, Taking}
+use Rattle.tree.proofs.Skipping.{node_none}
+use Rattle.walk.proofs.Emits.{good_none}
+use Rattle.direct.specs.Literals as literals
+use Rattle.walk.proofs.SpreadArguments as args
+use Rattle.walk.proofs.SmallSteps as steps
+use Rattle.walk.proofs.LiteralHeads as heads
+use Rattle.walk.proofs.SourcesRead as sources
+use Rattle.walk.proofs.HandRules as hands
+use Rattle.walk.proofs.TargetCounts.{values_object}
+use Rattle.walk.proofs.Running as running
+use Rattle.tree.proofs.Skipping as skipping
+use Rattle.walk.proofs.Emits as law
+use Rattle.walk.proofs.KeysOnceFull as walked
+use Rattle.emit.proofs.Excluding as excluding
+use Rattle.walk.proofs.Viewing as viewing
+use Rattle.walk.proofs.QuietValues as quiets
+use Rattle.walk.proofs.ListTurns as turning
+use Rattle.walk.proofs.RootTold as told
+use Rattle.walk.proofs.Lookups.{denied, undenied}
+use Rattle.emit.proofs.Looping as looping
+use Rattle.pattern.proofs.CountsFit.{limited_below}
+use Rattle.emit.proofs.Assigning as assigning
+use Rattle.emit.proofs.MovedPatterns as moving
+use Rattle.emit.proofs.Bodying as bodying
+use Rattle.emit.proofs.Finding as finding
+use Rattle.emit.proofs.Declaring as declaring
+use Rattle.pattern.proofs.SourceReads as reading
+use Rattle.pattern.specs.Source.{read_of}
+use Rattle.emit.proofs.add as add
+use Rattle.emit.proofs.ta as ta
+use Rattle.emit.proofs.ar as ar
+use Rattle.emit.proofs.ag as ag
+use Rattle.emit.proofs.an as an
+use Rattle.emit.proofs.ba as ba
+use Rattle.emit.proofs.bi as bi
+use Rattle.emit.proofs.bl as bl
+use Rattle.emit.proofs.body as body
+use Rattle.emit.proofs.ca as ca
+use Rattle.emit.proofs.da as da
+use Rattle.emit.proofs.decl as decl
+use Rattle.emit.proofs.deep as deep
+use Rattle.emit.proofs.dh as dh
+use Rattle.emit.proofs.db as db
+use Rattle.emit.proofs.dr as dr
+use Rattle.emit.proofs.eb as eb
+use Rattle.emit.proofs.ek as ek
+use Rattle.emit.proofs.fs as fs
+use Rattle.emit.proofs.fb as fb
+use Rattle.emit.proofs.fun as fun
+use Rattle.emit.proofs.gv as gv
+use Rattle.emit.proofs.go as go
+use Rattle.emit.proofs.head as head
+use Rattle.emit.proofs.item as item
+use Rattle.emit.proofs.items as items
+use Rattle.emit.proofs.key as key
+use Rattle.emit.proofs.keys as keys
+use Rattle.emit.proofs.kv as kv
+use Rattle.emit.proofs.lit as lit
+use Rattle.emit.proofs.lo as lo
+use Rattle.emit.proofs.mv as mv
+use Rattle.emit.proofs.node as node
+use Rattle.emit.proofs.ns as ns
+use Rattle.emit.proofs.oa as oa
+use Rattle.emit.proofs.os as os
+use Rattle.emit.proofs.own as own
+use Rattle.emit.proofs.pa as pa
+use Rattle.emit.proofs.plain as plain
+use Rattle.emit.proofs.pr as pr
+use Rattle.emit.proofs.prop as prop
+use Rattle.emit.proofs.pt as pt
+use Rattle.emit.proofs.ps as ps
+use Rattle.emit.proofs.read as read
+use Rattle.emit.proofs.rest as rest
+use Rattle.emit.proofs.seq as seq
+use Rattle.emit.proofs.slot as slot
+use Rattle.emit.proofs.tb as tb
+use Rattle.emit.proofs.tg as tg
+use Rattle.emit.proofs.th as th
+use Rattle.emit.proofs.top as top
+use Rattle.emit.proofs.turn as turn
+use Rattle.emit.proofs.vl as vl
+use Rattle.emit.proofs.va as va
+use Rattle.emit.proofs.view as view
+use Rattle.emit.proofs.vo as vo
+use Rattle.emit.proofs.+add_ag_an_ar_ba_bi_bl_body_ca_da_db_decl_deep_dh_dr_eb_ek_fb_fs_fun_go_gv_head_item_items_key_keys_kv_lit_lo_mv_node_ns_oa_os_own_pa_plain_pr_prop_ps_pt_read_rest_seq_slot_ta_tb_tg_th_top_turn_va_view_vl_vo as cycle
+use Rattle.emit.proofs.+add_ag_an_ar_ba_bi_bl_body_ca_da_db_decl_deep_dh_dr_eb_ek_fb_fs_fun_go_gv_head_item_items_key_keys_kv_lit_lo_mv_node_ns_oa_os_own_pa_plain_pr_prop_ps_pt_read_rest_seq_slot_ta_tb_tg_th_top_turn_va_view_vl_vo.Goals as goal
+use Rattle.emit.proofs.+add_ag_an_ar_ba_bi_bl_body_ca_da_db_decl_deep_dh_dr_eb_ek_fb_fs_fun_go_gv_head_item_items_key_keys_kv_lit_lo_mv_node_ns_oa_os_own_pa_plain_pr_prop_ps_pt_read_rest_seq_slot_ta_tb_tg_th_top_turn_va_view_vl_vo.Goals.{else-any_moved, else-holes, else-peek-eq-OBJECT_PATTERN, else-rest, else-taken, then-any_moved, then-holes, then-peek-eq-OBJECT_PATTERN, then-rest, then-taken}
+
+with-next : {A N B : Type 0} → A × B → N → A × N × B
+with-next p n = (p.0, n, p.1)
+
+abbrev rank-of : views.View → ℕ
+rank-of Replacing = 1
+rank-of Taking = 0
+
+pub add-returns-then-r-gt0 : goal.add-returns-then-r-gt0
+add-returns-then-r-gt0 t c = moving.add_refused _ _ _ _ _ _ _ c.has_nested_object_rest.ensures c.if-has_nested_object_rest.true c.refusal_below-r.ensures c.if-r-gt0.true (runs_does (c.refuse.ensures.0 _ _))
+
+pub add-returns-then-has_nested_object_rest : goal.add-returns-then-has_nested_object_rest
+add-returns-then-has_nested_object_rest t c = moving.add_lowered _ _ _ _ _ _ _ _ _ _ _ _ _ _ _ c.has_nested_object_rest.ensures c.if-has_nested_object_rest.true c.refusal_below-r.ensures c.if-r-gt0.false c.at_root-root.ensures c.inside.ensures.0 c.mark.ensures (told.own_marked _ _ c.at_root-root.ensures _ c.inside.ensures.0 c.marked-d.ensures.0) (c.marked-d.ensures.1 ∙ c.inside.ensures.1) (c.pattern_hands-u.ensures.1 _) c.pattern_declarators-k.ensures (steps.does_declaration _ _ (c.declaration.ensures.0 _ _)) (c.to-u.ensures.0 _ _ _) c.to-u.ensures.1 (sources.held_source _ _ _ _ c.held.ensures) (c.pa.ensures (reading.held_settled _ _ _ c.held.ensures))
+
+pub add-returns : goal.add-returns
+add-returns t c = moving.add_kept _ _ _ _ _ _ _ _ _ _ _ _ c.has_nested_object_rest.ensures c.if-has_nested_object_rest.false c.inside.ensures.0 c.mark.ensures c.marked-d.ensures.0 (c.marked-d.ensures.1 ∙ c.inside.ensures.1) (steps.does_declaration _ _ (c.declaration-2.ensures.0 _ _)) (runs_does (c.put2.ensures.0 _ _)) (c.to-u-2.ensures.0 _ _ _) c.to-u-2.ensures.1 c.node.ensures (runs_does c.temporary.ensures.0)
+
+pub ag-returns-then-has_rest_below_array_rest : goal.ag-returns-then-has_rest_below_array_rest
+ag-returns-then-has_rest_below_array_rest t c = λ k. (c.to.ensures.1 ∙ c.skip.ensures, λ g. assigning.asg_refused _ _ _ _ _ _ c.less-left.ensures c.step-q.ensures _ c.has_rest_below_array_rest.ensures c.if-has_rest_below_array_rest.true (runs_does (c.refuse.ensures.0 _ _)) (c.to.ensures.0 _ _ _) k g)
+
+pub ag-returns-then-has_nested_object_rest : goal.ag-returns-then-has_nested_object_rest
+ag-returns-then-has_nested_object_rest t c = λ k. (c.to-then-has_nested_object_rest.ensures.1 ∙ c.skip-then-has_nested_object_rest.ensures, λ g. assigning.asg_lowered _ _ _ _ _ _ c.less-left.ensures c.step-q.ensures _ _ _ _ _ _ _ _ c.has_rest_below_array_rest.ensures c.if-has_rest_below_array_rest.false c.has_nested_object_rest.ensures c.if-has_nested_object_rest.true c.skip-v.ensures c.step.ensures c.peek.ensures c.low-op.ensures (told.with_own _ c.under.ensures.0 c.at_root-root.ensures, c.under.ensures.1) c.an.ensures (c.to-then-has_nested_object_rest.ensures.0 _ _ _) k g)
+
+pub ag-returns : goal.ag-returns
+ag-returns t c = λ k. (c.plain.ensures.0, λ g. assigning.asg_plain _ _ _ _ _ _ c.less-left.ensures c.step-q.ensures _ c.has_nested_object_rest.ensures c.if-has_nested_object_rest.false c.plain.ensures.1 k g)
+
+pub an-returns-then-has_second : goal.an-returns-then-has_second
+an-returns-then-has_second t c = assigning.asn_top _ _ _ _ _ _ _ _ _ c.peek.ensures c.if-peek-eq-OBJECT_PATTERN.true c.has_second.ensures c.if-has_second.true c.top.ensures
+
+pub an-returns : goal.an-returns
+an-returns t c = (elim c.if-peek-eq-OBJECT_PATTERN.branch [ then-peek-eq-OBJECT_PATTERN w ↦ assigning.asn_plain _ _ _ _ _ _ _ _ _ c.peek.ensures w.0.taken w.1.ensures w.2.left c.ns.ensures | else-peek-eq-OBJECT_PATTERN w ↦ assigning.asn_other _ _ _ _ _ _ _ _ c.peek.ensures w.left c.ns.ensures ])
+
+pub ar-seq-u-requires : goal.ar-seq-u-requires
+ar-seq-u-requires t c = let z : 0 < c.args.c.left = moving.moved_levels _ _ _ _ _ c.any_moved.ensures c.if-any_moved.true in
+    (omega (arith, z, c.requires.0, c.less-left.ensures, c.scoped-d.ensures.1), tt)
+
+pub ar-slot-u-requires : goal.ar-slot-u-requires
+ar-slot-u-requires t c = let z : 0 < c.args.c.left = moving.moved_levels _ _ _ _ _ c.any_moved.ensures c.if-any_moved.true in
+    (omega (arith, z, c.requires.0, c.less-left.ensures, c.scoped-d.ensures.1), tt)
+
+pub ar-eb-requires : goal.ar-eb-requires
+ar-eb-requires t c = let z : 0 < c.args.c.left = moving.moved_levels _ _ _ _ _ c.any_moved.ensures c.if-any_moved.true in
+    (omega (arith, z, c.requires.0, c.less-left.ensures, c.scoped-d.ensures.1, c.wide_at-n.ensures.bound), tt)
+
+pub ar-returns-then-any_moved : goal.ar-returns-then-any_moved
+ar-returns-then-any_moved t c = bodying.arrow_moved _ _ _ _ _ _ _ _ _ _ _ _ _ _ _ _ _ _ _ c.any_moved.ensures c.if-any_moved.true c.less-left.ensures c.scoped-d.ensures.0 c.scoped-d.ensures.1 c.step-q.ensures c.wide_at-n.ensures c.step-first.ensures c.moves_make.ensures.0 (c.moves_make.ensures.1 _ _) c.copy-u.ensures.1 (runs_does (c.copy-u.ensures.0 _ _)) (told.items_own _ _ _ _ _ _ _ _ _ _ _ told.untold_binding c.seq-u.ensures) c.second.ensures c.slot-u.ensures c.eb.ensures (c.to.ensures.0 _ _ _) c.skip.ensures c.to.ensures.1
+
+pub ar-returns : goal.ar-returns
+ar-returns t c = bodying.arrow_plain _ _ _ _ _ _ c.any_moved.ensures c.if-any_moved.false c.plain.ensures
+
+pub ba-returns-then-n-eq0 : goal.ba-returns-then-n-eq0
+ba-returns-then-n-eq0 t c = moving.back_none _ _ _ _ _ _ c.if-n-eq0.true
+
+pub ba-returns-then-peek-eq0 : goal.ba-returns-then-peek-eq0
+ba-returns-then-peek-eq0 t c = moving.back_hole _ _ _ _ _ _ _ c.if-n-eq1.true c.if-arrays.true c.peek.ensures c.if-peek-eq0.true
+
+pub ba-returns-then-arrays : goal.ba-returns-then-arrays
+ba-returns-then-arrays t c = moving.back_item _ _ _ _ _ _ _ c.if-n-eq1.true c.if-arrays.true c.peek.ensures c.if-peek-eq0.false c.mv.ensures
+
+pub ba-returns-then-has_nested_object_rest : goal.ba-returns-then-has_nested_object_rest
+ba-returns-then-has_nested_object_rest t c = moving.back_moved _ _ _ _ _ _ _ _ _ _ _ c.if-n-eq1.true c.if-arrays.false c.less-left.ensures c.step-q.ensures c.has_nested_object_rest.ensures c.if-has_nested_object_rest.true c.under.ensures.0 c.under.ensures.1 c.mv-then-has_nested_object_rest.ensures
+
+pub ba-returns-then-n-eq1 : goal.ba-returns-then-n-eq1
+ba-returns-then-n-eq1 t c = moving.back_kept _ _ _ _ _ _ _ _ _ c.if-n-eq1.true c.if-arrays.false c.less-left.ensures c.step-q.ensures c.has_nested_object_rest.ensures c.if-has_nested_object_rest.false
+
+pub ba-returns : goal.ba-returns
+ba-returns t c = moving.back_halves _ _ _ _ _ _ _ c.skip_items-mid.ensures c.ba-u.ensures c.ba.ensures
+
+pub bi-go-u-requires : goal.bi-go-u-requires
+bi-go-u-requires t c = let z : 0 < c.less-left.result = moving.rest_levels _ _ _ _ c.has_nested_object_rest.ensures c.if-has_nested_object_rest.true in
+    (omega (arith, z, c.requires.0, c.less-left.ensures, c.inside.ensures.1), tt)
+
+pub bi-slot-requires : goal.bi-slot-requires
+bi-slot-requires t c = let z : 0 < c.less-left.result = moving.rest_levels _ _ _ _ c.has_nested_object_rest.ensures c.if-has_nested_object_rest.true in
+    (omega (arith, z, c.requires.0, c.less-left.ensures, c.inside-then-has_nested_object_rest.ensures.1), tt)
+
+pub bi-returns-then-has_nested_object_rest : goal.bi-returns-then-has_nested_object_rest
+bi-returns-then-has_nested_object_rest t c = moving.bind_moved _ _ _ _ _ _ _ _ _ _ _ _ _ _ _ c.less-left.ensures c.step-q.ensures c.has_nested_object_rest.ensures c.if-has_nested_object_rest.true c.copy.ensures.1 (runs_does (c.copy.ensures.0 _ _)) c.inside.ensures.0 c.inside.ensures.1 c.go-u.ensures c.inside-then-has_nested_object_rest.ensures.0 c.inside-then-has_nested_object_rest.ensures.1 c.second.ensures c.slot.ensures
+
+pub bi-returns : goal.bi-returns
+bi-returns t c = moving.bind_kept _ _ _ _ _ _ _ _ c.less-left.ensures c.step-q.ensures c.has_nested_object_rest.ensures c.if-has_nested_object_rest.false c.node.ensures
+
+pub bl-overflow_add-k : goal.bl-overflow_add-k
+bl-overflow_add-k t c = omega (arith, c.wide_at-k.ensures.bound, limited_below _ _ c.moved_in-more.ensures)
+
+pub bl-overflow_add-more : goal.bl-overflow_add-more
+bl-overflow_add-more t c = omega (arith, limited_below _ _ c.moved_in-more.ensures)
+
+pub bl-returns-in-2 : goal.bl-returns-in-2
+bl-returns-in-2 t c = looping.moves_block _ _ _ _ _ _ _ _ _ _ _ _ _ _ _ _ _ _ _ c.level-under.ensures.0 c.moved_in-more.ensures c.peek-kind.ensures c.in-2.is c.step-q.ensures c.wide_at-k.ensures c.step.ensures c.to.ensures.1 c.scoped.ensures.0 c.scoped.ensures.1 c.scoped-in-2.ensures.0 (c.scoped-in-2.ensures.1 ∙ c.less-left.ensures) (c.to.ensures.0 _ _ _) (runs_does (c.copy.ensures.0 _ _)) (steps.does_wide _ (c.wide.ensures.0 _ _)) c.ba-u.ensures c.items.ensures
+
+pub bl-returns-in-13 : goal.bl-returns-in-13
+bl-returns-in-13 t c = looping.moves_empty _ _ _ _ _ _ _ _ _ _ _ _ _ _ c.level-under.ensures.0 c.moved_in-more.ensures c.peek-kind.ensures c.in-13.is c.scoped-in-13.ensures.0 c.scoped-in-13.ensures.1 c.skip.ensures c.to-in-13.ensures.1 (c.to-in-13.ensures.0 _ _ _) (steps.does_block _ (c.block.ensures.0 _ _)) c.ba-u-in-13.ensures
+
+pub bl-returns-in_default : goal.bl-returns-in_default
+bl-returns-in_default t c = looping.moves_statement _ _ _ _ _ _ _ _ _ _ _ _ _ _ _ _ c.level-under.ensures.0 c.moved_in-more.ensures c.peek-kind.ensures c.in_default.in_default-own.rest.0.1 c.in_default.in_default-own.rest.1 c.scoped-in_default.ensures.0 c.scoped-in_default.ensures.1 c.scoped-in_default-2.ensures.0 c.scoped-in_default-2.ensures.1 c.to-in_default.ensures.1 (c.to-in_default.ensures.0 _ _ _) (steps.does_block _ (c.block-in_default.ensures.0 _ _)) c.ba-u-in_default.ensures c.item.ensures
+
+pub body-returns-then-c-eq0 : goal.body-returns-then-c-eq0
+body-returns-then-c-eq0 t c = λ k s good items binds. law.good_none _ _ _ c.if-c-eq0.true good
+
+pub body-overflow_add-k : goal.body-overflow_add-k
+body-overflow_add-k t c = let z : c.moved_in-more.result ≤ 65536 = limited_below _ _ c.moved_in-more.ensures in omega (arith, z, c.wide_at-k.ensures.bound)
+
+pub body-returns : goal.body-returns
+body-returns t c = bodying.body_done _ _ _ _ _ _ _ _ _ _ _ _ _ _ _ _ _ _ c.less-left.ensures c.moved_in-more.ensures c.scoped-d.ensures.0 c.scoped-d.ensures.1 c.step.ensures c.copy.ensures.1 (runs_does (c.copy.ensures.0 _ _)) c.first_bit.ensures c.slot-u.ensures c.wide_at-k.ensures (steps.does_wide _ (c.wide.ensures.0 _ _)) c.ba-u.ensures (c.to.ensures.0 _ _ _) c.step-2.ensures c.to.ensures.1 c.items.ensures
+
+pub ca-returns-then-is_moved : goal.ca-returns-then-is_moved
+ca-returns-then-is_moved t c = looping.catch_moves _ _ _ _ _ _ _ _ _ _ _ _ _ _ _ _ c.less-left.ensures c.step-q.ensures c.has_first.ensures c.if-has_first.true c.is_moved.ensures c.if-is_moved.true c.scoped-d.ensures.0 c.scoped-d.ensures.1 c.moves_make.ensures.0 c.copy-u.ensures.1 c.skip.ensures c.to.ensures.1 (c.to.ensures.0 _ _ _) (c.moves_make.ensures.1 _ _) (runs_does (c.copy-u.ensures.0 _ _)) (told.items_own _ _ _ _ _ _ _ _ _ _ _ told.untold_binding c.seq-u.ensures) c.bl.ensures
+
+pub ca-returns-then-has_first : goal.ca-returns-then-has_first
+ca-returns-then-has_first t c = looping.catch_keeps _ _ _ _ _ _ _ _ _ c.less-left.ensures c.step-q.ensures c.has_first.ensures c.if-has_first.true c.is_moved.ensures c.if-is_moved.false c.plain.ensures
+
+pub ca-returns : goal.ca-returns
+ca-returns t c = looping.catch_stays _ _ _ _ _ _ c.has_first.ensures c.if-has_first.false c.plain-2.ensures
+
+pub da-returns-then-c-eq0 : goal.da-returns-then-c-eq0
+da-returns-then-c-eq0 t c = λ k good suit. good_none _ _ _ c.if-c-eq0.true good
+
+pub da-returns-then-not-enters_arrays : goal.da-returns-then-not-enters_arrays
+da-returns-then-not-enters_arrays t c = finding.array_taken _ _ _ _ _ _ _ c.skip-end.ensures (denied _ _ c.enters_arrays.ensures c.if-not-enters_arrays.true) c.to.ensures.1 (c.to.ensures.0 _ _ _)
+
+pub da-returns : goal.da-returns
+da-returns t c = finding.array_items _ _ _ _ _ _ _ _ _ _ _ _ _ _ _ _ c.skip-end.ensures (undenied _ _ c.enters_arrays.ensures c.if-not-enters_arrays.false) c.step-q.ensures c.wide_at-n.ensures c.step.ensures c.to-2.ensures.1 (c.to-2.ensures.0 _ _ _) c.less.ensures c.under.ensures.1 (told.with_same _ c.under.ensures.0) c.item_mode.ensures (told.items_with _ _ _ _ _ _ _ _ _ _ _ (told.item_told c.args.mode _ c.item_mode.ensures) c.seq.ensures) c.to-3.ensures.1 (c.to-3.ensures.0 _ _ _)
+
+pub db-returns-then-c-eq0 : goal.db-returns-then-c-eq0
+db-returns-then-c-eq0 t c = λ k good suit. good_none _ _ _ c.if-c-eq0.true good
+
+pub db-returns-then-not-counts : goal.db-returns-then-not-counts
+db-returns-then-not-counts t c = finding.object_passed _ _ _ _ _ _ _ _ _ c.in-Reached.is (denied _ _ c.counts.ensures c.if-not-counts.true) c.has_second.ensures c.if-has_second.true c.skip-end.ensures c.to.ensures.1 (c.to.ensures.0 _ _ _)
+
+pub db-returns-then-has_second : goal.db-returns-then-has_second
+db-returns-then-has_second t c = finding.object_own _ _ _ _ _ _ _ _ _ c.in-Reached.is (undenied _ _ c.counts.ensures c.if-not-counts.false) c.has_second.ensures c.if-has_second.true (assigning.own_top _ _ _ _ _ _ _ (told.with_inner _ _ c.inside.ensures.0, c.inside.ensures.1) c.cell.ensures c.top.ensures) c.skip-end.ensures c.to-then-has_second.ensures.1 (c.to-then-has_second.ensures.0 _ _ _)
+
+pub db-returns-in-Found : goal.db-returns-in-Found
+db-returns-in-Found t c = finding.object_found _ _ _ _ _ _ c.in-Found.is c.fb.ensures
+
+pub db-returns-else-has_second : goal.db-returns-else-has_second
+db-returns-else-has_second t c = finding.object_plain _ _ _ _ _ _ _ _ c.in-Reached.is c.has_second.ensures c.if-has_second.false (c.pr.ensures (told.told_value_lem _))
+
+pub decl-returns-then-c-eq0 : goal.decl-returns-then-c-eq0
+decl-returns-then-c-eq0 t c = λ k. (node_none _ _ _ c.if-c-eq0.true, λ good. good_none _ _ _ c.if-c-eq0.true good)
+
+pub decl-returns-then-r-gt0 : goal.decl-returns-then-r-gt0
+decl-returns-then-r-gt0 t c = declaring.declaration_refuses _ _ _ _ _ _ _ c.declaration_refusal-r.ensures c.if-r-gt0.true (runs_does (c.refuse.ensures.0 _ _)) c.skip.ensures c.to.ensures.1 (c.to.ensures.0 _ _ _)
+
+pub decl-returns : goal.decl-returns
+decl-returns t c = declaring.declaration_writes _ _ _ _ _ _ _ _ _ _ _ _ _ _ _ _ _ _ c.declaration_refusal-r.ensures c.if-r-gt0.false c.at_root-root.ensures c.declaration_hands-u.ensures.0 (c.declaration_hands-u.ensures.1 _) c.step-q.ensures c.declaration_becomes-k.ensures (runs_does (c.copy.ensures.0 _ _)) (steps.does_wide _ (c.wide.ensures.0 _ _)) c.step.ensures c.to-u.ensures.1 (c.to-u.ensures.0 _ _ _) c.skip-end.ensures c.less.ensures (told.with_own _ c.under.ensures.0 c.at_root-root.ensures) c.under.ensures.1 c.wide_at.ensures (told.items_with _ _ _ _ _ _ _ _ _ _ _ told.told_declarator c.seq.ensures) c.to-2.ensures.1 (c.to-2.ensures.0 _ _ _)
+
+pub deep-returns-then-c-eq0 : goal.deep-returns-then-c-eq0
+deep-returns-then-c-eq0 t c = λ good suit. good_none _ _ _ c.if-c-eq0.true good
+
+pub deep-returns-in-34 : goal.deep-returns-in-34
+deep-returns-in-34 t c = c.db.ensures (sym c.peek-kind.ensures.value ∙ c.in-34.is)
+
+pub deep-returns-in-36 : goal.deep-returns-in-36
+deep-returns-in-36 t c = c.da.ensures (sym c.peek-kind.ensures.value ∙ c.in-36.is)
+
+pub deep-returns-in-37 : goal.deep-returns-in-37
+deep-returns-in-37 t c = finding.deep_default _ _ _ _ _ _ _ _ _ _ _ _ _ _ c.peek-kind.ensures.value c.in-37.is c.less-left.ensures c.under.ensures.1 (told.with_same _ c.under.ensures.0) c.step.ensures c.to-u.ensures.1 (c.to-u.ensures.0 _ _ _) c.deep-u.ensures c.skip.ensures c.to.ensures.1 (c.to.ensures.0 _ _ _)
+
+pub deep-returns-in_default : goal.deep-returns-in_default
+deep-returns-in_default t c = finding.deep_leaf _ _ _ _ _ _ _ _ c.peek-kind.ensures.value c.in_default.in_default-own.rest.0.0.1 c.in_default.in_default-own.rest.0.1 c.in_default.in_default-own.rest.1 c.skip-in_default.ensures c.to-in_default.ensures.1 (c.to-in_default.ensures.0 _ _ _)
+
+pub dh-returns-then-c-eq0 : goal.dh-returns-then-c-eq0
+dh-returns-then-c-eq0 t c = λ loop four moved good. law.good_none _ _ _ c.if-c-eq0.true good
+
+pub dh-returns : goal.dh-returns
+dh-returns t c = looping.declaring_does _ _ _ _ _ _ _ _ _ _ _ _ _ _ _ _ _ _ _ _ _ c.less-left.ensures c.less-under.ensures c.step.ensures c.step-s.ensures c.wide_at-n.ensures c.step-first.ensures c.scoped.ensures.0 c.scoped.ensures.1 c.scoped-2.ensures.0 c.scoped-2.ensures.1 c.scoped-3.ensures.0 c.scoped-3.ensures.1 c.moves_make.ensures.0 c.copy-u.ensures.1 (c.moves_make.ensures.1 _ _) (runs_does (c.copy-u.ensures.0 _ _)) (told.items_own _ _ _ _ _ _ _ _ _ _ _ told.untold_binding c.seq-u.ensures) c.node-u.ensures c.bl-u.ensures (runs_does (c.await_of.ensures.1 _ _))
+
+pub dr-returns-in_default : goal.dr-returns-in_default
+dr-returns-in_default t c = declaring.declarator_bare _ _ _ _ _ _ _ _ c.start_of.ensures c.in_default.is c.told_inside.ensures.0 c.told_inside.ensures.1 c.node.ensures
+
+pub dr-returns-then-has_nested_object_rest : goal.dr-returns-then-has_nested_object_rest
+dr-returns-then-has_nested_object_rest t c = declaring.declarator_done _ _ _ _ _ _ _ _ _ _ _ _ _ _ _ c.less-left.ensures c.step-id.ensures c.start_of.ensures c.in-Value.is c.has_nested_object_rest.ensures c.if-has_nested_object_rest.true c.skip-end.ensures c.cell.ensures c.new-b.ensures (told.with_same _ c.under.ensures.0) c.under.ensures.1 c.lo.ensures (c.to.ensures.0 _ _ _) c.to.ensures.1
+
+pub dr-returns : goal.dr-returns
+dr-returns t c = declaring.declarator_stays _ _ _ _ _ _ _ _ _ _ _ _ c.less-left.ensures c.step-id.ensures c.start_of.ensures c.in-Value.is c.has_nested_object_rest.ensures c.if-has_nested_object_rest.false c.told_inside-2.ensures.0 c.told_inside-2.ensures.1 c.node-2.ensures
+
+pub eb-returns-then-peek-eq-FUNCTION_BODY : goal.eb-returns-then-peek-eq-FUNCTION_BODY
+eb-returns-then-peek-eq-FUNCTION_BODY t c = c.body.ensures (sym c.peek.ensures.value ∙ c.if-peek-eq-FUNCTION_BODY.true)
+
+pub eb-overflow_add-more : goal.eb-overflow_add-more
+eb-overflow_add-more t c = let z : c.moved_in-more.result ≤ 65536 = limited_below _ _ c.moved_in-more.ensures in omega (arith, z)
+
+pub eb-returns : goal.eb-returns
+eb-returns t c = bodying.body_returned _ _ _ _ _ _ _ _ _ _ _ _ _ c.peek.ensures c.if-peek-eq-FUNCTION_BODY.false c.moved_in-more.ensures (runs_does (c.put2.ensures.0 _ _)) (steps.does_wide _ (c.wide.ensures.0 _ _)) c.ba-u.ensures c.mark.ensures c.marked-d.ensures.0 c.marked-d.ensures.1 (runs_does (c.put2-2.ensures.0 _ _)) (runs_does (c.new_mark.ensures.0 _ _)) (c.to-u.ensures.0 _ _ _) c.to-u.ensures.1 c.node.ensures
+
+pub ek-returns-in-AsString : goal.ek-returns-in-AsString
+ek-returns-in-AsString t c = excluding.excluded_string _ _ _ _ _ _ _ _ _ c.less-left.ensures c.step-k.ensures c.skip-end.ensures c.to.ensures.1 (c.to.ensures.0 _ _ _) c.key_sort-sort.ensures c.in-AsString.is (sources.does_string _ _ _ (c.string.ensures.1 _ _))
+
+pub ek-returns-in-AsItStands : goal.ek-returns-in-AsItStands
+ek-returns-in-AsItStands t c = excluding.excluded_standing _ _ _ _ _ _ _ _ _ _ _ _ _ c.less-left.ensures c.step-k.ensures c.skip-end.ensures c.to-in-AsItStands-2.ensures.1 c.under.ensures.0 c.under.ensures.1 c.to-in-AsItStands.ensures.1 (c.to-in-AsItStands.ensures.0 _ _ _) (c.to-in-AsItStands-2.ensures.0 _ _ _) c.key_sort-sort.ensures c.in-AsItStands.is c.node.ensures
+
+pub ek-returns-in-LeftOut : goal.ek-returns-in-LeftOut
+ek-returns-in-LeftOut t c = excluding.excluded_nothing _ _ _ _ _ _ _ _ _ c.less-left.ensures c.step-k.ensures c.skip-end.ensures c.to-in-LeftOut.ensures.1 (c.to-in-LeftOut.ensures.0 _ _ _) c.key_sort-sort.ensures c.in-LeftOut.is
+
+pub ek-returns-in-AsTemporary : goal.ek-returns-in-AsTemporary
+ek-returns-in-AsTemporary t c = excluding.excluded_cell _ _ _ _ _ _ _ _ _ c.less-left.ensures c.step-k.ensures c.skip-end.ensures c.to-in-AsTemporary.ensures.1 (c.to-in-AsTemporary.ensures.0 _ _ _) c.key_sort-sort.ensures c.in-AsTemporary.is (runs_does c.temporary.ensures.0)
+
+pub fb-returns-then-c-eq0 : goal.fb-returns-then-c-eq0
+fb-returns-then-c-eq0 t c = λ k good. good_none _ _ _ c.if-c-eq0.true good
+
+pub fb-returns-then-has_second : goal.fb-returns-then-has_second
+fb-returns-then-has_second t c = finding.found_resting _ _ _ _ _ _ _ _ _ _ _ _ _ _ _ _ _ _ _ _ _ c.less-left.ensures c.under.ensures.1 (told.with_same _ c.under.ensures.0) c.step-q.ensures c.wide_at-n.ensures c.step-first.ensures c.to.ensures.1 c.has_second.ensures c.if-has_second.true c.cell.ensures (sources.held_source _ _ _ _ c.held.ensures) (c.own-s.ensures.0, c.own-s.ensures.2) c.cell.ensures (sources.held_source _ _ _ _ c.held.ensures) (declaring.later_rest _ _ _ _ _ _ _ c.own-s.ensures.1 (reading.held_settled _ _ _ c.held.ensures) c.os-u.ensures) (c.to.ensures.0 _ _ _) (told.items_with _ _ _ _ _ _ _ _ _ _ _ (told.told_value_lem _) c.seq-u.ensures) c.skip.ensures c.to-then-has_second.ensures.1 (c.to-then-has_second.ensures.0 _ _ _)
+
+pub fb-returns : goal.fb-returns
+fb-returns t c = finding.found_plain _ _ _ _ _ _ _ _ _ _ _ _ _ c.less-left.ensures c.under-2.ensures.1 (told.with_same _ c.under-2.ensures.0) c.step-q.ensures c.wide_at-n.ensures c.step-first.ensures c.to-2.ensures.1 (c.to-2.ensures.0 _ _ _) (told.items_with _ _ _ _ _ _ _ _ _ _ _ (told.told_value_lem _) c.seq.ensures) c.has_second.ensures c.if-has_second.false
+
+pub fs-loop-r-init : goal.fs-loop-r-init
+fs-loop-r-init t c = (refl, refl, refl, refl, λ g. (g, law.onto_start _ _))
+
+pub fs-loop-r-smaller : goal.fs-loop-r-smaller
+fs-loop-r-smaller t c = omega (arith, c.loop-r-test.true)
+
+pub fs-loop-r-preserved : goal.fs-loop-r-preserved
+fs-loop-r-preserved t c = (
+  omega (arith, c.loop-r.invariant.0, c.slot-v.auto),
+  omega (arith, c.loop-r.invariant.1, c.slot-v.auto),
+  omega (arith, c.loop-r.invariant.2, c.slot-v.auto),
+  skipping.fields_more _ _ _ _ _ _ c.loop-r-test.true c.slot-v.ensures.0 ∙ c.loop-r.invariant.3,
+  λ g.
+      let y = c.loop-r.invariant.4 g in (
+        law.good_rest _ _ _ _ _ _ _ _ c.loop-r-test.true c.slot-v.ensures.0 y.0,
+        law.onto_more y.1 (law.fields_first _ _ _ _ _ _ _ _ c.loop-r-test.true c.slot-v.ensures.0) (c.slot-v.ensures.1 (law.good_slot _ _ _ _ _ _ _ c.loop-r-test.true y.0)),
+      ),
+)
+
+pub fs-returns : goal.fs-returns
+fs-returns t c = (skipping.fields_end _ _ _ _ _ c.loop-r-test.false ∙ c.loop-r.invariant.3, λ g. law.onto_end (c.loop-r.invariant.4 g).1 (law.fields_none _ _ _ _ _ _ _ c.loop-r-test.false))
+
+pub fun-slot-requires : goal.fun-slot-requires
+fun-slot-requires t c = let z : 0 < c.args.c.left = moving.moved_levels _ _ _ _ _ c.any_moved.ensures c.if-any_moved.true in
+    (omega (arith, z, c.requires.0, c.less-left.ensures, c.scoped-d.ensures.1), tt)
+
+pub fun-seq-u-requires : goal.fun-seq-u-requires
+fun-seq-u-requires t c = let z : 0 < c.args.c.left = moving.moved_levels _ _ _ _ _ c.any_moved.ensures c.if-any_moved.true in
+    (omega (arith, z, c.requires.0, c.less-left.ensures, c.scoped-d.ensures.1), tt)
+
+pub fun-slot-u-requires : goal.fun-slot-u-requires
+fun-slot-u-requires t c = let z : 0 < c.args.c.left = moving.moved_levels _ _ _ _ _ c.any_moved.ensures c.if-any_moved.true in
+    (omega (arith, z, c.requires.0, c.less-left.ensures, c.scoped-d.ensures.1), tt)
+
+pub fun-body-requires : goal.fun-body-requires
+fun-body-requires t c = let z : 0 < c.args.c.left = moving.moved_levels _ _ _ _ _ c.any_moved.ensures c.if-any_moved.true in
+    (omega (arith, z, c.requires.0, c.less-left.ensures, c.scoped-d.ensures.1, c.wide_at-n.ensures.bound), tt)
+
+pub fun-returns-then-stands : goal.fun-returns-then-stands
+fun-returns-then-stands t c = bodying.function_moved _ _ _ _ _ _ _ _ _ _ _ _ _ _ _ _ _ _ _ _ _ _ _ _ c.any_moved.ensures c.if-any_moved.true c.stands.ensures c.if-stands.true c.less-left.ensures c.scoped-d.ensures.0 c.scoped-d.ensures.1 c.step-q.ensures c.step.ensures c.peek-bits.ensures c.skip_slot-s.ensures c.wide_at-n.ensures c.step-first.ensures c.moves_make.ensures.0 (c.moves_make.ensures.1 _ _) c.copy-u.ensures.1 (runs_does (c.copy-u.ensures.0 _ _)) c.slot.ensures c.copy-u-then-stands.ensures.1 (runs_does (c.copy-u-then-stands.ensures.0 _ _)) (told.items_own _ _ _ _ _ _ _ _ _ _ _ told.untold_binding c.seq-u.ensures) c.slot-u.ensures c.body.ensures (c.to.ensures.0 _ _ _) c.skip.ensures c.to.ensures.1
+
+pub fun-returns : goal.fun-returns
+fun-returns t c = bodying.function_plain _ _ _ _ _ (elim c.if-any_moved.branch [ then-any_moved w ↦ bodying.bodiless _ _ _ _ w.1.ensures w.2.left | else-any_moved w ↦ bodying.unmoved _ _ _ _ c.any_moved.ensures w.left ]) c.plain.ensures
+
+pub go-returns-then-c-eq0 : goal.go-returns-then-c-eq0
+go-returns-then-c-eq0 t c = λ good. law.good_none _ _ _ c.if-c-eq0.true good
+
+pub go-returns-then-has_second : goal.go-returns-then-has_second
+go-returns-then-has_second t c = moving.gone_array_rest _ _ _ _ _ _ _ _ _ _ _ _ _ _ _ _ _ c.if-c-eq0.false c.peek-kind.ensures c.in-36.is c.less-left.ensures c.step-q.ensures c.wide_at-n.ensures c.step.ensures c.copy-u.ensures.1 c.inside.ensures.0 c.inside.ensures.1 c.inside-then-has_second.ensures.0 c.inside-then-has_second.ensures.1 c.has_second.ensures c.if-has_second.true (runs_does (c.copy-u.ensures.0 _ _)) (told.items_own _ _ _ _ _ _ _ _ _ _ _ told.untold_moved_out c.seq-u.ensures) c.go.ensures
+
+pub go-returns-in-34 : goal.go-returns-in-34
+go-returns-in-34 t c = moving.gone_object _ _ _ _ _ _ _ c.if-c-eq0.false c.peek-kind.ensures c.in-34.is c.skip.ensures c.to.ensures.1 (runs_does c.temporary.ensures.0) (c.to.ensures.0 _ _ _)
+
+pub go-returns-else-has_second : goal.go-returns-else-has_second
+go-returns-else-has_second t c = moving.gone_array _ _ _ _ _ _ _ _ _ _ _ _ _ _ c.if-c-eq0.false c.peek-kind.ensures c.in-36.is c.less-left.ensures c.step-q.ensures c.wide_at-n.ensures c.step.ensures c.copy-u.ensures.1 c.inside.ensures.0 c.inside.ensures.1 c.has_second.ensures c.if-has_second.false (runs_does (c.copy-u.ensures.0 _ _)) (told.items_own _ _ _ _ _ _ _ _ _ _ _ told.untold_moved_out c.seq-u.ensures)
+
+pub go-returns-in-37 : goal.go-returns-in-37
+go-returns-in-37 t c = moving.gone_default _ _ _ _ _ _ _ _ _ _ _ _ c.if-c-eq0.false c.peek-kind.ensures c.in-37.is c.less-left.ensures c.step-in-37.ensures c.skip-in-37.ensures c.to-u.ensures.1 c.inside-in-37.ensures.0 c.inside-in-37.ensures.1 (runs_does (c.put2.ensures.0 _ _)) (runs_does c.temporary-u.ensures.0) (c.to-u.ensures.0 _ _ _) c.node.ensures
+
+pub go-returns-in_default : goal.go-returns-in_default
+go-returns-in_default t c = moving.gone_leaf _ _ _ _ _ _ c.if-c-eq0.false c.peek-kind.ensures c.in_default.in_default-own.rest.0.0.1 c.in_default.in_default-own.rest.0.1 c.in_default.in_default-own.rest.1 c.node-in_default.ensures
+
+pub gv-returns-then-input : goal.gv-returns-then-input
+gv-returns-then-input t c = assigning.giv_node _ _ _ _ _ _ _ c.if-input.true (c.to.ensures.0 _ _ _) c.to.ensures.1 c.node.ensures.1
+
+pub gv-returns : goal.gv-returns
+gv-returns t c = λ g. assigning.giv_cell _ _ _ _ _ _ c.if-input.false (runs_does c.temporary.ensures.0)
+
+pub head-returns-then-any_moved : goal.head-returns-then-any_moved
+head-returns-then-any_moved t c = λ loop. looping.head_declares _ _ _ _ _ _ _ c.less-left.ensures c.step-q.ensures c.peek.ensures loop _ _ _ c.if-peek-eq-DECLARATION.true c.any_moved.ensures c.if-any_moved.true c.skip.ensures c.to.ensures.1 (c.to.ensures.0 _ _ _) c.dh.ensures
+
+pub head-returns-then-peek-eq-DECLARATION : goal.head-returns-then-peek-eq-DECLARATION
+head-returns-then-peek-eq-DECLARATION t c = λ loop. looping.head_keeps _ _ _ _ _ _ _ c.less-left.ensures c.step-q.ensures c.peek.ensures loop _ _ c.if-peek-eq-DECLARATION.true c.any_moved.ensures c.if-any_moved.false c.plain.ensures
+
+pub head-returns-then-has_rest_below_array_rest : goal.head-returns-then-has_rest_below_array_rest
+head-returns-then-has_rest_below_array_rest t c = λ loop. looping.head_refuses _ _ _ _ _ _ _ c.less-left.ensures c.step-q.ensures c.peek.ensures loop c.if-peek-eq-DECLARATION.false _ _ _ c.has_rest_below_array_rest.ensures c.if-has_rest_below_array_rest.true c.skip-then-has_rest_below_array_rest.ensures c.to-then-has_rest_below_array_rest.ensures.1 (c.to-then-has_rest_below_array_rest.ensures.0 _ _ _) (runs_does (c.refuse.ensures.0 _ _))
+
+pub head-returns-then-has_nested_object_rest : goal.head-returns-then-has_nested_object_rest
+head-returns-then-has_nested_object_rest t c = λ loop. looping.head_assigns _ _ _ _ _ _ _ c.less-left.ensures c.step-q.ensures c.peek.ensures loop c.if-peek-eq-DECLARATION.false _ _ _ _ c.has_rest_below_array_rest.ensures c.if-has_rest_below_array_rest.false c.has_nested_object_rest.ensures c.if-has_nested_object_rest.true c.skip-then-has_nested_object_rest.ensures c.to-then-has_nested_object_rest.ensures.1 (c.to-then-has_nested_object_rest.ensures.0 _ _ _) c.th.ensures
+
+pub head-returns : goal.head-returns
+head-returns t c = λ loop. looping.head_stays _ _ _ _ _ _ _ c.less-left.ensures c.step-q.ensures c.peek.ensures loop c.if-peek-eq-DECLARATION.false _ _ c.has_nested_object_rest.ensures c.if-has_nested_object_rest.false c.plain-2.ensures
+
+pub item-returns-then-peek-eq0 : goal.item-returns-then-peek-eq0
+item-returns-then-peek-eq0 t c = (c.copy.ensures.1 ∙ c.step.ensures ∙ skipping.item_hole _ _ _ _ _ c.if-holes.true c.peek.ensures c.if-peek-eq0.true, law.hole_does _ _ _ _ _ _ _ _ (law.is_hole _ _ _ _ c.if-holes.true c.peek.ensures c.if-peek-eq0.true) c.step.ensures (runs_does (c.copy.ensures.0 _ _)))
+
+pub item-returns-then-l : goal.item-returns-then-l
+item-returns-then-l t c = let e : hole_at _ _ _ ≡ false = (elim c.if-holes.branch [ then-holes w ↦ law.no_hole _ _ _ _ w.0.taken w.1.ensures w.2.left | else-holes w ↦ law.full _ _ _ w.left ]) in
+    (law.deeper_next _ _ _ _ _ c.marked.ensures.1 c.node.ensures.0 ∙ law.item_next _ _ _ _ e, law.statement_does _ _ _ _ _ _ _ _ _ _ e c.if-l.true c.step-then-l.ensures c.wide_at.ensures c.marked.ensures.0 (law.deeper _ _ _ _ _ c.marked.ensures.1 c.node.ensures.1))
+
+pub item-returns : goal.item-returns
+item-returns t c = let e : hole_at _ _ _ ≡ false = (elim c.if-holes.branch [ then-holes w ↦ law.no_hole _ _ _ _ w.0.taken w.1.ensures w.2.left | else-holes w ↦ law.full _ _ _ w.left ]) in
+    (c.node-2.ensures.0 ∙ law.item_next _ _ _ _ e, law.node_does _ _ _ _ _ _ _ e c.if-l.false c.node-2.ensures.1)
+
+pub items-loop-n-init : goal.items-loop-n-init
+items-loop-n-init t c = (refl, refl, refl, refl, λ g. (g, law.onto_start _ _))
+
+pub items-overflow_sub-n : goal.items-overflow_sub-n
+items-overflow_sub-n t c = omega (arith, c.loop-n-test.true)
+
+pub items-loop-n-smaller : goal.items-loop-n-smaller
+items-loop-n-smaller t c = omega (arith, c.loop-n-test.true)
+
+pub items-loop-n-preserved : goal.items-loop-n-preserved
+items-loop-n-preserved t c = (
+  omega (arith, c.loop-n.invariant.0, c.item-v.auto),
+  omega (arith, c.loop-n.invariant.1, c.item-v.auto),
+  omega (arith, c.loop-n.invariant.2, c.item-v.auto),
+  skipping.items_more _ _ _ _ _ _ c.loop-n-test.true c.item-v.ensures.0 ∙ c.loop-n.invariant.3,
+  λ g.
+      let y = c.loop-n.invariant.4 g in (
+        law.good_items _ _ _ _ _ _ _ _ c.loop-n-test.true c.item-v.ensures.0 y.0,
+        law.onto_more y.1 (law.items_first _ _ _ _ _ _ _ _ c.loop-n-test.true c.item-v.ensures.0) (c.item-v.ensures.1 (law.good_item _ _ _ _ _ _ _ c.loop-n-test.true y.0)),
+      ),
+)
+
+pub items-returns : goal.items-returns
+items-returns t c = (skipping.items_end _ _ _ _ _ c.loop-n-test.false ∙ c.loop-n.invariant.3, λ g. law.onto_end (c.loop-n.invariant.4 g).1 (law.items_none _ _ _ _ _ _ _ c.loop-n-test.false))
+
+pub key-returns-then-is_other : goal.key-returns-then-is_other
+key-returns-then-is_other t c = viewing.key_cell _ _ _ _ _ _ _ _ _ c.if-taken.true c.is_other.ensures c.if-is_other.true c.skip.ensures c.to.ensures.1 (c.to.ensures.0 _ _ _) (runs_does c.temporary.ensures.0)
+
+pub key-returns : goal.key-returns
+key-returns t c = viewing.key_node_lem _ _ _ _ _ _ _ (elim c.if-taken.branch [ then-taken w ↦ λ h. sym w.1.ensures ∙ w.2.left | else-taken w ↦ λ h. absurd (false≢true (sym w.left ∙ h)) ]) c.node.ensures
+
+pub keys-returns-then-c-eq0 : goal.keys-returns-then-c-eq0
+keys-returns-then-c-eq0 t c = (refl, λ good h. law.good_none _ _ _ c.if-c-eq0.true good)
+
+pub keys-returns : goal.keys-returns
+keys-returns t c = (c.to.ensures.1, excluding.keys_does _ _ _ _ _ _ _ _ _ _ _ _ c.step-q.ensures c.wide_at-n.ensures c.excluded_keys-k.ensures c.step.ensures c.to-u.ensures.1 c.Told-under.ensures.0 (c.Told-under.ensures.1 ∙ c.less.ensures) (c.to-u.ensures.0 _ _ _) (c.to.ensures.0 _ _ _) (runs_does (c.put2.ensures.0 _ _)) (steps.does_wide _ (c.wide.ensures.0 _ _)) (told.items_own _ _ _ _ _ _ _ _ _ _ _ told.untold_excluded_key c.seq.ensures))
+
+pub kv-returns-then-is_other : goal.kv-returns-then-is_other
+kv-returns-then-is_other t c = excluding.key_value _ _ _ _ _ _ _ _ _ _ _ _ _ c.less-left.ensures c.step-k.ensures c.skip-end.ensures c.to.ensures.1 c.inside.ensures.0 c.inside.ensures.1 c.to-u.ensures.1 (c.to-u.ensures.0 _ _ _) (c.to.ensures.0 _ _ _) c.is_other.ensures c.if-is_other.true (runs_does (c.put2.ensures.0 _ _)) (runs_does c.temporary.ensures.0) c.node.ensures
+
+pub kv-returns : goal.kv-returns
+kv-returns t c = excluding.key_plain _ _ _ _ _ _ _ _ _ c.less-left.ensures c.step-k.ensures c.skip-end.ensures c.to-2.ensures.1 (c.to-2.ensures.0 _ _ _) c.is_other.ensures c.if-is_other.false
+
+pub lit-returns-then-has_spread : goal.lit-returns-then-has_spread
+lit-returns-then-has_spread t c = λ h. (c.to.ensures.1 ∙ c.skip.ensures, λ good. running.does_to (c.to.ensures.0 _ _ _) (args.object_does _ _ _ _ _ _ _ _ _ _ _ (λ k. c.has_spread.ensures ∙ heads.spread_literal _ _ _ k) c.if-has_spread.true h c.step-q.ensures c.step-first.ensures c.wide_at-n.ensures (c.inside.ensures.1 ∙ c.less-left.ensures) c.to-v.ensures.1 c.inside.ensures.0 (c.to-v.ensures.0 _ _ _) (args.levels _ _ _ _ _ c.inside.ensures.1 (heads.does_opening _ _ _ _ (c.opening.ensures.0 _ _))) c.ps.ensures.1 good))
+
+pub lit-returns : goal.lit-returns
+lit-returns t c = λ h. (c.plain.ensures.0, args.object_plain _ _ _ _ _ (λ k. c.has_spread.ensures ∙ heads.spread_literal _ _ _ k) c.if-has_spread.false h c.plain.ensures.1)
+
+pub lo-returns-then-b : goal.lo-returns-then-b
+lo-returns-then-b t c = declaring.lowered_kept _ _ _ _ _ _ _ _ _ _ _ _ _ _ c.if-b.true (runs_does (c.put2.ensures.0 _ _)) (runs_does c.temporary.ensures.0) (c.to-u.ensures.0 _ _ _) c.to-u.ensures.1 c.place_of.ensures c.create_read_expression-taken.ensures.0 c.told_inside.ensures.0 c.told_inside.ensures.1 c.node-u.ensures c.create_read_expression-taken.ensures.1 (c.to.ensures.0 _ _ _) c.to.ensures.1 c.pa.ensures
+
+pub lo-returns : goal.lo-returns
+lo-returns t c = declaring.lowered_read _ _ _ _ _ _ _ c.if-b.false (c.to-2.ensures.0 _ _ _) c.to-2.ensures.1 c.pa-2.ensures
+
+pub mv-returns-then-c-eq0 : goal.mv-returns-then-c-eq0
+mv-returns-then-c-eq0 t c = moving.moved_none _ _ _ _ c.if-c-eq0.true
+
+pub mv-returns-then-has_second : goal.mv-returns-then-has_second
+mv-returns-then-has_second t c = moving.moved_array_rest _ _ _ _ _ _ _ _ _ _ _ _ _ _ _ c.if-c-eq0.false c.peek-kind.ensures c.in-36.is c.less-left.ensures c.step-q.ensures c.wide_at-n.ensures c.step-first.ensures c.has_second.ensures c.if-has_second.true c.skip_items-r.ensures c.under.ensures.0 c.under.ensures.1 c.mv-u.ensures c.under-then-has_second.ensures.0 c.under-then-has_second.ensures.1 c.ba.ensures
+
+pub mv-returns-in-34 : goal.mv-returns-in-34
+mv-returns-in-34 t c = moving.moved_object _ _ _ _ _ c.if-c-eq0.false c.peek-kind.ensures c.in-34.is c.add.ensures
+
+pub mv-returns-else-has_second : goal.mv-returns-else-has_second
+mv-returns-else-has_second t c = moving.moved_array _ _ _ _ _ _ _ _ _ _ _ _ c.if-c-eq0.false c.peek-kind.ensures c.in-36.is c.less-left.ensures c.step-q.ensures c.wide_at-n.ensures c.step-first.ensures c.has_second.ensures c.if-has_second.false c.under-in-36.ensures.0 c.under-in-36.ensures.1 c.ba-in-36.ensures
+
+pub mv-returns-in-37 : goal.mv-returns-in-37
+mv-returns-in-37 t c = moving.moved_default _ _ _ _ _ _ _ _ _ c.if-c-eq0.false c.peek-kind.ensures c.in-37.is c.less-left.ensures c.step.ensures c.under-in-37.ensures.0 c.under-in-37.ensures.1 c.add-in-37.ensures
+
+pub mv-returns-in_default : goal.mv-returns-in_default
+mv-returns-in_default t c = moving.moved_leaf _ _ _ _ _ c.if-c-eq0.false c.peek-kind.ensures c.in_default.in_default-own.rest.0.0.1 c.in_default.in_default-own.rest.0.1 c.in_default.in_default-own.rest.1
+
+pub node-returns-then-quiet : goal.node-returns-then-quiet
+node-returns-then-quiet t c = (c.copy.ensures.1 ∙ c.skip.ensures, law.quiet_does _ _ _ _ _ _ c.quiet.ensures c.if-quiet.true c.skip.ensures (runs_does (c.copy.ensures.0 _ _)))
+
+pub node-returns-in-4 : goal.node-returns-in-4
+node-returns-in-4 t c = c.decl.ensures (sym c.peek-kind.ensures.value ∙ c.in-4.is)
+
+pub node-returns-in-7 : goal.node-returns-in-7
+node-returns-in-7 t c = c.head.ensures (law.loop_in _ (sym c.peek-kind.ensures.value ∙ c.in-7.is))
+
+pub node-returns-in-8 : goal.node-returns-in-8
+node-returns-in-8 t c = c.head-in-8.ensures (law.loop_of _ (sym c.peek-kind.ensures.value ∙ c.in-8.is))
+
+pub node-returns-in-10 : goal.node-returns-in-10
+node-returns-in-10 t c = c.ca.ensures (sym c.peek-kind.ensures.value ∙ c.in-10.is)
+
+pub node-returns-in-14 : goal.node-returns-in-14
+node-returns-in-14 t c = c.fun.ensures (sym c.peek-kind.ensures.value ∙ c.in-14.is)
+
+pub node-returns-in-17 : goal.node-returns-in-17
+node-returns-in-17 t c = c.ar.ensures (sym c.peek-kind.ensures.value ∙ c.in-17.is)
+
+pub node-returns-in-24 : goal.node-returns-in-24
+node-returns-in-24 t c = c.lit.ensures (sym c.peek-kind.ensures.value ∙ c.in-24.is)
+
+pub node-returns-in-27 : goal.node-returns-in-27
+node-returns-in-27 t c = c.ag.ensures (sym c.peek-kind.ensures.value ∙ c.in-27.is)
+
+pub node-returns-in_default : goal.node-returns-in_default
+node-returns-in_default t c = (c.plain.ensures.0, law.emits_does _ _ _ _ _ c.peek-kind.ensures (law.nowhere_else _ c.in_default.in_default-own.rest.0.0.0.0.0.0.0.1 c.in_default.in_default-own.rest.0.0.0.0.0.0.1 c.in_default.in_default-own.rest.0.0.0.0.0.1 c.in_default.in_default-own.rest.0.0.0.0.1 c.in_default.in_default-own.rest.0.0.0.1 c.in_default.in_default-own.rest.0.0.1 c.in_default.in_default-own.rest.0.1 c.in_default.in_default-own.rest.1) c.plain.ensures.1)
+
+pub ns-returns-in-Replacing : goal.ns-returns-in-Replacing
+ns-returns-in-Replacing t c = assigning.nst_done _ _ _ _ _ _ _ _ _ _ _ _ _ _ _ _ _ (hands.places_counted _ _ _ _ c.places_in-k.ensures) (c.nested_hands-u.ensures.1 _) (runs_does (c.put2.ensures.0 _ _)) c.plus.ensures (steps.does_wide _ (c.wide.ensures.0 _ _)) (runs_does (c.assign.ensures.0 _ _)) (c.to-u.ensures.0 _ _ _) c.to-u.ensures.1 c.told_inside.ensures c.view-u.ensures c.told_inside-2.ensures c.gv-u.ensures (assigning.nst_below _ _ _ _ _ _ _ c.in-Replacing.is (c.to.ensures.0 _ _ _) c.to.ensures.1 c.deep.ensures)
+
+pub ns-returns-in-Taking : goal.ns-returns-in-Taking
+ns-returns-in-Taking t c = assigning.nst_done _ _ _ _ _ _ _ _ _ _ _ _ _ _ _ _ _ (hands.places_counted _ _ _ _ c.places_in-k.ensures) (c.nested_hands-u.ensures.1 _) (runs_does (c.put2.ensures.0 _ _)) c.plus.ensures (steps.does_wide _ (c.wide.ensures.0 _ _)) (runs_does (c.assign.ensures.0 _ _)) (c.to-u.ensures.0 _ _ _) c.to-u.ensures.1 c.told_inside.ensures c.view-u.ensures c.told_inside-2.ensures c.gv-u.ensures (assigning.nst_arrays _ _ _ _ _ _ _ c.in-Taking.is (c.pr.ensures (told.told_value_lem _)))
+
+pub oa-returns-then-has_no_properties : goal.oa-returns-then-has_no_properties
+oa-returns-then-has_no_properties t c = with-next (declaring.own_pattern_left _ _ _ _ _ _ c.has_no_properties.ensures c.if-has_no_properties.true) (reading.keeps_same _)
+
+pub oa-returns : goal.oa-returns
+oa-returns t c = with-next (declaring.own_pattern_done _ _ _ _ _ _ _ _ _ _ _ _ c.has_no_properties.ensures c.if-has_no_properties.false (runs_does (c.put2.ensures.0 _ _)) c.put2.ensures.1 c.told_inside.ensures.0 c.told_inside.ensures.1 c.view-u.ensures ((c.source-s.ensures.0, runs_does c.source-s.ensures.2)) (c.to-v.ensures.0 _ _ _) c.to-v.ensures.1) (reading.keeps_read _ _ c.source-s.ensures.1)
+
+pub os-returns-then-has_second : goal.os-returns-then-has_second
+os-returns-then-has_second t c = declaring.own_rest_done _ _ _ _ _ _ _ _ _ _ _ _ _ _ _ _ _ _ _ _ c.has_second.ensures c.if-has_second.true c.less-left.ensures c.step-q.ensures c.wide_at.ensures c.step.ensures c.skip_items-r.ensures (runs_does (c.put2.ensures.0 _ _)) (c.to.ensures.0 _ _ _) c.to.ensures.1 c.told_inside.ensures.0 c.told_inside.ensures.1 c.node-u.ensures (told.with_inner _ _ c.inside.ensures.0) c.inside.ensures.1 (c.rest-s.ensures.0, c.rest-s.ensures.2) (c.to-then-has_second.ensures.0 _ _ _) c.to-then-has_second.ensures.1 (walked.source_quiet _ _)
+
+pub os-returns : goal.os-returns
+os-returns t c = declaring.own_rest_left _ _ _ _ _ _ _ c.has_second.ensures c.if-has_second.false
+
+pub own-returns-then-c-eq0 : goal.own-returns-then-c-eq0
+own-returns-then-c-eq0 t c = (refl, reading.keeps_same _, λ k good. good_none _ _ _ c.if-c-eq0.true good)
+
+pub own-returns-then-has_second : goal.own-returns-then-has_second
+own-returns-then-has_second t c = with-next (declaring.own_keyed _ _ _ _ _ _ _ _ _ _ _ _ _ _ _ _ c.has_second.ensures c.if-has_second.true c.step-q.ensures c.wide_at-n.ensures c.step.ensures c.to.ensures.1 (c.to.ensures.0 _ _ _) c.less.ensures c.told_inside.ensures.1 c.told_inside.ensures.0 (told.items_own _ _ _ _ _ _ _ _ _ _ _ told.untold_key_value c.seq-u.ensures) (c.to-then-has_second.ensures.0 _ _ _) c.to-then-has_second.ensures.1 (c.oa.ensures.0, c.oa.ensures.2)) c.oa.ensures.1
+
+pub own-returns : goal.own-returns
+own-returns t c = with-next (declaring.own_plain _ _ _ _ _ _ _ c.has_second.ensures c.if-has_second.false (c.oa-2.ensures.0, c.oa-2.ensures.2)) c.oa-2.ensures.1
+
+pub pa-returns-then-c-eq0 : goal.pa-returns-then-c-eq0
+pa-returns-then-c-eq0 t c = λ _ good. good_none _ _ _ c.if-c-eq0.true good
+
+pub pa-returns-in-34 : goal.pa-returns-in-34
+pa-returns-in-34 t c = λ settled. declaring.pattern_object_done _ _ _ _ _ _ _ _ _ _ _ _ _ _ _ _ _ c.peek-kind.ensures.value c.in-34.is c.step-q.ensures c.wide_at-n.ensures (c.own-s.ensures.0, c.own-s.ensures.2) c.step.ensures c.to-u.ensures.1 (c.to-u.ensures.0 _ _ _) c.less.ensures c.under.ensures.1 (told.with_same _ c.under.ensures.0) (told.items_with _ _ _ _ _ _ _ _ _ _ _ (told.told_value_lem _) c.seq.ensures) (c.to-u-in-34.ensures.0 _ _ _) c.to-u-in-34.ensures.1 (declaring.later_rest _ _ _ _ _ _ _ c.own-s.ensures.1 settled c.os.ensures)
+
+pub pa-returns-in-36 : goal.pa-returns-in-36
+pa-returns-in-36 t c = λ _. declaring.pattern_array_done _ _ _ _ _ _ _ _ _ _ _ _ _ c.peek-kind.ensures.value c.in-36.is (runs_does (c.put2.ensures.0 _ _)) c.put2.ensures.1 c.told_inside.ensures.0 c.told_inside.ensures.1 c.view-u.ensures ((c.source-s.ensures.0, runs_does c.source-s.ensures.2)) (c.to-u-in-36.ensures.0 _ _ _) c.to-u-in-36.ensures.1 c.deep.ensures
+
+pub pa-returns-in_default : goal.pa-returns-in_default
+pa-returns-in_default t c = λ _. declaring.pattern_other _ _ _ _ _ _ c.peek-kind.ensures.value c.in_default.in_default-own.rest.0.1 c.in_default.in_default-own.rest.1
+
+pub plain-returns-then-left-eq0 : goal.plain-returns-then-left-eq0
+plain-returns-then-left-eq0 t c = (skipping.node_none _ _ _ c.if-left-eq0.true, law.good_none _ _ _ c.if-left-eq0.true)
+
+pub plain-overflow_sub-left : goal.plain-overflow_sub-left
+plain-overflow_sub-left t c = omega (arith, c.if-left-eq0.false)
+
+pub plain-overflow_sub-left-then-kind-eq-SWITCH : goal.plain-overflow_sub-left-then-kind-eq-SWITCH
+plain-overflow_sub-left-then-kind-eq-SWITCH t c = omega (arith, c.if-left-eq0.false)
+
+pub plain-returns-then-kind-eq-SWITCH : goal.plain-returns-then-kind-eq-SWITCH
+plain-returns-then-kind-eq-SWITCH t c = (c.to.ensures.1 ∙ c.skip.ensures, λ good. running.does_to (c.to.ensures.0 _ _ _) (law.switch_does _ _ _ _ _ _ _ _ _ _ _ _ _ _ c.if-left-eq0.false c.peek-kind.ensures.value c.if-kind-eq-SWITCH.true c.step.ensures c.peek-map.ensures.value c.step-2.ensures c.copy-v.ensures.1 c.parts_of-inner.ensures.0 c.parts_of-cases.ensures.0 c.parts_of-inner.ensures.1 c.parts_of-cases.ensures.1 (runs_does (c.copy-v.ensures.0 _ _)) c.fs-u.ensures.1 c.fs-u.ensures.0 c.fs.ensures.1 good))
+
+pub plain-returns : goal.plain-returns
+plain-returns t c = (c.to-2.ensures.1 ∙ c.skip-2.ensures, λ good. running.does_to (c.to-2.ensures.0 _ _ _) (law.plain_does _ _ _ _ _ _ _ _ _ _ _ _ _ c.if-left-eq0.false c.peek-kind.ensures.value c.step.ensures c.peek-map.ensures.value c.if-kind-eq-SWITCH.false c.row.ensures c.step-2.ensures c.copy-v.ensures.1 c.container.ensures c.parts_of-inner.ensures.0 c.parts_of-inner.ensures.1 (runs_does (c.copy-v.ensures.0 _ _)) c.fs-2.ensures.1 good))
+
+pub pr-returns-then-c-eq0 : goal.pr-returns-then-c-eq0
+pr-returns-then-c-eq0 t c = λ m k good suit. good_none _ _ _ c.if-c-eq0.true good
+
+pub pr-returns : goal.pr-returns
+pr-returns t c = λ m. finding.properties_done _ _ _ _ _ _ _ _ _ _ _ _ _ c.less.ensures c.under.ensures.1 (told.with_same _ c.under.ensures.0) c.step-q.ensures c.wide_at-n.ensures c.step.ensures c.to.ensures.1 (c.to.ensures.0 _ _ _) (told.items_with _ _ _ _ _ _ _ _ _ _ _ m c.seq.ensures)
+
+pub prop-returns-then-peek-eq-STATIC_KEY : goal.prop-returns-then-peek-eq-STATIC_KEY
+prop-returns-then-peek-eq-STATIC_KEY t c = quiets.property_quiet _ _ _ _ _ _ _ _ _ _ c.quiet.ensures c.if-quiet.true c.step.ensures c.peek.ensures.value c.if-peek-eq-STATIC_KEY.true c.skip.ensures c.copy.ensures.1 (runs_does (c.copy.ensures.0 _ _))
+
+pub prop-returns : goal.prop-returns
+prop-returns t c = viewing.property_does _ _ _ _ _ _ _ _ _ _ _ _ _ _ _ c.step-2.ensures c.copy-2.ensures.1 c.inside.ensures.0 (c.inside.ensures.1 ∙ c.less-left.ensures) c.inside-2.ensures.0 (c.inside-2.ensures.1 ∙ c.less-left.ensures) c.step-3.ensures c.copy-3.ensures.1 (runs_does (c.copy-2.ensures.0 _ _)) c.key-u.ensures c.view-u.ensures (runs_does (c.copy-3.ensures.0 _ _))
+
+pub ps-loop-n-init : goal.ps-loop-n-init
+ps-loop-n-init t c = (refl, refl, refl, refl, (λ z g. (g, law.onto_start _ _)), omega arith)
+
+pub ps-overflow_sub-n : goal.ps-overflow_sub-n
+ps-overflow_sub-n t c = omega (arith, c.loop-n-test.true)
+
+pub ps-overflow_sub-n-in-loop-n : goal.ps-overflow_sub-n-in-loop-n
+ps-overflow_sub-n-in-loop-n t c = omega (arith, c.loop-n-test.true)
+
+pub ps-loop-n-smaller : goal.ps-loop-n-smaller
+ps-loop-n-smaller t c = omega (arith, c.loop-n-test.true)
+
+pub ps-loop-n-preserved : goal.ps-loop-n-preserved
+ps-loop-n-preserved t c = (
+  omega (arith, c.loop-n.invariant.0, c.pt-v.auto),
+  omega (arith, c.loop-n.invariant.1, c.pt-v.auto),
+  omega (arith, c.loop-n.invariant.2, c.pt-v.auto),
+  args.items_next _ _ _ _ _ c.loop-n-test.true c.pt-v.ensures.0 ∙ c.loop-n.invariant.3,
+  (λ z g.
+      let y = c.loop-n.invariant.4 z g in (
+        args.good_rest _ _ _ _ _ _ c.loop-n-test.true c.pt-v.ensures.0 y.0,
+        law.onto_more y.1 (args.parts_more _ _ _ _ _ _ c.loop-n-test.true c.pt-v.ensures.0) (c.pt-v.ensures.1 (omega (arith, z, c.loop-n.invariant.5)) (args.good_first _ _ _ _ _ c.loop-n-test.true y.0)),
+      )),
+  omega (arith, c.loop-n.invariant.5),
+)
+
+pub ps-returns : goal.ps-returns
+ps-returns t c = (skipping.items_end _ _ _ _ _ c.loop-n-test.false ∙ c.loop-n.invariant.3, λ z g. law.onto_end (c.loop-n.invariant.4 z g).1 (args.parts_none _ _ _ _ _ c.loop-n-test.false))
+
+pub pt-returns-then-has_first : goal.pt-returns-then-has_first
+pt-returns-then-has_first t c = (
+  c.pending.ensures.1 ∙ c.to-v.ensures.1 ∙ c.skip.ensures,
+  λ small good. args.part_arg _ _ _ _ _ _ _ _ _ _ _ _ _ c.is_spread.ensures c.has_first.ensures c.if-is_spread.true c.if-has_first.true c.step.ensures c.to.ensures.1 (c.under.ensures.1 ∙ c.less-left.ensures) c.under.ensures.0 (c.to-v.ensures.1 ∙ c.skip.ensures) c.run_of-k.ensures (c.to.ensures.0 _ _ _) c.node.ensures.1 (c.to-v.ensures.0 _ _ _) (heads.does_pending _ (c.pending.ensures.0 _ _)) small good,
+)
+
+pub pt-returns-then-is_spread : goal.pt-returns-then-is_spread
+pt-returns-then-is_spread t c = (c.node-then-is_spread.ensures.0, λ small. args.part_plain _ _ _ _ _ _ _ c.is_spread.ensures c.has_first.ensures c.if-is_spread.true c.if-has_first.false)
+
+pub pt-returns : goal.pt-returns
+pt-returns t c = (c.node-2.ensures.0, λ small. args.part_node _ _ _ _ _ _ c.is_spread.ensures c.if-is_spread.false c.node-2.ensures.1)
+
+pub read-returns-then-hoisted : goal.read-returns-then-hoisted
+read-returns-then-hoisted t c = (c.temporary.ensures.1, excluding.read_cell _ _ _ _ _ _ c.hoisted.ensures c.if-hoisted.true c.cell.ensures (runs_does c.temporary.ensures.0))
+
+pub read-returns-then-all_primitive : goal.read-returns-then-all_primitive
+read-returns-then-all_primitive t c = (c.keys.ensures.0, excluding.read_strings _ _ _ _ _ _ c.hoisted.ensures c.if-hoisted.false c.all_primitive.ensures c.if-all_primitive.true c.keys.ensures.1)
+
+pub read-returns : goal.read-returns
+read-returns t c = (c.mapped.ensures.1 ∙ c.keys-2.ensures.0 ∙ c.put2-u.ensures.1 ∙ c.put2.ensures.1, excluding.read_any _ _ _ _ _ _ c.hoisted.ensures c.if-hoisted.false c.all_primitive.ensures c.if-all_primitive.false (runs_does (c.put2.ensures.0 _ _)) (runs_does (c.put2-u.ensures.0 _ _)) c.keys-2.ensures.1 (runs_does (c.mapped.ensures.0 _ _)))
+
+pub rest-returns-then-passes : goal.rest-returns-then-passes
+rest-returns-then-passes t c = (refl, reading.keeps_same _, λ _ good k clear. walked.passed true _ c.passes.ensures c.if-passes.true (λ _. clear))
+
+pub rest-returns-then-has_no_properties : goal.rest-returns-then-has_no_properties
+rest-returns-then-has_no_properties t c = (c.source.ensures.0 ∙ c.source-s.ensures.0 ∙ c.empty_rest.ensures.1, reading.keeps_then _ _ _ (reading.keeps_read _ _ c.source-s.ensures.1) (reading.keeps_read _ _ c.source.ensures.1), λ settled good k _. excluding.rest_whole _ _ _ _ _ c.has_no_properties.ensures c.if-has_no_properties.true (runs_does (c.empty_rest.ensures.0 _ _)) (runs_does c.source-s.ensures.2) (running.does_as (runs_does c.source.ensures.2) (sources.same_source _ _ _ (ap read_of c.source-s.ensures.1 ∙ settled))))
+
+pub rest-returns : goal.rest-returns
+rest-returns t c = (c.read-u.ensures.0 ∙ c.source-s-2.ensures.0 ∙ c.call.ensures.1, reading.keeps_read _ _ c.source-s-2.ensures.1, λ _ good k _. excluding.rest_keys _ _ _ _ _ _ _ _ c.has_no_properties.ensures c.if-has_no_properties.false (told.with_inner _ _ c.inside.ensures.0) c.inside.ensures.1 (steps.does_call _ _ (c.call.ensures.0 _ _)) (runs_does c.source-s-2.ensures.2) c.read-u.ensures.1 good k)
+
+pub seq-loop-n-init : goal.seq-loop-n-init
+seq-loop-n-init t c = (refl, refl, refl, λ g a. turning.along_start _ _ _ _ _ _ _ _ g a)
+
+pub seq-overflow_sub-n : goal.seq-overflow_sub-n
+seq-overflow_sub-n t c = omega (arith, c.loop-n-test.true)
+
+pub seq-loop-n-smaller : goal.seq-loop-n-smaller
+seq-loop-n-smaller t c = omega (arith, c.loop-n-test.true)
+
+pub seq-loop-n-preserved : goal.seq-loop-n-preserved
+seq-loop-n-preserved t c = (omega (arith, c.loop-n.invariant.0, c.turn-v.auto), omega (arith, c.loop-n.invariant.1, c.turn-v.auto), omega (arith, c.loop-n.invariant.2, c.turn-v.auto), λ g a. turning.along_more _ _ _ _ _ _ c.loop-n-test.true c.turn-v.ensures (c.loop-n.invariant.3 g a))
+
+pub seq-returns : goal.seq-returns
+seq-returns t c = λ g a. turning.along_end _ _ _ _ _ c.loop-n-test.false (c.loop-n.invariant.3 g a)
+
+pub slot-returns-then-bit-eq0 : goal.slot-returns-then-bit-eq0
+slot-returns-then-bit-eq0 t c = (skipping.slot_absent _ _ _ _ _ c.if-bit-eq0.true, λ g. law.slot_none _ _ _ _ _ _ _ c.if-bit-eq0.true)
+
+pub slot-returns-in-1 : goal.slot-returns-in-1
+slot-returns-in-1 t c = (c.node.ensures.0 ∙ skipping.slot_class _ _ _ _ _ c.if-bit-eq0.false 1 c.in-1.is, law.child_does _ _ _ _ _ _ _ _ c.if-bit-eq0.false c.in-1.is c.node.ensures.1)
+
+pub slot-returns-in-2 : goal.slot-returns-in-2
+slot-returns-in-2 t c = (c.node-in-2.ensures.0 ∙ skipping.slot_class _ _ _ _ _ c.if-bit-eq0.false 2 c.in-2.is, law.chosen_does _ _ _ _ _ _ _ _ c.if-bit-eq0.false c.in-2.is c.node-in-2.ensures.1)
+
+pub slot-returns-in-3 : goal.slot-returns-in-3
+slot-returns-in-3 t c = (skipping.slot_many _ _ _ _ _ c.if-bit-eq0.false _ _ _ c.wide_at.ensures.value (c.copy.ensures.1 ∙ c.step.ensures) c.items.ensures.0 c.in-3.is, law.many_does _ _ _ _ _ _ _ _ c.if-bit-eq0.false _ _ _ c.in-3.is c.wide_at.ensures c.step.ensures c.copy.ensures.1 (runs_does (c.copy.ensures.0 _ _)) c.items.ensures.1)
+
+pub slot-returns-in-4 : goal.slot-returns-in-4
+slot-returns-in-4 t c = (skipping.slot_gaps _ _ _ _ _ c.if-bit-eq0.false _ _ _ c.wide_at-in-4.ensures.value (c.copy-in-4.ensures.1 ∙ c.step-in-4.ensures) c.items-in-4.ensures.0 c.in-4.is, law.gaps_does _ _ _ _ _ _ _ _ c.if-bit-eq0.false _ _ _ c.in-4.is c.wide_at-in-4.ensures c.step-in-4.ensures c.copy-in-4.ensures.1 (runs_does (c.copy-in-4.ensures.0 _ _)) c.items-in-4.ensures.1)
+
+pub slot-returns-in_default : goal.slot-returns-in_default
+slot-returns-in_default t c = (c.copy-in_default.ensures.1 ∙ c.skip_slot.ensures, law.leaf_does _ _ _ _ _ _ _ _ _ c.if-bit-eq0.false c.in_default.in_default-own.rest c.skip_slot.ensures (runs_does (c.copy-in_default.ensures.0 _ _)))
+
+pub ta-returns : goal.ta-returns
+ta-returns t c = looping.assigned_does _ _ _ _ _ _ _ c.mark.ensures (told.own_statement _ _ c.at_root-root.ensures _ c.statement-d.ensures.0) c.statement-d.ensures.1 (runs_does (c.put2.ensures.0 _ _)) (runs_does (c.new_mark-u.ensures.0 _ _)) c.an.ensures
+
+pub tb-overflow_add-k : goal.tb-overflow_add-k
+tb-overflow_add-k t c = omega (arith, c.wide_at-k.ensures.bound)
+
+pub tb-returns-in-2 : goal.tb-returns-in-2
+tb-returns-in-2 t c = looping.target_block _ _ _ _ _ _ _ _ _ _ _ _ _ _ _ c.peek-kind.ensures c.in-2.is c.step-q.ensures c.wide_at-k.ensures c.step.ensures c.to.ensures.1 c.scoped.ensures.0 c.scoped.ensures.1 c.scoped-in-2.ensures.0 (c.scoped-in-2.ensures.1 ∙ c.less.ensures) (c.to.ensures.0 _ _ _) (runs_does (c.copy.ensures.0 _ _)) (steps.does_wide _ (c.wide.ensures.0 _ _)) c.ta-u.ensures c.items.ensures
+
+pub tb-returns-in-13 : goal.tb-returns-in-13
+tb-returns-in-13 t c = looping.target_empty _ _ _ _ _ _ _ _ _ _ c.peek-kind.ensures c.in-13.is c.scoped-in-13.ensures.0 c.scoped-in-13.ensures.1 c.skip.ensures c.to-in-13.ensures.1 (c.to-in-13.ensures.0 _ _ _) (steps.does_block _ (c.block.ensures.0 _ _)) c.ta.ensures
+
+pub tb-returns-in_default : goal.tb-returns-in_default
+tb-returns-in_default t c = looping.target_statement _ _ _ _ _ _ _ _ _ _ _ _ c.peek-kind.ensures c.in_default.in_default-own.rest.0.1 c.in_default.in_default-own.rest.1 c.scoped-in_default.ensures.0 c.scoped-in_default.ensures.1 c.scoped-in_default-2.ensures.0 c.scoped-in_default-2.ensures.1 c.to-in_default.ensures.1 (c.to-in_default.ensures.0 _ _ _) (steps.does_block _ (c.block-in_default.ensures.0 _ _)) c.ta-u-in_default.ensures c.item.ensures
+
+pub tg-returns-then-object_count-gt0 : goal.tg-returns-then-object_count-gt0
+tg-returns-then-object_count-gt0 t c = (reading.keeps_read _ _ c.create_read_expression-taken.ensures.1, λ reads. assigning.tgt_nested _ _ _ _ _ _ _ _ (λ k. c.object_count.ensures ∙ values_object _ _ _ _ k) c.if-object_count-gt0.true (told.own_inner _ _ refl c.told_inside-d.ensures.0, c.told_inside-d.ensures.1) (assigning.read_place _ _ _ _ _ c.place_of-x.ensures c.create_read_expression-taken.ensures.0 reads) c.ns-u.ensures)
+
+pub tg-returns : goal.tg-returns
+tg-returns t c = (reading.keeps_read _ _ c.source.ensures.1, λ reads. assigning.tgt_kept _ _ _ _ _ _ _ _ _ _ (λ k. c.object_count.ensures ∙ values_object _ _ _ _ k) c.if-object_count-gt0.false c.told_inside-d.ensures (runs_does (c.assign.ensures.0 _ _)) (c.to.ensures.0 _ _ _) c.to.ensures.1 c.view-u.ensures refl (running.does_as (runs_does c.source.ensures.2) (sources.reads_cell _ _ _ _ reads)))
+
+pub th-returns-then-c-eq0 : goal.th-returns-then-c-eq0
+th-returns-then-c-eq0 t c = λ loop four na ob good. law.good_none _ _ _ c.if-c-eq0.true good
+
+pub th-returns : goal.th-returns
+th-returns t c = looping.assigning_does _ _ _ _ _ _ _ _ _ _ _ _ _ c.less-left.ensures c.step-q.ensures c.scoped-d.ensures.0 c.scoped-d.ensures.1 c.make.ensures.1 c.skip.ensures c.to.ensures.1 (c.to.ensures.0 _ _ _) (runs_does (c.make.ensures.0 _ _)) (runs_does (c.copy-u.ensures.0 _ _)) (steps.does_declaration _ _ (c.declaration.ensures.0 _ _)) (runs_does (c.put2.ensures.0 _ _)) (runs_does c.temporary-u.ensures.0) c.node-u.ensures c.tb-u.ensures (runs_does (c.await_of.ensures.1 _ _))
+
+pub top-returns-then-r-gt0 : goal.top-returns-then-r-gt0
+top-returns-then-r-gt0 t c = λ k h g x a. assigning.top_refused _ _ _ _ _ _ _ _ c.refusal-r.ensures c.if-r-gt0.true (runs_does (c.refuse.ensures.0 _ _))
+
+pub top-returns-then-c : goal.top-returns-then-c
+top-returns-then-c t c = λ k h. assigning.top_does _ _ _ _ _ _ _ _ _ _ _ _ _ _ _ _ _ _ _ _ _ c.refusal-r.ensures c.if-r-gt0.false c.told_inside-d.ensures (c.top_hands-u.ensures.1 _) (hands.top_counted _ _ _ _ c.top_count-k.ensures) (runs_does (c.put2.ensures.0 _ _)) (steps.does_wide _ (c.wide.ensures.0 _ _)) (runs_does (c.assign.ensures.0 _ _)) c.cell-v.ensures (runs_does c.temporary-u.ensures.0) (assigning.given_at _ _ _ _ _ _ _ (assigning.forced_place _ _ _ _ _ _ _ c.place_of-y.ensures c.create_read_expression-first.ensures.0 c.new-b.ensures) c.gv-u.ensures) (c.tg-s.ensures.1 (assigning.forced_reads _ _ _ _ _ _ _ c.new-b.ensures c.create_read_expression-first.ensures.1 c.cell-v.ensures)) (c.pr-u.ensures (told.told_value_lem _)) (runs_does (c.assign-2.ensures.0 _ _)) c.assign-2.ensures.1 c.less.ensures c.told_inside.ensures c.node-u.ensures.1 refl (λ u. sources.reads_cell u _ _ _ ((c.tg-s.ensures.0 (reading.settled_read _ _ c.create_read_expression-first.ensures.1)).1 ∙ (assigning.forced_reads _ _ _ _ _ _ _ c.new-b.ensures c.create_read_expression-first.ensures.1 c.cell-v.ensures))) (told.own_inner _ _ refl c.told_inside-d.ensures.0) (c.rest-s.ensures.2 (c.tg-s.ensures.0 (reading.settled_read _ _ c.create_read_expression-first.ensures.1)).0) (λ w. does_nothing _) (assigning.read_none _ _ c.if-c.true) k h
+
+pub top-returns : goal.top-returns
+top-returns t c = λ k h. assigning.top_does _ _ _ _ _ _ _ _ _ _ _ _ _ _ _ _ _ _ _ _ _ c.refusal-r.ensures c.if-r-gt0.false c.told_inside-d.ensures (c.top_hands-u.ensures.1 _) (hands.top_counted _ _ _ _ c.top_count-k.ensures) (runs_does (c.put2.ensures.0 _ _)) (steps.does_wide _ (c.wide.ensures.0 _ _)) (runs_does (c.assign.ensures.0 _ _)) c.cell-v.ensures (runs_does c.temporary-u.ensures.0) (assigning.given_at _ _ _ _ _ _ _ (assigning.forced_place _ _ _ _ _ _ _ c.place_of-y.ensures c.create_read_expression-first.ensures.0 c.new-b.ensures) c.gv-u.ensures) (c.tg-s.ensures.1 (assigning.forced_reads _ _ _ _ _ _ _ c.new-b.ensures c.create_read_expression-first.ensures.1 c.cell-v.ensures)) (c.pr-u.ensures (told.told_value_lem _)) (runs_does (c.assign-2.ensures.0 _ _)) c.assign-2.ensures.1 c.less.ensures c.told_inside.ensures c.node-u.ensures.1 refl (λ u. sources.reads_cell u _ _ _ ((c.tg-s.ensures.0 (reading.settled_read _ _ c.create_read_expression-first.ensures.1)).1 ∙ (assigning.forced_reads _ _ _ _ _ _ _ c.new-b.ensures c.create_read_expression-first.ensures.1 c.cell-v.ensures))) (told.own_inner _ _ refl c.told_inside-d.ensures.0) (c.rest-s.ensures.2 (c.tg-s.ensures.0 (reading.settled_read _ _ c.create_read_expression-first.ensures.1)).0) (assigning.value_read _ _ refl (running.does_as (runs_does c.source-s.ensures.2) (sources.reads_cell _ _ _ _ ((c.rest-s.ensures.1 (c.tg-s.ensures.0 (reading.settled_read _ _ c.create_read_expression-first.ensures.1)).0).1 ∙ ((c.tg-s.ensures.0 (reading.settled_read _ _ c.create_read_expression-first.ensures.1)).1 ∙ (assigning.forced_reads _ _ _ _ _ _ _ c.new-b.ensures c.create_read_expression-first.ensures.1 c.cell-v.ensures)))))) (assigning.read_some _ _ c.if-c.false) k h
+
+pub turn-returns-then-peek-eq0 : goal.turn-returns-then-peek-eq0
+turn-returns-then-peek-eq0 t c = turning.turned_hole _ _ _ _ _ _ _ _ c.if-holes.true c.peek.ensures c.if-peek-eq0.true c.hole.ensures.0 (sources.does_hole _ _ _ (c.hole.ensures.1 _ _))
+
+pub turn-returns-in-Viewed : goal.turn-returns-in-Viewed
+turn-returns-in-Viewed t c = told.item_own _ _ _ _ _ _ _ _ _ _ (ap is_told c.in-Viewed.is ∙ told.untold_viewed) (turning.turned_viewed _ _ _ _ _ _ _ (elim c.if-holes.branch [ then-holes w ↦ law.no_hole _ _ _ _ w.0.taken w.1.ensures w.2.left | else-holes w ↦ law.full _ _ _ w.left ]) c.in-Viewed.is c.view.ensures)
+
+pub turn-returns-in-MovedOut : goal.turn-returns-in-MovedOut
+turn-returns-in-MovedOut t c = told.item_own _ _ _ _ _ _ _ _ _ _ (ap is_told c.in-MovedOut.is ∙ told.untold_moved_out) (turning.turned_moved_out _ _ _ _ _ _ _ (elim c.if-holes.branch [ then-holes w ↦ law.no_hole _ _ _ _ w.0.taken w.1.ensures w.2.left | else-holes w ↦ law.full _ _ _ w.left ]) c.in-MovedOut.is c.go.ensures)
+
+pub turn-returns-in-Below : goal.turn-returns-in-Below
+turn-returns-in-Below t c = told.item_with _ _ _ _ _ _ _ _ _ _ (ap is_told c.in-Below.is ∙ told.told_below _) (turning.turned_below _ _ _ _ _ _ _ (elim c.if-holes.branch [ then-holes w ↦ law.no_hole _ _ _ _ w.0.taken w.1.ensures w.2.left | else-holes w ↦ law.full _ _ _ w.left ]) _ c.in-Below.is c.deep.ensures)
+
+pub turn-returns-in-Property : goal.turn-returns-in-Property
+turn-returns-in-Property t c = told.item_own _ _ _ _ _ _ _ _ _ _ (ap is_told c.in-Property.is ∙ told.untold_property _) (turning.turned_property _ _ _ _ _ _ _ (elim c.if-holes.branch [ then-holes w ↦ law.no_hole _ _ _ _ w.0.taken w.1.ensures w.2.left | else-holes w ↦ law.full _ _ _ w.left ]) _ c.in-Property.is c.prop.ensures)
+
+pub turn-returns-in-ExcludedKey : goal.turn-returns-in-ExcludedKey
+turn-returns-in-ExcludedKey t c = told.item_own _ _ _ _ _ _ _ _ _ _ (ap is_told c.in-ExcludedKey.is ∙ told.untold_excluded_key) (turning.turned_excluded_key _ _ _ _ _ _ _ (elim c.if-holes.branch [ then-holes w ↦ law.no_hole _ _ _ _ w.0.taken w.1.ensures w.2.left | else-holes w ↦ law.full _ _ _ w.left ]) c.in-ExcludedKey.is c.ek.ensures)
+
+pub turn-returns-in-KeyValue : goal.turn-returns-in-KeyValue
+turn-returns-in-KeyValue t c = told.item_own _ _ _ _ _ _ _ _ _ _ (ap is_told c.in-KeyValue.is ∙ told.untold_key_value) (turning.turned_key_value _ _ _ _ _ _ _ (elim c.if-holes.branch [ then-holes w ↦ law.no_hole _ _ _ _ w.0.taken w.1.ensures w.2.left | else-holes w ↦ law.full _ _ _ w.left ]) c.in-KeyValue.is c.kv.ensures)
+
+pub turn-returns-in-Value : goal.turn-returns-in-Value
+turn-returns-in-Value t c = told.item_with _ _ _ _ _ _ _ _ _ _ (ap is_told c.in-Value.is ∙ told.told_value_lem _) (turning.turned_value _ _ _ _ _ _ _ (elim c.if-holes.branch [ then-holes w ↦ law.no_hole _ _ _ _ w.0.taken w.1.ensures w.2.left | else-holes w ↦ law.full _ _ _ w.left ]) _ c.in-Value.is c.vl.ensures)
+
+pub turn-returns-in-Declarator : goal.turn-returns-in-Declarator
+turn-returns-in-Declarator t c = told.item_with _ _ _ _ _ _ _ _ _ _ (ap is_told c.in-Declarator.is ∙ told.told_declarator) (turning.turned_declarator _ _ _ _ _ _ _ (elim c.if-holes.branch [ then-holes w ↦ law.no_hole _ _ _ _ w.0.taken w.1.ensures w.2.left | else-holes w ↦ law.full _ _ _ w.left ]) c.in-Declarator.is c.dr.ensures)
+
+pub turn-returns-in-Binding : goal.turn-returns-in-Binding
+turn-returns-in-Binding t c = told.item_own _ _ _ _ _ _ _ _ _ _ (ap is_told c.in-Binding.is ∙ told.untold_binding) (turning.turned_binding _ _ _ _ _ _ _ (elim c.if-holes.branch [ then-holes w ↦ law.no_hole _ _ _ _ w.0.taken w.1.ensures w.2.left | else-holes w ↦ law.full _ _ _ w.left ]) c.in-Binding.is c.bi.ensures)
+
+pub va-returns-then-c-eq0 : goal.va-returns-then-c-eq0
+va-returns-then-c-eq0 t c = λ h good. law.good_none _ _ _ c.if-c-eq0.true good
+
+pub va-returns-then-has_second : goal.va-returns-then-has_second
+va-returns-then-has_second t c = viewing.array_rest_lem _ _ _ _ _ _ _ _ _ _ _ _ _ _ _ _ c.has_second.ensures c.if-has_second.true c.step-q.ensures c.wide_at-n.ensures c.step.ensures c.copy-u.ensures.1 c.inside.ensures.0 (c.inside.ensures.1 ∙ c.less-left.ensures) c.inside-then-has_second.ensures.0 (c.inside-then-has_second.ensures.1 ∙ c.less-left.ensures) (runs_does (c.copy-u.ensures.0 _ _)) (told.items_own _ _ _ _ _ _ _ _ _ _ _ told.untold_viewed c.seq-u.ensures) c.node.ensures
+
+pub va-returns : goal.va-returns
+va-returns t c = viewing.array_plain _ _ _ _ _ _ _ _ _ _ _ _ _ c.has_second.ensures c.if-has_second.false c.step-q.ensures c.wide_at-n.ensures c.step.ensures c.copy-u.ensures.1 c.inside.ensures.0 (c.inside.ensures.1 ∙ c.less-left.ensures) (runs_does (c.copy-u.ensures.0 _ _)) (told.items_own _ _ _ _ _ _ _ _ _ _ _ told.untold_viewed c.seq-u.ensures)
+
+pub view-returns-then-c-eq0 : goal.view-returns-then-c-eq0
+view-returns-then-c-eq0 t c = λ good. law.good_none _ _ _ c.if-c-eq0.true good
+
+pub view-returns-in-34 : goal.view-returns-in-34
+view-returns-in-34 t c = c.vo.ensures (sym c.peek-kind.ensures.value ∙ c.in-34.is)
+
+pub view-returns-in-36 : goal.view-returns-in-36
+view-returns-in-36 t c = c.va.ensures (sym c.peek-kind.ensures.value ∙ c.in-36.is)
+
+pub view-returns-in-37 : goal.view-returns-in-37
+view-returns-in-37 t c = viewing.view_37 _ _ _ _ _ _ _ _ _ _ _ _ _ _ c.peek-kind.ensures c.in-37.is c.step.ensures c.copy-u.ensures.1 c.inside.ensures.0 (c.inside.ensures.1 ∙ c.less-left.ensures) c.inside-in-37.ensures.0 (c.inside-in-37.ensures.1 ∙ c.less-left.ensures) (runs_does (c.copy-u.ensures.0 _ _)) c.view-u.ensures c.node.ensures
+
+pub view-returns-in_default : goal.view-returns-in_default
+view-returns-in_default t c = viewing.view_other _ _ _ _ _ _ _ c.peek-kind.ensures c.in_default.in_default-own.rest.0.0.1 c.in_default.in_default-own.rest.0.1 c.in_default.in_default-own.rest.1 c.node-in_default.ensures
+
+pub vl-returns-then-quiet : goal.vl-returns-then-quiet
+vl-returns-then-quiet t c k good suit = finding.value_quiet _ _ _ _ _ _ _ _ c.quiet.ensures c.if-quiet.true c.skip.ensures c.to.ensures.1 (c.to.ensures.0 _ _ _) good
+
+pub vl-returns : goal.vl-returns
+vl-returns t c = finding.value_done _ _ _ _ _ _ _ _ _ _ _ _ _ _ c.less-left.ensures c.step.ensures c.skip-v.ensures c.to-2.ensures.1 (c.to-2.ensures.0 _ _ _) c.under.ensures.1 (told.with_same _ c.under.ensures.0) c.deep-u.ensures c.step-2.ensures c.to-3.ensures.1 (c.to-3.ensures.0 _ _ _)
+
+pub vo-returns-then-c-eq0 : goal.vo-returns-then-c-eq0
+vo-returns-then-c-eq0 t c = λ h good. law.good_none _ _ _ c.if-c-eq0.true good
+
+pub vo-returns-then-replaces : goal.vo-returns-then-replaces
+vo-returns-then-replaces t c = viewing.object_replaced _ _ _ _ _ _ _ _ _ c.has_second-rest.ensures c.if-rest.true c.replaces.ensures c.if-replaces.true c.skip.ensures c.to.ensures.1 (c.to.ensures.0 _ _ _) (runs_does c.temporary.ensures.0)
+
+pub vo-returns-then-rest-2 : goal.vo-returns-then-rest-2
+vo-returns-then-rest-2 t c = viewing.object_rest_lem _ _ _ _ _ _ _ _ _ _ _ _ _ _ _ _ _ c.has_second-rest.ensures c.if-rest-2.true (elim c.if-rest.branch [ then-rest w ↦ sym w.1.ensures ∙ w.2.left | else-rest w ↦ absurd (false≢true (sym w.left ∙ c.if-rest-2.true)) ]) c.step-q.ensures c.wide_at-n.ensures c.step.ensures c.to-u.ensures.1 c.inside.ensures.0 (c.inside.ensures.1 ∙ c.less-left.ensures) c.less-left.ensures refl (c.to-u.ensures.0 _ _ _) (runs_does (c.put2.ensures.0 _ _)) (steps.does_wide _ (c.wide.ensures.0 _ _)) (told.items_own _ _ _ _ _ _ _ _ _ _ _ (told.untold_property _) c.seq-u.ensures) c.skip-then-rest-2.ensures c.to-then-rest-2.ensures.1 (c.to-then-rest-2.ensures.0 _ _ _)
+
+pub vo-returns : goal.vo-returns
+vo-returns t c = viewing.object_plain _ _ _ _ _ _ _ _ _ _ _ _ _ _ c.has_second-rest.ensures c.if-rest-2.false c.step-q.ensures c.wide_at-n.ensures c.step.ensures c.to-u.ensures.1 c.inside.ensures.0 (c.inside.ensures.1 ∙ c.less-left.ensures) refl (c.to-u.ensures.0 _ _ _) (runs_does (c.put2.ensures.0 _ _)) (steps.does_wide _ (c.wide.ensures.0 _ _)) (told.items_own _ _ _ _ _ _ _ _ _ _ _ (told.untold_property _) c.seq-u.ensures)

@@ -1,0 +1,299 @@
+use Prim.Native.Nat.{ℕ, ◌<◌, ◌≤◌, ◌+◌, ◌*◌}
+use Rattle.tree.proofs.Cycle.{at_measure, below_measure}
+use lib.ListN.{length}
+use borrow.Author.Rules.{rules}
+use native.Mathlib.Omega.{arith}
+use mathlib.Core.Bool.{true, false, false≢true}
+use mathlib.Core.Logic.{⊎_elim}
+use mathlib.Core.Path.{◌≡◌, refl, sym, ap, ◌∙◌}
+use Rattle.walk.specs.Whole.{place_of, hole_at, GoodItems, GoodFields, Good}
+use Rattle.walk.specs.Run.{going_of}
+use Rattle.direct.specs.Emit.{emits_items, emits_fields}
+use Rattle.tree.specs.Look.{look_items, look_fields, look_node}
+use Rattle.tree.specs.Rows.{fields_in_of}
+use Rattle.walk.specs.Turns.{AllSuit, is_told, told_place}
+use Rattle.walk.proofs.Running.{does_nothing, runs_does}
+use Rattle.walk.specs.declared.views.View as views
+use Rattle.walk.specs.declared.views.View.TheVariants.{Replacing, Taking}
+use Rattle.tree.proofs.Skipping.{node_none}
+use Rattle.walk.proofs.Emits.{good_none}
+use Rattle.direct.specs.Literals as literals
+use Rattle.walk.proofs.SpreadArguments as args
+use Rattle.walk.proofs.SmallSteps as steps
+use Rattle.walk.proofs.LiteralHeads as heads
+use Rattle.walk.proofs.SourcesRead as sources
+use Rattle.walk.proofs.HandRules as hands
+use Rattle.walk.proofs.TargetCounts.{values_object}
+use Rattle.walk.proofs.Running as running
+use Rattle.tree.proofs.Skipping as skipping
+use Rattle.walk.proofs.Emits as law
+use Rattle.walk.proofs.KeysOnceFull as walked
+use Rattle.emit.proofs.Excluding as excluding
+use Rattle.walk.proofs.Viewing as viewing
+use Rattle.walk.proofs.QuietValues as quiets
+use Rattle.walk.proofs.ListTurns as turning
+use Rattle.walk.proofs.RootTold as told
+use Rattle.walk.proofs.Lookups.{denied, undenied}
+use Rattle.emit.proofs.Looping as looping
+use Rattle.pattern.proofs.CountsFit.{limited_below}
+use Rattle.emit.proofs.Assigning as assigning
+use Rattle.emit.proofs.MovedPatterns as moving
+use Rattle.emit.proofs.Bodying as bodying
+use Rattle.emit.proofs.Finding as finding
+use Rattle.emit.proofs.Declaring as declaring
+use Rattle.pattern.proofs.SourceReads as reading
+use Rattle.pattern.specs.Source.{read_of}
+use Rattle.emit.proofs.add as add
+use Rattle.emit.proofs.ta as ta
+use Rattle.emit.proofs.ar as ar
+use Rattle.emit.proofs.ag as ag
+use Rattle.emit.proofs.an as an
+use Rattle.emit.proofs.ba as ba
+use Rattle.emit.proofs.bi as bi
+use Rattle.emit.proofs.bl as bl
+use Rattle.emit.proofs.body as body
+use Rattle.emit.proofs.ca as ca
+use Rattle.emit.proofs.da as da
+use Rattle.emit.proofs.decl as decl
+use Rattle.emit.proofs.deep as deep
+use Rattle.emit.proofs.dh as dh
+use Rattle.emit.proofs.db as db
+use Rattle.emit.proofs.dr as dr
+use Rattle.emit.proofs.eb as eb
+use Rattle.emit.proofs.ek as ek
+use Rattle.emit.proofs.fs as fs
+use Rattle.emit.proofs.fb as fb
+use Rattle.emit.proofs.fun as fun
+use Rattle.emit.proofs.gv as gv
+use Rattle.emit.proofs.go as go
+use Rattle.emit.proofs.head as head
+use Rattle.emit.proofs.item as item
+use Rattle.emit.proofs.items as items
+use Rattle.emit.proofs.key as key
+use Rattle.emit.proofs.keys as keys
+use Rattle.emit.proofs.kv as kv
+use Rattle.emit.proofs.lit as lit
+use Rattle.emit.proofs.lo as lo
+use Rattle.emit.proofs.mv as mv
+use Rattle.emit.proofs.node as node
+use Rattle.emit.proofs.ns as ns
+use Rattle.emit.proofs.oa as oa
+use Rattle.emit.proofs.os as os
+use Rattle.emit.proofs.own as own
+use Rattle.emit.proofs.pa as pa
+use Rattle.emit.proofs.plain as plain
+use Rattle.emit.proofs.pr as pr
+use Rattle.emit.proofs.prop as prop
+use Rattle.emit.proofs.pt as pt
+use Rattle.emit.proofs.ps as ps
+use Rattle.emit.proofs.read as read
+use Rattle.emit.proofs.rest as rest
+use Rattle.emit.proofs.seq as seq
+use Rattle.emit.proofs.slot as slot
+use Rattle.emit.proofs.tb as tb
+use Rattle.emit.proofs.tg as tg
+use Rattle.emit.proofs.th as th
+use Rattle.emit.proofs.top as top
+use Rattle.emit.proofs.turn as turn
+use Rattle.emit.proofs.vl as vl
+use Rattle.emit.proofs.va as va
+use Rattle.emit.proofs.view as view
+use Rattle.emit.proofs.vo as vo
+use Rattle.emit.proofs.+add_ag_an_ar_ba_bi_bl_body_ca_da_db_decl_deep_dh_dr_eb_ek_fb_fs_fun_go_gv_head_item_items_key_keys_kv_lit_lo_mv_node_ns_oa_os_own_pa_plain_pr_prop_ps_pt_read_rest_seq_slot_ta_tb_tg_th_top_turn_va_view_vl_vo as cycle
+use Rattle.emit.proofs.+add_ag_an_ar_ba_bi_bl_body_ca_da_db_decl_deep_dh_dr_eb_ek_fb_fs_fun_go_gv_head_item_items_key_keys_kv_lit_lo_mv_node_ns_oa_os_own_pa_plain_pr_prop_ps_pt_read_rest_seq_slot_ta_tb_tg_th_top_turn_va_view_vl_vo.Given as goal
+
+abbrev rank-of : views.View → ℕ
+rank-of Replacing = 1
+rank-of Taking = 0
+
+abbrev pub invariant-fs-loop-r : goal.invariant-fs-loop-r
+invariant-fs-loop-r l = (length l.out ≡ length l.initial.out) × (length l.list ≡ length l.initial.list) × (length l.work ≡ length l.initial.work) × ((look_fields l.t (look_node l.t l.c.left) (fields_in_of l.r) l.m l.v.at).next ≡ (look_fields l.t (look_node l.t l.c.left) (fields_in_of l.row) l.map l.initial.v.at).next) × (GoodFields l.t (look_node l.t l.c.left) (Good l.t l.c.left) l.l (fields_in_of l.row) l.map l.initial.v.at → GoodFields l.t (look_node l.t l.c.left) (Good l.t l.c.left) l.l (fields_in_of l.r) l.m l.v.at × law.Onto (going_of l.initial.out l.initial.list l.initial.work l.initial.v) (going_of l.out l.list l.work l.v) (emits_fields l.l (place_of l.c) (look_fields l.t (look_node l.t l.c.left) (fields_in_of l.r) l.m l.v.at).value) (emits_fields l.l (place_of l.c) (look_fields l.t (look_node l.t l.c.left) (fields_in_of l.row) l.map l.initial.v.at).value))
+
+abbrev pub decreases-fs-loop-r : goal.decreases-fs-loop-r
+decreases-fs-loop-r l = l.r
+
+abbrev pub invariant-items-loop-n : goal.invariant-items-loop-n
+invariant-items-loop-n l = (length l.out ≡ length l.initial.out) × (length l.list ≡ length l.initial.list) × (length l.work ≡ length l.initial.work) × ((look_items l.t (look_node l.t l.c.left) l.holes l.n l.v.at).next ≡ (look_items l.t (look_node l.t l.c.left) l.holes l.count l.initial.v.at).next) × (GoodItems l.t (look_node l.t l.c.left) (Good l.t l.c.left) l.l l.holes l.count l.initial.v.at → GoodItems l.t (look_node l.t l.c.left) (Good l.t l.c.left) l.l l.holes l.n l.v.at × law.Onto (going_of l.initial.out l.initial.list l.initial.work l.initial.v) (going_of l.out l.list l.work l.v) (emits_items l.l (place_of l.c) (look_items l.t (look_node l.t l.c.left) l.holes l.n l.v.at).value) (emits_items l.l (place_of l.c) (look_items l.t (look_node l.t l.c.left) l.holes l.count l.initial.v.at).value))
+
+abbrev pub decreases-items-loop-n : goal.decreases-items-loop-n
+decreases-items-loop-n l = l.n
+
+abbrev pub invariant-ps-loop-n : goal.invariant-ps-loop-n
+invariant-ps-loop-n l = (length l.out ≡ length l.initial.out) × (length l.list ≡ length l.initial.list) × (length l.work ≡ length l.initial.work) × ((look_items l.t (look_node l.t l.c.left) false l.n l.v.at).next ≡ (look_items l.t (look_node l.t l.c.left) false l.count l.initial.v.at).next) × (l.count < 65536 → GoodItems l.t (look_node l.t l.c.left) (Good l.t l.c.left) false false l.count l.initial.v.at → GoodItems l.t (look_node l.t l.c.left) (Good l.t l.c.left) false false l.n l.v.at × law.Onto (going_of l.initial.out l.initial.list l.initial.work l.initial.v) (going_of l.out l.list l.work l.v) (literals.parts (place_of l.c) (look_items l.t (look_node l.t l.c.left) false l.n l.v.at).value) (literals.parts (place_of l.c) (look_items l.t (look_node l.t l.c.left) false l.count l.initial.v.at).value)) × (l.n ≤ l.count)
+
+abbrev pub decreases-ps-loop-n : goal.decreases-ps-loop-n
+decreases-ps-loop-n l = l.n
+
+abbrev pub invariant-seq-loop-n : goal.invariant-seq-loop-n
+invariant-seq-loop-n l = (length l.out ≡ length l.initial.out) × (length l.list ≡ length l.initial.list) × (length l.work ≡ length l.initial.work) × (GoodItems l.t (look_node l.t l.c.left) (Good l.t l.c.left) false l.holes l.count l.initial.v.at → AllSuit l.mode (look_items l.t (look_node l.t l.c.left) l.holes l.count l.initial.v.at).value → turning.Along l.t l.mode (told_place l.mode l.root l.c) l.c.left l.holes l.count l.initial.v.at l.n l.v.at (going_of l.initial.out l.initial.list l.initial.work l.initial.v) (going_of l.out l.list l.work l.v))
+
+abbrev pub decreases-seq-loop-n : goal.decreases-seq-loop-n
+decreases-seq-loop-n l = l.n
+
+abbrev pub decreases-add : goal.decreases-add
+decreases-add l = 131072 * (64 * l.c.left + 36)
+
+abbrev pub decreases-ag : goal.decreases-ag
+decreases-ag l = 131072 * (64 * l.c.left + 19)
+
+abbrev pub decreases-an : goal.decreases-an
+decreases-an l = 131072 * (64 * l.c.left + 42)
+
+abbrev pub decreases-ar : goal.decreases-ar
+decreases-ar l = 131072 * (64 * l.c.left + 19)
+
+abbrev pub decreases-ba : goal.decreases-ba
+decreases-ba l = 131072 * (64 * l.c.left + 38) + l.n
+
+abbrev pub decreases-bi : goal.decreases-bi
+decreases-bi l = 131072 * (64 * l.c.left + 44)
+
+abbrev pub decreases-bl : goal.decreases-bl
+decreases-bl l = 131072 * (64 * l.c.left + 51) + l.n
+
+abbrev pub decreases-body : goal.decreases-body
+decreases-body l = 131072 * (64 * l.c.left + 43) + l.n
+
+abbrev pub decreases-ca : goal.decreases-ca
+decreases-ca l = 131072 * (64 * l.c.left + 19)
+
+abbrev pub decreases-da : goal.decreases-da
+decreases-da l = 131072 * (64 * l.c.left + 32)
+
+abbrev pub decreases-db : goal.decreases-db
+decreases-db l = 131072 * (64 * l.c.left + 32)
+
+abbrev pub decreases-decl : goal.decreases-decl
+decreases-decl l = 131072 * (64 * l.c.left + 19)
+
+abbrev pub decreases-deep : goal.decreases-deep
+decreases-deep l = 131072 * (64 * l.c.left + 33)
+
+abbrev pub decreases-dh : goal.decreases-dh
+decreases-dh l = 131072 * (64 * l.c.left + 18)
+
+abbrev pub decreases-dr : goal.decreases-dr
+decreases-dr l = 131072 * (64 * l.c.left + 44)
+
+abbrev pub decreases-eb : goal.decreases-eb
+decreases-eb l = 131072 * (64 * l.c.left + 44) + l.n
+
+abbrev pub decreases-ek : goal.decreases-ek
+decreases-ek l = 131072 * (64 * l.c.left + 44)
+
+abbrev pub decreases-fb : goal.decreases-fb
+decreases-fb l = 131072 * (64 * l.c.left + 31)
+
+abbrev pub decreases-fs : goal.decreases-fs
+decreases-fs l = 131072 * (64 * l.c.left + 50)
+
+abbrev pub decreases-fun : goal.decreases-fun
+decreases-fun l = 131072 * (64 * l.c.left + 19)
+
+abbrev pub decreases-go : goal.decreases-go
+decreases-go l = 131072 * (64 * l.c.left + 43)
+
+abbrev pub decreases-gv : goal.decreases-gv
+decreases-gv l = 131072 * (64 * l.c.left + 28)
+
+abbrev pub decreases-head : goal.decreases-head
+decreases-head l = 131072 * (64 * l.c.left + 19)
+
+abbrev pub decreases-item : goal.decreases-item
+decreases-item l = 131072 * (64 * l.c.left + 47)
+
+abbrev pub decreases-items : goal.decreases-items
+decreases-items l = 131072 * (64 * l.c.left + 48)
+
+abbrev pub decreases-key : goal.decreases-key
+decreases-key l = 131072 * (64 * l.c.left + 28)
+
+abbrev pub decreases-keys : goal.decreases-keys
+decreases-keys l = 131072 * (64 * l.c.left + 26)
+
+abbrev pub decreases-kv : goal.decreases-kv
+decreases-kv l = 131072 * (64 * l.c.left + 44)
+
+abbrev pub decreases-lit : goal.decreases-lit
+decreases-lit l = 131072 * (64 * l.c.left + 19)
+
+abbrev pub decreases-lo : goal.decreases-lo
+decreases-lo l = 131072 * (64 * l.c.left + 35)
+
+abbrev pub decreases-mv : goal.decreases-mv
+decreases-mv l = 131072 * (64 * l.c.left + 37)
+
+abbrev pub decreases-node : goal.decreases-node
+decreases-node l = 131072 * (64 * l.c.left + 20)
+
+abbrev pub decreases-ns : goal.decreases-ns
+decreases-ns l = 131072 * (64 * l.c.left + (29 + 10 * rank-of l.v))
+
+abbrev pub decreases-oa : goal.decreases-oa
+decreases-oa l = 131072 * (64 * l.c.left + 29)
+
+abbrev pub decreases-os : goal.decreases-os
+decreases-os l = 131072 * (64 * l.c.left + 29)
+
+abbrev pub decreases-own : goal.decreases-own
+decreases-own l = 131072 * (64 * l.c.left + 30)
+
+abbrev pub decreases-pa : goal.decreases-pa
+decreases-pa l = 131072 * (64 * l.c.left + 34)
+
+abbrev pub decreases-plain : goal.decreases-plain
+decreases-plain l = 131072 * (64 * l.c.left + 10)
+
+abbrev pub decreases-pr : goal.decreases-pr
+decreases-pr l = 131072 * (64 * l.c.left + 27)
+
+abbrev pub decreases-prop : goal.decreases-prop
+decreases-prop l = 131072 * (64 * l.c.left + 44)
+
+abbrev pub decreases-ps : goal.decreases-ps
+decreases-ps l = 131072 * (64 * l.c.left + 22)
+
+abbrev pub decreases-pt : goal.decreases-pt
+decreases-pt l = 131072 * (64 * l.c.left + 21)
+
+abbrev pub decreases-read : goal.decreases-read
+decreases-read l = 131072 * (64 * l.c.left + 27)
+
+abbrev pub decreases-rest : goal.decreases-rest
+decreases-rest l = 131072 * (64 * l.c.left + 28)
+
+abbrev pub decreases-seq : goal.decreases-seq
+decreases-seq l = 131072 * (64 * l.c.left + 46)
+
+abbrev pub decreases-slot : goal.decreases-slot
+decreases-slot l = 131072 * (64 * l.c.left + 49)
+
+abbrev pub decreases-ta : goal.decreases-ta
+decreases-ta l = 131072 * (64 * l.c.left + 43)
+
+abbrev pub decreases-tb : goal.decreases-tb
+decreases-tb l = 131072 * (64 * l.c.left + 51)
+
+abbrev pub decreases-tg : goal.decreases-tg
+decreases-tg l = 131072 * (64 * l.c.left + 30)
+
+abbrev pub decreases-th : goal.decreases-th
+decreases-th l = 131072 * (64 * l.c.left + 18)
+
+abbrev pub decreases-top : goal.decreases-top
+decreases-top l = 131072 * (64 * l.c.left + 31)
+
+abbrev pub decreases-turn : goal.decreases-turn
+decreases-turn l = 131072 * (64 * l.c.left + 45)
+
+abbrev pub decreases-va : goal.decreases-va
+decreases-va l = 131072 * (64 * l.c.left + 26)
+
+abbrev pub decreases-view : goal.decreases-view
+decreases-view l = 131072 * (64 * l.c.left + 27)
+
+abbrev pub decreases-vl : goal.decreases-vl
+decreases-vl l = 131072 * (64 * l.c.left + 44)
+
+abbrev pub decreases-vo : goal.decreases-vo
+decreases-vo l = 131072 * (64 * l.c.left + 26)

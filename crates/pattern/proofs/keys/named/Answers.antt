@@ -1,0 +1,27 @@
+use mathlib.Core.Path.{sym, ap}
+use Rattle.pattern.specs.declared.parts.Part.{Part}
+use Rattle.pattern.specs.Parts.{part_values}
+use Rattle.pattern.specs.Keys.{name_in_of}
+use borrow.Author.Rules.{rules}
+use Rattle.pattern.proofs.KeyCases.{keyed_by}
+use Rattle.pattern.proofs.keys.named.Goals as goal
+
+pub returns-in-Text : goal.returns-in-Text
+unfolding name_in_of
+returns-in-Text c = keyed_by (ap (λ (x : Part). name_in_of (part_values x)) (sym c.in-Text.is))
+
+pub returns-in-One : goal.returns-in-One
+unfolding name_in_of
+returns-in-One c = keyed_by (ap (λ (x : Part). name_in_of (part_values x)) (sym c.in-One.is))
+
+pub returns-in-Many : goal.returns-in-Many
+unfolding name_in_of
+returns-in-Many c = keyed_by (ap (λ (x : Part). name_in_of (part_values x)) (sym c.in-Many.is))
+
+pub returns-in-Number : goal.returns-in-Number
+unfolding name_in_of
+returns-in-Number c = keyed_by (ap (λ (x : Part). name_in_of (part_values x)) (sym c.in-Number.is))
+
+pub returns-in-Missing : goal.returns-in-Missing
+unfolding name_in_of
+returns-in-Missing c = keyed_by (ap (λ (x : Part). name_in_of (part_values x)) (sym c.in-Missing.is))

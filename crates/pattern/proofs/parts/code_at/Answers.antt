@@ -1,0 +1,12 @@
+use mathlib.Core.Path.{◌≡◌, refl, ◌∙◌}
+use native.Mathlib.Omega.{arith}
+use Rattle.pattern.proofs.Fields as law
+use Rattle.tree.specs.Rows.{fields_in_of}
+use Rattle.pattern.specs.Parts.{sort_at}
+use Rattle.pattern.proofs.parts.code_at.Goals as goal
+
+pub loop-n-preserved : goal.loop-n-preserved
+loop-n-preserved c = law.code_more _ _ c.loop-n-test.true ∙ c.loop-n.invariant
+
+pub returns : goal.returns
+returns c = law.code_end _ _ c.loop-n-test.false ∙ c.loop-n.invariant

@@ -1,0 +1,13 @@
+use mathlib.Core.Path.{◌≡◌, ◌∙◌}
+use native.Mathlib.Omega.{arith}
+use Rattle.pattern.proofs.Fields as law
+use Rattle.tree.specs.Rows.{fields_in_of}
+use Rattle.tree.specs.Look.{look_node}
+use Rattle.lowering.specs.Parts.{stands}
+use Rattle.pattern.proofs.parts.stands.Given as goal
+
+abbrev pub invariant-loop-n : goal.invariant-loop-n
+invariant-loop-n l = law.stands_by l.tree (fields_in_of l.r) l.m l.n ≡ stands l.i (look_node l.tree l.left l.at).value
+
+abbrev pub decreases-loop-n : goal.decreases-loop-n
+decreases-loop-n l = l.n

@@ -1,0 +1,5 @@
+use Rattle.pattern.proofs.CappedSums as law
+use Rattle.pattern.proofs.tally.both.Goals as goal
+
+pub returns : goal.returns
+returns c = law.both_made _ _ _ c.plus.ensures c.plus-2.ensures c.plus-3.ensures c.first.ensures c.plus-4.ensures c.plus-5.ensures

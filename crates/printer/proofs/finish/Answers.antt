@@ -1,0 +1,10 @@
+use Rattle.printer.proofs.PrintingEntry as law
+use borrow.Author.Tests.{lt-ltb, le-ltb}
+use borrow.Author.Rules.{rules}
+use Rattle.printer.proofs.finish.Goals as goal
+
+pub returns-then-text-spot : goal.returns-then-text-spot
+returns-then-text-spot c = λ size bs s w. law.finish_over c.args.text.now c.args.spot size bs s w _ (lt-ltb _ _ c.if-text-spot.true) c.clear.ensures.0 c.clear.ensures.1
+
+pub returns : goal.returns
+returns c = λ size bs s w. law.finish_fits c.args.text.now c.args.spot size bs s w (le-ltb _ _ c.if-text-spot.false)

@@ -1,0 +1,8 @@
+use mathlib.Core.Path.{ap, ◌∙◌}
+use Rattle.printer.specs.Places.{lowest, field_in}
+use borrow.Author.Rules.{rules}
+use Rattle.printer.proofs.frame.field_in.Goals as goal
+
+pub returns : goal.returns
+unfolding field_in
+returns c = c.lowest.ensures.0 ∙ ap lowest c.rem_in.ensures

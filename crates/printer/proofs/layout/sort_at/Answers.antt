@@ -1,0 +1,6 @@
+use Rattle.printer.proofs.LayoutNumbers as law
+use borrow.Author.Rules.{rules}
+use Rattle.printer.proofs.layout.sort_at.Goals as goal
+
+pub returns : goal.returns
+returns c = law.past_end c.args.sorts.now _ c.if-i-sorts.false

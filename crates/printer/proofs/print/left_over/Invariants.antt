@@ -1,0 +1,16 @@
+use Rattle.printer.proofs.ArraysHeld as law
+use mathlib.Core.Path.{◌≡◌, refl, sym, ap, ◌∙◌}
+use native.Mathlib.Omega.{arith}
+use Prim.Native.Nat.{◌+◌, ◌-◌}
+use mathlib.Core.List.{List}
+use lib.ListN.{length, drop}
+use Rattle.printer.specs.Stacks.{Buffer, write, buffer_in, held_in}
+use Rattle.printer.specs.Text.{Cell, left_over_of}
+use borrow.Author.Rules.{rules}
+use Rattle.printer.proofs.print.left_over.Given as goal
+
+abbrev pub invariant-loop-i : goal.invariant-loop-i
+invariant-loop-i l = (write (buffer_in l.text l.s) (left_over_of (drop l.i (held_in l.tree l.starts l.count))) ≡ write (buffer_in l.initial.text l.initial.s) (left_over_of (drop l.initial.i (held_in l.tree l.starts l.count)))) × (length l.text ≡ length l.initial.text)
+
+abbrev pub decreases-loop-i : goal.decreases-loop-i
+decreases-loop-i l = l.count - l.i

@@ -1,0 +1,14 @@
+use mathlib.Core.Path.{refl, sym, ◌∙◌}
+use borrow.Author.Tests.{eq-eqb, ne_eqb}
+use Rattle.printer.specs.Places.{number_bytes}
+use Rattle.printer.specs.Stacks.{write}
+use borrow.Author.Rules.{rules}
+use Rattle.printer.proofs.step.number_bytes.Goals as goal
+
+pub returns-then-kind_in-eq20 : goal.returns-then-kind_in-eq20
+unfolding number_bytes
+returns-then-kind_in-eq20 c = c.decimal.ensures ∙ rw (eq-eqb _ _ (sym c.kind_in.ensures ∙ c.if-kind_in-eq20.true)) refl
+
+pub returns : goal.returns
+unfolding number_bytes write
+returns c = rw (ne_eqb _ _ (λ e. c.if-kind_in-eq20.false (c.kind_in.ensures ∙ e))) refl

@@ -1,0 +1,6 @@
+use Rattle.rest_spread.proofs.LoweringEntry as law
+use borrow.Author.Rules.{rules}
+use Rattle.rest_spread.proofs.refuse.Goals as goal
+
+pub returns : goal.returns
+returns c = law.refused_all _ _ _ _ _ _ _ _ c.abandon.ensures

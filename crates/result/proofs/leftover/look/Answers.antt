@@ -1,0 +1,36 @@
+use Rattle.result.proofs.Looking as law
+use Rattle.rewritten.proofs.Pass as pass
+use Rattle.result.specs.Leftover.{leftover}
+use lib.ListN.{length}
+use Prim.Native.Nat.{◌+◌, ◌-◌}
+use mathlib.Core.Path.{◌∙◌}
+use native.Mathlib.Omega.{arith}
+use borrow.Author.Rules.{rules}
+use Rattle.result.proofs.leftover.look.Goals as goal
+
+pub returns-then-tree-gt32768 : goal.returns-then-tree-gt32768
+returns-then-tree-gt32768 c = λ _. law.too_long c.args.tree.now c.if-tree-gt32768.true
+
+pub returns-then-frames-lt16384 : goal.returns-then-frames-lt16384
+returns-then-frames-lt16384 c = λ a. absurd (omega (arith, a, c.if-frames-lt16384.true))
+
+pub loop-e-init : goal.loop-e-init
+loop-e-init c = law.looking_start c.args.tree.now c.args.frames.now c.if-tree-gt32768.false _ c.begin-cursor.ensures
+
+pub loop-e-smaller : goal.loop-e-smaller
+loop-e-smaller c = law.looking_falls _ _ _ _ _ _ _ c.loop-e.invariant _ c.next.ensures.1 c.in-Next.e _ c.in-Next.is
+
+pub loop-e-preserved : goal.loop-e-preserved
+loop-e-preserved c = law.looking_next _ _ _ _ _ _ _ c.loop-e.invariant _ c.next.ensures.1 c.in-Next.e _ c.in-Next.is c.next.ensures.0 _ c.meet-met.ensures
+
+pub returns-then-cursor-tree : goal.returns-then-cursor-tree
+returns-then-cursor-tree c = λ _. law.looking_ends _ _ _ _ _ _ _ c.loop-e.invariant _ c.next.ensures.1 c.in-Done.is c.if-cursor-tree.true
+
+pub returns-in-Done : goal.returns-in-Done
+returns-in-Done c = λ _. law.looking_early _ _ _ _ _ _ _ c.loop-e.invariant _ c.next.ensures.1 c.in-Done.is c.if-cursor-tree.false
+
+pub returns-in-Refused : goal.returns-in-Refused
+returns-in-Refused c = λ _. law.looking_refused _ _ _ _ _ _ _ c.loop-e.invariant _ c.next.ensures.1 c.in-Refused.is
+
+pub returns-in-Full : goal.returns-in-Full
+returns-in-Full c = λ _. absurd (pass.frames_suffice _ _ _ _ _ c.loop-e.invariant.tour _ c.next.ensures.1 c.in-Full.is c.if-tree-gt32768.false c.if-frames-lt16384.false)

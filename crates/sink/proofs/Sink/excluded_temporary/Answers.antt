@@ -1,0 +1,6 @@
+use mathlib.Core.Path.{◌∙◌}
+use Rattle.sink.proofs.WaysOut as law
+use Rattle.sink.proofs.Sink.excluded_temporary.Goals as goal
+
+pub returns : goal.returns
+returns c = λ t l. law.excluded_temporary_is _ _ _ _ _ _ _ c.excluded_at.ensures c.set_cell.ensures (c.excluded4.ensures t l) (c.excluded.ensures t l)

@@ -1,0 +1,6 @@
+use mathlib.Core.Path.{◌∙◌}
+use Rattle.sink.proofs.WaysOut as law
+use Rattle.sink.proofs.Sink.listed_temporary.Goals as goal
+
+pub returns : goal.returns
+returns c = λ t. law.listed_temporary_is _ _ _ _ _ _ _ c.listed_at.ensures c.set_cell.ensures (c.listed4.ensures _ _) (c.listed.ensures _ _)

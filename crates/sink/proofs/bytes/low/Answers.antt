@@ -1,0 +1,8 @@
+use mathlib.Core.Path.{refl}
+use Rattle.sink.specs.Machine.{low}
+use borrow.Author.Rules.{rules}
+use Rattle.sink.proofs.bytes.low.Goals as goal
+
+pub returns : goal.returns
+unfolding low
+returns c = refl

@@ -1,0 +1,12 @@
+use mathlib.Core.Path.{refl, ◌≡◌}
+use Rattle.tree.proofs.Noting as law
+use native.Mathlib.Omega.{arith}
+use Prim.Native.Nat.{◌-◌, ◌≤◌}
+use lib.ListN.{length, take, replicate, length-set}
+use Rattle.tree.proofs.bytes.clear.Given as goal
+
+abbrev pub invariant-loop-i : goal.invariant-loop-i
+invariant-loop-i l = (length l.s ≡ length l.initial.s) × (l.i ≤ length l.s) × (take l.i l.s ≡ replicate l.i 0)
+
+abbrev pub decreases-loop-i : goal.decreases-loop-i
+decreases-loop-i l = length l.s - l.i

@@ -1,0 +1,14 @@
+use borrow.Author.Rules.{rules}
+use Rattle.tree.proofs.Noting as law
+use lib.ListN.{length, take, drop, length-set}
+use native.Mathlib.Omega.{arith}
+use Prim.Native.Nat.{◌-◌, ◌≤◌}
+use mathlib.Core.List.{◌++◌}
+use mathlib.Core.Path.{◌≡◌, refl, ◌∙◌}
+use Rattle.tree.proofs.note.copy_in.Given as goal
+
+abbrev pub invariant-loop-i : goal.invariant-loop-i
+invariant-loop-i l = (length l.room ≡ length l.initial.room) × (l.i ≤ length l.tree) × (l.room ≡ take l.i l.tree ++ drop l.i l.initial.room)
+
+abbrev pub decreases-loop-i : goal.decreases-loop-i
+decreases-loop-i l = length l.tree - l.i

@@ -1,0 +1,67 @@
+use Rattle.lowering.proofs.All.{AllItems}
+use borrow.Author.Rules.{rules}
+use mathlib.Core.Path.{◌≡◌, refl, sym, ◌∙◌}
+use mathlib.Core.Bool.{true, false}
+use mathlib.Core.List.{List}
+use Prim.Native.Nat.{◌+◌, ◌*◌}
+use native.Mathlib.Omega.{arith}
+use lib.ListN.{length}
+use Rattle.tree.specs.Look.{look_items, look_node}
+use Rattle.lowering.specs.Patterns.{value}
+use Rattle.lowering.specs.Parts as parts
+use Rattle.walk.specs.declared.views.View.TheVariants.{Replacing}
+use Rattle.walk.specs.Whole.{GoodItems, Good}
+use Rattle.walk.specs.Run.{going_of}
+use Rattle.walk.specs.Turns.{over_all}
+use Rattle.walk.proofs.Opened.{kind_byte}
+use Rattle.walk.proofs.Emits.{good_none}
+use Rattle.walk.proofs.Hands as law
+use Rattle.walk.proofs.QuietValues as quiets
+use Prim.Native.Nat.{ℕ}
+use Rattle.tree.proofs.Cycle.{at_measure, below_measure}
+use Rattle.walk.proofs.hand.over as over
+use Rattle.walk.proofs.hand.over_array as over_array
+use Rattle.walk.proofs.hand.over_item as over-item
+use Rattle.walk.proofs.hand.over_items as over-items
+use Rattle.walk.proofs.hand.over_object as over_object
+use Rattle.walk.proofs.hand.over_value as over_value
+use Rattle.walk.proofs.hand.over_values as over-values
+use Rattle.walk.proofs.hand.+over_over_array_over_item_over_items_over_object_over_value_over_values as cycle
+use Rattle.walk.proofs.hand.+over_over_array_over_item_over_items_over_object_over_value_over_values.Given as goal
+
+abbrev pub invariant-over_items-loop-n : goal.invariant-over_items-loop-n
+invariant-over_items-loop-n l = (length l.list ≡ length l.initial.list) × (length l.work ≡ length l.initial.work) × (l.u.at ≡ l.initial.u.at)
+    × ((o : List ℕ) → GoodItems l.t (look_node l.t l.left) (Good l.t l.left) false true l.count l.first
+    → law.Left l.t l.left true law.Any (over_all l.mode Replacing) (going_of o l.initial.list l.initial.work l.initial.u) l.count l.first (going_of o l.list l.work l.u) l.n l.p)
+
+abbrev pub decreases-over_items-loop-n : goal.decreases-over_items-loop-n
+decreases-over_items-loop-n l = l.n
+
+abbrev pub invariant-over_values-loop-n : goal.invariant-over_values-loop-n
+invariant-over_values-loop-n l = (length l.list ≡ length l.initial.list) × (length l.work ≡ length l.initial.work) × (l.u.at ≡ l.initial.u.at)
+    × ((o : List ℕ) → GoodItems l.t (look_node l.t l.left) (Good l.t l.left) false false l.count l.first → AllItems (λ q. parts.is 35 q ≡ true) (look_items l.t (look_node l.t l.left) false l.count l.first).value
+    → law.Left l.t l.left false (λ q. parts.is 35 q ≡ true) (λ q. over_all l.mode Replacing (value q)) (going_of o l.initial.list l.initial.work l.initial.u) l.count l.first (going_of o l.list l.work l.u) l.n l.p)
+
+abbrev pub decreases-over_values-loop-n : goal.decreases-over_values-loop-n
+decreases-over_values-loop-n l = l.n
+
+abbrev pub decreases-over : goal.decreases-over
+decreases-over l = 4 * l.left + 3
+
+abbrev pub decreases-over_array : goal.decreases-over_array
+decreases-over_array l = 4 * l.left + 2
+
+abbrev pub decreases-over_item : goal.decreases-over_item
+decreases-over_item l = 4 * l.left + 4
+
+abbrev pub decreases-over_items : goal.decreases-over_items
+decreases-over_items l = 4 * l.left + 5
+
+abbrev pub decreases-over_object : goal.decreases-over_object
+decreases-over_object l = 4 * l.left + 2
+
+abbrev pub decreases-over_value : goal.decreases-over_value
+decreases-over_value l = 4 * l.left
+
+abbrev pub decreases-over_values : goal.decreases-over_values
+decreases-over_values l = 4 * l.left + 1

@@ -1,0 +1,35 @@
+use mathlib.Core.Path.{◌≡◌, refl, ◌∙◌}
+use mathlib.Core.Bool.{true, false}
+use mathlib.Core.List.{List}
+use Prim.Native.Nat.{ℕ}
+use native.Mathlib.Omega.{arith}
+use lib.ListN.{length}
+use Rattle.tree.specs.Look.{look_items, look_node}
+use Rattle.lowering.proofs.All.{AllItems}
+use Rattle.lowering.specs.Parts.{is}
+use Rattle.direct.specs.Handed.{declarator_made}
+use Rattle.walk.specs.Whole.{GoodItems, Good}
+use Rattle.walk.specs.Run.{going_of}
+use Rattle.walk.proofs.Opened.{kind_byte}
+use Rattle.walk.proofs.Hands as law
+use Rattle.walk.proofs.hand.declarators_make.Goals as goal
+
+pub loop-n-init : goal.loop-n-init
+loop-n-init c = (refl, refl, refl, λ o g a. law.left_start _ _ _ _ _ _ _ _ g a)
+
+pub overflow_sub-n : goal.overflow_sub-n
+overflow_sub-n c = omega (arith, c.loop-n-test.true)
+
+pub loop-n-smaller : goal.loop-n-smaller
+loop-n-smaller c = omega (arith, c.loop-n-test.true)
+
+pub loop-n-preserved : goal.loop-n-preserved
+loop-n-preserved c = (
+  omega (arith, c.loop-n.invariant.0, c.declarator_makes-u.auto),
+  omega (arith, c.loop-n.invariant.1, c.declarator_makes-u.auto),
+  c.declarator_makes-u.ensures.0 ∙ c.loop-n.invariant.2,
+  λ o g a. law.solid_more _ _ _ _ _ _ _ _ _ c.loop-n-test.true c.skip-p.ensures (c.loop-n.invariant.3 o g a) (λ x y. c.declarator_makes-u.ensures.1 o x (kind_byte _ _ _ _ x y)),
+)
+
+pub returns : goal.returns
+returns c = (c.loop-n.invariant.2, λ o g a. law.left_end _ _ _ _ _ _ _ _ _ c.loop-n-test.false (c.loop-n.invariant.3 o g a))

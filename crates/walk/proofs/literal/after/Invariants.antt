@@ -1,0 +1,15 @@
+use mathlib.Core.Bool.{false}
+use Rattle.direct.specs.Literals.{mode_after}
+use Rattle.tree.specs.Look.{look_items, look_node}
+use native.Mathlib.Omega.{arith}
+use mathlib.Core.Path.{◌≡◌, refl, ◌∙◌}
+use Rattle.tree.proofs.Skipping as skipping
+use Rattle.walk.proofs.LiteralHeads as law
+use Rattle.walk.proofs.literal.after.Given as goal
+
+abbrev pub invariant-loop-n : goal.invariant-loop-n
+invariant-loop-n l = ((look_items l.t (look_node l.t l.left) false l.n l.p).next ≡ (look_items l.t (look_node l.t l.left) false l.count l.at).next)
+    × (mode_after l.m (look_items l.t (look_node l.t l.left) false l.n l.p).value ≡ mode_after l.mode (look_items l.t (look_node l.t l.left) false l.count l.at).value)
+
+abbrev pub decreases-loop-n : goal.decreases-loop-n
+decreases-loop-n l = l.n

@@ -1,0 +1,6 @@
+use Rattle.walk.proofs.LiteralHeads as law
+use borrow.Author.Rules.{rules}
+use Rattle.walk.proofs.literal.has_first.Goals as goal
+
+pub returns : goal.returns
+returns c = law.first_bit _ _ _ _ c.step.ensures c.peek-map.ensures

@@ -1,0 +1,15 @@
+use Prim.Native.Nat.{◌+◌}
+use mathlib.Core.Bool.{false}
+use Rattle.direct.specs.Literals.{run}
+use borrow.Author.Rules.{rules}
+use Rattle.tree.specs.Look.{look_items, look_node}
+use native.Mathlib.Omega.{arith}
+use mathlib.Core.Path.{◌≡◌, ◌∙◌}
+use Rattle.walk.proofs.LiteralHeads as law
+use Rattle.walk.proofs.literal.run_of.Given as goal
+
+abbrev pub invariant-loop-n : goal.invariant-loop-n
+invariant-loop-n l = (l.k + l.n ≡ l.count) × (l.k + run (look_items l.t (look_node l.t l.left) false l.n l.p).value ≡ run (look_items l.t (look_node l.t l.left) false l.count l.at).value)
+
+abbrev pub decreases-loop-n : goal.decreases-loop-n
+decreases-loop-n l = l.n

@@ -1,0 +1,9 @@
+use Rattle.walk.proofs.SourcesRead as law
+use borrow.Author.Rules.{rules}
+use Rattle.walk.proofs.pieces.source.Goals as goal
+
+pub returns-in-Expression : goal.returns-in-Expression
+returns-in-Expression c = (c.to-u.ensures.1, c.create_read_expression-taken.ensures.1, law.source_copied _ _ _ _ _ _ _ c.create_read_expression-taken.ensures.0 c.in-Expression.is (c.to.ensures.0 _ _ _) c.to.ensures.1 c.skip.ensures (c.copy.ensures.0 _ _) (c.to-u.ensures.0 _ _ _))
+
+pub returns-in-Temporary : goal.returns-in-Temporary
+returns-in-Temporary c = (c.temporary-u.ensures.1, c.create_read_expression-taken.ensures.1, law.source_written _ _ _ _ _ c.create_read_expression-taken.ensures.0 c.in-Temporary.is c.temporary-u.ensures.0)

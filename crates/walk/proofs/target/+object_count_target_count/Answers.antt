@@ -1,0 +1,63 @@
+-- ---- the values of an object
+-- ---- a target
+use mathlib.Core.Bool.{true}
+use mathlib.Core.Logic.{⊎_elim}
+use mathlib.Core.Path.{sym, ◌∙◌}
+use native.Mathlib.Omega.{arith}
+use Rattle.pattern.proofs.NodeParts as places
+use Rattle.pattern.proofs.Searches as search
+use Rattle.walk.specs.Turns.{reach_of}
+use Rattle.walk.proofs.Lookups.{denied, undenied}
+use Rattle.walk.proofs.TargetCounts as law
+use Prim.Native.Nat.{ℕ, ◌+◌, ◌*◌}
+use Rattle.tree.proofs.Cycle.{at_measure, below_measure}
+use Rattle.walk.proofs.target.+object_count_target_count.Goals as goal
+use Rattle.walk.proofs.target.+object_count_target_count.Goals.{else-peek-gt-LAST_EXPRESSION, then-peek-gt-LAST_EXPRESSION}
+
+pub object_count-returns-then-left-eq0 : goal.object_count-returns-then-left-eq0
+object_count-returns-then-left-eq0 t c = law.inside_none _ _ _ _ c.if-left-eq0.true
+
+pub object_count-loop-n-init : goal.object_count-loop-n-init
+object_count-loop-n-init t c = law.values_start _ _ _ _ _ c.list-run.ensures
+
+pub object_count-target_count-requires : goal.object_count-target_count-requires
+object_count-target_count-requires t c = (let h = search.value_falls _ _ _ _ c.if-left-eq0.false c.value-v.ensures in omega (arith, c.requires.0), tt)
+
+pub object_count-loop-n-preserved : goal.object_count-loop-n-preserved
+object_count-loop-n-preserved t c = (elim c.if-peek-gt-LAST_EXPRESSION.branch [ then-peek-gt-LAST_EXPRESSION w ↦ rw w.3 (law.values_more _ _ _ _ _ _ _ _ _ _ _ _ c.loop-n-test.true c.value-v.ensures w.1.ensures c.skip-p.ensures w.2.ensures c.loop-n.invariant) | else-peek-gt-LAST_EXPRESSION w ↦ rw w.1 (law.values_passed _ _ _ _ _ _ _ _ _ _ _ c.loop-n-test.true c.value-v.ensures c.peek.ensures.value w.0.left c.skip-p.ensures c.loop-n.invariant) ])
+
+pub object_count-returns : goal.object_count-returns
+object_count-returns t c = law.values_end _ _ _ _ _ _ _ _ c.loop-n-test.false c.loop-n.invariant
+
+pub target_count-returns-then-left-eq0 : goal.target_count-returns-then-left-eq0
+target_count-returns-then-left-eq0 t c = law.count_none _ _ _ _ c.if-left-eq0.true
+
+pub target_count-returns-then-stands : goal.target_count-returns-then-stands
+target_count-returns-then-stands t c = law.count_found _ _ _ _ _ c.if-left-eq0.false c.peek-kind.ensures.value _ _ c.in-34.is c.stands.ensures c.if-stands.true c.found.ensures
+
+pub target_count-returns-then-not-enters : goal.target_count-returns-then-not-enters
+target_count-returns-then-not-enters t c = law.count_passed _ _ _ _ _ c.if-left-eq0.false c.peek-kind.ensures.value c.in-36.is (denied _ _ c.enters.ensures c.if-not-enters.true)
+
+pub target_count-loop-n-init : goal.target_count-loop-n-init
+target_count-loop-n-init t c = law.items_start _ _ _ _ c.if-left-eq0.false c.peek-kind.ensures.value _ c.in-36.is c.list-run.ensures
+
+pub target_count-target_count-requires : goal.target_count-target_count-requires
+target_count-target_count-requires t c = (let h = places.item_below _ _ _ true _ c.if-left-eq0.false c.item-e.ensures in omega (arith, c.requires.0), tt)
+
+pub target_count-loop-n-preserved : goal.target_count-loop-n-preserved
+target_count-loop-n-preserved t c = law.items_more _ _ _ _ _ _ _ _ _ _ _ c.loop-n-test.true c.item-e.ensures (c.target_count.ensures ∙ law.by_one _) c.skip_item-p.ensures c.plus-k.ensures c.loop-n.invariant
+
+pub target_count-target_count-requires-in-37 : goal.target_count-target_count-requires-in-37
+target_count-target_count-requires-in-37 t c = (let h = places.child_falls _ _ _ 0 _ c.if-left-eq0.false c.child-l.ensures in omega (arith, c.requires.0), tt)
+
+pub target_count-returns-else-stands : goal.target_count-returns-else-stands
+target_count-returns-else-stands t c = law.count_values _ _ _ _ _ c.if-left-eq0.false c.peek-kind.ensures.value _ _ c.in-34.is c.stands.ensures c.if-stands.false (c.object_count.ensures ∙ law.values_object _ _ _ _ (sym c.peek-kind.ensures.value ∙ c.in-34.is))
+
+pub target_count-returns-after-loop-n : goal.target_count-returns-after-loop-n
+target_count-returns-after-loop-n t c = law.count_entered _ _ _ _ _ c.if-left-eq0.false c.peek-kind.ensures.value _ c.in-36.is (undenied _ _ c.enters.ensures c.if-not-enters.false) (law.items_end _ _ _ _ _ _ _ c.loop-n-test.false c.loop-n.invariant)
+
+pub target_count-returns-in-37 : goal.target_count-returns-in-37
+target_count-returns-in-37 t c = law.count_left _ _ _ _ _ c.if-left-eq0.false c.peek-kind.ensures.value _ _ c.in-37.is c.child-l.ensures c.target_count-in-37.ensures
+
+pub target_count-returns-in_default : goal.target_count-returns-in_default
+target_count-returns-in_default t c = law.count_other _ _ _ _ _ c.if-left-eq0.false c.peek-kind.ensures.value c.in_default.in_default-own.rest.0.0.1 c.in_default.in_default-own.rest.0.1 c.in_default.in_default-own.rest.1

@@ -1,0 +1,30 @@
+use mathlib.Core.Bool.{true}
+use mathlib.Core.Logic.{⊎_elim}
+use mathlib.Core.Path.{sym, ◌∙◌}
+use native.Mathlib.Omega.{arith}
+use Rattle.pattern.proofs.NodeParts as places
+use Rattle.pattern.proofs.Searches as search
+use Rattle.walk.specs.Turns.{reach_of}
+use Rattle.walk.proofs.Lookups.{denied, undenied}
+use Rattle.walk.proofs.TargetCounts as law
+use Prim.Native.Nat.{ℕ, ◌+◌, ◌*◌}
+use Rattle.tree.proofs.Cycle.{at_measure, below_measure}
+use Rattle.walk.proofs.target.+object_count_target_count.Given as goal
+
+abbrev pub invariant-object_count-loop-n : goal.invariant-object_count-loop-n
+invariant-object_count-loop-n l = law.ValuesLeft l.t (reach_of l.reach) l.left l.at l.below l.n l.p l.k
+
+abbrev pub decreases-object_count-loop-n : goal.decreases-object_count-loop-n
+decreases-object_count-loop-n l = l.n
+
+abbrev pub invariant-target_count-loop-n : goal.invariant-target_count-loop-n
+invariant-target_count-loop-n l = law.ItemsLeft l.t l.left l.at l.below l.n l.p l.k
+
+abbrev pub decreases-target_count-loop-n : goal.decreases-target_count-loop-n
+decreases-target_count-loop-n l = l.n
+
+abbrev pub decreases-object_count : goal.decreases-object_count
+decreases-object_count l = 2 * l.left
+
+abbrev pub decreases-target_count : goal.decreases-target_count
+decreases-target_count l = 2 * l.left + 1

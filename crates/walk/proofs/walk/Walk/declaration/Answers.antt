@@ -1,0 +1,7 @@
+use Rattle.walk.proofs.SmallSteps as steps
+use mathlib.Core.Path.{refl}
+use borrow.Author.Rules.{rules}
+use Rattle.walk.proofs.walk.Walk.declaration.Goals as goal
+
+pub returns : goal.returns
+returns c = ((λ l w. steps.by_declaration _ _ _ _ _ _ _ _ (c.put2.ensures l w) (c.new_mark.ensures l w) (c.put.ensures l w) (c.put_wide.ensures l w)), refl)

@@ -1,0 +1,7 @@
+use Rattle.walk.proofs.SmallSteps as steps
+use mathlib.Core.Path.{refl}
+use borrow.Author.Rules.{rules}
+use Rattle.walk.proofs.walk.Walk.listed_copy.Goals as goal
+
+pub returns : goal.returns
+returns c = ((λ o w. steps.by_lists _ _ _ _ (c.listed_copy.ensures o w)), refl)
