@@ -125,6 +125,9 @@ add-returns t c = moving.add_kept _ _ _ _ _ _ _ _ _ _ _ _ c.has_nested_object_re
 pub ag-returns-then-has_rest_below_array_rest : goal.ag-returns-then-has_rest_below_array_rest
 ag-returns-then-has_rest_below_array_rest t c = λ k. (c.to.ensures.1 ∙ c.skip.ensures, λ g. assigning.asg_refused _ _ _ _ _ _ c.less-left.ensures c.step-q.ensures _ c.has_rest_below_array_rest.ensures c.if-has_rest_below_array_rest.true (runs_does (c.refuse.ensures.0 _ _)) (c.to.ensures.0 _ _ _) k g)
 
+pub ag-an-requires : goal.ag-an-requires
+ag-an-requires t c = (omega (arith, c.under.ensures.1, assigning.asg_falls _ _ _ _ _ c.less-left.ensures c.has_nested_object_rest.ensures c.if-has_nested_object_rest.true), tt)
+
 pub ag-returns-then-has_nested_object_rest : goal.ag-returns-then-has_nested_object_rest
 ag-returns-then-has_nested_object_rest t c = λ k. (c.to-then-has_nested_object_rest.ensures.1 ∙ c.skip-then-has_nested_object_rest.ensures, λ g. assigning.asg_lowered _ _ _ _ _ _ c.less-left.ensures c.step-q.ensures _ _ _ _ _ _ _ _ c.has_rest_below_array_rest.ensures c.if-has_rest_below_array_rest.false c.has_nested_object_rest.ensures c.if-has_nested_object_rest.true c.skip-v.ensures c.step.ensures c.peek.ensures c.low-op.ensures (told.with_own _ c.under.ensures.0 c.at_root-root.ensures, c.under.ensures.1) c.an.ensures (c.to-then-has_nested_object_rest.ensures.0 _ _ _) k g)
 
@@ -135,19 +138,19 @@ pub an-returns-then-has_second : goal.an-returns-then-has_second
 an-returns-then-has_second t c = assigning.asn_top _ _ _ _ _ _ _ _ _ c.peek.ensures c.if-peek-eq-OBJECT_PATTERN.true c.has_second.ensures c.if-has_second.true c.top.ensures
 
 pub an-returns : goal.an-returns
-an-returns t c = (elim c.if-peek-eq-OBJECT_PATTERN.branch [ then-peek-eq-OBJECT_PATTERN w ↦ assigning.asn_plain _ _ _ _ _ _ _ _ _ c.peek.ensures w.0.taken w.1.ensures w.2.left c.ns.ensures | else-peek-eq-OBJECT_PATTERN w ↦ assigning.asn_other _ _ _ _ _ _ _ _ c.peek.ensures w.left c.ns.ensures ])
+an-returns t c = (elim c.if-peek-eq-OBJECT_PATTERN.branch [ then-peek-eq-OBJECT_PATTERN w ↦ assigning.asn_plain _ _ _ _ _ _ _ _ _ c.peek.ensures w.if-peek-eq-OBJECT_PATTERN.true w.has_second.ensures w.if-has_second.false c.ns.ensures | else-peek-eq-OBJECT_PATTERN w ↦ assigning.asn_other _ _ _ _ _ _ _ _ c.peek.ensures w.if-peek-eq-OBJECT_PATTERN.false c.ns.ensures ])
 
 pub ar-seq-u-requires : goal.ar-seq-u-requires
 ar-seq-u-requires t c = let z : 0 < c.args.c.left = moving.moved_levels _ _ _ _ _ c.any_moved.ensures c.if-any_moved.true in
-    (omega (arith, z, c.requires.0, c.less-left.ensures, c.scoped-d.ensures.1), tt)
+    (omega (arith, z, c.less-left.ensures, c.scoped-d.ensures.1), tt)
 
 pub ar-slot-u-requires : goal.ar-slot-u-requires
 ar-slot-u-requires t c = let z : 0 < c.args.c.left = moving.moved_levels _ _ _ _ _ c.any_moved.ensures c.if-any_moved.true in
-    (omega (arith, z, c.requires.0, c.less-left.ensures, c.scoped-d.ensures.1), tt)
+    (omega (arith, z, c.less-left.ensures, c.scoped-d.ensures.1), tt)
 
 pub ar-eb-requires : goal.ar-eb-requires
 ar-eb-requires t c = let z : 0 < c.args.c.left = moving.moved_levels _ _ _ _ _ c.any_moved.ensures c.if-any_moved.true in
-    (omega (arith, z, c.requires.0, c.less-left.ensures, c.scoped-d.ensures.1, c.wide_at-n.ensures.bound), tt)
+    (omega (arith, z, c.less-left.ensures, c.scoped-d.ensures.1, c.wide_at-n.ensures.bound), tt)
 
 pub ar-returns-then-any_moved : goal.ar-returns-then-any_moved
 ar-returns-then-any_moved t c = bodying.arrow_moved _ _ _ _ _ _ _ _ _ _ _ _ _ _ _ _ _ _ _ c.any_moved.ensures c.if-any_moved.true c.less-left.ensures c.scoped-d.ensures.0 c.scoped-d.ensures.1 c.step-q.ensures c.wide_at-n.ensures c.step-first.ensures c.moves_make.ensures.0 (c.moves_make.ensures.1 _ _) c.copy-u.ensures.1 (runs_does (c.copy-u.ensures.0 _ _)) (told.items_own _ _ _ _ _ _ _ _ _ _ _ told.untold_binding c.seq-u.ensures) c.second.ensures c.slot-u.ensures c.eb.ensures (c.to.ensures.0 _ _ _) c.skip.ensures c.to.ensures.1
@@ -175,11 +178,11 @@ ba-returns t c = moving.back_halves _ _ _ _ _ _ _ c.skip_items-mid.ensures c.ba-
 
 pub bi-go-u-requires : goal.bi-go-u-requires
 bi-go-u-requires t c = let z : 0 < c.less-left.result = moving.rest_levels _ _ _ _ c.has_nested_object_rest.ensures c.if-has_nested_object_rest.true in
-    (omega (arith, z, c.requires.0, c.less-left.ensures, c.inside.ensures.1), tt)
+    (omega (arith, z, c.less-left.ensures, c.inside.ensures.1), tt)
 
 pub bi-slot-requires : goal.bi-slot-requires
 bi-slot-requires t c = let z : 0 < c.less-left.result = moving.rest_levels _ _ _ _ c.has_nested_object_rest.ensures c.if-has_nested_object_rest.true in
-    (omega (arith, z, c.requires.0, c.less-left.ensures, c.inside-then-has_nested_object_rest.ensures.1), tt)
+    (omega (arith, z, c.less-left.ensures, c.inside-then-has_nested_object_rest.ensures.1), tt)
 
 pub bi-returns-then-has_nested_object_rest : goal.bi-returns-then-has_nested_object_rest
 bi-returns-then-has_nested_object_rest t c = moving.bind_moved _ _ _ _ _ _ _ _ _ _ _ _ _ _ _ c.less-left.ensures c.step-q.ensures c.has_nested_object_rest.ensures c.if-has_nested_object_rest.true c.copy.ensures.1 (runs_does (c.copy.ensures.0 _ _)) c.inside.ensures.0 c.inside.ensures.1 c.go-u.ensures c.inside-then-has_nested_object_rest.ensures.0 c.inside-then-has_nested_object_rest.ensures.1 c.second.ensures c.slot.ensures
@@ -210,6 +213,12 @@ body-overflow_add-k t c = let z : c.moved_in-more.result ≤ 65536 = limited_bel
 
 pub body-returns : goal.body-returns
 body-returns t c = bodying.body_done _ _ _ _ _ _ _ _ _ _ _ _ _ _ _ _ _ _ c.less-left.ensures c.moved_in-more.ensures c.scoped-d.ensures.0 c.scoped-d.ensures.1 c.step.ensures c.copy.ensures.1 (runs_does (c.copy.ensures.0 _ _)) c.first_bit.ensures c.slot-u.ensures c.wide_at-k.ensures (steps.does_wide _ (c.wide.ensures.0 _ _)) c.ba-u.ensures (c.to.ensures.0 _ _ _) c.step-2.ensures c.to.ensures.1 c.items.ensures
+
+pub ca-seq-u-requires : goal.ca-seq-u-requires
+ca-seq-u-requires t c = (omega (arith, c.scoped-d.ensures.1, c.less-left.ensures, looping.moved_level _ _ _ _ c.is_moved.ensures c.if-is_moved.true), tt)
+
+pub ca-bl-requires : goal.ca-bl-requires
+ca-bl-requires t c = (omega (arith, c.scoped-d.ensures.1, c.less-left.ensures, looping.moved_level _ _ _ _ c.is_moved.ensures c.if-is_moved.true), tt)
 
 pub ca-returns-then-is_moved : goal.ca-returns-then-is_moved
 ca-returns-then-is_moved t c = looping.catch_moves _ _ _ _ _ _ _ _ _ _ _ _ _ _ _ _ c.less-left.ensures c.step-q.ensures c.has_first.ensures c.if-has_first.true c.is_moved.ensures c.if-is_moved.true c.scoped-d.ensures.0 c.scoped-d.ensures.1 c.moves_make.ensures.0 c.copy-u.ensures.1 c.skip.ensures c.to.ensures.1 (c.to.ensures.0 _ _ _) (c.moves_make.ensures.1 _ _) (runs_does (c.copy-u.ensures.0 _ _)) (told.items_own _ _ _ _ _ _ _ _ _ _ _ told.untold_binding c.seq-u.ensures) c.bl.ensures
@@ -321,9 +330,9 @@ fs-loop-r-smaller t c = omega (arith, c.loop-r-test.true)
 
 pub fs-loop-r-preserved : goal.fs-loop-r-preserved
 fs-loop-r-preserved t c = (
-  omega (arith, c.loop-r.invariant.0, c.slot-v.auto),
-  omega (arith, c.loop-r.invariant.1, c.slot-v.auto),
-  omega (arith, c.loop-r.invariant.2, c.slot-v.auto),
+  omega (arith, c.loop-r.invariant.0, c.slot-v.auto.out),
+  omega (arith, c.loop-r.invariant.1, c.slot-v.auto.list),
+  omega (arith, c.loop-r.invariant.2, c.slot-v.auto.work),
   skipping.fields_more _ _ _ _ _ _ c.loop-r-test.true c.slot-v.ensures.0 ∙ c.loop-r.invariant.3,
   λ g.
       let y = c.loop-r.invariant.4 g in (
@@ -337,25 +346,25 @@ fs-returns t c = (skipping.fields_end _ _ _ _ _ c.loop-r-test.false ∙ c.loop-r
 
 pub fun-slot-requires : goal.fun-slot-requires
 fun-slot-requires t c = let z : 0 < c.args.c.left = moving.moved_levels _ _ _ _ _ c.any_moved.ensures c.if-any_moved.true in
-    (omega (arith, z, c.requires.0, c.less-left.ensures, c.scoped-d.ensures.1), tt)
+    (omega (arith, z, c.less-left.ensures, c.scoped-d.ensures.1), tt)
 
 pub fun-seq-u-requires : goal.fun-seq-u-requires
 fun-seq-u-requires t c = let z : 0 < c.args.c.left = moving.moved_levels _ _ _ _ _ c.any_moved.ensures c.if-any_moved.true in
-    (omega (arith, z, c.requires.0, c.less-left.ensures, c.scoped-d.ensures.1), tt)
+    (omega (arith, z, c.less-left.ensures, c.scoped-d.ensures.1), tt)
 
 pub fun-slot-u-requires : goal.fun-slot-u-requires
 fun-slot-u-requires t c = let z : 0 < c.args.c.left = moving.moved_levels _ _ _ _ _ c.any_moved.ensures c.if-any_moved.true in
-    (omega (arith, z, c.requires.0, c.less-left.ensures, c.scoped-d.ensures.1), tt)
+    (omega (arith, z, c.less-left.ensures, c.scoped-d.ensures.1), tt)
 
 pub fun-body-requires : goal.fun-body-requires
 fun-body-requires t c = let z : 0 < c.args.c.left = moving.moved_levels _ _ _ _ _ c.any_moved.ensures c.if-any_moved.true in
-    (omega (arith, z, c.requires.0, c.less-left.ensures, c.scoped-d.ensures.1, c.wide_at-n.ensures.bound), tt)
+    (omega (arith, z, c.less-left.ensures, c.scoped-d.ensures.1, c.wide_at-n.ensures.bound), tt)
 
 pub fun-returns-then-stands : goal.fun-returns-then-stands
 fun-returns-then-stands t c = bodying.function_moved _ _ _ _ _ _ _ _ _ _ _ _ _ _ _ _ _ _ _ _ _ _ _ _ c.any_moved.ensures c.if-any_moved.true c.stands.ensures c.if-stands.true c.less-left.ensures c.scoped-d.ensures.0 c.scoped-d.ensures.1 c.step-q.ensures c.step.ensures c.peek-bits.ensures c.skip_slot-s.ensures c.wide_at-n.ensures c.step-first.ensures c.moves_make.ensures.0 (c.moves_make.ensures.1 _ _) c.copy-u.ensures.1 (runs_does (c.copy-u.ensures.0 _ _)) c.slot.ensures c.copy-u-then-stands.ensures.1 (runs_does (c.copy-u-then-stands.ensures.0 _ _)) (told.items_own _ _ _ _ _ _ _ _ _ _ _ told.untold_binding c.seq-u.ensures) c.slot-u.ensures c.body.ensures (c.to.ensures.0 _ _ _) c.skip.ensures c.to.ensures.1
 
 pub fun-returns : goal.fun-returns
-fun-returns t c = bodying.function_plain _ _ _ _ _ (elim c.if-any_moved.branch [ then-any_moved w ↦ bodying.bodiless _ _ _ _ w.1.ensures w.2.left | else-any_moved w ↦ bodying.unmoved _ _ _ _ c.any_moved.ensures w.left ]) c.plain.ensures
+fun-returns t c = bodying.function_plain _ _ _ _ _ (elim c.if-any_moved.branch [ then-any_moved+else-stands w ↦ bodying.bodiless _ _ _ _ w.stands.ensures w.if-stands.false | else-any_moved w ↦ bodying.unmoved _ _ _ _ c.any_moved.ensures w.if-any_moved.false ]) c.plain.ensures
 
 pub go-returns-then-c-eq0 : goal.go-returns-then-c-eq0
 go-returns-then-c-eq0 t c = λ good. law.good_none _ _ _ c.if-c-eq0.true good
@@ -400,11 +409,11 @@ pub item-returns-then-peek-eq0 : goal.item-returns-then-peek-eq0
 item-returns-then-peek-eq0 t c = (c.copy.ensures.1 ∙ c.step.ensures ∙ skipping.item_hole _ _ _ _ _ c.if-holes.true c.peek.ensures c.if-peek-eq0.true, law.hole_does _ _ _ _ _ _ _ _ (law.is_hole _ _ _ _ c.if-holes.true c.peek.ensures c.if-peek-eq0.true) c.step.ensures (runs_does (c.copy.ensures.0 _ _)))
 
 pub item-returns-then-l : goal.item-returns-then-l
-item-returns-then-l t c = let e : hole_at _ _ _ ≡ false = (elim c.if-holes.branch [ then-holes w ↦ law.no_hole _ _ _ _ w.0.taken w.1.ensures w.2.left | else-holes w ↦ law.full _ _ _ w.left ]) in
+item-returns-then-l t c = let e : hole_at _ _ _ ≡ false = (elim c.if-holes.branch [ then-holes+else-peek-eq0 w ↦ law.no_hole _ _ _ _ w.if-holes.true w.peek.ensures w.if-peek-eq0.false | else-holes w ↦ law.full _ _ _ w.if-holes.false ]) in
     (law.deeper_next _ _ _ _ _ c.marked.ensures.1 c.node.ensures.0 ∙ law.item_next _ _ _ _ e, law.statement_does _ _ _ _ _ _ _ _ _ _ e c.if-l.true c.step-then-l.ensures c.wide_at.ensures c.marked.ensures.0 (law.deeper _ _ _ _ _ c.marked.ensures.1 c.node.ensures.1))
 
 pub item-returns : goal.item-returns
-item-returns t c = let e : hole_at _ _ _ ≡ false = (elim c.if-holes.branch [ then-holes w ↦ law.no_hole _ _ _ _ w.0.taken w.1.ensures w.2.left | else-holes w ↦ law.full _ _ _ w.left ]) in
+item-returns t c = let e : hole_at _ _ _ ≡ false = (elim c.if-holes.branch [ then-holes+else-peek-eq0 w ↦ law.no_hole _ _ _ _ w.if-holes.true w.peek.ensures w.if-peek-eq0.false | else-holes w ↦ law.full _ _ _ w.if-holes.false ]) in
     (c.node-2.ensures.0 ∙ law.item_next _ _ _ _ e, law.node_does _ _ _ _ _ _ _ e c.if-l.false c.node-2.ensures.1)
 
 pub items-loop-n-init : goal.items-loop-n-init
@@ -418,9 +427,9 @@ items-loop-n-smaller t c = omega (arith, c.loop-n-test.true)
 
 pub items-loop-n-preserved : goal.items-loop-n-preserved
 items-loop-n-preserved t c = (
-  omega (arith, c.loop-n.invariant.0, c.item-v.auto),
-  omega (arith, c.loop-n.invariant.1, c.item-v.auto),
-  omega (arith, c.loop-n.invariant.2, c.item-v.auto),
+  omega (arith, c.loop-n.invariant.0, c.item-v.auto.out),
+  omega (arith, c.loop-n.invariant.1, c.item-v.auto.list),
+  omega (arith, c.loop-n.invariant.2, c.item-v.auto.work),
   skipping.items_more _ _ _ _ _ _ c.loop-n-test.true c.item-v.ensures.0 ∙ c.loop-n.invariant.3,
   λ g.
       let y = c.loop-n.invariant.4 g in (
@@ -436,7 +445,7 @@ pub key-returns-then-is_other : goal.key-returns-then-is_other
 key-returns-then-is_other t c = viewing.key_cell _ _ _ _ _ _ _ _ _ c.if-taken.true c.is_other.ensures c.if-is_other.true c.skip.ensures c.to.ensures.1 (c.to.ensures.0 _ _ _) (runs_does c.temporary.ensures.0)
 
 pub key-returns : goal.key-returns
-key-returns t c = viewing.key_node_lem _ _ _ _ _ _ _ (elim c.if-taken.branch [ then-taken w ↦ λ h. sym w.1.ensures ∙ w.2.left | else-taken w ↦ λ h. absurd (false≢true (sym w.left ∙ h)) ]) c.node.ensures
+key-returns t c = viewing.key_node_lem _ _ _ _ _ _ _ (elim c.if-taken.branch [ then-taken w ↦ λ h. sym w.is_other.ensures ∙ w.if-is_other.false | else-taken w ↦ λ h. absurd (false≢true (sym w.if-taken.false ∙ h)) ]) c.node.ensures
 
 pub keys-returns-then-c-eq0 : goal.keys-returns-then-c-eq0
 keys-returns-then-c-eq0 t c = (refl, λ good h. law.good_none _ _ _ c.if-c-eq0.true good)
@@ -449,6 +458,9 @@ kv-returns-then-is_other t c = excluding.key_value _ _ _ _ _ _ _ _ _ _ _ _ _ c.l
 
 pub kv-returns : goal.kv-returns
 kv-returns t c = excluding.key_plain _ _ _ _ _ _ _ _ _ c.less-left.ensures c.step-k.ensures c.skip-end.ensures c.to-2.ensures.1 (c.to-2.ensures.0 _ _ _) c.is_other.ensures c.if-is_other.false
+
+pub lit-ps-requires : goal.lit-ps-requires
+lit-ps-requires t c = (omega (arith, c.inside.ensures.1, c.less-left.ensures, heads.spread_levels _ _ _ (sym c.has_spread.ensures ∙ c.if-has_spread.true)), tt)
 
 pub lit-returns-then-has_spread : goal.lit-returns-then-has_spread
 lit-returns-then-has_spread t c = λ h. (c.to.ensures.1 ∙ c.skip.ensures, λ good. running.does_to (c.to.ensures.0 _ _ _) (args.object_does _ _ _ _ _ _ _ _ _ _ _ (λ k. c.has_spread.ensures ∙ heads.spread_literal _ _ _ k) c.if-has_spread.true h c.step-q.ensures c.step-first.ensures c.wide_at-n.ensures (c.inside.ensures.1 ∙ c.less-left.ensures) c.to-v.ensures.1 c.inside.ensures.0 (c.to-v.ensures.0 _ _ _) (args.levels _ _ _ _ _ c.inside.ensures.1 (heads.does_opening _ _ _ _ (c.opening.ensures.0 _ _))) c.ps.ensures.1 good))
@@ -590,9 +602,9 @@ ps-loop-n-smaller t c = omega (arith, c.loop-n-test.true)
 
 pub ps-loop-n-preserved : goal.ps-loop-n-preserved
 ps-loop-n-preserved t c = (
-  omega (arith, c.loop-n.invariant.0, c.pt-v.auto),
-  omega (arith, c.loop-n.invariant.1, c.pt-v.auto),
-  omega (arith, c.loop-n.invariant.2, c.pt-v.auto),
+  omega (arith, c.loop-n.invariant.0, c.pt-v.auto.out),
+  omega (arith, c.loop-n.invariant.1, c.pt-v.auto.list),
+  omega (arith, c.loop-n.invariant.2, c.pt-v.auto.work),
   args.items_next _ _ _ _ _ c.loop-n-test.true c.pt-v.ensures.0 ∙ c.loop-n.invariant.3,
   (λ z g.
       let y = c.loop-n.invariant.4 z g in (
@@ -645,7 +657,7 @@ pub seq-loop-n-smaller : goal.seq-loop-n-smaller
 seq-loop-n-smaller t c = omega (arith, c.loop-n-test.true)
 
 pub seq-loop-n-preserved : goal.seq-loop-n-preserved
-seq-loop-n-preserved t c = (omega (arith, c.loop-n.invariant.0, c.turn-v.auto), omega (arith, c.loop-n.invariant.1, c.turn-v.auto), omega (arith, c.loop-n.invariant.2, c.turn-v.auto), λ g a. turning.along_more _ _ _ _ _ _ c.loop-n-test.true c.turn-v.ensures (c.loop-n.invariant.3 g a))
+seq-loop-n-preserved t c = (omega (arith, c.loop-n.invariant.0, c.turn-v.auto.out), omega (arith, c.loop-n.invariant.1, c.turn-v.auto.list), omega (arith, c.loop-n.invariant.2, c.turn-v.auto.work), λ g a. turning.along_more _ _ _ _ _ _ c.loop-n-test.true c.turn-v.ensures (c.loop-n.invariant.3 g a))
 
 pub seq-returns : goal.seq-returns
 seq-returns t c = λ g a. turning.along_end _ _ _ _ _ c.loop-n-test.false (c.loop-n.invariant.3 g a)
@@ -708,31 +720,31 @@ pub turn-returns-then-peek-eq0 : goal.turn-returns-then-peek-eq0
 turn-returns-then-peek-eq0 t c = turning.turned_hole _ _ _ _ _ _ _ _ c.if-holes.true c.peek.ensures c.if-peek-eq0.true c.hole.ensures.0 (sources.does_hole _ _ _ (c.hole.ensures.1 _ _))
 
 pub turn-returns-in-Viewed : goal.turn-returns-in-Viewed
-turn-returns-in-Viewed t c = told.item_own _ _ _ _ _ _ _ _ _ _ (ap is_told c.in-Viewed.is ∙ told.untold_viewed) (turning.turned_viewed _ _ _ _ _ _ _ (elim c.if-holes.branch [ then-holes w ↦ law.no_hole _ _ _ _ w.0.taken w.1.ensures w.2.left | else-holes w ↦ law.full _ _ _ w.left ]) c.in-Viewed.is c.view.ensures)
+turn-returns-in-Viewed t c = told.item_own _ _ _ _ _ _ _ _ _ _ (ap is_told c.in-Viewed.is ∙ told.untold_viewed) (turning.turned_viewed _ _ _ _ _ _ _ (elim c.if-holes.branch [ then-holes+else-peek-eq0 w ↦ law.no_hole _ _ _ _ w.if-holes.true w.peek.ensures w.if-peek-eq0.false | else-holes w ↦ law.full _ _ _ w.if-holes.false ]) c.in-Viewed.is c.view.ensures)
 
 pub turn-returns-in-MovedOut : goal.turn-returns-in-MovedOut
-turn-returns-in-MovedOut t c = told.item_own _ _ _ _ _ _ _ _ _ _ (ap is_told c.in-MovedOut.is ∙ told.untold_moved_out) (turning.turned_moved_out _ _ _ _ _ _ _ (elim c.if-holes.branch [ then-holes w ↦ law.no_hole _ _ _ _ w.0.taken w.1.ensures w.2.left | else-holes w ↦ law.full _ _ _ w.left ]) c.in-MovedOut.is c.go.ensures)
+turn-returns-in-MovedOut t c = told.item_own _ _ _ _ _ _ _ _ _ _ (ap is_told c.in-MovedOut.is ∙ told.untold_moved_out) (turning.turned_moved_out _ _ _ _ _ _ _ (elim c.if-holes.branch [ then-holes+else-peek-eq0 w ↦ law.no_hole _ _ _ _ w.if-holes.true w.peek.ensures w.if-peek-eq0.false | else-holes w ↦ law.full _ _ _ w.if-holes.false ]) c.in-MovedOut.is c.go.ensures)
 
 pub turn-returns-in-Below : goal.turn-returns-in-Below
-turn-returns-in-Below t c = told.item_with _ _ _ _ _ _ _ _ _ _ (ap is_told c.in-Below.is ∙ told.told_below _) (turning.turned_below _ _ _ _ _ _ _ (elim c.if-holes.branch [ then-holes w ↦ law.no_hole _ _ _ _ w.0.taken w.1.ensures w.2.left | else-holes w ↦ law.full _ _ _ w.left ]) _ c.in-Below.is c.deep.ensures)
+turn-returns-in-Below t c = told.item_with _ _ _ _ _ _ _ _ _ _ (ap is_told c.in-Below.is ∙ told.told_below _) (turning.turned_below _ _ _ _ _ _ _ (elim c.if-holes.branch [ then-holes+else-peek-eq0 w ↦ law.no_hole _ _ _ _ w.if-holes.true w.peek.ensures w.if-peek-eq0.false | else-holes w ↦ law.full _ _ _ w.if-holes.false ]) _ c.in-Below.is c.deep.ensures)
 
 pub turn-returns-in-Property : goal.turn-returns-in-Property
-turn-returns-in-Property t c = told.item_own _ _ _ _ _ _ _ _ _ _ (ap is_told c.in-Property.is ∙ told.untold_property _) (turning.turned_property _ _ _ _ _ _ _ (elim c.if-holes.branch [ then-holes w ↦ law.no_hole _ _ _ _ w.0.taken w.1.ensures w.2.left | else-holes w ↦ law.full _ _ _ w.left ]) _ c.in-Property.is c.prop.ensures)
+turn-returns-in-Property t c = told.item_own _ _ _ _ _ _ _ _ _ _ (ap is_told c.in-Property.is ∙ told.untold_property _) (turning.turned_property _ _ _ _ _ _ _ (elim c.if-holes.branch [ then-holes+else-peek-eq0 w ↦ law.no_hole _ _ _ _ w.if-holes.true w.peek.ensures w.if-peek-eq0.false | else-holes w ↦ law.full _ _ _ w.if-holes.false ]) _ c.in-Property.is c.prop.ensures)
 
 pub turn-returns-in-ExcludedKey : goal.turn-returns-in-ExcludedKey
-turn-returns-in-ExcludedKey t c = told.item_own _ _ _ _ _ _ _ _ _ _ (ap is_told c.in-ExcludedKey.is ∙ told.untold_excluded_key) (turning.turned_excluded_key _ _ _ _ _ _ _ (elim c.if-holes.branch [ then-holes w ↦ law.no_hole _ _ _ _ w.0.taken w.1.ensures w.2.left | else-holes w ↦ law.full _ _ _ w.left ]) c.in-ExcludedKey.is c.ek.ensures)
+turn-returns-in-ExcludedKey t c = told.item_own _ _ _ _ _ _ _ _ _ _ (ap is_told c.in-ExcludedKey.is ∙ told.untold_excluded_key) (turning.turned_excluded_key _ _ _ _ _ _ _ (elim c.if-holes.branch [ then-holes+else-peek-eq0 w ↦ law.no_hole _ _ _ _ w.if-holes.true w.peek.ensures w.if-peek-eq0.false | else-holes w ↦ law.full _ _ _ w.if-holes.false ]) c.in-ExcludedKey.is c.ek.ensures)
 
 pub turn-returns-in-KeyValue : goal.turn-returns-in-KeyValue
-turn-returns-in-KeyValue t c = told.item_own _ _ _ _ _ _ _ _ _ _ (ap is_told c.in-KeyValue.is ∙ told.untold_key_value) (turning.turned_key_value _ _ _ _ _ _ _ (elim c.if-holes.branch [ then-holes w ↦ law.no_hole _ _ _ _ w.0.taken w.1.ensures w.2.left | else-holes w ↦ law.full _ _ _ w.left ]) c.in-KeyValue.is c.kv.ensures)
+turn-returns-in-KeyValue t c = told.item_own _ _ _ _ _ _ _ _ _ _ (ap is_told c.in-KeyValue.is ∙ told.untold_key_value) (turning.turned_key_value _ _ _ _ _ _ _ (elim c.if-holes.branch [ then-holes+else-peek-eq0 w ↦ law.no_hole _ _ _ _ w.if-holes.true w.peek.ensures w.if-peek-eq0.false | else-holes w ↦ law.full _ _ _ w.if-holes.false ]) c.in-KeyValue.is c.kv.ensures)
 
 pub turn-returns-in-Value : goal.turn-returns-in-Value
-turn-returns-in-Value t c = told.item_with _ _ _ _ _ _ _ _ _ _ (ap is_told c.in-Value.is ∙ told.told_value_lem _) (turning.turned_value _ _ _ _ _ _ _ (elim c.if-holes.branch [ then-holes w ↦ law.no_hole _ _ _ _ w.0.taken w.1.ensures w.2.left | else-holes w ↦ law.full _ _ _ w.left ]) _ c.in-Value.is c.vl.ensures)
+turn-returns-in-Value t c = told.item_with _ _ _ _ _ _ _ _ _ _ (ap is_told c.in-Value.is ∙ told.told_value_lem _) (turning.turned_value _ _ _ _ _ _ _ (elim c.if-holes.branch [ then-holes+else-peek-eq0 w ↦ law.no_hole _ _ _ _ w.if-holes.true w.peek.ensures w.if-peek-eq0.false | else-holes w ↦ law.full _ _ _ w.if-holes.false ]) _ c.in-Value.is c.vl.ensures)
 
 pub turn-returns-in-Declarator : goal.turn-returns-in-Declarator
-turn-returns-in-Declarator t c = told.item_with _ _ _ _ _ _ _ _ _ _ (ap is_told c.in-Declarator.is ∙ told.told_declarator) (turning.turned_declarator _ _ _ _ _ _ _ (elim c.if-holes.branch [ then-holes w ↦ law.no_hole _ _ _ _ w.0.taken w.1.ensures w.2.left | else-holes w ↦ law.full _ _ _ w.left ]) c.in-Declarator.is c.dr.ensures)
+turn-returns-in-Declarator t c = told.item_with _ _ _ _ _ _ _ _ _ _ (ap is_told c.in-Declarator.is ∙ told.told_declarator) (turning.turned_declarator _ _ _ _ _ _ _ (elim c.if-holes.branch [ then-holes+else-peek-eq0 w ↦ law.no_hole _ _ _ _ w.if-holes.true w.peek.ensures w.if-peek-eq0.false | else-holes w ↦ law.full _ _ _ w.if-holes.false ]) c.in-Declarator.is c.dr.ensures)
 
 pub turn-returns-in-Binding : goal.turn-returns-in-Binding
-turn-returns-in-Binding t c = told.item_own _ _ _ _ _ _ _ _ _ _ (ap is_told c.in-Binding.is ∙ told.untold_binding) (turning.turned_binding _ _ _ _ _ _ _ (elim c.if-holes.branch [ then-holes w ↦ law.no_hole _ _ _ _ w.0.taken w.1.ensures w.2.left | else-holes w ↦ law.full _ _ _ w.left ]) c.in-Binding.is c.bi.ensures)
+turn-returns-in-Binding t c = told.item_own _ _ _ _ _ _ _ _ _ _ (ap is_told c.in-Binding.is ∙ told.untold_binding) (turning.turned_binding _ _ _ _ _ _ _ (elim c.if-holes.branch [ then-holes+else-peek-eq0 w ↦ law.no_hole _ _ _ _ w.if-holes.true w.peek.ensures w.if-peek-eq0.false | else-holes w ↦ law.full _ _ _ w.if-holes.false ]) c.in-Binding.is c.bi.ensures)
 
 pub va-returns-then-c-eq0 : goal.va-returns-then-c-eq0
 va-returns-then-c-eq0 t c = λ h good. law.good_none _ _ _ c.if-c-eq0.true good
@@ -771,7 +783,7 @@ pub vo-returns-then-replaces : goal.vo-returns-then-replaces
 vo-returns-then-replaces t c = viewing.object_replaced _ _ _ _ _ _ _ _ _ c.has_second-rest.ensures c.if-rest.true c.replaces.ensures c.if-replaces.true c.skip.ensures c.to.ensures.1 (c.to.ensures.0 _ _ _) (runs_does c.temporary.ensures.0)
 
 pub vo-returns-then-rest-2 : goal.vo-returns-then-rest-2
-vo-returns-then-rest-2 t c = viewing.object_rest_lem _ _ _ _ _ _ _ _ _ _ _ _ _ _ _ _ _ c.has_second-rest.ensures c.if-rest-2.true (elim c.if-rest.branch [ then-rest w ↦ sym w.1.ensures ∙ w.2.left | else-rest w ↦ absurd (false≢true (sym w.left ∙ c.if-rest-2.true)) ]) c.step-q.ensures c.wide_at-n.ensures c.step.ensures c.to-u.ensures.1 c.inside.ensures.0 (c.inside.ensures.1 ∙ c.less-left.ensures) c.less-left.ensures refl (c.to-u.ensures.0 _ _ _) (runs_does (c.put2.ensures.0 _ _)) (steps.does_wide _ (c.wide.ensures.0 _ _)) (told.items_own _ _ _ _ _ _ _ _ _ _ _ (told.untold_property _) c.seq-u.ensures) c.skip-then-rest-2.ensures c.to-then-rest-2.ensures.1 (c.to-then-rest-2.ensures.0 _ _ _)
+vo-returns-then-rest-2 t c = viewing.object_rest_lem _ _ _ _ _ _ _ _ _ _ _ _ _ _ _ _ _ c.has_second-rest.ensures c.if-rest-2.true (elim c.if-rest.branch [ then-rest w ↦ sym w.replaces.ensures ∙ w.if-replaces.false | else-rest w ↦ absurd (false≢true (sym w.if-rest.false ∙ c.if-rest-2.true)) ]) c.step-q.ensures c.wide_at-n.ensures c.step.ensures c.to-u.ensures.1 c.inside.ensures.0 (c.inside.ensures.1 ∙ c.less-left.ensures) c.less-left.ensures refl (c.to-u.ensures.0 _ _ _) (runs_does (c.put2.ensures.0 _ _)) (steps.does_wide _ (c.wide.ensures.0 _ _)) (told.items_own _ _ _ _ _ _ _ _ _ _ _ (told.untold_property _) c.seq-u.ensures) c.skip-then-rest-2.ensures c.to-then-rest-2.ensures.1 (c.to-then-rest-2.ensures.0 _ _ _)
 
 pub vo-returns : goal.vo-returns
 vo-returns t c = viewing.object_plain _ _ _ _ _ _ _ _ _ _ _ _ _ _ c.has_second-rest.ensures c.if-rest-2.false c.step-q.ensures c.wide_at-n.ensures c.step.ensures c.to-u.ensures.1 c.inside.ensures.0 (c.inside.ensures.1 ∙ c.less-left.ensures) refl (c.to-u.ensures.0 _ _ _) (runs_does (c.put2.ensures.0 _ _)) (steps.does_wide _ (c.wide.ensures.0 _ _)) (told.items_own _ _ _ _ _ _ _ _ _ _ _ (told.untold_property _) c.seq-u.ensures)

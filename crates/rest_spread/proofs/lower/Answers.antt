@@ -1,4 +1,3 @@
--- `n` is behind the walk, `b` behind its beginning
 use mathlib.Core.Path.{◌∙◌}
 use native.Mathlib.Omega.{arith}
 use borrow.Author.Rules.{rules}
@@ -13,26 +12,17 @@ pub slice_bounds-begin-end-2 : goal.slice_bounds-begin-end-2
 slice_bounds-begin-end-2 c = prefix_long _ c.args.work.now c.least-cells.ensures
 
 pub returns-then-refusal-gt0 : goal.returns-then-refusal-gt0
-returns-then-refusal-gt0 c = let n = c in
-    let b = n.before.before.before.before.before.before.before.before.before.before in
-    let s = b.before.before.before.before.before.before.before.before in
-    let a = s.before.args in
-    law.ends_refused _ _ a.tree.now a.out.now a.list.now a.work.now _ a.tree.now (λ i. omega (arith, s.shared-slice-known.given i)) _ _ _ _ (begun_twins _ a.work.now b.before.before.before.before.least.ensures _ _ _ _ _ _ _ b.begin.ensures) _ _ _ _ _ n.node.ensures.1 _ _ c.low.ensures c.if-refusal-gt0.true
-    (n.node.auto.1.1.0 ∙ b.begin.auto.0)
-    (n.node.auto.1.1.1.0 ∙ b.begin.auto.1.0)
-    (n.node.auto.1.1.1.1.0 ∙ prefix_kept _ a.work.now b.before.before.before.before.least.ensures b.begin.new.1.1.0 b.begin.auto.1.1.0)
+returns-then-refusal-gt0 c =
+    law.ends_refused _ _ c.args.tree.now c.args.out.now c.args.list.now c.args.work.now _ c.args.tree.now (λ i. omega (arith, c.type_inv.tree i)) _ _ _ _ (begun_twins _ c.args.work.now c.least-cells.ensures _ _ _ _ _ _ _ c.begin-k.ensures) _ _ _ _ _ c.node-v.ensures.1 _ _ c.low.ensures c.if-refusal-gt0.true
+    (c.node-v.auto.out ∙ c.begin-k.auto.out)
+    (c.node-v.auto.list ∙ c.begin-k.auto.list)
+    (c.node-v.auto.work ∙ prefix_kept _ c.args.work.now c.least-cells.ensures c.begin-k.new.work c.begin-k.auto.work)
     c.refuse.ensures
 
 pub returns-then-written : goal.returns-then-written
-returns-then-written c = let n = c in
-    let b = n.before.before.before.before.before.before.before.before.before.before in
-    let s = b.before.before.before.before.before.before.before.before in
-    let a = s.before.args in
-    law.ends_fits _ _ a.tree.now a.out.now a.list.now a.work.now _ a.tree.now (λ i. omega (arith, s.shared-slice-known.given i)) _ _ _ _ (begun_twins _ a.work.now b.before.before.before.before.least.ensures _ _ _ _ _ _ _ b.begin.ensures) _ _ _ _ _ n.node.ensures.1 _ _ _ _ (omega (arith, c.if-refusal-gt0.false)) c.finish-written.ensures c.if-written.true
+returns-then-written c =
+    law.ends_fits _ _ c.args.tree.now c.args.out.now c.args.list.now c.args.work.now _ c.args.tree.now (λ i. omega (arith, c.type_inv.tree i)) _ _ _ _ (begun_twins _ c.args.work.now c.least-cells.ensures _ _ _ _ _ _ _ c.begin-k.ensures) _ _ _ _ _ c.node-v.ensures.1 _ _ _ _ (omega (arith, c.if-refusal-gt0.false)) c.finish-written.ensures c.if-written.true
 
 pub returns : goal.returns
-returns c = let n = c in
-    let b = n.before.before.before.before.before.before.before.before.before.before in
-    let s = b.before.before.before.before.before.before.before.before in
-    let a = s.before.args in
-    law.ends_over _ _ a.tree.now a.out.now a.list.now a.work.now _ a.tree.now (λ i. omega (arith, s.shared-slice-known.given i)) _ _ _ _ (begun_twins _ a.work.now b.before.before.before.before.least.ensures _ _ _ _ _ _ _ b.begin.ensures) _ _ _ _ _ n.node.ensures.1 _ _ _ _ (omega (arith, c.if-refusal-gt0.false)) c.finish-written.ensures c.if-written.false
+returns c =
+    law.ends_over _ _ c.args.tree.now c.args.out.now c.args.list.now c.args.work.now _ c.args.tree.now (λ i. omega (arith, c.type_inv.tree i)) _ _ _ _ (begun_twins _ c.args.work.now c.least-cells.ensures _ _ _ _ _ _ _ c.begin-k.ensures) _ _ _ _ _ c.node-v.ensures.1 _ _ _ _ (omega (arith, c.if-refusal-gt0.false)) c.finish-written.ensures c.if-written.false
