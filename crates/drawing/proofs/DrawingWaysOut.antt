@@ -4,7 +4,7 @@ use Rattle.std.proofs.Common.{◌≡◌, ℕ, zero, suc, ◌+◌, ◌-◌, ◌*�
 use Rattle.tree.specs.Tree.{Node, Fields, Piece, Items, wide_bytes, encode, encode_fields, encode_piece, encode_items, map_of, count}
 use Rattle.tree.specs.Tree.Node.{node}
 use Rattle.tree.specs.Tree.Fields.{absent, field}
-use Rattle.tree.specs.Tree.Piece.{one, list, byte, mark}
+use Rattle.tree.specs.Tree.Piece.{one, list}
 use Rattle.tree.specs.Tree.Items.{item}
 use Rattle.tree.specs.Grammar.{Field, form_at, fields_of, kinds, variants}
 use Rattle.tree.specs.Grammar.Stage.{input}

@@ -1,4 +1,3 @@
-use Rattle.std.proofs.Common.{rules}
 use Rattle.drawing.proofs.DrawingEntry as law
 use Rattle.drawing.proofs.rest_spread_draw.Goals as goal
 

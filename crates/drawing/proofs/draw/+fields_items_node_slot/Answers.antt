@@ -1,14 +1,6 @@
-use Rattle.std.proofs.Common.{◌≡◌, ℕ, ◌+◌, ◌-◌, ◌*◌, length, sym, refl, ◌∙◌, arith, rules}
-use Rattle.tree.specs.Rows.{fields_in_of}
-use Rattle.tree.proofs.Cycle.{at_measure, below_measure}
-use Rattle.drawing.specs.Draw.{draw_node, draw_items, draw_field}
-use Rattle.drawing.specs.Pen.{drew_items}
+use Rattle.std.proofs.Common.{◌-◌, sym, refl, ◌∙◌, arith}
+use Rattle.drawing.specs.Draw.{draw_field}
 use Rattle.drawing.proofs.DrawingWaysOut as law
-use Rattle.drawing.proofs.draw.fields as fields
-use Rattle.drawing.proofs.draw.items as items
-use Rattle.drawing.proofs.draw.node as node
-use Rattle.drawing.proofs.draw.slot as slot
-use Rattle.drawing.proofs.draw.+fields_items_node_slot as cycle
 use Rattle.drawing.proofs.draw.+fields_items_node_slot.Goals as goal
 
 pub fields-fields-i-requires : goal.fields-fields-i-requires
