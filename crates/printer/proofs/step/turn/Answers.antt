@@ -8,7 +8,6 @@ use Rattle.printer.specs.Stacks.{buffer_in}
 use Rattle.printer.proofs.StepTurns as law
 use borrow.Author.Rules.{rules}
 use Rattle.printer.proofs.step.turn.Goals as goal
-use Rattle.printer.proofs.step.turn.Goals.{else-in_default, then-in_default}
 
 pub returns-in-1 : goal.returns-in-1
 unfolding entries_for print_all
@@ -43,4 +42,4 @@ returns-in-10 c = λ hs hr hw hc. law.as_code c.args.tree.now c.args.stack.now c
 
 pub returns-in_default : goal.returns-in_default
 unfolding print_all
-returns-in_default c = λ hs hr hw hc. law.as_code c.args.tree.now c.args.stack.now c.args.starts.now _ _ (buffer_in c.args.text.now c.args.s.spot) _ c.args.s _ c.args.v (c.args.v % 16) refl (law.hole_by c.args.tree.now c.args.stack.now c.args.starts.now _ _ (buffer_in c.args.text.now c.args.s.spot) _ c.args.s _ (c.args.v % 16) (c.args.v / 16 % 65536) (c.args.v / 1048576 % 256) c.in_default-1.rest (elim c.in_default.branch [ then-in_default w ↦ inr w.taken | else-in_default w ↦ inl w.1.left ]) (c.hole.ensures hs hw c.args.tree.now c.args.stack.now c.args.starts.now))
+returns-in_default c = λ hs hr hw hc. law.as_code c.args.tree.now c.args.stack.now c.args.starts.now _ _ (buffer_in c.args.text.now c.args.s.spot) _ c.args.s _ c.args.v (c.args.v % 16) refl (law.hole_by c.args.tree.now c.args.stack.now c.args.starts.now _ _ (buffer_in c.args.text.now c.args.s.spot) _ c.args.s _ (c.args.v % 16) (c.args.v / 16 % 65536) (c.args.v / 1048576 % 256) c.in_default-1.rest ? (c.hole.ensures hs hw c.args.tree.now c.args.stack.now c.args.starts.now))
