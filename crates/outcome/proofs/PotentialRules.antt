@@ -850,14 +850,14 @@ module _ (x : ℕ) where
         let t : number (in_cell x) (made_by d) ≡ number (in_cell x) (declarator_makes c p init) = ap (λ (b : Bool). number (in_cell x) (cond b (declarator_makes c p init) Items.none)) e in
         record {
           makes = omega arith;
-          leaves = rw (e, AllItems)
+          leaves = rw e
               (all_append (Fit (number (in_cell x) (declarator_makes c p init)) (pot x d)) (source_declarator c p init) (pattern_declarators c p s)
               (source_fit p init (number (in_cell x) (declarator_makes c p init)) (pot x d) (omega arith))
               (weaker_items (Fit (wanted p) (pot x p)) (Fit (number (in_cell x) (declarator_makes c p init)) (pot x d)) (λ q l. omega arith) (pattern_declarators c p s) a.leaves));
         })
         (λ e.
         let t : number (in_cell x) (made_by d) ≡ number (in_cell x) Items.none = ap (λ (b : Bool). number (in_cell x) (cond b (declarator_makes c p init) Items.none)) e in
-        record { makes = omega arith; leaves = rw (e, AllItems) (omega arith, tt) })
+        record { makes = omega arith; leaves = rw e (omega arith, tt) })
 
     -- ---- a declaration
 
@@ -1098,15 +1098,15 @@ module _ (x : ℕ) where
         (λ t. rw t (tops_spent n e t g))
         (λ t. rw t
         (by_test (has_object_rest (target n))
-        (λ r. rw (r, Each) (nested_spent n e t g))
-        (λ r. rw (r, Each) (unchanged_spent n))))))
+        (λ r. rw r (nested_spent n e t g))
+        (λ r. rw r (unchanged_spent n))))))
 
     declarations_spent : (n : Node) → is 4 n ≡ true → Good n → pot x n ≤ 1 → Spent n (step_declaration c n).note.made (step_declaration c n).result
     unfolding step_declaration
     declarations_spent n e g l =
         by_number (declaration_refusal c n)
-        (λ r h. rw (h, step_declaration, Each) (refused_spent n))
-        (λ h. rw (h, step_declaration, Each) (declaration_spent n e g l))
+        (λ r h. rw (h, step_declaration) (refused_spent n))
+        (λ h. rw (h, step_declaration) (declaration_spent n e g l))
 
     -- ---- heads
 
