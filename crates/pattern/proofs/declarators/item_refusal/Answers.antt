@@ -1,5 +1,4 @@
 use Rattle.pattern.proofs.DeclaratorsCounted as law
-use mathlib.Core.Logic.{⊎_elim}
 use Rattle.pattern.proofs.declarators.item_refusal.Goals as goal
 use Rattle.pattern.proofs.declarators.item_refusal.Goals.{else-holes, then-holes+else-peek-eq0}
 

@@ -1,5 +1,4 @@
 use Rattle.pattern.proofs.KeyCases as law
-use mathlib.Core.Logic.{⊎_elim}
 use Rattle.pattern.proofs.keys.item_keys.Goals as goal
 use Rattle.pattern.proofs.keys.item_keys.Goals.{else-holes, then-holes+else-peek-eq0}
 

@@ -2,8 +2,6 @@ use mathlib.Core.Bool.{true}
 use native.Mathlib.Omega.{arith}
 use Rattle.pattern.proofs.MovesCounted as law
 use Rattle.pattern.proofs.NodeParts as places
-use Prim.Native.Nat.{ℕ}
-use Rattle.tree.proofs.Cycle.{at_measure, below_measure}
 use Rattle.pattern.proofs.moves.+moved.Goals as goal
 
 pub returns-then-left-eq0 : goal.returns-then-left-eq0

@@ -4,7 +4,7 @@ use Rattle.pattern.proofs.source.ReferenceBuilder.create_read_expression.Goals a
 pub returns-then-fresh : goal.returns-then-fresh
 returns-then-fresh c = law.read_first _ c.if-wanted.true c.if-fresh.true
 
-pub returns-then-wanted : goal.returns-else-fresh
+pub returns-then-wanted : goal.returns-then-wanted
 returns-then-wanted c = law.read_later _ c.if-wanted.true c.if-fresh.false
 
 pub returns : goal.returns
