@@ -182,7 +182,7 @@ module _ (ns : List Name) where
   numbers_tell t s i e =
       let N = number_in same 1 ns (name_of s) in
       let M = number_in same 1 ns (name_of t) in
-      let q : same (name_of s) (name_of t) ≡ true = number_apart 1 (name_of s) (name_of t) i (eqb-true N M (first (eqb N M) e)) in
+      let q : same (name_of s) (name_of t) ≡ true = number_apart (name_of s) 1 (name_of t) i (eqb-true N M (first (eqb N M) e)) in
       subst (λ (x : Name). same x (name_of s) ≡ true) (same_is (name_of s) (name_of t) q) (name_self (name_of s))
     where
       first : (b : Bool) → b && true ≡ true → b ≡ true
@@ -197,15 +197,15 @@ module _ (ns : List Name) where
   array_first xs path stem at ks t = refl
 
   array_found : (path : List ℕ) (stem at : ℕ) (ks : Items) {xs : Items} {j : ℕ} → let t = temporary path stem at in
-      AllItems Keys xs → times (name_of t) (each id_of xs) ≤ 1 → ((y : Node) → Item y xs → In (name_of (id_of y)) ns) → ItemAt xs j (declares t (array ks))
+      ItemAt xs j (declares t (array ks)) → AllItems Keys xs → times (name_of t) (each id_of xs) ≤ 1 → ((y : Node) → Item y xs → In (name_of (id_of y)) ns)
       → array_of (numbered_items ns xs) (with_number ns t) ≡ array (numbered_items ns ks)
   unfolding array_of numbered each times node_at_of piece_in
-  array_found path stem at ks s m n (ItemAt.first {is = xs}) =
+  array_found path stem at ks (ItemAt.first {is = xs}) s m n =
       let t = temporary path stem at in
       array_first xs path stem at ks (with_number ns t) ∙ rw (same_self (with_number ns t)) refl
-  array_found path stem at ks s m n (ItemAt.behind_hole a) = array_found path stem at ks s m (λ y i. n y (suc i.0, ItemAt.behind_hole i.1)) a
-  array_found path stem at ks s m n (ItemAt.behind {n = y} {is = xs} a) =
-      go s.0 (n y (0, ItemAt.first)) m (λ l. array_found path stem at ks s.1 l (λ y i. n y (suc i.0, ItemAt.behind i.1)) a)
+  array_found path stem at ks (ItemAt.behind_hole a) s m n = array_found path stem at ks a s m (λ y i. n y (suc i.0, ItemAt.behind_hole i.1))
+  array_found path stem at ks (ItemAt.behind {n = y} {is = xs} a) s m n =
+      go s.0 (n y (0, ItemAt.first)) m (λ l. array_found path stem at ks a s.1 l (λ y i. n y (suc i.0, ItemAt.behind i.1)))
     where
       t : Node
       t = temporary path stem at
@@ -251,4 +251,4 @@ array_given c n m next mark es path stem at ks once i =
     let vs = visits next mark (walked c n) in
     let h = all_hoisted vs (in_walked Hands (λ n. nothing_hoisted none) hands c n next mark) in
     let a = name_of (temporary path stem at) in
-    array_found (names_of m es (excluded_in vs)) path stem at ks h.shaped (let u = h.counted a in let v = once a in omega arith) (all_named m es (excluded_in vs) h.shaped) i.1
+    array_found (names_of m es (excluded_in vs)) path stem at ks i.1 h.shaped (let u = h.counted a in let v = once a in omega arith) (all_named m es (excluded_in vs) h.shaped)

@@ -9,7 +9,7 @@ use native.Mathlib.Omega.{arith}
 use native.Mathlib.Decide.{dec_lt}
 use lib.Dec.{eqb}
 use lib.ListN.{length, take, drop, length-drop, drop_of_length-le}
-use lib.Seq.{take_all, take_nil}
+use lib.Seq.{take_all, take-nil}
 use borrow.Author.Tests.{eq-eqb, ne_eqb, eqb-true, le-leb, lt-leb}
 use Rattle.tree.specs.Tree.{Node, Items, count}
 use Rattle.tree.specs.Tree.Items.{none, hole, item}
@@ -232,7 +232,7 @@ module _ (l : List ℕ) where
   spelled_past from len to p e f h = elim (dec_lt (length l) (from + len)) [
     | yes g ↦
         let t : to ≡ length l = rw (lt-leb (from + len) (length l) g) at f in
-        sym (ap (λ (q : Part). spelled_as_of (text_in_of l (part_values q))) e ∙ ap (λ (x : List ℕ). spelled_as_of (take len x)) (drop_of_length-le l {i = from} (omega arith)) ∙ ap spelled_as_of (take_nil len))
+        sym (ap (λ (q : Part). spelled_as_of (text_in_of l (part_values q))) e ∙ ap (λ (x : List ℕ). spelled_as_of (take len x)) (drop_of_length-le l {i = from} (omega arith)) ∙ ap spelled_as_of (take-nil len))
     | no g ↦ let t : to ≡ from + len = rw (le-leb (from + len) (length l) (omega arith)) at f in absurd (omega arith)
   ]
 

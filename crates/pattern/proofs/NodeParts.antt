@@ -9,7 +9,7 @@ use native.Mathlib.Omega.{arith}
 use native.Mathlib.Decide.{dec_lt}
 use lib.Dec.{eqb}
 use lib.ListN.{length, take, drop, length-drop, drop_of_length-le}
-use lib.Seq.{take_all, take_nil}
+use lib.Seq.{take_all, take-nil}
 use borrow.Author.Tests.{le-leb, lt-leb}
 use Rattle.tree.specs.Tree.{Node, Fields, Piece, Items}
 use Rattle.tree.specs.Tree.Node.{node}
@@ -134,7 +134,7 @@ module _ (l : List ℕ) where
   clamped q w = elim (dec_lt (length l) (q + 2)) [
     | yes h ↦
         let z : length l - length l ≡ 0 = omega arith in
-        rw (lt-leb (q + 2) (length l) h, lt-leb (q + (2 + w)) (length l) (omega arith), z, drop_of_length-le l {i = q + 2} (omega arith)) (take_nil w)
+        rw (lt-leb (q + 2) (length l) h, lt-leb (q + (2 + w)) (length l) (omega arith), z, drop_of_length-le l {i = q + 2} (omega arith)) (take-nil w)
     | no h ↦ elim (dec_lt (length l) (q + (2 + w))) [
       | yes g ↦
           rw (lt-leb (q + (2 + w)) (length l) g, le-leb (q + 2) (length l) (omega arith))
@@ -274,7 +274,7 @@ module _ (l : List ℕ) where
   run_holes : (b : Bool) (d at : ℕ) (p : Content) → Holed b p → (look_items l (look_node l d) b (run_of at p).count (run_of at p).from).value ≡ items_here l d (run_of at p)
   unfolding run_of look_items
   run_holes b d at (Content.node q) h = refl
-  run_holes b d at (Content.list c n p) h = rw h
+  run_holes b d at (Content.list c n p) h = rw (← h)
   run_holes b d at (Content.text p n) h = refl
   run_holes b d at Content.plain h = refl
   run_holes b d at Content.absent h = refl

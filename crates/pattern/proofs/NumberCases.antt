@@ -9,7 +9,7 @@ use mathlib.Core.List.{List, [], ◌∷◌, ◌++◌, append_assoc, append-nil}
 use Prim.Native.Nat.{ℕ, zero, suc, ◌+◌, ◌-◌, ◌*◌, ◌/◌, ◌%◌, ◌≤◌, ◌<◌}
 use native.Mathlib.Omega.{arith}
 use lib.Dec.{eqb, ltb}
-use lib.ListN.{length, drop, take, set, drop_of_length-le, length_set}
+use lib.ListN.{length, drop, take, set, drop_of_length-le, length-set}
 use lib.Seq.{drop-cons, set_split, drop_at, length-take-le}
 use borrow.Author.Tests.{ltb-true, ltb-false, lt-ltb, le-ltb, eqb-true, eq-eqb, ne_eqb}
 use Rattle.tree.specs.Read.{byte_at}
@@ -432,7 +432,7 @@ module _ (s : List ℕ) (v n i : ℕ) (w : Writing s v n i) where
       let a = w.array in
       let p = w.place in
       record {
-        array = length_set s i (48 + n % 10) ∙ a;
+        array = length-set s i (48 + n % 10) ∙ a;
         place = omega arith;
         few = fewer i z w.few;
         same =
@@ -444,7 +444,7 @@ module _ (s : List ℕ) (v n i : ℕ) (w : Writing s v n i) where
       }
 
   pub writing_array : (b : ℕ) → length (set s i b) ≡ 20
-  writing_array b = length_set s i b ∙ w.array
+  writing_array b = length-set s i b ∙ w.array
 
   pub writing_end : n ≤ 9 → drop i (set s i (48 + n)) ≡ digits_of v
   writing_end h =

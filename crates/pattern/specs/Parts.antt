@@ -2,7 +2,6 @@
 use Rattle.std.specs.Prelude.{ℕ, zero, suc, ◌+◌, ◌-◌, Bool, true, false, cond, ◌&&◌, List, [], eqb, get_or, take, drop}
 use Rattle.std.proofs.Math.Option.{Option, some}
 use Rattle.tree.specs.Tree.{Node, Items}
-use Rattle.tree.specs.Tree.Items.{none}
 use Rattle.tree.specs.Grammar.{Sort, Field, fields_of}
 use Rattle.tree.specs.Grammar.Sort.{child, chosen, many, gaps, byte, mark, number}
 use Rattle.tree.specs.Grammar.Field.{must}

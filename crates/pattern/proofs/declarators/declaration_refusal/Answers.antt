@@ -1,4 +1,3 @@
-use native.Mathlib.Omega.{arith}
 use Rattle.pattern.proofs.DeclaratorsCounted as law
 use Rattle.pattern.proofs.declarators.declaration_refusal.Goals as goal
 

@@ -2,7 +2,6 @@ use mathlib.Core.Path.{sym, ap}
 use Rattle.pattern.specs.declared.parts.Part.{Part}
 use Rattle.pattern.specs.Parts.{part_values}
 use Rattle.pattern.specs.Keys.{form_in}
-use borrow.Author.Rules.{rules}
 use Rattle.pattern.proofs.KeyCases.{keyed_by}
 use Rattle.pattern.proofs.keys.formed.Goals as goal
 

@@ -1,5 +1,4 @@
 use mathlib.Core.Path.{sym, ap}
-use borrow.Author.Rules.{rules}
 use Rattle.pattern.specs.declared.numbers.Spelling.{Spelling}
 use Rattle.pattern.specs.Numbers.{spelling_value, is_string_of}
 use Rattle.pattern.proofs.keys.is_string.Goals as goal

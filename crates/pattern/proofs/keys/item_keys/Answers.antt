@@ -1,10 +1,9 @@
 use Rattle.pattern.proofs.KeyCases as law
-use mathlib.Core.Logic.{⊎_elim}
 use Rattle.pattern.proofs.keys.item_keys.Goals as goal
-use Rattle.pattern.proofs.keys.item_keys.Goals.{else-holes, then-holes}
+use Rattle.pattern.proofs.keys.item_keys.Goals.{else-holes, then-holes+else-peek-eq0}
 
 pub returns-then-peek-eq0 : goal.returns-then-peek-eq0
 returns-then-peek-eq0 c = law.item_none _ _ _ _ _ _ c.if-holes.true c.peek.ensures c.if-peek-eq0.true c.none.ensures
 
 pub returns : goal.returns
-returns c = (elim c.if-holes.branch [ then-holes w ↦ law.item_other _ _ _ _ _ _ _ _ w.0.taken w.1.ensures w.2.left c.key-k.ensures (law.key_is c.transform_property_key.ensures.variant) c.key_Counts.ensures | else-holes w ↦ law.item_node _ _ _ _ _ _ _ w.left c.key-k.ensures (law.key_is c.transform_property_key.ensures.variant) c.key_Counts.ensures ])
+returns c = (elim c.if-holes.branch [ then-holes+else-peek-eq0 w ↦ law.item_other _ _ _ _ _ _ _ _ w.if-holes.true w.peek.ensures w.if-peek-eq0.false c.key-k.ensures (law.key_is c.transform_property_key.ensures.variant) c.key_counts.ensures | else-holes w ↦ law.item_node _ _ _ _ _ _ _ w.if-holes.false c.key-k.ensures (law.key_is c.transform_property_key.ensures.variant) c.key_counts.ensures ])

@@ -1,6 +1,5 @@
 use mathlib.Core.Path.{sym, ap, ◌∙◌}
 use Rattle.pattern.specs.Keys.{key_counts}
-use borrow.Author.Rules.{rules}
 use Rattle.pattern.proofs.keys.key_counts.Goals as goal
 
 pub returns-in-Name : goal.returns-in-Name

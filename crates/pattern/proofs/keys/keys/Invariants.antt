@@ -1,4 +1,3 @@
-use native.Mathlib.Omega.{arith}
 use Rattle.pattern.proofs.KeyCases as law
 use Rattle.pattern.proofs.keys.keys.Given as goal
 

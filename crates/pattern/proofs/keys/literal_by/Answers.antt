@@ -1,4 +1,3 @@
-use borrow.Author.Rules.{rules}
 use Rattle.pattern.proofs.KeyCases as law
 use Rattle.pattern.proofs.keys.literal_by.Goals as goal
 

@@ -1,5 +1,4 @@
 use mathlib.Core.Path.{refl}
-use borrow.Author.Rules.{rules}
 use Rattle.pattern.proofs.KeyCases as law
 use Rattle.pattern.proofs.keys.spelled_in.Goals as goal
 

@@ -1,9 +1,4 @@
-use mathlib.Core.Bool.{true}
-use native.Mathlib.Omega.{arith}
 use Rattle.pattern.proofs.MovesCounted as law
-use Rattle.pattern.proofs.NodeParts as places
-use Prim.Native.Nat.{ℕ}
-use Rattle.tree.proofs.Cycle.{at_measure, below_measure}
 use Rattle.pattern.proofs.moves.+moved.Given as goal
 
 abbrev pub invariant-loop-n : goal.invariant-loop-n

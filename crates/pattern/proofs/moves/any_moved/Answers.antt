@@ -1,9 +1,6 @@
-use mathlib.Core.Path.{◌≡◌, ◌∙◌}
-use native.Mathlib.Omega.{arith}
+use mathlib.Core.Path.{◌∙◌}
 use Rattle.pattern.proofs.MovesCounted as law
 use Rattle.pattern.proofs.Searches as search
-use Rattle.tree.specs.Look.{look_items, look_node}
-use Rattle.lowering.specs.Parts.{any}
 use Rattle.lowering.specs.Heads.{is_moved}
 use Rattle.pattern.proofs.moves.any_moved.Goals as goal
 

@@ -1,4 +1,3 @@
-use borrow.Author.Rules.{rules}
 use Rattle.pattern.proofs.NumberCases as law
 use Rattle.pattern.proofs.numbers.digit.Goals as goal
 

@@ -1,5 +1,3 @@
-use mathlib.Core.Path.{refl}
-use native.Mathlib.Omega.{arith}
 use Rattle.pattern.proofs.NumberCases as law
 use Rattle.pattern.proofs.numbers.digits_of.Given as goal
 

@@ -1,6 +1,5 @@
 use Prim.Native.Nat.{◌-◌}
 use lib.ListN.{length}
-use native.Mathlib.Omega.{arith}
 use Rattle.pattern.proofs.NumberCases as law
 use Rattle.pattern.proofs.numbers.value.Given as goal
 

@@ -1,6 +1,5 @@
 use Rattle.pattern.proofs.Fields as law
 use Rattle.pattern.specs.Parts.{place_of}
-use borrow.Author.Rules.{rules}
 use Rattle.pattern.proofs.parts.child.Goals as goal
 
 pub overflow_sub-result : goal.overflow_sub-result

@@ -1,8 +1,5 @@
-use mathlib.Core.Path.{◌≡◌, refl, ◌∙◌}
-use native.Mathlib.Omega.{arith}
+use mathlib.Core.Path.{◌∙◌}
 use Rattle.pattern.proofs.Fields as law
-use Rattle.tree.specs.Rows.{fields_in_of}
-use Rattle.pattern.specs.Parts.{sort_at}
 use Rattle.pattern.proofs.parts.code_at.Goals as goal
 
 pub loop-n-preserved : goal.loop-n-preserved

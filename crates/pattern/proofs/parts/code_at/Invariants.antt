@@ -1,6 +1,4 @@
-use mathlib.Core.Path.{◌≡◌, refl, ◌∙◌}
-use native.Mathlib.Omega.{arith}
-use Rattle.pattern.proofs.Fields as law
+use mathlib.Core.Path.{◌≡◌}
 use Rattle.tree.specs.Rows.{fields_in_of}
 use Rattle.pattern.specs.Parts.{sort_at}
 use Rattle.pattern.proofs.parts.code_at.Given as goal

@@ -1,6 +1,4 @@
-use native.Mathlib.Omega.{arith}
 use Rattle.pattern.proofs.Fields as law
-use borrow.Author.Rules.{rules}
 use Rattle.pattern.proofs.parts.field.Goals as goal
 
 pub returns-then-left-eq0 : goal.returns-then-left-eq0

@@ -1,6 +1,5 @@
 use Rattle.pattern.proofs.Fields as law
 use Rattle.pattern.specs.Parts.{run_of}
-use borrow.Author.Rules.{rules}
 use Rattle.pattern.proofs.parts.list.Goals as goal
 
 pub returns-in-Many : goal.returns-in-Many

@@ -1,9 +1,5 @@
-use mathlib.Core.Path.{◌≡◌, ◌∙◌}
-use native.Mathlib.Omega.{arith}
+use mathlib.Core.Path.{◌∙◌}
 use Rattle.pattern.proofs.Fields as law
-use Rattle.tree.specs.Rows.{fields_in_of}
-use Rattle.tree.specs.Look.{look_node}
-use Rattle.lowering.specs.Parts.{stands}
 use Rattle.pattern.proofs.parts.stands.Goals as goal
 
 pub returns-then-left-eq0 : goal.returns-then-left-eq0

@@ -1,5 +1,4 @@
-use mathlib.Core.Path.{◌≡◌, ◌∙◌}
-use native.Mathlib.Omega.{arith}
+use mathlib.Core.Path.{◌≡◌}
 use Rattle.pattern.proofs.Fields as law
 use Rattle.tree.specs.Rows.{fields_in_of}
 use Rattle.tree.specs.Look.{look_node}

@@ -1,4 +1,3 @@
-use native.Mathlib.Omega.{arith}
 use Rattle.pattern.proofs.Fields as law
 use Rattle.pattern.proofs.parts.value.Goals as goal
 

@@ -1,11 +1,8 @@
 use mathlib.Core.Bool.{true}
-use mathlib.Core.Logic.{⊎_elim}
 use native.Mathlib.Omega.{arith}
 use Rattle.pattern.proofs.RestsFound as law
 use Rattle.pattern.proofs.NodeParts as places
 use Rattle.pattern.proofs.Searches as search
-use Prim.Native.Nat.{ℕ}
-use Rattle.tree.proofs.Cycle.{at_measure, below_measure}
 use Rattle.pattern.proofs.rests.+rests.Goals as goal
 use Rattle.pattern.proofs.rests.+rests.Goals.{else-peek-gt33, then-peek-gt33}
 
@@ -16,22 +13,22 @@ pub loop-n-init : goal.loop-n-init
 loop-n-init t c = law.values_start _ _ _ _ c.if-left-eq0.false c.peek-kind.ensures.value _ _ c.in-34.is c.list-run.ensures c.none-t.ensures
 
 pub rests-requires : goal.rests-requires
-rests-requires t c = (let h = search.value_falls _ _ _ _ c.if-left-eq0.false c.value-v.ensures in omega (arith, c.requires.0), tt)
+rests-requires t c = (let h = search.value_falls _ _ _ _ c.if-left-eq0.false c.value-v.ensures in omega arith, tt)
 
 pub loop-n-preserved : goal.loop-n-preserved
-loop-n-preserved t c = (elim c.if-peek-gt33.branch [ then-peek-gt33 w ↦ rw w.3 (law.value_more _ _ _ _ _ _ _ _ _ _ _ c.loop-n-test.true c.value-v.ensures w.1.ensures c.skip-p.ensures w.2.ensures c.loop-n.invariant) | else-peek-gt33 w ↦ rw w.1 (law.value_passed _ _ _ _ _ _ _ _ _ _ c.loop-n-test.true c.value-v.ensures c.peek.ensures.value w.0.left c.skip-p.ensures c.loop-n.invariant) ])
+loop-n-preserved t c = (elim c.if-peek-gt33.branch [ then-peek-gt33 w ↦ rw w.t-is (law.value_more _ _ _ _ _ _ _ _ _ _ _ c.loop-n-test.true c.value-v.ensures w.rests.ensures c.skip-p.ensures w.both-t.ensures c.loop-n.invariant) | else-peek-gt33 w ↦ rw w.t-is (law.value_passed _ _ _ _ _ _ _ _ _ _ c.loop-n-test.true c.value-v.ensures c.peek.ensures.value w.if-peek-gt33.false c.skip-p.ensures c.loop-n.invariant) ])
 
 pub loop-n-2-init : goal.loop-n-2-init
 loop-n-2-init t c = law.items_start _ _ _ _ c.if-left-eq0.false c.peek-kind.ensures.value _ _ c.in-36.is c.list-run-in-36.ensures c.none-t-in-36.ensures
 
 pub rests-requires-in-loop-n-2 : goal.rests-requires-in-loop-n-2
-rests-requires-in-loop-n-2 t c = (let h = places.item_below _ _ _ true _ c.if-left-eq0.false c.item-e.ensures in omega (arith, c.requires.0), tt)
+rests-requires-in-loop-n-2 t c = (let h = places.item_below _ _ _ true _ c.if-left-eq0.false c.item-e.ensures in omega arith, tt)
 
 pub loop-n-2-preserved : goal.loop-n-2-preserved
 loop-n-2-preserved t c = law.item_more _ _ _ _ _ _ _ _ _ _ _ c.loop-n-2-test.true c.item-e.ensures c.rests-in-loop-n-2.ensures c.skip_item-p.ensures c.both-t-in-loop-n-2.ensures c.loop-n-2.invariant
 
 pub rests-requires-in-37 : goal.rests-requires-in-37
-rests-requires-in-37 t c = (let h = places.child_falls _ _ _ 0 _ c.if-left-eq0.false c.child-l.ensures in omega (arith, c.requires.0), tt)
+rests-requires-in-37 t c = (let h = places.child_falls _ _ _ 0 _ c.if-left-eq0.false c.child-l.ensures in omega arith, tt)
 
 pub returns-after-loop-n : goal.returns-after-loop-n
 returns-after-loop-n t c = λ k. law.object_end _ _ _ _ c.if-left-eq0.false c.peek-kind.ensures.value k _ _ _ _ _ _ c.in-34.is c.loop-n-test.false c.loop-n.invariant c.own.ensures c.both.ensures

@@ -1,11 +1,4 @@
-use mathlib.Core.Bool.{true}
-use mathlib.Core.Logic.{⊎_elim}
-use native.Mathlib.Omega.{arith}
 use Rattle.pattern.proofs.RestsFound as law
-use Rattle.pattern.proofs.NodeParts as places
-use Rattle.pattern.proofs.Searches as search
-use Prim.Native.Nat.{ℕ}
-use Rattle.tree.proofs.Cycle.{at_measure, below_measure}
 use Rattle.pattern.proofs.rests.+rests.Given as goal
 
 abbrev pub invariant-loop-n : goal.invariant-loop-n

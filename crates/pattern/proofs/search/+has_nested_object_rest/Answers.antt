@@ -1,14 +1,10 @@
-use mathlib.Core.Path.{◌≡◌, ◌∙◌}
-use mathlib.Core.Bool.{true, false, ◌||◌}
+use mathlib.Core.Path.{◌∙◌}
+use mathlib.Core.Bool.{true, false}
 use native.Mathlib.Omega.{arith}
-use Rattle.tree.specs.Look.{look_items, look_node}
-use Rattle.lowering.specs.Parts.{node_at_of, any}
 use Rattle.lowering.specs.Patterns.{value}
 use Rattle.pattern.proofs.NodeParts as places
 use Rattle.pattern.proofs.Searches as law
 use Rattle.pattern.proofs.Below as below
-use Prim.Native.Nat.{ℕ}
-use Rattle.tree.proofs.Cycle.{at_measure, below_measure}
 use Rattle.pattern.proofs.search.+has_nested_object_rest.Goals as goal
 
 pub returns-then-left-eq0 : goal.returns-then-left-eq0
@@ -21,7 +17,7 @@ pub loop-n-init : goal.loop-n-init
 loop-n-init t c = law.has_values _ _ _ _ c.if-left-eq0.false c.peek-kind.ensures.value _ _ c.in-34.is c.stands.ensures c.if-stands.false c.list-run.ensures
 
 pub has_nested_object_rest-requires : goal.has_nested_object_rest-requires
-has_nested_object_rest-requires t c = (let h = law.value_falls _ _ _ _ c.if-left-eq0.false c.value-v.ensures in omega (arith, c.requires.0), tt)
+has_nested_object_rest-requires t c = (let h = law.value_falls _ _ _ _ c.if-left-eq0.false c.value-v.ensures in omega arith, tt)
 
 pub returns-then-has_nested_object_rest : goal.returns-then-has_nested_object_rest
 returns-then-has_nested_object_rest t c = law.value_yes _ law.has below.has_blank below.has_nothing _ _ _ _ _ c.loop-n-test.true c.value-v.ensures c.has_nested_object_rest.ensures c.if-has_nested_object_rest.true ∙ c.loop-n.invariant
@@ -33,7 +29,7 @@ pub loop-n-2-init : goal.loop-n-2-init
 loop-n-2-init t c = law.has_items _ _ _ _ c.if-left-eq0.false c.peek-kind.ensures.value _ c.in-36.is c.list-run-in-36.ensures
 
 pub has_nested_object_rest-requires-in-loop-n-2 : goal.has_nested_object_rest-requires-in-loop-n-2
-has_nested_object_rest-requires-in-loop-n-2 t c = (let h = places.item_below _ _ _ true _ c.if-left-eq0.false c.item-e.ensures in omega (arith, c.requires.0), tt)
+has_nested_object_rest-requires-in-loop-n-2 t c = (let h = places.item_below _ _ _ true _ c.if-left-eq0.false c.item-e.ensures in omega arith, tt)
 
 pub returns-then-has_nested_object_rest-2 : goal.returns-then-has_nested_object_rest-2
 returns-then-has_nested_object_rest-2 t c = law.item_yes _ law.has law.has_empty _ _ _ true _ _ c.loop-n-2-test.true c.item-e.ensures c.has_nested_object_rest-in-loop-n-2.ensures _ c.if-has_nested_object_rest-2.true ∙ c.loop-n-2.invariant
@@ -42,10 +38,10 @@ pub loop-n-2-preserved : goal.loop-n-2-preserved
 loop-n-2-preserved t c = law.item_more _ law.has law.has_empty _ _ _ true _ _ c.loop-n-2-test.true c.item-e.ensures c.has_nested_object_rest-in-loop-n-2.ensures _ _ c.if-has_nested_object_rest-2.false c.skip_item-p.ensures ∙ c.loop-n-2.invariant
 
 pub has_nested_object_rest-requires-in-36 : goal.has_nested_object_rest-requires-in-36
-has_nested_object_rest-requires-in-36 t c = (let h = places.child_falls _ _ _ 1 _ c.if-left-eq0.false c.child-rest.ensures in omega (arith, c.requires.0), tt)
+has_nested_object_rest-requires-in-36 t c = (let h = places.child_falls _ _ _ 1 _ c.if-left-eq0.false c.child-rest.ensures in omega arith, tt)
 
 pub has_nested_object_rest-requires-in-37 : goal.has_nested_object_rest-requires-in-37
-has_nested_object_rest-requires-in-37 t c = (let h = places.child_falls _ _ _ 0 _ c.if-left-eq0.false c.child-l.ensures in omega (arith, c.requires.0), tt)
+has_nested_object_rest-requires-in-37 t c = (let h = places.child_falls _ _ _ 0 _ c.if-left-eq0.false c.child-l.ensures in omega arith, tt)
 
 pub returns-after-loop-n : goal.returns-after-loop-n
 returns-after-loop-n t c = law.any_end _ (λ q. law.has (value q)) _ false _ _ c.loop-n-test.false ∙ c.loop-n.invariant

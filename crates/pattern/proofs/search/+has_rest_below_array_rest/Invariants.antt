@@ -1,14 +1,9 @@
-use mathlib.Core.Path.{◌≡◌, ◌∙◌}
+use mathlib.Core.Path.{◌≡◌}
 use mathlib.Core.Bool.{true, false, ◌||◌}
-use native.Mathlib.Omega.{arith}
 use Rattle.tree.specs.Look.{look_items, look_node}
 use Rattle.lowering.specs.Parts.{node_at_of, any}
 use Rattle.lowering.specs.Patterns.{value}
-use Rattle.pattern.proofs.NodeParts as places
 use Rattle.pattern.proofs.Searches as law
-use Rattle.pattern.proofs.Below as below
-use Prim.Native.Nat.{ℕ}
-use Rattle.tree.proofs.Cycle.{at_measure, below_measure}
 use Rattle.pattern.proofs.search.+has_rest_below_array_rest.Given as goal
 
 abbrev pub invariant-loop-n : goal.invariant-loop-n

@@ -1,5 +1,4 @@
 use Rattle.pattern.proofs.SourceReads as law
-use borrow.Author.Rules.{rules}
 use Rattle.pattern.proofs.source.place_of.Goals as goal
 
 pub returns-in-Expression : goal.returns-in-Expression

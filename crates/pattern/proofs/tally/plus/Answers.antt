@@ -1,4 +1,3 @@
-use native.Mathlib.Omega.{arith}
 use Rattle.pattern.proofs.CappedSums as law
 use Rattle.pattern.proofs.tally.plus.Goals as goal
 
