@@ -48,8 +48,7 @@ fn figured(n: u32, c: u32) -> u32
 }
 
 // Request 14's entry. Any n and c.
-#[unsafe(no_mangle)]
-pub extern "C" fn rest_spread_calls(n: u32, c: u32) -> Counted
+pub fn rest_spread_calls(n: u32, c: u32) -> Counted
     ensures { (result.answer ≡ answer_of n) × (result.number ≡ number_of n c) }
 {
     if n > LONGEST {

@@ -28,8 +28,7 @@ pub(crate) fn advanced(x: u32) -> u32
 }
 
 // Advances the generator in place, and returns the number.
-#[unsafe(no_mangle)]
-pub extern "C" fn xorshift_next(g: &mut Xorshift) -> u32
+pub fn xorshift_next(g: &mut Xorshift) -> u32
     ensures { (result ≡ step g.old.state) × (g.new.state ≡ step g.old.state) }
 {
     let x = advanced(g.state);
@@ -57,8 +56,7 @@ pub struct Drawn {
 }
 
 // Request 2's entry: the tree of a seed, then zeros. Any seed, a slice of any length.
-#[unsafe(no_mangle)]
-pub extern "C" fn rest_spread_draw(seed: u32, tree_out: &mut [u8]) -> Drawn
+pub fn rest_spread_draw(seed: u32, tree_out: &mut [u8]) -> Drawn
     ensures { handed result tree_out.new ≡ outcome seed (length tree_out.old) }
 {
     if seed == 0 {

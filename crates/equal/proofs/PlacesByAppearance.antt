@@ -82,7 +82,7 @@ module _ {A : Type 0} (alike : A → A → Bool) (own : (a : A) → alike a a �
       absurd (omega arith))
       (λ t.
       number_apart (suc from) xs a b (not_here a x xs s i) (not_here b x xs t j) (rw (s, t) at e)))
-      number_apart from [] a b i j e = elim i [ ]
+  number_apart from [] a b i j e = elim i [ ]
 
   -- numbers tell them apart as the test does
   pub numbers_keep : (from : ℕ) (xs : List A) (a b : A) → In a xs → In b xs → eqb (number_in alike from xs a) (number_in alike from xs b) ≡ alike a b

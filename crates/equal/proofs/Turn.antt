@@ -224,7 +224,6 @@ place_later (a ∷ xs) ms x i h =
     all_stay xs (a ∷ ms) x (ap (λ (y : ℕ). eqb y 0) p ∙ eqb-suc-zero (length ms)) ∙ (p ∙ sym (number_first (suc (length ms)) a (unmet (a ∷ ms) (distinct eqb xs)) x f)))
     (λ f.
     place_later xs (a ∷ ms) x (in_rest x a xs f i) (ap (λ (y : ℕ). eqb y 0) (place_other ms a x (other_way x a f)) ∙ h)
-    place_later [] ms x i h = elim i [ ]
     ∙ sym (number_next (suc (length ms)) a (unmet (a ∷ ms) (distinct eqb xs)) x f))))
     (λ e.
     rw (meet_old ms a e, unmet_old ms a xs e)
@@ -232,6 +231,7 @@ place_later (a ∷ xs) ms x i h =
     (in_rest x a xs
     (by_test (eqb x a) (λ f. absurd (true≢false (sym h ∙ (ap (λ (y : ℕ). eqb (place_in ms y) 0) (eqb-true x a f) ∙ e)))) (λ f. f)) i)
     h))
+place_later [] ms x i h = elim i [ ]
 
 pub place_in_turn : (xs : List ℕ) (x : ℕ) → In x xs → place_in (meet_all [] xs) x ≡ place_of xs x
 unfolding place_of place_in

@@ -21,8 +21,7 @@ pub struct Joined {
 }
 
 // Request 10's entry. Any slices. The tree goes into the lent slice, then zeros; on a refusal all is zero.
-#[unsafe(no_mangle)]
-pub extern "C" fn rest_spread_join(tree: &[u8], list: &[u8], tree_out: &mut [u8]) -> Joined
+pub fn rest_spread_join(tree: &[u8], list: &[u8], tree_out: &mut [u8]) -> Joined
     ensures { Answered tree.now list.now (length tree_out.old) result.answer result.tree_len tree_out.new }
 {
     join::join(tree, list, tree_out)

@@ -146,18 +146,18 @@ unfolding number_in
 number_from from [] a = omega arith
 number_from from (x ∷ xs) a = by_test (same a x) (λ e. rw e (omega arith)) (λ e. rw e (let r = number_from (suc from) xs a in omega arith))
 
-pub number_apart : (from : ℕ) {xs : List Name} (a b : Name) → In a xs → number_in same from xs a ≡ number_in same from xs b → same a b ≡ true
+pub number_apart : (a : Name) (from : ℕ) {xs : List Name} (b : Name) → In a xs → number_in same from xs a ≡ number_in same from xs b → same a b ≡ true
 unfolding number_in
-number_apart from a b (here {b = x} {xs = xs} e) q =
+number_apart a from b (here {b = x} {xs = xs} e) q =
     by_test (same b x)
     (λ t. subst (λ (y : Name). same a y ≡ true) (e ∙ sym (same_is b x t)) (name_self a))
     (λ t. absurd (let f : same a x ≡ true = subst (λ (y : Name). same a y ≡ true) e (name_self a) in
     let z : from ≡ number_in same (suc from) xs b = simp (f, t) at q in let r = number_from (suc from) xs b in omega arith))
-number_apart from a b (there {b = x} {xs = xs} i) q =
+number_apart a from b (there {b = x} {xs = xs} i) q =
     by_test (same a x)
     (λ s. by_test (same b x)
     (λ t. subst (λ (y : Name). same a y ≡ true) (same_is a x s ∙ sym (same_is b x t)) (name_self a))
     (λ t. absurd (let z : from ≡ number_in same (suc from) xs b = simp (s, t) at q in let r = number_from (suc from) xs b in omega arith)))
     (λ s. by_test (same b x)
     (λ t. absurd (let z : number_in same (suc from) xs a ≡ from = simp (s, t) at q in let r = number_from (suc from) xs a in omega arith))
-    (λ t. number_apart (suc from) a b i (simp (s, t) at q)))
+    (λ t. number_apart a (suc from) b i (simp (s, t) at q)))

@@ -165,7 +165,7 @@ module _ (ns : List Name) where
 -- of names that get a number
 number_stem : (ns : List Name) (s t : Node) → In (name_of s) ns → number_at 0 (with_number ns s) ≡ number_at 0 (with_number ns t) → number_at 1 (with_number ns s) ≡ number_at 1 (with_number ns t)
 unfolding with_number number_at piece_in
-number_stem ns s t i e = ap (λ (x : Name). x.stem) (same_is (name_of s) (name_of t) (number_apart 1 (name_of s) (name_of t) i e))
+number_stem ns s t i e = ap (λ (x : Name). x.stem) (same_is (name_of s) (name_of t) (number_apart (name_of s) 1 (name_of t) i e))
 
 -- temporaries s and t of a tree or its list, s and t as they are written
 pub one_stem : (n : Node) (es : List Entry) (excluded : Items) (s t : Node) → let ns = names_of n es excluded in

@@ -45,8 +45,7 @@ fn said(v: Verdict) -> Ordered
 }
 
 // Request 11's entry. Any two slices.
-#[unsafe(no_mangle)]
-pub extern "C" fn rest_spread_order(first: &[u8], second: &[u8]) -> Ordered
+pub fn rest_spread_order(first: &[u8], second: &[u8]) -> Ordered
     ensures { (result.answer ≡ answer_number (answer_of (read_rewritten first.now) (read_rewritten second.now))) × (result.order ≡ order_number (answer_of (read_rewritten first.now) (read_rewritten second.now))) }
 {
     match compare::order(first, second) {

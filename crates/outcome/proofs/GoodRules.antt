@@ -148,10 +148,10 @@ scan_good c pending (hole ps) h k l = scan_good c pending ps h k l
 scan_good c pending (item p ps) h k l =
     let xs = opened c pending +++ only (node_at_of 0 p) in
     by_test (is 26 p)
-    (λ e. rw (e, Good)
+    (λ e. rw (e, scan, Good)
     (scan_good (Call.call (S xs)) none ps
     (call_good (helper 1) xs (helper_simple 1) (helper_good 1) (append_good (opened c pending) (only (node_at_of 0 p)) (opened_good c pending h k) (node_good 0 p l.0, tt))) tt l.1))
-    (λ e. rw (e, Good) (scan_good c (pending +++ only p) ps h (append_good pending (only p) k (l.0, tt)) l.1))
+    (λ e. rw (e, scan, Good) (scan_good c (pending +++ only p) ps h (append_good pending (only p) k (l.0, tt)) l.1))
 
 literal_good : (n : Node) → Good n → Good (literal n)
 unfolding literal
@@ -323,11 +323,11 @@ module _ (c : Context) where
   unfolding pattern_declarators
   pattern_declarators_good p s h k =
       by_shape (shape p)
-      (λ e. rw (e, GoodItems) (object_declarators_good p s (object_is p e) h k))
-      (λ e. rw (e, GoodItems)
+      (λ e. rw (e, pattern_declarators, GoodItems) (object_declarators_good p s (object_is p e) h k))
+      (λ e. rw (e, pattern_declarators, GoodItems)
       (append_good (only (declares (replaced_below c p) s)) (nested_below c p) (declares_good (replaced_below c p) s (replaced_simple c (depth p) p (array_simple p (array_is p e))) ((replaced_view c (depth p)).keeps p h) k, tt) (nested_good (depth p) p h)))
-      (λ e. rw (e, GoodItems) tt)
-      (λ e. rw (e, GoodItems) tt)
+      (λ e. rw (e, pattern_declarators, GoodItems) tt)
+      (λ e. rw (e, pattern_declarators, GoodItems) tt)
 
   lower_declarator_good : (p init : Node) → Good p → Good init → GoodItems (lower_declarator c p init)
   unfolding lower_declarator source_declarator
@@ -502,38 +502,38 @@ module _ (c : Context) where
 
   declarations_good : (n : Node) → Free n → Good n → Good (step_declaration c n).result
   unfolding step_declaration
-  declarations_good n f h = by_number (declaration_refusal c n) (λ r e. rw (e, Good) nothing_good) (λ e. rw (e, Good) (declaration_good n f h))
+  declarations_good n f h = by_number (declaration_refusal c n) (λ r e. rw (e, step_declaration, Good) nothing_good) (λ e. rw (e, step_declaration, Good) (declaration_good n f h))
 
   tops_good : (n : Node) → is_top (target n) ≡ true → Good n → Good (step_top c n).result
   unfolding step_top
-  tops_good n t h = by_number (top_refusal n) (λ r e. rw (e, Good) nothing_good) (λ e. rw (e, Good) (top_good n t h))
+  tops_good n t h = by_number (top_refusal n) (λ r e. rw (e, step_top, Good) nothing_good) (λ e. rw (e, step_top, Good) (top_good n t h))
 
   assignments_good : (n : Node) → Free n → Good n → Good (step_assignment c n).result
   unfolding step_assignment
   assignments_good n f h =
       by_test (has_array_rest_over_object_rest (target n))
-      (λ a. rw (a, Good) nothing_good)
-      (λ a. rw (a, Good)
+      (λ a. rw (a, step_assignment, Good) nothing_good)
+      (λ a. rw (a, step_assignment, Good)
       (by_test (is_top (target n))
-      (λ t. rw (t, Good) (tops_good n t h))
-      (λ t. rw (t, Good) (by_test (has_object_rest (target n)) (λ r. rw (r, Good) (nested_sequence_good_lem2 n f h)) (λ r. rw (r, Good) h)))))
+      (λ t. rw (t, step_assignment, Good) (tops_good n t h))
+      (λ t. rw (t, step_assignment, Good) (by_test (has_object_rest (target n)) (λ r. rw (r, step_assignment, Good) (nested_sequence_good_lem2 n f h)) (λ r. rw (r, step_assignment, Good) h)))))
 
   fors_good : (n : Node) → Free n → Good n → Good (step_for c n).result
   unfolding step_for
   fors_good n f h =
       by_test (is 4 (node_at_of 1 n))
-      (λ d. rw (d, Good) (declaring_head_good n f h))
-      (λ d. rw (d, Good) (by_test (has_array_rest_over_object_rest (node_at_of 1 n)) (λ a. rw (a, Good) nothing_good) (λ a. rw (a, Good) (assigning_head_good n f h))))
+      (λ d. rw (d, step_for, Good) (declaring_head_good n f h))
+      (λ d. rw (d, step_for, Good) (by_test (has_array_rest_over_object_rest (node_at_of 1 n)) (λ a. rw (a, step_for, Good) nothing_good) (λ a. rw (a, step_for, Good) (assigning_head_good n f h))))
 
   pub rewrite_good : (n : Node) → Good n → Good (rewrite c n).result
   unfolding rewrite
   rewrite_good n h =
       by_rule_lem (rule_of (kind n))
-      (λ e. rw (e, Good) (literal_good n h))
-      (λ e. rw (e, Good) (declarations_good n (kinds_at_lem (kind n) declarations e) h))
-      (λ e. rw (e, Good) (assignments_good n (kinds_at_lem (kind n) assignments e) h))
-      (λ e. rw (e, Good) (function_good n (kinds_at_lem (kind n) functions e) h))
-      (λ e. rw (e, Good) (arrow_good n (kinds_at_lem (kind n) arrows e) h))
-      (λ e. rw (e, Good) (catch_good n (kinds_at_lem (kind n) catches e) h))
-      (λ e. rw (e, Good) (fors_good n (kinds_at_lem (kind n) fors e) h))
-      (λ e. rw (e, Good) h)
+      (λ e. rw (e, rewrite, Good) (literal_good n h))
+      (λ e. rw (e, rewrite, Good) (declarations_good n (kinds_at_lem (kind n) declarations e) h))
+      (λ e. rw (e, rewrite, Good) (assignments_good n (kinds_at_lem (kind n) assignments e) h))
+      (λ e. rw (e, rewrite, Good) (function_good n (kinds_at_lem (kind n) functions e) h))
+      (λ e. rw (e, rewrite, Good) (arrow_good n (kinds_at_lem (kind n) arrows e) h))
+      (λ e. rw (e, rewrite, Good) (catch_good n (kinds_at_lem (kind n) catches e) h))
+      (λ e. rw (e, rewrite, Good) (fors_good n (kinds_at_lem (kind n) fors e) h))
+      (λ e. rw (e, rewrite, Good) h)

@@ -197,9 +197,9 @@ module _ (P : ℕ → Type 0) where
     scan_held c pending (item p ps) h k l =
         let xs = opened c pending +++ only (node_at_of 0 p) in
         by_test (is 26 p)
-        (λ e. rw (e, Held)
+        (λ e. rw (e, scan, Held)
         (scan_held (Call.call (S xs)) none ps ((tt, tt), (append_held (opened c pending) (only (node_at_of 0 p)) (opened_held c pending h k) (node_held 0 p l.0, tt), tt)) tt l.1))
-        (λ e. rw (e, Held) (scan_held c (pending +++ only p) ps h (append_held pending (only p) k (l.0, tt)) l.1))
+        (λ e. rw (e, scan, Held) (scan_held c (pending +++ only p) ps h (append_held pending (only p) k (l.0, tt)) l.1))
 
     literal_held : (n : Node) → Held n → Held (literal n)
     unfolding literal
@@ -430,10 +430,10 @@ module _ (P : ℕ → Type 0) where
       unfolding pattern_declarators
       pattern_declarators_held p s h k =
           by_shape (shape p)
-          (λ e. rw (e, HeldItems) (object_declarators_held p s h k))
-          (λ e. rw (e, HeldItems) (append_held (only (declares (replaced_below c p) s)) (nested_below c p) ((replaced_below_held p h, (k, tt)), tt) (nested_held (depth p) p h)))
-          (λ e. rw (e, HeldItems) tt)
-          (λ e. rw (e, HeldItems) tt)
+          (λ e. rw (e, pattern_declarators, HeldItems) (object_declarators_held p s h k))
+          (λ e. rw (e, pattern_declarators, HeldItems) (append_held (only (declares (replaced_below c p) s)) (nested_below c p) ((replaced_below_held p h, (k, tt)), tt) (nested_held (depth p) p h)))
+          (λ e. rw (e, pattern_declarators, HeldItems) tt)
+          (λ e. rw (e, pattern_declarators, HeldItems) tt)
 
       lower_declarator_held : (p init : Node) → Held p → Held init → HeldItems (lower_declarator c p init)
       unfolding lower_declarator source_declarator
@@ -560,41 +560,41 @@ module _ (P : ℕ → Type 0) where
 
       declarations_held : (n : Node) → Held n → Held (step_declaration c n).result
       unfolding step_declaration
-      declarations_held n h = by_number (declaration_refusal c n) (λ r e. rw (e, Held) tt) (λ e. rw (e, Held) (declaration_held n h))
+      declarations_held n h = by_number (declaration_refusal c n) (λ r e. rw (e, step_declaration, Held) tt) (λ e. rw (e, step_declaration, Held) (declaration_held n h))
 
       tops_held : (n : Node) → Held n → Held (step_top c n).result
       unfolding step_top
-      tops_held n h = by_number (top_refusal n) (λ r e. rw (e, Held) tt) (λ e. rw (e, Held) (top_held n h))
+      tops_held n h = by_number (top_refusal n) (λ r e. rw (e, step_top, Held) tt) (λ e. rw (e, step_top, Held) (top_held n h))
 
       assignments_held : (n : Node) → Held n → Held (step_assignment c n).result
       unfolding step_assignment
       assignments_held n h =
           by_test (has_array_rest_over_object_rest (target n))
-          (λ a. rw (a, Held) tt)
-          (λ a. rw (a, Held)
+          (λ a. rw (a, step_assignment, Held) tt)
+          (λ a. rw (a, step_assignment, Held)
           (by_test (is_top (target n))
-          (λ t. rw (t, Held) (tops_held n h))
-          (λ t. rw (t, Held) (by_test (has_object_rest (target n)) (λ r. rw (r, Held) (nested_sequence_held n h)) (λ r. rw (r, Held) h)))))
+          (λ t. rw (t, step_assignment, Held) (tops_held n h))
+          (λ t. rw (t, step_assignment, Held) (by_test (has_object_rest (target n)) (λ r. rw (r, step_assignment, Held) (nested_sequence_held n h)) (λ r. rw (r, step_assignment, Held) h)))))
 
       fors_held : (n : Node) → Held n → Held (step_for c n).result
       unfolding step_for
       fors_held n h =
           by_test (is 4 (node_at_of 1 n))
-          (λ d. rw (d, Held) (declaring_head_held n h))
-          (λ d. rw (d, Held) (by_test (has_array_rest_over_object_rest (node_at_of 1 n)) (λ a. rw (a, Held) tt) (λ a. rw (a, Held) (assigning_head_held n h))))
+          (λ d. rw (d, step_for, Held) (declaring_head_held n h))
+          (λ d. rw (d, step_for, Held) (by_test (has_array_rest_over_object_rest (node_at_of 1 n)) (λ a. rw (a, step_for, Held) tt) (λ a. rw (a, step_for, Held) (assigning_head_held n h))))
 
       rewrite_held : (n : Node) → Held n → Held (rewrite c n).result
       unfolding rewrite
       rewrite_held n h =
           by_rule_lem (rule_of (kind n))
-          (λ e. rw (e, Held) (literal_held n h))
-          (λ e. rw (e, Held) (declarations_held n h))
-          (λ e. rw (e, Held) (assignments_held n h))
-          (λ e. rw (e, Held) (function_held n h))
-          (λ e. rw (e, Held) (arrow_held n h))
-          (λ e. rw (e, Held) (catch_held n h))
-          (λ e. rw (e, Held) (fors_held n h))
-          (λ e. rw (e, Held) h)
+          (λ e. rw (e, rewrite, Held) (literal_held n h))
+          (λ e. rw (e, rewrite, Held) (declarations_held n h))
+          (λ e. rw (e, rewrite, Held) (assignments_held n h))
+          (λ e. rw (e, rewrite, Held) (function_held n h))
+          (λ e. rw (e, rewrite, Held) (arrow_held n h))
+          (λ e. rw (e, rewrite, Held) (catch_held n h))
+          (λ e. rw (e, rewrite, Held) (fors_held n h))
+          (λ e. rw (e, rewrite, Held) h)
 
     -- ---- the walk
 

@@ -626,7 +626,7 @@ module _ (x : ℕ) where
         let inside = fit_gather h (λ q. nested c d (value q)) (λ q. objects_cost d (value q)) (λ q k. nested_fit d (value q) (node_good 1 q k)) (properties p) (to_all (properties p) (items_good 0 p g)) in
         subst (λ (ys : Items). AllItems (Costs ys) (cond (has_rest_of p) (Declarations.own c o (reference c p)) Items.none +++ gather (λ q. nested c d (value q)) (properties p))) (sym (objects_object c d p e))
         (by_test (has_rest_of p)
-        (λ r. rw (r, AllItems)
+        (λ r. rw r
         (let t : is_top o ≡ true = values_top f p (object_is p e) r in
         let a = cost_append found (only o) in
         let b = wholes_append x found (only o) in
@@ -635,7 +635,7 @@ module _ (x : ℕ) where
         (weaker_items (Costs (only o)) (Costs (found +++ only o)) (λ m k. omega arith) (Declarations.own c o (reference c p))
         (own_costs o (reference c p) t (values_good c d p g) (temporary_name c.path 1 (position p)) (temporary_pot x c.path 1 (position p))))
         (weaker_items (Costs found) (Costs (found +++ only o)) (λ m k. omega arith) (gather (λ q. nested c d (value q)) (properties p)) inside)))
-        (λ r. rw (r, AllItems)
+        (λ r. rw r
         (let a = cost_append found Items.none in
         let b = wholes_append x found Items.none in
         let y = cost_none in
@@ -850,14 +850,14 @@ module _ (x : ℕ) where
         let t : number (in_cell x) (made_by d) ≡ number (in_cell x) (declarator_makes c p init) = ap (λ (b : Bool). number (in_cell x) (cond b (declarator_makes c p init) Items.none)) e in
         record {
           makes = omega arith;
-          leaves = rw (e, AllItems)
+          leaves = rw e
               (all_append (Fit (number (in_cell x) (declarator_makes c p init)) (pot x d)) (source_declarator c p init) (pattern_declarators c p s)
               (source_fit p init (number (in_cell x) (declarator_makes c p init)) (pot x d) (omega arith))
               (weaker_items (Fit (wanted p) (pot x p)) (Fit (number (in_cell x) (declarator_makes c p init)) (pot x d)) (λ q l. omega arith) (pattern_declarators c p s) a.leaves));
         })
         (λ e.
         let t : number (in_cell x) (made_by d) ≡ number (in_cell x) Items.none = ap (λ (b : Bool). number (in_cell x) (cond b (declarator_makes c p init) Items.none)) e in
-        record { makes = omega arith; leaves = rw (e, AllItems) (omega arith, tt) })
+        record { makes = omega arith; leaves = rw e (omega arith, tt) })
 
     -- ---- a declaration
 
@@ -1085,28 +1085,28 @@ module _ (x : ℕ) where
     unfolding step_top
     tops_spent n e t g =
         by_number (top_refusal n)
-        (λ r l. rw (l, step_top, Each) (refused_spent n))
-        (λ l. rw (l, step_top, Each) (top_spent n e t g))
+        (λ r l. rw (l, step_top) (refused_spent n))
+        (λ l. rw (l, step_top) (top_spent n e t g))
 
     assignments_spent : (n : Node) → is 27 n ≡ true → Good n → Spent n (step_assignment c n).note.made (step_assignment c n).result
     unfolding step_assignment
     assignments_spent n e g =
         by_test (has_array_rest_over_object_rest (target n))
-        (λ a. rw (a, step_assignment, Each) (refused_spent n))
-        (λ a. rw (a, step_assignment, Each)
+        (λ a. rw (a, step_assignment) (refused_spent n))
+        (λ a. rw (a, step_assignment)
         (by_test (is_top (target n))
-        (λ t. rw (t, Each) (tops_spent n e t g))
-        (λ t. rw (t, Each)
+        (λ t. rw t (tops_spent n e t g))
+        (λ t. rw t
         (by_test (has_object_rest (target n))
-        (λ r. rw (r, Each) (nested_spent n e t g))
-        (λ r. rw (r, Each) (unchanged_spent n))))))
+        (λ r. rw r (nested_spent n e t g))
+        (λ r. rw r (unchanged_spent n))))))
 
     declarations_spent : (n : Node) → is 4 n ≡ true → Good n → pot x n ≤ 1 → Spent n (step_declaration c n).note.made (step_declaration c n).result
     unfolding step_declaration
     declarations_spent n e g l =
         by_number (declaration_refusal c n)
-        (λ r h. rw (h, step_declaration, Each) (refused_spent n))
-        (λ h. rw (h, step_declaration, Each) (declaration_spent n e g l))
+        (λ r h. rw (h, step_declaration) (refused_spent n))
+        (λ h. rw (h, step_declaration) (declaration_spent n e g l))
 
     -- ---- heads
 
@@ -1707,11 +1707,11 @@ module _ (x : ℕ) where
     unfolding step_for
     fors_spent n e g l =
         by_test (is 4 (node_at_of 1 n))
-        (λ d. rw (d, step_for, Each) (declaring_spent n e d g l))
-        (λ d. rw (d, step_for, Each)
+        (λ d. rw (d, step_for) (declaring_spent n e d g l))
+        (λ d. rw (d, step_for)
         (by_test (has_array_rest_over_object_rest (node_at_of 1 n))
-        (λ a. rw (a, Each) (refused_spent n))
-        (λ a. rw (a, Each) (assigning_spent n e d g l))))
+        (λ a. rw a (refused_spent n))
+        (λ a. rw a (assigning_spent n e d g l))))
 
     literal_spent : (n : Node) → Spent n Items.none (literal n)
     literal_spent n =
@@ -1725,14 +1725,14 @@ module _ (x : ℕ) where
     unfolding rewrite is
     rewrite_spent n g l =
         by_rule_lem (rule_of (kind n))
-        (λ e. rw (e, rewrite, Each) (literal_spent n))
-        (λ e. rw (e, rewrite, Each) (declarations_spent n (kinds_at_lem (kind n) declarations e) g l))
-        (λ e. rw (e, rewrite, Each) (assignments_spent n (kinds_at_lem (kind n) assignments e) g))
-        (λ e. rw (e, rewrite, Each) (function_spent n (kinds_at_lem (kind n) functions e) g l))
-        (λ e. rw (e, rewrite, Each) (arrow_spent n (kinds_at_lem (kind n) arrows e) g l))
-        (λ e. rw (e, rewrite, Each) (catch_spent n (kinds_at_lem (kind n) catches e) g l))
-        (λ e. rw (e, rewrite, Each) (fors_spent n (kinds_at_lem (kind n) fors e) g l))
-        (λ e. rw (e, rewrite, Each) (unchanged_spent n))
+        (λ e. rw (e, rewrite) (literal_spent n))
+        (λ e. rw (e, rewrite) (declarations_spent n (kinds_at_lem (kind n) declarations e) g l))
+        (λ e. rw (e, rewrite) (assignments_spent n (kinds_at_lem (kind n) assignments e) g))
+        (λ e. rw (e, rewrite) (function_spent n (kinds_at_lem (kind n) functions e) g l))
+        (λ e. rw (e, rewrite) (arrow_spent n (kinds_at_lem (kind n) arrows e) g l))
+        (λ e. rw (e, rewrite) (catch_spent n (kinds_at_lem (kind n) catches e) g l))
+        (λ e. rw (e, rewrite) (fors_spent n (kinds_at_lem (kind n) fors e) g l))
+        (λ e. rw (e, rewrite) (unchanged_spent n))
 
 pub spent : (x : ℕ) (c : Context) (n : Node) → Good n → pot x n ≤ 1
     → (number (in_cell x) (rewrite c n).note.made ≤ pot x n)

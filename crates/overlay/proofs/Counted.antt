@@ -584,19 +584,23 @@ item_fits : {p : ℕ} {b : Bool} {ns : Items} {j : ℕ} {x : Node} → FitItems 
 item_fits (FitItems.item n f) ItemAt.first = n
 item_fits (FitItems.item n f) (ItemAt.behind a) = item_fits f a
 item_fits (FitItems.hole f) (ItemAt.behind_hole a) = item_fits f a
-item_fits {j = j} (Rattle.tree.specs.WellFormed.none {p = p} {h = h}) x10 = elim x10 [ ]
+item_fits FitItems.none a = elim a [ ]
 
 piece_fits_lem : {b : ℕ} {s : Sort} {p : Piece} {j : ℕ} {x : Node} → FitPiece input b s p → NodeIn p j x → (q : ℕ) × Fits input q x
 piece_fits_lem (FitPiece.child {p = p} f) NodeIn.one = (p, f)
 piece_fits_lem (FitPiece.chosen {b = b} {p = p} {q = q} f) NodeIn.one = (cond (eqb b 1) p q, f)
 piece_fits_lem (FitPiece.many {p = p} c f) (NodeIn.list a) = (p, item_fits f a)
 piece_fits_lem (FitPiece.gaps {p = p} c f) (NodeIn.list a) = (p, item_fits f a)
+piece_fits_lem (FitPiece.text _ _) a = elim a [ ]
+piece_fits_lem (FitPiece.byte _ _ _) a = elim a [ ]
+piece_fits_lem (FitPiece.mark _) a = elim a [ ]
+piece_fits_lem (FitPiece.number _) a = elim a [ ]
 
 pub field_fits : {b : ℕ} {ts : List Field} {fs : Fields} {i j : ℕ} {x : Node} → FitFields input b ts fs → FieldAt fs i j x → (q : ℕ) × Fits input q x
 field_fits (FitFields.field p f) (FieldAt.first a) = piece_fits_lem p a
 field_fits (FitFields.field p f) (FieldAt.behind a) = field_fits f a
 field_fits (FitFields.absent f) (FieldAt.behind_absent a) = field_fits f a
-field_fits {i = i} {j = j} (Rattle.tree.specs.WellFormed.done {b = b}) x10 = elim x10 [ ]
+field_fits FitFields.done a = elim a [ ]
 
 module _ (wanted : Node → Bool) where
   item_held : {ns : Items} {j : ℕ} {x : Node} → ItemAt ns j x → held wanted x ≤ held_items_of wanted ns
@@ -645,7 +649,7 @@ module _ (wanted : Node → Bool) where
   stands_held (Stands.here {n = n}) f u e w = here_held n e w
   stands_held (Stands.onward {p = q} (PartAt.part {at = at} {k = k} {fs = fs} a) s) (Fits.fits {p = p} h f) u e w =
       let x = field_fits f a in
-      let i = stands_held s x.1 (λ r g t. u r g (Stands.onward (PartAt.part a) t)) e w in
+      let i = stands_held {p = x.0} s x.1 (λ r g t. u r g (Stands.onward (PartAt.part a) t)) e w in
       let b = field_held a in
       let t = counts wanted p at fs k (unchanging q at k fs u) h f in
       omega arith

@@ -261,8 +261,8 @@ module _ (ns : List Name) where
   scan_turns : {c d : Call} {pend pend' ps qs : Items} → TurnsCall c d → any is_spread pend ≡ false → TurnsItems pend pend' → TurnsParts ps qs → Same (scan c pend ps) (scan d pend' qs)
   unfolding scan any is node_at_of piece_in
   scan_turns u e t turns_no_part = closed_turns u e t
-  scan_turns u e t (turns_spread a r) =
-      scan_turns (turns_call (append_turns (opened_turns u e t) (turns_item a turns_none))) refl turns_none r
+  scan_turns {c = c} {pend = pend} u e t (turns_spread {n = n} a r) =
+      scan_turns {c = call (S (opened c pend +++ item n none))} (turns_call (append_turns (opened_turns u e t) (turns_item a turns_none))) refl turns_none r
   scan_turns {pend = pend} u e t (turns_other {p = p} {q = q} x y a r) =
       rw (x, scan) (rw (y, scan) (scan_turns u (any_behind is_spread pend p e x) (append_turns t (turns_item a turns_none)) r))
 

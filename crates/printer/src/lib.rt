@@ -114,8 +114,7 @@ fn fill(tree: &[u8], text: &mut [u8]) -> Printed
 }
 
 // Request 7's entry: the text of a rewritten tree, then zeros. Any bytes, a slice of any length.
-#[unsafe(no_mangle)]
-pub extern "C" fn rest_spread_text(tree: &[u8], text_out: &mut [u8]) -> Printed
+pub fn rest_spread_text(tree: &[u8], text_out: &mut [u8]) -> Printed
     ensures { handed result text_out.new ≡ outcome (read_rewritten tree.now) (length text_out.old) }
 {
     seen::clear(text_out);

@@ -126,8 +126,7 @@ fn limit_refused(limit: u32) -> bool
 
 // The lowering of a tree of at most `depth` levels: document 01's first section with request 5's limit. Any bytes, any limit, any
 // options, slices of any lengths.
-#[unsafe(no_mangle)]
-pub extern "C" fn rest_spread_lower_within(
+pub fn rest_spread_lower_within(
     depth: u32,
     options: u32,
     tree: &[u8],
@@ -177,8 +176,7 @@ pub extern "C" fn rest_spread_lower_within(
 }
 
 // The same where no limit is named.
-#[unsafe(no_mangle)]
-pub extern "C" fn rest_spread_lower(
+pub fn rest_spread_lower(
     options: u32,
     tree: &[u8],
     tree_out: &mut [u8],

@@ -3,8 +3,7 @@
 ghost use Rattle.std.specs.Prelude.{◌≡◌};
 ghost use Rattle.rest_spread.specs.Version.{version};
 
-#[unsafe(no_mangle)]
-pub extern "C" fn rest_spread_version() -> u32
+pub fn rest_spread_version() -> u32
     ensures { result ≡ version }
 {
     4

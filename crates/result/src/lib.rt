@@ -7,8 +7,7 @@ ghost use Rattle.std.specs.Prelude.{◌≡◌, cond};
 ghost use Rattle.result.specs.Leftover.{leftover};
 
 // 1 if an object rest is left in a rewritten tree, else 0; 0 for bytes that are none.
-#[unsafe(no_mangle)]
-pub extern "C" fn rest_spread_leftover(tree: &[u8]) -> u8
+pub fn rest_spread_leftover(tree: &[u8]) -> u8
     ensures { result ≡ cond (leftover tree.now) 1 0 }
 {
     if leftover::leftover(tree) {

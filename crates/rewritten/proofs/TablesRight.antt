@@ -77,7 +77,7 @@ form_low p k = elim (dec_lt k 64) [
 ]
 
 pub form_is : (numbers : List ℕ) (p k kinds : ℕ) → k < 64 → kinds ≡ get_or numbers p 0 → (r : ℕ) → r ≡ form_from kinds p k → numbers ≡ place_numbers → r ≡ form_at rewritten p k
-form_is numbers p k kinds f e r is n = is ∙ ap (λ (x : ℕ). form_from x p k) (e ∙ ap (λ (x : List ℕ). get_or x p 0) n) ∙ form_from_lem p k f
+form_is numbers p k _ f e r is n = is ∙ ap (λ (x : ℕ). form_from x p k) (e ∙ ap (λ (x : List ℕ). get_or x p 0) n) ∙ form_from_lem p k f
 
 -- ---- the fields of a form
 

@@ -8,7 +8,7 @@ use Prim.Native.Nat.{ℕ, zero, suc, ◌+◌, ◌-◌, ◌*◌, ◌/◌, ◌%◌
 use native.Mathlib.Omega.{arith}
 use native.Mathlib.Decide.{dec_lt}
 use lib.Dec.{eqb}
-use lib.ListN.{length, get_or, set, length_set, get_or-eq_default}
+use lib.ListN.{length, get_or, set, length-set, get_or-eq_default}
 use borrow.Author.Tests.{lt-ltb, eq-eqb, ne_eqb}
 use Rattle.tree.specs.Grammar.{Sort}
 use Rattle.tree.specs.Grammar.Sort.{child, chosen, many, gaps, text, byte, mark, number}
@@ -267,11 +267,11 @@ module _ (l fs seen : List ℕ) (c : Cursor) (frames : ℕ) (v : Bool) (g : Read
 
     pub node_reads : what % 16 ≡ 1 → Reading l (set fs c.deep rest) seen (record { at = c.at + 2; deep = c.deep + 1; top = what / 16 * 2 }) frames v
     unfolding new_in noted
-    node_reads e = reads _ _ _ (node_goes l fs c frames g.tour what a short enough rest left e) (length_set fs c.deep rest) (λ t. refl) (λ t. refl)
+    node_reads e = reads _ _ _ (node_goes l fs c frames g.tour what a short enough rest left e) (length-set fs c.deep rest) (λ t. refl) (λ t. refl)
 
     pub list_reads : what % 16 ≡ 2 → Reading l (set fs c.deep rest) seen (record { at = c.at + 2; deep = c.deep + 1; top = what / 16 * 2 + 1 }) frames v
     unfolding new_in noted
-    list_reads e = reads _ _ _ (list_goes l fs c frames g.tour what a short enough rest left e) (length_set fs c.deep rest) (λ t. refl) (λ t. refl)
+    list_reads e = reads _ _ _ (list_goes l fs c frames g.tour what a short enough rest left e) (length-set fs c.deep rest) (λ t. refl) (λ t. refl)
 
     pub text_reads : what % 16 ≡ 3 → Reading l fs seen (record { at = c.at + 2 + what / 16; deep = c.deep; top = rest }) frames v
     unfolding new_in noted

@@ -20,7 +20,7 @@ use Rattle.tree.specs.Read.{Got, mapped, sort_in, byte_at, wide_at, chosen_place
 use Rattle.tree.specs.Read.Got.{got, refused}
 use Rattle.tree.specs.Read.Refusal.{too_deep}
 use Rattle.tree.specs.Look.{Seen, seen, seen_as, seen_both, onward, end_at, quiet_at, look_item, look_items, look_field, look_slot, look_fields, look_node}
-use Rattle.tree.specs.Note.{Note, loud, word, note_of, notes_of, notes_fields, notes_piece, notes_items}
+use Rattle.tree.specs.Note.{Note, word, note_of, notes_of, notes_fields, notes_piece, notes_items}
 use Rattle.tree.proofs.HoldsOfRead.{Holds, holds, of_mapped, of_accepted, of_joined, weaker}
 use Rattle.tree.proofs.Within.{there, wide_there, map_byte}
 use Rattle.tree.proofs.Look.{layouts, form_alike, kind_at, on_fits, on_byte, on_wide, fields_alike}

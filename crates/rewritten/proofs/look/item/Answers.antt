@@ -4,10 +4,10 @@ use mathlib.Core.Logic.{⊎_elim}
 use mathlib.Core.Path.{◌∙◌}
 use borrow.Author.Rules.{rules}
 use Rattle.rewritten.proofs.look.item.Goals as goal
-use Rattle.rewritten.proofs.look.item.Goals.{else-w-eq1, then-w-eq1}
+use Rattle.rewritten.proofs.look.item.Goals.{else-w-eq1, then-w-eq1+else-peek-eq0}
 
 pub returns-then-peek-eq0 : goal.returns-then-peek-eq0
 returns-then-peek-eq0 c = λ some. law.hole_ahead _ _ _ _ some c.if-w-eq1.true c.peek.ensures c.if-peek-eq0.true
 
 pub returns : goal.returns
-returns c = λ some. law.ahead_as (λ fs deep. (elim c.if-w-eq1.branch [ then-w-eq1 w ↦ moves.item_other _ fs _ deep _ some w.0.taken (λ z. w.2.left (w.1.ensures.value ∙ z)) | else-w-eq1 w ↦ moves.item_plain _ fs _ deep _ some w.left ])) (c.node.ensures _)
+returns c = λ some. law.ahead_as (λ fs deep. (elim c.if-w-eq1.branch [ then-w-eq1+else-peek-eq0 w ↦ moves.item_other _ fs _ deep _ some w.if-w-eq1.true (λ z. w.if-peek-eq0.false (w.peek.ensures.value ∙ z)) | else-w-eq1 w ↦ moves.item_plain _ fs _ deep _ some w.if-w-eq1.false ])) (c.node.ensures _)

@@ -20,4 +20,4 @@ pub overflow_add-result-3 : goal.overflow_add-result-3
 overflow_add-result-3 c = (elim c.if-holes.branch [ then-holes w ↦ omega arith | else-holes w ↦ omega arith ])
 
 pub returns : goal.returns
-returns c = (law.list_begins _ _ c.args.place c.args.holes _ c.wide_at-n.ensures c.if-n-gt65535.false c.if-holes.low (elim c.if-holes.branch [ then-holes w ↦ w.1 ∙ ap (λ (b : Bool). cond b 1 0) (sym w.0.taken) | else-holes w ↦ w.1 ∙ ap (λ (b : Bool). cond b 1 0) (sym w.0.left) ]) (elim c.if-holes.branch [ then-holes w ↦ omega arith | else-holes w ↦ omega arith ]), law.coded 2 _ (omega arith))
+returns c = (law.list_begins _ _ c.args.place c.args.holes _ c.wide_at-n.ensures c.if-n-gt65535.false c.if-holes.low (elim c.if-holes.branch [ then-holes w ↦ w.low-is ∙ ap (λ (b : Bool). cond b 1 0) (sym w.if-holes.true) | else-holes w ↦ w.low-is ∙ ap (λ (b : Bool). cond b 1 0) (sym w.if-holes.false) ]) (elim c.if-holes.branch [ then-holes w ↦ omega arith | else-holes w ↦ omega arith ]), law.coded 2 _ (omega arith))

@@ -4,7 +4,7 @@ use borrow.Author.Rules.{rules}
 use borrow.Author.Tests.{eq-eqb, ne_eqb}
 use Rattle.rewritten.specs.Look.{place_next}
 use Rattle.rewritten.proofs.task.place_next.Goals as goal
-use Rattle.rewritten.proofs.task.place_next.Goals.{else-top-eq1-2, then-top-eq1-2}
+use Rattle.rewritten.proofs.task.place_next.Goals.{else-top-eq1-2, then-top-eq1-2+else-peek-eq0}
 
 pub returns-then-peek-eq0 : goal.returns-then-peek-eq0
 unfolding place_next
@@ -12,7 +12,7 @@ returns-then-peek-eq0 c = rw (eq-eqb _ 1 c.if-top-eq1.true, eq-eqb _ 1 c.if-top-
 
 pub returns-then-top-eq1 : goal.returns-then-top-eq1
 unfolding place_next
-returns-then-top-eq1 c = (elim c.if-top-eq1-2.branch [ then-top-eq1-2 w ↦ rw (eq-eqb _ 1 c.if-top-eq1.true, eq-eqb _ 1 w.0.taken, ne_eqb _ 0 (λ z. w.2.left (w.1.ensures.value ∙ z))) refl | else-top-eq1-2 w ↦ rw (eq-eqb _ 1 c.if-top-eq1.true, ne_eqb _ 1 w.left) refl ])
+returns-then-top-eq1 c = (elim c.if-top-eq1-2.branch [ then-top-eq1-2+else-peek-eq0 w ↦ rw (eq-eqb _ 1 c.if-top-eq1.true, eq-eqb _ 1 w.if-top-eq1-2.true, ne_eqb _ 0 (λ z. w.if-peek-eq0.false (w.peek.ensures.value ∙ z))) refl | else-top-eq1-2 w ↦ rw (eq-eqb _ 1 c.if-top-eq1.true, ne_eqb _ 1 w.if-top-eq1-2.false) refl ])
 
 pub returns-then-class-eq1 : goal.returns-then-class-eq1
 unfolding place_next

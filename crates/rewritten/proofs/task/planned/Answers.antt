@@ -41,7 +41,7 @@ pub loop-left-smaller : goal.loop-left-smaller
 loop-left-smaller c = omega (arith, c.loop-left-test.true)
 
 pub loop-left-preserved : goal.loop-left-preserved
-loop-left-preserved c = (elim c.if-bits-eq1.branch [ then-bits-eq1 w ↦ rw (w.1, w.2) (law.taking_stands _ _ _ _ _ _ c.loop-left.invariant c.loop-left-test.true w.0.taken) | else-bits-eq1 w ↦ rw (w.1, w.2) (law.taking_absent _ _ _ _ _ _ c.loop-left.invariant c.loop-left-test.true w.0.left) ])
+loop-left-preserved c = (elim c.if-bits-eq1.branch [ then-bits-eq1 w ↦ rw (w.made-is, w.scale-is) (law.taking_stands _ _ _ _ _ _ c.loop-left.invariant c.loop-left-test.true w.if-bits-eq1.true) | else-bits-eq1 w ↦ rw (w.made-is, w.scale-is) (law.taking_absent _ _ _ _ _ _ c.loop-left.invariant c.loop-left-test.true w.if-bits-eq1.false) ])
 
 pub returns : goal.returns
 returns c = law.taking_ends _ _ _ _ _ _ c.loop-left.invariant c.loop-left-test.false

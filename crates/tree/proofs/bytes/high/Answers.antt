@@ -1,6 +1,5 @@
 use mathlib.Core.Path.{refl}
 use Rattle.tree.specs.Note.{high}
-use borrow.Author.Rules.{rules}
 use Rattle.tree.proofs.bytes.high.Goals as goal
 
 pub returns : goal.returns

@@ -1,6 +1,5 @@
 use mathlib.Core.Path.{refl}
 use Rattle.tree.specs.Note.{low}
-use borrow.Author.Rules.{rules}
 use Rattle.tree.proofs.bytes.low.Goals as goal
 
 pub returns : goal.returns

@@ -1,6 +1,5 @@
 use native.Mathlib.Omega.{arith}
 use Rattle.tree.proofs.LeavesRead.{peeked_in, peeked_out}
-use borrow.Author.Rules.{rules}
 use Rattle.tree.proofs.bytes.peek.Goals as goal
 
 pub overflow_cast-result : goal.overflow_cast-result

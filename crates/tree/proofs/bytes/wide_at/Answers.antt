@@ -2,7 +2,6 @@ use native.Mathlib.Omega.{arith}
 use Rattle.tree.proofs.LeavesRead.{wide_out, wide_in_lem}
 use Prim.Native.Nat.{◌<◌}
 use lib.ListN.{length}
-use borrow.Author.Rules.{rules}
 use Rattle.tree.proofs.bytes.wide_at.Goals as goal
 
 pub returns-then-lo-eq256 : goal.returns-then-lo-eq256

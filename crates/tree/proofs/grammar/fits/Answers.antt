@@ -1,5 +1,4 @@
 use native.Mathlib.Omega.{arith}
-use borrow.Author.Rules.{rules}
 use Rattle.tree.proofs.Within.{map_above}
 use Rattle.tree.proofs.grammar.fits.Goals as goal
 

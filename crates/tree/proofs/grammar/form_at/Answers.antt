@@ -1,5 +1,4 @@
 use mathlib.Core.Path.{sym}
-use borrow.Author.Rules.{rules}
 use Rattle.tree.proofs.GrammarRows.{no_kind, form_none, form_declaration, form_either, form_expression, form_target, form_member, form_leaf, form_kind}
 use Rattle.tree.proofs.grammar.form_at.Goals as goal
 

@@ -6,13 +6,10 @@
 -- src/note.rt:138:1
 -- src/note.rt:138:1
 -- src/note.rt:138:1
-use borrow.Author.Rules.{rules}
 use Rattle.tree.proofs.Noting as law
-use lib.ListN.{length, take, drop, length-set}
+use lib.ListN.{length-set}
 use native.Mathlib.Omega.{arith}
-use Prim.Native.Nat.{◌-◌, ◌≤◌}
-use mathlib.Core.List.{◌++◌}
-use mathlib.Core.Path.{◌≡◌, refl, ◌∙◌}
+use mathlib.Core.Path.{refl, ◌∙◌}
 use Rattle.tree.proofs.note.copy_in.Goals as goal
 
 pub loop-i-init : goal.loop-i-init

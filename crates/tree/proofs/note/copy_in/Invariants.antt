@@ -1,10 +1,7 @@
-use borrow.Author.Rules.{rules}
-use Rattle.tree.proofs.Noting as law
-use lib.ListN.{length, take, drop, length-set}
-use native.Mathlib.Omega.{arith}
+use lib.ListN.{length, take, drop}
 use Prim.Native.Nat.{◌-◌, ◌≤◌}
 use mathlib.Core.List.{◌++◌}
-use mathlib.Core.Path.{◌≡◌, refl, ◌∙◌}
+use mathlib.Core.Path.{◌≡◌}
 use Rattle.tree.proofs.note.copy_in.Given as goal
 
 abbrev pub invariant-loop-i : goal.invariant-loop-i

@@ -1,6 +1,5 @@
 -- src/note.rt:47:9
 use Rattle.tree.proofs.Noting as law
-use borrow.Author.Rules.{rules}
 use Rattle.tree.proofs.note.spread.Goals as goal
 
 pub returns-then-literal : goal.returns-then-literal

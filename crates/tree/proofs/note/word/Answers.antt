@@ -1,7 +1,6 @@
 -- src/note.rt:24:9
 -- src/note.rt:20:1
 use Rattle.tree.proofs.Noting as law
-use borrow.Author.Rules.{rules}
 use Rattle.tree.proofs.note.word.Goals as goal
 
 pub returns-then-loud : goal.returns-then-loud

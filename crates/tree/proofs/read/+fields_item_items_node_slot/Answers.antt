@@ -1,20 +1,15 @@
-use mathlib.Core.Path.{◌≡◌, refl, sym, ◌∙◌}
-use mathlib.Core.Logic.{⊎_elim}
-use Prim.Native.Nat.{◌+◌, ◌*◌}
+use mathlib.Core.Path.{refl, sym, ◌∙◌}
+use Prim.Native.Nat.{◌+◌}
 use native.Mathlib.Omega.{arith}
 use lib.ListN.{length}
-use borrow.Author.Rules.{rules}
-use Rattle.tree.specs.Grammar.Stage.{input}
-use Rattle.tree.specs.Rows.{fields_in_of}
-use Rattle.tree.specs.Read.{wide_at, read_node, read_fields, read_field, read_list, read_items}
-use Rattle.tree.proofs.AnswerByNumber.{answer}
-use Rattle.tree.specs.Note.{noted, moved, note_items, note_fields, note_node}
+use Rattle.tree.specs.Read.{read_field}
+use Rattle.tree.specs.Note.{noted, note_node}
 use Rattle.tree.proofs.ReaderCycle as law
 use Rattle.tree.proofs.Noting as note
 use Rattle.tree.proofs.Reading as read
-use Prim.Native.Nat.{ℕ, ◌<◌}
+use Prim.Native.Nat.{◌<◌}
 use Rattle.tree.proofs.read.+fields_item_items_node_slot.Goals as goal
-use Rattle.tree.proofs.read.+fields_item_items_node_slot.Goals.{else-holes, then-holes}
+use Rattle.tree.proofs.read.+fields_item_items_node_slot.Goals.{item-else-holes, item-then-holes+else-kind-eq0}
 
 pub fields-loop-r-init : goal.fields-loop-r-init
 fields-loop-r-init t c = (refl, refl, refl)
@@ -35,7 +30,7 @@ pub item-returns-then-kind-eq0 : goal.item-returns-then-kind-eq0
 item-returns-then-kind-eq0 t c = read.told_read _ _ _ _ _ _ (law.item_hole _ _ _ _ _ _ c.if-holes.true c.peek-kind.ensures c.if-kind-eq0.true) (read.hole_moves _ _ 0 _ _ _ c.peek-kind.ensures c.if-kind-eq0.true ∙ note.item_hole _ _ _ _ _ _ c.if-holes.true c.peek-kind.ensures.value c.if-kind-eq0.true)
 
 pub item-returns : goal.item-returns
-item-returns t c = read.told_as _ _ _ _ _ _ (elim c.if-holes.branch [ then-holes w ↦ law.item_other _ _ _ _ _ _ w.0.taken c.peek-kind.ensures w.1.left | else-holes w ↦ law.item_node _ _ _ _ _ w.left ]) (note.met_law _ (note_node c.args.tree.now c.args.left) c.args.literal (noted c.args.notes.now c.args.at c.args.loud) _ _ c.peek-kind.ensures.value c.spread.ensures ∙ (elim c.if-holes.branch [ then-holes w ↦ note.item_other _ _ _ _ (noted c.args.notes.now c.args.at c.args.loud) _ w.0.taken c.peek-kind.ensures.value w.1.left | else-holes w ↦ note.item_node _ _ _ _ (noted c.args.notes.now c.args.at c.args.loud) w.left ])) c.node.ensures
+item-returns t c = read.told_as _ _ _ _ _ _ (elim c.if-holes.branch [ item-then-holes+else-kind-eq0 w ↦ law.item_other _ _ _ _ _ _ w.if-holes.true c.peek-kind.ensures w.if-kind-eq0.false | item-else-holes w ↦ law.item_node _ _ _ _ _ w.if-holes.false ]) (note.met_law _ (note_node c.args.tree.now c.args.left) c.args.literal (noted c.args.notes.now c.args.at c.args.loud) _ _ c.peek-kind.ensures.value c.spread.ensures ∙ (elim c.if-holes.branch [ item-then-holes+else-kind-eq0 w ↦ note.item_other _ _ _ _ (noted c.args.notes.now c.args.at c.args.loud) _ w.if-holes.true c.peek-kind.ensures.value w.if-kind-eq0.false | item-else-holes w ↦ note.item_node _ _ _ _ (noted c.args.notes.now c.args.at c.args.loud) w.if-holes.false ])) c.node.ensures
 
 pub items-returns-then-n-gt65535 : goal.items-returns-then-n-gt65535
 items-returns-then-n-gt65535 t c = read.told_refused _ _ _ _ (law.list_missing _ _ _ _ _ _ c.wide_at-n.ensures c.if-n-gt65535.true)

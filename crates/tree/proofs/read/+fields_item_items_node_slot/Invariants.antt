@@ -1,18 +1,11 @@
-use mathlib.Core.Path.{◌≡◌, refl, sym, ◌∙◌}
-use mathlib.Core.Logic.{⊎_elim}
+use mathlib.Core.Path.{◌≡◌}
 use Prim.Native.Nat.{◌+◌, ◌*◌}
-use native.Mathlib.Omega.{arith}
 use lib.ListN.{length}
-use borrow.Author.Rules.{rules}
 use Rattle.tree.specs.Grammar.Stage.{input}
 use Rattle.tree.specs.Rows.{fields_in_of}
-use Rattle.tree.specs.Read.{wide_at, read_node, read_fields, read_field, read_list, read_items}
+use Rattle.tree.specs.Read.{wide_at, read_node, read_fields, read_list, read_items}
 use Rattle.tree.proofs.AnswerByNumber.{answer}
 use Rattle.tree.specs.Note.{noted, moved, note_items, note_fields, note_node}
-use Rattle.tree.proofs.ReaderCycle as law
-use Rattle.tree.proofs.Noting as note
-use Rattle.tree.proofs.Reading as read
-use Prim.Native.Nat.{ℕ, ◌<◌}
 use Rattle.tree.proofs.read.+fields_item_items_node_slot.Given as goal
 
 abbrev pub invariant-fields-loop-r : goal.invariant-fields-loop-r

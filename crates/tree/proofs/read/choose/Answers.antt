@@ -1,9 +1,7 @@
 use mathlib.Core.Path.{◌≡◌}
-use mathlib.Core.Logic.{⊎_elim}
 use Prim.Native.Nat.{◌-◌}
 use native.Mathlib.Omega.{arith}
 use Rattle.tree.proofs.LeavesRead.{chosen_first, chosen_second}
-use borrow.Author.Rules.{rules}
 use Rattle.tree.proofs.read.choose.Goals as goal
 use Rattle.tree.proofs.read.choose.Goals.{else-at-gt0, then-at-gt0}
 

@@ -1,5 +1,4 @@
 use mathlib.Core.Path.{sym, ap}
-use borrow.Author.Rules.{rules}
 use Rattle.tree.specs.Reading.{leaf_of}
 use Rattle.tree.specs.declared.read.Answer.{Answer}
 use Rattle.tree.proofs.read.leaf.Goals as goal

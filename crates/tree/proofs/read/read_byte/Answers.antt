@@ -3,7 +3,6 @@ use Rattle.tree.proofs.AnswerByNumber.{answers_by}
 use Rattle.tree.proofs.LeavesRead.{byte_in_lem, byte_high, byte_low, byte_missing}
 use Prim.Native.Nat.{◌<◌}
 use lib.ListN.{length}
-use borrow.Author.Rules.{rules}
 use Rattle.tree.proofs.read.read_byte.Goals as goal
 
 pub overflow_add-result : goal.overflow_add-result

@@ -3,7 +3,6 @@ use Rattle.tree.proofs.AnswerByNumber.{answers_by}
 use Rattle.tree.proofs.LeavesRead.{mark_in_lem, mark_other, mark_missing}
 use Prim.Native.Nat.{◌+◌, ◌<◌}
 use lib.ListN.{length}
-use borrow.Author.Rules.{rules}
 use Rattle.tree.proofs.read.read_mark.Goals as goal
 
 pub overflow_add-result : goal.overflow_add-result

@@ -3,7 +3,6 @@ use Rattle.tree.proofs.AnswerByNumber.{answers_by}
 use Rattle.tree.proofs.LeavesRead.{text_missing, text_fits, text_short}
 use Prim.Native.Nat.{◌+◌, ◌<◌}
 use lib.ListN.{length}
-use borrow.Author.Rules.{rules}
 use Rattle.tree.proofs.read.read_text.Goals as goal
 
 pub returns-then-n-gt65535 : goal.returns-then-n-gt65535

@@ -1,4 +1,3 @@
-use borrow.Author.Rules.{rules}
 use Rattle.tree.proofs.ReaderCycle as law
 use Rattle.tree.proofs.Reading as read
 use Rattle.tree.proofs.read.whole.Goals as goal

@@ -3,7 +3,6 @@
 -- src/skip.rt:28:1
 use Rattle.tree.proofs.Skipping as law
 use native.Mathlib.Omega.{arith}
-use borrow.Author.Rules.{rules}
 use Rattle.tree.proofs.skip.note_at.Goals as goal
 
 pub returns-then-at-half-2 : goal.returns-then-at-half-2

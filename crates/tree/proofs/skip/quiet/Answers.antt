@@ -1,6 +1,5 @@
 -- src/skip.rt:41:1
 use Rattle.tree.proofs.Skipping as law
-use borrow.Author.Rules.{rules}
 use Rattle.tree.proofs.skip.quiet.Goals as goal
 
 pub returns : goal.returns

@@ -1,7 +1,6 @@
 -- src/skip.rt:52:9
 -- src/skip.rt:48:1
 use Rattle.tree.proofs.Skipping as law
-use borrow.Author.Rules.{rules}
 use Rattle.tree.proofs.skip.skip.Goals as goal
 
 pub returns-then-left-eq0 : goal.returns-then-left-eq0

@@ -4,9 +4,7 @@
 -- src/skip.rt:110:5
 -- src/skip.rt:105:1
 use Rattle.tree.proofs.Skipping as law
-use Rattle.tree.specs.Look.{look_items, look_node}
-use native.Mathlib.Omega.{arith}
-use mathlib.Core.Path.{◌≡◌, refl, ◌∙◌}
+use mathlib.Core.Path.{◌∙◌}
 use Rattle.tree.proofs.skip.skip_items.Goals as goal
 
 pub loop-n-preserved : goal.loop-n-preserved

@@ -1,7 +1,5 @@
-use Rattle.tree.proofs.Skipping as law
 use Rattle.tree.specs.Look.{look_items, look_node}
-use native.Mathlib.Omega.{arith}
-use mathlib.Core.Path.{◌≡◌, refl, ◌∙◌}
+use mathlib.Core.Path.{◌≡◌}
 use Rattle.tree.proofs.skip.skip_items.Given as goal
 
 abbrev pub invariant-loop-n : goal.invariant-loop-n

@@ -10,7 +10,6 @@
 -- src/skip.rt:73:1
 use Rattle.tree.proofs.Skipping as law
 use mathlib.Core.Path.{◌∙◌}
-use borrow.Author.Rules.{rules}
 use Rattle.tree.proofs.skip.skip_slot.Goals as goal
 
 pub returns-then-bit-eq0 : goal.returns-then-bit-eq0

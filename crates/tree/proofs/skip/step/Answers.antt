@@ -1,5 +1,4 @@
 use Rattle.tree.proofs.Skipping.{step_fits, step_past, step_out}
-use borrow.Author.Rules.{rules}
 use Rattle.tree.proofs.skip.step.Goals as goal
 
 pub returns-then-n-len : goal.returns-then-n-len
