@@ -58,7 +58,7 @@ returns-then-code-gt0 c = (
 )
 
 pub overflow_add-at-2 : goal.overflow_add-at-2
-overflow_add-at-2 c = omega (arith, c.node-what.ensures.2 c.if-what-eq0.false, c.well_formed_lem.1.1.1.0.0)
+overflow_add-at-2 c = omega (arith, c.node-what.ensures.2 c.if-what-eq0.false)
 
 pub returns : goal.returns
 returns c = (

@@ -10,7 +10,7 @@ pub returns-then-is_plain : goal.returns-then-is_plain
 returns-then-is_plain c = λ hs hr hw hc hk hm hn hl. c.plain.ensures hw c.args.tree.now c.args.starts.now (c.is_plain.ensures c.if-is_plain.true) (c.slot_in-slot.ensures hs).1 (c.slot_in-slot.ensures hs).0 (c.sort-sort.ensures hr hk) hc hk hm hn hl
 
 pub overflow_add-result : goal.overflow_add-result
-overflow_add-result c = omega (arith, c.if-level-stack.true, c.well_formed_lem.1.1.1.1.0.0)
+overflow_add-result c = omega arith
 
 pub returns-then-level-stack : goal.returns-then-level-stack
 returns-then-level-stack c = λ hs hr hw hc hk hm hn hl.

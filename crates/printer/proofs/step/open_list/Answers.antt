@@ -9,7 +9,7 @@ use borrow.Author.Rules.{rules}
 use Rattle.printer.proofs.step.open_list.Goals as goal
 
 pub overflow_add-result : goal.overflow_add-result
-overflow_add-result c = omega (arith, c.if-level-stack.true, c.well_formed_lem.1.1.0.0)
+overflow_add-result c = omega arith
 
 pub returns-then-level-stack : goal.returns-then-level-stack
 unfolding list_opening
