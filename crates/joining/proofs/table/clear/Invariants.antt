@@ -1,5 +1,5 @@
 use Rattle.rewritten.proofs.Marks.{cleared_one}
-use lib.ListN.{length, get_or, length_set, get_or-eq_default}
+use lib.ListN.{length, get_or, length-set, get_or-eq_default}
 use Prim.Native.Nat.{ℕ, ◌-◌, ◌≤◌}
 use mathlib.Core.Path.{◌≡◌, refl, ◌∙◌}
 use native.Mathlib.Omega.{arith}

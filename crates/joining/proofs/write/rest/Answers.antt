@@ -10,7 +10,7 @@ pub loop-p-init : goal.loop-p-init
 loop-p-init c = (λ h. law.passing_start _ _ _ _ _ _ _ _ _, refl)
 
 pub overflow_add-p : goal.overflow_add-p
-overflow_add-p c = omega (arith, c.place-q.ensures.0.within, c.loop-p-test.true, c.well_formed_lem)
+overflow_add-p c = omega (arith, c.place-q.ensures.0.within, c.loop-p-test.true, c.well_formed)
 
 pub loop-p-smaller : goal.loop-p-smaller
 loop-p-smaller c = omega (arith, c.place-q.ensures.0.within, c.place-q.ensures.0.onward, c.loop-p-test.true)
