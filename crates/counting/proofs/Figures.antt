@@ -3,7 +3,7 @@
 use mathlib.Core.Path.{◌≡◌, refl, sym, ap, ◌∙◌}
 use Prim.Native.Nat.{ℕ, zero, suc, ◌+◌, ◌*◌, ◌-◌, ◌/◌, ◌^◌, ◌<◌, ◌≤◌}
 use native.Mathlib.Nat.{two-pow-succ, mul-suc, add-mul, zero-mul, mul-sub, mul-le-mul, div-eq_of_eq-mul_left}
-use native.Mathlib.Numerals.{add_one}
+use native.Mathlib.Numerals.{add-one}
 use native.Mathlib.Omega.{arith}
 use borrow.Author.Tests.{lt-ltb, le-ltb, ltb-true, ltb-false}
 use lib.Dec.{T, leb, ltb, leb→le}
@@ -129,7 +129,7 @@ next_way m j =
     let p = next_choose m j in
     let q = mul-sub (choose m j) m j in
     let e : choose m j * (m - j) ≡ choose m (suc j) * suc j = omega arith in
-    rw (add_one j) (div-eq_of_eq-mul_left {n = suc j} {m = choose m j * (m - j)} {k = choose m (suc j)} (omega arith) e)
+    rw (add-one j) (div-eq_of_eq-mul_left {n = suc j} {m = choose m j * (m - j)} {k = choose m (suc j)} (omega arith) e)
 
 pub way_on : (m j r : ℕ) → r ≡ choose m j → r * (m - j) / (j + 1) ≡ choose m (j + 1)
 way_on m j r e = ap (λ (x : ℕ). x * (m - j) / (j + 1)) e ∙ next_way m j

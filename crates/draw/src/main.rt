@@ -4,7 +4,10 @@
 
 ghost use Rattle.std.specs.Prelude.{◌≡◌};
 
-use libc::STDOUT_FILENO;
+use std::env;
+
+// Standard output.
+const STDOUT_FILENO: i32 = 1;
 
 #[derive(Clone, Copy)]
 enum Seed {
@@ -67,18 +70,37 @@ fn report(seed: u32, out: &mut [u8]) {
     say_tree(&out[..n]);
 }
 
-fn main() {
-    let mut text = [0u8; 10];
-    let n = os::arg(1, &mut text);
-    if os::arg_count() != 2 {
-        say(b"usage: draw SEED, a decimal number below 4294967296\n");
+fn usage() {
+    say(b"usage: draw SEED, a decimal number below 4294967296\n");
+}
+
+// The longest argument that is read as a seed.
+const DIGITS: usize = 10;
+
+fn drawn(text: &[u8]) {
+    if DIGITS < text.len() {
+        usage();
         return;
     }
-    match seed_of(&text[..n]) {
+    match seed_of(text) {
         Seed::Given(seed) => {
             let mut out = [0u8; 16384];
             report(seed, &mut out);
         }
-        Seed::Missing => say(b"usage: draw SEED, a decimal number below 4294967296\n"),
+        Seed::Missing => usage(),
     }
+}
+
+fn main(rt: HostRuntime) -> std::io::Result<()> {
+    match env::args(&rt) {
+        Ok(mut args) => {
+            args.next();
+            match (args.next(), args.next()) {
+                (Some(text), None) => drawn(text.as_bytes()),
+                _ => usage(),
+            }
+        }
+        Err(_) => usage(),
+    }
+    Ok(())
 }

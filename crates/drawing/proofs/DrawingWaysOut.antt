@@ -1,10 +1,10 @@
 -- Nodes, fields and lists: one law for each way out of the code that draws them.
 -- Assumes nothing.
-use Rattle.std.proofs.Common.{◌≡◌, ℕ, zero, suc, ◌+◌, ◌-◌, ◌*◌, ◌/◌, ◌%◌, ◌<◌, ◌≤◌, Bool, true, false, cond, T, ltb, leb, List, [], ◌∷◌, ◌++◌, length, get_or, set, refl, ap, ◌∙◌, arith, leb→le, length_set, eq-eqb, ne_eqb}
+use Rattle.std.proofs.Common.{◌≡◌, ℕ, zero, suc, ◌+◌, ◌-◌, ◌*◌, ◌/◌, ◌%◌, ◌<◌, ◌≤◌, Bool, true, false, cond, T, ltb, leb, List, [], ◌∷◌, ◌++◌, length, get_or, set, refl, ap, ◌∙◌, arith, leb→le, length-set, eq-eqb, ne_eqb}
 use Rattle.tree.specs.Tree.{Node, Fields, Piece, Items, wide_bytes, encode, encode_fields, encode_piece, encode_items, map_of, count}
 use Rattle.tree.specs.Tree.Node.{node}
 use Rattle.tree.specs.Tree.Fields.{absent, field}
-use Rattle.tree.specs.Tree.Piece.{one, list, byte, mark}
+use Rattle.tree.specs.Tree.Piece.{one, list}
 use Rattle.tree.specs.Tree.Items.{item}
 use Rattle.tree.specs.Grammar.{Field, form_at, fields_of, kinds, variants}
 use Rattle.tree.specs.Grammar.Stage.{input}
@@ -239,7 +239,7 @@ node_bytes kind m xs l l₁ l₂ at a₁ a₂ e₁ e₂ = rw (e₂.1, e₂.0) (p
 
 node_end : (kind m : ℕ) (xs l l₁ l₂ : List ℕ) (at a₁ a₂ : ℕ) → Put l at kind a₁ l₁ → Put l₁ a₁ 0 a₂ l₂ → reach (length l₂) a₂ xs ≡ reach (length l) at (kind ∷ m ∷ xs)
 unfolding reach
-node_end kind m xs l l₁ l₂ at a₁ a₂ e₁ e₂ = rw (e₂.1, e₂.0, length_set l₁ a₁ 0, e₁.1, e₁.0, length_set l at kind)
+node_end kind m xs l l₁ l₂ at a₁ a₂ e₁ e₂ = rw (e₂.1, e₂.0, length-set l₁ a₁ 0, e₁.1, e₁.0, length-set l at kind)
 
 node_close : (kind : ℕ) (l l₁ l₂ l₃ l₄ : List ℕ) (at a₁ a₂ a₃ : ℕ) (h : Pen) (g : Drawn Fields) → Mapped 64 g → Put l at kind a₁ l₁ → Put l₁ a₁ 0 a₂ l₂ → page l₃ h ≡ drew_fields l₂ a₂ g → Put l₃ a₁ h.value a₃ l₄
     → page l₄ (pen h.state h.more h.mark h.at 0) ≡ drew_node l at (mapped (node 0 kind) g)

@@ -1,6 +1,6 @@
 -- What drawing leaves, part by part: one law for each way out of the code.
 -- Assumes nothing.
-use Rattle.std.proofs.Common.{◌≡◌, ℕ, suc, ◌+◌, ◌-◌, ◌/◌, ◌%◌, ◌<◌, ◌≤◌, Bool, true, false, cond, eqb, leb, List, [], ◌∷◌, ◌++◌, length, get_or, set, sym, refl, ◌∙◌, mod-lt, add_one, arith, length_set, set-set, eq-eqb, ne_eqb, le-leb}
+use Rattle.std.proofs.Common.{◌≡◌, ℕ, suc, ◌+◌, ◌-◌, ◌/◌, ◌%◌, ◌<◌, ◌≤◌, Bool, true, false, cond, eqb, leb, List, [], ◌∷◌, ◌++◌, length, get_or, set, sym, refl, ◌∙◌, mod-lt, add-one, arith, length-set, set-set, eq-eqb, ne_eqb, le-leb}
 use native.Mathlib.Decide.{dec_lt}
 use lib.Seq.{set_comm, set_out}
 use borrow.Author.Tests.{lt-leb}
@@ -19,12 +19,12 @@ use Rattle.drawing.specs.declared.pen.Pen.{Pen}
 pub put_length : (l : List ℕ) (at : ℕ) (xs : List ℕ) → length (put l at xs) ≡ length l
 unfolding put
 put_length l at [] = refl
-put_length l at (x ∷ xs) = put_length (set l at x) (next (length l) at) xs ∙ length_set l at x
+put_length l at (x ∷ xs) = put_length (set l at x) (next (length l) at) xs ∙ length-set l at x
 
 pub put_two : (l : List ℕ) (at : ℕ) (xs ys : List ℕ) → put l at (xs ++ ys) ≡ put (put l at xs) (reach (length l) at xs) ys
 unfolding put reach
 put_two l at [] ys = refl
-put_two l at (x ∷ xs) ys = put_two (set l at x) (next (length l) at) xs ys ∙ rw (length_set l at x)
+put_two l at (x ∷ xs) ys = put_two (set l at x) (next (length l) at) xs ys ∙ rw (length-set l at x)
 
 pub reach_two : (n at : ℕ) (xs ys : List ℕ) → reach n at (xs ++ ys) ≡ reach n (reach n at xs) ys
 unfolding reach
@@ -49,7 +49,7 @@ unfolding put
 put_later l i m at [] h = refl
 put_later l i m at (x ∷ xs) h =
     put_later (set l at x) i m (next (length l) at) xs (omega (arith, next_le (length l) at))
-    ∙ rw (set_comm l at i x m (λ e. omega (arith, e)), length_set l i m)
+    ∙ rw (set_comm l at i x m (λ e. omega (arith, e)), length-set l i m)
 
 -- past the end nothing is changed
 put_past : (l : List ℕ) (i m at : ℕ) (xs : List ℕ) → length l ≤ i → set (put l at xs) i m ≡ put (set l i m) at xs
@@ -59,7 +59,7 @@ put_past l i m at xs h = set_out (put l at xs) i m (rw (put_length l at xs) h) �
 pub put_again : (l : List ℕ) (i a m : ℕ) (xs : List ℕ) → set (put (set l i a) (next (length l) i) xs) i m ≡ put (set l i m) (next (length l) i) xs
 put_again l i a m xs = elim (dec_lt i (length l)) [
   | yes h ↦ put_later (set l i a) i m (next (length l) i) xs (ahead h) ∙ rw (set-set l i a m)
-  | no h ↦ put_past (set l i a) i m (next (length l) i) xs (rw (length_set l i a) (omega arith)) ∙ rw (set-set l i a m)
+  | no h ↦ put_past (set l i a) i m (next (length l) i) xs (rw (length-set l i a) (omega arith)) ∙ rw (set-set l i a m)
 ]
   where
     ahead : i < length l → i < next (length l) i
@@ -103,7 +103,7 @@ Wide l at n at' l' = (at' ≡ reach (length l) at (wide_bytes n)) × (l' ≡ put
 
 pub wide_put : (l : List ℕ) (at n a₁ : ℕ) (l₁ : List ℕ) (a₂ : ℕ) (l₂ : List ℕ) → Put l at (n % 256) a₁ l₁ → Put l₁ a₁ (n / 256) a₂ l₂ → Wide l at n a₂ l₂
 unfolding put reach
-wide_put l at n a₁ l₁ a₂ l₂ e f = (f.0 ∙ rw (e.1, e.0, length_set l at (n % 256)), f.1 ∙ rw (e.1, e.0))
+wide_put l at n a₁ l₁ a₂ l₂ e f = (f.0 ∙ rw (e.1, e.0, length-set l at (n % 256)), f.1 ∙ rw (e.1, e.0))
 
 abbrev pub pen : ℕ → ℕ → ℕ → ℕ → ℕ → Pen
 pen s b k at v = record { state = s; more = b; mark = k; at = at; value = v }
@@ -133,21 +133,21 @@ module _ (l : List ℕ) (at s b k : ℕ) where
   unfolding draw_byte encode_piece put reach
   byte_drawn low high x a₁ l₁ h z e =
       rw (lt-leb high low h)
-      (rw (← z, ← add_one (high - low)) (wrote encode_piece byte_in (byte (low + x % (high - low + 1))) x b k l l₁ at a₁ (low + x % (high - low + 1)) e.1 e.0 refl))
+      (rw (← z, ← add-one (high - low)) (wrote encode_piece byte_in (byte (low + x % (high - low + 1))) x b k l l₁ at a₁ (low + x % (high - low + 1)) e.1 e.0 refl))
 
   pub mark_drawn : (m a₁ : ℕ) (l₁ : List ℕ) → m ≡ (k + 1) % 65536 → Wide l at k a₁ l₁ → page l₁ (pen s b m a₁ 0) ≡ drew_piece l at (draw_mark s b k)
   unfolding draw_mark encode_piece
-  mark_drawn m a₁ l₁ z e = rw (← add_one k, ← z) (wrote encode_piece byte_in (mark k) s b m l l₁ at a₁ 0 e.1 e.0 refl)
+  mark_drawn m a₁ l₁ z e = rw (← add-one k, ← z) (wrote encode_piece byte_in (mark k) s b m l l₁ at a₁ 0 e.1 e.0 refl)
 
   pub number_drawn : (x a₁ : ℕ) (l₁ : List ℕ) → x ≡ step s → Wide l at (x % 65536) a₁ l₁ → page l₁ (pen x b k a₁ 0) ≡ drew_piece l at (draw_number s b k)
   unfolding draw_number encode_piece
   number_drawn x a₁ l₁ z e = rw (← z) (wrote encode_piece byte_in (number (x % 65536)) x b k l l₁ at a₁ 0 e.1 e.0 refl)
 
 pub put_in : (l : List ℕ) (at x : ℕ) → at < length l → Put l at x (at + 1) (set l at x)
-put_in l at x h = (add_one at ∙ sym (next_in_lem (length l) at (omega arith)), refl)
+put_in l at x h = (add-one at ∙ sym (next_in_lem (length l) at (omega arith)), refl)
 
 pub put_end : (l : List ℕ) (at x : ℕ) → at ≡ length l → Put l at x (at + 1) l
-put_end l at x h = (add_one at ∙ sym (next_in_lem (length l) at (omega arith)), sym (set_out l at x (omega arith)))
+put_end l at x h = (add-one at ∙ sym (next_in_lem (length l) at (omega arith)), sym (set_out l at x (omega arith)))
 
 pub put_over : (l : List ℕ) (at x : ℕ) → length l ≤ at → (at ≡ length l → ⊥) → Put l at x at l
 unfolding next

@@ -5,8 +5,12 @@
 ghost use Rattle.std.specs.Prelude.{◌≡◌};
 
 use joining::{Joined, join};
-use libc::{STDIN_FILENO, STDOUT_FILENO};
 use tree::bytes;
+
+// Standard input and output.
+const STDIN_FILENO: i32 = 0;
+
+const STDOUT_FILENO: i32 = 1;
 
 // A length, a tree of 32,768 bytes, a list of 16,384 and a byte behind it, so that a longer list is seen.
 const ROOM: usize = 65538;

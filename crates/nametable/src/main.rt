@@ -1,7 +1,8 @@
 // Makes the table of name bytes from its rule, and prints it in hexadecimal, one line.
 #![tactic(auto)]
 
-use libc::STDOUT_FILENO;
+// Standard output.
+const STDOUT_FILENO: i32 = 1;
 
 fn wide(b: u8) -> u64 {
     b as u64

@@ -2,11 +2,15 @@
 // against the second, or `3` if the input is no such pair of rewritten trees.
 #![tactic(auto)]
 
-use libc::{STDIN_FILENO, STDOUT_FILENO};
 use ordering::compare;
 use ordering::compare::Answer;
 use ordering::verdict::Verdict;
 use tree::bytes;
+
+// Standard input and output.
+const STDIN_FILENO: i32 = 0;
+
+const STDOUT_FILENO: i32 = 1;
 
 // Two lengths, two trees of 32,768 bytes, and a byte behind them, so that a longer input is seen.
 const ROOM: usize = 65541;

@@ -6,7 +6,7 @@ use mathlib.Core.List.{List, [], ◌∷◌}
 use Prim.Native.Nat.{ℕ, suc, ◌+◌, ◌<◌, ◌≤◌}
 use native.Mathlib.Omega.{arith}
 use lib.Dec.{eqb}
-use lib.ListN.{length, get_or, set, length_set}
+use lib.ListN.{length, get_or, set, length-set}
 use lib.Seq.{get_or-set_same, get_or-set_other}
 use borrow.Author.Tests.{eq-eqb, ne_eqb}
 use Rattle.rewritten.proofs.Marks.{by_same, set_past}
@@ -63,7 +63,7 @@ module _ (table numbers : List ℕ) (k : Knows table numbers) (n met : ℕ) (sma
           (λ d. rw (ne_eqb n x d) (get_or-set_other table n x (met + 1) 0 (λ w. d (sym w)) ∙ k.at x s))
 
       go : (b : Bool) → Knows (cond b (set table n (met + 1)) table) (cond b (n ∷ numbers) numbers)
-      go true = record { size = let z : 65536 ≤ length table = k.size in let e : length (set table n (met + 1)) ≡ length table = length_set table n (met + 1) in omega arith; at = others }
+      go true = record { size = let z : 65536 ≤ length table = k.size in let e : length (set table n (met + 1)) ≡ length table = length-set table n (met + 1) in omega arith; at = others }
       go false = k
 
   pub few_more : length (meet numbers n) ≤ suc (length numbers)

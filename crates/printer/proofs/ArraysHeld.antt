@@ -4,7 +4,7 @@ use mathlib.Core.Path.{◌≡◌, refl, sym, ap, ◌∙◌}
 use mathlib.Core.List.{List, [], ◌∷◌, ◌++◌}
 use Prim.Native.Nat.{ℕ, zero, suc, ◌+◌, ◌-◌, ◌*◌, ◌/◌, ◌%◌, ◌<◌, ◌≤◌}
 use native.Mathlib.Omega.{arith}
-use native.Mathlib.Numerals.{add_one}
+use native.Mathlib.Numerals.{add-one}
 use native.Mathlib.Decide.{dec_lt}
 use lib.ListN.{length, get_or, set, drop, length-append, get_or-append, get_or-eq_default, drop_of_length-le}
 use lib.Seq.{get_or-set_same, get_or-set_other, get_or-append-add, drop-cons}
@@ -125,7 +125,7 @@ opens_kept st (suc n) m v h = ap (λ (x : ℕ). open_in x ∷ opens_in (set st m
 pub pushed : (st : List ℕ) (n v : ℕ) → n < length st → opens_in (set st n v) (n + 1) ≡ open_in v ∷ opens_in st n
 unfolding opens_in
 pushed st n v h =
-    ap (opens_in (set st n v)) (add_one n)
+    ap (opens_in (set st n v)) (add-one n)
     ∙ ap (λ (x : ℕ). open_in x ∷ opens_in (set st n v) n) (get_or-set_same st n v 0 h)
     ∙ ap (λ (l : List Open). open_in v ∷ l) (opens_kept st n n v (omega arith))
 
@@ -195,7 +195,7 @@ module _ (tree starts : List ℕ) (count : ℕ) where
   over_none next e = ap (λ (c : Cell). step_over c next) (cell_at_lem next ∙ cell_by tree (start_of starts count next) e)
 
   pub over_some : (next : ℕ) → (start_of starts count next ≡ 0 → ⊥) → step_over (cell_at (held_in tree starts count) next) next ≡ next + 1
-  over_some next z = ap (λ (c : Cell). step_over c next) (cell_at_lem next ∙ cell_some tree (start_of starts count next) z) ∙ sym (add_one next)
+  over_some next z = ap (λ (c : Cell). step_over c next) (cell_at_lem next ∙ cell_some tree (start_of starts count next) z) ∙ sym (add-one next)
 
   pub past_none : (next : ℕ) → count < next → start_of starts count next ≡ 0
   past_none zero h = refl
@@ -227,7 +227,7 @@ module _ (tree starts : List ℕ) (count : ℕ) where
       let d : drop i (held_in tree starts count) ≡ quasi (text_at_of tree (get_or starts i 0 - 1)) ∷ drop (i + 1) (held_in tree starts count) =
       drop-cons (held_in tree starts count) i stop (omega (arith, held_length tree starts count))
       ∙ ap (λ (c : Cell). c ∷ drop (suc i) (held_in tree starts count)) (held_at tree starts count i h ∙ cell_some tree (get_or starts i 0) z)
-      ∙ ap (λ (j : ℕ). quasi (text_at_of tree (get_or starts i 0 - 1)) ∷ drop j (held_in tree starts count)) (sym (add_one i)) in
+      ∙ ap (λ (j : ℕ). quasi (text_at_of tree (get_or starts i 0 - 1)) ∷ drop j (held_in tree starts count)) (sym (add-one i)) in
       sym (write_append b (text_at_of tree (get_or starts i 0 - 1)) (left_over_of (drop (i + 1) (held_in tree starts count))))
       ∙ ap (λ (l : List Cell). write b (left_over_of l)) (sym d)
 

@@ -4,7 +4,7 @@ use mathlib.Core.Path.{◌≡◌, refl, sym, ap, ◌∙◌}
 use mathlib.Core.Bool.{Bool, true, false}
 use Prim.Native.Nat.{ℕ, zero, suc, ◌+◌, ◌-◌, ◌*◌, ◌/◌, ◌%◌, ◌^◌, ◌<◌, ◌≤◌}
 use native.Mathlib.Omega.{arith}
-use native.Mathlib.Numerals.{add_one}
+use native.Mathlib.Numerals.{add-one}
 use native.Mathlib.Decide.{dec_lt}
 use native.Mathlib.Nat.{pow-succ'}
 use lib.Dec.{eqb}
@@ -77,7 +77,7 @@ unfolding lowest pick_low
 lowest_even r n e =
     low_fuel r (suc r) r (omega arith) (omega arith)
     ∙ low_step r r
-    ∙ rw (ne_eqb r 0 n, eq-eqb (r % 2) 0 e) (ap suc (low_fuel r (r / 2) (r / 2) (omega arith) (omega arith)) ∙ sym (add_one (lowest_from (r / 2) (r / 2))))
+    ∙ rw (ne_eqb r 0 n, eq-eqb (r % 2) 0 e) (ap suc (low_fuel r (r / 2) (r / 2) (omega arith) (omega arith)) ∙ sym (add-one (lowest_from (r / 2) (r / 2))))
 
 pub lowest_odd : (r : ℕ) → (r ≡ 0 → ⊥) → (r % 2 ≡ 0 → ⊥) → lowest r ≡ 0
 unfolding lowest pick_low
@@ -140,7 +140,7 @@ trailing_even r t n e p =
     let b : r / 2 - 2 ^ t ≡ without (r / 2) = p.rest in
     let d : 2 ^ t ≤ r / 2 = p.within in
     record {
-      low = ap suc p.low ∙ sym (add_one (lowest (r / 2))) ∙ sym (lowest_even r n e);
+      low = ap suc p.low ∙ sym (add-one (lowest (r / 2))) ∙ sym (lowest_even r n e);
       rest = omega arith;
       within = omega arith;
     }

@@ -4,7 +4,7 @@ use mathlib.Core.Path.{◌≡◌, refl, sym, ap, ◌∙◌}
 use mathlib.Core.List.{List, [], ◌∷◌, ◌++◌, append-nil, append_assoc}
 use Prim.Native.Nat.{ℕ, suc, ◌+◌, ◌*◌, ◌/◌, ◌%◌, ◌<◌, ◌≤◌}
 use native.Mathlib.Omega.{arith}
-use native.Mathlib.Numerals.{add_one}
+use native.Mathlib.Numerals.{add-one}
 use lib.ListN.{length, get_or}
 use Rattle.tree.specs.Tree.{Node}
 use Rattle.printer.specs.Text.{text_of, outside}
@@ -159,7 +159,7 @@ module _ (tree log stack starts text₀ text : List ℕ) (s : State) (i : ℕ) (
   going_next stack' starts' text' u b f m =
       let r : Printing = ran tree log i in
       let es : List Entry = entries_in tree v in
-      rw (add_one i) (record {
+      rw (add-one i) (record {
         room = rw b g.room;
         quasis = rw f g.quasis;
         state =

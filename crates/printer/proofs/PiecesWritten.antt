@@ -5,11 +5,11 @@ use mathlib.Core.Bool.{Bool, true, false, cond}
 use mathlib.Core.List.{List, [], ◌∷◌, ◌++◌}
 use Prim.Native.Nat.{ℕ, zero, suc, ◌+◌, ◌-◌, ◌*◌, ◌/◌, ◌%◌, ◌^◌, ◌<◌, ◌≤◌}
 use native.Mathlib.Omega.{arith}
-use native.Mathlib.Numerals.{add_one}
+use native.Mathlib.Numerals.{add-one}
 use native.Mathlib.Nat.{pow-suc}
 use native.Mathlib.Decide.{dec_lt}
 use lib.Dec.{T, eqb, ltb, eqb→eq}
-use lib.ListN.{length, get_or, set, take, drop, drop_of_length-le, length-drop, length_set}
+use lib.ListN.{length, get_or, set, take, drop, drop_of_length-le, length-drop, length-set}
 use lib.Seq.{drop-cons}
 use borrow.Author.Tests.{eq-eqb, ne_eqb, lt-ltb, le-ltb}
 use Rattle.tree.proofs.Sound.{never}
@@ -102,8 +102,8 @@ module _ {size : ℕ} {whole : Buffer} {out : List ℕ} {s w : ℕ} (c : DigitsL
 
   pub digit_placed : 0 < w → DigitsLeft size whole (set out s (w % 256)) (s + 1) (w / 256)
   digit_placed h = record {
-    kept = length_set out s (w % 256) ∙ c.kept;
-    room = omega (arith, length_set out s (w % 256), ap (λ (l : List ℕ). length l) (bytes_more w h));
+    kept = length-set out s (w % 256) ∙ c.kept;
+    room = omega (arith, length-set out s (w % 256), ap (λ (l : List ℕ). length l) (bytes_more w h));
     rest = byte_placed out (bytes_in w) (bytes_in (w / 256)) s (w % 256) (digit_fits h) (bytes_more w h) ∙ c.rest;
   }
 
@@ -233,7 +233,7 @@ pub part_step : (l : List ℕ) (i e : ℕ) → i < e → e ≤ length l → take
 part_step l i e h g =
     ap (take (e - i)) (drop-cons l i 0 (omega arith))
     ∙ take_suc_cons (e - i) (get_or l i 0) (drop (suc i) l) (omega arith)
-    ∙ ap (λ (r : List ℕ). get_or l i 0 ∷ r) (ap (λ (m : ℕ). take m (drop (suc i) l)) (less i e) ∙ ap (λ (j : ℕ). take (e - (i + 1)) (drop j l)) (sym (add_one i)))
+    ∙ ap (λ (r : List ℕ). get_or l i 0 ∷ r) (ap (λ (m : ℕ). take m (drop (suc i) l)) (less i e) ∙ ap (λ (j : ℕ). take (e - (i + 1)) (drop j l)) (sym (add-one i)))
 
 pub part_end : (l : List ℕ) (i e : ℕ) → e ≤ i → take (e - i) (drop i l) ≡ []
 part_end l i e h = let z : e - i ≡ 0 = omega arith in ap (λ (m : ℕ). take m (drop i l)) z
@@ -265,9 +265,9 @@ copying_starts l at n e out s c h g = record {
 
 next_copied : {l : List ℕ} {e size : ℕ} {whole : Buffer} {out : List ℕ} {s i t j : ℕ} → Copying l e size whole out s i → i < e → t ≡ s + 1 → j ≡ i + 1 → Copying l e size whole (set out s (get_or l i 0)) t j
 next_copied {l} {e} {size} {whole} {out} {s} {i} {t} {j} c h p q = rw (p, q) (record {
-  kept = length_set out s (get_or l i 0) ∙ c.kept;
+  kept = length-set out s (get_or l i 0) ∙ c.kept;
   low = omega arith;
-  room = omega (arith, length_set out s (get_or l i 0));
+  room = omega (arith, length-set out s (get_or l i 0));
   inside = omega arith;
   rest = byte_placed out (take (e - i) (drop i l)) (take (e - (i + 1)) (drop (i + 1) l)) s (get_or l i 0) (omega arith) (part_step l i e h (omega arith)) ∙ c.rest;
 })

@@ -6,9 +6,9 @@ use mathlib.Core.List.{List, [], ◌∷◌, ◌++◌}
 use Prim.Native.Nat.{ℕ, zero, suc, ◌+◌, ◌-◌, ◌<◌, ◌≤◌}
 use native.Mathlib.Omega.{arith}
 use native.Mathlib.Decide.{dec_lt}
-use native.Mathlib.Numerals.{add_one}
+use native.Mathlib.Numerals.{add-one}
 use lib.Dec.{ltb}
-use lib.ListN.{length, get_or, set, drop, replicate, length_set, length-replicate, get_or-replicate, get_or-eq_default}
+use lib.ListN.{length, get_or, set, drop, replicate, length-set, length-replicate, get_or-replicate, get_or-eq_default}
 use lib.Seq.{ext_get_or, sets, sets-eq}
 use borrow.Author.Tests.{lt-ltb, le-ltb, le-leb, lt-leb}
 use Rattle.tree.specs.Tree.{Node}
@@ -46,14 +46,14 @@ unfolding write
 write_fits [] l n h = let e : n ≡ n + 0 = omega arith in ap (λ (z : ℕ). buffer l z false) e
 write_fits (x ∷ xs) l n h =
     ap (λ (b : Buffer). write b xs) (put_fits l n x (omega arith))
-    ∙ write_fits xs (set l n x) (n + 1) (omega (arith, length_set l n x))
-    ∙ (let e : n + 1 + length xs ≡ n + suc (length xs) = omega arith in ap₂ (λ (y : List ℕ) (z : ℕ). buffer y z false) (ap (λ (i : ℕ). sets (set l n x) i xs) (add_one n)) e)
+    ∙ write_fits xs (set l n x) (n + 1) (omega (arith, length-set l n x))
+    ∙ (let e : n + 1 + length xs ≡ n + suc (length xs) = omega arith in ap₂ (λ (y : List ℕ) (z : ℕ). buffer y z false) (ap (λ (i : ℕ). sets (set l n x) i xs) (add-one n)) e)
 
 write_long : (xs l : List ℕ) (n : ℕ) → n ≤ length l → length l < n + length xs → (write (buffer l n false) xs).over ≡ true
 unfolding write
 write_long [] l n h g = absurd (omega arith)
 write_long (x ∷ xs) l n h g = elim (dec_lt n (length l)) [
-  | yes k ↦ ap (λ (b : Buffer). (write b xs).over) (put_fits l n x k) ∙ write_long xs (set l n x) (n + 1) (omega (arith, length_set l n x)) (omega (arith, length_set l n x))
+  | yes k ↦ ap (λ (b : Buffer). (write b xs).over) (put_fits l n x k) ∙ write_long xs (set l n x) (n + 1) (omega (arith, length-set l n x)) (omega (arith, length-set l n x))
   | no k ↦ ap (λ (b : Buffer). (write b xs).over) (put_over l n x (omega arith)) ∙ ap (λ (b : Buffer). b.over) (write_over l n xs)
 ]
 
@@ -67,7 +67,7 @@ spot_past l t k = rw (lt-ltb (length l) t k) refl
 
 pub spot_fits : (l : List ℕ) (s x : ℕ) → s < length l → buffer_in (set l s x) (s + 1) ≡ put (buffer_in l s) x
 spot_fits l s x h =
-    spot_in (set l s x) (s + 1) (omega (arith, length_set l s x))
+    spot_in (set l s x) (s + 1) (omega (arith, length-set l s x))
     ∙ sym (ap (λ (b : Buffer). put b x) (spot_in l s (omega arith)) ∙ put_fits l s x h)
 
 pub spot_over : (l : List ℕ) (s t x : ℕ) → length l ≤ s → length l < t → buffer_in l t ≡ put (buffer_in l s) x

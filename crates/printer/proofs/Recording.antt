@@ -6,9 +6,9 @@ use mathlib.Core.List.{List, [], ◌∷◌, ◌++◌, append_assoc}
 use Prim.Native.Nat.{ℕ, zero, suc, ◌+◌, ◌-◌, ◌/◌, ◌%◌, ◌<◌, ◌≤◌}
 use native.Mathlib.Omega.{arith}
 use native.Mathlib.Decide.{dec_lt}
-use native.Mathlib.Numerals.{add_one}
+use native.Mathlib.Numerals.{add-one}
 use lib.Dec.{eqb}
-use lib.ListN.{length, get_or, set, length_set}
+use lib.ListN.{length, get_or, set, length-set}
 use lib.Seq.{get_or-set_same, get_or-set_other}
 use borrow.Author.Tests.{eq-eqb, ne_eqb, lt-ltb}
 use Rattle.tree.specs.Tree.{Node}
@@ -58,7 +58,7 @@ module _ (l log stack : List ℕ) (deep count v : ℕ) (opened : (d : ℕ) → d
   more_places = places_same l log (set log count v) stack stack deep (λ d h. ap length (entries_kept l log count v (get_or stack d 0) (omega (arith, opened d h))))
 
   more_made : entries_to l (set log count v) (count + 1) ≡ entries_to l log count ++ entries_in l v
-  more_made = ap (entries_to l (set log count v)) (add_one count) ∙ entries_more l log count v room
+  more_made = ap (entries_to l (set log count v)) (add-one count) ∙ entries_more l log count v room
 
   -- entries that follow
   pub made_more : made_in_of l stack (set log count v) deep (count + 1) ≡ made (places_to l log stack deep) (entries_to l log count ++ entries_in l v)
@@ -70,7 +70,7 @@ module _ (l log stack : List ℕ) (deep count v : ℕ) (opened : (d : ℕ) → d
   made_opened h =
       let s : List ℕ = set stack deep count in
       let g : List ℕ = set log count v in
-      ap (λ (n : ℕ). made (places_to l g s n) (entries_to l g (count + 1))) (add_one deep)
+      ap (λ (n : ℕ). made (places_to l g s n) (entries_to l g (count + 1))) (add-one deep)
       ∙ ap₂ (λ (x : ℕ) (xs : List ℕ). made (x ∷ xs) (entries_to l g (count + 1)))
       (ap (λ (i : ℕ). length (entries_to l g i)) (get_or-set_same stack deep count 0 h) ∙ ap length (entries_kept l log count v count (omega arith)))
       (places_same l log g stack s deep (λ d k. ap (λ (i : ℕ). length (entries_to l g i)) (get_or-set_other stack deep d count 0 (λ e. absurd (omega arith))) ∙ ap length (entries_kept l log count v (get_or stack d 0) (omega (arith, opened d k)))))
@@ -156,10 +156,10 @@ module _ (l fs later stack log : List ℕ) (c d : Cursor) (count : ℕ) (es : Li
     next_by stack' size opened same = record {
       kept = record {
         places = omega (arith, size, m.places);
-        numbers = omega (arith, length_set now count v, m.numbers);
+        numbers = omega (arith, length-set now count v, m.numbers);
         opened = opened;
-        deep = ap (deep_to (set now count v)) (add_one count) ∙ deep_more l now count v fits ∙ ap (deep_by (v % 16)) m.deep ∙ level;
-        most = omega (arith, ap (bytes_to (set now count v)) (add_one count) ∙ bytes_more l now count v fits, bytes, m.most);
+        deep = ap (deep_to (set now count v)) (add-one count) ∙ deep_more l now count v fits ∙ ap (deep_by (v % 16)) m.deep ∙ level;
+        most = omega (arith, ap (bytes_to (set now count v)) (add-one count) ∙ bytes_more l now count v fits, bytes, m.most);
         sound = λ i h. sound_more l now count v fits (rw m.deep allowed) (omega (arith, bytes, inside, m.most, g.short)) m.sound i (omega (arith, h));
       };
       short = g.short;
@@ -175,7 +175,7 @@ module _ (l fs later stack log : List ℕ) (c d : Cursor) (count : ℕ) (es : Li
     -- something opens
     pub next_opened : c.deep < length stack → d.deep ≡ c.deep + 1 → folded collect (made_in_of l stack log c.deep count) es ≡ made (length (entries_to l now count) ∷ places_to l now stack c.deep) (entries_to l now count ++ entries_in l v) → Recording l later (set stack c.deep count) (set now count v) d (count + 1)
     next_opened h e is =
-        next_by (set stack c.deep count) (length_set stack c.deep count) (λ x k. here x (omega (arith, e, k)))
+        next_by (set stack c.deep count) (length-set stack c.deep count) (λ x k. here x (omega (arith, e, k)))
         (ap (λ (n : ℕ). made_in_of l (set stack c.deep count) (set now count v) n (count + 1)) e ∙ made_opened l now stack c.deep count v m.opened fits h ∙ sym is)
       where
         here : (x : ℕ) → x < c.deep + 1 → get_or (set stack c.deep count) x 0 < count + 1
@@ -209,7 +209,7 @@ module _ (l stack log : List ℕ) (c : Cursor) (count : ℕ) (m : Kept stack log
       rw w (record {
         kept = record {
           places = m.places;
-          numbers = omega (arith, length_set log i (with_byte (get_or log i 0) b), m.numbers);
+          numbers = omega (arith, length-set log i (with_byte (get_or log i 0) b), m.numbers);
           opened = m.opened;
           deep = noted_deep l log i b f small count ∙ m.deep;
           most = omega (arith, noted_bytes l log i b f small count, m.most);

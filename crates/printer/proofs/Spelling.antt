@@ -8,7 +8,7 @@ use native.Mathlib.Omega.{arith}
 use native.Mathlib.Decide.{dec_lt}
 use lib.Dec.{leb, eqb}
 use lib.ListN.{length, get_or, take, drop, drop_of_length-le}
-use lib.Seq.{drop-cons, take_nil}
+use lib.Seq.{drop-cons, take-nil}
 use borrow.Author.Tests.{eq-eqb, ne_eqb, le-leb, lt-leb}
 use Rattle.printer.specs.Names.{bare, in_quotes}
 use Rattle.printer.specs.Places.{field_in, literal_text, member_quoted, member_name, key_name, spelled}
@@ -31,7 +31,7 @@ some_taken (suc n) x l z = refl
 pub empty_by : (l : List ℕ) (at n : ℕ) → (n ≡ 0 → ⊥) → leb (length l) at ≡ is_empty (take n (drop at l))
 empty_by l at n z = elim (dec_lt at (length l)) [
   | yes h ↦ lt-leb (length l) at h ∙ some_taken n (get_or l at 0) (drop (suc at) l) z ∙ ap (λ (r : List ℕ). is_empty (take n r)) (sym (drop-cons l at 0 h))
-  | no h ↦ le-leb (length l) at (omega arith) ∙ ap is_empty (sym (ap (take n) (drop_of_length-le l {i = at} (omega arith)) ∙ take_nil n))
+  | no h ↦ le-leb (length l) at (omega arith) ∙ ap is_empty (sym (ap (take n) (drop_of_length-le l {i = at} (omega arith)) ∙ take-nil n))
 ]
 
 -- ---- a Literal

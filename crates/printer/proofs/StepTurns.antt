@@ -6,7 +6,7 @@ use mathlib.Core.Bool.{Bool, true, false, cond, ◌&&◌}
 use mathlib.Core.List.{List, [], ◌∷◌, ◌++◌, append-nil}
 use Prim.Native.Nat.{ℕ, zero, suc, ◌+◌, ◌-◌, ◌/◌, ◌%◌, ◌<◌, ◌≤◌}
 use native.Mathlib.Omega.{arith}
-use native.Mathlib.Numerals.{add_one}
+use native.Mathlib.Numerals.{add-one}
 use lib.Dec.{eqb}
 use lib.ListN.{length, get_or, set}
 use lib.Seq.{get_or-set_same, get_or-set_other}
@@ -144,7 +144,7 @@ module _ (tree stack starts : List ℕ) (b after : Buffer) (s : State) where
   unfolding print
   open_turned n l v top spot hc hl hw hv he ht =
       let o : open_in l ≡ record { frame = listed f; next = x } = unpacked l (listed f) x he (small_listed f x w x w.next) in
-      let e : s.count + 1 ≡ suc (length (held_in tree starts s.count)) = add_one s.count ∙ ap suc (sym (held_length tree starts s.count)) in
+      let e : s.count + 1 ≡ suc (length (held_in tree starts s.count)) = add-one s.count ∙ ap suc (sym (held_length tree starts s.count)) in
       let t : top ≡ packed_frame (listed f) (cond (is_quasis (listed f)) (suc (length (held_in tree starts s.count))) x) =
       ht
       ∙ ap (λ (z : Open). packed_frame z.frame (cond (is_quasis z.frame) (s.count + 1) z.next)) o
@@ -237,7 +237,7 @@ unfolding held_in
 one_held tree starts c x h = record {
   few = omega arith;
   cells =
-      ap (held_in tree (set starts c x)) (add_one c)
+      ap (held_in tree (set starts c x)) (add-one c)
       ∙ ap (λ (l : List Cell). l ++ (cell_in_of tree (get_or (set starts c x) c 0) ∷ [])) (held_kept tree starts c c x (omega arith))
       ∙ ap (λ (z : ℕ). held_in tree starts c ++ (cell_in_of tree z ∷ [])) (get_or-set_same starts c x 0 h);
 }
@@ -247,7 +247,7 @@ none_held tree starts c = record { few = omega arith; cells = sym (append-nil (h
 
 -- a quasi by its position from 1 on
 pub cell_within : (tree : List ℕ) (p : ℕ) → cell_in_of tree (p + 1) ≡ quasi (text_at_of tree p)
-cell_within tree p = ap (cell_in_of tree) (add_one p)
+cell_within tree p = ap (cell_in_of tree) (add-one p)
 
 -- ---- what holds at every code
 

@@ -1,7 +1,10 @@
 // Reads bytes from standard input to their end. Prints 0 if they are a rewritten tree, else 3.
 #![tactic(auto)]
 
-use libc::{STDIN_FILENO, STDOUT_FILENO};
+// Standard input and output.
+const STDIN_FILENO: i32 = 0;
+
+const STDOUT_FILENO: i32 = 1;
 
 // The buffer is longer than the longest tree, so an input that does not fit in it is refused for its length.
 fn main() {

@@ -1,7 +1,10 @@
 // Reads a rewritten tree from standard input to its end. Prints its text, or the number of the refusal and a line end.
 #![tactic(auto)]
 
-use libc::{STDIN_FILENO, STDOUT_FILENO};
+// Standard input and output.
+const STDIN_FILENO: i32 = 0;
+
+const STDOUT_FILENO: i32 = 1;
 
 // The first bytes of a text.
 fn show(text: &[u8], len: usize) {

@@ -2,8 +2,12 @@
 // the refusal. It names no limit.
 #![tactic(auto)]
 
-use libc::{STDIN_FILENO, STDOUT_FILENO};
 use tree::read::Answer;
+
+// Standard input and output.
+const STDIN_FILENO: i32 = 0;
+
+const STDOUT_FILENO: i32 = 1;
 
 // The limit where none is named (request 5).
 const LIMIT: usize = 128;

@@ -1,7 +1,7 @@
 // A case of drawing is a seed and the state after its tree (32 bits each), the length of the tree (16 bits), all little-endian,
 // then the tree. It is drawn into slices as long as the tree, three bytes longer and a byte shorter, and every byte is looked at.
+use crate::STDIN_FILENO;
 use crate::tally::{Tally, say, wide};
-use libc::STDIN_FILENO;
 
 // What stands in front of a case's tree.
 #[derive(Clone, Copy)]

@@ -2,9 +2,9 @@
 // tree (16 bits each, little-endian; the last is 0 on a refusal), then the last three. A case that is joined is joined into a slice as
 // long as its result and a byte shorter, too; one that is refused for another reason than room, into no slice at all. Every byte is
 // looked at.
+use crate::STDIN_FILENO;
 use crate::rewriting::holds;
 use crate::tally::{Tally, say, wide};
-use libc::STDIN_FILENO;
 
 // What stands in front of a case's tree, list and joined tree.
 #[derive(Clone, Copy)]

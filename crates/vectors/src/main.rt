@@ -10,8 +10,12 @@ mod reading;
 mod rewriting;
 mod tally;
 
-use libc::STDIN_FILENO;
 use tally::Tally;
+
+// Standard input and output.
+const STDIN_FILENO: i32 = 0;
+
+const STDOUT_FILENO: i32 = 1;
 
 fn next_case(t: Tally) -> Tally {
     let mut kind = [0u8; 1];

@@ -1,7 +1,7 @@
 // A case of reading is the depth limit and the expected answer (a byte each; the answer is 0, 3 or 4), the length of its tree
 // and the expected next mark (16 bits each, little-endian; the mark is 0 on a refusal), then the tree.
+use crate::STDIN_FILENO;
 use crate::tally::{Tally, say, say_number, wide};
-use libc::STDIN_FILENO;
 use tree::read::Answer;
 
 // What stands in front of a case's tree.

@@ -3,8 +3,8 @@
 // the three. Before it stands its depth limit, if it names one (32 bits, little-endian), and the entry that is called is the
 // one that takes a limit, or the one that takes none. It is called on slices with bytes to spare and on ones that are as long
 // as what they have to hold, or a byte shorter. Before a call no byte of them is 0; after it every byte is compared.
+use crate::STDIN_FILENO;
 use crate::tally::{Tally, say, say_number, wide};
-use libc::STDIN_FILENO;
 use rest_spread::Lowered;
 
 // The limit of a case; its number is 0 where none is named.

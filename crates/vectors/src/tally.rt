@@ -1,5 +1,5 @@
 // What is printed, and what is counted.
-use libc::STDOUT_FILENO;
+use crate::STDOUT_FILENO;
 
 // How many cases were begun, and what came of them; how often the entry was called; `more` until the input ends or breaks off.
 #[derive(Clone, Copy)]

@@ -1,7 +1,6 @@
 -- `counting::figured` meets its contract, one law for each way out.
 use Prim.Native.Nat.{◌-◌}
 use native.Mathlib.Omega.{arith}
-use borrow.Author.Rules.{rules}
 use Rattle.counting.proofs.Figures.{choose_largest, figured_none, figured_above, figured_one, figured_twice}
 use Rattle.counting.proofs.figured.Goals as goal
 

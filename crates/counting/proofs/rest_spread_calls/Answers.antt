@@ -1,6 +1,5 @@
 -- `counting::rest_spread_calls` meets its contract.
 use native.Mathlib.Omega.{arith}
-use borrow.Author.Rules.{rules}
 use Rattle.counting.proofs.Figures.{refused, answered}
 use Rattle.counting.proofs.rest_spread_calls.Goals as goal
 

@@ -1,6 +1,6 @@
 -- `counting::ways` meets its contract: behind j turns r is the ways to choose j of m.
-use Prim.Native.Nat.{ℕ, ◌≤◌, ◌-◌}
-use mathlib.Core.Path.{◌≡◌, sym, ap, ◌∙◌}
+use Prim.Native.Nat.{ℕ}
+use mathlib.Core.Path.{sym, ap, ◌∙◌}
 use native.Mathlib.Omega.{arith}
 use Rattle.counting.specs.Figures.{choose}
 use Rattle.counting.proofs.Figures.{choose_none, way_fits, way_on}

@@ -1,8 +1,6 @@
-use Prim.Native.Nat.{ℕ, ◌≤◌, ◌-◌}
-use mathlib.Core.Path.{◌≡◌, sym, ap, ◌∙◌}
-use native.Mathlib.Omega.{arith}
+use Prim.Native.Nat.{◌≤◌, ◌-◌}
+use mathlib.Core.Path.{◌≡◌}
 use Rattle.counting.specs.Figures.{choose}
-use Rattle.counting.proofs.Figures.{choose_none, way_fits, way_on}
 use Rattle.counting.proofs.ways.Given as goal
 
 abbrev pub invariant-loop-j : goal.invariant-loop-j

@@ -1,51 +1,52 @@
-use Rattle.std.proofs.Common.{◌≡◌, ℕ, ◌+◌, ◌-◌, ◌*◌, length, sym, refl, ◌∙◌, arith, rules}
-use Rattle.tree.specs.Rows.{fields_in_of}
-use Rattle.tree.proofs.Cycle.{at_measure, below_measure}
-use Rattle.drawing.specs.Draw.{draw_node, draw_items, draw_field}
-use Rattle.drawing.specs.Pen.{drew_items}
+use Rattle.std.proofs.Common.{◌-◌, sym, refl, ◌∙◌, arith}
+use Rattle.drawing.specs.Draw.{draw_field}
 use Rattle.drawing.proofs.DrawingWaysOut as law
-use Rattle.drawing.proofs.draw.fields as fields
-use Rattle.drawing.proofs.draw.items as items
-use Rattle.drawing.proofs.draw.node as node
-use Rattle.drawing.proofs.draw.slot as slot
-use Rattle.drawing.proofs.draw.+fields_items_node_slot as cycle
 use Rattle.drawing.proofs.draw.+fields_items_node_slot.Goals as goal
 
+pub fields-fields-i-requires : goal.fields-fields-i-requires
+fields-fields-i-requires t c = (omega (arith, c.decreases, law.fields_fall c.args.row c.if-row-eq0.false), tt)
+
+pub fields-fields-i-requires-2 : goal.fields-fields-i-requires-2
+fields-fields-i-requires-2 t c = (omega (arith, c.decreases, law.fields_fall c.args.row c.if-row-eq0.false), tt)
+
+pub node-fields-h-requires : goal.node-fields-h-requires
+node-fields-h-requires t c = (omega (arith, c.decreases, law.row_few c.row-row.result c.form_at-form.result c.row-row.ensures, c.if-left-eq0.false), tt)
+
 pub fields-returns-then-row-eq0 : goal.fields-returns-then-row-eq0
-fields-returns-then-row-eq0 t c = law.fields_done _ _ _ _ _ _ _ _ _ c.if-row-eq0.taken
+fields-returns-then-row-eq0 t c = law.fields_done _ _ _ _ _ _ _ _ _ c.if-row-eq0.true
 
 pub fields-returns-then-t : goal.fields-returns-then-t
-fields-returns-then-t t c = law.fields_stand _ _ _ _ _ _ _ _ _ _ c.if-row-eq0.left _ _ _ _ (sym c.if-t.taken ∙ c.settle-t.ensures.0) c.settle-t.ensures.1 c.slot-h.ensures c.fields-i.ensures
+fields-returns-then-t t c = law.fields_stand _ _ _ _ _ _ _ _ _ _ c.if-row-eq0.false _ _ _ _ (sym c.if-t.true ∙ c.settle-t.ensures.0) c.settle-t.ensures.1 c.slot-h.ensures c.fields-i.ensures
 
 pub fields-returns : goal.fields-returns
-fields-returns t c = law.fields_skip _ _ _ _ _ _ _ _ _ _ c.if-row-eq0.left _ _ (sym c.if-t.left ∙ c.settle-t.ensures.0) c.settle-t.ensures.1 c.fields-i-2.ensures
+fields-returns t c = law.fields_skip _ _ _ _ _ _ _ _ _ _ c.if-row-eq0.false _ _ (sym c.if-t.false ∙ c.settle-t.ensures.0) c.settle-t.ensures.1 c.fields-i-2.ensures
 
 pub items-returns-then-ended : goal.items-returns-then-ended
-items-returns-then-ended t c = law.list_cut _ _ _ _ _ _ _ _ _ (sym c.if-ended.taken ∙ c.ended.ensures) c.put_wide-end.ensures
+items-returns-then-ended t c = law.list_cut _ _ _ _ _ _ _ _ _ (sym c.if-ended.true ∙ c.ended.ensures) c.put_wide-end.ensures
 
 pub items-loop-n-init : goal.items-loop-n-init
 items-loop-n-init t c = (refl, refl, refl)
 
 pub items-loop-n-preserved : goal.items-loop-n-preserved
-items-loop-n-preserved t c = (law.items_again _ _ _ _ _ c.loop-n.h _ c.loop-n-test.taken refl c.node-h.ensures ∙ c.loop-n.inv.0, law.node_silent _ _ _ _ _ c.node-h.ensures, c.node-h.kept.0 ∙ c.loop-n.inv.2)
+items-loop-n-preserved t c = (law.items_again _ _ _ _ _ c.loop-n.h _ c.loop-n-test.true refl c.node-h.ensures ∙ c.loop-n.invariant.0, law.node_silent _ _ _ _ _ c.node-h.ensures, c.node-h.auto.out ∙ c.loop-n.invariant.2)
 
 pub items-returns : goal.items-returns
-items-returns t c = law.list_drawn _ _ _ _ _ _ _ _ _ _ _ _ _ (sym c.if-ended.left ∙ c.ended.ensures) c.advanced-x.ensures refl c.put_wide-end-2.ensures (law.items_end _ _ _ _ c.loop-n-test.left c.loop-n.inv.1 ∙ c.loop-n.inv.0)
+items-returns t c = law.list_drawn _ _ _ _ _ _ _ _ _ _ _ _ _ (sym c.if-ended.false ∙ c.ended.ensures) c.advanced-x.ensures refl c.put_wide-end-2.ensures (law.items_end _ _ _ _ c.loop-n-test.false c.loop-n.invariant.1 ∙ c.loop-n.invariant.0)
 
 pub node-returns-then-left-eq0 : goal.node-returns-then-left-eq0
-node-returns-then-left-eq0 t c = law.node_none _ _ _ _ _ _ _ _ _ c.if-left-eq0.taken c.put_wide-end.ensures
+node-returns-then-left-eq0 t c = law.node_none _ _ _ _ _ _ _ _ _ c.if-left-eq0.true c.put_wide-end.ensures
 
 pub node-returns : goal.node-returns
-node-returns t c = law.node_drawn c.args.left (c.args.left - 1) _ _ _ _ _ _ _ _ _ _ _ _ _ _ _ _ _ _ _ (omega (arith, c.if-left-eq0.left)) c.choose-c.ensures c.form_at-form.ensures c.row-row.ensures c.fewer-more.ensures c.put-map.ensures c.put-at.ensures c.fields-h.ensures c.put.ensures
+node-returns t c = law.node_drawn c.args.left (c.args.left - 1) _ _ _ _ _ _ _ _ _ _ _ _ _ _ _ _ _ _ _ (omega (arith, c.if-left-eq0.false)) c.choose-c.ensures c.form_at-form.ensures c.row-row.ensures c.fewer-more.ensures c.put-map.ensures c.put-at.ensures c.fields-h.ensures c.put.ensures
 
 pub slot-returns-in-1 : goal.slot-returns-in-1
 slot-returns-in-1 t c = law.slot_node _ _ _ _ _ _ _ _ _ _ c.in-1.is c.node.ensures
 
 pub slot-returns-then-g-eq1 : goal.slot-returns-then-g-eq1
-slot-returns-then-g-eq1 t c = law.slot_first _ _ _ _ _ _ _ _ _ _ c.in-2.is c.if-g-eq1.taken c.node-then-g-eq1.ensures
+slot-returns-then-g-eq1 t c = law.slot_first _ _ _ _ _ _ _ _ _ _ c.in-2.is c.if-g-eq1.true c.node-then-g-eq1.ensures
 
 pub slot-returns-else-g-eq1 : goal.slot-returns-else-g-eq1
-slot-returns-else-g-eq1 t c = law.slot_second _ _ _ _ _ _ _ _ _ _ c.in-2.is c.if-g-eq1.left c.node-else-g-eq1.ensures
+slot-returns-else-g-eq1 t c = law.slot_second _ _ _ _ _ _ _ _ _ _ c.in-2.is c.if-g-eq1.false c.node-else-g-eq1.ensures
 
 pub slot-returns-in-3 : goal.slot-returns-in-3
 unfolding draw_field

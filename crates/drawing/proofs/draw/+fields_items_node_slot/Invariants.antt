@@ -1,14 +1,7 @@
-use Rattle.std.proofs.Common.{◌≡◌, ℕ, ◌+◌, ◌-◌, ◌*◌, length, sym, refl, ◌∙◌, arith, rules}
+use Rattle.std.proofs.Common.{◌≡◌, ◌+◌, ◌*◌, length}
 use Rattle.tree.specs.Rows.{fields_in_of}
-use Rattle.tree.proofs.Cycle.{at_measure, below_measure}
-use Rattle.drawing.specs.Draw.{draw_node, draw_items, draw_field}
+use Rattle.drawing.specs.Draw.{draw_node, draw_items}
 use Rattle.drawing.specs.Pen.{drew_items}
-use Rattle.drawing.proofs.DrawingWaysOut as law
-use Rattle.drawing.proofs.draw.fields as fields
-use Rattle.drawing.proofs.draw.items as items
-use Rattle.drawing.proofs.draw.node as node
-use Rattle.drawing.proofs.draw.slot as slot
-use Rattle.drawing.proofs.draw.+fields_items_node_slot as cycle
 use Rattle.drawing.proofs.draw.+fields_items_node_slot.Given as goal
 
 abbrev pub invariant-items-loop-n : goal.invariant-items-loop-n

@@ -1,5 +1,5 @@
 use Rattle.drawing.proofs.DrawingWritten as law
-use Rattle.std.proofs.Common.{arith, rules}
+use Rattle.std.proofs.Common.{arith}
 use Rattle.drawing.proofs.draw.byte.Goals as goal
 
 pub returns-then-high-low : goal.returns-then-high-low

@@ -1,5 +1,5 @@
 use Rattle.drawing.proofs.DrawingWritten as law
-use Rattle.std.proofs.Common.{sym, ◌∙◌, rules}
+use Rattle.std.proofs.Common.{sym, ◌∙◌}
 use Rattle.drawing.proofs.draw.choose.Goals as goal
 
 pub returns-then-n-lt2 : goal.returns-then-n-lt2

@@ -1,5 +1,4 @@
 use Rattle.drawing.proofs.DrawingWritten as law
-use Rattle.std.proofs.Common.{rules}
 use Rattle.drawing.proofs.draw.number.Goals as goal
 
 pub returns : goal.returns

@@ -1,5 +1,5 @@
 use Rattle.drawing.proofs.DrawingWritten as law
-use Rattle.std.proofs.Common.{sym, ◌∙◌, rules}
+use Rattle.std.proofs.Common.{sym, ◌∙◌}
 use Rattle.drawing.proofs.draw.settle.Goals as goal
 
 pub returns-then-digit-eq0 : goal.returns-then-digit-eq0

@@ -1,4 +1,4 @@
-use Rattle.std.proofs.Common.{◌∙◌, rules}
+use Rattle.std.proofs.Common.{◌∙◌}
 use Rattle.drawing.proofs.KindTables.{counts, count_at, no_count}
 use Rattle.drawing.proofs.kinds.count.Goals as goal
 

@@ -1,4 +1,4 @@
-use Rattle.std.proofs.Common.{ℕ, ◌+◌, get_or, ap, ◌∙◌, arith, rules}
+use Rattle.std.proofs.Common.{ℕ, ◌+◌, get_or, ap, ◌∙◌, arith}
 use Rattle.drawing.proofs.KindTables.{firsts, all_kinds, has_place, kind_within, kind_at, no_kind_at}
 use Rattle.drawing.proofs.kinds.kind.Goals as goal
 

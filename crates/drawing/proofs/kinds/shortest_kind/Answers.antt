@@ -1,5 +1,4 @@
 use Rattle.drawing.proofs.KindTables.{least, least_at, no_shortest}
-use Rattle.std.proofs.Common.{rules}
 use Rattle.drawing.proofs.kinds.shortest_kind.Goals as goal
 
 pub returns-then-place-lt26 : goal.returns-then-place-lt26

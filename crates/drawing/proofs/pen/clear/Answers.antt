@@ -1,4 +1,3 @@
-use Rattle.std.proofs.Common.{rules}
 use Rattle.tree.specs.Note.{zeros}
 use Rattle.drawing.proofs.pen.clear.Goals as goal
 

@@ -1,5 +1,4 @@
 use Rattle.drawing.proofs.DrawingWritten as law
-use Rattle.std.proofs.Common.{rules}
 use Rattle.drawing.proofs.pen.put.Goals as goal
 
 pub returns-then-at-out : goal.returns-then-at-out

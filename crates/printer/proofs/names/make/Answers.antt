@@ -1,9 +1,7 @@
 use Rattle.printer.proofs.Named as law
-use mathlib.Core.Path.{◌≡◌, sym, ◌∙◌}
+use mathlib.Core.Path.{◌∙◌}
 use native.Mathlib.Omega.{arith}
-use Prim.Native.Nat.{ℕ, ◌-◌, ◌≤◌, ◌<◌}
-use lib.ListN.{length, get_or, length_set}
-use Rattle.printer.specs.Names.{name_bytes}
+use lib.ListN.{length-set}
 use Rattle.printer.proofs.names.make.Goals as goal
 
 pub loop-i-init : goal.loop-i-init
@@ -22,7 +20,7 @@ pub loop-i-smaller : goal.loop-i-smaller
 loop-i-smaller c = omega (arith, c.loop-i-test.true)
 
 pub loop-i-preserved : goal.loop-i-preserved
-loop-i-preserved c = (length_set c.loop-i.table c.loop-i.i c.made.result ∙ c.loop-i.invariant.0, omega (arith, c.loop-i-test.true), law.one_more c.loop-i.table c.loop-i.i c.made.result (omega (arith, c.loop-i-test.true, c.loop-i.invariant.0)) c.loop-i.invariant.2 (c.made.ensures.0 c.loop-i-test.true))
+loop-i-preserved c = (length-set c.loop-i.table c.loop-i.i c.made.result ∙ c.loop-i.invariant.0, omega (arith, c.loop-i-test.true), law.one_more c.loop-i.table c.loop-i.i c.made.result (omega (arith, c.loop-i-test.true, c.loop-i.invariant.0)) c.loop-i.invariant.2 (c.made.ensures.0 c.loop-i-test.true))
 
 pub returns-after-loop-i : goal.returns-after-loop-i
 returns-after-loop-i c = λ h. law.same_table _ c.loop-i.invariant.0 (λ k g. c.loop-i.invariant.2 k (omega (arith, g, c.loop-i-test.false)))

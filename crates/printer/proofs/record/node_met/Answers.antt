@@ -1,4 +1,3 @@
-use borrow.Author.Rules.{rules}
 use mathlib.Core.Path.{◌≡◌, refl, ap₂, ◌∙◌}
 use Prim.Native.Nat.{ℕ, ◌+◌, ◌*◌, ◌%◌}
 use native.Mathlib.Omega.{arith}
@@ -58,7 +57,7 @@ returns-then-code-gt0 c = (
 )
 
 pub overflow_add-at-2 : goal.overflow_add-at-2
-overflow_add-at-2 c = omega (arith, c.node-what.ensures.2 c.if-what-eq0.false, c.well_formed_lem.1.1.1.0.0)
+overflow_add-at-2 c = omega (arith, c.node-what.ensures.2 c.if-what-eq0.false)
 
 pub returns : goal.returns
 returns c = (

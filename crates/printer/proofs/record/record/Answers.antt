@@ -1,18 +1,14 @@
-use borrow.Author.Rules.{rules}
-use mathlib.Core.Path.{◌≡◌, refl, ◌∙◌}
-use mathlib.Core.Logic.{⊎_elim}
-use Prim.Native.Nat.{◌+◌, ◌-◌, ◌%◌, ◌≤◌}
+use mathlib.Core.Path.{refl, ◌∙◌}
+use Prim.Native.Nat.{◌%◌}
 use lib.Dec.{eqb}
 use native.Mathlib.Omega.{arith}
-use lib.ListN.{length}
-use Rattle.rewritten.specs.Rewritten.{is_rewritten}
 use Rattle.rewritten.proofs.Moves as moves
 use Rattle.rewritten.proofs.MarksReader as reader
 use Rattle.rewritten.proofs.Tasks as task
 use Rattle.printer.proofs.Recording as law
 use Rattle.printer.proofs.Meeting as meet
 use Rattle.printer.proofs.record.record.Goals as goal
-use Rattle.printer.proofs.record.record.Goals.{else-class-gt2, then-class-gt2}
+use Rattle.printer.proofs.record.record.Goals.{else-class-gt2, then-class-gt2+else-class-lt5+else-class-eq6+else-class-lt10}
 
 pub returns-then-tree-gt32768 : goal.returns-then-tree-gt32768
 returns-then-tree-gt32768 c = λ _ _ _ _ _ _ _ _. law.recorded_no _ _ (reader.too_long c.args.tree.now c.if-tree-gt32768.true)
@@ -141,7 +137,7 @@ pub loop-count-preserved-then-class-lt10 : goal.loop-count-preserved-then-class-
 loop-count-preserved-then-class-lt10 c = let h = c.byte_met-cursor.ensures.1 c.if-cursor-eq0-5.false in (h.0, omega (arith, h.1, c.loop-count.invariant.1), c.loop-count.invariant.2, c.loop-count.invariant.3, c.loop-count.invariant.4, c.byte_met-cursor.auto.log ∙ c.loop-count.invariant.5, λ p. let x = c.loop-count.invariant.6 p in meet.byte_goes _ _ _ _ _ _ _ _ _ x.reading x.recording p.enough c.loop-count.invariant.1 (moves.found_true c.is_closed.ensures c.if-is_closed.false) _ c.rest_of-rest.ensures _ _ c.if-top-eq1.false (omega (arith, c.if-class-eq5.false, c.if-class-lt5.false, c.if-class-eq6.false)) c.if-class-lt10.true c.byte_met-cursor.ensures.0 c.if-cursor-eq0-5.false)
 
 pub returns-then-cursor-eq0-6 : goal.returns-then-cursor-eq0-6
-returns-then-cursor-eq0-6 c = λ a b d e f h i j. let p : meet.Lent _ _ _ _ _ _ _ = record { kinds = a; fields = b; bits = d; enough = e; marks = f; clean = h; depths = i; numbers = j } in let x = c.loop-count.invariant.6 p in law.recorded_no _ _ (meet.number_refused _ _ _ _ _ _ _ _ _ x.reading x.recording p.enough c.loop-count.invariant.1 (moves.found_true c.is_closed.ensures c.if-is_closed.false) _ c.rest_of-rest.ensures _ _ _ c.place_next-place.ensures c.if-place-lt33.false c.if-top-eq1.false (λ y. (elim c.if-class-gt2.branch [ then-class-gt2 w ↦ omega (arith, w.3.left) | else-class-gt2 w ↦ omega (arith, y, w.left) ])) c.number_met-cursor.ensures.0 c.if-cursor-eq0-6.true)
+returns-then-cursor-eq0-6 c = λ a b d e f h i j. let p : meet.Lent _ _ _ _ _ _ _ = record { kinds = a; fields = b; bits = d; enough = e; marks = f; clean = h; depths = i; numbers = j } in let x = c.loop-count.invariant.6 p in law.recorded_no _ _ (meet.number_refused _ _ _ _ _ _ _ _ _ x.reading x.recording p.enough c.loop-count.invariant.1 (moves.found_true c.is_closed.ensures c.if-is_closed.false) _ c.rest_of-rest.ensures _ _ _ c.place_next-place.ensures c.if-place-lt33.false c.if-top-eq1.false (λ y. (elim c.if-class-gt2.branch [ then-class-gt2+else-class-lt5+else-class-eq6+else-class-lt10 w ↦ omega (arith, w.if-class-lt10.false) | else-class-gt2 w ↦ omega (arith, y, w.if-class-gt2.false) ])) c.number_met-cursor.ensures.0 c.if-cursor-eq0-6.true)
 
 pub overflow_add-count-in-loop-count : goal.overflow_add-count-in-loop-count
 overflow_add-count-in-loop-count c = omega (arith, c.loop-count.invariant.0, c.loop-count.invariant.1, c.if-tree-gt32768.false)
@@ -150,4 +146,4 @@ pub loop-count-smaller : goal.loop-count-smaller
 loop-count-smaller c = let h = c.number_met-cursor.ensures.1 c.if-cursor-eq0-6.false in omega (arith, h.0, h.1, c.loop-count.invariant.0)
 
 pub loop-count-preserved : goal.loop-count-preserved
-loop-count-preserved c = let h = c.number_met-cursor.ensures.1 c.if-cursor-eq0-6.false in (h.0, omega (arith, h.1, c.loop-count.invariant.1), c.loop-count.invariant.2, c.loop-count.invariant.3, c.loop-count.invariant.4, c.number_met-cursor.auto.log ∙ c.loop-count.invariant.5, λ p. let x = c.loop-count.invariant.6 p in meet.number_goes _ _ _ _ _ _ _ _ _ x.reading x.recording p.enough c.loop-count.invariant.1 (moves.found_true c.is_closed.ensures c.if-is_closed.false) _ c.rest_of-rest.ensures _ _ _ c.place_next-place.ensures c.if-place-lt33.false c.if-top-eq1.false (λ y. (elim c.if-class-gt2.branch [ then-class-gt2 w ↦ omega (arith, w.3.left) | else-class-gt2 w ↦ omega (arith, y, w.left) ])) c.number_met-cursor.ensures.0 c.if-cursor-eq0-6.false)
+loop-count-preserved c = let h = c.number_met-cursor.ensures.1 c.if-cursor-eq0-6.false in (h.0, omega (arith, h.1, c.loop-count.invariant.1), c.loop-count.invariant.2, c.loop-count.invariant.3, c.loop-count.invariant.4, c.number_met-cursor.auto.log ∙ c.loop-count.invariant.5, λ p. let x = c.loop-count.invariant.6 p in meet.number_goes _ _ _ _ _ _ _ _ _ x.reading x.recording p.enough c.loop-count.invariant.1 (moves.found_true c.is_closed.ensures c.if-is_closed.false) _ c.rest_of-rest.ensures _ _ _ c.place_next-place.ensures c.if-place-lt33.false c.if-top-eq1.false (λ y. (elim c.if-class-gt2.branch [ then-class-gt2+else-class-lt5+else-class-eq6+else-class-lt10 w ↦ omega (arith, w.if-class-lt10.false) | else-class-gt2 w ↦ omega (arith, y, w.if-class-gt2.false) ])) c.number_met-cursor.ensures.0 c.if-cursor-eq0-6.false)

@@ -3,14 +3,13 @@ use native.Mathlib.Omega.{arith}
 use Rattle.printer.specs.Machine.{Open}
 use Rattle.printer.specs.Stacks.{frame_in, buffer_in}
 use Rattle.printer.proofs.StepTurns as law
-use borrow.Author.Rules.{rules}
 use Rattle.printer.proofs.step.begin.Goals as goal
 
 pub returns-then-is_plain : goal.returns-then-is_plain
 returns-then-is_plain c = λ hs hr hw hc hk hm hn hl. c.plain.ensures hw c.args.tree.now c.args.starts.now (c.is_plain.ensures c.if-is_plain.true) (c.slot_in-slot.ensures hs).1 (c.slot_in-slot.ensures hs).0 (c.sort-sort.ensures hr hk) hc hk hm hn hl
 
 pub overflow_add-result : goal.overflow_add-result
-overflow_add-result c = omega (arith, c.if-level-stack.true, c.well_formed_lem.1.1.1.1.0.0)
+overflow_add-result c = omega arith
 
 pub returns-then-level-stack : goal.returns-then-level-stack
 returns-then-level-stack c = λ hs hr hw hc hk hm hn hl.

@@ -5,11 +5,10 @@ use Rattle.printer.specs.Layout.{word, chosen_word}
 use Rattle.printer.specs.Places.{list_opening}
 use Rattle.printer.specs.Stacks.{frame_in, write, buffer_in}
 use Rattle.printer.proofs.StepTurns as law
-use borrow.Author.Rules.{rules}
 use Rattle.printer.proofs.step.open_list.Goals as goal
 
 pub overflow_add-result : goal.overflow_add-result
-overflow_add-result c = omega (arith, c.if-level-stack.true, c.well_formed_lem.1.1.0.0)
+overflow_add-result c = omega arith
 
 pub returns-then-level-stack : goal.returns-then-level-stack
 unfolding list_opening

@@ -1,6 +1,6 @@
 use mathlib.Core.Path.{refl}
-use mathlib.Core.Logic.{inl, inr, ⊎_elim}
-use Prim.Native.Nat.{◌/◌, ◌%◌}
+use mathlib.Core.Logic.{inl, inr}
+use Prim.Native.Nat.{◌/◌, ◌%◌, ◌<◌}
 use native.Mathlib.Omega.{arith}
 use Rattle.printer.specs.Machine.{print_all}
 use Rattle.printer.specs.Logged.{entries_for}
@@ -8,7 +8,7 @@ use Rattle.printer.specs.Stacks.{buffer_in}
 use Rattle.printer.proofs.StepTurns as law
 use borrow.Author.Rules.{rules}
 use Rattle.printer.proofs.step.turn.Goals as goal
-use Rattle.printer.proofs.step.turn.Goals.{else-in_default, then-in_default}
+use Rattle.printer.proofs.step.turn.Goals.{in_default-via-then-code-lt8, in_default-via-else-code-lt8+else-code-lt14}
 
 pub returns-in-1 : goal.returns-in-1
 unfolding entries_for print_all
@@ -39,8 +39,12 @@ unfolding entries_for print_all
 returns-in-9 c = λ hs hr hw hc. law.as_code c.args.tree.now c.args.stack.now c.args.starts.now _ _ (buffer_in c.args.text.now c.args.s.spot) _ c.args.s _ c.args.v 9 c.in-9.is (λ h. c.close_list.ensures hs hr hw h.0 h.1)
 
 pub returns-in-10 : goal.returns-in-10
-returns-in-10 c = λ hs hr hw hc. law.as_code c.args.tree.now c.args.stack.now c.args.starts.now _ _ (buffer_in c.args.text.now c.args.s.spot) _ c.args.s _ c.args.v (c.args.v % 16) refl (law.leaf_by c.args.tree.now c.args.stack.now c.args.starts.now _ _ (buffer_in c.args.text.now c.args.s.spot) _ c.args.s _ (c.args.v % 16) (c.args.v / 16 % 65536) (c.args.v / 1048576 % 256) (law.past_nine _ c.in_default-1.rest c.if-code-lt8.false) c.in-10.if-code-lt14-own.true (λ h g. c.leaf.ensures hs hw c.args.stack.now (c.args.v / 1048576 % 256) (law.past_nine _ c.in_default-1.rest c.if-code-lt8.false) c.in-10.if-code-lt14-own.true h hc g))
+returns-in-10 c = λ hs hr hw hc.
+    let past : 9 < c.args.v % 16 = omega arith in
+    let low : c.args.v % 16 < 14 = omega arith in
+    law.as_code c.args.tree.now c.args.stack.now c.args.starts.now _ _ (buffer_in c.args.text.now c.args.s.spot) _ c.args.s _ c.args.v (c.args.v % 16) refl (law.leaf_by c.args.tree.now c.args.stack.now c.args.starts.now _ _ (buffer_in c.args.text.now c.args.s.spot) _ c.args.s _ (c.args.v % 16) (c.args.v / 16 % 65536) (c.args.v / 1048576 % 256) past low (λ h g. c.leaf.ensures hs hw c.args.stack.now (c.args.v / 1048576 % 256) past low h hc g))
 
 pub returns-in_default : goal.returns-in_default
 unfolding print_all
-returns-in_default c = λ hs hr hw hc. law.as_code c.args.tree.now c.args.stack.now c.args.starts.now _ _ (buffer_in c.args.text.now c.args.s.spot) _ c.args.s _ c.args.v (c.args.v % 16) refl (law.hole_by c.args.tree.now c.args.stack.now c.args.starts.now _ _ (buffer_in c.args.text.now c.args.s.spot) _ c.args.s _ (c.args.v % 16) (c.args.v / 16 % 65536) (c.args.v / 1048576 % 256) c.in_default-1.rest (elim c.in_default.branch [ then-in_default w ↦ inr w.taken | else-in_default w ↦ inl w.1.left ]) (c.hole.ensures hs hw c.args.tree.now c.args.stack.now c.args.starts.now))
+returns-in_default c = λ hs hr hw hc.
+    law.as_code c.args.tree.now c.args.stack.now c.args.starts.now _ _ (buffer_in c.args.text.now c.args.s.spot) _ c.args.s _ c.args.v (c.args.v % 16) refl (law.hole_by c.args.tree.now c.args.stack.now c.args.starts.now _ _ (buffer_in c.args.text.now c.args.s.spot) _ c.args.s _ (c.args.v % 16) (c.args.v / 16 % 65536) (c.args.v / 1048576 % 256) (search rules) (elim c.in_default.branch [ in_default-via-then-code-lt8 w ↦ inr (omega arith) | in_default-via-else-code-lt8+else-code-lt14 w ↦ inl (omega arith) ]) (c.hole.ensures hs hw c.args.tree.now c.args.stack.now c.args.starts.now))

@@ -1,5 +1,4 @@
 use Rattle.sink.proofs.WaysOut as law
-use borrow.Author.Rules.{rules}
 use Rattle.sink.proofs.Helpers.mask.Goals as goal
 
 pub returns : goal.returns

@@ -1,6 +1,4 @@
-use mathlib.Core.Path.{◌∙◌}
 use Rattle.sink.proofs.WaysOut as law
-use borrow.Author.Rules.{rules}
 use Rattle.sink.proofs.Sink.closed.Goals as goal
 
 pub returns-then-keys-lt16385 : goal.returns-then-keys-lt16385

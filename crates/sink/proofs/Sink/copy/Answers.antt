@@ -1,6 +1,5 @@
 use mathlib.Core.Path.{◌∙◌}
 use native.Mathlib.Omega.{arith}
-use borrow.Author.Rules.{rules}
 use Rattle.sink.proofs.WaysOut as law
 use Rattle.sink.proofs.Sink.copy.Goals as goal
 

@@ -1,5 +1,4 @@
 use Rattle.sink.proofs.WaysOut as law
-use borrow.Author.Rules.{rules}
 use Rattle.sink.proofs.Sink.entry.Goals as goal
 
 pub returns-then-filled-lt16381 : goal.returns-then-filled-lt16381

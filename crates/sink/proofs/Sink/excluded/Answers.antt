@@ -1,5 +1,4 @@
 use Rattle.sink.proofs.WaysOut as law
-use borrow.Author.Rules.{rules}
 use Rattle.sink.proofs.Sink.excluded.Goals as goal
 
 pub returns-then-at-lt16384 : goal.returns-then-at-lt16384

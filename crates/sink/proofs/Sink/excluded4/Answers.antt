@@ -1,4 +1,3 @@
-use mathlib.Core.Path.{◌∙◌}
 use Rattle.sink.proofs.WaysOut as law
 use mathlib.Core.List.{◌∷◌, []}
 use Rattle.sink.proofs.Sink.excluded4.Goals as goal

@@ -1,10 +1,6 @@
-use mathlib.Core.Path.{refl, ◌∙◌, ◌≡◌}
-use Rattle.sink.specs.Machine.{state_of, steps, excludes, part}
+use mathlib.Core.Path.{refl, ◌∙◌}
 use Rattle.sink.proofs.WaysOut as law
 use native.Mathlib.Omega.{arith}
-use lib.ListN.{length}
-use mathlib.Core.List.{List}
-use Prim.Native.Nat.{ℕ, ◌-◌}
 use Rattle.sink.proofs.Sink.excluded_copy.Goals as goal
 
 pub loop-i-init : goal.loop-i-init

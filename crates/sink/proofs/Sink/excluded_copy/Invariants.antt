@@ -1,7 +1,5 @@
-use mathlib.Core.Path.{refl, ◌∙◌, ◌≡◌}
+use mathlib.Core.Path.{◌≡◌}
 use Rattle.sink.specs.Machine.{state_of, steps, excludes, part}
-use Rattle.sink.proofs.WaysOut as law
-use native.Mathlib.Omega.{arith}
 use lib.ListN.{length}
 use mathlib.Core.List.{List}
 use Prim.Native.Nat.{ℕ, ◌-◌}

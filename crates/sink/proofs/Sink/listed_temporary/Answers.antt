@@ -1,4 +1,3 @@
-use mathlib.Core.Path.{◌∙◌}
 use Rattle.sink.proofs.WaysOut as law
 use Rattle.sink.proofs.Sink.listed_temporary.Goals as goal
 

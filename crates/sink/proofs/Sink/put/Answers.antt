@@ -1,4 +1,3 @@
-use borrow.Author.Rules.{rules}
 use Rattle.sink.proofs.Sink.put.Goals as goal
 
 pub returns : goal.returns

@@ -1,8 +1,7 @@
-use mathlib.Core.Path.{refl, ◌≡◌}
+use mathlib.Core.Path.{refl}
 use Rattle.sink.proofs.WaysOut as law
 use native.Mathlib.Omega.{arith}
-use Prim.Native.Nat.{◌-◌, ◌≤◌}
-use lib.ListN.{length, take, replicate, length-set}
+use lib.ListN.{length-set}
 use Rattle.sink.proofs.bytes.clear.Goals as goal
 
 pub loop-i-init : goal.loop-i-init

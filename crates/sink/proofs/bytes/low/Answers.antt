@@ -1,6 +1,5 @@
 use mathlib.Core.Path.{refl}
 use Rattle.sink.specs.Machine.{low}
-use borrow.Author.Rules.{rules}
 use Rattle.sink.proofs.bytes.low.Goals as goal
 
 pub returns : goal.returns

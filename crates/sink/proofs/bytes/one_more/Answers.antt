@@ -1,5 +1,4 @@
 use Rattle.sink.proofs.WaysOut as law
-use borrow.Author.Rules.{rules}
 use Rattle.sink.proofs.bytes.one_more.Goals as goal
 
 pub returns-then-n-greatest : goal.returns-then-n-greatest

@@ -1,6 +1,4 @@
-use mathlib.Core.Path.{◌∙◌}
 use Rattle.sink.proofs.WaysOut as law
-use borrow.Author.Rules.{rules}
 use Rattle.sink.proofs.bytes.put_wide.Goals as goal
 
 pub returns-then-at-s : goal.returns-then-at-s

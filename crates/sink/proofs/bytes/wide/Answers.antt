@@ -1,5 +1,4 @@
 use Rattle.sink.proofs.WaysOut as law
-use borrow.Author.Rules.{rules}
 use Rattle.sink.proofs.bytes.wide.Goals as goal
 
 pub returns-then-at-s : goal.returns-then-at-s

@@ -1,5 +1,4 @@
 use Rattle.sink.proofs.WaysOut as law
-use borrow.Author.Rules.{rules}
 use Rattle.sink.proofs.cells.set_cell.Goals as goal
 
 pub returns-then-c-lt16384 : goal.returns-then-c-lt16384

@@ -1,5 +1,4 @@
 use Rattle.sink.proofs.WaysOut as law
-use borrow.Author.Rules.{rules}
 use Rattle.sink.proofs.keys.excluded_at.Goals as goal
 
 pub returns-then-at-lt16381 : goal.returns-then-at-lt16381

@@ -1,7 +1,6 @@
 use mathlib.Core.Path.{sym}
 use Rattle.sink.proofs.WaysOut as law
 use lib.Seq.{set_out}
-use borrow.Author.Rules.{rules}
 use Rattle.sink.proofs.list.write_at.Goals as goal
 
 pub returns-then-filled-list : goal.returns-then-filled-list

@@ -1,5 +1,4 @@
 use Rattle.sink.proofs.WaysOut as law
-use borrow.Author.Rules.{rules}
 use Rattle.sink.proofs.list.write_entry_at.Goals as goal
 
 pub returns-then-filled-list : goal.returns-then-filled-list

@@ -1,11 +1,9 @@
-use mathlib.Core.Path.{◌≡◌, refl, ◌∙◌}
+use mathlib.Core.Path.{◌≡◌}
 use mathlib.Core.List.{List}
 use Prim.Native.Nat.{ℕ, ◌-◌}
-use native.Mathlib.Omega.{arith}
 use lib.ListN.{length}
 use Rattle.sink.specs.declared.Sink.{Sink}
 use Rattle.sink.specs.Machine.{with_tree, state_of, steps, puts, part}
-use Rattle.sink.proofs.WaysOut as law
 use Rattle.sink.proofs.tree.copy_some.Given as goal
 
 abbrev pub invariant-loop-i : goal.invariant-loop-i

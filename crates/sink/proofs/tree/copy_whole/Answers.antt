@@ -1,10 +1,5 @@
-use mathlib.Core.Path.{◌≡◌, refl}
-use mathlib.Core.List.{List}
-use Prim.Native.Nat.{ℕ, ◌+◌, ◌-◌, ◌≤◌}
+use mathlib.Core.Path.{refl}
 use native.Mathlib.Omega.{arith}
-use lib.ListN.{length}
-use Rattle.sink.specs.declared.Sink.{Sink}
-use Rattle.sink.specs.Machine.{tree_limit, with_tree, state_of, steps, puts, part}
 use Rattle.sink.proofs.WaysOut as law
 use Rattle.sink.proofs.tree.copy_whole.Goals as goal
 

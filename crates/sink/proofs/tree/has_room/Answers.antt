@@ -1,6 +1,5 @@
 use mathlib.Core.Bool.{false≢true}
 use native.Mathlib.Omega.{arith}
-use borrow.Author.Rules.{rules}
 use Rattle.sink.proofs.WaysOut as law
 use Rattle.sink.proofs.tree.has_room.Goals as goal
 

@@ -1,6 +1,5 @@
 use Rattle.sink.specs.Machine.{with_tree, state_of}
 use Rattle.sink.proofs.WaysOut as law
-use borrow.Author.Rules.{rules}
 use Rattle.sink.proofs.tree.put_at.Goals as goal
 
 pub returns-then-at-lt32768 : goal.returns-then-at-lt32768
