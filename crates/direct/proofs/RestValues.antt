@@ -9,7 +9,6 @@ use Rattle.lowering.specs.Parts.{position, is, is_empty, only, each, gather, any
 use Rattle.lowering.specs.Made.{Context, object, array, sequence, member, string, excluded_of, key_of, E, X, W, K}
 use Rattle.lowering.specs.Patterns.{properties, key}
 use Rattle.lowering.specs.Keys.{key_sort, is_primitive, excluded_key, excluded_keys, all_primitive, entry_of, key_text}
-use Rattle.lowering.specs.Keys.Key.{name}
 use Rattle.lowering.specs.Rests.{mapped, is_hoisted, keys_read, rest_value}
 use Rattle.lowering.proofs.Cases.{by_entry}
 use Rattle.sink.specs.Machine.{Event}

@@ -7,7 +7,7 @@ use Prim.Native.Nat.{ℕ, zero, suc, ◌+◌, ◌-◌, ◌%◌, ◌<◌, ◌≤�
 use native.Mathlib.Omega.{arith}
 use native.Mathlib.Decide.{dec_lt}
 use lib.Dec.{eqb, ltb}
-use lib.ListN.{length, get_or, set, take, drop, replicate, length_set, drop_of_length-le}
+use lib.ListN.{length, get_or, set, take, drop, replicate, length-set, drop_of_length-le}
 use lib.Seq.{drop-cons}
 use borrow.Author.Tests.{eqb-true, eq-eqb, ne_eqb, lt-ltb, le-ltb, lt-leb, le-leb}
 use Rattle.tree.specs.Tree.{wide_bytes}
@@ -74,7 +74,7 @@ module _ (l₀ : List ℕ) (at : ℕ) (from : List ℕ) (start stop : ℕ) where
   unfolding put reach
   copying_next l p i end c e h q m w =
       let first : part i stop from ≡ get_or from i 0 ∷ part (i + 1) stop from = part_first from i stop (omega (arith, e)) (omega (arith, e)) in
-      let same : length m ≡ length l = ap length w.1 ∙ length_set l p (get_or from i 0) in
+      let same : length m ≡ length l = ap length w.1 ∙ length-set l p (get_or from i 0) in
       record {
         size = same ∙ c.size;
         ends = rw (same, w.0) (ap (reach (length l) p) (sym first) ∙ c.ends);
@@ -90,7 +90,7 @@ module _ (l₀ : List ℕ) (at : ℕ) (from : List ℕ) (start stop : ℕ) where
 pub block_next : (l₀ : List ℕ) (at : ℕ) (from : List ℕ) (start stop : ℕ) (l : List ℕ) (p i : ℕ) → Copying l₀ at from start stop l p i × (p + (stop - i) ≤ length l) × (stop ≡ min stop (length from)) → i < stop
     → Copying l₀ at from start stop (set l p (get_or from i 0)) (p + 1) (i + 1) × (p + 1 + (stop - (i + 1)) ≤ length (set l p (get_or from i 0))) × (stop ≡ min stop (length from))
 block_next l₀ at from start stop l p i (c, r, e) h =
-    (copying_next l₀ at from start stop l p i stop c e h (p + 1) (set l p (get_or from i 0)) (put_in l p (get_or from i 0) (omega arith)), omega (arith, length_set l p (get_or from i 0)), e)
+    (copying_next l₀ at from start stop l p i stop c e h (p + 1) (set l p (get_or from i 0)) (put_in l p (get_or from i 0) (omega arith)), omega (arith, length-set l p (get_or from i 0)), e)
 
 -- ---- a Declaration
 

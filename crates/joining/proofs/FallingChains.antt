@@ -7,7 +7,7 @@ use mathlib.Core.Logic.{inl, inr}
 use Prim.Native.Nat.{ℕ, zero, suc, ◌+◌, ◌<◌, ◌≤◌}
 use native.Mathlib.Omega.{arith}
 use lib.Dec.{ltb, eqb}
-use lib.ListN.{length, get_or, set, length_set}
+use lib.ListN.{length, get_or, set, length-set}
 use lib.Seq.{set_out, get_or-set_same, get_or-set_other}
 use borrow.Author.Tests.{lt-ltb, le-ltb, eq-eqb, ne_eqb, ltb-true, eqb-true}
 use Rattle.tree.specs.Read.{wide_at}
@@ -34,7 +34,7 @@ unfolding stored
 stored_length l i n = go (ltb n 65536)
   where
     go : (b : Bool) → length (cond b (set l i n) l) ≡ length l
-    go true = length_set l i n
+    go true = length-set l i n
     go false = refl
 
 pub back_taken : (l : List ℕ) (i n : ℕ) → n ≡ get_or l i 0 → n < i → n ≡ backward l i

@@ -7,7 +7,7 @@ use mathlib.Core.Bool.{Bool, true, false, cond}
 use mathlib.Core.Logic.{inl, inr}
 use native.Mathlib.Omega.{arith}
 use lib.Dec.{eqb, ltb}
-use lib.ListN.{length, get_or, set, take, drop, length_set, length-take, length-drop}
+use lib.ListN.{length, get_or, set, take, drop, length-set, length-take, length-drop}
 use lib.Seq.{get_or-set_same, get_or-set_other}
 use borrow.Author.Tests.{eq-eqb, ne_eqb, lt-ltb, le-ltb, ltb-true, eqb-true}
 use Rattle.tree.specs.Grammar.{among}
@@ -18,7 +18,6 @@ use Rattle.joining.specs.Join.{is_container}
 use Rattle.joining.specs.Tables.{stored, chain}
 use Rattle.joining.specs.Spots.{Spot, spot}
 use Rattle.joining.specs.Files.{In, Shelf, shelf, passed_by, marked_in, opened_at, added, Files}
-use Rattle.rewritten.specs.Events.{Event}
 use Rattle.rewritten.specs.Steps.{Stands, deep_after, event_in}
 use Rattle.rewritten.specs.Look.{event_for}
 use Rattle.rewritten.proofs.Marks.{by_same}
@@ -274,7 +273,7 @@ module _ (tree : List ℕ) (t : Shelf) (at deep : ℕ) (w : Walk) (f : Filed tre
     site = refl;
     stacked = ap (λ (l : List ℕ). v ∷ l) f.stacked ∙ stack_push t.around deep v (let a : 16385 ≤ length t.around = f.tall in omega arith);
     starts = ap (λ (x : ℕ). cond (ltb 1 x) at 0) top;
-    tall = let a : 16385 ≤ length t.around = f.tall in omega (arith, length_set t.around (deep + 1) v);
+    tall = let a : 16385 ≤ length t.around = f.tall in omega (arith, length-set t.around (deep + 1) v);
     lists = f.lists;
     lasts = f.lasts;
     firsts = f.firsts;
@@ -303,7 +302,7 @@ module _ (tree : List ℕ) (t : Shelf) (at deep : ℕ) (w : Walk) (f : Filed tre
     site = refl;
     stacked = ap (λ (l : List ℕ). 0 ∷ l) f.stacked ∙ stack_push t.around deep 0 (let a : 16385 ≤ length t.around = f.tall in omega arith);
     starts = refl;
-    tall = let a : 16385 ≤ length t.around = f.tall in omega (arith, length_set t.around (deep + 1) 0);
+    tall = let a : 16385 ≤ length t.around = f.tall in omega (arith, length-set t.around (deep + 1) 0);
     lists = f.lists;
     lasts = f.lasts;
     firsts = f.firsts;
@@ -326,9 +325,9 @@ module _ (tree : List ℕ) (t : Shelf) (at deep : ℕ) (w : Walk) (f : Filed tre
         site = refl;
         stacked = ap (λ (l : List ℕ). at ∷ l) f.stacked ∙ stack_push t.around deep at (let a : 16385 ≤ length t.around = f.tall in omega arith);
         starts = refl;
-        tall = let a : 16385 ≤ length t.around = f.tall in omega (arith, length_set t.around (deep + 1) at);
-        lists = omega (arith, length_set t.earlier at t.latest);
-        lasts = omega (arith, length_set t.holds at 0);
+        tall = let a : 16385 ≤ length t.around = f.tall in omega (arith, length-set t.around (deep + 1) at);
+        lists = omega (arith, length-set t.earlier at t.latest);
+        lasts = omega (arith, length-set t.holds at 0);
         firsts = f.firsts;
         last = omega arith;
         low = λ p. by_same p at (λ v. rw (v, get_or-set_same t.holds at 0 0 (omega arith)) (omega arith)) (λ v. rw (get_or-set_other t.holds at p 0 0 v) (let a : get_or t.holds p 0 ≤ at - 1 = f.low p in omega arith));
@@ -359,8 +358,8 @@ module _ (tree : List ℕ) (t : Shelf) (at deep : ℕ) (w : Walk) (f : Filed tre
         starts = refl;
         tall = f.tall;
         lists = f.lists;
-        lasts = omega (arith, length_set t.holds (get_or t.around (deep - 1) 0) t.begun);
-        firsts = omega (arith, length_set t.before t.begun (get_or t.holds (get_or t.around (deep - 1) 0) 0));
+        lasts = omega (arith, length-set t.holds (get_or t.around (deep - 1) 0) t.begun);
+        firsts = omega (arith, length-set t.before t.begun (get_or t.holds (get_or t.around (deep - 1) 0) 0));
         last = omega arith;
         low = λ p. by_same p (get_or t.around (deep - 1) 0) (λ v. rw (v, get_or-set_same t.holds (get_or t.around (deep - 1) 0) t.begun 0 (omega arith)) (omega arith)) (λ v. rw (get_or-set_other t.holds (get_or t.around (deep - 1) 0) p t.begun 0 v) (let a : get_or t.holds p 0 ≤ at - 1 = f.low p in omega arith));
         inside = each_map (Stood t.earlier t.latest at) (Stood t.earlier t.latest (suc (suc at))) (stood_later t.earlier t.latest at (suc (suc at)) (omega arith)) w.around f.inside;

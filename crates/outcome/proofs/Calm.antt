@@ -25,7 +25,7 @@ use Rattle.lowering.specs.Keys.{key_sort, entry_of, key_text}
 use Rattle.lowering.specs.Walk.{Note, Walked, WalkedFields, WalkedPiece, WalkedItems}
 use Rattle.lowering.specs.Walk.Walked.{noted}
 use Rattle.lowering.specs.Weight.{walked}
-use Rattle.lowering.specs.Made.{Context, temporary}
+use Rattle.lowering.specs.Made.{Context}
 use Rattle.lowering.specs.Collect.{is_container, marked, mark_of}
 use Rattle.lowering.proofs.All.{AllItems}
 use Rattle.lowering.proofs.Cases.{by_test, by_shape, object_is, array_is, default_is, by_entry}

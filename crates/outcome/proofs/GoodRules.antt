@@ -10,7 +10,7 @@ use Rattle.tree.specs.Tree.{Node, Piece, Items, depth}
 use Rattle.tree.specs.Tree.Node.{node}
 use Rattle.tree.specs.Tree.Items.{none, hole, item}
 use Rattle.lowering.specs.Parts.{position, piece_in, kind, is, node_at_of, items_at_of, stands, change, on_node, on_items, change_node, change_items, only, each, gather, any, ◌+++◌}
-use Rattle.lowering.specs.Made.{Context, temporary, reference, value_of, key_of, helper, call, S, X, E, W, K, object, array, sequence, member, assign, string, declares, declared, let_of, var_of, assigning, returning, block, function_body}
+use Rattle.lowering.specs.Made.{Context, reference, value_of, key_of, helper, call, S, X, E, W, K, object, array, sequence, member, assign, string, declares, declared, let_of, var_of, assigning, returning, block, function_body}
 use Rattle.lowering.specs.Patterns.{shape, properties, rest, has_rest_of, left_of, key, value, with_values, has_object_rest, has_array_rest_over_object_rest, replaced, replaced_below}
 use Rattle.lowering.specs.Keys.{key_sort, excluded_key, excluded_keys, key_temporary, key_temporaries, all_primitive, taken, entry_of, key_text}
 use Rattle.lowering.specs.Rests.{has_no_properties, mapped, is_hoisted, keys_read, rest_value}

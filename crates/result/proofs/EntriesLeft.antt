@@ -109,6 +109,7 @@ module _ (ns : List Name) where
   named_left Named.lone (Stands.onward (PartAt.part (FieldAt.first NodeIn.one)) Stands.here) k = absurd (true≢false (sym k))
   named_left Named.lone (Stands.onward (PartAt.part (FieldAt.first NodeIn.one)) (Stands.onward (PartAt.part a) s)) k = absurd (true≢false (sym (held a)))
   named_left Named.lone (Stands.onward (PartAt.part (FieldAt.behind a)) s) k = absurd (true≢false (sym (held a)))
+  named_left (Named.valued e) (Stands.onward (PartAt.part (FieldAt.behind (FieldAt.behind a))) s) k = elim a [ ]
 
   items_left : (js : Items) → AllItems Named js → {j : ℕ} {d : Node} → ItemAt (numbered_items ns js) j d → {q : List ℕ} {x : Node} → Stands [] d q x → keeps x ≡ true
       → Exception [] d q x Section.entry × (total kept_value js ≡ 0 → ⊥)
@@ -118,6 +119,7 @@ module _ (ns : List Name) where
       let r = named_left h.0 s k in
       (r.0, λ z. let o : kept_value n ≡ 1 = rw r.1 refl in absurd (omega arith))
   items_left (Items.item n js) h (ItemAt.behind a) s k = let r = items_left js h.1 a s k in (r.0, λ z. r.1 (omega arith))
+  items_left Items.none h a s k = elim a [ ]
 
   abbrev EntriesNamed : List Entry → Type 0
   EntriesNamed [] = Unit {0}
@@ -128,6 +130,7 @@ module _ (ns : List Name) where
   unfolding each_entry of_entries measure
   numbered_left (e ∷ es) h (EntryHas.here a) s k = let r = items_left e.declarators h.0 a s k in (r.0, λ z. r.1 (omega arith))
   numbered_left (e ∷ es) h (EntryHas.later i) s k = let r = numbered_left es h.1 i s k in (r.0, λ z. r.1 (omega arith))
+  numbered_left [] h a s k = elim a [ ]
 
   entries_named : (vs : List Visit) → AllNotes (λ note. AllItems Named note.entry) vs → EntriesNamed (entries vs)
   unfolding entries over entry_at

@@ -139,6 +139,7 @@ module _ (ns : List Name) where
       let r = key_left h.0 s k in
       (r.0, λ z. let o : kept_key n ≡ 1 = rw r.1 refl in absurd (omega arith))
   keys_left (Items.item n ks) h (ItemAt.behind a) s k = let r = keys_left ks h.1 a s k in (r.0, λ z. r.1 (omega arith))
+  keys_left Items.none h a s k = elim a [ ]
 
   hoisted_left : {d : Node} → Hoisted d → {q : List ℕ} {x : Node} → Stands [] (numbered ns d) q x → keeps x ≡ true → Exception [] (numbered ns d) q x Section.excluded × (kept_keys d ≡ 0 → ⊥)
   unfolding numbered with_number keeps keeps_rest keeps_spread is items_at_of node_at_of piece_in
@@ -156,6 +157,7 @@ module _ (ns : List Name) where
   items_left (Items.hole js) h (ItemAt.behind_hole a) s k = items_left js h a s k
   items_left (Items.item n js) h ItemAt.first s k = let r = hoisted_left h.0 s k in (r.0, λ z. r.1 (omega arith))
   items_left (Items.item n js) h (ItemAt.behind a) s k = let r = items_left js h.1 a s k in (r.0, λ z. r.1 (omega arith))
+  items_left Items.none h a s k = elim a [ ]
 
   all_hoisted : (vs : List Visit) → AllNotes (λ note. AllItems Hoisted note.excluded) vs → AllItems Hoisted (excluded_in vs)
   unfolding excluded_in

@@ -99,6 +99,7 @@ module _ (n : Node) where
       (λ k. k)
       (λ k. let z : unknown_value d ≡ 1 = rw (e, k, value_node x e) refl in absurd (omega arith))
   known_value (LieItems.item x a) h (ItemAt.behind i) e = known_value a (omega arith) i e
+  known_value LieItems.none h i e = elim i [ ]
 
   known_entries : (T : Texts) (es : List Entry) → EntriesLie T es → of_entries measure es ≡ 0 → KeysOf n es
   unfolding of_entries measure

@@ -177,6 +177,7 @@ mutual
   bytes_fields (FitFields.absent f) (TextInFields.behind_absent i) = bytes_fields f i
   bytes_fields (FitFields.field a f) (TextInFields.first i) = bytes_piece a i
   bytes_fields (FitFields.field a f) (TextInFields.behind i) = bytes_fields f i
+  bytes_fields FitFields.done i = elim i [ ]
 
   bytes_piece : {b : ℕ} {s : Sort} {p : Piece} → FitPiece input b s p → {bs : List ℕ} → TextInPiece p bs → Bytes bs
   bytes_piece (FitPiece.child f) (TextInPiece.one i) = input_bytes f i

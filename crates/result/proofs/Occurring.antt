@@ -102,6 +102,7 @@ mutual
   fields_within : (fs : Fields) {x : Node} → In x (nodes_fields fs) → InFields fs x
   fields_within (Fields.absent fs) i = behind_absent_lem (fields_within fs i)
   fields_within (Fields.field p fs) i = elim (in_either (nodes_piece p) i) [ inl j ↦ first_field (piece_within p j) | inr j ↦ behind_field (fields_within fs j) ]
+  fields_within Fields.done i = elim i [ ]
 
   piece_within : (p : Piece) {x : Node} → In x (nodes_piece p) → InPiece p x
   piece_within (Piece.one n) i = InPiece.in_node_lem NodeIn.one (nodes_within n i)

@@ -173,6 +173,7 @@ lie_sort (LieFields.needed x a) (FieldAt.first f) = sort_in_lem x f
 lie_sort (LieFields.needed x a) (FieldAt.behind f) = lie_sort a f
 lie_sort (LieFields.given x a) (FieldAt.first f) = sort_in_lem x f
 lie_sort (LieFields.given x a) (FieldAt.behind f) = lie_sort a f
+lie_sort LieFields.done f = elim f [ ]
 
 pub out_place : {T : Texts} (s : Sort) {x : Node} → out_sort s ≡ true → SortLies T s x → (q : ℕ) × (is_outside q ≡ true) × Lies T q x
 out_place (Sort.child q) e l = (q, e, l)
@@ -201,6 +202,10 @@ node_by (LiePiece.child x) NodeIn.one = refl
 node_by (LiePiece.chosen x) NodeIn.one = refl
 node_by (LiePiece.many a) (NodeIn.list i) = i
 node_by (LiePiece.gaps a) (NodeIn.list i) = i
+node_by (LiePiece.text _) i = elim i [ ]
+node_by (LiePiece.byte _ _ _) i = elim i [ ]
+node_by (LiePiece.mark _) i = elim i [ ]
+node_by (LiePiece.number _) i = elim i [ ]
 
 pub by_node : {T : Texts} {b : ℕ} {ts : List Field} {fs : Fields} → LieFields T b ts fs → {i j : ℕ} {x : Node} → FieldAt fs i j x → ByNode (sort_at ts i) (piece_in fs i) j x
 unfolding piece_in
@@ -209,6 +214,7 @@ by_node (LieFields.needed x a) (FieldAt.first f) = node_by x f
 by_node (LieFields.needed x a) (FieldAt.behind f) = by_node a f
 by_node (LieFields.given x a) (FieldAt.first f) = node_by x f
 by_node (LieFields.given x a) (FieldAt.behind f) = by_node a f
+by_node LieFields.done f = elim f [ ]
 
 -- ---- leaves of patterns: all that they have stands outside
 

@@ -32,6 +32,7 @@ come_item : {is js : Items} → ComeItems is js → {j : ℕ} {y : Node} → Ite
 come_item (ComeItems.hole a) (ItemAt.behind_hole i) = let r = come_item a i in (r.0, ItemAt.behind_hole r.1, r.2)
 come_item (ComeItems.item {n = n} c a) ItemAt.first = (n, ItemAt.first, c)
 come_item (ComeItems.item c a) (ItemAt.behind i) = let r = come_item a i in (r.0, ItemAt.behind r.1, r.2)
+come_item ComeItems.none i = elim i [ ]
 
 come_in : {p q : Piece} → ComePiece p q → {j : ℕ} {y : Node} → NodeIn q j y → (x : Node) × NodeIn p j x × Comes x y
 come_in (ComePiece.one {n = n} c) NodeIn.one = (n, NodeIn.one, c)
@@ -41,11 +42,13 @@ pub come_field : {fs gs : Fields} → ComeFields fs gs → {i j : ℕ} {y : Node
 come_field (ComeFields.absent a) (FieldAt.behind_absent f) = let r = come_field a f in (r.0, FieldAt.behind_absent r.1, r.2)
 come_field (ComeFields.field c a) (FieldAt.first f) = let r = come_in c f in (r.0, FieldAt.first r.1, r.2)
 come_field (ComeFields.field c a) (FieldAt.behind f) = let r = come_field a f in (r.0, FieldAt.behind r.1, r.2)
+come_field ComeFields.done f = elim f [ ]
 
 pub lie_item : {T : Texts} {p : ℕ} {h : Bool} {is : Items} → LieItems T p h is → {j : ℕ} {x : Node} → ItemAt is j x → Lies T p x
 lie_item (LieItems.hole a) (ItemAt.behind_hole i) = lie_item a i
 lie_item (LieItems.item x a) ItemAt.first = x
 lie_item (LieItems.item x a) (ItemAt.behind i) = lie_item a i
+lie_item LieItems.none i = elim i [ ]
 
 lie_in : {T : Texts} {b d : ℕ} {s : Sort} {p : Piece} → LiePiece T b s p d → {j : ℕ} {x : Node} → NodeIn p j x → (q : ℕ) × Lies T q x
 lie_in (LiePiece.child {p = q} x) NodeIn.one = (q, x)
@@ -59,6 +62,7 @@ lie_field (LieFields.needed x a) (FieldAt.first f) = lie_in x f
 lie_field (LieFields.needed x a) (FieldAt.behind f) = lie_field a f
 lie_field (LieFields.given x a) (FieldAt.first f) = lie_in x f
 lie_field (LieFields.given x a) (FieldAt.behind f) = lie_field a f
+lie_field LieFields.done f = elim f [ ]
 
 pub or_then : (a b : Bool) → b ≡ true → a || b ≡ true
 or_then true b h = refl

@@ -34,6 +34,8 @@ texts_of n h = record { holds = Known n; bytes = known_bytes n h; number = λ w 
 -- a Temporary has none
 no_text : {A : Type 0} {at number stem : ℕ} {bs : List ℕ} → TextIn (node at 20 (Fields.field (Piece.number number) (Fields.field (Piece.byte stem) Fields.done))) bs → A
 no_text (TextIn.in_node (TextInFields.behind (TextInFields.behind i))) = elim i [ ]
+no_text (TextIn.in_node (TextInFields.first i)) = elim i [ ]
+no_text (TextIn.in_node (TextInFields.behind (TextInFields.first i))) = elim i [ ]
 
 in_fields : {at k : ℕ} {fs : Fields} {bs : List ℕ} → TextIn (node at k fs) bs → TextInFields fs bs
 in_fields (TextIn.in_node i) = i

@@ -1,9 +1,8 @@
 use Rattle.rewritten.proofs.Marks.{cleared_one}
-use lib.ListN.{length, get_or, length_set, get_or-eq_default}
-use Prim.Native.Nat.{ℕ, ◌-◌, ◌≤◌}
-use mathlib.Core.Path.{◌≡◌, refl, ◌∙◌}
+use lib.ListN.{length-set, get_or-eq_default}
+use Prim.Native.Nat.{◌-◌}
+use mathlib.Core.Path.{refl, ◌∙◌}
 use native.Mathlib.Omega.{arith}
-use borrow.Author.Rules.{rules}
 use Rattle.joining.proofs.table.clear.Goals as goal
 
 pub loop-i-init : goal.loop-i-init
@@ -19,7 +18,7 @@ pub loop-i-smaller : goal.loop-i-smaller
 loop-i-smaller c = omega (arith, c.loop-i-test.true)
 
 pub loop-i-preserved : goal.loop-i-preserved
-loop-i-preserved c = (length_set c.loop-i.table (c.loop-i.i - 1) 0 ∙ c.loop-i.invariant.0, omega (arith, c.loop-i.invariant.1, length_set c.loop-i.table (c.loop-i.i - 1) 0), cleared_one c.loop-i.table c.loop-i.i c.loop-i-test.true c.loop-i.invariant.1 c.loop-i.invariant.2)
+loop-i-preserved c = (length-set c.loop-i.table (c.loop-i.i - 1) 0 ∙ c.loop-i.invariant.0, omega (arith, c.loop-i.invariant.1, length-set c.loop-i.table (c.loop-i.i - 1) 0), cleared_one c.loop-i.table c.loop-i.i c.loop-i-test.true c.loop-i.invariant.1 c.loop-i.invariant.2)
 
 pub returns : goal.returns
 returns c = (c.loop-i.invariant.0, λ x. c.loop-i.invariant.2 x (omega (arith, c.loop-i-test.false)))

@@ -1,16 +1,13 @@
-use mathlib.Core.Path.{◌≡◌, refl, ◌∙◌}
+use mathlib.Core.Path.{refl, ◌∙◌}
 use Rattle.joining.proofs.BytesWritten as law
-use lib.ListN.{length}
-use Prim.Native.Nat.{◌-◌, ◌≤◌}
 use native.Mathlib.Omega.{arith}
-use borrow.Author.Rules.{rules}
 use Rattle.joining.proofs.write.rest.Goals as goal
 
 pub loop-p-init : goal.loop-p-init
 loop-p-init c = (λ h. law.passing_start _ _ _ _ _ _ _ _ _, refl)
 
 pub overflow_add-p : goal.overflow_add-p
-overflow_add-p c = omega (arith, c.place-q.ensures.0.within, c.loop-p-test.true, c.well_formed_lem)
+overflow_add-p c = omega (arith, c.place-q.ensures.0.within, c.loop-p-test.true, c.well_formed)
 
 pub loop-p-smaller : goal.loop-p-smaller
 loop-p-smaller c = omega (arith, c.place-q.ensures.0.within, c.place-q.ensures.0.onward, c.loop-p-test.true)

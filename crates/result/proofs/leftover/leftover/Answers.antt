@@ -1,6 +1,6 @@
-use native.Mathlib.Nat.{le_of_eq}
+use native.Mathlib.Omega.{arith}
 use borrow.Author.Rules.{rules}
 use Rattle.result.proofs.leftover.leftover.Goals as goal
 
 pub returns : goal.returns
-returns c = c.look.ensures (le_of_eq (slice-aggregate-look c))
+returns c = c.look.ensures (omega arith)

@@ -1,6 +1,5 @@
 use Rattle.rewritten.proofs.Ahead as law
 use native.Mathlib.Omega.{arith}
-use borrow.Author.Rules.{rules}
 use Rattle.rewritten.proofs.look.byte.Goals as goal
 
 pub returns-then-b-high : goal.returns-then-b-high

@@ -1,6 +1,5 @@
 use Rattle.rewritten.proofs.Ahead as law
 use Rattle.rewritten.proofs.Moves as moves
-use borrow.Author.Rules.{rules}
 use Rattle.tree.proofs.ReaderCycle.{other_class}
 use Rattle.rewritten.proofs.look.field.Goals as goal
 

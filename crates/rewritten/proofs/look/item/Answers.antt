@@ -1,8 +1,6 @@
 use Rattle.rewritten.proofs.Ahead as law
 use Rattle.rewritten.proofs.Moves as moves
-use mathlib.Core.Logic.{⊎_elim}
 use mathlib.Core.Path.{◌∙◌}
-use borrow.Author.Rules.{rules}
 use Rattle.rewritten.proofs.look.item.Goals as goal
 use Rattle.rewritten.proofs.look.item.Goals.{else-w-eq1, then-w-eq1+else-peek-eq0}
 

@@ -1,9 +1,7 @@
 use Rattle.rewritten.proofs.Ahead as law
 use native.Mathlib.Omega.{arith}
 use mathlib.Core.Bool.{Bool, cond}
-use mathlib.Core.Logic.{⊎_elim}
 use mathlib.Core.Path.{sym, ap, ◌∙◌}
-use borrow.Author.Rules.{rules}
 use Rattle.rewritten.proofs.look.list.Goals as goal
 use Rattle.rewritten.proofs.look.list.Goals.{else-holes, then-holes}
 

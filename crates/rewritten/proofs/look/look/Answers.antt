@@ -1,5 +1,4 @@
 use Rattle.rewritten.proofs.Ahead as law
-use borrow.Author.Rules.{rules}
 use Rattle.rewritten.proofs.look.look.Goals as goal
 
 pub returns-then-top-eq0 : goal.returns-then-top-eq0

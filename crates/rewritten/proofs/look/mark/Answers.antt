@@ -1,6 +1,5 @@
 use Rattle.rewritten.proofs.Ahead as law
 use native.Mathlib.Omega.{arith}
-use borrow.Author.Rules.{rules}
 use Rattle.rewritten.proofs.look.mark.Goals as goal
 
 pub returns-then-n-lt65536 : goal.returns-then-n-lt65536

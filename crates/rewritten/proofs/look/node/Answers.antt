@@ -5,7 +5,6 @@ use Prim.Native.Nat.{◌<◌, ◌^◌}
 use mathlib.Core.Path.{ap}
 use Rattle.rewritten.specs.Pending.{sorts}
 use native.Mathlib.Omega.{arith}
-use borrow.Author.Rules.{rules}
 use Rattle.rewritten.proofs.look.node.Goals as goal
 
 pub returns-then-form-eq0 : goal.returns-then-form-eq0

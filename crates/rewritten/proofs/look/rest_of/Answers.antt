@@ -1,7 +1,6 @@
 use mathlib.Core.Path.{refl}
 use native.Mathlib.Omega.{arith}
 use borrow.Author.Tests.{eq-eqb, ne_eqb}
-use borrow.Author.Rules.{rules}
 use Rattle.rewritten.proofs.look.rest_of.Goals as goal
 
 pub returns-then-top-eq0 : goal.returns-then-top-eq0

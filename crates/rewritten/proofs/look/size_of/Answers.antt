@@ -1,7 +1,6 @@
 use Rattle.rewritten.proofs.Ahead as law
 use mathlib.Core.Path.{refl}
 use native.Mathlib.Omega.{arith}
-use borrow.Author.Rules.{rules}
 use Rattle.rewritten.proofs.look.size_of.Goals as goal
 
 pub returns-in-1 : goal.returns-in-1

@@ -2,7 +2,6 @@ use Rattle.rewritten.proofs.Ahead as law
 use native.Mathlib.Omega.{arith}
 use lib.ListN.{length}
 use Prim.Native.Nat.{◌+◌, ◌<◌}
-use borrow.Author.Rules.{rules}
 use Rattle.rewritten.proofs.look.text.Goals as goal
 
 pub returns-then-n-gt65535 : goal.returns-then-n-gt65535

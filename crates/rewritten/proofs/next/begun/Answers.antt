@@ -2,7 +2,6 @@ use lib.ListN.{length-set}
 use lib.Seq.{set_out}
 use mathlib.Core.Path.{refl, sym}
 use borrow.Author.Tests.{lt-ltb, le-ltb}
-use borrow.Author.Rules.{rules}
 use Rattle.rewritten.proofs.next.begun.Goals as goal
 
 pub returns-then-deep-frames : goal.returns-then-deep-frames

@@ -2,7 +2,6 @@ use Rattle.rewritten.specs.Steps.{step_closed}
 use Rattle.rewritten.proofs.Moves.{step_by, close_some}
 use mathlib.Core.Path.{ap, sym, ◌∙◌}
 use mathlib.Core.Bool.{true, false}
-use borrow.Author.Rules.{rules}
 use Rattle.rewritten.proofs.next.close.Goals as goal
 
 pub returns-then-deep-eq0 : goal.returns-then-deep-eq0

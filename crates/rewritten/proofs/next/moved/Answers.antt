@@ -2,7 +2,6 @@ use Prim.Native.Nat.{◌+◌, ◌*◌, ◌/◌, ◌%◌}
 use Rattle.rewritten.proofs.Ahead as law
 use Rattle.rewritten.specs.Look.{frames_for}
 use mathlib.Core.Path.{refl, sym, ap, ◌∙◌}
-use borrow.Author.Rules.{rules}
 use Rattle.rewritten.proofs.next.moved.Goals as goal
 
 pub returns-then-code-eq1 : goal.returns-then-code-eq1

@@ -3,7 +3,6 @@ use Rattle.rewritten.proofs.Moves as moves
 use mathlib.Core.Path.{refl}
 use native.Mathlib.Omega.{arith}
 use borrow.Author.Tests.{lt-ltb, le-ltb}
-use borrow.Author.Rules.{rules}
 use Rattle.rewritten.proofs.next.next.Goals as goal
 
 pub returns-then-is_closed : goal.returns-then-is_closed

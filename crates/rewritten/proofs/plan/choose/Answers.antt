@@ -1,9 +1,7 @@
 use Rattle.tree.proofs.LeavesRead.{chosen_first, chosen_second}
 use native.Mathlib.Omega.{arith}
 use Prim.Native.Nat.{◌-◌}
-use mathlib.Core.Logic.{⊎_elim}
 use mathlib.Core.Path.{◌≡◌}
-use borrow.Author.Rules.{rules}
 use Rattle.rewritten.proofs.plan.choose.Goals as goal
 use Rattle.rewritten.proofs.plan.choose.Goals.{else-at-gt0, then-at-gt0}
 

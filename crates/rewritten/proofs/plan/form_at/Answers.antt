@@ -1,5 +1,4 @@
 use Rattle.rewritten.proofs.RewrittenForms as law
-use borrow.Author.Rules.{rules}
 use Rattle.rewritten.proofs.plan.form_at.Goals as goal
 
 pub returns-then-form_at-eq0-2 : goal.returns-then-form_at-eq0-2

@@ -1,4 +1,3 @@
-use mathlib.Core.Logic.{⊎_elim}
 use Rattle.rewritten.proofs.Frames as law
 use native.Mathlib.Omega.{arith}
 use Rattle.rewritten.proofs.plan.plan.Goals as goal

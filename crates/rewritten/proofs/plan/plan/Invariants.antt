@@ -1,6 +1,4 @@
-use mathlib.Core.Logic.{⊎_elim}
 use Rattle.rewritten.proofs.Frames as law
-use native.Mathlib.Omega.{arith}
 use Rattle.rewritten.proofs.plan.plan.Given as goal
 
 abbrev pub invariant-loop-left : goal.invariant-loop-left

@@ -1,6 +1,4 @@
-use native.Mathlib.Nat.{le_of_eq}
 use Rattle.std.proofs.Common.{arith}
-use borrow.Author.Rules.{rules}
 use Rattle.rewritten.proofs.read.is_rewritten.Goals as goal
 
 pub returns : goal.returns

@@ -1,9 +1,6 @@
 use Rattle.rewritten.proofs.Moves as moves
 use Rattle.rewritten.proofs.MarksReader as law
-use Rattle.rewritten.specs.Rewritten.{is_rewritten}
-use lib.ListN.{length}
-use Prim.Native.Nat.{◌+◌, ◌-◌}
-use mathlib.Core.Path.{◌≡◌, refl, ◌∙◌}
+use mathlib.Core.Path.{refl, ◌∙◌}
 use native.Mathlib.Omega.{arith}
 use Rattle.rewritten.proofs.read.read.Goals as goal
 

@@ -1,10 +1,8 @@
-use Rattle.rewritten.proofs.Moves as moves
 use Rattle.rewritten.proofs.MarksReader as law
 use Rattle.rewritten.specs.Rewritten.{is_rewritten}
 use lib.ListN.{length}
 use Prim.Native.Nat.{◌+◌, ◌-◌}
-use mathlib.Core.Path.{◌≡◌, refl, ◌∙◌}
-use native.Mathlib.Omega.{arith}
+use mathlib.Core.Path.{◌≡◌}
 use Rattle.rewritten.proofs.read.read.Given as goal
 
 abbrev pub invariant-loop-at : goal.invariant-loop-at

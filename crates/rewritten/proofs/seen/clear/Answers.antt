@@ -1,7 +1,7 @@
 use Rattle.rewritten.proofs.Marks.{cleared_one}
-use lib.ListN.{length, get_or, length-set, get_or-eq_default}
-use Prim.Native.Nat.{ℕ, ◌-◌, ◌≤◌}
-use mathlib.Core.Path.{◌≡◌, refl, ◌∙◌}
+use lib.ListN.{length-set, get_or-eq_default}
+use Prim.Native.Nat.{◌-◌}
+use mathlib.Core.Path.{refl, ◌∙◌}
 use native.Mathlib.Omega.{arith}
 use Rattle.rewritten.proofs.seen.clear.Goals as goal
 

@@ -4,7 +4,6 @@ use Rattle.rewritten.specs.Steps.{event_in}
 use borrow.Author.Tests.{eq-eqb}
 use lib.ListN.{get_or, get_or-eq_default}
 use mathlib.Core.Path.{ap, sym, ◌∙◌}
-use borrow.Author.Rules.{rules}
 use Rattle.rewritten.proofs.seen.is_new.Goals as goal
 
 pub returns-in-Begins : goal.returns-in-Begins

@@ -1,7 +1,6 @@
 use lib.ListN.{get_or-eq_default}
 use mathlib.Core.Path.{refl, sym}
 use borrow.Author.Tests.{eq-eqb, ne_eqb}
-use borrow.Author.Rules.{rules}
 use Rattle.rewritten.proofs.seen.is_new_ahead.Goals as goal
 
 pub returns-then-n-seen : goal.returns-then-n-seen

@@ -3,7 +3,6 @@ use Rattle.rewritten.specs.declared.step.Event as told
 use Rattle.rewritten.specs.Marks.{noted}
 use Rattle.rewritten.specs.Steps.{event_in}
 use mathlib.Core.Path.{ap, sym, ◌∙◌}
-use borrow.Author.Rules.{rules}
 use Rattle.rewritten.proofs.seen.note.Goals as goal
 
 pub returns-in-Begins : goal.returns-in-Begins

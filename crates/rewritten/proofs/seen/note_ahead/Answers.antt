@@ -1,7 +1,6 @@
 use lib.Seq.{set_out}
 use mathlib.Core.Path.{refl, sym}
 use borrow.Author.Tests.{eq-eqb, ne_eqb}
-use borrow.Author.Rules.{rules}
 use Rattle.rewritten.proofs.seen.note_ahead.Goals as goal
 
 pub returns-then-n-seen : goal.returns-then-n-seen

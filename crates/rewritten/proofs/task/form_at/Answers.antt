@@ -1,5 +1,4 @@
 use mathlib.Core.Path.{refl}
-use borrow.Author.Rules.{rules}
 use borrow.Author.Tests.{eq-eqb, ne_eqb, lt-ltb, le-ltb}
 use Rattle.rewritten.proofs.TablesRight.{form_from, form_is}
 use Rattle.rewritten.proofs.task.form_at.Goals as goal

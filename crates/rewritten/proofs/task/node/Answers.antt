@@ -2,9 +2,8 @@ use Rattle.rewritten.proofs.Ahead as ahead
 use Rattle.rewritten.proofs.TablesRight as law
 use lib.ListN.{length}
 use mathlib.Core.Path.{refl}
-use Prim.Native.Nat.{◌+◌, ◌<◌}
+use Prim.Native.Nat.{◌<◌}
 use native.Mathlib.Omega.{arith}
-use borrow.Author.Rules.{rules}
 use Rattle.rewritten.specs.Numbers.{plan_numbers, map_numbers}
 use Rattle.rewritten.proofs.task.node.Goals as goal
 

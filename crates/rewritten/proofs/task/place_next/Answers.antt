@@ -1,6 +1,4 @@
-use mathlib.Core.Logic.{⊎_elim}
 use mathlib.Core.Path.{refl, sym, ◌∙◌}
-use borrow.Author.Rules.{rules}
 use borrow.Author.Tests.{eq-eqb, ne_eqb}
 use Rattle.rewritten.specs.Look.{place_next}
 use Rattle.rewritten.proofs.task.place_next.Goals as goal

@@ -1,5 +1,3 @@
-use mathlib.Core.Logic.{⊎_elim}
-use native.Mathlib.Omega.{arith}
 use Rattle.rewritten.proofs.Frames as law
 use Rattle.rewritten.proofs.task.planned.Given as goal
 
