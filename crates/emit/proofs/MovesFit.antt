@@ -7,7 +7,7 @@ use Prim.Native.Nat.{ℕ, zero, suc, ◌+◌, ◌≤◌}
 use native.Mathlib.Omega.{arith}
 use lib.ListN.{length, take, drop, length-append}
 use lib.Dec.{leb}
-use lib.Seq.{take_nil, drop-nil}
+use lib.Seq.{take-nil, drop-nil}
 use Rattle.tree.specs.Tree.{Node, Items, count, encode, encode_items}
 use Rattle.tree.specs.Look.{onward, look_item, look_items, look_node}
 use Rattle.lowering.specs.Parts.{gather}
@@ -50,7 +50,7 @@ gather_small f h (Items.item n is) =
 -- ---- bytes in two parts
 
 slice_join : (a b c : ℕ) (l : List ℕ) → a ≤ b → b ≤ c → drop a (take c l) ≡ drop a (take b l) ++ drop b (take c l)
-slice_join a b c [] h k = rw (take_nil {A = ℕ} c, take_nil {A = ℕ} b, drop-nil {A = ℕ} a, drop-nil {A = ℕ} b) refl
+slice_join a b c [] h k = rw (take-nil {A = ℕ} c, take-nil {A = ℕ} b, drop-nil {A = ℕ} a, drop-nil {A = ℕ} b) refl
 slice_join zero zero c (x ∷ l) h k = refl
 slice_join zero (suc b) zero (x ∷ l) h k = absurd (omega arith)
 slice_join zero (suc b) (suc c) (x ∷ l) h k = ap (λ (xs : List ℕ). x ∷ xs) (slice_join zero b c l (omega arith) (omega arith))

@@ -8,9 +8,9 @@ use Prim.Native.Nat.{ℕ, zero, suc, ◌+◌, ◌*◌, ◌<◌, ◌≤◌, min}
 use native.Mathlib.Omega.{arith}
 use native.Mathlib.Nat.{le_of_suc-le-suc, not-suc-le-zero}
 use native.Mathlib.Decide.{dec_lt}
-use native.Mathlib.Numerals.{add_one}
+use native.Mathlib.Numerals.{add-one}
 use lib.Dec.{ltb}
-use lib.ListN.{length, get_or, set, take, drop, replicate, length_set, length-replicate}
+use lib.ListN.{length, get_or, set, take, drop, replicate, length-set, length-replicate}
 use lib.Seq.{take-set-le, take-set-lt, take-suc-set, take-append_seam, get_or-take, length-take-le, length_front}
 use borrow.Author.Tests.{lt-ltb, ltb-true}
 use Rattle.sink.specs.declared.Sink.{Sink}
@@ -31,8 +31,8 @@ alike_set n x y i b e = elim (dec_lt i n) [
 
 alike_more : (n : ℕ) (x y : List ℕ) (b : ℕ) → n < length x → n < length y → Alike n x y → Alike (n + 1) (set x n b) (set y n b)
 alike_more n x y b h g e =
-    ap (λ (m : ℕ). take m (set x n b)) (add_one n) ∙ take-suc-set x n b h ∙ ap (λ (l : List ℕ). l ++ (b ∷ [])) e
-    ∙ sym (take-suc-set y n b g) ∙ ap (λ (m : ℕ). take m (set y n b)) (sym (add_one n))
+    ap (λ (m : ℕ). take m (set x n b)) (add-one n) ∙ take-suc-set x n b h ∙ ap (λ (l : List ℕ). l ++ (b ∷ [])) e
+    ∙ sym (take-suc-set y n b g) ∙ ap (λ (m : ℕ). take m (set y n b)) (sym (add-one n))
 
 take_less : (m n : ℕ) (x : List ℕ) → m ≤ n → take m (take n x) ≡ take m x
 take_less zero n x h = refl
@@ -113,7 +113,7 @@ keeps_keys b o l x y k r n e = go (ltb k.keys 16384) refl
         let j : ltb (k.keys + 1) 16385 ≡ true = lt-ltb (k.keys + 1) 16385 (omega arith) in
         let u : Alike (32768 + k.keys) x y = subst (λ (c : Bool). Alike (cond c (32768 + k.keys) 32768) x y) i e in
         let a : 32768 + (k.keys + 1) ≡ 32768 + k.keys + 1 = omega arith in
-        twins o l (set x (32768 + k.keys) b) (set y (32768 + k.keys) b) (with_keys_of k (k.keys + 1)) (omega (arith, length_set x (32768 + k.keys) b)) (length_set x (32768 + k.keys) b ∙ n ∙ sym (length_set y (32768 + k.keys) b))
+        twins o l (set x (32768 + k.keys) b) (set y (32768 + k.keys) b) (with_keys_of k (k.keys + 1)) (omega (arith, length-set x (32768 + k.keys) b)) (length-set x (32768 + k.keys) b ∙ n ∙ sym (length-set y (32768 + k.keys) b))
         (subst (λ (c : Bool). Alike (cond c (32768 + (k.keys + 1)) 32768) (set x (32768 + k.keys) b) (set y (32768 + k.keys) b)) (sym j)
         (subst (λ (m : ℕ). Alike m (set x (32768 + k.keys) b) (set y (32768 + k.keys) b)) (sym a) (alike_more (32768 + k.keys) x y b (omega arith) (omega arith) u)))
     go false f = twins o l x y (with_keys_of k 16385) r n (alike_less 32768 (reach k.keys) x y (cells_within k.keys) e)

@@ -104,7 +104,7 @@ use Rattle.emit.proofs.view as view
 use Rattle.emit.proofs.vo as vo
 use Rattle.emit.proofs.+add_ag_an_ar_ba_bi_bl_body_ca_da_db_decl_deep_dh_dr_eb_ek_fb_fs_fun_go_gv_head_item_items_key_keys_kv_lit_lo_mv_node_ns_oa_os_own_pa_plain_pr_prop_ps_pt_read_rest_seq_slot_ta_tb_tg_th_top_turn_va_view_vl_vo as cycle
 use Rattle.emit.proofs.+add_ag_an_ar_ba_bi_bl_body_ca_da_db_decl_deep_dh_dr_eb_ek_fb_fs_fun_go_gv_head_item_items_key_keys_kv_lit_lo_mv_node_ns_oa_os_own_pa_plain_pr_prop_ps_pt_read_rest_seq_slot_ta_tb_tg_th_top_turn_va_view_vl_vo.Goals as goal
-use Rattle.emit.proofs.+add_ag_an_ar_ba_bi_bl_body_ca_da_db_decl_deep_dh_dr_eb_ek_fb_fs_fun_go_gv_head_item_items_key_keys_kv_lit_lo_mv_node_ns_oa_os_own_pa_plain_pr_prop_ps_pt_read_rest_seq_slot_ta_tb_tg_th_top_turn_va_view_vl_vo.Goals.{else-any_moved, else-holes, else-peek-eq-OBJECT_PATTERN, else-rest, else-taken, then-any_moved, then-holes, then-peek-eq-OBJECT_PATTERN, then-rest, then-taken}
+use Rattle.emit.proofs.+add_ag_an_ar_ba_bi_bl_body_ca_da_db_decl_deep_dh_dr_eb_ek_fb_fs_fun_go_gv_head_item_items_key_keys_kv_lit_lo_mv_node_ns_oa_os_own_pa_plain_pr_prop_ps_pt_read_rest_seq_slot_ta_tb_tg_th_top_turn_va_view_vl_vo.Goals.{an-else-peek-eq-OBJECT_PATTERN, an-then-peek-eq-OBJECT_PATTERN+else-has_second, fun-else-any_moved, fun-then-any_moved+else-stands, item-else-holes, item-then-holes+else-peek-eq0, key-else-taken, key-then-taken+else-is_other, turn-else-holes, turn-then-holes+else-peek-eq0, vo-else-rest, vo-then-rest+else-replaces}
 
 with-next : {A N B : Type 0} → A × B → N → A × N × B
 with-next p n = (p.0, n, p.1)
@@ -138,7 +138,7 @@ pub an-returns-then-has_second : goal.an-returns-then-has_second
 an-returns-then-has_second t c = assigning.asn_top _ _ _ _ _ _ _ _ _ c.peek.ensures c.if-peek-eq-OBJECT_PATTERN.true c.has_second.ensures c.if-has_second.true c.top.ensures
 
 pub an-returns : goal.an-returns
-an-returns t c = (elim c.if-peek-eq-OBJECT_PATTERN.branch [ then-peek-eq-OBJECT_PATTERN w ↦ assigning.asn_plain _ _ _ _ _ _ _ _ _ c.peek.ensures w.if-peek-eq-OBJECT_PATTERN.true w.has_second.ensures w.if-has_second.false c.ns.ensures | else-peek-eq-OBJECT_PATTERN w ↦ assigning.asn_other _ _ _ _ _ _ _ _ c.peek.ensures w.if-peek-eq-OBJECT_PATTERN.false c.ns.ensures ])
+an-returns t c = (elim c.if-peek-eq-OBJECT_PATTERN.branch [ an-then-peek-eq-OBJECT_PATTERN+else-has_second w ↦ assigning.asn_plain _ _ _ _ _ _ _ _ _ c.peek.ensures w.if-peek-eq-OBJECT_PATTERN.true w.has_second.ensures w.if-has_second.false c.ns.ensures | an-else-peek-eq-OBJECT_PATTERN w ↦ assigning.asn_other _ _ _ _ _ _ _ _ c.peek.ensures w.if-peek-eq-OBJECT_PATTERN.false c.ns.ensures ])
 
 pub ar-seq-u-requires : goal.ar-seq-u-requires
 ar-seq-u-requires t c = let z : 0 < c.args.c.left = moving.moved_levels _ _ _ _ _ c.any_moved.ensures c.if-any_moved.true in
@@ -364,7 +364,7 @@ pub fun-returns-then-stands : goal.fun-returns-then-stands
 fun-returns-then-stands t c = bodying.function_moved _ _ _ _ _ _ _ _ _ _ _ _ _ _ _ _ _ _ _ _ _ _ _ _ c.any_moved.ensures c.if-any_moved.true c.stands.ensures c.if-stands.true c.less-left.ensures c.scoped-d.ensures.0 c.scoped-d.ensures.1 c.step-q.ensures c.step.ensures c.peek-bits.ensures c.skip_slot-s.ensures c.wide_at-n.ensures c.step-first.ensures c.moves_make.ensures.0 (c.moves_make.ensures.1 _ _) c.copy-u.ensures.1 (runs_does (c.copy-u.ensures.0 _ _)) c.slot.ensures c.copy-u-then-stands.ensures.1 (runs_does (c.copy-u-then-stands.ensures.0 _ _)) (told.items_own _ _ _ _ _ _ _ _ _ _ _ told.untold_binding c.seq-u.ensures) c.slot-u.ensures c.body.ensures (c.to.ensures.0 _ _ _) c.skip.ensures c.to.ensures.1
 
 pub fun-returns : goal.fun-returns
-fun-returns t c = bodying.function_plain _ _ _ _ _ (elim c.if-any_moved.branch [ then-any_moved+else-stands w ↦ bodying.bodiless _ _ _ _ w.stands.ensures w.if-stands.false | else-any_moved w ↦ bodying.unmoved _ _ _ _ c.any_moved.ensures w.if-any_moved.false ]) c.plain.ensures
+fun-returns t c = bodying.function_plain _ _ _ _ _ (elim c.if-any_moved.branch [ fun-then-any_moved+else-stands w ↦ bodying.bodiless _ _ _ _ w.stands.ensures w.if-stands.false | fun-else-any_moved w ↦ bodying.unmoved _ _ _ _ c.any_moved.ensures w.if-any_moved.false ]) c.plain.ensures
 
 pub go-returns-then-c-eq0 : goal.go-returns-then-c-eq0
 go-returns-then-c-eq0 t c = λ good. law.good_none _ _ _ c.if-c-eq0.true good
@@ -409,11 +409,11 @@ pub item-returns-then-peek-eq0 : goal.item-returns-then-peek-eq0
 item-returns-then-peek-eq0 t c = (c.copy.ensures.1 ∙ c.step.ensures ∙ skipping.item_hole _ _ _ _ _ c.if-holes.true c.peek.ensures c.if-peek-eq0.true, law.hole_does _ _ _ _ _ _ _ _ (law.is_hole _ _ _ _ c.if-holes.true c.peek.ensures c.if-peek-eq0.true) c.step.ensures (runs_does (c.copy.ensures.0 _ _)))
 
 pub item-returns-then-l : goal.item-returns-then-l
-item-returns-then-l t c = let e : hole_at _ _ _ ≡ false = (elim c.if-holes.branch [ then-holes+else-peek-eq0 w ↦ law.no_hole _ _ _ _ w.if-holes.true w.peek.ensures w.if-peek-eq0.false | else-holes w ↦ law.full _ _ _ w.if-holes.false ]) in
+item-returns-then-l t c = let e : hole_at _ _ _ ≡ false = (elim c.if-holes.branch [ item-then-holes+else-peek-eq0 w ↦ law.no_hole _ _ _ _ w.if-holes.true w.peek.ensures w.if-peek-eq0.false | item-else-holes w ↦ law.full _ _ _ w.if-holes.false ]) in
     (law.deeper_next _ _ _ _ _ c.marked.ensures.1 c.node.ensures.0 ∙ law.item_next _ _ _ _ e, law.statement_does _ _ _ _ _ _ _ _ _ _ e c.if-l.true c.step-then-l.ensures c.wide_at.ensures c.marked.ensures.0 (law.deeper _ _ _ _ _ c.marked.ensures.1 c.node.ensures.1))
 
 pub item-returns : goal.item-returns
-item-returns t c = let e : hole_at _ _ _ ≡ false = (elim c.if-holes.branch [ then-holes+else-peek-eq0 w ↦ law.no_hole _ _ _ _ w.if-holes.true w.peek.ensures w.if-peek-eq0.false | else-holes w ↦ law.full _ _ _ w.if-holes.false ]) in
+item-returns t c = let e : hole_at _ _ _ ≡ false = (elim c.if-holes.branch [ item-then-holes+else-peek-eq0 w ↦ law.no_hole _ _ _ _ w.if-holes.true w.peek.ensures w.if-peek-eq0.false | item-else-holes w ↦ law.full _ _ _ w.if-holes.false ]) in
     (c.node-2.ensures.0 ∙ law.item_next _ _ _ _ e, law.node_does _ _ _ _ _ _ _ e c.if-l.false c.node-2.ensures.1)
 
 pub items-loop-n-init : goal.items-loop-n-init
@@ -445,13 +445,13 @@ pub key-returns-then-is_other : goal.key-returns-then-is_other
 key-returns-then-is_other t c = viewing.key_cell _ _ _ _ _ _ _ _ _ c.if-taken.true c.is_other.ensures c.if-is_other.true c.skip.ensures c.to.ensures.1 (c.to.ensures.0 _ _ _) (runs_does c.temporary.ensures.0)
 
 pub key-returns : goal.key-returns
-key-returns t c = viewing.key_node_lem _ _ _ _ _ _ _ (elim c.if-taken.branch [ then-taken w ↦ λ h. sym w.is_other.ensures ∙ w.if-is_other.false | else-taken w ↦ λ h. absurd (false≢true (sym w.if-taken.false ∙ h)) ]) c.node.ensures
+key-returns t c = viewing.key_node_lem _ _ _ _ _ _ _ (elim c.if-taken.branch [ key-then-taken+else-is_other w ↦ λ h. sym w.is_other.ensures ∙ w.if-is_other.false | key-else-taken w ↦ λ h. absurd (false≢true (sym w.if-taken.false ∙ h)) ]) c.node.ensures
 
 pub keys-returns-then-c-eq0 : goal.keys-returns-then-c-eq0
 keys-returns-then-c-eq0 t c = (refl, λ good h. law.good_none _ _ _ c.if-c-eq0.true good)
 
 pub keys-returns : goal.keys-returns
-keys-returns t c = (c.to.ensures.1, excluding.keys_does _ _ _ _ _ _ _ _ _ _ _ _ c.step-q.ensures c.wide_at-n.ensures c.excluded_keys-k.ensures c.step.ensures c.to-u.ensures.1 c.Told-under.ensures.0 (c.Told-under.ensures.1 ∙ c.less.ensures) (c.to-u.ensures.0 _ _ _) (c.to.ensures.0 _ _ _) (runs_does (c.put2.ensures.0 _ _)) (steps.does_wide _ (c.wide.ensures.0 _ _)) (told.items_own _ _ _ _ _ _ _ _ _ _ _ told.untold_excluded_key c.seq.ensures))
+keys-returns t c = (c.to.ensures.1, excluding.keys_does _ _ _ _ _ _ _ _ _ _ _ _ c.step-q.ensures c.wide_at-n.ensures c.excluded_keys-k.ensures c.step.ensures c.to-u.ensures.1 c.told_under.ensures.0 (c.told_under.ensures.1 ∙ c.less.ensures) (c.to-u.ensures.0 _ _ _) (c.to.ensures.0 _ _ _) (runs_does (c.put2.ensures.0 _ _)) (steps.does_wide _ (c.wide.ensures.0 _ _)) (told.items_own _ _ _ _ _ _ _ _ _ _ _ told.untold_excluded_key c.seq.ensures))
 
 pub kv-returns-then-is_other : goal.kv-returns-then-is_other
 kv-returns-then-is_other t c = excluding.key_value _ _ _ _ _ _ _ _ _ _ _ _ _ c.less-left.ensures c.step-k.ensures c.skip-end.ensures c.to.ensures.1 c.inside.ensures.0 c.inside.ensures.1 c.to-u.ensures.1 (c.to-u.ensures.0 _ _ _) (c.to.ensures.0 _ _ _) c.is_other.ensures c.if-is_other.true (runs_does (c.put2.ensures.0 _ _)) (runs_does c.temporary.ensures.0) c.node.ensures
@@ -720,31 +720,31 @@ pub turn-returns-then-peek-eq0 : goal.turn-returns-then-peek-eq0
 turn-returns-then-peek-eq0 t c = turning.turned_hole _ _ _ _ _ _ _ _ c.if-holes.true c.peek.ensures c.if-peek-eq0.true c.hole.ensures.0 (sources.does_hole _ _ _ (c.hole.ensures.1 _ _))
 
 pub turn-returns-in-Viewed : goal.turn-returns-in-Viewed
-turn-returns-in-Viewed t c = told.item_own _ _ _ _ _ _ _ _ _ _ (ap is_told c.in-Viewed.is ∙ told.untold_viewed) (turning.turned_viewed _ _ _ _ _ _ _ (elim c.if-holes.branch [ then-holes+else-peek-eq0 w ↦ law.no_hole _ _ _ _ w.if-holes.true w.peek.ensures w.if-peek-eq0.false | else-holes w ↦ law.full _ _ _ w.if-holes.false ]) c.in-Viewed.is c.view.ensures)
+turn-returns-in-Viewed t c = told.item_own _ _ _ _ _ _ _ _ _ _ (ap is_told c.in-Viewed.is ∙ told.untold_viewed) (turning.turned_viewed _ _ _ _ _ _ _ (elim c.if-holes.branch [ turn-then-holes+else-peek-eq0 w ↦ law.no_hole _ _ _ _ w.if-holes.true w.peek.ensures w.if-peek-eq0.false | turn-else-holes w ↦ law.full _ _ _ w.if-holes.false ]) c.in-Viewed.is c.view.ensures)
 
 pub turn-returns-in-MovedOut : goal.turn-returns-in-MovedOut
-turn-returns-in-MovedOut t c = told.item_own _ _ _ _ _ _ _ _ _ _ (ap is_told c.in-MovedOut.is ∙ told.untold_moved_out) (turning.turned_moved_out _ _ _ _ _ _ _ (elim c.if-holes.branch [ then-holes+else-peek-eq0 w ↦ law.no_hole _ _ _ _ w.if-holes.true w.peek.ensures w.if-peek-eq0.false | else-holes w ↦ law.full _ _ _ w.if-holes.false ]) c.in-MovedOut.is c.go.ensures)
+turn-returns-in-MovedOut t c = told.item_own _ _ _ _ _ _ _ _ _ _ (ap is_told c.in-MovedOut.is ∙ told.untold_moved_out) (turning.turned_moved_out _ _ _ _ _ _ _ (elim c.if-holes.branch [ turn-then-holes+else-peek-eq0 w ↦ law.no_hole _ _ _ _ w.if-holes.true w.peek.ensures w.if-peek-eq0.false | turn-else-holes w ↦ law.full _ _ _ w.if-holes.false ]) c.in-MovedOut.is c.go.ensures)
 
 pub turn-returns-in-Below : goal.turn-returns-in-Below
-turn-returns-in-Below t c = told.item_with _ _ _ _ _ _ _ _ _ _ (ap is_told c.in-Below.is ∙ told.told_below _) (turning.turned_below _ _ _ _ _ _ _ (elim c.if-holes.branch [ then-holes+else-peek-eq0 w ↦ law.no_hole _ _ _ _ w.if-holes.true w.peek.ensures w.if-peek-eq0.false | else-holes w ↦ law.full _ _ _ w.if-holes.false ]) _ c.in-Below.is c.deep.ensures)
+turn-returns-in-Below t c = told.item_with _ _ _ _ _ _ _ _ _ _ (ap is_told c.in-Below.is ∙ told.told_below _) (turning.turned_below _ _ _ _ _ _ _ (elim c.if-holes.branch [ turn-then-holes+else-peek-eq0 w ↦ law.no_hole _ _ _ _ w.if-holes.true w.peek.ensures w.if-peek-eq0.false | turn-else-holes w ↦ law.full _ _ _ w.if-holes.false ]) _ c.in-Below.is c.deep.ensures)
 
 pub turn-returns-in-Property : goal.turn-returns-in-Property
-turn-returns-in-Property t c = told.item_own _ _ _ _ _ _ _ _ _ _ (ap is_told c.in-Property.is ∙ told.untold_property _) (turning.turned_property _ _ _ _ _ _ _ (elim c.if-holes.branch [ then-holes+else-peek-eq0 w ↦ law.no_hole _ _ _ _ w.if-holes.true w.peek.ensures w.if-peek-eq0.false | else-holes w ↦ law.full _ _ _ w.if-holes.false ]) _ c.in-Property.is c.prop.ensures)
+turn-returns-in-Property t c = told.item_own _ _ _ _ _ _ _ _ _ _ (ap is_told c.in-Property.is ∙ told.untold_property _) (turning.turned_property _ _ _ _ _ _ _ (elim c.if-holes.branch [ turn-then-holes+else-peek-eq0 w ↦ law.no_hole _ _ _ _ w.if-holes.true w.peek.ensures w.if-peek-eq0.false | turn-else-holes w ↦ law.full _ _ _ w.if-holes.false ]) _ c.in-Property.is c.prop.ensures)
 
 pub turn-returns-in-ExcludedKey : goal.turn-returns-in-ExcludedKey
-turn-returns-in-ExcludedKey t c = told.item_own _ _ _ _ _ _ _ _ _ _ (ap is_told c.in-ExcludedKey.is ∙ told.untold_excluded_key) (turning.turned_excluded_key _ _ _ _ _ _ _ (elim c.if-holes.branch [ then-holes+else-peek-eq0 w ↦ law.no_hole _ _ _ _ w.if-holes.true w.peek.ensures w.if-peek-eq0.false | else-holes w ↦ law.full _ _ _ w.if-holes.false ]) c.in-ExcludedKey.is c.ek.ensures)
+turn-returns-in-ExcludedKey t c = told.item_own _ _ _ _ _ _ _ _ _ _ (ap is_told c.in-ExcludedKey.is ∙ told.untold_excluded_key) (turning.turned_excluded_key _ _ _ _ _ _ _ (elim c.if-holes.branch [ turn-then-holes+else-peek-eq0 w ↦ law.no_hole _ _ _ _ w.if-holes.true w.peek.ensures w.if-peek-eq0.false | turn-else-holes w ↦ law.full _ _ _ w.if-holes.false ]) c.in-ExcludedKey.is c.ek.ensures)
 
 pub turn-returns-in-KeyValue : goal.turn-returns-in-KeyValue
-turn-returns-in-KeyValue t c = told.item_own _ _ _ _ _ _ _ _ _ _ (ap is_told c.in-KeyValue.is ∙ told.untold_key_value) (turning.turned_key_value _ _ _ _ _ _ _ (elim c.if-holes.branch [ then-holes+else-peek-eq0 w ↦ law.no_hole _ _ _ _ w.if-holes.true w.peek.ensures w.if-peek-eq0.false | else-holes w ↦ law.full _ _ _ w.if-holes.false ]) c.in-KeyValue.is c.kv.ensures)
+turn-returns-in-KeyValue t c = told.item_own _ _ _ _ _ _ _ _ _ _ (ap is_told c.in-KeyValue.is ∙ told.untold_key_value) (turning.turned_key_value _ _ _ _ _ _ _ (elim c.if-holes.branch [ turn-then-holes+else-peek-eq0 w ↦ law.no_hole _ _ _ _ w.if-holes.true w.peek.ensures w.if-peek-eq0.false | turn-else-holes w ↦ law.full _ _ _ w.if-holes.false ]) c.in-KeyValue.is c.kv.ensures)
 
 pub turn-returns-in-Value : goal.turn-returns-in-Value
-turn-returns-in-Value t c = told.item_with _ _ _ _ _ _ _ _ _ _ (ap is_told c.in-Value.is ∙ told.told_value_lem _) (turning.turned_value _ _ _ _ _ _ _ (elim c.if-holes.branch [ then-holes+else-peek-eq0 w ↦ law.no_hole _ _ _ _ w.if-holes.true w.peek.ensures w.if-peek-eq0.false | else-holes w ↦ law.full _ _ _ w.if-holes.false ]) _ c.in-Value.is c.vl.ensures)
+turn-returns-in-Value t c = told.item_with _ _ _ _ _ _ _ _ _ _ (ap is_told c.in-Value.is ∙ told.told_value_lem _) (turning.turned_value _ _ _ _ _ _ _ (elim c.if-holes.branch [ turn-then-holes+else-peek-eq0 w ↦ law.no_hole _ _ _ _ w.if-holes.true w.peek.ensures w.if-peek-eq0.false | turn-else-holes w ↦ law.full _ _ _ w.if-holes.false ]) _ c.in-Value.is c.vl.ensures)
 
 pub turn-returns-in-Declarator : goal.turn-returns-in-Declarator
-turn-returns-in-Declarator t c = told.item_with _ _ _ _ _ _ _ _ _ _ (ap is_told c.in-Declarator.is ∙ told.told_declarator) (turning.turned_declarator _ _ _ _ _ _ _ (elim c.if-holes.branch [ then-holes+else-peek-eq0 w ↦ law.no_hole _ _ _ _ w.if-holes.true w.peek.ensures w.if-peek-eq0.false | else-holes w ↦ law.full _ _ _ w.if-holes.false ]) c.in-Declarator.is c.dr.ensures)
+turn-returns-in-Declarator t c = told.item_with _ _ _ _ _ _ _ _ _ _ (ap is_told c.in-Declarator.is ∙ told.told_declarator) (turning.turned_declarator _ _ _ _ _ _ _ (elim c.if-holes.branch [ turn-then-holes+else-peek-eq0 w ↦ law.no_hole _ _ _ _ w.if-holes.true w.peek.ensures w.if-peek-eq0.false | turn-else-holes w ↦ law.full _ _ _ w.if-holes.false ]) c.in-Declarator.is c.dr.ensures)
 
 pub turn-returns-in-Binding : goal.turn-returns-in-Binding
-turn-returns-in-Binding t c = told.item_own _ _ _ _ _ _ _ _ _ _ (ap is_told c.in-Binding.is ∙ told.untold_binding) (turning.turned_binding _ _ _ _ _ _ _ (elim c.if-holes.branch [ then-holes+else-peek-eq0 w ↦ law.no_hole _ _ _ _ w.if-holes.true w.peek.ensures w.if-peek-eq0.false | else-holes w ↦ law.full _ _ _ w.if-holes.false ]) c.in-Binding.is c.bi.ensures)
+turn-returns-in-Binding t c = told.item_own _ _ _ _ _ _ _ _ _ _ (ap is_told c.in-Binding.is ∙ told.untold_binding) (turning.turned_binding _ _ _ _ _ _ _ (elim c.if-holes.branch [ turn-then-holes+else-peek-eq0 w ↦ law.no_hole _ _ _ _ w.if-holes.true w.peek.ensures w.if-peek-eq0.false | turn-else-holes w ↦ law.full _ _ _ w.if-holes.false ]) c.in-Binding.is c.bi.ensures)
 
 pub va-returns-then-c-eq0 : goal.va-returns-then-c-eq0
 va-returns-then-c-eq0 t c = λ h good. law.good_none _ _ _ c.if-c-eq0.true good
@@ -783,7 +783,7 @@ pub vo-returns-then-replaces : goal.vo-returns-then-replaces
 vo-returns-then-replaces t c = viewing.object_replaced _ _ _ _ _ _ _ _ _ c.has_second-rest.ensures c.if-rest.true c.replaces.ensures c.if-replaces.true c.skip.ensures c.to.ensures.1 (c.to.ensures.0 _ _ _) (runs_does c.temporary.ensures.0)
 
 pub vo-returns-then-rest-2 : goal.vo-returns-then-rest-2
-vo-returns-then-rest-2 t c = viewing.object_rest_lem _ _ _ _ _ _ _ _ _ _ _ _ _ _ _ _ _ c.has_second-rest.ensures c.if-rest-2.true (elim c.if-rest.branch [ then-rest w ↦ sym w.replaces.ensures ∙ w.if-replaces.false | else-rest w ↦ absurd (false≢true (sym w.if-rest.false ∙ c.if-rest-2.true)) ]) c.step-q.ensures c.wide_at-n.ensures c.step.ensures c.to-u.ensures.1 c.inside.ensures.0 (c.inside.ensures.1 ∙ c.less-left.ensures) c.less-left.ensures refl (c.to-u.ensures.0 _ _ _) (runs_does (c.put2.ensures.0 _ _)) (steps.does_wide _ (c.wide.ensures.0 _ _)) (told.items_own _ _ _ _ _ _ _ _ _ _ _ (told.untold_property _) c.seq-u.ensures) c.skip-then-rest-2.ensures c.to-then-rest-2.ensures.1 (c.to-then-rest-2.ensures.0 _ _ _)
+vo-returns-then-rest-2 t c = viewing.object_rest_lem _ _ _ _ _ _ _ _ _ _ _ _ _ _ _ _ _ c.has_second-rest.ensures c.if-rest-2.true (elim c.if-rest.branch [ vo-then-rest+else-replaces w ↦ sym w.replaces.ensures ∙ w.if-replaces.false | vo-else-rest w ↦ absurd (false≢true (sym w.if-rest.false ∙ c.if-rest-2.true)) ]) c.step-q.ensures c.wide_at-n.ensures c.step.ensures c.to-u.ensures.1 c.inside.ensures.0 (c.inside.ensures.1 ∙ c.less-left.ensures) c.less-left.ensures refl (c.to-u.ensures.0 _ _ _) (runs_does (c.put2.ensures.0 _ _)) (steps.does_wide _ (c.wide.ensures.0 _ _)) (told.items_own _ _ _ _ _ _ _ _ _ _ _ (told.untold_property _) c.seq-u.ensures) c.skip-then-rest-2.ensures c.to-then-rest-2.ensures.1 (c.to-then-rest-2.ensures.0 _ _ _)
 
 pub vo-returns : goal.vo-returns
 vo-returns t c = viewing.object_plain _ _ _ _ _ _ _ _ _ _ _ _ _ _ c.has_second-rest.ensures c.if-rest-2.false c.step-q.ensures c.wide_at-n.ensures c.step.ensures c.to-u.ensures.1 c.inside.ensures.0 (c.inside.ensures.1 ∙ c.less-left.ensures) refl (c.to-u.ensures.0 _ _ _) (runs_does (c.put2.ensures.0 _ _)) (steps.does_wide _ (c.wide.ensures.0 _ _)) (told.items_own _ _ _ _ _ _ _ _ _ _ _ (told.untold_property _) c.seq-u.ensures)
