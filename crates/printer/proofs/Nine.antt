@@ -11,9 +11,7 @@ use lib.ListN.{length, get_or, length-append, get_or-eq_default}
 use borrow.Author.Tests.{ne_eqb, le-ltb}
 use Rattle.tree.specs.Tree.{Node, Fields, Piece, Items, map_of, count, encode, encode_fields, encode_piece, encode_items}
 use Rattle.tree.specs.Tree.Node.{node}
-use Rattle.tree.specs.Tree.Fields.{done, absent, field}
 use Rattle.tree.specs.Tree.Piece.{one, list, text, byte, mark, number}
-use Rattle.tree.specs.Tree.Items.{none, hole, item}
 use Rattle.tree.specs.Grammar.{Sort, Field, places, among, also, allowed, kind_of, form_in, form_at, kinds, variants, fields_of, literal, expression}
 use Rattle.tree.specs.Grammar.Field.{must, may}
 use Rattle.tree.specs.Grammar.Stage.{rewritten}

@@ -10,7 +10,6 @@ use Rattle.printer.specs.Stacks.{write, buffer_in}
 use Rattle.printer.specs.Text.{text_of}
 use Rattle.printer.specs.Turns.{empty}
 use Rattle.printer.proofs.PrintingEntry as law
-use borrow.Author.Rules.{rules}
 use Rattle.printer.proofs.both_passes.Goals as goal
 
 pub returns-then-n-eq0 : goal.returns-then-n-eq0

@@ -1,6 +1,5 @@
 use Rattle.printer.proofs.PrintingEntry as law
 use borrow.Author.Tests.{lt-ltb, le-ltb}
-use borrow.Author.Rules.{rules}
 use Rattle.printer.proofs.finish.Goals as goal
 
 pub returns-then-text-spot : goal.returns-then-text-spot

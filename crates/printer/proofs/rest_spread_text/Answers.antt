@@ -1,5 +1,4 @@
 use Rattle.printer.proofs.PrintingEntry as law
-use borrow.Author.Rules.{rules}
 use Rattle.printer.proofs.rest_spread_text.Goals as goal
 
 pub returns : goal.returns

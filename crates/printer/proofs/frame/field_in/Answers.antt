@@ -1,6 +1,5 @@
 use mathlib.Core.Path.{ap, ◌∙◌}
 use Rattle.printer.specs.Places.{lowest, field_in}
-use borrow.Author.Rules.{rules}
 use Rattle.printer.proofs.frame.field_in.Goals as goal
 
 pub returns : goal.returns

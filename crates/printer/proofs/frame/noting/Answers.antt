@@ -1,6 +1,5 @@
 use mathlib.Core.Path.{refl}
 use Rattle.printer.specs.Places.{noting}
-use borrow.Author.Rules.{rules}
 use Rattle.printer.proofs.frame.noting.Goals as goal
 
 pub returns : goal.returns

@@ -1,6 +1,5 @@
 use mathlib.Core.Path.{refl}
 use Rattle.printer.specs.Stacks.{packed_frame}
-use borrow.Author.Rules.{rules}
 use Rattle.printer.proofs.frame.pack.Goals as goal
 
 pub returns : goal.returns

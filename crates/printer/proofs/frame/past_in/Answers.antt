@@ -1,5 +1,4 @@
 use native.Mathlib.Omega.{arith}
-use borrow.Author.Rules.{rules}
 use Rattle.printer.proofs.ArraysHeld as law
 use Rattle.printer.proofs.frame.past_in.Goals as goal
 

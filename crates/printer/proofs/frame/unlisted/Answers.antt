@@ -1,7 +1,6 @@
 use mathlib.Core.Path.{refl, ◌∙◌}
 use borrow.Author.Tests.{eq-eqb, ne_eqb}
 use Rattle.printer.specs.Places.{unlisted}
-use borrow.Author.Rules.{rules}
 use Rattle.printer.proofs.frame.unlisted.Goals as goal
 
 pub returns-then-f-eq4 : goal.returns-then-f-eq4

@@ -1,7 +1,7 @@
 use mathlib.Core.Path.{◌∙◌}
+use borrow.Author.Rules.{rules}
 use Rattle.printer.specs.Layout.{chosen_word, choices}
 use Rattle.printer.proofs.LayoutNumbers as law
-use borrow.Author.Rules.{rules}
 use Rattle.printer.proofs.layout.choose_by.Goals as goal
 
 pub returns-then-own-lt100 : goal.returns-then-own-lt100
@@ -88,4 +88,4 @@ unfolding chosen_word choices
 returns-in-119 c = c.gap_rest.ensures ∙ law.chosen_by 119 _ _ _ _ _ _ _ _ c.in-119.is c.note_in-note.ensures c.map_in-map.ensures c.seen_in-seen.ensures
 
 pub returns-in_default : goal.returns-in_default
-returns-in_default c = law.no_choice _ _ _ _ _ c.if-own-lt100.false c.in_default.in_default-own.rest
+returns-in_default c = law.no_choice _ _ _ _ _ c.if-own-lt100.false (search rules)

@@ -1,5 +1,4 @@
 use Rattle.printer.proofs.LayoutNumbers as law
-use borrow.Author.Rules.{rules}
 use Rattle.printer.proofs.layout.slot.Goals as goal
 
 pub returns-then-i-slots : goal.returns-then-i-slots

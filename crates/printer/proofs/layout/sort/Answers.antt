@@ -1,5 +1,4 @@
 use Rattle.printer.proofs.LayoutNumbers as law
-use borrow.Author.Rules.{rules}
 use Rattle.printer.proofs.layout.sort.Goals as goal
 
 pub returns-then-note-lt3 : goal.returns-then-note-lt3

@@ -1,5 +1,4 @@
 use Rattle.printer.proofs.LayoutNumbers as law
-use borrow.Author.Rules.{rules}
 use Rattle.printer.proofs.layout.sort_at.Goals as goal
 
 pub returns : goal.returns

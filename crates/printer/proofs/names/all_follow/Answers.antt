@@ -1,9 +1,9 @@
 use Rattle.printer.proofs.Named as law
-use mathlib.Core.Path.{◌≡◌, refl, sym, ap, ◌∙◌}
+use mathlib.Core.Path.{refl, sym, ap, ◌∙◌}
 use native.Mathlib.Omega.{arith}
-use Prim.Native.Nat.{ℕ, ◌-◌, ◌/◌}
-use lib.ListN.{get_or, take, drop}
-use Rattle.printer.specs.Names.{name_bytes, entry_in_of, all_follow}
+use Prim.Native.Nat.{ℕ, ◌/◌}
+use lib.ListN.{get_or}
+use Rattle.printer.specs.Names.{entry_in_of}
 use Rattle.printer.proofs.names.all_follow.Goals as goal
 
 pub returns-then-tree-end : goal.returns-then-tree-end

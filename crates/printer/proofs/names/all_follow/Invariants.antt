@@ -1,9 +1,7 @@
-use Rattle.printer.proofs.Named as law
-use mathlib.Core.Path.{◌≡◌, refl, sym, ap, ◌∙◌}
-use native.Mathlib.Omega.{arith}
-use Prim.Native.Nat.{ℕ, ◌-◌, ◌/◌}
-use lib.ListN.{get_or, take, drop}
-use Rattle.printer.specs.Names.{name_bytes, entry_in_of, all_follow}
+use mathlib.Core.Path.{◌≡◌}
+use Prim.Native.Nat.{◌-◌}
+use lib.ListN.{take, drop}
+use Rattle.printer.specs.Names.{name_bytes, all_follow}
 use Rattle.printer.proofs.names.all_follow.Given as goal
 
 abbrev pub invariant-loop-i : goal.invariant-loop-i

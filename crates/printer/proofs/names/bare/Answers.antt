@@ -4,7 +4,6 @@ use native.Mathlib.Omega.{arith}
 use Prim.Native.Nat.{ℕ, ◌%◌}
 use lib.ListN.{get_or}
 use Rattle.printer.specs.Names.{name_bytes, entry_in_of}
-use borrow.Author.Rules.{rules}
 use Rattle.printer.proofs.names.bare.Goals as goal
 
 pub returns-then-entry-eq1 : goal.returns-then-entry-eq1

@@ -2,7 +2,6 @@ use Rattle.printer.proofs.Named as law
 use mathlib.Core.Path.{ap}
 use Prim.Native.Nat.{ℕ, ◌*◌, ◌/◌, ◌%◌, ◌^◌}
 use Rattle.printer.specs.Names.{entry_in_of}
-use borrow.Author.Rules.{rules}
 use Rattle.printer.proofs.names.entry.Goals as goal
 
 pub returns-then-i-table : goal.returns-then-i-table

@@ -1,6 +1,5 @@
 use Rattle.printer.proofs.Named as law
 use native.Mathlib.Omega.{arith}
-use borrow.Author.Rules.{rules}
 use Rattle.printer.proofs.names.made.Goals as goal
 
 pub overflow_mul-low : goal.overflow_mul-low

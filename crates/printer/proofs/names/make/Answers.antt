@@ -1,9 +1,7 @@
 use Rattle.printer.proofs.Named as law
-use mathlib.Core.Path.{◌≡◌, sym, ◌∙◌}
+use mathlib.Core.Path.{◌∙◌}
 use native.Mathlib.Omega.{arith}
-use Prim.Native.Nat.{ℕ, ◌-◌, ◌≤◌, ◌<◌}
-use lib.ListN.{length, get_or, length-set}
-use Rattle.printer.specs.Names.{name_bytes}
+use lib.ListN.{length-set}
 use Rattle.printer.proofs.names.make.Goals as goal
 
 pub loop-i-init : goal.loop-i-init

@@ -1,8 +1,6 @@
-use Rattle.printer.proofs.Named as law
-use mathlib.Core.Path.{◌≡◌, sym, ◌∙◌}
-use native.Mathlib.Omega.{arith}
+use mathlib.Core.Path.{◌≡◌}
 use Prim.Native.Nat.{ℕ, ◌-◌, ◌≤◌, ◌<◌}
-use lib.ListN.{length, get_or, length-set}
+use lib.ListN.{length, get_or}
 use Rattle.printer.specs.Names.{name_bytes}
 use Rattle.printer.proofs.names.make.Given as goal
 

@@ -3,7 +3,6 @@ use Rattle.printer.specs.Stacks.{Buffer, put}
 use mathlib.Core.Path.{ap, ◌∙◌}
 use native.Mathlib.Omega.{arith}
 use Prim.Native.Nat.{◌+◌, ◌%◌}
-use Prim.Native.Nat.{ℕ, ◌<◌}
 use Rattle.printer.proofs.out.+decimal.Goals as goal
 
 pub overflow_add-n : goal.overflow_add-n

@@ -1,10 +1,8 @@
 use Rattle.printer.proofs.PiecesWritten as law
-use Rattle.printer.specs.Stacks.{Buffer, write, buffer_in}
-use mathlib.Core.Path.{◌≡◌, refl, ap, ◌∙◌}
-use native.Mathlib.Omega.{arith}
-use Prim.Native.Nat.{ℕ, ◌+◌, ◌-◌, ◌≤◌}
-use mathlib.Core.List.{List}
-use lib.ListN.{length, take, drop, length-set}
+use Rattle.printer.specs.Stacks.{write, buffer_in}
+use mathlib.Core.Path.{◌≡◌}
+use Prim.Native.Nat.{◌-◌, ◌≤◌}
+use lib.ListN.{length, take, drop}
 use Rattle.printer.proofs.out.copy.Given as goal
 
 abbrev pub invariant-loop-i : goal.invariant-loop-i

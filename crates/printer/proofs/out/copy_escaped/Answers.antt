@@ -1,10 +1,10 @@
 use Rattle.printer.proofs.PiecesWritten as law
 use Rattle.printer.specs.Stacks.{Buffer, write, buffer_in}
-use mathlib.Core.Path.{◌≡◌, refl, ap, ◌∙◌}
+use mathlib.Core.Path.{refl, ap, ◌∙◌}
 use native.Mathlib.Omega.{arith}
-use Prim.Native.Nat.{ℕ, ◌+◌, ◌-◌, ◌≤◌}
+use Prim.Native.Nat.{ℕ, ◌+◌, ◌-◌}
 use mathlib.Core.List.{List}
-use lib.ListN.{length, take, drop}
+use lib.ListN.{take, drop}
 use Rattle.printer.specs.Names.{escaped}
 use Rattle.printer.proofs.out.copy_escaped.Goals as goal
 

@@ -1,9 +1,6 @@
-use Rattle.printer.proofs.PiecesWritten as law
-use Rattle.printer.specs.Stacks.{Buffer, write, buffer_in}
-use mathlib.Core.Path.{◌≡◌, refl, ap, ◌∙◌}
-use native.Mathlib.Omega.{arith}
-use Prim.Native.Nat.{ℕ, ◌+◌, ◌-◌, ◌≤◌}
-use mathlib.Core.List.{List}
+use Rattle.printer.specs.Stacks.{write, buffer_in}
+use mathlib.Core.Path.{◌≡◌}
+use Prim.Native.Nat.{◌-◌, ◌≤◌}
 use lib.ListN.{length, take, drop}
 use Rattle.printer.specs.Names.{escaped}
 use Rattle.printer.proofs.out.copy_escaped.Given as goal

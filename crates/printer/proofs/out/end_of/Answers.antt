@@ -1,5 +1,4 @@
 use Rattle.printer.proofs.PiecesWritten as law
-use borrow.Author.Rules.{rules}
 use Rattle.printer.proofs.out.end_of.Goals as goal
 
 pub returns-then-tree-at : goal.returns-then-tree-at

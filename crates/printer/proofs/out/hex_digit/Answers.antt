@@ -2,7 +2,6 @@ use mathlib.Core.Path.{refl}
 use borrow.Author.Tests.{lt-ltb, le-ltb}
 use native.Mathlib.Omega.{arith}
 use Rattle.printer.specs.Names.{hex_digit}
-use borrow.Author.Rules.{rules}
 use Rattle.printer.proofs.out.hex_digit.Goals as goal
 
 pub overflow_cast-result : goal.overflow_cast-result

@@ -1,5 +1,4 @@
 use native.Mathlib.Omega.{arith}
-use borrow.Author.Rules.{rules}
 use Rattle.printer.proofs.PrintingEntry as law
 use Rattle.printer.proofs.out.put.Goals as goal
 

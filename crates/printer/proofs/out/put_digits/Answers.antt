@@ -1,9 +1,8 @@
 use Rattle.printer.proofs.PiecesWritten as law
-use Rattle.printer.specs.Stacks.{Buffer, write, bytes_in, buffer_in}
-use mathlib.Core.Path.{◌≡◌, refl, ap, ◌∙◌}
+use Rattle.printer.specs.Stacks.{Buffer, write, bytes_in}
+use mathlib.Core.Path.{refl, ap, ◌∙◌}
 use native.Mathlib.Omega.{arith}
 use Prim.Native.Nat.{◌/◌}
-use lib.ListN.{length}
 use Rattle.printer.proofs.out.put_digits.Goals as goal
 
 pub loop-w-init : goal.loop-w-init

@@ -1,8 +1,6 @@
 use Rattle.printer.proofs.PiecesWritten as law
-use Rattle.printer.specs.Stacks.{Buffer, write, bytes_in, buffer_in}
-use mathlib.Core.Path.{◌≡◌, refl, ap, ◌∙◌}
-use native.Mathlib.Omega.{arith}
-use Prim.Native.Nat.{◌/◌}
+use Rattle.printer.specs.Stacks.{write, bytes_in, buffer_in}
+use mathlib.Core.Path.{◌≡◌}
 use lib.ListN.{length}
 use Rattle.printer.proofs.out.put_digits.Given as goal
 

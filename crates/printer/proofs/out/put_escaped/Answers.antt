@@ -4,7 +4,6 @@ use mathlib.Core.Path.{sym, ap, ◌∙◌}
 use native.Mathlib.Omega.{arith}
 use Prim.Native.Nat.{ℕ, ◌/◌, ◌%◌}
 use Rattle.printer.specs.Names.{hex_digit}
-use borrow.Author.Rules.{rules}
 use Rattle.printer.proofs.out.put_escaped.Goals as goal
 
 pub returns-then-needs_escape : goal.returns-then-needs_escape

@@ -3,7 +3,6 @@ use Rattle.printer.specs.Stacks.{Buffer, put, write}
 use mathlib.Core.Path.{ap, ◌∙◌}
 use lib.ListN.{take, drop}
 use Rattle.printer.specs.Names.{escaped}
-use borrow.Author.Rules.{rules}
 use Rattle.printer.proofs.out.quote.Goals as goal
 
 pub returns : goal.returns

@@ -1,7 +1,6 @@
 use mathlib.Core.Path.{ap, ◌∙◌}
 use Rattle.printer.specs.Stacks.{Buffer, write, bytes_in}
 use Rattle.printer.proofs.PiecesWritten as law
-use borrow.Author.Rules.{rules}
 use Rattle.printer.proofs.out.say.Goals as goal
 
 pub returns-then-w-lt72057594037927936 : goal.returns-then-w-lt72057594037927936

@@ -1,6 +1,5 @@
 use mathlib.Core.Path.{◌∙◌}
 use Rattle.printer.proofs.PiecesWritten as law
-use borrow.Author.Rules.{rules}
 use Rattle.printer.proofs.out.say_any.Goals as goal
 
 pub returns-then-w-eq0 : goal.returns-then-w-eq0

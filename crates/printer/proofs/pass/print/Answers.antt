@@ -1,12 +1,6 @@
-use mathlib.Core.Path.{◌≡◌, refl, ◌∙◌}
-use Prim.Native.Nat.{◌-◌, ◌≤◌}
+use mathlib.Core.Path.{refl, ◌∙◌}
 use native.Mathlib.Omega.{arith}
-use lib.ListN.{length}
-use Rattle.tree.specs.Tree.{Node}
-use Rattle.printer.specs.Logged.{Logged}
-use Rattle.printer.specs.Rows.{sort_numbers, slot_numbers, word_numbers}
 use Rattle.printer.proofs.Going as law
-use borrow.Author.Rules.{rules}
 use Rattle.printer.proofs.pass.print.Goals as goal
 
 pub loop-i-init : goal.loop-i-init

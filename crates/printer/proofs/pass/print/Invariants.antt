@@ -1,12 +1,10 @@
-use mathlib.Core.Path.{◌≡◌, refl, ◌∙◌}
+use mathlib.Core.Path.{◌≡◌}
 use Prim.Native.Nat.{◌-◌, ◌≤◌}
-use native.Mathlib.Omega.{arith}
 use lib.ListN.{length}
 use Rattle.tree.specs.Tree.{Node}
 use Rattle.printer.specs.Logged.{Logged}
 use Rattle.printer.specs.Rows.{sort_numbers, slot_numbers, word_numbers}
 use Rattle.printer.proofs.Going as law
-use borrow.Author.Rules.{rules}
 use Rattle.printer.proofs.pass.print.Given as goal
 
 abbrev pub invariant-loop-i : goal.invariant-loop-i

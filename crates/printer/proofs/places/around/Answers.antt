@@ -1,7 +1,6 @@
 use mathlib.Core.Path.{refl, sym, ◌∙◌}
 use borrow.Author.Tests.{eq-eqb, ne_eqb}
 use Rattle.printer.specs.Places.{around, past}
-use borrow.Author.Rules.{rules}
 use Rattle.printer.proofs.places.around.Goals as goal
 
 pub returns-then-list_in-eq1 : goal.returns-then-list_in-eq1

@@ -2,7 +2,6 @@ use Rattle.printer.proofs.Around as law
 use mathlib.Core.Path.{refl, sym}
 use native.Mathlib.Omega.{arith}
 use Rattle.printer.specs.Places.{following}
-use borrow.Author.Rules.{rules}
 use Rattle.printer.proofs.places.following.Goals as goal
 
 pub overflow_add-result : goal.overflow_add-result

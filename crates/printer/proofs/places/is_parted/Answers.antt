@@ -2,7 +2,6 @@ use mathlib.Core.Path.{refl, sym, ap, ◌∙◌}
 use lib.Dec.{ltb}
 use borrow.Author.Tests.{eq-eqb, ne_eqb, lt-ltb, le-ltb}
 use Rattle.printer.specs.Places.{separator}
-use borrow.Author.Rules.{rules}
 use Rattle.printer.proofs.places.is_parted.Goals as goal
 
 pub returns-then-m-eq7 : goal.returns-then-m-eq7

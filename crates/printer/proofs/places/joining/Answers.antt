@@ -1,7 +1,9 @@
 use Rattle.printer.proofs.Around as law
 use mathlib.Core.Path.{refl, sym, ◌∙◌}
 use borrow.Author.Tests.{eq-eqb, ne_eqb}
-use Rattle.printer.specs.Places.{joining}
+use native.Mathlib.Omega.{arith}
+use Rattle.printer.specs.Places.{joining, manner_in}
+use Rattle.printer.specs.Stacks.{frame_in}
 use Rattle.printer.proofs.places.joining.Goals as goal
 
 pub returns-in-6 : goal.returns-in-6
@@ -26,4 +28,4 @@ returns-else-kind-eq2 c = λ p n h g. rw (sym h ∙ c.in-8.is, ne_eqb _ _ c.if-k
 
 pub returns-in_default : goal.returns-in_default
 unfolding joining
-returns-in_default c = λ p n h g. law.no_joining _ _ _ (λ e. c.in_default.in_default-own.rest.0.0.1 (h ∙ e)) (λ e. c.in_default.in_default-own.rest.0.1 (h ∙ e)) (λ e. c.in_default.in_default-own.rest.1 (h ∙ e))
+returns-in_default c = λ p n h g. law.no_joining _ _ (manner_in (frame_in p)) (λ e. absurd (omega arith)) (λ e. absurd (omega arith)) (λ e. absurd (omega arith))

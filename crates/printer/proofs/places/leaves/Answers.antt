@@ -1,7 +1,6 @@
 use mathlib.Core.Path.{refl, sym, ◌∙◌}
 use borrow.Author.Tests.{eq-eqb, ne_eqb}
 use Rattle.printer.specs.Places.{leaves}
-use borrow.Author.Rules.{rules}
 use Rattle.printer.proofs.places.leaves.Goals as goal
 
 pub returns-then-m-eq6 : goal.returns-then-m-eq6

@@ -2,7 +2,6 @@ use mathlib.Core.Path.{sym, ap, ◌∙◌}
 use lib.Dec.{ltb}
 use borrow.Author.Tests.{eq-eqb, ne_eqb, lt-ltb, le-ltb}
 use Rattle.printer.specs.Places.{in_method_form}
-use borrow.Author.Rules.{rules}
 use Rattle.printer.proofs.places.method.Goals as goal
 
 pub returns-then-note_in-gt3 : goal.returns-then-note_in-gt3

@@ -2,7 +2,6 @@ use Rattle.printer.proofs.Around as law
 use mathlib.Core.Path.{◌≡◌}
 use Prim.Native.Nat.{ℕ, ◌≤◌}
 use native.Mathlib.Omega.{arith}
-use borrow.Author.Rules.{rules}
 use Rattle.printer.specs.Places.{trailing}
 use Rattle.printer.proofs.places.plain_trail.Goals as goal
 

@@ -1,5 +1,4 @@
 use mathlib.Core.Path.{refl, sym, ◌∙◌}
-use borrow.Author.Rules.{rules}
 use Rattle.printer.proofs.places.separator.Goals as goal
 
 pub returns-then-is_parted : goal.returns-then-is_parted

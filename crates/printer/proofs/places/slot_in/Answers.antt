@@ -1,5 +1,4 @@
 use Rattle.printer.proofs.PlaceLaws as law
-use borrow.Author.Rules.{rules}
 use Rattle.printer.proofs.places.slot_in.Goals as goal
 
 pub returns : goal.returns

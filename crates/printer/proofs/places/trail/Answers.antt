@@ -3,8 +3,8 @@ use mathlib.Core.Path.{refl, sym, ap, ◌∙◌}
 use Prim.Native.Nat.{ℕ, ◌%◌}
 use borrow.Author.Tests.{eq-eqb, ne_eqb}
 use native.Mathlib.Omega.{arith}
-use Rattle.printer.specs.Places.{trailing}
-use borrow.Author.Rules.{rules}
+use Rattle.printer.specs.Places.{trailing, manner_in}
+use Rattle.printer.specs.Stacks.{frame_in}
 use Rattle.printer.proofs.places.trail.Goals as goal
 
 pub returns-in-1 : goal.returns-in-1
@@ -45,4 +45,4 @@ returns-else-statement c = (λ h. rw (sym h ∙ c.in-7.is, c.if-statement.false)
 
 pub returns-in_default : goal.returns-in_default
 unfolding trailing
-returns-in_default c = (λ h. law.no_trailing _ _ _ (λ e. c.in_default.in_default-own.rest.0.0.0.0.0.0.1 (h ∙ e)) (λ e. c.in_default.in_default-own.rest.0.0.0.0.0.1 (h ∙ e)) (λ e. c.in_default.in_default-own.rest.0.0.0.0.1 (h ∙ e)) (λ e. c.in_default.in_default-own.rest.0.0.0.1 (h ∙ e)) (λ e. c.in_default.in_default-own.rest.0.0.1 (h ∙ e)) (λ e. c.in_default.in_default-own.rest.0.1 (h ∙ e)) (λ e. c.in_default.in_default-own.rest.1 (h ∙ e)), omega arith)
+returns-in_default c = (λ h. law.no_trailing _ _ (manner_in (frame_in c.args.p)) (λ e. absurd (omega arith)) (λ e. absurd (omega arith)) (λ e. absurd (omega arith)) (λ e. absurd (omega arith)) (λ e. absurd (omega arith)) (λ e. absurd (omega arith)) (λ e. absurd (omega arith)), omega arith)

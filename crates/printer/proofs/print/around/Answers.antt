@@ -6,7 +6,6 @@ use Rattle.printer.specs.Machine.{Open}
 use Rattle.printer.specs.Stacks.{frame_in, next_in, packed_frame}
 use Rattle.printer.proofs.ArraysHeld.{unpacks, unpacked}
 use Rattle.printer.proofs.StepTurns.{small_around}
-use borrow.Author.Rules.{rules}
 use Rattle.printer.proofs.print.around.Goals as goal
 
 kept : (p v kind map : ℕ) → v ≡ packed_frame (around (frame_in p) kind map) (next_in p) → frame_in v ≡ around (frame_in p) kind map

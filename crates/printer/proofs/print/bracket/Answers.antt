@@ -1,6 +1,5 @@
 use mathlib.Core.Path.{refl, ◌∙◌}
 use Rattle.printer.specs.Stacks.{write}
-use borrow.Author.Rules.{rules}
 use Rattle.printer.proofs.print.bracket.Goals as goal
 
 pub returns-then-stands : goal.returns-then-stands

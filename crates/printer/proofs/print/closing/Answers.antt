@@ -3,7 +3,6 @@ use mathlib.Core.Path.{sym, ap, ◌∙◌}
 use Rattle.printer.specs.Stacks.{Buffer, write}
 use Rattle.printer.specs.Layout.{word}
 use Rattle.printer.specs.Places.{closing}
-use borrow.Author.Rules.{rules}
 use Rattle.printer.proofs.print.closing.Goals as goal
 
 pub returns : goal.returns

@@ -4,7 +4,6 @@ use Rattle.printer.proofs.Openings as law
 use Rattle.printer.proofs.PiecesWritten.{write_append}
 use Rattle.printer.specs.Layout.{word}
 use Rattle.printer.specs.Stacks.{Buffer, write, frame_in}
-use borrow.Author.Rules.{rules}
 use Rattle.printer.proofs.print.joint.Goals as goal
 
 pub returns-then-m-lt9 : goal.returns-then-m-lt9

@@ -2,7 +2,6 @@ use mathlib.Core.Path.{sym, ap}
 use lib.ListN.{set}
 use lib.Seq.{set_out}
 use Rattle.printer.proofs.TextsRead as law
-use borrow.Author.Rules.{rules}
 use Rattle.printer.proofs.print.keep_short.Goals as goal
 
 pub returns-then-i-numbers : goal.returns-then-i-numbers

@@ -1,7 +1,6 @@
-use mathlib.Core.Path.{refl, ◌∙◌}
+use mathlib.Core.Path.{refl}
 use Rattle.printer.proofs.Openings as law
 use Rattle.printer.specs.Stacks.{frame_in}
-use borrow.Author.Rules.{rules}
 use Rattle.printer.proofs.print.leaf_opening.Goals as goal
 
 pub returns : goal.returns

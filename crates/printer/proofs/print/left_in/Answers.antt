@@ -1,6 +1,5 @@
 use mathlib.Core.Path.{refl, sym, ◌∙◌}
 use Rattle.printer.specs.Stacks.{write}
-use borrow.Author.Rules.{rules}
 use Rattle.printer.proofs.print.left_in.Goals as goal
 
 pub returns-then-leaves : goal.returns-then-leaves

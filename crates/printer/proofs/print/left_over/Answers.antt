@@ -1,12 +1,11 @@
 use Rattle.printer.proofs.ArraysHeld as law
-use mathlib.Core.Path.{◌≡◌, refl, sym, ap, ◌∙◌}
+use mathlib.Core.Path.{refl, sym, ap, ◌∙◌}
 use native.Mathlib.Omega.{arith}
-use Prim.Native.Nat.{◌+◌, ◌-◌}
+use Prim.Native.Nat.{◌+◌}
 use mathlib.Core.List.{List}
-use lib.ListN.{length, drop}
+use lib.ListN.{drop}
 use Rattle.printer.specs.Stacks.{Buffer, write, buffer_in, held_in}
 use Rattle.printer.specs.Text.{Cell, left_over_of}
-use borrow.Author.Rules.{rules}
 use Rattle.printer.proofs.print.left_over.Goals as goal
 
 pub returns-then-next-eq0 : goal.returns-then-next-eq0

@@ -1,12 +1,8 @@
-use Rattle.printer.proofs.ArraysHeld as law
-use mathlib.Core.Path.{◌≡◌, refl, sym, ap, ◌∙◌}
-use native.Mathlib.Omega.{arith}
-use Prim.Native.Nat.{◌+◌, ◌-◌}
-use mathlib.Core.List.{List}
+use mathlib.Core.Path.{◌≡◌}
+use Prim.Native.Nat.{◌-◌}
 use lib.ListN.{length, drop}
-use Rattle.printer.specs.Stacks.{Buffer, write, buffer_in, held_in}
-use Rattle.printer.specs.Text.{Cell, left_over_of}
-use borrow.Author.Rules.{rules}
+use Rattle.printer.specs.Stacks.{write, buffer_in, held_in}
+use Rattle.printer.specs.Text.{left_over_of}
 use Rattle.printer.proofs.print.left_over.Given as goal
 
 abbrev pub invariant-loop-i : goal.invariant-loop-i

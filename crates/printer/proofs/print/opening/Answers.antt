@@ -3,7 +3,6 @@ use Prim.Native.Nat.{ℕ}
 use Rattle.printer.proofs.Openings as law
 use Rattle.printer.specs.Places.{is_statement}
 use Rattle.printer.specs.Stacks.{frame_in}
-use borrow.Author.Rules.{rules}
 use Rattle.printer.proofs.print.opening.Goals as goal
 
 pub returns : goal.returns

@@ -1,7 +1,6 @@
 use mathlib.Core.Path.{refl}
 use mathlib.Core.Bool.{cond}
 use mathlib.Core.List.{[]}
-use borrow.Author.Rules.{rules}
 use Rattle.printer.specs.Places.{is_filled}
 use Rattle.printer.specs.Stacks.{frame_in}
 use Rattle.printer.proofs.Openings as law

@@ -3,7 +3,6 @@ use Rattle.printer.proofs.TextsRead.{start_short}
 use mathlib.Core.Path.{sym, ap, ◌∙◌}
 use native.Mathlib.Omega.{arith}
 use Rattle.printer.specs.Stacks.{write, buffer_in}
-use borrow.Author.Rules.{rules}
 use Rattle.printer.proofs.print.quasi.Goals as goal
 
 pub returns-then-start-eq0 : goal.returns-then-start-eq0

@@ -1,6 +1,5 @@
 use mathlib.Core.Path.{refl, sym, ◌∙◌}
 use Rattle.printer.specs.Stacks.{write}
-use borrow.Author.Rules.{rules}
 use Rattle.printer.proofs.print.quasi_in.Goals as goal
 
 pub returns-then-is_filled : goal.returns-then-is_filled

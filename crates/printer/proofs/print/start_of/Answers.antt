@@ -1,6 +1,5 @@
 use Rattle.printer.proofs.ArraysHeld as law
 use mathlib.Core.Path.{◌∙◌}
-use borrow.Author.Rules.{rules}
 use Rattle.printer.proofs.print.start_of.Goals as goal
 
 pub returns-then-next-eq0 : goal.returns-then-next-eq0

@@ -1,7 +1,6 @@
 use Rattle.printer.proofs.ArraysHeld as law
 use mathlib.Core.Path.{sym, ◌∙◌}
 use native.Mathlib.Omega.{arith}
-use borrow.Author.Rules.{rules}
 use Rattle.printer.proofs.print.step_over.Goals as goal
 
 pub returns-then-start_of-eq0 : goal.returns-then-start_of-eq0

@@ -1,7 +1,6 @@
 use mathlib.Core.Path.{ap, ◌∙◌}
 use Rattle.printer.proofs.TextsRead as law
 use Rattle.printer.specs.Stacks.{write, buffer_in}
-use borrow.Author.Rules.{rules}
 use Rattle.printer.proofs.print.text_at.Goals as goal
 
 pub returns : goal.returns

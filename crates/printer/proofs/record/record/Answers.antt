@@ -1,11 +1,7 @@
-use borrow.Author.Rules.{rules}
-use mathlib.Core.Path.{◌≡◌, refl, ◌∙◌}
-use mathlib.Core.Logic.{⊎_elim}
-use Prim.Native.Nat.{◌+◌, ◌-◌, ◌%◌, ◌≤◌}
+use mathlib.Core.Path.{refl, ◌∙◌}
+use Prim.Native.Nat.{◌%◌}
 use lib.Dec.{eqb}
 use native.Mathlib.Omega.{arith}
-use lib.ListN.{length}
-use Rattle.rewritten.specs.Rewritten.{is_rewritten}
 use Rattle.rewritten.proofs.Moves as moves
 use Rattle.rewritten.proofs.MarksReader as reader
 use Rattle.rewritten.proofs.Tasks as task

@@ -1,15 +1,7 @@
-use borrow.Author.Rules.{rules}
-use mathlib.Core.Path.{◌≡◌, refl, ◌∙◌}
-use mathlib.Core.Logic.{⊎_elim}
-use Prim.Native.Nat.{◌+◌, ◌-◌, ◌%◌, ◌≤◌}
-use lib.Dec.{eqb}
-use native.Mathlib.Omega.{arith}
+use mathlib.Core.Path.{◌≡◌}
+use Prim.Native.Nat.{◌+◌, ◌-◌, ◌≤◌}
 use lib.ListN.{length}
 use Rattle.rewritten.specs.Rewritten.{is_rewritten}
-use Rattle.rewritten.proofs.Moves as moves
-use Rattle.rewritten.proofs.MarksReader as reader
-use Rattle.rewritten.proofs.Tasks as task
-use Rattle.printer.proofs.Recording as law
 use Rattle.printer.proofs.Meeting as meet
 use Rattle.printer.proofs.record.record.Given as goal
 

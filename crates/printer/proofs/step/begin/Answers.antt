@@ -3,7 +3,6 @@ use native.Mathlib.Omega.{arith}
 use Rattle.printer.specs.Machine.{Open}
 use Rattle.printer.specs.Stacks.{frame_in, buffer_in}
 use Rattle.printer.proofs.StepTurns as law
-use borrow.Author.Rules.{rules}
 use Rattle.printer.proofs.step.begin.Goals as goal
 
 pub returns-then-is_plain : goal.returns-then-is_plain

@@ -5,7 +5,6 @@ use Rattle.printer.specs.Layout.{word}
 use Rattle.printer.specs.Places.{list_closing}
 use Rattle.printer.specs.Stacks.{write, buffer_in}
 use Rattle.printer.proofs.StepTurns as law
-use borrow.Author.Rules.{rules}
 use Rattle.printer.proofs.step.close_list.Goals as goal
 
 pub returns-then-level-eq0 : goal.returns-then-level-eq0

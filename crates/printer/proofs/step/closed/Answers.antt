@@ -1,6 +1,5 @@
 use mathlib.Core.Path.{sym, ap, ◌∙◌}
 use Rattle.printer.specs.Stacks.{frame_in, packed_frame}
-use borrow.Author.Rules.{rules}
 use Rattle.printer.proofs.step.closed.Goals as goal
 
 pub returns-then-is_quasis : goal.returns-then-is_quasis

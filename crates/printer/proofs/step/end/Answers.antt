@@ -1,7 +1,6 @@
 use native.Mathlib.Omega.{arith}
 use Rattle.printer.specs.Stacks.{buffer_in}
 use Rattle.printer.proofs.StepTurns as law
-use borrow.Author.Rules.{rules}
 use Rattle.printer.proofs.step.end.Goals as goal
 
 pub returns-then-level-eq0 : goal.returns-then-level-eq0

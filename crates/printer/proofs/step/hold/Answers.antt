@@ -2,7 +2,6 @@ use mathlib.Core.Path.{◌≡◌}
 use Prim.Native.Nat.{◌%◌}
 use native.Mathlib.Omega.{arith}
 use Rattle.printer.proofs.StepTurns as law
-use borrow.Author.Rules.{rules}
 use Rattle.printer.proofs.step.hold.Goals as goal
 
 pub returns-then-count-starts : goal.returns-then-count-starts

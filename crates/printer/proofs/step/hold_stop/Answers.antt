@@ -1,7 +1,6 @@
 use mathlib.Core.Path.{sym, ◌∙◌}
 use native.Mathlib.Omega.{arith}
 use Rattle.printer.proofs.StepTurns as law
-use borrow.Author.Rules.{rules}
 use Rattle.printer.proofs.step.hold_stop.Goals as goal
 
 pub returns-then-is_quasis : goal.returns-then-is_quasis

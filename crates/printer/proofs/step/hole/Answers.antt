@@ -4,7 +4,6 @@ use Rattle.printer.specs.Layout.{word}
 use Rattle.printer.specs.Stacks.{write, buffer_in}
 use Rattle.printer.specs.declared.print.State.{State}
 use Rattle.printer.proofs.StepTurns as law
-use borrow.Author.Rules.{rules}
 use Rattle.printer.proofs.step.hole.Goals as goal
 
 pub returns : goal.returns

@@ -1,12 +1,10 @@
 use mathlib.Core.Path.{◌≡◌, sym, ap, ◌∙◌}
-use mathlib.Core.Logic.{⊎_elim}
 use Prim.Native.Nat.{ℕ, ◌%◌}
 use native.Mathlib.Omega.{arith}
 use Rattle.printer.specs.Stacks.{frame_in, buffer_in, write}
 use Rattle.printer.specs.Layout.{word}
 use Rattle.printer.proofs.LeavesPrinted as law
 use Rattle.printer.proofs.StepTurns.{cell_within}
-use borrow.Author.Rules.{rules}
 use Rattle.printer.proofs.step.leaf.Goals as goal
 use Rattle.printer.proofs.step.leaf.Goals.{else-code-eq13, then-code-eq13+else-is_quasis}
 

@@ -2,7 +2,6 @@ use mathlib.Core.Path.{refl, sym, ◌∙◌}
 use borrow.Author.Tests.{eq-eqb, ne_eqb}
 use Rattle.printer.specs.Places.{number_bytes}
 use Rattle.printer.specs.Stacks.{write}
-use borrow.Author.Rules.{rules}
 use Rattle.printer.proofs.step.number_bytes.Goals as goal
 
 pub returns-then-kind_in-eq20 : goal.returns-then-kind_in-eq20

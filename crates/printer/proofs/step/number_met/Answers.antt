@@ -2,7 +2,6 @@ use mathlib.Core.Path.{ap, ◌∙◌}
 use Rattle.printer.specs.Stacks.{buffer_in}
 use Rattle.printer.specs.declared.print.State.{State}
 use Rattle.printer.proofs.StepTurns as law
-use borrow.Author.Rules.{rules}
 use Rattle.printer.proofs.step.number_met.Goals as goal
 
 pub returns : goal.returns

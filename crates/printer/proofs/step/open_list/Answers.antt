@@ -5,7 +5,6 @@ use Rattle.printer.specs.Layout.{word, chosen_word}
 use Rattle.printer.specs.Places.{list_opening}
 use Rattle.printer.specs.Stacks.{frame_in, write, buffer_in}
 use Rattle.printer.proofs.StepTurns as law
-use borrow.Author.Rules.{rules}
 use Rattle.printer.proofs.step.open_list.Goals as goal
 
 pub overflow_add-result : goal.overflow_add-result

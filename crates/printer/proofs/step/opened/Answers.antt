@@ -1,8 +1,6 @@
 use mathlib.Core.Path.{sym, ap, ◌∙◌}
-use mathlib.Core.Logic.{⊎_elim}
 use native.Mathlib.Omega.{arith}
 use Rattle.printer.specs.Stacks.{frame_in, packed_frame}
-use borrow.Author.Rules.{rules}
 use Rattle.printer.proofs.step.opened.Goals as goal
 use Rattle.printer.proofs.step.opened.Goals.{else-is_quasis, then-is_quasis+else-count-lt65536}
 

@@ -1,6 +1,5 @@
 use mathlib.Core.Path.{refl, ap, ◌∙◌}
 use native.Mathlib.Omega.{arith}
-use borrow.Author.Rules.{rules}
 use Rattle.printer.specs.Machine.{Open, cell_at}
 use Rattle.printer.specs.Stacks.{frame_in, next_in, held_in, buffer_in}
 use Rattle.printer.specs.Text.{cell_text}

@@ -6,7 +6,6 @@ use Rattle.printer.specs.Places.{text_bytes, spelled}
 use Rattle.printer.specs.Stacks.{frame_in, text_at_of, write, buffer_in}
 use Rattle.printer.proofs.StepTurns as law
 use Rattle.printer.proofs.TextsRead as read
-use borrow.Author.Rules.{rules}
 use Rattle.printer.proofs.step.text_met.Goals as goal
 
 pub returns : goal.returns

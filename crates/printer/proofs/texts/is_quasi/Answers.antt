@@ -1,7 +1,6 @@
 use mathlib.Core.Path.{refl, sym, ◌∙◌}
 use borrow.Author.Tests.{eq-eqb, ne_eqb}
 use Rattle.printer.specs.Places.{is_quasi}
-use borrow.Author.Rules.{rules}
 use Rattle.printer.proofs.texts.is_quasi.Goals as goal
 
 pub returns-then-seen_in-eq2 : goal.returns-then-seen_in-eq2

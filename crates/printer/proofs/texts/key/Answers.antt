@@ -2,7 +2,6 @@ use lib.ListN.{take, drop}
 use Rattle.printer.specs.Stacks.{buffer_in}
 use mathlib.Core.Path.{sym, ◌∙◌}
 use Rattle.printer.proofs.Spelling as law
-use borrow.Author.Rules.{rules}
 use Rattle.printer.proofs.texts.key.Goals as goal
 
 pub returns-then-bare : goal.returns-then-bare

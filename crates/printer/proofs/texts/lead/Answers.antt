@@ -1,8 +1,6 @@
-use mathlib.Core.Path.{refl, sym, ap, ◌∙◌}
-use Prim.Native.Nat.{ℕ}
-use borrow.Author.Rules.{rules}
+use mathlib.Core.Path.{refl, sym, ◌∙◌}
 use Rattle.printer.specs.Layout.{word, words, chosen_word}
-use Rattle.printer.specs.Stacks.{write, buffer_in}
+use Rattle.printer.specs.Stacks.{write}
 use Rattle.printer.proofs.texts.lead.Goals as goal
 
 pub returns-then-own-eq0 : goal.returns-then-own-eq0

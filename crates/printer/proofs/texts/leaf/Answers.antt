@@ -1,10 +1,8 @@
-use mathlib.Core.Logic.{⊎_elim}
 use mathlib.Core.Path.{refl, sym, ap, ◌∙◌}
 use native.Mathlib.Omega.{arith}
 use borrow.Author.Tests.{eq-eqb, ne_eqb}
 use Rattle.printer.proofs.TextsRead as law
 use Rattle.printer.specs.Stacks.{is_empty}
-use borrow.Author.Rules.{rules}
 use Rattle.printer.proofs.texts.leaf.Goals as goal
 use Rattle.printer.proofs.texts.leaf.Goals.{else-code-eq13, then-code-eq13+else-is_empty}
 

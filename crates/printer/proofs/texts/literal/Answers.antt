@@ -1,7 +1,6 @@
 use mathlib.Core.Path.{sym, ap, ◌∙◌}
 use Rattle.printer.proofs.Spelling as law
 use Rattle.printer.specs.Stacks.{frame_in, write, buffer_in}
-use borrow.Author.Rules.{rules}
 use Rattle.printer.proofs.texts.literal.Goals as goal
 
 pub returns-then-seen_in-gt0 : goal.returns-then-seen_in-gt0

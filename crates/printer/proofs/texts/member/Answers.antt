@@ -2,7 +2,6 @@ use lib.ListN.{take, drop}
 use mathlib.Core.Path.{sym, ap, ◌∙◌}
 use Rattle.printer.proofs.Spelling as law
 use Rattle.printer.specs.Stacks.{Buffer, write, buffer_in}
-use borrow.Author.Rules.{rules}
 use Rattle.printer.proofs.texts.member.Goals as goal
 
 pub returns-then-bare : goal.returns-then-bare

@@ -3,7 +3,6 @@ use Rattle.printer.specs.Names.{in_quotes}
 use mathlib.Core.Path.{ap, ◌∙◌}
 use Rattle.printer.proofs.Spelling as law
 use Rattle.printer.specs.Stacks.{Buffer, put, write, buffer_in}
-use borrow.Author.Rules.{rules}
 use Rattle.printer.proofs.texts.member_quoted.Goals as goal
 
 pub returns : goal.returns

@@ -4,7 +4,6 @@ use mathlib.Core.Path.{ap, ◌∙◌}
 use Rattle.printer.proofs.TextsRead as law
 use Rattle.printer.specs.Names.{in_quotes}
 use Rattle.printer.specs.Stacks.{write, buffer_in}
-use borrow.Author.Rules.{rules}
 use Rattle.printer.proofs.texts.quoted.Goals as goal
 
 pub returns : goal.returns

@@ -1,8 +1,6 @@
-use mathlib.Core.Logic.{⊎_elim}
 use mathlib.Core.Path.{sym, ◌∙◌}
 use Rattle.printer.specs.Stacks.{frame_in}
 use Rattle.printer.proofs.Spelling as law
-use borrow.Author.Rules.{rules}
 use Rattle.printer.proofs.texts.spelled.Goals as goal
 use Rattle.printer.proofs.texts.spelled.Goals.{else-kind_in-eq22, then-kind_in-eq22+else-seen_in-eq0}
 

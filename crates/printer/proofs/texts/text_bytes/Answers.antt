@@ -1,7 +1,6 @@
 use mathlib.Core.Path.{sym, ap, ◌∙◌}
 use Rattle.printer.specs.Stacks.{frame_in, write, buffer_in}
 use Rattle.printer.proofs.TextLaws as law
-use borrow.Author.Rules.{rules}
 use Rattle.printer.proofs.texts.text_bytes.Goals as goal
 
 pub returns-then-kind_in-eq9 : goal.returns-then-kind_in-eq9

@@ -4,7 +4,6 @@ use borrow.Author.Tests.{eq-eqb, ne_eqb}
 use Rattle.printer.specs.Stacks.{Buffer, write}
 use Rattle.printer.proofs.PiecesWritten.{write_append}
 use Rattle.printer.specs.Places.{text_bytes}
-use borrow.Author.Rules.{rules}
 use Rattle.printer.proofs.texts.text_words.Goals as goal
 
 pub returns-then-kind-eq22 : goal.returns-then-kind-eq22

@@ -1,5 +1,6 @@
 -- each number is what the layout works out to
 use mathlib.Core.Path.{sym, ap}
+use borrow.Author.Rules.{rules}
 use Rattle.printer.specs.Layout.{words, word}
 use Rattle.printer.specs.Rows.{packed, high_of}
 use Rattle.printer.proofs.LayoutNumbers.{no_high}
@@ -15,4 +16,4 @@ returns-in-13 c = ap high_of (sym c.in-13.is)
 
 pub returns-in_default : goal.returns-in_default
 unfolding packed high_of word words
-returns-in_default c = no_high _ c.in_default.in_default-own.rest
+returns-in_default c = no_high c.args.id (search rules)

@@ -1,5 +1,4 @@
 use Rattle.printer.proofs.LayoutNumbers as law
-use borrow.Author.Rules.{rules}
 use Rattle.printer.proofs.words.low.Goals as goal
 
 pub returns-then-id-words : goal.returns-then-id-words

@@ -1,5 +1,6 @@
 -- each number is what the layout works out to
 use mathlib.Core.Path.{sym, ap}
+use borrow.Author.Rules.{rules}
 use Rattle.printer.specs.Layout.{words, word}
 use Rattle.printer.specs.Rows.{packed, middle_of}
 use Rattle.printer.proofs.LayoutNumbers.{no_middle}
@@ -59,4 +60,4 @@ returns-in-86 c = ap middle_of (sym c.in-86.is)
 
 pub returns-in_default : goal.returns-in_default
 unfolding packed middle_of word words
-returns-in_default c = no_middle _ c.in_default.in_default-own.rest
+returns-in_default c = no_middle c.args.id (search rules)
