@@ -32,10 +32,12 @@ ROOT = cases.ROOT
 PAGES = ["README.md", "CONTRIBUTING.md", "docs/*.md", "tools/*.md", "examples/*.md", "loader/*.md", "c/*.md"]
 # The endings by which a code span is known to name a file.
 ENDINGS = "antt rt py js rs c h md txt edit toml tree list sh"
-# Files that the pages name and that are not here: those of the Rust module's crate, and what is made.
-OUTSIDE = {"object_rest_spread.rs", "context.rs", "ast_builder.rs", "helper_loader.rs", "document01.txt", "Proof.antt", "Cargo.toml", "src/entry.rs", "lowered.tree", "lowered.list"}
+# Files that the pages name and that are not here: those of the Rust module's crate and of the kit, older ones, and what is made.
+OUTSIDE = {"object_rest_spread.rs", "port.py", "snake.py", "context.rs", "ast_builder.rs", "helper_loader.rs", "document01.txt", "Proof.antt", "Cargo.toml", "src/entry.rs", "lowered.tree", "lowered.list"}
 TOPS = ("crates", "docs", "tools", "loader", "examples", "c", "helpers", ".ci")
 NAMED = ("Theorem", "Definition", "Contract")
+# What rt makes of a crate; no file of the repository.
+MADE = r"crates/\w+/out(/|$)"
 CODE = r"`` .+? ``|`[^`]+`"
 
 
@@ -78,7 +80,7 @@ class Checker:
         for span in spans(text):
             is_file = re.fullmatch(rf"[\w./+-]+\.({ENDINGS.replace(' ', '|')})", span)
             is_path = re.fullmatch(rf"({'|'.join(map(re.escape, TOPS))})/[\w./+-]*", span)
-            if not is_file and not is_path or span in OUTSIDE or "NAME" in span or os.path.basename(span) in OUTSIDE:
+            if not is_file and not is_path or span in OUTSIDE or "NAME" in span or os.path.basename(span) in OUTSIDE or re.match(MADE, span):
                 continue
             self.counts["file names"] += 1
             if not self.exists(page, span):
@@ -88,6 +90,8 @@ class Checker:
         """Files in blocks of commands, which have no language behind the signs that begin them."""
         for block in re.findall(r"^```\n(.*?)^```$", text, re.M | re.S):
             for word in re.findall(rf"(?<![\w./-])(?:\.\./)?(?:{'|'.join(map(re.escape, TOPS))})/[\w./+-]+", block):
+                if re.search(MADE, word):
+                    continue
                 self.counts["file names"] += 1
                 if not os.path.exists(os.path.join(ROOT, os.path.dirname(page), word)) and not os.path.exists(os.path.join(ROOT, word)):
                     self.bad(page, f"{word} in a command is not there")
@@ -163,8 +167,8 @@ class Checker:
         spoken = " ".join(spans(text_of(os.path.join(ROOT, "docs", "MAP.md"))))
         words = set(re.findall(r"[\w.-]+", spoken))
         for line in text_of(os.path.join(ROOT, "crates.txt")).splitlines():
-            crate = line.partition(":")[0].strip()
-            if crate and not crate.startswith("#") and crate not in words:
+            crate = next(iter(line.partition(":")[0].split()), "#")
+            if not crate.startswith("#") and crate not in words:
                 self.bad("docs/MAP.md", f"the crate {crate} is not named")
         text = text_of(os.path.join(ROOT, "docs", "MAP.md"))
         for path in sorted(glob.glob(os.path.join(ROOT, "crates", "*", "specs", "*.antt"))):
@@ -189,7 +193,8 @@ class Checker:
 def tracked():
     """The files of the repository, what is made and hidden ones aside."""
     for folder, below, names in os.walk(ROOT):
-        below[:] = [name for name in below if name not in ("target", ".git", "__pycache__")]
+        at = os.path.relpath(folder, ROOT)
+        below[:] = [name for name in below if name not in ("target", ".git", "__pycache__") and not re.match(MADE, os.path.join(at, name))]
         for name in names:
             yield os.path.relpath(os.path.join(folder, name), ROOT)
 
