@@ -8,7 +8,8 @@ Read are README.md, CONTRIBUTING.md and the pages in docs/, tools/, examples/, l
 - a link to a file of the repository leads to one, and to a heading of it if it names one;
 - a file or folder that is named in a code span or in a command is there;
 - in a table with the columns Theorem (or Definition, or Contract) and File each name is declared in one of the files, and
-  a column Lines has the number of its lines;
+  a column Lines has the number of its lines, whose sum is behind 'That is' and before 'lines of definitions'. --renumber
+  writes these numbers into the page;
 - in a table that begins with Case, and behind the word 'Case' in a text, the script and what it becomes are those of the
   stored case with that number (crates/vectors/stdin, which the program vectors replays). --renumber looks for the case by its text
   and writes its number into the page;
@@ -43,7 +44,7 @@ CODE = r"`` .+? ``|`[^`]+`"
 
 class Checker:
     def __init__(self):
-        self.wrong, self.counts = [], collections.Counter()
+        self.wrong, self.counts, self.total = [], collections.Counter(), 0
         self.stored = cases.load_stored()
         self.headings = {}
         self.files = {os.path.basename(name) for name in tracked()}
@@ -104,16 +105,34 @@ class Checker:
 
     # ---- tables
 
-    def lines(self, page, text):
-        for header, row in table_rows(text):
-            if "File" not in header or "Lines" not in header:
+    def lines(self, page, text, renumber):
+        """Lengths of files in tables, and their sum; returns the page with its numbers put right if they are to be."""
+        out, total = [], 0
+        for line, (header, row) in zip(text.splitlines(keepends=True), table_lines(text)):
+            out.append(line)
+            if not header or "File" not in header or "Lines" not in header:
                 continue
             for name in spans(row[header.index("File")]):
                 path = os.path.join(ROOT, "crates", name)
                 count = len(text_of(path).splitlines()) if os.path.exists(path) else 0
+                total += count
                 self.counts["lengths"] += 1
-                if row[header.index("Lines")] != f"{count:,}":
+                was = row[header.index("Lines")]
+                if was != f"{count:,}" and renumber:
+                    out[-1] = line.replace(f"| {was} |", f"| {count:,} |")
+                elif was != f"{count:,}":
                     self.bad(page, f"{name} has {count:,} lines")
+        self.total = self.total or total
+        return "".join(out)
+
+    def sums(self, page, text, renumber):
+        def right(said):
+            self.counts["numbers"] += 1
+            if said[0] != f"{self.total:,}" and not renumber:
+                self.bad(page, f"{said[0]} lines of definitions: there are {self.total:,}")
+            return f"{self.total:,}" if renumber else said[0]
+
+        return re.sub(r"(?<=That is )[\d,]+(?= lines)|[\d,]+(?= lines of definitions)", right, text)
 
     def theorems(self, page, text):
         for header, row in table_rows(text):
@@ -260,9 +279,16 @@ def fits(case, words):
         return False
 
 
+def write(path, text, changed):
+    if changed != text:
+        with open(path, "w", encoding="utf-8") as out:
+            out.write(changed)
+        print(f"{os.path.relpath(path, ROOT)}: renumbered")
+
+
 def main():
     words = argparse.ArgumentParser(description=__doc__.splitlines()[0])
-    words.add_argument("--renumber", action="store_true", help="put the numbers of the cases right")
+    words.add_argument("--renumber", action="store_true", help="put the numbers of cases and lines right")
     given = words.parse_args()
     checker = Checker()
     pages = sorted(path for pattern in PAGES for path in glob.glob(os.path.join(ROOT, pattern)))
@@ -272,13 +298,11 @@ def main():
         checker.paths(page, without_blocks(text))
         checker.commands(page, text)
         checker.theorems(page, text)
-        checker.lines(page, text)
         checker.departures(page, text)
-        changed = checker.examples(page, text, given.renumber)
-        if changed != text:
-            with open(path, "w", encoding="utf-8") as out:
-                out.write(changed)
-            print(f"{page}: renumbered")
+        write(path, text, checker.examples(page, checker.lines(page, text, given.renumber), given.renumber))
+    for path in pages:
+        text = text_of(path)
+        write(path, text, checker.sums(os.path.relpath(path, ROOT), text, given.renumber))
     checker.listed()
     for line in checker.wrong:
         print(line)
