@@ -1,16 +1,12 @@
 -- ---- the values of an object
 -- ---- a target
 use mathlib.Core.Bool.{true}
-use mathlib.Core.Logic.{⊎_elim}
 use mathlib.Core.Path.{sym, ◌∙◌}
 use native.Mathlib.Omega.{arith}
 use Rattle.pattern.proofs.NodeParts as places
 use Rattle.pattern.proofs.Searches as search
-use Rattle.walk.specs.Turns.{reach_of}
 use Rattle.walk.proofs.Lookups.{denied, undenied}
 use Rattle.walk.proofs.TargetCounts as law
-use Prim.Native.Nat.{ℕ, ◌+◌, ◌*◌}
-use Rattle.tree.proofs.Cycle.{at_measure, below_measure}
 use Rattle.walk.proofs.target.+object_count_target_count.Goals as goal
 use Rattle.walk.proofs.target.+object_count_target_count.Goals.{object_count-else-peek-gt-LAST_EXPRESSION, object_count-then-peek-gt-LAST_EXPRESSION}
 

@@ -1,23 +1,13 @@
 -- ---- an item, or any target
 -- ---- an object
 -- ---- a property
-use borrow.Author.Rules.{rules}
-use mathlib.Core.Path.{◌≡◌, refl, ◌∙◌}
-use mathlib.Core.List.{List}
+use mathlib.Core.Path.{refl, ◌∙◌}
 use native.Mathlib.Omega.{arith}
-use lib.ListN.{length}
-use Prim.Native.Nat.{ℕ}
-use Rattle.walk.specs.Run.{going_of}
 use Rattle.walk.proofs.Running.{runs_does}
 use Rattle.walk.proofs.Emits.{good_none}
 use Rattle.walk.proofs.Lookups.{denied, undenied}
 use Rattle.walk.proofs.TargetWalk as law
 use Rattle.walk.proofs.QuietValues as quiets
-use Rattle.tree.proofs.Cycle.{at_measure, below_measure}
-use Rattle.walk.proofs.target.target_item as target-item
-use Rattle.walk.proofs.target.target_object as target-object
-use Rattle.walk.proofs.target.target_property as target-property
-use Rattle.walk.proofs.target.+target_item_target_object_target_property as cycle
 use Rattle.walk.proofs.target.+target_item_target_object_target_property.Goals as goal
 
 pub target_item-returns-then-left-eq0 : goal.target_item-returns-then-left-eq0
