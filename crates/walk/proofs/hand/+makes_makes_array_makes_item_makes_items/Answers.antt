@@ -20,7 +20,7 @@ pub makes-returns-in-37 : goal.makes-returns-in-37
 makes-returns-in-37 t c = (c.make-in-37.ensures.1, λ o l g. law.makes_37 _ _ _ _ c.peek-kind.ensures.value c.in-37.is (runs_does (c.make-in-37.ensures.0 o l)) g)
 
 pub makes-returns-in_default : goal.makes-returns-in_default
-makes-returns-in_default t c = (refl, λ o l g. law.makes_nothing _ _ _ _ c.peek-kind.ensures.value c.in_default.in_default-own.rest.0.0.1 c.in_default.in_default-own.rest.0.1 c.in_default.in_default-own.rest.1 g)
+makes-returns-in_default t c = (refl, λ o l g. law.makes_nothing _ _ _ _ c.peek-kind.ensures.value (omega arith) (omega arith) (omega arith) g)
 
 pub makes_array-returns-then-left-eq0 : goal.makes_array-returns-then-left-eq0
 makes_array-returns-then-left-eq0 t c = (refl, λ o l g k. good_none _ _ _ c.if-left-eq0.true g)

@@ -19,7 +19,7 @@ pub over-returns-in-37 : goal.over-returns-in-37
 over-returns-in-37 t c = (c.over.ensures.0, λ o g. law.default_does _ _ _ _ _ _ _ c.less.ensures c.step.ensures (c.over.ensures.1 o) (sym c.peek-kind.ensures.value ∙ c.in-37.is) g)
 
 pub over-returns-in_default : goal.over-returns-in_default
-over-returns-in_default t c = (refl, λ o g. law.leaf_does _ _ _ _ _ _ c.peek-kind.ensures.value c.in_default.in_default-own.rest.0.0.1 c.in_default.in_default-own.rest.0.1 c.in_default.in_default-own.rest.1 g)
+over-returns-in_default t c = (refl, λ o g. law.leaf_does _ _ _ _ _ _ c.peek-kind.ensures.value (omega arith) (omega arith) (omega arith) g)
 
 pub over_array-returns-then-left-eq0 : goal.over_array-returns-then-left-eq0
 over_array-returns-then-left-eq0 t c = (refl, λ o g k. good_none _ _ _ c.if-left-eq0.true g)

@@ -56,4 +56,4 @@ pub target_count-returns-in-37 : goal.target_count-returns-in-37
 target_count-returns-in-37 t c = law.count_left _ _ _ _ _ c.if-left-eq0.false c.peek-kind.ensures.value _ _ c.in-37.is c.child-l.ensures c.target_count-in-37.ensures
 
 pub target_count-returns-in_default : goal.target_count-returns-in_default
-target_count-returns-in_default t c = law.count_other _ _ _ _ _ c.if-left-eq0.false c.peek-kind.ensures.value c.in_default.in_default-own.rest.0.0.1 c.in_default.in_default-own.rest.0.1 c.in_default.in_default-own.rest.1
+target_count-returns-in_default t c = law.count_other _ _ _ _ _ c.if-left-eq0.false c.peek-kind.ensures.value (omega arith) (omega arith) (omega arith)
