@@ -19,7 +19,7 @@ use Rattle.tree.specs.Read.Got.{got, refused}
 use Rattle.tree.proofs.Sound.{never, each_byte}
 use Rattle.rewritten.specs.Rewritten.{distinct, checked, read_rewritten, is_got, is_rewritten}
 use Rattle.rewritten.proofs.RewrittenExact.{rewritten_sound, checked_got}
-use Rattle.drawing.specs.Pen.{next, put, reach}
+use Rattle.drawing.specs.Pen.{put, reach}
 use Rattle.drawing.proofs.DrawingWritten.{put_length}
 use Rattle.drawing.proofs.DrawingEntry.{reach_over, put_zeros, reach_fits}
 use Rattle.joining.specs.List.{Handed, handed, read_handed, inner_marks}

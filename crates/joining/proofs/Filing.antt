@@ -18,7 +18,6 @@ use Rattle.joining.specs.Join.{is_container}
 use Rattle.joining.specs.Tables.{stored, chain}
 use Rattle.joining.specs.Spots.{Spot, spot}
 use Rattle.joining.specs.Files.{In, Shelf, shelf, passed_by, marked_in, opened_at, added, Files}
-use Rattle.rewritten.specs.Events.{Event}
 use Rattle.rewritten.specs.Steps.{Stands, deep_after, event_in}
 use Rattle.rewritten.specs.Look.{event_for}
 use Rattle.rewritten.proofs.Marks.{by_same}

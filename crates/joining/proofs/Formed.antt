@@ -12,7 +12,7 @@ use lib.ListN.{length, get_or, length-append}
 use borrow.Author.Tests.{ne_eqb, lt-ltb, le-ltb}
 use Rattle.tree.specs.Tree.{Node, Fields, Piece, Items, count, encode, encode_fields, encode_piece, encode_items}
 use Rattle.tree.specs.Tree.Node.{node}
-use Rattle.tree.specs.Tree.Fields.{done, absent, field}
+use Rattle.tree.specs.Tree.Fields.{done, field}
 use Rattle.tree.specs.Tree.Piece.{one, list, text, byte, mark, number}
 use Rattle.tree.specs.Tree.Items.{hole, item}
 use Rattle.tree.specs.Grammar.{Sort, Field, root, among, places, allowed, also, kind_of, form_in, form_at, fields_of, kinds, variants}

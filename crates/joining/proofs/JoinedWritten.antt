@@ -11,8 +11,8 @@ use lib.Seq.{get_or-drop}
 use borrow.Author.Tests.{eq-eqb, ne_eqb}
 use Rattle.tree.specs.Tree.{Node, Fields, Piece, Items, map_of, count, wide_bytes, encode, encode_fields, encode_piece, encode_items}
 use Rattle.tree.specs.Tree.Node.{node}
-use Rattle.tree.specs.Tree.Fields.{done, absent, field}
-use Rattle.tree.specs.Tree.Piece.{list, text, byte, mark, number}
+use Rattle.tree.specs.Tree.Fields.{done, field}
+use Rattle.tree.specs.Tree.Piece.{list}
 use Rattle.tree.specs.Tree.Items.{hole, item}
 use Rattle.tree.specs.Grammar.{among, Sort, Field, root, statement, places, also, allowed, kind_of, form_in, form_at, fields_of, kinds, variants}
 use Rattle.tree.specs.Grammar.Sort.{many}

@@ -19,7 +19,7 @@ use Rattle.rewritten.specs.declared.step.Event.TheVariants.{Begins, Ends, Opens,
 use Rattle.rewritten.specs.declared.step.Step.{Step}
 use Rattle.rewritten.specs.declared.step.Step.TheVariants.{Next, Done, Refused, Full}
 use Rattle.rewritten.proofs.Pass.{coming, onward, Inside, inside_start, inside_next, step_falls, frames_suffice, tour_of_tree, Rest, rest_next, rest_done, rest_refused, stands_on}
-use Rattle.equal.specs.Met.{meet, place}
+use Rattle.equal.specs.Met.{meet}
 use Rattle.ordering.specs.Order.{opens_temporary, met_by, placed_by, placed_all}
 use Rattle.ordering.specs.Places.{PlacedAs}
 use Rattle.ordering.specs.Sides.{Within, number_in, Coming, Moved}

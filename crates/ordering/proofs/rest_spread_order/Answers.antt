@@ -1,6 +1,5 @@
 use Rattle.ordering.specs.Outcome.{answer_number, order_number}
 use mathlib.Core.Path.{sym, ap, ◌∙◌}
-use borrow.Author.Rules.{rules}
 use Rattle.ordering.proofs.rest_spread_order.Goals as goal
 
 pub returns-in-Said : goal.returns-in-Said

@@ -1,6 +1,5 @@
 use Rattle.ordering.specs.Verdicts.{number_of}
 use mathlib.Core.Path.{refl, sym, ap}
-use borrow.Author.Rules.{rules}
 use Rattle.ordering.proofs.said.Goals as goal
 
 pub returns-in-Less : goal.returns-in-Less

@@ -1,5 +1,4 @@
 use Prim.Native.Nat.{◌/◌}
-use borrow.Author.Rules.{rules}
 use Rattle.joining.specs.Files.{shelf}
 use Rattle.joining.proofs.Filing as law
 use Rattle.joining.proofs.bodies.add.Goals as goal

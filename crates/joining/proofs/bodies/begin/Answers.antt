@@ -2,7 +2,6 @@ use Prim.Native.Nat.{◌+◌}
 use Rattle.joining.specs.Tables.{stored}
 use mathlib.Core.Path.{ap, ◌∙◌}
 use Rattle.joining.proofs.Filing as law
-use borrow.Author.Rules.{rules}
 use Rattle.joining.proofs.bodies.begin.Goals as goal
 
 pub returns-then-list-gt1 : goal.returns-then-list-gt1

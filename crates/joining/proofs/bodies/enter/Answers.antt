@@ -1,5 +1,4 @@
 use Rattle.joining.proofs.Filing as law
-use borrow.Author.Rules.{rules}
 use Rattle.joining.proofs.bodies.enter.Goals as goal
 
 pub returns-then-at-eq1 : goal.returns-then-at-eq1

@@ -1,5 +1,4 @@
 use Rattle.joining.proofs.Filing as law
-use borrow.Author.Rules.{rules}
 use Rattle.joining.proofs.bodies.mark.Goals as goal
 
 pub returns-then-deep-gt0 : goal.returns-then-deep-gt0

@@ -1,7 +1,3 @@
-use borrow.Author.Rules.{rules}
-use Prim.Native.Nat.{◌+◌, ◌-◌}
-use lib.ListN.{length}
-use mathlib.Core.Path.{◌∙◌}
 use native.Mathlib.Omega.{arith}
 use Rattle.joining.proofs.Listing as law
 use Rattle.joining.proofs.entries.declarators.Goals as goal

@@ -1,6 +1,3 @@
-use borrow.Author.Rules.{rules}
-use mathlib.Core.Path.{◌∙◌}
-use native.Mathlib.Omega.{arith}
 use Rattle.joining.proofs.Listing as law
 use Rattle.joining.proofs.entries.entries.Given as goal
 

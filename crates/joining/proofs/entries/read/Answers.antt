@@ -1,6 +1,5 @@
 use native.Mathlib.Omega.{arith}
 use Rattle.joining.proofs.Listing as law
-use borrow.Author.Rules.{rules}
 use Rattle.joining.proofs.entries.read.Goals as goal
 
 pub returns-then-list-gt16384 : goal.returns-then-list-gt16384

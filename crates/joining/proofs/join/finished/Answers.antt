@@ -1,4 +1,3 @@
-use borrow.Author.Rules.{rules}
 use Rattle.joining.proofs.BytesWritten as law
 use Rattle.joining.proofs.join.finished.Goals as goal
 

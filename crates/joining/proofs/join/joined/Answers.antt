@@ -1,7 +1,5 @@
-use mathlib.Core.Path.{◌∙◌}
 use lib.ListN.{length}
 use native.Mathlib.Omega.{arith}
-use borrow.Author.Rules.{rules}
 use Rattle.joining.proofs.Answering as law
 use Rattle.joining.proofs.join.joined.Goals as goal
 

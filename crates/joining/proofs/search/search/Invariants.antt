@@ -1,6 +1,4 @@
 use Prim.Native.Nat.{◌<◌}
-use native.Mathlib.Omega.{arith}
-use borrow.Author.Rules.{rules}
 use Rattle.joining.specs.Tables.{searched}
 use Rattle.joining.proofs.FallingChains as law
 use Rattle.joining.proofs.search.search.Given as goal

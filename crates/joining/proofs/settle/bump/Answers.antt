@@ -1,5 +1,4 @@
 use Rattle.joining.proofs.Settling as law
-use borrow.Author.Rules.{rules}
 use Rattle.joining.proofs.settle.bump.Goals as goal
 
 pub returns : goal.returns

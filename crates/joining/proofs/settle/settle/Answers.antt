@@ -1,7 +1,4 @@
-use Rattle.joining.specs.Settle.{settles}
-use Rattle.tree.specs.Read.{wide_at}
-use lib.ListN.{length}
-use mathlib.Core.Path.{◌≡◌, refl, ◌∙◌}
+use mathlib.Core.Path.{refl, ◌∙◌}
 use native.Mathlib.Omega.{arith}
 use Rattle.joining.proofs.Settling as law
 use Rattle.joining.proofs.settle.settle.Goals as goal

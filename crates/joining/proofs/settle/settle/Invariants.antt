@@ -1,9 +1,7 @@
 use Rattle.joining.specs.Settle.{settles}
 use Rattle.tree.specs.Read.{wide_at}
 use lib.ListN.{length}
-use mathlib.Core.Path.{◌≡◌, refl, ◌∙◌}
-use native.Mathlib.Omega.{arith}
-use Rattle.joining.proofs.Settling as law
+use mathlib.Core.Path.{◌≡◌}
 use Rattle.joining.proofs.settle.settle.Given as goal
 
 abbrev pub invariant-loop-left : goal.invariant-loop-left

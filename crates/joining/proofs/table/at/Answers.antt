@@ -1,7 +1,6 @@
 use native.Mathlib.Omega.{arith}
 use lib.ListN.{get_or-eq_default}
 use mathlib.Core.Path.{refl, sym}
-use borrow.Author.Rules.{rules}
 use Rattle.joining.proofs.table.at.Goals as goal
 
 pub overflow_cast-result : goal.overflow_cast-result

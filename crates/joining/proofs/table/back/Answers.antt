@@ -1,4 +1,3 @@
-use borrow.Author.Rules.{rules}
 use Rattle.joining.proofs.FallingChains as law
 use Rattle.joining.proofs.table.back.Goals as goal
 

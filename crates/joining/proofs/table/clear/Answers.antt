@@ -1,9 +1,8 @@
 use Rattle.rewritten.proofs.Marks.{cleared_one}
-use lib.ListN.{length, get_or, length-set, get_or-eq_default}
-use Prim.Native.Nat.{ℕ, ◌-◌, ◌≤◌}
-use mathlib.Core.Path.{◌≡◌, refl, ◌∙◌}
+use lib.ListN.{length-set, get_or-eq_default}
+use Prim.Native.Nat.{◌-◌}
+use mathlib.Core.Path.{refl, ◌∙◌}
 use native.Mathlib.Omega.{arith}
-use borrow.Author.Rules.{rules}
 use Rattle.joining.proofs.table.clear.Goals as goal
 
 pub loop-i-init : goal.loop-i-init

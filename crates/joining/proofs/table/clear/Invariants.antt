@@ -1,9 +1,6 @@
-use Rattle.rewritten.proofs.Marks.{cleared_one}
-use lib.ListN.{length, get_or, length-set, get_or-eq_default}
-use Prim.Native.Nat.{ℕ, ◌-◌, ◌≤◌}
-use mathlib.Core.Path.{◌≡◌, refl, ◌∙◌}
-use native.Mathlib.Omega.{arith}
-use borrow.Author.Rules.{rules}
+use lib.ListN.{length, get_or}
+use Prim.Native.Nat.{ℕ, ◌≤◌}
+use mathlib.Core.Path.{◌≡◌}
 use Rattle.joining.proofs.table.clear.Given as goal
 
 abbrev pub invariant-loop-i : goal.invariant-loop-i

@@ -1,5 +1,4 @@
 use native.Mathlib.Omega.{arith}
-use borrow.Author.Rules.{rules}
 use Rattle.joining.proofs.FallingChains as law
 use Rattle.joining.proofs.table.put.Goals as goal
 

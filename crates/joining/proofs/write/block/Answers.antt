@@ -1,6 +1,3 @@
-use Prim.Native.Nat.{◌+◌, ◌-◌, ◌≤◌, min}
-use mathlib.Core.Path.{◌≡◌}
-use lib.ListN.{length}
 use native.Mathlib.Omega.{arith}
 use Rattle.joining.proofs.BytesWritten as law
 use Rattle.joining.proofs.write.block.Goals as goal

@@ -1,7 +1,4 @@
-use Prim.Native.Nat.{◌-◌}
 use native.Mathlib.Omega.{arith}
-use borrow.Author.Rules.{rules}
-use Rattle.joining.specs.Writing.{Quiet}
 use Rattle.joining.proofs.BytesWritten as law
 use Rattle.joining.proofs.write.blocks.Goals as goal
 

@@ -1,8 +1,5 @@
 use Prim.Native.Nat.{◌-◌}
-use native.Mathlib.Omega.{arith}
-use borrow.Author.Rules.{rules}
 use Rattle.joining.specs.Writing.{Quiet}
-use Rattle.joining.proofs.BytesWritten as law
 use Rattle.joining.proofs.write.blocks.Given as goal
 
 abbrev pub invariant-loop-i : goal.invariant-loop-i

@@ -1,6 +1,5 @@
 use lib.ListN.{get_or-eq_default}
 use mathlib.Core.Path.{sym}
-use borrow.Author.Rules.{rules}
 use Rattle.joining.proofs.write.byte.Goals as goal
 
 pub returns-else-p-tree : goal.returns-else-p-tree

@@ -1,10 +1,7 @@
 use Prim.Native.Nat.{◌-◌}
 use mathlib.Core.Path.{◌≡◌}
 use mathlib.Core.Bool.{true}
-use native.Mathlib.Omega.{arith}
-use borrow.Author.Rules.{rules}
 use Rattle.joining.specs.Writing.{Calm}
-use Rattle.joining.proofs.BytesWritten as law
 use Rattle.joining.proofs.write.calm.Given as goal
 
 abbrev pub invariant-loop-i : goal.invariant-loop-i

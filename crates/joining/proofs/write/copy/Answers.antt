@@ -1,8 +1,4 @@
-use Prim.Native.Nat.{◌-◌, min}
-use mathlib.Core.Path.{◌≡◌}
-use lib.ListN.{length}
 use native.Mathlib.Omega.{arith}
-use borrow.Author.Rules.{rules}
 use Rattle.joining.proofs.BytesWritten as law
 use Rattle.joining.proofs.write.copy.Goals as goal
 

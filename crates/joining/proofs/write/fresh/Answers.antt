@@ -1,8 +1,4 @@
-use Prim.Native.Nat.{◌-◌}
-use mathlib.Core.Path.{◌≡◌}
 use native.Mathlib.Omega.{arith}
-use borrow.Author.Rules.{rules}
-use Rattle.joining.specs.Writing.{free_from, free_after}
 use Rattle.joining.proofs.BytesWritten as law
 use Rattle.joining.proofs.write.fresh.Goals as goal
 

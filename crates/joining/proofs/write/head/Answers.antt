@@ -1,5 +1,4 @@
 use Rattle.joining.proofs.BytesWritten as law
-use borrow.Author.Rules.{rules}
 use Rattle.joining.proofs.write.head.Goals as goal
 
 pub returns-then-wide_at-eq0 : goal.returns-then-wide_at-eq0

@@ -1,6 +1,5 @@
 use Rattle.joining.proofs.BytesWritten as law
 use native.Mathlib.Omega.{arith}
-use borrow.Author.Rules.{rules}
 use Rattle.joining.proofs.write.lead.Goals as goal
 
 pub returns-then-at-gt0 : goal.returns-then-at-gt0

@@ -1,6 +1,5 @@
 use mathlib.Core.Bool.{false≢true}
 use mathlib.Core.Path.{refl, sym, ◌∙◌}
-use borrow.Author.Rules.{rules}
 use Rattle.joining.proofs.BytesWritten as law
 use Rattle.joining.proofs.write.place.Goals as goal
 

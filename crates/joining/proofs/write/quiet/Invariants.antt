@@ -1,10 +1,7 @@
 use Prim.Native.Nat.{◌-◌, min}
 use mathlib.Core.Path.{◌≡◌}
 use lib.ListN.{length}
-use native.Mathlib.Omega.{arith}
-use borrow.Author.Rules.{rules}
 use Rattle.joining.specs.Writing.{Quiet}
-use Rattle.joining.proofs.BytesWritten as law
 use Rattle.joining.proofs.write.quiet.Given as goal
 
 abbrev pub invariant-loop-i : goal.invariant-loop-i

@@ -1,5 +1,4 @@
 use Rattle.joining.proofs.BytesWritten as law
-use borrow.Author.Rules.{rules}
 use Rattle.joining.proofs.write.step.Goals as goal
 
 pub returns-then-skip : goal.returns-then-skip

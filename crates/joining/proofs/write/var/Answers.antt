@@ -1,5 +1,4 @@
 use native.Mathlib.Omega.{arith}
-use borrow.Author.Rules.{rules}
 use Rattle.joining.proofs.BytesWritten as law
 use Rattle.joining.proofs.write.var.Goals as goal
 

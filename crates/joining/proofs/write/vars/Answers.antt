@@ -1,6 +1,4 @@
 use native.Mathlib.Omega.{arith}
-use borrow.Author.Rules.{rules}
-use Rattle.tree.specs.Read.{wide_at}
 use Rattle.joining.proofs.BytesWritten as law
 use Rattle.joining.proofs.write.vars.Goals as goal
 

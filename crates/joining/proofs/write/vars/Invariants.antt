@@ -1,5 +1,3 @@
-use native.Mathlib.Omega.{arith}
-use borrow.Author.Rules.{rules}
 use Rattle.tree.specs.Read.{wide_at}
 use Rattle.joining.proofs.BytesWritten as law
 use Rattle.joining.proofs.write.vars.Given as goal

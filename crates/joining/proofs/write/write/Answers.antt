@@ -1,5 +1,4 @@
 use Rattle.joining.proofs.BytesWritten as law
-use borrow.Author.Rules.{rules}
 use Rattle.joining.proofs.write.write.Goals as goal
 
 pub returns : goal.returns

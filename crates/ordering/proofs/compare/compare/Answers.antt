@@ -1,11 +1,6 @@
 use Rattle.ordering.proofs.Pairs as law
-use Rattle.ordering.specs.Outcome.{answer_of}
-use Rattle.rewritten.specs.Rewritten.{read_rewritten}
-use lib.ListN.{length}
-use Prim.Native.Nat.{◌+◌, ◌-◌}
-use mathlib.Core.Path.{◌≡◌, refl, sym, ◌∙◌}
+use mathlib.Core.Path.{refl, sym, ◌∙◌}
 use native.Mathlib.Omega.{arith}
-use borrow.Author.Rules.{rules}
 use Rattle.ordering.proofs.compare.compare.Goals as goal
 
 pub returns-then-frames-lt16384 : goal.returns-then-frames-lt16384

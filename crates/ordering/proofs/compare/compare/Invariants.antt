@@ -3,9 +3,7 @@ use Rattle.ordering.specs.Outcome.{answer_of}
 use Rattle.rewritten.specs.Rewritten.{read_rewritten}
 use lib.ListN.{length}
 use Prim.Native.Nat.{◌+◌, ◌-◌}
-use mathlib.Core.Path.{◌≡◌, refl, sym, ◌∙◌}
-use native.Mathlib.Omega.{arith}
-use borrow.Author.Rules.{rules}
+use mathlib.Core.Path.{◌≡◌}
 use Rattle.ordering.proofs.compare.compare.Given as goal
 
 abbrev pub invariant-loop-e : goal.invariant-loop-e

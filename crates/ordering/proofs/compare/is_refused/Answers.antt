@@ -1,5 +1,4 @@
 use Rattle.ordering.proofs.Pairs as law
-use borrow.Author.Rules.{rules}
 use Rattle.ordering.proofs.compare.is_refused.Goals as goal
 
 pub returns-then-is_rewritten-2 : goal.returns-then-is_rewritten-2

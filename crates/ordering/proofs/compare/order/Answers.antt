@@ -1,6 +1,5 @@
 use Rattle.ordering.proofs.Pairs as law
 use mathlib.Core.Path.{sym, ◌∙◌}
-use borrow.Author.Rules.{rules}
 use Rattle.ordering.proofs.compare.order.Goals as goal
 
 pub returns-then-is_rewritten : goal.returns-then-is_rewritten

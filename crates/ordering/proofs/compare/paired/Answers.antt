@@ -1,6 +1,5 @@
 use Rattle.ordering.specs.Outcome.{end_number}
 use mathlib.Core.Path.{sym, ap₂}
-use borrow.Author.Rules.{rules}
 use Rattle.ordering.proofs.compare.paired.Goals as goal
 
 pub returns-in-Met-n : goal.returns-in-Met-n

@@ -1,5 +1,4 @@
 use Rattle.ordering.proofs.EventKeys as law
-use borrow.Author.Rules.{rules}
 use Rattle.ordering.proofs.key.by_event.Goals as goal
 
 pub returns : goal.returns

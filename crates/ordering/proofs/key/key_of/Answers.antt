@@ -1,7 +1,6 @@
 use Rattle.ordering.proofs.EventKeys as law
 use mathlib.Core.Path.{refl}
 use native.Mathlib.Omega.{arith}
-use borrow.Author.Rules.{rules}
 use Rattle.ordering.proofs.key.key_of.Goals as goal
 
 pub returns-in-Closes : goal.returns-in-Closes

@@ -1,5 +1,4 @@
 use Rattle.ordering.proofs.EventKeys as law
-use borrow.Author.Rules.{rules}
 use Rattle.ordering.proofs.key.number_in.Goals as goal
 
 pub returns-then-k-eq7 : goal.returns-then-k-eq7

@@ -1,5 +1,4 @@
 use Rattle.ordering.proofs.EventKeys as law
-use borrow.Author.Rules.{rules}
 use Rattle.ordering.proofs.key.opens_temporary.Goals as goal
 
 pub returns-then-k-eq2 : goal.returns-then-k-eq2

@@ -2,7 +2,6 @@ use Rattle.ordering.proofs.TablePlaces as law
 use lib.ListN.{length-set}
 use mathlib.Core.Path.{refl}
 use native.Mathlib.Omega.{arith}
-use borrow.Author.Rules.{rules}
 use Rattle.ordering.proofs.place.place.Goals as goal
 
 pub returns-then-n-table : goal.returns-then-n-table

@@ -1,7 +1,6 @@
 use native.Mathlib.Omega.{arith}
 use lib.ListN.{get_or-eq_default}
 use mathlib.Core.Path.{sym}
-use borrow.Author.Rules.{rules}
 use Rattle.ordering.proofs.place.place_at.Goals as goal
 
 pub overflow_cast-result : goal.overflow_cast-result

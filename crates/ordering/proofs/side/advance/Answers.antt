@@ -1,6 +1,5 @@
 use Rattle.ordering.proofs.Sides as law
 use mathlib.Core.Path.{refl}
-use borrow.Author.Rules.{rules}
 use Rattle.ordering.proofs.side.advance.Goals as goal
 
 pub returns-then-n-lt65536 : goal.returns-then-n-lt65536

@@ -1,8 +1,6 @@
 use mathlib.Core.Path.{ap}
 use Rattle.ordering.specs.Verdicts.{number_of}
 use Rattle.ordering.proofs.TextsCompared as law
-use lib.ListN.{length}
-use Prim.Native.Nat.{◌-◌}
 use native.Mathlib.Omega.{arith}
 use Rattle.ordering.proofs.text.by_bytes.Goals as goal
 

@@ -3,7 +3,6 @@ use lib.ListN.{take, drop}
 use Prim.Native.Nat.{ℕ, ◌+◌, ◌-◌}
 use mathlib.Core.Path.{◌≡◌, ap₂, ◌∙◌}
 use native.Mathlib.Omega.{arith}
-use borrow.Author.Rules.{rules}
 use Rattle.ordering.proofs.text.by_text.Goals as goal
 
 pub returns-then-m-second : goal.returns-then-m-second
