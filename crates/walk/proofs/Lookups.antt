@@ -1,13 +1,13 @@
 -- What is looked up before something is written: one law for each way out.
 -- Assumes nothing.
 use mathlib.Core.Path.{◌≡◌, refl, sym, ap, ◌∙◌}
-use mathlib.Core.Bool.{Bool, true, false, cond, not}
+use mathlib.Core.Bool.{Bool, true, false, cond}
 use mathlib.Core.List.{List}
 use mathlib.Core.Option.{some}
 use Prim.Native.Nat.{ℕ, zero, suc, ◌+◌, ◌-◌, ◌/◌, ◌%◌, ◌<◌, ◌≤◌}
 use native.Mathlib.Omega.{arith}
 use lib.Dec.{eqb, ltb}
-use borrow.Author.Tests.{lt-ltb, le-ltb, not-true, not-false}
+use borrow.Author.Tests.{lt-ltb, le-ltb}
 use Rattle.tree.specs.Tree.{Node, Items, count, depth}
 use Rattle.tree.specs.Tree.Items.{none, hole, item}
 use Rattle.tree.specs.Read.{byte_at}
@@ -60,11 +60,11 @@ module _ {A : Type 0} (x a b : A) where
 
 -- a test that was denied
 module _ (b x : Bool) (e : b ≡ x) where
-  pub denied : not b ≡ true → x ≡ false
-  denied h = sym e ∙ not-true b h
+  pub denied : b ≡ false → x ≡ false
+  denied h = sym e ∙ h
 
-  pub undenied : not b ≡ false → x ≡ true
-  undenied h = sym e ∙ not-false b h
+  pub undenied : b ≡ true → x ≡ true
+  undenied h = sym e ∙ h
 
 -- ---- modes
 

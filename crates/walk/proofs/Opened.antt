@@ -9,7 +9,7 @@ use native.Mathlib.Omega.{arith}
 use native.Mathlib.Decide.{dec_lt}
 use lib.Dec.{eqb, leb}
 use lib.ListN.{length, get_or, take, drop, length-drop, length-append, take-append-drop}
-use lib.Seq.{get_or-drop, take_nil}
+use lib.Seq.{get_or-drop, take-nil}
 use borrow.Author.Tests.{eqb-true, eqb-false, eq-eqb, ne_eqb, leb-true, leb-false, lt-leb, lt-ltb, le-ltb}
 use Rattle.tree.specs.Tree.{Node, Fields, Piece, Items, wide_bytes, map_of, count, encode, encode_fields, encode_piece}
 use Rattle.tree.specs.Tree.Node.{node}
@@ -51,7 +51,7 @@ look_solid t R (suc n) at = look_solid t R n (R at).next
 drop_take : (i n : ℕ) (l : List ℕ) → drop i (take n l) ≡ take (n - i) (drop i l)
 drop_take zero n l = let e : n - 0 ≡ n = omega arith in rw e refl
 drop_take (suc i) zero l = let e : 0 - suc i ≡ 0 = omega arith in rw e refl
-drop_take (suc i) (suc n) [] = sym (take_nil (suc n - suc i))
+drop_take (suc i) (suc n) [] = sym (take-nil (suc n - suc i))
 drop_take (suc i) (suc n) (x ∷ l) = let e : suc n - suc i ≡ n - i = omega arith in rw e (drop_take i n l)
 
 -- and two more, where its first field is a node

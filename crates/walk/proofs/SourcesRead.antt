@@ -8,7 +8,7 @@ use Prim.Native.Nat.{ℕ, zero, suc, ◌+◌, ◌-◌, ◌/◌, ◌≤◌, ◌<�
 use native.Mathlib.Omega.{arith}
 use lib.Dec.{eqb}
 use lib.ListN.{length, take, drop, length-append, length-drop}
-use lib.Seq.{take_nil, take_all, length-take-le}
+use lib.Seq.{take-nil, take_all, length-take-le}
 use borrow.Author.Tests.{eq-eqb, ne_eqb}
 use Rattle.tree.specs.Tree.{Node, Fields, Piece, Items, encode, encode_fields}
 use Rattle.tree.specs.Tree.Node.{node}
@@ -147,7 +147,7 @@ module _ (t : List ℕ) (at : ℕ) where
 
 part_take : (l : List ℕ) (f n : ℕ) → drop f (take (f + n) l) ≡ take n (drop f l)
 part_take l zero n = let e : 0 + n ≡ n = omega arith in ap (λ (x : ℕ). take x l) e
-part_take [] (suc f) n = let e : suc f + n ≡ suc (f + n) = omega arith in rw e (sym (take_nil n))
+part_take [] (suc f) n = let e : suc f + n ≡ suc (f + n) = omega arith in rw e (sym (take-nil n))
 part_take (x ∷ l) (suc f) n = let e : suc f + n ≡ suc (f + n) = omega arith in rw e (part_take l f n)
 
 -- the text of a field is among the bytes of the node

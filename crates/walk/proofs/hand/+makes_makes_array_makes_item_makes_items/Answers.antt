@@ -71,7 +71,7 @@ makes_items-loop-n-smaller t c = omega (arith, c.loop-n-test.true)
 
 pub makes_items-loop-n-preserved : goal.makes_items-loop-n-preserved
 makes_items-loop-n-preserved t c = (
-  omega (arith, c.loop-n.invariant.0, c.makes_item-u.auto),
+  omega (arith, c.loop-n.invariant.0, c.makes_item-u.auto.work),
   c.makes_item-u.ensures.0 ∙ c.loop-n.invariant.1,
   λ o l g. hands.left_more _ _ _ _ _ _ _ _ _ _ c.loop-n-test.true c.skip_item-p.ensures (c.loop-n.invariant.2 o l g) (λ x y. c.makes_item-u.ensures.1 o l x),
 )

@@ -67,8 +67,8 @@ over_items-loop-n-smaller t c = omega (arith, c.loop-n-test.true)
 
 pub over_items-loop-n-preserved : goal.over_items-loop-n-preserved
 over_items-loop-n-preserved t c = (
-  omega (arith, c.loop-n.invariant.0, c.over_item-u.auto),
-  omega (arith, c.loop-n.invariant.1, c.over_item-u.auto),
+  omega (arith, c.loop-n.invariant.0, c.over_item-u.auto.list),
+  omega (arith, c.loop-n.invariant.1, c.over_item-u.auto.work),
   c.over_item-u.ensures.0 ∙ c.loop-n.invariant.2,
   λ o g. law.left_more _ _ _ _ _ _ _ _ _ _ c.loop-n-test.true c.skip_item-p.ensures (c.loop-n.invariant.3 o g) (λ x y. c.over_item-u.ensures.1 o x),
 )
@@ -108,8 +108,8 @@ over_values-loop-n-smaller t c = omega (arith, c.loop-n-test.true)
 
 pub over_values-loop-n-preserved : goal.over_values-loop-n-preserved
 over_values-loop-n-preserved t c = (
-  omega (arith, c.loop-n.invariant.0, c.over_value-u.auto),
-  omega (arith, c.loop-n.invariant.1, c.over_value-u.auto),
+  omega (arith, c.loop-n.invariant.0, c.over_value-u.auto.list),
+  omega (arith, c.loop-n.invariant.1, c.over_value-u.auto.work),
   c.over_value-u.ensures.0 ∙ c.loop-n.invariant.2,
   λ o g a. law.solid_more _ _ _ _ _ _ _ _ _ c.loop-n-test.true c.skip-p.ensures (c.loop-n.invariant.3 o g a) (λ x y. c.over_value-u.ensures.1 o x (kind_byte _ _ _ _ x y)),
 )

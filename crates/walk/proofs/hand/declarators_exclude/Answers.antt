@@ -25,8 +25,8 @@ loop-n-smaller c = omega (arith, c.loop-n-test.true)
 
 pub loop-n-preserved : goal.loop-n-preserved
 loop-n-preserved c = (
-  omega (arith, c.loop-n.invariant.0, c.declarator_excludes-u.auto),
-  omega (arith, c.loop-n.invariant.1, c.declarator_excludes-u.auto),
+  omega (arith, c.loop-n.invariant.0, c.declarator_excludes-u.auto.list),
+  omega (arith, c.loop-n.invariant.1, c.declarator_excludes-u.auto.work),
   c.declarator_excludes-u.ensures.0 ∙ c.loop-n.invariant.2,
   λ o g a. law.solid_more _ _ _ _ _ _ _ _ _ c.loop-n-test.true c.skip-p.ensures (c.loop-n.invariant.3 o g a) (λ x y. c.declarator_excludes-u.ensures.1 o x (kind_byte _ _ _ _ x y)),
 )

@@ -28,7 +28,7 @@ loop-n-smaller c = omega (arith, c.loop-n-test.true)
 
 pub loop-n-preserved : goal.loop-n-preserved
 loop-n-preserved c = (
-  omega (arith, c.loop-n.invariant.0, c.move_makes-u.auto),
+  omega (arith, c.loop-n.invariant.0, c.move_makes-u.auto.work),
   c.move_makes-u.ensures.0 ∙ c.loop-n.invariant.1,
   λ o l g a. hands.solid_more _ _ _ _ _ _ _ _ _ c.loop-n-test.true c.skip-p.ensures (c.loop-n.invariant.2 o l g a) (λ x y. c.move_makes-u.ensures.1 o l x y),
 )

@@ -12,7 +12,7 @@ use Rattle.walk.proofs.TargetCounts as law
 use Prim.Native.Nat.{ℕ, ◌+◌, ◌*◌}
 use Rattle.tree.proofs.Cycle.{at_measure, below_measure}
 use Rattle.walk.proofs.target.+object_count_target_count.Goals as goal
-use Rattle.walk.proofs.target.+object_count_target_count.Goals.{else-peek-gt-LAST_EXPRESSION, then-peek-gt-LAST_EXPRESSION}
+use Rattle.walk.proofs.target.+object_count_target_count.Goals.{object_count-else-peek-gt-LAST_EXPRESSION, object_count-then-peek-gt-LAST_EXPRESSION}
 
 pub object_count-returns-then-left-eq0 : goal.object_count-returns-then-left-eq0
 object_count-returns-then-left-eq0 t c = law.inside_none _ _ _ _ c.if-left-eq0.true
@@ -21,10 +21,10 @@ pub object_count-loop-n-init : goal.object_count-loop-n-init
 object_count-loop-n-init t c = law.values_start _ _ _ _ _ c.list-run.ensures
 
 pub object_count-target_count-requires : goal.object_count-target_count-requires
-object_count-target_count-requires t c = (let h = search.value_falls _ _ _ _ c.if-left-eq0.false c.value-v.ensures in omega (arith, c.requires.0), tt)
+object_count-target_count-requires t c = (let h = search.value_falls _ _ _ _ c.if-left-eq0.false c.value-v.ensures in omega arith, tt)
 
 pub object_count-loop-n-preserved : goal.object_count-loop-n-preserved
-object_count-loop-n-preserved t c = (elim c.if-peek-gt-LAST_EXPRESSION.branch [ then-peek-gt-LAST_EXPRESSION w ↦ rw w.3 (law.values_more _ _ _ _ _ _ _ _ _ _ _ _ c.loop-n-test.true c.value-v.ensures w.1.ensures c.skip-p.ensures w.2.ensures c.loop-n.invariant) | else-peek-gt-LAST_EXPRESSION w ↦ rw w.1 (law.values_passed _ _ _ _ _ _ _ _ _ _ _ c.loop-n-test.true c.value-v.ensures c.peek.ensures.value w.0.left c.skip-p.ensures c.loop-n.invariant) ])
+object_count-loop-n-preserved t c = (elim c.if-peek-gt-LAST_EXPRESSION.branch [ object_count-then-peek-gt-LAST_EXPRESSION w ↦ rw w.k-is (law.values_more _ _ _ _ _ _ _ _ _ _ _ _ c.loop-n-test.true c.value-v.ensures w.target_count.ensures c.skip-p.ensures w.plus-k.ensures c.loop-n.invariant) | object_count-else-peek-gt-LAST_EXPRESSION w ↦ rw w.k-is (law.values_passed _ _ _ _ _ _ _ _ _ _ _ c.loop-n-test.true c.value-v.ensures c.peek.ensures.value w.if-peek-gt-LAST_EXPRESSION.false c.skip-p.ensures c.loop-n.invariant) ])
 
 pub object_count-returns : goal.object_count-returns
 object_count-returns t c = law.values_end _ _ _ _ _ _ _ _ c.loop-n-test.false c.loop-n.invariant
@@ -42,13 +42,13 @@ pub target_count-loop-n-init : goal.target_count-loop-n-init
 target_count-loop-n-init t c = law.items_start _ _ _ _ c.if-left-eq0.false c.peek-kind.ensures.value _ c.in-36.is c.list-run.ensures
 
 pub target_count-target_count-requires : goal.target_count-target_count-requires
-target_count-target_count-requires t c = (let h = places.item_below _ _ _ true _ c.if-left-eq0.false c.item-e.ensures in omega (arith, c.requires.0), tt)
+target_count-target_count-requires t c = (let h = places.item_below _ _ _ true _ c.if-left-eq0.false c.item-e.ensures in omega arith, tt)
 
 pub target_count-loop-n-preserved : goal.target_count-loop-n-preserved
 target_count-loop-n-preserved t c = law.items_more _ _ _ _ _ _ _ _ _ _ _ c.loop-n-test.true c.item-e.ensures (c.target_count.ensures ∙ law.by_one _) c.skip_item-p.ensures c.plus-k.ensures c.loop-n.invariant
 
 pub target_count-target_count-requires-in-37 : goal.target_count-target_count-requires-in-37
-target_count-target_count-requires-in-37 t c = (let h = places.child_falls _ _ _ 0 _ c.if-left-eq0.false c.child-l.ensures in omega (arith, c.requires.0), tt)
+target_count-target_count-requires-in-37 t c = (let h = places.child_falls _ _ _ 0 _ c.if-left-eq0.false c.child-l.ensures in omega arith, tt)
 
 pub target_count-returns-else-stands : goal.target_count-returns-else-stands
 target_count-returns-else-stands t c = law.count_values _ _ _ _ _ c.if-left-eq0.false c.peek-kind.ensures.value _ _ c.in-34.is c.stands.ensures c.if-stands.false (c.object_count.ensures ∙ law.values_object _ _ _ _ (sym c.peek-kind.ensures.value ∙ c.in-34.is))

@@ -40,8 +40,8 @@ target_item-loop-n-smaller t c = omega (arith, c.loop-n-test.true)
 
 pub target_item-loop-n-preserved : goal.target_item-loop-n-preserved
 target_item-loop-n-preserved t c = (
-  omega (arith, c.loop-n.invariant.0, c.target_item-u.auto),
-  omega (arith, c.loop-n.invariant.1, c.target_item-u.auto),
+  omega (arith, c.loop-n.invariant.0, c.target_item-u.auto.list),
+  omega (arith, c.loop-n.invariant.1, c.target_item-u.auto.work),
   c.target_item-u.ensures.0 ∙ c.loop-n.invariant.2,
   λ o. law.items_more _ _ _ _ _ _ c.loop-n-test.true c.skip_item-p.ensures (c.loop-n.invariant.3 o) (c.target_item-u.ensures.1 o),
 )
@@ -81,8 +81,8 @@ target_object-loop-n-smaller t c = omega (arith, c.loop-n-test.true)
 
 pub target_object-loop-n-preserved : goal.target_object-loop-n-preserved
 target_object-loop-n-preserved t c = (
-  omega (arith, c.loop-n.invariant.0, c.target_property-u.auto),
-  omega (arith, c.loop-n.invariant.1, c.target_property-u.auto),
+  omega (arith, c.loop-n.invariant.0, c.target_property-u.auto.list),
+  omega (arith, c.loop-n.invariant.1, c.target_property-u.auto.work),
   c.target_property-u.ensures.0 ∙ c.loop-n.invariant.2,
   λ o. law.values_more _ _ _ _ _ _ _ _ c.loop-n-test.true c.skip-p.ensures refl (c.loop-n.invariant.3 o) (c.target_property-u.ensures.1 o),
 )
@@ -113,8 +113,8 @@ target_property-loop-n-smaller t c = omega (arith, c.loop-n-test.true)
 
 pub target_property-loop-n-preserved : goal.target_property-loop-n-preserved
 target_property-loop-n-preserved t c = (
-  omega (arith, c.loop-n.invariant.0, c.target_item-u.auto),
-  omega (arith, c.loop-n.invariant.1, c.target_item-u.auto),
+  omega (arith, c.loop-n.invariant.0, c.target_item-u.auto.list),
+  omega (arith, c.loop-n.invariant.1, c.target_item-u.auto.work),
   c.target_item-u.ensures.0 ∙ c.loop-n.invariant.2,
   λ o. law.items_more _ _ _ _ _ _ c.loop-n-test.true c.skip_item-p.ensures (c.loop-n.invariant.3 o) (c.target_item-u.ensures.1 o),
 )

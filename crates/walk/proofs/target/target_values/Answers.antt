@@ -19,8 +19,8 @@ loop-n-smaller c = omega (arith, c.loop-n-test.true)
 
 pub loop-n-preserved : goal.loop-n-preserved
 loop-n-preserved c = (
-  omega (arith, c.loop-n.invariant.0, c.target_property-u.auto),
-  omega (arith, c.loop-n.invariant.1, c.target_property-u.auto),
+  omega (arith, c.loop-n.invariant.0, c.target_property-u.auto.list),
+  omega (arith, c.loop-n.invariant.1, c.target_property-u.auto.work),
   c.target_property-u.ensures.0 ∙ c.loop-n.invariant.2,
   λ o. law.values_more _ _ _ _ _ _ _ _ c.loop-n-test.true c.skip-p.ensures c.less.ensures (c.loop-n.invariant.3 o) (c.target_property-u.ensures.1 o),
 )
