@@ -1,9 +1,9 @@
 /* Object rest and spread, lowered from tree bytes to tree bytes: the functions of librest_spread.a, one of libcounting.a,
- * two of libdrawing.a, one of libjoining.a, one of libordering.a and one of libprinter.a.
+ * two of libdrawing.a, one of libjoining.a, one of libordering.a, one of libprinter.a and one of libresult.a.
  *
- * The archives are made by `rt staticlib rest_spread`, `counting`, `drawing`, `joining`, `ordering` and `printer`, are for
- * x86-64 Linux, and can be linked together. They need memcpy, memmove and memset of the C library and nothing else: they
- * allocate nothing, keep nothing between calls, and read and write no file.
+ * The archives are made by `tools/archives`, are for x86-64 Linux, and can be linked together. They need memcpy, memmove
+ * and memset of the C library and nothing else: they allocate nothing, keep nothing between calls, and read and write no
+ * file.
  *
  * Trees and lists are described in docs/FORMAT.md, lower.c is a whole program. */
 #ifndef REST_SPREAD_H

@@ -1,7 +1,7 @@
 //! Finds the archives of the proved code and hands them to the linker. It proves nothing unless it is asked to.
 //!
 //! `REST_SPREAD_LIB` may name the folder that they are in. Without it that is `target/staticlib` of the repository, where
-//! `rt staticlib` writes them. `REST_SPREAD_PROVE=1` has those made that are missing there.
+//! `tools/archives` writes them. `REST_SPREAD_PROVE=1` has those made that are missing there.
 
 use std::io::{BufRead, BufReader, Read};
 use std::path::{Path, PathBuf};
@@ -9,7 +9,7 @@ use std::process::{exit, Command, Stdio};
 use std::time::SystemTime;
 use std::{env, fs, thread};
 
-/// An archive that is linked: the crate that it is made of, and functions that it has to have.
+/// An archive that is linked: its name, with `_c` behind it the crate that it is made of, and functions that it has to have.
 struct Archive {
     name: &'static str,
     functions: &'static [&'static str],
@@ -28,8 +28,8 @@ const ARCHIVES: [Archive; 7] = [
     Archive { name: "result", functions: &["rest_spread_leftover"] },
 ];
 
-/// How long `rt staticlib` takes for all of them, from nothing.
-const TIME: &str = "some 15 minutes on two cores, less where crates are proved already";
+/// How long `tools/archives` takes.
+const TIME: &str = "many minutes from nothing, less where crates are proved already";
 
 fn main() {
     println!("cargo:rerun-if-changed=build.rs");
@@ -93,7 +93,7 @@ fn missing(archive: &Archive, path: &Path, root: &Path) {
         "The loader links {}, and there is no such file.\n\
          \n\
          To make it, install the Rattle kit, so that `rt` is on the path, and run in {}\n\
-         \n    rt staticlib {}\n\n\
+         \n    tools/archives {}\n\n\
          It proves the code first: {TIME}. REST_SPREAD_PROVE=1 has this build do so.\n\
          \n\
          Or take an archive that was made elsewhere, on x86-64 Linux from the same commit: it has the same bytes, and\n\
@@ -104,21 +104,20 @@ fn missing(archive: &Archive, path: &Path, root: &Path) {
     ));
 }
 
-/// Has `rt` prove the code and write the archive. What it says is passed on: `cargo build -vv` shows it as it comes, and a
+/// Has `tools/archives` prove the code and write the archive. What it says is passed on: `cargo build -vv` shows it as it comes, and a
 /// failed build all of it.
 fn prove(archive: &Archive, path: &Path, root: &Path) {
-    let words = ["staticlib", archive.name];
-    let started =
-        Command::new("rt").args(words).current_dir(root).stdout(Stdio::piped()).stderr(Stdio::piped()).spawn();
-    let mut child = started.unwrap_or_else(|why| give_up(&format!("`rt` can't be started: {why}")));
+    let script = root.join("tools/archives");
+    let started = Command::new(&script).arg(archive.name).stdout(Stdio::piped()).stderr(Stdio::piped()).spawn();
+    let mut child = started.unwrap_or_else(|why| give_up(&format!("{} can't be started: {why}", script.display())));
     let (out, err) = (child.stdout.take().expect("a pipe"), child.stderr.take().expect("a pipe"));
     let other = thread::spawn(|| pass_on(err));
     pass_on(out);
     other.join().expect("it only reads");
-    let ended = child.wait().unwrap_or_else(|why| give_up(&format!("`rt` can't be waited for: {why}")));
+    let ended = child.wait().unwrap_or_else(|why| give_up(&format!("{} can't be waited for: {why}", script.display())));
     if !ended.success() || !path.is_file() {
         give_up(&format!(
-            "`rt staticlib {}` was run in {}, and failed. What it said is above.",
+            "`tools/archives {}` was run in {}, and failed. What it said is above.",
             archive.name,
             root.display()
         ));
@@ -144,7 +143,7 @@ fn test_functions(archive: &Archive, path: &Path) {
         if !bytes.windows(function.len()).any(|w| w == function.as_bytes()) {
             give_up(&format!(
                 "{} has no function {function}: it is older than this loader, or no archive of {}.\n\
-                 `rt staticlib {1}`, run in the repository, makes it anew.",
+                 `tools/archives {1}`, run in the repository, makes it anew.",
                 path.display(),
                 archive.name
             ));
@@ -155,12 +154,13 @@ fn test_functions(archive: &Archive, path: &Path) {
 /// Says so if the code was changed since: the archive's crate, or one that `crates.txt` names behind it.
 fn test_age(archive: &Archive, path: &Path, root: &Path) {
     let crates = fs::read_to_string(root.join("crates.txt")).unwrap_or_default();
-    let line = crates.lines().find_map(|line| line.strip_prefix(archive.name)?.strip_prefix(':')).unwrap_or_default();
-    let changed = newest(&root.join("crates"), line.split_whitespace().chain([archive.name]));
+    let own = format!("{}_c", archive.name);
+    let line = crates.lines().find_map(|line| line.strip_prefix(&own)?.strip_prefix(" staticlib:")).unwrap_or_default();
+    let changed = newest(&root.join("crates"), line.split_whitespace().chain([own.as_str()]));
     let made = fs::metadata(path).and_then(|m| m.modified()).ok();
     if made < changed {
         println!(
-            "cargo:warning={} is older than the code; `rt staticlib {}` makes it anew",
+            "cargo:warning={} is older than the code; `tools/archives {}` makes it anew",
             path.display(),
             archive.name
         );

@@ -12,14 +12,14 @@ def ran(program, given):
         return subprocess.run([program], input=given, capture_output=True, check=True).stdout
     except OSError as error:
         name = os.path.basename(program)
-        sys.exit(f"{program}: {error.strerror} (`rt check {name}` builds target/bin/{name})")
+        sys.exit(f"{program}: {error.strerror} (`rt run` in crates/{name} builds it)")
 
 
 def entry(archive, function):
     """A function of an archive, which cc links."""
     if not os.path.isfile(archive):
         name = os.path.basename(archive)[3:-2]
-        sys.exit(f"{archive}: not there (`rt staticlib {name}` makes target/staticlib/lib{name}.a)")
+        sys.exit(f"{archive}: not there (`tools/archives {name}` makes it)")
     with tempfile.TemporaryDirectory() as folder:
         shared = os.path.join(folder, "entry.so")
         try:

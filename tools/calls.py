@@ -9,7 +9,7 @@ have to be one for each spread, and one more if ordinary items stand behind the 
 of each length have how many calls; these lines are held to those of the triangle, crates/triangle/stdout. Items are of
 several forms, with spreads inside them too, whose calls stand in no first argument.
 
-The second asks the entry rest_spread_calls of the archive that `rt staticlib counting` makes, which cc links. A case is a
+The second asks the entry rest_spread_calls of the archive that `tools/archives counting` makes, which cc links. A case is a
 line N C ANSWER NUMBER; a line '# | ..' is one of the triangle's, if the file has them. Both print each difference and the
 counts. The status is 1 where anything differs.
 """
@@ -95,7 +95,7 @@ def counted(binary, pattern):
     try:
         wrote = subprocess.run([binary], input=b"\0" + tree_of(pattern), stdout=subprocess.PIPE, check=True).stdout.decode()
     except OSError as error:
-        sys.exit(f"{binary}: {error.strerror} (`rt check lower` builds target/bin/lower)")
+        sys.exit(f"{binary}: {error.strerror} (`rt run` in crates/lower builds it)")
     head, tree, listed = wrote.splitlines()
     if head.split()[0] != "0":
         sys.exit(f"{binary} refuses {tree_of(pattern).hex()}: {head}")
@@ -135,7 +135,7 @@ class Counted(ctypes.Structure):
 
 def entry_of(archive):
     if not os.path.exists(archive):
-        sys.exit(f"{archive}: not there (`rt staticlib counting` makes target/staticlib/libcounting.a)")
+        sys.exit(f"{archive}: not there (`tools/archives counting` makes it)")
     with tempfile.TemporaryDirectory() as folder:
         shared = os.path.join(folder, "counting.so")
         subprocess.run(["cc", "-shared", "-o", shared, "-Wl,--whole-archive", archive, "-Wl,--no-whole-archive"], check=True)
@@ -170,7 +170,7 @@ def of_entry(archive, file):
 def main():
     parser = argparse.ArgumentParser()
     parser.add_argument("--longest", type=int, default=12)
-    parser.add_argument("--binary", default=os.path.join(ROOT, "target/bin/lower"))
+    parser.add_argument("--binary", default=os.path.join(ROOT, "crates/lower/out/lower"))
     parser.add_argument("--entry", nargs="?", const=os.path.join(ROOT, "tools/calls.txt"))
     parser.add_argument("--archive", default=os.path.join(ROOT, "target/staticlib/libcounting.a"))
     asked = parser.parse_args()

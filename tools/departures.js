@@ -2,7 +2,7 @@
 //   node --expose-internals tools/departures.js [--lower FILE] [--join FILE] [--text FILE] [--rust FILE] [-v]
 //
 // Each case is a small program. It is made a tree (by the parser that node has inside, hence the flag), lowered by the program `lower`,
-// joined with its list by `join`, printed by `text` (each in target/bin, or FILE), and run over Babel's helpers beside its original. A
+// joined with its list by `join`, printed by `text` (each crates/NAME/out/NAME, or FILE), and run over Babel's helpers beside its original. A
 // program with something that has no kind of its own is printed here, since `text` makes a call of it. What each of the two shows is
 // stored below; the status is 1 if a run shows anything else. A lowered program that ECMAScript 2017 does not know is counted as a
 // SyntaxError. With --rust the Rust reference has to give the same bytes, but for targets that request 6 is for.
@@ -403,7 +403,7 @@ async function shown(c, program, helpers) {
 function lower(words, tree) {
   const given = Buffer.concat([Buffer.from([0]), tree]);
   const ran = spawnSync(words[0], words.slice(1), { input: given });
-  if (ran.error) end(`${words[0]}: ${ran.error.code} (\`rt check lower\` builds target/bin/lower)`);
+  if (ran.error) end(`${words[0]}: ${ran.error.code} (\`rt run\` in crates/lower builds it)`);
   const lines = ran.stdout.toString().split('\n');
   if (lines[0].split(' ')[0] != '0') throw new Error(`${words[0]} answers ${lines[0]} for ${tree.toString('hex')}`);
   return { lines: lines.slice(0, 3).join('\n'), tree: Buffer.from(lines[1], 'hex'), list: Buffer.from(lines[2], 'hex') };
@@ -413,7 +413,7 @@ function lower(words, tree) {
 function joined(binary, result) {
   const length = Buffer.from([result.tree.length & 255, result.tree.length >> 8]);
   const ran = spawnSync(binary, [], { input: Buffer.concat([length, result.tree, result.list]) });
-  if (ran.error) end(`${binary}: ${ran.error.code} (\`rt check join\` builds target/bin/join)`);
+  if (ran.error) end(`${binary}: ${ran.error.code} (\`rt run\` in crates/join builds it)`);
   const [answer, tree] = ran.stdout.toString().split('\n');
   if (answer != '0') throw new Error(`${binary} answers ${answer} for ${result.tree.toString('hex')} ${result.list.toString('hex')}`);
   return Buffer.from(tree, 'hex');
@@ -425,7 +425,7 @@ function textOf(binary, tree) {
   const root = decoded(tree);
   if (hasOther(root)) return printer(false)(root);
   const ran = spawnSync(binary, [], { input: tree });
-  if (ran.error) end(`${binary}: ${ran.error.code} (\`rt check text\` builds target/bin/text)`);
+  if (ran.error) end(`${binary}: ${ran.error.code} (\`rt run\` in crates/text builds it)`);
   return ran.stdout.toString();
 }
 
@@ -441,7 +441,7 @@ function isOld(text, isModule) {
 
 async function main(words) {
   const option = name => words.includes(name) ? words[words.indexOf(name) + 1] : null;
-  const built = name => option('--' + name) || path.join(__dirname, '..', 'target', 'bin', name);
+  const built = name => option('--' + name) || path.join(__dirname, '..', 'crates', name, 'out', name);
   const binary = built('lower');
   const rust = option('--rust');
   let wrong = 0;

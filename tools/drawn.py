@@ -242,7 +242,7 @@ class Drawn(ctypes.Structure):
 
 
 def entry_of(archive):
-    """The entry of the archive that `rt staticlib drawing` makes, which cc links."""
+    """The entry of the archive that `tools/archives drawing` makes, which cc links."""
     entry = built.entry(archive, "rest_spread_draw")
     entry.argtypes, entry.restype = [ctypes.c_uint32, ctypes.c_void_p, ctypes.c_size_t], Drawn
     return entry
@@ -250,12 +250,12 @@ def entry_of(archive):
 
 def read_alike(tree):
     """Whether treecheck takes the tree, and gives as many marks as it should."""
-    told = built.ran("target/bin/treecheck", tree).split()
+    told = built.ran("crates/treecheck/out/treecheck", tree).split()
     return told[:2] == [b"0", b"%d" % len(tree)]
 
 
 def lowered(tree):
-    told = built.ran("target/bin/lower", b"\0" + tree).split()
+    told = built.ran("crates/lower/out/lower", b"\0" + tree).split()
     return told[0] in (b"0", b"5", b"6", b"7", b"11")
 
 

@@ -242,7 +242,7 @@ def replay_rewritten(binary, source):
             done = subprocess.run([binary], input=tree, stdout=subprocess.PIPE, check=True, preexec_fn=small_stack)
             wrote = done.stdout.decode()
         except OSError as error:
-            sys.exit(f"{binary}: {error.strerror} (`rt check rewrittencheck` builds target/bin/rewrittencheck)")
+            sys.exit(f"{binary}: {error.strerror} (`rt run` in crates/rewrittencheck builds it)")
         if wrote != f"{number}\n":
             different += 1
             print(f"expected {number}, found {wrote.strip()}: {tree.hex()}")
@@ -293,7 +293,7 @@ def run(binary, stream, count):
     try:
         wrote = subprocess.run([binary], input=stream, stdout=subprocess.PIPE, check=True).stdout.decode()
     except OSError as error:
-        sys.exit(f"{binary}: {error.strerror} (`rt check vectors` builds target/bin/vectors)")
+        sys.exit(f"{binary}: {error.strerror} (`rt run` in crates/vectors builds it)")
     *lines, reading, lowering, _, _, total = wrote.splitlines()
     if total != f"{count} cases, {len(lines)} wrong":
         sys.exit(f"{binary}: {count} cases were sent, {len(lines)} lines came back, and it says: {total}")
@@ -336,7 +336,7 @@ def main():
     words.add_argument("--rewritten", action="store_true")
     given = words.parse_args()
     program = "rewrittencheck" if given.rewritten else "vectors"
-    given.binary = given.binary or os.path.join(cases.ROOT, "target", "bin", program)
+    given.binary = given.binary or os.path.join(cases.ROOT, "crates", program, "out", program)
     if given.rewritten:
         sys.exit(1 if replay_rewritten(given.binary, rewritten_trees(random.Random(given.seed), given.count)) else 0)
     if given.vectors:

@@ -242,10 +242,10 @@ def main():
     words.add_argument("--vectors")
     words.add_argument("--count", type=int, default=20000)
     words.add_argument("--seed", type=int, default=1)
-    words.add_argument("--lower", default=os.path.join(ROOT, "target", "bin", "lower"))
+    words.add_argument("--lower", default=os.path.join(ROOT, "crates", "lower", "out", "lower"))
     words.add_argument("--definition", action="store_true")
     words.add_argument("--entry", nargs="?", metavar="FILE", const=os.path.join(ROOT, "target", "staticlib", "libjoining.a"))
-    words.add_argument("--binary", default=os.path.join(ROOT, "target", "bin", "join"))
+    words.add_argument("--binary", default=os.path.join(ROOT, "crates", "join", "out", "join"))
     given = words.parse_args()
     if not given.vectors:
         sys.exit(held(given))

@@ -118,11 +118,7 @@ def layout():
     o=[]
     o.append("""-- The layout of every kind as data, in the order of docs/TEXT.md: own bytes, manners of fields, what stands only with a field.
 -- tools/layout.py works the numbers out; ⏎ is a line end.
-use Prim.Native.Nat.{ℕ, _+_, _-_, _*_, _/_, _%_}
-use mathlib.Core.List.{List, [], _∷_}
-use mathlib.Core.Bool.{cond}
-use lib.Dec.{ltb, eqb}
-use lib.ListN.{getD}
+use Rattle.std.specs.Prelude.{ℕ, ◌+◌, ◌-◌, ◌*◌, ◌/◌, ◌%◌, List, [], ◌∷◌, cond, ltb, eqb, get_or}
 
 -- ---- own bytes
 
@@ -130,13 +126,13 @@ use lib.ListN.{getD}
 unfoldable pub words : List (List ℕ)
 words =""")
     for i,x in enumerate(WORDS): o.append("    %s ∷  -- %d %s"%(bl(x),i,show(x)))
-    o.append("    []\n\nunfoldable pub word : ℕ → List ℕ\nword i = getD words i []\n")
+    o.append("    []\n\nunfoldable pub word : ℕ → List ℕ\nword i = get_or words i []\n")
     o.append("""-- Numbers from 100 on choose a word: by the node's byte n, its bit map m, what was noted of it s, and whether it is in method form o.
 -- Three bits of n, two of s and one of o are enough for every tree.
 unfoldable pub choices : ℕ → ℕ → ℕ → ℕ → List ℕ
 choices n m s o =""")
     for i,(nm,f,t) in enumerate(SPTEXT): o.append("    %s ∷  -- %d %s"%(f if ' ' not in f else "("+f+")",100+i,t))
-    o.append("    []\n\nunfoldable pub chosenWord : ℕ → ℕ → ℕ → ℕ → ℕ → ℕ\nchosenWord own n m s o = cond (ltb own 100) own (getD (choices n m s o) (own - 100) 0)\n")
+    o.append("    []\n\nunfoldable pub chosen_word : ℕ → ℕ → ℕ → ℕ → ℕ → ℕ\nchosen_word own n m s o = cond (ltb own 100) own (get_or (choices n m s o) (own - 100) 0)\n")
     o.append("-- ---- manners: how a field that holds nodes is written\n")
     for i in range(13): o.append("-- %s\nabbrev pub %s : ℕ\n%s = %d\n"%(MANTEXT[i],MANNAMES[i],MANNAMES[i],i))
     o.append("""-- ---- the layout
@@ -163,23 +159,23 @@ layout =
         o.append("    line %d %s %s %d %d ∷  -- %d %s: %s"%(h,lst(ls),lst(ms),c,t,kd,n,tx))
     o.append("""    []
 
-abbrev pub lineOf : ℕ → Line
-lineOf kind = getD layout kind (record { head = 0; tail = 0; close = 0; leads = []; manners = [] })
+abbrev pub line_of : ℕ → Line
+line_of kind = get_or layout kind (record { head = 0; tail = 0; close = 0; leads = []; manners = [] })
 
-unfoldable pub headOf : ℕ → ℕ
-headOf kind = (lineOf kind) .head
+unfoldable pub head_of : ℕ → ℕ
+head_of kind = (line_of kind).head
 
-unfoldable pub tailOf : ℕ → ℕ
-tailOf kind = (lineOf kind) .tail
+unfoldable pub tail_of : ℕ → ℕ
+tail_of kind = (line_of kind).tail
 
-unfoldable pub closeOf : ℕ → ℕ
-closeOf kind = (lineOf kind) .close
+unfoldable pub close_of : ℕ → ℕ
+close_of kind = (line_of kind).close
 
-unfoldable pub leadOf : ℕ → ℕ → ℕ
-leadOf kind j = getD ((lineOf kind) .leads) j 0
+unfoldable pub lead_of : ℕ → ℕ → ℕ
+lead_of kind j = get_or (line_of kind).leads j 0
 
-unfoldable pub mannerOf : ℕ → ℕ → ℕ
-mannerOf kind j = getD ((lineOf kind) .manners) j 0
+unfoldable pub manner_of : ℕ → ℕ → ℕ
+manner_of kind j = get_or (line_of kind).manners j 0
 """)
     return "\n".join(o)
 
@@ -211,18 +207,18 @@ def words():
 
 
 def lists():
-    return [numbers("sortNumbers", sorts(), 8), numbers("slotNumbers", slots(), 8), numbers("wordNumbers", lows(), 4)]
+    return [numbers("sort_numbers", sorts(), 8), numbers("slot_numbers", slots(), 8), numbers("word_numbers", lows(), 4)]
 
 
-# Each part stands in its file.
+# Each part stands in its file, whatever its lines are: rt fmt breaks them.
 def check():
     crate = os.path.join(os.path.dirname(os.path.abspath(__file__)), "..", "crates", "printer")
     parts = {"specs/Layout.antt": [layout()], "specs/Rows.antt": lists(), "src/layout.rt": rows(), "src/words.rt": words()}
     for name in sorted(parts):
         with open(os.path.join(crate, name), encoding="utf-8") as f:
-            text = f.read()
+            text = " ".join(f.read().split())
         for part in parts[name]:
-            if part not in text:
+            if " ".join(part.split()) not in text:
                 sys.exit("%s differs from: %s" % (name, part.split("\n")[0]))
         print("%s: %d parts" % (name, len(parts[name])))
 

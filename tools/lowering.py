@@ -47,7 +47,7 @@ from keys import HIGHEST, has_other_form, lacks_form, promised, with_forms
 answer_of = functools.lru_cache(4 * 2000)(read.answer)
 
 BATCH = 2000
-MADE_BY = "`rt check lower` builds target/bin/lower"
+MADE_BY = "`rt run` in crates/lower builds it"
 TREE, LIST = 32768, 16384
 NAMES = [b"a", b"b", b"c", b"k", b"s", b"", b"state", b"deadline"]
 # Literals by sort: a form, and spellings of it. A boolean and a null have their words.
@@ -691,7 +691,7 @@ def text_of(answer):
 def main():
     words = argparse.ArgumentParser(description=__doc__.splitlines()[0])
     words.add_argument("--reference", required=True)
-    words.add_argument("--binary", default=os.path.join(cases.ROOT, "target", "bin", "lower"))
+    words.add_argument("--binary", default=os.path.join(cases.ROOT, "crates", "lower", "out", "lower"))
     words.add_argument("--stream", action="store_true")
     words.add_argument("--count", type=int, default=10000)
     words.add_argument("--seed", type=int, default=1)

@@ -8,7 +8,8 @@ Read are README.md, CONTRIBUTING.md and the pages in docs/, tools/, examples/, l
 - a link to a file of the repository leads to one, and to a heading of it if it names one;
 - a file or folder that is named in a code span or in a command is there;
 - in a table with the columns Theorem (or Definition, or Contract) and File each name is declared in one of the files, and
-  a column Lines has the number of its lines;
+  a column Lines has the number of its lines, whose sum is behind 'That is' and before 'lines of definitions'. --renumber
+  writes these numbers into the page;
 - in a table that begins with Case, and behind the word 'Case' in a text, the script and what it becomes are those of the
   stored case with that number (crates/vectors/stdin, which the program vectors replays). --renumber looks for the case by its text
   and writes its number into the page;
@@ -32,16 +33,18 @@ ROOT = cases.ROOT
 PAGES = ["README.md", "CONTRIBUTING.md", "docs/*.md", "tools/*.md", "examples/*.md", "loader/*.md", "c/*.md"]
 # The endings by which a code span is known to name a file.
 ENDINGS = "antt rt py js rs c h md txt edit toml tree list sh"
-# Files that the pages name and that are not here: those of the Rust module's crate, and what is made.
-OUTSIDE = {"object_rest_spread.rs", "context.rs", "ast_builder.rs", "helper_loader.rs", "document01.txt", "Proof.antt", "Cargo.toml", "src/entry.rs", "lowered.tree", "lowered.list"}
+# Files that the pages name and that are not here: those of the Rust module's crate and of the kit, older ones, and what is made.
+OUTSIDE = {"object_rest_spread.rs", "port.py", "snake.py", "context.rs", "ast_builder.rs", "helper_loader.rs", "document01.txt", "Proof.antt", "Cargo.toml", "src/entry.rs", "lowered.tree", "lowered.list"}
 TOPS = ("crates", "docs", "tools", "loader", "examples", "c", "helpers", ".ci")
 NAMED = ("Theorem", "Definition", "Contract")
+# What rt makes of a crate; no file of the repository.
+MADE = r"crates/\w+/out(/|$)"
 CODE = r"`` .+? ``|`[^`]+`"
 
 
 class Checker:
     def __init__(self):
-        self.wrong, self.counts = [], collections.Counter()
+        self.wrong, self.counts, self.total = [], collections.Counter(), 0
         self.stored = cases.load_stored()
         self.headings = {}
         self.files = {os.path.basename(name) for name in tracked()}
@@ -78,7 +81,7 @@ class Checker:
         for span in spans(text):
             is_file = re.fullmatch(rf"[\w./+-]+\.({ENDINGS.replace(' ', '|')})", span)
             is_path = re.fullmatch(rf"({'|'.join(map(re.escape, TOPS))})/[\w./+-]*", span)
-            if not is_file and not is_path or span in OUTSIDE or "NAME" in span or os.path.basename(span) in OUTSIDE:
+            if not is_file and not is_path or span in OUTSIDE or "NAME" in span or os.path.basename(span) in OUTSIDE or re.match(MADE, span):
                 continue
             self.counts["file names"] += 1
             if not self.exists(page, span):
@@ -88,6 +91,8 @@ class Checker:
         """Files in blocks of commands, which have no language behind the signs that begin them."""
         for block in re.findall(r"^```\n(.*?)^```$", text, re.M | re.S):
             for word in re.findall(rf"(?<![\w./-])(?:\.\./)?(?:{'|'.join(map(re.escape, TOPS))})/[\w./+-]+", block):
+                if re.search(MADE, word):
+                    continue
                 self.counts["file names"] += 1
                 if not os.path.exists(os.path.join(ROOT, os.path.dirname(page), word)) and not os.path.exists(os.path.join(ROOT, word)):
                     self.bad(page, f"{word} in a command is not there")
@@ -100,16 +105,34 @@ class Checker:
 
     # ---- tables
 
-    def lines(self, page, text):
-        for header, row in table_rows(text):
-            if "File" not in header or "Lines" not in header:
+    def lines(self, page, text, renumber):
+        """Lengths of files in tables, and their sum; returns the page with its numbers put right if they are to be."""
+        out, total = [], 0
+        for line, (header, row) in zip(text.splitlines(keepends=True), table_lines(text)):
+            out.append(line)
+            if not header or "File" not in header or "Lines" not in header:
                 continue
             for name in spans(row[header.index("File")]):
                 path = os.path.join(ROOT, "crates", name)
                 count = len(text_of(path).splitlines()) if os.path.exists(path) else 0
+                total += count
                 self.counts["lengths"] += 1
-                if row[header.index("Lines")] != f"{count:,}":
+                was = row[header.index("Lines")]
+                if was != f"{count:,}" and renumber:
+                    out[-1] = line.replace(f"| {was} |", f"| {count:,} |")
+                elif was != f"{count:,}":
                     self.bad(page, f"{name} has {count:,} lines")
+        self.total = self.total or total
+        return "".join(out)
+
+    def sums(self, page, text, renumber):
+        def right(said):
+            self.counts["numbers"] += 1
+            if said[0] != f"{self.total:,}" and not renumber:
+                self.bad(page, f"{said[0]} lines of definitions: there are {self.total:,}")
+            return f"{self.total:,}" if renumber else said[0]
+
+        return re.sub(r"(?<=That is )[\d,]+(?= lines)|[\d,]+(?= lines of definitions)", right, text)
 
     def theorems(self, page, text):
         for header, row in table_rows(text):
@@ -163,8 +186,8 @@ class Checker:
         spoken = " ".join(spans(text_of(os.path.join(ROOT, "docs", "MAP.md"))))
         words = set(re.findall(r"[\w.-]+", spoken))
         for line in text_of(os.path.join(ROOT, "crates.txt")).splitlines():
-            crate = line.partition(":")[0].strip()
-            if crate and not crate.startswith("#") and crate not in words:
+            crate = next(iter(line.partition(":")[0].split()), "#")
+            if not crate.startswith("#") and crate not in words:
                 self.bad("docs/MAP.md", f"the crate {crate} is not named")
         text = text_of(os.path.join(ROOT, "docs", "MAP.md"))
         for path in sorted(glob.glob(os.path.join(ROOT, "crates", "*", "specs", "*.antt"))):
@@ -189,7 +212,8 @@ class Checker:
 def tracked():
     """The files of the repository, what is made and hidden ones aside."""
     for folder, below, names in os.walk(ROOT):
-        below[:] = [name for name in below if name not in ("target", ".git", "__pycache__")]
+        at = os.path.relpath(folder, ROOT)
+        below[:] = [name for name in below if name not in ("target", ".git", "__pycache__") and not re.match(MADE, os.path.join(at, name))]
         for name in names:
             yield os.path.relpath(os.path.join(folder, name), ROOT)
 
@@ -255,9 +279,16 @@ def fits(case, words):
         return False
 
 
+def write(path, text, changed):
+    if changed != text:
+        with open(path, "w", encoding="utf-8") as out:
+            out.write(changed)
+        print(f"{os.path.relpath(path, ROOT)}: renumbered")
+
+
 def main():
     words = argparse.ArgumentParser(description=__doc__.splitlines()[0])
-    words.add_argument("--renumber", action="store_true", help="put the numbers of the cases right")
+    words.add_argument("--renumber", action="store_true", help="put the numbers of cases and lines right")
     given = words.parse_args()
     checker = Checker()
     pages = sorted(path for pattern in PAGES for path in glob.glob(os.path.join(ROOT, pattern)))
@@ -267,13 +298,11 @@ def main():
         checker.paths(page, without_blocks(text))
         checker.commands(page, text)
         checker.theorems(page, text)
-        checker.lines(page, text)
         checker.departures(page, text)
-        changed = checker.examples(page, text, given.renumber)
-        if changed != text:
-            with open(path, "w", encoding="utf-8") as out:
-                out.write(changed)
-            print(f"{page}: renumbered")
+        write(path, text, checker.examples(page, checker.lines(page, text, given.renumber), given.renumber))
+    for path in pages:
+        text = text_of(path)
+        write(path, text, checker.sums(os.path.relpath(path, ROOT), text, given.renumber))
     checker.listed()
     for line in checker.wrong:
         print(line)

@@ -84,7 +84,7 @@ def said(binary, given):
     try:
         return subprocess.run([binary], input=given, stdout=subprocess.PIPE, check=True).stdout.decode().strip()
     except OSError as error:
-        sys.exit(f"{binary}: {error.strerror} (`rt check order` builds target/bin/order)")
+        sys.exit(f"{binary}: {error.strerror} (`rt run` in crates/order builds it)")
 
 
 def renamed(rnd, tree):
@@ -154,7 +154,7 @@ def main():
     words.add_argument("--count", type=int, default=3000)
     words.add_argument("--seed", type=int, default=1)
     words.add_argument("--vectors")
-    words.add_argument("--binary", default=os.path.join(cases.ROOT, "target", "bin", "order"))
+    words.add_argument("--binary", default=os.path.join(cases.ROOT, "crates", "order", "out", "order"))
     given = words.parse_args()
     counts, different = collections.Counter(), 0
     if given.vectors:

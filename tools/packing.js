@@ -4,7 +4,7 @@
 // Babel's helpers W, X and E, with objects that meet the premises. Looked at behind each run: that nothing was thrown and the object is as it
 // was; that each enumerable own key is in its binding or in the rest, with its value, and the rest has no other; and that the named keys that
 // are own and enumerable, with the rest laid over them by CopyDataProperties, are the same map. Each lowered text is held to the bytes that the
-// program `lower` (target/bin/lower, or FILE) gives for the declaration. Then what breaks the law when a premise is dropped. The status is 1
+// program `lower` (crates/lower/out/lower, or FILE) gives for the declaration. Then what breaks the law when a premise is dropped. The status is 1
 // if a run breaks the law, the text is not what `lower` writes, or a breaking case does not break it.
 'use strict';
 
@@ -189,7 +189,7 @@ function broken([what, before, code, takes]) {
 
 const args = process.argv.slice(2);
 const at = args.indexOf('--lower');
-const built = at < 0 ? path.join(__dirname, '..', 'target', 'bin', 'lower') : args.splice(at, 2)[1];
+const built = at < 0 ? path.join(__dirname, '..', 'crates', 'lower', 'out', 'lower') : args.splice(at, 2)[1];
 const holds = main(Number(args[0] || 400), fs.existsSync(built) ? built : null);
 console.log('with a premise or a condition of the class dropped:');
 const breaks = CASES.map(broken);

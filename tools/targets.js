@@ -2,7 +2,7 @@
 //   node --expose-internals tools/targets.js [--lower FILE] [--join FILE] [--seed N] [number of programs]
 //
 // Random assignments and for heads whose targets have objects with a rest below one another, through objects, defaults and arrays, each
-// beside what the programs `lower` and `join` (in target/bin, or FILE) make of it, over Babel's helpers. Looked at behind each run: every binding
+// beside what the programs `lower` and `join` (crates/NAME/out/NAME, or FILE) make of it, over Babel's helpers. Looked at behind each run: every binding
 // and every property that was assigned, every rest with its keys in their order, and the value of the assignment where it is used.
 //
 // A target may have a default that reads another of its bindings. There the two may differ, since a part is taken apart behind the whole
@@ -141,7 +141,7 @@ function same(a, b) {
 
 function main(words) {
   const option = name => words.includes(name) ? words.splice(words.indexOf(name), 2)[1] : null;
-  const built = name => option('--' + name) || path.join(__dirname, '..', 'target', 'bin', name);
+  const built = name => option('--' + name) || path.join(__dirname, '..', 'crates', name, 'out', name);
   const binary = built('lower'), join = built('join');
   const r = rng(Number(option('--seed') || 1));
   const count = Number(words[0] || 1000);

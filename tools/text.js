@@ -1,6 +1,6 @@
 // Has printed programs read back: node --expose-internals tools/text.js [--count N] [--seed N] [--text FILE] [--lower FILE] [--join FILE]
 //
-// Programs of kinds that are JavaScript (no 12, 33, op 2) are made as trees, printed by the program `text` (target/bin/text, or FILE)
+// Programs of kinds that are JavaScript (no 12, 33, op 2) are made as trees, printed by the program `text` (crates/text/out/text, or FILE)
 // and read by the parser that node has inside. What it reads has to be the same program, parentheses and shorthands aside. So are the
 // sources of departures.js that have such kinds alone; lowered by `lower`, joined by `join` and printed they have to pass node --check,
 // but for those that are stored to throw the error that it says. Prints each difference, then the counts; the status is 1 where anything
@@ -20,11 +20,11 @@ const path = require('path');
 const words = process.argv.slice(2);
 const option = (name, otherwise) => words.includes(name) ? words[words.indexOf(name) + 1] : otherwise;
 const COUNT = Number(option('--count', 5000));
-const program = name => option('--' + name, path.join(__dirname, '..', 'target', 'bin', name));
+const program = name => option('--' + name, path.join(__dirname, '..', 'crates', name, 'out', name));
 function textOf(tree) {
   const ran = spawnSync(program('text'), { input: tree, maxBuffer: 1 << 20 });
   if (ran.error) {
-    console.error(`${program('text')}: ${ran.error.code} (\`rt check text\` builds target/bin/text)`);
+    console.error(`${program('text')}: ${ran.error.code} (\`rt run\` in crates/text builds it)`);
     process.exit(1);
   }
   return ran.stdout.toString();

@@ -3,7 +3,7 @@
 
     tools/text.py FILE [--archive FILE] [--binary FILE]
 
-Each case goes through the entry of the archive that `rt staticlib printer` makes, every byte of the slice; where no slice is named
+Each case goes through the entry of the archive that `tools/archives printer` makes, every byte of the slice; where no slice is named
 through the built program text too, and again with a slice that is exactly long enough and one a byte too short. Prints each
 difference, then the counts. The status is 1 where anything differs.
 """
@@ -49,7 +49,7 @@ def main():
     parser = argparse.ArgumentParser()
     parser.add_argument("file")
     parser.add_argument("--archive", default="target/staticlib/libprinter.a")
-    parser.add_argument("--binary", default="target/bin/text")
+    parser.add_argument("--binary", default="crates/text/out/text")
     words = parser.parse_args()
     entry = entry_of(words.archive)
     room = ctypes.create_string_buffer(LONGEST)

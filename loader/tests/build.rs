@@ -1,4 +1,4 @@
-//! The build script, in a repository that is made up, with an `rt` that is made up.
+//! The build script and `tools/archives`, in a repository that is made up, with an `rt` that is made up.
 
 mod common;
 
@@ -11,6 +11,7 @@ use std::time::{Duration, SystemTime};
 
 const FUNCTIONS: &str = "rest_spread_lower rest_spread_lower_within rest_spread_version";
 const DRAWING: &str = "rest_spread_draw xorshift_next";
+const NAMES: [&str; 7] = ["rest_spread", "counting", "drawing", "joining", "ordering", "printer", "result"];
 const ARCHIVES: [(&str, &str); 7] = [
     ("librest_spread.a", FUNCTIONS),
     ("libcounting.a", "rest_spread_calls"),
@@ -40,17 +41,21 @@ fn made(name: &str) -> Option<Made> {
         Ok(ended) => assert!(ended.status.success(), "{}", String::from_utf8_lossy(&ended.stderr)),
     }
     fs::create_dir_all(root.join("loader")).unwrap();
-    fs::create_dir_all(root.join("crates/rest_spread/src")).unwrap();
+    fs::create_dir_all(root.join("tools")).unwrap();
+    fs::copy(concat!(env!("CARGO_MANIFEST_DIR"), "/../tools/archives"), root.join("tools/archives")).unwrap();
+    let mut crates = String::from("rest_spread: emit\n");
+    for name in NAMES {
+        fs::create_dir_all(root.join(format!("crates/{name}/src"))).unwrap();
+        fs::create_dir_all(root.join(format!("crates/{name}_c/src"))).unwrap();
+        crates.push_str(&format!("{name}_c staticlib: {name}\n"));
+    }
     fs::write(root.join("crates/rest_spread/src/lib.rt"), "").unwrap();
-    fs::write(
-        root.join("crates.txt"),
-        "rest_spread: emit\ncounting:\ndrawing:\njoining:\nordering:\nprinter:\nresult:\n",
-    )
-    .unwrap();
+    fs::write(root.join("crates.txt"), crates).unwrap();
     fs::create_dir(root.join("bin")).unwrap();
     let rt = format!(
-        "#!/bin/sh\nset -eu\necho \"words: $*\"; echo 'rt: proved' >&2\n[ -f refuse ] && exit 1\nmkdir -p target/staticlib\n\
-         echo '{FUNCTIONS} rest_spread_calls {DRAWING} rest_spread_join rest_spread_order rest_spread_text rest_spread_leftover' >target/staticlib/lib$2.a\n"
+        "#!/bin/sh\nset -eu\nname=\"$(basename \"$PWD\")\"\necho \"words: $* in $name\"; echo 'rt: proved' >&2\n\
+         [ -f ../../refuse ] && exit 1\nmkdir -p out\n\
+         echo '{FUNCTIONS} rest_spread_calls {DRAWING} rest_spread_join rest_spread_order rest_spread_text rest_spread_leftover' >\"out/lib$name.a\"\n"
     );
     fs::write(root.join("bin/rt"), rt).unwrap();
     fs::set_permissions(root.join("bin/rt"), Permissions::from_mode(0o755)).unwrap();
@@ -95,7 +100,7 @@ fn without_an_archive_it_stops_and_says_what_to_do() {
     let archive = made.root.join("target/staticlib/librest_spread.a");
     for words in [
         format!("The loader links {}, and there is no such file.", archive.display()),
-        "\n    rt staticlib rest_spread\n".into(),
+        "\n    tools/archives rest_spread\n".into(),
         "minutes".into(),
         "REST_SPREAD_PROVE=1".into(),
         "REST_SPREAD_LIB".into(),
@@ -116,8 +121,8 @@ fn it_proves_on_request_and_passes_on_what_is_said() {
     let Some(made) = made("build_prove") else { return };
     let ran = made.run(&[("REST_SPREAD_PROVE", "1")]);
     assert!(ran.well, "{}", ran.err);
-    for name in ["rest_spread", "counting", "drawing", "joining", "ordering", "printer", "result"] {
-        assert!(ran.err.contains(&format!("words: staticlib {name}")), "{}", ran.err);
+    for name in NAMES {
+        assert!(ran.err.contains(&format!("words: lib in {name}_c\n")), "{}", ran.err);
         assert!(ran.out.contains(&format!("cargo:rustc-link-lib=static:+verbatim=lib{name}.a")), "{}", ran.out);
     }
     assert!(ran.out.contains("cargo:warning=rt: proved"), "{}", ran.out);
@@ -126,13 +131,16 @@ fn it_proves_on_request_and_passes_on_what_is_said() {
     File::create(made.root.join("refuse")).unwrap();
     let ran = made.run(&[("REST_SPREAD_PROVE", "1")]);
     assert!(
-        !ran.well && ran.err.contains("words: staticlib rest_spread") && ran.err.contains("and failed"),
+        !ran.well && ran.err.contains("words: lib in rest_spread_c") && ran.err.contains("and failed"),
         "{}",
         ran.err
     );
     fs::remove_file(made.root.join("bin/rt")).unwrap();
     let ran = made.run(&[("REST_SPREAD_PROVE", "1")]);
-    assert!(!ran.well && ran.err.contains("`rt` can't be started"), "{}", ran.err);
+    assert!(!ran.well && ran.err.contains("rt is not on the path"), "{}", ran.err);
+    fs::remove_file(made.root.join("tools/archives")).unwrap();
+    let ran = made.run(&[("REST_SPREAD_PROVE", "1")]);
+    assert!(!ran.well && ran.err.contains("tools/archives can't be started"), "{}", ran.err);
 }
 
 #[test]

@@ -3,7 +3,7 @@
 
     tools/bench/run.py [--reference FILE] [--library FILE] [--beside FILE] [--rounds N] [--seconds S] [TREE..]
 
-Wants cc and target/staticlib/librest_spread.a, which `rt staticlib rest_spread` makes (or FILE). The reference is the
+Wants cc and target/staticlib/librest_spread.a, which `tools/archives rest_spread` makes (or FILE). The reference is the
 built program of docs/DIFFERENCES.md; it measures itself (--bench=SECONDS) and is given the depth limit 128. --beside names
 another archive, such as one from before a change; a tree that it answers otherwise is not compared. TREE are names in
 trees.py; without any, all of them are measured. For each tree all are run by turns, and the least time of a call in all
@@ -34,7 +34,7 @@ def run(words, **how):
 
 def built(source, library, program):
     if not os.path.exists(library):
-        sys.exit(f"{library}: not there (`rt staticlib rest_spread` makes target/staticlib/librest_spread.a)")
+        sys.exit(f"{library}: not there (`tools/archives rest_spread` makes it)")
     run(["cc", "-O2", "-o", program, source, library])
     return program
 

@@ -3,7 +3,7 @@
 
     tools/bench/text.py [--printer FILE] [--library FILE] [--seconds S] [TREE..]
 
-Wants cc, target/staticlib/libprinter.a and target/staticlib/librest_spread.a, which `rt staticlib NAME` makes, one at a time (or the
+Wants cc, target/staticlib/libprinter.a and target/staticlib/librest_spread.a, which `tools/archives NAME` makes (or the
 two FILEs). All trees, or those that are named, are measured in one run by turns. Prints a table: medians in microseconds and the least
 time, then the ratio to copying the text and, of all trees, to lowering ordinary-16k, by medians and by the least times.
 """

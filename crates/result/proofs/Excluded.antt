@@ -150,6 +150,8 @@ module _ (ns : List Name) where
   hoisted_left (Hoisted.hoisted {ks = ks} h) (Stands.onward (PartAt.part (FieldAt.behind (FieldAt.first NodeIn.one))) (Stands.onward (PartAt.part (FieldAt.first (NodeIn.list a))) s)) k =
       let r = keys_left ks h a s k in
       (Exception.in_template refl (PartAt.part (FieldAt.behind (FieldAt.first NodeIn.one))) (PartAt.part (FieldAt.first (NodeIn.list a))) r.0 s, r.1)
+  hoisted_left (Hoisted.hoisted h) (Stands.onward (PartAt.part (FieldAt.behind (FieldAt.first NodeIn.one))) (Stands.onward (PartAt.part (FieldAt.behind a)) s)) k = elim a [ ]
+  hoisted_left (Hoisted.hoisted h) (Stands.onward (PartAt.part (FieldAt.behind (FieldAt.behind a))) s) k = elim a [ ]
 
   items_left : (js : Items) → AllItems Hoisted js → {j : ℕ} {d : Node} → ItemAt (numbered_items ns js) j d → {q : List ℕ} {x : Node} → Stands [] d q x → keeps x ≡ true
       → Exception [] d q x Section.excluded × (XI measure js ≡ 0 → ⊥)

@@ -9,7 +9,6 @@ use lib.Dec.{eqb, ltb}
 use lib.ListN.{get_or}
 use borrow.Author.Tests.{eqb-true}
 use Rattle.tree.specs.Tree.{Node, Items}
-use Rattle.tree.specs.Tree.Fields.{done}
 use Rattle.tree.specs.Grammar.{places, allowed, also, among, kind_of, form_in, form_at, fields_of, kinds}
 use Rattle.tree.specs.Grammar.Stage.{rewritten}
 use Rattle.lowering.specs.Parts.{kind}

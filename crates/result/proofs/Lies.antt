@@ -185,11 +185,15 @@ mutual
   bytes_piece (FitPiece.many c f) (TextInPiece.list i) = bytes_items f i
   bytes_piece (FitPiece.gaps c f) (TextInPiece.list i) = bytes_items f i
   bytes_piece (FitPiece.text a b) TextInPiece.text = b
+  bytes_piece (FitPiece.byte a b c) i = elim i [ ]
+  bytes_piece (FitPiece.mark a) i = elim i [ ]
+  bytes_piece (FitPiece.number a) i = elim i [ ]
 
   bytes_items : {p : ℕ} {h : Bool} {is : Items} → FitItems input p h is → {bs : List ℕ} → TextInItems is bs → Bytes bs
   bytes_items (FitItems.hole f) (TextInItems.behind_hole i) = bytes_items f i
   bytes_items (FitItems.item a f) (TextInItems.item i) = input_bytes a i
   bytes_items (FitItems.item a f) (TextInItems.later i) = bytes_items f i
+  bytes_items FitItems.none i = elim i [ ]
 
 -- ---- lists
 

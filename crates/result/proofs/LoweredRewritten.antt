@@ -27,7 +27,7 @@ use Rattle.rewritten.proofs.NeverTooDeep.{tree_never_too_deep}
 use Rattle.rewritten.proofs.RewrittenExact.{rewritten_complete}
 use Rattle.lowering.specs.Walk.{Walked}
 use Rattle.lowering.specs.Weight.{walked}
-use Rattle.lowering.specs.Collect.{Name, same, Entry, over, nodes, nodes_items, list_nodes, name_at, names_of, distinct, number_in, numbered, numbered_items, bare, new_in, visits, entries, excluded_in}
+use Rattle.lowering.specs.Collect.{Name, same, Entry, over, nodes, nodes_items, list_nodes, name_at, names_of, number_in, numbered, numbered_items, bare, new_in, visits, entries, excluded_in}
 use Rattle.lowering.specs.Answer.{Lent, Result, fits, lowering, top, outcome, outcome_of}
 use Rattle.lowering.specs.Answer.Result.{refusal, lowered}
 use Rattle.lowering.specs.Refusals.{is_refusal}

@@ -107,10 +107,15 @@ mutual
   piece_within : (p : Piece) {x : Node} → In x (nodes_piece p) → InPiece p x
   piece_within (Piece.one n) i = InPiece.in_node_lem NodeIn.one (nodes_within n i)
   piece_within (Piece.list is) i = of_list (items_within is i)
+  piece_within (Piece.text a) i = elim i [ ]
+  piece_within (Piece.byte a) i = elim i [ ]
+  piece_within (Piece.mark a) i = elim i [ ]
+  piece_within (Piece.number a) i = elim i [ ]
 
   items_within : (is : Items) {x : Node} → In x (nodes_items is) → InItems is x
   items_within (Items.hole is) i = behind_hole_lem (items_within is i)
   items_within (Items.item n is) i = elim (in_either (nodes n) i) [ inl j ↦ InItems.in_item ItemAt.first (nodes_within n j) | inr j ↦ behind_item (items_within is j) ]
+  items_within Items.none i = elim i [ ]
 
 -- ---- and what stands in it is among them
 

@@ -166,6 +166,10 @@ sort_in_lem (LiePiece.child x) NodeIn.one = x
 sort_in_lem (LiePiece.chosen {b = b} x) NodeIn.one = (eqb b 1, x)
 sort_in_lem (LiePiece.many a) (NodeIn.list i) = lie_item a i
 sort_in_lem (LiePiece.gaps a) (NodeIn.list i) = lie_item a i
+sort_in_lem (LiePiece.text a) i = elim i [ ]
+sort_in_lem (LiePiece.byte a b c) i = elim i [ ]
+sort_in_lem (LiePiece.mark a) i = elim i [ ]
+sort_in_lem (LiePiece.number a) i = elim i [ ]
 
 pub lie_sort : {T : Texts} {b : ℕ} {ts : List Field} {fs : Fields} → LieFields T b ts fs → {i j : ℕ} {x : Node} → FieldAt fs i j x → SortLies T (sort_at ts i) x
 lie_sort (LieFields.absent a) (FieldAt.behind_absent f) = lie_sort a f

@@ -37,6 +37,10 @@ come_item ComeItems.none i = elim i [ ]
 come_in : {p q : Piece} → ComePiece p q → {j : ℕ} {y : Node} → NodeIn q j y → (x : Node) × NodeIn p j x × Comes x y
 come_in (ComePiece.one {n = n} c) NodeIn.one = (n, NodeIn.one, c)
 come_in (ComePiece.list a) (NodeIn.list i) = let r = come_item a i in (r.0, NodeIn.list r.1, r.2)
+come_in ComePiece.text i = elim i [ ]
+come_in ComePiece.byte i = elim i [ ]
+come_in (ComePiece.mark a b) i = elim i [ ]
+come_in ComePiece.number i = elim i [ ]
 
 pub come_field : {fs gs : Fields} → ComeFields fs gs → {i j : ℕ} {y : Node} → FieldAt gs i j y → (x : Node) × FieldAt fs i j x × Comes x y
 come_field (ComeFields.absent a) (FieldAt.behind_absent f) = let r = come_field a f in (r.0, FieldAt.behind_absent r.1, r.2)
@@ -55,6 +59,10 @@ lie_in (LiePiece.child {p = q} x) NodeIn.one = (q, x)
 lie_in (LiePiece.chosen {b = b} {p = p} {q = q} x) NodeIn.one = (cond (eqb b 1) p q, x)
 lie_in (LiePiece.many {p = q} a) (NodeIn.list i) = (q, lie_item a i)
 lie_in (LiePiece.gaps {p = q} a) (NodeIn.list i) = (q, lie_item a i)
+lie_in (LiePiece.text a) i = elim i [ ]
+lie_in (LiePiece.byte a b c) i = elim i [ ]
+lie_in (LiePiece.mark a) i = elim i [ ]
+lie_in (LiePiece.number a) i = elim i [ ]
 
 pub lie_field : {T : Texts} {b : ℕ} {ts : List Field} {fs : Fields} → LieFields T b ts fs → {i j : ℕ} {x : Node} → FieldAt fs i j x → (q : ℕ) × Lies T q x
 lie_field (LieFields.absent a) (FieldAt.behind_absent f) = lie_field a f

@@ -56,6 +56,7 @@ mutual
   text_fields_lem (ComeFields.field a c) (LieFields.needed x y) (TextInFields.behind i) = text_fields_lem c y i
   text_fields_lem (ComeFields.field a c) (LieFields.given x y) (TextInFields.first i) = text_piece_lem a x i
   text_fields_lem (ComeFields.field a c) (LieFields.given x y) (TextInFields.behind i) = text_fields_lem c y i
+  text_fields_lem ComeFields.done x i = elim i [ ]
 
   text_piece_lem : {T : Texts} {p q : Piece} → ComePiece p q → {b d : ℕ} {s : Sort} → LiePiece T b s p d → {bs : List ℕ} → TextInPiece q bs → T.holds bs
   text_piece_lem (ComePiece.one a) (LiePiece.child {p = p} x) (TextInPiece.one i) = text_comes a p x i
@@ -63,11 +64,15 @@ mutual
   text_piece_lem (ComePiece.list a) (LiePiece.many x) (TextInPiece.list i) = text_items_lem a x i
   text_piece_lem (ComePiece.list a) (LiePiece.gaps x) (TextInPiece.list i) = text_items_lem a x i
   text_piece_lem ComePiece.text (LiePiece.text x) TextInPiece.text = x
+  text_piece_lem ComePiece.byte x i = elim i [ ]
+  text_piece_lem (ComePiece.mark a b) x i = elim i [ ]
+  text_piece_lem ComePiece.number x i = elim i [ ]
 
   text_items_lem : {T : Texts} {is js : Items} → ComeItems is js → {p : ℕ} {h : Bool} → LieItems T p h is → {bs : List ℕ} → TextInItems js bs → T.holds bs
   text_items_lem (ComeItems.hole a) (LieItems.hole x) (TextInItems.behind_hole i) = text_items_lem a x i
   text_items_lem (ComeItems.item a c) (LieItems.item {p = p} x z) (TextInItems.item i) = text_comes a p x i
   text_items_lem (ComeItems.item a c) (LieItems.item x z) (TextInItems.later i) = text_items_lem c z i
+  text_items_lem ComeItems.none x i = elim i [ ]
 
 -- ---- the list, which is not walked
 
@@ -85,6 +90,7 @@ module _ (ns : List Name) where
     text_in_fields (LieFields.needed x a) (TextInFields.behind i) = text_in_fields a i
     text_in_fields (LieFields.given x a) (TextInFields.first i) = text_in_piece x i
     text_in_fields (LieFields.given x a) (TextInFields.behind i) = text_in_fields a i
+    text_in_fields LieFields.done i = elim i [ ]
 
     text_in_piece : {T : Texts} {b d : ℕ} {s : Sort} {p : Piece} → LiePiece T b s p d → {bs : List ℕ} → TextInPiece (numbered_piece ns p) bs → T.holds bs
     text_in_piece (LiePiece.child x) (TextInPiece.one i) = text_numbered x i
@@ -92,11 +98,15 @@ module _ (ns : List Name) where
     text_in_piece (LiePiece.many a) (TextInPiece.list i) = text_in_items a i
     text_in_piece (LiePiece.gaps a) (TextInPiece.list i) = text_in_items a i
     text_in_piece (LiePiece.text a) TextInPiece.text = a
+    text_in_piece (LiePiece.byte a b c) i = elim i [ ]
+    text_in_piece (LiePiece.mark a) i = elim i [ ]
+    text_in_piece (LiePiece.number a) i = elim i [ ]
 
     text_in_items : {T : Texts} {p : ℕ} {h : Bool} {is : Items} → LieItems T p h is → {bs : List ℕ} → TextInItems (numbered_items ns is) bs → T.holds bs
     text_in_items (LieItems.hole a) (TextInItems.behind_hole i) = text_in_items a i
     text_in_items (LieItems.item x a) (TextInItems.item i) = text_numbered x i
     text_in_items (LieItems.item x a) (TextInItems.later i) = text_in_items a i
+    text_in_items LieItems.none i = elim i [ ]
 
   pub text_list : {T : Texts} (es : List Entry) (ex : Items) → EntriesLie T es → LieItems T 4 false ex → {bs : List ℕ}
       → TextInList (each_entry (λ is. numbered_items ns is) es) (numbered_items ns ex) bs → T.holds bs

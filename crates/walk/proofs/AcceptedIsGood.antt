@@ -24,7 +24,7 @@ use Rattle.tree.specs.WellFormed.{Bytes, Fits, Counts}
 use Rattle.tree.specs.Look.{look_fields, Seen, seen, seen_as, onward, quiet_at, look_item, look_items, look_field, look_slot, look_node}
 use Rattle.tree.proofs.Within.{there, wide_there, map_byte}
 use Rattle.tree.proofs.HoldsOfRead.{Holds, holds, of_mapped, of_accepted, of_joined, weaker}
-use Rattle.tree.proofs.Sound.{Stands, SoundNode, SoundPiece, one_byte, two_bytes, field_sound, node_sound, bytes_at, sound}
+use Rattle.tree.proofs.Sound.{Stands, SoundNode, SoundPiece, one_byte, two_bytes, field_sound, node_sound, bytes_at}
 use Rattle.tree.proofs.Look.{layout, layouts, form_alike, kind_at, on_fits, on_byte, on_wide, slot_alike}
 use Rattle.tree.specs.Note.{Note, loud, note_of, notes_of, notes_fields, notes_piece, notes_items}
 use Rattle.tree.proofs.Laid.{All, all_left, all_right, all_map, all_join, Between}

@@ -8,7 +8,6 @@ use native.Mathlib.Omega.{arith}
 use lib.Dec.{eqb}
 use lib.ListN.{length}
 use Rattle.tree.specs.Tree.{Node, wide_bytes, count, encode}
-use Rattle.tree.specs.Tree.Fields.{done}
 use Rattle.tree.specs.Read.{byte_at}
 use Rattle.tree.specs.Answer.{Wide}
 use Rattle.tree.specs.Look.{Seen, onward, look_items, look_node}
@@ -40,8 +39,7 @@ use Rattle.direct.specs.Keys.{string_bytes_of, entries, hoists}
 use Rattle.direct.specs.Handed.{place_made, key_made, keys_made, key_bytes, excludes_of, hands_key, hands_keys, hands_place, key_bytes_of}
 use Rattle.direct.proofs.Threads.{say_say}
 use Rattle.direct.proofs.RestValues.{entries_are}
-use Rattle.walk.specs.declared.look.KeyClass.{KeyClass}
-use Rattle.walk.specs.declared.look.KeyClass.TheVariants.{AsString, AsItStands, LeftOut, AsTemporary}
+use Rattle.walk.specs.declared.look.KeyClass.TheVariants.{AsString}
 use Rattle.walk.specs.declared.hand.Own.{Own}
 use Rattle.walk.specs.declared.hand.Own.TheVariants as own
 use Rattle.walk.specs.declared.hand.KeyUse.{KeyUse}

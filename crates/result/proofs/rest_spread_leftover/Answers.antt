@@ -1,5 +1,4 @@
 use mathlib.Core.Path.{sym, ◌∙◌}
-use borrow.Author.Rules.{rules}
 use Rattle.result.proofs.Looking as law
 use Rattle.result.proofs.rest_spread_leftover.Goals as goal
 

@@ -1,11 +1,6 @@
 use Rattle.result.proofs.Looking as law
 use Rattle.rewritten.proofs.Pass as pass
-use Rattle.result.specs.Leftover.{leftover}
-use lib.ListN.{length}
-use Prim.Native.Nat.{◌+◌, ◌-◌}
-use mathlib.Core.Path.{◌∙◌}
 use native.Mathlib.Omega.{arith}
-use borrow.Author.Rules.{rules}
 use Rattle.result.proofs.leftover.look.Goals as goal
 
 pub returns-then-tree-gt32768 : goal.returns-then-tree-gt32768

@@ -1,11 +1,7 @@
 use Rattle.result.proofs.Looking as law
-use Rattle.rewritten.proofs.Pass as pass
 use Rattle.result.specs.Leftover.{leftover}
 use lib.ListN.{length}
 use Prim.Native.Nat.{◌+◌, ◌-◌}
-use mathlib.Core.Path.{◌∙◌}
-use native.Mathlib.Omega.{arith}
-use borrow.Author.Rules.{rules}
 use Rattle.result.proofs.leftover.look.Given as goal
 
 abbrev pub invariant-loop-e : goal.invariant-loop-e

@@ -1,5 +1,4 @@
 use Rattle.result.proofs.Looking as law
-use borrow.Author.Rules.{rules}
 use Rattle.result.proofs.leftover.meet.Goals as goal
 
 pub returns-then-met : goal.returns-then-met

@@ -2,7 +2,6 @@ use Rattle.rewritten.specs.declared.step.Event as told
 use Rattle.rewritten.specs.Steps.{event_in}
 use mathlib.Core.Path.{◌∙◌, sym, ap}
 use Rattle.result.specs.Leftover.{rest_met}
-use borrow.Author.Rules.{rules}
 use Rattle.result.proofs.leftover.rest_met.Goals as goal
 
 pub returns-in-Begins : goal.returns-in-Begins

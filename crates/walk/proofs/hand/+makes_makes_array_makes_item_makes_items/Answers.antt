@@ -1,27 +1,10 @@
 use Rattle.walk.proofs.Running.{runs_does}
-use borrow.Author.Rules.{rules}
-use mathlib.Core.Path.{◌≡◌, refl, sym, ◌∙◌}
-use mathlib.Core.Bool.{true, false}
-use mathlib.Core.List.{List}
-use Prim.Native.Nat.{◌+◌, ◌*◌}
+use mathlib.Core.Path.{refl, sym, ◌∙◌}
 use native.Mathlib.Omega.{arith}
-use lib.ListN.{length}
-use Rattle.tree.specs.Look.{look_node}
-use Rattle.direct.specs.Emit.{say}
-use Rattle.direct.specs.Moved as moved
-use Rattle.walk.specs.Whole.{GoodItems, Good}
-use Rattle.walk.specs.Run.{going_of}
 use Rattle.walk.proofs.Running.{does_as}
 use Rattle.walk.proofs.HandMoves as law
 use Rattle.walk.proofs.Emits.{good_none}
 use Rattle.walk.proofs.Hands as hands
-use Prim.Native.Nat.{ℕ}
-use Rattle.tree.proofs.Cycle.{at_measure, below_measure}
-use Rattle.walk.proofs.hand.makes as makes
-use Rattle.walk.proofs.hand.makes_array as makes_array
-use Rattle.walk.proofs.hand.makes_item as makes-item
-use Rattle.walk.proofs.hand.makes_items as makes_items_lem
-use Rattle.walk.proofs.hand.+makes_makes_array_makes_item_makes_items as cycle
 use Rattle.walk.proofs.hand.+makes_makes_array_makes_item_makes_items.Goals as goal
 
 pub makes-returns-then-left-eq0 : goal.makes-returns-then-left-eq0
@@ -37,7 +20,7 @@ pub makes-returns-in-37 : goal.makes-returns-in-37
 makes-returns-in-37 t c = (c.make-in-37.ensures.1, λ o l g. law.makes_37 _ _ _ _ c.peek-kind.ensures.value c.in-37.is (runs_does (c.make-in-37.ensures.0 o l)) g)
 
 pub makes-returns-in_default : goal.makes-returns-in_default
-makes-returns-in_default t c = (refl, λ o l g. law.makes_nothing _ _ _ _ c.peek-kind.ensures.value c.in_default.in_default-own.rest.0.0.1 c.in_default.in_default-own.rest.0.1 c.in_default.in_default-own.rest.1 g)
+makes-returns-in_default t c = (refl, λ o l g. law.makes_nothing _ _ _ _ c.peek-kind.ensures.value (omega arith) (omega arith) (omega arith) g)
 
 pub makes_array-returns-then-left-eq0 : goal.makes_array-returns-then-left-eq0
 makes_array-returns-then-left-eq0 t c = (refl, λ o l g k. good_none _ _ _ c.if-left-eq0.true g)

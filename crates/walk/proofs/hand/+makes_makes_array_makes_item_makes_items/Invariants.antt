@@ -1,27 +1,15 @@
-use Rattle.walk.proofs.Running.{runs_does}
-use borrow.Author.Rules.{rules}
-use mathlib.Core.Path.{◌≡◌, refl, sym, ◌∙◌}
+use mathlib.Core.Path.{◌≡◌}
 use mathlib.Core.Bool.{true, false}
 use mathlib.Core.List.{List}
 use Prim.Native.Nat.{◌+◌, ◌*◌}
-use native.Mathlib.Omega.{arith}
 use lib.ListN.{length}
 use Rattle.tree.specs.Look.{look_node}
 use Rattle.direct.specs.Emit.{say}
 use Rattle.direct.specs.Moved as moved
 use Rattle.walk.specs.Whole.{GoodItems, Good}
 use Rattle.walk.specs.Run.{going_of}
-use Rattle.walk.proofs.Running.{does_as}
-use Rattle.walk.proofs.HandMoves as law
-use Rattle.walk.proofs.Emits.{good_none}
 use Rattle.walk.proofs.Hands as hands
 use Prim.Native.Nat.{ℕ}
-use Rattle.tree.proofs.Cycle.{at_measure, below_measure}
-use Rattle.walk.proofs.hand.makes as makes
-use Rattle.walk.proofs.hand.makes_array as makes_array
-use Rattle.walk.proofs.hand.makes_item as makes-item
-use Rattle.walk.proofs.hand.makes_items as makes_items_lem
-use Rattle.walk.proofs.hand.+makes_makes_array_makes_item_makes_items as cycle
 use Rattle.walk.proofs.hand.+makes_makes_array_makes_item_makes_items.Given as goal
 
 abbrev pub invariant-makes_items-loop-n : goal.invariant-makes_items-loop-n

@@ -1,32 +1,9 @@
-use Rattle.lowering.proofs.All.{AllItems}
-use borrow.Author.Rules.{rules}
-use mathlib.Core.Path.{◌≡◌, refl, sym, ◌∙◌}
-use mathlib.Core.Bool.{true, false}
-use mathlib.Core.List.{List}
-use Prim.Native.Nat.{◌+◌, ◌*◌}
+use mathlib.Core.Path.{refl, sym, ◌∙◌}
 use native.Mathlib.Omega.{arith}
-use lib.ListN.{length}
-use Rattle.tree.specs.Look.{look_items, look_node}
-use Rattle.lowering.specs.Patterns.{value}
-use Rattle.lowering.specs.Parts as parts
-use Rattle.walk.specs.declared.views.View.TheVariants.{Replacing}
-use Rattle.walk.specs.Whole.{GoodItems, Good}
-use Rattle.walk.specs.Run.{going_of}
-use Rattle.walk.specs.Turns.{over_all}
 use Rattle.walk.proofs.Opened.{kind_byte}
 use Rattle.walk.proofs.Emits.{good_none}
 use Rattle.walk.proofs.Hands as law
 use Rattle.walk.proofs.QuietValues as quiets
-use Prim.Native.Nat.{ℕ}
-use Rattle.tree.proofs.Cycle.{at_measure, below_measure}
-use Rattle.walk.proofs.hand.over as over
-use Rattle.walk.proofs.hand.over_array as over_array
-use Rattle.walk.proofs.hand.over_item as over-item
-use Rattle.walk.proofs.hand.over_items as over-items
-use Rattle.walk.proofs.hand.over_object as over_object
-use Rattle.walk.proofs.hand.over_value as over_value
-use Rattle.walk.proofs.hand.over_values as over-values
-use Rattle.walk.proofs.hand.+over_over_array_over_item_over_items_over_object_over_value_over_values as cycle
 use Rattle.walk.proofs.hand.+over_over_array_over_item_over_items_over_object_over_value_over_values.Goals as goal
 
 pub over-returns-then-left-eq0 : goal.over-returns-then-left-eq0
@@ -42,7 +19,7 @@ pub over-returns-in-37 : goal.over-returns-in-37
 over-returns-in-37 t c = (c.over.ensures.0, λ o g. law.default_does _ _ _ _ _ _ _ c.less.ensures c.step.ensures (c.over.ensures.1 o) (sym c.peek-kind.ensures.value ∙ c.in-37.is) g)
 
 pub over-returns-in_default : goal.over-returns-in_default
-over-returns-in_default t c = (refl, λ o g. law.leaf_does _ _ _ _ _ _ c.peek-kind.ensures.value c.in_default.in_default-own.rest.0.0.1 c.in_default.in_default-own.rest.0.1 c.in_default.in_default-own.rest.1 g)
+over-returns-in_default t c = (refl, λ o g. law.leaf_does _ _ _ _ _ _ c.peek-kind.ensures.value (omega arith) (omega arith) (omega arith) g)
 
 pub over_array-returns-then-left-eq0 : goal.over_array-returns-then-left-eq0
 over_array-returns-then-left-eq0 t c = (refl, λ o g k. good_none _ _ _ c.if-left-eq0.true g)

@@ -1,10 +1,8 @@
 use Rattle.lowering.proofs.All.{AllItems}
-use borrow.Author.Rules.{rules}
-use mathlib.Core.Path.{◌≡◌, refl, sym, ◌∙◌}
+use mathlib.Core.Path.{◌≡◌}
 use mathlib.Core.Bool.{true, false}
 use mathlib.Core.List.{List}
 use Prim.Native.Nat.{◌+◌, ◌*◌}
-use native.Mathlib.Omega.{arith}
 use lib.ListN.{length}
 use Rattle.tree.specs.Look.{look_items, look_node}
 use Rattle.lowering.specs.Patterns.{value}
@@ -13,20 +11,8 @@ use Rattle.walk.specs.declared.views.View.TheVariants.{Replacing}
 use Rattle.walk.specs.Whole.{GoodItems, Good}
 use Rattle.walk.specs.Run.{going_of}
 use Rattle.walk.specs.Turns.{over_all}
-use Rattle.walk.proofs.Opened.{kind_byte}
-use Rattle.walk.proofs.Emits.{good_none}
 use Rattle.walk.proofs.Hands as law
-use Rattle.walk.proofs.QuietValues as quiets
 use Prim.Native.Nat.{ℕ}
-use Rattle.tree.proofs.Cycle.{at_measure, below_measure}
-use Rattle.walk.proofs.hand.over as over
-use Rattle.walk.proofs.hand.over_array as over_array
-use Rattle.walk.proofs.hand.over_item as over-item
-use Rattle.walk.proofs.hand.over_items as over-items
-use Rattle.walk.proofs.hand.over_object as over_object
-use Rattle.walk.proofs.hand.over_value as over_value
-use Rattle.walk.proofs.hand.over_values as over-values
-use Rattle.walk.proofs.hand.+over_over_array_over_item_over_items_over_object_over_value_over_values as cycle
 use Rattle.walk.proofs.hand.+over_over_array_over_item_over_items_over_object_over_value_over_values.Given as goal
 
 abbrev pub invariant-over_items-loop-n : goal.invariant-over_items-loop-n

@@ -1,6 +1,5 @@
 use mathlib.Core.Path.{◌∙◌}
 use Rattle.walk.proofs.HandRules as law
-use borrow.Author.Rules.{rules}
 use Rattle.walk.proofs.hand.declaration_hands.Goals as goal
 
 pub returns : goal.returns

@@ -1,6 +1,5 @@
 use mathlib.Core.Path.{refl}
 use Rattle.walk.proofs.HandRules as law
-use borrow.Author.Rules.{rules}
 use Rattle.walk.proofs.hand.declarator_excludes.Goals as goal
 
 pub returns-then-is_lowered : goal.returns-then-is_lowered

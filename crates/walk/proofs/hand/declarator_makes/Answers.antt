@@ -1,7 +1,6 @@
 use Rattle.walk.proofs.Running.{runs_does}
 use mathlib.Core.Path.{refl, ◌∙◌}
 use Rattle.walk.proofs.HandRules as law
-use borrow.Author.Rules.{rules}
 use Rattle.walk.proofs.hand.declarator_makes.Goals as goal
 
 pub returns-then-is_name : goal.returns-then-is_name

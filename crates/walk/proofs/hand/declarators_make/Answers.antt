@@ -1,15 +1,5 @@
-use mathlib.Core.Path.{◌≡◌, refl, ◌∙◌}
-use mathlib.Core.Bool.{true, false}
-use mathlib.Core.List.{List}
-use Prim.Native.Nat.{ℕ}
+use mathlib.Core.Path.{refl, ◌∙◌}
 use native.Mathlib.Omega.{arith}
-use lib.ListN.{length}
-use Rattle.tree.specs.Look.{look_items, look_node}
-use Rattle.lowering.proofs.All.{AllItems}
-use Rattle.lowering.specs.Parts.{is}
-use Rattle.direct.specs.Handed.{declarator_made}
-use Rattle.walk.specs.Whole.{GoodItems, Good}
-use Rattle.walk.specs.Run.{going_of}
 use Rattle.walk.proofs.Opened.{kind_byte}
 use Rattle.walk.proofs.Hands as law
 use Rattle.walk.proofs.hand.declarators_make.Goals as goal

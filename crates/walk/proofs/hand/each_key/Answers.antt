@@ -1,5 +1,4 @@
 use Rattle.walk.proofs.HandKeys as law
-use borrow.Author.Rules.{rules}
 use Rattle.walk.proofs.hand.each_key.Goals as goal
 
 pub returns : goal.returns

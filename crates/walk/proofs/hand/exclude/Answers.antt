@@ -1,7 +1,6 @@
 use Rattle.walk.proofs.SmallSteps.{does_excluded_head}
 use mathlib.Core.Path.{refl, ◌∙◌}
 use Rattle.walk.proofs.HandKeys as law
-use borrow.Author.Rules.{rules}
 use Rattle.walk.proofs.hand.exclude.Goals as goal
 
 pub returns-then-hoisted : goal.returns-then-hoisted

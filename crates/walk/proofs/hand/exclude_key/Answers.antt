@@ -2,7 +2,6 @@ use Rattle.walk.proofs.Running.{runs_does}
 use Rattle.walk.proofs.SmallSteps.{does_excluded_string}
 use mathlib.Core.Path.{refl}
 use Rattle.walk.proofs.HandKeys as law
-use borrow.Author.Rules.{rules}
 use Rattle.walk.proofs.hand.exclude_key.Goals as goal
 
 pub returns-in-Name : goal.returns-in-Name

@@ -1,8 +1,7 @@
-use mathlib.Core.Path.{◌≡◌, refl, ◌∙◌}
+use mathlib.Core.Path.{◌≡◌}
 use mathlib.Core.Bool.{true, false}
 use mathlib.Core.List.{List}
 use Prim.Native.Nat.{ℕ}
-use native.Mathlib.Omega.{arith}
 use lib.ListN.{length}
 use Rattle.tree.specs.Look.{look_items, look_node}
 use Rattle.lowering.proofs.All.{AllItems}
@@ -10,7 +9,6 @@ use Rattle.lowering.specs.Parts.{is}
 use Rattle.walk.specs.Whole.{GoodItems, Good}
 use Rattle.walk.specs.Run.{going_of}
 use Rattle.walk.specs.Turns.{key_of}
-use Rattle.walk.proofs.Opened.{kind_byte}
 use Rattle.walk.proofs.Hands as law
 use Rattle.walk.proofs.hand.keys_in.Given as goal
 

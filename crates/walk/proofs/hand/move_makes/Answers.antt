@@ -1,7 +1,6 @@
 use mathlib.Core.Path.{refl}
 use Rattle.walk.proofs.HandMoves as law
 use Rattle.walk.proofs.Emits.{good_none}
-use borrow.Author.Rules.{rules}
 use Rattle.walk.proofs.hand.move_makes.Goals as goal
 
 pub returns-then-left-eq0 : goal.returns-then-left-eq0

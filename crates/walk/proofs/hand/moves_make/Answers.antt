@@ -1,17 +1,5 @@
-use mathlib.Core.Path.{◌≡◌, refl, ◌∙◌}
-use mathlib.Core.Bool.{true, false}
-use mathlib.Core.List.{List}
-use Prim.Native.Nat.{ℕ}
+use mathlib.Core.Path.{refl, ◌∙◌}
 use native.Mathlib.Omega.{arith}
-use lib.ListN.{length}
-use Rattle.tree.specs.Look.{look_items, look_node}
-use Rattle.direct.specs.Emit.{say}
-use Rattle.direct.specs.Moved as moved
-use Rattle.lowering.specs.Heads.{moved_from}
-use Rattle.walk.specs.declared.modes.Mode.TheVariants as modes
-use Rattle.walk.specs.Whole.{GoodItems, Good}
-use Rattle.walk.specs.Run.{going_of}
-use Rattle.walk.specs.Turns.{suits, AllSuit}
 use Rattle.walk.proofs.Running.{does_as}
 use Rattle.walk.proofs.HandMoves as law
 use Rattle.walk.proofs.Hands as hands

@@ -1,8 +1,7 @@
-use mathlib.Core.Path.{◌≡◌, refl, ◌∙◌}
+use mathlib.Core.Path.{◌≡◌}
 use mathlib.Core.Bool.{true, false}
 use mathlib.Core.List.{List}
 use Prim.Native.Nat.{ℕ}
-use native.Mathlib.Omega.{arith}
 use lib.ListN.{length}
 use Rattle.tree.specs.Look.{look_items, look_node}
 use Rattle.direct.specs.Emit.{say}
@@ -12,8 +11,6 @@ use Rattle.walk.specs.declared.modes.Mode.TheVariants as modes
 use Rattle.walk.specs.Whole.{GoodItems, Good}
 use Rattle.walk.specs.Run.{going_of}
 use Rattle.walk.specs.Turns.{suits, AllSuit}
-use Rattle.walk.proofs.Running.{does_as}
-use Rattle.walk.proofs.HandMoves as law
 use Rattle.walk.proofs.Hands as hands
 use Rattle.walk.proofs.hand.moves_make.Given as goal
 

@@ -1,7 +1,6 @@
 use Rattle.walk.proofs.Running.{runs_does}
 use mathlib.Core.Path.{◌∙◌}
 use Rattle.walk.proofs.HandRules as law
-use borrow.Author.Rules.{rules}
 use Rattle.walk.proofs.hand.nested_hands.Goals as goal
 
 pub returns-in-Replacing : goal.returns-in-Replacing

@@ -1,6 +1,5 @@
 use Rattle.walk.proofs.Running.{runs_does}
 use Rattle.walk.proofs.HandKeys as law
-use borrow.Author.Rules.{rules}
 use Rattle.walk.proofs.hand.object.Goals as goal
 
 pub returns-in-Place : goal.returns-in-Place

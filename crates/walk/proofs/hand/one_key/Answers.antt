@@ -1,7 +1,6 @@
 use Rattle.walk.proofs.Running.{runs_does}
 use mathlib.Core.Path.{refl, ◌∙◌}
 use Rattle.walk.proofs.HandKeys as law
-use borrow.Author.Rules.{rules}
 use Rattle.walk.proofs.hand.one_key.Goals as goal
 
 pub returns-then-is_other : goal.returns-then-is_other

@@ -1,6 +1,5 @@
 use mathlib.Core.Path.{◌∙◌}
 use Rattle.walk.proofs.HandRules as law
-use borrow.Author.Rules.{rules}
 use Rattle.walk.proofs.hand.pattern_makes.Goals as goal
 
 pub returns : goal.returns

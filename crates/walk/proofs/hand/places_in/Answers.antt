@@ -1,5 +1,4 @@
 use Rattle.walk.proofs.HandRules as law
-use borrow.Author.Rules.{rules}
 use Rattle.walk.proofs.hand.places_in.Goals as goal
 
 pub returns-in-Replacing : goal.returns-in-Replacing

@@ -1,5 +1,4 @@
 use Rattle.walk.proofs.Hands as law
-use borrow.Author.Rules.{rules}
 use Rattle.walk.proofs.hand.replaces.Goals as goal
 
 pub returns-in-Replacing : goal.returns-in-Replacing

@@ -1,7 +1,6 @@
 use Rattle.walk.proofs.TargetCounts.{values_below}
 use native.Mathlib.Omega.{arith}
 use Rattle.walk.proofs.HandRules as law
-use borrow.Author.Rules.{rules}
 use Rattle.walk.proofs.hand.top_count.Goals as goal
 
 pub overflow_add-result : goal.overflow_add-result

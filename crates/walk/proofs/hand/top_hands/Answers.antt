@@ -3,7 +3,6 @@ use mathlib.Core.Path.{◌∙◌}
 use native.Mathlib.Omega.{arith}
 use Rattle.pattern.proofs.CountsFit.{limited_below}
 use Rattle.walk.proofs.HandRules as law
-use borrow.Author.Rules.{rules}
 use Rattle.walk.proofs.hand.top_hands.Goals as goal
 
 pub overflow_add-n : goal.overflow_add-n

@@ -1,8 +1,6 @@
 use native.Mathlib.Omega.{arith}
 use mathlib.Core.Path.{refl, ◌∙◌}
 use Rattle.walk.proofs.LiteralHeads as law
-use Prim.Native.Nat.{ℕ}
-use Rattle.tree.proofs.Cycle.{at_measure, below_measure}
 use Rattle.walk.proofs.literal.+inner_heads.Goals as goal
 
 pub returns-then-n-eq0 : goal.returns-then-n-eq0

@@ -1,8 +1,7 @@
 use mathlib.Core.Bool.{false}
-use Rattle.direct.specs.Literals.{mode_after}
-use Rattle.tree.specs.Look.{look_items, look_node}
+use Rattle.tree.specs.Look.{look_node}
 use native.Mathlib.Omega.{arith}
-use mathlib.Core.Path.{◌≡◌, refl, ◌∙◌}
+use mathlib.Core.Path.{refl, ◌∙◌}
 use Rattle.tree.proofs.Skipping as skipping
 use Rattle.walk.proofs.LiteralHeads as law
 use Rattle.walk.proofs.literal.after.Goals as goal

@@ -1,10 +1,7 @@
 use mathlib.Core.Bool.{false}
 use Rattle.direct.specs.Literals.{mode_after}
 use Rattle.tree.specs.Look.{look_items, look_node}
-use native.Mathlib.Omega.{arith}
-use mathlib.Core.Path.{◌≡◌, refl, ◌∙◌}
-use Rattle.tree.proofs.Skipping as skipping
-use Rattle.walk.proofs.LiteralHeads as law
+use mathlib.Core.Path.{◌≡◌}
 use Rattle.walk.proofs.literal.after.Given as goal
 
 abbrev pub invariant-loop-n : goal.invariant-loop-n

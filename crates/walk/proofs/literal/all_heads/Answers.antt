@@ -1,6 +1,5 @@
 use mathlib.Core.Path.{◌∙◌}
 use Rattle.walk.proofs.LiteralHeads as law
-use borrow.Author.Rules.{rules}
 use Rattle.walk.proofs.literal.all_heads.Goals as goal
 
 pub returns-then-a-eq-SOME_PENDING : goal.returns-then-a-eq-SOME_PENDING

@@ -1,5 +1,4 @@
 use Rattle.walk.proofs.LiteralHeads as law
-use borrow.Author.Rules.{rules}
 use Rattle.walk.proofs.literal.has_first.Goals as goal
 
 pub returns : goal.returns

@@ -1,6 +1,5 @@
 use mathlib.Core.Path.{refl}
 use Rattle.walk.proofs.LiteralHeads as law
-use borrow.Author.Rules.{rules}
 use Rattle.walk.proofs.literal.head_at.Goals as goal
 
 pub returns-then-mode-eq-SOME_PENDING : goal.returns-then-mode-eq-SOME_PENDING

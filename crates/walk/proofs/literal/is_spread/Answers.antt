@@ -1,5 +1,4 @@
 use Rattle.walk.proofs.LiteralHeads as law
-use borrow.Author.Rules.{rules}
 use Rattle.walk.proofs.literal.is_spread.Goals as goal
 
 pub returns-then-left-eq0 : goal.returns-then-left-eq0

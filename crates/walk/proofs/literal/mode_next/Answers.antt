@@ -1,5 +1,4 @@
 use Rattle.walk.proofs.LiteralHeads as law
-use borrow.Author.Rules.{rules}
 use Rattle.walk.proofs.literal.mode_next.Goals as goal
 
 pub returns-then-is_spread : goal.returns-then-is_spread

@@ -1,6 +1,5 @@
 use mathlib.Core.Path.{refl, ◌∙◌}
 use Rattle.walk.proofs.LiteralHeads as law
-use borrow.Author.Rules.{rules}
 use Rattle.walk.proofs.literal.pending.Goals as goal
 
 pub returns-then-n-eq0 : goal.returns-then-n-eq0

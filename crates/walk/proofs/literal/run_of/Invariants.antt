@@ -1,11 +1,8 @@
 use Prim.Native.Nat.{◌+◌}
 use mathlib.Core.Bool.{false}
 use Rattle.direct.specs.Literals.{run}
-use borrow.Author.Rules.{rules}
 use Rattle.tree.specs.Look.{look_items, look_node}
-use native.Mathlib.Omega.{arith}
-use mathlib.Core.Path.{◌≡◌, ◌∙◌}
-use Rattle.walk.proofs.LiteralHeads as law
+use mathlib.Core.Path.{◌≡◌}
 use Rattle.walk.proofs.literal.run_of.Given as goal
 
 abbrev pub invariant-loop-n : goal.invariant-loop-n

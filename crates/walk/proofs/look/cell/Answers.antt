@@ -1,5 +1,4 @@
 use Rattle.walk.proofs.Lookups as law
-use borrow.Author.Rules.{rules}
 use Rattle.walk.proofs.look.cell.Goals as goal
 
 pub returns-then-stem-eq-EXCLUDED : goal.returns-then-stem-eq-EXCLUDED

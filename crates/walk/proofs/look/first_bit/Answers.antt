@@ -1,5 +1,4 @@
 use Rattle.walk.proofs.Lookups as law
-use borrow.Author.Rules.{rules}
 use Rattle.walk.proofs.look.first_bit.Goals as goal
 
 pub returns : goal.returns

@@ -1,5 +1,4 @@
 use Rattle.walk.proofs.Lookups as law
-use borrow.Author.Rules.{rules}
 use Rattle.walk.proofs.look.hoisted.Goals as goal
 
 pub returns-then-root : goal.returns-then-root

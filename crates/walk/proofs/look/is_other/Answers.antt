@@ -1,5 +1,4 @@
 use Rattle.walk.proofs.Lookups as law
-use borrow.Author.Rules.{rules}
 use Rattle.walk.proofs.look.is_other.Goals as goal
 
 pub returns-in-AsString : goal.returns-in-AsString

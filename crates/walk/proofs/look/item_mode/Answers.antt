@@ -1,5 +1,4 @@
 use Rattle.walk.proofs.Lookups as law
-use borrow.Author.Rules.{rules}
 use Rattle.walk.proofs.look.item_mode.Goals as goal
 
 pub returns-in-Found : goal.returns-in-Found

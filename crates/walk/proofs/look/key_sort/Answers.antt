@@ -1,5 +1,4 @@
 use Rattle.walk.proofs.Lookups as law
-use borrow.Author.Rules.{rules}
 use Rattle.walk.proofs.look.key_sort.Goals as goal
 
 pub returns-then-peek-eq-STATIC_KEY : goal.returns-then-peek-eq-STATIC_KEY

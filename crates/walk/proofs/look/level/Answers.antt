@@ -1,5 +1,4 @@
 use Rattle.walk.proofs.Lookups as law
-use borrow.Author.Rules.{rules}
 use Rattle.walk.proofs.look.level.Goals as goal
 
 pub returns-then-left-eq0 : goal.returns-then-left-eq0

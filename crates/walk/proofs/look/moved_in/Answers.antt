@@ -1,4 +1,3 @@
-use native.Mathlib.Omega.{arith}
 use Rattle.walk.proofs.Lookups as law
 use Rattle.walk.proofs.look.moved_in.Goals as goal
 

@@ -1,4 +1,3 @@
-use borrow.Author.Rules.{rules}
 use Rattle.walk.proofs.Viewing.{replaces_yes, replaces_not}
 use Rattle.walk.proofs.look.replaces.Goals as goal
 

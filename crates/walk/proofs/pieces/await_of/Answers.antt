@@ -1,5 +1,4 @@
 use Rattle.walk.proofs.SourcesRead as law
-use borrow.Author.Rules.{rules}
 use Rattle.walk.proofs.pieces.await_of.Goals as goal
 
 pub returns-then-peek-eq1 : goal.returns-then-peek-eq1

@@ -1,6 +1,5 @@
 use mathlib.Core.Path.{◌∙◌}
 use Rattle.walk.proofs.SourcesRead as law
-use borrow.Author.Rules.{rules}
 use Rattle.walk.proofs.pieces.hole.Goals as goal
 
 pub returns-then-writes_holes : goal.returns-then-writes_holes

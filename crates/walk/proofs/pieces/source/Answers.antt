@@ -1,5 +1,4 @@
 use Rattle.walk.proofs.SourcesRead as law
-use borrow.Author.Rules.{rules}
 use Rattle.walk.proofs.pieces.source.Goals as goal
 
 pub returns-in-Expression : goal.returns-in-Expression

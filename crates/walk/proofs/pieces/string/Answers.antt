@@ -1,6 +1,5 @@
 use mathlib.Core.Path.{refl}
 use Rattle.walk.proofs.SourcesRead as law
-use borrow.Author.Rules.{rules}
 use Rattle.walk.proofs.pieces.string.Goals as goal
 
 pub returns-in-Name : goal.returns-in-Name

@@ -1,3 +1,4 @@
+use native.Mathlib.Omega.{arith}
 use mathlib.Core.Path.{sym, ap}
 use Rattle.lowering.specs.Collect.{is_container}
 use Rattle.walk.proofs.Emits as law
@@ -25,4 +26,4 @@ returns-in-44 c = ap is_container (sym c.in-44.is)
 
 pub returns-in_default : goal.returns-in_default
 unfolding is_container
-returns-in_default c = let n = c.in_default.in_default-own.rest in law.no_container _ n.0.0.0.0.1 n.0.0.0.1 n.0.0.1 n.0.1 n.1
+returns-in_default c = law.no_container c.args.kind (omega arith) (omega arith) (omega arith) (omega arith) (omega arith)

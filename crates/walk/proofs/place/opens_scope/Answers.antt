@@ -1,3 +1,4 @@
+use native.Mathlib.Omega.{arith}
 use mathlib.Core.Path.{sym, ap}
 use Rattle.lowering.specs.Walk.{opens_scope}
 use Rattle.walk.proofs.Emits as law
@@ -45,5 +46,4 @@ returns-in-43 c = ap (λ k. opens_scope k c.args.field) (sym c.in-43.is)
 
 pub returns-in_default : goal.returns-in_default
 unfolding opens_scope
-returns-in_default c = let n = c.in_default.in_default-own.rest in
-    law.no_scope _ c.args.field n.0.0.0.0.0.0.0.0.0.1 n.0.0.0.0.0.0.0.0.1 n.0.0.0.0.0.0.0.1 n.0.0.0.0.0.0.1 n.0.0.0.0.0.1 n.0.0.0.0.1 n.0.0.0.1 n.0.0.1 n.0.1 n.1
+returns-in_default c = law.no_scope c.args.kind c.args.field (omega arith) (omega arith) (omega arith) (omega arith) (omega arith) (omega arith) (omega arith) (omega arith) (omega arith) (omega arith)

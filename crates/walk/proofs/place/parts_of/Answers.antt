@@ -1,6 +1,5 @@
 use mathlib.Core.Path.{refl}
 use Rattle.walk.proofs.Emits as law
-use borrow.Author.Rules.{rules}
 use Rattle.walk.proofs.place.parts_of.Goals as goal
 
 pub returns : goal.returns

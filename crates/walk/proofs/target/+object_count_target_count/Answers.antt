@@ -1,16 +1,12 @@
 -- ---- the values of an object
 -- ---- a target
 use mathlib.Core.Bool.{true}
-use mathlib.Core.Logic.{⊎_elim}
 use mathlib.Core.Path.{sym, ◌∙◌}
 use native.Mathlib.Omega.{arith}
 use Rattle.pattern.proofs.NodeParts as places
 use Rattle.pattern.proofs.Searches as search
-use Rattle.walk.specs.Turns.{reach_of}
 use Rattle.walk.proofs.Lookups.{denied, undenied}
 use Rattle.walk.proofs.TargetCounts as law
-use Prim.Native.Nat.{ℕ, ◌+◌, ◌*◌}
-use Rattle.tree.proofs.Cycle.{at_measure, below_measure}
 use Rattle.walk.proofs.target.+object_count_target_count.Goals as goal
 use Rattle.walk.proofs.target.+object_count_target_count.Goals.{object_count-else-peek-gt-LAST_EXPRESSION, object_count-then-peek-gt-LAST_EXPRESSION}
 
@@ -60,4 +56,4 @@ pub target_count-returns-in-37 : goal.target_count-returns-in-37
 target_count-returns-in-37 t c = law.count_left _ _ _ _ _ c.if-left-eq0.false c.peek-kind.ensures.value _ _ c.in-37.is c.child-l.ensures c.target_count-in-37.ensures
 
 pub target_count-returns-in_default : goal.target_count-returns-in_default
-target_count-returns-in_default t c = law.count_other _ _ _ _ _ c.if-left-eq0.false c.peek-kind.ensures.value c.in_default.in_default-own.rest.0.0.1 c.in_default.in_default-own.rest.0.1 c.in_default.in_default-own.rest.1
+target_count-returns-in_default t c = law.count_other _ _ _ _ _ c.if-left-eq0.false c.peek-kind.ensures.value (omega arith) (omega arith) (omega arith)

@@ -1,14 +1,6 @@
-use mathlib.Core.Bool.{true}
-use mathlib.Core.Logic.{⊎_elim}
-use mathlib.Core.Path.{sym, ◌∙◌}
-use native.Mathlib.Omega.{arith}
-use Rattle.pattern.proofs.NodeParts as places
-use Rattle.pattern.proofs.Searches as search
 use Rattle.walk.specs.Turns.{reach_of}
-use Rattle.walk.proofs.Lookups.{denied, undenied}
 use Rattle.walk.proofs.TargetCounts as law
-use Prim.Native.Nat.{ℕ, ◌+◌, ◌*◌}
-use Rattle.tree.proofs.Cycle.{at_measure, below_measure}
+use Prim.Native.Nat.{◌+◌, ◌*◌}
 use Rattle.walk.proofs.target.+object_count_target_count.Given as goal
 
 abbrev pub invariant-object_count-loop-n : goal.invariant-object_count-loop-n

@@ -1,23 +1,13 @@
 -- ---- an item, or any target
 -- ---- an object
 -- ---- a property
-use borrow.Author.Rules.{rules}
-use mathlib.Core.Path.{◌≡◌, refl, ◌∙◌}
-use mathlib.Core.List.{List}
+use mathlib.Core.Path.{refl, ◌∙◌}
 use native.Mathlib.Omega.{arith}
-use lib.ListN.{length}
-use Prim.Native.Nat.{ℕ}
-use Rattle.walk.specs.Run.{going_of}
 use Rattle.walk.proofs.Running.{runs_does}
 use Rattle.walk.proofs.Emits.{good_none}
 use Rattle.walk.proofs.Lookups.{denied, undenied}
 use Rattle.walk.proofs.TargetWalk as law
 use Rattle.walk.proofs.QuietValues as quiets
-use Rattle.tree.proofs.Cycle.{at_measure, below_measure}
-use Rattle.walk.proofs.target.target_item as target-item
-use Rattle.walk.proofs.target.target_object as target-object
-use Rattle.walk.proofs.target.target_property as target-property
-use Rattle.walk.proofs.target.+target_item_target_object_target_property as cycle
 use Rattle.walk.proofs.target.+target_item_target_object_target_property.Goals as goal
 
 pub target_item-returns-then-left-eq0 : goal.target_item-returns-then-left-eq0
@@ -56,7 +46,7 @@ pub target_item-returns-in-37 : goal.target_item-returns-in-37
 target_item-returns-in-37 t c = (c.target_item.ensures.0, λ o h g. law.item_solid _ _ _ _ _ c.peek-kind.ensures.value (law.no_zero _ _ c.in-37.is (omega arith)) (law.by_default _ _ _ _ _ _ refl c.peek-kind.ensures.value _ c.in-37.is c.step.ensures (c.target_item.ensures.1 o)) h g)
 
 pub target_item-returns-in_default : goal.target_item-returns-in_default
-target_item-returns-in_default t c = (refl, λ o h g. law.item_else _ _ _ _ (law.by_leaf _ _ _ _ _ _ refl c.peek-kind.ensures.value c.in_default.in_default-own.rest.0.0.1 c.in_default.in_default-own.rest.0.1 c.in_default.in_default-own.rest.1) h g)
+target_item-returns-in_default t c = (refl, λ o h g. law.item_else _ _ _ _ (law.by_leaf _ _ _ _ _ _ refl c.peek-kind.ensures.value (omega arith) (omega arith) (omega arith)) h g)
 
 pub target_object-returns-then-not-counts : goal.target_object-returns-then-not-counts
 target_object-returns-then-not-counts t c = (refl, λ o g k. law.object_passed _ _ _ _ _ c.has_second.ensures c.if-has_second.true (denied _ _ c.counts.ensures c.if-not-counts.true) g k)
@@ -129,4 +119,4 @@ pub target_property-returns-in-37 : goal.target_property-returns-in-37
 target_property-returns-in-37 t c = (c.target_item.ensures.0, λ o g k. law.property_by _ _ _ _ _ _ c.step.ensures c.skip-x.ensures (law.by_default _ _ _ _ _ _ refl c.peek-kind.ensures.value _ c.in-37.is c.step-in-37.ensures (c.target_item.ensures.1 o)) g k)
 
 pub target_property-returns-in_default : goal.target_property-returns-in_default
-target_property-returns-in_default t c = (refl, λ o g k. law.property_by _ _ _ _ _ _ c.step.ensures c.skip-x.ensures (law.by_leaf _ _ _ _ _ _ refl c.peek-kind.ensures.value c.in_default.in_default-own.rest.0.0.1 c.in_default.in_default-own.rest.0.1 c.in_default.in_default-own.rest.1) g k)
+target_property-returns-in_default t c = (refl, λ o g k. law.property_by _ _ _ _ _ _ c.step.ensures c.skip-x.ensures (law.by_leaf _ _ _ _ _ _ refl c.peek-kind.ensures.value (omega arith) (omega arith) (omega arith)) g k)

@@ -1,20 +1,9 @@
-use borrow.Author.Rules.{rules}
-use mathlib.Core.Path.{◌≡◌, refl, ◌∙◌}
+use mathlib.Core.Path.{◌≡◌}
 use mathlib.Core.List.{List}
-use native.Mathlib.Omega.{arith}
 use lib.ListN.{length}
 use Prim.Native.Nat.{ℕ}
 use Rattle.walk.specs.Run.{going_of}
-use Rattle.walk.proofs.Running.{runs_does}
-use Rattle.walk.proofs.Emits.{good_none}
-use Rattle.walk.proofs.Lookups.{denied, undenied}
 use Rattle.walk.proofs.TargetWalk as law
-use Rattle.walk.proofs.QuietValues as quiets
-use Rattle.tree.proofs.Cycle.{at_measure, below_measure}
-use Rattle.walk.proofs.target.target_item as target-item
-use Rattle.walk.proofs.target.target_object as target-object
-use Rattle.walk.proofs.target.target_property as target-property
-use Rattle.walk.proofs.target.+target_item_target_object_target_property as cycle
 use Rattle.walk.proofs.target.+target_item_target_object_target_property.Given as goal
 
 abbrev pub invariant-target_item-loop-n : goal.invariant-target_item-loop-n

@@ -1,5 +1,4 @@
 use Rattle.walk.proofs.TargetCounts as law
-use borrow.Author.Rules.{rules}
 use Rattle.walk.proofs.target.found.Goals as goal
 
 pub returns-then-counts : goal.returns-then-counts

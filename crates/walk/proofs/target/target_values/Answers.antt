@@ -1,11 +1,6 @@
-use mathlib.Core.Path.{◌≡◌, refl, ◌∙◌}
-use mathlib.Core.List.{List}
+use mathlib.Core.Path.{refl, ◌∙◌}
 use native.Mathlib.Omega.{arith}
-use lib.ListN.{length}
-use Prim.Native.Nat.{ℕ}
-use Rattle.walk.specs.Run.{going_of}
 use Rattle.walk.proofs.TargetWalk as law
-use borrow.Author.Rules.{rules}
 use Rattle.walk.proofs.target.target_values.Goals as goal
 
 pub loop-n-init : goal.loop-n-init

@@ -1,11 +1,9 @@
-use mathlib.Core.Path.{◌≡◌, refl, ◌∙◌}
+use mathlib.Core.Path.{◌≡◌}
 use mathlib.Core.List.{List}
-use native.Mathlib.Omega.{arith}
 use lib.ListN.{length}
 use Prim.Native.Nat.{ℕ}
 use Rattle.walk.specs.Run.{going_of}
 use Rattle.walk.proofs.TargetWalk as law
-use borrow.Author.Rules.{rules}
 use Rattle.walk.proofs.target.target_values.Given as goal
 
 abbrev pub invariant-loop-n : goal.invariant-loop-n

@@ -1,6 +1,5 @@
 use Rattle.walk.proofs.SmallSteps as steps
 use mathlib.Core.Path.{refl}
-use borrow.Author.Rules.{rules}
 use Rattle.walk.proofs.walk.Walk.block.Goals as goal
 
 pub returns : goal.returns

@@ -1,6 +1,5 @@
 use mathlib.Core.Path.{refl}
 use Rattle.walk.proofs.Running as law
-use borrow.Author.Rules.{rules}
 use Rattle.walk.proofs.walk.Walk.call.Goals as goal
 
 pub returns : goal.returns

@@ -1,7 +1,5 @@
 use Rattle.walk.proofs.SmallSteps as steps
-use native.Mathlib.Omega.{arith}
 use mathlib.Core.Path.{◌∙◌}
-use borrow.Author.Rules.{rules}
 use Rattle.walk.proofs.walk.Walk.empty_rest.Goals as goal
 
 pub returns : goal.returns

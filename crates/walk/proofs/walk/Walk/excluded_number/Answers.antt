@@ -1,4 +1,3 @@
-use borrow.Author.Rules.{rules}
 use Rattle.walk.proofs.SourcesRead as law
 use Rattle.walk.proofs.walk.Walk.excluded_number.Goals as goal
 

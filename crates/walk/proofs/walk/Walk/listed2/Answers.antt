@@ -1,7 +1,6 @@
 use mathlib.Core.List.{◌∷◌, []}
 use Rattle.walk.proofs.SmallSteps as steps
 use mathlib.Core.Path.{refl}
-use borrow.Author.Rules.{rules}
 use Rattle.walk.proofs.walk.Walk.listed2.Goals as goal
 
 pub returns : goal.returns

@@ -1,6 +1,5 @@
 use Rattle.walk.proofs.Running as law
 use mathlib.Core.Path.{refl}
-use borrow.Author.Rules.{rules}
 use Rattle.walk.proofs.walk.Walk.new_mark.Goals as goal
 
 pub returns : goal.returns

@@ -2,7 +2,6 @@ use mathlib.Core.Path.{sym, ap, ◌∙◌}
 use mathlib.Core.Bool.{Bool, ◌&&◌}
 use lib.Dec.{ltb}
 use Rattle.sink.specs.Machine.{tree_limit}
-use borrow.Author.Rules.{rules}
 use Rattle.walk.proofs.walk.Walk.passes.Goals as goal
 
 pub returns-then-again : goal.returns-then-again

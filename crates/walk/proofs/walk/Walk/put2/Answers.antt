@@ -1,7 +1,6 @@
 use mathlib.Core.List.{◌∷◌, []}
 use mathlib.Core.Path.{refl}
 use Rattle.walk.proofs.Running as law
-use borrow.Author.Rules.{rules}
 use Rattle.walk.proofs.walk.Walk.put2.Goals as goal
 
 pub returns : goal.returns
