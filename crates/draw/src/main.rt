@@ -4,7 +4,7 @@
 
 ghost use Rattle.std.specs.Prelude.{◌≡◌};
 
-use std::env;
+use std::env::{Env, FillError};
 
 // Standard output.
 const STDOUT_FILENO: i32 = 1;
@@ -74,14 +74,7 @@ fn usage() {
     say(b"usage: draw SEED, a decimal number below 4294967296\n");
 }
 
-// The longest argument that is read as a seed.
-const DIGITS: usize = 10;
-
 fn drawn(text: &[u8]) {
-    if DIGITS < text.len() {
-        usage();
-        return;
-    }
     match seed_of(text) {
         Seed::Given(seed) => {
             let mut out = [0u8; 16384];
@@ -91,16 +84,11 @@ fn drawn(text: &[u8]) {
     }
 }
 
-fn main(rt: HostRuntime) -> std::io::Result<()> {
-    match env::args(&rt) {
-        Ok(mut args) => {
-            args.next();
-            match (args.next(), args.next()) {
-                (Some(text), None) => drawn(text.as_bytes()),
-                _ => usage(),
-            }
-        }
-        Err(_) => usage(),
+fn main(rt: HostRuntime) {
+    let mut text = [0u8; 10];
+    let mut none = [0u8; 0];
+    match (rt.arg(1, &mut text), rt.arg(2, &mut none)) {
+        (Ok(n), Err(FillError::NotPresent)) => drawn(&text[..n]),
+        _ => usage(),
     }
-    Ok(())
 }

@@ -58,7 +58,7 @@ module _ {A : Type 0} (x a b : A) where
   pub when_no : (t : Bool) → t ≡ false → x ≡ b → x ≡ cond t a b
   when_no t e h = rw e h
 
--- a test that was denied
+-- a test and the bool that it gives
 module _ (b x : Bool) (e : b ≡ x) where
   pub denied : b ≡ false → x ≡ false
   denied h = sym e ∙ h
