@@ -1,26 +1,17 @@
 -- where the walk stands, the builder that is handed back, and what is done
 -- the target without its rest is below an object that is found, so the rank goes by the view
 -- the properties of a view, by what was seen of its rest, ask for themselves
-use Prim.Native.Nat.{ℕ, ◌<◌, ◌≤◌, ◌+◌, ◌*◌}
-use Rattle.tree.proofs.Cycle.{at_measure, below_measure}
-use lib.ListN.{length}
-use borrow.Author.Rules.{rules}
+use Prim.Native.Nat.{ℕ, ◌<◌, ◌≤◌}
 use native.Mathlib.Omega.{arith}
 use mathlib.Core.Bool.{true, false, false≢true}
-use mathlib.Core.Logic.{⊎_elim}
 use mathlib.Core.Path.{◌≡◌, refl, sym, ap, ◌∙◌}
-use Rattle.walk.specs.Whole.{place_of, hole_at, GoodItems, GoodFields, Good}
-use Rattle.walk.specs.Run.{going_of}
-use Rattle.direct.specs.Emit.{emits_items, emits_fields}
-use Rattle.tree.specs.Look.{look_items, look_fields, look_node}
-use Rattle.tree.specs.Rows.{fields_in_of}
-use Rattle.walk.specs.Turns.{AllSuit, is_told, told_place}
+use Rattle.walk.specs.Whole.{hole_at}
+use Rattle.walk.specs.Turns.{is_told}
 use Rattle.walk.proofs.Running.{does_nothing, runs_does}
 use Rattle.walk.specs.declared.views.View as views
 use Rattle.walk.specs.declared.views.View.TheVariants.{Replacing, Taking}
 use Rattle.tree.proofs.Skipping.{node_none}
 use Rattle.walk.proofs.Emits.{good_none}
-use Rattle.direct.specs.Literals as literals
 use Rattle.walk.proofs.SpreadArguments as args
 use Rattle.walk.proofs.SmallSteps as steps
 use Rattle.walk.proofs.LiteralHeads as heads
@@ -46,63 +37,6 @@ use Rattle.emit.proofs.Finding as finding
 use Rattle.emit.proofs.Declaring as declaring
 use Rattle.pattern.proofs.SourceReads as reading
 use Rattle.pattern.specs.Source.{read_of}
-use Rattle.emit.proofs.add as add
-use Rattle.emit.proofs.ta as ta
-use Rattle.emit.proofs.ar as ar
-use Rattle.emit.proofs.ag as ag
-use Rattle.emit.proofs.an as an
-use Rattle.emit.proofs.ba as ba
-use Rattle.emit.proofs.bi as bi
-use Rattle.emit.proofs.bl as bl
-use Rattle.emit.proofs.body as body
-use Rattle.emit.proofs.ca as ca
-use Rattle.emit.proofs.da as da
-use Rattle.emit.proofs.decl as decl
-use Rattle.emit.proofs.deep as deep
-use Rattle.emit.proofs.dh as dh
-use Rattle.emit.proofs.db as db
-use Rattle.emit.proofs.dr as dr
-use Rattle.emit.proofs.eb as eb
-use Rattle.emit.proofs.ek as ek
-use Rattle.emit.proofs.fs as fs
-use Rattle.emit.proofs.fb as fb
-use Rattle.emit.proofs.fun as fun
-use Rattle.emit.proofs.gv as gv
-use Rattle.emit.proofs.go as go
-use Rattle.emit.proofs.head as head
-use Rattle.emit.proofs.item as item
-use Rattle.emit.proofs.items as items
-use Rattle.emit.proofs.key as key
-use Rattle.emit.proofs.keys as keys
-use Rattle.emit.proofs.kv as kv
-use Rattle.emit.proofs.lit as lit
-use Rattle.emit.proofs.lo as lo
-use Rattle.emit.proofs.mv as mv
-use Rattle.emit.proofs.node as node
-use Rattle.emit.proofs.ns as ns
-use Rattle.emit.proofs.oa as oa
-use Rattle.emit.proofs.os as os
-use Rattle.emit.proofs.own as own
-use Rattle.emit.proofs.pa as pa
-use Rattle.emit.proofs.plain as plain
-use Rattle.emit.proofs.pr as pr
-use Rattle.emit.proofs.prop as prop
-use Rattle.emit.proofs.pt as pt
-use Rattle.emit.proofs.ps as ps
-use Rattle.emit.proofs.read as read
-use Rattle.emit.proofs.rest as rest
-use Rattle.emit.proofs.seq as seq
-use Rattle.emit.proofs.slot as slot
-use Rattle.emit.proofs.tb as tb
-use Rattle.emit.proofs.tg as tg
-use Rattle.emit.proofs.th as th
-use Rattle.emit.proofs.top as top
-use Rattle.emit.proofs.turn as turn
-use Rattle.emit.proofs.vl as vl
-use Rattle.emit.proofs.va as va
-use Rattle.emit.proofs.view as view
-use Rattle.emit.proofs.vo as vo
-use Rattle.emit.proofs.+add_ag_an_ar_ba_bi_bl_body_ca_da_db_decl_deep_dh_dr_eb_ek_fb_fs_fun_go_gv_head_item_items_key_keys_kv_lit_lo_mv_node_ns_oa_os_own_pa_plain_pr_prop_ps_pt_read_rest_seq_slot_ta_tb_tg_th_top_turn_va_view_vl_vo as cycle
 use Rattle.emit.proofs.+add_ag_an_ar_ba_bi_bl_body_ca_da_db_decl_deep_dh_dr_eb_ek_fb_fs_fun_go_gv_head_item_items_key_keys_kv_lit_lo_mv_node_ns_oa_os_own_pa_plain_pr_prop_ps_pt_read_rest_seq_slot_ta_tb_tg_th_top_turn_va_view_vl_vo.Goals as goal
 use Rattle.emit.proofs.+add_ag_an_ar_ba_bi_bl_body_ca_da_db_decl_deep_dh_dr_eb_ek_fb_fs_fun_go_gv_head_item_items_key_keys_kv_lit_lo_mv_node_ns_oa_os_own_pa_plain_pr_prop_ps_pt_read_rest_seq_slot_ta_tb_tg_th_top_turn_va_view_vl_vo.Goals.{an-else-peek-eq-OBJECT_PATTERN, an-then-peek-eq-OBJECT_PATTERN+else-has_second, fun-else-any_moved, fun-then-any_moved+else-stands, item-else-holes, item-then-holes+else-peek-eq0, key-else-taken, key-then-taken+else-is_other, turn-else-holes, turn-then-holes+else-peek-eq0, vo-else-rest, vo-then-rest+else-replaces}
 
