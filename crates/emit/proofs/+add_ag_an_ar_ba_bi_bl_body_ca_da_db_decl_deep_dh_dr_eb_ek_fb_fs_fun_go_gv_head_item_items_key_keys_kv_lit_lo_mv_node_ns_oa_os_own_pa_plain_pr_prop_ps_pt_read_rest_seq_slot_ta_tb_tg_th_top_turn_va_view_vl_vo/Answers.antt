@@ -137,7 +137,7 @@ pub bl-returns-in-13 : goal.bl-returns-in-13
 bl-returns-in-13 t c = looping.moves_empty _ _ _ _ _ _ _ _ _ _ _ _ _ _ c.level-under.ensures.0 c.moved_in-more.ensures c.peek-kind.ensures c.in-13.is c.scoped-in-13.ensures.0 c.scoped-in-13.ensures.1 c.skip.ensures c.to-in-13.ensures.1 (c.to-in-13.ensures.0 _ _ _) (steps.does_block _ (c.block.ensures.0 _ _)) c.ba-u-in-13.ensures
 
 pub bl-returns-in_default : goal.bl-returns-in_default
-bl-returns-in_default t c = looping.moves_statement _ _ _ _ _ _ _ _ _ _ _ _ _ _ _ _ c.level-under.ensures.0 c.moved_in-more.ensures c.peek-kind.ensures c.in_default.in_default-own.rest.0.1 c.in_default.in_default-own.rest.1 c.scoped-in_default.ensures.0 c.scoped-in_default.ensures.1 c.scoped-in_default-2.ensures.0 c.scoped-in_default-2.ensures.1 c.to-in_default.ensures.1 (c.to-in_default.ensures.0 _ _ _) (steps.does_block _ (c.block-in_default.ensures.0 _ _)) c.ba-u-in_default.ensures c.item.ensures
+bl-returns-in_default t c = looping.moves_statement _ _ _ _ _ _ _ _ _ _ _ _ _ _ _ _ c.level-under.ensures.0 c.moved_in-more.ensures c.peek-kind.ensures (omega arith) (omega arith) c.scoped-in_default.ensures.0 c.scoped-in_default.ensures.1 c.scoped-in_default-2.ensures.0 c.scoped-in_default-2.ensures.1 c.to-in_default.ensures.1 (c.to-in_default.ensures.0 _ _ _) (steps.does_block _ (c.block-in_default.ensures.0 _ _)) c.ba-u-in_default.ensures c.item.ensures
 
 pub body-returns-then-c-eq0 : goal.body-returns-then-c-eq0
 body-returns-then-c-eq0 t c = λ k s good items binds. law.good_none _ _ _ c.if-c-eq0.true good
@@ -209,7 +209,7 @@ pub deep-returns-in-37 : goal.deep-returns-in-37
 deep-returns-in-37 t c = finding.deep_default _ _ _ _ _ _ _ _ _ _ _ _ _ _ c.peek-kind.ensures.value c.in-37.is c.less-left.ensures c.under.ensures.1 (told.with_same _ c.under.ensures.0) c.step.ensures c.to-u.ensures.1 (c.to-u.ensures.0 _ _ _) c.deep-u.ensures c.skip.ensures c.to.ensures.1 (c.to.ensures.0 _ _ _)
 
 pub deep-returns-in_default : goal.deep-returns-in_default
-deep-returns-in_default t c = finding.deep_leaf _ _ _ _ _ _ _ _ c.peek-kind.ensures.value c.in_default.in_default-own.rest.0.0.1 c.in_default.in_default-own.rest.0.1 c.in_default.in_default-own.rest.1 c.skip-in_default.ensures c.to-in_default.ensures.1 (c.to-in_default.ensures.0 _ _ _)
+deep-returns-in_default t c = finding.deep_leaf _ _ _ _ _ _ _ _ c.peek-kind.ensures.value (omega arith) (omega arith) (omega arith) c.skip-in_default.ensures c.to-in_default.ensures.1 (c.to-in_default.ensures.0 _ _ _)
 
 pub dh-returns-then-c-eq0 : goal.dh-returns-then-c-eq0
 dh-returns-then-c-eq0 t c = λ loop four moved good. law.good_none _ _ _ c.if-c-eq0.true good
@@ -316,7 +316,7 @@ pub go-returns-in-37 : goal.go-returns-in-37
 go-returns-in-37 t c = moving.gone_default _ _ _ _ _ _ _ _ _ _ _ _ c.if-c-eq0.false c.peek-kind.ensures c.in-37.is c.less-left.ensures c.step-in-37.ensures c.skip-in-37.ensures c.to-u.ensures.1 c.inside-in-37.ensures.0 c.inside-in-37.ensures.1 (runs_does (c.put2.ensures.0 _ _)) (runs_does c.temporary-u.ensures.0) (c.to-u.ensures.0 _ _ _) c.node.ensures
 
 pub go-returns-in_default : goal.go-returns-in_default
-go-returns-in_default t c = moving.gone_leaf _ _ _ _ _ _ c.if-c-eq0.false c.peek-kind.ensures c.in_default.in_default-own.rest.0.0.1 c.in_default.in_default-own.rest.0.1 c.in_default.in_default-own.rest.1 c.node-in_default.ensures
+go-returns-in_default t c = moving.gone_leaf _ _ _ _ _ _ c.if-c-eq0.false c.peek-kind.ensures (omega arith) (omega arith) (omega arith) c.node-in_default.ensures
 
 pub gv-returns-then-input : goal.gv-returns-then-input
 gv-returns-then-input t c = assigning.giv_node _ _ _ _ _ _ _ c.if-input.true (c.to.ensures.0 _ _ _) c.to.ensures.1 c.node.ensures.1
@@ -424,7 +424,7 @@ pub mv-returns-in-37 : goal.mv-returns-in-37
 mv-returns-in-37 t c = moving.moved_default _ _ _ _ _ _ _ _ _ c.if-c-eq0.false c.peek-kind.ensures c.in-37.is c.less-left.ensures c.step.ensures c.under-in-37.ensures.0 c.under-in-37.ensures.1 c.add-in-37.ensures
 
 pub mv-returns-in_default : goal.mv-returns-in_default
-mv-returns-in_default t c = moving.moved_leaf _ _ _ _ _ c.if-c-eq0.false c.peek-kind.ensures c.in_default.in_default-own.rest.0.0.1 c.in_default.in_default-own.rest.0.1 c.in_default.in_default-own.rest.1
+mv-returns-in_default t c = moving.moved_leaf _ _ _ _ _ c.if-c-eq0.false c.peek-kind.ensures (omega arith) (omega arith) (omega arith)
 
 pub node-returns-then-quiet : goal.node-returns-then-quiet
 node-returns-then-quiet t c = (c.copy.ensures.1 ∙ c.skip.ensures, law.quiet_does _ _ _ _ _ _ c.quiet.ensures c.if-quiet.true c.skip.ensures (runs_does (c.copy.ensures.0 _ _)))
@@ -454,7 +454,7 @@ pub node-returns-in-27 : goal.node-returns-in-27
 node-returns-in-27 t c = c.ag.ensures (sym c.peek-kind.ensures.value ∙ c.in-27.is)
 
 pub node-returns-in_default : goal.node-returns-in_default
-node-returns-in_default t c = (c.plain.ensures.0, law.emits_does _ _ _ _ _ c.peek-kind.ensures (law.nowhere_else _ c.in_default.in_default-own.rest.0.0.0.0.0.0.0.1 c.in_default.in_default-own.rest.0.0.0.0.0.0.1 c.in_default.in_default-own.rest.0.0.0.0.0.1 c.in_default.in_default-own.rest.0.0.0.0.1 c.in_default.in_default-own.rest.0.0.0.1 c.in_default.in_default-own.rest.0.0.1 c.in_default.in_default-own.rest.0.1 c.in_default.in_default-own.rest.1) c.plain.ensures.1)
+node-returns-in_default t c = (c.plain.ensures.0, law.emits_does _ _ _ _ _ c.peek-kind.ensures (law.nowhere_else _ (omega arith) (omega arith) (omega arith) (omega arith) (omega arith) (omega arith) (omega arith) (omega arith)) c.plain.ensures.1)
 
 pub ns-returns-in-Replacing : goal.ns-returns-in-Replacing
 ns-returns-in-Replacing t c = assigning.nst_done _ _ _ _ _ _ _ _ _ _ _ _ _ _ _ _ _ (hands.places_counted _ _ _ _ c.places_in-k.ensures) (c.nested_hands-u.ensures.1 _) (runs_does (c.put2.ensures.0 _ _)) c.plus.ensures (steps.does_wide _ (c.wide.ensures.0 _ _)) (runs_does (c.assign.ensures.0 _ _)) (c.to-u.ensures.0 _ _ _) c.to-u.ensures.1 c.told_inside.ensures c.view-u.ensures c.told_inside-2.ensures c.gv-u.ensures (assigning.nst_below _ _ _ _ _ _ _ c.in-Replacing.is (c.to.ensures.0 _ _ _) c.to.ensures.1 c.deep.ensures)
@@ -493,7 +493,7 @@ pub pa-returns-in-36 : goal.pa-returns-in-36
 pa-returns-in-36 t c = λ _. declaring.pattern_array_done _ _ _ _ _ _ _ _ _ _ _ _ _ c.peek-kind.ensures.value c.in-36.is (runs_does (c.put2.ensures.0 _ _)) c.put2.ensures.1 c.told_inside.ensures.0 c.told_inside.ensures.1 c.view-u.ensures ((c.source-s.ensures.0, runs_does c.source-s.ensures.2)) (c.to-u-in-36.ensures.0 _ _ _) c.to-u-in-36.ensures.1 c.deep.ensures
 
 pub pa-returns-in_default : goal.pa-returns-in_default
-pa-returns-in_default t c = λ _. declaring.pattern_other _ _ _ _ _ _ c.peek-kind.ensures.value c.in_default.in_default-own.rest.0.1 c.in_default.in_default-own.rest.1
+pa-returns-in_default t c = λ _. declaring.pattern_other _ _ _ _ _ _ c.peek-kind.ensures.value (omega arith) (omega arith)
 
 pub plain-returns-then-left-eq0 : goal.plain-returns-then-left-eq0
 plain-returns-then-left-eq0 t c = (skipping.node_none _ _ _ c.if-left-eq0.true, law.good_none _ _ _ c.if-left-eq0.true)
@@ -612,7 +612,7 @@ pub slot-returns-in-4 : goal.slot-returns-in-4
 slot-returns-in-4 t c = (skipping.slot_gaps _ _ _ _ _ c.if-bit-eq0.false _ _ _ c.wide_at-in-4.ensures.value (c.copy-in-4.ensures.1 ∙ c.step-in-4.ensures) c.items-in-4.ensures.0 c.in-4.is, law.gaps_does _ _ _ _ _ _ _ _ c.if-bit-eq0.false _ _ _ c.in-4.is c.wide_at-in-4.ensures c.step-in-4.ensures c.copy-in-4.ensures.1 (runs_does (c.copy-in-4.ensures.0 _ _)) c.items-in-4.ensures.1)
 
 pub slot-returns-in_default : goal.slot-returns-in_default
-slot-returns-in_default t c = (c.copy-in_default.ensures.1 ∙ c.skip_slot.ensures, law.leaf_does _ _ _ _ _ _ _ _ _ c.if-bit-eq0.false c.in_default.in_default-own.rest c.skip_slot.ensures (runs_does (c.copy-in_default.ensures.0 _ _)))
+slot-returns-in_default t c = (c.copy-in_default.ensures.1 ∙ c.skip_slot.ensures, law.leaf_does _ _ _ _ _ _ _ _ _ c.if-bit-eq0.false (omega arith) c.skip_slot.ensures (runs_does (c.copy-in_default.ensures.0 _ _)))
 
 pub ta-returns : goal.ta-returns
 ta-returns t c = looping.assigned_does _ _ _ _ _ _ _ c.mark.ensures (told.own_statement _ _ c.at_root-root.ensures _ c.statement-d.ensures.0) c.statement-d.ensures.1 (runs_does (c.put2.ensures.0 _ _)) (runs_does (c.new_mark-u.ensures.0 _ _)) c.an.ensures
@@ -627,7 +627,7 @@ pub tb-returns-in-13 : goal.tb-returns-in-13
 tb-returns-in-13 t c = looping.target_empty _ _ _ _ _ _ _ _ _ _ c.peek-kind.ensures c.in-13.is c.scoped-in-13.ensures.0 c.scoped-in-13.ensures.1 c.skip.ensures c.to-in-13.ensures.1 (c.to-in-13.ensures.0 _ _ _) (steps.does_block _ (c.block.ensures.0 _ _)) c.ta.ensures
 
 pub tb-returns-in_default : goal.tb-returns-in_default
-tb-returns-in_default t c = looping.target_statement _ _ _ _ _ _ _ _ _ _ _ _ c.peek-kind.ensures c.in_default.in_default-own.rest.0.1 c.in_default.in_default-own.rest.1 c.scoped-in_default.ensures.0 c.scoped-in_default.ensures.1 c.scoped-in_default-2.ensures.0 c.scoped-in_default-2.ensures.1 c.to-in_default.ensures.1 (c.to-in_default.ensures.0 _ _ _) (steps.does_block _ (c.block-in_default.ensures.0 _ _)) c.ta-u-in_default.ensures c.item.ensures
+tb-returns-in_default t c = looping.target_statement _ _ _ _ _ _ _ _ _ _ _ _ c.peek-kind.ensures (omega arith) (omega arith) c.scoped-in_default.ensures.0 c.scoped-in_default.ensures.1 c.scoped-in_default-2.ensures.0 c.scoped-in_default-2.ensures.1 c.to-in_default.ensures.1 (c.to-in_default.ensures.0 _ _ _) (steps.does_block _ (c.block-in_default.ensures.0 _ _)) c.ta-u-in_default.ensures c.item.ensures
 
 pub tg-returns-then-object_count-gt0 : goal.tg-returns-then-object_count-gt0
 tg-returns-then-object_count-gt0 t c = (reading.keeps_read _ _ c.create_read_expression-taken.ensures.1, λ reads. assigning.tgt_nested _ _ _ _ _ _ _ _ (λ k. c.object_count.ensures ∙ values_object _ _ _ _ k) c.if-object_count-gt0.true (told.own_inner _ _ refl c.told_inside-d.ensures.0, c.told_inside-d.ensures.1) (assigning.read_place _ _ _ _ _ c.place_of-x.ensures c.create_read_expression-taken.ensures.0 reads) c.ns-u.ensures)
@@ -702,7 +702,7 @@ pub view-returns-in-37 : goal.view-returns-in-37
 view-returns-in-37 t c = viewing.view_37 _ _ _ _ _ _ _ _ _ _ _ _ _ _ c.peek-kind.ensures c.in-37.is c.step.ensures c.copy-u.ensures.1 c.inside.ensures.0 (c.inside.ensures.1 ∙ c.less-left.ensures) c.inside-in-37.ensures.0 (c.inside-in-37.ensures.1 ∙ c.less-left.ensures) (runs_does (c.copy-u.ensures.0 _ _)) c.view-u.ensures c.node.ensures
 
 pub view-returns-in_default : goal.view-returns-in_default
-view-returns-in_default t c = viewing.view_other _ _ _ _ _ _ _ c.peek-kind.ensures c.in_default.in_default-own.rest.0.0.1 c.in_default.in_default-own.rest.0.1 c.in_default.in_default-own.rest.1 c.node-in_default.ensures
+view-returns-in_default t c = viewing.view_other _ _ _ _ _ _ _ c.peek-kind.ensures (omega arith) (omega arith) (omega arith) c.node-in_default.ensures
 
 pub vl-returns-then-quiet : goal.vl-returns-then-quiet
 vl-returns-then-quiet t c k good suit = finding.value_quiet _ _ _ _ _ _ _ _ c.quiet.ensures c.if-quiet.true c.skip.ensures c.to.ensures.1 (c.to.ensures.0 _ _ _) good
