@@ -1,6 +1,5 @@
 use mathlib.Core.Path.{◌∙◌}
 use native.Mathlib.Omega.{arith}
-use borrow.Author.Rules.{rules}
 use Rattle.rest_spread.proofs.LoweringEntry as law
 use Rattle.rest_spread.proofs.Uncleared.{prefix_long, prefix_kept, begun_twins}
 use Rattle.rest_spread.proofs.lower.Goals as goal

@@ -1,5 +1,4 @@
 use Rattle.rest_spread.proofs.LoweringEntry as law
-use borrow.Author.Rules.{rules}
 use Rattle.rest_spread.proofs.refuse.Goals as goal
 
 pub returns : goal.returns

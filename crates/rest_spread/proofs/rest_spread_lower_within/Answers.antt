@@ -1,6 +1,5 @@
 use native.Mathlib.Omega.{arith}
 use lib.ListN.{length}
-use borrow.Author.Rules.{rules}
 use Rattle.rest_spread.proofs.LoweringEntry as law
 use Rattle.rest_spread.proofs.rest_spread_lower_within.Goals as goal
 
