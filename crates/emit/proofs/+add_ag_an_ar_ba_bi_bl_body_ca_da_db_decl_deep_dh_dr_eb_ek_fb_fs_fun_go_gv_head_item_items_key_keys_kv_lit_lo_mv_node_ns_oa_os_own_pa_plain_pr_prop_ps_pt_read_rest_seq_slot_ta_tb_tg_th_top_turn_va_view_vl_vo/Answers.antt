@@ -1,15 +1,10 @@
--- where the walk stands, the builder that is handed back, and what is done
--- the target without its rest is below an object that is found, so the rank goes by the view
--- the properties of a view, by what was seen of its rest, ask for themselves
-use Prim.Native.Nat.{ℕ, ◌<◌, ◌≤◌}
+use Prim.Native.Nat.{◌<◌, ◌≤◌}
 use native.Mathlib.Omega.{arith}
 use mathlib.Core.Bool.{true, false, false≢true}
 use mathlib.Core.Path.{◌≡◌, refl, sym, ap, ◌∙◌}
 use Rattle.walk.specs.Whole.{hole_at}
 use Rattle.walk.specs.Turns.{is_told}
 use Rattle.walk.proofs.Running.{does_nothing, runs_does}
-use Rattle.walk.specs.declared.views.View as views
-use Rattle.walk.specs.declared.views.View.TheVariants.{Replacing, Taking}
 use Rattle.tree.proofs.Skipping.{node_none}
 use Rattle.walk.proofs.Emits.{good_none}
 use Rattle.walk.proofs.SpreadArguments as args
@@ -40,12 +35,9 @@ use Rattle.pattern.specs.Source.{read_of}
 use Rattle.emit.proofs.+add_ag_an_ar_ba_bi_bl_body_ca_da_db_decl_deep_dh_dr_eb_ek_fb_fs_fun_go_gv_head_item_items_key_keys_kv_lit_lo_mv_node_ns_oa_os_own_pa_plain_pr_prop_ps_pt_read_rest_seq_slot_ta_tb_tg_th_top_turn_va_view_vl_vo.Goals as goal
 use Rattle.emit.proofs.+add_ag_an_ar_ba_bi_bl_body_ca_da_db_decl_deep_dh_dr_eb_ek_fb_fs_fun_go_gv_head_item_items_key_keys_kv_lit_lo_mv_node_ns_oa_os_own_pa_plain_pr_prop_ps_pt_read_rest_seq_slot_ta_tb_tg_th_top_turn_va_view_vl_vo.Goals.{an-else-peek-eq-OBJECT_PATTERN, an-then-peek-eq-OBJECT_PATTERN+else-has_second, fun-else-any_moved, fun-then-any_moved+else-stands, item-else-holes, item-then-holes+else-peek-eq0, key-else-taken, key-then-taken+else-is_other, turn-else-holes, turn-then-holes+else-peek-eq0, vo-else-rest, vo-then-rest+else-replaces}
 
+-- where the walk stands, the builder that is handed back, and what is done
 with-next : {A N B : Type 0} → A × B → N → A × N × B
 with-next p n = (p.0, n, p.1)
-
-abbrev rank-of : views.View → ℕ
-rank-of Replacing = 1
-rank-of Taking = 0
 
 pub add-returns-then-r-gt0 : goal.add-returns-then-r-gt0
 add-returns-then-r-gt0 t c = moving.add_refused _ _ _ _ _ _ _ c.has_nested_object_rest.ensures c.if-has_nested_object_rest.true c.refusal_below-r.ensures c.if-r-gt0.true (runs_does (c.refuse.ensures.0 _ _))
@@ -710,6 +702,7 @@ vl-returns-then-quiet t c k good suit = finding.value_quiet _ _ _ _ _ _ _ _ c.qu
 pub vl-returns : goal.vl-returns
 vl-returns t c = finding.value_done _ _ _ _ _ _ _ _ _ _ _ _ _ _ c.less-left.ensures c.step.ensures c.skip-v.ensures c.to-2.ensures.1 (c.to-2.ensures.0 _ _ _) c.under.ensures.1 (told.with_same _ c.under.ensures.0) c.deep-u.ensures c.step-2.ensures c.to-3.ensures.1 (c.to-3.ensures.0 _ _ _)
 
+-- the properties of a view, by what was seen of its rest, ask for themselves
 pub vo-returns-then-c-eq0 : goal.vo-returns-then-c-eq0
 vo-returns-then-c-eq0 t c = λ h good. law.good_none _ _ _ c.if-c-eq0.true good
 

@@ -16,6 +16,7 @@ use Rattle.walk.proofs.Emits as law
 use Rattle.walk.proofs.ListTurns as turning
 use Rattle.emit.proofs.+add_ag_an_ar_ba_bi_bl_body_ca_da_db_decl_deep_dh_dr_eb_ek_fb_fs_fun_go_gv_head_item_items_key_keys_kv_lit_lo_mv_node_ns_oa_os_own_pa_plain_pr_prop_ps_pt_read_rest_seq_slot_ta_tb_tg_th_top_turn_va_view_vl_vo.Given as goal
 
+-- the target without its rest is below an object that is found, so the rank goes by the view
 abbrev rank-of : views.View → ℕ
 rank-of Replacing = 1
 rank-of Taking = 0
