@@ -375,7 +375,7 @@ record FieldsGood (fields : List Field) (at k : ℕ) (fs : Fields) (q j : ℕ) :
   later : k ≤ j
 
 pub record NodeGood (p at k : ℕ) (n : Node) (q j : ℕ) : Type 0 where
-  pub here-fits : 0 < form_at input p (kind n)
+  pub here_fits : 0 < form_at input p (kind n)
   pub fine : Proper n
   pub span : (x : ℕ) → count x n + on x q ≤ on x at
   pub later : k ≤ j
@@ -439,7 +439,7 @@ module _ (tree : List ℕ) where
     unfolding count NoHoles
     item_good p h at k n q j g is q' j' i =
         record {
-          kinds = (g.here-fits, i.kinds);
+          kinds = (g.here_fits, i.kinds);
           full = λ z. i.full z;
           fine = ProperItems.item g.fine i.fine;
           span = λ x. let s = g.span x in let t = i.span x in omega arith;
@@ -596,7 +596,7 @@ module _ (tree : List ℕ) where
       (weaker (FieldsGood (fields_of f) (at + 2) k) (λ fs q j. NodeGood p at k (node at b fs) q j) g
       (λ fs q j h.
       record {
-        here-fits = z;
+        here_fits = z;
         fine = node_proper f at b fs (kind_at input p b z) (not_20 p b z) (not_21 p b z) h.sorts h.fine;
         span = node_span at b fs q h.span;
         later = h.later;
