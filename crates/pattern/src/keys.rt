@@ -6,9 +6,10 @@ ghost use Rattle.lowering.specs.Parts.{number_at};
 ghost use Rattle.tree.specs.Tree.{count};
 ghost use Rattle.lowering.specs.Made.{Context};
 ghost use Rattle.lowering.specs.Keys.{all_primitive, keys_refusal, excluded_keys, key_temporaries};
-ghost use Rattle.pattern.specs.Tally.{limited, no_tally, both};
+ghost use Rattle.pattern.specs.Refusals.{refusal_number};
+ghost use Rattle.pattern.specs.Tally.{limited, tally_values, no_tally, both};
 ghost use Rattle.lowering.specs.Rests.{has_no_properties};
-ghost use Rattle.pattern.specs.Parts.{part_values, text_in_of, standing};
+ghost use Rattle.pattern.specs.Parts.{field_values, text_in_of};
 ghost use Rattle.pattern.specs.Numbers.{spelling_value, spelled_as_of, is_string_of};
 ghost use Rattle.pattern.specs.Keys.{name_in_of, form_in, beside_form, literal_by, literal_at, Keyed, Becomes, counts, key_counts, keys_of, item_keys};
 
@@ -16,7 +17,7 @@ use crate::numbers::Spelling;
 use crate::parts::Part;
 use crate::tally::Tally;
 use crate::{numbers, parts, tally};
-use tree::{bytes, skip};
+use tree::{bytes, kinds, skip};
 
 // What a key becomes among the excluded keys: a string of the bytes of a name or of a literal's form, which are also those
 // of a decimal spelling; a string of the digits of a number's value; that template; the name or temporary read again; a
@@ -35,64 +36,40 @@ pub enum Key {
     Other,
 }
 
-fn named(p: Part) -> Key
-    ensures { Keyed result (name_in_of (part_values p)) }
+#[tactic(auto, unfolding(crate::specs::Keys::name_in_of))]
+fn named(p: Option<Part>) -> Key
+    ensures { Keyed result (name_in_of (field_values p)) }
 {
     match p {
-        Part::Text { from, len } => Key::Name {
-            from: from,
-            len: len,
-        },
-        Part::One(_) => Key::Name { from: 0, len: 0 },
-        Part::Many {
-            holes: _,
-            count: _,
-            from: _,
-        } => Key::Name { from: 0, len: 0 },
-        Part::Number => Key::Name { from: 0, len: 0 },
-        Part::Missing => Key::Name { from: 0, len: 0 },
+        Some(Part::Text { from, len }) => Key::Name { from, len },
+        _ => Key::Name { from: 0, len: 0 },
     }
 }
 
-fn formed(p: Part) -> Key
-    ensures { Keyed result (form_in (part_values p)) }
+#[tactic(auto, unfolding(crate::specs::Keys::form_in))]
+fn formed(p: Option<Part>) -> Key
+    ensures { Keyed result (form_in (field_values p)) }
 {
     match p {
-        Part::Text { from, len } => Key::Literal {
-            from: from,
-            len: len,
-        },
-        Part::One(_) => Key::Literal { from: 0, len: 0 },
-        Part::Many {
-            holes: _,
-            count: _,
-            from: _,
-        } => Key::Literal { from: 0, len: 0 },
-        Part::Number => Key::Literal { from: 0, len: 0 },
-        Part::Missing => Key::NoForm,
+        Some(Part::Text { from, len }) => Key::Literal { from, len },
+        Some(_) => Key::Literal { from: 0, len: 0 },
+        None => Key::NoForm,
     }
 }
 
 // What a text is as a number.
-fn spelled_in(tree: &[u8], p: Part) -> Spelling
-    ensures { spelling_value result ≡ spelled_as_of (text_in_of tree.now (part_values p)) }
+fn spelled_in(tree: &[u8], p: Option<Part>) -> Spelling
+    ensures { spelling_value result ≡ spelled_as_of (text_in_of tree.now (field_values p)) }
 {
     match p {
-        Part::Text { from, len } => {
+        Some(Part::Text { from, len }) => {
             let to = skip::step(tree, from, len);
             if from <= to {
                 return numbers::spelled(&tree[from..to]);
             }
             Spelling::Another
         }
-        Part::One(_) => Spelling::Another,
-        Part::Many {
-            holes: _,
-            count: _,
-            from: _,
-        } => Spelling::Another,
-        Part::Number => Spelling::Another,
-        Part::Missing => Spelling::Another,
+        _ => Spelling::Another,
     }
 }
 
@@ -107,38 +84,22 @@ fn is_string(s: Spelling, value: usize) -> bool
     }
 }
 
-fn standing(p: Part) -> bool
-    ensures { result ≡ standing (part_values p) }
-{
-    match p {
-        Part::One(_) => true,
-        Part::Many {
-            holes: _,
-            count: _,
-            from: _,
-        } => true,
-        Part::Text { from: _, len: _ } => true,
-        Part::Number => true,
-        Part::Missing => false,
-    }
-}
-
 // A number beside its form.
-fn beside_form(tree: &[u8], value: usize, alone: Key, form: Part) -> Key
-    ensures { Keyed result (beside_form tree.now value alone (part_values form)) }
+fn beside_form(tree: &[u8], value: usize, alone: Key, form: Option<Part>) -> Key
+    ensures { Keyed result (beside_form tree.now value alone (field_values form)) }
 {
-    if standing(form) {
-        if is_string(spelled_in(tree, form), value) {
-            return formed(form);
-        }
-        return Key::OtherForm { value: value };
+    if form.is_none() {
+        return alone;
     }
-    alone
+    if is_string(spelled_in(tree, form), value) {
+        return formed(form);
+    }
+    Key::OtherForm { value }
 }
 
 // A literal by what its spelling is.
-fn literal_by(tree: &[u8], s: Spelling, spelling: Part, form: Part) -> Key
-    ensures { Keyed result (literal_by tree.now (spelling_value s) (part_values spelling) (part_values form)) }
+fn literal_by(tree: &[u8], s: Spelling, spelling: Option<Part>, form: Option<Part>) -> Key
+    ensures { Keyed result (literal_by tree.now (spelling_value s) (field_values spelling) (field_values form)) }
 {
     match s {
         Spelling::Decimal(v) => beside_form(tree, v, formed(spelling), form),
@@ -178,70 +139,70 @@ pub fn transform_property_key(tree: &[u8], left: usize, at: usize) -> Key
     }
     let kind = bytes::peek(tree, at);
     match kind {
-        18 => {
+        kinds::REFERENCE => {
             if parts::stands(tree, left, at, 1) {
                 return Key::Again;
             }
             Key::Other
         }
-        20 => Key::Again,
-        22 => literal(tree, left, at),
-        23 => {
+        kinds::TEMPORARY => Key::Again,
+        kinds::LITERAL => literal(tree, left, at),
+        kinds::TEMPLATE => {
             let quasis = parts::list(tree, left, at, 0);
             if quasis.count == 1 {
                 return Key::Template;
             }
             Key::Other
         }
-        38 => {
+        kinds::STATIC_KEY => {
             if bytes::peek(tree, skip::step(tree, at, 1)) % 2 == 1 {
-                return named(parts::text(tree, skip::step(tree, at, 2)));
+                return named(Some(parts::text(tree, skip::step(tree, at, 2))));
             }
             named(parts::field(tree, left, at, 0))
         }
-        39 => Key::Private,
+        kinds::PRIVATE_KEY => Key::Private,
         _ => Key::Other,
     }
 }
 
-fn counted(excluded: usize, temporaries: usize, computed: usize, refusal: u8) -> Tally
-    ensures { result ≡ counts excluded temporaries computed refusal }
-{
-    Tally {
-        excluded: excluded,
-        temporaries: temporaries,
-        computed: computed,
-        refusal: refusal,
-        objects: 0,
-        patterns: 0,
-    }
-}
-
 // What a key adds to the counts.
+#[tactic(auto, unfolding(crate::specs::Keys::key_counts))]
 fn key_counts(k: Key) -> Tally
-    ensures { result ≡ key_counts k }
+    ensures { tally_values result ≡ key_counts k }
 {
+    let one = Tally {
+        excluded: 1,
+        ..Tally::default()
+    };
     match k {
-        Key::Name { from: _, len: _ } => counted(1, 0, 0, 0),
-        Key::Literal { from: _, len: _ } => counted(1, 0, 0, 0),
-        Key::Number { value: _ } => counted(1, 0, 0, 0),
-        Key::OtherForm { value: _ } => counted(1, 0, 0, 11),
-        Key::NoForm => counted(1, 0, 0, 6),
-        Key::Template => counted(1, 0, 0, 0),
-        Key::Private => counted(0, 0, 0, 0),
-        Key::Again => counted(1, 0, 1, 0),
-        Key::Other => counted(1, 1, 1, 0),
+        Key::Name { .. } => one,
+        Key::Literal { .. } => one,
+        Key::Number { .. } => one,
+        Key::OtherForm { .. } => Tally {
+            refusal: Some(tally::Refusal::OtherForm),
+            ..one
+        },
+        Key::NoForm => Tally {
+            refusal: Some(tally::Refusal::NoForm),
+            ..one
+        },
+        Key::Template => one,
+        Key::Private => Tally::default(),
+        Key::Again => Tally { computed: 1, ..one },
+        Key::Other => Tally {
+            temporaries: 1,
+            computed: 1,
+            ..one
+        },
     }
 }
 
 // What the key of a property adds; a hole adds nothing.
 fn item_keys(tree: &[u8], holes: bool, left: usize, at: usize) -> Tally
-    ensures { result ≡ item_keys tree.now holes left at }
+    ensures { tally_values result ≡ item_keys tree.now holes left at }
 {
-    if holes {
-        if bytes::peek(tree, at) == 0 {
-            return tally::none();
-        }
+    if holes && bytes::peek(tree, at) == 0 {
+        return Tally::default();
     }
     let k = parts::key(tree, left, at);
     key_counts(transform_property_key(tree, k.left, k.at))
@@ -251,31 +212,24 @@ fn item_keys(tree: &[u8], holes: bool, left: usize, at: usize) -> Tally
 fn has_static_key(tree: &[u8], holes: bool, left: usize, at: usize) -> bool
     ensures { result ≡ true → counts 1 0 0 0 ≡ item_keys tree.now holes left at }
 {
-    if holes {
-        return false;
-    }
-    if 1 < left {
-        if bytes::peek(tree, at) == 35 {
-            if bytes::peek(tree, skip::step(tree, at, 1)) % 2 == 1 {
-                return bytes::peek(tree, skip::step(tree, at, 2)) == 38;
-            }
-        }
+    if !holes
+        && 1 < left
+        && bytes::peek(tree, at) == kinds::PATTERN_PROPERTY
+        && bytes::peek(tree, skip::step(tree, at, 1)) % 2 == 1
+    {
+        return bytes::peek(tree, skip::step(tree, at, 2)) == kinds::STATIC_KEY;
     }
     false
 }
 
 // Counts, and what the key of a property adds to them.
 fn with_key(t: Tally, tree: &[u8], holes: bool, left: usize, at: usize) -> Tally
-    ensures { both t no_tally ≡ t → result ≡ both t (item_keys tree.now holes left at) }
+    ensures { both (tally_values t) no_tally ≡ tally_values t → tally_values result ≡ both (tally_values t) (item_keys tree.now holes left at) }
 {
     if has_static_key(tree, holes, left, at) {
         return Tally {
             excluded: tally::plus(t.excluded, 1),
-            temporaries: t.temporaries,
-            computed: t.computed,
-            refusal: t.refusal,
-            objects: t.objects,
-            patterns: t.patterns,
+            ..t
         };
     }
     tally::both(t, item_keys(tree, holes, left, at))
@@ -283,21 +237,18 @@ fn with_key(t: Tally, tree: &[u8], holes: bool, left: usize, at: usize) -> Tally
 
 // The counts of all keys of the object pattern at a position.
 pub(crate) fn keys(tree: &[u8], left: usize, at: usize) -> Tally
-    ensures { result ≡ keys_of (look_node tree.now left at).value }
+    ensures { tally_values result ≡ keys_of (look_node tree.now left at).value }
 {
+    let mut t = Tally::default();
     if left == 0 {
-        return tally::none();
+        return t;
     }
     let below = left - 1;
     let run = parts::list(tree, left, at, 0);
-    let holes = run.holes;
-    let mut n = run.count;
     let mut p = run.from;
-    let mut t = tally::none();
-    while 0 < n {
-        t = with_key(t, tree, holes, below, p);
-        p = skip::skip_item(tree, holes, below, p);
-        n -= 1;
+    for _ in 0..run.count {
+        t = with_key(t, tree, run.holes, below, p);
+        p = skip::skip_item(tree, run.holes, below, p);
     }
     t
 }
@@ -305,37 +256,32 @@ pub(crate) fn keys(tree: &[u8], left: usize, at: usize) -> Tally
 pub fn all_primitive(tree: &[u8], left: usize, at: usize) -> bool
     ensures { result ≡ all_primitive (look_node tree.now left at).value }
 {
-    let t = keys(tree, left, at);
-    t.computed == 0
+    keys(tree, left, at).computed == 0
 }
 
-// The first refusal at the keys of the object pattern, 0 for none.
-pub fn refusal(tree: &[u8], left: usize, at: usize) -> u8
-    ensures { result ≡ keys_refusal (look_node tree.now left at).value }
+// The first refusal at the keys of the object pattern.
+pub fn refusal(tree: &[u8], left: usize, at: usize) -> Option<tally::Refusal>
+    ensures { refusal_number result ≡ keys_refusal (look_node tree.now left at).value }
 {
-    let t = keys(tree, left, at);
-    t.refusal
+    keys(tree, left, at).refusal
 }
 
 pub fn has_no_properties(tree: &[u8], left: usize, at: usize) -> bool
     ensures { result ≡ has_no_properties (look_node tree.now left at).value }
 {
-    let run = parts::list(tree, left, at, 0);
-    run.count == 0
+    parts::list(tree, left, at, 0).count == 0
 }
 
 // How many excluded keys the object pattern has.
 pub fn excluded_keys(tree: &[u8], left: usize, at: usize) -> usize
     ensures { (c : Context) → result ≡ limited (count (excluded_keys c (look_node tree.now left at).value)) }
 {
-    let t = keys(tree, left, at);
-    t.excluded
+    keys(tree, left, at).excluded
 }
 
 // How many key temporaries it has.
 pub fn key_temporaries(tree: &[u8], left: usize, at: usize) -> usize
     ensures { (c : Context) → result ≡ limited (count (key_temporaries c (look_node tree.now left at).value)) }
 {
-    let t = keys(tree, left, at);
-    t.temporaries
+    keys(tree, left, at).temporaries
 }
