@@ -135,12 +135,10 @@ fn over_values(
     ensures { (result.at ≡ w.at) × ((o : List ℕ) → GoodItems t.now (look_node t.now left) (Good t.now left) false false count first → AllItems (λ q. is 35 q ≡ true) (look_items t.now (look_node t.now left) false count first).value → Does (going_of o list.old work.old w) (going_of o list.new work.new result) (in_turn (λ q. over_all mode Replacing (value q)) (look_items t.now (look_node t.now left) false count first).value)) }
 {
     let mut u = w;
-    let mut n = count;
     let mut p = first;
-    while 0 < n {
+    for _ in 0..count {
         u = over_value(u, t, list, work, left, p, mode);
         p = skip(t, left, p);
-        n -= 1;
     }
     u
 }
@@ -213,12 +211,10 @@ fn over_items(
     ensures { (result.at ≡ w.at) × ((o : List ℕ) → GoodItems t.now (look_node t.now left) (Good t.now left) false true count first → Does (going_of o list.old work.old w) (going_of o list.new work.new result) (in_turn (over_all mode Replacing) (look_items t.now (look_node t.now left) true count first).value)) }
 {
     let mut u = w;
-    let mut n = count;
     let mut p = first;
-    while 0 < n {
+    for _ in 0..count {
         u = over_item(u, t, list, work, left, p, mode);
         p = skip_item(t, true, left, p);
-        n -= 1;
     }
     u
 }
@@ -305,12 +301,10 @@ fn keys_in(
     ensures { (result.at ≡ w.at) × ((o : List ℕ) → GoodItems t.now (look_node t.now left) (Good t.now left) false false count first → AllItems (λ q. is 35 q ≡ true) (look_items t.now (look_node t.now left) false count first).value → Does (going_of o list.old work.old w) (going_of o list.new work.new result) (in_turn (key_of mode) (look_items t.now (look_node t.now left) false count first).value)) }
 {
     let mut u = w;
-    let mut n = count;
     let mut p = first;
-    while 0 < n {
+    for _ in 0..count {
         u = one_key(u, t, list, work, left, p, mode);
         p = skip(t, left, p);
-        n -= 1;
     }
     u
 }
@@ -519,12 +513,10 @@ fn declarators_make(
     ensures { (result.at ≡ w.at) × ((o : List ℕ) → GoodItems t.now (look_node t.now left) (Good t.now left) false false count first → AllItems (λ q. is 5 q ≡ true) (look_items t.now (look_node t.now left) false count first).value → Does (going_of o list.old work.old w) (going_of o list.new work.new result) (in_turn declarator_made (look_items t.now (look_node t.now left) false count first).value)) }
 {
     let mut u = w;
-    let mut n = count;
     let mut p = first;
-    while 0 < n {
+    for _ in 0..count {
         u = declarator_makes(u, t, list, work, left, p);
         p = skip(t, left, p);
-        n -= 1;
     }
     u
 }
@@ -542,12 +534,10 @@ fn declarators_exclude(
     ensures { (result.at ≡ w.at) × ((o : List ℕ) → GoodItems t.now (look_node t.now left) (Good t.now left) false false count first → AllItems (λ q. is 5 q ≡ true) (look_items t.now (look_node t.now left) false count first).value → Does (going_of o list.old work.old w) (going_of o list.new work.new result) (in_turn (declarator_excludes root) (look_items t.now (look_node t.now left) false count first).value)) }
 {
     let mut u = w;
-    let mut n = count;
     let mut p = first;
-    while 0 < n {
+    for _ in 0..count {
         u = declarator_excludes(u, t, list, work, left, p, root);
         p = skip(t, left, p);
-        n -= 1;
     }
     u
 }
@@ -631,12 +621,10 @@ pub fn moves_make(
     ensures { (result.at ≡ w.at) × ((o l : List ℕ) → GoodItems t.now (look_node t.now left) (Good t.now left) false false count first → AllSuit Binding (look_items t.now (look_node t.now left) false count first).value → Does (going_of o l work.old w) (going_of o l work.new result) (say (moved.makes (gather moved_from (look_items t.now (look_node t.now left) false count first).value)))) }
 {
     let mut u = w;
-    let mut n = count;
     let mut p = first;
-    while 0 < n {
+    for _ in 0..count {
         u = move_makes(u, t, work, left, p);
         p = skip(t, left, p);
-        n -= 1;
     }
     u
 }
@@ -695,12 +683,10 @@ fn makes_items(w: Walk, t: &[u8], work: &mut [u8], left: usize, first: usize, co
     ensures { (result.at ≡ w.at) × ((o l : List ℕ) → GoodItems t.now (look_node t.now left) (Good t.now left) false true count first → Does (going_of o l work.old w) (going_of o l work.new result) (say (moved.makes (gather moved_in_of (look_items t.now (look_node t.now left) true count first).value)))) }
 {
     let mut u = w;
-    let mut n = count;
     let mut p = first;
-    while 0 < n {
+    for _ in 0..count {
         u = makes_item(u, t, work, left, p);
         p = skip_item(t, true, left, p);
-        n -= 1;
     }
     u
 }

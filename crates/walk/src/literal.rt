@@ -27,18 +27,14 @@ pub fn is_spread(t: &[u8], left: usize, at: usize) -> bool
 pub fn run_of(t: &[u8], left: usize, count: usize, at: usize) -> usize
     ensures { result ≡ run (look_items t.now (look_node t.now left) false count at).value }
 {
-    let mut k = 0usize;
-    let mut n = count;
     let mut p = at;
-    while 0 < n {
+    for k in 0..count {
         if is_spread(t, left, p) {
             return k;
         }
         p = skip(t, left, p);
-        n -= 1;
-        k += 1;
     }
-    k
+    count
 }
 
 // The call so far: there is none, nothing is pending behind it, something is.
@@ -71,13 +67,11 @@ struct Passed {
 fn after(t: &[u8], left: usize, count: usize, at: usize, mode: usize) -> Passed
     ensures { (result.at ≡ (look_items t.now (look_node t.now left) false count at).next) × (result.mode ≡ mode_after mode (look_items t.now (look_node t.now left) false count at).value) }
 {
-    let mut n = count;
     let mut p = at;
     let mut m = mode;
-    while 0 < n {
+    for _ in 0..count {
         m = mode_next(t, left, p, m);
         p = skip(t, left, p);
-        n -= 1;
     }
     Passed { at: p, mode: m }
 }

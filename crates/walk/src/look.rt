@@ -177,13 +177,11 @@ pub fn start_of(t: &[u8], left: usize, at: usize) -> Start
 pub fn moved_in(t: &[u8], left: usize, first: usize, count: usize) -> usize
     ensures { result ≡ limited (number (gather moved_from (look_items t.now (look_node t.now left) false count first).value)) }
 {
-    let mut n = count;
     let mut p = first;
     let mut k = 0;
-    while 0 < n {
+    for _ in 0..count {
         k = plus(k, moved_from(t, left, p));
         p = skip(t, left, p);
-        n -= 1;
     }
     k
 }

@@ -48,14 +48,12 @@ pub(crate) fn target_count(t: &[u8], left: usize, at: usize, reach: Reach) -> us
                 return 0;
             }
             let run = parts::list(t, left, at, 0);
-            let mut n = run.count;
             let mut p = run.from;
             let mut k = 0;
-            while 0 < n {
+            for _ in 0..run.count {
                 let e = parts::item(t, true, below, p);
                 k = plus(k, target_count(t, e.left, e.at, Reach::Anywhere));
                 p = skip_item(t, true, below, p);
-                n -= 1;
             }
             k
         }
@@ -87,16 +85,14 @@ pub fn object_count(t: &[u8], left: usize, at: usize, reach: Reach) -> usize
     }
     let below = left - 1;
     let run = parts::list(t, left, at, 0);
-    let mut n = run.count;
     let mut p = run.from;
     let mut k = 0;
-    while 0 < n {
+    for _ in 0..run.count {
         let v = parts::value(t, below, p);
         if kinds::LAST_EXPRESSION < peek(t, v.at) {
             k = plus(k, target_count(t, v.left, v.at, reach));
         }
         p = skip(t, below, p);
-        n -= 1;
     }
     k
 }
@@ -118,12 +114,11 @@ pub(crate) fn target_values(
     let below = less(left);
     let q = step(t, at, 2);
     let mut u = w;
-    let mut n = wide_at(t, q);
+    let n = wide_at(t, q);
     let mut p = step(t, q, 2);
-    while 0 < n {
+    for _ in 0..n {
         u = target_property(u, t, list, work, less(below), p, reach);
         p = skip(t, below, p);
-        n -= 1;
     }
     u
 }
@@ -154,12 +149,11 @@ fn target_object(
     }
     let q = step(t, at, 2);
     let mut u = w;
-    let mut n = wide_at(t, q);
+    let n = wide_at(t, q);
     let mut p = step(t, q, 2);
-    while 0 < n {
+    for _ in 0..n {
         u = target_property(u, t, list, work, left - 1, p, reach);
         p = skip(t, left, p);
-        n -= 1;
     }
     u
 }
@@ -194,12 +188,11 @@ fn target_property(
             }
             let q = step(t, x, 2);
             let mut u = w;
-            let mut n = wide_at(t, q);
+            let n = wide_at(t, q);
             let mut p = step(t, q, 2);
-            while 0 < n {
+            for _ in 0..n {
                 u = target_item(u, t, list, work, below, p, Reach::Anywhere);
                 p = skip_item(t, true, below, p);
-                n -= 1;
             }
             u
         }
@@ -234,12 +227,11 @@ pub(crate) fn target_item(
             }
             let q = step(t, at, 2);
             let mut u = w;
-            let mut n = wide_at(t, q);
+            let n = wide_at(t, q);
             let mut p = step(t, q, 2);
-            while 0 < n {
+            for _ in 0..n {
                 u = target_item(u, t, list, work, below, p, Reach::Anywhere);
                 p = skip_item(t, true, below, p);
-                n -= 1;
             }
             u
         }
