@@ -1,6 +1,5 @@
 -- What is done for each item of a list, by the mode of a turn, and how a source is read.
-use Rattle.std.specs.Prelude.{ℕ, zero, suc, ◌+◌, ◌-◌, ◌/◌, ◌%◌, ◌≡◌, Bool, true, false, cond, not, ◌&&◌, ◌||◌, List, [], ◌∷◌, ◌++◌, eqb, ltb}
-use Rattle.std.proofs.Math.Option.{Option, some}
+use Rattle.std.specs.Prelude.{ℕ, zero, suc, ◌+◌, ◌-◌, ◌/◌, ◌%◌, ◌≡◌, Bool, true, false, cond, not, ◌&&◌, ◌||◌, List, [], ◌∷◌, ◌++◌, eqb, ltb, Option, Some, None}
 use Rattle.tree.specs.Tree.{Node, Items, wide_bytes, count}
 use Rattle.tree.specs.Tree.Items.{none, hole, item}
 use Rattle.tree.specs.Read.{byte_at, wide_at}
@@ -47,8 +46,6 @@ use Rattle.walk.specs.declared.hand.Own.{Own}
 use Rattle.walk.specs.declared.hand.Own.TheVariants as own
 use Rattle.walk.specs.declared.hand.KeyUse.{KeyUse}
 use Rattle.walk.specs.declared.hand.KeyUse.TheVariants as use-of
-use Rattle.walk.specs.declared.look.Start.{Start}
-use Rattle.walk.specs.declared.look.Start.TheVariants.{Value, Missing}
 use Rattle.walk.specs.declared.place.Place as place
 use Rattle.walk.specs.Whole.{place_of, place_with, hole_at}
 use Rattle.lowering.specs.Keys.Entry.{spelt, itself, omitted, saved}
@@ -222,13 +219,8 @@ level_of inner left = cond inner (left - 1) left
 
 -- where the starting value of the declarator at a position is, if it has one
 unfoldable pub start_of : List ℕ → ℕ → ℕ → Option ℕ
-start_of tree zero at = Option.none
-start_of tree (suc d) at = cond (eqb (byte_at tree (onward tree at 1) / 2 % 2) 1) (some (look_node tree d (onward tree at 2)).next) Option.none
-
--- the value of the answer for each case; document 01 has no number for it: a declarator without one is passed over
-abbrev pub start_value : Start → Option ℕ
-start_value (Value at) = some at
-start_value Missing = Option.none
+start_of tree zero at = None
+start_of tree (suc d) at = cond (eqb (byte_at tree (onward tree at 1) / 2 % 2) 1) (Some (look_node tree d (onward tree at 2)).next) None
 
 -- whether the loop at a position awaits
 unfoldable pub awaits : List ℕ → ℕ → Bool

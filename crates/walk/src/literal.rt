@@ -8,6 +8,7 @@ ghost use Rattle.direct.specs.Literals.{is_spread, mode_next, mode_after, head_a
 ghost use Rattle.walk.specs.Run.{going_of, Runs};
 ghost use Rattle.walk.specs.Turns.{spread_at, pending_deeds};
 
+use crate::look::first_bit;
 use crate::walk::Walk;
 use crate::{helpers, kinds, written};
 use tree::bytes::{peek, wide_at};
@@ -16,11 +17,7 @@ use tree::skip::{skip, step};
 pub fn is_spread(t: &[u8], left: usize, at: usize) -> bool
     ensures { result ≡ is_spread (look_node t.now left at).value }
 {
-    if left == 0 {
-        return false;
-    }
-    let kind = peek(t, at);
-    kind == kinds::SPREAD
+    0 < left && peek(t, at) == kinds::SPREAD
 }
 
 // How many properties there are up to the first spread.
@@ -162,8 +159,7 @@ pub fn pending(w: Walk, out: &mut [u8], n: usize) -> Walk
 pub fn has_first(t: &[u8], at: usize) -> bool
     ensures { result ≡ eqb (byte_at t.now (onward t.now at 1) % 2) 1 }
 {
-    let map = peek(t, step(t, at, 1));
-    map % 2 == 1
+    first_bit(t, at) == 1
 }
 
 // The heads of the calls, and the head of the object that they begin with.
@@ -180,10 +176,7 @@ pub fn opening(w: Walk, t: &[u8], out: &mut [u8], left: usize, n: usize, at: usi
 pub fn has_spread(t: &[u8], left: usize, at: usize) -> bool
     ensures { result ≡ spread_at t.now left at }
 {
-    if left == 0 {
-        return false;
-    }
-    if has_first(t, at) {
+    if 0 < left && has_first(t, at) {
         let q = step(t, at, 2);
         let n = wide_at(t, q);
         let k = run_of(t, left - 1, n, step(t, q, 2));
