@@ -1,6 +1,6 @@
 -- Counts that stop at 65536, and sums over the items of a list as a loop makes them.
 -- Assumes nothing.
-use mathlib.Core.Path.{◌≡◌, refl, sym, ap, ap₂, ◌∙◌}
+use mathlib.Core.Path.{◌≡◌, refl, sym, ap, ap₂, subst, ◌∙◌}
 use mathlib.Core.Bool.{Bool, true, false, cond, ◌&&◌}
 use mathlib.Core.List.{List}
 use Prim.Native.Nat.{ℕ, zero, suc, ◌+◌, ◌-◌, ◌<◌, ◌≤◌}
@@ -14,26 +14,23 @@ use Rattle.tree.specs.Read.{byte_at}
 use Rattle.tree.specs.Look.{seen, seen_as, onward, look_item, look_items, look_node}
 use Rattle.lowering.specs.Parts.{gather, or_else, first, ◌+++◌}
 use Rattle.pattern.specs.declared.parts.Place.{Place}
-use Rattle.pattern.specs.declared.tally.Tally.{Tally}
 use Rattle.pattern.specs.Parts.{item_place, node_here}
+use Rattle.std.specs.Prelude.{Option, Some, None}
+use Rattle.std.specs.Option.{option_or}
+use Rattle.pattern.specs.declared.tally.Refusal.{Refusal}
+use Rattle.pattern.specs.declared.tally.Refusal.TheVariants.{NoForm, OtherForm}
+use Rattle.pattern.specs.declared.tally.Tally.{Tally}
+use Rattle.pattern.specs.Refusals.{refusal_number}
 use Rattle.pattern.specs.Tally as tally
-use Rattle.pattern.specs.Tally.{limited, both, sum}
+use Rattle.pattern.specs.Tally.{Totals, tally_values, limited, both, sum}
+
+-- before the first turn of a loop all n are left
+pub at_start : (P : ℕ → Type 0) (n : ℕ) → P n → P (n - 0)
+at_start P n p = let s : n ≡ n - 0 = omega arith in subst P s p
 
 -- ---- counts
 
 module _ (a b : ℕ) where
-  pub plus_fits : a < 65536 → b < 65536 - a → a + b ≡ limited (a + b)
-  unfolding limited
-  plus_fits h g = omega arith
-
-  pub plus_past : a < 65536 → 65536 - a ≤ b → 65536 ≡ limited (a + b)
-  unfolding limited
-  plus_past h g = omega arith
-
-  pub plus_over : 65536 ≤ a → 65536 ≡ limited (a + b)
-  unfolding limited
-  plus_over h = omega arith
-
   pub plus_limited : limited (limited a + b) ≡ limited (a + b)
   unfolding limited
   plus_limited = omega arith
@@ -63,15 +60,11 @@ unfolding limited
 plus_none = omega arith
 
 -- the first of two refusals
-pub or_first : (a b : ℕ) → a ≡ 0 → b ≡ or_else a b
+pub or_refusal : (a b : Option Refusal) → refusal_number (option_or a b) ≡ or_else (refusal_number a) (refusal_number b)
 unfolding or_else
-or_first zero b h = refl
-or_first (suc a) b h = absurd (omega arith)
-
-pub or_itself : (a b : ℕ) → (a ≡ 0 → ⊥) → a ≡ or_else a b
-unfolding or_else
-or_itself zero b h = absurd (h refl)
-or_itself (suc a) b h = refl
+or_refusal None b = refl
+or_refusal (Some NoForm) b = refl
+or_refusal (Some OtherForm) b = refl
 
 pub or_assoc : (a b c : ℕ) → or_else (or_else a b) c ≡ or_else a (or_else b c)
 unfolding or_else
@@ -108,7 +101,7 @@ refusals = record { empty = 0; add = or_else; assoc = or_assoc; left = or_left; 
 abbrev pub numbers : Adding ℕ
 numbers = record { empty = 0; add = λ a b. limited (a + b); assoc = plus_assoc; left = plus_left; right = plus_end; flat = plus_none }
 
-pub both_assoc : (a b c : Tally) → both (both a b) c ≡ both a (both b c)
+pub both_assoc : (a b c : Totals) → both (both a b) c ≡ both a (both b c)
 unfolding both
 both_assoc a b c = λ j. record {
   excluded = plus_assoc a.excluded b.excluded c.excluded j;
@@ -119,7 +112,7 @@ both_assoc a b c = λ j. record {
   patterns = plus_assoc a.patterns b.patterns c.patterns j;
 }
 
-pub both_left : (a b : Tally) → both tally.no_tally (both a b) ≡ both a b
+pub both_left : (a b : Totals) → both tally.no_tally (both a b) ≡ both a b
 unfolding both
 both_left a b = λ j. record {
   excluded = plus_left a.excluded b.excluded j;
@@ -130,7 +123,7 @@ both_left a b = λ j. record {
   patterns = plus_left a.patterns b.patterns j;
 }
 
-pub both_right : (a b : Tally) → both (both a b) tally.no_tally ≡ both a b
+pub both_right : (a b : Totals) → both (both a b) tally.no_tally ≡ both a b
 unfolding both
 both_right a b = λ j. record {
   excluded = plus_end a.excluded b.excluded j;
@@ -152,10 +145,21 @@ both_none = λ j. record {
   patterns = plus_none j;
 }
 
-abbrev pub tallies : Adding Tally
+abbrev pub tallies : Adding Totals
 tallies = record { empty = tally.no_tally; add = both; assoc = both_assoc; left = both_left; right = both_right; flat = both_none }
 
-pub both_made : (a b r : Tally) → r.excluded ≡ limited (a.excluded + b.excluded) → r.temporaries ≡ limited (a.temporaries + b.temporaries) → r.computed ≡ limited (a.computed + b.computed) → r.refusal ≡ or_else a.refusal b.refusal → r.objects ≡ limited (a.objects + b.objects) → r.patterns ≡ limited (a.patterns + b.patterns) → r ≡ both a b
+-- the counts of the default
+pub tally_empty : (t : Tally) → (t.excluded ≡ 0) × ((t.temporaries ≡ 0) × ((t.computed ≡ 0) × ((t.refusal ≡ None) × ((t.objects ≡ 0) × (t.patterns ≡ 0))))) → tally_values t ≡ tally.no_tally
+tally_empty t e = λ j. record {
+  excluded = e.0 j;
+  temporaries = e.1.0 j;
+  computed = e.1.1.0 j;
+  refusal = refusal_number (e.1.1.1.0 j);
+  objects = e.1.1.1.1.0 j;
+  patterns = e.1.1.1.1.1 j;
+}
+
+pub both_made : (a b r : Totals) → r.excluded ≡ limited (a.excluded + b.excluded) → r.temporaries ≡ limited (a.temporaries + b.temporaries) → r.computed ≡ limited (a.computed + b.computed) → r.refusal ≡ or_else a.refusal b.refusal → r.objects ≡ limited (a.objects + b.objects) → r.patterns ≡ limited (a.patterns + b.patterns) → r ≡ both a b
 unfolding both
 both_made a b r e f g h i k = λ j. record { excluded = e j; temporaries = f j; computed = g j; refusal = h j; objects = i j; patterns = k j }
 
@@ -228,6 +232,15 @@ module _ {A : Type 0} (M : Adding A) where
     unfolding look_items sum
     sum_end d h zero at t w z a = sym a.1 ∙ a.0
     sum_end d h (suc n) at t w z a = absurd (omega arith)
+
+    -- the same by the turns i of n that were made
+    pub sum_turn : (d : ℕ) (h : Bool) (n i at q : ℕ) (t x u w : A) → i < n → x ≡ item_sum h d at → q ≡ (look_item l (look_node l d) h at).next → u ≡ M.add t x → Adds t (list_sum d h (n - i) at) w → Adds u (list_sum d h (n - (i + 1)) q) w
+    sum_turn d h n i at q t x u w z e g v a =
+        let s : n - i - 1 ≡ n - (i + 1) = omega arith in
+        subst (λ (m : ℕ). Adds u (list_sum d h m q) w) s (sum_more d h (n - i) at q t x u w (omega arith) e g v a)
+
+    pub sum_done : (d : ℕ) (h : Bool) (n i at : ℕ) (t w : A) → n ≤ i → Adds t (list_sum d h (n - i) at) w → t ≡ w
+    sum_done d h n i at t w z a = sum_end d h (n - i) at t w (omega arith) a
 
     -- an item at its place, where f finds nothing in an empty node
     pub item_place_lem : (blank : (at : ℕ) → f (node at 0 done) ≡ M.empty) (d : ℕ) (h : Bool) (at : ℕ) (s : Place) (x : A) → s ≡ item_place l h d at → x ≡ f (node_here l s) → x ≡ item_sum h d at

@@ -14,9 +14,8 @@ use Rattle.lowering.specs.Keys.{key_sort, keys_refusal, key_temporaries, taken}
 use Rattle.lowering.specs.Keys as keys
 use Rattle.lowering.specs.Rests.{has_no_properties, rest_value}
 use Rattle.lowering.specs.Declarations.{keys_before, pattern_declarator, rest_declarator, own, nested, nested_below, object_declarators, pattern_declarators}
-use Rattle.pattern.specs.declared.tally.Tally.{Tally}
 use Rattle.pattern.specs.Tally as tally
-use Rattle.pattern.specs.Tally.{limited, both, sum}
+use Rattle.pattern.specs.Tally.{Totals, limited, both, sum}
 use Rattle.pattern.specs.Keys.{key_tally, keys_of, counts_by}
 use Rattle.pattern.specs.Objects.{object_itself, object_tally, own_tally, objects_tally, rests_tally}
 use Rattle.pattern.specs.Declarators.{made}
@@ -129,18 +128,18 @@ objects_count (item p is) h =
 
 -- ---- what the thin functions answer
 
-module _ (n : Node) (t : Tally) where
+module _ (n : Node) (t : Totals) where
   pub objects_below_lem : (c : Context) → ((c : Context) → t ≡ rests_tally c n) → t.objects ≡ limited (count (objects_below c n))
   unfolding rests_tally
-  objects_below_lem c e = ap (λ (x : Tally). x.objects) (e c) ∙ objects_count (objects_below c n) (solid_objects c (depth n) n)
+  objects_below_lem c e = ap (λ (x : Totals). x.objects) (e c) ∙ objects_count (objects_below c n) (solid_objects c (depth n) n)
 
   pub below_refuses : (c : Context) → ((c : Context) → t ≡ rests_tally c n) → t.refusal ≡ first keys_refusal (objects_below c n)
   unfolding rests_tally
-  below_refuses c e = ap (λ (x : Tally). x.refusal) (e c) ∙ refusal_items (objects_below c n)
+  below_refuses c e = ap (λ (x : Totals). x.refusal) (e c) ∙ refusal_items (objects_below c n)
 
 -- ---- declarators
 
-made_is : (t : Tally) → made t ≡ limited (t.temporaries + t.patterns + t.objects)
+made_is : (t : Totals) → made t ≡ limited (t.temporaries + t.patterns + t.objects)
 unfolding made
 made_is t = plus_limited (t.temporaries + t.patterns) t.objects
 
@@ -152,7 +151,7 @@ three : (a b c : ℕ) → limited (limited a + limited b + limited c) ≡ limite
 unfolding limited
 three a b c = omega arith
 
-made_both : (a b : Tally) → made (both a b) ≡ limited (made a + made b)
+made_both : (a b : Totals) → made (both a b) ≡ limited (made a + made b)
 unfolding both
 made_both a b =
     let x = a.temporaries in

@@ -19,21 +19,20 @@ use Rattle.lowering.specs.Rests.{has_no_properties}
 use Rattle.lowering.specs.Declarations.{is_name_of, source, source_declarator, pattern_declarators, lower_declarator, is_lowered, declarators, lowered_in, declaration_refusal}
 use Rattle.pattern.specs.declared.parts.Place.{Place}
 use Rattle.pattern.specs.declared.parts.Run.{Run}
-use Rattle.pattern.specs.declared.tally.Tally.{Tally}
 use Rattle.pattern.specs.Parts.{part_at, place_of, run_of, node_here}
-use Rattle.pattern.specs.Tally.{limited}
+use Rattle.pattern.specs.Tally.{Totals, limited}
 use Rattle.pattern.specs.Objects.{rests_tally}
 use Rattle.pattern.specs.Declarators.{made, item_count_of, declarator_refusal, item_refusal}
 use Rattle.pattern.proofs.NodeParts.{Blank, child_is, list_is, kind_is, no_levels}
 use Rattle.pattern.proofs.Below as below
-use Rattle.pattern.proofs.CappedSums.{numbers, refusals, first_sum, Adds, sum_of, list_sum, sum_start, sum_more, sum_end, plus_right}
+use Rattle.pattern.proofs.CappedSums.{at_start, numbers, refusals, first_sum, Adds, sum_of, list_sum, sum_start, sum_turn, sum_done, plus_right}
 use Rattle.pattern.proofs.MovesCounted.{count_sum}
 use Rattle.pattern.proofs.SourceReads.{name_blank}
 use Rattle.pattern.proofs.Counting as counting
 use Rattle.pattern.proofs.Searches as search
 use Rattle.lowering.proofs.ItemLaws.{count_append}
 
-pub made_sum : (t : Tally) (x y : ℕ) → x ≡ limited (t.temporaries + t.patterns) → y ≡ limited (x + t.objects) → y ≡ made t
+pub made_sum : (t : Totals) (x y : ℕ) → x ≡ limited (t.temporaries + t.patterns) → y ≡ limited (x + t.objects) → y ≡ made t
 unfolding made
 made_sum t x y e f = f ∙ ap (λ (n : ℕ). limited (n + t.objects)) e
 
@@ -65,17 +64,17 @@ module _ (l : List ℕ) where
     abbrev here : Node
     here = (look_node l d at).value
 
-    pub object_rest_lem : (t : Tally) (n : ℕ) (b : Bool) → k ≡ 34 → ((c : Context) → t ≡ rests_tally c here) → n ≡ made t → b ≡ stands 1 here → b ≡ true → (c : Context) (s : Node) → n ≡ pattern_count c s here
+    pub object_rest_lem : (t : Totals) (n : ℕ) (b : Bool) → k ≡ 34 → ((c : Context) → t ≡ rests_tally c here) → n ≡ made t → b ≡ stands 1 here → b ≡ true → (c : Context) (s : Node) → n ≡ pattern_count c s here
     object_rest_lem t n b y w v r i c s = v ∙ ap made (w c) ∙ counting.object_with_rest c here s (search.object_shape l d at k z e y) (sym r ∙ i)
 
-    pub object_empty : (t : Tally) (n : ℕ) (b f : Bool) → k ≡ 34 → ((c : Context) → t ≡ rests_tally c here) → n ≡ made t → b ≡ stands 1 here → b ≡ false → f ≡ has_no_properties here → f ≡ true → (c : Context) (s : Node) → n ≡ pattern_count c s here
+    pub object_empty : (t : Totals) (n : ℕ) (b f : Bool) → k ≡ 34 → ((c : Context) → t ≡ rests_tally c here) → n ≡ made t → b ≡ stands 1 here → b ≡ false → f ≡ has_no_properties here → f ≡ true → (c : Context) (s : Node) → n ≡ pattern_count c s here
     object_empty t n b f y w v r i g h c s = v ∙ ap made (w c) ∙ counting.object_bare c here s (search.object_shape l d at k z e y) (sym r ∙ i) (sym g ∙ h)
 
-    pub object_filled : (t : Tally) (n u : ℕ) (b f : Bool) → k ≡ 34 → ((c : Context) → t ≡ rests_tally c here) → n ≡ made t → b ≡ stands 1 here → b ≡ false → f ≡ has_no_properties here → f ≡ false → u ≡ limited (n + 1) → (c : Context) (s : Node) → u ≡ pattern_count c s here
+    pub object_filled : (t : Totals) (n u : ℕ) (b f : Bool) → k ≡ 34 → ((c : Context) → t ≡ rests_tally c here) → n ≡ made t → b ≡ stands 1 here → b ≡ false → f ≡ has_no_properties here → f ≡ false → u ≡ limited (n + 1) → (c : Context) (s : Node) → u ≡ pattern_count c s here
     object_filled t n u b f y w v r i g h o c s =
         o ∙ ap (λ (x : ℕ). limited (x + 1)) (v ∙ ap made (w c)) ∙ counting.object_pattern_lem c here s (search.object_shape l d at k z e y) (sym r ∙ i) (sym g ∙ h)
 
-    pub array_one : (t : Tally) (n u : ℕ) → k ≡ 36 → ((c : Context) → t ≡ rests_tally c here) → n ≡ made t → u ≡ limited (n + 1) → (c : Context) (s : Node) → u ≡ pattern_count c s here
+    pub array_one : (t : Totals) (n u : ℕ) → k ≡ 36 → ((c : Context) → t ≡ rests_tally c here) → n ≡ made t → u ≡ limited (n + 1) → (c : Context) (s : Node) → u ≡ pattern_count c s here
     array_one t n u y w v o c s = o ∙ ap (λ (x : ℕ). limited (x + 1)) (v ∙ ap made (w c)) ∙ counting.array_declarators c here s (search.array_shape l d at k z e y)
 
     pub other_none : (k ≡ 34 → ⊥) → (k ≡ 36 → ⊥) → (c : Context) (s : Node) → 0 ≡ pattern_count c s here
@@ -164,16 +163,17 @@ module _ (l : List ℕ) where
   unfolding items_at_of piece_in gather count limited
   all_none d at z c = rw (no_levels l d at z)
 
-  pub all_start : (d at : ℕ) (r : Run) → r ≡ run_of at (part_at l d at 2) → Becoming d at (d - 1) r.holes r.count r.from 0
-  all_start d at r e c =
-      sum_start numbers l (becoming c) (d - 1) r.holes r.count r.from 0 _ refl (ap (sum_of numbers (becoming c)) (list_is l d at 2 r e) ∙ count_sum (declarators c) (declared_in d at))
+  pub all_start : (d at : ℕ) (r : Run) → r ≡ run_of at (part_at l d at 2) → Becoming d at (d - 1) r.holes (r.count - 0) r.from 0
+  all_start d at r e =
+      at_start (λ (m : ℕ). Becoming d at (d - 1) r.holes m r.from 0) r.count
+      (λ c. sum_start numbers l (becoming c) (d - 1) r.holes r.count r.from 0 _ refl (ap (sum_of numbers (becoming c)) (list_is l d at 2 r e) ∙ count_sum (declarators c) (declared_in d at)))
 
-  pub all_more : (left at d : ℕ) (h : Bool) (n p q t x u : ℕ) → 0 < n → ((c : Context) → x ≡ item_count_of c l h d p) → q ≡ (look_item l (look_node l d) h p).next → u ≡ limited (t + x) → Becoming left at d h n p t → Becoming left at d h (n - 1) q u
+  pub all_more : (left at d : ℕ) (h : Bool) (n i p q t x u : ℕ) → i < n → ((c : Context) → x ≡ item_count_of c l h d p) → q ≡ (look_item l (look_node l d) h p).next → u ≡ limited (t + x) → Becoming left at d h (n - i) p t → Becoming left at d h (n - (i + 1)) q u
   unfolding item_count_of
-  all_more left at d h n p q t x u z a g v w c = sum_more numbers l (becoming c) d h n p q t x u _ z (a c) g v (w c)
+  all_more left at d h n i p q t x u z a g v w c = sum_turn numbers l (becoming c) d h n i p q t x u _ z (a c) g v (w c)
 
-  pub all_end : (left at d : ℕ) (h : Bool) (n p t : ℕ) → n ≤ 0 → Becoming left at d h n p t → (c : Context) → t ≡ limited (count (gather (declarators c) (declared_in left at)))
-  all_end left at d h n p t z w c = sum_end numbers l (becoming c) d h n p t _ z (w c)
+  pub all_end : (left at d : ℕ) (h : Bool) (n i p t : ℕ) → n ≤ i → Becoming left at d h (n - i) p t → (c : Context) → t ≡ limited (count (gather (declarators c) (declared_in left at)))
+  all_end left at d h n i p t z w c = sum_done numbers l (becoming c) d h n i p t _ z (w c)
 
   -- ---- the first refusal of a declaration
 
@@ -196,14 +196,15 @@ module _ (l : List ℕ) where
   unfolding declaration_refusal items_at_of piece_in first
   refuses_none d at z c = rw (no_levels l d at z)
 
-  pub refuses_start : (d at : ℕ) (r : Run) → r ≡ run_of at (part_at l d at 2) → Refusing d at (d - 1) r.holes r.count r.from 0
+  pub refuses_start : (d at : ℕ) (r : Run) → r ≡ run_of at (part_at l d at 2) → Refusing d at (d - 1) r.holes (r.count - 0) r.from 0
   unfolding declaration_refusal
-  refuses_start d at r e c =
-      sum_start refusals l (declarator_refusal c) (d - 1) r.holes r.count r.from 0 _ refl (ap (sum_of refusals (declarator_refusal c)) (list_is l d at 2 r e) ∙ first_sum (declarator_refusal c) (declared_in d at))
+  refuses_start d at r e =
+      at_start (λ (m : ℕ). Refusing d at (d - 1) r.holes m r.from 0) r.count
+      (λ c. sum_start refusals l (declarator_refusal c) (d - 1) r.holes r.count r.from 0 _ refl (ap (sum_of refusals (declarator_refusal c)) (list_is l d at 2 r e) ∙ first_sum (declarator_refusal c) (declared_in d at)))
 
-  pub refuses_more : (left at d : ℕ) (h : Bool) (n p q t x u : ℕ) → 0 < n → ((c : Context) → x ≡ item_refusal c l h d p) → q ≡ (look_item l (look_node l d) h p).next → u ≡ or_else t x → Refusing left at d h n p t → Refusing left at d h (n - 1) q u
+  pub refuses_more : (left at d : ℕ) (h : Bool) (n i p q t x u : ℕ) → i < n → ((c : Context) → x ≡ item_refusal c l h d p) → q ≡ (look_item l (look_node l d) h p).next → u ≡ or_else t x → Refusing left at d h (n - i) p t → Refusing left at d h (n - (i + 1)) q u
   unfolding item_refusal
-  refuses_more left at d h n p q t x u z a g v w c = sum_more refusals l (declarator_refusal c) d h n p q t x u _ z (a c) g v (w c)
+  refuses_more left at d h n i p q t x u z a g v w c = sum_turn refusals l (declarator_refusal c) d h n i p q t x u _ z (a c) g v (w c)
 
-  pub refuses_end : (left at d : ℕ) (h : Bool) (n p t : ℕ) → n ≤ 0 → Refusing left at d h n p t → (c : Context) → t ≡ declaration_refusal c (look_node l left at).value
-  refuses_end left at d h n p t z w c = sum_end refusals l (declarator_refusal c) d h n p t _ z (w c)
+  pub refuses_end : (left at d : ℕ) (h : Bool) (n i p t : ℕ) → n ≤ i → Refusing left at d h (n - i) p t → (c : Context) → t ≡ declaration_refusal c (look_node l left at).value
+  refuses_end left at d h n i p t z w c = sum_done refusals l (declarator_refusal c) d h n i p t _ z (w c)

@@ -33,16 +33,15 @@ use Rattle.pattern.specs.declared.keys.Key.TheVariants as variants
 use Rattle.pattern.specs.declared.keys.Key.TheVariants.{OtherForm, Template, Private, Again, Other}
 use Rattle.pattern.specs.declared.numbers.Spelling.{Spelling}
 use Rattle.pattern.specs.declared.numbers.Spelling.TheVariants.{Decimal, Hexadecimal, Another}
-use Rattle.pattern.specs.declared.tally.Tally.{Tally}
 use Rattle.pattern.specs.Parts.{Content, part_values, part_at, text_in_of, standing, place_of, run_of}
 use Rattle.pattern.specs.Numbers.{Numeral, spelling_value, spelled_as_of, is_string_of}
 use Rattle.pattern.specs.Tally as tally
-use Rattle.pattern.specs.Tally.{limited, both, sum}
+use Rattle.pattern.specs.Tally.{Totals, limited, both, sum}
 use Rattle.pattern.specs.Keys.{name_in_of, form_in, beside_form, literal_by, literal_in, literal_at, key_at, Becomes, key_refusal, key_entry, sort_of_key, key_values, Keyed, counts, counts_by, key_counts, key_tally, keys_of, item_keys}
 use Rattle.pattern.proofs.NodeParts.{Blank, child_is, list_is, kind_is, no_levels, text_part, stands_part, sort_absent, sort_there}
 use Rattle.pattern.proofs.NumberCases.{promised_by, promised_by_lem, decimal_string, same_string, Low, spelled_low}
 use Rattle.pattern.proofs.Fields.{key_at_lem}
-use Rattle.pattern.proofs.CappedSums.{tallies, Adds, sum_of, list_sum, both_made, sum_start, sum_more, sum_end}
+use Rattle.pattern.proofs.CappedSums.{at_start, tallies, Adds, sum_of, list_sum, both_made, sum_start, sum_turn, sum_done}
 use Rattle.lowering.proofs.Cases.{by_test, by_key}
 use Rattle.lowering.proofs.ItemLaws.{count_append}
 use Rattle.lowering.proofs.Clauses.{text_name, text_literal}
@@ -557,7 +556,7 @@ becomes l d at r e =
 
 -- ---- the counts of the keys of an object pattern
 
-abbrev pub key_of_item : Node → Tally
+abbrev pub key_of_item : Node → Totals
 key_of_item q = key_tally (key q)
 
 tally_blank : Blank key_tally
@@ -565,15 +564,15 @@ unfolding key_tally keys.key_refusal key_sort is stands Rattle.lowering.specs.Pa
 tally_blank at = refl
 
 module _ (l : List ℕ) where
-  pub item_none : (h : Bool) (d at n : ℕ) (r : Tally) → h ≡ true → Peeked l at n → n ≡ 0 → r ≡ tally.no_tally → r ≡ item_keys l h d at
+  pub item_none : (h : Bool) (d at n : ℕ) (r : Totals) → h ≡ true → Peeked l at n → n ≡ 0 → r ≡ tally.no_tally → r ≡ item_keys l h d at
   unfolding item_keys
   item_none h d at n r t p z e = rw (t, eq-eqb (byte_at l at) 0 (sym p.value ∙ z)) e
 
-  key_here : (d at : ℕ) (s : Place) (x : Key) (r : Tally) → s ≡ place_of d at (part_at l d at 0) → x ≡ key_at l s.left s.at → r ≡ key_counts x → r ≡ key_tally (key (look_node l d at).value)
+  key_here : (d at : ℕ) (s : Place) (x : Key) (r : Totals) → s ≡ place_of d at (part_at l d at 0) → x ≡ key_at l s.left s.at → r ≡ key_counts x → r ≡ key_tally (key (look_node l d at).value)
   key_here d at s x r e a w = w ∙ ap key_counts a ∙ counts_are l s.left s.at ∙ child_is l key_tally tally_blank d at 0 s e
 
   -- a static key adds one
-  key_static : (d at k : ℕ) (s : Place) (r : Tally) → s ≡ place_of d at (part_at l d at 0) → 0 < s.left → k ≡ byte_at l s.at → k ≡ 38 → r ≡ counts 1 0 0 0 → r ≡ key_tally (key (look_node l d at).value)
+  key_static : (d at k : ℕ) (s : Place) (r : Totals) → s ≡ place_of d at (part_at l d at 0) → 0 < s.left → k ≡ byte_at l s.at → k ≡ 38 → r ≡ counts 1 0 0 0 → r ≡ key_tally (key (look_node l d at).value)
   unfolding key_tally
   key_static d at k s r e z a y w =
       w ∙ ap (λ (x : keys.Key). counts_by x (keys.key_refusal (look_node l s.left s.at).value)) (sym (sort_name (look_node l s.left s.at).value (kind_is l s.left s.at k (λ n. absurd (omega arith)) a ∙ y)))
@@ -585,41 +584,41 @@ module _ (l : List ℕ) where
       rw t (key_static d at j (record { left = d - 1; at = q }) (counts 1 0 0 0) (key_at_lem l d at k p m q (omega arith) e y f g i v) (omega arith) w (eqb-true j 38 z) refl)
 
   -- counts that have stopped where they should, and a static key
-  pub static_more : (t r : Tally) (h : Bool) (d at : ℕ) → r.excluded ≡ limited (t.excluded + 1) → r.temporaries ≡ t.temporaries → r.computed ≡ t.computed → r.refusal ≡ t.refusal → r.objects ≡ t.objects → r.patterns ≡ t.patterns
+  pub static_more : (t r : Totals) (h : Bool) (d at : ℕ) → r.excluded ≡ limited (t.excluded + 1) → r.temporaries ≡ t.temporaries → r.computed ≡ t.computed → r.refusal ≡ t.refusal → r.objects ≡ t.objects → r.patterns ≡ t.patterns
       → counts 1 0 0 0 ≡ item_keys l h d at → both t tally.no_tally ≡ t → r ≡ both t (item_keys l h d at)
   unfolding both
   static_more t r h d at e f g i j k s z =
-      both_made t (counts 1 0 0 0) r e (f ∙ sym (ap (λ (x : Tally). x.temporaries) z)) (g ∙ sym (ap (λ (x : Tally). x.computed) z)) (i ∙ sym (ap (λ (x : Tally). x.refusal) z))
-      (j ∙ sym (ap (λ (x : Tally). x.objects) z)) (k ∙ sym (ap (λ (x : Tally). x.patterns) z))
+      both_made t (counts 1 0 0 0) r e (f ∙ sym (ap (λ (x : Totals). x.temporaries) z)) (g ∙ sym (ap (λ (x : Totals). x.computed) z)) (i ∙ sym (ap (λ (x : Totals). x.refusal) z))
+      (j ∙ sym (ap (λ (x : Totals). x.objects) z)) (k ∙ sym (ap (λ (x : Totals). x.patterns) z))
       ∙ ap (both t) s
 
-  pub item_other : (h : Bool) (d at n : ℕ) (s : Place) (x : Key) (r : Tally) → h ≡ true → Peeked l at n → (n ≡ 0 → ⊥) → s ≡ place_of d at (part_at l d at 0) → x ≡ key_at l s.left s.at → r ≡ key_counts x → r ≡ item_keys l h d at
+  pub item_other : (h : Bool) (d at n : ℕ) (s : Place) (x : Key) (r : Totals) → h ≡ true → Peeked l at n → (n ≡ 0 → ⊥) → s ≡ place_of d at (part_at l d at 0) → x ≡ key_at l s.left s.at → r ≡ key_counts x → r ≡ item_keys l h d at
   unfolding item_keys
   item_other h d at n s x r t p z e a w = rw (t, ne_eqb (byte_at l at) 0 (λ y. z (p.value ∙ y))) (key_here d at s x r e a w)
 
-  pub item_node : (h : Bool) (d at : ℕ) (s : Place) (x : Key) (r : Tally) → h ≡ false → s ≡ place_of d at (part_at l d at 0) → x ≡ key_at l s.left s.at → r ≡ key_counts x → r ≡ item_keys l h d at
+  pub item_node : (h : Bool) (d at : ℕ) (s : Place) (x : Key) (r : Totals) → h ≡ false → s ≡ place_of d at (part_at l d at 0) → x ≡ key_at l s.left s.at → r ≡ key_counts x → r ≡ item_keys l h d at
   unfolding item_keys
   item_node h d at s x r t e a w = rw t (key_here d at s x r e a w)
 
   -- without levels there are no properties
-  pub keys_none : (d at : ℕ) (r : Tally) → d ≡ 0 → r ≡ tally.no_tally → r ≡ keys_of (look_node l d at).value
+  pub keys_none : (d at : ℕ) (r : Totals) → d ≡ 0 → r ≡ tally.no_tally → r ≡ keys_of (look_node l d at).value
   unfolding keys_of sum items_at_of piece_in
   keys_none d at r z e = rw (no_levels l d at z) e
 
-  abbrev pub KeysLeft : ℕ → ℕ → ℕ → Bool → ℕ → ℕ → Tally → Type 0
+  abbrev pub KeysLeft : ℕ → ℕ → ℕ → Bool → ℕ → ℕ → Totals → Type 0
   KeysLeft left at below h n p t = Adds tallies t (list_sum tallies l key_of_item below h n p) (keys_of (look_node l left at).value)
 
-  pub keys_start : (d at : ℕ) (r : Run) (t : Tally) → r ≡ run_of at (part_at l d at 0) → t ≡ tally.no_tally → KeysLeft d at (d - 1) r.holes r.count r.from t
+  pub keys_start : (d at : ℕ) (r : Run) (t : Totals) → r ≡ run_of at (part_at l d at 0) → t ≡ tally.no_tally → KeysLeft d at (d - 1) r.holes (r.count - 0) r.from t
   unfolding keys_of
   keys_start d at r t e s =
-      sum_start tallies l key_of_item (d - 1) r.holes r.count r.from t (keys_of (look_node l d at).value) s (ap (sum_of tallies key_of_item) (list_is l d at 0 r e))
+      at_start (λ (m : ℕ). KeysLeft d at (d - 1) r.holes m r.from t) r.count (sum_start tallies l key_of_item (d - 1) r.holes r.count r.from t (keys_of (look_node l d at).value) s (ap (sum_of tallies key_of_item) (list_is l d at 0 r e)))
 
-  pub keys_more : (d at e : ℕ) (h : Bool) (n p q : ℕ) (t u : Tally) → 0 < n → (both t tally.no_tally ≡ t → u ≡ both t (item_keys l h e p)) → q ≡ (look_item l (look_node l e) h p).next → KeysLeft d at e h n p t → KeysLeft d at e h (n - 1) q u
+  pub keys_more : (d at e : ℕ) (h : Bool) (n i p q : ℕ) (t u : Totals) → i < n → (both t tally.no_tally ≡ t → u ≡ both t (item_keys l h e p)) → q ≡ (look_item l (look_node l e) h p).next → KeysLeft d at e h (n - i) p t → KeysLeft d at e h (n - (i + 1)) q u
   unfolding item_keys
-  keys_more d at e h n p q t u z v g w = sum_more tallies l key_of_item e h n p q t (item_keys l h e p) u (keys_of (look_node l d at).value) z refl g (v w.1) w
+  keys_more d at e h n i p q t u z v g w = sum_turn tallies l key_of_item e h n i p q t (item_keys l h e p) u (keys_of (look_node l d at).value) z refl g (v w.1) w
 
-  pub keys_end : (d at e : ℕ) (h : Bool) (n p : ℕ) (t : Tally) → n ≤ 0 → KeysLeft d at e h n p t → t ≡ keys_of (look_node l d at).value
-  keys_end d at e h n p t z w = sum_end tallies l key_of_item e h n p t (keys_of (look_node l d at).value) z w
+  pub keys_end : (d at e : ℕ) (h : Bool) (n i p : ℕ) (t : Totals) → n ≤ i → KeysLeft d at e h (n - i) p t → t ≡ keys_of (look_node l d at).value
+  keys_end d at e h n i p t z w = sum_done tallies l key_of_item e h n i p t (keys_of (look_node l d at).value) z w
 
   filled : (d : ℕ) (h : Bool) (p : ℕ) (is : Items) → is_empty ((look_item l (look_node l d) h p).value is) ≡ false
   unfolding is_empty look_item
@@ -655,7 +654,7 @@ unfolding key_tally is_primitive
 computed_is k =
     by_key (key_sort k) (λ s. rw (s, is_primitive)) (λ s. rw (s, is_primitive)) (λ s. rw (s, is_primitive)) (λ s. rw (s, is_primitive)) (λ s. rw (s, is_primitive)) (λ s. rw (s, is_primitive))
 
-abbrev keys_in : Items → Tally
+abbrev keys_in : Items → Totals
 keys_in is = sum_of tallies key_of_item is
 
 computed_none : (is : Items) → eqb (keys_in is).computed 0 ≡ not (any (λ q. not (is_primitive (key q))) is)
@@ -668,9 +667,9 @@ computed_none (item q is) = ap (λ (x : ℕ). eqb (limited (x + (keys_in is).com
     go true e = limited_none (keys_in is).computed ∙ e
     go false e = limited_some (keys_in is).computed
 
-pub primitive_law : (p : Node) (t : Tally) → t ≡ keys_of p → eqb t.computed 0 ≡ all_primitive p
+pub primitive_law : (p : Node) (t : Totals) → t ≡ keys_of p → eqb t.computed 0 ≡ all_primitive p
 unfolding keys_of all_primitive
-primitive_law p t e = ap (λ (x : Tally). eqb x.computed 0) e ∙ computed_none (properties p)
+primitive_law p t e = ap (λ (x : Totals). eqb x.computed 0) e ∙ computed_none (properties p)
 
 refusal_first : (is : Items) → (keys_in is).refusal ≡ first (λ q. keys.key_refusal (key q)) is
 unfolding sum first both
@@ -678,9 +677,9 @@ refusal_first none = refl
 refusal_first (hole is) = refusal_first is
 refusal_first (item q is) = ap₂ or_else (refusing_is (key q)) (refusal_first is)
 
-pub refusal_law : (p : Node) (t : Tally) → t ≡ keys_of p → t.refusal ≡ keys_refusal p
+pub refusal_law : (p : Node) (t : Totals) → t ≡ keys_of p → t.refusal ≡ keys_refusal p
 unfolding keys_of keys_refusal
-refusal_law p t e = ap (λ (x : Tally). x.refusal) e ∙ refusal_first (properties p)
+refusal_law p t e = ap (λ (x : Totals). x.refusal) e ∙ refusal_first (properties p)
 
 -- ---- how many excluded keys and key temporaries there are, in any context
 
@@ -715,10 +714,10 @@ module _ (c : Context) where
       let d = count_append (key_temporary c q) (gather (key_temporary c) is) in
       omega arith
 
-  pub excluded_law : (p : Node) (t : Tally) → t ≡ keys_of p → t.excluded ≡ limited (count (excluded_keys c p))
+  pub excluded_law : (p : Node) (t : Totals) → t ≡ keys_of p → t.excluded ≡ limited (count (excluded_keys c p))
   unfolding keys_of excluded_keys
-  excluded_law p t e = ap (λ (x : Tally). x.excluded) e ∙ excluded_all (properties p)
+  excluded_law p t e = ap (λ (x : Totals). x.excluded) e ∙ excluded_all (properties p)
 
-  pub temporaries_law : (p : Node) (t : Tally) → t ≡ keys_of p → t.temporaries ≡ limited (count (key_temporaries c p))
+  pub temporaries_law : (p : Node) (t : Totals) → t ≡ keys_of p → t.temporaries ≡ limited (count (key_temporaries c p))
   unfolding keys_of key_temporaries
-  temporaries_law p t e = ap (λ (x : Tally). x.temporaries) e ∙ temporary_all (properties p)
+  temporaries_law p t e = ap (λ (x : Totals). x.temporaries) e ∙ temporary_all (properties p)

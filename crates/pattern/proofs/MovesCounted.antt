@@ -24,7 +24,7 @@ use Rattle.pattern.specs.Moves.{moved_below}
 use Rattle.pattern.proofs.NodeParts.{Blank, child_is, list_is, array_list, kind_is, no_levels}
 use Rattle.pattern.proofs.Below as below
 use Rattle.pattern.proofs.Below.{node_free, gather_free}
-use Rattle.pattern.proofs.CappedSums.{numbers, Adds, sum_of, list_sum, sum_start, sum_more, sum_end, item_place_lem, plus_both}
+use Rattle.pattern.proofs.CappedSums.{at_start, numbers, Adds, sum_of, list_sum, sum_start, sum_turn, sum_done, item_place_lem, plus_both}
 use Rattle.lowering.proofs.ItemLaws.{count_append}
 
 -- ---- counts of what is gathered
@@ -79,9 +79,9 @@ module _ (l : List ℕ) where
   abbrev pub ItemsLeft : ℕ → ℕ → ℕ → ℕ → ℕ → ℕ → Type 0
   ItemsLeft left at below n p t = Adds numbers t (list_sum numbers l amount below true n p) (sum_of numbers amount (items_at_of 0 (look_node l left at).value))
 
-  pub item_more : (left at d n p q : ℕ) (s : Place) (t x u : ℕ) → 0 < n → s ≡ item_place l true d p → x ≡ amount (node_here l s) → q ≡ (look_item l (look_node l d) true p).next → u ≡ limited (t + x) → ItemsLeft left at d n p t → ItemsLeft left at d (n - 1) q u
-  item_more left at d n p q s t x u z e y g v w =
-      sum_more numbers l amount d true n p q t x u _ z (item_place_lem numbers l amount (λ at. amount_blank at ∙ amount_nothing) d true p s x e y) g v w
+  pub item_more : (left at d n i p q : ℕ) (s : Place) (t x u : ℕ) → i < n → s ≡ item_place l true d p → x ≡ amount (node_here l s) → q ≡ (look_item l (look_node l d) true p).next → u ≡ limited (t + x) → ItemsLeft left at d (n - i) p t → ItemsLeft left at d (n - (i + 1)) q u
+  item_more left at d n i p q s t x u z e y g v w =
+      sum_turn numbers l amount d true n i p q t x u _ z (item_place_lem numbers l amount (λ at. amount_blank at ∙ amount_nothing) d true p s x e y) g v w
 
   module _ (d at k : ℕ) (z : d ≡ 0 → ⊥) (e : k ≡ byte_at l at) where
     abbrev here : Node
@@ -97,12 +97,12 @@ module _ (l : List ℕ) where
     moved_leaf f g h =
         amount_leaf here (below.is_leaf here (λ y. f (sym (kind_is l d at k z e) ∙ y)) (λ y. g (sym (kind_is l d at k z e) ∙ y)) (λ y. h (sym (kind_is l d at k z e) ∙ y)))
 
-    pub items_start : (r : Run) → k ≡ 36 → r ≡ run_of at (part_at l d at 0) → ItemsLeft d at (d - 1) r.count r.from 0
-    items_start r y w = sum_start numbers l amount (d - 1) true r.count r.from 0 _ refl (ap (sum_of numbers amount) (array_list l d at r (sym e ∙ y) w))
+    pub items_start : (r : Run) → k ≡ 36 → r ≡ run_of at (part_at l d at 0) → ItemsLeft d at (d - 1) (r.count - 0) r.from 0
+    items_start r y w = at_start (λ (m : ℕ). ItemsLeft d at (d - 1) m r.from 0) r.count (sum_start numbers l amount (d - 1) true r.count r.from 0 _ refl (ap (sum_of numbers amount) (array_list l d at r (sym e ∙ y) w)))
 
-    pub array_end : (b n p t x u : ℕ) (s : Place) → k ≡ 36 → n ≤ 0 → ItemsLeft d at b n p t → s ≡ place_of d at (part_at l d at 1) → x ≡ amount (node_here l s) → u ≡ limited (t + x) → u ≡ amount here
-    array_end b n p t x u s y m w v a f =
-        f ∙ ap₂ (λ (i j : ℕ). limited (i + j)) (sum_end numbers l amount b true n p t _ m w) (a ∙ child_is l amount amount_blank d at 1 s v)
+    pub array_end : (b n i p t x u : ℕ) (s : Place) → k ≡ 36 → n ≤ i → ItemsLeft d at b (n - i) p t → s ≡ place_of d at (part_at l d at 1) → x ≡ amount (node_here l s) → u ≡ limited (t + x) → u ≡ amount here
+    array_end b n i p t x u s y m w v a f =
+        f ∙ ap₂ (λ (x y : ℕ). limited (x + y)) (sum_done numbers l amount b true n i p t _ m w) (a ∙ child_is l amount amount_blank d at 1 s v)
         ∙ amount_array here (below.is_array here (kind_is l d at k z e ∙ y))
 
   -- ---- out of a Param or Declarator
@@ -132,5 +132,5 @@ module _ (l : List ℕ) where
   unfolding items_at_of piece_in any
   any_none d at i z = rw (no_levels l d at z)
 
-  pub any_start : (d at i : ℕ) (r : Run) → r ≡ run_of at (part_at l d at i) → any is_moved (look_items l (look_node l (d - 1)) r.holes r.count r.from).value ≡ any is_moved (all d at i)
-  any_start d at i r e = ap (any is_moved) (list_is l d at i r e)
+  pub any_start : (d at i : ℕ) (r : Run) → r ≡ run_of at (part_at l d at i) → any is_moved (look_items l (look_node l (d - 1)) r.holes (r.count - 0) r.from).value ≡ any is_moved (all d at i)
+  any_start d at i r e = at_start (λ (m : ℕ). any is_moved (look_items l (look_node l (d - 1)) r.holes m r.from).value ≡ any is_moved (all d at i)) r.count (ap (any is_moved) (list_is l d at i r e))

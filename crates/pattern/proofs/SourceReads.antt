@@ -13,6 +13,7 @@ use Rattle.lowering.specs.Declarations.{is_name_of}
 use Rattle.pattern.specs.declared.source.Read.{Read}
 use Rattle.pattern.specs.declared.source.Read.TheVariants.{Expression, Temporary}
 use Rattle.pattern.specs.declared.source.ReferenceBuilder.{ReferenceBuilder}
+use Rattle.pattern.specs.declared.source.ReferenceBuilder.TheVariants.{Direct, Wanted, Held}
 use Rattle.pattern.specs.Source.{Given, read_values, builder_of, held_in, read_of, place_read, after_read, Settled, Keeps}
 use Rattle.pattern.proofs.NodeParts.{Blank, kind_is, no_levels}
 
@@ -53,40 +54,36 @@ module _ (l : List ℕ) where
   -- ---- the builder
 
   module _ (d at cell stem : ℕ) (force : Bool) where
-    built : (w : Bool) → w ≡ force || not (is_name_of (look_node l d at).value) → ◌≡◌ {A = ReferenceBuilder} (record { left = d; at = at; cell = cell; stem = stem; wanted = w; fresh = true }) (builder_of l d at cell stem force)
+    pub built_forced : force ≡ true → Wanted d at cell stem ≡ builder_of l d at cell stem force
     unfolding builder_of
-    built w e = λ j. record { left = d; at = at; cell = cell; stem = stem; wanted = (e) j; fresh = true }
+    built_forced e = rw e
 
-    pub built_forced : force ≡ true → ◌≡◌ {A = ReferenceBuilder} (record { left = d; at = at; cell = cell; stem = stem; wanted = true; fresh = true }) (builder_of l d at cell stem force)
-    built_forced e = built true (ap (λ (b : Bool). b || not (is_name_of (look_node l d at).value)) (sym e))
+    pub built_other : (b : Bool) → b ≡ is_name_of (look_node l d at).value → b ≡ false → Wanted d at cell stem ≡ builder_of l d at cell stem force
+    unfolding builder_of
+    built_other b n t = rw (sym n ∙ t) (go force)
+      where
+        go : (f : Bool) → Wanted d at cell stem ≡ cond (f || true) (Wanted d at cell stem) (Direct d at)
+        go true = refl
+        go false = refl
 
-    pub built_name : (b : Bool) → force ≡ false → b ≡ is_name_of (look_node l d at).value → b ≡ true → ◌≡◌ {A = ReferenceBuilder} (record { left = d; at = at; cell = cell; stem = stem; wanted = false; fresh = true }) (builder_of l d at cell stem force)
-    built_name b e n t = built false (ap₂ (λ (x y : Bool). x || not y) (sym e) (sym t ∙ n))
-
-    pub built_other : (b : Bool) → force ≡ false → b ≡ is_name_of (look_node l d at).value → b ≡ false → ◌≡◌ {A = ReferenceBuilder} (record { left = d; at = at; cell = cell; stem = stem; wanted = true; fresh = true }) (builder_of l d at cell stem force)
-    built_other b e n t = built true (ap₂ (λ (x y : Bool). x || not y) (sym e) (sym t ∙ n))
+    pub built_name : (b : Bool) → force ≡ false → b ≡ is_name_of (look_node l d at).value → b ≡ true → Direct d at ≡ builder_of l d at cell stem force
+    unfolding builder_of
+    built_name b e n t = rw (e, sym n ∙ t)
 
 -- ---- a read
 
 module _ (b : ReferenceBuilder) where
-  abbrev spent : Bool → ReferenceBuilder
-  spent w = record { left = b.left; at = b.at; cell = b.cell; stem = b.stem; wanted = w; fresh = false }
+  pub read_direct : (left at : ℕ) → b ≡ Direct left at → (Given.expression left at ≡ read_of b) × (Direct left at ≡ after_read b)
+  unfolding read_of after_read
+  read_direct left at e = (ap read_of (sym e), ap after_read (sym e))
 
-  after_is : (w : Bool) → b.wanted ≡ w → spent w ≡ after_read b
-  unfolding after_read
-  after_is w e = ap spent (sym e)
+  pub read_wanted : (left at cell stem : ℕ) → b ≡ Wanted left at cell stem → (Given.expression left at ≡ read_of b) × (Held cell stem ≡ after_read b)
+  unfolding read_of after_read
+  read_wanted left at cell stem e = (ap read_of (sym e), ap after_read (sym e))
 
-  pub read_first : b.wanted ≡ true → b.fresh ≡ true → (Given.expression b.left b.at ≡ read_of b) × (spent true ≡ after_read b)
-  unfolding read_of
-  read_first w f = (rw (w, f), after_is true w)
-
-  pub read_later : b.wanted ≡ true → b.fresh ≡ false → (Given.temporary b.cell b.stem ≡ read_of b) × (spent true ≡ after_read b)
-  unfolding read_of
-  read_later w f = (rw (w, f), after_is true w)
-
-  pub read_name : b.wanted ≡ false → (Given.expression b.left b.at ≡ read_of b) × (spent false ≡ after_read b)
-  unfolding read_of
-  read_name w = (rw w, after_is false w)
+  pub read_held : (cell stem : ℕ) → b ≡ Held cell stem → (Given.temporary cell stem ≡ read_of b) × (Held cell stem ≡ after_read b)
+  unfolding read_of after_read
+  read_held cell stem e = (ap read_of (sym e), ap after_read (sym e))
 
 -- ---- where what was read stands
 
@@ -106,7 +103,7 @@ module _ (l : List ℕ) (d at cell stem : ℕ) where
   unfolding builder_of read_of
   first_read force = go (force || not (is_name_of (look_node l d at).value))
     where
-      go : (w : Bool) → cond (w && false) (Given.temporary cell stem) (Given.expression d at) ≡ Given.expression d at
+      go : (w : Bool) → read_of (cond w (Wanted d at cell stem) (Direct d at)) ≡ Given.expression d at
       go true = refl
       go false = refl
 
@@ -131,7 +128,9 @@ module _ (l : List ℕ) (d at cell stem : ℕ) where
 -- any other once it is read
 pub after_settled : (b : ReferenceBuilder) → Settled (after_read b)
 unfolding read_of after_read
-after_settled b = refl
+after_settled (Direct left at) = refl
+after_settled (Wanted left at cell stem) = refl
+after_settled (Held cell stem) = refl
 
 pub settled_read : (b next : ReferenceBuilder) → next ≡ after_read b → Settled next
 settled_read b next e = ap (λ (x : ReferenceBuilder). read_of (after_read x)) e ∙ after_settled b ∙ ap read_of (sym e)
@@ -147,7 +146,7 @@ keeps_then a b c f g s = let x = f s in let y = g x.0 in (y.0, y.1 ∙ x.1)
 
 -- a temporary that is there already
 module _ (cell stem : ℕ) where
-  pub held_is : ◌≡◌ {A = ReferenceBuilder} (record { left = 0; at = 0; cell = cell; stem = stem; wanted = true; fresh = false }) (held_in cell stem)
+  pub held_is : Held cell stem ≡ held_in cell stem
   unfolding held_in
   held_is = refl
 

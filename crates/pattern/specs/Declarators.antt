@@ -7,11 +7,10 @@ use Rattle.lowering.specs.Made.{Context}
 use Rattle.lowering.specs.Parts.{first}
 use Rattle.lowering.specs.Keys.{keys_refusal}
 use Rattle.lowering.specs.Declarations.{declarators, lowered_in}
-use Rattle.pattern.specs.declared.tally.Tally.{Tally}
-use Rattle.pattern.specs.Tally.{limited}
+use Rattle.pattern.specs.Tally.{Totals, limited}
 
 -- of the objects that were counted: one for each key temporary, each pattern with properties and each rest
-unfoldable pub made : Tally → ℕ
+unfoldable pub made : Totals → ℕ
 made t = limited (limited (t.temporaries + t.patterns) + t.objects)
 
 -- of an item of a declaration's list; a hole is none

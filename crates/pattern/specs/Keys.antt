@@ -14,8 +14,7 @@ use Rattle.lowering.specs.Keys as lowering
 use Rattle.pattern.specs.declared.keys.Key.{Key}
 use Rattle.pattern.specs.declared.keys.Key.TheVariants as key
 use Rattle.pattern.specs.declared.keys.Key.TheVariants.{Name, Literal, OtherForm, NoForm, Template, Private, Again, Other}
-use Rattle.pattern.specs.declared.tally.Tally.{Tally}
-use Rattle.pattern.specs.Tally.{no_tally, both, sum}
+use Rattle.pattern.specs.Tally.{Totals, no_tally, both, sum}
 use Rattle.pattern.specs.Parts.{Content, part_at, text_in_of, standing}
 use Rattle.pattern.specs.Numbers.{Numeral, spelled_as_of, is_string_of}
 
@@ -131,12 +130,12 @@ pub record Becomes (tree : List ℕ) (d at : ℕ) (r : Key) : Type 0 where
 
 -- ---- counts
 
-abbrev pub counts : ℕ → ℕ → ℕ → ℕ → Tally
+abbrev pub counts : ℕ → ℕ → ℕ → ℕ → Totals
 counts excluded temporaries computed refusal =
     record { excluded = excluded; temporaries = temporaries; computed = computed; refusal = refusal; objects = 0; patterns = 0 }
 
 -- excluded keys, temporaries, keys that are not primitive; the refusal
-unfoldable pub key_counts : Key → Tally
+unfoldable pub key_counts : Key → Totals
 key_counts (Name p n) = counts 1 0 0 0
 key_counts (Literal p n) = counts 1 0 0 0
 key_counts (key.Number v) = counts 1 0 0 0
@@ -148,7 +147,7 @@ key_counts Again = counts 1 0 1 0
 key_counts Other = counts 1 1 1 0
 
 -- the same of a key of each sort, by its refusal if it is a literal
-abbrev pub counts_by : lowering.Key → ℕ → Tally
+abbrev pub counts_by : lowering.Key → ℕ → Totals
 counts_by lowering.Key.name r = counts 1 0 0 0
 counts_by lowering.Key.literal r = counts 1 0 0 r
 counts_by lowering.Key.template r = counts 1 0 0 0
@@ -156,13 +155,13 @@ counts_by lowering.Key.private r = counts 0 0 0 0
 counts_by lowering.Key.again r = counts 1 0 1 0
 counts_by lowering.Key.other r = counts 1 1 1 0
 
-unfoldable pub key_tally : Node → Tally
+unfoldable pub key_tally : Node → Totals
 key_tally k = counts_by (key_sort k) (lowering.key_refusal k)
 
 -- of all keys of the object pattern p
-unfoldable pub keys_of : Node → Tally
+unfoldable pub keys_of : Node → Totals
 keys_of p = sum no_tally both (λ q. key_tally (patterns.key q)) (properties p)
 
 -- of an item of its list; a hole adds nothing
-unfoldable pub item_keys : List ℕ → Bool → ℕ → ℕ → Tally
+unfoldable pub item_keys : List ℕ → Bool → ℕ → ℕ → Totals
 item_keys tree holes d at = cond (holes && eqb (byte_at tree at) 0) no_tally (key_tally (patterns.key (look_node tree d at).value))

@@ -1,5 +1,6 @@
 pub mod Parts
 pub mod Numbers
+pub mod Refusals
 pub mod Tally
 pub mod Keys
 pub mod Objects

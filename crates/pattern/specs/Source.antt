@@ -1,11 +1,12 @@
 -- The source of a pattern: what each read gives (document 01, 'A source's first read hands out the expression, later reads the
 -- temporary or name').
-use Rattle.std.specs.Prelude.{ℕ, ◌≡◌, Bool, true, false, cond, not, ◌&&◌, ◌||◌, List}
+use Rattle.std.specs.Prelude.{ℕ, ◌≡◌, Bool, cond, not, ◌||◌, List}
 use Rattle.tree.specs.Look.{look_node}
 use Rattle.lowering.specs.Declarations.{is_name_of}
 use Rattle.pattern.specs.declared.source.Read.{Read}
 use Rattle.pattern.specs.declared.source.Read.TheVariants.{Expression, Temporary}
 use Rattle.pattern.specs.declared.source.ReferenceBuilder.{ReferenceBuilder}
+use Rattle.pattern.specs.declared.source.ReferenceBuilder.TheVariants.{Direct, Wanted, Held}
 
 -- what a read gives: the expression at a place, by its levels and its position, or the temporary of a cell with its stem
 pub data Given : Type 0 where
@@ -19,16 +20,17 @@ read_values (Temporary cell stem) = temporary cell stem
 
 -- before any read; a temporary is wanted if one is forced, or if the value is no name
 unfoldable pub builder_of : List ℕ → ℕ → ℕ → ℕ → ℕ → Bool → ReferenceBuilder
-builder_of tree left at cell stem force =
-    record { left = left; at = at; cell = cell; stem = stem; wanted = force || not (is_name_of (look_node tree left at).value); fresh = true }
+builder_of tree left at cell stem force = cond (force || not (is_name_of (look_node tree left at).value)) (Wanted left at cell stem) (Direct left at)
 
 -- of a temporary that is there already: its expression was handed out where its pattern stood
 unfoldable pub held_in : ℕ → ℕ → ReferenceBuilder
-held_in cell stem = record { left = 0; at = 0; cell = cell; stem = stem; wanted = true; fresh = false }
+held_in cell stem = Held cell stem
 
 -- a read: where a temporary is wanted, the first one gives the expression and later ones the temporary; a name is always given
 unfoldable pub read_of : ReferenceBuilder → Given
-read_of b = cond (b.wanted && not b.fresh) (temporary b.cell b.stem) (expression b.left b.at)
+read_of (Direct left at) = expression left at
+read_of (Wanted left at cell stem) = expression left at
+read_of (Held cell stem) = temporary cell stem
 
 -- where what was read stands
 unfoldable pub place_read : Given → ℕ
@@ -36,7 +38,9 @@ place_read (expression left at) = at
 place_read (temporary cell stem) = cell
 
 unfoldable pub after_read : ReferenceBuilder → ReferenceBuilder
-after_read b = record { left = b.left; at = b.at; cell = b.cell; stem = b.stem; wanted = b.wanted; fresh = false }
+after_read (Direct left at) = Direct left at
+after_read (Wanted left at cell stem) = Held cell stem
+after_read (Held cell stem) = Held cell stem
 
 -- the reads after the next one give what it gives
 abbrev pub Settled : ReferenceBuilder → Type 0

@@ -5,7 +5,8 @@ ghost use Rattle.tree.specs.Look.{look_node};
 ghost use Rattle.lowering.specs.Parts.{gather, items_at_of};
 ghost use Rattle.lowering.specs.Made.{Context};
 ghost use Rattle.lowering.specs.Declarations.{is_lowered, pattern_declarators, declarators, declaration_refusal};
-ghost use Rattle.pattern.specs.Tally.{limited};
+ghost use Rattle.pattern.specs.Refusals.{refusal_number};
+ghost use Rattle.pattern.specs.Tally.{limited, tally_values};
 ghost use Rattle.pattern.specs.Declarators.{made, item_count_of, declarator_refusal, item_refusal};
 
 use crate::tally::Tally;
@@ -14,7 +15,7 @@ use tree::{bytes, skip};
 
 // The declarators of the objects that were counted: keys, pattern, rest.
 fn made(t: Tally) -> usize
-    ensures { result ≡ made t }
+    ensures { result ≡ made (tally_values t) }
 {
     tally::plus(tally::plus(t.temporaries, t.patterns), t.objects)
 }
@@ -74,10 +75,8 @@ fn becomes(tree: &[u8], left: usize, at: usize) -> usize
 fn item_becomes(tree: &[u8], holes: bool, left: usize, at: usize) -> usize
     ensures { (c : Context) → result ≡ item_count_of c tree.now holes left at }
 {
-    if holes {
-        if bytes::peek(tree, at) == 0 {
-            return 0;
-        }
+    if holes && bytes::peek(tree, at) == 0 {
+        return 0;
     }
     becomes(tree, left, at)
 }
@@ -91,58 +90,50 @@ pub fn declaration_becomes(tree: &[u8], left: usize, at: usize) -> usize
     }
     let below = left - 1;
     let run = parts::list(tree, left, at, 2);
-    let holes = run.holes;
-    let mut n = run.count;
     let mut p = run.from;
     let mut t = 0;
-    while 0 < n {
-        t = tally::plus(t, item_becomes(tree, holes, below, p));
-        p = skip::skip_item(tree, holes, below, p);
-        n -= 1;
+    for _ in 0..run.count {
+        t = tally::plus(t, item_becomes(tree, run.holes, below, p));
+        p = skip::skip_item(tree, run.holes, below, p);
     }
     t
 }
 
 // The first refusal at the keys of the objects whose rest a declarator lowers.
-fn refusal(tree: &[u8], left: usize, at: usize) -> u8
-    ensures { (c : Context) → result ≡ declarator_refusal c (look_node tree.now left at).value }
+fn refusal(tree: &[u8], left: usize, at: usize) -> Option<tally::Refusal>
+    ensures { (c : Context) → refusal_number result ≡ declarator_refusal c (look_node tree.now left at).value }
 {
     if is_lowered(tree, left, at) {
         let p = parts::child(tree, left, at, 0);
         return rests::refusal_below(tree, p.left, p.at);
     }
-    0
+    None
 }
 
 // The same of an item of a list; a hole has none.
-fn item_refusal(tree: &[u8], holes: bool, left: usize, at: usize) -> u8
-    ensures { (c : Context) → result ≡ item_refusal c tree.now holes left at }
+fn item_refusal(tree: &[u8], holes: bool, left: usize, at: usize) -> Option<tally::Refusal>
+    ensures { (c : Context) → refusal_number result ≡ item_refusal c tree.now holes left at }
 {
-    if holes {
-        if bytes::peek(tree, at) == 0 {
-            return 0;
-        }
+    if holes && bytes::peek(tree, at) == 0 {
+        return None;
     }
     refusal(tree, left, at)
 }
 
 // The same of a declaration.
-pub fn declaration_refusal(tree: &[u8], left: usize, at: usize) -> u8
-    ensures { (c : Context) → result ≡ declaration_refusal c (look_node tree.now left at).value }
+pub fn declaration_refusal(tree: &[u8], left: usize, at: usize) -> Option<tally::Refusal>
+    ensures { (c : Context) → refusal_number result ≡ declaration_refusal c (look_node tree.now left at).value }
 {
     if left == 0 {
-        return 0;
+        return None;
     }
     let below = left - 1;
     let run = parts::list(tree, left, at, 2);
-    let holes = run.holes;
-    let mut n = run.count;
     let mut p = run.from;
-    let mut t = 0;
-    while 0 < n {
-        t = tally::first(t, item_refusal(tree, holes, below, p));
-        p = skip::skip_item(tree, holes, below, p);
-        n -= 1;
+    let mut t = None;
+    for _ in 0..run.count {
+        t = t.or(item_refusal(tree, run.holes, below, p));
+        p = skip::skip_item(tree, run.holes, below, p);
     }
     t
 }

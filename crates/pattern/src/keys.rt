@@ -6,7 +6,8 @@ ghost use Rattle.lowering.specs.Parts.{number_at};
 ghost use Rattle.tree.specs.Tree.{count};
 ghost use Rattle.lowering.specs.Made.{Context};
 ghost use Rattle.lowering.specs.Keys.{all_primitive, keys_refusal, excluded_keys, key_temporaries};
-ghost use Rattle.pattern.specs.Tally.{limited, no_tally, both};
+ghost use Rattle.pattern.specs.Refusals.{refusal_number};
+ghost use Rattle.pattern.specs.Tally.{limited, tally_values, no_tally, both};
 ghost use Rattle.lowering.specs.Rests.{has_no_properties};
 ghost use Rattle.pattern.specs.Parts.{part_values, text_in_of, standing};
 ghost use Rattle.pattern.specs.Numbers.{spelling_value, spelled_as_of, is_string_of};
@@ -131,7 +132,7 @@ fn beside_form(tree: &[u8], value: usize, alone: Key, form: Part) -> Key
         if is_string(spelled_in(tree, form), value) {
             return formed(form);
         }
-        return Key::OtherForm { value: value };
+        return Key::OtherForm { value };
     }
     alone
 }
@@ -204,44 +205,44 @@ pub fn transform_property_key(tree: &[u8], left: usize, at: usize) -> Key
     }
 }
 
-fn counted(excluded: usize, temporaries: usize, computed: usize, refusal: u8) -> Tally
-    ensures { result ≡ counts excluded temporaries computed refusal }
-{
-    Tally {
-        excluded: excluded,
-        temporaries: temporaries,
-        computed: computed,
-        refusal: refusal,
-        objects: 0,
-        patterns: 0,
-    }
-}
-
 // What a key adds to the counts.
+#[tactic(auto, unfolding(crate::specs::Keys::key_counts))]
 fn key_counts(k: Key) -> Tally
-    ensures { result ≡ key_counts k }
+    ensures { tally_values result ≡ key_counts k }
 {
+    let one = Tally {
+        excluded: 1,
+        ..Tally::default()
+    };
     match k {
-        Key::Name { from: _, len: _ } => counted(1, 0, 0, 0),
-        Key::Literal { from: _, len: _ } => counted(1, 0, 0, 0),
-        Key::Number { value: _ } => counted(1, 0, 0, 0),
-        Key::OtherForm { value: _ } => counted(1, 0, 0, 11),
-        Key::NoForm => counted(1, 0, 0, 6),
-        Key::Template => counted(1, 0, 0, 0),
-        Key::Private => counted(0, 0, 0, 0),
-        Key::Again => counted(1, 0, 1, 0),
-        Key::Other => counted(1, 1, 1, 0),
+        Key::Name { .. } => one,
+        Key::Literal { .. } => one,
+        Key::Number { .. } => one,
+        Key::OtherForm { .. } => Tally {
+            refusal: Some(tally::Refusal::OtherForm),
+            ..one
+        },
+        Key::NoForm => Tally {
+            refusal: Some(tally::Refusal::NoForm),
+            ..one
+        },
+        Key::Template => one,
+        Key::Private => Tally::default(),
+        Key::Again => Tally { computed: 1, ..one },
+        Key::Other => Tally {
+            temporaries: 1,
+            computed: 1,
+            ..one
+        },
     }
 }
 
 // What the key of a property adds; a hole adds nothing.
 fn item_keys(tree: &[u8], holes: bool, left: usize, at: usize) -> Tally
-    ensures { result ≡ item_keys tree.now holes left at }
+    ensures { tally_values result ≡ item_keys tree.now holes left at }
 {
-    if holes {
-        if bytes::peek(tree, at) == 0 {
-            return tally::none();
-        }
+    if holes && bytes::peek(tree, at) == 0 {
+        return Tally::default();
     }
     let k = parts::key(tree, left, at);
     key_counts(transform_property_key(tree, k.left, k.at))
@@ -251,31 +252,24 @@ fn item_keys(tree: &[u8], holes: bool, left: usize, at: usize) -> Tally
 fn has_static_key(tree: &[u8], holes: bool, left: usize, at: usize) -> bool
     ensures { result ≡ true → counts 1 0 0 0 ≡ item_keys tree.now holes left at }
 {
-    if holes {
-        return false;
-    }
-    if 1 < left {
-        if bytes::peek(tree, at) == 35 {
-            if bytes::peek(tree, skip::step(tree, at, 1)) % 2 == 1 {
-                return bytes::peek(tree, skip::step(tree, at, 2)) == 38;
-            }
-        }
+    if !holes
+        && 1 < left
+        && bytes::peek(tree, at) == 35
+        && bytes::peek(tree, skip::step(tree, at, 1)) % 2 == 1
+    {
+        return bytes::peek(tree, skip::step(tree, at, 2)) == 38;
     }
     false
 }
 
 // Counts, and what the key of a property adds to them.
 fn with_key(t: Tally, tree: &[u8], holes: bool, left: usize, at: usize) -> Tally
-    ensures { both t no_tally ≡ t → result ≡ both t (item_keys tree.now holes left at) }
+    ensures { both (tally_values t) no_tally ≡ tally_values t → tally_values result ≡ both (tally_values t) (item_keys tree.now holes left at) }
 {
     if has_static_key(tree, holes, left, at) {
         return Tally {
             excluded: tally::plus(t.excluded, 1),
-            temporaries: t.temporaries,
-            computed: t.computed,
-            refusal: t.refusal,
-            objects: t.objects,
-            patterns: t.patterns,
+            ..t
         };
     }
     tally::both(t, item_keys(tree, holes, left, at))
@@ -283,21 +277,18 @@ fn with_key(t: Tally, tree: &[u8], holes: bool, left: usize, at: usize) -> Tally
 
 // The counts of all keys of the object pattern at a position.
 pub(crate) fn keys(tree: &[u8], left: usize, at: usize) -> Tally
-    ensures { result ≡ keys_of (look_node tree.now left at).value }
+    ensures { tally_values result ≡ keys_of (look_node tree.now left at).value }
 {
+    let mut t = Tally::default();
     if left == 0 {
-        return tally::none();
+        return t;
     }
     let below = left - 1;
     let run = parts::list(tree, left, at, 0);
-    let holes = run.holes;
-    let mut n = run.count;
     let mut p = run.from;
-    let mut t = tally::none();
-    while 0 < n {
-        t = with_key(t, tree, holes, below, p);
-        p = skip::skip_item(tree, holes, below, p);
-        n -= 1;
+    for _ in 0..run.count {
+        t = with_key(t, tree, run.holes, below, p);
+        p = skip::skip_item(tree, run.holes, below, p);
     }
     t
 }
@@ -305,37 +296,32 @@ pub(crate) fn keys(tree: &[u8], left: usize, at: usize) -> Tally
 pub fn all_primitive(tree: &[u8], left: usize, at: usize) -> bool
     ensures { result ≡ all_primitive (look_node tree.now left at).value }
 {
-    let t = keys(tree, left, at);
-    t.computed == 0
+    keys(tree, left, at).computed == 0
 }
 
-// The first refusal at the keys of the object pattern, 0 for none.
-pub fn refusal(tree: &[u8], left: usize, at: usize) -> u8
-    ensures { result ≡ keys_refusal (look_node tree.now left at).value }
+// The first refusal at the keys of the object pattern.
+pub fn refusal(tree: &[u8], left: usize, at: usize) -> Option<tally::Refusal>
+    ensures { refusal_number result ≡ keys_refusal (look_node tree.now left at).value }
 {
-    let t = keys(tree, left, at);
-    t.refusal
+    keys(tree, left, at).refusal
 }
 
 pub fn has_no_properties(tree: &[u8], left: usize, at: usize) -> bool
     ensures { result ≡ has_no_properties (look_node tree.now left at).value }
 {
-    let run = parts::list(tree, left, at, 0);
-    run.count == 0
+    parts::list(tree, left, at, 0).count == 0
 }
 
 // How many excluded keys the object pattern has.
 pub fn excluded_keys(tree: &[u8], left: usize, at: usize) -> usize
     ensures { (c : Context) → result ≡ limited (count (excluded_keys c (look_node tree.now left at).value)) }
 {
-    let t = keys(tree, left, at);
-    t.excluded
+    keys(tree, left, at).excluded
 }
 
 // How many key temporaries it has.
 pub fn key_temporaries(tree: &[u8], left: usize, at: usize) -> usize
     ensures { (c : Context) → result ≡ limited (count (key_temporaries c (look_node tree.now left at).value)) }
 {
-    let t = keys(tree, left, at);
-    t.temporaries
+    keys(tree, left, at).temporaries
 }

@@ -23,14 +23,12 @@ fn moved(tree: &[u8], left: usize, at: usize) -> usize
         34 => 1,
         36 => {
             let run = parts::list(tree, left, at, 0);
-            let mut n = run.count;
             let mut p = run.from;
             let mut t = 0;
-            while 0 < n {
+            for _ in 0..run.count {
                 let e = parts::item(tree, true, below, p);
                 t = tally::plus(t, moved(tree, e.left, e.at));
                 p = skip::skip_item(tree, true, below, p);
-                n -= 1;
             }
             let rest = parts::child(tree, left, at, 1);
             tally::plus(t, moved(tree, rest.left, rest.at))
@@ -68,16 +66,13 @@ pub fn any_moved(tree: &[u8], left: usize, at: usize, i: usize) -> bool
     }
     let below = left - 1;
     let run = parts::list(tree, left, at, i);
-    let holes = run.holes;
-    let mut n = run.count;
     let mut p = run.from;
-    while 0 < n {
-        let e = parts::item(tree, holes, below, p);
+    for _ in 0..run.count {
+        let e = parts::item(tree, run.holes, below, p);
         if is_moved(tree, e.left, e.at) {
             return true;
         }
-        p = skip::skip_item(tree, holes, below, p);
-        n -= 1;
+        p = skip::skip_item(tree, run.holes, below, p);
     }
     false
 }

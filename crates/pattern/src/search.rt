@@ -21,29 +21,25 @@ pub fn has_nested_object_rest(tree: &[u8], left: usize, at: usize) -> bool
                 return true;
             }
             let run = parts::list(tree, left, at, 0);
-            let mut n = run.count;
             let mut p = run.from;
-            while 0 < n {
+            for _ in 0..run.count {
                 let v = parts::value(tree, below, p);
                 if has_nested_object_rest(tree, v.left, v.at) {
                     return true;
                 }
                 p = skip::skip(tree, below, p);
-                n -= 1;
             }
             false
         }
         36 => {
             let run = parts::list(tree, left, at, 0);
-            let mut n = run.count;
             let mut p = run.from;
-            while 0 < n {
+            for _ in 0..run.count {
                 let e = parts::item(tree, true, below, p);
                 if has_nested_object_rest(tree, e.left, e.at) {
                     return true;
                 }
                 p = skip::skip_item(tree, true, below, p);
-                n -= 1;
             }
             let rest = parts::child(tree, left, at, 1);
             has_nested_object_rest(tree, rest.left, rest.at)
@@ -68,29 +64,25 @@ pub fn has_rest_below_array_rest(tree: &[u8], left: usize, at: usize) -> bool
     match kind {
         34 => {
             let run = parts::list(tree, left, at, 0);
-            let mut n = run.count;
             let mut p = run.from;
-            while 0 < n {
+            for _ in 0..run.count {
                 let v = parts::value(tree, below, p);
                 if has_rest_below_array_rest(tree, v.left, v.at) {
                     return true;
                 }
                 p = skip::skip(tree, below, p);
-                n -= 1;
             }
             false
         }
         36 => {
             let run = parts::list(tree, left, at, 0);
-            let mut n = run.count;
             let mut p = run.from;
-            while 0 < n {
+            for _ in 0..run.count {
                 let e = parts::item(tree, true, below, p);
                 if has_rest_below_array_rest(tree, e.left, e.at) {
                     return true;
                 }
                 p = skip::skip_item(tree, true, below, p);
-                n -= 1;
             }
             let rest = parts::child(tree, left, at, 1);
             has_nested_object_rest(tree, rest.left, rest.at)

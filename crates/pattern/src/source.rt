@@ -23,15 +23,26 @@ pub fn place_of(read: Read) -> usize
     }
 }
 
-// The value's place, and the cell and the stem of its temporary if one is wanted. The expression is handed out once.
+// The source before its next read.
 #[derive(Clone, Copy)]
-pub struct ReferenceBuilder {
-    pub left: usize,
-    pub at: usize,
-    pub cell: usize,
-    pub stem: u8,
-    pub wanted: bool,
-    pub fresh: bool,
+pub enum ReferenceBuilder {
+    // A name, which each read gives.
+    Direct {
+        left: usize,
+        at: usize,
+    },
+    // Another expression, which is handed out once; then the temporary.
+    Wanted {
+        left: usize,
+        at: usize,
+        cell: usize,
+        stem: u8,
+    },
+    // The temporary, which each read gives.
+    Held {
+        cell: usize,
+        stem: u8,
+    },
 }
 
 #[derive(Clone, Copy)]
@@ -60,98 +71,45 @@ impl ReferenceBuilder {
     pub fn new(tree: &[u8], left: usize, at: usize, cell: usize, stem: u8, force: bool) -> Self
         ensures { result ≡ builder_of tree.now left at cell stem force }
     {
-        if force {
-            return ReferenceBuilder {
-                left: left,
-                at: at,
-                cell: cell,
-                stem: stem,
-                wanted: true,
-                fresh: true,
+        if force || !is_name(tree, left, at) {
+            return Self::Wanted {
+                left,
+                at,
+                cell,
+                stem,
             };
         }
-        if is_name(tree, left, at) {
-            return ReferenceBuilder {
-                left: left,
-                at: at,
-                cell: cell,
-                stem: stem,
-                wanted: false,
-                fresh: true,
-            };
-        }
-        ReferenceBuilder {
-            left: left,
-            at: at,
-            cell: cell,
-            stem: stem,
-            wanted: true,
-            fresh: true,
-        }
+        Self::Direct { left, at }
     }
 
     // A source that is a temporary already, made where its pattern stood: each read gives it.
     pub fn held(cell: usize, stem: u8) -> Self
         ensures { result ≡ held_in cell stem }
     {
-        ReferenceBuilder {
-            left: 0,
-            at: 0,
-            cell: cell,
-            stem: stem,
-            wanted: true,
-            fresh: false,
-        }
+        Self::Held { cell, stem }
     }
 
     // A read, and the builder for the next one.
     pub fn create_read_expression(self) -> Taken
         ensures { (read_values result.read ≡ read_of self) × (result.next ≡ after_read self) }
     {
-        let left = self.left;
-        let at = self.at;
-        let cell = self.cell;
-        let stem = self.stem;
-        let wanted = self.wanted;
-        let fresh = self.fresh;
-        if wanted {
-            if fresh {
-                return Taken {
-                    read: Read::Expression { left: left, at: at },
-                    next: ReferenceBuilder {
-                        left: left,
-                        at: at,
-                        cell: cell,
-                        stem: stem,
-                        wanted: true,
-                        fresh: false,
-                    },
-                };
-            }
-            return Taken {
-                read: Read::Temporary {
-                    cell: cell,
-                    stem: stem,
-                },
-                next: ReferenceBuilder {
-                    left: left,
-                    at: at,
-                    cell: cell,
-                    stem: stem,
-                    wanted: true,
-                    fresh: false,
-                },
-            };
-        }
-        Taken {
-            read: Read::Expression { left: left, at: at },
-            next: ReferenceBuilder {
-                left: left,
-                at: at,
-                cell: cell,
-                stem: stem,
-                wanted: false,
-                fresh: false,
+        match self {
+            Self::Direct { left, at } => Taken {
+                read: Read::Expression { left, at },
+                next: self,
+            },
+            Self::Wanted {
+                left,
+                at,
+                cell,
+                stem,
+            } => Taken {
+                read: Read::Expression { left, at },
+                next: Self::Held { cell, stem },
+            },
+            Self::Held { cell, stem } => Taken {
+                read: Read::Temporary { cell, stem },
+                next: self,
             },
         }
     }

@@ -1,9 +1,10 @@
+use Rattle.pattern.proofs.CappedSums.{tally_empty}
 use Rattle.pattern.proofs.KeyCases as law
 use Rattle.pattern.proofs.keys.item_keys.Goals as goal
-use Rattle.pattern.proofs.keys.item_keys.Goals.{else-holes, then-holes+else-peek-eq0}
+use Rattle.pattern.proofs.keys.item_keys.Goals.{else-holes-via-else-holes, else-holes-via-then-holes+else-peek-eq0}
 
 pub returns-then-peek-eq0 : goal.returns-then-peek-eq0
-returns-then-peek-eq0 c = law.item_none _ _ _ _ _ _ c.if-holes.true c.peek.ensures c.if-peek-eq0.true c.none.ensures
+returns-then-peek-eq0 c = law.item_none _ _ _ _ _ _ c.if-holes.true c.peek.ensures c.if-peek-eq0.true (tally_empty _ c.default.ensures)
 
 pub returns : goal.returns
-returns c = (elim c.if-holes.branch [ then-holes+else-peek-eq0 w ↦ law.item_other _ _ _ _ _ _ _ _ w.if-holes.true w.peek.ensures w.if-peek-eq0.false c.key-k.ensures (law.key_is c.transform_property_key.ensures.variant) c.key_counts.ensures | else-holes w ↦ law.item_node _ _ _ _ _ _ _ w.if-holes.false c.key-k.ensures (law.key_is c.transform_property_key.ensures.variant) c.key_counts.ensures ])
+returns c = (elim c.else-holes.branch [ else-holes-via-then-holes+else-peek-eq0 w ↦ law.item_other _ _ _ _ _ _ _ _ w.if-holes.true w.peek.ensures w.if-peek-eq0.false c.key-k.ensures (law.key_is c.transform_property_key.ensures.variant) c.key_counts.ensures | else-holes-via-else-holes w ↦ law.item_node _ _ _ _ _ _ _ w.if-holes.false c.key-k.ensures (law.key_is c.transform_property_key.ensures.variant) c.key_counts.ensures ])

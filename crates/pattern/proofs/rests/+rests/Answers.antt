@@ -1,5 +1,6 @@
 use mathlib.Core.Bool.{true}
 use native.Mathlib.Omega.{arith}
+use Rattle.pattern.proofs.CappedSums.{tally_empty}
 use Rattle.pattern.proofs.RestsFound as law
 use Rattle.pattern.proofs.NodeParts as places
 use Rattle.pattern.proofs.Searches as search
@@ -7,37 +8,37 @@ use Rattle.pattern.proofs.rests.+rests.Goals as goal
 use Rattle.pattern.proofs.rests.+rests.Goals.{else-peek-gt33, then-peek-gt33}
 
 pub returns-then-left-eq0 : goal.returns-then-left-eq0
-returns-then-left-eq0 t c = λ k. law.rests_none _ k _ _ _ c.if-left-eq0.true c.none.ensures
+returns-then-left-eq0 t c = λ k. law.rests_none _ k _ _ _ c.if-left-eq0.true (tally_empty _ c.default.ensures)
 
-pub loop-n-init : goal.loop-n-init
-loop-n-init t c = law.values_start _ _ _ _ c.if-left-eq0.false c.peek-kind.ensures.value _ _ c.in-34.is c.list-run.ensures c.none-t.ensures
+pub loop-init : goal.loop-init
+loop-init t c = law.values_start _ _ _ _ c.if-left-eq0.false c.peek-kind.ensures.value _ _ c.in-34.is c.list-run.ensures (tally_empty _ c.default-t.ensures)
 
 pub rests-requires : goal.rests-requires
 rests-requires t c = (let h = search.value_falls _ _ _ _ c.if-left-eq0.false c.value-v.ensures in omega arith, tt)
 
-pub loop-n-preserved : goal.loop-n-preserved
-loop-n-preserved t c = (elim c.if-peek-gt33.branch [ then-peek-gt33 w ↦ rw w.t-is (law.value_more _ _ _ _ _ _ _ _ _ _ _ c.loop-n-test.true c.value-v.ensures w.rests.ensures c.skip-p.ensures w.both-t.ensures c.loop-n.invariant) | else-peek-gt33 w ↦ rw w.t-is (law.value_passed _ _ _ _ _ _ _ _ _ _ c.loop-n-test.true c.value-v.ensures c.peek.ensures.value w.if-peek-gt33.false c.skip-p.ensures c.loop-n.invariant) ])
+pub loop-preserved : goal.loop-preserved
+loop-preserved t c = (elim c.if-peek-gt33.branch [ then-peek-gt33 w ↦ rw w.t-is (law.value_more _ _ _ _ _ _ _ _ _ _ _ _ c.loop-test.true c.value-v.ensures w.rests.ensures c.skip-p.ensures w.both-t.ensures c.loop.invariant) | else-peek-gt33 w ↦ rw w.t-is (law.value_passed _ _ _ _ _ _ _ _ _ _ _ c.loop-test.true c.value-v.ensures c.peek.ensures.value w.if-peek-gt33.false c.skip-p.ensures c.loop.invariant) ])
 
-pub loop-n-2-init : goal.loop-n-2-init
-loop-n-2-init t c = law.items_start _ _ _ _ c.if-left-eq0.false c.peek-kind.ensures.value _ _ c.in-36.is c.list-run-in-36.ensures c.none-t-in-36.ensures
+pub loop-2-init : goal.loop-2-init
+loop-2-init t c = law.items_start _ _ _ _ c.if-left-eq0.false c.peek-kind.ensures.value _ _ c.in-36.is c.list-run-in-36.ensures (tally_empty _ c.default-t-in-36.ensures)
 
-pub rests-requires-in-loop-n-2 : goal.rests-requires-in-loop-n-2
-rests-requires-in-loop-n-2 t c = (let h = places.item_below _ _ _ true _ c.if-left-eq0.false c.item-e.ensures in omega arith, tt)
+pub rests-requires-in-loop-2 : goal.rests-requires-in-loop-2
+rests-requires-in-loop-2 t c = (let h = places.item_below _ _ _ true _ c.if-left-eq0.false c.item-e.ensures in omega arith, tt)
 
-pub loop-n-2-preserved : goal.loop-n-2-preserved
-loop-n-2-preserved t c = law.item_more _ _ _ _ _ _ _ _ _ _ _ c.loop-n-2-test.true c.item-e.ensures c.rests-in-loop-n-2.ensures c.skip_item-p.ensures c.both-t-in-loop-n-2.ensures c.loop-n-2.invariant
+pub loop-2-preserved : goal.loop-2-preserved
+loop-2-preserved t c = law.item_more _ _ _ _ _ _ _ _ _ _ _ _ c.loop-2-test.true c.item-e.ensures c.rests-in-loop-2.ensures c.skip_item-p.ensures c.both-t-in-loop-2.ensures c.loop-2.invariant
 
 pub rests-requires-in-37 : goal.rests-requires-in-37
 rests-requires-in-37 t c = (let h = places.child_falls _ _ _ 0 _ c.if-left-eq0.false c.child-l.ensures in omega arith, tt)
 
-pub returns-after-loop-n : goal.returns-after-loop-n
-returns-after-loop-n t c = λ k. law.object_end _ _ _ _ c.if-left-eq0.false c.peek-kind.ensures.value k _ _ _ _ _ _ c.in-34.is c.loop-n-test.false c.loop-n.invariant c.own.ensures c.both.ensures
+pub returns-after-loop : goal.returns-after-loop
+returns-after-loop t c = λ k. law.object_end _ _ _ _ c.if-left-eq0.false c.peek-kind.ensures.value k _ _ _ _ _ _ _ c.in-34.is c.loop-test.false c.loop.invariant c.own.ensures c.both.ensures
 
-pub returns-after-loop-n-2 : goal.returns-after-loop-n-2
-returns-after-loop-n-2 t c = λ k. law.array_end _ _ _ _ c.if-left-eq0.false c.peek-kind.ensures.value k _ _ _ _ c.in-36.is c.loop-n-2-test.false c.loop-n-2.invariant
+pub returns-after-loop-2 : goal.returns-after-loop-2
+returns-after-loop-2 t c = λ k. law.array_end _ _ _ _ c.if-left-eq0.false c.peek-kind.ensures.value k _ _ _ _ _ c.in-36.is c.loop-2-test.false c.loop-2.invariant
 
 pub returns-in-37 : goal.returns-in-37
 returns-in-37 t c = λ k. law.default_left _ _ _ _ c.if-left-eq0.false c.peek-kind.ensures.value k _ _ c.in-37.is c.child-l.ensures c.rests-in-37.ensures
 
 pub returns-in_default : goal.returns-in_default
-returns-in_default t c = λ k. law.leaf_none _ _ _ _ c.if-left-eq0.false c.peek-kind.ensures.value k _ c.in_default.in_default-own.rest.0.0.1 c.in_default.in_default-own.rest.0.1 c.in_default.in_default-own.rest.1 c.none-in_default.ensures
+returns-in_default t c = λ k. law.leaf_none _ _ _ _ c.if-left-eq0.false c.peek-kind.ensures.value k _ c.in_default.in_default-own.rest.0.0.1 c.in_default.in_default-own.rest.0.1 c.in_default.in_default-own.rest.1 (tally_empty _ c.default-in_default.ensures)

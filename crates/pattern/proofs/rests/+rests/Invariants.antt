@@ -1,17 +1,13 @@
+use Prim.Native.Nat.{◌-◌}
+use Rattle.pattern.specs.Tally.{tally_values}
 use Rattle.pattern.proofs.RestsFound as law
 use Rattle.pattern.proofs.rests.+rests.Given as goal
 
-abbrev pub invariant-loop-n : goal.invariant-loop-n
-invariant-loop-n l = law.ValuesLeft l.tree l.left l.at l.below l.n l.p l.t
+abbrev pub invariant-loop : goal.invariant-loop
+invariant-loop l = law.ValuesLeft l.tree l.left l.at l.below (l.end - l.counter) l.p (tally_values l.t)
 
-abbrev pub decreases-loop-n : goal.decreases-loop-n
-decreases-loop-n l = l.n
-
-abbrev pub invariant-loop-n-2 : goal.invariant-loop-n-2
-invariant-loop-n-2 l = law.ItemsLeft l.tree l.left l.at l.below l.n l.p l.t
-
-abbrev pub decreases-loop-n-2 : goal.decreases-loop-n-2
-decreases-loop-n-2 l = l.n
+abbrev pub invariant-loop-2 : goal.invariant-loop-2
+invariant-loop-2 l = law.ItemsLeft l.tree l.left l.at l.below (l.end - l.counter) l.p (tally_values l.t)
 
 abbrev pub decreases-rests : goal.decreases-rests
 decreases-rests l = l.left

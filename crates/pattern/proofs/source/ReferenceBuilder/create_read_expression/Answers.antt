@@ -1,11 +1,11 @@
 use Rattle.pattern.proofs.SourceReads as law
 use Rattle.pattern.proofs.source.ReferenceBuilder.create_read_expression.Goals as goal
 
-pub returns-then-fresh : goal.returns-then-fresh
-returns-then-fresh c = law.read_first _ c.if-wanted.true c.if-fresh.true
+pub returns-in-Direct : goal.returns-in-Direct
+returns-in-Direct c = law.read_direct _ _ _ c.in-Direct.is
 
-pub returns-then-wanted : goal.returns-then-wanted
-returns-then-wanted c = law.read_later _ c.if-wanted.true c.if-fresh.false
+pub returns-in-Wanted : goal.returns-in-Wanted
+returns-in-Wanted c = law.read_wanted _ _ _ _ _ c.in-Wanted.is
 
-pub returns : goal.returns
-returns c = law.read_name _ c.if-wanted.false
+pub returns-in-Held : goal.returns-in-Held
+returns-in-Held c = law.read_held _ _ _ c.in-Held.is
