@@ -3,6 +3,7 @@
 use mathlib.Core.Path.{◌≡◌, refl, sym, ap, ◌∙◌, subst}
 use mathlib.Core.Bool.{Bool, true, false, cond}
 use mathlib.Core.List.{List, [], append-nil}
+use Rattle.std.specs.Prelude.{Option, Some, None}
 use Prim.Native.Nat.{ℕ, zero, suc, ◌+◌, ◌-◌, ◌*◌, ◌%◌, ◌<◌, ◌≤◌}
 use native.Mathlib.Omega.{arith}
 use lib.Dec.{eqb, ltb}
@@ -32,7 +33,7 @@ use Rattle.lowering.proofs.Answers.{ByWalk, walk_refuses}
 use Rattle.lowering.proofs.RefusalOrder.{limit_outside_lem, options_unknown, work_small, reading_decides}
 use Rattle.sink.specs.declared.Sink.{Sink}
 use Rattle.sink.specs.declared.Written.{Written}
-use Rattle.sink.specs.Machine.{Event, State, Ended, state_of, end_of, nothing, steps, start, finished, low}
+use Rattle.sink.specs.Machine.{Event, State, Ended, Handed, handed_of, state_of, end_of, nothing, steps, start, finished, low}
 use Rattle.direct.specs.Events.{Deed, Place, context_of, deeds, emits}
 use Rattle.outcome.specs.Named.{first_refused, events_in, outcome_from}
 use Rattle.outcome.proofs.Every.{accepted_is_good, accepted_outcome, accepted_refusal}
@@ -98,7 +99,7 @@ zeros : (k : ℕ) → replicate k 0 ≡ filled k []
 unfolding filled
 zeros k = let e : k ≡ k - length {A = ℕ} [] = omega arith in ap (λ (x : ℕ). replicate x 0) e
 
-pub refused_all : (answer a b c : ℕ) (o l w : List ℕ) (r : Written) → end_of o l w r ≡ nothing a b c
+pub refused_all : (answer a b c : ℕ) (o l w : List ℕ) (r : Handed) → end_of o l w r ≡ nothing a b c
     → handed_back (record { answer = answer; helpers = 0; options = 0; tree_len = 0; list_len = 0 }) o l w
     ≡ outcome_of (record { tree_slice = a; list_slice = b; work_slice = c }) (Result.refusal answer)
 unfolding nothing outcome_of
@@ -122,19 +123,15 @@ refused_byte limit given bytes n q mark read =
 
 -- ---- what is handed back where the walk refuses nothing
 
-pub handed_fits : (options : ℕ) (o l w : List ℕ) (r : Written) (e : Ended) → end_of o l w r ≡ e → r.fits ≡ true
+pub handed_fits : (options : ℕ) (o l w : List ℕ) (r : Written) (e : Ended) → end_of o l w (handed_of (Some r)) ≡ e
     → handed_back (record { answer = 0; helpers = r.helpers; options = options; tree_len = r.tree; list_len = r.list }) o l w ≡ outcome_from options e
 unfolding outcome_from
-handed_fits options o l w r e h f =
-    ap (λ (b : Bool). handed_back (record { answer = cond b 0 7; helpers = r.helpers; options = cond b options 0; tree_len = r.tree; list_len = r.list }) o l w) (sym f)
-    ∙ ap (outcome_from options) h
+handed_fits options o l w r e h = ap (outcome_from options) h
 
-pub handed_over : (options : ℕ) (o l w : List ℕ) (r : Written) (e : Ended) → end_of o l w r ≡ e → r.fits ≡ false
-    → handed_back (record { answer = 7; helpers = r.helpers; options = 0; tree_len = r.tree; list_len = r.list }) o l w ≡ outcome_from options e
+pub handed_over : (options : ℕ) (o l w : List ℕ) (e : Ended) → end_of o l w (handed_of None) ≡ e
+    → handed_back (record { answer = 7; helpers = 0; options = 0; tree_len = 0; list_len = 0 }) o l w ≡ outcome_from options e
 unfolding outcome_from
-handed_over options o l w r e h f =
-    ap (λ (b : Bool). handed_back (record { answer = cond b 0 7; helpers = r.helpers; options = cond b options 0; tree_len = r.tree; list_len = r.list }) o l w) (sym f)
-    ∙ ap (outcome_from options) h
+handed_over options o l w e h = ap (outcome_from options) h
 
 -- ---- what the reader answers
 
@@ -220,17 +217,17 @@ module _ (limit options : ℕ) (tree out list work : List ℕ) where
           e ∙ ap (outcome_from options) (way_ends (length out) (length list) (length work) mark (state_of o l w k) (state_of o' l' w' k') _ (omega arith) (begun big) (ends given n q big read known).0)
           ∙ accepted_outcome limit given bytes n q mark read options s (omega arith) (sym (ends given n q big read known).1 ∙ none')
 
-      pub ends_fits : (o'' l'' w'' : List ℕ) (v : Written) → r' ≡ 0 → end_of o'' l'' w'' v ≡ finished (state_of o' l' w' k') → v.fits ≡ true
+      pub ends_fits : (o'' l'' w'' : List ℕ) (v : Written) → r' ≡ 0 → end_of o'' l'' w'' (handed_of (Some v)) ≡ finished (state_of o' l' w' k')
           → (given : List ℕ) (n : Node) (q : ℕ) → Bytes given → 65536 ≤ length work → read_tree input limit given ≡ got n q mark → Noted limit slice n q mark
           → handed_back (record { answer = 0; helpers = v.helpers; options = options; tree_len = v.tree; list_len = v.list }) o'' l'' w''
           ≡ outcome_of s (after_reading options s (got n q mark))
-      ends_fits o'' l'' w'' v none' e f = ends_handed _ none' (handed_fits options o'' l'' w'' v (finished (state_of o' l' w' k')) e f)
+      ends_fits o'' l'' w'' v none' e = ends_handed _ none' (handed_fits options o'' l'' w'' v (finished (state_of o' l' w' k')) e)
 
-      pub ends_over : (o'' l'' w'' : List ℕ) (v : Written) → r' ≡ 0 → end_of o'' l'' w'' v ≡ finished (state_of o' l' w' k') → v.fits ≡ false
+      pub ends_over : (o'' l'' w'' : List ℕ) → r' ≡ 0 → end_of o'' l'' w'' (handed_of None) ≡ finished (state_of o' l' w' k')
           → (given : List ℕ) (n : Node) (q : ℕ) → Bytes given → 65536 ≤ length work → read_tree input limit given ≡ got n q mark → Noted limit slice n q mark
-          → handed_back (record { answer = 7; helpers = v.helpers; options = 0; tree_len = v.tree; list_len = v.list }) o'' l'' w''
+          → handed_back (record { answer = 7; helpers = 0; options = 0; tree_len = 0; list_len = 0 }) o'' l'' w''
           ≡ outcome_of s (after_reading options s (got n q mark))
-      ends_over o'' l'' w'' v none' e f = ends_handed _ none' (handed_over options o'' l'' w'' v (finished (state_of o' l' w' k')) e f)
+      ends_over o'' l'' w'' none' e = ends_handed _ none' (handed_over options o'' l'' w'' (finished (state_of o' l' w' k')) e)
 
   -- what is handed back is the outcome, where it is asked for before the tree is read: `refused` is what the test gave
   module _ (x : Outcome) (refused : Bool) (tested : refused ≡ limit_refused limit) where

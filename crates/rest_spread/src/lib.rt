@@ -14,7 +14,7 @@ ghost use Rattle.lowering.specs.Answer.{Result, highest_limit, limit_refused, af
 ghost use Rattle.rest_spread.specs.Entry.{lent_of, handed_back};
 
 use emit::node;
-use sink::bytes::{least, low};
+use sink::bytes::low;
 use sink::ends;
 use tree::read;
 use tree::read::Answer;
@@ -38,7 +38,7 @@ fn refuse(answer: u8, out: &mut [u8], list: &mut [u8], work: &mut [u8]) -> Lower
 {
     ends::abandon(out, list, work);
     Lowered {
-        answer: answer,
+        answer,
         helpers: 0,
         options: 0,
         tree_len: 0,
@@ -59,7 +59,7 @@ fn lower(
 ) -> Lowered
     ensures { (l : List ℕ) (n : Node) (q : ℕ) → Bytes l → 65536 ≤ length work.old → read_tree input limit l ≡ got n q mark → Noted limit tree.now n q mark → handed_back result out.new list.new work.new ≡ outcome_of (lent_of out.old list.old work.old) (after_reading options (lent_of out.old list.old work.old) (got n q mark)) }
 {
-    let cells = least(work.len(), 32768);
+    let cells = work.len().min(32768);
     let k = ends::begin(out, list, &mut work[..cells], mark);
     let w = Walk {
         sink: k,
@@ -77,23 +77,21 @@ fn lower(
     if 0 < refusal {
         return refuse(low(refusal), out, list, work);
     }
-    let k = v.sink;
-    let written = k.finish(out, list, work);
-    if written.fits {
-        return Lowered {
+    match v.sink.finish(out, list, work) {
+        Some(written) => Lowered {
             answer: 0,
             helpers: written.helpers,
-            options: options,
+            options,
             tree_len: written.tree,
             list_len: written.list,
-        };
-    }
-    Lowered {
-        answer: 7,
-        helpers: written.helpers,
-        options: 0,
-        tree_len: written.tree,
-        list_len: written.list,
+        },
+        None => Lowered {
+            answer: 7,
+            helpers: 0,
+            options: 0,
+            tree_len: 0,
+            list_len: 0,
+        },
     }
 }
 

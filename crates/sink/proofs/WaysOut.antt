@@ -1,18 +1,18 @@
 -- One law for each way out of a function: what it leaves is what the machine's definition says.
 -- Assumes nothing.
 use mathlib.Core.Path.{◌≡◌, refl, sym, ap, ◌∙◌}
-use mathlib.Core.Bool.{Bool, true, false, cond}
+use mathlib.Core.Bool.{Bool, true, false}
 use mathlib.Core.List.{List, [], ◌∷◌, ◌++◌, append-nil}
 use Prim.Native.Nat.{ℕ, zero, suc, ◌+◌, ◌-◌, ◌*◌, ◌<◌, ◌≤◌, min}
 use native.Mathlib.Nat.{add-zero}
 use native.Mathlib.Omega.{arith}
 use native.Mathlib.Numerals.{add-one, unary_clauses}
 use lib.Dec.{ltb, leb}
-use lib.ListN.{length, get_or, set, take, drop, replicate, length-drop, length-set, get_or-eq_default, drop_of_length-le, replicate-append-replicate, take-append-drop}
-use lib.Seq.{set_out, slice, slice-cons, take_all, take-suc-set, length-take-le}
+use lib.ListN.{length, get_or, set, take, drop, length-drop, length-set, get_or-eq_default, drop_of_length-le, take-append-drop}
+use lib.Seq.{set_out, slice, slice-cons, take_all, length-take-le}
 use borrow.Rule.Slice.PartMut.{put_mid, mid_of, mid_len, set_mid_at}
-use borrow.Author.Tests.{lt-ltb, le-ltb, ne_eqb, leb-true}
-use Rattle.sink.specs.Machine.{State, Event, state_of, with_tree, with_list, with_keys_of, with_entries, with_declarators, with_next, with_mark, with_helpers, low, high, part, one_more_of, wide_in, set_wide, put_tree, put_list, put_keys, put_entry, cell_of, set_cell, known, patch_list, patch_work, number_of, settle, listed_at, excluded_at, set_cell_in, with_helper, mask_of, use_helper, next_mark, count_entry, count_declarator, all_tree, all_list_of, all_keys, step, steps, puts, lists, excludes, start, closed, Ended, end_of, over, nothing, ended, finished}
+use borrow.Author.Tests.{lt-ltb, le-ltb, leb-true}
+use Rattle.sink.specs.Machine.{State, Event, state_of, with_tree, with_list, with_keys_of, with_entries, with_declarators, with_next, with_mark, with_helpers, low, high, part, one_more_of, wide_in, set_wide, put_tree, put_list, put_keys, put_entry, cell_of, set_cell, known, patch_list, patch_work, number_of, settle, listed_at, excluded_at, set_cell_in, with_helper, use_helper, next_mark, count_entry, count_declarator, all_tree, all_list_of, all_keys, step, steps, puts, lists, excludes, closed}
 use Rattle.sink.specs.Machine.Event.{put, helper, temporary, new_mark, make, listed, listed_temporary, entry, excluded, excluded_temporary, declarator}
 use Rattle.sink.proofs.Runs.{wide_right}
 use Rattle.sink.specs.declared.Helpers.{Helpers}
@@ -243,35 +243,6 @@ excluded_more s s₁ s₂ a b p q = chain s s₁ s₂ (excludes a) (excludes b) 
 
 -- ---- helpers
 
-pub with_spread : (u : Helpers) (h : ℕ) → h ≡ 1 → record { spread = true; extends = u.extends; empty = u.empty; without = u.without; key = u.key } ≡ with_helper u h
-unfolding with_helper
-with_spread u h e = rw e
-
-pub with_extends : (u : Helpers) (h : ℕ) → h ≡ 2 → record { spread = u.spread; extends = true; empty = u.empty; without = u.without; key = u.key } ≡ with_helper u h
-unfolding with_helper
-with_extends u h e = rw e
-
-pub with_empty : (u : Helpers) (h : ℕ) → h ≡ 3 → record { spread = u.spread; extends = u.extends; empty = true; without = u.without; key = u.key } ≡ with_helper u h
-unfolding with_helper
-with_empty u h e = rw e
-
-pub with_without : (u : Helpers) (h : ℕ) → h ≡ 4 → record { spread = u.spread; extends = u.extends; empty = u.empty; without = true; key = u.key } ≡ with_helper u h
-unfolding with_helper
-with_without u h e = rw e
-
-pub with_key : (u : Helpers) (h : ℕ) → h ≡ 5 → record { spread = u.spread; extends = u.extends; empty = u.empty; without = u.without; key = true } ≡ with_helper u h
-unfolding with_helper
-with_key u h e = rw e
-
-pub with_none : (u : Helpers) (h : ℕ) → (h ≡ 1 → ⊥) → (h ≡ 2 → ⊥) → (h ≡ 3 → ⊥) → (h ≡ 4 → ⊥) → (h ≡ 5 → ⊥) → u ≡ with_helper u h
-unfolding with_helper
-with_none u h a b c d e = rw (ne_eqb h 1 a, ne_eqb h 2 b, ne_eqb h 3 c, ne_eqb h 4 d, ne_eqb h 5 e)
-
-pub mask_sum : (u : Helpers) (a b c d e : ℕ) → a ≡ cond u.spread 1 0 → b ≡ cond u.extends 2 0 → c ≡ cond u.empty 4 0 → d ≡ cond u.without 8 0 → e ≡ cond u.key 16 0
-    → a + (b + (c + (d + e))) ≡ mask_of u
-unfolding mask_of
-mask_sum u a b c d e p q r s t = cc
-
 -- ---- what is more than a byte
 
 pub helper_is : (s s₁ s₂ : State) (u : Helpers) (h : ℕ) → u ≡ with_helper s.sink.helpers h
@@ -419,20 +390,7 @@ module _ (l : List ℕ) (s : State) (i n e : ℕ) (q : n ≡ min e (length l)) w
 
 -- ---- clearing
 
-pub clear_more : (s : List ℕ) (i : ℕ) → i < length s → take i s ≡ replicate i 0 → take (i + 1) (set s i 0) ≡ replicate (i + 1) 0
-clear_more s i h e =
-    ap (λ (n : ℕ). take n (set s i 0)) (add-one i) ∙ take-suc-set s i 0 h ∙ ap (λ (l : List ℕ). l ++ (0 ∷ [])) e ∙ replicate-append-replicate i 1 0
-
-pub clear_end : (s s₀ : List ℕ) (i : ℕ) → length s ≡ length s₀ → i ≤ length s → length s ≤ i → take i s ≡ replicate i 0 → s ≡ replicate (length s₀) 0
-clear_end s s₀ i p h g e =
-    let q : i ≡ length s₀ = omega arith in
-    sym (take_all i s g) ∙ e ∙ ap (λ (n : ℕ). replicate n 0) q
-
 -- ---- the end
-
-pub over_is : (limit slice n m : ℕ) → m ≡ min limit slice → ltb m n ≡ over limit slice n
-unfolding over
-over_is limit slice n m e = ap (λ (x : ℕ). ltb x n) e
 
 pub closed_in : (s s₁ s₂ : State) (l : List ℕ) → s.sink.keys < 16385 → l ≡ set_wide s.list 0 s.sink.entries
     → s₁ ≡ steps (state_of s.out l s.work s.sink) (lists (low s.sink.declarators ∷ high s.sink.declarators ∷ []))
@@ -446,34 +404,3 @@ closed_in s s₁ s₂ l h e p q =
 pub closed_over : (s : State) → 16385 ≤ s.sink.keys → state_of s.out s.list s.work (with_list s.sink 16385) ≡ closed s
 unfolding closed
 closed_over s h = rw (le-ltb s.sink.keys 16385 h)
-
-pub ended_tree : (s : State) (b : Bool) (r : Ended) → b ≡ over 32768 (length s.out) s.sink.tree → b ≡ true
-    → r ≡ nothing (length s.out) (length s.list) (length s.work) → r ≡ ended s
-unfolding ended
-ended_tree s b r e t p = rw (sym e ∙ t) p
-
-pub ended_list : (s : State) (b d : Bool) (r : Ended) → b ≡ over 32768 (length s.out) s.sink.tree → b ≡ false → d ≡ over 16384 (length s.list) s.sink.list → d ≡ true
-    → r ≡ nothing (length s.out) (length s.list) (length s.work) → r ≡ ended s
-unfolding ended
-ended_list s b d r e t f u p = rw (sym e ∙ t, sym f ∙ u) p
-
-pub ended_fits : (s : State) (b d : Bool) (w : List ℕ) (m : ℕ) → b ≡ over 32768 (length s.out) s.sink.tree → b ≡ false → d ≡ over 16384 (length s.list) s.sink.list → d ≡ false
-    → w ≡ replicate (length s.work) 0 → m ≡ mask_of s.sink.helpers
-    → end_of s.out s.list w (record { fits = true; helpers = m; tree = s.sink.tree; list = s.sink.list }) ≡ ended s
-unfolding ended
-ended_fits s b d w m e t f u p q =
-    rw (sym e ∙ t, sym f ∙ u)
-    (λ j. end_of s.out s.list ((p) j) (record { fits = true; helpers = (q) j; tree = s.sink.tree; list = s.sink.list }))
-
-pub finished_is : (s s₁ : State) (r : Ended) → s₁ ≡ closed s → r ≡ ended s₁ → r ≡ finished s
-unfolding finished
-finished_is s s₁ r p q = q ∙ ap ended p
-
-pub started : (a b w : ℕ) (m : ℕ) (o l x : List ℕ) → o ≡ replicate a 0 → l ≡ replicate b 0 → x ≡ replicate w 0
-    → state_of o l x (record { tree = 0; list = 2; keys = 0; entries = 0; declarators = 0; next = 1; mark = m; helpers = record { spread = false; extends = false; empty = false; without = false; key = false } }) ≡ start a b w m
-unfolding start
-started a b w m o l x p q r = cc
-
-pub nothing_is : (a b w : ℕ) (o l x : List ℕ) → o ≡ replicate a 0 → l ≡ replicate b 0 → x ≡ replicate w 0 → end_of o l x (record { fits = false; helpers = 0; tree = 0; list = 0 }) ≡ nothing a b w
-unfolding nothing
-nothing_is a b w o l x p q r = cc

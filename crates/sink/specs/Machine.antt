@@ -1,9 +1,11 @@
 -- The output machine: what each event does to the lent slices and to the numbers beside them.
-use Rattle.std.specs.Prelude.{ℕ, ◌+◌, ◌-◌, ◌*◌, ◌/◌, ◌%◌, min, Bool, true, false, cond, ◌||◌, List, [], ◌∷◌, eqb, ltb, length, get_or, set, replicate}
+use Rattle.std.specs.Prelude.{ℕ, Option, Some, None, ◌+◌, ◌-◌, ◌*◌, ◌/◌, ◌%◌, min, Bool, true, false, cond, ◌||◌, List, [], ◌∷◌, eqb, ltb, length, get_or, set, replicate}
 use Rattle.std.proofs.Math.Seq.{slice}
 use Rattle.sink.specs.declared.Helpers.{Helpers}
 use Rattle.sink.specs.declared.Sink.{Sink}
 use Rattle.sink.specs.declared.Written.{Written}
+use Rattle.sink.specs.declared.mask.Helper.{Helper}
+use Rattle.sink.specs.declared.mask.Helper.TheVariants.{Spread, Extends, Empty, Without, Key}
 
 pub data Event : Type 0 where
   put : ℕ → Event  -- a byte of the tree
@@ -165,6 +167,14 @@ set_cell_in s c n = state_of s.out s.list (set_cell s.work c n) s.sink
 
 -- ---- helpers
 
+-- the number by which the tree names a helper
+abbrev pub helper_number : Helper → ℕ
+helper_number Spread = 1
+helper_number Extends = 2
+helper_number Empty = 3
+helper_number Without = 4
+helper_number Key = 5
+
 unfoldable pub with_helper : Helpers → ℕ → Helpers
 with_helper u h =
     record {
@@ -260,14 +270,25 @@ closed s =
     (low s.sink.declarators ∷ high s.sink.declarators ∷ part keys_at (keys_at + s.sink.keys) s.work))
     (state_of s.out s.list s.work (with_list s.sink (list_limit + 1)))
 
+-- what is said of the lent slices at the end: whether tree and list fit, the helper mask, both lengths
+pub record Handed : Type 0 where
+  pub fits : Bool
+  pub helpers : ℕ
+  pub tree : ℕ
+  pub list : ℕ
+
+abbrev pub handed_of : Option Written → Handed
+handed_of None = record { fits = false; helpers = 0; tree = 0; list = 0 }
+handed_of (Some w) = record { fits = true; helpers = w.helpers; tree = w.tree; list = w.list }
+
 -- the lent slices at the end, and what is said of them
 pub record Ended : Type 0 where
   pub out : List ℕ
   pub list : List ℕ
   pub work : List ℕ
-  pub written : Written
+  pub written : Handed
 
-abbrev pub end_of : List ℕ → List ℕ → List ℕ → Written → Ended
+abbrev pub end_of : List ℕ → List ℕ → List ℕ → Handed → Ended
 end_of out list work r = record { out = out; list = list; work = work; written = r }
 
 -- a length above its limit or its slice

@@ -67,14 +67,3 @@ pub fn least(a: usize, b: usize) -> usize
     }
     b
 }
-
-// Every byte 0.
-pub(crate) fn clear(s: &mut [u8])
-    ensures { s.new ≡ replicate (length s.old) 0 }
-{
-    let mut i = 0;
-    while i < s.len() {
-        s[i] = 0;
-        i += 1;
-    }
-}

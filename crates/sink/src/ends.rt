@@ -1,16 +1,17 @@
 // The first state, and what is handed back at the end.
 ghost use Rattle.std.specs.Prelude.{◌≡◌, ℕ, List, length};
-ghost use Rattle.sink.specs.Machine.{state_of, start, closed, end_of, over, nothing, ended, finished};
+ghost use Rattle.sink.specs.Machine.{state_of, start, closed, end_of, handed_of, over, nothing, ended, finished};
 
 use crate::{Helpers, Sink, Written, bytes};
 
 // Every lent byte is 0, and the next mark is given.
+#[tactic(auto, unfolding(crate::specs::Machine::start))]
 pub fn begin(out: &mut [u8], list: &mut [u8], work: &mut [u8], mark: usize) -> Sink
     ensures { state_of out.new list.new work.new result ≡ start (length out.old) (length list.old) (length work.old) mark }
 {
-    bytes::clear(out);
-    bytes::clear(list);
-    bytes::clear(work);
+    out.fill(0);
+    list.fill(0);
+    work.fill(0);
     Sink {
         tree: 0,
         list: 2,
@@ -18,7 +19,7 @@ pub fn begin(out: &mut [u8], list: &mut [u8], work: &mut [u8], mark: usize) -> S
         entries: 0,
         declarators: 0,
         next: 1,
-        mark: mark,
+        mark,
         helpers: Helpers {
             spread: false,
             extends: false,
@@ -30,25 +31,21 @@ pub fn begin(out: &mut [u8], list: &mut [u8], work: &mut [u8], mark: usize) -> S
 }
 
 // Every lent byte is 0: a refusal.
-pub fn abandon(out: &mut [u8], list: &mut [u8], work: &mut [u8]) -> Written
-    ensures { end_of out.new list.new work.new result ≡ nothing (length out.old) (length list.old) (length work.old) }
+#[tactic(auto, unfolding(crate::specs::Machine::nothing))]
+pub fn abandon(out: &mut [u8], list: &mut [u8], work: &mut [u8])
+    ensures { end_of out.new list.new work.new (handed_of None) ≡ nothing (length out.old) (length list.old) (length work.old) }
 {
-    bytes::clear(out);
-    bytes::clear(list);
-    bytes::clear(work);
-    Written {
-        fits: false,
-        helpers: 0,
-        tree: 0,
-        list: 0,
-    }
+    out.fill(0);
+    list.fill(0);
+    work.fill(0);
 }
 
 // Whether a length is above its limit or its slice.
+#[tactic(auto, unfolding(crate::specs::Machine::over))]
 fn over(limit: usize, slice: usize, n: usize) -> bool
     ensures { result ≡ over limit slice n }
 {
-    bytes::least(limit, slice) < n
+    limit.min(slice) < n
 }
 
 impl Sink {
@@ -59,41 +56,35 @@ impl Sink {
         let keys = self.keys;
         if keys < 16385 {
             bytes::put_wide(list, 0, self.entries);
-            let n = self.declarators;
             return self
-                .listed_wide(list, n)
+                .listed_wide(list, self.declarators)
                 .listed_copy(list, work, 32768, 32768 + keys);
         }
         self.list = 16385;
         self
     }
 
-    fn ended(self, out: &mut [u8], list: &mut [u8], work: &mut [u8]) -> Written
-        ensures { end_of out.new list.new work.new result ≡ ended (state_of out.old list.old work.old self) }
+    #[tactic(auto, unfolding(crate::specs::Machine::ended))]
+    fn ended(self, out: &mut [u8], list: &mut [u8], work: &mut [u8]) -> Option<Written>
+        ensures { end_of out.new list.new work.new (handed_of result) ≡ ended (state_of out.old list.old work.old self) }
     {
-        let tree = self.tree;
-        let listed = self.list;
-        if over(32768, out.len(), tree) {
-            return abandon(out, list, work);
+        if over(32768, out.len(), self.tree) || over(16384, list.len(), self.list) {
+            abandon(out, list, work);
+            return None;
         }
-        if over(16384, list.len(), listed) {
-            return abandon(out, list, work);
-        }
-        bytes::clear(work);
-        let u = self.helpers;
-        Written {
-            fits: true,
-            helpers: u.mask(),
-            tree: tree,
-            list: listed,
-        }
+        work.fill(0);
+        Some(Written {
+            helpers: self.helpers.mask(),
+            tree: self.tree,
+            list: self.list,
+        })
     }
 
     // The whole tree and the whole list if both fit, else nothing.
-    pub fn finish(self, out: &mut [u8], list: &mut [u8], work: &mut [u8]) -> Written
-        ensures { end_of out.new list.new work.new result ≡ finished (state_of out.old list.old work.old self) }
+    #[tactic(auto, unfolding(crate::specs::Machine::finished))]
+    pub fn finish(self, out: &mut [u8], list: &mut [u8], work: &mut [u8]) -> Option<Written>
+        ensures { end_of out.new list.new work.new (handed_of result) ≡ finished (state_of out.old list.old work.old self) }
     {
-        let k = self.closed(list, work);
-        k.ended(out, list, work)
+        self.closed(list, work).ended(out, list, work)
     }
 }

@@ -34,10 +34,9 @@ pub struct Sink {
     pub next: usize,
 }
 
-// What is handed back: whether tree and list fit, the helper mask, both lengths.
+// What is handed back where tree and list fit: the helper mask, both lengths.
 #[derive(Clone, Copy)]
 pub struct Written {
-    pub fits: bool,
     pub helpers: u8,
     pub tree: usize,
     pub list: usize,

@@ -1,46 +1,64 @@
-// Helpers 1 to 5, by document 01: S, X, E, W, K.
+// The helpers and their mask.
 ghost use Rattle.std.specs.Prelude.{◌≡◌, cond, ◌≤◌};
-ghost use Rattle.sink.specs.Machine.{with_helper, mask_of};
+ghost use Rattle.sink.specs.Machine.{with_helper, mask_of, helper_number};
 
 use crate::Helpers;
 
-fn bit(used: bool, value: u8) -> u8
-    ensures { (result ≡ cond used value 0) × (result ≤ value) }
-{
-    if used { value } else { 0 }
+// A helper that the tree can call, by document 01's order: S, X, E, W, K.
+#[derive(Clone, Copy, Debug, PartialEq, Eq)]
+pub enum Helper {
+    Spread = 1,
+    Extends = 2,
+    Empty = 3,
+    Without = 4,
+    Key = 5,
+}
+
+// The number by which the tree names a helper.
+impl From<Helper> for u8 {
+    ghost from_gives = { λ h n. n ≡ helper_number h };
+
+    fn from(h: Helper) -> u8
+        ensures { result ≡ helper_number h }
+    {
+        h as u8
+    }
 }
 
 impl Helpers {
-    pub(crate) fn with(mut self, h: u8) -> Helpers
-        ensures { result ≡ with_helper self h }
+    #[tactic(auto, unfolding(crate::specs::Machine::with_helper))]
+    pub(crate) fn with(self, h: Helper) -> Helpers
+        ensures { result ≡ with_helper self (helper_number h) }
     {
         match h {
-            1 => {
-                self.spread = true;
-            }
-            2 => {
-                self.extends = true;
-            }
-            3 => {
-                self.empty = true;
-            }
-            4 => {
-                self.without = true;
-            }
-            5 => {
-                self.key = true;
-            }
-            _ => {}
+            Helper::Spread => Helpers {
+                spread: true,
+                ..self
+            },
+            Helper::Extends => Helpers {
+                extends: true,
+                ..self
+            },
+            Helper::Empty => Helpers {
+                empty: true,
+                ..self
+            },
+            Helper::Without => Helpers {
+                without: true,
+                ..self
+            },
+            Helper::Key => Helpers { key: true, ..self },
         }
-        self
     }
 
     // Bit h - 1 for helper h.
+    #[tactic(auto, unfolding(crate::specs::Machine::mask_of))]
     pub(crate) fn mask(self) -> u8
         ensures { result ≡ mask_of self }
     {
-        bit(self.spread, 1)
-            + (bit(self.extends, 2)
-                + (bit(self.empty, 4) + (bit(self.without, 8) + bit(self.key, 16))))
+        u8::from(self.spread)
+            + (2 * u8::from(self.extends)
+                + (4 * u8::from(self.empty)
+                    + (8 * u8::from(self.without) + 16 * u8::from(self.key))))
     }
 }

@@ -1,10 +1,12 @@
-// The helpers by name, in document 01's order: S, X, E, W, K.
-pub(crate) const OBJECT_SPREAD: u8 = 1;
+// The helpers by the names that callers of the lowering know them by.
+use sink::mask::Helper;
 
-pub(crate) const EXTENDS: u8 = 2;
+pub(crate) const OBJECT_SPREAD: Helper = Helper::Spread;
 
-pub(crate) const OBJECT_DESTRUCTURING_EMPTY: u8 = 3;
+pub(crate) const EXTENDS: Helper = Helper::Extends;
 
-pub const OBJECT_WITHOUT_PROPERTIES: u8 = 4;
+pub(crate) const OBJECT_DESTRUCTURING_EMPTY: Helper = Helper::Empty;
 
-pub(crate) const TO_PROPERTY_KEY: u8 = 5;
+pub const OBJECT_WITHOUT_PROPERTIES: Helper = Helper::Without;
+
+pub(crate) const TO_PROPERTY_KEY: Helper = Helper::Key;

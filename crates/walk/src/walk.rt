@@ -2,7 +2,7 @@
 ghost use Rattle.std.specs.Prelude.{◌≡◌, ◌&&◌, List, [], ◌∷◌, ◌++◌, ltb, ℕ, ◌%◌};
 ghost use Rattle.tree.specs.Tree.{wide_bytes};
 ghost use Rattle.lowering.specs.Numbers.{digits_of};
-ghost use Rattle.sink.specs.Machine.{part, tree_limit};
+ghost use Rattle.sink.specs.Machine.{part, tree_limit, helper_number};
 ghost use Rattle.sink.specs.Machine.Event.{helper, temporary, new_mark, make, listed_temporary, entry, excluded_temporary, declarator};
 ghost use Rattle.direct.specs.Events.{puts, lists, excludes};
 ghost use Rattle.direct.specs.Events.Deed.{does, refuses};
@@ -14,6 +14,7 @@ ghost use Rattle.walk.specs.Turns.{declaration_head, block_head, string_at};
 use crate::{helpers, stems, written};
 use pattern::numbers::digits_of;
 use sink::Sink;
+use sink::mask::Helper;
 
 // The output, the position in the input, the first refusal (0 for none). A refusal is a byte; as a word it is copied faster.
 #[derive(Clone, Copy)]
@@ -28,33 +29,22 @@ impl Walk {
     pub fn to(self, at: usize) -> Walk
         ensures { ((o l w : List ℕ) → going_of o l w result ≡ going_of o l w self) × (result.at ≡ at) }
     {
-        let k = self.sink;
-        Walk {
-            sink: k,
-            at: at,
-            refusal: self.refusal,
-        }
+        Walk { at, ..self }
     }
 
     // Whether what was written before need not be written again: the tree is full, and nothing of it will be handed back.
     pub fn passes(self, again: bool) -> bool
         ensures { result ≡ again && ltb tree_limit self.sink.tree }
     {
-        if again {
-            let k = self.sink;
-            return k.full();
-        }
-        false
+        again && self.sink.full()
     }
 
     pub fn put2(self, out: &mut [u8], a: u8, b: u8) -> Walk
         ensures { ((l w : List ℕ) → Runs (going_of out.old l w self) (going_of out.new l w result) (puts (a ∷ b ∷ []))) × (result.at ≡ self.at) }
     {
-        let k = self.sink;
         Walk {
-            sink: k.put2(out, a, b),
-            at: self.at,
-            refusal: self.refusal,
+            sink: self.sink.put2(out, a, b),
+            ..self
         }
     }
 
@@ -62,11 +52,9 @@ impl Walk {
     pub fn wide(self, out: &mut [u8], n: usize) -> Walk
         ensures { ((l w : List ℕ) → Runs (going_of out.old l w self) (going_of out.new l w result) (puts (wide_bytes (n % 65536)))) × (result.at ≡ self.at) }
     {
-        let k = self.sink;
         Walk {
-            sink: k.put_wide(out, n),
-            at: self.at,
-            refusal: self.refusal,
+            sink: self.sink.put_wide(out, n),
+            ..self
         }
     }
 
@@ -74,26 +62,24 @@ impl Walk {
     pub fn copy(self, t: &[u8], out: &mut [u8], end: usize) -> Walk
         ensures { ((l w : List ℕ) → Runs (going_of out.old l w self) (going_of out.new l w result) (puts (part self.at end t.now))) × (result.at ≡ end) }
     {
-        let k = self.sink;
         Walk {
-            sink: k.copy(out, t, self.at, end),
+            sink: self.sink.copy(out, t, self.at, end),
             at: end,
-            refusal: self.refusal,
+            ..self
         }
     }
 
-    // The head of a call of helper h.
-    pub fn call(self, out: &mut [u8], h: u8, args: usize) -> Walk
-        ensures { ((l w : List ℕ) → Runs (going_of out.old l w self) (going_of out.new l w result) (call_head h (args % 65536))) × (result.at ≡ self.at) }
+    // The head of a call of a helper.
+    pub fn call(self, out: &mut [u8], h: Helper, args: usize) -> Walk
+        ensures { ((l w : List ℕ) → Runs (going_of out.old l w self) (going_of out.new l w result) (call_head (helper_number h) (args % 65536))) × (result.at ≡ self.at) }
     {
-        let k = self.sink;
         Walk {
-            sink: k
+            sink: self
+                .sink
                 .put2(out, written::CALL, written::FIRST_TWO)
                 .helper(out, h)
                 .put_wide(out, args),
-            at: self.at,
-            refusal: self.refusal,
+            ..self
         }
     }
 
@@ -108,11 +94,9 @@ impl Walk {
     ) -> Walk
         ensures { (Runs (going_of out.old list.old work.old self) (going_of out.new list.new work.new result) (does (temporary c stem) ∷ [])) × (result.at ≡ self.at) }
     {
-        let k = self.sink;
         Walk {
-            sink: k.temporary(out, list, work, c, stem),
-            at: self.at,
-            refusal: self.refusal,
+            sink: self.sink.temporary(out, list, work, c, stem),
+            ..self
         }
     }
 
@@ -120,19 +104,15 @@ impl Walk {
     pub fn refuse(self, out: &mut [u8], n: u8) -> Walk
         ensures { ((l w : List ℕ) → Runs (going_of out.old l w self) (going_of out.new l w result) (refuses n ∷ puts (0 ∷ 0 ∷ []))) × (result.at ≡ self.at) }
     {
-        let k = self.sink;
-        let first = self.refusal;
-        if first == 0 {
-            return Walk {
-                sink: k.put2(out, 0, 0),
-                at: self.at,
-                refusal: n as usize,
-            };
-        }
+        let refusal = if self.refusal == 0 {
+            usize::from(n)
+        } else {
+            self.refusal
+        };
         Walk {
-            sink: k.put2(out, 0, 0),
-            at: self.at,
-            refusal: first,
+            sink: self.sink.put2(out, 0, 0),
+            refusal,
+            ..self
         }
     }
 
@@ -140,18 +120,15 @@ impl Walk {
     pub fn mark(self) -> usize
         ensures { result ≡ self.sink.mark }
     {
-        let k = self.sink;
-        k.mark
+        self.sink.mark
     }
 
     pub fn new_mark(self, out: &mut [u8]) -> Walk
         ensures { ((l w : List ℕ) → Runs (going_of out.old l w self) (going_of out.new l w result) (does new_mark ∷ [])) × (result.at ≡ self.at) }
     {
-        let k = self.sink;
         Walk {
-            sink: k.new_mark(out),
-            at: self.at,
-            refusal: self.refusal,
+            sink: self.sink.new_mark(out),
+            ..self
         }
     }
 
@@ -167,13 +144,12 @@ impl Walk {
     pub fn assign(self, out: &mut [u8], op: u8) -> Walk
         ensures { ((l w : List ℕ) → Runs (going_of out.old l w self) (going_of out.new l w result) (puts (27 ∷ 7 ∷ op ∷ []))) × (result.at ≡ self.at) }
     {
-        let k = self.sink;
         Walk {
-            sink: k
+            sink: self
+                .sink
                 .put2(out, written::ASSIGNMENT, written::FIRST_THREE)
                 .put(out, op),
-            at: self.at,
-            refusal: self.refusal,
+            ..self
         }
     }
 
@@ -181,15 +157,14 @@ impl Walk {
     pub fn declaration(self, out: &mut [u8], sort: u8, n: usize) -> Walk
         ensures { ((l w : List ℕ) → Runs (going_of out.old l w self) (going_of out.new l w result) (declaration_head sort (n % 65536))) × (result.at ≡ self.at) }
     {
-        let k = self.sink;
         Walk {
-            sink: k
+            sink: self
+                .sink
                 .put2(out, written::DECLARATION, written::FIRST_THREE)
                 .new_mark(out)
                 .put(out, sort)
                 .put_wide(out, n),
-            at: self.at,
-            refusal: self.refusal,
+            ..self
         }
     }
 
@@ -197,14 +172,13 @@ impl Walk {
     pub fn block(self, out: &mut [u8], n: usize) -> Walk
         ensures { ((l w : List ℕ) → Runs (going_of out.old l w self) (going_of out.new l w result) (block_head (n % 65536))) × (result.at ≡ self.at) }
     {
-        let k = self.sink;
         Walk {
-            sink: k
+            sink: self
+                .sink
                 .put2(out, written::BLOCK, written::FIRST_TWO)
                 .new_mark(out)
                 .put_wide(out, n),
-            at: self.at,
-            refusal: self.refusal,
+            ..self
         }
     }
 
@@ -224,15 +198,14 @@ impl Walk {
     pub fn mapped(self, out: &mut [u8]) -> Walk
         ensures { ((l w : List ℕ) → Runs (going_of out.old l w self) (going_of out.new l w result) (puts (3 ∷ 0 ∷ 109 ∷ 97 ∷ 112 ∷ 1 ∷ 0 ∷ []) ++ (does (helper 5) ∷ []))) × (result.at ≡ self.at) }
     {
-        let k = self.sink;
         Walk {
-            sink: k
+            sink: self
+                .sink
                 .put4(out, 3, 0, b'm', b'a')
                 .put(out, b'p')
                 .put2(out, 1, 0)
                 .helper(out, helpers::TO_PROPERTY_KEY),
-            at: self.at,
-            refusal: self.refusal,
+            ..self
         }
     }
 
@@ -240,10 +213,10 @@ impl Walk {
     pub(crate) fn string(self, t: &[u8], out: &mut [u8], from: usize, n: usize) -> Walk
         ensures { ((l w : List ℕ) → Runs (going_of out.old l w self) (going_of out.new l w result) (puts (string_at t.now from n))) × (result.at ≡ self.at) }
     {
-        let k = self.sink;
         let end = tree::skip::step(t, from, n);
         Walk {
-            sink: k
+            sink: self
+                .sink
                 .put4(
                     out,
                     written::LITERAL,
@@ -254,8 +227,7 @@ impl Walk {
                 .put(out, 0)
                 .put_wide(out, n)
                 .copy(out, t, from, end),
-            at: self.at,
-            refusal: self.refusal,
+            ..self
         }
     }
 
@@ -274,22 +246,18 @@ impl Walk {
     pub(crate) fn entry(self, list: &mut [u8], mark: usize, n: usize) -> Walk
         ensures { ((o w : List ℕ) → Runs (going_of o list.old w self) (going_of o list.new w result) (does (entry mark n) ∷ [])) × (result.at ≡ self.at) }
     {
-        let k = self.sink;
         Walk {
-            sink: k.entry(list, mark, n),
-            at: self.at,
-            refusal: self.refusal,
+            sink: self.sink.entry(list, mark, n),
+            ..self
         }
     }
 
     pub(crate) fn listed2(self, list: &mut [u8], a: u8, b: u8) -> Walk
         ensures { ((o w : List ℕ) → Runs (going_of o list.old w self) (going_of o list.new w result) (lists (a ∷ b ∷ []))) × (result.at ≡ self.at) }
     {
-        let k = self.sink;
         Walk {
-            sink: k.listed2(list, a, b),
-            at: self.at,
-            refusal: self.refusal,
+            sink: self.sink.listed2(list, a, b),
+            ..self
         }
     }
 
@@ -302,33 +270,27 @@ impl Walk {
     ) -> Walk
         ensures { ((o : List ℕ) → Runs (going_of o list.old work.old self) (going_of o list.new work.new result) (does (listed_temporary c stem) ∷ [])) × (result.at ≡ self.at) }
     {
-        let k = self.sink;
         Walk {
-            sink: k.listed_temporary(list, work, c, stem),
-            at: self.at,
-            refusal: self.refusal,
+            sink: self.sink.listed_temporary(list, work, c, stem),
+            ..self
         }
     }
 
     pub(crate) fn listed_copy(self, list: &mut [u8], t: &[u8], from: usize, to: usize) -> Walk
         ensures { ((o w : List ℕ) → Runs (going_of o list.old w self) (going_of o list.new w result) (lists (part from to t.now))) × (result.at ≡ self.at) }
     {
-        let k = self.sink;
         Walk {
-            sink: k.listed_copy(list, t, from, to),
-            at: self.at,
-            refusal: self.refusal,
+            sink: self.sink.listed_copy(list, t, from, to),
+            ..self
         }
     }
 
     pub(crate) fn excluded_copy(self, work: &mut [u8], t: &[u8], from: usize, to: usize) -> Walk
         ensures { ((o l : List ℕ) → Runs (going_of o l work.old self) (going_of o l work.new result) (excludes (part from to t.now))) × (result.at ≡ self.at) }
     {
-        let k = self.sink;
         Walk {
-            sink: k.excluded_copy(work, t, from, to),
-            at: self.at,
-            refusal: self.refusal,
+            sink: self.sink.excluded_copy(work, t, from, to),
+            ..self
         }
     }
 
@@ -336,25 +298,22 @@ impl Walk {
     pub(crate) fn excluded_head(self, work: &mut [u8], c: usize, n: usize) -> Walk
         ensures { ((o l : List ℕ) → Runs (going_of o l work.old self) (going_of o l work.new result) (does declarator ∷ does (excluded_temporary c 2) ∷ excludes (32 ∷ 1 ∷ wide_bytes (n % 65536)))) × (result.at ≡ self.at) }
     {
-        let k = self.sink;
         Walk {
-            sink: k
+            sink: self.sink
                 .declarator(work)
                 .excluded_temporary(work, c, stems::EXCLUDED)
                 .excluded2(work, written::ARRAY, written::FIRST)
                 .excluded_wide(work, n),
-            at: self.at,
-            refusal: self.refusal,
+            ..self
         }
     }
 
     pub(crate) fn excluded_string(self, work: &mut [u8], t: &[u8], from: usize, n: usize) -> Walk
         ensures { ((o l : List ℕ) → Runs (going_of o l work.old self) (going_of o l work.new result) (excludes (string_at t.now from n))) × (result.at ≡ self.at) }
     {
-        let k = self.sink;
         let end = tree::skip::step(t, from, n);
         Walk {
-            sink: k
+            sink: self.sink
                 .excluded4(
                     work,
                     written::LITERAL,
@@ -365,8 +324,7 @@ impl Walk {
                 .excluded(work, 0)
                 .excluded_wide(work, n)
                 .excluded_copy(work, t, from, end),
-            at: self.at,
-            refusal: self.refusal,
+            ..self
         }
     }
 
