@@ -24,7 +24,7 @@ use Rattle.direct.specs.Events.Deed.{does, refuses}
 use Rattle.direct.specs.Emit.{say, ◌▷◌}
 use Rattle.direct.specs.Views.{View, emits_view, emits_property}
 use Rattle.direct.specs.Views.View.{replacing, taking}
-use Rattle.direct.specs.Literals.{is_spread}
+use Rattle.direct.specs.Literals.{is_spread, no_call_of, nothing_pending, some_pending}
 use Rattle.direct.specs.Keys.{string_bytes_of, emits_excluded}
 use Rattle.direct.specs.Objects.{Reach, reached, over_objects, over_reached, enters}
 use Rattle.direct.specs.Objects.Reach.{anywhere, straight, in_arrays}
@@ -42,6 +42,8 @@ use Rattle.walk.specs.declared.reaches.Reach as reaches
 use Rattle.walk.specs.declared.reaches.Reach.TheVariants.{Anywhere, Straight, InArrays}
 use Rattle.walk.specs.declared.look.KeyClass.{KeyClass}
 use Rattle.walk.specs.declared.look.KeyClass.TheVariants.{AsString, AsItStands, LeftOut, AsTemporary}
+use Rattle.walk.specs.declared.literal.Calls.{Calls}
+use Rattle.walk.specs.declared.literal.Calls.TheVariants.{NoCall, NothingPending, SomePending}
 use Rattle.walk.specs.declared.hand.Own.{Own}
 use Rattle.walk.specs.declared.hand.Own.TheVariants as own
 use Rattle.walk.specs.declared.hand.KeyUse.{KeyUse}
@@ -195,6 +197,12 @@ spread_at tree zero at = false
 spread_at tree (suc d) at =
     eqb (byte_at tree (onward tree at 1) % 2) 1
     && any is_spread (look_items tree (look_node tree d) false (wide_at tree (onward tree at 2)) (onward tree (onward tree at 2) 2)).value
+
+-- the call so far, as the direct form numbers it
+abbrev pub calls_number : Calls → ℕ
+calls_number NoCall = no_call_of
+calls_number NothingPending = nothing_pending
+calls_number SomePending = some_pending
 
 -- two objects, the second of n properties, if there are any
 unfoldable pub pending_deeds : ℕ → List Deed

@@ -20,6 +20,7 @@ ghost use Rattle.walk.specs.Turns.{view_of, suits, AllSuit, places_at, top_at, o
 ghost use Rattle.walk.specs.declared.modes.Mode.TheVariants.{Binding};
 ghost use Rattle.walk.specs.declared.views.View.TheVariants.{Replacing, Taking};
 
+use crate::look;
 use crate::look::{cell, has_second, hoisted, is_other};
 use crate::place::less;
 use crate::reaches::Reach;
@@ -84,10 +85,7 @@ fn over(
 fn replaces(t: &[u8], at: usize, v: View) -> bool
     ensures { result ≡ cond (takes (view_of v)) false (eqb (byte_at t.now (onward t.now at 1) / 2 % 2) 1) }
 {
-    match v {
-        View::Replacing => has_second(t, at),
-        View::Taking => false,
-    }
+    look::replaces(v) && has_second(t, at)
 }
 
 #[cycle(over_over_array_over_item_over_items_over_object_over_value_over_values)]
@@ -346,15 +344,13 @@ fn exclude_key(w: Walk, t: &[u8], work: &mut [u8], left: usize, at: usize) -> Wa
     ensures { (result.at ≡ w.at) × ((o l : List ℕ) → Good t.now left at → Does (going_of o l work.old w) (going_of o l work.new result) (say (excludes (key_bytes_of (look_node t.now left at).value)))) }
 {
     match transform_property_key(t, left, at) {
-        Key::Name { from, len } => w.excluded_string(work, t, from, len),
-        Key::Literal { from, len } => w.excluded_string(work, t, from, len),
-        Key::Number { value } => w.excluded_number(work, value),
-        Key::OtherForm { value } => w.excluded_number(work, value),
+        Key::Name { from, len } | Key::Literal { from, len } => {
+            w.excluded_string(work, t, from, len)
+        }
+        Key::Number { value } | Key::OtherForm { value } => w.excluded_number(work, value),
         Key::NoForm => w.excluded_string(work, t, 0, 0),
         Key::Template => w.excluded_copy(work, t, at, skip(t, left, at)),
-        Key::Private => w,
-        Key::Again => w,
-        Key::Other => w,
+        Key::Private | Key::Again | Key::Other => w,
     }
 }
 
@@ -652,9 +648,8 @@ fn makes(w: Walk, t: &[u8], work: &mut [u8], left: usize, at: usize) -> Walk
     }
     let kind = peek(t, at);
     match kind {
-        kinds::OBJECT_PATTERN => w.make(work, at),
+        kinds::OBJECT_PATTERN | kinds::DEFAULT => w.make(work, at),
         kinds::ARRAY_PATTERN => makes_array(w, t, work, left, at),
-        kinds::DEFAULT => w.make(work, at),
         _ => w,
     }
 }

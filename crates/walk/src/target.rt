@@ -89,7 +89,8 @@ pub fn object_count(t: &[u8], left: usize, at: usize, reach: Reach) -> usize
     let mut k = 0;
     for _ in 0..run.count {
         let v = parts::value(t, below, p);
-        if kinds::LAST_EXPRESSION < peek(t, v.at) {
+        // Patterns come behind the expressions that may stand in their place.
+        if kinds::OTHER_EXPRESSION < peek(t, v.at) {
             k = plus(k, target_count(t, v.left, v.at, reach));
         }
         p = skip(t, below, p);
@@ -174,31 +175,8 @@ fn target_property(
     if quiet(t, at) {
         return w;
     }
-    if left == 0 {
-        return w;
-    }
-    let below = left - 1;
     let x = skip(t, left, step(t, at, 2));
-    let kind = peek(t, x);
-    match kind {
-        kinds::OBJECT_PATTERN => target_object(w, t, list, work, below, x, reach),
-        kinds::ARRAY_PATTERN => {
-            if !enters(reach) {
-                return w;
-            }
-            let q = step(t, x, 2);
-            let mut u = w;
-            let n = wide_at(t, q);
-            let mut p = step(t, q, 2);
-            for _ in 0..n {
-                u = target_item(u, t, list, work, below, p, Reach::Anywhere);
-                p = skip_item(t, true, below, p);
-            }
-            u
-        }
-        kinds::DEFAULT => target_item(w, t, list, work, below, step(t, x, 2), reach),
-        _ => w,
-    }
+    target_item(w, t, list, work, left, x, reach)
 }
 
 // An item of an array, or any target: one that stands at the level `left`.

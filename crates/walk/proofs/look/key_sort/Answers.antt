@@ -1,4 +1,4 @@
-use mathlib.Core.Logic.{inl, inr}
+use mathlib.Core.Logic.◌⊎◌.{inl, inr}
 use Rattle.walk.proofs.Lookups as law
 use Rattle.walk.proofs.look.key_sort.Goals as goal
 

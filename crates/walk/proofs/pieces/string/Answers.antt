@@ -1,4 +1,4 @@
-use mathlib.Core.Logic.{inl, inr}
+use mathlib.Core.Logic.◌⊎◌.{inl, inr}
 use mathlib.Core.Path.{refl}
 use Rattle.walk.proofs.SourcesRead as law
 use Rattle.walk.proofs.pieces.string.Goals as goal

@@ -1,4 +1,4 @@
-use mathlib.Core.Logic.{inl, inr}
+use mathlib.Core.Logic.◌⊎◌.{inl, inr}
 use mathlib.Core.Path.{refl}
 use Rattle.walk.specs.Turns.{reach_of}
 use Rattle.walk.proofs.reaches.enters.Goals as goal

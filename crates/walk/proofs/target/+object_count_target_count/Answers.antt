@@ -9,7 +9,7 @@ use Rattle.walk.proofs.TurnsLeft.{none_gone, one_gone}
 use Rattle.walk.proofs.Lookups.{denied, undenied}
 use Rattle.walk.proofs.TargetCounts as law
 use Rattle.walk.proofs.target.+object_count_target_count.Goals as goal
-use Rattle.walk.proofs.target.+object_count_target_count.Goals.{object_count-else-peek-gt-LAST_EXPRESSION, object_count-then-peek-gt-LAST_EXPRESSION}
+use Rattle.walk.proofs.target.+object_count_target_count.Goals.{object_count-else-peek-gt-OTHER_EXPRESSION, object_count-then-peek-gt-OTHER_EXPRESSION}
 
 pub object_count-returns-then-left-eq0 : goal.object_count-returns-then-left-eq0
 object_count-returns-then-left-eq0 t c = law.inside_none _ _ _ _ c.if-left-eq0.true
@@ -21,7 +21,7 @@ pub object_count-target_count-requires : goal.object_count-target_count-requires
 object_count-target_count-requires t c = (let h = search.value_falls _ _ _ _ c.if-left-eq0.false c.value-v.ensures in omega arith, tt)
 
 pub object_count-loop-preserved : goal.object_count-loop-preserved
-object_count-loop-preserved t c = rw one_gone ((elim c.if-peek-gt-LAST_EXPRESSION.branch [ object_count-then-peek-gt-LAST_EXPRESSION w ↦ rw w.k-is (law.values_more _ _ _ _ _ _ _ _ _ _ _ _ (omega (arith, c.loop-test.true)) c.value-v.ensures w.target_count.ensures c.skip-p.ensures w.plus-k.ensures c.loop.invariant) | object_count-else-peek-gt-LAST_EXPRESSION w ↦ rw w.k-is (law.values_passed _ _ _ _ _ _ _ _ _ _ _ (omega (arith, c.loop-test.true)) c.value-v.ensures c.peek.ensures.value w.if-peek-gt-LAST_EXPRESSION.false c.skip-p.ensures c.loop.invariant) ]))
+object_count-loop-preserved t c = rw one_gone ((elim c.if-peek-gt-OTHER_EXPRESSION.branch [ object_count-then-peek-gt-OTHER_EXPRESSION w ↦ rw w.k-is (law.values_more _ _ _ _ _ _ _ _ _ _ _ _ (omega (arith, c.loop-test.true)) c.value-v.ensures w.target_count.ensures c.skip-p.ensures w.plus-k.ensures c.loop.invariant) | object_count-else-peek-gt-OTHER_EXPRESSION w ↦ rw w.k-is (law.values_passed _ _ _ _ _ _ _ _ _ _ _ (omega (arith, c.loop-test.true)) c.value-v.ensures c.peek.ensures.value w.if-peek-gt-OTHER_EXPRESSION.false c.skip-p.ensures c.loop.invariant) ]))
 
 pub object_count-returns : goal.object_count-returns
 object_count-returns t c = law.values_end _ _ _ _ _ _ _ _ (omega (arith, c.loop-test.false)) c.loop.invariant

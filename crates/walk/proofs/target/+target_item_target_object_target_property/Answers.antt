@@ -2,11 +2,13 @@
 -- ---- an object
 -- ---- a property
 use mathlib.Core.Path.{refl, ◌∙◌}
+use mathlib.Core.Bool.{false}
 use native.Mathlib.Omega.{arith}
 use Rattle.walk.proofs.TurnsLeft.{none_gone, one_gone}
 use Rattle.walk.proofs.Running.{runs_does}
 use Rattle.walk.proofs.Emits.{good_none}
 use Rattle.walk.proofs.Lookups.{denied, undenied}
+use Rattle.walk.specs.Whole.{hole_at}
 use Rattle.walk.proofs.TargetWalk as law
 use Rattle.walk.proofs.QuietValues as quiets
 use Rattle.walk.proofs.target.+target_item_target_object_target_property.Goals as goal
@@ -72,34 +74,6 @@ target_object-returns t c = (c.loop.invariant.2, λ o g k. law.values_end _ _ _ 
 pub target_property-returns-then-quiet : goal.target_property-returns-then-quiet
 target_property-returns-then-quiet t c = (refl, λ o g k. quiets.reach_quiet _ _ _ _ _ _ c.quiet.ensures c.if-quiet.true g)
 
-pub target_property-returns-then-left-eq0 : goal.target_property-returns-then-left-eq0
-target_property-returns-then-left-eq0 t c = (refl, λ o g k. law.property_none _ _ _ _ c.if-left-eq0.true g k)
-
-pub target_property-overflow_sub-below : goal.target_property-overflow_sub-below
-target_property-overflow_sub-below t c = omega (arith, c.if-left-eq0.false)
-
-pub target_property-returns-then-not-enters : goal.target_property-returns-then-not-enters
-target_property-returns-then-not-enters t c = (refl, λ o g k. law.property_by _ _ _ _ _ _ c.step.ensures c.skip-x.ensures (law.array_passed _ _ _ _ _ _ refl c.peek-kind.ensures.value c.in-36.is (denied _ _ c.enters.ensures c.if-not-enters.true)) g k)
-
-pub target_property-loop-init : goal.target_property-loop-init
-target_property-loop-init t c = (refl, refl, refl, λ o. rw none_gone (law.items_start _ _ _ _ _ _ c.step-q.ensures c.wide_at-n.ensures c.step-p.ensures))
-
-pub target_property-loop-preserved : goal.target_property-loop-preserved
-target_property-loop-preserved t c = (
-  omega (arith, c.loop.invariant.0, c.target_item-u.auto.list),
-  omega (arith, c.loop.invariant.1, c.target_item-u.auto.work),
-  c.target_item-u.ensures.0 ∙ c.loop.invariant.2,
-  λ o. rw one_gone (law.items_more _ _ _ _ _ _ (omega (arith, c.loop-test.true)) c.skip_item-p.ensures (c.loop.invariant.3 o) (c.target_item-u.ensures.1 o)),
-)
-
-pub target_property-returns-in-34 : goal.target_property-returns-in-34
-target_property-returns-in-34 t c = (c.target_object.ensures.0, λ o g k. law.property_by _ _ _ _ _ _ c.step.ensures c.skip-x.ensures (law.by_object _ _ _ _ _ _ refl c.peek-kind.ensures.value c.in-34.is (c.target_object.ensures.1 o)) g k)
-
-pub target_property-returns-after-loop : goal.target_property-returns-after-loop
-target_property-returns-after-loop t c = (c.loop.invariant.2, λ o g k. law.property_by _ _ _ _ _ _ c.step.ensures c.skip-x.ensures (law.items_end _ _ _ _ _ _ refl c.peek-kind.ensures.value _ _ c.in-36.is (undenied _ _ c.enters.ensures c.if-not-enters.false) (omega (arith, c.loop-test.false)) (c.loop.invariant.3 o)) g k)
-
-pub target_property-returns-in-37 : goal.target_property-returns-in-37
-target_property-returns-in-37 t c = (c.target_item.ensures.0, λ o g k. law.property_by _ _ _ _ _ _ c.step.ensures c.skip-x.ensures (law.by_default _ _ _ _ _ _ refl c.peek-kind.ensures.value _ c.in-37.is c.step-in-37.ensures (c.target_item.ensures.1 o)) g k)
-
-pub target_property-returns-in_default : goal.target_property-returns-in_default
-target_property-returns-in_default t c = (refl, λ o g k. law.property_by _ _ _ _ _ _ c.step.ensures c.skip-x.ensures (law.by_leaf _ _ _ _ _ _ refl c.peek-kind.ensures.value (omega arith) (omega arith) (omega arith)) g k)
+pub target_property-returns : goal.target_property-returns
+unfolding hole_at
+target_property-returns t c = (c.target_item.ensures.0, λ o g k. law.property_by _ _ _ _ _ _ c.step.ensures c.skip-x.ensures (λ x. c.target_item.ensures.1 o false (λ z. x)) g k)
