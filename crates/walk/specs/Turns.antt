@@ -28,7 +28,7 @@ use Rattle.direct.specs.Literals.{is_spread, no_call_of, nothing_pending, some_p
 use Rattle.direct.specs.Keys.{string_bytes_of, emits_excluded}
 use Rattle.direct.specs.Objects.{Reach, reached, over_objects, over_reached, enters}
 use Rattle.direct.specs.Objects.Reach.{anywhere, straight, in_arrays}
-use Rattle.direct.specs.Handed.{place_made, key_made, keys_made, key_bytes, excludes_of, hands_key}
+use Rattle.direct.specs.Handed.{place_made, key_made, keys_made, key_bytes, excludes_of, hands_key, declarator_made, declarator_excludes}
 use Rattle.direct.specs.Declared.{emits_key_value, emits_found, emits_declarator}
 use Rattle.direct.specs.Assigned.{emits_inner}
 use Rattle.direct.specs.Moved.{out_of, moved_in_of, behind}
@@ -48,6 +48,8 @@ use Rattle.walk.specs.declared.hand.Own.{Own}
 use Rattle.walk.specs.declared.hand.Own.TheVariants as own
 use Rattle.walk.specs.declared.hand.KeyUse.{KeyUse}
 use Rattle.walk.specs.declared.hand.KeyUse.TheVariants as use-of
+use Rattle.walk.specs.declared.hand.Declared.{Declared}
+use Rattle.walk.specs.declared.hand.Declared.TheVariants as declared
 use Rattle.walk.specs.declared.place.Place as place
 use Rattle.walk.specs.Whole.{place_of, place_with, hole_at}
 use Rattle.lowering.specs.Keys.Entry.{spelt, itself, omitted, saved}
@@ -284,3 +286,8 @@ unfoldable pub key_of : KeyUse → Node → Emit
 key_of use-of.Made q = key_made q
 key_of use-of.Listed q = hands_key q
 key_of use-of.Excluded q = say (excludes (key_bytes q))
+
+-- for a declarator
+abbrev pub declared_of : Declared → Node → Emit
+declared_of declared.Made q = declarator_made q
+declared_of (declared.Excluded root) q = declarator_excludes root q

@@ -16,7 +16,7 @@ ghost use Rattle.direct.specs.Moved as moved;
 ghost use Rattle.direct.specs.Moved.{moved_in_of};
 ghost use Rattle.walk.specs.Run.{going_of, Does};
 ghost use Rattle.walk.specs.Whole.{hole_at, GoodItems, Good};
-ghost use Rattle.walk.specs.Turns.{view_of, suits, AllSuit, places_at, top_at, own_of, over_all, key_of};
+ghost use Rattle.walk.specs.Turns.{view_of, suits, AllSuit, places_at, top_at, own_of, over_all, key_of, declared_of};
 ghost use Rattle.walk.specs.declared.modes.Mode.TheVariants.{Binding};
 ghost use Rattle.walk.specs.declared.views.View.TheVariants.{Replacing, Taking};
 
@@ -423,58 +423,54 @@ pub fn pattern_hands(
     )
 }
 
-fn declarator_makes(
+// What is done for a declarator: its temporaries are made, its excluded keys go out.
+#[derive(Clone, Copy)]
+enum Declared {
+    Made,
+    Excluded(bool),
+}
+
+fn declarator(
     w: Walk,
     t: &[u8],
     list: &mut [u8],
     work: &mut [u8],
     left: usize,
     at: usize,
+    mode: Declared,
 ) -> Walk
-    ensures { (result.at ≡ w.at) × ((o : List ℕ) → Good t.now left at → byte_at t.now at ≡ 5 → Does (going_of o list.old work.old w) (going_of o list.new work.new result) (declarator_made (look_node t.now left at).value)) }
+    ensures { (result.at ≡ w.at) × ((o : List ℕ) → Good t.now left at → byte_at t.now at ≡ 5 → Does (going_of o list.old work.old w) (going_of o list.new work.new result) (declared_of mode (look_node t.now left at).value)) }
 {
-    if is_lowered(t, left, at) {
-        let below = less(left);
-        let id = step(t, at, 2);
-        if is_name(t, below, skip(t, below, id)) {
-            return pattern_makes(w, t, list, work, below, id);
+    if !is_lowered(t, left, at) {
+        return w;
+    }
+    let below = less(left);
+    let id = step(t, at, 2);
+    match mode {
+        Declared::Made => {
+            if is_name(t, below, skip(t, below, id)) {
+                return pattern_makes(w, t, list, work, below, id);
+            }
+            pattern_makes(
+                w.make(work, cell(stems::VALUE, id)),
+                t,
+                list,
+                work,
+                below,
+                id,
+            )
         }
-        return pattern_makes(
-            w.make(work, cell(stems::VALUE, id)),
+        Declared::Excluded(root) => over(
+            w,
             t,
             list,
             work,
             below,
             id,
-        );
-    }
-    w
-}
-
-fn declarator_excludes(
-    w: Walk,
-    t: &[u8],
-    list: &mut [u8],
-    work: &mut [u8],
-    left: usize,
-    at: usize,
-    root: bool,
-) -> Walk
-    ensures { (result.at ≡ w.at) × ((o : List ℕ) → Good t.now left at → byte_at t.now at ≡ 5 → Does (going_of o list.old work.old w) (going_of o list.new work.new result) (declarator_excludes root (look_node t.now left at).value)) }
-{
-    if is_lowered(t, left, at) {
-        return over(
-            w,
-            t,
-            list,
-            work,
-            less(left),
-            step(t, at, 2),
             View::Replacing,
             Own::Excluded(root),
-        );
+        ),
     }
-    w
 }
 
 // A declaration: the temporaries of its declarators, then their excluded keys.
@@ -493,11 +489,20 @@ pub fn declaration_hands(
     let q = step(t, at, 5);
     let n = wide_at(t, q);
     let first = step(t, q, 2);
-    let u = declarators_make(w, t, list, work, below, first, n);
-    declarators_exclude(u, t, list, work, below, first, n, root)
+    let u = declarators(w, t, list, work, below, first, n, Declared::Made);
+    declarators(
+        u,
+        t,
+        list,
+        work,
+        below,
+        first,
+        n,
+        Declared::Excluded(root),
+    )
 }
 
-fn declarators_make(
+fn declarators(
     w: Walk,
     t: &[u8],
     list: &mut [u8],
@@ -505,34 +510,14 @@ fn declarators_make(
     left: usize,
     first: usize,
     count: usize,
+    mode: Declared,
 ) -> Walk
-    ensures { (result.at ≡ w.at) × ((o : List ℕ) → GoodItems t.now (look_node t.now left) (Good t.now left) false false count first → AllItems (λ q. is 5 q ≡ true) (look_items t.now (look_node t.now left) false count first).value → Does (going_of o list.old work.old w) (going_of o list.new work.new result) (in_turn declarator_made (look_items t.now (look_node t.now left) false count first).value)) }
+    ensures { (result.at ≡ w.at) × ((o : List ℕ) → GoodItems t.now (look_node t.now left) (Good t.now left) false false count first → AllItems (λ q. is 5 q ≡ true) (look_items t.now (look_node t.now left) false count first).value → Does (going_of o list.old work.old w) (going_of o list.new work.new result) (in_turn (declared_of mode) (look_items t.now (look_node t.now left) false count first).value)) }
 {
     let mut u = w;
     let mut p = first;
     for _ in 0..count {
-        u = declarator_makes(u, t, list, work, left, p);
-        p = skip(t, left, p);
-    }
-    u
-}
-
-fn declarators_exclude(
-    w: Walk,
-    t: &[u8],
-    list: &mut [u8],
-    work: &mut [u8],
-    left: usize,
-    first: usize,
-    count: usize,
-    root: bool,
-) -> Walk
-    ensures { (result.at ≡ w.at) × ((o : List ℕ) → GoodItems t.now (look_node t.now left) (Good t.now left) false false count first → AllItems (λ q. is 5 q ≡ true) (look_items t.now (look_node t.now left) false count first).value → Does (going_of o list.old work.old w) (going_of o list.new work.new result) (in_turn (declarator_excludes root) (look_items t.now (look_node t.now left) false count first).value)) }
-{
-    let mut u = w;
-    let mut p = first;
-    for _ in 0..count {
-        u = declarator_excludes(u, t, list, work, left, p, root);
+        u = declarator(u, t, list, work, left, p, mode);
         p = skip(t, left, p);
     }
     u
