@@ -1,7 +1,7 @@
 -- The emitters' ways out: what each part of a node does is what its code does, one law for each.
 -- Assumes nothing.
 use mathlib.Core.Path.{◌≡◌, refl, sym, ap, ◌∙◌, subst, fun_ext}
-use mathlib.Core.Bool.{Bool, true, false, cond, ◌&&◌, ◌||◌, not}
+use mathlib.Core.Bool.{Bool, true, false, cond, ◌&&◌, ◌||◌, not, false≢true}
 use mathlib.Core.List.{List, [], ◌∷◌}
 use Prim.Native.Nat.{ℕ, zero, suc, ◌-◌, ◌/◌, ◌%◌, ◌≤◌, ◌<◌}
 use native.Mathlib.Omega.{arith}
@@ -461,29 +461,24 @@ module _ (t : List ℕ) where
 
 -- ---- tests of the code
 
-pub and_no : (a b : Bool) → b ≡ true → false ≡ a && not b
-and_no true b e = rw e refl
-and_no false b e = refl
-
-pub and_yes : (a b : Bool) → b ≡ false → a ≡ a && not b
-and_yes true b e = rw e refl
-and_yes false b e = refl
-
-pub or_third : (k : ℕ) (b : Bool) → k ≡ 3 → true ≡ eqb k 3 || (eqb k 31 && b)
-or_third k b e = rw e refl
-
-pub or_given : (k : ℕ) (b : Bool) → k ≡ 31 → b ≡ eqb k 3 || (eqb k 31 && b)
-or_given k b e = rw e refl
-
-pub or_none_lem : (k : ℕ) (b : Bool) → (k ≡ 3 → ⊥) → (k ≡ 31 → ⊥) → false ≡ eqb k 3 || (eqb k 31 && b)
-or_none_lem k b e f = rw (ne_eqb k 3 e, ne_eqb k 31 f) refl
-
 pub below_is : (c : Place) (at k : ℕ) (fs : Fields) (n : ℕ) (r s i : Bool) → i ≡ opens_scope k n → r ≡ c.root && not i → s ≡ eqb k 3 || (eqb k 31 && c.statement)
     → record { root = r; statement = s; mark = c.mark } ≡ below c (node at k fs) n
 unfolding below is
 below_is c at k fs n r s i e f g =
     let h : r ≡ c.root && not (opens_scope k n) = f ∙ ap (λ (x : Bool). c.root && not x) e in
     λ j. record { root = (h) j; statement = (g) j; mark = c.mark }
+
+-- the kinds are told apart by tests of one number: one that is none of them leads to nothing
+pub some_scope : (k i : ℕ) → ((k ≡ 2 → ⊥) → (k ≡ 6 → ⊥) → (k ≡ 7 → ⊥) → (k ≡ 8 → ⊥) → (k ≡ 10 → ⊥) → (k ≡ 14 → ⊥) → (k ≡ 17 → ⊥) → (k ≡ 40 → ⊥) → (k ≡ 42 → ⊥) → ⊥)
+    → true ≡ opens_scope k i
+unfolding opens_scope
+some_scope k i h = go (opens_scope k i) refl
+  where
+    go : (b : Bool) → opens_scope k i ≡ b → true ≡ b
+    go true e = refl
+    go false e =
+        let no : (n : ℕ) → opens_scope n i ≡ true → k ≡ n → ⊥ = λ n t z. false≢true (sym e ∙ ap (λ (x : ℕ). opens_scope x i) z ∙ t) in
+        absurd (h (no 2 refl) (no 6 refl) (no 7 refl) (no 8 refl) (no 10 refl) (no 14 refl) (no 17 refl) (no 40 refl) (no 42 refl))
 
 pub no_scope : (k i : ℕ) → (k ≡ 2 → ⊥) → (k ≡ 6 → ⊥) → (k ≡ 7 → ⊥) → (k ≡ 8 → ⊥) → (k ≡ 10 → ⊥) → (k ≡ 14 → ⊥) → (k ≡ 17 → ⊥) → (k ≡ 40 → ⊥) → (k ≡ 42 → ⊥) → (k ≡ 43 → ⊥)
     → false ≡ opens_scope k i
@@ -494,3 +489,13 @@ no_scope k i a b c d e f g h j l =
 pub no_container : (k : ℕ) → (k ≡ 1 → ⊥) → (k ≡ 2 → ⊥) → (k ≡ 16 → ⊥) → (k ≡ 42 → ⊥) → (k ≡ 44 → ⊥) → false ≡ is_container k
 unfolding is_container
 no_container k a b c d e = rw (ne_eqb k 1 a, ne_eqb k 2 b, ne_eqb k 16 c, ne_eqb k 42 d, ne_eqb k 44 e) refl
+
+pub some_container : (k : ℕ) → ((k ≡ 1 → ⊥) → (k ≡ 2 → ⊥) → (k ≡ 16 → ⊥) → (k ≡ 42 → ⊥) → (k ≡ 44 → ⊥) → ⊥) → true ≡ is_container k
+unfolding is_container
+some_container k h = go (is_container k) refl
+  where
+    go : (b : Bool) → is_container k ≡ b → true ≡ b
+    go true e = refl
+    go false e =
+        let no : (n : ℕ) → is_container n ≡ true → k ≡ n → ⊥ = λ n t z. false≢true (sym e ∙ ap is_container z ∙ t) in
+        absurd (h (no 1 refl) (no 2 refl) (no 16 refl) (no 42 refl) (no 44 refl))

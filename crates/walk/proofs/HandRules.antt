@@ -42,7 +42,9 @@ use Rattle.walk.specs.declared.hand.Own.TheVariants as own
 use Rattle.walk.specs.declared.hand.KeyUse.TheVariants as use-of
 use Rattle.walk.specs.Run.{Going, Does}
 use Rattle.walk.specs.Whole.{hole_at, GoodItems, Good}
-use Rattle.walk.specs.Turns.{view_of, reach_of, cell_at, values_count, places_at, top_at, own_of, over_all, key_of}
+use Rattle.walk.specs.declared.hand.Declared.{Declared}
+use Rattle.walk.specs.declared.hand.Declared.TheVariants as declared
+use Rattle.walk.specs.Turns.{view_of, reach_of, cell_at, values_count, places_at, top_at, own_of, over_all, key_of, declared_of}
 use Rattle.walk.proofs.Running.{does_then, does_nothing, does_as}
 use Rattle.walk.proofs.PlacesFit.{places_small}
 use Rattle.walk.proofs.Opened.{position_here, good_short, good_within, declarator_open, declaration_open}
@@ -108,11 +110,9 @@ unfolding is_lowered stands stands_in
 bare_kept at p = refl
 
 module _ (t : List ℕ) (left at : ℕ) (b : Bool) (w : b ≡ is_lowered (look_node t left at).value) where
-  pub declarator_kept : {g : Going} → b ≡ false → Does g g (declarator_made (look_node t left at).value)
-  declarator_kept {g = g} z = does_as (does_nothing g) (made_none (look_node t left at).value (sym w ∙ z))
-
-  pub declarator_unexcluded : {g : Going} (root : Bool) → b ≡ false → Does g g (declarator_excludes root (look_node t left at).value)
-  declarator_unexcluded {g = g} root z = does_as (does_nothing g) (excluded_none (look_node t left at).value root (sym w ∙ z))
+  pub declarator_passed : {g : Going} (mode : Declared) → b ≡ false → Does g g (declared_of mode (look_node t left at).value)
+  declarator_passed {g = g} declared.Made z = does_as (does_nothing g) (made_none (look_node t left at).value (sym w ∙ z))
+  declarator_passed {g = g} (declared.Excluded root) z = does_as (does_nothing g) (excluded_none (look_node t left at).value root (sym w ∙ z))
 
   module _ (d p : ℕ) (e : d ≡ left - 1) (a : p ≡ onward t at 2) (z : b ≡ true) where
     -- the parts of a declarator that is lowered

@@ -24,3 +24,4 @@ pub mod Hands
 pub mod HandKeys
 pub mod HandRules
 pub mod HandMoves
+pub mod TurnsLeft

@@ -1,9 +1,9 @@
 -- What is looked up before something is written: one law for each way out.
 -- Assumes nothing.
 use mathlib.Core.Path.{◌≡◌, refl, sym, ap, ◌∙◌}
-use mathlib.Core.Bool.{Bool, true, false, cond}
+use mathlib.Core.Bool.{Bool, true, false, cond, not, false≢true}
 use mathlib.Core.List.{List}
-use mathlib.Core.Option.{some}
+use Rattle.std.specs.Prelude.{Some, None}
 use Prim.Native.Nat.{ℕ, zero, suc, ◌+◌, ◌-◌, ◌/◌, ◌%◌, ◌<◌, ◌≤◌}
 use native.Mathlib.Omega.{arith}
 use lib.Dec.{eqb, ltb}
@@ -43,8 +43,7 @@ use Rattle.walk.specs.declared.reaches.Reach as reaches
 use Rattle.walk.specs.declared.reaches.Reach.TheVariants.{Anywhere}
 use Rattle.walk.specs.declared.look.KeyClass.{KeyClass}
 use Rattle.walk.specs.declared.look.KeyClass.TheVariants.{AsString, AsItStands, LeftOut, AsTemporary}
-use Rattle.walk.specs.declared.look.Start.TheVariants as start
-use Rattle.walk.specs.Turns.{class_entry, start_of, start_value, cell_at, reach_of, item_mode, enters_arrays}
+use Rattle.walk.specs.Turns.{class_entry, start_of, cell_at, reach_of, item_mode, enters_arrays}
 use Rattle.lowering.proofs.ItemLaws.{count_append}
 use Rattle.lowering.proofs.Cases.{by_shape}
 use Rattle.lowering.specs.Keys.Entry.{spelt, itself, omitted, saved}
@@ -65,6 +64,15 @@ module _ (b x : Bool) (e : b ≡ x) where
 
   pub undenied : b ≡ true → x ≡ true
   undenied h = sym e ∙ h
+
+-- a test of what is not so
+pub not_yes : (b n : Bool) → n ≡ not b → n ≡ true → b ≡ false
+not_yes true n e h = absurd (false≢true (sym e ∙ h))
+not_yes false n e h = refl
+
+pub not_no : (b n : Bool) → n ≡ not b → n ≡ false → b ≡ true
+not_no true n e h = refl
+not_no false n e h = absurd (false≢true (sym h ∙ e))
 
 -- ---- modes
 
@@ -243,24 +251,30 @@ pub hoisted_all : (r b a : Bool) (p : Node) → r ≡ false → b ≡ is_empty (
 unfolding hoists primitives all_primitive
 hoisted_all r b a p e f h w = rw (e, sym f ∙ h) w
 
+-- one that is kept in a temporary, and any other
+pub other_not : (k : Node) (n : KeyClass) → class_entry n ≡ entry_of (key_sort k) → (n ≡ AsTemporary → ⊥) → false ≡ is_other k
+other_not k n e h = go n h ∙ other_is k n n e refl
+  where
+    go : (n : KeyClass) → (n ≡ AsTemporary → ⊥) → false ≡ is_temporary n
+    go AsString h = refl
+    go AsItStands h = refl
+    go LeftOut h = refl
+    go AsTemporary h = absurd (h refl)
+
 -- ---- starting values
 
 module _ (t : List ℕ) where
-  pub start_none : (d at : ℕ) → d ≡ 0 → start_value start.Missing ≡ start_of t d at
+  pub start_some : (d at q r : ℕ) (b : Bool) → 0 < d → b ≡ eqb (byte_at t (onward t at 1) / 2 % 2) 1 → b ≡ true → q ≡ onward t at 2 → r ≡ (look_node t (d - 1) q).next → Some r ≡ start_of t d at
   unfolding start_of
-  start_none d at e = rw e refl
-
-  pub start_value_lem : (d at q r : ℕ) (b : Bool) → (d ≡ 0 → ⊥) → b ≡ eqb (byte_at t (onward t at 1) / 2 % 2) 1 → b ≡ true → q ≡ onward t at 2 → r ≡ (look_node t (d - 1) q).next → start_value (start.Value r) ≡ start_of t d at
-  unfolding start_of
-  start_value_lem zero at q r b z e h f g = absurd (z refl)
-  start_value_lem (suc d) at q r b z e h f g =
+  start_some zero at q r b z e h f g = absurd (omega arith)
+  start_some (suc d) at q r b z e h f g =
       let k : suc d - 1 ≡ d = omega arith in
-      ap some (g ∙ rw (k, f) refl) ∙ when_yes (some (look_node t d (onward t at 2)).next) _ _ _ (sym e ∙ h) refl
+      ap Some (g ∙ rw (k, f) refl) ∙ when_yes (Some (look_node t d (onward t at 2)).next) _ _ _ (sym e ∙ h) refl
 
-  pub start_missing : (d at : ℕ) (b : Bool) → (d ≡ 0 → ⊥) → b ≡ eqb (byte_at t (onward t at 1) / 2 % 2) 1 → b ≡ false → start_value start.Missing ≡ start_of t d at
+  pub start_none : (d at : ℕ) → (0 < d → eqb (byte_at t (onward t at 1) / 2 % 2) 1 ≡ false) → None ≡ start_of t d at
   unfolding start_of
-  start_missing zero at b z e h = absurd (z refl)
-  start_missing (suc d) at b z e h = when_no (start_value start.Missing) _ _ _ (sym e ∙ h) refl
+  start_none zero at h = refl
+  start_none (suc d) at h = when_no None _ _ _ (h (omega arith)) refl
 
 -- ---- patterns that are moved out: none is a hole
 

@@ -1,6 +1,5 @@
 -- What is done for each item of a list, by the mode of a turn, and how a source is read.
-use Rattle.std.specs.Prelude.{ℕ, zero, suc, ◌+◌, ◌-◌, ◌/◌, ◌%◌, ◌≡◌, Bool, true, false, cond, not, ◌&&◌, ◌||◌, List, [], ◌∷◌, ◌++◌, eqb, ltb}
-use Rattle.std.proofs.Math.Option.{Option, some}
+use Rattle.std.specs.Prelude.{ℕ, zero, suc, ◌+◌, ◌-◌, ◌/◌, ◌%◌, ◌≡◌, Bool, true, false, cond, not, ◌&&◌, ◌||◌, List, [], ◌∷◌, ◌++◌, eqb, ltb, Option, Some, None}
 use Rattle.tree.specs.Tree.{Node, Items, wide_bytes, count}
 use Rattle.tree.specs.Tree.Items.{none, hole, item}
 use Rattle.tree.specs.Read.{byte_at, wide_at}
@@ -25,11 +24,11 @@ use Rattle.direct.specs.Events.Deed.{does, refuses}
 use Rattle.direct.specs.Emit.{say, ◌▷◌}
 use Rattle.direct.specs.Views.{View, emits_view, emits_property}
 use Rattle.direct.specs.Views.View.{replacing, taking}
-use Rattle.direct.specs.Literals.{is_spread}
+use Rattle.direct.specs.Literals.{is_spread, no_call_of, nothing_pending, some_pending}
 use Rattle.direct.specs.Keys.{string_bytes_of, emits_excluded}
 use Rattle.direct.specs.Objects.{Reach, reached, over_objects, over_reached, enters}
 use Rattle.direct.specs.Objects.Reach.{anywhere, straight, in_arrays}
-use Rattle.direct.specs.Handed.{place_made, key_made, keys_made, key_bytes, excludes_of, hands_key}
+use Rattle.direct.specs.Handed.{place_made, key_made, keys_made, key_bytes, excludes_of, hands_key, declarator_made, declarator_excludes}
 use Rattle.direct.specs.Declared.{emits_key_value, emits_found, emits_declarator}
 use Rattle.direct.specs.Assigned.{emits_inner}
 use Rattle.direct.specs.Moved.{out_of, moved_in_of, behind}
@@ -43,12 +42,14 @@ use Rattle.walk.specs.declared.reaches.Reach as reaches
 use Rattle.walk.specs.declared.reaches.Reach.TheVariants.{Anywhere, Straight, InArrays}
 use Rattle.walk.specs.declared.look.KeyClass.{KeyClass}
 use Rattle.walk.specs.declared.look.KeyClass.TheVariants.{AsString, AsItStands, LeftOut, AsTemporary}
+use Rattle.walk.specs.declared.literal.Calls.{Calls}
+use Rattle.walk.specs.declared.literal.Calls.TheVariants.{NoCall, NothingPending, SomePending}
 use Rattle.walk.specs.declared.hand.Own.{Own}
 use Rattle.walk.specs.declared.hand.Own.TheVariants as own
 use Rattle.walk.specs.declared.hand.KeyUse.{KeyUse}
 use Rattle.walk.specs.declared.hand.KeyUse.TheVariants as use-of
-use Rattle.walk.specs.declared.look.Start.{Start}
-use Rattle.walk.specs.declared.look.Start.TheVariants.{Value, Missing}
+use Rattle.walk.specs.declared.hand.Declared.{Declared}
+use Rattle.walk.specs.declared.hand.Declared.TheVariants as declared
 use Rattle.walk.specs.declared.place.Place as place
 use Rattle.walk.specs.Whole.{place_of, place_with, hole_at}
 use Rattle.lowering.specs.Keys.Entry.{spelt, itself, omitted, saved}
@@ -199,6 +200,12 @@ spread_at tree (suc d) at =
     eqb (byte_at tree (onward tree at 1) % 2) 1
     && any is_spread (look_items tree (look_node tree d) false (wide_at tree (onward tree at 2)) (onward tree (onward tree at 2) 2)).value
 
+-- the call so far, as the direct form numbers it
+abbrev pub calls_number : Calls → ℕ
+calls_number NoCall = no_call_of
+calls_number NothingPending = nothing_pending
+calls_number SomePending = some_pending
+
 -- two objects, the second of n properties, if there are any
 unfoldable pub pending_deeds : ℕ → List Deed
 pending_deeds n = cond (eqb n 0) [] (puts (24 ∷ 1 ∷ 0 ∷ 0 ∷ 24 ∷ 1 ∷ wide_bytes (n % 65536)))
@@ -222,13 +229,8 @@ level_of inner left = cond inner (left - 1) left
 
 -- where the starting value of the declarator at a position is, if it has one
 unfoldable pub start_of : List ℕ → ℕ → ℕ → Option ℕ
-start_of tree zero at = Option.none
-start_of tree (suc d) at = cond (eqb (byte_at tree (onward tree at 1) / 2 % 2) 1) (some (look_node tree d (onward tree at 2)).next) Option.none
-
--- the value of the answer for each case; document 01 has no number for it: a declarator without one is passed over
-abbrev pub start_value : Start → Option ℕ
-start_value (Value at) = some at
-start_value Missing = Option.none
+start_of tree zero at = None
+start_of tree (suc d) at = cond (eqb (byte_at tree (onward tree at 1) / 2 % 2) 1) (Some (look_node tree d (onward tree at 2)).next) None
 
 -- whether the loop at a position awaits
 unfoldable pub awaits : List ℕ → ℕ → Bool
@@ -284,3 +286,8 @@ unfoldable pub key_of : KeyUse → Node → Emit
 key_of use-of.Made q = key_made q
 key_of use-of.Listed q = hands_key q
 key_of use-of.Excluded q = say (excludes (key_bytes q))
+
+-- for a declarator
+abbrev pub declared_of : Declared → Node → Emit
+declared_of declared.Made q = declarator_made q
+declared_of (declared.Excluded root) q = declarator_excludes root q

@@ -16,10 +16,11 @@ ghost use Rattle.direct.specs.Moved as moved;
 ghost use Rattle.direct.specs.Moved.{moved_in_of};
 ghost use Rattle.walk.specs.Run.{going_of, Does};
 ghost use Rattle.walk.specs.Whole.{hole_at, GoodItems, Good};
-ghost use Rattle.walk.specs.Turns.{view_of, suits, AllSuit, places_at, top_at, own_of, over_all, key_of};
+ghost use Rattle.walk.specs.Turns.{view_of, suits, AllSuit, places_at, top_at, own_of, over_all, key_of, declared_of};
 ghost use Rattle.walk.specs.declared.modes.Mode.TheVariants.{Binding};
 ghost use Rattle.walk.specs.declared.views.View.TheVariants.{Replacing, Taking};
 
+use crate::look;
 use crate::look::{cell, has_second, hoisted, is_other};
 use crate::place::less;
 use crate::reaches::Reach;
@@ -84,10 +85,7 @@ fn over(
 fn replaces(t: &[u8], at: usize, v: View) -> bool
     ensures { result ≡ cond (takes (view_of v)) false (eqb (byte_at t.now (onward t.now at 1) / 2 % 2) 1) }
 {
-    match v {
-        View::Replacing => has_second(t, at),
-        View::Taking => false,
-    }
+    look::replaces(v) && has_second(t, at)
 }
 
 #[cycle(over_over_array_over_item_over_items_over_object_over_value_over_values)]
@@ -135,12 +133,10 @@ fn over_values(
     ensures { (result.at ≡ w.at) × ((o : List ℕ) → GoodItems t.now (look_node t.now left) (Good t.now left) false false count first → AllItems (λ q. is 35 q ≡ true) (look_items t.now (look_node t.now left) false count first).value → Does (going_of o list.old work.old w) (going_of o list.new work.new result) (in_turn (λ q. over_all mode Replacing (value q)) (look_items t.now (look_node t.now left) false count first).value)) }
 {
     let mut u = w;
-    let mut n = count;
     let mut p = first;
-    while 0 < n {
+    for _ in 0..count {
         u = over_value(u, t, list, work, left, p, mode);
         p = skip(t, left, p);
-        n -= 1;
     }
     u
 }
@@ -213,12 +209,10 @@ fn over_items(
     ensures { (result.at ≡ w.at) × ((o : List ℕ) → GoodItems t.now (look_node t.now left) (Good t.now left) false true count first → Does (going_of o list.old work.old w) (going_of o list.new work.new result) (in_turn (over_all mode Replacing) (look_items t.now (look_node t.now left) true count first).value)) }
 {
     let mut u = w;
-    let mut n = count;
     let mut p = first;
-    while 0 < n {
+    for _ in 0..count {
         u = over_item(u, t, list, work, left, p, mode);
         p = skip_item(t, true, left, p);
-        n -= 1;
     }
     u
 }
@@ -305,12 +299,10 @@ fn keys_in(
     ensures { (result.at ≡ w.at) × ((o : List ℕ) → GoodItems t.now (look_node t.now left) (Good t.now left) false false count first → AllItems (λ q. is 35 q ≡ true) (look_items t.now (look_node t.now left) false count first).value → Does (going_of o list.old work.old w) (going_of o list.new work.new result) (in_turn (key_of mode) (look_items t.now (look_node t.now left) false count first).value)) }
 {
     let mut u = w;
-    let mut n = count;
     let mut p = first;
-    while 0 < n {
+    for _ in 0..count {
         u = one_key(u, t, list, work, left, p, mode);
         p = skip(t, left, p);
-        n -= 1;
     }
     u
 }
@@ -352,15 +344,13 @@ fn exclude_key(w: Walk, t: &[u8], work: &mut [u8], left: usize, at: usize) -> Wa
     ensures { (result.at ≡ w.at) × ((o l : List ℕ) → Good t.now left at → Does (going_of o l work.old w) (going_of o l work.new result) (say (excludes (key_bytes_of (look_node t.now left at).value)))) }
 {
     match transform_property_key(t, left, at) {
-        Key::Name { from, len } => w.excluded_string(work, t, from, len),
-        Key::Literal { from, len } => w.excluded_string(work, t, from, len),
-        Key::Number { value } => w.excluded_number(work, value),
-        Key::OtherForm { value } => w.excluded_number(work, value),
+        Key::Name { from, len } | Key::Literal { from, len } => {
+            w.excluded_string(work, t, from, len)
+        }
+        Key::Number { value } | Key::OtherForm { value } => w.excluded_number(work, value),
         Key::NoForm => w.excluded_string(work, t, 0, 0),
         Key::Template => w.excluded_copy(work, t, at, skip(t, left, at)),
-        Key::Private => w,
-        Key::Again => w,
-        Key::Other => w,
+        Key::Private | Key::Again | Key::Other => w,
     }
 }
 
@@ -433,58 +423,54 @@ pub fn pattern_hands(
     )
 }
 
-fn declarator_makes(
+// What is done for a declarator: its temporaries are made, its excluded keys go out.
+#[derive(Clone, Copy)]
+enum Declared {
+    Made,
+    Excluded(bool),
+}
+
+fn declarator(
     w: Walk,
     t: &[u8],
     list: &mut [u8],
     work: &mut [u8],
     left: usize,
     at: usize,
+    mode: Declared,
 ) -> Walk
-    ensures { (result.at ≡ w.at) × ((o : List ℕ) → Good t.now left at → byte_at t.now at ≡ 5 → Does (going_of o list.old work.old w) (going_of o list.new work.new result) (declarator_made (look_node t.now left at).value)) }
+    ensures { (result.at ≡ w.at) × ((o : List ℕ) → Good t.now left at → byte_at t.now at ≡ 5 → Does (going_of o list.old work.old w) (going_of o list.new work.new result) (declared_of mode (look_node t.now left at).value)) }
 {
-    if is_lowered(t, left, at) {
-        let below = less(left);
-        let id = step(t, at, 2);
-        if is_name(t, below, skip(t, below, id)) {
-            return pattern_makes(w, t, list, work, below, id);
+    if !is_lowered(t, left, at) {
+        return w;
+    }
+    let below = less(left);
+    let id = step(t, at, 2);
+    match mode {
+        Declared::Made => {
+            if is_name(t, below, skip(t, below, id)) {
+                return pattern_makes(w, t, list, work, below, id);
+            }
+            pattern_makes(
+                w.make(work, cell(stems::VALUE, id)),
+                t,
+                list,
+                work,
+                below,
+                id,
+            )
         }
-        return pattern_makes(
-            w.make(work, cell(stems::VALUE, id)),
+        Declared::Excluded(root) => over(
+            w,
             t,
             list,
             work,
             below,
             id,
-        );
-    }
-    w
-}
-
-fn declarator_excludes(
-    w: Walk,
-    t: &[u8],
-    list: &mut [u8],
-    work: &mut [u8],
-    left: usize,
-    at: usize,
-    root: bool,
-) -> Walk
-    ensures { (result.at ≡ w.at) × ((o : List ℕ) → Good t.now left at → byte_at t.now at ≡ 5 → Does (going_of o list.old work.old w) (going_of o list.new work.new result) (declarator_excludes root (look_node t.now left at).value)) }
-{
-    if is_lowered(t, left, at) {
-        return over(
-            w,
-            t,
-            list,
-            work,
-            less(left),
-            step(t, at, 2),
             View::Replacing,
             Own::Excluded(root),
-        );
+        ),
     }
-    w
 }
 
 // A declaration: the temporaries of its declarators, then their excluded keys.
@@ -503,11 +489,20 @@ pub fn declaration_hands(
     let q = step(t, at, 5);
     let n = wide_at(t, q);
     let first = step(t, q, 2);
-    let u = declarators_make(w, t, list, work, below, first, n);
-    declarators_exclude(u, t, list, work, below, first, n, root)
+    let u = declarators(w, t, list, work, below, first, n, Declared::Made);
+    declarators(
+        u,
+        t,
+        list,
+        work,
+        below,
+        first,
+        n,
+        Declared::Excluded(root),
+    )
 }
 
-fn declarators_make(
+fn declarators(
     w: Walk,
     t: &[u8],
     list: &mut [u8],
@@ -515,39 +510,15 @@ fn declarators_make(
     left: usize,
     first: usize,
     count: usize,
+    mode: Declared,
 ) -> Walk
-    ensures { (result.at ≡ w.at) × ((o : List ℕ) → GoodItems t.now (look_node t.now left) (Good t.now left) false false count first → AllItems (λ q. is 5 q ≡ true) (look_items t.now (look_node t.now left) false count first).value → Does (going_of o list.old work.old w) (going_of o list.new work.new result) (in_turn declarator_made (look_items t.now (look_node t.now left) false count first).value)) }
+    ensures { (result.at ≡ w.at) × ((o : List ℕ) → GoodItems t.now (look_node t.now left) (Good t.now left) false false count first → AllItems (λ q. is 5 q ≡ true) (look_items t.now (look_node t.now left) false count first).value → Does (going_of o list.old work.old w) (going_of o list.new work.new result) (in_turn (declared_of mode) (look_items t.now (look_node t.now left) false count first).value)) }
 {
     let mut u = w;
-    let mut n = count;
     let mut p = first;
-    while 0 < n {
-        u = declarator_makes(u, t, list, work, left, p);
+    for _ in 0..count {
+        u = declarator(u, t, list, work, left, p, mode);
         p = skip(t, left, p);
-        n -= 1;
-    }
-    u
-}
-
-fn declarators_exclude(
-    w: Walk,
-    t: &[u8],
-    list: &mut [u8],
-    work: &mut [u8],
-    left: usize,
-    first: usize,
-    count: usize,
-    root: bool,
-) -> Walk
-    ensures { (result.at ≡ w.at) × ((o : List ℕ) → GoodItems t.now (look_node t.now left) (Good t.now left) false false count first → AllItems (λ q. is 5 q ≡ true) (look_items t.now (look_node t.now left) false count first).value → Does (going_of o list.old work.old w) (going_of o list.new work.new result) (in_turn (declarator_excludes root) (look_items t.now (look_node t.now left) false count first).value)) }
-{
-    let mut u = w;
-    let mut n = count;
-    let mut p = first;
-    while 0 < n {
-        u = declarator_excludes(u, t, list, work, left, p, root);
-        p = skip(t, left, p);
-        n -= 1;
     }
     u
 }
@@ -631,12 +602,10 @@ pub fn moves_make(
     ensures { (result.at ≡ w.at) × ((o l : List ℕ) → GoodItems t.now (look_node t.now left) (Good t.now left) false false count first → AllSuit Binding (look_items t.now (look_node t.now left) false count first).value → Does (going_of o l work.old w) (going_of o l work.new result) (say (moved.makes (gather moved_from (look_items t.now (look_node t.now left) false count first).value)))) }
 {
     let mut u = w;
-    let mut n = count;
     let mut p = first;
-    while 0 < n {
+    for _ in 0..count {
         u = move_makes(u, t, work, left, p);
         p = skip(t, left, p);
-        n -= 1;
     }
     u
 }
@@ -664,9 +633,8 @@ fn makes(w: Walk, t: &[u8], work: &mut [u8], left: usize, at: usize) -> Walk
     }
     let kind = peek(t, at);
     match kind {
-        kinds::OBJECT_PATTERN => w.make(work, at),
+        kinds::OBJECT_PATTERN | kinds::DEFAULT => w.make(work, at),
         kinds::ARRAY_PATTERN => makes_array(w, t, work, left, at),
-        kinds::DEFAULT => w.make(work, at),
         _ => w,
     }
 }
@@ -695,12 +663,10 @@ fn makes_items(w: Walk, t: &[u8], work: &mut [u8], left: usize, first: usize, co
     ensures { (result.at ≡ w.at) × ((o l : List ℕ) → GoodItems t.now (look_node t.now left) (Good t.now left) false true count first → Does (going_of o l work.old w) (going_of o l work.new result) (say (moved.makes (gather moved_in_of (look_items t.now (look_node t.now left) true count first).value)))) }
 {
     let mut u = w;
-    let mut n = count;
     let mut p = first;
-    while 0 < n {
+    for _ in 0..count {
         u = makes_item(u, t, work, left, p);
         p = skip_item(t, true, left, p);
-        n -= 1;
     }
     u
 }

@@ -3,7 +3,6 @@
 
 pub mod hand;
 pub mod helpers;
-pub mod kinds;
 pub mod literal;
 pub mod look;
 pub mod modes;
@@ -15,3 +14,5 @@ pub mod target;
 pub mod views;
 pub mod walk;
 pub mod written;
+
+pub use tree::kinds;

@@ -6,8 +6,9 @@ ghost use Rattle.tree.specs.Read.{byte_at};
 ghost use Rattle.tree.specs.Look.{onward, look_items, look_node};
 ghost use Rattle.direct.specs.Literals.{is_spread, mode_next, mode_after, head_at, inner_heads, heads, run, no_call_of};
 ghost use Rattle.walk.specs.Run.{going_of, Runs};
-ghost use Rattle.walk.specs.Turns.{spread_at, pending_deeds};
+ghost use Rattle.walk.specs.Turns.{spread_at, pending_deeds, calls_number};
 
+use crate::look::first_bit;
 use crate::walk::Walk;
 use crate::{helpers, kinds, written};
 use tree::bytes::{peek, wide_at};
@@ -16,83 +17,74 @@ use tree::skip::{skip, step};
 pub fn is_spread(t: &[u8], left: usize, at: usize) -> bool
     ensures { result ≡ is_spread (look_node t.now left at).value }
 {
-    if left == 0 {
-        return false;
-    }
-    let kind = peek(t, at);
-    kind == kinds::SPREAD
+    0 < left && peek(t, at) == kinds::SPREAD
 }
 
 // How many properties there are up to the first spread.
 pub fn run_of(t: &[u8], left: usize, count: usize, at: usize) -> usize
     ensures { result ≡ run (look_items t.now (look_node t.now left) false count at).value }
 {
-    let mut k = 0usize;
-    let mut n = count;
     let mut p = at;
-    while 0 < n {
+    for k in 0..count {
         if is_spread(t, left, p) {
             return k;
         }
         p = skip(t, left, p);
-        n -= 1;
-        k += 1;
     }
-    k
+    count
 }
 
 // The call so far: there is none, nothing is pending behind it, something is.
-const NO_CALL: usize = 0;
-
-const NOTHING_PENDING: usize = 1;
-
-const SOME_PENDING: usize = 2;
+#[derive(Clone, Copy)]
+enum Calls {
+    NoCall,
+    NothingPending,
+    SomePending,
+}
 
 // The same after one more property.
-fn mode_next(t: &[u8], left: usize, at: usize, mode: usize) -> usize
-    ensures { result ≡ mode_next mode (look_node t.now left at).value }
+fn mode_next(t: &[u8], left: usize, at: usize, mode: Calls) -> Calls
+    ensures { calls_number result ≡ mode_next (calls_number mode) (look_node t.now left at).value }
 {
     if is_spread(t, left, at) {
-        return NOTHING_PENDING;
+        return Calls::NothingPending;
     }
-    if mode == NO_CALL {
-        return NO_CALL;
+    match mode {
+        Calls::NoCall => Calls::NoCall,
+        Calls::NothingPending | Calls::SomePending => Calls::SomePending,
     }
-    SOME_PENDING
 }
 
 // Where some properties end, and the call so far behind them.
 #[derive(Clone, Copy)]
 struct Passed {
     pub at: usize,
-    pub mode: usize,
+    pub mode: Calls,
 }
 
-fn after(t: &[u8], left: usize, count: usize, at: usize, mode: usize) -> Passed
-    ensures { (result.at ≡ (look_items t.now (look_node t.now left) false count at).next) × (result.mode ≡ mode_after mode (look_items t.now (look_node t.now left) false count at).value) }
+fn after(t: &[u8], left: usize, count: usize, at: usize, mode: Calls) -> Passed
+    ensures { (result.at ≡ (look_items t.now (look_node t.now left) false count at).next) × (calls_number result.mode ≡ mode_after (calls_number mode) (look_items t.now (look_node t.now left) false count at).value) }
 {
-    let mut n = count;
     let mut p = at;
     let mut m = mode;
-    while 0 < n {
+    for _ in 0..count {
         m = mode_next(t, left, p, m);
         p = skip(t, left, p);
-        n -= 1;
     }
     Passed { at: p, mode: m }
 }
 
 // The head of the call that a spread ends.
-fn head_at(w: Walk, t: &[u8], out: &mut [u8], left: usize, at: usize, mode: usize) -> Walk
-    ensures { ((l k : List ℕ) → Runs (going_of out.old l k w) (going_of out.new l k result) (head_at mode (look_node t.now left at).value)) × (result.at ≡ w.at) }
+fn head_at(w: Walk, t: &[u8], out: &mut [u8], left: usize, at: usize, mode: Calls) -> Walk
+    ensures { ((l k : List ℕ) → Runs (going_of out.old l k w) (going_of out.new l k result) (head_at (calls_number mode) (look_node t.now left at).value)) × (result.at ≡ w.at) }
 {
-    if is_spread(t, left, at) {
-        if mode == SOME_PENDING {
-            return w.call(out, helpers::OBJECT_SPREAD, 4);
-        }
-        return w.call(out, helpers::OBJECT_SPREAD, 2);
+    if !is_spread(t, left, at) {
+        return w;
     }
-    w
+    match mode {
+        Calls::SomePending => w.call(out, helpers::OBJECT_SPREAD, 4),
+        Calls::NoCall | Calls::NothingPending => w.call(out, helpers::OBJECT_SPREAD, 2),
+    }
 }
 
 // How many properties are gone over one by one.
@@ -106,9 +98,9 @@ fn inner_heads(
     left: usize,
     n: usize,
     at: usize,
-    mode: usize,
+    mode: Calls,
 ) -> Walk
-    ensures { ((l k : List ℕ) → Runs (going_of out.old l k w) (going_of out.new l k result) (inner_heads mode (look_items t.now (look_node t.now left) false n at).value)) × (result.at ≡ w.at) }
+    ensures { ((l k : List ℕ) → Runs (going_of out.old l k w) (going_of out.new l k result) (inner_heads (calls_number mode) (look_items t.now (look_node t.now left) false n at).value)) × (result.at ≡ w.at) }
 {
     if n == 0 {
         return w;
@@ -132,13 +124,12 @@ fn all_heads(
     left: usize,
     n: usize,
     at: usize,
-    mode: usize,
+    mode: Calls,
 ) -> Walk
-    ensures { ((l k : List ℕ) → Runs (going_of out.old l k w) (going_of out.new l k result) (heads mode (look_items t.now (look_node t.now left) false n at).value)) × (result.at ≡ w.at) }
+    ensures { ((l k : List ℕ) → Runs (going_of out.old l k w) (going_of out.new l k result) (heads (calls_number mode) (look_items t.now (look_node t.now left) false n at).value)) × (result.at ≡ w.at) }
 {
-    let a = after(t, left, n, at, mode);
-    if a.mode == SOME_PENDING {
-        return inner_heads(
+    match after(t, left, n, at, mode).mode {
+        Calls::SomePending => inner_heads(
             w.call(out, helpers::OBJECT_SPREAD, 3),
             t,
             out,
@@ -146,9 +137,9 @@ fn all_heads(
             n,
             at,
             mode,
-        );
+        ),
+        Calls::NoCall | Calls::NothingPending => inner_heads(w, t, out, left, n, at, mode),
     }
-    inner_heads(w, t, out, left, n, at, mode)
 }
 
 // Two objects, the second of r properties, if there are any.
@@ -168,8 +159,7 @@ pub fn pending(w: Walk, out: &mut [u8], n: usize) -> Walk
 pub fn has_first(t: &[u8], at: usize) -> bool
     ensures { result ≡ eqb (byte_at t.now (onward t.now at 1) % 2) 1 }
 {
-    let map = peek(t, step(t, at, 1));
-    map % 2 == 1
+    first_bit(t, at) == 1
 }
 
 // The heads of the calls, and the head of the object that they begin with.
@@ -177,7 +167,7 @@ pub fn opening(w: Walk, t: &[u8], out: &mut [u8], left: usize, n: usize, at: usi
     ensures { ((l k : List ℕ) → Runs (going_of out.old l k w) (going_of out.new l k result) (heads no_call_of (look_items t.now (look_node t.now left) false n at).value ++ puts (24 ∷ 1 ∷ wide_bytes (run (look_items t.now (look_node t.now left) false n at).value % 65536)))) × (result.at ≡ w.at) }
 {
     let k = run_of(t, left, n, at);
-    all_heads(w, t, out, left, n, at, NO_CALL)
+    all_heads(w, t, out, left, n, at, Calls::NoCall)
         .put2(out, written::OBJECT, written::FIRST)
         .wide(out, k)
 }
@@ -186,10 +176,7 @@ pub fn opening(w: Walk, t: &[u8], out: &mut [u8], left: usize, n: usize, at: usi
 pub fn has_spread(t: &[u8], left: usize, at: usize) -> bool
     ensures { result ≡ spread_at t.now left at }
 {
-    if left == 0 {
-        return false;
-    }
-    if has_first(t, at) {
+    if 0 < left && has_first(t, at) {
         let q = step(t, at, 2);
         let n = wide_at(t, q);
         let k = run_of(t, left - 1, n, step(t, q, 2));

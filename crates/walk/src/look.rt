@@ -10,7 +10,7 @@ ghost use Rattle.pattern.specs.Tally.{limited};
 ghost use Rattle.direct.specs.Views.{is_other, takes};
 ghost use Rattle.direct.specs.Keys.{hoists};
 ghost use Rattle.direct.specs.Moved.{number};
-ghost use Rattle.walk.specs.Turns.{view_of, item_mode, enters_arrays, class_entry, cell_at, level_of, start_of, start_value};
+ghost use Rattle.walk.specs.Turns.{view_of, item_mode, enters_arrays, class_entry, cell_at, level_of, start_of};
 
 use crate::modes::{Deep, Mode};
 use crate::reaches::{Reach, enters};
@@ -45,10 +45,7 @@ pub fn has_second(t: &[u8], at: usize) -> bool
 pub fn replaces(v: View) -> bool
     ensures { result ≡ not (takes (view_of v)) }
 {
-    match v {
-        View::Replacing => true,
-        View::Taking => false,
-    }
+    matches!(v, View::Replacing)
 }
 
 // The mode of an array's items, by what is done below the array.
@@ -76,10 +73,7 @@ pub fn level(left: usize, inner: bool) -> usize
     ensures { (result ≡ level_of inner left) × (result ≤ left) }
 {
     if inner {
-        if left == 0 {
-            return 0;
-        }
-        return left - 1;
+        return left.saturating_sub(1);
     }
     left
 }
@@ -88,16 +82,14 @@ pub fn level(left: usize, inner: bool) -> usize
 pub fn cell(stem: u8, at: usize) -> usize
     ensures { result ≡ cell_at stem at }
 {
-    if at < 16384 {
-        if stem == stems::EXCLUDED {
-            return at + 1;
-        }
-        if stem == stems::VALUE {
-            return at + 2;
-        }
+    if 16384 <= at {
         return at;
     }
-    at
+    match stem {
+        stems::EXCLUDED => at + 1,
+        stems::VALUE => at + 2,
+        _ => at,
+    }
 }
 
 // How a key is written among the excluded keys.
@@ -112,20 +104,17 @@ pub enum KeyClass {
 pub fn key_sort(t: &[u8], left: usize, at: usize) -> KeyClass
     ensures { class_entry result ≡ entry_of (key_sort (look_node t.now left at).value) }
 {
-    if 0 < left {
-        if peek(t, at) == kinds::STATIC_KEY {
-            return KeyClass::AsString;
-        }
+    if 0 < left && peek(t, at) == kinds::STATIC_KEY {
+        return KeyClass::AsString;
     }
     match transform_property_key(t, left, at) {
-        Key::Name { from: _, len: _ } => KeyClass::AsString,
-        Key::Literal { from: _, len: _ } => KeyClass::AsString,
-        Key::Number { value: _ } => KeyClass::AsString,
-        Key::OtherForm { value: _ } => KeyClass::AsString,
-        Key::NoForm => KeyClass::AsString,
-        Key::Template => KeyClass::AsItStands,
+        Key::Name { .. }
+        | Key::Literal { .. }
+        | Key::Number { .. }
+        | Key::OtherForm { .. }
+        | Key::NoForm => KeyClass::AsString,
+        Key::Template | Key::Again => KeyClass::AsItStands,
         Key::Private => KeyClass::LeftOut,
-        Key::Again => KeyClass::AsItStands,
         Key::Other => KeyClass::AsTemporary,
     }
 }
@@ -133,57 +122,35 @@ pub fn key_sort(t: &[u8], left: usize, at: usize) -> KeyClass
 pub fn is_other(t: &[u8], left: usize, at: usize) -> bool
     ensures { result ≡ is_other (look_node t.now left at).value }
 {
-    match key_sort(t, left, at) {
-        KeyClass::AsString => false,
-        KeyClass::AsItStands => false,
-        KeyClass::LeftOut => false,
-        KeyClass::AsTemporary => true,
-    }
+    matches!(key_sort(t, left, at), KeyClass::AsTemporary)
 }
 
 // Whether the excluded keys of the object pattern at a position go out to the list.
 pub fn hoisted(t: &[u8], left: usize, root: bool, at: usize) -> bool
     ensures { result ≡ hoists root (properties (look_node t.now left at).value) }
 {
-    if root {
-        return false;
-    }
-    if has_no_properties(t, left, at) {
-        return false;
-    }
-    all_primitive(t, left, at)
+    !root && !has_no_properties(t, left, at) && all_primitive(t, left, at)
 }
 
-// Where the starting value of a declarator is.
-#[derive(Clone, Copy)]
-pub enum Start {
-    Value(usize),
-    Missing,
-}
-
-pub fn start_of(t: &[u8], left: usize, at: usize) -> Start
-    ensures { start_value result ≡ start_of t.now left at }
+// Where the starting value of a declarator is, if it has one.
+pub fn start_of(t: &[u8], left: usize, at: usize) -> Option<usize>
+    ensures { result ≡ start_of t.now left at }
 {
-    if left == 0 {
-        return Start::Missing;
+    if 0 < left && has_second(t, at) {
+        return Some(skip(t, left - 1, step(t, at, 2)));
     }
-    if has_second(t, at) {
-        return Start::Value(skip(t, left - 1, step(t, at, 2)));
-    }
-    Start::Missing
+    None
 }
 
 // How many patterns are moved out of parameters or declarators.
 pub fn moved_in(t: &[u8], left: usize, first: usize, count: usize) -> usize
     ensures { result ≡ limited (number (gather moved_from (look_items t.now (look_node t.now left) false count first).value)) }
 {
-    let mut n = count;
     let mut p = first;
     let mut k = 0;
-    while 0 < n {
+    for _ in 0..count {
         k = plus(k, moved_from(t, left, p));
         p = skip(t, left, p);
-        n -= 1;
     }
     k
 }

@@ -20,17 +20,7 @@ use tree::skip::{skip, step};
 fn writes_holes(mode: Mode) -> bool
     ensures { result ≡ writes_holes mode }
 {
-    match mode {
-        Mode::Viewed => true,
-        Mode::MovedOut => true,
-        Mode::Below(_) => false,
-        Mode::Property(_) => false,
-        Mode::ExcludedKey => false,
-        Mode::KeyValue => false,
-        Mode::Value(_) => false,
-        Mode::Declarator => false,
-        Mode::Binding => false,
-    }
+    matches!(mode, Mode::Viewed | Mode::MovedOut)
 }
 
 // A hole of a list, written where the list is.
@@ -64,23 +54,16 @@ pub fn source(
 {
     let at = w.at;
     let taken = b.create_read_expression();
-    let read = taken.read;
     let next = taken.next;
-    match read {
-        Read::Expression { left, at: p } => {
-            let u = w.to(p).copy(t, out, skip(t, left, p)).to(at);
-            Sourced {
-                walk: u,
-                next: next,
-            }
-        }
-        Read::Temporary { cell, stem } => {
-            let u = w.temporary(out, list, work, cell, stem);
-            Sourced {
-                walk: u,
-                next: next,
-            }
-        }
+    match taken.read {
+        Read::Expression { left, at: p } => Sourced {
+            walk: w.to(p).copy(t, out, skip(t, left, p)).to(at),
+            next,
+        },
+        Read::Temporary { cell, stem } => Sourced {
+            walk: w.temporary(out, list, work, cell, stem),
+            next,
+        },
     }
 }
 
@@ -89,15 +72,10 @@ pub fn string(w: Walk, t: &[u8], out: &mut [u8], left: usize, at: usize) -> Walk
     ensures { (result.at ≡ w.at) × ((l k : List ℕ) → Runs (going_of out.old l k w) (going_of out.new l k result) (puts (string_of t.now (key_at t.now left at)))) }
 {
     match transform_property_key(t, left, at) {
-        Key::Name { from, len } => w.string(t, out, from, len),
-        Key::Literal { from, len } => w.string(t, out, from, len),
-        Key::Number { value } => w.number(out, value),
-        Key::OtherForm { value } => w.number(out, value),
+        Key::Name { from, len } | Key::Literal { from, len } => w.string(t, out, from, len),
+        Key::Number { value } | Key::OtherForm { value } => w.number(out, value),
         Key::NoForm => w.string(t, out, 0, 0),
-        Key::Template => w,
-        Key::Private => w,
-        Key::Again => w,
-        Key::Other => w,
+        Key::Template | Key::Private | Key::Again | Key::Other => w,
     }
 }
 
@@ -106,10 +84,8 @@ pub fn await_of(w: Walk, t: &[u8], out: &mut [u8], at: usize) -> Walk
     ensures { (result.at ≡ cond (awaits t.now at) (onward t.now w.at 1) w.at) × ((l k : List ℕ) → Runs (going_of out.old l k w) (going_of out.new l k result) (puts (cond (awaits t.now at) (part w.at (onward t.now w.at 1) t.now) []))) }
 {
     let q = w.at;
-    if peek(t, at) == kinds::FOR_OF {
-        if peek(t, step(t, at, 1)) / 16 == 1 {
-            return w.copy(t, out, step(t, q, 1));
-        }
+    if peek(t, at) == kinds::FOR_OF && peek(t, step(t, at, 1)) / 16 == 1 {
+        return w.copy(t, out, step(t, q, 1));
     }
     w
 }

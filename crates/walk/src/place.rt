@@ -1,5 +1,5 @@
 // Where a node stands.
-ghost use Rattle.std.specs.Prelude.{◌≡◌, true, false, not, ◌&&◌, ◌||◌, eqb, ℕ, ◌-◌};
+ghost use Rattle.std.specs.Prelude.{◌≡◌, true, false, not, ◌||◌, ◌&&◌, eqb, ℕ, ◌-◌};
 ghost use Rattle.tree.specs.Tree.{Fields};
 ghost use Rattle.tree.specs.Tree.Node.{node};
 ghost use Rattle.lowering.specs.Collect.{is_container};
@@ -32,15 +32,15 @@ fn opens_scope(kind: usize, field: usize) -> bool
     ensures { result ≡ opens_scope kind field }
 {
     match kind {
-        kinds::BLOCK => true,
-        kinds::FOR => true,
-        kinds::FOR_IN => true,
-        kinds::FOR_OF => true,
-        kinds::CATCH => true,
-        kinds::FUNCTION => true,
-        kinds::ARROW => true,
-        kinds::CLASS => true,
-        kinds::STATIC_BLOCK => true,
+        kinds::BLOCK
+        | kinds::FOR
+        | kinds::FOR_IN
+        | kinds::FOR_OF
+        | kinds::CATCH
+        | kinds::FUNCTION
+        | kinds::ARROW
+        | kinds::CLASS
+        | kinds::STATIC_BLOCK => true,
         kinds::SWITCH => field == 2,
         _ => false,
     }
@@ -49,47 +49,29 @@ fn opens_scope(kind: usize, field: usize) -> bool
 pub fn container(kind: usize) -> bool
     ensures { result ≡ is_container kind }
 {
-    match kind {
-        kinds::PROGRAM => true,
-        kinds::BLOCK => true,
-        kinds::FUNCTION_BODY => true,
-        kinds::STATIC_BLOCK => true,
-        kinds::CASE => true,
-        _ => false,
-    }
-}
-
-fn but_not(a: bool, b: bool) -> bool
-    ensures { result ≡ a && not b }
-{
-    if b {
-        return false;
-    }
-    a
+    matches!(
+        kind,
+        kinds::PROGRAM | kinds::BLOCK | kinds::FUNCTION_BODY | kinds::STATIC_BLOCK | kinds::CASE
+    )
 }
 
 // Whether the part of a node is all of an expression statement.
 fn whole(kind: usize, statement: bool) -> bool
     ensures { result ≡ eqb kind 3 || (eqb kind 31 && statement) }
 {
-    if kind == kinds::EXPRESSION_STATEMENT {
-        return true;
-    }
-    if kind == kinds::PARENTHESISED {
-        return statement;
-    }
-    false
+    kind == kinds::EXPRESSION_STATEMENT || (kind == kinds::PARENTHESISED && statement)
 }
 
 // The place of a field of a node; that of all of them, if the node is no Switch.
 pub fn parts_of(c: Place, kind: usize, field: usize, left: usize) -> Place
     ensures { ((at : ℕ) (fs : Fields) → place_of result ≡ below (place_of c) (node at kind fs) field) × (result.left ≡ left) }
 {
+    let opens = opens_scope(kind, field);
     Place {
-        root: but_not(c.root, opens_scope(kind, field)),
+        root: c.root && !opens,
         statement: whole(kind, c.statement),
-        mark: c.mark,
-        left: left,
+        left,
+        ..c
     }
 }
 
@@ -97,21 +79,13 @@ pub fn parts_of(c: Place, kind: usize, field: usize, left: usize) -> Place
 pub fn marked(c: Place, mark: usize) -> Place
     ensures { (place_of result ≡ marking (place_of c) mark) × (result.left ≡ c.left) }
 {
-    Place {
-        root: c.root,
-        statement: c.statement,
-        mark: mark,
-        left: c.left,
-    }
+    Place { mark, ..c }
 }
 
 pub fn less(n: usize) -> usize
     ensures { result ≡ n - 1 }
 {
-    if n == 0 {
-        return 0;
-    }
-    n - 1
+    n.saturating_sub(1)
 }
 
 // The place of the parts of an expression.
@@ -119,10 +93,9 @@ pub fn inside(c: Place, left: usize) -> Place
     ensures { (place_of result ≡ inner (place_of c)) × (result.left ≡ left) }
 {
     Place {
-        root: c.root,
         statement: false,
-        mark: c.mark,
-        left: left,
+        left,
+        ..c
     }
 }
 
@@ -130,12 +103,7 @@ pub fn inside(c: Place, left: usize) -> Place
 pub fn under(c: Place, left: usize) -> Place
     ensures { (place_of result ≡ place_of c) × (result.left ≡ left) }
 {
-    Place {
-        root: c.root,
-        statement: c.statement,
-        mark: c.mark,
-        left: left,
-    }
+    Place { left, ..c }
 }
 
 // The place of the parts of an expression, and the same place with other levels left, told whether they are at root.
@@ -143,22 +111,17 @@ pub fn told_inside(c: Place, root: bool, left: usize) -> Place
     ensures { (place_of result ≡ inner (place_with root c)) × (result.left ≡ left) }
 {
     Place {
-        root: root,
+        root,
         statement: false,
-        mark: c.mark,
-        left: left,
+        left,
+        ..c
     }
 }
 
 pub fn told_under(c: Place, root: bool, left: usize) -> Place
     ensures { (place_of result ≡ place_with root c) × (result.left ≡ left) }
 {
-    Place {
-        root: root,
-        statement: c.statement,
-        mark: c.mark,
-        left: left,
-    }
+    Place { root, left, ..c }
 }
 
 // A scope's place; a statement's, all of an expression statement.
@@ -168,8 +131,8 @@ pub fn scoped(c: Place, left: usize) -> Place
     Place {
         root: false,
         statement: false,
-        mark: c.mark,
-        left: left,
+        left,
+        ..c
     }
 }
 
@@ -177,9 +140,8 @@ pub fn statement(c: Place, mark: usize) -> Place
     ensures { (place_of result ≡ unused (marking (place_of c) mark)) × (result.left ≡ c.left) }
 {
     Place {
-        root: c.root,
         statement: true,
-        mark: mark,
-        left: c.left,
+        mark,
+        ..c
     }
 }

@@ -14,20 +14,12 @@ pub enum Reach {
 pub fn counts(reach: Reach) -> bool
     ensures { result ≡ objects.counts (reach_of reach) }
 {
-    match reach {
-        Reach::Anywhere => true,
-        Reach::Straight => true,
-        Reach::InArrays => false,
-    }
+    matches!(reach, Reach::Anywhere | Reach::Straight)
 }
 
 // Whether arrays are entered.
 pub(crate) fn enters(reach: Reach) -> bool
     ensures { result ≡ objects.enters (reach_of reach) }
 {
-    match reach {
-        Reach::Anywhere => true,
-        Reach::Straight => false,
-        Reach::InArrays => true,
-    }
+    matches!(reach, Reach::Anywhere | Reach::InArrays)
 }

@@ -48,14 +48,12 @@ pub(crate) fn target_count(t: &[u8], left: usize, at: usize, reach: Reach) -> us
                 return 0;
             }
             let run = parts::list(t, left, at, 0);
-            let mut n = run.count;
             let mut p = run.from;
             let mut k = 0;
-            while 0 < n {
+            for _ in 0..run.count {
                 let e = parts::item(t, true, below, p);
                 k = plus(k, target_count(t, e.left, e.at, Reach::Anywhere));
                 p = skip_item(t, true, below, p);
-                n -= 1;
             }
             k
         }
@@ -87,16 +85,15 @@ pub fn object_count(t: &[u8], left: usize, at: usize, reach: Reach) -> usize
     }
     let below = left - 1;
     let run = parts::list(t, left, at, 0);
-    let mut n = run.count;
     let mut p = run.from;
     let mut k = 0;
-    while 0 < n {
+    for _ in 0..run.count {
         let v = parts::value(t, below, p);
-        if kinds::LAST_EXPRESSION < peek(t, v.at) {
+        // Patterns come behind the expressions that may stand in their place.
+        if kinds::OTHER_EXPRESSION < peek(t, v.at) {
             k = plus(k, target_count(t, v.left, v.at, reach));
         }
         p = skip(t, below, p);
-        n -= 1;
     }
     k
 }
@@ -118,12 +115,11 @@ pub(crate) fn target_values(
     let below = less(left);
     let q = step(t, at, 2);
     let mut u = w;
-    let mut n = wide_at(t, q);
+    let n = wide_at(t, q);
     let mut p = step(t, q, 2);
-    while 0 < n {
+    for _ in 0..n {
         u = target_property(u, t, list, work, less(below), p, reach);
         p = skip(t, below, p);
-        n -= 1;
     }
     u
 }
@@ -154,12 +150,11 @@ fn target_object(
     }
     let q = step(t, at, 2);
     let mut u = w;
-    let mut n = wide_at(t, q);
+    let n = wide_at(t, q);
     let mut p = step(t, q, 2);
-    while 0 < n {
+    for _ in 0..n {
         u = target_property(u, t, list, work, left - 1, p, reach);
         p = skip(t, left, p);
-        n -= 1;
     }
     u
 }
@@ -180,32 +175,8 @@ fn target_property(
     if quiet(t, at) {
         return w;
     }
-    if left == 0 {
-        return w;
-    }
-    let below = left - 1;
     let x = skip(t, left, step(t, at, 2));
-    let kind = peek(t, x);
-    match kind {
-        kinds::OBJECT_PATTERN => target_object(w, t, list, work, below, x, reach),
-        kinds::ARRAY_PATTERN => {
-            if !enters(reach) {
-                return w;
-            }
-            let q = step(t, x, 2);
-            let mut u = w;
-            let mut n = wide_at(t, q);
-            let mut p = step(t, q, 2);
-            while 0 < n {
-                u = target_item(u, t, list, work, below, p, Reach::Anywhere);
-                p = skip_item(t, true, below, p);
-                n -= 1;
-            }
-            u
-        }
-        kinds::DEFAULT => target_item(w, t, list, work, below, step(t, x, 2), reach),
-        _ => w,
-    }
+    target_item(w, t, list, work, left, x, reach)
 }
 
 // An item of an array, or any target: one that stands at the level `left`.
@@ -234,12 +205,11 @@ pub(crate) fn target_item(
             }
             let q = step(t, at, 2);
             let mut u = w;
-            let mut n = wide_at(t, q);
+            let n = wide_at(t, q);
             let mut p = step(t, q, 2);
-            while 0 < n {
+            for _ in 0..n {
                 u = target_item(u, t, list, work, below, p, Reach::Anywhere);
                 p = skip_item(t, true, below, p);
-                n -= 1;
             }
             u
         }

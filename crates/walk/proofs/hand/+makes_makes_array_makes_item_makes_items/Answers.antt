@@ -1,3 +1,5 @@
+use mathlib.Core.Logic.◌⊎◌.{inl, inr}
+use Rattle.walk.proofs.TurnsLeft.{none_gone, one_gone}
 use Rattle.walk.proofs.Running.{runs_does}
 use mathlib.Core.Path.{refl, sym, ◌∙◌}
 use native.Mathlib.Omega.{arith}
@@ -11,16 +13,16 @@ pub makes-returns-then-left-eq0 : goal.makes-returns-then-left-eq0
 makes-returns-then-left-eq0 t c = (refl, λ o l g. good_none _ _ _ c.if-left-eq0.true g)
 
 pub makes-returns-in-34 : goal.makes-returns-in-34
-makes-returns-in-34 t c = (c.make.ensures.1, λ o l g. law.makes_34 _ _ _ _ c.peek-kind.ensures.value c.in-34.is (runs_does (c.make.ensures.0 o l)) g)
+makes-returns-in-34 t c = (c.make.ensures.1, λ o l g. elim c.in-34.is [
+  | inl e ↦ law.makes_34 _ _ _ _ c.peek-kind.ensures.value e (runs_does (c.make.ensures.0 o l)) g
+  | inr e ↦ law.makes_37 _ _ _ _ c.peek-kind.ensures.value e (runs_does (c.make.ensures.0 o l)) g
+])
 
 pub makes-returns-in-36 : goal.makes-returns-in-36
 makes-returns-in-36 t c = (c.makes_array.ensures.0, λ o l g. c.makes_array.ensures.1 o l g (sym c.peek-kind.ensures.value ∙ c.in-36.is))
 
-pub makes-returns-in-37 : goal.makes-returns-in-37
-makes-returns-in-37 t c = (c.make-in-37.ensures.1, λ o l g. law.makes_37 _ _ _ _ c.peek-kind.ensures.value c.in-37.is (runs_does (c.make-in-37.ensures.0 o l)) g)
-
 pub makes-returns-in_default : goal.makes-returns-in_default
-makes-returns-in_default t c = (refl, λ o l g. law.makes_nothing _ _ _ _ c.peek-kind.ensures.value (omega arith) (omega arith) (omega arith) g)
+makes-returns-in_default t c = (refl, λ o l g. law.makes_nothing _ _ _ _ c.peek-kind.ensures.value (grind arith) (grind arith) (grind arith) g)
 
 pub makes_array-returns-then-left-eq0 : goal.makes_array-returns-then-left-eq0
 makes_array-returns-then-left-eq0 t c = (refl, λ o l g k. good_none _ _ _ c.if-left-eq0.true g)
@@ -43,21 +45,15 @@ makes_item-returns-then-peek-eq0 t c = (refl, λ o l g. hands.hole_does _ _ _ _ 
 pub makes_item-returns : goal.makes_item-returns
 makes_item-returns t c = (c.makes.ensures.0, λ o l g. hands.item_does _ _ _ _ _ c.peek.ensures c.if-peek-eq0.false (c.makes.ensures.1 o l) g)
 
-pub makes_items-loop-n-init : goal.makes_items-loop-n-init
-makes_items-loop-n-init t c = (refl, refl, λ o l g. hands.any_start _ _ _ _ _ _ _ g)
+pub makes_items-loop-init : goal.makes_items-loop-init
+makes_items-loop-init t c = (refl, refl, λ o l g. rw none_gone (hands.any_start _ _ _ _ _ _ _ g))
 
-pub makes_items-overflow_sub-n : goal.makes_items-overflow_sub-n
-makes_items-overflow_sub-n t c = omega (arith, c.loop-n-test.true)
-
-pub makes_items-loop-n-smaller : goal.makes_items-loop-n-smaller
-makes_items-loop-n-smaller t c = omega (arith, c.loop-n-test.true)
-
-pub makes_items-loop-n-preserved : goal.makes_items-loop-n-preserved
-makes_items-loop-n-preserved t c = (
-  omega (arith, c.loop-n.invariant.0, c.makes_item-u.auto.work),
-  c.makes_item-u.ensures.0 ∙ c.loop-n.invariant.1,
-  λ o l g. hands.left_more _ _ _ _ _ _ _ _ _ _ c.loop-n-test.true c.skip_item-p.ensures (c.loop-n.invariant.2 o l g) (λ x y. c.makes_item-u.ensures.1 o l x),
+pub makes_items-loop-preserved : goal.makes_items-loop-preserved
+makes_items-loop-preserved t c = (
+  omega (arith, c.loop.invariant.0, c.makes_item-u.auto.work),
+  c.makes_item-u.ensures.0 ∙ c.loop.invariant.1,
+  λ o l g. rw one_gone (hands.left_more _ _ _ _ _ _ _ _ _ _ (omega (arith, c.loop-test.true)) c.skip_item-p.ensures (c.loop.invariant.2 o l g) (λ x y. c.makes_item-u.ensures.1 o l x)),
 )
 
 pub makes_items-returns : goal.makes_items-returns
-makes_items-returns t c = (c.loop-n.invariant.1, λ o l g. does_as (hands.left_end _ _ _ _ _ _ _ _ _ c.loop-n-test.false (c.loop-n.invariant.2 o l g)) (law.makes_turn _ _))
+makes_items-returns t c = (c.loop.invariant.1, λ o l g. does_as (hands.left_end _ _ _ _ _ _ _ _ _ (omega (arith, c.loop-test.false)) (c.loop.invariant.2 o l g)) (law.makes_turn _ _))

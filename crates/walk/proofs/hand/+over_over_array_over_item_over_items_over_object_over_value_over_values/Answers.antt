@@ -1,5 +1,6 @@
 use mathlib.Core.Path.{refl, sym, ◌∙◌}
 use native.Mathlib.Omega.{arith}
+use Rattle.walk.proofs.TurnsLeft.{none_gone, one_gone}
 use Rattle.walk.proofs.Opened.{kind_byte}
 use Rattle.walk.proofs.Emits.{good_none}
 use Rattle.walk.proofs.Hands as law
@@ -33,25 +34,19 @@ over_item-returns-then-peek-eq0 t c = (refl, λ o g. law.hole_does _ _ _ _ c.pee
 pub over_item-returns : goal.over_item-returns
 over_item-returns t c = (c.over.ensures.0, λ o g. law.item_does _ _ _ _ _ c.peek.ensures c.if-peek-eq0.false (c.over.ensures.1 o) g)
 
-pub over_items-loop-n-init : goal.over_items-loop-n-init
-over_items-loop-n-init t c = (refl, refl, refl, λ o g. law.any_start _ _ _ _ _ _ _ g)
+pub over_items-loop-init : goal.over_items-loop-init
+over_items-loop-init t c = (refl, refl, refl, λ o g. rw none_gone (law.any_start _ _ _ _ _ _ _ g))
 
-pub over_items-overflow_sub-n : goal.over_items-overflow_sub-n
-over_items-overflow_sub-n t c = omega (arith, c.loop-n-test.true)
-
-pub over_items-loop-n-smaller : goal.over_items-loop-n-smaller
-over_items-loop-n-smaller t c = omega (arith, c.loop-n-test.true)
-
-pub over_items-loop-n-preserved : goal.over_items-loop-n-preserved
-over_items-loop-n-preserved t c = (
-  omega (arith, c.loop-n.invariant.0, c.over_item-u.auto.list),
-  omega (arith, c.loop-n.invariant.1, c.over_item-u.auto.work),
-  c.over_item-u.ensures.0 ∙ c.loop-n.invariant.2,
-  λ o g. law.left_more _ _ _ _ _ _ _ _ _ _ c.loop-n-test.true c.skip_item-p.ensures (c.loop-n.invariant.3 o g) (λ x y. c.over_item-u.ensures.1 o x),
+pub over_items-loop-preserved : goal.over_items-loop-preserved
+over_items-loop-preserved t c = (
+  omega (arith, c.loop.invariant.0, c.over_item-u.auto.list),
+  omega (arith, c.loop.invariant.1, c.over_item-u.auto.work),
+  c.over_item-u.ensures.0 ∙ c.loop.invariant.2,
+  λ o g. rw one_gone (law.left_more _ _ _ _ _ _ _ _ _ _ (omega (arith, c.loop-test.true)) c.skip_item-p.ensures (c.loop.invariant.3 o g) (λ x y. c.over_item-u.ensures.1 o x)),
 )
 
 pub over_items-returns : goal.over_items-returns
-over_items-returns t c = (c.loop-n.invariant.2, λ o g. law.left_end _ _ _ _ _ _ _ _ _ c.loop-n-test.false (c.loop-n.invariant.3 o g))
+over_items-returns t c = (c.loop.invariant.2, λ o g. law.left_end _ _ _ _ _ _ _ _ _ (omega (arith, c.loop-test.false)) (c.loop.invariant.3 o g))
 
 pub over_object-returns-then-replaces : goal.over_object-returns-then-replaces
 over_object-returns-then-replaces t c = (
@@ -74,22 +69,16 @@ over_value-returns-then-quiet t c = (refl, λ o g k. quiets.all_quiet _ _ _ _ _ 
 pub over_value-returns : goal.over_value-returns
 over_value-returns t c = (c.over.ensures.0, λ o g k. law.value_does _ _ _ _ _ _ _ _ c.less-below.ensures c.step.ensures c.skip-x.ensures (c.over.ensures.1 o) g k)
 
-pub over_values-loop-n-init : goal.over_values-loop-n-init
-over_values-loop-n-init t c = (refl, refl, refl, λ o g a. law.left_start _ _ _ _ _ _ _ _ g a)
+pub over_values-loop-init : goal.over_values-loop-init
+over_values-loop-init t c = (refl, refl, refl, λ o g a. rw none_gone (law.left_start _ _ _ _ _ _ _ _ g a))
 
-pub over_values-overflow_sub-n : goal.over_values-overflow_sub-n
-over_values-overflow_sub-n t c = omega (arith, c.loop-n-test.true)
-
-pub over_values-loop-n-smaller : goal.over_values-loop-n-smaller
-over_values-loop-n-smaller t c = omega (arith, c.loop-n-test.true)
-
-pub over_values-loop-n-preserved : goal.over_values-loop-n-preserved
-over_values-loop-n-preserved t c = (
-  omega (arith, c.loop-n.invariant.0, c.over_value-u.auto.list),
-  omega (arith, c.loop-n.invariant.1, c.over_value-u.auto.work),
-  c.over_value-u.ensures.0 ∙ c.loop-n.invariant.2,
-  λ o g a. law.solid_more _ _ _ _ _ _ _ _ _ c.loop-n-test.true c.skip-p.ensures (c.loop-n.invariant.3 o g a) (λ x y. c.over_value-u.ensures.1 o x (kind_byte _ _ _ _ x y)),
+pub over_values-loop-preserved : goal.over_values-loop-preserved
+over_values-loop-preserved t c = (
+  omega (arith, c.loop.invariant.0, c.over_value-u.auto.list),
+  omega (arith, c.loop.invariant.1, c.over_value-u.auto.work),
+  c.over_value-u.ensures.0 ∙ c.loop.invariant.2,
+  λ o g a. rw one_gone (law.solid_more _ _ _ _ _ _ _ _ _ (omega (arith, c.loop-test.true)) c.skip-p.ensures (c.loop.invariant.3 o g a) (λ x y. c.over_value-u.ensures.1 o x (kind_byte _ _ _ _ x y))),
 )
 
 pub over_values-returns : goal.over_values-returns
-over_values-returns t c = (c.loop-n.invariant.2, λ o g a. law.left_end _ _ _ _ _ _ _ _ _ c.loop-n-test.false (c.loop-n.invariant.3 o g a))
+over_values-returns t c = (c.loop.invariant.2, λ o g a. law.left_end _ _ _ _ _ _ _ _ _ (omega (arith, c.loop-test.false)) (c.loop.invariant.3 o g a))

@@ -4,6 +4,6 @@ use Rattle.walk.proofs.hand.declaration_hands.Goals as goal
 
 pub returns : goal.returns
 returns c = (
-  c.declarators_exclude.ensures.0 ∙ c.declarators_make-u.ensures.0,
-  λ o. law.declaration_does _ _ _ _ _ _ _ c.less-below.ensures c.step-q.ensures c.step-first.ensures c.wide_at-n.ensures _ (c.declarators_make-u.ensures.1 o) (c.declarators_exclude.ensures.1 o),
+  c.declarators.ensures.0 ∙ c.declarators-u.ensures.0,
+  λ o. law.declaration_does _ _ _ _ _ _ _ c.less-below.ensures c.step-q.ensures c.step-first.ensures c.wide_at-n.ensures _ (c.declarators-u.ensures.1 o) (c.declarators.ensures.1 o),
 )

@@ -1,8 +1,9 @@
-use Rattle.walk.proofs.Hands as law
+use mathlib.Core.Path.{refl, ◌∙◌}
+use Rattle.walk.proofs.Lookups.{not_yes, not_no}
 use Rattle.walk.proofs.hand.replaces.Goals as goal
 
-pub returns-in-Replacing : goal.returns-in-Replacing
-returns-in-Replacing c = law.replaces_rest _ _ _ c.in-Replacing.is c.has_second.ensures
+pub returns-then-replaces : goal.returns-then-replaces
+returns-then-replaces c = rw (not_yes _ _ c.replaces.ensures c.if-replaces.true) c.has_second.ensures
 
-pub returns-in-Taking : goal.returns-in-Taking
-returns-in-Taking c = law.replaces_taking _ _ c.in-Taking.is
+pub returns-else-replaces : goal.returns-else-replaces
+returns-else-replaces c = rw (not_no _ _ c.replaces.ensures c.if-replaces.false) c.if-replaces.false

@@ -1,12 +1,21 @@
-use mathlib.Core.Path.{refl}
+use native.Mathlib.Omega.{arith}
+use mathlib.Core.Logic.◌⊎◌.{inl, inr}
+use mathlib.Core.Path.{refl, ap}
+use Rattle.walk.specs.Turns.{calls_number}
 use Rattle.walk.proofs.LiteralHeads as law
 use Rattle.walk.proofs.literal.head_at.Goals as goal
 
-pub returns-then-mode-eq-SOME_PENDING : goal.returns-then-mode-eq-SOME_PENDING
-returns-then-mode-eq-SOME_PENDING c = ((λ l k. law.head_four _ _ _ c.is_spread.ensures c.if-is_spread.true c.if-mode-eq-SOME_PENDING.true (c.call.ensures.0 l k)), c.call.ensures.1)
+pub returns-then-not-is_spread : goal.returns-then-not-is_spread
+returns-then-not-is_spread c = ((λ l k. law.head_none _ _ _ c.is_spread.ensures c.if-not-is_spread.true), refl)
 
-pub returns-then-is_spread : goal.returns-then-is_spread
-returns-then-is_spread c = ((λ l k. law.head_two _ _ _ c.is_spread.ensures c.if-is_spread.true c.if-mode-eq-SOME_PENDING.false (c.call-then-is_spread.ensures.0 l k)), c.call-then-is_spread.ensures.1)
+pub returns-in-SomePending : goal.returns-in-SomePending
+returns-in-SomePending c = ((λ l k. law.head_four _ _ _ c.is_spread.ensures c.if-not-is_spread.false (ap calls_number c.in-SomePending.is) (c.call.ensures.0 l k)), c.call.ensures.1)
 
-pub returns : goal.returns
-returns c = ((λ l k. law.head_none _ _ _ c.is_spread.ensures c.if-is_spread.false), refl)
+pub returns-in-NoCall : goal.returns-in-NoCall
+returns-in-NoCall c = (
+  (λ l k. law.head_two _ _ _ c.is_spread.ensures c.if-not-is_spread.false (λ z. elim c.in-NoCall.is [
+    | inl e ↦ omega (arith, z, ap calls_number e)
+    | inr e ↦ omega (arith, z, ap calls_number e)
+  ]) (c.call-in-NoCall.ensures.0 l k)),
+  c.call-in-NoCall.ensures.1,
+)

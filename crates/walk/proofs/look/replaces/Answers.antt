@@ -4,5 +4,5 @@ use Rattle.walk.proofs.look.replaces.Goals as goal
 pub returns-in-Replacing : goal.returns-in-Replacing
 returns-in-Replacing c = replaces_yes _ c.in-Replacing.is
 
-pub returns-in-Taking : goal.returns-in-Taking
-returns-in-Taking c = replaces_not _ c.in-Taking.is
+pub returns-in_default : goal.returns-in_default
+returns-in_default c = replaces_not _ c.in_default.is

@@ -1,15 +1,12 @@
-use borrow.Author.Rules.{rules}
+use mathlib.Core.Logic.◌⊎◌.{inl, inr}
+use mathlib.Core.Path.{refl}
 use Rattle.walk.specs.Turns.{reach_of}
 use Rattle.walk.proofs.reaches.enters.Goals as goal
 
 pub returns-in-Anywhere : goal.returns-in-Anywhere
 unfolding reach_of
-returns-in-Anywhere c = search rules
+returns-in-Anywhere c = elim c.in-Anywhere.is [ inl e ↦ rw e refl | inr e ↦ rw e refl ]
 
-pub returns-in-Straight : goal.returns-in-Straight
+pub returns-in_default : goal.returns-in_default
 unfolding reach_of
-returns-in-Straight c = search rules
-
-pub returns-in-InArrays : goal.returns-in-InArrays
-unfolding reach_of
-returns-in-InArrays c = search rules
+returns-in_default c = rw c.in_default.is refl

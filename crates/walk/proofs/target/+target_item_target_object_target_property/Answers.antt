@@ -2,10 +2,13 @@
 -- ---- an object
 -- ---- a property
 use mathlib.Core.Path.{refl, ◌∙◌}
+use mathlib.Core.Bool.{false}
 use native.Mathlib.Omega.{arith}
+use Rattle.walk.proofs.TurnsLeft.{none_gone, one_gone}
 use Rattle.walk.proofs.Running.{runs_does}
 use Rattle.walk.proofs.Emits.{good_none}
 use Rattle.walk.proofs.Lookups.{denied, undenied}
+use Rattle.walk.specs.Whole.{hole_at}
 use Rattle.walk.proofs.TargetWalk as law
 use Rattle.walk.proofs.QuietValues as quiets
 use Rattle.walk.proofs.target.+target_item_target_object_target_property.Goals as goal
@@ -19,28 +22,22 @@ target_item-overflow_sub-below t c = omega (arith, c.if-left-eq0.false)
 pub target_item-returns-then-not-enters : goal.target_item-returns-then-not-enters
 target_item-returns-then-not-enters t c = (refl, λ o h g. law.item_solid _ _ _ _ _ c.peek-kind.ensures.value (law.no_zero _ _ c.in-36.is (omega arith)) (law.array_passed _ _ _ _ _ _ refl c.peek-kind.ensures.value c.in-36.is (denied _ _ c.enters.ensures c.if-not-enters.true)) h g)
 
-pub target_item-loop-n-init : goal.target_item-loop-n-init
-target_item-loop-n-init t c = (refl, refl, refl, λ o. law.items_start _ _ _ _ _ _ c.step-q.ensures c.wide_at-n.ensures c.step-p.ensures)
+pub target_item-loop-init : goal.target_item-loop-init
+target_item-loop-init t c = (refl, refl, refl, λ o. rw none_gone (law.items_start _ _ _ _ _ _ c.step-q.ensures c.wide_at-n.ensures c.step-p.ensures))
 
-pub target_item-overflow_sub-n : goal.target_item-overflow_sub-n
-target_item-overflow_sub-n t c = omega (arith, c.loop-n-test.true)
-
-pub target_item-loop-n-smaller : goal.target_item-loop-n-smaller
-target_item-loop-n-smaller t c = omega (arith, c.loop-n-test.true)
-
-pub target_item-loop-n-preserved : goal.target_item-loop-n-preserved
-target_item-loop-n-preserved t c = (
-  omega (arith, c.loop-n.invariant.0, c.target_item-u.auto.list),
-  omega (arith, c.loop-n.invariant.1, c.target_item-u.auto.work),
-  c.target_item-u.ensures.0 ∙ c.loop-n.invariant.2,
-  λ o. law.items_more _ _ _ _ _ _ c.loop-n-test.true c.skip_item-p.ensures (c.loop-n.invariant.3 o) (c.target_item-u.ensures.1 o),
+pub target_item-loop-preserved : goal.target_item-loop-preserved
+target_item-loop-preserved t c = (
+  omega (arith, c.loop.invariant.0, c.target_item-u.auto.list),
+  omega (arith, c.loop.invariant.1, c.target_item-u.auto.work),
+  c.target_item-u.ensures.0 ∙ c.loop.invariant.2,
+  λ o. rw one_gone (law.items_more _ _ _ _ _ _ (omega (arith, c.loop-test.true)) c.skip_item-p.ensures (c.loop.invariant.3 o) (c.target_item-u.ensures.1 o)),
 )
 
 pub target_item-returns-in-34 : goal.target_item-returns-in-34
 target_item-returns-in-34 t c = (c.target_object.ensures.0, λ o h g. law.item_solid _ _ _ _ _ c.peek-kind.ensures.value (law.no_zero _ _ c.in-34.is (omega arith)) (law.by_object _ _ _ _ _ _ refl c.peek-kind.ensures.value c.in-34.is (c.target_object.ensures.1 o)) h g)
 
-pub target_item-returns-after-loop-n : goal.target_item-returns-after-loop-n
-target_item-returns-after-loop-n t c = (c.loop-n.invariant.2, λ o h g. law.item_solid _ _ _ _ _ c.peek-kind.ensures.value (law.no_zero _ _ c.in-36.is (omega arith)) (law.items_end _ _ _ _ _ _ refl c.peek-kind.ensures.value _ _ c.in-36.is (undenied _ _ c.enters.ensures c.if-not-enters.false) c.loop-n-test.false (c.loop-n.invariant.3 o)) h g)
+pub target_item-returns-after-loop : goal.target_item-returns-after-loop
+target_item-returns-after-loop t c = (c.loop.invariant.2, λ o h g. law.item_solid _ _ _ _ _ c.peek-kind.ensures.value (law.no_zero _ _ c.in-36.is (omega arith)) (law.items_end _ _ _ _ _ _ refl c.peek-kind.ensures.value _ _ c.in-36.is (undenied _ _ c.enters.ensures c.if-not-enters.false) (omega (arith, c.loop-test.false)) (c.loop.invariant.3 o)) h g)
 
 pub target_item-returns-in-37 : goal.target_item-returns-in-37
 target_item-returns-in-37 t c = (c.target_item.ensures.0, λ o h g. law.item_solid _ _ _ _ _ c.peek-kind.ensures.value (law.no_zero _ _ c.in-37.is (omega arith)) (law.by_default _ _ _ _ _ _ refl c.peek-kind.ensures.value _ c.in-37.is c.step.ensures (c.target_item.ensures.1 o)) h g)
@@ -57,66 +54,26 @@ target_object-returns-then-has_second t c = (c.listed_temporary.ensures.1 ∙ c.
 pub target_object-returns-then-left-eq0 : goal.target_object-returns-then-left-eq0
 target_object-returns-then-left-eq0 t c = (refl, λ o g k. law.object_bare _ _ _ _ _ c.has_second.ensures c.if-has_second.false c.if-left-eq0.true g k)
 
-pub target_object-loop-n-init : goal.target_object-loop-n-init
-target_object-loop-n-init t c = (refl, refl, refl, λ o. law.values_start _ _ _ _ _ _ _ c.step-q.ensures c.wide_at-n.ensures c.step-p.ensures)
+pub target_object-loop-init : goal.target_object-loop-init
+target_object-loop-init t c = (refl, refl, refl, λ o. rw none_gone (law.values_start _ _ _ _ _ _ _ c.step-q.ensures c.wide_at-n.ensures c.step-p.ensures))
 
 pub target_object-overflow_sub-left : goal.target_object-overflow_sub-left
 target_object-overflow_sub-left t c = omega (arith, c.if-left-eq0.false)
 
-pub target_object-overflow_sub-n : goal.target_object-overflow_sub-n
-target_object-overflow_sub-n t c = omega (arith, c.loop-n-test.true)
-
-pub target_object-loop-n-smaller : goal.target_object-loop-n-smaller
-target_object-loop-n-smaller t c = omega (arith, c.loop-n-test.true)
-
-pub target_object-loop-n-preserved : goal.target_object-loop-n-preserved
-target_object-loop-n-preserved t c = (
-  omega (arith, c.loop-n.invariant.0, c.target_property-u.auto.list),
-  omega (arith, c.loop-n.invariant.1, c.target_property-u.auto.work),
-  c.target_property-u.ensures.0 ∙ c.loop-n.invariant.2,
-  λ o. law.values_more _ _ _ _ _ _ _ _ c.loop-n-test.true c.skip-p.ensures refl (c.loop-n.invariant.3 o) (c.target_property-u.ensures.1 o),
+pub target_object-loop-preserved : goal.target_object-loop-preserved
+target_object-loop-preserved t c = (
+  omega (arith, c.loop.invariant.0, c.target_property-u.auto.list),
+  omega (arith, c.loop.invariant.1, c.target_property-u.auto.work),
+  c.target_property-u.ensures.0 ∙ c.loop.invariant.2,
+  λ o. rw one_gone (law.values_more _ _ _ _ _ _ _ _ (omega (arith, c.loop-test.true)) c.skip-p.ensures refl (c.loop.invariant.3 o) (c.target_property-u.ensures.1 o)),
 )
 
 pub target_object-returns : goal.target_object-returns
-target_object-returns t c = (c.loop-n.invariant.2, λ o g k. law.values_end _ _ _ _ _ _ _ c.has_second.ensures c.if-has_second.false c.loop-n-test.false (c.loop-n.invariant.3 o) g k)
+target_object-returns t c = (c.loop.invariant.2, λ o g k. law.values_end _ _ _ _ _ _ _ c.has_second.ensures c.if-has_second.false (omega (arith, c.loop-test.false)) (c.loop.invariant.3 o) g k)
 
 pub target_property-returns-then-quiet : goal.target_property-returns-then-quiet
 target_property-returns-then-quiet t c = (refl, λ o g k. quiets.reach_quiet _ _ _ _ _ _ c.quiet.ensures c.if-quiet.true g)
 
-pub target_property-returns-then-left-eq0 : goal.target_property-returns-then-left-eq0
-target_property-returns-then-left-eq0 t c = (refl, λ o g k. law.property_none _ _ _ _ c.if-left-eq0.true g k)
-
-pub target_property-overflow_sub-below : goal.target_property-overflow_sub-below
-target_property-overflow_sub-below t c = omega (arith, c.if-left-eq0.false)
-
-pub target_property-returns-then-not-enters : goal.target_property-returns-then-not-enters
-target_property-returns-then-not-enters t c = (refl, λ o g k. law.property_by _ _ _ _ _ _ c.step.ensures c.skip-x.ensures (law.array_passed _ _ _ _ _ _ refl c.peek-kind.ensures.value c.in-36.is (denied _ _ c.enters.ensures c.if-not-enters.true)) g k)
-
-pub target_property-loop-n-init : goal.target_property-loop-n-init
-target_property-loop-n-init t c = (refl, refl, refl, λ o. law.items_start _ _ _ _ _ _ c.step-q.ensures c.wide_at-n.ensures c.step-p.ensures)
-
-pub target_property-overflow_sub-n : goal.target_property-overflow_sub-n
-target_property-overflow_sub-n t c = omega (arith, c.loop-n-test.true)
-
-pub target_property-loop-n-smaller : goal.target_property-loop-n-smaller
-target_property-loop-n-smaller t c = omega (arith, c.loop-n-test.true)
-
-pub target_property-loop-n-preserved : goal.target_property-loop-n-preserved
-target_property-loop-n-preserved t c = (
-  omega (arith, c.loop-n.invariant.0, c.target_item-u.auto.list),
-  omega (arith, c.loop-n.invariant.1, c.target_item-u.auto.work),
-  c.target_item-u.ensures.0 ∙ c.loop-n.invariant.2,
-  λ o. law.items_more _ _ _ _ _ _ c.loop-n-test.true c.skip_item-p.ensures (c.loop-n.invariant.3 o) (c.target_item-u.ensures.1 o),
-)
-
-pub target_property-returns-in-34 : goal.target_property-returns-in-34
-target_property-returns-in-34 t c = (c.target_object.ensures.0, λ o g k. law.property_by _ _ _ _ _ _ c.step.ensures c.skip-x.ensures (law.by_object _ _ _ _ _ _ refl c.peek-kind.ensures.value c.in-34.is (c.target_object.ensures.1 o)) g k)
-
-pub target_property-returns-after-loop-n : goal.target_property-returns-after-loop-n
-target_property-returns-after-loop-n t c = (c.loop-n.invariant.2, λ o g k. law.property_by _ _ _ _ _ _ c.step.ensures c.skip-x.ensures (law.items_end _ _ _ _ _ _ refl c.peek-kind.ensures.value _ _ c.in-36.is (undenied _ _ c.enters.ensures c.if-not-enters.false) c.loop-n-test.false (c.loop-n.invariant.3 o)) g k)
-
-pub target_property-returns-in-37 : goal.target_property-returns-in-37
-target_property-returns-in-37 t c = (c.target_item.ensures.0, λ o g k. law.property_by _ _ _ _ _ _ c.step.ensures c.skip-x.ensures (law.by_default _ _ _ _ _ _ refl c.peek-kind.ensures.value _ c.in-37.is c.step-in-37.ensures (c.target_item.ensures.1 o)) g k)
-
-pub target_property-returns-in_default : goal.target_property-returns-in_default
-target_property-returns-in_default t c = (refl, λ o g k. law.property_by _ _ _ _ _ _ c.step.ensures c.skip-x.ensures (law.by_leaf _ _ _ _ _ _ refl c.peek-kind.ensures.value (omega arith) (omega arith) (omega arith)) g k)
+pub target_property-returns : goal.target_property-returns
+unfolding hole_at
+target_property-returns t c = (c.target_item.ensures.0, λ o g k. law.property_by _ _ _ _ _ _ c.step.ensures c.skip-x.ensures (λ x. c.target_item.ensures.1 o false (λ z. x)) g k)

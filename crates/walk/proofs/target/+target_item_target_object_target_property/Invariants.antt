@@ -1,34 +1,22 @@
 use mathlib.Core.Path.{◌≡◌}
 use mathlib.Core.List.{List}
 use lib.ListN.{length}
-use Prim.Native.Nat.{ℕ}
+use Prim.Native.Nat.{ℕ, ◌+◌, ◌-◌, ◌*◌}
 use Rattle.walk.specs.Run.{going_of}
 use Rattle.walk.proofs.TargetWalk as law
 use Rattle.walk.proofs.target.+target_item_target_object_target_property.Given as goal
 
-abbrev pub invariant-target_item-loop-n : goal.invariant-target_item-loop-n
-invariant-target_item-loop-n l = (length l.list ≡ length l.initial.list) × (length l.work ≡ length l.initial.work) × (l.u.at ≡ l.initial.u.at) × ((o : List ℕ) → law.ItemsLeft l.t l.below l.at (going_of o l.initial.list l.initial.work l.initial.u) (going_of o l.list l.work l.u) l.n l.p)
+abbrev pub invariant-target_item-loop : goal.invariant-target_item-loop
+invariant-target_item-loop l = (length l.list ≡ length l.initial.list) × (length l.work ≡ length l.initial.work) × (l.u.at ≡ l.initial.u.at) × ((o : List ℕ) → law.ItemsLeft l.t l.below l.at (going_of o l.initial.list l.initial.work l.initial.u) (going_of o l.list l.work l.u) (l.n - l.counter) l.p)
 
-abbrev pub decreases-target_item-loop-n : goal.decreases-target_item-loop-n
-decreases-target_item-loop-n l = l.n
-
-abbrev pub invariant-target_object-loop-n : goal.invariant-target_object-loop-n
-invariant-target_object-loop-n l = (length l.list ≡ length l.initial.list) × (length l.work ≡ length l.initial.work) × (l.u.at ≡ l.initial.u.at) × ((o : List ℕ) → law.Values l.t l.left l.at l.reach (going_of o l.initial.list l.initial.work l.initial.u) (going_of o l.list l.work l.u) l.n l.p)
-
-abbrev pub decreases-target_object-loop-n : goal.decreases-target_object-loop-n
-decreases-target_object-loop-n l = l.n
-
-abbrev pub invariant-target_property-loop-n : goal.invariant-target_property-loop-n
-invariant-target_property-loop-n l = (length l.list ≡ length l.initial.list) × (length l.work ≡ length l.initial.work) × (l.u.at ≡ l.initial.u.at) × ((o : List ℕ) → law.ItemsLeft l.t l.below l.x (going_of o l.initial.list l.initial.work l.initial.u) (going_of o l.list l.work l.u) l.n l.p)
-
-abbrev pub decreases-target_property-loop-n : goal.decreases-target_property-loop-n
-decreases-target_property-loop-n l = l.n
+abbrev pub invariant-target_object-loop : goal.invariant-target_object-loop
+invariant-target_object-loop l = (length l.list ≡ length l.initial.list) × (length l.work ≡ length l.initial.work) × (l.u.at ≡ l.initial.u.at) × ((o : List ℕ) → law.Values l.t l.left l.at l.reach (going_of o l.initial.list l.initial.work l.initial.u) (going_of o l.list l.work l.u) (l.n - l.counter) l.p)
 
 abbrev pub decreases-target_item : goal.decreases-target_item
-decreases-target_item l = l.left
+decreases-target_item l = 3 * l.left
 
 abbrev pub decreases-target_object : goal.decreases-target_object
-decreases-target_object l = l.left
+decreases-target_object l = 3 * l.left + 2
 
 abbrev pub decreases-target_property : goal.decreases-target_property
-decreases-target_property l = l.left
+decreases-target_property l = 3 * l.left + 1
