@@ -22,5 +22,5 @@ overflow_add-result c = let h : c.plan.result < 1024 ^ 6 = moves.plan_small c.ar
 pub returns-then-fits : goal.returns-then-fits
 returns-then-fits c = law.node_fits _ _ _ _ _ c.peek-kind.ensures c.form_at-form.ensures c.if-form-eq0.false _ _ c.peek-map.ensures (ap sorts c.row-row.ensures) (moves.found_true c.fits.ensures c.if-fits.true) _ c.plan.ensures
 
-pub returns : goal.returns
-returns c = law.node_unfit _ _ _ _ _ c.peek-kind.ensures c.form_at-form.ensures c.if-form-eq0.false _ _ c.peek-map.ensures (ap sorts c.row-row.ensures) (moves.found_true c.fits.ensures c.if-fits.false)
+pub returns-else-fits : goal.returns-else-fits
+returns-else-fits c = law.node_unfit _ _ _ _ _ c.peek-kind.ensures c.form_at-form.ensures c.if-form-eq0.false _ _ c.peek-map.ensures (ap sorts c.row-row.ensures) (moves.found_true c.fits.ensures c.if-fits.false)
