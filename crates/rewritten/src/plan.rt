@@ -15,15 +15,11 @@ pub(crate) fn plan(row: usize, map: usize) -> usize
     if 1152921504606846975 < row {
         return 0;
     }
-    if map == 1 {
-        if 0 < row {
-            return 512 + row % 512;
-        }
+    if map == 1 && 0 < row {
+        return 512 + row % 512;
     }
-    if map == 3 {
-        if 1023 < row {
-            return 512 + row % 512 + 1024 * (512 + row / 1024 % 512);
-        }
+    if map == 3 && 1023 < row {
+        return 512 + row % 512 + 1024 * (512 + row / 1024 % 512);
     }
     let mut left = row;
     let mut bits = map;
@@ -44,29 +40,30 @@ pub(crate) fn plan(row: usize, map: usize) -> usize
 pub(crate) fn form_at(place: usize, kind: usize) -> usize
     ensures { result ≡ form_at rewritten place kind }
 {
-    if kind == 20 {
-        if grammar::form_at(place, 18) == 0 {
-            if grammar::form_at(place, 19) == 0 {
-                return 0;
+    match kind {
+        20 => {
+            if grammar::form_at(place, 18) == 0 && grammar::form_at(place, 19) == 0 {
+                0
+            } else {
+                20
             }
         }
-        return 20;
-    }
-    if kind == 21 {
-        if grammar::form_at(place, 24) == 0 {
-            return 0;
+        21 => {
+            if grammar::form_at(place, 24) == 0 {
+                0
+            } else {
+                21
+            }
         }
-        return 21;
+        _ => grammar::form_at(place, kind),
     }
-    grammar::form_at(place, kind)
 }
 
 // The place of a node that goes by the byte before it: the first if that is 1, else the second.
 pub(crate) fn choose(tree: &[u8], first: usize, second: usize, at: usize) -> usize
     ensures { result ≡ chosen_place tree.now first second at }
 {
-    let before = if 0 < at { at - 1 } else { 0 };
-    if bytes::peek(tree, before) == 1 {
+    if bytes::peek(tree, at.saturating_sub(1)) == 1 {
         first
     } else {
         second

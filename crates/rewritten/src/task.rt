@@ -7,29 +7,30 @@ ghost use Rattle.rewritten.specs.Numbers.{place_numbers, plan_numbers, map_numbe
 ghost use Rattle.rewritten.specs.Steps.{coming_node, Planned};
 ghost use Rattle.rewritten.specs.Look.{Ahead, Coded, place_next};
 
-use crate::{plan, tables};
+use crate::{look, plan, tables};
 use tree::bytes;
 
-// The place of the node that comes next, or 33: something else does.
+// The place where something else than a node comes next.
+pub const NO_NODE: usize = 33;
+
+// The place of the node that comes next, or `NO_NODE`. No `Option`: the places are numbers of the tables, and this one has
+// no row.
 pub fn place_next(tree: &[u8], at: usize, top: usize) -> usize
     ensures { result ≡ place_next tree.now at top }
 {
     if top % 2 == 1 {
-        if top / 2 % 2 == 1 {
-            if bytes::peek(tree, at) == 0 {
-                return 33;
-            }
+        if top / 2 % 2 == 1 && bytes::peek(tree, at) == 0 {
+            NO_NODE
+        } else {
+            top / 4 % 32
         }
-        return top / 4 % 32;
+    } else {
+        match top / 64 % 16 {
+            1 => top / 2 % 32,
+            2 => plan::choose(tree, top / 2 % 32, top / 2 % 32 + 1, at),
+            _ => NO_NODE,
+        }
     }
-    let class = top / 64 % 16;
-    if class == 1 {
-        return top / 2 % 32;
-    }
-    if class == 2 {
-        return plan::choose(tree, top / 2 % 32, top / 2 % 32 + 1, at);
-    }
-    33
 }
 
 // The form of a kind at a place, 0 where the kind may not stand there.
@@ -41,22 +42,16 @@ fn form_at(places: &[usize], place: usize, kind: usize) -> usize
         return 0;
     }
     if kind == 14 {
-        if place == 1 {
-            return 64;
+        match place {
+            1 => 64,
+            2 => 14,
+            _ => 65,
         }
-        if place == 2 {
-            return 14;
-        }
-        return 65;
+    } else if 18 < place && 33 < kind && kind < 38 {
+        kind + 32
+    } else {
+        kind
     }
-    if 18 < place {
-        if 33 < kind {
-            if kind < 38 {
-                return kind + 32;
-            }
-        }
-    }
-    kind
 }
 
 // The fields of a plan whose bits stand, ten binary digits a field. In most nodes those are the first few.
@@ -108,27 +103,14 @@ pub fn node(
         return 0;
     }
     let map = bytes::peek(tree, at + 1);
-    if map == 1 {
-        if form == 18 {
-            return ONE_TEXT;
-        }
-        if form == 19 {
-            return ONE_TEXT;
-        }
-        if form == 38 {
-            return ONE_TEXT;
-        }
+    if map == 1 && (form == 18 || form == 19 || form == 38) {
+        return ONE_TEXT;
     }
-    if map == 7 {
-        if form == 22 {
-            return BYTE_AND_TEXTS;
-        }
+    if map == 7 && form == 22 {
+        return BYTE_AND_TEXTS;
     }
-    if 63 < map {
+    if 63 < map || (tables::number_at(maps, form) >> map) % 2 == 0 {
         return 0;
     }
-    if (tables::number_at(maps, form) >> map) % 2 == 0 {
-        return 0;
-    }
-    1 + 16 * planned(tables::number_at(plans, form), map)
+    look::NODE + 16 * planned(tables::number_at(plans, form), map)
 }
