@@ -1,5 +1,5 @@
 // The fields of a node that are still to come, as one number; and the forms of the rewritten stage.
-ghost use Rattle.std.specs.Prelude.{◌≡◌};
+ghost use Rattle.std.specs.Prelude.{◌≡◌, ◌<◌, ◌^◌};
 ghost use Rattle.tree.specs.Grammar.{form_at};
 ghost use Rattle.tree.specs.Grammar.Stage.{rewritten};
 ghost use Rattle.tree.specs.Read.{chosen_place};
@@ -10,7 +10,7 @@ use tree::{bytes, grammar};
 // The fields of a row whose bits stand, ten binary digits a field, the tenth always set. Of most nodes the first or the
 // first two stand.
 pub(crate) fn plan(row: usize, map: usize) -> usize
-    ensures { Planned row map result }
+    ensures { (result < 1024 ^ 6) × Planned row map result }
 {
     if 1152921504606846975 < row {
         return 0;

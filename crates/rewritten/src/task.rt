@@ -61,21 +61,10 @@ fn planned(plan: usize, map: usize) -> usize
 {
     let count = usize::trailing_zeros(map + 1);
     if map + 1 == 1usize << count {
-        return plan % (1usize << (10 * count));
+        plan % (1usize << (10 * count))
+    } else {
+        plan::plan(plan, map)
     }
-    let mut left = plan;
-    let mut bits = map;
-    let mut made = 0;
-    let mut scale = 1;
-    while 0 < left {
-        if bits % 2 == 1 {
-            made += scale * (left % 1024);
-            scale *= 1024;
-        }
-        left /= 1024;
-        bits /= 2;
-    }
-    made
 }
 
 // What is found of a node of one text, and of one of a byte and two texts: their plans are known.
